@@ -1,17 +1,14 @@
 -- The other steps keep the rule: the table is opened, the front is peeked at, a seat is made, numbered or joined, and the table is closed.
-use Rattle.std.proofs.Common.{◌≡◌, ◌≢◌, ◌⊎◌, inl, inr, ℕ, zero, suc, ◌+◌, ◌<◌, ◌≤◌, eqb, List, [], ◌∷◌, ◌++◌, length, get_or, set, Some, None, Bool, true, false, refl, sym, ap, ◌∙◌, subst, ⊎_elim, arith, length-append, length-set, eq-eqb, ne_eqb}
+use Rattle.std.proofs.Common.{◌≡◌, inl, inr, ℕ, zero, suc, ◌+◌, ◌<◌, ◌≤◌, eqb, List, [], ◌∷◌, ◌++◌, get_or, set, Some, None, true, false, refl, sym, ap, ◌∙◌, subst, ⊎_elim, arith, eq-eqb, ne_eqb}
 use mathlib.Core.Logic.{dite}
 use mathlib.Core.Option.{Option, some, none, some-ne-none, some-injective}
-use mathlib.Core.List.{IsPrefix}
 use native.Mathlib.Decide.{ℕ_discrete}
 use prog.Atomic.{either}
 use lib.ListN.{get_elem?}
-use lib.Seq.{set-get_or}
 use Rattle.atomic_table.specs.Table.{State, step, keeps, stepped, Allows, Splits, Joins, opening, Final, Seen}
 use Rattle.atomic_table.proofs.Lists.{at_snoc, set_again, set_else, at_longer}
 use Rattle.shared_book.specs.declared.view.Entry.{Entry}
-use Rattle.shared_book.specs.declared.view.Stage.{Stage}
-use Rattle.shared_book.specs.declared.view.Stage.TheVariants.{Idle, Waiting, Called, Holding, Advanced}
+use Rattle.shared_book.specs.declared.view.Stage.TheVariants.{Idle, Called, Holding, Advanced}
 use Rattle.shared_book.specs.declared.view.View.{View}
 use Rattle.shared_book.specs.declared.view.Slot.{Slot}
 use Rattle.shared_book.specs.declared.view.Slot.TheVariants.{Opening, After, Away}

@@ -1,7 +1,7 @@
 -- The steps of a turn keep the rule: a ticket is drawn and waited for, the book is taken, the front advances, and the turn is passed.
-use Rattle.std.proofs.Common.{◌≡◌, ◌≢◌, ◌⊎◌, inl, inr, ℕ, zero, suc, ◌+◌, ◌<◌, ◌≤◌, eqb, List, [], ◌∷◌, ◌++◌, length, get_or, set, Some, None, Bool, true, false, refl, sym, ap, ◌∙◌, subst, ⊎_elim, arith, length-append, length-set, eq-eqb, ne_eqb}
+use Rattle.std.proofs.Common.{◌≡◌, ◌≢◌, ◌⊎◌, inl, inr, ℕ, ◌+◌, ◌<◌, ◌≤◌, eqb, List, [], ◌∷◌, ◌++◌, length, get_or, set, Some, None, Bool, true, false, refl, sym, ap, ◌∙◌, subst, ⊎_elim, arith, length-append, length-set, eq-eqb, ne_eqb}
 use mathlib.Core.Logic.{dite}
-use mathlib.Core.Option.{Option, some, none, some-ne-none, some-injective}
+use mathlib.Core.Option.{Option, some, none, some-injective}
 use mathlib.Core.List.{IsPrefix}
 use native.Mathlib.Decide.{ℕ_discrete}
 use prog.Atomic.{either}
@@ -13,9 +13,8 @@ use Rattle.shared_book.specs.declared.view.Stage.{Stage}
 use Rattle.shared_book.specs.declared.view.Stage.TheVariants.{Idle, Waiting, Called, Holding, Advanced}
 use Rattle.shared_book.specs.declared.view.View.{View}
 use Rattle.shared_book.specs.declared.view.Slot.{Slot}
-use Rattle.shared_book.specs.declared.view.Slot.TheVariants.{Opening, After, Away}
 use Rattle.shared_book.specs.Histories.{Replays, entry_of}
-use Rattle.shared_book.specs.Turns.{InTurn, HasWhole, HasBook, Knows, AtHome, SeatWith, HoldsTicket, HadNumber, Kept, ticket_of, held_ticket, called_if, called_by, Sat, placed, staged, holding, grown, noted_in, drawn_if, ticket_drawn, turn_looked_for, BookTaken, book_taken, front_advanced, turn_passed}
+use Rattle.shared_book.specs.Turns.{InTurn, HasWhole, HasBook, Knows, AtHome, SeatWith, HoldsTicket, HadNumber, Kept, ticket_of, held_ticket, called_if, called_by, Sat, placed, staged, holding, grown, noted_in, drawn_if, ticket_drawn, turn_looked_for, book_taken, front_advanced, turn_passed}
 use Rattle.shared_book.proofs.Histories.{IsPrefix-self, IsPrefix-append, AllPrefix-append, entries_of-other, entries_of-mine, Replays-append}
 use Rattle.shared_book.proofs.Views.{point, point-here, point-else, stages_apart, has_out, has_advanced, not_both, called_by-held, at_here, seats_stay, some_stays, home_stays, unmoved}
 

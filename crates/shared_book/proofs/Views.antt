@@ -1,19 +1,18 @@
 -- What stays true of the other views, of the slot, of tickets and of numbers while one view changes.
-use Rattle.std.proofs.Common.{◌≡◌, ◌≢◌, ◌⊎◌, inl, inr, ℕ, zero, suc, ◌+◌, ◌<◌, ◌≤◌, eqb, List, [], ◌∷◌, length, get_or, set, Some, None, Bool, true, false, refl, sym, ap, ◌∙◌, subst, ⊎_elim, arith, eq-eqb, ne_eqb}
+use Rattle.std.proofs.Common.{◌≡◌, ◌≢◌, inl, inr, ℕ, zero, suc, ◌<◌, ◌≤◌, eqb, List, [], ◌∷◌, get_or, set, Some, Bool, true, false, refl, sym, ap, ◌∙◌, subst, ⊎_elim, eq-eqb, ne_eqb}
 use mathlib.Core.Logic.{dite}
-use mathlib.Core.Option.{Option, some, none, some-ne-none, some-injective}
+use mathlib.Core.Option.{Option, some, some-ne-none, some-injective}
 use native.Mathlib.Decide.{ℕ_discrete}
 use prog.Atomic.{either}
 use lib.ListN.{get_elem?}
 use lib.Seq.{set-get_or}
 use Rattle.atomic_table.specs.Table.{State, keeps, stepped}
 use Rattle.atomic_table.proofs.Lists.{at_set, set_else}
-use Rattle.shared_book.specs.declared.view.Entry.{Entry}
 use Rattle.shared_book.specs.declared.view.Stage.{Stage}
 use Rattle.shared_book.specs.declared.view.Stage.TheVariants.{Idle, Waiting, Called, Holding, Advanced}
 use Rattle.shared_book.specs.declared.view.View.{View}
 use Rattle.shared_book.specs.declared.view.Slot.{Slot}
-use Rattle.shared_book.specs.Turns.{InTurn, Knows, AtHome, SeatWith, HoldsTicket, HadNumber, Kept, held_ticket, called_if, called_by}
+use Rattle.shared_book.specs.Turns.{Knows, AtHome, SeatWith, HoldsTicket, HadNumber, Kept, held_ticket, called_if, called_by}
 
 -- a function changed at one number
 abbrev pub point : ℕ → ℕ → (ℕ → ℕ) → ℕ → ℕ

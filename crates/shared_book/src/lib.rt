@@ -12,3 +12,6 @@ pub mod view;
 
 pub use book::Book;
 pub use shared::{BookSeat, Receipt, SharedBook};
+
+#[cfg(test)]
+mod tests;
