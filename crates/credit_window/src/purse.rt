@@ -17,6 +17,10 @@ pub struct NoCredit {
 }
 
 impl fmt::Display for NoCredit {
+    ghost use Rattle.std.specs.Prelude.{◌++◌, Some, codes, decimal};
+
+    ghost output = { λ x. Some (codes "the charge is above the " ++ decimal x.held ++ codes " credits held") };
+
     fn fmt<W: fmt::Write>(&self, f: &mut fmt::Formatter<W>) -> fmt::Result {
         write!(f, "the charge is above the {} credits held", self.held)
     }

@@ -24,6 +24,10 @@ pub struct Outside {
 }
 
 impl fmt::Display for Outside {
+    ghost use Rattle.std.specs.Prelude.{◌++◌, Some, codes, decimal};
+
+    ghost output = { λ x. Some (codes "message id " ++ decimal x.id ++ codes " is not held") };
+
     fn fmt<W: fmt::Write>(&self, f: &mut fmt::Formatter<W>) -> fmt::Result {
         write!(f, "message id {} is not held", self.id)
     }
