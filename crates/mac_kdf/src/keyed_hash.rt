@@ -10,7 +10,7 @@ use sha2::Sha256;
 /// A block of a hash.
 const BLOCK: usize = 64;
 
-const INNER: u8 = 0x36;
+pub(crate) const INNER: u8 = 0x36;
 
 const OUTER: u8 = 0x5c;
 
@@ -87,9 +87,9 @@ fn zero_padded(bytes: &[u8]) -> [u8; 64]
 pub(crate) fn padded(block: &[u8; 64], pad: u8) -> [u8; 64]
     ensures { result ≡ padded_by pad block.now }
 {
-    let mut joined = *block;
-    for byte in joined.iter_mut() {
-        *byte ^= pad;
+    let mut joined = [0u8; BLOCK];
+    'join: for k in 0..BLOCK {
+        joined[k] = block[k] ^ pad;
     }
     joined
 }
