@@ -1,7 +1,5 @@
 -- Published values, computed in the checker, so that a wrong constant, step, order or padding in a definition does not check.
-use Rattle.std.proofs.Common.{◌≡◌, ℕ, ◌-◌, ◌*◌, zero, suc, List, [], ◌∷◌, map, arith, codes, length, length-append, refl}
-use Rattle.std.specs.Prelude.{slice_index}
-use Rattle.std.specs.Int.{to_le_bytes, w32}
+use Rattle.std.proofs.Common.{◌≡◌, [], ◌∷◌, map, codes, refl}
 use Rattle.cipher_defs.specs.Md4.{block_words, rounds, compress, hash_after, digest_bytes, md4, column_place, reversed_place}
 use Rattle.cipher_defs.specs.Rc4.{scheduled, opened, enciphered}
 

@@ -1,5 +1,5 @@
 -- RC4's key schedule and its stream, a step at a time.
-use Rattle.std.proofs.Common.{◌≡◌, ℕ, zero, suc, ◌+◌, ◌*◌, ◌%◌, ◌<◌, List, [], ◌∷◌, ◌++◌, length, take, drop, get_or, set, swap, refl, ap, sym, ◌∙◌, arith, add-one, append_assoc, length-take-le}
+use Rattle.std.proofs.Common.{◌≡◌, ℕ, zero, suc, ◌+◌, ◌%◌, ◌<◌, List, [], ◌∷◌, ◌++◌, length, take, drop, get_or, set, swap, refl, ap, sym, ◌∙◌, arith, add-one, append_assoc, length-take-le}
 use Rattle.std.specs.Prelude.{slice_index, bit_xor}
 use Rattle.std.specs.List.{range_with_len}
 use Rattle.std.proofs.lemmas.List.{same_lists, get_or_default, take_more, drop_more, get_or_at, set_at}

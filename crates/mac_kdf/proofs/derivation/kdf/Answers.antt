@@ -1,4 +1,4 @@
-use Rattle.std.proofs.Common.{◌≡◌, ◌++◌, take, replicate, ⊎_elim, ap, ◌∙◌, arith}
+use Rattle.std.proofs.Common.{◌≡◌, ◌++◌, replicate, ⊎_elim, ap, ◌∙◌, arith}
 use Rattle.mac_kdf.proofs.Derivations.{derived-128, derived-256}
 use Rattle.mac_kdf.proofs.derivation.kdf.Goals as goal
 

@@ -1,4 +1,4 @@
-use Rattle.std.proofs.Common.{arith, refl, sym, ◌∙◌, ap, subst, take, length, length-set, ◌≡◌}
+use Rattle.std.proofs.Common.{arith, refl, sym, ◌∙◌, ap, subst, take, length-set, ◌≡◌}
 use Rattle.std.proofs.lemmas.List.{take_all}
 use Rattle.cipher_defs.specs.Hmac.{padded_by}
 use Rattle.mac_kdf.proofs.Keys.{padded_more}

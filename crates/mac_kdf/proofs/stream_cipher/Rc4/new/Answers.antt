@@ -1,4 +1,4 @@
-use Rattle.std.proofs.Common.{◌≡◌, ℕ, ◌∙◌, arith}
+use Rattle.std.proofs.Common.{arith}
 use Rattle.mac_kdf.proofs.Streams.{filled_is, starts_scheduled, schedule_more}
 use Rattle.mac_kdf.proofs.stream_cipher.Rc4.new.Goals as goal
 
