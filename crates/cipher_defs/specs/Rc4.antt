@@ -1,5 +1,5 @@
--- RC4, as it stands in RFC 7465's references and in MS-NLMP: a table of 256 bytes that two places walk through.
-use Rattle.std.specs.Prelude.{ℕ, zero, suc, ◌+◌, ◌%◌, List, [], ◌∷◌, length, slice_index, swap, bit_xor}
+-- RC4, the stream cipher that MS-NLMP 3.4 uses (RFC 6229 has its test vectors): a table of 256 bytes that two places walk through.
+use Rattle.std.specs.Prelude.{◌≡◌, ℕ, zero, suc, ◌+◌, ◌%◌, List, [], ◌∷◌, ◌++◌, length, slice_index, swap, bit_xor}
 use Rattle.std.specs.List.{range_with_len}
 
 pub record CipherState : Type 0 where
@@ -50,3 +50,13 @@ advanced_by s (suc n) = advanced_by (advanced s) n
 abbrev pub enciphered : CipherState → List ℕ → List ℕ
 enciphered s [] = []
 enciphered s (x ∷ xs) = bit_xor x (stream_byte (advanced s)) ∷ enciphered (advanced s) xs
+
+-- Bytes in two pieces give what both in one give, and leave the same state.
+abbrev pub PiecesJoin : Type 0
+PiecesJoin = (s : CipherState) (xs ys : List ℕ) →
+    (enciphered s (xs ++ ys) ≡ enciphered s xs ++ enciphered (advanced_by s (length xs)) ys)
+    × (advanced_by s (length (xs ++ ys)) ≡ advanced_by (advanced_by s (length xs)) (length ys))
+
+-- What was enciphered is deciphered from the same state.
+abbrev pub Deciphers : Type 0
+Deciphers = (s : CipherState) (xs : List ℕ) → enciphered s (enciphered s xs) ≡ xs

@@ -4,7 +4,8 @@ use Rattle.std.specs.Prelude.{slice_index, bit_xor}
 use Rattle.std.specs.List.{range_with_len}
 use Rattle.std.proofs.lemmas.List.{same_lists, get_or_default, take_more, drop_more, get_or_at, set_at}
 use Rattle.std.proofs.lemmas.List.FromFn.{length-range_with_len}
-use Rattle.cipher_defs.specs.Rc4.{CipherState, scheduled_place, scheduled, advanced, stream_byte, advanced_by, enciphered}
+use Rattle.std.specs.Int.Bits.{xor_self, xor_assoc, xor_zero_r}
+use Rattle.cipher_defs.specs.Rc4.{PiecesJoin, Deciphers, CipherState, scheduled_place, scheduled, advanced, stream_byte, advanced_by, enciphered}
 
 get_or-range : (a n k d : ℕ) → k < n → get_or (range_with_len a n) k d ≡ a + k
 get_or-range a zero k d l = absurd (omega arith)
@@ -58,3 +59,18 @@ enciphered_more s old now i byte l is stream =
     let b : ℕ = bit_xor y (stream_byte (advanced (advanced_by s (length (take i old))))) in
     let one : enciphered s (take (i + 1) old) ≡ front ++ b ∷ [] = ap (enciphered s) (take_more old i 0 l) ∙ enciphered-append s (take i old) (y ∷ []) in
     (λ k. set (split k) i (joined k)) ∙ (set_at front y (drop (i + 1) old) b i len ∙ (sym (append_assoc front (b ∷ []) (drop (i + 1) old)) ∙ ap (λ r. r ++ drop (i + 1) old) (sym one)))
+
+advanced_by-append : (s : CipherState) (xs ys : List ℕ) → advanced_by s (length (xs ++ ys)) ≡ advanced_by (advanced_by s (length xs)) (length ys)
+advanced_by-append s [] ys = refl
+advanced_by-append s (x ∷ xs) ys = advanced_by-append (advanced s) xs ys
+
+pub pieces_join : PiecesJoin
+pieces_join s xs ys = (enciphered-append s xs ys, advanced_by-append s xs ys)
+
+bit_xor-twice : (x k : ℕ) → bit_xor (bit_xor x k) k ≡ x
+bit_xor-twice x k = xor_assoc x k k ∙ (ap (bit_xor x) (xor_self k) ∙ xor_zero_r x)
+
+pub deciphers : Deciphers
+deciphers s [] = refl
+deciphers s (x ∷ xs) =
+    let k : ℕ = stream_byte (advanced s) in (λ i. bit_xor-twice x k i ∷ deciphers (advanced s) xs i)

@@ -4,6 +4,7 @@
 
 mod derivation;
 mod keyed_hash;
+pub mod laws;
 mod message_digest;
 mod rounds;
 mod stream_cipher;
