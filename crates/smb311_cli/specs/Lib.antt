@@ -2,3 +2,5 @@ pub mod Pieces
 pub mod Numbers
 pub mod Outcome
 pub mod Words
+pub mod Script
+pub mod Progress

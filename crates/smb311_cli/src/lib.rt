@@ -1,9 +1,12 @@
 //! The command line of smb311: scripts, what they mean and what a run of one prints.
 #![tactic(auto)]
 
+mod limits;
+mod lines;
 mod numbers;
 mod pieces;
 mod script;
 mod words;
 
+pub use limits::{SCRIPT_BYTES, SCRIPT_LINES, SCRIPT_OPERATIONS};
 pub use script::{Code, Line, Refusal, Statement};
