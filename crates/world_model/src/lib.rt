@@ -1,9 +1,11 @@
 //! One client and one server that exchange SMB2 messages, over every schedule.
 #![tactic(auto)]
 
+mod limits;
 mod lists;
 mod network;
 mod operation;
+mod status;
 
 pub use lists::{FileList, NumberList, SettledList};
 pub use network::{Outcomes, StepNote, World, WorldError, WorldEvent};

@@ -1,0 +1,3 @@
+pub mod Server
+pub mod Exchange
+pub mod OneContent
