@@ -1,0 +1,4 @@
+pub mod Places
+pub mod Table
+pub mod Fault
+pub mod Header
