@@ -1,10 +1,14 @@
 //! One client and one server that exchange SMB2 messages, over every schedule.
 #![tactic(auto)]
 
+mod limits;
 mod lists;
 mod network;
+mod one_content;
 mod operation;
+mod status;
 
 pub use lists::{FileList, NumberList, SettledList};
 pub use network::{Outcomes, StepNote, World, WorldError, WorldEvent};
+pub use one_content::one_content_law;
 pub use operation::{Op, OpKind, OpReply, Outcome, Why};

@@ -1,0 +1,5 @@
+pub mod Counting
+pub mod Shape
+pub mod Answering
+pub mod Logged
+pub mod Legality

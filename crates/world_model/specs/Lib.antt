@@ -1,0 +1,4 @@
+pub mod Server
+pub mod Exchange
+pub mod OneContent
+pub mod Shape
