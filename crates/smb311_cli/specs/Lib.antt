@@ -4,3 +4,4 @@ pub mod Outcome
 pub mod Words
 pub mod Script
 pub mod Progress
+pub mod Text

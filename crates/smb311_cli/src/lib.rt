@@ -5,6 +5,7 @@ mod limits;
 mod lines;
 mod numbers;
 mod pieces;
+mod printing;
 mod script;
 mod words;
 
