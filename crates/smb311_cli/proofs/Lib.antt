@@ -2,3 +2,4 @@ pub mod PieceLemmas
 pub mod NumberLemmas
 pub mod TextLemmas
 pub mod LineLemmas
+pub mod TextLines

@@ -40,7 +40,7 @@ outcome_text (Some (Refused status)) = codes "refused " ++ shown_status status
 outcome_text (Some (Unknown why)) = why_text why
 
 unfoldable pub outcome_line : ℕ → Option Outcome → List ℕ
-outcome_line number outcome = decimal number ++ codes " " ++ outcome_text outcome ++ codes "\n"
+outcome_line number outcome = decimal number ++ (codes " " ++ (outcome_text outcome ++ codes "\n"))
 
 -- the lines of so many operations, from a number on
 unfoldable pub outcome_lines : ℕ → ℕ → List (ℕ × Outcome) → List ℕ
@@ -52,7 +52,7 @@ abbrev pub shown_file : List ℕ → List ℕ
 shown_file bytes = if nat_le (length bytes) 64 then shown bytes else codes "sha256:" ++ encode_lower (sha256 bytes)
 
 unfoldable pub file_line : List ℕ × List ℕ → List ℕ
-file_line file = codes "file " ++ file.0 ++ codes " " ++ decimal (length file.1) ++ codes " " ++ shown_file file.1 ++ codes "\n"
+file_line file = codes "file " ++ (file.0 ++ (codes " " ++ (decimal (length file.1) ++ (codes " " ++ (shown_file file.1 ++ codes "\n")))))
 
 -- what a run prints of so many operations, those that settled, and the files
 abbrev pub run_text : ℕ → List (ℕ × Outcome) → List (List ℕ × List ℕ) → List ℕ
@@ -66,4 +66,4 @@ code_text (NothingThere connection) = codes "nothing-there " ++ decimal connecti
 
 -- what is printed of a refused line
 unfoldable pub refusal_line : Refusal → List ℕ
-refusal_line refusal = codes "line " ++ decimal refusal.line ++ codes " " ++ code_text refusal.code ++ codes "\n"
+refusal_line refusal = codes "line " ++ (decimal refusal.line ++ (codes " " ++ (code_text refusal.code ++ codes "\n")))

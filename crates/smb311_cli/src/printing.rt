@@ -45,6 +45,7 @@ fn outcome_at(settled: &[(u32, Outcome)], index: usize) -> Option<&Outcome>
     }
 }
 
+#[tactic(auto, unfolding(crate::specs::Text::outcome_line))]
 fn push_outcome(
     alloc: Global,
     out: &mut String,
@@ -54,10 +55,10 @@ fn push_outcome(
     ensures { OnOk result (string_bytes out.new ≡ string_bytes out.old ++ text.outcome_line number (option_copied outcome.entry)) }
 {
     match outcome {
-        None | Some(Outcome::Unknown(Why::Ended)) => writeln!(out, "{number} unknown ended"),
-        Some(Outcome::Unknown(Why::Status(status))) => {
-            let status = shown_status(alloc, *status)?;
-            writeln!(out, "{number} unknown status {status}")
+        None => writeln!(out, "{number} unknown ended"),
+        Some(Outcome::Unknown(why)) => {
+            let why = why_text(alloc, *why)?;
+            writeln!(out, "{number} {why}")
         }
         Some(Outcome::Refused(status)) => {
             let status = shown_status(alloc, *status)?;
@@ -67,6 +68,18 @@ fn push_outcome(
         Some(Outcome::Ok(OpReply::Content(bytes))) => {
             let bytes = shown(alloc, bytes.as_slice())?;
             writeln!(out, "{number} ok {bytes}")
+        }
+    }
+}
+
+fn why_text(alloc: Global, why: Why) -> Result<String, AllocError>
+    ensures { IfOk result (λ shown. string_bytes shown ≡ text.why_text why) }
+{
+    match why {
+        Why::Ended => String::from_str(alloc, "unknown ended"),
+        Why::Status(status) => {
+            let status = shown_status(alloc, status)?;
+            format!(in alloc; "unknown status {status}")
         }
     }
 }
@@ -85,6 +98,7 @@ pub(crate) fn push_files(
     Ok(())
 }
 
+#[tactic(auto, unfolding(crate::specs::Text::file_line))]
 fn push_file(
     alloc: Global,
     out: &mut String,
@@ -134,6 +148,7 @@ fn shown_status(alloc: Global, status: u32) -> Result<String, AllocError>
 }
 
 /// The line that is printed of a refused line.
+#[tactic(auto, unfolding(crate::specs::Text::refusal_line))]
 pub(crate) fn refusal_line(alloc: Global, refusal: &Refusal) -> Result<String, AllocError>
     ensures { IfOk result (λ line. string_bytes line ≡ text.refusal_line refusal.now) }
 {
