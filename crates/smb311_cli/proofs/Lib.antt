@@ -3,3 +3,4 @@ pub mod NumberLemmas
 pub mod TextLemmas
 pub mod LineLemmas
 pub mod TextLines
+pub mod OutsideLemmas

@@ -5,3 +5,4 @@ pub mod Words
 pub mod Script
 pub mod Progress
 pub mod Text
+pub mod Outside

@@ -4,6 +4,7 @@
 mod limits;
 mod lines;
 mod numbers;
+mod outside;
 mod pieces;
 mod printing;
 mod script;
