@@ -12,6 +12,7 @@ use Rattle.world_model.specs.declared.operation.Outcome.{Outcome}
 use Rattle.world_model.specs.declared.operation.Outcome.TheVariants as outcomes
 use Rattle.world_model.specs.declared.limits.TheConstants.{LARGEST_ASKED, CREDIT_BYTES}
 use Rattle.world_model.specs.declared.status.TheConstants.{END_OF_FILE}
+use Rattle.world_model.specs.declared.client.Sent.{Sent}
 use Rattle.world_model.specs.declared.network.WorldEvent.{WorldEvent}
 use Rattle.world_model.specs.declared.network.WorldEvent.TheVariants.{Submit, Push, Serve, Take}
 use Rattle.world_model.specs.declared.network.WorldError.{WorldError}
@@ -33,11 +34,6 @@ pub record Response : Type 0 where
   pub kind : OpKind
   pub reply : Reply
   pub place : ℕ
-
--- The operation whose request is outstanding, and its message id.
-pub record Sent : Type 0 where
-  pub number : ℕ
-  pub message : ℕ
 
 -- what the message of an operation asks: no channel, and a read wants no bytes at least
 abbrev pub command_of : OpKind → Command
@@ -102,10 +98,10 @@ settlement_at settled g = settlement_of (outcome_of g settled)
 
 -- ---- submit
 
--- the file's create is 0, and no length is above the largest that is asked
+-- the file's create is 0, the offset has 64 bits, and no length is above the largest that is asked
 abbrev pub is_in_limits : OpKind → Bool
-is_in_limits (kinds.Write create at bytes) = (create == 0) && nat_le (length bytes) LARGEST_ASKED
-is_in_limits (kinds.Read create at size) = (create == 0) && nat_le size LARGEST_ASKED
+is_in_limits (kinds.Write create at bytes) = (create == 0) && (nat_le (length bytes) LARGEST_ASKED && nat_le at 0xffff_ffff_ffff_ffff)
+is_in_limits (kinds.Read create at size) = (create == 0) && (nat_le size LARGEST_ASKED && nat_le at 0xffff_ffff_ffff_ffff)
 
 -- its number is the next one
 abbrev pub takes : State → Op → Bool

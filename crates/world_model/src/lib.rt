@@ -1,6 +1,7 @@
 //! One client and one server that exchange SMB2 messages, over every schedule.
 #![tactic(auto)]
 
+mod client;
 mod limits;
 mod lists;
 mod network;
