@@ -49,6 +49,16 @@ moved (kinds.Read create at size) = size
 abbrev pub charge : OpKind → ℕ
 charge kind = min ((moved kind - 1) / CREDIT_BYTES + 1) 65535
 
+-- the next message id, which stands still at the end of its type
+abbrev pub id_after : ℕ → OpKind → ℕ
+id_after message kind = min (message + charge kind) 0xffff_ffff_ffff_ffff
+
+-- the status of a reply
+abbrev pub status_of : Reply → ℕ
+status_of (Counts count) = 0
+status_of (Content bytes) = 0
+status_of (Refuses status) = status
+
 -- ---- the state
 
 pub record State : Type 0 where
@@ -120,7 +130,7 @@ abbrev pub transmitted : State → ℕ → State
 transmitted s g =
     record s {
       sent = Some (record { number = g; message = s.next });
-      next = min (s.next + charge (kind_at s.taken g)) 0xffff_ffff_ffff_ffff;
+      next = id_after s.next (kind_at s.taken g);
       up = s.up ++ record { number = g; message = s.next; kind = kind_at s.taken g } ∷ [];
       log = pushed_log s g;
     }
@@ -213,12 +223,6 @@ happens s (Submit op) = submitted s op
 happens s (Push k) = if k == 0 then pushed s else s
 happens s (Serve k) = if k == 0 then served s else s
 happens s (Take k) = if k == 0 then took s else s
-
--- the status of a reply
-abbrev pub status_of : Reply → ℕ
-status_of (Counts count) = 0
-status_of (Content bytes) = 0
-status_of (Refuses status) = status
 
 abbrev pub no_note : StepNote
 no_note = record { status = None; acted = false }

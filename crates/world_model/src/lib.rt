@@ -4,6 +4,7 @@
 mod client;
 mod limits;
 mod lists;
+mod message;
 mod network;
 mod one_content;
 mod operation;
