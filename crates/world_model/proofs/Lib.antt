@@ -3,3 +3,4 @@ pub mod Shape
 pub mod Answering
 pub mod Logged
 pub mod Legality
+pub mod Writing

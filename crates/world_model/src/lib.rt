@@ -8,6 +8,7 @@ mod message;
 mod network;
 mod one_content;
 mod operation;
+mod server;
 mod status;
 
 pub use lists::{FileList, NumberList, SettledList};
