@@ -181,6 +181,7 @@ fn write_at(file: &mut Vec<u8>, offset: usize, payload: &[u8]) -> Result<(), All
 impl Server {
     /// Acts on a command and answers the request that had this header. For want of memory the file
     /// stays.
+    #[tactic(auto, using(crate::proofs::Writing::empty_by_length), unfolding(crate::specs::Server::answer, exchange_defs::specs::Content::effect, exchange_defs::specs::Content::touches))]
     fn act(
         &mut self,
         alloc: Global,
