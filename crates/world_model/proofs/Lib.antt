@@ -1,4 +1,5 @@
 pub mod Counting
+pub mod Suiting
 pub mod Shape
 pub mod Answering
 pub mod Logged
