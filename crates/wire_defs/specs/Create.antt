@@ -2,7 +2,7 @@
 use Rattle.std.specs.Prelude.{◌≡◌, ℕ, ◌+◌, ◌<◌, ◌≤◌, ◌^◌, ◌==◌, if◌then◌else◌, List, [], ◌∷◌, ◌++◌, length, Option}
 use Rattle.wire_defs.specs.Places.{number, bytes_at, gap_to_8}
 use Rattle.wire_defs.specs.Table.{Field, Num, Raw, Any, Stands, with_fields, AreWritable, IsPart, filler}
-use Rattle.wire_defs.specs.Fault.{◌or_else◌, short_fault, size_fault, part_fault}
+use Rattle.wire_defs.specs.Fault.{◌or_else◌, fields_fault, size_fault, part_fault}
 use Rattle.wire_defs.specs.declared.error.MessageError.{MessageError}
 use Rattle.wire_defs.specs.declared.error.Part.TheVariants.{Name, Contexts}
 
@@ -33,9 +33,13 @@ pub record SpellsCreateRequest (m : List ℕ) (v : CreateRequestValue) : Type 0 
   pub name : IsPart m (number 2 m 108) (number 2 m 110) 120 v.name
   pub contexts : IsPart m (number 4 m 112) (number 4 m 116) 120 v.contexts
 
+-- the request that stands in m
+abbrev pub create_request_in : List ℕ → CreateRequestValue
+create_request_in m = record { requested_oplock_level = number 1 m 67; impersonation_level = number 4 m 68; desired_access = number 4 m 88; file_attributes = number 4 m 92; share_access = number 4 m 96; create_disposition = number 4 m 100; create_options = number 4 m 104; name = bytes_at (number 2 m 110) m (number 2 m 108); contexts = bytes_at (number 4 m 116) m (number 4 m 112) }
+
 abbrev pub create_request_fault : List ℕ → Option MessageError
 create_request_fault m =
-    short_fault m 0 (64 ∷ 2 ∷ 1 ∷ 1 ∷ 4 ∷ 8 ∷ 8 ∷ 4 ∷ 4 ∷ 4 ∷ 4 ∷ 4 ∷ 2 ∷ 2 ∷ 4 ∷ 4 ∷ [])
+    fields_fault m (create_request_table (create_request_in m) (number 2 m 108) (number 4 m 112))
     or_else size_fault m 57
     or_else part_fault m (number 2 m 108) (number 2 m 110) 120 Name
     or_else part_fault m (number 4 m 112) (number 4 m 116) 120 Contexts
@@ -52,10 +56,8 @@ contexts_place v = if length v.contexts == 0 then 0 else 120 + length v.name + g
 -- empty, since one byte at least must stand behind the fixed part.
 abbrev pub create_request_whole : CreateRequestValue → List Field
 create_request_whole v =
-    Num 2 57 ∷ Any 1 ∷ Num 1 v.requested_oplock_level ∷ Num 4 v.impersonation_level ∷ Any 8 ∷ Any 8
-    ∷ Num 4 v.desired_access ∷ Num 4 v.file_attributes ∷ Num 4 v.share_access ∷ Num 4 v.create_disposition
-    ∷ Num 4 v.create_options ∷ Num 2 120 ∷ Num 2 (length v.name) ∷ Num 4 (contexts_place v) ∷ Num 4 (length v.contexts)
-    ∷ Raw (length v.name) v.name ∷ Any (contexts_gap v) ∷ Raw (length v.contexts) v.contexts
+    create_request_table v 120 (contexts_place v)
+    ++ Raw (length v.name) v.name ∷ Any (contexts_gap v) ∷ Raw (length v.contexts) v.contexts
     ∷ Any (filler (length v.name + length v.contexts)) ∷ []
 
 abbrev pub IsWritableCreateRequest : CreateRequestValue → Type 0
@@ -63,7 +65,3 @@ IsWritableCreateRequest v = AreWritable (create_request_whole v)
 
 abbrev pub create_request_spelling : CreateRequestValue → List ℕ
 create_request_spelling v = with_fields [] (create_request_whole v)
-
--- the request that stands in m
-abbrev pub create_request_in : List ℕ → CreateRequestValue
-create_request_in m = record { requested_oplock_level = number 1 m 67; impersonation_level = number 4 m 68; desired_access = number 4 m 88; file_attributes = number 4 m 92; share_access = number 4 m 96; create_disposition = number 4 m 100; create_options = number 4 m 104; name = bytes_at (number 2 m 110) m (number 2 m 108); contexts = bytes_at (number 4 m 116) m (number 4 m 112) }

@@ -2,7 +2,7 @@
 use Rattle.std.specs.Prelude.{◌≡◌, ℕ, ◌<◌, ◌≤◌, ◌^◌, List, [], ◌∷◌, ◌++◌, length, Option}
 use Rattle.wire_defs.specs.Places.{number, bytes_at}
 use Rattle.wire_defs.specs.Table.{Field, Num, Raw, Any, Stands, with_fields, AreWritable}
-use Rattle.wire_defs.specs.Fault.{◌or_else◌, short_fault, size_fault}
+use Rattle.wire_defs.specs.Fault.{◌or_else◌, fields_fault, size_fault}
 use Rattle.wire_defs.specs.declared.error.MessageError.{MessageError}
 use Rattle.wire_defs.specs.declared.message.ErrorResponse.{ErrorResponse}
 
@@ -15,14 +15,15 @@ error_response_table v = Num 2 9 ∷ Num 1 v.error_context_count ∷ Any 1 ∷ N
 abbrev pub SpellsErrorResponse : List ℕ → ErrorResponse → Type 0
 SpellsErrorResponse m v = Stands m 64 (error_response_table v)
 
+-- the response that stands in m
+abbrev pub error_response_in : List ℕ → ErrorResponse
+error_response_in m = record { error_context_count = number 1 m 66; byte_count = number 4 m 68 }
+
 abbrev pub error_response_fault : List ℕ → Option MessageError
-error_response_fault m = short_fault m 0 (64 ∷ 2 ∷ 1 ∷ 1 ∷ 4 ∷ 1 ∷ []) or_else size_fault m 9
+error_response_fault m = fields_fault m (error_response_table (error_response_in m)) or_else size_fault m 9
 
 abbrev pub IsWritableErrorResponse : ErrorResponse → Type 0
 IsWritableErrorResponse v = AreWritable (error_response_table v)
 
 abbrev pub error_response_spelling : ErrorResponse → List ℕ
 error_response_spelling v = with_fields [] (error_response_table v)
-
-abbrev pub error_response_in : List ℕ → ErrorResponse
-error_response_in m = record { error_context_count = number 1 m 66; byte_count = number 4 m 68 }

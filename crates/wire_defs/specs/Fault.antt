@@ -1,6 +1,7 @@
 -- What keeps bytes from being a message: the first break in the order of the table.
 use Rattle.std.specs.Prelude.{◌≡◌, ℕ, ◌+◌, ◌*◌, ◌||◌, ◌&&◌, ◌==◌, nat_lt, nat_le, if◌then◌else◌, List, [], ◌∷◌, length, Option, Some, None, Result, Ok, Err}
 use Rattle.wire_defs.specs.Places.{number}
+use Rattle.wire_defs.specs.Table.{Field, widths}
 use Rattle.wire_defs.specs.declared.error.Part.{Part}
 use Rattle.wire_defs.specs.declared.error.MessageError.{MessageError}
 use Rattle.wire_defs.specs.declared.error.MessageError.TheVariants.{Short, BadSize, BadOffset, BadCount}
@@ -15,6 +16,10 @@ None or_else f = f
 abbrev pub short_fault : List ℕ → ℕ → List ℕ → Option MessageError
 short_fault m at [] = None
 short_fault m at (w ∷ ws) = if nat_lt (length m) (at + w) then Some (Short at) else short_fault m (at + w) ws
+
+-- the same for a message: its header is the first field, and the fields of the fixed part stand behind it
+abbrev pub fields_fault : List ℕ → List Field → Option MessageError
+fields_fault m fs = short_fault m 0 (64 ∷ widths fs)
 
 -- the StructureSize, which stands behind the header, where it is another one
 abbrev pub size_fault : List ℕ → ℕ → Option MessageError

@@ -2,7 +2,7 @@
 use Rattle.std.specs.Prelude.{◌≡◌, ℕ, ◌<◌, ◌≤◌, ◌^◌, List, [], ◌∷◌, ◌++◌, length, Option}
 use Rattle.wire_defs.specs.Places.{number, bytes_at}
 use Rattle.wire_defs.specs.Table.{Field, Num, Raw, Any, Stands, with_fields, AreWritable, IsPart, filler}
-use Rattle.wire_defs.specs.Fault.{◌or_else◌, short_fault, size_fault, part_fault}
+use Rattle.wire_defs.specs.Fault.{◌or_else◌, fields_fault, size_fault, part_fault}
 use Rattle.wire_defs.specs.declared.error.MessageError.{MessageError}
 use Rattle.wire_defs.specs.declared.error.Part.TheVariants.{Payload}
 use Rattle.wire_defs.specs.declared.message.ReadRequest.{ReadRequest}
@@ -18,9 +18,13 @@ read_request_table v =
 abbrev pub SpellsReadRequest : List ℕ → ReadRequest → Type 0
 SpellsReadRequest m v = Stands m 64 (read_request_table v)
 
+-- the request that stands in m
+abbrev pub read_request_in : List ℕ → ReadRequest
+read_request_in m = record { flags = number 1 m 67; length = number 4 m 68; offset = number 8 m 72; file_id = bytes_at 16 m 80; minimum_count = number 4 m 96; channel = number 4 m 100; remaining_bytes = number 4 m 104 }
+
 abbrev pub read_request_fault : List ℕ → Option MessageError
 read_request_fault m =
-    short_fault m 0 (64 ∷ 2 ∷ 1 ∷ 1 ∷ 4 ∷ 8 ∷ 16 ∷ 4 ∷ 4 ∷ 4 ∷ 2 ∷ 2 ∷ 1 ∷ [])
+    fields_fault m (read_request_table (read_request_in m))
     or_else size_fault m 49
 
 abbrev pub IsWritableReadRequest : ReadRequest → Type 0
@@ -29,10 +33,6 @@ IsWritableReadRequest v = AreWritable (read_request_table v)
 -- the canonical spelling, which stands behind a header
 abbrev pub read_request_spelling : ReadRequest → List ℕ
 read_request_spelling v = with_fields [] (read_request_table v)
-
--- the request that stands in m
-abbrev pub read_request_in : List ℕ → ReadRequest
-read_request_in m = record { flags = number 1 m 67; length = number 4 m 68; offset = number 8 m 72; file_id = bytes_at 16 m 80; minimum_count = number 4 m 96; channel = number 4 m 100; remaining_bytes = number 4 m 104 }
 
 pub record ReadResponseValue : Type 0 where
   pub data_remaining : ℕ
@@ -49,24 +49,23 @@ pub record SpellsReadResponse (m : List ℕ) (v : ReadResponseValue) : Type 0 wh
   pub fixed : Stands m 64 (read_response_table v (number 1 m 66))
   pub payload : IsPart m (number 1 m 66) (number 4 m 68) 80 v.payload
 
+-- the response that stands in m
+abbrev pub read_response_in : List ℕ → ReadResponseValue
+read_response_in m = record { data_remaining = number 4 m 72; payload = bytes_at (number 4 m 68) m (number 1 m 66) }
+
 abbrev pub read_response_fault : List ℕ → Option MessageError
 read_response_fault m =
-    short_fault m 0 (64 ∷ 2 ∷ 1 ∷ 1 ∷ 4 ∷ 4 ∷ 4 ∷ [])
+    fields_fault m (read_response_table (read_response_in m) (number 1 m 66))
     or_else size_fault m 17
     or_else part_fault m (number 1 m 66) (number 4 m 68) 80 Payload
 
 -- What is written behind a header: the payload stands behind the fixed part. One zero byte stands for an empty
 -- payload, since one byte at least must stand there.
 abbrev pub read_response_whole : ReadResponseValue → List Field
-read_response_whole v =
-    Num 2 17 ∷ Num 1 80 ∷ Any 1 ∷ Num 4 (length v.payload) ∷ Num 4 v.data_remaining ∷ Any 4
-    ∷ Raw (length v.payload) v.payload ∷ Any (filler (length v.payload)) ∷ []
+read_response_whole v = read_response_table v 80 ++ Raw (length v.payload) v.payload ∷ Any (filler (length v.payload)) ∷ []
 
 abbrev pub IsWritableReadResponse : ReadResponseValue → Type 0
 IsWritableReadResponse v = AreWritable (read_response_whole v)
 
 abbrev pub read_response_spelling : ReadResponseValue → List ℕ
 read_response_spelling v = with_fields [] (read_response_whole v)
-
-abbrev pub read_response_in : List ℕ → ReadResponseValue
-read_response_in m = record { data_remaining = number 4 m 72; payload = bytes_at (number 4 m 68) m (number 1 m 66) }

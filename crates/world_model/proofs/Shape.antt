@@ -1,5 +1,5 @@
 -- Each event keeps the shape of a state, and a round settles one operation.
-use Rattle.std.proofs.Common.{◌≡◌, ℕ, zero, suc, ◌+◌, ◌-◌, ◌<◌, ◌≤◌, ◌==◌, nat_lt, Bool, true, false, if◌then◌else◌, List, [], ◌∷◌, ◌++◌, length, get_or, refl, sym, ap, subst, ◌∙◌, arith, Option, Some, None, eq-eqb, length-append}
+use Rattle.std.proofs.Common.{◌≡◌, ℕ, zero, suc, ◌+◌, ◌-◌, ◌<◌, ◌≤◌, ◌==◌, ◌^◌, nat_lt, Bool, true, false, ◌&&◌, if◌then◌else◌, List, [], ◌∷◌, ◌++◌, length, get_or, refl, sym, ap, subst, ◌∙◌, arith, Option, Some, None, eq-eqb, length-append}
 use Rattle.std.proofs.lemmas.Bool.Decides.{nat_tests}
 use Rattle.std.proofs.lemmas.Grind.{common_steps}
 use Rattle.world_model.specs.declared.operation.Op.{Op}
@@ -7,45 +7,63 @@ use Rattle.world_model.specs.declared.operation.OpKind.{OpKind}
 use Rattle.world_model.specs.declared.operation.Outcome.{Outcome}
 use Rattle.world_model.specs.declared.network.WorldEvent.{WorldEvent}
 use Rattle.world_model.specs.declared.network.WorldEvent.TheVariants.{Submit, Push, Serve, Take}
+use Rattle.world_model.specs.declared.client.Sent.{Sent}
 use Rattle.world_model.specs.Server.{Answer, answer, Reply}
-use Rattle.world_model.specs.Exchange.{State, Request, Response, Sent, command_of, kind_at, no_kind, lowest_unsettled, takes, submitted, transmitted, pushed_lowest, pushed_where, pushed, served_with, served_front, served, outcome_by, settled_by, heard, taken_front, took, happens, start, run, rounds, settle, Move, Does, Settles, moves, play}
-use Rattle.world_model.specs.Shape.{Stage, Idle, Asking, Answering, sent_in, up_in, down_in, places_in, IsLowest, CountsFrom, Shape}
+use Rattle.world_model.specs.Exchange.{State, Request, Response, command_of, kind_at, no_kind, is_in_limits, lowest_unsettled, takes, submitted, transmitted, pushed_lowest, pushed_where, pushed, served_with, served_front, served, outcome_by, settled_by, heard, taken_front, took, happens, start, run, rounds, settle, Move, Does, Settles, moves, play}
+use Rattle.world_model.specs.Shape.{Stage, Idle, Asking, Answering, sent_in, up_in, down_in, places_in, IsLowest, Suits, ReplySuits, CountsFrom, Shape}
+use Rattle.world_model.proofs.Suiting.{answer_suits}
 use Rattle.world_model.proofs.Counting.{CountsFrom-push, lowest-next, lowest-none}
 
 pub kind_at-push : (taken : List OpKind) (k : OpKind) (g : ℕ) → g - 1 < length taken → kind_at (taken ++ k ∷ []) g ≡ kind_at taken g
 kind_at-push taken k g l = grind (arith, common_steps)
 
+-- what holds of an element and of the new one holds of each after a push
+get_or-push_keeps : {X : Type 0} (P : X → Type 0) (xs : List X) (x : X) (n : ℕ) (d : X) → P (get_or xs n d) → P x → P (get_or (xs ++ x ∷ []) n d)
+get_or-push_keeps P [] x zero d h k = k
+get_or-push_keeps P [] x (suc n) d h k = h
+get_or-push_keeps P (y ∷ ys) x zero d h k = h
+get_or-push_keeps P (y ∷ ys) x (suc n) d h k = get_or-push_keeps P ys x n d h k
+
 pub start_shape : Shape start
 unfolding CountsFrom
-start_shape = record { stage = Idle; sent = refl; up = refl; down = refl; places = refl; lowest = tt; within = omega arith; counted = tt }
+start_shape = record { stage = Idle; sent = refl; up = refl; down = refl; places = refl; lowest = tt; suits = tt; within = omega arith; counted = tt; next = omega arith; limits = λ g. refl }
 
 -- ---- submit
 
-taken_more : (s : State) (k : OpKind) → Shape s → Shape (record s { taken = s.taken ++ k ∷ [] })
-taken_more s k i = by_stage i.stage i.sent i.up i.down i.places i.lowest
+taken_more : (s : State) (k : OpKind) → is_in_limits k ≡ true → Shape s → Shape (record s { taken = s.taken ++ k ∷ [] })
+taken_more s k ok i = by_stage i.stage i.sent i.up i.down i.places i.lowest i.suits
   where
     one_more : length (s.taken ++ k ∷ []) ≡ length s.taken + 1
     one_more = grind (arith, common_steps)
 
+    limits : (g : ℕ) → is_in_limits (kind_at (s.taken ++ k ∷ []) g) ≡ true
+    limits g = kept_limits (g - 1) (i.limits g)
+      where
+        kept_limits : (n : ℕ) → is_in_limits (get_or s.taken n no_kind) ≡ true → is_in_limits (get_or (s.taken ++ k ∷ []) n no_kind) ≡ true
+        kept_limits n h = get_or-push_keeps (λ v. is_in_limits v ≡ true) s.taken k n no_kind h ok
+
     more : length s.settled ≤ length (s.taken ++ k ∷ [])
     more = let w = i.within in omega (arith, one_more)
 
-    by_stage : (st : Stage) → s.sent ≡ sent_in st → s.up ≡ up_in s.taken st → s.down ≡ down_in s.taken (length s.settled) st → s.log.places ≡ places_in st (length s.settled) → IsLowest st (length s.settled) (length s.taken)
+    by_stage : (st : Stage) → s.sent ≡ sent_in st → s.up ≡ up_in s.taken st → s.down ≡ down_in s.taken (length s.settled) st → s.log.places ≡ places_in st (length s.settled) → IsLowest st (length s.settled) (length s.taken) → ReplySuits st s.taken
         → Shape (record s { taken = s.taken ++ k ∷ [] })
-    by_stage Idle es eu ed ep l = record { stage = Idle; sent = es; up = eu; down = ed; places = ep; lowest = tt; within = more; counted = i.counted }
-    by_stage (Asking x) es eu ed ep l =
+    by_stage Idle es eu ed ep l u = record { stage = Idle; sent = es; up = eu; down = ed; places = ep; lowest = tt; suits = tt; within = more; counted = i.counted; next = i.next; limits = limits }
+    by_stage (Asking x) es eu ed ep l u =
         let same = kind_at-push s.taken k x.number (omega (arith, l.0, l.1)) in
-        record { stage = Asking x; sent = es; up = eu ∙ ap (λ v. record { number = x.number; message = x.message; kind = v } ∷ []) (sym same); down = ed; places = ep; lowest = (l.0, omega (arith, l.1, one_more)); within = more; counted = i.counted }
-    by_stage (Answering x r) es eu ed ep l =
+        record { stage = Asking x; sent = es; up = eu ∙ ap (λ v. record { number = x.number; message = x.message; kind = v } ∷ []) (sym same); down = ed; places = ep; lowest = (l.0, omega (arith, l.1, one_more), l.2); suits = tt; within = more; counted = i.counted; next = i.next; limits = limits }
+    by_stage (Answering x r) es eu ed ep l u =
         let same = kind_at-push s.taken k x.number (omega (arith, l.0, l.1)) in
-        record { stage = Answering x r; sent = es; up = eu; down = ed ∙ ap (λ v. record { message = x.message; kind = v; reply = r; place = length s.settled } ∷ []) (sym same); places = ep; lowest = (l.0, omega (arith, l.1, one_more)); within = more; counted = i.counted }
+        record { stage = Answering x r; sent = es; up = eu; down = ed ∙ ap (λ v. record { message = x.message; kind = v; reply = r; place = length s.settled } ∷ []) (sym same); places = ep; lowest = (l.0, omega (arith, l.1, one_more), l.2); suits = subst (λ v. Suits v r) (sym same) u; within = more; counted = i.counted; next = i.next; limits = limits }
 
 either : {X : Type 0} (P : X → Type 0) (b : Bool) (x y : X) → (b ≡ true → P x) → (b ≡ false → P y) → P (if b then x else y)
 either P true x y f g = f refl
 either P false x y f g = g refl
 
 pub submitted_shape : (s : State) (op : Op) → Shape s → Shape (submitted s op)
-submitted_shape s op i = either Shape (takes s op) _ s (λ _. taken_more s op.kind i) (λ _. i)
+submitted_shape s op i = either Shape (takes s op) _ s (λ t. taken_more s op.kind (in_limits (op.number == length s.taken + 1) (is_in_limits op.kind) t) i) (λ _. i)
+  where
+    in_limits : (a b : Bool) → (a && b) ≡ true → b ≡ true
+    in_limits a b h = grind arith
 
 -- ---- push
 
@@ -66,9 +84,12 @@ transmitted_shape s i es eu ed ep l =
       up = ap (λ v. v ++ record { number = length s.settled + 1; message = s.next; kind = kind_at s.taken (length s.settled + 1) } ∷ []) eu;
       down = ed;
       places = ep;
-      lowest = (refl, l);
+      lowest = (refl, l, i.next);
+      suits = tt;
       within = i.within;
       counted = i.counted;
+      next = omega arith;
+      limits = i.limits;
     }
 
 pub pushed_shape : (s : State) → Shape s → Shape (pushed s)
@@ -97,18 +118,21 @@ served-asking s x e = ap (served_front s) e
 pub served-none : (s : State) → s.up ≡ [] → served s ≡ s
 served-none s e = ap (served_front s) e
 
-served_with_shape : (s : State) (x : Sent) (a : Answer) → Shape s → s.sent ≡ Some x → s.down ≡ [] → s.log.places ≡ length s.settled → x.number ≡ length s.settled + 1 → length s.settled < length s.taken
+served_with_shape : (s : State) (x : Sent) (a : Answer) → Shape s → s.sent ≡ Some x → s.down ≡ [] → s.log.places ≡ length s.settled → x.number ≡ length s.settled + 1 → length s.settled < length s.taken → x.message < 2 ^ 64 → Suits (kind_at s.taken x.number) a.reply
     → Shape (served_with s (request_in s.taken x) [] a)
-served_with_shape s x a i es ed ep n l =
+served_with_shape s x a i es ed ep n l m u =
     record {
       stage = Answering x a.reply;
       sent = es;
       up = refl;
       down = ap (λ v. v ++ response_in s.taken s.log.places x a.reply ∷ []) ed ∙ ap (λ p. response_in s.taken p x a.reply ∷ []) ep;
       places = ap (λ p. p + 1) ep;
-      lowest = (n, l);
+      lowest = (n, l, m);
+      suits = u;
       within = i.within;
       counted = i.counted;
+      next = i.next;
+      limits = i.limits;
     }
 
 pub served_shape : (s : State) → Shape s → Shape (served s)
@@ -116,7 +140,7 @@ served_shape s i = by_stage i.stage i.sent i.up i.down i.places i.lowest
   where
     by_stage : (st : Stage) → s.sent ≡ sent_in st → s.up ≡ up_in s.taken st → s.down ≡ down_in s.taken (length s.settled) st → s.log.places ≡ places_in st (length s.settled) → IsLowest st (length s.settled) (length s.taken) → Shape (served s)
     by_stage Idle es eu ed ep l = subst Shape (sym (served-none s eu)) i
-    by_stage (Asking x) es eu ed ep l = subst Shape (sym (served-asking s x eu)) (served_with_shape s x (answer (command_of (kind_at s.taken x.number)) s.file) i es ed ep l.0 l.1)
+    by_stage (Asking x) es eu ed ep l = subst Shape (sym (served-asking s x eu)) (served_with_shape s x (answer (command_of (kind_at s.taken x.number)) s.file) i es ed ep l.0 l.1 l.2 (answer_suits (kind_at s.taken x.number) s.file (i.limits x.number)))
     by_stage (Answering x r) es eu ed ep l = subst Shape (sym (served-none s eu)) i
 
 -- ---- take
@@ -141,8 +165,11 @@ settled_by_shape s x reply i eu ep n l =
       down = refl;
       places = ep ∙ sym one;
       lowest = tt;
+      suits = tt;
       within = omega (arith, one);
       counted = CountsFrom-push 1 s.settled (x.number, outcome_by reply) i.counted (omega arith);
+      next = i.next;
+      limits = i.limits;
     }
 
 pub took_shape : (s : State) → Shape s → Shape (took s)

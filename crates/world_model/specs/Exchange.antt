@@ -12,6 +12,7 @@ use Rattle.world_model.specs.declared.operation.Outcome.{Outcome}
 use Rattle.world_model.specs.declared.operation.Outcome.TheVariants as outcomes
 use Rattle.world_model.specs.declared.limits.TheConstants.{LARGEST_ASKED, CREDIT_BYTES}
 use Rattle.world_model.specs.declared.status.TheConstants.{END_OF_FILE}
+use Rattle.world_model.specs.declared.client.Sent.{Sent}
 use Rattle.world_model.specs.declared.network.WorldEvent.{WorldEvent}
 use Rattle.world_model.specs.declared.network.WorldEvent.TheVariants.{Submit, Push, Serve, Take}
 use Rattle.world_model.specs.declared.network.WorldError.{WorldError}
@@ -34,11 +35,6 @@ pub record Response : Type 0 where
   pub reply : Reply
   pub place : ℕ
 
--- The operation whose request is outstanding, and its message id.
-pub record Sent : Type 0 where
-  pub number : ℕ
-  pub message : ℕ
-
 -- what the message of an operation asks: no channel, and a read wants no bytes at least
 abbrev pub command_of : OpKind → Command
 command_of (kinds.Write create at bytes) = Write_file at 0 bytes
@@ -52,6 +48,16 @@ moved (kinds.Read create at size) = size
 -- the credits that a request costs, and the message ids that it takes (MS-SMB2 3.2.4.1.5): one for each 65,536 bytes begun, and one at least
 abbrev pub charge : OpKind → ℕ
 charge kind = min ((moved kind - 1) / CREDIT_BYTES + 1) 65535
+
+-- the next message id, which stands still at the end of its type
+abbrev pub id_after : ℕ → OpKind → ℕ
+id_after message kind = min (message + charge kind) 0xffff_ffff_ffff_ffff
+
+-- the status of a reply
+abbrev pub status_of : Reply → ℕ
+status_of (Counts count) = 0
+status_of (Content bytes) = 0
+status_of (Refuses status) = status
 
 -- ---- the state
 
@@ -102,10 +108,10 @@ settlement_at settled g = settlement_of (outcome_of g settled)
 
 -- ---- submit
 
--- the file's create is 0, and no length is above the largest that is asked
+-- the file's create is 0, the offset has 64 bits, and no length is above the largest that is asked
 abbrev pub is_in_limits : OpKind → Bool
-is_in_limits (kinds.Write create at bytes) = (create == 0) && nat_le (length bytes) LARGEST_ASKED
-is_in_limits (kinds.Read create at size) = (create == 0) && nat_le size LARGEST_ASKED
+is_in_limits (kinds.Write create at bytes) = (create == 0) && (nat_le (length bytes) LARGEST_ASKED && nat_le at 0xffff_ffff_ffff_ffff)
+is_in_limits (kinds.Read create at size) = (create == 0) && (nat_le size LARGEST_ASKED && nat_le at 0xffff_ffff_ffff_ffff)
 
 -- its number is the next one
 abbrev pub takes : State → Op → Bool
@@ -124,7 +130,7 @@ abbrev pub transmitted : State → ℕ → State
 transmitted s g =
     record s {
       sent = Some (record { number = g; message = s.next });
-      next = min (s.next + charge (kind_at s.taken g)) 0xffff_ffff_ffff_ffff;
+      next = id_after s.next (kind_at s.taken g);
       up = s.up ++ record { number = g; message = s.next; kind = kind_at s.taken g } ∷ [];
       log = pushed_log s g;
     }
@@ -217,12 +223,6 @@ happens s (Submit op) = submitted s op
 happens s (Push k) = if k == 0 then pushed s else s
 happens s (Serve k) = if k == 0 then served s else s
 happens s (Take k) = if k == 0 then took s else s
-
--- the status of a reply
-abbrev pub status_of : Reply → ℕ
-status_of (Counts count) = 0
-status_of (Content bytes) = 0
-status_of (Refuses status) = status
 
 abbrev pub no_note : StepNote
 no_note = record { status = None; acted = false }

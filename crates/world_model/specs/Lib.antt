@@ -2,3 +2,5 @@ pub mod Server
 pub mod Exchange
 pub mod OneContent
 pub mod Shape
+pub mod Messages
+pub mod Views

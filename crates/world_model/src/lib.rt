@@ -1,11 +1,14 @@
 //! One client and one server that exchange SMB2 messages, over every schedule.
 #![tactic(auto)]
 
+mod client;
 mod limits;
 mod lists;
+mod message;
 mod network;
 mod one_content;
 mod operation;
+mod server;
 mod status;
 
 pub use lists::{FileList, NumberList, SettledList};

@@ -8,3 +8,5 @@ pub const OFFSET_END: u64 = 0x8000_0000_0000_0000;
 pub const LARGEST_FILE: usize = 268_435_456;
 /// Bytes that one credit pays for.
 pub const CREDIT_BYTES: usize = 65_536;
+/// Credits that each request asks for.
+pub const CREDITS_ASKED: u16 = 512;

@@ -1,0 +1,40 @@
+-- What the program's values stand for.
+use Rattle.std.specs.Prelude.{◌≡◌, ℕ, ◌<◌, ◌^◌, List, length, Option, Some, None}
+use Rattle.world_model.specs.declared.message.Reply as code_reply
+use Rattle.world_model.specs.declared.message.Reply.TheVariants as replies
+use Rattle.world_model.specs.declared.server.Command as code_command
+use Rattle.world_model.specs.declared.server.Command.TheVariants as commands
+use Rattle.world_model.specs.declared.status.TheConstants.{INVALID_PARAMETER, END_OF_FILE, DISK_FULL}
+use Rattle.wire_defs.specs.declared.header.Header.{Header}
+use Rattle.world_model.specs.declared.server.Answered.{Answered}
+use Rattle.world_model.specs.Messages.{response_to}
+use Rattle.world_model.specs.Exchange.{status_of}
+use Rattle.world_model.specs.Server.{Answer, Command, Read_file, Write_file, Reply, Counts, Content, Refuses, Verdict, Bad_form, At_end, No_room, Success}
+
+abbrev pub reply_of : code_reply.Reply → Reply
+reply_of (replies.Counts count) = Counts count
+reply_of (replies.Content bytes) = Content bytes.now
+reply_of (replies.Refuses status) = Refuses status
+
+-- the bytes of a reply fit the length of a READ response
+abbrev pub IsShort : code_reply.Reply → Type 0
+IsShort (replies.Counts count) = Unit {0}
+IsShort (replies.Content bytes) = length bytes.now < 2 ^ 32
+IsShort (replies.Refuses status) = Unit {0}
+
+abbrev pub command_view : code_command.Command → Command
+command_view (commands.Read offset size minimum channel) = Read_file offset size minimum channel
+command_view (commands.Write offset channel payload) = Write_file offset channel payload.now
+
+-- the status with which a check refuses
+abbrev pub status_for : Verdict → Option ℕ
+status_for Bad_form = Some INVALID_PARAMETER
+status_for At_end = Some END_OF_FILE
+status_for No_room = Some DISK_FULL
+status_for Success = None
+
+-- an answer of the program says what the model's does, in the response to the request that had this header
+pub record Answers (header : Header) (a : Answer) (x : Answered) : Type 0 where
+  pub bytes : x.bytes ≡ response_to header a.reply
+  pub status : x.status ≡ status_of a.reply
+  pub acted : x.acted ≡ a.acted
