@@ -4,3 +4,4 @@ pub mod TextLemmas
 pub mod LineLemmas
 pub mod TextLines
 pub mod OutsideLemmas
+pub mod DrillLemmas

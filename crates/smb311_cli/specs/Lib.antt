@@ -6,3 +6,5 @@ pub mod Script
 pub mod Progress
 pub mod Text
 pub mod Outside
+pub mod Run
+pub mod Running

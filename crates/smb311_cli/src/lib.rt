@@ -1,6 +1,7 @@
 //! The command line of smb311: scripts, what they mean and what a run of one prints.
 #![tactic(auto)]
 
+mod drill;
 mod limits;
 mod lines;
 mod numbers;

@@ -2,6 +2,7 @@
 ghost use Rattle.std.specs.Prelude.{◌≡◌, ◌==◌, ◌&&◌, ◌+◌, ◌<◌, ◌≤◌, length, IfOk, OnOk};
 ghost use Rattle.std.specs.Str.{is_utf8};
 ghost use Rattle.smb311_cli.specs.Outcome.{Gives, fault_at_line};
+ghost use Rattle.smb311_cli.specs.Run.{count_of};
 ghost use Rattle.smb311_cli.specs.Script as script;
 ghost use Rattle.smb311_cli.specs.declared.limits.TheConstants.{SCRIPT_LINES, SCRIPT_OPERATIONS};
 
@@ -14,7 +15,8 @@ use std::collections::VecDeque;
 
 /// The lines that say something, or the first refused line.
 pub(crate) fn script(alloc: Global, text: &[u8]) -> Result<VecDeque<Line>, Fault<Refusal>>
-    ensures { Gives (λ lines. lines.items) result (script.script text.now) }
+    ensures value { Gives (λ lines. lines.items) result (script.script text.now) }
+    ensures operations { IfOk result (λ lines. count_of lines.items ≤ SCRIPT_OPERATIONS) }
 {
     if text.len() > SCRIPT_BYTES {
         lines(alloc, true, &text[..SCRIPT_BYTES])
@@ -34,7 +36,8 @@ fn without_last_feed(text: &[u8]) -> &[u8]
 
 // The lines of a text of which each feed ends one. Where it was cut, the last passes the limit.
 fn lines(alloc: Global, cut: bool, text: &[u8]) -> Result<VecDeque<Line>, Fault<Refusal>>
-    ensures { Gives (λ lines. lines.items) result (script.lines_of cut text.now) }
+    ensures value { Gives (λ lines. lines.items) result (script.lines_of cut text.now) }
+    ensures operations { IfOk result (λ lines. count_of lines.items ≤ SCRIPT_OPERATIONS) }
 {
     let mut rest = Pieces::new(text, b'\n');
     let mut progress = Progress {
@@ -64,6 +67,7 @@ struct Progress {
     operations: u32,
     ghost lines_fit: { number ≤ SCRIPT_LINES },
     ghost operations_fit: { operations ≤ SCRIPT_OPERATIONS },
+    ghost counted: { operations ≡ count_of lines.items },
 }
 
 impl Progress {
