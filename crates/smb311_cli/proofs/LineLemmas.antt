@@ -1,6 +1,10 @@
 -- The lines so far, and the lines of the rest.
 use Rattle.std.proofs.Common.{◌≡◌, ℕ, ◌+◌, List, [], ◌∷◌, ◌++◌, length, nat_eq, refl, sym, ap, ◌∙◌, append_assoc, append-nil, subst, take, ◌<◌, ◌≤◌, Bool, true, false}
 use Rattle.std.specs.Prelude.{nat_le}
+use Rattle.std.proofs.Common.{◌⊎◌, inl, inr, arith}
+use Rattle.std.proofs.lemmas.Bool.Decides.{leb_tells}
+use Rattle.smb311_cli.specs.Pieces.{pieces}
+use Rattle.smb311_cli.proofs.PieceLemmas.{pieces_left_over}
 use Rattle.std.proofs.lemmas.Bool.{cond-true, cond-false, le-leb, lt-leb}
 use Rattle.smb311_cli.specs.declared.limits.TheConstants.{SCRIPT_BYTES}
 use Rattle.std.specs.Prelude.{◌&&◌, ◌==◌, Option, Some, None, Result, Ok, Err}
@@ -80,3 +84,32 @@ script_whole text short = cond-true (nat_le (length text) SCRIPT_BYTES) _ _ (le-
 pub script_cut : (text : List ℕ) → SCRIPT_BYTES < length text → script text ≡ lines_of true (take SCRIPT_BYTES text)
 unfolding script
 script_cut text long = cond-false (nat_le (length text) SCRIPT_BYTES) _ _ (lt-leb _ _ long)
+
+bind_ok : {A B E : Type 0} (r : Result A E) (f : A → Result B E) (y : B) → (r >>= f) ≡ Ok y → (x : A) × (r ≡ Ok x) × (f x ≡ Ok y)
+bind_ok (Ok x) f y h = (x, refl, h)
+bind_ok (Err e) f y h = cc
+
+-- the last line of a text that was cut is refused
+cut_is_refused : (number before : ℕ) (line : List ℕ) (more : List (List ℕ)) (lines : List Line) → lines_from true number before (line ∷ more) ≡ Ok lines → ⊥
+unfolding lines_from judged
+cut_is_refused number before line [] lines h = cc
+cut_is_refused number before line (next ∷ more) lines h =
+    let first = bind_ok (at_line (number + 1) (judged (true && length (next ∷ more) == 0) number before line))
+        (λ says. lines_from true (number + 1) (before + operations_said says) (next ∷ more) >>= λ rest. Ok (line_saying (number + 1) says ++ rest)) lines h in
+    let rest = bind_ok (lines_from true (number + 1) (before + operations_said first.0) (next ∷ more))
+        (λ rest. Ok (line_saying (number + 1) first.0 ++ rest)) lines first.2 in
+    cut_is_refused (number + 1) (before + operations_said first.0) next more rest.0 rest.1
+
+pieces_refused : (left : List (List ℕ)) (lines : List Line) → nat_eq (length left) 0 ≡ false → lines_from true 0 0 left ≡ Ok lines → ⊥
+pieces_refused [] lines some h = cc
+pieces_refused (line ∷ more) lines some h = cut_is_refused 0 0 line more lines h
+
+within_or_past : (a b : ℕ) → (a ≤ b) ⊎ (b < a)
+within_or_past a b = grind (arith, leb_tells a b)
+
+-- a script that is read keeps the limit on bytes
+pub keeps_limit : (text : List ℕ) (lines : List Line) → script text ≡ Ok lines → length text ≤ SCRIPT_BYTES
+keeps_limit text lines said = elim (within_or_past (length text) SCRIPT_BYTES) as (λ _. length text ≤ SCRIPT_BYTES) [
+    inl short ↦ short
+  | inr long ↦ absurd (pieces_refused (pieces 10 (take SCRIPT_BYTES text)) lines (pieces_left_over 10 (take SCRIPT_BYTES text)) (sym (script_cut text long) ∙ said))
+  ]

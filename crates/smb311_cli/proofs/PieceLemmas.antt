@@ -42,3 +42,6 @@ is_none_left separator None false h = cc
 is_none_left separator (Some text) true h = cc
 is_none_left separator (Some text) false h = rw (length-slice_split (λ byte. byte == separator) text.now) (sym (some_left _))
 
+
+pub pieces_left_over : (separator : ℕ) (text : List ℕ) → nat_eq (length (pieces separator text)) 0 ≡ false
+pieces_left_over separator text = rw (length-slice_split (λ byte. byte == separator) text) (some_left _)

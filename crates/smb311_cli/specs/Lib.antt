@@ -8,3 +8,4 @@ pub mod Text
 pub mod Outside
 pub mod Run
 pub mod Running
+pub mod TopCall

@@ -2,6 +2,7 @@
 #![tactic(auto)]
 
 mod drill;
+mod ending;
 mod limits;
 mod lines;
 mod numbers;
@@ -9,7 +10,10 @@ mod outside;
 mod pieces;
 mod printing;
 mod script;
+mod top;
 mod words;
 
+pub use ending::Ending;
 pub use limits::{SCRIPT_BYTES, SCRIPT_LINES, SCRIPT_OPERATIONS};
 pub use script::{Code, Line, Refusal, Statement};
+pub use top::smb311;
