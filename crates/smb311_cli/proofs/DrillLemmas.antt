@@ -1,15 +1,15 @@
 -- A schedule, line after line.
-use Rattle.std.proofs.Common.{◌≡◌, ℕ, ◌+◌, ◌-◌, ◌<◌, ◌≤◌, List, [], ◌∷◌, ◌++◌, length, drop, refl, sym, ap, ◌∙◌, subst, arith, add_assoc}
-use Rattle.std.specs.Prelude.{Option, Some, None, Result, Ok, Err, codes}
+use Rattle.std.proofs.Common.{◌≡◌, ℕ, ◌+◌, List, [], ◌∷◌, ◌++◌, length, drop, refl, sym, ap, ◌∙◌, subst, arith}
+use Rattle.std.specs.Prelude.{Option, Some, None, Result, Ok, codes}
 use Rattle.std.specs.List.{flat_map}
 use Rattle.std.proofs.lemmas.List.Sums.{sum_by-cons}
-use Rattle.world_model.specs.Exchange.{State, start, Move, Does, Settles, moves, play}
+use Rattle.world_model.specs.Exchange.{State, start, Move, moves, play}
 use Rattle.world_model.specs.declared.network.WorldError.{WorldError}
 use Rattle.world_model.specs.declared.operation.Outcome.{Outcome}
 use Rattle.world_model.specs.OneContent.{OneContent}
 use Rattle.smb311_cli.specs.Outcome.{◌>>=◌, Fails}
 use Rattle.smb311_cli.specs.Script.{script, operations}
-use Rattle.smb311_cli.specs.Text.{run_text, file_line, outcome_lines}
+use Rattle.smb311_cli.specs.Text.{file_line, outcome_lines}
 use Rattle.smb311_cli.specs.Run.{schedule, did, moved, move_of, move_refusal, moves_of, count_of, report, state_text, Ran}
 use Rattle.smb311_cli.specs.declared.script.Fault.{Fault}
 use Rattle.smb311_cli.specs.declared.script.Fault.TheVariants.{Memory, Refused}
@@ -48,7 +48,7 @@ is_play s t before [] led = cc
 is_play s t before (line ∷ more) led =
     let move = move_of before line.statement in
     is_play (moves s move) t (before + operations line.statement) more
-        (moved_on s t move line.number (move_refusal s move) (λ after. schedule after (before + operations line.statement) more) led)
+    (moved_on s t move line.number (move_refusal s move) (λ after. schedule after (before + operations line.statement) more) led)
 
 pub ran_by : ((ms : List Move) → OneContent (play ms start)) → (text : List ℕ) (lines : List Line) (s : State) → script text ≡ Ok lines → schedule start 0 lines ≡ Ok s → Ran text lines s
 ran_by law text lines s said led =

@@ -7,7 +7,7 @@ use Rattle.smb311_cli.specs.Pieces.{pieces}
 use Rattle.smb311_cli.proofs.PieceLemmas.{pieces_left_over}
 use Rattle.std.proofs.lemmas.Bool.{cond-true, cond-false, le-leb, lt-leb}
 use Rattle.smb311_cli.specs.declared.limits.TheConstants.{SCRIPT_BYTES}
-use Rattle.std.specs.Prelude.{◌&&◌, ◌==◌, Option, Some, None, Result, Ok, Err}
+use Rattle.std.specs.Prelude.{◌&&◌, ◌==◌, Option, Result, Ok, Err}
 use Rattle.smb311_cli.specs.Outcome.{◌>>=◌, Fails}
 use Rattle.smb311_cli.specs.Progress.{Says}
 use Rattle.smb311_cli.specs.declared.lines.Progress.{Progress}
@@ -52,8 +52,8 @@ pub goes_on : (old new : Progress) (cut past : Bool) (line : List ℕ) (more lef
 goes_on old new cut past line more left all is said split so_far =
     let due = subst (λ p. at_line (old.number + 1) (judged p old.number old.operations line) ≡ Ok said.says) is said.is in
     rw (said.lines, said.number, said.operations)
-        (one_more old.lines.items cut old.number old.operations line more said.says due
-        ∙ (ap (λ ls. with_front old.lines.items (lines_from cut old.number old.operations ls)) (sym split) ∙ so_far))
+    (one_more old.lines.items cut old.number old.operations line more said.says due
+    ∙ (ap (λ ls. with_front old.lines.items (lines_from cut old.number old.operations ls)) (sym split) ∙ so_far))
 
 -- and where it refuses the line
 pub fails_there : (old : Progress) (cut past : Bool) (line : List ℕ) (more left : List (List ℕ)) (all : Result (List Line) Refusal) (fault : Fault Refusal)
@@ -95,9 +95,9 @@ unfolding lines_from judged
 cut_is_refused number before line [] lines h = cc
 cut_is_refused number before line (next ∷ more) lines h =
     let first = bind_ok (at_line (number + 1) (judged (true && length (next ∷ more) == 0) number before line))
-        (λ says. lines_from true (number + 1) (before + operations_said says) (next ∷ more) >>= λ rest. Ok (line_saying (number + 1) says ++ rest)) lines h in
+    (λ says. lines_from true (number + 1) (before + operations_said says) (next ∷ more) >>= λ rest. Ok (line_saying (number + 1) says ++ rest)) lines h in
     let rest = bind_ok (lines_from true (number + 1) (before + operations_said first.0) (next ∷ more))
-        (λ rest. Ok (line_saying (number + 1) first.0 ++ rest)) lines first.2 in
+    (λ rest. Ok (line_saying (number + 1) first.0 ++ rest)) lines first.2 in
     cut_is_refused (number + 1) (before + operations_said first.0) next more rest.0 rest.1
 
 pieces_refused : (left : List (List ℕ)) (lines : List Line) → nat_eq (length left) 0 ≡ false → lines_from true 0 0 left ≡ Ok lines → ⊥
@@ -110,6 +110,6 @@ within_or_past a b = grind (arith, leb_tells a b)
 -- a script that is read keeps the limit on bytes
 pub keeps_limit : (text : List ℕ) (lines : List Line) → script text ≡ Ok lines → length text ≤ SCRIPT_BYTES
 keeps_limit text lines said = elim (within_or_past (length text) SCRIPT_BYTES) as (λ _. length text ≤ SCRIPT_BYTES) [
-    inl short ↦ short
+  | inl short ↦ short
   | inr long ↦ absurd (pieces_refused (pieces 10 (take SCRIPT_BYTES text)) lines (pieces_left_over 10 (take SCRIPT_BYTES text)) (sym (script_cut text long) ∙ said))
-  ]
+]

@@ -1,9 +1,9 @@
 -- A text is its first piece and then the pieces of the rest.
-use Rattle.std.proofs.Common.{◌≡◌, ℕ, ◌+◌, ◌-◌, ◌<◌, ◌≤◌, List, [], ◌∷◌, length, take, drop, get_or, refl, sym, ap, ◌∙◌, subst, arith, Bool, true, false, cond, Option, Some, None, nat_eq, nat_lt}
-use Rattle.std.specs.Prelude.{position, ◌==◌, All, not, is_some}
+use Rattle.std.proofs.Common.{◌≡◌, ℕ, ◌+◌, ◌-◌, ◌≤◌, List, [], ◌∷◌, length, take, drop, refl, sym, subst, arith, Bool, true, false, cond, Option, Some, None, nat_eq, nat_lt}
+use Rattle.std.specs.Prelude.{position, ◌==◌, not, is_some}
 use Rattle.std.proofs.lemmas.Bool.Decides.{nat_tests}
 use denote.Ref.{Bor}
-use Rattle.std.specs.List.{slice_split, position_or_len}
+use Rattle.std.specs.List.{position_or_len}
 use Rattle.std.proofs.lemmas.List.{take_rest}
 use Rattle.std.proofs.lemmas.List.Elements.{All-from_get_or}
 use Rattle.std.proofs.lemmas.List.Splits.{slice_split_first, slice_split_none, length-slice_split}
@@ -41,7 +41,6 @@ is_none_left separator None true h = refl
 is_none_left separator None false h = cc
 is_none_left separator (Some text) true h = cc
 is_none_left separator (Some text) false h = rw (length-slice_split (λ byte. byte == separator) text.now) (sym (some_left _))
-
 
 pub pieces_left_over : (separator : ℕ) (text : List ℕ) → nat_eq (length (pieces separator text)) 0 ≡ false
 pieces_left_over separator text = rw (length-slice_split (λ byte. byte == separator) text) (some_left _)

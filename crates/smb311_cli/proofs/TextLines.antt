@@ -1,7 +1,6 @@
 -- The lines of operations, one after the other.
-use Rattle.std.proofs.Common.{◌≡◌, ℕ, zero, suc, ◌+◌, ◌-◌, ◌<◌, ◌≤◌, List, [], ◌∷◌, ◌++◌, length, get_or, refl, sym, ap, ◌∙◌, subst, append_assoc, append-nil, arith, nat_eq, nat_lt, Bool, true, false, cond}
-use Rattle.std.specs.Prelude.{Option, Some, None, ◌==◌, slice_get}
-use Rattle.std.specs.Option.{option_map}
+use Rattle.std.proofs.Common.{◌≡◌, ℕ, zero, suc, ◌+◌, ◌<◌, ◌≤◌, List, [], ◌∷◌, ◌++◌, length, get_or, refl, sym, ap, ◌∙◌, subst, append_assoc, append-nil, arith, nat_eq, nat_lt, true, false}
+use Rattle.std.specs.Prelude.{Some, None}
 use Rattle.std.proofs.lemmas.Bool.{cond-true, cond-false, ltb-true, ltb-false}
 use Rattle.std.proofs.lemmas.Bool.Decides.{nat_tests}
 use Rattle.world_model.specs.declared.operation.Outcome.{Outcome}
@@ -50,8 +49,8 @@ pub more_lines : (front new : List ℕ) (number left rest : ℕ) (settled : List
 unfolding outcome_lines
 more_lines front new number left rest settled all one added so_far =
     rw added
-        (append_assoc front (outcome_line number (outcome_of number settled)) (outcome_lines (number + 1) rest settled)
-        ∙ subst (λ k. front ++ outcome_lines number k settled ≡ all) one so_far)
+    (append_assoc front (outcome_line number (outcome_of number settled)) (outcome_lines (number + 1) rest settled)
+    ∙ subst (λ k. front ++ outcome_lines number k settled ≡ all) one so_far)
 
 pub no_more_lines : (front : List ℕ) (number left : ℕ) (settled : List (ℕ × Outcome)) (all : List ℕ)
     → left ≡ 0

@@ -1,5 +1,5 @@
 -- One line more of a script.
-use Rattle.std.specs.Prelude.{◌≡◌, ℕ, ◌+◌, List, ◌++◌, Option, Result, Ok, Err, MatchResult}
+use Rattle.std.specs.Prelude.{◌≡◌, ◌+◌, ◌++◌, Option, Result, Ok, MatchResult}
 use Rattle.smb311_cli.specs.Outcome.{Fails}
 use Rattle.smb311_cli.specs.Script.{operations_said, line_saying}
 use Rattle.smb311_cli.specs.declared.lines.Progress.{Progress}

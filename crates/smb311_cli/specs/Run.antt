@@ -1,10 +1,8 @@
 -- The run of a script: one client and one server, over the schedule that its lines say.
 use Rattle.std.specs.Prelude.{◌≡◌, ℕ, ◌+◌, List, [], ◌∷◌, codes, Option, Some, None, Result, Ok, Err}
 use Rattle.std.specs.List.{sum_by}
-use Rattle.world_model.specs.declared.operation.Op.{Op}
 use Rattle.world_model.specs.declared.network.WorldError.{WorldError}
 use Rattle.world_model.specs.declared.network.WorldError.TheVariants as errors
-use Rattle.world_model.specs.declared.network.WorldEvent.{WorldEvent}
 use Rattle.world_model.specs.declared.network.WorldEvent.TheVariants.{Submit}
 use Rattle.world_model.specs.Exchange.{State, start, refusal, Move, Does, Settles, moves, play}
 use Rattle.world_model.specs.OneContent.{OneContent}

@@ -1,5 +1,5 @@
 -- What the code of a run gives, where the World holds a state.
-use Rattle.std.specs.Prelude.{◌≡◌, ℕ, List, Result, Ok, Err, MatchResult}
+use Rattle.std.specs.Prelude.{◌≡◌, ℕ, List, Result, Ok, MatchResult}
 use Rattle.world_model.specs.declared.network.World.{World}
 use Rattle.world_model.specs.Exchange.{State}
 use Rattle.world_model.specs.Holding.{Holds}
@@ -17,8 +17,8 @@ Acts due result world = MatchResult result (λ _. (t : State) × (due ≡ Ok t) 
 abbrev pub Runs : State → List Line → Result ℕ (Fault Refusal) → World → Type 0
 Runs s lines result world =
     MatchResult result
-        (λ count. (count ≡ count_of lines) × ((t : State) × (schedule s 0 lines ≡ Ok t) × Holds world t))
-        (λ fault. Fails fault (schedule s 0 lines))
+    (λ count. (count ≡ count_of lines) × ((t : State) × (schedule s 0 lines ≡ Ok t) × Holds world t))
+    (λ fault. Fails fault (schedule s 0 lines))
 
 -- what a drill prints is the text of the state to which its script runs
 abbrev pub Drills : List ℕ → List ℕ → Type 0

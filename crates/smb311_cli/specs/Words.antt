@@ -1,11 +1,10 @@
 -- What the words of a line say, from the left: the first faulty word decides.
-use Rattle.std.specs.Prelude.{ℕ, ◌+◌, ◌-◌, ◌^◌, ◌==◌, nat_lt, nat_le, Bool, if◌then◌else◌, List, [], ◌∷◌, length, codes, Option, Some, None, Result, Ok, Err}
+use Rattle.std.specs.Prelude.{ℕ, ◌-◌, ◌^◌, ◌==◌, nat_le, if◌then◌else◌, List, [], ◌∷◌, length, codes, Option, Some, None, Result, Ok, Err}
 use Rattle.std.specs.Str.{bytes_eq}
 use Rattle.hex.specs.Hex.{decode_of}
 use Rattle.hex.specs.declared.error.FromHexError.{FromHexError}
 use Rattle.world_model.specs.declared.operation.OpKind.{OpKind}
 use Rattle.world_model.specs.declared.operation.OpKind.TheVariants.{Write, Read}
-use Rattle.world_model.specs.declared.network.WorldEvent.{WorldEvent}
 use Rattle.world_model.specs.declared.network.WorldEvent.TheVariants.{Push, Serve, Take}
 use Rattle.smb311_cli.specs.Numbers.{number_to}
 use Rattle.smb311_cli.specs.Outcome.{◌>>=◌}
@@ -82,17 +81,17 @@ unfoldable pub event : List ℕ → List (List ℕ) → Reading Statement
 event name words = do
   connection ← number 0 words
   if bytes_eq name (codes "push") then Ok (Event (Push connection.0), connection.1)
-    else if bytes_eq name (codes "serve") then Ok (Event (Serve connection.0), connection.1)
-    else if bytes_eq name (codes "take") then Ok (Event (Take connection.0), connection.1)
-    else Err BadLine
+      else if bytes_eq name (codes "serve") then Ok (Event (Serve connection.0), connection.1)
+      else if bytes_eq name (codes "take") then Ok (Event (Take connection.0), connection.1)
+      else Err BadLine
 
 -- the first part of a line that says something
 unfoldable pub said : List (List ℕ) → Reading Statement
 said words = do
   name ← word words
   if bytes_eq name.0 (codes "op") then operation name.1
-    else if bytes_eq name.0 (codes "settle") then Ok (Settle, name.1)
-    else event name.0 name.1
+      else if bytes_eq name.0 (codes "settle") then Ok (Settle, name.1)
+      else event name.0 name.1
 
 abbrev pub ends : Statement × List (List ℕ) → Result Statement Code
 ends reading = if length reading.1 == 0 then Ok reading.0 else Err BadLine

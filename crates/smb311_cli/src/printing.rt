@@ -99,12 +99,7 @@ pub(crate) fn push_files(
 }
 
 #[tactic(auto, unfolding(crate::specs::Text::file_line))]
-fn push_file(
-    alloc: Global,
-    out: &mut String,
-    path: &Text,
-    bytes: &Bytes,
-) -> Result<(), AllocError>
+fn push_file(alloc: Global, out: &mut String, path: &Text, bytes: &Bytes) -> Result<(), AllocError>
     ensures { OnOk result (string_bytes out.new ≡ string_bytes out.old ++ text.file_line (path.now, bytes.now)) }
 {
     let length = bytes.len();

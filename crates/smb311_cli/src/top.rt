@@ -29,8 +29,8 @@ pub fn smb311<S: Source, O: Sink>(
     // The status is that of an ending, and what the ending says holds.
     ensures ends { (ending : Ending) × (result ≡ top.status_of ending)
         × top.Ends (top.is_drill (map string_bytes words.now)) (S.left source.old) (S.left source.new)
-            (O.written sink.old) (O.written sink.new)
-            (Rose (S.faults source.old) (S.faults source.new)) (Rose (O.faults sink.old) (O.faults sink.new)) ending }
+        (O.written sink.old) (O.written sink.new)
+        (Rose (S.faults source.old) (S.faults source.new)) (Rose (O.faults sink.old) (O.faults sink.new)) ending }
     // The words are judged first: where they are no command, nothing is read.
     ensures words_first { top.is_drill (map string_bytes words.now) ≡ false → source.new ≡ source.old }
 {

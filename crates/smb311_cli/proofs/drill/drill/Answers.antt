@@ -1,8 +1,7 @@
-use Rattle.std.proofs.Common.{◌≡◌, ◌++◌, [], ◌∙◌, sym, ap, Ok}
+use Rattle.std.proofs.Common.{◌∙◌, sym, ap, Ok}
 use Rattle.std.proofs.lemmas.Result.{err_from_is_err_and}
 use Rattle.std.specs.String.{string_bytes}
 use Rattle.world_model.specs.Exchange.{start}
-use Rattle.smb311_cli.specs.Run.{Ran}
 use Rattle.smb311_cli.proofs.DrillLemmas.{refused_text, refused_schedule, reported, ran_by, state_printed}
 use Rattle.smb311_cli.proofs.drill.drill.Goals as goal
 
@@ -19,13 +18,15 @@ returns-in_err-count-clause-printed c =
 pub returns-clause-ran : goal.returns-clause-ran
 returns-clause-ran c =
     let led = c.in_ok-count.ensures start c.in_ok-world.ensures in
-    let shown = c.outcomes.ensures led.1.0 led.1.2 in
-    (c.in_ok-lines.lines.items, led.1.0,
+    let shown = c.outcomes.ensures led.1.0 led.1.2 in (
+      c.in_ok-lines.lines.items,
+      led.1.0,
       ran_by c.one_content_law.ensures c.args.text.now c.in_ok-lines.lines.items led.1.0 c.in_ok-lines.ensures.value led.1.1,
       state_printed c.in_ok-lines.lines.items led.1.0 c.in_ok-count.count c.as_slice.result.now c.as_slice-3.result.now
           (string_bytes c.new-out.result) (string_bytes c.push_outcomes.new.out) (string_bytes c.push_files.new.out)
           led.0 (c.as_slice.ensures ∙ shown.0) (c.as_slice-3.ensures ∙ c.in_ok-files.ensures led.1.0 led.1.2)
-          c.new-out.ensures.bytes c.in_ok-push_outcomes.ensures c.in_ok-push_files.ensures)
+          c.new-out.ensures.bytes c.in_ok-push_outcomes.ensures c.in_ok-push_files.ensures,
+    )
 
 pub returns-clause-printed : goal.returns-clause-printed
 returns-clause-printed c =

@@ -1,5 +1,4 @@
 use Rattle.std.proofs.Common.{◌≡◌, ◌+◌, length}
-use Rattle.std.specs.VecDeque.{deque_len}
 use Rattle.world_model.specs.Exchange.{State}
 use Rattle.world_model.specs.Holding.{Holds}
 use Rattle.smb311_cli.specs.Run.{schedule, count_of}

@@ -1,4 +1,4 @@
-use Rattle.std.proofs.Common.{sym, ◌<◌, ◌≤◌, length, arith}
+use Rattle.std.proofs.Common.{sym, arith}
 use Rattle.std.proofs.lemmas.List.{length-take-le}
 use Rattle.smb311_cli.proofs.LineLemmas.{script_whole, script_cut}
 use Rattle.smb311_cli.proofs.lines.script.Goals as goal

@@ -1,5 +1,3 @@
-use Rattle.std.proofs.Common.{sym, subst}
-use Rattle.smb311_cli.specs.TopCall.{Answers}
 use Rattle.smb311_cli.proofs.TopLemmas.{drills}
 use Rattle.smb311_cli.proofs.top.drilled.Goals as goal
 
