@@ -5,3 +5,4 @@ pub mod Answering
 pub mod Logged
 pub mod Legality
 pub mod Writing
+pub mod Fitting

@@ -38,3 +38,8 @@ pub record Answers (header : Header) (a : Answer) (x : Answered) : Type 0 where
   pub bytes : x.bytes ≡ response_to header a.reply
   pub status : x.status ≡ status_of a.reply
   pub acted : x.acted ≡ a.acted
+
+-- it is this command
+abbrev pub IsCommand : Command → Option code_command.Command → Type 0
+IsCommand c None = ⊥
+IsCommand c (Some x) = command_view x ≡ c

@@ -8,7 +8,9 @@ mod message;
 mod network;
 mod one_content;
 mod operation;
+mod reading;
 mod server;
+mod spelling;
 mod status;
 
 pub use lists::{FileList, NumberList, SettledList};
