@@ -6,7 +6,8 @@ use Rattle.world_model.specs.declared.operation.OpKind.{OpKind}
 use Rattle.world_model.specs.declared.operation.OpKind.TheVariants as kinds
 use Rattle.world_model.specs.declared.limits.TheConstants.{LARGEST_ASKED, CREDIT_BYTES}
 use Rattle.world_model.specs.Server.{Reply, Counts, Content, Refuses}
-use Rattle.world_model.specs.Exchange.{charge, is_in_limits, moved, status_of}
+use Rattle.world_model.specs.Exchange.{charge, moved, status_of}
+use Rattle.world_model.specs.Limits.{is_in_limits}
 use Rattle.world_model.specs.Shape.{Suits}
 use Rattle.world_model.specs.Messages.{command_number, request_header, response_header}
 

@@ -1,3 +1,4 @@
+pub mod Limits
 pub mod Server
 pub mod Exchange
 pub mod OneContent

@@ -12,8 +12,10 @@ mod reading;
 mod server;
 mod spelling;
 mod status;
+mod table;
 
 pub use lists::{FileList, NumberList, SettledList};
-pub use network::{Outcomes, StepNote, World, WorldError, WorldEvent};
+pub use network::{StepNote, World, WorldError, WorldEvent};
 pub use one_content::one_content_law;
 pub use operation::{Op, OpKind, OpReply, Outcome, Why};
+pub use table::Outcomes;

@@ -1,5 +1,6 @@
 use crate::lists::{FileList, NumberList, SettledList};
 use crate::operation::Op;
+use crate::table::Outcomes;
 use std::alloc::{AllocError, Global};
 use thiserror::Error;
 
@@ -32,14 +33,6 @@ pub enum WorldError {
     NoChannel(u32),
     #[error("nothing there {0}")]
     NothingThere(u32),
-}
-
-/// What the client settled, in the order in which it settled, and the numbers of the operations
-/// that a reply settled, in the order in which those replies were taken.
-#[derive(Drop, Debug)]
-pub struct Outcomes {
-    pub settled: SettledList,
-    pub order: NumberList,
 }
 
 /// One client, one server and the messages that travel between them.

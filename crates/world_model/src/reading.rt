@@ -7,7 +7,8 @@ ghost use Rattle.wire_defs.specs.declared.message.ReadRequest.{ReadRequest};
 ghost use Rattle.wire_defs.specs.declared.message.WriteResponse.{WriteResponse};
 ghost use Rattle.world_model.specs.declared.operation.OpKind.{OpKind};
 ghost use Rattle.world_model.specs.Server.{Read_file, Write_file};
-ghost use Rattle.world_model.specs.Exchange.{command_of, is_in_limits};
+ghost use Rattle.world_model.specs.Exchange.{command_of};
+ghost use Rattle.world_model.specs.Limits.{is_in_limits};
 ghost use Rattle.world_model.specs.Messages.{command_number, request_header, request_bytes};
 ghost use Rattle.world_model.specs.Views.{IsCommand};
 
@@ -80,7 +81,7 @@ pub fn command_in(m: &[u8], command: u16) -> Option<Command<'_>>
 }
 
 /// What the body of a READ response says.
-fn content_in(alloc: Global, m: &[u8]) -> Result<Outcome, AllocError>
+pub fn content_in(alloc: Global, m: &[u8]) -> Result<Outcome, AllocError>
     ensures { (v : ReadResponseValue) → SpellsReadResponse m.now v → IfOk result (λ o. o ≡ Outcome.Ok (OpReply.Content v.payload)) }
 {
     read_response_law();
@@ -91,7 +92,7 @@ fn content_in(alloc: Global, m: &[u8]) -> Result<Outcome, AllocError>
 }
 
 /// What the body of a WRITE response says.
-fn count_in(m: &[u8]) -> Outcome
+pub fn count_in(m: &[u8]) -> Outcome
     ensures { (v : WriteResponse) → SpellsWriteResponse m.now v → result ≡ Outcome.Ok (OpReply.Count v.count) }
 {
     write_response_law();

@@ -6,7 +6,8 @@ ghost use Rattle.wire_defs.specs.Write.{SpellsWriteRequest, SpellsWriteResponse}
 ghost use Rattle.world_model.specs.declared.operation.OpKind.{OpKind};
 ghost use Rattle.world_model.specs.declared.operation.OpKind.TheVariants as kinds;
 ghost use Rattle.world_model.specs.Server.{Counts, Content, Reply};
-ghost use Rattle.world_model.specs.Exchange.{is_in_limits, status_of};
+ghost use Rattle.world_model.specs.Exchange.{status_of};
+ghost use Rattle.world_model.specs.Limits.{is_in_limits};
 ghost use Rattle.world_model.specs.Shape.{Suits};
 ghost use Rattle.world_model.specs.Messages.{read_request_of, request_bytes, request_header, response_bytes, response_header, write_request_of};
 

@@ -2,7 +2,8 @@ use Rattle.std.proofs.Common.{◌≡◌, ℕ, true, List, sym, subst, ◌∙◌,
 use Rattle.wire_defs.specs.Read.{SpellsReadRequest}
 use Rattle.wire_defs.specs.Write.{SpellsWriteRequest}
 use Rattle.world_model.specs.declared.operation.OpKind.TheVariants as kinds
-use Rattle.world_model.specs.Exchange.{command_of, is_in_limits}
+use Rattle.world_model.specs.Exchange.{command_of}
+use Rattle.world_model.specs.Limits.{is_in_limits}
 use Rattle.world_model.specs.Messages.{command_number, request_bytes, read_request_of, write_request_of}
 use Rattle.world_model.specs.Views.{IsCommand}
 use Rattle.world_model.proofs.reading.command_in.Goals as goal
