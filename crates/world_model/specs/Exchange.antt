@@ -103,8 +103,11 @@ settlement_at settled g = settlement_of (outcome_of g settled)
 -- ---- submit
 
 -- its number is the next one
+abbrev pub takes_op : List OpKind → Op → Bool
+takes_op taken op = (op.number == length taken + 1) && is_in_limits op.kind
+
 abbrev pub takes : State → Op → Bool
-takes s op = (op.number == length s.taken + 1) && is_in_limits op.kind
+takes s op = takes_op s.taken op
 
 abbrev pub submitted : State → Op → State
 submitted s op = if takes s op then record s { taken = s.taken ++ op.kind ∷ [] } else s

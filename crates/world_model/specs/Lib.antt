@@ -5,3 +5,4 @@ pub mod OneContent
 pub mod Shape
 pub mod Messages
 pub mod Views
+pub mod Holding

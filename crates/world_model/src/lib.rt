@@ -13,6 +13,7 @@ mod server;
 mod spelling;
 mod status;
 mod table;
+mod world;
 
 pub use lists::{FileList, NumberList, SettledList};
 pub use network::{StepNote, World, WorldError, WorldEvent};

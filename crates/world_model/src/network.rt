@@ -1,7 +1,9 @@
-use crate::lists::{FileList, NumberList, SettledList};
 use crate::operation::Op;
-use crate::table::Outcomes;
-use std::alloc::{AllocError, Global};
+use crate::server::Server;
+use crate::table::Client;
+use smb_bytes::Bytes;
+use std::alloc::Global;
+use std::collections::VecDeque;
 use thiserror::Error;
 
 /// One event of a schedule. Connections count from 0, and 0 is the only one.
@@ -35,54 +37,37 @@ pub enum WorldError {
     NothingThere(u32),
 }
 
-/// One client, one server and the messages that travel between them.
+/// A request that travels: its operation and its bytes.
 #[derive(Drop)]
-pub struct World {
-    outcomes: Outcomes,
-    alloc: Global,
+pub struct Asked {
+    pub number: u32,
+    pub bytes: Bytes,
 }
 
-impl World {
-    /// One client and one server, with the empty file `given`, which is open under create 0.
-    pub fn new(alloc: Global) -> Result<World, WorldError> {
-        Ok(World {
-            outcomes: Outcomes {
-                settled: SettledList::new(alloc),
-                order: NumberList::new(alloc),
-            },
-            alloc,
-        })
-    }
+/// A response that travels: the number of the serve that made it, from 0 on, and its bytes.
+#[derive(Drop)]
+pub struct Told {
+    pub place: u64,
+    pub bytes: Bytes,
+}
 
-    /// One event.
-    pub fn step(&mut self, event: WorldEvent) -> Result<StepNote, WorldError> {
-        let _ = event;
-        let _ = &mut self.outcomes;
-        Ok(StepNote {
-            status: None,
-            acted: false,
-        })
-    }
+/// What the server did for an operation: the number of the serve in which it acted first, and of
+/// the one whose reply settled it.
+#[derive(Clone, Copy)]
+pub struct Mark {
+    pub first: Option<u64>,
+    pub by: Option<u64>,
+}
 
-    /// Pushes, serves and takes until every operation is settled.
-    pub fn settle(&mut self) -> Result<(), WorldError> {
-        let _ = &mut self.outcomes;
-        Ok(())
-    }
-
-    /// What the client settled so far.
-    pub fn outcomes(&self) -> &Outcomes {
-        &self.outcomes
-    }
-
-    /// The reads and writes of a create, in the order in which the server took them.
-    pub fn order(&self, create: u32) -> Result<NumberList, AllocError> {
-        let _ = create;
-        Ok(NumberList::new(self.alloc))
-    }
-
-    /// The files, each with its path and bytes.
-    pub fn files(&self) -> Result<FileList, AllocError> {
-        Ok(FileList::new(self.alloc))
-    }
+/// One client, one server and the messages that travel between them. Beside the messages stand the
+/// operation of each serve, and what is marked of each operation, of which number n stands at n - 1.
+#[derive(Drop)]
+pub struct World {
+    pub(crate) client: Client,
+    pub(crate) server: Server,
+    pub(crate) up: VecDeque<Asked>,
+    pub(crate) down: VecDeque<Told>,
+    pub(crate) served: Vec<u32>,
+    pub(crate) marks: Vec<Mark>,
+    pub(crate) alloc: Global,
 }
