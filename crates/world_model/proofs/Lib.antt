@@ -6,3 +6,4 @@ pub mod Logged
 pub mod Legality
 pub mod Writing
 pub mod Fitting
+pub mod Holding

@@ -1,4 +1,4 @@
-ghost use Rattle.std.specs.Prelude.{◌≡◌, ◌+◌, ◌<◌, ◌^◌, ◌++◌, ◌∷◌, [], ℕ, true, Some, None, IfOk, OnOk, OnErr, vec_len, if◌then◌else◌};
+ghost use Rattle.std.specs.Prelude.{◌≡◌, ◌+◌, ◌<◌, ◌^◌, ◌++◌, ◌∷◌, [], ℕ, true, Some, None, IfOk, OnOk, OnErr, vec_len, if◌then◌else◌, ◌==◌, ◌&&◌, nat_le};
 ghost use Rattle.world_model.specs.Limits.{is_in_limits, kind_at};
 ghost use Rattle.world_model.specs.declared.operation.OpKind.{OpKind as Kind};
 ghost use Rattle.world_model.specs.Server.{Reply};
@@ -50,13 +50,21 @@ fn settle(outcomes: &mut Outcomes, number: u32, outcome: Outcome) -> Result<(), 
     }
 }
 
+/// Whether an operation is of the file's create, and moves no more than the client asks.
+fn keeps(create: u32, at: u64, moved: usize) -> bool
+    ensures { result ≡ ((create == 0) && (nat_le moved LARGEST_ASKED && nat_le at 0xffff_ffff_ffff_ffff)) }
+{
+    let _any = at;
+    create == 0 && moved <= LARGEST_ASKED
+}
+
 /// Whether an operation is one that the client takes.
 fn keeps_limits(kind: &OpKind) -> bool
     ensures { result ≡ is_in_limits kind.now }
 {
     match kind {
-        OpKind::Write { create, bytes, .. } => *create == 0 && bytes.len() <= LARGEST_ASKED,
-        OpKind::Read { create, length, .. } => *create == 0 && *length as usize <= LARGEST_ASKED,
+        OpKind::Write { create, at, bytes } => keeps(*create, *at, bytes.len()),
+        OpKind::Read { create, at, length } => keeps(*create, *at, *length as usize),
     }
 }
 
