@@ -1,8 +1,8 @@
-ghost use Rattle.std.specs.Prelude.{◌≡◌, ◌<◌, ℕ, List, Some, None, Option, [], ◌∷◌, length, map, IfOk, IfErr, OnOk, OnErr, codes};
+ghost use Rattle.std.specs.Prelude.{◌≡◌, ◌==◌, ◌<◌, ℕ, List, Some, None, Option, [], ◌∷◌, length, map, if◌then◌else◌, IfOk, IfErr, OnOk, OnErr, codes};
 ghost use Rattle.world_model.specs.declared.network.WorldError.{WorldError as Refusal};
 ghost use Rattle.world_model.specs.declared.network.WorldEvent.{WorldEvent as Event};
-ghost use Rattle.world_model.specs.Exchange.{State, start, pushed, served, submitted, took};
-ghost use Rattle.world_model.specs.Holding.{Holds};
+ghost use Rattle.world_model.specs.Exchange.{State, front_note, noted, pushed, served, start, submitted, took};
+ghost use Rattle.world_model.specs.Holding.{Holds, mark_at};
 
 use crate::lists::{FileList, NumberList, SettledList};
 use crate::message::{id_behind, request};
@@ -60,5 +60,94 @@ impl World {
         self.client.sent = Some(Sent { number, message });
         self.client.next = next;
         Ok(())
+    }
+
+    /// The client takes an operation, where its number is the next one and it keeps the limits.
+    fn submit(&mut self, op: Op) -> Result<(), AllocError>
+        ensures ok { (s : State) → Holds self.old s → OnOk result (Holds self.new (submitted s op)) }
+        ensures err { (s : State) → Holds self.old s → OnErr result (Holds self.new s) }
+    {
+        self.marks.reserve(1)?;
+        if self.client.submit(op)? {
+            let _ = self.marks.push(Mark {
+                first: None,
+                by: None,
+            });
+        }
+        Ok(())
+    }
+
+    /// The server answers the front of the up list, where there is one.
+    fn serve(&mut self) -> Result<StepNote, AllocError>
+        ensures ok { (s : State) → Holds self.old s → OnOk result (Holds self.new (served s)) }
+        ensures note { (s : State) → Holds self.old s → IfOk result (λ n. n ≡ front_note s s.up) }
+        ensures err { (s : State) → Holds self.old s → OnErr result (Holds self.new s) }
+    {
+        self.down.reserve(1)?;
+        self.served.reserve(1)?;
+        let Some(asked) = self.up.front() else {
+            return Ok(StepNote {
+                status: None,
+                acted: false,
+            });
+        };
+        let number = asked.number;
+        let place = self.served.len() as u64;
+        let answered = self.server.respond(self.alloc, asked.bytes.as_slice())?;
+        let _ = self.up.pop_front();
+        let note = StepNote {
+            status: Some(answered.status),
+            acted: answered.acted,
+        };
+        let _ = self.down.push_back(Told {
+            place,
+            bytes: answered.bytes,
+        });
+        let _ = self.served.push(number);
+        if note.acted {
+            mark_first(&mut self.marks, (number as usize).saturating_sub(1), place);
+        }
+        Ok(note)
+    }
+
+    /// The client hears the front of the down list, where there is one.
+    fn take(&mut self) -> Result<(), AllocError>
+        ensures ok { (s : State) → Holds self.old s → OnOk result (Holds self.new (took s)) }
+        ensures err { (s : State) → Holds self.old s → OnErr result (Holds self.new s) }
+    {
+        let Some(told) = self.down.front() else {
+            return Ok(());
+        };
+        let place = told.place;
+        let settled = self.client.hear(self.alloc, told.bytes.as_slice())?;
+        let _ = self.down.pop_front();
+        if let Some(number) = settled {
+            mark_by(&mut self.marks, (number as usize).saturating_sub(1), place);
+        }
+        Ok(())
+    }
+}
+
+/// Notes the serve in which an operation acted, where none is noted.
+fn mark_first(marks: &mut [Mark], index: usize, place: u64)
+    ensures first { (n : ℕ) → index < length marks.old → (mark_at marks.new n).first ≡ (if n == index then noted (mark_at marks.old n).first place else (mark_at marks.old n).first) }
+    ensures by { (n : ℕ) → (mark_at marks.new n).by ≡ (mark_at marks.old n).by }
+{
+    if index < marks.len() {
+        let mark = &mut marks[index];
+        if mark.first.is_none() {
+            mark.first = Some(place);
+        }
+    }
+}
+
+/// Notes the serve whose reply settled an operation.
+fn mark_by(marks: &mut [Mark], index: usize, place: u64)
+    ensures first { (n : ℕ) → (mark_at marks.new n).first ≡ (mark_at marks.old n).first }
+    ensures by { (n : ℕ) → index < length marks.old → (mark_at marks.new n).by ≡ (if n == index then Some place else (mark_at marks.old n).by) }
+{
+    if index < marks.len() {
+        let mark = &mut marks[index];
+        mark.by = Some(place);
     }
 }
