@@ -151,10 +151,10 @@ pushed_logged s i f = by_stage i.stage i.sent i.down i.places
 
 -- ---- serve
 
-put_other : {X : Type 0} (f : ℕ → X) (k : ℕ) (v : X) (q : ℕ) → q ≢ k → put f k v q ≡ f q
+pub put_other : {X : Type 0} (f : ℕ → X) (k : ℕ) (v : X) (q : ℕ) → q ≢ k → put f k v q ≡ f q
 put_other f k v q d = grind arith
 
-put_same : {X : Type 0} (f : ℕ → X) (k : ℕ) (v : X) (q : ℕ) → q ≡ k → put f k v q ≡ v
+pub put_same : {X : Type 0} (f : ℕ → X) (k : ℕ) (v : X) (q : ℕ) → q ≡ k → put f k v q ≡ v
 put_same f k v q e = grind arith
 
 -- where an operation acted first, after one more message

@@ -1,5 +1,5 @@
 -- What the program's values stand for.
-use Rattle.std.specs.Prelude.{◌≡◌, ℕ, ◌<◌, ◌^◌, List, [], ◌∷◌, ◌++◌, length, Option, Some, None}
+use Rattle.std.specs.Prelude.{◌≡◌, ℕ, ◌<◌, ◌≤◌, ◌^◌, ◌⊎◌, true, is_some, List, [], ◌∷◌, ◌++◌, length, Option, Some, None}
 use Rattle.world_model.specs.declared.message.Reply as code_reply
 use Rattle.world_model.specs.declared.message.Reply.TheVariants as replies
 use Rattle.world_model.specs.declared.server.Command as code_command
@@ -10,7 +10,9 @@ use Rattle.world_model.specs.declared.server.Answered.{Answered}
 use Rattle.world_model.specs.declared.operation.Outcome.{Outcome}
 use Rattle.world_model.specs.declared.table.Client.{Client}
 use Rattle.world_model.specs.Messages.{response_to}
-use Rattle.world_model.specs.Exchange.{status_of}
+use Rattle.world_model.specs.declared.network.WorldError.{WorldError}
+use Rattle.world_model.specs.declared.network.WorldError.TheVariants.{Memory}
+use Rattle.world_model.specs.Exchange.{State, outcome_of, status_of}
 use Rattle.world_model.specs.Server.{Answer, Command, Read_file, Write_file, Reply, Counts, Content, Refuses, Verdict, Bad_form, At_end, No_room, Success}
 
 abbrev pub reply_of : code_reply.Reply → Reply
@@ -54,3 +56,11 @@ pub record IsSettling (old new : Client) (number : ℕ) (outcome : Outcome) (ans
   pub order : new.outcomes.order ≡ old.outcomes.order ++ number ∷ []
   pub ops : new.ops ≡ old.ops
   pub next : new.next ≡ old.next
+
+-- a step was refused for want of memory, or by the model's cause
+abbrev pub IsCause : Option WorldError → WorldError → Type 0
+IsCause cause e = (e ≡ Memory) ⊎ (cause ≡ Some e)
+
+-- each operation settled
+abbrev pub IsAllSettled : State → Type 0
+IsAllSettled s = (n : ℕ) → 0 < n → n ≤ length s.taken → is_some (outcome_of n s.settled) ≡ true

@@ -16,7 +16,7 @@ mod table;
 mod world;
 
 pub use lists::{FileList, NumberList, SettledList};
-pub use network::{StepNote, World, WorldError, WorldEvent};
+pub use network::{NO_NOTE, StepNote, World, WorldError, WorldEvent};
 pub use one_content::one_content_law;
 pub use operation::{Op, OpKind, OpReply, Outcome, Why};
 pub use table::Outcomes;

@@ -2,7 +2,7 @@ use crate::operation::Op;
 use crate::server::Server;
 use crate::table::Client;
 use smb_bytes::Bytes;
-use std::alloc::Global;
+use std::alloc::{AllocError, Global};
 use std::collections::VecDeque;
 use thiserror::Error;
 
@@ -26,6 +26,12 @@ pub struct StepNote {
     pub acted: bool,
 }
 
+/// The note of a step that made no reply.
+pub const NO_NOTE: StepNote = StepNote {
+    status: None,
+    acted: false,
+};
+
 /// Why a step was refused. After all but `Memory` the world is as before.
 #[derive(Debug, Drop, Error)]
 pub enum WorldError {
@@ -35,6 +41,17 @@ pub enum WorldError {
     NoChannel(u32),
     #[error("nothing there {0}")]
     NothingThere(u32),
+}
+
+impl From<AllocError> for WorldError {
+    ghost use Rattle.std.specs.Prelude.{◌≡◌};
+    ghost use Rattle.world_model.specs.declared.network.WorldError.TheVariants.{Memory};
+
+    ghost from_gives = { λ _ e. e ≡ Memory };
+
+    fn from(_e: AllocError) -> WorldError {
+        WorldError::Memory
+    }
 }
 
 /// A request that travels: its operation and its bytes.

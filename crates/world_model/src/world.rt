@@ -1,12 +1,13 @@
-ghost use Rattle.std.specs.Prelude.{◌≡◌, ◌==◌, ◌<◌, ℕ, List, Some, None, Option, [], ◌∷◌, length, map, if◌then◌else◌, IfOk, IfErr, OnOk, OnErr, codes};
+ghost use Rattle.std.specs.Prelude.{◌≡◌, ◌==◌, ◌<◌, ◌≤◌, ℕ, List, Some, None, Option, [], ◌∷◌, length, map, if◌then◌else◌, IfOk, IfErr, OnOk, OnErr, codes};
 ghost use Rattle.world_model.specs.declared.network.WorldError.{WorldError as Refusal};
-ghost use Rattle.world_model.specs.declared.network.WorldEvent.{WorldEvent as Event};
-ghost use Rattle.world_model.specs.Exchange.{State, front_note, noted, pushed, served, start, submitted, took};
+ghost use Rattle.world_model.specs.Exchange.{State, front_note, happens, note_of, noted, pushed, refusal, served, settle, start, submitted, took};
+ghost use Rattle.world_model.specs.Shape.{CountsFrom};
+ghost use Rattle.world_model.specs.Views.{IsAllSettled, IsCause};
 ghost use Rattle.world_model.specs.Holding.{Holds, mark_at};
 
 use crate::lists::{FileList, NumberList, SettledList};
 use crate::message::{id_behind, request};
-use crate::network::{Asked, Mark, StepNote, Told, World, WorldError};
+use crate::network::{Asked, Mark, NO_NOTE, StepNote, Told, World, WorldError, WorldEvent};
 use crate::operation::Op;
 use crate::server::Server;
 use crate::table::{Client, Outcomes, Sent};
@@ -38,6 +39,84 @@ impl World {
             marks: Vec::new(alloc),
             alloc,
         })
+    }
+
+    /// One event. `NoChannel` comes exactly for a connection that isn't 0, `NothingThere` exactly
+    /// where the list is empty from which the event takes its front.
+    pub fn step(&mut self, event: WorldEvent) -> Result<StepNote, WorldError>
+        ensures ok { (s : State) → Holds self.old s → OnOk result (Holds self.new (happens s event)) }
+        ensures note { (s : State) → Holds self.old s → IfOk result (λ n. n ≡ note_of s event) }
+        ensures cause { (s : State) → Holds self.old s → IfErr result (IsCause (refusal s event)) }
+        ensures refused { (s : State) (e : Refusal) → Holds self.old s → refusal s event ≡ Some e → result ≡ Err e }
+        ensures err { (s : State) → Holds self.old s → OnErr result (Holds self.new s) }
+    {
+        match event {
+            WorldEvent::Submit(op) => self.submit(op)?,
+            WorldEvent::Push(connection) if connection != 0 => {
+                return Err(WorldError::NoChannel(connection));
+            }
+            WorldEvent::Push(_) => self.push()?,
+            WorldEvent::Serve(connection) if connection != 0 => {
+                return Err(WorldError::NoChannel(connection));
+            }
+            WorldEvent::Serve(connection) if self.up.is_empty() => {
+                return Err(WorldError::NothingThere(connection));
+            }
+            WorldEvent::Serve(_) => return Ok(self.serve()?),
+            WorldEvent::Take(connection) if connection != 0 => {
+                return Err(WorldError::NoChannel(connection));
+            }
+            WorldEvent::Take(connection) if self.down.is_empty() => {
+                return Err(WorldError::NothingThere(connection));
+            }
+            WorldEvent::Take(_) => self.take()?,
+        }
+        Ok(NO_NOTE)
+    }
+
+    /// Pushes, serves and takes, once for each operation that isn't settled, and then all are. Its
+    /// only error is `Memory`; some of these events have happened then.
+    pub fn settle(&mut self) -> Result<(), WorldError>
+        ensures ok { (s : State) → Holds self.old s → OnOk result (Holds self.new (settle s)) }
+        ensures all { (s : State) → Holds self.old s → OnOk result (IsAllSettled (settle s)) }
+        ensures cause { IfErr result (λ e. e ≡ WorldError.Memory) }
+    {
+        let settled = self.client.outcomes.settled.len();
+        let taken = self.client.ops.len();
+        for _round in settled..taken {
+            self.round()?;
+        }
+        Ok(())
+    }
+
+    /// A push, a serve and a take.
+    fn round(&mut self) -> Result<(), AllocError>
+        ensures { (s : State) → Holds self.old s → OnOk result (Holds self.new (took (served (pushed s)))) }
+    {
+        self.push()?;
+        self.serve()?;
+        self.take()
+    }
+
+    /// What the client settled so far.
+    pub fn outcomes(&self) -> &Outcomes
+        ensures settled { (s : State) → Holds self.now s → result.now.settled ≡ s.settled }
+        ensures order { (s : State) → Holds self.now s → result.now.order ≡ map (λ x. x.0) s.settled }
+        ensures numbers { (s : State) → Holds self.now s → CountsFrom 1 result.now.settled }
+        ensures within { (s : State) → Holds self.now s → length result.now.settled ≤ length s.taken }
+    {
+        &self.client.outcomes
+    }
+
+    /// The files, each with its path and bytes.
+    pub fn files(&self) -> Result<FileList, AllocError>
+        ensures { (s : State) → Holds self.now s → IfOk result (λ l. l ≡ (codes "given", s.file) ∷ []) }
+    {
+        let mut files = FileList::new(self.alloc);
+        let path = Text::from_str(self.alloc, "given")?;
+        let bytes = Bytes::from_slice(self.alloc, self.server.file.as_slice())?;
+        files.push(path, bytes)?;
+        Ok(files)
     }
 
     /// The client sends the lowest unsettled operation, where none is outstanding.
