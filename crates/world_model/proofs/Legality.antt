@@ -7,7 +7,8 @@ use Rattle.exchange_defs.proofs.Order.{PlaceFacts, legal}
 use Rattle.world_model.specs.declared.operation.Outcome.{Outcome}
 use Rattle.world_model.specs.declared.network.WorldEvent.{WorldEvent}
 use Rattle.world_model.specs.declared.network.WorldEvent.TheVariants.{Submit, Push, Serve, Take}
-use Rattle.world_model.specs.Exchange.{State, kind_at, outcome_of, settlement_of, settlement_at, pushed, served, took, happens, start, rounds, settle, Move, Does, Settles, moves, play}
+use Rattle.world_model.specs.Exchange.{State, outcome_of, settlement_of, settlement_at, pushed, served, took, happens, start, rounds, settle, Move, Does, Settles, moves, play}
+use Rattle.world_model.specs.Limits.{kind_at}
 use Rattle.world_model.specs.Shape.{Stage, Idle, Asking, Answering, places_in, Shape}
 use Rattle.world_model.specs.OneContent.{account_of, given_order, OneContent}
 use Rattle.world_model.proofs.Counting.{outcome_of-counted, is_some-counted, no_outcome}

@@ -5,3 +5,5 @@ pub mod Answering
 pub mod Logged
 pub mod Legality
 pub mod Writing
+pub mod Fitting
+pub mod Holding

@@ -8,9 +8,10 @@ use Rattle.exchange_defs.specs.Order.{Said, Says_ok, Says_end, Settlement, Settl
 use Rattle.world_model.specs.declared.operation.Op.{Op}
 use Rattle.world_model.specs.declared.operation.OpKind.{OpKind}
 use Rattle.world_model.specs.declared.operation.Outcome.{Outcome}
-use Rattle.world_model.specs.declared.client.Sent.{Sent}
+use Rattle.world_model.specs.declared.table.Sent.{Sent}
 use Rattle.world_model.specs.Server.{Answer, answer, Reply, asked, said}
-use Rattle.world_model.specs.Exchange.{State, Request, Response, command_of, kind_at, outcome_of, settlement_of, settlement_at, put, noted, takes, submitted, transmitted, pushed, served_with, served, outcome_by, settled_by, took, start}
+use Rattle.world_model.specs.Exchange.{State, Request, Response, command_of, outcome_of, settlement_of, settlement_at, put, noted, takes, submitted, transmitted, pushed, served_with, served, outcome_by, settled_by, took, start}
+use Rattle.world_model.specs.Limits.{kind_at}
 use Rattle.world_model.specs.Shape.{Stage, Idle, Asking, Answering, sent_in, up_in, down_in, places_in, IsLowest, Shape}
 use Rattle.world_model.proofs.Counting.{outcome_of-counted, outcome_of-outside, outcome_of-push, outcome_of-push_other, is_some-counted, no_outcome}
 use Rattle.world_model.proofs.Shape.{kind_at-push, request_in, response_in, pushed-idle, pushed-done, pushed-busy, served-asking, served-none, took-answering, took-none}
@@ -150,10 +151,10 @@ pushed_logged s i f = by_stage i.stage i.sent i.down i.places
 
 -- ---- serve
 
-put_other : {X : Type 0} (f : ℕ → X) (k : ℕ) (v : X) (q : ℕ) → q ≢ k → put f k v q ≡ f q
+pub put_other : {X : Type 0} (f : ℕ → X) (k : ℕ) (v : X) (q : ℕ) → q ≢ k → put f k v q ≡ f q
 put_other f k v q d = grind arith
 
-put_same : {X : Type 0} (f : ℕ → X) (k : ℕ) (v : X) (q : ℕ) → q ≡ k → put f k v q ≡ v
+pub put_same : {X : Type 0} (f : ℕ → X) (k : ℕ) (v : X) (q : ℕ) → q ≡ k → put f k v q ≡ v
 put_same f k v q e = grind arith
 
 -- where an operation acted first, after one more message

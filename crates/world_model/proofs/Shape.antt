@@ -7,9 +7,10 @@ use Rattle.world_model.specs.declared.operation.OpKind.{OpKind}
 use Rattle.world_model.specs.declared.operation.Outcome.{Outcome}
 use Rattle.world_model.specs.declared.network.WorldEvent.{WorldEvent}
 use Rattle.world_model.specs.declared.network.WorldEvent.TheVariants.{Submit, Push, Serve, Take}
-use Rattle.world_model.specs.declared.client.Sent.{Sent}
+use Rattle.world_model.specs.declared.table.Sent.{Sent}
 use Rattle.world_model.specs.Server.{Answer, answer, Reply}
-use Rattle.world_model.specs.Exchange.{State, Request, Response, command_of, kind_at, no_kind, is_in_limits, lowest_unsettled, takes, submitted, transmitted, pushed_lowest, pushed_where, pushed, served_with, served_front, served, outcome_by, settled_by, heard, taken_front, took, happens, start, run, rounds, settle, Move, Does, Settles, moves, play}
+use Rattle.world_model.specs.Exchange.{State, Request, Response, command_of, lowest_unsettled, takes, submitted, transmitted, pushed_lowest, pushed_where, pushed, served_with, served_front, served, outcome_by, settled_by, heard, taken_front, took, happens, start, run, rounds, settle, Move, Does, Settles, moves, play}
+use Rattle.world_model.specs.Limits.{kind_at, no_kind, is_in_limits}
 use Rattle.world_model.specs.Shape.{Stage, Idle, Asking, Answering, sent_in, up_in, down_in, places_in, IsLowest, Suits, ReplySuits, CountsFrom, Shape}
 use Rattle.world_model.proofs.Suiting.{answer_suits}
 use Rattle.world_model.proofs.Counting.{CountsFrom-push, lowest-next, lowest-none}

@@ -6,7 +6,8 @@ use Rattle.world_model.specs.declared.operation.OpKind.{OpKind}
 use Rattle.world_model.specs.declared.operation.OpKind.TheVariants as kinds
 use Rattle.world_model.specs.declared.limits.TheConstants.{LARGEST_TRANSFER, LARGEST_ASKED}
 use Rattle.world_model.specs.Server.{Reply, Counts, Content, Refuses, Verdict, Bad_form, At_end, No_room, Success, check, answered, answer}
-use Rattle.world_model.specs.Exchange.{command_of, is_in_limits}
+use Rattle.world_model.specs.Exchange.{command_of}
+use Rattle.world_model.specs.Limits.{is_in_limits}
 use Rattle.world_model.specs.Shape.{Suits}
 
 limited : (a b c : Bool) → (a && (b && c)) ≡ true → b ≡ true

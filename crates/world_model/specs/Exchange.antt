@@ -10,9 +10,10 @@ use Rattle.world_model.specs.declared.operation.OpKind.TheVariants as kinds
 use Rattle.world_model.specs.declared.operation.OpReply.TheVariants as replies
 use Rattle.world_model.specs.declared.operation.Outcome.{Outcome}
 use Rattle.world_model.specs.declared.operation.Outcome.TheVariants as outcomes
-use Rattle.world_model.specs.declared.limits.TheConstants.{LARGEST_ASKED, CREDIT_BYTES}
+use Rattle.world_model.specs.declared.limits.TheConstants.{CREDIT_BYTES}
+use Rattle.world_model.specs.Limits.{kind_at, is_in_limits}
 use Rattle.world_model.specs.declared.status.TheConstants.{END_OF_FILE}
-use Rattle.world_model.specs.declared.client.Sent.{Sent}
+use Rattle.world_model.specs.declared.table.Sent.{Sent}
 use Rattle.world_model.specs.declared.network.WorldEvent.{WorldEvent}
 use Rattle.world_model.specs.declared.network.WorldEvent.TheVariants.{Submit, Push, Serve, Take}
 use Rattle.world_model.specs.declared.network.WorldError.{WorldError}
@@ -76,13 +77,6 @@ pub record State : Type 0 where
 abbrev pub put : {X : Type 0} → (ℕ → X) → ℕ → X → ℕ → X
 put f k v q = if q == k then v else f q
 
-abbrev pub no_kind : OpKind
-no_kind = kinds.Read 0 0 0
-
--- what operation g asks
-abbrev pub kind_at : List OpKind → ℕ → OpKind
-kind_at taken g = slice_index_or taken (g - 1) no_kind
-
 unfoldable pub outcome_of : ℕ → List (ℕ × Outcome) → Option Outcome
 outcome_of g [] = None
 outcome_of g (s ∷ ss) = if s.0 == g then Some s.1 else outcome_of g ss
@@ -108,14 +102,12 @@ settlement_at settled g = settlement_of (outcome_of g settled)
 
 -- ---- submit
 
--- the file's create is 0, the offset has 64 bits, and no length is above the largest that is asked
-abbrev pub is_in_limits : OpKind → Bool
-is_in_limits (kinds.Write create at bytes) = (create == 0) && (nat_le (length bytes) LARGEST_ASKED && nat_le at 0xffff_ffff_ffff_ffff)
-is_in_limits (kinds.Read create at size) = (create == 0) && (nat_le size LARGEST_ASKED && nat_le at 0xffff_ffff_ffff_ffff)
-
 -- its number is the next one
+abbrev pub takes_op : List OpKind → Op → Bool
+takes_op taken op = (op.number == length taken + 1) && is_in_limits op.kind
+
 abbrev pub takes : State → Op → Bool
-takes s op = (op.number == length s.taken + 1) && is_in_limits op.kind
+takes s op = takes_op s.taken op
 
 abbrev pub submitted : State → Op → State
 submitted s op = if takes s op then record s { taken = s.taken ++ op.kind ∷ [] } else s

@@ -1,9 +1,10 @@
 -- How requests and responses are spelled: a header and a body behind it (MS-SMB2 2.2.1, 2.2.2, 2.2.19 to 2.2.22).
 use Rattle.std.specs.Prelude.{◌≡◌, ℕ, List, [], ◌∷◌, ◌++◌, replicate}
 use Rattle.wire_defs.specs.declared.header.Header.{Header}
+use Rattle.wire_defs.specs.declared.message.ReadRequest.{ReadRequest}
 use Rattle.wire_defs.specs.Header.{header_spelling}
 use Rattle.wire_defs.specs.Read.{read_request_spelling, read_response_spelling}
-use Rattle.wire_defs.specs.Write.{write_request_spelling, write_response_spelling}
+use Rattle.wire_defs.specs.Write.{WriteRequestValue, write_request_spelling, write_response_spelling}
 use Rattle.wire_defs.specs.Error.{error_response_spelling}
 use Rattle.world_model.specs.declared.operation.OpKind.{OpKind}
 use Rattle.world_model.specs.declared.operation.OpKind.TheVariants as kinds
@@ -25,9 +26,15 @@ abbrev pub request_header : ℕ → OpKind → Header
 request_header message kind =
     record { charge = charge kind; status = 0; command = command_number kind; credits = CREDITS_ASKED; flags = 0; next = 0; message = message; tree = 0; session = 0; signature = zeros }
 
+abbrev pub read_request_of : ℕ → ℕ → ReadRequest
+read_request_of at size = record { flags = 0; length = size; offset = at; file_id = zeros; minimum_count = 0; channel = 0; remaining_bytes = 0 }
+
+abbrev pub write_request_of : ℕ → List ℕ → WriteRequestValue
+write_request_of at bytes = record { offset = at; file_id = zeros; channel = 0; remaining_bytes = 0; flags = 0; payload = bytes }
+
 abbrev pub request_body : OpKind → List ℕ
-request_body (kinds.Write create at bytes) = write_request_spelling (record { offset = at; file_id = zeros; channel = 0; remaining_bytes = 0; flags = 0; payload = bytes })
-request_body (kinds.Read create at size) = read_request_spelling (record { flags = 0; length = size; offset = at; file_id = zeros; minimum_count = 0; channel = 0; remaining_bytes = 0 })
+request_body (kinds.Write create at bytes) = write_request_spelling (write_request_of at bytes)
+request_body (kinds.Read create at size) = read_request_spelling (read_request_of at size)
 
 unfoldable pub request_bytes : ℕ → OpKind → List ℕ
 request_bytes message kind = header_spelling (request_header message kind) ++ request_body kind

@@ -2,7 +2,8 @@
 use Rattle.std.specs.Prelude.{◌≡◌, ℕ, Bool, true, List, [], is_some}
 use Rattle.exchange_defs.specs.Order.{Account, Legal, order_of, count}
 use Rattle.world_model.specs.Server.{asked}
-use Rattle.world_model.specs.Exchange.{State, command_of, kind_at, outcome_of, settlement_at}
+use Rattle.world_model.specs.Exchange.{State, command_of, outcome_of, settlement_at}
+use Rattle.world_model.specs.Limits.{kind_at}
 
 -- what a run leaves of its operations, each of which is of create 0
 abbrev pub account_of : State → Account

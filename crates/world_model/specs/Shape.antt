@@ -3,9 +3,10 @@ use Rattle.std.specs.Prelude.{◌≡◌, ℕ, ◌+◌, ◌<◌, ◌≤◌, ◌^�
 use Rattle.world_model.specs.declared.operation.OpKind.{OpKind}
 use Rattle.world_model.specs.declared.operation.OpKind.TheVariants as kinds
 use Rattle.world_model.specs.declared.operation.Outcome.{Outcome}
-use Rattle.world_model.specs.declared.client.Sent.{Sent}
+use Rattle.world_model.specs.declared.table.Sent.{Sent}
 use Rattle.world_model.specs.Server.{Reply, Counts, Content, Refuses}
-use Rattle.world_model.specs.Exchange.{State, Request, Response, kind_at, is_in_limits}
+use Rattle.world_model.specs.Exchange.{State, Request, Response}
+use Rattle.world_model.specs.Limits.{kind_at, is_in_limits}
 
 -- Nothing travels, a request does, or its response.
 pub data Stage : Type 0 where

@@ -1,5 +1,5 @@
 -- What the program's values stand for.
-use Rattle.std.specs.Prelude.{◌≡◌, ℕ, ◌<◌, ◌^◌, List, length, Option, Some, None}
+use Rattle.std.specs.Prelude.{◌≡◌, ℕ, ◌<◌, ◌≤◌, ◌^◌, ◌⊎◌, true, is_some, List, [], ◌∷◌, ◌++◌, length, Option, Some, None}
 use Rattle.world_model.specs.declared.message.Reply as code_reply
 use Rattle.world_model.specs.declared.message.Reply.TheVariants as replies
 use Rattle.world_model.specs.declared.server.Command as code_command
@@ -7,8 +7,12 @@ use Rattle.world_model.specs.declared.server.Command.TheVariants as commands
 use Rattle.world_model.specs.declared.status.TheConstants.{INVALID_PARAMETER, END_OF_FILE, DISK_FULL}
 use Rattle.wire_defs.specs.declared.header.Header.{Header}
 use Rattle.world_model.specs.declared.server.Answered.{Answered}
+use Rattle.world_model.specs.declared.operation.Outcome.{Outcome}
+use Rattle.world_model.specs.declared.table.Client.{Client}
 use Rattle.world_model.specs.Messages.{response_to}
-use Rattle.world_model.specs.Exchange.{status_of}
+use Rattle.world_model.specs.declared.network.WorldError.{WorldError}
+use Rattle.world_model.specs.declared.network.WorldError.TheVariants.{Memory}
+use Rattle.world_model.specs.Exchange.{State, outcome_of, status_of}
 use Rattle.world_model.specs.Server.{Answer, Command, Read_file, Write_file, Reply, Counts, Content, Refuses, Verdict, Bad_form, At_end, No_room, Success}
 
 abbrev pub reply_of : code_reply.Reply → Reply
@@ -38,3 +42,25 @@ pub record Answers (header : Header) (a : Answer) (x : Answered) : Type 0 where
   pub bytes : x.bytes ≡ response_to header a.reply
   pub status : x.status ≡ status_of a.reply
   pub acted : x.acted ≡ a.acted
+
+-- it is this command
+abbrev pub IsCommand : Command → Option code_command.Command → Type 0
+IsCommand c None = ⊥
+IsCommand c (Some x) = command_view x ≡ c
+
+-- the client settled an operation, and nothing else changed
+pub record IsSettling (old new : Client) (number : ℕ) (outcome : Outcome) (answered : Option ℕ) : Type 0 where
+  pub told : answered ≡ Some number
+  pub sent : new.sent ≡ None
+  pub settled : new.outcomes.settled ≡ old.outcomes.settled ++ (number, outcome) ∷ []
+  pub order : new.outcomes.order ≡ old.outcomes.order ++ number ∷ []
+  pub ops : new.ops ≡ old.ops
+  pub next : new.next ≡ old.next
+
+-- a step was refused for want of memory, or by the model's cause
+abbrev pub IsCause : Option WorldError → WorldError → Type 0
+IsCause cause e = (e ≡ Memory) ⊎ (cause ≡ Some e)
+
+-- each operation settled
+abbrev pub IsAllSettled : State → Type 0
+IsAllSettled s = (n : ℕ) → 0 < n → n ≤ length s.taken → is_some (outcome_of n s.settled) ≡ true

@@ -18,7 +18,7 @@ impl Model for NumberList {
 }
 
 impl NumberList {
-    ghost use Rattle.std.specs.Prelude.{◌≡◌, ◌==◌, [], ◌∷◌, ◌++◌, length, OnOk, OnErr};
+    ghost use Rattle.std.specs.Prelude.{◌≡◌, ◌-◌, ◌==◌, [], ◌∷◌, ◌++◌, length, take, OnOk, OnErr};
 
     /// No numbers. It takes no memory.
     pub fn new(alloc: Global) -> NumberList
@@ -54,6 +54,13 @@ impl NumberList {
     {
         self.items.push(number)?;
         Ok(())
+    }
+
+    /// Takes the last number away.
+    pub fn drop_last(&mut self)
+        ensures { self.new ≡ take (length self.old - 1) self.old }
+    {
+        let _ = self.items.pop();
     }
 }
 

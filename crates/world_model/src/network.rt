@@ -1,6 +1,9 @@
-use crate::lists::{FileList, NumberList, SettledList};
 use crate::operation::Op;
+use crate::server::Server;
+use crate::table::Client;
+use smb_bytes::Bytes;
 use std::alloc::{AllocError, Global};
+use std::collections::VecDeque;
 use thiserror::Error;
 
 /// One event of a schedule. Connections count from 0, and 0 is the only one.
@@ -23,6 +26,12 @@ pub struct StepNote {
     pub acted: bool,
 }
 
+/// The note of a step that made no reply.
+pub const NO_NOTE: StepNote = StepNote {
+    status: None,
+    acted: false,
+};
+
 /// Why a step was refused. After all but `Memory` the world is as before.
 #[derive(Debug, Drop, Error)]
 pub enum WorldError {
@@ -34,62 +43,48 @@ pub enum WorldError {
     NothingThere(u32),
 }
 
-/// What the client settled, in the order in which it settled, and the numbers of the operations
-/// that a reply settled, in the order in which those replies were taken.
-#[derive(Drop, Debug)]
-pub struct Outcomes {
-    pub settled: SettledList,
-    pub order: NumberList,
+impl From<AllocError> for WorldError {
+    ghost use Rattle.std.specs.Prelude.{◌≡◌};
+    ghost use Rattle.world_model.specs.declared.network.WorldError.TheVariants.{Memory};
+
+    ghost from_gives = { λ _ e. e ≡ Memory };
+
+    fn from(_e: AllocError) -> WorldError {
+        WorldError::Memory
+    }
 }
 
-/// One client, one server and the messages that travel between them.
+/// A request that travels: its operation and its bytes.
+#[derive(Drop)]
+pub struct Asked {
+    pub number: u32,
+    pub bytes: Bytes,
+}
+
+/// A response that travels: the number of the serve that made it, from 0 on, and its bytes.
+#[derive(Drop)]
+pub struct Told {
+    pub place: u64,
+    pub bytes: Bytes,
+}
+
+/// What the server did for an operation: the number of the serve in which it acted first, and of
+/// the one whose reply settled it.
+#[derive(Clone, Copy)]
+pub struct Mark {
+    pub first: Option<u64>,
+    pub by: Option<u64>,
+}
+
+/// One client, one server and the messages that travel between them. Beside the messages stand the
+/// operation of each serve, and what is marked of each operation, of which number n stands at n - 1.
 #[derive(Drop)]
 pub struct World {
-    outcomes: Outcomes,
-    alloc: Global,
-}
-
-impl World {
-    /// One client and one server, with the empty file `given`, which is open under create 0.
-    pub fn new(alloc: Global) -> Result<World, WorldError> {
-        Ok(World {
-            outcomes: Outcomes {
-                settled: SettledList::new(alloc),
-                order: NumberList::new(alloc),
-            },
-            alloc,
-        })
-    }
-
-    /// One event.
-    pub fn step(&mut self, event: WorldEvent) -> Result<StepNote, WorldError> {
-        let _ = event;
-        let _ = &mut self.outcomes;
-        Ok(StepNote {
-            status: None,
-            acted: false,
-        })
-    }
-
-    /// Pushes, serves and takes until every operation is settled.
-    pub fn settle(&mut self) -> Result<(), WorldError> {
-        let _ = &mut self.outcomes;
-        Ok(())
-    }
-
-    /// What the client settled so far.
-    pub fn outcomes(&self) -> &Outcomes {
-        &self.outcomes
-    }
-
-    /// The reads and writes of a create, in the order in which the server took them.
-    pub fn order(&self, create: u32) -> Result<NumberList, AllocError> {
-        let _ = create;
-        Ok(NumberList::new(self.alloc))
-    }
-
-    /// The files, each with its path and bytes.
-    pub fn files(&self) -> Result<FileList, AllocError> {
-        Ok(FileList::new(self.alloc))
-    }
+    pub(crate) client: Client,
+    pub(crate) server: Server,
+    pub(crate) up: VecDeque<Asked>,
+    pub(crate) down: VecDeque<Told>,
+    pub(crate) served: Vec<u32>,
+    pub(crate) marks: Vec<Mark>,
+    pub(crate) alloc: Global,
 }

@@ -1,12 +1,16 @@
 ghost use Rattle.std.specs.Prelude.{◌≡◌, ◌+◌, ◌<◌, ◌≤◌, ◌^◌, ◌++◌, ◌==◌, ◌&&◌, ◌||◌, List, ℕ, None, true, false, length, take, drop, IfOk, OnOk, OnErr, nat_lt, nat_le};
 ghost use Rattle.exchange_defs.specs.Content.{written, effect, past_end, Read};
 ghost use Rattle.world_model.specs.Server.{Refuses, answer, asked, check, is_in_form, is_overfull, is_past_end};
-ghost use Rattle.world_model.specs.Exchange.{status_of};
-ghost use Rattle.world_model.specs.Messages.{response_to};
+ghost use Rattle.world_model.specs.declared.operation.OpKind.{OpKind};
+ghost use Rattle.world_model.specs.Exchange.{command_of};
+ghost use Rattle.world_model.specs.Limits.{is_in_limits};
+ghost use Rattle.world_model.specs.Messages.{request_bytes, request_header, response_to};
 ghost use Rattle.world_model.specs.Views.{command_view, status_for, Answers};
 
 use crate::limits::{LARGEST_FILE, LARGEST_TRANSFER, OFFSET_END};
 use crate::message::{Reply, response};
+use crate::reading::{command_in, header_in};
+use crate::spelling::request_law;
 use crate::status::{DISK_FULL, END_OF_FILE, INVALID_PARAMETER, SUCCESS};
 use smb_bytes::Bytes;
 use smb_header::Header;
@@ -219,6 +223,39 @@ impl Server {
                 })
             }
         }
+    }
+
+    /// Answers the request in a message, which it acts on. A message that isn't a READ or WRITE
+    /// request breaks the form. For want of memory the file stays.
+    pub fn respond(&mut self, alloc: Global, m: &[u8]) -> Result<Answered, AllocError>
+        ensures ok { (message : ℕ) (kind : OpKind) → is_in_limits kind ≡ true → message < 2 ^ 64 → m.now ≡ request_bytes message kind → IfOk result (Answers (request_header message kind) (answer (command_of kind) self.old.file.items)) }
+        ensures file { (message : ℕ) (kind : OpKind) → is_in_limits kind ≡ true → message < 2 ^ 64 → m.now ≡ request_bytes message kind → OnOk result (self.new.file.items ≡ (answer (command_of kind) self.old.file.items).file) }
+        ensures err { OnErr result (self.new.file.items ≡ self.old.file.items) }
+    {
+        request_law();
+        let Some(header) = header_in(m) else {
+            return refused(alloc, &no_header(), INVALID_PARAMETER);
+        };
+        let Some(command) = command_in(m, header.command) else {
+            return refused(alloc, &header, INVALID_PARAMETER);
+        };
+        self.act(alloc, &header, &command)
+    }
+}
+
+/// The header of the answer to a message that has none. No list holds one.
+fn no_header() -> Header {
+    Header {
+        charge: 0,
+        status: 0,
+        command: 0,
+        credits: 0,
+        flags: 0,
+        next: 0,
+        message: 0,
+        tree: 0,
+        session: 0,
+        signature: [0; 16],
     }
 }
 
