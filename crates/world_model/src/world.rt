@@ -1,5 +1,7 @@
 ghost use Rattle.std.specs.Prelude.{◌≡◌, ◌==◌, ◌<◌, ◌≤◌, ℕ, List, Some, None, Option, [], ◌∷◌, length, map, if◌then◌else◌, IfOk, IfErr, OnOk, OnErr, codes};
 ghost use Rattle.world_model.specs.declared.network.WorldError.{WorldError as Refusal};
+ghost use Rattle.exchange_defs.specs.Order.{is_at, order_of, placed};
+ghost use Rattle.world_model.specs.OneContent.{account_of};
 ghost use Rattle.world_model.specs.Exchange.{State, front_note, happens, note_of, noted, pushed, refusal, served, settle, start, submitted, took};
 ghost use Rattle.world_model.specs.Shape.{CountsFrom};
 ghost use Rattle.world_model.specs.Views.{IsAllSettled, IsCause};
@@ -83,7 +85,7 @@ impl World {
     {
         let settled = self.client.outcomes.settled.len();
         let taken = self.client.ops.len();
-        for _round in settled..taken {
+        for round in settled..taken {
             self.round()?;
         }
         Ok(())
@@ -106,6 +108,27 @@ impl World {
         ensures within { (s : State) → Holds self.now s → length result.now.settled ≤ length s.taken }
     {
         &self.client.outcomes
+    }
+
+    /// The reads and writes of a create, in the order in which the server took them.
+    pub fn order(&self, create: u32) -> Result<NumberList, AllocError>
+        ensures { (s : State) → Holds self.now s → IfOk result (λ l. l ≡ order_of (account_of s) create) }
+    {
+        let mut numbers = NumberList::new(self.alloc);
+        if create != 0 {
+            return Ok(numbers);
+        }
+        for place in 0..self.served.len() {
+            let number = self.served[place];
+            if has_place(
+                &self.marks,
+                (number as usize).saturating_sub(1),
+                place as u64,
+            ) {
+                numbers.push(number)?;
+            }
+        }
+        Ok(numbers)
     }
 
     /// The files, each with its path and bytes.
@@ -204,6 +227,21 @@ impl World {
             mark_by(&mut self.marks, (number as usize).saturating_sub(1), place);
         }
         Ok(())
+    }
+}
+
+/// Whether an operation has its place at a serve: it acted there first, or else its settling reply
+/// was made there.
+fn has_place(marks: &[Mark], index: usize, place: u64) -> bool
+    ensures { result ≡ is_at place (placed (mark_at marks.now index).first (mark_at marks.now index).by) }
+{
+    if index >= marks.len() {
+        return false;
+    }
+    let mark = marks[index];
+    match mark.first {
+        Some(first) => first == place,
+        None => mark.by == Some(place),
     }
 }
 
