@@ -1,9 +1,13 @@
 -- The program's steps hold the model's states.
-use Rattle.std.proofs.Common.{◌≡◌, ◌≢◌, ℕ, zero, suc, ◌+◌, ◌-◌, ◌<◌, ◌≤◌, ◌==◌, ◌^◌, Bool, true, false, if◌then◌else◌, List, [], ◌∷◌, ◌++◌, length, get_or, map, take, drop, refl, sym, ap, subst, ◌∙◌, arith, Option, Some, None, is_some, vec_len, eq-eqb, eqb-true}
+use Rattle.std.proofs.Common.{◌≡◌, ◌≢◌, ℕ, zero, suc, ◌+◌, ◌-◌, ◌<◌, ◌≤◌, ◌==◌, ◌^◌, ◌&&◌, Bool, true, false, if◌then◌else◌, List, [], ◌∷◌, ◌++◌, length, get_or, map, take, drop, refl, sym, ap, subst, ◌∙◌, arith, Option, Some, None, is_some, vec_len, eq-eqb, eqb-true}
 use Rattle.std.proofs.lemmas.Bool.{eqb-false}
 use Rattle.std.proofs.lemmas.Bool.Decides.{nat_tests}
 use Rattle.std.proofs.lemmas.Grind.{common_steps}
 use Rattle.wire_defs.specs.declared.header.Header.{Header}
+use Rattle.exchange_defs.specs.Content.{is_listed}
+use Rattle.exchange_defs.specs.Order.{Account, is_at, is_entry, order_from, order_of, place, placed}
+use Rattle.world_model.specs.OneContent.{account_of}
+use Rattle.world_model.proofs.Answering.{listed}
 use Rattle.world_model.specs.declared.operation.Op.{Op}
 use Rattle.world_model.specs.declared.operation.OpKind.{OpKind}
 use Rattle.world_model.specs.declared.operation.Outcome.{Outcome}
@@ -59,6 +63,8 @@ push_sent w v s h e l ops outcomes sent next server up down served marks =
       down = ap (λ v. v.items) down ∙ h.down;
       places = ap vec_len served ∙ h.places;
       who = λ n m. ap (λ v. get_or v.items n 0) served ∙ h.who n m;
+      named = h.named;
+      birth = h.birth;
       marks = ap vec_len marks ∙ h.marks;
       first = λ n. ap (λ v. (mark_at v.items n).first) marks ∙ h.first n;
       by = λ n. ap (λ v. (mark_at v.items n).by) marks ∙ h.by n;
@@ -143,6 +149,8 @@ serve_holds w v s asked x h l front ok file client up down list more marks first
           ∙ sym (map_told-push s.down (response_in s.taken s.log.places i.x a.reply));
       places = more ∙ ap (λ c. c + 1) h.places;
       who = λ n m. who_now n m;
+      named = λ n m. named_now n m;
+      birth = h.birth;
       marks = marks ∙ h.marks;
       first = λ n. first_now n;
       by = λ n. by n ∙ h.by n;
@@ -195,6 +203,12 @@ serve_holds w v s asked x h l front ok file client up down list more marks first
           | true ↦ λ t. rw long (ap (λ (b : Bool). if b then asked.number else get_or w.served.items n 0) t ∙ number)
           | false ↦ λ t. rw long (ap (λ (b : Bool). if b then asked.number else get_or w.served.items n 0) t ∙ h.who n (let d = eqb-false n s.log.places t in omega arith))
         ] refl
+
+    named_now : (n : ℕ) → n < s.log.places + 1 → 0 < put s.log.who s.log.places i.x.number n
+    named_now n m = elim (n == s.log.places) as (λ t. (n == s.log.places) ≡ t → 0 < (if t then i.x.number else s.log.who n)) [
+      | true ↦ λ t. let k = i.number in omega arith
+      | false ↦ λ t. h.named n (let d = eqb-false n s.log.places t in omega arith)
+    ] refl
 
     first_now : (n : ℕ) → (mark_at v.marks.items n).first ≡ (if a.acted then put s.log.first i.x.number (noted (s.log.first i.x.number) s.log.places) else s.log.first) (n + 1)
     first_now n =
@@ -253,6 +267,8 @@ take_holds w v s told g h l front settles server up down list marks first by =
       down = down ∙ ap (drop 1) whole;
       places = ap vec_len list ∙ h.places;
       who = λ n m. ap (λ c. get_or c.items n 0) list ∙ h.who n m;
+      named = h.named;
+      birth = h.birth;
       marks = marks ∙ h.marks;
       first = λ n. first n ∙ h.first n;
       by = λ n. by_now n;
@@ -310,3 +326,59 @@ pub by_with : (len index number place there n : ℕ) (old items new rest : List 
     → (index < length old → (mark_at new n).by ≡ (if n == index then Some place else (mark_at old n).by)) → number - 1 < length items
     → (mark_at (take len (new ++ rest)) n).by ≡ (if n == number - 1 then Some there else (mark_at items n).by)
 by_with len index number place there n old items new rest p q r z f l = rw (take-whole len new rest q, ← p, ← r, ← z) (f (omega (arith, l, ap length p, r)))
+
+-- ---- the order
+
+-- no operation is of another create
+pub order_elsewhere : (s : State) (o n k : ℕ) → (o ≡ 0 → ⊥) → order_from (account_of s) o n k ≡ []
+unfolding order_from
+order_elsewhere s o n zero d = refl
+order_elsewhere s o n (suc k) d = rw (none o d (is_at n (place (account_of s) (s.log.who n))) (is_listed ((account_of s).ops (s.log.who n)))) (order_elsewhere s o (n + 1) k d)
+  where
+    none : (o : ℕ) → (o ≡ 0 → ⊥) → (a b : Bool) → (a && ((0 == o) && b)) ≡ false
+    none o d a b = grind (arith, nat_tests)
+
+-- one more place
+order_from-more : (a : Account) (o n k : ℕ) → order_from a o n (suc k) ≡ order_from a o n k ++ (if is_entry a o (n + k) then a.log.who (n + k) ∷ [] else [])
+unfolding order_from
+order_from-more a o n zero = let e : n + 0 ≡ n = omega arith in rw e refl
+order_from-more a o n (suc k) =
+    let e : n + suc k ≡ n + 1 + k = omega arith in
+    elim (is_entry a o n) as (λ t. (if t then a.log.who n ∷ order_from a o (n + 1) (suc k) else order_from a o (n + 1) (suc k))
+    ≡ (if t then a.log.who n ∷ order_from a o (n + 1) k else order_from a o (n + 1) k) ++ (if is_entry a o (n + suc k) then a.log.who (n + suc k) ∷ [] else [])) [
+      | true ↦ rw e (ap (λ v. a.log.who n ∷ v) (order_from-more a o (n + 1) k))
+      | false ↦ rw e (order_from-more a o (n + 1) k)
+    ]
+
+-- the numbers so far, and one more place
+pub order_more : (w : World) (s : State) (p number : ℕ) (has : Bool) (old : List ℕ) → Holds w s → p < s.log.places → number ≡ get_or w.served.items p 0
+    → has ≡ is_at p (placed (mark_at w.marks.items (number - 1)).first (mark_at w.marks.items (number - 1)).by) → old ≡ order_from (account_of s) 0 0 p → (if has then old ++ number ∷ [] else old) ≡ order_from (account_of s) 0 0 (p + 1)
+order_more w s p number has old h l nu he e =
+    let q : p + 1 ≡ suc p = omega arith in let z : 0 + p ≡ p = omega arith in
+    rw q (joined ∙ sym (order_from-more (account_of s) 0 0 p ∙ ap (λ v. order_from (account_of s) 0 0 p ++ (if is_entry (account_of s) 0 v then s.log.who v ∷ [] else [])) z))
+  where
+    who : number ≡ s.log.who p
+    who = nu ∙ h.who p l
+
+    some : number - 1 + 1 ≡ number
+    some = let k = h.named p l in omega (arith, who)
+
+    at : has ≡ is_at p (placed (s.log.first (s.log.who p)) (s.by (s.log.who p)))
+    at = he ∙ ap (λ v. is_at p (placed v (mark_at w.marks.items (number - 1)).by)) (h.first (number - 1) ∙ ap s.log.first (some ∙ who)) ∙ ap (λ v. is_at p (placed (s.log.first (s.log.who p)) v)) (h.by (number - 1) ∙ ap s.by (some ∙ who))
+
+    entry : is_entry (account_of s) 0 p ≡ has
+    entry = both (is_at p (place (account_of s) (s.log.who p))) (is_listed ((account_of s).ops (s.log.who p))) (listed (kind_at s.taken (s.log.who p))) ∙ sym at
+      where
+        both : (a b : Bool) → b ≡ true → (a && ((0 == 0) && b)) ≡ a
+        both a b h = grind arith
+
+    joined : (if has then old ++ number ∷ [] else old) ≡ order_from (account_of s) 0 0 p ++ (if is_entry (account_of s) 0 p then s.log.who p ∷ [] else [])
+    joined = rw (entry, e, who) (by_has has)
+      where
+        by_has : (b : Bool) → (if b then order_from (account_of s) 0 0 p ++ s.log.who p ∷ [] else order_from (account_of s) 0 0 p) ≡ order_from (account_of s) 0 0 p ++ (if b then s.log.who p ∷ [] else [])
+        by_has true = refl
+        by_has false = grind (arith, common_steps)
+
+-- the whole order
+pub order_whole : (w : World) (s : State) (n : ℕ) (numbers : List ℕ) → Holds w s → n ≡ s.log.places → numbers ≡ order_from (account_of s) 0 0 n → numbers ≡ order_of (account_of s) 0
+order_whole w s n numbers h e f = let b = h.birth in let z : s.log.places - s.log.birth 0 ≡ s.log.places = omega arith in f ∙ rw (e, z, b) refl

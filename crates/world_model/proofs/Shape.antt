@@ -1,5 +1,5 @@
 -- Each event keeps the shape of a state, and a round settles one operation.
-use Rattle.std.proofs.Common.{◌≡◌, ℕ, zero, suc, ◌+◌, ◌-◌, ◌<◌, ◌≤◌, ◌==◌, ◌^◌, nat_lt, Bool, true, false, ◌&&◌, if◌then◌else◌, List, [], ◌∷◌, ◌++◌, length, get_or, refl, sym, ap, subst, ◌∙◌, arith, Option, Some, None, eq-eqb, length-append}
+use Rattle.std.proofs.Common.{◌≡◌, ℕ, zero, suc, ◌+◌, ◌-◌, ◌<◌, ◌≤◌, ◌==◌, ◌^◌, nat_lt, Bool, true, false, ◌&&◌, if◌then◌else◌, List, [], ◌∷◌, ◌++◌, length, get_or, refl, sym, ap, subst, ◌∙◌, arith, Option, Some, None, is_some, eq-eqb, length-append}
 use Rattle.std.proofs.lemmas.Bool.Decides.{nat_tests}
 use Rattle.std.proofs.lemmas.Grind.{common_steps}
 use Rattle.world_model.specs.declared.operation.Op.{Op}
@@ -13,7 +13,8 @@ use Rattle.world_model.specs.Exchange.{State, Request, Response, command_of, low
 use Rattle.world_model.specs.Limits.{kind_at, no_kind, is_in_limits}
 use Rattle.world_model.specs.Shape.{Stage, Idle, Asking, Answering, sent_in, up_in, down_in, places_in, IsLowest, Suits, ReplySuits, CountsFrom, Shape}
 use Rattle.world_model.proofs.Suiting.{answer_suits}
-use Rattle.world_model.proofs.Counting.{CountsFrom-push, lowest-next, lowest-none}
+use Rattle.world_model.specs.Views.{IsAllSettled}
+use Rattle.world_model.proofs.Counting.{outcome_of-counted, no_outcome, CountsFrom-push, lowest-next, lowest-none}
 
 pub kind_at-push : (taken : List OpKind) (k : OpKind) (g : ℕ) → g - 1 < length taken → kind_at (taken ++ k ∷ []) g ≡ kind_at taken g
 kind_at-push taken k g l = grind (arith, common_steps)
@@ -248,3 +249,16 @@ rounds_settle (suc n) s i l =
 -- `settle` leaves nothing unsettled
 pub settle_settles : (s : State) → Shape s → length (settle s).settled ≡ length (settle s).taken × (settle s).taken ≡ s.taken
 settle_settles s i = let w = i.within in let r = rounds_settle (length s.taken - length s.settled) s i (omega arith) in let t = ap length r.1 in (omega (arith, r.0, t), r.1)
+
+-- one more round at the end
+pub rounds-more : (n : ℕ) (s : State) → rounds (n + 1) s ≡ took (served (pushed (rounds n s)))
+unfolding rounds
+rounds-more n s = let e : n + 1 ≡ suc n = omega arith in rw e (by_count n s)
+  where
+    by_count : (n : ℕ) (s : State) → rounds (suc n) s ≡ took (served (pushed (rounds n s)))
+    by_count zero s = refl
+    by_count (suc n) s = by_count n (took (served (pushed s)))
+
+-- in a state where all settled, each number has an outcome
+pub all_settled : (s : State) → Shape s → length s.settled ≡ length s.taken → IsAllSettled s
+all_settled s i e n l m = ap is_some (outcome_of-counted 1 n s.settled no_outcome i.counted (omega arith) (omega arith))

@@ -34,6 +34,8 @@ pub record Holds (w : World) (s : State) : Type 0 where
   pub down : w.down.items ≡ map told_of s.down
   pub places : vec_len w.served ≡ s.log.places
   pub who : (n : ℕ) → n < s.log.places → slice_index w.served.items n ≡ s.log.who n
+  pub named : (n : ℕ) → n < s.log.places → 0 < s.log.who n
+  pub birth : s.log.birth 0 ≡ 0
   pub marks : vec_len w.marks ≡ length s.taken
   pub first : (n : ℕ) → (mark_at w.marks.items n).first ≡ s.log.first (n + 1)
   pub by : (n : ℕ) → (mark_at w.marks.items n).by ≡ s.by (n + 1)

@@ -1,5 +1,5 @@
 -- What the program's values stand for.
-use Rattle.std.specs.Prelude.{◌≡◌, ℕ, ◌<◌, ◌≤◌, ◌^◌, ◌⊎◌, true, is_some, List, [], ◌∷◌, ◌++◌, length, Option, Some, None}
+use Rattle.std.specs.Prelude.{◌≡◌, ℕ, ◌<◌, ◌≤◌, ◌^◌, true, is_some, List, [], ◌∷◌, ◌++◌, length, Option, Some, None}
 use Rattle.world_model.specs.declared.message.Reply as code_reply
 use Rattle.world_model.specs.declared.message.Reply.TheVariants as replies
 use Rattle.world_model.specs.declared.server.Command as code_command
@@ -11,7 +11,7 @@ use Rattle.world_model.specs.declared.operation.Outcome.{Outcome}
 use Rattle.world_model.specs.declared.table.Client.{Client}
 use Rattle.world_model.specs.Messages.{response_to}
 use Rattle.world_model.specs.declared.network.WorldError.{WorldError}
-use Rattle.world_model.specs.declared.network.WorldError.TheVariants.{Memory}
+use Rattle.world_model.specs.declared.network.WorldError.TheVariants.{Memory, NoChannel, NothingThere}
 use Rattle.world_model.specs.Exchange.{State, outcome_of, status_of}
 use Rattle.world_model.specs.Server.{Answer, Command, Read_file, Write_file, Reply, Counts, Content, Refuses, Verdict, Bad_form, At_end, No_room, Success}
 
@@ -57,9 +57,11 @@ pub record IsSettling (old new : Client) (number : ℕ) (outcome : Outcome) (ans
   pub ops : new.ops ≡ old.ops
   pub next : new.next ≡ old.next
 
--- a step was refused for want of memory, or by the model's cause
-abbrev pub IsCause : Option WorldError → WorldError → Type 0
-IsCause cause e = (e ≡ Memory) ⊎ (cause ≡ Some e)
+-- a step failed for want of memory, which is free, or by the model's cause
+abbrev pub StepFails : Option WorldError → WorldError → Type 0
+StepFails cause Memory = Unit {0}
+StepFails cause (NoChannel k) = cause ≡ Some (NoChannel k)
+StepFails cause (NothingThere k) = cause ≡ Some (NothingThere k)
 
 -- each operation settled
 abbrev pub IsAllSettled : State → Type 0

@@ -1,8 +1,10 @@
 ghost use Rattle.std.specs.Prelude.{◌≡◌, ◌==◌, ◌<◌, ◌≤◌, ℕ, List, Some, None, Option, [], ◌∷◌, length, map, if◌then◌else◌, IfOk, IfErr, OnOk, OnErr, codes};
 ghost use Rattle.world_model.specs.declared.network.WorldError.{WorldError as Refusal};
+ghost use Rattle.exchange_defs.specs.Order.{is_at, order_of, placed};
+ghost use Rattle.world_model.specs.OneContent.{account_of};
 ghost use Rattle.world_model.specs.Exchange.{State, front_note, happens, note_of, noted, pushed, refusal, served, settle, start, submitted, took};
 ghost use Rattle.world_model.specs.Shape.{CountsFrom};
-ghost use Rattle.world_model.specs.Views.{IsAllSettled, IsCause};
+ghost use Rattle.world_model.specs.Views.{IsAllSettled, StepFails};
 ghost use Rattle.world_model.specs.Holding.{Holds, mark_at};
 
 use crate::lists::{FileList, NumberList, SettledList};
@@ -44,11 +46,9 @@ impl World {
     /// One event. `NoChannel` comes exactly for a connection that isn't 0, `NothingThere` exactly
     /// where the list is empty from which the event takes its front.
     pub fn step(&mut self, event: WorldEvent) -> Result<StepNote, WorldError>
-        ensures ok { (s : State) → Holds self.old s → OnOk result (Holds self.new (happens s event)) }
-        ensures note { (s : State) → Holds self.old s → IfOk result (λ n. n ≡ note_of s event) }
-        ensures cause { (s : State) → Holds self.old s → IfErr result (IsCause (refusal s event)) }
+        ensures ok { IfOk result (λ note. (s : State) → Holds self.old s → (refusal s event ≡ None) × (note ≡ note_of s event) × Holds self.new (happens s event)) }
+        ensures err { IfErr result (λ e. (s : State) → Holds self.old s → StepFails (refusal s event) e × Holds self.new s) }
         ensures refused { (s : State) (e : Refusal) → Holds self.old s → refusal s event ≡ Some e → result ≡ Err e }
-        ensures err { (s : State) → Holds self.old s → OnErr result (Holds self.new s) }
     {
         match event {
             WorldEvent::Submit(op) => self.submit(op)?,
@@ -77,13 +77,13 @@ impl World {
     /// Pushes, serves and takes, once for each operation that isn't settled, and then all are. Its
     /// only error is `Memory`; some of these events have happened then.
     pub fn settle(&mut self) -> Result<(), WorldError>
-        ensures ok { (s : State) → Holds self.old s → OnOk result (Holds self.new (settle s)) }
-        ensures all { (s : State) → Holds self.old s → OnOk result (IsAllSettled (settle s)) }
+        ensures ok { OnOk result ((s : State) → Holds self.old s → Holds self.new (settle s)) }
+        ensures all { OnOk result ((s : State) → Holds self.old s → IsAllSettled (settle s)) }
         ensures cause { IfErr result (λ e. e ≡ WorldError.Memory) }
     {
         let settled = self.client.outcomes.settled.len();
         let taken = self.client.ops.len();
-        for _round in settled..taken {
+        for round in settled..taken {
             self.round()?;
         }
         Ok(())
@@ -102,15 +102,36 @@ impl World {
     pub fn outcomes(&self) -> &Outcomes
         ensures settled { (s : State) → Holds self.now s → result.now.settled ≡ s.settled }
         ensures order { (s : State) → Holds self.now s → result.now.order ≡ map (λ x. x.0) s.settled }
-        ensures numbers { (s : State) → Holds self.now s → CountsFrom 1 result.now.settled }
-        ensures within { (s : State) → Holds self.now s → length result.now.settled ≤ length s.taken }
+        ensures numbers { (s : State) → Holds self.now s → CountsFrom 1 s.settled }
+        ensures within { (s : State) → Holds self.now s → length s.settled ≤ length s.taken }
     {
         &self.client.outcomes
     }
 
+    /// The reads and writes of a create, in the order in which the server took them.
+    pub fn order(&self, create: u32) -> Result<NumberList, AllocError>
+        ensures { (s : State) → Holds self.now s → IfOk result (λ l. l ≡ order_of (account_of s) create) }
+    {
+        let mut numbers = NumberList::new(self.alloc);
+        if create != 0 {
+            return Ok(numbers);
+        }
+        for place in 0..self.served.len() {
+            let number = self.served[place];
+            if has_place(
+                &self.marks,
+                (number as usize).saturating_sub(1),
+                place as u64,
+            ) {
+                numbers.push(number)?;
+            }
+        }
+        Ok(numbers)
+    }
+
     /// The files, each with its path and bytes.
     pub fn files(&self) -> Result<FileList, AllocError>
-        ensures { (s : State) → Holds self.now s → IfOk result (λ l. l ≡ (codes "given", s.file) ∷ []) }
+        ensures { IfOk result (λ files. (s : State) → Holds self.now s → files ≡ (codes "given", s.file) ∷ []) }
     {
         let mut files = FileList::new(self.alloc);
         let path = Text::from_str(self.alloc, "given")?;
@@ -204,6 +225,21 @@ impl World {
             mark_by(&mut self.marks, (number as usize).saturating_sub(1), place);
         }
         Ok(())
+    }
+}
+
+/// Whether an operation has its place at a serve: it acted there first, or else its settling reply
+/// was made there.
+fn has_place(marks: &[Mark], index: usize, place: u64) -> bool
+    ensures { result ≡ is_at place (placed (mark_at marks.now index).first (mark_at marks.now index).by) }
+{
+    if index >= marks.len() {
+        return false;
+    }
+    let mark = marks[index];
+    match mark.first {
+        Some(first) => first == place,
+        None => mark.by == Some(place),
     }
 }
 
