@@ -156,25 +156,6 @@ fn limits_are_kept(rt: HostRuntime) -> Result<(), Fail> {
     Ok(())
 }
 
-// A comment without an end.
-#[derive(Drop)]
-struct Endless;
-
-impl Source for Endless {
-    ghost use Rattle.std.specs.Prelude.{None};
-
-    ghost left = { λ _. None };
-
-    ghost faults = { λ _. 0 };
-
-    fn read(&mut self, into: &mut [u8]) -> Result<usize, Failed> {
-        for byte in into.iter_mut() {
-            *byte = b'#';
-        }
-        Ok(into.len())
-    }
-}
-
 // A sink that takes one byte at a time, and fails once it has no room.
 #[derive(Drop)]
 struct Drip {

@@ -18,13 +18,13 @@ returns-in_err-count-clause-printed c =
 pub returns-clause-ran : goal.returns-clause-ran
 returns-clause-ran c =
     let led = c.in_ok-count.ensures start c.in_ok-world.ensures in
-    let shown = c.outcomes.ensures led.1.0 led.1.2 in (
+    let shown = c.outcomes.ensures.settled led.1.0 led.1.2 in (
       c.in_ok-lines.lines.items,
       led.1.0,
       ran_by c.one_content_law.ensures c.args.text.now c.in_ok-lines.lines.items led.1.0 c.in_ok-lines.ensures.value led.1.1,
       state_printed c.in_ok-lines.lines.items led.1.0 c.in_ok-count.count c.as_slice.result.now c.as_slice-3.result.now
           (string_bytes c.new-out.result) (string_bytes c.push_outcomes.new.out) (string_bytes c.push_files.new.out)
-          led.0 (c.as_slice.ensures ∙ shown.0) (c.as_slice-3.ensures ∙ c.in_ok-files.ensures led.1.0 led.1.2)
+          led.0 (c.as_slice.ensures ∙ shown) (c.as_slice-3.ensures ∙ c.in_ok-files.ensures led.1.0 led.1.2)
           c.new-out.ensures.bytes c.in_ok-push_outcomes.ensures c.in_ok-push_files.ensures,
     )
 
