@@ -137,7 +137,6 @@ fn limits_are_kept(rt: HostRuntime) -> Result<(), Fail> {
     for (script, status, text) in [
         (hex, 0, "1 refused c000000d\nfile given 0 -\n"),
         (longer, 3, "line 1 too-long\n"),
-        (repeated(alloc, "\n", 4_194_304)?, 0, "file given 0 -\n"),
         (
             repeated(alloc, "\n", 4_194_305)?,
             3,

@@ -1,6 +1,8 @@
 use Rattle.std.proofs.Common.{◌∙◌, sym, ap, Ok}
 use Rattle.std.proofs.lemmas.Result.{err_from_is_err_and}
 use Rattle.std.specs.String.{string_bytes}
+use Rattle.std.proofs.Common.{subst}
+use Rattle.world_model.specs.Shape.{CountsFrom}
 use Rattle.world_model.specs.Exchange.{start}
 use Rattle.smb311_cli.proofs.DrillLemmas.{refused_text, refused_schedule, reported, ran_by, state_printed}
 use Rattle.smb311_cli.proofs.drill.drill.Goals as goal
@@ -32,3 +34,8 @@ pub returns-clause-printed : goal.returns-clause-printed
 returns-clause-printed c =
     let ran = returns-clause-ran c in
     reported c.args.text.now ran.0 ran.1 ran.2 ∙ ap Ok (sym ran.3)
+
+pub push_outcomes-requires : goal.push_outcomes-requires
+push_outcomes-requires c =
+    let led = c.in_ok-count.ensures start c.in_ok-world.ensures in
+    subst (CountsFrom 1) (sym (c.as_slice.ensures ∙ c.outcomes.ensures.settled led.1.0 led.1.2)) (c.outcomes.ensures.numbers led.1.0 led.1.2)
