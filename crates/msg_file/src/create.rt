@@ -1,6 +1,6 @@
 /// The CREATE request (MS-SMB2 2.2.13). `name` is UTF-16, and `contexts` is the chain of its create
 /// contexts, as they stand in the message.
-#[derive(Clone, Copy, Debug)]
+#[derive(Clone, Copy, Debug, PartialEq, Eq)]
 pub struct CreateRequest<'a> {
     pub requested_oplock_level: u8,
     pub impersonation_level: u32,

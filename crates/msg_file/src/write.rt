@@ -1,5 +1,5 @@
 /// The WRITE request (MS-SMB2 2.2.21): `payload` goes to `offset` of the open `file_id`.
-#[derive(Clone, Copy, Debug)]
+#[derive(Clone, Copy, Debug, PartialEq, Eq)]
 pub struct WriteRequest<'a> {
     pub offset: u64,
     pub file_id: [u8; 16],

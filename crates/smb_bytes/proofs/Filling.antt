@@ -1,5 +1,5 @@
 -- Bytes copied into the middle of a list lengthen its filled front.
-use Rattle.std.proofs.Common.{◌≡◌, ℕ, ◌+◌, ◌≤◌, List, ◌++◌, length, take, drop, refl, sym, ap, ◌∙◌, arith, append_assoc, length-append, length-take-le}
+use Rattle.std.proofs.Common.{◌≡◌, ℕ, ◌+◌, ◌≤◌, List, ◌++◌, length, take, drop, sym, ◌∙◌, arith, append_assoc, length-append, length-take-le}
 use Rattle.std.proofs.lemmas.List.{take_at, take_all, length-take}
 
 pub front_grown : (at : ℕ) (old v : List ℕ) → at + length v ≤ length old → take (at + length v) (take at old ++ (v ++ drop (at + length v) old)) ≡ take at old ++ v

@@ -16,3 +16,6 @@ pub use fixed::FixedOut;
 pub use out::Out;
 pub use short::Short;
 pub use text::Text;
+
+#[cfg(test)]
+mod tests;

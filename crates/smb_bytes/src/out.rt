@@ -40,6 +40,13 @@ impl Out {
         }
     }
 
+    /// How many bytes were put.
+    pub fn len(&self) -> usize
+        ensures { result ≡ length self.now }
+    {
+        self.bytes.len()
+    }
+
     pub fn put_slice(&mut self, v: &[u8]) -> Result<(), AllocError>
         ensures ok { OnOk result (self.new ≡ self.old ++ v.now) }
         ensures err { OnErr result (self.new ≡ self.old) }

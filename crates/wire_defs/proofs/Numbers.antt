@@ -1,8 +1,8 @@
 -- Facts on numbers in bytes and on places.
 use Rattle.std.proofs.Common.{◌≡◌, ℕ, zero, suc, ◌+◌, ◌-◌, ◌*◌, ◌/◌, ◌%◌, ◌^◌, ◌<◌, ◌≤◌, List, [], ◌∷◌, ◌++◌, length, take, drop, replicate, refl, sym, ap, ◌∙◌, arith, length-drop}
-use Rattle.std.proofs.lemmas.List.{take_at, drop_at, length-take, append-nil}
+use Rattle.std.proofs.lemmas.List.{take_at, drop_at, length-take}
 use Rattle.std.proofs.Math.Nat.{pow-suc}
-use Rattle.wire_defs.specs.Places.{le, number_of, number, bytes_at}
+use Rattle.wire_defs.specs.Places.{le, number_of, bytes_at}
 
 pub length-le : (w n : ℕ) → length (le w n) ≡ w
 unfolding le

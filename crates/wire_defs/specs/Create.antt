@@ -1,5 +1,5 @@
 -- The CREATE request (MS-SMB2 2.2.13).
-use Rattle.std.specs.Prelude.{◌≡◌, ℕ, ◌+◌, ◌<◌, ◌≤◌, ◌^◌, ◌==◌, if◌then◌else◌, List, [], ◌∷◌, ◌++◌, length, Option}
+use Rattle.std.specs.Prelude.{ℕ, ◌+◌, ◌==◌, if◌then◌else◌, List, [], ◌∷◌, ◌++◌, length, Option}
 use Rattle.wire_defs.specs.Places.{number, bytes_at, gap_to_8}
 use Rattle.wire_defs.specs.Table.{Field, Num, Raw, Any, Stands, with_fields, AreWritable, IsPart, filler}
 use Rattle.wire_defs.specs.Fault.{◌or_else◌, fields_fault, size_fault, part_fault}

@@ -1,7 +1,7 @@
 -- The error response (MS-SMB2 2.2.2).
-use Rattle.std.specs.Prelude.{◌≡◌, ℕ, ◌<◌, ◌≤◌, ◌^◌, List, [], ◌∷◌, ◌++◌, length, Option}
-use Rattle.wire_defs.specs.Places.{number, bytes_at}
-use Rattle.wire_defs.specs.Table.{Field, Num, Raw, Any, Stands, with_fields, AreWritable}
+use Rattle.std.specs.Prelude.{ℕ, List, [], ◌∷◌, Option}
+use Rattle.wire_defs.specs.Places.{number}
+use Rattle.wire_defs.specs.Table.{Field, Num, Any, Stands, with_fields, AreWritable}
 use Rattle.wire_defs.specs.Fault.{◌or_else◌, fields_fault, size_fault}
 use Rattle.wire_defs.specs.declared.error.MessageError.{MessageError}
 use Rattle.wire_defs.specs.declared.message.ErrorResponse.{ErrorResponse}

@@ -1,5 +1,5 @@
 -- The WRITE request and response (MS-SMB2 2.2.21, 2.2.22).
-use Rattle.std.specs.Prelude.{◌≡◌, ℕ, ◌<◌, ◌≤◌, ◌^◌, List, [], ◌∷◌, ◌++◌, length, Option}
+use Rattle.std.specs.Prelude.{ℕ, List, [], ◌∷◌, ◌++◌, length, Option}
 use Rattle.wire_defs.specs.Places.{number, bytes_at}
 use Rattle.wire_defs.specs.Table.{Field, Num, Raw, Any, Stands, with_fields, AreWritable, IsPart}
 use Rattle.wire_defs.specs.Fault.{◌or_else◌, fields_fault, size_fault, part_fault}
