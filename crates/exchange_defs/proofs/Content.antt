@@ -1,5 +1,5 @@
 -- The content machine's laws: twice is once, and apart keeps what shows.
-use Rattle.std.proofs.Common.{◌≡◌, ◌⊎◌, ℕ, ◌+◌, ◌-◌, ◌≤◌, max, min, Bool, true, false, not, ◌&&◌, arith, inl, inr, nat_lt, if◌then◌else◌, List, [], ◌∷◌, ◌++◌, refl, length, get_or, take, drop, replicate, ap}
+use Rattle.std.proofs.Common.{◌≡◌, ◌⊎◌, ℕ, ◌+◌, ◌-◌, ◌≤◌, max, Bool, true, false, not, arith, nat_lt, if◌then◌else◌, List, [], ◌∷◌, ◌++◌, refl, length, get_or, take, drop, ap}
 use Rattle.std.proofs.lemmas.Bool.Decides.{nat_tests}
 use Rattle.std.proofs.lemmas.List.{places}
 use Rattle.std.proofs.lemmas.Grind.{same_number_lists}

@@ -1,9 +1,9 @@
 -- An order is legal where each place keeps a few facts, none of which looks into bytes.
-use Rattle.std.proofs.Common.{◌≡◌, ◌≢◌, ◌⊎◌, inl, inr, ℕ, zero, suc, ◌+◌, ◌-◌, ◌≤◌, ◌<◌, ◌==◌, nat_lt, eqb-true, Bool, true, false, ◌&&◌, if◌then◌else◌, List, [], ◌∷◌, refl, sym, subst, ap, ◌∙◌, arith, Option, Some, None, is_some}
+use Rattle.std.proofs.Common.{◌≡◌, ◌≢◌, ◌⊎◌, inl, inr, ℕ, zero, suc, ◌+◌, ◌-◌, ◌≤◌, ◌<◌, ◌==◌, nat_lt, eqb-true, Bool, true, false, ◌&&◌, if◌then◌else◌, List, ◌∷◌, refl, sym, subst, ap, ◌∙◌, arith, Option, Some, None, is_some}
 use Rattle.std.proofs.lemmas.Bool.{eqb-false}
 use Rattle.std.proofs.lemmas.Bool.Decides.{nat_tests}
-use Rattle.exchange_defs.specs.Content.{ContentOp, ContentReply, effect, value, past_end, is_change, is_listed}
-use Rattle.exchange_defs.specs.Order.{Account, Said, Says_ok, Says_end, Says_other, Settlement, Unsettled, Settled_ok, Settled_end, Settled_refused, Settled_unknown, placed, place, is_at, is_of, is_entry, order_from, order_of, bytes_at_birth, bytes_at_last, Fits, is_settled_ok, is_firm, applies, Replays, count, precedes, Legal}
+use Rattle.exchange_defs.specs.Content.{ContentOp, ContentReply, effect, value, past_end, is_change}
+use Rattle.exchange_defs.specs.Order.{Account, Says_ok, Says_end, Settlement, Unsettled, Settled_ok, Settled_end, Settled_refused, Settled_unknown, placed, place, is_at, is_of, is_entry, order_from, order_of, bytes_at_birth, bytes_at_last, Fits, is_settled_ok, is_firm, applies, Replays, count, precedes, Legal}
 use Rattle.exchange_defs.proofs.Content.{value-change, past_end-change}
 
 -- What each place and each operation of an open keeps: the open's messages are those from its birth on.

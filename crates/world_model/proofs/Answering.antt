@@ -1,14 +1,13 @@
 -- What the server's answer says of the bytes.
-use Rattle.std.proofs.Common.{◌≡◌, ℕ, ◌<◌, nat_lt, Bool, true, false, not, ◌&&◌, ◌||◌, if◌then◌else◌, List, length, take, drop, refl, arith, Some}
+use Rattle.std.proofs.Common.{◌≡◌, ℕ, Bool, true, false, not, ◌||◌, if◌then◌else◌, List, refl, arith, Some}
 use Rattle.std.proofs.lemmas.Bool.Decides.{nat_tests}
-use Rattle.exchange_defs.specs.Content.{ContentOp, Write, Read, ContentReply, Counted, Gives, effect, value, past_end, touches, is_listed}
+use Rattle.exchange_defs.specs.Content.{ContentOp, ContentReply, effect, value, past_end, touches, is_listed}
 use Rattle.exchange_defs.specs.Order.{Said, Says_ok, Says_end, Says_other, Settlement, Settled_ok, Settled_end, Settled_refused, is_firm}
 use Rattle.exchange_defs.proofs.Content.{effect-untouched}
 use Rattle.world_model.specs.declared.operation.OpKind.{OpKind}
 use Rattle.world_model.specs.declared.operation.OpKind.TheVariants as kinds
-use Rattle.world_model.specs.declared.limits.TheConstants.{LARGEST_TRANSFER, OFFSET_END, LARGEST_FILE}
 use Rattle.world_model.specs.declared.status.TheConstants.{INVALID_PARAMETER, END_OF_FILE, DISK_FULL}
-use Rattle.world_model.specs.Server.{Command, Read_file, Write_file, Reply, Counts, Content, Refuses, asked, is_in_form, is_short_of, is_past_end, is_overfull, Verdict, Bad_form, At_end, No_room, Success, check, reply_of, Answer, answered, answer, said}
+use Rattle.world_model.specs.Server.{Command, Read_file, Write_file, Reply, Counts, Content, Refuses, asked, is_in_form, is_short_of, is_overfull, Verdict, Bad_form, At_end, No_room, Success, check, reply_of, Answer, answered, answer, said}
 use Rattle.world_model.specs.Exchange.{command_of, settlement_of, outcome_by}
 
 -- One answer to an operation on a file.

@@ -1,12 +1,12 @@
 -- The headers that are written have numbers that fit.
-use Rattle.std.proofs.Common.{◌≡◌, ℕ, ◌+◌, ◌-◌, ◌/◌, ◌<◌, ◌≤◌, ◌==◌, ◌^◌, min, nat_le, Bool, true, false, ◌&&◌, List, [], ◌∷◌, ◌++◌, length, refl, arith}
+use Rattle.std.proofs.Common.{◌≡◌, ℕ, ◌+◌, ◌-◌, ◌/◌, ◌<◌, ◌≤◌, ◌==◌, ◌^◌, min, nat_le, Bool, true, false, ◌&&◌, List, length, refl, arith}
 use Rattle.std.proofs.lemmas.Bool.Decides.{nat_tests}
 use Rattle.wire_defs.specs.Header.{IsWritableHeader}
 use Rattle.world_model.specs.declared.operation.OpKind.{OpKind}
 use Rattle.world_model.specs.declared.operation.OpKind.TheVariants as kinds
 use Rattle.world_model.specs.declared.limits.TheConstants.{LARGEST_ASKED, CREDIT_BYTES}
 use Rattle.world_model.specs.Server.{Reply, Counts, Content, Refuses}
-use Rattle.world_model.specs.Exchange.{charge, moved, status_of}
+use Rattle.world_model.specs.Exchange.{moved, status_of}
 use Rattle.world_model.specs.Limits.{is_in_limits}
 use Rattle.world_model.specs.Shape.{Suits}
 use Rattle.world_model.specs.Messages.{command_number, request_header, response_header}

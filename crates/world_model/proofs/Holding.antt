@@ -1,14 +1,12 @@
 -- The program's steps hold the model's states.
-use Rattle.std.proofs.Common.{◌≡◌, ◌≢◌, ℕ, zero, suc, ◌+◌, ◌-◌, ◌<◌, ◌≤◌, ◌==◌, ◌^◌, ◌&&◌, Bool, true, false, if◌then◌else◌, List, [], ◌∷◌, ◌++◌, length, get_or, map, take, drop, refl, sym, ap, subst, ◌∙◌, arith, Option, Some, None, is_some, vec_len, eq-eqb, eqb-true}
+use Rattle.std.proofs.Common.{◌≡◌, ℕ, zero, suc, ◌+◌, ◌-◌, ◌<◌, ◌≤◌, ◌==◌, ◌^◌, ◌&&◌, Bool, true, false, if◌then◌else◌, List, [], ◌∷◌, ◌++◌, length, get_or, map, take, drop, refl, sym, ap, subst, ◌∙◌, arith, Option, Some, None, is_some, vec_len, eqb-true}
 use Rattle.std.proofs.lemmas.Bool.{eqb-false}
 use Rattle.std.proofs.lemmas.Bool.Decides.{nat_tests}
 use Rattle.std.proofs.lemmas.Grind.{common_steps}
-use Rattle.wire_defs.specs.declared.header.Header.{Header}
 use Rattle.exchange_defs.specs.Content.{is_listed}
 use Rattle.exchange_defs.specs.Order.{Account, is_at, is_entry, order_from, order_of, place, placed}
 use Rattle.world_model.specs.OneContent.{account_of}
 use Rattle.world_model.proofs.Answering.{listed}
-use Rattle.world_model.specs.declared.operation.Op.{Op}
 use Rattle.world_model.specs.declared.operation.OpKind.{OpKind}
 use Rattle.world_model.specs.declared.operation.Outcome.{Outcome}
 use Rattle.world_model.specs.declared.table.Sent.{Sent}
@@ -18,15 +16,15 @@ use Rattle.world_model.specs.declared.network.Told.{Told}
 use Rattle.world_model.specs.declared.network.Mark.{Mark}
 use Rattle.world_model.specs.Limits.{kind_at, is_in_limits}
 use Rattle.world_model.specs.Server.{Answer, answer, Reply}
-use Rattle.world_model.specs.Exchange.{State, Request, Response, command_of, id_after, noted, outcome_by, put, transmitted, pushed, served, served_with, took, settled_by, submitted}
+use Rattle.world_model.specs.Exchange.{State, Request, Response, command_of, id_after, noted, outcome_by, put, pushed, served, served_with, took, settled_by}
 use Rattle.world_model.specs.Shape.{Stage, Idle, Asking, Answering, sent_in, up_in, down_in, places_in, IsLowest, Suits, ReplySuits, Shape}
 use Rattle.world_model.specs.Messages.{request_bytes, response_bytes, request_header}
 use Rattle.world_model.specs.declared.server.Answered.{Answered}
 use Rattle.world_model.specs.Views.{Answers, IsSettling}
-use Rattle.world_model.specs.Holding.{Holds, asked_of, told_of, mark_at, no_mark}
+use Rattle.world_model.specs.Holding.{Holds, asked_of, told_of, mark_at}
 use Rattle.world_model.proofs.Writing.{take-whole}
 use Rattle.world_model.proofs.Logged.{put_other, put_same}
-use Rattle.world_model.proofs.Shape.{pushed_shape, pushed-idle, pushed-done, request_in, response_in, served-asking, served-none, served_shape, took-answering, took-none, took_shape}
+use Rattle.world_model.proofs.Shape.{pushed_shape, pushed-idle, pushed-done, request_in, response_in, served-asking, served_shape, took-answering, took_shape}
 
 sent_none : (w : World) (s : State) → Holds w s → is_some w.client.sent ≡ false → s.sent ≡ None
 sent_none w s h e = none s.sent (sym (ap is_some h.sent) ∙ e)

@@ -1,18 +1,18 @@
 -- The theorem: in every run the given file's operations have a legal order.
-use Rattle.std.proofs.Common.{◌≡◌, ℕ, zero, suc, ◌+◌, ◌-◌, ◌<◌, ◌≤◌, ◌==◌, Bool, true, false, ◌&&◌, if◌then◌else◌, List, [], ◌∷◌, length, refl, sym, ap, subst, ◌∙◌, arith, Option, Some, None, is_some}
-use Rattle.exchange_defs.specs.Content.{ContentOp, ContentReply, effect, value, past_end, is_change, touches, is_listed}
-use Rattle.exchange_defs.specs.Order.{Said, Says_ok, Says_end, Settlement, Settled_ok, Settled_end, is_firm, place, placed, is_of, count, order_of, Legal}
+use Rattle.std.proofs.Common.{◌≡◌, ℕ, zero, suc, ◌+◌, ◌-◌, ◌<◌, ◌≤◌, ◌==◌, Bool, true, false, if◌then◌else◌, List, [], ◌∷◌, length, refl, sym, ap, subst, ◌∙◌, arith, Option, Some, None, is_some}
+use Rattle.exchange_defs.specs.Content.{effect, value, past_end, is_change}
+use Rattle.exchange_defs.specs.Order.{is_firm, place, placed, is_of, Legal}
 use Rattle.exchange_defs.proofs.Content.{is_change-touches}
 use Rattle.exchange_defs.proofs.Order.{PlaceFacts, legal}
 use Rattle.world_model.specs.declared.operation.Outcome.{Outcome}
 use Rattle.world_model.specs.declared.network.WorldEvent.{WorldEvent}
 use Rattle.world_model.specs.declared.network.WorldEvent.TheVariants.{Submit, Push, Serve, Take}
-use Rattle.world_model.specs.Exchange.{State, outcome_of, settlement_of, settlement_at, pushed, served, took, happens, start, rounds, settle, Move, Does, Settles, moves, play}
+use Rattle.world_model.specs.Exchange.{State, outcome_of, settlement_of, settlement_at, pushed, served, took, happens, start, rounds, Move, Does, Settles, moves, play}
 use Rattle.world_model.specs.Limits.{kind_at}
 use Rattle.world_model.specs.Shape.{Stage, Idle, Asking, Answering, places_in, Shape}
 use Rattle.world_model.specs.OneContent.{account_of, given_order, OneContent}
-use Rattle.world_model.proofs.Counting.{outcome_of-counted, is_some-counted, no_outcome}
-use Rattle.world_model.proofs.Shape.{start_shape, happens_shape, pushed_shape, served_shape, round_shape, rounds_shape, moves_shape}
+use Rattle.world_model.proofs.Counting.{is_some-counted}
+use Rattle.world_model.proofs.Shape.{start_shape, pushed_shape, served_shape, round_shape, moves_shape}
 use Rattle.world_model.proofs.Answering.{settled_as, said-ok, said-end, firm, listed}
 use Rattle.world_model.proofs.Logged.{op_at, Logged, start_logged, submitted_logged, pushed_logged, served_logged, took_logged}
 

@@ -1,19 +1,19 @@
 -- What the log of a run keeps, and that it makes the given file's order legal.
-use Rattle.std.proofs.Common.{◌≡◌, ◌≢◌, ◌⊎◌, inl, inr, ℕ, zero, suc, ◌+◌, ◌-◌, ◌<◌, ◌≤◌, ◌==◌, nat_lt, Bool, true, false, if◌then◌else◌, List, [], ◌∷◌, ◌++◌, length, refl, sym, ap, subst, ◌∙◌, arith, Option, Some, None, is_some, eq-eqb, eqb-true}
+use Rattle.std.proofs.Common.{◌≡◌, ◌≢◌, ◌⊎◌, inl, inr, ℕ, ◌+◌, ◌<◌, ◌≤◌, ◌==◌, nat_lt, Bool, true, false, if◌then◌else◌, List, [], ◌∷◌, ◌++◌, length, refl, sym, ap, subst, ◌∙◌, arith, Option, Some, None, is_some, eq-eqb, eqb-true}
 use Rattle.std.proofs.lemmas.Bool.{eqb-false}
 use Rattle.std.proofs.lemmas.Bool.Decides.{nat_tests}
 use Rattle.std.proofs.lemmas.Grind.{common_steps}
-use Rattle.exchange_defs.specs.Content.{ContentOp, ContentReply, effect, value, past_end, touches, is_listed}
-use Rattle.exchange_defs.specs.Order.{Said, Says_ok, Says_end, Settlement, Settled_ok, Settled_end, is_firm}
+use Rattle.exchange_defs.specs.Content.{ContentOp, ContentReply, effect, value, past_end, touches}
+use Rattle.exchange_defs.specs.Order.{Says_ok, Says_end, is_firm}
 use Rattle.world_model.specs.declared.operation.Op.{Op}
 use Rattle.world_model.specs.declared.operation.OpKind.{OpKind}
 use Rattle.world_model.specs.declared.operation.Outcome.{Outcome}
 use Rattle.world_model.specs.declared.table.Sent.{Sent}
 use Rattle.world_model.specs.Server.{Answer, answer, Reply, asked, said}
-use Rattle.world_model.specs.Exchange.{State, Request, Response, command_of, outcome_of, settlement_of, settlement_at, put, noted, takes, submitted, transmitted, pushed, served_with, served, outcome_by, settled_by, took, start}
+use Rattle.world_model.specs.Exchange.{State, Response, command_of, outcome_of, settlement_of, settlement_at, put, noted, takes, submitted, transmitted, pushed, served_with, served, outcome_by, settled_by, took, start}
 use Rattle.world_model.specs.Limits.{kind_at}
 use Rattle.world_model.specs.Shape.{Stage, Idle, Asking, Answering, sent_in, up_in, down_in, places_in, IsLowest, Shape}
-use Rattle.world_model.proofs.Counting.{outcome_of-counted, outcome_of-outside, outcome_of-push, outcome_of-push_other, is_some-counted, no_outcome}
+use Rattle.world_model.proofs.Counting.{outcome_of-outside, outcome_of-push, outcome_of-push_other, is_some-counted}
 use Rattle.world_model.proofs.Shape.{kind_at-push, request_in, response_in, pushed-idle, pushed-done, pushed-busy, served-asking, served-none, took-answering, took-none}
 use Rattle.world_model.proofs.Answering.{AnswerFacts, answer_facts, settled_as, settlement-outcome_by}
 

@@ -1,15 +1,14 @@
 -- Each event keeps the shape of a state, and a round settles one operation.
-use Rattle.std.proofs.Common.{◌≡◌, ℕ, zero, suc, ◌+◌, ◌-◌, ◌<◌, ◌≤◌, ◌==◌, ◌^◌, nat_lt, Bool, true, false, ◌&&◌, if◌then◌else◌, List, [], ◌∷◌, ◌++◌, length, get_or, refl, sym, ap, subst, ◌∙◌, arith, Option, Some, None, is_some, eq-eqb, length-append}
+use Rattle.std.proofs.Common.{◌≡◌, ℕ, zero, suc, ◌+◌, ◌-◌, ◌<◌, ◌≤◌, ◌==◌, ◌^◌, nat_lt, Bool, true, false, ◌&&◌, if◌then◌else◌, List, [], ◌∷◌, ◌++◌, length, get_or, refl, sym, ap, subst, ◌∙◌, arith, Some, None, is_some, eq-eqb}
 use Rattle.std.proofs.lemmas.Bool.Decides.{nat_tests}
 use Rattle.std.proofs.lemmas.Grind.{common_steps}
 use Rattle.world_model.specs.declared.operation.Op.{Op}
 use Rattle.world_model.specs.declared.operation.OpKind.{OpKind}
-use Rattle.world_model.specs.declared.operation.Outcome.{Outcome}
 use Rattle.world_model.specs.declared.network.WorldEvent.{WorldEvent}
 use Rattle.world_model.specs.declared.network.WorldEvent.TheVariants.{Submit, Push, Serve, Take}
 use Rattle.world_model.specs.declared.table.Sent.{Sent}
 use Rattle.world_model.specs.Server.{Answer, answer, Reply}
-use Rattle.world_model.specs.Exchange.{State, Request, Response, command_of, lowest_unsettled, takes, submitted, transmitted, pushed_lowest, pushed_where, pushed, served_with, served_front, served, outcome_by, settled_by, heard, taken_front, took, happens, start, run, rounds, settle, Move, Does, Settles, moves, play}
+use Rattle.world_model.specs.Exchange.{State, Request, Response, command_of, takes, submitted, transmitted, pushed_lowest, pushed_where, pushed, served_with, served_front, served, outcome_by, settled_by, heard, taken_front, took, happens, start, rounds, settle, Move, Does, Settles, moves, play}
 use Rattle.world_model.specs.Limits.{kind_at, no_kind, is_in_limits}
 use Rattle.world_model.specs.Shape.{Stage, Idle, Asking, Answering, sent_in, up_in, down_in, places_in, IsLowest, Suits, ReplySuits, CountsFrom, Shape}
 use Rattle.world_model.proofs.Suiting.{answer_suits}

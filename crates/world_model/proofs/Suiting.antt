@@ -1,11 +1,11 @@
 -- The answer to an operation suits it.
-use Rattle.std.proofs.Common.{◌≡◌, ℕ, ◌+◌, ◌<◌, ◌≤◌, ◌==◌, ◌^◌, nat_le, nat_lt, Bool, true, false, not, ◌&&◌, ◌||◌, if◌then◌else◌, List, length, take, drop, refl, arith, subst, sym}
+use Rattle.std.proofs.Common.{◌≡◌, ℕ, ◌<◌, ◌≤◌, ◌==◌, ◌^◌, nat_le, Bool, true, ◌&&◌, List, length, take, drop, arith}
 use Rattle.std.proofs.lemmas.Bool.Decides.{nat_tests}
 use Rattle.std.proofs.lemmas.Grind.{common_steps}
 use Rattle.world_model.specs.declared.operation.OpKind.{OpKind}
 use Rattle.world_model.specs.declared.operation.OpKind.TheVariants as kinds
-use Rattle.world_model.specs.declared.limits.TheConstants.{LARGEST_TRANSFER, LARGEST_ASKED}
-use Rattle.world_model.specs.Server.{Reply, Counts, Content, Refuses, Verdict, Bad_form, At_end, No_room, Success, check, answered, answer}
+use Rattle.world_model.specs.declared.limits.TheConstants.{LARGEST_ASKED}
+use Rattle.world_model.specs.Server.{Verdict, Bad_form, At_end, No_room, Success, check, answered, answer}
 use Rattle.world_model.specs.Exchange.{command_of}
 use Rattle.world_model.specs.Limits.{is_in_limits}
 use Rattle.world_model.specs.Shape.{Suits}

@@ -1,9 +1,9 @@
 -- Writing over bytes that are there, or behind the end.
-use Rattle.std.proofs.Common.{◌≡◌, ℕ, ◌+◌, ◌-◌, ◌<◌, ◌≤◌, ◌==◌, max, Bool, true, false, nat_lt, if◌then◌else◌, List, [], ◌∷◌, ◌++◌, refl, ap, ◌∙◌, length, get_or, take, drop, replicate, arith}
+use Rattle.std.proofs.Common.{◌≡◌, ℕ, ◌+◌, ◌-◌, ◌<◌, ◌≤◌, ◌==◌, max, Bool, true, false, if◌then◌else◌, List, [], ◌∷◌, ◌++◌, refl, ap, ◌∙◌, length, take, drop, replicate, arith}
 use Rattle.std.proofs.lemmas.Bool.Decides.{nat_tests}
 use Rattle.std.proofs.lemmas.List.{places}
 use Rattle.std.proofs.lemmas.Grind.{common_steps, same_number_lists}
-use Rattle.exchange_defs.specs.Content.{ContentOp, Write, Read, is_empty, written, effect, past_end, touches}
+use Rattle.exchange_defs.specs.Content.{is_empty, written}
 use Rattle.exchange_defs.proofs.Content.{written-empty, length-written, get_or-written}
 
 pub empty_by_length : (d : List ℕ) → is_empty d ≡ (length d == 0)

@@ -1,8 +1,8 @@
 -- One client, one server and the messages between them, over connection 0.
 --
 -- The client has at most one request outstanding. Each message travels whole: a list holds what its messages say.
-use Rattle.std.specs.Prelude.{◌≡◌, ℕ, zero, suc, ◌+◌, ◌-◌, ◌/◌, ◌==◌, nat_le, min, max, Bool, true, false, ◌&&◌, if◌then◌else◌, List, [], ◌∷◌, ◌++◌, length, slice_index_or, Option, Some, None, is_some}
-use Rattle.exchange_defs.specs.Content.{ContentOp, Counted, Gives}
+use Rattle.std.specs.Prelude.{ℕ, zero, suc, ◌+◌, ◌-◌, ◌/◌, ◌==◌, min, Bool, true, false, ◌&&◌, if◌then◌else◌, List, [], ◌∷◌, ◌++◌, length, Option, Some, None, is_some}
+use Rattle.exchange_defs.specs.Content.{Counted, Gives}
 use Rattle.exchange_defs.specs.Order.{Log, Settlement, Unsettled, Settled_ok, Settled_end, Settled_refused, Settled_unknown, Says_other, is_firm}
 use Rattle.world_model.specs.declared.operation.Op.{Op}
 use Rattle.world_model.specs.declared.operation.OpKind.{OpKind}
@@ -19,7 +19,7 @@ use Rattle.world_model.specs.declared.network.WorldEvent.TheVariants.{Submit, Pu
 use Rattle.world_model.specs.declared.network.WorldError.{WorldError}
 use Rattle.world_model.specs.declared.network.WorldError.TheVariants.{NoChannel, NothingThere}
 use Rattle.world_model.specs.declared.network.StepNote.{StepNote}
-use Rattle.world_model.specs.Server.{Command, Read_file, Write_file, Reply, Counts, Content, Refuses, Answer, answer, asked, said}
+use Rattle.world_model.specs.Server.{Command, Read_file, Write_file, Reply, Counts, Content, Refuses, Answer, answer, said}
 
 -- ---- what travels
 

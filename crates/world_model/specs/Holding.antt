@@ -1,6 +1,6 @@
 -- A World of the program holds a state of the model: the client's table and the file are the state's, and each list holds the
 -- bytes of the state's messages. The log's ghosts are the model's alone.
-use Rattle.std.specs.Prelude.{◌≡◌, ℕ, ◌+◌, ◌<◌, List, length, map, slice_index, slice_index_or, Option, None, vec_len}
+use Rattle.std.specs.Prelude.{◌≡◌, ℕ, ◌+◌, ◌<◌, List, length, map, slice_index, slice_index_or, None, vec_len}
 use Rattle.world_model.specs.declared.network.World.{World}
 use Rattle.world_model.specs.declared.network.Asked.{Asked}
 use Rattle.world_model.specs.declared.network.Told.{Told}

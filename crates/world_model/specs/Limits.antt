@@ -1,5 +1,5 @@
 -- The operations that the client takes.
-use Rattle.std.specs.Prelude.{◌≡◌, ℕ, ◌-◌, ◌==◌, nat_le, Bool, ◌&&◌, List, length, slice_index_or}
+use Rattle.std.specs.Prelude.{ℕ, ◌-◌, ◌==◌, nat_le, Bool, ◌&&◌, List, length, slice_index_or}
 use Rattle.world_model.specs.declared.operation.OpKind.{OpKind}
 use Rattle.world_model.specs.declared.operation.OpKind.TheVariants as kinds
 use Rattle.world_model.specs.declared.limits.TheConstants.{LARGEST_ASKED}

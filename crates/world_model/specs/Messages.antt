@@ -1,5 +1,5 @@
 -- How requests and responses are spelled: a header and a body behind it (MS-SMB2 2.2.1, 2.2.2, 2.2.19 to 2.2.22).
-use Rattle.std.specs.Prelude.{◌≡◌, ℕ, List, [], ◌∷◌, ◌++◌, replicate}
+use Rattle.std.specs.Prelude.{ℕ, List, ◌++◌, replicate}
 use Rattle.wire_defs.specs.declared.header.Header.{Header}
 use Rattle.wire_defs.specs.declared.message.ReadRequest.{ReadRequest}
 use Rattle.wire_defs.specs.Header.{header_spelling}
@@ -11,7 +11,7 @@ use Rattle.world_model.specs.declared.operation.OpKind.TheVariants as kinds
 use Rattle.world_model.specs.declared.limits.TheConstants.{CREDITS_ASKED}
 use Rattle.world_model.specs.declared.message.TheConstants.{READ, WRITE, FROM_SERVER}
 use Rattle.world_model.specs.Server.{Reply, Counts, Content, Refuses}
-use Rattle.world_model.specs.Exchange.{Request, Response, charge, status_of}
+use Rattle.world_model.specs.Exchange.{charge, status_of}
 
 -- the file's FileId and every signature
 abbrev pub zeros : List ℕ

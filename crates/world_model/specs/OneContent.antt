@@ -1,5 +1,5 @@
 -- The theorem's statement: in every run the given file's operations have a legal order, from the empty content to the file's.
-use Rattle.std.specs.Prelude.{◌≡◌, ℕ, Bool, true, List, [], is_some}
+use Rattle.std.specs.Prelude.{◌≡◌, ℕ, true, List, [], is_some}
 use Rattle.exchange_defs.specs.Order.{Account, Legal, order_of, count}
 use Rattle.world_model.specs.Server.{asked}
 use Rattle.world_model.specs.Exchange.{State, command_of, outcome_of, settlement_at}

@@ -1,5 +1,5 @@
 -- What each state of a run is like: the operations settle in the order of their numbers, and at most one message travels.
-use Rattle.std.specs.Prelude.{◌≡◌, ℕ, ◌+◌, ◌<◌, ◌≤◌, ◌^◌, Bool, true, List, [], ◌∷◌, length, Option, Some, None}
+use Rattle.std.specs.Prelude.{◌≡◌, ℕ, ◌+◌, ◌<◌, ◌≤◌, ◌^◌, true, List, [], ◌∷◌, length, Option, Some, None}
 use Rattle.world_model.specs.declared.operation.OpKind.{OpKind}
 use Rattle.world_model.specs.declared.operation.OpKind.TheVariants as kinds
 use Rattle.world_model.specs.declared.operation.Outcome.{Outcome}

@@ -1,4 +1,4 @@
-use Rattle.std.proofs.Common.{◌≡◌, ℕ, true, List, sym, subst, ◌∙◌, arith}
+use Rattle.std.proofs.Common.{◌≡◌, true, sym, subst, arith}
 use Rattle.wire_defs.specs.Read.{SpellsReadRequest}
 use Rattle.wire_defs.specs.Write.{SpellsWriteRequest}
 use Rattle.world_model.specs.declared.operation.OpKind.TheVariants as kinds

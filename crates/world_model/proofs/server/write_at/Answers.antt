@@ -1,4 +1,4 @@
-use Rattle.std.proofs.Common.{◌≡◌, ◌+◌, ◌<◌, ◌≤◌, ◌∙◌, length, drop, arith}
+use Rattle.std.proofs.Common.{◌<◌, ◌∙◌, length, drop, arith}
 use Rattle.std.proofs.lemmas.Bool.Decides.{nat_tests}
 use Rattle.world_model.proofs.Writing.{written_inside, written_grown, overwritten}
 use Rattle.world_model.proofs.server.write_at.Goals as goal

@@ -1,9 +1,9 @@
-use Rattle.std.proofs.Common.{◌≡◌, ℕ, ◌++◌, List, [], length, refl, subst, sym, ap, append-nil, arith}
-use Rattle.wire_defs.specs.Header.{SpellsHeader, header_spelling}
+use Rattle.std.proofs.Common.{◌++◌, [], refl, subst, append-nil, arith}
+use Rattle.wire_defs.specs.Header.{header_spelling}
 use Rattle.wire_defs.specs.Read.{SpellsReadRequest, read_request_spelling}
 use Rattle.wire_defs.specs.Write.{SpellsWriteRequest, write_request_spelling}
 use Rattle.world_model.specs.declared.operation.OpKind.TheVariants as kinds
-use Rattle.world_model.specs.Messages.{command_number, read_request_of, request_body, request_bytes, request_header, write_request_of}
+use Rattle.world_model.specs.Messages.{read_request_of, request_body, request_bytes, request_header, write_request_of}
 use Rattle.world_model.proofs.Fitting.{request_header_fits, read_limits, write_limits}
 use Rattle.world_model.proofs.spelling.request_law.Goals as goal
 

@@ -1,5 +1,5 @@
-use Rattle.std.proofs.Common.{◌≡◌, ℕ, ◌++◌, List, [], length, refl, subst, sym, ap, append-nil, arith}
-use Rattle.wire_defs.specs.Header.{SpellsHeader, header_spelling}
+use Rattle.std.proofs.Common.{◌++◌, [], refl, subst, append-nil, arith}
+use Rattle.wire_defs.specs.Header.{header_spelling}
 use Rattle.wire_defs.specs.Read.{SpellsReadResponse, ReadResponseValue, read_response_spelling}
 use Rattle.wire_defs.specs.Write.{SpellsWriteResponse, write_response_spelling}
 use Rattle.wire_defs.specs.declared.message.WriteResponse.{WriteResponse}

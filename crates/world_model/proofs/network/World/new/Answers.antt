@@ -1,5 +1,4 @@
-use Rattle.std.proofs.Common.{refl, arith, ap}
-use Rattle.std.proofs.lemmas.Grind.{common_steps}
+use Rattle.std.proofs.Common.{refl, arith}
 use Rattle.world_model.proofs.Shape.{start_shape}
 use Rattle.world_model.proofs.network.World.new.Goals as goal
 

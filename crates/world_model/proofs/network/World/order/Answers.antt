@@ -1,9 +1,6 @@
-use Rattle.std.proofs.Common.{◌≡◌, ◌<◌, true, false, if◌then◌else◌, List, ℕ, [], ◌∷◌, ◌++◌, refl, sym, ap, subst, ◌∙◌, arith}
+use Rattle.std.proofs.Common.{◌<◌, sym, ◌∙◌, arith}
 use Rattle.std.proofs.lemmas.Grind.{common_steps}
-use Rattle.exchange_defs.specs.Order.{order_from, order_of, is_at, placed}
-use Rattle.world_model.specs.Exchange.{State}
-use Rattle.world_model.specs.Holding.{Holds, mark_at}
-use Rattle.world_model.specs.OneContent.{account_of}
+use Rattle.exchange_defs.specs.Order.{order_from}
 use Rattle.world_model.proofs.Holding.{order_elsewhere, order_more, order_whole}
 use Rattle.world_model.proofs.network.World.order.Goals as goal
 use Rattle.world_model.proofs.network.World.order.Goals.{then-has_place+in_ok-push, else-has_place}

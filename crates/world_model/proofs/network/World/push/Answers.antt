@@ -1,5 +1,4 @@
-use Rattle.std.proofs.Common.{◌≡◌, ◌+◌, ◌<◌, ◌++◌, ◌∷◌, [], false, is_some, length, vec_len, refl, sym, ap, ◌∙◌, arith}
-use Rattle.world_model.specs.declared.network.Asked.{Asked}
+use Rattle.std.proofs.Common.{refl, sym, ◌∙◌, arith}
 use Rattle.world_model.proofs.Holding.{push_done, push_sent}
 use Rattle.world_model.proofs.network.World.push.Goals as goal
 

@@ -1,6 +1,4 @@
-use Rattle.std.proofs.Common.{◌≡◌, ◌<◌, ◌++◌, ◌∷◌, [], ℕ, length, vec_len, get_or, refl, sym, ap, ◌∙◌, arith, drop, if◌then◌else◌}
-use Rattle.world_model.specs.Holding.{mark_at}
-use Rattle.world_model.proofs.Writing.{take-whole}
+use Rattle.std.proofs.Common.{vec_len, refl, ◌∙◌, arith}
 use Rattle.world_model.proofs.Holding.{serve_holds, first_with, by_kept}
 use Rattle.world_model.proofs.network.World.serve.Goals as goal
 

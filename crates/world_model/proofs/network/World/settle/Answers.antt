@@ -1,5 +1,5 @@
-use Rattle.std.proofs.Common.{◌≡◌, ◌+◌, ◌-◌, length, subst, sym, ap, arith}
-use Rattle.world_model.specs.Exchange.{State, rounds, settle}
+use Rattle.std.proofs.Common.{◌≡◌, ◌+◌, ◌-◌, length, subst, ap, arith}
+use Rattle.world_model.specs.Exchange.{rounds, settle}
 use Rattle.world_model.specs.Holding.{Holds}
 use Rattle.world_model.proofs.Shape.{all_settled, rounds-more, rounds_shape, settle_settles}
 use Rattle.world_model.proofs.network.World.settle.Goals as goal

@@ -1,4 +1,4 @@
-use Rattle.std.proofs.Common.{◌≡◌, ◌-◌, ◌≤◌, length, vec_len}
+use Rattle.std.proofs.Common.{◌-◌}
 use Rattle.world_model.specs.Exchange.{State, rounds}
 use Rattle.world_model.specs.Holding.{Holds}
 use Rattle.world_model.proofs.network.World.settle.Given as goal

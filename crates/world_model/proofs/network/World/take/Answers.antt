@@ -1,6 +1,4 @@
-use Rattle.std.proofs.Common.{◌≡◌, ◌<◌, ◌++◌, ◌∷◌, [], ℕ, length, vec_len, get_or, refl, sym, ap, ◌∙◌, arith, drop, Some}
-use Rattle.world_model.specs.Holding.{mark_at}
-use Rattle.world_model.proofs.Writing.{take-whole}
+use Rattle.std.proofs.Common.{refl, ◌∙◌, arith}
 use Rattle.world_model.proofs.Holding.{take_holds, first_kept, by_with}
 use Rattle.world_model.proofs.network.World.take.Goals as goal
 

@@ -1,12 +1,11 @@
-use Rattle.std.proofs.Common.{◌≡◌, ℕ, ◌<◌, ◌^◌, true, List, refl, sym, subst, ap, ◌∙◌, arith, Option, Some, None, IfOk, OnOk}
+use Rattle.std.proofs.Common.{◌≡◌, ℕ, List, sym, subst, ap, arith, Option, Some, IfOk, OnOk}
 use Rattle.wire_defs.specs.declared.header.Header.{Header}
 use Rattle.wire_defs.specs.Header.{SpellsHeader}
 use Rattle.world_model.specs.declared.operation.OpKind.{OpKind}
 use Rattle.world_model.specs.Server.{answer}
 use Rattle.world_model.specs.Exchange.{command_of}
-use Rattle.world_model.specs.Limits.{is_in_limits}
-use Rattle.world_model.specs.Messages.{command_number, request_bytes, request_header}
-use Rattle.world_model.specs.Views.{Answers, IsCommand, command_view}
+use Rattle.world_model.specs.Messages.{request_bytes, request_header}
+use Rattle.world_model.specs.Views.{Answers}
 use Rattle.world_model.proofs.server.Server.respond.Goals as goal
 
 -- a request's header is read

@@ -1,11 +1,11 @@
-use Rattle.std.proofs.Common.{◌≡◌, ℕ, ◌<◌, ◌++◌, ◌∷◌, [], List, refl, sym, subst, ap, ◌∙◌, arith, Option, Some, None}
+use Rattle.std.proofs.Common.{◌≡◌, ℕ, ◌++◌, ◌∷◌, [], List, refl, sym, subst, ap, ◌∙◌, arith, Option, Some}
 use Rattle.wire_defs.specs.declared.header.Header.{Header}
 use Rattle.wire_defs.specs.Header.{SpellsHeader}
 use Rattle.world_model.specs.declared.operation.OpKind.{OpKind}
 use Rattle.world_model.specs.declared.operation.Outcome.{Outcome}
 use Rattle.world_model.specs.declared.table.Sent.{Sent}
 use Rattle.world_model.specs.Server.{Reply}
-use Rattle.world_model.specs.Exchange.{outcome_by, status_of}
+use Rattle.world_model.specs.Exchange.{status_of}
 use Rattle.world_model.specs.Messages.{request_header, response_bytes, response_header}
 use Rattle.world_model.proofs.table.Client.hear.Goals as goal
 
