@@ -199,13 +199,13 @@ fn faults_end_the_command(rt: HostRuntime) -> Result<(), Fail> {
         room: 7,
         faults: 0,
     };
-    assert_eq!(rt; smb311(alloc, words.as_slice(), &mut Endless, &mut drip), 5);
-    assert_eq!(rt; drip.taken.as_slice(), b"line 1 ".as_slice());
+    assert_eq!(rt; smb311(alloc, words.as_slice(), &mut source, &mut drip), 5);
+    assert_eq!(rt; drip.taken.as_slice(), b"file gi".as_slice());
     drip.room = 100;
-    assert_eq!(rt; smb311(alloc, &words[..0], &mut Endless, &mut drip), 2);
+    assert_eq!(rt; smb311(alloc, &words[..0], &mut source, &mut drip), 2);
     assert_eq!(rt;
         drip.taken.as_slice(),
-        b"line 1 usage: smb311 drill\n".as_slice()
+        b"file giusage: smb311 drill\n".as_slice()
     );
     Ok(())
 }
