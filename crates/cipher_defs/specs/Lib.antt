@@ -1,7 +1,11 @@
-pub mod Field
 pub mod Aes
 pub mod Blocks
-pub mod Cmac
 pub mod Ccm
-pub mod Ghash
+pub mod Cmac
+pub mod Field
 pub mod Gcm
+pub mod Ghash
+pub mod Hmac
+pub mod Kdf
+pub mod Md4
+pub mod Rc4
