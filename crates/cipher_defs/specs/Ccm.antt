@@ -1,6 +1,6 @@
 -- CCM of SP 800-38C over AES, with the formatting and the counter blocks of its appendix A.
 -- The nonce has n bytes, 7 to 13; the text's length stands in q = 15 - n bytes; the tag has t bytes, 4, 6 .. 16.
-use Rattle.std.specs.Prelude.{ℕ, ◌+◌, ◌-◌, ◌*◌, ◌/◌, ◌%◌, ◌^◌, List, [], ◌∷◌, ◌++◌, length, take, slice_index, nat_lt, nat_le, ◌==◌, if◌then◌else◌, bit_xor}
+use Rattle.std.specs.Prelude.{◌≡◌, ℕ, ◌+◌, ◌-◌, ◌*◌, ◌/◌, ◌%◌, ◌^◌, ◌≤◌, ◌<◌, List, [], ◌∷◌, ◌++◌, length, take, drop, slice_index, nat_lt, nat_le, ◌==◌, if◌then◌else◌, Option, Some, None}
 use Rattle.cipher_defs.specs.Aes.{sixteen, cipher}
 use Rattle.cipher_defs.specs.Blocks.{big_byte, block_count, chained, masked}
 
@@ -54,3 +54,29 @@ sealed ws nonce added text tag = ciphertext ws nonce text ++ tag_of ws nonce add
 -- the text under a ciphertext is masked once more
 abbrev pub plaintext : List (List ℕ) → List ℕ → List ℕ → List ℕ
 plaintext ws nonce masked_text = ciphertext ws nonce masked_text
+
+-- the lengths that the formatting has room for: of the nonce, of the tag and of the text (A.1)
+pub record IsFit (nonce : List ℕ) (text tag : ℕ) : Type 0 where
+  pub nonce_long : 7 ≤ length nonce
+  pub nonce_short : length nonce ≤ 13
+  pub tag_long : 4 ≤ tag
+  pub tag_short : tag ≤ 16
+  pub tag_even : tag % 2 ≡ 0
+  pub text_counted : text < 256 ^ (15 - length nonce)
+
+-- what stands before the tag, and the tag
+abbrev pub text_part : List ℕ → ℕ → List ℕ
+text_part s tag = take (length s - tag) s
+
+abbrev pub tag_part : List ℕ → ℕ → List ℕ
+tag_part s tag = drop (length s - tag) s
+
+-- there is a whole tag, and it is the one of the text under what stands before it (6.2, steps 1 to 10)
+pub record IsAuthentic (ws : List (List ℕ)) (nonce added s : List ℕ) (tag : ℕ) : Type 0 where
+  pub whole : tag ≤ length s
+  pub same : tag_part s tag ≡ tag_of ws nonce added (plaintext ws nonce (text_part s tag)) tag
+
+-- CCM's decryption: the text where the tag is right, and nothing otherwise (6.2)
+abbrev pub Opens : List (List ℕ) → List ℕ → List ℕ → List ℕ → ℕ → Option (List ℕ) → Type 0
+Opens ws nonce added s tag (Some text) = IsAuthentic ws nonce added s tag × (text ≡ plaintext ws nonce (text_part s tag))
+Opens ws nonce added s tag None = ¬ IsAuthentic ws nonce added s tag

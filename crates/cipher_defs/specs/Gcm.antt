@@ -1,5 +1,5 @@
 -- GCM and GMAC of SP 800-38D over AES, with a nonce of 12 bytes and a tag of 16.
-use Rattle.std.specs.Prelude.{ℕ, ◌+◌, ◌-◌, ◌*◌, List, [], ◌∷◌, ◌++◌, length, slice_index, nat_lt, if◌then◌else◌}
+use Rattle.std.specs.Prelude.{◌≡◌, ℕ, ◌+◌, ◌-◌, ◌*◌, ◌≤◌, List, [], ◌∷◌, ◌++◌, length, take, drop, slice_index, nat_lt, if◌then◌else◌, Option, Some, None}
 use Rattle.std.specs.Int.{w128, from_be_bytes, to_be_bytes}
 use Rattle.cipher_defs.specs.Aes.{sixteen, block_sum, cipher}
 use Rattle.cipher_defs.specs.Blocks.{big_byte, masked}
@@ -34,3 +34,20 @@ plaintext ws nonce masked_text = ciphertext ws nonce masked_text
 -- GMAC: the tag over the message as additional data, with no text (section 3 and 7.1)
 abbrev pub gmac : List (List ℕ) → List ℕ → List ℕ → List ℕ
 gmac ws nonce message = tag_of ws nonce message []
+
+-- what stands before the tag, and the tag
+abbrev pub text_part : List ℕ → List ℕ
+text_part s = take (length s - 16) s
+
+abbrev pub tag_part : List ℕ → List ℕ
+tag_part s = drop (length s - 16) s
+
+-- there is a whole tag, and it is the one of what stands before it (7.2, steps 1 to 8)
+pub record IsAuthentic (ws : List (List ℕ)) (nonce added s : List ℕ) : Type 0 where
+  pub whole : 16 ≤ length s
+  pub tag : tag_part s ≡ tag_of ws nonce added (text_part s)
+
+-- GCM's decryption: the text where the tag is right, and nothing otherwise (7.2)
+abbrev pub Opens : List (List ℕ) → List ℕ → List ℕ → List ℕ → Option (List ℕ) → Type 0
+Opens ws nonce added s (Some text) = IsAuthentic ws nonce added s × (text ≡ plaintext ws nonce (text_part s))
+Opens ws nonce added s None = ¬ IsAuthentic ws nonce added s
