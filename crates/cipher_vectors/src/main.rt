@@ -97,13 +97,19 @@ fn nonce_of(parts: &Parts) -> Result<[u8; 12]> {
 fn seal(alloc: Global, row: &Row<'_>, aes: &Aes, parts: &Parts) -> Result<Bytes> {
     let added = parts.added.as_slice();
     let text = parts.text.as_slice();
-    ensure!(added.len() < 1_000_000 && text.len() < 1_000_000, "too long");
+    ensure!(
+        added.len() < 1_000_000 && text.len() < 1_000_000,
+        "too long"
+    );
     if row.mode == "gcm" {
         let sealed = gcm_seal(alloc, aes, &nonce_of(parts)?, added, text)?;
         return Ok(sealed);
     }
     let nonce = parts.nonce.as_slice();
-    ensure!(ccm_fits(nonce, text.len(), row.tag), "lengths that do not fit");
+    ensure!(
+        ccm_fits(nonce, text.len(), row.tag),
+        "lengths that do not fit"
+    );
     let sealed = ccm_seal(alloc, aes, nonce, added, text, row.tag)?;
     Ok(sealed)
 }
@@ -116,7 +122,10 @@ fn open(
     sealed: &[u8],
 ) -> Result<Option<Bytes>> {
     let added = parts.added.as_slice();
-    ensure!(added.len() < 1_000_000 && sealed.len() < 1_000_000, "too long");
+    ensure!(
+        added.len() < 1_000_000 && sealed.len() < 1_000_000,
+        "too long"
+    );
     if row.mode == "gcm" {
         let opened = gcm_open(alloc, aes, &nonce_of(parts)?, added, sealed)?;
         return Ok(opened);
