@@ -1,3 +1,10 @@
+pub mod Aes
+pub mod Blocks
+pub mod Ccm
+pub mod Cmac
+pub mod Field
+pub mod Gcm
+pub mod Ghash
 pub mod Hmac
 pub mod Kdf
 pub mod Md4

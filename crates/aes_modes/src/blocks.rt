@@ -1,0 +1,126 @@
+//! What the modes share: blocks of bytes, the chain over them, masking block by block, and the comparison of tags.
+ghost use Rattle.std.specs.Prelude.{◌≡◌, ◌≤◌, ◌<◌, ◌*◌, ◌+◌, ◌-◌, ◌/◌, ◌++◌, ◌↔◌, IsTrue, length, take, min, slice_index, OnOk};
+ghost use Rattle.cipher_defs.specs.Aes.{block_sum};
+ghost use Rattle.cipher_defs.specs.Blocks.{block_at, block_count, chained};
+
+use aes_block::{Aes, block_sum_of};
+use std::alloc::AllocError;
+
+/// How many blocks the bytes fill, the last one perhaps in part.
+pub(crate) fn block_count_of(m: &[u8]) -> usize
+    ensures { result ≡ block_count m.now }
+{
+    m.len().div_ceil(16)
+}
+
+#[inline(always)]
+fn byte_or_zero(m: &[u8], i: usize) -> u8
+    ensures { result ≡ slice_index m.now i }
+{
+    if i < m.len() { m[i] } else { 0 }
+}
+
+#[inline(always)]
+#[tactic(auto, unfolding(cipher_defs::specs::Blocks::block_at))]
+fn whole_block_of(m: &[u8], i: usize) -> [u8; 16]
+    requires { 16 * i + 16 ≤ length m.now }
+    ensures { result ≡ block_at m.now i }
+{
+    [
+        m[16 * i],
+        m[16 * i + 1],
+        m[16 * i + 2],
+        m[16 * i + 3],
+        m[16 * i + 4],
+        m[16 * i + 5],
+        m[16 * i + 6],
+        m[16 * i + 7],
+        m[16 * i + 8],
+        m[16 * i + 9],
+        m[16 * i + 10],
+        m[16 * i + 11],
+        m[16 * i + 12],
+        m[16 * i + 13],
+        m[16 * i + 14],
+        m[16 * i + 15],
+    ]
+}
+
+#[tactic(auto, unfolding(cipher_defs::specs::Blocks::block_at))]
+fn part_of_block_of(m: &[u8], i: usize) -> [u8; 16]
+    requires { 16 * i ≤ length m.now }
+    ensures { result ≡ block_at m.now i }
+{
+    let rest = 16 * i;
+    [
+        byte_or_zero(m, rest),
+        byte_or_zero(m, rest + 1),
+        byte_or_zero(m, rest + 2),
+        byte_or_zero(m, rest + 3),
+        byte_or_zero(m, rest + 4),
+        byte_or_zero(m, rest + 5),
+        byte_or_zero(m, rest + 6),
+        byte_or_zero(m, rest + 7),
+        byte_or_zero(m, rest + 8),
+        byte_or_zero(m, rest + 9),
+        byte_or_zero(m, rest + 10),
+        byte_or_zero(m, rest + 11),
+        byte_or_zero(m, rest + 12),
+        byte_or_zero(m, rest + 13),
+        byte_or_zero(m, rest + 14),
+        byte_or_zero(m, rest + 15),
+    ]
+}
+
+/// Block i, filled with zeros where the bytes end.
+#[inline(always)]
+pub(crate) fn block_of(m: &[u8], i: usize) -> [u8; 16]
+    requires { 16 * i ≤ length m.now }
+    ensures { result ≡ block_at m.now i }
+{
+    if m.len() - 16 * i >= 16 {
+        whole_block_of(m, i)
+    } else {
+        part_of_block_of(m, i)
+    }
+}
+
+/// The chain from `start` over the first blocks.
+pub(crate) fn chain_of(aes: &Aes, start: &[u8; 16], m: &[u8], blocks: usize) -> [u8; 16]
+    requires { 16 * blocks ≤ length m.now + 15 }
+    ensures { result ≡ chained aes.now start.now m.now blocks }
+{
+    let mut s = *start;
+    for i in 0..blocks {
+        s = aes.encrypt_block(&block_sum_of(&s, &block_of(m, i)));
+    }
+    s
+}
+
+/// Adds block i of the text, as far as the text goes, under `key`.
+#[inline(always)]
+pub(crate) fn push_masked_block(
+    out: &mut Vec<u8>,
+    text: &[u8],
+    i: usize,
+    key: &[u8; 16],
+) -> Result<(), AllocError>
+    requires { 16 * i ≤ length text.now }
+    ensures { OnOk result (out.new.items ≡ out.old.items ++ take (min (length text.now - 16 * i) 16) (block_sum (block_at text.now i) key.now)) }
+{
+    let masked = block_sum_of(&block_of(text, i), key);
+    let count = (text.len() - 16 * i).min(16);
+    out.extend_from_slice(&masked[..count])
+}
+
+/// Whether two tags are the same. It takes the same time whatever they are.
+pub(crate) fn is_same(a: &[u8], b: &[u8]) -> bool
+    requires { length a.now ≡ length b.now }
+    ensures { IsTrue result ↔ (a.now ≡ b.now) }
+{
+    let mut differing = 0;
+    for i in 0..a.len() {
+        differing |= a[i] ^ b[i];
+    }
+    differing == 0
+}

@@ -1,0 +1,130 @@
+//! GCM and GMAC with a nonce of 12 bytes and a tag of 16 (SP 800-38D).
+ghost use Rattle.std.specs.Prelude.{◌≡◌, ◌<◌, ◌≤◌, ◌+◌, ◌-◌, ◌^◌, length, IfOk};
+ghost use Rattle.cipher_defs.specs.Gcm.{counter_block, hash_key, ciphertext, tag_of, sealed, Opens, gmac};
+
+use crate::blocks::{block_count_of, is_same, push_masked_block};
+use crate::hash::Table;
+use aes_block::{Aes, block_sum_of};
+use smb_bytes::Bytes;
+use std::alloc::{AllocError, Global};
+
+/// The nonce and a number in four bytes.
+#[inline(always)]
+#[tactic(auto, unfolding(cipher_defs::specs::Gcm::counter_block))]
+fn counter_block_of(nonce: &[u8; 12], i: u32) -> [u8; 16]
+    ensures { result ≡ counter_block nonce.now i }
+{
+    let n = nonce;
+    [
+        n[0],
+        n[1],
+        n[2],
+        n[3],
+        n[4],
+        n[5],
+        n[6],
+        n[7],
+        n[8],
+        n[9],
+        n[10],
+        n[11],
+        ((i >> 24) % 256) as u8,
+        ((i >> 16) % 256) as u8,
+        ((i >> 8) % 256) as u8,
+        (i % 256) as u8,
+    ]
+}
+
+/// The text under the counter blocks from 2 on, in a vector with `room` bytes more.
+fn ciphertext_of(
+    alloc: Global,
+    aes: &Aes,
+    nonce: &[u8; 12],
+    text: &[u8],
+    room: usize,
+) -> Result<Vec<u8>, AllocError>
+    requires text { length text.now < 2 ^ 36 - 31 }
+    requires room { room ≤ 16 }
+    ensures text { IfOk result (λ v. v.items ≡ ciphertext aes.now nonce.now text.now) }
+    ensures len { IfOk result (λ v. length v.items ≡ length text.now) }
+{
+    let mut out = Vec::with_capacity(alloc, text.len() + room)?;
+    for i in 0..block_count_of(text) {
+        let key = aes.encrypt_block(&counter_block_of(nonce, (i + 2) as u32));
+        push_masked_block(&mut out, text, i, &key)?;
+    }
+    Ok(out)
+}
+
+#[tactic(auto, unfolding(cipher_defs::specs::Gcm::hash_key))]
+fn table_of(aes: &Aes) -> Table
+    ensures { result.h ≡ hash_key aes.now }
+{
+    Table::new(u128::from_be_bytes(aes.encrypt_block(&[0; 16])))
+}
+
+fn tag_of_sealed(aes: &Aes, nonce: &[u8; 12], added: &[u8], sealed: &[u8]) -> [u8; 16]
+    requires added { length added.now < 2 ^ 61 }
+    requires sealed { length sealed.now < 2 ^ 61 }
+    ensures { result ≡ tag_of aes.now nonce.now added.now sealed.now }
+{
+    let hash = table_of(aes).ghash_of(added, sealed);
+    let mask = aes.encrypt_block(&counter_block_of(nonce, 1));
+    block_sum_of(&hash.to_be_bytes(), &mask)
+}
+
+/// The text, sealed together with the additional data: the ciphertext and then the tag of 16 bytes
+/// (SP 800-38D, 7.1). Seal nothing twice under one key and nonce.
+#[tactic(auto, unfolding(cipher_defs::specs::Gcm::sealed))]
+pub fn gcm_seal(
+    alloc: Global,
+    aes: &Aes,
+    nonce: &[u8; 12],
+    added: &[u8],
+    text: &[u8],
+) -> Result<Bytes, AllocError>
+    requires added { length added.now < 2 ^ 61 }
+    requires text { length text.now < 2 ^ 36 - 31 }
+    ensures { IfOk result (λ b. b ≡ sealed aes.now nonce.now added.now text.now) }
+{
+    let mut out = ciphertext_of(alloc, aes, nonce, text, 16)?;
+    let tag = tag_of_sealed(aes, nonce, added, &out);
+    out.extend_from_slice(&tag)?;
+    Ok(Bytes::from_vec(out))
+}
+
+/// The text that was sealed, or `None` exactly where there are fewer than 16 bytes or the tag is not
+/// the one of the ciphertext and the additional data (SP 800-38D, 7.2). The tag is compared before
+/// anything is deciphered.
+pub fn gcm_open(
+    alloc: Global,
+    aes: &Aes,
+    nonce: &[u8; 12],
+    added: &[u8],
+    sealed: &[u8],
+) -> Result<Option<Bytes>, AllocError>
+    requires added { length added.now < 2 ^ 61 }
+    requires sealed { length sealed.now < 2 ^ 36 - 15 }
+    ensures { IfOk result (λ o. Opens aes.now nonce.now added.now sealed.now o) }
+{
+    if sealed.len() < 16 {
+        return Ok(None);
+    }
+    let count = sealed.len() - 16;
+    let ciphertext = &sealed[..count];
+    let tag = tag_of_sealed(aes, nonce, added, ciphertext);
+    if !is_same(&tag, &sealed[count..]) {
+        return Ok(None);
+    }
+    let text = ciphertext_of(alloc, aes, nonce, ciphertext, 0)?;
+    Ok(Some(Bytes::from_vec(text)))
+}
+
+/// The tag of a message under GMAC: GCM's over the message as additional data and no text
+/// (SP 800-38D, 3). It takes no memory.
+pub fn gmac(aes: &Aes, nonce: &[u8; 12], message: &[u8]) -> [u8; 16]
+    requires { length message.now < 2 ^ 61 }
+    ensures { result ≡ gmac aes.now nonce.now message.now }
+{
+    tag_of_sealed(aes, nonce, message, &[])
+}

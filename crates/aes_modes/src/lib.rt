@@ -1,0 +1,18 @@
+//! The modes of AES that SMB signs and seals with: CMAC (SP 800-38B), CCM (SP 800-38C), GCM and GMAC (SP 800-38D).
+#![tactic(auto)]
+
+mod blocks;
+mod ccm;
+mod gcm;
+mod hash;
+mod laws;
+mod mac;
+mod prefix;
+
+pub use ccm::{ccm_fits, ccm_open, ccm_seal};
+pub use gcm::{gcm_open, gcm_seal, gmac};
+pub use laws::{ccm_law, gcm_law};
+pub use mac::cmac;
+
+#[cfg(test)]
+mod tests;

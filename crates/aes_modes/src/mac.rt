@@ -1,0 +1,77 @@
+//! CMAC (SP 800-38B, section 6).
+ghost use Rattle.std.specs.Prelude.{◌≡◌, ◌≤◌, ◌<◌, ◌*◌, ◌+◌, length, nat_lt, ◌==◌, if◌then◌else◌, slice_index};
+ghost use Rattle.cipher_defs.specs.Cmac.{doubled_block, first_subkey, padded, cmac};
+
+use crate::blocks::chain_of;
+use aes_block::{Aes, block_sum_of};
+
+/// x times a block, as an element of GF(2^128) with the highest bit first.
+#[tactic(auto, unfolding(cipher_defs::specs::Cmac::doubled_block))]
+fn doubled_block_of(block: [u8; 16]) -> [u8; 16]
+    ensures { result ≡ doubled_block block }
+{
+    let n = u128::from_be_bytes(block);
+    let low = if n >> 127 == 1 { 135 } else { 0 };
+    ((n << 1) ^ low).to_be_bytes()
+}
+
+#[tactic(auto, unfolding(cipher_defs::specs::Cmac::first_subkey))]
+fn first_subkey_of(aes: &Aes) -> [u8; 16]
+    ensures { result ≡ first_subkey aes.now }
+{
+    doubled_block_of(aes.encrypt_block(&[0; 16]))
+}
+
+fn padded_byte(rest: &[u8], i: usize) -> u8
+    ensures { result ≡ (if nat_lt i (length rest.now) then slice_index rest.now i else if i == length rest.now then 128 else 0) }
+{
+    if i < rest.len() {
+        rest[i]
+    } else if i == rest.len() {
+        128
+    } else {
+        0
+    }
+}
+
+/// The last bytes, a bit 1 and then zeros.
+#[tactic(auto, unfolding(cipher_defs::specs::Cmac::padded))]
+fn padded_of(rest: &[u8]) -> [u8; 16]
+    ensures { result ≡ padded rest.now }
+{
+    [
+        padded_byte(rest, 0),
+        padded_byte(rest, 1),
+        padded_byte(rest, 2),
+        padded_byte(rest, 3),
+        padded_byte(rest, 4),
+        padded_byte(rest, 5),
+        padded_byte(rest, 6),
+        padded_byte(rest, 7),
+        padded_byte(rest, 8),
+        padded_byte(rest, 9),
+        padded_byte(rest, 10),
+        padded_byte(rest, 11),
+        padded_byte(rest, 12),
+        padded_byte(rest, 13),
+        padded_byte(rest, 14),
+        padded_byte(rest, 15),
+    ]
+}
+
+/// The tag of a message under CMAC, 16 bytes (SP 800-38B, 6.2). It takes no memory.
+#[tactic(auto, unfolding(cipher_defs::specs::Cmac::cmac, cipher_defs::specs::Cmac::last_block, cipher_defs::specs::Cmac::second_subkey))]
+pub fn cmac(aes: &Aes, m: &[u8]) -> [u8; 16]
+    ensures { result ≡ cmac aes.now m.now }
+{
+    let before = m.len().saturating_sub(1) / 16;
+    let rest = &m[16 * before..];
+    let first = first_subkey_of(aes);
+    let last = if rest.len() == 16 {
+        block_sum_of(&padded_of(rest), &first)
+    } else {
+        block_sum_of(&padded_of(rest), &doubled_block_of(first))
+    };
+    let chain = chain_of(aes, &[0; 16], m, before);
+    aes.encrypt_block(&block_sum_of(&chain, &last))
+}

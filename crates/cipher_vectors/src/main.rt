@@ -1,0 +1,198 @@
+//! Computes what each line of the input asks of a mode of AES, and opens again what it sealed. A line is the
+//! mode, and the lengths of key, nonce, additional data, text and tag; the output adds the result in
+//! hexadecimal digits, or its SHA-256 where it is long. The expected output was written by another implementation.
+#![tactic(auto)]
+
+use aes_block::Aes;
+use aes_modes::{ccm_fits, ccm_open, ccm_seal, cmac, gcm_open, gcm_seal, gmac};
+use anyhow::{Context, Result, bail, ensure};
+use sha2::{Digest, Sha256};
+use smb_bytes::Bytes;
+use std::alloc::Global;
+
+/// What a line asks for: lengths in bytes.
+#[derive(Drop)]
+struct Row<'a> {
+    mode: &'a str,
+    key: usize,
+    nonce: usize,
+    added: usize,
+    text: usize,
+    tag: usize,
+}
+
+fn row_of(line: &str) -> Result<Row<'_>> {
+    let mut words = line.split_whitespace();
+    let mode = words.next().context("no mode")?;
+    let key = words.next().context("no key")?.parse::<usize>()?;
+    let nonce = words.next().context("no nonce")?.parse::<usize>()?;
+    let added = words.next().context("no data")?.parse::<usize>()?;
+    let text = words.next().context("no text")?.parse::<usize>()?;
+    let tag = words.next().context("no tag")?.parse::<usize>()?;
+    Ok(Row {
+        mode,
+        key,
+        nonce,
+        added,
+        text,
+        tag,
+    })
+}
+
+/// The first bytes of the numbers square * i * i + step * i + first, modulo a number.
+fn pattern(
+    alloc: Global,
+    count: usize,
+    square: u32,
+    step: u32,
+    first: u32,
+    modulus: u32,
+) -> Result<Vec<u8>> {
+    let mut bytes = Vec::new(alloc);
+    for i in 0..count {
+        let n = u32::try_from(i)?;
+        let value = square
+            .wrapping_mul(n)
+            .wrapping_mul(n)
+            .wrapping_add(step.wrapping_mul(n))
+            .wrapping_add(first);
+        let byte = value.checked_rem(modulus).context("no modulus")?;
+        bytes.push(u8::try_from(byte)?)?;
+    }
+    Ok(bytes)
+}
+
+fn aes_of(alloc: Global, row: &Row<'_>) -> Result<Aes> {
+    let key = pattern(alloc, row.key, 0, 7, 3, 256)?;
+    if let Ok(short) = <[u8; 16]>::try_from(key.as_slice()) {
+        Ok(Aes::new_128(&short))
+    } else if let Ok(long) = <[u8; 32]>::try_from(key.as_slice()) {
+        Ok(Aes::new_256(&long))
+    } else {
+        bail!("a key of another length")
+    }
+}
+
+/// The bytes that a mode seals, and what is sealed with them.
+#[derive(Drop)]
+struct Parts {
+    nonce: Vec<u8>,
+    added: Vec<u8>,
+    text: Vec<u8>,
+}
+
+fn parts_of(alloc: Global, row: &Row<'_>) -> Result<Parts> {
+    Ok(Parts {
+        nonce: pattern(alloc, row.nonce, 0, 11, 2, 256)?,
+        added: pattern(alloc, row.added, 0, 3, 9, 256)?,
+        text: pattern(alloc, row.text, 1, 5, 1, 251)?,
+    })
+}
+
+fn nonce_of(parts: &Parts) -> Result<[u8; 12]> {
+    let nonce = <[u8; 12]>::try_from(parts.nonce.as_slice()).ok();
+    nonce.context("a nonce of another length")
+}
+
+fn seal(alloc: Global, row: &Row<'_>, aes: &Aes, parts: &Parts) -> Result<Bytes> {
+    let added = parts.added.as_slice();
+    let text = parts.text.as_slice();
+    ensure!(
+        added.len() < 1_000_000 && text.len() < 1_000_000,
+        "too long"
+    );
+    if row.mode == "gcm" {
+        let sealed = gcm_seal(alloc, aes, &nonce_of(parts)?, added, text)?;
+        return Ok(sealed);
+    }
+    let nonce = parts.nonce.as_slice();
+    ensure!(
+        ccm_fits(nonce, text.len(), row.tag),
+        "lengths that do not fit"
+    );
+    let sealed = ccm_seal(alloc, aes, nonce, added, text, row.tag)?;
+    Ok(sealed)
+}
+
+fn open(
+    alloc: Global,
+    row: &Row<'_>,
+    aes: &Aes,
+    parts: &Parts,
+    sealed: &[u8],
+) -> Result<Option<Bytes>> {
+    let added = parts.added.as_slice();
+    ensure!(
+        added.len() < 1_000_000 && sealed.len() < 1_000_000,
+        "too long"
+    );
+    if row.mode == "gcm" {
+        let opened = gcm_open(alloc, aes, &nonce_of(parts)?, added, sealed)?;
+        return Ok(opened);
+    }
+    let nonce = parts.nonce.as_slice();
+    let count = sealed.len().saturating_sub(row.tag);
+    ensure!(ccm_fits(nonce, count, row.tag), "lengths that do not fit");
+    let opened = ccm_open(alloc, aes, nonce, added, sealed, row.tag)?;
+    Ok(opened)
+}
+
+/// Whether what was sealed opens to its text, and does not with its last byte changed or cut off.
+fn opens_again(
+    alloc: Global,
+    row: &Row<'_>,
+    aes: &Aes,
+    parts: &Parts,
+    sealed: &[u8],
+) -> Result<bool> {
+    let Some((last, front)) = sealed.split_last() else {
+        return Ok(false);
+    };
+    let mut changed = Vec::from_slice(alloc, front)?;
+    changed.push(*last ^ 1)?;
+    let same = match open(alloc, row, aes, parts, sealed)? {
+        Some(text) => text.as_slice() == parts.text.as_slice(),
+        None => false,
+    };
+    let with_changed = open(alloc, row, aes, parts, changed.as_slice())?;
+    let cut = open(alloc, row, aes, parts, front)?;
+    Ok(same && with_changed.is_none() && cut.is_none())
+}
+
+/// The result of a line, in hexadecimal digits, or its SHA-256 where it is long.
+fn shown(alloc: Global, bytes: &[u8]) -> Result<String> {
+    if bytes.len() < 1000 {
+        return Ok(hex::encode(alloc, bytes)?);
+    }
+    let digits = hex::encode(alloc, Sha256::digest(bytes))?;
+    Ok(format!(in alloc; "sha256 {digits}")?)
+}
+
+fn answer(alloc: Global, line: &str) -> Result<String> {
+    let row = row_of(line)?;
+    let aes = aes_of(alloc, &row)?;
+    let parts = parts_of(alloc, &row)?;
+    if row.mode == "cmac" {
+        return shown(alloc, &cmac(&aes, parts.text.as_slice()));
+    }
+    if row.mode == "gmac" {
+        let text = parts.text.as_slice();
+        ensure!(text.len() < 1_000_000, "too long");
+        return shown(alloc, &gmac(&aes, &nonce_of(&parts)?, text));
+    }
+    let sealed = seal(alloc, &row, &aes, &parts)?;
+    ensure!(
+        opens_again(alloc, &row, &aes, &parts, sealed.as_slice())?,
+        "it does not open again"
+    );
+    shown(alloc, sealed.as_slice())
+}
+
+fn main(rt: HostRuntime) -> Result<()> {
+    for line in rt.lines(rt.alloc()) {
+        let line = line?;
+        let result = answer(rt.alloc(), line.as_str())?;
+        println!(rt; "{line} {result}")?;
+    }
+    Ok(())
+}
