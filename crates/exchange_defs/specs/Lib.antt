@@ -1,3 +1,5 @@
 pub mod Table
 pub mod Status
 pub mod Texts
+pub mod Commands
+pub mod State
