@@ -51,6 +51,7 @@ pub data Shows : Type 0 where
   Logon : (user : List ℕ) (key : ℕ) → Shows -- a logon of this user, with its exported key
 
 pub record SetupRequest : Type 0 where
+  pub readable : Bool           -- its body reads
   pub binding : Bool
   pub signed : Bool             -- it carries a signature
   pub verified : Bool           -- it is the session's own
@@ -108,7 +109,7 @@ pub data Command : Type 0 where
   TreeConnect : (share : List ℕ) → Command
   TreeDisconnect : Command
   Create : (request : CreateRequest) → Command
-  Close : (file : ℕ) → Command
+  Close : (file : ℕ) (query : Bool) → Command   -- whether it asks for the file's times and lengths
   Flush : (file : ℕ) → Command
   Read : (file at size minimum channel : ℕ) → Command
   Write : (file at : ℕ) (bytes : List ℕ) (channel : ℕ) → Command
@@ -153,12 +154,12 @@ setting_form (SetEnd size) = None
 abbrev pub form : Command → Option ℕ
 form (Unreadable status) = Some status
 form Negotiate = None
-form (Setup request) = None
+form (Setup request) = if request.readable then None else Some invalid_parameter
 form Logoff = None
 form (TreeConnect share) = None
 form TreeDisconnect = None
 form (Create request) = create_form request
-form (Close file) = None
+form (Close file query) = None
 form (Flush file) = None
 form (Read file at size minimum channel) = transfer_form at size channel
 form (Write file at bytes channel) = transfer_form at (length bytes) channel
@@ -179,7 +180,7 @@ is_setup Logoff = false
 is_setup (TreeConnect share) = false
 is_setup TreeDisconnect = false
 is_setup (Create request) = false
-is_setup (Close file) = false
+is_setup (Close file query) = false
 is_setup (Flush file) = false
 is_setup (Read file at size minimum channel) = false
 is_setup (Write file at bytes channel) = false
