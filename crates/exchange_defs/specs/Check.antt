@@ -21,10 +21,6 @@ on_open s m o v = if is_of_session s o m.session then v else Refuse file_closed
 -- behind check 4, with whether the tree is that of the pipes
 abbrev pub tree_command : Server → Message → Bool → Command → Verdict
 tree_command s m pipes (Unreadable status) = Refuse status
-tree_command s m pipes Negotiate = Give Empty
-tree_command s m pipes (Setup request) = Give Empty
-tree_command s m pipes Logoff = Give Empty
-tree_command s m pipes (TreeConnect share) = Give Empty
 tree_command s m pipes TreeDisconnect = DropTree
 tree_command s m pipes (Create request) = create_check s m request pipes
 tree_command s m pipes (Close o query) = on_open s m o (close_check s o query)
@@ -37,7 +33,7 @@ tree_command s m pipes (ListDirectory o class restart single pattern room) = on_
 tree_command s m pipes (QueryFile o class room) = on_open s m o (file_query_check s o class room)
 tree_command s m pipes (QueryVolume o class room) = on_open s m o (volume_query_check o class room)
 tree_command s m pipes (SetInfo o setting) = on_open s m o (set_check s m o setting)
-tree_command s m pipes Echo = Give Empty
+tree_command s m pipes _ = Give Empty
 
 -- check 4: the tree is there
 abbrev pub in_tree : Server → Message → Option Bool → Verdict
@@ -54,19 +50,8 @@ command_check s m Negotiate = Give Empty
 command_check s m (Setup request) = setup_check s m request
 command_check s m Logoff = EndSession m.session false
 command_check s m (TreeConnect share) = tree_check s m share
-command_check s m TreeDisconnect = with_tree s m
-command_check s m (Create request) = with_tree s m
-command_check s m (Close o query) = with_tree s m
-command_check s m (Flush o) = with_tree s m
-command_check s m (Read o at size minimum channel) = with_tree s m
-command_check s m (Write o at bytes channel) = with_tree s m
-command_check s m (Lock o index number elements) = with_tree s m
-command_check s m (Ioctl o code room) = with_tree s m
-command_check s m (ListDirectory o class restart single pattern room) = with_tree s m
-command_check s m (QueryFile o class room) = with_tree s m
-command_check s m (QueryVolume o class room) = with_tree s m
-command_check s m (SetInfo o setting) = with_tree s m
 command_check s m Echo = Give Empty
+command_check s m _ = with_tree s m
 
 -- check 3: the body reads and keeps its form
 abbrev pub formed : Server → Message → Option ℕ → Verdict

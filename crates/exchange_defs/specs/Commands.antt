@@ -145,49 +145,22 @@ abbrev pub room_form : ℕ → Option ℕ
 room_form room = if nat_lt 1048576 room then Some invalid_parameter else None
 
 abbrev pub setting_form : Setting → Option ℕ
-setting_form (SetBasic basic) = None
 setting_form (Rename replace path) = path_form path
-setting_form (SetDelete marked) = None
-setting_form (SetAllocation size) = None
-setting_form (SetEnd size) = None
+setting_form _ = None
 
 abbrev pub form : Command → Option ℕ
 form (Unreadable status) = Some status
-form Negotiate = None
 form (Setup request) = if request.readable then None else Some invalid_parameter
-form Logoff = None
-form (TreeConnect share) = None
-form TreeDisconnect = None
 form (Create request) = create_form request
-form (Close file query) = None
-form (Flush file) = None
 form (Read file at size minimum channel) = transfer_form at size channel
 form (Write file at bytes channel) = transfer_form at (length bytes) channel
 form (Lock file index number elements) = lock_form elements
 form (Ioctl file code room) = room_form room
 form (ListDirectory file class restart single pattern room) = room_form room
-form (QueryFile file class room) = None
-form (QueryVolume file class room) = None
 form (SetInfo file setting) = setting_form setting
-form Echo = None
+form _ = None
 
 -- SESSION_SETUP alone comes before a session is there
 abbrev pub is_setup : Command → Bool
-is_setup (Unreadable status) = false
-is_setup Negotiate = false
 is_setup (Setup request) = true
-is_setup Logoff = false
-is_setup (TreeConnect share) = false
-is_setup TreeDisconnect = false
-is_setup (Create request) = false
-is_setup (Close file query) = false
-is_setup (Flush file) = false
-is_setup (Read file at size minimum channel) = false
-is_setup (Write file at bytes channel) = false
-is_setup (Lock file index number elements) = false
-is_setup (Ioctl file code room) = false
-is_setup (ListDirectory file class restart single pattern room) = false
-is_setup (QueryFile file class room) = false
-is_setup (QueryVolume file class room) = false
-is_setup (SetInfo file setting) = false
-is_setup Echo = false
+is_setup _ = false

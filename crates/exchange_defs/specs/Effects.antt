@@ -15,17 +15,26 @@ use Rattle.exchange_defs.specs.Verdict.{Verdict, Refuse, Give, KeepRefusal, Repe
 
 -- ---- answers
 
-abbrev pub answered : Server → Message → ℕ → Body → List Record → Bool → Answer
-answered s m status body records acted = record { server = s; reply = record { status = status; session = m.session; tree = m.tree; body = body }; records = records; acted = acted }
+abbrev pub answered : Server → Message → ℕ → Body → List Record → Bool → Option ℕ → Answer
+answered s m status body records acted reached =
+    record { server = s; reply = record { status = status; session = m.session; tree = m.tree; body = body }; records = records; acted = acted; reached = reached; altered = None }
 
--- nothing in the answer's files, opens and ranges changed
+-- no record is owed, and nothing in the files, the set of opens and the ranges changed
 abbrev pub quiet : Server → Message → ℕ → Body → Answer
-quiet s m status body = answered s m status body [] false
+quiet s m status body = answered s m status body [] false None
 
 -- ---- the sequence of an open: a newer one is adopted
 
 abbrev pub reach : Server → Message → ℕ → Server
 reach s m o = if is_late s m o then s else record s { sequence = put s.sequence o m.sequence }
+
+-- the open that the sequence reached
+abbrev pub reaches : Server → Message → ℕ → Option ℕ
+reaches s m o = if is_late s m o then None else Some o
+
+-- as quiet, of a request that came to its open's sequence
+abbrev pub quiet_on : Server → Message → ℕ → ℕ → Body → Answer
+quiet_on s m o status body = answered (reach s m o) m status body [] false (reaches s m o)
 
 -- ---- creates
 
@@ -44,6 +53,9 @@ attach s m o =
 
 abbrev pub attached : Server → Message → ℕ → Server
 attached s m o = if is_some (s.at o) then s else attach s m o
+
+abbrev pub attaches : Server → ℕ → Option ℕ
+attaches s o = if is_some (s.at o) then None else Some o
 
 -- DH2Q's timeout: 0 counts as a minute, more than five as five
 unfoldable pub timeout_of : ℕ → ℕ
@@ -119,7 +131,7 @@ create_records s m r found action now =
 
 abbrev pub made : Server → Message → CreateRequest → Option ℕ → ℕ → ℕ → Answer
 made s m r found action now =
-    let t = make_open s m r found action now in answered t m success (create_reply t (next_open s) r action) (create_records s m r found action now) true
+    let t = make_open s m r found action now in answered t m success (create_reply t (next_open s) r action) (create_records s m r found action now) true (Some (next_open s))
 
 -- ---- locks
 
@@ -284,34 +296,47 @@ abbrev pub apply : Server → Message → ℕ → Verdict → Answer
 apply s m now (Refuse status) = quiet s m status Empty
 apply s m now (Give body) = quiet s m success body
 apply s m now (KeepRefusal guid status) = quiet (keep_refusal s m.session guid status) m status Empty
-apply s m now (Repeat o r) = quiet (attached s m o) m success (create_reply s o r (s.opened o).action)
-apply s m now (Attach o r) = quiet (attached s m o) m success (create_reply s o r 1)
+apply s m now (Repeat o r) = answered (attached s m o) m success (create_reply s o r (s.opened o).action) [] false (attaches s o)
+apply s m now (Attach o r) = answered (attached s m o) m success (create_reply s o r 1) [] false (attaches s o)
 apply s m now (Make r found action) = made s m r found action now
-apply s m now (TurnDown o status) = quiet (reach s m o) m status Empty
-apply s m now (Tell o body) = quiet (reach s m o) m success body
-apply s m now (Show o last body) = quiet (record (reach s m o) { listed = put s.listed o last }) m success body
-apply s m now (KeepSlot o index number status elements) = answered (keep_slot (reach s m o) o index number status) m status Empty (lock_records s m o index number status elements) false
+apply s m now (TurnDown o status) = quiet_on s m o status Empty
+apply s m now (Tell o body) = quiet_on s m o success body
+apply s m now (Show o last body) = answered (record (reach s m o) { listed = put s.listed o last }) m success body [] false (reaches s m o)
+apply s m now (KeepSlot o index number status elements) =
+    answered (keep_slot (reach s m o) o index number status) m status Empty (lock_records s m o index number status elements) false (reaches s m o)
 apply s m now (PutRanges o index number ranges elements) =
-    answered (keep_slot (set_ranges (reach s m o) (file_of s o) ranges) o index number success) m success Empty (lock_records s m o index number success elements) true
-apply s m now (Alter o change body) = answered (change_file (reach s m o) (file_of s o) now change) m success body (change_records m (file_of s o) now change) (change_acts s (file_of s o) now change)
-apply s m now (Shut o body) = answered (keep_closed (leave_open s o) m.session (s.opened o).guid) m success body (leave_records s (origin_of m) o) true
+    answered (keep_slot (set_ranges (reach s m o) (file_of s o) ranges) o index number success) m success Empty (lock_records s m o index number success elements) true (reaches s m o)
+apply s m now (Alter o change body) =
+    record {
+      server = change_file (reach s m o) (file_of s o) now change;
+      reply = record { status = success; session = m.session; tree = m.tree; body = body };
+      records = change_records m (file_of s o) now change;
+      acted = change_acts s (file_of s o) now change;
+      reached = reaches s m o;
+      altered = Some o;
+    }
+apply s m now (Shut o body) = answered (keep_closed (leave_open s o) m.session (s.opened o).guid) m success body (leave_records s (origin_of m) o) true (reaches s m o)
 apply s m now Challenge =
     record {
       server = record s { begun = s.begun + 1; making = put s.making m.connection (Some (NewSession (next_session s))) };
       reply = record { status = more_processing_required; session = next_session s; tree = m.tree; body = Empty };
       records = [];
       acted = false;
+      reached = None;
+      altered = None;
     }
 apply s m now (ChallengeBinding session) = quiet (record s { making = put s.making m.connection (Some (Binding session)) }) m more_processing_required Empty
 apply s m now (Begin session user previous r is_quiet) =
-    answered (add_session (end_previous s now previous is_quiet) m user r) m success Empty (previous_records s (origin_of m) previous is_quiet) (previous_acts s previous)
+    answered (add_session (end_previous s now previous is_quiet) m user r) m success Empty (previous_records s (origin_of m) previous is_quiet) (previous_acts s previous) None
 apply s m now (Join session) = quiet (join_session s m session) m success Empty
-apply s m now (EndSession session is_quiet) = answered (end_session s session now is_quiet) m success Empty (end_records s (origin_of m) session is_quiet) (end_acts s session)
+apply s m now (EndSession session is_quiet) = answered (end_session s session now is_quiet) m success Empty (end_records s (origin_of m) session is_quiet) (end_acts s session) None
 apply s m now (AddTree pipes) =
     record {
       server = add_tree s m.session pipes;
       reply = record { status = success; session = m.session; tree = s.next_tree m.session; body = Empty };
       records = [];
       acted = false;
+      reached = None;
+      altered = None;
     }
 apply s m now DropTree = quiet (record s { trees = put s.trees m.session (without_tree m.tree (s.trees m.session)) }) m success Empty

@@ -18,3 +18,8 @@ pub mod Records
 pub mod Effects
 pub mod Step
 pub mod Fold
+pub mod Operations
+pub mod Client
+pub mod Settling
+pub mod Dialogs
+pub mod Network

@@ -183,9 +183,13 @@ pub data Record : Type 0 where
   VersionRecord : (number : ℕ) → Record
   ExpireRecord : (origin : Origin) (id : ℕ) → Record
 
--- the state after the table's step, the reply, what the journal owes for it, and whether files, the set of opens or ranges changed
+-- The state after a step, the reply, what the journal owes for it, and whether files, the set of opens or ranges
+-- changed. The last two are for what is said of runs: the open that the message's sequence reached, and the open on
+-- which a write or set-info was carried out.
 pub record Answer : Type 0 where
   pub server : Server
   pub reply : Reply
   pub records : List Record
   pub acted : Bool
+  pub reached : Option ℕ
+  pub altered : Option ℕ

@@ -106,7 +106,8 @@ take_all_acts s (k ∷ ks) now is_quiet = ended_acts s (ends_with s k) || take_a
 -- ---- the table's answer
 
 abbrev pub told : Server → ℕ → List Record → Bool → Answer
-told s status records acted = record { server = s; reply = record { status = status; session = 0; tree = 0; body = Empty }; records = records; acted = acted }
+told s status records acted =
+    record { server = s; reply = record { status = status; session = 0; tree = 0; body = Empty }; records = records; acted = acted; reached = None; altered = None }
 
 abbrev pub carried_out : Server → ℕ → Ruling → Answer
 carried_out s now (Says m v) = apply s m now v
