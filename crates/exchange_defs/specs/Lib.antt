@@ -23,3 +23,6 @@ pub mod Client
 pub mod Settling
 pub mod Dialogs
 pub mod Network
+pub mod Schedules
+pub mod Runs
+pub mod Statements
