@@ -9,7 +9,7 @@ use Rattle.exchange_defs.specs.Operations.{Op, Outcome, Unsettled, WasOk, WasRef
 
 -- how far the dialog of a channel has come; bound where it binds a further channel to a session
 pub data Stage : Type 0 where
-  Apart : Stage                             -- none, or it has ended
+  Apart : Stage  -- none, or it has ended
   SaidNegotiate : (bound : Bool) → Stage
   SaidFirst : (bound : Bool) → Stage
   SaidSecond : (bound : Bool) → Stage
@@ -17,12 +17,12 @@ pub data Stage : Type 0 where
 
 -- who the client is, and what its logon shows
 pub record Identity : Type 0 where
-  pub guid : ℕ                              -- its ClientGuid
-  pub salt : ℕ                              -- the random half of its CreateGuids
+  pub guid : ℕ  -- its ClientGuid
+  pub salt : ℕ  -- the random half of its CreateGuids
   pub user : List ℕ
   pub key : ℕ
   pub share : List ℕ
-  pub cipher : ℕ                            -- what NEGOTIATE chooses
+  pub cipher : ℕ  -- what NEGOTIATE chooses
   pub signing : ℕ
 
 pub record RefusedDialog : Type 0 where
@@ -34,40 +34,40 @@ pub record Client : Type 0 where
   -- operations, by number from 1
   pub taken : ℕ
   pub op : ℕ → Op
-  pub sent : ℕ → Bool                       -- it went out itself
+  pub sent : ℕ → Bool  -- it went out itself
   pub outcome : ℕ → Outcome
-  pub on : ℕ → Option ℕ                     -- the ready channel on which its copy, or a DH2C in its place, is outstanding
-  pub asking : ℕ → Bool                     -- what is outstanding is that DH2C
-  pub before : ℕ → Bool                     -- a copy is unanswered: its channel was cut before its reply was taken
-  pub seq_of : ℕ → ℕ                        -- the sequence of its last copy
+  pub on : ℕ → Option ℕ  -- the ready channel on which its copy, or a DH2C in its place, is outstanding
+  pub asking : ℕ → Bool  -- what is outstanding is that DH2C
+  pub before : ℕ → Bool  -- a copy is unanswered: its channel was cut before its reply was taken
+  pub seq_of : ℕ → ℕ  -- the sequence of its last copy
   pub slot_of : ℕ → ℕ
   pub number_of : ℕ → ℕ
-  pub by : ℕ → Option ℕ                     -- the place of the message whose reply settled it
-  pub given_up : ℕ → Option ℕ               -- the session that had ended when it was given up
-  pub order : List ℕ                        -- those that a reply settled, in the order of the replies
+  pub by : ℕ → Option ℕ  -- the place of the message whose reply settled it
+  pub given_up : ℕ → Option ℕ  -- the session that had ended when it was given up
+  pub order : List ℕ  -- those that a reply settled, in the order of the replies
   -- opens, by the number of their create
-  pub file : ℕ → ℕ                          -- the open's id
-  pub attached : ℕ → ℕ                      -- the number of the session in which it was opened or attached last
-  pub shut : ℕ → Bool                       -- a close of it settled Ok
+  pub file : ℕ → ℕ  -- the open's id
+  pub attached : ℕ → ℕ  -- the number of the session in which it was opened or attached last
+  pub shut : ℕ → Bool  -- a close of it settled Ok
   -- lock slots, by create and slot from 1 to 64
-  pub slot_user : ℕ → ℕ → Option ℕ          -- the last lock or unlock that took it
-  pub retried : ℕ → ℕ → ℕ                   -- the number of the session in which it was retried last
-  pub full : ℕ → ℕ → Bool                   -- it met DISK_FULL
+  pub slot_user : ℕ → ℕ → Option ℕ  -- the last lock or unlock that took it
+  pub retried : ℕ → ℕ → ℕ  -- the number of the session in which it was retried last
+  pub full : ℕ → ℕ → Bool  -- it met DISK_FULL
   -- the session
   pub live : Bool
   pub session : ℕ
-  pub number : ℕ                            -- sessions count from 1
+  pub number : ℕ  -- sessions count from 1
   pub tree : ℕ
   pub sequence : ℕ
-  pub ready : ℕ → Bool                      -- by channel
-  pub channels : ℕ                          -- how many are ready
+  pub ready : ℕ → Bool  -- by channel
+  pub channels : ℕ  -- how many are ready
   -- dialogs
   pub stage : ℕ → Stage
-  pub making : Option ℕ                     -- the channel on which a session is in the making
-  pub pending : ℕ                           -- that session's id, once it is told
-  pub accepted : ℕ                          -- the last accepted session, which a new one names as its previous one
+  pub making : Option ℕ  -- the channel on which a session is in the making
+  pub pending : ℕ  -- that session's id, once it is told
+  pub accepted : ℕ  -- the last accepted session, which a new one names as its previous one
   pub accepts : ℕ
-  pub rank : ℕ → ℕ                          -- by session: the order in which the client accepted it
+  pub rank : ℕ → ℕ  -- by session: the order in which the client accepted it
   pub refusals : List RefusedDialog
 
 abbrev pub last_sequence : ℕ
@@ -113,7 +113,7 @@ unfoldable pub waits : Client → ℕ → ℕ → Bool
 waits c g zero = false
 waits c g (suc n) =
     let rest = waits c g n in let stands = is_unsettled (c.outcome n) in
-      if (create_for c n == create_for c g) && holds_up (c.op n) (c.op g) then (if stands then true else rest) else rest
+    if (create_for c n == create_for c g) && holds_up (c.op n) (c.op g) then (if stands then true else rest) else rest
 
 -- all but a create wait for their create
 abbrev pub has_open : Client → ℕ → Bool

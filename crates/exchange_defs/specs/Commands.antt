@@ -29,8 +29,8 @@ pub record CreateRequest : Type 0 where
   pub options : ℕ
   pub durable : Option Durable
   pub reconnect : Option Reconnect
-  pub maximal : Bool            -- it asks for the maximal access (2.2.13.2.5)
-  pub disk_id : Bool            -- it asks for the file's number (2.2.13.2.9)
+  pub maximal : Bool  -- it asks for the maximal access (2.2.13.2.5)
+  pub disk_id : Bool  -- it asks for the file's number (2.2.13.2.9)
 
 -- options: a directory, no directory, delete on close
 abbrev pub asks_directory : CreateRequest → Bool
@@ -45,18 +45,18 @@ deletes_on_close options = has_bit options 0x1000
 -- ---- SESSION_SETUP (2.2.5): what its token shows, which the level of bytes decides
 
 pub data Shows : Type 0 where
-  Begins : Shows                            -- a first token that names NTLM
-  Bad : Shows                               -- a token that doesn't read as the due one
-  Refused : Shows                           -- a logon that is refused
-  Logon : (user : List ℕ) (key : ℕ) → Shows -- a logon of this user, with its exported key
+  Begins : Shows  -- a first token that names NTLM
+  Bad : Shows  -- a token that doesn't read as the due one
+  Refused : Shows  -- a logon that is refused
+  Logon : (user : List ℕ) (key : ℕ) → Shows  -- a logon of this user, with its exported key
 
 pub record SetupRequest : Type 0 where
-  pub readable : Bool           -- its body reads
+  pub readable : Bool  -- its body reads
   pub binding : Bool
-  pub signed : Bool             -- it carries a signature
-  pub verified : Bool           -- it is the session's own
+  pub signed : Bool  -- it carries a signature
+  pub verified : Bool  -- it is the session's own
   pub previous : ℕ
-  pub cipher : ℕ                -- chosen on its connection; 0 for none
+  pub cipher : ℕ  -- chosen on its connection; 0 for none
   pub signing : ℕ
   pub shows : Shows
 
@@ -65,7 +65,7 @@ pub record SetupRequest : Type 0 where
 pub record Element : Type 0 where
   pub at : ℕ
   pub length : ℕ
-  pub flags : ℕ                 -- shared 1, exclusive 2, unlock 4, at once 0x10
+  pub flags : ℕ  -- shared 1, exclusive 2, unlock 4, at once 0x10
 
 abbrev pub locks : ℕ → Bool
 locks flags = (flags == 0x1) || ((flags == 0x2) || ((flags == 0x11) || (flags == 0x12)))
@@ -102,14 +102,14 @@ pub data Setting : Type 0 where
 
 -- A file is named by its open's id: a FileId is that id twice. One of two different halves is 0, which no open has.
 pub data Command : Type 0 where
-  Unreadable : (status : ℕ) → Command       -- the body doesn't read, is of no known class or asks for what isn't supported
+  Unreadable : (status : ℕ) → Command  -- the body doesn't read, is of no known class or asks for what isn't supported
   Negotiate : Command
   Setup : (request : SetupRequest) → Command
   Logoff : Command
   TreeConnect : (share : List ℕ) → Command
   TreeDisconnect : Command
   Create : (request : CreateRequest) → Command
-  Close : (file : ℕ) (query : Bool) → Command   -- whether it asks for the file's times and lengths
+  Close : (file : ℕ) (query : Bool) → Command  -- whether it asks for the file's times and lengths
   Flush : (file : ℕ) → Command
   Read : (file at size minimum channel : ℕ) → Command
   Write : (file at : ℕ) (bytes : List ℕ) (channel : ℕ) → Command

@@ -9,10 +9,10 @@ use Rattle.exchange_defs.specs.Client.{Client, Stage, Apart, SaidNegotiate, Said
 
 -- what a response of a dialog comes to
 pub data DialogStep : Type 0 where
-  GoesOn : (stage : Stage) → DialogStep     -- the next message of that stage goes out
-  Accepts : DialogStep                      -- a new session is accepted; its TREE_CONNECT goes out
-  Binds : DialogStep                        -- the channel is bound and ready
-  Readies : DialogStep                      -- the session is ready
+  GoesOn : (stage : Stage) → DialogStep  -- the next message of that stage goes out
+  Accepts : DialogStep  -- a new session is accepted; its TREE_CONNECT goes out
+  Binds : DialogStep  -- the channel is bound and ready
+  Readies : DialogStep  -- the session is ready
   Refuses : (status : ℕ) → DialogStep
 
 abbrev pub due : DialogStep → ℕ → ℕ → DialogStep

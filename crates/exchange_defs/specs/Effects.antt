@@ -216,17 +216,17 @@ dated session now row at deadline = if is_at session at then Some (now + 10000 *
 abbrev pub end_session : Server → ℕ → ℕ → Bool → Server
 end_session s session now is_quiet =
     let t = plain_left s session is_quiet in
-      record t {
-        at = λ o. cleared session (t.at o);
-        deadline = λ o. dated session now (t.opened o) (t.at o) (t.deadline o);
-        present = put t.present session false;
-        sessions = t.sessions - 1;
-        trees = put t.trees session [];
-        closed = put t.closed session (λ g. false);
-        refused = put t.refused session (λ g. None);
-        guids = put t.guids session 0;
-        on = λ k. cleared session (t.on k);
-      }
+    record t {
+      at = λ o. cleared session (t.at o);
+      deadline = λ o. dated session now (t.opened o) (t.at o) (t.deadline o);
+      present = put t.present session false;
+      sessions = t.sessions - 1;
+      trees = put t.trees session [];
+      closed = put t.closed session (λ g. false);
+      refused = put t.refused session (λ g. None);
+      guids = put t.guids session 0;
+      on = λ k. cleared session (t.on k);
+    }
 
 unfoldable pub end_records : Server → Origin → ℕ → Bool → List Record
 end_records s origin session true = []

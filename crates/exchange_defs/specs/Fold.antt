@@ -27,11 +27,47 @@ full_room = 268435456
 abbrev pub nothing_yet : Server
 nothing_yet =
     record {
-      share = []; room = full_room; seals = false; version = 1; epoch = 0; journal = 0;
-      entries = []; next_file = 1; directory = λ f. false; marked = λ f. false; basic = λ f. no_times; content = λ f. []; ranges = λ f. [];
-      opens = []; standing = λ o. false; given = 0; opened = λ o. no_open; at = λ o. None; sequence = λ o. 0; deadline = λ o. None; listed = λ o. None; slots = λ o i. None; by_guid = λ c g. None; marks = λ c g. false; mark_count = 0;
-      present = λ s. false; sessions = 0; begun = 0; user = λ s. []; client = λ s. 0; cipher = λ s. 0; signing = λ s. 0; drawn = λ s. 0; trees = λ s. []; next_tree = λ s. 0; closed = λ s g. false; refused = λ s g. None; guids = λ s. 0;
-      connections = []; on = λ k. None; making = λ k. None;
+      share = [];
+      room = full_room;
+      seals = false;
+      version = 1;
+      epoch = 0;
+      journal = 0;
+      entries = [];
+      next_file = 1;
+      directory = λ f. false;
+      marked = λ f. false;
+      basic = λ f. no_times;
+      content = λ f. [];
+      ranges = λ f. [];
+      opens = [];
+      standing = λ o. false;
+      given = 0;
+      opened = λ o. no_open;
+      at = λ o. None;
+      sequence = λ o. 0;
+      deadline = λ o. None;
+      listed = λ o. None;
+      slots = λ o i. None;
+      by_guid = λ c g. None;
+      marks = λ c g. false;
+      mark_count = 0;
+      present = λ s. false;
+      sessions = 0;
+      begun = 0;
+      user = λ s. [];
+      client = λ s. 0;
+      cipher = λ s. 0;
+      signing = λ s. 0;
+      drawn = λ s. 0;
+      trees = λ s. [];
+      next_tree = λ s. 0;
+      closed = λ s g. false;
+      refused = λ s g. None;
+      guids = λ s. 0;
+      connections = [];
+      on = λ k. None;
+      making = λ k. None;
     }
 
 -- ---- each record, and where it changes nothing
@@ -154,8 +190,14 @@ ranges_that_stay s (r ∷ rs) = if stays s r.owner then r ∷ ranges_that_stay s
 abbrev pub durable : Server → Server
 durable s =
     record nothing_yet {
-      version = s.version; epoch = s.epoch;
-      entries = s.entries; next_file = s.next_file; directory = s.directory; marked = s.marked; basic = s.basic; content = s.content;
+      version = s.version;
+      epoch = s.epoch;
+      entries = s.entries;
+      next_file = s.next_file;
+      directory = s.directory;
+      marked = s.marked;
+      basic = s.basic;
+      content = s.content;
       ranges = λ f. ranges_that_stay s (s.ranges f);
       opens = persistent_in s.opened s.opens;
       standing = λ o. stays s o;

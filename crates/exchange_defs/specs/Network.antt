@@ -41,8 +41,8 @@ pub record Conn : Type 0 where
 -- ---- what is only remembered: by place, which sequence reached which open, and which open was written to
 
 pub record Trace : Type 0 where
-  pub open_of : ℕ → Option ℕ                -- by create: the open that it made
-  pub reached : ℕ → Option ℕ                -- by place
+  pub open_of : ℕ → Option ℕ  -- by create: the open that it made
+  pub reached : ℕ → Option ℕ  -- by place
   pub altered : ℕ → Option ℕ
   pub session : ℕ → ℕ
   pub sequence : ℕ → ℕ
@@ -71,7 +71,7 @@ pub data Event : Type 0 where
   Drop : (k : ℕ) → Event
   Restart : Event
   Crash : (k : ℕ) (kept : Bool) → Event
-  Wait : (n : ℕ) → Event                    -- milliseconds
+  Wait : (n : ℕ) → Event  -- milliseconds
   Finish : (refusal : Refusal) → Event
 
 -- ---- Open and Drop: the server accepts, and hears of an end
@@ -382,11 +382,39 @@ abbrev pub new_client : Identity → Client
 new_client who =
     record {
       who = who;
-      taken = 0; op = λ g. OpClose 0; sent = λ g. false; outcome = λ g. Unsettled; on = λ g. None; asking = λ g. false; before = λ g. false; seq_of = λ g. 0; slot_of = λ g. 0; number_of = λ g. 0; by = λ g. None; given_up = λ g. None; order = [];
-      file = λ c. 0; attached = λ c. 0; shut = λ c. false;
-      slot_user = λ c i. None; retried = λ c i. 0; full = λ c i. false;
-      live = false; session = 0; number = 0; tree = 0; sequence = 0; ready = λ k. false; channels = 0;
-      stage = λ k. Apart; making = None; pending = 0; accepted = 0; accepts = 0; rank = λ s. 0; refusals = [];
+      taken = 0;
+      op = λ g. OpClose 0;
+      sent = λ g. false;
+      outcome = λ g. Unsettled;
+      on = λ g. None;
+      asking = λ g. false;
+      before = λ g. false;
+      seq_of = λ g. 0;
+      slot_of = λ g. 0;
+      number_of = λ g. 0;
+      by = λ g. None;
+      given_up = λ g. None;
+      order = [];
+      file = λ c. 0;
+      attached = λ c. 0;
+      shut = λ c. false;
+      slot_user = λ c i. None;
+      retried = λ c i. 0;
+      full = λ c i. false;
+      live = false;
+      session = 0;
+      number = 0;
+      tree = 0;
+      sequence = 0;
+      ready = λ k. false;
+      channels = 0;
+      stage = λ k. Apart;
+      making = None;
+      pending = 0;
+      accepted = 0;
+      accepts = 0;
+      rank = λ s. 0;
+      refusals = [];
     }
 
 pub record Settings : Type 0 where

@@ -23,7 +23,7 @@ bits_if false bits = 0
 unfoldable pub mapped : ℕ → ℕ
 mapped a =
     bit_or (a % 0x200_0000)
-      (bit_or (bits_if (has_bit a 0x8000_0000) 0x12_0089) (bit_or (bits_if (has_bit a 0x4000_0000) 0x12_0116) (bit_or (bits_if (has_bit a 0x2000_0000) 0x12_00a0) (bits_if (has_bit a 0x1000_0000 || has_bit a 0x200_0000) 0x1f_01ff))))
+    (bit_or (bits_if (has_bit a 0x8000_0000) 0x12_0089) (bit_or (bits_if (has_bit a 0x4000_0000) 0x12_0116) (bit_or (bits_if (has_bit a 0x2000_0000) 0x12_00a0) (bits_if (has_bit a 0x1000_0000 || has_bit a 0x200_0000) 0x1f_01ff))))
 
 unfoldable pub reads : ℕ → Bool
 reads access = has_bit access 0x1 || has_bit access 0x20

@@ -22,16 +22,16 @@ unfoldable pub choose : Client → ℕ → ℕ → List ℕ → ℕ → ℕ → 
 choose c k credits slotless g zero = record { slotless = slotless; pick = None }
 choose c k credits slotless g (suc n) =
     elim (may_push c k g && nat_le (cost c g) credits) [
-      false ↦ choose c k credits slotless (g + 1) n
-    | true ↦
-        elim (goes_itself c g && needs_slot c g) [
-          false ↦ record { slotless = slotless; pick = Some (record { op = g; slot = 0 }) }
-        | true ↦
-            elim (least_free c (create_for c g) 1 64) [
-              Some i ↦ record { slotless = slotless; pick = Some (record { op = g; slot = i }) }
-            | None ↦ choose (settle_no_slot c k g) k credits (slotless ++ g ∷ []) (g + 1) n
-            ]
-        ]
+      | false ↦ choose c k credits slotless (g + 1) n
+      | true ↦
+          elim (goes_itself c g && needs_slot c g) [
+            | false ↦ record { slotless = slotless; pick = Some (record { op = g; slot = 0 }) }
+            | true ↦
+                elim (least_free c (create_for c g) 1 64) [
+                  | Some i ↦ record { slotless = slotless; pick = Some (record { op = g; slot = i }) }
+                  | None ↦ choose (settle_no_slot c k g) k credits (slotless ++ g ∷ []) (g + 1) n
+                ]
+          ]
     ]
 
 abbrev pub push_by : ℕ → Choice → Event
@@ -142,9 +142,9 @@ finished_by (Some refusal) c = went c (Finish refusal)
 unfoldable pub linked : ℕ → Course → Course
 linked n c =
     elim (c.world.client.channels == 0) [
-      false ↦ c
-    | true ↦
-        let d = link c (least (is_apart c.world) 0 n) in
+      | false ↦ c
+      | true ↦
+          let d = link c (least (is_apart c.world) 0 n) in
           elim (length c.world.client.refusals == length d.world.client.refusals) [ true ↦ d | false ↦ finished_by (last_refusal d.world.client.refusals) d ]
     ]
 
@@ -167,7 +167,7 @@ settle_below n fuel c = rounds n fuel (each drop_orphan 0 n (each drain_and_cut 
 
 pub data Line : Type 0 where
   Does : (event : Event) → Line
-  Pushes : (k : ℕ) → Line                   -- the program's own push
+  Pushes : (k : ℕ) → Line  -- the program's own push
   Links : (k : ℕ) → Line
   Settles : Line
 

@@ -9,8 +9,8 @@ use Rattle.exchange_defs.specs.Client.{Client, create_for, is_gone_after, end_se
 -- what hearing a reply comes to
 pub data Heard : Type 0 where
   Settles : (outcome : Outcome) → Heard
-  GoesAgain : Heard                         -- it goes out again
-  Attaches : Heard                          -- a DH2C attached its open, and nothing is settled
+  GoesAgain : Heard  -- it goes out again
+  Attaches : Heard  -- a DH2C attached its open, and nothing is settled
   EndsSession : Heard
 
 -- ---- the table; the first line that applies decides
@@ -93,7 +93,7 @@ settled c g outcome place = record c { outcome = put c.outcome g outcome; on = p
 abbrev pub settle : Client → ℕ → Bool → Reply → ℕ → Outcome → Client
 settle c g asking r place outcome =
     let d = settled (noted_full (noted c g outcome r.body) g asking r.status) g outcome place in
-      if settles_open (c.op g) then with_no_opens d (create_for c g) else d
+    if settles_open (c.op g) then with_no_opens d (create_for c g) else d
 
 abbrev pub answered : Client → ℕ → Client
 answered c g = record c { on = put c.on g None }

@@ -12,15 +12,15 @@ pub record Entry : Type 0 where
 -- what an open is made with and never changes (MS-SMB2 3.3.1.10)
 pub record Open : Type 0 where
   pub file : ℕ
-  pub access : ℕ                -- mapped
-  pub share : ℕ                 -- read 1, write 2, delete 4
+  pub access : ℕ  -- mapped
+  pub share : ℕ  -- read 1, write 2, delete 4
   pub options : ℕ
-  pub action : ℕ                -- superseded 0, opened 1, created 2, overwritten 3
+  pub action : ℕ  -- superseded 0, opened 1, created 2, overwritten 3
   pub persistent : Bool
-  pub client : ℕ                -- the ClientGuid
-  pub guid : Option ℕ           -- the CreateGuid
+  pub client : ℕ  -- the ClientGuid
+  pub guid : Option ℕ  -- the CreateGuid
   pub user : List ℕ
-  pub timeout : ℕ               -- in milliseconds
+  pub timeout : ℕ  -- in milliseconds
 
 pub record Range : Type 0 where
   pub owner : ℕ
@@ -52,45 +52,45 @@ pub record Server : Type 0 where
   -- what bounds ids and the journal
   pub version : ℕ
   pub epoch : ℕ
-  pub journal : ℕ                         -- bytes on the disk
+  pub journal : ℕ  -- bytes on the disk
   -- files, by number
-  pub entries : List Entry                -- in ascending order of numbers, without the root
+  pub entries : List Entry  -- in ascending order of numbers, without the root
   pub next_file : ℕ
   pub directory : ℕ → Bool
-  pub marked : ℕ → Bool                   -- for deletion
+  pub marked : ℕ → Bool  -- for deletion
   pub basic : ℕ → Basic
   pub content : ℕ → List ℕ
   pub ranges : ℕ → List Range
   -- opens, by id
-  pub opens : List ℕ                      -- those that stand, in ascending order
+  pub opens : List ℕ  -- those that stand, in ascending order
   pub standing : ℕ → Bool
-  pub given : ℕ                           -- how many ids were given in this epoch
+  pub given : ℕ  -- how many ids were given in this epoch
   pub opened : ℕ → Open
-  pub at : ℕ → Option ℕ                   -- the session to which an open is attached
+  pub at : ℕ → Option ℕ  -- the session to which an open is attached
   pub sequence : ℕ → ℕ
   pub deadline : ℕ → Option ℕ
-  pub listed : ℕ → Option (List ℕ)        -- the last name that its listing gave
-  pub slots : ℕ → ℕ → Option Kept         -- and by slot, 1 to 64
-  pub by_guid : ℕ → ℕ → Option ℕ          -- by ClientGuid and CreateGuid: the open that stands
-  pub marks : ℕ → ℕ → Bool                -- by the same: an open of it expired
+  pub listed : ℕ → Option (List ℕ)  -- the last name that its listing gave
+  pub slots : ℕ → ℕ → Option Kept  -- and by slot, 1 to 64
+  pub by_guid : ℕ → ℕ → Option ℕ  -- by ClientGuid and CreateGuid: the open that stands
+  pub marks : ℕ → ℕ → Bool  -- by the same: an open of it expired
   pub mark_count : ℕ
   -- sessions, by id
   pub present : ℕ → Bool
-  pub sessions : ℕ                        -- how many are live
-  pub begun : ℕ                           -- how many ids were given in this epoch
+  pub sessions : ℕ  -- how many are live
+  pub begun : ℕ  -- how many ids were given in this epoch
   pub user : ℕ → List ℕ
   pub client : ℕ → ℕ
   pub cipher : ℕ → ℕ
   pub signing : ℕ → ℕ
-  pub drawn : ℕ → ℕ                       -- channel numbers
+  pub drawn : ℕ → ℕ  -- channel numbers
   pub trees : ℕ → List Tree
   pub next_tree : ℕ → ℕ
-  pub closed : ℕ → ℕ → Bool               -- by session and CreateGuid: an open of it was closed
-  pub refused : ℕ → ℕ → Option ℕ          -- by the same: its create was refused
-  pub guids : ℕ → ℕ                       -- how many CreateGuids the session keeps
+  pub closed : ℕ → ℕ → Bool  -- by session and CreateGuid: an open of it was closed
+  pub refused : ℕ → ℕ → Option ℕ  -- by the same: its create was refused
+  pub guids : ℕ → ℕ  -- how many CreateGuids the session keeps
   -- connections, by number
   pub connections : List ℕ
-  pub on : ℕ → Option ℕ                   -- the live session that has a channel there
+  pub on : ℕ → Option ℕ  -- the live session that has a channel there
   pub making : ℕ → Option Making
 
 -- ---- what it hears
@@ -126,7 +126,7 @@ pub record CreateReply : Type 0 where
   pub id : ℕ
   pub action : ℕ
   pub info : Info
-  pub timeout : Option ℕ        -- told where the open is persistent and the request asked
+  pub timeout : Option ℕ  -- told where the open is persistent and the request asked
   pub maximal : Bool
   pub disk_id : Bool
 
