@@ -227,6 +227,14 @@ cut_channel c k =
 abbrev pub ends_at_cut : Client → Bool
 ends_at_cut c = (c.channels == 1) || (c.sequence == last_sequence)
 
+-- ---- a channel that becomes ready: a further one of the session, or the first one of a new session
+
+abbrev pub bind_channel : Client → ℕ → Client
+bind_channel c k = record c { ready = put c.ready k true; channels = c.channels + 1 }
+
+abbrev pub begin_session : Client → ℕ → ℕ → ℕ → Client
+begin_session c k session tree = record c { live = true; session = session; number = c.number + 1; tree = tree; sequence = 0; ready = put c.ready k true; channels = 1 }
+
 -- ---- the end of the session: what was outstanding is unanswered, and what hung on a plain open is given up
 
 abbrev pub before_after_end : Option ℕ → Bool → Bool → Bool

@@ -5,7 +5,7 @@ use Rattle.exchange_defs.specs.Status.{success, more_processing_required}
 use Rattle.exchange_defs.specs.Commands.{Command, Negotiate, Setup, TreeConnect, SetupRequest, Shows, Begins, Logon}
 use Rattle.exchange_defs.specs.State.{Message, Reply}
 use Rattle.exchange_defs.specs.Operations.{Refusal, HadStatus}
-use Rattle.exchange_defs.specs.Client.{Client, Stage, Apart, SaidNegotiate, SaidFirst, SaidSecond, AskedTree, RefusedDialog}
+use Rattle.exchange_defs.specs.Client.{Client, Stage, Apart, SaidNegotiate, SaidFirst, SaidSecond, AskedTree, RefusedDialog, bind_channel, begin_session}
 
 -- what a response of a dialog comes to
 pub data DialogStep : Type 0 where
@@ -70,21 +70,10 @@ abbrev pub accepted : Client → ℕ → Client
 accepted c k = record c { stage = put c.stage k AskedTree; accepted = c.pending; accepts = c.accepts + 1; rank = put c.rank c.pending (c.accepts + 1) }
 
 abbrev pub bound : Client → ℕ → Client
-bound c k = record c { stage = put c.stage k Apart; ready = put c.ready k true; channels = c.channels + 1 }
+bound c k = record (bind_channel c k) { stage = put c.stage k Apart }
 
 abbrev pub readied : Client → ℕ → Reply → Client
-readied c k r =
-    record c {
-      stage = put c.stage k Apart;
-      making = None;
-      live = true;
-      session = c.pending;
-      number = c.number + 1;
-      tree = r.tree;
-      sequence = 0;
-      ready = put c.ready k true;
-      channels = 1;
-    }
+readied c k r = record (begin_session c k c.pending r.tree) { stage = put c.stage k Apart; making = None }
 
 -- the session in the making on a channel is given up with it
 abbrev pub unmade : ℕ → Option ℕ → Option ℕ

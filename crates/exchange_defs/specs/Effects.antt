@@ -141,8 +141,12 @@ keep_slot s o index number status = if is_slot index then record s { slots = put
 abbrev pub set_ranges : Server → ℕ → List Range → Server
 set_ranges s f ranges = record s { ranges = put s.ranges f ranges }
 
+-- one that uses no slot is recorded with the index 0
+abbrev pub recorded_index : ℕ → ℕ
+recorded_index index = if is_slot index then index else 0
+
 unfoldable pub lock_records : Server → Message → ℕ → ℕ → ℕ → ℕ → List Element → List Record
-lock_records s m o index number status elements = if (s.opened o).persistent then LockRecord (origin_of m) o index number status elements ∷ [] else []
+lock_records s m o index number status elements = if (s.opened o).persistent then LockRecord (origin_of m) o (recorded_index index) number status elements ∷ [] else []
 
 -- ---- writes and set-infos
 

@@ -24,5 +24,6 @@ pub mod Settling
 pub mod Dialogs
 pub mod Network
 pub mod Schedules
+pub mod ClientStep
 pub mod Runs
 pub mod Statements

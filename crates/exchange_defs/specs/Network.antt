@@ -1,5 +1,5 @@
 -- One client, one server, and connections that lose what they hold.
-use Rattle.std.specs.Prelude.{ℕ, ◌+◌, ◌*◌, ◌==◌, nat_lt, Bool, true, false, not, ◌&&◌, ◌||◌, if◌then◌else◌, List, [], ◌∷◌, ◌++◌, Option, Some, None, is_some, max}
+use Rattle.std.specs.Prelude.{ℕ, ◌+◌, ◌*◌, ◌==◌, nat_lt, Bool, true, false, not, ◌&&◌, ◌||◌, if◌then◌else◌, List, [], ◌∷◌, ◌++◌, Option, Some, None, is_some, min}
 use Rattle.exchange_defs.specs.Table.{put, is_at}
 use Rattle.exchange_defs.specs.Status.{success, end_of_file}
 use Rattle.exchange_defs.specs.Content.{ContentReply, Counted, Gives, Done}
@@ -7,7 +7,7 @@ use Rattle.exchange_defs.specs.Order.{Log, Said, Says_ok, Says_end, Says_other}
 use Rattle.exchange_defs.specs.Commands.{Command, Negotiate, Echo}
 use Rattle.exchange_defs.specs.State.{Server, Message, ServerEvent, Accept, Heard, End, Reply, Body, Empty, Content, Count, Record, EpochRecord, VersionRecord, Answer}
 use Rattle.exchange_defs.specs.Step.{step}
-use Rattle.exchange_defs.specs.Fold.{fold, recovered, nothing_yet}
+use Rattle.exchange_defs.specs.Fold.{fold, recovered, full_room}
 use Rattle.exchange_defs.specs.Operations.{Op, OpClose, Outcome, Unsettled, Why, NoSession, Refusal, is_create, is_firm, is_unsettled, weight, charge}
 use Rattle.exchange_defs.specs.Client.{Client, Identity, Stage, Apart, AskedTree, SaidNegotiate, create_for, may_take, take_op, may_push, goes_itself, is_attached, needs_slot, is_free, begun, outstanding, asked, own_message, ask_message, settle_no_slots, cut_channel, ends_at_cut, end_session, finish}
 use Rattle.exchange_defs.specs.Settling.{Heard as Hearing, EndsSession, heard, hear, is_awaited}
@@ -138,11 +138,16 @@ pushed w k slotless pick = pushed_pick (record w { client = settle_no_slots w.cl
 -- ---- Serve: the front is absorbed, and its reply said
 
 -- NEGOTIATE and ECHO touch no shared state
-abbrev pub untouched : Server → Message → Answer
-untouched s m = record { server = s; reply = record { status = success; session = m.session; tree = m.tree; body = Empty }; records = []; acted = false; reached = None; altered = None }
+abbrev pub untouched : Server → Message → ℕ → Answer
+untouched s m status = record { server = s; reply = record { status = status; session = m.session; tree = m.tree; body = Empty }; records = []; acted = false; reached = None; altered = None }
+
+abbrev pub status_or_success : Option ℕ → ℕ
+status_or_success None = success
+status_or_success (Some status) = status
 
 abbrev pub answer_to : Server → ℕ → Message → Command → Answer
-answer_to s now m Negotiate = untouched s m
+answer_to s now m Negotiate = untouched s m success
+answer_to s now m Echo = untouched s m (status_or_success m.fault)
 answer_to s now m _ = step s now (Heard m)
 
 abbrev pub answer : World → Sent → Answer
@@ -196,7 +201,7 @@ logged w x A t =
       places = w.log.places + 1;
       who = put w.log.who w.log.places (op_of x.token);
       gave = put w.log.gave w.log.places (said x.token A.reply);
-      did = put w.log.did w.log.places A.acted;
+      did = put w.log.did w.log.places (is_own x.token && A.acted);
       bytes = λ c. put (w.log.bytes c) (w.log.places + 1) (bytes_behind A.server (t.open_of c) (w.log.bytes c w.log.places));
       birth = if makes w.client x.token A then put w.log.birth (op_of x.token) (w.log.places + 1) else w.log.birth;
       first = if is_own x.token && A.acted then put w.log.first (op_of x.token) (noted (w.log.first (op_of x.token)) w.log.places) else w.log.first;
@@ -339,7 +344,7 @@ is_possible w (Drop k) = (w.conns k).server_open
 is_possible w Restart = true
 is_possible w (Crash k kept) = may_serve w k
 is_possible w (Wait n) = true
-is_possible w (Finish refusal) = true
+is_possible w (Finish refusal) = not w.client.live
 
 abbrev pub submitted : World → ℕ → Op → World
 submitted w g op = if may_take w.client g op then with_client w (take_op w.client g op) else w
@@ -423,12 +428,12 @@ pub record Settings : Type 0 where
   pub room : ℕ
   pub seals : Bool
 
--- a server's first start writes its Version and its first Epoch
+-- a server's first start, with at most the full room, writes its Version and its first Epoch
 abbrev pub first_records : List Record
 first_records = VersionRecord 2 ∷ EpochRecord 1 ∷ []
 
 abbrev pub new_server : Settings → Server
-new_server z = record (fold first_records) { share = z.share; room = z.room; seals = z.seals; journal = 24 }
+new_server z = record (fold first_records) { share = z.share; room = min z.room full_room; seals = z.seals; journal = 24 }
 
 abbrev pub start : Settings → World
 start z =
