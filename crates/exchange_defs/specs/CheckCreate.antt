@@ -22,8 +22,12 @@ abbrev pub last_file : ℕ
 last_file = 0xffff_ffff_ffff_fffe
 
 -- a refusal by the names, the sharing or the room is kept by the request's CreateGuid, where it has one
+abbrev pub refused_by : Option Durable → ℕ → Verdict
+refused_by None status = Refuse status
+refused_by (Some d) status = KeepRefusal d.guid status
+
 abbrev pub refused_create : CreateRequest → ℕ → Verdict
-refused_create r status = elim r.durable [ None ↦ Refuse status | Some d ↦ KeepRefusal d.guid status ]
+refused_create r status = refused_by r.durable status
 
 -- ---- names and kinds
 

@@ -1,7 +1,7 @@
 -- The client's state and its rules: what may go out, and what a cut or the end of its session does.
 use Rattle.std.specs.Prelude.{ℕ, zero, suc, ◌+◌, ◌-◌, ◌*◌, ◌%◌, ◌==◌, nat_le, nat_lt, Bool, true, false, not, ◌&&◌, ◌||◌, if◌then◌else◌, List, [], ◌∷◌, Option, Some, None, is_none}
 use Rattle.exchange_defs.specs.Table.{put, put2, is_at}
-use Rattle.exchange_defs.specs.Commands.{Command}
+use Rattle.exchange_defs.specs.Commands.{Command, Shows}
 use Rattle.exchange_defs.specs.State.{Message}
 use Rattle.exchange_defs.specs.Operations.{Op, Outcome, Unsettled, WasOk, WasRefused, NoSlot, NoOpen, Unknown, Why, SessionLost, NoSession, Refusal, is_unsettled, is_ok, is_create, is_lock, is_change, create_of, persists, keeps_limits, holds_up, request_of, reconnect_of}
 
@@ -15,12 +15,11 @@ pub data Stage : Type 0 where
   SaidSecond : (bound : Bool) → Stage
   AskedTree : Stage
 
--- who the client is, and what its logon shows
+-- who the client is
 pub record Identity : Type 0 where
   pub guid : ℕ  -- its ClientGuid
   pub salt : ℕ  -- the random half of its CreateGuids
-  pub user : List ℕ
-  pub key : ℕ
+  pub logon : Shows  -- what its second token shows
   pub share : List ℕ
   pub cipher : ℕ  -- what NEGOTIATE chooses
   pub signing : ℕ

@@ -14,15 +14,15 @@ pub data ClientEvent : Type 0 where
   Hears : (k g : ℕ) (asking : Bool) (reply : Reply) (place : ℕ) → ClientEvent
   IsCut : (k : ℕ) → ClientEvent
   IsReady : (k session tree : ℕ) → ClientEvent
-  IsRefused : (k : ℕ) → ClientEvent         -- its dialog; a new session that can't be had is a Finishes
+  IsRefused : (k : ℕ) → ClientEvent  -- its dialog; a new session that can't be had is a Finishes
   Finishes : (why : Why) → ClientEvent
 
 pub data Act : Type 0 where
   Nothing : Act
-  Sends : (g : ℕ) → Act                     -- the operation itself
-  Asks : (g : ℕ) → Act                      -- DH2C in its place
+  Sends : (g : ℕ) → Act  -- the operation itself
+  Asks : (g : ℕ) → Act  -- DH2C in its place
   CloseChannels : Act
-  AllSettled : Act                          -- a push where every operation is settled
+  AllSettled : Act  -- a push where every operation is settled
 
 -- ---- Push
 

@@ -2,7 +2,7 @@
 use Rattle.std.specs.Prelude.{ℕ, ◌+◌, ◌==◌, Bool, true, false, not, ◌&&◌, if◌then◌else◌, List, [], ◌∷◌, ◌++◌, Option, Some, None}
 use Rattle.exchange_defs.specs.Table.{put, is_at}
 use Rattle.exchange_defs.specs.Status.{success, more_processing_required}
-use Rattle.exchange_defs.specs.Commands.{Command, Negotiate, Setup, TreeConnect, SetupRequest, Shows, Begins, Logon}
+use Rattle.exchange_defs.specs.Commands.{Command, Negotiate, Setup, TreeConnect, SetupRequest, Shows, Begins}
 use Rattle.exchange_defs.specs.State.{Message, Reply}
 use Rattle.exchange_defs.specs.Operations.{Refusal, HadStatus}
 use Rattle.exchange_defs.specs.Client.{Client, Stage, Apart, SaidNegotiate, SaidFirst, SaidSecond, AskedTree, RefusedDialog, bind_channel, begin_session}
@@ -45,7 +45,7 @@ abbrev pub stage_command : Client → Stage → Command
 stage_command c Apart = Negotiate
 stage_command c (SaidNegotiate bound) = Negotiate
 stage_command c (SaidFirst bound) = setup_of c bound Begins
-stage_command c (SaidSecond bound) = setup_of c bound (Logon c.who.user c.who.key)
+stage_command c (SaidSecond bound) = setup_of c bound c.who.logon
 stage_command c AskedTree = TreeConnect c.who.share
 
 abbrev pub dialog_message : Client → ℕ → ℕ → Stage → Message

@@ -7,7 +7,7 @@ use Rattle.exchange_defs.specs.Content.{written, ended, same_bytes}
 use Rattle.exchange_defs.specs.Commands.{CreateRequest, Durable, SetupRequest, Basic, Element, asks_directory}
 use Rattle.exchange_defs.specs.State.{Server, Message, Open, Kept, Range, Tree, Making, NewSession, Binding, Body, Empty, Created, CreateReply, Reply, Record, NewOpen, Origin, CreateRecord, WriteRecord, EndRecord, BasicRecord, DeleteRecord, RenameRecord, LockRecord, Answer}
 use Rattle.exchange_defs.specs.Files.{make_file, empty_file, set_content, store_basic, mark_file, rename_file, info_of, same_basic, path_of}
-use Rattle.exchange_defs.specs.Opens.{id_of, mapped, add_open, drop_open, leave_open, leave_records}
+use Rattle.exchange_defs.specs.Opens.{id_of, mapped, add_open, drop_open, leave_open, leave_records, is_any}
 use Rattle.exchange_defs.specs.CheckCreate.{empties}
 use Rattle.exchange_defs.specs.CheckOpen.{is_late, is_slot, file_of}
 use Rattle.exchange_defs.specs.Records.{origin_of}
@@ -236,13 +236,9 @@ unfoldable pub end_records : Server → Origin → ℕ → Bool → List Record
 end_records s origin session true = []
 end_records s origin session false = leave_all_records s origin (plain_of s session)
 
-unfoldable pub is_empty_list : List ℕ → Bool
-is_empty_list [] = true
-is_empty_list (x ∷ xs) = false
-
 -- ending it takes an open out of the table
 abbrev pub end_acts : Server → ℕ → Bool
-end_acts s session = not (is_empty_list (plain_of s session))
+end_acts s session = is_any (plain_of s session)
 
 abbrev pub end_previous : Server → ℕ → Option ℕ → Bool → Server
 end_previous s now None is_quiet = s

@@ -130,8 +130,12 @@ abbrev pub remove_file : Server → ℕ → Server
 remove_file s f = record s { entries = without_file f s.entries }
 
 -- the path of the renamed file, and of each file below it, begins anew
+unfoldable pub path_behind : List ℕ → List ℕ → List ℕ → Option (List ℕ) → List ℕ
+path_behind old to path None = path
+path_behind old to path (Some rest) = if same_name old path then to else if is_below old path then to ++ rest else path
+
 unfoldable pub moved_path : List ℕ → List ℕ → List ℕ → List ℕ
-moved_path old to path = elim (after_name old path) [ None ↦ path | Some rest ↦ if same_name old path then to else if is_below old path then to ++ rest else path ]
+moved_path old to path = path_behind old to path (after_name old path)
 
 unfoldable pub moved_entry : List ℕ → List ℕ → Entry → Entry
 moved_entry old to e = record e { path = moved_path old to e.path }

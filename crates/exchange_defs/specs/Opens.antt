@@ -57,8 +57,12 @@ unfoldable pub admits : (ℕ → Open) → List ℕ → ℕ → ℕ → Bool
 admits opened [] access share = true
 admits opened (o ∷ os) access share = is_shared access (opened o).share && (is_shared (opened o).access share && admits opened os access share)
 
+unfoldable pub is_any : List ℕ → Bool
+is_any [] = false
+is_any (o ∷ os) = true
+
 unfoldable pub has_open : Server → ℕ → Bool
-has_open s f = elim (opens_of s f) [ [] ↦ false | o ∷ os ↦ true ]
+has_open s f = is_any (opens_of s f)
 
 -- ---- the table
 

@@ -3,21 +3,30 @@ use Rattle.std.specs.Prelude.{ℕ, zero, suc, ◌+◌, ◌==◌, Bool, true, fal
 use Rattle.exchange_defs.specs.Texts.{name_before}
 use Rattle.exchange_defs.specs.Order.{order_of}
 use Rattle.exchange_defs.specs.Operations.{Op, OpCreate, OpWrite, OpRead, OpEnd, OpTime, OpRename, OpRemove, OpLock, OpUnlock, OpStat, OpList, OpClose, Outcome}
-use Rattle.exchange_defs.specs.Client.{Identity}
+use Rattle.exchange_defs.specs.Client.{Identity, last_sequence}
+use Rattle.exchange_defs.specs.Commands.{Shows, Refused, Logon}
 use Rattle.exchange_defs.specs.State.{Server, Entry, Answer}
 use Rattle.exchange_defs.specs.Network.{Settings, World, Event, Submit, Serve, Take, Cut, Drop, Restart, Crash, Wait, Sent, answer, start}
 use Rattle.exchange_defs.specs.Runs.{account, isolates, acts}
 use Rattle.exchange_defs.specs.Schedules.{Course, Line, Does, Pushes, Links, Settles, course}
 
-abbrev pub somebody : Identity
-somebody = record { guid = 7; salt = 3; user = 117 ∷ []; key = 1; share = 100 ∷ []; cipher = 2; signing = 1 }
+abbrev pub somebody : Shows → Identity
+somebody logon = record { guid = 7; salt = 3; logon = logon; share = 100 ∷ []; cipher = 2; signing = 1 }
 
 -- a share with so much room
 abbrev pub settings : ℕ → Settings
-settings room = record { who = somebody; share = 100 ∷ []; room = room; seals = true }
+settings room = record { who = somebody (Logon (117 ∷ []) 1); share = 100 ∷ []; room = room; seals = true }
 
 abbrev pub beginning : ℕ → Course
 beginning room = record { world = start (settings room); events = [] }
+
+-- as the beginning, of a client whose logon is refused
+abbrev pub stranger : Course
+stranger = record { world = start (record (settings 268435456) { who = somebody Refused }); events = [] }
+
+-- a course whose client stands at its session's last sequence
+unfoldable pub worn_out : Course → Course
+worn_out c = record c { world = record c.world { client = record c.world.client { sequence = last_sequence } } }
 
 abbrev pub submit : ℕ → Op → Line
 submit g op = Does (Submit g op)
@@ -31,6 +40,9 @@ outcomes_from w g (suc n) = w.client.outcome g ∷ outcomes_from w (g + 1) n
 -- how each operation settled
 unfoldable pub outcomes : World → List Outcome
 outcomes w = outcomes_from w 1 w.client.taken
+
+unfoldable pub settled_in : Course → List Outcome
+settled_in c = outcomes c.world
 
 unfoldable pub orders_from : World → ℕ → ℕ → List (List ℕ)
 orders_from w c zero = []
