@@ -1,7 +1,7 @@
 -- The ordered checks of a message; the first that applies answers (MS-SMB2 3.3.5.2).
-use Rattle.std.specs.Prelude.{ℕ, ◌==◌, Bool, true, false, not, ◌&&◌, ◌||◌, if◌then◌else◌, List, Option, Some, None}
+use Rattle.std.specs.Prelude.{ℕ, ◌==◌, Bool, false, ◌||◌, if◌then◌else◌, Option, Some, None}
 use Rattle.exchange_defs.specs.Table.{is_at}
-use Rattle.exchange_defs.specs.Status.{success, user_session_deleted, network_name_deleted, file_closed}
+use Rattle.exchange_defs.specs.Status.{user_session_deleted, network_name_deleted, file_closed}
 use Rattle.exchange_defs.specs.Commands.{Command, Unreadable, Negotiate, Setup, Logoff, TreeConnect, TreeDisconnect, Create, Close, Flush, Read, Write, Lock, Ioctl, ListDirectory, QueryFile, QueryVolume, SetInfo, Echo, form, is_setup, no_file}
 use Rattle.exchange_defs.specs.State.{Server, Message, Empty}
 use Rattle.exchange_defs.specs.Opens.{is_of_session}

@@ -1,10 +1,10 @@
 -- The checks of CREATE (MS-SMB2 3.3.5.9, 3.3.5.9.10, 3.3.5.9.12; MS-FSA 2.1.5.1).
-use Rattle.std.specs.Prelude.{ℕ, ◌+◌, ◌==◌, nat_lt, nat_le, Bool, true, false, not, ◌&&◌, ◌||◌, if◌then◌else◌, List, [], ◌∷◌, length, Option, Some, None, bit_or, is_some}
+use Rattle.std.specs.Prelude.{ℕ, ◌==◌, nat_le, Bool, true, false, not, ◌&&◌, ◌||◌, if◌then◌else◌, length, Option, Some, None, bit_or, is_some}
 use Rattle.exchange_defs.specs.Table.{is_at}
 use Rattle.exchange_defs.specs.Status.{invalid_parameter, access_denied, object_path_not_found, delete_pending, object_name_not_found, object_name_collision, not_a_directory, file_is_a_directory, sharing_violation, insufficient_resources, duplicate_objectid}
 use Rattle.exchange_defs.specs.Texts.{same_name}
 use Rattle.exchange_defs.specs.Commands.{CreateRequest, Durable, Reconnect, asks_directory, asks_file, deletes_on_close}
-use Rattle.exchange_defs.specs.State.{Server, Message, Open}
+use Rattle.exchange_defs.specs.State.{Server, Message}
 use Rattle.exchange_defs.specs.Files.{root, find, has_parent, is_directory}
 use Rattle.exchange_defs.specs.Opens.{mapped, deletes, opens_of, admits, max_ids}
 use Rattle.exchange_defs.specs.Verdict.{Verdict, Refuse, KeepRefusal, Repeat, Attach, Make}

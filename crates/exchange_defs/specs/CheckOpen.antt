@@ -1,14 +1,13 @@
 -- The checks of the requests that name an open (MS-SMB2 3.3.5.10 to 3.3.5.21).
 use Rattle.std.specs.Prelude.{ℕ, ◌+◌, ◌-◌, ◌%◌, ◌==◌, nat_lt, nat_le, min, Bool, true, false, not, ◌&&◌, ◌||◌, if◌then◌else◌, List, [], ◌∷◌, length, take, drop, Option, Some, None, is_some}
-use Rattle.exchange_defs.specs.Table.{is_at, without}
-use Rattle.exchange_defs.specs.Status.{success, file_closed, file_not_available, access_denied, invalid_device_request, invalid_parameter, info_length_mismatch, end_of_file, file_lock_conflict, disk_full, no_such_file, no_more_files, directory_not_empty, object_path_not_found, object_name_collision, fs_driver_required}
-use Rattle.exchange_defs.specs.Texts.{same_list, same_name, is_below}
+use Rattle.exchange_defs.specs.Status.{success, file_not_available, access_denied, invalid_device_request, invalid_parameter, info_length_mismatch, end_of_file, file_lock_conflict, disk_full, no_such_file, no_more_files, directory_not_empty, object_path_not_found, object_name_collision, fs_driver_required}
+use Rattle.exchange_defs.specs.Texts.{same_list, is_below}
 use Rattle.exchange_defs.specs.Content.{written, ended, same_bytes, is_empty}
-use Rattle.exchange_defs.specs.Commands.{has_bit, Command, Setting, SetBasic, Rename, SetDelete, SetAllocation, SetEnd, Element, Basic}
-use Rattle.exchange_defs.specs.State.{Server, Message, Open, Kept, Entry, Info, Body, Empty, Content, Count, Closed, Listing, FileInfo, VolumeInfo, Interfaces, Named}
-use Rattle.exchange_defs.specs.Files.{root, find, path_of, has_parent, is_directory, is_full_directory, info_of, passes_room, allocated, set_basic, same_basic, has_below}
+use Rattle.exchange_defs.specs.Commands.{has_bit, Setting, SetBasic, Rename, SetDelete, SetAllocation, SetEnd, Element}
+use Rattle.exchange_defs.specs.State.{Server, Message, Kept, Entry, Body, Empty, Content, Count, Closed, Listing, FileInfo, VolumeInfo, Interfaces, Named}
+use Rattle.exchange_defs.specs.Files.{root, find, path_of, has_parent, is_directory, is_full_directory, info_of, passes_room, allocated, set_basic, same_basic}
 use Rattle.exchange_defs.specs.Ranges.{RangeAnswer, Stands, Denied, change_ranges, may_read, may_write}
-use Rattle.exchange_defs.specs.Opens.{opens_of, has_open}
+use Rattle.exchange_defs.specs.Opens.{has_open}
 use Rattle.exchange_defs.specs.Listing.{all_named, wanted, fitting, one_or_all, last_name, file_info_size, volume_info_size}
 use Rattle.exchange_defs.specs.Verdict.{Verdict, Refuse, Give, TurnDown, Tell, Show, KeepSlot, PutRanges, Alter, Shut, Change, PutBytes, PutEnd, PutBasic, PutMark, PutPath, PutNothing}
 

@@ -1,5 +1,5 @@
 -- The checks of SESSION_SETUP and TREE_CONNECT (MS-SMB2 3.3.5.5, 3.3.5.5.2, 3.3.5.5.3, 3.3.5.7).
-use Rattle.std.specs.Prelude.{ℕ, ◌+◌, ◌==◌, nat_lt, nat_le, Bool, true, false, not, ◌&&◌, ◌||◌, if◌then◌else◌, List, [], ◌∷◌, length, Option, Some, None, is_some}
+use Rattle.std.specs.Prelude.{ℕ, ◌+◌, ◌==◌, nat_le, Bool, true, false, not, ◌&&◌, if◌then◌else◌, List, [], ◌∷◌, length, Option, Some, None, is_some}
 use Rattle.exchange_defs.specs.Table.{is_at}
 use Rattle.exchange_defs.specs.Status.{user_session_deleted, request_not_accepted, invalid_parameter, logon_failure, access_denied, insufficient_resources, bad_network_name}
 use Rattle.exchange_defs.specs.Texts.{same_name}

@@ -1,9 +1,9 @@
 -- The client's state and its rules: what may go out, and what a cut or the end of its session does.
 use Rattle.std.specs.Prelude.{ℕ, zero, suc, ◌+◌, ◌-◌, ◌*◌, ◌%◌, ◌==◌, nat_le, nat_lt, Bool, true, false, not, ◌&&◌, ◌||◌, if◌then◌else◌, List, [], ◌∷◌, Option, Some, None, is_none}
-use Rattle.exchange_defs.specs.Table.{put, put2, is_at}
+use Rattle.exchange_defs.specs.Table.{put, put2}
 use Rattle.exchange_defs.specs.Commands.{Command, Shows}
 use Rattle.exchange_defs.specs.State.{Message}
-use Rattle.exchange_defs.specs.Operations.{Op, Outcome, Unsettled, WasOk, WasRefused, NoSlot, NoOpen, Unknown, Why, SessionLost, NoSession, Refusal, is_unsettled, is_ok, is_create, is_lock, is_change, create_of, persists, keeps_limits, holds_up, request_of, reconnect_of}
+use Rattle.exchange_defs.specs.Operations.{Op, Outcome, Unsettled, WasOk, NoSlot, NoOpen, Unknown, Why, SessionLost, Refusal, is_unsettled, is_ok, is_create, is_lock, is_change, create_of, persists, keeps_limits, holds_up, request_of, reconnect_of}
 
 -- ---- state
 

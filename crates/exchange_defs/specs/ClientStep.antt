@@ -1,10 +1,10 @@
 -- The client's core as one step by events: the state behind an event, and what the client is to do then.
 -- The network takes the same small steps; here they stand as one table.
-use Rattle.std.specs.Prelude.{ℕ, ◌==◌, nat_lt, Bool, true, false, not, ◌&&◌, ◌||◌, if◌then◌else◌, List, [], ◌∷◌, Option, Some, None}
+use Rattle.std.specs.Prelude.{ℕ, ◌==◌, nat_lt, Bool, ◌&&◌, if◌then◌else◌, List, Option, Some, None}
 use Rattle.exchange_defs.specs.State.{Reply}
-use Rattle.exchange_defs.specs.Operations.{Op, Why, is_unsettled}
+use Rattle.exchange_defs.specs.Operations.{Op, Why}
 use Rattle.exchange_defs.specs.Client.{Client, may_take, take_op, may_push, goes_itself, begun, outstanding, asked, settle_no_slots, cut_channel, ends_at_cut, end_session, bind_channel, begin_session, finish}
-use Rattle.exchange_defs.specs.Settling.{Heard, Settles, GoesAgain, Attaches, EndsSession, heard, hear, is_awaited}
+use Rattle.exchange_defs.specs.Settling.{Heard, EndsSession, heard, hear, is_awaited}
 use Rattle.exchange_defs.specs.Network.{Pick, has_its_slot}
 use Rattle.exchange_defs.specs.Schedules.{some_unsettled}
 

@@ -1,7 +1,7 @@
 -- Commands as values: what a request asks, whoever sent it (MS-SMB2 2.2).
-use Rattle.std.specs.Prelude.{ℕ, ◌+◌, ◌*◌, ◌/◌, ◌%◌, ◌==◌, nat_le, nat_lt, Bool, true, false, not, ◌&&◌, ◌||◌, if◌then◌else◌, List, [], ◌∷◌, length, Option, Some, None}
-use Rattle.exchange_defs.specs.Status.{invalid_parameter, object_name_invalid, invalid_info_class}
-use Rattle.exchange_defs.specs.Texts.{is_path, begins_with_backslash, same_list}
+use Rattle.std.specs.Prelude.{ℕ, ◌+◌, ◌/◌, ◌%◌, ◌==◌, nat_lt, Bool, true, false, not, ◌&&◌, ◌||◌, if◌then◌else◌, List, [], ◌∷◌, length, Option, Some, None}
+use Rattle.exchange_defs.specs.Status.{invalid_parameter, object_name_invalid}
+use Rattle.exchange_defs.specs.Texts.{is_path, begins_with_backslash}
 
 -- whether the number has this bit, a power of two
 unfoldable pub has_bit : ℕ → ℕ → Bool

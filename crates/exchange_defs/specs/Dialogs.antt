@@ -1,11 +1,11 @@
 -- How the client makes a session or binds a further channel to it (MS-SMB2 3.2.4.2 and 3.2.5.2 to 3.2.5.5).
-use Rattle.std.specs.Prelude.{ℕ, ◌+◌, ◌==◌, Bool, true, false, not, ◌&&◌, if◌then◌else◌, List, [], ◌∷◌, ◌++◌, Option, Some, None}
-use Rattle.exchange_defs.specs.Table.{put, is_at}
+use Rattle.std.specs.Prelude.{ℕ, ◌+◌, ◌==◌, Bool, true, false, if◌then◌else◌, [], ◌∷◌, ◌++◌, Option, Some, None}
+use Rattle.exchange_defs.specs.Table.{put}
 use Rattle.exchange_defs.specs.Status.{success, more_processing_required}
-use Rattle.exchange_defs.specs.Commands.{Command, Negotiate, Setup, TreeConnect, SetupRequest, Shows, Begins}
+use Rattle.exchange_defs.specs.Commands.{Command, Negotiate, Setup, TreeConnect, Shows, Begins}
 use Rattle.exchange_defs.specs.State.{Message, Reply}
-use Rattle.exchange_defs.specs.Operations.{Refusal, HadStatus}
-use Rattle.exchange_defs.specs.Client.{Client, Stage, Apart, SaidNegotiate, SaidFirst, SaidSecond, AskedTree, RefusedDialog, bind_channel, begin_session}
+use Rattle.exchange_defs.specs.Operations.{HadStatus}
+use Rattle.exchange_defs.specs.Client.{Client, Stage, Apart, SaidNegotiate, SaidFirst, SaidSecond, AskedTree, bind_channel, begin_session}
 
 -- what a response of a dialog comes to
 pub data DialogStep : Type 0 where

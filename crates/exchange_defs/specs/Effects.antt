@@ -1,11 +1,11 @@
 -- What a verdict does: the state behind it, the reply, the records owed and whether it acted.
-use Rattle.std.specs.Prelude.{ℕ, ◌+◌, ◌-◌, ◌*◌, ◌==◌, nat_lt, nat_le, Bool, true, false, not, ◌&&◌, ◌||◌, if◌then◌else◌, List, [], ◌∷◌, ◌++◌, length, Option, Some, None, is_some}
-use Rattle.exchange_defs.specs.Table.{put, put2, has, without, is_at, number_or_zero}
+use Rattle.std.specs.Prelude.{ℕ, ◌+◌, ◌-◌, ◌*◌, ◌==◌, nat_lt, Bool, true, false, not, ◌&&◌, ◌||◌, if◌then◌else◌, List, [], ◌∷◌, ◌++◌, Option, Some, None, is_some}
+use Rattle.exchange_defs.specs.Table.{put, put2, is_at, number_or_zero}
 use Rattle.exchange_defs.specs.Status.{success, more_processing_required}
 use Rattle.exchange_defs.specs.Texts.{same_list}
 use Rattle.exchange_defs.specs.Content.{written, ended, same_bytes}
 use Rattle.exchange_defs.specs.Commands.{CreateRequest, Durable, SetupRequest, Basic, Element, asks_directory}
-use Rattle.exchange_defs.specs.State.{Server, Message, Open, Kept, Range, Tree, Making, NewSession, Binding, Body, Empty, Created, CreateReply, Reply, Record, NewOpen, Origin, CreateRecord, WriteRecord, EndRecord, BasicRecord, DeleteRecord, RenameRecord, LockRecord, Answer}
+use Rattle.exchange_defs.specs.State.{Server, Message, Open, Range, Tree, NewSession, Binding, Body, Empty, Created, Record, NewOpen, Origin, CreateRecord, WriteRecord, EndRecord, BasicRecord, DeleteRecord, RenameRecord, LockRecord, Answer}
 use Rattle.exchange_defs.specs.Files.{make_file, empty_file, set_content, store_basic, mark_file, rename_file, info_of, same_basic, path_of}
 use Rattle.exchange_defs.specs.Opens.{id_of, mapped, add_open, drop_open, leave_open, leave_records, is_any}
 use Rattle.exchange_defs.specs.CheckCreate.{empties}

@@ -1,9 +1,8 @@
 -- The files of the share: paths, times, marks and bytes (MS-FSA 2.1.1.3 to 2.1.1.5).
-use Rattle.std.specs.Prelude.{ℕ, ◌+◌, ◌-◌, ◌==◌, nat_lt, nat_le, min, max, Bool, true, false, not, ◌&&◌, ◌||◌, if◌then◌else◌, List, [], ◌∷◌, ◌++◌, length, map, Option, Some, None, is_some}
-use Rattle.exchange_defs.specs.Table.{put, has, without, is_at}
-use Rattle.exchange_defs.specs.Texts.{same_list, same_name, is_below, parent_of, after_name}
-use Rattle.exchange_defs.specs.Content.{written, ended, same_bytes, is_empty}
-use Rattle.exchange_defs.specs.Commands.{Basic, Setting, SetBasic, Rename, SetDelete, SetAllocation, SetEnd}
+use Rattle.std.specs.Prelude.{ℕ, ◌+◌, ◌-◌, ◌==◌, nat_lt, min, Bool, true, false, ◌&&◌, ◌||◌, if◌then◌else◌, List, [], ◌∷◌, ◌++◌, length, Option, Some, None}
+use Rattle.exchange_defs.specs.Table.{put}
+use Rattle.exchange_defs.specs.Texts.{same_name, is_below, parent_of, after_name}
+use Rattle.exchange_defs.specs.Commands.{Basic}
 use Rattle.exchange_defs.specs.State.{Server, Entry, Info}
 
 abbrev pub root : ℕ

@@ -1,16 +1,15 @@
 -- What the journal's records stand for: a state folded from them, and the part of a state that outlives a restart.
-use Rattle.std.specs.Prelude.{◌≡◌, ℕ, ◌+◌, ◌-◌, ◌/◌, ◌%◌, ◌==◌, nat_lt, nat_le, max, Bool, true, false, not, ◌&&◌, ◌||◌, if◌then◌else◌, List, [], ◌∷◌, ◌++◌, length, Option, Some, None, is_some}
-use Rattle.exchange_defs.specs.Table.{put, put2, has}
+use Rattle.std.specs.Prelude.{◌≡◌, ℕ, ◌+◌, ◌/◌, ◌%◌, ◌==◌, nat_lt, nat_le, max, Bool, true, false, not, ◌&&◌, ◌||◌, if◌then◌else◌, List, [], ◌∷◌, ◌++◌, length, Option, Some, None, is_some}
 use Rattle.exchange_defs.specs.Status.{success}
-use Rattle.exchange_defs.specs.Texts.{is_path, same_list, is_below}
+use Rattle.exchange_defs.specs.Texts.{is_path, is_below}
 use Rattle.exchange_defs.specs.Content.{written, ended, is_empty}
 use Rattle.exchange_defs.specs.Commands.{Basic, Element, all_lock, all_unlock}
-use Rattle.exchange_defs.specs.State.{Server, Entry, Open, Range, Kept, Record, NewOpen, Origin, EpochRecord, CreateRecord, WriteRecord, EndRecord, BasicRecord, DeleteRecord, RenameRecord, RemoveRecord, LockRecord, ShutRecord, VersionRecord, ExpireRecord}
+use Rattle.exchange_defs.specs.State.{Server, Entry, Open, Range, Record, NewOpen, EpochRecord, CreateRecord, WriteRecord, EndRecord, BasicRecord, DeleteRecord, RenameRecord, RemoveRecord, LockRecord, ShutRecord, VersionRecord, ExpireRecord}
 use Rattle.exchange_defs.specs.Files.{root, find, path_of, exists, is_directory, has_parent, is_full_directory, passes_room, make_file, set_content, empty_file, mark_file, store_basic, remove_file, rename_file}
 use Rattle.exchange_defs.specs.Ranges.{RangeAnswer, Stands, Denied, change_ranges}
-use Rattle.exchange_defs.specs.Opens.{add_open, drop_open, marked_by, has_open, goes, without_gone}
+use Rattle.exchange_defs.specs.Opens.{add_open, drop_open, marked_by, has_open, without_gone}
 use Rattle.exchange_defs.specs.CheckCreate.{max_opens, max_files, last_file}
-use Rattle.exchange_defs.specs.CheckOpen.{target_of, is_slot, file_of}
+use Rattle.exchange_defs.specs.CheckOpen.{target_of, file_of}
 use Rattle.exchange_defs.specs.Effects.{keep_slot, set_ranges}
 use Rattle.exchange_defs.specs.Step.{add_mark}
 

@@ -1,7 +1,7 @@
 -- What QUERY_DIRECTORY gives (MS-SMB2 3.3.5.18, MS-FSA 2.1.4.4 and 2.1.5.6.3).
-use Rattle.std.specs.Prelude.{ℕ, ◌+◌, ◌-◌, ◌*◌, ◌/◌, ◌==◌, nat_lt, nat_le, Bool, true, false, not, ◌&&◌, ◌||◌, if◌then◌else◌, List, [], ◌∷◌, ◌++◌, length, Option, Some, None}
+use Rattle.std.specs.Prelude.{ℕ, ◌+◌, ◌*◌, ◌/◌, ◌==◌, nat_lt, nat_le, Bool, true, false, ◌&&◌, ◌||◌, if◌then◌else◌, List, [], ◌∷◌, Option, Some, None}
 use Rattle.exchange_defs.specs.Texts.{upper, same_list, same_name, name_before, utf16_length, parent_of, leaf_of}
-use Rattle.exchange_defs.specs.State.{Server, Entry, Named, Info}
+use Rattle.exchange_defs.specs.State.{Server, Entry, Named}
 use Rattle.exchange_defs.specs.Files.{root, find, info_of, path_of}
 
 -- ---- patterns: `*` stands for any characters, `?` for one

@@ -1,15 +1,15 @@
 -- One client, one server, and connections that lose what they hold.
-use Rattle.std.specs.Prelude.{ℕ, ◌+◌, ◌*◌, ◌==◌, nat_lt, Bool, true, false, not, ◌&&◌, ◌||◌, if◌then◌else◌, List, [], ◌∷◌, ◌++◌, Option, Some, None, is_some, min}
-use Rattle.exchange_defs.specs.Table.{put, is_at}
+use Rattle.std.specs.Prelude.{ℕ, ◌+◌, ◌*◌, ◌==◌, nat_lt, Bool, true, false, not, ◌&&◌, if◌then◌else◌, List, [], ◌∷◌, ◌++◌, Option, Some, None, is_some, min}
+use Rattle.exchange_defs.specs.Table.{put}
 use Rattle.exchange_defs.specs.Status.{success, end_of_file}
 use Rattle.exchange_defs.specs.Content.{ContentReply, Counted, Gives, Done}
 use Rattle.exchange_defs.specs.Order.{Log, Said, Says_ok, Says_end, Says_other}
 use Rattle.exchange_defs.specs.Commands.{Command, Negotiate, Echo}
-use Rattle.exchange_defs.specs.State.{Server, Message, ServerEvent, Accept, Heard, End, Reply, Body, Empty, Content, Count, Record, EpochRecord, VersionRecord, Answer}
+use Rattle.exchange_defs.specs.State.{Server, Message, Accept, Heard, End, Reply, Body, Empty, Content, Count, Record, EpochRecord, VersionRecord, Answer}
 use Rattle.exchange_defs.specs.Step.{step}
 use Rattle.exchange_defs.specs.Fold.{fold, recovered, full_room}
-use Rattle.exchange_defs.specs.Operations.{Op, OpClose, Outcome, Unsettled, Why, NoSession, Refusal, is_create, is_firm, is_unsettled, weight, charge}
-use Rattle.exchange_defs.specs.Client.{Client, Identity, Stage, Apart, AskedTree, SaidNegotiate, create_for, may_take, take_op, may_push, goes_itself, is_attached, needs_slot, is_free, begun, outstanding, asked, own_message, ask_message, settle_no_slots, cut_channel, ends_at_cut, end_session, finish}
+use Rattle.exchange_defs.specs.Operations.{Op, OpClose, Unsettled, NoSession, Refusal, is_create, is_firm, weight, charge}
+use Rattle.exchange_defs.specs.Client.{Client, Identity, Stage, Apart, AskedTree, SaidNegotiate, create_for, may_take, take_op, may_push, goes_itself, needs_slot, is_free, begun, outstanding, asked, own_message, ask_message, settle_no_slots, cut_channel, ends_at_cut, end_session, finish}
 use Rattle.exchange_defs.specs.Settling.{Heard as Hearing, EndsSession, heard, hear, is_awaited}
 use Rattle.exchange_defs.specs.Dialogs.{DialogStep, GoesOn, Accepts, Binds, Readies, Refuses, dialog_step, dialog_message, open_channel, went_on, accepted, bound, readied, leave_dialog, refused_dialog}
 

@@ -1,8 +1,8 @@
 -- Opens: access, sharing, ids, and what leaves the table with one (MS-SMB2 3.3.1.10, MS-FSA 2.1.5.1.2.2 and 2.1.5.5).
-use Rattle.std.specs.Prelude.{ℕ, ◌+◌, ◌*◌, ◌%◌, ◌==◌, nat_lt, nat_le, Bool, true, false, not, ◌&&◌, ◌||◌, if◌then◌else◌, List, [], ◌∷◌, ◌++◌, length, Option, Some, None, bit_or}
-use Rattle.exchange_defs.specs.Table.{put, put2, has, without, placed_in, is_at}
+use Rattle.std.specs.Prelude.{ℕ, ◌+◌, ◌*◌, ◌%◌, ◌==◌, Bool, true, false, not, ◌&&◌, ◌||◌, if◌then◌else◌, List, [], ◌∷◌, ◌++◌, Option, Some, None, bit_or}
+use Rattle.exchange_defs.specs.Table.{put, put2, without, placed_in, is_at}
 use Rattle.exchange_defs.specs.Commands.{has_bit, deletes_on_close}
-use Rattle.exchange_defs.specs.State.{Server, Open, Kept, Record, Origin, DeleteRecord, RemoveRecord, ShutRecord}
+use Rattle.exchange_defs.specs.State.{Server, Open, Record, Origin, DeleteRecord, RemoveRecord, ShutRecord}
 use Rattle.exchange_defs.specs.Ranges.{without_owner}
 use Rattle.exchange_defs.specs.Files.{root, exists, is_full_directory, mark_file, remove_file}
 

@@ -1,5 +1,5 @@
 -- The operations of a script, what they send and how they settle.
-use Rattle.std.specs.Prelude.{ℕ, ◌+◌, ◌-◌, ◌/◌, ◌==◌, nat_le, nat_lt, max, Bool, true, false, not, ◌&&◌, ◌||◌, if◌then◌else◌, List, [], ◌∷◌, length, Option, Some, None}
+use Rattle.std.specs.Prelude.{ℕ, ◌+◌, ◌-◌, ◌/◌, ◌==◌, nat_le, Bool, true, false, not, ◌||◌, if◌then◌else◌, List, [], ◌∷◌, length, Option, Some, None}
 use Rattle.exchange_defs.specs.Texts.{utf16_length, same_list}
 use Rattle.exchange_defs.specs.Content.{ContentOp, Still, Write as Writes, Read as Reads, SetEnd as Ends, meets}
 use Rattle.exchange_defs.specs.Commands.{Command, Create as CreateCommand, Write as WriteCommand, Read as ReadCommand, Close, Flush, Lock, ListDirectory, QueryFile, SetInfo, Echo, Basic, Element, SetBasic, Rename, SetDelete, SetEnd, CreateRequest, Durable, Reconnect}

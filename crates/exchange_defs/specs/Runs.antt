@@ -1,13 +1,12 @@
 -- What is said of a run: how often it acted on an operation, which pairs reached an open, and the order of an open.
-use Rattle.std.specs.Prelude.{◌≡◌, ℕ, ◌+◌, ◌==◌, ◌<◌, nat_lt, nat_le, Bool, true, false, not, ◌&&◌, ◌||◌, if◌then◌else◌, List, [], ◌∷◌, Option, Some, None, is_some}
+use Rattle.std.specs.Prelude.{ℕ, ◌+◌, ◌==◌, nat_lt, Bool, true, false, ◌&&◌, ◌||◌, if◌then◌else◌, List, [], ◌∷◌}
 use Rattle.exchange_defs.specs.Table.{is_at}
 use Rattle.exchange_defs.specs.Status.{end_of_file}
-use Rattle.exchange_defs.specs.Content.{ContentOp, ContentReply, Counted, Gives, Done}
+use Rattle.exchange_defs.specs.Content.{ContentReply, Counted, Gives, Done}
 use Rattle.exchange_defs.specs.Order.{Account, Settlement, Unsettled as NotSettled, Settled_ok, Settled_end, Settled_refused, Settled_unknown}
-use Rattle.exchange_defs.specs.Operations.{Op, OpReply, IsDone, Action, Wrote, Holds, Length, Names, Outcome, Unsettled, WasOk, WasRefused, NoSlot, NoOpen, Unknown, is_create, is_lock, is_read, create_of, content_op, share_of, is_ok}
+use Rattle.exchange_defs.specs.Operations.{Op, OpReply, Wrote, Holds, Outcome, Unsettled, WasOk, WasRefused, NoSlot, NoOpen, is_create, is_lock, is_read, create_of, content_op, share_of, is_ok}
 use Rattle.exchange_defs.specs.Opens.{denies_writers}
-use Rattle.exchange_defs.specs.State.{Server}
-use Rattle.exchange_defs.specs.Network.{World, Event, Serve, Crash, Sent, Token, ForOp, answer, is_possible, happens, run, may_serve}
+use Rattle.exchange_defs.specs.Network.{World, Event, Serve, Crash, Sent, Token, ForOp, answer, happens, may_serve}
 
 -- ---- acts: the Serve and kept Crash events on a send of the operation whose step acted
 

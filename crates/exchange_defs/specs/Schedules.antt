@@ -1,6 +1,6 @@
 -- The program's own choices, as lists of events: which operation a push sends, how a channel is linked, how a run is settled.
 -- The laws speak of every list of events, so nothing here is a premise of them.
-use Rattle.std.specs.Prelude.{ℕ, zero, suc, ◌+◌, ◌-◌, ◌==◌, nat_le, nat_lt, Bool, true, false, not, ◌&&◌, ◌||◌, if◌then◌else◌, List, [], ◌∷◌, ◌++◌, length, Option, Some, None, is_some}
+use Rattle.std.specs.Prelude.{ℕ, zero, suc, ◌+◌, ◌==◌, nat_le, Bool, true, false, not, ◌&&◌, ◌||◌, if◌then◌else◌, List, [], ◌∷◌, ◌++◌, length, Option, Some, None}
 use Rattle.exchange_defs.specs.Operations.{Refusal, weight, charge, is_unsettled}
 use Rattle.exchange_defs.specs.Client.{Client, Stage, Apart, RefusedDialog, create_for, may_push, goes_itself, needs_slot, is_free, settle_no_slot}
 use Rattle.exchange_defs.specs.Network.{World, Conn, Pick, Event, Open, Push, Serve, Take, Cut, Drop, Finish, happens, may_serve, may_take_reply, has_front, has_reply}

@@ -1,9 +1,9 @@
 -- What a reply does to the operation that it answers: the settling table.
-use Rattle.std.specs.Prelude.{ℕ, ◌+◌, ◌==◌, nat_lt, Bool, true, false, not, ◌&&◌, ◌||◌, if◌then◌else◌, List, [], ◌∷◌, ◌++◌, Option, Some, None}
+use Rattle.std.specs.Prelude.{ℕ, ◌==◌, nat_lt, Bool, true, not, ◌&&◌, ◌||◌, if◌then◌else◌, [], ◌∷◌, ◌++◌, Option, Some, None}
 use Rattle.exchange_defs.specs.Table.{put, put2, is_at}
 use Rattle.exchange_defs.specs.Status.{success, user_session_deleted, file_not_available, file_closed, object_name_not_found, duplicate_objectid, no_memory, disk_full, file_lock_conflict}
 use Rattle.exchange_defs.specs.State.{Reply, Body}
-use Rattle.exchange_defs.specs.Operations.{Op, OpReply, Outcome, Unsettled, WasOk, WasRefused, NoOpen, Unknown, WithStatus, is_create, is_lock, is_close, is_write, is_change, create_of, value_in, id_in, IsDone}
+use Rattle.exchange_defs.specs.Operations.{Op, OpReply, Outcome, Unsettled, WasOk, WasRefused, NoOpen, Unknown, WithStatus, is_create, is_lock, is_close, is_write, is_change, value_in, id_in, IsDone}
 use Rattle.exchange_defs.specs.Client.{Client, create_for, is_gone_after, end_session}
 
 -- what hearing a reply comes to

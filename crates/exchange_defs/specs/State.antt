@@ -1,5 +1,5 @@
 -- The server's state, what it hears and what it answers.
-use Rattle.std.specs.Prelude.{ℕ, Bool, true, false, List, [], Option, Some, None}
+use Rattle.std.specs.Prelude.{ℕ, Bool, List, Option}
 use Rattle.exchange_defs.specs.Commands.{Command, Basic, Element}
 
 -- ---- rows of the tables

@@ -1,8 +1,8 @@
 -- One event of the server: the expiry in front, the table's answer, and what the journal holds behind it.
-use Rattle.std.specs.Prelude.{ℕ, ◌+◌, ◌*◌, ◌==◌, nat_lt, nat_le, Bool, true, false, not, ◌&&◌, ◌||◌, if◌then◌else◌, List, [], ◌∷◌, ◌++◌, length, Option, Some, None, is_some}
-use Rattle.exchange_defs.specs.Table.{put, put2, has, without, is_at}
+use Rattle.std.specs.Prelude.{ℕ, ◌+◌, ◌*◌, nat_le, Bool, true, false, not, ◌&&◌, ◌||◌, if◌then◌else◌, List, [], ◌∷◌, ◌++◌, length, Option, Some, None, is_some}
+use Rattle.exchange_defs.specs.Table.{put, put2, without}
 use Rattle.exchange_defs.specs.Status.{success, insufficient_resources, disk_full}
-use Rattle.exchange_defs.specs.State.{Server, Message, ServerEvent, Accept, Heard, End, Stop, Open, Body, Empty, Reply, Record, Origin, ExpireRecord, Answer}
+use Rattle.exchange_defs.specs.State.{Server, Message, ServerEvent, Accept, Heard, End, Stop, Open, Empty, Record, Origin, ExpireRecord, Answer}
 use Rattle.exchange_defs.specs.Opens.{drop_open, leave_open, marked_by, gone_records}
 use Rattle.exchange_defs.specs.CheckCreate.{refused_create}
 use Rattle.exchange_defs.specs.CheckSetup.{count_channels}

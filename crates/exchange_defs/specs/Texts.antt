@@ -1,5 +1,5 @@
 -- Texts as lists of their UTF-8 bytes, and paths (MS-FSCC 2.1.5, MS-SMB2 2.2.13).
-use Rattle.std.specs.Prelude.{ℕ, zero, suc, ◌+◌, ◌-◌, ◌==◌, nat_le, nat_lt, Bool, true, false, not, ◌&&◌, ◌||◌, if◌then◌else◌, List, [], ◌∷◌, ◌++◌, length, sum_by, Option, Some, None}
+use Rattle.std.specs.Prelude.{ℕ, ◌-◌, ◌==◌, nat_le, nat_lt, Bool, true, false, not, ◌&&◌, ◌||◌, if◌then◌else◌, List, [], ◌∷◌, ◌++◌, sum_by, Option, Some, None}
 
 -- the very same numbers, one after the other
 unfoldable pub same_list : List ℕ → List ℕ → Bool

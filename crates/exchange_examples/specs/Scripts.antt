@@ -1,12 +1,12 @@
 -- Scripts of the worked examples, and what is told of the worlds that they come to.
-use Rattle.std.specs.Prelude.{ℕ, zero, suc, ◌+◌, ◌==◌, Bool, true, false, not, ◌&&◌, if◌then◌else◌, List, [], ◌∷◌, length, Option, Some, None}
+use Rattle.std.specs.Prelude.{ℕ, zero, suc, ◌+◌, Bool, true, false, if◌then◌else◌, List, [], ◌∷◌}
 use Rattle.exchange_defs.specs.Texts.{name_before}
 use Rattle.exchange_defs.specs.Order.{order_of}
-use Rattle.exchange_defs.specs.Operations.{Op, OpCreate, OpWrite, OpRead, OpEnd, OpTime, OpRename, OpRemove, OpLock, OpUnlock, OpStat, OpList, OpClose, Outcome}
+use Rattle.exchange_defs.specs.Operations.{Op, OpCreate, OpWrite, OpRead, OpTime, OpRename, OpRemove, OpLock, OpUnlock, OpStat, OpList, OpClose, Outcome}
 use Rattle.exchange_defs.specs.Client.{Identity, last_sequence}
 use Rattle.exchange_defs.specs.Commands.{Shows, Refused, Logon}
-use Rattle.exchange_defs.specs.State.{Server, Entry, Answer}
-use Rattle.exchange_defs.specs.Network.{Settings, World, Event, Submit, Serve, Take, Cut, Drop, Restart, Crash, Wait, Sent, answer, start}
+use Rattle.exchange_defs.specs.State.{Server, Entry}
+use Rattle.exchange_defs.specs.Network.{Settings, World, Submit, Serve, Take, Cut, Drop, Restart, Crash, Wait, Sent, answer, start}
 use Rattle.exchange_defs.specs.Runs.{account, isolates, acts}
 use Rattle.exchange_defs.specs.Schedules.{Course, Line, Does, Pushes, Links, Settles, course}
 

@@ -1,15 +1,15 @@
 -- A server alone, that hears one message after the other.
-use Rattle.std.specs.Prelude.{ℕ, zero, suc, ◌+◌, ◌-◌, ◌==◌, Bool, true, false, not, ◌&&◌, if◌then◌else◌, List, [], ◌∷◌, ◌++◌, length, Option, Some, None}
+use Rattle.std.specs.Prelude.{ℕ, zero, suc, ◌+◌, ◌==◌, Bool, true, false, not, ◌&&◌, List, [], ◌∷◌, length, Option, Some, None}
 use Rattle.exchange_defs.specs.Texts.{same_list}
 use Rattle.exchange_defs.specs.Content.{same_bytes}
-use Rattle.exchange_defs.specs.Commands.{Command, Setup, SetupRequest, Shows, Begins, Logon, Create, CreateRequest, Durable, Close, Lock, Element, Write, SetInfo, SetDelete}
-use Rattle.exchange_defs.specs.State.{Server, Message, ServerEvent, Accept, Heard, End, Entry, Open, Range, Record, Answer}
-use Rattle.exchange_defs.specs.Files.{same_basic, exists}
+use Rattle.exchange_defs.specs.Commands.{Command, Setup, Begins, Create, Durable, Element}
+use Rattle.exchange_defs.specs.State.{Server, Message, ServerEvent, Heard, Entry, Open, Range, Record}
+use Rattle.exchange_defs.specs.Files.{same_basic}
 use Rattle.exchange_defs.specs.Records.{lower_limit}
 use Rattle.exchange_defs.specs.Step.{step}
 use Rattle.exchange_defs.specs.Fold.{fold, durable}
 use Rattle.exchange_defs.specs.Network.{World}
-use Rattle.exchange_defs.specs.Schedules.{Line, Links, course}
+use Rattle.exchange_defs.specs.Schedules.{Links, course}
 use Rattle.exchange_examples.specs.Scripts.{beginning}
 
 -- ---- one session, of id 4294967297 with tree 1, on connection 0
