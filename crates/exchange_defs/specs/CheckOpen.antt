@@ -43,14 +43,16 @@ alter s m o change body = if m.replay && (not (is_directory s (file_of s o)) && 
 abbrev pub bytes_change : ℕ → List ℕ → Change
 bytes_change at bytes = if is_empty bytes then PutNothing else PutBytes at bytes
 
-abbrev pub write_check : Server → Message → ℕ → ℕ → List ℕ → Verdict
-write_check s m o at bytes =
-    if is_late s m o then Refuse file_not_available
-    else if not (has_access s o 0x2) then TurnDown o access_denied
+abbrev pub timely_write : Server → Message → ℕ → ℕ → List ℕ → Verdict
+timely_write s m o at bytes =
+    if not (has_access s o 0x2) then TurnDown o access_denied
     else if is_directory s (file_of s o) then TurnDown o invalid_device_request
     else if not (may_write (s.ranges (file_of s o)) o at (length bytes)) then TurnDown o file_lock_conflict
     else if not (is_empty bytes) && passes_room s (file_of s o) (at + length bytes) then TurnDown o disk_full
     else alter s m o (bytes_change at bytes) (Count (length bytes))
+
+abbrev pub write_check : Server → Message → ℕ → ℕ → List ℕ → Verdict
+write_check s m o at bytes = if is_late s m o then Refuse file_not_available else timely_write s m o at bytes
 
 -- ---- READ (3.3.5.12)
 
@@ -209,7 +211,7 @@ ioctl_status code room = if code == query_interfaces then (if nat_lt room 152 th
 
 abbrev pub ioctl_check : Server → Message → ℕ → ℕ → ℕ → Verdict
 ioctl_check s m o code room =
-    if is_late s m o then Refuse file_not_available
+    if is_late s m o then Refuse file_not_available  -- an IOCTL too
     else if ioctl_status code room == success then Tell o Interfaces
     else TurnDown o (ioctl_status code room)
 
