@@ -1,12 +1,12 @@
 -- Scripts of the worked examples, and what is told of the worlds that they come to.
-use Rattle.std.specs.Prelude.{ℕ, zero, suc, ◌+◌, Bool, true, false, if◌then◌else◌, List, [], ◌∷◌}
+use Rattle.std.specs.Prelude.{ℕ, zero, suc, ◌+◌, ◌==◌, Bool, true, false, not, ◌&&◌, if◌then◌else◌, List, [], ◌∷◌, length, Option, Some, None}
 use Rattle.exchange_defs.specs.Texts.{name_before}
 use Rattle.exchange_defs.specs.Order.{order_of}
-use Rattle.exchange_defs.specs.Operations.{Op, OpCreate, OpWrite, OpRead, OpTime, OpRename, OpRemove, OpLock, OpUnlock, OpStat, OpList, OpClose, Outcome}
+use Rattle.exchange_defs.specs.Operations.{Op, OpCreate, OpWrite, OpRead, OpEnd, OpTime, OpRename, OpRemove, OpLock, OpUnlock, OpStat, OpList, OpClose, Outcome}
 use Rattle.exchange_defs.specs.Client.{Identity, last_sequence}
 use Rattle.exchange_defs.specs.Commands.{Shows, Refused, Logon}
-use Rattle.exchange_defs.specs.State.{Server, Entry}
-use Rattle.exchange_defs.specs.Network.{Settings, World, Submit, Serve, Take, Cut, Drop, Restart, Crash, Wait, Sent, answer, start}
+use Rattle.exchange_defs.specs.State.{Server, Entry, Answer}
+use Rattle.exchange_defs.specs.Network.{Settings, World, Event, Submit, Push, Serve, Take, Cut, Drop, Restart, Crash, Wait, Sent, answer, start}
 use Rattle.exchange_defs.specs.Runs.{account, isolates, acts}
 use Rattle.exchange_defs.specs.Schedules.{Course, Line, Does, Pushes, Links, Settles, course}
 
@@ -344,3 +344,71 @@ abbrev pub denied_remover : List Line
 denied_remover =
     submit 1 (OpCreate (100 ∷ []) 0x183 0 2 false true) ∷ submit 2 (OpCreate (100 ∷ 92 ∷ 97 ∷ []) 0x183 0 2 false false) ∷
     submit 3 (OpCreate (100 ∷ []) 0x10183 1 1 false true) ∷ submit 4 (OpRemove 3) ∷ Settles ∷ []
+
+-- A create acted and its reply is lost with its channel: the retry is given the same answer.
+abbrev pub retry_after_act : List Line
+retry_after_act =
+    Links 0 ∷ Links 1 ∷ submit 1 (OpCreate (97 ∷ []) 0x183 0 2 false false) ∷ Pushes 0 ∷ Does (Serve 0) ∷ Does (Cut 0) ∷ Pushes 1 ∷ Does (Serve 1) ∷
+    Does (Take 1) ∷ []
+
+-- A close acted and its reply is lost: the retry finds no open, and the close is Ok.
+abbrev pub retried_close : List Line
+retried_close =
+    Links 0 ∷ Links 1 ∷ submit 1 (OpCreate (97 ∷ []) 0x183 0 2 false false) ∷ Pushes 0 ∷ Does (Serve 0) ∷ Does (Take 0) ∷ submit 2 (OpClose 1) ∷
+    Pushes 0 ∷ Does (Serve 0) ∷ Does (Cut 0) ∷ Pushes 1 ∷ Does (Serve 1) ∷ Does (Take 1) ∷ []
+
+-- A delayed end is held back, as a write is.
+abbrev pub held_back_end : List Line
+held_back_end =
+    Links 0 ∷ Links 1 ∷ submit 1 (OpCreate (97 ∷ []) 0x183 0 2 false false) ∷ Pushes 0 ∷ Does (Serve 0) ∷ Does (Take 0) ∷ submit 2 (OpEnd 1 5) ∷
+    Pushes 0 ∷ Does (Cut 0) ∷ Pushes 1 ∷ Does (Serve 1) ∷ Does (Take 1) ∷ submit 3 (OpEnd 1 3) ∷ Pushes 1 ∷ Does (Serve 1) ∷ Does (Take 1) ∷
+    Does (Serve 0) ∷ []
+
+abbrev pub held_back_end_until_note : List Line
+held_back_end_until_note =
+    Links 0 ∷ Links 1 ∷ submit 1 (OpCreate (97 ∷ []) 0x183 0 2 false false) ∷ Pushes 0 ∷ Does (Serve 0) ∷ Does (Take 0) ∷ submit 2 (OpEnd 1 5) ∷
+    Pushes 0 ∷ Does (Cut 0) ∷ Pushes 1 ∷ Does (Serve 1) ∷ Does (Take 1) ∷ submit 3 (OpEnd 1 3) ∷ Pushes 1 ∷ Does (Serve 1) ∷ Does (Take 1) ∷ []
+
+-- A write that finds no room adopts its sequence all the same, so its delayed copy is held back.
+abbrev pub refusal_adopts : List Line
+refusal_adopts =
+    Links 0 ∷ Links 1 ∷ submit 1 (OpCreate (97 ∷ []) 0x183 0 2 false false) ∷ Pushes 0 ∷ Does (Serve 0) ∷ Does (Take 0) ∷
+    submit 2 (OpWrite 1 0 (97 ∷ 98 ∷ 99 ∷ 100 ∷ 101 ∷ [])) ∷ Pushes 0 ∷ Does (Cut 0) ∷ Pushes 1 ∷ Does (Serve 1) ∷ Does (Take 1) ∷ Does (Serve 0) ∷ []
+
+abbrev pub refusal_adopts_until_note : List Line
+refusal_adopts_until_note =
+    Links 0 ∷ Links 1 ∷ submit 1 (OpCreate (97 ∷ []) 0x183 0 2 false false) ∷ Pushes 0 ∷ Does (Serve 0) ∷ Does (Take 0) ∷
+    submit 2 (OpWrite 1 0 (97 ∷ 98 ∷ 99 ∷ 100 ∷ 101 ∷ [])) ∷ Pushes 0 ∷ Does (Cut 0) ∷ Pushes 1 ∷ Does (Serve 1) ∷ Does (Take 1) ∷ []
+
+-- A lock acted and its reply is lost with the server: the retry is answered by its slot.
+abbrev pub restart_keeps_locks : List Line
+restart_keeps_locks =
+    Links 0 ∷ submit 1 (OpCreate (97 ∷ []) 0x183 0 2 true false) ∷ Pushes 0 ∷ Does (Serve 0) ∷ Does (Take 0) ∷ submit 2 (OpLock 1 0 10 true) ∷
+    Pushes 0 ∷ Does (Serve 0) ∷ Does Restart ∷ Does (Cut 0) ∷ Settles ∷ []
+
+-- A lock of a persistent open is refused, and a restart keeps that.
+abbrev pub restart_keeps_refused_locks : List Line
+restart_keeps_refused_locks =
+    Links 0 ∷ submit 1 (OpCreate (97 ∷ []) 0x183 3 2 true false) ∷ submit 2 (OpCreate (97 ∷ []) 0x183 3 1 true false) ∷ Pushes 0 ∷ Does (Serve 0) ∷
+    Does (Take 0) ∷ Pushes 0 ∷ Does (Serve 0) ∷ Does (Take 0) ∷ submit 3 (OpLock 1 0 10 true) ∷ submit 4 (OpLock 2 5 10 false) ∷ Pushes 0 ∷
+    Does (Serve 0) ∷ Does (Take 0) ∷ Pushes 0 ∷ Does (Serve 0) ∷ Does Restart ∷ Does (Cut 0) ∷ Settles ∷ []
+
+-- An open that is attached again has no deadline any more.
+abbrev pub attached_again : List Line
+attached_again =
+    Links 0 ∷ submit 1 (OpCreate (97 ∷ []) 0x183 0 2 true false) ∷ Pushes 0 ∷ Does (Serve 0) ∷ Does (Take 0) ∷ Does (Cut 0) ∷ Does (Drop 0) ∷
+    Does (Wait 59000) ∷ submit 2 (OpWrite 1 0 (97 ∷ [])) ∷ Settles ∷ Does (Wait 59000) ∷ submit 3 (OpWrite 1 0 (98 ∷ [])) ∷ Settles ∷ []
+
+-- A plain open is lost with its session, and what comes later has no open.
+abbrev pub plain_open_lost : List Line
+plain_open_lost =
+    Links 0 ∷ submit 1 (OpCreate (97 ∷ []) 0x183 0 2 false false) ∷ Pushes 0 ∷ Does (Serve 0) ∷ Does (Take 0) ∷ submit 2 (OpWrite 1 0 (97 ∷ [])) ∷
+    Pushes 0 ∷ Does (Cut 0) ∷ submit 3 (OpWrite 1 0 (98 ∷ [])) ∷ submit 4 (OpClose 1) ∷ []
+
+-- A write waits for a lower one that overlaps it as long as that is unsettled, though no copy of it is outstanding.
+abbrev pub later_write_waits : List Line
+later_write_waits =
+    Links 0 ∷ Links 1 ∷ Links 2 ∷ submit 1 (OpCreate (97 ∷ []) 0x183 0 2 false false) ∷ Pushes 0 ∷ Does (Serve 0) ∷ Does (Take 0) ∷
+    submit 2 (OpWrite 1 0 (97 ∷ [])) ∷ submit 3 (OpWrite 1 0 (98 ∷ [])) ∷ Does (Push 1 [] (Some (record { op = 2; slot = 0 }))) ∷ Does (Cut 1) ∷
+    Does (Push 2 [] (Some (record { op = 3; slot = 0 }))) ∷ Does (Serve 1) ∷ Does (Serve 2) ∷ Does (Push 2 [] (Some (record { op = 2; slot = 0 }))) ∷
+    Does (Serve 2) ∷ Settles ∷ []

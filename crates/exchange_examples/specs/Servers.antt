@@ -2,8 +2,8 @@
 use Rattle.std.specs.Prelude.{ℕ, zero, suc, ◌+◌, ◌==◌, Bool, true, false, not, ◌&&◌, List, [], ◌∷◌, length, Option, Some, None}
 use Rattle.exchange_defs.specs.Texts.{same_list}
 use Rattle.exchange_defs.specs.Content.{same_bytes}
-use Rattle.exchange_defs.specs.Commands.{Command, Setup, Begins, Create, Durable, Element}
-use Rattle.exchange_defs.specs.State.{Server, Message, ServerEvent, Heard, Entry, Open, Range, Record}
+use Rattle.exchange_defs.specs.Commands.{Command, Setup, TreeConnect, Shows, Begins, Logon, Create, Durable, Element}
+use Rattle.exchange_defs.specs.State.{Accept, Server, Message, ServerEvent, Heard, Entry, Open, Range, Record}
 use Rattle.exchange_defs.specs.Files.{same_basic}
 use Rattle.exchange_defs.specs.Records.{lower_limit}
 use Rattle.exchange_defs.specs.Step.{step}
@@ -63,6 +63,27 @@ first_open = 4294967297
 
 abbrev pub second_open : ℕ
 second_open = 4294967298
+
+-- ---- a second session, of id 4294967298 with tree 1, on connection 1
+
+abbrev pub second_id : ℕ
+second_id = 4294967298
+
+abbrev pub setup : Shows → Command
+setup shows = Setup (record { readable = true; binding = false; signed = false; verified = false; previous = 0; cipher = 2; signing = 1; shows = shows })
+
+abbrev pub in_second : ℕ → ℕ → Bool → Command → ServerEvent
+in_second id tree replay command = Heard (record { connection = 1; client = 7; session = id; tree = tree; id = 9; sequence = 0; replay = replay; fault = None; command = command })
+
+unfoldable pub second_session : Server
+second_session = after_all one_session 50 (Accept 1 ∷ in_second 0 0 false (setup Begins) ∷ in_second second_id 0 false (setup (Logon (117 ∷ []) 1)) ∷ in_second second_id 0 false (TreeConnect (100 ∷ [])) ∷ [])
+
+abbrev pub ask_second : Bool → Command → ServerEvent
+ask_second replay command = in_second second_id 1 replay command
+
+abbrev pub reconnect : ℕ → ℕ → Command
+reconnect file guid =
+    Create (record { path = 97 ∷ []; access = 0x183; share = 0; attributes = 0; disposition = 1; options = 0x40; durable = None; reconnect = Some (record { file = file; guid = guid }); maximal = false; disk_id = false })
 
 -- ---- a server whose journal holds no further record, and one that holds all marks
 
