@@ -1,9 +1,10 @@
 #!/usr/bin/env python3
 """Applies each change of tools/wrong-models.txt to a copy of the crates, one at a time, and checks a crate there.
 
-usage: tools/wrong-models.py CRATE FOLDER [NAME ..]
+usage: tools/wrong-models.py [--examples] CRATE FOLDER [NAME ..]
 
-FOLDER is where the copy is made; NAMEs choose some of the changes. A line is printed for each: its name, then `refused`
+FOLDER is where the copy is made; NAMEs choose some of the changes. With --examples only the function that a change's
+`example` names is proved, and changes without one are left out. A line is printed for each: its name, then `refused`
 with the functions or lemmas whose proof fails, `passes`, or `BAD` where the text doesn't stand once or doesn't compile.
 """
 import os, re, shutil, subprocess, sys
@@ -30,7 +31,10 @@ def failing(text):
 
 
 def main():
-    crate, folder, chosen = sys.argv[1], sys.argv[2], sys.argv[3:]
+    words = sys.argv[1:]
+    by_example = words[:1] == ["--examples"]
+    words = words[1:] if by_example else words
+    crate, folder, chosen = words[0], words[1], words[2:]
     top = os.path.dirname(os.path.dirname(os.path.abspath(__file__)))
     copy = os.path.join(folder, "wrong")
     shutil.rmtree(copy, ignore_errors=True)
@@ -40,7 +44,7 @@ def main():
         shutil.copytree(source, target) if os.path.isdir(source) else shutil.copy(source, target)
     subprocess.run(["git", "init", "-q"], cwd=copy, check=False)
     for change in read_changes(os.path.join(top, "tools", "wrong-models.txt")):
-        if chosen and change["name"] not in chosen:
+        if (chosen and change["name"] not in chosen) or (by_example and "example" not in change):
             continue
         path = os.path.join(copy, change["file"])
         original = open(path, encoding="utf-8").read()
@@ -48,13 +52,14 @@ def main():
             print(change["name"], "BAD: the text stands", original.count(change["old"]), "times", flush=True)
             continue
         open(path, "w", encoding="utf-8").write(original.replace(change["old"], change["new"]))
-        run = subprocess.run(["rt", "check"], cwd=os.path.join(copy, "crates", crate), capture_output=True, text=True)
+        only = ["--only", change["example"]] if by_example else []
+        run = subprocess.run(["rt", "check"] + only, cwd=os.path.join(copy, "crates", crate), capture_output=True, text=True)
         text = run.stdout + run.stderr
         open(path, "w", encoding="utf-8").write(original)
         broken = re.findall(r"specs/\w+\.antt:\d+:\d+: error: .{0,120}", text)
         if broken:
             print(change["name"], "BAD:", broken[0], flush=True)
-        elif "logic=not-proved" in text or failing(text):
+        elif run.returncode != 0:
             print(change["name"], "refused:", ", ".join(failing(text)), flush=True)
         else:
             print(change["name"], "passes", flush=True)

@@ -51,9 +51,13 @@ abbrev pub is_at : ℕ → Option ℕ → Bool
 is_at n None = false
 is_at n (Some i) = i == n
 
+-- a read, a write or an end of this open
+abbrev pub is_of : Account → ℕ → ℕ → Bool
+is_of a o g = (a.of g == o) && is_listed (a.ops g)
+
 -- place n is that of its message's operation, which is one of this open's
 abbrev pub is_entry : Account → ℕ → ℕ → Bool
-is_entry a o n = is_at n (place a (a.log.who n)) && ((a.of (a.log.who n) == o) && is_listed (a.ops (a.log.who n)))
+is_entry a o n = is_at n (place a (a.log.who n)) && is_of a o (a.log.who n)
 
 -- the operations that have their place among the k places from n on
 unfoldable pub order_from : Account → ℕ → ℕ → ℕ → List ℕ
@@ -119,6 +123,6 @@ pub record Legal (a : Account) (o : ℕ) (order start end : List ℕ) : Type 0 w
   -- each operation stands in it at most once
   pub once : (g : ℕ) → count g order ≤ 1
   -- one that settled as Ok or Refused stands in it
-  pub settled : (g : ℕ) → a.of g ≡ o → is_listed (a.ops g) ≡ true → is_firm (a.settlement g) ≡ true → count g order ≡ 1
+  pub settled : (g : ℕ) → is_of a o g ≡ true → is_firm (a.settlement g) ≡ true → count g order ≡ 1
   -- whatever settled before another was first pushed stands before it
   pub before : (g h : ℕ) → a.log.prior h g ≡ true → count g order ≡ 1 → count h order ≡ 1 → precedes g h order ≡ true
