@@ -25,7 +25,7 @@ abbrev pub stranger : Course
 stranger = record { world = start (record (settings 268435456) { who = somebody Refused }); events = [] }
 
 -- a course whose client stands at its session's last sequence
-unfoldable pub worn_out : Course → Course
+abbrev pub worn_out : Course → Course
 worn_out c = record c { world = record c.world { client = record c.world.client { sequence = last_sequence } } }
 
 abbrev pub submit : ℕ → Op → Line
@@ -33,39 +33,39 @@ submit g op = Does (Submit g op)
 
 -- ---- what is told
 
-unfoldable pub outcomes_from : World → ℕ → ℕ → List Outcome
+abbrev pub outcomes_from : World → ℕ → ℕ → List Outcome
 outcomes_from w g zero = []
 outcomes_from w g (suc n) = w.client.outcome g ∷ outcomes_from w (g + 1) n
 
 -- how each operation settled
-unfoldable pub outcomes : World → List Outcome
+abbrev pub outcomes : World → List Outcome
 outcomes w = outcomes_from w 1 w.client.taken
 
-unfoldable pub settled_in : Course → List Outcome
+abbrev pub settled_in : Course → List Outcome
 settled_in c = outcomes c.world
 
-unfoldable pub orders_from : World → ℕ → ℕ → List (List ℕ)
+abbrev pub orders_from : World → ℕ → ℕ → List (List ℕ)
 orders_from w c zero = []
 orders_from w c (suc n) = if isolates w c then order_of (account w) c ∷ orders_from w (c + 1) n else orders_from w (c + 1) n
 
 -- the order of each create that settled Ok and denies writers
-unfoldable pub orders : World → List (List ℕ)
+abbrev pub orders : World → List (List ℕ)
 orders w = orders_from w 1 w.client.taken
 
 pub record FileLine : Type 0 where
   pub path : List ℕ
   pub bytes : List ℕ
 
-unfoldable pub place_line : FileLine → List FileLine → List FileLine
+abbrev pub place_line : FileLine → List FileLine → List FileLine
 place_line l [] = l ∷ []
 place_line l (m ∷ ms) = if name_before l.path m.path then l ∷ m ∷ ms else m ∷ place_line l ms
 
-unfoldable pub lines_from : Server → List Entry → List FileLine
+abbrev pub lines_from : Server → List Entry → List FileLine
 lines_from s [] = []
 lines_from s (e ∷ es) = if s.directory e.file then lines_from s es else place_line (record { path = e.path; bytes = s.content e.file }) (lines_from s es)
 
 -- the files, directories left out
-unfoldable pub files : World → List FileLine
+abbrev pub files : World → List FileLine
 files w = lines_from w.server w.server.entries
 
 pub record Told : Type 0 where
@@ -73,31 +73,31 @@ pub record Told : Type 0 where
   pub printed : List (List ℕ)
   pub stored : List FileLine
 
-unfoldable pub tell : World → Told
+abbrev pub tell : World → Told
 tell w = record { settled = outcomes w; printed = orders w; stored = files w }
 
 -- what a script tells at its end, over the channels below n
-unfoldable pub told : ℕ → ℕ → List Line → Told
+abbrev pub told : ℕ → ℕ → List Line → Told
 told n room script = tell (course n script (beginning room)).world
 
 pub record Note : Type 0 where
   pub status : ℕ
   pub acted : Bool
 
-unfoldable pub note_of_front : World → List Sent → Note
+abbrev pub note_of_front : World → List Sent → Note
 note_of_front w [] = record { status = 0; acted = false }
 note_of_front w (x ∷ rest) = record { status = (answer w x).reply.status; acted = (answer w x).acted }
 
 -- the note of a Serve of channel k behind a script
-unfoldable pub note : ℕ → ℕ → List Line → ℕ → Note
+abbrev pub note : ℕ → ℕ → List Line → ℕ → Note
 note n room script k = let w = (course n script (beginning room)).world in note_of_front w (w.conns k).up
 
 -- how often a script's run acted on an operation
-unfoldable pub acted_on : ℕ → ℕ → List Line → ℕ → ℕ
+abbrev pub acted_on : ℕ → ℕ → List Line → ℕ → ℕ
 acted_on n room script g = acts (course n script (beginning room)).events (start (settings room)) g
 
 -- the id of the open that a create was told
-unfoldable pub id_told : ℕ → ℕ → List Line → ℕ → ℕ
+abbrev pub id_told : ℕ → ℕ → List Line → ℕ → ℕ
 id_told n room script c = (course n script (beginning room)).world.client.file c
 
 -- ---- scripts

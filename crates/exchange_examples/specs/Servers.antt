@@ -17,7 +17,7 @@ use Rattle.exchange_examples.specs.Scripts.{beginning}
 abbrev pub session : ℕ
 session = 4294967297
 
-unfoldable pub one_session : Server
+abbrev pub one_session : Server
 one_session = (course 1 (Links 0 ∷ []) (beginning 268435456)).world.server
 
 abbrev pub from_client : ℕ → ℕ → ℕ → ℕ → Bool → Command → Message
@@ -28,18 +28,18 @@ ask command = Heard (from_client 0 7 9 0 false command)
 
 -- ---- what it answers to the last of a list of events, each a moment behind the one before
 
-unfoldable pub after_all : Server → ℕ → List ServerEvent → Server
+abbrev pub after_all : Server → ℕ → List ServerEvent → Server
 after_all s now [] = s
 after_all s now (e ∷ es) = after_all (step s now e).server (now + 1) es
 
-unfoldable pub status_after : Server → List ServerEvent → ServerEvent → ℕ
+abbrev pub status_after : Server → List ServerEvent → ServerEvent → ℕ
 status_after s before e = (step (after_all s 100 before) 200 e).reply.status
 
-unfoldable pub records_after : Server → List ServerEvent → ServerEvent → List Record
+abbrev pub records_after : Server → List ServerEvent → ServerEvent → List Record
 records_after s before e = (step (after_all s 100 before) 200 e).records
 
 -- how many files stand after a list of events
-unfoldable pub files_after : Server → List ServerEvent → ℕ
+abbrev pub files_after : Server → List ServerEvent → ℕ
 files_after s events = length (after_all s 100 events).entries
 
 -- ---- requests
@@ -75,7 +75,7 @@ setup shows = Setup (record { readable = true; binding = false; signed = false; 
 abbrev pub in_second : ℕ → ℕ → Bool → Command → ServerEvent
 in_second id tree replay command = Heard (record { connection = 1; client = 7; session = id; tree = tree; id = 9; sequence = 0; replay = replay; fault = None; command = command })
 
-unfoldable pub second_session : Server
+abbrev pub second_session : Server
 second_session = after_all one_session 50 (Accept 1 ∷ in_second 0 0 false (setup Begins) ∷ in_second second_id 0 false (setup (Logon (117 ∷ []) 1)) ∷ in_second second_id 0 false (TreeConnect (100 ∷ [])) ∷ [])
 
 abbrev pub ask_second : Bool → Command → ServerEvent
@@ -87,63 +87,63 @@ reconnect file guid =
 
 -- ---- a server whose journal holds no further record, and one that holds all marks
 
-unfoldable pub with_full_journal : Server → Server
+abbrev pub with_full_journal : Server → Server
 with_full_journal s = record s { journal = lower_limit }
 
-unfoldable pub with_all_marks : Server → Server
+abbrev pub with_all_marks : Server → Server
 with_all_marks s = record s { mark_count = 65536 }
 
 -- ---- the journal stands for the state: the fold of a world's records and the world's server agree on what outlives a restart
 
-unfoldable pub same_paths : List Entry → List Entry → Bool
+abbrev pub same_paths : List Entry → List Entry → Bool
 same_paths [] [] = true
 same_paths [] (e ∷ es) = false
 same_paths (d ∷ ds) [] = false
 same_paths (d ∷ ds) (e ∷ es) = (d.file == e.file) && (same_list d.path e.path && same_paths ds es)
 
-unfoldable pub same_flag : Bool → Bool → Bool
+abbrev pub same_flag : Bool → Bool → Bool
 same_flag true b = b
 same_flag false b = not b
 
-unfoldable pub same_range : Range → Range → Bool
+abbrev pub same_range : Range → Range → Bool
 same_range r q = (r.owner == q.owner) && ((r.at == q.at) && ((r.length == q.length) && same_flag r.exclusive q.exclusive))
 
-unfoldable pub same_ranges : List Range → List Range → Bool
+abbrev pub same_ranges : List Range → List Range → Bool
 same_ranges [] [] = true
 same_ranges [] (q ∷ qs) = false
 same_ranges (r ∷ rs) [] = false
 same_ranges (r ∷ rs) (q ∷ qs) = same_range r q && same_ranges rs qs
 
-unfoldable pub same_file : Server → Server → ℕ → Bool
+abbrev pub same_file : Server → Server → ℕ → Bool
 same_file s t f =
     same_bytes (s.content f) (t.content f)
     && (same_basic (s.basic f) (t.basic f) && (same_flag (s.marked f) (t.marked f) && (same_flag (s.directory f) (t.directory f) && same_ranges (s.ranges f) (t.ranges f))))
 
-unfoldable pub same_files : Server → Server → List Entry → Bool
+abbrev pub same_files : Server → Server → List Entry → Bool
 same_files s t [] = true
 same_files s t (e ∷ es) = same_file s t e.file && same_files s t es
 
-unfoldable pub same_option : Option ℕ → Option ℕ → Bool
+abbrev pub same_option : Option ℕ → Option ℕ → Bool
 same_option None None = true
 same_option None (Some n) = false
 same_option (Some m) None = false
 same_option (Some m) (Some n) = m == n
 
-unfoldable pub same_row : Open → Open → Bool
+abbrev pub same_row : Open → Open → Bool
 same_row p q =
     (p.file == q.file)
     && ((p.access == q.access) && ((p.share == q.share) && ((p.options == q.options) && ((p.action == q.action) && ((p.client == q.client) && (same_option p.guid q.guid && (same_list p.user q.user && (p.timeout == q.timeout))))))))
 
-unfoldable pub same_kept : Server → Server → ℕ → ℕ → Bool
+abbrev pub same_kept : Server → Server → ℕ → ℕ → Bool
 same_kept s t o zero = true
 same_kept s t o (suc i) =
     elim (s.slots o (i + 1)) [ None ↦ elim (t.slots o (i + 1)) [ None ↦ same_kept s t o i | Some k ↦ false ] | Some j ↦ elim (t.slots o (i + 1)) [ None ↦ false | Some k ↦ (j.number == k.number) && ((j.status == k.status) && same_kept s t o i) ] ]
 
-unfoldable pub same_opens : Server → Server → List ℕ → Bool
+abbrev pub same_opens : Server → Server → List ℕ → Bool
 same_opens s t [] = true
 same_opens s t (o ∷ os) = same_row (s.opened o) (t.opened o) && (same_kept s t o 64 && same_opens s t os)
 
-unfoldable pub same_durable : Server → Server → Bool
+abbrev pub same_durable : Server → Server → Bool
 same_durable s t =
     (s.version == t.version)
     && ((s.epoch == t.epoch)
@@ -151,5 +151,5 @@ same_durable s t =
     && (same_paths s.entries t.entries
     && (same_files s t s.entries && (same_list s.opens t.opens && (same_opens s t s.opens && (s.mark_count == t.mark_count)))))))
 
-unfoldable pub journal_stands : World → Bool
+abbrev pub journal_stands : World → Bool
 journal_stands w = same_durable (durable (fold w.records)) (durable w.server)
