@@ -412,3 +412,16 @@ later_write_waits =
     submit 2 (OpWrite 1 0 (97 ∷ [])) ∷ submit 3 (OpWrite 1 0 (98 ∷ [])) ∷ Does (Push 1 [] (Some (record { op = 2; slot = 0 }))) ∷ Does (Cut 1) ∷
     Does (Push 2 [] (Some (record { op = 3; slot = 0 }))) ∷ Does (Serve 1) ∷ Does (Serve 2) ∷ Does (Push 2 [] (Some (record { op = 2; slot = 0 }))) ∷
     Does (Serve 2) ∷ Settles ∷ []
+
+-- A retried write that did not act before is carried out, though it lies within the file.
+abbrev pub retried_overwrite : List Line
+retried_overwrite =
+    Links 0 ∷ Links 1 ∷ submit 1 (OpCreate (97 ∷ []) 0x183 0 2 false false) ∷ Pushes 0 ∷ Does (Serve 0) ∷ Does (Take 0) ∷
+    submit 2 (OpWrite 1 0 (97 ∷ 97 ∷ [])) ∷ Pushes 0 ∷ Does (Serve 0) ∷ Does (Take 0) ∷ submit 3 (OpWrite 1 0 (98 ∷ [])) ∷ Pushes 0 ∷ Does (Cut 0) ∷
+    Pushes 1 ∷ Does (Serve 1) ∷ Does (Take 1) ∷ Does (Serve 0) ∷ []
+
+abbrev pub retried_overwrite_until_note : List Line
+retried_overwrite_until_note =
+    Links 0 ∷ Links 1 ∷ submit 1 (OpCreate (97 ∷ []) 0x183 0 2 false false) ∷ Pushes 0 ∷ Does (Serve 0) ∷ Does (Take 0) ∷
+    submit 2 (OpWrite 1 0 (97 ∷ 97 ∷ [])) ∷ Pushes 0 ∷ Does (Serve 0) ∷ Does (Take 0) ∷ submit 3 (OpWrite 1 0 (98 ∷ [])) ∷ Pushes 0 ∷ Does (Cut 0) ∷
+    Pushes 1 ∷ Does (Serve 1) ∷ Does (Take 1) ∷ []
