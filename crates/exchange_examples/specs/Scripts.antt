@@ -425,3 +425,16 @@ retried_overwrite_until_note =
     Links 0 ∷ Links 1 ∷ submit 1 (OpCreate (97 ∷ []) 0x183 0 2 false false) ∷ Pushes 0 ∷ Does (Serve 0) ∷ Does (Take 0) ∷
     submit 2 (OpWrite 1 0 (97 ∷ 97 ∷ [])) ∷ Pushes 0 ∷ Does (Serve 0) ∷ Does (Take 0) ∷ submit 3 (OpWrite 1 0 (98 ∷ [])) ∷ Pushes 0 ∷ Does (Cut 0) ∷
     Pushes 1 ∷ Does (Serve 1) ∷ Does (Take 1) ∷ []
+
+-- A slot whose lock was retried is used no more in the session, so the delayed copy of that lock is answered by it.
+abbrev pub slot_not_used_again : List Line
+slot_not_used_again =
+    Links 0 ∷ Links 1 ∷ submit 1 (OpCreate (97 ∷ []) 0x183 0 2 false false) ∷ Pushes 0 ∷ Does (Serve 0) ∷ Does (Take 0) ∷
+    submit 2 (OpLock 1 0 10 true) ∷ Pushes 0 ∷ Does (Cut 0) ∷ Pushes 1 ∷ Does (Serve 1) ∷ Does (Take 1) ∷ submit 3 (OpUnlock 1 0 10) ∷ Pushes 1 ∷
+    Does (Serve 1) ∷ Does (Take 1) ∷ Does (Serve 0) ∷ []
+
+abbrev pub slot_not_used_again_until_note : List Line
+slot_not_used_again_until_note =
+    Links 0 ∷ Links 1 ∷ submit 1 (OpCreate (97 ∷ []) 0x183 0 2 false false) ∷ Pushes 0 ∷ Does (Serve 0) ∷ Does (Take 0) ∷
+    submit 2 (OpLock 1 0 10 true) ∷ Pushes 0 ∷ Does (Cut 0) ∷ Pushes 1 ∷ Does (Serve 1) ∷ Does (Take 1) ∷ submit 3 (OpUnlock 1 0 10) ∷ Pushes 1 ∷
+    Does (Serve 1) ∷ Does (Take 1) ∷ []

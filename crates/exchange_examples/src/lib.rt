@@ -14,7 +14,7 @@ ghost use Rattle.exchange_defs.specs.Schedules.{course, Does, Links, Pushes, Set
 ghost use Rattle.exchange_defs.specs.Network.{Cut, Drop, Restart, Finish};
 ghost use Rattle.exchange_examples.specs.Servers.{one_session, session, from_client, ask, after_all, status_after, records_after, files_after, binding, make, by_guid, lock_of, first_open, second_open, with_full_journal, with_all_marks, second_session, ask_second, reconnect, journal_stands};
 ghost use Rattle.exchange_examples.specs.Laws.{laws_hold};
-ghost use Rattle.exchange_examples.specs.Scripts.{beginning, stranger, worn_out, submit, settled_in, told, note, acted_on, id_told, retried_create, retried_create_until_note, kept_refusal, kept_refusal_until_note, replaced_session, replaced_session_until_note, room_counted_once, room_counted_once_until_note, held_back_write, held_back_write_until_note, held_back_write_until_last, restart_persistent, crash_lost, crash_kept, restart_plain, all_slots_retried, shared_readers, denied_writer, delayed_reconnect, delayed_reconnect_until_note, delayed_reconnect_until_last, expired_open, open_before_expiry, expired_create, first_steps, end_of_file, gaps_are_zeros, listed_names, renamed_and_removed, denied_remover, retry_after_act, retried_close, held_back_end, held_back_end_until_note, refusal_adopts, refusal_adopts_until_note, restart_keeps_locks, restart_keeps_refused_locks, attached_again, plain_open_lost, later_write_waits, retried_overwrite, retried_overwrite_until_note};
+ghost use Rattle.exchange_examples.specs.Scripts.{beginning, stranger, worn_out, submit, settled_in, told, note, acted_on, id_told, retried_create, retried_create_until_note, kept_refusal, kept_refusal_until_note, replaced_session, replaced_session_until_note, room_counted_once, room_counted_once_until_note, held_back_write, held_back_write_until_note, held_back_write_until_last, restart_persistent, crash_lost, crash_kept, restart_plain, all_slots_retried, shared_readers, denied_writer, delayed_reconnect, delayed_reconnect_until_note, delayed_reconnect_until_last, expired_open, open_before_expiry, expired_create, first_steps, end_of_file, gaps_are_zeros, listed_names, renamed_and_removed, denied_remover, retry_after_act, retried_close, held_back_end, held_back_end_until_note, refusal_adopts, refusal_adopts_until_note, restart_keeps_locks, restart_keeps_refused_locks, attached_again, plain_open_lost, later_write_waits, retried_overwrite, retried_overwrite_until_note, slot_not_used_again, slot_not_used_again_until_note};
 
 /// A create is retried on a second channel, its open is closed, and the delayed first copy finds its guid: it acts once.
 pub fn retried_create_example()
@@ -230,6 +230,14 @@ pub fn retried_overwrite_example()
     ensures acts_3 { acted_on 2 268435456 retried_overwrite 3 ≡ 1 }
 {}
 
+/// A slot whose lock was retried is used no more in the session, so the delayed copy of that lock is answered by it.
+pub fn slot_not_used_again_example()
+    ensures told { told 2 268435456 slot_not_used_again ≡ record { settled = WasOk (Action 2) ∷ WasOk IsDone ∷ WasOk IsDone ∷ []; printed = [] ∷ []; stored = record { path = (97 ∷ []); bytes = [] } ∷ [] } }
+    ensures note { note 2 268435456 slot_not_used_again_until_note 0 ≡ record { status = 0x00000000; acted = false } }
+    ensures acts_2 { acted_on 2 268435456 slot_not_used_again 2 ≡ 1 }
+    ensures acts_3 { acted_on 2 268435456 slot_not_used_again 3 ≡ 1 }
+{}
+
 /// A further channel is bound by a signed request of the session's own client, on another connection.
 pub fn binding_refusals_example()
     ensures unsigned { status_after one_session (Accept 1 ∷ []) (Heard (from_client 1 7 3 0 false (binding false))) ≡ 0xc000000d }
@@ -407,6 +415,7 @@ pub fn statements_example()
     ensures plain_open_lost { laws_hold 1 268435456 plain_open_lost ≡ true }
     ensures later_write_waits { laws_hold 3 268435456 later_write_waits ≡ true }
     ensures retried_overwrite { laws_hold 2 268435456 retried_overwrite ≡ true }
+    ensures slot_not_used_again { laws_hold 2 268435456 slot_not_used_again ≡ true }
 {}
 
 /// Behind each script the fold of the journal's records is the part of the server's state that outlives a restart.
@@ -442,5 +451,6 @@ pub fn journal_stands_example()
     ensures plain_open_lost { journal_stands (course 1 plain_open_lost (beginning 268435456)).world ≡ true }
     ensures later_write_waits { journal_stands (course 3 later_write_waits (beginning 268435456)).world ≡ true }
     ensures retried_overwrite { journal_stands (course 2 retried_overwrite (beginning 268435456)).world ≡ true }
+    ensures slot_not_used_again { journal_stands (course 2 slot_not_used_again (beginning 268435456)).world ≡ true }
     ensures all_slots_retried { journal_stands (course 2 all_slots_retried (beginning 268435456)).world ≡ true }
 {}
