@@ -1,11 +1,11 @@
 -- The ordered checks of a message; the first that applies answers (MS-SMB2 3.3.5.2).
 use Rattle.std.specs.Prelude.{ℕ, ◌==◌, Bool, false, ◌||◌, if◌then◌else◌, Option, Some, None}
 use Rattle.exchange_defs.specs.Table.{is_at}
-use Rattle.exchange_defs.specs.Status.{user_session_deleted, network_name_deleted, file_closed}
-use Rattle.exchange_defs.specs.Commands.{Command, Unreadable, Negotiate, Setup, Logoff, TreeConnect, TreeDisconnect, Create, Close, Flush, Read, Write, Lock, Ioctl, ListDirectory, QueryFile, QueryVolume, SetInfo, Echo, form, is_setup, no_file}
-use Rattle.exchange_defs.specs.State.{Server, Message, Empty}
+use Rattle.exchange_defs.specs.Status.{user_session_deleted, network_name_deleted, file_closed, not_supported}
+use Rattle.exchange_defs.specs.Commands.{Command, Unreadable, Aside, Setup, Logoff, TreeConnect, TreeDisconnect, Create, Close, Flush, Read, Write, Lock, Ioctl, ListDirectory, QueryFile, QueryVolume, SetInfo, form, is_setup, no_file}
+use Rattle.exchange_defs.specs.State.{Server, Message}
 use Rattle.exchange_defs.specs.Opens.{is_of_session}
-use Rattle.exchange_defs.specs.Verdict.{Verdict, Refuse, Give, EndSession, DropTree}
+use Rattle.exchange_defs.specs.Verdict.{Verdict, Refuse, EndSession, DropTree}
 use Rattle.exchange_defs.specs.CheckCreate.{create_check}
 use Rattle.exchange_defs.specs.CheckOpen.{close_check, flush_check, read_check, write_check, lock_check, ioctl_check, free_ioctl_check, list_check, file_query_check, volume_query_check, set_check}
 use Rattle.exchange_defs.specs.CheckSetup.{setup_check, tree_check, tree_in}
@@ -33,7 +33,7 @@ tree_command s m pipes (ListDirectory o class restart single pattern room) = on_
 tree_command s m pipes (QueryFile o class room) = on_open s m o (file_query_check s o class room)
 tree_command s m pipes (QueryVolume o class room) = on_open s m o (volume_query_check o class room)
 tree_command s m pipes (SetInfo o setting) = on_open s m o (set_check s m o setting)
-tree_command s m pipes _ = Give Empty
+tree_command s m pipes _ = Refuse not_supported
 
 -- check 4: the tree is there
 abbrev pub in_tree : Server → Message → Option Bool → Verdict
@@ -43,14 +43,13 @@ in_tree s m (Some pipes) = tree_command s m pipes m.command
 abbrev pub with_tree : Server → Message → Verdict
 with_tree s m = in_tree s m (tree_in (s.trees m.session) m.tree)
 
--- NEGOTIATE and ECHO touch no shared state; SESSION_SETUP comes before a session is there
+-- NEGOTIATE and ECHO are no event and don't come here; SESSION_SETUP comes before a session is there
 abbrev pub command_check : Server → Message → Command → Verdict
 command_check s m (Unreadable status) = Refuse status
-command_check s m Negotiate = Give Empty
 command_check s m (Setup request) = setup_check s m request
 command_check s m Logoff = EndSession m.session false
 command_check s m (TreeConnect share) = tree_check s m share
-command_check s m Echo = Give Empty
+command_check s m (Aside status) = Refuse status
 command_check s m _ = with_tree s m
 
 -- check 3: the body reads and keeps its form

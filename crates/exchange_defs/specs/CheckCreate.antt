@@ -1,5 +1,5 @@
 -- The checks of CREATE (MS-SMB2 3.3.5.9, 3.3.5.9.10, 3.3.5.9.12; MS-FSA 2.1.5.1).
-use Rattle.std.specs.Prelude.{ℕ, ◌==◌, nat_le, Bool, true, false, not, ◌&&◌, ◌||◌, if◌then◌else◌, length, Option, Some, None, bit_or, is_some}
+use Rattle.std.specs.Prelude.{ℕ, ◌==◌, nat_le, Bool, true, false, not, ◌&&◌, ◌||◌, if◌then◌else◌, length, Option, Some, None, bit_or, is_some, nat_lt}
 use Rattle.exchange_defs.specs.Table.{is_at}
 use Rattle.exchange_defs.specs.Status.{invalid_parameter, access_denied, object_path_not_found, delete_pending, object_name_not_found, object_name_collision, not_a_directory, file_is_a_directory, sharing_violation, insufficient_resources, duplicate_objectid}
 use Rattle.exchange_defs.specs.Texts.{same_name}
@@ -86,7 +86,7 @@ makes_file r found = not (is_some found) && makes_missing r.disposition
 
 -- a count whose refusal is kept stands at its limit
 unfoldable pub is_counted_out : Server → CreateRequest → Option ℕ → Bool
-is_counted_out s r found = nat_le max_opens (length s.opens) || ((makes_file r found && nat_le max_files (length s.entries)) || (nat_le max_ids s.given || (makes_file r found && nat_le last_file s.next_file)))
+is_counted_out s r found = nat_le max_opens (length s.opens) || ((makes_file r found && nat_le max_files (length s.entries)) || (nat_le max_ids s.given || (makes_file r found && nat_lt last_file s.next_file)))
 
 abbrev pub action_of : CreateRequest → Option ℕ → ℕ
 action_of r None = 2
@@ -144,7 +144,7 @@ durable_check s m r pipes None = new_check s m r pipes (find s r.path)
 durable_check s m r pipes (Some d) = guid_check s m r pipes d (s.by_guid m.client d.guid)
 
 abbrev pub reconnect_or_create : Server → Message → CreateRequest → Bool → Option Reconnect → Verdict
-reconnect_or_create s m r pipes (Some c) = reconnect_check s m r c
+reconnect_or_create s m r pipes (Some c) = if pipes then Refuse object_name_not_found else reconnect_check s m r c
 reconnect_or_create s m r pipes None = durable_check s m r pipes r.durable
 
 abbrev pub create_check : Server → Message → CreateRequest → Bool → Verdict

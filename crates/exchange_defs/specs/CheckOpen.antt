@@ -27,7 +27,7 @@ has_access s o bit = has_bit (s.opened o).access bit
 
 -- ---- changes: a replayed request that would change nothing but times is answered without a change
 
-unfoldable pub changes_nothing : Server → ℕ → Change → Bool
+abbrev pub changes_nothing : Server → ℕ → Change → Bool
 changes_nothing s f (PutBytes at bytes) = same_bytes (written at bytes (s.content f)) (s.content f)
 changes_nothing s f (PutEnd size) = same_bytes (ended size (s.content f)) (s.content f)
 changes_nothing s f (PutBasic basic) = same_basic basic (s.basic f)
@@ -133,6 +133,10 @@ abbrev pub named_change : Server → Message → ℕ → Change → Option ℕ �
 named_change s m o change (Some status) = TurnDown o status
 named_change s m o change None = alter s m o change Empty
 
+-- a replay onto the very name that the file has is answered before its names are looked at
+abbrev pub rename_change : Server → Message → ℕ → Change → Option ℕ → Verdict
+rename_change s m o change names = if m.replay && (not (is_directory s (file_of s o)) && changes_nothing s (file_of s o) change) then Tell o Empty else named_change s m o change names
+
 abbrev pub size_change : Server → Message → ℕ → ℕ → Change → Verdict
 size_change s m o size change =
     if not (has_access s o 0x2) then TurnDown o access_denied
@@ -146,7 +150,7 @@ allocation_change s f size = if nat_lt size (length (s.content f)) then PutEnd s
 abbrev pub setting_check : Server → Message → ℕ → Setting → Verdict
 setting_check s m o (SetBasic basic) = if has_access s o 0x100 then alter s m o (PutBasic (set_basic (s.basic (file_of s o)) basic)) Empty else TurnDown o access_denied
 setting_check s m o (Rename replace path) =
-    if has_access s o 0x1_0000 then named_change s m o (PutPath (target_of (file_of s o) (find s path)) path) (rename_names s (file_of s o) replace path)
+    if has_access s o 0x1_0000 then rename_change s m o (PutPath (target_of (file_of s o) (find s path)) path) (rename_names s (file_of s o) replace path)
     else TurnDown o access_denied
 setting_check s m o (SetDelete flag) = if has_access s o 0x1_0000 then named_change s m o (PutMark flag) (delete_names s (file_of s o) flag) else TurnDown o access_denied
 setting_check s m o (SetAllocation size) = size_change s m o (allocated size (length (s.content (file_of s o)))) (allocation_change s (file_of s o) size)

@@ -1,5 +1,5 @@
 -- The client's state and its rules: what may go out, and what a cut or the end of its session does.
-use Rattle.std.specs.Prelude.{ℕ, zero, suc, ◌+◌, ◌-◌, ◌*◌, ◌%◌, ◌==◌, nat_le, nat_lt, Bool, true, false, not, ◌&&◌, ◌||◌, if◌then◌else◌, List, [], ◌∷◌, Option, Some, None, is_none}
+use Rattle.std.specs.Prelude.{ℕ, zero, suc, ◌+◌, ◌-◌, ◌*◌, ◌%◌, ◌==◌, nat_le, nat_lt, Bool, true, false, not, ◌&&◌, ◌||◌, if◌then◌else◌, List, [], ◌∷◌, ◌++◌, Option, Some, None, is_none}
 use Rattle.exchange_defs.specs.Table.{put, put2}
 use Rattle.exchange_defs.specs.Commands.{Command, Shows}
 use Rattle.exchange_defs.specs.State.{Message}
@@ -270,6 +270,11 @@ end_session c =
       outcome = λ g. outcome_after_end c g (c.outcome g);
       given_up = λ g. given_up_after_end c g (c.outcome g) (c.given_up g);
     }
+
+-- ---- a dialog is refused
+
+abbrev pub note_refusal : Client → ℕ → Refusal → Client
+note_refusal c k why = record c { refusals = c.refusals ++ record { connection = k; refusal = why } ∷ [] }
 
 -- ---- no session can be had: all that is unsettled is given up
 

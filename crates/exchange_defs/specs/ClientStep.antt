@@ -2,8 +2,8 @@
 -- The network takes the same small steps; here they stand as one table.
 use Rattle.std.specs.Prelude.{ℕ, ◌==◌, nat_lt, Bool, ◌&&◌, if◌then◌else◌, List, Option, Some, None}
 use Rattle.exchange_defs.specs.State.{Reply}
-use Rattle.exchange_defs.specs.Operations.{Op, Why}
-use Rattle.exchange_defs.specs.Client.{Client, may_take, take_op, may_push, goes_itself, begun, outstanding, asked, settle_no_slots, cut_channel, ends_at_cut, end_session, bind_channel, begin_session, finish}
+use Rattle.exchange_defs.specs.Operations.{Op, Why, Refusal}
+use Rattle.exchange_defs.specs.Client.{Client, may_take, take_op, may_push, goes_itself, begun, outstanding, asked, settle_no_slots, cut_channel, ends_at_cut, end_session, bind_channel, begin_session, note_refusal, finish}
 use Rattle.exchange_defs.specs.Settling.{Heard, EndsSession, heard, hear, is_awaited}
 use Rattle.exchange_defs.specs.Network.{Pick, has_its_slot}
 use Rattle.exchange_defs.specs.Schedules.{some_unsettled}
@@ -14,7 +14,7 @@ pub data ClientEvent : Type 0 where
   Hears : (k g : ℕ) (asking : Bool) (reply : Reply) (place : ℕ) → ClientEvent
   IsCut : (k : ℕ) → ClientEvent
   IsReady : (k session tree : ℕ) → ClientEvent
-  IsRefused : (k : ℕ) → ClientEvent  -- its dialog; a new session that can't be had is a Finishes
+  IsRefused : (k : ℕ) (why : Refusal) → ClientEvent  -- its dialog; a new session that can't be had is a Finishes
   Finishes : (why : Why) → ClientEvent
 
 pub data Act : Type 0 where
@@ -81,7 +81,7 @@ client_after c (Pushes k slotless pick) = push_after c k slotless pick
 client_after c (Hears k g asking r place) = hear_after c k g asking r place
 client_after c (IsCut k) = cut_after c k
 client_after c (IsReady k session tree) = ready_after c k session tree
-client_after c (IsRefused k) = c
+client_after c (IsRefused k why) = note_refusal c k why
 client_after c (Finishes why) = finish c why
 
 abbrev pub act : Client → ClientEvent → Act
@@ -90,5 +90,5 @@ act c (Pushes k slotless pick) = push_act c k slotless pick
 act c (Hears k g asking r place) = hear_act c k g asking r
 act c (IsCut k) = cut_act c k
 act c (IsReady k session tree) = Nothing
-act c (IsRefused k) = Nothing
+act c (IsRefused k why) = Nothing
 act c (Finishes why) = Nothing

@@ -103,7 +103,7 @@ pub data Setting : Type 0 where
 -- A file is named by its open's id: a FileId is that id twice. One of two different halves is 0, which no open has.
 pub data Command : Type 0 where
   Unreadable : (status : ℕ) → Command  -- the body doesn't read, is of no known class or asks for what isn't supported
-  Negotiate : Command
+  Aside : (status : ℕ) → Command  -- NEGOTIATE and ECHO, read or not: no event, answered by the connection alone with this status
   Setup : (request : SetupRequest) → Command
   Logoff : Command
   TreeConnect : (share : List ℕ) → Command
@@ -119,7 +119,6 @@ pub data Command : Type 0 where
   QueryFile : (file class room : ℕ) → Command
   QueryVolume : (file class room : ℕ) → Command
   SetInfo : (file : ℕ) (setting : Setting) → Command
-  Echo : Command
 
 -- the FileId of 16 bytes FF, by which an IOCTL names no open
 abbrev pub no_file : ℕ
@@ -157,6 +156,8 @@ form (Write file at bytes channel) = transfer_form at (length bytes) channel
 form (Lock file index number elements) = lock_form elements
 form (Ioctl file code room) = room_form room
 form (ListDirectory file class restart single pattern room) = room_form room
+form (QueryFile file class room) = room_form room
+form (QueryVolume file class room) = room_form room
 form (SetInfo file setting) = setting_form setting
 form _ = None
 

@@ -2,10 +2,10 @@
 use Rattle.std.specs.Prelude.{ℕ, ◌+◌, ◌==◌, Bool, true, false, if◌then◌else◌, [], ◌∷◌, ◌++◌, Option, Some, None}
 use Rattle.exchange_defs.specs.Table.{put}
 use Rattle.exchange_defs.specs.Status.{success, more_processing_required}
-use Rattle.exchange_defs.specs.Commands.{Command, Negotiate, Setup, TreeConnect, Shows, Begins}
+use Rattle.exchange_defs.specs.Commands.{Command, Aside, Setup, TreeConnect, Shows, Begins}
 use Rattle.exchange_defs.specs.State.{Message, Reply}
 use Rattle.exchange_defs.specs.Operations.{HadStatus}
-use Rattle.exchange_defs.specs.Client.{Client, Stage, Apart, SaidNegotiate, SaidFirst, SaidSecond, AskedTree, bind_channel, begin_session}
+use Rattle.exchange_defs.specs.Client.{Client, Stage, Apart, SaidNegotiate, SaidFirst, SaidSecond, AskedTree, bind_channel, begin_session, note_refusal}
 
 -- what a response of a dialog comes to
 pub data DialogStep : Type 0 where
@@ -42,8 +42,8 @@ stage_session c (SaidSecond bound) = session_of c bound c.pending
 stage_session c AskedTree = c.pending
 
 abbrev pub stage_command : Client → Stage → Command
-stage_command c Apart = Negotiate
-stage_command c (SaidNegotiate bound) = Negotiate
+stage_command c Apart = Aside success
+stage_command c (SaidNegotiate bound) = Aside success
 stage_command c (SaidFirst bound) = setup_of c bound Begins
 stage_command c (SaidSecond bound) = setup_of c bound c.who.logon
 stage_command c AskedTree = TreeConnect c.who.share
@@ -84,4 +84,4 @@ abbrev pub leave_dialog : Client → ℕ → Client
 leave_dialog c k = record c { stage = put c.stage k Apart; making = unmade k c.making }
 
 abbrev pub refused_dialog : Client → ℕ → ℕ → Client
-refused_dialog c k status = record (leave_dialog c k) { refusals = c.refusals ++ record { connection = k; refusal = HadStatus status } ∷ [] }
+refused_dialog c k status = note_refusal (leave_dialog c k) k (HadStatus status)

@@ -170,7 +170,7 @@ unfoldable pub is_touched_at : Basic → ℕ → Bool
 is_touched_at b now = (b.written == now) && (b.changed == now)
 
 -- whether bytes, times, attributes, mark or name differ behind it
-unfoldable pub change_acts : Server → ℕ → ℕ → Change → Bool
+abbrev pub change_acts : Server → ℕ → ℕ → Change → Bool
 change_acts s f now (PutBytes at bytes) = not (same_bytes (written at bytes (s.content f)) (s.content f) && is_touched_at (s.basic f) now)
 change_acts s f now (PutEnd size) = not (same_bytes (ended size (s.content f)) (s.content f) && is_touched_at (s.basic f) now)
 change_acts s f now (PutBasic basic) = not (same_basic basic (s.basic f))

@@ -7,10 +7,11 @@ use Rattle.exchange_defs.specs.Commands.{Basic, Element, all_lock, all_unlock}
 use Rattle.exchange_defs.specs.State.{Server, Entry, Open, Range, Record, NewOpen, EpochRecord, CreateRecord, WriteRecord, EndRecord, BasicRecord, DeleteRecord, RenameRecord, RemoveRecord, LockRecord, ShutRecord, VersionRecord, ExpireRecord}
 use Rattle.exchange_defs.specs.Files.{root, find, path_of, exists, is_directory, has_parent, is_full_directory, passes_room, make_file, set_content, empty_file, mark_file, store_basic, remove_file, rename_file}
 use Rattle.exchange_defs.specs.Ranges.{RangeAnswer, Stands, Denied, change_ranges}
-use Rattle.exchange_defs.specs.Opens.{add_open, drop_open, marked_by, has_open, without_gone}
+use Rattle.exchange_defs.specs.Opens.{max_ids, add_open, drop_open, marked_by, has_open, without_gone}
 use Rattle.exchange_defs.specs.CheckCreate.{max_opens, max_files, last_file}
 use Rattle.exchange_defs.specs.CheckOpen.{target_of, file_of}
 use Rattle.exchange_defs.specs.Effects.{keep_slot, set_ranges}
+use Rattle.exchange_defs.specs.Records.{entry_bytes}
 use Rattle.exchange_defs.specs.Step.{add_mark}
 
 abbrev pub no_times : Basic
@@ -88,7 +89,7 @@ may_make s f path = (f == s.next_file) && (is_path path && (not (is_some (find s
 
 -- an id of this epoch that isn't live, a guid that no live open of the client has, and room in the count
 unfoldable pub may_restore : Server → NewOpen → Bool
-may_restore s n = (n.id / 0x1_0000_0000 == s.epoch) && (not (s.standing n.id) && (not (is_some (s.by_guid n.client n.guid)) && nat_lt (length s.opens) max_opens))
+may_restore s n = (n.id / 0x1_0000_0000 == s.epoch) && (nat_lt 0 (n.id % 0x1_0000_0000) && (nat_lt s.given max_ids && (not (s.standing n.id) && (not (is_some (s.by_guid n.client n.guid)) && nat_lt (length s.opens) max_opens))))
 
 unfoldable pub may_open : Server → Option NewOpen → Bool
 may_open s None = true
@@ -166,8 +167,12 @@ fold rs = fold_from nothing_yet rs
 -- ---- restart
 
 -- an Epoch record is written, and the server stands at the fold under its configuration
+-- a journal of version 1 gets the Version record too, in the same body
+abbrev pub recovery_records : Server → List Record
+recovery_records s = if s.version == 1 then VersionRecord 2 ∷ EpochRecord (s.epoch + 1) ∷ [] else EpochRecord (s.epoch + 1) ∷ []
+
 abbrev pub recovered : Server → List Record → Server
-recovered s rs = record (fold (rs ++ EpochRecord (s.epoch + 1) ∷ [])) { share = s.share; room = s.room; seals = s.seals; journal = s.journal + 10 }
+recovered s rs = record (fold (rs ++ recovery_records s)) { share = s.share; room = s.room; seals = s.seals; journal = s.journal + entry_bytes (recovery_records s) }
 
 -- ---- the durable part of a state: what a fold of all its records gives, the counters of the epoch aside
 

@@ -4,10 +4,10 @@ use Rattle.exchange_defs.specs.Table.{put}
 use Rattle.exchange_defs.specs.Status.{success, end_of_file}
 use Rattle.exchange_defs.specs.Content.{ContentReply, Counted, Gives, Done}
 use Rattle.exchange_defs.specs.Order.{Log, Said, Says_ok, Says_end, Says_other}
-use Rattle.exchange_defs.specs.Commands.{Command, Negotiate, Echo}
-use Rattle.exchange_defs.specs.State.{Server, Message, Accept, Heard, End, Reply, Body, Empty, Content, Count, Record, EpochRecord, VersionRecord, Answer}
+use Rattle.exchange_defs.specs.Commands.{Command, Aside}
+use Rattle.exchange_defs.specs.State.{Server, Message, Accept, Heard, End, Reply, Body, Empty, Content, Count, Record, Answer}
 use Rattle.exchange_defs.specs.Step.{step}
-use Rattle.exchange_defs.specs.Fold.{fold, recovered, full_room}
+use Rattle.exchange_defs.specs.Fold.{recovered, recovery_records, nothing_yet, full_room}
 use Rattle.exchange_defs.specs.Operations.{Op, OpClose, Unsettled, NoSession, Refusal, is_create, is_firm, weight, charge}
 use Rattle.exchange_defs.specs.Client.{Client, Identity, Stage, Apart, AskedTree, SaidNegotiate, create_for, may_take, take_op, may_push, goes_itself, needs_slot, is_free, begun, outstanding, asked, own_message, ask_message, settle_no_slots, cut_channel, ends_at_cut, end_session, finish}
 use Rattle.exchange_defs.specs.Settling.{Heard as Hearing, EndsSession, heard, hear, is_awaited}
@@ -141,13 +141,8 @@ pushed w k slotless pick = pushed_pick (record w { client = settle_no_slots w.cl
 abbrev pub untouched : Server → Message → ℕ → Answer
 untouched s m status = record { server = s; reply = record { status = status; session = m.session; tree = m.tree; body = Empty }; records = []; acted = false; reached = None; altered = None }
 
-abbrev pub status_or_success : Option ℕ → ℕ
-status_or_success None = success
-status_or_success (Some status) = status
-
 abbrev pub answer_to : Server → ℕ → Message → Command → Answer
-answer_to s now m Negotiate = untouched s m success
-answer_to s now m Echo = untouched s m (status_or_success m.fault)
+answer_to s now m (Aside status) = untouched s m status
 answer_to s now m _ = step s now (Heard m)
 
 abbrev pub answer : World → Sent → Answer
@@ -299,7 +294,7 @@ abbrev pub restarted : World → World
 restarted w =
     record w {
       server = recovered w.server w.records;
-      records = w.records ++ EpochRecord (w.server.epoch + 1) ∷ [];
+      records = w.records ++ recovery_records w.server;
       conns = λ k. server_off (w.conns k);
     }
 
@@ -428,19 +423,16 @@ pub record Settings : Type 0 where
   pub room : ℕ
   pub seals : Bool
 
--- a server's first start, with at most the full room, writes its Version and its first Epoch
-abbrev pub first_records : List Record
-first_records = VersionRecord 2 ∷ EpochRecord 1 ∷ []
-
-abbrev pub new_server : Settings → Server
-new_server z = record (fold first_records) { share = z.share; room = min z.room full_room; seals = z.seals; journal = 24 }
+-- the server before its first start: an empty journal, and at most the full room
+abbrev pub blank_server : Settings → Server
+blank_server z = record nothing_yet { share = z.share; room = min z.room full_room; seals = z.seals; journal = 9 }
 
 abbrev pub start : Settings → World
 start z =
     record {
       client = new_client z.who;
-      server = new_server z;
-      records = first_records;
+      server = recovered (blank_server z) [];
+      records = recovery_records (blank_server z);
       moment = 0;
       conns = λ k. no_conn;
       log = record { places = 0; who = λ n. 0; gave = λ n. Says_other; did = λ n. false; bytes = λ c n. []; birth = λ c. 0; first = λ g. None; since = λ g. 0; prior = λ h a. false };

@@ -1,8 +1,9 @@
 -- The operations of a script, what they send and how they settle.
 use Rattle.std.specs.Prelude.{ℕ, ◌+◌, ◌-◌, ◌/◌, ◌==◌, nat_le, Bool, true, false, not, ◌||◌, if◌then◌else◌, List, [], ◌∷◌, length, Option, Some, None}
+use Rattle.exchange_defs.specs.Status.{success}
 use Rattle.exchange_defs.specs.Texts.{utf16_length, same_list}
 use Rattle.exchange_defs.specs.Content.{ContentOp, Still, Write as Writes, Read as Reads, SetEnd as Ends, meets}
-use Rattle.exchange_defs.specs.Commands.{Command, Create as CreateCommand, Write as WriteCommand, Read as ReadCommand, Close, Flush, Lock, ListDirectory, QueryFile, SetInfo, Echo, Basic, Element, SetBasic, Rename, SetDelete, SetEnd, CreateRequest, Durable, Reconnect}
+use Rattle.exchange_defs.specs.Commands.{Command, Create as CreateCommand, Write as WriteCommand, Read as ReadCommand, Close, Flush, Lock, ListDirectory, QueryFile, SetInfo, Aside, Basic, Element, SetBasic, Rename, SetDelete, SetEnd, CreateRequest, Durable, Reconnect}
 use Rattle.exchange_defs.specs.State.{Body, Created, Content, Count, Listing, FileInfo, Empty, Named}
 
 -- ---- operations, by their numbers from 1; create is the number of an earlier one
@@ -217,7 +218,7 @@ request_of (OpClose create) guid file slot number = Close file false
 abbrev pub reconnect_of : Op → ℕ → ℕ → Command
 reconnect_of (OpCreate path access share disposition persist directory) guid file =
     CreateCommand (create_request path access share disposition directory None (Some (record { file = file; guid = guid })))
-reconnect_of _ guid file = Echo
+reconnect_of _ guid file = Aside success  -- it is asked of creates alone
 
 -- the larger of the bytes that are sent and the bytes that are asked for
 abbrev pub weight : Op → ℕ

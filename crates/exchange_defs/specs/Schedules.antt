@@ -1,6 +1,7 @@
 -- The program's own choices, as lists of events: which operation a push sends, how a channel is linked, how a run is settled.
 -- The laws speak of every list of events, so nothing here is a premise of them.
-use Rattle.std.specs.Prelude.{ℕ, zero, suc, ◌+◌, ◌==◌, nat_le, Bool, true, false, not, ◌&&◌, ◌||◌, if◌then◌else◌, List, [], ◌∷◌, ◌++◌, length, Option, Some, None}
+use Rattle.std.specs.Prelude.{ℕ, zero, suc, ◌+◌, ◌*◌, ◌==◌, nat_le, Bool, true, false, not, ◌&&◌, ◌||◌, if◌then◌else◌, List, [], ◌∷◌, ◌++◌, length, Option, Some, None}
+use Rattle.exchange_defs.specs.Table.{is_at}
 use Rattle.exchange_defs.specs.Operations.{Refusal, weight, charge, is_unsettled}
 use Rattle.exchange_defs.specs.Client.{Client, Stage, Apart, RefusedDialog, create_for, may_push, goes_itself, needs_slot, is_free, settle_no_slot}
 use Rattle.exchange_defs.specs.Network.{World, Conn, Pick, Event, Open, Push, Serve, Take, Cut, Drop, Finish, happens, may_serve, may_take_reply, has_front, has_reply}
@@ -80,6 +81,13 @@ unfoldable pub take_all : ℕ → Course → ℕ → Course
 take_all zero c k = c
 take_all (suc n) c k = elim (may_take_reply c.world k) [ true ↦ take_all n (went c (Take k)) k | false ↦ c ]
 
+-- the whole up list, and the whole down list
+unfoldable pub served_all : Course → ℕ → Course
+served_all c k = serve_all (length (c.world.conns k).up) c k
+
+unfoldable pub taken_all : Course → ℕ → Course
+taken_all c k = take_all (length (c.world.conns k).down) c k
+
 unfoldable pub has_more : World → ℕ → Bool
 has_more w k = both_open (w.conns k) && (has_front (w.conns k).up || has_reply (w.conns k).down)
 
@@ -87,7 +95,7 @@ has_more w k = both_open (w.conns k) && (has_front (w.conns k).up || has_reply (
 unfoldable pub drain : ℕ → Course → ℕ → Course
 drain zero c k = c
 drain (suc n) c k =
-    let d = take_all 64 (serve_all 64 c k) k in elim (has_more d.world k) [ true ↦ drain n d k | false ↦ d ]
+    let d = taken_all (served_all c k) k in elim (has_more d.world k) [ true ↦ drain n d k | false ↦ d ]
 
 unfoldable pub is_talking : Stage → Bool
 is_talking Apart = false
@@ -103,8 +111,22 @@ is_orphan w k = (w.conns k).server_open && not (w.conns k).client_open
 unfoldable pub went_if : Bool → Course → Event → Course
 went_if b c e = elim b [ true ↦ went c e | false ↦ c ]
 
+unfoldable pub last_refusal : List RefusedDialog → Option Refusal
+last_refusal [] = None
+last_refusal (d ∷ []) = Some d.refusal
+last_refusal (d ∷ e ∷ ds) = last_refusal (e ∷ ds)
+
+unfoldable pub finished_by : Option Refusal → Course → Course
+finished_by None c = c
+finished_by (Some refusal) c = went c (Finish refusal)
+
+-- where the dialog of a new session was refused on the way from one course to the other, all is given up
+unfoldable pub finished_after : Bool → Course → Course → Course
+finished_after is_new c d =
+    elim (is_new && not (length c.world.client.refusals == length d.world.client.refusals)) [ true ↦ finished_by (last_refusal d.world.client.refusals) d | false ↦ d ]
+
 unfoldable pub drain_and_cut : Course → ℕ → Course
-drain_and_cut c k = let d = drain 64 c k in went_if (hangs d.world k) d (Cut k)
+drain_and_cut c k = let d = finished_after (is_at k c.world.client.making) c (drain 64 c k) in went_if (hangs d.world k) d (Cut k)
 
 -- for each of the n channels from k upwards
 unfoldable pub each : (Course → ℕ → Course) → ℕ → ℕ → Course → Course
@@ -129,24 +151,9 @@ unfoldable pub some_unsettled : Client → ℕ → Bool
 some_unsettled c zero = false
 some_unsettled c (suc n) = elim (is_unsettled (c.outcome (n + 1))) [ true ↦ true | false ↦ some_unsettled c n ]
 
-unfoldable pub last_refusal : List RefusedDialog → Option Refusal
-last_refusal [] = None
-last_refusal (d ∷ []) = Some d.refusal
-last_refusal (d ∷ e ∷ ds) = last_refusal (e ∷ ds)
-
-unfoldable pub finished_by : Option Refusal → Course → Course
-finished_by None c = c
-finished_by (Some refusal) c = went c (Finish refusal)
-
 -- a new session is made where no channel is ready; where its dialog is refused, all is given up
 unfoldable pub linked : ℕ → Course → Course
-linked n c =
-    elim (c.world.client.channels == 0) [
-      | false ↦ c
-      | true ↦
-          let d = link c (least (is_apart c.world) 0 n) in
-          elim (length c.world.client.refusals == length d.world.client.refusals) [ true ↦ d | false ↦ finished_by (last_refusal d.world.client.refusals) d ]
-    ]
+linked n c = elim (c.world.client.channels == 0) [ false ↦ c | true ↦ finished_after true c (link c (least (is_apart c.world) 0 n)) ]
 
 unfoldable pub pushed_round : Course → ℕ → Course
 pushed_round c k =
@@ -175,7 +182,7 @@ unfoldable pub go : ℕ → Course → Line → Course
 go n c (Does e) = went c e
 go n c (Pushes k) = went_push c k
 go n c (Links k) = link c k
-go n c Settles = settle_below n 1000 c
+go n c Settles = settle_below n (8 * (c.world.client.taken + n + 1)) c  -- an operation takes a few rounds, and each other one cuts a channel
 
 -- the course of a script over the channels below n
 unfoldable pub course : ℕ → List Line → Course → Course

@@ -2,7 +2,7 @@
 -- or set-info acts after a newer sequence reached its open; a file under an open that denies writers is one connection's.
 use Rattle.std.specs.Prelude.{◌≡◌, ℕ, ◌<◌, ◌≤◌, true, false, List, ◌++◌, Some}
 use Rattle.exchange_defs.specs.Order.{Legal, order_of, bytes_at_birth, bytes_at_last}
-use Rattle.exchange_defs.specs.Operations.{is_ok}
+use Rattle.exchange_defs.specs.Operations.{is_ok, is_unsettled}
 use Rattle.exchange_defs.specs.Network.{World, Event, Settings, run, start}
 use Rattle.exchange_defs.specs.Runs.{acts, is_once, never_acted, is_newer, alters, account, isolates, stands_open}
 
@@ -36,3 +36,7 @@ Newer = (z : Settings) (events : List Event) → NeverAfterNewer (run events (st
 
 abbrev pub OneConnection : Type 0
 OneConnection = (z : Settings) (events : List Event) → OneConnections (run events (start z)) × BytesNow (run events (start z))
+
+-- once settled it stays
+abbrev pub SettledStays : Type 0
+SettledStays = (z : Settings) (events more : List Event) (g : ℕ) → is_unsettled ((run events (start z)).client.outcome g) ≡ false → (run (events ++ more) (start z)).client.outcome g ≡ (run events (start z)).client.outcome g

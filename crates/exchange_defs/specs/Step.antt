@@ -176,6 +176,5 @@ expiring s now e (Some o) =
 abbrev pub written_down : Answer → Answer
 written_down A = record A { server = record A.server { journal = A.server.journal + entry_bytes A.records } }
 
--- the open that an event expires, if one does
 abbrev pub step : Server → ℕ → ServerEvent → Answer
 step s now e = written_down (expiring (with_deadlines s now) now e (due (with_deadlines s now) now))

@@ -1,12 +1,12 @@
 -- The three statements as tests of one run.
-use Rattle.std.specs.Prelude.{ℕ, zero, suc, ◌+◌, ◌==◌, nat_le, Bool, true, false, not, ◌&&◌, ◌||◌, if◌then◌else◌, List, [], ◌∷◌, Option, Some, None}
+use Rattle.std.specs.Prelude.{ℕ, zero, suc, ◌+◌, ◌==◌, nat_le, Bool, true, false, not, ◌&&◌, ◌||◌, if◌then◌else◌, List, [], ◌∷◌, Some, None}
 use Rattle.exchange_defs.specs.Table.{is_at}
 use Rattle.exchange_defs.specs.Content.{ContentOp, ContentReply, Counted, Gives, Done, effect, value, past_end, same_bytes, is_listed}
-use Rattle.exchange_defs.specs.Order.{Account, Settlement, Unsettled, Settled_ok, Settled_end, Settled_refused, Settled_unknown, applies, count, precedes, is_firm, order_of, bytes_at_birth, bytes_at_last}
+use Rattle.exchange_defs.specs.Order.{Account, Settlement, Settled_ok, Settled_end, applies, count, precedes, is_firm, order_of, bytes_at_birth, bytes_at_last}
 use Rattle.exchange_defs.specs.Operations.{is_ok}
 use Rattle.exchange_defs.specs.Network.{World, Event, start}
-use Rattle.exchange_defs.specs.Runs.{acts, is_once, never_acted, is_newer, alters, account, isolates, stands_open}
-use Rattle.exchange_defs.specs.Schedules.{Course, Line, course}
+use Rattle.exchange_defs.specs.Runs.{acts, is_once, never_acted, is_newer, account, isolates, stands_open}
+use Rattle.exchange_defs.specs.Schedules.{Line, course}
 use Rattle.exchange_examples.specs.Scripts.{beginning, settings}
 
 -- a test of each number from n down to 1

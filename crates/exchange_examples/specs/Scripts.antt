@@ -1,12 +1,12 @@
 -- Scripts of the worked examples, and what is told of the worlds that they come to.
-use Rattle.std.specs.Prelude.{ℕ, zero, suc, ◌+◌, ◌==◌, Bool, true, false, not, ◌&&◌, if◌then◌else◌, List, [], ◌∷◌, length, Option, Some, None}
+use Rattle.std.specs.Prelude.{ℕ, zero, suc, ◌+◌, ◌==◌, Bool, true, false, ◌&&◌, if◌then◌else◌, List, [], ◌∷◌, Some}
 use Rattle.exchange_defs.specs.Texts.{name_before}
 use Rattle.exchange_defs.specs.Order.{order_of}
 use Rattle.exchange_defs.specs.Operations.{Op, OpCreate, OpWrite, OpRead, OpEnd, OpTime, OpRename, OpRemove, OpLock, OpUnlock, OpStat, OpList, OpClose, Outcome}
 use Rattle.exchange_defs.specs.Client.{Identity, last_sequence}
 use Rattle.exchange_defs.specs.Commands.{Shows, Refused, Logon}
-use Rattle.exchange_defs.specs.State.{Server, Entry, Answer}
-use Rattle.exchange_defs.specs.Network.{Settings, World, Event, Submit, Push, Serve, Take, Cut, Drop, Restart, Crash, Wait, Sent, answer, start}
+use Rattle.exchange_defs.specs.State.{Server, Entry}
+use Rattle.exchange_defs.specs.Network.{Settings, World, Submit, Push, Serve, Take, Cut, Drop, Restart, Crash, Wait, Sent, answer, start}
 use Rattle.exchange_defs.specs.Runs.{account, isolates, acts}
 use Rattle.exchange_defs.specs.Schedules.{Course, Line, Does, Pushes, Links, Settles, course}
 
@@ -438,3 +438,14 @@ slot_not_used_again_until_note =
     Links 0 ∷ Links 1 ∷ submit 1 (OpCreate (97 ∷ []) 0x183 0 2 false false) ∷ Pushes 0 ∷ Does (Serve 0) ∷ Does (Take 0) ∷
     submit 2 (OpLock 1 0 10 true) ∷ Pushes 0 ∷ Does (Cut 0) ∷ Pushes 1 ∷ Does (Serve 1) ∷ Does (Take 1) ∷ submit 3 (OpUnlock 1 0 10) ∷ Pushes 1 ∷
     Does (Serve 1) ∷ Does (Take 1) ∷ []
+
+-- A rename acted and its reply is lost: the retry finds the file under that very name, and is Ok.
+abbrev pub retried_rename : List Line
+retried_rename =
+    Links 0 ∷ Links 1 ∷ submit 1 (OpCreate (97 ∷ []) 0x10183 0 2 false false) ∷ Pushes 0 ∷ Does (Serve 0) ∷ Does (Take 0) ∷
+    submit 2 (OpRename 1 (98 ∷ [])) ∷ Pushes 0 ∷ Does (Serve 0) ∷ Does (Cut 0) ∷ Pushes 1 ∷ Does (Serve 1) ∷ Does (Take 1) ∷ []
+
+abbrev pub retried_rename_until_note : List Line
+retried_rename_until_note =
+    Links 0 ∷ Links 1 ∷ submit 1 (OpCreate (97 ∷ []) 0x10183 0 2 false false) ∷ Pushes 0 ∷ Does (Serve 0) ∷ Does (Take 0) ∷
+    submit 2 (OpRename 1 (98 ∷ [])) ∷ Pushes 0 ∷ Does (Serve 0) ∷ Does (Cut 0) ∷ Pushes 1 ∷ []
