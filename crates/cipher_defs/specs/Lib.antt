@@ -1,0 +1,4 @@
+pub mod Hmac
+pub mod Kdf
+pub mod Md4
+pub mod Rc4

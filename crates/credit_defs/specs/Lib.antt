@@ -1,0 +1,5 @@
+pub mod Calls
+pub mod Exchange
+pub mod Ids
+pub mod Purse
+pub mod Window

@@ -1,0 +1,14 @@
+/// The CREATE request (MS-SMB2 2.2.13). `name` is UTF-16, and `contexts` is the chain of its create
+/// contexts, as they stand in the message.
+#[derive(Clone, Copy, Debug, PartialEq, Eq)]
+pub struct CreateRequest<'a> {
+    pub requested_oplock_level: u8,
+    pub impersonation_level: u32,
+    pub desired_access: u32,
+    pub file_attributes: u32,
+    pub share_access: u32,
+    pub create_disposition: u32,
+    pub create_options: u32,
+    pub name: &'a [u8],
+    pub contexts: &'a [u8],
+}

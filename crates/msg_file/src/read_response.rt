@@ -1,0 +1,63 @@
+ghost use Rattle.std.specs.Prelude.{◌≡◌, ◌<◌, ◌^◌, length, IfOk};
+ghost use Rattle.wire_defs.specs.Table.{filler};
+ghost use Rattle.wire_defs.specs.Fault.{Reads};
+ghost use Rattle.wire_defs.specs.Read.{SpellsReadResponse, read_response_fault, read_response_spelling};
+ghost use Rattle.msg_file.specs.Views.{read_response};
+
+use crate::read::ReadResponse;
+use smb_bytes::{Bytes, Cursor, Out};
+use smb_header::{MessageError, Part, part_of};
+use std::alloc::{AllocError, Global};
+
+/// Reads the READ response that stands behind the header of `m`.
+pub fn read_read_response(m: &[u8]) -> Result<ReadResponse<'_>, MessageError>
+    ensures { Reads (read_response_fault m.now) (SpellsReadResponse m.now) read_response result }
+{
+    let mut cursor = Cursor::new(m);
+    let _header = cursor.take(64)?;
+    let size = cursor.get_u16()?;
+    let payload_at = cursor.get_u8()?;
+    let _reserved = cursor.get_u8()?;
+    let payload_len = cursor.get_u32()?;
+    let data_remaining = cursor.get_u32()?;
+    let _reserved_too = cursor.get_u32()?;
+    if size != 17 {
+        return Err(MessageError::BadSize(size));
+    }
+    let payload = part_of(
+        m,
+        payload_at as usize,
+        payload_len as usize,
+        80,
+        Part::Payload,
+    )?;
+    Ok(ReadResponse {
+        data_remaining,
+        payload,
+    })
+}
+
+// The bytes that stand where there is no payload.
+fn filler_of(payload: &[u8]) -> u8
+    ensures { result ≡ filler (length payload.now) }
+{
+    if payload.is_empty() { 1 } else { 0 }
+}
+
+/// The canonical spelling of the READ response, which stands behind a header. The payload's length
+/// must fit its field of 4 bytes.
+pub fn write_read_response(alloc: Global, v: &ReadResponse<'_>) -> Result<Bytes, AllocError>
+    requires { length v.now.payload.now < 2 ^ 32 }
+    ensures { IfOk result (λ b. b ≡ read_response_spelling (read_response v.now)) }
+{
+    let mut out = Out::new(alloc);
+    out.put_u16(17)?;
+    out.put_u8(80)?;
+    out.put_u8(0)?;
+    out.put_u32(v.payload.len() as u32)?;
+    out.put_u32(v.data_remaining)?;
+    out.put_u32(0)?;
+    out.put_slice(v.payload)?;
+    out.put_zeros(filler_of(v.payload))?;
+    Ok(out.finish())
+}

@@ -1,0 +1,11 @@
+pub mod Pieces
+pub mod Numbers
+pub mod Outcome
+pub mod Words
+pub mod Script
+pub mod Progress
+pub mod Text
+pub mod Outside
+pub mod Run
+pub mod Running
+pub mod TopCall

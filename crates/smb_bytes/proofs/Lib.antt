@@ -1,0 +1,2 @@
+pub mod Endian
+pub mod Filling

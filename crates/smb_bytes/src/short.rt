@@ -1,0 +1,29 @@
+use wire_defs::{HeaderError, MessageError};
+
+/// Too few bytes are left for what was asked. `at` is the cursor's place, which stays.
+#[derive(Clone, Copy, Debug, PartialEq, Eq)]
+pub struct Short {
+    pub at: usize,
+}
+
+impl From<Short> for MessageError {
+    ghost use Rattle.std.specs.Prelude.{◌≡◌};
+    ghost use Rattle.wire_defs.specs.declared.error.MessageError.TheVariants as errors;
+
+    ghost from_gives = { λ s e. e ≡ errors.Short s.at };
+
+    fn from(short: Short) -> MessageError {
+        MessageError::Short(short.at)
+    }
+}
+
+impl From<Short> for HeaderError {
+    ghost use Rattle.std.specs.Prelude.{◌≡◌};
+    ghost use Rattle.wire_defs.specs.declared.error.HeaderError.TheVariants as errors;
+
+    ghost from_gives = { λ s e. e ≡ errors.Short };
+
+    fn from(_short: Short) -> HeaderError {
+        HeaderError::Short
+    }
+}

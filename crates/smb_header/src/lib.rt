@@ -1,0 +1,13 @@
+//! The header of a message, and what the readers of messages share.
+#![tactic(auto)]
+
+mod parts;
+mod reading;
+mod request;
+mod writing;
+
+pub use parts::{counted_at, part_of};
+pub use reading::read_header;
+pub use request::Request;
+pub use wire_defs::{Header, HeaderError, MessageError, Part};
+pub use writing::write_header;

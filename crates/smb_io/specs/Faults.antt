@@ -1,0 +1,10 @@
+-- The count of faults of an outside object.
+use Rattle.std.specs.Prelude.{◌≡◌, ℕ, ◌+◌, ◌-◌, ◌^◌, ◌≤◌, min, Result, MatchResult}
+
+-- A count is larger than it was, or stands at its last value.
+abbrev pub Rose : ℕ → ℕ → Type 0
+Rose old new = min (old + 1) (2 ^ 64 - 1) ≤ new
+
+-- A call that answered keeps the count, and one that failed has raised it.
+abbrev pub CountsFault : {T E : Type 0} → ℕ → ℕ → Result T E → Type 0
+CountsFault old new result = MatchResult result (λ _. new ≡ old) (λ _. (old ≤ new) × Rose old new)

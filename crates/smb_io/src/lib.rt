@@ -1,0 +1,26 @@
+//! The outside of the program: where its input comes from and where its output goes, as traits with
+//! memory fakes and adapters over the standard library's readers and writers.
+//!
+//! Each object counts its faults in a ghost member that code over the traits cannot raise, and tells
+//! its bytes where it knows them.
+#![tactic(auto)]
+
+mod failed;
+mod mem_sink;
+mod mem_source;
+mod plan;
+mod sink;
+mod source;
+mod std_sink;
+mod std_source;
+
+pub use failed::Failed;
+pub use mem_sink::MemSink;
+pub use mem_source::MemSource;
+pub use sink::Sink;
+pub use source::Source;
+pub use std_sink::StdSink;
+pub use std_source::StdSource;
+
+#[cfg(test)]
+mod tests;

@@ -1,0 +1,9 @@
+pub mod Places
+pub mod Table
+pub mod Fault
+pub mod Header
+pub mod Read
+pub mod Write
+pub mod Error
+pub mod Lock
+pub mod Create

@@ -1,0 +1,13 @@
+ghost use Rattle.std.specs.Prelude.{◌≡◌, ◌++◌, ℕ, List, length};
+ghost use Rattle.wire_defs.specs.Header.{SpellsHeader, BreaksHeader, IsWritableHeader, header_spelling};
+ghost use Rattle.wire_defs.specs.declared.header.Header.{Header};
+ghost use Rattle.wire_defs.specs.declared.error.HeaderError.{HeaderError};
+
+/// A message begins with at most one header, a header that is spelled has no break, and a canonical
+/// spelling, whatever follows it, is 64 bytes that read back.
+pub fn header_law()
+    ensures one { (m : List ℕ) (h k : Header) → SpellsHeader m h → SpellsHeader m k → h ≡ k }
+    ensures whole { (m : List ℕ) (h : Header) (e : HeaderError) → SpellsHeader m h → BreaksHeader m e → ⊥ }
+    ensures length { (h : Header) → IsWritableHeader h → length (header_spelling h) ≡ 64 }
+    ensures again { (rest : List ℕ) (h : Header) → IsWritableHeader h → SpellsHeader (header_spelling h ++ rest) h }
+{}

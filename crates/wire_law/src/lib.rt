@@ -1,0 +1,20 @@
+//! Laws of the wire grammar over its definitions alone: a message has at most one value; what is
+//! spelled breaks nothing, and where nothing breaks a value stands; a canonical spelling, whatever
+//! follows it, reads back. Each law is the contract of a function that does nothing.
+#![tactic(auto)]
+
+mod create;
+mod error;
+mod header;
+mod lock;
+mod read;
+mod table;
+mod write;
+
+pub use create::create_request_law;
+pub use error::error_response_law;
+pub use header::header_law;
+pub use lock::{lock_element_law, lock_request_law};
+pub use read::{read_request_law, read_response_law};
+pub use table::{number_law, part_law, table_law};
+pub use write::{write_request_law, write_response_law};
