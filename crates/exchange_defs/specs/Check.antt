@@ -31,7 +31,7 @@ tree_command s m pipes (Lock o index number elements) = on_open s m o (lock_chec
 tree_command s m pipes (Ioctl o code room) = if o == no_file then free_ioctl_check code room else on_open s m o (ioctl_check s m o code room)
 tree_command s m pipes (ListDirectory o class restart single pattern room) = on_open s m o (list_check s o class restart single pattern room)
 tree_command s m pipes (QueryFile o class room) = on_open s m o (file_query_check s o class room)
-tree_command s m pipes (QueryVolume o class room) = on_open s m o (volume_query_check o class room)
+tree_command s m pipes (QueryVolume o class room) = on_open s m o (volume_query_check s o class room)
 tree_command s m pipes (SetInfo o setting) = on_open s m o (set_check s m o setting)
 tree_command s m pipes _ = Refuse not_supported
 

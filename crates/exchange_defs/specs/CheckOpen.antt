@@ -5,7 +5,7 @@ use Rattle.exchange_defs.specs.Texts.{same_list, is_below}
 use Rattle.exchange_defs.specs.Content.{written, ended, same_bytes, is_empty}
 use Rattle.exchange_defs.specs.Commands.{has_bit, Setting, SetBasic, Rename, SetDelete, SetAllocation, SetEnd, Element}
 use Rattle.exchange_defs.specs.State.{Server, Message, Kept, Entry, Body, Empty, Content, Count, Closed, Listing, FileInfo, VolumeInfo, Interfaces, Named}
-use Rattle.exchange_defs.specs.Files.{root, find, path_of, has_parent, is_directory, is_full_directory, info_of, passes_room, allocated, set_basic, same_basic}
+use Rattle.exchange_defs.specs.Files.{root, find, path_of, has_parent, is_directory, is_full_directory, info_of, used, passes_room, allocated, set_basic, same_basic}
 use Rattle.exchange_defs.specs.Ranges.{RangeAnswer, Stands, Denied, change_ranges, may_read, may_write}
 use Rattle.exchange_defs.specs.Opens.{has_open}
 use Rattle.exchange_defs.specs.Listing.{all_named, wanted, fitting, one_or_all, last_name, file_info_size, volume_info_size}
@@ -176,8 +176,8 @@ file_query_check s o class room =
     else if nat_lt room (file_info_size class (path_of s (file_of s o))) then TurnDown o info_length_mismatch
     else Tell o (FileInfo class (path_of s (file_of s o)) (info_of s (file_of s o)))
 
-abbrev pub volume_query_check : ℕ → ℕ → ℕ → Verdict
-volume_query_check o class room = if nat_lt room (volume_info_size class) then TurnDown o info_length_mismatch else Tell o (VolumeInfo class)
+abbrev pub volume_query_check : Server → ℕ → ℕ → ℕ → Verdict
+volume_query_check s o class room = if nat_lt room (volume_info_size class) then TurnDown o info_length_mismatch else Tell o (VolumeInfo class s.room (used s))
 
 -- a listing goes on behind the last name, or begins anew
 abbrev pub begins_at : Bool → Option (List ℕ) → Option (List ℕ)

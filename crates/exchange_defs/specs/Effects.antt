@@ -5,7 +5,7 @@ use Rattle.exchange_defs.specs.Status.{success, more_processing_required}
 use Rattle.exchange_defs.specs.Texts.{same_list}
 use Rattle.exchange_defs.specs.Content.{written, ended, same_bytes}
 use Rattle.exchange_defs.specs.Commands.{CreateRequest, Durable, SetupRequest, Basic, Element, asks_directory}
-use Rattle.exchange_defs.specs.State.{Server, Message, Open, Range, Tree, NewSession, Binding, Body, Empty, Created, Record, NewOpen, Origin, CreateRecord, WriteRecord, EndRecord, BasicRecord, DeleteRecord, RenameRecord, LockRecord, Answer}
+use Rattle.exchange_defs.specs.State.{Server, Message, Open, Range, Tree, NewSession, Binding, Body, Empty, Created, SetUp, Connected, Record, NewOpen, Origin, CreateRecord, WriteRecord, EndRecord, BasicRecord, DeleteRecord, RenameRecord, LockRecord, Answer}
 use Rattle.exchange_defs.specs.Files.{make_file, empty_file, set_content, store_basic, mark_file, rename_file, info_of, same_basic, path_of}
 use Rattle.exchange_defs.specs.Opens.{id_of, mapped, add_open, drop_open, leave_open, leave_records, is_any}
 use Rattle.exchange_defs.specs.CheckCreate.{empties}
@@ -286,6 +286,10 @@ add_tree s session pipes =
       next_tree = put s.next_tree session (s.next_tree session + 1);
     }
 
+-- ShareType, Capabilities and MaximalAccess of a TREE_CONNECT (MS-SMB2 2.2.10): the pipes, or a continuously available disk
+abbrev pub connected : Bool → Body
+connected pipes = if pipes then Connected 0x2 0x0 0x1f_01ff else Connected 0x1 0x10 0x1f_01ff
+
 unfoldable pub without_tree : ℕ → List Tree → List Tree
 without_tree id [] = []
 without_tree id (t ∷ ts) = if t.id == id then without_tree id ts else t ∷ without_tree id ts
@@ -327,13 +331,13 @@ apply s m now Challenge =
     }
 apply s m now (ChallengeBinding session) = quiet (record s { making = put s.making m.connection (Some (Binding session)) }) m more_processing_required Empty
 apply s m now (Begin session user previous r is_quiet) =
-    answered (add_session (end_previous s now previous is_quiet) m user r) m success Empty (previous_records s (origin_of m) previous is_quiet) (previous_acts s previous) None
-apply s m now (Join session) = quiet (join_session s m session) m success Empty
+    answered (add_session (end_previous s now previous is_quiet) m user r) m success (SetUp s.seals 1) (previous_records s (origin_of m) previous is_quiet) (previous_acts s previous) None
+apply s m now (Join session) = quiet (join_session s m session) m success (SetUp s.seals (s.drawn session + 1))
 apply s m now (EndSession session is_quiet) = answered (end_session s session now is_quiet) m success Empty (end_records s (origin_of m) session is_quiet) (end_acts s session) None
 apply s m now (AddTree pipes) =
     record {
       server = add_tree s m.session pipes;
-      reply = record { status = success; session = m.session; tree = s.next_tree m.session; body = Empty };
+      reply = record { status = success; session = m.session; tree = s.next_tree m.session; body = connected pipes };
       records = [];
       acted = false;
       reached = None;

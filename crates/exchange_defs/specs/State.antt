@@ -143,7 +143,10 @@ pub data Body : Type 0 where
   Interfaces : Body
   Listing : (entries : List Named) → Body
   FileInfo : (class : ℕ) (path : List ℕ) (info : Info) → Body
-  VolumeInfo : (class : ℕ) → Body
+  VolumeInfo : (class room used : ℕ) → Body  -- the sizes that it tells are those of the room and of what is used
+  -- a SESSION_SETUP's success tells ENCRYPT_DATA where the session seals; the number drawn for its channel isn't on the wire
+  SetUp : (sealed : Bool) (channel : ℕ) → Body
+  Connected : (kind capabilities access : ℕ) → Body
 
 -- a status with the ids that the response's header names
 pub record Reply : Type 0 where

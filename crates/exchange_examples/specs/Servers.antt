@@ -3,7 +3,7 @@ use Rattle.std.specs.Prelude.{ℕ, zero, suc, ◌+◌, ◌==◌, Bool, true, fal
 use Rattle.exchange_defs.specs.Texts.{same_list}
 use Rattle.exchange_defs.specs.Content.{same_bytes}
 use Rattle.exchange_defs.specs.Commands.{Command, Setup, TreeConnect, Shows, Begins, Logon, Create, Durable, Element}
-use Rattle.exchange_defs.specs.State.{Accept, Server, Message, ServerEvent, Heard, Entry, Open, Range, Record}
+use Rattle.exchange_defs.specs.State.{Accept, Server, Message, ServerEvent, Heard, Body, Entry, Open, Range, Record}
 use Rattle.exchange_defs.specs.Files.{same_basic}
 use Rattle.exchange_defs.specs.Records.{lower_limit}
 use Rattle.exchange_defs.specs.Step.{step}
@@ -35,6 +35,9 @@ after_all s now (e ∷ es) = after_all (step s now e).server (now + 1) es
 abbrev pub status_after : Server → List ServerEvent → ServerEvent → ℕ
 status_after s before e = (step (after_all s 100 before) 200 e).reply.status
 
+abbrev pub body_after : Server → List ServerEvent → ServerEvent → Body
+body_after s before e = (step (after_all s 100 before) 200 e).reply.body
+
 abbrev pub records_after : Server → List ServerEvent → ServerEvent → List Record
 records_after s before e = (step (after_all s 100 before) 200 e).records
 
@@ -46,6 +49,10 @@ files_after s events = length (after_all s 100 events).entries
 
 abbrev pub binding : Bool → Command
 binding signed = Setup (record { readable = true; binding = true; signed = signed; verified = signed; previous = 0; cipher = 2; signing = 1; shows = Begins })
+
+-- the second request of a binding to the session, on connection 1
+abbrev pub binding_logon : ServerEvent
+binding_logon = Heard (from_client 1 7 10 0 false (Setup (record { readable = true; binding = true; signed = true; verified = true; previous = 0; cipher = 2; signing = 1; shows = Logon (117 ∷ []) 1 })))
 
 abbrev pub make : ℕ → ℕ → ℕ → ℕ → Option Durable → Command
 make access share disposition options durable =

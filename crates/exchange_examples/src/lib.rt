@@ -5,15 +5,16 @@
 ghost use Rattle.std.specs.Prelude.{◌≡◌, ℕ, List, [], ◌∷◌, true, false};
 ghost use Rattle.exchange_defs.specs.Operations.{Unsettled, NoSession, HadStatus, OpCreate, OpWrite, WasOk, WasRefused, NoSlot, NoOpen, Unknown, SessionLost, WithStatus, IsDone, Action, Wrote, Holds, Length, Names};
 ghost use Rattle.std.specs.Prelude.{Some, None};
-ghost use Rattle.exchange_defs.specs.State.{Accept, Heard, End, DeleteRecord, RemoveRecord, ShutRecord, ExpireRecord, VersionRecord, EpochRecord};
-ghost use Rattle.exchange_defs.specs.Commands.{Close, Lock, Write, Read, path_form};
+ghost use Rattle.exchange_defs.specs.State.{Accept, Heard, End, SetUp, Connected, VolumeInfo, DeleteRecord, RemoveRecord, ShutRecord, ExpireRecord, VersionRecord, EpochRecord};
+ghost use Rattle.exchange_defs.specs.Commands.{Begins, Close, Lock, Logon, QueryVolume, Read, TreeConnect, Write, path_form};
 ghost use Rattle.exchange_defs.specs.CheckOpen.{is_stale};
+ghost use Rattle.exchange_defs.specs.CheckSetup.{pipes_name};
 ghost use Rattle.exchange_defs.specs.Listing.{matches};
 ghost use Rattle.exchange_defs.specs.Step.{step};
 ghost use Rattle.exchange_defs.specs.Fold.{recovery_records, nothing_yet};
 ghost use Rattle.exchange_defs.specs.Schedules.{course, Does, Links, Pushes, Settles as SettlesAll};
 ghost use Rattle.exchange_defs.specs.Network.{Cut, Drop, Restart, Finish, start};
-ghost use Rattle.exchange_examples.specs.Servers.{one_session, session, from_client, ask, after_all, status_after, records_after, files_after, binding, make, by_guid, lock_of, first_open, second_open, with_full_journal, with_all_marks, second_session, ask_second, reconnect, journal_stands};
+ghost use Rattle.exchange_examples.specs.Servers.{one_session, session, from_client, ask, after_all, status_after, body_after, records_after, files_after, binding, binding_logon, setup, in_second, second_id, make, by_guid, lock_of, first_open, second_open, with_full_journal, with_all_marks, second_session, ask_second, reconnect, journal_stands};
 ghost use Rattle.exchange_examples.specs.Laws.{laws_hold};
 ghost use Rattle.exchange_examples.specs.Scripts.{beginning, settings, stranger, worn_out, submit, settled_in, told, note, acted_on, id_told, retried_create, retried_create_until_note, kept_refusal, kept_refusal_until_note, replaced_session, replaced_session_until_note, room_counted_once, room_counted_once_until_note, held_back_write, held_back_write_until_note, held_back_write_until_last, restart_persistent, crash_lost, crash_kept, restart_plain, all_slots_retried, shared_readers, denied_writer, delayed_reconnect, delayed_reconnect_until_note, delayed_reconnect_until_last, expired_open, open_before_expiry, expired_create, first_steps, end_of_file, gaps_are_zeros, listed_names, renamed_and_removed, denied_remover, retry_after_act, retried_close, held_back_end, held_back_end_until_note, refusal_adopts, refusal_adopts_until_note, restart_keeps_locks, restart_keeps_refused_locks, attached_again, plain_open_lost, later_write_waits, retried_overwrite, retried_overwrite_until_note, slot_not_used_again, slot_not_used_again_until_note, retried_rename, retried_rename_until_note};
 
@@ -387,6 +388,15 @@ pub fn a_second_session_example()
     ensures attach_when_gone { status_after second_session (ask (make 0x183 0 2 0x40 (by_guid 5 true)) ∷ End 0 ∷ []) (ask_second true (reconnect first_open 5)) ≡ 0 }
     ensures replay_when_gone { status_after second_session (ask (make 0x183 0 2 0x40 (by_guid 5 true)) ∷ End 0 ∷ []) (ask_second true (make 0x183 0 2 0x40 (by_guid 5 true))) ≡ 0 }
     ensures denied_when_gone { status_after second_session (ask (make 0x183 0 2 0x40 (by_guid 5 true)) ∷ End 0 ∷ []) (ask_second false (make 0x183 7 1 0x40 (by_guid 6 false))) ≡ 0xc0000043 }
+{}
+
+/// What successes tell: ENCRYPT_DATA and the channel's number, kind and capabilities of a tree, room and what is used of it.
+pub fn told_by_successes_example()
+    ensures pipes { body_after one_session [] (ask (TreeConnect pipes_name)) ≡ Connected 2 0 2032127 }
+    ensures disk { body_after one_session [] (ask (TreeConnect (100 ∷ []))) ≡ Connected 1 16 2032127 }
+    ensures session { body_after one_session (Accept 1 ∷ in_second 0 0 false (setup Begins) ∷ []) (in_second second_id 0 false (setup (Logon (117 ∷ []) 1))) ≡ SetUp true 1 }
+    ensures channel { body_after one_session (Accept 1 ∷ Heard (from_client 1 7 9 0 false (binding true)) ∷ []) binding_logon ≡ SetUp true 2 }
+    ensures volume { body_after one_session (ask (make 0x183 7 2 0x40 (by_guid 5 true)) ∷ ask (Write first_open 3 (1 ∷ 2 ∷ []) 0) ∷ []) (ask (QueryVolume first_open 7 32)) ≡ VolumeInfo 7 268435456 5 }
 {}
 
 /// A new journal, and one of the first version, gets the Version record and the Epoch record; a later one the Epoch record alone.
