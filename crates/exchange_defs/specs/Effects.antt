@@ -7,7 +7,7 @@ use Rattle.exchange_defs.specs.Content.{written, ended, same_bytes}
 use Rattle.exchange_defs.specs.Commands.{CreateRequest, Durable, SetupRequest, Basic, Element, asks_directory}
 use Rattle.exchange_defs.specs.State.{Server, Message, Open, Range, Tree, NewSession, Binding, Body, Empty, Created, SetUp, Connected, Record, NewOpen, Origin, CreateRecord, WriteRecord, EndRecord, BasicRecord, DeleteRecord, RenameRecord, LockRecord, Answer}
 use Rattle.exchange_defs.specs.Files.{make_file, empty_file, set_content, store_basic, mark_file, rename_file, info_of, same_basic, path_of}
-use Rattle.exchange_defs.specs.Opens.{id_of, mapped, add_open, drop_open, leave_open, leave_records, is_any}
+use Rattle.exchange_defs.specs.Opens.{id_of, mapped, add_open, leave_open, leave_records, is_any}
 use Rattle.exchange_defs.specs.CheckCreate.{empties}
 use Rattle.exchange_defs.specs.CheckOpen.{is_late, is_slot, file_of}
 use Rattle.exchange_defs.specs.Records.{origin_of}
@@ -186,18 +186,19 @@ keep_closed s session (Some g) = record s { closed = put2 s.closed session g tru
 
 -- ---- sessions
 
+-- an open that isn't persistent leaves with its session
+abbrev pub leaves : Server → ℕ → ℕ → Bool
+leaves s session o = is_at session (s.at o) && not (s.opened o).persistent
+
 unfoldable pub plain_in : Server → ℕ → List ℕ → List ℕ
 plain_in s session [] = []
-plain_in s session (o ∷ os) = if is_at session (s.at o) && not (s.opened o).persistent then o ∷ plain_in s session os else plain_in s session os
+plain_in s session (o ∷ os) = if leaves s session o then o ∷ plain_in s session os else plain_in s session os
 
--- the opens that leave with their session: those that aren't persistent
+-- the opens that leave with their session
 abbrev pub plain_of : Server → ℕ → List ℕ
 plain_of s session = plain_in s session s.opens
 
-unfoldable pub drop_all : Server → List ℕ → Server
-drop_all s [] = s
-drop_all s (o ∷ os) = drop_all (drop_open s o) os
-
+-- their files, in the order of their ids: each open leaves, and its file with it where it goes
 unfoldable pub leave_all : Server → List ℕ → Server
 leave_all s [] = s
 leave_all s (o ∷ os) = leave_all (leave_open s o) os
@@ -206,30 +207,49 @@ unfoldable pub leave_all_records : Server → Origin → List ℕ → List Recor
 leave_all_records s origin [] = []
 leave_all_records s origin (o ∷ os) = leave_records s origin o ++ leave_all_records (leave_open s o) origin os
 
-abbrev pub plain_left : Server → ℕ → Bool → Server
-plain_left s session is_quiet = if is_quiet then drop_all s (plain_of s session) else leave_all s (plain_of s session)
+-- of this state only the files count; quiet, they stay as they are
+abbrev pub files_behind : Server → ℕ → Bool → Server
+files_behind s session is_quiet = if is_quiet then s else leave_all s (plain_of s session)
+
+-- the opens that stay, what they lock, and the guids that name them
+unfoldable pub staying_in : Server → ℕ → List ℕ → List ℕ
+staying_in s session [] = []
+staying_in s session (o ∷ os) = if leaves s session o then staying_in s session os else o ∷ staying_in s session os
+
+unfoldable pub ranges_staying : Server → ℕ → List Range → List Range
+ranges_staying s session [] = []
+ranges_staying s session (r ∷ rs) = if leaves s session r.owner then ranges_staying s session rs else r ∷ ranges_staying s session rs
+
+abbrev pub guid_staying : Server → ℕ → Option ℕ → Option ℕ
+guid_staying s session None = None
+guid_staying s session (Some o) = if leaves s session o then None else Some o
 
 abbrev pub cleared : ℕ → Option ℕ → Option ℕ
 cleared session at = if is_at session at then None else at
 
--- an open that loses its session gets its deadline: 10,000 times its timeout behind now
+-- an open that stays without its session gets its deadline: 10,000 times its timeout behind now
 abbrev pub dated : ℕ → ℕ → Open → Option ℕ → Option ℕ → Option ℕ
-dated session now row at deadline = if is_at session at then Some (now + 10000 * row.timeout) else deadline
+dated session now row at deadline = if is_at session at then (if row.persistent then Some (now + 10000 * row.timeout) else None) else deadline
 
 -- its plain opens leave, its persistent ones stay without a session, and what it kept is forgotten
 abbrev pub end_session : Server → ℕ → ℕ → Bool → Server
 end_session s session now is_quiet =
-    let t = plain_left s session is_quiet in
-    record t {
-      at = λ o. cleared session (t.at o);
-      deadline = λ o. dated session now (t.opened o) (t.at o) (t.deadline o);
-      present = put t.present session false;
-      sessions = t.sessions - 1;
-      trees = put t.trees session [];
-      closed = put t.closed session (λ g. false);
-      refused = put t.refused session (λ g. None);
-      guids = put t.guids session 0;
-      on = λ k. cleared session (t.on k);
+    record s {
+      entries = (files_behind s session is_quiet).entries;
+      marked = (files_behind s session is_quiet).marked;
+      ranges = λ f. ranges_staying s session (s.ranges f);
+      opens = staying_in s session s.opens;
+      standing = λ o. s.standing o && not (leaves s session o);
+      by_guid = λ c g. guid_staying s session (s.by_guid c g);
+      at = λ o. cleared session (s.at o);
+      deadline = λ o. dated session now (s.opened o) (s.at o) (s.deadline o);
+      present = put s.present session false;
+      sessions = s.sessions - 1;
+      trees = put s.trees session [];
+      closed = put s.closed session (λ g. false);
+      refused = put s.refused session (λ g. None);
+      guids = put s.guids session 0;
+      on = λ k. cleared session (s.on k);
     }
 
 unfoldable pub end_records : Server → Origin → ℕ → Bool → List Record
