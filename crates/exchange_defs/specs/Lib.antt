@@ -21,9 +21,9 @@ pub mod Fold
 pub mod Operations
 pub mod Client
 pub mod Settling
+pub mod ClientStep
 pub mod Dialogs
 pub mod Network
 pub mod Schedules
-pub mod ClientStep
 pub mod Runs
 pub mod Statements

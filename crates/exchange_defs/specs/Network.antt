@@ -9,8 +9,8 @@ use Rattle.exchange_defs.specs.State.{Server, Message, Accept, Heard, End, Reply
 use Rattle.exchange_defs.specs.Step.{step}
 use Rattle.exchange_defs.specs.Fold.{recovered, recovery_records, nothing_yet, full_room}
 use Rattle.exchange_defs.specs.Operations.{Op, OpClose, Unsettled, NoSession, Refusal, is_create, is_firm, weight, charge}
-use Rattle.exchange_defs.specs.Client.{Client, Identity, Stage, Apart, AskedTree, SaidNegotiate, create_for, may_take, take_op, may_push, goes_itself, needs_slot, is_free, begun, outstanding, asked, own_message, ask_message, settle_no_slots, cut_channel, ends_at_cut, end_session, finish}
-use Rattle.exchange_defs.specs.Settling.{Heard as Hearing, EndsSession, heard, hear, is_awaited}
+use Rattle.exchange_defs.specs.Client.{Client, Identity, Stage, Apart, AskedTree, SaidNegotiate, own_message, ask_message}
+use Rattle.exchange_defs.specs.ClientStep.{Pick, TakesOp, Pushes, Hears, IsCut, Finishes, Act, Sends, Asks, CloseChannels, client_after, act}
 use Rattle.exchange_defs.specs.Dialogs.{DialogStep, GoesOn, Accepts, Binds, Readies, Refuses, dialog_step, dialog_message, open_channel, went_on, accepted, bound, readied, leave_dialog, refused_dialog}
 
 -- ---- connections
@@ -56,11 +56,6 @@ pub record World : Type 0 where
   pub log : Log
   pub trace : Trace
 
--- which operation a push sends, and the slot of a lock that goes out first
-pub record Pick : Type 0 where
-  pub op : ℕ
-  pub slot : ℕ
-
 pub data Event : Type 0 where
   Submit : (g : ℕ) (op : Op) → Event
   Open : (k : ℕ) → Event
@@ -73,6 +68,9 @@ pub data Event : Type 0 where
   Crash : (k : ℕ) (kept : Bool) → Event
   Wait : (n : ℕ) → Event  -- milliseconds
   Finish : (refusal : Refusal) → Event
+
+abbrev pub with_client : World → Client → World
+with_client w c = record w { client = c }
 
 -- ---- Open and Drop: the server accepts, and hears of an end
 
@@ -103,37 +101,30 @@ send_up c token m n = record c { up = c.up ++ record { token = token; message = 
 abbrev pub first_push : World → ℕ → Log
 first_push w g = if w.client.sent g then w.log else record w.log { since = put w.log.since g w.log.places; prior = put w.log.prior g (λ a. is_firm (w.client.outcome a)) }
 
+-- the operation itself goes up, from the client behind the step
 abbrev pub transmitted : World → ℕ → ℕ → Client → World
 transmitted w k g c =
     record w {
-      client = outstanding c k g;
+      client = c;
       conns = put w.conns k (send_up (w.conns k) (ForOp g) (own_message c k (w.conns k).next_id g) (charge (weight (c.op g))));
       log = first_push w g;
     }
 
-abbrev pub asked_for : World → ℕ → ℕ → World
-asked_for w k g =
+-- DH2C goes up in its place
+abbrev pub asked_for : World → ℕ → ℕ → Client → World
+asked_for w k g c =
     record w {
-      client = asked w.client k g;
-      conns = put w.conns k (send_up (w.conns k) (ForAttach g) (ask_message w.client k (w.conns k).next_id g) 1);
+      client = c;
+      conns = put w.conns k (send_up (w.conns k) (ForAttach g) (ask_message c k (w.conns k).next_id g) 1);
     }
 
--- a lock that goes out first needs the slot to be free
-abbrev pub has_its_slot : Client → ℕ → ℕ → Bool
-has_its_slot c g i = if needs_slot c g then is_free c (create_for c g) i else true
-
-abbrev pub sent_itself : World → ℕ → ℕ → ℕ → World
-sent_itself w k g i = if has_its_slot w.client g i then transmitted w k g (begun w.client g i) else w
-
-abbrev pub pushed_op : World → ℕ → ℕ → ℕ → World
-pushed_op w k g i = if may_push w.client k g then (if goes_itself w.client g then sent_itself w k g i else asked_for w k g) else w
-
-abbrev pub pushed_pick : World → ℕ → Option Pick → World
-pushed_pick w k None = w
-pushed_pick w k (Some p) = pushed_op w k p.op p.slot
+abbrev pub pushed_by : World → ℕ → Client → Act → World
+pushed_by w k c (Sends g) = transmitted w k g c
+pushed_by w k c (Asks g) = asked_for w k g c
+pushed_by w k c _ = with_client w c
 
 abbrev pub pushed : World → ℕ → List ℕ → Option Pick → World
-pushed w k slotless pick = pushed_pick (record w { client = settle_no_slots w.client k slotless }) k pick
+pushed w k slotless pick = pushed_by w k (client_after w.client (Pushes k slotless pick)) (act w.client (Pushes k slotless pick))
 
 -- ---- Serve: the front is absorbed, and its reply said
 
@@ -246,9 +237,6 @@ take_front c rest = record c { down = rest }
 abbrev pub behind_reply : World → ℕ → List Received → World
 behind_reply w k rest = record w { conns = put w.conns k (take_front (w.conns k) rest) }
 
-abbrev pub with_client : World → Client → World
-with_client w c = record w { client = c }
-
 -- the next message of a dialog goes out
 abbrev pub dialog_sent : World → ℕ → Stage → World
 dialog_sent w k stage = record w { conns = put w.conns k (send_up (w.conns k) ForDialog (dialog_message w.client k (w.conns k).next_id stage) 1) }
@@ -260,15 +248,13 @@ dialog_took w k r Binds = with_client w (bound w.client k)
 dialog_took w k r Readies = with_client w (readied w.client k r)
 dialog_took w k r (Refuses status) = one_cut (with_client w (refused_dialog w.client k status)) k
 
-abbrev pub closes_all : Hearing → Bool
-closes_all EndsSession = true
-closes_all _ = false
-
-abbrev pub op_heard : World → ℕ → Bool → Reply → ℕ → Hearing → World
-op_heard w g asking r place h = if closes_all h then all_cut (with_client w (hear w.client g asking r place h)) else with_client w (hear w.client g asking r place h)
+-- a client that is told so closes its end of every connection
+abbrev pub closed_by : World → Act → World
+closed_by w CloseChannels = all_cut w
+closed_by w _ = w
 
 abbrev pub op_took : World → ℕ → ℕ → Bool → Reply → ℕ → World
-op_took w k g asking r place = if is_awaited w.client k g asking then op_heard w g asking r place (heard w.client g asking r) else w
+op_took w k g asking r place = with_client (closed_by w (act w.client (Hears k g asking r place))) (client_after w.client (Hears k g asking r place))
 
 abbrev pub took_by : World → ℕ → Reply → ℕ → Token → World
 took_by w k r place ForDialog = dialog_took w k r (dialog_step (w.client.stage k) r.status)
@@ -282,11 +268,16 @@ take_reply w k (y ∷ rest) = took_by (behind_reply w k rest) k y.reply y.place 
 abbrev pub taken : World → ℕ → World
 taken w k = take_reply w k (w.conns k).down
 
-abbrev pub cut_ready : World → ℕ → World
-cut_ready w k = if ends_at_cut w.client then all_cut (with_client w (end_session w.client)) else one_cut (with_client w (cut_channel w.client k)) k
+-- the end of this connection alone, or of every one
+abbrev pub cut_by : World → ℕ → Act → World
+cut_by w k CloseChannels = all_cut w
+cut_by w k _ = one_cut w k
 
+-- a channel that isn't ready leaves its dialog
 abbrev pub cut_off : World → ℕ → World
-cut_off w k = if w.client.ready k then cut_ready w k else one_cut (with_client w (leave_dialog w.client k)) k
+cut_off w k =
+    if w.client.ready k then with_client (cut_by w k (act w.client (IsCut k))) (client_after w.client (IsCut k))
+    else one_cut (with_client w (leave_dialog w.client k)) k
 
 -- ---- Restart and Crash: every server's end closes, and the server stands at the fold of all records
 
@@ -341,11 +332,8 @@ is_possible w (Crash k kept) = may_serve w k
 is_possible w (Wait n) = true
 is_possible w (Finish refusal) = not w.client.live
 
-abbrev pub submitted : World → ℕ → Op → World
-submitted w g op = if may_take w.client g op then with_client w (take_op w.client g op) else w
-
 abbrev pub changed : World → Event → World
-changed w (Submit g op) = submitted w g op
+changed w (Submit g op) = with_client w (client_after w.client (TakesOp g op))
 changed w (Open k) = opened w k
 changed w (Push k slotless pick) = pushed w k slotless pick
 changed w (Serve k) = served w k
@@ -355,7 +343,7 @@ changed w (Drop k) = dropped w k
 changed w Restart = restarted w
 changed w (Crash k kept) = crashed w k kept
 changed w (Wait n) = w
-changed w (Finish refusal) = with_client w (finish w.client (NoSession refusal))
+changed w (Finish refusal) = with_client w (client_after w.client (Finishes (NoSession refusal)))
 
 -- each event but Wait raises the moment by 1; a millisecond is 10,000 of it
 abbrev pub moments : Event → ℕ

@@ -2,9 +2,10 @@
 -- The laws speak of every list of events, so nothing here is a premise of them.
 use Rattle.std.specs.Prelude.{ℕ, zero, suc, ◌+◌, ◌*◌, ◌==◌, nat_le, Bool, true, false, not, ◌&&◌, ◌||◌, if◌then◌else◌, List, [], ◌∷◌, ◌++◌, length, Option, Some, None}
 use Rattle.exchange_defs.specs.Table.{is_at}
-use Rattle.exchange_defs.specs.Operations.{Refusal, weight, charge, is_unsettled}
+use Rattle.exchange_defs.specs.Operations.{Refusal, weight, charge}
 use Rattle.exchange_defs.specs.Client.{Client, Stage, Apart, RefusedDialog, create_for, may_push, goes_itself, needs_slot, is_free, settle_no_slot}
-use Rattle.exchange_defs.specs.Network.{World, Conn, Pick, Event, Open, Push, Serve, Take, Cut, Drop, Finish, happens, may_serve, may_take_reply, has_front, has_reply}
+use Rattle.exchange_defs.specs.ClientStep.{Pick, some_unsettled}
+use Rattle.exchange_defs.specs.Network.{World, Conn, Event, Open, Push, Serve, Take, Cut, Drop, Finish, happens, may_serve, may_take_reply, has_front, has_reply}
 
 -- ---- a push: the lowest operation that may go out and is paid for
 
@@ -146,10 +147,6 @@ least holds k (suc n) = elim (holds k) [ true ↦ k | false ↦ least holds (k +
 
 unfoldable pub is_apart : World → ℕ → Bool
 is_apart w k = not (w.conns k).client_open && not (w.conns k).server_open
-
-unfoldable pub some_unsettled : Client → ℕ → Bool
-some_unsettled c zero = false
-some_unsettled c (suc n) = elim (is_unsettled (c.outcome (n + 1))) [ true ↦ true | false ↦ some_unsettled c n ]
 
 -- a new session is made where no channel is ready; where its dialog is refused, all is given up
 unfoldable pub linked : ℕ → Course → Course
