@@ -7,7 +7,7 @@ use Rattle.exchange_defs.specs.Commands.{has_bit, Setting, SetBasic, Rename, Set
 use Rattle.exchange_defs.specs.State.{Server, Message, Kept, Entry, Body, Empty, Content, Count, Closed, Listing, FileInfo, VolumeInfo, Interfaces, Named}
 use Rattle.exchange_defs.specs.Files.{root, find, path_of, has_parent, is_directory, is_full_directory, info_of, used, passes_room, allocated, set_basic, same_basic}
 use Rattle.exchange_defs.specs.Ranges.{RangeAnswer, Stands, Denied, change_ranges, may_read, may_write}
-use Rattle.exchange_defs.specs.Opens.{has_open}
+use Rattle.exchange_defs.specs.Opens.{file_has_open}
 use Rattle.exchange_defs.specs.Listing.{all_named, wanted, fitting, one_or_all, last_name, file_info_size, volume_info_size}
 use Rattle.exchange_defs.specs.Verdict.{Verdict, Refuse, Give, TurnDown, Tell, Show, KeepSlot, PutRanges, Alter, Shut, Change, PutBytes, PutEnd, PutBasic, PutMark, PutPath, PutNothing}
 
@@ -105,7 +105,7 @@ lock_check s o index number elements = slot_check s o index number elements (kep
 -- an open of this file, or of one below this path
 unfoldable pub open_below : Server → List Entry → List ℕ → Bool
 open_below s [] path = false
-open_below s (e ∷ es) path = (is_below path e.path && has_open s e.file) || open_below s es path
+open_below s (e ∷ es) path = (is_below path e.path && file_has_open s e.file) || open_below s es path
 
 -- the target of a rename: the file itself is none with replace
 abbrev pub target_of : ℕ → Option ℕ → Option ℕ
@@ -114,7 +114,7 @@ target_of f (Some t) = if t == f then None else Some t
 
 unfoldable pub target_refused : Server → Option ℕ → Bool
 target_refused s None = false
-target_refused s (Some t) = is_directory s t || has_open s t
+target_refused s (Some t) = is_directory s t || file_has_open s t
 
 unfoldable pub rename_names : Server → ℕ → Bool → List ℕ → Option ℕ
 rename_names s f replace path =

@@ -144,6 +144,10 @@ next_number c (Some h) = (c.number_of h + 1) % 16
 abbrev pub needs_slot : Client → ℕ → Bool
 needs_slot c g = is_lock (c.op g) && not (c.sent g)
 
+-- a lock that goes out first needs the slot to be free
+abbrev pub has_its_slot : Client → ℕ → ℕ → Bool
+has_its_slot c g i = if needs_slot c g then is_free c (create_for c g) i else true
+
 -- ---- Push
 
 -- an operation goes out itself, unless its persistent open isn't attached in this session

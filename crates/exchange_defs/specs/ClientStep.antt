@@ -3,7 +3,7 @@
 use Rattle.std.specs.Prelude.{ℕ, zero, suc, ◌+◌, ◌==◌, nat_lt, Bool, true, false, ◌&&◌, if◌then◌else◌, List, Option, Some, None}
 use Rattle.exchange_defs.specs.State.{Reply}
 use Rattle.exchange_defs.specs.Operations.{Op, Why, Refusal, is_unsettled}
-use Rattle.exchange_defs.specs.Client.{Client, create_for, needs_slot, is_free, may_take, take_op, may_push, goes_itself, begun, outstanding, asked, settle_no_slots, cut_channel, ends_at_cut, end_session, bind_channel, begin_session, note_refusal, finish}
+use Rattle.exchange_defs.specs.Client.{Client, has_its_slot, may_take, take_op, may_push, goes_itself, begun, outstanding, asked, settle_no_slots, cut_channel, ends_at_cut, end_session, bind_channel, begin_session, note_refusal, finish}
 use Rattle.exchange_defs.specs.Settling.{Heard, EndsSession, heard, hear, is_awaited}
 
 -- which operation a push sends, and the slot of a lock that goes out first
@@ -33,10 +33,6 @@ some_unsettled c zero = false
 some_unsettled c (suc n) = elim (is_unsettled (c.outcome (n + 1))) [ true ↦ true | false ↦ some_unsettled c n ]
 
 -- ---- Push
-
--- a lock that goes out first needs the slot to be free
-abbrev pub has_its_slot : Client → ℕ → ℕ → Bool
-has_its_slot c g i = if needs_slot c g then is_free c (create_for c g) i else true
 
 abbrev pub itself_after : Client → ℕ → ℕ → ℕ → Client
 itself_after c k g i = if has_its_slot c g i then outstanding (begun c g i) k g else c

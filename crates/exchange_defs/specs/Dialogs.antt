@@ -15,15 +15,15 @@ pub data DialogStep : Type 0 where
   Readies : DialogStep  -- the session is ready
   Refuses : (status : ℕ) → DialogStep
 
-abbrev pub due : DialogStep → ℕ → ℕ → DialogStep
-due step wanted status = if status == wanted then step else Refuses status
+abbrev pub expected : DialogStep → ℕ → ℕ → DialogStep
+expected step wanted status = if status == wanted then step else Refuses status
 
 abbrev pub dialog_step : Stage → ℕ → DialogStep
 dialog_step Apart status = Refuses status
-dialog_step (SaidNegotiate bound) status = due (GoesOn (SaidFirst bound)) success status
-dialog_step (SaidFirst bound) status = due (GoesOn (SaidSecond bound)) more_processing_required status
-dialog_step (SaidSecond bound) status = due (if bound then Binds else Accepts) success status
-dialog_step AskedTree status = due Readies success status
+dialog_step (SaidNegotiate bound) status = expected (GoesOn (SaidFirst bound)) success status
+dialog_step (SaidFirst bound) status = expected (GoesOn (SaidSecond bound)) more_processing_required status
+dialog_step (SaidSecond bound) status = expected (if bound then Binds else Accepts) success status
+dialog_step AskedTree status = expected Readies success status
 
 -- ---- its messages
 

@@ -15,13 +15,13 @@ use Rattle.exchange_defs.specs.Verdict.{Verdict, Refuse, Give, KeepRefusal, Repe
 
 -- ---- answers
 
-abbrev pub answered : Server → Message → ℕ → Body → List Record → Bool → Option ℕ → Answer
-answered s m status body records acted reached =
+abbrev pub answer_with : Server → Message → ℕ → Body → List Record → Bool → Option ℕ → Answer
+answer_with s m status body records acted reached =
     record { server = s; reply = record { status = status; session = m.session; tree = m.tree; body = body }; records = records; acted = acted; reached = reached; altered = None }
 
 -- no record is owed, and nothing in the files, the set of opens and the ranges changed
 abbrev pub quiet : Server → Message → ℕ → Body → Answer
-quiet s m status body = answered s m status body [] false None
+quiet s m status body = answer_with s m status body [] false None
 
 -- ---- the sequence of an open: a newer one is adopted
 
@@ -34,7 +34,7 @@ reaches s m o = if is_late s m o then None else Some o
 
 -- as quiet, of a request that came to its open's sequence
 abbrev pub quiet_on : Server → Message → ℕ → ℕ → Body → Answer
-quiet_on s m o status body = answered (reach s m o) m status body [] false (reaches s m o)
+quiet_on s m o status body = answer_with (reach s m o) m status body [] false (reaches s m o)
 
 -- ---- creates
 
@@ -131,7 +131,7 @@ create_records s m r found action now =
 
 abbrev pub made : Server → Message → CreateRequest → Option ℕ → ℕ → ℕ → Answer
 made s m r found action now =
-    let t = make_open s m r found action now in answered t m success (create_reply t (next_open s) r action) (create_records s m r found action now) true (Some (next_open s))
+    let t = make_open s m r found action now in answer_with t m success (create_reply t (next_open s) r action) (create_records s m r found action now) true (Some (next_open s))
 
 -- ---- locks
 
@@ -260,17 +260,18 @@ end_records s origin session false = leave_all_records s origin (plain_of s sess
 abbrev pub end_acts : Server → ℕ → Bool
 end_acts s session = is_any (plain_of s session)
 
-abbrev pub end_previous : Server → ℕ → Option ℕ → Bool → Server
-end_previous s now None is_quiet = s
-end_previous s now (Some session) is_quiet = end_session s session now is_quiet
+-- where a session is named, it ends
+abbrev pub end_if_named : Server → ℕ → Option ℕ → Bool → Server
+end_if_named s now None is_quiet = s
+end_if_named s now (Some session) is_quiet = end_session s session now is_quiet
 
-abbrev pub previous_records : Server → Origin → Option ℕ → Bool → List Record
-previous_records s origin None is_quiet = []
-previous_records s origin (Some session) is_quiet = end_records s origin session is_quiet
+abbrev pub records_if_named : Server → Origin → Option ℕ → Bool → List Record
+records_if_named s origin None is_quiet = []
+records_if_named s origin (Some session) is_quiet = end_records s origin session is_quiet
 
-abbrev pub previous_acts : Server → Option ℕ → Bool
-previous_acts s None = false
-previous_acts s (Some session) = end_acts s session
+abbrev pub acts_if_named : Server → Option ℕ → Bool
+acts_if_named s None = false
+acts_if_named s (Some session) = end_acts s session
 
 abbrev pub add_session : Server → Message → List ℕ → SetupRequest → Server
 add_session s m user r =
@@ -320,16 +321,16 @@ abbrev pub apply : Server → Message → ℕ → Verdict → Answer
 apply s m now (Refuse status) = quiet s m status Empty
 apply s m now (Give body) = quiet s m success body
 apply s m now (KeepRefusal guid status) = quiet (keep_refusal s m.session guid status) m status Empty
-apply s m now (Repeat o r) = answered (attached s m o) m success (create_reply s o r (s.opened o).action) [] false (attaches s o)
-apply s m now (Attach o r) = answered (attached s m o) m success (create_reply s o r 1) [] false (attaches s o)
+apply s m now (Repeat o r) = answer_with (attached s m o) m success (create_reply s o r (s.opened o).action) [] false (attaches s o)
+apply s m now (Attach o r) = answer_with (attached s m o) m success (create_reply s o r 1) [] false (attaches s o)
 apply s m now (Make r found action) = made s m r found action now
 apply s m now (TurnDown o status) = quiet_on s m o status Empty
 apply s m now (Tell o body) = quiet_on s m o success body
-apply s m now (Show o last body) = answered (record (reach s m o) { listed = put s.listed o last }) m success body [] false (reaches s m o)
+apply s m now (Show o last body) = answer_with (record (reach s m o) { listed = put s.listed o last }) m success body [] false (reaches s m o)
 apply s m now (KeepSlot o index number status elements) =
-    answered (keep_slot (reach s m o) o index number status) m status Empty (lock_records s m o index number status elements) false (reaches s m o)
+    answer_with (keep_slot (reach s m o) o index number status) m status Empty (lock_records s m o index number status elements) false (reaches s m o)
 apply s m now (PutRanges o index number ranges elements) =
-    answered (keep_slot (set_ranges (reach s m o) (file_of s o) ranges) o index number success) m success Empty (lock_records s m o index number success elements) true (reaches s m o)
+    answer_with (keep_slot (set_ranges (reach s m o) (file_of s o) ranges) o index number success) m success Empty (lock_records s m o index number success elements) true (reaches s m o)
 apply s m now (Alter o change body) =
     record {
       server = change_file (reach s m o) (file_of s o) now change;
@@ -339,7 +340,7 @@ apply s m now (Alter o change body) =
       reached = reaches s m o;
       altered = Some o;
     }
-apply s m now (Shut o body) = answered (keep_closed (leave_open s o) m.session (s.opened o).guid) m success body (leave_records s (origin_of m) o) true (reaches s m o)
+apply s m now (Shut o body) = answer_with (keep_closed (leave_open s o) m.session (s.opened o).guid) m success body (leave_records s (origin_of m) o) true (reaches s m o)
 apply s m now Challenge =
     record {
       server = record s { begun = s.begun + 1; making = put s.making m.connection (Some (NewSession (next_session s))) };
@@ -351,9 +352,9 @@ apply s m now Challenge =
     }
 apply s m now (ChallengeBinding session) = quiet (record s { making = put s.making m.connection (Some (Binding session)) }) m more_processing_required Empty
 apply s m now (Begin session user previous r is_quiet) =
-    answered (add_session (end_previous s now previous is_quiet) m user r) m success (SetUp s.seals 1) (previous_records s (origin_of m) previous is_quiet) (previous_acts s previous) None
+    answer_with (add_session (end_if_named s now previous is_quiet) m user r) m success (SetUp s.seals 1) (records_if_named s (origin_of m) previous is_quiet) (acts_if_named s previous) None
 apply s m now (Join session) = quiet (join_session s m session) m success (SetUp s.seals (s.drawn session + 1))
-apply s m now (EndSession session is_quiet) = answered (end_session s session now is_quiet) m success Empty (end_records s (origin_of m) session is_quiet) (end_acts s session) None
+apply s m now (EndSession session is_quiet) = answer_with (end_session s session now is_quiet) m success Empty (end_records s (origin_of m) session is_quiet) (end_acts s session) None
 apply s m now (AddTree pipes) =
     record {
       server = add_tree s m.session pipes;

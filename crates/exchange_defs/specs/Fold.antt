@@ -7,7 +7,7 @@ use Rattle.exchange_defs.specs.Commands.{Basic, Element, all_lock, all_unlock}
 use Rattle.exchange_defs.specs.State.{Server, Entry, Open, Range, Record, NewOpen, EpochRecord, CreateRecord, WriteRecord, EndRecord, BasicRecord, DeleteRecord, RenameRecord, RemoveRecord, LockRecord, ShutRecord, VersionRecord, ExpireRecord}
 use Rattle.exchange_defs.specs.Files.{root, find, path_of, exists, is_directory, has_parent, is_full_directory, passes_room, make_file, set_content, empty_file, mark_file, store_basic, remove_file, rename_file}
 use Rattle.exchange_defs.specs.Ranges.{RangeAnswer, Stands, Denied, change_ranges}
-use Rattle.exchange_defs.specs.Opens.{max_ids, add_open, drop_open, marked_by, has_open, without_gone}
+use Rattle.exchange_defs.specs.Opens.{max_ids, add_open, drop_open, marked_by, file_has_open, without_gone}
 use Rattle.exchange_defs.specs.CheckCreate.{max_opens, max_files, last_file}
 use Rattle.exchange_defs.specs.CheckOpen.{target_of, file_of}
 use Rattle.exchange_defs.specs.Effects.{keep_slot, set_ranges}
@@ -91,9 +91,9 @@ may_make s f path = (f == s.next_file) && (is_path path && (not (is_some (find s
 unfoldable pub may_restore : Server → NewOpen → Bool
 may_restore s n = (n.id / 0x1_0000_0000 == s.epoch) && (nat_lt 0 (n.id % 0x1_0000_0000) && (nat_lt s.given max_ids && (not (s.standing n.id) && (not (is_some (s.by_guid n.client n.guid)) && nat_lt (length s.opens) max_opens))))
 
-unfoldable pub may_open : Server → Option NewOpen → Bool
-may_open s None = true
-may_open s (Some n) = may_restore s n
+unfoldable pub may_have_open : Server → Option NewOpen → Bool
+may_have_open s None = true
+may_have_open s (Some n) = may_restore s n
 
 unfoldable pub may_create : Server → ℕ → ℕ → List ℕ → Bool
 may_create s action f path = if action == 2 then may_make s f path else if action == 1 then exists s f else if nat_lt action 4 then exists s f && not (is_directory s f) else false
@@ -119,14 +119,14 @@ same_target (Some t) replaced = t == replaced
 
 unfoldable pub may_replace : Server → Option ℕ → Bool
 may_replace s None = true
-may_replace s (Some t) = not (is_directory s t) && not (has_open s t)
+may_replace s (Some t) = not (is_directory s t) && not (file_has_open s t)
 
 unfoldable pub may_rename : Server → ℕ → ℕ → List ℕ → Bool
 may_rename s f replaced path =
     exists s f && (not (f == root) && (is_path path && (has_parent s path && (not (is_directory s f && is_below (path_of s f) path) && (same_target (target_of f (find s path)) replaced && may_replace s (target_of f (find s path)))))))
 
 unfoldable pub may_remove : Server → ℕ → Bool
-may_remove s f = exists s f && (not (f == root) && (not (has_open s f) && not (is_full_directory s f)))
+may_remove s f = exists s f && (not (f == root) && (not (file_has_open s f) && not (is_full_directory s f)))
 
 abbrev pub lock_granted : Server → ℕ → ℕ → ℕ → RangeAnswer → Server
 lock_granted s o index number (Denied status) = s
@@ -145,7 +145,7 @@ abbrev pub with_record : Server → Record → Server
 with_record s (EpochRecord number) = begin_epoch s number
 with_record s (VersionRecord number) = set_version s number
 with_record s (CreateRecord origin action f path attributes is_dir time opened) =
-    if may_create s action f path && may_open s opened then restore (created_file s action f path attributes is_dir time) f action opened else s
+    if may_create s action f path && may_have_open s opened then restore (created_file s action f path attributes is_dir time) f action opened else s
 with_record s (WriteRecord origin f at time bytes) = if is_file s f && (not (is_empty bytes) && not (passes_room s f (at + length bytes))) then set_content s f (written at bytes (s.content f)) time else s
 with_record s (EndRecord origin f size time) = if is_file s f && not (passes_room s f size) then set_content s f (ended size (s.content f)) time else s
 with_record s (BasicRecord origin f basic) = if exists s f then store_basic s f basic else s

@@ -158,9 +158,9 @@ abbrev pub said : Token → Reply → Said
 said (ForOp g) r = if r.status == success then Says_ok (content_reply r.body) else if r.status == end_of_file then Says_end else Says_other
 said _ r = Says_other
 
-abbrev pub noted : Option ℕ → ℕ → Option ℕ
-noted None n = Some n
-noted (Some i) n = Some i
+abbrev pub first_noted : Option ℕ → ℕ → Option ℕ
+first_noted None n = Some n
+first_noted (Some i) n = Some i
 
 -- its own message makes the open of a create
 abbrev pub makes : Client → Token → Answer → Bool
@@ -190,7 +190,7 @@ logged w x A t =
       did = put w.log.did w.log.places (is_own x.token && A.acted);
       bytes = λ c. put (w.log.bytes c) (w.log.places + 1) (bytes_behind A.server (t.open_of c) (w.log.bytes c w.log.places));
       birth = if makes w.client x.token A then put w.log.birth (op_of x.token) (w.log.places + 1) else w.log.birth;
-      first = if is_own x.token && A.acted then put w.log.first (op_of x.token) (noted (w.log.first (op_of x.token)) w.log.places) else w.log.first;
+      first = if is_own x.token && A.acted then put w.log.first (op_of x.token) (first_noted (w.log.first (op_of x.token)) w.log.places) else w.log.first;
     }
 
 abbrev pub behind_front : Conn → List Sent → Conn

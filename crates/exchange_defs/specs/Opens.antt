@@ -61,8 +61,8 @@ unfoldable pub is_any : List ℕ → Bool
 is_any [] = false
 is_any (o ∷ os) = true
 
-unfoldable pub has_open : Server → ℕ → Bool
-has_open s f = is_any (opens_of s f)
+unfoldable pub file_has_open : Server → ℕ → Bool
+file_has_open s f = is_any (opens_of s f)
 
 -- ---- the table
 
@@ -105,7 +105,7 @@ drop_open s o =
 
 -- marked, without an open, and no directory in which something stands
 unfoldable pub goes : Server → ℕ → Bool
-goes s f = s.marked f && (not (f == root) && (exists s f && (not (has_open s f) && not (is_full_directory s f))))
+goes s f = s.marked f && (not (f == root) && (exists s f && (not (file_has_open s f) && not (is_full_directory s f))))
 
 abbrev pub without_gone : Server → ℕ → Server
 without_gone s f = if goes s f then remove_file s f else s

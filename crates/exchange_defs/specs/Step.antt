@@ -8,7 +8,7 @@ use Rattle.exchange_defs.specs.CheckCreate.{refused_create}
 use Rattle.exchange_defs.specs.CheckSetup.{count_channels}
 use Rattle.exchange_defs.specs.Check.{check}
 use Rattle.exchange_defs.specs.Records.{origin_at, entry_bytes, fits}
-use Rattle.exchange_defs.specs.Effects.{apply, end_session, end_records, end_acts}
+use Rattle.exchange_defs.specs.Effects.{apply, end_if_named, records_if_named, acts_if_named}
 use Rattle.exchange_defs.specs.Verdict.{Verdict, Refuse, Give, KeepRefusal, Repeat, Attach, Make, TurnDown, Tell, Show, KeepSlot, PutRanges, Alter, Shut, Challenge, ChallengeBinding, Begin, Join, EndSession, AddTree, DropTree}
 
 abbrev pub max_connections : ℕ
@@ -76,20 +76,8 @@ ends_with s k = last_session s k (s.on k)
 abbrev pub forget_connection : Server → ℕ → Server
 forget_connection s k = record s { connections = without k s.connections; on = put s.on k None; making = put s.making k None }
 
-abbrev pub ended_with : Server → ℕ → Option ℕ → Bool → Server
-ended_with s now None is_quiet = s
-ended_with s now (Some session) is_quiet = end_session s session now is_quiet
-
-abbrev pub ended_records : Server → Origin → Option ℕ → Bool → List Record
-ended_records s origin None is_quiet = []
-ended_records s origin (Some session) is_quiet = end_records s origin session is_quiet
-
-abbrev pub ended_acts : Server → Option ℕ → Bool
-ended_acts s None = false
-ended_acts s (Some session) = end_acts s session
-
 abbrev pub take_out : Server → ℕ → ℕ → Bool → Server
-take_out s k now is_quiet = forget_connection (ended_with s now (ends_with s k) is_quiet) k
+take_out s k now is_quiet = forget_connection (end_if_named s now (ends_with s k) is_quiet) k
 
 unfoldable pub take_all_out : Server → List ℕ → ℕ → Bool → Server
 take_all_out s [] now is_quiet = s
@@ -97,11 +85,11 @@ take_all_out s (k ∷ ks) now is_quiet = take_all_out (take_out s k now is_quiet
 
 unfoldable pub take_all_records : Server → List ℕ → ℕ → Bool → List Record
 take_all_records s [] now is_quiet = []
-take_all_records s (k ∷ ks) now is_quiet = ended_records s (origin_at 0) (ends_with s k) is_quiet ++ take_all_records (take_out s k now is_quiet) ks now is_quiet
+take_all_records s (k ∷ ks) now is_quiet = records_if_named s (origin_at 0) (ends_with s k) is_quiet ++ take_all_records (take_out s k now is_quiet) ks now is_quiet
 
 unfoldable pub take_all_acts : Server → List ℕ → ℕ → Bool → Bool
 take_all_acts s [] now is_quiet = false
-take_all_acts s (k ∷ ks) now is_quiet = ended_acts s (ends_with s k) || take_all_acts (take_out s k now is_quiet) ks now is_quiet
+take_all_acts s (k ∷ ks) now is_quiet = acts_if_named s (ends_with s k) || take_all_acts (take_out s k now is_quiet) ks now is_quiet
 
 -- ---- the table's answer
 
@@ -113,7 +101,7 @@ abbrev pub carried_out : Server → ℕ → Ruling → Answer
 carried_out s now (Says m v) = apply s m now v
 carried_out s now (TakesIn k) = told (record s { connections = s.connections ++ k ∷ [] }) success [] false
 carried_out s now TurnsAway = told s insufficient_resources [] false
-carried_out s now (TakesOut k is_quiet) = told (take_out s k now is_quiet) success (ended_records s (origin_at k) (ends_with s k) is_quiet) (ended_acts s (ends_with s k))
+carried_out s now (TakesOut k is_quiet) = told (take_out s k now is_quiet) success (records_if_named s (origin_at k) (ends_with s k) is_quiet) (acts_if_named s (ends_with s k))
 carried_out s now (TakesAllOut is_quiet) = told (take_all_out s s.connections now is_quiet) success (take_all_records s s.connections now is_quiet) (take_all_acts s s.connections now is_quiet)
 
 -- an answer that stands where its records fit
@@ -162,14 +150,14 @@ connection_of (End k) = k
 connection_of Stop = 0
 
 -- the event's own answer behind the expiry, in one body with the expiry's records, where both fit; else none expires
-abbrev pub joined : Server → ℕ → ServerEvent → List Record → Answer → Answer
-joined s now e front A = if fits s (front ++ A.records) then record A { records = front ++ A.records } else table s now e
+abbrev pub behind_expiry : Server → ℕ → ServerEvent → List Record → Answer → Answer
+behind_expiry s now e front A = if fits s (front ++ A.records) then record A { records = front ++ A.records } else table s now e
 
 abbrev pub expiring : Server → ℕ → ServerEvent → Option ℕ → Answer
 expiring s now e None = table s now e
 expiring s now e (Some o) =
     if nat_le max_marks s.mark_count then table s now e
-    else joined s now e (expire_records s (origin_at (connection_of e)) o) (carried_out (expire s o) now (ruling (expire s o) e))
+    else behind_expiry s now e (expire_records s (origin_at (connection_of e)) o) (carried_out (expire s o) now (ruling (expire s o) e))
 
 -- ---- the event: its records stand in one body before its reply
 
