@@ -1,7 +1,7 @@
 -- The checks of the requests that name an open (MS-SMB2 3.3.5.10 to 3.3.5.21).
 use Rattle.std.specs.Prelude.{ℕ, ◌+◌, ◌-◌, ◌%◌, ◌==◌, nat_lt, nat_le, min, Bool, true, false, not, ◌&&◌, ◌||◌, if◌then◌else◌, List, [], ◌∷◌, length, take, drop, Option, Some, None, is_some}
 use Rattle.exchange_defs.specs.Status.{success, file_not_available, access_denied, invalid_device_request, invalid_parameter, info_length_mismatch, end_of_file, file_lock_conflict, disk_full, no_such_file, no_more_files, directory_not_empty, object_path_not_found, object_name_collision, fs_driver_required}
-use Rattle.exchange_defs.specs.Texts.{same_list, is_below}
+use Rattle.exchange_defs.specs.Texts.{is_below}
 use Rattle.exchange_defs.specs.Content.{written, ended, same_bytes, is_empty}
 use Rattle.exchange_defs.specs.Commands.{has_bit, Setting, SetBasic, Rename, SetDelete, SetAllocation, SetEnd, Element}
 use Rattle.exchange_defs.specs.State.{Server, Message, Kept, Entry, Body, Empty, Content, Count, Closed, Listing, FileInfo, VolumeInfo, Interfaces, Named}
@@ -32,7 +32,7 @@ changes_nothing s f (PutBytes at bytes) = same_bytes (written at bytes (s.conten
 changes_nothing s f (PutEnd size) = same_bytes (ended size (s.content f)) (s.content f)
 changes_nothing s f (PutBasic basic) = same_basic basic (s.basic f)
 changes_nothing s f (PutMark flag) = if s.marked f then flag else not flag
-changes_nothing s f (PutPath replaced path) = not (is_some replaced) && same_list path (path_of s f)
+changes_nothing s f (PutPath replaced path) = not (is_some replaced) && same_bytes path (path_of s f)
 changes_nothing s f PutNothing = true
 
 abbrev pub alter : Server → Message → ℕ → Change → Body → Verdict

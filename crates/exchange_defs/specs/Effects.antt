@@ -1,13 +1,12 @@
 -- What a verdict does: the state behind it, the reply, the records owed and whether it acted.
 use Rattle.std.specs.Prelude.{ℕ, ◌+◌, ◌-◌, ◌*◌, ◌==◌, nat_lt, Bool, true, false, not, ◌&&◌, ◌||◌, if◌then◌else◌, List, [], ◌∷◌, ◌++◌, Option, Some, None, is_some}
-use Rattle.exchange_defs.specs.Table.{put, put2, is_at, number_or_zero}
+use Rattle.exchange_defs.specs.Table.{put, put2, is_at, is_filled, number_or_zero}
 use Rattle.exchange_defs.specs.Status.{success, more_processing_required}
-use Rattle.exchange_defs.specs.Texts.{same_list}
 use Rattle.exchange_defs.specs.Content.{written, ended, same_bytes}
 use Rattle.exchange_defs.specs.Commands.{CreateRequest, Durable, SetupRequest, Basic, Element, asks_directory}
 use Rattle.exchange_defs.specs.State.{Server, Message, Open, Range, Tree, NewSession, Binding, Body, Empty, Created, SetUp, Connected, Record, NewOpen, Origin, CreateRecord, WriteRecord, EndRecord, BasicRecord, DeleteRecord, RenameRecord, LockRecord, Answer}
 use Rattle.exchange_defs.specs.Files.{make_file, empty_file, set_content, store_basic, mark_file, rename_file, info_of, same_basic, path_of}
-use Rattle.exchange_defs.specs.Opens.{id_of, mapped, add_open, leave_open, leave_records, is_any}
+use Rattle.exchange_defs.specs.Opens.{id_of, mapped, add_open, leave_open, leave_records}
 use Rattle.exchange_defs.specs.CheckCreate.{empties}
 use Rattle.exchange_defs.specs.CheckOpen.{is_late, is_slot, file_of}
 use Rattle.exchange_defs.specs.Records.{origin_of}
@@ -175,7 +174,7 @@ change_acts s f now (PutBytes at bytes) = not (same_bytes (written at bytes (s.c
 change_acts s f now (PutEnd size) = not (same_bytes (ended size (s.content f)) (s.content f) && is_touched_at (s.basic f) now)
 change_acts s f now (PutBasic basic) = not (same_basic basic (s.basic f))
 change_acts s f now (PutMark flag) = if s.marked f then not flag else flag
-change_acts s f now (PutPath replaced path) = is_some replaced || not (same_list path (path_of s f))
+change_acts s f now (PutPath replaced path) = is_some replaced || not (same_bytes path (path_of s f))
 change_acts s f now PutNothing = false
 
 -- ---- close
@@ -258,7 +257,7 @@ end_records s origin session false = leave_all_records s origin (plain_of s sess
 
 -- ending it takes an open out of the table
 abbrev pub end_acts : Server → ℕ → Bool
-end_acts s session = is_any (plain_of s session)
+end_acts s session = is_filled (plain_of s session)
 
 -- where a session is named, it ends
 abbrev pub end_if_named : Server → ℕ → Option ℕ → Bool → Server

@@ -1,6 +1,7 @@
 -- What QUERY_DIRECTORY gives (MS-SMB2 3.3.5.18, MS-FSA 2.1.4.4 and 2.1.5.6.3).
 use Rattle.std.specs.Prelude.{ℕ, ◌+◌, ◌*◌, ◌/◌, ◌==◌, nat_lt, nat_le, Bool, true, false, ◌&&◌, ◌||◌, if◌then◌else◌, List, [], ◌∷◌, Option, Some, None}
-use Rattle.exchange_defs.specs.Texts.{upper, same_list, same_name, name_before, utf16_length, parent_of, leaf_of}
+use Rattle.exchange_defs.specs.Content.{same_bytes}
+use Rattle.exchange_defs.specs.Texts.{upper, same_name, name_before, utf16_length, parent_of, leaf_of}
 use Rattle.exchange_defs.specs.State.{Server, Entry, Named}
 use Rattle.exchange_defs.specs.Files.{root, find, info_of, path_of}
 
@@ -36,7 +37,7 @@ accepts (p ∷ ps) name = matches (p ∷ ps) name
 -- ---- the order: `.`, `..`, then names in byte order of their ASCII upper case
 
 unfoldable pub rank : List ℕ → ℕ
-rank name = if same_list name (46 ∷ []) then 0 else if same_list name (46 ∷ 46 ∷ []) then 1 else 2
+rank name = if same_bytes name (46 ∷ []) then 0 else if same_bytes name (46 ∷ 46 ∷ []) then 1 else 2
 
 unfoldable pub listed_before : List ℕ → List ℕ → Bool
 listed_before a b = nat_lt (rank a) (rank b) || ((rank a == rank b) && ((rank a == 2) && name_before a b))

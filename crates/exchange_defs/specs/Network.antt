@@ -1,6 +1,6 @@
 -- One client, one server, and connections that lose what they hold.
 use Rattle.std.specs.Prelude.{ℕ, ◌+◌, ◌*◌, ◌==◌, nat_lt, Bool, true, false, not, ◌&&◌, if◌then◌else◌, List, [], ◌∷◌, ◌++◌, Option, Some, None, is_some, min}
-use Rattle.exchange_defs.specs.Table.{put}
+use Rattle.exchange_defs.specs.Table.{put, is_filled}
 use Rattle.exchange_defs.specs.Status.{success, end_of_file}
 use Rattle.exchange_defs.specs.Content.{ContentReply, Counted, Gives, Done}
 use Rattle.exchange_defs.specs.Order.{Log, Said, Says_ok, Says_end, Says_other}
@@ -301,23 +301,15 @@ crashed w k kept = if kept then restarted (absorb_front w k (w.conns k).up) else
 abbrev pub max_channel : ℕ
 max_channel = 256
 
-unfoldable pub has_front : List Sent → Bool
-has_front [] = false
-has_front (x ∷ xs) = true
-
-unfoldable pub has_reply : List Received → Bool
-has_reply [] = false
-has_reply (y ∷ ys) = true
-
 -- no session is in the making, on this or another channel
 abbrev pub may_open : World → ℕ → Bool
 may_open w k = nat_lt k max_channel && (not (w.conns k).client_open && (not (w.conns k).server_open && not (is_some w.client.making)))
 
 abbrev pub may_serve : World → ℕ → Bool
-may_serve w k = (w.conns k).server_open && has_front (w.conns k).up
+may_serve w k = (w.conns k).server_open && is_filled (w.conns k).up
 
 abbrev pub may_take_reply : World → ℕ → Bool
-may_take_reply w k = (w.conns k).client_open && has_reply (w.conns k).down
+may_take_reply w k = (w.conns k).client_open && is_filled (w.conns k).down
 
 abbrev pub is_possible : World → Event → Bool
 is_possible w (Submit g op) = true

@@ -1,6 +1,6 @@
 -- Opens: access, sharing, ids, and what leaves the table with one (MS-SMB2 3.3.1.10, MS-FSA 2.1.5.1.2.2 and 2.1.5.5).
 use Rattle.std.specs.Prelude.{ℕ, ◌+◌, ◌*◌, ◌%◌, ◌==◌, Bool, true, false, not, ◌&&◌, ◌||◌, if◌then◌else◌, List, [], ◌∷◌, ◌++◌, Option, Some, None, bit_or}
-use Rattle.exchange_defs.specs.Table.{put, put2, without, placed_in, is_at}
+use Rattle.exchange_defs.specs.Table.{put, put2, without, placed_in, is_at, is_filled}
 use Rattle.exchange_defs.specs.Commands.{has_bit, deletes_on_close}
 use Rattle.exchange_defs.specs.State.{Server, Open, Record, Origin, DeleteRecord, RemoveRecord, ShutRecord}
 use Rattle.exchange_defs.specs.Ranges.{without_owner}
@@ -57,12 +57,8 @@ unfoldable pub admits : (ℕ → Open) → List ℕ → ℕ → ℕ → Bool
 admits opened [] access share = true
 admits opened (o ∷ os) access share = is_shared access (opened o).share && (is_shared (opened o).access share && admits opened os access share)
 
-unfoldable pub is_any : List ℕ → Bool
-is_any [] = false
-is_any (o ∷ os) = true
-
 unfoldable pub file_has_open : Server → ℕ → Bool
-file_has_open s f = is_any (opens_of s f)
+file_has_open s f = is_filled (opens_of s f)
 
 -- ---- the table
 

@@ -1,8 +1,8 @@
 -- The operations of a script, what they send and how they settle.
 use Rattle.std.specs.Prelude.{ℕ, ◌+◌, ◌-◌, ◌/◌, ◌==◌, nat_le, Bool, true, false, not, ◌||◌, if◌then◌else◌, List, [], ◌∷◌, length, Option, Some, None}
 use Rattle.exchange_defs.specs.Status.{success}
-use Rattle.exchange_defs.specs.Texts.{utf16_length, same_list}
-use Rattle.exchange_defs.specs.Content.{ContentOp, Still, Write as Writes, Read as Reads, SetEnd as Ends, meets}
+use Rattle.exchange_defs.specs.Texts.{utf16_length}
+use Rattle.exchange_defs.specs.Content.{ContentOp, Still, Write as Writes, Read as Reads, SetEnd as Ends, meets, same_bytes}
 use Rattle.exchange_defs.specs.Commands.{Command, Create as CreateCommand, Write as WriteCommand, Read as ReadCommand, Close, Flush, Lock, ListDirectory, QueryFile, SetInfo, Aside, Basic, Element, SetBasic, Rename, SetDelete, SetEnd, CreateRequest, Durable, Reconnect}
 use Rattle.exchange_defs.specs.State.{Body, Created, Content, Count, Listing, FileInfo, Empty, Named}
 
@@ -236,7 +236,7 @@ charge n = if n == 0 then 1 else (n - 1) / 65536 + 1
 
 unfoldable pub names_in : List Named → List (List ℕ)
 names_in [] = []
-names_in (n ∷ ns) = if same_list n.name (46 ∷ []) || same_list n.name (46 ∷ 46 ∷ []) then names_in ns else n.name ∷ names_in ns
+names_in (n ∷ ns) = if same_bytes n.name (46 ∷ []) || same_bytes n.name (46 ∷ 46 ∷ []) then names_in ns else n.name ∷ names_in ns
 
 abbrev pub action_in : Body → Option OpReply
 action_in (Created reply) = Some (Action reply.action)

@@ -1,11 +1,11 @@
 -- The program's own choices, as lists of events: which operation a push sends, how a channel is linked, how a run is settled.
 -- The laws speak of every list of events, so nothing here is a premise of them.
 use Rattle.std.specs.Prelude.{ℕ, zero, suc, ◌+◌, ◌*◌, ◌==◌, nat_le, Bool, true, false, not, ◌&&◌, ◌||◌, if◌then◌else◌, List, [], ◌∷◌, ◌++◌, length, Option, Some, None}
-use Rattle.exchange_defs.specs.Table.{is_at}
+use Rattle.exchange_defs.specs.Table.{is_at, is_filled}
 use Rattle.exchange_defs.specs.Operations.{Refusal, weight, charge}
 use Rattle.exchange_defs.specs.Client.{Client, Stage, Apart, RefusedDialog, create_for, may_push, goes_itself, needs_slot, is_free, settle_no_slot}
 use Rattle.exchange_defs.specs.ClientStep.{Pick, some_unsettled}
-use Rattle.exchange_defs.specs.Network.{World, Conn, Event, Open, Push, Serve, Take, Cut, Drop, Finish, happens, may_serve, may_take_reply, has_front, has_reply}
+use Rattle.exchange_defs.specs.Network.{World, Conn, Event, Open, Push, Serve, Take, Cut, Drop, Finish, happens, may_serve, may_take_reply}
 
 -- ---- a push: the lowest operation that may go out and is paid for
 
@@ -90,7 +90,7 @@ unfoldable pub taken_all : Course → ℕ → Course
 taken_all c k = take_all (length (c.world.conns k).down) c k
 
 unfoldable pub has_more : World → ℕ → Bool
-has_more w k = both_open (w.conns k) && (has_front (w.conns k).up || has_reply (w.conns k).down)
+has_more w k = both_open (w.conns k) && (is_filled (w.conns k).up || is_filled (w.conns k).down)
 
 -- serve the whole up list and take the whole down list, and again while both ends are open and a list isn't empty
 unfoldable pub drain : ℕ → Course → ℕ → Course
@@ -154,7 +154,7 @@ linked n c = elim (c.world.client.channels == 0) [ false ↦ c | true ↦ finish
 
 unfoldable pub pushed_round : Course → ℕ → Course
 pushed_round c k =
-    let d = went_push c k in elim (has_front (d.world.conns k).up || has_reply (d.world.conns k).down) [ true ↦ drain 64 d k | false ↦ went d (Cut k) ]
+    let d = went_push c k in elim (is_filled (d.world.conns k).up || is_filled (d.world.conns k).down) [ true ↦ drain 64 d k | false ↦ went d (Cut k) ]
 
 unfoldable pub ready_round : ℕ → Course → Course
 ready_round n c = elim (c.world.client.channels == 0) [ true ↦ c | false ↦ pushed_round c (least c.world.client.ready 0 n) ]

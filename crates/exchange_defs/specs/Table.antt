@@ -23,6 +23,11 @@ abbrev pub placed_in : ℕ → List ℕ → List ℕ
 placed_in n [] = n ∷ []
 placed_in n (x ∷ xs) = if nat_lt n x then n ∷ x ∷ xs else x ∷ placed_in n xs
 
+-- the list isn't empty
+unfoldable pub is_filled : {X : Type 0} → List X → Bool
+is_filled [] = false
+is_filled (x ∷ xs) = true
+
 -- whether the option holds this number
 abbrev pub is_at : ℕ → Option ℕ → Bool
 is_at n None = false

@@ -1,12 +1,6 @@
 -- Texts as lists of their UTF-8 bytes, and paths (MS-FSCC 2.1.5, MS-SMB2 2.2.13).
 use Rattle.std.specs.Prelude.{ℕ, ◌-◌, ◌==◌, nat_le, nat_lt, Bool, true, false, not, ◌&&◌, ◌||◌, if◌then◌else◌, List, [], ◌∷◌, ◌++◌, sum_by, Option, Some, None}
-
--- the very same numbers, one after the other
-unfoldable pub same_list : List ℕ → List ℕ → Bool
-same_list [] [] = true
-same_list [] (y ∷ ys) = false
-same_list (x ∷ xs) [] = false
-same_list (x ∷ xs) (y ∷ ys) = (x == y) && same_list xs ys
+use Rattle.exchange_defs.specs.Content.{same_bytes}
 
 -- a letter a to z as A to Z
 unfoldable pub upper : ℕ → ℕ
@@ -62,7 +56,7 @@ begins_below (Some (c ∷ cs)) = c == 92
 
 -- the path lies below the directory, at any depth; all but the root lie below the root
 unfoldable pub is_below : List ℕ → List ℕ → Bool
-is_below [] path = not (same_list path [])
+is_below [] path = not (same_bytes path [])
 is_below (d ∷ ds) path = begins_below (after_name (d ∷ ds) path)
 
 -- no control character and none of " * / : < > ? |
@@ -71,7 +65,7 @@ is_plain c = nat_le 32 c && not ((c == 34) || ((c == 42) || ((c == 47) || ((c ==
 
 -- a component: not empty, not `.` and not `..`
 unfoldable pub is_component : List ℕ → Bool
-is_component name = not (same_list name []) && (not (same_list name (46 ∷ [])) && not (same_list name (46 ∷ 46 ∷ [])))
+is_component name = not (same_bytes name []) && (not (same_bytes name (46 ∷ [])) && not (same_bytes name (46 ∷ 46 ∷ [])))
 
 unfoldable pub components_from : List ℕ → List ℕ → Bool
 components_from name [] = is_component name

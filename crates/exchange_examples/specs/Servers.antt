@@ -1,6 +1,5 @@
 -- A server alone, that hears one message after the other.
 use Rattle.std.specs.Prelude.{ℕ, zero, suc, ◌+◌, ◌==◌, Bool, true, false, not, ◌&&◌, List, [], ◌∷◌, length, Option, Some, None}
-use Rattle.exchange_defs.specs.Texts.{same_list}
 use Rattle.exchange_defs.specs.Content.{same_bytes}
 use Rattle.exchange_defs.specs.Commands.{Command, Setup, TreeConnect, Shows, Begins, Logon, Create, Durable, Element}
 use Rattle.exchange_defs.specs.State.{Accept, Server, Message, ServerEvent, Heard, Body, Entry, Open, Range, Record}
@@ -106,7 +105,7 @@ abbrev pub same_paths : List Entry → List Entry → Bool
 same_paths [] [] = true
 same_paths [] (e ∷ es) = false
 same_paths (d ∷ ds) [] = false
-same_paths (d ∷ ds) (e ∷ es) = (d.file == e.file) && (same_list d.path e.path && same_paths ds es)
+same_paths (d ∷ ds) (e ∷ es) = (d.file == e.file) && (same_bytes d.path e.path && same_paths ds es)
 
 abbrev pub same_flag : Bool → Bool → Bool
 same_flag true b = b
@@ -139,7 +138,7 @@ same_option (Some m) (Some n) = m == n
 abbrev pub same_row : Open → Open → Bool
 same_row p q =
     (p.file == q.file)
-    && ((p.access == q.access) && ((p.share == q.share) && ((p.options == q.options) && ((p.action == q.action) && ((p.client == q.client) && (same_option p.guid q.guid && (same_list p.user q.user && (p.timeout == q.timeout))))))))
+    && ((p.access == q.access) && ((p.share == q.share) && ((p.options == q.options) && ((p.action == q.action) && ((p.client == q.client) && (same_option p.guid q.guid && (same_bytes p.user q.user && (p.timeout == q.timeout))))))))
 
 abbrev pub same_kept : Server → Server → ℕ → ℕ → Bool
 same_kept s t o zero = true
@@ -156,7 +155,7 @@ same_durable s t =
     && ((s.epoch == t.epoch)
     && ((s.next_file == t.next_file)
     && (same_paths s.entries t.entries
-    && (same_files s t s.entries && (same_list s.opens t.opens && (same_opens s t s.opens && (s.mark_count == t.mark_count)))))))
+    && (same_files s t s.entries && (same_bytes s.opens t.opens && (same_opens s t s.opens && (s.mark_count == t.mark_count)))))))
 
 abbrev pub journal_stands : World → Bool
 journal_stands w = same_durable (durable (fold w.records)) (durable w.server)
