@@ -25,8 +25,8 @@ pub record Log : Type 0 where
   pub who : ℕ → ℕ  -- by place: the operation of the message
   pub gave : ℕ → Said  --   what its reply said, sent or not
   pub did : ℕ → Bool  --   whether it acted
-  pub bytes : ℕ → ℕ → List ℕ  -- by open and place: the bytes of its file before that place, as they were when it left the table
-  pub birth : ℕ → ℕ  -- by open: the next place when its create acted
+  pub bytes : ℕ → ℕ → List ℕ  -- by create and place: the bytes of its open's file before that place, as they were when the open left the table
+  pub birth : ℕ → ℕ  -- by create: the next place when it acted
   pub first : ℕ → Option ℕ  -- by operation: the place where it acted first
   pub since : ℕ → ℕ  --   the next place when it was first pushed
   pub prior : ℕ → ℕ → Bool  -- by two operations: the second had settled as Ok or Refused when the first was first pushed

@@ -1,0 +1,151 @@
+-- The checks of CREATE (MS-SMB2 3.3.5.9, 3.3.5.9.10, 3.3.5.9.12; MS-FSA 2.1.5.1).
+use Rattle.std.specs.Prelude.{ℕ, ◌==◌, nat_le, Bool, true, false, not, ◌&&◌, ◌||◌, if◌then◌else◌, length, Option, Some, None, bit_or, is_some, nat_lt}
+use Rattle.exchange_defs.specs.Table.{is_at}
+use Rattle.exchange_defs.specs.Status.{invalid_parameter, access_denied, object_path_not_found, delete_pending, object_name_not_found, object_name_collision, not_a_directory, file_is_a_directory, sharing_violation, insufficient_resources, duplicate_objectid}
+use Rattle.exchange_defs.specs.Texts.{same_name}
+use Rattle.exchange_defs.specs.Commands.{CreateRequest, Durable, Reconnect, asks_directory, asks_file, deletes_on_close}
+use Rattle.exchange_defs.specs.State.{Server, Message}
+use Rattle.exchange_defs.specs.Files.{root, find, has_parent, is_directory}
+use Rattle.exchange_defs.specs.Opens.{mapped, deletes, opens_of, admits, max_ids}
+use Rattle.exchange_defs.specs.Verdict.{Verdict, Refuse, KeepRefusal, Repeat, Attach, Make}
+
+abbrev pub max_opens : ℕ
+max_opens = 16384
+
+abbrev pub max_files : ℕ
+max_files = 65536
+
+abbrev pub max_guids : ℕ
+max_guids = 262144
+
+abbrev pub last_file : ℕ
+last_file = 0xffff_ffff_ffff_fffe
+
+-- a refusal by the names, the sharing or the room is kept by the request's CreateGuid, where it has one
+abbrev pub refused_by : Option Durable → ℕ → Verdict
+refused_by None status = Refuse status
+refused_by (Some d) status = KeepRefusal d.guid status
+
+abbrev pub refused_create : CreateRequest → ℕ → Verdict
+refused_create r status = refused_by r.durable status
+
+-- ---- names and kinds
+
+-- action of a success: superseded 0, opened 1, created 2, overwritten 3 (2.2.14)
+abbrev pub action_on_found : ℕ → ℕ
+action_on_found disposition = if disposition == 0 then 0 else if nat_le 4 disposition then 3 else 1
+
+abbrev pub empties : ℕ → Bool
+empties disposition = (disposition == 0) || nat_le 4 disposition
+
+-- on a missing path these make a file or a directory
+abbrev pub makes_missing : ℕ → Bool
+makes_missing disposition = not ((disposition == 1) || (disposition == 4))
+
+-- what is there: the status of the first rule that it breaks
+unfoldable pub found_names : Server → CreateRequest → ℕ → Option ℕ
+found_names s r f =
+    if s.marked f then Some delete_pending
+    else if r.disposition == 2 then Some object_name_collision
+    else if asks_directory r && not (is_directory s f) then Some not_a_directory
+    else if asks_file r && is_directory s f then Some file_is_a_directory
+    else if empties r.disposition && is_directory s f then Some invalid_parameter
+    else if deletes_on_close r.options && (f == root) then Some access_denied
+    else None
+
+unfoldable pub missing_names : CreateRequest → Option ℕ
+missing_names r = if makes_missing r.disposition then None else Some object_name_not_found
+
+unfoldable pub names_of_found : Server → CreateRequest → Option ℕ → Option ℕ
+names_of_found s r None = missing_names r
+names_of_found s r (Some f) = found_names s r f
+
+unfoldable pub names : Server → CreateRequest → Option ℕ → Option ℕ
+names s r found = if is_some found || has_parent s r.path then names_of_found s r found else Some object_path_not_found
+
+-- on the share of the pipes no name is found
+abbrev pub share_names : Server → CreateRequest → Bool → Option ℕ → Option ℕ
+share_names s r pipes found = if pipes then Some object_name_not_found else names s r found
+
+-- ---- sharing: a create that empties a file asks for write access too
+
+abbrev pub shared_access : CreateRequest → ℕ
+shared_access r = if empties r.disposition then bit_or (mapped r.access) 0x2 else mapped r.access
+
+abbrev pub shares : Server → CreateRequest → Option ℕ → Bool
+shares s r None = true
+shares s r (Some f) = admits s.opened (opens_of s f) (shared_access r) r.share
+
+-- ---- counts
+
+abbrev pub keeps_guid : CreateRequest → Bool
+keeps_guid r = is_some r.durable
+
+abbrev pub makes_file : CreateRequest → Option ℕ → Bool
+makes_file r found = not (is_some found) && makes_missing r.disposition
+
+-- a count whose refusal is kept stands at its limit
+unfoldable pub is_counted_out : Server → CreateRequest → Option ℕ → Bool
+is_counted_out s r found = nat_le max_opens (length s.opens) || ((makes_file r found && nat_le max_files (length s.entries)) || (nat_le max_ids s.given || (makes_file r found && nat_lt last_file s.next_file)))
+
+abbrev pub action_of : CreateRequest → Option ℕ → ℕ
+action_of r None = 2
+action_of r (Some f) = action_on_found r.disposition
+
+abbrev pub after_names : Server → CreateRequest → Option ℕ → Option ℕ → Verdict
+after_names s r found (Some status) = refused_create r status
+after_names s r found None = if shares s r found then Make r found (action_of r found) else refused_create r sharing_violation
+
+-- a create whose CreateGuid is new, or that has none
+abbrev pub new_check : Server → Message → CreateRequest → Bool → Option ℕ → Verdict
+new_check s m r pipes found =
+    if deletes_on_close r.options && not (deletes (mapped r.access)) then Refuse access_denied
+    else if keeps_guid r && nat_le max_guids (s.guids m.session) then Refuse insufficient_resources
+    else if is_counted_out s r found then refused_create r insufficient_resources
+    else after_names s r found (share_names s r pipes found)
+
+-- ---- kept results
+
+-- a live open of that guid: the first answer again where the replay flag is set and the open is this session's,
+-- or persistent and nobody's
+abbrev pub live_check : Server → Message → CreateRequest → ℕ → Verdict
+live_check s m r o =
+    if not m.replay then Refuse duplicate_objectid
+    else if is_at m.session (s.at o) then Repeat o r
+    else if is_some (s.at o) || not (s.opened o).persistent then Refuse duplicate_objectid
+    else if same_name (s.opened o).user (s.user m.session) then Repeat o r
+    else Refuse access_denied
+
+abbrev pub refusal_check : Server → Message → CreateRequest → Bool → Option ℕ → Verdict
+refusal_check s m r pipes (Some status) = Refuse status
+refusal_check s m r pipes None = new_check s m r pipes (find s r.path)
+
+abbrev pub guid_check : Server → Message → CreateRequest → Bool → Durable → Option ℕ → Verdict
+guid_check s m r pipes d (Some o) = live_check s m r o
+guid_check s m r pipes d None =
+    if s.closed m.session d.guid then Refuse duplicate_objectid
+    else if s.marks m.client d.guid then Refuse duplicate_objectid
+    else refusal_check s m r pipes (s.refused m.session d.guid)
+
+abbrev pub has_guid : ℕ → Option ℕ → Bool
+has_guid g None = false
+has_guid g (Some h) = h == g
+
+-- an open of that id and guid: attached where its session is gone or this one
+abbrev pub reconnect_check : Server → Message → CreateRequest → Reconnect → Verdict
+reconnect_check s m r c =
+    if not (s.standing c.file && has_guid c.guid (s.opened c.file).guid) then Refuse object_name_not_found
+    else if not (same_name (s.opened c.file).user (s.user m.session)) then Refuse access_denied
+    else if is_some (s.at c.file) && not (is_at m.session (s.at c.file)) then Refuse object_name_not_found
+    else Attach c.file r
+
+abbrev pub durable_check : Server → Message → CreateRequest → Bool → Option Durable → Verdict
+durable_check s m r pipes None = new_check s m r pipes (find s r.path)
+durable_check s m r pipes (Some d) = guid_check s m r pipes d (s.by_guid m.client d.guid)
+
+abbrev pub reconnect_or_create : Server → Message → CreateRequest → Bool → Option Reconnect → Verdict
+reconnect_or_create s m r pipes (Some c) = if pipes then Refuse object_name_not_found else reconnect_check s m r c
+reconnect_or_create s m r pipes None = durable_check s m r pipes r.durable
+
+abbrev pub create_check : Server → Message → CreateRequest → Bool → Verdict
+create_check s m r pipes = reconnect_or_create s m r pipes r.reconnect

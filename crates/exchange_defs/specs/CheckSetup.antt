@@ -1,0 +1,129 @@
+-- The checks of SESSION_SETUP and TREE_CONNECT (MS-SMB2 3.3.5.5, 3.3.5.5.2, 3.3.5.5.3, 3.3.5.7).
+use Rattle.std.specs.Prelude.{ℕ, ◌+◌, ◌==◌, nat_le, Bool, true, false, not, ◌&&◌, if◌then◌else◌, List, [], ◌∷◌, length, Option, Some, None, is_some}
+use Rattle.exchange_defs.specs.Table.{is_at}
+use Rattle.exchange_defs.specs.Status.{user_session_deleted, request_not_accepted, invalid_parameter, logon_failure, access_denied, insufficient_resources, bad_network_name}
+use Rattle.exchange_defs.specs.Texts.{same_name}
+use Rattle.exchange_defs.specs.Commands.{SetupRequest, Shows, Begins, Bad, Refused, Logon}
+use Rattle.exchange_defs.specs.State.{Server, Message, Making, NewSession, Binding, Tree}
+use Rattle.exchange_defs.specs.Opens.{max_ids}
+use Rattle.exchange_defs.specs.Verdict.{Verdict, Refuse, Challenge, ChallengeBinding, Begin, Join, AddTree}
+
+abbrev pub max_sessions : ℕ
+max_sessions = 64
+
+abbrev pub max_channels : ℕ
+max_channels = 32
+
+abbrev pub max_numbers : ℕ
+max_numbers = 65535
+
+abbrev pub max_trees : ℕ
+max_trees = 64
+
+-- ---- what is in the making on a connection
+
+abbrev pub is_new : ℕ → Option Making → Bool
+is_new session None = false
+is_new session (Some (NewSession id)) = id == session
+is_new session (Some (Binding id)) = false
+
+abbrev pub is_binding : ℕ → Option Making → Bool
+is_binding session None = false
+is_binding session (Some (NewSession id)) = false
+is_binding session (Some (Binding id)) = id == session
+
+-- ---- a new session
+
+-- the session that the request names as its previous one, where it is live and of the same user
+abbrev pub previous_of : Server → List ℕ → ℕ → Option ℕ
+previous_of s user previous = if s.present previous && same_name (s.user previous) user then Some previous else None
+
+abbrev pub granted_session : Server → Message → SetupRequest → List ℕ → Verdict
+granted_session s m r user =
+    if s.seals && (r.cipher == 0) then Refuse access_denied
+    else if nat_le max_sessions s.sessions then Refuse insufficient_resources
+    else Begin m.session user (previous_of s user r.previous) r false
+
+abbrev pub second_token : Server → Message → SetupRequest → Shows → Verdict
+second_token s m r Begins = Refuse invalid_parameter
+second_token s m r Bad = Refuse invalid_parameter
+second_token s m r Refused = Refuse logon_failure
+second_token s m r (Logon user key) = granted_session s m r user
+
+abbrev pub first_token : Server → Shows → Verdict
+first_token s Begins = if nat_le max_ids s.begun then Refuse insufficient_resources else Challenge
+first_token s Bad = Refuse invalid_parameter
+first_token s Refused = Refuse invalid_parameter
+first_token s (Logon user key) = Refuse invalid_parameter
+
+abbrev pub session_check : Server → Message → SetupRequest → Verdict
+session_check s m r =
+    if m.session == 0 then (if is_some (s.on m.connection) then Refuse request_not_accepted else first_token s r.shows)
+    else if s.present m.session then Refuse request_not_accepted
+    else if is_new m.session (s.making m.connection) then second_token s m r r.shows
+    else Refuse user_session_deleted
+
+-- ---- a further channel
+
+unfoldable pub count_channels : (ℕ → Option ℕ) → List ℕ → ℕ → ℕ
+count_channels on [] session = 0
+count_channels on (k ∷ ks) session = (if is_at session (on k) then 1 else 0) + count_channels on ks session
+
+abbrev pub granted_binding : Server → Message → List ℕ → Verdict
+granted_binding s m user =
+    if not (same_name user (s.user m.session)) then Refuse access_denied
+    else if nat_le max_channels (count_channels s.on s.connections m.session) then Refuse insufficient_resources
+    else if nat_le max_numbers (s.drawn m.session) then Refuse insufficient_resources
+    else Join m.session
+
+abbrev pub second_binding : Server → Message → Shows → Verdict
+second_binding s m Begins = ChallengeBinding m.session
+second_binding s m Bad = Refuse invalid_parameter
+second_binding s m Refused = Refuse logon_failure
+second_binding s m (Logon user key) = granted_binding s m user
+
+abbrev pub first_binding : Message → Shows → Verdict
+first_binding m Begins = ChallengeBinding m.session
+first_binding m Bad = Refuse invalid_parameter
+first_binding m Refused = Refuse invalid_parameter
+first_binding m (Logon user key) = Refuse invalid_parameter
+
+abbrev pub binding_token : Server → Message → SetupRequest → Verdict
+binding_token s m r = if is_binding m.session (s.making m.connection) then second_binding s m r.shows else first_binding m r.shows
+
+abbrev pub live_binding : Server → Message → SetupRequest → Verdict
+live_binding s m r =
+    if not r.signed then Refuse invalid_parameter
+    else if not (m.client == s.client m.session) then Refuse user_session_deleted
+    else if not ((r.cipher == s.cipher m.session) && (r.signing == s.signing m.session)) then Refuse invalid_parameter
+    else if is_some (s.on m.connection) then Refuse request_not_accepted
+    else if not r.verified then Refuse access_denied
+    else binding_token s m r
+
+abbrev pub binding_check : Server → Message → SetupRequest → Verdict
+binding_check s m r =
+    if s.present m.session then live_binding s m r
+    else if not (is_new m.session (s.making m.connection)) then Refuse user_session_deleted
+    else if not r.signed then Refuse invalid_parameter
+    else Refuse request_not_accepted
+
+abbrev pub setup_check : Server → Message → SetupRequest → Verdict
+setup_check s m r = if r.binding then binding_check s m r else session_check s m r
+
+-- ---- trees
+
+-- `IPC$`
+abbrev pub pipes_name : List ℕ
+pipes_name = 73 ∷ 80 ∷ 67 ∷ 36 ∷ []
+
+abbrev pub tree_check : Server → Message → List ℕ → Verdict
+tree_check s m share =
+    if nat_le max_trees (length (s.trees m.session)) then Refuse insufficient_resources
+    else if same_name share pipes_name then AddTree true
+    else if same_name share s.share then AddTree false
+    else Refuse bad_network_name
+
+-- whether the tree is that of the pipes, where it is there
+abbrev pub tree_in : List Tree → ℕ → Option Bool
+tree_in [] id = None
+tree_in (t ∷ ts) id = if t.id == id then Some t.pipes else tree_in ts id

@@ -1,0 +1,87 @@
+-- How the client makes a session or binds a further channel to it (MS-SMB2 3.2.4.2 and 3.2.5.2 to 3.2.5.5).
+use Rattle.std.specs.Prelude.{ℕ, ◌+◌, ◌==◌, Bool, true, false, if◌then◌else◌, Option, Some, None}
+use Rattle.exchange_defs.specs.Table.{put}
+use Rattle.exchange_defs.specs.Status.{success, more_processing_required}
+use Rattle.exchange_defs.specs.Commands.{Command, Aside, Setup, TreeConnect, Shows, Begins}
+use Rattle.exchange_defs.specs.State.{Message, Reply}
+use Rattle.exchange_defs.specs.Operations.{HadStatus}
+use Rattle.exchange_defs.specs.Client.{Client, Stage, Apart, SaidNegotiate, SaidFirst, SaidSecond, AskedTree, bind_channel, begin_session, note_refusal}
+
+-- what a response of a dialog comes to
+pub data DialogStep : Type 0 where
+  GoesOn : (stage : Stage) → DialogStep  -- the next message of that stage goes out
+  Accepts : DialogStep  -- a new session is accepted; its TREE_CONNECT goes out
+  Binds : DialogStep  -- the channel is bound and ready
+  Readies : DialogStep  -- the session is ready
+  Refuses : (status : ℕ) → DialogStep
+
+abbrev pub expected : DialogStep → ℕ → ℕ → DialogStep
+expected step wanted status = if status == wanted then step else Refuses status
+
+abbrev pub dialog_step : Stage → ℕ → DialogStep
+dialog_step Apart status = Refuses status
+dialog_step (SaidNegotiate bound) status = expected (GoesOn (SaidFirst bound)) success status
+dialog_step (SaidFirst bound) status = expected (GoesOn (SaidSecond bound)) more_processing_required status
+dialog_step (SaidSecond bound) status = expected (if bound then Binds else Accepts) success status
+dialog_step AskedTree status = expected Readies success status
+
+-- ---- its messages
+
+abbrev pub setup_of : Client → Bool → Shows → Command
+setup_of c bound shows =
+    Setup (record { readable = true; binding = bound; signed = bound; verified = bound; previous = if bound then 0 else c.accepted; cipher = c.who.cipher; signing = c.who.signing; shows = shows })
+
+abbrev pub session_of : Client → Bool → ℕ → ℕ
+session_of c bound id = if bound then c.session else id
+
+abbrev pub stage_session : Client → Stage → ℕ
+stage_session c Apart = 0
+stage_session c (SaidNegotiate bound) = 0
+stage_session c (SaidFirst bound) = session_of c bound 0
+stage_session c (SaidSecond bound) = session_of c bound c.pending
+stage_session c AskedTree = c.pending
+
+abbrev pub stage_command : Client → Stage → Command
+stage_command c Apart = Aside success
+stage_command c (SaidNegotiate bound) = Aside success
+stage_command c (SaidFirst bound) = setup_of c bound Begins
+stage_command c (SaidSecond bound) = setup_of c bound c.who.logon
+stage_command c AskedTree = TreeConnect c.who.share
+
+abbrev pub dialog_message : Client → ℕ → ℕ → Stage → Message
+dialog_message c k id stage =
+    record { connection = k; client = c.who.guid; session = stage_session c stage; tree = 0; id = id; sequence = 0; replay = false; fault = None; command = stage_command c stage }
+
+-- ---- its steps
+
+-- a dialog begins: a binding where a session is ready
+abbrev pub open_channel : Client → ℕ → Client
+open_channel c k = record c { stage = put c.stage k (SaidNegotiate c.live); making = if c.live then c.making else Some k }
+
+-- the interim response tells the new session's id
+abbrev pub told_session : Client → Stage → Reply → ℕ
+told_session c (SaidSecond false) r = r.session
+told_session c _ r = c.pending
+
+abbrev pub went_on : Client → ℕ → Stage → Reply → Client
+went_on c k stage r = record c { stage = put c.stage k stage; pending = told_session c stage r }
+
+abbrev pub accepted : Client → ℕ → Client
+accepted c k = record c { stage = put c.stage k AskedTree; accepted = c.pending; accepts = c.accepts + 1; rank = put c.rank c.pending (c.accepts + 1) }
+
+abbrev pub bound : Client → ℕ → Client
+bound c k = record (bind_channel c k) { stage = put c.stage k Apart }
+
+abbrev pub readied : Client → ℕ → Reply → Client
+readied c k r = record (begin_session c k c.pending r.tree) { stage = put c.stage k Apart; making = None }
+
+-- the session in the making on a channel is given up with it
+abbrev pub unmade : ℕ → Option ℕ → Option ℕ
+unmade k None = None
+unmade k (Some j) = if j == k then None else Some j
+
+abbrev pub leave_dialog : Client → ℕ → Client
+leave_dialog c k = record c { stage = put c.stage k Apart; making = unmade k c.making }
+
+abbrev pub refused_dialog : Client → ℕ → ℕ → Client
+refused_dialog c k status = note_refusal (leave_dialog c k) k (HadStatus status)

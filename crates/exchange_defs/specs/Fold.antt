@@ -1,0 +1,217 @@
+-- What the journal's records stand for: a state folded from them, and the part of a state that outlives a restart.
+use Rattle.std.specs.Prelude.{◌≡◌, ℕ, ◌+◌, ◌/◌, ◌%◌, ◌==◌, nat_lt, nat_le, max, Bool, true, false, not, ◌&&◌, ◌||◌, if◌then◌else◌, List, [], ◌∷◌, ◌++◌, length, Option, Some, None, is_some}
+use Rattle.exchange_defs.specs.Status.{success}
+use Rattle.exchange_defs.specs.Texts.{is_path, is_below}
+use Rattle.exchange_defs.specs.Content.{written, ended, is_empty}
+use Rattle.exchange_defs.specs.Commands.{Basic, Element, all_lock, all_unlock}
+use Rattle.exchange_defs.specs.State.{Server, Entry, Open, Range, Record, NewOpen, EpochRecord, CreateRecord, WriteRecord, EndRecord, BasicRecord, DeleteRecord, RenameRecord, RemoveRecord, LockRecord, ShutRecord, VersionRecord, ExpireRecord}
+use Rattle.exchange_defs.specs.Files.{root, find, path_of, exists, is_directory, has_parent, is_full_directory, passes_room, make_file, set_content, empty_file, mark_file, store_basic, remove_file, rename_file}
+use Rattle.exchange_defs.specs.Ranges.{RangeAnswer, Stands, Denied, change_ranges}
+use Rattle.exchange_defs.specs.Opens.{max_ids, add_open, drop_open, marked_by, file_has_open, without_gone}
+use Rattle.exchange_defs.specs.CheckCreate.{max_opens, max_files, last_file}
+use Rattle.exchange_defs.specs.CheckOpen.{target_of, file_of}
+use Rattle.exchange_defs.specs.Effects.{keep_slot, set_ranges}
+use Rattle.exchange_defs.specs.Records.{entry_bytes}
+use Rattle.exchange_defs.specs.Step.{add_mark}
+
+abbrev pub no_times : Basic
+no_times = record { created = 0; accessed = 0; written = 0; changed = 0; attributes = 0 }
+
+abbrev pub no_open : Open
+no_open = record { file = 0; access = 0; share = 0; options = 0; action = 0; persistent = false; client = 0; guid = None; user = []; timeout = 0 }
+
+abbrev pub full_room : ℕ
+full_room = 268435456
+
+-- the state of no records
+abbrev pub nothing_yet : Server
+nothing_yet =
+    record {
+      share = [];
+      room = full_room;
+      seals = false;
+      version = 1;
+      epoch = 0;
+      journal = 0;
+      entries = [];
+      next_file = 1;
+      directory = λ f. false;
+      marked = λ f. false;
+      basic = λ f. no_times;
+      content = λ f. [];
+      ranges = λ f. [];
+      opens = [];
+      standing = λ o. false;
+      given = 0;
+      opened = λ o. no_open;
+      at = λ o. None;
+      sequence = λ o. 0;
+      deadline = λ o. None;
+      listed = λ o. None;
+      slots = λ o i. None;
+      by_guid = λ c g. None;
+      marks = λ c g. false;
+      mark_count = 0;
+      present = λ s. false;
+      sessions = 0;
+      begun = 0;
+      user = λ s. [];
+      client = λ s. 0;
+      cipher = λ s. 0;
+      signing = λ s. 0;
+      drawn = λ s. 0;
+      trees = λ s. [];
+      next_tree = λ s. 0;
+      closed = λ s g. false;
+      refused = λ s g. None;
+      guids = λ s. 0;
+      connections = [];
+      on = λ k. None;
+      making = λ k. None;
+    }
+
+-- ---- each record, and where it changes nothing
+
+-- a new epoch removes, in order of their numbers, the marked files that have no open
+unfoldable pub sweep : Server → List Entry → Server
+sweep s [] = s
+sweep s (e ∷ es) = sweep (without_gone s e.file) es
+
+abbrev pub begin_epoch : Server → ℕ → Server
+begin_epoch s number = if number == s.epoch + 1 then record (sweep s s.entries) { epoch = number; given = 0; begun = 0 } else s
+
+abbrev pub set_version : Server → ℕ → Server
+set_version s number = if (number == 2) && (s.version == 1) then record s { version = 2 } else s
+
+-- the next number, a free path in a directory, and room in the count
+unfoldable pub may_make : Server → ℕ → List ℕ → Bool
+may_make s f path = (f == s.next_file) && (is_path path && (not (is_some (find s path)) && (has_parent s path && (nat_lt (length s.entries) max_files && nat_le s.next_file last_file))))
+
+-- an id of this epoch that isn't live, a guid that no live open of the client has, and room in the count
+unfoldable pub may_restore : Server → NewOpen → Bool
+may_restore s n = (n.id / 0x1_0000_0000 == s.epoch) && (nat_lt 0 (n.id % 0x1_0000_0000) && (nat_lt s.given max_ids && (not (s.standing n.id) && (not (is_some (s.by_guid n.client n.guid)) && nat_lt (length s.opens) max_opens))))
+
+unfoldable pub may_have_open : Server → Option NewOpen → Bool
+may_have_open s None = true
+may_have_open s (Some n) = may_restore s n
+
+unfoldable pub may_create : Server → ℕ → ℕ → List ℕ → Bool
+may_create s action f path = if action == 2 then may_make s f path else if action == 1 then exists s f else if nat_lt action 4 then exists s f && not (is_directory s f) else false
+
+abbrev pub restored_row : NewOpen → ℕ → ℕ → Open
+restored_row n f action =
+    record { file = f; access = n.access; share = n.share; options = n.options; action = action; persistent = true; client = n.client; guid = Some n.guid; user = n.user; timeout = n.timeout }
+
+abbrev pub restore : Server → ℕ → ℕ → Option NewOpen → Server
+restore s f action None = s
+restore s f action (Some n) = record (add_open s n.id (restored_row n f action) None 0) { given = max s.given (n.id % 0x1_0000_0000) }
+
+abbrev pub created_file : Server → ℕ → ℕ → List ℕ → ℕ → Bool → ℕ → Server
+created_file s action f path attributes is_dir time = if action == 2 then make_file s path is_dir attributes time else if action == 1 then s else empty_file s f attributes time
+
+-- where the file is there and no directory
+unfoldable pub is_file : Server → ℕ → Bool
+is_file s f = exists s f && not (is_directory s f)
+
+unfoldable pub same_target : Option ℕ → ℕ → Bool
+same_target None replaced = replaced == 0
+same_target (Some t) replaced = t == replaced
+
+unfoldable pub may_replace : Server → Option ℕ → Bool
+may_replace s None = true
+may_replace s (Some t) = not (is_directory s t) && not (file_has_open s t)
+
+unfoldable pub may_rename : Server → ℕ → ℕ → List ℕ → Bool
+may_rename s f replaced path =
+    exists s f && (not (f == root) && (is_path path && (has_parent s path && (not (is_directory s f && is_below (path_of s f) path) && (same_target (target_of f (find s path)) replaced && may_replace s (target_of f (find s path)))))))
+
+unfoldable pub may_remove : Server → ℕ → Bool
+may_remove s f = exists s f && (not (f == root) && (not (file_has_open s f) && not (is_full_directory s f)))
+
+abbrev pub lock_granted : Server → ℕ → ℕ → ℕ → RangeAnswer → Server
+lock_granted s o index number (Denied status) = s
+lock_granted s o index number (Stands ranges) = keep_slot (set_ranges s (file_of s o) ranges) o index number success
+
+abbrev pub lock_recorded : Server → ℕ → ℕ → ℕ → ℕ → List Element → Server
+lock_recorded s o index number status elements =
+    if not (all_lock elements || all_unlock elements) then s
+    else if status == success then lock_granted s o index number (change_ranges (s.ranges (file_of s o)) o elements)
+    else keep_slot s o index number status
+
+abbrev pub shut_recorded : Server → ℕ → Server
+shut_recorded s o = drop_open (marked_by s o) o
+
+abbrev pub with_record : Server → Record → Server
+with_record s (EpochRecord number) = begin_epoch s number
+with_record s (VersionRecord number) = set_version s number
+with_record s (CreateRecord origin action f path attributes is_dir time opened) =
+    if may_create s action f path && may_have_open s opened then restore (created_file s action f path attributes is_dir time) f action opened else s
+with_record s (WriteRecord origin f at time bytes) = if is_file s f && (not (is_empty bytes) && not (passes_room s f (at + length bytes))) then set_content s f (written at bytes (s.content f)) time else s
+with_record s (EndRecord origin f size time) = if is_file s f && not (passes_room s f size) then set_content s f (ended size (s.content f)) time else s
+with_record s (BasicRecord origin f basic) = if exists s f then store_basic s f basic else s
+with_record s (DeleteRecord origin f flag) = if exists s f && not (f == root) then mark_file s f flag else s
+with_record s (RenameRecord origin f replaced path) = if may_rename s f replaced path then rename_file s f (target_of f (find s path)) path else s
+with_record s (RemoveRecord origin f) = if may_remove s f then remove_file s f else s
+with_record s (LockRecord origin o index number status elements) = if s.standing o && nat_le index 64 then lock_recorded s o index number status elements else s
+with_record s (ShutRecord origin o) = if s.standing o then shut_recorded s o else s
+with_record s (ExpireRecord origin o) = if s.standing o then add_mark (shut_recorded s o) (s.opened o).client (s.opened o).guid else s
+
+unfoldable pub fold_from : Server → List Record → Server
+fold_from s [] = s
+fold_from s (r ∷ rs) = fold_from (with_record s r) rs
+
+-- the fold: version, epoch, files, persistent opens with their ranges, slots and timeouts, and marks
+abbrev pub fold : List Record → Server
+fold rs = fold_from nothing_yet rs
+
+-- ---- restart
+
+-- an Epoch record is written, and the server stands at the fold under its configuration
+-- a journal of version 1 gets the Version record too, in the same body
+abbrev pub recovery_records : Server → List Record
+recovery_records s = if s.version == 1 then VersionRecord 2 ∷ EpochRecord (s.epoch + 1) ∷ [] else EpochRecord (s.epoch + 1) ∷ []
+
+abbrev pub recovered : Server → List Record → Server
+recovered s rs = record (fold (rs ++ recovery_records s)) { share = s.share; room = s.room; seals = s.seals; journal = s.journal + entry_bytes (recovery_records s) }
+
+-- ---- the durable part of a state: what a fold of all its records gives, the counters of the epoch aside
+
+unfoldable pub persistent_in : (ℕ → Open) → List ℕ → List ℕ
+persistent_in opened [] = []
+persistent_in opened (o ∷ os) = if (opened o).persistent then o ∷ persistent_in opened os else persistent_in opened os
+
+abbrev pub stays : Server → ℕ → Bool
+stays s o = s.standing o && (s.opened o).persistent
+
+abbrev pub stays_by_guid : Server → Option ℕ → Option ℕ
+stays_by_guid s None = None
+stays_by_guid s (Some o) = if stays s o then Some o else None
+
+unfoldable pub ranges_that_stay : Server → List Range → List Range
+ranges_that_stay s [] = []
+ranges_that_stay s (r ∷ rs) = if stays s r.owner then r ∷ ranges_that_stay s rs else ranges_that_stay s rs
+
+abbrev pub durable : Server → Server
+durable s =
+    record nothing_yet {
+      version = s.version;
+      epoch = s.epoch;
+      entries = s.entries;
+      next_file = s.next_file;
+      directory = s.directory;
+      marked = s.marked;
+      basic = s.basic;
+      content = s.content;
+      ranges = λ f. ranges_that_stay s (s.ranges f);
+      opens = persistent_in s.opened s.opens;
+      standing = λ o. stays s o;
+      opened = λ o. if stays s o then s.opened o else no_open;
+      slots = λ o i. if stays s o then s.slots o i else None;
+      by_guid = λ c g. stays_by_guid s (s.by_guid c g);
+      marks = s.marks;
+      mark_count = s.mark_count;
+    }
+
+-- the journal stands for the state
+abbrev pub StandsFor : List Record → Server → Type 0
+StandsFor rs s = durable (fold rs) ≡ durable s

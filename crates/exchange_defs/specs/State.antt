@@ -1,0 +1,198 @@
+-- The server's state, what it hears and what it answers.
+use Rattle.std.specs.Prelude.{ℕ, Bool, List, Option}
+use Rattle.exchange_defs.specs.Commands.{Command, Basic, Element}
+
+-- ---- rows of the tables
+
+-- a file or directory by its number and its path; the root has the number 0
+pub record Entry : Type 0 where
+  pub file : ℕ
+  pub path : List ℕ
+
+-- what an open is made with and never changes (MS-SMB2 3.3.1.10)
+pub record Open : Type 0 where
+  pub file : ℕ
+  pub access : ℕ  -- mapped
+  pub share : ℕ  -- read 1, write 2, delete 4
+  pub options : ℕ
+  pub action : ℕ  -- superseded 0, opened 1, created 2, overwritten 3
+  pub persistent : Bool
+  pub client : ℕ  -- the ClientGuid
+  pub guid : Option ℕ  -- the CreateGuid
+  pub user : List ℕ
+  pub timeout : ℕ  -- in milliseconds
+
+pub record Range : Type 0 where
+  pub owner : ℕ
+  pub at : ℕ
+  pub length : ℕ
+  pub exclusive : Bool
+
+-- what a lock slot keeps: the number of the last request and its answer
+pub record Kept : Type 0 where
+  pub number : ℕ
+  pub status : ℕ
+
+pub record Tree : Type 0 where
+  pub id : ℕ
+  pub pipes : Bool
+
+-- what is in the making on a connection: a session of a new id, or a binding to a session
+pub data Making : Type 0 where
+  NewSession : (session : ℕ) → Making
+  Binding : (session : ℕ) → Making
+
+-- ---- the state
+
+pub record Server : Type 0 where
+  -- the configuration
+  pub share : List ℕ
+  pub room : ℕ
+  pub seals : Bool
+  -- what bounds ids and the journal
+  pub version : ℕ
+  pub epoch : ℕ
+  pub journal : ℕ  -- bytes on the disk
+  -- files, by number
+  pub entries : List Entry  -- in ascending order of numbers, without the root
+  pub next_file : ℕ
+  pub directory : ℕ → Bool
+  pub marked : ℕ → Bool  -- for deletion
+  pub basic : ℕ → Basic
+  pub content : ℕ → List ℕ
+  pub ranges : ℕ → List Range
+  -- opens, by id
+  pub opens : List ℕ  -- those that stand, in ascending order
+  pub standing : ℕ → Bool
+  pub given : ℕ  -- how many ids were given in this epoch
+  pub opened : ℕ → Open
+  pub at : ℕ → Option ℕ  -- the session to which an open is attached
+  pub sequence : ℕ → ℕ
+  pub deadline : ℕ → Option ℕ
+  pub listed : ℕ → Option (List ℕ)  -- the last name that its listing gave
+  pub slots : ℕ → ℕ → Option Kept  -- and by slot, 1 to 64
+  pub by_guid : ℕ → ℕ → Option ℕ  -- by ClientGuid and CreateGuid: the open that stands
+  pub marks : ℕ → ℕ → Bool  -- by the same: an open of it expired
+  pub mark_count : ℕ
+  -- sessions, by id
+  pub present : ℕ → Bool
+  pub sessions : ℕ  -- how many are live
+  pub begun : ℕ  -- how many ids were given in this epoch
+  pub user : ℕ → List ℕ
+  pub client : ℕ → ℕ
+  pub cipher : ℕ → ℕ
+  pub signing : ℕ → ℕ
+  pub drawn : ℕ → ℕ  -- channel numbers
+  pub trees : ℕ → List Tree
+  pub next_tree : ℕ → ℕ
+  pub closed : ℕ → ℕ → Bool  -- by session and CreateGuid: an open of it was closed
+  pub refused : ℕ → ℕ → Option ℕ  -- by the same: its create was refused
+  pub guids : ℕ → ℕ  -- how many CreateGuids the session keeps
+  -- connections, by number
+  pub connections : List ℕ
+  pub on : ℕ → Option ℕ  -- the live session that has a channel there
+  pub making : ℕ → Option Making
+
+-- ---- what it hears
+
+-- a checked message (MS-SMB2 2.2.1.2): fault is the ACCESS_DENIED of a request that isn't signed or sealed as owed
+pub record Message : Type 0 where
+  pub connection : ℕ
+  pub client : ℕ
+  pub session : ℕ
+  pub tree : ℕ
+  pub id : ℕ
+  pub sequence : ℕ
+  pub replay : Bool
+  pub fault : Option ℕ
+  pub command : Command
+
+pub data ServerEvent : Type 0 where
+  Accept : (connection : ℕ) → ServerEvent
+  Heard : (message : Message) → ServerEvent
+  End : (connection : ℕ) → ServerEvent
+  Stop : ServerEvent
+
+-- ---- what it answers
+
+pub record Info : Type 0 where
+  pub file : ℕ
+  pub is_directory : Bool
+  pub size : ℕ
+  pub is_marked : Bool
+  pub times : Basic
+
+pub record CreateReply : Type 0 where
+  pub id : ℕ
+  pub action : ℕ
+  pub info : Info
+  pub timeout : Option ℕ  -- told where the open is persistent and the request asked
+  pub maximal : Bool
+  pub disk_id : Bool
+
+pub record Named : Type 0 where
+  pub name : List ℕ
+  pub info : Info
+
+pub data Body : Type 0 where
+  Empty : Body
+  Created : (reply : CreateReply) → Body
+  Closed : (info : Info) → Body
+  Content : (bytes : List ℕ) → Body
+  Count : (count : ℕ) → Body
+  Interfaces : Body
+  Listing : (entries : List Named) → Body
+  FileInfo : (class : ℕ) (path : List ℕ) (info : Info) → Body
+  VolumeInfo : (class room used : ℕ) → Body  -- the sizes that it tells are those of the room and of what is used
+  -- a SESSION_SETUP's success tells ENCRYPT_DATA where the session seals; the number drawn for its channel isn't on the wire
+  SetUp : (sealed : Bool) (channel : ℕ) → Body
+  Connected : (kind capabilities access : ℕ) → Body
+
+-- a status with the ids that the response's header names
+pub record Reply : Type 0 where
+  pub status : ℕ
+  pub session : ℕ
+  pub tree : ℕ
+  pub body : Body
+
+-- ---- journal records
+
+pub record Origin : Type 0 where
+  pub session : ℕ
+  pub connection : ℕ
+  pub message : ℕ
+
+pub record NewOpen : Type 0 where
+  pub id : ℕ
+  pub client : ℕ
+  pub guid : ℕ
+  pub user : List ℕ
+  pub access : ℕ
+  pub share : ℕ
+  pub options : ℕ
+  pub timeout : ℕ
+
+pub data Record : Type 0 where
+  EpochRecord : (number : ℕ) → Record
+  CreateRecord : (origin : Origin) (action file : ℕ) (path : List ℕ) (attributes : ℕ) (directory : Bool) (time : ℕ) (opened : Option NewOpen) → Record
+  WriteRecord : (origin : Origin) (file at time : ℕ) (bytes : List ℕ) → Record
+  EndRecord : (origin : Origin) (file size time : ℕ) → Record
+  BasicRecord : (origin : Origin) (file : ℕ) (basic : Basic) → Record
+  DeleteRecord : (origin : Origin) (file : ℕ) (marked : Bool) → Record
+  RenameRecord : (origin : Origin) (file replaced : ℕ) (path : List ℕ) → Record
+  RemoveRecord : (origin : Origin) (file : ℕ) → Record
+  LockRecord : (origin : Origin) (id index number status : ℕ) (elements : List Element) → Record
+  ShutRecord : (origin : Origin) (id : ℕ) → Record
+  VersionRecord : (number : ℕ) → Record
+  ExpireRecord : (origin : Origin) (id : ℕ) → Record
+
+-- The state after a step, the reply, what the journal owes for it, and whether files, the set of opens or ranges
+-- changed. The last two are for what is said of runs: the open that the message's sequence reached, and the open on
+-- which a write or set-info was carried out.
+pub record Answer : Type 0 where
+  pub server : Server
+  pub reply : Reply
+  pub records : List Record
+  pub acted : Bool
+  pub reached : Option ℕ
+  pub altered : Option ℕ

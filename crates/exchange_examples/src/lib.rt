@@ -1,0 +1,482 @@
+//! Worked examples of the exchange model, computed: scripts of one client and one server, how each operation settles,
+//! the order of each open that denies writers, the files that stay, and what single steps answer.
+#![tactic(auto, unfolding(exchange_defs::specs::CheckCreate::found_names, exchange_defs::specs::CheckCreate::missing_names, exchange_defs::specs::CheckCreate::names_of_found, exchange_defs::specs::CheckCreate::names, exchange_defs::specs::CheckCreate::is_counted_out, exchange_defs::specs::CheckOpen::open_below, exchange_defs::specs::CheckOpen::target_refused, exchange_defs::specs::CheckOpen::rename_names, exchange_defs::specs::CheckOpen::delete_names, exchange_defs::specs::CheckOpen::listing_of, exchange_defs::specs::CheckSetup::count_channels, exchange_defs::specs::Client::waits, exchange_defs::specs::Client::has_free, exchange_defs::specs::Client::settle_no_slots, exchange_defs::specs::Commands::has_bit, exchange_defs::specs::Commands::deletes_on_close, exchange_defs::specs::Commands::path_form, exchange_defs::specs::Content::padded, exchange_defs::specs::Content::is_empty, exchange_defs::specs::Content::written, exchange_defs::specs::Content::ended, exchange_defs::specs::Content::effect, exchange_defs::specs::Content::value, exchange_defs::specs::Content::past_end, exchange_defs::specs::Content::is_change, exchange_defs::specs::Content::touches, exchange_defs::specs::Content::is_listed, exchange_defs::specs::Content::meets, exchange_defs::specs::Content::collides, exchange_defs::specs::Content::same_bytes, exchange_defs::specs::Effects::timeout_of, exchange_defs::specs::Effects::new_open, exchange_defs::specs::Effects::create_records, exchange_defs::specs::Effects::lock_records, exchange_defs::specs::Effects::change_records, exchange_defs::specs::Effects::is_touched_at, exchange_defs::specs::Effects::plain_in, exchange_defs::specs::Effects::leave_all, exchange_defs::specs::Effects::staying_in, exchange_defs::specs::Effects::ranges_staying, exchange_defs::specs::Effects::leave_all_records, exchange_defs::specs::Effects::end_records, exchange_defs::specs::Effects::without_tree, exchange_defs::specs::Files::find_in, exchange_defs::specs::Files::find, exchange_defs::specs::Files::path_in, exchange_defs::specs::Files::path_of, exchange_defs::specs::Files::exists_in, exchange_defs::specs::Files::exists, exchange_defs::specs::Files::is_directory, exchange_defs::specs::Files::is_found_directory, exchange_defs::specs::Files::has_parent, exchange_defs::specs::Files::has_below, exchange_defs::specs::Files::is_full_directory, exchange_defs::specs::Files::info_of, exchange_defs::specs::Files::sizes, exchange_defs::specs::Files::used, exchange_defs::specs::Files::passes_room, exchange_defs::specs::Files::times_at, exchange_defs::specs::Files::touched, exchange_defs::specs::Files::set_time, exchange_defs::specs::Files::set_basic, exchange_defs::specs::Files::emptied_basic, exchange_defs::specs::Files::without_file, exchange_defs::specs::Files::path_behind, exchange_defs::specs::Files::moved_path, exchange_defs::specs::Files::moved_entry, exchange_defs::specs::Files::moved_entries, exchange_defs::specs::Files::without_target, exchange_defs::specs::Files::same_basic, exchange_defs::specs::Files::allocated, exchange_defs::specs::Fold::sweep, exchange_defs::specs::Fold::may_make, exchange_defs::specs::Fold::may_restore, exchange_defs::specs::Fold::may_have_open, exchange_defs::specs::Fold::may_create, exchange_defs::specs::Fold::is_file, exchange_defs::specs::Fold::same_target, exchange_defs::specs::Fold::may_replace, exchange_defs::specs::Fold::may_rename, exchange_defs::specs::Fold::may_remove, exchange_defs::specs::Fold::fold_from, exchange_defs::specs::Fold::persistent_in, exchange_defs::specs::Fold::ranges_that_stay, exchange_defs::specs::Listing::any_tail, exchange_defs::specs::Listing::after_character, exchange_defs::specs::Listing::one_character, exchange_defs::specs::Listing::one_byte, exchange_defs::specs::Listing::matches, exchange_defs::specs::Listing::accepts, exchange_defs::specs::Listing::rank, exchange_defs::specs::Listing::listed_before, exchange_defs::specs::Listing::insert_named, exchange_defs::specs::Listing::children, exchange_defs::specs::Listing::parent_file, exchange_defs::specs::Listing::all_named, exchange_defs::specs::Listing::is_behind, exchange_defs::specs::Listing::wanted, exchange_defs::specs::Listing::entry_part, exchange_defs::specs::Listing::entry_size, exchange_defs::specs::Listing::next_multiple, exchange_defs::specs::Listing::fitting, exchange_defs::specs::Listing::first_of_them, exchange_defs::specs::Listing::one_or_all, exchange_defs::specs::Listing::last_name, exchange_defs::specs::Listing::file_info_size, exchange_defs::specs::Listing::volume_info_size, exchange_defs::specs::Network::run, exchange_defs::specs::Opens::bits_if, exchange_defs::specs::Opens::mapped, exchange_defs::specs::Opens::reads, exchange_defs::specs::Opens::writes, exchange_defs::specs::Opens::deletes, exchange_defs::specs::Opens::is_shared, exchange_defs::specs::Opens::denies_writers, exchange_defs::specs::Opens::opens_in, exchange_defs::specs::Opens::admits, exchange_defs::specs::Opens::file_has_open, exchange_defs::specs::Opens::goes, exchange_defs::specs::Opens::mark_records, exchange_defs::specs::Opens::shut_records, exchange_defs::specs::Opens::gone_records, exchange_defs::specs::Opens::leave_records, exchange_defs::specs::Operations::names_in, exchange_defs::specs::Order::order_from, exchange_defs::specs::Order::Replays, exchange_defs::specs::Order::count, exchange_defs::specs::Order::precedes, exchange_defs::specs::Ranges::overlaps, exchange_defs::specs::Ranges::is_denied, exchange_defs::specs::Ranges::any_wraps, exchange_defs::specs::Ranges::count_owned, exchange_defs::specs::Ranges::add_ranges, exchange_defs::specs::Ranges::prepended, exchange_defs::specs::Ranges::take_range, exchange_defs::specs::Ranges::take_ranges, exchange_defs::specs::Ranges::stands_or, exchange_defs::specs::Ranges::lock_ranges, exchange_defs::specs::Ranges::unlock_ranges, exchange_defs::specs::Ranges::change_ranges, exchange_defs::specs::Ranges::without_owner, exchange_defs::specs::Ranges::may_read, exchange_defs::specs::Ranges::may_write, exchange_defs::specs::Records::text_size, exchange_defs::specs::Records::opened_size, exchange_defs::specs::Records::record_size, exchange_defs::specs::Records::records_size, exchange_defs::specs::Records::entry_bytes, exchange_defs::specs::Records::fits, exchange_defs::specs::Runs::acts, exchange_defs::specs::Schedules::least_free, exchange_defs::specs::Schedules::choose, exchange_defs::specs::Schedules::went, exchange_defs::specs::Schedules::went_push, exchange_defs::specs::Schedules::both_open, exchange_defs::specs::Schedules::is_linking, exchange_defs::specs::Schedules::linking, exchange_defs::specs::Schedules::link, exchange_defs::specs::Schedules::serve_all, exchange_defs::specs::Schedules::take_all, exchange_defs::specs::Schedules::served_all, exchange_defs::specs::Schedules::taken_all, exchange_defs::specs::Schedules::has_more, exchange_defs::specs::Schedules::drain, exchange_defs::specs::Schedules::is_talking, exchange_defs::specs::Schedules::hangs, exchange_defs::specs::Schedules::is_orphan, exchange_defs::specs::Schedules::went_if, exchange_defs::specs::Schedules::last_refusal, exchange_defs::specs::Schedules::finished_by, exchange_defs::specs::Schedules::finished_after, exchange_defs::specs::Schedules::drain_and_cut, exchange_defs::specs::Schedules::each, exchange_defs::specs::Schedules::drop_orphan, exchange_defs::specs::Schedules::tidy, exchange_defs::specs::Schedules::least, exchange_defs::specs::Schedules::is_apart, exchange_defs::specs::ClientStep::some_unsettled, exchange_defs::specs::Schedules::linked, exchange_defs::specs::Schedules::pushed_round, exchange_defs::specs::Schedules::ready_round, exchange_defs::specs::Schedules::rounds, exchange_defs::specs::Schedules::settle_below, exchange_defs::specs::Schedules::go, exchange_defs::specs::Schedules::course, exchange_defs::specs::Step::take_all_out, exchange_defs::specs::Step::take_all_records, exchange_defs::specs::Step::take_all_acts, exchange_defs::specs::Step::due_in, exchange_defs::specs::Step::expire_records, exchange_defs::specs::Table::is_filled, exchange_defs::specs::Texts::upper, exchange_defs::specs::Texts::same_name, exchange_defs::specs::Texts::name_before, exchange_defs::specs::Texts::units_of, exchange_defs::specs::Texts::utf16_length, exchange_defs::specs::Texts::parent_from, exchange_defs::specs::Texts::parent_of, exchange_defs::specs::Texts::leaf_from, exchange_defs::specs::Texts::leaf_of, exchange_defs::specs::Texts::after_name, exchange_defs::specs::Texts::begins_below, exchange_defs::specs::Texts::is_below, exchange_defs::specs::Texts::is_plain, exchange_defs::specs::Texts::is_component, exchange_defs::specs::Texts::components_from, exchange_defs::specs::Texts::is_path, exchange_defs::specs::Texts::begins_with_backslash))]
+
+ghost use Rattle.std.specs.Prelude.{◌≡◌, ℕ, List, [], ◌∷◌, true, false};
+ghost use Rattle.exchange_defs.specs.Operations.{Unsettled, NoSession, HadStatus, OpCreate, OpWrite, WasOk, WasRefused, NoSlot, NoOpen, Unknown, SessionLost, WithStatus, IsDone, Action, Wrote, Holds, Length, Names};
+ghost use Rattle.std.specs.Prelude.{Some, None};
+ghost use Rattle.exchange_defs.specs.State.{Accept, Heard, End, SetUp, Connected, VolumeInfo, DeleteRecord, RemoveRecord, ShutRecord, ExpireRecord, VersionRecord, EpochRecord};
+ghost use Rattle.exchange_defs.specs.Commands.{Begins, Close, Lock, Logon, QueryVolume, Read, TreeConnect, Write, path_form};
+ghost use Rattle.exchange_defs.specs.CheckOpen.{is_stale};
+ghost use Rattle.exchange_defs.specs.CheckSetup.{pipes_name};
+ghost use Rattle.exchange_defs.specs.Listing.{matches};
+ghost use Rattle.exchange_defs.specs.Step.{step};
+ghost use Rattle.exchange_defs.specs.Fold.{recovery_records, nothing_yet};
+ghost use Rattle.exchange_defs.specs.Schedules.{course, Does, Links, Pushes, Settles as SettlesAll};
+ghost use Rattle.exchange_defs.specs.Network.{Cut, Drop, Restart, Finish, start};
+ghost use Rattle.exchange_examples.specs.Servers.{one_session, session, from_client, ask, after_all, status_after, body_after, records_after, files_after, binding, binding_logon, setup, in_second, second_id, make, by_guid, lock_of, first_open, second_open, with_full_journal, with_all_marks, second_session, ask_second, reconnect, journal_stands};
+ghost use Rattle.exchange_examples.specs.Laws.{laws_hold};
+ghost use Rattle.exchange_examples.specs.Scripts.{beginning, settings, stranger, worn_out, submit, settled_in, told, note, acted_on, id_told, retried_create, retried_create_until_note, kept_refusal, kept_refusal_until_note, replaced_session, replaced_session_until_note, room_counted_once, room_counted_once_until_note, held_back_write, held_back_write_until_note, held_back_write_until_last, restart_persistent, crash_lost, crash_kept, restart_plain, all_slots_retried, shared_readers, denied_writer, delayed_reconnect, delayed_reconnect_until_note, delayed_reconnect_until_last, expired_open, open_before_expiry, expired_create, first_steps, end_of_file, gaps_are_zeros, listed_names, renamed_and_removed, denied_remover, retry_after_act, retried_close, held_back_end, held_back_end_until_note, refusal_adopts, refusal_adopts_until_note, restart_keeps_locks, restart_keeps_refused_locks, attached_again, plain_open_lost, later_write_waits, retried_overwrite, retried_overwrite_until_note, slot_not_used_again, slot_not_used_again_until_note, retried_rename, retried_rename_until_note};
+
+/// A create is retried on a second channel, its open is closed, and the delayed first copy finds its guid: it acts once.
+pub fn retried_create_example()
+    ensures told { told 2 268435456 retried_create ≡ record { settled = WasOk (Action 2) ∷ WasOk IsDone ∷ []; printed = [] ∷ []; stored = record { path = (97 ∷ []); bytes = [] } ∷ [] } }
+    ensures note { note 2 268435456 retried_create_until_note 0 ≡ record { status = 0xc000022a; acted = false } }
+    ensures acts_1 { acted_on 2 268435456 retried_create 1 ≡ 1 }
+    ensures acts_2 { acted_on 2 268435456 retried_create 2 ≡ 1 }
+{}
+
+/// A lock is refused, the range becomes free, and the delayed first copy is refused again by its slot.
+pub fn kept_refusal_example()
+    ensures told { told 2 268435456 kept_refusal ≡ record { settled = WasOk (Action 2) ∷ WasOk (Action 1) ∷ WasOk IsDone ∷ WasRefused 0xc0000055 ∷ WasOk IsDone ∷ WasOk IsDone ∷ []; printed = []; stored = record { path = (97 ∷ []); bytes = [] } ∷ [] } }
+    ensures note { note 2 268435456 kept_refusal_until_note 0 ≡ record { status = 0xc0000055; acted = false } }
+    ensures acts_3 { acted_on 2 268435456 kept_refusal 3 ≡ 1 }
+    ensures acts_4 { acted_on 2 268435456 kept_refusal 4 ≡ 0 }
+    ensures acts_5 { acted_on 2 268435456 kept_refusal 5 ≡ 1 }
+    ensures acts_6 { acted_on 2 268435456 kept_refusal 6 ≡ 1 }
+{}
+
+/// A new session replaces the old one, and a copy of the old one that waits is told so.
+pub fn replaced_session_example()
+    ensures told { told 2 268435456 replaced_session ≡ record { settled = WasOk (Action 2) ∷ WasOk (Wrote 3) ∷ []; printed = (2 ∷ []) ∷ []; stored = record { path = (97 ∷ []); bytes = (111 ∷ 108 ∷ 100 ∷ []) } ∷ [] } }
+    ensures note { note 2 268435456 replaced_session_until_note 0 ≡ record { status = 0xc0000203; acted = false } }
+    ensures acts_1 { acted_on 2 268435456 replaced_session 1 ≡ 1 }
+    ensures acts_2 { acted_on 2 268435456 replaced_session 2 ≡ 1 }
+{}
+
+/// A write that fills the room is retried: its bytes are not counted twice, and the next write finds no room.
+pub fn room_counted_once_example()
+    ensures told { told 2 4 room_counted_once ≡ record { settled = WasOk (Action 2) ∷ WasOk (Wrote 4) ∷ WasRefused 0xc000007f ∷ []; printed = (2 ∷ 3 ∷ []) ∷ []; stored = record { path = (97 ∷ []); bytes = (97 ∷ 98 ∷ 99 ∷ 100 ∷ []) } ∷ [] } }
+    ensures note { note 2 4 room_counted_once_until_note 1 ≡ record { status = 0x00000000; acted = false } }
+    ensures acts_2 { acted_on 2 4 room_counted_once 2 ≡ 1 }
+    ensures acts_3 { acted_on 2 4 room_counted_once 3 ≡ 0 }
+{}
+
+/// A write under an older sequence is held back and goes out again; the delayed copy of the other is held back too.
+pub fn held_back_write_example()
+    ensures told { told 3 268435456 held_back_write ≡ record { settled = WasOk (Action 2) ∷ WasOk (Wrote 1) ∷ WasOk (Wrote 1) ∷ []; printed = (2 ∷ 3 ∷ []) ∷ []; stored = record { path = (97 ∷ []); bytes = (97 ∷ 98 ∷ []) } ∷ [] } }
+    ensures note_1 { note 3 268435456 held_back_write_until_note 2 ≡ record { status = 0xc0000467; acted = false } }
+    ensures note_2 { note 3 268435456 held_back_write_until_last 0 ≡ record { status = 0xc0000467; acted = false } }
+    ensures acts_2 { acted_on 3 268435456 held_back_write 2 ≡ 1 }
+    ensures acts_3 { acted_on 3 268435456 held_back_write 3 ≡ 1 }
+{}
+
+/// The server restarts behind a persistent create whose reply is lost: the retry finds the same open.
+pub fn restart_persistent_example()
+    ensures told { told 1 268435456 restart_persistent ≡ record { settled = WasOk (Action 2) ∷ []; printed = [] ∷ []; stored = record { path = (97 ∷ []); bytes = [] } ∷ [] } }
+    ensures acts_1 { acted_on 1 268435456 restart_persistent 1 ≡ 1 }
+    ensures file { id_told 1 268435456 restart_persistent 1 ≡ 4294967297 }
+{}
+
+/// The server dies before it serves a persistent create: the retry makes the open.
+pub fn crash_lost_example()
+    ensures told { told 1 268435456 crash_lost ≡ record { settled = WasOk (Action 2) ∷ []; printed = [] ∷ []; stored = record { path = (97 ∷ []); bytes = [] } ∷ [] } }
+    ensures acts_1 { acted_on 1 268435456 crash_lost 1 ≡ 1 }
+    ensures file { id_told 1 268435456 crash_lost 1 ≡ 8589934593 }
+{}
+
+/// The server dies behind a persistent create whose records stand: the retry finds the same open.
+pub fn crash_kept_example()
+    ensures told { told 1 268435456 crash_kept ≡ record { settled = WasOk (Action 2) ∷ []; printed = [] ∷ []; stored = record { path = (97 ∷ []); bytes = [] } ∷ [] } }
+    ensures acts_1 { acted_on 1 268435456 crash_kept 1 ≡ 1 }
+    ensures file { id_told 1 268435456 crash_kept 1 ≡ 4294967297 }
+{}
+
+/// The server restarts behind a plain create: its session is lost, and the file stays.
+pub fn restart_plain_example()
+    ensures told { told 1 268435456 restart_plain ≡ record { settled = Unknown (SessionLost 1) ∷ []; printed = []; stored = record { path = (97 ∷ []); bytes = [] } ∷ [] } }
+    ensures acts_1 { acted_on 1 268435456 restart_plain 1 ≡ 1 }
+{}
+
+/// Each of the sixty-four slots was retried in the session: the next lock finds none, and the next session has them again.
+pub fn all_slots_retried_example()
+    ensures { told 2 268435456 all_slots_retried ≡ record { settled = WasOk (Action 2) ∷ WasOk IsDone ∷ WasOk IsDone ∷ WasOk IsDone ∷ WasOk IsDone ∷ WasOk IsDone ∷ WasOk IsDone ∷ WasOk IsDone ∷ WasOk IsDone ∷ WasOk IsDone ∷ WasOk IsDone ∷ WasOk IsDone ∷ WasOk IsDone ∷ WasOk IsDone ∷ WasOk IsDone ∷ WasOk IsDone ∷ WasOk IsDone ∷ WasOk IsDone ∷ WasOk IsDone ∷ WasOk IsDone ∷ WasOk IsDone ∷ WasOk IsDone ∷ WasOk IsDone ∷ WasOk IsDone ∷ WasOk IsDone ∷ WasOk IsDone ∷ WasOk IsDone ∷ WasOk IsDone ∷ WasOk IsDone ∷ WasOk IsDone ∷ WasOk IsDone ∷ WasOk IsDone ∷ WasOk IsDone ∷ WasOk IsDone ∷ WasOk IsDone ∷ WasOk IsDone ∷ WasOk IsDone ∷ WasOk IsDone ∷ WasOk IsDone ∷ WasOk IsDone ∷ WasOk IsDone ∷ WasOk IsDone ∷ WasOk IsDone ∷ WasOk IsDone ∷ WasOk IsDone ∷ WasOk IsDone ∷ WasOk IsDone ∷ WasOk IsDone ∷ WasOk IsDone ∷ WasOk IsDone ∷ WasOk IsDone ∷ WasOk IsDone ∷ WasOk IsDone ∷ WasOk IsDone ∷ WasOk IsDone ∷ WasOk IsDone ∷ WasOk IsDone ∷ WasOk IsDone ∷ WasOk IsDone ∷ WasOk IsDone ∷ WasOk IsDone ∷ WasOk IsDone ∷ WasOk IsDone ∷ WasOk IsDone ∷ WasOk IsDone ∷ NoSlot 1 ∷ WasOk IsDone ∷ []; printed = [] ∷ []; stored = record { path = (97 ∷ []); bytes = [] } ∷ [] } }
+{}
+
+/// Two opens that share with each other stand together.
+pub fn shared_readers_example()
+    ensures { told 1 268435456 shared_readers ≡ record { settled = WasOk (Action 2) ∷ WasOk (Action 1) ∷ []; printed = [] ∷ []; stored = record { path = (97 ∷ []); bytes = [] } ∷ [] } }
+{}
+
+/// A writer is refused beside an open that shares no writing, and what hangs on it has no open.
+pub fn denied_writer_example()
+    ensures { told 1 268435456 denied_writer ≡ record { settled = WasOk (Action 2) ∷ WasRefused 0xc0000043 ∷ NoOpen 2 ∷ []; printed = [] ∷ []; stored = record { path = (97 ∷ []); bytes = [] } ∷ [] } }
+{}
+
+/// A delayed request to attach an open lowers no sequence, and an older write behind it is held back.
+pub fn delayed_reconnect_example()
+    ensures told { told 3 268435456 delayed_reconnect ≡ record { settled = WasOk (Action 2) ∷ WasOk (Wrote 1) ∷ WasOk (Wrote 1) ∷ []; printed = (2 ∷ 3 ∷ []) ∷ []; stored = record { path = (97 ∷ []); bytes = (98 ∷ []) } ∷ [] } }
+    ensures note_1 { note 3 268435456 delayed_reconnect_until_note 0 ≡ record { status = 0x00000000; acted = false } }
+    ensures note_2 { note 3 268435456 delayed_reconnect_until_last 1 ≡ record { status = 0xc0000467; acted = false } }
+    ensures acts_1 { acted_on 3 268435456 delayed_reconnect 1 ≡ 1 }
+    ensures acts_2 { acted_on 3 268435456 delayed_reconnect 2 ≡ 1 }
+    ensures acts_3 { acted_on 3 268435456 delayed_reconnect 3 ≡ 1 }
+{}
+
+/// A persistent open without a session expires: a write that may have acted is unknown, and the file can be opened anew.
+pub fn expired_open_example()
+    ensures told { told 1 268435456 expired_open ≡ record { settled = WasOk (Action 2) ∷ Unknown (WithStatus 0xc0000034) ∷ WasOk (Action 1) ∷ []; printed = (2 ∷ []) ∷ [] ∷ []; stored = record { path = (97 ∷ []); bytes = (97 ∷ []) } ∷ [] } }
+    ensures acts_1 { acted_on 1 268435456 expired_open 1 ≡ 1 }
+    ensures acts_2 { acted_on 1 268435456 expired_open 2 ≡ 1 }
+    ensures acts_3 { acted_on 1 268435456 expired_open 3 ≡ 1 }
+{}
+
+/// Before its deadline the open stands, is attached again, and denies the other create.
+pub fn open_before_expiry_example()
+    ensures told { told 1 268435456 open_before_expiry ≡ record { settled = WasOk (Action 2) ∷ WasOk (Wrote 1) ∷ WasRefused 0xc0000043 ∷ []; printed = (2 ∷ []) ∷ []; stored = record { path = (97 ∷ []); bytes = (97 ∷ []) } ∷ [] } }
+    ensures acts_2 { acted_on 1 268435456 open_before_expiry 2 ≡ 1 }
+    ensures acts_3 { acted_on 1 268435456 open_before_expiry 3 ≡ 0 }
+{}
+
+/// A create whose reply is lost expires: its retry finds the mark, so it is unknown.
+pub fn expired_create_example()
+    ensures told { told 1 268435456 expired_create ≡ record { settled = Unknown (WithStatus 0xc000022a) ∷ []; printed = []; stored = record { path = (97 ∷ []); bytes = [] } ∷ [] } }
+    ensures acts_1 { acted_on 1 268435456 expired_create 1 ≡ 1 }
+{}
+
+/// One connection creates, writes, reads and closes.
+pub fn first_steps_example()
+    ensures { told 1 268435456 first_steps ≡ record { settled = WasOk (Action 2) ∷ WasOk (Wrote 5) ∷ WasOk (Holds (104 ∷ 101 ∷ 108 ∷ 108 ∷ 111 ∷ [])) ∷ WasOk IsDone ∷ []; printed = (2 ∷ 3 ∷ []) ∷ []; stored = record { path = (97 ∷ 46 ∷ 116 ∷ 120 ∷ 116 ∷ []); bytes = (104 ∷ 101 ∷ 108 ∷ 108 ∷ 111 ∷ []) } ∷ [] } }
+{}
+
+/// A read of no bytes at the end is a success, and one of a byte is END_OF_FILE.
+pub fn end_of_file_example()
+    ensures { told 1 268435456 end_of_file ≡ record { settled = WasOk (Action 2) ∷ WasOk (Wrote 2) ∷ WasOk (Holds []) ∷ WasRefused 0xc0000011 ∷ []; printed = (2 ∷ 3 ∷ 4 ∷ []) ∷ []; stored = record { path = (97 ∷ []); bytes = (97 ∷ 98 ∷ []) } ∷ [] } }
+{}
+
+/// A write behind the end fills the gap with zeros.
+pub fn gaps_are_zeros_example()
+    ensures { told 1 268435456 gaps_are_zeros ≡ record { settled = WasOk (Action 2) ∷ WasOk (Wrote 1) ∷ WasOk (Wrote 1) ∷ []; printed = (2 ∷ 3 ∷ []) ∷ []; stored = record { path = (97 ∷ []); bytes = (0 ∷ 0 ∷ 0 ∷ 122 ∷ 123 ∷ []) } ∷ [] } }
+{}
+
+/// A directory lists its names in order; files of one path each.
+pub fn listed_names_example()
+    ensures { told 1 268435456 listed_names ≡ record { settled = WasOk (Action 2) ∷ WasOk (Action 2) ∷ WasOk (Action 2) ∷ WasOk (Names ((97 ∷ []) ∷ (98 ∷ []) ∷ [])) ∷ []; printed = [] ∷ [] ∷ [] ∷ []; stored = record { path = (100 ∷ 92 ∷ 97 ∷ []); bytes = [] } ∷ record { path = (100 ∷ 92 ∷ 98 ∷ []); bytes = [] } ∷ [] } }
+{}
+
+/// A file is renamed, stamped and marked, and goes with its last open.
+pub fn renamed_and_removed_example()
+    ensures { told 1 268435456 renamed_and_removed ≡ record { settled = WasOk (Action 2) ∷ WasOk (Wrote 2) ∷ WasOk IsDone ∷ WasOk (Length 2) ∷ WasOk IsDone ∷ WasOk IsDone ∷ WasOk IsDone ∷ []; printed = (2 ∷ []) ∷ []; stored = [] } }
+{}
+
+/// An open that shares nothing keeps out who would delete.
+pub fn denied_remover_example()
+    ensures { told 1 268435456 denied_remover ≡ record { settled = WasOk (Action 2) ∷ WasOk (Action 2) ∷ WasRefused 0xc0000043 ∷ NoOpen 3 ∷ []; printed = [] ∷ [] ∷ []; stored = record { path = (100 ∷ 92 ∷ 97 ∷ []); bytes = [] } ∷ [] } }
+{}
+
+/// A create acted and its reply is lost with its channel: the retry is given the same answer.
+pub fn retry_after_act_example()
+    ensures told { told 2 268435456 retry_after_act ≡ record { settled = WasOk (Action 2) ∷ []; printed = [] ∷ []; stored = record { path = (97 ∷ []); bytes = [] } ∷ [] } }
+    ensures acts_1 { acted_on 2 268435456 retry_after_act 1 ≡ 1 }
+{}
+
+/// A close acted and its reply is lost: the retry finds no open, and the close is Ok.
+pub fn retried_close_example()
+    ensures told { told 2 268435456 retried_close ≡ record { settled = WasOk (Action 2) ∷ WasOk IsDone ∷ []; printed = [] ∷ []; stored = record { path = (97 ∷ []); bytes = [] } ∷ [] } }
+    ensures acts_2 { acted_on 2 268435456 retried_close 2 ≡ 1 }
+{}
+
+/// A delayed end is held back, as a write is.
+pub fn held_back_end_example()
+    ensures told { told 2 268435456 held_back_end ≡ record { settled = WasOk (Action 2) ∷ WasOk IsDone ∷ WasOk IsDone ∷ []; printed = (2 ∷ 3 ∷ []) ∷ []; stored = record { path = (97 ∷ []); bytes = (0 ∷ 0 ∷ 0 ∷ []) } ∷ [] } }
+    ensures note { note 2 268435456 held_back_end_until_note 0 ≡ record { status = 0xc0000467; acted = false } }
+    ensures acts_2 { acted_on 2 268435456 held_back_end 2 ≡ 1 }
+    ensures acts_3 { acted_on 2 268435456 held_back_end 3 ≡ 1 }
+{}
+
+/// A write that finds no room adopts its sequence all the same, so its delayed copy is held back.
+pub fn refusal_adopts_example()
+    ensures told { told 2 4 refusal_adopts ≡ record { settled = WasOk (Action 2) ∷ WasRefused 0xc000007f ∷ []; printed = (2 ∷ []) ∷ []; stored = record { path = (97 ∷ []); bytes = [] } ∷ [] } }
+    ensures note { note 2 4 refusal_adopts_until_note 0 ≡ record { status = 0xc0000467; acted = false } }
+    ensures acts_2 { acted_on 2 4 refusal_adopts 2 ≡ 0 }
+{}
+
+/// A lock acted and its reply is lost with the server: the retry is answered by its slot.
+pub fn restart_keeps_locks_example()
+    ensures told { told 1 268435456 restart_keeps_locks ≡ record { settled = WasOk (Action 2) ∷ WasOk IsDone ∷ []; printed = [] ∷ []; stored = record { path = (97 ∷ []); bytes = [] } ∷ [] } }
+    ensures acts_2 { acted_on 1 268435456 restart_keeps_locks 2 ≡ 1 }
+{}
+
+/// A lock of a persistent open is refused, and a restart keeps that.
+pub fn restart_keeps_refused_locks_example()
+    ensures told { told 2 268435456 restart_keeps_refused_locks ≡ record { settled = WasOk (Action 2) ∷ WasOk (Action 1) ∷ WasOk IsDone ∷ WasRefused 0xc0000055 ∷ []; printed = []; stored = record { path = (97 ∷ []); bytes = [] } ∷ [] } }
+    ensures acts_3 { acted_on 2 268435456 restart_keeps_refused_locks 3 ≡ 1 }
+    ensures acts_4 { acted_on 2 268435456 restart_keeps_refused_locks 4 ≡ 0 }
+{}
+
+/// An open that is attached again has no deadline any more.
+pub fn attached_again_example()
+    ensures told { told 1 268435456 attached_again ≡ record { settled = WasOk (Action 2) ∷ WasOk (Wrote 1) ∷ WasOk (Wrote 1) ∷ []; printed = (2 ∷ 3 ∷ []) ∷ []; stored = record { path = (97 ∷ []); bytes = (98 ∷ []) } ∷ [] } }
+    ensures acts_2 { acted_on 1 268435456 attached_again 2 ≡ 1 }
+    ensures acts_3 { acted_on 1 268435456 attached_again 3 ≡ 1 }
+{}
+
+/// A plain open is lost with its session, and what comes later has no open.
+pub fn plain_open_lost_example()
+    ensures told { told 1 268435456 plain_open_lost ≡ record { settled = WasOk (Action 2) ∷ Unknown (SessionLost 1) ∷ NoOpen 1 ∷ NoOpen 1 ∷ []; printed = [] ∷ []; stored = record { path = (97 ∷ []); bytes = [] } ∷ [] } }
+    ensures acts_2 { acted_on 1 268435456 plain_open_lost 2 ≡ 0 }
+{}
+
+/// A write waits for a lower one that overlaps it as long as that is unsettled, though no copy of it is outstanding.
+pub fn later_write_waits_example()
+    ensures told { told 3 268435456 later_write_waits ≡ record { settled = WasOk (Action 2) ∷ WasOk (Wrote 1) ∷ WasOk (Wrote 1) ∷ []; printed = (2 ∷ 3 ∷ []) ∷ []; stored = record { path = (97 ∷ []); bytes = (98 ∷ []) } ∷ [] } }
+    ensures acts_2 { acted_on 3 268435456 later_write_waits 2 ≡ 1 }
+    ensures acts_3 { acted_on 3 268435456 later_write_waits 3 ≡ 1 }
+{}
+
+/// A retried write that did not act before is carried out, though it lies within the file.
+pub fn retried_overwrite_example()
+    ensures told { told 2 268435456 retried_overwrite ≡ record { settled = WasOk (Action 2) ∷ WasOk (Wrote 2) ∷ WasOk (Wrote 1) ∷ []; printed = (2 ∷ 3 ∷ []) ∷ []; stored = record { path = (97 ∷ []); bytes = (98 ∷ 97 ∷ []) } ∷ [] } }
+    ensures note { note 2 268435456 retried_overwrite_until_note 0 ≡ record { status = 0xc0000467; acted = false } }
+    ensures acts_2 { acted_on 2 268435456 retried_overwrite 2 ≡ 1 }
+    ensures acts_3 { acted_on 2 268435456 retried_overwrite 3 ≡ 1 }
+{}
+
+/// A slot whose lock was retried is used no more in the session, so the delayed copy of that lock is answered by it.
+pub fn slot_not_used_again_example()
+    ensures told { told 2 268435456 slot_not_used_again ≡ record { settled = WasOk (Action 2) ∷ WasOk IsDone ∷ WasOk IsDone ∷ []; printed = [] ∷ []; stored = record { path = (97 ∷ []); bytes = [] } ∷ [] } }
+    ensures note { note 2 268435456 slot_not_used_again_until_note 0 ≡ record { status = 0x00000000; acted = false } }
+    ensures acts_2 { acted_on 2 268435456 slot_not_used_again 2 ≡ 1 }
+    ensures acts_3 { acted_on 2 268435456 slot_not_used_again 3 ≡ 1 }
+{}
+
+/// A rename acted and its reply is lost: the retry finds the file under that very name, and is Ok.
+pub fn retried_rename_example()
+    ensures told { told 2 268435456 retried_rename ≡ record { settled = WasOk (Action 2) ∷ WasOk IsDone ∷ []; printed = [] ∷ []; stored = record { path = (98 ∷ []); bytes = [] } ∷ [] } }
+    ensures note { note 2 268435456 retried_rename_until_note 1 ≡ record { status = 0x00000000; acted = false } }
+{}
+
+/// A further channel is bound by a signed request of the session's own client, on another connection.
+pub fn binding_refusals_example()
+    ensures unsigned { status_after one_session (Accept 1 ∷ []) (Heard (from_client 1 7 3 0 false (binding false))) ≡ 0xc000000d }
+    ensures another_client { status_after one_session (Accept 1 ∷ []) (Heard (from_client 1 8 3 0 false (binding true))) ≡ 0xc0000203 }
+    ensures same_connection { status_after one_session (Accept 1 ∷ []) (Heard (from_client 0 7 3 0 false (binding true))) ≡ 0xc00000d0 }
+    ensures begins { status_after one_session (Accept 1 ∷ []) (Heard (from_client 1 7 3 0 false (binding true))) ≡ 0xc0000016 }
+{}
+
+/// Sequences are older by their difference modulo 65,536.
+pub fn stale_sequences_example()
+    ensures next { is_stale 0 65535 ≡ false }
+    ensures half { is_stale 32768 0 ≡ true }
+    ensures before_half { is_stale 32767 0 ≡ false }
+    ensures same { is_stale 32767 32767 ≡ false }
+    ensures back { is_stale 0 32767 ≡ true }
+{}
+
+/// The CreateGuid of a live open is answered again with the replay flag alone, and that of a closed open never.
+pub fn guid_of_a_closed_open_example()
+    ensures live_replayed { status_after one_session (ask (make 0x183 0 2 0x40 (by_guid 5 false)) ∷ []) (Heard (from_client 0 7 9 0 true (make 0x183 0 2 0x40 (by_guid 5 false)))) ≡ 0 }
+    ensures live_repeated { status_after one_session (ask (make 0x183 0 2 0x40 (by_guid 5 false)) ∷ []) (ask (make 0x183 0 2 0x40 (by_guid 5 false))) ≡ 0xc000022a }
+    ensures closed { status_after one_session (ask (make 0x183 0 2 0x40 (by_guid 5 false)) ∷ ask (Close first_open false) ∷ []) (Heard (from_client 0 7 9 0 true (make 0x183 0 2 0x40 (by_guid 5 false)))) ≡ 0xc000022a }
+{}
+
+/// A refused create is refused again by its CreateGuid, though what refused it is gone.
+pub fn kept_create_refusal_example()
+    ensures denied { status_after one_session (ask (make 0x183 0 2 0x40 (by_guid 5 false)) ∷ []) (ask (make 0x183 0 1 0x40 (by_guid 6 false))) ≡ 0xc0000043 }
+    ensures again { status_after one_session (ask (make 0x183 0 2 0x40 (by_guid 5 false)) ∷ ask (make 0x183 0 1 0x40 (by_guid 6 false)) ∷ ask (Close first_open false) ∷ []) (Heard (from_client 0 7 9 0 true (make 0x183 0 1 0x40 (by_guid 6 false)))) ≡ 0xc0000043 }
+    ensures another_guid { status_after one_session (ask (make 0x183 0 2 0x40 (by_guid 5 false)) ∷ ask (make 0x183 0 1 0x40 (by_guid 6 false)) ∷ ask (Close first_open false) ∷ []) (ask (make 0x183 0 1 0x40 (by_guid 7 false))) ≡ 0 }
+{}
+
+/// Nobody empties a file under an open that denies writers.
+pub fn emptying_asks_for_writing_example()
+    ensures opened { status_after one_session (ask (make 0x81 1 2 0x40 None) ∷ []) (ask (make 0x81 1 1 0x40 None)) ≡ 0 }
+    ensures denier_beside_writer { status_after one_session (ask (make 0x183 7 2 0x40 None) ∷ []) (ask (make 0x81 1 1 0x40 None)) ≡ 0xc0000043 }
+    ensures overwritten { status_after one_session (ask (make 0x81 1 2 0x40 None) ∷ []) (ask (make 0x81 1 4 0x40 None)) ≡ 0xc0000043 }
+    ensures superseded { status_after one_session (ask (make 0x81 1 2 0x40 None) ∷ []) (ask (make 0x81 1 0 0x40 None)) ≡ 0xc0000043 }
+{}
+
+/// An open that deletes on close marks its file where it leaves, and the file goes with its last open.
+pub fn delete_on_close_example()
+    ensures pending { status_after one_session (ask (make 0x10183 7 2 0x1040 None) ∷ ask (make 0x10081 7 1 0x40 None) ∷ ask (Close first_open false) ∷ []) (ask (make 0x81 7 1 0x40 None)) ≡ 0xc0000056 }
+    ensures stays { files_after one_session (ask (make 0x10183 7 2 0x1040 None) ∷ ask (make 0x10081 7 1 0x40 None) ∷ ask (Close first_open false) ∷ []) ≡ 1 }
+    ensures goes { files_after one_session (ask (make 0x10183 7 2 0x1040 None) ∷ ask (make 0x10081 7 1 0x40 None) ∷ ask (Close first_open false) ∷ ask (Close second_open false) ∷ []) ≡ 0 }
+    ensures access { status_after one_session [] (ask (make 0x183 7 2 0x1040 None)) ≡ 0xc0000022 }
+{}
+
+/// A plain close owes the mark and the removal, and one that leaves nothing owes no record.
+pub fn records_of_a_close_example()
+    ensures marked { records_after one_session (ask (make 0x10183 7 2 0x1040 None) ∷ []) (ask (Close first_open false)) ≡ DeleteRecord (record { session = session; connection = 0; message = 9 }) 1 true ∷ RemoveRecord (record { session = session; connection = 0; message = 9 }) 1 ∷ [] }
+    ensures plain { records_after one_session (ask (make 0x183 7 2 0x40 None) ∷ []) (ask (Close first_open false)) ≡ [] }
+    ensures persistent { records_after one_session (ask (make 0x183 7 2 0x40 (by_guid 5 true)) ∷ []) (ask (Close first_open false)) ≡ ShutRecord (record { session = session; connection = 0; message = 9 }) first_open ∷ [] }
+{}
+
+/// A lock is refused beside an overlapping range, of the same open too; a range of no bytes overlaps nothing; an unlock takes one equal range.
+pub fn ranges_and_slots_example()
+    ensures overlap { status_after one_session (ask (make 0x183 7 2 0x40 None) ∷ ask (Lock first_open 0 0 (lock_of 0 0 10 2 0 ∷ [])) ∷ []) (ask (Lock first_open 0 0 (lock_of 0 9 1 1 0 ∷ []))) ≡ 0xc0000055 }
+    ensures apart { status_after one_session (ask (make 0x183 7 2 0x40 None) ∷ ask (Lock first_open 0 0 (lock_of 0 0 10 2 0 ∷ [])) ∷ []) (ask (Lock first_open 0 0 (lock_of 0 10 1 2 0 ∷ []))) ≡ 0 }
+    ensures no_bytes { status_after one_session (ask (make 0x183 7 2 0x40 None) ∷ ask (Lock first_open 0 0 (lock_of 0 0 10 2 0 ∷ [])) ∷ []) (ask (Lock first_open 0 0 (lock_of 0 5 0 2 0 ∷ []))) ≡ 0 }
+    ensures shared_twice { status_after one_session (ask (make 0x183 7 2 0x40 None) ∷ ask (Lock first_open 0 0 (lock_of 0 0 10 1 0 ∷ lock_of 0 0 10 1 0 ∷ [])) ∷ ask (Lock first_open 0 0 (lock_of 0 0 10 4 0 ∷ [])) ∷ []) (ask (Lock first_open 0 0 (lock_of 0 0 10 4 0 ∷ []))) ≡ 0 }
+    ensures not_locked { status_after one_session (ask (make 0x183 7 2 0x40 None) ∷ ask (Lock first_open 0 0 (lock_of 0 0 10 1 0 ∷ [])) ∷ ask (Lock first_open 0 0 (lock_of 0 0 10 4 0 ∷ [])) ∷ []) (ask (Lock first_open 0 0 (lock_of 0 0 10 4 0 ∷ []))) ≡ 0xc000007e }
+    ensures all_or_nothing { status_after one_session (ask (make 0x183 7 2 0x40 None) ∷ ask (Lock first_open 0 0 (lock_of 0 0 1 2 0 ∷ lock_of 0 0 1 2 0 ∷ [])) ∷ []) (ask (Lock first_open 0 0 (lock_of 0 0 1 2 0 ∷ []))) ≡ 0 }
+    ensures kept { status_after one_session (ask (make 0x183 7 2 0x40 None) ∷ ask (Lock first_open 3 0 (lock_of 0 0 1 4 0 ∷ [])) ∷ ask (Lock first_open 4 0 (lock_of 0 0 1 2 0 ∷ [])) ∷ []) (ask (Lock first_open 3 0 (lock_of 0 0 1 4 0 ∷ []))) ≡ 0xc000007e }
+    ensures mixed { status_after one_session (ask (make 0x183 7 2 0x40 None) ∷ []) (ask (Lock first_open 3 0 (lock_of 0 0 1 4 0 ∷ lock_of 0 0 1 2 0 ∷ []))) ≡ 0xc000000d }
+    ensures past_the_end { status_after one_session (ask (make 0x183 7 2 0x40 None) ∷ []) (ask (Lock first_open 3 0 (lock_of 0 18446744073709551615 2 2 0 ∷ []))) ≡ 0xc00001a1 }
+{}
+
+/// Where no record fits, a create is refused and kept so, and a session ends all the same, its files staying as they are.
+pub fn full_journal_example()
+    ensures create { status_after (with_full_journal one_session) [] (ask (make 0x183 7 2 0x40 (by_guid 5 false))) ≡ 0xc000007f }
+    ensures no_record { status_after (with_full_journal (after_all one_session 50 (ask (make 0x10183 7 2 0x1040 None) ∷ []))) [] (ask (make 0x81 7 1 0x40 None)) ≡ 0 }
+    ensures close { status_after (with_full_journal (after_all one_session 50 (ask (make 0x10183 7 2 0x1040 None) ∷ []))) [] (ask (Close first_open false)) ≡ 0xc000007f }
+    ensures end { status_after (with_full_journal (after_all one_session 50 (ask (make 0x10183 7 2 0x1040 None) ∷ []))) [] (End 0) ≡ 0 }
+    ensures stays { files_after (with_full_journal (after_all one_session 50 (ask (make 0x10183 7 2 0x1040 None) ∷ []))) (End 0 ∷ []) ≡ 1 }
+    ensures goes { files_after one_session (ask (make 0x10183 7 2 0x1040 None) ∷ End 0 ∷ []) ≡ 0 }
+{}
+
+/// A persistent open without a session leaves at the first event from its deadline on, unless all marks are had.
+pub fn expiry_at_its_deadline_example()
+    ensures before { records_after (after_all one_session 0 (ask (make 0x183 7 2 0x40 (by_guid 5 true)) ∷ End 0 ∷ [])) [] (Accept 3) ≡ [] }
+    ensures at_the_deadline { (step (after_all one_session 0 (ask (make 0x183 7 2 0x40 (by_guid 5 true)) ∷ End 0 ∷ [])) 600000001 (Accept 3)).records ≡ ExpireRecord (record { session = 0; connection = 3; message = 0 }) first_open ∷ [] }
+    ensures one_before { (step (after_all one_session 0 (ask (make 0x183 7 2 0x40 (by_guid 5 true)) ∷ End 0 ∷ [])) 600000000 (Accept 3)).records ≡ [] }
+    ensures all_marks { (step (with_all_marks (after_all one_session 0 (ask (make 0x183 7 2 0x40 (by_guid 5 true)) ∷ End 0 ∷ []))) 600000001 (Accept 3)).records ≡ [] }
+{}
+
+/// A star stands for any characters and a question mark for one, by ASCII case.
+pub fn patterns_of_names_example()
+    ensures star { matches (97 ∷ 42 ∷ 99 ∷ []) (65 ∷ 98 ∷ 98 ∷ 67 ∷ []) ≡ true }
+    ensures star_of_none { matches (97 ∷ 42 ∷ []) (97 ∷ []) ≡ true }
+    ensures question { matches (97 ∷ 63 ∷ []) (97 ∷ 195 ∷ 169 ∷ []) ≡ true }
+    ensures question_of_none { matches (97 ∷ 63 ∷ []) (97 ∷ []) ≡ false }
+    ensures no_match { matches (97 ∷ []) (97 ∷ 98 ∷ []) ≡ false }
+{}
+
+/// A path has components that are no dots and hold no forbidden character.
+pub fn forms_of_names_example()
+    ensures plain { path_form (100 ∷ 92 ∷ 97 ∷ []) ≡ None }
+    ensures root { path_form [] ≡ None }
+    ensures leading { path_form (92 ∷ 58 ∷ []) ≡ Some 0xc000000d }
+    ensures doubled { path_form (97 ∷ 92 ∷ 92 ∷ 98 ∷ []) ≡ Some 0xc0000033 }
+    ensures dots { path_form (97 ∷ 92 ∷ 46 ∷ 46 ∷ []) ≡ Some 0xc0000033 }
+    ensures stream { path_form (97 ∷ 58 ∷ 98 ∷ []) ≡ Some 0xc0000033 }
+{}
+
+/// Where no session can be had, all that is unsettled is given up with the refusal.
+pub fn refused_logon_example()
+    ensures given_up { settled_in (course 1 (submit 1 (OpCreate (97 ∷ []) 0x183 0 2 false false) ∷ submit 2 (OpWrite 1 0 (97 ∷ [])) ∷ SettlesAll ∷ []) stranger) ≡ Unknown (NoSession (HadStatus 0xc000006d)) ∷ Unknown (NoSession (HadStatus 0xc000006d)) ∷ [] }
+{}
+
+/// A cut of one of two channels raises the sequence, and at the last sequence it ends the session.
+pub fn last_sequence_ends_session_example()
+    ensures raised { (course 2 (Links 0 ∷ Links 1 ∷ Does (Cut 0) ∷ []) (beginning 268435456)).world.client.sequence ≡ 1 }
+    ensures stays { (course 2 (Links 0 ∷ Links 1 ∷ Does (Cut 0) ∷ []) (beginning 268435456)).world.client.live ≡ true }
+    ensures ends { (course 2 (Does (Cut 0) ∷ []) (worn_out (course 2 (Links 0 ∷ Links 1 ∷ []) (beginning 268435456)))).world.client.live ≡ false }
+    ensures begins_anew { (course 2 (Does (Cut 0) ∷ Does (Drop 0) ∷ Links 0 ∷ []) (worn_out (course 2 (Links 0 ∷ Links 1 ∷ []) (beginning 268435456)))).world.client.sequence ≡ 0 }
+{}
+
+/// An event that the world cannot meet is none, and one that it meets raises the moment.
+pub fn impossible_events_example()
+    ensures no_channel { (course 1 (Does (Cut 0) ∷ []) (beginning 268435456)).world.moment ≡ 0 }
+    ensures restart { (course 1 (Does Restart ∷ []) (beginning 268435456)).world.moment ≡ 1 }
+    ensures link { (course 1 (Links 0 ∷ []) (beginning 268435456)).world.moment ≡ 9 }
+    ensures no_finish { settled_in (course 1 (Links 0 ∷ submit 1 (OpCreate (97 ∷ []) 0x183 0 2 false false) ∷ Does (Finish (HadStatus 1)) ∷ []) (beginning 268435456)) ≡ Unsettled ∷ [] }
+{}
+
+/// A write needs write access, a read meets no range of another open, and a closed open leaves no range.
+pub fn access_and_ranges_example()
+    ensures no_access { status_after one_session (ask (make 0x81 7 2 0x40 None) ∷ []) (ask (Write first_open 0 (97 ∷ []) 0)) ≡ 0xc0000022 }
+    ensures read_conflict { status_after one_session (ask (make 0x183 7 2 0x40 None) ∷ ask (make 0x183 7 1 0x40 None) ∷ ask (Lock first_open 0 0 (lock_of 0 0 10 2 0 ∷ [])) ∷ []) (ask (Read second_open 5 1 0 0)) ≡ 0xc0000054 }
+    ensures own_read { status_after one_session (ask (make 0x183 7 2 0x40 None) ∷ ask (Write first_open 0 (97 ∷ []) 0) ∷ ask (Lock first_open 0 0 (lock_of 0 0 10 2 0 ∷ [])) ∷ []) (ask (Read first_open 0 1 0 0)) ≡ 0 }
+    ensures own_shared_write { status_after one_session (ask (make 0x183 7 2 0x40 None) ∷ ask (Lock first_open 0 0 (lock_of 0 0 10 1 0 ∷ [])) ∷ []) (ask (Write first_open 0 (97 ∷ []) 0)) ≡ 0xc0000054 }
+    ensures closed { status_after one_session (ask (make 0x183 7 2 0x40 None) ∷ ask (make 0x183 7 1 0x40 None) ∷ ask (Lock first_open 0 0 (lock_of 0 0 10 2 0 ∷ [])) ∷ ask (Close first_open false) ∷ []) (ask (Lock second_open 0 0 (lock_of 0 0 10 2 0 ∷ []))) ≡ 0 }
+    ensures empty_write { records_after one_session (ask (make 0x183 7 2 0x40 None) ∷ []) (ask (Write first_open 9 [] 0)) ≡ [] }
+{}
+
+/// An open of a live session is given to no other; one whose session is gone is given again, and denies writers meanwhile.
+pub fn a_second_session_example()
+    ensures attach { status_after second_session (ask (make 0x183 0 2 0x40 (by_guid 5 true)) ∷ []) (ask_second true (reconnect first_open 5)) ≡ 0xc0000034 }
+    ensures replay { status_after second_session (ask (make 0x183 0 2 0x40 (by_guid 5 true)) ∷ []) (ask_second true (make 0x183 0 2 0x40 (by_guid 5 true))) ≡ 0xc000022a }
+    ensures attach_when_gone { status_after second_session (ask (make 0x183 0 2 0x40 (by_guid 5 true)) ∷ End 0 ∷ []) (ask_second true (reconnect first_open 5)) ≡ 0 }
+    ensures replay_when_gone { status_after second_session (ask (make 0x183 0 2 0x40 (by_guid 5 true)) ∷ End 0 ∷ []) (ask_second true (make 0x183 0 2 0x40 (by_guid 5 true))) ≡ 0 }
+    ensures denied_when_gone { status_after second_session (ask (make 0x183 0 2 0x40 (by_guid 5 true)) ∷ End 0 ∷ []) (ask_second false (make 0x183 7 1 0x40 (by_guid 6 false))) ≡ 0xc0000043 }
+{}
+
+/// What successes tell: ENCRYPT_DATA and the channel's number, kind and capabilities of a tree, room and what is used of it.
+pub fn told_by_successes_example()
+    ensures pipes { body_after one_session [] (ask (TreeConnect pipes_name)) ≡ Connected 2 0 2032127 }
+    ensures disk { body_after one_session [] (ask (TreeConnect (100 ∷ []))) ≡ Connected 1 16 2032127 }
+    ensures session { body_after one_session (Accept 1 ∷ in_second 0 0 false (setup Begins) ∷ []) (in_second second_id 0 false (setup (Logon (117 ∷ []) 1))) ≡ SetUp true 1 }
+    ensures channel { body_after one_session (Accept 1 ∷ Heard (from_client 1 7 9 0 false (binding true)) ∷ []) binding_logon ≡ SetUp true 2 }
+    ensures volume { body_after one_session (ask (make 0x183 7 2 0x40 (by_guid 5 true)) ∷ ask (Write first_open 3 (1 ∷ 2 ∷ []) 0) ∷ []) (ask (QueryVolume first_open 7 32)) ≡ VolumeInfo 7 268435456 5 }
+{}
+
+/// A new journal, and one of the first version, gets the Version record and the Epoch record; a later one the Epoch record alone.
+pub fn a_journal_of_the_first_version_example()
+    ensures new { recovery_records nothing_yet ≡ VersionRecord 2 ∷ EpochRecord 1 ∷ [] }
+    ensures later { recovery_records one_session ≡ EpochRecord 2 ∷ [] }
+    ensures bytes { (start (settings 268435456)).server.journal ≡ 24 }
+{}
+
+/// Each script's run keeps the three statements: once, newer, and one connection's order.
+pub fn statements_example()
+    ensures retried_create { laws_hold 2 268435456 retried_create ≡ true }
+    ensures kept_refusal { laws_hold 2 268435456 kept_refusal ≡ true }
+    ensures replaced_session { laws_hold 2 268435456 replaced_session ≡ true }
+    ensures room_counted_once { laws_hold 2 4 room_counted_once ≡ true }
+    ensures held_back_write { laws_hold 3 268435456 held_back_write ≡ true }
+    ensures restart_persistent { laws_hold 1 268435456 restart_persistent ≡ true }
+    ensures crash_lost { laws_hold 1 268435456 crash_lost ≡ true }
+    ensures crash_kept { laws_hold 1 268435456 crash_kept ≡ true }
+    ensures restart_plain { laws_hold 1 268435456 restart_plain ≡ true }
+    ensures shared_readers { laws_hold 1 268435456 shared_readers ≡ true }
+    ensures denied_writer { laws_hold 1 268435456 denied_writer ≡ true }
+    ensures delayed_reconnect { laws_hold 3 268435456 delayed_reconnect ≡ true }
+    ensures expired_open { laws_hold 1 268435456 expired_open ≡ true }
+    ensures open_before_expiry { laws_hold 1 268435456 open_before_expiry ≡ true }
+    ensures expired_create { laws_hold 1 268435456 expired_create ≡ true }
+    ensures first_steps { laws_hold 1 268435456 first_steps ≡ true }
+    ensures end_of_file { laws_hold 1 268435456 end_of_file ≡ true }
+    ensures gaps_are_zeros { laws_hold 1 268435456 gaps_are_zeros ≡ true }
+    ensures listed_names { laws_hold 1 268435456 listed_names ≡ true }
+    ensures renamed_and_removed { laws_hold 1 268435456 renamed_and_removed ≡ true }
+    ensures denied_remover { laws_hold 1 268435456 denied_remover ≡ true }
+    ensures retry_after_act { laws_hold 2 268435456 retry_after_act ≡ true }
+    ensures retried_close { laws_hold 2 268435456 retried_close ≡ true }
+    ensures held_back_end { laws_hold 2 268435456 held_back_end ≡ true }
+    ensures refusal_adopts { laws_hold 2 4 refusal_adopts ≡ true }
+    ensures restart_keeps_locks { laws_hold 1 268435456 restart_keeps_locks ≡ true }
+    ensures restart_keeps_refused_locks { laws_hold 2 268435456 restart_keeps_refused_locks ≡ true }
+    ensures attached_again { laws_hold 1 268435456 attached_again ≡ true }
+    ensures plain_open_lost { laws_hold 1 268435456 plain_open_lost ≡ true }
+    ensures later_write_waits { laws_hold 3 268435456 later_write_waits ≡ true }
+    ensures retried_overwrite { laws_hold 2 268435456 retried_overwrite ≡ true }
+    ensures slot_not_used_again { laws_hold 2 268435456 slot_not_used_again ≡ true }
+    ensures retried_rename { laws_hold 2 268435456 retried_rename ≡ true }
+{}
+
+/// Behind each script the fold of the journal's records is the part of the server's state that outlives a restart.
+pub fn journal_stands_example()
+    ensures retried_create { journal_stands (course 2 retried_create (beginning 268435456)).world ≡ true }
+    ensures kept_refusal { journal_stands (course 2 kept_refusal (beginning 268435456)).world ≡ true }
+    ensures replaced_session { journal_stands (course 2 replaced_session (beginning 268435456)).world ≡ true }
+    ensures room_counted_once { journal_stands (course 2 room_counted_once (beginning 4)).world ≡ true }
+    ensures held_back_write { journal_stands (course 3 held_back_write (beginning 268435456)).world ≡ true }
+    ensures restart_persistent { journal_stands (course 1 restart_persistent (beginning 268435456)).world ≡ true }
+    ensures crash_lost { journal_stands (course 1 crash_lost (beginning 268435456)).world ≡ true }
+    ensures crash_kept { journal_stands (course 1 crash_kept (beginning 268435456)).world ≡ true }
+    ensures restart_plain { journal_stands (course 1 restart_plain (beginning 268435456)).world ≡ true }
+    ensures shared_readers { journal_stands (course 1 shared_readers (beginning 268435456)).world ≡ true }
+    ensures denied_writer { journal_stands (course 1 denied_writer (beginning 268435456)).world ≡ true }
+    ensures delayed_reconnect { journal_stands (course 3 delayed_reconnect (beginning 268435456)).world ≡ true }
+    ensures expired_open { journal_stands (course 1 expired_open (beginning 268435456)).world ≡ true }
+    ensures open_before_expiry { journal_stands (course 1 open_before_expiry (beginning 268435456)).world ≡ true }
+    ensures expired_create { journal_stands (course 1 expired_create (beginning 268435456)).world ≡ true }
+    ensures first_steps { journal_stands (course 1 first_steps (beginning 268435456)).world ≡ true }
+    ensures end_of_file { journal_stands (course 1 end_of_file (beginning 268435456)).world ≡ true }
+    ensures gaps_are_zeros { journal_stands (course 1 gaps_are_zeros (beginning 268435456)).world ≡ true }
+    ensures listed_names { journal_stands (course 1 listed_names (beginning 268435456)).world ≡ true }
+    ensures renamed_and_removed { journal_stands (course 1 renamed_and_removed (beginning 268435456)).world ≡ true }
+    ensures denied_remover { journal_stands (course 1 denied_remover (beginning 268435456)).world ≡ true }
+    ensures retry_after_act { journal_stands (course 2 retry_after_act (beginning 268435456)).world ≡ true }
+    ensures retried_close { journal_stands (course 2 retried_close (beginning 268435456)).world ≡ true }
+    ensures held_back_end { journal_stands (course 2 held_back_end (beginning 268435456)).world ≡ true }
+    ensures refusal_adopts { journal_stands (course 2 refusal_adopts (beginning 4)).world ≡ true }
+    ensures restart_keeps_locks { journal_stands (course 1 restart_keeps_locks (beginning 268435456)).world ≡ true }
+    ensures restart_keeps_refused_locks { journal_stands (course 2 restart_keeps_refused_locks (beginning 268435456)).world ≡ true }
+    ensures attached_again { journal_stands (course 1 attached_again (beginning 268435456)).world ≡ true }
+    ensures plain_open_lost { journal_stands (course 1 plain_open_lost (beginning 268435456)).world ≡ true }
+    ensures later_write_waits { journal_stands (course 3 later_write_waits (beginning 268435456)).world ≡ true }
+    ensures retried_overwrite { journal_stands (course 2 retried_overwrite (beginning 268435456)).world ≡ true }
+    ensures slot_not_used_again { journal_stands (course 2 slot_not_used_again (beginning 268435456)).world ≡ true }
+    ensures retried_rename { journal_stands (course 2 retried_rename (beginning 268435456)).world ≡ true }
+    ensures all_slots_retried { journal_stands (course 2 all_slots_retried (beginning 268435456)).world ≡ true }
+{}
