@@ -1,0 +1,132 @@
+-- What holds between the client's table and the connections in every world that a run leads to, where each operation
+-- acted a g times. Nothing here speaks of the server.
+use Rattle.std.specs.Prelude.{◌≡◌, ◌≢◌, ℕ, ◌+◌, ◌≤◌, ◌<◌, ◌==◌, Bool, true, false, not, if◌then◌else◌, List, [], ◌∷◌, Option, Some, None, slice_get}
+use Rattle.exchange_defs.specs.Status.{user_session_deleted}
+use Rattle.exchange_defs.specs.Operations.{Op, is_unsettled, is_create, is_close, request_of}
+use Rattle.exchange_defs.specs.Client.{Client, Stage, Apart, SaidNegotiate, SaidFirst, SaidSecond, AskedTree, create_for, guid_for, has_open, is_replay}
+use Rattle.exchange_defs.specs.Network.{Conn, Sent, Received, Token, ForOp, op_of, is_own}
+use Rattle.exchange_defs.specs.Runs.{is_once}
+
+-- ---- how many messages and replies of an operation a connection carries; those of its dialog count under 0
+
+abbrev pub count_up : ℕ → List Sent → ℕ
+count_up g [] = 0
+count_up g (x ∷ xs) = (if op_of x.token == g then 1 else 0) + count_up g xs
+
+abbrev pub count_down : ℕ → List Received → ℕ
+count_down g [] = 0
+count_down g (y ∷ ys) = (if op_of y.token == g then 1 else 0) + count_down g ys
+
+abbrev pub copies : ℕ → Conn → ℕ
+copies g c = count_up g c.up + count_down g c.down
+
+-- no copy of the operation itself is outstanding
+abbrev pub none_on : Option ℕ → Bool
+none_on None = true
+none_on (Some k) = false
+
+abbrev pub no_copy_out : Client → ℕ → Bool
+no_copy_out c g = if c.asking g then true else none_on (c.on g)
+
+-- a channel of a session that is ready already is being made
+abbrev pub is_bound : Stage → Bool
+is_bound Apart = false
+is_bound (SaidNegotiate bound) = bound
+is_bound (SaidFirst bound) = bound
+is_bound (SaidSecond bound) = bound
+is_bound AskedTree = false
+
+-- ---- the parts
+
+-- a connection carries one message or reply of an operation at most
+abbrev pub Once : (ℕ → Conn) → Type 0
+Once conns = (k g : ℕ) → copies g (conns k) ≤ 1
+
+-- what an open connection carries of an operation is outstanding there
+abbrev pub Outstanding : Client → (ℕ → Conn) → Type 0
+Outstanding c conns = (k g : ℕ) → (conns k).client_open ≡ true → 1 ≤ copies g (conns k) → 0 < g → c.on g ≡ Some k
+
+-- and it is the operation itself, or the DH2C in its place, as the client noted
+abbrev pub UpKind : Client → (ℕ → Conn) → Type 0
+UpKind c conns = (k n : ℕ) (x : Sent) → slice_get (conns k).up n ≡ Some x → (conns k).client_open ≡ true → 0 < op_of x.token → is_own x.token ≡ not (c.asking (op_of x.token))
+
+abbrev pub DownKind : Client → (ℕ → Conn) → Type 0
+DownKind c conns = (k n : ℕ) (y : Received) → slice_get (conns k).down n ≡ Some y → (conns k).client_open ≡ true → 0 < op_of y.token → is_own y.token ≡ not (c.asking (op_of y.token))
+
+-- replies wait on open connections alone
+abbrev pub DownOpen : (ℕ → Conn) → Type 0
+DownOpen conns = (k : ℕ) → (conns k).client_open ≡ false → (conns k).down ≡ []
+
+abbrev pub OnReady : Client → Type 0
+OnReady c = (g k : ℕ) → c.on g ≡ Some k → c.ready k ≡ true × 0 < g
+
+abbrev pub Ready : Client → (ℕ → Conn) → Type 0
+Ready c conns = (k : ℕ) → c.ready k ≡ true → (conns k).client_open ≡ true × c.live ≡ true × copies 0 (conns k) ≡ 0
+
+abbrev pub Stages : Client → Type 0
+Stages c = (k : ℕ) → is_bound (c.stage k) ≡ true → c.live ≡ true
+
+abbrev pub Settled : Client → Type 0
+Settled c = (g : ℕ) → is_unsettled (c.outcome g) ≡ false → c.on g ≡ None
+
+-- operations are taken in the order of their numbers, each behind its create
+abbrev pub Taken : Client → Type 0
+Taken c = (g : ℕ) → c.taken < g → c.sent g ≡ false × c.on g ≡ None
+
+abbrev pub Creates : Client → Type 0
+Creates c = (g : ℕ) → 0 < g → g ≤ c.taken → is_create (c.op g) ≡ false → 0 < create_for c g × create_for c g < g × is_create (c.op (create_for c g)) ≡ true
+
+-- while a close is outstanding no other operation of its open is
+abbrev pub Alone : Client → Type 0
+Alone c = (g h : ℕ) → c.on g ≢ None → c.on h ≢ None → is_close (c.op h) ≡ true → create_for c g ≡ create_for c h → g ≡ h
+
+-- what went out has an open, and what didn't has no copy
+abbrev pub HasOpen : Client → Type 0
+HasOpen c = (g : ℕ) → c.sent g ≡ true → has_open c g ≡ true
+
+abbrev pub AskedOpen : Client → Type 0
+AskedOpen c = (g : ℕ) → c.on g ≢ None → has_open c g ≡ true
+
+abbrev pub Fresh : Client → (ℕ → ℕ) → Type 0
+Fresh c a = (g : ℕ) → c.sent g ≡ false → c.before g ≡ false × a g ≡ 0 × no_copy_out c g ≡ true
+
+-- a copy is its operation's request
+abbrev pub Bodies : Client → (ℕ → Conn) → Type 0
+Bodies c conns = (k n g : ℕ) (x : Sent) → slice_get (conns k).up n ≡ Some x → x.token ≡ ForOp g
+    → c.sent g ≡ true × x.message.command ≡ request_of (c.op g) (guid_for c g) (c.file (create_for c g)) (c.slot_of g) (c.number_of g) × x.message.client ≡ c.who.guid × x.message.fault ≡ None
+
+-- an operation without an unanswered copy, of which a copy waits, hasn't acted
+abbrev pub First : Client → (ℕ → Conn) → (ℕ → ℕ) → Type 0
+First c conns a = (k n g : ℕ) (x : Sent) → slice_get (conns k).up n ≡ Some x → x.token ≡ ForOp g → c.before g ≡ false → (conns k).client_open ≡ true × a g ≡ 0
+
+abbrev pub Unsent : Client → (ℕ → ℕ) → Type 0
+Unsent c a = (g : ℕ) → is_once (c.op g) ≡ true → c.before g ≡ false → no_copy_out c g ≡ true → is_unsettled (c.outcome g) ≡ true → a g ≡ 0
+
+abbrev pub SentReplies : Client → (ℕ → Conn) → Type 0
+SentReplies c conns = (k n g : ℕ) (y : Received) → slice_get (conns k).down n ≡ Some y → y.token ≡ ForOp g → c.sent g ≡ true
+
+-- a copy whose session was gone didn't act
+abbrev pub Deleted : Client → (ℕ → Conn) → (ℕ → ℕ) → Type 0
+Deleted c conns a = (k n g : ℕ) (y : Received) → slice_get (conns k).down n ≡ Some y → y.token ≡ ForOp g → y.reply.status ≡ user_session_deleted → c.before g ≡ false → a g ≡ 0
+
+pub record Connections (c : Client) (conns : ℕ → Conn) (a : ℕ → ℕ) : Type 0 where
+  pub once : Once conns
+  pub outstanding : Outstanding c conns
+  pub up_kind : UpKind c conns
+  pub down_kind : DownKind c conns
+  pub down_open : DownOpen conns
+  pub on_ready : OnReady c
+  pub ready : Ready c conns
+  pub stages : Stages c
+  pub settled : Settled c
+  pub taken : Taken c
+  pub creates : Creates c
+  pub alone : Alone c
+  pub has_open : HasOpen c
+  pub asked_open : AskedOpen c
+  pub fresh : Fresh c a
+  pub bodies : Bodies c conns
+  pub first : First c conns a
+  pub unsent : Unsent c a
+  pub sent_replies : SentReplies c conns
+  pub deleted : Deleted c conns a

@@ -1,0 +1,2 @@
+//! What holds of every run of the exchange model.
+#![tactic(auto)]
