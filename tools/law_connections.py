@@ -60,10 +60,10 @@ use Rattle.std.proofs.Common.{eqb-true, ◌≡◌, ◌≢◌, ℕ, ◌+◌, ◌�
 use Rattle.exchange_defs.specs.Table.{put, put2}
 use Rattle.exchange_defs.specs.Status.{user_session_deleted}
 use Rattle.exchange_defs.specs.State.{Message, Reply}
-use Rattle.exchange_defs.specs.Operations.{Op, Outcome, is_unsettled, is_ok, is_create, is_close, is_lock, create_of, holds_up, request_of}
-use Rattle.exchange_defs.specs.Client.{Client, Stage, create_for, guid_for, has_open, may_take, take_op, waits, take_slot, outstanding as put_out, asked, cut_channel, end_session}
+use Rattle.exchange_defs.specs.Operations.{Op, Outcome, Why, is_unsettled, is_ok, is_create, is_close, is_lock, create_of, holds_up, request_of}
+use Rattle.exchange_defs.specs.Client.{Client, Stage, create_for, guid_for, has_open, may_take, take_op, waits, take_slot, outstanding as put_out, asked, cut_channel, end_session, finish}
 use Rattle.exchange_defs.specs.Settling.{answered, joined, settled as settled_by}
-use Rattle.exchange_defs.specs.Dialogs.{open_channel, bound, readied, leave_dialog}
+use Rattle.exchange_defs.specs.Dialogs.{open_channel, went_on, accepted, bound, readied, leave_dialog, refused_dialog}
 use Rattle.exchange_defs.specs.Network.{Conn, Sent, Received, Token, ForDialog, ForOp, ForAttach, op_of, is_own, fresh as fresh_conn, server_off, client_off, send_up, behind_front, take_front}
 use Rattle.exchange_defs.specs.Runs.{is_once, is_send_of}
 use Rattle.exchange_law.specs.Connections.{Connections, copies, count_up, count_down, no_copy_out, is_bound, makes_open, shuts_open, acts_once, its_create, its_request, create_at, opens, PARTS}
@@ -99,6 +99,8 @@ EVENTS = [
               "settled": "λ p. let old = i.settled p in let t = i.taken_on p in grind arith",
               "bodies": "λ j n p x h t. let old = i.bodies j n p x h t in let tk = i.taken p old.0 in let cr = i.creates p tk.0 tk.1 in grind arith",
               "unsent": "λ p. let old = i.unsent p in let f = i.fresh p in let t = i.taken p in grind arith",
+              "first": "λ j n p x h t. let old = i.first j n p x h t in let b = i.bodies j n p x h t in let tk = i.taken p b.0 in grind arith",
+              "deleted": "λ j n p y h t. let old = i.deleted j n p y h t in let b = i.sent_replies j n p y h t in let tk = i.taken p b in grind arith",
           }),
     Event("Opened", "a connection is made", "(k : ℕ) (served : Bool)", [("closed", "(conns k).client_open ≡ false")],
           c="(open_channel c k)", conns="(put conns k (fresh_conn c k served))"),
@@ -125,9 +127,9 @@ EVENTS = [
               "attach_up": "λ j n p x h. " + OLD + "let old = i.attach_up j o.0 p x o.1 in grind arith",
               "bodies": "λ j n p x h. " + OLD + "i.bodies j o.0 p x o.1",
               "fresh": "λ p. " + FRONT + "let old = i.fresh p in let b = i.bodies k 0 p x0 f0 in grind arith",
-              "first": "λ j n p x h t b. " + OLD + ACTS + "let old = i.first j o.0 p x o.1 t b in let n1 = own_up_count p (conns j).up o.0 x o.1 t in let u1 = i.outstanding j p in let one = i.once k p in let n2 = own_up_count p (put conns k (behind_front (conns k) rest) j).up n x h t in grind arith",
+              "first": "λ j n p x h t ao b. " + OLD + ACTS + "let old = i.first j o.0 p x o.1 t ao b in let n1 = own_up_count p (conns j).up o.0 x o.1 t in let u1 = i.outstanding j p in let one = i.once k p in let n2 = own_up_count p (put conns k (behind_front (conns k) rest) j).up n x h t in grind arith",
               "unsent": "λ p on_ b none. " + ACTS + "let old = i.unsent p on_ b none in grind arith",
-              "deleted": "λ j n p y h t st b. " + ACTS + "let h' : slice_get (conns j).down n ≡ Some y = grind arith in let old = i.deleted j n p y h' t st b in let n1 = own_down_count p (conns j).down n y h' t in let one = i.once k p in let u1 = i.outstanding j p in let dn = i.down_open j in grind arith",
+              "deleted": "λ j n p y h t ao st b. " + ACTS + "let h' : slice_get (conns j).down n ≡ Some y = grind arith in let old = i.deleted j n p y h' t ao st b in let n1 = own_down_count p (conns j).down n y h' t in let one = i.once k p in let u1 = i.outstanding j p in let dn = i.down_open j in grind arith",
           }),
     Event("Behind", "a reply leaves its connection", "(k : ℕ) (y0 : Received) (rest : List Received)", [("is", "(conns k).down ≡ y0 ∷ rest")],
           conns="(put conns k (take_front (conns k) rest))",
@@ -137,25 +139,37 @@ EVENTS = [
               "sent_replies": "λ j n p y h. " + OLD_DOWN + "i.sent_replies j o.0 p y o.1",
               "deleted": "λ j n p y h. " + OLD_DOWN + "i.deleted j o.0 p y o.1",
           }),
-    Event("Staged", "a dialog goes on", "(k : ℕ) (stage : Stage)", [("live", "is_bound stage ≡ true → c.live ≡ true")], c="(record c { stage = put c.stage k stage })",
+    Event("WentOn", "a dialog goes on", "(k : ℕ) (stage : Stage) (r : Reply)", [("live", "is_bound stage ≡ true → c.live ≡ true")], c="(went_on c k stage r)",
           parts={"stages": "λ j. let old = i.stages j in let l = live in grind arith"}),
+    Event("Accepted", "a new session is accepted", "(k : ℕ)", c="(accepted c k)"),
+    Event("DialogRefused", "a dialog is refused, and the client closes its channel", "(k status : ℕ)", [("apart", "c.ready k ≡ false")],
+          c="(refused_dialog c k status)", conns="(put conns k (client_off (conns k)))",
+          parts={"first": "λ j n p x h t ao b. " + UP + "let old = i.first j n p x h' t ao b in let r = i.on_ready p k in grind arith"}),
     Event("DialogSent", "the next message of a dialog goes out", "(k n0 : ℕ) (m : Message)", [("none", "copies 0 (conns k) ≡ 0"), ("apart", "c.ready k ≡ false")],
           conns="(put conns k (send_up (conns k) ForDialog m n0))"),
     Event("Bound", "a further channel is ready", "(k : ℕ)", [("live", "c.live ≡ true"), ("stands", "(conns k).client_open ≡ true"), ("none", "copies 0 (conns k) ≡ 0")], c="(bound c k)"),
     Event("Readied", "a session is ready", "(k : ℕ) (r : Reply)", [("stands", "(conns k).client_open ≡ true"), ("none", "copies 0 (conns k) ≡ 0")], c="(readied c k r)"),
     Event("DialogOff", "the client closes a channel that isn't ready", "(k : ℕ)", [("apart", "c.ready k ≡ false")],
           c="(leave_dialog c k)", conns="(put conns k (client_off (conns k)))",
-          parts={"first": "λ j n p x h t b. " + UP + "let old = i.first j n p x h' t b in let r = i.on_ready p k in grind arith"}),
+          parts={"first": "λ j n p x h t ao b. " + UP + "let old = i.first j n p x h' t ao b in let r = i.on_ready p k in grind arith"}),
     Event("Cut", "a ready channel is cut", "(k : ℕ)", c="(cut_channel c k)", conns="(put conns k (client_off (conns k)))",
-          parts={"first": "λ j n p x h t b. " + UP + "let old = i.first j n p x h' t in grind arith"}),
+          parts={"first": "λ j n p x h t ao b. " + UP + "let old = i.first j n p x h' t in grind arith"}),
     Event("Leave", "the session ends", "", c="(end_session c)", conns="(λ q. client_off (conns q))",
-          parts={"first": "λ j n p x h t b. " + UP + "let old = i.first j n p x h' t in grind arith"}),
+          parts={"first": "λ j n p x h t ao b. " + UP + "let old = i.first j n p x h' t in grind arith"}),
     Event("Answered", "an operation is answered and isn't settled", "(k g : ℕ)",
           [("on", "c.on g ≡ Some k"), ("none", "copies g (conns k) ≡ 0"), ("idle", "acts_once (c.op g) ≡ true → c.before g ≡ false → c.asking g ≡ false → a g ≡ 0")],
           c="(answered c g)", parts={"unsent": "λ p. let old = i.unsent p in let q = idle in grind arith"}),
     Event("Opens", "a create that is outstanding names its open", "(g id : ℕ)", [("create", "makes_open (c.op g) ≡ true"), ("out", "is_some (c.on g) ≡ true")],
-          c="(record c { file = put c.file g id })",
+          c="(record c { file = put c.file g id; attached = put c.attached g c.number })",
           parts={"bodies": "λ j n p x h t. let old = i.bodies j n p x h t in let op = i.has_open p old.0 in let s = i.settled g in let r = request_of_create (c.op p) (guid_for c p) (c.file (create_at c p)) id (c.slot_of p) (c.number_of p) in let own = create_of_create p (c.op p) in grind arith"}),
+    Event("Joined", "a DH2C attached its open", "(k g : ℕ)",
+          [("on", "c.on g ≡ Some k"), ("none", "copies g (conns k) ≡ 0"), ("idle", "acts_once (c.op g) ≡ true → c.before g ≡ false → c.asking g ≡ false → a g ≡ 0")],
+          c="(joined c g)", parts={"unsent": "λ p. let old = i.unsent p in let q = idle in grind arith"}),
+    Event("Shuts", "a close shut its open", "(create : ℕ)", c="(record c { shut = put c.shut create true })"),
+    Event("Fills", "a lock met a full disk", "(create slot : ℕ)", c="(record c { full = put2 c.full create slot true })"),
+    Event("Retried", "a slot's lock goes out again", "(create slot : ℕ)", c="(record c { retried = put2 c.retried create slot c.number })"),
+    Event("Finished", "no session can be had", "(why : Why)", [("dead", "c.live ≡ false")], c="(finish c why)",
+          parts={"settled": "λ p h. finished_off c conns dead i.on_ready i.ready p (c.on p) refl"}),
     Event("Settle", "a reply settles its operation", "(k g place : ℕ) (outcome : Outcome)",
           [("on", "c.on g ≡ Some k"), ("none", "copies g (conns k) ≡ 0"), ("firm", "is_unsettled outcome ≡ false")],
           c="(settled_by c g outcome place)",
@@ -167,14 +181,14 @@ EVENTS = [
           [("ready", "c.ready k ≡ true"), ("none", "c.on g ≡ None"), ("above", "0 < g"), ("within", "g ≤ c.taken"), ("pending", "is_unsettled (c.outcome g) ≡ true"), ("may", "opens c g ≡ true"),
            ("alone", "(h : ℕ) → is_some (c.on h) ≡ true → create_at c h ≡ create_at c g → shuts_open (c.op h) ≡ false × shuts_open (c.op g) ≡ false"),
            ("sent", "c.sent g ≡ true"), ("body", "m.command ≡ its_request (c.op g) (guid_for c g) (c.file (create_at c g)) (c.slot_of g) (c.number_of g)"),
-           ("who", "m.client ≡ c.who.guid"), ("fault", "m.fault ≡ None"), ("idle", "c.before g ≡ false → a g ≡ 0")],
+           ("who", "m.client ≡ c.who.guid"), ("fault", "m.fault ≡ None"), ("idle", "acts_once (c.op g) ≡ true → c.before g ≡ false → a g ≡ 0")],
           c="(put_out c k g)", conns="(put conns k (send_up (conns k) (ForOp g) m n0))"),
     Event("Ask", "a DH2C goes out in an operation's place", "(k g n0 : ℕ) (m : Message)", [("ready", "c.ready k ≡ true"), ("none", "c.on g ≡ None"), ("above", "0 < g"), ("within", "g ≤ c.taken"), ("pending", "is_unsettled (c.outcome g) ≡ true"), ("may", "opens c g ≡ true"),
            ("alone", "(h : ℕ) → is_some (c.on h) ≡ true → create_at c h ≡ create_at c g → shuts_open (c.op h) ≡ false × shuts_open (c.op g) ≡ false")],
           c="(asked c k g)", conns="(put conns k (send_up (conns k) (ForAttach g) m n0))"),
     Event("Say", "a reply is on its way", "(k : ℕ) (y0 : Received)", [("stands", "(conns k).client_open ≡ true"), ("none", "copies (op_of y0.token) (conns k) ≡ 0"), ("on", "0 < op_of y0.token → c.on (op_of y0.token) ≡ Some k"),
            ("own", "(g : ℕ) → y0.token ≡ ForOp g → c.asking g ≡ false"), ("attach", "(g : ℕ) → y0.token ≡ ForAttach g → c.asking g ≡ true"), ("dialog", "op_of y0.token ≡ 0 → c.ready k ≡ false"),
-           ("sent", "(g : ℕ) → y0.token ≡ ForOp g → c.sent g ≡ true"), ("deleted", "(g : ℕ) → y0.token ≡ ForOp g → y0.reply.status ≡ user_session_deleted → c.before g ≡ false → a g ≡ 0")],
+           ("sent", "(g : ℕ) → y0.token ≡ ForOp g → c.sent g ≡ true"), ("deleted", "(g : ℕ) → y0.token ≡ ForOp g → acts_once (c.op g) ≡ true → y0.reply.status ≡ user_session_deleted → c.before g ≡ false → a g ≡ 0")],
           conns="(put conns k (record (conns k) { down = (conns k).down ++ y0 ∷ [] }))",
           parts={
               "own_down": "λ j n p y h. let old = i.own_down j n p y in let m = own p in " + PUSHED,
@@ -196,6 +210,11 @@ for event in EVENTS:
         event.parts["alone"] = "λ p q s1 s2 z e. let old = i.alone p q in let al = alone p in let al2 = alone q in grind arith"
 
 BEFORE = {
+    "Finished": """finished_off : (c : Client) (conns : ℕ → Conn) → c.live ≡ false → OnReady c → Ready c conns → (p : ℕ) (o : Option ℕ) → c.on p ≡ o → c.on p ≡ None
+finished_off c conns dead r l p None e = e
+finished_off c conns dead r l p (Some k) e = let on = r p k e in let live = l k on.0 in absurd (grind arith)
+
+""",
     "Opens": """request_of_create : (op : Op) (guid f1 f2 slot number : ℕ) → makes_open op ≡ true → its_request op guid f1 slot number ≡ its_request op guid f2 slot number
 unfolding makes_open its_request
 request_of_create op guid f1 f2 slot number e = grind arith

@@ -5,10 +5,10 @@ use Rattle.std.proofs.Common.{eqb-true, ◌≡◌, ◌≢◌, ℕ, ◌+◌, ◌�
 use Rattle.exchange_defs.specs.Table.{put, put2}
 use Rattle.exchange_defs.specs.Status.{user_session_deleted}
 use Rattle.exchange_defs.specs.State.{Message, Reply}
-use Rattle.exchange_defs.specs.Operations.{Op, Outcome, is_unsettled, is_ok, is_create, is_close, is_lock, create_of, holds_up, request_of}
-use Rattle.exchange_defs.specs.Client.{Client, Stage, create_for, guid_for, has_open, may_take, take_op, waits, take_slot, outstanding as put_out, asked, cut_channel, end_session}
+use Rattle.exchange_defs.specs.Operations.{Op, Outcome, Why, is_unsettled, is_ok, is_create, is_close, is_lock, create_of, holds_up, request_of}
+use Rattle.exchange_defs.specs.Client.{Client, Stage, create_for, guid_for, has_open, may_take, take_op, waits, take_slot, outstanding as put_out, asked, cut_channel, end_session, finish}
 use Rattle.exchange_defs.specs.Settling.{answered, joined, settled as settled_by}
-use Rattle.exchange_defs.specs.Dialogs.{open_channel, bound, readied, leave_dialog}
+use Rattle.exchange_defs.specs.Dialogs.{open_channel, went_on, accepted, bound, readied, leave_dialog, refused_dialog}
 use Rattle.exchange_defs.specs.Network.{Conn, Sent, Received, Token, ForDialog, ForOp, ForAttach, op_of, is_own, fresh as fresh_conn, server_off, client_off, send_up, behind_front, take_front}
 use Rattle.exchange_defs.specs.Runs.{is_once, is_send_of}
 use Rattle.exchange_law.specs.Connections.{Connections, copies, count_up, count_down, no_copy_out, is_bound, makes_open, shuts_open, acts_once, its_create, its_request, create_at, opens, Once, Outstanding, OwnUp, AttachUp, OwnDown, AttachDown, DownOpen, OnReady, Ready, Stages, Settled, Taken, TakenOn, Creates, Alone, HasOpen, AskedOpen, Fresh, Bodies, First, Unsent, SentReplies, Deleted}
@@ -92,7 +92,7 @@ absorb_bodies c conns a k x0 rest acted is i_bodies =
 
 absorb_first : (c : Client) (conns : ℕ → Conn) (a : ℕ → ℕ) (k : ℕ) (x0 : Sent) (rest : List Sent) (acted : Bool) → ((conns k).up ≡ x0 ∷ rest) → First c conns a → Bodies c conns → Once conns → Outstanding c conns → OwnUp c conns → Taken c → First c (put conns k (behind_front (conns k) rest)) (λ h. if is_send_of h x0.token && acted then a h + 1 else a h)
 absorb_first c conns a k x0 rest acted is i_first i_bodies i_once i_outstanding i_own_up i_taken =
-    λ j n p x h t b. let o = waited conns k x0 rest j n x is h in let f0 = front_up (conns k).up x0 rest is in let fst = i_first k 0 p x0 f0 in let kind = i_own_up k 0 p x0 f0 in let n0 = own_up_count p (conns k).up 0 x0 f0 in let u0 = i_outstanding k p in let bd = i_bodies k 0 p x0 f0 in let tk = i_taken p in let old = i_first j o.0 p x o.1 t b in let n1 = own_up_count p (conns j).up o.0 x o.1 t in let u1 = i_outstanding j p in let one = i_once k p in let n2 = own_up_count p (put conns k (behind_front (conns k) rest) j).up n x h t in grind arith
+    λ j n p x h t ao b. let o = waited conns k x0 rest j n x is h in let f0 = front_up (conns k).up x0 rest is in let fst = i_first k 0 p x0 f0 in let kind = i_own_up k 0 p x0 f0 in let n0 = own_up_count p (conns k).up 0 x0 f0 in let u0 = i_outstanding k p in let bd = i_bodies k 0 p x0 f0 in let tk = i_taken p in let old = i_first j o.0 p x o.1 t ao b in let n1 = own_up_count p (conns j).up o.0 x o.1 t in let u1 = i_outstanding j p in let one = i_once k p in let n2 = own_up_count p (put conns k (behind_front (conns k) rest) j).up n x h t in grind arith
 
 absorb_unsent : (c : Client) (conns : ℕ → Conn) (a : ℕ → ℕ) (k : ℕ) (x0 : Sent) (rest : List Sent) (acted : Bool) → ((conns k).up ≡ x0 ∷ rest) → Unsent c a → Bodies c conns → First c conns a → Outstanding c conns → OwnUp c conns → Taken c → Unsent c (λ h. if is_send_of h x0.token && acted then a h + 1 else a h)
 absorb_unsent c conns a k x0 rest acted is i_unsent i_bodies i_first i_outstanding i_own_up i_taken =
@@ -104,7 +104,7 @@ absorb_sent_replies c conns a k x0 rest acted is i_sent_replies =
 
 absorb_deleted : (c : Client) (conns : ℕ → Conn) (a : ℕ → ℕ) (k : ℕ) (x0 : Sent) (rest : List Sent) (acted : Bool) → ((conns k).up ≡ x0 ∷ rest) → Deleted c conns a → Bodies c conns → DownOpen conns → First c conns a → Once conns → Outstanding c conns → OwnUp c conns → Taken c → Deleted c (put conns k (behind_front (conns k) rest)) (λ h. if is_send_of h x0.token && acted then a h + 1 else a h)
 absorb_deleted c conns a k x0 rest acted is i_deleted i_bodies i_down_open i_first i_once i_outstanding i_own_up i_taken =
-    λ j n p y h t st b. let f0 = front_up (conns k).up x0 rest is in let fst = i_first k 0 p x0 f0 in let kind = i_own_up k 0 p x0 f0 in let n0 = own_up_count p (conns k).up 0 x0 f0 in let u0 = i_outstanding k p in let bd = i_bodies k 0 p x0 f0 in let tk = i_taken p in let h' : slice_get (conns j).down n ≡ Some y = grind arith in let old = i_deleted j n p y h' t st b in let n1 = own_down_count p (conns j).down n y h' t in let one = i_once k p in let u1 = i_outstanding j p in let dn = i_down_open j in grind arith
+    λ j n p y h t ao st b. let f0 = front_up (conns k).up x0 rest is in let fst = i_first k 0 p x0 f0 in let kind = i_own_up k 0 p x0 f0 in let n0 = own_up_count p (conns k).up 0 x0 f0 in let u0 = i_outstanding k p in let bd = i_bodies k 0 p x0 f0 in let tk = i_taken p in let h' : slice_get (conns j).down n ≡ Some y = grind arith in let old = i_deleted j n p y h' t ao st b in let n1 = own_down_count p (conns j).down n y h' t in let one = i_once k p in let u1 = i_outstanding j p in let dn = i_down_open j in grind arith
 
 pub absorb_keeps : (c : Client) (conns : ℕ → Conn) (a : ℕ → ℕ) (k : ℕ) (x0 : Sent) (rest : List Sent) (acted : Bool) → ((conns k).up ≡ x0 ∷ rest) → Connections c conns a → Connections c (put conns k (behind_front (conns k) rest)) (λ h. if is_send_of h x0.token && acted then a h + 1 else a h)
 absorb_keeps c conns a k x0 rest acted is i =

@@ -9,7 +9,9 @@ pub mod TakeSlot
 pub mod Start
 pub mod Absorb
 pub mod Behind
-pub mod Staged
+pub mod WentOn
+pub mod Accepted
+pub mod DialogRefused
 pub mod DialogSent
 pub mod Bound
 pub mod Readied
@@ -18,7 +20,13 @@ pub mod Cut
 pub mod Leave
 pub mod Answered
 pub mod Opens
+pub mod Joined
+pub mod Shuts
+pub mod Fills
+pub mod Retried
+pub mod Finished
 pub mod Settle
 pub mod Send
 pub mod Ask
 pub mod Say
+pub mod Facts

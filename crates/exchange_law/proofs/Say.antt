@@ -5,10 +5,10 @@ use Rattle.std.proofs.Common.{eqb-true, ◌≡◌, ◌≢◌, ℕ, ◌+◌, ◌�
 use Rattle.exchange_defs.specs.Table.{put, put2}
 use Rattle.exchange_defs.specs.Status.{user_session_deleted}
 use Rattle.exchange_defs.specs.State.{Message, Reply}
-use Rattle.exchange_defs.specs.Operations.{Op, Outcome, is_unsettled, is_ok, is_create, is_close, is_lock, create_of, holds_up, request_of}
-use Rattle.exchange_defs.specs.Client.{Client, Stage, create_for, guid_for, has_open, may_take, take_op, waits, take_slot, outstanding as put_out, asked, cut_channel, end_session}
+use Rattle.exchange_defs.specs.Operations.{Op, Outcome, Why, is_unsettled, is_ok, is_create, is_close, is_lock, create_of, holds_up, request_of}
+use Rattle.exchange_defs.specs.Client.{Client, Stage, create_for, guid_for, has_open, may_take, take_op, waits, take_slot, outstanding as put_out, asked, cut_channel, end_session, finish}
 use Rattle.exchange_defs.specs.Settling.{answered, joined, settled as settled_by}
-use Rattle.exchange_defs.specs.Dialogs.{open_channel, bound, readied, leave_dialog}
+use Rattle.exchange_defs.specs.Dialogs.{open_channel, went_on, accepted, bound, readied, leave_dialog, refused_dialog}
 use Rattle.exchange_defs.specs.Network.{Conn, Sent, Received, Token, ForDialog, ForOp, ForAttach, op_of, is_own, fresh as fresh_conn, server_off, client_off, send_up, behind_front, take_front}
 use Rattle.exchange_defs.specs.Runs.{is_once, is_send_of}
 use Rattle.exchange_law.specs.Connections.{Connections, copies, count_up, count_down, no_copy_out, is_bound, makes_open, shuts_open, acts_once, its_create, its_request, create_at, opens, Once, Outstanding, OwnUp, AttachUp, OwnDown, AttachDown, DownOpen, OnReady, Ready, Stages, Settled, Taken, TakenOn, Creates, Alone, HasOpen, AskedOpen, Fresh, Bodies, First, Unsent, SentReplies, Deleted}
@@ -102,11 +102,11 @@ say_sent_replies : (c : Client) (conns : ℕ → Conn) (a : ℕ → ℕ) (k : �
 say_sent_replies c conns a k y0 stands none sent i_sent_replies =
     λ j n p y. let old = i_sent_replies j n p y in let m = sent p in grind (arith, get-push)
 
-say_deleted : (c : Client) (conns : ℕ → Conn) (a : ℕ → ℕ) (k : ℕ) (y0 : Received) → ((conns k).client_open ≡ true) → (copies (op_of y0.token) (conns k) ≡ 0) → ((g : ℕ) → y0.token ≡ ForOp g → y0.reply.status ≡ user_session_deleted → c.before g ≡ false → a g ≡ 0) → Deleted c conns a → Deleted c (put conns k (record (conns k) { down = (conns k).down ++ y0 ∷ [] })) a
+say_deleted : (c : Client) (conns : ℕ → Conn) (a : ℕ → ℕ) (k : ℕ) (y0 : Received) → ((conns k).client_open ≡ true) → (copies (op_of y0.token) (conns k) ≡ 0) → ((g : ℕ) → y0.token ≡ ForOp g → acts_once (c.op g) ≡ true → y0.reply.status ≡ user_session_deleted → c.before g ≡ false → a g ≡ 0) → Deleted c conns a → Deleted c (put conns k (record (conns k) { down = (conns k).down ++ y0 ∷ [] })) a
 say_deleted c conns a k y0 stands none deleted i_deleted =
     λ j n p y. let old = i_deleted j n p y in let m = deleted p in grind (arith, get-push)
 
-pub say_keeps : (c : Client) (conns : ℕ → Conn) (a : ℕ → ℕ) (k : ℕ) (y0 : Received) → ((conns k).client_open ≡ true) → (copies (op_of y0.token) (conns k) ≡ 0) → (0 < op_of y0.token → c.on (op_of y0.token) ≡ Some k) → ((g : ℕ) → y0.token ≡ ForOp g → c.asking g ≡ false) → ((g : ℕ) → y0.token ≡ ForAttach g → c.asking g ≡ true) → (op_of y0.token ≡ 0 → c.ready k ≡ false) → ((g : ℕ) → y0.token ≡ ForOp g → c.sent g ≡ true) → ((g : ℕ) → y0.token ≡ ForOp g → y0.reply.status ≡ user_session_deleted → c.before g ≡ false → a g ≡ 0) → Connections c conns a → Connections c (put conns k (record (conns k) { down = (conns k).down ++ y0 ∷ [] })) a
+pub say_keeps : (c : Client) (conns : ℕ → Conn) (a : ℕ → ℕ) (k : ℕ) (y0 : Received) → ((conns k).client_open ≡ true) → (copies (op_of y0.token) (conns k) ≡ 0) → (0 < op_of y0.token → c.on (op_of y0.token) ≡ Some k) → ((g : ℕ) → y0.token ≡ ForOp g → c.asking g ≡ false) → ((g : ℕ) → y0.token ≡ ForAttach g → c.asking g ≡ true) → (op_of y0.token ≡ 0 → c.ready k ≡ false) → ((g : ℕ) → y0.token ≡ ForOp g → c.sent g ≡ true) → ((g : ℕ) → y0.token ≡ ForOp g → acts_once (c.op g) ≡ true → y0.reply.status ≡ user_session_deleted → c.before g ≡ false → a g ≡ 0) → Connections c conns a → Connections c (put conns k (record (conns k) { down = (conns k).down ++ y0 ∷ [] })) a
 say_keeps c conns a k y0 stands none on own attach dialog sent deleted i =
     record {
       once = say_once c conns a k y0 stands none i.once;

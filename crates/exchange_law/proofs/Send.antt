@@ -5,10 +5,10 @@ use Rattle.std.proofs.Common.{eqb-true, ◌≡◌, ◌≢◌, ℕ, ◌+◌, ◌�
 use Rattle.exchange_defs.specs.Table.{put, put2}
 use Rattle.exchange_defs.specs.Status.{user_session_deleted}
 use Rattle.exchange_defs.specs.State.{Message, Reply}
-use Rattle.exchange_defs.specs.Operations.{Op, Outcome, is_unsettled, is_ok, is_create, is_close, is_lock, create_of, holds_up, request_of}
-use Rattle.exchange_defs.specs.Client.{Client, Stage, create_for, guid_for, has_open, may_take, take_op, waits, take_slot, outstanding as put_out, asked, cut_channel, end_session}
+use Rattle.exchange_defs.specs.Operations.{Op, Outcome, Why, is_unsettled, is_ok, is_create, is_close, is_lock, create_of, holds_up, request_of}
+use Rattle.exchange_defs.specs.Client.{Client, Stage, create_for, guid_for, has_open, may_take, take_op, waits, take_slot, outstanding as put_out, asked, cut_channel, end_session, finish}
 use Rattle.exchange_defs.specs.Settling.{answered, joined, settled as settled_by}
-use Rattle.exchange_defs.specs.Dialogs.{open_channel, bound, readied, leave_dialog}
+use Rattle.exchange_defs.specs.Dialogs.{open_channel, went_on, accepted, bound, readied, leave_dialog, refused_dialog}
 use Rattle.exchange_defs.specs.Network.{Conn, Sent, Received, Token, ForDialog, ForOp, ForAttach, op_of, is_own, fresh as fresh_conn, server_off, client_off, send_up, behind_front, take_front}
 use Rattle.exchange_defs.specs.Runs.{is_once, is_send_of}
 use Rattle.exchange_law.specs.Connections.{Connections, copies, count_up, count_down, no_copy_out, is_bound, makes_open, shuts_open, acts_once, its_create, its_request, create_at, opens, Once, Outstanding, OwnUp, AttachUp, OwnDown, AttachDown, DownOpen, OnReady, Ready, Stages, Settled, Taken, TakenOn, Creates, Alone, HasOpen, AskedOpen, Fresh, Bodies, First, Unsent, SentReplies, Deleted}
@@ -90,7 +90,7 @@ send_bodies : (c : Client) (conns : ℕ → Conn) (a : ℕ → ℕ) (k g n0 : �
 send_bodies c conns a k g n0 m ready none above within pending may sent body who fault i_bodies =
     λ j n p x. let old = i_bodies j n p x in grind (arith, get-push)
 
-send_first : (c : Client) (conns : ℕ → Conn) (a : ℕ → ℕ) (k g n0 : ℕ) (m : Message) → (c.ready k ≡ true) → (c.on g ≡ None) → (0 < g) → (g ≤ c.taken) → (is_unsettled (c.outcome g) ≡ true) → (opens c g ≡ true) → (c.sent g ≡ true) → (m.command ≡ its_request (c.op g) (guid_for c g) (c.file (create_at c g)) (c.slot_of g) (c.number_of g)) → (m.client ≡ c.who.guid) → (m.fault ≡ None) → (c.before g ≡ false → a g ≡ 0) → First c conns a → Ready c conns → First (put_out c k g) (put conns k (send_up (conns k) (ForOp g) m n0)) a
+send_first : (c : Client) (conns : ℕ → Conn) (a : ℕ → ℕ) (k g n0 : ℕ) (m : Message) → (c.ready k ≡ true) → (c.on g ≡ None) → (0 < g) → (g ≤ c.taken) → (is_unsettled (c.outcome g) ≡ true) → (opens c g ≡ true) → (c.sent g ≡ true) → (m.command ≡ its_request (c.op g) (guid_for c g) (c.file (create_at c g)) (c.slot_of g) (c.number_of g)) → (m.client ≡ c.who.guid) → (m.fault ≡ None) → (acts_once (c.op g) ≡ true → c.before g ≡ false → a g ≡ 0) → First c conns a → Ready c conns → First (put_out c k g) (put conns k (send_up (conns k) (ForOp g) m n0)) a
 send_first c conns a k g n0 m ready none above within pending may sent body who fault idle i_first i_ready =
     λ j n p x. let old = i_first j n p x in let q = idle in let r = i_ready k ready in grind (arith, get-push)
 
@@ -106,7 +106,7 @@ send_deleted : (c : Client) (conns : ℕ → Conn) (a : ℕ → ℕ) (k g n0 : �
 send_deleted c conns a k g n0 m ready none above within pending may sent body who fault i_deleted =
     λ j n p y. let old = i_deleted j n p y in grind (arith, get-push)
 
-pub send_keeps : (c : Client) (conns : ℕ → Conn) (a : ℕ → ℕ) (k g n0 : ℕ) (m : Message) → (c.ready k ≡ true) → (c.on g ≡ None) → (0 < g) → (g ≤ c.taken) → (is_unsettled (c.outcome g) ≡ true) → (opens c g ≡ true) → ((h : ℕ) → is_some (c.on h) ≡ true → create_at c h ≡ create_at c g → shuts_open (c.op h) ≡ false × shuts_open (c.op g) ≡ false) → (c.sent g ≡ true) → (m.command ≡ its_request (c.op g) (guid_for c g) (c.file (create_at c g)) (c.slot_of g) (c.number_of g)) → (m.client ≡ c.who.guid) → (m.fault ≡ None) → (c.before g ≡ false → a g ≡ 0) → Connections c conns a → Connections (put_out c k g) (put conns k (send_up (conns k) (ForOp g) m n0)) a
+pub send_keeps : (c : Client) (conns : ℕ → Conn) (a : ℕ → ℕ) (k g n0 : ℕ) (m : Message) → (c.ready k ≡ true) → (c.on g ≡ None) → (0 < g) → (g ≤ c.taken) → (is_unsettled (c.outcome g) ≡ true) → (opens c g ≡ true) → ((h : ℕ) → is_some (c.on h) ≡ true → create_at c h ≡ create_at c g → shuts_open (c.op h) ≡ false × shuts_open (c.op g) ≡ false) → (c.sent g ≡ true) → (m.command ≡ its_request (c.op g) (guid_for c g) (c.file (create_at c g)) (c.slot_of g) (c.number_of g)) → (m.client ≡ c.who.guid) → (m.fault ≡ None) → (acts_once (c.op g) ≡ true → c.before g ≡ false → a g ≡ 0) → Connections c conns a → Connections (put_out c k g) (put conns k (send_up (conns k) (ForOp g) m n0)) a
 send_keeps c conns a k g n0 m ready none above within pending may alone sent body who fault idle i =
     record {
       once = send_once c conns a k g n0 m ready none above within pending may sent body who fault i.once i.outstanding i.ready;

@@ -5,10 +5,10 @@ use Rattle.std.proofs.Common.{eqb-true, ◌≡◌, ◌≢◌, ℕ, ◌+◌, ◌�
 use Rattle.exchange_defs.specs.Table.{put, put2}
 use Rattle.exchange_defs.specs.Status.{user_session_deleted}
 use Rattle.exchange_defs.specs.State.{Message, Reply}
-use Rattle.exchange_defs.specs.Operations.{Op, Outcome, is_unsettled, is_ok, is_create, is_close, is_lock, create_of, holds_up, request_of}
-use Rattle.exchange_defs.specs.Client.{Client, Stage, create_for, guid_for, has_open, may_take, take_op, waits, take_slot, outstanding as put_out, asked, cut_channel, end_session}
+use Rattle.exchange_defs.specs.Operations.{Op, Outcome, Why, is_unsettled, is_ok, is_create, is_close, is_lock, create_of, holds_up, request_of}
+use Rattle.exchange_defs.specs.Client.{Client, Stage, create_for, guid_for, has_open, may_take, take_op, waits, take_slot, outstanding as put_out, asked, cut_channel, end_session, finish}
 use Rattle.exchange_defs.specs.Settling.{answered, joined, settled as settled_by}
-use Rattle.exchange_defs.specs.Dialogs.{open_channel, bound, readied, leave_dialog}
+use Rattle.exchange_defs.specs.Dialogs.{open_channel, went_on, accepted, bound, readied, leave_dialog, refused_dialog}
 use Rattle.exchange_defs.specs.Network.{Conn, Sent, Received, Token, ForDialog, ForOp, ForAttach, op_of, is_own, fresh as fresh_conn, server_off, client_off, send_up, behind_front, take_front}
 use Rattle.exchange_defs.specs.Runs.{is_once, is_send_of}
 use Rattle.exchange_law.specs.Connections.{Connections, copies, count_up, count_down, no_copy_out, is_bound, makes_open, shuts_open, acts_once, its_create, its_request, create_at, opens, Once, Outstanding, OwnUp, AttachUp, OwnDown, AttachDown, DownOpen, OnReady, Ready, Stages, Settled, Taken, TakenOn, Creates, Alone, HasOpen, AskedOpen, Fresh, Bodies, First, Unsent, SentReplies, Deleted}
@@ -90,9 +90,9 @@ submit_bodies : (c : Client) (conns : ℕ → Conn) (a : ℕ → ℕ) (g : ℕ) 
 submit_bodies c conns a g op out next i_bodies i_creates i_taken =
     λ j n p x h t. let old = i_bodies j n p x h t in let tk = i_taken p old.0 in let cr = i_creates p tk.0 tk.1 in grind arith
 
-submit_first : (c : Client) (conns : ℕ → Conn) (a : ℕ → ℕ) (g : ℕ) (op : Op) (out : Outcome) → (g ≡ c.taken + 1) → First c conns a → First (record c { taken = g; op = put c.op g op; outcome = put c.outcome g out }) conns a
-submit_first c conns a g op out next i_first =
-    λ j n p x. let old = i_first j n p x in grind (arith, get-push)
+submit_first : (c : Client) (conns : ℕ → Conn) (a : ℕ → ℕ) (g : ℕ) (op : Op) (out : Outcome) → (g ≡ c.taken + 1) → First c conns a → Bodies c conns → Taken c → First (record c { taken = g; op = put c.op g op; outcome = put c.outcome g out }) conns a
+submit_first c conns a g op out next i_first i_bodies i_taken =
+    λ j n p x h t. let old = i_first j n p x h t in let b = i_bodies j n p x h t in let tk = i_taken p b.0 in grind arith
 
 submit_unsent : (c : Client) (conns : ℕ → Conn) (a : ℕ → ℕ) (g : ℕ) (op : Op) (out : Outcome) → (g ≡ c.taken + 1) → Unsent c a → Fresh c a → Taken c → Unsent (record c { taken = g; op = put c.op g op; outcome = put c.outcome g out }) a
 submit_unsent c conns a g op out next i_unsent i_fresh i_taken =
@@ -102,9 +102,9 @@ submit_sent_replies : (c : Client) (conns : ℕ → Conn) (a : ℕ → ℕ) (g :
 submit_sent_replies c conns a g op out next i_sent_replies =
     λ j n p y. let old = i_sent_replies j n p y in grind (arith, get-push)
 
-submit_deleted : (c : Client) (conns : ℕ → Conn) (a : ℕ → ℕ) (g : ℕ) (op : Op) (out : Outcome) → (g ≡ c.taken + 1) → Deleted c conns a → Deleted (record c { taken = g; op = put c.op g op; outcome = put c.outcome g out }) conns a
-submit_deleted c conns a g op out next i_deleted =
-    λ j n p y. let old = i_deleted j n p y in grind (arith, get-push)
+submit_deleted : (c : Client) (conns : ℕ → Conn) (a : ℕ → ℕ) (g : ℕ) (op : Op) (out : Outcome) → (g ≡ c.taken + 1) → Deleted c conns a → SentReplies c conns → Taken c → Deleted (record c { taken = g; op = put c.op g op; outcome = put c.outcome g out }) conns a
+submit_deleted c conns a g op out next i_deleted i_sent_replies i_taken =
+    λ j n p y h t. let old = i_deleted j n p y h t in let b = i_sent_replies j n p y h t in let tk = i_taken p b in grind arith
 
 pub submit_keeps : (c : Client) (conns : ℕ → Conn) (a : ℕ → ℕ) (g : ℕ) (op : Op) (out : Outcome) → (g ≡ c.taken + 1) → (makes_open op ≡ false → 0 < its_create g op × its_create g op < g × makes_open (c.op (its_create g op)) ≡ true) → Connections c conns a → Connections (record c { taken = g; op = put c.op g op; outcome = put c.outcome g out }) conns a
 submit_keeps c conns a g op out next create i =
@@ -128,8 +128,8 @@ submit_keeps c conns a g op out next create i =
       asked_open = submit_asked_open c conns a g op out next i.asked_open i.creates i.taken_on;
       fresh = submit_fresh c conns a g op out next i.fresh;
       bodies = submit_bodies c conns a g op out next i.bodies i.creates i.taken;
-      first = submit_first c conns a g op out next i.first;
+      first = submit_first c conns a g op out next i.first i.bodies i.taken;
       unsent = submit_unsent c conns a g op out next i.unsent i.fresh i.taken;
       sent_replies = submit_sent_replies c conns a g op out next i.sent_replies;
-      deleted = submit_deleted c conns a g op out next i.deleted;
+      deleted = submit_deleted c conns a g op out next i.deleted i.sent_replies i.taken;
     }

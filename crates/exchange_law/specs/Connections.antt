@@ -124,9 +124,9 @@ abbrev pub Bodies : Client → (ℕ → Conn) → Type 0
 Bodies c conns = (k n g : ℕ) (x : Sent) → slice_get (conns k).up n ≡ Some x → x.token ≡ ForOp g
     → c.sent g ≡ true × x.message.command ≡ its_request (c.op g) (guid_for c g) (c.file (create_at c g)) (c.slot_of g) (c.number_of g) × x.message.client ≡ c.who.guid × x.message.fault ≡ None
 
--- an operation without an unanswered copy, of which a copy waits, hasn't acted
+-- a create, lock or unlock without an unanswered copy, of which a copy waits, hasn't acted
 abbrev pub First : Client → (ℕ → Conn) → (ℕ → ℕ) → Type 0
-First c conns a = (k n g : ℕ) (x : Sent) → slice_get (conns k).up n ≡ Some x → x.token ≡ ForOp g → c.before g ≡ false → (conns k).client_open ≡ true × a g ≡ 0
+First c conns a = (k n g : ℕ) (x : Sent) → slice_get (conns k).up n ≡ Some x → x.token ≡ ForOp g → acts_once (c.op g) ≡ true → c.before g ≡ false → (conns k).client_open ≡ true × a g ≡ 0
 
 abbrev pub Unsent : Client → (ℕ → ℕ) → Type 0
 Unsent c a = (g : ℕ) → acts_once (c.op g) ≡ true → c.before g ≡ false → no_copy_out c g ≡ true → is_unsettled (c.outcome g) ≡ true → a g ≡ 0
@@ -136,7 +136,7 @@ SentReplies c conns = (k n g : ℕ) (y : Received) → slice_get (conns k).down 
 
 -- a copy whose session was gone didn't act
 abbrev pub Deleted : Client → (ℕ → Conn) → (ℕ → ℕ) → Type 0
-Deleted c conns a = (k n g : ℕ) (y : Received) → slice_get (conns k).down n ≡ Some y → y.token ≡ ForOp g → y.reply.status ≡ user_session_deleted → c.before g ≡ false → a g ≡ 0
+Deleted c conns a = (k n g : ℕ) (y : Received) → slice_get (conns k).down n ≡ Some y → y.token ≡ ForOp g → acts_once (c.op g) ≡ true → y.reply.status ≡ user_session_deleted → c.before g ≡ false → a g ≡ 0
 
 pub record Connections (c : Client) (conns : ℕ → Conn) (a : ℕ → ℕ) : Type 0 where
   pub once : Once conns
