@@ -26,7 +26,7 @@ PARTS = {
     "taken": ("c", "p", False),
     "taken_on": ("c", "p", False),
     "creates": ("c", "p", False),
-    "alone": ("c", "p q", False),
+    "lower": ("c", "p q", False),
     "has_open": ("c", "p", False),
     "asked_open": ("c", "p", False),
     "fresh": ("c a", "p", False),
@@ -95,7 +95,7 @@ EVENTS = [
               "creates": "λ p l m. let old = i.creates p l in let cr = create in grind arith",
               "has_open": "λ p s. let t = i.taken p s in let cr = i.creates p t.0 t.1 in let old = i.has_open p s in grind arith",
               "asked_open": "λ p s. let t = i.taken_on p s in let cr = i.creates p t.0 t.1 in let old = i.asked_open p s in grind arith",
-              "alone": "λ p q s t. let tp = i.taken_on p s in let tq = i.taken_on q t in let old = i.alone p q s t in grind arith",
+              "lower": "λ p q s l m. let t = i.taken_on p s in let old = i.lower p q s l m in grind arith",
               "settled": "λ p. let old = i.settled p in let t = i.taken_on p in grind arith",
               "bodies": "λ j n p x h t. let old = i.bodies j n p x h t in let tk = i.taken p old.0 in let cr = i.creates p tk.0 tk.1 in grind arith",
               "unsent": "λ p. let old = i.unsent p in let f = i.fresh p in let t = i.taken p in grind arith",
@@ -114,6 +114,7 @@ EVENTS = [
               "has_open": "λ p. let old = i.has_open p in let s = same (create_at c p) in grind arith",
               "asked_open": "λ p. let old = i.asked_open p in let s = same (create_at c p) in grind arith",
               "settled": "still",
+              "lower": "λ p q s l m e h. let old = i.lower p q s l m e h in let st = same q old in grind arith",
               "unsent": "λ p. let old = i.unsent p in let s = same p in let u = still p in grind arith",
           }),
     Event("TakeSlot", "a lock takes a slot", "(g s : ℕ)", [("new", "c.sent g ≡ false")], c="(take_slot c g s)"),
@@ -179,12 +180,12 @@ EVENTS = [
           }),
     Event("Send", "an operation goes out itself", "(k g n0 : ℕ) (m : Message)",
           [("ready", "c.ready k ≡ true"), ("none", "c.on g ≡ None"), ("above", "0 < g"), ("within", "g ≤ c.taken"), ("pending", "is_unsettled (c.outcome g) ≡ true"), ("may", "opens c g ≡ true"),
-           ("alone", "(h : ℕ) → is_some (c.on h) ≡ true → create_at c h ≡ create_at c g → shuts_open (c.op h) ≡ false × shuts_open (c.op g) ≡ false"),
+           ("lower", "(n : ℕ) → 0 < n → n < g → create_at c n ≡ create_at c g → (shuts_open (c.op g) || shuts_open (c.op n)) ≡ true → is_unsettled (c.outcome n) ≡ false"),
            ("sent", "c.sent g ≡ true"), ("body", "m.command ≡ its_request (c.op g) (guid_for c g) (c.file (create_at c g)) (c.slot_of g) (c.number_of g)"),
            ("who", "m.client ≡ c.who.guid"), ("fault", "m.fault ≡ None"), ("idle", "acts_once (c.op g) ≡ true → c.before g ≡ false → a g ≡ 0")],
           c="(put_out c k g)", conns="(put conns k (send_up (conns k) (ForOp g) m n0))"),
     Event("Ask", "a DH2C goes out in an operation's place", "(k g n0 : ℕ) (m : Message)", [("ready", "c.ready k ≡ true"), ("none", "c.on g ≡ None"), ("above", "0 < g"), ("within", "g ≤ c.taken"), ("pending", "is_unsettled (c.outcome g) ≡ true"), ("may", "opens c g ≡ true"),
-           ("alone", "(h : ℕ) → is_some (c.on h) ≡ true → create_at c h ≡ create_at c g → shuts_open (c.op h) ≡ false × shuts_open (c.op g) ≡ false")],
+           ("lower", "(n : ℕ) → 0 < n → n < g → create_at c n ≡ create_at c g → (shuts_open (c.op g) || shuts_open (c.op n)) ≡ true → is_unsettled (c.outcome n) ≡ false")],
           c="(asked c k g)", conns="(put conns k (send_up (conns k) (ForAttach g) m n0))"),
     Event("Say", "a reply is on its way", "(k : ℕ) (y0 : Received)", [("stands", "(conns k).client_open ≡ true"), ("none", "copies (op_of y0.token) (conns k) ≡ 0"), ("on", "0 < op_of y0.token → c.on (op_of y0.token) ≡ Some k"),
            ("own", "(g : ℕ) → y0.token ≡ ForOp g → c.asking g ≡ false"), ("attach", "(g : ℕ) → y0.token ≡ ForAttach g → c.asking g ≡ true"), ("dialog", "op_of y0.token ≡ 0 → c.ready k ≡ false"),
@@ -207,7 +208,7 @@ for event in EVENTS:
         event.parts["once"] = "λ j p. let old = i.once j p in let u = i.outstanding j p in let r = i.ready k ready in " + COUNTS
         if event.name == "Send":
             event.parts["first"] = "λ j n p x. let old = i.first j n p x in let q = idle in let r = i.ready k ready in grind (arith, get-push)"
-        event.parts["alone"] = "λ p q s1 s2 z e. let old = i.alone p q in let al = alone p in let al2 = alone q in grind arith"
+        event.parts["lower"] = "λ p q. let old = i.lower p q in let l = lower q in grind arith"
 
 BEFORE = {
     "Finished": """finished_off : (c : Client) (conns : ℕ → Conn) → c.live ≡ false → OnReady c → Ready c conns → (p : ℕ) (o : Option ℕ) → c.on p ≡ o → c.on p ≡ None

@@ -11,7 +11,7 @@ use Rattle.exchange_defs.specs.Settling.{answered, joined, settled as settled_by
 use Rattle.exchange_defs.specs.Dialogs.{open_channel, went_on, accepted, bound, readied, leave_dialog, refused_dialog}
 use Rattle.exchange_defs.specs.Network.{Conn, Sent, Received, Token, ForDialog, ForOp, ForAttach, op_of, is_own, fresh as fresh_conn, server_off, client_off, send_up, behind_front, take_front}
 use Rattle.exchange_defs.specs.Runs.{is_once, is_send_of}
-use Rattle.exchange_law.specs.Connections.{Connections, copies, count_up, count_down, no_copy_out, is_bound, makes_open, shuts_open, acts_once, its_create, its_request, create_at, opens, Once, Outstanding, OwnUp, AttachUp, OwnDown, AttachDown, DownOpen, OnReady, Ready, Stages, Settled, Taken, TakenOn, Creates, Alone, HasOpen, AskedOpen, Fresh, Bodies, First, Unsent, SentReplies, Deleted}
+use Rattle.exchange_law.specs.Connections.{Connections, copies, count_up, count_down, no_copy_out, is_bound, makes_open, shuts_open, acts_once, its_create, its_request, create_at, opens, Once, Outstanding, OwnUp, AttachUp, OwnDown, AttachDown, DownOpen, OnReady, Ready, Stages, Settled, Taken, TakenOn, Creates, Lower, HasOpen, AskedOpen, Fresh, Bodies, First, Unsent, SentReplies, Deleted}
 use Rattle.exchange_law.proofs.Lists.{get-push, count_up-push, count_down-push, counted_up, counted_down, rest_of, own_up_count, attach_up_count, own_down_count, attach_down_count, front_up, front_down, waited, waited_down}
 
 absorb_once : (c : Client) (conns : ℕ → Conn) (a : ℕ → ℕ) (k : ℕ) (x0 : Sent) (rest : List Sent) (acted : Bool) → ((conns k).up ≡ x0 ∷ rest) → Once conns → Once (put conns k (behind_front (conns k) rest))
@@ -70,9 +70,9 @@ absorb_creates : (c : Client) (conns : ℕ → Conn) (a : ℕ → ℕ) (k : ℕ)
 absorb_creates c conns a k x0 rest acted is i_creates =
     λ p. let old = i_creates p in grind arith
 
-absorb_alone : (c : Client) (conns : ℕ → Conn) (a : ℕ → ℕ) (k : ℕ) (x0 : Sent) (rest : List Sent) (acted : Bool) → ((conns k).up ≡ x0 ∷ rest) → Alone c → Alone c
-absorb_alone c conns a k x0 rest acted is i_alone =
-    λ p q. let old = i_alone p q in grind arith
+absorb_lower : (c : Client) (conns : ℕ → Conn) (a : ℕ → ℕ) (k : ℕ) (x0 : Sent) (rest : List Sent) (acted : Bool) → ((conns k).up ≡ x0 ∷ rest) → Lower c → Lower c
+absorb_lower c conns a k x0 rest acted is i_lower =
+    λ p q. let old = i_lower p q in grind arith
 
 absorb_has_open : (c : Client) (conns : ℕ → Conn) (a : ℕ → ℕ) (k : ℕ) (x0 : Sent) (rest : List Sent) (acted : Bool) → ((conns k).up ≡ x0 ∷ rest) → HasOpen c → HasOpen c
 absorb_has_open c conns a k x0 rest acted is i_has_open =
@@ -123,7 +123,7 @@ absorb_keeps c conns a k x0 rest acted is i =
       taken = absorb_taken c conns a k x0 rest acted is i.taken;
       taken_on = absorb_taken_on c conns a k x0 rest acted is i.taken_on;
       creates = absorb_creates c conns a k x0 rest acted is i.creates;
-      alone = absorb_alone c conns a k x0 rest acted is i.alone;
+      lower = absorb_lower c conns a k x0 rest acted is i.lower;
       has_open = absorb_has_open c conns a k x0 rest acted is i.has_open;
       asked_open = absorb_asked_open c conns a k x0 rest acted is i.asked_open;
       fresh = absorb_fresh c conns a k x0 rest acted is i.fresh i.bodies;

@@ -11,7 +11,7 @@ use Rattle.exchange_defs.specs.Settling.{answered, joined, settled as settled_by
 use Rattle.exchange_defs.specs.Dialogs.{open_channel, went_on, accepted, bound, readied, leave_dialog, refused_dialog}
 use Rattle.exchange_defs.specs.Network.{Conn, Sent, Received, Token, ForDialog, ForOp, ForAttach, op_of, is_own, fresh as fresh_conn, server_off, client_off, send_up, behind_front, take_front}
 use Rattle.exchange_defs.specs.Runs.{is_once, is_send_of}
-use Rattle.exchange_law.specs.Connections.{Connections, copies, count_up, count_down, no_copy_out, is_bound, makes_open, shuts_open, acts_once, its_create, its_request, create_at, opens, Once, Outstanding, OwnUp, AttachUp, OwnDown, AttachDown, DownOpen, OnReady, Ready, Stages, Settled, Taken, TakenOn, Creates, Alone, HasOpen, AskedOpen, Fresh, Bodies, First, Unsent, SentReplies, Deleted}
+use Rattle.exchange_law.specs.Connections.{Connections, copies, count_up, count_down, no_copy_out, is_bound, makes_open, shuts_open, acts_once, its_create, its_request, create_at, opens, Once, Outstanding, OwnUp, AttachUp, OwnDown, AttachDown, DownOpen, OnReady, Ready, Stages, Settled, Taken, TakenOn, Creates, Lower, HasOpen, AskedOpen, Fresh, Bodies, First, Unsent, SentReplies, Deleted}
 use Rattle.exchange_law.proofs.Lists.{get-push, count_up-push, count_down-push, counted_up, counted_down, rest_of, own_up_count, attach_up_count, own_down_count, attach_down_count, front_up, front_down, waited, waited_down}
 
 ask_once : (c : Client) (conns : ℕ → Conn) (a : ℕ → ℕ) (k g n0 : ℕ) (m : Message) → (c.ready k ≡ true) → (c.on g ≡ None) → (0 < g) → (g ≤ c.taken) → (is_unsettled (c.outcome g) ≡ true) → (opens c g ≡ true) → Once conns → Outstanding c conns → Ready c conns → Once (put conns k (send_up (conns k) (ForAttach g) m n0))
@@ -70,9 +70,9 @@ ask_creates : (c : Client) (conns : ℕ → Conn) (a : ℕ → ℕ) (k g n0 : �
 ask_creates c conns a k g n0 m ready none above within pending may i_creates =
     λ p. let old = i_creates p in grind arith
 
-ask_alone : (c : Client) (conns : ℕ → Conn) (a : ℕ → ℕ) (k g n0 : ℕ) (m : Message) → (c.ready k ≡ true) → (c.on g ≡ None) → (0 < g) → (g ≤ c.taken) → (is_unsettled (c.outcome g) ≡ true) → (opens c g ≡ true) → ((h : ℕ) → is_some (c.on h) ≡ true → create_at c h ≡ create_at c g → shuts_open (c.op h) ≡ false × shuts_open (c.op g) ≡ false) → Alone c → Alone (asked c k g)
-ask_alone c conns a k g n0 m ready none above within pending may alone i_alone =
-    λ p q s1 s2 z e. let old = i_alone p q in let al = alone p in let al2 = alone q in grind arith
+ask_lower : (c : Client) (conns : ℕ → Conn) (a : ℕ → ℕ) (k g n0 : ℕ) (m : Message) → (c.ready k ≡ true) → (c.on g ≡ None) → (0 < g) → (g ≤ c.taken) → (is_unsettled (c.outcome g) ≡ true) → (opens c g ≡ true) → ((n : ℕ) → 0 < n → n < g → create_at c n ≡ create_at c g → (shuts_open (c.op g) || shuts_open (c.op n)) ≡ true → is_unsettled (c.outcome n) ≡ false) → Lower c → Lower (asked c k g)
+ask_lower c conns a k g n0 m ready none above within pending may lower i_lower =
+    λ p q. let old = i_lower p q in let l = lower q in grind arith
 
 ask_has_open : (c : Client) (conns : ℕ → Conn) (a : ℕ → ℕ) (k g n0 : ℕ) (m : Message) → (c.ready k ≡ true) → (c.on g ≡ None) → (0 < g) → (g ≤ c.taken) → (is_unsettled (c.outcome g) ≡ true) → (opens c g ≡ true) → HasOpen c → HasOpen (asked c k g)
 ask_has_open c conns a k g n0 m ready none above within pending may i_has_open =
@@ -106,8 +106,8 @@ ask_deleted : (c : Client) (conns : ℕ → Conn) (a : ℕ → ℕ) (k g n0 : �
 ask_deleted c conns a k g n0 m ready none above within pending may i_deleted =
     λ j n p y. let old = i_deleted j n p y in grind (arith, get-push)
 
-pub ask_keeps : (c : Client) (conns : ℕ → Conn) (a : ℕ → ℕ) (k g n0 : ℕ) (m : Message) → (c.ready k ≡ true) → (c.on g ≡ None) → (0 < g) → (g ≤ c.taken) → (is_unsettled (c.outcome g) ≡ true) → (opens c g ≡ true) → ((h : ℕ) → is_some (c.on h) ≡ true → create_at c h ≡ create_at c g → shuts_open (c.op h) ≡ false × shuts_open (c.op g) ≡ false) → Connections c conns a → Connections (asked c k g) (put conns k (send_up (conns k) (ForAttach g) m n0)) a
-ask_keeps c conns a k g n0 m ready none above within pending may alone i =
+pub ask_keeps : (c : Client) (conns : ℕ → Conn) (a : ℕ → ℕ) (k g n0 : ℕ) (m : Message) → (c.ready k ≡ true) → (c.on g ≡ None) → (0 < g) → (g ≤ c.taken) → (is_unsettled (c.outcome g) ≡ true) → (opens c g ≡ true) → ((n : ℕ) → 0 < n → n < g → create_at c n ≡ create_at c g → (shuts_open (c.op g) || shuts_open (c.op n)) ≡ true → is_unsettled (c.outcome n) ≡ false) → Connections c conns a → Connections (asked c k g) (put conns k (send_up (conns k) (ForAttach g) m n0)) a
+ask_keeps c conns a k g n0 m ready none above within pending may lower i =
     record {
       once = ask_once c conns a k g n0 m ready none above within pending may i.once i.outstanding i.ready;
       outstanding = ask_outstanding c conns a k g n0 m ready none above within pending may i.outstanding;
@@ -123,7 +123,7 @@ ask_keeps c conns a k g n0 m ready none above within pending may alone i =
       taken = ask_taken c conns a k g n0 m ready none above within pending may i.taken;
       taken_on = ask_taken_on c conns a k g n0 m ready none above within pending may i.taken_on;
       creates = ask_creates c conns a k g n0 m ready none above within pending may i.creates;
-      alone = ask_alone c conns a k g n0 m ready none above within pending may alone i.alone;
+      lower = ask_lower c conns a k g n0 m ready none above within pending may lower i.lower;
       has_open = ask_has_open c conns a k g n0 m ready none above within pending may i.has_open;
       asked_open = ask_asked_open c conns a k g n0 m ready none above within pending may i.asked_open;
       fresh = ask_fresh c conns a k g n0 m ready none above within pending may i.fresh;

@@ -11,7 +11,7 @@ use Rattle.exchange_defs.specs.Settling.{answered, joined, settled as settled_by
 use Rattle.exchange_defs.specs.Dialogs.{open_channel, went_on, accepted, bound, readied, leave_dialog, refused_dialog}
 use Rattle.exchange_defs.specs.Network.{Conn, Sent, Received, Token, ForDialog, ForOp, ForAttach, op_of, is_own, fresh as fresh_conn, server_off, client_off, send_up, behind_front, take_front}
 use Rattle.exchange_defs.specs.Runs.{is_once, is_send_of}
-use Rattle.exchange_law.specs.Connections.{Connections, copies, count_up, count_down, no_copy_out, is_bound, makes_open, shuts_open, acts_once, its_create, its_request, create_at, opens, Once, Outstanding, OwnUp, AttachUp, OwnDown, AttachDown, DownOpen, OnReady, Ready, Stages, Settled, Taken, TakenOn, Creates, Alone, HasOpen, AskedOpen, Fresh, Bodies, First, Unsent, SentReplies, Deleted}
+use Rattle.exchange_law.specs.Connections.{Connections, copies, count_up, count_down, no_copy_out, is_bound, makes_open, shuts_open, acts_once, its_create, its_request, create_at, opens, Once, Outstanding, OwnUp, AttachUp, OwnDown, AttachDown, DownOpen, OnReady, Ready, Stages, Settled, Taken, TakenOn, Creates, Lower, HasOpen, AskedOpen, Fresh, Bodies, First, Unsent, SentReplies, Deleted}
 use Rattle.exchange_law.proofs.Lists.{get-push, count_up-push, count_down-push, counted_up, counted_down, rest_of, own_up_count, attach_up_count, own_down_count, attach_down_count, front_up, front_down, waited, waited_down}
 
 behind_once : (c : Client) (conns : ℕ → Conn) (a : ℕ → ℕ) (k : ℕ) (y0 : Received) (rest : List Received) → ((conns k).down ≡ y0 ∷ rest) → Once conns → Once (put conns k (take_front (conns k) rest))
@@ -70,9 +70,9 @@ behind_creates : (c : Client) (conns : ℕ → Conn) (a : ℕ → ℕ) (k : ℕ)
 behind_creates c conns a k y0 rest is i_creates =
     λ p. let old = i_creates p in grind arith
 
-behind_alone : (c : Client) (conns : ℕ → Conn) (a : ℕ → ℕ) (k : ℕ) (y0 : Received) (rest : List Received) → ((conns k).down ≡ y0 ∷ rest) → Alone c → Alone c
-behind_alone c conns a k y0 rest is i_alone =
-    λ p q. let old = i_alone p q in grind arith
+behind_lower : (c : Client) (conns : ℕ → Conn) (a : ℕ → ℕ) (k : ℕ) (y0 : Received) (rest : List Received) → ((conns k).down ≡ y0 ∷ rest) → Lower c → Lower c
+behind_lower c conns a k y0 rest is i_lower =
+    λ p q. let old = i_lower p q in grind arith
 
 behind_has_open : (c : Client) (conns : ℕ → Conn) (a : ℕ → ℕ) (k : ℕ) (y0 : Received) (rest : List Received) → ((conns k).down ≡ y0 ∷ rest) → HasOpen c → HasOpen c
 behind_has_open c conns a k y0 rest is i_has_open =
@@ -123,7 +123,7 @@ behind_keeps c conns a k y0 rest is i =
       taken = behind_taken c conns a k y0 rest is i.taken;
       taken_on = behind_taken_on c conns a k y0 rest is i.taken_on;
       creates = behind_creates c conns a k y0 rest is i.creates;
-      alone = behind_alone c conns a k y0 rest is i.alone;
+      lower = behind_lower c conns a k y0 rest is i.lower;
       has_open = behind_has_open c conns a k y0 rest is i.has_open;
       asked_open = behind_asked_open c conns a k y0 rest is i.asked_open;
       fresh = behind_fresh c conns a k y0 rest is i.fresh;

@@ -11,7 +11,7 @@ use Rattle.exchange_defs.specs.Settling.{answered, joined, settled as settled_by
 use Rattle.exchange_defs.specs.Dialogs.{open_channel, went_on, accepted, bound, readied, leave_dialog, refused_dialog}
 use Rattle.exchange_defs.specs.Network.{Conn, Sent, Received, Token, ForDialog, ForOp, ForAttach, op_of, is_own, fresh as fresh_conn, server_off, client_off, send_up, behind_front, take_front}
 use Rattle.exchange_defs.specs.Runs.{is_once, is_send_of}
-use Rattle.exchange_law.specs.Connections.{Connections, copies, count_up, count_down, no_copy_out, is_bound, makes_open, shuts_open, acts_once, its_create, its_request, create_at, opens, Once, Outstanding, OwnUp, AttachUp, OwnDown, AttachDown, DownOpen, OnReady, Ready, Stages, Settled, Taken, TakenOn, Creates, Alone, HasOpen, AskedOpen, Fresh, Bodies, First, Unsent, SentReplies, Deleted}
+use Rattle.exchange_law.specs.Connections.{Connections, copies, count_up, count_down, no_copy_out, is_bound, makes_open, shuts_open, acts_once, its_create, its_request, create_at, opens, Once, Outstanding, OwnUp, AttachUp, OwnDown, AttachDown, DownOpen, OnReady, Ready, Stages, Settled, Taken, TakenOn, Creates, Lower, HasOpen, AskedOpen, Fresh, Bodies, First, Unsent, SentReplies, Deleted}
 use Rattle.exchange_law.proofs.Lists.{get-push, count_up-push, count_down-push, counted_up, counted_down, rest_of, own_up_count, attach_up_count, own_down_count, attach_down_count, front_up, front_down, waited, waited_down}
 
 dialog_refused_once : (c : Client) (conns : ℕ → Conn) (a : ℕ → ℕ) (k status : ℕ) → (c.ready k ≡ false) → Once conns → Once (put conns k (client_off (conns k)))
@@ -70,9 +70,9 @@ dialog_refused_creates : (c : Client) (conns : ℕ → Conn) (a : ℕ → ℕ) (
 dialog_refused_creates c conns a k status apart i_creates =
     λ p. let old = i_creates p in grind arith
 
-dialog_refused_alone : (c : Client) (conns : ℕ → Conn) (a : ℕ → ℕ) (k status : ℕ) → (c.ready k ≡ false) → Alone c → Alone (refused_dialog c k status)
-dialog_refused_alone c conns a k status apart i_alone =
-    λ p q. let old = i_alone p q in grind arith
+dialog_refused_lower : (c : Client) (conns : ℕ → Conn) (a : ℕ → ℕ) (k status : ℕ) → (c.ready k ≡ false) → Lower c → Lower (refused_dialog c k status)
+dialog_refused_lower c conns a k status apart i_lower =
+    λ p q. let old = i_lower p q in grind arith
 
 dialog_refused_has_open : (c : Client) (conns : ℕ → Conn) (a : ℕ → ℕ) (k status : ℕ) → (c.ready k ≡ false) → HasOpen c → HasOpen (refused_dialog c k status)
 dialog_refused_has_open c conns a k status apart i_has_open =
@@ -123,7 +123,7 @@ dialog_refused_keeps c conns a k status apart i =
       taken = dialog_refused_taken c conns a k status apart i.taken;
       taken_on = dialog_refused_taken_on c conns a k status apart i.taken_on;
       creates = dialog_refused_creates c conns a k status apart i.creates;
-      alone = dialog_refused_alone c conns a k status apart i.alone;
+      lower = dialog_refused_lower c conns a k status apart i.lower;
       has_open = dialog_refused_has_open c conns a k status apart i.has_open;
       asked_open = dialog_refused_asked_open c conns a k status apart i.asked_open;
       fresh = dialog_refused_fresh c conns a k status apart i.fresh;

@@ -11,7 +11,7 @@ use Rattle.exchange_defs.specs.Settling.{answered, joined, settled as settled_by
 use Rattle.exchange_defs.specs.Dialogs.{open_channel, went_on, accepted, bound, readied, leave_dialog, refused_dialog}
 use Rattle.exchange_defs.specs.Network.{Conn, Sent, Received, Token, ForDialog, ForOp, ForAttach, op_of, is_own, fresh as fresh_conn, server_off, client_off, send_up, behind_front, take_front}
 use Rattle.exchange_defs.specs.Runs.{is_once, is_send_of}
-use Rattle.exchange_law.specs.Connections.{Connections, copies, count_up, count_down, no_copy_out, is_bound, makes_open, shuts_open, acts_once, its_create, its_request, create_at, opens, Once, Outstanding, OwnUp, AttachUp, OwnDown, AttachDown, DownOpen, OnReady, Ready, Stages, Settled, Taken, TakenOn, Creates, Alone, HasOpen, AskedOpen, Fresh, Bodies, First, Unsent, SentReplies, Deleted}
+use Rattle.exchange_law.specs.Connections.{Connections, copies, count_up, count_down, no_copy_out, is_bound, makes_open, shuts_open, acts_once, its_create, its_request, create_at, opens, Once, Outstanding, OwnUp, AttachUp, OwnDown, AttachDown, DownOpen, OnReady, Ready, Stages, Settled, Taken, TakenOn, Creates, Lower, HasOpen, AskedOpen, Fresh, Bodies, First, Unsent, SentReplies, Deleted}
 use Rattle.exchange_law.proofs.Lists.{get-push, count_up-push, count_down-push, counted_up, counted_down, rest_of, own_up_count, attach_up_count, own_down_count, attach_down_count, front_up, front_down, waited, waited_down}
 
 dialog_sent_once : (c : Client) (conns : ℕ → Conn) (a : ℕ → ℕ) (k n0 : ℕ) (m : Message) → (copies 0 (conns k) ≡ 0) → (c.ready k ≡ false) → Once conns → Once (put conns k (send_up (conns k) ForDialog m n0))
@@ -70,9 +70,9 @@ dialog_sent_creates : (c : Client) (conns : ℕ → Conn) (a : ℕ → ℕ) (k n
 dialog_sent_creates c conns a k n0 m none apart i_creates =
     λ p. let old = i_creates p in grind arith
 
-dialog_sent_alone : (c : Client) (conns : ℕ → Conn) (a : ℕ → ℕ) (k n0 : ℕ) (m : Message) → (copies 0 (conns k) ≡ 0) → (c.ready k ≡ false) → Alone c → Alone c
-dialog_sent_alone c conns a k n0 m none apart i_alone =
-    λ p q. let old = i_alone p q in grind arith
+dialog_sent_lower : (c : Client) (conns : ℕ → Conn) (a : ℕ → ℕ) (k n0 : ℕ) (m : Message) → (copies 0 (conns k) ≡ 0) → (c.ready k ≡ false) → Lower c → Lower c
+dialog_sent_lower c conns a k n0 m none apart i_lower =
+    λ p q. let old = i_lower p q in grind arith
 
 dialog_sent_has_open : (c : Client) (conns : ℕ → Conn) (a : ℕ → ℕ) (k n0 : ℕ) (m : Message) → (copies 0 (conns k) ≡ 0) → (c.ready k ≡ false) → HasOpen c → HasOpen c
 dialog_sent_has_open c conns a k n0 m none apart i_has_open =
@@ -123,7 +123,7 @@ dialog_sent_keeps c conns a k n0 m none apart i =
       taken = dialog_sent_taken c conns a k n0 m none apart i.taken;
       taken_on = dialog_sent_taken_on c conns a k n0 m none apart i.taken_on;
       creates = dialog_sent_creates c conns a k n0 m none apart i.creates;
-      alone = dialog_sent_alone c conns a k n0 m none apart i.alone;
+      lower = dialog_sent_lower c conns a k n0 m none apart i.lower;
       has_open = dialog_sent_has_open c conns a k n0 m none apart i.has_open;
       asked_open = dialog_sent_asked_open c conns a k n0 m none apart i.asked_open;
       fresh = dialog_sent_fresh c conns a k n0 m none apart i.fresh;

@@ -20,7 +20,7 @@ Before s now t = (t ≡ with_deadlines s now) ⊎ ((o : ℕ) × due (with_deadli
 abbrev pub Finds : Server → Message → Verdict → Type 0
 Finds t m v = (v ≡ check t m) ⊎ (v ≡ without_room (check t m))
 
-either : {X : Type 0} (P : X → Type 0) (b : Bool) (x y : X) → (b ≡ true → P x) → (b ≡ false → P y) → P (if b then x else y)
+pub either : {X : Type 0} (P : X → Type 0) (b : Bool) (x y : X) → (b ≡ true → P x) → (b ≡ false → P y) → P (if b then x else y)
 either P true x y f g = f refl
 either P false x y f g = g refl
 

@@ -11,7 +11,7 @@ use Rattle.exchange_defs.specs.Settling.{answered, joined, settled as settled_by
 use Rattle.exchange_defs.specs.Dialogs.{open_channel, went_on, accepted, bound, readied, leave_dialog, refused_dialog}
 use Rattle.exchange_defs.specs.Network.{Conn, Sent, Received, Token, ForDialog, ForOp, ForAttach, op_of, is_own, fresh as fresh_conn, server_off, client_off, send_up, behind_front, take_front}
 use Rattle.exchange_defs.specs.Runs.{is_once, is_send_of}
-use Rattle.exchange_law.specs.Connections.{Connections, copies, count_up, count_down, no_copy_out, is_bound, makes_open, shuts_open, acts_once, its_create, its_request, create_at, opens, Once, Outstanding, OwnUp, AttachUp, OwnDown, AttachDown, DownOpen, OnReady, Ready, Stages, Settled, Taken, TakenOn, Creates, Alone, HasOpen, AskedOpen, Fresh, Bodies, First, Unsent, SentReplies, Deleted}
+use Rattle.exchange_law.specs.Connections.{Connections, copies, count_up, count_down, no_copy_out, is_bound, makes_open, shuts_open, acts_once, its_create, its_request, create_at, opens, Once, Outstanding, OwnUp, AttachUp, OwnDown, AttachDown, DownOpen, OnReady, Ready, Stages, Settled, Taken, TakenOn, Creates, Lower, HasOpen, AskedOpen, Fresh, Bodies, First, Unsent, SentReplies, Deleted}
 use Rattle.exchange_law.proofs.Lists.{get-push, count_up-push, count_down-push, counted_up, counted_down, rest_of, own_up_count, attach_up_count, own_down_count, attach_down_count, front_up, front_down, waited, waited_down}
 
 fills_once : (c : Client) (conns : ℕ → Conn) (a : ℕ → ℕ) (create slot : ℕ) → Once conns → Once conns
@@ -70,9 +70,9 @@ fills_creates : (c : Client) (conns : ℕ → Conn) (a : ℕ → ℕ) (create sl
 fills_creates c conns a create slot i_creates =
     λ p. let old = i_creates p in grind arith
 
-fills_alone : (c : Client) (conns : ℕ → Conn) (a : ℕ → ℕ) (create slot : ℕ) → Alone c → Alone (record c { full = put2 c.full create slot true })
-fills_alone c conns a create slot i_alone =
-    λ p q. let old = i_alone p q in grind arith
+fills_lower : (c : Client) (conns : ℕ → Conn) (a : ℕ → ℕ) (create slot : ℕ) → Lower c → Lower (record c { full = put2 c.full create slot true })
+fills_lower c conns a create slot i_lower =
+    λ p q. let old = i_lower p q in grind arith
 
 fills_has_open : (c : Client) (conns : ℕ → Conn) (a : ℕ → ℕ) (create slot : ℕ) → HasOpen c → HasOpen (record c { full = put2 c.full create slot true })
 fills_has_open c conns a create slot i_has_open =
@@ -123,7 +123,7 @@ fills_keeps c conns a create slot i =
       taken = fills_taken c conns a create slot i.taken;
       taken_on = fills_taken_on c conns a create slot i.taken_on;
       creates = fills_creates c conns a create slot i.creates;
-      alone = fills_alone c conns a create slot i.alone;
+      lower = fills_lower c conns a create slot i.lower;
       has_open = fills_has_open c conns a create slot i.has_open;
       asked_open = fills_asked_open c conns a create slot i.asked_open;
       fresh = fills_fresh c conns a create slot i.fresh;

@@ -11,7 +11,7 @@ use Rattle.exchange_defs.specs.Settling.{answered, joined, settled as settled_by
 use Rattle.exchange_defs.specs.Dialogs.{open_channel, went_on, accepted, bound, readied, leave_dialog, refused_dialog}
 use Rattle.exchange_defs.specs.Network.{Conn, Sent, Received, Token, ForDialog, ForOp, ForAttach, op_of, is_own, fresh as fresh_conn, server_off, client_off, send_up, behind_front, take_front}
 use Rattle.exchange_defs.specs.Runs.{is_once, is_send_of}
-use Rattle.exchange_law.specs.Connections.{Connections, copies, count_up, count_down, no_copy_out, is_bound, makes_open, shuts_open, acts_once, its_create, its_request, create_at, opens, Once, Outstanding, OwnUp, AttachUp, OwnDown, AttachDown, DownOpen, OnReady, Ready, Stages, Settled, Taken, TakenOn, Creates, Alone, HasOpen, AskedOpen, Fresh, Bodies, First, Unsent, SentReplies, Deleted}
+use Rattle.exchange_law.specs.Connections.{Connections, copies, count_up, count_down, no_copy_out, is_bound, makes_open, shuts_open, acts_once, its_create, its_request, create_at, opens, Once, Outstanding, OwnUp, AttachUp, OwnDown, AttachDown, DownOpen, OnReady, Ready, Stages, Settled, Taken, TakenOn, Creates, Lower, HasOpen, AskedOpen, Fresh, Bodies, First, Unsent, SentReplies, Deleted}
 use Rattle.exchange_law.proofs.Lists.{get-push, count_up-push, count_down-push, counted_up, counted_down, rest_of, own_up_count, attach_up_count, own_down_count, attach_down_count, front_up, front_down, waited, waited_down}
 
 finished_off : (c : Client) (conns : ℕ → Conn) → c.live ≡ false → OnReady c → Ready c conns → (p : ℕ) (o : Option ℕ) → c.on p ≡ o → c.on p ≡ None
@@ -74,9 +74,9 @@ finished_creates : (c : Client) (conns : ℕ → Conn) (a : ℕ → ℕ) (why : 
 finished_creates c conns a why dead i_creates =
     λ p. let old = i_creates p in grind arith
 
-finished_alone : (c : Client) (conns : ℕ → Conn) (a : ℕ → ℕ) (why : Why) → (c.live ≡ false) → Alone c → Alone (finish c why)
-finished_alone c conns a why dead i_alone =
-    λ p q. let old = i_alone p q in grind arith
+finished_lower : (c : Client) (conns : ℕ → Conn) (a : ℕ → ℕ) (why : Why) → (c.live ≡ false) → Lower c → Lower (finish c why)
+finished_lower c conns a why dead i_lower =
+    λ p q. let old = i_lower p q in grind arith
 
 finished_has_open : (c : Client) (conns : ℕ → Conn) (a : ℕ → ℕ) (why : Why) → (c.live ≡ false) → HasOpen c → HasOpen (finish c why)
 finished_has_open c conns a why dead i_has_open =
@@ -127,7 +127,7 @@ finished_keeps c conns a why dead i =
       taken = finished_taken c conns a why dead i.taken;
       taken_on = finished_taken_on c conns a why dead i.taken_on;
       creates = finished_creates c conns a why dead i.creates;
-      alone = finished_alone c conns a why dead i.alone;
+      lower = finished_lower c conns a why dead i.lower;
       has_open = finished_has_open c conns a why dead i.has_open;
       asked_open = finished_asked_open c conns a why dead i.asked_open;
       fresh = finished_fresh c conns a why dead i.fresh;

@@ -11,7 +11,7 @@ use Rattle.exchange_defs.specs.Settling.{answered, joined, settled as settled_by
 use Rattle.exchange_defs.specs.Dialogs.{open_channel, went_on, accepted, bound, readied, leave_dialog, refused_dialog}
 use Rattle.exchange_defs.specs.Network.{Conn, Sent, Received, Token, ForDialog, ForOp, ForAttach, op_of, is_own, fresh as fresh_conn, server_off, client_off, send_up, behind_front, take_front}
 use Rattle.exchange_defs.specs.Runs.{is_once, is_send_of}
-use Rattle.exchange_law.specs.Connections.{Connections, copies, count_up, count_down, no_copy_out, is_bound, makes_open, shuts_open, acts_once, its_create, its_request, create_at, opens, Once, Outstanding, OwnUp, AttachUp, OwnDown, AttachDown, DownOpen, OnReady, Ready, Stages, Settled, Taken, TakenOn, Creates, Alone, HasOpen, AskedOpen, Fresh, Bodies, First, Unsent, SentReplies, Deleted}
+use Rattle.exchange_law.specs.Connections.{Connections, copies, count_up, count_down, no_copy_out, is_bound, makes_open, shuts_open, acts_once, its_create, its_request, create_at, opens, Once, Outstanding, OwnUp, AttachUp, OwnDown, AttachDown, DownOpen, OnReady, Ready, Stages, Settled, Taken, TakenOn, Creates, Lower, HasOpen, AskedOpen, Fresh, Bodies, First, Unsent, SentReplies, Deleted}
 use Rattle.exchange_law.proofs.Lists.{get-push, count_up-push, count_down-push, counted_up, counted_down, rest_of, own_up_count, attach_up_count, own_down_count, attach_down_count, front_up, front_down, waited, waited_down}
 
 leave_once : (c : Client) (conns : ℕ → Conn) (a : ℕ → ℕ) → Once conns → Once (λ q. client_off (conns q))
@@ -70,9 +70,9 @@ leave_creates : (c : Client) (conns : ℕ → Conn) (a : ℕ → ℕ) → Create
 leave_creates c conns a i_creates =
     λ p. let old = i_creates p in grind arith
 
-leave_alone : (c : Client) (conns : ℕ → Conn) (a : ℕ → ℕ) → Alone c → Alone (end_session c)
-leave_alone c conns a i_alone =
-    λ p q. let old = i_alone p q in grind arith
+leave_lower : (c : Client) (conns : ℕ → Conn) (a : ℕ → ℕ) → Lower c → Lower (end_session c)
+leave_lower c conns a i_lower =
+    λ p q. let old = i_lower p q in grind arith
 
 leave_has_open : (c : Client) (conns : ℕ → Conn) (a : ℕ → ℕ) → HasOpen c → HasOpen (end_session c)
 leave_has_open c conns a i_has_open =
@@ -123,7 +123,7 @@ leave_keeps c conns a i =
       taken = leave_taken c conns a i.taken;
       taken_on = leave_taken_on c conns a i.taken_on;
       creates = leave_creates c conns a i.creates;
-      alone = leave_alone c conns a i.alone;
+      lower = leave_lower c conns a i.lower;
       has_open = leave_has_open c conns a i.has_open;
       asked_open = leave_asked_open c conns a i.asked_open;
       fresh = leave_fresh c conns a i.fresh;

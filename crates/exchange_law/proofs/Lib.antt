@@ -30,3 +30,4 @@ pub mod Send
 pub mod Ask
 pub mod Say
 pub mod Facts
+pub mod Run

@@ -11,7 +11,7 @@ use Rattle.exchange_defs.specs.Settling.{answered, joined, settled as settled_by
 use Rattle.exchange_defs.specs.Dialogs.{open_channel, went_on, accepted, bound, readied, leave_dialog, refused_dialog}
 use Rattle.exchange_defs.specs.Network.{Conn, Sent, Received, Token, ForDialog, ForOp, ForAttach, op_of, is_own, fresh as fresh_conn, server_off, client_off, send_up, behind_front, take_front}
 use Rattle.exchange_defs.specs.Runs.{is_once, is_send_of}
-use Rattle.exchange_law.specs.Connections.{Connections, copies, count_up, count_down, no_copy_out, is_bound, makes_open, shuts_open, acts_once, its_create, its_request, create_at, opens, Once, Outstanding, OwnUp, AttachUp, OwnDown, AttachDown, DownOpen, OnReady, Ready, Stages, Settled, Taken, TakenOn, Creates, Alone, HasOpen, AskedOpen, Fresh, Bodies, First, Unsent, SentReplies, Deleted}
+use Rattle.exchange_law.specs.Connections.{Connections, copies, count_up, count_down, no_copy_out, is_bound, makes_open, shuts_open, acts_once, its_create, its_request, create_at, opens, Once, Outstanding, OwnUp, AttachUp, OwnDown, AttachDown, DownOpen, OnReady, Ready, Stages, Settled, Taken, TakenOn, Creates, Lower, HasOpen, AskedOpen, Fresh, Bodies, First, Unsent, SentReplies, Deleted}
 use Rattle.exchange_law.proofs.Lists.{get-push, count_up-push, count_down-push, counted_up, counted_down, rest_of, own_up_count, attach_up_count, own_down_count, attach_down_count, front_up, front_down, waited, waited_down}
 
 opened_once : (c : Client) (conns : ℕ → Conn) (a : ℕ → ℕ) (k : ℕ) (served : Bool) → ((conns k).client_open ≡ false) → Once conns → Once (put conns k (fresh_conn c k served))
@@ -70,9 +70,9 @@ opened_creates : (c : Client) (conns : ℕ → Conn) (a : ℕ → ℕ) (k : ℕ)
 opened_creates c conns a k served closed i_creates =
     λ p. let old = i_creates p in grind arith
 
-opened_alone : (c : Client) (conns : ℕ → Conn) (a : ℕ → ℕ) (k : ℕ) (served : Bool) → ((conns k).client_open ≡ false) → Alone c → Alone (open_channel c k)
-opened_alone c conns a k served closed i_alone =
-    λ p q. let old = i_alone p q in grind arith
+opened_lower : (c : Client) (conns : ℕ → Conn) (a : ℕ → ℕ) (k : ℕ) (served : Bool) → ((conns k).client_open ≡ false) → Lower c → Lower (open_channel c k)
+opened_lower c conns a k served closed i_lower =
+    λ p q. let old = i_lower p q in grind arith
 
 opened_has_open : (c : Client) (conns : ℕ → Conn) (a : ℕ → ℕ) (k : ℕ) (served : Bool) → ((conns k).client_open ≡ false) → HasOpen c → HasOpen (open_channel c k)
 opened_has_open c conns a k served closed i_has_open =
@@ -123,7 +123,7 @@ opened_keeps c conns a k served closed i =
       taken = opened_taken c conns a k served closed i.taken;
       taken_on = opened_taken_on c conns a k served closed i.taken_on;
       creates = opened_creates c conns a k served closed i.creates;
-      alone = opened_alone c conns a k served closed i.alone;
+      lower = opened_lower c conns a k served closed i.lower;
       has_open = opened_has_open c conns a k served closed i.has_open;
       asked_open = opened_asked_open c conns a k served closed i.asked_open;
       fresh = opened_fresh c conns a k served closed i.fresh;

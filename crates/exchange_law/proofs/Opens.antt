@@ -11,7 +11,7 @@ use Rattle.exchange_defs.specs.Settling.{answered, joined, settled as settled_by
 use Rattle.exchange_defs.specs.Dialogs.{open_channel, went_on, accepted, bound, readied, leave_dialog, refused_dialog}
 use Rattle.exchange_defs.specs.Network.{Conn, Sent, Received, Token, ForDialog, ForOp, ForAttach, op_of, is_own, fresh as fresh_conn, server_off, client_off, send_up, behind_front, take_front}
 use Rattle.exchange_defs.specs.Runs.{is_once, is_send_of}
-use Rattle.exchange_law.specs.Connections.{Connections, copies, count_up, count_down, no_copy_out, is_bound, makes_open, shuts_open, acts_once, its_create, its_request, create_at, opens, Once, Outstanding, OwnUp, AttachUp, OwnDown, AttachDown, DownOpen, OnReady, Ready, Stages, Settled, Taken, TakenOn, Creates, Alone, HasOpen, AskedOpen, Fresh, Bodies, First, Unsent, SentReplies, Deleted}
+use Rattle.exchange_law.specs.Connections.{Connections, copies, count_up, count_down, no_copy_out, is_bound, makes_open, shuts_open, acts_once, its_create, its_request, create_at, opens, Once, Outstanding, OwnUp, AttachUp, OwnDown, AttachDown, DownOpen, OnReady, Ready, Stages, Settled, Taken, TakenOn, Creates, Lower, HasOpen, AskedOpen, Fresh, Bodies, First, Unsent, SentReplies, Deleted}
 use Rattle.exchange_law.proofs.Lists.{get-push, count_up-push, count_down-push, counted_up, counted_down, rest_of, own_up_count, attach_up_count, own_down_count, attach_down_count, front_up, front_down, waited, waited_down}
 
 request_of_create : (op : Op) (guid f1 f2 slot number : ℕ) → makes_open op ≡ true → its_request op guid f1 slot number ≡ its_request op guid f2 slot number
@@ -78,9 +78,9 @@ opens_creates : (c : Client) (conns : ℕ → Conn) (a : ℕ → ℕ) (g id : �
 opens_creates c conns a g id create out i_creates =
     λ p. let old = i_creates p in grind arith
 
-opens_alone : (c : Client) (conns : ℕ → Conn) (a : ℕ → ℕ) (g id : ℕ) → (makes_open (c.op g) ≡ true) → (is_some (c.on g) ≡ true) → Alone c → Alone (record c { file = put c.file g id; attached = put c.attached g c.number })
-opens_alone c conns a g id create out i_alone =
-    λ p q. let old = i_alone p q in grind arith
+opens_lower : (c : Client) (conns : ℕ → Conn) (a : ℕ → ℕ) (g id : ℕ) → (makes_open (c.op g) ≡ true) → (is_some (c.on g) ≡ true) → Lower c → Lower (record c { file = put c.file g id; attached = put c.attached g c.number })
+opens_lower c conns a g id create out i_lower =
+    λ p q. let old = i_lower p q in grind arith
 
 opens_has_open : (c : Client) (conns : ℕ → Conn) (a : ℕ → ℕ) (g id : ℕ) → (makes_open (c.op g) ≡ true) → (is_some (c.on g) ≡ true) → HasOpen c → HasOpen (record c { file = put c.file g id; attached = put c.attached g c.number })
 opens_has_open c conns a g id create out i_has_open =
@@ -131,7 +131,7 @@ opens_keeps c conns a g id create out i =
       taken = opens_taken c conns a g id create out i.taken;
       taken_on = opens_taken_on c conns a g id create out i.taken_on;
       creates = opens_creates c conns a g id create out i.creates;
-      alone = opens_alone c conns a g id create out i.alone;
+      lower = opens_lower c conns a g id create out i.lower;
       has_open = opens_has_open c conns a g id create out i.has_open;
       asked_open = opens_asked_open c conns a g id create out i.asked_open;
       fresh = opens_fresh c conns a g id create out i.fresh;

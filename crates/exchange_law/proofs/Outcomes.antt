@@ -11,7 +11,7 @@ use Rattle.exchange_defs.specs.Settling.{answered, joined, settled as settled_by
 use Rattle.exchange_defs.specs.Dialogs.{open_channel, went_on, accepted, bound, readied, leave_dialog, refused_dialog}
 use Rattle.exchange_defs.specs.Network.{Conn, Sent, Received, Token, ForDialog, ForOp, ForAttach, op_of, is_own, fresh as fresh_conn, server_off, client_off, send_up, behind_front, take_front}
 use Rattle.exchange_defs.specs.Runs.{is_once, is_send_of}
-use Rattle.exchange_law.specs.Connections.{Connections, copies, count_up, count_down, no_copy_out, is_bound, makes_open, shuts_open, acts_once, its_create, its_request, create_at, opens, Once, Outstanding, OwnUp, AttachUp, OwnDown, AttachDown, DownOpen, OnReady, Ready, Stages, Settled, Taken, TakenOn, Creates, Alone, HasOpen, AskedOpen, Fresh, Bodies, First, Unsent, SentReplies, Deleted}
+use Rattle.exchange_law.specs.Connections.{Connections, copies, count_up, count_down, no_copy_out, is_bound, makes_open, shuts_open, acts_once, its_create, its_request, create_at, opens, Once, Outstanding, OwnUp, AttachUp, OwnDown, AttachDown, DownOpen, OnReady, Ready, Stages, Settled, Taken, TakenOn, Creates, Lower, HasOpen, AskedOpen, Fresh, Bodies, First, Unsent, SentReplies, Deleted}
 use Rattle.exchange_law.proofs.Lists.{get-push, count_up-push, count_down-push, counted_up, counted_down, rest_of, own_up_count, attach_up_count, own_down_count, attach_down_count, front_up, front_down, waited, waited_down}
 
 outcomes_once : (c : Client) (conns : ℕ → Conn) (a : ℕ → ℕ) (new : ℕ → Outcome) → Once conns → Once conns
@@ -70,9 +70,9 @@ outcomes_creates : (c : Client) (conns : ℕ → Conn) (a : ℕ → ℕ) (new : 
 outcomes_creates c conns a new i_creates =
     λ p. let old = i_creates p in grind arith
 
-outcomes_alone : (c : Client) (conns : ℕ → Conn) (a : ℕ → ℕ) (new : ℕ → Outcome) → Alone c → Alone (record c { outcome = new })
-outcomes_alone c conns a new i_alone =
-    λ p q. let old = i_alone p q in grind arith
+outcomes_lower : (c : Client) (conns : ℕ → Conn) (a : ℕ → ℕ) (new : ℕ → Outcome) → ((h : ℕ) → is_unsettled (c.outcome h) ≡ false → new h ≡ c.outcome h) → Lower c → Lower (record c { outcome = new })
+outcomes_lower c conns a new same i_lower =
+    λ p q s l m e h. let old = i_lower p q s l m e h in let st = same q old in grind arith
 
 outcomes_has_open : (c : Client) (conns : ℕ → Conn) (a : ℕ → ℕ) (new : ℕ → Outcome) → ((h : ℕ) → is_unsettled (c.outcome h) ≡ false → new h ≡ c.outcome h) → HasOpen c → HasOpen (record c { outcome = new })
 outcomes_has_open c conns a new same i_has_open =
@@ -123,7 +123,7 @@ outcomes_keeps c conns a new same still i =
       taken = outcomes_taken c conns a new i.taken;
       taken_on = outcomes_taken_on c conns a new i.taken_on;
       creates = outcomes_creates c conns a new i.creates;
-      alone = outcomes_alone c conns a new i.alone;
+      lower = outcomes_lower c conns a new same i.lower;
       has_open = outcomes_has_open c conns a new same i.has_open;
       asked_open = outcomes_asked_open c conns a new same i.asked_open;
       fresh = outcomes_fresh c conns a new i.fresh;

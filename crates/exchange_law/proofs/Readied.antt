@@ -11,7 +11,7 @@ use Rattle.exchange_defs.specs.Settling.{answered, joined, settled as settled_by
 use Rattle.exchange_defs.specs.Dialogs.{open_channel, went_on, accepted, bound, readied, leave_dialog, refused_dialog}
 use Rattle.exchange_defs.specs.Network.{Conn, Sent, Received, Token, ForDialog, ForOp, ForAttach, op_of, is_own, fresh as fresh_conn, server_off, client_off, send_up, behind_front, take_front}
 use Rattle.exchange_defs.specs.Runs.{is_once, is_send_of}
-use Rattle.exchange_law.specs.Connections.{Connections, copies, count_up, count_down, no_copy_out, is_bound, makes_open, shuts_open, acts_once, its_create, its_request, create_at, opens, Once, Outstanding, OwnUp, AttachUp, OwnDown, AttachDown, DownOpen, OnReady, Ready, Stages, Settled, Taken, TakenOn, Creates, Alone, HasOpen, AskedOpen, Fresh, Bodies, First, Unsent, SentReplies, Deleted}
+use Rattle.exchange_law.specs.Connections.{Connections, copies, count_up, count_down, no_copy_out, is_bound, makes_open, shuts_open, acts_once, its_create, its_request, create_at, opens, Once, Outstanding, OwnUp, AttachUp, OwnDown, AttachDown, DownOpen, OnReady, Ready, Stages, Settled, Taken, TakenOn, Creates, Lower, HasOpen, AskedOpen, Fresh, Bodies, First, Unsent, SentReplies, Deleted}
 use Rattle.exchange_law.proofs.Lists.{get-push, count_up-push, count_down-push, counted_up, counted_down, rest_of, own_up_count, attach_up_count, own_down_count, attach_down_count, front_up, front_down, waited, waited_down}
 
 readied_once : (c : Client) (conns : ℕ → Conn) (a : ℕ → ℕ) (k : ℕ) (r : Reply) → ((conns k).client_open ≡ true) → (copies 0 (conns k) ≡ 0) → Once conns → Once conns
@@ -70,9 +70,9 @@ readied_creates : (c : Client) (conns : ℕ → Conn) (a : ℕ → ℕ) (k : ℕ
 readied_creates c conns a k r stands none i_creates =
     λ p. let old = i_creates p in grind arith
 
-readied_alone : (c : Client) (conns : ℕ → Conn) (a : ℕ → ℕ) (k : ℕ) (r : Reply) → ((conns k).client_open ≡ true) → (copies 0 (conns k) ≡ 0) → Alone c → Alone (readied c k r)
-readied_alone c conns a k r stands none i_alone =
-    λ p q. let old = i_alone p q in grind arith
+readied_lower : (c : Client) (conns : ℕ → Conn) (a : ℕ → ℕ) (k : ℕ) (r : Reply) → ((conns k).client_open ≡ true) → (copies 0 (conns k) ≡ 0) → Lower c → Lower (readied c k r)
+readied_lower c conns a k r stands none i_lower =
+    λ p q. let old = i_lower p q in grind arith
 
 readied_has_open : (c : Client) (conns : ℕ → Conn) (a : ℕ → ℕ) (k : ℕ) (r : Reply) → ((conns k).client_open ≡ true) → (copies 0 (conns k) ≡ 0) → HasOpen c → HasOpen (readied c k r)
 readied_has_open c conns a k r stands none i_has_open =
@@ -123,7 +123,7 @@ readied_keeps c conns a k r stands none i =
       taken = readied_taken c conns a k r stands none i.taken;
       taken_on = readied_taken_on c conns a k r stands none i.taken_on;
       creates = readied_creates c conns a k r stands none i.creates;
-      alone = readied_alone c conns a k r stands none i.alone;
+      lower = readied_lower c conns a k r stands none i.lower;
       has_open = readied_has_open c conns a k r stands none i.has_open;
       asked_open = readied_asked_open c conns a k r stands none i.asked_open;
       fresh = readied_fresh c conns a k r stands none i.fresh;

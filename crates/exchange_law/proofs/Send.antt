@@ -11,7 +11,7 @@ use Rattle.exchange_defs.specs.Settling.{answered, joined, settled as settled_by
 use Rattle.exchange_defs.specs.Dialogs.{open_channel, went_on, accepted, bound, readied, leave_dialog, refused_dialog}
 use Rattle.exchange_defs.specs.Network.{Conn, Sent, Received, Token, ForDialog, ForOp, ForAttach, op_of, is_own, fresh as fresh_conn, server_off, client_off, send_up, behind_front, take_front}
 use Rattle.exchange_defs.specs.Runs.{is_once, is_send_of}
-use Rattle.exchange_law.specs.Connections.{Connections, copies, count_up, count_down, no_copy_out, is_bound, makes_open, shuts_open, acts_once, its_create, its_request, create_at, opens, Once, Outstanding, OwnUp, AttachUp, OwnDown, AttachDown, DownOpen, OnReady, Ready, Stages, Settled, Taken, TakenOn, Creates, Alone, HasOpen, AskedOpen, Fresh, Bodies, First, Unsent, SentReplies, Deleted}
+use Rattle.exchange_law.specs.Connections.{Connections, copies, count_up, count_down, no_copy_out, is_bound, makes_open, shuts_open, acts_once, its_create, its_request, create_at, opens, Once, Outstanding, OwnUp, AttachUp, OwnDown, AttachDown, DownOpen, OnReady, Ready, Stages, Settled, Taken, TakenOn, Creates, Lower, HasOpen, AskedOpen, Fresh, Bodies, First, Unsent, SentReplies, Deleted}
 use Rattle.exchange_law.proofs.Lists.{get-push, count_up-push, count_down-push, counted_up, counted_down, rest_of, own_up_count, attach_up_count, own_down_count, attach_down_count, front_up, front_down, waited, waited_down}
 
 send_once : (c : Client) (conns : ℕ → Conn) (a : ℕ → ℕ) (k g n0 : ℕ) (m : Message) → (c.ready k ≡ true) → (c.on g ≡ None) → (0 < g) → (g ≤ c.taken) → (is_unsettled (c.outcome g) ≡ true) → (opens c g ≡ true) → (c.sent g ≡ true) → (m.command ≡ its_request (c.op g) (guid_for c g) (c.file (create_at c g)) (c.slot_of g) (c.number_of g)) → (m.client ≡ c.who.guid) → (m.fault ≡ None) → Once conns → Outstanding c conns → Ready c conns → Once (put conns k (send_up (conns k) (ForOp g) m n0))
@@ -70,9 +70,9 @@ send_creates : (c : Client) (conns : ℕ → Conn) (a : ℕ → ℕ) (k g n0 : �
 send_creates c conns a k g n0 m ready none above within pending may sent body who fault i_creates =
     λ p. let old = i_creates p in grind arith
 
-send_alone : (c : Client) (conns : ℕ → Conn) (a : ℕ → ℕ) (k g n0 : ℕ) (m : Message) → (c.ready k ≡ true) → (c.on g ≡ None) → (0 < g) → (g ≤ c.taken) → (is_unsettled (c.outcome g) ≡ true) → (opens c g ≡ true) → ((h : ℕ) → is_some (c.on h) ≡ true → create_at c h ≡ create_at c g → shuts_open (c.op h) ≡ false × shuts_open (c.op g) ≡ false) → (c.sent g ≡ true) → (m.command ≡ its_request (c.op g) (guid_for c g) (c.file (create_at c g)) (c.slot_of g) (c.number_of g)) → (m.client ≡ c.who.guid) → (m.fault ≡ None) → Alone c → Alone (put_out c k g)
-send_alone c conns a k g n0 m ready none above within pending may alone sent body who fault i_alone =
-    λ p q s1 s2 z e. let old = i_alone p q in let al = alone p in let al2 = alone q in grind arith
+send_lower : (c : Client) (conns : ℕ → Conn) (a : ℕ → ℕ) (k g n0 : ℕ) (m : Message) → (c.ready k ≡ true) → (c.on g ≡ None) → (0 < g) → (g ≤ c.taken) → (is_unsettled (c.outcome g) ≡ true) → (opens c g ≡ true) → ((n : ℕ) → 0 < n → n < g → create_at c n ≡ create_at c g → (shuts_open (c.op g) || shuts_open (c.op n)) ≡ true → is_unsettled (c.outcome n) ≡ false) → (c.sent g ≡ true) → (m.command ≡ its_request (c.op g) (guid_for c g) (c.file (create_at c g)) (c.slot_of g) (c.number_of g)) → (m.client ≡ c.who.guid) → (m.fault ≡ None) → Lower c → Lower (put_out c k g)
+send_lower c conns a k g n0 m ready none above within pending may lower sent body who fault i_lower =
+    λ p q. let old = i_lower p q in let l = lower q in grind arith
 
 send_has_open : (c : Client) (conns : ℕ → Conn) (a : ℕ → ℕ) (k g n0 : ℕ) (m : Message) → (c.ready k ≡ true) → (c.on g ≡ None) → (0 < g) → (g ≤ c.taken) → (is_unsettled (c.outcome g) ≡ true) → (opens c g ≡ true) → (c.sent g ≡ true) → (m.command ≡ its_request (c.op g) (guid_for c g) (c.file (create_at c g)) (c.slot_of g) (c.number_of g)) → (m.client ≡ c.who.guid) → (m.fault ≡ None) → HasOpen c → HasOpen (put_out c k g)
 send_has_open c conns a k g n0 m ready none above within pending may sent body who fault i_has_open =
@@ -106,8 +106,8 @@ send_deleted : (c : Client) (conns : ℕ → Conn) (a : ℕ → ℕ) (k g n0 : �
 send_deleted c conns a k g n0 m ready none above within pending may sent body who fault i_deleted =
     λ j n p y. let old = i_deleted j n p y in grind (arith, get-push)
 
-pub send_keeps : (c : Client) (conns : ℕ → Conn) (a : ℕ → ℕ) (k g n0 : ℕ) (m : Message) → (c.ready k ≡ true) → (c.on g ≡ None) → (0 < g) → (g ≤ c.taken) → (is_unsettled (c.outcome g) ≡ true) → (opens c g ≡ true) → ((h : ℕ) → is_some (c.on h) ≡ true → create_at c h ≡ create_at c g → shuts_open (c.op h) ≡ false × shuts_open (c.op g) ≡ false) → (c.sent g ≡ true) → (m.command ≡ its_request (c.op g) (guid_for c g) (c.file (create_at c g)) (c.slot_of g) (c.number_of g)) → (m.client ≡ c.who.guid) → (m.fault ≡ None) → (acts_once (c.op g) ≡ true → c.before g ≡ false → a g ≡ 0) → Connections c conns a → Connections (put_out c k g) (put conns k (send_up (conns k) (ForOp g) m n0)) a
-send_keeps c conns a k g n0 m ready none above within pending may alone sent body who fault idle i =
+pub send_keeps : (c : Client) (conns : ℕ → Conn) (a : ℕ → ℕ) (k g n0 : ℕ) (m : Message) → (c.ready k ≡ true) → (c.on g ≡ None) → (0 < g) → (g ≤ c.taken) → (is_unsettled (c.outcome g) ≡ true) → (opens c g ≡ true) → ((n : ℕ) → 0 < n → n < g → create_at c n ≡ create_at c g → (shuts_open (c.op g) || shuts_open (c.op n)) ≡ true → is_unsettled (c.outcome n) ≡ false) → (c.sent g ≡ true) → (m.command ≡ its_request (c.op g) (guid_for c g) (c.file (create_at c g)) (c.slot_of g) (c.number_of g)) → (m.client ≡ c.who.guid) → (m.fault ≡ None) → (acts_once (c.op g) ≡ true → c.before g ≡ false → a g ≡ 0) → Connections c conns a → Connections (put_out c k g) (put conns k (send_up (conns k) (ForOp g) m n0)) a
+send_keeps c conns a k g n0 m ready none above within pending may lower sent body who fault idle i =
     record {
       once = send_once c conns a k g n0 m ready none above within pending may sent body who fault i.once i.outstanding i.ready;
       outstanding = send_outstanding c conns a k g n0 m ready none above within pending may sent body who fault i.outstanding;
@@ -123,7 +123,7 @@ send_keeps c conns a k g n0 m ready none above within pending may alone sent bod
       taken = send_taken c conns a k g n0 m ready none above within pending may sent body who fault i.taken;
       taken_on = send_taken_on c conns a k g n0 m ready none above within pending may sent body who fault i.taken_on;
       creates = send_creates c conns a k g n0 m ready none above within pending may sent body who fault i.creates;
-      alone = send_alone c conns a k g n0 m ready none above within pending may alone sent body who fault i.alone;
+      lower = send_lower c conns a k g n0 m ready none above within pending may lower sent body who fault i.lower;
       has_open = send_has_open c conns a k g n0 m ready none above within pending may sent body who fault i.has_open;
       asked_open = send_asked_open c conns a k g n0 m ready none above within pending may sent body who fault i.asked_open;
       fresh = send_fresh c conns a k g n0 m ready none above within pending may sent body who fault i.fresh;

@@ -11,7 +11,7 @@ use Rattle.exchange_defs.specs.Settling.{answered, joined, settled as settled_by
 use Rattle.exchange_defs.specs.Dialogs.{open_channel, went_on, accepted, bound, readied, leave_dialog, refused_dialog}
 use Rattle.exchange_defs.specs.Network.{Conn, Sent, Received, Token, ForDialog, ForOp, ForAttach, op_of, is_own, fresh as fresh_conn, server_off, client_off, send_up, behind_front, take_front}
 use Rattle.exchange_defs.specs.Runs.{is_once, is_send_of}
-use Rattle.exchange_law.specs.Connections.{Connections, copies, count_up, count_down, no_copy_out, is_bound, makes_open, shuts_open, acts_once, its_create, its_request, create_at, opens, Once, Outstanding, OwnUp, AttachUp, OwnDown, AttachDown, DownOpen, OnReady, Ready, Stages, Settled, Taken, TakenOn, Creates, Alone, HasOpen, AskedOpen, Fresh, Bodies, First, Unsent, SentReplies, Deleted}
+use Rattle.exchange_law.specs.Connections.{Connections, copies, count_up, count_down, no_copy_out, is_bound, makes_open, shuts_open, acts_once, its_create, its_request, create_at, opens, Once, Outstanding, OwnUp, AttachUp, OwnDown, AttachDown, DownOpen, OnReady, Ready, Stages, Settled, Taken, TakenOn, Creates, Lower, HasOpen, AskedOpen, Fresh, Bodies, First, Unsent, SentReplies, Deleted}
 use Rattle.exchange_law.proofs.Lists.{get-push, count_up-push, count_down-push, counted_up, counted_down, rest_of, own_up_count, attach_up_count, own_down_count, attach_down_count, front_up, front_down, waited, waited_down}
 
 settle_once : (c : Client) (conns : ℕ → Conn) (a : ℕ → ℕ) (k g place : ℕ) (outcome : Outcome) → (c.on g ≡ Some k) → (copies g (conns k) ≡ 0) → (is_unsettled outcome ≡ false) → Once conns → Once conns
@@ -70,9 +70,9 @@ settle_creates : (c : Client) (conns : ℕ → Conn) (a : ℕ → ℕ) (k g plac
 settle_creates c conns a k g place outcome on none firm i_creates =
     λ p. let old = i_creates p in grind arith
 
-settle_alone : (c : Client) (conns : ℕ → Conn) (a : ℕ → ℕ) (k g place : ℕ) (outcome : Outcome) → (c.on g ≡ Some k) → (copies g (conns k) ≡ 0) → (is_unsettled outcome ≡ false) → Alone c → Alone (settled_by c g outcome place)
-settle_alone c conns a k g place outcome on none firm i_alone =
-    λ p q. let old = i_alone p q in grind arith
+settle_lower : (c : Client) (conns : ℕ → Conn) (a : ℕ → ℕ) (k g place : ℕ) (outcome : Outcome) → (c.on g ≡ Some k) → (copies g (conns k) ≡ 0) → (is_unsettled outcome ≡ false) → Lower c → Lower (settled_by c g outcome place)
+settle_lower c conns a k g place outcome on none firm i_lower =
+    λ p q. let old = i_lower p q in grind arith
 
 settle_has_open : (c : Client) (conns : ℕ → Conn) (a : ℕ → ℕ) (k g place : ℕ) (outcome : Outcome) → (c.on g ≡ Some k) → (copies g (conns k) ≡ 0) → (is_unsettled outcome ≡ false) → HasOpen c → Settled c → HasOpen (settled_by c g outcome place)
 settle_has_open c conns a k g place outcome on none firm i_has_open i_settled =
@@ -123,7 +123,7 @@ settle_keeps c conns a k g place outcome on none firm i =
       taken = settle_taken c conns a k g place outcome on none firm i.taken;
       taken_on = settle_taken_on c conns a k g place outcome on none firm i.taken_on;
       creates = settle_creates c conns a k g place outcome on none firm i.creates;
-      alone = settle_alone c conns a k g place outcome on none firm i.alone;
+      lower = settle_lower c conns a k g place outcome on none firm i.lower;
       has_open = settle_has_open c conns a k g place outcome on none firm i.has_open i.settled;
       asked_open = settle_asked_open c conns a k g place outcome on none firm i.asked_open i.settled;
       fresh = settle_fresh c conns a k g place outcome on none firm i.fresh;

@@ -11,7 +11,7 @@ use Rattle.exchange_defs.specs.Settling.{answered, joined, settled as settled_by
 use Rattle.exchange_defs.specs.Dialogs.{open_channel, went_on, accepted, bound, readied, leave_dialog, refused_dialog}
 use Rattle.exchange_defs.specs.Network.{Conn, Sent, Received, Token, ForDialog, ForOp, ForAttach, op_of, is_own, fresh as fresh_conn, server_off, client_off, send_up, behind_front, take_front}
 use Rattle.exchange_defs.specs.Runs.{is_once, is_send_of}
-use Rattle.exchange_law.specs.Connections.{Connections, copies, count_up, count_down, no_copy_out, is_bound, makes_open, shuts_open, acts_once, its_create, its_request, create_at, opens, Once, Outstanding, OwnUp, AttachUp, OwnDown, AttachDown, DownOpen, OnReady, Ready, Stages, Settled, Taken, TakenOn, Creates, Alone, HasOpen, AskedOpen, Fresh, Bodies, First, Unsent, SentReplies, Deleted}
+use Rattle.exchange_law.specs.Connections.{Connections, copies, count_up, count_down, no_copy_out, is_bound, makes_open, shuts_open, acts_once, its_create, its_request, create_at, opens, Once, Outstanding, OwnUp, AttachUp, OwnDown, AttachDown, DownOpen, OnReady, Ready, Stages, Settled, Taken, TakenOn, Creates, Lower, HasOpen, AskedOpen, Fresh, Bodies, First, Unsent, SentReplies, Deleted}
 use Rattle.exchange_law.proofs.Lists.{get-push, count_up-push, count_down-push, counted_up, counted_down, rest_of, own_up_count, attach_up_count, own_down_count, attach_down_count, front_up, front_down, waited, waited_down}
 
 start_once : (c : Client) (conns : ℕ → Conn) (a : ℕ → ℕ) (g : ℕ) → (c.sent g ≡ false) → (opens c g ≡ true) → (0 < g) → (g ≤ c.taken) → Once conns → Once conns
@@ -70,9 +70,9 @@ start_creates : (c : Client) (conns : ℕ → Conn) (a : ℕ → ℕ) (g : ℕ) 
 start_creates c conns a g new may above within i_creates =
     λ p. let old = i_creates p in grind arith
 
-start_alone : (c : Client) (conns : ℕ → Conn) (a : ℕ → ℕ) (g : ℕ) → (c.sent g ≡ false) → (opens c g ≡ true) → (0 < g) → (g ≤ c.taken) → Alone c → Alone (record c { sent = put c.sent g true })
-start_alone c conns a g new may above within i_alone =
-    λ p q. let old = i_alone p q in grind arith
+start_lower : (c : Client) (conns : ℕ → Conn) (a : ℕ → ℕ) (g : ℕ) → (c.sent g ≡ false) → (opens c g ≡ true) → (0 < g) → (g ≤ c.taken) → Lower c → Lower (record c { sent = put c.sent g true })
+start_lower c conns a g new may above within i_lower =
+    λ p q. let old = i_lower p q in grind arith
 
 start_has_open : (c : Client) (conns : ℕ → Conn) (a : ℕ → ℕ) (g : ℕ) → (c.sent g ≡ false) → (opens c g ≡ true) → (0 < g) → (g ≤ c.taken) → HasOpen c → HasOpen (record c { sent = put c.sent g true })
 start_has_open c conns a g new may above within i_has_open =
@@ -123,7 +123,7 @@ start_keeps c conns a g new may above within i =
       taken = start_taken c conns a g new may above within i.taken;
       taken_on = start_taken_on c conns a g new may above within i.taken_on;
       creates = start_creates c conns a g new may above within i.creates;
-      alone = start_alone c conns a g new may above within i.alone;
+      lower = start_lower c conns a g new may above within i.lower;
       has_open = start_has_open c conns a g new may above within i.has_open;
       asked_open = start_asked_open c conns a g new may above within i.asked_open;
       fresh = start_fresh c conns a g new may above within i.fresh;

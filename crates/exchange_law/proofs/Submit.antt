@@ -11,7 +11,7 @@ use Rattle.exchange_defs.specs.Settling.{answered, joined, settled as settled_by
 use Rattle.exchange_defs.specs.Dialogs.{open_channel, went_on, accepted, bound, readied, leave_dialog, refused_dialog}
 use Rattle.exchange_defs.specs.Network.{Conn, Sent, Received, Token, ForDialog, ForOp, ForAttach, op_of, is_own, fresh as fresh_conn, server_off, client_off, send_up, behind_front, take_front}
 use Rattle.exchange_defs.specs.Runs.{is_once, is_send_of}
-use Rattle.exchange_law.specs.Connections.{Connections, copies, count_up, count_down, no_copy_out, is_bound, makes_open, shuts_open, acts_once, its_create, its_request, create_at, opens, Once, Outstanding, OwnUp, AttachUp, OwnDown, AttachDown, DownOpen, OnReady, Ready, Stages, Settled, Taken, TakenOn, Creates, Alone, HasOpen, AskedOpen, Fresh, Bodies, First, Unsent, SentReplies, Deleted}
+use Rattle.exchange_law.specs.Connections.{Connections, copies, count_up, count_down, no_copy_out, is_bound, makes_open, shuts_open, acts_once, its_create, its_request, create_at, opens, Once, Outstanding, OwnUp, AttachUp, OwnDown, AttachDown, DownOpen, OnReady, Ready, Stages, Settled, Taken, TakenOn, Creates, Lower, HasOpen, AskedOpen, Fresh, Bodies, First, Unsent, SentReplies, Deleted}
 use Rattle.exchange_law.proofs.Lists.{get-push, count_up-push, count_down-push, counted_up, counted_down, rest_of, own_up_count, attach_up_count, own_down_count, attach_down_count, front_up, front_down, waited, waited_down}
 
 submit_once : (c : Client) (conns : ℕ → Conn) (a : ℕ → ℕ) (g : ℕ) (op : Op) (out : Outcome) → (g ≡ c.taken + 1) → Once conns → Once conns
@@ -70,9 +70,9 @@ submit_creates : (c : Client) (conns : ℕ → Conn) (a : ℕ → ℕ) (g : ℕ)
 submit_creates c conns a g op out next create i_creates =
     λ p l m. let old = i_creates p l in let cr = create in grind arith
 
-submit_alone : (c : Client) (conns : ℕ → Conn) (a : ℕ → ℕ) (g : ℕ) (op : Op) (out : Outcome) → (g ≡ c.taken + 1) → Alone c → TakenOn c → Alone (record c { taken = g; op = put c.op g op; outcome = put c.outcome g out })
-submit_alone c conns a g op out next i_alone i_taken_on =
-    λ p q s t. let tp = i_taken_on p s in let tq = i_taken_on q t in let old = i_alone p q s t in grind arith
+submit_lower : (c : Client) (conns : ℕ → Conn) (a : ℕ → ℕ) (g : ℕ) (op : Op) (out : Outcome) → (g ≡ c.taken + 1) → Lower c → TakenOn c → Lower (record c { taken = g; op = put c.op g op; outcome = put c.outcome g out })
+submit_lower c conns a g op out next i_lower i_taken_on =
+    λ p q s l m. let t = i_taken_on p s in let old = i_lower p q s l m in grind arith
 
 submit_has_open : (c : Client) (conns : ℕ → Conn) (a : ℕ → ℕ) (g : ℕ) (op : Op) (out : Outcome) → (g ≡ c.taken + 1) → HasOpen c → Creates c → Taken c → HasOpen (record c { taken = g; op = put c.op g op; outcome = put c.outcome g out })
 submit_has_open c conns a g op out next i_has_open i_creates i_taken =
@@ -123,7 +123,7 @@ submit_keeps c conns a g op out next create i =
       taken = submit_taken c conns a g op out next i.taken;
       taken_on = submit_taken_on c conns a g op out next i.taken_on;
       creates = submit_creates c conns a g op out next create i.creates;
-      alone = submit_alone c conns a g op out next i.alone i.taken_on;
+      lower = submit_lower c conns a g op out next i.lower i.taken_on;
       has_open = submit_has_open c conns a g op out next i.has_open i.creates i.taken;
       asked_open = submit_asked_open c conns a g op out next i.asked_open i.creates i.taken_on;
       fresh = submit_fresh c conns a g op out next i.fresh;

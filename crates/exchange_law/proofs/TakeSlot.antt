@@ -11,7 +11,7 @@ use Rattle.exchange_defs.specs.Settling.{answered, joined, settled as settled_by
 use Rattle.exchange_defs.specs.Dialogs.{open_channel, went_on, accepted, bound, readied, leave_dialog, refused_dialog}
 use Rattle.exchange_defs.specs.Network.{Conn, Sent, Received, Token, ForDialog, ForOp, ForAttach, op_of, is_own, fresh as fresh_conn, server_off, client_off, send_up, behind_front, take_front}
 use Rattle.exchange_defs.specs.Runs.{is_once, is_send_of}
-use Rattle.exchange_law.specs.Connections.{Connections, copies, count_up, count_down, no_copy_out, is_bound, makes_open, shuts_open, acts_once, its_create, its_request, create_at, opens, Once, Outstanding, OwnUp, AttachUp, OwnDown, AttachDown, DownOpen, OnReady, Ready, Stages, Settled, Taken, TakenOn, Creates, Alone, HasOpen, AskedOpen, Fresh, Bodies, First, Unsent, SentReplies, Deleted}
+use Rattle.exchange_law.specs.Connections.{Connections, copies, count_up, count_down, no_copy_out, is_bound, makes_open, shuts_open, acts_once, its_create, its_request, create_at, opens, Once, Outstanding, OwnUp, AttachUp, OwnDown, AttachDown, DownOpen, OnReady, Ready, Stages, Settled, Taken, TakenOn, Creates, Lower, HasOpen, AskedOpen, Fresh, Bodies, First, Unsent, SentReplies, Deleted}
 use Rattle.exchange_law.proofs.Lists.{get-push, count_up-push, count_down-push, counted_up, counted_down, rest_of, own_up_count, attach_up_count, own_down_count, attach_down_count, front_up, front_down, waited, waited_down}
 
 take_slot_once : (c : Client) (conns : ℕ → Conn) (a : ℕ → ℕ) (g s : ℕ) → (c.sent g ≡ false) → Once conns → Once conns
@@ -70,9 +70,9 @@ take_slot_creates : (c : Client) (conns : ℕ → Conn) (a : ℕ → ℕ) (g s :
 take_slot_creates c conns a g s new i_creates =
     λ p. let old = i_creates p in grind arith
 
-take_slot_alone : (c : Client) (conns : ℕ → Conn) (a : ℕ → ℕ) (g s : ℕ) → (c.sent g ≡ false) → Alone c → Alone (take_slot c g s)
-take_slot_alone c conns a g s new i_alone =
-    λ p q. let old = i_alone p q in grind arith
+take_slot_lower : (c : Client) (conns : ℕ → Conn) (a : ℕ → ℕ) (g s : ℕ) → (c.sent g ≡ false) → Lower c → Lower (take_slot c g s)
+take_slot_lower c conns a g s new i_lower =
+    λ p q. let old = i_lower p q in grind arith
 
 take_slot_has_open : (c : Client) (conns : ℕ → Conn) (a : ℕ → ℕ) (g s : ℕ) → (c.sent g ≡ false) → HasOpen c → HasOpen (take_slot c g s)
 take_slot_has_open c conns a g s new i_has_open =
@@ -123,7 +123,7 @@ take_slot_keeps c conns a g s new i =
       taken = take_slot_taken c conns a g s new i.taken;
       taken_on = take_slot_taken_on c conns a g s new i.taken_on;
       creates = take_slot_creates c conns a g s new i.creates;
-      alone = take_slot_alone c conns a g s new i.alone;
+      lower = take_slot_lower c conns a g s new i.lower;
       has_open = take_slot_has_open c conns a g s new i.has_open;
       asked_open = take_slot_asked_open c conns a g s new i.asked_open;
       fresh = take_slot_fresh c conns a g s new i.fresh;

@@ -11,7 +11,7 @@ use Rattle.exchange_defs.specs.Settling.{answered, joined, settled as settled_by
 use Rattle.exchange_defs.specs.Dialogs.{open_channel, went_on, accepted, bound, readied, leave_dialog, refused_dialog}
 use Rattle.exchange_defs.specs.Network.{Conn, Sent, Received, Token, ForDialog, ForOp, ForAttach, op_of, is_own, fresh as fresh_conn, server_off, client_off, send_up, behind_front, take_front}
 use Rattle.exchange_defs.specs.Runs.{is_once, is_send_of}
-use Rattle.exchange_law.specs.Connections.{Connections, copies, count_up, count_down, no_copy_out, is_bound, makes_open, shuts_open, acts_once, its_create, its_request, create_at, opens, Once, Outstanding, OwnUp, AttachUp, OwnDown, AttachDown, DownOpen, OnReady, Ready, Stages, Settled, Taken, TakenOn, Creates, Alone, HasOpen, AskedOpen, Fresh, Bodies, First, Unsent, SentReplies, Deleted}
+use Rattle.exchange_law.specs.Connections.{Connections, copies, count_up, count_down, no_copy_out, is_bound, makes_open, shuts_open, acts_once, its_create, its_request, create_at, opens, Once, Outstanding, OwnUp, AttachUp, OwnDown, AttachDown, DownOpen, OnReady, Ready, Stages, Settled, Taken, TakenOn, Creates, Lower, HasOpen, AskedOpen, Fresh, Bodies, First, Unsent, SentReplies, Deleted}
 use Rattle.exchange_law.proofs.Lists.{get-push, count_up-push, count_down-push, counted_up, counted_down, rest_of, own_up_count, attach_up_count, own_down_count, attach_down_count, front_up, front_down, waited, waited_down}
 
 went_on_once : (c : Client) (conns : ℕ → Conn) (a : ℕ → ℕ) (k : ℕ) (stage : Stage) (r : Reply) → Once conns → Once conns
@@ -70,9 +70,9 @@ went_on_creates : (c : Client) (conns : ℕ → Conn) (a : ℕ → ℕ) (k : ℕ
 went_on_creates c conns a k stage r i_creates =
     λ p. let old = i_creates p in grind arith
 
-went_on_alone : (c : Client) (conns : ℕ → Conn) (a : ℕ → ℕ) (k : ℕ) (stage : Stage) (r : Reply) → Alone c → Alone (went_on c k stage r)
-went_on_alone c conns a k stage r i_alone =
-    λ p q. let old = i_alone p q in grind arith
+went_on_lower : (c : Client) (conns : ℕ → Conn) (a : ℕ → ℕ) (k : ℕ) (stage : Stage) (r : Reply) → Lower c → Lower (went_on c k stage r)
+went_on_lower c conns a k stage r i_lower =
+    λ p q. let old = i_lower p q in grind arith
 
 went_on_has_open : (c : Client) (conns : ℕ → Conn) (a : ℕ → ℕ) (k : ℕ) (stage : Stage) (r : Reply) → HasOpen c → HasOpen (went_on c k stage r)
 went_on_has_open c conns a k stage r i_has_open =
@@ -123,7 +123,7 @@ went_on_keeps c conns a k stage r live i =
       taken = went_on_taken c conns a k stage r i.taken;
       taken_on = went_on_taken_on c conns a k stage r i.taken_on;
       creates = went_on_creates c conns a k stage r i.creates;
-      alone = went_on_alone c conns a k stage r i.alone;
+      lower = went_on_lower c conns a k stage r i.lower;
       has_open = went_on_has_open c conns a k stage r i.has_open;
       asked_open = went_on_asked_open c conns a k stage r i.asked_open;
       fresh = went_on_fresh c conns a k stage r i.fresh;

@@ -105,9 +105,9 @@ TakenOn c = (g : ℕ) → is_some (c.on g) ≡ true → 0 < g × g ≤ c.taken
 abbrev pub Creates : Client → Type 0
 Creates c = (g : ℕ) → 0 < g → g ≤ c.taken → makes_open (c.op g) ≡ false → 0 < create_at c g × create_at c g < g × makes_open (c.op (create_at c g)) ≡ true
 
--- while a close is outstanding no other operation of its open is
-abbrev pub Alone : Client → Type 0
-Alone c = (g h : ℕ) → is_some (c.on g) ≡ true → is_some (c.on h) ≡ true → shuts_open (c.op h) ≡ true → create_at c g ≡ create_at c h → g ≡ h
+-- a close waits for the lower operations of its open, and the higher ones wait for it
+abbrev pub Lower : Client → Type 0
+Lower c = (h n : ℕ) → is_some (c.on h) ≡ true → 0 < n → n < h → create_at c n ≡ create_at c h → (shuts_open (c.op h) || shuts_open (c.op n)) ≡ true → is_unsettled (c.outcome n) ≡ false
 
 -- what went out has an open, and what didn't has no copy
 abbrev pub HasOpen : Client → Type 0
@@ -153,7 +153,7 @@ pub record Connections (c : Client) (conns : ℕ → Conn) (a : ℕ → ℕ) : T
   pub taken : Taken c
   pub taken_on : TakenOn c
   pub creates : Creates c
-  pub alone : Alone c
+  pub lower : Lower c
   pub has_open : HasOpen c
   pub asked_open : AskedOpen c
   pub fresh : Fresh c a
