@@ -9,7 +9,7 @@ use Rattle.exchange_defs.specs.Operations.{Op, Outcome, Unsettled, WasOk, WasRef
 use Rattle.exchange_defs.specs.Client.{Client, Stage, Apart, SaidNegotiate, SaidFirst, SaidSecond, AskedTree, create_for, guid_for, may_take, take_op, outcome_at_first, may_push, goes_itself, lacks_slot, settle_no_slot, settle_no_slots, waits, begun, begin, again, take_slot, outstanding, asked, own_message, ask_message, cut_channel, ends_at_cut, end_session, finish, is_gone_after}
 use Rattle.exchange_defs.specs.Settling.{Heard as Hearing, Settles, GoesAgain, Attaches, EndsSession, heard, hear, is_awaited, settle, settled, noted, noted_ok, noted_full, settles_open, with_no_opens, give_up_on, without_open, ok_or_unknown, refused, was_closed, may_have_acted, refuses_all, goes_again, answered, joined}
 use Rattle.exchange_defs.specs.Dialogs.{due, DialogStep, GoesOn, Accepts, Binds, Readies, Refuses, dialog_step, dialog_message, went_on, accepted, bound, readied, leave_dialog, refused_dialog}
-use Rattle.exchange_defs.specs.Network.{has_its_slot, World, Event, Submit, Open, Push, Serve, Take, Cut, Drop, Restart, Crash, Wait, Finish, Pick, Conn, Sent, Received, Token, ForDialog, ForOp, ForAttach, op_of, is_own, happens, run, start, is_possible, changed, later, moments, may_open, may_serve, has_reply, max_channel, pushed_op, pushed_pick, sent_itself, transmitted, answer, absorbed, replied, say_down, serve_front, absorb_front, behind_front, take_front, take_reply, took_by, dialog_took, op_took, op_heard, closes_all, with_client, client_off, server_off, send_up, behind_reply, restarted, with_answer}
+use Rattle.exchange_defs.specs.Network.{has_its_slot, World, Event, Submit, Open, Push, Serve, Take, Cut, Drop, Restart, Crash, Wait, Finish, Pick, Conn, Sent, Received, Token, ForDialog, ForOp, ForAttach, op_of, is_own, happens, run, start, Settings, no_conn, is_possible, changed, later, moments, may_open, may_serve, has_reply, max_channel, pushed_op, pushed_pick, sent_itself, transmitted, answer, absorbed, replied, say_down, serve_front, absorb_front, behind_front, take_front, take_reply, took_by, dialog_took, op_took, op_heard, closes_all, with_client, client_off, server_off, send_up, behind_reply, restarted, with_answer}
 use Rattle.exchange_defs.specs.Runs.{is_once, is_send_of, acts, acts_now, front_acts}
 use Rattle.exchange_law.specs.Connections.{Connections, Unsent, Ready, Lower, AskedOpen, Settled, Stages, Once, copies, count_up, count_down, no_copy_out, is_bound, makes_open, shuts_open, acts_once, its_create, its_request, create_at, opens}
 use Rattle.exchange_law.proofs.Lists.{counted_up, counted_down, front_up, front_down}
@@ -649,3 +649,63 @@ keeps w a Restart i = restarts w a i
 keeps w a (Crash k kept) i = crash_open w a k i kept (may_serve w k)
 keeps w a (Wait n) i = i
 keeps w a (Finish refusal) i = either (λ v. Holds v a) (not w.client.live) _ _ (λ d. finished_keeps w.client w.conns a (NoSession refusal) (not_true w.client.live d) i) (λ _. i)
+
+-- ---- runs
+
+no_conn_counts : (g : ℕ) → copies g no_conn ≤ 1
+no_conn_counts g = grind arith
+
+pub begins : (z : Settings) → Holds (start z) (λ g. 0)
+begins z =
+    record {
+      once = λ k g. grind arith;
+      outstanding = λ k g o. absurd (cc);
+      own_up = λ k n g x h. absurd (cc);
+      attach_up = λ k n g x h. absurd (cc);
+      own_down = λ k n g x h. absurd (cc);
+      attach_down = λ k n g x h. absurd (cc);
+      down_open = λ k o. refl;
+      on_ready = λ g k e. absurd (cc);
+      ready = λ k e. absurd (cc);
+      stages = λ k e. absurd (cc);
+      settled = λ g e. refl;
+      taken = λ g e. absurd (cc);
+      taken_on = λ g e. absurd (cc);
+      creates = λ g l m. absurd (omega arith);
+      lower = λ h n e. absurd (cc);
+      has_open = λ g e. absurd (cc);
+      asked_open = λ g e. absurd (cc);
+      fresh = λ g e. (refl, refl, refl);
+      bodies = λ k n g x h. absurd (cc);
+      first = λ k n g x h. absurd (cc);
+      unsent = λ g o b n u. refl;
+      sent_replies = λ k n g y h. absurd (cc);
+      deleted = λ k n g y h. absurd (cc);
+    }
+
+pub counts : List Event → World → (ℕ → ℕ) → ℕ → ℕ
+counts [] w a = a
+counts (e ∷ es) w a = counts es (happens w e) (after w e a)
+
+pub always : (es : List Event) (w : World) (a : ℕ → ℕ) → Holds w a → Holds (run es w) (counts es w a)
+unfolding run counts
+always [] w a i = i
+always (e ∷ es) w a i = always es (happens w e) (after w e a) (keeps w a e i)
+
+one_more : (b : Bool) (x n : ℕ) → (if b then x + 1 else x) + n ≡ x + ((if b then 1 else 0) + n)
+one_more true x n = omega arith
+one_more false x n = omega arith
+
+counts_acts : (es : List Event) (w : World) (a : ℕ → ℕ) (g : ℕ) → counts es w a g ≡ a g + acts es w g
+unfolding counts acts
+counts_acts [] w a g = omega arith
+counts_acts (e ∷ es) w a g = counts_acts es (happens w e) (after w e a) g ∙ one_more (acts_now w e g) (a g) (acts es (happens w e) g)
+
+from_zero : (n m : ℕ) → m ≡ 0 + n → m ≡ n
+from_zero n m e = omega (arith, e)
+
+same_counts : (es : List Event) (w : World) → counts es w (λ g. 0) ≡ acts es w
+same_counts es w = λ t g. from_zero (acts es w g) (counts es w (λ x. 0) g) (counts_acts es w (λ x. 0) g) t
+
+pub connections : (z : Settings) (es : List Event) → Connections (run es (start z)).client (run es (start z)).conns (acts es (start z))
+connections z es = subst (λ a. Connections (run es (start z)).client (run es (start z)).conns a) (same_counts es (start z)) (always es (start z) (λ g. 0) (begins z))
