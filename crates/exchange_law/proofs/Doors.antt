@@ -6,7 +6,7 @@ use Rattle.exchange_defs.specs.Verdict.{Verdict}
 use Rattle.exchange_defs.specs.Check.{check}
 use Rattle.exchange_defs.specs.Records.{entry_bytes, fits, origin_at}
 use Rattle.exchange_defs.specs.Effects.{apply}
-use Rattle.exchange_defs.specs.Step.{step, table, joined, expiring, written_down, with_deadlines, due, expire, expire_records, without_room, max_marks}
+use Rattle.exchange_defs.specs.Step.{step, table, expiring, written_down, with_deadlines, due, expire, expire_records, without_room, max_marks}
 
 -- an answer whose records are these, written down
 abbrev pub recorded : Answer → List Record → Answer
@@ -31,8 +31,8 @@ by_table : (P : Answer → Type 0) (s : Server) (now : ℕ) (m : Message) → Wa
 by_table P s now m f =
     let d = with_deadlines s now in
     either (λ A. P (written_down A)) (fits d (apply d m now (check d m)).records) _ _
-      (λ _. f d (check d m) _ (inl refl) (inl refl))
-      (λ _. f d (without_room (check d m)) _ (inl refl) (inr refl))
+    (λ _. f d (check d m) _ (inl refl) (inl refl))
+    (λ _. f d (without_room (check d m)) _ (inl refl) (inr refl))
 
 by_due : (P : Answer → Type 0) (s : Server) (now : ℕ) (m : Message) → Way s now m P → (u : Option ℕ) → due (with_deadlines s now) now ≡ u
     → P (written_down (expiring (with_deadlines s now) now (Heard m) u))
@@ -40,9 +40,9 @@ by_due P s now m f None e = by_table P s now m f
 by_due P s now m f (Some o) e =
     let d = with_deadlines s now in let t = expire d o in
     either (λ A. P (written_down A)) (nat_le max_marks d.mark_count) _ _ (λ _. by_table P s now m f)
-      (λ _. either (λ A. P (written_down A)) (fits d (expire_records d (origin_at m.connection) o ++ (apply t m now (check t m)).records)) _ _
-        (λ _. f t (check t m) _ (inr (o, e, refl)) (inl refl))
-        (λ _. by_table P s now m f))
+    (λ _. either (λ A. P (written_down A)) (fits d (expire_records d (origin_at m.connection) o ++ (apply t m now (check t m)).records)) _ _
+    (λ _. f t (check t m) _ (inr (o, e, refl)) (inl refl))
+    (λ _. by_table P s now m f))
 
 pub by_verdict : (P : Answer → Type 0) (s : Server) (now : ℕ) (m : Message) → Way s now m P → P (step s now (Heard m))
 by_verdict P s now m f = by_due P s now m f (due (with_deadlines s now) now) refl

@@ -58,13 +58,13 @@ front_down ys y rest is = rw is refl
 pub waited : (conns : ℕ → Conn) (k : ℕ) (x0 : Sent) (rest : List Sent) (j n : ℕ) (x : Sent) → (conns k).up ≡ x0 ∷ rest → slice_get (put conns k (behind_front (conns k) rest) j).up n ≡ Some x
     → (p : ℕ) × (slice_get (conns j).up p ≡ Some x)
 waited conns k x0 rest j n x is h = elim (j == k) as (λ b. j == k ≡ b → (p : ℕ) × (slice_get (conns j).up p ≡ Some x)) [
-      | true ↦ λ e. (n + 1, grind (arith, rest_of))
-      | false ↦ λ e. (n, grind arith)
-    ] refl
+  | true ↦ λ e. (n + 1, grind (arith, rest_of))
+  | false ↦ λ e. (n, grind arith)
+] refl
 
 pub waited_down : (conns : ℕ → Conn) (k : ℕ) (y0 : Received) (rest : List Received) (j n : ℕ) (y : Received) → (conns k).down ≡ y0 ∷ rest → slice_get (put conns k (take_front (conns k) rest) j).down n ≡ Some y
     → (p : ℕ) × (slice_get (conns j).down p ≡ Some y)
 waited_down conns k y0 rest j n y is h = elim (j == k) as (λ b. j == k ≡ b → (p : ℕ) × (slice_get (conns j).down p ≡ Some y)) [
-      | true ↦ λ e. (n + 1, grind (arith, rest_of))
-      | false ↦ λ e. (n, grind arith)
-    ] refl
+  | true ↦ λ e. (n + 1, grind (arith, rest_of))
+  | false ↦ λ e. (n, grind arith)
+] refl

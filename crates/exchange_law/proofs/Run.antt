@@ -2,14 +2,15 @@
 use Rattle.std.proofs.lemmas.Bool.{eqb-false}
 use Rattle.std.proofs.Common.{eqb-true, ◌≡◌, ◌≢◌, ℕ, ◌+◌, ◌≤◌, ◌<◌, ◌==◌, nat_lt, nat_le, Bool, true, false, not, ◌&&◌, ◌||◌, if◌then◌else◌, List, [], ◌∷◌, ◌++◌, ◌⊎◌, inl, inr, refl, arith, sym, subst, ◌∙◌, ap, Option, Some, None, slice_get, is_some, is_none, zero, suc}
 use Rattle.std.proofs.lemmas.Bool.Decides.{nat_tests}
-use Rattle.exchange_defs.specs.Table.{put, put2, is_at}
+use Rattle.exchange_defs.specs.Table.{put, put2, is_at, is_filled}
 use Rattle.exchange_defs.specs.Status.{success, user_session_deleted, disk_full}
 use Rattle.exchange_defs.specs.State.{Message, Reply, Answer, Body}
 use Rattle.exchange_defs.specs.Operations.{Op, Outcome, Unsettled, WasOk, WasRefused, NoSlot, NoOpen, Unknown, Why, NoSession, is_unsettled, is_ok, is_create, is_close, OpReply, value_in, id_in, is_lock, is_change, create_of, holds_up, request_of, weight, charge}
-use Rattle.exchange_defs.specs.Client.{Client, Stage, Apart, SaidNegotiate, SaidFirst, SaidSecond, AskedTree, create_for, guid_for, may_take, take_op, outcome_at_first, may_push, goes_itself, lacks_slot, settle_no_slot, settle_no_slots, waits, begun, begin, again, take_slot, outstanding, asked, own_message, ask_message, cut_channel, ends_at_cut, end_session, finish, is_gone_after}
+use Rattle.exchange_defs.specs.Client.{Client, Stage, Apart, SaidNegotiate, SaidFirst, SaidSecond, AskedTree, create_for, guid_for, may_take, take_op, outcome_at_first, may_push, has_its_slot, goes_itself, lacks_slot, settle_no_slot, settle_no_slots, waits, begun, begin, again, take_slot, outstanding, asked, own_message, ask_message, cut_channel, ends_at_cut, end_session, finish, is_gone_after}
 use Rattle.exchange_defs.specs.Settling.{Heard as Hearing, Settles, GoesAgain, Attaches, EndsSession, heard, hear, is_awaited, settle, settled, noted, noted_ok, noted_full, settles_open, with_no_opens, give_up_on, without_open, ok_or_unknown, refused, was_closed, may_have_acted, refuses_all, goes_again, answered, joined}
-use Rattle.exchange_defs.specs.Dialogs.{due, DialogStep, GoesOn, Accepts, Binds, Readies, Refuses, dialog_step, dialog_message, went_on, accepted, bound, readied, leave_dialog, refused_dialog}
-use Rattle.exchange_defs.specs.Network.{has_its_slot, World, Event, Submit, Open, Push, Serve, Take, Cut, Drop, Restart, Crash, Wait, Finish, Pick, Conn, Sent, Received, Token, ForDialog, ForOp, ForAttach, op_of, is_own, happens, run, start, Settings, no_conn, is_possible, changed, later, moments, may_open, may_serve, has_reply, max_channel, pushed_op, pushed_pick, sent_itself, transmitted, answer, absorbed, replied, say_down, serve_front, absorb_front, behind_front, take_front, take_reply, took_by, dialog_took, op_took, op_heard, closes_all, with_client, client_off, server_off, send_up, behind_reply, restarted, with_answer}
+use Rattle.exchange_defs.specs.Dialogs.{DialogStep, GoesOn, Accepts, Binds, Readies, Refuses, dialog_step, dialog_message, went_on, accepted, bound, readied, leave_dialog, refused_dialog}
+use Rattle.exchange_defs.specs.ClientStep.{Pick, Act, Nothing, Sends, Asks, CloseChannels, AllSettled, TakesOp, Pushes, Hears, IsCut, Finishes, client_after, act, pick_after, pick_act, act_heard, hear_after, hear_act, some_unsettled}
+use Rattle.exchange_defs.specs.Network.{World, Event, Submit, Open, Push, Serve, Take, Cut, Drop, Restart, Crash, Wait, Finish, Conn, Sent, Received, Token, ForDialog, ForOp, ForAttach, op_of, is_own, happens, run, start, Settings, no_conn, is_possible, changed, later, moments, may_open, may_serve, max_channel, pushed_by, transmitted, asked_for, answer, absorbed, replied, say_down, serve_front, absorb_front, behind_front, take_front, take_reply, took_by, dialog_took, op_took, closed_by, cut_by, with_client, client_off, server_off, send_up, behind_reply, restarted, with_answer}
 use Rattle.exchange_defs.specs.Runs.{is_once, is_send_of, acts, acts_now, front_acts}
 use Rattle.exchange_law.specs.Connections.{Connections, Unsent, Ready, Lower, AskedOpen, Settled, Stages, Once, copies, count_up, count_down, no_copy_out, is_bound, makes_open, shuts_open, acts_once, its_create, its_request, create_at, opens}
 use Rattle.exchange_law.proofs.Lists.{counted_up, counted_down, front_up, front_down}
@@ -59,9 +60,9 @@ create_below c g op may kind = (grind (arith, nat_tests), grind (arith, nat_test
 
 submits : (w : World) (a : ℕ → ℕ) (g : ℕ) (op : Op) → Holds w a → Holds (changed w (Submit g op)) a
 submits w a g op i =
-    either (λ v. Holds v a) (may_take w.client g op) _ _
-      (λ may. submit_keeps w.client w.conns a g op (outcome_at_first w.client g op) (next_of w.client g op may) (create_below w.client g op may) i)
-      (λ _. i)
+    either (λ d. Connections d w.conns a) (may_take w.client g op) _ _
+    (λ may. submit_keeps w.client w.conns a g op (outcome_at_first w.client g op) (next_of w.client g op may) (create_below w.client g op may) i)
+    (λ _. i)
 
 -- ---- Push
 
@@ -131,9 +132,9 @@ slotless_still c g out none st h u = let s = st h in grind arith
 no_slot : (c : Client) (conns : ℕ → Conn) (a : ℕ → ℕ) (k g : ℕ) → Connections c conns a → Connections (settle_no_slot c k g) conns a
 no_slot c conns a k g i =
     either (λ d. Connections d conns a) (lacks_slot c k g) _ _
-      (λ lacks. let may = found c k g (front_of (may_push c k g) _ lacks) in
-        outcomes_keeps c conns a (put c.outcome g (NoSlot (create_for c g))) (slotless_same c g (NoSlot (create_for c g)) may.pending) (slotless_still c g (NoSlot (create_for c g)) may.none i.settled) i)
-      (λ _. i)
+    (λ lacks. let may = found c k g (front_of (may_push c k g) _ lacks) in
+    outcomes_keeps c conns a (put c.outcome g (NoSlot (create_for c g))) (slotless_same c g (NoSlot (create_for c g)) may.pending) (slotless_still c g (NoSlot (create_for c g)) may.none i.settled) i)
+    (λ _. i)
 
 no_slots : (c : Client) (conns : ℕ → Conn) (a : ℕ → ℕ) (k : ℕ) (gs : List ℕ) → Connections c conns a → Connections (settle_no_slots c k gs) conns a
 unfolding settle_no_slots
@@ -160,8 +161,8 @@ no_wait c g (suc m) n w l e h =
     elim (n == m) as (λ b. n == m ≡ b → is_unsettled (c.outcome n) ≡ false) [
       | true ↦ λ q. let s : m ≡ n = sym (eqb-true n m q) in
           subst (λ x. is_unsettled (c.outcome x) ≡ false) s
-            (first_waits ((create_for c m == create_for c g) && holds_up (c.op m) (c.op g)) (is_unsettled (c.outcome m)) (waits c g m) w
-              (both _ _ (same_test _ _ (ap (λ x. create_for c x) s ∙ e)) (ap (λ x. holds_up (c.op x) (c.op g)) s ∙ h)))
+          (first_waits ((create_for c m == create_for c g) && holds_up (c.op m) (c.op g)) (is_unsettled (c.outcome m)) (waits c g m) w
+          (both _ _ (same_test _ _ (ap (λ x. create_for c x) s ∙ e)) (ap (λ x. holds_up (c.op x) (c.op g)) s ∙ h)))
       | false ↦ λ q. let d = eqb-false n m q in
           no_wait c g m n (rest_waits ((create_for c m == create_for c g) && holds_up (c.op m) (c.op g)) (is_unsettled (c.outcome m)) (waits c g m) w) (omega (arith, d)) e h
     ] refl
@@ -223,7 +224,7 @@ Out conns a k g c = Connections (outstanding c k g) (put conns k (send_up (conns
 sent_out : (c : Client) (conns : ℕ → Conn) (a : ℕ → ℕ) (k g : ℕ) → Connections c conns a → MayPush c k g → c.sent g ≡ true → Lowest c g → Out conns a k g c
 sent_out c conns a k g i may sent lowest =
     send_keeps c conns a k g (charge (weight (c.op g))) (own_message c k (conns k).next_id g) may.ready may.none may.above may.within may.pending may.has_open lowest sent (own_body c k (conns k).next_id g) refl refl
-      (idle_of c a g i.unsent may.none may.pending) i
+    (idle_of c a g i.unsent may.none may.pending) i
 
 put_own : (f : ℕ → Bool) (g : ℕ) → put f g true g ≡ true
 put_own f g = grind arith
@@ -231,37 +232,48 @@ put_own f g = grind arith
 begun_out : (c : Client) (conns : ℕ → Conn) (a : ℕ → ℕ) (k g s : ℕ) → Connections c conns a → MayPush c k g → Lowest c g → (b : Bool) → c.sent g ≡ b → Out conns a k g (if b then again c g else begin c g s)
 begun_out c conns a k g s i may low true e =
     either (Out conns a k g) (is_lock (c.op g)) _ _
-      (λ _. sent_out (record c { retried = put2 c.retried (create_for c g) (c.slot_of g) c.number }) conns a k g (retried_keeps c conns a (create_for c g) (c.slot_of g) i)
-        (record { ready = may.ready; above = may.above; within = may.within; pending = may.pending; none = may.none; has_open = may.has_open }) e low)
-      (λ _. sent_out c conns a k g i may e low)
+    (λ _. sent_out (record c { retried = put2 c.retried (create_for c g) (c.slot_of g) c.number }) conns a k g (retried_keeps c conns a (create_for c g) (c.slot_of g) i)
+    (record { ready = may.ready; above = may.above; within = may.within; pending = may.pending; none = may.none; has_open = may.has_open }) e low)
+    (λ _. sent_out c conns a k g i may e low)
 begun_out c conns a k g s i may low false e =
     either (Out conns a k g) (is_lock (c.op g)) _ _
-      (λ _. sent_out (record (take_slot c g s) { sent = put c.sent g true }) conns a k g (start_keeps (take_slot c g s) conns a g e may.has_open may.above may.within (take_slot_keeps c conns a g s e i))
-        (record { ready = may.ready; above = may.above; within = may.within; pending = may.pending; none = may.none; has_open = may.has_open }) (put_own c.sent g) low)
-      (λ _. sent_out (record c { sent = put c.sent g true }) conns a k g (start_keeps c conns a g e may.has_open may.above may.within i)
-        (record { ready = may.ready; above = may.above; within = may.within; pending = may.pending; none = may.none; has_open = may.has_open }) (put_own c.sent g) low)
+    (λ _. sent_out (record (take_slot c g s) { sent = put c.sent g true }) conns a k g (start_keeps (take_slot c g s) conns a g e may.has_open may.above may.within (take_slot_keeps c conns a g s e i))
+    (record { ready = may.ready; above = may.above; within = may.within; pending = may.pending; none = may.none; has_open = may.has_open }) (put_own c.sent g) low)
+    (λ _. sent_out (record c { sent = put c.sent g true }) conns a k g (start_keeps c conns a g e may.has_open may.above may.within i)
+    (record { ready = may.ready; above = may.above; within = may.within; pending = may.pending; none = may.none; has_open = may.has_open }) (put_own c.sent g) low)
 
-pushes_op : (w : World) (a : ℕ → ℕ) (k g s : ℕ) → Holds w a → Holds (pushed_op w k g s) a
-pushes_op w a k g s i =
-    let P : World → Type 0 = λ v. Holds v a in
-    either P (may_push w.client k g) _ _
-      (λ may. let m = found w.client k g may in let low = lower_at w.client g m.has_open (free_of w.client k g may) in
-        either P (goes_itself w.client g) _ _
-          (λ _. either P (has_its_slot w.client g s) _ _ (λ _. begun_out w.client w.conns a k g s i m low (w.client.sent g) refl) (λ _. i))
-          (λ _. ask_keeps w.client w.conns a k g 1 (ask_message w.client k (w.conns k).next_id g) m.ready m.none m.above m.within m.pending m.has_open low i))
-      (λ _. i)
+-- two choices by one test
+both_ways : {X Y : Type 0} (P : X → Y → Type 0) (b : Bool) (x y : X) (u v : Y) → (b ≡ true → P x u) → (b ≡ false → P y v) → P (if b then x else y) (if b then u else v)
+both_ways P true x y u v f g = f refl
+both_ways P false x y u v f g = g refl
 
-pushes : (w : World) (a : ℕ → ℕ) (k : ℕ) (slotless : List ℕ) (pick : Option Pick) → Holds w a → Holds (changed w (Push k slotless pick)) a
-pushes w a k slotless None i = no_slots w.client w.conns a k slotless i
-pushes w a k slotless (Some p) i = pushes_op (record w { client = settle_no_slots w.client k slotless }) a k p.op p.slot (no_slots w.client w.conns a k slotless i)
+pushes_op : (w : World) (a : ℕ → ℕ) (k g s : ℕ) (c : Client) → Connections c w.conns a → Holds (pushed_by w k (pick_after c k (Some (record { op = g; slot = s }))) (pick_act c k (Some (record { op = g; slot = s })))) a
+pushes_op w a k g s c i =
+    let P : Client → Act → Type 0 = λ d x. Holds (pushed_by w k d x) a in
+    both_ways P (may_push c k g) _ _ _ _
+    (λ may. let m = found c k g may in let low = lower_at c g m.has_open (free_of c k g may) in
+    both_ways P (goes_itself c g) _ _ _ _
+    (λ _. both_ways P (has_its_slot c g s) _ _ _ _ (λ _. begun_out c w.conns a k g s i m low (c.sent g) refl) (λ _. i))
+    (λ _. ask_keeps c w.conns a k g 1 (ask_message c k (w.conns k).next_id g) m.ready m.none m.above m.within m.pending m.has_open low i))
+    (λ _. i)
+
+picks : (w : World) (a : ℕ → ℕ) (k : ℕ) (c : Client) (pick : Option Pick) → Connections c w.conns a → Holds (pushed_by w k (pick_after c k pick) (pick_act c k pick)) a
+picks w a k c None i = either (λ x. Holds (pushed_by w k c x) a) (some_unsettled c c.taken) _ _ (λ _. i) (λ _. i)
+picks w a k c (Some p) i = pushes_op w a k p.op p.slot c i
+
+pushes : (w : World) (a : ℕ → ℕ) (k : ℕ) (slotless : List ℕ) (pick : Option Pick) → w.client.ready k ≡ true → Holds w a → Holds (changed w (Push k slotless pick)) a
+pushes w a k slotless pick ready i =
+    both_ways (λ d x. Holds (pushed_by w k d x) a) (w.client.ready k) _ _ _ _
+    (λ _. picks w a k (settle_no_slots w.client k slotless) pick (no_slots w.client w.conns a k slotless i))
+    (λ off. absurd (grind arith))
 
 -- ---- Serve
 
 put_at_self : (f : ℕ → Conn) (k q : ℕ) → put f k (f k) q ≡ f q
 put_at_self f k q = elim (q == k) as (λ b. q == k ≡ b → put f k (f k) q ≡ f q) [
-      | true ↦ λ e. let s = eqb-true q k e in grind arith
-      | false ↦ λ e. grind arith
-    ] refl
+  | true ↦ λ e. let s = eqb-true q k e in grind arith
+  | false ↦ λ e. grind arith
+] refl
 
 put_self : (f : ℕ → Conn) (k : ℕ) → f ≡ put f k (f k)
 put_self f k = λ t q. sym (put_at_self f k q) t
@@ -297,14 +309,14 @@ says w a k x rest A place is quiet i =
     let f : ℕ → Conn = put w.conns k (behind_front (w.conns k) rest) in
     let j = absorb_keeps w.client w.conns a k x rest A.acted is i in
     either (λ d. Connections w.client (put f k d) (counted a x A.acted)) (f k).client_open _ _
-      (λ o. let stands = still_open w.conns k rest o in
-        say_keeps w.client f (counted a x A.acted) k (record { token = x.token; reply = A.reply; place = place }) o (front_gone w.conns k x rest is (i.once k (op_of x.token)))
-          (i.outstanding k (op_of x.token) stands (more_up (w.conns k) (op_of x.token) n0))
-          (λ g t. i.own_up k 0 g x f0 stands t) (λ g t. i.attach_up k 0 g x f0 stands t)
-          (λ e. no_dialog w.client w.conns k i.ready (more_up (w.conns k) 0 (counted_up 0 (w.conns k).up 0 x f0 e)))
-          (λ g t. (i.bodies k 0 g x f0 t).0)
-          (λ g t ao st b. not_counted a x A.acted g (quiet st) (i.first k 0 g x f0 t ao b).1) j)
-      (λ _. subst (λ v. Connections w.client v (counted a x A.acted)) (put_self f k) j)
+    (λ o. let stands = still_open w.conns k rest o in
+    say_keeps w.client f (counted a x A.acted) k (record { token = x.token; reply = A.reply; place = place }) o (front_gone w.conns k x rest is (i.once k (op_of x.token)))
+    (i.outstanding k (op_of x.token) stands (more_up (w.conns k) (op_of x.token) n0))
+    (λ g t. i.own_up k 0 g x f0 stands t) (λ g t. i.attach_up k 0 g x f0 stands t)
+    (λ e. no_dialog w.client w.conns k i.ready (more_up (w.conns k) 0 (counted_up 0 (w.conns k).up 0 x f0 e)))
+    (λ g t. (i.bodies k 0 g x f0 t).0)
+    (λ g t ao st b. not_counted a x A.acted g (quiet st) (i.first k 0 g x f0 t ao b).1) j)
+    (λ _. subst (λ v. Connections w.client v (counted a x A.acted)) (put_self f k) j)
 
 serves : (w : World) (a : ℕ → ℕ) (k : ℕ) → Holds w a → (xs : List Sent) → (w.conns k).up ≡ xs → Holds (serve_front w k xs) (λ g. if front_acts w xs g then a g + 1 else a g)
 serves w a k i [] is = i
@@ -345,7 +357,7 @@ refused_firm : (op : Op) (asking unanswered : Bool) (status : ℕ) → settles_f
 refused_firm op asking unanswered status =
     let P : Hearing → Type 0 = λ h. settles_firm h ≡ true in
     either P (not unanswered) _ _ (λ _. refl) (λ _. either P (was_closed op asking status) _ _ (λ _. refl)
-      (λ _. either P (may_have_acted op asking status) _ _ (λ _. refl) (λ _. either P (refuses_all op status) _ _ (λ _. refl) (λ _. refl))))
+    (λ _. either P (may_have_acted op asking status) _ _ (λ _. refl) (λ _. either P (refuses_all op status) _ _ (λ _. refl) (λ _. refl))))
 
 abbrev line : Bool → Bool → Bool → Bool → Hearing → Hearing → Hearing
 line b1 b2 b3 asking x y = if b1 then EndsSession else if b2 then (if asking then Attaches else x) else if b3 then GoesAgain else y
@@ -397,8 +409,8 @@ noted_keeps : (c : Client) (conns : ℕ → Conn) (a : ℕ → ℕ) (g : ℕ) (b
 noted_keeps c conns a g body i out (WasOk reply) =
     let P : Client → Type 0 = λ d. Noted c d conns a in
     either P (is_create (c.op g)) _ _
-      (λ e. record { keeps = opens_keeps c conns a g (id_in body) (is_create_of (c.op g) e) out i; on = refl; op = refl })
-      (λ _. either P (is_close (c.op g)) _ _ (λ _. record { keeps = shuts_keeps c conns a (create_for c g) i; on = refl; op = refl }) (λ _. record { keeps = i; on = refl; op = refl }))
+    (λ e. record { keeps = opens_keeps c conns a g (id_in body) (is_create_of (c.op g) e) out i; on = refl; op = refl })
+    (λ _. either P (is_close (c.op g)) _ _ (λ _. record { keeps = shuts_keeps c conns a (create_for c g) i; on = refl; op = refl }) (λ _. record { keeps = i; on = refl; op = refl }))
 noted_keeps c conns a g body i out Unsettled = record { keeps = i; on = refl; op = refl }
 noted_keeps c conns a g body i out (WasRefused status) = record { keeps = i; on = refl; op = refl }
 noted_keeps c conns a g body i out (NoSlot create) = record { keeps = i; on = refl; op = refl }
@@ -408,7 +420,7 @@ noted_keeps c conns a g body i out (Unknown why) = record { keeps = i; on = refl
 full_keeps : (c d : Client) (conns : ℕ → Conn) (a : ℕ → ℕ) (g : ℕ) (asking : Bool) (status : ℕ) → Noted c d conns a → Noted c (noted_full d g asking status) conns a
 full_keeps c d conns a g asking status n =
     either (λ e. Noted c e conns a) (is_lock (d.op g) && (not asking && (status == disk_full))) _ _
-      (λ _. record { keeps = fills_keeps d conns a (create_for d g) (d.slot_of g) n.keeps; on = n.on; op = n.op }) (λ _. n)
+    (λ _. record { keeps = fills_keeps d conns a (create_for d g) (d.slot_of g) n.keeps; on = n.on; op = n.op }) (λ _. n)
 
 without_same : (names sent gone : Bool) (create : ℕ) (o : Outcome) → is_unsettled o ≡ false → without_open names sent gone create o ≡ o
 without_same names sent gone create Unsettled e = absurd (cc)
@@ -440,8 +452,8 @@ made_by op o e f = ok_is_settled o (makes_one op o e f)
 clear_create : (c : Client) (conns : ℕ → Conn) (a : ℕ → ℕ) (k g h : ℕ) → Connections c conns a → c.on g ≡ Some k → makes_open (c.op g) ≡ true → Clear c g h
 clear_create c conns a k g h i on create other same apart =
     off_of c h (c.on h) refl (λ s.
-      let own = own_create g (c.op g) create in let ok = made_by (c.op h) (c.outcome (create_at c h)) (i.asked_open h s) other in
-      let ok2 : is_unsettled (c.outcome g) ≡ false = subst (λ x. is_unsettled (c.outcome x) ≡ false) (same ∙ own) ok in let off = i.settled g ok2 in absurd (grind arith))
+    let own = own_create g (c.op g) create in let ok = made_by (c.op h) (c.outcome (create_at c h)) (i.asked_open h s) other in
+    let ok2 : is_unsettled (c.outcome g) ≡ false = subst (λ x. is_unsettled (c.outcome x) ≡ false) (same ∙ own) ok in let off = i.settled g ok2 in absurd (grind arith))
 
 some_of : (o : Option ℕ) (k : ℕ) → o ≡ Some k → is_some o ≡ true
 some_of o k e = grind arith
@@ -455,13 +467,14 @@ either_shuts2 a b e = grind arith
 clear_close : (c : Client) (conns : ℕ → Conn) (a : ℕ → ℕ) (k g h : ℕ) → Connections c conns a → c.on g ≡ Some k → shuts_open (c.op g) ≡ true → Clear c g h
 clear_close c conns a k g h i on shuts other same apart =
     off_of c h (c.on h) refl (λ s.
-      elim (nat_lt h g) as (λ b. nat_lt h g ≡ b → c.on h ≡ None) [
-        | true ↦ λ l. i.settled h (i.lower g h (some_of (c.on g) k on) (i.taken_on h s).0 (low h g l) same (either_shuts (shuts_open (c.op g)) (shuts_open (c.op h)) shuts))
-        | false ↦ λ l. let off = i.settled g (i.lower h g s (i.taken_on g (some_of (c.on g) k on)).0 (high h g l apart) (sym same) (either_shuts2 (shuts_open (c.op h)) (shuts_open (c.op g)) shuts)) in absurd (grind arith)
-      ] refl)
+    elim (nat_lt h g) as (λ b. nat_lt h g ≡ b → c.on h ≡ None) [
+      | true ↦ λ l. i.settled h (i.lower g h (some_of (c.on g) k on) (i.taken_on h s).0 (low h g l) same (either_shuts (shuts_open (c.op g)) (shuts_open (c.op h)) shuts))
+      | false ↦ λ l. let off = i.settled g (i.lower h g s (i.taken_on g (some_of (c.on g) k on)).0 (high h g l apart) (sym same) (either_shuts2 (shuts_open (c.op h)) (shuts_open (c.op g)) shuts)) in absurd (grind arith)
+    ] refl)
   where
     low : (h g : ℕ) → nat_lt h g ≡ true → h < g
     low h g l = grind (arith, nat_tests)
+
     high : (h g : ℕ) → nat_lt h g ≡ false → h ≢ g → g < h
     high h g l d = grind (arith, nat_tests)
 
@@ -512,8 +525,8 @@ gives_up : (c : Client) (conns : ℕ → Conn) (a : ℕ → ℕ) (k g place crea
 gives_up c conns a k g place create o i j on may own =
     let d = settled c g o place in
     outcomes_keeps d conns a (give_up_on d create)
-      (λ h. without_same ((create_for c h == create) && not (is_create (c.op h))) (c.sent h) (is_gone_after d create (d.outcome create)) create (d.outcome h))
-      (gives_up_still c conns a k g place create o i j on may own) j
+    (λ h. without_same ((create_for c h == create) && not (is_create (c.op h))) (c.sent h) (is_gone_after d create (d.outcome create)) create (d.outcome h))
+    (gives_up_still c conns a k g place create o i j on may own) j
 
 settles : (c : Client) (conns : ℕ → Conn) (a : ℕ → ℕ) (k g : ℕ) (asking : Bool) (r : Reply) (place : ℕ) (o : Outcome) → Connections c conns a → c.on g ≡ Some k → copies g (conns k) ≡ 0 → is_unsettled o ≡ false
     → Connections (settle c g asking r place o) conns a
@@ -527,8 +540,8 @@ settles c conns a k g asking r place o i on none firm =
         let on2 : d.on g ≡ Some k = ap (λ f. f g) n.on ∙ on in
         let j = settle_keeps d conns a k g place o on2 none firm n.keeps in
         either (λ e. Connections e conns a) (settles_open (c.op g)) (with_no_opens (settled d g o place) (create_for c g)) (settled d g o place)
-          (λ may. gives_up d conns a k g place (create_for c g) o n.keeps j on2 (ap (λ f. settles_open (f g)) n.op ∙ may) (own_for c g ∙ ap (λ f. its_create g (f g)) (sym n.op)))
-          (λ _. j)
+        (λ may. gives_up d conns a k g place (create_for c g) o n.keeps j on2 (ap (λ f. settles_open (f g)) n.op ∙ may) (own_for c g ∙ ap (λ f. its_create g (f g)) (sym n.op)))
+        (λ _. j)
 
 -- ---- what a reply does
 
@@ -538,6 +551,7 @@ awaited_of c k g asking e = (on_of k (c.on g) (front_of (is_at k (c.on g)) _ e),
     on_of : (k : ℕ) (o : Option ℕ) → is_at k o ≡ true → o ≡ Some k
     on_of k None e = absurd (cc)
     on_of k (Some j) e = ap (λ x. Some x) (eqb-true j k e)
+
     same_of : (x y : Bool) → (if x then y else not y) ≡ true → x ≡ y
     same_of x y e = grind arith
 
@@ -546,7 +560,7 @@ unclear b c P e f g = absurd (grind arith)
 
 hears : (w : World) (a : ℕ → ℕ) (k g : ℕ) (asking : Bool) (r : Reply) (place : ℕ) → Holds w a → w.client.on g ≡ Some k → w.client.asking g ≡ asking → copies g (w.conns k) ≡ 0
     → (asking ≡ false → acts_once (w.client.op g) ≡ true → r.status ≡ user_session_deleted → w.client.before g ≡ false → a g ≡ 0)
-    → (h : Hearing) → heard w.client g asking r ≡ h → Holds (op_heard w g asking r place h) a
+    → (h : Hearing) → heard w.client g asking r ≡ h → Holds (with_client (closed_by w (act_heard h)) (hear w.client g asking r place h)) a
 hears w a k g asking r place i on asks none gone (Settles o) e = settles w.client w.conns a k g asking r place o i on none (heard_firm w.client g asking r o e)
 hears w a k g asking r place i on asks none gone GoesAgain e =
     answered_keeps w.client w.conns a k g on none (λ o b k. once_again w.client g asking r.status (heard_again w.client g asking r e) o (a g)) i
@@ -558,14 +572,11 @@ hears w a k g asking r place i on asks none gone EndsSession e =
 took : (w : World) (a : ℕ → ℕ) (k g : ℕ) (asking : Bool) (r : Reply) (place : ℕ) → Holds w a → copies g (w.conns k) ≡ 0
     → (asking ≡ false → acts_once (w.client.op g) ≡ true → r.status ≡ user_session_deleted → w.client.before g ≡ false → a g ≡ 0) → Holds (op_took w k g asking r place) a
 took w a k g asking r place i none gone =
-    either (λ v. Holds v a) (is_awaited w.client k g asking) (op_heard w g asking r place (heard w.client g asking r)) w
-      (λ aw. let q = awaited_of w.client k g asking aw in hears w a k g asking r place i q.0 q.1 none gone (heard w.client g asking r) refl)
-      (λ _. i)
+    both_ways (λ c x. Holds (with_client (closed_by w x) c) a) (is_awaited w.client k g asking) (hear w.client g asking r place (heard w.client g asking r)) w.client (act_heard (heard w.client g asking r)) Nothing
+    (λ aw. let q = awaited_of w.client k g asking aw in hears w a k g asking r place i q.0 q.1 none gone (heard w.client g asking r) refl)
+    (λ _. i)
 
 -- ---- dialogs
-
-due_step : (step : DialogStep) (wanted status : ℕ) (s : Stage) → due step wanted status ≡ GoesOn s → step ≡ GoesOn s
-due_step step wanted status s e = grind arith
 
 goes_on_bound : (t s : Stage) (status : ℕ) → dialog_step t status ≡ GoesOn s → is_bound s ≡ is_bound t
 goes_on_bound Apart s status e = absurd (cc)
@@ -585,7 +596,7 @@ dialogs : (w : World) (a : ℕ → ℕ) (k : ℕ) (r : Reply) → Holds w a → 
     → (d : DialogStep) → dialog_step (w.client.stage k) r.status ≡ d → Holds (dialog_took w k r d) a
 dialogs w a k r i none apart stands (GoesOn stage) e =
     dialog_sent_keeps (went_on w.client k stage r) w.conns a k 1 (dialog_message (went_on w.client k stage r) k (w.conns k).next_id stage) none apart
-      (went_on_keeps w.client w.conns a k stage r (λ b. i.stages k (sym (goes_on_bound (w.client.stage k) stage r.status e) ∙ b)) i)
+    (went_on_keeps w.client w.conns a k stage r (λ b. i.stages k (sym (goes_on_bound (w.client.stage k) stage r.status e) ∙ b)) i)
 dialogs w a k r i none apart stands Accepts e =
     dialog_sent_keeps (accepted w.client k) w.conns a k 1 (dialog_message (accepted w.client k) k (w.conns k).next_id AskedTree) none apart (accepted_keeps w.client w.conns a k i)
 dialogs w a k r i none apart stands Binds e = bound_keeps w.client w.conns a k (i.stages k (binds_bound (w.client.stage k) r.status e)) stands none i
@@ -602,18 +613,18 @@ takes_by : (w : World) (a : ℕ → ℕ) (k : ℕ) (y : Received) (rest : List R
 takes_by w a k y rest is o i ForDialog e =
     let zero_of : op_of y.token ≡ 0 = ap op_of e in let f0 = front_down (w.conns k).down y rest is in
     dialogs (behind_reply w k rest) a k y.reply (behind_keeps w.client w.conns a k y rest is i)
-      (subst (λ g. copies g (put w.conns k (take_front (w.conns k) rest) k) ≡ 0) zero_of (front_reply_gone w.conns k y rest is (i.once k (op_of y.token))))
-      (no_dialog w.client w.conns k i.ready (more_down (w.conns k) 0 (counted_down 0 (w.conns k).down 0 y f0 zero_of)))
-      (reply_open w.conns k rest o) (dialog_step (w.client.stage k) y.reply.status) refl
+    (subst (λ g. copies g (put w.conns k (take_front (w.conns k) rest) k) ≡ 0) zero_of (front_reply_gone w.conns k y rest is (i.once k (op_of y.token))))
+    (no_dialog w.client w.conns k i.ready (more_down (w.conns k) 0 (counted_down 0 (w.conns k).down 0 y f0 zero_of)))
+    (reply_open w.conns k rest o) (dialog_step (w.client.stage k) y.reply.status) refl
 takes_by w a k y rest is o i (ForOp g) e =
     let f0 = front_down (w.conns k).down y rest is in
     took (behind_reply w k rest) a k g false y.reply y.place (behind_keeps w.client w.conns a k y rest is i)
-      (subst (λ g. copies g (put w.conns k (take_front (w.conns k) rest) k) ≡ 0) (ap op_of e) (front_reply_gone w.conns k y rest is (i.once k (op_of y.token))))
-      (λ _ ao st b. i.deleted k 0 g y f0 e ao st b)
+    (subst (λ g. copies g (put w.conns k (take_front (w.conns k) rest) k) ≡ 0) (ap op_of e) (front_reply_gone w.conns k y rest is (i.once k (op_of y.token))))
+    (λ _ ao st b. i.deleted k 0 g y f0 e ao st b)
 takes_by w a k y rest is o i (ForAttach g) e =
     took (behind_reply w k rest) a k g true y.reply y.place (behind_keeps w.client w.conns a k y rest is i)
-      (subst (λ g. copies g (put w.conns k (take_front (w.conns k) rest) k) ≡ 0) (ap op_of e) (front_reply_gone w.conns k y rest is (i.once k (op_of y.token))))
-      (λ q. absurd (cc))
+    (subst (λ g. copies g (put w.conns k (take_front (w.conns k) rest) k) ≡ 0) (ap op_of e) (front_reply_gone w.conns k y rest is (i.once k (op_of y.token))))
+    (λ q. absurd (cc))
 
 takes : (w : World) (a : ℕ → ℕ) (k : ℕ) → (w.conns k).client_open ≡ true → Holds w a → (ys : List Received) → (w.conns k).down ≡ ys → Holds (take_reply w k ys) a
 takes w a k o i [] is = i
@@ -621,12 +632,15 @@ takes w a k o i (y ∷ rest) is = takes_by w a k y rest is o i y.token refl
 
 -- ---- Cut
 
+cuts_ready : (w : World) (a : ℕ → ℕ) (k : ℕ) → Holds w a → (b e : Bool) → b ≡ true
+    → Holds (with_client (cut_by w k (if b && e then CloseChannels else Nothing)) (if b then (if e then end_session w.client else cut_channel w.client k) else w.client)) a
+cuts_ready w a k i true true h = leave_keeps w.client w.conns a i
+cuts_ready w a k i true false h = cut_keeps w.client w.conns a k i
+cuts_ready w a k i false e h = absurd (cc)
+
 cuts : (w : World) (a : ℕ → ℕ) (k : ℕ) → Holds w a → Holds (changed w (Cut k)) a
 cuts w a k i =
-    let P : World → Type 0 = λ v. Holds v a in
-    either P (w.client.ready k) _ _
-      (λ _. either P (ends_at_cut w.client) _ _ (λ _. leave_keeps w.client w.conns a i) (λ _. cut_keeps w.client w.conns a k i))
-      (λ apart. dialog_off_keeps w.client w.conns a k apart i)
+    either (λ v. Holds v a) (w.client.ready k) _ _ (λ ready. cuts_ready w a k i (w.client.ready k) (ends_at_cut w.client) ready) (λ apart. dialog_off_keeps w.client w.conns a k apart i)
 
 -- ---- every event
 
@@ -640,9 +654,9 @@ closed_of w k m = not_true (w.conns k).client_open (front_of (not (w.conns k).cl
 pub keeps : (w : World) (a : ℕ → ℕ) (e : Event) → Holds w a → Holds (happens w e) (after w e a)
 keeps w a (Submit g op) i = submits w a g op i
 keeps w a (Open k) i = either (λ v. Holds v a) (may_open w k) _ _ (λ m. opened_keeps w.client w.conns a k _ (closed_of w k m) i) (λ _. i)
-keeps w a (Push k slotless pick) i = either (λ v. Holds v a) (w.client.ready k) _ _ (λ _. pushes w a k slotless pick i) (λ _. i)
+keeps w a (Push k slotless pick) i = either (λ v. Holds v a) (w.client.ready k) _ _ (λ ready. pushes w a k slotless pick ready i) (λ _. i)
 keeps w a (Serve k) i = serve_open w a k i (may_serve w k)
-keeps w a (Take k) i = either (λ v. Holds v a) ((w.conns k).client_open && has_reply (w.conns k).down) _ _ (λ m. takes w a k (front_of (w.conns k).client_open _ m) i (w.conns k).down refl) (λ _. i)
+keeps w a (Take k) i = either (λ v. Holds v a) ((w.conns k).client_open && is_filled (w.conns k).down) _ _ (λ m. takes w a k (front_of (w.conns k).client_open _ m) i (w.conns k).down refl) (λ _. i)
 keeps w a (Cut k) i = either (λ v. Holds v a) (w.conns k).client_open _ _ (λ _. cuts w a k i) (λ _. i)
 keeps w a (Drop k) i = either (λ v. Holds v a) (w.conns k).server_open _ _ (λ _. dropped_keeps w.client w.conns a k i) (λ _. i)
 keeps w a Restart i = restarts w a i

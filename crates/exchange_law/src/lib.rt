@@ -16,5 +16,4 @@ ghost use Rattle.exchange_law.specs.Connections.{Connections};
 /// or unlock of which no copy is unanswered hasn't acted while its copy waits.
 pub fn connections_law()
     ensures fit { (settings : Settings) (events : List Event) → Connections (run events (start settings)).client (run events (start settings)).conns (acts events (start settings)) }
-{
-}
+{}
