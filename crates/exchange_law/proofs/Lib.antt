@@ -31,3 +31,4 @@ pub mod Ask
 pub mod Say
 pub mod Facts
 pub mod Run
+pub mod Stays

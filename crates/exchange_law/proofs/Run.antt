@@ -51,7 +51,7 @@ Holds w a = Connections w.client w.conns a
 
 -- ---- Submit
 
-next_of : (c : Client) (g : ℕ) (op : Op) → may_take c g op ≡ true → g ≡ c.taken + 1
+pub next_of : (c : Client) (g : ℕ) (op : Op) → may_take c g op ≡ true → g ≡ c.taken + 1
 next_of c g op may = eqb-true g (c.taken + 1) (grind arith)
 
 create_below : (c : Client) (g : ℕ) (op : Op) → may_take c g op ≡ true → makes_open op ≡ false → 0 < its_create g op × its_create g op < g × makes_open (c.op (its_create g op)) ≡ true
@@ -66,7 +66,7 @@ submits w a g op i =
 
 -- ---- Push
 
-front_of : (x y : Bool) → (x && y) ≡ true → x ≡ true
+pub front_of : (x y : Bool) → (x && y) ≡ true → x ≡ true
 front_of true y e = refl
 front_of false y e = e
 
@@ -108,7 +108,7 @@ above_of g e = grind (arith, nat_tests)
 within_of : (g t : ℕ) → nat_le g t ≡ true → g ≤ t
 within_of g t e = grind (arith, nat_tests)
 
-found : (c : Client) (k g : ℕ) → may_push c k g ≡ true → MayPush c k g
+pub found : (c : Client) (k g : ℕ) → may_push c k g ≡ true → MayPush c k g
 found c k g may =
     let p = parts_of c k g may in
     record {
@@ -422,7 +422,7 @@ full_keeps c d conns a g asking status n =
     either (λ e. Noted c e conns a) (is_lock (d.op g) && (not asking && (status == disk_full))) _ _
     (λ _. record { keeps = fills_keeps d conns a (create_for d g) (d.slot_of g) n.keeps; on = n.on; op = n.op }) (λ _. n)
 
-without_same : (names sent gone : Bool) (create : ℕ) (o : Outcome) → is_unsettled o ≡ false → without_open names sent gone create o ≡ o
+pub without_same : (names sent gone : Bool) (create : ℕ) (o : Outcome) → is_unsettled o ≡ false → without_open names sent gone create o ≡ o
 without_same names sent gone create Unsettled e = absurd (cc)
 without_same names sent gone create (WasOk reply) e = refl
 without_same names sent gone create (WasRefused status) e = refl
@@ -455,7 +455,7 @@ clear_create c conns a k g h i on create other same apart =
     let own = own_create g (c.op g) create in let ok = made_by (c.op h) (c.outcome (create_at c h)) (i.asked_open h s) other in
     let ok2 : is_unsettled (c.outcome g) ≡ false = subst (λ x. is_unsettled (c.outcome x) ≡ false) (same ∙ own) ok in let off = i.settled g ok2 in absurd (grind arith))
 
-some_of : (o : Option ℕ) (k : ℕ) → o ≡ Some k → is_some o ≡ true
+pub some_of : (o : Option ℕ) (k : ℕ) → o ≡ Some k → is_some o ≡ true
 some_of o k e = grind arith
 
 either_shuts : (a b : Bool) → a ≡ true → (a || b) ≡ true
@@ -545,7 +545,7 @@ settles c conns a k g asking r place o i on none firm =
 
 -- ---- what a reply does
 
-awaited_of : (c : Client) (k g : ℕ) (asking : Bool) → is_awaited c k g asking ≡ true → c.on g ≡ Some k × c.asking g ≡ asking
+pub awaited_of : (c : Client) (k g : ℕ) (asking : Bool) → is_awaited c k g asking ≡ true → c.on g ≡ Some k × c.asking g ≡ asking
 awaited_of c k g asking e = (on_of k (c.on g) (front_of (is_at k (c.on g)) _ e), same_of (c.asking g) asking (back_of (is_at k (c.on g)) _ e))
   where
     on_of : (k : ℕ) (o : Option ℕ) → is_at k o ≡ true → o ≡ Some k
