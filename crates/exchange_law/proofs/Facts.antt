@@ -1,6 +1,6 @@
 -- What the server's answers say, for whichever check answered.
-use Rattle.std.proofs.Common.{◌≡◌, ℕ, Bool, true, false, refl, arith, Some, None}
-use Rattle.exchange_defs.specs.Status.{success, user_session_deleted}
+use Rattle.std.proofs.Common.{◌≡◌, ℕ, false, refl}
+use Rattle.exchange_defs.specs.Status.{user_session_deleted}
 use Rattle.exchange_defs.specs.Commands.{Command, Aside, Unreadable, Setup, Logoff, TreeConnect, TreeDisconnect, Create, Close, Flush, Read, Write, Lock, Ioctl, ListDirectory, QueryFile, QueryVolume, SetInfo}
 use Rattle.exchange_defs.specs.State.{Server, Message, Heard, Answer}
 use Rattle.exchange_defs.specs.Verdict.{Verdict, Refuse, Give, KeepRefusal, Repeat, Attach, Make, TurnDown, Tell, Show, KeepSlot, PutRanges, Alter, Shut, Challenge, ChallengeBinding, Begin, Join, EndSession, AddTree, DropTree}

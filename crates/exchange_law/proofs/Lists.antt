@@ -1,7 +1,6 @@
 -- What waits on a connection behind a push at its end, or behind its front.
-use Rattle.std.proofs.Common.{◌≡◌, ℕ, ◌+◌, ◌≤◌, ◌==◌, Bool, true, false, if◌then◌else◌, List, [], ◌∷◌, ◌++◌, ◌⊎◌, inl, inr, refl, arith, Some, None, slice_get, zero, suc, add-one}
-use Rattle.std.proofs.Common.{eqb-true, ap}
-use Rattle.std.proofs.lemmas.Bool.{eqb-false}
+use Rattle.std.proofs.Common.{◌≡◌, ℕ, ◌+◌, ◌≤◌, ◌==◌, true, false, if◌then◌else◌, List, [], ◌∷◌, ◌++◌, ◌⊎◌, inl, inr, refl, arith, Some, slice_get, zero, suc, add-one}
+use Rattle.std.proofs.Common.{ap}
 use Rattle.exchange_defs.specs.Table.{put}
 use Rattle.exchange_defs.specs.Network.{Conn, Sent, Received, ForOp, ForAttach, op_of, behind_front, take_front}
 use Rattle.exchange_law.specs.Connections.{count_up, count_down}

@@ -1,18 +1,18 @@
 -- Each event keeps what holds of the connections, and so does each run.
 use Rattle.std.proofs.lemmas.Bool.{eqb-false}
-use Rattle.std.proofs.Common.{eqb-true, ◌≡◌, ◌≢◌, ℕ, ◌+◌, ◌≤◌, ◌<◌, ◌==◌, nat_lt, nat_le, Bool, true, false, not, ◌&&◌, ◌||◌, if◌then◌else◌, List, [], ◌∷◌, ◌++◌, ◌⊎◌, inl, inr, refl, arith, sym, subst, ◌∙◌, ap, Option, Some, None, slice_get, is_some, is_none, zero, suc}
+use Rattle.std.proofs.Common.{eqb-true, ◌≡◌, ◌≢◌, ℕ, ◌+◌, ◌≤◌, ◌<◌, ◌==◌, nat_lt, nat_le, Bool, true, false, not, ◌&&◌, ◌||◌, if◌then◌else◌, List, [], ◌∷◌, refl, arith, sym, subst, ◌∙◌, ap, Option, Some, None, is_some, is_none, zero, suc}
 use Rattle.std.proofs.lemmas.Bool.Decides.{nat_tests}
 use Rattle.exchange_defs.specs.Table.{put, put2, is_at, is_filled}
 use Rattle.exchange_defs.specs.Status.{success, user_session_deleted, disk_full}
-use Rattle.exchange_defs.specs.State.{Message, Reply, Answer, Body}
-use Rattle.exchange_defs.specs.Operations.{Op, Outcome, Unsettled, WasOk, WasRefused, NoSlot, NoOpen, Unknown, Why, NoSession, is_unsettled, is_ok, is_create, is_close, OpReply, value_in, id_in, is_lock, is_change, create_of, holds_up, request_of, weight, charge}
-use Rattle.exchange_defs.specs.Client.{Client, Stage, Apart, SaidNegotiate, SaidFirst, SaidSecond, AskedTree, create_for, guid_for, may_take, take_op, outcome_at_first, may_push, has_its_slot, goes_itself, lacks_slot, settle_no_slot, settle_no_slots, waits, begun, begin, again, take_slot, outstanding, asked, own_message, ask_message, cut_channel, ends_at_cut, end_session, finish, is_gone_after}
-use Rattle.exchange_defs.specs.Settling.{Heard as Hearing, Settles, GoesAgain, Attaches, EndsSession, heard, hear, is_awaited, settle, settled, noted, noted_ok, noted_full, settles_open, with_no_opens, give_up_on, without_open, ok_or_unknown, refused, was_closed, may_have_acted, refuses_all, goes_again, answered, joined}
-use Rattle.exchange_defs.specs.Dialogs.{DialogStep, GoesOn, Accepts, Binds, Readies, Refuses, dialog_step, dialog_message, went_on, accepted, bound, readied, leave_dialog, refused_dialog}
-use Rattle.exchange_defs.specs.ClientStep.{Pick, Act, Nothing, Sends, Asks, CloseChannels, AllSettled, TakesOp, Pushes, Hears, IsCut, Finishes, client_after, act, pick_after, pick_act, act_heard, hear_after, hear_act, some_unsettled}
-use Rattle.exchange_defs.specs.Network.{World, Event, Submit, Open, Push, Serve, Take, Cut, Drop, Restart, Crash, Wait, Finish, Conn, Sent, Received, Token, ForDialog, ForOp, ForAttach, op_of, is_own, happens, run, start, Settings, no_conn, is_possible, changed, later, moments, may_open, may_serve, max_channel, pushed_by, transmitted, asked_for, answer, absorbed, replied, say_down, serve_front, absorb_front, behind_front, take_front, take_reply, took_by, dialog_took, op_took, closed_by, cut_by, with_client, client_off, server_off, send_up, behind_reply, restarted, with_answer}
+use Rattle.exchange_defs.specs.State.{Reply, Answer, Body}
+use Rattle.exchange_defs.specs.Operations.{Op, Outcome, Unsettled, WasOk, WasRefused, NoSlot, NoOpen, Unknown, NoSession, is_unsettled, is_ok, is_create, is_close, OpReply, value_in, id_in, is_lock, is_change, create_of, holds_up, weight, charge}
+use Rattle.exchange_defs.specs.Client.{Client, Stage, Apart, SaidNegotiate, SaidFirst, SaidSecond, AskedTree, create_for, guid_for, may_take, outcome_at_first, may_push, has_its_slot, goes_itself, lacks_slot, settle_no_slot, settle_no_slots, waits, begin, again, take_slot, outstanding, own_message, ask_message, cut_channel, ends_at_cut, end_session, is_gone_after}
+use Rattle.exchange_defs.specs.Settling.{Heard as Hearing, Settles, GoesAgain, Attaches, EndsSession, heard, hear, is_awaited, settle, settled, noted, noted_full, settles_open, with_no_opens, give_up_on, without_open, ok_or_unknown, refused, was_closed, may_have_acted, refuses_all, goes_again, answered}
+use Rattle.exchange_defs.specs.Dialogs.{DialogStep, GoesOn, Accepts, Binds, Readies, Refuses, dialog_step, dialog_message, went_on, accepted, bound}
+use Rattle.exchange_defs.specs.ClientStep.{Pick, Act, Nothing, CloseChannels, pick_after, pick_act, act_heard, some_unsettled}
+use Rattle.exchange_defs.specs.Network.{World, Event, Submit, Open, Push, Serve, Take, Cut, Drop, Restart, Crash, Wait, Finish, Conn, Sent, Received, Token, ForDialog, ForOp, ForAttach, op_of, happens, run, start, Settings, no_conn, changed, later, may_open, may_serve, max_channel, pushed_by, answer, absorbed, replied, serve_front, absorb_front, behind_front, take_front, take_reply, took_by, dialog_took, op_took, closed_by, cut_by, with_client, send_up, behind_reply, restarted}
 use Rattle.exchange_defs.specs.Runs.{is_once, is_send_of, acts, acts_now, front_acts}
-use Rattle.exchange_law.specs.Connections.{Connections, Unsent, Ready, Lower, AskedOpen, Settled, Stages, Once, copies, count_up, count_down, no_copy_out, is_bound, makes_open, shuts_open, acts_once, its_create, its_request, create_at, opens}
+use Rattle.exchange_law.specs.Connections.{Connections, Unsent, Ready, copies, count_up, count_down, is_bound, makes_open, shuts_open, acts_once, its_create, its_request, create_at, opens}
 use Rattle.exchange_law.proofs.Lists.{counted_up, counted_down, front_up, front_down}
 use Rattle.exchange_law.proofs.Facts.{deleted_is_quiet}
 use Rattle.exchange_law.proofs.Doors.{either}

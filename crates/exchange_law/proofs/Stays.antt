@@ -1,18 +1,17 @@
 -- An operation that was taken and is settled stays as it settled.
-use Rattle.std.proofs.lemmas.Bool.{eqb-false}
-use Rattle.std.proofs.Common.{eqb-true, ◌≡◌, ◌≢◌, ℕ, ◌+◌, ◌≤◌, ◌<◌, ◌==◌, Bool, true, false, not, ◌&&◌, if◌then◌else◌, List, [], ◌∷◌, ◌++◌, refl, arith, sym, subst, ◌∙◌, ap, Option, Some, None, is_some}
-use Rattle.exchange_defs.specs.Table.{put, put2, is_filled}
+use Rattle.std.proofs.Common.{◌≡◌, ◌≢◌, ℕ, ◌+◌, ◌≤◌, ◌==◌, Bool, true, false, not, ◌&&◌, if◌then◌else◌, List, [], ◌∷◌, ◌++◌, refl, arith, sym, subst, ◌∙◌, ap, Option, Some, None}
+use Rattle.exchange_defs.specs.Table.{put, is_filled}
 use Rattle.exchange_defs.specs.Status.{disk_full}
 use Rattle.exchange_defs.specs.State.{Reply, Body}
-use Rattle.exchange_defs.specs.Operations.{Op, Outcome, Unsettled, WasOk, WasRefused, NoSlot, NoOpen, Unknown, Why, NoSession, is_unsettled, is_create, is_close, is_lock, persists}
-use Rattle.exchange_defs.specs.Client.{Client, create_for, may_take, may_push, has_its_slot, goes_itself, lacks_slot, settle_no_slot, settle_no_slots, begun, begin, again, outstanding, asked, cut_channel, ends_at_cut, end_session, outcome_after_end, outcome_after_finish, finish, is_gone_after}
-use Rattle.exchange_defs.specs.Settling.{Heard as Hearing, Settles, GoesAgain, Attaches, EndsSession, heard, hear, is_awaited, settle, settled, noted, noted_full, settles_open, with_no_opens, give_up_on, answered}
+use Rattle.exchange_defs.specs.Operations.{Op, Outcome, Unsettled, WasOk, WasRefused, NoSlot, NoOpen, Unknown, Why, NoSession, is_unsettled, is_create, is_close, is_lock}
+use Rattle.exchange_defs.specs.Client.{Client, create_for, may_take, may_push, has_its_slot, goes_itself, lacks_slot, settle_no_slot, settle_no_slots, begin, again, outstanding, cut_channel, ends_at_cut, end_session, outcome_after_end, outcome_after_finish, is_gone_after}
+use Rattle.exchange_defs.specs.Settling.{Heard as Hearing, Settles, GoesAgain, Attaches, EndsSession, heard, hear, is_awaited, settle, settled, noted, noted_full, settles_open, with_no_opens, answered}
 use Rattle.exchange_defs.specs.Dialogs.{DialogStep, GoesOn, Accepts, Binds, Readies, Refuses, dialog_step}
 use Rattle.exchange_defs.specs.ClientStep.{Pick, Act, Nothing, Sends, Asks, CloseChannels, AllSettled, pick_after, op_after, push_after, hear_after, client_after, act, Pushes}
-use Rattle.exchange_defs.specs.Network.{World, Event, Submit, Open, Push, Serve, Take, Cut, Drop, Restart, Crash, Wait, Finish, Settings, Received, Sent, Token, ForDialog, ForOp, ForAttach, happens, run, start, changed, later, may_open, may_serve, pushed_by, serve_front, absorb_front, restarted, take_reply, took_by, dialog_took, behind_reply}
-use Rattle.exchange_law.specs.Connections.{Connections, Settled as AllSettledOff}
+use Rattle.exchange_defs.specs.Network.{World, Event, Submit, Open, Push, Serve, Take, Cut, Drop, Restart, Crash, Wait, Finish, Settings, Received, Sent, Token, ForDialog, ForOp, ForAttach, happens, run, start, may_open, may_serve, pushed_by, serve_front, absorb_front, take_reply, took_by, dialog_took, behind_reply}
+use Rattle.exchange_law.specs.Connections.{Settled as AllSettledOff}
 use Rattle.exchange_law.proofs.Doors.{either}
-use Rattle.exchange_law.proofs.Run.{Holds, after, keeps, begins, found, front_of, awaited_of, without_same, some_of, next_of, always}
+use Rattle.exchange_law.proofs.Run.{Holds, after, keeps, begins, found, front_of, awaited_of, without_same, next_of, always}
 
 abbrev pub Kept : Client → Client → Type 0
 Kept c d = (h : ℕ) → h ≤ c.taken → is_unsettled (c.outcome h) ≡ false → (d.outcome h ≡ c.outcome h) × (h ≤ d.taken)
@@ -37,7 +36,7 @@ kept_put c g o u = λ h l s. (other_put c.outcome g h o (apart c.outcome h g s u
 kept_slotless : (c : Client) (k g : ℕ) → Kept c (settle_no_slot c k g)
 kept_slotless c k g =
     either (λ d. Kept c d) (lacks_slot c k g) (record c { outcome = put c.outcome g (NoSlot (create_for c g)) }) c
-      (λ lacks. kept_put c g (NoSlot (create_for c g)) (found c k g (front_of (may_push c k g) _ lacks)).pending) (λ _. λ h l s. (refl, l))
+    (λ lacks. kept_put c g (NoSlot (create_for c g)) (found c k g (front_of (may_push c k g) _ lacks)).pending) (λ _. λ h l s. (refl, l))
 
 kept_slotlesses : (c : Client) (k : ℕ) (gs : List ℕ) → Kept c (settle_no_slots c k gs)
 unfolding settle_no_slots
@@ -51,8 +50,8 @@ kept_begun c k g i false = either (λ d. Kept c (outstanding d k g)) (is_lock (c
 kept_op : (c : Client) (k g i : ℕ) → Kept c (op_after c k g i)
 kept_op c k g i =
     either (Kept c) (may_push c k g) _ _
-      (λ _. either (Kept c) (goes_itself c g) _ _ (λ _. either (Kept c) (has_its_slot c g i) _ _ (λ _. kept_begun c k g i (c.sent g)) (λ _. λ h l s. (refl, l))) (λ _. λ h l s. (refl, l)))
-      (λ _. λ h l s. (refl, l))
+    (λ _. either (Kept c) (goes_itself c g) _ _ (λ _. either (Kept c) (has_its_slot c g i) _ _ (λ _. kept_begun c k g i (c.sent g)) (λ _. λ h l s. (refl, l))) (λ _. λ h l s. (refl, l)))
+    (λ _. λ h l s. (refl, l))
 
 kept_pick : (c : Client) (k : ℕ) (pick : Option Pick) → Kept c (pick_after c k pick)
 kept_pick c k None = λ h l s. (refl, l)
@@ -61,8 +60,8 @@ kept_pick c k (Some p) = kept_op c k p.op p.slot
 kept_push : (c : Client) (k : ℕ) (slotless : List ℕ) (pick : Option Pick) → Kept c (push_after c k slotless pick)
 kept_push c k slotless pick =
     either (Kept c) (c.ready k) _ _
-      (λ _. kept_on c (settle_no_slots c k slotless) (pick_after (settle_no_slots c k slotless) k pick) (kept_slotlesses c k slotless) (kept_pick (settle_no_slots c k slotless) k pick))
-      (λ _. λ h l s. (refl, l))
+    (λ _. kept_on c (settle_no_slots c k slotless) (pick_after (settle_no_slots c k slotless) k pick) (kept_slotlesses c k slotless) (kept_pick (settle_no_slots c k slotless) k pick))
+    (λ _. λ h l s. (refl, l))
 
 -- the end of a session and of all dialogs
 end_same : (c : Client) (g : ℕ) (o : Outcome) → is_unsettled o ≡ false → outcome_after_end c g o ≡ o
@@ -97,7 +96,7 @@ pub record SameOutcomes (c d : Client) : Type 0 where
 noted_same : (c : Client) (g : ℕ) (body : Body) (o : Outcome) → SameOutcomes c (noted c g o body)
 noted_same c g body (WasOk reply) =
     either (SameOutcomes c) (is_create (c.op g)) _ _ (λ _. record { outcome = refl; taken = refl })
-      (λ _. either (SameOutcomes c) (is_close (c.op g)) _ _ (λ _. record { outcome = refl; taken = refl }) (λ _. record { outcome = refl; taken = refl }))
+    (λ _. either (SameOutcomes c) (is_close (c.op g)) _ _ (λ _. record { outcome = refl; taken = refl }) (λ _. record { outcome = refl; taken = refl }))
 noted_same c g body Unsettled = record { outcome = refl; taken = refl }
 noted_same c g body (WasRefused status) = record { outcome = refl; taken = refl }
 noted_same c g body (NoSlot n) = record { outcome = refl; taken = refl }
@@ -121,7 +120,7 @@ kept_settle c g asking r place o u = by_noted c (noted_full (noted c g o r.body)
     by_noted c d g place o same u =
         let k = kept_settled c d g place o same u in
         either (Kept c) (settles_open (c.op g)) (with_no_opens (settled d g o place) (create_for c g)) (settled d g o place)
-          (λ _. kept_on c (settled d g o place) (with_no_opens (settled d g o place) (create_for c g)) k (kept_given_up (settled d g o place) (create_for c g))) (λ _. k)
+        (λ _. kept_on c (settled d g o place) (with_no_opens (settled d g o place) (create_for c g)) k (kept_given_up (settled d g o place) (create_for c g))) (λ _. k)
 
 kept_heard : (c : Client) (g : ℕ) (asking : Bool) (r : Reply) (place : ℕ) → is_unsettled (c.outcome g) ≡ true → (h : Hearing) → Kept c (hear c g asking r place h)
 kept_heard c g asking r place u (Settles o) = kept_settle c g asking r place o u
@@ -136,7 +135,7 @@ not_settled c g k off on false e = let none = off g e in absurd (grind arith)
 kept_hear : (c : Client) (k g : ℕ) (asking : Bool) (r : Reply) (place : ℕ) → AllSettledOff c → Kept c (hear_after c k g asking r place)
 kept_hear c k g asking r place off =
     either (Kept c) (is_awaited c k g asking) _ _
-      (λ aw. kept_heard c g asking r place (not_settled c g k off (awaited_of c k g asking aw).0 _ refl) (heard c g asking r)) (λ _. λ h l s. (refl, l))
+    (λ aw. kept_heard c g asking r place (not_settled c g k off (awaited_of c k g asking aw).0 _ refl) (heard c g asking r)) (λ _. λ h l s. (refl, l))
 
 -- ---- events
 
@@ -179,7 +178,7 @@ event_stays w a (Submit g op) i = either (Kept w.client) (may_take w.client g op
 event_stays w a (Open k) i = either (Stay w) (may_open w k) _ _ (λ _. λ h l s. (refl, l)) (λ _. λ h l s. (refl, l))
 event_stays w a (Push k slotless pick) i =
     either (Stay w) (w.client.ready k) _ _
-      (λ _. subst (Kept w.client) (sym (pushed_client w k (client_after w.client (Pushes k slotless pick)) (act w.client (Pushes k slotless pick)))) (kept_push w.client k slotless pick)) (λ _. λ h l s. (refl, l))
+    (λ _. subst (Kept w.client) (sym (pushed_client w k (client_after w.client (Pushes k slotless pick)) (act w.client (Pushes k slotless pick)))) (kept_push w.client k slotless pick)) (λ _. λ h l s. (refl, l))
 event_stays w a (Serve k) i = either (Stay w) (may_serve w k) _ _ (λ _. serve_stays w k (w.conns k).up) (λ _. λ h l s. (refl, l))
 event_stays w a (Take k) i = either (Stay w) ((w.conns k).client_open && is_filled (w.conns k).down) _ _ (λ _. take_stays w k i.settled (w.conns k).down) (λ _. λ h l s. (refl, l))
 event_stays w a (Cut k) i =

@@ -1,18 +1,11 @@
 -- An operation is taken.
-use Rattle.std.proofs.lemmas.Bool.{eqb-false}
-use Rattle.std.proofs.lemmas.Bool.Decides.{nat_tests}
-use Rattle.std.proofs.Common.{eqb-true, ◌≡◌, ◌≢◌, ℕ, ◌+◌, ◌≤◌, ◌<◌, ◌==◌, ◌%◌, Bool, true, false, not, ◌&&◌, ◌||◌, if◌then◌else◌, List, [], ◌∷◌, ◌++◌, ◌⊎◌, inl, inr, refl, arith, sym, subst, ◌∙◌, ap, Option, Some, None, slice_get, is_some, zero, suc}
-use Rattle.exchange_defs.specs.Table.{put, put2}
-use Rattle.exchange_defs.specs.Status.{user_session_deleted}
-use Rattle.exchange_defs.specs.State.{Message, Reply}
-use Rattle.exchange_defs.specs.Operations.{Op, Outcome, Why, is_unsettled, is_ok, is_create, is_close, is_lock, create_of, holds_up, request_of}
-use Rattle.exchange_defs.specs.Client.{Client, Stage, create_for, guid_for, has_open, may_take, take_op, waits, take_slot, outstanding as put_out, asked, cut_channel, end_session, finish}
-use Rattle.exchange_defs.specs.Settling.{answered, joined, settled as settled_by}
-use Rattle.exchange_defs.specs.Dialogs.{open_channel, went_on, accepted, bound, readied, leave_dialog, refused_dialog}
-use Rattle.exchange_defs.specs.Network.{Conn, Sent, Received, Token, ForDialog, ForOp, ForAttach, op_of, is_own, fresh as fresh_conn, server_off, client_off, send_up, behind_front, take_front}
-use Rattle.exchange_defs.specs.Runs.{is_once, is_send_of}
-use Rattle.exchange_law.specs.Connections.{Connections, copies, count_up, count_down, no_copy_out, is_bound, makes_open, shuts_open, acts_once, its_create, its_request, create_at, opens, Once, Outstanding, OwnUp, AttachUp, OwnDown, AttachDown, DownOpen, OnReady, Ready, Stages, Settled, Taken, TakenOn, Creates, Lower, HasOpen, AskedOpen, Fresh, Bodies, First, Unsent, SentReplies, Deleted}
-use Rattle.exchange_law.proofs.Lists.{get-push, count_up-push, count_down-push, counted_up, counted_down, rest_of, own_up_count, attach_up_count, own_down_count, attach_down_count, front_up, front_down, waited, waited_down}
+use Rattle.std.proofs.Common.{◌≡◌, ℕ, ◌+◌, ◌<◌, true, false, arith}
+use Rattle.exchange_defs.specs.Table.{put}
+use Rattle.exchange_defs.specs.Operations.{Op, Outcome}
+use Rattle.exchange_defs.specs.Client.{Client}
+use Rattle.exchange_defs.specs.Network.{Conn}
+use Rattle.exchange_law.specs.Connections.{Connections, makes_open, its_create, Once, Outstanding, OwnUp, AttachUp, OwnDown, AttachDown, DownOpen, OnReady, Ready, Stages, Settled, Taken, TakenOn, Creates, Lower, HasOpen, AskedOpen, Fresh, Bodies, First, Unsent, SentReplies, Deleted}
+use Rattle.exchange_law.proofs.Lists.{get-push, count_up-push, count_down-push}
 
 submit_once : (c : Client) (conns : ℕ → Conn) (a : ℕ → ℕ) (g : ℕ) (op : Op) (out : Outcome) → (g ≡ c.taken + 1) → Once conns → Once conns
 submit_once c conns a g op out next i_once =

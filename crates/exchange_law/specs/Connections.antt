@@ -1,11 +1,11 @@
 -- What holds between the client's table and the connections in every world that a run leads to, where each operation
 -- acted a g times. Nothing here speaks of the server.
-use Rattle.std.specs.Prelude.{◌≡◌, ℕ, ◌+◌, ◌≤◌, ◌<◌, ◌==◌, Bool, true, false, not, ◌||◌, if◌then◌else◌, List, [], ◌∷◌, Option, Some, None, is_some, slice_get}
+use Rattle.std.specs.Prelude.{◌≡◌, ℕ, ◌+◌, ◌≤◌, ◌<◌, ◌==◌, Bool, true, false, not, ◌||◌, if◌then◌else◌, List, [], ◌∷◌, Some, None, is_some, slice_get}
 use Rattle.exchange_defs.specs.Status.{user_session_deleted}
 use Rattle.exchange_defs.specs.Commands.{Command}
 use Rattle.exchange_defs.specs.Operations.{Op, is_unsettled, is_ok, is_create, is_close, create_of, request_of}
 use Rattle.exchange_defs.specs.Client.{Client, Stage, Apart, SaidNegotiate, SaidFirst, SaidSecond, AskedTree, guid_for}
-use Rattle.exchange_defs.specs.Network.{Conn, Sent, Received, Token, ForOp, ForAttach, op_of}
+use Rattle.exchange_defs.specs.Network.{Conn, Sent, Received, ForOp, ForAttach, op_of}
 use Rattle.exchange_defs.specs.Runs.{is_once}
 
 -- ---- how many messages and replies of an operation a connection carries; those of its dialog count under 0

@@ -21,9 +21,6 @@ pub fn connections_law()
 
 /// What settled stays as it settled: no event behind it changes the outcome of an operation that was taken.
 pub fn settled_stays_law()
-    ensures stays {
-        (settings : Settings) (events more : List Event) (g : ℕ) → g ≤ (run events (start settings)).client.taken → is_unsettled ((run events (start settings)).client.outcome g) ≡ false
-            → (run (events ++ more) (start settings)).client.outcome g ≡ (run events (start settings)).client.outcome g
-    }
-{
-}
+    ensures stays { (settings : Settings) (events more : List Event) (g : ℕ) → g ≤ (run events (start settings)).client.taken → is_unsettled ((run events (start settings)).client.outcome g) ≡ false
+        → (run (events ++ more) (start settings)).client.outcome g ≡ (run events (start settings)).client.outcome g }
+{}
