@@ -1,6 +1,7 @@
 //! Computes what each line of the input asks of a mode of AES, and opens again what it sealed. A line is the
 //! mode, and the lengths of key, nonce, additional data, text and tag; the output adds the result in
-//! hexadecimal digits, or its SHA-256 where it is long. The expected output was written by another implementation.
+//! hexadecimal digits, or its SHA-256 where it is long. The expected output was written by another implementation;
+//! the lines of `ccm-example` are SP 800-38C's examples 1 to 4, whose bytes count upwards.
 #![tactic(auto)]
 
 use aes_block::Aes;
@@ -62,8 +63,20 @@ fn pattern(
     Ok(bytes)
 }
 
+/// Whether a line is one of SP 800-38C's examples.
+fn is_example(row: &Row<'_>) -> bool {
+    row.mode == "ccm-example"
+}
+
+fn key_of(alloc: Global, row: &Row<'_>) -> Result<Vec<u8>> {
+    if is_example(row) {
+        return pattern(alloc, row.key, 0, 1, 0x40, 256);
+    }
+    pattern(alloc, row.key, 0, 7, 3, 256)
+}
+
 fn aes_of(alloc: Global, row: &Row<'_>) -> Result<Aes> {
-    let key = pattern(alloc, row.key, 0, 7, 3, 256)?;
+    let key = key_of(alloc, row)?;
     if let Ok(short) = <[u8; 16]>::try_from(key.as_slice()) {
         Ok(Aes::new_128(&short))
     } else if let Ok(long) = <[u8; 32]>::try_from(key.as_slice()) {
@@ -82,6 +95,13 @@ struct Parts {
 }
 
 fn parts_of(alloc: Global, row: &Row<'_>) -> Result<Parts> {
+    if is_example(row) {
+        return Ok(Parts {
+            nonce: pattern(alloc, row.nonce, 0, 1, 0x10, 256)?,
+            added: pattern(alloc, row.added, 0, 1, 0, 256)?,
+            text: pattern(alloc, row.text, 0, 1, 0x20, 256)?,
+        });
+    }
     Ok(Parts {
         nonce: pattern(alloc, row.nonce, 0, 11, 2, 256)?,
         added: pattern(alloc, row.added, 0, 3, 9, 256)?,
