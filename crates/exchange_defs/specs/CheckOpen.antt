@@ -174,7 +174,7 @@ abbrev pub file_query_check : Server → ℕ → ℕ → ℕ → Verdict
 file_query_check s o class room =
     if needs_attributes class && not (has_access s o 0x80) then TurnDown o access_denied
     else if nat_lt room (file_info_size class (path_of s (file_of s o))) then TurnDown o info_length_mismatch
-    else Tell o (FileInfo class (path_of s (file_of s o)) (info_of s (file_of s o)))
+    else Tell o (FileInfo class (path_of s (file_of s o)) (info_of s (file_of s o)) (s.opened o).access (s.opened o).options)
 
 abbrev pub volume_query_check : Server → ℕ → ℕ → ℕ → Verdict
 volume_query_check s o class room = if nat_lt room (volume_info_size class) then TurnDown o info_length_mismatch else Tell o (VolumeInfo class s.room (used s))
@@ -188,14 +188,14 @@ abbrev pub none_wanted : Option (List ℕ) → ℕ
 none_wanted None = no_such_file
 none_wanted (Some last) = no_more_files
 
-unfoldable pub listing_of : ℕ → Option (List ℕ) → List Named → List Named → Verdict
-listing_of o last [] fit = TurnDown o (none_wanted last)
-listing_of o last (n ∷ ns) [] = TurnDown o info_length_mismatch
-listing_of o last (n ∷ ns) (k ∷ ks) = Show o (last_name last (k ∷ ks)) (Listing (k ∷ ks))
+unfoldable pub listing_of : ℕ → ℕ → Option (List ℕ) → List Named → List Named → Verdict
+listing_of o class last [] fit = TurnDown o (none_wanted last)
+listing_of o class last (n ∷ ns) [] = TurnDown o info_length_mismatch
+listing_of o class last (n ∷ ns) (k ∷ ks) = Show o (last_name last (k ∷ ks)) (Listing class (k ∷ ks))
 
 abbrev pub list_from : Server → ℕ → ℕ → Bool → List ℕ → ℕ → Option (List ℕ) → Verdict
 list_from s o class single pattern room last =
-    let all = wanted last pattern (all_named s (file_of s o)) in listing_of o last all (one_or_all single (fitting class room 0 all))
+    let all = wanted last pattern (all_named s (file_of s o)) in listing_of o class last all (one_or_all single (fitting class room 0 all))
 
 abbrev pub list_check : Server → ℕ → ℕ → Bool → Bool → List ℕ → ℕ → Verdict
 list_check s o class restart single pattern room =
@@ -216,8 +216,8 @@ ioctl_status code room = if code == query_interfaces then (if nat_lt room 152 th
 abbrev pub ioctl_check : Server → Message → ℕ → ℕ → ℕ → Verdict
 ioctl_check s m o code room =
     if is_late s m o then Refuse file_not_available  -- an IOCTL too
-    else if ioctl_status code room == success then Tell o Interfaces
+    else if ioctl_status code room == success then Tell o (Interfaces s.address)
     else TurnDown o (ioctl_status code room)
 
-abbrev pub free_ioctl_check : ℕ → ℕ → Verdict
-free_ioctl_check code room = if ioctl_status code room == success then Give Interfaces else Refuse (ioctl_status code room)
+abbrev pub free_ioctl_check : Server → ℕ → ℕ → Verdict
+free_ioctl_check s code room = if ioctl_status code room == success then Give (Interfaces s.address) else Refuse (ioctl_status code room)

@@ -107,6 +107,10 @@ take_op c g op = record c { taken = g; op = put c.op g op; outcome = put c.outco
 
 -- ---- what a push may send
 
+-- its number is one of those taken
+abbrev pub is_taken : Client → ℕ → Bool
+is_taken c g = nat_lt 0 g && nat_le g c.taken
+
 -- a lower unsettled operation of the same open holds it up
 unfoldable pub waits : Client → ℕ → ℕ → Bool
 waits c g zero = false
@@ -119,7 +123,7 @@ abbrev pub has_open : Client → ℕ → Bool
 has_open c g = is_create (c.op g) || is_ok (c.outcome (create_for c g))
 
 abbrev pub may_push : Client → ℕ → ℕ → Bool
-may_push c k g = c.ready k && ((nat_lt 0 g && nat_le g c.taken) && (is_unsettled (c.outcome g) && (is_none (c.on g) && (has_open c g && not (waits c g g)))))
+may_push c k g = c.ready k && (is_taken c g && (is_unsettled (c.outcome g) && (is_none (c.on g) && (has_open c g && not (waits c g g)))))
 
 -- ---- lock slots
 
@@ -280,7 +284,7 @@ end_session c =
 abbrev pub note_refusal : Client → ℕ → Refusal → Client
 note_refusal c k why = record c { refusals = c.refusals ++ record { connection = k; refusal = why } ∷ [] }
 
--- ---- no session can be had: all that is unsettled is given up
+-- ---- no session can be had: all that was taken and is unsettled is given up
 
 abbrev pub outcome_after_finish : Why → Outcome → Outcome
 outcome_after_finish why Unsettled = Unknown why
@@ -293,6 +297,6 @@ given_up_after_finish session _ old = old
 abbrev pub finish : Client → Why → Client
 finish c why =
     record c {
-      outcome = λ g. outcome_after_finish why (c.outcome g);
-      given_up = λ g. given_up_after_finish c.session (c.outcome g) (c.given_up g);
+      outcome = λ g. if is_taken c g then outcome_after_finish why (c.outcome g) else c.outcome g;
+      given_up = λ g. if is_taken c g then given_up_after_finish c.session (c.outcome g) (c.given_up g) else c.given_up g;
     }

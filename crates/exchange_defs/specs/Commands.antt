@@ -103,7 +103,9 @@ pub data Setting : Type 0 where
 -- A file is named by its open's id: a FileId is that id twice. One of two different halves is 0, which no open has.
 pub data Command : Type 0 where
   Unreadable : (status : ℕ) → Command  -- the body doesn't read, is of no known class or asks for what isn't supported
-  Aside : (status : ℕ) → Command  -- NEGOTIATE and ECHO, read or not: no event, answered by the connection alone with this status
+  -- NEGOTIATE and ECHO, read or not: no event, answered by the connection alone with this status, which counts the fault of
+  -- its message and its form too, since nothing else looks at them
+  Aside : (status : ℕ) → Command
   Setup : (request : SetupRequest) → Command
   Logoff : Command
   TreeConnect : (share : List ℕ) → Command

@@ -4,7 +4,7 @@ use Rattle.exchange_defs.specs.Status.{success}
 use Rattle.exchange_defs.specs.Texts.{is_path, is_below}
 use Rattle.exchange_defs.specs.Content.{written, ended, is_empty}
 use Rattle.exchange_defs.specs.Commands.{Basic, Element, all_lock, all_unlock}
-use Rattle.exchange_defs.specs.State.{Server, Entry, Open, Range, Record, NewOpen, EpochRecord, CreateRecord, WriteRecord, EndRecord, BasicRecord, DeleteRecord, RenameRecord, RemoveRecord, LockRecord, ShutRecord, VersionRecord, ExpireRecord}
+use Rattle.exchange_defs.specs.State.{Server, Address, Entry, Open, Range, Record, NewOpen, EpochRecord, CreateRecord, WriteRecord, EndRecord, BasicRecord, DeleteRecord, RenameRecord, RemoveRecord, LockRecord, ShutRecord, VersionRecord, ExpireRecord}
 use Rattle.exchange_defs.specs.Files.{root, find, path_of, exists, is_directory, has_parent, is_full_directory, passes_room, make_file, set_content, empty_file, mark_file, store_basic, remove_file, rename_file}
 use Rattle.exchange_defs.specs.Ranges.{RangeAnswer, Stands, Denied, change_ranges}
 use Rattle.exchange_defs.specs.Opens.{max_ids, add_open, drop_open, marked_by, file_has_open, without_gone}
@@ -12,10 +12,13 @@ use Rattle.exchange_defs.specs.CheckCreate.{max_opens, max_files, last_file}
 use Rattle.exchange_defs.specs.CheckOpen.{target_of, file_of}
 use Rattle.exchange_defs.specs.Effects.{keep_slot, set_ranges}
 use Rattle.exchange_defs.specs.Records.{entry_bytes}
-use Rattle.exchange_defs.specs.Step.{add_mark}
+use Rattle.exchange_defs.specs.Step.{add_mark, max_marks}
 
 abbrev pub no_times : Basic
 no_times = record { created = 0; accessed = 0; written = 0; changed = 0; attributes = 0 }
+
+abbrev pub no_address : Address
+no_address = record { ip = 0; port = 0 }
 
 abbrev pub no_open : Open
 no_open = record { file = 0; access = 0; share = 0; options = 0; action = 0; persistent = false; client = 0; guid = None; user = []; timeout = 0 }
@@ -30,6 +33,7 @@ nothing_yet =
       share = [];
       room = full_room;
       seals = false;
+      address = no_address;
       version = 1;
       epoch = 0;
       journal = 0;
@@ -154,7 +158,7 @@ with_record s (RenameRecord origin f replaced path) = if may_rename s f replaced
 with_record s (RemoveRecord origin f) = if may_remove s f then remove_file s f else s
 with_record s (LockRecord origin o index number status elements) = if s.standing o && nat_le index 64 then lock_recorded s o index number status elements else s
 with_record s (ShutRecord origin o) = if s.standing o then shut_recorded s o else s
-with_record s (ExpireRecord origin o) = if s.standing o then add_mark (shut_recorded s o) (s.opened o).client (s.opened o).guid else s
+with_record s (ExpireRecord origin o) = if s.standing o && nat_lt s.mark_count max_marks then add_mark (shut_recorded s o) (s.opened o).client (s.opened o).guid else s
 
 unfoldable pub fold_from : Server → List Record → Server
 fold_from s [] = s
@@ -172,7 +176,7 @@ abbrev pub recovery_records : Server → List Record
 recovery_records s = if s.version == 1 then VersionRecord 2 ∷ EpochRecord (s.epoch + 1) ∷ [] else EpochRecord (s.epoch + 1) ∷ []
 
 abbrev pub recovered : Server → List Record → Server
-recovered s rs = record (fold (rs ++ recovery_records s)) { share = s.share; room = s.room; seals = s.seals; journal = s.journal + entry_bytes (recovery_records s) }
+recovered s rs = record (fold (rs ++ recovery_records s)) { share = s.share; room = s.room; seals = s.seals; address = s.address; journal = s.journal + entry_bytes (recovery_records s) }
 
 -- ---- the durable part of a state: what a fold of all its records gives, the counters of the epoch aside
 

@@ -5,7 +5,7 @@ use Rattle.exchange_defs.specs.Status.{success, end_of_file}
 use Rattle.exchange_defs.specs.Content.{ContentReply, Counted, Gives, Done}
 use Rattle.exchange_defs.specs.Order.{Log, Said, Says_ok, Says_end, Says_other}
 use Rattle.exchange_defs.specs.Commands.{Command, Aside}
-use Rattle.exchange_defs.specs.State.{Server, Message, Accept, Heard, End, Reply, Body, Empty, Content, Count, Record, Answer}
+use Rattle.exchange_defs.specs.State.{Server, Address, Message, Accept, Heard, End, Reply, Body, Empty, Content, Count, Record, Answer}
 use Rattle.exchange_defs.specs.Step.{step}
 use Rattle.exchange_defs.specs.Fold.{recovered, recovery_records, nothing_yet, full_room}
 use Rattle.exchange_defs.specs.Operations.{Op, OpClose, Unsettled, NoSession, Refusal, is_create, is_firm, weight, charge}
@@ -402,10 +402,11 @@ pub record Settings : Type 0 where
   pub share : List ℕ
   pub room : ℕ
   pub seals : Bool
+  pub address : Address
 
 -- the server before its first start: an empty journal, and at most the full room
 abbrev pub blank_server : Settings → Server
-blank_server z = record nothing_yet { share = z.share; room = min z.room full_room; seals = z.seals; journal = 9 }
+blank_server z = record nothing_yet { share = z.share; room = min z.room full_room; seals = z.seals; address = z.address; journal = 9 }
 
 abbrev pub start : Settings → World
 start z =

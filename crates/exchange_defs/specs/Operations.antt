@@ -251,11 +251,11 @@ content_in (Content bytes) = Some (Holds bytes)
 content_in _ = None
 
 abbrev pub length_in : Body → Option OpReply
-length_in (FileInfo class path info) = Some (Length info.size)
+length_in (FileInfo class path info access options) = Some (Length info.size)
 length_in _ = None
 
 abbrev pub listing_in : Body → Option OpReply
-listing_in (Listing entries) = Some (Names (names_in entries))
+listing_in (Listing class entries) = Some (Names (names_in entries))
 listing_in _ = None
 
 abbrev pub nothing_in : Body → Option OpReply

@@ -44,11 +44,17 @@ pub data Making : Type 0 where
 
 -- ---- the state
 
+-- where the server can be reached, by IPv4
+pub record Address : Type 0 where
+  pub ip : ℕ
+  pub port : ℕ
+
 pub record Server : Type 0 where
   -- the configuration
   pub share : List ℕ
   pub room : ℕ
   pub seals : Bool
+  pub address : Address
   -- what bounds ids and the journal
   pub version : ℕ
   pub epoch : ℕ
@@ -140,9 +146,9 @@ pub data Body : Type 0 where
   Closed : (info : Info) → Body
   Content : (bytes : List ℕ) → Body
   Count : (count : ℕ) → Body
-  Interfaces : Body
-  Listing : (entries : List Named) → Body
-  FileInfo : (class : ℕ) (path : List ℕ) (info : Info) → Body
+  Interfaces : (address : Address) → Body
+  Listing : (class : ℕ) (entries : List Named) → Body
+  FileInfo : (class : ℕ) (path : List ℕ) (info : Info) (access options : ℕ) → Body  -- access and options are the open's, which class 18 tells (MS-FSCC 2.4.2)
   VolumeInfo : (class room used : ℕ) → Body  -- the sizes that it tells are those of the room and of what is used
   -- a SESSION_SETUP's success tells ENCRYPT_DATA where the session seals; the number drawn for its channel isn't on the wire
   SetUp : (sealed : Bool) (channel : ℕ) → Body

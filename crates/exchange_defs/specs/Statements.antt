@@ -37,6 +37,6 @@ Newer = (z : Settings) (events : List Event) → NeverAfterNewer (run events (st
 abbrev pub OneConnection : Type 0
 OneConnection = (z : Settings) (events : List Event) → OneConnections (run events (start z)) × BytesNow (run events (start z))
 
--- once settled it stays
+-- once settled it stays, whatever number it has
 abbrev pub SettledStays : Type 0
 SettledStays = (z : Settings) (events more : List Event) (g : ℕ) → is_unsettled ((run events (start z)).client.outcome g) ≡ false → (run (events ++ more) (start z)).client.outcome g ≡ (run events (start z)).client.outcome g

@@ -1,5 +1,5 @@
 -- Scripts of the worked examples, and what is told of the worlds that they come to.
-use Rattle.std.specs.Prelude.{ℕ, zero, suc, ◌+◌, ◌==◌, Bool, true, false, ◌&&◌, if◌then◌else◌, List, [], ◌∷◌, Some}
+use Rattle.std.specs.Prelude.{ℕ, zero, suc, ◌+◌, Bool, true, false, if◌then◌else◌, List, [], ◌∷◌, Some}
 use Rattle.exchange_defs.specs.Texts.{name_before}
 use Rattle.exchange_defs.specs.Order.{order_of}
 use Rattle.exchange_defs.specs.Operations.{Op, OpCreate, OpWrite, OpRead, OpEnd, OpTime, OpRename, OpRemove, OpLock, OpUnlock, OpStat, OpList, OpClose, Outcome}
@@ -15,7 +15,7 @@ somebody logon = record { guid = 7; salt = 3; logon = logon; share = 100 ∷ [];
 
 -- a share with so much room
 abbrev pub settings : ℕ → Settings
-settings room = record { who = somebody (Logon (117 ∷ []) 1); share = 100 ∷ []; room = room; seals = true }
+settings room = record { who = somebody (Logon (117 ∷ []) 1); share = 100 ∷ []; room = room; seals = true; address = record { ip = 2130706433; port = 445 } }
 
 abbrev pub beginning : ℕ → Course
 beginning room = record { world = start (settings room); events = [] }

@@ -1,67 +1,114 @@
--- An operation that was taken and is settled stays as it settled.
-use Rattle.std.proofs.Common.{◌≡◌, ◌≢◌, ℕ, ◌+◌, ◌≤◌, ◌==◌, Bool, true, false, not, ◌&&◌, if◌then◌else◌, List, [], ◌∷◌, ◌++◌, refl, arith, sym, subst, ◌∙◌, ap, Option, Some, None}
+-- What is settled stays as it settled. A number that isn't taken yet is unsettled, so the statement has no premise on it.
+use Rattle.std.proofs.Common.{◌≡◌, ◌≢◌, ℕ, ◌+◌, ◌≤◌, ◌<◌, ◌==◌, nat_lt, nat_le, Bool, true, false, not, ◌&&◌, if◌then◌else◌, List, [], ◌∷◌, ◌++◌, refl, arith, sym, subst, ◌∙◌, ap, Option, Some, None, is_some}
+use Rattle.std.proofs.lemmas.Bool.Decides.{nat_tests}
 use Rattle.exchange_defs.specs.Table.{put, is_filled}
 use Rattle.exchange_defs.specs.Status.{disk_full}
 use Rattle.exchange_defs.specs.State.{Reply, Body}
-use Rattle.exchange_defs.specs.Operations.{Op, Outcome, Unsettled, WasOk, WasRefused, NoSlot, NoOpen, Unknown, Why, NoSession, is_unsettled, is_create, is_close, is_lock}
-use Rattle.exchange_defs.specs.Client.{Client, create_for, may_take, may_push, has_its_slot, goes_itself, lacks_slot, settle_no_slot, settle_no_slots, begin, again, outstanding, cut_channel, ends_at_cut, end_session, outcome_after_end, outcome_after_finish, is_gone_after}
-use Rattle.exchange_defs.specs.Settling.{Heard as Hearing, Settles, GoesAgain, Attaches, EndsSession, heard, hear, is_awaited, settle, settled, noted, noted_full, settles_open, with_no_opens, answered}
+use Rattle.exchange_defs.specs.Operations.{Op, OpClose, Outcome, Unsettled, WasOk, WasRefused, NoSlot, NoOpen, Unknown, Why, NoSession, SessionLost, is_unsettled, is_create, is_close, is_lock, create_of, persists}
+use Rattle.exchange_defs.specs.Client.{Client, create_for, is_taken, may_take, may_push, has_its_slot, goes_itself, lacks_slot, settle_no_slot, settle_no_slots, begin, again, outstanding, cut_channel, ends_at_cut, end_session, outcome_after_end, unsent_after_end, finish, outcome_after_finish, is_gone_after}
+use Rattle.exchange_defs.specs.Settling.{Heard as Hearing, Settles, GoesAgain, Attaches, EndsSession, heard, hear, is_awaited, settle, settled, noted, noted_full, settles_open, with_no_opens, without_open, answered}
 use Rattle.exchange_defs.specs.Dialogs.{DialogStep, GoesOn, Accepts, Binds, Readies, Refuses, dialog_step}
 use Rattle.exchange_defs.specs.ClientStep.{Pick, Act, Nothing, Sends, Asks, CloseChannels, AllSettled, pick_after, op_after, push_after, hear_after, client_after, act, Pushes}
-use Rattle.exchange_defs.specs.Network.{World, Event, Submit, Open, Push, Serve, Take, Cut, Drop, Restart, Crash, Wait, Finish, Settings, Received, Sent, Token, ForDialog, ForOp, ForAttach, happens, run, start, may_open, may_serve, pushed_by, serve_front, absorb_front, take_reply, took_by, dialog_took, behind_reply}
-use Rattle.exchange_law.specs.Connections.{Settled as AllSettledOff}
+use Rattle.exchange_defs.specs.Network.{World, Event, Submit, Open, Push, Serve, Take, Cut, Drop, Restart, Crash, Wait, Finish, Received, Sent, Token, ForDialog, ForOp, ForAttach, happens, run, start, may_open, may_serve, pushed_by, serve_front, absorb_front, take_reply, took_by, dialog_took, behind_reply}
+use Rattle.exchange_defs.specs.Statements.{SettledStays}
+use Rattle.exchange_law.specs.Connections.{Settled as AllSettledOff, Taken, TakenOn, Creates, makes_open, its_create}
 use Rattle.exchange_law.proofs.Doors.{either}
 use Rattle.exchange_law.proofs.Run.{Holds, after, keeps, begins, found, front_of, awaited_of, without_same, next_of, always}
 
+-- the row of a number that isn't taken is as in the beginning
+abbrev pub Beyond : Client → Type 0
+Beyond c = (h : ℕ) → is_taken c h ≡ false → c.outcome h ≡ Unsettled × c.op h ≡ OpClose 0
+
 abbrev pub Kept : Client → Client → Type 0
-Kept c d = (h : ℕ) → h ≤ c.taken → is_unsettled (c.outcome h) ≡ false → (d.outcome h ≡ c.outcome h) × (h ≤ d.taken)
+Kept c d = Beyond c → Beyond d × ((h : ℕ) → is_unsettled (c.outcome h) ≡ false → d.outcome h ≡ c.outcome h)
+
+kept_same : (c : Client) → Kept c c
+kept_same c = λ b. (b, λ h s. refl)
 
 kept_on : (c d e : Client) → Kept c d → Kept d e → Kept c e
-kept_on c d e f g = λ h l s. let p = f h l s in let q = g h p.1 (ap is_unsettled p.0 ∙ s) in (q.0 ∙ p.0, q.1)
+kept_on c d e f g = λ b. let p = f b in let q = g p.0 in (q.0, λ h s. let r = p.1 h s in q.1 h (ap is_unsettled r ∙ s) ∙ r)
+
+-- ---- numbers
+
+settled_taken : (c : Client) (h : ℕ) → Beyond c → is_unsettled (c.outcome h) ≡ false → is_taken c h ≡ true
+settled_taken c h b s = by_test (is_taken c h) refl
+  where
+    by_test : (t : Bool) → is_taken c h ≡ t → is_taken c h ≡ true
+    by_test true e = e
+    by_test false e = let u : false ≡ true = sym s ∙ ap is_unsettled (b h e).0 in absurd (cc)
+
+taken_of : (h t : ℕ) → 0 < h → h ≤ t → (nat_lt 0 h && nat_le h t) ≡ true
+taken_of h t l m = grind (arith, nat_tests)
+
+not_taken_before : (h t g : ℕ) → g ≡ t + 1 → (nat_lt 0 h && nat_le h g) ≡ false → (nat_lt 0 h && nat_le h t) ≡ false
+not_taken_before h t g e f = grind (arith, nat_tests)
+
+not_the_next : (h t g : ℕ) → g ≡ t + 1 → (nat_lt 0 h && nat_le h g) ≡ false → h ≢ g
+not_the_next h t g e f = grind (arith, nat_tests)
+
+below_the_next : (h t g : ℕ) → g ≡ t + 1 → (nat_lt 0 h && nat_le h t) ≡ true → h ≢ g
+below_the_next h t g e f = grind (arith, nat_tests)
+
+not_that : (c : Client) (g h : ℕ) → is_taken c g ≡ true → is_taken c h ≡ false → h ≢ g
+not_that c g h t f = λ e. let u : false ≡ true = sym f ∙ (ap (is_taken c) e ∙ t) in absurd (cc)
+
+not_sent : (c : Client) (h : ℕ) → Taken c → is_taken c h ≡ false → c.sent h ≡ false
+not_sent c h taken f = by_test (c.sent h) refl
+  where
+    by_test : (t : Bool) → c.sent h ≡ t → c.sent h ≡ false
+    by_test true e = let l = taken h e in let u : false ≡ true = sym f ∙ taken_of h c.taken l.0 l.1 in absurd (cc)
+    by_test false e = e
 
 -- ---- the client's steps
 
 other_put : (f : ℕ → Outcome) (g h : ℕ) (o : Outcome) → h ≢ g → put f g o h ≡ f h
 other_put f g h o d = grind arith
 
+other_op : (f : ℕ → Op) (g h : ℕ) (op : Op) → h ≢ g → put f g op h ≡ f h
+other_op f g h op d = grind arith
+
 kept_take : (c : Client) (g : ℕ) (op : Op) (o : Outcome) → g ≡ c.taken + 1 → Kept c (record c { taken = g; op = put c.op g op; outcome = put c.outcome g o })
-kept_take c g op o e = λ h l s. let d : h ≢ g = omega (arith, e, l) in (other_put c.outcome g h o d, omega (arith, e, l))
+kept_take c g op o e =
+    λ b. (
+      λ h f. let d = not_the_next h c.taken g e f in let old = b h (not_taken_before h c.taken g e f) in (other_put c.outcome g h o d ∙ old.0, other_op c.op g h op d ∙ old.1),
+      λ h s. other_put c.outcome g h o (below_the_next h c.taken g e (settled_taken c h b s)),
+    )
 
 apart : (f : ℕ → Outcome) (h g : ℕ) → is_unsettled (f h) ≡ false → is_unsettled (f g) ≡ true → h ≢ g
 apart f h g s u = λ e. let p : false ≡ true = sym s ∙ (ap (λ x. is_unsettled (f x)) e ∙ u) in absurd (cc)
 
-kept_put : (c : Client) (g : ℕ) (o : Outcome) → is_unsettled (c.outcome g) ≡ true → Kept c (record c { outcome = put c.outcome g o })
-kept_put c g o u = λ h l s. (other_put c.outcome g h o (apart c.outcome h g s u), l)
+kept_put : (c : Client) (g : ℕ) (o : Outcome) → is_taken c g ≡ true → is_unsettled (c.outcome g) ≡ true → Kept c (record c { outcome = put c.outcome g o })
+kept_put c g o t u = λ b. (λ h f. let old = b h f in (other_put c.outcome g h o (not_that c g h t f) ∙ old.0, old.1), λ h s. other_put c.outcome g h o (apart c.outcome h g s u))
 
 kept_slotless : (c : Client) (k g : ℕ) → Kept c (settle_no_slot c k g)
 kept_slotless c k g =
     either (λ d. Kept c d) (lacks_slot c k g) (record c { outcome = put c.outcome g (NoSlot (create_for c g)) }) c
-    (λ lacks. kept_put c g (NoSlot (create_for c g)) (found c k g (front_of (may_push c k g) _ lacks)).pending) (λ _. λ h l s. (refl, l))
+    (λ lacks. let may = found c k g (front_of (may_push c k g) _ lacks) in kept_put c g (NoSlot (create_for c g)) (taken_of g c.taken may.above may.within) may.pending) (λ _. kept_same c)
 
 kept_slotlesses : (c : Client) (k : ℕ) (gs : List ℕ) → Kept c (settle_no_slots c k gs)
 unfolding settle_no_slots
-kept_slotlesses c k [] = λ h l s. (refl, l)
+kept_slotlesses c k [] = kept_same c
 kept_slotlesses c k (g ∷ gs) = kept_on c (settle_no_slot c k g) (settle_no_slots (settle_no_slot c k g) k gs) (kept_slotless c k g) (kept_slotlesses (settle_no_slot c k g) k gs)
 
 kept_begun : (c : Client) (k g i : ℕ) (b : Bool) → Kept c (outstanding (if b then again c g else begin c g i) k g)
-kept_begun c k g i true = either (λ d. Kept c (outstanding d k g)) (is_lock (c.op g)) _ _ (λ _. λ h l s. (refl, l)) (λ _. λ h l s. (refl, l))
-kept_begun c k g i false = either (λ d. Kept c (outstanding d k g)) (is_lock (c.op g)) _ _ (λ _. λ h l s. (refl, l)) (λ _. λ h l s. (refl, l))
+kept_begun c k g i true = either (λ d. Kept c (outstanding d k g)) (is_lock (c.op g)) _ _ (λ _. kept_same c) (λ _. kept_same c)
+kept_begun c k g i false = either (λ d. Kept c (outstanding d k g)) (is_lock (c.op g)) _ _ (λ _. kept_same c) (λ _. kept_same c)
 
 kept_op : (c : Client) (k g i : ℕ) → Kept c (op_after c k g i)
 kept_op c k g i =
     either (Kept c) (may_push c k g) _ _
-    (λ _. either (Kept c) (goes_itself c g) _ _ (λ _. either (Kept c) (has_its_slot c g i) _ _ (λ _. kept_begun c k g i (c.sent g)) (λ _. λ h l s. (refl, l))) (λ _. λ h l s. (refl, l)))
-    (λ _. λ h l s. (refl, l))
+    (λ _. either (Kept c) (goes_itself c g) _ _ (λ _. either (Kept c) (has_its_slot c g i) _ _ (λ _. kept_begun c k g i (c.sent g)) (λ _. kept_same c)) (λ _. kept_same c))
+    (λ _. kept_same c)
 
 kept_pick : (c : Client) (k : ℕ) (pick : Option Pick) → Kept c (pick_after c k pick)
-kept_pick c k None = λ h l s. (refl, l)
+kept_pick c k None = kept_same c
 kept_pick c k (Some p) = kept_op c k p.op p.slot
 
 kept_push : (c : Client) (k : ℕ) (slotless : List ℕ) (pick : Option Pick) → Kept c (push_after c k slotless pick)
 kept_push c k slotless pick =
     either (Kept c) (c.ready k) _ _
     (λ _. kept_on c (settle_no_slots c k slotless) (pick_after (settle_no_slots c k slotless) k pick) (kept_slotlesses c k slotless) (kept_pick (settle_no_slots c k slotless) k pick))
-    (λ _. λ h l s. (refl, l))
+    (λ _. kept_same c)
 
 -- the end of a session and of all dialogs
 end_same : (c : Client) (g : ℕ) (o : Outcome) → is_unsettled o ≡ false → outcome_after_end c g o ≡ o
@@ -80,62 +127,122 @@ finish_same why (NoSlot n) e = refl
 finish_same why (NoOpen n) e = refl
 finish_same why (Unknown w) e = refl
 
-kept_end : (c : Client) → Kept c (end_session c)
-kept_end c = λ h l s. (end_same c h (c.outcome h) s, l)
+-- what isn't taken never went out, and names the create 0, which isn't taken either
+unsent_by : (n : ℕ) (p sent create create_sent : Bool) (lost o : Outcome) → sent ≡ false → create_sent ≡ false → o ≡ Unsettled
+    → (if p then Unsettled else if sent then lost else if create then Unsettled else unsent_after_end n create_sent o) ≡ Unsettled
+unsent_by n p sent create create_sent lost o e f u = grind arith
 
-kept_cut : (c : Client) (k : ℕ) → Kept c (if c.ready k then (if ends_at_cut c then end_session c else cut_channel c k) else c)
-kept_cut c k = either (Kept c) (c.ready k) _ _ (λ _. either (Kept c) (ends_at_cut c) _ _ (λ _. kept_end c) (λ _. λ h l s. (refl, l))) (λ _. λ h l s. (refl, l))
+end_beyond : (c : Client) (h : ℕ) (o : Outcome) → Beyond c → Taken c → is_taken c h ≡ false → o ≡ Unsettled → outcome_after_end c h o ≡ Unsettled
+end_beyond c h o b taken f u =
+    let zeroth : create_for c h ≡ 0 = ap (create_of h) (b h f).1 in
+    subst (λ x. outcome_after_end c h x ≡ Unsettled) (sym u)
+    (unsent_by (create_for c h) (persists (c.op (create_for c h))) (c.sent h) (is_create (c.op h)) (c.sent (create_for c h)) (Unknown (SessionLost c.number)) (c.outcome (create_for c h)) (not_sent c h taken f)
+    (ap c.sent zeroth ∙ not_sent c 0 taken refl) (ap c.outcome zeroth ∙ (b 0 refl).0))
+
+kept_end : (c : Client) → Taken c → Kept c (end_session c)
+kept_end c taken = λ b. (λ h f. let old = b h f in (end_beyond c h (c.outcome h) b taken f old.0, old.1), λ h s. end_same c h (c.outcome h) s)
+
+kept_cut : (c : Client) (k : ℕ) → Taken c → Kept c (if c.ready k then (if ends_at_cut c then end_session c else cut_channel c k) else c)
+kept_cut c k taken = either (Kept c) (c.ready k) _ _ (λ _. either (Kept c) (ends_at_cut c) _ _ (λ _. kept_end c taken) (λ _. kept_same c)) (λ _. kept_same c)
+
+-- no session can be had
+finish_by : (t : Bool) (why : Why) (o : Outcome) → is_unsettled o ≡ false → (if t then outcome_after_finish why o else o) ≡ o
+finish_by true why o s = finish_same why o s
+finish_by false why o s = refl
+
+not_finished : (t : Bool) (x o : Outcome) → t ≡ false → (if t then x else o) ≡ o
+not_finished t x o e = grind arith
+
+kept_finish : (c : Client) (why : Why) → Kept c (finish c why)
+kept_finish c why =
+    λ b. (λ h f. let old = b h f in (not_finished (is_taken c h) (outcome_after_finish why (c.outcome h)) (c.outcome h) f ∙ old.0, old.1), λ h s. finish_by (is_taken c h) why (c.outcome h) s)
 
 -- ---- a reply
 
 -- what is noted beside an outcome changes none
 pub record SameOutcomes (c d : Client) : Type 0 where
   pub outcome : d.outcome ≡ c.outcome
+  pub op : d.op ≡ c.op
   pub taken : d.taken ≡ c.taken
 
 noted_same : (c : Client) (g : ℕ) (body : Body) (o : Outcome) → SameOutcomes c (noted c g o body)
 noted_same c g body (WasOk reply) =
-    either (SameOutcomes c) (is_create (c.op g)) _ _ (λ _. record { outcome = refl; taken = refl })
-    (λ _. either (SameOutcomes c) (is_close (c.op g)) _ _ (λ _. record { outcome = refl; taken = refl }) (λ _. record { outcome = refl; taken = refl }))
-noted_same c g body Unsettled = record { outcome = refl; taken = refl }
-noted_same c g body (WasRefused status) = record { outcome = refl; taken = refl }
-noted_same c g body (NoSlot n) = record { outcome = refl; taken = refl }
-noted_same c g body (NoOpen n) = record { outcome = refl; taken = refl }
-noted_same c g body (Unknown why) = record { outcome = refl; taken = refl }
+    either (SameOutcomes c) (is_create (c.op g)) _ _ (λ _. record { outcome = refl; op = refl; taken = refl })
+    (λ _. either (SameOutcomes c) (is_close (c.op g)) _ _ (λ _. record { outcome = refl; op = refl; taken = refl }) (λ _. record { outcome = refl; op = refl; taken = refl }))
+noted_same c g body Unsettled = record { outcome = refl; op = refl; taken = refl }
+noted_same c g body (WasRefused status) = record { outcome = refl; op = refl; taken = refl }
+noted_same c g body (NoSlot n) = record { outcome = refl; op = refl; taken = refl }
+noted_same c g body (NoOpen n) = record { outcome = refl; op = refl; taken = refl }
+noted_same c g body (Unknown why) = record { outcome = refl; op = refl; taken = refl }
 
 full_same : (c d : Client) (g : ℕ) (asking : Bool) (status : ℕ) → SameOutcomes c d → SameOutcomes c (noted_full d g asking status)
 full_same c d g asking status same =
-    either (SameOutcomes c) (is_lock (d.op g) && (not asking && (status == disk_full))) _ _ (λ _. record { outcome = same.outcome; taken = same.taken }) (λ _. same)
+    either (SameOutcomes c) (is_lock (d.op g) && (not asking && (status == disk_full))) _ _ (λ _. record { outcome = same.outcome; op = same.op; taken = same.taken }) (λ _. same)
 
-kept_settled : (c d : Client) (g place : ℕ) (o : Outcome) → SameOutcomes c d → is_unsettled (c.outcome g) ≡ true → Kept c (settled d g o place)
-kept_settled c d g place o same u = λ h l s. (other_put d.outcome g h o (apart c.outcome h g s u) ∙ ap (λ f. f h) same.outcome, subst (λ t. h ≤ t) (sym same.taken) l)
+-- what awaits a reply: taken, unsettled, of a create that was taken
+pub record Awaits (c : Client) (g : ℕ) : Type 0 where
+  pub number : is_taken c g ≡ true
+  pub pending : is_unsettled (c.outcome g) ≡ true
+  pub create : 0 < create_for c g
 
-kept_given_up : (d : Client) (create : ℕ) → Kept d (with_no_opens d create)
-kept_given_up d create = λ h l s. (without_same ((create_for d h == create) && not (is_create (d.op h))) (d.sent h) (is_gone_after d create (d.outcome create)) create (d.outcome h) s, l)
+kept_settled : (c d : Client) (g place : ℕ) (o : Outcome) → SameOutcomes c d → Awaits c g → Kept c (settled d g o place)
+kept_settled c d g place o same w =
+    λ b. (
+      λ h f. let e : is_taken c h ≡ false = ap (λ t. nat_lt 0 h && nat_le h t) (sym same.taken) ∙ f in let old = b h e in
+          (other_put d.outcome g h o (not_that c g h w.number e) ∙ (ap (λ x. x h) same.outcome ∙ old.0), ap (λ x. x h) same.op ∙ old.1),
+      λ h s. other_put d.outcome g h o (apart c.outcome h g s w.pending) ∙ ap (λ x. x h) same.outcome,
+    )
 
-kept_settle : (c : Client) (g : ℕ) (asking : Bool) (r : Reply) (place : ℕ) (o : Outcome) → is_unsettled (c.outcome g) ≡ true → Kept c (settle c g asking r place o)
-kept_settle c g asking r place o u = by_noted c (noted_full (noted c g o r.body) g asking r.status) g place o (full_same c (noted c g o r.body) g asking r.status (noted_same c g r.body o)) u
+-- what isn't taken names another create
+given_by : (n create : ℕ) (k sent gone : Bool) (o : Outcome) → n ≡ 0 → 0 < create → o ≡ Unsettled → without_open ((n == create) && not k) sent gone create o ≡ Unsettled
+given_by n create k sent gone o e l u = grind arith
+
+kept_given_up : (d : Client) (create : ℕ) → 0 < create → Kept d (with_no_opens d create)
+kept_given_up d create l =
+    λ b. (
+      λ h f. let old = b h f in (given_by (create_for d h) create (is_create (d.op h)) (d.sent h) (is_gone_after d create (d.outcome create)) (d.outcome h) (ap (create_of h) old.1) l old.0, old.1),
+      λ h s. without_same ((create_for d h == create) && not (is_create (d.op h))) (d.sent h) (is_gone_after d create (d.outcome create)) create (d.outcome h) s,
+    )
+
+kept_settle : (c : Client) (g : ℕ) (asking : Bool) (r : Reply) (place : ℕ) (o : Outcome) → Awaits c g → Kept c (settle c g asking r place o)
+kept_settle c g asking r place o w = by_noted c (noted_full (noted c g o r.body) g asking r.status) g place o (full_same c (noted c g o r.body) g asking r.status (noted_same c g r.body o)) w
   where
-    by_noted : (c d : Client) (g place : ℕ) (o : Outcome) → SameOutcomes c d → is_unsettled (c.outcome g) ≡ true → Kept c (if settles_open (c.op g) then with_no_opens (settled d g o place) (create_for c g) else settled d g o place)
-    by_noted c d g place o same u =
-        let k = kept_settled c d g place o same u in
+    by_noted : (c d : Client) (g place : ℕ) (o : Outcome) → SameOutcomes c d → Awaits c g → Kept c (if settles_open (c.op g) then with_no_opens (settled d g o place) (create_for c g) else settled d g o place)
+    by_noted c d g place o same w =
+        let k = kept_settled c d g place o same w in
         either (Kept c) (settles_open (c.op g)) (with_no_opens (settled d g o place) (create_for c g)) (settled d g o place)
-        (λ _. kept_on c (settled d g o place) (with_no_opens (settled d g o place) (create_for c g)) k (kept_given_up (settled d g o place) (create_for c g))) (λ _. k)
+        (λ _. kept_on c (settled d g o place) (with_no_opens (settled d g o place) (create_for c g)) k (kept_given_up (settled d g o place) (create_for c g) w.create)) (λ _. k)
 
-kept_heard : (c : Client) (g : ℕ) (asking : Bool) (r : Reply) (place : ℕ) → is_unsettled (c.outcome g) ≡ true → (h : Hearing) → Kept c (hear c g asking r place h)
-kept_heard c g asking r place u (Settles o) = kept_settle c g asking r place o u
-kept_heard c g asking r place u GoesAgain = λ h l s. (refl, l)
-kept_heard c g asking r place u Attaches = λ h l s. (refl, l)
-kept_heard c g asking r place u EndsSession = λ h l s. (end_same (answered c g) h (c.outcome h) s, l)
+kept_heard : (c : Client) (g : ℕ) (asking : Bool) (r : Reply) (place : ℕ) → Taken c → Awaits c g → (h : Hearing) → Kept c (hear c g asking r place h)
+kept_heard c g asking r place taken w (Settles o) = kept_settle c g asking r place o w
+kept_heard c g asking r place taken w GoesAgain = kept_same c
+kept_heard c g asking r place taken w Attaches = kept_same c
+kept_heard c g asking r place taken w EndsSession = kept_end (answered c g) taken
 
 not_settled : (c : Client) (g k : ℕ) → AllSettledOff c → c.on g ≡ Some k → (b : Bool) → is_unsettled (c.outcome g) ≡ b → is_unsettled (c.outcome g) ≡ true
 not_settled c g k off on true e = e
 not_settled c g k off on false e = let none = off g e in absurd (grind arith)
 
-kept_hear : (c : Client) (k g : ℕ) (asking : Bool) (r : Reply) (place : ℕ) → AllSettledOff c → Kept c (hear_after c k g asking r place)
-kept_hear c k g asking r place off =
-    either (Kept c) (is_awaited c k g asking) _ _
-    (λ aw. kept_heard c g asking r place (not_settled c g k off (awaited_of c k g asking aw).0 _ refl) (heard c g asking r)) (λ _. λ h l s. (refl, l))
+-- a create is its own, and any other operation's was taken before
+own_create : (g : ℕ) (op : Op) → 0 < g → (makes_open op ≡ false → 0 < its_create g op) → 0 < create_of g op
+unfolding makes_open its_create
+own_create g op l f = grind arith
+
+-- the parts that a reply needs
+pub record Fits (c : Client) : Type 0 where
+  pub settled : AllSettledOff c
+  pub taken : Taken c
+  pub taken_on : TakenOn c
+  pub creates : Creates c
+
+awaits : (c : Client) (g k : ℕ) → Fits c → c.on g ≡ Some k → Awaits c g
+awaits c g k i on =
+    let l = i.taken_on g (ap is_some on) in
+    record { number = taken_of g c.taken l.0 l.1; pending = not_settled c g k i.settled on (is_unsettled (c.outcome g)) refl; create = own_create g (c.op g) l.0 (λ m. (i.creates g l.0 l.1 m).0) }
+
+kept_hear : (c : Client) (k g : ℕ) (asking : Bool) (r : Reply) (place : ℕ) → Fits c → Kept c (hear_after c k g asking r place)
+kept_hear c k g asking r place i =
+    either (Kept c) (is_awaited c k g asking) _ _ (λ aw. kept_heard c g asking r place i.taken (awaits c g k i (awaited_of c k g asking aw).0) (heard c g asking r)) (λ _. kept_same c)
 
 -- ---- events
 
@@ -150,51 +257,51 @@ pushed_client w k d CloseChannels = refl
 pushed_client w k d AllSettled = refl
 
 dialog_stays : (w : World) (k : ℕ) (r : Reply) (d : DialogStep) → Stay w (dialog_took w k r d)
-dialog_stays w k r (GoesOn stage) = λ h l s. (refl, l)
-dialog_stays w k r Accepts = λ h l s. (refl, l)
-dialog_stays w k r Binds = λ h l s. (refl, l)
-dialog_stays w k r Readies = λ h l s. (refl, l)
-dialog_stays w k r (Refuses status) = λ h l s. (refl, l)
+dialog_stays w k r (GoesOn stage) = kept_same w.client
+dialog_stays w k r Accepts = kept_same w.client
+dialog_stays w k r Binds = kept_same w.client
+dialog_stays w k r Readies = kept_same w.client
+dialog_stays w k r (Refuses status) = kept_same w.client
 
-took_stays : (w : World) (k : ℕ) (r : Reply) (place : ℕ) → AllSettledOff w.client → (t : Token) → Stay w (took_by w k r place t)
-took_stays w k r place off ForDialog = dialog_stays w k r (dialog_step (w.client.stage k) r.status)
-took_stays w k r place off (ForOp g) = kept_hear w.client k g false r place off
-took_stays w k r place off (ForAttach g) = kept_hear w.client k g true r place off
+took_stays : (w : World) (k : ℕ) (r : Reply) (place : ℕ) → Fits w.client → (t : Token) → Stay w (took_by w k r place t)
+took_stays w k r place i ForDialog = dialog_stays w k r (dialog_step (w.client.stage k) r.status)
+took_stays w k r place i (ForOp g) = kept_hear w.client k g false r place i
+took_stays w k r place i (ForAttach g) = kept_hear w.client k g true r place i
 
-take_stays : (w : World) (k : ℕ) → AllSettledOff w.client → (ys : List Received) → Stay w (take_reply w k ys)
-take_stays w k off [] = λ h l s. (refl, l)
-take_stays w k off (y ∷ rest) = took_stays (behind_reply w k rest) k y.reply y.place off y.token
+take_stays : (w : World) (k : ℕ) → Fits w.client → (ys : List Received) → Stay w (take_reply w k ys)
+take_stays w k i [] = kept_same w.client
+take_stays w k i (y ∷ rest) = took_stays (behind_reply w k rest) k y.reply y.place i y.token
 
 serve_stays : (w : World) (k : ℕ) (xs : List Sent) → Stay w (serve_front w k xs)
-serve_stays w k [] = λ h l s. (refl, l)
-serve_stays w k (x ∷ rest) = λ h l s. (refl, l)
+serve_stays w k [] = kept_same w.client
+serve_stays w k (x ∷ rest) = kept_same w.client
 
 absorb_stays : (w : World) (k : ℕ) (xs : List Sent) → Stay w (absorb_front w k xs)
-absorb_stays w k [] = λ h l s. (refl, l)
-absorb_stays w k (x ∷ rest) = λ h l s. (refl, l)
+absorb_stays w k [] = kept_same w.client
+absorb_stays w k (x ∷ rest) = kept_same w.client
 
 event_stays : (w : World) (a : ℕ → ℕ) (e : Event) → Holds w a → Stay w (happens w e)
-event_stays w a (Submit g op) i = either (Kept w.client) (may_take w.client g op) _ _ (λ may. kept_take w.client g op _ (next_of w.client g op may)) (λ _. λ h l s. (refl, l))
-event_stays w a (Open k) i = either (Stay w) (may_open w k) _ _ (λ _. λ h l s. (refl, l)) (λ _. λ h l s. (refl, l))
+event_stays w a (Submit g op) i = either (Kept w.client) (may_take w.client g op) _ _ (λ may. kept_take w.client g op _ (next_of w.client g op may)) (λ _. kept_same w.client)
+event_stays w a (Open k) i = either (Stay w) (may_open w k) _ _ (λ _. kept_same w.client) (λ _. kept_same w.client)
 event_stays w a (Push k slotless pick) i =
     either (Stay w) (w.client.ready k) _ _
-    (λ _. subst (Kept w.client) (sym (pushed_client w k (client_after w.client (Pushes k slotless pick)) (act w.client (Pushes k slotless pick)))) (kept_push w.client k slotless pick)) (λ _. λ h l s. (refl, l))
-event_stays w a (Serve k) i = either (Stay w) (may_serve w k) _ _ (λ _. serve_stays w k (w.conns k).up) (λ _. λ h l s. (refl, l))
-event_stays w a (Take k) i = either (Stay w) ((w.conns k).client_open && is_filled (w.conns k).down) _ _ (λ _. take_stays w k i.settled (w.conns k).down) (λ _. λ h l s. (refl, l))
+    (λ _. subst (Kept w.client) (sym (pushed_client w k (client_after w.client (Pushes k slotless pick)) (act w.client (Pushes k slotless pick)))) (kept_push w.client k slotless pick)) (λ _. kept_same w.client)
+event_stays w a (Serve k) i = either (Stay w) (may_serve w k) _ _ (λ _. serve_stays w k (w.conns k).up) (λ _. kept_same w.client)
+event_stays w a (Take k) i = either (Stay w) ((w.conns k).client_open && is_filled (w.conns k).down) _ _ (λ _. take_stays w k (record { settled = i.settled; taken = i.taken; taken_on = i.taken_on; creates = i.creates }) (w.conns k).down) (λ _. kept_same w.client)
 event_stays w a (Cut k) i =
-    either (Stay w) (w.conns k).client_open _ _ (λ _. either (Stay w) (w.client.ready k) _ _ (λ _. kept_cut w.client k) (λ _. λ h l s. (refl, l))) (λ _. λ h l s. (refl, l))
-event_stays w a (Drop k) i = either (Stay w) (w.conns k).server_open _ _ (λ _. λ h l s. (refl, l)) (λ _. λ h l s. (refl, l))
-event_stays w a Restart i = λ h l s. (refl, l)
+    either (Stay w) (w.conns k).client_open _ _ (λ _. either (Stay w) (w.client.ready k) _ _ (λ _. kept_cut w.client k i.taken) (λ _. kept_same w.client)) (λ _. kept_same w.client)
+event_stays w a (Drop k) i = either (Stay w) (w.conns k).server_open _ _ (λ _. kept_same w.client) (λ _. kept_same w.client)
+event_stays w a Restart i = kept_same w.client
 event_stays w a (Crash k kept) i =
-    either (Stay w) (may_serve w k) _ _ (λ _. either (Stay w) kept _ _ (λ _. absorb_stays w k (w.conns k).up) (λ _. λ h l s. (refl, l))) (λ _. λ h l s. (refl, l))
-event_stays w a (Wait n) i = λ h l s. (refl, l)
-event_stays w a (Finish refusal) i = either (Stay w) (not w.client.live) _ _ (λ _. λ h l s. (finish_same (NoSession refusal) (w.client.outcome h) s, l)) (λ _. λ h l s. (refl, l))
+    either (Stay w) (may_serve w k) _ _ (λ _. either (Stay w) kept _ _ (λ _. absorb_stays w k (w.conns k).up) (λ _. kept_same w.client)) (λ _. kept_same w.client)
+event_stays w a (Wait n) i = kept_same w.client
+event_stays w a (Finish refusal) i = either (Stay w) (not w.client.live) _ _ (λ _. kept_finish w.client (NoSession refusal)) (λ _. kept_same w.client)
 
 -- ---- runs
 
 run_stays : (es : List Event) (w : World) (a : ℕ → ℕ) → Holds w a → Stay w (run es w)
 unfolding run
-run_stays [] w a i = λ h l s. (refl, l)
+run_stays [] w a i = kept_same w.client
 run_stays (e ∷ es) w a i = kept_on w.client (happens w e).client (run es (happens w e)).client (event_stays w a e i) (run_stays es (happens w e) (after w e a) (keeps w a e i))
 
 run_on : (es more : List Event) (w : World) → run (es ++ more) w ≡ run more (run es w)
@@ -202,7 +309,7 @@ unfolding run
 run_on [] more w = refl
 run_on (e ∷ es) more w = run_on es more (happens w e)
 
-pub settled_stays : (z : Settings) (es more : List Event) (g : ℕ) → g ≤ (run es (start z)).client.taken → is_unsettled ((run es (start z)).client.outcome g) ≡ false
-    → (run (es ++ more) (start z)).client.outcome g ≡ (run es (start z)).client.outcome g
-settled_stays z es more g l s =
-    ap (λ w. w.client.outcome g) (run_on es more (start z)) ∙ (run_stays more (run es (start z)) _ (always es (start z) (λ x. 0) (begins z)) g l s).0
+pub settled_stays : SettledStays
+settled_stays z es more g s =
+    let b : Beyond (run es (start z)).client = (run_stays es (start z) (λ x. 0) (begins z) (λ h f. (refl, refl))).0 in
+    ap (λ w. w.client.outcome g) (run_on es more (start z)) ∙ (run_stays more (run es (start z)) _ (always es (start z) (λ x. 0) (begins z)) b).1 g s

@@ -5,10 +5,10 @@
 //! this crate's `specs`.
 #![tactic(auto)]
 
-ghost use Rattle.std.specs.Prelude.{◌≡◌, ℕ, ◌≤◌, false, List, ◌++◌};
+ghost use Rattle.std.specs.Prelude.{List};
 ghost use Rattle.exchange_defs.specs.Network.{Event, Settings, run, start};
-ghost use Rattle.exchange_defs.specs.Operations.{is_unsettled};
 ghost use Rattle.exchange_defs.specs.Runs.{acts};
+ghost use Rattle.exchange_defs.specs.Statements.{SettledStays};
 ghost use Rattle.exchange_law.specs.Connections.{Connections};
 
 /// On every run the client's table and the connections fit together: a connection carries one message or reply of an
@@ -19,8 +19,7 @@ pub fn connections_law()
     ensures fit { (settings : Settings) (events : List Event) → Connections (run events (start settings)).client (run events (start settings)).conns (acts events (start settings)) }
 {}
 
-/// What settled stays as it settled: no event behind it changes the outcome of an operation that was taken.
+/// What settled stays as it settled: no event behind it changes the outcome. (A number that isn't taken yet is unsettled.)
 pub fn settled_stays_law()
-    ensures stays { (settings : Settings) (events more : List Event) (g : ℕ) → g ≤ (run events (start settings)).client.taken → is_unsettled ((run events (start settings)).client.outcome g) ≡ false
-        → (run (events ++ more) (start settings)).client.outcome g ≡ (run events (start settings)).client.outcome g }
+    ensures stays { SettledStays }
 {}
