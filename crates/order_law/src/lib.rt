@@ -1,0 +1,2 @@
+//! Laws of the exchange model.
+#![tactic(auto)]

@@ -1,0 +1,101 @@
+-- What holds of the server alone in every world that a run leads to.
+use Rattle.std.specs.Prelude.{◌≡◌, ℕ, ◌≤◌, ◌<◌, nat_lt, Bool, true, false, ◌&&◌, List, [], ◌∷◌, Some, None, is_some, slice_get}
+use Rattle.exchange_defs.specs.Table.{has}
+use Rattle.exchange_defs.specs.State.{Server, Range, NewSession}
+use Rattle.exchange_defs.specs.Files.{exists, exists_in}
+use Rattle.exchange_defs.specs.Opens.{id_of, max_ids}
+use Rattle.exchange_defs.specs.Fold.{full_room}
+
+-- ---- opens
+
+-- an open that is attached stands, and its session is there
+abbrev pub Attached : Server → Type 0
+Attached s = (o x : ℕ) → s.at o ≡ Some x → s.standing o ≡ true × s.present x ≡ true
+
+-- a plain open that stands has a session
+abbrev pub PlainAttached : Server → Type 0
+PlainAttached s = (o : ℕ) → s.standing o ≡ true → (s.opened o).persistent ≡ false → is_some (s.at o) ≡ true
+
+-- a guid names exactly the open that stands with it
+abbrev pub GuidOpen : Server → Type 0
+GuidOpen s = (c g o : ℕ) → s.by_guid c g ≡ Some o → s.standing o ≡ true × (s.opened o).client ≡ c × (s.opened o).guid ≡ Some g
+
+abbrev pub OpenGuid : Server → Type 0
+OpenGuid s = (o g : ℕ) → s.standing o ≡ true → (s.opened o).guid ≡ Some g → s.by_guid (s.opened o).client g ≡ Some o
+
+-- an open without a session alone has a deadline
+abbrev pub Deadlines : Server → Type 0
+Deadlines s = (o d : ℕ) → s.deadline o ≡ Some d → s.at o ≡ None
+
+-- the list of opens is the table of those that stand, in ascending order
+abbrev pub Listed : Server → Type 0
+Listed s = (o : ℕ) → has o s.opens ≡ s.standing o
+
+unfoldable pub is_ascending : List ℕ → Bool
+is_ascending [] = true
+is_ascending (o ∷ []) = true
+is_ascending (o ∷ p ∷ os) = nat_lt o p && is_ascending (p ∷ os)
+
+abbrev pub Ascending : Server → Type 0
+Ascending s = is_ascending s.opens ≡ true
+
+-- ---- ids
+
+abbrev pub OpenIds : Server → Type 0
+OpenIds s = (o : ℕ) → s.standing o ≡ true → 0 < o × o ≤ id_of s.epoch s.given
+
+abbrev pub Given : Server → Type 0
+Given s = s.given ≤ max_ids
+
+abbrev pub Begun : Server → Type 0
+Begun s = s.begun ≤ max_ids
+
+abbrev pub SessionIds : Server → Type 0
+SessionIds s = (x : ℕ) → s.present x ≡ true → 0 < x × x ≤ id_of s.epoch s.begun
+
+-- a session in the making has an id of its own, and isn't there yet
+abbrev pub MakingIds : Server → Type 0
+MakingIds s = (k x : ℕ) → s.making k ≡ Some (NewSession x) → 0 < x × x ≤ id_of s.epoch s.begun × s.present x ≡ false
+
+abbrev pub MakingOnce : Server → Type 0
+MakingOnce s = (j k x : ℕ) → s.making j ≡ Some (NewSession x) → s.making k ≡ Some (NewSession x) → j ≡ k
+
+-- a connection's live session is there
+abbrev pub OnPresent : Server → Type 0
+OnPresent s = (k x : ℕ) → s.on k ≡ Some x → s.present x ≡ true
+
+-- ---- files
+
+-- a range's owner stands, at this file
+abbrev pub RangeOwners : Server → Type 0
+RangeOwners s = (f n : ℕ) (r : Range) → slice_get (s.ranges f) n ≡ Some r → s.standing r.owner ≡ true × (s.opened r.owner).file ≡ f
+
+-- the file of an open is there
+abbrev pub OpenFiles : Server → Type 0
+OpenFiles s = (o : ℕ) → s.standing o ≡ true → exists s (s.opened o).file ≡ true
+
+abbrev pub FileNumbers : Server → Type 0
+FileNumbers s = (f : ℕ) → exists_in s.entries f ≡ true → 0 < f × f < s.next_file
+
+abbrev pub Room : Server → Type 0
+Room s = s.room ≤ full_room
+
+pub record Fits (s : Server) : Type 0 where
+  pub attached : Attached s
+  pub plain_attached : PlainAttached s
+  pub guid_open : GuidOpen s
+  pub open_guid : OpenGuid s
+  pub deadlines : Deadlines s
+  pub listed : Listed s
+  pub ascending : Ascending s
+  pub open_ids : OpenIds s
+  pub given : Given s
+  pub begun : Begun s
+  pub session_ids : SessionIds s
+  pub making_ids : MakingIds s
+  pub making_once : MakingOnce s
+  pub on_present : OnPresent s
+  pub range_owners : RangeOwners s
+  pub open_files : OpenFiles s
+  pub file_numbers : FileNumbers s
+  pub room : Room s
