@@ -3,7 +3,7 @@ use Rattle.std.specs.Prelude.{ℕ, zero, suc, ◌+◌, ◌-◌, ◌*◌, ◌%◌
 use Rattle.exchange_defs.specs.Table.{put, put2}
 use Rattle.exchange_defs.specs.Commands.{Command, Shows}
 use Rattle.exchange_defs.specs.State.{Message}
-use Rattle.exchange_defs.specs.Operations.{Op, Outcome, Unsettled, WasOk, NoSlot, NoOpen, Unknown, Why, SessionLost, Refusal, is_unsettled, is_ok, is_create, is_lock, is_change, create_of, persists, keeps_limits, holds_up, request_of, reconnect_of}
+use Rattle.exchange_defs.specs.Operations.{Op, Outcome, Unsettled, WasOk, NoSlot, NoOpen, Unknown, Why, SessionLost, Refusal, is_unsettled, is_ok, is_firm, is_create, is_lock, is_change, create_of, persists, keeps_limits, holds_up, request_of, reconnect_of}
 
 -- ---- state
 
@@ -127,10 +127,11 @@ may_push c k g = c.ready k && (is_taken c g && (is_unsettled (c.outcome g) && (i
 
 -- ---- lock slots
 
--- not in use: its last user is settled
+-- not in use: its last user settled as Ok or Refused. One that was given up may never have come to the server, and after
+-- sixteen of them a number would be one that the slot still keeps.
 abbrev pub is_out_of_use : Client → Option ℕ → Bool
 is_out_of_use c None = true
-is_out_of_use c (Some h) = not (is_unsettled (c.outcome h))
+is_out_of_use c (Some h) = is_firm (c.outcome h)
 
 abbrev pub is_free : Client → ℕ → ℕ → Bool
 is_free c create i = (nat_lt 0 i && nat_le i 64) && (is_out_of_use c (c.slot_user create i) && (not (c.retried create i == c.number) && not (c.full create i)))
