@@ -2,10 +2,12 @@
 """Applies each change of tools/wrong-models.txt to a copy of the crates, one at a time, and checks a crate there.
 
 usage: tools/wrong-models.py [--examples] CRATE FOLDER [NAME ..]
+       tools/wrong-models.py --texts
 
 FOLDER is where the copy is made; NAMEs choose some of the changes. With --examples only the function that a change's
 `example` names is proved, and changes without one are left out. A line is printed for each: its name, then `refused`
 with the functions or lemmas whose proof fails, `passes`, or `BAD` where the text doesn't stand once or doesn't compile.
+With --texts nothing is proved: a line is printed for each change whose text doesn't stand once, or whose example isn't there.
 """
 import os, re, shutil, subprocess, sys
 
@@ -30,8 +32,23 @@ def failing(text):
     return sorted(set(names))
 
 
+def check_texts(top):
+    functions = re.findall(r"fn (\w+)\(", open(os.path.join(top, "crates", "exchange_examples", "src", "lib.rt"), encoding="utf-8").read())
+    changes = read_changes(os.path.join(top, "tools", "wrong-models.txt"))
+    for change in changes:
+        times = open(os.path.join(top, change["file"]), encoding="utf-8").read().count(change["old"])
+        if times != 1:
+            print(change["name"], "BAD: the text stands", times, "times")
+        if change.get("example", functions[0]) not in functions:
+            print(change["name"], "BAD: no example", change["example"])
+    print(len(changes), "changes read")
+
+
 def main():
     words = sys.argv[1:]
+    if words == ["--texts"]:
+        check_texts(os.path.dirname(os.path.dirname(os.path.abspath(__file__))))
+        return
     by_example = words[:1] == ["--examples"]
     words = words[1:] if by_example else words
     crate, folder, chosen = words[0], words[1], words[2:]

@@ -2,7 +2,7 @@
 use Rattle.std.specs.Prelude.{ℕ, zero, suc, ◌+◌, ◌==◌, Bool, true, false, not, ◌&&◌, List, [], ◌∷◌, length, Option, Some, None}
 use Rattle.exchange_defs.specs.Content.{same_bytes}
 use Rattle.exchange_defs.specs.Commands.{Command, Setup, TreeConnect, Shows, Begins, Logon, Create, Durable, Element}
-use Rattle.exchange_defs.specs.State.{Accept, Server, Message, ServerEvent, Heard, Body, Entry, Open, Range, Record}
+use Rattle.exchange_defs.specs.State.{Accept, Server, Message, ServerEvent, Heard, Body, Info, Entry, Open, Range, Record}
 use Rattle.exchange_defs.specs.Files.{same_basic}
 use Rattle.exchange_defs.specs.Records.{lower_limit}
 use Rattle.exchange_defs.specs.Step.{step}
@@ -69,6 +69,10 @@ first_open = 4294967297
 
 abbrev pub second_open : ℕ
 second_open = 4294967298
+
+-- the first file or directory of the share, made at this moment
+abbrev pub made_info : Bool → ℕ → Info
+made_info is_dir now = record { file = 1; is_directory = is_dir; size = 0; is_marked = false; times = record { created = now; accessed = now; written = now; changed = now; attributes = 0 } }
 
 -- ---- a second session, of id 4294967298 with tree 1, on connection 1
 

@@ -5,16 +5,16 @@
 ghost use Rattle.std.specs.Prelude.{◌≡◌, ℕ, List, [], ◌∷◌, true, false};
 ghost use Rattle.exchange_defs.specs.Operations.{Unsettled, NoSession, HadStatus, OpCreate, OpWrite, WasOk, WasRefused, NoSlot, NoOpen, Unknown, SessionLost, WithStatus, IsDone, Action, Wrote, Holds, Length, Names};
 ghost use Rattle.std.specs.Prelude.{Some, None};
-ghost use Rattle.exchange_defs.specs.State.{Accept, Heard, End, SetUp, Connected, VolumeInfo, DeleteRecord, RemoveRecord, ShutRecord, ExpireRecord, VersionRecord, EpochRecord};
-ghost use Rattle.exchange_defs.specs.Commands.{Begins, Close, Lock, Logon, QueryVolume, Read, TreeConnect, Write, path_form};
-ghost use Rattle.exchange_defs.specs.CheckOpen.{is_stale};
+ghost use Rattle.exchange_defs.specs.State.{Accept, Heard, End, SetUp, Connected, VolumeInfo, FileInfo, Listing, Interfaces, DeleteRecord, RemoveRecord, ShutRecord, ExpireRecord, VersionRecord, EpochRecord};
+ghost use Rattle.exchange_defs.specs.Commands.{Begins, Close, Ioctl, ListDirectory, Lock, Logon, QueryFile, QueryVolume, Read, TreeConnect, Write, no_file, path_form};
+ghost use Rattle.exchange_defs.specs.CheckOpen.{is_stale, query_interfaces};
 ghost use Rattle.exchange_defs.specs.CheckSetup.{pipes_name};
 ghost use Rattle.exchange_defs.specs.Listing.{matches};
 ghost use Rattle.exchange_defs.specs.Step.{step};
-ghost use Rattle.exchange_defs.specs.Fold.{recovery_records, nothing_yet};
+ghost use Rattle.exchange_defs.specs.Fold.{recovered, recovery_records, with_record, nothing_yet};
 ghost use Rattle.exchange_defs.specs.Schedules.{course, Does, Links, Pushes, Settles as SettlesAll};
-ghost use Rattle.exchange_defs.specs.Network.{Cut, Drop, Restart, Finish, start};
-ghost use Rattle.exchange_examples.specs.Servers.{one_session, session, from_client, ask, after_all, status_after, body_after, records_after, files_after, binding, binding_logon, setup, in_second, second_id, make, by_guid, lock_of, first_open, second_open, with_full_journal, with_all_marks, second_session, ask_second, reconnect, journal_stands};
+ghost use Rattle.exchange_defs.specs.Network.{Cut, Drop, Open, Restart, Finish, start};
+ghost use Rattle.exchange_examples.specs.Servers.{one_session, session, from_client, ask, after_all, status_after, body_after, records_after, files_after, binding, binding_logon, setup, in_second, second_id, make, by_guid, lock_of, made_info, first_open, second_open, with_full_journal, with_all_marks, second_session, ask_second, reconnect, journal_stands};
 ghost use Rattle.exchange_examples.specs.Laws.{laws_hold};
 ghost use Rattle.exchange_examples.specs.Scripts.{beginning, settings, stranger, worn_out, submit, settled_in, told, note, acted_on, id_told, retried_create, retried_create_until_note, kept_refusal, kept_refusal_until_note, replaced_session, replaced_session_until_note, room_counted_once, room_counted_once_until_note, held_back_write, held_back_write_until_note, held_back_write_until_last, restart_persistent, crash_lost, crash_kept, restart_plain, all_slots_retried, shared_readers, denied_writer, delayed_reconnect, delayed_reconnect_until_note, delayed_reconnect_until_last, expired_open, open_before_expiry, expired_create, first_steps, end_of_file, gaps_are_zeros, listed_names, renamed_and_removed, denied_remover, retry_after_act, retried_close, held_back_end, held_back_end_until_note, refusal_adopts, refusal_adopts_until_note, restart_keeps_locks, restart_keeps_refused_locks, attached_again, plain_open_lost, later_write_waits, retried_overwrite, retried_overwrite_until_note, slot_not_used_again, slot_not_used_again_until_note, retried_rename, retried_rename_until_note};
 
@@ -331,6 +331,13 @@ pub fn expiry_at_its_deadline_example()
     ensures all_marks { (step (with_all_marks (after_all one_session 0 (ask (make 0x183 7 2 0x40 (by_guid 5 true)) ∷ End 0 ∷ []))) 600000001 (Accept 3)).records ≡ [] }
 {}
 
+/// In a fold too no open expires where all marks are had.
+pub fn marks_in_the_fold_example()
+    ensures all_marks { (with_record (with_all_marks (after_all one_session 0 (ask (make 0x183 7 2 0x40 (by_guid 5 true)) ∷ []))) (ExpireRecord (record { session = 0; connection = 3; message = 0 }) first_open)).mark_count ≡ 65536 }
+    ensures stands { (with_record (with_all_marks (after_all one_session 0 (ask (make 0x183 7 2 0x40 (by_guid 5 true)) ∷ []))) (ExpireRecord (record { session = 0; connection = 3; message = 0 }) first_open)).opens ≡ first_open ∷ [] }
+    ensures leaves { (with_record (after_all one_session 0 (ask (make 0x183 7 2 0x40 (by_guid 5 true)) ∷ [])) (ExpireRecord (record { session = 0; connection = 3; message = 0 }) first_open)).opens ≡ [] }
+{}
+
 /// A star stands for any characters and a question mark for one, by ASCII case.
 pub fn patterns_of_names_example()
     ensures star { matches (97 ∷ 42 ∷ 99 ∷ []) (65 ∷ 98 ∷ 98 ∷ 67 ∷ []) ≡ true }
@@ -350,9 +357,13 @@ pub fn forms_of_names_example()
     ensures stream { path_form (97 ∷ 58 ∷ 98 ∷ []) ≡ Some 0xc0000033 }
 {}
 
-/// Where no session can be had, all that is unsettled is given up with the refusal.
+/// Where no session can be had, all that was taken and is unsettled is given up with the refusal, also where the dialog was
+/// begun before; what is taken later isn't.
 pub fn refused_logon_example()
     ensures given_up { settled_in (course 1 (submit 1 (OpCreate (97 ∷ []) 0x183 0 2 false false) ∷ submit 2 (OpWrite 1 0 (97 ∷ [])) ∷ SettlesAll ∷ []) stranger) ≡ Unknown (NoSession (HadStatus 0xc000006d)) ∷ Unknown (NoSession (HadStatus 0xc000006d)) ∷ [] }
+    ensures dialog_begun { settled_in (course 1 (submit 1 (OpCreate (97 ∷ []) 0x183 0 2 false false) ∷ Does (Open 0) ∷ SettlesAll ∷ []) stranger) ≡ Unknown (NoSession (HadStatus 0xc000006d)) ∷ [] }
+    ensures dialog_of_a_good_logon { settled_in (course 1 (submit 1 (OpCreate (97 ∷ []) 0x183 0 2 false false) ∷ Does (Open 0) ∷ SettlesAll ∷ []) (beginning 268435456)) ≡ WasOk (Action 2) ∷ [] }
+    ensures not_what_comes_later { (course 1 (Does (Finish (HadStatus 1)) ∷ []) (beginning 268435456)).world.client.outcome 1 ≡ Unsettled }
 {}
 
 /// A cut of one of two channels raises the sequence, and at the last sequence it ends the session.
@@ -390,13 +401,27 @@ pub fn a_second_session_example()
     ensures denied_when_gone { status_after second_session (ask (make 0x183 0 2 0x40 (by_guid 5 true)) ∷ End 0 ∷ []) (ask_second false (make 0x183 7 1 0x40 (by_guid 6 false))) ≡ 0xc0000043 }
 {}
 
-/// What successes tell: ENCRYPT_DATA and the channel's number, kind and capabilities of a tree, room and what is used of it.
+/// A plain open leaves with its session: its lock binds no other, and its CreateGuid can be used again.
+pub fn what_a_gone_open_leaves_example()
+    ensures lock_while_it_stands { status_after second_session (ask (make 0x183 7 2 0x40 (by_guid 5 false)) ∷ ask (Lock first_open 0 0 (lock_of 0 0 10 2 0 ∷ [])) ∷ ask_second false (make 0x183 7 1 0x40 (by_guid 6 false)) ∷ []) (ask_second false (Lock second_open 0 0 (lock_of 0 0 10 2 0 ∷ []))) ≡ 0xc0000055 }
+    ensures lock_when_gone { status_after second_session (ask (make 0x183 7 2 0x40 (by_guid 5 false)) ∷ ask (Lock first_open 0 0 (lock_of 0 0 10 2 0 ∷ [])) ∷ End 0 ∷ ask_second false (make 0x183 7 1 0x40 (by_guid 6 false)) ∷ []) (ask_second false (Lock second_open 0 0 (lock_of 0 0 10 2 0 ∷ []))) ≡ 0 }
+    ensures guid_while_it_stands { status_after second_session (ask (make 0x183 7 2 0x40 (by_guid 5 false)) ∷ []) (ask_second false (make 0x183 7 1 0x40 (by_guid 5 false))) ≡ 0xc000022a }
+    ensures guid_when_gone { status_after second_session (ask (make 0x183 7 2 0x40 (by_guid 5 false)) ∷ End 0 ∷ []) (ask_second false (make 0x183 7 1 0x40 (by_guid 5 false))) ≡ 0 }
+{}
+
+/// What successes tell: ENCRYPT_DATA and the channel's number, kind and capabilities of a tree, room and what is used of
+/// it, a file's class with the open's access and options, a listing's class, and the server's address.
 pub fn told_by_successes_example()
     ensures pipes { body_after one_session [] (ask (TreeConnect pipes_name)) ≡ Connected 2 0 2032127 }
     ensures disk { body_after one_session [] (ask (TreeConnect (100 ∷ []))) ≡ Connected 1 16 2032127 }
     ensures session { body_after one_session (Accept 1 ∷ in_second 0 0 false (setup Begins) ∷ []) (in_second second_id 0 false (setup (Logon (117 ∷ []) 1))) ≡ SetUp true 1 }
     ensures channel { body_after one_session (Accept 1 ∷ Heard (from_client 1 7 9 0 false (binding true)) ∷ []) binding_logon ≡ SetUp true 2 }
     ensures volume { body_after one_session (ask (make 0x183 7 2 0x40 (by_guid 5 true)) ∷ ask (Write first_open 3 (1 ∷ 2 ∷ []) 0) ∷ []) (ask (QueryVolume first_open 7 32)) ≡ VolumeInfo 7 268435456 5 }
+    ensures file { body_after one_session (ask (make 0x10183 7 2 0x1040 None) ∷ []) (ask (QueryFile first_open 18 104)) ≡ FileInfo 18 (97 ∷ []) (made_info false 100) 0x10183 0x1040 }
+    ensures listing { body_after one_session (ask (make 0x183 7 2 1 None) ∷ []) (ask (ListDirectory first_open 37 true true (42 ∷ []) 200)) ≡ Listing 37 (record { name = 46 ∷ []; info = made_info true 100 } ∷ []) }
+    ensures interfaces { body_after one_session [] (ask (Ioctl no_file query_interfaces 152)) ≡ Interfaces (record { ip = 2130706433; port = 445 }) }
+    ensures interfaces_of_an_open { body_after one_session (ask (make 0x183 7 2 0x40 None) ∷ []) (ask (Ioctl first_open query_interfaces 152)) ≡ Interfaces (record { ip = 2130706433; port = 445 }) }
+    ensures interfaces_after_a_restart { (recovered one_session []).address ≡ record { ip = 2130706433; port = 445 } }
 {}
 
 /// A new journal, and one of the first version, gets the Version record and the Epoch record; a later one the Epoch record alone.
