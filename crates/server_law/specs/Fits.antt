@@ -1,7 +1,7 @@
 -- What holds of the server alone in every world that a run leads to.
 use Rattle.std.specs.Prelude.{◌≡◌, ℕ, ◌≤◌, ◌<◌, nat_lt, Bool, true, false, ◌&&◌, List, [], ◌∷◌, Some, None, is_some, slice_get}
 use Rattle.exchange_defs.specs.Table.{has}
-use Rattle.exchange_defs.specs.State.{Server, Range, NewSession}
+use Rattle.exchange_defs.specs.State.{Server, Range, Tree, NewSession}
 use Rattle.exchange_defs.specs.Files.{exists, exists_in}
 use Rattle.exchange_defs.specs.Opens.{id_of, max_ids}
 use Rattle.exchange_defs.specs.Fold.{full_room}
@@ -22,6 +22,10 @@ GuidOpen s = (c g o : ℕ) → s.by_guid c g ≡ Some o → s.standing o ≡ tru
 
 abbrev pub OpenGuid : Server → Type 0
 OpenGuid s = (o g : ℕ) → s.standing o ≡ true → (s.opened o).guid ≡ Some g → s.by_guid (s.opened o).client g ≡ Some o
+
+-- an open that outlives its session has a guid
+abbrev pub PersistentGuid : Server → Type 0
+PersistentGuid s = (o : ℕ) → s.standing o ≡ true → (s.opened o).persistent ≡ true → is_some (s.opened o).guid ≡ true
 
 -- an open without a session alone has a deadline
 abbrev pub Deadlines : Server → Type 0
@@ -64,6 +68,32 @@ MakingOnce s = (j k x : ℕ) → s.making j ≡ Some (NewSession x) → s.making
 abbrev pub OnPresent : Server → Type 0
 OnPresent s = (k x : ℕ) → s.on k ≡ Some x → s.present x ≡ true
 
+-- where a session is live nothing is in the making
+abbrev pub OnMade : Server → Type 0
+OnMade s = (k x : ℕ) → s.on k ≡ Some x → s.making k ≡ None
+
+-- ---- what a session keeps
+
+-- a session that isn't there, be it gone or not begun yet, keeps nothing
+abbrev pub NoTrees : Server → Type 0
+NoTrees s = (x : ℕ) → s.present x ≡ false → s.trees x ≡ []
+
+abbrev pub NoClosed : Server → Type 0
+NoClosed s = (x g : ℕ) → s.present x ≡ false → s.closed x g ≡ false
+
+abbrev pub NoRefused : Server → Type 0
+NoRefused s = (x g : ℕ) → s.present x ≡ false → s.refused x g ≡ None
+
+abbrev pub NoGuids : Server → Type 0
+NoGuids s = (x : ℕ) → s.present x ≡ false → s.guids x ≡ 0
+
+abbrev pub NextTree : Server → Type 0
+NextTree s = (x : ℕ) → s.present x ≡ true → 0 < s.next_tree x
+
+-- a tree has an id that was given
+abbrev pub TreeIds : Server → Type 0
+TreeIds s = (x n : ℕ) (t : Tree) → slice_get (s.trees x) n ≡ Some t → 0 < t.id × t.id < s.next_tree x
+
 -- ---- files
 
 -- a range's owner stands, at this file
@@ -73,6 +103,9 @@ RangeOwners s = (f n : ℕ) (r : Range) → slice_get (s.ranges f) n ≡ Some r 
 -- the file of an open is there
 abbrev pub OpenFiles : Server → Type 0
 OpenFiles s = (o : ℕ) → s.standing o ≡ true → exists s (s.opened o).file ≡ true
+
+abbrev pub NextFile : Server → Type 0
+NextFile s = 0 < s.next_file
 
 abbrev pub FileNumbers : Server → Type 0
 FileNumbers s = (f : ℕ) → exists_in s.entries f ≡ true → 0 < f × f < s.next_file
@@ -85,6 +118,7 @@ pub record Fits (s : Server) : Type 0 where
   pub plain_attached : PlainAttached s
   pub guid_open : GuidOpen s
   pub open_guid : OpenGuid s
+  pub persistent_guid : PersistentGuid s
   pub deadlines : Deadlines s
   pub listed : Listed s
   pub ascending : Ascending s
@@ -95,7 +129,15 @@ pub record Fits (s : Server) : Type 0 where
   pub making_ids : MakingIds s
   pub making_once : MakingOnce s
   pub on_present : OnPresent s
+  pub on_made : OnMade s
+  pub no_trees : NoTrees s
+  pub no_closed : NoClosed s
+  pub no_refused : NoRefused s
+  pub no_guids : NoGuids s
+  pub next_tree : NextTree s
+  pub tree_ids : TreeIds s
   pub range_owners : RangeOwners s
   pub open_files : OpenFiles s
+  pub next_file : NextFile s
   pub file_numbers : FileNumbers s
   pub room : Room s
