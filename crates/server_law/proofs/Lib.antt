@@ -1,0 +1,4 @@
+pub mod Logic
+pub mod Doors
+pub mod Found
+pub mod Checked
