@@ -4,3 +4,8 @@ pub mod Found
 pub mod Checked
 pub mod Lists
 pub mod AddOpen
+pub mod DropOpen
+pub mod FileEffects
+pub mod SessionEffects
+pub mod Leaving
+pub mod EndSession
