@@ -3,15 +3,15 @@ use Rattle.std.proofs.Common.{◌≡◌, ◌≢◌, ◌⊎◌, inl, inr, ℕ, �
 use Rattle.std.proofs.lemmas.Bool.{eqb-false}
 use Rattle.std.proofs.lemmas.Bool.Decides.{nat_tests}
 use Rattle.exchange_defs.specs.Table.{put, put2, is_at, has, without, placed_in, is_filled}
-use Rattle.exchange_defs.specs.Commands.{Basic, SetupRequest}
+use Rattle.exchange_defs.specs.Commands.{Basic, SetupRequest, deletes_on_close}
 use Rattle.exchange_defs.specs.State.{Server, Message, Open, Range, Tree, Entry, Kept, Making, NewSession, Binding, Address}
-use Rattle.exchange_defs.specs.Files.{root, exists, exists_in, make_file, remove_file, rename_file, without_target, without_file, moved_entries, path_of, is_full_directory, is_directory, times_at}
+use Rattle.exchange_defs.specs.Files.{root, exists, exists_in, make_file, mark_file, remove_file, rename_file, without_target, without_file, moved_entries, path_of, is_full_directory, is_directory, times_at}
 use Rattle.exchange_defs.specs.Opens.{id_of, max_ids, with_guid, add_open, drop_open, file_has_open, goes}
 use Rattle.exchange_defs.specs.Ranges.{without_owner}
 use Rattle.exchange_defs.specs.Fold.{full_room}
 use Rattle.exchange_defs.specs.Effects.{leaves, end_session, files_behind, staying_in, ranges_staying, guid_staying, cleared, dated, without_tree, next_session, add_tree, add_session, join_session, attach, keep_refusal, set_ranges}
 use Rattle.exchange_defs.specs.Step.{first_deadline, with_deadlines, forget_connection}
-use Rattle.server_law.specs.Fits.{Fits, is_ascending, Attached, PlainAttached, GuidOpen, OpenGuid, PersistentGuid, Deadlines, Listed, Ascending, OpenIds, Given, Begun, SessionIds, MakingIds, MakingOnce, OnPresent, OnMade, NoTrees, NoClosed, NoRefused, NoGuids, NextTree, TreeIds, RangeOwners, OpenFiles, NextFile, FileNumbers, Room}
+use Rattle.server_law.specs.Fits.{Fits, is_ascending, Attached, PlainAttached, GuidOpen, OpenGuid, PersistentGuid, Deadlines, Listed, Ascending, OpenIds, Given, Begun, SessionIds, MakingIds, MakingOnce, OnPresent, OnMade, NoTrees, NoClosed, NoRefused, NoGuids, NextTree, TreeIds, RangeOwners, NotRoot, RootUnmarked, OpenFiles, NextFile, FileNumbers, Room}
 use Rattle.server_law.proofs.Logic.{either, front_of, back_of, both, front_off, back_off, other_off, other_on, not_true, not_false, none_of, at_of}
 use Rattle.server_law.proofs.Lists.{has-placed, has-without, has-staying, has-plain, ascending-placed, ascending-without, ascending-staying, none-open, Among, From, NotOf, Stays, AnyTree, without_owner-from, ranges_staying-from, pushed-from, exists-pushed, exists-without, exists-moved, without_tree-from}
 use Rattle.exchange_defs.specs.Effects.{plain_of}
@@ -146,15 +146,20 @@ unfolding exists
 end_session_range_owners s session now is_quiet  i_range_owners =
     λ y n r h. let f = ranges_staying-from s session (s.ranges y) n r h in let was = i_range_owners y f.1.0 r f.1.1 in let stays = f.0 in grind arith
 
-end_session_open_files : (s : Server) (session : ℕ) (now : ℕ) (is_quiet : Bool) → OpenFiles s → Listed s → FileNumbers s → OpenFiles (end_session s session now is_quiet)
+end_session_root_unmarked : (s : Server) (session : ℕ) (now : ℕ) (is_quiet : Bool) → RootUnmarked s → OpenFiles s → Listed s → FileNumbers s → NotRoot s → RootUnmarked (end_session s session now is_quiet)
 unfolding exists
-end_session_open_files s session now is_quiet  i_open_files i_listed i_file_numbers =
-    λ p st. ended_files s session is_quiet p (files_left s session is_quiet i_listed i_open_files i_file_numbers) st
+end_session_root_unmarked s session now is_quiet  i_root_unmarked i_open_files i_listed i_file_numbers i_not_root =
+    (files_left s session is_quiet i_listed i_open_files i_file_numbers i_not_root i_root_unmarked).unmarked
 
-end_session_file_numbers : (s : Server) (session : ℕ) (now : ℕ) (is_quiet : Bool) → FileNumbers s → OpenFiles s → Listed s → FileNumbers (end_session s session now is_quiet)
+end_session_open_files : (s : Server) (session : ℕ) (now : ℕ) (is_quiet : Bool) → OpenFiles s → Listed s → FileNumbers s → NotRoot s → RootUnmarked s → OpenFiles (end_session s session now is_quiet)
 unfolding exists
-end_session_file_numbers s session now is_quiet  i_file_numbers i_open_files i_listed =
-    λ y h. ended_numbers s session is_quiet y (files_left s session is_quiet i_listed i_open_files i_file_numbers) h
+end_session_open_files s session now is_quiet  i_open_files i_listed i_file_numbers i_not_root i_root_unmarked =
+    λ p st. ended_files s session is_quiet p (files_left s session is_quiet i_listed i_open_files i_file_numbers i_not_root i_root_unmarked) st
+
+end_session_file_numbers : (s : Server) (session : ℕ) (now : ℕ) (is_quiet : Bool) → FileNumbers s → OpenFiles s → Listed s → NotRoot s → RootUnmarked s → FileNumbers (end_session s session now is_quiet)
+unfolding exists
+end_session_file_numbers s session now is_quiet  i_file_numbers i_open_files i_listed i_not_root i_root_unmarked =
+    λ y h. ended_numbers s session is_quiet y (files_left s session is_quiet i_listed i_open_files i_file_numbers i_not_root i_root_unmarked) h
 
 -- a session ends: its plain opens leave, and what it kept is forgotten
 pub end_session_keeps : (s : Server) (session : ℕ) (now : ℕ) (is_quiet : Bool) → Fits s → Fits (end_session s session now is_quiet)
@@ -184,8 +189,10 @@ end_session_keeps s session now is_quiet  i =
       next_tree = end_session_next_tree s session now is_quiet  i.next_tree;
       tree_ids = end_session_tree_ids s session now is_quiet  i.tree_ids;
       range_owners = end_session_range_owners s session now is_quiet  i.range_owners;
-      open_files = end_session_open_files s session now is_quiet  i.open_files i.listed i.file_numbers;
+      not_root = i.not_root;
+      root_unmarked = end_session_root_unmarked s session now is_quiet  i.root_unmarked i.open_files i.listed i.file_numbers i.not_root;
+      open_files = end_session_open_files s session now is_quiet  i.open_files i.listed i.file_numbers i.not_root i.root_unmarked;
       next_file = i.next_file;
-      file_numbers = end_session_file_numbers s session now is_quiet  i.file_numbers i.open_files i.listed;
+      file_numbers = end_session_file_numbers s session now is_quiet  i.file_numbers i.open_files i.listed i.not_root i.root_unmarked;
       room = i.room
     }

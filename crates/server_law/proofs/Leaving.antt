@@ -1,17 +1,16 @@
 -- Opens that leave one after the other: their files go, but for those that another open has.
-use Rattle.std.proofs.Common.{◌≡◌, ℕ, ◌+◌, ◌<◌, ◌==◌, Bool, true, false, not, ◌&&◌, ◌||◌, if◌then◌else◌, List, [], ◌∷◌, refl, arith, sym, subst, ◌∙◌, ap, Option, Some, None, is_some}
+use Rattle.std.proofs.Common.{◌≡◌, ◌≢◌, ℕ, ◌+◌, ◌<◌, ◌==◌, Bool, true, false, not, ◌&&◌, ◌||◌, if◌then◌else◌, List, [], ◌∷◌, refl, arith, sym, subst, ◌∙◌, ap, Option, Some, None, is_some}
 use Rattle.exchange_defs.specs.Table.{put, has, without}
 use Rattle.exchange_defs.specs.Commands.{deletes_on_close}
 use Rattle.exchange_defs.specs.State.{Server, Open}
 use Rattle.exchange_defs.specs.Files.{root, exists, exists_in, mark_file, remove_file, is_full_directory}
 use Rattle.exchange_defs.specs.Opens.{drop_open, file_has_open, goes, without_gone, marked_by, leave_open}
 use Rattle.exchange_defs.specs.Effects.{leaves, plain_in, plain_of, leave_all, files_behind}
-use Rattle.server_law.specs.Fits.{Fits, Listed, OpenFiles, FileNumbers}
+use Rattle.server_law.specs.Fits.{Fits, Listed, OpenFiles, FileNumbers, NotRoot}
 use Rattle.server_law.proofs.Logic.{either, front_of, back_of, not_true}
 use Rattle.server_law.proofs.Lists.{has-without, has-plain, none-open, exists-without}
 use Rattle.server_law.proofs.DropOpen.{drop_open_keeps}
-use Rattle.server_law.proofs.FileEffects.{remove_file_keeps}
-use Rattle.server_law.proofs.SessionEffects.{unread_keeps}
+use Rattle.server_law.proofs.FileEffects.{remove_file_keeps, mark_file_keeps}
 
 -- ---- a file that goes has no open
 
@@ -29,13 +28,10 @@ unopened_of s f e listed p stands = none-open s.opened s.opens f p e (listed p �
 pub gone_keeps : (s : Server) (f : ℕ) → Fits s → Fits (without_gone s f)
 gone_keeps s f i = either (λ t. Fits t) (goes s f) _ _ (λ g. remove_file_keeps s f (unopened_of s f (gone_unopened s f g) i.listed) i) (λ _. i)
 
-pub mark_file_keeps : (s : Server) (f : ℕ) (flag : Bool) → Fits s → Fits (mark_file s f flag)
-mark_file_keeps s f flag i = unread_keeps s s.sequence s.slots s.listed s.content s.basic (put s.marked f flag) s.connections s.marks s.mark_count s.version s.journal i
-
 pub leave_open_keeps : (s : Server) (o : ℕ) → s.standing o ≡ true → Fits s → Fits (leave_open s o)
 leave_open_keeps s o stands i =
     either (λ t. Fits (without_gone (drop_open t o) (s.opened o).file)) (deletes_on_close (s.opened o).options) _ _
-    (λ _. gone_keeps _ _ (drop_open_keeps _ o stands (mark_file_keeps s (s.opened o).file true i)))
+    (λ d. gone_keeps _ _ (drop_open_keeps _ o stands (mark_file_keeps s (s.opened o).file true (λ _. i.not_root o d) i)))
     (λ _. gone_keeps _ _ (drop_open_keeps s o stands i))
 
 -- ---- one open after the other, of which the files alone count
@@ -48,10 +44,11 @@ pub record AllLeft (s t : Server) (os : List ℕ) : Type 0 where
   pub listed : Listed t
   pub open_files : OpenFiles t
   pub file_numbers : FileNumbers t
+  pub unmarked : t.marked root ≡ false
 
-dropped : (s : Server) (o : ℕ) → Listed s → OpenFiles s → FileNumbers s → AllLeft s (drop_open s o) (o ∷ [])
+dropped : (s : Server) (o : ℕ) → Listed s → OpenFiles s → FileNumbers s → s.marked root ≡ false → AllLeft s (drop_open s o) (o ∷ [])
 unfolding exists
-dropped s o l f n =
+dropped s o l f n u =
     record {
       opened = refl;
       stays = λ p st h. grind arith;
@@ -59,6 +56,7 @@ dropped s o l f n =
       listed = λ p. let old = l p in has-without p o s.opens ∙ (grind arith);
       open_files = λ p. let old = f p in grind arith;
       file_numbers = n;
+      unmarked = u;
     }
 
 removed : (s t : Server) (f : ℕ) (os : List ℕ) → file_has_open t f ≡ false → AllLeft s t os → AllLeft s (remove_file t f) os
@@ -71,26 +69,30 @@ removed s t f os e a =
       listed = a.listed;
       open_files = λ p st. let old = a.open_files p st in let rest = exists-without f t.entries (t.opened p).file in let other = unopened_of t f e a.listed p st in grind arith;
       file_numbers = λ y. let old = a.file_numbers y in let rest = exists-without f t.entries y in grind arith;
+      unmarked = a.unmarked;
     }
 
 gone : (s t : Server) (f : ℕ) (os : List ℕ) → AllLeft s t os → AllLeft s (without_gone t f) os
 gone s t f os a = either (λ u. AllLeft s u os) (goes t f) _ _ (λ g. removed s t f os (gone_unopened t f g) a) (λ _. a)
 
 marked_too : (s t : Server) (f : ℕ) (os : List ℕ) → AllLeft (mark_file s f true) t os → AllLeft s t os
-marked_too s t f os a = record { opened = a.opened; stays = a.stays; next_file = a.next_file; listed = a.listed; open_files = a.open_files; file_numbers = a.file_numbers }
+marked_too s t f os a = record { opened = a.opened; stays = a.stays; next_file = a.next_file; listed = a.listed; open_files = a.open_files; file_numbers = a.file_numbers; unmarked = a.unmarked }
 
 marked_files : (s : Server) (f : ℕ) → OpenFiles s → OpenFiles (mark_file s f true)
 unfolding exists
 marked_files s f i = i
 
-left : (s : Server) (o : ℕ) → Listed s → OpenFiles s → FileNumbers s → AllLeft s (leave_open s o) (o ∷ [])
-left s o l f n =
-    either (λ t. AllLeft s (without_gone (drop_open t o) (s.opened o).file) (o ∷ [])) (deletes_on_close (s.opened o).options) _ _
-    (λ _. gone s _ (s.opened o).file (o ∷ []) (marked_too s _ (s.opened o).file (o ∷ []) (dropped (mark_file s (s.opened o).file true) o l (marked_files s (s.opened o).file f) n)))
-    (λ _. gone s _ (s.opened o).file (o ∷ []) (dropped s o l f n))
+other_mark : (s : Server) (f : ℕ) → f ≢ root → s.marked root ≡ false → put s.marked f true root ≡ false
+other_mark s f d u = grind arith
 
-none_left : (s : Server) (os : List ℕ) → Listed s → OpenFiles s → FileNumbers s → AllLeft s s os
-none_left s os l f n = record { opened = refl; stays = λ p st h. st; next_file = refl; listed = l; open_files = f; file_numbers = n }
+left : (s : Server) (o : ℕ) → Listed s → OpenFiles s → FileNumbers s → NotRoot s → s.marked root ≡ false → AllLeft s (leave_open s o) (o ∷ [])
+left s o l f n r u =
+    either (λ t. AllLeft s (without_gone (drop_open t o) (s.opened o).file) (o ∷ [])) (deletes_on_close (s.opened o).options) _ _
+    (λ d. gone s _ (s.opened o).file (o ∷ []) (marked_too s _ (s.opened o).file (o ∷ []) (dropped (mark_file s (s.opened o).file true) o l (marked_files s (s.opened o).file f) n (other_mark s (s.opened o).file (r o d) u))))
+    (λ _. gone s _ (s.opened o).file (o ∷ []) (dropped s o l f n u))
+
+none_left : (s : Server) (os : List ℕ) → Listed s → OpenFiles s → FileNumbers s → s.marked root ≡ false → AllLeft s s os
+none_left s os l f n u = record { opened = refl; stays = λ p st h. st; next_file = refl; listed = l; open_files = f; file_numbers = n; unmarked = u }
 
 then_left : (s t u : Server) (o : ℕ) (os : List ℕ) → AllLeft s t (o ∷ []) → AllLeft t u os → AllLeft s u (o ∷ os)
 then_left s t u o os a b =
@@ -101,16 +103,22 @@ then_left s t u o os a b =
       listed = b.listed;
       open_files = b.open_files;
       file_numbers = b.file_numbers;
+      unmarked = b.unmarked;
     }
 
-all_left : (s : Server) (os : List ℕ) → Listed s → OpenFiles s → FileNumbers s → AllLeft s (leave_all s os) os
-unfolding leave_all
-all_left s [] l f n = none_left s [] l f n
-all_left s (o ∷ os) l f n = let a = left s o l f n in then_left s (leave_open s o) _ o os a (all_left (leave_open s o) os a.listed a.open_files a.file_numbers)
+same_rows : (s t : Server) → t.opened ≡ s.opened → NotRoot s → NotRoot t
+same_rows s t e r = subst (λ rows. (p : ℕ) → deletes_on_close (rows p).options ≡ true → (rows p).file ≢ root) (sym e) r
 
-pub files_left : (s : Server) (session : ℕ) (is_quiet : Bool) → Listed s → OpenFiles s → FileNumbers s → AllLeft s (files_behind s session is_quiet) (plain_of s session)
-files_left s session true l f n = none_left s (plain_of s session) l f n
-files_left s session false l f n = all_left s (plain_of s session) l f n
+all_left : (s : Server) (os : List ℕ) → Listed s → OpenFiles s → FileNumbers s → NotRoot s → s.marked root ≡ false → AllLeft s (leave_all s os) os
+unfolding leave_all
+all_left s [] l f n r u = none_left s [] l f n u
+all_left s (o ∷ os) l f n r u =
+    let a = left s o l f n r u in
+    then_left s (leave_open s o) _ o os a (all_left (leave_open s o) os a.listed a.open_files a.file_numbers (same_rows s (leave_open s o) a.opened r) a.unmarked)
+
+pub files_left : (s : Server) (session : ℕ) (is_quiet : Bool) → Listed s → OpenFiles s → FileNumbers s → NotRoot s → s.marked root ≡ false → AllLeft s (files_behind s session is_quiet) (plain_of s session)
+files_left s session true l f n r u = none_left s (plain_of s session) l f n u
+files_left s session false l f n r u = all_left s (plain_of s session) l f n r u
 
 pub not_plain : (s : Server) (session p : ℕ) → leaves s session p ≡ false → has p (plain_of s session) ≡ false
 not_plain s session p out = let h = has-plain s session p s.opens in grind arith

@@ -3,15 +3,15 @@ use Rattle.std.proofs.Common.{◌≡◌, ◌≢◌, ◌⊎◌, inl, inr, ℕ, �
 use Rattle.std.proofs.lemmas.Bool.{eqb-false}
 use Rattle.std.proofs.lemmas.Bool.Decides.{nat_tests}
 use Rattle.exchange_defs.specs.Table.{put, put2, is_at, has, without, placed_in, is_filled}
-use Rattle.exchange_defs.specs.Commands.{Basic, SetupRequest}
+use Rattle.exchange_defs.specs.Commands.{Basic, SetupRequest, deletes_on_close}
 use Rattle.exchange_defs.specs.State.{Server, Message, Open, Range, Tree, Entry, Kept, Making, NewSession, Binding, Address}
-use Rattle.exchange_defs.specs.Files.{root, exists, exists_in, make_file, remove_file, rename_file, without_target, without_file, moved_entries, path_of, is_full_directory, is_directory, times_at}
+use Rattle.exchange_defs.specs.Files.{root, exists, exists_in, make_file, mark_file, remove_file, rename_file, without_target, without_file, moved_entries, path_of, is_full_directory, is_directory, times_at}
 use Rattle.exchange_defs.specs.Opens.{id_of, max_ids, with_guid, add_open, drop_open, file_has_open, goes}
 use Rattle.exchange_defs.specs.Ranges.{without_owner}
 use Rattle.exchange_defs.specs.Fold.{full_room}
 use Rattle.exchange_defs.specs.Effects.{leaves, end_session, files_behind, staying_in, ranges_staying, guid_staying, cleared, dated, without_tree, next_session, add_tree, add_session, join_session, attach, keep_refusal, set_ranges}
 use Rattle.exchange_defs.specs.Step.{first_deadline, with_deadlines, forget_connection}
-use Rattle.server_law.specs.Fits.{Fits, is_ascending, Attached, PlainAttached, GuidOpen, OpenGuid, PersistentGuid, Deadlines, Listed, Ascending, OpenIds, Given, Begun, SessionIds, MakingIds, MakingOnce, OnPresent, OnMade, NoTrees, NoClosed, NoRefused, NoGuids, NextTree, TreeIds, RangeOwners, OpenFiles, NextFile, FileNumbers, Room}
+use Rattle.server_law.specs.Fits.{Fits, is_ascending, Attached, PlainAttached, GuidOpen, OpenGuid, PersistentGuid, Deadlines, Listed, Ascending, OpenIds, Given, Begun, SessionIds, MakingIds, MakingOnce, OnPresent, OnMade, NoTrees, NoClosed, NoRefused, NoGuids, NextTree, TreeIds, RangeOwners, NotRoot, RootUnmarked, OpenFiles, NextFile, FileNumbers, Room}
 use Rattle.server_law.proofs.Logic.{either, front_of, back_of, both, front_off, back_off, other_off, other_on, not_true, not_false, none_of, at_of}
 use Rattle.server_law.proofs.Lists.{has-placed, has-without, has-staying, has-plain, ascending-placed, ascending-without, ascending-staying, none-open, Among, From, NotOf, Stays, AnyTree, without_owner-from, ranges_staying-from, pushed-from, exists-pushed, exists-without, exists-moved, without_tree-from}
 
@@ -64,6 +64,8 @@ attach_keeps s m o stands there i =
       next_tree = i.next_tree;
       tree_ids = i.tree_ids;
       range_owners = i.range_owners;
+      not_root = i.not_root;
+      root_unmarked = i.root_unmarked;
       open_files = i.open_files;
       next_file = i.next_file;
       file_numbers = i.file_numbers;
@@ -109,6 +111,8 @@ keep_refusal_keeps s session guid status there i =
       next_tree = i.next_tree;
       tree_ids = i.tree_ids;
       range_owners = i.range_owners;
+      not_root = i.not_root;
+      root_unmarked = i.root_unmarked;
       open_files = i.open_files;
       next_file = i.next_file;
       file_numbers = i.file_numbers;
@@ -149,6 +153,8 @@ close_guid_keeps s session guid there i =
       next_tree = i.next_tree;
       tree_ids = i.tree_ids;
       range_owners = i.range_owners;
+      not_root = i.not_root;
+      root_unmarked = i.root_unmarked;
       open_files = i.open_files;
       next_file = i.next_file;
       file_numbers = i.file_numbers;
@@ -209,6 +215,8 @@ challenge_keeps s line off left i =
       next_tree = i.next_tree;
       tree_ids = i.tree_ids;
       range_owners = i.range_owners;
+      not_root = i.not_root;
+      root_unmarked = i.root_unmarked;
       open_files = i.open_files;
       next_file = i.next_file;
       file_numbers = i.file_numbers;
@@ -259,6 +267,8 @@ bind_keeps s line session off i =
       next_tree = i.next_tree;
       tree_ids = i.tree_ids;
       range_owners = i.range_owners;
+      not_root = i.not_root;
+      root_unmarked = i.root_unmarked;
       open_files = i.open_files;
       next_file = i.next_file;
       file_numbers = i.file_numbers;
@@ -354,6 +364,8 @@ add_session_keeps s m user r absent new i =
       next_tree = add_session_next_tree s m user r absent new i.next_tree;
       tree_ids = add_session_tree_ids s m user r absent new i.tree_ids;
       range_owners = i.range_owners;
+      not_root = i.not_root;
+      root_unmarked = i.root_unmarked;
       open_files = i.open_files;
       next_file = i.next_file;
       file_numbers = i.file_numbers;
@@ -409,6 +421,8 @@ join_session_keeps s m session there i =
       next_tree = i.next_tree;
       tree_ids = i.tree_ids;
       range_owners = i.range_owners;
+      not_root = i.not_root;
+      root_unmarked = i.root_unmarked;
       open_files = i.open_files;
       next_file = i.next_file;
       file_numbers = i.file_numbers;
@@ -467,6 +481,8 @@ add_tree_keeps s session pipes there i =
       next_tree = add_tree_next_tree s session pipes there i.next_tree;
       tree_ids = add_tree_tree_ids s session pipes there i.tree_ids i.next_tree;
       range_owners = i.range_owners;
+      not_root = i.not_root;
+      root_unmarked = i.root_unmarked;
       open_files = i.open_files;
       next_file = i.next_file;
       file_numbers = i.file_numbers;
@@ -520,6 +536,8 @@ drop_tree_keeps s session id  i =
       next_tree = i.next_tree;
       tree_ids = drop_tree_tree_ids s session id  i.tree_ids;
       range_owners = i.range_owners;
+      not_root = i.not_root;
+      root_unmarked = i.root_unmarked;
       open_files = i.open_files;
       next_file = i.next_file;
       file_numbers = i.file_numbers;
@@ -575,6 +593,8 @@ forget_keeps s line  i =
       next_tree = i.next_tree;
       tree_ids = i.tree_ids;
       range_owners = i.range_owners;
+      not_root = i.not_root;
+      root_unmarked = i.root_unmarked;
       open_files = i.open_files;
       next_file = i.next_file;
       file_numbers = i.file_numbers;
@@ -620,6 +640,8 @@ deadlines_keeps s now  i =
       next_tree = i.next_tree;
       tree_ids = i.tree_ids;
       range_owners = i.range_owners;
+      not_root = i.not_root;
+      root_unmarked = i.root_unmarked;
       open_files = i.open_files;
       next_file = i.next_file;
       file_numbers = i.file_numbers;
@@ -680,6 +702,8 @@ epoch_keeps s number next i =
       next_tree = i.next_tree;
       tree_ids = i.tree_ids;
       range_owners = i.range_owners;
+      not_root = i.not_root;
+      root_unmarked = i.root_unmarked;
       open_files = i.open_files;
       next_file = i.next_file;
       file_numbers = i.file_numbers;
@@ -720,6 +744,8 @@ configured_keeps s share room seals address journal small i =
       next_tree = i.next_tree;
       tree_ids = i.tree_ids;
       range_owners = i.range_owners;
+      not_root = i.not_root;
+      root_unmarked = i.root_unmarked;
       open_files = i.open_files;
       next_file = i.next_file;
       file_numbers = i.file_numbers;
@@ -728,9 +754,9 @@ configured_keeps s share room seals address journal small i =
 
 
 -- what nothing here reads is other
-pub unread_keeps : (s : Server) (sequence : ℕ → ℕ) (slots : ℕ → ℕ → Option Kept) (listed : ℕ → Option (List ℕ)) (content : ℕ → List ℕ) (basic : ℕ → Basic) (marked : ℕ → Bool) (connections : List ℕ) (marks : ℕ → ℕ → Bool) (mark_count : ℕ) (version : ℕ) (journal : ℕ) → Fits s → Fits (record s { sequence = sequence; slots = slots; listed = listed; content = content; basic = basic; marked = marked; connections = connections; marks = marks; mark_count = mark_count; version = version; journal = journal })
+pub unread_keeps : (s : Server) (sequence : ℕ → ℕ) (slots : ℕ → ℕ → Option Kept) (listed : ℕ → Option (List ℕ)) (content : ℕ → List ℕ) (basic : ℕ → Basic) (connections : List ℕ) (marks : ℕ → ℕ → Bool) (mark_count : ℕ) (version : ℕ) (journal : ℕ) → Fits s → Fits (record s { sequence = sequence; slots = slots; listed = listed; content = content; basic = basic; connections = connections; marks = marks; mark_count = mark_count; version = version; journal = journal })
 unfolding exists
-unread_keeps s sequence slots listed content basic marked connections marks mark_count version journal  i =
+unread_keeps s sequence slots listed content basic connections marks mark_count version journal  i =
     record {
       attached = i.attached;
       plain_attached = i.plain_attached;
@@ -755,6 +781,8 @@ unread_keeps s sequence slots listed content basic marked connections marks mark
       next_tree = i.next_tree;
       tree_ids = i.tree_ids;
       range_owners = i.range_owners;
+      not_root = i.not_root;
+      root_unmarked = i.root_unmarked;
       open_files = i.open_files;
       next_file = i.next_file;
       file_numbers = i.file_numbers;

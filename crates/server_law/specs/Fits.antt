@@ -1,8 +1,9 @@
 -- What holds of the server alone in every world that a run leads to.
-use Rattle.std.specs.Prelude.{◌≡◌, ℕ, ◌≤◌, ◌<◌, nat_lt, Bool, true, false, ◌&&◌, List, [], ◌∷◌, Some, None, is_some, slice_get}
+use Rattle.std.specs.Prelude.{◌≡◌, ◌≢◌, ℕ, ◌≤◌, ◌<◌, nat_lt, Bool, true, false, ◌&&◌, List, [], ◌∷◌, Some, None, is_some, slice_get}
 use Rattle.exchange_defs.specs.Table.{has}
+use Rattle.exchange_defs.specs.Commands.{deletes_on_close}
 use Rattle.exchange_defs.specs.State.{Server, Range, Tree, NewSession}
-use Rattle.exchange_defs.specs.Files.{exists, exists_in}
+use Rattle.exchange_defs.specs.Files.{root, exists, exists_in}
 use Rattle.exchange_defs.specs.Opens.{id_of, max_ids}
 use Rattle.exchange_defs.specs.Fold.{full_room}
 
@@ -100,6 +101,13 @@ TreeIds s = (x n : ℕ) (t : Tree) → slice_get (s.trees x) n ≡ Some t → 0 
 abbrev pub RangeOwners : Server → Type 0
 RangeOwners s = (f n : ℕ) (r : Range) → slice_get (s.ranges f) n ≡ Some r → s.standing r.owner ≡ true × (s.opened r.owner).file ≡ f
 
+-- no open, standing or gone, deletes the root on close
+abbrev pub NotRoot : Server → Type 0
+NotRoot s = (o : ℕ) → deletes_on_close (s.opened o).options ≡ true → (s.opened o).file ≢ root
+
+abbrev pub RootUnmarked : Server → Type 0
+RootUnmarked s = s.marked root ≡ false
+
 -- the file of an open is there
 abbrev pub OpenFiles : Server → Type 0
 OpenFiles s = (o : ℕ) → s.standing o ≡ true → exists s (s.opened o).file ≡ true
@@ -137,6 +145,8 @@ pub record Fits (s : Server) : Type 0 where
   pub next_tree : NextTree s
   pub tree_ids : TreeIds s
   pub range_owners : RangeOwners s
+  pub not_root : NotRoot s
+  pub root_unmarked : RootUnmarked s
   pub open_files : OpenFiles s
   pub next_file : NextFile s
   pub file_numbers : FileNumbers s
