@@ -9,3 +9,4 @@ pub mod FileEffects
 pub mod SessionEffects
 pub mod Leaving
 pub mod EndSession
+pub mod Applied

@@ -1,8 +1,8 @@
 -- What holds of the server alone in every world that a run leads to.
-use Rattle.std.specs.Prelude.{◌≡◌, ◌≢◌, ℕ, ◌≤◌, ◌<◌, nat_lt, Bool, true, false, ◌&&◌, List, [], ◌∷◌, Some, None, is_some, slice_get}
+use Rattle.std.specs.Prelude.{◌≡◌, ◌≢◌, ℕ, ◌≤◌, ◌<◌, nat_lt, Bool, true, false, not, ◌&&◌, ◌==◌, List, [], ◌∷◌, Option, Some, None, is_some, slice_get}
 use Rattle.exchange_defs.specs.Table.{has}
 use Rattle.exchange_defs.specs.Commands.{deletes_on_close}
-use Rattle.exchange_defs.specs.State.{Server, Range, Tree, NewSession}
+use Rattle.exchange_defs.specs.State.{Server, Range, Tree, NewSession, NewOpen, Record, CreateRecord}
 use Rattle.exchange_defs.specs.Files.{root, exists, exists_in}
 use Rattle.exchange_defs.specs.Opens.{id_of, max_ids}
 use Rattle.exchange_defs.specs.Fold.{full_room}
@@ -151,3 +151,18 @@ pub record Fits (s : Server) : Type 0 where
   pub next_file : NextFile s
   pub file_numbers : FileNumbers s
   pub room : Room s
+
+-- ---- records
+
+-- no record makes an open that deletes the root on close
+abbrev pub keeps_root : ℕ → Option NewOpen → Bool
+keeps_root f None = true
+keeps_root f (Some n) = not (deletes_on_close n.options && (f == root))
+
+abbrev pub is_sound : Record → Bool
+is_sound (CreateRecord origin action f path attributes is_dir time opened) = keeps_root f opened
+is_sound _ = true
+
+unfoldable pub all_sound : List Record → Bool
+all_sound [] = true
+all_sound (r ∷ rs) = is_sound r && all_sound rs
