@@ -555,7 +555,7 @@ pub checked : (s : Server) (m : Message) → Facts s m (check s m)
 checked s m = either (λ v. Facts s m v) (is_setup m.command || has_session s m) _ _ (λ h. owed_facts s m h m.fault refl) (λ _. tt)
 
 -- where its records don't fit, what stands in its place has them too
-lesser : (s : Server) (m : Message) (v : Verdict) → Facts s m v → Facts s m (without_room v)
+pub lesser : (s : Server) (m : Message) (v : Verdict) → Facts s m v → Facts s m (without_room v)
 lesser s m (Refuse status) f = f
 lesser s m (Give body) f = f
 lesser s m (KeepRefusal guid status) f = f

@@ -10,3 +10,7 @@ pub mod SessionEffects
 pub mod Leaving
 pub mod EndSession
 pub mod Applied
+pub mod Folded
+pub mod Sound
+pub mod Stepped
+pub mod Run

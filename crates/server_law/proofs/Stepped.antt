@@ -1,0 +1,115 @@
+-- One event of the server keeps what fits together, and owes sound records.
+use Rattle.std.proofs.Common.{◌≡◌, ◌⊎◌, inl, inr, ℕ, ◌+◌, Bool, true, false, nat_le, if◌then◌else◌, List, [], ◌∷◌, ◌++◌, length, refl, sym, subst, ◌∙◌, Option, Some, None}
+use Rattle.exchange_defs.specs.State.{Server, Message, ServerEvent, Accept, Heard, End, Stop, Record, Answer}
+use Rattle.exchange_defs.specs.Check.{check}
+use Rattle.exchange_defs.specs.Records.{entry_bytes, fits, origin_at}
+use Rattle.exchange_defs.specs.Effects.{apply}
+use Rattle.exchange_defs.specs.Step.{step, table, expiring, written_down, with_deadlines, due, expire, expire_records, without_room, max_marks, max_connections, Ruling, Says, TakesIn, TurnsAway, TakesOut, TakesAllOut, ruling, ruling_without_room, carried_out, connection_of, ends_with, take_out, take_all_out}
+use Rattle.server_law.specs.Fits.{Fits, all_sound}
+use Rattle.server_law.proofs.Logic.{either}
+use Rattle.server_law.proofs.Doors.{recorded}
+use Rattle.server_law.proofs.Found.{Facts}
+use Rattle.server_law.proofs.Checked.{checked, lesser}
+use Rattle.server_law.proofs.SessionEffects.{deadlines_keeps, forget_keeps}
+use Rattle.server_law.proofs.Applied.{connections_keeps, journal_keeps, end_if_named_keeps, applied_keeps, expired_keeps}
+use Rattle.server_law.proofs.Folded.{sound_more, sound_none}
+use Rattle.server_law.proofs.Sound.{sound_named, sound_expiry, sound_take_all, applied_sound}
+
+-- ---- the only way into a step: what a ruling carries out, on a state in front of which an open may have expired, with the
+-- expiry's records in front of its own
+
+-- the state that the checks see, and the records owed for it
+abbrev pub Front : Server → ℕ → ServerEvent → Server → List Record → Type 0
+Front s now e t front =
+    (t ≡ with_deadlines s now × front ≡ []) ⊎ ((o : ℕ) × due (with_deadlines s now) now ≡ Some o × t ≡ expire (with_deadlines s now) o × front ≡ expire_records (with_deadlines s now) (origin_at (connection_of e)) o)
+
+-- what the checks ask for, or what stands in its place where the records don't fit
+abbrev pub Rules : Server → ServerEvent → Ruling → Type 0
+Rules t e r = (r ≡ ruling t e) ⊎ (r ≡ ruling_without_room (ruling t e))
+
+abbrev pub Path : Server → ℕ → ServerEvent → (Answer → Type 0) → Type 0
+Path s now e P = (t : Server) (front : List Record) (r : Ruling) → Front s now e t front → Rules t e r → P (recorded (carried_out t now r) (front ++ (carried_out t now r).records))
+
+by_table : (P : Answer → Type 0) (s : Server) (now : ℕ) (e : ServerEvent) → Path s now e P → P (written_down (table (with_deadlines s now) now e))
+by_table P s now e f =
+    let d = with_deadlines s now in
+    either (λ A. P (written_down A)) (fits d (carried_out d now (ruling d e)).records) _ _
+    (λ _. f d [] (ruling d e) (inl (refl, refl)) (inl refl))
+    (λ _. f d [] (ruling_without_room (ruling d e)) (inl (refl, refl)) (inr refl))
+
+by_due : (P : Answer → Type 0) (s : Server) (now : ℕ) (e : ServerEvent) → Path s now e P → (u : Option ℕ) → due (with_deadlines s now) now ≡ u → P (written_down (expiring (with_deadlines s now) now e u))
+by_due P s now e f None q = by_table P s now e f
+by_due P s now e f (Some o) q =
+    let d = with_deadlines s now in let t = expire d o in
+    either (λ A. P (written_down A)) (nat_le max_marks d.mark_count) _ _ (λ _. by_table P s now e f)
+    (λ _. either (λ A. P (written_down A)) (fits d (expire_records d (origin_at (connection_of e)) o ++ (carried_out t now (ruling t e)).records)) _ _
+    (λ _. f t (expire_records d (origin_at (connection_of e)) o) (ruling t e) (inr (o, q, refl, refl)) (inl refl))
+    (λ _. by_table P s now e f))
+
+pub by_ruling : (P : Answer → Type 0) (s : Server) (now : ℕ) (e : ServerEvent) → Path s now e P → P (step s now e)
+by_ruling P s now e f = by_due P s now e f (due (with_deadlines s now) now) refl
+
+-- ---- each ruling
+
+abbrev pub RulingFacts : Server → Ruling → Type 0
+RulingFacts s (Says m v) = Facts s m v
+RulingFacts s (TakesIn k) = Unit {0}
+RulingFacts s TurnsAway = Unit {0}
+RulingFacts s (TakesOut k is_quiet) = Unit {0}
+RulingFacts s (TakesAllOut is_quiet) = Unit {0}
+
+ruled : (s : Server) (e : ServerEvent) → RulingFacts s (ruling s e)
+ruled s (Heard m) = checked s m
+ruled s (Accept k) = either (λ r. RulingFacts s r) (nat_le max_connections (length s.connections)) _ _ (λ _. tt) (λ _. tt)
+ruled s (End k) = tt
+ruled s Stop = tt
+
+lesser_ruled : (s : Server) (r : Ruling) → RulingFacts s r → RulingFacts s (ruling_without_room r)
+lesser_ruled s (Says m v) f = lesser s m v f
+lesser_ruled s (TakesIn k) f = tt
+lesser_ruled s TurnsAway f = tt
+lesser_ruled s (TakesOut k is_quiet) f = tt
+lesser_ruled s (TakesAllOut is_quiet) f = tt
+
+pub ruling_facts : (s : Server) (e : ServerEvent) (r : Ruling) → Rules s e r → RulingFacts s r
+ruling_facts s e r (inl q) = subst (λ x. RulingFacts s x) (sym q) (ruled s e)
+ruling_facts s e r (inr q) = subst (λ x. RulingFacts s x) (sym q) (lesser_ruled s (ruling s e) (ruled s e))
+
+pub take_out_keeps : (s : Server) (k now : ℕ) (is_quiet : Bool) → Fits s → Fits (take_out s k now is_quiet)
+take_out_keeps s k now is_quiet i = forget_keeps _ k (end_if_named_keeps s now (ends_with s k) is_quiet i)
+
+take_all_out_keeps : (s : Server) (ks : List ℕ) (now : ℕ) (is_quiet : Bool) → Fits s → Fits (take_all_out s ks now is_quiet)
+unfolding take_all_out
+take_all_out_keeps s [] now is_quiet i = i
+take_all_out_keeps s (k ∷ ks) now is_quiet i = take_all_out_keeps (take_out s k now is_quiet) ks now is_quiet (take_out_keeps s k now is_quiet i)
+
+carried_keeps : (s : Server) (now : ℕ) (r : Ruling) → Fits s → RulingFacts s r → Fits (carried_out s now r).server
+carried_keeps s now (Says m v) i f = applied_keeps s m now v i f
+carried_keeps s now (TakesIn k) i f = connections_keeps s (s.connections ++ k ∷ []) i
+carried_keeps s now TurnsAway i f = i
+carried_keeps s now (TakesOut k is_quiet) i f = take_out_keeps s k now is_quiet i
+carried_keeps s now (TakesAllOut is_quiet) i f = take_all_out_keeps s s.connections now is_quiet i
+
+carried_sound : (s : Server) (now : ℕ) (r : Ruling) → Fits s → RulingFacts s r → all_sound (carried_out s now r).records ≡ true
+carried_sound s now (Says m v) i f = applied_sound s m now v i f
+carried_sound s now (TakesIn k) i f = sound_none
+carried_sound s now TurnsAway i f = sound_none
+carried_sound s now (TakesOut k is_quiet) i f = sound_named s (origin_at k) (ends_with s k) is_quiet
+carried_sound s now (TakesAllOut is_quiet) i f = sound_take_all s s.connections now is_quiet
+
+-- ---- the step
+
+pub front_fits : (s : Server) (now : ℕ) (e : ServerEvent) (t : Server) (front : List Record) → Front s now e t front → Fits s → Fits t × all_sound front ≡ true
+front_fits s now e t front (inl q) i = (subst (λ u. Fits u) (sym q.0) (deadlines_keeps s now i), subst (λ rs. all_sound rs ≡ true) (sym q.1) sound_none)
+front_fits s now e t front (inr q) i =
+    (subst (λ u. Fits u) (sym q.2) (expired_keeps (with_deadlines s now) now q.0 q.1 (deadlines_keeps s now i)),
+    subst (λ rs. all_sound rs ≡ true) (sym q.3) (sound_expiry (with_deadlines s now) (origin_at (connection_of e)) q.0))
+
+abbrev pub Good : Answer → Type 0
+Good A = Fits A.server × all_sound A.records ≡ true
+
+pub stepped : (s : Server) (now : ℕ) (e : ServerEvent) → Fits s → Good (step s now e)
+stepped s now e i =
+    by_ruling Good s now e
+    (λ t front r at rules. let a = front_fits s now e t front at i in let f = ruling_facts t e r rules in let A = carried_out t now r in
+    (journal_keeps A.server (A.server.journal + entry_bytes (front ++ A.records)) (carried_keeps t now r a.0 f), sound_more front A.records a.1 (carried_sound t now r a.0 f)))
