@@ -1,20 +1,12 @@
 -- A new open stands, with an id that no open has.
-use Rattle.std.proofs.Common.{◌≡◌, ◌≢◌, ◌⊎◌, inl, inr, ℕ, ◌+◌, ◌*◌, ◌≤◌, ◌<◌, ◌==◌, nat_lt, nat_le, Bool, true, false, not, ◌&&◌, ◌||◌, if◌then◌else◌, List, [], ◌∷◌, ◌++◌, length, refl, arith, sym, subst, ◌∙◌, ap, eqb-true, Option, Some, None, is_some, slice_get}
-use Rattle.std.proofs.lemmas.Bool.{eqb-false}
-use Rattle.std.proofs.lemmas.Bool.Decides.{nat_tests}
-use Rattle.exchange_defs.specs.Table.{put, put2, is_at, has, without, placed_in, is_filled}
-use Rattle.exchange_defs.specs.Commands.{Basic, SetupRequest, deletes_on_close}
-use Rattle.exchange_defs.specs.State.{Server, Message, Open, Range, Tree, Entry, Kept, Making, NewSession, Binding, Address}
-use Rattle.exchange_defs.specs.Files.{root, exists, exists_in, make_file, mark_file, remove_file, rename_file, without_target, without_file, moved_entries, path_of, is_full_directory, is_directory, times_at}
-use Rattle.exchange_defs.specs.Opens.{id_of, max_ids, with_guid, add_open, drop_open, file_has_open, goes}
-use Rattle.exchange_defs.specs.Ranges.{without_owner}
-use Rattle.exchange_defs.specs.Fold.{full_room}
-use Rattle.exchange_defs.specs.Effects.{leaves, end_session, files_behind, staying_in, ranges_staying, guid_staying, cleared, dated, without_tree, next_session, add_tree, add_session, join_session, attach, keep_refusal, set_ranges}
-use Rattle.exchange_defs.specs.Step.{first_deadline, with_deadlines, forget_connection}
-use Rattle.server_law.specs.Fits.{Fits, is_ascending, Attached, PlainAttached, GuidOpen, OpenGuid, PersistentGuid, Deadlines, Listed, Ascending, OpenIds, Given, Begun, SessionIds, MakingIds, MakingOnce, OnPresent, OnMade, NoTrees, NoClosed, NoRefused, NoGuids, NextTree, TreeIds, RangeOwners, NotRoot, RootUnmarked, OpenFiles, NextFile, FileNumbers, Room}
-use Rattle.server_law.proofs.Logic.{either, front_of, back_of, both, front_off, back_off, other_off, other_on, not_true, not_false, none_of, at_of}
-use Rattle.server_law.proofs.Lists.{has-placed, has-without, has-staying, has-plain, ascending-placed, ascending-without, ascending-staying, none-open, Among, From, NotOf, Stays, AnyTree, without_owner-from, ranges_staying-from, pushed-from, exists-pushed, exists-without, exists-moved, without_tree-from}
-
+use Rattle.std.proofs.Common.{◌≡◌, ◌≢◌, ℕ, ◌≤◌, ◌<◌, true, false, refl, arith, ◌∙◌, Option, Some, None, is_some}
+use Rattle.exchange_defs.specs.Table.{put}
+use Rattle.exchange_defs.specs.Commands.{deletes_on_close}
+use Rattle.exchange_defs.specs.State.{Server, Open}
+use Rattle.exchange_defs.specs.Files.{root, exists}
+use Rattle.exchange_defs.specs.Opens.{id_of, max_ids, with_guid, add_open}
+use Rattle.server_law.specs.Fits.{Fits, Attached, PlainAttached, GuidOpen, OpenGuid, PersistentGuid, Deadlines, Listed, Ascending, OpenIds, Given, NoGuids, RangeOwners, NotRoot, OpenFiles}
+use Rattle.server_law.proofs.Lists.{has-placed, ascending-placed}
 
 -- the table of guids with the new open's, as its guid is
 added_guid : (s : Server) (o : ℕ) (row : Open) (c g p : ℕ) → s.standing o ≡ false → GuidOpen s → (u : Option ℕ) → row.guid ≡ u → with_guid s.by_guid row.client u (Some o) c g ≡ Some p
@@ -130,5 +122,5 @@ add_open_keeps s o row session sequence n gs free above id more most sess plain 
       open_files = add_open_open_files s o row session sequence n gs free above id more most sess plain guid pguid file off_root kept i.open_files;
       next_file = i.next_file;
       file_numbers = i.file_numbers;
-      room = i.room
+      room = i.room;
     }

@@ -1,27 +1,26 @@
 -- What each verdict does keeps what fits together.
-use Rattle.std.proofs.Common.{◌≡◌, ◌≢◌, ◌⊎◌, inl, inr, ℕ, ◌+◌, ◌*◌, ◌≤◌, ◌<◌, ◌==◌, nat_lt, nat_le, Bool, true, false, not, ◌&&◌, ◌||◌, if◌then◌else◌, List, [], ◌∷◌, ◌++◌, length, refl, arith, sym, subst, ◌∙◌, ap, eqb-true, Option, Some, None, is_some, slice_get}
+use Rattle.std.proofs.Common.{◌≡◌, ◌≢◌, ◌⊎◌, inl, inr, ℕ, ◌+◌, ◌≤◌, ◌<◌, ◌==◌, nat_lt, Bool, true, false, List, [], length, refl, arith, sym, subst, ◌∙◌, Option, Some, None, is_some, slice_get}
 use Rattle.std.proofs.lemmas.Bool.{eqb-false}
-use Rattle.std.proofs.lemmas.Bool.Decides.{nat_tests}
 use Rattle.exchange_defs.specs.Table.{put, has}
 use Rattle.exchange_defs.specs.Status.{success}
 use Rattle.exchange_defs.specs.Content.{written, ended, is_empty}
 use Rattle.exchange_defs.specs.Commands.{CreateRequest, Durable, SetupRequest, Element, Setting, SetBasic, Rename, SetDelete, SetAllocation, SetEnd, asks_directory, deletes_on_close}
-use Rattle.exchange_defs.specs.State.{Server, Message, Open, Range, Body, Kept, NewSession}
-use Rattle.exchange_defs.specs.Files.{root, find, exists, exists_in, make_file, empty_file, set_content, store_basic, mark_file, rename_file, touched, emptied_basic, is_directory}
+use Rattle.exchange_defs.specs.State.{Server, Message, Range, Body, NewSession}
+use Rattle.exchange_defs.specs.Files.{root, find, exists, make_file, empty_file, set_content, store_basic, mark_file, touched, emptied_basic, is_directory}
 use Rattle.exchange_defs.specs.Ranges.{change_ranges, Stands}
-use Rattle.exchange_defs.specs.Opens.{id_of, max_ids, add_open, drop_open, leave_open, without_gone, marked_by, file_has_open, goes}
+use Rattle.exchange_defs.specs.Opens.{id_of, max_ids, add_open, drop_open, leave_open, without_gone, file_has_open, goes}
 use Rattle.exchange_defs.specs.CheckCreate.{empties}
-use Rattle.exchange_defs.specs.CheckOpen.{is_late, is_slot, file_of, bytes_change, allocation_change, target_of, target_refused, delete_names}
+use Rattle.exchange_defs.specs.CheckOpen.{is_late, is_slot, file_of, bytes_change, target_of, target_refused, delete_names}
 use Rattle.exchange_defs.specs.Verdict.{Verdict, Refuse, Give, KeepRefusal, Repeat, Attach, Make, TurnDown, Tell, Show, KeepSlot, PutRanges, Alter, Shut, Challenge, ChallengeBinding, Begin, Join, EndSession, AddTree, DropTree, Change, PutBytes, PutEnd, PutBasic, PutMark, PutPath, PutNothing}
-use Rattle.exchange_defs.specs.Effects.{apply, reach, attach, attached, guid_of, is_persistent, new_file, file_made, open_row, next_open, guids_after, make_open, keep_slot, set_ranges, change_file, keep_closed, end_session, end_if_named, add_session}
-use Rattle.exchange_defs.specs.Step.{with_deadlines, due, expire, add_mark}
+use Rattle.exchange_defs.specs.Effects.{apply, reach, attached, guid_of, is_persistent, open_row, next_open, guids_after, make_open, keep_slot, set_ranges, change_file, keep_closed, end_session, end_if_named, add_session}
+use Rattle.exchange_defs.specs.Step.{due, expire, add_mark}
 use Rattle.server_law.specs.Fits.{Fits, OpenIds, RangeOwners, Listed}
-use Rattle.server_law.proofs.Logic.{either, front_of, back_of, both, front_off, back_off, not_true, not_false}
+use Rattle.server_law.proofs.Logic.{either, back_off}
 use Rattle.server_law.proofs.Lists.{exists-pushed, change_ranges-beside, due-has}
-use Rattle.server_law.proofs.Found.{SessionFacts, OpenFacts, NewFacts, MakeFacts, RepeatFacts, AttachFacts, SlotFacts, RangesFacts, AlterFacts, WriteFacts, SettingFacts, SettingSays, setting_change, ShutFacts, BeginFacts, Facts}
+use Rattle.server_law.proofs.Found.{SessionFacts, MakeFacts, RangesFacts, AlterFacts, WriteFacts, SettingFacts, SettingSays, setting_change, Facts}
 use Rattle.server_law.proofs.AddOpen.{add_open_keeps}
 use Rattle.server_law.proofs.FileEffects.{make_file_keeps, mark_file_keeps, rename_file_keeps, set_ranges_keeps}
-use Rattle.server_law.proofs.SessionEffects.{attach_keeps, keep_refusal_keeps, close_guid_keeps, challenge_keeps, bind_keeps, add_session_keeps, join_session_keeps, add_tree_keeps, drop_tree_keeps, deadlines_keeps, unread_keeps}
+use Rattle.server_law.proofs.SessionEffects.{attach_keeps, keep_refusal_keeps, close_guid_keeps, challenge_keeps, bind_keeps, add_session_keeps, join_session_keeps, add_tree_keeps, drop_tree_keeps, unread_keeps}
 use Rattle.server_law.proofs.Leaving.{leave_open_keeps, unopened_of}
 use Rattle.server_law.proofs.EndSession.{end_session_keeps}
 

@@ -1,22 +1,13 @@
 -- A session ends: its plain opens leave, and what it kept is forgotten.
-use Rattle.std.proofs.Common.{◌≡◌, ◌≢◌, ◌⊎◌, inl, inr, ℕ, ◌+◌, ◌*◌, ◌≤◌, ◌<◌, ◌==◌, nat_lt, nat_le, Bool, true, false, not, ◌&&◌, ◌||◌, if◌then◌else◌, List, [], ◌∷◌, ◌++◌, length, refl, arith, sym, subst, ◌∙◌, ap, eqb-true, Option, Some, None, is_some, slice_get}
-use Rattle.std.proofs.lemmas.Bool.{eqb-false}
-use Rattle.std.proofs.lemmas.Bool.Decides.{nat_tests}
-use Rattle.exchange_defs.specs.Table.{put, put2, is_at, has, without, placed_in, is_filled}
-use Rattle.exchange_defs.specs.Commands.{Basic, SetupRequest, deletes_on_close}
-use Rattle.exchange_defs.specs.State.{Server, Message, Open, Range, Tree, Entry, Kept, Making, NewSession, Binding, Address}
-use Rattle.exchange_defs.specs.Files.{root, exists, exists_in, make_file, mark_file, remove_file, rename_file, without_target, without_file, moved_entries, path_of, is_full_directory, is_directory, times_at}
-use Rattle.exchange_defs.specs.Opens.{id_of, max_ids, with_guid, add_open, drop_open, file_has_open, goes}
-use Rattle.exchange_defs.specs.Ranges.{without_owner}
-use Rattle.exchange_defs.specs.Fold.{full_room}
-use Rattle.exchange_defs.specs.Effects.{leaves, end_session, files_behind, staying_in, ranges_staying, guid_staying, cleared, dated, without_tree, next_session, add_tree, add_session, join_session, attach, keep_refusal, set_ranges}
-use Rattle.exchange_defs.specs.Step.{first_deadline, with_deadlines, forget_connection}
-use Rattle.server_law.specs.Fits.{Fits, is_ascending, Attached, PlainAttached, GuidOpen, OpenGuid, PersistentGuid, Deadlines, Listed, Ascending, OpenIds, Given, Begun, SessionIds, MakingIds, MakingOnce, OnPresent, OnMade, NoTrees, NoClosed, NoRefused, NoGuids, NextTree, TreeIds, RangeOwners, NotRoot, RootUnmarked, OpenFiles, NextFile, FileNumbers, Room}
-use Rattle.server_law.proofs.Logic.{either, front_of, back_of, both, front_off, back_off, other_off, other_on, not_true, not_false, none_of, at_of}
-use Rattle.server_law.proofs.Lists.{has-placed, has-without, has-staying, has-plain, ascending-placed, ascending-without, ascending-staying, none-open, Among, From, NotOf, Stays, AnyTree, without_owner-from, ranges_staying-from, pushed-from, exists-pushed, exists-without, exists-moved, without_tree-from}
+use Rattle.std.proofs.Common.{◌≡◌, ℕ, ◌<◌, ◌==◌, Bool, true, false, not, ◌&&◌, ◌||◌, refl, arith, subst, ◌∙◌, Option, Some, None}
+use Rattle.exchange_defs.specs.State.{Server, Open}
+use Rattle.exchange_defs.specs.Files.{root, exists, exists_in}
+use Rattle.exchange_defs.specs.Effects.{leaves, end_session, files_behind, guid_staying, cleared, dated}
+use Rattle.server_law.specs.Fits.{Fits, Attached, PlainAttached, GuidOpen, OpenGuid, PersistentGuid, Deadlines, Listed, Ascending, OpenIds, SessionIds, MakingIds, OnPresent, OnMade, NoTrees, NoClosed, NoRefused, NoGuids, NextTree, TreeIds, RangeOwners, NotRoot, RootUnmarked, OpenFiles, FileNumbers}
+use Rattle.server_law.proofs.Logic.{front_of, back_of, not_true}
+use Rattle.server_law.proofs.Lists.{has-staying, ascending-staying, ranges_staying-from}
 use Rattle.exchange_defs.specs.Effects.{plain_of}
 use Rattle.server_law.proofs.Leaving.{AllLeft, files_left, not_plain}
-
 
 ended_guid : (s : Server) (session c g p : ℕ) → GuidOpen s → (u : Option ℕ) → s.by_guid c g ≡ u → guid_staying s session u ≡ Some p
     → (s.standing p && not (leaves s session p)) ≡ true × (s.opened p).client ≡ c × (s.opened p).guid ≡ Some g
@@ -48,151 +39,151 @@ ended_numbers s session is_quiet y left h = subst (λ n. 0 < y × y < n) left.ne
 
 end_session_attached : (s : Server) (session : ℕ) (now : ℕ) (is_quiet : Bool) → Attached s → Attached (end_session s session now is_quiet)
 unfolding exists
-end_session_attached s session now is_quiet  i_attached =
+end_session_attached s session now is_quiet i_attached =
     λ p x. let old = i_attached p x in grind arith
 
 end_session_plain_attached : (s : Server) (session : ℕ) (now : ℕ) (is_quiet : Bool) → PlainAttached s → PlainAttached (end_session s session now is_quiet)
 unfolding exists
-end_session_plain_attached s session now is_quiet  i_plain_attached =
+end_session_plain_attached s session now is_quiet i_plain_attached =
     λ p. let old = i_plain_attached p in grind arith
 
 end_session_guid_open : (s : Server) (session : ℕ) (now : ℕ) (is_quiet : Bool) → GuidOpen s → GuidOpen (end_session s session now is_quiet)
 unfolding exists
-end_session_guid_open s session now is_quiet  i_guid_open =
+end_session_guid_open s session now is_quiet i_guid_open =
     λ c g p. ended_guid s session c g p i_guid_open (s.by_guid c g) refl
 
 end_session_open_guid : (s : Server) (session : ℕ) (now : ℕ) (is_quiet : Bool) → OpenGuid s → OpenGuid (end_session s session now is_quiet)
 unfolding exists
-end_session_open_guid s session now is_quiet  i_open_guid =
+end_session_open_guid s session now is_quiet i_open_guid =
     λ p g. let old = i_open_guid p g in ended_named s session p g old
 
 end_session_persistent_guid : (s : Server) (session : ℕ) (now : ℕ) (is_quiet : Bool) → PersistentGuid s → PersistentGuid (end_session s session now is_quiet)
 unfolding exists
-end_session_persistent_guid s session now is_quiet  i_persistent_guid =
+end_session_persistent_guid s session now is_quiet i_persistent_guid =
     λ p. let old = i_persistent_guid p in grind arith
 
 end_session_deadlines : (s : Server) (session : ℕ) (now : ℕ) (is_quiet : Bool) → Deadlines s → Deadlines (end_session s session now is_quiet)
 unfolding exists
-end_session_deadlines s session now is_quiet  i_deadlines =
+end_session_deadlines s session now is_quiet i_deadlines =
     λ p d. dated_end session now (s.opened p) (s.at p) (s.deadline p) d (i_deadlines p)
 
 end_session_listed : (s : Server) (session : ℕ) (now : ℕ) (is_quiet : Bool) → Listed s → Listed (end_session s session now is_quiet)
 unfolding exists
-end_session_listed s session now is_quiet  i_listed =
+end_session_listed s session now is_quiet i_listed =
     λ p. let old = i_listed p in has-staying s session p s.opens ∙ (grind arith)
 
 end_session_ascending : (s : Server) (session : ℕ) (now : ℕ) (is_quiet : Bool) → Ascending s → Ascending (end_session s session now is_quiet)
 unfolding exists
-end_session_ascending s session now is_quiet  i_ascending =
+end_session_ascending s session now is_quiet i_ascending =
     ascending-staying s session s.opens i_ascending
 
 end_session_open_ids : (s : Server) (session : ℕ) (now : ℕ) (is_quiet : Bool) → OpenIds s → OpenIds (end_session s session now is_quiet)
 unfolding exists
-end_session_open_ids s session now is_quiet  i_open_ids =
+end_session_open_ids s session now is_quiet i_open_ids =
     λ p. let old = i_open_ids p in grind arith
 
 end_session_session_ids : (s : Server) (session : ℕ) (now : ℕ) (is_quiet : Bool) → SessionIds s → SessionIds (end_session s session now is_quiet)
 unfolding exists
-end_session_session_ids s session now is_quiet  i_session_ids =
+end_session_session_ids s session now is_quiet i_session_ids =
     λ x. let old = i_session_ids x in grind arith
 
 end_session_making_ids : (s : Server) (session : ℕ) (now : ℕ) (is_quiet : Bool) → MakingIds s → MakingIds (end_session s session now is_quiet)
 unfolding exists
-end_session_making_ids s session now is_quiet  i_making_ids =
+end_session_making_ids s session now is_quiet i_making_ids =
     λ k x. let old = i_making_ids k x in grind arith
 
 end_session_on_present : (s : Server) (session : ℕ) (now : ℕ) (is_quiet : Bool) → OnPresent s → OnPresent (end_session s session now is_quiet)
 unfolding exists
-end_session_on_present s session now is_quiet  i_on_present =
+end_session_on_present s session now is_quiet i_on_present =
     λ k x. let old = i_on_present k x in grind arith
 
 end_session_on_made : (s : Server) (session : ℕ) (now : ℕ) (is_quiet : Bool) → OnMade s → OnMade (end_session s session now is_quiet)
 unfolding exists
-end_session_on_made s session now is_quiet  i_on_made =
+end_session_on_made s session now is_quiet i_on_made =
     λ k x. let old = i_on_made k x in grind arith
 
 end_session_no_trees : (s : Server) (session : ℕ) (now : ℕ) (is_quiet : Bool) → NoTrees s → NoTrees (end_session s session now is_quiet)
 unfolding exists
-end_session_no_trees s session now is_quiet  i_no_trees =
+end_session_no_trees s session now is_quiet i_no_trees =
     λ x. let old = i_no_trees x in grind arith
 
 end_session_no_closed : (s : Server) (session : ℕ) (now : ℕ) (is_quiet : Bool) → NoClosed s → NoClosed (end_session s session now is_quiet)
 unfolding exists
-end_session_no_closed s session now is_quiet  i_no_closed =
+end_session_no_closed s session now is_quiet i_no_closed =
     λ x g. let old = i_no_closed x g in grind arith
 
 end_session_no_refused : (s : Server) (session : ℕ) (now : ℕ) (is_quiet : Bool) → NoRefused s → NoRefused (end_session s session now is_quiet)
 unfolding exists
-end_session_no_refused s session now is_quiet  i_no_refused =
+end_session_no_refused s session now is_quiet i_no_refused =
     λ x g. let old = i_no_refused x g in grind arith
 
 end_session_no_guids : (s : Server) (session : ℕ) (now : ℕ) (is_quiet : Bool) → NoGuids s → NoGuids (end_session s session now is_quiet)
 unfolding exists
-end_session_no_guids s session now is_quiet  i_no_guids =
+end_session_no_guids s session now is_quiet i_no_guids =
     λ x. let old = i_no_guids x in grind arith
 
 end_session_next_tree : (s : Server) (session : ℕ) (now : ℕ) (is_quiet : Bool) → NextTree s → NextTree (end_session s session now is_quiet)
 unfolding exists
-end_session_next_tree s session now is_quiet  i_next_tree =
+end_session_next_tree s session now is_quiet i_next_tree =
     λ x. let old = i_next_tree x in grind arith
 
 end_session_tree_ids : (s : Server) (session : ℕ) (now : ℕ) (is_quiet : Bool) → TreeIds s → TreeIds (end_session s session now is_quiet)
 unfolding exists
-end_session_tree_ids s session now is_quiet  i_tree_ids =
+end_session_tree_ids s session now is_quiet i_tree_ids =
     λ x n t. let old = i_tree_ids x n t in grind arith
 
 end_session_range_owners : (s : Server) (session : ℕ) (now : ℕ) (is_quiet : Bool) → RangeOwners s → RangeOwners (end_session s session now is_quiet)
 unfolding exists
-end_session_range_owners s session now is_quiet  i_range_owners =
+end_session_range_owners s session now is_quiet i_range_owners =
     λ y n r h. let f = ranges_staying-from s session (s.ranges y) n r h in let was = i_range_owners y f.1.0 r f.1.1 in let stays = f.0 in grind arith
 
 end_session_root_unmarked : (s : Server) (session : ℕ) (now : ℕ) (is_quiet : Bool) → RootUnmarked s → OpenFiles s → Listed s → FileNumbers s → NotRoot s → RootUnmarked (end_session s session now is_quiet)
 unfolding exists
-end_session_root_unmarked s session now is_quiet  i_root_unmarked i_open_files i_listed i_file_numbers i_not_root =
+end_session_root_unmarked s session now is_quiet i_root_unmarked i_open_files i_listed i_file_numbers i_not_root =
     (files_left s session is_quiet i_listed i_open_files i_file_numbers i_not_root i_root_unmarked).unmarked
 
 end_session_open_files : (s : Server) (session : ℕ) (now : ℕ) (is_quiet : Bool) → OpenFiles s → Listed s → FileNumbers s → NotRoot s → RootUnmarked s → OpenFiles (end_session s session now is_quiet)
 unfolding exists
-end_session_open_files s session now is_quiet  i_open_files i_listed i_file_numbers i_not_root i_root_unmarked =
+end_session_open_files s session now is_quiet i_open_files i_listed i_file_numbers i_not_root i_root_unmarked =
     λ p st. ended_files s session is_quiet p (files_left s session is_quiet i_listed i_open_files i_file_numbers i_not_root i_root_unmarked) st
 
 end_session_file_numbers : (s : Server) (session : ℕ) (now : ℕ) (is_quiet : Bool) → FileNumbers s → OpenFiles s → Listed s → NotRoot s → RootUnmarked s → FileNumbers (end_session s session now is_quiet)
 unfolding exists
-end_session_file_numbers s session now is_quiet  i_file_numbers i_open_files i_listed i_not_root i_root_unmarked =
+end_session_file_numbers s session now is_quiet i_file_numbers i_open_files i_listed i_not_root i_root_unmarked =
     λ y h. ended_numbers s session is_quiet y (files_left s session is_quiet i_listed i_open_files i_file_numbers i_not_root i_root_unmarked) h
 
 -- a session ends: its plain opens leave, and what it kept is forgotten
 pub end_session_keeps : (s : Server) (session : ℕ) (now : ℕ) (is_quiet : Bool) → Fits s → Fits (end_session s session now is_quiet)
 unfolding exists
-end_session_keeps s session now is_quiet  i =
+end_session_keeps s session now is_quiet i =
     record {
-      attached = end_session_attached s session now is_quiet  i.attached;
-      plain_attached = end_session_plain_attached s session now is_quiet  i.plain_attached;
-      guid_open = end_session_guid_open s session now is_quiet  i.guid_open;
-      open_guid = end_session_open_guid s session now is_quiet  i.open_guid;
-      persistent_guid = end_session_persistent_guid s session now is_quiet  i.persistent_guid;
-      deadlines = end_session_deadlines s session now is_quiet  i.deadlines;
-      listed = end_session_listed s session now is_quiet  i.listed;
-      ascending = end_session_ascending s session now is_quiet  i.ascending;
-      open_ids = end_session_open_ids s session now is_quiet  i.open_ids;
+      attached = end_session_attached s session now is_quiet i.attached;
+      plain_attached = end_session_plain_attached s session now is_quiet i.plain_attached;
+      guid_open = end_session_guid_open s session now is_quiet i.guid_open;
+      open_guid = end_session_open_guid s session now is_quiet i.open_guid;
+      persistent_guid = end_session_persistent_guid s session now is_quiet i.persistent_guid;
+      deadlines = end_session_deadlines s session now is_quiet i.deadlines;
+      listed = end_session_listed s session now is_quiet i.listed;
+      ascending = end_session_ascending s session now is_quiet i.ascending;
+      open_ids = end_session_open_ids s session now is_quiet i.open_ids;
       given = i.given;
       begun = i.begun;
-      session_ids = end_session_session_ids s session now is_quiet  i.session_ids;
-      making_ids = end_session_making_ids s session now is_quiet  i.making_ids;
+      session_ids = end_session_session_ids s session now is_quiet i.session_ids;
+      making_ids = end_session_making_ids s session now is_quiet i.making_ids;
       making_once = i.making_once;
-      on_present = end_session_on_present s session now is_quiet  i.on_present;
-      on_made = end_session_on_made s session now is_quiet  i.on_made;
-      no_trees = end_session_no_trees s session now is_quiet  i.no_trees;
-      no_closed = end_session_no_closed s session now is_quiet  i.no_closed;
-      no_refused = end_session_no_refused s session now is_quiet  i.no_refused;
-      no_guids = end_session_no_guids s session now is_quiet  i.no_guids;
-      next_tree = end_session_next_tree s session now is_quiet  i.next_tree;
-      tree_ids = end_session_tree_ids s session now is_quiet  i.tree_ids;
-      range_owners = end_session_range_owners s session now is_quiet  i.range_owners;
+      on_present = end_session_on_present s session now is_quiet i.on_present;
+      on_made = end_session_on_made s session now is_quiet i.on_made;
+      no_trees = end_session_no_trees s session now is_quiet i.no_trees;
+      no_closed = end_session_no_closed s session now is_quiet i.no_closed;
+      no_refused = end_session_no_refused s session now is_quiet i.no_refused;
+      no_guids = end_session_no_guids s session now is_quiet i.no_guids;
+      next_tree = end_session_next_tree s session now is_quiet i.next_tree;
+      tree_ids = end_session_tree_ids s session now is_quiet i.tree_ids;
+      range_owners = end_session_range_owners s session now is_quiet i.range_owners;
       not_root = i.not_root;
-      root_unmarked = end_session_root_unmarked s session now is_quiet  i.root_unmarked i.open_files i.listed i.file_numbers i.not_root;
-      open_files = end_session_open_files s session now is_quiet  i.open_files i.listed i.file_numbers i.not_root i.root_unmarked;
+      root_unmarked = end_session_root_unmarked s session now is_quiet i.root_unmarked i.open_files i.listed i.file_numbers i.not_root;
+      open_files = end_session_open_files s session now is_quiet i.open_files i.listed i.file_numbers i.not_root i.root_unmarked;
       next_file = i.next_file;
-      file_numbers = end_session_file_numbers s session now is_quiet  i.file_numbers i.open_files i.listed i.not_root i.root_unmarked;
-      room = i.room
+      file_numbers = end_session_file_numbers s session now is_quiet i.file_numbers i.open_files i.listed i.not_root i.root_unmarked;
+      room = i.room;
     }

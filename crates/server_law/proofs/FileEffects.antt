@@ -1,50 +1,41 @@
 -- A file is made, with the next number; a file is marked or unmarked, and not the root; a file goes that no open has; a file has another path, and what no open has goes for it; a file's ranges are others, of opens that stand at it.
-use Rattle.std.proofs.Common.{◌≡◌, ◌≢◌, ◌⊎◌, inl, inr, ℕ, ◌+◌, ◌*◌, ◌≤◌, ◌<◌, ◌==◌, nat_lt, nat_le, Bool, true, false, not, ◌&&◌, ◌||◌, if◌then◌else◌, List, [], ◌∷◌, ◌++◌, length, refl, arith, sym, subst, ◌∙◌, ap, eqb-true, Option, Some, None, is_some, slice_get}
-use Rattle.std.proofs.lemmas.Bool.{eqb-false}
+use Rattle.std.proofs.Common.{◌≡◌, ◌≢◌, ℕ, ◌==◌, Bool, true, false, ◌||◌, List, refl, arith, sym, ◌∙◌, Option, Some, None, slice_get}
 use Rattle.std.proofs.lemmas.Bool.Decides.{nat_tests}
-use Rattle.exchange_defs.specs.Table.{put, put2, is_at, has, without, placed_in, is_filled}
-use Rattle.exchange_defs.specs.Commands.{Basic, SetupRequest, deletes_on_close}
-use Rattle.exchange_defs.specs.State.{Server, Message, Open, Range, Tree, Entry, Kept, Making, NewSession, Binding, Address}
-use Rattle.exchange_defs.specs.Files.{root, exists, exists_in, make_file, mark_file, remove_file, rename_file, without_target, without_file, moved_entries, path_of, is_full_directory, is_directory, times_at}
-use Rattle.exchange_defs.specs.Opens.{id_of, max_ids, with_guid, add_open, drop_open, file_has_open, goes}
-use Rattle.exchange_defs.specs.Ranges.{without_owner}
-use Rattle.exchange_defs.specs.Fold.{full_room}
-use Rattle.exchange_defs.specs.Effects.{leaves, end_session, files_behind, staying_in, ranges_staying, guid_staying, cleared, dated, without_tree, next_session, add_tree, add_session, join_session, attach, keep_refusal, set_ranges}
-use Rattle.exchange_defs.specs.Step.{first_deadline, with_deadlines, forget_connection}
-use Rattle.server_law.specs.Fits.{Fits, is_ascending, Attached, PlainAttached, GuidOpen, OpenGuid, PersistentGuid, Deadlines, Listed, Ascending, OpenIds, Given, Begun, SessionIds, MakingIds, MakingOnce, OnPresent, OnMade, NoTrees, NoClosed, NoRefused, NoGuids, NextTree, TreeIds, RangeOwners, NotRoot, RootUnmarked, OpenFiles, NextFile, FileNumbers, Room}
-use Rattle.server_law.proofs.Logic.{either, front_of, back_of, both, front_off, back_off, other_off, other_on, not_true, not_false, none_of, at_of}
-use Rattle.server_law.proofs.Lists.{has-placed, has-without, has-staying, has-plain, ascending-placed, ascending-without, ascending-staying, none-open, Among, From, NotOf, Stays, AnyTree, without_owner-from, ranges_staying-from, pushed-from, exists-pushed, exists-without, exists-moved, without_tree-from}
-
+use Rattle.exchange_defs.specs.State.{Server, Range, Entry}
+use Rattle.exchange_defs.specs.Files.{root, exists, exists_in, make_file, mark_file, remove_file, rename_file, without_target, moved_entries, path_of}
+use Rattle.exchange_defs.specs.Effects.{set_ranges}
+use Rattle.server_law.specs.Fits.{Fits, RangeOwners, RootUnmarked, OpenFiles, NextFile, FileNumbers}
+use Rattle.server_law.proofs.Lists.{exists-pushed, exists-without, exists-moved}
 
 make_file_range_owners : (s : Server) (path : List ℕ) (is_dir : Bool) (attributes : ℕ) (now : ℕ) → RangeOwners s → RangeOwners (make_file s path is_dir attributes now)
 unfolding exists
-make_file_range_owners s path is_dir attributes now  i_range_owners =
+make_file_range_owners s path is_dir attributes now i_range_owners =
     λ y n r. let old = i_range_owners y n r in grind arith
 
 make_file_root_unmarked : (s : Server) (path : List ℕ) (is_dir : Bool) (attributes : ℕ) (now : ℕ) → RootUnmarked s → RootUnmarked (make_file s path is_dir attributes now)
 unfolding exists
-make_file_root_unmarked s path is_dir attributes now  i_root_unmarked =
+make_file_root_unmarked s path is_dir attributes now i_root_unmarked =
     grind arith
 
 make_file_open_files : (s : Server) (path : List ℕ) (is_dir : Bool) (attributes : ℕ) (now : ℕ) → OpenFiles s → OpenFiles (make_file s path is_dir attributes now)
 unfolding exists
-make_file_open_files s path is_dir attributes now  i_open_files =
+make_file_open_files s path is_dir attributes now i_open_files =
     λ p st. let old = i_open_files p st in let more = exists-pushed s.entries (record { file = s.next_file; path = path }) (s.opened p).file in grind arith
 
 make_file_next_file : (s : Server) (path : List ℕ) (is_dir : Bool) (attributes : ℕ) (now : ℕ) → NextFile s → NextFile (make_file s path is_dir attributes now)
 unfolding exists
-make_file_next_file s path is_dir attributes now  i_next_file =
+make_file_next_file s path is_dir attributes now i_next_file =
     grind arith
 
 make_file_file_numbers : (s : Server) (path : List ℕ) (is_dir : Bool) (attributes : ℕ) (now : ℕ) → FileNumbers s → NextFile s → FileNumbers (make_file s path is_dir attributes now)
 unfolding exists
-make_file_file_numbers s path is_dir attributes now  i_file_numbers i_next_file =
+make_file_file_numbers s path is_dir attributes now i_file_numbers i_next_file =
     λ y. let old = i_file_numbers y in let more = exists-pushed s.entries (record { file = s.next_file; path = path }) y in grind (arith, nat_tests)
 
 -- a file is made, with the next number
 pub make_file_keeps : (s : Server) (path : List ℕ) (is_dir : Bool) (attributes : ℕ) (now : ℕ) → Fits s → Fits (make_file s path is_dir attributes now)
 unfolding exists
-make_file_keeps s path is_dir attributes now  i =
+make_file_keeps s path is_dir attributes now i =
     record {
       attached = i.attached;
       plain_attached = i.plain_attached;
@@ -68,15 +59,14 @@ make_file_keeps s path is_dir attributes now  i =
       no_guids = i.no_guids;
       next_tree = i.next_tree;
       tree_ids = i.tree_ids;
-      range_owners = make_file_range_owners s path is_dir attributes now  i.range_owners;
+      range_owners = make_file_range_owners s path is_dir attributes now i.range_owners;
       not_root = i.not_root;
-      root_unmarked = make_file_root_unmarked s path is_dir attributes now  i.root_unmarked;
-      open_files = make_file_open_files s path is_dir attributes now  i.open_files;
-      next_file = make_file_next_file s path is_dir attributes now  i.next_file;
-      file_numbers = make_file_file_numbers s path is_dir attributes now  i.file_numbers i.next_file;
-      room = i.room
+      root_unmarked = make_file_root_unmarked s path is_dir attributes now i.root_unmarked;
+      open_files = make_file_open_files s path is_dir attributes now i.open_files;
+      next_file = make_file_next_file s path is_dir attributes now i.next_file;
+      file_numbers = make_file_file_numbers s path is_dir attributes now i.file_numbers i.next_file;
+      room = i.room;
     }
-
 
 mark_file_root_unmarked : (s : Server) (f : ℕ) (flag : Bool) → (flag ≡ true → f ≢ root) → RootUnmarked s → RootUnmarked (mark_file s f flag)
 unfolding exists
@@ -116,9 +106,8 @@ mark_file_keeps s f flag other i =
       open_files = i.open_files;
       next_file = i.next_file;
       file_numbers = i.file_numbers;
-      room = i.room
+      room = i.room;
     }
-
 
 remove_file_open_files : (s : Server) (f : ℕ) → ((p : ℕ) → s.standing p ≡ true → ((s.opened p).file == f) ≡ false) → OpenFiles s → OpenFiles (remove_file s f)
 unfolding exists
@@ -163,9 +152,8 @@ remove_file_keeps s f unopened i =
       open_files = remove_file_open_files s f unopened i.open_files;
       next_file = i.next_file;
       file_numbers = remove_file_file_numbers s f unopened i.file_numbers;
-      room = i.room
+      room = i.room;
     }
-
 
 without_target-was : (es : List Entry) (y : ℕ) (replaced : Option ℕ) → exists_in (without_target replaced es) y ≡ true → exists_in es y ≡ true
 unfolding without_target
@@ -228,9 +216,8 @@ rename_file_keeps s f replaced to unopened i =
       open_files = rename_file_open_files s f replaced to unopened i.open_files;
       next_file = i.next_file;
       file_numbers = rename_file_file_numbers s f replaced to unopened i.file_numbers;
-      room = i.room
+      room = i.room;
     }
-
 
 set_ranges_range_owners : (s : Server) (f : ℕ) (ranges : List Range) → ((n : ℕ) (r : Range) → slice_get ranges n ≡ Some r → s.standing r.owner ≡ true × (s.opened r.owner).file ≡ f) → RangeOwners s → RangeOwners (set_ranges s f ranges)
 unfolding exists
@@ -270,5 +257,5 @@ set_ranges_keeps s f ranges own i =
       open_files = i.open_files;
       next_file = i.next_file;
       file_numbers = i.file_numbers;
-      room = i.room
+      room = i.room;
     }

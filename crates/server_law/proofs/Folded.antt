@@ -1,23 +1,21 @@
 -- Each record of the journal keeps what fits together, and so does the state that a restart finds.
-use Rattle.std.proofs.Common.{◌≡◌, ◌≢◌, ◌⊎◌, inl, inr, ℕ, ◌+◌, ◌*◌, ◌/◌, ◌%◌, ◌≤◌, ◌<◌, ◌==◌, nat_lt, nat_le, max, Bool, true, false, not, ◌&&◌, ◌||◌, if◌then◌else◌, List, [], ◌∷◌, ◌++◌, length, refl, arith, sym, subst, ◌∙◌, ap, eqb-true, Option, Some, None, is_some, slice_get}
+use Rattle.std.proofs.Common.{◌≡◌, ◌≢◌, ℕ, ◌+◌, ◌/◌, ◌%◌, ◌≤◌, ◌<◌, ◌==◌, nat_lt, nat_le, max, Bool, true, false, not, ◌&&◌, ◌||◌, List, [], ◌∷◌, ◌++◌, length, refl, arith, sym, subst, ◌∙◌, eqb-true, Option, Some, None, is_some}
 use Rattle.std.proofs.lemmas.Bool.{eqb-false}
 use Rattle.std.proofs.lemmas.Bool.Decides.{nat_tests}
-use Rattle.exchange_defs.specs.Table.{put, has}
 use Rattle.exchange_defs.specs.Status.{success}
 use Rattle.exchange_defs.specs.Texts.{is_path, is_below}
 use Rattle.exchange_defs.specs.Content.{written, ended, is_empty}
 use Rattle.exchange_defs.specs.Commands.{Element, all_lock, all_unlock, deletes_on_close}
-use Rattle.exchange_defs.specs.State.{Server, Open, Entry, Range, Record, NewOpen, EpochRecord, CreateRecord, WriteRecord, EndRecord, BasicRecord, DeleteRecord, RenameRecord, RemoveRecord, LockRecord, ShutRecord, VersionRecord, ExpireRecord}
-use Rattle.exchange_defs.specs.Files.{root, find, path_of, exists, exists_in, is_directory, has_parent, is_full_directory, passes_room, make_file, set_content, empty_file, mark_file, store_basic, remove_file, rename_file}
+use Rattle.exchange_defs.specs.State.{Server, Entry, Record, NewOpen, EpochRecord, CreateRecord, WriteRecord, EndRecord, BasicRecord, DeleteRecord, RenameRecord, RemoveRecord, LockRecord, ShutRecord, VersionRecord, ExpireRecord}
+use Rattle.exchange_defs.specs.Files.{root, find, path_of, exists, exists_in, is_directory, has_parent, passes_room, make_file, empty_file, mark_file}
 use Rattle.exchange_defs.specs.Ranges.{RangeAnswer, Stands, Denied, change_ranges}
-use Rattle.exchange_defs.specs.Opens.{id_of, max_ids, add_open, drop_open, marked_by, file_has_open, without_gone, goes}
-use Rattle.exchange_defs.specs.CheckCreate.{max_opens, max_files, last_file}
+use Rattle.exchange_defs.specs.Opens.{id_of, max_ids, drop_open, file_has_open, without_gone, goes}
 use Rattle.exchange_defs.specs.CheckOpen.{target_of, file_of}
 use Rattle.exchange_defs.specs.Records.{entry_bytes}
-use Rattle.exchange_defs.specs.Step.{add_mark, max_marks}
-use Rattle.exchange_defs.specs.Fold.{nothing_yet, full_room, sweep, begin_epoch, set_version, may_make, may_restore, may_have_open, may_create, restored_row, restore, created_file, is_file, same_target, may_replace, may_rename, may_remove, lock_granted, lock_recorded, shut_recorded, with_record, fold_from, fold, recovery_records, recovered}
+use Rattle.exchange_defs.specs.Step.{max_marks}
+use Rattle.exchange_defs.specs.Fold.{nothing_yet, full_room, sweep, begin_epoch, may_make, may_restore, may_have_open, may_create, restored_row, restore, created_file, is_file, same_target, may_replace, may_rename, may_remove, lock_granted, lock_recorded, shut_recorded, with_record, fold_from, fold, recovery_records, recovered}
 use Rattle.server_law.specs.Fits.{Fits, Listed, is_sound, all_sound, keeps_root}
-use Rattle.server_law.proofs.Logic.{either, front_of, back_of, both, front_off, back_off, not_true, not_false, none_of}
+use Rattle.server_law.proofs.Logic.{either, front_of, back_of, both, not_true, none_of}
 use Rattle.server_law.proofs.Lists.{exists-pushed}
 use Rattle.server_law.proofs.AddOpen.{add_open_keeps}
 use Rattle.server_law.proofs.DropOpen.{drop_open_keeps}

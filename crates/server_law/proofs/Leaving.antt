@@ -1,11 +1,11 @@
 -- Opens that leave one after the other: their files go, but for those that another open has.
-use Rattle.std.proofs.Common.{◌≡◌, ◌≢◌, ℕ, ◌+◌, ◌<◌, ◌==◌, Bool, true, false, not, ◌&&◌, ◌||◌, if◌then◌else◌, List, [], ◌∷◌, refl, arith, sym, subst, ◌∙◌, ap, Option, Some, None, is_some}
-use Rattle.exchange_defs.specs.Table.{put, has, without}
+use Rattle.std.proofs.Common.{◌≡◌, ◌≢◌, ℕ, ◌==◌, Bool, true, false, not, ◌&&◌, List, [], ◌∷◌, refl, arith, sym, subst, ◌∙◌}
+use Rattle.exchange_defs.specs.Table.{put, has}
 use Rattle.exchange_defs.specs.Commands.{deletes_on_close}
-use Rattle.exchange_defs.specs.State.{Server, Open}
-use Rattle.exchange_defs.specs.Files.{root, exists, exists_in, mark_file, remove_file, is_full_directory}
-use Rattle.exchange_defs.specs.Opens.{drop_open, file_has_open, goes, without_gone, marked_by, leave_open}
-use Rattle.exchange_defs.specs.Effects.{leaves, plain_in, plain_of, leave_all, files_behind}
+use Rattle.exchange_defs.specs.State.{Server}
+use Rattle.exchange_defs.specs.Files.{root, exists, mark_file, remove_file, is_full_directory}
+use Rattle.exchange_defs.specs.Opens.{drop_open, file_has_open, goes, without_gone, leave_open}
+use Rattle.exchange_defs.specs.Effects.{leaves, plain_of, leave_all, files_behind}
 use Rattle.server_law.specs.Fits.{Fits, Listed, OpenFiles, FileNumbers, NotRoot}
 use Rattle.server_law.proofs.Logic.{either, front_of, back_of, not_true}
 use Rattle.server_law.proofs.Lists.{has-without, has-plain, none-open, exists-without}

@@ -1,15 +1,14 @@
 -- The lists beside the tables: opens, ranges, files and trees, behind what adds to them or takes from them.
-use Rattle.std.proofs.Common.{◌≡◌, ◌≢◌, ◌⊎◌, inl, inr, ℕ, ◌+◌, ◌<◌, ◌==◌, nat_lt, Bool, true, false, not, ◌&&◌, ◌||◌, if◌then◌else◌, List, [], ◌∷◌, ◌++◌, length, refl, arith, sym, subst, ◌∙◌, ap, eqb-true, Option, Some, None, is_some, slice_get, zero, suc}
-use Rattle.std.proofs.lemmas.Bool.{eqb-false}
+use Rattle.std.proofs.Common.{◌≡◌, ◌⊎◌, inl, inr, ℕ, ◌+◌, ◌==◌, nat_lt, Bool, true, false, not, ◌&&◌, ◌||◌, if◌then◌else◌, List, [], ◌∷◌, ◌++◌, length, refl, arith, sym, subst, Option, Some, None, slice_get, zero, suc}
 use Rattle.std.proofs.lemmas.Bool.Decides.{nat_tests}
-use Rattle.exchange_defs.specs.Table.{has, without, placed_in, is_filled, is_at}
+use Rattle.exchange_defs.specs.Table.{has, without, placed_in, is_filled}
 use Rattle.exchange_defs.specs.Commands.{Element, all_lock}
 use Rattle.exchange_defs.specs.State.{Server, Entry, Open, Range, Tree}
-use Rattle.exchange_defs.specs.Files.{exists_in, without_file, moved_entry, moved_entries, without_target}
-use Rattle.exchange_defs.specs.Ranges.{RangeAnswer, Stands, Denied, ranges_of, is_denied, any_wraps, count_owned, max_ranges, add_ranges, is_equal_range, prepended, take_range, take_ranges, stands_or, lock_ranges, unlock_ranges, change_ranges, without_owner}
-use Rattle.exchange_defs.specs.Opens.{opens_in, file_has_open}
+use Rattle.exchange_defs.specs.Files.{exists_in, without_file, moved_entry, moved_entries}
+use Rattle.exchange_defs.specs.Ranges.{RangeAnswer, Stands, ranges_of, is_denied, any_wraps, count_owned, max_ranges, add_ranges, is_equal_range, prepended, take_range, take_ranges, stands_or, lock_ranges, unlock_ranges, change_ranges, without_owner}
+use Rattle.exchange_defs.specs.Opens.{opens_in}
 use Rattle.exchange_defs.specs.Effects.{leaves, plain_in, staying_in, ranges_staying, without_tree}
-use Rattle.exchange_defs.specs.Step.{due_in, is_past}
+use Rattle.exchange_defs.specs.Step.{due_in}
 use Rattle.server_law.specs.Fits.{is_ascending}
 use Rattle.server_law.proofs.Logic.{either, front_of, back_of, both}
 

@@ -1,13 +1,13 @@
 -- Each event keeps what fits together of the server, and so does each run.
-use Rattle.std.proofs.Common.{◌≡◌, ℕ, ◌≤◌, min, Bool, true, false, not, ◌&&◌, if◌then◌else◌, List, [], ◌∷◌, ◌++◌, refl, arith, sym, subst, ◌∙◌, ap, Option, Some, None, is_some}
+use Rattle.std.proofs.Common.{◌≡◌, ℕ, ◌≤◌, min, Bool, true, false, List, [], ◌∷◌, ◌++◌, arith}
 use Rattle.exchange_defs.specs.Commands.{Command, Unreadable, Aside, Setup, Logoff, TreeConnect, TreeDisconnect, Create, Close, Flush, Read, Write, Lock, Ioctl, ListDirectory, QueryFile, QueryVolume, SetInfo}
-use Rattle.exchange_defs.specs.State.{Server, Message, Accept, Heard, End, Record, Answer, Reply}
-use Rattle.exchange_defs.specs.Fold.{recovered, recovery_records, full_room}
+use Rattle.exchange_defs.specs.State.{Server, Message, Accept, Heard, End, Answer, Reply}
+use Rattle.exchange_defs.specs.Fold.{recovery_records, full_room}
 use Rattle.exchange_defs.specs.Step.{step}
 use Rattle.exchange_defs.specs.Client.{Client}
-use Rattle.exchange_defs.specs.ClientStep.{Pick, Act, Nothing, Sends, Asks, CloseChannels, AllSettled}
+use Rattle.exchange_defs.specs.ClientStep.{Act, Nothing, Sends, Asks, CloseChannels, AllSettled}
 use Rattle.exchange_defs.specs.Dialogs.{DialogStep, GoesOn, Accepts, Binds, Readies, Refuses, dialog_step}
-use Rattle.exchange_defs.specs.Network.{World, Event, Submit, Open, Push, Serve, Take, Cut, Drop, Restart, Crash, Wait, Finish, Conn, Sent, Received, Token, ForDialog, ForOp, ForAttach, happens, run, start, Settings, blank_server, changed, later, moments, is_possible, pushed_by, pushed, answer, answer_to, serve_front, served, absorb_front, crashed, restarted, take_reply, behind_reply, taken, took_by, dialog_took, op_took, closed_by, cut_by, cut_off, opened, dropped}
+use Rattle.exchange_defs.specs.Network.{World, Event, Submit, Open, Push, Serve, Take, Cut, Drop, Restart, Crash, Wait, Finish, Sent, Received, Token, ForDialog, ForOp, ForAttach, happens, run, start, Settings, blank_server, changed, is_possible, pushed_by, answer, answer_to, serve_front, absorb_front, crashed, restarted, take_reply, behind_reply, took_by, dialog_took, closed_by, cut_by, cut_off}
 use Rattle.server_law.specs.Fits.{Fits, all_sound}
 use Rattle.server_law.proofs.Logic.{either}
 use Rattle.server_law.proofs.Folded.{sound_more, sound_none, sound_recovery, recovered_fits}

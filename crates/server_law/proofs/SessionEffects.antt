@@ -1,20 +1,15 @@
 -- An open that stands becomes a session's; a session keeps a refusal; a session keeps that an open was closed; a session is in the making, with the next id; a binding is in the making; a session begins that was in the making; a session that is there has a further connection; a session has a further tree; a session has a tree less; a connection is forgotten; an open without a session gets its deadline; a new epoch begins, in which no id was given; the configuration is another; what nothing here reads is other.
-use Rattle.std.proofs.Common.{◌≡◌, ◌≢◌, ◌⊎◌, inl, inr, ℕ, ◌+◌, ◌*◌, ◌≤◌, ◌<◌, ◌==◌, nat_lt, nat_le, Bool, true, false, not, ◌&&◌, ◌||◌, if◌then◌else◌, List, [], ◌∷◌, ◌++◌, length, refl, arith, sym, subst, ◌∙◌, ap, eqb-true, Option, Some, None, is_some, slice_get}
-use Rattle.std.proofs.lemmas.Bool.{eqb-false}
-use Rattle.std.proofs.lemmas.Bool.Decides.{nat_tests}
-use Rattle.exchange_defs.specs.Table.{put, put2, is_at, has, without, placed_in, is_filled}
-use Rattle.exchange_defs.specs.Commands.{Basic, SetupRequest, deletes_on_close}
-use Rattle.exchange_defs.specs.State.{Server, Message, Open, Range, Tree, Entry, Kept, Making, NewSession, Binding, Address}
-use Rattle.exchange_defs.specs.Files.{root, exists, exists_in, make_file, mark_file, remove_file, rename_file, without_target, without_file, moved_entries, path_of, is_full_directory, is_directory, times_at}
-use Rattle.exchange_defs.specs.Opens.{id_of, max_ids, with_guid, add_open, drop_open, file_has_open, goes}
-use Rattle.exchange_defs.specs.Ranges.{without_owner}
+use Rattle.std.proofs.Common.{◌≡◌, inl, inr, ℕ, ◌+◌, ◌≤◌, ◌<◌, ◌==◌, Bool, true, false, if◌then◌else◌, List, [], ◌∷◌, ◌++◌, refl, arith, eqb-true, Option, Some, None, slice_get}
+use Rattle.exchange_defs.specs.Table.{put, put2}
+use Rattle.exchange_defs.specs.Commands.{Basic, SetupRequest}
+use Rattle.exchange_defs.specs.State.{Server, Message, Open, Tree, Kept, NewSession, Binding, Address}
+use Rattle.exchange_defs.specs.Files.{exists}
+use Rattle.exchange_defs.specs.Opens.{max_ids}
 use Rattle.exchange_defs.specs.Fold.{full_room}
-use Rattle.exchange_defs.specs.Effects.{leaves, end_session, files_behind, staying_in, ranges_staying, guid_staying, cleared, dated, without_tree, next_session, add_tree, add_session, join_session, attach, keep_refusal, set_ranges}
+use Rattle.exchange_defs.specs.Effects.{without_tree, next_session, add_tree, add_session, join_session, attach, keep_refusal}
 use Rattle.exchange_defs.specs.Step.{first_deadline, with_deadlines, forget_connection}
-use Rattle.server_law.specs.Fits.{Fits, is_ascending, Attached, PlainAttached, GuidOpen, OpenGuid, PersistentGuid, Deadlines, Listed, Ascending, OpenIds, Given, Begun, SessionIds, MakingIds, MakingOnce, OnPresent, OnMade, NoTrees, NoClosed, NoRefused, NoGuids, NextTree, TreeIds, RangeOwners, NotRoot, RootUnmarked, OpenFiles, NextFile, FileNumbers, Room}
-use Rattle.server_law.proofs.Logic.{either, front_of, back_of, both, front_off, back_off, other_off, other_on, not_true, not_false, none_of, at_of}
-use Rattle.server_law.proofs.Lists.{has-placed, has-without, has-staying, has-plain, ascending-placed, ascending-without, ascending-staying, none-open, Among, From, NotOf, Stays, AnyTree, without_owner-from, ranges_staying-from, pushed-from, exists-pushed, exists-without, exists-moved, without_tree-from}
-
+use Rattle.server_law.specs.Fits.{Fits, Attached, PlainAttached, Deadlines, OpenIds, Given, Begun, SessionIds, MakingIds, MakingOnce, OnPresent, OnMade, NoTrees, NoClosed, NoRefused, NoGuids, NextTree, TreeIds, Room}
+use Rattle.server_law.proofs.Lists.{pushed-from, without_tree-from}
 
 attach_attached : (s : Server) (m : Message) (o : ℕ) → (s.standing o ≡ true) → (s.present m.session ≡ true) → Attached s → Attached (attach s m o)
 unfolding exists
@@ -69,9 +64,8 @@ attach_keeps s m o stands there i =
       open_files = i.open_files;
       next_file = i.next_file;
       file_numbers = i.file_numbers;
-      room = i.room
+      room = i.room;
     }
-
 
 keep_refusal_no_refused : (s : Server) (session : ℕ) (guid : ℕ) (status : ℕ) → (s.present session ≡ true) → NoRefused s → NoRefused (keep_refusal s session guid status)
 unfolding exists
@@ -116,9 +110,8 @@ keep_refusal_keeps s session guid status there i =
       open_files = i.open_files;
       next_file = i.next_file;
       file_numbers = i.file_numbers;
-      room = i.room
+      room = i.room;
     }
-
 
 close_guid_no_closed : (s : Server) (session : ℕ) (guid : ℕ) → (s.present session ≡ true) → NoClosed s → NoClosed (record s { closed = put2 s.closed session guid true })
 unfolding exists
@@ -158,9 +151,8 @@ close_guid_keeps s session guid there i =
       open_files = i.open_files;
       next_file = i.next_file;
       file_numbers = i.file_numbers;
-      room = i.room
+      room = i.room;
     }
-
 
 challenge_begun : (s : Server) (line : ℕ) → (s.on line ≡ None) → (s.begun < max_ids) → Begun s → Begun (record s { begun = s.begun + 1; making = put s.making line (Some (NewSession (next_session s))) })
 unfolding exists
@@ -220,9 +212,8 @@ challenge_keeps s line off left i =
       open_files = i.open_files;
       next_file = i.next_file;
       file_numbers = i.file_numbers;
-      room = i.room
+      room = i.room;
     }
-
 
 bind_making_ids : (s : Server) (line : ℕ) (session : ℕ) → (s.on line ≡ None) → MakingIds s → MakingIds (record s { making = put s.making line (Some (Binding session)) })
 unfolding exists
@@ -272,9 +263,8 @@ bind_keeps s line session off i =
       open_files = i.open_files;
       next_file = i.next_file;
       file_numbers = i.file_numbers;
-      room = i.room
+      room = i.room;
     }
-
 
 add_session_attached : (s : Server) (m : Message) (user : List ℕ) (r : SetupRequest) → (s.present m.session ≡ false) → (s.making m.connection ≡ Some (NewSession m.session)) → Attached s → Attached (add_session s m user r)
 unfolding exists
@@ -369,9 +359,8 @@ add_session_keeps s m user r absent new i =
       open_files = i.open_files;
       next_file = i.next_file;
       file_numbers = i.file_numbers;
-      room = i.room
+      room = i.room;
     }
-
 
 join_session_making_ids : (s : Server) (m : Message) (session : ℕ) → (s.present session ≡ true) → MakingIds s → MakingIds (join_session s m session)
 unfolding exists
@@ -426,9 +415,8 @@ join_session_keeps s m session there i =
       open_files = i.open_files;
       next_file = i.next_file;
       file_numbers = i.file_numbers;
-      room = i.room
+      room = i.room;
     }
-
 
 added_tree : (s : Server) (session : ℕ) (pipes : Bool) (x n : ℕ) (t : Tree) → s.present session ≡ true → TreeIds s → NextTree s → (b : Bool) → (x == session) ≡ b
     → slice_get (if b then s.trees session ++ record { id = s.next_tree session; pipes = pipes } ∷ [] else s.trees x) n ≡ Some t → 0 < t.id × t.id < (if b then s.next_tree session + 1 else s.next_tree x)
@@ -486,9 +474,8 @@ add_tree_keeps s session pipes there i =
       open_files = i.open_files;
       next_file = i.next_file;
       file_numbers = i.file_numbers;
-      room = i.room
+      room = i.room;
     }
-
 
 no_tree : (id : ℕ) → without_tree id [] ≡ []
 unfolding without_tree
@@ -500,18 +487,18 @@ dropped_tree s session id x n t old false e h = old x n t h
 
 drop_tree_no_trees : (s : Server) (session : ℕ) (id : ℕ) → NoTrees s → NoTrees (record s { trees = put s.trees session (without_tree id (s.trees session)) })
 unfolding exists
-drop_tree_no_trees s session id  i_no_trees =
+drop_tree_no_trees s session id i_no_trees =
     λ x. let old = i_no_trees x in let none : without_tree id [] ≡ [] = no_tree id in grind arith
 
 drop_tree_tree_ids : (s : Server) (session : ℕ) (id : ℕ) → TreeIds s → TreeIds (record s { trees = put s.trees session (without_tree id (s.trees session)) })
 unfolding exists
-drop_tree_tree_ids s session id  i_tree_ids =
+drop_tree_tree_ids s session id i_tree_ids =
     λ x n t. dropped_tree s session id x n t i_tree_ids (x == session) refl
 
 -- a session has a tree less
 pub drop_tree_keeps : (s : Server) (session : ℕ) (id : ℕ) → Fits s → Fits (record s { trees = put s.trees session (without_tree id (s.trees session)) })
 unfolding exists
-drop_tree_keeps s session id  i =
+drop_tree_keeps s session id i =
     record {
       attached = i.attached;
       plain_attached = i.plain_attached;
@@ -529,46 +516,45 @@ drop_tree_keeps s session id  i =
       making_once = i.making_once;
       on_present = i.on_present;
       on_made = i.on_made;
-      no_trees = drop_tree_no_trees s session id  i.no_trees;
+      no_trees = drop_tree_no_trees s session id i.no_trees;
       no_closed = i.no_closed;
       no_refused = i.no_refused;
       no_guids = i.no_guids;
       next_tree = i.next_tree;
-      tree_ids = drop_tree_tree_ids s session id  i.tree_ids;
+      tree_ids = drop_tree_tree_ids s session id i.tree_ids;
       range_owners = i.range_owners;
       not_root = i.not_root;
       root_unmarked = i.root_unmarked;
       open_files = i.open_files;
       next_file = i.next_file;
       file_numbers = i.file_numbers;
-      room = i.room
+      room = i.room;
     }
-
 
 forget_making_ids : (s : Server) (line : ℕ) → MakingIds s → MakingIds (forget_connection s line)
 unfolding exists
-forget_making_ids s line  i_making_ids =
+forget_making_ids s line i_making_ids =
     λ k x. let old = i_making_ids k x in grind arith
 
 forget_making_once : (s : Server) (line : ℕ) → MakingOnce s → MakingOnce (forget_connection s line)
 unfolding exists
-forget_making_once s line  i_making_once =
+forget_making_once s line i_making_once =
     λ j k x. let old = i_making_once j k x in grind arith
 
 forget_on_present : (s : Server) (line : ℕ) → OnPresent s → OnPresent (forget_connection s line)
 unfolding exists
-forget_on_present s line  i_on_present =
+forget_on_present s line i_on_present =
     λ k x. let old = i_on_present k x in grind arith
 
 forget_on_made : (s : Server) (line : ℕ) → OnMade s → OnMade (forget_connection s line)
 unfolding exists
-forget_on_made s line  i_on_made =
+forget_on_made s line i_on_made =
     λ k x. let old = i_on_made k x in grind arith
 
 -- a connection is forgotten
 pub forget_keeps : (s : Server) (line : ℕ) → Fits s → Fits (forget_connection s line)
 unfolding exists
-forget_keeps s line  i =
+forget_keeps s line i =
     record {
       attached = i.attached;
       plain_attached = i.plain_attached;
@@ -582,10 +568,10 @@ forget_keeps s line  i =
       given = i.given;
       begun = i.begun;
       session_ids = i.session_ids;
-      making_ids = forget_making_ids s line  i.making_ids;
-      making_once = forget_making_once s line  i.making_once;
-      on_present = forget_on_present s line  i.on_present;
-      on_made = forget_on_made s line  i.on_made;
+      making_ids = forget_making_ids s line i.making_ids;
+      making_once = forget_making_once s line i.making_once;
+      on_present = forget_on_present s line i.on_present;
+      on_made = forget_on_made s line i.on_made;
       no_trees = i.no_trees;
       no_closed = i.no_closed;
       no_refused = i.no_refused;
@@ -598,9 +584,8 @@ forget_keeps s line  i =
       open_files = i.open_files;
       next_file = i.next_file;
       file_numbers = i.file_numbers;
-      room = i.room
+      room = i.room;
     }
-
 
 dated_first : (now : ℕ) (stands : Bool) (at : Option ℕ) (row : Open) (deadline : Option ℕ) (d : ℕ) → ((e : ℕ) → deadline ≡ Some e → at ≡ None) → first_deadline now stands at row deadline ≡ Some d → at ≡ None
 dated_first now stands None row deadline d old h = refl
@@ -609,20 +594,20 @@ dated_first now false (Some x) row deadline d old h = old d h
 
 deadlines_deadlines : (s : Server) (now : ℕ) → Deadlines s → Deadlines (with_deadlines s now)
 unfolding exists
-deadlines_deadlines s now  i_deadlines =
+deadlines_deadlines s now i_deadlines =
     λ p d. dated_first now (s.standing p) (s.at p) (s.opened p) (s.deadline p) d (i_deadlines p)
 
 -- an open without a session gets its deadline
 pub deadlines_keeps : (s : Server) (now : ℕ) → Fits s → Fits (with_deadlines s now)
 unfolding exists
-deadlines_keeps s now  i =
+deadlines_keeps s now i =
     record {
       attached = i.attached;
       plain_attached = i.plain_attached;
       guid_open = i.guid_open;
       open_guid = i.open_guid;
       persistent_guid = i.persistent_guid;
-      deadlines = deadlines_deadlines s now  i.deadlines;
+      deadlines = deadlines_deadlines s now i.deadlines;
       listed = i.listed;
       ascending = i.ascending;
       open_ids = i.open_ids;
@@ -645,9 +630,8 @@ deadlines_keeps s now  i =
       open_files = i.open_files;
       next_file = i.next_file;
       file_numbers = i.file_numbers;
-      room = i.room
+      room = i.room;
     }
-
 
 epoch_open_ids : (s : Server) (number : ℕ) → (number ≡ s.epoch + 1) → OpenIds s → Given s → OpenIds (record s { epoch = number; given = 0; begun = 0 })
 unfolding exists
@@ -707,9 +691,8 @@ epoch_keeps s number next i =
       open_files = i.open_files;
       next_file = i.next_file;
       file_numbers = i.file_numbers;
-      room = i.room
+      room = i.room;
     }
-
 
 configured_room : (s : Server) (share : List ℕ) (room : ℕ) (seals : Bool) (address : Address) (journal : ℕ) → (room ≤ full_room) → Room s → Room (record s { share = share; room = room; seals = seals; address = address; journal = journal })
 unfolding exists
@@ -749,14 +732,13 @@ configured_keeps s share room seals address journal small i =
       open_files = i.open_files;
       next_file = i.next_file;
       file_numbers = i.file_numbers;
-      room = configured_room s share room seals address journal small i.room
+      room = configured_room s share room seals address journal small i.room;
     }
-
 
 -- what nothing here reads is other
 pub unread_keeps : (s : Server) (sequence : ℕ → ℕ) (slots : ℕ → ℕ → Option Kept) (listed : ℕ → Option (List ℕ)) (content : ℕ → List ℕ) (basic : ℕ → Basic) (connections : List ℕ) (marks : ℕ → ℕ → Bool) (mark_count : ℕ) (version : ℕ) (journal : ℕ) → Fits s → Fits (record s { sequence = sequence; slots = slots; listed = listed; content = content; basic = basic; connections = connections; marks = marks; mark_count = mark_count; version = version; journal = journal })
 unfolding exists
-unread_keeps s sequence slots listed content basic connections marks mark_count version journal  i =
+unread_keeps s sequence slots listed content basic connections marks mark_count version journal i =
     record {
       attached = i.attached;
       plain_attached = i.plain_attached;
@@ -786,5 +768,5 @@ unread_keeps s sequence slots listed content basic connections marks mark_count 
       open_files = i.open_files;
       next_file = i.next_file;
       file_numbers = i.file_numbers;
-      room = i.room
+      room = i.room;
     }

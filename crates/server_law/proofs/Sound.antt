@@ -1,15 +1,15 @@
 -- No record that the server owes makes an open that deletes the root on close.
 use Rattle.std.proofs.Common.{◌≡◌, ◌≢◌, ℕ, ◌+◌, ◌==◌, Bool, true, false, not, ◌&&◌, if◌then◌else◌, List, [], ◌∷◌, ◌++◌, refl, arith, sym, subst, ◌∙◌, ap, Option, Some, None}
 use Rattle.exchange_defs.specs.Commands.{CreateRequest, Durable, Element, deletes_on_close}
-use Rattle.exchange_defs.specs.State.{Server, Message, Record, NewOpen, Origin}
+use Rattle.exchange_defs.specs.State.{Server, Message, Origin}
 use Rattle.exchange_defs.specs.Files.{root}
 use Rattle.exchange_defs.specs.Opens.{mark_records, shut_records, gone_records, leave_records, leave_open, drop_open, marked_by, goes}
 use Rattle.exchange_defs.specs.Records.{origin_of}
 use Rattle.exchange_defs.specs.Verdict.{Verdict, Refuse, Give, KeepRefusal, Repeat, Attach, Make, TurnDown, Tell, Show, KeepSlot, PutRanges, Alter, Shut, Challenge, ChallengeBinding, Begin, Join, EndSession, AddTree, DropTree, Change, PutBytes, PutEnd, PutBasic, PutMark, PutPath, PutNothing}
 use Rattle.exchange_defs.specs.Effects.{apply, new_file, new_open, create_records, is_persistent, lock_records, change_records, plain_of, leave_all_records, end_records, records_if_named}
 use Rattle.exchange_defs.specs.Step.{expire_records, ends_with, take_out, take_all_records}
-use Rattle.server_law.specs.Fits.{Fits, is_sound, all_sound, keeps_root}
-use Rattle.server_law.proofs.Logic.{either, both}
+use Rattle.server_law.specs.Fits.{Fits, all_sound, keeps_root}
+use Rattle.server_law.proofs.Logic.{either}
 use Rattle.server_law.proofs.Found.{Facts, MakeFacts}
 use Rattle.server_law.proofs.Folded.{sound_more, sound_one, sound_none}
 

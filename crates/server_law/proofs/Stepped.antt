@@ -1,10 +1,8 @@
 -- One event of the server keeps what fits together, and owes sound records.
-use Rattle.std.proofs.Common.{◌≡◌, ◌⊎◌, inl, inr, ℕ, ◌+◌, Bool, true, false, nat_le, if◌then◌else◌, List, [], ◌∷◌, ◌++◌, length, refl, sym, subst, ◌∙◌, Option, Some, None}
-use Rattle.exchange_defs.specs.State.{Server, Message, ServerEvent, Accept, Heard, End, Stop, Record, Answer}
-use Rattle.exchange_defs.specs.Check.{check}
+use Rattle.std.proofs.Common.{◌≡◌, ◌⊎◌, inl, inr, ℕ, ◌+◌, Bool, true, nat_le, List, [], ◌∷◌, ◌++◌, length, refl, sym, subst, Option, Some, None}
+use Rattle.exchange_defs.specs.State.{Server, ServerEvent, Accept, Heard, End, Stop, Record, Answer}
 use Rattle.exchange_defs.specs.Records.{entry_bytes, fits, origin_at}
-use Rattle.exchange_defs.specs.Effects.{apply}
-use Rattle.exchange_defs.specs.Step.{step, table, expiring, written_down, with_deadlines, due, expire, expire_records, without_room, max_marks, max_connections, Ruling, Says, TakesIn, TurnsAway, TakesOut, TakesAllOut, ruling, ruling_without_room, carried_out, connection_of, ends_with, take_out, take_all_out}
+use Rattle.exchange_defs.specs.Step.{step, table, expiring, written_down, with_deadlines, due, expire, expire_records, max_marks, max_connections, Ruling, Says, TakesIn, TurnsAway, TakesOut, TakesAllOut, ruling, ruling_without_room, carried_out, connection_of, ends_with, take_out, take_all_out}
 use Rattle.server_law.specs.Fits.{Fits, all_sound}
 use Rattle.server_law.proofs.Logic.{either}
 use Rattle.server_law.proofs.Doors.{recorded}
@@ -101,9 +99,10 @@ carried_sound s now (TakesAllOut is_quiet) i f = sound_take_all s s.connections 
 
 pub front_fits : (s : Server) (now : ℕ) (e : ServerEvent) (t : Server) (front : List Record) → Front s now e t front → Fits s → Fits t × all_sound front ≡ true
 front_fits s now e t front (inl q) i = (subst (λ u. Fits u) (sym q.0) (deadlines_keeps s now i), subst (λ rs. all_sound rs ≡ true) (sym q.1) sound_none)
-front_fits s now e t front (inr q) i =
-    (subst (λ u. Fits u) (sym q.2) (expired_keeps (with_deadlines s now) now q.0 q.1 (deadlines_keeps s now i)),
-    subst (λ rs. all_sound rs ≡ true) (sym q.3) (sound_expiry (with_deadlines s now) (origin_at (connection_of e)) q.0))
+front_fits s now e t front (inr q) i = (
+  subst (λ u. Fits u) (sym q.2) (expired_keeps (with_deadlines s now) now q.0 q.1 (deadlines_keeps s now i)),
+  subst (λ rs. all_sound rs ≡ true) (sym q.3) (sound_expiry (with_deadlines s now) (origin_at (connection_of e)) q.0),
+)
 
 abbrev pub Good : Answer → Type 0
 Good A = Fits A.server × all_sound A.records ≡ true
