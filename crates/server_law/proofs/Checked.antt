@@ -5,7 +5,7 @@ use Rattle.exchange_defs.specs.Table.{is_at}
 use Rattle.exchange_defs.specs.Status.{success, object_name_not_found, sharing_violation, insufficient_resources, invalid_device_request, lock_not_granted, range_not_locked, disk_full}
 use Rattle.exchange_defs.specs.Texts.{is_path, is_below, same_name}
 use Rattle.exchange_defs.specs.Content.{is_empty}
-use Rattle.exchange_defs.specs.Commands.{Command, Unreadable, Aside, Setup, Logoff, TreeConnect, TreeDisconnect, Create, Close, Flush, Read, Write, Lock, Ioctl, ListDirectory, QueryFile, QueryVolume, SetInfo, Setting, SetBasic, Rename, SetDelete, SetAllocation, SetEnd, CreateRequest, Durable, Reconnect, SetupRequest, Shows, Begins, Bad, Refused, Logon, Element, deletes_on_close, form, path_form, is_setup, asks_directory, asks_file, no_file}
+use Rattle.exchange_defs.specs.Commands.{Command, Unreadable, Aside, Setup, Logoff, TreeConnect, TreeDisconnect, Create, Close, Flush, Read, Write, Lock, Ioctl, ListDirectory, QueryFile, QueryVolume, SetInfo, Setting, SetBasic, Rename, SetDelete, SetAllocation, SetEnd, CreateRequest, Durable, Reconnect, SetupRequest, Shows, Begins, Bad, Refused, Logon, Element, deletes_on_close, form, path_form, lock_form, all_lock, all_unlock, is_setup, asks_directory, asks_file, no_file}
 use Rattle.exchange_defs.specs.State.{Server, Message, Making, NewSession, Binding, Range, Body, Empty, Count, Closed, Named}
 use Rattle.exchange_defs.specs.Files.{root, find, find_in, path_of, exists, exists_in, is_directory, has_parent, passes_room, allocated}
 use Rattle.exchange_defs.specs.Ranges.{RangeAnswer, Stands, Denied, change_ranges, lock_ranges, unlock_ranges, stands_or, may_write, ranges_of, any_wraps, add_ranges, take_ranges, count_owned, max_ranges}
@@ -581,6 +581,14 @@ lesser s m DropTree f = f
 pub found : (s : Server) (m : Message) (v : Verdict) → (v ≡ check s m) ⊎ (v ≡ without_room (check s m)) → Facts s m v
 found s m v (inl e) = subst (λ u. Facts s m u) (sym e) (checked s m)
 found s m v (inr e) = subst (λ u. Facts s m u) (sym e) (lesser s m (check s m) (checked s m))
+
+-- the elements of a LOCK are all locks or all unlocks
+pub lock_elements : (s : Server) (m : Message) (o index number : ℕ) (elements : List Element) → LockFacts s m o index number elements → (all_lock elements || all_unlock elements) ≡ true
+lock_elements s m o index number elements f = lock_formed elements (subst (λ c. form c ≡ None) f.command f.opened.tree.session.formed)
+  where
+    lock_formed : (es : List Element) → lock_form es ≡ None → (all_lock es || all_unlock es) ≡ true
+    lock_formed [] e = refl
+    lock_formed (x ∷ xs) e = grind arith
 
 -- ---- the facts of one verdict
 

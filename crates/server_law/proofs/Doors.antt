@@ -1,17 +1,51 @@
--- The only way into the server's step: an answer to a message is that of a verdict, in front of which an open may have
--- expired, with the records that the journal then owes.
-use Rattle.std.proofs.Common.{◌≡◌, ℕ, ◌+◌, nat_le, List, ◌++◌, ◌⊎◌, inl, inr, refl, Option, Some, None}
-use Rattle.exchange_defs.specs.State.{Server, Message, Heard, Record, Answer}
+-- The only way into the server's step: what a ruling carries out, on a state in front of which an open may have expired,
+-- with the expiry's records in front of its own.
+use Rattle.std.proofs.Common.{◌≡◌, ℕ, ◌+◌, Bool, true, false, nat_le, if◌then◌else◌, List, [], ◌++◌, ◌⊎◌, inl, inr, refl, sym, subst, Option, Some, None}
+use Rattle.exchange_defs.specs.State.{Server, Message, ServerEvent, Heard, Record, Answer}
 use Rattle.exchange_defs.specs.Verdict.{Verdict}
 use Rattle.exchange_defs.specs.Check.{check}
 use Rattle.exchange_defs.specs.Records.{entry_bytes, fits, origin_at}
 use Rattle.exchange_defs.specs.Effects.{apply}
+use Rattle.exchange_defs.specs.Step.{step, table, behind_expiry, expiring, written_down, with_deadlines, due, expire, expire_records, without_room, max_marks, Ruling, Says, ruling, ruling_without_room, carried_out, connection_of}
 use Rattle.server_law.proofs.Logic.{either}
-use Rattle.exchange_defs.specs.Step.{step, table, expiring, written_down, with_deadlines, due, expire, expire_records, without_room, max_marks}
 
 -- an answer whose records are these, written down
 abbrev pub recorded : Answer → List Record → Answer
 recorded A records = record A { server = record A.server { journal = A.server.journal + entry_bytes records }; records = records }
+
+-- the state that the checks see, and the records owed for it
+abbrev pub Front : Server → ℕ → ServerEvent → Server → List Record → Type 0
+Front s now e t front =
+    (t ≡ with_deadlines s now × front ≡ []) ⊎ ((o : ℕ) × due (with_deadlines s now) now ≡ Some o × t ≡ expire (with_deadlines s now) o × front ≡ expire_records (with_deadlines s now) (origin_at (connection_of e)) o)
+
+-- what the checks ask for, or what stands in its place where the records don't fit
+abbrev pub Rules : Server → ServerEvent → Ruling → Type 0
+Rules t e r = (r ≡ ruling t e) ⊎ (r ≡ ruling_without_room (ruling t e))
+
+abbrev pub Path : Server → ℕ → ServerEvent → (Answer → Type 0) → Type 0
+Path s now e P = (t : Server) (front : List Record) (r : Ruling) → Front s now e t front → Rules t e r → P (recorded (carried_out t now r) (front ++ (carried_out t now r).records))
+
+by_table : (P : Answer → Type 0) (s : Server) (now : ℕ) (e : ServerEvent) → Path s now e P → P (written_down (table (with_deadlines s now) now e))
+by_table P s now e f =
+    let d = with_deadlines s now in
+    either (λ A. P (written_down A)) (fits d (carried_out d now (ruling d e)).records) _ _
+    (λ _. f d [] (ruling d e) (inl (refl, refl)) (inl refl))
+    (λ _. f d [] (ruling_without_room (ruling d e)) (inl (refl, refl)) (inr refl))
+
+by_due : (P : Answer → Type 0) (s : Server) (now : ℕ) (e : ServerEvent) → Path s now e P → (u : Option ℕ) → due (with_deadlines s now) now ≡ u → P (written_down (expiring (with_deadlines s now) now e u))
+by_due P s now e f None q = by_table P s now e f
+by_due P s now e f (Some o) q =
+    let d = with_deadlines s now in let t = expire d o in
+    let A = carried_out t now (ruling t e) in let front = expire_records d (origin_at (connection_of e)) o in
+    either (λ B. P (written_down B)) (nat_le max_marks d.mark_count) (table d now e) (behind_expiry d now e front A) (λ _. by_table P s now e f)
+    (λ _. either (λ B. P (written_down B)) (fits d (front ++ A.records)) (record A { records = front ++ A.records }) (table d now e)
+    (λ _. f t (expire_records d (origin_at (connection_of e)) o) (ruling t e) (inr (o, q, refl, refl)) (inl refl))
+    (λ _. by_table P s now e f))
+
+pub by_ruling : (P : Answer → Type 0) (s : Server) (now : ℕ) (e : ServerEvent) → Path s now e P → P (step s now e)
+by_ruling P s now e f = by_due P s now e f (due (with_deadlines s now) now) refl
+
+-- ---- the same for a message, by its verdict
 
 -- the state that the checks see: an open whose deadline is past is gone
 abbrev pub Before : Server → ℕ → Server → Type 0
@@ -24,22 +58,15 @@ Finds t m v = (v ≡ check t m) ⊎ (v ≡ without_room (check t m))
 abbrev pub Way : Server → ℕ → Message → (Answer → Type 0) → Type 0
 Way s now m P = (t : Server) (v : Verdict) (records : List Record) → Before s now t → Finds t m v → P (recorded (apply t m now v) records)
 
-by_table : (P : Answer → Type 0) (s : Server) (now : ℕ) (m : Message) → Way s now m P → P (written_down (table (with_deadlines s now) now (Heard m)))
-by_table P s now m f =
-    let d = with_deadlines s now in
-    either (λ A. P (written_down A)) (fits d (apply d m now (check d m)).records) _ _
-    (λ _. f d (check d m) _ (inl refl) (inl refl))
-    (λ _. f d (without_room (check d m)) _ (inl refl) (inr refl))
+before : (s : Server) (now : ℕ) (m : Message) (t : Server) (front : List Record) → Front s now (Heard m) t front → Before s now t
+before s now m t front (inl q) = inl q.0
+before s now m t front (inr q) = inr (q.0, q.1, q.2)
 
-by_due : (P : Answer → Type 0) (s : Server) (now : ℕ) (m : Message) → Way s now m P → (u : Option ℕ) → due (with_deadlines s now) now ≡ u
-    → P (written_down (expiring (with_deadlines s now) now (Heard m) u))
-by_due P s now m f None e = by_table P s now m f
-by_due P s now m f (Some o) e =
-    let d = with_deadlines s now in let t = expire d o in
-    either (λ A. P (written_down A)) (nat_le max_marks d.mark_count) _ _ (λ _. by_table P s now m f)
-    (λ _. either (λ A. P (written_down A)) (fits d (expire_records d (origin_at m.connection) o ++ (apply t m now (check t m)).records)) _ _
-    (λ _. f t (check t m) _ (inr (o, e, refl)) (inl refl))
-    (λ _. by_table P s now m f))
+by_rules : (P : Answer → Type 0) (now : ℕ) (m : Message) (t : Server) (front : List Record) → ((v : Verdict) (records : List Record) → Finds t m v → P (recorded (apply t m now v) records))
+    → (r : Ruling) → Rules t (Heard m) r → P (recorded (carried_out t now r) (front ++ (carried_out t now r).records))
+by_rules P now m t front f r (inl q) = subst (λ x. P (recorded (carried_out t now x) (front ++ (carried_out t now x).records))) (sym q) (f (check t m) (front ++ (apply t m now (check t m)).records) (inl refl))
+by_rules P now m t front f r (inr q) =
+    subst (λ x. P (recorded (carried_out t now x) (front ++ (carried_out t now x).records))) (sym q) (f (without_room (check t m)) (front ++ (apply t m now (without_room (check t m))).records) (inr refl))
 
 pub by_verdict : (P : Answer → Type 0) (s : Server) (now : ℕ) (m : Message) → Way s now m P → P (step s now (Heard m))
-by_verdict P s now m f = by_due P s now m f (due (with_deadlines s now) now) refl
+by_verdict P s now m f = by_ruling P s now (Heard m) (λ t front r at rules. by_rules P now m t front (λ v records. f t v records (before s now m t front at)) r rules)

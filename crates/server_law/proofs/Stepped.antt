@@ -5,47 +5,13 @@ use Rattle.exchange_defs.specs.Records.{entry_bytes, fits, origin_at}
 use Rattle.exchange_defs.specs.Step.{step, table, expiring, written_down, with_deadlines, due, expire, expire_records, max_marks, max_connections, Ruling, Says, TakesIn, TurnsAway, TakesOut, TakesAllOut, ruling, ruling_without_room, carried_out, connection_of, ends_with, take_out, take_all_out}
 use Rattle.server_law.specs.Fits.{Fits, all_sound}
 use Rattle.server_law.proofs.Logic.{either}
-use Rattle.server_law.proofs.Doors.{recorded}
+use Rattle.server_law.proofs.Doors.{Front, Rules, by_ruling}
 use Rattle.server_law.proofs.Found.{Facts}
 use Rattle.server_law.proofs.Checked.{checked, lesser}
 use Rattle.server_law.proofs.SessionEffects.{deadlines_keeps, forget_keeps}
 use Rattle.server_law.proofs.Applied.{connections_keeps, journal_keeps, end_if_named_keeps, applied_keeps, expired_keeps}
 use Rattle.server_law.proofs.Folded.{sound_more, sound_none}
 use Rattle.server_law.proofs.Sound.{sound_named, sound_expiry, sound_take_all, applied_sound}
-
--- ---- the only way into a step: what a ruling carries out, on a state in front of which an open may have expired, with the
--- expiry's records in front of its own
-
--- the state that the checks see, and the records owed for it
-abbrev pub Front : Server → ℕ → ServerEvent → Server → List Record → Type 0
-Front s now e t front =
-    (t ≡ with_deadlines s now × front ≡ []) ⊎ ((o : ℕ) × due (with_deadlines s now) now ≡ Some o × t ≡ expire (with_deadlines s now) o × front ≡ expire_records (with_deadlines s now) (origin_at (connection_of e)) o)
-
--- what the checks ask for, or what stands in its place where the records don't fit
-abbrev pub Rules : Server → ServerEvent → Ruling → Type 0
-Rules t e r = (r ≡ ruling t e) ⊎ (r ≡ ruling_without_room (ruling t e))
-
-abbrev pub Path : Server → ℕ → ServerEvent → (Answer → Type 0) → Type 0
-Path s now e P = (t : Server) (front : List Record) (r : Ruling) → Front s now e t front → Rules t e r → P (recorded (carried_out t now r) (front ++ (carried_out t now r).records))
-
-by_table : (P : Answer → Type 0) (s : Server) (now : ℕ) (e : ServerEvent) → Path s now e P → P (written_down (table (with_deadlines s now) now e))
-by_table P s now e f =
-    let d = with_deadlines s now in
-    either (λ A. P (written_down A)) (fits d (carried_out d now (ruling d e)).records) _ _
-    (λ _. f d [] (ruling d e) (inl (refl, refl)) (inl refl))
-    (λ _. f d [] (ruling_without_room (ruling d e)) (inl (refl, refl)) (inr refl))
-
-by_due : (P : Answer → Type 0) (s : Server) (now : ℕ) (e : ServerEvent) → Path s now e P → (u : Option ℕ) → due (with_deadlines s now) now ≡ u → P (written_down (expiring (with_deadlines s now) now e u))
-by_due P s now e f None q = by_table P s now e f
-by_due P s now e f (Some o) q =
-    let d = with_deadlines s now in let t = expire d o in
-    either (λ A. P (written_down A)) (nat_le max_marks d.mark_count) _ _ (λ _. by_table P s now e f)
-    (λ _. either (λ A. P (written_down A)) (fits d (expire_records d (origin_at (connection_of e)) o ++ (carried_out t now (ruling t e)).records)) _ _
-    (λ _. f t (expire_records d (origin_at (connection_of e)) o) (ruling t e) (inr (o, q, refl, refl)) (inl refl))
-    (λ _. by_table P s now e f))
-
-pub by_ruling : (P : Answer → Type 0) (s : Server) (now : ℕ) (e : ServerEvent) → Path s now e P → P (step s now e)
-by_ruling P s now e f = by_due P s now e f (due (with_deadlines s now) now) refl
 
 -- ---- each ruling
 
