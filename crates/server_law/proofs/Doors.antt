@@ -1,12 +1,12 @@
 -- The only way into the server's step: what a ruling carries out, on a state in front of which an open may have expired,
 -- with the expiry's records in front of its own.
-use Rattle.std.proofs.Common.{◌≡◌, ℕ, ◌+◌, Bool, true, false, nat_le, if◌then◌else◌, List, [], ◌++◌, ◌⊎◌, inl, inr, refl, sym, subst, Option, Some, None}
+use Rattle.std.proofs.Common.{◌≡◌, ℕ, ◌+◌, nat_le, List, [], ◌++◌, ◌⊎◌, inl, inr, refl, sym, subst, Option, Some, None}
 use Rattle.exchange_defs.specs.State.{Server, Message, ServerEvent, Heard, Record, Answer}
 use Rattle.exchange_defs.specs.Verdict.{Verdict}
 use Rattle.exchange_defs.specs.Check.{check}
 use Rattle.exchange_defs.specs.Records.{entry_bytes, fits, origin_at}
 use Rattle.exchange_defs.specs.Effects.{apply}
-use Rattle.exchange_defs.specs.Step.{step, table, behind_expiry, expiring, written_down, with_deadlines, due, expire, expire_records, without_room, max_marks, Ruling, Says, ruling, ruling_without_room, carried_out, connection_of}
+use Rattle.exchange_defs.specs.Step.{step, table, behind_expiry, expiring, written_down, with_deadlines, due, expire, expire_records, without_room, max_marks, Ruling, ruling, ruling_without_room, carried_out, connection_of}
 use Rattle.server_law.proofs.Logic.{either}
 
 -- an answer whose records are these, written down

@@ -1,8 +1,8 @@
 -- One event of the server keeps what fits together, and owes sound records.
-use Rattle.std.proofs.Common.{◌≡◌, ◌⊎◌, inl, inr, ℕ, ◌+◌, Bool, true, nat_le, List, [], ◌∷◌, ◌++◌, length, refl, sym, subst, Option, Some, None}
+use Rattle.std.proofs.Common.{◌≡◌, inl, inr, ℕ, ◌+◌, Bool, true, nat_le, List, [], ◌∷◌, ◌++◌, length, sym, subst}
 use Rattle.exchange_defs.specs.State.{Server, ServerEvent, Accept, Heard, End, Stop, Record, Answer}
-use Rattle.exchange_defs.specs.Records.{entry_bytes, fits, origin_at}
-use Rattle.exchange_defs.specs.Step.{step, table, expiring, written_down, with_deadlines, due, expire, expire_records, max_marks, max_connections, Ruling, Says, TakesIn, TurnsAway, TakesOut, TakesAllOut, ruling, ruling_without_room, carried_out, connection_of, ends_with, take_out, take_all_out}
+use Rattle.exchange_defs.specs.Records.{entry_bytes, origin_at}
+use Rattle.exchange_defs.specs.Step.{step, with_deadlines, max_connections, Ruling, Says, TakesIn, TurnsAway, TakesOut, TakesAllOut, ruling, ruling_without_room, carried_out, connection_of, ends_with, take_out, take_all_out}
 use Rattle.server_law.specs.Fits.{Fits, all_sound}
 use Rattle.server_law.proofs.Logic.{either}
 use Rattle.server_law.proofs.Doors.{Front, Rules, by_ruling}
