@@ -1,0 +1,5 @@
+pub mod Lists
+pub mod Ranges
+pub mod Guards
+pub mod Files
+pub mod Opens
