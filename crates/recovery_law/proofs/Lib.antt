@@ -3,3 +3,4 @@ pub mod Ranges
 pub mod Guards
 pub mod Files
 pub mod Opens
+pub mod Locks
