@@ -4,3 +4,4 @@ pub mod Guards
 pub mod Files
 pub mod Opens
 pub mod Locks
+pub mod Leaves
