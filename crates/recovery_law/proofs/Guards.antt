@@ -9,6 +9,7 @@ use Rattle.exchange_defs.specs.Files.{root, find, find_in, path_of, path_in, exi
 use Rattle.exchange_defs.specs.Opens.{opens_in, file_has_open, goes}
 use Rattle.exchange_defs.specs.Fold.{full_room, persistent_in}
 use Rattle.recovery_law.specs.Recovers.{staying, kept_ranges, kept_guid, FilesAgree, OpensAgree, CountsAgree, Files, Opens, Counts, Mirrors}
+use Rattle.server_law.specs.Fits.{Listed}
 use Rattle.recovery_law.proofs.Lists.{none_persistent}
 
 pub same_find : (d s : Server) → d.entries ≡ s.entries → (path : List ℕ) → find d path ≡ find s path
@@ -54,8 +55,8 @@ unfolding passes_room
 has_room d s f size e h full within fits =
     rw (same_used d s e h, h, full) (room_test s.room full_room (used s - length (s.content f)) size (nat_lt (length (s.content f)) size) within fits)
 
-abbrev pub Listed : Server → Type 0
-Listed s = (o : ℕ) → has o s.opens ≡ s.standing o
+
+
 
 stays_of : (x y z : Bool) → x ≡ true → y ≡ x → z ≡ true → (y && z) ≡ true
 stays_of x y z a b c = grind arith

@@ -11,7 +11,8 @@ use Rattle.exchange_defs.specs.Step.{add_mark, expire, expire_records, max_marks
 use Rattle.exchange_defs.specs.Fold.{with_record, fold_from, may_remove, shut_recorded}
 use Rattle.recovery_law.specs.Recovers.{staying, kept_ranges, kept_guid, FilesAgree, OpensAgree, CountsAgree, Files, Opens, Counts, Mirrors}
 use Rattle.recovery_law.proofs.Lists.{ext, has_without}
-use Rattle.recovery_law.proofs.Guards.{Listed, same_exists, same_full, none_open}
+use Rattle.server_law.specs.Fits.{Listed}
+use Rattle.recovery_law.proofs.Guards.{same_exists, same_full, none_open}
 use Rattle.recovery_law.proofs.Files.{marks_file, marks_again, removes_file}
 use Rattle.recovery_law.proofs.Opens.{drops_plain, drops_persistent}
 

@@ -5,3 +5,5 @@ pub mod Files
 pub mod Opens
 pub mod Locks
 pub mod Leaves
+pub mod Makes
+pub mod Alters
