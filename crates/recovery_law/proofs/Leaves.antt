@@ -35,7 +35,7 @@ removable d s f e dir none g =
     let facts = goes_gives (s.marked f) (f == root) (exists s f) (file_has_open s f) (is_full_directory s f) g in
     removes_by (exists d f) (f == root) (file_has_open d f) (is_full_directory d f) (same_exists d s e f ∙ facts.1) facts.0 (none facts.2) (same_full d s e dir f ∙ facts.3)
 
-removed : (d : Server) (origin : Origin) (f : ℕ) → may_remove d f ≡ true → with_record d (RemoveRecord origin f) ≡ remove_file d f
+pub removed : (d : Server) (origin : Origin) (f : ℕ) → may_remove d f ≡ true → with_record d (RemoveRecord origin f) ≡ remove_file d f
 removed d origin f may = rw may refl
 
 pub gone_recorded : (d s : Server) (origin : Origin) (f : ℕ) → Mirrors d s → Listed s → Mirrors (fold_from d (gone_records s origin f)) (without_gone s f)
@@ -57,7 +57,7 @@ pub record Leaver (s : Server) (o : ℕ) : Type 0 where
   pub not_root : deletes_on_close (s.opened o).options ≡ true → (s.opened o).file ≢ 0
 
 -- the file marked where the open deletes on close
-abbrev marked_if : Server → ℕ → Bool → Server
+abbrev pub marked_if : Server → ℕ → Bool → Server
 marked_if s f b = if b then mark_file s f true else s
 
 listed_after : (s : Server) (o f : ℕ) (b : Bool) → Listed s → Listed (drop_open (marked_if s f b) o)
@@ -81,10 +81,10 @@ plain_by : (d s : Server) (o f : ℕ) (b : Bool) → Leaver s o → (s.opened o)
 plain_by d s o f true leaver plain h = (h.0, drops_plain d s o plain leaver.own h.1, h.2)
 plain_by d s o f false leaver plain h = (h.0, drops_plain d s o plain leaver.own h.1, h.2)
 
-may_mark : (d s : Server) (f : ℕ) → d.entries ≡ s.entries → exists s f ≡ true → f ≢ 0 → (exists d f && not (f == root)) ≡ true
+pub may_mark : (d s : Server) (f : ℕ) → d.entries ≡ s.entries → exists s f ≡ true → f ≢ 0 → (exists d f && not (f == root)) ≡ true
 may_mark d s f e there n = let same = same_exists d s e f in grind arith
 
-marked_record : (d : Server) (origin : Origin) (f : ℕ) (flag : Bool) → (exists d f && not (f == root)) ≡ true → with_record d (DeleteRecord origin f flag) ≡ mark_file d f flag
+pub marked_record : (d : Server) (origin : Origin) (f : ℕ) (flag : Bool) → (exists d f && not (f == root)) ≡ true → with_record d (DeleteRecord origin f flag) ≡ mark_file d f flag
 marked_record d origin f flag may = rw may refl
 
 marks_by : (d s : Server) (origin : Origin) (f : ℕ) (b c : Bool) → s.marked f ≡ c → exists s f ≡ true → (b ≡ true → f ≢ 0) → Mirrors d s
@@ -95,7 +95,7 @@ marks_by d s origin f true false m there n h =
     subst (λ x. Mirrors x (mark_file s f true)) (sym (marked_record d origin f true (may_mark d s f h.0.entries there (n refl)))) (marks_file d s f true h)
 marks_by d s origin f false c m there n h = h
 
-plain_records : (d s : Server) (origin : Origin) (o : ℕ) → (s.opened o).persistent ≡ false → mark_records s origin o ++ shut_records s origin o ≡ (if deletes_on_close (s.opened o).options && not (s.marked (s.opened o).file) then DeleteRecord origin (s.opened o).file true ∷ [] else [])
+pub plain_records : (d s : Server) (origin : Origin) (o : ℕ) → (s.opened o).persistent ≡ false → mark_records s origin o ++ shut_records s origin o ≡ (if deletes_on_close (s.opened o).options && not (s.marked (s.opened o).file) then DeleteRecord origin (s.opened o).file true ∷ [] else [])
 unfolding mark_records shut_records
 plain_records d s origin o plain = rw plain (either_nil (deletes_on_close (s.opened o).options && not (s.marked (s.opened o).file)) (DeleteRecord origin (s.opened o).file true))
   where
@@ -128,7 +128,7 @@ left_recorded d s origin o leaver h =
           (marks_by d s origin (s.opened o).file (deletes_on_close (s.opened o).options) (s.marked (s.opened o).file) refl leaver.there leaver.not_root h))
     ] refl
 
-records_apart : (a b c : List Record) → a ++ (b ++ c) ≡ (a ++ b) ++ c
+pub records_apart : (a b c : List Record) → a ++ (b ++ c) ≡ (a ++ b) ++ c
 records_apart [] b c = refl
 records_apart (r ∷ a) b c = ap (λ x. r ∷ x) (records_apart a b c)
 

@@ -7,3 +7,4 @@ pub mod Locks
 pub mod Leaves
 pub mod Makes
 pub mod Alters
+pub mod Ends
