@@ -8,3 +8,5 @@ pub mod Leaves
 pub mod Makes
 pub mod Alters
 pub mod Ends
+pub mod Verdicts
+pub mod Steps
