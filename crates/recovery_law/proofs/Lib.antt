@@ -10,3 +10,5 @@ pub mod Alters
 pub mod Ends
 pub mod Verdicts
 pub mod Steps
+pub mod Durable
+pub mod Worlds
