@@ -12,3 +12,4 @@ pub mod Verdicts
 pub mod Steps
 pub mod Durable
 pub mod Worlds
+pub mod Restarts

@@ -1,1 +1,2 @@
 pub mod Recovers
+pub mod Restarted

@@ -1,0 +1,44 @@
+-- What a restart leaves of a server: its persistent opens, without a session, and its files; no session and no connection.
+use Rattle.std.specs.Prelude.{◌≡◌, ℕ, ◌+◌, Bool, true, false, List, [], Option, Some, None}
+use Rattle.exchange_defs.specs.State.{Server, Open, Kept, Tree, Making}
+use Rattle.exchange_defs.specs.Fold.{persistent_in}
+use Rattle.recovery_law.specs.Recovers.{staying, kept_ranges, kept_guid}
+
+-- the columns of sessions and connections, and those of opens that no record keeps
+pub record NoSessions (at : ℕ → Option ℕ) (sequence : ℕ → ℕ) (deadline : ℕ → Option ℕ) (listed : ℕ → Option (List ℕ)) (present : ℕ → Bool) (sessions : ℕ) (trees : ℕ → List Tree) (closed : ℕ → ℕ → Bool) (refused : ℕ → ℕ → Option ℕ) (guids : ℕ → ℕ) (connections : List ℕ) (on : ℕ → Option ℕ) (making : ℕ → Option Making) : Type 0 where
+  pub apart : (o : ℕ) → at o ≡ None
+  pub unreached : (o : ℕ) → sequence o ≡ 0
+  pub undated : (o : ℕ) → deadline o ≡ None
+  pub unlisted : (o : ℕ) → listed o ≡ None
+  pub absent : (x : ℕ) → present x ≡ false
+  pub no_count : sessions ≡ 0
+  pub no_trees : (x : ℕ) → trees x ≡ []
+  pub unclosed : (x g : ℕ) → closed x g ≡ false
+  pub unrefused : (x g : ℕ) → refused x g ≡ None
+  pub no_guids : (x : ℕ) → guids x ≡ 0
+  pub no_connections : connections ≡ []
+  pub off : (k : ℕ) → on k ≡ None
+  pub unmade : (k : ℕ) → making k ≡ None
+
+abbrev pub Bare : Server → Type 0
+Bare s = NoSessions s.at s.sequence s.deadline s.listed s.present s.sessions s.trees s.closed s.refused s.guids s.connections s.on s.making
+
+-- u stands where s stood before the restart
+pub record Restarted (s u : Server) : Type 0 where
+  pub epoch : u.epoch ≡ s.epoch + 1
+  pub given : u.given ≡ 0
+  pub begun : u.begun ≡ 0
+  pub opens : u.opens ≡ persistent_in s.opened s.opens
+  pub standing : (o : ℕ) → u.standing o ≡ staying s.standing s.opened o
+  pub opened : (o : ℕ) → staying s.standing s.opened o ≡ true → u.opened o ≡ s.opened o
+  pub slots : (o i : ℕ) → staying s.standing s.opened o ≡ true → u.slots o i ≡ s.slots o i
+  pub by_guid : (c g : ℕ) → u.by_guid c g ≡ kept_guid (staying s.standing s.opened) (s.by_guid c g)
+  pub ranges : (f : ℕ) → u.ranges f ≡ kept_ranges (staying s.standing s.opened) (s.ranges f)
+  pub next_file : u.next_file ≡ s.next_file
+  pub directory : u.directory ≡ s.directory
+  pub marked : u.marked ≡ s.marked
+  pub basic : u.basic ≡ s.basic
+  pub content : u.content ≡ s.content
+  pub marks : u.marks ≡ s.marks
+  pub mark_count : u.mark_count ≡ s.mark_count
+  pub bare : Bare u
