@@ -1,2 +1,22 @@
-//! What the exchange model's journal stands for: on every run the records fold to the durable part of the server.
+//! What the exchange model's journal stands for: on every run the records fold to the durable part of the server, so a
+//! restart loses nothing that was recorded.
+//!
+//! The law is a public function with an empty body, whose contract is the statement; its definitions stand in `specs`
+//! and, for `StandsFor`, in the crate of definitions below.
 #![tactic(auto)]
+
+ghost use Rattle.std.specs.Prelude.{List};
+ghost use Rattle.exchange_defs.specs.Fold.{StandsFor, recovered};
+ghost use Rattle.exchange_defs.specs.Network.{Event, Settings, run, start};
+ghost use Rattle.recovery_law.specs.Recovers.{Recovers};
+ghost use Rattle.recovery_law.specs.Restarted.{Restarted};
+
+/// On every run, behind every event, the state that the journal's records fold to has the same durable part as the
+/// server (`stands`), column by column (`agree`): files, persistent opens with their rows, slots, guids and ranges,
+/// marks, epoch and version. So a restart at any moment leaves those opens and files, all of them and as they were,
+/// and ids of a new epoch, and no session (`restart`); of the entries alone it takes marked files without an open.
+pub fn recovery_law()
+    ensures stands { (settings : Settings) (events : List Event) → StandsFor (run events (start settings)).records (run events (start settings)).server }
+    ensures agree { (settings : Settings) (events : List Event) → Recovers (run events (start settings)).records (run events (start settings)).server }
+    ensures restart { (settings : Settings) (events : List Event) → Restarted (run events (start settings)).server (recovered (run events (start settings)).server (run events (start settings)).records) }
+{}
