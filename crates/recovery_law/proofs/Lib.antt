@@ -12,4 +12,5 @@ pub mod Verdicts
 pub mod Steps
 pub mod Durable
 pub mod Worlds
+pub mod Sweeps
 pub mod Restarts

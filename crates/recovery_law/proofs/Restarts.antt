@@ -1,21 +1,24 @@
 -- A restart: what recovery makes of the records.
 use Rattle.std.proofs.Common.{◌≡◌, ◌≢◌, ℕ, ◌+◌, ◌≤◌, ◌==◌, nat_lt, nat_le, Bool, true, false, not, ◌&&◌, ◌||◌, if◌then◌else◌, List, [], ◌∷◌, ◌++◌, length, refl, arith, sym, subst, ◌∙◌, ap, Option, Some, None}
-use Rattle.exchange_defs.specs.Table.{put, put2, without, placed_in}
+use Rattle.exchange_defs.specs.Table.{put, put2, has, is_filled}
 use Rattle.exchange_defs.specs.Status.{success}
 use Rattle.exchange_defs.specs.Content.{written, ended, is_empty}
 use Rattle.exchange_defs.specs.Commands.{Basic, Element, all_lock, all_unlock, deletes_on_close}
 use Rattle.exchange_defs.specs.State.{Server, Open, Entry, Range, Kept, Record, NewOpen, EpochRecord, CreateRecord, WriteRecord, EndRecord, BasicRecord, DeleteRecord, RenameRecord, RemoveRecord, LockRecord, ShutRecord, VersionRecord, ExpireRecord}
-use Rattle.exchange_defs.specs.Files.{root, find, exists, make_file, empty_file, set_content, store_basic, mark_file, remove_file, rename_file, passes_room}
+use Rattle.exchange_defs.specs.Files.{root, find, exists, exists_in, path_in, make_file, empty_file, set_content, store_basic, mark_file, remove_file, rename_file, passes_room}
 use Rattle.exchange_defs.specs.Ranges.{RangeAnswer, Stands, Denied, change_ranges}
-use Rattle.exchange_defs.specs.Opens.{id_of, max_ids, drop_open, marked_by, goes, without_gone}
+use Rattle.exchange_defs.specs.Opens.{id_of, max_ids, opens_in, file_has_open, drop_open, marked_by, goes, without_gone}
 use Rattle.exchange_defs.specs.CheckOpen.{target_of, file_of, is_slot}
 use Rattle.exchange_defs.specs.Effects.{keep_slot, set_ranges}
 use Rattle.exchange_defs.specs.Step.{add_mark, max_marks}
 use Rattle.exchange_defs.specs.Fold.{nothing_yet, with_record, fold_from, fold, sweep, begin_epoch, set_version, may_create, may_have_open, restore, restored_row, created_file, is_file, may_rename, may_remove, lock_granted, lock_recorded, shut_recorded, recovery_records, recovered}
 use Rattle.server_law.proofs.Logic.{either}
 use Rattle.recovery_law.specs.Recovers.{staying, kept_ranges, kept_guid, FilesAgree, OpensAgree, CountsAgree, Files, Opens, Counts, Mirrors, Recovers}
-use Rattle.recovery_law.specs.Restarted.{NoSessions, Bare, Restarted}
+use Rattle.recovery_law.specs.Restarted.{NoSessions, Bare, Restarted, EntriesLeft}
+use Rattle.server_law.specs.Fits.{Listed}
+use Rattle.recovery_law.proofs.Lists.{has_file, has_persistent}
 use Rattle.recovery_law.proofs.Leaves.{fold_append}
+use Rattle.recovery_law.proofs.Sweeps.{left_behind, held_behind}
 
 -- ---- no record keeps a session
 
@@ -207,6 +210,41 @@ restarted s rs h =
       bare = b;
     }
 
+-- ---- its entries
+
+both_of : (x y : Bool) → (x && y) ≡ true → x ≡ true × y ≡ true
+both_of x y e = (grind arith, grind arith)
+
+has_both : (x y : Bool) → x ≡ true → y ≡ true → (x && y) ≡ true
+has_both x y e f = grind arith
+
+open_there : (d s : Server) (o : ℕ) → Listed s → Opens d s → staying s.standing s.opened o ≡ true → file_has_open d (s.opened o).file ≡ true
+unfolding file_has_open
+open_there d s o l h stays =
+    let t = both_of (s.standing o) (s.opened o).persistent stays in
+    let there = ap (has o) h.opens ∙ has_persistent s.opened o s.opens ∙ has_both (has o s.opens) (s.opened o).persistent (l o ∙ t.0) t.1 in
+    subst (λ (r : Open). is_filled (opens_in d.opened d.opens r.file) ≡ true) (h.opened o stays) (has_file d.opened o d.opens there)
+
+stays_unmarked : (m o : Bool) → m ≡ false → (m && not o) ≡ false
+stays_unmarked m o e = grind arith
+
+stays_opened : (m o : Bool) → o ≡ true → (m && not o) ≡ false
+stays_opened m o e = grind arith
+
+left_from : (d s : Server) → Listed s → Files d s → Opens d s → EntriesLeft s (fold_from d (recovery_records s))
+left_from d s l f h =
+    record {
+      were = λ g e. let t = left_behind d s g e in (ap (λ es. exists_in es g) (sym f.entries) ∙ t.0, t.1 ∙ ap (λ es. path_in es g) f.entries);
+      unmarked = λ g m. held_behind d s g (stays_unmarked (d.marked g) (file_has_open d g) (ap (λ (x : ℕ → Bool). x g) f.marked ∙ m)) ∙ ap (λ es. exists_in es g) f.entries;
+      held = λ o stays. let g = (s.opened o).file in
+          held_behind d s g (stays_opened (d.marked g) (file_has_open d g) (open_there d s o l h stays)) ∙ ap (λ es. exists_in es g) f.entries;
+    }
+
+pub entries_left : (s : Server) (rs : List Record) → Listed s → Recovers rs s → EntriesLeft s (recovered s rs)
+entries_left s rs l h =
+    let t = subst (λ (x : Server). EntriesLeft s x) (sym (fold_append nothing_yet rs (recovery_records s))) (left_from (fold rs) s l h.0 h.1) in
+    record { were = t.were; unmarked = t.unmarked; held = t.held }
+
 -- ---- what the laws above ask of it
 
 -- what a guid names behind it, it named before, and that open stays
@@ -228,9 +266,6 @@ was_named s u r c g o e = named_by (staying s.standing s.opened) (s.by_guid c g)
 
 pub stays_named : (s u : Server) → Restarted s u → (c g o : ℕ) → s.by_guid c g ≡ Some o → staying s.standing s.opened o ≡ true → u.by_guid c g ≡ Some o
 stays_named s u r c g o e stays = r.by_guid c g ∙ names_by (staying s.standing s.opened) (s.by_guid c g) o e stays
-
-both_of : (x y : Bool) → (x && y) ≡ true → x ≡ true × y ≡ true
-both_of x y e = (grind arith, grind arith)
 
 -- what stands behind it stood, is persistent and has its row
 pub stood : (s u : Server) → Restarted s u → (o : ℕ) → u.standing o ≡ true → s.standing o ≡ true × (s.opened o).persistent ≡ true × u.opened o ≡ s.opened o

@@ -1,5 +1,6 @@
 -- What a restart leaves of a server: its persistent opens, without a session, and its files; no session and no connection.
 use Rattle.std.specs.Prelude.{◌≡◌, ℕ, ◌+◌, Bool, true, false, List, [], Option, Some, None}
+use Rattle.exchange_defs.specs.Files.{exists_in, path_in}
 use Rattle.exchange_defs.specs.State.{Server, Open, Kept, Tree, Making}
 use Rattle.exchange_defs.specs.Fold.{persistent_in}
 use Rattle.recovery_law.specs.Recovers.{staying, kept_ranges, kept_guid}
@@ -42,3 +43,9 @@ pub record Restarted (s u : Server) : Type 0 where
   pub marks : u.marks ≡ s.marks
   pub mark_count : u.mark_count ≡ s.mark_count
   pub bare : Bare u
+
+-- and of the entries: what is there was there, at the same path; an unmarked file is there, and that of an open that stays
+pub record EntriesLeft (s u : Server) : Type 0 where
+  pub were : (f : ℕ) → exists_in u.entries f ≡ true → exists_in s.entries f ≡ true × path_in u.entries f ≡ path_in s.entries f
+  pub unmarked : (f : ℕ) → s.marked f ≡ false → exists_in u.entries f ≡ exists_in s.entries f
+  pub held : (o : ℕ) → staying s.standing s.opened o ≡ true → exists_in u.entries (s.opened o).file ≡ exists_in s.entries (s.opened o).file

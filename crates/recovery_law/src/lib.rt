@@ -9,14 +9,15 @@ ghost use Rattle.std.specs.Prelude.{List};
 ghost use Rattle.exchange_defs.specs.Fold.{StandsFor, recovered};
 ghost use Rattle.exchange_defs.specs.Network.{Event, Settings, run, start};
 ghost use Rattle.recovery_law.specs.Recovers.{Recovers};
-ghost use Rattle.recovery_law.specs.Restarted.{Restarted};
+ghost use Rattle.recovery_law.specs.Restarted.{EntriesLeft, Restarted};
 
 /// On every run, behind every event, the state that the journal's records fold to has the same durable part as the
 /// server (`stands`), column by column (`agree`): files, persistent opens with their rows, slots, guids and ranges,
-/// marks, epoch and version. So a restart at any moment leaves those opens and files, all of them and as they were,
-/// and ids of a new epoch, and no session (`restart`); of the entries alone it takes marked files without an open.
+/// marks, epoch and version. So a restart at any moment leaves those opens with all that is theirs, a new epoch of ids
+/// and no session (`restart`), and each file at its path, but for marked ones that no such open has (`entries`).
 pub fn recovery_law()
     ensures stands { (settings : Settings) (events : List Event) → StandsFor (run events (start settings)).records (run events (start settings)).server }
     ensures agree { (settings : Settings) (events : List Event) → Recovers (run events (start settings)).records (run events (start settings)).server }
     ensures restart { (settings : Settings) (events : List Event) → Restarted (run events (start settings)).server (recovered (run events (start settings)).server (run events (start settings)).records) }
+    ensures entries { (settings : Settings) (events : List Event) → EntriesLeft (run events (start settings)).server (recovered (run events (start settings)).server (run events (start settings)).records) }
 {}
