@@ -1,21 +1,21 @@
 -- Writes and set-infos, each with its record.
-use Rattle.std.proofs.Common.{eqb-true, ◌≡◌, ◌≢◌, ℕ, ◌+◌, ◌<◌, ◌==◌, nat_lt, nat_le, Bool, true, false, not, ◌&&◌, ◌||◌, if◌then◌else◌, List, [], ◌∷◌, length, refl, arith, sym, subst, ◌∙◌, ap, Option, Some, None, is_some, ◌⊎◌, inl, inr}
+use Rattle.std.proofs.Common.{eqb-true, ◌≡◌, ℕ, ◌+◌, ◌<◌, ◌==◌, nat_lt, Bool, true, false, not, ◌&&◌, ◌||◌, if◌then◌else◌, List, length, refl, arith, sym, subst, ◌∙◌, ap, Option, Some, None, ◌⊎◌, inl, inr}
 use Rattle.std.proofs.lemmas.Bool.Decides.{nat_tests}
 use Rattle.exchange_defs.specs.Texts.{is_path, is_below}
 use Rattle.exchange_defs.specs.Content.{written, ended, is_empty}
 use Rattle.exchange_defs.specs.Commands.{Basic, Setting, SetBasic, Rename, SetDelete, SetAllocation, SetEnd}
-use Rattle.exchange_defs.specs.State.{Server, Message, Origin, Record, WriteRecord, EndRecord, BasicRecord, DeleteRecord, RenameRecord, Body}
+use Rattle.exchange_defs.specs.State.{Server, Message, Origin, WriteRecord, EndRecord, BasicRecord, DeleteRecord, RenameRecord, Body}
 use Rattle.exchange_defs.specs.Table.{number_or_zero}
 use Rattle.exchange_defs.specs.Files.{root, find, path_of, exists, is_directory, has_parent, passes_room, set_content, store_basic, mark_file, rename_file, allocated}
 use Rattle.exchange_defs.specs.Opens.{file_has_open}
-use Rattle.exchange_defs.specs.CheckOpen.{file_of, target_of, target_refused, delete_names, bytes_change, allocation_change}
+use Rattle.exchange_defs.specs.CheckOpen.{file_of, target_of, target_refused, delete_names}
 use Rattle.exchange_defs.specs.Verdict.{Change, PutBytes, PutEnd, PutBasic, PutMark, PutPath, PutNothing}
 use Rattle.exchange_defs.specs.Records.{origin_of}
 use Rattle.exchange_defs.specs.Effects.{change_file, change_records}
 use Rattle.exchange_defs.specs.Fold.{with_record, fold_from, is_file, may_rename, may_replace, same_target}
 use Rattle.server_law.specs.Fits.{Listed}
-use Rattle.server_law.proofs.Found.{AlterFacts, WriteFacts, SettingFacts, SizeFacts, PathFacts, MarkFacts, setting_change, SettingSays}
-use Rattle.recovery_law.specs.Recovers.{staying, FilesAgree, OpensAgree, CountsAgree, Files, Opens, Counts, Mirrors}
+use Rattle.server_law.proofs.Found.{AlterFacts, WriteFacts, SettingFacts, setting_change, SettingSays}
+use Rattle.recovery_law.specs.Recovers.{Files, Mirrors}
 use Rattle.recovery_law.proofs.Lists.{ext}
 use Rattle.recovery_law.proofs.Guards.{same_exists, same_directory, same_find, same_parent, same_path, has_room, none_open}
 use Rattle.recovery_law.proofs.Files.{stores_basic, sets_content, marks_file, renames_file}
@@ -117,8 +117,8 @@ renamed d s origin f path there ok l h =
     let found = same_find d s h.0.entries path in let target = target_of f (find s path) in
     let same = ap (target_of f) found in
     let test = rename_test (exists d f) (f == root) (is_path path) (has_parent d path) (is_directory d f && is_below (path_of d f) path) (same_target (target_of f (find d path)) (number_or_zero target)) (may_replace d (target_of f (find d path)))
-        (same_exists d s h.0.entries f ∙ there) ok.no_root ok.is_text (same_parent d s h.0.entries h.0.directory path ∙ ok.parent) (same_below d s f path h.0 ∙ ok.not_below)
-        (ap (λ x. same_target x (number_or_zero target)) same ∙ same_target_of target) (ap (may_replace d) same ∙ replaceable d s target h l ok.target) in
+    (same_exists d s h.0.entries f ∙ there) ok.no_root ok.is_text (same_parent d s h.0.entries h.0.directory path ∙ ok.parent) (same_below d s f path h.0 ∙ ok.not_below)
+    (ap (λ x. same_target x (number_or_zero target)) same ∙ same_target_of target) (ap (may_replace d) same ∙ replaceable d s target h l ok.target) in
     let step : with_record d (RenameRecord origin f (number_or_zero target) path) ≡ rename_file d f (target_of f (find d path)) path = rw test refl in
     subst (λ x. Mirrors x (rename_file s f target path)) (sym step) (subst (λ x. Mirrors (rename_file d f x path) (rename_file s f target path)) (sym same) (renames_file d s f target path h))
 

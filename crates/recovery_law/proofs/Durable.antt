@@ -1,15 +1,15 @@
 -- A state that mirrors another mirrors itself, and has the same durable part.
-use Rattle.std.proofs.Common.{eqb-true, ◌≡◌, ◌≢◌, ℕ, ◌+◌, ◌≤◌, ◌==◌, Bool, true, false, not, ◌&&◌, ◌||◌, if◌then◌else◌, List, [], ◌∷◌, ◌++◌, refl, arith, sym, subst, ◌∙◌, ap, Option, Some, None}
-use Rattle.exchange_defs.specs.Table.{put, has}
-use Rattle.exchange_defs.specs.State.{Server, Open, Range, Kept, Record, VersionRecord, EpochRecord, Entry}
+use Rattle.std.proofs.Common.{◌≡◌, ℕ, ◌+◌, ◌≤◌, ◌==◌, Bool, true, false, ◌&&◌, if◌then◌else◌, List, [], ◌∷◌, ◌++◌, refl, arith, sym, subst, ◌∙◌, ap, Option, Some, None}
+use Rattle.exchange_defs.specs.Table.{has}
+use Rattle.exchange_defs.specs.State.{Server, Open, Kept, Record, VersionRecord, EpochRecord, Entry}
 use Rattle.exchange_defs.specs.Files.{remove_file}
 use Rattle.exchange_defs.specs.Records.{entry_bytes}
 use Rattle.exchange_defs.specs.Opens.{goes, without_gone}
-use Rattle.exchange_defs.specs.Fold.{nothing_yet, no_open, full_room, persistent_in, stays, stays_by_guid, ranges_that_stay, durable, fold, fold_from, with_record, sweep, begin_epoch, set_version, recovery_records, recovered}
+use Rattle.exchange_defs.specs.Fold.{nothing_yet, no_open, full_room, persistent_in, stays, stays_by_guid, ranges_that_stay, durable, fold, fold_from, sweep, begin_epoch, set_version, recovery_records, recovered}
 use Rattle.server_law.specs.Fits.{Listed}
 use Rattle.server_law.proofs.Logic.{either}
-use Rattle.recovery_law.specs.Recovers.{staying, kept_ranges, kept_guid, FilesAgree, OpensAgree, CountsAgree, Files, Opens, Counts, Mirrors, Recovers}
-use Rattle.recovery_law.proofs.Lists.{ext, ext2, at_head, in_tail, has_persistent}
+use Rattle.recovery_law.specs.Recovers.{staying, kept_ranges, kept_guid, Opens, Mirrors, Recovers}
+use Rattle.recovery_law.proofs.Lists.{ext, ext2, at_head, in_tail}
 use Rattle.recovery_law.proofs.Ranges.{kept_that_stay, kept_twice}
 use Rattle.recovery_law.proofs.Leaves.{fold_append}
 
@@ -125,9 +125,11 @@ own_recovered d s h =
     (λ _. own_epoch d (s.epoch + 1) h)
 
 configured : (d s : Server) (journal : ℕ) → Own d → s.room ≤ full_room → Mirrors d (record d { share = s.share; room = s.room; seals = s.seals; address = s.address; journal = journal })
-configured d s journal h fits =
-    (record { entries = refl; next_file = refl; directory = refl; marked = refl; basic = refl; content = refl }, h.0,
-    record { version = refl; epoch = refl; given = omega arith; full = h.1; room = fits; marks = refl; mark_count = refl })
+configured d s journal h fits = (
+  record { entries = refl; next_file = refl; directory = refl; marked = refl; basic = refl; content = refl },
+  h.0,
+  record { version = refl; epoch = refl; given = omega arith; full = h.1; room = fits; marks = refl; mark_count = refl },
+)
 
 pub restarts : (s : Server) (rs : List Record) → Listed s → Recovers rs s → Recovers (rs ++ recovery_records s) (recovered s rs)
 restarts s rs l h =

@@ -1,16 +1,15 @@
 -- A session that ends: its plain opens leave one after the other, and of that the fold sees the files alone.
-use Rattle.std.proofs.Common.{eqb-true, ◌≡◌, ◌≢◌, ℕ, ◌+◌, ◌<◌, ◌==◌, nat_lt, nat_le, Bool, true, false, not, ◌&&◌, ◌||◌, if◌then◌else◌, List, [], ◌∷◌, ◌++◌, length, refl, arith, sym, subst, ◌∙◌, ap, Option, Some, None, slice_get}
-use Rattle.std.proofs.lemmas.Bool.{eqb-false}
+use Rattle.std.proofs.Common.{eqb-true, ◌≡◌, ◌≢◌, ℕ, ◌<◌, ◌==◌, nat_lt, Bool, true, false, not, ◌&&◌, if◌then◌else◌, List, [], ◌∷◌, ◌++◌, refl, arith, sym, subst, ◌∙◌, ap, Option, Some, None}
 use Rattle.std.proofs.lemmas.Bool.Decides.{nat_tests}
 use Rattle.exchange_defs.specs.Table.{put, has, without, is_at, is_filled}
 use Rattle.exchange_defs.specs.Commands.{deletes_on_close}
-use Rattle.exchange_defs.specs.State.{Server, Open, Range, Record, Origin, Entry, DeleteRecord, RemoveRecord}
-use Rattle.exchange_defs.specs.Files.{root, exists, exists_in, mark_file, remove_file, without_file}
+use Rattle.exchange_defs.specs.State.{Server, Open, Origin, Entry, DeleteRecord, RemoveRecord}
+use Rattle.exchange_defs.specs.Files.{exists, exists_in, mark_file, remove_file, without_file}
 use Rattle.exchange_defs.specs.Opens.{opens_in, file_has_open, drop_open, goes, without_gone, marked_by, leave_open, mark_records, shut_records, gone_records, leave_records}
 use Rattle.exchange_defs.specs.Effects.{leaves, plain_in, plain_of, leave_all, leave_all_records, guid_staying, ranges_staying, end_session, end_records, end_if_named, records_if_named}
-use Rattle.exchange_defs.specs.Fold.{with_record, fold_from, may_remove}
+use Rattle.exchange_defs.specs.Fold.{fold_from}
 use Rattle.server_law.specs.Fits.{Listed, OpenFiles, Ascending, is_ascending}
-use Rattle.recovery_law.specs.Recovers.{staying, kept_ranges, kept_guid, FilesAgree, OpensAgree, CountsAgree, Files, Opens, Counts, Mirrors}
+use Rattle.recovery_law.specs.Recovers.{staying, kept_ranges, kept_guid, FilesAgree, Opens, Counts, Mirrors}
 use Rattle.recovery_law.proofs.Lists.{ext, has_without, has_file, at_head, in_tail, persistent_staying, has_persistent}
 use Rattle.recovery_law.proofs.Ranges.{kept_ranges_staying}
 use Rattle.recovery_law.proofs.Leaves.{marked_if, fold_append, removable, removed, may_mark, marked_record, plain_records, records_apart}
@@ -34,8 +33,10 @@ above_first x (y ∷ ys) h p e =
   where
     parts_of : (a b : Bool) → (a && b) ≡ true → a ≡ true × b ≡ true
     parts_of a b q = (grind arith, grind arith)
+
     less : (a b : ℕ) → nat_lt a b ≡ true → a < b
     less a b q = grind (arith, nat_tests)
+
     tail_of : (y p : ℕ) (ys : List ℕ) → (y == p) ≡ false → has p (y ∷ ys) ≡ true → has p ys ≡ true
     tail_of y p ys q e = grind arith
 
@@ -63,9 +64,9 @@ plain_facts s session (x ∷ xs) p e =
     let rest = plain_facts s session xs p in
     elim (leaves s session x) as (λ b. leaves s session x ≡ b → has p (if b then x ∷ plain_in s session xs else plain_in s session xs) ≡ true → has p (x ∷ xs) ≡ true × leaves s session p ≡ true) [
       | true ↦ λ q i. elim (x == p) as (λ b. x == p ≡ b → has p (x ∷ xs) ≡ true × leaves s session p ≡ true) [
-          | true ↦ λ t. let same = eqb-true x p t in (grind arith, subst (λ y. leaves s session y ≡ true) same q)
-          | false ↦ λ t. let more = rest (tail_of x p (plain_in s session xs) t i) in (in_tail p x xs more.0, more.1)
-        ] refl
+        | true ↦ λ t. let same = eqb-true x p t in (grind arith, subst (λ y. leaves s session y ≡ true) same q)
+        | false ↦ λ t. let more = rest (tail_of x p (plain_in s session xs) t i) in (in_tail p x xs more.0, more.1)
+      ] refl
       | false ↦ λ q i. let more = rest i in (in_tail p x xs more.0, more.1)
     ] refl e
   where
@@ -85,9 +86,11 @@ plain_distinct s session (x ∷ xs) h =
   where
     parts_of : (a b : Bool) → (not a && b) ≡ true → a ≡ false × b ≡ true
     parts_of a b q = (grind arith, grind arith)
+
     absent : (a b : Bool) → b ≡ false → (a ≡ true → b ≡ true) → a ≡ false
     absent true b e f = absurd (cc (f refl, e))
     absent false b e f = refl
+
     joined : (a b : Bool) → a ≡ false → b ≡ true → (not a && b) ≡ true
     joined a b e f = grind arith
 
@@ -130,13 +133,23 @@ unfolding fold_from exists
 chain_marks s0 d s origin o f true true m there n h =
     record {
       files = record { entries = h.files.entries; next_file = h.files.next_file; directory = h.files.directory; marked = h.files.marked ∙ ext s.marked (put s.marked f true) (put_same_bool s.marked f m); basic = h.files.basic; content = h.files.content };
-      opens = h.opens; counts = h.counts; directory = h.directory; subset = h.subset; there = h.there; not_root = h.not_root;
+      opens = h.opens;
+      counts = h.counts;
+      directory = h.directory;
+      subset = h.subset;
+      there = h.there;
+      not_root = h.not_root;
     }
 chain_marks s0 d s origin o f true false m there n h =
     subst (λ x. Chain s0 x (mark_file s f true)) (sym (marked_record d origin f true (may_mark d s f h.files.entries there (n refl))))
     (record {
       files = record { entries = h.files.entries; next_file = h.files.next_file; directory = h.files.directory; marked = ap (λ x. put x f true) h.files.marked; basic = h.files.basic; content = h.files.content };
-      opens = h.opens; counts = h.counts; directory = h.directory; subset = h.subset; there = h.there; not_root = h.not_root;
+      opens = h.opens;
+      counts = h.counts;
+      directory = h.directory;
+      subset = h.subset;
+      there = h.there;
+      not_root = h.not_root;
     })
 chain_marks s0 d s origin o f false c m there n h = h
 
@@ -153,7 +166,10 @@ chain_drops : (s0 d s : Server) (o : ℕ) → (s.opened o).persistent ≡ false 
 unfolding exists
 chain_drops s0 d s o plain h =
     record {
-      files = h.files; opens = h.opens; counts = h.counts; directory = h.directory;
+      files = h.files;
+      opens = h.opens;
+      counts = h.counts;
+      directory = h.directory;
       subset = λ p e. let t = h.subset p e in (still_has p o s.opens (kept_apart s.opened o p plain t.2) t.0, t.1, t.2);
       there = λ p e. h.there p (had p o s.opens e);
       not_root = λ p e. h.not_root p (had p o s.opens e);
@@ -187,7 +203,10 @@ chain_gone s0 d s origin f h =
           subst (λ x. Chain s0 x (remove_file s f)) (sym (removed d origin f (removable d s f h.files.entries (h.files.directory ∙ sym h.directory) (chain_none s0 d s f h) g)))
           (record {
             files = record { entries = ap (without_file f) h.files.entries; next_file = h.files.next_file; directory = h.files.directory; marked = h.files.marked; basic = h.files.basic; content = h.files.content };
-            opens = h.opens; counts = h.counts; directory = h.directory; subset = h.subset;
+            opens = h.opens;
+            counts = h.counts;
+            directory = h.directory;
+            subset = h.subset;
             there = λ p e. there_still s f p g e (h.there p e);
             not_root = h.not_root;
           })
@@ -245,7 +264,7 @@ chain_all s0 d s origin (o ∷ os) apart each h =
     subst (λ x. Chain s0 x (leave_all (leave_open s o) os)) (sym (fold_append d (leave_records s origin o) (leave_all_records (leave_open s o) origin os)))
     (chain_all s0 (fold_from d (leave_records s origin o)) (leave_open s o) origin os (rest_distinct o os apart)
     (λ p e. let old = each p (in_tail p o os e) in
-        (ap (has p) (leave_opens s o) ∙ still_has p o s.opens (first_apart o p os apart e) old.0, ap (λ (rows : ℕ → Open). (rows p).persistent) (leave_rows s o) ∙ old.1))
+    (ap (has p) (leave_opens s o) ∙ still_has p o s.opens (first_apart o p os apart e) old.0, ap (λ (rows : ℕ → Open). (rows p).persistent) (leave_rows s o) ∙ old.1))
     (chain_leaves s0 d s origin o head.0 head.1 h))
 
 -- ---- the end
@@ -267,7 +286,10 @@ chain_begins : (d s : Server) → Ender s → Mirrors d s → Chain s d s
 unfolding exists
 chain_begins d s e h =
     record {
-      files = h.0; opens = h.1; counts = h.2; directory = refl;
+      files = h.0;
+      opens = h.1;
+      counts = h.2;
+      directory = refl;
       subset = λ p i.
           let t = both_of (has p s.opens) (s.opened p).persistent (sym (has_persistent s.opened p s.opens) ∙ ap (has p) (sym h.1.opens) ∙ i) in
           (t.0, h.1.opened p (both (s.standing p) (s.opened p).persistent (sym (e.listed p) ∙ t.0) t.1), t.1);
@@ -277,6 +299,7 @@ chain_begins d s e h =
   where
     both_of : (a b : Bool) → (a && b) ≡ true → a ≡ true × b ≡ true
     both_of a b q = (grind arith, grind arith)
+
     both : (a b : Bool) → a ≡ true → b ≡ true → (a && b) ≡ true
     both a b q r = grind arith
 

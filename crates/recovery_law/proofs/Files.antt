@@ -1,32 +1,43 @@
 -- What a record does to a file, the server did.
-use Rattle.std.proofs.Common.{eqb-true, ◌≡◌, ◌≢◌, ℕ, ◌+◌, ◌-◌, ◌≤◌, ◌<◌, ◌==◌, nat_lt, nat_le, Bool, true, false, not, ◌&&◌, ◌||◌, if◌then◌else◌, List, [], ◌∷◌, ◌++◌, length, refl, arith, sym, subst, ◌∙◌, ap, Option, Some, None}
-use Rattle.exchange_defs.specs.Table.{put, has, without, is_filled}
-use Rattle.exchange_defs.specs.Content.{written, ended}
+use Rattle.std.proofs.Common.{◌≡◌, ℕ, ◌+◌, Bool, true, false, List, [], ◌∷◌, ◌++◌, arith, ◌∙◌, ap, Option}
+use Rattle.exchange_defs.specs.Table.{put}
 use Rattle.exchange_defs.specs.Commands.{Basic}
-use Rattle.exchange_defs.specs.State.{Server, Open, Entry, Range}
+use Rattle.exchange_defs.specs.State.{Server, Entry, Range}
 use Rattle.exchange_defs.specs.Files.{path_of, path_in, times_at, touched, emptied_basic, make_file, set_content, empty_file, mark_file, store_basic, without_file, remove_file, moved_entries, without_target, rename_file}
-use Rattle.recovery_law.specs.Recovers.{staying, kept_ranges, kept_guid, FilesAgree, OpensAgree, CountsAgree, Files, Opens, Counts, Mirrors}
-use Rattle.recovery_law.proofs.Lists.{ext, put_here, put_there}
+use Rattle.recovery_law.specs.Recovers.{staying, kept_ranges, Mirrors}
+use Rattle.recovery_law.proofs.Lists.{ext}
 
 pub stores_basic : (d s : Server) (f : ℕ) (b : Basic) → Mirrors d s → Mirrors (store_basic d f b) (store_basic s f b)
 stores_basic d s f b h =
     (record { entries = h.0.entries; next_file = h.0.next_file; directory = h.0.directory; marked = h.0.marked; basic = ap (λ x. put x f b) h.0.basic; content = h.0.content }, h.1, h.2)
 
 pub sets_content : (d s : Server) (f : ℕ) (change : List ℕ → List ℕ) (now : ℕ) → Mirrors d s → Mirrors (set_content d f (change (d.content f)) now) (set_content s f (change (s.content f)) now)
-sets_content d s f change now h =
-    (record {
-      entries = h.0.entries; next_file = h.0.next_file; directory = h.0.directory; marked = h.0.marked;
-      basic = ap (λ (x : ℕ → Basic). put x f (touched (x f) now)) h.0.basic;
-      content = ap (λ (x : ℕ → List ℕ). put x f (change (x f))) h.0.content;
-    }, h.1, h.2)
+sets_content d s f change now h = (
+  record {
+    entries = h.0.entries;
+    next_file = h.0.next_file;
+    directory = h.0.directory;
+    marked = h.0.marked;
+    basic = ap (λ (x : ℕ → Basic). put x f (touched (x f) now)) h.0.basic;
+    content = ap (λ (x : ℕ → List ℕ). put x f (change (x f))) h.0.content;
+  },
+  h.1,
+  h.2,
+)
 
 pub empties_file : (d s : Server) (f attributes now : ℕ) → Mirrors d s → Mirrors (empty_file d f attributes now) (empty_file s f attributes now)
-empties_file d s f attributes now h =
-    (record {
-      entries = h.0.entries; next_file = h.0.next_file; directory = h.0.directory; marked = h.0.marked;
-      basic = ap (λ (x : ℕ → Basic). put x f (emptied_basic (x f) attributes now)) h.0.basic;
-      content = ap (λ (x : ℕ → List ℕ). put x f []) h.0.content;
-    }, h.1, h.2)
+empties_file d s f attributes now h = (
+  record {
+    entries = h.0.entries;
+    next_file = h.0.next_file;
+    directory = h.0.directory;
+    marked = h.0.marked;
+    basic = ap (λ (x : ℕ → Basic). put x f (emptied_basic (x f) attributes now)) h.0.basic;
+    content = ap (λ (x : ℕ → List ℕ). put x f []) h.0.content;
+  },
+  h.1,
+  h.2,
+)
 
 pub marks_file : (d s : Server) (f : ℕ) (flag : Bool) → Mirrors d s → Mirrors (mark_file d f flag) (mark_file s f flag)
 marks_file d s f flag h =
@@ -59,16 +70,22 @@ new_ranges p drs rs n m e h f = let old = h f in grind arith
 
 pub makes_file : (d s : Server) (path : List ℕ) (is_dir : Bool) (attributes now : ℕ) → Mirrors d s → Mirrors (make_file d path is_dir attributes now) (make_file s path is_dir attributes now)
 makes_file d s path is_dir attributes now h =
-    let n = h.0.next_file in
-    (record {
-      entries = λ t. h.0.entries t ++ entry (n t) path ∷ [];
-      next_file = λ t. n t + 1;
-      directory = λ t. put (h.0.directory t) (n t) is_dir;
-      marked = λ t. put (h.0.marked t) (n t) false;
-      basic = λ t. put (h.0.basic t) (n t) (times_at now attributes);
-      content = λ t. put (h.0.content t) (n t) [];
-    },
-    record {
-      opens = h.1.opens; standing = h.1.standing; opened = h.1.opened; slots = h.1.slots; by_guid = h.1.by_guid;
-      ranges = new_ranges (staying s.standing s.opened) d.ranges s.ranges d.next_file s.next_file n h.1.ranges;
-    }, h.2)
+    let n = h.0.next_file in (
+      record {
+        entries = λ t. h.0.entries t ++ entry (n t) path ∷ [];
+        next_file = λ t. n t + 1;
+        directory = λ t. put (h.0.directory t) (n t) is_dir;
+        marked = λ t. put (h.0.marked t) (n t) false;
+        basic = λ t. put (h.0.basic t) (n t) (times_at now attributes);
+        content = λ t. put (h.0.content t) (n t) [];
+      },
+      record {
+        opens = h.1.opens;
+        standing = h.1.standing;
+        opened = h.1.opened;
+        slots = h.1.slots;
+        by_guid = h.1.by_guid;
+        ranges = new_ranges (staying s.standing s.opened) d.ranges s.ranges d.next_file s.next_file n h.1.ranges;
+      },
+      h.2,
+    )

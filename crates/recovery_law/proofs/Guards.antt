@@ -1,14 +1,13 @@
 -- What a record's guard asks of the fold's state, from the same of the server's.
-use Rattle.std.proofs.Common.{eqb-true, ◌≡◌, ◌≢◌, ℕ, ◌+◌, ◌-◌, ◌≤◌, ◌<◌, ◌==◌, nat_lt, nat_le, Bool, true, false, not, ◌&&◌, ◌||◌, if◌then◌else◌, List, [], ◌∷◌, ◌++◌, length, refl, arith, sym, subst, ◌∙◌, ap, Option, Some, None}
-use Rattle.std.proofs.lemmas.Bool.{eqb-false}
+use Rattle.std.proofs.Common.{◌≡◌, ℕ, ◌+◌, ◌-◌, ◌≤◌, ◌==◌, nat_lt, Bool, true, false, ◌&&◌, ◌||◌, List, [], ◌∷◌, length, refl, arith, sym, ◌∙◌, ap, Option, Some, None}
 use Rattle.std.proofs.lemmas.Bool.Decides.{nat_tests}
-use Rattle.exchange_defs.specs.Table.{put, has, without, is_filled}
+use Rattle.exchange_defs.specs.Table.{has}
 use Rattle.exchange_defs.specs.Texts.{parent_of}
-use Rattle.exchange_defs.specs.State.{Server, Open, Entry}
-use Rattle.exchange_defs.specs.Files.{root, find, find_in, path_of, path_in, exists, exists_in, is_directory, is_found_directory, has_parent, has_below, is_full_directory, used, sizes, passes_room}
-use Rattle.exchange_defs.specs.Opens.{opens_in, file_has_open, goes}
-use Rattle.exchange_defs.specs.Fold.{full_room, persistent_in}
-use Rattle.recovery_law.specs.Recovers.{staying, kept_ranges, kept_guid, FilesAgree, OpensAgree, CountsAgree, Files, Opens, Counts, Mirrors}
+use Rattle.exchange_defs.specs.State.{Server}
+use Rattle.exchange_defs.specs.Files.{root, find, find_in, path_of, path_in, exists, exists_in, is_directory, is_found_directory, has_parent, is_full_directory, used, sizes, passes_room}
+use Rattle.exchange_defs.specs.Opens.{file_has_open}
+use Rattle.exchange_defs.specs.Fold.{full_room}
+use Rattle.recovery_law.specs.Recovers.{Opens}
 use Rattle.server_law.specs.Fits.{Listed}
 use Rattle.recovery_law.proofs.Lists.{none_persistent}
 
@@ -54,9 +53,6 @@ pub has_room : (d s : Server) (f size : ℕ) → d.entries ≡ s.entries → d.c
 unfolding passes_room
 has_room d s f size e h full within fits =
     rw (same_used d s e h, h, full) (room_test s.room full_room (used s - length (s.content f)) size (nat_lt (length (s.content f)) size) within fits)
-
-
-
 
 stays_of : (x y z : Bool) → x ≡ true → y ≡ x → z ≡ true → (y && z) ≡ true
 stays_of x y z a b c = grind arith

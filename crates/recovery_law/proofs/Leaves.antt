@@ -1,16 +1,14 @@
 -- Opens that leave, with their files where those go, and expiry.
-use Rattle.std.proofs.Common.{eqb-true, ◌≡◌, ◌≢◌, ℕ, ◌+◌, ◌==◌, nat_lt, nat_le, Bool, true, false, not, ◌&&◌, ◌||◌, if◌then◌else◌, List, [], ◌∷◌, ◌++◌, length, refl, arith, sym, subst, ◌∙◌, ap, Option, Some, None, slice_get}
-use Rattle.std.proofs.lemmas.Bool.{eqb-false}
-use Rattle.std.proofs.lemmas.Bool.Decides.{nat_tests}
-use Rattle.exchange_defs.specs.Table.{put, put2, has, without}
+use Rattle.std.proofs.Common.{◌≡◌, ◌≢◌, ℕ, ◌+◌, ◌==◌, nat_lt, Bool, true, false, not, ◌&&◌, if◌then◌else◌, List, [], ◌∷◌, ◌++◌, refl, arith, sym, subst, ◌∙◌, ap, Option, Some, None, slice_get}
+use Rattle.exchange_defs.specs.Table.{put2}
 use Rattle.exchange_defs.specs.Commands.{deletes_on_close}
 use Rattle.exchange_defs.specs.State.{Server, Open, Range, Record, Origin, DeleteRecord, RemoveRecord, ShutRecord, ExpireRecord}
 use Rattle.exchange_defs.specs.Files.{root, exists, is_full_directory, mark_file, remove_file}
 use Rattle.exchange_defs.specs.Opens.{file_has_open, drop_open, goes, without_gone, marked_by, leave_open, mark_records, shut_records, gone_records, leave_records}
 use Rattle.exchange_defs.specs.Step.{add_mark, expire, expire_records, max_marks}
 use Rattle.exchange_defs.specs.Fold.{with_record, fold_from, may_remove, shut_recorded}
-use Rattle.recovery_law.specs.Recovers.{staying, kept_ranges, kept_guid, FilesAgree, OpensAgree, CountsAgree, Files, Opens, Counts, Mirrors}
-use Rattle.recovery_law.proofs.Lists.{ext, has_without}
+use Rattle.recovery_law.specs.Recovers.{staying, Mirrors}
+use Rattle.recovery_law.proofs.Lists.{has_without}
 use Rattle.server_law.specs.Fits.{Listed}
 use Rattle.recovery_law.proofs.Guards.{same_exists, same_full, none_open}
 use Rattle.recovery_law.proofs.Files.{marks_file, marks_again, removes_file}
@@ -144,12 +142,19 @@ leaves_recorded d s origin o leaver l h =
 
 adds_mark : (d s : Server) (client : ℕ) (guid : Option ℕ) → Mirrors d s → Mirrors (add_mark d client guid) (add_mark s client guid)
 adds_mark d s client None h = h
-adds_mark d s client (Some g) h =
-    (h.0, h.1, record {
-      version = h.2.version; epoch = h.2.epoch; given = h.2.given; full = h.2.full; room = h.2.room;
-      marks = ap (λ x. put2 x client g true) h.2.marks;
-      mark_count = ap (λ x. x + 1) h.2.mark_count;
-    })
+adds_mark d s client (Some g) h = (
+  h.0,
+  h.1,
+  record {
+    version = h.2.version;
+    epoch = h.2.epoch;
+    given = h.2.given;
+    full = h.2.full;
+    room = h.2.room;
+    marks = ap (λ x. put2 x client g true) h.2.marks;
+    mark_count = ap (λ x. x + 1) h.2.mark_count;
+  },
+)
 
 gone_marked : (d s : Server) (origin : Origin) (f client : ℕ) (guid : Option ℕ) → Mirrors d s → Listed s → Mirrors (fold_from (add_mark d client guid) (gone_records s origin f)) (add_mark (without_gone s f) client guid)
 unfolding gone_records fold_from

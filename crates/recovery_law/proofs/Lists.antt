@@ -1,11 +1,10 @@
 -- The persistent opens of a list of opens.
-use Rattle.std.proofs.Common.{eqb-true, ◌≡◌, ◌≢◌, ℕ, ◌+◌, ◌≤◌, ◌<◌, ◌==◌, nat_lt, nat_le, Bool, true, false, not, ◌&&◌, ◌||◌, if◌then◌else◌, List, [], ◌∷◌, ◌++◌, length, refl, arith, sym, subst, ◌∙◌, ap, Option, Some, None}
-use Rattle.std.proofs.lemmas.Bool.{eqb-false}
+use Rattle.std.proofs.Common.{◌≡◌, ◌≢◌, ℕ, ◌≤◌, ◌<◌, ◌==◌, nat_lt, true, false, ◌&&◌, if◌then◌else◌, List, [], ◌∷◌, length, refl, arith}
 use Rattle.std.proofs.lemmas.Bool.Decides.{nat_tests}
-use Rattle.exchange_defs.specs.Table.{put, has, without, placed_in, is_at, is_filled}
+use Rattle.exchange_defs.specs.Table.{put, has, without, placed_in, is_filled}
 use Rattle.exchange_defs.specs.State.{Server, Open}
 use Rattle.exchange_defs.specs.Opens.{opens_in}
-use Rattle.exchange_defs.specs.Effects.{leaves, staying_in}
+use Rattle.exchange_defs.specs.Effects.{staying_in}
 use Rattle.exchange_defs.specs.Fold.{persistent_in}
 
 -- equal at each key

@@ -1,18 +1,15 @@
 -- Locks: the slot and the ranges of an open that stays, in both states.
-use Rattle.std.proofs.Common.{eqb-true, ◌≡◌, ◌≢◌, ℕ, ◌+◌, ◌==◌, nat_lt, nat_le, Bool, true, false, not, ◌&&◌, ◌||◌, if◌then◌else◌, List, [], ◌∷◌, ◌++◌, length, refl, arith, sym, subst, ◌∙◌, ap, Option, Some, None, slice_get}
-use Rattle.std.proofs.lemmas.Bool.{eqb-false}
-use Rattle.std.proofs.lemmas.Bool.Decides.{nat_tests}
-use Rattle.exchange_defs.specs.Table.{put, put2, has}
+use Rattle.std.proofs.Common.{◌≡◌, ◌≢◌, ℕ, ◌==◌, nat_le, Bool, true, false, not, ◌&&◌, ◌||◌, if◌then◌else◌, List, [], ◌∷◌, refl, arith, sym, subst, ◌∙◌, ap, Option, Some}
+use Rattle.exchange_defs.specs.Table.{put, put2}
 use Rattle.exchange_defs.specs.Status.{success}
 use Rattle.exchange_defs.specs.Commands.{Element, all_lock, all_unlock}
-use Rattle.exchange_defs.specs.State.{Server, Message, Open, Range, Kept, Record, Origin, LockRecord}
-use Rattle.exchange_defs.specs.Ranges.{RangeAnswer, Stands, Denied, change_ranges}
+use Rattle.exchange_defs.specs.State.{Server, Message, Open, Range, Kept, Origin, LockRecord}
+use Rattle.exchange_defs.specs.Ranges.{Stands, change_ranges}
 use Rattle.exchange_defs.specs.CheckOpen.{is_slot, file_of}
 use Rattle.exchange_defs.specs.Records.{origin_of}
 use Rattle.exchange_defs.specs.Effects.{keep_slot, set_ranges, recorded_index, lock_records}
-use Rattle.exchange_defs.specs.Fold.{with_record, fold_from, lock_recorded, lock_granted}
-use Rattle.recovery_law.specs.Recovers.{staying, kept_ranges, kept_guid, FilesAgree, OpensAgree, CountsAgree, Files, Opens, Counts, Mirrors}
-use Rattle.recovery_law.proofs.Lists.{ext}
+use Rattle.exchange_defs.specs.Fold.{with_record, fold_from, lock_granted}
+use Rattle.recovery_law.specs.Recovers.{staying, kept_ranges, Mirrors}
 use Rattle.recovery_law.proofs.Ranges.{changed_kept, changed_plain}
 
 either : {X : Type 0} (P : X → Type 0) (b : Bool) (x y : X) → (b ≡ true → P x) → (b ≡ false → P y) → P (if b then x else y)
@@ -30,20 +27,34 @@ slots_both p dsl slots o index v h x i e = let old = h x i e in grind arith
 pub keeps_slot_plain : (d s : Server) (o index number status : ℕ) → staying s.standing s.opened o ≡ false → Mirrors d s → Mirrors d (keep_slot s o index number status)
 keeps_slot_plain d s o index number status plain h =
     either (λ x. Mirrors d x) (is_slot index) _ s
-    (λ _. (h.0, record {
-      opens = h.1.opens; standing = h.1.standing; opened = h.1.opened;
-      slots = slots_plain (staying s.standing s.opened) d.slots s.slots o index (Some (record { number = number; status = status })) plain h.1.slots;
-      by_guid = h.1.by_guid; ranges = h.1.ranges;
-    }, h.2))
+    (λ _. (
+      h.0,
+      record {
+        opens = h.1.opens;
+        standing = h.1.standing;
+        opened = h.1.opened;
+        slots = slots_plain (staying s.standing s.opened) d.slots s.slots o index (Some (record { number = number; status = status })) plain h.1.slots;
+        by_guid = h.1.by_guid;
+        ranges = h.1.ranges;
+      },
+      h.2,
+    ))
     (λ _. h)
 
 keeps_slot_at : (d s : Server) (o index number status : ℕ) → Mirrors d s → (b : Bool) → is_slot index ≡ b → Mirrors (keep_slot d o (if b then index else 0) number status) (keep_slot s o index number status)
 keeps_slot_at d s o index number status h true e =
-    rw e (h.0, record {
-      opens = h.1.opens; standing = h.1.standing; opened = h.1.opened;
-      slots = slots_both (staying s.standing s.opened) d.slots s.slots o index (Some (record { number = number; status = status })) h.1.slots;
-      by_guid = h.1.by_guid; ranges = h.1.ranges;
-    }, h.2)
+    rw e (
+      h.0,
+      record {
+        opens = h.1.opens;
+        standing = h.1.standing;
+        opened = h.1.opened;
+        slots = slots_both (staying s.standing s.opened) d.slots s.slots o index (Some (record { number = number; status = status })) h.1.slots;
+        by_guid = h.1.by_guid;
+        ranges = h.1.ranges;
+      },
+      h.2,
+    )
 keeps_slot_at d s o index number status h false e = rw e h
 
 pub keeps_slot : (d s : Server) (o index number status : ℕ) → Mirrors d s → Mirrors (keep_slot d o (recorded_index index) number status) (keep_slot s o index number status)
@@ -58,18 +69,32 @@ ranges_both : (p : ℕ → Bool) (drs rs : ℕ → List Range) (f : ℕ) (out : 
 ranges_both p drs rs f out h k = let old = h k in grind arith
 
 pub sets_ranges_plain : (d s : Server) (o : ℕ) (es : List Element) (out : List Range) → staying s.standing s.opened o ≡ false → change_ranges (s.ranges (file_of s o)) o es ≡ Stands out → Mirrors d s → Mirrors d (set_ranges s (file_of s o) out)
-sets_ranges_plain d s o es out plain stands h =
-    (h.0, record {
-      opens = h.1.opens; standing = h.1.standing; opened = h.1.opened; slots = h.1.slots; by_guid = h.1.by_guid;
-      ranges = ranges_plain (staying s.standing s.opened) d.ranges s.ranges (file_of s o) out (changed_plain (staying s.standing s.opened) o es (s.ranges (file_of s o)) out plain stands) h.1.ranges;
-    }, h.2)
+sets_ranges_plain d s o es out plain stands h = (
+  h.0,
+  record {
+    opens = h.1.opens;
+    standing = h.1.standing;
+    opened = h.1.opened;
+    slots = h.1.slots;
+    by_guid = h.1.by_guid;
+    ranges = ranges_plain (staying s.standing s.opened) d.ranges s.ranges (file_of s o) out (changed_plain (staying s.standing s.opened) o es (s.ranges (file_of s o)) out plain stands) h.1.ranges;
+  },
+  h.2,
+)
 
 pub sets_ranges : (d s : Server) (f : ℕ) (out : List Range) → Mirrors d s → Mirrors (set_ranges d f (kept_ranges (staying s.standing s.opened) out)) (set_ranges s f out)
-sets_ranges d s f out h =
-    (h.0, record {
-      opens = h.1.opens; standing = h.1.standing; opened = h.1.opened; slots = h.1.slots; by_guid = h.1.by_guid;
-      ranges = ranges_both (staying s.standing s.opened) d.ranges s.ranges f out h.1.ranges;
-    }, h.2)
+sets_ranges d s f out h = (
+  h.0,
+  record {
+    opens = h.1.opens;
+    standing = h.1.standing;
+    opened = h.1.opened;
+    slots = h.1.slots;
+    by_guid = h.1.by_guid;
+    ranges = ranges_both (staying s.standing s.opened) d.ranges s.ranges f out h.1.ranges;
+  },
+  h.2,
+)
 
 -- ---- the record
 
@@ -134,7 +159,7 @@ pub ranges_put : (d s : Server) (m : Message) (o index number : ℕ) (out : List
 unfolding lock_records fold_from
 ranges_put d s m o index number out es stands kind grants h =
     elim (s.opened o).persistent as (λ b. (s.opened o).persistent ≡ b
-        → Mirrors (fold_from d (if b then LockRecord (origin_of m) o (recorded_index index) number success es ∷ [] else [])) (keep_slot (set_ranges s (file_of s o) out) o index number success)) [
+    → Mirrors (fold_from d (if b then LockRecord (origin_of m) o (recorded_index index) number success es ∷ [] else [])) (keep_slot (set_ranges s (file_of s o) out) o index number success)) [
       | true ↦ λ e. ranges_recorded d s (origin_of m) o index number out es (staying_of s o true stands e) kind grants h
       | false ↦ λ e. let plain = staying_of s o false stands e in
           keeps_slot_plain d (set_ranges s (file_of s o) out) o index number success plain (sets_ranges_plain d s o es out plain grants h)

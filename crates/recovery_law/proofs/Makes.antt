@@ -1,20 +1,19 @@
 -- A create that makes an open: the file first, then the open.
-use Rattle.std.proofs.Common.{eqb-true, ◌≡◌, ◌≢◌, ℕ, ◌+◌, ◌*◌, ◌/◌, ◌%◌, ◌≤◌, ◌<◌, ◌==◌, nat_lt, nat_le, max, Bool, true, false, not, ◌&&◌, ◌||◌, if◌then◌else◌, List, [], ◌∷◌, ◌++◌, length, refl, arith, sym, subst, ◌∙◌, ap, Option, Some, None, is_some, slice_get}
-use Rattle.std.proofs.lemmas.Bool.{eqb-false}
+use Rattle.std.proofs.Common.{eqb-true, ◌≡◌, ℕ, ◌+◌, ◌/◌, ◌%◌, ◌≤◌, ◌<◌, ◌==◌, nat_lt, nat_le, max, Bool, true, false, not, ◌&&◌, ◌||◌, if◌then◌else◌, List, [], ◌∷◌, length, refl, arith, sym, subst, ◌∙◌, ap, Option, Some, None, is_some, slice_get}
 use Rattle.std.proofs.lemmas.Bool.Decides.{nat_tests}
-use Rattle.exchange_defs.specs.Table.{put, put2, has, number_or_zero}
+use Rattle.exchange_defs.specs.Table.{put, has, number_or_zero}
 use Rattle.exchange_defs.specs.Texts.{is_path}
 use Rattle.exchange_defs.specs.Commands.{CreateRequest, Durable, asks_directory}
-use Rattle.exchange_defs.specs.State.{Server, Message, Open, Range, Record, Origin, CreateRecord, NewOpen}
-use Rattle.exchange_defs.specs.Files.{root, find, exists, is_directory, has_parent, make_file, empty_file}
+use Rattle.exchange_defs.specs.State.{Server, Message, Open, Range, Origin, CreateRecord, NewOpen}
+use Rattle.exchange_defs.specs.Files.{find, exists, is_directory, has_parent, empty_file}
 use Rattle.exchange_defs.specs.Opens.{id_of, max_ids, mapped, add_open}
-use Rattle.exchange_defs.specs.CheckCreate.{max_opens, max_files, last_file, empties, action_on_found, action_of}
+use Rattle.exchange_defs.specs.CheckCreate.{max_opens, max_files, last_file, empties, action_of}
 use Rattle.exchange_defs.specs.Records.{origin_of}
 use Rattle.exchange_defs.specs.Effects.{guid_of, is_persistent, timeout_asked, new_file, file_made, open_row, next_open, guids_after, make_open, new_open, create_records}
-use Rattle.exchange_defs.specs.Fold.{with_record, fold_from, may_make, may_restore, may_have_open, may_create, restored_row, restore, created_file, persistent_in}
+use Rattle.exchange_defs.specs.Fold.{with_record, fold_from, may_make, may_restore, may_have_open, may_create, restored_row, restore, created_file}
 use Rattle.server_law.specs.Fits.{Listed, GuidOpen, RangeOwners, OpenIds}
-use Rattle.server_law.proofs.Found.{MakeFacts, ThereFacts, MissingFacts}
-use Rattle.recovery_law.specs.Recovers.{staying, kept_ranges, kept_guid, FilesAgree, OpensAgree, CountsAgree, Files, Opens, Counts, Mirrors}
+use Rattle.server_law.proofs.Found.{MakeFacts, ThereFacts}
+use Rattle.recovery_law.specs.Recovers.{staying, kept_guid, Files, Mirrors}
 use Rattle.recovery_law.proofs.Lists.{length_persistent}
 use Rattle.recovery_law.proofs.Guards.{same_exists, same_directory, same_find, same_parent}
 use Rattle.recovery_law.proofs.Files.{empties_file, makes_file}
@@ -118,17 +117,35 @@ new_id_made s o r (Some f) now i = new_id_if s o f r.attributes now (empties r.d
 
 opens_persistent : (d s : Server) (o : ℕ) (row : Open) (session : Option ℕ) (sequence fold_given given : ℕ) (guids : ℕ → ℕ) → row.persistent ≡ true → NewId s o → fold_given ≤ given → Mirrors d s
     → Mirrors (record (add_open d o row None 0) { given = fold_given }) (record (add_open s o row session sequence) { given = given; guids = guids })
-opens_persistent d s o row session sequence fold_given given guids kept i few h =
-    (h.0, adds_persistent d s o row session sequence i.new kept i.above i.guids i.owners h.1, record {
-      version = h.2.version; epoch = h.2.epoch; given = few; full = h.2.full; room = h.2.room; marks = h.2.marks; mark_count = h.2.mark_count;
-    })
+opens_persistent d s o row session sequence fold_given given guids kept i few h = (
+  h.0,
+  adds_persistent d s o row session sequence i.new kept i.above i.guids i.owners h.1,
+  record {
+    version = h.2.version;
+    epoch = h.2.epoch;
+    given = few;
+    full = h.2.full;
+    room = h.2.room;
+    marks = h.2.marks;
+    mark_count = h.2.mark_count;
+  },
+)
 
 opens_plain : (d s : Server) (o : ℕ) (row : Open) (session : Option ℕ) (sequence given : ℕ) (guids : ℕ → ℕ) → row.persistent ≡ false → NewId s o → ((g : ℕ) → row.guid ≡ Some g → s.by_guid row.client g ≡ None) → d.given ≤ given → Mirrors d s
     → Mirrors d (record (add_open s o row session sequence) { given = given; guids = guids })
-opens_plain d s o row session sequence given guids plain i free few h =
-    (h.0, adds_plain d s o row session sequence i.new i.absent plain free h.1, record {
-      version = h.2.version; epoch = h.2.epoch; given = few; full = h.2.full; room = h.2.room; marks = h.2.marks; mark_count = h.2.mark_count;
-    })
+opens_plain d s o row session sequence given guids plain i free few h = (
+  h.0,
+  adds_plain d s o row session sequence i.new i.absent plain free h.1,
+  record {
+    version = h.2.version;
+    epoch = h.2.epoch;
+    given = few;
+    full = h.2.full;
+    room = h.2.room;
+    marks = h.2.marks;
+    mark_count = h.2.mark_count;
+  },
+)
 
 -- ---- the row of the record
 
@@ -154,7 +171,16 @@ same_row : (s : Server) (m : Message) (r : CreateRequest) (f action : ℕ) → i
 same_row s m r f action e =
     let g = guid_some r.durable e in
     λ t. record {
-      file = f; access = mapped r.access; share = r.share; options = r.options; action = action; persistent = sym e t; client = m.client; guid = g t; user = s.user m.session; timeout = timeout_asked r.durable;
+      file = f;
+      access = mapped r.access;
+      share = r.share;
+      options = r.options;
+      action = action;
+      persistent = sym e t;
+      client = m.client;
+      guid = g t;
+      user = s.user m.session;
+      timeout = timeout_asked r.durable;
     }
 
 -- ---- the guard of the open

@@ -1,14 +1,12 @@
 -- Opens that come and go: the fold has the persistent ones.
-use Rattle.std.proofs.Common.{eqb-true, ◌≡◌, ◌≢◌, ℕ, ◌+◌, ◌-◌, ◌≤◌, ◌<◌, ◌==◌, nat_lt, nat_le, Bool, true, false, not, ◌&&◌, ◌||◌, if◌then◌else◌, List, [], ◌∷◌, ◌++◌, length, refl, arith, sym, subst, ◌∙◌, ap, Option, Some, None, slice_get}
+use Rattle.std.proofs.Common.{◌≡◌, ◌≢◌, ℕ, ◌<◌, ◌==◌, Bool, true, false, List, refl, arith, sym, subst, ◌∙◌, ap, Option, Some, None, slice_get}
 use Rattle.std.proofs.lemmas.Bool.{eqb-false}
-use Rattle.exchange_defs.specs.Table.{put, put2, has, without, placed_in, is_filled}
+use Rattle.exchange_defs.specs.Table.{put, put2, has, without, placed_in}
 use Rattle.exchange_defs.specs.State.{Server, Open, Range, Kept}
 use Rattle.exchange_defs.specs.Ranges.{without_owner}
 use Rattle.exchange_defs.specs.Opens.{with_guid, add_open, drop_open}
-use Rattle.exchange_defs.specs.Effects.{keep_slot, set_ranges}
-use Rattle.exchange_defs.specs.Fold.{persistent_in}
-use Rattle.recovery_law.specs.Recovers.{staying, kept_ranges, kept_guid, FilesAgree, OpensAgree, CountsAgree, Files, Opens, Counts, Mirrors}
-use Rattle.recovery_law.proofs.Lists.{ext, put_here, put_there, persistent_placed_plain, persistent_placed, persistent_without, without_plain}
+use Rattle.recovery_law.specs.Recovers.{staying, kept_ranges, kept_guid, Opens}
+use Rattle.recovery_law.proofs.Lists.{ext, persistent_placed_plain, persistent_placed, persistent_without, without_plain}
 use Rattle.recovery_law.proofs.Ranges.{kept_same, kept_without, without_absent}
 
 -- ---- a plain open comes
@@ -158,10 +156,10 @@ gone_guid p q dby by o client (Some k) apart own h c g =
     let old = h c g in
     elim (c == client) as (λ b. c == client ≡ b → put2 dby client k None c g ≡ kept_guid q (put2 by client k None c g)) [
       | true ↦ λ e. elim (g == k) as (λ b. g == k ≡ b → put2 dby client k None c g ≡ kept_guid q (put2 by client k None c g)) [
-          | true ↦ λ f. grind arith
-          | false ↦ λ f. let n = eqb-false g k f in
-              let same = kept_guid_same p q (by c g) (λ x i. apart x (λ t. n (sym (some_same k g (own c g (i ∙ ap Some t)).1)))) in grind arith
-        ] refl
+        | true ↦ λ f. grind arith
+        | false ↦ λ f. let n = eqb-false g k f in
+            let same = kept_guid_same p q (by c g) (λ x i. apart x (λ t. n (sym (some_same k g (own c g (i ∙ ap Some t)).1)))) in grind arith
+      ] refl
       | false ↦ λ e. let n = eqb-false c client e in
           let same = kept_guid_same p q (by c g) (λ x i. apart x (λ t. n (own c g (i ∙ ap Some t)).0)) in grind arith
     ] refl

@@ -1,14 +1,11 @@
 -- Ranges of the opens that stay: what the server grants, the fold grants over fewer ranges.
-use Rattle.std.proofs.Common.{eqb-true, ◌≡◌, ◌≢◌, ℕ, ◌+◌, ◌≤◌, ◌<◌, ◌==◌, nat_lt, nat_le, Bool, true, false, not, ◌&&◌, ◌||◌, if◌then◌else◌, List, [], ◌∷◌, ◌++◌, length, refl, arith, sym, subst, ◌∙◌, ap, Option, Some, None, slice_get, suc}
-use Rattle.std.proofs.lemmas.Bool.{eqb-false}
-use Rattle.std.proofs.lemmas.Bool.Decides.{nat_tests}
+use Rattle.std.proofs.Common.{eqb-true, ◌≡◌, ◌≢◌, ℕ, ◌+◌, nat_lt, Bool, true, false, if◌then◌else◌, List, [], ◌∷◌, ◌++◌, length, refl, arith, sym, ◌∙◌, ap, Option, Some, None, slice_get, suc}
 use Rattle.exchange_defs.specs.Status.{insufficient_resources, invalid_lock_range, lock_not_granted, range_not_locked}
-use Rattle.exchange_defs.specs.Table.{put, is_at}
 use Rattle.exchange_defs.specs.Commands.{Element, is_exclusive, all_lock}
-use Rattle.exchange_defs.specs.State.{Server, Range, Open}
+use Rattle.exchange_defs.specs.State.{Server, Range}
 use Rattle.exchange_defs.specs.Ranges.{RangeAnswer, Stands, Denied, ranges_of, is_denied, any_wraps, count_owned, add_ranges, is_equal_range, prepended, take_range, take_ranges, stands_or, lock_ranges, unlock_ranges, change_ranges, without_owner, max_ranges}
 use Rattle.exchange_defs.specs.Effects.{leaves, ranges_staying}
-use Rattle.exchange_defs.specs.Fold.{stays, ranges_that_stay}
+use Rattle.exchange_defs.specs.Fold.{ranges_that_stay}
 use Rattle.recovery_law.specs.Recovers.{staying, kept_ranges}
 
 pub kept_that_stay : (s : Server) (rs : List Range) → ranges_that_stay s rs ≡ kept_ranges (staying s.standing s.opened) rs

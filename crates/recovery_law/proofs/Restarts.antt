@@ -1,9 +1,9 @@
 -- A restart: what recovery makes of the records.
-use Rattle.std.proofs.Common.{◌≡◌, ◌≢◌, ℕ, ◌+◌, ◌≤◌, ◌==◌, nat_lt, nat_le, Bool, true, false, not, ◌&&◌, ◌||◌, if◌then◌else◌, List, [], ◌∷◌, ◌++◌, length, refl, arith, sym, subst, ◌∙◌, ap, Option, Some, None}
+use Rattle.std.proofs.Common.{◌≡◌, ℕ, ◌+◌, ◌≤◌, ◌==◌, nat_lt, nat_le, Bool, true, false, not, ◌&&◌, ◌||◌, if◌then◌else◌, List, [], ◌∷◌, ◌++◌, length, refl, arith, sym, subst, ◌∙◌, ap, Option, Some, None}
 use Rattle.exchange_defs.specs.Table.{put, put2, has, is_filled}
 use Rattle.exchange_defs.specs.Status.{success}
 use Rattle.exchange_defs.specs.Content.{written, ended, is_empty}
-use Rattle.exchange_defs.specs.Commands.{Basic, Element, all_lock, all_unlock, deletes_on_close}
+use Rattle.exchange_defs.specs.Commands.{Element, all_lock, all_unlock, deletes_on_close}
 use Rattle.exchange_defs.specs.State.{Server, Open, Entry, Range, Kept, Record, NewOpen, EpochRecord, CreateRecord, WriteRecord, EndRecord, BasicRecord, DeleteRecord, RenameRecord, RemoveRecord, LockRecord, ShutRecord, VersionRecord, ExpireRecord}
 use Rattle.exchange_defs.specs.Files.{root, find, exists, exists_in, path_in, make_file, empty_file, set_content, store_basic, mark_file, remove_file, rename_file, passes_room}
 use Rattle.exchange_defs.specs.Ranges.{RangeAnswer, Stands, Denied, change_ranges}
@@ -11,10 +11,10 @@ use Rattle.exchange_defs.specs.Opens.{id_of, max_ids, opens_in, file_has_open, d
 use Rattle.exchange_defs.specs.CheckOpen.{target_of, file_of, is_slot}
 use Rattle.exchange_defs.specs.Effects.{keep_slot, set_ranges}
 use Rattle.exchange_defs.specs.Step.{add_mark, max_marks}
-use Rattle.exchange_defs.specs.Fold.{nothing_yet, with_record, fold_from, fold, sweep, begin_epoch, set_version, may_create, may_have_open, restore, restored_row, created_file, is_file, may_rename, may_remove, lock_granted, lock_recorded, shut_recorded, recovery_records, recovered}
+use Rattle.exchange_defs.specs.Fold.{nothing_yet, with_record, fold_from, fold, sweep, begin_epoch, set_version, may_create, may_have_open, restore, created_file, is_file, may_rename, may_remove, lock_granted, lock_recorded, shut_recorded, recovery_records, recovered}
 use Rattle.server_law.proofs.Logic.{either}
-use Rattle.recovery_law.specs.Recovers.{staying, kept_ranges, kept_guid, FilesAgree, OpensAgree, CountsAgree, Files, Opens, Counts, Mirrors, Recovers}
-use Rattle.recovery_law.specs.Restarted.{NoSessions, Bare, Restarted, EntriesLeft}
+use Rattle.recovery_law.specs.Recovers.{staying, kept_guid, Files, Opens, Recovers}
+use Rattle.recovery_law.specs.Restarted.{Bare, Restarted, EntriesLeft}
 use Rattle.server_law.specs.Fits.{Listed}
 use Rattle.recovery_law.proofs.Lists.{has_file, has_persistent}
 use Rattle.recovery_law.proofs.Leaves.{fold_append}
@@ -42,15 +42,37 @@ bare_opened : (s : Server) (f action : ℕ) (opened : Option NewOpen) → Bare s
 bare_opened s f action None h = h
 bare_opened s f action (Some n) h =
     record {
-      apart = none_put s.at n.id None h.apart; unreached = none_put s.sequence n.id 0 h.unreached; undated = none_put s.deadline n.id None h.undated; unlisted = none_put s.listed n.id None h.unlisted;
-      absent = h.absent; no_count = h.no_count; no_trees = h.no_trees; unclosed = h.unclosed; unrefused = h.unrefused; no_guids = h.no_guids; no_connections = h.no_connections; off = h.off; unmade = h.unmade;
+      apart = none_put s.at n.id None h.apart;
+      unreached = none_put s.sequence n.id 0 h.unreached;
+      undated = none_put s.deadline n.id None h.undated;
+      unlisted = none_put s.listed n.id None h.unlisted;
+      absent = h.absent;
+      no_count = h.no_count;
+      no_trees = h.no_trees;
+      unclosed = h.unclosed;
+      unrefused = h.unrefused;
+      no_guids = h.no_guids;
+      no_connections = h.no_connections;
+      off = h.off;
+      unmade = h.unmade;
     }
 
 bare_dropped : (s : Server) (o : ℕ) → Bare s → Bare (drop_open s o)
 bare_dropped s o h =
     record {
-      apart = none_put s.at o None h.apart; unreached = h.unreached; undated = none_put s.deadline o None h.undated; unlisted = h.unlisted;
-      absent = h.absent; no_count = h.no_count; no_trees = h.no_trees; unclosed = h.unclosed; unrefused = h.unrefused; no_guids = h.no_guids; no_connections = h.no_connections; off = h.off; unmade = h.unmade;
+      apart = none_put s.at o None h.apart;
+      unreached = h.unreached;
+      undated = none_put s.deadline o None h.undated;
+      unlisted = h.unlisted;
+      absent = h.absent;
+      no_count = h.no_count;
+      no_trees = h.no_trees;
+      unclosed = h.unclosed;
+      unrefused = h.unrefused;
+      no_guids = h.no_guids;
+      no_connections = h.no_connections;
+      off = h.off;
+      unmade = h.unmade;
     }
 
 bare_shut : (s : Server) (o : ℕ) → Bare s → Bare (shut_recorded s o)
@@ -99,8 +121,19 @@ bare_from s (r ∷ rs) h = bare_from (with_record s r) rs (bare_record s r h)
 
 pub bare_fold : (rs : List Record) → Bare (fold rs)
 bare_fold rs = bare_from nothing_yet rs (record {
-  apart = λ o. refl; unreached = λ o. refl; undated = λ o. refl; unlisted = λ o. refl; absent = λ x. refl; no_count = refl; no_trees = λ x. refl; unclosed = λ x g. refl; unrefused = λ x g. refl;
-  no_guids = λ x. refl; no_connections = refl; off = λ k. refl; unmade = λ k. refl;
+  apart = λ o. refl;
+  unreached = λ o. refl;
+  undated = λ o. refl;
+  unlisted = λ o. refl;
+  absent = λ x. refl;
+  no_count = refl;
+  no_trees = λ x. refl;
+  unclosed = λ x g. refl;
+  unrefused = λ x g. refl;
+  no_guids = λ x. refl;
+  no_connections = refl;
+  off = λ k. refl;
+  unmade = λ k. refl;
 })
 
 -- ---- a new epoch touches neither opens nor what is in the files
@@ -125,8 +158,19 @@ carried_gone : (s u : Server) (f : ℕ) → Carried s u → Carried s (without_g
 carried_gone s u f h =
     either (λ x. Carried s x) (goes u f) (remove_file u f) u
     (λ _. record {
-      opens = h.opens; standing = h.standing; opened = h.opened; slots = h.slots; by_guid = h.by_guid; ranges = h.ranges; next_file = h.next_file; directory = h.directory; marked = h.marked; basic = h.basic; content = h.content;
-      marks = h.marks; mark_count = h.mark_count;
+      opens = h.opens;
+      standing = h.standing;
+      opened = h.opened;
+      slots = h.slots;
+      by_guid = h.by_guid;
+      ranges = h.ranges;
+      next_file = h.next_file;
+      directory = h.directory;
+      marked = h.marked;
+      basic = h.basic;
+      content = h.content;
+      marks = h.marks;
+      mark_count = h.mark_count;
     })
     (λ _. h)
 
@@ -152,10 +196,23 @@ epoch_begins s u number e h =
     subst (λ x. NextEpoch s x number) (sym step)
     (record {
       carried = record {
-        opens = c.opens; standing = c.standing; opened = c.opened; slots = c.slots; by_guid = c.by_guid; ranges = c.ranges; next_file = c.next_file; directory = c.directory; marked = c.marked; basic = c.basic; content = c.content;
-        marks = c.marks; mark_count = c.mark_count;
+        opens = c.opens;
+        standing = c.standing;
+        opened = c.opened;
+        slots = c.slots;
+        by_guid = c.by_guid;
+        ranges = c.ranges;
+        next_file = c.next_file;
+        directory = c.directory;
+        marked = c.marked;
+        basic = c.basic;
+        content = c.content;
+        marks = c.marks;
+        mark_count = c.mark_count;
       };
-      epoch = refl; given = refl; begun = refl;
+      epoch = refl;
+      given = refl;
+      begun = refl;
     })
 
 carries_itself : (s : Server) → Carried s s

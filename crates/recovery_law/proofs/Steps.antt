@@ -1,18 +1,17 @@
 -- One event of the server: an expiry in front, then the verdict, or what stands in its place where no record fits.
-use Rattle.std.proofs.Common.{eqb-true, ◌≡◌, ◌≢◌, ℕ, ◌+◌, ◌*◌, ◌<◌, ◌==◌, nat_lt, nat_le, Bool, true, false, not, ◌&&◌, ◌||◌, if◌then◌else◌, List, [], ◌∷◌, ◌++◌, length, refl, arith, sym, subst, ◌∙◌, ap, Option, Some, None, is_some, ◌⊎◌, inl, inr}
+use Rattle.std.proofs.Common.{◌≡◌, ℕ, nat_lt, nat_le, Bool, true, false, if◌then◌else◌, List, [], ◌∷◌, ◌++◌, length, refl, arith, sym, subst, ◌∙◌, ap, Option, Some, None, is_some, ◌⊎◌, inl, inr}
 use Rattle.std.proofs.lemmas.Bool.Decides.{nat_tests}
-use Rattle.exchange_defs.specs.Table.{put, has}
+use Rattle.exchange_defs.specs.Table.{has}
 use Rattle.exchange_defs.specs.State.{Server, Message, ServerEvent, Accept, Heard, End, Open, Record, Origin, Answer}
 use Rattle.exchange_defs.specs.Files.{exists}
 use Rattle.exchange_defs.specs.Check.{check}
 use Rattle.exchange_defs.specs.Records.{fits, origin_at}
-use Rattle.exchange_defs.specs.Effects.{apply}
 use Rattle.exchange_defs.specs.Step.{Ruling, Says, TakesIn, TurnsAway, TakesOut, TakesAllOut, ruling, ruling_without_room, without_room, max_connections, carried_out, table, expiring, behind_expiry, step, with_deadlines, first_deadline, is_past, due_in, due, expire, expire_records, connection_of, max_marks, ends_with}
 use Rattle.exchange_defs.specs.Fold.{fold_from}
 use Rattle.server_law.specs.Fits.{PlainAttached, Deadlines, Listed}
 use Rattle.server_law.proofs.Logic.{either}
 use Rattle.server_law.proofs.Checked.{found}
-use Rattle.recovery_law.specs.Recovers.{staying, FilesAgree, OpensAgree, CountsAgree, Files, Opens, Counts, Mirrors}
+use Rattle.recovery_law.specs.Recovers.{Mirrors}
 use Rattle.recovery_law.proofs.Lists.{at_head, in_tail}
 use Rattle.recovery_law.proofs.Leaves.{fold_append, expires_recorded}
 use Rattle.recovery_law.proofs.Ends.{ends_if_named}
@@ -92,17 +91,25 @@ expiring_good d s now e ok n dues behind h (Some o) q =
     either (Good d) (nat_le max_marks s.mark_count) (table s now e) (behind_expiry s now e front A)
     (λ _. tables d s now e ok n h)
     (λ room. either (Good d) (fits s (front ++ A.records)) (record A { records = front ++ A.records }) (table s now e)
-        (λ _. subst (λ x. Mirrors x A.server) (sym (fold_append d front A.records))
-            (carried (fold_from d front) t now (ruling t e) (rules t e ok) (behind o q)
-            (expires_recorded d s (origin_at (connection_of e)) o (leaver s o n is_due.stands) is_due.persistent (few s.mark_count room) n.listed h)))
-        (λ _. tables d s now e ok n h))
+    (λ _. subst (λ x. Mirrors x A.server) (sym (fold_append d front A.records))
+    (carried (fold_from d front) t now (ruling t e) (rules t e ok) (behind o q)
+    (expires_recorded d s (origin_at (connection_of e)) o (leaver s o n is_due.stands) is_due.persistent (few s.mark_count room) n.listed h)))
+    (λ _. tables d s now e ok n h))
 
 -- ---- the whole step
 
 pub needs_dated : (s : Server) (now : ℕ) → Needs s → Needs (with_deadlines s now)
 unfolding exists
 needs_dated s now n = record {
-  guid_open = n.guid_open; open_guid = n.open_guid; listed = n.listed; ascending = n.ascending; open_ids = n.open_ids; range_owners = n.range_owners; open_files = n.open_files; not_root = n.not_root; root_unmarked = n.root_unmarked;
+  guid_open = n.guid_open;
+  open_guid = n.open_guid;
+  listed = n.listed;
+  ascending = n.ascending;
+  open_ids = n.open_ids;
+  range_owners = n.range_owners;
+  open_files = n.open_files;
+  not_root = n.not_root;
+  root_unmarked = n.root_unmarked;
 }
 
 by_deadline : (now : ℕ) (stands : Bool) (at : Option ℕ) (row : Open) (deadline : Option ℕ) → ((d : ℕ) → deadline ≡ Some d → at ≡ None) → is_past now (first_deadline now stands at row deadline) ≡ true → at ≡ None

@@ -1,10 +1,8 @@
 -- Of the files a new epoch takes those alone that are marked and have no open.
-use Rattle.std.proofs.lemmas.Bool.{eqb-false}
-use Rattle.std.proofs.Common.{eqb-true, ◌≡◌, ◌≢◌, ℕ, ◌+◌, ◌==◌, Bool, true, false, not, ◌&&◌, ◌||◌, if◌then◌else◌, List, [], ◌∷◌, ◌++◌, refl, arith, sym, subst, ◌∙◌, ap, Option, Some, None}
-use Rattle.exchange_defs.specs.Table.{put, has, is_filled}
-use Rattle.exchange_defs.specs.State.{Server, Open, Entry, Record, VersionRecord, EpochRecord}
+use Rattle.std.proofs.Common.{◌≡◌, ◌≢◌, ℕ, ◌+◌, ◌==◌, Bool, true, false, not, ◌&&◌, List, [], ◌∷◌, refl, arith, sym, subst, ◌∙◌}
+use Rattle.exchange_defs.specs.State.{Server, Entry, VersionRecord, EpochRecord}
 use Rattle.exchange_defs.specs.Files.{root, exists, exists_in, path_in, is_full_directory, remove_file, without_file}
-use Rattle.exchange_defs.specs.Opens.{opens_in, file_has_open, goes, without_gone}
+use Rattle.exchange_defs.specs.Opens.{file_has_open, goes, without_gone}
 use Rattle.exchange_defs.specs.Fold.{fold_from, sweep, begin_epoch, set_version, recovery_records}
 use Rattle.server_law.proofs.Logic.{either}
 

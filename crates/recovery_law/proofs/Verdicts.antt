@@ -1,11 +1,11 @@
 -- Each verdict of the checks: what its records fold to stands for what its effect leaves.
 use Rattle.std.proofs.lemmas.Bool.{eqb-false}
-use Rattle.std.proofs.Common.{eqb-true, ◌≡◌, ◌≢◌, ℕ, ◌+◌, ◌<◌, ◌==◌, nat_lt, nat_le, Bool, true, false, not, ◌&&◌, ◌||◌, if◌then◌else◌, List, [], ◌∷◌, ◌++◌, refl, arith, sym, subst, ◌∙◌, ap, Option, Some, None, is_some, slice_get}
-use Rattle.exchange_defs.specs.Table.{put, put2}
+use Rattle.std.proofs.Common.{◌≡◌, ◌≢◌, ℕ, Bool, true, false, ◌||◌, if◌then◌else◌, List, [], ◌∷◌, refl, sym, ◌∙◌, ap, Option, Some, None, is_some}
+use Rattle.exchange_defs.specs.Table.{put}
 use Rattle.exchange_defs.specs.Status.{success}
 use Rattle.exchange_defs.specs.Commands.{Element, Lock, all_lock, all_unlock, form, deletes_on_close}
-use Rattle.exchange_defs.specs.State.{Server, Message, Open, Range, Record, Answer, Body, Empty}
-use Rattle.exchange_defs.specs.Files.{root, exists, path_of}
+use Rattle.exchange_defs.specs.State.{Server, Message, Range, Answer, Body}
+use Rattle.exchange_defs.specs.Files.{root, path_of}
 use Rattle.exchange_defs.specs.Opens.{leave_open, leave_records}
 use Rattle.exchange_defs.specs.Ranges.{Stands, change_ranges}
 use Rattle.exchange_defs.specs.CheckOpen.{is_late, file_of}
@@ -15,8 +15,8 @@ use Rattle.exchange_defs.specs.Effects.{apply, reach, attach, attached, keep_slo
 use Rattle.exchange_defs.specs.Fold.{fold_from}
 use Rattle.server_law.specs.Fits.{Listed, Ascending, GuidOpen, OpenGuid, OpenIds, RangeOwners, OpenFiles}
 use Rattle.server_law.proofs.Logic.{either}
-use Rattle.server_law.proofs.Found.{Facts, LockFacts, SlotFacts, RangesFacts, AlterFacts, ShutFacts}
-use Rattle.recovery_law.specs.Recovers.{staying, FilesAgree, OpensAgree, CountsAgree, Files, Opens, Counts, Mirrors}
+use Rattle.server_law.proofs.Found.{Facts, LockFacts, AlterFacts}
+use Rattle.recovery_law.specs.Recovers.{Mirrors}
 use Rattle.recovery_law.proofs.Leaves.{Leaver, leaves_recorded}
 use Rattle.recovery_law.proofs.Locks.{LockKind, slot_kept, ranges_put}
 use Rattle.recovery_law.proofs.Makes.{makes, next_id}

@@ -1,28 +1,35 @@
 -- Each event of the world, and each run: the records stand for the server.
-use Rattle.std.proofs.Common.{◌≡◌, ℕ, ◌+◌, ◌≤◌, ◌==◌, nat_lt, nat_le, min, Bool, true, false, not, ◌&&◌, ◌||◌, if◌then◌else◌, List, [], ◌∷◌, ◌++◌, refl, arith, sym, subst, ◌∙◌, ap, Option, Some, None}
+use Rattle.std.proofs.Common.{◌≡◌, ℕ, Bool, true, false, List, [], ◌∷◌, ◌++◌, refl, arith, sym, subst, ◌∙◌, ap}
 use Rattle.exchange_defs.specs.Commands.{Command, Aside, Unreadable, Setup, Logoff, TreeConnect, TreeDisconnect, Create, Close, Flush, Read, Write, Lock, Ioctl, ListDirectory, QueryFile, QueryVolume, SetInfo}
-use Rattle.exchange_defs.specs.State.{Server, Message, ServerEvent, Accept, Heard, End, Record, Reply, Answer}
+use Rattle.exchange_defs.specs.State.{Server, Message, ServerEvent, Accept, Heard, End, Record, Reply}
 use Rattle.exchange_defs.specs.Step.{step, with_deadlines}
-use Rattle.exchange_defs.specs.Fold.{nothing_yet, full_room, persistent_in, fold, fold_from, recovered, recovery_records, durable, StandsFor}
+use Rattle.exchange_defs.specs.Fold.{nothing_yet, persistent_in, fold, fold_from, StandsFor}
 use Rattle.exchange_defs.specs.ClientStep.{Act, Nothing, CloseChannels, Sends, Asks, AllSettled, Pushes, IsCut, Hears, act, client_after}
 use Rattle.exchange_defs.specs.Client.{Client}
 use Rattle.exchange_defs.specs.Dialogs.{DialogStep, GoesOn, Accepts, Binds, Readies, Refuses, dialog_step, leave_dialog}
-use Rattle.exchange_defs.specs.Network.{World, Event, Submit, Open, Push, Serve, Take, Cut, Drop, Restart, Crash, Wait, Finish, Sent, Received, Token, ForDialog, ForOp, ForAttach, Settings, start, blank_server, run, happens, changed, is_possible, moments, later, with_answer, answer, answer_to, serve_front, absorb_front, absorbed, pushed_by, take_reply, took_by, dialog_took, closed_by, cut_by, cut_off, restarted, crashed, behind_reply, with_client, one_cut, may_serve}
+use Rattle.exchange_defs.specs.Network.{World, Event, Submit, Open, Push, Serve, Take, Cut, Drop, Restart, Crash, Wait, Finish, Sent, Received, Token, ForDialog, ForOp, ForAttach, Settings, start, blank_server, run, happens, changed, is_possible, moments, later, answer_to, serve_front, absorb_front, pushed_by, take_reply, took_by, dialog_took, closed_by, cut_by, restarted, crashed, behind_reply, with_client, one_cut, may_serve}
 use Rattle.server_law.specs.Fits.{Fits, Listed}
 use Rattle.server_law.proofs.Logic.{either}
 use Rattle.server_law.proofs.SessionEffects.{deadlines_keeps}
 use Rattle.server_law.proofs.Applied.{expired_keeps}
-use Rattle.recovery_law.specs.Recovers.{staying, kept_ranges, FilesAgree, OpensAgree, CountsAgree, Files, Opens, Counts, Mirrors, Recovers}
+use Rattle.recovery_law.specs.Recovers.{kept_ranges, Mirrors, Recovers}
 use Rattle.recovery_law.proofs.Leaves.{fold_append}
-use Rattle.recovery_law.proofs.Verdicts.{Needs, Good, nothing_owed}
+use Rattle.recovery_law.proofs.Verdicts.{Needs, nothing_owed}
 use Rattle.recovery_law.proofs.Steps.{Runs, steps}
 use Rattle.recovery_law.proofs.Durable.{restarts, same_durable}
 
 needs : (s : Server) → Fits s → Needs s
 needs s i =
     record {
-      guid_open = i.guid_open; open_guid = i.open_guid; listed = i.listed; ascending = i.ascending; open_ids = i.open_ids; range_owners = i.range_owners; open_files = i.open_files;
-      not_root = λ o _. i.not_root o; root_unmarked = i.root_unmarked;
+      guid_open = i.guid_open;
+      open_guid = i.open_guid;
+      listed = i.listed;
+      ascending = i.ascending;
+      open_ids = i.open_ids;
+      range_owners = i.range_owners;
+      open_files = i.open_files;
+      not_root = λ o _. i.not_root o;
+      root_unmarked = i.root_unmarked;
     }
 
 -- ---- the server's step
@@ -163,10 +170,11 @@ always (e ∷ es) w f h = always es (happens w e) (fine_next w e f) (keeps w e (
 
 blank_mirrors : (z : Settings) → Recovers [] (blank_server z)
 unfolding fold_from persistent_in kept_ranges
-blank_mirrors z =
-    (record { entries = refl; next_file = refl; directory = refl; marked = refl; basic = refl; content = refl },
-    record { opens = refl; standing = λ o. refl; opened = λ o e. refl; slots = λ o i e. refl; by_guid = λ c g. refl; ranges = λ f. refl },
-    record { version = refl; epoch = refl; given = omega arith; full = refl; room = omega arith; marks = refl; mark_count = refl })
+blank_mirrors z = (
+  record { entries = refl; next_file = refl; directory = refl; marked = refl; basic = refl; content = refl },
+  record { opens = refl; standing = λ o. refl; opened = λ o e. refl; slots = λ o i e. refl; by_guid = λ c g. refl; ranges = λ f. refl },
+  record { version = refl; epoch = refl; given = omega arith; full = refl; room = omega arith; marks = refl; mark_count = refl },
+)
 
 pub begins : (z : Settings) → Kept (start z)
 begins z = restarts (blank_server z) [] (λ o. refl) (blank_mirrors z)

@@ -1,7 +1,7 @@
 -- What a restart leaves of a server: its persistent opens, without a session, and its files; no session and no connection.
-use Rattle.std.specs.Prelude.{◌≡◌, ℕ, ◌+◌, Bool, true, false, List, [], Option, Some, None}
+use Rattle.std.specs.Prelude.{◌≡◌, ℕ, ◌+◌, Bool, true, false, List, [], Option, None}
 use Rattle.exchange_defs.specs.Files.{exists_in, path_in}
-use Rattle.exchange_defs.specs.State.{Server, Open, Kept, Tree, Making}
+use Rattle.exchange_defs.specs.State.{Server, Tree, Making}
 use Rattle.exchange_defs.specs.Fold.{persistent_in}
 use Rattle.recovery_law.specs.Recovers.{staying, kept_ranges, kept_guid}
 

@@ -1,7 +1,7 @@
 use Rattle.recovery_law.proofs.Worlds.{recovers, stands_for}
 use Rattle.recovery_law.proofs.Restarts.{restarted, entries_left}
 use Rattle.server_law.proofs.Run.{fitting}
-use Rattle.exchange_defs.specs.Network.{Event, Settings, run, start}
+use Rattle.exchange_defs.specs.Network.{run, start}
 use Rattle.recovery_law.proofs.recovery_law.Goals as goal
 
 pub returns : goal.returns
