@@ -31,4 +31,5 @@ pub mod Ask
 pub mod Say
 pub mod Facts
 pub mod Run
+pub mod Reached
 pub mod Stays
