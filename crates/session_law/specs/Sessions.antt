@@ -1,13 +1,14 @@
 -- What holds between the client, the connections and the server's sessions in every world that a run leads to.
-use Rattle.std.specs.Prelude.{◌≡◌, ℕ, ◌≤◌, ◌<◌, ◌+◌, Bool, true, false, not, if◌then◌else◌, List, [], Some, None, is_some, slice_get}
+use Rattle.std.specs.Prelude.{◌≡◌, ◌≢◌, ℕ, ◌≤◌, ◌<◌, Bool, true, false, not, List, [], Some, None, is_some, slice_get}
 use Rattle.exchange_defs.specs.Status.{success, more_processing_required}
-use Rattle.exchange_defs.specs.Commands.{Begins, Bad, Refused, Logon, Shows}
-use Rattle.exchange_defs.specs.State.{Server, NewSession}
+use Rattle.exchange_defs.specs.Commands.{Command, Aside, Setup, TreeConnect, TreeDisconnect, Logoff, Begins, Bad, Refused, Logon, Shows}
+use Rattle.exchange_defs.specs.State.{Server}
 use Rattle.exchange_defs.specs.CheckSetup.{tree_in, is_new}
 use Rattle.exchange_defs.specs.Opens.{id_of}
 use Rattle.exchange_defs.specs.Client.{Client, Stage, Apart, SaidNegotiate, SaidFirst, SaidSecond, AskedTree}
-use Rattle.exchange_defs.specs.Dialogs.{stage_command}
 use Rattle.exchange_defs.specs.Network.{Conn, Sent, Received, Token, ForDialog, ForOp, ForAttach}
+
+-- ---- words
 
 -- the message or reply is an operation's, or of the DH2C in its place
 abbrev pub is_ops : Token → Bool
@@ -23,10 +24,57 @@ makes_session (SaidFirst bound) = not bound
 makes_session (SaidSecond bound) = not bound
 makes_session AskedTree = true
 
--- the user that the client's logon shows, if it is one
+-- the user that a logon shows
 abbrev pub logon_user : Shows → List ℕ
+logon_user Begins = []
+logon_user Bad = []
+logon_user Refused = []
 logon_user (Logon user key) = user
-logon_user _ = []
+
+abbrev pub is_logon : Shows → Bool
+is_logon Begins = false
+is_logon Bad = false
+is_logon Refused = false
+is_logon (Logon user key) = true
+
+-- ---- words on commands, closed so that a proof doesn't go through the kinds of commands
+
+-- neither a session nor a tree is asked for or given up
+unfoldable pub is_work : Command → Bool
+is_work (Setup request) = false
+is_work Logoff = false
+is_work (TreeConnect share) = false
+is_work TreeDisconnect = false
+is_work _ = true
+
+-- what a dialog sends
+unfoldable pub is_dialog : Command → Bool
+is_dialog (Setup request) = true
+is_dialog (TreeConnect share) = true
+is_dialog (Aside status) = true
+is_dialog _ = false
+
+-- a SESSION_SETUP that binds nothing
+unfoldable pub is_new_setup : Command → Bool
+is_new_setup (Setup request) = not request.binding
+is_new_setup _ = false
+
+unfoldable pub is_tree_connect : Command → Bool
+is_tree_connect (TreeConnect share) = true
+is_tree_connect _ = false
+
+-- a SESSION_SETUP that shows a logon, its user, and the session that it names as its previous one
+unfoldable pub logs_on : Command → Bool
+logs_on (Setup request) = is_logon request.shows
+logs_on _ = false
+
+unfoldable pub user_in : Command → List ℕ
+user_in (Setup request) = logon_user request.shows
+user_in _ = []
+
+unfoldable pub previous_in : Command → ℕ
+previous_in (Setup request) = request.previous
+previous_in _ = 0
 
 -- ---- the client's session
 
@@ -59,6 +107,13 @@ PendingAccepted c = (k : ℕ) → c.stage k ≡ AskedTree → c.pending ≡ c.ac
 abbrev pub PendingUnranked : Client → Type 0
 PendingUnranked c = (k : ℕ) → c.stage k ≡ SaidSecond false → c.rank c.pending ≡ 0
 
+abbrev pub SequenceLow : Client → Type 0
+SequenceLow c = c.sequence ≤ 32767
+
+-- what is noted by a session's number is of a session that was
+abbrev pub NumberedSessions : Client → Type 0
+NumberedSessions c = (create slot : ℕ) → c.attached create ≤ c.number × c.retried create slot ≤ c.number × (c.live ≡ true → 0 < c.number)
+
 -- ---- what waits
 
 -- a message or a reply of an operation on an open connection is of the live session
@@ -68,19 +123,44 @@ CurrentUp c conns = (k n : ℕ) (x : Sent) → slice_get (conns k).up n ≡ Some
 abbrev pub CurrentDown : Client → (ℕ → Conn) → Type 0
 CurrentDown c conns = (k n : ℕ) (y : Received) → slice_get (conns k).down n ≡ Some y → is_ops y.token ≡ true → (conns k).client_open ≡ true → c.live ≡ true × y.reply.session ≡ c.session
 
--- each message of an operation is of a session that was accepted, and each is this client's and in order
+-- each message of an operation is of a session that was accepted, and each is this client's
 abbrev pub RankedUp : Client → (ℕ → Conn) → Type 0
 RankedUp c conns = (k n : ℕ) (x : Sent) → slice_get (conns k).up n ≡ Some x → is_ops x.token ≡ true → 0 < c.rank x.message.session
 
 abbrev pub FromClient : Client → (ℕ → Conn) → Type 0
 FromClient c conns = (k n : ℕ) (x : Sent) → slice_get (conns k).up n ≡ Some x → x.message.client ≡ c.who.guid × x.message.connection ≡ k × x.message.fault ≡ None
 
--- sequences: at most the client's, and those of an open connection are the operation's last one
+-- sequences are below 32,768, and those of the live session at most the client's
 abbrev pub SequencesUp : Client → (ℕ → Conn) → Type 0
 SequencesUp c conns = (k n : ℕ) (x : Sent) → slice_get (conns k).up n ≡ Some x → x.message.sequence ≤ 32767 × (c.live ≡ true → x.message.session ≡ c.session → x.message.sequence ≤ c.sequence)
 
-abbrev pub SequenceLow : Client → Type 0
-SequenceLow c = c.sequence ≤ 32767
+-- an operation's command leaves sessions and trees alone
+abbrev pub WorkUp : (ℕ → Conn) → Type 0
+WorkUp conns = (k n : ℕ) (x : Sent) → slice_get (conns k).up n ≡ Some x → is_ops x.token ≡ true → is_work x.message.command ≡ true
+
+abbrev pub DialogUp : (ℕ → Conn) → Type 0
+DialogUp conns = (k n : ℕ) (x : Sent) → slice_get (conns k).up n ≡ Some x → is_ops x.token ≡ false → x.message.sequence ≡ 0 × is_dialog x.message.command ≡ true
+
+-- whoever logs on is the client's user
+abbrev pub LogonUp : Client → (ℕ → Conn) → Type 0
+LogonUp c conns = (k n : ℕ) (x : Sent) → slice_get (conns k).up n ≡ Some x → logs_on x.message.command ≡ true → user_in x.message.command ≡ logon_user c.who.logon
+
+-- what waits of the dialog of a new session, by its stage; a dialog's first SESSION_SETUP
+abbrev pub FirstUp : Client → (ℕ → Conn) → Type 0
+FirstUp c conns = (k n : ℕ) (x : Sent) → slice_get (conns k).up n ≡ Some x → (conns k).client_open ≡ true → is_ops x.token ≡ false → c.stage k ≡ SaidFirst false → is_new_setup x.message.command ≡ true
+
+-- its second one names the last accepted session as its previous one
+abbrev pub SecondUp : Client → (ℕ → Conn) → Type 0
+SecondUp c conns = (k n : ℕ) (x : Sent) → slice_get (conns k).up n ≡ Some x → (conns k).client_open ≡ true → is_ops x.token ≡ false → c.stage k ≡ SaidSecond false
+    → is_new_setup x.message.command ≡ true × previous_in x.message.command ≡ c.accepted × x.message.session ≡ c.pending
+
+abbrev pub TreeConnectUp : Client → (ℕ → Conn) → Type 0
+TreeConnectUp c conns = (k n : ℕ) (x : Sent) → slice_get (conns k).up n ≡ Some x → (conns k).client_open ≡ true → is_ops x.token ≡ false → c.stage k ≡ AskedTree
+    → is_tree_connect x.message.command ≡ true × x.message.session ≡ c.pending
+
+-- an accepted session that isn't ready yet has no operation's message
+abbrev pub AskedFresh : Client → (ℕ → Conn) → Type 0
+AskedFresh c conns = (j k n : ℕ) (x : Sent) → c.stage j ≡ AskedTree → slice_get (conns k).up n ≡ Some x → is_ops x.token ≡ true → x.message.session ≢ c.pending
 
 -- ---- the server's sessions
 
@@ -93,7 +173,7 @@ abbrev pub RankedGiven : Client → Server → Type 0
 RankedGiven c s = (x : ℕ) → 0 < c.rank x → 0 < x × x ≤ id_of s.epoch s.begun
 
 abbrev pub MakingUnranked : Client → Server → Type 0
-MakingUnranked c s = (k x : ℕ) → s.making k ≡ Some (NewSession x) → c.rank x ≡ 0
+MakingUnranked c s = (k x : ℕ) → is_new x (s.making k) ≡ true → c.rank x ≡ 0
 
 -- each session and each open is of the user that the client logs on as
 abbrev pub SessionUsers : Client → Server → Type 0
@@ -102,13 +182,22 @@ SessionUsers c s = (x : ℕ) → s.present x ≡ true → s.user x ≡ logon_use
 abbrev pub OpenUsers : Client → Server → Type 0
 OpenUsers c s = (o : ℕ) → s.standing o ≡ true → (s.opened o).user ≡ logon_user c.who.logon × (s.opened o).client ≡ c.who.guid
 
--- the accepted session's success waits: the one before it is gone, and no connection makes it any more
+abbrev pub PendingGiven : Client → Server → Type 0
+PendingGiven c s = (k : ℕ) → c.stage k ≡ SaidSecond false → 0 < c.pending × c.pending ≤ id_of s.epoch s.begun
+
+-- the interim response tells an id that was never accepted
+abbrev pub FirstReply : Client → (ℕ → Conn) → Server → Type 0
+FirstReply c conns s = (k n : ℕ) (y : Received) → slice_get (conns k).down n ≡ Some y → is_ops y.token ≡ false → c.stage k ≡ SaidFirst false → y.reply.status ≡ more_processing_required
+    → c.rank y.reply.session ≡ 0 × 0 < y.reply.session × y.reply.session ≤ id_of s.epoch s.begun
+
+-- the new session's success waits: the accepted one before it is gone, and no connection makes the new one any more
 abbrev pub SecondReply : Client → (ℕ → Conn) → Server → Type 0
-SecondReply c conns s = (k n : ℕ) (y : Received) → slice_get (conns k).down n ≡ Some y → y.token ≡ ForDialog → c.stage k ≡ SaidSecond false → y.reply.status ≡ success
-    → (0 < c.rank c.accepted → s.present c.accepted ≡ false) × 0 < c.pending × c.pending ≤ id_of s.epoch s.begun × ((j : ℕ) → is_new c.pending (s.making j) ≡ false)
+SecondReply c conns s = (k n : ℕ) (y : Received) → slice_get (conns k).down n ≡ Some y → is_ops y.token ≡ false → c.stage k ≡ SaidSecond false → y.reply.status ≡ success
+    → (0 < c.rank c.accepted → s.present c.accepted ≡ false) × ((j : ℕ) → is_new c.pending (s.making j) ≡ false)
 
 -- ---- trees
 
+-- the tree that an operation's message names is there while its session is
 abbrev pub TreeUp : (ℕ → Conn) → Server → Type 0
 TreeUp conns s = (k n : ℕ) (x : Sent) → slice_get (conns k).up n ≡ Some x → is_ops x.token ≡ true → s.present x.message.session ≡ true → is_some (tree_in (s.trees x.message.session) x.message.tree) ≡ true
 
@@ -116,7 +205,7 @@ abbrev pub TreeLive : Client → Server → Type 0
 TreeLive c s = c.live ≡ true → s.present c.session ≡ true → is_some (tree_in (s.trees c.session) c.tree) ≡ true
 
 abbrev pub TreeReply : Client → (ℕ → Conn) → Server → Type 0
-TreeReply c conns s = (k n : ℕ) (y : Received) → slice_get (conns k).down n ≡ Some y → y.token ≡ ForDialog → c.stage k ≡ AskedTree → y.reply.status ≡ success
+TreeReply c conns s = (k n : ℕ) (y : Received) → slice_get (conns k).down n ≡ Some y → is_ops y.token ≡ false → c.stage k ≡ AskedTree → y.reply.status ≡ success
     → s.present c.accepted ≡ true → is_some (tree_in (s.trees c.accepted) y.reply.tree) ≡ true
 
 pub record Sessions (c : Client) (conns : ℕ → Conn) (s : Server) : Type 0 where
@@ -128,17 +217,27 @@ pub record Sessions (c : Client) (conns : ℕ → Conn) (s : Server) : Type 0 wh
   pub making : Making c
   pub pending_accepted : PendingAccepted c
   pub pending_unranked : PendingUnranked c
+  pub sequence_low : SequenceLow c
+  pub numbered_sessions : NumberedSessions c
   pub current_up : CurrentUp c conns
   pub current_down : CurrentDown c conns
   pub ranked_up : RankedUp c conns
   pub from_client : FromClient c conns
   pub sequences_up : SequencesUp c conns
-  pub sequence_low : SequenceLow c
+  pub work_up : WorkUp conns
+  pub dialog_up : DialogUp conns
+  pub logon_up : LogonUp c conns
+  pub first_up : FirstUp c conns
+  pub second_up : SecondUp c conns
+  pub tree_connect_up : TreeConnectUp c conns
+  pub asked_fresh : AskedFresh c conns
   pub present_accepted : PresentAccepted c s
   pub ranked_given : RankedGiven c s
   pub making_unranked : MakingUnranked c s
   pub session_users : SessionUsers c s
   pub open_users : OpenUsers c s
+  pub pending_given : PendingGiven c s
+  pub first_reply : FirstReply c conns s
   pub second_reply : SecondReply c conns s
   pub tree_up : TreeUp conns s
   pub tree_live : TreeLive c s
