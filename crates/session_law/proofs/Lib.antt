@@ -1,4 +1,5 @@
 pub mod Words
+pub mod Checks
 pub mod Same
 pub mod Moved
 pub mod Opened
