@@ -1,5 +1,7 @@
 pub mod Words
 pub mod Checks
+pub mod Columns
+pub mod Answers
 pub mod Same
 pub mod Moved
 pub mod Opened
