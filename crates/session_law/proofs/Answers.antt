@@ -61,7 +61,7 @@ not_it status wanted n e P = absurd (eqb-false status wanted n e)
 abbrev Declines : Message → Answer → Type 0
 Declines m A = asks m.command ≡ true → m.fault ≡ None → (A.reply.status == success) ≡ false × (A.reply.status == more_processing_required) ≡ false
 
-quiet_facts : (s : Server) (m : Message) (A : Answer) → Stays s A.server → A.reply.session ≡ m.session → Declines m A → Facts s m A
+pub quiet_facts : (s : Server) (m : Message) (A : Answer) → Stays s A.server → A.reply.session ≡ m.session → Declines m A → Facts s m A
 quiet_facts s m A q own d =
     record {
       begins = false;
@@ -388,7 +388,7 @@ made_open s m now r found action records quiet on =
 
 -- ---- every verdict
 
-by_verdicts : (s : Server) (m : Message) (now : ℕ) (records : List Record) (v : Verdict) → Found s m v → Facts s m (recorded (apply s m now v) records)
+pub by_verdicts : (s : Server) (m : Message) (now : ℕ) (records : List Record) (v : Verdict) → Found s m v → Facts s m (recorded (apply s m now v) records)
 by_verdicts s m now records (Refuse status) f = quiet_facts s m (recorded (apply s m now (Refuse status)) records) (stays_written s s _ (stays_same s)) refl f
 by_verdicts s m now records (Give body) f = quiet_by s m (apply s m now (Give body)) records (stays_same s) refl f.0
 by_verdicts s m now records (KeepRefusal guid status) f = quiet_by s m (apply s m now (KeepRefusal guid status)) records (stays_refused s m.session guid status) refl f.0

@@ -2,6 +2,8 @@ pub mod Words
 pub mod Checks
 pub mod Columns
 pub mod Answers
+pub mod Heard
+pub mod Serving
 pub mod Same
 pub mod Moved
 pub mod Opened
