@@ -135,7 +135,7 @@ challenged s m now records new =
 bound_elsewhere : (f : ℕ → Option Making) (k x j y : ℕ) → is_new y (put f k (Some (Binding x)) j) ≡ true → is_new y (f j) ≡ true
 bound_elsewhere f k x j y e = grind arith
 
-none_elsewhere : (f : ℕ → Option Making) (k j y : ℕ) → is_new y (put f k None j) ≡ true → is_new y (f j) ≡ true
+pub none_elsewhere : (f : ℕ → Option Making) (k j y : ℕ) → is_new y (put f k None j) ≡ true → is_new y (f j) ≡ true
 none_elsewhere f k j y e = grind arith
 
 -- an answer that makes no session, gives no id and makes no open
@@ -244,21 +244,21 @@ added_tree s m now pipes records is =
 -- ---- a session begins
 
 -- what the end of the session before does
-record Ends (s u : Server) (previous : Option ℕ) : Type 0 where
-  present : (x : ℕ) → u.present x ≡ true → s.present x ≡ true
-  user : u.user ≡ s.user
-  making : u.making ≡ s.making
-  epoch : u.epoch ≡ s.epoch
-  begun : u.begun ≡ s.begun
-  trees : (x id : ℕ) → u.present x ≡ true → is_some (tree_in (s.trees x) id) ≡ true → is_some (tree_in (u.trees x) id) ≡ true
-  standing : (o : ℕ) → u.standing o ≡ true → s.standing o ≡ true
-  opened : u.opened ≡ s.opened
-  gone : (x : ℕ) → previous ≡ Some x → u.present x ≡ false
+pub record Ends (s u : Server) (previous : Option ℕ) : Type 0 where
+  pub present : (x : ℕ) → u.present x ≡ true → s.present x ≡ true
+  pub user : u.user ≡ s.user
+  pub making : u.making ≡ s.making
+  pub epoch : u.epoch ≡ s.epoch
+  pub begun : u.begun ≡ s.begun
+  pub trees : (x id : ℕ) → u.present x ≡ true → is_some (tree_in (s.trees x) id) ≡ true → is_some (tree_in (u.trees x) id) ≡ true
+  pub standing : (o : ℕ) → u.standing o ≡ true → s.standing o ≡ true
+  pub opened : u.opened ≡ s.opened
+  pub gone : (x : ℕ) → previous ≡ Some x → u.present x ≡ false
 
 off_itself : (f : ℕ → Bool) (y x : ℕ) → Some y ≡ Some x → put f y false x ≡ false
 off_itself f y x e = grind arith
 
-ends : (s : Server) (now : ℕ) (is_quiet : Bool) (previous : Option ℕ) → Ends s (end_if_named s now previous is_quiet) previous
+pub ends : (s : Server) (now : ℕ) (is_quiet : Bool) (previous : Option ℕ) → Ends s (end_if_named s now previous is_quiet) previous
 ends s now is_quiet None =
     record { present = λ x p. p; user = refl; making = refl; epoch = refl; begun = refl; trees = λ x id p h. h; standing = λ o e. e; opened = refl; gone = λ x e. absurd (cc) }
 ends s now is_quiet (Some session) =

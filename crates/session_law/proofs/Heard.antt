@@ -58,7 +58,7 @@ seen_facts s t m A q f =
           (subst (λ i. (A.server.opened i).user ≡ s.user m.session) no (w.0 ∙ ap (λ g. g m.session) q.user), subst (λ i. (A.server.opened i).client ≡ m.client) no w.1, ap (λ g. g m.connection) (sym q.on) ∙ w.2);
     }
 
-before_stays : (s : Server) (now : ℕ) (t : Server) → Before s now t → Stays s t
+pub before_stays : (s : Server) (now : ℕ) (t : Server) → Before s now t → Stays s t
 before_stays s now t (inl e) = subst (λ u. Stays s u) (sym e) (stays_dated s now)
 before_stays s now t (inr h) = subst (λ u. Stays s u) (sym h.2) (stays_so s (with_deadlines s now) (expire (with_deadlines s now) h.0) (stays_dated s now) (stays_expired (with_deadlines s now) h.0))
 

@@ -4,6 +4,8 @@ pub mod Columns
 pub mod Answers
 pub mod Heard
 pub mod Serving
+pub mod Written
+pub mod Owed
 pub mod Same
 pub mod Moved
 pub mod Opened
