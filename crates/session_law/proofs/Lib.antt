@@ -6,6 +6,7 @@ pub mod Heard
 pub mod Serving
 pub mod Written
 pub mod Owed
+pub mod Connected
 pub mod Same
 pub mod Moved
 pub mod Opened

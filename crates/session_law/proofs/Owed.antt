@@ -165,7 +165,7 @@ clean_answer guid user s now m a b (QueryVolume file class room) = clean_heard g
 clean_answer guid user s now m a b (SetInfo file setting) = clean_heard guid user s now m a b
 
 -- a connection that is made or ends
-abbrev connects : Ruling → Bool
+abbrev pub connects : Ruling → Bool
 connects (Says message verdict) = false
 connects (TakesIn connection) = true
 connects TurnsAway = true
@@ -179,7 +179,7 @@ clean_connects guid user t now TurnsAway c = tt
 clean_connects guid user t now (TakesOut k is_quiet) c = clean_named guid user t (origin_at k) (ends_with t k) is_quiet
 clean_connects guid user t now _ c = absurd (cc)
 
-takes_in : (t : Server) (k : ℕ) → connects (ruling t (Accept k)) ≡ true
+pub takes_in : (t : Server) (k : ℕ) → connects (ruling t (Accept k)) ≡ true
 takes_in t k = either (λ r. connects r ≡ true) (nat_le max_connections (length t.connections)) TurnsAway (TakesIn k) (λ _. refl) (λ _. refl)
 
 still_connects : (r : Ruling) → connects r ≡ true → connects (ruling_without_room r) ≡ true
