@@ -7,6 +7,7 @@ pub mod Serving
 pub mod Written
 pub mod Owed
 pub mod Connected
+pub mod Table
 pub mod Same
 pub mod Moved
 pub mod Opened
