@@ -26,3 +26,4 @@ pub mod Cut
 pub mod Leave
 pub mod SentUp
 pub mod Say
+pub mod Dialog
