@@ -27,3 +27,4 @@ pub mod Leave
 pub mod SentUp
 pub mod Say
 pub mod Dialog
+pub mod Run
