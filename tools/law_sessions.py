@@ -259,6 +259,6 @@ if __name__ == "__main__":
     for event in EVENTS:
         if not wanted or event.name in wanted:
             emit(event)
-    first = ["Words"]
-    extra = [n for n in ("Columns", "Sealed", "Answers", "Written", "Door", "Recovered", "Run") if os.path.exists(os.path.join(TOP, n + ".antt"))]
-    open(os.path.join(TOP, "Lib.antt"), "w").write("".join("pub mod %s\n" % n for n in first + [e.name for e in EVENTS] + extra))
+    named = {e.name for e in EVENTS}
+    own = sorted(n[:-5] for n in os.listdir(TOP) if n.endswith(".antt") and n != "Lib.antt" and n[:-5] not in named)
+    open(os.path.join(TOP, "Lib.antt"), "w").write("".join("pub mod %s\n" % n for n in own + [e.name for e in EVENTS]))

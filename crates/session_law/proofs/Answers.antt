@@ -1,18 +1,18 @@
 -- What an answer of the server does to sessions, trees and ids, for whichever check answered.
 use Rattle.std.proofs.lemmas.Bool.{eqb-false}
-use Rattle.std.proofs.Common.{eqb-true, ◌≡◌, ◌≢◌, ℕ, ◌+◌, ◌≤◌, ◌<◌, ◌==◌, Bool, true, false, not, ◌&&◌, ◌||◌, if◌then◌else◌, List, [], ◌∷◌, ◌++◌, refl, arith, sym, subst, ◌∙◌, ap, Option, Some, None, is_some}
+use Rattle.std.proofs.Common.{◌≡◌, ◌≢◌, ℕ, ◌+◌, ◌==◌, Bool, true, false, not, ◌&&◌, List, [], ◌∷◌, ◌++◌, refl, arith, sym, ◌∙◌, ap, Option, Some, None, is_some}
 use Rattle.exchange_defs.specs.Table.{put}
 use Rattle.exchange_defs.specs.Status.{success, more_processing_required}
 use Rattle.exchange_defs.specs.Texts.{same_name}
 use Rattle.exchange_defs.specs.Commands.{Command, TreeDisconnect, Setup, SetupRequest, CreateRequest}
 use Rattle.exchange_defs.specs.State.{Server, Message, Answer, Record, Making, NewSession, Binding, Tree, Open}
 use Rattle.exchange_defs.specs.CheckSetup.{is_new, tree_in, previous_of}
-use Rattle.exchange_defs.specs.Opens.{id_of, leave_open}
+use Rattle.exchange_defs.specs.Opens.{leave_open}
 use Rattle.exchange_defs.specs.CheckOpen.{file_of}
-use Rattle.exchange_defs.specs.Effects.{apply, next_session, next_open, reach, attached, keep_slot, set_ranges, keep_closed, change_file, file_made, end_session, end_if_named, add_session, open_row, new_file}
+use Rattle.exchange_defs.specs.Effects.{apply, next_session, next_open, reach, set_ranges, file_made, end_if_named, open_row, new_file}
 use Rattle.exchange_defs.specs.Verdict.{Verdict, Refuse, Give, KeepRefusal, Repeat, Attach, Make, TurnDown, Tell, Show, KeepSlot, PutRanges, Alter, Shut, Challenge, ChallengeBinding, Begin, Join, EndSession, AddTree, DropTree}
-use Rattle.exchange_law.proofs.Doors.{either, recorded}
-use Rattle.session_law.specs.Sessions.{is_new_setup, is_tree_connect, is_work, is_dialog, is_logon, logon_user, logs_on, user_in, previous_in}
+use Rattle.exchange_law.proofs.Doors.{recorded}
+use Rattle.session_law.specs.Sessions.{is_new_setup, is_tree_connect, is_logon, logon_user, logs_on, user_in, previous_in}
 use Rattle.session_law.proofs.Checks.{Found, Begun, asks}
 use Rattle.session_law.proofs.Columns.{Stays, stays_same, stays_so, stays_reached, stays_attached, stays_kept, stays_ranged, stays_closed, stays_changed, stays_left, stays_made, stays_refused, stays_shown}
 

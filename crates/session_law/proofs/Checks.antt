@@ -1,11 +1,11 @@
 -- What the checks' verdicts say of sessions and trees.
-use Rattle.std.proofs.Common.{eqb-true, ◌≡◌, ◌≢◌, ℕ, ◌==◌, Bool, true, false, not, ◌&&◌, ◌||◌, nat_le, if◌then◌else◌, List, [], ◌∷◌, refl, arith, sym, subst, ◌∙◌, ap, Option, Some, None, is_some, length}
+use Rattle.std.proofs.Common.{eqb-true, ◌≡◌, ℕ, ◌==◌, Bool, true, false, not, ◌&&◌, ◌||◌, nat_le, List, [], ◌∷◌, refl, arith, sym, subst, ◌∙◌, ap, Option, Some, None, is_some, length}
 use Rattle.exchange_defs.specs.Table.{is_at}
 use Rattle.exchange_defs.specs.Status.{success, more_processing_required, insufficient_resources, disk_full, invalid_parameter, user_session_deleted}
 use Rattle.exchange_defs.specs.Texts.{same_name}
 use Rattle.exchange_defs.specs.Commands.{Command, Unreadable, Aside, Setup, Logoff, TreeConnect, TreeDisconnect, Create, Close, Flush, Read, Write, Lock, Ioctl, ListDirectory, QueryFile, QueryVolume, SetInfo, Element, SetupRequest, CreateRequest, Durable, Shows, Begins, Bad, Refused, Logon, Setting, form, is_setup, no_file}
 use Rattle.exchange_defs.specs.State.{Server, Message, Named}
-use Rattle.exchange_defs.specs.Opens.{is_of_session, max_ids}
+use Rattle.exchange_defs.specs.Opens.{max_ids}
 use Rattle.exchange_defs.specs.Verdict.{Verdict, Refuse, Give, KeepRefusal, Repeat, Attach, Make, TurnDown, Tell, Show, KeepSlot, PutRanges, Alter, Shut, Challenge, ChallengeBinding, Begin, Join, EndSession, AddTree, DropTree}
 use Rattle.exchange_defs.specs.CheckCreate.{create_check, refused_by}
 use Rattle.exchange_defs.specs.CheckOpen.{close_check, flush_check, read_check, write_check, lock_check, ioctl_check, free_ioctl_check, list_check, file_query_check, volume_query_check, set_check, listing_of}
@@ -13,7 +13,7 @@ use Rattle.exchange_defs.specs.CheckSetup.{session_check, binding_check, second_
 use Rattle.exchange_defs.specs.Check.{check, owed, formed, command_check, with_tree, in_tree, tree_command, on_open, has_session}
 use Rattle.exchange_defs.specs.Step.{without_room}
 use Rattle.exchange_law.proofs.Doors.{either}
-use Rattle.session_law.specs.Sessions.{is_new_setup, is_tree_connect, is_work, is_dialog, is_logon, logon_user, logs_on, user_in, previous_in}
+use Rattle.session_law.specs.Sessions.{is_new_setup, is_tree_connect, is_logon, logon_user}
 
 -- a new session or a tree is asked for
 abbrev pub asks : Command → Bool
@@ -100,7 +100,6 @@ binds_only _ = false
 
 binding : (s : Server) (m : Message) (r : SetupRequest) → binds_only (binding_check s m r) ≡ true
 binding s m r = grind arith
-
 
 untold : (b : Bool) → b ≡ false → b ≡ true → (P : Type 0) → P
 untold b e f P = absurd (cc)

@@ -1,12 +1,12 @@
 -- Which effects of the server leave the columns of sessions as they are, and make no open.
-use Rattle.std.proofs.Common.{◌≡◌, ◌≢◌, ℕ, ◌+◌, ◌==◌, Bool, true, false, not, ◌&&◌, ◌||◌, if◌then◌else◌, List, [], ◌∷◌, refl, arith, sym, ◌∙◌, ap, Option, Some, None, is_some}
+use Rattle.std.proofs.Common.{◌≡◌, ℕ, Bool, true, false, List, refl, arith, ◌∙◌, Option, Some, None, is_some}
 use Rattle.exchange_defs.specs.Table.{put}
-use Rattle.exchange_defs.specs.Commands.{CreateRequest, Durable, asks_directory, deletes_on_close}
+use Rattle.exchange_defs.specs.Commands.{CreateRequest, deletes_on_close}
 use Rattle.exchange_defs.specs.State.{Server, Message, Range}
-use Rattle.exchange_defs.specs.Files.{mark_file, remove_file, make_file, empty_file}
+use Rattle.exchange_defs.specs.Files.{mark_file, remove_file, empty_file}
 use Rattle.exchange_defs.specs.Opens.{drop_open, leave_open, marked_by, without_gone, goes}
 use Rattle.exchange_defs.specs.CheckCreate.{empties}
-use Rattle.exchange_defs.specs.CheckOpen.{is_late, is_slot, file_of}
+use Rattle.exchange_defs.specs.CheckOpen.{is_late, is_slot}
 use Rattle.exchange_defs.specs.Effects.{reach, keep_slot, keep_refusal, set_ranges, attach, attached, keep_closed, change_file, file_made}
 use Rattle.exchange_defs.specs.Verdict.{Change, PutBytes, PutEnd, PutBasic, PutMark, PutPath, PutNothing}
 use Rattle.exchange_defs.specs.Step.{add_mark, expire, with_deadlines}

@@ -1,21 +1,20 @@
 -- What a connection that is made or ends, and a restart, do to the server's sessions.
-use Rattle.std.proofs.Common.{◌≡◌, ℕ, ◌+◌, ◌*◌, ◌≤◌, ◌<◌, nat_le, Bool, true, false, List, [], ◌∷◌, ◌++◌, ◌⊎◌, inl, inr, refl, arith, sym, subst, ◌∙◌, ap, Option, Some, None, is_some, if◌then◌else◌}
-use Rattle.exchange_defs.specs.Table.{put}
+use Rattle.std.proofs.Common.{◌≡◌, ℕ, ◌+◌, ◌≤◌, nat_le, Bool, true, false, List, ◌++◌, inl, inr, refl, arith, sym, subst, ◌∙◌, ap, Option, Some, None, is_some}
 use Rattle.exchange_defs.specs.State.{Server, ServerEvent, Accept, End, Answer, Record, Making}
 use Rattle.exchange_defs.specs.CheckSetup.{is_new, tree_in}
 use Rattle.exchange_defs.specs.Opens.{id_of, max_ids}
 use Rattle.exchange_defs.specs.Effects.{end_if_named}
 use Rattle.exchange_defs.specs.Records.{fits, origin_at}
-use Rattle.exchange_defs.specs.Step.{step, table, expiring, written_down, with_deadlines, due, expire, expire_records, connection_of, max_marks, Ruling, TakesIn, TurnsAway, TakesOut, ruling, ruling_without_room, carried_out, ends_with, take_out, forget_connection}
+use Rattle.exchange_defs.specs.Step.{step, table, expiring, with_deadlines, due, expire, expire_records, connection_of, max_marks, Ruling, TakesIn, TurnsAway, TakesOut, ruling, ruling_without_room, carried_out, ends_with, take_out}
 use Rattle.exchange_defs.specs.Fold.{fold, recovered, recovery_records}
 use Rattle.exchange_defs.specs.Client.{Client}
 use Rattle.exchange_law.proofs.Doors.{either, Before}
 use Rattle.session_law.specs.Sessions.{MakingUnranked, SessionUsers, OpenUsers, logon_user}
 use Rattle.session_law.proofs.Words.{Moves}
-use Rattle.session_law.proofs.Columns.{Stays, stays_same}
-use Rattle.session_law.proofs.Answers.{Ends, ends, none_elsewhere}
+use Rattle.session_law.proofs.Columns.{Stays}
+use Rattle.session_law.proofs.Answers.{ends, none_elsewhere}
 use Rattle.session_law.proofs.Heard.{before_stays}
-use Rattle.session_law.proofs.Written.{Folds, Anew, anew}
+use Rattle.session_law.proofs.Written.{Folds, anew}
 use Rattle.session_law.proofs.Owed.{Rules, connects, connects_by, takes_in}
 
 -- sessions only end, and nothing is new

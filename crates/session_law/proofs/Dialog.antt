@@ -1,17 +1,16 @@
 -- What a dialog's response does.
-use Rattle.std.proofs.Common.{eqb-true, ◌≡◌, ◌≢◌, ℕ, ◌+◌, ◌≤◌, ◌<◌, ◌==◌, Bool, true, false, not, if◌then◌else◌, List, [], ◌∷◌, ◌++◌, refl, arith, sym, subst, ◌∙◌, ap, Option, Some, None, is_some}
+use Rattle.std.proofs.Common.{eqb-true, ◌≡◌, ◌≢◌, ℕ, ◌≤◌, ◌<◌, ◌==◌, Bool, true, false, refl, arith, sym, ◌∙◌, ap, Some, is_some}
 use Rattle.exchange_defs.specs.Table.{put}
 use Rattle.exchange_defs.specs.Status.{success, more_processing_required}
 use Rattle.exchange_defs.specs.State.{Server, Reply}
 use Rattle.exchange_defs.specs.CheckSetup.{is_new, tree_in}
 use Rattle.exchange_defs.specs.Opens.{id_of}
-use Rattle.exchange_defs.specs.Commands.{Shows, Begins, Bad, Refused, Logon}
-use Rattle.exchange_defs.specs.Client.{Client, Stage, Apart, SaidNegotiate, SaidFirst, SaidSecond, AskedTree, RefusedDialog}
-use Rattle.exchange_defs.specs.Dialogs.{DialogStep, GoesOn, Accepts, Binds, Readies, Refuses, dialog_step, dialog_message, stage_command, accepted, refused_dialog}
+use Rattle.exchange_defs.specs.Client.{Client, Stage, Apart, SaidNegotiate, SaidFirst, SaidSecond, AskedTree}
+use Rattle.exchange_defs.specs.Dialogs.{GoesOn, Accepts, Binds, Readies, Refuses, dialog_step, dialog_message, stage_command, accepted, refused_dialog}
 use Rattle.exchange_defs.specs.Network.{Conn, World, ForDialog, dialog_took, send_up}
 use Rattle.exchange_law.specs.Connections.{copies}
 use Rattle.exchange_law.proofs.Doors.{either}
-use Rattle.session_law.specs.Sessions.{Sessions, makes_session, is_dialog, is_new_setup, is_tree_connect, logs_on, user_in, previous_in, logon_user, is_logon}
+use Rattle.session_law.specs.Sessions.{Sessions, makes_session, is_dialog, is_new_setup, is_tree_connect, logs_on, user_in, previous_in, logon_user}
 use Rattle.session_law.proofs.WentOn.{went_on_keeps}
 use Rattle.session_law.proofs.Told.{told_keeps}
 use Rattle.session_law.proofs.Accepted.{accepted_keeps}

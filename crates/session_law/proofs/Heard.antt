@@ -1,14 +1,14 @@
 -- What a message that is answered does to sessions, whatever expired in front of it.
-use Rattle.std.proofs.Common.{◌≡◌, ◌≢◌, ℕ, ◌+◌, Bool, true, false, List, ◌⊎◌, inl, inr, refl, arith, sym, subst, ◌∙◌, ap, Option, Some, None, is_some}
+use Rattle.std.proofs.Common.{◌≡◌, ◌≢◌, ℕ, ◌+◌, Bool, true, false, inl, inr, refl, sym, subst, ◌∙◌, ap, is_some}
 use Rattle.exchange_defs.specs.Texts.{same_name}
 use Rattle.exchange_defs.specs.Commands.{Command, Unreadable, Aside, Setup, Logoff, TreeConnect, TreeDisconnect, Create, Close, Flush, Read, Write, Lock, Ioctl, ListDirectory, QueryFile, QueryVolume, SetInfo}
-use Rattle.exchange_defs.specs.State.{Server, Message, Heard, Answer, Record}
+use Rattle.exchange_defs.specs.State.{Server, Message, Heard, Answer}
 use Rattle.exchange_defs.specs.CheckSetup.{is_new, tree_in}
 use Rattle.exchange_defs.specs.Opens.{id_of}
 use Rattle.exchange_defs.specs.Check.{check}
 use Rattle.exchange_defs.specs.Effects.{apply}
 use Rattle.exchange_defs.specs.Verdict.{Verdict}
-use Rattle.exchange_defs.specs.Step.{step, with_deadlines, expire, without_room}
+use Rattle.exchange_defs.specs.Step.{step, with_deadlines, expire}
 use Rattle.exchange_defs.specs.Network.{answer_to, untouched}
 use Rattle.exchange_law.proofs.Doors.{by_verdict, Before, Finds, recorded}
 use Rattle.session_law.specs.Sessions.{user_in, previous_in, is_new_setup, is_tree_connect}

@@ -1,7 +1,7 @@
 -- The records that a step owes: none begins an epoch, and each open in them is this client's.
-use Rattle.std.proofs.Common.{◌≡◌, ℕ, ◌+◌, ◌==◌, nat_le, Bool, true, false, not, ◌&&◌, if◌then◌else◌, List, [], ◌∷◌, ◌++◌, ◌⊎◌, inl, inr, refl, sym, subst, ◌∙◌, ap, Option, Some, None, length}
+use Rattle.std.proofs.Common.{◌≡◌, ℕ, ◌==◌, nat_le, Bool, true, false, not, ◌&&◌, List, [], ◌∷◌, ◌++◌, ◌⊎◌, inl, inr, refl, sym, subst, ◌∙◌, ap, Option, Some, None, length}
 use Rattle.exchange_defs.specs.Commands.{Command, CreateRequest, Durable, Element, Unreadable, Aside, Setup, Logoff, TreeConnect, TreeDisconnect, Create, Close, Flush, Read, Write, Lock, Ioctl, ListDirectory, QueryFile, QueryVolume, SetInfo, deletes_on_close}
-use Rattle.exchange_defs.specs.State.{Server, Message, ServerEvent, Accept, Heard, End, Origin, Answer, Record, DeleteRecord, ShutRecord, RemoveRecord, ExpireRecord, LockRecord, CreateRecord}
+use Rattle.exchange_defs.specs.State.{Server, Message, ServerEvent, Accept, Heard, End, Origin, Answer, DeleteRecord, ShutRecord, RemoveRecord}
 use Rattle.exchange_defs.specs.Opens.{leave_open, leave_records, mark_records, shut_records, gone_records, goes, drop_open, marked_by}
 use Rattle.exchange_defs.specs.Check.{check}
 use Rattle.exchange_defs.specs.CheckOpen.{file_of}
@@ -9,11 +9,10 @@ use Rattle.exchange_defs.specs.Status.{success}
 use Rattle.exchange_defs.specs.Effects.{apply, create_records, new_open, lock_records, change_records, end_records, leave_all_records, records_if_named, is_persistent, plain_of}
 use Rattle.exchange_defs.specs.Records.{origin_at, origin_of, fits}
 use Rattle.exchange_defs.specs.Verdict.{Verdict, Refuse, Give, KeepRefusal, Repeat, Attach, Make, TurnDown, Tell, Show, KeepSlot, PutRanges, Alter, Shut, Challenge, ChallengeBinding, Begin, Join, EndSession, AddTree, DropTree, Change, PutBytes, PutEnd, PutBasic, PutMark, PutPath, PutNothing}
-use Rattle.exchange_defs.specs.Step.{step, table, expiring, written_down, with_deadlines, due, expire, expire_records, connection_of, max_marks, max_connections, Ruling, Says, TakesIn, TurnsAway, TakesOut, TakesAllOut, ruling, ruling_without_room, without_room, carried_out, ends_with}
-use Rattle.exchange_defs.specs.Network.{answer_to, untouched}
+use Rattle.exchange_defs.specs.Step.{step, table, expiring, with_deadlines, due, expire, expire_records, connection_of, max_marks, max_connections, Ruling, Says, TakesIn, TurnsAway, TakesOut, TakesAllOut, ruling, ruling_without_room, without_room, carried_out, ends_with}
+use Rattle.exchange_defs.specs.Network.{answer_to}
 use Rattle.exchange_law.proofs.Doors.{either, Before}
 use Rattle.session_law.proofs.Checks.{Found, found, found_full}
-use Rattle.session_law.proofs.Columns.{Stays}
 use Rattle.session_law.proofs.Heard.{before_stays}
 use Rattle.session_law.proofs.Written.{Clean, OwnOpen, clean_more}
 

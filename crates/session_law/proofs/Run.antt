@@ -1,25 +1,24 @@
 -- Each event keeps what holds of sessions, and so does each run.
 use Rattle.std.proofs.lemmas.Bool.{eqb-false}
-use Rattle.std.proofs.Common.{eqb-true, ◌≡◌, ◌≢◌, ℕ, ◌+◌, ◌*◌, ◌≤◌, ◌<◌, ◌==◌, nat_lt, Bool, true, false, not, ◌&&◌, ◌||◌, if◌then◌else◌, List, [], ◌∷◌, ◌++◌, refl, arith, sym, subst, ◌∙◌, ap, Option, Some, None, slice_get, is_some}
+use Rattle.std.proofs.Common.{eqb-true, ◌≡◌, ◌≢◌, ℕ, ◌+◌, ◌*◌, ◌≤◌, ◌==◌, nat_lt, Bool, true, false, not, ◌&&◌, ◌||◌, if◌then◌else◌, List, [], ◌∷◌, ◌++◌, refl, arith, sym, subst, ◌∙◌, ap, Option, Some, None, is_some}
 use Rattle.exchange_defs.specs.Table.{put, is_filled}
 use Rattle.exchange_defs.specs.Status.{success}
-use Rattle.exchange_defs.specs.Commands.{Command, TreeDisconnect}
-use Rattle.exchange_defs.specs.State.{Server, Message, Reply, Answer, Accept, End}
+use Rattle.exchange_defs.specs.Commands.{TreeDisconnect}
+use Rattle.exchange_defs.specs.State.{Server, Reply, Answer, Accept, End}
 use Rattle.exchange_defs.specs.Opens.{max_ids}
-use Rattle.exchange_defs.specs.Operations.{Op, Refusal, NoSession, request_of, reconnect_of, weight, charge, is_create, persists}
-use Rattle.exchange_defs.specs.Client.{Client, SaidNegotiate, create_for, guid_for, may_take, outcome_at_first, may_push, has_its_slot, goes_itself, settle_no_slots, begun, outstanding, asked, own_message, ask_message, is_taken, cut_channel, ends_at_cut, end_session, last_sequence, finish}
+use Rattle.exchange_defs.specs.Operations.{Op, Refusal, NoSession, request_of, reconnect_of, weight, charge}
+use Rattle.exchange_defs.specs.Client.{Client, SaidNegotiate, create_for, guid_for, may_take, outcome_at_first, may_push, has_its_slot, goes_itself, settle_no_slots, begun, outstanding, asked, own_message, ask_message, cut_channel, ends_at_cut, end_session, last_sequence, finish}
 use Rattle.exchange_defs.specs.Settling.{Heard as Hearing, Settles, GoesAgain, Attaches, EndsSession, heard, hear, is_awaited, answered}
-use Rattle.exchange_defs.specs.Dialogs.{DialogStep, GoesOn, Accepts, Binds, Readies, Refuses, dialog_step, dialog_message, open_channel}
+use Rattle.exchange_defs.specs.Dialogs.{DialogStep, GoesOn, Accepts, Binds, Readies, Refuses, dialog_step, dialog_message}
 use Rattle.exchange_defs.specs.ClientStep.{Pick, Act, Nothing, CloseChannels, Sends, Asks, pick_after, pick_act, act_heard, some_unsettled}
 use Rattle.exchange_defs.specs.Fold.{fold, recovered, recovery_records}
 use Rattle.exchange_defs.specs.Step.{step}
-use Rattle.exchange_defs.specs.Network.{opened_by, World, Event, Submit, Open, Push, Serve, Take, Cut, Drop, Restart, Crash, Wait, Finish, Conn, Sent, Received, Token, ForDialog, ForOp, ForAttach, op_of, happens, run, start, Settings, changed, later, may_open, may_serve, max_channel, pushed_by, answer, absorbed, replied, serve_front, absorb_front, behind_front, take_front, take_reply, took_by, dialog_took, op_took, closed_by, cut_by, with_client, send_up, behind_reply, restarted, blank_server}
-use Rattle.exchange_law.specs.Connections.{Connections, Once, Ready, copies, count_up, count_down}
+use Rattle.exchange_defs.specs.Network.{opened_by, World, Event, Submit, Open, Push, Serve, Take, Cut, Drop, Restart, Crash, Wait, Finish, Conn, Sent, Received, Token, ForDialog, ForOp, ForAttach, op_of, happens, changed, later, may_open, may_serve, max_channel, pushed_by, answer, absorbed, replied, serve_front, absorb_front, behind_front, take_front, take_reply, took_by, dialog_took, op_took, closed_by, cut_by, with_client, behind_reply, restarted}
+use Rattle.exchange_law.specs.Connections.{Once, Ready, copies}
 use Rattle.exchange_law.proofs.Lists.{front_up, front_down}
 use Rattle.exchange_law.proofs.Doors.{either}
 use Rattle.server_law.specs.Fits.{OnPresent, MakingOnce, Begun}
-use Rattle.session_law.specs.Sessions.{Sessions, is_ops, is_work, is_dialog, logs_on, user_in, logon_user}
-use Rattle.session_law.proofs.Words.{SameSession}
+use Rattle.session_law.specs.Sessions.{Sessions, is_ops, is_work, is_dialog, logs_on, logon_user}
 use Rattle.session_law.proofs.Same.{same_keeps}
 use Rattle.session_law.proofs.Moved.{moved_keeps}
 use Rattle.session_law.proofs.Opened.{opened_keeps}
@@ -33,11 +32,11 @@ use Rattle.session_law.proofs.Leave.{leave_keeps}
 use Rattle.session_law.proofs.SentUp.{sent_up_keeps}
 use Rattle.session_law.proofs.Say.{say_keeps}
 use Rattle.session_law.proofs.Dialog.{took_dialog, Tells}
-use Rattle.session_law.proofs.Table.{Keeps, keeps_so, keeps_itself, keeps_outcomes, keeps_no_slots, keeps_begun, keeps_asked, keeps_answered, keeps_joined, keeps_settle}
+use Rattle.session_law.proofs.Table.{Keeps, keeps_so, keeps_no_slots, keeps_begun, keeps_asked, keeps_answered, keeps_joined, keeps_settle}
 use Rattle.session_law.proofs.Answers.{Facts}
 use Rattle.session_law.proofs.Heard.{answered as answered_by}
 use Rattle.session_law.proofs.Serving.{moves_of, reply_current, reply_first, reply_second, reply_tree, work_keeps, dialog_keeps}
-use Rattle.session_law.proofs.Written.{Folds, Clean, folds_more, folds_nothing, anew}
+use Rattle.session_law.proofs.Written.{Folds, folds_more, anew}
 use Rattle.session_law.proofs.Owed.{clean_answer, clean_accept, clean_end}
 use Rattle.session_law.proofs.Connected.{falls_accept, falls_end, moves_falls, moves_restart}
 
@@ -113,7 +112,7 @@ submits w g op h =
     either (λ d. Holds (with_client w d)) (may_take w.client g op) _ _
     (λ _. record {
       sits = same_keeps w.client w.conns w.server (record w.client { taken = g; op = put w.client.op g op; outcome = put w.client.outcome g (outcome_at_first w.client g op) })
-        (record { who = refl; live = refl; session = refl; number = refl; tree = refl; sequence = refl; stage = refl; making = refl; pending = refl; accepted = refl; accepts = refl; rank = refl }) h.sits.numbered_sessions h.sits;
+          (record { who = refl; live = refl; session = refl; number = refl; tree = refl; sequence = refl; stage = refl; making = refl; pending = refl; accepted = refl; accepts = refl; rank = refl }) h.sits.numbered_sessions h.sits;
       stored = h.stored;
     })
     (λ _. h)
@@ -131,7 +130,7 @@ opens w k h free =
     record {
       sits = opens_session w k A (moved_keeps w.client w.conns w.server A.server (moves_falls w.client w.server A.server f h.sits.making_unranked h.sits.session_users h.sits.open_users) h.sits) free;
       stored = subst (λ n. Folds w.client.who.guid (logon_user w.client.who.logon) n (fold (w.records ++ A.records))) (sym f.epoch)
-        (folds_more w.client.who.guid (logon_user w.client.who.logon) w.server.epoch w.records A.records (clean_accept w.client.who.guid (logon_user w.client.who.logon) w.server w.moment k) h.stored);
+          (folds_more w.client.who.guid (logon_user w.client.who.logon) w.server.epoch w.records A.records (clean_accept w.client.who.guid (logon_user w.client.who.logon) w.server w.moment k) h.stored);
     }
 
 drops : (w : World) (k : ℕ) → Holds w → Holds (changed w (Drop k))
@@ -140,7 +139,7 @@ drops w k h =
     record {
       sits = server_off_keeps w.client w.conns A.server k (moved_keeps w.client w.conns w.server A.server (moves_falls w.client w.server A.server f h.sits.making_unranked h.sits.session_users h.sits.open_users) h.sits);
       stored = subst (λ n. Folds w.client.who.guid (logon_user w.client.who.logon) n (fold (w.records ++ A.records))) (sym f.epoch)
-        (folds_more w.client.who.guid (logon_user w.client.who.logon) w.server.epoch w.records A.records (clean_end w.client.who.guid (logon_user w.client.who.logon) w.server w.moment k) h.stored);
+          (folds_more w.client.who.guid (logon_user w.client.who.logon) w.server.epoch w.records A.records (clean_end w.client.who.guid (logon_user w.client.who.logon) w.server w.moment k) h.stored);
     }
 
 free_of : (w : World) (k : ℕ) → may_open w k ≡ true → w.client.making ≡ None
@@ -239,13 +238,13 @@ says w k x rest place is bounds h =
     let g : ℕ → Conn = put w.conns k (behind_front (w.conns k) rest) in let j = absorbs_front w k x rest is bounds h in
     record {
       sits = either (λ d. Sessions w.client (put g k d) A.server) (g k).client_open _ _
-        (λ o. let stands = still_open w.conns k rest o in
-        say_keeps w.client g A.server k (record { token = x.token; reply = A.reply; place = place })
-        (λ ops. reply_current w.client w.conns w.server k x A f f0 stands i.current_up i.work_up ops)
-        (λ d st u. reply_first w.client w.conns w.server k x A f f0 stands i.first_up i.from_client i.ranked_given d st u)
-        (λ d st u. reply_second w.client w.conns w.server k x A f f0 stands i.second_up i.from_client i.logon_up i.making_unranked i.session_users bounds.making_once d st u)
-        (λ d st u p. reply_tree w.client w.conns w.server k x A f f0 stands i.tree_connect_up i.from_client i.pending_accepted d st u) j.sits)
-        (λ _. subst (λ v. Sessions w.client v A.server) (put_self g k) j.sits);
+          (λ o. let stands = still_open w.conns k rest o in
+          say_keeps w.client g A.server k (record { token = x.token; reply = A.reply; place = place })
+          (λ ops. reply_current w.client w.conns w.server k x A f f0 stands i.current_up i.work_up ops)
+          (λ d st u. reply_first w.client w.conns w.server k x A f f0 stands i.first_up i.from_client i.ranked_given d st u)
+          (λ d st u. reply_second w.client w.conns w.server k x A f f0 stands i.second_up i.from_client i.logon_up i.making_unranked i.session_users bounds.making_once d st u)
+          (λ d st u p. reply_tree w.client w.conns w.server k x A f f0 stands i.tree_connect_up i.from_client i.pending_accepted d st u) j.sits)
+          (λ _. subst (λ v. Sessions w.client v A.server) (put_self g k) j.sits);
       stored = j.stored;
     }
 
@@ -357,7 +356,7 @@ finishes : (w : World) (refusal : Refusal) → Holds w → Holds (changed w (Fin
 finishes w refusal i =
     record {
       sits = same_keeps w.client w.conns w.server (finish w.client (NoSession refusal))
-        (record { who = refl; live = refl; session = refl; number = refl; tree = refl; sequence = refl; stage = refl; making = refl; pending = refl; accepted = refl; accepts = refl; rank = refl }) i.sits.numbered_sessions i.sits;
+          (record { who = refl; live = refl; session = refl; number = refl; tree = refl; sequence = refl; stage = refl; making = refl; pending = refl; accepted = refl; accepts = refl; rank = refl }) i.sits.numbered_sessions i.sits;
       stored = i.stored;
     }
 

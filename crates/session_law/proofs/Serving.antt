@@ -11,7 +11,7 @@ use Rattle.exchange_defs.specs.Effects.{next_session, next_open}
 use Rattle.exchange_defs.specs.Client.{Client, SaidFirst, SaidSecond, AskedTree}
 use Rattle.exchange_defs.specs.Network.{Conn, Sent}
 use Rattle.server_law.specs.Fits.{OnPresent, MakingOnce}
-use Rattle.session_law.specs.Sessions.{Sessions, is_ops, is_work, is_dialog, is_new_setup, is_tree_connect, logs_on, user_in, previous_in, logon_user, MakingUnranked, SessionUsers, OpenUsers, RankedGiven, CurrentUp, WorkUp, DialogUp, FirstUp, SecondUp, TreeConnectUp, PendingAccepted, LogonUp, FromClient}
+use Rattle.session_law.specs.Sessions.{is_ops, is_work, is_dialog, is_new_setup, logs_on, user_in, logon_user, MakingUnranked, SessionUsers, OpenUsers, RankedGiven, CurrentUp, WorkUp, FirstUp, SecondUp, TreeConnectUp, PendingAccepted, LogonUp, FromClient}
 use Rattle.session_law.proofs.Words.{Moves}
 use Rattle.session_law.proofs.Answers.{Facts}
 
@@ -77,10 +77,10 @@ opens_of c s m A f users opens client on o h =
     elim f.makes as (λ b. f.makes ≡ b → (A.server.opened o).user ≡ logon_user c.who.logon × (A.server.opened o).client ≡ c.who.guid) [
       | false ↦ λ b. of_old (λ e. none_true f.makes b e _)
       | true ↦ λ b. elim (o == next_open s) as (λ q. o == next_open s ≡ q → (A.server.opened o).user ≡ logon_user c.who.logon × (A.server.opened o).client ≡ c.who.guid) [
-          | true ↦ λ q. let is = eqb-true o (next_open s) q in let w = f.maker b in
-              subst (λ i. (A.server.opened i).user ≡ logon_user c.who.logon × (A.server.opened i).client ≡ c.who.guid) (sym is) (w.0 ∙ users m.session (on m.connection m.session w.2), w.1 ∙ client)
-          | false ↦ λ q. of_old (λ _. eqb-false o (next_open s) q)
-        ] refl
+        | true ↦ λ q. let is = eqb-true o (next_open s) q in let w = f.maker b in
+            subst (λ i. (A.server.opened i).user ≡ logon_user c.who.logon × (A.server.opened i).client ≡ c.who.guid) (sym is) (w.0 ∙ users m.session (on m.connection m.session w.2), w.1 ∙ client)
+        | false ↦ λ q. of_old (λ _. eqb-false o (next_open s) q)
+      ] refl
     ] refl
   where
     of_old : (f.makes ≡ true → o ≢ next_open s) → (A.server.opened o).user ≡ logon_user c.who.logon × (A.server.opened o).client ≡ c.who.guid
@@ -91,9 +91,9 @@ users_of c s m A f users logon x h =
     elim f.begins as (λ b. f.begins ≡ b → A.server.user x ≡ logon_user c.who.logon) [
       | false ↦ λ b. of_old (λ e. none_true f.begins b e _)
       | true ↦ λ b. elim (x == m.session) as (λ q. x == m.session ≡ q → A.server.user x ≡ logon_user c.who.logon) [
-          | true ↦ λ q. let is = eqb-true x m.session q in let w = f.enters b in ap (λ i. A.server.user i) is ∙ w.user ∙ logon w.logs
-          | false ↦ λ q. of_old (λ _. eqb-false x m.session q)
-        ] refl
+        | true ↦ λ q. let is = eqb-true x m.session q in let w = f.enters b in ap (λ i. A.server.user i) is ∙ w.user ∙ logon w.logs
+        | false ↦ λ q. of_old (λ _. eqb-false x m.session q)
+      ] refl
     ] refl
   where
     of_old : (f.begins ≡ true → x ≢ m.session) → A.server.user x ≡ logon_user c.who.logon
@@ -148,24 +148,26 @@ pub reply_first : (c : Client) (conns : ℕ → Conn) (s : Server) (k : ℕ) (x 
     → is_ops x.token ≡ false → c.stage k ≡ SaidFirst false → A.reply.status ≡ more_processing_required
     → c.rank A.reply.session ≡ 0 × 0 < A.reply.session × A.reply.session ≤ id_of A.server.epoch A.server.begun
 reply_first c conns s k x A f h stands first who given dialog stage status =
-    let n = f.counted (f.interim status (first k 0 x h stands dialog stage) (who k 0 x h).2) in
-    (ap c.rank n.1 ∙ zero_rank (c.rank (next_session s)) (id_of s.epoch s.begun) (next_session s) (given (next_session s)) (next_above s.epoch s.begun),
-    subst (λ i. 0 < i) (sym n.1) (above_zero s.epoch s.begun),
-    subst (λ i. i ≤ id_of A.server.epoch A.server.begun) (sym n.1) (within s.epoch A.server.epoch s.begun A.server.begun f.epoch n.0))
+    let n = f.counted (f.interim status (first k 0 x h stands dialog stage) (who k 0 x h).2) in (
+      ap c.rank n.1 ∙ zero_rank (c.rank (next_session s)) (id_of s.epoch s.begun) (next_session s) (given (next_session s)) (next_above s.epoch s.begun),
+      subst (λ i. 0 < i) (sym n.1) (above_zero s.epoch s.begun),
+      subst (λ i. i ≤ id_of A.server.epoch A.server.begun) (sym n.1) (within s.epoch A.server.epoch s.begun A.server.begun f.epoch n.0),
+    )
 
 pub reply_second : (c : Client) (conns : ℕ → Conn) (s : Server) (k : ℕ) (x : Sent) (A : Answer) → Facts s x.message A → slice_get (conns k).up 0 ≡ Some x → (conns k).client_open ≡ true → SecondUp c conns → FromClient c conns → LogonUp c conns
     → MakingUnranked c s → SessionUsers c s → MakingOnce s → is_ops x.token ≡ false → c.stage k ≡ SaidSecond false → A.reply.status ≡ success
     → (0 < c.rank c.accepted → A.server.present c.accepted ≡ false) × ((j : ℕ) → is_new c.pending (A.server.making j) ≡ false)
 reply_second c conns s k x A f h stands second who logon unranked users once dialog stage status =
-    let m = x.message in let u = second k 0 x h stands dialog stage in let b = f.welcome status u.0 (who k 0 x h).2 in let w = f.enters b in
-    (λ r. refuted (A.server.present c.accepted) (λ p.
-        let old = back_of c s m A f unranked c.accepted r p in
-        let mine = logon k 0 x h w.logs in
-        let same : same_name (s.user c.accepted) (user_in m.command) ≡ true = ap (λ z. same_name z (user_in m.command)) (users c.accepted old ∙ sym mine) ∙ same_itself (user_in m.command) in
-        subst (λ i. A.server.present i ≡ false) u.1 (w.gone (subst (λ i. s.present i ≡ true) (sym u.1) old) (subst (λ i. same_name (s.user i) (user_in m.command) ≡ true) (sym u.1) same))),
-    λ j. refuted (is_new c.pending (A.server.making j)) (λ n.
-        let q = w.unmade j (subst (λ i. is_new i (A.server.making j) ≡ true) (sym u.2) n) in
-        absurd (q.1 (once j m.connection m.session (making_of m.session (s.making j) q.0) (making_of m.session (s.making m.connection) w.made)))))
+    let m = x.message in let u = second k 0 x h stands dialog stage in let b = f.welcome status u.0 (who k 0 x h).2 in let w = f.enters b in (
+      λ r. refuted (A.server.present c.accepted) (λ p.
+          let old = back_of c s m A f unranked c.accepted r p in
+          let mine = logon k 0 x h w.logs in
+          let same : same_name (s.user c.accepted) (user_in m.command) ≡ true = ap (λ z. same_name z (user_in m.command)) (users c.accepted old ∙ sym mine) ∙ same_itself (user_in m.command) in
+          subst (λ i. A.server.present i ≡ false) u.1 (w.gone (subst (λ i. s.present i ≡ true) (sym u.1) old) (subst (λ i. same_name (s.user i) (user_in m.command) ≡ true) (sym u.1) same))),
+      λ j. refuted (is_new c.pending (A.server.making j)) (λ n.
+          let q = w.unmade j (subst (λ i. is_new i (A.server.making j) ≡ true) (sym u.2) n) in
+          absurd (q.1 (once j m.connection m.session (making_of m.session (s.making j) q.0) (making_of m.session (s.making m.connection) w.made)))),
+    )
 
 pub reply_tree : (c : Client) (conns : ℕ → Conn) (s : Server) (k : ℕ) (x : Sent) (A : Answer) → Facts s x.message A → slice_get (conns k).up 0 ≡ Some x → (conns k).client_open ≡ true → TreeConnectUp c conns → FromClient c conns → PendingAccepted c
     → is_ops x.token ≡ false → c.stage k ≡ AskedTree → A.reply.status ≡ success → is_some (tree_in (A.server.trees c.accepted) A.reply.tree) ≡ true

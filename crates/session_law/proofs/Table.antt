@@ -1,11 +1,11 @@
 -- What the client does to its operations, opens and lock slots leaves its session and dialogs as they are.
-use Rattle.std.proofs.Common.{◌≡◌, ℕ, ◌+◌, ◌≤◌, ◌<◌, ◌==◌, Bool, true, false, not, ◌&&◌, ◌||◌, if◌then◌else◌, List, [], ◌∷◌, refl, arith, sym, ◌∙◌, ap, Option, Some, None}
+use Rattle.std.proofs.Common.{◌≡◌, ℕ, ◌≤◌, ◌<◌, ◌==◌, Bool, true, not, ◌&&◌, List, [], ◌∷◌, refl, arith, ◌∙◌}
 use Rattle.exchange_defs.specs.Table.{put, put2}
 use Rattle.exchange_defs.specs.Status.{disk_full}
 use Rattle.exchange_defs.specs.State.{Reply, Body}
 use Rattle.exchange_defs.specs.Operations.{Outcome, Unsettled, WasOk, WasRefused, NoSlot, NoOpen, Unknown, is_create, is_close, is_lock, id_in}
 use Rattle.exchange_defs.specs.Client.{Client, create_for, settle_no_slot, settle_no_slots, lacks_slot, again, begin, take_slot, begun, outstanding, asked}
-use Rattle.exchange_defs.specs.Settling.{answered, joined, settle, settled, noted, noted_ok, noted_full, settles_open, with_no_opens}
+use Rattle.exchange_defs.specs.Settling.{answered, joined, settle, settled, noted, noted_full, settles_open, with_no_opens}
 use Rattle.exchange_law.proofs.Doors.{either}
 use Rattle.session_law.specs.Sessions.{NumberedSessions}
 use Rattle.session_law.proofs.Words.{SameSession}

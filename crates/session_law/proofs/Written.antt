@@ -1,14 +1,14 @@
 -- What the journal's records say of sessions: a fold of them stands in the server's epoch, has no session, and its opens
 -- are this client's.
-use Rattle.std.proofs.Common.{eqb-true, ◌≡◌, ◌≢◌, ℕ, ◌+◌, ◌≤◌, ◌<◌, ◌==◌, nat_le, nat_lt, Bool, true, false, not, ◌&&◌, ◌||◌, if◌then◌else◌, List, [], ◌∷◌, ◌++◌, refl, arith, sym, subst, ◌∙◌, ap, Option, Some, None, length}
+use Rattle.std.proofs.Common.{◌≡◌, ℕ, ◌+◌, ◌==◌, nat_le, nat_lt, Bool, true, false, not, ◌&&◌, ◌||◌, if◌then◌else◌, List, [], ◌∷◌, ◌++◌, refl, arith, sym, subst, ◌∙◌, ap, Option, Some, None, length}
 use Rattle.exchange_defs.specs.Table.{put}
 use Rattle.exchange_defs.specs.Status.{success}
 use Rattle.exchange_defs.specs.Content.{written, ended, is_empty}
-use Rattle.exchange_defs.specs.Commands.{Basic, Element, all_lock, all_unlock}
-use Rattle.exchange_defs.specs.State.{Server, Entry, Open, Origin, Record, NewOpen, EpochRecord, CreateRecord, WriteRecord, EndRecord, BasicRecord, DeleteRecord, RenameRecord, RemoveRecord, LockRecord, ShutRecord, VersionRecord, ExpireRecord}
+use Rattle.exchange_defs.specs.Commands.{Element, all_lock, all_unlock}
+use Rattle.exchange_defs.specs.State.{Server, Entry, Open, Record, NewOpen, EpochRecord, CreateRecord, WriteRecord, EndRecord, BasicRecord, DeleteRecord, RenameRecord, RemoveRecord, LockRecord, ShutRecord, VersionRecord, ExpireRecord}
 use Rattle.exchange_defs.specs.Files.{root, find, exists, passes_room, make_file, set_content, empty_file, mark_file, store_basic, remove_file, rename_file}
 use Rattle.exchange_defs.specs.Ranges.{RangeAnswer, Stands, Denied, change_ranges}
-use Rattle.exchange_defs.specs.Opens.{add_open, drop_open, marked_by, without_gone}
+use Rattle.exchange_defs.specs.Opens.{marked_by, without_gone}
 use Rattle.exchange_defs.specs.CheckOpen.{target_of, file_of}
 use Rattle.exchange_defs.specs.Effects.{keep_slot, set_ranges}
 use Rattle.exchange_defs.specs.Step.{add_mark, max_marks}

@@ -1,3 +1,19 @@
 //! What holds between the exchange model's client, the connections and the server's sessions, on every run: of the
 //! sessions that the client accepted at most the last one is still there, and each message that waits is of one of them.
+//!
+//! The law is a public function with an empty body, whose contract is the statement; its definitions stand in `specs`.
 #![tactic(auto)]
+
+ghost use Rattle.std.specs.Prelude.{List};
+ghost use Rattle.exchange_defs.specs.Network.{Event, Settings, run, start};
+ghost use Rattle.session_law.specs.Sessions.{Sessions};
+
+/// On every run, behind every event, the client's session, what waits and the server's sessions fit together (each part
+/// of `Sessions`): of the sessions that the client accepted at most the last one is there, and while the client's session
+/// is live it is that one; a message or reply of an operation on an open connection is of the live session, and no other
+/// message of an operation is of a session that the client never accepted; the sequences that wait are below 32,768 and,
+/// of the live session, at most the client's; each session and each open is of the client's user; and while a session is
+/// there, so is the tree that its operations' messages name.
+pub fn sessions_law()
+    ensures fit { (settings : Settings) (events : List Event) → Sessions (run events (start settings)).client (run events (start settings)).conns (run events (start settings)).server }
+{}

@@ -1,0 +1,5 @@
+use Rattle.session_law.proofs.Always.{sessions}
+use Rattle.session_law.proofs.sessions_law.Goals as goal
+
+pub returns : goal.returns
+returns c = record { fit = sessions }
