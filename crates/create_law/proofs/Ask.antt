@@ -1,0 +1,89 @@
+-- A DH2C goes out in an operation's place.
+use Rattle.std.proofs.lemmas.Bool.{eqb-false}
+use Rattle.std.proofs.lemmas.Bool.Decides.{nat_tests}
+use Rattle.std.proofs.Common.{eqb-true, ◌≡◌, ◌≢◌, ℕ, ◌+◌, ◌≤◌, ◌<◌, ◌==◌, Bool, true, false, not, ◌&&◌, ◌||◌, if◌then◌else◌, List, [], ◌∷◌, ◌++◌, ◌⊎◌, inl, inr, refl, arith, sym, subst, ◌∙◌, ap, Option, Some, None, slice_get, is_some, zero, suc}
+use Rattle.exchange_defs.specs.Table.{put, put2}
+use Rattle.exchange_defs.specs.Status.{success, user_session_deleted}
+use Rattle.exchange_defs.specs.State.{Message, Reply, Open as OpenRow}
+use Rattle.exchange_defs.specs.Operations.{Op, Outcome, Unsettled, Why, is_unsettled, is_ok, id_in}
+use Rattle.exchange_defs.specs.Client.{Client, Stage, take_slot, outstanding as put_out, asked, cut_channel, end_session, finish}
+use Rattle.exchange_defs.specs.Settling.{answered, joined, settled as settled_by}
+use Rattle.exchange_defs.specs.Dialogs.{open_channel, went_on, accepted, bound, readied, leave_dialog, refused_dialog}
+use Rattle.exchange_defs.specs.Network.{Conn, Sent, Received, Token, ForDialog, ForOp, ForAttach, op_of, fresh as fresh_conn, server_off, client_off, send_up, behind_front, take_front}
+use Rattle.exchange_defs.specs.Runs.{never_acted}
+use Rattle.exchange_law.specs.Connections.{copies, makes_open, Once, Outstanding, OwnUp, DownOpen, OnReady, Ready, Settled, Taken, Fresh, Bodies, First, SentReplies}
+use Rattle.exchange_law.proofs.Lists.{get-push, counted_up, counted_down, own_up_count, own_down_count, front_up, front_down, waited, waited_down}
+use Rattle.session_law.specs.Sessions.{logon_user}
+use Rattle.create_law.specs.Creates.{Seen, Creates, Restarts, own_guid, guid_at, named, is_kept, is_current, is_barred, is_full, refuses, outlives, keeps_form, is_of_dialog, is_of_ask, Made, Named, NamedKind, NamedGiven, Attached, PlainAttached, Unclosed, ActedKept, AtMost, FormActed, RefusedNot, DeadRefused, NoReply, BarredReply, RefusedStatus, OkActed, OkReply, FileGuid, FileOf, ReplyGuid, ReplyOf, PlainDead, AskingOther, DialogUp, AskUp}
+use Rattle.create_law.proofs.Words.{guid_once, full_more, after_end}
+use Rattle.create_law.proofs.Moves.{refuse_in, attach_to, make_new, leave_by, closed_by, shut_in, expire_by, goes_with, named_still, end_of, begin_of}
+
+ask_acted_kept : (c : Client) (conns : ℕ → Conn) (v : Seen) (a : ℕ → ℕ) (k g n0 : ℕ) (m : Message) → (makes_open (c.op g) ≡ false) → (g ≤ c.taken) → (is_of_ask m.command ≡ true) → ActedKept c conns v a → ActedKept (asked c k g) (put conns k (send_up (conns k) (ForAttach g) m n0)) v a
+ask_acted_kept c conns v a k g n0 m other within says i_acted_kept =
+    λ j n p y. let old = i_acted_kept j n p y in grind (arith, get-push)
+
+ask_dead_refused : (c : Client) (conns : ℕ → Conn) (v : Seen) (a : ℕ → ℕ) (k g n0 : ℕ) (m : Message) → (makes_open (c.op g) ≡ false) → (g ≤ c.taken) → (is_of_ask m.command ≡ true) → DeadRefused c conns v → DeadRefused (asked c k g) (put conns k (send_up (conns k) (ForAttach g) m n0)) v
+ask_dead_refused c conns v a k g n0 m other within says i_dead_refused =
+    λ j n p y. let old = i_dead_refused j n p y in grind (arith, get-push)
+
+ask_no_reply : (c : Client) (conns : ℕ → Conn) (v : Seen) (a : ℕ → ℕ) (k g n0 : ℕ) (m : Message) → (makes_open (c.op g) ≡ false) → (g ≤ c.taken) → (is_of_ask m.command ≡ true) → NoReply c conns a → NoReply (asked c k g) (put conns k (send_up (conns k) (ForAttach g) m n0)) a
+ask_no_reply c conns v a k g n0 m other within says i_no_reply =
+    λ j n p y. let old = i_no_reply j n p y in grind (arith, get-push)
+
+ask_barred_reply : (c : Client) (conns : ℕ → Conn) (v : Seen) (a : ℕ → ℕ) (k g n0 : ℕ) (m : Message) → (makes_open (c.op g) ≡ false) → (g ≤ c.taken) → (is_of_ask m.command ≡ true) → BarredReply c conns v → BarredReply (asked c k g) (put conns k (send_up (conns k) (ForAttach g) m n0)) v
+ask_barred_reply c conns v a k g n0 m other within says i_barred_reply =
+    λ j n p y. let old = i_barred_reply j n p y in grind (arith, get-push)
+
+ask_ok_reply : (c : Client) (conns : ℕ → Conn) (v : Seen) (a : ℕ → ℕ) (k g n0 : ℕ) (m : Message) → (makes_open (c.op g) ≡ false) → (g ≤ c.taken) → (is_of_ask m.command ≡ true) → OkReply c conns a → OkReply (asked c k g) (put conns k (send_up (conns k) (ForAttach g) m n0)) a
+ask_ok_reply c conns v a k g n0 m other within says i_ok_reply =
+    λ j n p y. let old = i_ok_reply j n p y in grind (arith, get-push)
+
+ask_reply_guid : (c : Client) (conns : ℕ → Conn) (v : Seen) (a : ℕ → ℕ) (k g n0 : ℕ) (m : Message) → (makes_open (c.op g) ≡ false) → (g ≤ c.taken) → (is_of_ask m.command ≡ true) → ReplyGuid c conns v → ReplyGuid (asked c k g) (put conns k (send_up (conns k) (ForAttach g) m n0)) v
+ask_reply_guid c conns v a k g n0 m other within says i_reply_guid =
+    λ j n p y. let old = i_reply_guid j n p y in grind (arith, get-push)
+
+ask_reply_of : (c : Client) (conns : ℕ → Conn) (v : Seen) (a : ℕ → ℕ) (k g n0 : ℕ) (m : Message) → (makes_open (c.op g) ≡ false) → (g ≤ c.taken) → (is_of_ask m.command ≡ true) → ReplyOf c conns v → ReplyOf (asked c k g) (put conns k (send_up (conns k) (ForAttach g) m n0)) v
+ask_reply_of c conns v a k g n0 m other within says i_reply_of =
+    λ j n p o y. let old = i_reply_of j n p o y in grind (arith, get-push)
+
+ask_asking_other : (c : Client) (conns : ℕ → Conn) (v : Seen) (a : ℕ → ℕ) (k g n0 : ℕ) (m : Message) → (makes_open (c.op g) ≡ false) → (g ≤ c.taken) → (is_of_ask m.command ≡ true) → AskingOther c → AskingOther (asked c k g)
+ask_asking_other c conns v a k g n0 m other within says i_asking_other =
+    λ p. let old = i_asking_other p in grind arith
+
+ask_dialog_up : (c : Client) (conns : ℕ → Conn) (v : Seen) (a : ℕ → ℕ) (k g n0 : ℕ) (m : Message) → (makes_open (c.op g) ≡ false) → (g ≤ c.taken) → (is_of_ask m.command ≡ true) → DialogUp conns → DialogUp (put conns k (send_up (conns k) (ForAttach g) m n0))
+ask_dialog_up c conns v a k g n0 m other within says i_dialog_up =
+    λ j n y. let old = i_dialog_up j n y in grind (arith, get-push)
+
+ask_ask_up : (c : Client) (conns : ℕ → Conn) (v : Seen) (a : ℕ → ℕ) (k g n0 : ℕ) (m : Message) → (makes_open (c.op g) ≡ false) → (g ≤ c.taken) → (is_of_ask m.command ≡ true) → AskUp conns → AskUp (put conns k (send_up (conns k) (ForAttach g) m n0))
+ask_ask_up c conns v a k g n0 m other within says i_ask_up =
+    λ j n p y. let old = i_ask_up j n p y in grind (arith, get-push)
+
+pub ask_creates : (c : Client) (conns : ℕ → Conn) (v : Seen) (a : ℕ → ℕ) (k g n0 : ℕ) (m : Message) → (makes_open (c.op g) ≡ false) → (g ≤ c.taken) → (is_of_ask m.command ≡ true) → Creates c conns v a → Creates (asked c k g) (put conns k (send_up (conns k) (ForAttach g) m n0)) v a
+ask_creates c conns v a k g n0 m other within says i =
+    record {
+      made = i.made;
+      named = i.named;
+      named_kind = i.named_kind;
+      named_given = i.named_given;
+      attached = i.attached;
+      plain_attached = i.plain_attached;
+      unclosed = i.unclosed;
+      acted_kept = ask_acted_kept c conns v a k g n0 m other within says i.acted_kept;
+      at_most = i.at_most;
+      form_acted = i.form_acted;
+      refused_not = i.refused_not;
+      dead_refused = ask_dead_refused c conns v a k g n0 m other within says i.dead_refused;
+      no_reply = ask_no_reply c conns v a k g n0 m other within says i.no_reply;
+      barred_reply = ask_barred_reply c conns v a k g n0 m other within says i.barred_reply;
+      refused_status = i.refused_status;
+      ok_acted = i.ok_acted;
+      ok_reply = ask_ok_reply c conns v a k g n0 m other within says i.ok_reply;
+      file_guid = i.file_guid;
+      file_of = i.file_of;
+      reply_guid = ask_reply_guid c conns v a k g n0 m other within says i.reply_guid;
+      reply_of = ask_reply_of c conns v a k g n0 m other within says i.reply_of;
+      plain_dead = i.plain_dead;
+      asking_other = ask_asking_other c conns v a k g n0 m other within says i.asking_other;
+      dialog_up = ask_dialog_up c conns v a k g n0 m other within says i.dialog_up;
+      ask_up = ask_ask_up c conns v a k g n0 m other within says i.ask_up;
+    }

@@ -1,0 +1,69 @@
+-- A session begins.
+use Rattle.std.proofs.lemmas.Bool.{eqb-false}
+use Rattle.std.proofs.lemmas.Bool.Decides.{nat_tests}
+use Rattle.std.proofs.Common.{eqb-true, ◌≡◌, ◌≢◌, ℕ, ◌+◌, ◌≤◌, ◌<◌, ◌==◌, Bool, true, false, not, ◌&&◌, ◌||◌, if◌then◌else◌, List, [], ◌∷◌, ◌++◌, ◌⊎◌, inl, inr, refl, arith, sym, subst, ◌∙◌, ap, Option, Some, None, slice_get, is_some, zero, suc}
+use Rattle.exchange_defs.specs.Table.{put, put2}
+use Rattle.exchange_defs.specs.Status.{success, user_session_deleted}
+use Rattle.exchange_defs.specs.State.{Message, Reply, Open as OpenRow}
+use Rattle.exchange_defs.specs.Operations.{Op, Outcome, Unsettled, Why, is_unsettled, is_ok, id_in}
+use Rattle.exchange_defs.specs.Client.{Client, Stage, take_slot, outstanding as put_out, asked, cut_channel, end_session, finish}
+use Rattle.exchange_defs.specs.Settling.{answered, joined, settled as settled_by}
+use Rattle.exchange_defs.specs.Dialogs.{open_channel, went_on, accepted, bound, readied, leave_dialog, refused_dialog}
+use Rattle.exchange_defs.specs.Network.{Conn, Sent, Received, Token, ForDialog, ForOp, ForAttach, op_of, fresh as fresh_conn, server_off, client_off, send_up, behind_front, take_front}
+use Rattle.exchange_defs.specs.Runs.{never_acted}
+use Rattle.exchange_law.specs.Connections.{copies, makes_open, Once, Outstanding, OwnUp, DownOpen, OnReady, Ready, Settled, Taken, Fresh, Bodies, First, SentReplies}
+use Rattle.exchange_law.proofs.Lists.{get-push, counted_up, counted_down, own_up_count, own_down_count, front_up, front_down, waited, waited_down}
+use Rattle.session_law.specs.Sessions.{logon_user}
+use Rattle.create_law.specs.Creates.{Seen, Creates, Restarts, own_guid, guid_at, named, is_kept, is_current, is_barred, is_full, refuses, outlives, keeps_form, is_of_dialog, is_of_ask, Made, Named, NamedKind, NamedGiven, Attached, PlainAttached, Unclosed, ActedKept, AtMost, FormActed, RefusedNot, DeadRefused, NoReply, BarredReply, RefusedStatus, OkActed, OkReply, FileGuid, FileOf, ReplyGuid, ReplyOf, PlainDead, AskingOther, DialogUp, AskUp}
+use Rattle.create_law.proofs.Words.{guid_once, full_more, after_end}
+use Rattle.create_law.proofs.Moves.{refuse_in, attach_to, make_new, leave_by, closed_by, shut_in, expire_by, goes_with, named_still, end_of, begin_of}
+
+begin_of_attached : (c : Client) (conns : ℕ → Conn) (v : Seen) (a : ℕ → ℕ) (x : ℕ) → (c.rank x ≡ 0) → Attached c v → Attached c (begin_of v x)
+begin_of_attached c conns v a x new i_attached =
+    λ o z. let old = i_attached o z in grind arith
+
+begin_of_unclosed : (c : Client) (conns : ℕ → Conn) (v : Seen) (a : ℕ → ℕ) (x : ℕ) → (c.rank x ≡ 0) → (c.live ≡ true → 0 < c.rank c.session) → Unclosed c v a → Unclosed c (begin_of v x) a
+begin_of_unclosed c conns v a x new lives i_unclosed =
+    λ p. let old = i_unclosed p in let l = lives in grind arith
+
+begin_of_acted_kept : (c : Client) (conns : ℕ → Conn) (v : Seen) (a : ℕ → ℕ) (x : ℕ) → (c.rank x ≡ 0) → ((j n h : ℕ) (y : Sent) → slice_get (conns j).up n ≡ Some y → y.token ≡ ForOp h → 0 < c.rank y.message.session) → ActedKept c conns v a → ActedKept c conns (begin_of v x) a
+begin_of_acted_kept c conns v a x new ranked i_acted_kept =
+    λ j n p y h t. let old = i_acted_kept j n p y h t in let r = ranked j n p y h t in grind arith
+
+begin_of_dead_refused : (c : Client) (conns : ℕ → Conn) (v : Seen) (a : ℕ → ℕ) (x : ℕ) → (c.rank x ≡ 0) → ((j n h : ℕ) (y : Sent) → slice_get (conns j).up n ≡ Some y → y.token ≡ ForOp h → 0 < c.rank y.message.session) → DeadRefused c conns v → DeadRefused c conns (begin_of v x)
+begin_of_dead_refused c conns v a x new ranked i_dead_refused =
+    λ j n p y h t. let old = i_dead_refused j n p y h t in let r = ranked j n p y h t in grind arith
+
+begin_of_barred_reply : (c : Client) (conns : ℕ → Conn) (v : Seen) (a : ℕ → ℕ) (x : ℕ) → (c.rank x ≡ 0) → (c.live ≡ true → 0 < c.rank c.session) → BarredReply c conns v → BarredReply c conns (begin_of v x)
+begin_of_barred_reply c conns v a x new lives i_barred_reply =
+    λ j n p y h t. let old = i_barred_reply j n p y h t in let l = lives in grind arith
+
+pub begin_of_creates : (c : Client) (conns : ℕ → Conn) (v : Seen) (a : ℕ → ℕ) (x : ℕ) → (c.rank x ≡ 0) → (c.live ≡ true → 0 < c.rank c.session) → ((j n h : ℕ) (y : Sent) → slice_get (conns j).up n ≡ Some y → y.token ≡ ForOp h → 0 < c.rank y.message.session) → Creates c conns v a → Creates c conns (begin_of v x) a
+begin_of_creates c conns v a x new lives ranked i =
+    record {
+      made = i.made;
+      named = i.named;
+      named_kind = i.named_kind;
+      named_given = i.named_given;
+      attached = begin_of_attached c conns v a x new i.attached;
+      plain_attached = i.plain_attached;
+      unclosed = begin_of_unclosed c conns v a x new lives i.unclosed;
+      acted_kept = begin_of_acted_kept c conns v a x new ranked i.acted_kept;
+      at_most = i.at_most;
+      form_acted = i.form_acted;
+      refused_not = i.refused_not;
+      dead_refused = begin_of_dead_refused c conns v a x new ranked i.dead_refused;
+      no_reply = i.no_reply;
+      barred_reply = begin_of_barred_reply c conns v a x new lives i.barred_reply;
+      refused_status = i.refused_status;
+      ok_acted = i.ok_acted;
+      ok_reply = i.ok_reply;
+      file_guid = i.file_guid;
+      file_of = i.file_of;
+      reply_guid = i.reply_guid;
+      reply_of = i.reply_of;
+      plain_dead = i.plain_dead;
+      asking_other = i.asking_other;
+      dialog_up = i.dialog_up;
+      ask_up = i.ask_up;
+    }

@@ -1,0 +1,85 @@
+-- A dialog is refused, and the client closes its channel.
+use Rattle.std.proofs.lemmas.Bool.{eqb-false}
+use Rattle.std.proofs.lemmas.Bool.Decides.{nat_tests}
+use Rattle.std.proofs.Common.{eqb-true, ◌≡◌, ◌≢◌, ℕ, ◌+◌, ◌≤◌, ◌<◌, ◌==◌, Bool, true, false, not, ◌&&◌, ◌||◌, if◌then◌else◌, List, [], ◌∷◌, ◌++◌, ◌⊎◌, inl, inr, refl, arith, sym, subst, ◌∙◌, ap, Option, Some, None, slice_get, is_some, zero, suc}
+use Rattle.exchange_defs.specs.Table.{put, put2}
+use Rattle.exchange_defs.specs.Status.{success, user_session_deleted}
+use Rattle.exchange_defs.specs.State.{Message, Reply, Open as OpenRow}
+use Rattle.exchange_defs.specs.Operations.{Op, Outcome, Unsettled, Why, is_unsettled, is_ok, id_in}
+use Rattle.exchange_defs.specs.Client.{Client, Stage, take_slot, outstanding as put_out, asked, cut_channel, end_session, finish}
+use Rattle.exchange_defs.specs.Settling.{answered, joined, settled as settled_by}
+use Rattle.exchange_defs.specs.Dialogs.{open_channel, went_on, accepted, bound, readied, leave_dialog, refused_dialog}
+use Rattle.exchange_defs.specs.Network.{Conn, Sent, Received, Token, ForDialog, ForOp, ForAttach, op_of, fresh as fresh_conn, server_off, client_off, send_up, behind_front, take_front}
+use Rattle.exchange_defs.specs.Runs.{never_acted}
+use Rattle.exchange_law.specs.Connections.{copies, makes_open, Once, Outstanding, OwnUp, DownOpen, OnReady, Ready, Settled, Taken, Fresh, Bodies, First, SentReplies}
+use Rattle.exchange_law.proofs.Lists.{get-push, counted_up, counted_down, own_up_count, own_down_count, front_up, front_down, waited, waited_down}
+use Rattle.session_law.specs.Sessions.{logon_user}
+use Rattle.create_law.specs.Creates.{Seen, Creates, Restarts, own_guid, guid_at, named, is_kept, is_current, is_barred, is_full, refuses, outlives, keeps_form, is_of_dialog, is_of_ask, Made, Named, NamedKind, NamedGiven, Attached, PlainAttached, Unclosed, ActedKept, AtMost, FormActed, RefusedNot, DeadRefused, NoReply, BarredReply, RefusedStatus, OkActed, OkReply, FileGuid, FileOf, ReplyGuid, ReplyOf, PlainDead, AskingOther, DialogUp, AskUp}
+use Rattle.create_law.proofs.Words.{guid_once, full_more, after_end}
+use Rattle.create_law.proofs.Moves.{refuse_in, attach_to, make_new, leave_by, closed_by, shut_in, expire_by, goes_with, named_still, end_of, begin_of}
+
+dialog_refused_acted_kept : (c : Client) (conns : ℕ → Conn) (v : Seen) (a : ℕ → ℕ) (k status : ℕ) → ActedKept c conns v a → ActedKept (refused_dialog c k status) (put conns k (client_off (conns k))) v a
+dialog_refused_acted_kept c conns v a k status i_acted_kept =
+    λ j n p y. let old = i_acted_kept j n p y in grind (arith, get-push)
+
+dialog_refused_dead_refused : (c : Client) (conns : ℕ → Conn) (v : Seen) (a : ℕ → ℕ) (k status : ℕ) → DeadRefused c conns v → DeadRefused (refused_dialog c k status) (put conns k (client_off (conns k))) v
+dialog_refused_dead_refused c conns v a k status i_dead_refused =
+    λ j n p y. let old = i_dead_refused j n p y in grind (arith, get-push)
+
+dialog_refused_no_reply : (c : Client) (conns : ℕ → Conn) (v : Seen) (a : ℕ → ℕ) (k status : ℕ) → NoReply c conns a → NoReply (refused_dialog c k status) (put conns k (client_off (conns k))) a
+dialog_refused_no_reply c conns v a k status i_no_reply =
+    λ j n p y. let old = i_no_reply j n p y in grind (arith, get-push)
+
+dialog_refused_barred_reply : (c : Client) (conns : ℕ → Conn) (v : Seen) (a : ℕ → ℕ) (k status : ℕ) → BarredReply c conns v → BarredReply (refused_dialog c k status) (put conns k (client_off (conns k))) v
+dialog_refused_barred_reply c conns v a k status i_barred_reply =
+    λ j n p y. let old = i_barred_reply j n p y in grind (arith, get-push)
+
+dialog_refused_ok_reply : (c : Client) (conns : ℕ → Conn) (v : Seen) (a : ℕ → ℕ) (k status : ℕ) → OkReply c conns a → OkReply (refused_dialog c k status) (put conns k (client_off (conns k))) a
+dialog_refused_ok_reply c conns v a k status i_ok_reply =
+    λ j n p y. let old = i_ok_reply j n p y in grind (arith, get-push)
+
+dialog_refused_reply_guid : (c : Client) (conns : ℕ → Conn) (v : Seen) (a : ℕ → ℕ) (k status : ℕ) → ReplyGuid c conns v → ReplyGuid (refused_dialog c k status) (put conns k (client_off (conns k))) v
+dialog_refused_reply_guid c conns v a k status i_reply_guid =
+    λ j n p y. let old = i_reply_guid j n p y in grind (arith, get-push)
+
+dialog_refused_reply_of : (c : Client) (conns : ℕ → Conn) (v : Seen) (a : ℕ → ℕ) (k status : ℕ) → ReplyOf c conns v → ReplyOf (refused_dialog c k status) (put conns k (client_off (conns k))) v
+dialog_refused_reply_of c conns v a k status i_reply_of =
+    λ j n p o y. let old = i_reply_of j n p o y in grind (arith, get-push)
+
+dialog_refused_dialog_up : (c : Client) (conns : ℕ → Conn) (v : Seen) (a : ℕ → ℕ) (k status : ℕ) → DialogUp conns → DialogUp (put conns k (client_off (conns k)))
+dialog_refused_dialog_up c conns v a k status i_dialog_up =
+    λ j n y. let old = i_dialog_up j n y in grind (arith, get-push)
+
+dialog_refused_ask_up : (c : Client) (conns : ℕ → Conn) (v : Seen) (a : ℕ → ℕ) (k status : ℕ) → AskUp conns → AskUp (put conns k (client_off (conns k)))
+dialog_refused_ask_up c conns v a k status i_ask_up =
+    λ j n p y. let old = i_ask_up j n p y in grind (arith, get-push)
+
+pub dialog_refused_creates : (c : Client) (conns : ℕ → Conn) (v : Seen) (a : ℕ → ℕ) (k status : ℕ) → Creates c conns v a → Creates (refused_dialog c k status) (put conns k (client_off (conns k))) v a
+dialog_refused_creates c conns v a k status i =
+    record {
+      made = i.made;
+      named = i.named;
+      named_kind = i.named_kind;
+      named_given = i.named_given;
+      attached = i.attached;
+      plain_attached = i.plain_attached;
+      unclosed = i.unclosed;
+      acted_kept = dialog_refused_acted_kept c conns v a k status i.acted_kept;
+      at_most = i.at_most;
+      form_acted = i.form_acted;
+      refused_not = i.refused_not;
+      dead_refused = dialog_refused_dead_refused c conns v a k status i.dead_refused;
+      no_reply = dialog_refused_no_reply c conns v a k status i.no_reply;
+      barred_reply = dialog_refused_barred_reply c conns v a k status i.barred_reply;
+      refused_status = i.refused_status;
+      ok_acted = i.ok_acted;
+      ok_reply = dialog_refused_ok_reply c conns v a k status i.ok_reply;
+      file_guid = i.file_guid;
+      file_of = i.file_of;
+      reply_guid = dialog_refused_reply_guid c conns v a k status i.reply_guid;
+      reply_of = dialog_refused_reply_of c conns v a k status i.reply_of;
+      plain_dead = i.plain_dead;
+      asking_other = i.asking_other;
+      dialog_up = dialog_refused_dialog_up c conns v a k status i.dialog_up;
+      ask_up = dialog_refused_ask_up c conns v a k status i.ask_up;
+    }

@@ -1,0 +1,147 @@
+-- A session ends.
+use Rattle.std.proofs.lemmas.Bool.{eqb-false}
+use Rattle.std.proofs.lemmas.Bool.Decides.{nat_tests}
+use Rattle.std.proofs.Common.{eqb-true, ◌≡◌, ◌≢◌, ℕ, ◌+◌, ◌≤◌, ◌<◌, ◌==◌, Bool, true, false, not, ◌&&◌, ◌||◌, if◌then◌else◌, List, [], ◌∷◌, ◌++◌, ◌⊎◌, inl, inr, refl, arith, sym, subst, ◌∙◌, ap, Option, Some, None, slice_get, is_some, zero, suc}
+use Rattle.exchange_defs.specs.Table.{put, put2}
+use Rattle.exchange_defs.specs.Status.{success, user_session_deleted}
+use Rattle.exchange_defs.specs.State.{Message, Reply, Open as OpenRow}
+use Rattle.exchange_defs.specs.Operations.{Op, Outcome, Unsettled, Why, is_unsettled, is_ok, id_in}
+use Rattle.exchange_defs.specs.Client.{Client, Stage, take_slot, outstanding as put_out, asked, cut_channel, end_session, finish}
+use Rattle.exchange_defs.specs.Settling.{answered, joined, settled as settled_by}
+use Rattle.exchange_defs.specs.Dialogs.{open_channel, went_on, accepted, bound, readied, leave_dialog, refused_dialog}
+use Rattle.exchange_defs.specs.Network.{Conn, Sent, Received, Token, ForDialog, ForOp, ForAttach, op_of, fresh as fresh_conn, server_off, client_off, send_up, behind_front, take_front}
+use Rattle.exchange_defs.specs.Runs.{never_acted}
+use Rattle.exchange_law.specs.Connections.{copies, makes_open, Once, Outstanding, OwnUp, DownOpen, OnReady, Ready, Settled, Taken, Fresh, Bodies, First, SentReplies}
+use Rattle.exchange_law.proofs.Lists.{get-push, counted_up, counted_down, own_up_count, own_down_count, front_up, front_down, waited, waited_down}
+use Rattle.session_law.specs.Sessions.{logon_user}
+use Rattle.create_law.specs.Creates.{Seen, Creates, Restarts, own_guid, guid_at, named, is_kept, is_current, is_barred, is_full, refuses, outlives, keeps_form, is_of_dialog, is_of_ask, Made, Named, NamedKind, NamedGiven, Attached, PlainAttached, Unclosed, ActedKept, AtMost, FormActed, RefusedNot, DeadRefused, NoReply, BarredReply, RefusedStatus, OkActed, OkReply, FileGuid, FileOf, ReplyGuid, ReplyOf, PlainDead, AskingOther, DialogUp, AskUp}
+use Rattle.create_law.proofs.Words.{guid_once, full_more, after_end}
+use Rattle.create_law.proofs.Moves.{refuse_in, attach_to, make_new, leave_by, closed_by, shut_in, expire_by, goes_with, named_still, end_of, begin_of}
+
+-- an open that isn't attached to the session stays
+goes_not : (c : Client) (v : Seen) (x o : ℕ) → Attached c v → ((y : ℕ) → v.present y ≡ true → 0 < c.rank y → y ≡ c.accepted) → (y : ℕ) → y ≢ x → y ≡ c.accepted → goes_with v x o ≡ false
+goes_not c v x o at here y apart same = by_session (v.at o) refl
+  where
+    by_session : (z : Option ℕ) → v.at o ≡ z → goes_with v x o ≡ false
+    by_session None e = grind arith
+    by_session (Some z) e = let q = at o z e in let w = here z q.1 q.0 in grind arith
+
+there_before : (v : Seen) (x y : ℕ) → (end_of v x).present y ≡ true → v.present y ≡ true
+there_before v x y e = grind arith
+
+apart_from : (v : Seen) (x y : ℕ) → (end_of v x).present y ≡ true → y ≢ x
+apart_from v x y e = grind arith
+
+still_before : (c : Client) (v : Seen) (x p : ℕ) → (outlives (c.op p) || is_current c (end_of v x)) ≡ true → (outlives (c.op p) || is_current c v) ≡ true
+still_before c v x p e = grind arith
+
+by_kind : (c : Client) (v : Seen) (x p o : ℕ) → (v.opened o).persistent ≡ outlives (c.op p) → (outlives (c.op p) || is_current c (end_of v x)) ≡ true → (c.session ≢ x → c.live ≡ true → goes_with v x o ≡ false) → goes_with v x o ≡ false
+by_kind c v x p o k s f = by_op (outlives (c.op p)) refl
+  where
+    by_op : (b : Bool) → outlives (c.op p) ≡ b → goes_with v x o ≡ false
+    by_op true e = grind arith
+    by_op false e = f (apart_from v x c.session (grind arith)) (grind arith)
+
+kept_still : (c : Client) (v : Seen) (x p : ℕ) → is_kept c v p ≡ true → ((o : ℕ) → named c v p ≡ Some o → goes_with v x o ≡ false) → is_kept c (end_of v x) p ≡ true
+kept_still c v x p k f = by_name (named c v p) refl
+  where
+    by_name : (z : Option ℕ) → named c v p ≡ z → is_kept c (end_of v x) p ≡ true
+    by_name None e = grind arith
+    by_name (Some o) e = let g = f o e in grind arith
+
+end_kept : (c : Client) (v : Seen) (x p y : ℕ) → (v.closed y (guid_at c p) || is_kept c v p) ≡ true → ((o : ℕ) → named c v p ≡ Some o → goes_with v x o ≡ false) → y ≢ x → ((end_of v x).closed y (guid_at c p) || is_kept c (end_of v x) p) ≡ true
+end_kept c v x p y k f d = by_closed (v.closed y (guid_at c p)) refl
+  where
+    by_closed : (b : Bool) → v.closed y (guid_at c p) ≡ b → ((end_of v x).closed y (guid_at c p) || is_kept c (end_of v x) p) ≡ true
+    by_closed true e = grind arith
+    by_closed false e = let w = kept_still c v x p (grind arith) f in grind arith
+
+end_of_made : (c : Client) (conns : ℕ → Conn) (v : Seen) (a : ℕ → ℕ) (x : ℕ) → Made c v a → Made c (end_of v x) a
+end_of_made c conns v a x i_made =
+    λ p o. let old = i_made p o in grind arith
+
+end_of_named : (c : Client) (conns : ℕ → Conn) (v : Seen) (a : ℕ → ℕ) (x : ℕ) → Named c v → Named c (end_of v x)
+end_of_named c conns v a x i_named =
+    λ p o. let old = i_named p o in grind arith
+
+end_of_named_kind : (c : Client) (conns : ℕ → Conn) (v : Seen) (a : ℕ → ℕ) (x : ℕ) → NamedKind c v → NamedKind c (end_of v x)
+end_of_named_kind c conns v a x i_named_kind =
+    λ p o. let old = i_named_kind p o in grind arith
+
+end_of_named_given : (c : Client) (conns : ℕ → Conn) (v : Seen) (a : ℕ → ℕ) (x : ℕ) → NamedGiven c v → NamedGiven c (end_of v x)
+end_of_named_given c conns v a x i_named_given =
+    λ p o. let old = i_named_given p o in grind arith
+
+end_of_attached : (c : Client) (conns : ℕ → Conn) (v : Seen) (a : ℕ → ℕ) (x : ℕ) → Attached c v → Attached c (end_of v x)
+end_of_attached c conns v a x i_attached =
+    λ o z. let old = i_attached o z in grind arith
+
+end_of_plain_attached : (c : Client) (conns : ℕ → Conn) (v : Seen) (a : ℕ → ℕ) (x : ℕ) → PlainAttached v → PlainAttached (end_of v x)
+end_of_plain_attached c conns v a x i_plain_attached =
+    λ o. let old = i_plain_attached o in grind arith
+
+end_of_unclosed : (c : Client) (conns : ℕ → Conn) (v : Seen) (a : ℕ → ℕ) (x : ℕ) → ((y : ℕ) → v.present y ≡ true → 0 < c.rank y → y ≡ c.accepted) → (c.live ≡ true → c.session ≡ c.accepted) → Unclosed c v a → Attached c v → NamedKind c v → Unclosed c (end_of v x) a
+end_of_unclosed c conns v a x here lives i_unclosed i_attached i_named_kind =
+    λ p m u l s. kept_still c v x p (i_unclosed p m u l (still_before c v x p s)) (λ o e. by_kind c v x p o (i_named_kind p o e).0 s (λ n t. goes_not c v x o i_attached here c.session n (lives t)))
+
+end_of_acted_kept : (c : Client) (conns : ℕ → Conn) (v : Seen) (a : ℕ → ℕ) (x : ℕ) → ((y : ℕ) → v.present y ≡ true → 0 < c.rank y → y ≡ c.accepted) → ((j n h : ℕ) (y : Sent) → slice_get (conns j).up n ≡ Some y → y.token ≡ ForOp h → 0 < c.rank y.message.session) → ActedKept c conns v a → Attached c v → ActedKept c conns (end_of v x) a
+end_of_acted_kept c conns v a x here ranked i_acted_kept i_attached =
+    λ j n p y h t m e s. end_kept c v x p y.message.session (i_acted_kept j n p y h t m (there_before v x y.message.session e) s) (λ o q. goes_not c v x o i_attached here y.message.session (apart_from v x y.message.session e) (here y.message.session (there_before v x y.message.session e) (ranked j n p y h t))) (apart_from v x y.message.session e)
+
+end_of_dead_refused : (c : Client) (conns : ℕ → Conn) (v : Seen) (a : ℕ → ℕ) (x : ℕ) → DeadRefused c conns v → DeadRefused c conns (end_of v x)
+end_of_dead_refused c conns v a x i_dead_refused =
+    λ j n p y. let old = i_dead_refused j n p y in grind (arith, get-push)
+
+end_of_barred_reply : (c : Client) (conns : ℕ → Conn) (v : Seen) (a : ℕ → ℕ) (x : ℕ) → BarredReply c conns v → BarredReply c conns (end_of v x)
+end_of_barred_reply c conns v a x i_barred_reply =
+    λ j n p y. let old = i_barred_reply j n p y in grind (arith, get-push)
+
+end_of_refused_status : (c : Client) (conns : ℕ → Conn) (v : Seen) (a : ℕ → ℕ) (x : ℕ) → RefusedStatus v → RefusedStatus (end_of v x)
+end_of_refused_status c conns v a x i_refused_status =
+    λ z q t. let old = i_refused_status z q t in grind arith
+
+end_of_file_guid : (c : Client) (conns : ℕ → Conn) (v : Seen) (a : ℕ → ℕ) (x : ℕ) → FileGuid c v → FileGuid c (end_of v x)
+end_of_file_guid c conns v a x i_file_guid =
+    λ p. let old = i_file_guid p in grind arith
+
+end_of_file_of : (c : Client) (conns : ℕ → Conn) (v : Seen) (a : ℕ → ℕ) (x : ℕ) → FileOf c v → FileOf c (end_of v x)
+end_of_file_of c conns v a x i_file_of =
+    λ p o. let old = i_file_of p o in grind arith
+
+end_of_reply_guid : (c : Client) (conns : ℕ → Conn) (v : Seen) (a : ℕ → ℕ) (x : ℕ) → ReplyGuid c conns v → ReplyGuid c conns (end_of v x)
+end_of_reply_guid c conns v a x i_reply_guid =
+    λ j n p y. let old = i_reply_guid j n p y in grind (arith, get-push)
+
+end_of_reply_of : (c : Client) (conns : ℕ → Conn) (v : Seen) (a : ℕ → ℕ) (x : ℕ) → ReplyOf c conns v → ReplyOf c conns (end_of v x)
+end_of_reply_of c conns v a x i_reply_of =
+    λ j n p o y. let old = i_reply_of j n p o y in grind (arith, get-push)
+
+pub end_of_creates : (c : Client) (conns : ℕ → Conn) (v : Seen) (a : ℕ → ℕ) (x : ℕ) → ((y : ℕ) → v.present y ≡ true → 0 < c.rank y → y ≡ c.accepted) → (c.live ≡ true → c.session ≡ c.accepted) → ((j n h : ℕ) (y : Sent) → slice_get (conns j).up n ≡ Some y → y.token ≡ ForOp h → 0 < c.rank y.message.session) → Creates c conns v a → Creates c conns (end_of v x) a
+end_of_creates c conns v a x here lives ranked i =
+    record {
+      made = end_of_made c conns v a x i.made;
+      named = end_of_named c conns v a x i.named;
+      named_kind = end_of_named_kind c conns v a x i.named_kind;
+      named_given = end_of_named_given c conns v a x i.named_given;
+      attached = end_of_attached c conns v a x i.attached;
+      plain_attached = end_of_plain_attached c conns v a x i.plain_attached;
+      unclosed = end_of_unclosed c conns v a x here lives i.unclosed i.attached i.named_kind;
+      acted_kept = end_of_acted_kept c conns v a x here ranked i.acted_kept i.attached;
+      at_most = i.at_most;
+      form_acted = i.form_acted;
+      refused_not = i.refused_not;
+      dead_refused = end_of_dead_refused c conns v a x i.dead_refused;
+      no_reply = i.no_reply;
+      barred_reply = end_of_barred_reply c conns v a x i.barred_reply;
+      refused_status = end_of_refused_status c conns v a x i.refused_status;
+      ok_acted = i.ok_acted;
+      ok_reply = i.ok_reply;
+      file_guid = end_of_file_guid c conns v a x i.file_guid;
+      file_of = end_of_file_of c conns v a x i.file_of;
+      reply_guid = end_of_reply_guid c conns v a x i.reply_guid;
+      reply_of = end_of_reply_of c conns v a x i.reply_of;
+      plain_dead = i.plain_dead;
+      asking_other = i.asking_other;
+      dialog_up = i.dialog_up;
+      ask_up = i.ask_up;
+    }

@@ -1,0 +1,77 @@
+-- A reply settles its operation.
+use Rattle.std.proofs.lemmas.Bool.{eqb-false}
+use Rattle.std.proofs.lemmas.Bool.Decides.{nat_tests}
+use Rattle.std.proofs.Common.{eqb-true, ◌≡◌, ◌≢◌, ℕ, ◌+◌, ◌≤◌, ◌<◌, ◌==◌, Bool, true, false, not, ◌&&◌, ◌||◌, if◌then◌else◌, List, [], ◌∷◌, ◌++◌, ◌⊎◌, inl, inr, refl, arith, sym, subst, ◌∙◌, ap, Option, Some, None, slice_get, is_some, zero, suc}
+use Rattle.exchange_defs.specs.Table.{put, put2}
+use Rattle.exchange_defs.specs.Status.{success, user_session_deleted}
+use Rattle.exchange_defs.specs.State.{Message, Reply, Open as OpenRow}
+use Rattle.exchange_defs.specs.Operations.{Op, Outcome, Unsettled, Why, is_unsettled, is_ok, id_in}
+use Rattle.exchange_defs.specs.Client.{Client, Stage, take_slot, outstanding as put_out, asked, cut_channel, end_session, finish}
+use Rattle.exchange_defs.specs.Settling.{answered, joined, settled as settled_by}
+use Rattle.exchange_defs.specs.Dialogs.{open_channel, went_on, accepted, bound, readied, leave_dialog, refused_dialog}
+use Rattle.exchange_defs.specs.Network.{Conn, Sent, Received, Token, ForDialog, ForOp, ForAttach, op_of, fresh as fresh_conn, server_off, client_off, send_up, behind_front, take_front}
+use Rattle.exchange_defs.specs.Runs.{never_acted}
+use Rattle.exchange_law.specs.Connections.{copies, makes_open, Once, Outstanding, OwnUp, DownOpen, OnReady, Ready, Settled, Taken, Fresh, Bodies, First, SentReplies}
+use Rattle.exchange_law.proofs.Lists.{get-push, counted_up, counted_down, own_up_count, own_down_count, front_up, front_down, waited, waited_down}
+use Rattle.session_law.specs.Sessions.{logon_user}
+use Rattle.create_law.specs.Creates.{Seen, Creates, Restarts, own_guid, guid_at, named, is_kept, is_current, is_barred, is_full, refuses, outlives, keeps_form, is_of_dialog, is_of_ask, Made, Named, NamedKind, NamedGiven, Attached, PlainAttached, Unclosed, ActedKept, AtMost, FormActed, RefusedNot, DeadRefused, NoReply, BarredReply, RefusedStatus, OkActed, OkReply, FileGuid, FileOf, ReplyGuid, ReplyOf, PlainDead, AskingOther, DialogUp, AskUp}
+use Rattle.create_law.proofs.Words.{guid_once, full_more, after_end}
+use Rattle.create_law.proofs.Moves.{refuse_in, attach_to, make_new, leave_by, closed_by, shut_in, expire_by, goes_with, named_still, end_of, begin_of}
+
+settle_unclosed : (c : Client) (conns : ℕ → Conn) (v : Seen) (a : ℕ → ℕ) (g place : ℕ) (outcome : Outcome) → (is_unsettled outcome ≡ false) → Unclosed c v a → Unclosed (settled_by c g outcome place) v a
+settle_unclosed c conns v a g place outcome firm i_unclosed =
+    λ p. let old = i_unclosed p in grind arith
+
+settle_refused_not : (c : Client) (conns : ℕ → Conn) (v : Seen) (a : ℕ → ℕ) (g place : ℕ) (outcome : Outcome) → (makes_open (c.op g) ≡ true → never_acted outcome ≡ true → a g ≡ 0) → (is_unsettled outcome ≡ false) → RefusedNot c a → RefusedNot (settled_by c g outcome place) a
+settle_refused_not c conns v a g place outcome never firm i_refused_not =
+    λ p. let old = i_refused_not p in let q = never in grind arith
+
+settle_dead_refused : (c : Client) (conns : ℕ → Conn) (v : Seen) (a : ℕ → ℕ) (g place : ℕ) (outcome : Outcome) → ((j n : ℕ) (y : Sent) → slice_get (conns j).up n ≡ Some y → y.token ≡ ForOp g → makes_open (c.op g) ≡ true → never_acted outcome ≡ true → v.present y.message.session ≡ true → is_barred c v y.message.session g ≡ true) → (is_unsettled outcome ≡ false) → DeadRefused c conns v → DeadRefused (settled_by c g outcome place) conns v
+settle_dead_refused c conns v a g place outcome barred firm i_dead_refused =
+    λ j n p y h t. let old = i_dead_refused j n p y h t in let q = barred j n y h in grind arith
+
+settle_ok_acted : (c : Client) (conns : ℕ → Conn) (v : Seen) (a : ℕ → ℕ) (g place : ℕ) (outcome : Outcome) → (makes_open (c.op g) ≡ true → is_ok outcome ≡ true → 1 ≤ a g) → (is_unsettled outcome ≡ false) → OkActed c a → OkActed (settled_by c g outcome place) a
+settle_ok_acted c conns v a g place outcome acted firm i_ok_acted =
+    λ p. let old = i_ok_acted p in let q = acted in grind arith
+
+settle_file_guid : (c : Client) (conns : ℕ → Conn) (v : Seen) (a : ℕ → ℕ) (g place : ℕ) (outcome : Outcome) → (makes_open (c.op g) ≡ true → is_ok outcome ≡ true → c.file g ≤ v.last × (v.standing (c.file g) ≡ true → (v.opened (c.file g)).client ≡ c.who.guid × (v.opened (c.file g)).guid ≡ Some (guid_at c g))) → (is_unsettled outcome ≡ false) → FileGuid c v → FileGuid (settled_by c g outcome place) v
+settle_file_guid c conns v a g place outcome guid firm i_file_guid =
+    λ p. let old = i_file_guid p in let q = guid in grind arith
+
+settle_file_of : (c : Client) (conns : ℕ → Conn) (v : Seen) (a : ℕ → ℕ) (g place : ℕ) (outcome : Outcome) → ((o : ℕ) → makes_open (c.op g) ≡ true → is_ok outcome ≡ true → named c v g ≡ Some o → o ≡ c.file g) → (is_unsettled outcome ≡ false) → FileOf c v → FileOf (settled_by c g outcome place) v
+settle_file_of c conns v a g place outcome names firm i_file_of =
+    λ p o. let old = i_file_of p o in let q = names o in grind arith
+
+settle_plain_dead : (c : Client) (conns : ℕ → Conn) (v : Seen) (a : ℕ → ℕ) (g place : ℕ) (outcome : Outcome) → (is_unsettled outcome ≡ false) → PlainDead c → PlainDead (settled_by c g outcome place)
+settle_plain_dead c conns v a g place outcome firm i_plain_dead =
+    λ p. let old = i_plain_dead p in grind arith
+
+pub settle_creates : (c : Client) (conns : ℕ → Conn) (v : Seen) (a : ℕ → ℕ) (g place : ℕ) (outcome : Outcome) → (makes_open (c.op g) ≡ true → never_acted outcome ≡ true → a g ≡ 0) → (makes_open (c.op g) ≡ true → is_ok outcome ≡ true → 1 ≤ a g) → ((j n : ℕ) (y : Sent) → slice_get (conns j).up n ≡ Some y → y.token ≡ ForOp g → makes_open (c.op g) ≡ true → never_acted outcome ≡ true → v.present y.message.session ≡ true → is_barred c v y.message.session g ≡ true) → (makes_open (c.op g) ≡ true → is_ok outcome ≡ true → c.file g ≤ v.last × (v.standing (c.file g) ≡ true → (v.opened (c.file g)).client ≡ c.who.guid × (v.opened (c.file g)).guid ≡ Some (guid_at c g))) → ((o : ℕ) → makes_open (c.op g) ≡ true → is_ok outcome ≡ true → named c v g ≡ Some o → o ≡ c.file g) → (is_unsettled outcome ≡ false) → Creates c conns v a → Creates (settled_by c g outcome place) conns v a
+settle_creates c conns v a g place outcome never acted barred guid names firm i =
+    record {
+      made = i.made;
+      named = i.named;
+      named_kind = i.named_kind;
+      named_given = i.named_given;
+      attached = i.attached;
+      plain_attached = i.plain_attached;
+      unclosed = settle_unclosed c conns v a g place outcome firm i.unclosed;
+      acted_kept = i.acted_kept;
+      at_most = i.at_most;
+      form_acted = i.form_acted;
+      refused_not = settle_refused_not c conns v a g place outcome never firm i.refused_not;
+      dead_refused = settle_dead_refused c conns v a g place outcome barred firm i.dead_refused;
+      no_reply = i.no_reply;
+      barred_reply = i.barred_reply;
+      refused_status = i.refused_status;
+      ok_acted = settle_ok_acted c conns v a g place outcome acted firm i.ok_acted;
+      ok_reply = i.ok_reply;
+      file_guid = settle_file_guid c conns v a g place outcome guid firm i.file_guid;
+      file_of = settle_file_of c conns v a g place outcome names firm i.file_of;
+      reply_guid = i.reply_guid;
+      reply_of = i.reply_of;
+      plain_dead = settle_plain_dead c conns v a g place outcome firm i.plain_dead;
+      asking_other = i.asking_other;
+      dialog_up = i.dialog_up;
+      ask_up = i.ask_up;
+    }

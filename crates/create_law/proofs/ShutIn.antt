@@ -1,0 +1,97 @@
+-- An open leaves by a close.
+use Rattle.std.proofs.lemmas.Bool.{eqb-false}
+use Rattle.std.proofs.lemmas.Bool.Decides.{nat_tests}
+use Rattle.std.proofs.Common.{eqb-true, ◌≡◌, ◌≢◌, ℕ, ◌+◌, ◌≤◌, ◌<◌, ◌==◌, Bool, true, false, not, ◌&&◌, ◌||◌, if◌then◌else◌, List, [], ◌∷◌, ◌++◌, ◌⊎◌, inl, inr, refl, arith, sym, subst, ◌∙◌, ap, Option, Some, None, slice_get, is_some, zero, suc}
+use Rattle.exchange_defs.specs.Table.{put, put2}
+use Rattle.exchange_defs.specs.Status.{success, user_session_deleted}
+use Rattle.exchange_defs.specs.State.{Message, Reply, Open as OpenRow}
+use Rattle.exchange_defs.specs.Operations.{Op, Outcome, Unsettled, Why, is_unsettled, is_ok, id_in}
+use Rattle.exchange_defs.specs.Client.{Client, Stage, take_slot, outstanding as put_out, asked, cut_channel, end_session, finish}
+use Rattle.exchange_defs.specs.Settling.{answered, joined, settled as settled_by}
+use Rattle.exchange_defs.specs.Dialogs.{open_channel, went_on, accepted, bound, readied, leave_dialog, refused_dialog}
+use Rattle.exchange_defs.specs.Network.{Conn, Sent, Received, Token, ForDialog, ForOp, ForAttach, op_of, fresh as fresh_conn, server_off, client_off, send_up, behind_front, take_front}
+use Rattle.exchange_defs.specs.Runs.{never_acted}
+use Rattle.exchange_law.specs.Connections.{copies, makes_open, Once, Outstanding, OwnUp, DownOpen, OnReady, Ready, Settled, Taken, Fresh, Bodies, First, SentReplies}
+use Rattle.exchange_law.proofs.Lists.{get-push, counted_up, counted_down, own_up_count, own_down_count, front_up, front_down, waited, waited_down}
+use Rattle.session_law.specs.Sessions.{logon_user}
+use Rattle.create_law.specs.Creates.{Seen, Creates, Restarts, own_guid, guid_at, named, is_kept, is_current, is_barred, is_full, refuses, outlives, keeps_form, is_of_dialog, is_of_ask, Made, Named, NamedKind, NamedGiven, Attached, PlainAttached, Unclosed, ActedKept, AtMost, FormActed, RefusedNot, DeadRefused, NoReply, BarredReply, RefusedStatus, OkActed, OkReply, FileGuid, FileOf, ReplyGuid, ReplyOf, PlainDead, AskingOther, DialogUp, AskUp}
+use Rattle.create_law.proofs.Words.{guid_once, full_more, after_end}
+use Rattle.create_law.proofs.Moves.{refuse_in, attach_to, make_new, leave_by, closed_by, shut_in, expire_by, goes_with, named_still, end_of, begin_of}
+
+shut_in_made : (c : Client) (conns : ℕ → Conn) (v : Seen) (a : ℕ → ℕ) (x o0 : ℕ) (q0 : Option ℕ) → ((v.opened o0).guid ≡ q0) → Made c v a → Made c (shut_in v o0 x q0) a
+shut_in_made c conns v a x o0 q0 guid i_made =
+    λ p o. let old = i_made p o in grind arith
+
+shut_in_named : (c : Client) (conns : ℕ → Conn) (v : Seen) (a : ℕ → ℕ) (x o0 : ℕ) (q0 : Option ℕ) → ((v.opened o0).guid ≡ q0) → Named c v → Named c (shut_in v o0 x q0)
+shut_in_named c conns v a x o0 q0 guid i_named =
+    λ p o. let old = i_named p o in grind arith
+
+shut_in_named_kind : (c : Client) (conns : ℕ → Conn) (v : Seen) (a : ℕ → ℕ) (x o0 : ℕ) (q0 : Option ℕ) → ((v.opened o0).guid ≡ q0) → NamedKind c v → NamedKind c (shut_in v o0 x q0)
+shut_in_named_kind c conns v a x o0 q0 guid i_named_kind =
+    λ p o. let old = i_named_kind p o in grind arith
+
+shut_in_named_given : (c : Client) (conns : ℕ → Conn) (v : Seen) (a : ℕ → ℕ) (x o0 : ℕ) (q0 : Option ℕ) → ((v.opened o0).guid ≡ q0) → NamedGiven c v → NamedGiven c (shut_in v o0 x q0)
+shut_in_named_given c conns v a x o0 q0 guid i_named_given =
+    λ p o. let old = i_named_given p o in grind arith
+
+shut_in_attached : (c : Client) (conns : ℕ → Conn) (v : Seen) (a : ℕ → ℕ) (x o0 : ℕ) (q0 : Option ℕ) → ((v.opened o0).guid ≡ q0) → Attached c v → Attached c (shut_in v o0 x q0)
+shut_in_attached c conns v a x o0 q0 guid i_attached =
+    λ o z. let old = i_attached o z in grind arith
+
+shut_in_plain_attached : (c : Client) (conns : ℕ → Conn) (v : Seen) (a : ℕ → ℕ) (x o0 : ℕ) (q0 : Option ℕ) → ((v.opened o0).guid ≡ q0) → PlainAttached v → PlainAttached (shut_in v o0 x q0)
+shut_in_plain_attached c conns v a x o0 q0 guid i_plain_attached =
+    λ o. let old = i_plain_attached o in grind arith
+
+shut_in_unclosed : (c : Client) (conns : ℕ → Conn) (v : Seen) (a : ℕ → ℕ) (x o0 : ℕ) (q0 : Option ℕ) → ((v.opened o0).guid ≡ q0) → ((h : ℕ) → makes_open (c.op h) ≡ true → (v.opened o0).client ≡ c.who.guid → q0 ≡ Some (guid_at c h) → is_unsettled (c.outcome h) ≡ false) → Unclosed c v a → Unclosed c (shut_in v o0 x q0) a
+shut_in_unclosed c conns v a x o0 q0 guid settled i_unclosed =
+    λ p m u l s. let old = i_unclosed p m u l s in let q = settled p m in grind arith
+
+shut_in_acted_kept : (c : Client) (conns : ℕ → Conn) (v : Seen) (a : ℕ → ℕ) (x o0 : ℕ) (q0 : Option ℕ) → ((v.opened o0).guid ≡ q0) → ((j n h : ℕ) (y : Sent) → slice_get (conns j).up n ≡ Some y → y.token ≡ ForOp h → v.present y.message.session ≡ true → y.message.session ≡ x) → ActedKept c conns v a → ActedKept c conns (shut_in v o0 x q0) a
+shut_in_acted_kept c conns v a x o0 q0 guid here i_acted_kept =
+    λ j n p y h t m e s. let old = i_acted_kept j n p y h t m e s in let q = here j n p y h t e in grind arith
+
+shut_in_file_guid : (c : Client) (conns : ℕ → Conn) (v : Seen) (a : ℕ → ℕ) (x o0 : ℕ) (q0 : Option ℕ) → ((v.opened o0).guid ≡ q0) → FileGuid c v → FileGuid c (shut_in v o0 x q0)
+shut_in_file_guid c conns v a x o0 q0 guid i_file_guid =
+    λ p. let old = i_file_guid p in grind arith
+
+shut_in_file_of : (c : Client) (conns : ℕ → Conn) (v : Seen) (a : ℕ → ℕ) (x o0 : ℕ) (q0 : Option ℕ) → ((v.opened o0).guid ≡ q0) → FileOf c v → FileOf c (shut_in v o0 x q0)
+shut_in_file_of c conns v a x o0 q0 guid i_file_of =
+    λ p o. let old = i_file_of p o in grind arith
+
+shut_in_reply_guid : (c : Client) (conns : ℕ → Conn) (v : Seen) (a : ℕ → ℕ) (x o0 : ℕ) (q0 : Option ℕ) → ((v.opened o0).guid ≡ q0) → ReplyGuid c conns v → ReplyGuid c conns (shut_in v o0 x q0)
+shut_in_reply_guid c conns v a x o0 q0 guid i_reply_guid =
+    λ j n p y. let old = i_reply_guid j n p y in grind (arith, get-push)
+
+shut_in_reply_of : (c : Client) (conns : ℕ → Conn) (v : Seen) (a : ℕ → ℕ) (x o0 : ℕ) (q0 : Option ℕ) → ((v.opened o0).guid ≡ q0) → ReplyOf c conns v → ReplyOf c conns (shut_in v o0 x q0)
+shut_in_reply_of c conns v a x o0 q0 guid i_reply_of =
+    λ j n p o y. let old = i_reply_of j n p o y in grind (arith, get-push)
+
+pub shut_in_creates : (c : Client) (conns : ℕ → Conn) (v : Seen) (a : ℕ → ℕ) (x o0 : ℕ) (q0 : Option ℕ) → ((v.opened o0).guid ≡ q0) → ((h : ℕ) → makes_open (c.op h) ≡ true → (v.opened o0).client ≡ c.who.guid → q0 ≡ Some (guid_at c h) → is_unsettled (c.outcome h) ≡ false) → ((j n h : ℕ) (y : Sent) → slice_get (conns j).up n ≡ Some y → y.token ≡ ForOp h → v.present y.message.session ≡ true → y.message.session ≡ x) → Creates c conns v a → Creates c conns (shut_in v o0 x q0) a
+shut_in_creates c conns v a x o0 q0 guid settled here i =
+    record {
+      made = shut_in_made c conns v a x o0 q0 guid i.made;
+      named = shut_in_named c conns v a x o0 q0 guid i.named;
+      named_kind = shut_in_named_kind c conns v a x o0 q0 guid i.named_kind;
+      named_given = shut_in_named_given c conns v a x o0 q0 guid i.named_given;
+      attached = shut_in_attached c conns v a x o0 q0 guid i.attached;
+      plain_attached = shut_in_plain_attached c conns v a x o0 q0 guid i.plain_attached;
+      unclosed = shut_in_unclosed c conns v a x o0 q0 guid settled i.unclosed;
+      acted_kept = shut_in_acted_kept c conns v a x o0 q0 guid here i.acted_kept;
+      at_most = i.at_most;
+      form_acted = i.form_acted;
+      refused_not = i.refused_not;
+      dead_refused = i.dead_refused;
+      no_reply = i.no_reply;
+      barred_reply = i.barred_reply;
+      refused_status = i.refused_status;
+      ok_acted = i.ok_acted;
+      ok_reply = i.ok_reply;
+      file_guid = shut_in_file_guid c conns v a x o0 q0 guid i.file_guid;
+      file_of = shut_in_file_of c conns v a x o0 q0 guid i.file_of;
+      reply_guid = shut_in_reply_guid c conns v a x o0 q0 guid i.reply_guid;
+      reply_of = shut_in_reply_of c conns v a x o0 q0 guid i.reply_of;
+      plain_dead = i.plain_dead;
+      asking_other = i.asking_other;
+      dialog_up = i.dialog_up;
+      ask_up = i.ask_up;
+    }
