@@ -430,6 +430,6 @@ if __name__ == "__main__":
     for event in EVENTS:
         if not wanted or event.name in wanted:
             emit(event)
-    own = ["Words", "Moves"]
-    extra = [n for n in ("Lists", "Seeing", "Checks", "ServeCreate", "ServeOther", "Doors", "Run") if os.path.exists(os.path.join(TOP, n + ".antt"))]
+    own = ["Words", "Moves", "Requests", "Seeing"]
+    extra = [n for n in ("Facing", "Moved", "Says", "Served", "Doors", "Run", "Law") if os.path.exists(os.path.join(TOP, n + ".antt"))]
     open(os.path.join(TOP, "Lib.antt"), "w").write("".join("pub mod %s\n" % n for n in own + [e.name for e in EVENTS] + extra))

@@ -1,5 +1,7 @@
 pub mod Words
 pub mod Moves
+pub mod Requests
+pub mod Seeing
 pub mod Submit
 pub mod Opened
 pub mod Dropped
