@@ -39,3 +39,5 @@ pub mod EndOf
 pub mod BeginOf
 pub mod Restarted
 pub mod Recount
+pub mod Facing
+pub mod Moved
