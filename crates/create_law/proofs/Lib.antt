@@ -41,3 +41,4 @@ pub mod Restarted
 pub mod Recount
 pub mod Facing
 pub mod Moved
+pub mod Says
