@@ -54,11 +54,11 @@ Holds w a = Connections w.client w.conns a
 pub next_of : (c : Client) (g : ℕ) (op : Op) → may_take c g op ≡ true → g ≡ c.taken + 1
 next_of c g op may = eqb-true g (c.taken + 1) (grind arith)
 
-create_below : (c : Client) (g : ℕ) (op : Op) → may_take c g op ≡ true → makes_open op ≡ false → 0 < its_create g op × its_create g op < g × makes_open (c.op (its_create g op)) ≡ true
+pub create_below : (c : Client) (g : ℕ) (op : Op) → may_take c g op ≡ true → makes_open op ≡ false → 0 < its_create g op × its_create g op < g × makes_open (c.op (its_create g op)) ≡ true
 unfolding makes_open its_create
 create_below c g op may kind = (grind (arith, nat_tests), grind (arith, nat_tests), grind (arith, nat_tests))
 
-submits : (w : World) (a : ℕ → ℕ) (g : ℕ) (op : Op) → Holds w a → Holds (changed w (Submit g op)) a
+pub submits : (w : World) (a : ℕ → ℕ) (g : ℕ) (op : Op) → Holds w a → Holds (changed w (Submit g op)) a
 submits w a g op i =
     either (λ d. Connections d w.conns a) (may_take w.client g op) _ _
     (λ may. submit_keeps w.client w.conns a g op (outcome_at_first w.client g op) (next_of w.client g op may) (create_below w.client g op may) i)
@@ -70,11 +70,11 @@ pub front_of : (x y : Bool) → (x && y) ≡ true → x ≡ true
 front_of true y e = refl
 front_of false y e = e
 
-back_of : (x y : Bool) → (x && y) ≡ true → y ≡ true
+pub back_of : (x y : Bool) → (x && y) ≡ true → y ≡ true
 back_of true y e = e
 back_of false y e = absurd (cc)
 
-none_of : (o : Option ℕ) → is_none o ≡ true → o ≡ None
+pub none_of : (o : Option ℕ) → is_none o ≡ true → o ≡ None
 none_of None e = refl
 none_of (Some k) e = absurd (cc)
 
@@ -87,25 +87,25 @@ pub record MayPush (c : Client) (k g : ℕ) : Type 0 where
   pub none : c.on g ≡ None
   pub has_open : opens c g ≡ true
 
-not_true : (b : Bool) → not b ≡ true → b ≡ false
+pub not_true : (b : Bool) → not b ≡ true → b ≡ false
 not_true true e = absurd (cc)
 not_true false e = refl
 
-opens_of : (c : Client) (g : ℕ) → (is_create (c.op g) || is_ok (c.outcome (create_of g (c.op g)))) ≡ true → opens c g ≡ true
+pub opens_of : (c : Client) (g : ℕ) → (is_create (c.op g) || is_ok (c.outcome (create_of g (c.op g)))) ≡ true → opens c g ≡ true
 unfolding makes_open its_create
 opens_of c g e = e
 
-all_of : (r l h u n o w : Bool) → (r && ((l && h) && (u && (n && (o && not w))))) ≡ true → r ≡ true × l ≡ true × h ≡ true × u ≡ true × n ≡ true × o ≡ true × w ≡ false
+pub all_of : (r l h u n o w : Bool) → (r && ((l && h) && (u && (n && (o && not w))))) ≡ true → r ≡ true × l ≡ true × h ≡ true × u ≡ true × n ≡ true × o ≡ true × w ≡ false
 all_of r l h u n o w e = (grind arith, grind arith, grind arith, grind arith, grind arith, grind arith, grind arith)
 
-parts_of : (c : Client) (k g : ℕ) → may_push c k g ≡ true
+pub parts_of : (c : Client) (k g : ℕ) → may_push c k g ≡ true
     → c.ready k ≡ true × nat_lt 0 g ≡ true × nat_le g c.taken ≡ true × is_unsettled (c.outcome g) ≡ true × is_none (c.on g) ≡ true × (is_create (c.op g) || is_ok (c.outcome (create_of g (c.op g)))) ≡ true × waits c g g ≡ false
 parts_of c k g may = all_of (c.ready k) (nat_lt 0 g) (nat_le g c.taken) (is_unsettled (c.outcome g)) (is_none (c.on g)) (is_create (c.op g) || is_ok (c.outcome (create_of g (c.op g)))) (waits c g g) may
 
-above_of : (g : ℕ) → nat_lt 0 g ≡ true → 0 < g
+pub above_of : (g : ℕ) → nat_lt 0 g ≡ true → 0 < g
 above_of g e = grind (arith, nat_tests)
 
-within_of : (g t : ℕ) → nat_le g t ≡ true → g ≤ t
+pub within_of : (g t : ℕ) → nat_le g t ≡ true → g ≤ t
 within_of g t e = grind (arith, nat_tests)
 
 pub found : (c : Client) (k g : ℕ) → may_push c k g ≡ true → MayPush c k g
@@ -120,41 +120,41 @@ found c k g may =
       has_open = opens_of c g p.5;
     }
 
-free_of : (c : Client) (k g : ℕ) → may_push c k g ≡ true → waits c g g ≡ false
+pub free_of : (c : Client) (k g : ℕ) → may_push c k g ≡ true → waits c g g ≡ false
 free_of c k g may = (parts_of c k g may).6
 
-slotless_same : (c : Client) (g : ℕ) (out : Outcome) → is_unsettled (c.outcome g) ≡ true → (h : ℕ) → is_unsettled (c.outcome h) ≡ false → put c.outcome g out h ≡ c.outcome h
+pub slotless_same : (c : Client) (g : ℕ) (out : Outcome) → is_unsettled (c.outcome g) ≡ true → (h : ℕ) → is_unsettled (c.outcome h) ≡ false → put c.outcome g out h ≡ c.outcome h
 slotless_same c g out pending h s = grind arith
 
-slotless_still : (c : Client) (g : ℕ) (out : Outcome) → c.on g ≡ None → ((h : ℕ) → is_unsettled (c.outcome h) ≡ false → c.on h ≡ None) → (h : ℕ) → is_unsettled (put c.outcome g out h) ≡ false → c.on h ≡ None
+pub slotless_still : (c : Client) (g : ℕ) (out : Outcome) → c.on g ≡ None → ((h : ℕ) → is_unsettled (c.outcome h) ≡ false → c.on h ≡ None) → (h : ℕ) → is_unsettled (put c.outcome g out h) ≡ false → c.on h ≡ None
 slotless_still c g out none st h u = let s = st h in grind arith
 
-no_slot : (c : Client) (conns : ℕ → Conn) (a : ℕ → ℕ) (k g : ℕ) → Connections c conns a → Connections (settle_no_slot c k g) conns a
+pub no_slot : (c : Client) (conns : ℕ → Conn) (a : ℕ → ℕ) (k g : ℕ) → Connections c conns a → Connections (settle_no_slot c k g) conns a
 no_slot c conns a k g i =
     either (λ d. Connections d conns a) (lacks_slot c k g) _ _
     (λ lacks. let may = found c k g (front_of (may_push c k g) _ lacks) in
     outcomes_keeps c conns a (put c.outcome g (NoSlot (create_for c g))) (slotless_same c g (NoSlot (create_for c g)) may.pending) (slotless_still c g (NoSlot (create_for c g)) may.none i.settled) i)
     (λ _. i)
 
-no_slots : (c : Client) (conns : ℕ → Conn) (a : ℕ → ℕ) (k : ℕ) (gs : List ℕ) → Connections c conns a → Connections (settle_no_slots c k gs) conns a
+pub no_slots : (c : Client) (conns : ℕ → Conn) (a : ℕ → ℕ) (k : ℕ) (gs : List ℕ) → Connections c conns a → Connections (settle_no_slots c k gs) conns a
 unfolding settle_no_slots
 no_slots c conns a k [] i = i
 no_slots c conns a k (g ∷ gs) i = no_slots (settle_no_slot c k g) conns a k gs (no_slot c conns a k g i)
 
 -- a lower operation of the same open that holds it up is settled
-rest_waits : (x s r : Bool) → (if x then (if s then true else r) else r) ≡ false → r ≡ false
+pub rest_waits : (x s r : Bool) → (if x then (if s then true else r) else r) ≡ false → r ≡ false
 rest_waits x s r e = grind arith
 
-first_waits : (x s r : Bool) → (if x then (if s then true else r) else r) ≡ false → x ≡ true → s ≡ false
+pub first_waits : (x s r : Bool) → (if x then (if s then true else r) else r) ≡ false → x ≡ true → s ≡ false
 first_waits x s r e h = grind arith
 
-both : (x y : Bool) → x ≡ true → y ≡ true → (x && y) ≡ true
+pub both : (x y : Bool) → x ≡ true → y ≡ true → (x && y) ≡ true
 both x y e f = grind arith
 
-same_test : (n m : ℕ) → n ≡ m → (n == m) ≡ true
+pub same_test : (n m : ℕ) → n ≡ m → (n == m) ≡ true
 same_test n m e = grind arith
 
-no_wait : (c : Client) (g m n : ℕ) → waits c g m ≡ false → n < m → create_for c n ≡ create_for c g → holds_up (c.op n) (c.op g) ≡ true → is_unsettled (c.outcome n) ≡ false
+pub no_wait : (c : Client) (g m n : ℕ) → waits c g m ≡ false → n < m → create_for c n ≡ create_for c g → holds_up (c.op n) (c.op g) ≡ true → is_unsettled (c.outcome n) ≡ false
 unfolding waits
 no_wait c g zero n w l e h = absurd (omega arith)
 no_wait c g (suc m) n w l e h =
@@ -168,29 +168,29 @@ no_wait c g (suc m) n w l e h =
     ] refl
 
 -- a close waits for all of its open but the create, and all of it wait for the close
-close_holds : (a b : Op) → makes_open a ≡ false → (shuts_open b || shuts_open a) ≡ true → holds_up a b ≡ true
+pub close_holds : (a b : Op) → makes_open a ≡ false → (shuts_open b || shuts_open a) ≡ true → holds_up a b ≡ true
 unfolding makes_open shuts_open
 close_holds a b c e = grind arith
 
-own_create : (g : ℕ) (op : Op) → makes_open op ≡ true → its_create g op ≡ g
+pub own_create : (g : ℕ) (op : Op) → makes_open op ≡ true → its_create g op ≡ g
 unfolding makes_open its_create
 own_create g op e = grind arith
 
-no_lower : (c : Client) (g n : ℕ) → waits c g g ≡ false → n < g → create_at c n ≡ create_at c g → holds_up (c.op n) (c.op g) ≡ true → is_unsettled (c.outcome n) ≡ false
+pub no_lower : (c : Client) (g n : ℕ) → waits c g g ≡ false → n < g → create_at c n ≡ create_at c g → holds_up (c.op n) (c.op g) ≡ true → is_unsettled (c.outcome n) ≡ false
 unfolding its_create
 no_lower c g n w l e h = no_wait c g g n w l e h
 
-ok_is_settled : (o : Outcome) → is_ok o ≡ true → is_unsettled o ≡ false
+pub ok_is_settled : (o : Outcome) → is_ok o ≡ true → is_unsettled o ≡ false
 ok_is_settled o e = grind arith
 
-makes_one : (op : Op) (o : Outcome) → (makes_open op || is_ok o) ≡ true → makes_open op ≡ false → is_ok o ≡ true
+pub makes_one : (op : Op) (o : Outcome) → (makes_open op || is_ok o) ≡ true → makes_open op ≡ false → is_ok o ≡ true
 makes_one op o e f = grind arith
 
-not_both : (a b : Op) (g : ℕ) → its_create g b ≡ g → makes_open b ≡ true → shuts_open b ≡ false
+pub not_both : (a b : Op) (g : ℕ) → its_create g b ≡ g → makes_open b ≡ true → shuts_open b ≡ false
 unfolding makes_open shuts_open
 not_both a b g e m = grind arith
 
-lower_at : (c : Client) (g : ℕ) → opens c g ≡ true → waits c g g ≡ false
+pub lower_at : (c : Client) (g : ℕ) → opens c g ≡ true → waits c g g ≡ false
     → (n : ℕ) → 0 < n → n < g → create_at c n ≡ create_at c g → (shuts_open (c.op g) || shuts_open (c.op n)) ≡ true → is_unsettled (c.outcome n) ≡ false
 lower_at c g has free n low l same one =
     elim (makes_open (c.op n)) as (λ b. makes_open (c.op n) ≡ b → is_unsettled (c.outcome n) ≡ false) [
@@ -207,29 +207,29 @@ lower_at c g has free n low l same one =
               ok_is_settled (c.outcome n) (subst (λ x. is_ok (c.outcome x) ≡ true) e ok)
         ] refl
 
-own_body : (c : Client) (k id g : ℕ) → (own_message c k id g).command ≡ its_request (c.op g) (guid_for c g) (c.file (create_at c g)) (c.slot_of g) (c.number_of g)
+pub own_body : (c : Client) (k id g : ℕ) → (own_message c k id g).command ≡ its_request (c.op g) (guid_for c g) (c.file (create_at c g)) (c.slot_of g) (c.number_of g)
 unfolding its_request its_create
 own_body c k id g = refl
 
-abbrev Lowest : Client → ℕ → Type 0
+abbrev pub Lowest : Client → ℕ → Type 0
 Lowest c g = (n : ℕ) → 0 < n → n < g → create_at c n ≡ create_at c g → (shuts_open (c.op g) || shuts_open (c.op n)) ≡ true → is_unsettled (c.outcome n) ≡ false
 
-idle_of : (c : Client) (a : ℕ → ℕ) (g : ℕ) → Unsent c a → c.on g ≡ None → is_unsettled (c.outcome g) ≡ true → acts_once (c.op g) ≡ true → c.before g ≡ false → a g ≡ 0
+pub idle_of : (c : Client) (a : ℕ → ℕ) (g : ℕ) → Unsent c a → c.on g ≡ None → is_unsettled (c.outcome g) ≡ true → acts_once (c.op g) ≡ true → c.before g ≡ false → a g ≡ 0
 idle_of c a g u none pending o b = let q = u g o b in grind arith
 
-abbrev Out : (ℕ → Conn) → (ℕ → ℕ) → ℕ → ℕ → Client → Type 0
+abbrev pub Out : (ℕ → Conn) → (ℕ → ℕ) → ℕ → ℕ → Client → Type 0
 Out conns a k g c = Connections (outstanding c k g) (put conns k (send_up (conns k) (ForOp g) (own_message c k (conns k).next_id g) (charge (weight (c.op g))))) a
 
 -- it goes out from this table
-sent_out : (c : Client) (conns : ℕ → Conn) (a : ℕ → ℕ) (k g : ℕ) → Connections c conns a → MayPush c k g → c.sent g ≡ true → Lowest c g → Out conns a k g c
+pub sent_out : (c : Client) (conns : ℕ → Conn) (a : ℕ → ℕ) (k g : ℕ) → Connections c conns a → MayPush c k g → c.sent g ≡ true → Lowest c g → Out conns a k g c
 sent_out c conns a k g i may sent lowest =
     send_keeps c conns a k g (charge (weight (c.op g))) (own_message c k (conns k).next_id g) may.ready may.none may.above may.within may.pending may.has_open lowest sent (own_body c k (conns k).next_id g) refl refl
     (idle_of c a g i.unsent may.none may.pending) i
 
-put_own : (f : ℕ → Bool) (g : ℕ) → put f g true g ≡ true
+pub put_own : (f : ℕ → Bool) (g : ℕ) → put f g true g ≡ true
 put_own f g = grind arith
 
-begun_out : (c : Client) (conns : ℕ → Conn) (a : ℕ → ℕ) (k g s : ℕ) → Connections c conns a → MayPush c k g → Lowest c g → (b : Bool) → c.sent g ≡ b → Out conns a k g (if b then again c g else begin c g s)
+pub begun_out : (c : Client) (conns : ℕ → Conn) (a : ℕ → ℕ) (k g s : ℕ) → Connections c conns a → MayPush c k g → Lowest c g → (b : Bool) → c.sent g ≡ b → Out conns a k g (if b then again c g else begin c g s)
 begun_out c conns a k g s i may low true e =
     either (Out conns a k g) (is_lock (c.op g)) _ _
     (λ _. sent_out (record c { retried = put2 c.retried (create_for c g) (c.slot_of g) c.number }) conns a k g (retried_keeps c conns a (create_for c g) (c.slot_of g) i)
@@ -243,11 +243,11 @@ begun_out c conns a k g s i may low false e =
     (record { ready = may.ready; above = may.above; within = may.within; pending = may.pending; none = may.none; has_open = may.has_open }) (put_own c.sent g) low)
 
 -- two choices by one test
-both_ways : {X Y : Type 0} (P : X → Y → Type 0) (b : Bool) (x y : X) (u v : Y) → (b ≡ true → P x u) → (b ≡ false → P y v) → P (if b then x else y) (if b then u else v)
+pub both_ways : {X Y : Type 0} (P : X → Y → Type 0) (b : Bool) (x y : X) (u v : Y) → (b ≡ true → P x u) → (b ≡ false → P y v) → P (if b then x else y) (if b then u else v)
 both_ways P true x y u v f g = f refl
 both_ways P false x y u v f g = g refl
 
-pushes_op : (w : World) (a : ℕ → ℕ) (k g s : ℕ) (c : Client) → Connections c w.conns a → Holds (pushed_by w k (pick_after c k (Some (record { op = g; slot = s }))) (pick_act c k (Some (record { op = g; slot = s })))) a
+pub pushes_op : (w : World) (a : ℕ → ℕ) (k g s : ℕ) (c : Client) → Connections c w.conns a → Holds (pushed_by w k (pick_after c k (Some (record { op = g; slot = s }))) (pick_act c k (Some (record { op = g; slot = s })))) a
 pushes_op w a k g s c i =
     let P : Client → Act → Type 0 = λ d x. Holds (pushed_by w k d x) a in
     both_ways P (may_push c k g) _ _ _ _
@@ -257,11 +257,11 @@ pushes_op w a k g s c i =
     (λ _. ask_keeps c w.conns a k g 1 (ask_message c k (w.conns k).next_id g) m.ready m.none m.above m.within m.pending m.has_open low i))
     (λ _. i)
 
-picks : (w : World) (a : ℕ → ℕ) (k : ℕ) (c : Client) (pick : Option Pick) → Connections c w.conns a → Holds (pushed_by w k (pick_after c k pick) (pick_act c k pick)) a
+pub picks : (w : World) (a : ℕ → ℕ) (k : ℕ) (c : Client) (pick : Option Pick) → Connections c w.conns a → Holds (pushed_by w k (pick_after c k pick) (pick_act c k pick)) a
 picks w a k c None i = either (λ x. Holds (pushed_by w k c x) a) (some_unsettled c c.taken) _ _ (λ _. i) (λ _. i)
 picks w a k c (Some p) i = pushes_op w a k p.op p.slot c i
 
-pushes : (w : World) (a : ℕ → ℕ) (k : ℕ) (slotless : List ℕ) (pick : Option Pick) → w.client.ready k ≡ true → Holds w a → Holds (changed w (Push k slotless pick)) a
+pub pushes : (w : World) (a : ℕ → ℕ) (k : ℕ) (slotless : List ℕ) (pick : Option Pick) → w.client.ready k ≡ true → Holds w a → Holds (changed w (Push k slotless pick)) a
 pushes w a k slotless pick ready i =
     both_ways (λ d x. Holds (pushed_by w k d x) a) (w.client.ready k) _ _ _ _
     (λ _. picks w a k (settle_no_slots w.client k slotless) pick (no_slots w.client w.conns a k slotless i))
@@ -269,40 +269,40 @@ pushes w a k slotless pick ready i =
 
 -- ---- Serve
 
-put_at_self : (f : ℕ → Conn) (k q : ℕ) → put f k (f k) q ≡ f q
+pub put_at_self : (f : ℕ → Conn) (k q : ℕ) → put f k (f k) q ≡ f q
 put_at_self f k q = elim (q == k) as (λ b. q == k ≡ b → put f k (f k) q ≡ f q) [
   | true ↦ λ e. let s = eqb-true q k e in grind arith
   | false ↦ λ e. grind arith
 ] refl
 
-put_self : (f : ℕ → Conn) (k : ℕ) → f ≡ put f k (f k)
+pub put_self : (f : ℕ → Conn) (k : ℕ) → f ≡ put f k (f k)
 put_self f k = λ t q. sym (put_at_self f k q) t
 
-still_open : (f : ℕ → Conn) (k : ℕ) (rest : List Sent) → (put f k (behind_front (f k) rest) k).client_open ≡ true → (f k).client_open ≡ true
+pub still_open : (f : ℕ → Conn) (k : ℕ) (rest : List Sent) → (put f k (behind_front (f k) rest) k).client_open ≡ true → (f k).client_open ≡ true
 still_open f k rest o = grind arith
 
-front_gone : (f : ℕ → Conn) (k : ℕ) (x : Sent) (rest : List Sent) → (f k).up ≡ x ∷ rest → copies (op_of x.token) (f k) ≤ 1 → copies (op_of x.token) (put f k (behind_front (f k) rest) k) ≡ 0
+pub front_gone : (f : ℕ → Conn) (k : ℕ) (x : Sent) (rest : List Sent) → (f k).up ≡ x ∷ rest → copies (op_of x.token) (f k) ≤ 1 → copies (op_of x.token) (put f k (behind_front (f k) rest) k) ≡ 0
 front_gone f k x rest is one = grind arith
 
-front_reply_gone : (f : ℕ → Conn) (k : ℕ) (y : Received) (rest : List Received) → (f k).down ≡ y ∷ rest → copies (op_of y.token) (f k) ≤ 1 → copies (op_of y.token) (put f k (take_front (f k) rest) k) ≡ 0
+pub front_reply_gone : (f : ℕ → Conn) (k : ℕ) (y : Received) (rest : List Received) → (f k).down ≡ y ∷ rest → copies (op_of y.token) (f k) ≤ 1 → copies (op_of y.token) (put f k (take_front (f k) rest) k) ≡ 0
 front_reply_gone f k y rest is one = grind arith
 
-more_up : (c : Conn) (g : ℕ) → 1 ≤ count_up g c.up → 1 ≤ copies g c
+pub more_up : (c : Conn) (g : ℕ) → 1 ≤ count_up g c.up → 1 ≤ copies g c
 more_up c g l = omega (arith, l)
 
-more_down : (c : Conn) (g : ℕ) → 1 ≤ count_down g c.down → 1 ≤ copies g c
+pub more_down : (c : Conn) (g : ℕ) → 1 ≤ count_down g c.down → 1 ≤ copies g c
 more_down c g l = omega (arith, l)
 
-no_dialog : (c : Client) (conns : ℕ → Conn) (k : ℕ) → Ready c conns → 1 ≤ copies 0 (conns k) → c.ready k ≡ false
+pub no_dialog : (c : Client) (conns : ℕ → Conn) (k : ℕ) → Ready c conns → 1 ≤ copies 0 (conns k) → c.ready k ≡ false
 no_dialog c conns k r l = let q = r k in grind arith
 
-abbrev counted : (ℕ → ℕ) → Sent → Bool → ℕ → ℕ
+abbrev pub counted : (ℕ → ℕ) → Sent → Bool → ℕ → ℕ
 counted a x acted h = if is_send_of h x.token && acted then a h + 1 else a h
 
-not_counted : (a : ℕ → ℕ) (x : Sent) (acted : Bool) (g : ℕ) → acted ≡ false → a g ≡ 0 → counted a x acted g ≡ 0
+pub not_counted : (a : ℕ → ℕ) (x : Sent) (acted : Bool) (g : ℕ) → acted ≡ false → a g ≡ 0 → counted a x acted g ≡ 0
 not_counted a x acted g e z = grind arith
 
-says : (w : World) (a : ℕ → ℕ) (k : ℕ) (x : Sent) (rest : List Sent) (A : Answer) (place : ℕ) → (w.conns k).up ≡ x ∷ rest → (A.reply.status ≡ user_session_deleted → A.acted ≡ false) → Holds w a
+pub says : (w : World) (a : ℕ → ℕ) (k : ℕ) (x : Sent) (rest : List Sent) (A : Answer) (place : ℕ) → (w.conns k).up ≡ x ∷ rest → (A.reply.status ≡ user_session_deleted → A.acted ≡ false) → Holds w a
     → Holds (replied (absorbed w k x rest A) k (record { token = x.token; reply = A.reply; place = place })) (counted a x A.acted)
 says w a k x rest A place is quiet i =
     let f0 = front_up (w.conns k).up x rest is in let n0 = counted_up (op_of x.token) (w.conns k).up 0 x f0 refl in
@@ -318,22 +318,22 @@ says w a k x rest A place is quiet i =
     (λ g t ao st b. not_counted a x A.acted g (quiet st) (i.first k 0 g x f0 t ao b).1) j)
     (λ _. subst (λ v. Connections w.client v (counted a x A.acted)) (put_self f k) j)
 
-serves : (w : World) (a : ℕ → ℕ) (k : ℕ) → Holds w a → (xs : List Sent) → (w.conns k).up ≡ xs → Holds (serve_front w k xs) (λ g. if front_acts w xs g then a g + 1 else a g)
+pub serves : (w : World) (a : ℕ → ℕ) (k : ℕ) → Holds w a → (xs : List Sent) → (w.conns k).up ≡ xs → Holds (serve_front w k xs) (λ g. if front_acts w xs g then a g + 1 else a g)
 serves w a k i [] is = i
 serves w a k i (x ∷ rest) is = says w a k x rest (answer w x) w.log.places is (deleted_is_quiet w.server w.moment x.message x.message.command) i
 
-absorbs : (w : World) (a : ℕ → ℕ) (k : ℕ) → Holds w a → (xs : List Sent) → (w.conns k).up ≡ xs → Holds (absorb_front w k xs) (λ g. if front_acts w xs g then a g + 1 else a g)
+pub absorbs : (w : World) (a : ℕ → ℕ) (k : ℕ) → Holds w a → (xs : List Sent) → (w.conns k).up ≡ xs → Holds (absorb_front w k xs) (λ g. if front_acts w xs g then a g + 1 else a g)
 absorbs w a k i [] is = i
 absorbs w a k i (x ∷ rest) is = absorb_keeps w.client w.conns a k x rest (answer w x).acted is i
 
-serve_open : (w : World) (a : ℕ → ℕ) (k : ℕ) → Holds w a → (b : Bool) → Holds (if b then later (serve_front w k (w.conns k).up) 1 else w) (λ g. if b && front_acts w (w.conns k).up g then a g + 1 else a g)
+pub serve_open : (w : World) (a : ℕ → ℕ) (k : ℕ) → Holds w a → (b : Bool) → Holds (if b then later (serve_front w k (w.conns k).up) 1 else w) (λ g. if b && front_acts w (w.conns k).up g then a g + 1 else a g)
 serve_open w a k i true = serves w a k i (w.conns k).up refl
 serve_open w a k i false = i
 
-restarts : (w : World) (a : ℕ → ℕ) → Holds w a → Holds (restarted w) a
+pub restarts : (w : World) (a : ℕ → ℕ) → Holds w a → Holds (restarted w) a
 restarts w a i = all_dropped_keeps w.client w.conns a i
 
-crash_open : (w : World) (a : ℕ → ℕ) (k : ℕ) → Holds w a → (kept b : Bool)
+pub crash_open : (w : World) (a : ℕ → ℕ) (k : ℕ) → Holds w a → (kept b : Bool)
     → Holds (if b then later (if kept then restarted (absorb_front w k (w.conns k).up) else restarted w) 1 else w) (λ g. if kept && (b && front_acts w (w.conns k).up g) then a g + 1 else a g)
 crash_open w a k i true true = restarts (absorb_front w k (w.conns k).up) _ (absorbs w a k i (w.conns k).up refl)
 crash_open w a k i true false = i
@@ -343,58 +343,58 @@ crash_open w a k i false false = i
 -- ---- Take
 
 -- the answer to a table's line is settled for good, or no line that settles
-abbrev settles_firm : Hearing → Bool
+abbrev pub settles_firm : Hearing → Bool
 settles_firm (Settles outcome) = not (is_unsettled outcome)
 settles_firm GoesAgain = false
 settles_firm Attaches = false
 settles_firm EndsSession = false
 
-ok_firm : (v : Option OpReply) → settles_firm (ok_or_unknown v) ≡ true
+pub ok_firm : (v : Option OpReply) → settles_firm (ok_or_unknown v) ≡ true
 ok_firm None = refl
 ok_firm (Some reply) = refl
 
-refused_firm : (op : Op) (asking unanswered : Bool) (status : ℕ) → settles_firm (refused op asking unanswered status) ≡ true
+pub refused_firm : (op : Op) (asking unanswered : Bool) (status : ℕ) → settles_firm (refused op asking unanswered status) ≡ true
 refused_firm op asking unanswered status =
     let P : Hearing → Type 0 = λ h. settles_firm h ≡ true in
     either P (not unanswered) _ _ (λ _. refl) (λ _. either P (was_closed op asking status) _ _ (λ _. refl)
     (λ _. either P (may_have_acted op asking status) _ _ (λ _. refl) (λ _. either P (refuses_all op status) _ _ (λ _. refl) (λ _. refl))))
 
-abbrev line : Bool → Bool → Bool → Bool → Hearing → Hearing → Hearing
+abbrev pub line : Bool → Bool → Bool → Bool → Hearing → Hearing → Hearing
 line b1 b2 b3 asking x y = if b1 then EndsSession else if b2 then (if asking then Attaches else x) else if b3 then GoesAgain else y
 
-line_again : (b1 b2 b3 asking : Bool) (x y : Hearing) → settles_firm x ≡ true → settles_firm y ≡ true → line b1 b2 b3 asking x y ≡ GoesAgain → b3 ≡ true
+pub line_again : (b1 b2 b3 asking : Bool) (x y : Hearing) → settles_firm x ≡ true → settles_firm y ≡ true → line b1 b2 b3 asking x y ≡ GoesAgain → b3 ≡ true
 line_again b1 b2 b3 asking x y e f h = grind arith
 
-line_attaches : (b1 b2 b3 asking : Bool) (x y : Hearing) → settles_firm x ≡ true → settles_firm y ≡ true → line b1 b2 b3 asking x y ≡ Attaches → asking ≡ true
+pub line_attaches : (b1 b2 b3 asking : Bool) (x y : Hearing) → settles_firm x ≡ true → settles_firm y ≡ true → line b1 b2 b3 asking x y ≡ Attaches → asking ≡ true
 line_attaches b1 b2 b3 asking x y e f h = grind arith
 
-line_ends : (b1 b2 b3 asking : Bool) (x y : Hearing) → settles_firm x ≡ true → settles_firm y ≡ true → line b1 b2 b3 asking x y ≡ EndsSession → b1 ≡ true
+pub line_ends : (b1 b2 b3 asking : Bool) (x y : Hearing) → settles_firm x ≡ true → settles_firm y ≡ true → line b1 b2 b3 asking x y ≡ EndsSession → b1 ≡ true
 line_ends b1 b2 b3 asking x y e f h = grind arith
 
-line_firm : (b1 b2 b3 asking : Bool) (x y : Hearing) (o : Outcome) → settles_firm x ≡ true → settles_firm y ≡ true → line b1 b2 b3 asking x y ≡ Settles o → is_unsettled o ≡ false
+pub line_firm : (b1 b2 b3 asking : Bool) (x y : Hearing) (o : Outcome) → settles_firm x ≡ true → settles_firm y ≡ true → line b1 b2 b3 asking x y ≡ Settles o → is_unsettled o ≡ false
 line_firm b1 b2 b3 asking x y o e f h = grind arith
 
-heard_again : (c : Client) (g : ℕ) (asking : Bool) (r : Reply) → heard c g asking r ≡ GoesAgain → goes_again c g asking r.status ≡ true
+pub heard_again : (c : Client) (g : ℕ) (asking : Bool) (r : Reply) → heard c g asking r ≡ GoesAgain → goes_again c g asking r.status ≡ true
 heard_again c g asking r h = line_again (r.status == user_session_deleted) (r.status == success) (goes_again c g asking r.status) asking (ok_or_unknown (value_in (c.op g) r.body)) (refused (c.op g) asking (c.before g) r.status) (ok_firm (value_in (c.op g) r.body)) (refused_firm (c.op g) asking (c.before g) r.status) h
 
-heard_attaches : (c : Client) (g : ℕ) (asking : Bool) (r : Reply) → heard c g asking r ≡ Attaches → asking ≡ true
+pub heard_attaches : (c : Client) (g : ℕ) (asking : Bool) (r : Reply) → heard c g asking r ≡ Attaches → asking ≡ true
 heard_attaches c g asking r h = line_attaches (r.status == user_session_deleted) (r.status == success) (goes_again c g asking r.status) asking (ok_or_unknown (value_in (c.op g) r.body)) (refused (c.op g) asking (c.before g) r.status) (ok_firm (value_in (c.op g) r.body)) (refused_firm (c.op g) asking (c.before g) r.status) h
 
-heard_ends : (c : Client) (g : ℕ) (asking : Bool) (r : Reply) → heard c g asking r ≡ EndsSession → r.status ≡ user_session_deleted
+pub heard_ends : (c : Client) (g : ℕ) (asking : Bool) (r : Reply) → heard c g asking r ≡ EndsSession → r.status ≡ user_session_deleted
 heard_ends c g asking r h = eqb-true r.status user_session_deleted (line_ends (r.status == user_session_deleted) (r.status == success) (goes_again c g asking r.status) asking (ok_or_unknown (value_in (c.op g) r.body)) (refused (c.op g) asking (c.before g) r.status) (ok_firm (value_in (c.op g) r.body)) (refused_firm (c.op g) asking (c.before g) r.status) h)
 
-heard_firm : (c : Client) (g : ℕ) (asking : Bool) (r : Reply) (o : Outcome) → heard c g asking r ≡ Settles o → is_unsettled o ≡ false
+pub heard_firm : (c : Client) (g : ℕ) (asking : Bool) (r : Reply) (o : Outcome) → heard c g asking r ≡ Settles o → is_unsettled o ≡ false
 heard_firm c g asking r o h = line_firm (r.status == user_session_deleted) (r.status == success) (goes_again c g asking r.status) asking (ok_or_unknown (value_in (c.op g) r.body)) (refused (c.op g) asking (c.before g) r.status) o (ok_firm (value_in (c.op g) r.body)) (refused_firm (c.op g) asking (c.before g) r.status) h
 
 -- a create, lock or unlock doesn't go out again by a reply
-once_again : (c : Client) (g : ℕ) (asking : Bool) (status : ℕ) → goes_again c g asking status ≡ true → acts_once (c.op g) ≡ true → (n : ℕ) → n ≡ 0
+pub once_again : (c : Client) (g : ℕ) (asking : Bool) (status : ℕ) → goes_again c g asking status ≡ true → acts_once (c.op g) ≡ true → (n : ℕ) → n ≡ 0
 unfolding acts_once
 once_again c g asking status e o n = change_once (c.op g) (front_of (is_change (c.op g)) _ (back_of (not asking) _ e)) o n
   where
     change_once : (op : Op) → is_change op ≡ true → is_once op ≡ true → (n : ℕ) → n ≡ 0
     change_once op e f n = absurd (grind arith)
 
-is_create_of : (op : Op) → is_create op ≡ true → makes_open op ≡ true
+pub is_create_of : (op : Op) → is_create op ≡ true → makes_open op ≡ true
 unfolding makes_open
 is_create_of op e = e
 
@@ -405,7 +405,7 @@ pub record Noted (c d : Client) (conns : ℕ → Conn) (a : ℕ → ℕ) : Type 
   pub on : d.on ≡ c.on
   pub op : d.op ≡ c.op
 
-noted_keeps : (c : Client) (conns : ℕ → Conn) (a : ℕ → ℕ) (g : ℕ) (body : Body) → Connections c conns a → is_some (c.on g) ≡ true → (o : Outcome) → Noted c (noted c g o body) conns a
+pub noted_keeps : (c : Client) (conns : ℕ → Conn) (a : ℕ → ℕ) (g : ℕ) (body : Body) → Connections c conns a → is_some (c.on g) ≡ true → (o : Outcome) → Noted c (noted c g o body) conns a
 noted_keeps c conns a g body i out (WasOk reply) =
     let P : Client → Type 0 = λ d. Noted c d conns a in
     either P (is_create (c.op g)) _ _
@@ -417,7 +417,7 @@ noted_keeps c conns a g body i out (NoSlot create) = record { keeps = i; on = re
 noted_keeps c conns a g body i out (NoOpen create) = record { keeps = i; on = refl; op = refl }
 noted_keeps c conns a g body i out (Unknown why) = record { keeps = i; on = refl; op = refl }
 
-full_keeps : (c d : Client) (conns : ℕ → Conn) (a : ℕ → ℕ) (g : ℕ) (asking : Bool) (status : ℕ) → Noted c d conns a → Noted c (noted_full d g asking status) conns a
+pub full_keeps : (c d : Client) (conns : ℕ → Conn) (a : ℕ → ℕ) (g : ℕ) (asking : Bool) (status : ℕ) → Noted c d conns a → Noted c (noted_full d g asking status) conns a
 full_keeps c d conns a g asking status n =
     either (λ e. Noted c e conns a) (is_lock (d.op g) && (not asking && (status == disk_full))) _ _
     (λ _. record { keeps = fills_keeps d conns a (create_for d g) (d.slot_of g) n.keeps; on = n.on; op = n.op }) (λ _. n)
@@ -430,7 +430,7 @@ without_same names sent gone create (NoSlot n) e = refl
 without_same names sent gone create (NoOpen n) e = refl
 without_same names sent gone create (Unknown why) e = refl
 
-without_new : (names sent gone : Bool) (create : ℕ) (o : Outcome) → is_unsettled o ≡ true → is_unsettled (without_open names sent gone create o) ≡ false → names ≡ true
+pub without_new : (names sent gone : Bool) (create : ℕ) (o : Outcome) → is_unsettled o ≡ true → is_unsettled (without_open names sent gone create o) ≡ false → names ≡ true
 without_new names sent gone create Unsettled e f = grind arith
 without_new names sent gone create (WasOk reply) e f = absurd (cc)
 without_new names sent gone create (WasRefused status) e f = absurd (cc)
@@ -439,17 +439,17 @@ without_new names sent gone create (NoOpen n) e f = absurd (cc)
 without_new names sent gone create (Unknown why) e f = absurd (cc)
 
 -- where a create is settling, or a close, nothing else of the open is outstanding
-abbrev Clear : Client → ℕ → ℕ → Type 0
+abbrev pub Clear : Client → ℕ → ℕ → Type 0
 Clear c g h = makes_open (c.op h) ≡ false → create_at c h ≡ create_at c g → h ≢ g → c.on h ≡ None
 
-off_of : (c : Client) (h : ℕ) → (o : Option ℕ) → c.on h ≡ o → (is_some (c.on h) ≡ true → c.on h ≡ None) → c.on h ≡ None
+pub off_of : (c : Client) (h : ℕ) → (o : Option ℕ) → c.on h ≡ o → (is_some (c.on h) ≡ true → c.on h ≡ None) → c.on h ≡ None
 off_of c h None e f = e
 off_of c h (Some j) e f = f (grind arith)
 
-made_by : (op : Op) (o : Outcome) → (makes_open op || is_ok o) ≡ true → makes_open op ≡ false → is_unsettled o ≡ false
+pub made_by : (op : Op) (o : Outcome) → (makes_open op || is_ok o) ≡ true → makes_open op ≡ false → is_unsettled o ≡ false
 made_by op o e f = ok_is_settled o (makes_one op o e f)
 
-clear_create : (c : Client) (conns : ℕ → Conn) (a : ℕ → ℕ) (k g h : ℕ) → Connections c conns a → c.on g ≡ Some k → makes_open (c.op g) ≡ true → Clear c g h
+pub clear_create : (c : Client) (conns : ℕ → Conn) (a : ℕ → ℕ) (k g h : ℕ) → Connections c conns a → c.on g ≡ Some k → makes_open (c.op g) ≡ true → Clear c g h
 clear_create c conns a k g h i on create other same apart =
     off_of c h (c.on h) refl (λ s.
     let own = own_create g (c.op g) create in let ok = made_by (c.op h) (c.outcome (create_at c h)) (i.asked_open h s) other in
@@ -458,13 +458,13 @@ clear_create c conns a k g h i on create other same apart =
 pub some_of : (o : Option ℕ) (k : ℕ) → o ≡ Some k → is_some o ≡ true
 some_of o k e = grind arith
 
-either_shuts : (a b : Bool) → a ≡ true → (a || b) ≡ true
+pub either_shuts : (a b : Bool) → a ≡ true → (a || b) ≡ true
 either_shuts a b e = grind arith
 
-either_shuts2 : (a b : Bool) → b ≡ true → (a || b) ≡ true
+pub either_shuts2 : (a b : Bool) → b ≡ true → (a || b) ≡ true
 either_shuts2 a b e = grind arith
 
-clear_close : (c : Client) (conns : ℕ → Conn) (a : ℕ → ℕ) (k g h : ℕ) → Connections c conns a → c.on g ≡ Some k → shuts_open (c.op g) ≡ true → Clear c g h
+pub clear_close : (c : Client) (conns : ℕ → Conn) (a : ℕ → ℕ) (k g h : ℕ) → Connections c conns a → c.on g ≡ Some k → shuts_open (c.op g) ≡ true → Clear c g h
 clear_close c conns a k g h i on shuts other same apart =
     off_of c h (c.on h) refl (λ s.
     elim (nat_lt h g) as (λ b. nat_lt h g ≡ b → c.on h ≡ None) [
@@ -478,35 +478,35 @@ clear_close c conns a k g h i on shuts other same apart =
     high : (h g : ℕ) → nat_lt h g ≡ false → h ≢ g → g < h
     high h g l d = grind (arith, nat_tests)
 
-abbrev settled_at : Client → ℕ → Outcome → ℕ → Client
+abbrev pub settled_at : Client → ℕ → Outcome → ℕ → Client
 settled_at c g o place = settled c g o place
 
-names_of : (c : Client) (create h : ℕ) → ((create_for c h == create) && not (is_create (c.op h))) ≡ true → create_at c h ≡ create × makes_open (c.op h) ≡ false
+pub names_of : (c : Client) (create h : ℕ) → ((create_for c h == create) && not (is_create (c.op h))) ≡ true → create_at c h ≡ create × makes_open (c.op h) ≡ false
 unfolding its_create makes_open
 names_of c create h e = (eqb-true (create_for c h) create (front_of (create_for c h == create) _ e), not_true (is_create (c.op h)) (back_of (create_for c h == create) _ e))
 
-own_for : (c : Client) (g : ℕ) → create_for c g ≡ create_at c g
+pub own_for : (c : Client) (g : ℕ) → create_for c g ≡ create_at c g
 unfolding its_create
 own_for c g = refl
 
-kinds_of : (op : Op) → (is_create op || is_close op) ≡ true → makes_open op ≡ false → shuts_open op ≡ true
+pub kinds_of : (op : Op) → (is_create op || is_close op) ≡ true → makes_open op ≡ false → shuts_open op ≡ true
 unfolding makes_open shuts_open
 kinds_of op e f = grind arith
 
-clear_at : (c : Client) (conns : ℕ → Conn) (a : ℕ → ℕ) (k g h : ℕ) → Connections c conns a → c.on g ≡ Some k → settles_open (c.op g) ≡ true → Clear c g h
+pub clear_at : (c : Client) (conns : ℕ → Conn) (a : ℕ → ℕ) (k g h : ℕ) → Connections c conns a → c.on g ≡ Some k → settles_open (c.op g) ≡ true → Clear c g h
 clear_at c conns a k g h i on may =
     elim (makes_open (c.op g)) as (λ b. makes_open (c.op g) ≡ b → Clear c g h) [
       | true ↦ λ m. clear_create c conns a k g h i on m
       | false ↦ λ m. clear_close c conns a k g h i on (kinds_of (c.op g) may m)
     ] refl
 
-put_none : (f : ℕ → Option ℕ) (g h : ℕ) → h ≡ g → put f g None h ≡ None
+pub put_none : (f : ℕ → Option ℕ) (g h : ℕ) → h ≡ g → put f g None h ≡ None
 put_none f g h e = grind arith
 
-put_off : (f : ℕ → Option ℕ) (g h : ℕ) → h ≢ g → f h ≡ None → put f g None h ≡ None
+pub put_off : (f : ℕ → Option ℕ) (g h : ℕ) → h ≢ g → f h ≡ None → put f g None h ≡ None
 put_off f g h d e = grind arith
 
-gives_up_still : (c : Client) (conns : ℕ → Conn) (a : ℕ → ℕ) (k g place create : ℕ) (o : Outcome) → Connections c conns a → Connections (settled c g o place) conns a → c.on g ≡ Some k → settles_open (c.op g) ≡ true
+pub gives_up_still : (c : Client) (conns : ℕ → Conn) (a : ℕ → ℕ) (k g place create : ℕ) (o : Outcome) → Connections c conns a → Connections (settled c g o place) conns a → c.on g ≡ Some k → settles_open (c.op g) ≡ true
     → create ≡ create_at c g → (h : ℕ) → is_unsettled (give_up_on (settled c g o place) create h) ≡ false → (settled c g o place).on h ≡ None
 gives_up_still c conns a k g place create o i j on may own h u =
     elim (is_unsettled ((settled c g o place).outcome h)) as (λ b. is_unsettled ((settled c g o place).outcome h) ≡ b → put c.on g None h ≡ None) [
@@ -520,7 +520,7 @@ gives_up_still c conns a k g place create o i j on may own h u =
           ] refl
     ] refl
 
-gives_up : (c : Client) (conns : ℕ → Conn) (a : ℕ → ℕ) (k g place create : ℕ) (o : Outcome) → Connections c conns a → Connections (settled c g o place) conns a → c.on g ≡ Some k → settles_open (c.op g) ≡ true
+pub gives_up : (c : Client) (conns : ℕ → Conn) (a : ℕ → ℕ) (k g place create : ℕ) (o : Outcome) → Connections c conns a → Connections (settled c g o place) conns a → c.on g ≡ Some k → settles_open (c.op g) ≡ true
     → create ≡ create_at c g → Connections (with_no_opens (settled c g o place) create) conns a
 gives_up c conns a k g place create o i j on may own =
     let d = settled c g o place in
@@ -528,7 +528,7 @@ gives_up c conns a k g place create o i j on may own =
     (λ h. without_same ((create_for c h == create) && not (is_create (c.op h))) (c.sent h) (is_gone_after d create (d.outcome create)) create (d.outcome h))
     (gives_up_still c conns a k g place create o i j on may own) j
 
-settles : (c : Client) (conns : ℕ → Conn) (a : ℕ → ℕ) (k g : ℕ) (asking : Bool) (r : Reply) (place : ℕ) (o : Outcome) → Connections c conns a → c.on g ≡ Some k → copies g (conns k) ≡ 0 → is_unsettled o ≡ false
+pub settles : (c : Client) (conns : ℕ → Conn) (a : ℕ → ℕ) (k g : ℕ) (asking : Bool) (r : Reply) (place : ℕ) (o : Outcome) → Connections c conns a → c.on g ≡ Some k → copies g (conns k) ≡ 0 → is_unsettled o ≡ false
     → Connections (settle c g asking r place o) conns a
 settles c conns a k g asking r place o i on none firm =
     let n = full_keeps c (noted c g o r.body) conns a g asking r.status (noted_keeps c conns a g r.body i (some_of (c.on g) k on) o) in
@@ -555,10 +555,10 @@ awaited_of c k g asking e = (on_of k (c.on g) (front_of (is_at k (c.on g)) _ e),
     same_of : (x y : Bool) → (if x then y else not y) ≡ true → x ≡ y
     same_of x y e = grind arith
 
-unclear : (b c : Bool) (P : Type 0) → b ≡ c → b ≡ true → c ≡ false → P
+pub unclear : (b c : Bool) (P : Type 0) → b ≡ c → b ≡ true → c ≡ false → P
 unclear b c P e f g = absurd (grind arith)
 
-hears : (w : World) (a : ℕ → ℕ) (k g : ℕ) (asking : Bool) (r : Reply) (place : ℕ) → Holds w a → w.client.on g ≡ Some k → w.client.asking g ≡ asking → copies g (w.conns k) ≡ 0
+pub hears : (w : World) (a : ℕ → ℕ) (k g : ℕ) (asking : Bool) (r : Reply) (place : ℕ) → Holds w a → w.client.on g ≡ Some k → w.client.asking g ≡ asking → copies g (w.conns k) ≡ 0
     → (asking ≡ false → acts_once (w.client.op g) ≡ true → r.status ≡ user_session_deleted → w.client.before g ≡ false → a g ≡ 0)
     → (h : Hearing) → heard w.client g asking r ≡ h → Holds (with_client (closed_by w (act_heard h)) (hear w.client g asking r place h)) a
 hears w a k g asking r place i on asks none gone (Settles o) e = settles w.client w.conns a k g asking r place o i on none (heard_firm w.client g asking r o e)
@@ -569,7 +569,7 @@ hears w a k g asking r place i on asks none gone Attaches e =
 hears w a k g asking r place i on asks none gone EndsSession e =
     leave_keeps (answered w.client g) w.conns a (answered_keeps w.client w.conns a k g on none (λ o b q. gone (sym asks ∙ q) o (heard_ends w.client g asking r e) b) i)
 
-took : (w : World) (a : ℕ → ℕ) (k g : ℕ) (asking : Bool) (r : Reply) (place : ℕ) → Holds w a → copies g (w.conns k) ≡ 0
+pub took : (w : World) (a : ℕ → ℕ) (k g : ℕ) (asking : Bool) (r : Reply) (place : ℕ) → Holds w a → copies g (w.conns k) ≡ 0
     → (asking ≡ false → acts_once (w.client.op g) ≡ true → r.status ≡ user_session_deleted → w.client.before g ≡ false → a g ≡ 0) → Holds (op_took w k g asking r place) a
 took w a k g asking r place i none gone =
     both_ways (λ c x. Holds (with_client (closed_by w x) c) a) (is_awaited w.client k g asking) (hear w.client g asking r place (heard w.client g asking r)) w.client (act_heard (heard w.client g asking r)) Nothing
@@ -578,21 +578,21 @@ took w a k g asking r place i none gone =
 
 -- ---- dialogs
 
-goes_on_bound : (t s : Stage) (status : ℕ) → dialog_step t status ≡ GoesOn s → is_bound s ≡ is_bound t
+pub goes_on_bound : (t s : Stage) (status : ℕ) → dialog_step t status ≡ GoesOn s → is_bound s ≡ is_bound t
 goes_on_bound Apart s status e = absurd (cc)
 goes_on_bound (SaidNegotiate bound) s status e = grind arith
 goes_on_bound (SaidFirst bound) s status e = grind arith
 goes_on_bound (SaidSecond bound) s status e = grind arith
 goes_on_bound AskedTree s status e = grind arith
 
-binds_bound : (t : Stage) (status : ℕ) → dialog_step t status ≡ Binds → is_bound t ≡ true
+pub binds_bound : (t : Stage) (status : ℕ) → dialog_step t status ≡ Binds → is_bound t ≡ true
 binds_bound Apart status e = absurd (cc)
 binds_bound (SaidNegotiate bound) status e = grind arith
 binds_bound (SaidFirst bound) status e = grind arith
 binds_bound (SaidSecond bound) status e = grind arith
 binds_bound AskedTree status e = grind arith
 
-dialogs : (w : World) (a : ℕ → ℕ) (k : ℕ) (r : Reply) → Holds w a → copies 0 (w.conns k) ≡ 0 → w.client.ready k ≡ false → (w.conns k).client_open ≡ true
+pub dialogs : (w : World) (a : ℕ → ℕ) (k : ℕ) (r : Reply) → Holds w a → copies 0 (w.conns k) ≡ 0 → w.client.ready k ≡ false → (w.conns k).client_open ≡ true
     → (d : DialogStep) → dialog_step (w.client.stage k) r.status ≡ d → Holds (dialog_took w k r d) a
 dialogs w a k r i none apart stands (GoesOn stage) e =
     dialog_sent_keeps (went_on w.client k stage r) w.conns a k 1 (dialog_message (went_on w.client k stage r) k (w.conns k).next_id stage) none apart
@@ -605,10 +605,10 @@ dialogs w a k r i none apart stands (Refuses status) e = dialog_refused_keeps w.
 
 -- ---- a reply that is taken
 
-reply_open : (f : ℕ → Conn) (k : ℕ) (rest : List Received) → (f k).client_open ≡ true → (put f k (take_front (f k) rest) k).client_open ≡ true
+pub reply_open : (f : ℕ → Conn) (k : ℕ) (rest : List Received) → (f k).client_open ≡ true → (put f k (take_front (f k) rest) k).client_open ≡ true
 reply_open f k rest o = grind arith
 
-takes_by : (w : World) (a : ℕ → ℕ) (k : ℕ) (y : Received) (rest : List Received) → (w.conns k).down ≡ y ∷ rest → (w.conns k).client_open ≡ true → Holds w a → (t : Token) → y.token ≡ t
+pub takes_by : (w : World) (a : ℕ → ℕ) (k : ℕ) (y : Received) (rest : List Received) → (w.conns k).down ≡ y ∷ rest → (w.conns k).client_open ≡ true → Holds w a → (t : Token) → y.token ≡ t
     → Holds (took_by (behind_reply w k rest) k y.reply y.place t) a
 takes_by w a k y rest is o i ForDialog e =
     let zero_of : op_of y.token ≡ 0 = ap op_of e in let f0 = front_down (w.conns k).down y rest is in
@@ -626,19 +626,19 @@ takes_by w a k y rest is o i (ForAttach g) e =
     (subst (λ g. copies g (put w.conns k (take_front (w.conns k) rest) k) ≡ 0) (ap op_of e) (front_reply_gone w.conns k y rest is (i.once k (op_of y.token))))
     (λ q. absurd (cc))
 
-takes : (w : World) (a : ℕ → ℕ) (k : ℕ) → (w.conns k).client_open ≡ true → Holds w a → (ys : List Received) → (w.conns k).down ≡ ys → Holds (take_reply w k ys) a
+pub takes : (w : World) (a : ℕ → ℕ) (k : ℕ) → (w.conns k).client_open ≡ true → Holds w a → (ys : List Received) → (w.conns k).down ≡ ys → Holds (take_reply w k ys) a
 takes w a k o i [] is = i
 takes w a k o i (y ∷ rest) is = takes_by w a k y rest is o i y.token refl
 
 -- ---- Cut
 
-cuts_ready : (w : World) (a : ℕ → ℕ) (k : ℕ) → Holds w a → (b e : Bool) → b ≡ true
+pub cuts_ready : (w : World) (a : ℕ → ℕ) (k : ℕ) → Holds w a → (b e : Bool) → b ≡ true
     → Holds (with_client (cut_by w k (if b && e then CloseChannels else Nothing)) (if b then (if e then end_session w.client else cut_channel w.client k) else w.client)) a
 cuts_ready w a k i true true h = leave_keeps w.client w.conns a i
 cuts_ready w a k i true false h = cut_keeps w.client w.conns a k i
 cuts_ready w a k i false e h = absurd (cc)
 
-cuts : (w : World) (a : ℕ → ℕ) (k : ℕ) → Holds w a → Holds (changed w (Cut k)) a
+pub cuts : (w : World) (a : ℕ → ℕ) (k : ℕ) → Holds w a → Holds (changed w (Cut k)) a
 cuts w a k i =
     either (λ v. Holds v a) (w.client.ready k) _ _ (λ ready. cuts_ready w a k i (w.client.ready k) (ends_at_cut w.client) ready) (λ apart. dialog_off_keeps w.client w.conns a k apart i)
 
@@ -648,7 +648,7 @@ cuts w a k i =
 abbrev pub after : World → Event → (ℕ → ℕ) → ℕ → ℕ
 after w e a g = if acts_now w e g then a g + 1 else a g
 
-closed_of : (w : World) (k : ℕ) → may_open w k ≡ true → (w.conns k).client_open ≡ false
+pub closed_of : (w : World) (k : ℕ) → may_open w k ≡ true → (w.conns k).client_open ≡ false
 closed_of w k m = not_true (w.conns k).client_open (front_of (not (w.conns k).client_open) _ (back_of (nat_lt k max_channel) _ m))
 
 pub keeps : (w : World) (a : ℕ → ℕ) (e : Event) → Holds w a → Holds (happens w e) (after w e a)
@@ -666,7 +666,7 @@ keeps w a (Finish refusal) i = either (λ v. Holds v a) (not w.client.live) _ _ 
 
 -- ---- runs
 
-no_conn_counts : (g : ℕ) → copies g no_conn ≤ 1
+pub no_conn_counts : (g : ℕ) → copies g no_conn ≤ 1
 no_conn_counts g = grind arith
 
 pub begins : (z : Settings) → Holds (start z) (λ g. 0)
@@ -706,19 +706,19 @@ unfolding run counts
 always [] w a i = i
 always (e ∷ es) w a i = always es (happens w e) (after w e a) (keeps w a e i)
 
-one_more : (b : Bool) (x n : ℕ) → (if b then x + 1 else x) + n ≡ x + ((if b then 1 else 0) + n)
+pub one_more : (b : Bool) (x n : ℕ) → (if b then x + 1 else x) + n ≡ x + ((if b then 1 else 0) + n)
 one_more true x n = omega arith
 one_more false x n = omega arith
 
-counts_acts : (es : List Event) (w : World) (a : ℕ → ℕ) (g : ℕ) → counts es w a g ≡ a g + acts es w g
+pub counts_acts : (es : List Event) (w : World) (a : ℕ → ℕ) (g : ℕ) → counts es w a g ≡ a g + acts es w g
 unfolding counts acts
 counts_acts [] w a g = omega arith
 counts_acts (e ∷ es) w a g = counts_acts es (happens w e) (after w e a) g ∙ one_more (acts_now w e g) (a g) (acts es (happens w e) g)
 
-from_zero : (n m : ℕ) → m ≡ 0 + n → m ≡ n
+pub from_zero : (n m : ℕ) → m ≡ 0 + n → m ≡ n
 from_zero n m e = omega (arith, e)
 
-same_counts : (es : List Event) (w : World) → counts es w (λ g. 0) ≡ acts es w
+pub same_counts : (es : List Event) (w : World) → counts es w (λ g. 0) ≡ acts es w
 same_counts es w = λ t g. from_zero (acts es w g) (counts es w (λ x. 0) g) (counts_acts es w (λ x. 0) g) t
 
 pub connections : (z : Settings) (es : List Event) → Connections (run es (start z)).client (run es (start z)).conns (acts es (start z))
