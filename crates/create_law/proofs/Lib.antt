@@ -42,3 +42,5 @@ pub mod Recount
 pub mod Facing
 pub mod Moved
 pub mod Says
+pub mod Served
+pub mod Run
