@@ -1,4 +1,4 @@
--- What is settled stays as it settled. A number that isn't taken yet is unsettled, so the statement has no premise on it.
+-- What is settled stays as it settled, and the operation it is. A number that isn't taken yet is unsettled, so the statement has no premise on it.
 use Rattle.std.proofs.Common.{◌≡◌, ◌≢◌, ℕ, ◌+◌, ◌≤◌, ◌<◌, ◌==◌, nat_lt, nat_le, Bool, true, false, not, ◌&&◌, if◌then◌else◌, List, [], ◌∷◌, ◌++◌, refl, arith, sym, subst, ◌∙◌, ap, Option, Some, None, is_some}
 use Rattle.std.proofs.lemmas.Bool.Decides.{nat_tests}
 use Rattle.exchange_defs.specs.Table.{put, is_filled}
@@ -9,7 +9,7 @@ use Rattle.exchange_defs.specs.Client.{Client, create_for, is_taken, may_take, m
 use Rattle.exchange_defs.specs.Settling.{Heard as Hearing, Settles, GoesAgain, Attaches, EndsSession, heard, hear, is_awaited, settle, settled, noted, noted_full, settles_open, with_no_opens, without_open, answered}
 use Rattle.exchange_defs.specs.Dialogs.{DialogStep, GoesOn, Accepts, Binds, Readies, Refuses, dialog_step}
 use Rattle.exchange_defs.specs.ClientStep.{Pick, Act, Nothing, Sends, Asks, CloseChannels, AllSettled, pick_after, op_after, push_after, hear_after, client_after, act, Pushes}
-use Rattle.exchange_defs.specs.Network.{World, Event, Submit, Open, Push, Serve, Take, Cut, Drop, Restart, Crash, Wait, Finish, Received, Sent, Token, ForDialog, ForOp, ForAttach, happens, run, start, may_open, may_serve, pushed_by, serve_front, absorb_front, take_reply, took_by, dialog_took, behind_reply}
+use Rattle.exchange_defs.specs.Network.{World, Event, Submit, Open, Push, Serve, Take, Cut, Drop, Restart, Crash, Wait, Finish, Received, Sent, Token, ForDialog, ForOp, ForAttach, happens, run, start, Settings, may_open, may_serve, pushed_by, serve_front, absorb_front, take_reply, took_by, dialog_took, behind_reply}
 use Rattle.exchange_defs.specs.Statements.{SettledStays}
 use Rattle.exchange_law.specs.Connections.{Settled as AllSettledOff, Taken, TakenOn, Creates, makes_open, its_create}
 use Rattle.exchange_law.proofs.Doors.{either}
@@ -20,13 +20,13 @@ abbrev pub Beyond : Client → Type 0
 Beyond c = (h : ℕ) → is_taken c h ≡ false → c.outcome h ≡ Unsettled × c.op h ≡ OpClose 0
 
 abbrev pub Kept : Client → Client → Type 0
-Kept c d = Beyond c → Beyond d × ((h : ℕ) → is_unsettled (c.outcome h) ≡ false → d.outcome h ≡ c.outcome h)
+Kept c d = Beyond c → Beyond d × ((h : ℕ) → is_unsettled (c.outcome h) ≡ false → d.outcome h ≡ c.outcome h × d.op h ≡ c.op h)
 
 kept_same : (c : Client) → Kept c c
-kept_same c = λ b. (b, λ h s. refl)
+kept_same c = λ b. (b, λ h s. (refl, refl))
 
 kept_on : (c d e : Client) → Kept c d → Kept d e → Kept c e
-kept_on c d e f g = λ b. let p = f b in let q = g p.0 in (q.0, λ h s. let r = p.1 h s in q.1 h (ap is_unsettled r ∙ s) ∙ r)
+kept_on c d e f g = λ b. let p = f b in let q = g p.0 in (q.0, λ h s. let r = p.1 h s in let t = q.1 h (ap is_unsettled r.0 ∙ s) in (t.0 ∙ r.0, t.1 ∙ r.1))
 
 -- ---- numbers
 
@@ -71,14 +71,14 @@ kept_take : (c : Client) (g : ℕ) (op : Op) (o : Outcome) → g ≡ c.taken + 1
 kept_take c g op o e =
     λ b. (
       λ h f. let d = not_the_next h c.taken g e f in let old = b h (not_taken_before h c.taken g e f) in (other_put c.outcome g h o d ∙ old.0, other_op c.op g h op d ∙ old.1),
-      λ h s. other_put c.outcome g h o (below_the_next h c.taken g e (settled_taken c h b s)),
+      λ h s. let d = below_the_next h c.taken g e (settled_taken c h b s) in (other_put c.outcome g h o d, other_op c.op g h op d),
     )
 
 apart : (f : ℕ → Outcome) (h g : ℕ) → is_unsettled (f h) ≡ false → is_unsettled (f g) ≡ true → h ≢ g
 apart f h g s u = λ e. let p : false ≡ true = sym s ∙ (ap (λ x. is_unsettled (f x)) e ∙ u) in absurd (cc)
 
 kept_put : (c : Client) (g : ℕ) (o : Outcome) → is_taken c g ≡ true → is_unsettled (c.outcome g) ≡ true → Kept c (record c { outcome = put c.outcome g o })
-kept_put c g o t u = λ b. (λ h f. let old = b h f in (other_put c.outcome g h o (not_that c g h t f) ∙ old.0, old.1), λ h s. other_put c.outcome g h o (apart c.outcome h g s u))
+kept_put c g o t u = λ b. (λ h f. let old = b h f in (other_put c.outcome g h o (not_that c g h t f) ∙ old.0, old.1), λ h s. (other_put c.outcome g h o (apart c.outcome h g s u), refl))
 
 kept_slotless : (c : Client) (k g : ℕ) → Kept c (settle_no_slot c k g)
 kept_slotless c k g =
@@ -140,7 +140,7 @@ end_beyond c h o b taken f u =
     (ap c.sent zeroth ∙ not_sent c 0 taken refl) (ap c.outcome zeroth ∙ (b 0 refl).0))
 
 kept_end : (c : Client) → Taken c → Kept c (end_session c)
-kept_end c taken = λ b. (λ h f. let old = b h f in (end_beyond c h (c.outcome h) b taken f old.0, old.1), λ h s. end_same c h (c.outcome h) s)
+kept_end c taken = λ b. (λ h f. let old = b h f in (end_beyond c h (c.outcome h) b taken f old.0, old.1), λ h s. (end_same c h (c.outcome h) s, refl))
 
 kept_cut : (c : Client) (k : ℕ) → Taken c → Kept c (if c.ready k then (if ends_at_cut c then end_session c else cut_channel c k) else c)
 kept_cut c k taken = either (Kept c) (c.ready k) _ _ (λ _. either (Kept c) (ends_at_cut c) _ _ (λ _. kept_end c taken) (λ _. kept_same c)) (λ _. kept_same c)
@@ -155,7 +155,7 @@ not_finished t x o e = grind arith
 
 kept_finish : (c : Client) (why : Why) → Kept c (finish c why)
 kept_finish c why =
-    λ b. (λ h f. let old = b h f in (not_finished (is_taken c h) (outcome_after_finish why (c.outcome h)) (c.outcome h) f ∙ old.0, old.1), λ h s. finish_by (is_taken c h) why (c.outcome h) s)
+    λ b. (λ h f. let old = b h f in (not_finished (is_taken c h) (outcome_after_finish why (c.outcome h)) (c.outcome h) f ∙ old.0, old.1), λ h s. (finish_by (is_taken c h) why (c.outcome h) s, refl))
 
 -- ---- a reply
 
@@ -190,7 +190,7 @@ kept_settled c d g place o same w =
     λ b. (
       λ h f. let e : is_taken c h ≡ false = ap (λ t. nat_lt 0 h && nat_le h t) (sym same.taken) ∙ f in let old = b h e in
           (other_put d.outcome g h o (not_that c g h w.number e) ∙ (ap (λ x. x h) same.outcome ∙ old.0), ap (λ x. x h) same.op ∙ old.1),
-      λ h s. other_put d.outcome g h o (apart c.outcome h g s w.pending) ∙ ap (λ x. x h) same.outcome,
+      λ h s. (other_put d.outcome g h o (apart c.outcome h g s w.pending) ∙ ap (λ x. x h) same.outcome, ap (λ x. x h) same.op),
     )
 
 -- what isn't taken names another create
@@ -201,7 +201,7 @@ kept_given_up : (d : Client) (create : ℕ) → 0 < create → Kept d (with_no_o
 kept_given_up d create l =
     λ b. (
       λ h f. let old = b h f in (given_by (create_for d h) create (is_create (d.op h)) (d.sent h) (is_gone_after d create (d.outcome create)) (d.outcome h) (ap (create_of h) old.1) l old.0, old.1),
-      λ h s. without_same ((create_for d h == create) && not (is_create (d.op h))) (d.sent h) (is_gone_after d create (d.outcome create)) create (d.outcome h) s,
+      λ h s. (without_same ((create_for d h == create) && not (is_create (d.op h))) (d.sent h) (is_gone_after d create (d.outcome create)) create (d.outcome h) s, refl),
     )
 
 kept_settle : (c : Client) (g : ℕ) (asking : Bool) (r : Reply) (place : ℕ) (o : Outcome) → Awaits c g → Kept c (settle c g asking r place o)
@@ -309,7 +309,13 @@ unfolding run
 run_on [] more w = refl
 run_on (e ∷ es) more w = run_on es more (happens w e)
 
+stays_on : (z : Settings) (es more : List Event) (g : ℕ) → is_unsettled ((run es (start z)).client.outcome g) ≡ false
+    → (run more (run es (start z))).client.outcome g ≡ (run es (start z)).client.outcome g × (run more (run es (start z))).client.op g ≡ (run es (start z)).client.op g
+stays_on z es more g s =
+    let b : Beyond (run es (start z)).client = (run_stays es (start z) (λ x. 0) (begins z) (λ h f. (refl, refl))).0 in (run_stays more (run es (start z)) _ (always es (start z) (λ x. 0) (begins z)) b).1 g s
+
 pub settled_stays : SettledStays
-settled_stays z es more g s =
-    let b : Beyond (run es (start z)).client = (run_stays es (start z) (λ x. 0) (begins z) (λ h f. (refl, refl))).0 in
-    ap (λ w. w.client.outcome g) (run_on es more (start z)) ∙ (run_stays more (run es (start z)) _ (always es (start z) (λ x. 0) (begins z)) b).1 g s
+settled_stays z es more g s = ap (λ w. w.client.outcome g) (run_on es more (start z)) ∙ (stays_on z es more g s).0
+
+pub settled_op : (z : Settings) (es more : List Event) (g : ℕ) → is_unsettled ((run es (start z)).client.outcome g) ≡ false → (run (es ++ more) (start z)).client.op g ≡ (run es (start z)).client.op g
+settled_op z es more g s = ap (λ w. w.client.op g) (run_on es more (start z)) ∙ (stays_on z es more g s).1
