@@ -44,3 +44,4 @@ pub mod Moved
 pub mod Says
 pub mod Served
 pub mod Run
+pub mod Law

@@ -182,12 +182,12 @@ StartsAnew w = Restarts (seen w.server) (seen (restarted w).server)
 restarts : (w : World) (a : ℕ → ℕ) → StartsAnew w → Holds w a → Holds (restarted w) a
 restarts w a r i = restarted_creates w.client w.conns (seen w.server) a (seen (restarted w).server) r i
 
-crash_open : (w : World) (a : ℕ → ℕ) (k : ℕ) → Connections w.client w.conns a → Below w.client w.conns w.server → StartsAnew w → StartsAnew (absorb_front w k (w.conns k).up) → Holds w a → (kept b : Bool)
+crash_open : (w : World) (a : ℕ → ℕ) (k : ℕ) → Connections w.client w.conns a → Below w.client w.conns w.server → StartsAnew w → (may_serve w k ≡ true → StartsAnew (absorb_front w k (w.conns k).up)) → Holds w a → (kept b : Bool) → may_serve w k ≡ b
     → Holds (if b then later (if kept then restarted (absorb_front w k (w.conns k).up) else restarted w) 1 else w) (λ g. if kept && (b && front_acts w (w.conns k).up g) then a g + 1 else a g)
-crash_open w a k f b r s i true true = restarts (absorb_front w k (w.conns k).up) _ s (absorbs w a k f b i (w.conns k).up refl)
-crash_open w a k f b r s i true false = i
-crash_open w a k f b r s i false true = restarts w a r i
-crash_open w a k f b r s i false false = i
+crash_open w a k f b r s i true true e = restarts (absorb_front w k (w.conns k).up) _ (s e) (absorbs w a k f b i (w.conns k).up refl)
+crash_open w a k f b r s i true false e = i
+crash_open w a k f b r s i false true e = restarts w a r i
+crash_open w a k f b r s i false false e = i
 
 -- ---- Take: what a reply to a create settles
 
@@ -498,7 +498,7 @@ pub record Known (w : World) (a : ℕ → ℕ) : Type 0 where
   pub below : Below w.client w.conns w.server
   pub making : Making w.client
   pub anew : StartsAnew w
-  pub anew_kept : (k : ℕ) → StartsAnew (absorb_front w k (w.conns k).up)
+  pub anew_kept : (k : ℕ) → may_serve w k ≡ true → StartsAnew (absorb_front w k (w.conns k).up)
 
 pub keeps : (w : World) (a : ℕ → ℕ) (e : Event) → Known w a → Holds w a → Holds (happens w e) (after w e a)
 keeps w a (Submit g op) b i = submits w a g op b.fit i
@@ -510,6 +510,6 @@ keeps w a (Take k) b i = either (λ v. Holds v a) ((w.conns k).client_open && is
 keeps w a (Cut k) b i = either (λ v. Holds v a) (w.conns k).client_open _ _ (λ _. cuts w a k b.fit i) (λ _. i)
 keeps w a (Drop k) b i = either (λ v. Holds v a) (w.conns k).server_open _ _ (λ _. dropped_creates w.client w.conns _ a k (ends w.client w.conns a w.server w.moment k b.below i)) (λ _. i)
 keeps w a Restart b i = restarts w a b.anew i
-keeps w a (Crash k kept) b i = crash_open w a k b.fit b.below b.anew (b.anew_kept k) i kept (may_serve w k)
+keeps w a (Crash k kept) b i = crash_open w a k b.fit b.below b.anew (b.anew_kept k) i kept (may_serve w k) refl
 keeps w a (Wait n) b i = i
 keeps w a (Finish refusal) b i = either (λ v. Holds v a) (not w.client.live) _ _ (λ d. finished_creates w.client w.conns (seen w.server) a (NoSession refusal) i) (λ _. i)
