@@ -16,7 +16,7 @@ use Rattle.recovery_law.specs.Recovers.{Recovers, staying}
 use Rattle.recovery_law.specs.Restarted.{Restarted}
 use Rattle.recovery_law.proofs.Worlds.{recovers}
 use Rattle.recovery_law.proofs.Restarts.{restarted as restarted_by, was_named, stays_named, stood, ids_above}
-use Rattle.session_law.specs.Sessions.{Sessions}
+use Rattle.session_law.proofs.Always.{sessions}
 use Rattle.create_law.specs.Creates.{Seen, seen, Creates, Restarts}
 use Rattle.create_law.proofs.Served.{Below}
 use Rattle.create_law.proofs.Run.{Holds, Known, StartsAnew, keeps}
@@ -55,13 +55,10 @@ anew_kept w k may f r =
 
 -- ---- every run
 
-abbrev pub AllSessions : Settings → Type 0
-AllSessions z = (es : List Event) → Sessions (run es (start z)).client (run es (start z)).conns (run es (start z)).server
-
-known : (z : Settings) → AllSessions z → (es : List Event) → Known (run es (start z)) (acts es (start z))
-known z sessions es =
+known : (z : Settings) → (es : List Event) → Known (run es (start z)) (acts es (start z))
+known z es =
     let w : World = run es (start z) in
-    let s = sessions es in
+    let s = sessions z es in
     let f = fitting z es in
     record {
       fit = connections z es;
@@ -104,8 +101,8 @@ begins z =
       ask_up = λ k n g x h. absurd (cc);
     }
 
-pub creates_of : (z : Settings) → AllSessions z → (es : List Event) → At Holds z es
-creates_of z sessions = on_every_run Holds z (begins z) (λ es e h. keeps (run es (start z)) (acts es (start z)) e (known z sessions es) h)
+pub creates : (z : Settings) → (es : List Event) → At Holds z es
+creates z = on_every_run Holds z (begins z) (λ es e h. keeps (run es (start z)) (acts es (start z)) e (known z es) h)
 
 -- ---- acts
 
@@ -113,19 +110,19 @@ of_create : (op : Op) → is_create op ≡ true → makes_open op ≡ true
 unfolding makes_open
 of_create op e = e
 
-pub at_most_of : (z : Settings) → AllSessions z → (es : List Event) (g : ℕ) → is_create ((run es (start z)).client.op g) ≡ true → acts es (start z) g ≤ 1
-at_most_of z sessions es g e = (creates_of z sessions es).at_most g (of_create _ e)
+pub at_most_of : (z : Settings) → (es : List Event) (g : ℕ) → is_create ((run es (start z)).client.op g) ≡ true → acts es (start z) g ≤ 1
+at_most_of z es g e = (creates z es).at_most g (of_create _ e)
 
 one_of : (n : ℕ) → n ≤ 1 → 1 ≤ n → n ≡ 1
 one_of n l m = omega (arith, l, m)
 
-pub acknowledged_of : (z : Settings) → AllSessions z → (es : List Event) (g : ℕ) → is_create ((run es (start z)).client.op g) ≡ true → is_ok ((run es (start z)).client.outcome g) ≡ true → acts es (start z) g ≡ 1
-acknowledged_of z sessions es g e ok = one_of (acts es (start z) g) (at_most_of z sessions es g e) ((creates_of z sessions es).ok_acted g (of_create _ e) ok)
+pub acknowledged_of : (z : Settings) → (es : List Event) (g : ℕ) → is_create ((run es (start z)).client.op g) ≡ true → is_ok ((run es (start z)).client.outcome g) ≡ true → acts es (start z) g ≡ 1
+acknowledged_of z es g e ok = one_of (acts es (start z) g) (at_most_of z es g e) ((creates z es).ok_acted g (of_create _ e) ok)
 
 never_settled : (o : Outcome) → never_acted o ≡ true → is_unsettled o ≡ false
 never_settled o e = grind arith
 
-pub never_of : (z : Settings) → AllSessions z → (es more : List Event) (g : ℕ) → is_create ((run es (start z)).client.op g) ≡ true → never_acted ((run es (start z)).client.outcome g) ≡ true → acts (es ++ more) (start z) g ≡ 0
-never_of z sessions es more g e never =
+pub never_of : (z : Settings) → (es more : List Event) (g : ℕ) → is_create ((run es (start z)).client.op g) ≡ true → never_acted ((run es (start z)).client.outcome g) ≡ true → acts (es ++ more) (start z) g ≡ 0
+never_of z es more g e never =
     let s = never_settled ((run es (start z)).client.outcome g) never in
-    (creates_of z sessions (es ++ more)).refused_not g (of_create _ (ap is_create (settled_op z es more g s) ∙ e)) (ap never_acted (settled_stays z es more g s) ∙ never)
+    (creates z (es ++ more)).refused_not g (of_create _ (ap is_create (settled_op z es more g s) ∙ e)) (ap never_acted (settled_stays z es more g s) ∙ never)
