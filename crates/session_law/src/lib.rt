@@ -10,10 +10,10 @@ ghost use Rattle.session_law.specs.Sessions.{Sessions};
 
 /// On every run, behind every event, the client's session, what waits and the server's sessions fit together (each part
 /// of `Sessions`): of the sessions that the client accepted at most the last one is there, and while the client's session
-/// is live it is that one; a message or reply of an operation on an open connection is of the live session, and no other
-/// message of an operation is of a session that the client never accepted; the sequences that wait are below 32,768 and,
-/// of the live session, at most the client's; each session and each open is of the client's user; and while a session is
-/// there, so is the tree that its operations' messages name.
+/// is live it is that one; each message of an operation is of a session that the client accepted, and on an open
+/// connection of the live one, as is each reply there; the sequences that wait are below 32,768 and, of the live session,
+/// at most the client's; each session and each open is of the client's user; and while a session is there, so is the tree
+/// that its operations' messages name.
 pub fn sessions_law()
     ensures fit { (settings : Settings) (events : List Event) → Sessions (run events (start settings)).client (run events (start settings)).conns (run events (start settings)).server }
 {}
