@@ -4,6 +4,8 @@
 The rule is one line: the old part at the goal's own variables, then grind. EVENTS names each step with what it needs,
 what it does to the client's table, the connections, what the server keeps and the counts, which columns it changes, and
 the parts whose proof needs more than that. A part that reads no column that changes is the old one.
+
+Run `rt tidy` and `rt fmt` in the crate behind it: it writes all imports into each file.
 """
 import os
 import re

@@ -1,20 +1,19 @@
 -- What is known where the server takes a message: of the client, of what waits, and of the columns that an expiry leaves.
-use Rattle.std.proofs.lemmas.Bool.{eqb-false}
-use Rattle.std.proofs.Common.{eqb-true, ◌≡◌, ◌≢◌, ℕ, ◌+◌, ◌≤◌, ◌<◌, ◌==◌, nat_le, Bool, true, false, not, ◌&&◌, ◌||◌, if◌then◌else◌, List, Option, Some, None, slice_get, is_some, refl, arith, sym, ◌∙◌, ap, subst}
-use Rattle.exchange_defs.specs.Commands.{Command, Unreadable, Aside, Setup, Logoff, TreeConnect, TreeDisconnect, Create, Close, Flush, Read, Write, Lock, Ioctl, ListDirectory, QueryFile, QueryVolume, SetInfo, CreateRequest}
-use Rattle.exchange_defs.specs.State.{Server, Message, Tree, Making}
+use Rattle.std.proofs.Common.{eqb-true, ◌≡◌, ℕ, ◌<◌, ◌==◌, Bool, true, false, if◌then◌else◌, List, Option, Some, None, slice_get, is_some, refl, arith, sym, ◌∙◌, subst}
+use Rattle.exchange_defs.specs.Commands.{Command, Create, CreateRequest}
+use Rattle.exchange_defs.specs.State.{Server, Tree, Making}
 use Rattle.exchange_defs.specs.CheckSetup.{tree_in, is_new}
 use Rattle.exchange_defs.specs.Files.{mark_file}
 use Rattle.exchange_defs.specs.Opens.{drop_open, leave_open, marked_by, goes}
-use Rattle.exchange_defs.specs.Step.{expire, add_mark, with_deadlines}
+use Rattle.exchange_defs.specs.Step.{expire, add_mark}
 use Rattle.exchange_defs.specs.Client.{Client, guid_for}
-use Rattle.exchange_defs.specs.Network.{Conn, Sent, Received, Token, ForDialog, ForOp, ForAttach}
-use Rattle.exchange_defs.specs.Runs.{is_send_of, is_once}
-use Rattle.exchange_law.specs.Connections.{Connections, makes_open, acts_once, its_request, create_at}
+use Rattle.exchange_defs.specs.Network.{Conn, Sent, Token, ForDialog, ForOp, ForAttach}
+use Rattle.exchange_defs.specs.Runs.{is_send_of}
+use Rattle.exchange_law.specs.Connections.{Connections, makes_open, acts_once, create_at}
 use Rattle.server_law.proofs.Logic.{either}
 use Rattle.session_law.specs.Sessions.{RankedUp, is_ops, logon_user}
-use Rattle.create_law.specs.Creates.{Creates, DialogUp, AskUp, is_of_dialog, is_of_ask, seen}
-use Rattle.create_law.proofs.Requests.{create_asked, asks_create, makes_of}
+use Rattle.create_law.specs.Creates.{DialogUp, AskUp}
+use Rattle.create_law.proofs.Requests.{asks_create, makes_of}
 
 -- sessions and trees, which an expiry leaves as they are
 pub record Rest : Type 0 where

@@ -1,24 +1,22 @@
 -- What holds of creates on every run, and what it says of their acts.
-use Rattle.std.proofs.Common.{◌≡◌, ◌≢◌, ℕ, ◌+◌, ◌≤◌, ◌<◌, ◌==◌, Bool, true, false, not, ◌&&◌, ◌||◌, if◌then◌else◌, List, [], ◌∷◌, ◌++◌, refl, arith, sym, subst, ◌∙◌, ap, Option, Some, None, is_some, slice_get, zero, suc}
+use Rattle.std.proofs.Common.{◌≡◌, ℕ, ◌≤◌, Bool, true, false, ◌&&◌, List, [], ◌∷◌, ◌++◌, refl, arith, subst, ◌∙◌, ap}
 use Rattle.exchange_defs.specs.State.{Server, Open}
 use Rattle.exchange_defs.specs.Fold.{fold_from, sweep, recovered}
-use Rattle.exchange_defs.specs.Operations.{Op, Outcome, Unsettled, WasOk, WasRefused, NoSlot, NoOpen, Unknown, is_create, is_ok, is_unsettled}
-use Rattle.exchange_defs.specs.Client.{Client}
-use Rattle.exchange_defs.specs.Network.{World, Event, Serve, Sent, Settings, happens, run, start, later, may_serve, serve_front, absorb_front, restarted}
+use Rattle.exchange_defs.specs.Operations.{Op, Outcome, is_create, is_ok, is_unsettled}
+use Rattle.exchange_defs.specs.Network.{World, Event, Serve, Sent, Settings, happens, run, start, later, may_serve, serve_front, absorb_front}
 use Rattle.exchange_defs.specs.Runs.{acts, never_acted}
 use Rattle.exchange_law.specs.Connections.{makes_open}
-use Rattle.exchange_law.proofs.Run.{connections, after}
-use Rattle.exchange_law.proofs.Reached.{At, Step, on_every_run, one_event_on}
+use Rattle.exchange_law.proofs.Run.{connections}
+use Rattle.exchange_law.proofs.Reached.{At, on_every_run, one_event_on}
 use Rattle.exchange_law.proofs.Stays.{settled_stays, settled_op}
 use Rattle.server_law.specs.Fits.{Fits}
 use Rattle.server_law.proofs.Run.{fitting}
-use Rattle.recovery_law.specs.Recovers.{Recovers, staying}
+use Rattle.recovery_law.specs.Recovers.{Recovers}
 use Rattle.recovery_law.specs.Restarted.{Restarted}
 use Rattle.recovery_law.proofs.Worlds.{recovers}
 use Rattle.recovery_law.proofs.Restarts.{restarted as restarted_by, was_named, stays_named, stood, ids_above}
 use Rattle.session_law.proofs.Always.{sessions}
-use Rattle.create_law.specs.Creates.{Seen, seen, Creates, Restarts}
-use Rattle.create_law.proofs.Served.{Below}
+use Rattle.create_law.specs.Creates.{seen, Restarts}
 use Rattle.create_law.proofs.Run.{Holds, Known, StartsAnew, keeps}
 
 -- ---- a restart
@@ -66,8 +64,8 @@ known z es =
       making = s.making;
       anew = anew_at w f (recovers z (fitting z) es);
       anew_kept = λ k may. anew_kept w k may
-        (one_event_on (λ (v : World) a. Fits v.server) z (fitting z) es (Serve k))
-        (one_event_on (λ (v : World) a. Recovers v.records v.server) z (recovers z (fitting z)) es (Serve k));
+          (one_event_on (λ (v : World) a. Fits v.server) z (fitting z) es (Serve k))
+          (one_event_on (λ (v : World) a. Recovers v.records v.server) z (recovers z (fitting z)) es (Serve k));
     }
 
 begins : (z : Settings) → Holds (start z) (λ g. 0)

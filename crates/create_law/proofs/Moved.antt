@@ -1,26 +1,25 @@
 -- Each verdict of the checks keeps what holds of creates.
-use Rattle.std.proofs.lemmas.Bool.{eqb-false}
-use Rattle.std.proofs.Common.{eqb-true, ◌≡◌, ◌≢◌, ℕ, ◌+◌, ◌≤◌, ◌<◌, ◌==◌, nat_le, Bool, true, false, not, ◌&&◌, ◌||◌, if◌then◌else◌, List, Option, Some, None, slice_get, is_some, refl, arith, sym, ◌∙◌, ap, subst, zero, suc, ◌⊎◌, inl, inr}
+use Rattle.std.proofs.Common.{◌≡◌, ◌≢◌, ℕ, ◌+◌, ◌≤◌, ◌<◌, nat_le, Bool, true, false, not, ◌&&◌, if◌then◌else◌, List, Option, Some, None, slice_get, is_some, refl, arith, sym, ◌∙◌, ap, subst, zero, suc, ◌⊎◌, inl, inr}
 use Rattle.exchange_defs.specs.Status.{success}
-use Rattle.exchange_defs.specs.Commands.{Command, Create, Close, Setup, Logoff, CreateRequest, Durable, SetupRequest, create_form, form}
-use Rattle.exchange_defs.specs.State.{Server, Message, Answer, Body, Open as OpenRow}
+use Rattle.exchange_defs.specs.Commands.{Command, Create, Close, CreateRequest, Durable, SetupRequest, create_form, form}
+use Rattle.exchange_defs.specs.State.{Server, Message, Answer, Body}
 use Rattle.exchange_defs.specs.CheckCreate.{keeps_guid, max_guids}
 use Rattle.exchange_defs.specs.CheckOpen.{file_of}
-use Rattle.exchange_defs.specs.Effects.{apply, reach, keep_slot, set_ranges, change_file, attached, next_open, open_row, new_file, guid_of, is_persistent, end_if_named, add_session, end_session}
+use Rattle.exchange_defs.specs.Effects.{apply, reach, set_ranges, attached, next_open, open_row, new_file, guid_of, is_persistent, end_if_named, add_session, end_session}
 use Rattle.exchange_defs.specs.Verdict.{Verdict, Refuse, Give, KeepRefusal, Repeat, Attach, Make, TurnDown, Tell, Show, KeepSlot, PutRanges, Alter, Shut, Challenge, ChallengeBinding, Begin, Join, EndSession, AddTree, DropTree, Change}
-use Rattle.exchange_defs.specs.Operations.{Op, durable_of, is_unsettled, is_ok, id_in}
+use Rattle.exchange_defs.specs.Operations.{durable_of, is_unsettled, is_ok}
 use Rattle.exchange_defs.specs.Client.{Client, guid_for}
 use Rattle.exchange_defs.specs.Network.{Conn, Sent, Received, Token, ForDialog, ForOp, ForAttach}
 use Rattle.exchange_defs.specs.Runs.{is_send_of, never_acted}
-use Rattle.exchange_law.specs.Connections.{Connections, makes_open, its_request, create_at, opens, count_down, Creates as CreatesOf}
+use Rattle.exchange_law.specs.Connections.{Connections, makes_open, create_at, count_down}
 use Rattle.exchange_law.proofs.Lists.{own_up_count, own_down_count}
 use Rattle.server_law.proofs.Logic.{either}
-use Rattle.server_law.proofs.Found.{Facts, SessionFacts, MakeFacts, KeepFacts, RepeatFacts, AttachFacts, ShutFacts, BeginFacts, EndFacts, AlterFacts, RangesFacts, WriteFacts, SettingFacts}
+use Rattle.server_law.proofs.Found.{Facts, SessionFacts, MakeFacts, ShutFacts, AlterFacts, WriteFacts, SettingFacts}
 use Rattle.session_law.specs.Sessions.{is_ops}
-use Rattle.create_law.specs.Creates.{Seen, seen, Creates, named, guid_at, own_guid, is_kept, is_current, is_barred, is_full, refuses, outlives, keeps_form, FileGuid, ActedKept, DeadRefused, BarredReply}
+use Rattle.create_law.specs.Creates.{Seen, seen, Creates, named, guid_at, is_full, refuses, outlives, keeps_form, ActedKept, DeadRefused, BarredReply}
 use Rattle.create_law.proofs.Words.{guid_once}
-use Rattle.create_law.proofs.Moves.{end_of, begin_of, make_new, shut_in}
-use Rattle.create_law.proofs.Requests.{create_asked, asks_create, asks_durable, asks_new, asks_form, shuts_of, same_guid}
+use Rattle.create_law.proofs.Moves.{shut_in}
+use Rattle.create_law.proofs.Requests.{create_asked, asks_create, asks_durable, asks_form, shuts_of, same_guid}
 use Rattle.create_law.proofs.Seeing.{reach_seen, slot_seen, change_seen, shut_seen, end_seen, make_seen}
 use Rattle.create_law.proofs.Facing.{Facing, rest, is_creating, other_send, own_create, of_op, once_of}
 use Rattle.create_law.proofs.Recount.{recount_creates}

@@ -1,9 +1,9 @@
 -- What the request of an operation is, read back from the command.
-use Rattle.std.proofs.Common.{◌≡◌, ℕ, ◌==◌, Bool, true, false, not, [], Option, Some, None, is_some, refl, arith, sym, ◌∙◌, ap}
-use Rattle.exchange_defs.specs.Commands.{Command, Unreadable, Aside, Setup, Logoff, TreeConnect, TreeDisconnect, Create, Close, CreateRequest, Durable, deletes_on_close, form, create_form, has_bit}
-use Rattle.exchange_defs.specs.Operations.{Op, OpCreate, OpWrite, OpRead, OpEnd, OpTime, OpRename, OpRemove, OpLock, OpUnlock, OpFlush, OpStat, OpList, OpClose, create_request, durable_of, options_of, request_of, persists, is_create}
+use Rattle.std.proofs.Common.{◌≡◌, ℕ, Bool, true, false, not, [], Some, None, is_some, refl, arith}
+use Rattle.exchange_defs.specs.Commands.{Create, Close, CreateRequest, deletes_on_close, create_form, has_bit}
+use Rattle.exchange_defs.specs.Operations.{Op, OpCreate, OpWrite, OpRead, OpEnd, OpTime, OpRename, OpRemove, OpLock, OpUnlock, OpFlush, OpStat, OpList, OpClose, create_request, durable_of, options_of}
 use Rattle.exchange_defs.specs.Client.{Client, guid_for}
-use Rattle.exchange_law.specs.Connections.{makes_open, shuts_open, its_request}
+use Rattle.exchange_law.specs.Connections.{makes_open, its_request}
 use Rattle.create_law.specs.Creates.{own_guid, outlives, keeps_form, guid_at}
 
 -- the request of a create of this guid

@@ -1,24 +1,23 @@
 -- Each event keeps what holds of creates, and so does each run.
-use Rattle.std.proofs.lemmas.Bool.{eqb-false}
-use Rattle.std.proofs.Common.{eqb-true, ◌≡◌, ◌≢◌, ℕ, ◌+◌, ◌≤◌, ◌<◌, ◌==◌, nat_lt, nat_le, Bool, true, false, not, ◌&&◌, ◌||◌, if◌then◌else◌, List, [], ◌∷◌, ◌++◌, refl, arith, sym, subst, ◌∙◌, ap, Option, Some, None, is_some, is_none, slice_get, zero, suc}
-use Rattle.exchange_defs.specs.Table.{put, put2, is_at, is_filled}
+use Rattle.std.proofs.Common.{eqb-true, ◌≡◌, ℕ, ◌+◌, ◌≤◌, ◌<◌, ◌==◌, Bool, true, false, not, ◌&&◌, if◌then◌else◌, List, [], ◌∷◌, refl, arith, sym, subst, ◌∙◌, ap, Option, Some, None, slice_get}
+use Rattle.exchange_defs.specs.Table.{put, put2, is_filled}
 use Rattle.exchange_defs.specs.Status.{success, user_session_deleted, disk_full, no_memory, duplicate_objectid}
-use Rattle.exchange_defs.specs.State.{Reply, Answer, Body}
-use Rattle.exchange_defs.specs.Operations.{Op, OpCreate, OpLock, Outcome, Unsettled, WasOk, WasRefused, NoSlot, NoOpen, Unknown, NoSession, OpReply, Why, WithStatus, IsDone, is_unsettled, is_ok, is_create, is_close, is_lock, value_in, id_in, weight, charge, reconnect_of}
-use Rattle.exchange_defs.specs.Client.{Client, Stage, Apart, SaidNegotiate, SaidFirst, SaidSecond, AskedTree, create_for, guid_for, may_take, outcome_at_first, is_gone, may_push, has_its_slot, needs_slot, goes_itself, is_attached, lacks_slot, settle_no_slot, settle_no_slots, begin, again, take_slot, outstanding, own_message, ask_message, cut_channel, ends_at_cut, end_session, is_gone_after}
-use Rattle.exchange_defs.specs.Settling.{Heard as Hearing, Settles, GoesAgain, Attaches, EndsSession, heard, hear, is_awaited, settle, settled, noted, noted_full, settles_open, with_no_opens, give_up_on, without_open, ok_or_unknown, refused, was_closed, may_have_acted, refuses_all, goes_again, answered}
+use Rattle.exchange_defs.specs.State.{Reply, Answer}
+use Rattle.exchange_defs.specs.Operations.{Op, Outcome, Unsettled, WasOk, WasRefused, NoSlot, NoOpen, Unknown, NoSession, OpReply, Why, WithStatus, IsDone, is_unsettled, is_ok, is_create, is_close, is_lock, value_in, id_in, weight, charge, reconnect_of}
+use Rattle.exchange_defs.specs.Client.{Client, Stage, Apart, SaidNegotiate, SaidFirst, SaidSecond, AskedTree, create_for, guid_for, may_take, outcome_at_first, may_push, has_its_slot, needs_slot, goes_itself, lacks_slot, settle_no_slot, settle_no_slots, begin, again, take_slot, outstanding, own_message, ask_message, cut_channel, ends_at_cut, end_session, is_gone_after}
+use Rattle.exchange_defs.specs.Settling.{Heard as Hearing, Settles, GoesAgain, Attaches, EndsSession, heard, hear, is_awaited, settle, settled, noted, noted_full, settles_open, with_no_opens, give_up_on, without_open, ok_or_unknown, was_closed, may_have_acted, refuses_all, goes_again, answered}
 use Rattle.exchange_defs.specs.Dialogs.{DialogStep, GoesOn, Accepts, Binds, Readies, Refuses, dialog_step, dialog_message, stage_command, went_on, accepted, bound}
 use Rattle.exchange_defs.specs.ClientStep.{Pick, Act, Nothing, CloseChannels, pick_after, pick_act, act_heard, some_unsettled}
-use Rattle.exchange_defs.specs.Network.{World, Event, Submit, Open, Push, Serve, Take, Cut, Drop, Restart, Crash, Wait, Finish, Conn, Sent, Received, Token, ForDialog, ForOp, ForAttach, op_of, happens, run, start, Settings, no_conn, changed, later, may_open, may_serve, max_channel, pushed_by, answer, absorbed, replied, serve_front, absorb_front, behind_front, take_front, take_reply, took_by, dialog_took, op_took, closed_by, cut_by, with_client, send_up, behind_reply, restarted}
-use Rattle.exchange_defs.specs.Runs.{is_once, is_send_of, acts, acts_now, front_acts, never_acted}
-use Rattle.exchange_law.specs.Connections.{Connections, copies, count_up, count_down, makes_open, acts_once, its_create, create_at, opens}
+use Rattle.exchange_defs.specs.Network.{World, Event, Submit, Open, Push, Serve, Take, Cut, Drop, Restart, Crash, Wait, Finish, Conn, Sent, Received, Token, ForDialog, ForOp, ForAttach, op_of, happens, changed, later, may_open, may_serve, pushed_by, answer, absorbed, replied, serve_front, absorb_front, behind_front, take_front, take_reply, took_by, dialog_took, op_took, closed_by, cut_by, with_client, send_up, behind_reply, restarted}
+use Rattle.exchange_defs.specs.Runs.{front_acts, never_acted}
+use Rattle.exchange_law.specs.Connections.{Connections, copies, makes_open, acts_once}
 use Rattle.exchange_law.proofs.Lists.{front_up, front_down, own_up_count}
 use Rattle.exchange_law.proofs.Behind.{behind_keeps}
 use Rattle.exchange_law.proofs.Answered.{answered_keeps}
-use Rattle.exchange_law.proofs.Run.{next_of, MayPush, found, front_of, back_of, not_true, both_ways, put_self, still_open, front_reply_gone, awaited_of, some_of, heard_firm, heard_ends, after}
+use Rattle.exchange_law.proofs.Run.{next_of, found, front_of, back_of, both_ways, put_self, front_reply_gone, awaited_of, heard_firm, heard_ends, after}
 use Rattle.server_law.proofs.Logic.{either}
 use Rattle.session_law.specs.Sessions.{RankedUp, PresentAccepted, LiveAccepted, Making, is_ops, makes_session}
-use Rattle.create_law.specs.Creates.{Seen, seen, Creates, Restarts, guid_at, named, is_current, is_barred, refuses, outlives, is_of_dialog, is_of_ask}
+use Rattle.create_law.specs.Creates.{Seen, seen, Creates, Restarts, guid_at, named, is_current, is_barred, refuses, is_of_dialog, is_of_ask}
 use Rattle.create_law.proofs.Facing.{once_of}
 use Rattle.create_law.proofs.Moved.{counted}
 use Rattle.create_law.proofs.Says.{SayFor}

@@ -1,31 +1,27 @@
 -- What the reply to a create's own message says of it, for whichever check answers.
-use Rattle.std.proofs.lemmas.Bool.{eqb-false}
-use Rattle.std.proofs.Common.{eqb-true, ◌≡◌, ◌≢◌, ℕ, ◌+◌, ◌≤◌, ◌<◌, ◌==◌, nat_le, Bool, true, false, not, ◌&&◌, ◌||◌, if◌then◌else◌, List, [], ◌∷◌, Option, Some, None, slice_get, is_some, refl, arith, sym, ◌∙◌, ap, subst, zero, suc, ◌⊎◌, inl, inr}
+use Rattle.std.proofs.Common.{◌≡◌, ℕ, ◌≤◌, ◌==◌, nat_le, Bool, true, false, not, ◌&&◌, ◌||◌, List, [], ◌∷◌, Option, Some, None, is_some, refl, arith, sym, ◌∙◌, ap, subst, zero, suc}
 use Rattle.exchange_defs.specs.Table.{is_at}
-use Rattle.exchange_defs.specs.Texts.{same_name, upper}
-use Rattle.exchange_defs.specs.Status.{success, user_session_deleted, duplicate_objectid, no_memory, access_denied, insufficient_resources, sharing_violation, disk_full, network_name_deleted}
+use Rattle.exchange_defs.specs.Texts.{same_name}
+use Rattle.exchange_defs.specs.Status.{success, user_session_deleted, duplicate_objectid, insufficient_resources, sharing_violation, disk_full}
 use Rattle.exchange_defs.specs.Commands.{Command, Create, CreateRequest, Durable, create_form, path_form, form, deletes_on_close, is_setup}
-use Rattle.exchange_defs.specs.State.{Server, Message, Answer, Body, Reply, Open as OpenRow}
+use Rattle.exchange_defs.specs.State.{Server, Message, Reply}
 use Rattle.exchange_defs.specs.Files.{find}
 use Rattle.exchange_defs.specs.Opens.{deletes, mapped}
 use Rattle.exchange_defs.specs.CheckSetup.{tree_in}
 use Rattle.exchange_defs.specs.CheckCreate.{keeps_guid, max_guids, is_counted_out, share_names, shares, names, names_of_found, found_names, missing_names, action_of, refused_by, refused_create, after_names, new_check, refusal_check, live_check, guid_check, durable_check, reconnect_or_create}
-use Rattle.exchange_defs.specs.Check.{check, owed, formed, command_check, with_tree, in_tree, tree_command, has_session}
-use Rattle.exchange_defs.specs.Effects.{apply, attach, attached, next_open, open_row, new_file, guid_of}
+use Rattle.exchange_defs.specs.Check.{check, owed, formed, command_check, in_tree, tree_command, has_session}
+use Rattle.exchange_defs.specs.Effects.{apply, next_open, open_row, new_file, guid_of}
 use Rattle.exchange_defs.specs.Verdict.{Verdict, Refuse, KeepRefusal, Repeat, Make}
 use Rattle.exchange_defs.specs.Step.{without_room}
-use Rattle.exchange_defs.specs.Operations.{Op, durable_of, id_in}
-use Rattle.exchange_defs.specs.Client.{Client, guid_for}
-use Rattle.exchange_defs.specs.Network.{Conn, Sent, Received, Token, ForOp}
-use Rattle.exchange_defs.specs.Runs.{is_send_of}
-use Rattle.exchange_law.specs.Connections.{Connections, makes_open, its_request, create_at}
+use Rattle.exchange_defs.specs.Operations.{durable_of, id_in}
+use Rattle.exchange_defs.specs.Client.{Client}
+use Rattle.exchange_defs.specs.Network.{Token, ForOp}
+use Rattle.exchange_law.specs.Connections.{makes_open}
 use Rattle.server_law.proofs.Logic.{either, at_of}
-use Rattle.session_law.specs.Sessions.{is_ops, logon_user}
-use Rattle.create_law.specs.Creates.{Seen, seen, Creates, named, guid_at, own_guid, is_kept, is_current, is_barred, is_full, refuses, outlives, keeps_form, ActedKept, Made, Named, NamedGiven, NamedKind, FormActed, RefusedStatus}
+use Rattle.session_law.specs.Sessions.{logon_user}
+use Rattle.create_law.specs.Creates.{Seen, seen, named, guid_at, is_kept, is_current, is_barred, is_full, refuses, outlives, keeps_form, Made, Named, NamedGiven, NamedKind, FormActed, RefusedStatus}
 use Rattle.create_law.proofs.Moves.{make_new}
-use Rattle.create_law.proofs.Requests.{create_asked, asks_create, asks_durable, asks_new, asks_form, asks_to_keep, same_guid}
 use Rattle.create_law.proofs.Seeing.{make_seen}
-use Rattle.create_law.proofs.Facing.{Facing, rest, once_of}
 use Rattle.create_law.proofs.Moved.{counted}
 
 -- what a reply to the create's own message says

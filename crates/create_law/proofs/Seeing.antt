@@ -1,18 +1,18 @@
 -- What the server's effects do, as far as creates go.
-use Rattle.std.proofs.Common.{◌≡◌, ℕ, ◌+◌, ◌*◌, ◌==◌, Bool, true, false, not, ◌&&◌, if◌then◌else◌, List, Option, Some, None, is_some, refl, arith, sym, ◌∙◌, ap, subst}
-use Rattle.exchange_defs.specs.Table.{put, put2, is_at}
-use Rattle.exchange_defs.specs.Commands.{CreateRequest, Durable, SetupRequest, deletes_on_close}
+use Rattle.std.proofs.Common.{◌≡◌, ℕ, ◌+◌, Bool, true, false, if◌then◌else◌, Option, Some, None, refl, ◌∙◌, ap}
+use Rattle.exchange_defs.specs.Table.{put, put2}
+use Rattle.exchange_defs.specs.Commands.{CreateRequest, Durable, deletes_on_close}
 use Rattle.exchange_defs.specs.State.{Server, Message, Open}
-use Rattle.exchange_defs.specs.Files.{remove_file, mark_file}
-use Rattle.exchange_defs.specs.Opens.{id_of, drop_open, leave_open, marked_by, without_gone, goes, with_guid}
+use Rattle.exchange_defs.specs.Files.{mark_file}
+use Rattle.exchange_defs.specs.Opens.{drop_open, leave_open, marked_by, goes, with_guid}
 use Rattle.exchange_defs.specs.CheckCreate.{empties}
 use Rattle.exchange_defs.specs.CheckOpen.{is_late, is_slot}
-use Rattle.exchange_defs.specs.Effects.{reach, keep_refusal, attach, attached, keep_closed, keep_slot, change_file, make_open, file_made, open_row, new_file, next_open, guids_after, guid_of, end_session, end_if_named, add_session, guid_staying, leaves}
+use Rattle.exchange_defs.specs.Effects.{reach, keep_closed, keep_slot, change_file, make_open, open_row, new_file, next_open, guids_after, guid_of, end_session, guid_staying}
 use Rattle.exchange_defs.specs.Verdict.{Change, PutBytes, PutEnd, PutBasic, PutMark, PutPath, PutNothing}
-use Rattle.exchange_defs.specs.Step.{expire, add_mark, with_deadlines}
+use Rattle.exchange_defs.specs.Step.{expire, add_mark}
 use Rattle.server_law.proofs.Logic.{either}
 use Rattle.create_law.specs.Creates.{Seen, seen}
-use Rattle.create_law.proofs.Moves.{refuse_in, attach_to, make_new, leave_by, closed_by, shut_in, expire_by, goes_with, named_still, end_of, begin_of}
+use Rattle.create_law.proofs.Moves.{make_new, leave_by, closed_by, shut_in, expire_by, named_still, end_of}
 
 pub reach_seen : (s : Server) (m : Message) (o : ℕ) → seen (reach s m o) ≡ seen s
 reach_seen s m o = either (λ u. seen u ≡ seen s) (is_late s m o) _ _ (λ _. refl) (λ _. refl)

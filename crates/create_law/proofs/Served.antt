@@ -1,17 +1,14 @@
 -- The server's step keeps what holds of creates: where it takes a message, accepts a connection or hears of its end.
-use Rattle.std.proofs.lemmas.Bool.{eqb-false}
-use Rattle.std.proofs.Common.{eqb-true, ◌≡◌, ℕ, ◌+◌, ◌≤◌, ◌<◌, ◌==◌, nat_le, Bool, true, false, not, ◌&&◌, ◌||◌, if◌then◌else◌, List, [], ◌∷◌, ◌++◌, Option, Some, None, slice_get, is_some, refl, arith, sym, ◌∙◌, ap, subst, ◌⊎◌, inl, inr, length}
+use Rattle.std.proofs.Common.{◌≡◌, ℕ, ◌+◌, ◌<◌, nat_le, Bool, true, false, ◌&&◌, if◌then◌else◌, ◌++◌, Option, Some, None, slice_get, refl, arith, sym, ◌∙◌, ap, subst, inl, inr, length}
 use Rattle.exchange_defs.specs.Commands.{Command, Aside, Unreadable, Setup, Logoff, TreeConnect, TreeDisconnect, Create, Close, Flush, Read, Write, Lock, Ioctl, ListDirectory, QueryFile, QueryVolume, SetInfo, CreateRequest}
-use Rattle.exchange_defs.specs.State.{Server, Message, ServerEvent, Accept, Heard, End, Answer, Record}
-use Rattle.exchange_defs.specs.CheckSetup.{is_new}
-use Rattle.exchange_defs.specs.Check.{check}
+use Rattle.exchange_defs.specs.State.{Server, Message, ServerEvent, Accept, Heard, End, Answer}
 use Rattle.exchange_defs.specs.Records.{fits, origin_at}
-use Rattle.exchange_defs.specs.Effects.{apply, end_if_named, end_session}
+use Rattle.exchange_defs.specs.Effects.{apply, end_if_named}
 use Rattle.exchange_defs.specs.Verdict.{Verdict}
-use Rattle.exchange_defs.specs.Step.{step, table, expiring, written_down, with_deadlines, due, expire, expire_records, without_room, max_marks, max_connections, Ruling, TakesIn, TurnsAway, TakesOut, ruling, ruling_without_room, carried_out, connection_of, ends_with, forget_connection}
+use Rattle.exchange_defs.specs.Step.{step, table, expiring, with_deadlines, due, expire, expire_records, max_marks, max_connections, TakesIn, TurnsAway, ruling, ruling_without_room, carried_out, connection_of, ends_with}
 use Rattle.exchange_defs.specs.Operations.{durable_of}
 use Rattle.exchange_defs.specs.Client.{Client, guid_for}
-use Rattle.exchange_defs.specs.Network.{Conn, Sent, Received, Token, ForOp, answer_to}
+use Rattle.exchange_defs.specs.Network.{Conn, Sent, Token, ForOp, answer_to}
 use Rattle.exchange_defs.specs.Runs.{is_send_of}
 use Rattle.exchange_law.specs.Connections.{Connections, makes_open, create_at}
 use Rattle.server_law.specs.Fits.{OnPresent}
@@ -19,7 +16,7 @@ use Rattle.server_law.proofs.Logic.{either}
 use Rattle.server_law.proofs.Doors.{Before, Finds, by_verdict}
 use Rattle.server_law.proofs.Checked.{found}
 use Rattle.session_law.specs.Sessions.{LiveAccepted, RankedUp, PresentAccepted, MakingUnranked, SessionUsers, TreeUp, is_ops}
-use Rattle.create_law.specs.Creates.{Seen, seen, Creates, guid_at, outlives, is_current}
+use Rattle.create_law.specs.Creates.{Seen, seen, Creates, outlives}
 use Rattle.create_law.proofs.Requests.{create_asked, asks_create, asks_durable, asks_new, asks_form, asks_to_keep, same_guid}
 use Rattle.create_law.proofs.Seeing.{end_seen, expire_seen}
 use Rattle.create_law.proofs.Facing.{Facing, rest, expire_rest, is_creating, other_send, once_of}
@@ -107,9 +104,10 @@ stepped c conns a s now k x0 f fc i =
 
 aside : (c : Client) (conns : ℕ → Conn) (a : ℕ → ℕ) (s : Server) (now k status : ℕ) (x0 : Sent) → Connections c conns a → Facing c conns (rest s) k x0 → Creates c conns (seen s) a → x0.message.command ≡ Aside status
     → Good c conns a x0.token (answer_to s now x0.message (Aside status))
-aside c conns a s now k status x0 f fc i e =
-    (recount_creates c conns (seen s) a (counted a x0.token false) (λ h mk. quiet (is_send_of h x0.token) (a h)) i,
-    λ g tk mk. absurd (let o = other_send c conns a k x0 f fc.front (ap is_creating e) g mk in grind arith))
+aside c conns a s now k status x0 f fc i e = (
+  recount_creates c conns (seen s) a (counted a x0.token false) (λ h mk. quiet (is_send_of h x0.token) (a h)) i,
+  λ g tk mk. absurd (let o = other_send c conns a k x0 f fc.front (ap is_creating e) g mk in grind arith),
+)
   where
     quiet : (b : Bool) (n : ℕ) → (if b && false then n + 1 else n) ≡ n
     quiet b n = grind arith
@@ -160,9 +158,10 @@ pub accepts : (c : Client) (conns : ℕ → Conn) (a : ℕ → ℕ) (s : Server)
 accepts c conns a s now k i =
     by_event (λ v. Creates c conns v a) s now (Accept k)
     (λ t before. let j = creates_before c conns a s now t i before in
-    let b : Bool = nat_le max_connections (length t.connections) in
-    (either (λ r. Creates c conns (seen (carried_out t now r).server) a) b TurnsAway (TakesIn k) (λ _. j) (λ _. j),
-    either (λ r. Creates c conns (seen (carried_out t now (ruling_without_room r)).server) a) b TurnsAway (TakesIn k) (λ _. j) (λ _. j)))
+    let b : Bool = nat_le max_connections (length t.connections) in (
+      either (λ r. Creates c conns (seen (carried_out t now r).server) a) b TurnsAway (TakesIn k) (λ _. j) (λ _. j),
+      either (λ r. Creates c conns (seen (carried_out t now (ruling_without_room r)).server) a) b TurnsAway (TakesIn k) (λ _. j) (λ _. j),
+    ))
 
 ends_named : (c : Client) (conns : ℕ → Conn) (a : ℕ → ℕ) (t : Server) (now : ℕ) (quiet : Bool) → RankedUp c conns → PresentAccepted c t → LiveAccepted c → Creates c conns (seen t) a → (u : Option ℕ) → Creates c conns (seen (end_if_named t now u quiet)) a
 ends_named c conns a t now quiet ranked here lives i None = i

@@ -1,8 +1,6 @@
 -- What the closed words say where a proof needs it.
-use Rattle.std.proofs.lemmas.Bool.{eqb-false}
 use Rattle.std.proofs.lemmas.Bool.Decides.{nat_tests}
-use Rattle.std.proofs.Common.{eqb-true, ◌≡◌, ℕ, ◌+◌, ◌*◌, ◌≤◌, ◌<◌, ◌==◌, nat_le, Bool, true, false, not, ◌&&◌, ◌||◌, if◌then◌else◌, Option, Some, None, is_some, refl, arith, sym, ◌∙◌, ap}
-use Rattle.exchange_defs.specs.CheckCreate.{max_guids}
+use Rattle.std.proofs.Common.{◌≡◌, ℕ, ◌+◌, Bool, true, false, if◌then◌else◌, refl, arith, sym, ◌∙◌, ap}
 use Rattle.exchange_defs.specs.Operations.{Op, Outcome, Unsettled, WasOk, WasRefused, NoSlot, NoOpen, Unknown, is_unsettled, is_ok, is_create, create_of, persists}
 use Rattle.exchange_defs.specs.Client.{Client, create_for, outcome_after_end, plain_after_end}
 use Rattle.exchange_defs.specs.Runs.{never_acted}

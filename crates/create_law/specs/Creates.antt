@@ -1,8 +1,8 @@
 -- What holds of the creates in every world that a run leads to, where each operation acted a g times: between the client's
 -- table, what waits, and what the server keeps of opens, their guids and refusals.
-use Rattle.std.specs.Prelude.{◌≡◌, ℕ, ◌+◌, ◌*◌, ◌≤◌, ◌<◌, ◌==◌, nat_le, Bool, true, false, not, ◌&&◌, ◌||◌, List, Option, Some, None, is_some, slice_get}
+use Rattle.std.specs.Prelude.{◌≡◌, ℕ, ◌+◌, ◌*◌, ◌≤◌, ◌<◌, ◌==◌, nat_le, Bool, true, false, not, ◌&&◌, ◌||◌, Option, Some, None, is_some, slice_get}
 use Rattle.exchange_defs.specs.Status.{success, user_session_deleted, duplicate_objectid, no_memory}
-use Rattle.exchange_defs.specs.Commands.{Command, Unreadable, Aside, Setup, Logoff, TreeConnect, TreeDisconnect, Create, Close, Flush, Read, Write, Lock, Ioctl, ListDirectory, QueryFile, QueryVolume, SetInfo, form}
+use Rattle.exchange_defs.specs.Commands.{Command, Aside, Setup, TreeConnect, Create, form}
 use Rattle.exchange_defs.specs.State.{Server, Open}
 use Rattle.exchange_defs.specs.Opens.{id_of}
 use Rattle.exchange_defs.specs.CheckCreate.{max_guids}
