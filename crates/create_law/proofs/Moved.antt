@@ -1,5 +1,5 @@
 -- Each verdict of the checks keeps what holds of creates.
-use Rattle.std.proofs.Common.{◌≡◌, ◌≢◌, ℕ, ◌+◌, ◌≤◌, ◌<◌, nat_le, Bool, true, false, not, ◌&&◌, if◌then◌else◌, List, Option, Some, None, slice_get, is_some, refl, arith, sym, ◌∙◌, ap, subst, zero, suc, ◌⊎◌, inl, inr}
+use Rattle.std.proofs.Common.{◌≡◌, ◌≢◌, ℕ, ◌+◌, ◌≤◌, ◌<◌, nat_le, Bool, true, false, not, ◌&&◌, if◌then◌else◌, List, Option, Some, None, slice_get, is_some, refl, arith, sym, ◌∙◌, ap, subst, ◌⊎◌, inl, inr}
 use Rattle.exchange_defs.specs.Status.{success}
 use Rattle.exchange_defs.specs.Commands.{Command, Create, Close, CreateRequest, Durable, SetupRequest, create_form, form}
 use Rattle.exchange_defs.specs.State.{Server, Message, Answer, Body}
@@ -17,7 +17,7 @@ use Rattle.server_law.proofs.Logic.{either}
 use Rattle.server_law.proofs.Found.{Facts, SessionFacts, MakeFacts, ShutFacts, AlterFacts, WriteFacts, SettingFacts}
 use Rattle.session_law.specs.Sessions.{is_ops}
 use Rattle.create_law.specs.Creates.{Seen, seen, Creates, named, guid_at, is_full, refuses, outlives, keeps_form, ActedKept, DeadRefused, BarredReply}
-use Rattle.create_law.proofs.Words.{guid_once}
+use Rattle.create_law.proofs.Words.{guid_once, zero_by}
 use Rattle.create_law.proofs.Moves.{shut_in}
 use Rattle.create_law.proofs.Requests.{create_asked, asks_create, asks_durable, asks_form, shuts_of, same_guid}
 use Rattle.create_law.proofs.Seeing.{reach_seen, slot_seen, change_seen, shut_seen, end_seen, make_seen}
@@ -113,10 +113,6 @@ owns c conns a t k x0 r found action g f front mf tk mk =
       unrefused = mf.new.no_refusal d dur;
       unfull = not_full r d (t.guids x0.message.session) dur mf.new.guids;
     }
-
-zero_by : (n : ℕ) → (1 ≤ n → true ≡ false) → n ≡ 0
-zero_by zero f = refl
-zero_by (suc n) f = absurd (let e = f (omega arith) in cc)
 
 idle_of : (c : Client) (conns : ℕ → Conn) (a : ℕ → ℕ) (t : Server) (k g : ℕ) (x0 : Sent) (r : CreateRequest) → ActedKept c conns (seen t) a → Own c g t x0.message r → slice_get (conns k).up 0 ≡ Some x0 → x0.token ≡ ForOp g → makes_open (c.op g) ≡ true
     → t.present x0.message.session ≡ true → a g ≡ 0

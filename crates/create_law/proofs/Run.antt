@@ -451,6 +451,9 @@ told_by w a k g y i f0 t mk =
       names = λ o s e. i.reply_of k 0 g o y f0 t mk s e;
     }
 
+ranked_behind : (c : Client) (conns : ℕ → Conn) (k : ℕ) (rest : List Received) → RankedUp c conns → RankedUp c (put conns k (take_front (conns k) rest))
+ranked_behind c conns k rest r = λ j n x h. let h' : slice_get (conns j).up n ≡ Some x = grind arith in r j n x h'
+
 takes_by : (w : World) (a : ℕ → ℕ) (k : ℕ) (y : Received) (rest : List Received) → (w.conns k).down ≡ y ∷ rest → Connections w.client w.conns a → Below w.client w.conns w.server → Making w.client → Holds w a → (t : Token) → y.token ≡ t
     → Holds (took_by (behind_reply w k rest) k y.reply y.place t) a
 takes_by w a k y rest is f b making i ForDialog e =
@@ -461,17 +464,11 @@ takes_by w a k y rest is f b making i (ForOp g) e =
     (subst (λ g. copies g (put w.conns k (take_front (w.conns k) rest) k) ≡ 0) (ap op_of e) (front_reply_gone w.conns k y rest is (f.once k (op_of y.token))))
     (λ _ mk. told_by w a k g y i f0 e mk)
     (λ _ ao st b. f.deleted k 0 g y f0 e ao st b)
-  where
-    ranked_behind : (c : Client) (conns : ℕ → Conn) (k : ℕ) (rest : List Received) → RankedUp c conns → RankedUp c (put conns k (take_front (conns k) rest))
-    ranked_behind c conns k rest r = λ j n x h. let h' : slice_get (conns j).up n ≡ Some x = grind arith in r j n x h'
 takes_by w a k y rest is f b making i (ForAttach g) e =
     took (behind_reply w k rest) a k g true y.reply y.place (behind_keeps w.client w.conns a k y rest is f) (behind_creates w.client w.conns (seen w.server) a k y rest is i) (ranked_behind w.client w.conns k rest b.ranked) b.here b.lives
     (subst (λ g. copies g (put w.conns k (take_front (w.conns k) rest) k) ≡ 0) (ap op_of e) (front_reply_gone w.conns k y rest is (f.once k (op_of y.token))))
     (λ q. absurd (cc))
     (λ q. absurd (cc))
-  where
-    ranked_behind : (c : Client) (conns : ℕ → Conn) (k : ℕ) (rest : List Received) → RankedUp c conns → RankedUp c (put conns k (take_front (conns k) rest))
-    ranked_behind c conns k rest r = λ j n x h. let h' : slice_get (conns j).up n ≡ Some x = grind arith in r j n x h'
 
 takes : (w : World) (a : ℕ → ℕ) (k : ℕ) → Connections w.client w.conns a → Below w.client w.conns w.server → Making w.client → Holds w a → (ys : List Received) → (w.conns k).down ≡ ys → Holds (take_reply w k ys) a
 takes w a k f b making i [] is = i

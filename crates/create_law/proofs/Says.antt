@@ -1,5 +1,5 @@
 -- What the reply to a create's own message says of it, for whichever check answers.
-use Rattle.std.proofs.Common.{◌≡◌, ℕ, ◌≤◌, ◌==◌, nat_le, Bool, true, false, not, ◌&&◌, ◌||◌, List, [], ◌∷◌, Option, Some, None, is_some, refl, arith, sym, ◌∙◌, ap, subst, zero, suc}
+use Rattle.std.proofs.Common.{◌≡◌, ℕ, ◌≤◌, ◌==◌, nat_le, Bool, true, false, not, ◌&&◌, ◌||◌, List, [], ◌∷◌, Option, Some, None, is_some, refl, arith, sym, ◌∙◌, ap, subst}
 use Rattle.exchange_defs.specs.Table.{is_at}
 use Rattle.exchange_defs.specs.Texts.{same_name}
 use Rattle.exchange_defs.specs.Status.{success, user_session_deleted, duplicate_objectid, insufficient_resources, sharing_violation, disk_full}
@@ -20,6 +20,7 @@ use Rattle.exchange_law.specs.Connections.{makes_open}
 use Rattle.server_law.proofs.Logic.{either, at_of}
 use Rattle.session_law.specs.Sessions.{logon_user}
 use Rattle.create_law.specs.Creates.{Seen, seen, named, guid_at, is_kept, is_current, is_barred, is_full, refuses, outlives, keeps_form, Made, Named, NamedGiven, NamedKind, FormActed, RefusedStatus}
+use Rattle.create_law.proofs.Words.{zero_by}
 use Rattle.create_law.proofs.Moves.{make_new}
 use Rattle.create_law.proofs.Seeing.{make_seen}
 use Rattle.create_law.proofs.Moved.{counted}
@@ -90,10 +91,6 @@ soft c t a g tk m now fresh = refuses_by c t a g tk m now duplicate_objectid ref
 
 deleted : (c : Client) (t : Server) (a : ℕ → ℕ) (g : ℕ) (tk : Token) (m : Message) (now : ℕ) → Says c t a g tk m now (Refuse user_session_deleted)
 deleted c t a g tk m now = refuses_by c t a g tk m now user_session_deleted refl (λ e. absurd (cc)) (λ e h. absurd (cc))
-
-zero_by : (n : ℕ) → (1 ≤ n → true ≡ false) → n ≡ 0
-zero_by zero f = refl
-zero_by (suc n) f = absurd (let e = f (omega arith) in cc)
 
 -- where the guid names nothing, and neither the session nor a mark tells of it, the create didn't act
 pub record Free (c : Client) (t : Server) (g x : ℕ) : Type 0 where

@@ -1,6 +1,6 @@
 -- What the closed words say where a proof needs it.
 use Rattle.std.proofs.lemmas.Bool.Decides.{nat_tests}
-use Rattle.std.proofs.Common.{◌≡◌, ℕ, ◌+◌, Bool, true, false, if◌then◌else◌, refl, arith, sym, ◌∙◌, ap}
+use Rattle.std.proofs.Common.{◌≡◌, ℕ, ◌+◌, ◌≤◌, Bool, true, false, if◌then◌else◌, refl, zero, suc, arith, sym, ◌∙◌, ap}
 use Rattle.exchange_defs.specs.Operations.{Op, Outcome, Unsettled, WasOk, WasRefused, NoSlot, NoOpen, Unknown, is_unsettled, is_ok, is_create, create_of, persists}
 use Rattle.exchange_defs.specs.Client.{Client, create_for, outcome_after_end, plain_after_end}
 use Rattle.exchange_defs.specs.Runs.{never_acted}
@@ -52,3 +52,8 @@ by_outcome c g make own (Unknown why) = record { never = refl; ok = refl; still 
 pub after_end : (c : Client) (g : ℕ) → makes_open (c.op g) ≡ true → AfterEnd c g (c.outcome g) (outcome_after_end c g (c.outcome g))
 unfolding makes_open
 after_end c g make = by_outcome c g make (own_create g (c.op g) make) (c.outcome g)
+
+-- a count that can't be above 0
+pub zero_by : (n : ℕ) → (1 ≤ n → true ≡ false) → n ≡ 0
+zero_by zero f = refl
+zero_by (suc n) f = absurd (let e = f (omega arith) in cc)
