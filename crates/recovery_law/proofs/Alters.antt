@@ -41,9 +41,6 @@ Allows s f PutNothing = Unit {0}
 file_by : (e i : Bool) → e ≡ true → i ≡ false → (e && not i) ≡ true
 file_by e i a b = grind arith
 
-both : (x y : Bool) → x ≡ true → y ≡ true → (x && y) ≡ true
-both x y e f = grind arith
-
 still_file : (d s : Server) (f : ℕ) → Files d s → exists s f ≡ true → is_directory s f ≡ false → is_file d f ≡ true
 unfolding is_file
 still_file d s f h there plain = file_by (exists d f) (is_directory d f) (same_exists d s h.entries f ∙ there) (same_directory d s h.directory f ∙ plain)

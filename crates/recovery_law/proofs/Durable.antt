@@ -7,7 +7,7 @@ use Rattle.exchange_defs.specs.Records.{entry_bytes}
 use Rattle.exchange_defs.specs.Opens.{goes, without_gone}
 use Rattle.exchange_defs.specs.Fold.{nothing_yet, no_open, full_room, persistent_in, stays, stays_by_guid, ranges_that_stay, durable, fold, fold_from, sweep, begin_epoch, set_version, recovery_records, recovered}
 use Rattle.server_law.specs.Fits.{Listed}
-use Rattle.server_law.proofs.Logic.{either}
+use Rattle.server_law.proofs.Logic.{either, both}
 use Rattle.recovery_law.specs.Recovers.{staying, kept_ranges, kept_guid, Opens, Mirrors, Recovers}
 use Rattle.recovery_law.proofs.Lists.{ext, ext2, at_head, in_tail}
 use Rattle.recovery_law.proofs.Ranges.{kept_that_stay, kept_twice}
@@ -40,9 +40,6 @@ rows_agree : (rows opened : ℕ → Open) (os : List ℕ) → ((o : ℕ) → has
 unfolding persistent_in
 rows_agree rows opened [] h = refl
 rows_agree rows opened (x ∷ xs) h = let here = h x (at_head x xs) in let rest = rows_agree rows opened xs (λ o e. h o (in_tail o x xs e)) in grind arith
-
-both : (x y : Bool) → x ≡ true → y ≡ true → (x && y) ≡ true
-both x y e f = grind arith
 
 pub same_opens : (d s : Server) → Listed s → Opens d s → persistent_in d.opened d.opens ≡ persistent_in s.opened s.opens
 same_opens d s l h =

@@ -12,6 +12,7 @@ use Rattle.server_law.specs.Fits.{Listed, OpenFiles, Ascending, is_ascending}
 use Rattle.recovery_law.specs.Recovers.{staying, kept_ranges, kept_guid, FilesAgree, Opens, Counts, Mirrors}
 use Rattle.recovery_law.proofs.Lists.{ext, has_without, has_file, at_head, in_tail, persistent_staying, has_persistent}
 use Rattle.recovery_law.proofs.Ranges.{kept_ranges_staying}
+use Rattle.recovery_law.proofs.Files.{put_same_bool}
 use Rattle.recovery_law.proofs.Leaves.{marked_if, fold_append, removable, removed, may_mark, marked_record, plain_records, records_apart}
 
 -- ---- the session's opens, each once
@@ -124,9 +125,6 @@ unfolding file_has_open
 chain_none s0 d s f h none = none_within d.opened s.opened d.opens s.opens f (λ p e. let t = h.subset p e in (t.0, t.1)) none
 
 -- the file is marked
-put_same_bool : (f : ℕ → Bool) (k : ℕ) → f k ≡ true → (q : ℕ) → f q ≡ put f k true q
-put_same_bool f k h q = grind arith
-
 chain_marks : (s0 d s : Server) (origin : Origin) (o f : ℕ) (b c : Bool) → s.marked f ≡ c → exists s f ≡ true → (b ≡ true → f ≢ 0) → Chain s0 d s
     → Chain s0 (fold_from d (if b && not c then DeleteRecord origin f true ∷ [] else [])) (marked_if s f b)
 unfolding fold_from exists

@@ -43,7 +43,7 @@ pub marks_file : (d s : Server) (f : ℕ) (flag : Bool) → Mirrors d s → Mirr
 marks_file d s f flag h =
     (record { entries = h.0.entries; next_file = h.0.next_file; directory = h.0.directory; marked = ap (λ x. put x f flag) h.0.marked; basic = h.0.basic; content = h.0.content }, h.1, h.2)
 
-put_same_bool : (f : ℕ → Bool) (k : ℕ) → f k ≡ true → (q : ℕ) → f q ≡ put f k true q
+pub put_same_bool : (f : ℕ → Bool) (k : ℕ) → f k ≡ true → (q : ℕ) → f q ≡ put f k true q
 put_same_bool f k h q = grind arith
 
 -- a file that is marked already

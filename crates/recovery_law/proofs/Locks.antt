@@ -9,12 +9,9 @@ use Rattle.exchange_defs.specs.CheckOpen.{is_slot, file_of}
 use Rattle.exchange_defs.specs.Records.{origin_of}
 use Rattle.exchange_defs.specs.Effects.{keep_slot, set_ranges, recorded_index, lock_records}
 use Rattle.exchange_defs.specs.Fold.{with_record, fold_from, lock_granted}
+use Rattle.server_law.proofs.Logic.{either, both}
 use Rattle.recovery_law.specs.Recovers.{staying, kept_ranges, Mirrors}
 use Rattle.recovery_law.proofs.Ranges.{changed_kept, changed_plain}
-
-either : {X : Type 0} (P : X → Type 0) (b : Bool) (x y : X) → (b ≡ true → P x) → (b ≡ false → P y) → P (if b then x else y)
-either P true x y f g = f refl
-either P false x y f g = g refl
 
 -- ---- slots
 
@@ -107,9 +104,6 @@ index_fits index = either (λ x. nat_le x 64 ≡ true) (is_slot index) index 0 (
 
 not_both : (x : Bool) → x ≡ true → not x ≡ false
 not_both x e = grind arith
-
-both : (x y : Bool) → x ≡ true → y ≡ true → (x && y) ≡ true
-both x y e f = grind arith
 
 other : (x y : ℕ) → x ≢ y → (x == y) ≡ false
 other x y n = grind arith

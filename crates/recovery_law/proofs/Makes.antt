@@ -13,6 +13,7 @@ use Rattle.exchange_defs.specs.Effects.{guid_of, is_persistent, timeout_asked, n
 use Rattle.exchange_defs.specs.Fold.{with_record, fold_from, may_make, may_restore, may_have_open, may_create, restored_row, restore, created_file}
 use Rattle.server_law.specs.Fits.{Listed, GuidOpen, RangeOwners, OpenIds}
 use Rattle.server_law.proofs.Found.{MakeFacts, ThereFacts}
+use Rattle.server_law.proofs.Logic.{both}
 use Rattle.recovery_law.specs.Recovers.{staying, kept_guid, Files, Mirrors}
 use Rattle.recovery_law.proofs.Lists.{length_persistent}
 use Rattle.recovery_law.proofs.Guards.{same_exists, same_directory, same_find, same_parent}
@@ -213,9 +214,6 @@ restores d s m r found action facts i h kept =
     (less (length d.opens) max_opens (subst (λ (os : List ℕ). length os < max_opens) (sym h.1.opens) (omega arith)))
 
 -- ---- both
-
-both : (x y : Bool) → x ≡ true → y ≡ true → (x && y) ≡ true
-both x y e f = grind arith
 
 create_record : (d : Server) (origin : Origin) (action f : ℕ) (path : List ℕ) (attributes : ℕ) (is_dir : Bool) (time : ℕ) (opened : Option NewOpen) → may_create d action f path ≡ true → may_have_open d opened ≡ true
     → with_record d (CreateRecord origin action f path attributes is_dir time opened) ≡ restore (created_file d action f path attributes is_dir time) f action opened

@@ -12,7 +12,7 @@ use Rattle.exchange_defs.specs.CheckOpen.{target_of, file_of, is_slot}
 use Rattle.exchange_defs.specs.Effects.{keep_slot, set_ranges}
 use Rattle.exchange_defs.specs.Step.{add_mark, max_marks}
 use Rattle.exchange_defs.specs.Fold.{nothing_yet, with_record, fold_from, fold, sweep, begin_epoch, set_version, may_create, may_have_open, restore, created_file, is_file, may_rename, may_remove, lock_granted, lock_recorded, shut_recorded, recovery_records, recovered}
-use Rattle.server_law.proofs.Logic.{either}
+use Rattle.server_law.proofs.Logic.{either, both}
 use Rattle.recovery_law.specs.Recovers.{staying, kept_guid, Files, Opens, Recovers}
 use Rattle.recovery_law.specs.Restarted.{Bare, Restarted, EntriesLeft}
 use Rattle.server_law.specs.Fits.{Listed}
@@ -272,14 +272,11 @@ restarted s rs h =
 both_of : (x y : Bool) → (x && y) ≡ true → x ≡ true × y ≡ true
 both_of x y e = (grind arith, grind arith)
 
-has_both : (x y : Bool) → x ≡ true → y ≡ true → (x && y) ≡ true
-has_both x y e f = grind arith
-
 open_there : (d s : Server) (o : ℕ) → Listed s → Opens d s → staying s.standing s.opened o ≡ true → file_has_open d (s.opened o).file ≡ true
 unfolding file_has_open
 open_there d s o l h stays =
     let t = both_of (s.standing o) (s.opened o).persistent stays in
-    let there = ap (has o) h.opens ∙ has_persistent s.opened o s.opens ∙ has_both (has o s.opens) (s.opened o).persistent (l o ∙ t.0) t.1 in
+    let there = ap (has o) h.opens ∙ has_persistent s.opened o s.opens ∙ both (has o s.opens) (s.opened o).persistent (l o ∙ t.0) t.1 in
     subst (λ (r : Open). is_filled (opens_in d.opened d.opens r.file) ≡ true) (h.opened o stays) (has_file d.opened o d.opens there)
 
 stays_unmarked : (m o : Bool) → m ≡ false → (m && not o) ≡ false
