@@ -11,6 +11,9 @@ pub mod Serving
 pub mod Table
 pub mod Words
 pub mod Written
+pub mod Restoring
+pub mod Sorted
+pub mod KindsAlways
 pub mod Same
 pub mod Moved
 pub mod Opened

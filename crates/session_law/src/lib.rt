@@ -6,6 +6,7 @@
 
 ghost use Rattle.std.specs.Prelude.{List};
 ghost use Rattle.exchange_defs.specs.Network.{Event, Settings, run, start};
+ghost use Rattle.session_law.specs.Kinds.{Kinds};
 ghost use Rattle.session_law.specs.Sessions.{Sessions};
 
 /// On every run, behind every event, the client's session, what waits and the server's sessions fit together (each part
@@ -13,7 +14,9 @@ ghost use Rattle.session_law.specs.Sessions.{Sessions};
 /// is live it is that one; each message of an operation is of a session that the client accepted, and on an open
 /// connection of the live one, as is each reply there; the sequences that wait are below 32,768 and, of the live session,
 /// at most the client's; each session and each open is of the client's user; and while a session is there, so is the tree
-/// that its operations' messages name.
+/// that its operations' messages name. And each session's tree is that of the pipes exactly where the client's share is
+/// (each part of `Kinds`), and then no open stands, also behind a restart.
 pub fn sessions_law()
     ensures fit { (settings : Settings) (events : List Event) → Sessions (run events (start settings)).client (run events (start settings)).conns (run events (start settings)).server }
+    ensures kinds { (settings : Settings) (events : List Event) → Kinds (run events (start settings)).client (run events (start settings)).conns (run events (start settings)).server }
 {}
