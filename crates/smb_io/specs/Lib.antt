@@ -1,2 +1,3 @@
+pub mod Disk
 pub mod Faults
 pub mod Memory

@@ -16,3 +16,9 @@ pub record SinkState : Type 0 where
 -- In a plan 1 stands for a call that fails; calls past its end do not fail.
 abbrev pub next_fails : List ℕ → Bool
 next_fails plan = slice_index plan 0 == 1
+
+-- A disk: its bytes, what is left of the plan of its faults, and how often it failed.
+pub record DiskState : Type 0 where
+  pub bytes : List ℕ
+  pub failing : List ℕ
+  pub faults : ℕ

@@ -5,20 +5,28 @@
 //! its bytes where it knows them.
 #![tactic(auto)]
 
+mod address;
+mod disk;
 mod failed;
+mod mem_disk;
 mod mem_sink;
 mod mem_source;
 mod plan;
 mod sink;
 mod source;
+mod std_disk;
 mod std_sink;
 mod std_source;
 
+pub use address::Address;
+pub use disk::Disk;
 pub use failed::Failed;
+pub use mem_disk::MemDisk;
 pub use mem_sink::MemSink;
 pub use mem_source::MemSource;
 pub use sink::Sink;
 pub use source::Source;
+pub use std_disk::StdDisk;
 pub use std_sink::StdSink;
 pub use std_source::StdSource;
 

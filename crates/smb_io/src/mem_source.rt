@@ -74,7 +74,7 @@ impl Source for MemSource {
 }
 
 // Copies as much as fits of the front of `from`.
-fn copy_front(from: &[u8], into: &mut [u8]) -> usize
+pub(crate) fn copy_front(from: &[u8], into: &mut [u8]) -> usize
     ensures count { result ≡ min (length into.old) (length from.now) }
     ensures front { take result into.new ≡ take result from.now }
     ensures length { length into.new ≡ length into.old }

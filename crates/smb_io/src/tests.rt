@@ -1,5 +1,6 @@
-use crate::{Failed, MemSink, MemSource, Sink, Source, StdSink, StdSource};
+use crate::{Disk, Failed, MemDisk, MemSink, MemSource, Sink, Source, StdDisk, StdSink, StdSource};
 use smb_bytes::Bytes;
+use std::fs::OpenOptions;
 use std::io;
 use std::io::{ErrorKind, Read, Write};
 use std::test::Fail;
@@ -79,5 +80,43 @@ fn readers_and_writers_of_the_library_are_adapted(rt: HostRuntime) -> Result<(),
         "a write of nothing is a fault"
     );
     assert_eq!(rt; sink.write(b""), Ok(0));
+    Ok(())
+}
+
+// Writes past the end and over what is there, reads and cuts, and counts one planned failure.
+fn drive<D: Disk>(disk: &mut D) -> Result<([u8; 6], u64), Failed> {
+    disk.write_at(2, b"abcd")?;
+    disk.write_at(3, b"XY")?;
+    disk.sync()?;
+    let mut into = [9u8; 6];
+    let count = disk.read(1, &mut into)?;
+    into[5] = count as u8;
+    disk.cut(4)?;
+    disk.cut(9)?;
+    Ok((into, disk.length()?))
+}
+
+#[test]
+fn a_disk_in_memory_writes_reads_and_cuts(rt: HostRuntime) -> Result<(), Fail> {
+    let alloc = rt.alloc();
+    let failing = Bytes::from_slice(alloc, &[1])?;
+    let mut disk = MemDisk::new(alloc, Bytes::new(alloc), failing)?;
+    assert_eq!(rt; disk.sync(), Err(Failed));
+    assert_eq!(rt; disk.fault_count(), 1);
+    assert_eq!(rt; drive(&mut disk), Ok((*b"\0aXYd\x05", 4)));
+    assert_eq!(rt; disk.bytes(), b"\0\0aX".as_slice());
+    Ok(())
+}
+
+#[test]
+fn a_file_is_a_disk(rt: HostRuntime) -> Result<(), Fail> {
+    let file = OpenOptions::new()
+        .read(true)
+        .write(true)
+        .create(true)
+        .open(&rt, "disk")?;
+    let mut disk = StdDisk::new(file);
+    assert_eq!(rt; drive(&mut &mut disk), Ok((*b"\0aXYd\x05", 4)));
+    assert_eq!(rt; disk.fault_count(), 0);
     Ok(())
 }
