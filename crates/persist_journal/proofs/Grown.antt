@@ -1,0 +1,42 @@
+-- A journal that one more body was added to.
+use Rattle.std.proofs.Common.{◌≡◌, ◌≢◌, inl, inr, ℕ, ◌+◌, List, [], ◌∷◌, ◌++◌, length, sym, ◌∙◌, ap, arith, append_assoc, length-append, true, false, Ok, Err, Result}
+use Rattle.std.proofs.lemmas.List.{append-nil}
+use Rattle.std.specs.Result.{OnOk, is_err}
+use Rattle.wire_defs.specs.Places.{le}
+use Rattle.wire_defs.proofs.Numbers.{length-le}
+use Rattle.journal_defs.specs.Grammar.{mark, entry, opened, front}
+use Rattle.persist_journal.specs.Entry.{IsClosedOrOpened}
+use Rattle.persist_journal.specs.Journal.{BeforeOrAfter}
+
+pub opened-push : (bodies : List (List ℕ)) (body rest : List ℕ) → opened bodies ++ 1 ∷ (entry body ++ rest) ≡ opened (bodies ++ body ∷ []) ++ rest
+opened-push [] body rest = ap (λ (l : List ℕ). 1 ∷ (l ++ rest)) (sym (append-nil (entry body)))
+opened-push (b ∷ bodies) body rest =
+    ap (λ (l : List ℕ). 1 ∷ l) (append_assoc (entry b) (opened bodies) (1 ∷ (entry body ++ rest)))
+    ∙ ap (λ (l : List ℕ). 1 ∷ (entry b ++ l)) (opened-push bodies body rest)
+    ∙ ap (λ (l : List ℕ). 1 ∷ l) (sym (append_assoc (entry b) (opened (bodies ++ body ∷ [])) rest))
+
+-- an entry whose gate is open belongs to what stands before the next gate
+pub front-push : (bodies : List (List ℕ)) (body rest : List ℕ) → front bodies ++ 1 ∷ (entry body ++ rest) ≡ front (bodies ++ body ∷ []) ++ rest
+front-push bodies body rest =
+    append_assoc mark (opened bodies) (1 ∷ (entry body ++ rest))
+    ∙ ap (λ (l : List ℕ). mark ++ l) (opened-push bodies body rest)
+    ∙ sym (append_assoc mark (opened (bodies ++ body ∷ [])) rest)
+
+pub length-front-push : (bodies : List (List ℕ)) (body : List ℕ) → length (front (bodies ++ body ∷ [])) ≡ length (front bodies) + 5 + length body
+length-front-push bodies body =
+    let sizes : length (front bodies ++ 1 ∷ (entry body ++ [])) ≡ length (front (bodies ++ body ∷ []) ++ []) = ap length (front-push bodies body []) in
+    let left : length (front bodies ++ 1 ∷ (entry body ++ [])) ≡ length (front bodies) + length (1 ∷ (entry body ++ [])) = length-append (front bodies) (1 ∷ (entry body ++ [])) in
+    let middle : length (entry body ++ []) ≡ length (entry body) = ap length (append-nil (entry body)) in
+    let inner : length (entry body) ≡ length (le 4 (length body)) + length body = length-append (le 4 (length body)) body in
+    let four : length (le 4 (length body)) ≡ 4 = length-le 4 (length body) in
+    let right : length (front (bodies ++ body ∷ []) ++ []) ≡ length (front (bodies ++ body ∷ [])) = ap length (append-nil (front (bodies ++ body ∷ []))) in
+    omega arith
+
+-- a gate that is closed, or open before a whole entry
+pub either : (bodies : List (List ℕ)) (body bytes : List ℕ) → IsClosedOrOpened (front bodies) (entry body ++ 0 ∷ []) bytes → BeforeOrAfter bodies body bytes
+either bodies body bytes (inl stays) = inl (inr (record { gate = stays.gate; rest = stays.rest; spelled = stays.file; closed = stays.closed }))
+either bodies body bytes (inr whole) = inr (inr (record { gate = 0; rest = []; spelled = whole ∙ front-push bodies body (0 ∷ []); closed = omega arith }))
+
+pub ok_part : {T E : Type 0} (r : Result T E) (P : Type 0) → is_err r ≡ false → OnOk r P → P
+ok_part (Ok x) P ok holds = holds
+ok_part (Err e) P ok holds = absurd (cc ok)

@@ -1,0 +1,4 @@
+mod Begin
+mod Crash
+mod Grown
+mod Moments

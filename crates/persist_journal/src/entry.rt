@@ -1,0 +1,26 @@
+// One entry, behind its gate.
+ghost use Rattle.std.specs.Prelude.{◌≡◌, ℕ, ◌<◌, ◌^◌, List, [], ◌∷◌, ◌++◌, length, OnOk, OnErr};
+ghost use Rattle.wire_defs.specs.Places.{le};
+ghost use Rattle.smb_io.specs.Disk.{Only};
+ghost use Rattle.smb_io.specs.Faults.{CountsFault};
+ghost use Rattle.journal_defs.specs.Grammar.{entry};
+ghost use Rattle.journal_defs.specs.Moments.{LeavesOnly};
+ghost use Rattle.persist_journal.specs.Entry.{EndsAt, IsClosedOrOpened};
+
+use smb_io::{Disk, Failed};
+
+/// Writes what comes behind the closed gate at the end, and opens the gate when that is on the disk.
+pub(crate) fn write_entry<D: Disk>(disk: &mut D, gate: u64, behind: &[u8]) -> Result<(), Failed>
+    requires { gate < 2 ^ 63 }
+    ensures done { D.told → (front : List ℕ) (shut : ℕ) → EndsAt gate front shut (D.seen disk.old) → Only (D.seen disk.old) (D.may_leave disk.old)
+        → OnOk result ((D.seen disk.new ≡ front ++ 1 ∷ behind.now) × Only (D.seen disk.new) (D.may_leave disk.new)) }
+    ensures any_moment { D.told → (front : List ℕ) (shut : ℕ) → EndsAt gate front shut (D.seen disk.old) → Only (D.seen disk.old) (D.may_leave disk.old)
+        → LeavesOnly D.moment D.left_since disk.old disk.new (IsClosedOrOpened front behind.now) }
+    ensures cause { CountsFault (D.faults disk.old) (D.faults disk.new) result }
+{
+    disk.write_at(gate + 1, behind)?;
+    disk.sync()?;
+    disk.write_at(gate, &[1])?;
+    disk.sync()?;
+    Ok(())
+}
