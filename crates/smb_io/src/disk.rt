@@ -78,6 +78,9 @@ pub trait Disk {
 
     /// Since this moment there is no other.
     ghost only_now: { (disk : Self) (c : List ℕ) → left_since disk (moment disk) c → may_leave disk c };
+
+    /// What a read gives is one of the things that a crash may leave.
+    ghost seen_may_stay: { (disk : Self) → told → may_leave disk (seen disk) };
 }
 
 impl<D: Disk> Disk for &mut D {
@@ -96,6 +99,8 @@ impl<D: Disk> Disk for &mut D {
     ghost counts_now = { λ d t c le now. D.counts_now d.now t c le now };
 
     ghost only_now = { λ d c left. D.only_now d.now c left };
+
+    ghost seen_may_stay = { λ d told. D.seen_may_stay d.now told };
 
     fn fault_count(&self) -> u64 {
         (**self).fault_count()

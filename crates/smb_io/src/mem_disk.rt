@@ -1,5 +1,5 @@
 // A disk in memory.
-ghost use Rattle.std.specs.Prelude.{◌≡◌, ◌↔◌, ◌+◌, ◌-◌, ◌≤◌, ◌++◌, min, length, take, drop, replicate, IsTrue, IsErr, IfOk, OnOk, OnErr};
+ghost use Rattle.std.specs.Prelude.{◌≡◌, ◌↔◌, ◌+◌, ◌-◌, ◌≤◌, ◌++◌, min, length, take, drop, replicate, IsTrue, IsErr, IfOk, OnOk, OnErr, refl};
 ghost use Rattle.smb_io.specs.Disk.{ReadsAt, WritesAt, Torn, CutShort, Follows, Elapses};
 ghost use Rattle.smb_io.specs.Faults.{CountsFault, CountsWhere};
 ghost use Rattle.smb_io.specs.Memory.{next_fails};
@@ -134,6 +134,8 @@ impl Disk for MemDisk {
     ghost counts_now = { λ _ _ _ _ now. now };
 
     ghost only_now = { λ _ _ left. left };
+
+    ghost seen_may_stay = { λ _ _. refl };
 
     fn fault_count(&self) -> u64 {
         self.faults

@@ -63,6 +63,8 @@ impl Disk for StdDisk {
 
     ghost only_now = { λ _ _ _. tt };
 
+    ghost seen_may_stay = { λ _ _. tt };
+
     fn fault_count(&self) -> u64 {
         self.faults
     }
