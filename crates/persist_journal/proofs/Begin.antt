@@ -5,6 +5,7 @@ use Rattle.smb_io.specs.Disk.{WritesAt, Torn, Follows, Only, Elapses}
 use Rattle.journal_defs.specs.Grammar.{mark, StandsFor}
 use Rattle.journal_defs.specs.Moments.{LeavesOnly}
 use Rattle.persist_journal.specs.Entry.{IsShort}
+use Rattle.persist_journal.proofs.Moments.{weakened}
 
 -- a write that ends within nine bytes leaves a short disk short
 torn_short : (at n : ℕ) (old c : List ℕ) → at + n ≤ 9 → IsShort old → Torn at n old c → IsShort c
@@ -16,24 +17,8 @@ short_write at n before after fits short follows c now =
     let from = follows c now in torn_short at n from.0 c fits (short from.0 from.1) from.2
 
 module _ {D : Type 0} (moment : D → ℕ) (left_since : D → ℕ → List ℕ → Type 0) where
-  -- two runs in a row
-  pub joined : (old mid new : D) (P : List ℕ → Type 0) → LeavesOnly moment left_since old mid P → LeavesOnly moment left_since mid new P → LeavesOnly moment left_since old new P
-  joined old mid new P first second = record {
-    later = omega (arith, first.later, second.later);
-    each = λ c left. ⊎_elim (first.each c) (λ here. here) (second.before (moment old) c first.later left);
-    before = λ t c le left. ⊎_elim (first.before t c le) (λ here. inr here) (second.before t c (omega (arith, le, first.later)) left);
-  }
-
-  -- the same run, of which less is said
-  pub weakened : (old new : D) (P Q : List ℕ → Type 0) → ((c : List ℕ) → P c → Q c) → LeavesOnly moment left_since old new P → LeavesOnly moment left_since old new Q
-  weakened old new P Q says run = record {
-    later = run.later;
-    each = λ c left. says c (run.each c left);
-    before = λ t c le left. ⊎_elim (λ was. inl was) (λ here. inr (says c here)) (run.before t c le left);
-  }
-
   pub no_bodies : (old new : D) → LeavesOnly moment left_since old new IsShort → LeavesOnly moment left_since old new (λ c. StandsFor c [])
-  no_bodies old new run = weakened old new IsShort (λ c. StandsFor c []) (λ c short. inl (short, refl)) run
+  no_bodies old new run = weakened moment left_since old new IsShort (λ c. StandsFor c []) (λ c short. inl (short, refl)) run
 
 -- the zeros, and the closed gate behind them
 pub blank_done : (old one two : List ℕ) → length old ≤ 9 → WritesAt old 0 (replicate 8 0) one → WritesAt one 8 (0 ∷ []) two → two ≡ replicate 8 0 ++ 0 ∷ []

@@ -1,11 +1,11 @@
 -- A journal that one more body was added to.
-use Rattle.std.proofs.Common.{◌≡◌, ◌≢◌, inl, inr, ℕ, ◌+◌, List, [], ◌∷◌, ◌++◌, length, sym, ◌∙◌, ap, arith, append_assoc, length-append, true, false, Ok, Err, Result}
+use Rattle.std.proofs.Common.{◌≡◌, ◌≢◌, inl, inr, ℕ, ◌+◌, ◌^◌, ◌<◌, List, [], ◌∷◌, ◌++◌, length, sym, ◌∙◌, ap, arith, append_assoc, length-append, true, false, Ok, Err, Result}
 use Rattle.std.proofs.lemmas.List.{append-nil}
 use Rattle.std.specs.Result.{OnOk, is_err}
 use Rattle.wire_defs.specs.Places.{le}
 use Rattle.wire_defs.proofs.Numbers.{length-le}
-use Rattle.journal_defs.specs.Grammar.{mark, entry, opened, front}
-use Rattle.persist_journal.specs.Entry.{IsClosedOrOpened}
+use Rattle.journal_defs.specs.Grammar.{mark, entry, opened, front, AllFit, Holds}
+use Rattle.persist_journal.specs.Entry.{StaysClosed, IsClosedOrOpened}
 use Rattle.persist_journal.specs.Journal.{BeforeOrAfter}
 
 pub opened-push : (bodies : List (List ℕ)) (body rest : List ℕ) → opened bodies ++ 1 ∷ (entry body ++ rest) ≡ opened (bodies ++ body ∷ []) ++ rest
@@ -32,10 +32,18 @@ length-front-push bodies body =
     let right : length (front (bodies ++ body ∷ []) ++ []) ≡ length (front (bodies ++ body ∷ [])) = ap length (append-nil (front (bodies ++ body ∷ []))) in
     omega arith
 
+pub all_fit_push : (bodies : List (List ℕ)) (body : List ℕ) → AllFit bodies → length body < 2 ^ 32 → AllFit (bodies ++ body ∷ [])
+all_fit_push [] body fit small = (small, tt)
+all_fit_push (b ∷ bodies) body fit small = (fit.0, all_fit_push bodies body fit.1 small)
+
+-- a gate that stays closed behind these bodies
+pub stands : (bodies : List (List ℕ)) (bytes : List ℕ) → AllFit bodies → StaysClosed (front bodies) bytes → Holds bytes bodies
+stands bodies bytes fit stays = record { gate = stays.gate; rest = stays.rest; spelled = stays.file; closed = stays.closed; fit = fit }
+
 -- a gate that is closed, or open before a whole entry
-pub either : (bodies : List (List ℕ)) (body bytes : List ℕ) → IsClosedOrOpened (front bodies) (entry body ++ 0 ∷ []) bytes → BeforeOrAfter bodies body bytes
-either bodies body bytes (inl stays) = inl (inr (record { gate = stays.gate; rest = stays.rest; spelled = stays.file; closed = stays.closed }))
-either bodies body bytes (inr whole) = inr (inr (record { gate = 0; rest = []; spelled = whole ∙ front-push bodies body (0 ∷ []); closed = omega arith }))
+pub either : (bodies : List (List ℕ)) (body bytes : List ℕ) → AllFit bodies → length body < 2 ^ 32 → IsClosedOrOpened (front bodies) (entry body ++ 0 ∷ []) bytes → BeforeOrAfter bodies body bytes
+either bodies body bytes fit small (inl stays) = inl (inr (stands bodies bytes fit stays))
+either bodies body bytes fit small (inr whole) = inr (inr (record { gate = 0; rest = []; spelled = whole ∙ front-push bodies body (0 ∷ []); closed = omega arith; fit = all_fit_push bodies body fit small }))
 
 pub ok_part : {T E : Type 0} (r : Result T E) (P : Type 0) → is_err r ≡ false → OnOk r P → P
 ok_part (Ok x) P ok holds = holds

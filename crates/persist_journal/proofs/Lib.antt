@@ -1,4 +1,11 @@
 mod Begin
+mod Bodies
 mod Crash
+mod Gates
 mod Grown
+mod Lists
+mod Meaning
+mod Mend
 mod Moments
+mod Quiet
+mod Rest

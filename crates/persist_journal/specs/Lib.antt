@@ -1,2 +1,5 @@
 pub mod Entry
+pub mod Gather
 pub mod Journal
+pub mod Read
+pub mod Repair

@@ -1,11 +1,12 @@
 // One entry, behind its gate.
-ghost use Rattle.std.specs.Prelude.{◌≡◌, ℕ, ◌<◌, ◌^◌, List, [], ◌∷◌, ◌++◌, length, OnOk, OnErr};
+ghost use Rattle.std.specs.Prelude.{◌≡◌, ℕ, ◌-◌, ◌<◌, ◌^◌, List, [], ◌∷◌, ◌++◌, length, OnOk, OnErr};
 ghost use Rattle.wire_defs.specs.Places.{le};
 ghost use Rattle.smb_io.specs.Disk.{Only};
 ghost use Rattle.smb_io.specs.Faults.{CountsFault};
 ghost use Rattle.journal_defs.specs.Grammar.{entry};
 ghost use Rattle.journal_defs.specs.Moments.{LeavesOnly};
-ghost use Rattle.persist_journal.specs.Entry.{EndsAt, IsClosedOrOpened};
+ghost use Rattle.persist_journal.specs.Entry.{EndsAt, StaysClosed, IsClosedOrOpened};
+ghost use Rattle.persist_journal.specs.Repair.{ClosedAt};
 
 use smb_io::{Disk, Failed};
 
@@ -21,6 +22,20 @@ pub(crate) fn write_entry<D: Disk>(disk: &mut D, gate: u64, behind: &[u8]) -> Re
     disk.write_at(gate + 1, behind)?;
     disk.sync()?;
     disk.write_at(gate, &[1])?;
+    disk.sync()?;
+    Ok(())
+}
+
+/// Cuts what stands behind the closed gate at a place.
+pub(crate) fn cut_behind<D: Disk>(disk: &mut D, gate: u64) -> Result<(), Failed>
+    requires { gate < 2 ^ 64 - 1 }
+    ensures done { D.told → (front rest : List ℕ) (shut : ℕ) → ClosedAt gate front shut rest (D.seen disk.old) → Only (D.seen disk.old) (D.may_leave disk.old)
+        → OnOk result ((D.seen disk.new ≡ front ++ shut ∷ []) × Only (D.seen disk.new) (D.may_leave disk.new)) }
+    ensures any_moment { D.told → (front rest : List ℕ) (shut : ℕ) → ClosedAt gate front shut rest (D.seen disk.old) → Only (D.seen disk.old) (D.may_leave disk.old)
+        → LeavesOnly D.moment D.left_since disk.old disk.new (StaysClosed front) }
+    ensures cause { CountsFault (D.faults disk.old) (D.faults disk.new) result }
+{
+    disk.cut(gate + 1)?;
     disk.sync()?;
     Ok(())
 }

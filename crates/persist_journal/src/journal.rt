@@ -1,14 +1,16 @@
 // The journal.
-ghost use Rattle.std.specs.Prelude.{◌≡◌, ◌⊎◌, ℕ, ◌+◌, ◌≤◌, ◌<◌, ◌^◌, List, [], ◌∷◌, ◌++◌, length, IfOk, OnOk, OnErr, vec_capacity};
+ghost use Rattle.std.specs.Prelude.{◌≡◌, ◌⊎◌, ℕ, ◌+◌, ◌-◌, ◌≤◌, ◌<◌, ◌^◌, List, [], ◌∷◌, ◌++◌, length, IfOk, OnOk, OnErr, vec_capacity};
 ghost use Rattle.wire_defs.specs.Places.{le};
 ghost use Rattle.journal_defs.specs.Grammar.{entry, StandsFor};
-ghost use Rattle.journal_defs.specs.Moments.{LeavesOnly};
+ghost use Rattle.journal_defs.specs.Moments.{LeavesOnly, Quiet};
 ghost use Rattle.persist_journal.specs.Entry.{IsNew};
-ghost use Rattle.persist_journal.specs.Journal.{JournalState, Settled, Admits, Appends, Reserves, Creates, BeforeOrAfter, limit_of};
+ghost use Rattle.persist_journal.specs.Journal.{JournalState, Settled, Admits, Appends, Reserves, Creates, Recovers, HandsOut, NextAnswers, HandsOutRest, RestAnswers, HandsOutAll, AllAnswers, BeforeOrAfter, limit_of};
 
 use crate::entry::write_entry;
-use crate::prepare;
-use smb_bytes::FixedOut;
+use crate::list::BytesList;
+use crate::read::{Found, NoBody, read_body};
+use crate::{prepare, repair};
+use smb_bytes::{Bytes, FixedOut};
 use smb_io::Disk;
 use std::alloc::{AllocError, Global};
 use std::marker::Model;
@@ -49,39 +51,42 @@ impl From<AllocError> for JournalError {
 }
 
 /// A journal on a disk. A contract sees the disk, how many bytes of it the journal uses, how many bodies
-/// stand in it, the disk's count of faults at which it stopped, and how many bytes of an entry it has
-/// room for without more memory.
+/// stand in it, how many of them were handed out and where the next one's gate stands, the disk's count
+/// of faults at which it stopped, and how many bytes of an entry it has room for without more memory.
 #[derive(Drop)]
 pub struct Journal<D: Disk> {
+    alloc: Global,
     disk: D,
     gate: u64,
     count: u64,
+    next: u64,
+    taken: u64,
     stopped: Option<u64>,
     buffer: Vec<u8>,
 }
 
 impl<D: Disk> Model for Journal<D> {
-    ghost use Rattle.std.specs.Prelude.{◌+◌, ◌≤◌, ◌<◌, ◌^◌, vec_capacity};
+    ghost use Rattle.std.specs.Prelude.{◌+◌, ◌-◌, ◌≤◌, ◌<◌, ◌^◌, vec_capacity};
     ghost use Rattle.persist_journal.specs.Journal.{JournalState};
 
     ghost Value = { JournalState D };
 
-    ghost view = { λ j. record { disk = j.disk; used = j.gate + 1; count = j.count; stopped = j.stopped; room = vec_capacity j.buffer } };
+    ghost view = { λ j. record { disk = j.disk; used = j.gate + 1; count = j.count; taken = j.taken; next = j.next; stopped = j.stopped; room = vec_capacity j.buffer } };
 
-    ghost invariant = { λ j. (j.gate < 2 ^ 30) × (j.count ≤ j.gate) };
+    ghost invariant = { λ j. (j.gate < 2 ^ 64 - 1) × (j.count ≤ j.gate) × (8 ≤ j.next) × (j.next ≤ j.gate) × (j.taken ≤ j.next) };
 }
 
 // Whether an entry of so many bytes may be added.
 fn admit(stopped: Option<u64>, gate: u64, length: u64, epoch: bool) -> Result<(), JournalError>
-    requires small { gate < 2 ^ 30 }
-    requires fits { length < 2 ^ 63 }
-    ensures { Admits stopped (gate + 1) length epoch result }
+    requires { gate < 2 ^ 64 - 1 }
+    ensures admits { Admits stopped (gate + 1) length epoch result }
+    ensures bound { OnOk result (gate + 6 + length ≤ 2 ^ 30) }
 {
     if let Some(count) = stopped {
         return Err(JournalError::Stopped(count));
     }
     let limit = if epoch { LIMIT } else { LIMIT - EPOCH_ROOM };
-    let used = gate + 1 + AROUND + length;
+    let used = gate.saturating_add(1 + AROUND).saturating_add(length);
     if used > limit {
         return Err(JournalError::Full(used, limit));
     }
@@ -120,12 +125,47 @@ impl<D: Disk> Journal<D> {
             return Err(JournalError::DiskFault(disk.fault_count()));
         }
         Ok(Journal {
+            alloc,
             disk,
             gate: 8,
             count: 0,
+            next: 8,
+            taken: 0,
             stopped: None,
             buffer: Vec::new(alloc),
         })
+    }
+
+    /// Makes a journal of what a crash left: syncs, reads the gates, and cuts behind the closed one. At
+    /// most 9 bytes that are no journal are taken as a new disk. The journal has exactly the bodies that
+    /// the bytes stood for, of which none is handed out yet. A crash at any moment leaves what it could
+    /// leave before the call, or bytes that stand for the same bodies.
+    ///
+    /// `NotAJournal` carries the first byte that isn't the mark's, or the open gate whose entry doesn't
+    /// fit; then the disk was only read. `DiskFault` comes only where the disk's count of faults rose, and
+    /// carries it. Where it refuses, the disk is dropped: hand in a `&mut` to keep it.
+    pub fn recover(alloc: Global, mut disk: D) -> Result<Journal<D>, JournalError>
+    where
+        D: Drop,
+        ensures settled { IfOk result (λ journal. D.told → (bodies : List (List ℕ)) → StandsFor (D.seen disk) bodies → Settled D.seen D.may_leave journal bodies) }
+        ensures any_moment { IfOk result (λ journal. D.told → (bodies : List (List ℕ)) → StandsFor (D.seen disk) bodies
+            → LeavesOnly D.moment D.left_since disk journal.disk (λ c. D.may_leave disk c ⊎ StandsFor c bodies)) }
+        ensures cause { Recovers D.told D.seen D.faults disk result }
+    {
+        match repair(&mut disk) {
+            Ok(Found::Behind { gate, count }) => Ok(Journal {
+                alloc,
+                disk,
+                gate,
+                count,
+                next: 8,
+                taken: 0,
+                stopped: None,
+                buffer: Vec::new(alloc),
+            }),
+            Ok(Found::Broken(at)) => Err(JournalError::NotAJournal(at)),
+            Err(_) => Err(JournalError::DiskFault(disk.fault_count())),
+        }
     }
 
     /// Adds a body and answers its number, from 0. At Ok it is on the disk: from then on each crash leaves
@@ -140,6 +180,8 @@ impl<D: Disk> Journal<D> {
             → IfOk result (λ number. (number ≡ length bodies) × Settled D.seen D.may_leave self.new (bodies ++ body.now ∷ [])) }
         ensures any_moment { D.told → (bodies : List (List ℕ)) → Settled D.seen D.may_leave self.old bodies
             → LeavesOnly D.moment D.left_since self.old.disk self.new.disk (BeforeOrAfter bodies body.now) }
+        ensures stays { D.told → (bodies : List (List ℕ)) → Settled D.seen D.may_leave self.old bodies
+            → BeforeOrAfter bodies body.now (D.seen self.new.disk) }
         ensures cause { Appends D.faults self.old body.now epoch result self.new }
     {
         admit(self.stopped, self.gate, body.len() as u64, epoch)?;
@@ -164,6 +206,79 @@ impl<D: Disk> Journal<D> {
         self.buffer.clear();
         self.buffer.reserve(length as usize + 5)?;
         Ok(())
+    }
+
+    /// The next body, in order, and `None` exactly where all were handed out. One that is appended before
+    /// comes last. It reads that entry alone.
+    ///
+    /// `DiskFault` comes only where the disk's count of faults rose, and carries it; from then on each call
+    /// answers `Stopped` with that count. After `Memory` nothing was handed out. `NotAJournal` with the
+    /// entry's gate comes only on a disk that no longer gives what was written.
+    pub fn next_body(&mut self) -> Result<Option<Bytes>, JournalError>
+        ensures in_order { D.told → (bodies : List (List ℕ)) → Settled D.seen D.may_leave self.old bodies
+            → HandsOut D.seen D.may_leave self.old bodies result self.new }
+        ensures quiet { Quiet D.told D.seen D.may_leave D.moment D.left_since self.old.disk self.new.disk }
+        ensures cause { NextAnswers D.faults self.old result self.new }
+    {
+        if let Some(count) = self.stopped {
+            return Err(JournalError::Stopped(count));
+        }
+        if self.next == self.gate {
+            return Ok(None);
+        }
+        match read_body(self.alloc, &mut self.disk, self.next, self.gate) {
+            Ok(body) => {
+                self.next += AROUND + body.len() as u64;
+                self.taken += 1;
+                Ok(Some(body))
+            }
+            Err(NoBody::Memory) => Err(JournalError::Memory),
+            Err(NoBody::Failed) => {
+                let count = self.disk.fault_count();
+                self.stopped = Some(count);
+                Err(JournalError::DiskFault(count))
+            }
+            Err(NoBody::EndsEarly) => Err(JournalError::NotAJournal(self.next)),
+        }
+    }
+
+    // All that were not handed out yet.
+    fn rest(&mut self) -> Result<BytesList, JournalError>
+        requires { self.old.stopped ≡ None }
+        ensures in_order { D.told → (bodies : List (List ℕ)) → Settled D.seen D.may_leave self.old bodies
+            → HandsOutRest D.seen D.may_leave self.old bodies result self.new }
+        ensures quiet { Quiet D.told D.seen D.may_leave D.moment D.left_since self.old.disk self.new.disk }
+        ensures cause { RestAnswers D.faults self.old result self.new }
+    {
+        let mut list = BytesList::new(self.alloc);
+        loop {
+            match self.next_body() {
+                Ok(Some(body)) => list.push(body)?,
+                Ok(None) => return Ok(list),
+                Err(error) => return Err(error),
+            }
+        }
+    }
+
+    /// All bodies, in order, whatever was handed out; that stays as it was. Its answers are those of
+    /// `next_body`.
+    pub fn bodies(&mut self) -> Result<BytesList, JournalError>
+        ensures all { D.told → (bodies : List (List ℕ)) → Settled D.seen D.may_leave self.old bodies
+            → HandsOutAll D.seen D.may_leave bodies result self.new }
+        ensures quiet { Quiet D.told D.seen D.may_leave D.moment D.left_since self.old.disk self.new.disk }
+        ensures cause { AllAnswers D.faults self.old result self.new }
+    {
+        if let Some(count) = self.stopped {
+            return Err(JournalError::Stopped(count));
+        }
+        let next = self.next;
+        let taken = self.taken;
+        self.next = 8;
+        self.taken = 0;
+        let answer = self.rest();
+        self.next = next;
+        self.taken = taken;
+        answer
     }
 
     /// Hands back the disk.

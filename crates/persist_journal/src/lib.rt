@@ -8,9 +8,17 @@
 
 mod entry;
 mod journal;
+mod laws;
+mod list;
+mod read;
+mod recovery;
 mod start;
 
 pub use journal::{Journal, JournalError};
+pub use laws::{broken_means_nothing, one_break, one_meaning};
+pub use list::BytesList;
+pub use read::Found;
+pub use recovery::repair;
 pub use start::prepare;
 
 #[cfg(test)]
