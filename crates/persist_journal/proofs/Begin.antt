@@ -1,7 +1,7 @@
 -- What a crash leaves while a new journal is made.
-use Rattle.std.proofs.Common.{◌≡◌, inl, inr, ⊎_elim, ℕ, ◌+◌, ◌-◌, ◌<◌, ◌≤◌, List, [], ◌∷◌, ◌++◌, length, take, drop, replicate, refl, sym, ◌∙◌, ap, subst, arith, length-append, length-drop}
-use Rattle.std.proofs.lemmas.List.{drop_all, append-nil, length-take, take_at}
-use Rattle.smb_io.specs.Disk.{WritesAt, Torn, Follows, Only, Elapses}
+use Rattle.std.proofs.Common.{◌≡◌, inl, ℕ, ◌+◌, ◌≤◌, List, [], ◌∷◌, ◌++◌, length, take, drop, replicate, refl, ◌∙◌, ap, arith, length-append, length-drop}
+use Rattle.std.proofs.lemmas.List.{drop_all, append-nil, take_at}
+use Rattle.smb_io.specs.Disk.{WritesAt, Torn, Follows}
 use Rattle.journal_defs.specs.Grammar.{mark, StandsFor}
 use Rattle.journal_defs.specs.Moments.{LeavesOnly}
 use Rattle.persist_journal.specs.Entry.{IsShort}

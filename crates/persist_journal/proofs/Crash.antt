@@ -1,9 +1,8 @@
 -- What a crash leaves in each step of an entry that is put behind a closed gate.
-use Rattle.std.proofs.Common.{◌≡◌, ◌≢◌, inl, inr, ℕ, ◌+◌, ◌<◌, ◌≤◌, List, [], ◌∷◌, ◌++◌, length, get_or, take, drop, refl, sym, ◌∙◌, ap, subst, arith, append_assoc, length-append, take-append-drop}
+use Rattle.std.proofs.Common.{◌≡◌, inl, inr, ℕ, ◌+◌, List, [], ◌∷◌, ◌++◌, length, get_or, take, drop, sym, ◌∙◌, ap, subst, arith, append_assoc, length-append, take-append-drop}
 use Rattle.std.proofs.lemmas.List.{take_at, drop_at, drop_more, take_all, drop_all, append-nil}
 use Rattle.std.proofs.lemmas.Bool.{cases_eq}
 use Rattle.smb_io.specs.Disk.{WritesAt, Torn, Follows, Only, Elapses}
-use Rattle.journal_defs.specs.Grammar.{IsClosed}
 use Rattle.journal_defs.specs.Moments.{LeavesOnly}
 use Rattle.persist_journal.specs.Entry.{EndsAt, StaysClosed, IsClosedOrOpened}
 use Rattle.persist_journal.proofs.Moments.{started, goes_on}

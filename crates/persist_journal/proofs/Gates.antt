@@ -1,10 +1,9 @@
 -- What is read of a disk, gate by gate.
-use Rattle.std.proofs.Common.{◌≡◌, ◌≢◌, inl, inr, ℕ, zero, suc, ◌+◌, ◌-◌, ◌*◌, ◌/◌, ◌%◌, ◌^◌, ◌<◌, ◌≤◌, min, List, [], ◌∷◌, ◌++◌, length, take, drop, get_or, refl, sym, ◌∙◌, ap, subst, arith, append_assoc, length-append, length-drop, take-append-drop}
-use Rattle.std.proofs.lemmas.List.{take_at, take_all, drop_at, drop-drop, length-take-le, take-append-le}
+use Rattle.std.proofs.Common.{◌≡◌, ℕ, ◌+◌, ◌*◌, ◌/◌, ◌%◌, ◌^◌, ◌<◌, ◌≤◌, List, [], ◌∷◌, ◌++◌, length, take, drop, get_or, refl, sym, ◌∙◌, ap, subst, arith, append_assoc, length-append, length-drop, take-append-drop}
+use Rattle.std.proofs.lemmas.List.{take_at, drop_at, drop-drop, length-take-le, take-append-le}
 use Rattle.wire_defs.specs.Places.{le, number_of}
-use Rattle.wire_defs.proofs.Numbers.{number_of-le, length-le}
-use Rattle.smb_io.specs.Disk.{ReadsAt}
-use Rattle.journal_defs.specs.Grammar.{mark, IsClosed, entry, front, AllFit, DiffersAt, EndsEarlyAt}
+use Rattle.wire_defs.proofs.Numbers.{number_of-le}
+use Rattle.journal_defs.specs.Grammar.{mark, entry, front, AllFit, EndsEarlyAt}
 use Rattle.persist_journal.specs.declared.read.Look.{Look}
 use Rattle.persist_journal.specs.declared.read.Look.TheVariants.{Closed, Entry, EndsEarly}
 use Rattle.persist_journal.specs.Read.{Shows, ReadTo, EndsWith}

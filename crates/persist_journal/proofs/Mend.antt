@@ -2,11 +2,11 @@
 use Rattle.std.proofs.Common.{◌≡◌, ◌⊎◌, inl, inr, ℕ, ◌+◌, ◌-◌, ◌≤◌, List, [], ◌∷◌, ◌++◌, length, take, refl, sym, ◌∙◌, ap, subst, arith, append_assoc, length-append, Option, Some, None}
 use Rattle.std.proofs.lemmas.List.{take_at}
 use Rattle.smb_io.specs.Disk.{CutShort, Follows, Only, Elapses}
-use Rattle.journal_defs.specs.Grammar.{front, Holds, StandsFor}
+use Rattle.journal_defs.specs.Grammar.{front, StandsFor}
 use Rattle.journal_defs.specs.Moments.{LeavesOnly, Quiet}
 use Rattle.persist_journal.specs.Entry.{StaysClosed}
 use Rattle.persist_journal.specs.Read.{EndsWith}
-use Rattle.persist_journal.specs.Repair.{ClosedAt, Rests, Examined, Mends}
+use Rattle.persist_journal.specs.Repair.{ClosedAt, Examined, Mends}
 use Rattle.persist_journal.specs.declared.read.Found.{Found}
 use Rattle.persist_journal.specs.declared.read.Found.TheVariants.{Behind}
 use Rattle.persist_journal.proofs.Grown.{stands}

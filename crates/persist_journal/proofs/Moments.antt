@@ -1,5 +1,5 @@
 -- How a run of a disk's calls goes on.
-use Rattle.std.proofs.Common.{inl, inr, ⊎_elim, ℕ, ◌≤◌, List, arith}
+use Rattle.std.proofs.Common.{inl, inr, ⊎_elim, ℕ, List, arith}
 use Rattle.smb_io.specs.Disk.{Elapses}
 use Rattle.journal_defs.specs.Moments.{LeavesOnly}
 

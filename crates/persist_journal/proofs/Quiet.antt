@@ -1,7 +1,7 @@
 -- Runs of calls that only read or sync.
 use Rattle.std.proofs.Common.{◌≡◌, ℕ, List, refl, ◌∙◌}
 use Rattle.smb_io.specs.Disk.{Elapses}
-use Rattle.journal_defs.specs.Moments.{LeavesOnly, Quiet}
+use Rattle.journal_defs.specs.Moments.{Quiet}
 use Rattle.persist_journal.proofs.Moments.{started, goes_on, joined, weakened}
 
 module _ {D : Type 0} (told : Type 0) (seen : D → List ℕ) (may_leave : D → List ℕ → Type 0) (moment : D → ℕ) (left_since : D → ℕ → List ℕ → Type 0) where

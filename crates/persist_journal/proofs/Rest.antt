@@ -1,6 +1,5 @@
 -- The bodies from the first on, and the journal as it was again.
-use Rattle.std.proofs.Common.{◌≡◌, ℕ, ◌+◌, List, [], length, take, drop, None, Some, Result, Ok, Err, refl, sym, ◌∙◌, ap, subst, arith}
-use Rattle.smb_io.specs.Faults.{Rose}
+use Rattle.std.proofs.Common.{◌≡◌, ℕ, List, drop, Result, Ok, Err, refl, sym, ◌∙◌, ap, subst, arith}
 use Rattle.persist_journal.specs.declared.journal.JournalError.{JournalError}
 use Rattle.persist_journal.specs.declared.journal.JournalError.TheVariants.{Memory, DiskFault, NotAJournal, Full, Stopped}
 use Rattle.persist_journal.specs.Journal.{JournalState, Settled, HandsOutRest, HandsOutAll}

@@ -1,5 +1,5 @@
 -- What is read of a journal.
-use Rattle.std.specs.Prelude.{◌≡◌, ◌≢◌, ◌⊎◌, ℕ, ◌+◌, ◌^◌, ◌<◌, ◌≤◌, List, [], ◌∷◌, ◌++◌, length, take, drop, Option, Some, None, Result, Ok, Err}
+use Rattle.std.specs.Prelude.{◌≡◌, ◌⊎◌, ℕ, ◌+◌, ◌^◌, ◌<◌, ◌≤◌, List, [], ◌∷◌, ◌++◌, length, take, drop, Option, Some, None, Result, Ok, Err}
 use Rattle.wire_defs.specs.Places.{le, number_of}
 use Rattle.journal_defs.specs.Grammar.{mark, IsClosed, entry, front, AllFit, DiffersAt, EndsEarlyAt}
 use Rattle.journal_defs.specs.Moments.{Quiet}

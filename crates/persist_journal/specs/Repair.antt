@@ -1,5 +1,5 @@
 -- What is found on a disk, and what is left of it.
-use Rattle.std.specs.Prelude.{◌≡◌, ◌⊎◌, ℕ, ◌≤◌, List, [], ◌∷◌, ◌++◌, length, Option, Some, None}
+use Rattle.std.specs.Prelude.{◌≡◌, ℕ, ◌≤◌, List, [], ◌∷◌, ◌++◌, length, Option, Some, None}
 use Rattle.smb_io.specs.Disk.{Only}
 use Rattle.journal_defs.specs.Grammar.{IsClosed, front, AllFit, StandsFor, BreaksAt}
 use Rattle.journal_defs.specs.Moments.{Quiet}

@@ -1,4 +1,4 @@
-use Rattle.std.proofs.Common.{◌+◌, List, ℕ, take, sym, ◌∙◌, ap, subst}
+use Rattle.std.proofs.Common.{List, ℕ, sym, ◌∙◌, subst}
 use Rattle.smb_io.specs.Disk.{Only}
 use Rattle.persist_journal.proofs.Mend.{cut, kept, cut_done}
 use Rattle.persist_journal.proofs.entry.cut_behind.Goals as goal

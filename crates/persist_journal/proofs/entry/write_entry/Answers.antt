@@ -1,4 +1,3 @@
-use Rattle.std.proofs.Common.{◌∷◌, []}
 use Rattle.persist_journal.proofs.Crash.{wrote, kept, gated, ended, done}
 use Rattle.persist_journal.proofs.entry.write_entry.Goals as goal
 

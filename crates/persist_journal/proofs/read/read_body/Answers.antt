@@ -1,4 +1,4 @@
-use Rattle.std.proofs.Common.{◌≡◌, ◌+◌, ◌≤◌, List, ℕ, length, take, drop, arith}
+use Rattle.std.proofs.Common.{◌+◌, take, drop, arith}
 use Rattle.persist_journal.proofs.Bodies.{long, length_is, tells_some, tells_none, gives}
 use Rattle.persist_journal.proofs.read.read_body.Goals as goal
 

@@ -1,6 +1,4 @@
-use Rattle.std.proofs.Common.{◌≡◌, ◌-◌, ◌<◌, ◌≤◌, length, take}
-use Rattle.journal_defs.specs.Grammar.{mark}
-use Rattle.journal_defs.specs.Moments.{Quiet}
+use Rattle.std.proofs.Common.{◌-◌}
 use Rattle.persist_journal.specs.Read.{Scanned}
 use Rattle.persist_journal.proofs.read.scan.Given as goal
 

@@ -1,4 +1,4 @@
-use Rattle.std.proofs.Common.{◌≡◌, List, [], ℕ, length, sym, ◌∙◌, ap, subst}
+use Rattle.std.proofs.Common.{List, [], ℕ, sym, subst}
 use Rattle.smb_io.specs.Disk.{Only}
 use Rattle.journal_defs.specs.Grammar.{front, StandsFor}
 use Rattle.persist_journal.specs.Entry.{StaysClosed}

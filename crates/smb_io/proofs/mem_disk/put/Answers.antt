@@ -1,4 +1,4 @@
-use Rattle.std.proofs.Common.{◌≡◌, ◌<◌, length, arith, rules}
+use Rattle.std.proofs.Common.{◌<◌, length, rules}
 use Rattle.smb_io.proofs.Written.{put_done}
 use Rattle.smb_io.proofs.mem_disk.put.Goals as goal
 

@@ -1,4 +1,4 @@
-use Rattle.std.proofs.Common.{◌≡◌, ◌+◌, refl, sym, ap, subst, vec_capacity}
+use Rattle.std.proofs.Common.{◌+◌, refl, sym, ap, subst, vec_capacity}
 use Rattle.persist_journal.specs.Journal.{JournalState, Settled}
 use Rattle.persist_journal.proofs.Rest.{rewound, all_handed}
 use Rattle.persist_journal.proofs.journal.Journal.bodies.Goals as goal

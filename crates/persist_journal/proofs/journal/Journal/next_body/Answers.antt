@@ -1,7 +1,5 @@
-use Rattle.std.proofs.Common.{◌≡◌, ◌+◌, ◌<◌, ℕ, List, [], ◌∷◌, length, take, drop, get_or, refl, sym, ◌∙◌, ap, subst, arith}
+use Rattle.std.proofs.Common.{[], take, drop, get_or, refl, sym, ◌∙◌, ap, subst, arith}
 use Rattle.journal_defs.specs.Grammar.{front}
-use Rattle.persist_journal.specs.declared.read.NoBody.{NoBody}
-use Rattle.persist_journal.specs.Read.{GivesBody}
 use Rattle.persist_journal.specs.Journal.{Settled}
 use Rattle.persist_journal.proofs.Bodies.{ended, begun, handed, gives_none}
 use Rattle.persist_journal.proofs.journal.Journal.next_body.Goals as goal
