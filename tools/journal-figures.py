@@ -1,0 +1,28 @@
+#!/usr/bin/env python3
+"""Builds and runs tools/journal-figures.txt, a program, over a copy of the crates.
+
+usage: tools/journal-figures.py FOLDER
+
+FOLDER is made, on the disk that is to be measured. The program isn't proved: `rt try` runs it.
+"""
+import os, shutil, subprocess, sys
+
+
+def main():
+    folder = os.path.abspath(sys.argv[1])
+    top = os.path.dirname(os.path.dirname(os.path.abspath(__file__)))
+    os.makedirs(folder)
+    names = ["wire_defs", "smb_bytes", "smb_io", "journal_defs", "persist_journal"]
+    for name in names:
+        shutil.copytree(f"{top}/crates/{name}", f"{folder}/crates/{name}")
+    lines = [line for line in open(f"{top}/crates.txt", encoding="utf-8") if line.split(":")[0] in names]
+    lines.append("journal_figures: anyhow smb_bytes smb_io persist_journal\n")
+    with open(f"{folder}/crates.txt", "w", encoding="utf-8") as out:
+        out.writelines(lines)
+    shutil.copy(f"{top}/HANDLES", folder)
+    os.makedirs(f"{folder}/crates/journal_figures/src")
+    shutil.copy(f"{top}/tools/journal-figures.txt", f"{folder}/crates/journal_figures/src/main.rt")
+    return subprocess.run(["rt", "try"], cwd=f"{folder}/crates/journal_figures").returncode
+
+
+sys.exit(main())
