@@ -1,12 +1,13 @@
 -- What holds of locks and unlocks in every world that a run leads to, where each operation acted a g times: between the
 -- client's slots, what waits on the connections, and what the server's opens keep.
-use Rattle.std.specs.Prelude.{◌≡◌, ◌≢◌, ℕ, ◌+◌, ◌≤◌, ◌<◌, ◌==◌, ◌⊎◌, Bool, true, false, if◌then◌else◌, Option, Some, None, is_some, slice_get}
+use Rattle.std.specs.Prelude.{◌≡◌, ◌≢◌, ℕ, ◌+◌, ◌≤◌, ◌<◌, ◌==◌, Bool, true, false, if◌then◌else◌, Option, Some, None, is_some, slice_get}
 use Rattle.exchange_defs.specs.Status.{success, user_session_deleted, file_closed, object_name_not_found, no_memory, disk_full}
 use Rattle.exchange_defs.specs.State.{Server, Kept}
-use Rattle.exchange_defs.specs.Files.{root, exists, is_directory}
+use Rattle.exchange_defs.specs.Files.{is_directory}
+use Rattle.exchange_defs.specs.Opens.{goes, drop_open, marked_by}
 use Rattle.exchange_defs.specs.CheckOpen.{is_slot, kept_status}
 use Rattle.exchange_defs.specs.Records.{lower_limit}
-use Rattle.exchange_defs.specs.Operations.{Op, Outcome, NoSlot, NoOpen, is_unsettled, is_ok, is_firm, is_lock, id_in}
+use Rattle.exchange_defs.specs.Operations.{Op, Outcome, NoSlot, NoOpen, is_unsettled, is_ok, is_firm, is_lock, id_in, reconnect_of}
 use Rattle.exchange_defs.specs.Client.{Client, AskedTree, guid_for}
 use Rattle.exchange_defs.specs.Network.{Conn, Sent, Received, ForOp, ForAttach}
 use Rattle.exchange_defs.specs.Runs.{never_acted}
@@ -94,6 +95,14 @@ NoSession c = c.number ≡ 0 → c.session ≡ 0
 abbrev pub Unanswered : Client → (ℕ → Conn) → Type 0
 Unanswered c conns = (k n g : ℕ) (x : Sent) → slice_get (conns k).up n ≡ Some x → x.token ≡ ForOp g → c.before g ≡ false → (conns k).client_open ≡ true
 
+-- a DH2C in an operation's place is of its create, which settled Ok
+abbrev pub AskUp : Client → (ℕ → Conn) → Type 0
+AskUp c conns = (k n g : ℕ) (x : Sent) → slice_get (conns k).up n ≡ Some x → x.token ≡ ForAttach g
+    → 0 < g × g ≤ c.taken × makes_open (c.op g) ≡ false × is_ok (c.outcome (create_at c g)) ≡ true × x.message.command ≡ reconnect_of (c.op (create_at c g)) (guid_for c (create_at c g)) (open_at c g)
+
+abbrev pub AskDown : Client → (ℕ → Conn) → Type 0
+AskDown c conns = (k n g : ℕ) (y : Received) → slice_get (conns k).down n ≡ Some y → y.token ≡ ForAttach g → 0 < g × g ≤ c.taken × makes_open (c.op g) ≡ false × is_ok (c.outcome (create_at c g)) ≡ true
+
 -- a message whose session is there is of the session that was live last
 abbrev pub PresentUp : Client → (ℕ → Conn) → Server → Type 0
 PresentUp c conns s = (k n : ℕ) (x : Sent) → slice_get (conns k).up n ≡ Some x → is_ops x.token ≡ true → s.present x.message.session ≡ true → x.message.session ≡ c.session
@@ -106,27 +115,29 @@ Users c conns s = (k n g : ℕ) (x : Sent) → slice_get (conns k).up n ≡ Some
 abbrev pub CopyNow : Client → (ℕ → Conn) → Server → Type 0
 CopyNow c conns s = (k n g : ℕ) (x : Sent) → slice_get (conns k).up n ≡ Some x → x.token ≡ ForOp g → makes_open (c.op g) ≡ false → s.present x.message.session ≡ true → c.live ≡ true → c.attached (create_at c g) ≡ c.number × c.asking g ≡ false
 
--- one that waits on a closed connection was retried, where it is outstanding again or settled
-abbrev pub Retried : Client → (ℕ → Conn) → Server → Type 0
-Retried c conns s = (k n g : ℕ) (x : Sent) → slice_get (conns k).up n ≡ Some x → x.token ≡ ForOp g → locking (c.op g) ≡ true → s.present x.message.session ≡ true → c.live ≡ true → (conns k).client_open ≡ false
-    → (is_unsettled (c.outcome g) ≡ true → c.on g ≡ None) ⊎ (c.retried (create_at c g) (c.slot_of g) ≡ c.number)
+-- one that waits on a closed connection was retried, where it is outstanding again, or settled
+abbrev pub RetriedOn : Client → (ℕ → Conn) → Server → Type 0
+RetriedOn c conns s = (k n g : ℕ) (x : Sent) → slice_get (conns k).up n ≡ Some x → x.token ≡ ForOp g → locking (c.op g) ≡ true → s.present x.message.session ≡ true → c.live ≡ true → (conns k).client_open ≡ false → is_some (c.on g) ≡ true → c.retried (create_at c g) (c.slot_of g) ≡ c.number
+
+abbrev pub RetriedDone : Client → (ℕ → Conn) → Server → Type 0
+RetriedDone c conns s = (k n g : ℕ) (x : Sent) → slice_get (conns k).up n ≡ Some x → x.token ≡ ForOp g → locking (c.op g) ≡ true → s.present x.message.session ≡ true → c.live ≡ true → (conns k).client_open ≡ false → is_unsettled (c.outcome g) ≡ false → c.retried (create_at c g) (c.slot_of g) ≡ c.number
 
 -- its open, while it stands, is attached to the copy's session
 abbrev pub CopyAttached : Client → (ℕ → Conn) → Server → Type 0
 CopyAttached c conns s = (k n g : ℕ) (x : Sent) → slice_get (conns k).up n ≡ Some x → x.token ≡ ForOp g → makes_open (c.op g) ≡ false → s.present x.message.session ≡ true → s.standing (open_at c g) ≡ true → s.at (open_at c g) ≡ Some x.message.session
 
 abbrev pub NowAttached : Client → Server → Type 0
-NowAttached c s = (q : ℕ) → c.live ≡ true → c.attached q ≡ c.number → s.present c.session ≡ true → s.standing (c.file q) ≡ true → s.at (c.file q) ≡ Some c.session
+NowAttached c s = (q : ℕ) → makes_open (c.op q) ≡ true → is_ok (c.outcome q) ≡ true → c.live ≡ true → c.attached q ≡ c.number → s.present c.session ≡ true → s.standing (c.file q) ≡ true → s.at (c.file q) ≡ Some c.session
 
 -- the reply that opened, or attached
 abbrev pub OpenedReply : Client → (ℕ → Conn) → Server → Type 0
-OpenedReply c conns s = (k n g : ℕ) (y : Received) → slice_get (conns k).down n ≡ Some y → y.token ≡ ForOp g → makes_open (c.op g) ≡ true → y.reply.status ≡ success → s.present c.session ≡ true → s.standing (id_in y.reply.body) ≡ true → s.at (id_in y.reply.body) ≡ Some c.session
+OpenedReply c conns s = (k n g : ℕ) (y : Received) → slice_get (conns k).down n ≡ Some y → y.token ≡ ForOp g → makes_open (c.op g) ≡ true → y.reply.status ≡ success → c.live ≡ true → s.present c.session ≡ true → s.standing (id_in y.reply.body) ≡ true → s.at (id_in y.reply.body) ≡ Some c.session
 
 abbrev pub JoinReply : Client → (ℕ → Conn) → Server → Type 0
-JoinReply c conns s = (k n g : ℕ) (y : Received) → slice_get (conns k).down n ≡ Some y → y.token ≡ ForAttach g → y.reply.status ≡ success → s.present c.session ≡ true → s.standing (open_at c g) ≡ true → s.at (open_at c g) ≡ Some c.session
+JoinReply c conns s = (k n g : ℕ) (y : Received) → slice_get (conns k).down n ≡ Some y → y.token ≡ ForAttach g → y.reply.status ≡ success → c.live ≡ true → s.present c.session ≡ true → s.standing (open_at c g) ≡ true → s.at (open_at c g) ≡ Some c.session
 
 abbrev pub JoinedReply : Client → (ℕ → Conn) → Server → Type 0
-JoinedReply c conns s = (k n g : ℕ) (y : Received) → slice_get (conns k).down n ≡ Some y → y.token ≡ ForAttach g → y.reply.status ≡ success → s.present c.session ≡ true → s.standing (open_at c g) ≡ false → c.attached (create_at c g) ≡ c.number
+JoinedReply c conns s = (k n g : ℕ) (y : Received) → slice_get (conns k).down n ≡ Some y → y.token ≡ ForAttach g → y.reply.status ≡ success → c.live ≡ true → s.present c.session ≡ true → s.standing (open_at c g) ≡ false → c.attached (create_at c g) ≡ c.number
 
 -- an open that can't be attached is gone
 abbrev pub LostReply : Client → (ℕ → Conn) → Server → Type 0
@@ -177,28 +188,21 @@ FirstReply c conns a = (k n g : ℕ) (y : Received) → slice_get (conns k).down
 abbrev pub ClosedNot : Client → Server → (ℕ → ℕ) → Type 0
 ClosedNot c s a = (g : ℕ) → locking (c.op g) ≡ true → c.sent g ≡ true → is_unsettled (c.outcome g) ≡ true → c.live ≡ true → c.attached (create_at c g) ≡ c.number → s.present c.session ≡ true → s.standing (open_at c g) ≡ false → a g ≡ 0
 
--- a record of a lock takes 66 bytes of the journal, and no record less than 34; an open that owes no record when it locks
--- can't be closed on a full disk, since it is the last one of a file that is marked for deletion
-abbrev pub FullFor : Server → ℕ → Type 0
-FullFor s o = (s.opened o).persistent ≡ true → lower_limit < s.journal + 66
+-- Where a close was refused on a full disk: a record of a lock takes 66 bytes of the journal, one of a persistent open
+-- that leaves with its file 63, and no record takes less than 34. An open that owes no record where it locks, a plain
+-- one, can't be closed there, since it is the last one of a file that is marked for deletion.
+unfoldable pub goes_with : Server → ℕ → Bool
+goes_with s o = goes (drop_open (marked_by s o) o) (s.opened o).file
 
-pub record Stuck (s : Server) (o : ℕ) : Type 0 where
-  pub full : lower_limit < s.journal + 34
-  pub marked : s.marked (s.opened o).file ≡ true
-  pub apart : (s.opened o).file ≢ root
-  pub there : exists s (s.opened o).file ≡ true
-  pub plain : is_directory s (s.opened o).file ≡ false
-  pub alone : (p : ℕ) → s.standing p ≡ true → (s.opened p).file ≡ (s.opened o).file → p ≡ o
-
-abbrev pub StuckIfPlain : Server → ℕ → Type 0
-StuckIfPlain s o = (s.opened o).persistent ≡ false → is_directory s (s.opened o).file ≡ false → Stuck s o
+unfoldable pub of_directory : Server → ℕ → Bool
+of_directory s o = is_directory s (s.opened o).file
 
 -- a copy of a close that was given up waits: it was refused on a full disk
 abbrev pub LeftFull : Client → (ℕ → Conn) → Server → Type 0
-LeftFull c conns s = (k n h : ℕ) (x : Sent) → slice_get (conns k).up n ≡ Some x → x.token ≡ ForOp h → shuts_open (c.op h) ≡ true → s.present x.message.session ≡ true → c.live ≡ true → is_unsettled (c.outcome h) ≡ false → is_ok (c.outcome h) ≡ false → s.standing (open_at c h) ≡ true → FullFor s (open_at c h)
+LeftFull c conns s = (k n h : ℕ) (x : Sent) → slice_get (conns k).up n ≡ Some x → x.token ≡ ForOp h → shuts_open (c.op h) ≡ true → s.present x.message.session ≡ true → c.live ≡ true → is_unsettled (c.outcome h) ≡ false → is_ok (c.outcome h) ≡ false → s.standing (open_at c h) ≡ true → (s.opened (open_at c h)).persistent ≡ true → lower_limit < s.journal + 66
 
 abbrev pub LeftStuck : Client → (ℕ → Conn) → Server → Type 0
-LeftStuck c conns s = (k n h : ℕ) (x : Sent) → slice_get (conns k).up n ≡ Some x → x.token ≡ ForOp h → shuts_open (c.op h) ≡ true → s.present x.message.session ≡ true → c.live ≡ true → is_unsettled (c.outcome h) ≡ false → is_ok (c.outcome h) ≡ false → s.standing (open_at c h) ≡ true → StuckIfPlain s (open_at c h)
+LeftStuck c conns s = (k n h : ℕ) (x : Sent) → slice_get (conns k).up n ≡ Some x → x.token ≡ ForOp h → shuts_open (c.op h) ≡ true → s.present x.message.session ≡ true → c.live ≡ true → is_unsettled (c.outcome h) ≡ false → is_ok (c.outcome h) ≡ false → s.standing (open_at c h) ≡ true → (s.opened (open_at c h)).persistent ≡ false → of_directory s (open_at c h) ≡ false → lower_limit < s.journal + 34 × goes_with s (open_at c h) ≡ true
 
 -- and no lock behind it has acted, where each owes a record
 abbrev pub LeftIdle : Client → (ℕ → Conn) → Server → (ℕ → ℕ) → Type 0
@@ -209,10 +213,10 @@ abbrev pub CloseDone : Client → (ℕ → Conn) → Server → Type 0
 CloseDone c conns s = (k n h : ℕ) (y : Received) → slice_get (conns k).down n ≡ Some y → y.token ≡ ForOp h → shuts_open (c.op h) ≡ true → y.reply.status ≡ success → s.standing (open_at c h) ≡ false
 
 abbrev pub CloseFull : Client → (ℕ → Conn) → Server → Type 0
-CloseFull c conns s = (k n h : ℕ) (y : Received) → slice_get (conns k).down n ≡ Some y → y.token ≡ ForOp h → shuts_open (c.op h) ≡ true → y.reply.status ≢ user_session_deleted → y.reply.status ≢ file_closed → s.standing (open_at c h) ≡ true → FullFor s (open_at c h)
+CloseFull c conns s = (k n h : ℕ) (y : Received) → slice_get (conns k).down n ≡ Some y → y.token ≡ ForOp h → shuts_open (c.op h) ≡ true → y.reply.status ≢ user_session_deleted → y.reply.status ≢ file_closed → s.standing (open_at c h) ≡ true → (s.opened (open_at c h)).persistent ≡ true → lower_limit < s.journal + 66
 
 abbrev pub CloseStuck : Client → (ℕ → Conn) → Server → Type 0
-CloseStuck c conns s = (k n h : ℕ) (y : Received) → slice_get (conns k).down n ≡ Some y → y.token ≡ ForOp h → shuts_open (c.op h) ≡ true → y.reply.status ≢ user_session_deleted → y.reply.status ≢ file_closed → s.standing (open_at c h) ≡ true → StuckIfPlain s (open_at c h)
+CloseStuck c conns s = (k n h : ℕ) (y : Received) → slice_get (conns k).down n ≡ Some y → y.token ≡ ForOp h → shuts_open (c.op h) ≡ true → y.reply.status ≢ user_session_deleted → y.reply.status ≢ file_closed → s.standing (open_at c h) ≡ true → (s.opened (open_at c h)).persistent ≡ false → of_directory s (open_at c h) ≡ false → lower_limit < s.journal + 34 × goes_with s (open_at c h) ≡ true
 
 -- ---- what is to be shown
 
@@ -238,10 +242,13 @@ pub record Locks (c : Client) (conns : ℕ → Conn) (s : Server) (a : ℕ → �
   pub asked_new : AskedNew c
   pub no_session : NoSession c
   pub unanswered : Unanswered c conns
+  pub ask_up : AskUp c conns
+  pub ask_down : AskDown c conns
   pub present_up : PresentUp c conns s
   pub users : Users c conns s
   pub copy_now : CopyNow c conns s
-  pub retried : Retried c conns s
+  pub retried_on : RetriedOn c conns s
+  pub retried_done : RetriedDone c conns s
   pub copy_attached : CopyAttached c conns s
   pub now_attached : NowAttached c s
   pub opened_reply : OpenedReply c conns s

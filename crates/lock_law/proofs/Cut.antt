@@ -1,0 +1,164 @@
+-- A ready channel is cut.
+use Rattle.std.proofs.lemmas.Bool.{eqb-false}
+use Rattle.std.proofs.lemmas.Bool.Decides.{nat_tests}
+use Rattle.std.proofs.Common.{eqb-true, ◌≡◌, ◌≢◌, ℕ, ◌+◌, ◌≤◌, ◌<◌, ◌==◌, ◌%◌, Bool, true, false, not, ◌&&◌, ◌||◌, if◌then◌else◌, List, [], ◌∷◌, ◌++◌, ◌⊎◌, inl, inr, refl, arith, sym, subst, ◌∙◌, ap, Option, Some, None, slice_get, is_some, zero, suc}
+use Rattle.exchange_defs.specs.Table.{put, put2}
+use Rattle.exchange_defs.specs.Status.{success, user_session_deleted, file_closed, object_name_not_found, no_memory, disk_full}
+use Rattle.exchange_defs.specs.State.{Server, Message, Reply, Kept}
+use Rattle.exchange_defs.specs.Records.{lower_limit}
+use Rattle.exchange_defs.specs.Operations.{Op, Outcome, Why, is_unsettled, is_ok, is_create, is_close, is_lock, create_of, id_in, reconnect_of}
+use Rattle.exchange_defs.specs.Client.{Client, Stage, AskedTree, create_for, guid_for, outstanding as put_out, asked, cut_channel, end_session, finish}
+use Rattle.exchange_defs.specs.Settling.{answered}
+use Rattle.exchange_defs.specs.Dialogs.{open_channel, went_on, accepted, bound, readied, leave_dialog, refused_dialog}
+use Rattle.exchange_defs.specs.Network.{Conn, Sent, Received, Token, ForDialog, ForOp, ForAttach, op_of, fresh as fresh_conn, server_off, client_off, send_up, behind_front, take_front}
+use Rattle.exchange_law.specs.Connections.{Connections, copies, count_up, count_down, no_copy_out, makes_open, shuts_open, acts_once, its_create, its_request, create_at, opens, Once, Outstanding, OwnUp, AttachUp, OwnDown, AttachDown, DownOpen, OnReady, Ready, Stages, Settled, Taken, TakenOn, Creates, Lower, HasOpen, AskedOpen, Fresh, Bodies, First, Unsent, SentReplies, Deleted}
+use Rattle.exchange_law.proofs.Lists.{get-push, rest_of, own_up_count, own_down_count, attach_up_count, attach_down_count, front_up, front_down, waited, waited_down}
+use Rattle.session_law.specs.Sessions.{is_ops}
+use Rattle.lock_law.specs.Locks.{Locks, locking, kept_at, firm, is_unsent, refused_for_good, in_slots, user_at, open_at, kept_of, goes_with, of_directory, SlotIndex, UserBody, InUse, AttachedLow, ShutOk, ShutGone, CloseBefore, CloseAfter, UnsentGone, AskedNew, NoSession, Unanswered, AskUp, AskDown, PresentUp, Users, CopyNow, RetriedOn, RetriedDone, CopyAttached, NowAttached, OpenedReply, JoinReply, JoinedReply, LostReply, KeptSays, NotKept, FirmKept, NoUser, NoSlots, FullDead, OkReply, NoReply, KeptReply, FirstReply, ClosedNot, LeftFull, LeftStuck, LeftIdle, CloseDone, CloseFull, CloseStuck, AtMost, OkActed, RefusedNot}
+use Rattle.lock_law.proofs.Words.{lock_kind, lock_stays, lock_once, close_kind, own_create, unsettled_firm, unsettled_unsent, unsettled_ok, unsettled_refused, unsent_firm, unsent_ok, ok_firm, ok_settled, firm_settled, unsent_settled, unsent_refused, refused_how, kept_none, kept_same, kept_other, kept_is_some, more_up, more_down, more_asks, down_is_open, up_on, down_on, ask_on, ok_of, made_of, own_ops, own_reply_ops, ask_reply_ops}
+
+cut_unanswered : (c : Client) (conns : ℕ → Conn) (s : Server) (a : ℕ → ℕ) (k : ℕ) → Bodies c conns → Outstanding c conns → OwnUp c conns → Taken c → Unanswered c conns → Unanswered (cut_channel c k) (put conns k (client_off (conns k)))
+cut_unanswered c conns s a k C_bodies C_outstanding C_own_up C_taken i_unanswered =
+    λ j n p x h t. let h' : slice_get (conns j).up n ≡ Some x = grind arith in let old = i_unanswered j n p x h' t in let h' : slice_get (conns j).up n ≡ Some x = grind arith in let b = C_bodies j n p x h' t in let tk = C_taken p b.0 in let on1 = up_on c conns C_outstanding j n p x h' t tk.0 in let ou = C_own_up j n p x h' in grind arith
+
+cut_ask_up : (c : Client) (conns : ℕ → Conn) (s : Server) (a : ℕ → ℕ) (k : ℕ) → AskUp c conns → AskUp (cut_channel c k) (put conns k (client_off (conns k)))
+cut_ask_up c conns s a k i_ask_up =
+    λ j n p x. let old = i_ask_up j n p x in grind arith
+
+cut_ask_down : (c : Client) (conns : ℕ → Conn) (s : Server) (a : ℕ → ℕ) (k : ℕ) → AskDown c conns → AskDown (cut_channel c k) (put conns k (client_off (conns k)))
+cut_ask_down c conns s a k i_ask_down =
+    λ j n p y. let old = i_ask_down j n p y in grind (arith, get-push)
+
+cut_present_up : (c : Client) (conns : ℕ → Conn) (s : Server) (a : ℕ → ℕ) (k : ℕ) → PresentUp c conns s → PresentUp (cut_channel c k) (put conns k (client_off (conns k))) s
+cut_present_up c conns s a k i_present_up =
+    λ j n x. let old = i_present_up j n x in grind arith
+
+cut_users : (c : Client) (conns : ℕ → Conn) (s : Server) (a : ℕ → ℕ) (k : ℕ) → Users c conns s → Users (cut_channel c k) (put conns k (client_off (conns k))) s
+cut_users c conns s a k i_users =
+    λ j n p x. let old = i_users j n p x in grind arith
+
+cut_copy_now : (c : Client) (conns : ℕ → Conn) (s : Server) (a : ℕ → ℕ) (k : ℕ) → CopyNow c conns s → CopyNow (cut_channel c k) (put conns k (client_off (conns k))) s
+cut_copy_now c conns s a k i_copy_now =
+    λ j n p x. let old = i_copy_now j n p x in grind arith
+
+cut_retried_on : (c : Client) (conns : ℕ → Conn) (s : Server) (a : ℕ → ℕ) (k : ℕ) → Bodies c conns → Outstanding c conns → OwnUp c conns → Settled c → Taken c → RetriedOn c conns s → RetriedOn (cut_channel c k) (put conns k (client_off (conns k))) s
+cut_retried_on c conns s a k C_bodies C_outstanding C_own_up C_settled C_taken i_retried_on =
+    λ j n p x h t l. let h' : slice_get (conns j).up n ≡ Some x = grind arith in let old = i_retried_on j n p x h' t l in let h' : slice_get (conns j).up n ≡ Some x = grind arith in let b = C_bodies j n p x h' t in let tk = C_taken p b.0 in let on1 = up_on c conns C_outstanding j n p x h' t tk.0 in let ou = C_own_up j n p x h' in let st1 = C_settled p in grind arith
+
+cut_retried_done : (c : Client) (conns : ℕ → Conn) (s : Server) (a : ℕ → ℕ) (k : ℕ) → Bodies c conns → Outstanding c conns → OwnUp c conns → Settled c → Taken c → RetriedDone c conns s → RetriedDone (cut_channel c k) (put conns k (client_off (conns k))) s
+cut_retried_done c conns s a k C_bodies C_outstanding C_own_up C_settled C_taken i_retried_done =
+    λ j n p x h t l. let h' : slice_get (conns j).up n ≡ Some x = grind arith in let old = i_retried_done j n p x h' t l in let h' : slice_get (conns j).up n ≡ Some x = grind arith in let b = C_bodies j n p x h' t in let tk = C_taken p b.0 in let on1 = up_on c conns C_outstanding j n p x h' t tk.0 in let ou = C_own_up j n p x h' in let st1 = C_settled p in grind arith
+
+cut_copy_attached : (c : Client) (conns : ℕ → Conn) (s : Server) (a : ℕ → ℕ) (k : ℕ) → CopyAttached c conns s → CopyAttached (cut_channel c k) (put conns k (client_off (conns k))) s
+cut_copy_attached c conns s a k i_copy_attached =
+    λ j n p x. let old = i_copy_attached j n p x in grind arith
+
+cut_opened_reply : (c : Client) (conns : ℕ → Conn) (s : Server) (a : ℕ → ℕ) (k : ℕ) → OpenedReply c conns s → OpenedReply (cut_channel c k) (put conns k (client_off (conns k))) s
+cut_opened_reply c conns s a k i_opened_reply =
+    λ j n p y. let old = i_opened_reply j n p y in grind (arith, get-push)
+
+cut_join_reply : (c : Client) (conns : ℕ → Conn) (s : Server) (a : ℕ → ℕ) (k : ℕ) → JoinReply c conns s → JoinReply (cut_channel c k) (put conns k (client_off (conns k))) s
+cut_join_reply c conns s a k i_join_reply =
+    λ j n p y. let old = i_join_reply j n p y in grind (arith, get-push)
+
+cut_joined_reply : (c : Client) (conns : ℕ → Conn) (s : Server) (a : ℕ → ℕ) (k : ℕ) → JoinedReply c conns s → JoinedReply (cut_channel c k) (put conns k (client_off (conns k))) s
+cut_joined_reply c conns s a k i_joined_reply =
+    λ j n p y. let old = i_joined_reply j n p y in grind (arith, get-push)
+
+cut_lost_reply : (c : Client) (conns : ℕ → Conn) (s : Server) (a : ℕ → ℕ) (k : ℕ) → LostReply c conns s → LostReply (cut_channel c k) (put conns k (client_off (conns k))) s
+cut_lost_reply c conns s a k i_lost_reply =
+    λ j n p y. let old = i_lost_reply j n p y in grind (arith, get-push)
+
+cut_full_dead : (c : Client) (conns : ℕ → Conn) (s : Server) (a : ℕ → ℕ) (k : ℕ) → FullDead c conns s → FullDead (cut_channel c k) (put conns k (client_off (conns k))) s
+cut_full_dead c conns s a k i_full_dead =
+    λ j n p x. let old = i_full_dead j n p x in grind arith
+
+cut_ok_reply : (c : Client) (conns : ℕ → Conn) (s : Server) (a : ℕ → ℕ) (k : ℕ) → OkReply c conns a → OkReply (cut_channel c k) (put conns k (client_off (conns k))) a
+cut_ok_reply c conns s a k i_ok_reply =
+    λ j n p y. let old = i_ok_reply j n p y in grind (arith, get-push)
+
+cut_no_reply : (c : Client) (conns : ℕ → Conn) (s : Server) (a : ℕ → ℕ) (k : ℕ) → NoReply c conns a → NoReply (cut_channel c k) (put conns k (client_off (conns k))) a
+cut_no_reply c conns s a k i_no_reply =
+    λ j n p y. let old = i_no_reply j n p y in grind (arith, get-push)
+
+cut_kept_reply : (c : Client) (conns : ℕ → Conn) (s : Server) (a : ℕ → ℕ) (k : ℕ) → KeptReply c conns s → KeptReply (cut_channel c k) (put conns k (client_off (conns k))) s
+cut_kept_reply c conns s a k i_kept_reply =
+    λ j n p y. let old = i_kept_reply j n p y in grind (arith, get-push)
+
+cut_first_reply : (c : Client) (conns : ℕ → Conn) (s : Server) (a : ℕ → ℕ) (k : ℕ) → FirstReply c conns a → FirstReply (cut_channel c k) (put conns k (client_off (conns k))) a
+cut_first_reply c conns s a k i_first_reply =
+    λ j n p y. let old = i_first_reply j n p y in grind (arith, get-push)
+
+cut_left_full : (c : Client) (conns : ℕ → Conn) (s : Server) (a : ℕ → ℕ) (k : ℕ) → LeftFull c conns s → LeftFull (cut_channel c k) (put conns k (client_off (conns k))) s
+cut_left_full c conns s a k i_left_full =
+    λ j n p x. let old = i_left_full j n p x in grind arith
+
+cut_left_stuck : (c : Client) (conns : ℕ → Conn) (s : Server) (a : ℕ → ℕ) (k : ℕ) → LeftStuck c conns s → LeftStuck (cut_channel c k) (put conns k (client_off (conns k))) s
+cut_left_stuck c conns s a k i_left_stuck =
+    λ j n p x. let old = i_left_stuck j n p x in grind arith
+
+cut_left_idle : (c : Client) (conns : ℕ → Conn) (s : Server) (a : ℕ → ℕ) (k : ℕ) → LeftIdle c conns s a → LeftIdle (cut_channel c k) (put conns k (client_off (conns k))) s a
+cut_left_idle c conns s a k i_left_idle =
+    λ j n p q x. let old = i_left_idle j n p q x in grind arith
+
+cut_close_done : (c : Client) (conns : ℕ → Conn) (s : Server) (a : ℕ → ℕ) (k : ℕ) → CloseDone c conns s → CloseDone (cut_channel c k) (put conns k (client_off (conns k))) s
+cut_close_done c conns s a k i_close_done =
+    λ j n p y. let old = i_close_done j n p y in grind (arith, get-push)
+
+cut_close_full : (c : Client) (conns : ℕ → Conn) (s : Server) (a : ℕ → ℕ) (k : ℕ) → CloseFull c conns s → CloseFull (cut_channel c k) (put conns k (client_off (conns k))) s
+cut_close_full c conns s a k i_close_full =
+    λ j n p y. let old = i_close_full j n p y in grind (arith, get-push)
+
+cut_close_stuck : (c : Client) (conns : ℕ → Conn) (s : Server) (a : ℕ → ℕ) (k : ℕ) → CloseStuck c conns s → CloseStuck (cut_channel c k) (put conns k (client_off (conns k))) s
+cut_close_stuck c conns s a k i_close_stuck =
+    λ j n p y. let old = i_close_stuck j n p y in grind (arith, get-push)
+
+pub cut_keeps : (c : Client) (conns : ℕ → Conn) (s : Server) (a : ℕ → ℕ) (k : ℕ) → Connections c conns a → Locks c conns s a → Locks (cut_channel c k) (put conns k (client_off (conns k))) s a
+cut_keeps c conns s a k C i =
+    record {
+      slot_index = i.slot_index;
+      user_body = i.user_body;
+      in_use = i.in_use;
+      attached_low = i.attached_low;
+      shut_ok = i.shut_ok;
+      shut_gone = i.shut_gone;
+      close_before = i.close_before;
+      close_after = i.close_after;
+      unsent_gone = i.unsent_gone;
+      asked_new = i.asked_new;
+      no_session = i.no_session;
+      unanswered = cut_unanswered c conns s a k C.bodies C.outstanding C.own_up C.taken i.unanswered;
+      ask_up = cut_ask_up c conns s a k i.ask_up;
+      ask_down = cut_ask_down c conns s a k i.ask_down;
+      present_up = cut_present_up c conns s a k i.present_up;
+      users = cut_users c conns s a k i.users;
+      copy_now = cut_copy_now c conns s a k i.copy_now;
+      retried_on = cut_retried_on c conns s a k C.bodies C.outstanding C.own_up C.settled C.taken i.retried_on;
+      retried_done = cut_retried_done c conns s a k C.bodies C.outstanding C.own_up C.settled C.taken i.retried_done;
+      copy_attached = cut_copy_attached c conns s a k i.copy_attached;
+      now_attached = i.now_attached;
+      opened_reply = cut_opened_reply c conns s a k i.opened_reply;
+      join_reply = cut_join_reply c conns s a k i.join_reply;
+      joined_reply = cut_joined_reply c conns s a k i.joined_reply;
+      lost_reply = cut_lost_reply c conns s a k i.lost_reply;
+      kept_says = i.kept_says;
+      not_kept = i.not_kept;
+      firm_kept = i.firm_kept;
+      no_user = i.no_user;
+      no_slots = i.no_slots;
+      full_dead = cut_full_dead c conns s a k i.full_dead;
+      ok_reply = cut_ok_reply c conns s a k i.ok_reply;
+      no_reply = cut_no_reply c conns s a k i.no_reply;
+      kept_reply = cut_kept_reply c conns s a k i.kept_reply;
+      first_reply = cut_first_reply c conns s a k i.first_reply;
+      closed_not = i.closed_not;
+      left_full = cut_left_full c conns s a k i.left_full;
+      left_stuck = cut_left_stuck c conns s a k i.left_stuck;
+      left_idle = cut_left_idle c conns s a k i.left_idle;
+      close_done = cut_close_done c conns s a k i.close_done;
+      close_full = cut_close_full c conns s a k i.close_full;
+      close_stuck = cut_close_stuck c conns s a k i.close_stuck;
+      at_most = i.at_most;
+      ok_acted = i.ok_acted;
+      refused_not = i.refused_not;
+    }

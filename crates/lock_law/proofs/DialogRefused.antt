@@ -1,0 +1,168 @@
+-- A dialog is refused, and the client closes its channel.
+use Rattle.std.proofs.lemmas.Bool.{eqb-false}
+use Rattle.std.proofs.lemmas.Bool.Decides.{nat_tests}
+use Rattle.std.proofs.Common.{eqb-true, ◌≡◌, ◌≢◌, ℕ, ◌+◌, ◌≤◌, ◌<◌, ◌==◌, ◌%◌, Bool, true, false, not, ◌&&◌, ◌||◌, if◌then◌else◌, List, [], ◌∷◌, ◌++◌, ◌⊎◌, inl, inr, refl, arith, sym, subst, ◌∙◌, ap, Option, Some, None, slice_get, is_some, zero, suc}
+use Rattle.exchange_defs.specs.Table.{put, put2}
+use Rattle.exchange_defs.specs.Status.{success, user_session_deleted, file_closed, object_name_not_found, no_memory, disk_full}
+use Rattle.exchange_defs.specs.State.{Server, Message, Reply, Kept}
+use Rattle.exchange_defs.specs.Records.{lower_limit}
+use Rattle.exchange_defs.specs.Operations.{Op, Outcome, Why, is_unsettled, is_ok, is_create, is_close, is_lock, create_of, id_in, reconnect_of}
+use Rattle.exchange_defs.specs.Client.{Client, Stage, AskedTree, create_for, guid_for, outstanding as put_out, asked, cut_channel, end_session, finish}
+use Rattle.exchange_defs.specs.Settling.{answered}
+use Rattle.exchange_defs.specs.Dialogs.{open_channel, went_on, accepted, bound, readied, leave_dialog, refused_dialog}
+use Rattle.exchange_defs.specs.Network.{Conn, Sent, Received, Token, ForDialog, ForOp, ForAttach, op_of, fresh as fresh_conn, server_off, client_off, send_up, behind_front, take_front}
+use Rattle.exchange_law.specs.Connections.{Connections, copies, count_up, count_down, no_copy_out, makes_open, shuts_open, acts_once, its_create, its_request, create_at, opens, Once, Outstanding, OwnUp, AttachUp, OwnDown, AttachDown, DownOpen, OnReady, Ready, Stages, Settled, Taken, TakenOn, Creates, Lower, HasOpen, AskedOpen, Fresh, Bodies, First, Unsent, SentReplies, Deleted}
+use Rattle.exchange_law.proofs.Lists.{get-push, rest_of, own_up_count, own_down_count, attach_up_count, attach_down_count, front_up, front_down, waited, waited_down}
+use Rattle.session_law.specs.Sessions.{is_ops}
+use Rattle.lock_law.specs.Locks.{Locks, locking, kept_at, firm, is_unsent, refused_for_good, in_slots, user_at, open_at, kept_of, goes_with, of_directory, SlotIndex, UserBody, InUse, AttachedLow, ShutOk, ShutGone, CloseBefore, CloseAfter, UnsentGone, AskedNew, NoSession, Unanswered, AskUp, AskDown, PresentUp, Users, CopyNow, RetriedOn, RetriedDone, CopyAttached, NowAttached, OpenedReply, JoinReply, JoinedReply, LostReply, KeptSays, NotKept, FirmKept, NoUser, NoSlots, FullDead, OkReply, NoReply, KeptReply, FirstReply, ClosedNot, LeftFull, LeftStuck, LeftIdle, CloseDone, CloseFull, CloseStuck, AtMost, OkActed, RefusedNot}
+use Rattle.lock_law.proofs.Words.{lock_kind, lock_stays, lock_once, close_kind, own_create, unsettled_firm, unsettled_unsent, unsettled_ok, unsettled_refused, unsent_firm, unsent_ok, ok_firm, ok_settled, firm_settled, unsent_settled, unsent_refused, refused_how, kept_none, kept_same, kept_other, kept_is_some, more_up, more_down, more_asks, down_is_open, up_on, down_on, ask_on, ok_of, made_of, own_ops, own_reply_ops, ask_reply_ops}
+
+dialog_refused_asked_new : (c : Client) (conns : ℕ → Conn) (s : Server) (a : ℕ → ℕ) (k status : ℕ) → (c.ready k ≡ false) → AskedNew c → AskedNew (refused_dialog c k status)
+dialog_refused_asked_new c conns s a k status apart i_asked_new =
+    λ j. let old = i_asked_new j in grind arith
+
+dialog_refused_unanswered : (c : Client) (conns : ℕ → Conn) (s : Server) (a : ℕ → ℕ) (k status : ℕ) → (c.ready k ≡ false) → Bodies c conns → OnReady c → Outstanding c conns → Settled c → Taken c → Unanswered c conns → Unanswered (refused_dialog c k status) (put conns k (client_off (conns k)))
+dialog_refused_unanswered c conns s a k status apart C_bodies C_on_ready C_outstanding C_settled C_taken i_unanswered =
+    λ j n p x h t. let h' : slice_get (conns j).up n ≡ Some x = grind arith in let old = i_unanswered j n p x h' t in let b = C_bodies j n p x h' t in let tk = C_taken p b.0 in let on1 = up_on c conns C_outstanding j n p x h' t tk.0 in let rd = C_on_ready p k in let st1 = C_settled p in grind arith
+
+dialog_refused_ask_up : (c : Client) (conns : ℕ → Conn) (s : Server) (a : ℕ → ℕ) (k status : ℕ) → (c.ready k ≡ false) → AskUp c conns → AskUp (refused_dialog c k status) (put conns k (client_off (conns k)))
+dialog_refused_ask_up c conns s a k status apart i_ask_up =
+    λ j n p x. let old = i_ask_up j n p x in grind arith
+
+dialog_refused_ask_down : (c : Client) (conns : ℕ → Conn) (s : Server) (a : ℕ → ℕ) (k status : ℕ) → (c.ready k ≡ false) → AskDown c conns → AskDown (refused_dialog c k status) (put conns k (client_off (conns k)))
+dialog_refused_ask_down c conns s a k status apart i_ask_down =
+    λ j n p y. let old = i_ask_down j n p y in grind (arith, get-push)
+
+dialog_refused_present_up : (c : Client) (conns : ℕ → Conn) (s : Server) (a : ℕ → ℕ) (k status : ℕ) → (c.ready k ≡ false) → PresentUp c conns s → PresentUp (refused_dialog c k status) (put conns k (client_off (conns k))) s
+dialog_refused_present_up c conns s a k status apart i_present_up =
+    λ j n x. let old = i_present_up j n x in grind arith
+
+dialog_refused_users : (c : Client) (conns : ℕ → Conn) (s : Server) (a : ℕ → ℕ) (k status : ℕ) → (c.ready k ≡ false) → Users c conns s → Users (refused_dialog c k status) (put conns k (client_off (conns k))) s
+dialog_refused_users c conns s a k status apart i_users =
+    λ j n p x. let old = i_users j n p x in grind arith
+
+dialog_refused_copy_now : (c : Client) (conns : ℕ → Conn) (s : Server) (a : ℕ → ℕ) (k status : ℕ) → (c.ready k ≡ false) → CopyNow c conns s → CopyNow (refused_dialog c k status) (put conns k (client_off (conns k))) s
+dialog_refused_copy_now c conns s a k status apart i_copy_now =
+    λ j n p x. let old = i_copy_now j n p x in grind arith
+
+dialog_refused_retried_on : (c : Client) (conns : ℕ → Conn) (s : Server) (a : ℕ → ℕ) (k status : ℕ) → (c.ready k ≡ false) → Bodies c conns → OnReady c → Outstanding c conns → Settled c → Taken c → RetriedOn c conns s → RetriedOn (refused_dialog c k status) (put conns k (client_off (conns k))) s
+dialog_refused_retried_on c conns s a k status apart C_bodies C_on_ready C_outstanding C_settled C_taken i_retried_on =
+    λ j n p x h t. let h' : slice_get (conns j).up n ≡ Some x = grind arith in let old = i_retried_on j n p x h' t in let b = C_bodies j n p x h' t in let tk = C_taken p b.0 in let on1 = up_on c conns C_outstanding j n p x h' t tk.0 in let rd = C_on_ready p k in let st1 = C_settled p in grind arith
+
+dialog_refused_retried_done : (c : Client) (conns : ℕ → Conn) (s : Server) (a : ℕ → ℕ) (k status : ℕ) → (c.ready k ≡ false) → Bodies c conns → OnReady c → Outstanding c conns → Settled c → Taken c → RetriedDone c conns s → RetriedDone (refused_dialog c k status) (put conns k (client_off (conns k))) s
+dialog_refused_retried_done c conns s a k status apart C_bodies C_on_ready C_outstanding C_settled C_taken i_retried_done =
+    λ j n p x h t. let h' : slice_get (conns j).up n ≡ Some x = grind arith in let old = i_retried_done j n p x h' t in let b = C_bodies j n p x h' t in let tk = C_taken p b.0 in let on1 = up_on c conns C_outstanding j n p x h' t tk.0 in let rd = C_on_ready p k in let st1 = C_settled p in grind arith
+
+dialog_refused_copy_attached : (c : Client) (conns : ℕ → Conn) (s : Server) (a : ℕ → ℕ) (k status : ℕ) → (c.ready k ≡ false) → CopyAttached c conns s → CopyAttached (refused_dialog c k status) (put conns k (client_off (conns k))) s
+dialog_refused_copy_attached c conns s a k status apart i_copy_attached =
+    λ j n p x. let old = i_copy_attached j n p x in grind arith
+
+dialog_refused_opened_reply : (c : Client) (conns : ℕ → Conn) (s : Server) (a : ℕ → ℕ) (k status : ℕ) → (c.ready k ≡ false) → OpenedReply c conns s → OpenedReply (refused_dialog c k status) (put conns k (client_off (conns k))) s
+dialog_refused_opened_reply c conns s a k status apart i_opened_reply =
+    λ j n p y. let old = i_opened_reply j n p y in grind (arith, get-push)
+
+dialog_refused_join_reply : (c : Client) (conns : ℕ → Conn) (s : Server) (a : ℕ → ℕ) (k status : ℕ) → (c.ready k ≡ false) → JoinReply c conns s → JoinReply (refused_dialog c k status) (put conns k (client_off (conns k))) s
+dialog_refused_join_reply c conns s a k status apart i_join_reply =
+    λ j n p y. let old = i_join_reply j n p y in grind (arith, get-push)
+
+dialog_refused_joined_reply : (c : Client) (conns : ℕ → Conn) (s : Server) (a : ℕ → ℕ) (k status : ℕ) → (c.ready k ≡ false) → JoinedReply c conns s → JoinedReply (refused_dialog c k status) (put conns k (client_off (conns k))) s
+dialog_refused_joined_reply c conns s a k status apart i_joined_reply =
+    λ j n p y. let old = i_joined_reply j n p y in grind (arith, get-push)
+
+dialog_refused_lost_reply : (c : Client) (conns : ℕ → Conn) (s : Server) (a : ℕ → ℕ) (k status : ℕ) → (c.ready k ≡ false) → LostReply c conns s → LostReply (refused_dialog c k status) (put conns k (client_off (conns k))) s
+dialog_refused_lost_reply c conns s a k status apart i_lost_reply =
+    λ j n p y. let old = i_lost_reply j n p y in grind (arith, get-push)
+
+dialog_refused_full_dead : (c : Client) (conns : ℕ → Conn) (s : Server) (a : ℕ → ℕ) (k status : ℕ) → (c.ready k ≡ false) → FullDead c conns s → FullDead (refused_dialog c k status) (put conns k (client_off (conns k))) s
+dialog_refused_full_dead c conns s a k status apart i_full_dead =
+    λ j n p x. let old = i_full_dead j n p x in grind arith
+
+dialog_refused_ok_reply : (c : Client) (conns : ℕ → Conn) (s : Server) (a : ℕ → ℕ) (k status : ℕ) → (c.ready k ≡ false) → OkReply c conns a → OkReply (refused_dialog c k status) (put conns k (client_off (conns k))) a
+dialog_refused_ok_reply c conns s a k status apart i_ok_reply =
+    λ j n p y. let old = i_ok_reply j n p y in grind (arith, get-push)
+
+dialog_refused_no_reply : (c : Client) (conns : ℕ → Conn) (s : Server) (a : ℕ → ℕ) (k status : ℕ) → (c.ready k ≡ false) → NoReply c conns a → NoReply (refused_dialog c k status) (put conns k (client_off (conns k))) a
+dialog_refused_no_reply c conns s a k status apart i_no_reply =
+    λ j n p y. let old = i_no_reply j n p y in grind (arith, get-push)
+
+dialog_refused_kept_reply : (c : Client) (conns : ℕ → Conn) (s : Server) (a : ℕ → ℕ) (k status : ℕ) → (c.ready k ≡ false) → KeptReply c conns s → KeptReply (refused_dialog c k status) (put conns k (client_off (conns k))) s
+dialog_refused_kept_reply c conns s a k status apart i_kept_reply =
+    λ j n p y. let old = i_kept_reply j n p y in grind (arith, get-push)
+
+dialog_refused_first_reply : (c : Client) (conns : ℕ → Conn) (s : Server) (a : ℕ → ℕ) (k status : ℕ) → (c.ready k ≡ false) → FirstReply c conns a → FirstReply (refused_dialog c k status) (put conns k (client_off (conns k))) a
+dialog_refused_first_reply c conns s a k status apart i_first_reply =
+    λ j n p y. let old = i_first_reply j n p y in grind (arith, get-push)
+
+dialog_refused_left_full : (c : Client) (conns : ℕ → Conn) (s : Server) (a : ℕ → ℕ) (k status : ℕ) → (c.ready k ≡ false) → LeftFull c conns s → LeftFull (refused_dialog c k status) (put conns k (client_off (conns k))) s
+dialog_refused_left_full c conns s a k status apart i_left_full =
+    λ j n p x. let old = i_left_full j n p x in grind arith
+
+dialog_refused_left_stuck : (c : Client) (conns : ℕ → Conn) (s : Server) (a : ℕ → ℕ) (k status : ℕ) → (c.ready k ≡ false) → LeftStuck c conns s → LeftStuck (refused_dialog c k status) (put conns k (client_off (conns k))) s
+dialog_refused_left_stuck c conns s a k status apart i_left_stuck =
+    λ j n p x. let old = i_left_stuck j n p x in grind arith
+
+dialog_refused_left_idle : (c : Client) (conns : ℕ → Conn) (s : Server) (a : ℕ → ℕ) (k status : ℕ) → (c.ready k ≡ false) → LeftIdle c conns s a → LeftIdle (refused_dialog c k status) (put conns k (client_off (conns k))) s a
+dialog_refused_left_idle c conns s a k status apart i_left_idle =
+    λ j n p q x. let old = i_left_idle j n p q x in grind arith
+
+dialog_refused_close_done : (c : Client) (conns : ℕ → Conn) (s : Server) (a : ℕ → ℕ) (k status : ℕ) → (c.ready k ≡ false) → CloseDone c conns s → CloseDone (refused_dialog c k status) (put conns k (client_off (conns k))) s
+dialog_refused_close_done c conns s a k status apart i_close_done =
+    λ j n p y. let old = i_close_done j n p y in grind (arith, get-push)
+
+dialog_refused_close_full : (c : Client) (conns : ℕ → Conn) (s : Server) (a : ℕ → ℕ) (k status : ℕ) → (c.ready k ≡ false) → CloseFull c conns s → CloseFull (refused_dialog c k status) (put conns k (client_off (conns k))) s
+dialog_refused_close_full c conns s a k status apart i_close_full =
+    λ j n p y. let old = i_close_full j n p y in grind (arith, get-push)
+
+dialog_refused_close_stuck : (c : Client) (conns : ℕ → Conn) (s : Server) (a : ℕ → ℕ) (k status : ℕ) → (c.ready k ≡ false) → CloseStuck c conns s → CloseStuck (refused_dialog c k status) (put conns k (client_off (conns k))) s
+dialog_refused_close_stuck c conns s a k status apart i_close_stuck =
+    λ j n p y. let old = i_close_stuck j n p y in grind (arith, get-push)
+
+pub dialog_refused_keeps : (c : Client) (conns : ℕ → Conn) (s : Server) (a : ℕ → ℕ) (k status : ℕ) → (c.ready k ≡ false) → Connections c conns a → Locks c conns s a → Locks (refused_dialog c k status) (put conns k (client_off (conns k))) s a
+dialog_refused_keeps c conns s a k status apart C i =
+    record {
+      slot_index = i.slot_index;
+      user_body = i.user_body;
+      in_use = i.in_use;
+      attached_low = i.attached_low;
+      shut_ok = i.shut_ok;
+      shut_gone = i.shut_gone;
+      close_before = i.close_before;
+      close_after = i.close_after;
+      unsent_gone = i.unsent_gone;
+      asked_new = dialog_refused_asked_new c conns s a k status apart i.asked_new;
+      no_session = i.no_session;
+      unanswered = dialog_refused_unanswered c conns s a k status apart C.bodies C.on_ready C.outstanding C.settled C.taken i.unanswered;
+      ask_up = dialog_refused_ask_up c conns s a k status apart i.ask_up;
+      ask_down = dialog_refused_ask_down c conns s a k status apart i.ask_down;
+      present_up = dialog_refused_present_up c conns s a k status apart i.present_up;
+      users = dialog_refused_users c conns s a k status apart i.users;
+      copy_now = dialog_refused_copy_now c conns s a k status apart i.copy_now;
+      retried_on = dialog_refused_retried_on c conns s a k status apart C.bodies C.on_ready C.outstanding C.settled C.taken i.retried_on;
+      retried_done = dialog_refused_retried_done c conns s a k status apart C.bodies C.on_ready C.outstanding C.settled C.taken i.retried_done;
+      copy_attached = dialog_refused_copy_attached c conns s a k status apart i.copy_attached;
+      now_attached = i.now_attached;
+      opened_reply = dialog_refused_opened_reply c conns s a k status apart i.opened_reply;
+      join_reply = dialog_refused_join_reply c conns s a k status apart i.join_reply;
+      joined_reply = dialog_refused_joined_reply c conns s a k status apart i.joined_reply;
+      lost_reply = dialog_refused_lost_reply c conns s a k status apart i.lost_reply;
+      kept_says = i.kept_says;
+      not_kept = i.not_kept;
+      firm_kept = i.firm_kept;
+      no_user = i.no_user;
+      no_slots = i.no_slots;
+      full_dead = dialog_refused_full_dead c conns s a k status apart i.full_dead;
+      ok_reply = dialog_refused_ok_reply c conns s a k status apart i.ok_reply;
+      no_reply = dialog_refused_no_reply c conns s a k status apart i.no_reply;
+      kept_reply = dialog_refused_kept_reply c conns s a k status apart i.kept_reply;
+      first_reply = dialog_refused_first_reply c conns s a k status apart i.first_reply;
+      closed_not = i.closed_not;
+      left_full = dialog_refused_left_full c conns s a k status apart i.left_full;
+      left_stuck = dialog_refused_left_stuck c conns s a k status apart i.left_stuck;
+      left_idle = dialog_refused_left_idle c conns s a k status apart i.left_idle;
+      close_done = dialog_refused_close_done c conns s a k status apart i.close_done;
+      close_full = dialog_refused_close_full c conns s a k status apart i.close_full;
+      close_stuck = dialog_refused_close_stuck c conns s a k status apart i.close_stuck;
+      at_most = i.at_most;
+      ok_acted = i.ok_acted;
+      refused_not = i.refused_not;
+    }

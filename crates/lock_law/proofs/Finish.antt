@@ -1,0 +1,148 @@
+-- No session can be had.
+use Rattle.std.proofs.lemmas.Bool.{eqb-false}
+use Rattle.std.proofs.lemmas.Bool.Decides.{nat_tests}
+use Rattle.std.proofs.Common.{eqb-true, ◌≡◌, ◌≢◌, ℕ, ◌+◌, ◌≤◌, ◌<◌, ◌==◌, ◌%◌, Bool, true, false, not, ◌&&◌, ◌||◌, if◌then◌else◌, List, [], ◌∷◌, ◌++◌, ◌⊎◌, inl, inr, refl, arith, sym, subst, ◌∙◌, ap, Option, Some, None, slice_get, is_some, zero, suc}
+use Rattle.exchange_defs.specs.Table.{put, put2}
+use Rattle.exchange_defs.specs.Status.{success, user_session_deleted, file_closed, object_name_not_found, no_memory, disk_full}
+use Rattle.exchange_defs.specs.State.{Server, Message, Reply, Kept}
+use Rattle.exchange_defs.specs.Records.{lower_limit}
+use Rattle.exchange_defs.specs.Operations.{Op, Outcome, Why, is_unsettled, is_ok, is_create, is_close, is_lock, create_of, id_in, reconnect_of}
+use Rattle.exchange_defs.specs.Client.{Client, Stage, AskedTree, create_for, guid_for, outstanding as put_out, asked, cut_channel, end_session, finish}
+use Rattle.exchange_defs.specs.Settling.{answered}
+use Rattle.exchange_defs.specs.Dialogs.{open_channel, went_on, accepted, bound, readied, leave_dialog, refused_dialog}
+use Rattle.exchange_defs.specs.Network.{Conn, Sent, Received, Token, ForDialog, ForOp, ForAttach, op_of, fresh as fresh_conn, server_off, client_off, send_up, behind_front, take_front}
+use Rattle.exchange_law.specs.Connections.{Connections, copies, count_up, count_down, no_copy_out, makes_open, shuts_open, acts_once, its_create, its_request, create_at, opens, Once, Outstanding, OwnUp, AttachUp, OwnDown, AttachDown, DownOpen, OnReady, Ready, Stages, Settled, Taken, TakenOn, Creates, Lower, HasOpen, AskedOpen, Fresh, Bodies, First, Unsent, SentReplies, Deleted}
+use Rattle.exchange_law.proofs.Lists.{get-push, rest_of, own_up_count, own_down_count, attach_up_count, attach_down_count, front_up, front_down, waited, waited_down}
+use Rattle.session_law.specs.Sessions.{is_ops}
+use Rattle.lock_law.specs.Locks.{Locks, locking, kept_at, firm, is_unsent, refused_for_good, in_slots, user_at, open_at, kept_of, goes_with, of_directory, SlotIndex, UserBody, InUse, AttachedLow, ShutOk, ShutGone, CloseBefore, CloseAfter, UnsentGone, AskedNew, NoSession, Unanswered, AskUp, AskDown, PresentUp, Users, CopyNow, RetriedOn, RetriedDone, CopyAttached, NowAttached, OpenedReply, JoinReply, JoinedReply, LostReply, KeptSays, NotKept, FirmKept, NoUser, NoSlots, FullDead, OkReply, NoReply, KeptReply, FirstReply, ClosedNot, LeftFull, LeftStuck, LeftIdle, CloseDone, CloseFull, CloseStuck, AtMost, OkActed, RefusedNot}
+use Rattle.lock_law.proofs.Words.{lock_kind, lock_stays, lock_once, close_kind, own_create, unsettled_firm, unsettled_unsent, unsettled_ok, unsettled_refused, unsent_firm, unsent_ok, ok_firm, ok_settled, firm_settled, unsent_settled, unsent_refused, refused_how, kept_none, kept_same, kept_other, kept_is_some, more_up, more_down, more_asks, down_is_open, up_on, down_on, ask_on, ok_of, made_of, own_ops, own_reply_ops, ask_reply_ops}
+
+finish_in_use : (c : Client) (conns : ℕ → Conn) (s : Server) (a : ℕ → ℕ) (new : ℕ → Outcome) (given : ℕ → Option ℕ) → (c.live ≡ false) → ((h : ℕ) → is_unsettled (c.outcome h) ≡ false → new h ≡ c.outcome h) → InUse c → InUse (record c { outcome = new; given_up = given })
+finish_in_use c conns s a new given dead same i_in_use =
+    λ p s0 l. let old = i_in_use p s0 l in let sm = same p in let uf = unsettled_firm (c.outcome p) in grind arith
+
+finish_shut_ok : (c : Client) (conns : ℕ → Conn) (s : Server) (a : ℕ → ℕ) (new : ℕ → Outcome) (given : ℕ → Option ℕ) → (c.live ≡ false) → ((h : ℕ) → is_unsettled (c.outcome h) ≡ false → new h ≡ c.outcome h) → ((h : ℕ) → is_unsettled (c.outcome h) ≡ true → firm (new h) ≡ false × is_ok (new h) ≡ false) → ShutOk c → ShutOk (record c { outcome = new; given_up = given })
+finish_shut_ok c conns s a new given dead same unfirm i_shut_ok =
+    λ p. let old = i_shut_ok p in let sm = same p in let uf = unfirm p in grind arith
+
+finish_shut_gone : (c : Client) (conns : ℕ → Conn) (s : Server) (a : ℕ → ℕ) (new : ℕ → Outcome) (given : ℕ → Option ℕ) → (c.live ≡ false) → ((h : ℕ) → is_unsettled (c.outcome h) ≡ false → new h ≡ c.outcome h) → ShutGone c → ShutGone (record c { outcome = new; given_up = given })
+finish_shut_gone c conns s a new given dead same i_shut_gone =
+    λ p l m. let old = i_shut_gone p l m in let sm = same p in grind arith
+
+finish_close_before : (c : Client) (conns : ℕ → Conn) (s : Server) (a : ℕ → ℕ) (new : ℕ → Outcome) (given : ℕ → Option ℕ) → (c.live ≡ false) → ((h : ℕ) → is_unsettled (c.outcome h) ≡ false → new h ≡ c.outcome h) → CloseBefore c → CloseBefore (record c { outcome = new; given_up = given })
+finish_close_before c conns s a new given dead same i_close_before =
+    λ p q. let old = i_close_before p q in let sm = same q in grind arith
+
+finish_close_after : (c : Client) (conns : ℕ → Conn) (s : Server) (a : ℕ → ℕ) (new : ℕ → Outcome) (given : ℕ → Option ℕ) → (c.live ≡ false) → ((h : ℕ) → is_unsettled (c.outcome h) ≡ false → new h ≡ c.outcome h) → CloseAfter c → CloseAfter (record c { outcome = new; given_up = given })
+finish_close_after c conns s a new given dead same i_close_after =
+    λ q p. let old = i_close_after q p in let sm = same p in grind arith
+
+finish_unsent_gone : (c : Client) (conns : ℕ → Conn) (s : Server) (a : ℕ → ℕ) (new : ℕ → Outcome) (given : ℕ → Option ℕ) → (c.live ≡ false) → ((h : ℕ) → is_unsettled (c.outcome h) ≡ false → new h ≡ c.outcome h) → ((h : ℕ) → is_unsettled (c.outcome h) ≡ true → refused_for_good (new h) ≡ true → c.sent h ≡ false) → UnsentGone c → UnsentGone (record c { outcome = new; given_up = given })
+finish_unsent_gone c conns s a new given dead same unsent i_unsent_gone =
+    λ p. let old = i_unsent_gone p in let sm = same p in let un = unsent p in let ur = unsent_refused (new p) in grind arith
+
+finish_ask_up : (c : Client) (conns : ℕ → Conn) (s : Server) (a : ℕ → ℕ) (new : ℕ → Outcome) (given : ℕ → Option ℕ) → (c.live ≡ false) → ((h : ℕ) → is_unsettled (c.outcome h) ≡ false → new h ≡ c.outcome h) → AskUp c conns → AskUp (record c { outcome = new; given_up = given }) conns
+finish_ask_up c conns s a new given dead same i_ask_up =
+    λ j n p x h t. let old = i_ask_up j n p x h t in let sm = same (create_at c p) in let os = ok_settled (c.outcome (create_at c p)) old.3 in grind arith
+
+finish_ask_down : (c : Client) (conns : ℕ → Conn) (s : Server) (a : ℕ → ℕ) (new : ℕ → Outcome) (given : ℕ → Option ℕ) → (c.live ≡ false) → ((h : ℕ) → is_unsettled (c.outcome h) ≡ false → new h ≡ c.outcome h) → AskDown c conns → AskDown (record c { outcome = new; given_up = given }) conns
+finish_ask_down c conns s a new given dead same i_ask_down =
+    λ j n p y h t. let old = i_ask_down j n p y h t in let sm = same (create_at c p) in let os = ok_settled (c.outcome (create_at c p)) old.3 in grind arith
+
+finish_retried_done : (c : Client) (conns : ℕ → Conn) (s : Server) (a : ℕ → ℕ) (new : ℕ → Outcome) (given : ℕ → Option ℕ) → (c.live ≡ false) → RetriedDone c conns s → RetriedDone (record c { outcome = new; given_up = given }) conns s
+finish_retried_done c conns s a new given dead i_retried_done =
+    λ j n p x h t. let d = dead in grind arith
+
+finish_now_attached : (c : Client) (conns : ℕ → Conn) (s : Server) (a : ℕ → ℕ) (new : ℕ → Outcome) (given : ℕ → Option ℕ) → (c.live ≡ false) → NowAttached c s → NowAttached (record c { outcome = new; given_up = given }) s
+finish_now_attached c conns s a new given dead i_now_attached =
+    λ q. let d = dead in grind arith
+
+finish_firm_kept : (c : Client) (conns : ℕ → Conn) (s : Server) (a : ℕ → ℕ) (new : ℕ → Outcome) (given : ℕ → Option ℕ) → (c.live ≡ false) → ((h : ℕ) → is_unsettled (c.outcome h) ≡ false → new h ≡ c.outcome h) → ((h : ℕ) → is_unsettled (c.outcome h) ≡ true → firm (new h) ≡ false × is_ok (new h) ≡ false) → FirmKept c s → FirmKept (record c { outcome = new; given_up = given }) s
+finish_firm_kept c conns s a new given dead same unfirm i_firm_kept =
+    λ p e. let old = i_firm_kept p e in let sm = same p in let uf = unfirm p in grind arith
+
+finish_no_user : (c : Client) (conns : ℕ → Conn) (s : Server) (a : ℕ → ℕ) (new : ℕ → Outcome) (given : ℕ → Option ℕ) → (c.live ≡ false) → ((h : ℕ) → is_unsettled (c.outcome h) ≡ false → new h ≡ c.outcome h) → ((h : ℕ) → is_unsettled (c.outcome h) ≡ true → firm (new h) ≡ false × is_ok (new h) ≡ false) → NoUser c s → NoUser (record c { outcome = new; given_up = given }) s
+finish_no_user c conns s a new given dead same unfirm i_no_user =
+    λ q r. let old = i_no_user q r in let sm = same q in let uf = unfirm q in grind arith
+
+finish_no_slots : (c : Client) (conns : ℕ → Conn) (s : Server) (a : ℕ → ℕ) (new : ℕ → Outcome) (given : ℕ → Option ℕ) → (c.live ≡ false) → ((h : ℕ) → is_unsettled (c.outcome h) ≡ false → new h ≡ c.outcome h) → NoSlots c s → NoSlots (record c { outcome = new; given_up = given }) s
+finish_no_slots c conns s a new given dead same i_no_slots =
+    λ q r o m. let old = i_no_slots q r o m in let sm = same q in let os = ok_settled (c.outcome q) in grind arith
+
+finish_full_dead : (c : Client) (conns : ℕ → Conn) (s : Server) (a : ℕ → ℕ) (new : ℕ → Outcome) (given : ℕ → Option ℕ) → (c.live ≡ false) → ((h : ℕ) → is_unsettled (c.outcome h) ≡ false → new h ≡ c.outcome h) → ((h : ℕ) → is_unsettled (c.outcome h) ≡ true → firm (new h) ≡ false × is_ok (new h) ≡ false) → FullDead c conns s → FullDead (record c { outcome = new; given_up = given }) conns s
+finish_full_dead c conns s a new given dead same unfirm i_full_dead =
+    λ j n p x h t l. let h' : slice_get (conns j).up n ≡ Some x = grind arith in let old = i_full_dead j n p x h' t l in let sm = same p in let uf = unfirm p in grind arith
+
+finish_closed_not : (c : Client) (conns : ℕ → Conn) (s : Server) (a : ℕ → ℕ) (new : ℕ → Outcome) (given : ℕ → Option ℕ) → (c.live ≡ false) → ClosedNot c s a → ClosedNot (record c { outcome = new; given_up = given }) s a
+finish_closed_not c conns s a new given dead i_closed_not =
+    λ p. let d = dead in grind arith
+
+finish_left_full : (c : Client) (conns : ℕ → Conn) (s : Server) (a : ℕ → ℕ) (new : ℕ → Outcome) (given : ℕ → Option ℕ) → (c.live ≡ false) → LeftFull c conns s → LeftFull (record c { outcome = new; given_up = given }) conns s
+finish_left_full c conns s a new given dead i_left_full =
+    λ j n p x h t. let d = dead in grind arith
+
+finish_left_stuck : (c : Client) (conns : ℕ → Conn) (s : Server) (a : ℕ → ℕ) (new : ℕ → Outcome) (given : ℕ → Option ℕ) → (c.live ≡ false) → LeftStuck c conns s → LeftStuck (record c { outcome = new; given_up = given }) conns s
+finish_left_stuck c conns s a new given dead i_left_stuck =
+    λ j n p x h t. let d = dead in grind arith
+
+finish_left_idle : (c : Client) (conns : ℕ → Conn) (s : Server) (a : ℕ → ℕ) (new : ℕ → Outcome) (given : ℕ → Option ℕ) → (c.live ≡ false) → LeftIdle c conns s a → LeftIdle (record c { outcome = new; given_up = given }) conns s a
+finish_left_idle c conns s a new given dead i_left_idle =
+    λ j n p q x h t. let d = dead in grind arith
+
+finish_ok_acted : (c : Client) (conns : ℕ → Conn) (s : Server) (a : ℕ → ℕ) (new : ℕ → Outcome) (given : ℕ → Option ℕ) → (c.live ≡ false) → ((h : ℕ) → is_unsettled (c.outcome h) ≡ false → new h ≡ c.outcome h) → ((h : ℕ) → is_unsettled (c.outcome h) ≡ true → firm (new h) ≡ false × is_ok (new h) ≡ false) → OkActed c a → OkActed (record c { outcome = new; given_up = given }) a
+finish_ok_acted c conns s a new given dead same unfirm i_ok_acted =
+    λ p l. let old = i_ok_acted p l in let sm = same p in let uf = unfirm p in grind arith
+
+finish_refused_not : (c : Client) (conns : ℕ → Conn) (s : Server) (a : ℕ → ℕ) (new : ℕ → Outcome) (given : ℕ → Option ℕ) → (c.live ≡ false) → ((h : ℕ) → is_unsettled (c.outcome h) ≡ false → new h ≡ c.outcome h) → ((h : ℕ) → is_unsettled (c.outcome h) ≡ true → refused_for_good (new h) ≡ true → c.sent h ≡ false) → Fresh c a → RefusedNot c a → RefusedNot (record c { outcome = new; given_up = given }) a
+finish_refused_not c conns s a new given dead same unsent C_fresh i_refused_not =
+    λ p l. let old = i_refused_not p l in let sm = same p in let un = unsent p in let fr = C_fresh p in grind arith
+
+pub finish_keeps : (c : Client) (conns : ℕ → Conn) (s : Server) (a : ℕ → ℕ) (new : ℕ → Outcome) (given : ℕ → Option ℕ) → (c.live ≡ false) → ((h : ℕ) → is_unsettled (c.outcome h) ≡ false → new h ≡ c.outcome h) → ((h : ℕ) → is_unsettled (c.outcome h) ≡ true → firm (new h) ≡ false × is_ok (new h) ≡ false) → ((h : ℕ) → is_unsettled (c.outcome h) ≡ true → refused_for_good (new h) ≡ true → c.sent h ≡ false) → Connections c conns a → Locks c conns s a → Locks (record c { outcome = new; given_up = given }) conns s a
+finish_keeps c conns s a new given dead same unfirm unsent C i =
+    record {
+      slot_index = i.slot_index;
+      user_body = i.user_body;
+      in_use = finish_in_use c conns s a new given dead same i.in_use;
+      attached_low = i.attached_low;
+      shut_ok = finish_shut_ok c conns s a new given dead same unfirm i.shut_ok;
+      shut_gone = finish_shut_gone c conns s a new given dead same i.shut_gone;
+      close_before = finish_close_before c conns s a new given dead same i.close_before;
+      close_after = finish_close_after c conns s a new given dead same i.close_after;
+      unsent_gone = finish_unsent_gone c conns s a new given dead same unsent i.unsent_gone;
+      asked_new = i.asked_new;
+      no_session = i.no_session;
+      unanswered = i.unanswered;
+      ask_up = finish_ask_up c conns s a new given dead same i.ask_up;
+      ask_down = finish_ask_down c conns s a new given dead same i.ask_down;
+      present_up = i.present_up;
+      users = i.users;
+      copy_now = i.copy_now;
+      retried_on = i.retried_on;
+      retried_done = finish_retried_done c conns s a new given dead i.retried_done;
+      copy_attached = i.copy_attached;
+      now_attached = finish_now_attached c conns s a new given dead i.now_attached;
+      opened_reply = i.opened_reply;
+      join_reply = i.join_reply;
+      joined_reply = i.joined_reply;
+      lost_reply = i.lost_reply;
+      kept_says = i.kept_says;
+      not_kept = i.not_kept;
+      firm_kept = finish_firm_kept c conns s a new given dead same unfirm i.firm_kept;
+      no_user = finish_no_user c conns s a new given dead same unfirm i.no_user;
+      no_slots = finish_no_slots c conns s a new given dead same i.no_slots;
+      full_dead = finish_full_dead c conns s a new given dead same unfirm i.full_dead;
+      ok_reply = i.ok_reply;
+      no_reply = i.no_reply;
+      kept_reply = i.kept_reply;
+      first_reply = i.first_reply;
+      closed_not = finish_closed_not c conns s a new given dead i.closed_not;
+      left_full = finish_left_full c conns s a new given dead i.left_full;
+      left_stuck = finish_left_stuck c conns s a new given dead i.left_stuck;
+      left_idle = finish_left_idle c conns s a new given dead i.left_idle;
+      close_done = i.close_done;
+      close_full = i.close_full;
+      close_stuck = i.close_stuck;
+      at_most = i.at_most;
+      ok_acted = finish_ok_acted c conns s a new given dead same unfirm i.ok_acted;
+      refused_not = finish_refused_not c conns s a new given dead same unsent C.fresh i.refused_not;
+    }

@@ -1,0 +1,128 @@
+-- A session is ready.
+use Rattle.std.proofs.lemmas.Bool.{eqb-false}
+use Rattle.std.proofs.lemmas.Bool.Decides.{nat_tests}
+use Rattle.std.proofs.Common.{eqb-true, ◌≡◌, ◌≢◌, ℕ, ◌+◌, ◌≤◌, ◌<◌, ◌==◌, ◌%◌, Bool, true, false, not, ◌&&◌, ◌||◌, if◌then◌else◌, List, [], ◌∷◌, ◌++◌, ◌⊎◌, inl, inr, refl, arith, sym, subst, ◌∙◌, ap, Option, Some, None, slice_get, is_some, zero, suc}
+use Rattle.exchange_defs.specs.Table.{put, put2}
+use Rattle.exchange_defs.specs.Status.{success, user_session_deleted, file_closed, object_name_not_found, no_memory, disk_full}
+use Rattle.exchange_defs.specs.State.{Server, Message, Reply, Kept}
+use Rattle.exchange_defs.specs.Records.{lower_limit}
+use Rattle.exchange_defs.specs.Operations.{Op, Outcome, Why, is_unsettled, is_ok, is_create, is_close, is_lock, create_of, id_in, reconnect_of}
+use Rattle.exchange_defs.specs.Client.{Client, Stage, AskedTree, create_for, guid_for, outstanding as put_out, asked, cut_channel, end_session, finish}
+use Rattle.exchange_defs.specs.Settling.{answered}
+use Rattle.exchange_defs.specs.Dialogs.{open_channel, went_on, accepted, bound, readied, leave_dialog, refused_dialog}
+use Rattle.exchange_defs.specs.Network.{Conn, Sent, Received, Token, ForDialog, ForOp, ForAttach, op_of, fresh as fresh_conn, server_off, client_off, send_up, behind_front, take_front}
+use Rattle.exchange_law.specs.Connections.{Connections, copies, count_up, count_down, no_copy_out, makes_open, shuts_open, acts_once, its_create, its_request, create_at, opens, Once, Outstanding, OwnUp, AttachUp, OwnDown, AttachDown, DownOpen, OnReady, Ready, Stages, Settled, Taken, TakenOn, Creates, Lower, HasOpen, AskedOpen, Fresh, Bodies, First, Unsent, SentReplies, Deleted}
+use Rattle.exchange_law.proofs.Lists.{get-push, rest_of, own_up_count, own_down_count, attach_up_count, attach_down_count, front_up, front_down, waited, waited_down}
+use Rattle.session_law.specs.Sessions.{is_ops}
+use Rattle.lock_law.specs.Locks.{Locks, locking, kept_at, firm, is_unsent, refused_for_good, in_slots, user_at, open_at, kept_of, goes_with, of_directory, SlotIndex, UserBody, InUse, AttachedLow, ShutOk, ShutGone, CloseBefore, CloseAfter, UnsentGone, AskedNew, NoSession, Unanswered, AskUp, AskDown, PresentUp, Users, CopyNow, RetriedOn, RetriedDone, CopyAttached, NowAttached, OpenedReply, JoinReply, JoinedReply, LostReply, KeptSays, NotKept, FirmKept, NoUser, NoSlots, FullDead, OkReply, NoReply, KeptReply, FirstReply, ClosedNot, LeftFull, LeftStuck, LeftIdle, CloseDone, CloseFull, CloseStuck, AtMost, OkActed, RefusedNot}
+use Rattle.lock_law.proofs.Words.{lock_kind, lock_stays, lock_once, close_kind, own_create, unsettled_firm, unsettled_unsent, unsettled_ok, unsettled_refused, unsent_firm, unsent_ok, ok_firm, ok_settled, firm_settled, unsent_settled, unsent_refused, refused_how, kept_none, kept_same, kept_other, kept_is_some, more_up, more_down, more_asks, down_is_open, up_on, down_on, ask_on, ok_of, made_of, own_ops, own_reply_ops, ask_reply_ops}
+
+readied_attached_low : (c : Client) (conns : ℕ → Conn) (s : Server) (a : ℕ → ℕ) (k : ℕ) (r0 : Reply) → AttachedLow c → AttachedLow (readied c k r0)
+readied_attached_low c conns s a k r0 i_attached_low =
+    λ q. let old = i_attached_low q in grind arith
+
+readied_asked_new : (c : Client) (conns : ℕ → Conn) (s : Server) (a : ℕ → ℕ) (k : ℕ) (r0 : Reply) → ((j : ℕ) → c.stage j ≡ AskedTree → j ≡ k) → AskedNew c → AskedNew (readied c k r0)
+readied_asked_new c conns s a k r0 only i_asked_new =
+    λ j. let o1 = only j in grind arith
+
+readied_no_session : (c : Client) (conns : ℕ → Conn) (s : Server) (a : ℕ → ℕ) (k : ℕ) (r0 : Reply) → NoSession c → NoSession (readied c k r0)
+readied_no_session c conns s a k r0 i_no_session =
+    let old = i_no_session in grind arith
+
+readied_present_up : (c : Client) (conns : ℕ → Conn) (s : Server) (a : ℕ → ℕ) (k : ℕ) (r0 : Reply) → ((j n : ℕ) (x : Sent) → slice_get (conns j).up n ≡ Some x → is_ops x.token ≡ true → s.present x.message.session ≡ false) → PresentUp c conns s → PresentUp (readied c k r0) conns s
+readied_present_up c conns s a k r0 gone i_present_up =
+    λ j n x h op1. let v = gone j n x h op1 in grind arith
+
+readied_copy_now : (c : Client) (conns : ℕ → Conn) (s : Server) (a : ℕ → ℕ) (k : ℕ) (r0 : Reply) → ((j n : ℕ) (x : Sent) → slice_get (conns j).up n ≡ Some x → is_ops x.token ≡ true → s.present x.message.session ≡ false) → CopyNow c conns s → CopyNow (readied c k r0) conns s
+readied_copy_now c conns s a k r0 gone i_copy_now =
+    λ j n p x h t. let v = gone j n x h (own_ops x p t) in grind arith
+
+readied_retried_on : (c : Client) (conns : ℕ → Conn) (s : Server) (a : ℕ → ℕ) (k : ℕ) (r0 : Reply) → ((j n : ℕ) (x : Sent) → slice_get (conns j).up n ≡ Some x → is_ops x.token ≡ true → s.present x.message.session ≡ false) → RetriedOn c conns s → RetriedOn (readied c k r0) conns s
+readied_retried_on c conns s a k r0 gone i_retried_on =
+    λ j n p x h t. let v = gone j n x h (own_ops x p t) in grind arith
+
+readied_retried_done : (c : Client) (conns : ℕ → Conn) (s : Server) (a : ℕ → ℕ) (k : ℕ) (r0 : Reply) → ((j n : ℕ) (x : Sent) → slice_get (conns j).up n ≡ Some x → is_ops x.token ≡ true → s.present x.message.session ≡ false) → RetriedDone c conns s → RetriedDone (readied c k r0) conns s
+readied_retried_done c conns s a k r0 gone i_retried_done =
+    λ j n p x h t. let v = gone j n x h (own_ops x p t) in grind arith
+
+readied_now_attached : (c : Client) (conns : ℕ → Conn) (s : Server) (a : ℕ → ℕ) (k : ℕ) (r0 : Reply) → NowAttached c s → AttachedLow c → NowAttached (readied c k r0) s
+readied_now_attached c conns s a k r0 i_now_attached i_attached_low =
+    λ q. let l = i_attached_low q in grind arith
+
+readied_opened_reply : (c : Client) (conns : ℕ → Conn) (s : Server) (a : ℕ → ℕ) (k : ℕ) (r0 : Reply) → ((j n : ℕ) (y : Received) → slice_get (conns j).down n ≡ Some y → is_ops y.token ≡ false) → OpenedReply c conns s → OpenedReply (readied c k r0) conns s
+readied_opened_reply c conns s a k r0 idle i_opened_reply =
+    λ j n p y h t. let v = idle j n y h in let o1 = own_reply_ops y p t in grind arith
+
+readied_join_reply : (c : Client) (conns : ℕ → Conn) (s : Server) (a : ℕ → ℕ) (k : ℕ) (r0 : Reply) → ((j n : ℕ) (y : Received) → slice_get (conns j).down n ≡ Some y → is_ops y.token ≡ false) → JoinReply c conns s → JoinReply (readied c k r0) conns s
+readied_join_reply c conns s a k r0 idle i_join_reply =
+    λ j n p y h t. let v = idle j n y h in let o1 = ask_reply_ops y p t in grind arith
+
+readied_joined_reply : (c : Client) (conns : ℕ → Conn) (s : Server) (a : ℕ → ℕ) (k : ℕ) (r0 : Reply) → ((j n : ℕ) (y : Received) → slice_get (conns j).down n ≡ Some y → is_ops y.token ≡ false) → JoinedReply c conns s → JoinedReply (readied c k r0) conns s
+readied_joined_reply c conns s a k r0 idle i_joined_reply =
+    λ j n p y h t. let v = idle j n y h in let o1 = ask_reply_ops y p t in grind arith
+
+readied_closed_not : (c : Client) (conns : ℕ → Conn) (s : Server) (a : ℕ → ℕ) (k : ℕ) (r0 : Reply) → ClosedNot c s a → AttachedLow c → ClosedNot (readied c k r0) s a
+readied_closed_not c conns s a k r0 i_closed_not i_attached_low =
+    λ p. let l = i_attached_low (create_at c p) in grind arith
+
+readied_left_full : (c : Client) (conns : ℕ → Conn) (s : Server) (a : ℕ → ℕ) (k : ℕ) (r0 : Reply) → ((j n : ℕ) (x : Sent) → slice_get (conns j).up n ≡ Some x → is_ops x.token ≡ true → s.present x.message.session ≡ false) → LeftFull c conns s → LeftFull (readied c k r0) conns s
+readied_left_full c conns s a k r0 gone i_left_full =
+    λ j n p x h t. let v = gone j n x h (own_ops x p t) in grind arith
+
+readied_left_stuck : (c : Client) (conns : ℕ → Conn) (s : Server) (a : ℕ → ℕ) (k : ℕ) (r0 : Reply) → ((j n : ℕ) (x : Sent) → slice_get (conns j).up n ≡ Some x → is_ops x.token ≡ true → s.present x.message.session ≡ false) → LeftStuck c conns s → LeftStuck (readied c k r0) conns s
+readied_left_stuck c conns s a k r0 gone i_left_stuck =
+    λ j n p x h t. let v = gone j n x h (own_ops x p t) in grind arith
+
+readied_left_idle : (c : Client) (conns : ℕ → Conn) (s : Server) (a : ℕ → ℕ) (k : ℕ) (r0 : Reply) → ((j n : ℕ) (x : Sent) → slice_get (conns j).up n ≡ Some x → is_ops x.token ≡ true → s.present x.message.session ≡ false) → LeftIdle c conns s a → LeftIdle (readied c k r0) conns s a
+readied_left_idle c conns s a k r0 gone i_left_idle =
+    λ j n p q x h t. let v = gone j n x h (own_ops x p t) in grind arith
+
+pub readied_keeps : (c : Client) (conns : ℕ → Conn) (s : Server) (a : ℕ → ℕ) (k : ℕ) (r0 : Reply) → ((j n : ℕ) (x : Sent) → slice_get (conns j).up n ≡ Some x → is_ops x.token ≡ true → s.present x.message.session ≡ false) → ((j n : ℕ) (y : Received) → slice_get (conns j).down n ≡ Some y → is_ops y.token ≡ false) → ((j : ℕ) → c.stage j ≡ AskedTree → j ≡ k) → Locks c conns s a → Locks (readied c k r0) conns s a
+readied_keeps c conns s a k r0 gone idle only i =
+    record {
+      slot_index = i.slot_index;
+      user_body = i.user_body;
+      in_use = i.in_use;
+      attached_low = readied_attached_low c conns s a k r0 i.attached_low;
+      shut_ok = i.shut_ok;
+      shut_gone = i.shut_gone;
+      close_before = i.close_before;
+      close_after = i.close_after;
+      unsent_gone = i.unsent_gone;
+      asked_new = readied_asked_new c conns s a k r0 only i.asked_new;
+      no_session = readied_no_session c conns s a k r0 i.no_session;
+      unanswered = i.unanswered;
+      ask_up = i.ask_up;
+      ask_down = i.ask_down;
+      present_up = readied_present_up c conns s a k r0 gone i.present_up;
+      users = i.users;
+      copy_now = readied_copy_now c conns s a k r0 gone i.copy_now;
+      retried_on = readied_retried_on c conns s a k r0 gone i.retried_on;
+      retried_done = readied_retried_done c conns s a k r0 gone i.retried_done;
+      copy_attached = i.copy_attached;
+      now_attached = readied_now_attached c conns s a k r0 i.now_attached i.attached_low;
+      opened_reply = readied_opened_reply c conns s a k r0 idle i.opened_reply;
+      join_reply = readied_join_reply c conns s a k r0 idle i.join_reply;
+      joined_reply = readied_joined_reply c conns s a k r0 idle i.joined_reply;
+      lost_reply = i.lost_reply;
+      kept_says = i.kept_says;
+      not_kept = i.not_kept;
+      firm_kept = i.firm_kept;
+      no_user = i.no_user;
+      no_slots = i.no_slots;
+      full_dead = i.full_dead;
+      ok_reply = i.ok_reply;
+      no_reply = i.no_reply;
+      kept_reply = i.kept_reply;
+      first_reply = i.first_reply;
+      closed_not = readied_closed_not c conns s a k r0 i.closed_not i.attached_low;
+      left_full = readied_left_full c conns s a k r0 gone i.left_full;
+      left_stuck = readied_left_stuck c conns s a k r0 gone i.left_stuck;
+      left_idle = readied_left_idle c conns s a k r0 gone i.left_idle;
+      close_done = i.close_done;
+      close_full = i.close_full;
+      close_stuck = i.close_stuck;
+      at_most = i.at_most;
+      ok_acted = i.ok_acted;
+      refused_not = i.refused_not;
+    }

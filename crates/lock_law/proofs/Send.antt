@@ -1,0 +1,164 @@
+-- An operation goes out itself.
+use Rattle.std.proofs.lemmas.Bool.{eqb-false}
+use Rattle.std.proofs.lemmas.Bool.Decides.{nat_tests}
+use Rattle.std.proofs.Common.{eqb-true, ◌≡◌, ◌≢◌, ℕ, ◌+◌, ◌≤◌, ◌<◌, ◌==◌, ◌%◌, Bool, true, false, not, ◌&&◌, ◌||◌, if◌then◌else◌, List, [], ◌∷◌, ◌++◌, ◌⊎◌, inl, inr, refl, arith, sym, subst, ◌∙◌, ap, Option, Some, None, slice_get, is_some, zero, suc}
+use Rattle.exchange_defs.specs.Table.{put, put2}
+use Rattle.exchange_defs.specs.Status.{success, user_session_deleted, file_closed, object_name_not_found, no_memory, disk_full}
+use Rattle.exchange_defs.specs.State.{Server, Message, Reply, Kept}
+use Rattle.exchange_defs.specs.Records.{lower_limit}
+use Rattle.exchange_defs.specs.Operations.{Op, Outcome, Why, is_unsettled, is_ok, is_create, is_close, is_lock, create_of, id_in, reconnect_of}
+use Rattle.exchange_defs.specs.Client.{Client, Stage, AskedTree, create_for, guid_for, outstanding as put_out, asked, cut_channel, end_session, finish}
+use Rattle.exchange_defs.specs.Settling.{answered}
+use Rattle.exchange_defs.specs.Dialogs.{open_channel, went_on, accepted, bound, readied, leave_dialog, refused_dialog}
+use Rattle.exchange_defs.specs.Network.{Conn, Sent, Received, Token, ForDialog, ForOp, ForAttach, op_of, fresh as fresh_conn, server_off, client_off, send_up, behind_front, take_front}
+use Rattle.exchange_law.specs.Connections.{Connections, copies, count_up, count_down, no_copy_out, makes_open, shuts_open, acts_once, its_create, its_request, create_at, opens, Once, Outstanding, OwnUp, AttachUp, OwnDown, AttachDown, DownOpen, OnReady, Ready, Stages, Settled, Taken, TakenOn, Creates, Lower, HasOpen, AskedOpen, Fresh, Bodies, First, Unsent, SentReplies, Deleted}
+use Rattle.exchange_law.proofs.Lists.{get-push, rest_of, own_up_count, own_down_count, attach_up_count, attach_down_count, front_up, front_down, waited, waited_down}
+use Rattle.session_law.specs.Sessions.{is_ops}
+use Rattle.lock_law.specs.Locks.{Locks, locking, kept_at, firm, is_unsent, refused_for_good, in_slots, user_at, open_at, kept_of, goes_with, of_directory, SlotIndex, UserBody, InUse, AttachedLow, ShutOk, ShutGone, CloseBefore, CloseAfter, UnsentGone, AskedNew, NoSession, Unanswered, AskUp, AskDown, PresentUp, Users, CopyNow, RetriedOn, RetriedDone, CopyAttached, NowAttached, OpenedReply, JoinReply, JoinedReply, LostReply, KeptSays, NotKept, FirmKept, NoUser, NoSlots, FullDead, OkReply, NoReply, KeptReply, FirstReply, ClosedNot, LeftFull, LeftStuck, LeftIdle, CloseDone, CloseFull, CloseStuck, AtMost, OkActed, RefusedNot}
+use Rattle.lock_law.proofs.Words.{lock_kind, lock_stays, lock_once, close_kind, own_create, unsettled_firm, unsettled_unsent, unsettled_ok, unsettled_refused, unsent_firm, unsent_ok, ok_firm, ok_settled, firm_settled, unsent_settled, unsent_refused, refused_how, kept_none, kept_same, kept_other, kept_is_some, more_up, more_down, more_asks, down_is_open, up_on, down_on, ask_on, ok_of, made_of, own_ops, own_reply_ops, ask_reply_ops}
+
+send_unanswered : (c : Client) (conns : ℕ → Conn) (s : Server) (a : ℕ → ℕ) (k g n0 : ℕ) (m0 : Message) → (c.ready k ≡ true) → (c.on g ≡ None) → (is_unsettled (c.outcome g) ≡ true) → (c.sent g ≡ true) → ((conns k).client_open ≡ true) → (m0.session ≡ c.session) → (c.live ≡ true) → Unanswered c conns → Unanswered (put_out c k g) (put conns k (send_up (conns k) (ForOp g) m0 n0))
+send_unanswered c conns s a k g n0 m0 ready none pending sent stands mine live i_unanswered =
+    λ j n p x. let old = i_unanswered j n p x in grind (arith, get-push)
+
+send_ask_up : (c : Client) (conns : ℕ → Conn) (s : Server) (a : ℕ → ℕ) (k g n0 : ℕ) (m0 : Message) → (c.ready k ≡ true) → (c.on g ≡ None) → (is_unsettled (c.outcome g) ≡ true) → (c.sent g ≡ true) → ((conns k).client_open ≡ true) → (m0.session ≡ c.session) → (c.live ≡ true) → AskUp c conns → AskUp (put_out c k g) (put conns k (send_up (conns k) (ForOp g) m0 n0))
+send_ask_up c conns s a k g n0 m0 ready none pending sent stands mine live i_ask_up =
+    λ j n p x. let old = i_ask_up j n p x in grind (arith, get-push)
+
+send_ask_down : (c : Client) (conns : ℕ → Conn) (s : Server) (a : ℕ → ℕ) (k g n0 : ℕ) (m0 : Message) → (c.ready k ≡ true) → (c.on g ≡ None) → (is_unsettled (c.outcome g) ≡ true) → (c.sent g ≡ true) → ((conns k).client_open ≡ true) → (m0.session ≡ c.session) → (c.live ≡ true) → AskDown c conns → AskDown (put_out c k g) (put conns k (send_up (conns k) (ForOp g) m0 n0))
+send_ask_down c conns s a k g n0 m0 ready none pending sent stands mine live i_ask_down =
+    λ j n p y. let old = i_ask_down j n p y in grind arith
+
+send_present_up : (c : Client) (conns : ℕ → Conn) (s : Server) (a : ℕ → ℕ) (k g n0 : ℕ) (m0 : Message) → (c.ready k ≡ true) → (c.on g ≡ None) → (is_unsettled (c.outcome g) ≡ true) → (c.sent g ≡ true) → ((conns k).client_open ≡ true) → (m0.session ≡ c.session) → (c.live ≡ true) → PresentUp c conns s → PresentUp (put_out c k g) (put conns k (send_up (conns k) (ForOp g) m0 n0)) s
+send_present_up c conns s a k g n0 m0 ready none pending sent stands mine live i_present_up =
+    λ j n x. let old = i_present_up j n x in grind (arith, get-push)
+
+send_users : (c : Client) (conns : ℕ → Conn) (s : Server) (a : ℕ → ℕ) (k g n0 : ℕ) (m0 : Message) → (c.ready k ≡ true) → (c.on g ≡ None) → (is_unsettled (c.outcome g) ≡ true) → (c.sent g ≡ true) → ((conns k).client_open ≡ true) → (m0.session ≡ c.session) → (c.live ≡ true) → Users c conns s → InUse c → Users (put_out c k g) (put conns k (send_up (conns k) (ForOp g) m0 n0)) s
+send_users c conns s a k g n0 m0 ready none pending sent stands mine live i_users i_in_use =
+    λ j n p x. let old = i_users j n p x in let iu = i_in_use p in let uf = unsettled_firm (c.outcome p) in grind (arith, get-push)
+
+send_copy_now : (c : Client) (conns : ℕ → Conn) (s : Server) (a : ℕ → ℕ) (k g n0 : ℕ) (m0 : Message) → (c.ready k ≡ true) → (c.on g ≡ None) → (is_unsettled (c.outcome g) ≡ true) → (c.sent g ≡ true) → ((conns k).client_open ≡ true) → (m0.session ≡ c.session) → (c.live ≡ true) → (makes_open (c.op g) ≡ false → c.attached (create_at c g) ≡ c.number) → CopyNow c conns s → CopyNow (put_out c k g) (put conns k (send_up (conns k) (ForOp g) m0 n0)) s
+send_copy_now c conns s a k g n0 m0 ready none pending sent stands mine live att i_copy_now =
+    λ j n p x. let old = i_copy_now j n p x in let at1 = att in grind (arith, get-push)
+
+send_retried_on : (c : Client) (conns : ℕ → Conn) (s : Server) (a : ℕ → ℕ) (k g n0 : ℕ) (m0 : Message) → (c.ready k ≡ true) → (c.on g ≡ None) → (is_unsettled (c.outcome g) ≡ true) → (c.sent g ≡ true) → ((conns k).client_open ≡ true) → (m0.session ≡ c.session) → (c.live ≡ true) → ((j n : ℕ) (x : Sent) → slice_get (conns j).up n ≡ Some x → x.token ≡ ForOp g → locking (c.op g) ≡ true → c.retried (create_at c g) (c.slot_of g) ≡ c.number) → RetriedOn c conns s → RetriedOn (put_out c k g) (put conns k (send_up (conns k) (ForOp g) m0 n0)) s
+send_retried_on c conns s a k g n0 m0 ready none pending sent stands mine live again i_retried_on =
+    λ j n p x. let old = i_retried_on j n p x in let ag = again j n x in grind (arith, get-push)
+
+send_retried_done : (c : Client) (conns : ℕ → Conn) (s : Server) (a : ℕ → ℕ) (k g n0 : ℕ) (m0 : Message) → (c.ready k ≡ true) → (c.on g ≡ None) → (is_unsettled (c.outcome g) ≡ true) → (c.sent g ≡ true) → ((conns k).client_open ≡ true) → (m0.session ≡ c.session) → (c.live ≡ true) → RetriedDone c conns s → RetriedDone (put_out c k g) (put conns k (send_up (conns k) (ForOp g) m0 n0)) s
+send_retried_done c conns s a k g n0 m0 ready none pending sent stands mine live i_retried_done =
+    λ j n p x. let old = i_retried_done j n p x in grind (arith, get-push)
+
+send_copy_attached : (c : Client) (conns : ℕ → Conn) (s : Server) (a : ℕ → ℕ) (k g n0 : ℕ) (m0 : Message) → (c.ready k ≡ true) → (c.on g ≡ None) → (is_unsettled (c.outcome g) ≡ true) → (c.sent g ≡ true) → ((conns k).client_open ≡ true) → (m0.session ≡ c.session) → (c.live ≡ true) → (makes_open (c.op g) ≡ false → c.attached (create_at c g) ≡ c.number) → (makes_open (c.op g) ≡ false → is_ok (c.outcome (create_at c g)) ≡ true × makes_open (c.op (create_at c g)) ≡ true) → CopyAttached c conns s → NowAttached c s → CopyAttached (put_out c k g) (put conns k (send_up (conns k) (ForOp g) m0 n0)) s
+send_copy_attached c conns s a k g n0 m0 ready none pending sent stands mine live att ok i_copy_attached i_now_attached =
+    λ j n p x. let old = i_copy_attached j n p x in let at1 = att in let ok1 = ok in let na = i_now_attached (create_at c g) in grind (arith, get-push)
+
+send_opened_reply : (c : Client) (conns : ℕ → Conn) (s : Server) (a : ℕ → ℕ) (k g n0 : ℕ) (m0 : Message) → (c.ready k ≡ true) → (c.on g ≡ None) → (is_unsettled (c.outcome g) ≡ true) → (c.sent g ≡ true) → ((conns k).client_open ≡ true) → (m0.session ≡ c.session) → (c.live ≡ true) → OpenedReply c conns s → OpenedReply (put_out c k g) (put conns k (send_up (conns k) (ForOp g) m0 n0)) s
+send_opened_reply c conns s a k g n0 m0 ready none pending sent stands mine live i_opened_reply =
+    λ j n p y. let old = i_opened_reply j n p y in grind arith
+
+send_join_reply : (c : Client) (conns : ℕ → Conn) (s : Server) (a : ℕ → ℕ) (k g n0 : ℕ) (m0 : Message) → (c.ready k ≡ true) → (c.on g ≡ None) → (is_unsettled (c.outcome g) ≡ true) → (c.sent g ≡ true) → ((conns k).client_open ≡ true) → (m0.session ≡ c.session) → (c.live ≡ true) → JoinReply c conns s → JoinReply (put_out c k g) (put conns k (send_up (conns k) (ForOp g) m0 n0)) s
+send_join_reply c conns s a k g n0 m0 ready none pending sent stands mine live i_join_reply =
+    λ j n p y. let old = i_join_reply j n p y in grind arith
+
+send_joined_reply : (c : Client) (conns : ℕ → Conn) (s : Server) (a : ℕ → ℕ) (k g n0 : ℕ) (m0 : Message) → (c.ready k ≡ true) → (c.on g ≡ None) → (is_unsettled (c.outcome g) ≡ true) → (c.sent g ≡ true) → ((conns k).client_open ≡ true) → (m0.session ≡ c.session) → (c.live ≡ true) → JoinedReply c conns s → JoinedReply (put_out c k g) (put conns k (send_up (conns k) (ForOp g) m0 n0)) s
+send_joined_reply c conns s a k g n0 m0 ready none pending sent stands mine live i_joined_reply =
+    λ j n p y. let old = i_joined_reply j n p y in grind arith
+
+send_lost_reply : (c : Client) (conns : ℕ → Conn) (s : Server) (a : ℕ → ℕ) (k g n0 : ℕ) (m0 : Message) → (c.ready k ≡ true) → (c.on g ≡ None) → (is_unsettled (c.outcome g) ≡ true) → (c.sent g ≡ true) → ((conns k).client_open ≡ true) → (m0.session ≡ c.session) → (c.live ≡ true) → LostReply c conns s → LostReply (put_out c k g) (put conns k (send_up (conns k) (ForOp g) m0 n0)) s
+send_lost_reply c conns s a k g n0 m0 ready none pending sent stands mine live i_lost_reply =
+    λ j n p y. let old = i_lost_reply j n p y in grind arith
+
+send_full_dead : (c : Client) (conns : ℕ → Conn) (s : Server) (a : ℕ → ℕ) (k g n0 : ℕ) (m0 : Message) → (c.ready k ≡ true) → (c.on g ≡ None) → (is_unsettled (c.outcome g) ≡ true) → (c.sent g ≡ true) → ((conns k).client_open ≡ true) → (m0.session ≡ c.session) → (c.live ≡ true) → FullDead c conns s → FullDead (put_out c k g) (put conns k (send_up (conns k) (ForOp g) m0 n0)) s
+send_full_dead c conns s a k g n0 m0 ready none pending sent stands mine live i_full_dead =
+    λ j n p x. let old = i_full_dead j n p x in let uf = unsettled_firm (c.outcome p) in grind (arith, get-push)
+
+send_ok_reply : (c : Client) (conns : ℕ → Conn) (s : Server) (a : ℕ → ℕ) (k g n0 : ℕ) (m0 : Message) → (c.ready k ≡ true) → (c.on g ≡ None) → (is_unsettled (c.outcome g) ≡ true) → (c.sent g ≡ true) → ((conns k).client_open ≡ true) → (m0.session ≡ c.session) → (c.live ≡ true) → OkReply c conns a → OkReply (put_out c k g) (put conns k (send_up (conns k) (ForOp g) m0 n0)) a
+send_ok_reply c conns s a k g n0 m0 ready none pending sent stands mine live i_ok_reply =
+    λ j n p y. let old = i_ok_reply j n p y in grind arith
+
+send_no_reply : (c : Client) (conns : ℕ → Conn) (s : Server) (a : ℕ → ℕ) (k g n0 : ℕ) (m0 : Message) → (c.ready k ≡ true) → (c.on g ≡ None) → (is_unsettled (c.outcome g) ≡ true) → (c.sent g ≡ true) → ((conns k).client_open ≡ true) → (m0.session ≡ c.session) → (c.live ≡ true) → NoReply c conns a → NoReply (put_out c k g) (put conns k (send_up (conns k) (ForOp g) m0 n0)) a
+send_no_reply c conns s a k g n0 m0 ready none pending sent stands mine live i_no_reply =
+    λ j n p y. let old = i_no_reply j n p y in grind arith
+
+send_kept_reply : (c : Client) (conns : ℕ → Conn) (s : Server) (a : ℕ → ℕ) (k g n0 : ℕ) (m0 : Message) → (c.ready k ≡ true) → (c.on g ≡ None) → (is_unsettled (c.outcome g) ≡ true) → (c.sent g ≡ true) → ((conns k).client_open ≡ true) → (m0.session ≡ c.session) → (c.live ≡ true) → KeptReply c conns s → KeptReply (put_out c k g) (put conns k (send_up (conns k) (ForOp g) m0 n0)) s
+send_kept_reply c conns s a k g n0 m0 ready none pending sent stands mine live i_kept_reply =
+    λ j n p y. let old = i_kept_reply j n p y in grind arith
+
+send_first_reply : (c : Client) (conns : ℕ → Conn) (s : Server) (a : ℕ → ℕ) (k g n0 : ℕ) (m0 : Message) → (c.ready k ≡ true) → (c.on g ≡ None) → (is_unsettled (c.outcome g) ≡ true) → (c.sent g ≡ true) → ((conns k).client_open ≡ true) → (m0.session ≡ c.session) → (c.live ≡ true) → FirstReply c conns a → FirstReply (put_out c k g) (put conns k (send_up (conns k) (ForOp g) m0 n0)) a
+send_first_reply c conns s a k g n0 m0 ready none pending sent stands mine live i_first_reply =
+    λ j n p y. let old = i_first_reply j n p y in grind arith
+
+send_left_full : (c : Client) (conns : ℕ → Conn) (s : Server) (a : ℕ → ℕ) (k g n0 : ℕ) (m0 : Message) → (c.ready k ≡ true) → (c.on g ≡ None) → (is_unsettled (c.outcome g) ≡ true) → (c.sent g ≡ true) → ((conns k).client_open ≡ true) → (m0.session ≡ c.session) → (c.live ≡ true) → LeftFull c conns s → LeftFull (put_out c k g) (put conns k (send_up (conns k) (ForOp g) m0 n0)) s
+send_left_full c conns s a k g n0 m0 ready none pending sent stands mine live i_left_full =
+    λ j n p x. let old = i_left_full j n p x in grind (arith, get-push)
+
+send_left_stuck : (c : Client) (conns : ℕ → Conn) (s : Server) (a : ℕ → ℕ) (k g n0 : ℕ) (m0 : Message) → (c.ready k ≡ true) → (c.on g ≡ None) → (is_unsettled (c.outcome g) ≡ true) → (c.sent g ≡ true) → ((conns k).client_open ≡ true) → (m0.session ≡ c.session) → (c.live ≡ true) → LeftStuck c conns s → LeftStuck (put_out c k g) (put conns k (send_up (conns k) (ForOp g) m0 n0)) s
+send_left_stuck c conns s a k g n0 m0 ready none pending sent stands mine live i_left_stuck =
+    λ j n p x. let old = i_left_stuck j n p x in grind (arith, get-push)
+
+send_left_idle : (c : Client) (conns : ℕ → Conn) (s : Server) (a : ℕ → ℕ) (k g n0 : ℕ) (m0 : Message) → (c.ready k ≡ true) → (c.on g ≡ None) → (is_unsettled (c.outcome g) ≡ true) → (c.sent g ≡ true) → ((conns k).client_open ≡ true) → (m0.session ≡ c.session) → (c.live ≡ true) → LeftIdle c conns s a → LeftIdle (put_out c k g) (put conns k (send_up (conns k) (ForOp g) m0 n0)) s a
+send_left_idle c conns s a k g n0 m0 ready none pending sent stands mine live i_left_idle =
+    λ j n p q x. let old = i_left_idle j n p q x in grind (arith, get-push)
+
+send_close_done : (c : Client) (conns : ℕ → Conn) (s : Server) (a : ℕ → ℕ) (k g n0 : ℕ) (m0 : Message) → (c.ready k ≡ true) → (c.on g ≡ None) → (is_unsettled (c.outcome g) ≡ true) → (c.sent g ≡ true) → ((conns k).client_open ≡ true) → (m0.session ≡ c.session) → (c.live ≡ true) → CloseDone c conns s → CloseDone (put_out c k g) (put conns k (send_up (conns k) (ForOp g) m0 n0)) s
+send_close_done c conns s a k g n0 m0 ready none pending sent stands mine live i_close_done =
+    λ j n p y. let old = i_close_done j n p y in grind arith
+
+send_close_full : (c : Client) (conns : ℕ → Conn) (s : Server) (a : ℕ → ℕ) (k g n0 : ℕ) (m0 : Message) → (c.ready k ≡ true) → (c.on g ≡ None) → (is_unsettled (c.outcome g) ≡ true) → (c.sent g ≡ true) → ((conns k).client_open ≡ true) → (m0.session ≡ c.session) → (c.live ≡ true) → CloseFull c conns s → CloseFull (put_out c k g) (put conns k (send_up (conns k) (ForOp g) m0 n0)) s
+send_close_full c conns s a k g n0 m0 ready none pending sent stands mine live i_close_full =
+    λ j n p y. let old = i_close_full j n p y in grind arith
+
+send_close_stuck : (c : Client) (conns : ℕ → Conn) (s : Server) (a : ℕ → ℕ) (k g n0 : ℕ) (m0 : Message) → (c.ready k ≡ true) → (c.on g ≡ None) → (is_unsettled (c.outcome g) ≡ true) → (c.sent g ≡ true) → ((conns k).client_open ≡ true) → (m0.session ≡ c.session) → (c.live ≡ true) → CloseStuck c conns s → CloseStuck (put_out c k g) (put conns k (send_up (conns k) (ForOp g) m0 n0)) s
+send_close_stuck c conns s a k g n0 m0 ready none pending sent stands mine live i_close_stuck =
+    λ j n p y. let old = i_close_stuck j n p y in grind arith
+
+pub send_keeps : (c : Client) (conns : ℕ → Conn) (s : Server) (a : ℕ → ℕ) (k g n0 : ℕ) (m0 : Message) → (c.ready k ≡ true) → (c.on g ≡ None) → (is_unsettled (c.outcome g) ≡ true) → (c.sent g ≡ true) → ((conns k).client_open ≡ true) → (m0.session ≡ c.session) → (c.live ≡ true) → (makes_open (c.op g) ≡ false → c.attached (create_at c g) ≡ c.number) → ((j n : ℕ) (x : Sent) → slice_get (conns j).up n ≡ Some x → x.token ≡ ForOp g → locking (c.op g) ≡ true → c.retried (create_at c g) (c.slot_of g) ≡ c.number) → (makes_open (c.op g) ≡ false → is_ok (c.outcome (create_at c g)) ≡ true × makes_open (c.op (create_at c g)) ≡ true) → Locks c conns s a → Locks (put_out c k g) (put conns k (send_up (conns k) (ForOp g) m0 n0)) s a
+send_keeps c conns s a k g n0 m0 ready none pending sent stands mine live att again ok i =
+    record {
+      slot_index = i.slot_index;
+      user_body = i.user_body;
+      in_use = i.in_use;
+      attached_low = i.attached_low;
+      shut_ok = i.shut_ok;
+      shut_gone = i.shut_gone;
+      close_before = i.close_before;
+      close_after = i.close_after;
+      unsent_gone = i.unsent_gone;
+      asked_new = i.asked_new;
+      no_session = i.no_session;
+      unanswered = send_unanswered c conns s a k g n0 m0 ready none pending sent stands mine live i.unanswered;
+      ask_up = send_ask_up c conns s a k g n0 m0 ready none pending sent stands mine live i.ask_up;
+      ask_down = send_ask_down c conns s a k g n0 m0 ready none pending sent stands mine live i.ask_down;
+      present_up = send_present_up c conns s a k g n0 m0 ready none pending sent stands mine live i.present_up;
+      users = send_users c conns s a k g n0 m0 ready none pending sent stands mine live i.users i.in_use;
+      copy_now = send_copy_now c conns s a k g n0 m0 ready none pending sent stands mine live att i.copy_now;
+      retried_on = send_retried_on c conns s a k g n0 m0 ready none pending sent stands mine live again i.retried_on;
+      retried_done = send_retried_done c conns s a k g n0 m0 ready none pending sent stands mine live i.retried_done;
+      copy_attached = send_copy_attached c conns s a k g n0 m0 ready none pending sent stands mine live att ok i.copy_attached i.now_attached;
+      now_attached = i.now_attached;
+      opened_reply = send_opened_reply c conns s a k g n0 m0 ready none pending sent stands mine live i.opened_reply;
+      join_reply = send_join_reply c conns s a k g n0 m0 ready none pending sent stands mine live i.join_reply;
+      joined_reply = send_joined_reply c conns s a k g n0 m0 ready none pending sent stands mine live i.joined_reply;
+      lost_reply = send_lost_reply c conns s a k g n0 m0 ready none pending sent stands mine live i.lost_reply;
+      kept_says = i.kept_says;
+      not_kept = i.not_kept;
+      firm_kept = i.firm_kept;
+      no_user = i.no_user;
+      no_slots = i.no_slots;
+      full_dead = send_full_dead c conns s a k g n0 m0 ready none pending sent stands mine live i.full_dead;
+      ok_reply = send_ok_reply c conns s a k g n0 m0 ready none pending sent stands mine live i.ok_reply;
+      no_reply = send_no_reply c conns s a k g n0 m0 ready none pending sent stands mine live i.no_reply;
+      kept_reply = send_kept_reply c conns s a k g n0 m0 ready none pending sent stands mine live i.kept_reply;
+      first_reply = send_first_reply c conns s a k g n0 m0 ready none pending sent stands mine live i.first_reply;
+      closed_not = i.closed_not;
+      left_full = send_left_full c conns s a k g n0 m0 ready none pending sent stands mine live i.left_full;
+      left_stuck = send_left_stuck c conns s a k g n0 m0 ready none pending sent stands mine live i.left_stuck;
+      left_idle = send_left_idle c conns s a k g n0 m0 ready none pending sent stands mine live i.left_idle;
+      close_done = send_close_done c conns s a k g n0 m0 ready none pending sent stands mine live i.close_done;
+      close_full = send_close_full c conns s a k g n0 m0 ready none pending sent stands mine live i.close_full;
+      close_stuck = send_close_stuck c conns s a k g n0 m0 ready none pending sent stands mine live i.close_stuck;
+      at_most = i.at_most;
+      ok_acted = i.ok_acted;
+      refused_not = i.refused_not;
+    }

@@ -1,0 +1,494 @@
+#!/usr/bin/env python3
+"""Writes the regular part of the proofs about locks: for each small step one lemma for each part that the step may touch.
+
+The rule is one line: the old part at the goal's own variables, then grind. EVENTS names each step with what it needs,
+the columns that it touches, and the parts whose proof needs more than that. A part that reads none of these columns
+stays as it is, with no lemma. Run `rt tidy` and `rt fmt` afterwards: each file gets all imports.
+"""
+import os
+import re
+import sys
+
+TOP = os.path.join(os.path.dirname(os.path.abspath(__file__)), "..", "crates", "lock_law", "proofs")
+
+# part: (its type's arguments, the variables that it is quantified by, the columns that it reads)
+PARTS = {
+    "slot_index": ("c", "p", "sent op slot_of"),
+    "user_body": ("c", "q r p", "slot_user op slot_of sent"),
+    "in_use": ("c", "p", "sent op outcome slot_user slot_of"),
+    "attached_low": ("c", "q", "attached number"),
+    "shut_ok": ("c", "p", "op outcome shut"),
+    "shut_gone": ("c", "p", "taken op shut sent outcome"),
+    "close_before": ("c", "p q", "sent op outcome"),
+    "close_after": ("c", "q p", "sent op outcome"),
+    "unsent_gone": ("c", "p", "outcome sent"),
+    "asked_new": ("c", "j", "stage session accepted"),
+    "no_session": ("c", "", "number session"),
+    "unanswered": ("c conns", "j n p x", "up open before"),
+    "ask_up": ("c conns", "j n p x", "up taken op outcome file"),
+    "ask_down": ("c conns", "j n p y", "down taken op outcome"),
+    "present_up": ("c conns s", "j n x", "up session present"),
+    "users": ("c conns s", "j n p x", "up op slot_user slot_of present"),
+    "copy_now": ("c conns s", "j n p x", "up op live attached number asking present"),
+    "retried_on": ("c conns s", "j n p x", "up open op live on retried slot_of number present"),
+    "retried_done": ("c conns s", "j n p x", "up open op live outcome retried slot_of number present"),
+    "copy_attached": ("c conns s", "j n p x", "up op file present standing at"),
+    "now_attached": ("c s", "q", "op outcome live attached number session file present standing at"),
+    "opened_reply": ("c conns s", "j n p y", "down op live session present standing at"),
+    "join_reply": ("c conns s", "j n p y", "down op live file session present standing at"),
+    "joined_reply": ("c conns s", "j n p y", "down op live file session attached number present standing"),
+    "lost_reply": ("c conns s", "j n p y", "down op file standing"),
+    "kept_says": ("c s a", "p st", "slot_user op slot_of number_of file standing slots a"),
+    "not_kept": ("c s a", "p", "slot_user op slot_of number_of file standing slots a"),
+    "firm_kept": ("c s", "p", "slot_user op slot_of number_of file standing slots outcome full"),
+    "no_user": ("c s", "q r", "outcome op slot_user file standing slots"),
+    "no_slots": ("c s", "q r o", "op outcome by_guid slots"),
+    "full_dead": ("c conns s", "j n p x", "up op outcome full slot_of present"),
+    "ok_reply": ("c conns a", "j n p y", "down op a"),
+    "no_reply": ("c conns a", "j n p y", "down op a"),
+    "kept_reply": ("c conns s", "j n p y", "down op file slot_of number_of standing slots"),
+    "first_reply": ("c conns a", "j n p y", "down op before a"),
+    "closed_not": ("c s a", "p", "op sent outcome live attached number session file present standing a"),
+    "left_full": ("c conns s", "j n p x", "up op live outcome file present standing opened journal"),
+    "left_stuck": ("c conns s", "j n p x", "up op live outcome file present standing opened journal files"),
+    "left_idle": ("c conns s a", "j n p q x", "up op live outcome file present standing opened a"),
+    "close_done": ("c conns s", "j n p y", "down op file standing"),
+    "close_full": ("c conns s", "j n p y", "down op file standing opened journal"),
+    "close_stuck": ("c conns s", "j n p y", "down op file standing opened journal files"),
+    "at_most": ("c a", "p", "op a"),
+    "ok_acted": ("c a", "p", "op outcome a"),
+    "refused_not": ("c a", "p", "op outcome a"),
+}
+
+UP = [p for p, v in PARTS.items() if " up " in " %s " % v[2]]
+DOWN = [p for p, v in PARTS.items() if " down " in " %s " % v[2]]
+OWN_UP = [p for p in UP if p not in ("present_up", "ask_up")]
+OWN_DOWN = [p for p in DOWN if p not in ("ask_down", "join_reply", "joined_reply", "lost_reply")]
+ASK_DOWN = [p for p in DOWN if p not in OWN_DOWN]
+
+
+def type_name(part):
+    return "".join(word.capitalize() for word in part.split("_"))
+
+
+def default(part, touched):
+    arguments, variables, reads = PARTS[part]
+    tactic = "grind (arith, get-push)" if set(touched) & {"up", "down"} & set(reads.split()) else "grind arith"
+    if not variables:
+        return "let old = i.%s in %s" % (part, tactic)
+    return "λ %s. let old = i.%s %s in %s" % (variables, part, variables, tactic)
+
+
+def with_facts(part, facts, tactic=None):
+    """the default with facts in front, which may speak of the part's own variables and premises"""
+    v = PARTS[part][1]
+    return "λ %s. let old = i.%s %s in %s%s" % (v, part, v, facts, tactic or "grind arith")
+
+
+C_PARTS = {
+    "once": "conns", "outstanding": "c conns", "own_up": "c conns", "attach_up": "c conns", "own_down": "c conns", "attach_down": "c conns", "down_open": "conns", "on_ready": "c",
+    "ready": "c conns", "stages": "c", "settled": "c", "taken": "c", "taken_on": "c", "creates": "c", "lower": "c", "has_open": "c", "asked_open": "c", "fresh": "c a", "bodies": "c conns",
+    "first": "c conns a", "unsent": "c a", "sent_replies": "c conns", "deleted": "c conns a",
+}
+
+WORDS = "lock_kind, lock_stays, lock_once, close_kind, own_create, unsettled_firm, unsettled_unsent, unsettled_ok, unsettled_refused, unsent_firm, unsent_ok, ok_firm, ok_settled, firm_settled, unsent_settled, unsent_refused, refused_how, kept_none, kept_same, kept_other, kept_is_some, more_up, more_down, more_asks, down_is_open, up_on, down_on, ask_on, ok_of, made_of, own_ops, own_reply_ops, ask_reply_ops"
+
+HEAD = """use Rattle.std.proofs.lemmas.Bool.{eqb-false}
+use Rattle.std.proofs.lemmas.Bool.Decides.{nat_tests}
+use Rattle.std.proofs.Common.{eqb-true, ◌≡◌, ◌≢◌, ℕ, ◌+◌, ◌≤◌, ◌<◌, ◌==◌, ◌%◌, Bool, true, false, not, ◌&&◌, ◌||◌, if◌then◌else◌, List, [], ◌∷◌, ◌++◌, ◌⊎◌, inl, inr, refl, arith, sym, subst, ◌∙◌, ap, Option, Some, None, slice_get, is_some, zero, suc}
+use Rattle.exchange_defs.specs.Table.{put, put2}
+use Rattle.exchange_defs.specs.Status.{success, user_session_deleted, file_closed, object_name_not_found, no_memory, disk_full}
+use Rattle.exchange_defs.specs.State.{Server, Message, Reply, Kept}
+use Rattle.exchange_defs.specs.Records.{lower_limit}
+use Rattle.exchange_defs.specs.Operations.{Op, Outcome, Why, is_unsettled, is_ok, is_create, is_close, is_lock, create_of, id_in, reconnect_of}
+use Rattle.exchange_defs.specs.Client.{Client, Stage, AskedTree, create_for, guid_for, outstanding as put_out, asked, cut_channel, end_session, finish}
+use Rattle.exchange_defs.specs.Settling.{answered}
+use Rattle.exchange_defs.specs.Dialogs.{open_channel, went_on, accepted, bound, readied, leave_dialog, refused_dialog}
+use Rattle.exchange_defs.specs.Network.{Conn, Sent, Received, Token, ForDialog, ForOp, ForAttach, op_of, fresh as fresh_conn, server_off, client_off, send_up, behind_front, take_front}
+use Rattle.exchange_law.specs.Connections.{Connections, copies, count_up, count_down, no_copy_out, makes_open, shuts_open, acts_once, its_create, its_request, create_at, opens, CPARTS}
+use Rattle.exchange_law.proofs.Lists.{get-push, rest_of, own_up_count, own_down_count, attach_up_count, attach_down_count, front_up, front_down, waited, waited_down}
+use Rattle.session_law.specs.Sessions.{is_ops}
+use Rattle.lock_law.specs.Locks.{Locks, locking, kept_at, firm, is_unsent, refused_for_good, in_slots, user_at, open_at, kept_of, goes_with, of_directory, PARTS}
+use Rattle.lock_law.proofs.Words.{WORDS}
+""".replace("CPARTS", ", ".join(type_name(p) for p in C_PARTS)).replace("PARTS", ", ".join(type_name(p) for p in PARTS)).replace("WORDS", WORDS)
+
+
+class Event:
+    def __init__(self, name, about, touched, arguments="", needs=(), c="c", conns="conns", s="s", a="a", parts=None):
+        self.name, self.about, self.touched, self.arguments, self.needs = name, about, touched.split(), arguments, list(needs)
+        self.c, self.conns, self.s, self.a = c, conns, s, a
+        self.parts = parts or {}
+
+
+EVENTS = []
+
+
+def event(*arguments, **keywords):
+    e = Event(*arguments, **keywords)
+    EVENTS.append(e)
+    return e
+
+
+# ---- facts put in front of grind
+SENT_UP = "let b = C.bodies j n p x h t in let tk = C.taken p b.0 in "  # behind λ .. h t
+SENT_DOWN = "let sent = C.sent_replies j n p y h t in let tk = C.taken p sent in "
+USER = "let ub = i.user_body _ _ p e in let tk = C.taken p ub.3 in "  # behind λ p e, or λ p st e
+OLD = "let w = waited conns k x0 rest j n x is h in "
+OLD_DOWN = "let w = waited_down conns k y0 rest j n y is h in "
+PUSHED = "grind (arith, get-push)"
+
+
+def more(part, facts, tactic="grind arith", bound="h t"):
+    v = PARTS[part][1]
+    return "λ %s %s. let old = i.%s %s %s in %s%s" % (v, bound, part, v, bound, facts, tactic)
+
+
+# ---- Submit
+submit = event("Submit", "an operation is taken", "taken op outcome", "(g : ℕ) (op : Op) (out : Outcome)",
+      [("next", "g ≡ c.taken + 1"), ("fired", "firm out ≡ false"), ("okay", "is_ok out ≡ false"), ("unknown", "s.by_guid c.who.guid (guid_for c g) ≡ None"),
+       ("gone", "makes_open op ≡ false → c.shut (its_create g op) ≡ true → is_unsettled out ≡ false"), ("never", "a g ≡ 0")],
+      c="(record c { taken = g; op = put c.op g op; outcome = put c.outcome g out })",
+      parts={
+          "slot_index": "λ p s0. let tk = C.taken p s0 in let old = i.slot_index p s0 in grind arith",
+          "user_body": "λ q r p e. let old = i.user_body q r p e in let tk = C.taken p old.3 in grind arith",
+          "in_use": "λ p s0. let tk = C.taken p s0 in let old = i.in_use p s0 in grind arith",
+          "shut_gone": "λ p l m. let old = i.shut_gone p l in let g1 = gone in grind arith",
+          "close_before": "λ p q s0. let tk = C.taken p s0 in let old = i.close_before p q s0 in grind arith",
+          "close_after": "λ q p s0. let tk = C.taken q s0 in let old = i.close_after q p s0 in grind arith",
+          "unsent_gone": "λ p. let old = i.unsent_gone p in let tk = C.taken p in grind arith",
+          "closed_not": "λ p l s0. let tk = C.taken p s0 in let old = i.closed_not p in grind arith",
+          "ask_up": "λ j n p x h t. let old = i.ask_up j n p x h t in let cr = C.creates p old.0 old.1 old.2 in grind arith",
+          "ask_down": "λ j n p y h t. let old = i.ask_down j n p y h t in let cr = C.creates p old.0 old.1 old.2 in grind arith",
+          "kept_says": "λ p st e. let old = i.kept_says p st in " + USER + "grind arith",
+          "not_kept": "λ p e. let old = i.not_kept p in " + USER + "grind arith",
+          "firm_kept": "λ p e. let old = i.firm_kept p in " + USER + "grind arith",
+          "left_idle": "λ j n p q x h t. let old = i.left_idle j n p q x h t in let b = C.bodies j n p x h t in let tk = C.taken p b.0 in grind arith",
+      })
+for part in OWN_UP:
+    if part not in ("unanswered", "left_idle"):
+        submit.parts[part] = more(part, SENT_UP)
+for part in OWN_DOWN:
+    submit.parts[part] = more(part, SENT_DOWN)
+for part in ("join_reply", "joined_reply", "lost_reply"):
+    submit.parts[part] = more(part, "let ad = i.ask_down j n p y h t in ")
+
+# ---- connections and dialogs
+event("Opened", "a connection is made", "stage up down open", "(k : ℕ) (served : Bool)", [("closed", "(conns k).client_open ≡ false")], c="(open_channel c k)", conns="(put conns k (fresh_conn c k served))")
+event("Dropped", "the server closes its end", "up", "(k : ℕ)", conns="(put conns k (server_off (conns k)))")
+event("AllDropped", "the server starts anew", "up", "", conns="(λ j. server_off (conns j))")
+event("Behind", "a reply leaves its connection", "down", "(k : ℕ) (y0 : Received) (rest : List Received)", [("is", "(conns k).down ≡ y0 ∷ rest")], conns="(put conns k (take_front (conns k) rest))",
+      parts={p: "λ %s h. %si.%s %s" % (PARTS[p][1], OLD_DOWN, p, " ".join("w.0" if v == "n" else v for v in PARTS[p][1].split()) + " w.1") for p in DOWN})
+event("Front", "the server takes the front", "up", "(k : ℕ) (x0 : Sent) (rest : List Sent)", [("is", "(conns k).up ≡ x0 ∷ rest")], conns="(put conns k (behind_front (conns k) rest))",
+      parts={p: "λ %s h. %slet old = i.%s %s in grind arith" % (PARTS[p][1], OLD, p, " ".join("w.0" if v == "n" else v for v in PARTS[p][1].split()) + " w.1") for p in UP})
+event("DialogSent", "the next message of a dialog goes out", "up", "(k n0 : ℕ) (m0 : Message)", conns="(put conns k (send_up (conns k) ForDialog m0 n0))")
+event("WentOn", "a dialog goes on", "stage pending", "(k : ℕ) (stage : Stage) (r0 : Reply)", [("untold", "stage ≢ AskedTree")], c="(went_on c k stage r0)")
+event("Accepted", "a new session is accepted", "stage accepted", "(k : ℕ)", [("other", "c.session ≢ c.pending")], c="(accepted c k)")
+event("Bound", "a further channel is ready", "stage", "(k : ℕ)", c="(bound c k)")
+event("DialogRefused", "a dialog is refused, and the client closes its channel", "stage open down", "(k status : ℕ)", [("apart", "c.ready k ≡ false")],
+      c="(refused_dialog c k status)", conns="(put conns k (client_off (conns k)))")
+event("DialogOff", "the client closes a channel that isn't ready", "stage open down", "(k : ℕ)", [("apart", "c.ready k ≡ false")],
+      c="(leave_dialog c k)", conns="(put conns k (client_off (conns k)))")
+ON_UP = "let on1 = up_on c conns C.outstanding j n p x h' t tk.0 in let rd = C.on_ready p k in "
+for e in EVENTS:
+    if e.name in ("DialogRefused", "DialogOff"):
+        for part in ("unanswered", "retried_on", "retried_done"):
+            v = PARTS[part][1]
+            e.parts[part] = "λ %s h t. let h' : slice_get (conns j).up n ≡ Some x = grind arith in let old = i.%s %s h' t in let b = C.bodies j n p x h' t in let tk = C.taken p b.0 in %slet st1 = C.settled p in grind arith" % (v, part, v, ON_UP)
+event("Readied", "a session is ready", "stage live session number", "(k : ℕ) (r0 : Reply)",
+      [("gone", "(j n : ℕ) (x : Sent) → slice_get (conns j).up n ≡ Some x → is_ops x.token ≡ true → s.present x.message.session ≡ false"),
+       ("idle", "(j n : ℕ) (y : Received) → slice_get (conns j).down n ≡ Some y → is_ops y.token ≡ false"), ("only", "(j : ℕ) → c.stage j ≡ AskedTree → j ≡ k")],
+      c="(readied c k r0)",
+      parts={"asked_new": "λ j. let o1 = only j in grind arith", "present_up": "λ j n x h op1. let v = gone j n x h op1 in grind arith",
+             "now_attached": "λ q. let l = i.attached_low q in grind arith", "closed_not": "λ p. let l = i.attached_low (create_at c p) in grind arith"})
+readied = EVENTS[-1]
+for part in OWN_UP:
+    if "number" in PARTS[part][2] or "live" in PARTS[part][2] or "session" in PARTS[part][2]:
+        readied.parts[part] = "λ %s h t. let v = gone j n x h (own_ops x p t) in grind arith" % PARTS[part][1]
+for part in DOWN:
+    if set(PARTS[part][2].split()) & {"live", "session", "number"}:
+        readied.parts[part] = "λ %s h t. let v = idle j n y h in let o1 = %s y p t in grind arith" % (PARTS[part][1], "own_reply_ops" if part in OWN_DOWN else "ask_reply_ops")
+
+# ---- Push
+event("Begin", "an operation other than a lock goes out first", "sent", "(g : ℕ)",
+      [("new", "c.sent g ≡ false"), ("other", "locking (c.op g) ≡ false"), ("pending", "is_unsettled (c.outcome g) ≡ true"),
+       ("before", "(h : ℕ) → 0 < h → h < g → create_at c h ≡ create_at c g → shuts_open (c.op h) ≡ true → is_unsettled (c.outcome h) ≡ false × is_ok (c.outcome h) ≡ false"),
+       ("after", "(p : ℕ) → 0 < p → p < g → create_at c p ≡ create_at c g → makes_open (c.op p) ≡ false → shuts_open (c.op g) ≡ true → is_unsettled (c.outcome p) ≡ false")],
+      c="(record c { sent = put c.sent g true })",
+      parts={
+          "unsent_gone": "λ p. let old = i.unsent_gone p in let st = unsettled_unsent (c.outcome p) in grind arith",
+          "close_before": "λ p q. let old = i.close_before p q in let bf = before q in grind arith",
+          "close_after": "λ q p. let old = i.close_after q p in let af = after p in grind arith",
+      })
+begin_lock = event("BeginLock", "a lock takes its slot and goes out first", "sent slot_of number_of slot_user", "(g q0 i0 m0 : ℕ)",
+      [("new", "c.sent g ≡ false"), ("lock", "locking (c.op g) ≡ true"), ("slot", "in_slots i0 ≡ true"), ("its", "q0 ≡ create_at c g"), ("pending", "is_unsettled (c.outcome g) ≡ true"), ("live", "c.live ≡ true"),
+       ("ok", "is_ok (c.outcome q0) ≡ true"), ("made", "makes_open (c.op q0) ≡ true"),
+       ("before", "(h : ℕ) → 0 < h → h < g → create_at c h ≡ create_at c g → shuts_open (c.op h) ≡ true → is_unsettled (c.outcome h) ≡ false × is_ok (c.outcome h) ≡ false"),
+       ("unretried", "c.retried q0 i0 ≢ c.number"), ("unfull", "c.full q0 i0 ≡ false"), ("unused", "(h : ℕ) → c.slot_user q0 i0 ≡ Some h → firm (c.outcome h) ≡ true × m0 ≢ c.number_of h")],
+      c="(record c { slot_of = put c.slot_of g i0; number_of = put c.number_of g m0; slot_user = put2 c.slot_user q0 i0 (Some g); sent = put c.sent g true })",
+      parts={
+          "slot_index": "λ p. let old = i.slot_index p in let sl = slot in grind arith",
+          "user_body": "λ q r p. let old = i.user_body q r p in grind arith",
+          "in_use": "λ p. let old = i.in_use p in let un = unused p in grind arith",
+          "unsent_gone": "λ p. let old = i.unsent_gone p in let st = unsettled_unsent (c.outcome p) in grind arith",
+          "close_before": "λ p q. let old = i.close_before p q in let bf = before q in grind arith",
+          "close_after": "λ q p. let old = i.close_after q p in let ls = lock_stays (c.op g) lock in grind arith",
+          "not_kept": "λ p. let old = i.not_kept p in let fr = C.fresh g new in grind arith",
+          "closed_not": "λ p. let old = i.closed_not p in let fr = C.fresh g new in grind arith",
+          "firm_kept": "λ p. let old = i.firm_kept p in let uf = unsettled_firm (c.outcome p) in grind arith",
+          "kept_says": "λ p st. elim (p == g) as (λ b. p == g ≡ b → Says STATE s a p st) [ | true ↦ λ e. subst (λ z. Says STATE s a z st) (sym (eqb-true p g e)) (says_own c s a g q0 i0 m0 st its (fresh_number c s q0 i0 m0 unused unfull i.user_body i.firm_kept (i.no_user q0 i0 ok made) (c.slot_user q0 i0) refl)) | false ↦ λ e. says_other c s a g q0 i0 m0 p st (eqb-false p g e) (i.kept_says p st) ] refl",
+          "users": more("users", SENT_UP + "let un = unused p in let fs = firm_settled (c.outcome p) in let rt = i.retried_done j n p x h t in let st1 = C.settled p in let on1 = up_on c conns C.outstanding j n p x h t tk.0 in grind arith", ""),
+          "retried_on": more("retried_on", SENT_UP), "retried_done": more("retried_done", SENT_UP), "full_dead": more("full_dead", SENT_UP), "kept_reply": more("kept_reply", SENT_DOWN),
+      })
+event("Again", "a slot's lock goes out again", "retried", "(q0 i0 : ℕ)", c="(record c { retried = put2 c.retried q0 i0 c.number })")
+send = event("Send", "an operation goes out itself", "on asking up", "(k g n0 : ℕ) (m0 : Message)",
+      [("ready", "c.ready k ≡ true"), ("none", "c.on g ≡ None"), ("pending", "is_unsettled (c.outcome g) ≡ true"), ("sent", "c.sent g ≡ true"), ("stands", "(conns k).client_open ≡ true"), ("mine", "m0.session ≡ c.session"), ("live", "c.live ≡ true"),
+       ("att", "makes_open (c.op g) ≡ false → c.attached (create_at c g) ≡ c.number"),
+       ("again", "(j n : ℕ) (x : Sent) → slice_get (conns j).up n ≡ Some x → x.token ≡ ForOp g → locking (c.op g) ≡ true → c.retried (create_at c g) (c.slot_of g) ≡ c.number"),
+       ("ok", "makes_open (c.op g) ≡ false → is_ok (c.outcome (create_at c g)) ≡ true × makes_open (c.op (create_at c g)) ≡ true")],
+      c="(put_out c k g)", conns="(put conns k (send_up (conns k) (ForOp g) m0 n0))",
+      parts={
+          "users": "λ j n p x. let old = i.users j n p x in let iu = i.in_use p in let uf = unsettled_firm (c.outcome p) in " + PUSHED,
+          "copy_now": "λ j n p x. let old = i.copy_now j n p x in let at1 = att in " + PUSHED,
+          "copy_attached": "λ j n p x. let old = i.copy_attached j n p x in let at1 = att in let ok1 = ok in let na = i.now_attached (create_at c g) in " + PUSHED,
+          "retried_on": "λ j n p x. let old = i.retried_on j n p x in let ag = again j n x in " + PUSHED,
+          "full_dead": "λ j n p x. let old = i.full_dead j n p x in let uf = unsettled_firm (c.outcome p) in " + PUSHED,
+      })
+event("Ask", "a DH2C goes out in an operation's place", "on asking up", "(k g n0 : ℕ) (m0 : Message)",
+      [("ready", "c.ready k ≡ true"), ("none", "c.on g ≡ None"), ("above", "0 < g"), ("within", "g ≤ c.taken"), ("kind", "makes_open (c.op g) ≡ false"), ("ok", "is_ok (c.outcome (create_at c g)) ≡ true"), ("mine", "m0.session ≡ c.session"), ("live", "c.live ≡ true"),
+       ("body", "m0.command ≡ reconnect_of (c.op (create_at c g)) (guid_for c (create_at c g)) (open_at c g)"), ("loose", "c.attached (create_at c g) ≢ c.number"), ("stands", "(conns k).client_open ≡ true")],
+      c="(asked c k g)", conns="(put conns k (send_up (conns k) (ForAttach g) m0 n0))",
+      parts={
+          "copy_now": "λ j n p x. let old = i.copy_now j n p x in " + PUSHED,
+          "retried_on": "λ j n p x. let old = i.retried_on j n p x in let cn = i.copy_now j n p x in let lk = lock_kind (c.op p) in " + PUSHED,
+      })
+
+# ---- Take
+opens = event("Opens", "a create that is outstanding names its open", "file attached", "(g id : ℕ)", [("create", "makes_open (c.op g) ≡ true"), ("pending", "is_unsettled (c.outcome g) ≡ true")],
+      c="(record c { file = put c.file g id; attached = put c.attached g c.number })",
+      parts={
+          "kept_says": "λ p st e. let old = i.kept_says p st e in let ub = i.user_body _ _ p e in let ok1 = ok_of c C.has_open p ub.3 (lock_kind (c.op p) ub.0) in let os = ok_settled (c.outcome (create_at c p)) ok1 in grind arith",
+          "not_kept": "λ p e. let old = i.not_kept p e in let ub = i.user_body _ _ p e in let ok1 = ok_of c C.has_open p ub.3 (lock_kind (c.op p) ub.0) in let os = ok_settled (c.outcome (create_at c p)) ok1 in grind arith",
+          "firm_kept": "λ p e. let old = i.firm_kept p e in let ub = i.user_body _ _ p e in let ok1 = ok_of c C.has_open p ub.3 (lock_kind (c.op p) ub.0) in let os = ok_settled (c.outcome (create_at c p)) ok1 in grind arith",
+          "now_attached": "λ q m ok1. let old = i.now_attached q m ok1 in let os = ok_settled (c.outcome q) ok1 in grind arith",
+          "no_user": "λ q r ok1. let old = i.no_user q r ok1 in let os = ok_settled (c.outcome q) ok1 in grind arith",
+          "closed_not": "λ p l s0. let old = i.closed_not p l s0 in let ok1 = ok_of c C.has_open p s0 (lock_kind (c.op p) l) in let os = ok_settled (c.outcome (create_at c p)) ok1 in grind arith",
+      })
+for part in UP:
+    if set(PARTS[part][2].split()) & {"file", "attached"} and part != "ask_up":
+        opens.parts[part] = more(part, "let b = C.bodies j n p x h t in let ok1 = ok_of c C.has_open p b.0 in let os = ok_settled (c.outcome (create_at c p)) in let ck = close_kind (c.op p) in ")
+opens.parts["ask_up"] = more("ask_up", "let os = ok_settled (c.outcome (create_at c p)) old.3 in ")
+for part in DOWN:
+    if set(PARTS[part][2].split()) & {"file", "attached"}:
+        if part in OWN_DOWN:
+            opens.parts[part] = more(part, "let s1 = C.sent_replies j n p y h t in let ok1 = ok_of c C.has_open p s1 in let os = ok_settled (c.outcome (create_at c p)) in let ck = close_kind (c.op p) in let lk = lock_kind (c.op p) in ")
+        else:
+            opens.parts[part] = more(part, "let ad = i.ask_down j n p y h t in let os = ok_settled (c.outcome (create_at c p)) ad.3 in ")
+event("Fills", "a lock met a full disk", "full", "(q0 i0 : ℕ)", [("unfirm", "(h : ℕ) → c.slot_user q0 i0 ≡ Some h → firm (c.outcome h) ≡ false")],
+      c="(record c { full = put2 c.full q0 i0 true })",
+      parts={"full_dead": "λ j n p x h t l. let old = i.full_dead j n p x h t l in let us = i.users j n p x h t l in let uf = unfirm p in grind arith"})
+SAME = [("same", "(h : ℕ) → h ≢ g → is_unsettled (c.outcome h) ≡ false → new h ≡ c.outcome h"),
+        ("gives", "(h : ℕ) → h ≢ g → is_unsettled (c.outcome h) ≡ true → is_unsettled (new h) ≡ false → is_unsent (new h) ≡ true × c.sent h ≡ false")]
+settle = event("Settle", "a reply settles its operation", "outcome on shut", "(k g : ℕ) (o0 : Outcome) (new : ℕ → Outcome) (sh : ℕ → Bool) (by0 : ℕ → Option ℕ) (order0 : List ℕ)",
+      [("on", "c.on g ≡ Some k"), ("own", "new g ≡ o0"), ("settled0", "is_unsettled o0 ≡ false"), ("real", "is_unsent o0 ≡ false")] + SAME
+      + [("gone", "(p : ℕ) → 0 < p → p ≤ c.taken → makes_open (c.op p) ≡ false → sh (create_at c p) ≡ true → c.sent p ≡ false → is_unsettled (new p) ≡ false"),
+         ("shuts", "(h : ℕ) → shuts_open (c.op h) ≡ true → is_ok (new h) ≡ true → sh (create_at c h) ≡ true"),
+         ("kept", "firm o0 ≡ true → user_at c g ≡ Some g → c.full (create_at c g) (c.slot_of g) ≡ false → s.standing (open_at c g) ≡ true → is_some (kept_of c s g) ≡ true"),
+         ("made", "(r : ℕ) → is_ok o0 ≡ true → makes_open (c.op g) ≡ true → s.standing (c.file g) ≡ true → s.slots (c.file g) r ≡ None"),
+         ("near", "makes_open (c.op g) ≡ true → is_ok o0 ≡ true → c.live ≡ true → s.present c.session ≡ true → s.standing (c.file g) ≡ true → s.at (c.file g) ≡ Some c.session"),
+         ("dead", "(j n : ℕ) (x : Sent) → slice_get (conns j).up n ≡ Some x → x.token ≡ ForOp g → locking (c.op g) ≡ true → firm o0 ≡ true → s.present x.message.session ≡ true → c.full (create_at c g) (c.slot_of g) ≡ false"),
+         ("full", "(j n : ℕ) (x : Sent) → slice_get (conns j).up n ≡ Some x → x.token ≡ ForOp g → shuts_open (c.op g) ≡ true → is_ok o0 ≡ false → s.present x.message.session ≡ true → s.standing (open_at c g) ≡ true → (s.opened (open_at c g)).persistent ≡ true → lower_limit < s.journal + 66"),
+         ("stuck", "(j n : ℕ) (x : Sent) → slice_get (conns j).up n ≡ Some x → x.token ≡ ForOp g → shuts_open (c.op g) ≡ true → is_ok o0 ≡ false → s.present x.message.session ≡ true → s.standing (open_at c g) ≡ true → (s.opened (open_at c g)).persistent ≡ false → of_directory s (open_at c g) ≡ false → lower_limit < s.journal + 34 × goes_with s (open_at c g) ≡ true"),
+         ("acted", "locking (c.op g) ≡ true → is_ok o0 ≡ true → a g ≡ 1"), ("unacted", "locking (c.op g) ≡ true → refused_for_good o0 ≡ true → a g ≡ 0")],
+      c="(record c { outcome = new; on = put c.on g None; by = by0; order = order0; shut = sh })",
+      parts={
+          "shut_gone": "λ p l m e f. gone p l m e f", "shut_ok": "λ p. shuts p",
+      })
+
+
+def split_g(part, head, mine, other, motive=None):
+    return None
+
+
+PEND = "let pend = C.settled g in let sm = same p in let gv = gives p in let uf = unsettled_firm (c.outcome p) in let us = unsettled_unsent (c.outcome p) in let sf = unsent_firm (new p) in let so = unsent_ok (new p) in let uk = unsettled_ok (c.outcome p) in "
+settle.parts.update({
+    "in_use": "λ p s0 l. let old = i.in_use p s0 l in " + PEND + "grind arith",
+    "close_before": "λ p q s0 m l l2 e f. let old = i.close_before p q s0 m l l2 e f in let pend = C.settled g in let sm = same q in grind arith",
+    "close_after": "λ q p s0 f l l2 e m. let old = i.close_after q p s0 f l l2 e m in let sm = same p in grind arith",
+    "unsent_gone": "λ p. let old = i.unsent_gone p in " + PEND + "grind arith",
+    "firm_kept": "λ p e f. let old = i.firm_kept p e in let kp = kept in let wf = was_firm c g new p (same p) (gives p) in grind arith",
+    "no_user": "λ q r. let old = i.no_user q r in let md = made r in let sm = same q in let gv = gives q in let so = unsent_ok (new q) in let us = unsettled_ok (new q) in grind arith",
+    "no_slots": "λ q r o m. let old = i.no_slots q r o m in let sm = same q in let os = ok_settled (c.outcome q) in let pend = C.settled g in grind arith",
+    "now_attached": "λ q m. let old = i.now_attached q m in let nr = near in let sm = same q in let gv = gives q in let so = unsent_ok (new q) in let us = unsettled_ok (new q) in grind arith",
+    "retried_on": more("retried_on", ""),
+    "retried_done": "λ j n p x h t. let old = i.retried_done j n p x h t in let ron = i.retried_on j n p x h t in let b = C.bodies j n p x h t in let sm = same p in let gv = gives p in grind arith",
+    "full_dead": "λ j n p x h t. let old = i.full_dead j n p x h t in let dd = dead j n x in let wf = was_firm c g new p (same p) (gives p) in grind arith",
+    "closed_not": "λ p. let old = i.closed_not p in let sm = same p in grind arith",
+    "ask_up": "λ j n p x h t. let old = i.ask_up j n p x h t in let sm = same (create_at c p) in let os = ok_settled (c.outcome (create_at c p)) old.3 in let pend = C.settled g in grind arith",
+    "ask_down": "λ j n p y h t. let old = i.ask_down j n p y h t in let sm = same (create_at c p) in let os = ok_settled (c.outcome (create_at c p)) old.3 in let pend = C.settled g in grind arith",
+    "ok_acted": "λ p. let old = i.ok_acted p in let ac = acted in " + PEND + "grind arith",
+    "refused_not": "λ p. let old = i.refused_not p in let ac = unacted in let fr = C.fresh p in let ur = unsettled_refused (new p) in let sm = same p in let gv = gives p in grind arith",
+})
+for part, need in (("left_full", "full"), ("left_stuck", "stuck"), ("left_idle", "")):
+    v = PARTS[part][1]
+    settle.parts[part] = "λ %s h t. let old = i.%s %s h t in let b = C.bodies j n p x h t in %slet sm = same p in let gv = gives p in grind arith" % (v, part, v, ("let nd = %s j n x in " % need) if need else "let cb = i.close_before q p in let fr = C.fresh q in let lk = lock_kind (c.op q) in let tkp = C.taken p b.0 in let pend = C.settled g in ")
+event("NoSlot", "operations that never went out settle", "outcome", "(g : ℕ) (new : ℕ → Outcome)", [("above", "0 < g"), ("pending", "is_unsettled (c.outcome g) ≡ true"), ("unsent", "c.sent g ≡ false"), ("own", "is_unsent (new g) ≡ true"), ("same", "(h : ℕ) → h ≢ g → new h ≡ c.outcome h")],
+      c="(record c { outcome = new })",
+      parts={
+          "in_use": "λ p. let old = i.in_use p in let sm = same p in grind arith",
+          "shut_ok": "λ p. let old = i.shut_ok p in let sm = same p in let so = unsent_ok (new p) in grind arith",
+          "shut_gone": "λ p. let old = i.shut_gone p in let sm = same p in let so = unsent_settled (new p) in grind arith",
+          "close_before": "λ p q. let old = i.close_before p q in let sm = same q in grind arith",
+          "close_after": "λ q p. let old = i.close_after q p in let sm = same p in grind arith",
+          "unsent_gone": "λ p. let old = i.unsent_gone p in let sm = same p in grind arith",
+          "firm_kept": "λ p. let old = i.firm_kept p in let sm = same p in let so = unsent_firm (new p) in grind arith",
+          "no_user": "λ q r. let old = i.no_user q r in let sm = same q in let so = unsent_ok (new q) in grind arith",
+          "no_slots": "λ q r o. let old = i.no_slots q r o in let sm = same q in let so = unsettled_ok (c.outcome q) in grind arith",
+          "now_attached": "λ q. let old = i.now_attached q in let sm = same q in let so = unsent_ok (new q) in grind arith",
+          "full_dead": more("full_dead", "let b = C.bodies j n p x h t in let sm = same p in "),
+          "retried_done": more("retried_done", "let b = C.bodies j n p x h t in let sm = same p in "),
+          "closed_not": "λ p. let old = i.closed_not p in let sm = same p in grind arith",
+          "ask_up": more("ask_up", "let sm = same (create_at c p) in let os = ok_settled (c.outcome (create_at c p)) old.3 in "),
+          "ask_down": more("ask_down", "let sm = same (create_at c p) in let os = ok_settled (c.outcome (create_at c p)) old.3 in "),
+          "left_full": more("left_full", "let b = C.bodies j n p x h t in let sm = same p in "),
+          "left_stuck": more("left_stuck", "let b = C.bodies j n p x h t in let sm = same p in "),
+          "left_idle": more("left_idle", "let b = C.bodies j n p x h t in let sm = same p in "),
+          "ok_acted": "λ p. let old = i.ok_acted p in let sm = same p in let so = unsent_ok (new p) in grind arith",
+          "refused_not": "λ p. let old = i.refused_not p in let sm = same p in let fr = C.fresh p in grind arith",
+      })
+event("Joined", "a DH2C attached its open", "on attached", "(g q0 : ℕ)", [("its", "q0 ≡ create_at c g"),
+      ("at", "makes_open (c.op q0) ≡ true → is_ok (c.outcome q0) ≡ true → c.live ≡ true → s.present c.session ≡ true → s.standing (c.file q0) ≡ true → s.at (c.file q0) ≡ Some c.session"),
+      ("was", "c.live ≡ true → s.present c.session ≡ true → s.standing (c.file q0) ≡ false → c.attached q0 ≡ c.number")],
+      c="(record c { on = put c.on g None; attached = put c.attached q0 c.number })",
+      parts={"now_attached": "λ q. let old = i.now_attached q in let n1 = at in grind arith", "closed_not": "λ p. let old = i.closed_not p in let w1 = was in grind arith"})
+event("Answered", "an operation is answered and isn't settled", "on", "(g : ℕ)", c="(answered c g)")
+
+# ---- Cut, the end of the session, Finish
+cut = event("Cut", "a ready channel is cut", "on before open down", "(k : ℕ)", c="(cut_channel c k)", conns="(put conns k (client_off (conns k)))")
+leave = event("Leave", "the session ends", "live on before outcome stage open down", "(new : ℕ → Outcome)",
+      [("same", "(h : ℕ) → is_unsettled (c.outcome h) ≡ false → new h ≡ c.outcome h"), ("unfirm", "(h : ℕ) → is_unsettled (c.outcome h) ≡ true → firm (new h) ≡ false × is_ok (new h) ≡ false"),
+       ("unsent", "(h : ℕ) → is_unsettled (c.outcome h) ≡ true → refused_for_good (new h) ≡ true → c.sent h ≡ false")],
+      c="(record (end_session c) { outcome = new })", conns="(λ j. client_off (conns j))")
+finish = event("Finish", "no session can be had", "outcome", "(new : ℕ → Outcome) (given : ℕ → Option ℕ)",
+      [("dead", "c.live ≡ false"), ("same", "(h : ℕ) → is_unsettled (c.outcome h) ≡ false → new h ≡ c.outcome h"), ("unfirm", "(h : ℕ) → is_unsettled (c.outcome h) ≡ true → firm (new h) ≡ false × is_ok (new h) ≡ false"),
+       ("unsent", "(h : ℕ) → is_unsettled (c.outcome h) ≡ true → refused_for_good (new h) ≡ true → c.sent h ≡ false")],
+      c="(record c { outcome = new; given_up = given })")
+CUT_UP = "let h' : slice_get (conns j).up n ≡ Some x = grind arith in let b = C.bodies j n p x h' t in let tk = C.taken p b.0 in let on1 = up_on c conns C.outstanding j n p x h' t tk.0 in let ou = C.own_up j n p x h' in "
+for e in (cut, leave):
+    e.parts["unanswered"] = "λ j n p x h t. let h' : slice_get (conns j).up n ≡ Some x = grind arith in let old = i.unanswered j n p x h' t in " + CUT_UP + "grind arith"
+for part in ("retried_on", "retried_done"):
+    v = PARTS[part][1]
+    cut.parts[part] = "λ %s h t l. let h' : slice_get (conns j).up n ≡ Some x = grind arith in let old = i.%s %s h' t l in %slet st1 = C.settled p in grind arith" % (v, part, v, CUT_UP)
+for e in (leave, finish):
+    e.parts.update({
+        "in_use": "λ p s0 l. let old = i.in_use p s0 l in let sm = same p in let uf = unsettled_firm (c.outcome p) in grind arith",
+        "shut_ok": "λ p. let old = i.shut_ok p in let sm = same p in let uf = unfirm p in grind arith",
+        "shut_gone": "λ p l m. let old = i.shut_gone p l m in let sm = same p in grind arith",
+        "close_before": "λ p q. let old = i.close_before p q in let sm = same q in grind arith",
+        "close_after": "λ q p. let old = i.close_after q p in let sm = same p in grind arith",
+        "unsent_gone": "λ p. let old = i.unsent_gone p in let sm = same p in let un = unsent p in let ur = unsent_refused (new p) in grind arith",
+        "firm_kept": "λ p e. let old = i.firm_kept p e in let sm = same p in let uf = unfirm p in grind arith",
+        "no_user": "λ q r. let old = i.no_user q r in let sm = same q in let uf = unfirm q in grind arith",
+        "no_slots": "λ q r o m. let old = i.no_slots q r o m in let sm = same q in let os = ok_settled (c.outcome q) in grind arith",
+        "ask_up": more("ask_up", "let sm = same (create_at c p) in let os = ok_settled (c.outcome (create_at c p)) old.3 in "),
+        "ok_acted": "λ p l. let old = i.ok_acted p l in let sm = same p in let uf = unfirm p in grind arith",
+        "refused_not": "λ p l. let old = i.refused_not p l in let sm = same p in let un = unsent p in let fr = C.fresh p in grind arith",
+        "full_dead": "λ j n p x h t l. let h' : slice_get (conns j).up n ≡ Some x = grind arith in let old = i.full_dead j n p x h' t l in let sm = same p in let uf = unfirm p in grind arith",
+    })
+    if e is finish:
+        e.parts["ask_down"] = more("ask_down", "let sm = same (create_at c p) in let os = ok_settled (c.outcome (create_at c p)) old.3 in ")
+        for part in ("now_attached", "closed_not"):
+            e.parts[part] = "λ %s. let d = dead in grind arith" % PARTS[part][1]
+        for part in ("copy_now", "retried_on", "retried_done", "left_full", "left_stuck", "left_idle"):
+            e.parts[part] = "λ %s h t. let d = dead in grind arith" % PARTS[part][1]
+
+# ---- the server's reply: of it is given what each part says of a reply
+SPECS = open(os.path.join(TOP, "..", "specs", "Locks.antt")).read()
+say = event("Say", "a reply is on its way", "down", "(k : ℕ) (y0 : Received)", [], conns="(put conns k (record (conns k) { down = (conns k).down ++ y0 ∷ [] }))")
+for part in DOWN:
+    found = re.search(r"^%s [a-z ]*= \(k n (\w) : ℕ\) \(y : Received\)\s*→ slice_get \(conns k\).down n ≡ Some y\s*→ (.*(?:\n    .*)*)" % type_name(part), SPECS, re.M)
+    say.needs.append(("of_" + part, "(%s : ℕ) → %s" % (found.group(1), re.sub(r"\by\.", "y0.", re.sub(r"\s+", " ", found.group(2).strip())))))
+    v = PARTS[part][1]
+    say.parts[part] = "λ %s. let old = i.%s %s in let m1 = of_%s p in %s" % (v, part, v, part, PUSHED)
+
+BEFORE = {
+    "Settle": """-- what is firm behind it was firm before
+was_firm : (c : Client) (g : ℕ) (new : ℕ → Outcome) (p : ℕ) → (p ≢ g → is_unsettled (c.outcome p) ≡ false → new p ≡ c.outcome p)
+    → (p ≢ g → is_unsettled (c.outcome p) ≡ true → is_unsettled (new p) ≡ false → is_unsent (new p) ≡ true × c.sent p ≡ false) → p ≢ g → firm (new p) ≡ true → firm (c.outcome p) ≡ true
+was_firm c g new p sm gv d f = let uf = unsettled_firm (new p) in let us = unsent_firm (new p) in grind arith
+
+""",
+    "BeginLock": """-- the number that it takes isn't one that its slot keeps
+fresh_number : (c : Client) (s : Server) (q0 i0 m0 : ℕ) → ((h : ℕ) → c.slot_user q0 i0 ≡ Some h → firm (c.outcome h) ≡ true × m0 ≢ c.number_of h) → c.full q0 i0 ≡ false → UserBody c → FirmKept c s
+    → (c.slot_user q0 i0 ≡ None → s.standing (c.file q0) ≡ true → s.slots (c.file q0) i0 ≡ None) → (u : Option ℕ) → c.slot_user q0 i0 ≡ u → s.standing (c.file q0) ≡ true → kept_at (s.slots (c.file q0) i0) m0 ≡ None
+fresh_number c s q0 i0 m0 unused unfull body kept none None e st = ap (λ k. kept_at k m0) (none e st) ∙ kept_none m0
+fresh_number c s q0 i0 m0 unused unfull body kept none (Some h) e st =
+    let un = unused h e in let ub = body q0 i0 h e in let k = kept h in
+    kept_other (s.slots (c.file q0) i0) (c.number_of h) m0 (grind arith) un.1
+
+abbrev Says : Client → Server → (ℕ → ℕ) → ℕ → ℕ → Type 0
+Says c s a g st = user_at c g ≡ Some g → s.standing (open_at c g) ≡ true → kept_of c s g ≡ Some st → a g ≡ (if st == success then 1 else 0)
+
+says_own : (c : Client) (s : Server) (a : ℕ → ℕ) (g q0 i0 m0 st : ℕ) → q0 ≡ create_at c g → (s.standing (c.file q0) ≡ true → kept_at (s.slots (c.file q0) i0) m0 ≡ None) → Says STATE s a g st
+says_own c s a g q0 i0 m0 st its none u stands kept = let n = none in grind arith
+
+says_other : (c : Client) (s : Server) (a : ℕ → ℕ) (g q0 i0 m0 p st : ℕ) → p ≢ g → Says c s a p st → Says STATE s a p st
+says_other c s a g q0 i0 m0 p st d old u stands kept = grind arith
+
+""",
+}
+
+
+def names(arguments):
+    out = []
+    for group in arguments.split("(")[1:]:
+        out += group.split(":")[0].split()
+    return out
+
+
+def low(name):
+    return "".join(("_" if n and ch.isupper() else "") + ch.lower() for n, ch in enumerate(name))
+
+
+def emit(event):
+    state = {"c": event.c, "conns": event.conns, "s": event.s, "a": event.a}
+    given = " " + event.arguments if event.arguments else ""
+    base = "(c : Client) (conns : ℕ → Conn) (s : Server) (a : ℕ → ℕ)"
+    out = ["-- %s\n" % (event.about[0].upper() + event.about[1:] + "."), HEAD, "\n", BEFORE.get(event.name, "").replace("STATE", event.c)]
+    calls = {}
+    for part, (arguments, _, reads) in PARTS.items():
+        if not set(reads.split()) & set(event.touched) and not (event.conns.startswith("(put") and "conns" in arguments):
+            calls[part] = "i." + part
+            continue
+        term = (event.parts.get(part) or default(part, event.touched)).replace("STATE", event.c)
+        mine = sorted(set(re.findall(r"\bi\.(\w+)", term)) | {part}, key=lambda p: (p != part, p))
+        lower = sorted(set(re.findall(r"\bC\.(\w+)", term)))
+        bare = re.sub(r"\b[iC]\.\w+", "", term)
+        # what quantifies is given to the parts that name it alone, and the rest to each
+        needs = [(n, t) for n, t in event.needs if "→" not in t or re.search(r"\b%s\b" % n, bare)]
+        premises = "".join("(%s) → " % t for _, t in needs) + "".join("C_T%s %s → " % (type_name(q), C_PARTS[q]) for q in lower) + "".join("%s %s → " % (type_name(q), PARTS[q][0]) for q in mine)
+        premises = premises.replace("C_T", "")
+        words = " ".join(names(event.arguments) + [n for n, _ in needs] + ["C_" + q for q in lower] + ["i_" + q for q in mine])
+        types = " ".join(state[w] for w in arguments.split())
+        body = re.sub(r"\bC\.(\w+)", r"C_\1", re.sub(r"\bi\.(\w+)", r"i_\1", term))
+        name = "%s_%s" % (low(event.name), part)
+        out.append("%s : %s%s → %s%s %s\n%s c conns s a %s =\n    %s\n\n" % (name, base, given, premises, type_name(part), types, name, words, body))
+        calls[part] = "%s c conns s a %s" % (name, " ".join(names(event.arguments) + [n for n, _ in needs] + ["C." + q for q in lower] + ["i." + q for q in mine]))
+    uses_c = any("C." in call for call in calls.values())
+    premises = "".join("(%s) → " % t for _, t in event.needs) + ("Connections c conns a → " if uses_c else "")
+    words = " ".join(names(event.arguments) + [n for n, _ in event.needs] + (["C"] if uses_c else []))
+    name = "%s_keeps" % low(event.name)
+    out.append("pub %s : %s%s → %sLocks c conns s a → Locks %s %s %s %s\n%s c conns s a%s i =\n    record {\n" % (name, base, given, premises, event.c, event.conns, event.s, event.a, name, " " + words if words else ""))
+    for part in PARTS:
+        out.append("      %s = %s;\n" % (part, calls[part]))
+    out.append("    }\n")
+    open(os.path.join(TOP, event.name + ".antt"), "w").write("".join(out))
+
+
+if __name__ == "__main__":
+    wanted = sys.argv[1:]
+    for e in EVENTS:
+        if not wanted or e.name in wanted:
+            emit(e)
+    first = ["Words"]
+    later = [n for n in ("Facts", "Server", "Run", "Once") if os.path.exists(os.path.join(TOP, n + ".antt"))]
+    open(os.path.join(TOP, "Lib.antt"), "w").write("".join("pub mod %s\n" % n for n in first + [e.name for e in EVENTS] + later))
