@@ -91,14 +91,14 @@ C_PARTS = {
     "first": "c conns a", "unsent": "c a", "sent_replies": "c conns", "deleted": "c conns a",
 }
 
-WORDS = "lock_kind, lock_stays, lock_once, close_kind, own_create, unsettled_firm, unsettled_unsent, unsettled_ok, unsettled_refused, unsent_firm, unsent_ok, ok_firm, ok_settled, firm_settled, unsent_settled, unsent_refused, refused_how, kept_none, kept_same, kept_other, kept_is_some, more_up, more_down, more_asks, down_is_open, up_on, down_on, ask_on, ok_of, made_of, own_ops, own_reply_ops, ask_reply_ops"
+WORDS = "lock_kind, lock_stays, lock_once, close_kind, own_create, unsettled_firm, unsettled_unsent, unsettled_ok, unsettled_refused, unsent_firm, unsent_ok, ok_firm, ok_settled, firm_settled, unsent_settled, unsent_refused, refused_how, kept_none, kept_same, kept_other, kept_is_some, more_up, more_down, more_asks, down_is_open, up_on, down_on, ask_on, ok_of, made_of, own_ops, own_reply_ops, ask_reply_ops, split_at"
 
 HEAD = """use Rattle.std.proofs.lemmas.Bool.{eqb-false}
 use Rattle.std.proofs.lemmas.Bool.Decides.{nat_tests}
 use Rattle.std.proofs.Common.{eqb-true, ◌≡◌, ◌≢◌, ℕ, ◌+◌, ◌≤◌, ◌<◌, ◌==◌, ◌%◌, Bool, true, false, not, ◌&&◌, ◌||◌, if◌then◌else◌, List, [], ◌∷◌, ◌++◌, ◌⊎◌, inl, inr, refl, arith, sym, subst, ◌∙◌, ap, Option, Some, None, slice_get, is_some, zero, suc}
 use Rattle.exchange_defs.specs.Table.{put, put2}
 use Rattle.exchange_defs.specs.Status.{success, user_session_deleted, file_closed, object_name_not_found, no_memory, disk_full}
-use Rattle.exchange_defs.specs.State.{Server, Message, Reply, Kept}
+use Rattle.exchange_defs.specs.State.{Server, Message, Reply, Kept, Range}
 use Rattle.exchange_defs.specs.Records.{lower_limit}
 use Rattle.exchange_defs.specs.Operations.{Op, Outcome, Why, is_unsettled, is_ok, is_create, is_close, is_lock, create_of, id_in, reconnect_of}
 use Rattle.exchange_defs.specs.Client.{Client, Stage, AskedTree, create_for, guid_for, outstanding as put_out, asked, cut_channel, end_session, finish}
@@ -401,6 +401,103 @@ for e in (leave, finish):
         for part in ("copy_now", "retried_on", "retried_done", "left_full", "left_stuck", "left_idle"):
             e.parts[part] = "λ %s h t. let d = dead in grind arith" % PARTS[part][1]
 
+# ---- the server moves, and no lock is carried out
+OK = "makes_open (c.op q) ≡ true → is_ok (c.outcome q) ≡ true → "
+moves = event("Moves", "the server moves, and carries out no lock", "present standing at slots opened journal files by_guid a", "(s2 : Server) (a2 : ℕ → ℕ)",
+      [("same_a", "(p : ℕ) → locking (c.op p) ≡ true → a2 p ≡ a p"), ("journal", "s.journal ≤ s2.journal"),
+       ("stay", "(j n : ℕ) (x : Sent) → slice_get (conns j).up n ≡ Some x → is_ops x.token ≡ true → s2.present x.message.session ≡ true → s.present x.message.session ≡ true"),
+       ("stay_now", "c.live ≡ true → s2.present c.session ≡ true → s.present c.session ≡ true"),
+       ("stands", "(q : ℕ) → " + OK + "s2.standing (c.file q) ≡ true → s.standing (c.file q) ≡ true"),
+       ("keeps_at", "(o y : ℕ) → s.at o ≡ Some y → s2.standing o ≡ true → s2.present y ≡ true → s2.at o ≡ Some y"),
+       ("slots", "(q r : ℕ) → " + OK + "s2.standing (c.file q) ≡ true → s2.slots (c.file q) r ≡ s.slots (c.file q) r"),
+       ("opened", "(q : ℕ) → " + OK + "s2.standing (c.file q) ≡ true → (s2.opened (c.file q)).persistent ≡ (s.opened (c.file q)).persistent"),
+       ("dirs", "(q : ℕ) → " + OK + "s2.standing (c.file q) ≡ true → of_directory s2 (c.file q) ≡ of_directory s (c.file q)"),
+       ("stuck", "(q : ℕ) → " + OK + "s2.standing (c.file q) ≡ true → (s.opened (c.file q)).persistent ≡ false → of_directory s (c.file q) ≡ false → goes_with s (c.file q) ≡ true → lower_limit < s.journal + 34 → goes_with s2 (c.file q) ≡ true"),
+       ("unmade", "(q r o : ℕ) → makes_open (c.op q) ≡ true → is_ok (c.outcome q) ≡ false → s2.by_guid c.who.guid (guid_for c q) ≡ Some o → s2.slots o r ≡ None"),
+       ("open_stands", "(j n g : ℕ) (y : Received) → slice_get (conns j).down n ≡ Some y → y.token ≡ ForOp g → makes_open (c.op g) ≡ true → y.reply.status ≡ success → s2.standing (id_in y.reply.body) ≡ true → s.standing (id_in y.reply.body) ≡ true"),
+       ("closed", "(g : ℕ) → locking (c.op g) ≡ true → c.sent g ≡ true → is_unsettled (c.outcome g) ≡ true → c.live ≡ true → c.attached (create_at c g) ≡ c.number → s2.present c.session ≡ true → s.standing (open_at c g) ≡ true → s2.standing (open_at c g) ≡ false → a g ≡ 0"),
+       ("joined", "(j n g : ℕ) (y : Received) → slice_get (conns j).down n ≡ Some y → y.token ≡ ForAttach g → y.reply.status ≡ success → c.live ≡ true → s2.present c.session ≡ true → s.standing (open_at c g) ≡ true → s2.standing (open_at c g) ≡ false → c.attached (create_at c g) ≡ c.number")],
+      s="s2", a="a2")
+ITS = "let ok1 = ok_of c C.has_open p sent m1 in let mk = made_of c C.taken C.creates p sent m1 in "
+UPS = "let b = C.bodies j n p x h t in let sent = b.0 in "
+DOWNS = "let sent = C.sent_replies j n p y h t in "
+OPS = "let sy = stay j n x h (own_ops x p t) in "
+
+
+def copy_term(part, facts):
+    v = PARTS[part][1]
+    return "λ %s h t m. let old = i.%s %s h t m in %s" % (v, part, v, UPS) + facts + "grind arith"
+
+
+LOCK1 = "let m1 = lock_kind (c.op p) m in "
+CLOSE1 = "let m1 = close_kind (c.op p) m in "
+PLAIN1 = "let m1 = m in "
+for part in ("users", "retried_on", "retried_done", "full_dead"):
+    moves.parts[part] = "λ %s h t m. let old = i.%s %s h t m in %sgrind arith" % (PARTS[part][1], part, PARTS[part][1], OPS)
+moves.parts["present_up"] = "λ j n x h t. let old = i.present_up j n x h t in let sy = stay j n x h t in grind arith"
+moves.parts["copy_now"] = "λ j n p x h t m. let old = i.copy_now j n p x h t m in " + OPS + "grind arith"
+moves.parts["copy_attached"] = copy_term("copy_attached", PLAIN1 + ITS + OPS + "let sd = stands (create_at c p) mk ok1 in let ka = keeps_at (open_at c p) x.message.session in ")
+moves.parts["left_full"] = copy_term("left_full", CLOSE1 + ITS + OPS + "let sd = stands (create_at c p) mk ok1 in let op1 = opened (create_at c p) mk ok1 in ")
+moves.parts["left_stuck"] = copy_term("left_stuck", CLOSE1 + ITS + OPS + "let sd = stands (create_at c p) mk ok1 in let op1 = opened (create_at c p) mk ok1 in let dr = dirs (create_at c p) mk ok1 in let sk = stuck (create_at c p) mk ok1 in ")
+moves.parts["left_idle"] = "λ j n p q x h t m. let old = i.left_idle j n p q x h t m in " + UPS + CLOSE1 + ITS + OPS + "let sd = stands (create_at c p) mk ok1 in let op1 = opened (create_at c p) mk ok1 in let sa = same_a q in grind arith"
+moves.parts["now_attached"] = "λ q m ok1. let old = i.now_attached q m ok1 in let sn = stay_now in let sd = stands q m ok1 in let ka = keeps_at (c.file q) c.session in grind arith"
+moves.parts["opened_reply"] = "λ j n p y h t m e. let old = i.opened_reply j n p y h t m e in let os = open_stands j n p y h t m e in let sn = stay_now in let ka = keeps_at (id_in y.reply.body) c.session in grind arith"
+ASKS = "let ad = i.ask_down j n p y h t in let cr = C.creates p ad.0 ad.1 ad.2 in let sd = stands (create_at c p) cr.2 ad.3 in "
+moves.parts["join_reply"] = "λ j n p y h t. let old = i.join_reply j n p y h t in " + ASKS + "let sn = stay_now in let ka = keeps_at (open_at c p) c.session in grind arith"
+moves.parts["joined_reply"] = "λ j n p y h t e. let old = i.joined_reply j n p y h t e in let jn = joined j n p y h t e in let sn = stay_now in grind arith"
+moves.parts["lost_reply"] = "λ j n p y h t. let old = i.lost_reply j n p y h t in " + ASKS + "grind arith"
+USES = "let ub = i.user_body _ _ p e in let sent = ub.3 in let m1 = lock_kind (c.op p) ub.0 in " + ITS + "let sd = stands (create_at c p) mk ok1 in let sl = slots (create_at c p) (c.slot_of p) mk ok1 in "
+moves.parts["kept_says"] = "λ p st e f. let old = i.kept_says p st e in " + USES + "let sa = same_a p ub.0 in grind arith"
+moves.parts["not_kept"] = "λ p e f. let old = i.not_kept p e in " + USES + "let sa = same_a p ub.0 in grind arith"
+moves.parts["firm_kept"] = "λ p e. let old = i.firm_kept p e in " + USES + "grind arith"
+moves.parts["no_user"] = "λ q r ok1 mk. let old = i.no_user q r ok1 mk in let sd = stands q mk ok1 in let sl = slots q r mk ok1 in grind arith"
+moves.parts["no_slots"] = "λ q r o m ok1 e. unmade q r o m ok1 e"
+for part in ("ok_reply", "no_reply", "first_reply"):
+    moves.parts[part] = "λ j n p y h t m. let old = i.%s j n p y h t m in let sa = same_a p m in grind arith" % part
+moves.parts["kept_reply"] = "λ j n p y h t m. let old = i.kept_reply j n p y h t m in " + DOWNS + LOCK1 + ITS + "let sd = stands (create_at c p) mk ok1 in let sl = slots (create_at c p) (c.slot_of p) mk ok1 in grind arith"
+CLS = "let sd = stands (create_at c p) mk ok1 in let op1 = opened (create_at c p) mk ok1 in "
+moves.parts["close_done"] = "λ j n p y h t m. let old = i.close_done j n p y h t m in " + DOWNS + CLOSE1 + ITS + CLS + "grind arith"
+moves.parts["close_full"] = "λ j n p y h t m. let old = i.close_full j n p y h t m in " + DOWNS + CLOSE1 + ITS + CLS + "grind arith"
+moves.parts["close_stuck"] = "λ j n p y h t m. let old = i.close_stuck j n p y h t m in " + DOWNS + CLOSE1 + ITS + CLS + "let dr = dirs (create_at c p) mk ok1 in let sk = stuck (create_at c p) mk ok1 in grind arith"
+moves.parts["closed_not"] = "λ p m s0 u l at1. let old = i.closed_not p m s0 u l at1 in let cl = closed p m s0 u l at1 in let sn = stay_now in let sa = same_a p m in grind arith"
+for part in ("at_most", "ok_acted", "refused_not"):
+    moves.parts[part] = "λ p m. let old = i.%s p m in let sa = same_a p m in grind arith" % part
+
+# ---- a slot keeps a lock's answer
+WROTE = "(record s { sequence = sq; ranges = rg; slots = put2 s.slots (open_at c g) (c.slot_of g) (Some (record { number = c.number_of g; status = st0 })); journal = j0 })"
+writes = event("Writes", "a slot keeps a lock's answer", "slots journal files a", "(g st0 j0 : ℕ) (sq : ℕ → ℕ) (rg : ℕ → List Range) (a2 : ℕ → ℕ)",
+      [("lock", "locking (c.op g) ≡ true"), ("sent", "c.sent g ≡ true"), ("user", "user_at c g ≡ Some g"), ("free", "kept_of c s g ≡ None"), ("stands", "s.standing (open_at c g) ≡ true"), ("unfirm", "firm (c.outcome g) ≡ false"),
+       ("journal", "s.journal ≤ j0"), ("others", "(p : ℕ) → locking (c.op p) ≡ true → p ≢ g → a2 p ≡ a p"), ("own", "a2 g ≡ (if st0 == success then 1 else 0)"),
+       ("room", "(s.opened (open_at c g)).persistent ≡ true → s.journal + 66 ≤ lower_limit"),
+       ("goes_same", "(o : ℕ) → goes_with SERVER o ≡ goes_with s o"), ("dirs", "(o : ℕ) → of_directory SERVER o ≡ of_directory s o"),
+       ("inj", "(q : ℕ) → " + OK + "s.standing (c.file q) ≡ true → c.file q ≡ open_at c g → q ≡ create_at c g"),
+       ("unmade", "(q : ℕ) → makes_open (c.op q) ≡ true → is_ok (c.outcome q) ≡ false → s.by_guid c.who.guid (guid_for c q) ≢ Some (open_at c g)"),
+       ("alone", "c.before g ≡ false → (j n : ℕ) (y : Received) → slice_get (conns j).down n ≡ Some y → y.token ≢ ForOp g")],
+      s=WROTE, a="a2")
+writes.needs = [(n, ty.replace("SERVER", WROTE)) for n, ty in writes.needs]
+USES2 = "let ub = i.user_body _ _ p e in let sent1 = ub.3 in let m1 = lock_kind (c.op p) ub.0 in let ok1 = ok_of c C.has_open p sent1 m1 in let mk = made_of c C.taken C.creates p sent1 m1 in let ij = inj (create_at c p) mk ok1 in "
+NK = "let nk = i.not_kept g user stands free in "
+writes.parts.update({
+    "kept_says": "λ p st e f. let old = i.kept_says p st e f in " + USES2 + "split_at (λ z. kept_of c BEHIND z ≡ Some st → a2 z ≡ (if st == success then 1 else 0)) g p (λ d. let row = other_kept c s g p st0 d user e (ij f) in let ot = others p ub.0 d in says_it (kept_of c BEHIND p) (kept_of c s p) st (a2 p) row (λ k. ot ∙ old k)) (says_own st st0 (a2 g) (kept_of c BEHIND g) (own_kept c s g st0) own)",
+    "not_kept": "λ p e f. let old = i.not_kept p e f in " + USES2 + "split_at (λ z. kept_of c BEHIND z ≡ None → a2 z ≡ 0) g p (λ d. let row = other_kept c s g p st0 d user e (ij f) in let ot = others p ub.0 d in λ k. ot ∙ old (sym row ∙ k)) (not_none (kept_of c BEHIND g) st0 (a2 g) (own_kept c s g st0))",
+    "firm_kept": "λ p e fm fl f. let old = i.firm_kept p e fm fl f in " + USES2 + "split_at (λ z. is_some (kept_of c BEHIND z) ≡ true) g p (λ d. let row = other_kept c s g p st0 d user e (ij f) in some_it (kept_of c BEHIND p) (kept_of c s p) row old) (kept_is_some (kept_of c BEHIND g) st0 (own_kept c s g st0))",
+    "no_user": "λ q r ok1 mk. let old = i.no_user q r ok1 mk in let ij = inj q mk ok1 in grind arith",
+    "no_slots": "λ q r o m ok1. let old = i.no_slots q r o m ok1 in let un = unmade q m ok1 in grind arith",
+    "ok_reply": "λ j n p y h t m. let old = i.ok_reply j n p y h t m in let ot = others p m in " + NK + "grind arith",
+    "no_reply": "λ j n p y h t m e0 e1 e2 e3. let old = i.no_reply j n p y h t m e0 e1 e2 e3 in let kr = i.kept_reply j n p y h t m e1 e2 e3 in let ot = others p m in grind arith",
+    "kept_reply": "λ j n p y h t m e1 e2 e3 f. let old = i.kept_reply j n p y h t m e1 e2 e3 f in let sent1 = C.sent_replies j n p y h t in let m1 = lock_kind (c.op p) m in let ok1 = ok_of c C.has_open p sent1 m1 in let mk = made_of c C.taken C.creates p sent1 m1 in let ij = inj (create_at c p) mk ok1 in let tk = C.taken p sent1 in let on1 = down_on c conns C.outstanding C.down_open j n p y h t tk.0 in let e = in_use_out c p i.in_use C.settled sent1 m j on1 in split_at (λ z. is_some (kept_of c BEHIND z) ≡ true) g p (λ d. let row = other_kept c s g p st0 d user e (ij f) in some_it (kept_of c BEHIND p) (kept_of c s p) row old) (kept_is_some (kept_of c BEHIND g) st0 (own_kept c s g st0))",
+    "first_reply": "λ j n p y h t m. let old = i.first_reply j n p y h t m in let al = alone in let ot = others p m in grind arith",
+    "closed_not": "λ p m. let old = i.closed_not p m in let ot = others p m in grind arith",
+    "left_full": "λ j n p x h t. let old = i.left_full j n p x h t in grind arith",
+    "left_stuck": "λ j n p x h t. let old = i.left_stuck j n p x h t in let gs = goes_same (open_at c p) in let ds = dirs (open_at c p) in grind arith",
+    "left_idle": "λ j n p q x h t. let old = i.left_idle j n p q x h t in let lf = i.left_full j n p x h t in let rm = room in let ot = others q in " + "grind arith",
+    "close_full": "λ j n p y h t. let old = i.close_full j n p y h t in grind arith",
+    "close_stuck": "λ j n p y h t. let old = i.close_stuck j n p y h t in let gs = goes_same (open_at c p) in let ds = dirs (open_at c p) in grind arith",
+    "at_most": "λ p m. let old = i.at_most p m in let ot = others p m in let ow = own in grind arith",
+    "ok_acted": "λ p m e. let old = i.ok_acted p m e in let ot = others p m in let okf = ok_firm (c.outcome p) e in grind arith",
+    "refused_not": "λ p m e. let old = i.refused_not p m e in let ot = others p m in let rh = refused_how (c.outcome p) e in let ug = i.unsent_gone p in grind arith",
+})
+
 # ---- the server's reply: of it is given what each part says of a reply
 SPECS = open(os.path.join(TOP, "..", "specs", "Locks.antt")).read()
 say = event("Say", "a reply is on its way", "down", "(k : ℕ) (y0 : Received)", [], conns="(put conns k (record (conns k) { down = (conns k).down ++ y0 ∷ [] }))")
@@ -411,6 +508,36 @@ for part in DOWN:
     say.parts[part] = "λ %s. let old = i.%s %s in let m1 = of_%s p in %s" % (v, part, v, part, PUSHED)
 
 BEFORE = {
+    "Writes": """in_use_out : (c : Client) (p : ℕ) → InUse c → Settled c → c.sent p ≡ true → locking (c.op p) ≡ true → (j : ℕ) → c.on p ≡ Some j → user_at c p ≡ Some p
+in_use_out c p iu st s m j on = let u = iu p s m in let t = st p in let fs = firm_settled (c.outcome p) in grind arith
+
+other_row : (c : Client) (s : Server) (g p : ℕ) (kept : Option Kept) → p ≢ g → user_at c g ≡ Some g → user_at c p ≡ Some p → (c.file (create_at c p) ≡ open_at c g → create_at c p ≡ create_at c g)
+    → put2 s.slots (open_at c g) (c.slot_of g) kept (open_at c p) (c.slot_of p) ≡ s.slots (open_at c p) (c.slot_of p)
+other_row c s g p kept d user e ij = grind arith
+
+own_row : (c : Client) (s : Server) (g : ℕ) (kept : Option Kept) → put2 s.slots (open_at c g) (c.slot_of g) kept (open_at c g) (c.slot_of g) ≡ kept
+own_row c s g kept = grind arith
+
+other_kept : (c : Client) (s : Server) (g p st0 : ℕ) → p ≢ g → user_at c g ≡ Some g → user_at c p ≡ Some p → (c.file (create_at c p) ≡ open_at c g → create_at c p ≡ create_at c g)
+    → kept_at (put2 s.slots (open_at c g) (c.slot_of g) (Some (record { number = c.number_of g; status = st0 })) (open_at c p) (c.slot_of p)) (c.number_of p) ≡ kept_of c s p
+other_kept c s g p st0 d user e ij = ap (λ k. kept_at k (c.number_of p)) (other_row c s g p (Some (record { number = c.number_of g; status = st0 })) d user e ij)
+
+own_kept : (c : Client) (s : Server) (g st0 : ℕ) → kept_at (put2 s.slots (open_at c g) (c.slot_of g) (Some (record { number = c.number_of g; status = st0 })) (open_at c g) (c.slot_of g)) (c.number_of g) ≡ Some st0
+own_kept c s g st0 = ap (λ k. kept_at k (c.number_of g)) (own_row c s g (Some (record { number = c.number_of g; status = st0 }))) ∙ kept_same (c.number_of g) st0
+
+says_it : (x y : Option ℕ) (st n : ℕ) → x ≡ y → (y ≡ Some st → n ≡ (if st == success then 1 else 0)) → x ≡ Some st → n ≡ (if st == success then 1 else 0)
+says_it x y st n e f k = f (sym e ∙ k)
+
+says_own : (st st0 n : ℕ) (x : Option ℕ) → x ≡ Some st0 → n ≡ (if st0 == success then 1 else 0) → x ≡ Some st → n ≡ (if st == success then 1 else 0)
+says_own st st0 n x e f k = let same : st0 ≡ st = grind arith in subst (λ z. n ≡ (if z == success then 1 else 0)) same f
+
+not_none : (x : Option ℕ) (st0 n : ℕ) → x ≡ Some st0 → x ≡ None → n ≡ 0
+not_none x st0 n e f = absurd (grind arith)
+
+some_it : (x y : Option ℕ) → x ≡ y → is_some y ≡ true → is_some x ≡ true
+some_it x y e f = grind arith
+
+""",
     "Settle": """-- what is firm behind it was firm before
 was_firm : (c : Client) (g : ℕ) (new : ℕ → Outcome) (p : ℕ) → (p ≢ g → is_unsettled (c.outcome p) ≡ false → new p ≡ c.outcome p)
     → (p ≢ g → is_unsettled (c.outcome p) ≡ true → is_unsettled (new p) ≡ false → is_unsent (new p) ≡ true × c.sent p ≡ false) → p ≢ g → firm (new p) ≡ true → firm (c.outcome p) ≡ true
@@ -453,13 +580,13 @@ def emit(event):
     state = {"c": event.c, "conns": event.conns, "s": event.s, "a": event.a}
     given = " " + event.arguments if event.arguments else ""
     base = "(c : Client) (conns : ℕ → Conn) (s : Server) (a : ℕ → ℕ)"
-    out = ["-- %s\n" % (event.about[0].upper() + event.about[1:] + "."), HEAD, "\n", BEFORE.get(event.name, "").replace("STATE", event.c)]
+    out = ["-- %s\n" % (event.about[0].upper() + event.about[1:] + "."), HEAD, "\n", BEFORE.get(event.name, "").replace("STATE", event.c).replace("BEHIND", "(%s)" % event.s)]
     calls = {}
     for part, (arguments, _, reads) in PARTS.items():
         if not set(reads.split()) & set(event.touched) and not (event.conns.startswith("(put") and "conns" in arguments):
             calls[part] = "i." + part
             continue
-        term = (event.parts.get(part) or default(part, event.touched)).replace("STATE", event.c)
+        term = (event.parts.get(part) or default(part, event.touched)).replace("STATE", event.c).replace("BEHIND", "(%s)" % event.s)
         mine = sorted(set(re.findall(r"\bi\.(\w+)", term)) | {part}, key=lambda p: (p != part, p))
         lower = sorted(set(re.findall(r"\bC\.(\w+)", term)))
         bare = re.sub(r"\b[iC]\.\w+", "", term)

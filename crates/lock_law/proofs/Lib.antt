@@ -26,4 +26,6 @@ pub mod Answered
 pub mod Cut
 pub mod Leave
 pub mod Finish
+pub mod Moves
+pub mod Writes
 pub mod Say

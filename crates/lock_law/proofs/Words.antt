@@ -139,3 +139,10 @@ own_reply_ops y g t = grind arith
 
 pub ask_reply_ops : (y : Received) (g : ℕ) → y.token ≡ ForAttach g → is_ops y.token ≡ true
 ask_reply_ops y g t = grind arith
+
+-- one number, or any other
+pub split_at : (P : ℕ → Type 0) (g p : ℕ) → (p ≢ g → P p) → P g → P p
+split_at P g p f x = elim (p == g) as (λ b. p == g ≡ b → P p) [
+  | true ↦ λ e. subst P (sym (eqb-true p g e)) x
+  | false ↦ λ e. f (eqb-false p g e)
+] refl
