@@ -1,4 +1,5 @@
 pub mod Words
+pub mod Views
 pub mod Submit
 pub mod Opened
 pub mod Dropped
