@@ -207,11 +207,11 @@ newly_named by client o0 (Some h) c g o e = grind arith
 pub end_view : (s : Server) (x now : ℕ) (quiet : Bool) → view (end_session s x now quiet) ≡ ended_view (view s) x (λ o. leaves s x o) (λ c g. guid_staying s x (s.by_guid c g))
 end_view s x now quiet = refl
 
-staying_named : (s : Server) (x : ℕ) (u : Option ℕ) (o : ℕ) → guid_staying s x u ≡ Some o → u ≡ Some o
+pub staying_named : (s : Server) (x : ℕ) (u : Option ℕ) (o : ℕ) → guid_staying s x u ≡ Some o → u ≡ Some o
 staying_named s x None o e = absurd (cc)
 staying_named s x (Some p) o e = grind arith
 
-its_session : (s : Server) (x o : ℕ) → leaves s x o ≡ true → s.at o ≡ Some x
+pub its_session : (s : Server) (x o : ℕ) → leaves s x o ≡ true → s.at o ≡ Some x
 its_session s x o e = of_at (s.at o) (s.opened o).persistent e
   where
     of_at : (u : Option ℕ) (b : Bool) → (is_at x u && not b) ≡ true → u ≡ Some x
