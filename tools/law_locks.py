@@ -108,7 +108,7 @@ use Rattle.exchange_defs.specs.Network.{Conn, Sent, Received, Token, ForDialog, 
 use Rattle.exchange_law.specs.Connections.{Connections, copies, count_up, count_down, no_copy_out, makes_open, shuts_open, acts_once, its_create, its_request, create_at, opens, CPARTS}
 use Rattle.exchange_law.proofs.Lists.{get-push, rest_of, own_up_count, own_down_count, attach_up_count, attach_down_count, front_up, front_down, waited, waited_down}
 use Rattle.session_law.specs.Sessions.{is_ops}
-use Rattle.lock_law.specs.Locks.{Locks, locking, kept_at, firm, is_unsent, refused_for_good, in_slots, user_at, open_at, kept_of, goes_with, of_directory, PARTS}
+use Rattle.lock_law.specs.Locks.{Locks, locking, kept_at, firm, is_unsent, refused_for_good, in_slots, user_at, open_at, kept_of, goes_with, PARTS}
 use Rattle.lock_law.proofs.Words.{WORDS}
 """.replace("CPARTS", ", ".join(type_name(p) for p in C_PARTS)).replace("PARTS", ", ".join(type_name(p) for p in PARTS)).replace("WORDS", WORDS)
 
@@ -297,7 +297,7 @@ settle = event("Settle", "a reply settles its operation", "outcome on shut", "(k
          ("near", "makes_open (c.op g) ≡ true → is_ok o0 ≡ true → c.live ≡ true → s.present c.session ≡ true → s.standing (c.file g) ≡ true → s.at (c.file g) ≡ Some c.session"),
          ("dead", "(j n : ℕ) (x : Sent) → slice_get (conns j).up n ≡ Some x → x.token ≡ ForOp g → locking (c.op g) ≡ true → firm o0 ≡ true → s.present x.message.session ≡ true → c.full (create_at c g) (c.slot_of g) ≡ false"),
          ("full", "(j n : ℕ) (x : Sent) → slice_get (conns j).up n ≡ Some x → x.token ≡ ForOp g → shuts_open (c.op g) ≡ true → is_ok o0 ≡ false → s.present x.message.session ≡ true → s.standing (open_at c g) ≡ true → (s.opened (open_at c g)).persistent ≡ true → lower_limit < s.journal + 66"),
-         ("stuck", "(j n : ℕ) (x : Sent) → slice_get (conns j).up n ≡ Some x → x.token ≡ ForOp g → shuts_open (c.op g) ≡ true → is_ok o0 ≡ false → s.present x.message.session ≡ true → s.standing (open_at c g) ≡ true → (s.opened (open_at c g)).persistent ≡ false → of_directory s (open_at c g) ≡ false → lower_limit < s.journal + 34 × goes_with s (open_at c g) ≡ true"),
+         ("stuck", "(j n : ℕ) (x : Sent) → slice_get (conns j).up n ≡ Some x → x.token ≡ ForOp g → shuts_open (c.op g) ≡ true → is_ok o0 ≡ false → s.present x.message.session ≡ true → s.standing (open_at c g) ≡ true → (s.opened (open_at c g)).persistent ≡ false → lower_limit < s.journal + 34 × goes_with s (open_at c g) ≡ true"),
          ("acted", "locking (c.op g) ≡ true → is_ok o0 ≡ true → a g ≡ 1"), ("unacted", "locking (c.op g) ≡ true → refused_for_good o0 ≡ true → a g ≡ 0")],
       c="(record c { outcome = new; on = put c.on g None; by = by0; order = order0; shut = sh })",
       parts={
@@ -411,8 +411,7 @@ moves = event("Moves", "the server moves, and carries out no lock", "present sta
        ("keeps_at", "(o y : ℕ) → s.at o ≡ Some y → s2.standing o ≡ true → s2.present y ≡ true → s2.at o ≡ Some y"),
        ("slots", "(q r : ℕ) → " + OK + "s2.standing (c.file q) ≡ true → s2.slots (c.file q) r ≡ s.slots (c.file q) r"),
        ("opened", "(q : ℕ) → " + OK + "s2.standing (c.file q) ≡ true → (s2.opened (c.file q)).persistent ≡ (s.opened (c.file q)).persistent"),
-       ("dirs", "(q : ℕ) → " + OK + "s2.standing (c.file q) ≡ true → of_directory s2 (c.file q) ≡ of_directory s (c.file q)"),
-       ("stuck", "(q : ℕ) → " + OK + "s2.standing (c.file q) ≡ true → (s.opened (c.file q)).persistent ≡ false → of_directory s (c.file q) ≡ false → goes_with s (c.file q) ≡ true → lower_limit < s.journal + 34 → goes_with s2 (c.file q) ≡ true"),
+       ("stuck", "(q : ℕ) → " + OK + "s2.standing (c.file q) ≡ true → (s.opened (c.file q)).persistent ≡ false → goes_with s (c.file q) ≡ true → lower_limit < s.journal + 34 → goes_with s2 (c.file q) ≡ true"),
        ("unmade", "(q r o : ℕ) → makes_open (c.op q) ≡ true → is_ok (c.outcome q) ≡ false → s2.by_guid c.who.guid (guid_for c q) ≡ Some o → s2.slots o r ≡ None"),
        ("open_stands", "(j n g : ℕ) (y : Received) → slice_get (conns j).down n ≡ Some y → y.token ≡ ForOp g → makes_open (c.op g) ≡ true → y.reply.status ≡ success → s2.standing (id_in y.reply.body) ≡ true → s.standing (id_in y.reply.body) ≡ true"),
        ("closed", "(g : ℕ) → locking (c.op g) ≡ true → c.sent g ≡ true → is_unsettled (c.outcome g) ≡ true → c.live ≡ true → c.attached (create_at c g) ≡ c.number → s2.present c.session ≡ true → s.standing (open_at c g) ≡ true → s2.standing (open_at c g) ≡ false → a g ≡ 0"),
@@ -438,7 +437,7 @@ moves.parts["present_up"] = "λ j n x h t. let old = i.present_up j n x h t in l
 moves.parts["copy_now"] = "λ j n p x h t m. let old = i.copy_now j n p x h t m in " + OPS + "grind arith"
 moves.parts["copy_attached"] = copy_term("copy_attached", PLAIN1 + ITS + OPS + "let sd = stands (create_at c p) mk ok1 in let ka = keeps_at (open_at c p) x.message.session in ")
 moves.parts["left_full"] = copy_term("left_full", CLOSE1 + ITS + OPS + "let sd = stands (create_at c p) mk ok1 in let op1 = opened (create_at c p) mk ok1 in ")
-moves.parts["left_stuck"] = copy_term("left_stuck", CLOSE1 + ITS + OPS + "let sd = stands (create_at c p) mk ok1 in let op1 = opened (create_at c p) mk ok1 in let dr = dirs (create_at c p) mk ok1 in let sk = stuck (create_at c p) mk ok1 in ")
+moves.parts["left_stuck"] = copy_term("left_stuck", CLOSE1 + ITS + OPS + "let sd = stands (create_at c p) mk ok1 in let op1 = opened (create_at c p) mk ok1 in let sk = stuck (create_at c p) mk ok1 in ")
 moves.parts["left_idle"] = "λ j n p q x h t m. let old = i.left_idle j n p q x h t m in " + UPS + CLOSE1 + ITS + OPS + "let sd = stands (create_at c p) mk ok1 in let op1 = opened (create_at c p) mk ok1 in let sa = same_a q in grind arith"
 moves.parts["now_attached"] = "λ q m ok1. let old = i.now_attached q m ok1 in let sn = stay_now in let sd = stands q m ok1 in let ka = keeps_at (c.file q) c.session in grind arith"
 moves.parts["opened_reply"] = "λ j n p y h t m e. let old = i.opened_reply j n p y h t m e in let os = open_stands j n p y h t m e in let sn = stay_now in let ka = keeps_at (id_in y.reply.body) c.session in grind arith"
@@ -458,7 +457,7 @@ moves.parts["kept_reply"] = "λ j n p y h t m. let old = i.kept_reply j n p y h 
 CLS = "let sd = stands (create_at c p) mk ok1 in let op1 = opened (create_at c p) mk ok1 in "
 moves.parts["close_done"] = "λ j n p y h t m. let old = i.close_done j n p y h t m in " + DOWNS + CLOSE1 + ITS + CLS + "grind arith"
 moves.parts["close_full"] = "λ j n p y h t m. let old = i.close_full j n p y h t m in " + DOWNS + CLOSE1 + ITS + CLS + "grind arith"
-moves.parts["close_stuck"] = "λ j n p y h t m. let old = i.close_stuck j n p y h t m in " + DOWNS + CLOSE1 + ITS + CLS + "let dr = dirs (create_at c p) mk ok1 in let sk = stuck (create_at c p) mk ok1 in grind arith"
+moves.parts["close_stuck"] = "λ j n p y h t m. let old = i.close_stuck j n p y h t m in " + DOWNS + CLOSE1 + ITS + CLS + "let sk = stuck (create_at c p) mk ok1 in grind arith"
 moves.parts["closed_not"] = "λ p m s0 u l at1. let old = i.closed_not p m s0 u l at1 in let cl = closed p m s0 u l at1 in let sn = stay_now in let sa = same_a p m in grind arith"
 for part in ("at_most", "ok_acted", "refused_not"):
     moves.parts[part] = "λ p m. let old = i.%s p m in let sa = same_a p m in grind arith" % part
@@ -469,7 +468,7 @@ writes = event("Writes", "a slot keeps a lock's answer", "slots journal files a"
       [("lock", "locking (c.op g) ≡ true"), ("sent", "c.sent g ≡ true"), ("user", "user_at c g ≡ Some g"), ("free", "kept_of c s g ≡ None"), ("stands", "s.standing (open_at c g) ≡ true"), ("unfirm", "firm (c.outcome g) ≡ false"),
        ("journal", "s.journal ≤ j0"), ("others", "(p : ℕ) → locking (c.op p) ≡ true → p ≢ g → a2 p ≡ a p"), ("own", "a2 g ≡ (if st0 == success then 1 else 0)"),
        ("room", "(s.opened (open_at c g)).persistent ≡ true → s.journal + 66 ≤ lower_limit"),
-       ("goes_same", "(o : ℕ) → goes_with SERVER o ≡ goes_with s o"), ("dirs", "(o : ℕ) → of_directory SERVER o ≡ of_directory s o"),
+       ("goes_same", "(o : ℕ) → goes_with SERVER o ≡ goes_with s o"),
        ("inj", "(q : ℕ) → " + OK + "s.standing (c.file q) ≡ true → c.file q ≡ open_at c g → q ≡ create_at c g"),
        ("unmade", "(q : ℕ) → makes_open (c.op q) ≡ true → is_ok (c.outcome q) ≡ false → s.by_guid c.who.guid (guid_for c q) ≢ Some (open_at c g)"),
        ("alone", "c.before g ≡ false → (j n : ℕ) (y : Received) → slice_get (conns j).down n ≡ Some y → y.token ≢ ForOp g")],
@@ -489,10 +488,10 @@ writes.parts.update({
     "first_reply": "λ j n p y h t m. let old = i.first_reply j n p y h t m in let al = alone in let ot = others p m in grind arith",
     "closed_not": "λ p m. let old = i.closed_not p m in let ot = others p m in grind arith",
     "left_full": "λ j n p x h t. let old = i.left_full j n p x h t in grind arith",
-    "left_stuck": "λ j n p x h t. let old = i.left_stuck j n p x h t in let gs = goes_same (open_at c p) in let ds = dirs (open_at c p) in grind arith",
+    "left_stuck": "λ j n p x h t. let old = i.left_stuck j n p x h t in let gs = goes_same (open_at c p) in grind arith",
     "left_idle": "λ j n p q x h t. let old = i.left_idle j n p q x h t in let lf = i.left_full j n p x h t in let rm = room in let ot = others q in " + "grind arith",
     "close_full": "λ j n p y h t. let old = i.close_full j n p y h t in grind arith",
-    "close_stuck": "λ j n p y h t. let old = i.close_stuck j n p y h t in let gs = goes_same (open_at c p) in let ds = dirs (open_at c p) in grind arith",
+    "close_stuck": "λ j n p y h t. let old = i.close_stuck j n p y h t in let gs = goes_same (open_at c p) in grind arith",
     "at_most": "λ p m. let old = i.at_most p m in let ot = others p m in let ow = own in grind arith",
     "ok_acted": "λ p m e. let old = i.ok_acted p m e in let ot = others p m in let okf = ok_firm (c.outcome p) e in grind arith",
     "refused_not": "λ p m e. let old = i.refused_not p m e in let ot = others p m in let rh = refused_how (c.outcome p) e in let ug = i.unsent_gone p in grind arith",

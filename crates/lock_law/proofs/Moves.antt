@@ -14,7 +14,7 @@ use Rattle.exchange_defs.specs.Network.{Conn, Sent, Received, Token, ForDialog, 
 use Rattle.exchange_law.specs.Connections.{Connections, copies, count_up, count_down, no_copy_out, makes_open, shuts_open, acts_once, its_create, its_request, create_at, opens, Once, Outstanding, OwnUp, AttachUp, OwnDown, AttachDown, DownOpen, OnReady, Ready, Stages, Settled, Taken, TakenOn, Creates, Lower, HasOpen, AskedOpen, Fresh, Bodies, First, Unsent, SentReplies, Deleted}
 use Rattle.exchange_law.proofs.Lists.{get-push, rest_of, own_up_count, own_down_count, attach_up_count, attach_down_count, front_up, front_down, waited, waited_down}
 use Rattle.session_law.specs.Sessions.{is_ops}
-use Rattle.lock_law.specs.Locks.{Locks, locking, kept_at, firm, is_unsent, refused_for_good, in_slots, user_at, open_at, kept_of, goes_with, of_directory, SlotIndex, UserBody, InUse, AttachedLow, ShutOk, ShutGone, CloseBefore, CloseAfter, UnsentGone, AskedNew, NoSession, Unanswered, AskUp, AskDown, PresentUp, Users, CopyNow, RetriedOn, RetriedDone, CopyAttached, NowAttached, OpenedReply, JoinReply, JoinedReply, LostReply, KeptSays, NotKept, FirmKept, NoUser, NoSlots, FullDead, OkReply, NoReply, KeptReply, FirstReply, ClosedNot, LeftFull, LeftStuck, LeftIdle, CloseDone, CloseFull, CloseStuck, AtMost, OkActed, RefusedNot}
+use Rattle.lock_law.specs.Locks.{Locks, locking, kept_at, firm, is_unsent, refused_for_good, in_slots, user_at, open_at, kept_of, goes_with, SlotIndex, UserBody, InUse, AttachedLow, ShutOk, ShutGone, CloseBefore, CloseAfter, UnsentGone, AskedNew, NoSession, Unanswered, AskUp, AskDown, PresentUp, Users, CopyNow, RetriedOn, RetriedDone, CopyAttached, NowAttached, OpenedReply, JoinReply, JoinedReply, LostReply, KeptSays, NotKept, FirmKept, NoUser, NoSlots, FullDead, OkReply, NoReply, KeptReply, FirstReply, ClosedNot, LeftFull, LeftStuck, LeftIdle, CloseDone, CloseFull, CloseStuck, AtMost, OkActed, RefusedNot}
 use Rattle.lock_law.proofs.Words.{lock_kind, lock_stays, lock_once, close_kind, own_create, unsettled_firm, unsettled_unsent, unsettled_ok, unsettled_refused, unsent_firm, unsent_ok, ok_firm, ok_settled, firm_settled, unsent_settled, unsent_refused, refused_how, kept_none, kept_same, kept_other, kept_is_some, more_up, more_down, more_asks, down_is_open, up_on, down_on, ask_on, ok_of, made_of, own_ops, own_reply_ops, ask_reply_ops, split_at}
 
 moves_present_up : (c : Client) (conns : ℕ → Conn) (s : Server) (a : ℕ → ℕ) (s2 : Server) (a2 : ℕ → ℕ) → (s.journal ≤ s2.journal) → ((j n : ℕ) (x : Sent) → slice_get (conns j).up n ≡ Some x → is_ops x.token ≡ true → s2.present x.message.session ≡ true → s.present x.message.session ≡ true) → PresentUp c conns s → PresentUp c conns s2
@@ -109,9 +109,9 @@ moves_left_full : (c : Client) (conns : ℕ → Conn) (s : Server) (a : ℕ → 
 moves_left_full c conns s a s2 a2 journal stay stands opened C_bodies C_creates C_has_open C_taken i_left_full =
     λ j n p x h t m. let old = i_left_full j n p x h t m in let b = C_bodies j n p x h t in let sent = b.0 in let m1 = close_kind (c.op p) m in let ok1 = ok_of c C_has_open p sent m1 in let mk = made_of c C_taken C_creates p sent m1 in let sy = stay j n x h (own_ops x p t) in let sd = stands (create_at c p) mk ok1 in let op1 = opened (create_at c p) mk ok1 in grind arith
 
-moves_left_stuck : (c : Client) (conns : ℕ → Conn) (s : Server) (a : ℕ → ℕ) (s2 : Server) (a2 : ℕ → ℕ) → (s.journal ≤ s2.journal) → ((j n : ℕ) (x : Sent) → slice_get (conns j).up n ≡ Some x → is_ops x.token ≡ true → s2.present x.message.session ≡ true → s.present x.message.session ≡ true) → ((q : ℕ) → makes_open (c.op q) ≡ true → is_ok (c.outcome q) ≡ true → s2.standing (c.file q) ≡ true → s.standing (c.file q) ≡ true) → ((q : ℕ) → makes_open (c.op q) ≡ true → is_ok (c.outcome q) ≡ true → s2.standing (c.file q) ≡ true → (s2.opened (c.file q)).persistent ≡ (s.opened (c.file q)).persistent) → ((q : ℕ) → makes_open (c.op q) ≡ true → is_ok (c.outcome q) ≡ true → s2.standing (c.file q) ≡ true → of_directory s2 (c.file q) ≡ of_directory s (c.file q)) → ((q : ℕ) → makes_open (c.op q) ≡ true → is_ok (c.outcome q) ≡ true → s2.standing (c.file q) ≡ true → (s.opened (c.file q)).persistent ≡ false → of_directory s (c.file q) ≡ false → goes_with s (c.file q) ≡ true → lower_limit < s.journal + 34 → goes_with s2 (c.file q) ≡ true) → Bodies c conns → Creates c → HasOpen c → Taken c → LeftStuck c conns s → LeftStuck c conns s2
-moves_left_stuck c conns s a s2 a2 journal stay stands opened dirs stuck C_bodies C_creates C_has_open C_taken i_left_stuck =
-    λ j n p x h t m. let old = i_left_stuck j n p x h t m in let b = C_bodies j n p x h t in let sent = b.0 in let m1 = close_kind (c.op p) m in let ok1 = ok_of c C_has_open p sent m1 in let mk = made_of c C_taken C_creates p sent m1 in let sy = stay j n x h (own_ops x p t) in let sd = stands (create_at c p) mk ok1 in let op1 = opened (create_at c p) mk ok1 in let dr = dirs (create_at c p) mk ok1 in let sk = stuck (create_at c p) mk ok1 in grind arith
+moves_left_stuck : (c : Client) (conns : ℕ → Conn) (s : Server) (a : ℕ → ℕ) (s2 : Server) (a2 : ℕ → ℕ) → (s.journal ≤ s2.journal) → ((j n : ℕ) (x : Sent) → slice_get (conns j).up n ≡ Some x → is_ops x.token ≡ true → s2.present x.message.session ≡ true → s.present x.message.session ≡ true) → ((q : ℕ) → makes_open (c.op q) ≡ true → is_ok (c.outcome q) ≡ true → s2.standing (c.file q) ≡ true → s.standing (c.file q) ≡ true) → ((q : ℕ) → makes_open (c.op q) ≡ true → is_ok (c.outcome q) ≡ true → s2.standing (c.file q) ≡ true → (s2.opened (c.file q)).persistent ≡ (s.opened (c.file q)).persistent) → ((q : ℕ) → makes_open (c.op q) ≡ true → is_ok (c.outcome q) ≡ true → s2.standing (c.file q) ≡ true → (s.opened (c.file q)).persistent ≡ false → goes_with s (c.file q) ≡ true → lower_limit < s.journal + 34 → goes_with s2 (c.file q) ≡ true) → Bodies c conns → Creates c → HasOpen c → Taken c → LeftStuck c conns s → LeftStuck c conns s2
+moves_left_stuck c conns s a s2 a2 journal stay stands opened stuck C_bodies C_creates C_has_open C_taken i_left_stuck =
+    λ j n p x h t m. let old = i_left_stuck j n p x h t m in let b = C_bodies j n p x h t in let sent = b.0 in let m1 = close_kind (c.op p) m in let ok1 = ok_of c C_has_open p sent m1 in let mk = made_of c C_taken C_creates p sent m1 in let sy = stay j n x h (own_ops x p t) in let sd = stands (create_at c p) mk ok1 in let op1 = opened (create_at c p) mk ok1 in let sk = stuck (create_at c p) mk ok1 in grind arith
 
 moves_left_idle : (c : Client) (conns : ℕ → Conn) (s : Server) (a : ℕ → ℕ) (s2 : Server) (a2 : ℕ → ℕ) → ((p : ℕ) → locking (c.op p) ≡ true → a2 p ≡ a p) → (s.journal ≤ s2.journal) → ((j n : ℕ) (x : Sent) → slice_get (conns j).up n ≡ Some x → is_ops x.token ≡ true → s2.present x.message.session ≡ true → s.present x.message.session ≡ true) → ((q : ℕ) → makes_open (c.op q) ≡ true → is_ok (c.outcome q) ≡ true → s2.standing (c.file q) ≡ true → s.standing (c.file q) ≡ true) → ((q : ℕ) → makes_open (c.op q) ≡ true → is_ok (c.outcome q) ≡ true → s2.standing (c.file q) ≡ true → (s2.opened (c.file q)).persistent ≡ (s.opened (c.file q)).persistent) → Bodies c conns → Creates c → HasOpen c → Taken c → LeftIdle c conns s a → LeftIdle c conns s2 a2
 moves_left_idle c conns s a s2 a2 same_a journal stay stands opened C_bodies C_creates C_has_open C_taken i_left_idle =
@@ -125,9 +125,9 @@ moves_close_full : (c : Client) (conns : ℕ → Conn) (s : Server) (a : ℕ →
 moves_close_full c conns s a s2 a2 journal stands opened C_creates C_has_open C_sent_replies C_taken i_close_full =
     λ j n p y h t m. let old = i_close_full j n p y h t m in let sent = C_sent_replies j n p y h t in let m1 = close_kind (c.op p) m in let ok1 = ok_of c C_has_open p sent m1 in let mk = made_of c C_taken C_creates p sent m1 in let sd = stands (create_at c p) mk ok1 in let op1 = opened (create_at c p) mk ok1 in grind arith
 
-moves_close_stuck : (c : Client) (conns : ℕ → Conn) (s : Server) (a : ℕ → ℕ) (s2 : Server) (a2 : ℕ → ℕ) → (s.journal ≤ s2.journal) → ((q : ℕ) → makes_open (c.op q) ≡ true → is_ok (c.outcome q) ≡ true → s2.standing (c.file q) ≡ true → s.standing (c.file q) ≡ true) → ((q : ℕ) → makes_open (c.op q) ≡ true → is_ok (c.outcome q) ≡ true → s2.standing (c.file q) ≡ true → (s2.opened (c.file q)).persistent ≡ (s.opened (c.file q)).persistent) → ((q : ℕ) → makes_open (c.op q) ≡ true → is_ok (c.outcome q) ≡ true → s2.standing (c.file q) ≡ true → of_directory s2 (c.file q) ≡ of_directory s (c.file q)) → ((q : ℕ) → makes_open (c.op q) ≡ true → is_ok (c.outcome q) ≡ true → s2.standing (c.file q) ≡ true → (s.opened (c.file q)).persistent ≡ false → of_directory s (c.file q) ≡ false → goes_with s (c.file q) ≡ true → lower_limit < s.journal + 34 → goes_with s2 (c.file q) ≡ true) → Creates c → HasOpen c → SentReplies c conns → Taken c → CloseStuck c conns s → CloseStuck c conns s2
-moves_close_stuck c conns s a s2 a2 journal stands opened dirs stuck C_creates C_has_open C_sent_replies C_taken i_close_stuck =
-    λ j n p y h t m. let old = i_close_stuck j n p y h t m in let sent = C_sent_replies j n p y h t in let m1 = close_kind (c.op p) m in let ok1 = ok_of c C_has_open p sent m1 in let mk = made_of c C_taken C_creates p sent m1 in let sd = stands (create_at c p) mk ok1 in let op1 = opened (create_at c p) mk ok1 in let dr = dirs (create_at c p) mk ok1 in let sk = stuck (create_at c p) mk ok1 in grind arith
+moves_close_stuck : (c : Client) (conns : ℕ → Conn) (s : Server) (a : ℕ → ℕ) (s2 : Server) (a2 : ℕ → ℕ) → (s.journal ≤ s2.journal) → ((q : ℕ) → makes_open (c.op q) ≡ true → is_ok (c.outcome q) ≡ true → s2.standing (c.file q) ≡ true → s.standing (c.file q) ≡ true) → ((q : ℕ) → makes_open (c.op q) ≡ true → is_ok (c.outcome q) ≡ true → s2.standing (c.file q) ≡ true → (s2.opened (c.file q)).persistent ≡ (s.opened (c.file q)).persistent) → ((q : ℕ) → makes_open (c.op q) ≡ true → is_ok (c.outcome q) ≡ true → s2.standing (c.file q) ≡ true → (s.opened (c.file q)).persistent ≡ false → goes_with s (c.file q) ≡ true → lower_limit < s.journal + 34 → goes_with s2 (c.file q) ≡ true) → Creates c → HasOpen c → SentReplies c conns → Taken c → CloseStuck c conns s → CloseStuck c conns s2
+moves_close_stuck c conns s a s2 a2 journal stands opened stuck C_creates C_has_open C_sent_replies C_taken i_close_stuck =
+    λ j n p y h t m. let old = i_close_stuck j n p y h t m in let sent = C_sent_replies j n p y h t in let m1 = close_kind (c.op p) m in let ok1 = ok_of c C_has_open p sent m1 in let mk = made_of c C_taken C_creates p sent m1 in let sd = stands (create_at c p) mk ok1 in let op1 = opened (create_at c p) mk ok1 in let sk = stuck (create_at c p) mk ok1 in grind arith
 
 moves_at_most : (c : Client) (conns : ℕ → Conn) (s : Server) (a : ℕ → ℕ) (s2 : Server) (a2 : ℕ → ℕ) → ((p : ℕ) → locking (c.op p) ≡ true → a2 p ≡ a p) → (s.journal ≤ s2.journal) → AtMost c a → AtMost c a2
 moves_at_most c conns s a s2 a2 same_a journal i_at_most =
@@ -141,8 +141,8 @@ moves_refused_not : (c : Client) (conns : ℕ → Conn) (s : Server) (a : ℕ �
 moves_refused_not c conns s a s2 a2 same_a journal i_refused_not =
     λ p m. let old = i_refused_not p m in let sa = same_a p m in grind arith
 
-pub moves_keeps : (c : Client) (conns : ℕ → Conn) (s : Server) (a : ℕ → ℕ) (s2 : Server) (a2 : ℕ → ℕ) → ((p : ℕ) → locking (c.op p) ≡ true → a2 p ≡ a p) → (s.journal ≤ s2.journal) → ((j n : ℕ) (x : Sent) → slice_get (conns j).up n ≡ Some x → is_ops x.token ≡ true → s2.present x.message.session ≡ true → s.present x.message.session ≡ true) → (c.live ≡ true → s2.present c.session ≡ true → s.present c.session ≡ true) → ((q : ℕ) → makes_open (c.op q) ≡ true → is_ok (c.outcome q) ≡ true → s2.standing (c.file q) ≡ true → s.standing (c.file q) ≡ true) → ((o y : ℕ) → s.at o ≡ Some y → s2.standing o ≡ true → s2.present y ≡ true → s2.at o ≡ Some y) → ((q r : ℕ) → makes_open (c.op q) ≡ true → is_ok (c.outcome q) ≡ true → s2.standing (c.file q) ≡ true → s2.slots (c.file q) r ≡ s.slots (c.file q) r) → ((q : ℕ) → makes_open (c.op q) ≡ true → is_ok (c.outcome q) ≡ true → s2.standing (c.file q) ≡ true → (s2.opened (c.file q)).persistent ≡ (s.opened (c.file q)).persistent) → ((q : ℕ) → makes_open (c.op q) ≡ true → is_ok (c.outcome q) ≡ true → s2.standing (c.file q) ≡ true → of_directory s2 (c.file q) ≡ of_directory s (c.file q)) → ((q : ℕ) → makes_open (c.op q) ≡ true → is_ok (c.outcome q) ≡ true → s2.standing (c.file q) ≡ true → (s.opened (c.file q)).persistent ≡ false → of_directory s (c.file q) ≡ false → goes_with s (c.file q) ≡ true → lower_limit < s.journal + 34 → goes_with s2 (c.file q) ≡ true) → ((q r o : ℕ) → makes_open (c.op q) ≡ true → is_ok (c.outcome q) ≡ false → s2.by_guid c.who.guid (guid_for c q) ≡ Some o → s2.slots o r ≡ None) → ((j n g : ℕ) (y : Received) → slice_get (conns j).down n ≡ Some y → y.token ≡ ForOp g → makes_open (c.op g) ≡ true → y.reply.status ≡ success → s2.standing (id_in y.reply.body) ≡ true → s.standing (id_in y.reply.body) ≡ true) → ((g : ℕ) → locking (c.op g) ≡ true → c.sent g ≡ true → is_unsettled (c.outcome g) ≡ true → c.live ≡ true → c.attached (create_at c g) ≡ c.number → s2.present c.session ≡ true → s.standing (open_at c g) ≡ true → s2.standing (open_at c g) ≡ false → a g ≡ 0) → ((j n g : ℕ) (y : Received) → slice_get (conns j).down n ≡ Some y → y.token ≡ ForAttach g → y.reply.status ≡ success → c.live ≡ true → s2.present c.session ≡ true → s.standing (open_at c g) ≡ true → s2.standing (open_at c g) ≡ false → c.attached (create_at c g) ≡ c.number) → Connections c conns a → Locks c conns s a → Locks c conns s2 a2
-moves_keeps c conns s a s2 a2 same_a journal stay stay_now stands keeps_at slots opened dirs stuck unmade open_stands closed joined C i =
+pub moves_keeps : (c : Client) (conns : ℕ → Conn) (s : Server) (a : ℕ → ℕ) (s2 : Server) (a2 : ℕ → ℕ) → ((p : ℕ) → locking (c.op p) ≡ true → a2 p ≡ a p) → (s.journal ≤ s2.journal) → ((j n : ℕ) (x : Sent) → slice_get (conns j).up n ≡ Some x → is_ops x.token ≡ true → s2.present x.message.session ≡ true → s.present x.message.session ≡ true) → (c.live ≡ true → s2.present c.session ≡ true → s.present c.session ≡ true) → ((q : ℕ) → makes_open (c.op q) ≡ true → is_ok (c.outcome q) ≡ true → s2.standing (c.file q) ≡ true → s.standing (c.file q) ≡ true) → ((o y : ℕ) → s.at o ≡ Some y → s2.standing o ≡ true → s2.present y ≡ true → s2.at o ≡ Some y) → ((q r : ℕ) → makes_open (c.op q) ≡ true → is_ok (c.outcome q) ≡ true → s2.standing (c.file q) ≡ true → s2.slots (c.file q) r ≡ s.slots (c.file q) r) → ((q : ℕ) → makes_open (c.op q) ≡ true → is_ok (c.outcome q) ≡ true → s2.standing (c.file q) ≡ true → (s2.opened (c.file q)).persistent ≡ (s.opened (c.file q)).persistent) → ((q : ℕ) → makes_open (c.op q) ≡ true → is_ok (c.outcome q) ≡ true → s2.standing (c.file q) ≡ true → (s.opened (c.file q)).persistent ≡ false → goes_with s (c.file q) ≡ true → lower_limit < s.journal + 34 → goes_with s2 (c.file q) ≡ true) → ((q r o : ℕ) → makes_open (c.op q) ≡ true → is_ok (c.outcome q) ≡ false → s2.by_guid c.who.guid (guid_for c q) ≡ Some o → s2.slots o r ≡ None) → ((j n g : ℕ) (y : Received) → slice_get (conns j).down n ≡ Some y → y.token ≡ ForOp g → makes_open (c.op g) ≡ true → y.reply.status ≡ success → s2.standing (id_in y.reply.body) ≡ true → s.standing (id_in y.reply.body) ≡ true) → ((g : ℕ) → locking (c.op g) ≡ true → c.sent g ≡ true → is_unsettled (c.outcome g) ≡ true → c.live ≡ true → c.attached (create_at c g) ≡ c.number → s2.present c.session ≡ true → s.standing (open_at c g) ≡ true → s2.standing (open_at c g) ≡ false → a g ≡ 0) → ((j n g : ℕ) (y : Received) → slice_get (conns j).down n ≡ Some y → y.token ≡ ForAttach g → y.reply.status ≡ success → c.live ≡ true → s2.present c.session ≡ true → s.standing (open_at c g) ≡ true → s2.standing (open_at c g) ≡ false → c.attached (create_at c g) ≡ c.number) → Connections c conns a → Locks c conns s a → Locks c conns s2 a2
+moves_keeps c conns s a s2 a2 same_a journal stay stay_now stands keeps_at slots opened stuck unmade open_stands closed joined C i =
     record {
       slot_index = i.slot_index;
       user_body = i.user_body;
@@ -181,11 +181,11 @@ moves_keeps c conns s a s2 a2 same_a journal stay stay_now stands keeps_at slots
       first_reply = moves_first_reply c conns s a s2 a2 same_a journal i.first_reply;
       closed_not = moves_closed_not c conns s a s2 a2 same_a journal stay_now closed i.closed_not;
       left_full = moves_left_full c conns s a s2 a2 journal stay stands opened C.bodies C.creates C.has_open C.taken i.left_full;
-      left_stuck = moves_left_stuck c conns s a s2 a2 journal stay stands opened dirs stuck C.bodies C.creates C.has_open C.taken i.left_stuck;
+      left_stuck = moves_left_stuck c conns s a s2 a2 journal stay stands opened stuck C.bodies C.creates C.has_open C.taken i.left_stuck;
       left_idle = moves_left_idle c conns s a s2 a2 same_a journal stay stands opened C.bodies C.creates C.has_open C.taken i.left_idle;
       close_done = moves_close_done c conns s a s2 a2 journal stands opened C.creates C.has_open C.sent_replies C.taken i.close_done;
       close_full = moves_close_full c conns s a s2 a2 journal stands opened C.creates C.has_open C.sent_replies C.taken i.close_full;
-      close_stuck = moves_close_stuck c conns s a s2 a2 journal stands opened dirs stuck C.creates C.has_open C.sent_replies C.taken i.close_stuck;
+      close_stuck = moves_close_stuck c conns s a s2 a2 journal stands opened stuck C.creates C.has_open C.sent_replies C.taken i.close_stuck;
       at_most = moves_at_most c conns s a s2 a2 same_a journal i.at_most;
       ok_acted = moves_ok_acted c conns s a s2 a2 same_a journal i.ok_acted;
       refused_not = moves_refused_not c conns s a s2 a2 same_a journal i.refused_not;

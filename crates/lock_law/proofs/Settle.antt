@@ -14,7 +14,7 @@ use Rattle.exchange_defs.specs.Network.{Conn, Sent, Received, Token, ForDialog, 
 use Rattle.exchange_law.specs.Connections.{Connections, copies, count_up, count_down, no_copy_out, makes_open, shuts_open, acts_once, its_create, its_request, create_at, opens, Once, Outstanding, OwnUp, AttachUp, OwnDown, AttachDown, DownOpen, OnReady, Ready, Stages, Settled, Taken, TakenOn, Creates, Lower, HasOpen, AskedOpen, Fresh, Bodies, First, Unsent, SentReplies, Deleted}
 use Rattle.exchange_law.proofs.Lists.{get-push, rest_of, own_up_count, own_down_count, attach_up_count, attach_down_count, front_up, front_down, waited, waited_down}
 use Rattle.session_law.specs.Sessions.{is_ops}
-use Rattle.lock_law.specs.Locks.{Locks, locking, kept_at, firm, is_unsent, refused_for_good, in_slots, user_at, open_at, kept_of, goes_with, of_directory, SlotIndex, UserBody, InUse, AttachedLow, ShutOk, ShutGone, CloseBefore, CloseAfter, UnsentGone, AskedNew, NoSession, Unanswered, AskUp, AskDown, PresentUp, Users, CopyNow, RetriedOn, RetriedDone, CopyAttached, NowAttached, OpenedReply, JoinReply, JoinedReply, LostReply, KeptSays, NotKept, FirmKept, NoUser, NoSlots, FullDead, OkReply, NoReply, KeptReply, FirstReply, ClosedNot, LeftFull, LeftStuck, LeftIdle, CloseDone, CloseFull, CloseStuck, AtMost, OkActed, RefusedNot}
+use Rattle.lock_law.specs.Locks.{Locks, locking, kept_at, firm, is_unsent, refused_for_good, in_slots, user_at, open_at, kept_of, goes_with, SlotIndex, UserBody, InUse, AttachedLow, ShutOk, ShutGone, CloseBefore, CloseAfter, UnsentGone, AskedNew, NoSession, Unanswered, AskUp, AskDown, PresentUp, Users, CopyNow, RetriedOn, RetriedDone, CopyAttached, NowAttached, OpenedReply, JoinReply, JoinedReply, LostReply, KeptSays, NotKept, FirmKept, NoUser, NoSlots, FullDead, OkReply, NoReply, KeptReply, FirstReply, ClosedNot, LeftFull, LeftStuck, LeftIdle, CloseDone, CloseFull, CloseStuck, AtMost, OkActed, RefusedNot}
 use Rattle.lock_law.proofs.Words.{lock_kind, lock_stays, lock_once, close_kind, own_create, unsettled_firm, unsettled_unsent, unsettled_ok, unsettled_refused, unsent_firm, unsent_ok, ok_firm, ok_settled, firm_settled, unsent_settled, unsent_refused, refused_how, kept_none, kept_same, kept_other, kept_is_some, more_up, more_down, more_asks, down_is_open, up_on, down_on, ask_on, ok_of, made_of, own_ops, own_reply_ops, ask_reply_ops, split_at}
 
 -- what is firm behind it was firm before
@@ -90,7 +90,7 @@ settle_left_full : (c : Client) (conns : ℕ → Conn) (s : Server) (a : ℕ →
 settle_left_full c conns s a k g o0 new sh by0 order0 on own settled0 real same gives full C_bodies i_left_full =
     λ j n p x h t. let old = i_left_full j n p x h t in let b = C_bodies j n p x h t in let nd = full j n x in let sm = same p in let gv = gives p in grind arith
 
-settle_left_stuck : (c : Client) (conns : ℕ → Conn) (s : Server) (a : ℕ → ℕ) (k g : ℕ) (o0 : Outcome) (new : ℕ → Outcome) (sh : ℕ → Bool) (by0 : ℕ → Option ℕ) (order0 : List ℕ) → (c.on g ≡ Some k) → (new g ≡ o0) → (is_unsettled o0 ≡ false) → (is_unsent o0 ≡ false) → ((h : ℕ) → h ≢ g → is_unsettled (c.outcome h) ≡ false → new h ≡ c.outcome h) → ((h : ℕ) → h ≢ g → is_unsettled (c.outcome h) ≡ true → is_unsettled (new h) ≡ false → is_unsent (new h) ≡ true × c.sent h ≡ false) → ((j n : ℕ) (x : Sent) → slice_get (conns j).up n ≡ Some x → x.token ≡ ForOp g → shuts_open (c.op g) ≡ true → is_ok o0 ≡ false → s.present x.message.session ≡ true → s.standing (open_at c g) ≡ true → (s.opened (open_at c g)).persistent ≡ false → of_directory s (open_at c g) ≡ false → lower_limit < s.journal + 34 × goes_with s (open_at c g) ≡ true) → Bodies c conns → LeftStuck c conns s → LeftStuck (record c { outcome = new; on = put c.on g None; by = by0; order = order0; shut = sh }) conns s
+settle_left_stuck : (c : Client) (conns : ℕ → Conn) (s : Server) (a : ℕ → ℕ) (k g : ℕ) (o0 : Outcome) (new : ℕ → Outcome) (sh : ℕ → Bool) (by0 : ℕ → Option ℕ) (order0 : List ℕ) → (c.on g ≡ Some k) → (new g ≡ o0) → (is_unsettled o0 ≡ false) → (is_unsent o0 ≡ false) → ((h : ℕ) → h ≢ g → is_unsettled (c.outcome h) ≡ false → new h ≡ c.outcome h) → ((h : ℕ) → h ≢ g → is_unsettled (c.outcome h) ≡ true → is_unsettled (new h) ≡ false → is_unsent (new h) ≡ true × c.sent h ≡ false) → ((j n : ℕ) (x : Sent) → slice_get (conns j).up n ≡ Some x → x.token ≡ ForOp g → shuts_open (c.op g) ≡ true → is_ok o0 ≡ false → s.present x.message.session ≡ true → s.standing (open_at c g) ≡ true → (s.opened (open_at c g)).persistent ≡ false → lower_limit < s.journal + 34 × goes_with s (open_at c g) ≡ true) → Bodies c conns → LeftStuck c conns s → LeftStuck (record c { outcome = new; on = put c.on g None; by = by0; order = order0; shut = sh }) conns s
 settle_left_stuck c conns s a k g o0 new sh by0 order0 on own settled0 real same gives stuck C_bodies i_left_stuck =
     λ j n p x h t. let old = i_left_stuck j n p x h t in let b = C_bodies j n p x h t in let nd = stuck j n x in let sm = same p in let gv = gives p in grind arith
 
@@ -106,7 +106,7 @@ settle_refused_not : (c : Client) (conns : ℕ → Conn) (s : Server) (a : ℕ �
 settle_refused_not c conns s a k g o0 new sh by0 order0 on own settled0 real same gives unacted C_fresh i_refused_not =
     λ p. let old = i_refused_not p in let ac = unacted in let fr = C_fresh p in let ur = unsettled_refused (new p) in let sm = same p in let gv = gives p in grind arith
 
-pub settle_keeps : (c : Client) (conns : ℕ → Conn) (s : Server) (a : ℕ → ℕ) (k g : ℕ) (o0 : Outcome) (new : ℕ → Outcome) (sh : ℕ → Bool) (by0 : ℕ → Option ℕ) (order0 : List ℕ) → (c.on g ≡ Some k) → (new g ≡ o0) → (is_unsettled o0 ≡ false) → (is_unsent o0 ≡ false) → ((h : ℕ) → h ≢ g → is_unsettled (c.outcome h) ≡ false → new h ≡ c.outcome h) → ((h : ℕ) → h ≢ g → is_unsettled (c.outcome h) ≡ true → is_unsettled (new h) ≡ false → is_unsent (new h) ≡ true × c.sent h ≡ false) → ((p : ℕ) → 0 < p → p ≤ c.taken → makes_open (c.op p) ≡ false → sh (create_at c p) ≡ true → c.sent p ≡ false → is_unsettled (new p) ≡ false) → ((h : ℕ) → shuts_open (c.op h) ≡ true → is_ok (new h) ≡ true → sh (create_at c h) ≡ true) → (firm o0 ≡ true → user_at c g ≡ Some g → c.full (create_at c g) (c.slot_of g) ≡ false → s.standing (open_at c g) ≡ true → is_some (kept_of c s g) ≡ true) → ((r : ℕ) → is_ok o0 ≡ true → makes_open (c.op g) ≡ true → s.standing (c.file g) ≡ true → s.slots (c.file g) r ≡ None) → (makes_open (c.op g) ≡ true → is_ok o0 ≡ true → c.live ≡ true → s.present c.session ≡ true → s.standing (c.file g) ≡ true → s.at (c.file g) ≡ Some c.session) → ((j n : ℕ) (x : Sent) → slice_get (conns j).up n ≡ Some x → x.token ≡ ForOp g → locking (c.op g) ≡ true → firm o0 ≡ true → s.present x.message.session ≡ true → c.full (create_at c g) (c.slot_of g) ≡ false) → ((j n : ℕ) (x : Sent) → slice_get (conns j).up n ≡ Some x → x.token ≡ ForOp g → shuts_open (c.op g) ≡ true → is_ok o0 ≡ false → s.present x.message.session ≡ true → s.standing (open_at c g) ≡ true → (s.opened (open_at c g)).persistent ≡ true → lower_limit < s.journal + 66) → ((j n : ℕ) (x : Sent) → slice_get (conns j).up n ≡ Some x → x.token ≡ ForOp g → shuts_open (c.op g) ≡ true → is_ok o0 ≡ false → s.present x.message.session ≡ true → s.standing (open_at c g) ≡ true → (s.opened (open_at c g)).persistent ≡ false → of_directory s (open_at c g) ≡ false → lower_limit < s.journal + 34 × goes_with s (open_at c g) ≡ true) → (locking (c.op g) ≡ true → is_ok o0 ≡ true → a g ≡ 1) → (locking (c.op g) ≡ true → refused_for_good o0 ≡ true → a g ≡ 0) → Connections c conns a → Locks c conns s a → Locks (record c { outcome = new; on = put c.on g None; by = by0; order = order0; shut = sh }) conns s a
+pub settle_keeps : (c : Client) (conns : ℕ → Conn) (s : Server) (a : ℕ → ℕ) (k g : ℕ) (o0 : Outcome) (new : ℕ → Outcome) (sh : ℕ → Bool) (by0 : ℕ → Option ℕ) (order0 : List ℕ) → (c.on g ≡ Some k) → (new g ≡ o0) → (is_unsettled o0 ≡ false) → (is_unsent o0 ≡ false) → ((h : ℕ) → h ≢ g → is_unsettled (c.outcome h) ≡ false → new h ≡ c.outcome h) → ((h : ℕ) → h ≢ g → is_unsettled (c.outcome h) ≡ true → is_unsettled (new h) ≡ false → is_unsent (new h) ≡ true × c.sent h ≡ false) → ((p : ℕ) → 0 < p → p ≤ c.taken → makes_open (c.op p) ≡ false → sh (create_at c p) ≡ true → c.sent p ≡ false → is_unsettled (new p) ≡ false) → ((h : ℕ) → shuts_open (c.op h) ≡ true → is_ok (new h) ≡ true → sh (create_at c h) ≡ true) → (firm o0 ≡ true → user_at c g ≡ Some g → c.full (create_at c g) (c.slot_of g) ≡ false → s.standing (open_at c g) ≡ true → is_some (kept_of c s g) ≡ true) → ((r : ℕ) → is_ok o0 ≡ true → makes_open (c.op g) ≡ true → s.standing (c.file g) ≡ true → s.slots (c.file g) r ≡ None) → (makes_open (c.op g) ≡ true → is_ok o0 ≡ true → c.live ≡ true → s.present c.session ≡ true → s.standing (c.file g) ≡ true → s.at (c.file g) ≡ Some c.session) → ((j n : ℕ) (x : Sent) → slice_get (conns j).up n ≡ Some x → x.token ≡ ForOp g → locking (c.op g) ≡ true → firm o0 ≡ true → s.present x.message.session ≡ true → c.full (create_at c g) (c.slot_of g) ≡ false) → ((j n : ℕ) (x : Sent) → slice_get (conns j).up n ≡ Some x → x.token ≡ ForOp g → shuts_open (c.op g) ≡ true → is_ok o0 ≡ false → s.present x.message.session ≡ true → s.standing (open_at c g) ≡ true → (s.opened (open_at c g)).persistent ≡ true → lower_limit < s.journal + 66) → ((j n : ℕ) (x : Sent) → slice_get (conns j).up n ≡ Some x → x.token ≡ ForOp g → shuts_open (c.op g) ≡ true → is_ok o0 ≡ false → s.present x.message.session ≡ true → s.standing (open_at c g) ≡ true → (s.opened (open_at c g)).persistent ≡ false → lower_limit < s.journal + 34 × goes_with s (open_at c g) ≡ true) → (locking (c.op g) ≡ true → is_ok o0 ≡ true → a g ≡ 1) → (locking (c.op g) ≡ true → refused_for_good o0 ≡ true → a g ≡ 0) → Connections c conns a → Locks c conns s a → Locks (record c { outcome = new; on = put c.on g None; by = by0; order = order0; shut = sh }) conns s a
 settle_keeps c conns s a k g o0 new sh by0 order0 on own settled0 real same gives gone shuts kept made near dead full stuck acted unacted C i =
     record {
       slot_index = i.slot_index;

@@ -14,7 +14,7 @@ use Rattle.exchange_defs.specs.Network.{Conn, Sent, Received, Token, ForDialog, 
 use Rattle.exchange_law.specs.Connections.{Connections, copies, count_up, count_down, no_copy_out, makes_open, shuts_open, acts_once, its_create, its_request, create_at, opens, Once, Outstanding, OwnUp, AttachUp, OwnDown, AttachDown, DownOpen, OnReady, Ready, Stages, Settled, Taken, TakenOn, Creates, Lower, HasOpen, AskedOpen, Fresh, Bodies, First, Unsent, SentReplies, Deleted}
 use Rattle.exchange_law.proofs.Lists.{get-push, rest_of, own_up_count, own_down_count, attach_up_count, attach_down_count, front_up, front_down, waited, waited_down}
 use Rattle.session_law.specs.Sessions.{is_ops}
-use Rattle.lock_law.specs.Locks.{Locks, locking, kept_at, firm, is_unsent, refused_for_good, in_slots, user_at, open_at, kept_of, goes_with, of_directory, SlotIndex, UserBody, InUse, AttachedLow, ShutOk, ShutGone, CloseBefore, CloseAfter, UnsentGone, AskedNew, NoSession, Unanswered, AskUp, AskDown, PresentUp, Users, CopyNow, RetriedOn, RetriedDone, CopyAttached, NowAttached, OpenedReply, JoinReply, JoinedReply, LostReply, KeptSays, NotKept, FirmKept, NoUser, NoSlots, FullDead, OkReply, NoReply, KeptReply, FirstReply, ClosedNot, LeftFull, LeftStuck, LeftIdle, CloseDone, CloseFull, CloseStuck, AtMost, OkActed, RefusedNot}
+use Rattle.lock_law.specs.Locks.{Locks, locking, kept_at, firm, is_unsent, refused_for_good, in_slots, user_at, open_at, kept_of, goes_with, SlotIndex, UserBody, InUse, AttachedLow, ShutOk, ShutGone, CloseBefore, CloseAfter, UnsentGone, AskedNew, NoSession, Unanswered, AskUp, AskDown, PresentUp, Users, CopyNow, RetriedOn, RetriedDone, CopyAttached, NowAttached, OpenedReply, JoinReply, JoinedReply, LostReply, KeptSays, NotKept, FirmKept, NoUser, NoSlots, FullDead, OkReply, NoReply, KeptReply, FirstReply, ClosedNot, LeftFull, LeftStuck, LeftIdle, CloseDone, CloseFull, CloseStuck, AtMost, OkActed, RefusedNot}
 use Rattle.lock_law.proofs.Words.{lock_kind, lock_stays, lock_once, close_kind, own_create, unsettled_firm, unsettled_unsent, unsettled_ok, unsettled_refused, unsent_firm, unsent_ok, ok_firm, ok_settled, firm_settled, unsent_settled, unsent_refused, refused_how, kept_none, kept_same, kept_other, kept_is_some, more_up, more_down, more_asks, down_is_open, up_on, down_on, ask_on, ok_of, made_of, own_ops, own_reply_ops, ask_reply_ops, split_at}
 
 in_use_out : (c : Client) (p : ℕ) → InUse c → Settled c → c.sent p ≡ true → locking (c.op p) ≡ true → (j : ℕ) → c.on p ≡ Some j → user_at c p ≡ Some p
@@ -90,9 +90,9 @@ writes_left_full : (c : Client) (conns : ℕ → Conn) (s : Server) (a : ℕ →
 writes_left_full c conns s a g st0 j0 sq rg a2 lock sent user free stands unfirm journal own i_left_full =
     λ j n p x h t. let old = i_left_full j n p x h t in grind arith
 
-writes_left_stuck : (c : Client) (conns : ℕ → Conn) (s : Server) (a : ℕ → ℕ) (g st0 j0 : ℕ) (sq : ℕ → ℕ) (rg : ℕ → List Range) (a2 : ℕ → ℕ) → (locking (c.op g) ≡ true) → (c.sent g ≡ true) → (user_at c g ≡ Some g) → (kept_of c s g ≡ None) → (s.standing (open_at c g) ≡ true) → (firm (c.outcome g) ≡ false) → (s.journal ≤ j0) → (a2 g ≡ (if st0 == success then 1 else 0)) → ((o : ℕ) → goes_with (record s { sequence = sq; ranges = rg; slots = put2 s.slots (open_at c g) (c.slot_of g) (Some (record { number = c.number_of g; status = st0 })); journal = j0 }) o ≡ goes_with s o) → ((o : ℕ) → of_directory (record s { sequence = sq; ranges = rg; slots = put2 s.slots (open_at c g) (c.slot_of g) (Some (record { number = c.number_of g; status = st0 })); journal = j0 }) o ≡ of_directory s o) → LeftStuck c conns s → LeftStuck c conns (record s { sequence = sq; ranges = rg; slots = put2 s.slots (open_at c g) (c.slot_of g) (Some (record { number = c.number_of g; status = st0 })); journal = j0 })
-writes_left_stuck c conns s a g st0 j0 sq rg a2 lock sent user free stands unfirm journal own goes_same dirs i_left_stuck =
-    λ j n p x h t. let old = i_left_stuck j n p x h t in let gs = goes_same (open_at c p) in let ds = dirs (open_at c p) in grind arith
+writes_left_stuck : (c : Client) (conns : ℕ → Conn) (s : Server) (a : ℕ → ℕ) (g st0 j0 : ℕ) (sq : ℕ → ℕ) (rg : ℕ → List Range) (a2 : ℕ → ℕ) → (locking (c.op g) ≡ true) → (c.sent g ≡ true) → (user_at c g ≡ Some g) → (kept_of c s g ≡ None) → (s.standing (open_at c g) ≡ true) → (firm (c.outcome g) ≡ false) → (s.journal ≤ j0) → (a2 g ≡ (if st0 == success then 1 else 0)) → ((o : ℕ) → goes_with (record s { sequence = sq; ranges = rg; slots = put2 s.slots (open_at c g) (c.slot_of g) (Some (record { number = c.number_of g; status = st0 })); journal = j0 }) o ≡ goes_with s o) → LeftStuck c conns s → LeftStuck c conns (record s { sequence = sq; ranges = rg; slots = put2 s.slots (open_at c g) (c.slot_of g) (Some (record { number = c.number_of g; status = st0 })); journal = j0 })
+writes_left_stuck c conns s a g st0 j0 sq rg a2 lock sent user free stands unfirm journal own goes_same i_left_stuck =
+    λ j n p x h t. let old = i_left_stuck j n p x h t in let gs = goes_same (open_at c p) in grind arith
 
 writes_left_idle : (c : Client) (conns : ℕ → Conn) (s : Server) (a : ℕ → ℕ) (g st0 j0 : ℕ) (sq : ℕ → ℕ) (rg : ℕ → List Range) (a2 : ℕ → ℕ) → (locking (c.op g) ≡ true) → (c.sent g ≡ true) → (user_at c g ≡ Some g) → (kept_of c s g ≡ None) → (s.standing (open_at c g) ≡ true) → (firm (c.outcome g) ≡ false) → (s.journal ≤ j0) → ((p : ℕ) → locking (c.op p) ≡ true → p ≢ g → a2 p ≡ a p) → (a2 g ≡ (if st0 == success then 1 else 0)) → ((s.opened (open_at c g)).persistent ≡ true → s.journal + 66 ≤ lower_limit) → LeftIdle c conns s a → LeftFull c conns s → LeftIdle c conns (record s { sequence = sq; ranges = rg; slots = put2 s.slots (open_at c g) (c.slot_of g) (Some (record { number = c.number_of g; status = st0 })); journal = j0 }) a2
 writes_left_idle c conns s a g st0 j0 sq rg a2 lock sent user free stands unfirm journal others own room i_left_idle i_left_full =
@@ -102,9 +102,9 @@ writes_close_full : (c : Client) (conns : ℕ → Conn) (s : Server) (a : ℕ �
 writes_close_full c conns s a g st0 j0 sq rg a2 lock sent user free stands unfirm journal own i_close_full =
     λ j n p y h t. let old = i_close_full j n p y h t in grind arith
 
-writes_close_stuck : (c : Client) (conns : ℕ → Conn) (s : Server) (a : ℕ → ℕ) (g st0 j0 : ℕ) (sq : ℕ → ℕ) (rg : ℕ → List Range) (a2 : ℕ → ℕ) → (locking (c.op g) ≡ true) → (c.sent g ≡ true) → (user_at c g ≡ Some g) → (kept_of c s g ≡ None) → (s.standing (open_at c g) ≡ true) → (firm (c.outcome g) ≡ false) → (s.journal ≤ j0) → (a2 g ≡ (if st0 == success then 1 else 0)) → ((o : ℕ) → goes_with (record s { sequence = sq; ranges = rg; slots = put2 s.slots (open_at c g) (c.slot_of g) (Some (record { number = c.number_of g; status = st0 })); journal = j0 }) o ≡ goes_with s o) → ((o : ℕ) → of_directory (record s { sequence = sq; ranges = rg; slots = put2 s.slots (open_at c g) (c.slot_of g) (Some (record { number = c.number_of g; status = st0 })); journal = j0 }) o ≡ of_directory s o) → CloseStuck c conns s → CloseStuck c conns (record s { sequence = sq; ranges = rg; slots = put2 s.slots (open_at c g) (c.slot_of g) (Some (record { number = c.number_of g; status = st0 })); journal = j0 })
-writes_close_stuck c conns s a g st0 j0 sq rg a2 lock sent user free stands unfirm journal own goes_same dirs i_close_stuck =
-    λ j n p y h t. let old = i_close_stuck j n p y h t in let gs = goes_same (open_at c p) in let ds = dirs (open_at c p) in grind arith
+writes_close_stuck : (c : Client) (conns : ℕ → Conn) (s : Server) (a : ℕ → ℕ) (g st0 j0 : ℕ) (sq : ℕ → ℕ) (rg : ℕ → List Range) (a2 : ℕ → ℕ) → (locking (c.op g) ≡ true) → (c.sent g ≡ true) → (user_at c g ≡ Some g) → (kept_of c s g ≡ None) → (s.standing (open_at c g) ≡ true) → (firm (c.outcome g) ≡ false) → (s.journal ≤ j0) → (a2 g ≡ (if st0 == success then 1 else 0)) → ((o : ℕ) → goes_with (record s { sequence = sq; ranges = rg; slots = put2 s.slots (open_at c g) (c.slot_of g) (Some (record { number = c.number_of g; status = st0 })); journal = j0 }) o ≡ goes_with s o) → CloseStuck c conns s → CloseStuck c conns (record s { sequence = sq; ranges = rg; slots = put2 s.slots (open_at c g) (c.slot_of g) (Some (record { number = c.number_of g; status = st0 })); journal = j0 })
+writes_close_stuck c conns s a g st0 j0 sq rg a2 lock sent user free stands unfirm journal own goes_same i_close_stuck =
+    λ j n p y h t. let old = i_close_stuck j n p y h t in let gs = goes_same (open_at c p) in grind arith
 
 writes_at_most : (c : Client) (conns : ℕ → Conn) (s : Server) (a : ℕ → ℕ) (g st0 j0 : ℕ) (sq : ℕ → ℕ) (rg : ℕ → List Range) (a2 : ℕ → ℕ) → (locking (c.op g) ≡ true) → (c.sent g ≡ true) → (user_at c g ≡ Some g) → (kept_of c s g ≡ None) → (s.standing (open_at c g) ≡ true) → (firm (c.outcome g) ≡ false) → (s.journal ≤ j0) → ((p : ℕ) → locking (c.op p) ≡ true → p ≢ g → a2 p ≡ a p) → (a2 g ≡ (if st0 == success then 1 else 0)) → AtMost c a → AtMost c a2
 writes_at_most c conns s a g st0 j0 sq rg a2 lock sent user free stands unfirm journal others own i_at_most =
@@ -118,8 +118,8 @@ writes_refused_not : (c : Client) (conns : ℕ → Conn) (s : Server) (a : ℕ �
 writes_refused_not c conns s a g st0 j0 sq rg a2 lock sent user free stands unfirm journal others own i_refused_not i_unsent_gone =
     λ p m e. let old = i_refused_not p m e in let ot = others p m in let rh = refused_how (c.outcome p) e in let ug = i_unsent_gone p in grind arith
 
-pub writes_keeps : (c : Client) (conns : ℕ → Conn) (s : Server) (a : ℕ → ℕ) (g st0 j0 : ℕ) (sq : ℕ → ℕ) (rg : ℕ → List Range) (a2 : ℕ → ℕ) → (locking (c.op g) ≡ true) → (c.sent g ≡ true) → (user_at c g ≡ Some g) → (kept_of c s g ≡ None) → (s.standing (open_at c g) ≡ true) → (firm (c.outcome g) ≡ false) → (s.journal ≤ j0) → ((p : ℕ) → locking (c.op p) ≡ true → p ≢ g → a2 p ≡ a p) → (a2 g ≡ (if st0 == success then 1 else 0)) → ((s.opened (open_at c g)).persistent ≡ true → s.journal + 66 ≤ lower_limit) → ((o : ℕ) → goes_with (record s { sequence = sq; ranges = rg; slots = put2 s.slots (open_at c g) (c.slot_of g) (Some (record { number = c.number_of g; status = st0 })); journal = j0 }) o ≡ goes_with s o) → ((o : ℕ) → of_directory (record s { sequence = sq; ranges = rg; slots = put2 s.slots (open_at c g) (c.slot_of g) (Some (record { number = c.number_of g; status = st0 })); journal = j0 }) o ≡ of_directory s o) → ((q : ℕ) → makes_open (c.op q) ≡ true → is_ok (c.outcome q) ≡ true → s.standing (c.file q) ≡ true → c.file q ≡ open_at c g → q ≡ create_at c g) → ((q : ℕ) → makes_open (c.op q) ≡ true → is_ok (c.outcome q) ≡ false → s.by_guid c.who.guid (guid_for c q) ≢ Some (open_at c g)) → (c.before g ≡ false → (j n : ℕ) (y : Received) → slice_get (conns j).down n ≡ Some y → y.token ≢ ForOp g) → Connections c conns a → Locks c conns s a → Locks c conns (record s { sequence = sq; ranges = rg; slots = put2 s.slots (open_at c g) (c.slot_of g) (Some (record { number = c.number_of g; status = st0 })); journal = j0 }) a2
-writes_keeps c conns s a g st0 j0 sq rg a2 lock sent user free stands unfirm journal others own room goes_same dirs inj unmade alone C i =
+pub writes_keeps : (c : Client) (conns : ℕ → Conn) (s : Server) (a : ℕ → ℕ) (g st0 j0 : ℕ) (sq : ℕ → ℕ) (rg : ℕ → List Range) (a2 : ℕ → ℕ) → (locking (c.op g) ≡ true) → (c.sent g ≡ true) → (user_at c g ≡ Some g) → (kept_of c s g ≡ None) → (s.standing (open_at c g) ≡ true) → (firm (c.outcome g) ≡ false) → (s.journal ≤ j0) → ((p : ℕ) → locking (c.op p) ≡ true → p ≢ g → a2 p ≡ a p) → (a2 g ≡ (if st0 == success then 1 else 0)) → ((s.opened (open_at c g)).persistent ≡ true → s.journal + 66 ≤ lower_limit) → ((o : ℕ) → goes_with (record s { sequence = sq; ranges = rg; slots = put2 s.slots (open_at c g) (c.slot_of g) (Some (record { number = c.number_of g; status = st0 })); journal = j0 }) o ≡ goes_with s o) → ((q : ℕ) → makes_open (c.op q) ≡ true → is_ok (c.outcome q) ≡ true → s.standing (c.file q) ≡ true → c.file q ≡ open_at c g → q ≡ create_at c g) → ((q : ℕ) → makes_open (c.op q) ≡ true → is_ok (c.outcome q) ≡ false → s.by_guid c.who.guid (guid_for c q) ≢ Some (open_at c g)) → (c.before g ≡ false → (j n : ℕ) (y : Received) → slice_get (conns j).down n ≡ Some y → y.token ≢ ForOp g) → Connections c conns a → Locks c conns s a → Locks c conns (record s { sequence = sq; ranges = rg; slots = put2 s.slots (open_at c g) (c.slot_of g) (Some (record { number = c.number_of g; status = st0 })); journal = j0 }) a2
+writes_keeps c conns s a g st0 j0 sq rg a2 lock sent user free stands unfirm journal others own room goes_same inj unmade alone C i =
     record {
       slot_index = i.slot_index;
       user_body = i.user_body;
@@ -158,11 +158,11 @@ writes_keeps c conns s a g st0 j0 sq rg a2 lock sent user free stands unfirm jou
       first_reply = writes_first_reply c conns s a g st0 j0 sq rg a2 lock sent user free stands unfirm journal others own alone i.first_reply;
       closed_not = writes_closed_not c conns s a g st0 j0 sq rg a2 lock sent user free stands unfirm journal others own i.closed_not;
       left_full = writes_left_full c conns s a g st0 j0 sq rg a2 lock sent user free stands unfirm journal own i.left_full;
-      left_stuck = writes_left_stuck c conns s a g st0 j0 sq rg a2 lock sent user free stands unfirm journal own goes_same dirs i.left_stuck;
+      left_stuck = writes_left_stuck c conns s a g st0 j0 sq rg a2 lock sent user free stands unfirm journal own goes_same i.left_stuck;
       left_idle = writes_left_idle c conns s a g st0 j0 sq rg a2 lock sent user free stands unfirm journal others own room i.left_idle i.left_full;
       close_done = i.close_done;
       close_full = writes_close_full c conns s a g st0 j0 sq rg a2 lock sent user free stands unfirm journal own i.close_full;
-      close_stuck = writes_close_stuck c conns s a g st0 j0 sq rg a2 lock sent user free stands unfirm journal own goes_same dirs i.close_stuck;
+      close_stuck = writes_close_stuck c conns s a g st0 j0 sq rg a2 lock sent user free stands unfirm journal own goes_same i.close_stuck;
       at_most = writes_at_most c conns s a g st0 j0 sq rg a2 lock sent user free stands unfirm journal others own i.at_most;
       ok_acted = writes_ok_acted c conns s a g st0 j0 sq rg a2 lock sent user free stands unfirm journal others own i.ok_acted;
       refused_not = writes_refused_not c conns s a g st0 j0 sq rg a2 lock sent user free stands unfirm journal others own i.refused_not i.unsent_gone;

@@ -3,7 +3,6 @@
 use Rattle.std.specs.Prelude.{◌≡◌, ◌≢◌, ℕ, ◌+◌, ◌≤◌, ◌<◌, ◌==◌, Bool, true, false, if◌then◌else◌, Option, Some, None, is_some, slice_get}
 use Rattle.exchange_defs.specs.Status.{success, user_session_deleted, file_closed, object_name_not_found, no_memory, disk_full}
 use Rattle.exchange_defs.specs.State.{Server, Kept}
-use Rattle.exchange_defs.specs.Files.{is_directory}
 use Rattle.exchange_defs.specs.Opens.{goes, drop_open, marked_by}
 use Rattle.exchange_defs.specs.CheckOpen.{is_slot, kept_status}
 use Rattle.exchange_defs.specs.Records.{lower_limit}
@@ -194,15 +193,12 @@ ClosedNot c s a = (g : ℕ) → locking (c.op g) ≡ true → c.sent g ≡ true 
 unfoldable pub goes_with : Server → ℕ → Bool
 goes_with s o = goes (drop_open (marked_by s o) o) (s.opened o).file
 
-unfoldable pub of_directory : Server → ℕ → Bool
-of_directory s o = is_directory s (s.opened o).file
-
 -- a copy of a close that was given up waits: it was refused on a full disk
 abbrev pub LeftFull : Client → (ℕ → Conn) → Server → Type 0
 LeftFull c conns s = (k n h : ℕ) (x : Sent) → slice_get (conns k).up n ≡ Some x → x.token ≡ ForOp h → shuts_open (c.op h) ≡ true → s.present x.message.session ≡ true → c.live ≡ true → is_unsettled (c.outcome h) ≡ false → is_ok (c.outcome h) ≡ false → s.standing (open_at c h) ≡ true → (s.opened (open_at c h)).persistent ≡ true → lower_limit < s.journal + 66
 
 abbrev pub LeftStuck : Client → (ℕ → Conn) → Server → Type 0
-LeftStuck c conns s = (k n h : ℕ) (x : Sent) → slice_get (conns k).up n ≡ Some x → x.token ≡ ForOp h → shuts_open (c.op h) ≡ true → s.present x.message.session ≡ true → c.live ≡ true → is_unsettled (c.outcome h) ≡ false → is_ok (c.outcome h) ≡ false → s.standing (open_at c h) ≡ true → (s.opened (open_at c h)).persistent ≡ false → of_directory s (open_at c h) ≡ false → lower_limit < s.journal + 34 × goes_with s (open_at c h) ≡ true
+LeftStuck c conns s = (k n h : ℕ) (x : Sent) → slice_get (conns k).up n ≡ Some x → x.token ≡ ForOp h → shuts_open (c.op h) ≡ true → s.present x.message.session ≡ true → c.live ≡ true → is_unsettled (c.outcome h) ≡ false → is_ok (c.outcome h) ≡ false → s.standing (open_at c h) ≡ true → (s.opened (open_at c h)).persistent ≡ false → lower_limit < s.journal + 34 × goes_with s (open_at c h) ≡ true
 
 -- and no lock behind it has acted, where each owes a record
 abbrev pub LeftIdle : Client → (ℕ → Conn) → Server → (ℕ → ℕ) → Type 0
@@ -216,7 +212,7 @@ abbrev pub CloseFull : Client → (ℕ → Conn) → Server → Type 0
 CloseFull c conns s = (k n h : ℕ) (y : Received) → slice_get (conns k).down n ≡ Some y → y.token ≡ ForOp h → shuts_open (c.op h) ≡ true → y.reply.status ≢ user_session_deleted → y.reply.status ≢ file_closed → s.standing (open_at c h) ≡ true → (s.opened (open_at c h)).persistent ≡ true → lower_limit < s.journal + 66
 
 abbrev pub CloseStuck : Client → (ℕ → Conn) → Server → Type 0
-CloseStuck c conns s = (k n h : ℕ) (y : Received) → slice_get (conns k).down n ≡ Some y → y.token ≡ ForOp h → shuts_open (c.op h) ≡ true → y.reply.status ≢ user_session_deleted → y.reply.status ≢ file_closed → s.standing (open_at c h) ≡ true → (s.opened (open_at c h)).persistent ≡ false → of_directory s (open_at c h) ≡ false → lower_limit < s.journal + 34 × goes_with s (open_at c h) ≡ true
+CloseStuck c conns s = (k n h : ℕ) (y : Received) → slice_get (conns k).down n ≡ Some y → y.token ≡ ForOp h → shuts_open (c.op h) ≡ true → y.reply.status ≢ user_session_deleted → y.reply.status ≢ file_closed → s.standing (open_at c h) ≡ true → (s.opened (open_at c h)).persistent ≡ false → lower_limit < s.journal + 34 × goes_with s (open_at c h) ≡ true
 
 -- ---- what is to be shown
 
