@@ -615,7 +615,7 @@ if __name__ == "__main__":
     for e in EVENTS:
         if not wanted or e.name in wanted:
             emit(e)
-    first = ["Words", "Views", "Rooms", "Verdicts", "Fronts"]
+    first = ["Words", "Views", "Rooms", "Verdicts", "Steady", "Bare", "Fronts"]
     first = [n for n in first if os.path.exists(os.path.join(TOP, n + ".antt"))]
     later = [n for n in ("Facts", "Server", "Run", "Once") if os.path.exists(os.path.join(TOP, n + ".antt"))]
     open(os.path.join(TOP, "Lib.antt"), "w").write("".join("pub mod %s\n" % n for n in first + [e.name for e in EVENTS] + later))

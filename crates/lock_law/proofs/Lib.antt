@@ -2,6 +2,7 @@ pub mod Words
 pub mod Views
 pub mod Rooms
 pub mod Verdicts
+pub mod Steady
 pub mod Submit
 pub mod Opened
 pub mod Dropped
