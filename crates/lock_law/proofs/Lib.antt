@@ -3,6 +3,7 @@ pub mod Views
 pub mod Rooms
 pub mod Verdicts
 pub mod Steady
+pub mod Bare
 pub mod Submit
 pub mod Opened
 pub mod Dropped
