@@ -49,6 +49,7 @@ PARTS = {
     "kept_reply": ("c conns s", "j n p y", "down op file slot_of number_of standing slots"),
     "first_reply": ("c conns a", "j n p y", "down op before a"),
     "closed_not": ("c s a", "p", "op sent outcome live attached number session file present standing a"),
+    "kept_files": ("s", "o", "standing opened"),
     "left_full": ("c conns s", "j n p x", "up op live outcome file present standing opened journal"),
     "left_stuck": ("c conns s", "j n p x", "up op live outcome file present standing opened journal files"),
     "left_idle": ("c conns s a", "j n p q x", "up op live outcome file present standing opened a"),
@@ -98,6 +99,7 @@ use Rattle.std.proofs.lemmas.Bool.Decides.{nat_tests}
 use Rattle.std.proofs.Common.{eqb-true, ◌≡◌, ◌≢◌, ℕ, ◌+◌, ◌≤◌, ◌<◌, ◌==◌, ◌%◌, Bool, true, false, not, ◌&&◌, ◌||◌, if◌then◌else◌, List, [], ◌∷◌, ◌++◌, ◌⊎◌, inl, inr, refl, arith, sym, subst, ◌∙◌, ap, Option, Some, None, slice_get, is_some, zero, suc}
 use Rattle.exchange_defs.specs.Table.{put, put2}
 use Rattle.exchange_defs.specs.Status.{success, user_session_deleted, file_closed, object_name_not_found, no_memory, disk_full}
+use Rattle.exchange_defs.specs.Commands.{deletes_on_close}
 use Rattle.exchange_defs.specs.State.{Server, Message, Reply, Kept, Range}
 use Rattle.exchange_defs.specs.Records.{lower_limit}
 use Rattle.exchange_defs.specs.Operations.{Op, Outcome, Why, is_unsettled, is_ok, is_create, is_close, is_lock, create_of, id_in, reconnect_of}
@@ -413,6 +415,7 @@ moves = event("Moves", "the server moves, and carries out no lock", "present sta
        ("opened", "(q : ℕ) → " + OK + "s2.standing (c.file q) ≡ true → (s2.opened (c.file q)).persistent ≡ (s.opened (c.file q)).persistent"),
        ("stuck", "(q : ℕ) → " + OK + "s2.standing (c.file q) ≡ true → (s.opened (c.file q)).persistent ≡ false → goes_with s (c.file q) ≡ true → lower_limit < s.journal + 34 → goes_with s2 (c.file q) ≡ true"),
        ("unmade", "(q r o : ℕ) → makes_open (c.op q) ≡ true → is_ok (c.outcome q) ≡ false → s2.by_guid c.who.guid (guid_for c q) ≡ Some o → s2.slots o r ≡ None"),
+       ("keeps", "(o : ℕ) → s2.standing o ≡ true → deletes_on_close (s2.opened o).options ≡ false"),
        ("open_stands", "(j n g : ℕ) (y : Received) → slice_get (conns j).down n ≡ Some y → y.token ≡ ForOp g → makes_open (c.op g) ≡ true → y.reply.status ≡ success → s2.standing (id_in y.reply.body) ≡ true → s.standing (id_in y.reply.body) ≡ true"),
        ("closed", "(g : ℕ) → locking (c.op g) ≡ true → c.sent g ≡ true → is_unsettled (c.outcome g) ≡ true → c.live ≡ true → c.attached (create_at c g) ≡ c.number → s2.present c.session ≡ true → s.standing (open_at c g) ≡ true → s2.standing (open_at c g) ≡ false → a g ≡ 0"),
        ("joined", "(j n g : ℕ) (y : Received) → slice_get (conns j).down n ≡ Some y → y.token ≡ ForAttach g → y.reply.status ≡ success → c.live ≡ true → s2.present c.session ≡ true → s.standing (open_at c g) ≡ true → s2.standing (open_at c g) ≡ false → c.attached (create_at c g) ≡ c.number")],
@@ -450,6 +453,7 @@ moves.parts["kept_says"] = "λ p st e f. let old = i.kept_says p st e in " + USE
 moves.parts["not_kept"] = "λ p e f. let old = i.not_kept p e in " + USES + "let sa = same_a p ub.0 in grind arith"
 moves.parts["firm_kept"] = "λ p e. let old = i.firm_kept p e in " + USES + "grind arith"
 moves.parts["no_user"] = "λ q r ok1 mk. let old = i.no_user q r ok1 mk in let sd = stands q mk ok1 in let sl = slots q r mk ok1 in grind arith"
+moves.parts["kept_files"] = "λ o e. keeps o e"
 moves.parts["no_slots"] = "λ q r o m ok1 e. unmade q r o m ok1 e"
 for part in ("ok_reply", "no_reply", "first_reply"):
     moves.parts[part] = "λ j n p y h t m. let old = i.%s j n p y h t m in let sa = same_a p m in grind arith" % part
@@ -607,6 +611,10 @@ def emit(event):
     for part in PARTS:
         out.append("      %s = %s;\n" % (part, calls[part]))
     out.append("    }\n")
+    if event.name == "Say":
+        record = "pub record MaySay (c : Client) (s : Server) (a : ℕ → ℕ) (y0 : Received) : Type 0 where\n" + "".join("  pub %s : %s\n" % (n, t) for n, t in event.needs) + "\n"
+        out.insert(2, "-- what is to be known of the reply\n" + record)
+        out.append("\npub say_told : %s (k : ℕ) (y0 : Received) → MaySay c s a y0 → Locks c conns s a → Locks c %s s a\nsay_told c conns s a k y0 m i = say_keeps c conns s a k y0 %s i\n" % (base, event.conns, " ".join("m." + n for n, _ in event.needs)))
     open(os.path.join(TOP, event.name + ".antt"), "w").write("".join(out))
 
 
@@ -615,7 +623,7 @@ if __name__ == "__main__":
     for e in EVENTS:
         if not wanted or e.name in wanted:
             emit(e)
-    first = ["Words", "Views", "Rooms", "Verdicts", "Steady", "Bare", "Fronts"]
+    first = ["Words", "Views", "Rooms", "Verdicts", "Steady", "Bare"]
     first = [n for n in first if os.path.exists(os.path.join(TOP, n + ".antt"))]
-    later = [n for n in ("Facts", "Server", "Run", "Once") if os.path.exists(os.path.join(TOP, n + ".antt"))]
+    later = [n for n in ("Facing", "Sees", "Locking", "Closing", "Asking", "Creating", "Serve", "Trees", "Client", "Run", "Once") if os.path.exists(os.path.join(TOP, n + ".antt"))]
     open(os.path.join(TOP, "Lib.antt"), "w").write("".join("pub mod %s\n" % n for n in first + [e.name for e in EVENTS] + later))

@@ -34,3 +34,4 @@ pub mod Finish
 pub mod Moves
 pub mod Writes
 pub mod Say
+pub mod Facing

@@ -14,34 +14,6 @@ use Rattle.server_law.proofs.Logic.{either}
 use Rattle.server_law.proofs.Doors.{recorded, Before}
 use Rattle.lock_law.specs.Locks.{goes_with}
 
--- ---- the door
-
-abbrev pub Fitting : Server → ℕ → Message → (Answer → Type 0) → Type 0
-Fitting s now m P = (t : Server) (v : Verdict) (front : List Record) → Before s now t → v ≡ check t m → fits (with_deadlines s now) (front ++ (apply t m now v).records) ≡ true → P (recorded (apply t m now v) (front ++ (apply t m now v).records))
-
-abbrev pub Full : Server → ℕ → Message → (Answer → Type 0) → Type 0
-Full s now m P = let d = with_deadlines s now in (v : Verdict) → v ≡ without_room (check d m) → fits d (apply d m now (check d m)).records ≡ false → P (recorded (apply d m now v) (apply d m now v).records)
-
-by_table : (P : Answer → Type 0) (s : Server) (now : ℕ) (m : Message) → Fitting s now m P → Full s now m P → P (written_down (table (with_deadlines s now) now (Heard m)))
-by_table P s now m f g =
-    let d = with_deadlines s now in
-    either (λ A. P (written_down A)) (fits d (apply d m now (check d m)).records) _ _
-    (λ r. f d (check d m) [] (inl refl) refl r)
-    (λ r. g (without_room (check d m)) refl r)
-
-by_due : (P : Answer → Type 0) (s : Server) (now : ℕ) (m : Message) → Fitting s now m P → Full s now m P → (u : Option ℕ) → due (with_deadlines s now) now ≡ u
-    → P (written_down (expiring (with_deadlines s now) now (Heard m) u))
-by_due P s now m f g None e = by_table P s now m f g
-by_due P s now m f g (Some o) e =
-    let d = with_deadlines s now in let t = expire d o in
-    either (λ A. P (written_down A)) (nat_le max_marks d.mark_count) _ _ (λ _. by_table P s now m f g)
-    (λ _. either (λ A. P (written_down A)) (fits d (expire_records d (origin_at m.connection) o ++ (apply t m now (check t m)).records)) _ _
-    (λ r. f t (check t m) (expire_records d (origin_at m.connection) o) (inr (o, e, refl)) refl r)
-    (λ _. by_table P s now m f g))
-
-pub by_room : (P : Answer → Type 0) (s : Server) (now : ℕ) (m : Message) → Fitting s now m P → Full s now m P → P (step s now (Heard m))
-by_room P s now m f g = by_due P s now m f g (due (with_deadlines s now) now) refl
-
 -- ---- what records take
 
 -- all but an epoch's and a version's record
@@ -144,3 +116,37 @@ gone_fits s front origin f false e h = absurd (cc)
 -- so where its file goes with it and 34 bytes don't fit, it can't leave
 pub stuck_fits : (s t : Server) (front : List Record) (origin : Origin) (o : ℕ) → (t.opened o).persistent ≡ false → deletes_on_close (t.opened o).options ≡ false → goes_with t o ≡ true → fits s (front ++ leave_records t origin o) ≡ true → s.journal + 34 ≤ lower_limit
 stuck_fits s t front origin o p d g e = gone_fits s front origin (t.opened o).file (goes_with t o) g (subst (λ rs. fits s (front ++ rs) ≡ true) (plain_records t origin o p d) e)
+
+-- ---- the door: an expiry's record doesn't fit on a full journal
+
+no_room : (d : Server) (k o : ℕ) (rs : List Record) → fits d (expire_records d (origin_at k) o ++ rs) ≡ true → lower_limit < d.journal + 34 → ⊥
+unfolding expire_records is_big
+no_room d k o rs e l =
+    let f = room_for d [] (gone_records (drop_open (marked_by d o) o) (origin_at k) (d.opened o).file ++ rs) (ExpireRecord (origin_at k) o) refl e in absurd (omega (arith, f, l))
+
+abbrev pub Fitting : Server → ℕ → Message → (Answer → Type 0) → Type 0
+Fitting s now m P = (t : Server) (v : Verdict) (front : List Record) → Before s now t → (lower_limit < s.journal + 34 → t ≡ with_deadlines s now) → v ≡ check t m → fits (with_deadlines s now) (front ++ (apply t m now v).records) ≡ true → P (recorded (apply t m now v) (front ++ (apply t m now v).records))
+
+abbrev pub Full : Server → ℕ → Message → (Answer → Type 0) → Type 0
+Full s now m P = let d = with_deadlines s now in (v : Verdict) → v ≡ without_room (check d m) → fits d (apply d m now (check d m)).records ≡ false → P (recorded (apply d m now v) (apply d m now v).records)
+
+by_table : (P : Answer → Type 0) (s : Server) (now : ℕ) (m : Message) → Fitting s now m P → Full s now m P → P (written_down (table (with_deadlines s now) now (Heard m)))
+by_table P s now m f g =
+    let d = with_deadlines s now in
+    either (λ A. P (written_down A)) (fits d (apply d m now (check d m)).records) _ _
+    (λ r. f d (check d m) [] (inl refl) (λ _. refl) refl r)
+    (λ r. g (without_room (check d m)) refl r)
+
+by_due : (P : Answer → Type 0) (s : Server) (now : ℕ) (m : Message) → Fitting s now m P → Full s now m P → (u : Option ℕ) → due (with_deadlines s now) now ≡ u
+    → P (written_down (expiring (with_deadlines s now) now (Heard m) u))
+by_due P s now m f g None e = by_table P s now m f g
+by_due P s now m f g (Some o) e =
+    let d = with_deadlines s now in let t = expire d o in
+    either (λ A. P (written_down A)) (nat_le max_marks d.mark_count) _ _ (λ _. by_table P s now m f g)
+    (λ _. either (λ A. P (written_down A)) (fits d (expire_records d (origin_at m.connection) o ++ (apply t m now (check t m)).records)) _ _
+    (λ r. f t (check t m) (expire_records d (origin_at m.connection) o) (inr (o, e, refl)) (λ l. absurd (no_room d m.connection o _ r l)) refl r)
+    (λ _. by_table P s now m f g))
+
+pub by_room : (P : Answer → Type 0) (s : Server) (now : ℕ) (m : Message) → Fitting s now m P → Full s now m P → P (step s now (Heard m))
+by_room P s now m f g = by_due P s now m f g (due (with_deadlines s now) now) refl
+

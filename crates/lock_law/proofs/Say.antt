@@ -4,6 +4,7 @@ use Rattle.std.proofs.lemmas.Bool.Decides.{nat_tests}
 use Rattle.std.proofs.Common.{eqb-true, ◌≡◌, ◌≢◌, ℕ, ◌+◌, ◌≤◌, ◌<◌, ◌==◌, ◌%◌, Bool, true, false, not, ◌&&◌, ◌||◌, if◌then◌else◌, List, [], ◌∷◌, ◌++◌, ◌⊎◌, inl, inr, refl, arith, sym, subst, ◌∙◌, ap, Option, Some, None, slice_get, is_some, zero, suc}
 use Rattle.exchange_defs.specs.Table.{put, put2}
 use Rattle.exchange_defs.specs.Status.{success, user_session_deleted, file_closed, object_name_not_found, no_memory, disk_full}
+use Rattle.exchange_defs.specs.Commands.{deletes_on_close}
 use Rattle.exchange_defs.specs.State.{Server, Message, Reply, Kept, Range}
 use Rattle.exchange_defs.specs.Records.{lower_limit}
 use Rattle.exchange_defs.specs.Operations.{Op, Outcome, Why, is_unsettled, is_ok, is_create, is_close, is_lock, create_of, id_in, reconnect_of}
@@ -14,8 +15,23 @@ use Rattle.exchange_defs.specs.Network.{Conn, Sent, Received, Token, ForDialog, 
 use Rattle.exchange_law.specs.Connections.{Connections, copies, count_up, count_down, no_copy_out, makes_open, shuts_open, acts_once, its_create, its_request, create_at, opens, Once, Outstanding, OwnUp, AttachUp, OwnDown, AttachDown, DownOpen, OnReady, Ready, Stages, Settled, Taken, TakenOn, Creates, Lower, HasOpen, AskedOpen, Fresh, Bodies, First, Unsent, SentReplies, Deleted}
 use Rattle.exchange_law.proofs.Lists.{get-push, rest_of, own_up_count, own_down_count, attach_up_count, attach_down_count, front_up, front_down, waited, waited_down}
 use Rattle.session_law.specs.Sessions.{is_ops}
-use Rattle.lock_law.specs.Locks.{Locks, locking, kept_at, firm, is_unsent, refused_for_good, in_slots, user_at, open_at, kept_of, goes_with, SlotIndex, UserBody, InUse, AttachedLow, ShutOk, ShutGone, CloseBefore, CloseAfter, UnsentGone, AskedNew, NoSession, Unanswered, AskUp, AskDown, PresentUp, Users, CopyNow, RetriedOn, RetriedDone, CopyAttached, NowAttached, OpenedReply, JoinReply, JoinedReply, LostReply, KeptSays, NotKept, FirmKept, NoUser, NoSlots, FullDead, OkReply, NoReply, KeptReply, FirstReply, ClosedNot, LeftFull, LeftStuck, LeftIdle, CloseDone, CloseFull, CloseStuck, AtMost, OkActed, RefusedNot}
+use Rattle.lock_law.specs.Locks.{Locks, locking, kept_at, firm, is_unsent, refused_for_good, in_slots, user_at, open_at, kept_of, goes_with, SlotIndex, UserBody, InUse, AttachedLow, ShutOk, ShutGone, CloseBefore, CloseAfter, UnsentGone, AskedNew, NoSession, Unanswered, AskUp, AskDown, PresentUp, Users, CopyNow, RetriedOn, RetriedDone, CopyAttached, NowAttached, OpenedReply, JoinReply, JoinedReply, LostReply, KeptSays, NotKept, FirmKept, NoUser, NoSlots, FullDead, OkReply, NoReply, KeptReply, FirstReply, ClosedNot, KeptFiles, LeftFull, LeftStuck, LeftIdle, CloseDone, CloseFull, CloseStuck, AtMost, OkActed, RefusedNot}
 use Rattle.lock_law.proofs.Words.{lock_kind, lock_stays, lock_once, close_kind, own_create, unsettled_firm, unsettled_unsent, unsettled_ok, unsettled_refused, unsent_firm, unsent_ok, ok_firm, ok_settled, firm_settled, unsent_settled, unsent_refused, refused_how, kept_none, kept_same, kept_other, kept_is_some, more_up, more_down, more_asks, down_is_open, up_on, down_on, ask_on, ok_of, made_of, own_ops, own_reply_ops, ask_reply_ops, split_at}
+-- what is to be known of the reply
+pub record MaySay (c : Client) (s : Server) (a : ℕ → ℕ) (y0 : Received) : Type 0 where
+  pub of_ask_down : (g : ℕ) → y0.token ≡ ForAttach g → 0 < g × g ≤ c.taken × makes_open (c.op g) ≡ false × is_ok (c.outcome (create_at c g)) ≡ true
+  pub of_opened_reply : (g : ℕ) → y0.token ≡ ForOp g → makes_open (c.op g) ≡ true → y0.reply.status ≡ success → c.live ≡ true → s.present c.session ≡ true → s.standing (id_in y0.reply.body) ≡ true → s.at (id_in y0.reply.body) ≡ Some c.session
+  pub of_join_reply : (g : ℕ) → y0.token ≡ ForAttach g → y0.reply.status ≡ success → c.live ≡ true → s.present c.session ≡ true → s.standing (open_at c g) ≡ true → s.at (open_at c g) ≡ Some c.session
+  pub of_joined_reply : (g : ℕ) → y0.token ≡ ForAttach g → y0.reply.status ≡ success → c.live ≡ true → s.present c.session ≡ true → s.standing (open_at c g) ≡ false → c.attached (create_at c g) ≡ c.number
+  pub of_lost_reply : (g : ℕ) → y0.token ≡ ForAttach g → y0.reply.status ≢ success → y0.reply.status ≢ user_session_deleted → y0.reply.status ≡ object_name_not_found × s.standing (open_at c g) ≡ false
+  pub of_ok_reply : (g : ℕ) → y0.token ≡ ForOp g → locking (c.op g) ≡ true → y0.reply.status ≡ success → a g ≡ 1
+  pub of_no_reply : (g : ℕ) → y0.token ≡ ForOp g → locking (c.op g) ≡ true → y0.reply.status ≢ success → y0.reply.status ≢ user_session_deleted → y0.reply.status ≢ no_memory → y0.reply.status ≢ disk_full → a g ≡ 0
+  pub of_kept_reply : (g : ℕ) → y0.token ≡ ForOp g → locking (c.op g) ≡ true → y0.reply.status ≢ user_session_deleted → y0.reply.status ≢ no_memory → y0.reply.status ≢ disk_full → s.standing (open_at c g) ≡ true → is_some (kept_of c s g) ≡ true
+  pub of_first_reply : (g : ℕ) → y0.token ≡ ForOp g → locking (c.op g) ≡ true → y0.reply.status ≢ success → c.before g ≡ false → a g ≡ 0
+  pub of_close_done : (h : ℕ) → y0.token ≡ ForOp h → shuts_open (c.op h) ≡ true → y0.reply.status ≡ success → s.standing (open_at c h) ≡ false
+  pub of_close_full : (h : ℕ) → y0.token ≡ ForOp h → shuts_open (c.op h) ≡ true → y0.reply.status ≢ user_session_deleted → y0.reply.status ≢ file_closed → s.standing (open_at c h) ≡ true → (s.opened (open_at c h)).persistent ≡ true → lower_limit < s.journal + 66
+  pub of_close_stuck : (h : ℕ) → y0.token ≡ ForOp h → shuts_open (c.op h) ≡ true → y0.reply.status ≢ user_session_deleted → y0.reply.status ≢ file_closed → s.standing (open_at c h) ≡ true → (s.opened (open_at c h)).persistent ≡ false → lower_limit < s.journal + 34 × goes_with s (open_at c h) ≡ true
+
 
 say_unanswered : (c : Client) (conns : ℕ → Conn) (s : Server) (a : ℕ → ℕ) (k : ℕ) (y0 : Received) → Unanswered c conns → Unanswered c (put conns k (record (conns k) { down = (conns k).down ++ y0 ∷ [] }))
 say_unanswered c conns s a k y0 i_unanswered =
@@ -152,6 +168,7 @@ say_keeps c conns s a k y0 of_ask_down of_opened_reply of_join_reply of_joined_r
       kept_reply = say_kept_reply c conns s a k y0 of_kept_reply i.kept_reply;
       first_reply = say_first_reply c conns s a k y0 of_first_reply i.first_reply;
       closed_not = i.closed_not;
+      kept_files = i.kept_files;
       left_full = say_left_full c conns s a k y0 i.left_full;
       left_stuck = say_left_stuck c conns s a k y0 i.left_stuck;
       left_idle = say_left_idle c conns s a k y0 i.left_idle;
@@ -162,3 +179,6 @@ say_keeps c conns s a k y0 of_ask_down of_opened_reply of_join_reply of_joined_r
       ok_acted = i.ok_acted;
       refused_not = i.refused_not;
     }
+
+pub say_told : (c : Client) (conns : ℕ → Conn) (s : Server) (a : ℕ → ℕ) (k : ℕ) (y0 : Received) → MaySay c s a y0 → Locks c conns s a → Locks c (put conns k (record (conns k) { down = (conns k).down ++ y0 ∷ [] })) s a
+say_told c conns s a k y0 m i = say_keeps c conns s a k y0 m.of_ask_down m.of_opened_reply m.of_join_reply m.of_joined_reply m.of_lost_reply m.of_ok_reply m.of_no_reply m.of_kept_reply m.of_first_reply m.of_close_done m.of_close_full m.of_close_stuck i

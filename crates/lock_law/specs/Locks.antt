@@ -2,6 +2,7 @@
 -- client's slots, what waits on the connections, and what the server's opens keep.
 use Rattle.std.specs.Prelude.{◌≡◌, ◌≢◌, ℕ, ◌+◌, ◌≤◌, ◌<◌, ◌==◌, Bool, true, false, if◌then◌else◌, Option, Some, None, is_some, slice_get}
 use Rattle.exchange_defs.specs.Status.{success, user_session_deleted, file_closed, object_name_not_found, no_memory, disk_full}
+use Rattle.exchange_defs.specs.Commands.{deletes_on_close}
 use Rattle.exchange_defs.specs.State.{Server, Kept}
 use Rattle.exchange_defs.specs.Opens.{goes, drop_open, marked_by}
 use Rattle.exchange_defs.specs.CheckOpen.{is_slot, kept_status}
@@ -193,6 +194,10 @@ ClosedNot c s a = (g : ℕ) → locking (c.op g) ≡ true → c.sent g ≡ true 
 unfoldable pub goes_with : Server → ℕ → Bool
 goes_with s o = goes (drop_open (marked_by s o) o) (s.opened o).file
 
+-- no open deletes its file on close
+abbrev pub KeptFiles : Server → Type 0
+KeptFiles s = (o : ℕ) → s.standing o ≡ true → deletes_on_close (s.opened o).options ≡ false
+
 -- a copy of a close that was given up waits: it was refused on a full disk
 abbrev pub LeftFull : Client → (ℕ → Conn) → Server → Type 0
 LeftFull c conns s = (k n h : ℕ) (x : Sent) → slice_get (conns k).up n ≡ Some x → x.token ≡ ForOp h → shuts_open (c.op h) ≡ true → s.present x.message.session ≡ true → c.live ≡ true → is_unsettled (c.outcome h) ≡ false → is_ok (c.outcome h) ≡ false → s.standing (open_at c h) ≡ true → (s.opened (open_at c h)).persistent ≡ true → lower_limit < s.journal + 66
@@ -262,6 +267,7 @@ pub record Locks (c : Client) (conns : ℕ → Conn) (s : Server) (a : ℕ → �
   pub kept_reply : KeptReply c conns s
   pub first_reply : FirstReply c conns a
   pub closed_not : ClosedNot c s a
+  pub kept_files : KeptFiles s
   pub left_full : LeftFull c conns s
   pub left_stuck : LeftStuck c conns s
   pub left_idle : LeftIdle c conns s a
