@@ -35,3 +35,4 @@ pub mod Moves
 pub mod Writes
 pub mod Say
 pub mod Facing
+pub mod Sees
