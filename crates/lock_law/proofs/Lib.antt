@@ -4,6 +4,7 @@ pub mod Rooms
 pub mod Verdicts
 pub mod Steady
 pub mod Bare
+pub mod Undeleting
 pub mod Submit
 pub mod Opened
 pub mod Dropped
@@ -36,3 +37,4 @@ pub mod Writes
 pub mod Say
 pub mod Facing
 pub mod Sees
+pub mod Serving

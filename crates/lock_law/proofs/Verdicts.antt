@@ -80,7 +80,7 @@ begin_quiet t m now session user None r is_quiet making absent = begins_one (new
 begin_quiet t m now session user (Some p) r is_quiet making absent =
     begins_over (news t m) (closes_in m.command) (view t) m.session p (λ o. leaves t p o) (λ c g. guid_staying t p (t.by_guid c g)) (is_new_of (t.making m.connection) m.session making) (its_session t p) (λ c g o e. staying_named t p (t.by_guid c g) o e) absent
 
-show_view : (s : Server) (m : Message) (o : ℕ) (last : Option (List ℕ)) → view (record (reach s m o) { listed = put s.listed o last }) ≡ view s
+pub show_view : (s : Server) (m : Message) (o : ℕ) (last : Option (List ℕ)) → view (record (reach s m o) { listed = put s.listed o last }) ≡ view s
 show_view s m o last = either (λ u. view (record u { listed = put s.listed o last }) ≡ view s) (is_late s m o) _ _ (λ _. refl) (λ _. refl)
 
 absent_of : (present : ℕ → Bool) (at : ℕ → Option ℕ) (x : ℕ) → ((o y : ℕ) → at o ≡ Some y → present y ≡ true) → present x ≡ false → (o y : ℕ) → at o ≡ Some y → y ≢ x
