@@ -38,3 +38,4 @@ pub mod Say
 pub mod Facing
 pub mod Sees
 pub mod Serving
+pub mod Others
