@@ -39,3 +39,4 @@ pub mod Facing
 pub mod Sees
 pub mod Serving
 pub mod Others
+pub mod Locking
