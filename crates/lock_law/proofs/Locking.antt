@@ -240,6 +240,12 @@ sole_idle c conns t a k g x0 w bf = (w.serving.links.first k 0 g x0 w.serving.fr
 count_same : (a : ℕ → ℕ) (tk : Token) (g n : ℕ) → a g ≡ n → counted a tk false g ≡ n
 count_same a tk g n e = grind arith
 
+same_number : (x : ℕ) → (x == x) ≡ true
+same_number x = grind arith
+
+both_hold : (b : Bool) (u : Option ℕ) (x : ℕ) → b ≡ true → u ≡ Some x → (b && is_at x u) ≡ false → true ≡ false
+both_hold b u x e f h = let t : (b && is_at x u) ≡ true = rw (e, f) (same_number x) in sym t ∙ h
+
 -- the open of a copy that isn't attached to its session is gone
 away_gone : (c : Client) (conns : ℕ → Conn) (t : Server) (a : ℕ → ℕ) (k g : ℕ) (x0 : Sent) → Copy c conns t a k g x0 → t.present x0.message.session ≡ true → is_of_session t (open_at c g) x0.message.session ≡ false → t.standing (open_at c g) ≡ false
 away_gone c conns t a k g x0 w p off =
@@ -247,12 +253,6 @@ away_gone c conns t a k g x0 w p off =
       | true ↦ λ st. let at1 = w.serving.locks.copy_attached k 0 g x0 w.serving.front w.token (lock_kind (c.op g) w.lock) p st in absurd (let x = both_hold (t.standing (open_at c g)) (t.at (open_at c g)) x0.message.session st at1 off in cc)
       | false ↦ λ st. st
     ] refl
-  where
-    same_number : (x : ℕ) → (x == x) ≡ true
-    same_number x = grind arith
-
-    both_hold : (b : Bool) (u : Option ℕ) (x : ℕ) → b ≡ true → u ≡ Some x → (b && is_at x u) ≡ false → true ≡ false
-    both_hold b u x e f h = let t : (b && is_at x u) ≡ true = rw (e, f) (same_number x) in sym t ∙ h
 
 unsettled_on : (c : Client) (g k : ℕ) → ((h : ℕ) → is_unsettled (c.outcome h) ≡ false → c.on h ≡ None) → c.on g ≡ Some k → is_unsettled (c.outcome g) ≡ true
 unsettled_on c g k f e = elim (is_unsettled (c.outcome g)) as (λ b. is_unsettled (c.outcome g) ≡ b → is_unsettled (c.outcome g) ≡ true) [ true ↦ λ q. q | false ↦ λ q. let h = f g q in absurd (grind arith) ] refl
