@@ -50,8 +50,8 @@ was_there c begins closes v u q un x ranked p = elim (v.present x) as (λ b. v.p
 pub quiet_keeps : (c : Client) (conns : ℕ → Conn) (t : Server) (a : ℕ → ℕ) (u : Server) (a2 : ℕ → ℕ) (k : ℕ) (closes : ℕ → Bool)
     → Lower c conns t → Connections c conns a → ((p : ℕ) → locking (c.op p) ≡ true → a2 p ≡ a p) → Quiet (λ x. is_new x (t.making k)) closes (view t) (view u)
     → (lower_limit < t.journal + 34 → Steady t u) → ((o : ℕ) → u.standing o ≡ true → deletes_on_close (u.opened o).options ≡ false)
-    → ((g : ℕ) → locking (c.op g) ≡ true → c.sent g ≡ true → is_unsettled (c.outcome g) ≡ true → c.live ≡ true → u.present c.session ≡ true → t.standing (open_at c g) ≡ true → closes (open_at c g) ≡ true → a g ≡ 0)
-    → ((j n g : ℕ) (y : Received) → slice_get (conns j).down n ≡ Some y → y.token ≡ ForAttach g → y.reply.status ≡ success → c.live ≡ true → u.present c.session ≡ true → t.standing (open_at c g) ≡ true → closes (open_at c g) ≡ true → c.attached (create_at c g) ≡ c.number)
+    → ((g : ℕ) → locking (c.op g) ≡ true → c.sent g ≡ true → is_unsettled (c.outcome g) ≡ true → c.live ≡ true → u.present c.session ≡ true → t.standing (open_at c g) ≡ true → closes (open_at c g) ≡ true → u.standing (open_at c g) ≡ false → a g ≡ 0)
+    → ((j n g : ℕ) (y : Received) → slice_get (conns j).down n ≡ Some y → y.token ≡ ForAttach g → y.reply.status ≡ success → c.live ≡ true → u.present c.session ≡ true → t.standing (open_at c g) ≡ true → closes (open_at c g) ≡ true → u.standing (open_at c g) ≡ false → c.attached (create_at c g) ≡ c.number)
     → Locks c conns t a → Locks c conns u a2
 quiet_keeps c conns t a u a2 k closes l C same_a q steady keeps shut joined i =
     moves_keeps c conns t a u a2 same_a q.journal
@@ -92,10 +92,10 @@ quiet_keeps c conns t a u a2 k closes l C same_a q steady keeps shut joined i =
     closed_not : (g : ℕ) → locking (c.op g) ≡ true → c.sent g ≡ true → is_unsettled (c.outcome g) ≡ true → c.live ≡ true → c.attached (create_at c g) ≡ c.number → u.present c.session ≡ true → t.standing (open_at c g) ≡ true → u.standing (open_at c g) ≡ false → a g ≡ 0
     closed_not g m s0 un lv at1 p st off =
         let lk = lock_kind (c.op g) m in let ok = ok_of c C.has_open g s0 lk in let mk = made_of c C.taken C.creates g s0 lk in
-        shut g m s0 un lv p st (still (open_at c g) p st (i.now_attached (create_at c g) mk ok lv at1 (stay_now lv p) st) off)
+        shut g m s0 un lv p st (still (open_at c g) p st (i.now_attached (create_at c g) mk ok lv at1 (stay_now lv p) st) off) off
 
     joined_now : (j n g : ℕ) (y : Received) → slice_get (conns j).down n ≡ Some y → y.token ≡ ForAttach g → y.reply.status ≡ success → c.live ≡ true → u.present c.session ≡ true → t.standing (open_at c g) ≡ true → u.standing (open_at c g) ≡ false → c.attached (create_at c g) ≡ c.number
-    joined_now j n g y h e ok lv p st off = joined j n g y h e ok lv p st (still (open_at c g) p st (i.join_reply j n g y h e ok lv (stay_now lv p) st) off)
+    joined_now j n g y h e ok lv p st off = joined j n g y h e ok lv p st (still (open_at c g) p st (i.join_reply j n g y h e ok lv (stay_now lv p) st) off) off
 
 -- ---- an expiry in front
 
@@ -144,7 +144,7 @@ unfolding none_of
 due_keeps c conns s a now l C i =
     (record { given = l.given; reply_given = l.reply_given; ranked_up = l.ranked_up; unranked = l.unranked; lives = l.lives; attached = l.attached; named_given = l.named_given; fits = deadlines_keeps s now l.fits },
     quiet_keeps c conns s a (with_deadlines s now) a 0 none_of l C (λ p m. refl) (same (λ x. is_new x (s.making 0)) none_of (view s) (view (with_deadlines s now)) refl) (λ _. steady_same s (with_deadlines s now) refl refl refl refl refl)
-    i.kept_files (λ g m s0 u lv p st e. absurd (cc)) (λ j n g y h e ok lv p st x. absurd (cc)) i)
+    i.kept_files (λ g m s0 u lv p st e off. absurd (cc)) (λ j n g y h e ok lv p st x off. absurd (cc)) i)
 
 expire_keeps : (c : Client) (conns : ℕ → Conn) (s : Server) (a : ℕ → ℕ) (now o : ℕ) → due s now ≡ Some o → (lower_limit < s.journal + 34 → expire s o ≡ s) → Lower c conns s → Connections c conns a → Locks c conns s a → Behind c conns a (expire s o)
 unfolding none_of
@@ -164,7 +164,7 @@ expire_keeps c conns s a now o e full l C i =
     (subst (λ z. Quiet (λ x. is_new x (s.making 0)) none_of (view s) z) (sym v) (leaves_by (λ x. is_new x (s.making 0)) none_of (view s) o (without_guid s o) (λ p y n at. unattached p y at apart) (λ d g p h. still_named s.by_guid (s.opened o).client (s.opened o).guid d g p h)))
     (λ big. subst (λ z. Steady s z) (sym (full big)) (steady_same s s refl refl refl refl refl))
     (λ p st. let row : (expire s o).opened ≡ s.opened = ap (λ z. z.opened) v in let st2 : put s.standing o false p ≡ true = subst (λ z. z.standing p ≡ true) v st in subst (λ z. deletes_on_close (z p).options ≡ false) (sym row) (i.kept_files p (grind arith)))
-    (λ g m s0 u lv p st e2. absurd (cc)) (λ j n g y h t ok lv p st x. absurd (cc)) i)
+    (λ g m s0 u lv p st e2 off. absurd (cc)) (λ j n g y h t ok lv p st x off. absurd (cc)) i)
   where
     still_at : (p y : ℕ) → put s.at o None p ≡ Some y → s.at p ≡ Some y
     still_at p y h = grind arith

@@ -40,3 +40,4 @@ pub mod Sees
 pub mod Serving
 pub mod Others
 pub mod Locking
+pub mod Closing

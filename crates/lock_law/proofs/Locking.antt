@@ -98,7 +98,7 @@ unmade_at c conns t a cr q r no1 mr or1 st = λ e.
 
 -- ---- what doesn't look at slots
 
-goes_same : (t : Server) (sq : ℕ → ℕ) (rg : ℕ → List Range) (sl : ℕ → ℕ → Option Kept) (j0 o : ℕ) → goes_with (record t { sequence = sq; ranges = rg; slots = sl; journal = j0 }) o ≡ goes_with t o
+pub goes_same : (t : Server) (sq : ℕ → ℕ) (rg : ℕ → List Range) (sl : ℕ → ℕ → Option Kept) (j0 o : ℕ) → goes_with (record t { sequence = sq; ranges = rg; slots = sl; journal = j0 }) o ≡ goes_with t o
 unfolding goes_with goes exists file_has_open is_full_directory is_directory path_of
 goes_same t sq rg sl j0 o = by_kind (deletes_on_close (t.opened o).options)
   where
@@ -174,13 +174,13 @@ pub record Says (c : Client) (u : Server) (b : ℕ → ℕ) (g status : ℕ) : T
   pub kept : status ≢ user_session_deleted → status ≢ no_memory → status ≢ disk_full → u.standing (open_at c g) ≡ true → is_some (kept_of c u g) ≡ true
   pub first : status ≢ success → c.before g ≡ false → b g ≡ 0
 
-same_op : (g h : ℕ) (t : Token) → t ≡ ForOp g → t ≡ ForOp h → g ≡ h
+pub same_op : (g h : ℕ) (t : Token) → t ≡ ForOp g → t ≡ ForOp h → g ≡ h
 same_op g h t e f = grind arith
 
-not_ask : (g h : ℕ) (t : Token) → t ≡ ForOp g → t ≡ ForAttach h → true ≡ false
+pub not_ask : (g h : ℕ) (t : Token) → t ≡ ForOp g → t ≡ ForAttach h → true ≡ false
 not_ask g h t e f = absurd (grind arith)
 
-clash : (b : Bool) → b ≡ false → b ≡ true → true ≡ false
+pub clash : (b : Bool) → b ≡ false → b ≡ true → true ≡ false
 clash b e f = sym f ∙ e
 
 pub say_lock : (c : Client) (u : Server) (b : ℕ → ℕ) (g : ℕ) (y0 : Received) → y0.token ≡ ForOp g → locking (c.op g) ≡ true → Says c u b g y0.reply.status → MaySay c u b y0
@@ -211,7 +211,7 @@ pub record Copy (c : Client) (conns : ℕ → Conn) (t : Server) (a : ℕ → �
   pub command : x0.message.command ≡ Lock (open_at c g) (c.slot_of g) (c.number_of g) (elements_in (c.op g))
   pub slot : is_slot (c.slot_of g) ≡ true
 
-copy_of : (c : Client) (conns : ℕ → Conn) (t : Server) (a : ℕ → ℕ) (k g : ℕ) (x0 : Sent) → Serving c conns t a k x0 → x0.token ≡ ForOp g → locking (c.op g) ≡ true → Copy c conns t a k g x0
+pub copy_of : (c : Client) (conns : ℕ → Conn) (t : Server) (a : ℕ → ℕ) (k g : ℕ) (x0 : Sent) → Serving c conns t a k x0 → x0.token ≡ ForOp g → locking (c.op g) ≡ true → Copy c conns t a k g x0
 copy_of c conns t a k g x0 w tk lk =
     let bd = w.links.bodies k 0 g x0 w.front tk in
     record {
@@ -231,8 +231,8 @@ quiet_lock : (c : Client) (conns : ℕ → Conn) (t : Server) (a : ℕ → ℕ) 
 quiet_lock c conns t a k g x0 now v rs w is off bare quiet =
     quiet_serve c conns t a k x0 now v rs (counted a x0.token (apply t x0.message now v).acted) w.serving (found t x0.message v is) off (λ big. bare)
     (λ p m. not_acted a x0.token (apply t x0.message now v).acted p quiet)
-    (λ h m s0 u lv p st cl. let n = no_close x0.message.command (open_at c g) (c.slot_of g) (c.number_of g) (open_at c h) (elements_in (c.op g)) w.command in absurd (grind arith))
-    (λ j n h y e1 e2 ok lv p st cl. let n1 = no_close x0.message.command (open_at c g) (c.slot_of g) (c.number_of g) (open_at c h) (elements_in (c.op g)) w.command in absurd (grind arith))
+    (λ h m s0 u lv p st cl off2. let n = no_close x0.message.command (open_at c g) (c.slot_of g) (c.number_of g) (open_at c h) (elements_in (c.op g)) w.command in absurd (grind arith))
+    (λ j n h y e1 e2 ok lv p st cl off2. let n1 = no_close x0.message.command (open_at c g) (c.slot_of g) (c.number_of g) (open_at c h) (elements_in (c.op g)) w.command in absurd (grind arith))
 
 sole_idle : (c : Client) (conns : ℕ → Conn) (t : Server) (a : ℕ → ℕ) (k g : ℕ) (x0 : Sent) → Copy c conns t a k g x0 → c.before g ≡ false → a g ≡ 0
 sole_idle c conns t a k g x0 w bf = (w.serving.links.first k 0 g x0 w.serving.front w.token (lock_once (c.op g) w.lock) bf).1
@@ -373,7 +373,7 @@ full_down c conns d a k g x0 now v w is e =
     λ o place. say_lock c _ _ g _ w.token w.lock (record { ok = λ s. absurd (cc); no = λ n1 n2 n3 n4. absurd (n4 refl); kept = λ n2 n3 n4. absurd (n4 refl); first = λ n1 bf. count_same a x0.token g 0 (sole_idle c conns d a k g x0 w bf) }))
 
 -- where they don't
-no_unfit : (d : Server) → fits d [] ≡ false → true ≡ false
+pub no_unfit : (d : Server) → fits d [] ≡ false → true ≡ false
 unfolding fits
 no_unfit d e = e
 

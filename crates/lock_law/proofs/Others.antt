@@ -82,8 +82,8 @@ other_keeps c conns t a k x0 now v rs w q oth unsent =
     let f = found t x0.message v q.0 in
     quiet_serve c conns t a k x0 now v rs (counted a x0.token (apply t x0.message now v).acted) w f (slots_of t x0.message v f (λ o i n es. no_lock x0.message.command o i n es oth)) q.1
     (λ p m. not_sent a x0.token (apply t x0.message now v).acted p (unsent p m))
-    (λ g m s0 u lv p st cl. let n = no_close x0.message.command (open_at c g) oth in absurd (grind arith))
-    (λ j n g y h e ok lv p st cl. let n1 = no_close x0.message.command (open_at c g) oth in absurd (grind arith))
+    (λ g m s0 u lv p st cl off. let n = no_close x0.message.command (open_at c g) oth in absurd (grind arith))
+    (λ j n g y h e ok lv p st cl off. let n1 = no_close x0.message.command (open_at c g) oth in absurd (grind arith))
 
 -- ---- nothing that is said of a reply
 

@@ -136,8 +136,8 @@ steady_recorded t u n s = record { entries = s.entries; marked = s.marked; direc
 
 pub quiet_serve : (c : Client) (conns : ℕ → Conn) (t : Server) (a : ℕ → ℕ) (k : ℕ) (x0 : Sent) (now : ℕ) (v : Verdict) (rs : List Record) (a2 : ℕ → ℕ)
     → Serving c conns t a k x0 → Facts t x0.message v → is_slot_verdict v ≡ false → (lower_limit < t.journal + 34 → (apply t x0.message now v).records ≡ []) → ((p : ℕ) → locking (c.op p) ≡ true → a2 p ≡ a p)
-    → ((g : ℕ) → locking (c.op g) ≡ true → c.sent g ≡ true → is_unsettled (c.outcome g) ≡ true → c.live ≡ true → (apply t x0.message now v).server.present c.session ≡ true → t.standing (open_at c g) ≡ true → closes_in x0.message.command (open_at c g) ≡ true → a g ≡ 0)
-    → ((j n g : ℕ) (y : Received) → slice_get (conns j).down n ≡ Some y → y.token ≡ ForAttach g → y.reply.status ≡ success → c.live ≡ true → (apply t x0.message now v).server.present c.session ≡ true → t.standing (open_at c g) ≡ true → closes_in x0.message.command (open_at c g) ≡ true → c.attached (create_at c g) ≡ c.number)
+    → ((g : ℕ) → locking (c.op g) ≡ true → c.sent g ≡ true → is_unsettled (c.outcome g) ≡ true → c.live ≡ true → (apply t x0.message now v).server.present c.session ≡ true → t.standing (open_at c g) ≡ true → closes_in x0.message.command (open_at c g) ≡ true → (apply t x0.message now v).server.standing (open_at c g) ≡ false → a g ≡ 0)
+    → ((j n g : ℕ) (y : Received) → slice_get (conns j).down n ≡ Some y → y.token ≡ ForAttach g → y.reply.status ≡ success → c.live ≡ true → (apply t x0.message now v).server.present c.session ≡ true → t.standing (open_at c g) ≡ true → closes_in x0.message.command (open_at c g) ≡ true → (apply t x0.message now v).server.standing (open_at c g) ≡ false → c.attached (create_at c g) ≡ c.number)
     → Locks c conns (recorded (apply t x0.message now v) rs).server a2
 quiet_serve c conns t a k x0 now v rs a2 w f off bare same_a shut joined =
     let m = x0.message in let A = apply t m now v in
