@@ -41,3 +41,4 @@ pub mod Serving
 pub mod Others
 pub mod Locking
 pub mod Closing
+pub mod Serve

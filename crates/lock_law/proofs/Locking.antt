@@ -47,7 +47,7 @@ lock_request : (op : Op) (guid file slot number : ℕ) → locking op ≡ true �
 unfolding locking its_request elements_in
 lock_request op guid file slot number e = grind arith
 
-lock_formed : (op : Op) → locking op ≡ true → lock_form (elements_in op) ≡ None
+pub lock_formed : (op : Op) → locking op ≡ true → lock_form (elements_in op) ≡ None
 unfolding locking elements_in
 lock_formed (OpLock create at n true) e = refl
 lock_formed (OpLock create at n false) e = refl
