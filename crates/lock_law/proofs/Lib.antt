@@ -42,3 +42,4 @@ pub mod Others
 pub mod Locking
 pub mod Closing
 pub mod Serve
+pub mod Ends

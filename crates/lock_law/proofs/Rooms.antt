@@ -119,7 +119,7 @@ stuck_fits s t front origin o p d g e = gone_fits s front origin (t.opened o).fi
 
 -- ---- the door: an expiry's record doesn't fit on a full journal
 
-no_room : (d : Server) (k o : ℕ) (rs : List Record) → fits d (expire_records d (origin_at k) o ++ rs) ≡ true → lower_limit < d.journal + 34 → ⊥
+pub no_room : (d : Server) (k o : ℕ) (rs : List Record) → fits d (expire_records d (origin_at k) o ++ rs) ≡ true → lower_limit < d.journal + 34 → ⊥
 unfolding expire_records is_big
 no_room d k o rs e l =
     let f = room_for d [] (gone_records (drop_open (marked_by d o) o) (origin_at k) (d.opened o).file ++ rs) (ExpireRecord (origin_at k) o) refl e in absurd (omega (arith, f, l))

@@ -65,7 +65,7 @@ rest_before : (s : Server) (now : ℕ) (t : Server) → Before s now t → rest 
 rest_before s now t (inl e) = ap rest e
 rest_before s now t (inr x) = ap rest x.2 ∙ expire_rest (with_deadlines s now) x.0
 
-journal_before : (s : Server) (now : ℕ) (t : Server) → Before s now t → t.journal ≡ (with_deadlines s now).journal
+pub journal_before : (s : Server) (now : ℕ) (t : Server) → Before s now t → t.journal ≡ (with_deadlines s now).journal
 journal_before s now t (inl e) = ap (λ z. z.journal) e
 journal_before s now t (inr x) = ap (λ z. z.journal) x.2 ∙ ap (λ z. z.journal) (expire_view (with_deadlines s now) x.0)
 

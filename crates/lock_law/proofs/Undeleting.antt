@@ -27,7 +27,7 @@ attached_kept t m o k = either (λ u. NoDelete (view u)) (is_some (t.at o)) _ _ 
 slot_kept : (s : Server) (o index number status : ℕ) → NoDelete (view s) → NoDelete (view (keep_slot s o index number status))
 slot_kept s o index number status k = either (λ u. NoDelete (view u)) (is_slot index) _ _ (λ _. k) (λ _. k)
 
-end_kept : (t : Server) (now : ℕ) (named : Option ℕ) (quiet : Bool) → NoDelete (view t) → NoDelete (view (end_if_named t now named quiet))
+pub end_kept : (t : Server) (now : ℕ) (named : Option ℕ) (quiet : Bool) → NoDelete (view t) → NoDelete (view (end_if_named t now named quiet))
 end_kept t now None quiet k = k
 end_kept t now (Some x) quiet k = λ o st. k o (grind arith)
 
