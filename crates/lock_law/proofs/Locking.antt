@@ -32,9 +32,12 @@ use Rattle.lock_law.proofs.Views.{view, expire_view}
 use Rattle.lock_law.proofs.Verdicts.{closes_in}
 use Rattle.lock_law.proofs.Rooms.{room_for_lock}
 use Rattle.lock_law.proofs.Sees.{LockSees, Deleted, NoTree, Away, Done, Again, Refused, Granted, lock_sees}
-use Rattle.lock_law.proofs.Serving.{Serving, Served, counted, not_acted, quiet_serve}
+use Rattle.lock_law.proofs.Serving.{Serving, Served, counted, not_acted, of_unmade, plain_other, adds_at, quiet_serve}
 use Rattle.lock_law.proofs.Writes.{writes_keeps}
 use Rattle.lock_law.proofs.Say.{MaySay}
+
+pub clash : (b : Bool) → b ≡ false → b ≡ true → true ≡ false
+clash b e f = sym f ∙ e
 
 -- ---- its request
 
@@ -147,7 +150,8 @@ lock_written c conns t a k g st0 j0 x0 sq rg acted w tk lk p st free grown room 
     let ok = ok_of c C.has_open g bd.0 kind in let mk = made_of c C.taken C.creates g bd.0 kind in
     writes_keeps c conns t a g st0 j0 sq rg (counted a (ForOp g) acted) lk bd.0 user free st (unfirm_of c conns t a k g x0 i w.front tk lk p user st free) grown
     (λ q m d. other_count a g q acted d)
-    (own_count a g st0 acted (i.not_kept g user st free) act) room
+    (own_count a g st0 acted (i.not_kept g user st free) act)
+    (λ q m. other_count a g q acted (λ e. absurd (let x = clash (makes_open (c.op q)) (subst (λ z. makes_open (c.op z) ≡ false) (sym e) kind) m in cc))) room
     (λ o. goes_same t sq rg _ j0 o)
     (λ q mq oq sq1 e. same_file c conns t a w.creates q (create_at c g) mq oq mk ok sq1 e)
     (λ q mq no1. unmade_at c conns t a w.creates q (create_at c g) no1 mk ok st)
@@ -179,9 +183,6 @@ same_op g h t e f = grind arith
 
 pub not_ask : (g h : ℕ) (t : Token) → t ≡ ForOp g → t ≡ ForAttach h → true ≡ false
 not_ask g h t e f = absurd (grind arith)
-
-pub clash : (b : Bool) → b ≡ false → b ≡ true → true ≡ false
-clash b e f = sym f ∙ e
 
 pub say_lock : (c : Client) (u : Server) (b : ℕ → ℕ) (g : ℕ) (y0 : Received) → y0.token ≡ ForOp g → locking (c.op g) ≡ true → Says c u b g y0.reply.status → MaySay c u b y0
 say_lock c u b g y0 tk lk s =
@@ -229,7 +230,8 @@ present_of c conns t a k g x0 w on = w.serving.low.fits.on_present x0.message.co
 quiet_lock : (c : Client) (conns : ℕ → Conn) (t : Server) (a : ℕ → ℕ) (k g : ℕ) (x0 : Sent) (now : ℕ) (v : Verdict) (rs : List Record) → Copy c conns t a k g x0 → (v ≡ check t x0.message) ⊎ (v ≡ without_room (check t x0.message)) → Rattle.lock_law.proofs.Verdicts.is_slot_verdict v ≡ false
     → (apply t x0.message now v).records ≡ [] → (apply t x0.message now v).acted ≡ false → Locks c conns (recorded (apply t x0.message now v) rs).server (counted a x0.token (apply t x0.message now v).acted)
 quiet_lock c conns t a k g x0 now v rs w is off bare quiet =
-    quiet_serve c conns t a k x0 now v rs (counted a x0.token (apply t x0.message now v).acted) w.serving (found t x0.message v is) off (λ big. bare)
+    quiet_serve c conns t a k x0 now v rs (counted a x0.token (apply t x0.message now v).acted) w.serving (found t x0.message v is) off (λ big. bare) (adds_at c conns t a k x0 v w.serving is)
+    (plain_other c conns t a k x0 _ w.serving (λ p m. ap (is_send_of p) w.token ∙ of_unmade c g p (lock_kind (c.op g) w.lock) m))
     (λ p m. not_acted a x0.token (apply t x0.message now v).acted p quiet)
     (λ h m s0 u lv p st cl off2. let n = no_close x0.message.command (open_at c g) (c.slot_of g) (c.number_of g) (open_at c h) (elements_in (c.op g)) w.command in absurd (grind arith))
     (λ j n h y e1 e2 ok lv p st cl off2. let n1 = no_close x0.message.command (open_at c g) (c.slot_of g) (c.number_of g) (open_at c h) (elements_in (c.op g)) w.command in absurd (grind arith))

@@ -4,7 +4,8 @@ use Rattle.std.proofs.lemmas.Bool.Decides.{nat_tests}
 use Rattle.std.proofs.Common.{eqb-true, ◌≡◌, ◌≢◌, ℕ, ◌+◌, ◌≤◌, ◌<◌, ◌==◌, ◌%◌, Bool, true, false, not, ◌&&◌, ◌||◌, if◌then◌else◌, List, [], ◌∷◌, ◌++◌, ◌⊎◌, inl, inr, refl, arith, sym, subst, ◌∙◌, ap, Option, Some, None, slice_get, is_some, zero, suc}
 use Rattle.exchange_defs.specs.Table.{put, put2}
 use Rattle.exchange_defs.specs.Status.{success, user_session_deleted, file_closed, object_name_not_found, no_memory, disk_full}
-use Rattle.exchange_defs.specs.Commands.{deletes_on_close}
+use Rattle.exchange_defs.specs.Commands.{TreeConnect, deletes_on_close}
+use Rattle.exchange_defs.specs.CheckSetup.{tree_in}
 use Rattle.exchange_defs.specs.State.{Server, Message, Reply, Kept, Range}
 use Rattle.exchange_defs.specs.Records.{lower_limit}
 use Rattle.exchange_defs.specs.Operations.{Op, Outcome, Why, is_unsettled, is_ok, is_create, is_close, is_lock, create_of, id_in, reconnect_of}
@@ -15,7 +16,7 @@ use Rattle.exchange_defs.specs.Network.{Conn, Sent, Received, Token, ForDialog, 
 use Rattle.exchange_law.specs.Connections.{Connections, copies, count_up, count_down, no_copy_out, makes_open, shuts_open, acts_once, its_create, its_request, create_at, opens, Once, Outstanding, OwnUp, AttachUp, OwnDown, AttachDown, DownOpen, OnReady, Ready, Stages, Settled, Taken, TakenOn, Creates, Lower, HasOpen, AskedOpen, Fresh, Bodies, First, Unsent, SentReplies, Deleted}
 use Rattle.exchange_law.proofs.Lists.{get-push, rest_of, own_up_count, own_down_count, attach_up_count, attach_down_count, front_up, front_down, waited, waited_down}
 use Rattle.session_law.specs.Sessions.{is_ops}
-use Rattle.lock_law.specs.Locks.{Locks, locking, kept_at, firm, is_unsent, refused_for_good, in_slots, user_at, open_at, kept_of, goes_with, SlotIndex, UserBody, InUse, AttachedLow, ShutOk, ShutGone, CloseBefore, CloseAfter, UnsentGone, AskedNew, NoSession, Unanswered, AskUp, AskDown, PresentUp, Users, CopyNow, RetriedOn, RetriedDone, CopyAttached, NowAttached, OpenedReply, JoinReply, JoinedReply, LostReply, KeptSays, NotKept, FirmKept, NoUser, NoSlots, FullDead, OkReply, NoReply, KeptReply, FirstReply, ClosedNot, KeptFiles, LeftFull, LeftStuck, LeftIdle, CloseDone, CloseFull, CloseStuck, AtMost, OkActed, RefusedNot}
+use Rattle.lock_law.specs.Locks.{Locks, locking, kept_at, firm, is_unsent, refused_for_good, in_slots, user_at, open_at, kept_of, goes_with, piped, all_piped, SlotIndex, UserBody, InUse, AttachedLow, ShutOk, ShutGone, CloseBefore, CloseAfter, UnsentGone, AskedNew, NoSession, Unanswered, AskUp, AskDown, PresentUp, Users, CopyNow, RetriedOn, RetriedDone, CopyAttached, NowAttached, OpenedReply, JoinReply, JoinedReply, LostReply, KeptSays, NotKept, FirmKept, NoUser, NoSlots, FullDead, OkReply, NoReply, KeptReply, FirstReply, ClosedNot, KeptFiles, LeftFull, LeftStuck, LeftIdle, CloseDone, CloseFull, CloseStuck, TreesOf, ShareUp, MadePlain, AtMost, OkActed, RefusedNot}
 use Rattle.lock_law.proofs.Words.{lock_kind, lock_stays, lock_once, close_kind, own_create, unsettled_firm, unsettled_unsent, unsettled_ok, unsettled_refused, unsent_firm, unsent_ok, ok_firm, ok_settled, firm_settled, unsent_settled, unsent_refused, refused_how, kept_none, kept_same, kept_other, kept_is_some, more_up, more_down, more_asks, down_is_open, up_on, down_on, ask_on, ok_of, made_of, own_ops, own_reply_ops, ask_reply_ops, split_at}
 
 moves_present_up : (c : Client) (conns : ℕ → Conn) (s : Server) (a : ℕ → ℕ) (s2 : Server) (a2 : ℕ → ℕ) → (s.journal ≤ s2.journal) → ((j n : ℕ) (x : Sent) → slice_get (conns j).up n ≡ Some x → is_ops x.token ≡ true → s2.present x.message.session ≡ true → s.present x.message.session ≡ true) → PresentUp c conns s → PresentUp c conns s2
@@ -134,6 +135,14 @@ moves_close_stuck : (c : Client) (conns : ℕ → Conn) (s : Server) (a : ℕ �
 moves_close_stuck c conns s a s2 a2 journal stands opened stuck C_creates C_has_open C_sent_replies C_taken i_close_stuck =
     λ j n p y h t m. let old = i_close_stuck j n p y h t m in let sent = C_sent_replies j n p y h t in let m1 = close_kind (c.op p) m in let ok1 = ok_of c C_has_open p sent m1 in let mk = made_of c C_taken C_creates p sent m1 in let sd = stands (create_at c p) mk ok1 in let op1 = opened (create_at c p) mk ok1 in let sk = stuck (create_at c p) mk ok1 in grind arith
 
+moves_trees_of : (c : Client) (conns : ℕ → Conn) (s : Server) (a : ℕ → ℕ) (s2 : Server) (a2 : ℕ → ℕ) → (s.journal ≤ s2.journal) → ((q : ℕ) → all_piped (piped c.who.share) (s2.trees q) ≡ true) → TreesOf c s → TreesOf c s2
+moves_trees_of c conns s a s2 a2 journal trees i_trees_of =
+    λ q. trees q
+
+moves_made_plain : (c : Client) (conns : ℕ → Conn) (s : Server) (a : ℕ → ℕ) (s2 : Server) (a2 : ℕ → ℕ) → (s.journal ≤ s2.journal) → ((q : ℕ) → makes_open (c.op q) ≡ true → 1 ≤ a2 q → piped c.who.share ≡ false) → MadePlain c a → MadePlain c a2
+moves_made_plain c conns s a s2 a2 journal plain i_made_plain =
+    λ q m l. plain q m l
+
 moves_at_most : (c : Client) (conns : ℕ → Conn) (s : Server) (a : ℕ → ℕ) (s2 : Server) (a2 : ℕ → ℕ) → ((p : ℕ) → locking (c.op p) ≡ true → a2 p ≡ a p) → (s.journal ≤ s2.journal) → AtMost c a → AtMost c a2
 moves_at_most c conns s a s2 a2 same_a journal i_at_most =
     λ p m. let old = i_at_most p m in let sa = same_a p m in grind arith
@@ -146,8 +155,8 @@ moves_refused_not : (c : Client) (conns : ℕ → Conn) (s : Server) (a : ℕ �
 moves_refused_not c conns s a s2 a2 same_a journal i_refused_not =
     λ p m. let old = i_refused_not p m in let sa = same_a p m in grind arith
 
-pub moves_keeps : (c : Client) (conns : ℕ → Conn) (s : Server) (a : ℕ → ℕ) (s2 : Server) (a2 : ℕ → ℕ) → ((p : ℕ) → locking (c.op p) ≡ true → a2 p ≡ a p) → (s.journal ≤ s2.journal) → ((j n : ℕ) (x : Sent) → slice_get (conns j).up n ≡ Some x → is_ops x.token ≡ true → s2.present x.message.session ≡ true → s.present x.message.session ≡ true) → (c.live ≡ true → s2.present c.session ≡ true → s.present c.session ≡ true) → ((q : ℕ) → makes_open (c.op q) ≡ true → is_ok (c.outcome q) ≡ true → s2.standing (c.file q) ≡ true → s.standing (c.file q) ≡ true) → ((o y : ℕ) → s.at o ≡ Some y → s2.standing o ≡ true → s2.present y ≡ true → s2.at o ≡ Some y) → ((q r : ℕ) → makes_open (c.op q) ≡ true → is_ok (c.outcome q) ≡ true → s2.standing (c.file q) ≡ true → s2.slots (c.file q) r ≡ s.slots (c.file q) r) → ((q : ℕ) → makes_open (c.op q) ≡ true → is_ok (c.outcome q) ≡ true → s2.standing (c.file q) ≡ true → (s2.opened (c.file q)).persistent ≡ (s.opened (c.file q)).persistent) → ((q : ℕ) → makes_open (c.op q) ≡ true → is_ok (c.outcome q) ≡ true → s2.standing (c.file q) ≡ true → (s.opened (c.file q)).persistent ≡ false → goes_with s (c.file q) ≡ true → lower_limit < s.journal + 34 → goes_with s2 (c.file q) ≡ true) → ((q r o : ℕ) → makes_open (c.op q) ≡ true → is_ok (c.outcome q) ≡ false → s2.by_guid c.who.guid (guid_for c q) ≡ Some o → s2.slots o r ≡ None) → ((o : ℕ) → s2.standing o ≡ true → deletes_on_close (s2.opened o).options ≡ false) → ((j n g : ℕ) (y : Received) → slice_get (conns j).down n ≡ Some y → y.token ≡ ForOp g → makes_open (c.op g) ≡ true → y.reply.status ≡ success → s2.standing (id_in y.reply.body) ≡ true → s.standing (id_in y.reply.body) ≡ true) → ((g : ℕ) → locking (c.op g) ≡ true → c.sent g ≡ true → is_unsettled (c.outcome g) ≡ true → c.live ≡ true → c.attached (create_at c g) ≡ c.number → s2.present c.session ≡ true → s.standing (open_at c g) ≡ true → s2.standing (open_at c g) ≡ false → a g ≡ 0) → ((j n g : ℕ) (y : Received) → slice_get (conns j).down n ≡ Some y → y.token ≡ ForAttach g → y.reply.status ≡ success → c.live ≡ true → s2.present c.session ≡ true → s.standing (open_at c g) ≡ true → s2.standing (open_at c g) ≡ false → c.attached (create_at c g) ≡ c.number) → Connections c conns a → Locks c conns s a → Locks c conns s2 a2
-moves_keeps c conns s a s2 a2 same_a journal stay stay_now stands keeps_at slots opened stuck unmade keeps open_stands closed joined C i =
+pub moves_keeps : (c : Client) (conns : ℕ → Conn) (s : Server) (a : ℕ → ℕ) (s2 : Server) (a2 : ℕ → ℕ) → ((p : ℕ) → locking (c.op p) ≡ true → a2 p ≡ a p) → (s.journal ≤ s2.journal) → ((j n : ℕ) (x : Sent) → slice_get (conns j).up n ≡ Some x → is_ops x.token ≡ true → s2.present x.message.session ≡ true → s.present x.message.session ≡ true) → (c.live ≡ true → s2.present c.session ≡ true → s.present c.session ≡ true) → ((q : ℕ) → makes_open (c.op q) ≡ true → is_ok (c.outcome q) ≡ true → s2.standing (c.file q) ≡ true → s.standing (c.file q) ≡ true) → ((o y : ℕ) → s.at o ≡ Some y → s2.standing o ≡ true → s2.present y ≡ true → s2.at o ≡ Some y) → ((q r : ℕ) → makes_open (c.op q) ≡ true → is_ok (c.outcome q) ≡ true → s2.standing (c.file q) ≡ true → s2.slots (c.file q) r ≡ s.slots (c.file q) r) → ((q : ℕ) → makes_open (c.op q) ≡ true → is_ok (c.outcome q) ≡ true → s2.standing (c.file q) ≡ true → (s2.opened (c.file q)).persistent ≡ (s.opened (c.file q)).persistent) → ((q : ℕ) → makes_open (c.op q) ≡ true → is_ok (c.outcome q) ≡ true → s2.standing (c.file q) ≡ true → (s.opened (c.file q)).persistent ≡ false → goes_with s (c.file q) ≡ true → lower_limit < s.journal + 34 → goes_with s2 (c.file q) ≡ true) → ((q r o : ℕ) → makes_open (c.op q) ≡ true → is_ok (c.outcome q) ≡ false → s2.by_guid c.who.guid (guid_for c q) ≡ Some o → s2.slots o r ≡ None) → ((q : ℕ) → all_piped (piped c.who.share) (s2.trees q) ≡ true) → ((q : ℕ) → makes_open (c.op q) ≡ true → 1 ≤ a2 q → piped c.who.share ≡ false) → ((o : ℕ) → s2.standing o ≡ true → deletes_on_close (s2.opened o).options ≡ false) → ((j n g : ℕ) (y : Received) → slice_get (conns j).down n ≡ Some y → y.token ≡ ForOp g → makes_open (c.op g) ≡ true → y.reply.status ≡ success → s2.standing (id_in y.reply.body) ≡ true → s.standing (id_in y.reply.body) ≡ true) → ((g : ℕ) → locking (c.op g) ≡ true → c.sent g ≡ true → is_unsettled (c.outcome g) ≡ true → c.live ≡ true → c.attached (create_at c g) ≡ c.number → s2.present c.session ≡ true → s.standing (open_at c g) ≡ true → s2.standing (open_at c g) ≡ false → a g ≡ 0) → ((j n g : ℕ) (y : Received) → slice_get (conns j).down n ≡ Some y → y.token ≡ ForAttach g → y.reply.status ≡ success → c.live ≡ true → s2.present c.session ≡ true → s.standing (open_at c g) ≡ true → s2.standing (open_at c g) ≡ false → c.attached (create_at c g) ≡ c.number) → Connections c conns a → Locks c conns s a → Locks c conns s2 a2
+moves_keeps c conns s a s2 a2 same_a journal stay stay_now stands keeps_at slots opened stuck unmade trees plain keeps open_stands closed joined C i =
     record {
       slot_index = i.slot_index;
       user_body = i.user_body;
@@ -192,6 +201,9 @@ moves_keeps c conns s a s2 a2 same_a journal stay stay_now stands keeps_at slots
       close_done = moves_close_done c conns s a s2 a2 journal stands opened C.creates C.has_open C.sent_replies C.taken i.close_done;
       close_full = moves_close_full c conns s a s2 a2 journal stands opened C.creates C.has_open C.sent_replies C.taken i.close_full;
       close_stuck = moves_close_stuck c conns s a s2 a2 journal stands opened stuck C.creates C.has_open C.sent_replies C.taken i.close_stuck;
+      trees_of = moves_trees_of c conns s a s2 a2 journal trees i.trees_of;
+      share_up = i.share_up;
+      made_plain = moves_made_plain c conns s a s2 a2 journal plain i.made_plain;
       at_most = moves_at_most c conns s a s2 a2 same_a journal i.at_most;
       ok_acted = moves_ok_acted c conns s a s2 a2 same_a journal i.ok_acted;
       refused_not = moves_refused_not c conns s a s2 a2 same_a journal i.refused_not;

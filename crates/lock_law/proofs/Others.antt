@@ -25,12 +25,13 @@ use Rattle.server_law.proofs.Checked.{found}
 use Rattle.session_law.specs.Sessions.{is_ops, is_dialog, logon_user}
 use Rattle.create_law.specs.Creates.{Creates, seen, named, guid_at, keeps_form}
 use Rattle.create_law.proofs.Requests.{create_asked, asks_create, asks_durable, asks_new, same_guid}
-use Rattle.lock_law.specs.Locks.{Locks, locking, open_at, user_at, kept_of, goes_with}
+use Rattle.lock_law.specs.Locks.{Locks, locking, open_at, user_at, kept_of, goes_with, piped}
+use Rattle.lock_law.proofs.Trees.{piped_in}
 use Rattle.lock_law.proofs.Words.{lock_kind, lock_stays, close_kind}
 use Rattle.lock_law.proofs.Views.{View, view, make_view}
 use Rattle.lock_law.proofs.Verdicts.{closes_in, is_slot_verdict}
 use Rattle.lock_law.proofs.Sees.{AskSees, Deleted3, NoTree3, Gone, Other, Held, Attached, ask_sees, create_says, create_sees}
-use Rattle.lock_law.proofs.Serving.{Serving, Served, counted, not_acted, not_sent, of_other, quiet_serve}
+use Rattle.lock_law.proofs.Serving.{Serving, Served, counted, not_acted, not_sent, of_other, of_unmade, plain_other, adds_at, quiet_serve}
 use Rattle.lock_law.proofs.Say.{MaySay}
 
 -- ---- what isn't a lock's
@@ -77,10 +78,11 @@ unfolding is_other closes_in
 no_close x o e = grind arith
 
 pub other_keeps : (c : Client) (conns : ℕ → Conn) (t : Server) (a : ℕ → ℕ) (k : ℕ) (x0 : Sent) (now : ℕ) (v : Verdict) (rs : List Record) → Serving c conns t a k x0 → Quietly c conns t a k x0 now v → is_other x0.message.command ≡ true
-    → ((p : ℕ) → locking (c.op p) ≡ true → is_send_of p x0.token ≡ false) → Locks c conns (recorded (apply t x0.message now v) rs).server (counted a x0.token (apply t x0.message now v).acted)
-other_keeps c conns t a k x0 now v rs w q oth unsent =
+    → ((p : ℕ) → locking (c.op p) ≡ true → is_send_of p x0.token ≡ false) → ((q : ℕ) → makes_open (c.op q) ≡ true → 1 ≤ counted a x0.token (apply t x0.message now v).acted q → piped c.who.share ≡ false)
+    → Locks c conns (recorded (apply t x0.message now v) rs).server (counted a x0.token (apply t x0.message now v).acted)
+other_keeps c conns t a k x0 now v rs w q oth unsent plain =
     let f = found t x0.message v q.0 in
-    quiet_serve c conns t a k x0 now v rs (counted a x0.token (apply t x0.message now v).acted) w f (slots_of t x0.message v f (λ o i n es. no_lock x0.message.command o i n es oth)) q.1
+    quiet_serve c conns t a k x0 now v rs (counted a x0.token (apply t x0.message now v).acted) w f (slots_of t x0.message v f (λ o i n es. no_lock x0.message.command o i n es oth)) q.1 (adds_at c conns t a k x0 v w q.0) plain
     (λ p m. not_sent a x0.token (apply t x0.message now v).acted p (unsent p m))
     (λ g m s0 u lv p st cl off. let n = no_close x0.message.command (open_at c g) oth in absurd (grind arith))
     (λ j n g y h e ok lv p st cl off. let n1 = no_close x0.message.command (open_at c g) oth in absurd (grind arith))
@@ -121,7 +123,7 @@ dialog_other x e = grind arith
 
 pub serves_dialog : (c : Client) (conns : ℕ → Conn) (t : Server) (a : ℕ → ℕ) (k : ℕ) (x0 : Sent) (now : ℕ) (v : Verdict) (rs : List Record) → Serving c conns t a k x0 → Quietly c conns t a k x0 now v → x0.token ≡ ForDialog → Served c conns a k x0 (recorded (apply t x0.message now v) rs)
 serves_dialog c conns t a k x0 now v rs w q tk =
-    (other_keeps c conns t a k x0 now v rs w q (dialog_other x0.message.command (w.dialog (ap is_ops tk))) (λ p m. ap (is_send_of p) tk),
+    (other_keeps c conns t a k x0 now v rs w q (dialog_other x0.message.command (w.dialog (ap is_ops tk))) (λ p m. ap (is_send_of p) tk) (plain_other c conns t a k x0 _ w (λ p m. ap (is_send_of p) tk)),
     λ o place. say_nothing c _ _ _ (record { unmade = λ g e. absurd (grind arith); unlocked = λ g e. absurd (grind arith); unshut = λ g e. absurd (grind arith); unasked = λ g e. absurd (grind arith) }))
 
 -- ---- an operation that neither makes, locks nor closes
@@ -145,7 +147,7 @@ not_ask g h t e f = absurd (grind arith)
 pub serves_other : (c : Client) (conns : ℕ → Conn) (t : Server) (a : ℕ → ℕ) (k : ℕ) (x0 : Sent) (now : ℕ) (v : Verdict) (rs : List Record) (g : ℕ) → Serving c conns t a k x0 → Quietly c conns t a k x0 now v → x0.token ≡ ForOp g
     → locking (c.op g) ≡ false → shuts_open (c.op g) ≡ false → makes_open (c.op g) ≡ false → Served c conns a k x0 (recorded (apply t x0.message now v) rs)
 serves_other c conns t a k x0 now v rs g w q tk l s m =
-    (other_keeps c conns t a k x0 now v rs w q (own_other c conns t a k x0 g w tk l s) (λ p f. unsent_other c x0 g p tk l f),
+    (other_keeps c conns t a k x0 now v rs w q (own_other c conns t a k x0 g w tk l s) (λ p f. unsent_other c x0 g p tk l f) (plain_other c conns t a k x0 _ w (λ p f. ap (is_send_of p) tk ∙ of_unmade c g p m f)),
     λ o place. say_nothing c _ _ _ (record {
       unmade = λ h e. subst (λ z. makes_open (c.op z) ≡ false) (same_op g h x0.token tk e) m;
       unlocked = λ h e. subst (λ z. locking (c.op z) ≡ false) (same_op g h x0.token tk e) l;
@@ -240,6 +242,32 @@ says_of : (t : Server) (m : Message) (v : Verdict) → (v ≡ check t m) ⊎ (v 
 says_of t m v (inl e) h = ap create_says e ∙ h
 says_of t m v (inr e) h = ap create_says e ∙ says_room (check t m) h
 
+-- one that acts makes an open, on no tree of the pipes
+still_count : (a : ℕ → ℕ) (tk : Token) (p n : ℕ) (acted : Bool) → acted ≡ false → 1 ≤ counted a tk acted p → 1 ≤ a p
+still_count a tk p n acted e l = subst (λ z. 1 ≤ z) (not_acted a tk acted p e) l
+
+plain_create : (c : Client) (conns : ℕ → Conn) (t : Server) (a : ℕ → ℕ) (k : ℕ) (x0 : Sent) (now : ℕ) (v : Verdict) → Serving c conns t a k x0 → Facts t x0.message v → create_says v ≡ true → (q : ℕ) → makes_open (c.op q) ≡ true → 1 ≤ counted a x0.token (apply t x0.message now v).acted q → piped c.who.share ≡ false
+plain_create c conns t a k x0 now (Make r found1 action) w f e q m l = sym (piped_in (piped c.who.share) (t.trees x0.message.session) x0.message.tree false (w.locks.trees_of x0.message.session) f.new.create.tree)
+plain_create c conns t a k x0 now (Refuse status) w f e q m l = w.locks.made_plain q m (still_count a x0.token q 0 false refl l)
+plain_create c conns t a k x0 now (KeepRefusal guid status) w f e q m l = w.locks.made_plain q m (still_count a x0.token q 0 false refl l)
+plain_create c conns t a k x0 now (Repeat o r) w f e q m l = w.locks.made_plain q m (still_count a x0.token q 0 false refl l)
+plain_create c conns t a k x0 now (Attach o r) w f e q m l = w.locks.made_plain q m (still_count a x0.token q 0 false refl l)
+plain_create c conns t a k x0 now (Give body) w f e q m l = absurd (cc)
+plain_create c conns t a k x0 now (TurnDown o status) w f e q m l = absurd (cc)
+plain_create c conns t a k x0 now (Tell o body) w f e q m l = absurd (cc)
+plain_create c conns t a k x0 now (Show o last body) w f e q m l = absurd (cc)
+plain_create c conns t a k x0 now (KeepSlot o i n status es) w f e q m l = absurd (cc)
+plain_create c conns t a k x0 now (PutRanges o i n ranges es) w f e q m l = absurd (cc)
+plain_create c conns t a k x0 now (Alter o change body) w f e q m l = absurd (cc)
+plain_create c conns t a k x0 now (Shut o body) w f e q m l = absurd (cc)
+plain_create c conns t a k x0 now Challenge w f e q m l = absurd (cc)
+plain_create c conns t a k x0 now (ChallengeBinding session) w f e q m l = absurd (cc)
+plain_create c conns t a k x0 now (Begin session user previous r is_quiet) w f e q m l = absurd (cc)
+plain_create c conns t a k x0 now (Join session) w f e q m l = absurd (cc)
+plain_create c conns t a k x0 now (EndSession session is_quiet) w f e q m l = absurd (cc)
+plain_create c conns t a k x0 now (AddTree pipes) w f e q m l = absurd (cc)
+plain_create c conns t a k x0 now DropTree w f e q m l = absurd (cc)
+
 pub serves_create : (c : Client) (conns : ℕ → Conn) (t : Server) (a : ℕ → ℕ) (k : ℕ) (x0 : Sent) (now : ℕ) (v : Verdict) (rs : List Record) (g : ℕ) → Serving c conns t a k x0 → Quietly c conns t a k x0 now v → x0.token ≡ ForOp g
     → makes_open (c.op g) ≡ true → Served c conns a k x0 (recorded (apply t x0.message now v) rs)
 serves_create c conns t a k x0 now v rs g w q tk mk =
@@ -249,7 +277,7 @@ serves_create c conns t a k x0 now v rs g w q tk mk =
     let is : x0.message.command ≡ Create r = b.1 ∙ asks_create (c.op g) (guid_for c g) (c.file (create_at c g)) (c.slot_of g) (c.number_of g) mk in
     let sees = create_sees t x0.message r (durable_of (guid_for c g) _) w.fault is (asks_new (c.op g) (guid_for c g) mk) (asks_durable (c.op g) (guid_for c g) mk) w.creates.refused_status in
     let gives = gives_by t x0.message now v (found t x0.message v q.0) (says_of t x0.message v q.0 sees) in
-    (other_keeps c conns t a k x0 now v rs w q (own_other c conns t a k x0 g w tk l s) (λ p f. unsent_other c x0 g p tk l f),
+    (other_keeps c conns t a k x0 now v rs w q (own_other c conns t a k x0 g w tk l s) (λ p f. unsent_other c x0 g p tk l f) (λ p f one. plain_create c conns t a k x0 now v w (found t x0.message v q.0) (says_of t x0.message v q.0 sees) p f one),
     λ o place. let cur = w.current (ap is_ops tk) o in
     record {
       of_ask_down = λ h e. absurd (let x = not_ask g h x0.token tk e in cc);
@@ -389,9 +417,9 @@ serves_ask c conns t a k x0 now v rs g w q tk =
     let r = asked_again op guid file in
     let is : x0.message.command ≡ Create r = ad.4 ∙ ask_request op guid file cr.2 in
     let fm = ask_form op guid file cr.2 (w.creates.form_acted (create_at c g) cr.2 (w.creates.ok_acted (create_at c g) cr.2 ad.3)) in
-    let sees = ask_of t x0.message r (record { file = file; guid = guid }) v q.0 (ask_sees t x0.message r (record { file = file; guid = guid }) w.fault is (ask_reconnect op guid file cr.2) fm (λ pipes e. w.flat g pipes tk e)) in
+    let sees = ask_of t x0.message r (record { file = file; guid = guid }) v q.0 (ask_sees t x0.message r (record { file = file; guid = guid }) w.fault is (ask_reconnect op guid file cr.2) fm (λ pipes e. piped_in (piped c.who.share) (t.trees x0.message.session) x0.message.tree pipes (w.locks.trees_of x0.message.session) e ∙ w.locks.made_plain (create_at c g) cr.2 (w.creates.ok_acted (create_at c g) cr.2 ad.3))) in
     let says = asked_by c conns t a k x0 now g r v w tk cr.2 ad.3 sees in
-    (other_keeps c conns t a k x0 now v rs w q (ap is_other ad.4 ∙ ask_other op guid file) (λ p f. ap (is_send_of p) tk),
+    (other_keeps c conns t a k x0 now v rs w q (ap is_other ad.4 ∙ ask_other op guid file) (λ p f. ap (is_send_of p) tk) (plain_other c conns t a k x0 _ w (λ p f. ap (is_send_of p) tk)),
     λ o place. let cur = w.current (ap is_ops tk) o in
     record {
       of_ask_down = λ h e. subst (λ z. 0 < z × z ≤ c.taken × makes_open (c.op z) ≡ false × is_ok (c.outcome (create_at c z)) ≡ true) (same_ask g h x0.token tk e) (ad.0, ad.1, ad.2, ad.3);

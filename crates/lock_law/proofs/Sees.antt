@@ -20,7 +20,7 @@ use Rattle.lock_law.specs.Locks.{kept_at}
 
 -- ---- behind the session and the tree
 
-through : (P : Verdict → Type 0) (s : Server) (m : Message) → m.fault ≡ None → is_setup m.command ≡ false → P (Refuse user_session_deleted) → ((status : ℕ) → form m.command ≡ Some status → P (Refuse status))
+pub through : (P : Verdict → Type 0) (s : Server) (m : Message) → m.fault ≡ None → is_setup m.command ≡ false → P (Refuse user_session_deleted) → ((status : ℕ) → form m.command ≡ Some status → P (Refuse status))
     → (s.on m.connection ≡ Some m.session → form m.command ≡ None → P (command_check s m m.command)) → P (check s m)
 through P s m fault work gone bad go =
     either P (is_setup m.command || has_session s m) _ _

@@ -38,7 +38,6 @@ pub record Under (c : Client) (conns : ℕ → Conn) (s : Server) (a : ℕ → �
   pub sessions : Sessions c conns s
   pub creates : Creates c conns (seen s) a
   pub fits : Fits s
-  pub flat : (k g : ℕ) (x0 : Sent) (pipes : Bool) → slice_get (conns k).up 0 ≡ Some x0 → x0.token ≡ ForAttach g → tree_in (s.trees x0.message.session) x0.message.tree ≡ Some pipes → pipes ≡ false
 
 pub lower_of : (c : Client) (conns : ℕ → Conn) (s : Server) (a : ℕ → ℕ) → Under c conns s a → Lower c conns s
 lower_of c conns s a u =
@@ -87,7 +86,7 @@ serving_at c conns s a k x0 now t u i front b full =
       users = λ y p. subst (λ (z : Rest). z.present y ≡ true → z.user y ≡ Rattle.session_law.specs.Sessions.logon_user c.who.logon) (sym r) (u.sessions.session_users y) p;
       trees = λ o. subst (λ (z : Rest). z.present x0.message.session ≡ true → is_some (tree_in (z.trees x0.message.session) x0.message.tree) ≡ true) (sym r) (u.sessions.tree_up k 0 x0 front o);
       dialog = λ o. (u.sessions.dialog_up k 0 x0 front o).1;
-      flat = λ g pipes e t1. u.flat k g x0 pipes front e (subst (λ (z : Rest). tree_in (z.trees x0.message.session) x0.message.tree ≡ Some pipes) r t1);
+      work = λ o. u.sessions.work_up k 0 x0 front o;
     }
 
 -- ---- where the records fit

@@ -4,7 +4,8 @@ use Rattle.std.proofs.lemmas.Bool.Decides.{nat_tests}
 use Rattle.std.proofs.Common.{eqb-true, ◌≡◌, ◌≢◌, ℕ, ◌+◌, ◌≤◌, ◌<◌, ◌==◌, ◌%◌, Bool, true, false, not, ◌&&◌, ◌||◌, if◌then◌else◌, List, [], ◌∷◌, ◌++◌, ◌⊎◌, inl, inr, refl, arith, sym, subst, ◌∙◌, ap, Option, Some, None, slice_get, is_some, zero, suc}
 use Rattle.exchange_defs.specs.Table.{put, put2}
 use Rattle.exchange_defs.specs.Status.{success, user_session_deleted, file_closed, object_name_not_found, no_memory, disk_full}
-use Rattle.exchange_defs.specs.Commands.{deletes_on_close}
+use Rattle.exchange_defs.specs.Commands.{TreeConnect, deletes_on_close}
+use Rattle.exchange_defs.specs.CheckSetup.{tree_in}
 use Rattle.exchange_defs.specs.State.{Server, Message, Reply, Kept, Range}
 use Rattle.exchange_defs.specs.Records.{lower_limit}
 use Rattle.exchange_defs.specs.Operations.{Op, Outcome, Why, is_unsettled, is_ok, is_create, is_close, is_lock, create_of, id_in, reconnect_of}
@@ -15,7 +16,7 @@ use Rattle.exchange_defs.specs.Network.{Conn, Sent, Received, Token, ForDialog, 
 use Rattle.exchange_law.specs.Connections.{Connections, copies, count_up, count_down, no_copy_out, makes_open, shuts_open, acts_once, its_create, its_request, create_at, opens, Once, Outstanding, OwnUp, AttachUp, OwnDown, AttachDown, DownOpen, OnReady, Ready, Stages, Settled, Taken, TakenOn, Creates, Lower, HasOpen, AskedOpen, Fresh, Bodies, First, Unsent, SentReplies, Deleted}
 use Rattle.exchange_law.proofs.Lists.{get-push, rest_of, own_up_count, own_down_count, attach_up_count, attach_down_count, front_up, front_down, waited, waited_down}
 use Rattle.session_law.specs.Sessions.{is_ops}
-use Rattle.lock_law.specs.Locks.{Locks, locking, kept_at, firm, is_unsent, refused_for_good, in_slots, user_at, open_at, kept_of, goes_with, SlotIndex, UserBody, InUse, AttachedLow, ShutOk, ShutGone, CloseBefore, CloseAfter, UnsentGone, AskedNew, NoSession, Unanswered, AskUp, AskDown, PresentUp, Users, CopyNow, RetriedOn, RetriedDone, CopyAttached, NowAttached, OpenedReply, JoinReply, JoinedReply, LostReply, KeptSays, NotKept, FirmKept, NoUser, NoSlots, FullDead, OkReply, NoReply, KeptReply, FirstReply, ClosedNot, KeptFiles, LeftFull, LeftStuck, LeftIdle, CloseDone, CloseFull, CloseStuck, AtMost, OkActed, RefusedNot}
+use Rattle.lock_law.specs.Locks.{Locks, locking, kept_at, firm, is_unsent, refused_for_good, in_slots, user_at, open_at, kept_of, goes_with, piped, all_piped, SlotIndex, UserBody, InUse, AttachedLow, ShutOk, ShutGone, CloseBefore, CloseAfter, UnsentGone, AskedNew, NoSession, Unanswered, AskUp, AskDown, PresentUp, Users, CopyNow, RetriedOn, RetriedDone, CopyAttached, NowAttached, OpenedReply, JoinReply, JoinedReply, LostReply, KeptSays, NotKept, FirmKept, NoUser, NoSlots, FullDead, OkReply, NoReply, KeptReply, FirstReply, ClosedNot, KeptFiles, LeftFull, LeftStuck, LeftIdle, CloseDone, CloseFull, CloseStuck, TreesOf, ShareUp, MadePlain, AtMost, OkActed, RefusedNot}
 use Rattle.lock_law.proofs.Words.{lock_kind, lock_stays, lock_once, close_kind, own_create, unsettled_firm, unsettled_unsent, unsettled_ok, unsettled_refused, unsent_firm, unsent_ok, ok_firm, ok_settled, firm_settled, unsent_settled, unsent_refused, refused_how, kept_none, kept_same, kept_other, kept_is_some, more_up, more_down, more_asks, down_is_open, up_on, down_on, ask_on, ok_of, made_of, own_ops, own_reply_ops, ask_reply_ops, split_at}
 
 in_use_out : (c : Client) (p : ℕ) → InUse c → Settled c → c.sent p ≡ true → locking (c.op p) ≡ true → (j : ℕ) → c.on p ≡ Some j → user_at c p ≡ Some p
@@ -107,6 +108,10 @@ writes_close_stuck : (c : Client) (conns : ℕ → Conn) (s : Server) (a : ℕ �
 writes_close_stuck c conns s a g st0 j0 sq rg a2 lock sent user free stands unfirm journal own goes_same i_close_stuck =
     λ j n p y h t. let old = i_close_stuck j n p y h t in let gs = goes_same (open_at c p) in grind arith
 
+writes_made_plain : (c : Client) (conns : ℕ → Conn) (s : Server) (a : ℕ → ℕ) (g st0 j0 : ℕ) (sq : ℕ → ℕ) (rg : ℕ → List Range) (a2 : ℕ → ℕ) → (locking (c.op g) ≡ true) → (c.sent g ≡ true) → (user_at c g ≡ Some g) → (kept_of c s g ≡ None) → (s.standing (open_at c g) ≡ true) → (firm (c.outcome g) ≡ false) → (s.journal ≤ j0) → (a2 g ≡ (if st0 == success then 1 else 0)) → ((q : ℕ) → makes_open (c.op q) ≡ true → a2 q ≡ a q) → MadePlain c a → MadePlain c a2
+writes_made_plain c conns s a g st0 j0 sq rg a2 lock sent user free stands unfirm journal own creates_same i_made_plain =
+    λ q m l. let cs = creates_same q m in i_made_plain q m (subst (λ z. 1 ≤ z) cs l)
+
 writes_at_most : (c : Client) (conns : ℕ → Conn) (s : Server) (a : ℕ → ℕ) (g st0 j0 : ℕ) (sq : ℕ → ℕ) (rg : ℕ → List Range) (a2 : ℕ → ℕ) → (locking (c.op g) ≡ true) → (c.sent g ≡ true) → (user_at c g ≡ Some g) → (kept_of c s g ≡ None) → (s.standing (open_at c g) ≡ true) → (firm (c.outcome g) ≡ false) → (s.journal ≤ j0) → ((p : ℕ) → locking (c.op p) ≡ true → p ≢ g → a2 p ≡ a p) → (a2 g ≡ (if st0 == success then 1 else 0)) → AtMost c a → AtMost c a2
 writes_at_most c conns s a g st0 j0 sq rg a2 lock sent user free stands unfirm journal others own i_at_most =
     λ p m. let old = i_at_most p m in let ot = others p m in let ow = own in grind arith
@@ -119,8 +124,8 @@ writes_refused_not : (c : Client) (conns : ℕ → Conn) (s : Server) (a : ℕ �
 writes_refused_not c conns s a g st0 j0 sq rg a2 lock sent user free stands unfirm journal others own i_refused_not i_unsent_gone =
     λ p m e. let old = i_refused_not p m e in let ot = others p m in let rh = refused_how (c.outcome p) e in let ug = i_unsent_gone p in grind arith
 
-pub writes_keeps : (c : Client) (conns : ℕ → Conn) (s : Server) (a : ℕ → ℕ) (g st0 j0 : ℕ) (sq : ℕ → ℕ) (rg : ℕ → List Range) (a2 : ℕ → ℕ) → (locking (c.op g) ≡ true) → (c.sent g ≡ true) → (user_at c g ≡ Some g) → (kept_of c s g ≡ None) → (s.standing (open_at c g) ≡ true) → (firm (c.outcome g) ≡ false) → (s.journal ≤ j0) → ((p : ℕ) → locking (c.op p) ≡ true → p ≢ g → a2 p ≡ a p) → (a2 g ≡ (if st0 == success then 1 else 0)) → ((s.opened (open_at c g)).persistent ≡ true → s.journal + 66 ≤ lower_limit) → ((o : ℕ) → goes_with (record s { sequence = sq; ranges = rg; slots = put2 s.slots (open_at c g) (c.slot_of g) (Some (record { number = c.number_of g; status = st0 })); journal = j0 }) o ≡ goes_with s o) → ((q : ℕ) → makes_open (c.op q) ≡ true → is_ok (c.outcome q) ≡ true → s.standing (c.file q) ≡ true → c.file q ≡ open_at c g → q ≡ create_at c g) → ((q : ℕ) → makes_open (c.op q) ≡ true → is_ok (c.outcome q) ≡ false → s.by_guid c.who.guid (guid_for c q) ≢ Some (open_at c g)) → (c.before g ≡ false → (j n : ℕ) (y : Received) → slice_get (conns j).down n ≡ Some y → y.token ≢ ForOp g) → Connections c conns a → Locks c conns s a → Locks c conns (record s { sequence = sq; ranges = rg; slots = put2 s.slots (open_at c g) (c.slot_of g) (Some (record { number = c.number_of g; status = st0 })); journal = j0 }) a2
-writes_keeps c conns s a g st0 j0 sq rg a2 lock sent user free stands unfirm journal others own room goes_same inj unmade alone C i =
+pub writes_keeps : (c : Client) (conns : ℕ → Conn) (s : Server) (a : ℕ → ℕ) (g st0 j0 : ℕ) (sq : ℕ → ℕ) (rg : ℕ → List Range) (a2 : ℕ → ℕ) → (locking (c.op g) ≡ true) → (c.sent g ≡ true) → (user_at c g ≡ Some g) → (kept_of c s g ≡ None) → (s.standing (open_at c g) ≡ true) → (firm (c.outcome g) ≡ false) → (s.journal ≤ j0) → ((p : ℕ) → locking (c.op p) ≡ true → p ≢ g → a2 p ≡ a p) → (a2 g ≡ (if st0 == success then 1 else 0)) → ((q : ℕ) → makes_open (c.op q) ≡ true → a2 q ≡ a q) → ((s.opened (open_at c g)).persistent ≡ true → s.journal + 66 ≤ lower_limit) → ((o : ℕ) → goes_with (record s { sequence = sq; ranges = rg; slots = put2 s.slots (open_at c g) (c.slot_of g) (Some (record { number = c.number_of g; status = st0 })); journal = j0 }) o ≡ goes_with s o) → ((q : ℕ) → makes_open (c.op q) ≡ true → is_ok (c.outcome q) ≡ true → s.standing (c.file q) ≡ true → c.file q ≡ open_at c g → q ≡ create_at c g) → ((q : ℕ) → makes_open (c.op q) ≡ true → is_ok (c.outcome q) ≡ false → s.by_guid c.who.guid (guid_for c q) ≢ Some (open_at c g)) → (c.before g ≡ false → (j n : ℕ) (y : Received) → slice_get (conns j).down n ≡ Some y → y.token ≢ ForOp g) → Connections c conns a → Locks c conns s a → Locks c conns (record s { sequence = sq; ranges = rg; slots = put2 s.slots (open_at c g) (c.slot_of g) (Some (record { number = c.number_of g; status = st0 })); journal = j0 }) a2
+writes_keeps c conns s a g st0 j0 sq rg a2 lock sent user free stands unfirm journal others own creates_same room goes_same inj unmade alone C i =
     record {
       slot_index = i.slot_index;
       user_body = i.user_body;
@@ -165,6 +170,9 @@ writes_keeps c conns s a g st0 j0 sq rg a2 lock sent user free stands unfirm jou
       close_done = i.close_done;
       close_full = writes_close_full c conns s a g st0 j0 sq rg a2 lock sent user free stands unfirm journal own i.close_full;
       close_stuck = writes_close_stuck c conns s a g st0 j0 sq rg a2 lock sent user free stands unfirm journal own goes_same i.close_stuck;
+      trees_of = i.trees_of;
+      share_up = i.share_up;
+      made_plain = writes_made_plain c conns s a g st0 j0 sq rg a2 lock sent user free stands unfirm journal own creates_same i.made_plain;
       at_most = writes_at_most c conns s a g st0 j0 sq rg a2 lock sent user free stands unfirm journal others own i.at_most;
       ok_acted = writes_ok_acted c conns s a g st0 j0 sq rg a2 lock sent user free stands unfirm journal others own i.ok_acted;
       refused_not = writes_refused_not c conns s a g st0 j0 sq rg a2 lock sent user free stands unfirm journal others own i.refused_not i.unsent_gone;

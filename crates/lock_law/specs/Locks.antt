@@ -1,10 +1,12 @@
 -- What holds of locks and unlocks in every world that a run leads to, where each operation acted a g times: between the
 -- client's slots, what waits on the connections, and what the server's opens keep.
-use Rattle.std.specs.Prelude.{◌≡◌, ◌≢◌, ℕ, ◌+◌, ◌≤◌, ◌<◌, ◌==◌, Bool, true, false, if◌then◌else◌, Option, Some, None, is_some, slice_get}
+use Rattle.std.specs.Prelude.{◌≡◌, ◌≢◌, ℕ, ◌+◌, ◌≤◌, ◌<◌, ◌==◌, Bool, true, false, if◌then◌else◌, List, [], ◌∷◌, not, ◌&&◌, Option, Some, None, is_some, slice_get}
 use Rattle.exchange_defs.specs.Status.{success, user_session_deleted, file_closed, object_name_not_found, no_memory, disk_full}
-use Rattle.exchange_defs.specs.Commands.{deletes_on_close}
-use Rattle.exchange_defs.specs.State.{Server, Kept}
+use Rattle.exchange_defs.specs.Texts.{same_name}
+use Rattle.exchange_defs.specs.Commands.{TreeConnect, deletes_on_close}
+use Rattle.exchange_defs.specs.State.{Server, Kept, Tree}
 use Rattle.exchange_defs.specs.Opens.{goes, drop_open, marked_by}
+use Rattle.exchange_defs.specs.CheckSetup.{pipes_name}
 use Rattle.exchange_defs.specs.CheckOpen.{is_slot, kept_status}
 use Rattle.exchange_defs.specs.Records.{lower_limit}
 use Rattle.exchange_defs.specs.Operations.{Op, Outcome, NoSlot, NoOpen, is_unsettled, is_ok, is_firm, is_lock, id_in, reconnect_of}
@@ -219,6 +221,25 @@ CloseFull c conns s = (k n h : ℕ) (y : Received) → slice_get (conns k).down 
 abbrev pub CloseStuck : Client → (ℕ → Conn) → Server → Type 0
 CloseStuck c conns s = (k n h : ℕ) (y : Received) → slice_get (conns k).down n ≡ Some y → y.token ≡ ForOp h → shuts_open (c.op h) ≡ true → y.reply.status ≢ user_session_deleted → y.reply.status ≢ file_closed → s.standing (open_at c h) ≡ true → (s.opened (open_at c h)).persistent ≡ false → lower_limit < s.journal + 34 × goes_with s (open_at c h) ≡ true
 
+-- ---- trees: each is of the client's share, on which creates act, if any acted
+
+unfoldable pub piped : List ℕ → Bool
+piped share = same_name share pipes_name
+
+-- each is one of the pipes, or none is
+unfoldable pub all_piped : Bool → List Tree → Bool
+all_piped p [] = true
+all_piped p (t ∷ ts) = (if p then t.pipes else not t.pipes) && all_piped p ts
+
+abbrev pub TreesOf : Client → Server → Type 0
+TreesOf c s = (x : ℕ) → all_piped (piped c.who.share) (s.trees x) ≡ true
+
+abbrev pub ShareUp : Client → (ℕ → Conn) → Type 0
+ShareUp c conns = (k n : ℕ) (x : Sent) (share : List ℕ) → slice_get (conns k).up n ≡ Some x → is_ops x.token ≡ false → x.message.command ≡ TreeConnect share → share ≡ c.who.share
+
+abbrev pub MadePlain : Client → (ℕ → ℕ) → Type 0
+MadePlain c a = (q : ℕ) → makes_open (c.op q) ≡ true → 1 ≤ a q → piped c.who.share ≡ false
+
 -- ---- what is to be shown
 
 abbrev pub AtMost : Client → (ℕ → ℕ) → Type 0
@@ -274,6 +295,9 @@ pub record Locks (c : Client) (conns : ℕ → Conn) (s : Server) (a : ℕ → �
   pub close_done : CloseDone c conns s
   pub close_full : CloseFull c conns s
   pub close_stuck : CloseStuck c conns s
+  pub trees_of : TreesOf c s
+  pub share_up : ShareUp c conns
+  pub made_plain : MadePlain c a
   pub at_most : AtMost c a
   pub ok_acted : OkActed c a
   pub refused_not : RefusedNot c a
