@@ -44,3 +44,4 @@ pub mod Locking
 pub mod Closing
 pub mod Serve
 pub mod Ends
+pub mod Pushing
