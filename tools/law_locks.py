@@ -16,6 +16,7 @@ PARTS = {
     "slot_index": ("c", "p", "sent op slot_of"),
     "user_body": ("c", "q r p", "slot_user op slot_of sent"),
     "in_use": ("c", "p", "sent op outcome slot_user slot_of"),
+    "full_free": ("c", "p", "sent op outcome full slot_of"),
     "attached_low": ("c", "q", "attached number"),
     "shut_ok": ("c", "p", "op outcome shut"),
     "shut_gone": ("c", "p", "taken op shut sent outcome"),
@@ -101,7 +102,7 @@ HEAD = """use Rattle.std.proofs.lemmas.Bool.{eqb-false}
 use Rattle.std.proofs.lemmas.Bool.Decides.{nat_tests}
 use Rattle.std.proofs.Common.{eqb-true, ◌≡◌, ◌≢◌, ℕ, ◌+◌, ◌≤◌, ◌<◌, ◌==◌, ◌%◌, Bool, true, false, not, ◌&&◌, ◌||◌, if◌then◌else◌, List, [], ◌∷◌, ◌++◌, ◌⊎◌, inl, inr, refl, arith, sym, subst, ◌∙◌, ap, Option, Some, None, slice_get, is_some, zero, suc}
 use Rattle.exchange_defs.specs.Table.{put, put2}
-use Rattle.exchange_defs.specs.Status.{success, user_session_deleted, file_closed, object_name_not_found, no_memory, disk_full}
+use Rattle.exchange_defs.specs.Status.{success, user_session_deleted, file_closed, object_name_not_found, disk_full}
 use Rattle.exchange_defs.specs.Commands.{TreeConnect, deletes_on_close}
 use Rattle.exchange_defs.specs.CheckSetup.{tree_in}
 use Rattle.exchange_defs.specs.State.{Server, Message, Reply, Kept, Range}
@@ -158,6 +159,7 @@ submit = event("Submit", "an operation is taken", "taken op outcome", "(g : ℕ)
           "slot_index": "λ p s0. let tk = C.taken p s0 in let old = i.slot_index p s0 in grind arith",
           "user_body": "λ q r p e. let old = i.user_body q r p e in let tk = C.taken p old.3 in grind arith",
           "in_use": "λ p s0. let tk = C.taken p s0 in let old = i.in_use p s0 in grind arith",
+          "full_free": "λ p s0. let tk = C.taken p s0 in let old = i.full_free p s0 in grind arith",
           "shut_gone": "λ p l m. let old = i.shut_gone p l in let g1 = gone in grind arith",
           "close_before": "λ p q s0. let tk = C.taken p s0 in let old = i.close_before p q s0 in grind arith",
           "close_after": "λ q p s0. let tk = C.taken q s0 in let old = i.close_after q p s0 in grind arith",
@@ -290,23 +292,21 @@ for part in DOWN:
             opens.parts[part] = more(part, "let s1 = C.sent_replies j n p y h t in let ok1 = ok_of c C.has_open p s1 in let os = ok_settled (c.outcome (create_at c p)) in let ck = close_kind (c.op p) in let lk = lock_kind (c.op p) in ")
         else:
             opens.parts[part] = more(part, "let ad = i.ask_down j n p y h t in let os = ok_settled (c.outcome (create_at c p)) ad.3 in ")
-event("Fills", "a lock met a full disk", "full", "(q0 i0 : ℕ)", [("unfirm", "(h : ℕ) → c.slot_user q0 i0 ≡ Some h → firm (c.outcome h) ≡ false")],
-      c="(record c { full = put2 c.full q0 i0 true })",
-      parts={"full_dead": "λ j n p x h t l. let old = i.full_dead j n p x h t l in let us = i.users j n p x h t l in let uf = unfirm p in grind arith"})
 SAME = [("same", "(h : ℕ) → h ≢ g → is_unsettled (c.outcome h) ≡ false → new h ≡ c.outcome h"),
         ("gives", "(h : ℕ) → h ≢ g → is_unsettled (c.outcome h) ≡ true → is_unsettled (new h) ≡ false → is_unsent (new h) ≡ true × c.sent h ≡ false")]
-settle = event("Settle", "a reply settles its operation", "outcome on shut", "(k g : ℕ) (o0 : Outcome) (new : ℕ → Outcome) (sh : ℕ → Bool) (by0 : ℕ → Option ℕ) (order0 : List ℕ)",
+settle = event("Settle", "a reply settles its operation", "outcome on shut full", "(k g : ℕ) (o0 : Outcome) (new : ℕ → Outcome) (sh : ℕ → Bool) (fu : ℕ → ℕ → Bool) (by0 : ℕ → Option ℕ) (order0 : List ℕ)",
       [("on", "c.on g ≡ Some k"), ("own", "new g ≡ o0"), ("settled0", "is_unsettled o0 ≡ false"), ("real", "is_unsent o0 ≡ false")] + SAME
       + [("gone", "(p : ℕ) → 0 < p → p ≤ c.taken → makes_open (c.op p) ≡ false → sh (create_at c p) ≡ true → c.sent p ≡ false → is_unsettled (new p) ≡ false"),
          ("shuts", "(h : ℕ) → shuts_open (c.op h) ≡ true → is_ok (new h) ≡ true → sh (create_at c h) ≡ true"),
-         ("kept", "firm o0 ≡ true → user_at c g ≡ Some g → c.full (create_at c g) (c.slot_of g) ≡ false → s.standing (open_at c g) ≡ true → is_some (kept_of c s g) ≡ true"),
+         ("full_same", "(p : ℕ) → p ≢ g → user_at c p ≡ Some p → fu (create_at c p) (c.slot_of p) ≡ c.full (create_at c p) (c.slot_of p)"),
+         ("kept", "firm o0 ≡ true → user_at c g ≡ Some g → fu (create_at c g) (c.slot_of g) ≡ false → s.standing (open_at c g) ≡ true → is_some (kept_of c s g) ≡ true"),
          ("made", "(r : ℕ) → is_ok o0 ≡ true → makes_open (c.op g) ≡ true → s.standing (c.file g) ≡ true → s.slots (c.file g) r ≡ None"),
          ("near", "makes_open (c.op g) ≡ true → is_ok o0 ≡ true → c.live ≡ true → s.present c.session ≡ true → s.standing (c.file g) ≡ true → s.at (c.file g) ≡ Some c.session"),
-         ("dead", "(j n : ℕ) (x : Sent) → slice_get (conns j).up n ≡ Some x → x.token ≡ ForOp g → locking (c.op g) ≡ true → firm o0 ≡ true → s.present x.message.session ≡ true → c.full (create_at c g) (c.slot_of g) ≡ false"),
+         ("dead", "(j n : ℕ) (x : Sent) → slice_get (conns j).up n ≡ Some x → x.token ≡ ForOp g → locking (c.op g) ≡ true → firm o0 ≡ true → s.present x.message.session ≡ true → fu (create_at c g) (c.slot_of g) ≡ false"),
          ("full", "(j n : ℕ) (x : Sent) → slice_get (conns j).up n ≡ Some x → x.token ≡ ForOp g → shuts_open (c.op g) ≡ true → is_ok o0 ≡ false → s.present x.message.session ≡ true → s.standing (open_at c g) ≡ true → (s.opened (open_at c g)).persistent ≡ true → lower_limit < s.journal + 66"),
          ("stuck", "(j n : ℕ) (x : Sent) → slice_get (conns j).up n ≡ Some x → x.token ≡ ForOp g → shuts_open (c.op g) ≡ true → is_ok o0 ≡ false → s.present x.message.session ≡ true → s.standing (open_at c g) ≡ true → (s.opened (open_at c g)).persistent ≡ false → lower_limit < s.journal + 34 × goes_with s (open_at c g) ≡ true"),
          ("acted", "locking (c.op g) ≡ true → is_ok o0 ≡ true → a g ≡ 1"), ("unacted", "locking (c.op g) ≡ true → refused_for_good o0 ≡ true → a g ≡ 0")],
-      c="(record c { outcome = new; on = put c.on g None; by = by0; order = order0; shut = sh })",
+      c="(record c { outcome = new; on = put c.on g None; by = by0; order = order0; shut = sh; full = fu })",
       parts={
           "shut_gone": "λ p l m e f. gone p l m e f", "shut_ok": "λ p. shuts p",
       })
@@ -322,13 +322,14 @@ settle.parts.update({
     "close_before": "λ p q s0 m l l2 e f. let old = i.close_before p q s0 m l l2 e f in let pend = C.settled g in let sm = same q in grind arith",
     "close_after": "λ q p s0 f l l2 e m. let old = i.close_after q p s0 f l l2 e m in let sm = same p in grind arith",
     "unsent_gone": "λ p. let old = i.unsent_gone p in " + PEND + "grind arith",
-    "firm_kept": "λ p e f. let old = i.firm_kept p e in let kp = kept in let wf = was_firm c g new p (same p) (gives p) in grind arith",
+    "full_free": "λ p s0 l u. let old = i.full_free p s0 l in let sm = same p in let gv = gives p in let uf = unsettled_firm (c.outcome p) in let iu = i.in_use p s0 l in let fs = full_same p in grind arith",
+    "firm_kept": "λ p e f. let old = i.firm_kept p e in let kp = kept in let fs = full_same p in let wf = was_firm c g new p (same p) (gives p) in grind arith",
     "no_user": "λ q r. let old = i.no_user q r in let md = made r in let sm = same q in let gv = gives q in let so = unsent_ok (new q) in let us = unsettled_ok (new q) in grind arith",
     "no_slots": "λ q r o m. let old = i.no_slots q r o m in let sm = same q in let os = ok_settled (c.outcome q) in let pend = C.settled g in grind arith",
     "now_attached": "λ q m. let old = i.now_attached q m in let nr = near in let sm = same q in let gv = gives q in let so = unsent_ok (new q) in let us = unsettled_ok (new q) in grind arith",
     "retried_on": more("retried_on", ""),
     "retried_done": "λ j n p x h t. let old = i.retried_done j n p x h t in let ron = i.retried_on j n p x h t in let b = C.bodies j n p x h t in let sm = same p in let gv = gives p in grind arith",
-    "full_dead": "λ j n p x h t. let old = i.full_dead j n p x h t in let dd = dead j n x in let wf = was_firm c g new p (same p) (gives p) in grind arith",
+    "full_dead": "λ j n p x h t l. let old = i.full_dead j n p x h t l in let dd = dead j n x in let us = i.users j n p x h t l in let fs = full_same p in let wf = was_firm c g new p (same p) (gives p) in grind arith",
     "closed_not": "λ p. let old = i.closed_not p in let sm = same p in grind arith",
     "ask_up": "λ j n p x h t. let old = i.ask_up j n p x h t in let sm = same (create_at c p) in let os = ok_settled (c.outcome (create_at c p)) old.3 in let pend = C.settled g in grind arith",
     "ask_down": "λ j n p y h t. let old = i.ask_down j n p y h t in let sm = same (create_at c p) in let os = ok_settled (c.outcome (create_at c p)) old.3 in let pend = C.settled g in grind arith",
@@ -342,6 +343,7 @@ event("NoSlot", "operations that never went out settle", "outcome", "(g : ℕ) (
       c="(record c { outcome = new })",
       parts={
           "in_use": "λ p. let old = i.in_use p in let sm = same p in grind arith",
+          "full_free": "λ p. let old = i.full_free p in let sm = same p in grind arith",
           "shut_ok": "λ p. let old = i.shut_ok p in let sm = same p in let so = unsent_ok (new p) in grind arith",
           "shut_gone": "λ p. let old = i.shut_gone p in let sm = same p in let so = unsent_settled (new p) in grind arith",
           "close_before": "λ p q. let old = i.close_before p q in let sm = same q in grind arith",
@@ -388,6 +390,7 @@ for part in ("retried_on", "retried_done"):
 for e in (leave, finish):
     e.parts.update({
         "in_use": "λ p s0 l. let old = i.in_use p s0 l in let sm = same p in let uf = unsettled_firm (c.outcome p) in grind arith",
+        "full_free": "λ p s0 l. let old = i.full_free p s0 l in let sm = same p in grind arith",
         "shut_ok": "λ p. let old = i.shut_ok p in let sm = same p in let uf = unfirm p in grind arith",
         "shut_gone": "λ p l m. let old = i.shut_gone p l m in let sm = same p in grind arith",
         "close_before": "λ p q. let old = i.close_before p q in let sm = same q in grind arith",
@@ -496,8 +499,8 @@ writes.parts.update({
     "no_user": "λ q r ok1 mk. let old = i.no_user q r ok1 mk in let ij = inj q mk ok1 in grind arith",
     "no_slots": "λ q r o m ok1. let old = i.no_slots q r o m ok1 in let un = unmade q m ok1 in grind arith",
     "ok_reply": "λ j n p y h t m. let old = i.ok_reply j n p y h t m in let ot = others p m in " + NK + "grind arith",
-    "no_reply": "λ j n p y h t m e0 e1 e2 e3. let old = i.no_reply j n p y h t m e0 e1 e2 e3 in let kr = i.kept_reply j n p y h t m e1 e2 e3 in let ot = others p m in grind arith",
-    "kept_reply": "λ j n p y h t m e1 e2 e3 f. let old = i.kept_reply j n p y h t m e1 e2 e3 f in let sent1 = C.sent_replies j n p y h t in let m1 = lock_kind (c.op p) m in let ok1 = ok_of c C.has_open p sent1 m1 in let mk = made_of c C.taken C.creates p sent1 m1 in let ij = inj (create_at c p) mk ok1 in let tk = C.taken p sent1 in let on1 = down_on c conns C.outstanding C.down_open j n p y h t tk.0 in let e = in_use_out c p i.in_use C.settled sent1 m j on1 in split_at (λ z. is_some (kept_of c BEHIND z) ≡ true) g p (λ d. let row = other_kept c s g p st0 d user e (ij f) in some_it (kept_of c BEHIND p) (kept_of c s p) row old) (kept_is_some (kept_of c BEHIND g) st0 (own_kept c s g st0))",
+    "no_reply": "λ j n p y h t m e0 e1 e3. let old = i.no_reply j n p y h t m e0 e1 e3 in let kr = i.kept_reply j n p y h t m e1 e3 in let ot = others p m in grind arith",
+    "kept_reply": "λ j n p y h t m e1 e3 f. let old = i.kept_reply j n p y h t m e1 e3 f in let sent1 = C.sent_replies j n p y h t in let m1 = lock_kind (c.op p) m in let ok1 = ok_of c C.has_open p sent1 m1 in let mk = made_of c C.taken C.creates p sent1 m1 in let ij = inj (create_at c p) mk ok1 in let tk = C.taken p sent1 in let on1 = down_on c conns C.outstanding C.down_open j n p y h t tk.0 in let e = in_use_out c p i.in_use C.settled sent1 m j on1 in split_at (λ z. is_some (kept_of c BEHIND z) ≡ true) g p (λ d. let row = other_kept c s g p st0 d user e (ij f) in some_it (kept_of c BEHIND p) (kept_of c s p) row old) (kept_is_some (kept_of c BEHIND g) st0 (own_kept c s g st0))",
     "first_reply": "λ j n p y h t m. let old = i.first_reply j n p y h t m in let al = alone in let ot = others p m in grind arith",
     "closed_not": "λ p m. let old = i.closed_not p m in let ot = others p m in grind arith",
     "left_full": "λ j n p x h t. let old = i.left_full j n p x h t in grind arith",

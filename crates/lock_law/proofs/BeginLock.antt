@@ -3,7 +3,7 @@ use Rattle.std.proofs.lemmas.Bool.{eqb-false}
 use Rattle.std.proofs.lemmas.Bool.Decides.{nat_tests}
 use Rattle.std.proofs.Common.{eqb-true, ◌≡◌, ◌≢◌, ℕ, ◌+◌, ◌≤◌, ◌<◌, ◌==◌, ◌%◌, Bool, true, false, not, ◌&&◌, ◌||◌, if◌then◌else◌, List, [], ◌∷◌, ◌++◌, ◌⊎◌, inl, inr, refl, arith, sym, subst, ◌∙◌, ap, Option, Some, None, slice_get, is_some, zero, suc}
 use Rattle.exchange_defs.specs.Table.{put, put2}
-use Rattle.exchange_defs.specs.Status.{success, user_session_deleted, file_closed, object_name_not_found, no_memory, disk_full}
+use Rattle.exchange_defs.specs.Status.{success, user_session_deleted, file_closed, object_name_not_found, disk_full}
 use Rattle.exchange_defs.specs.Commands.{TreeConnect, deletes_on_close}
 use Rattle.exchange_defs.specs.CheckSetup.{tree_in}
 use Rattle.exchange_defs.specs.State.{Server, Message, Reply, Kept, Range}
@@ -16,7 +16,7 @@ use Rattle.exchange_defs.specs.Network.{Conn, Sent, Received, Token, ForDialog, 
 use Rattle.exchange_law.specs.Connections.{Connections, copies, count_up, count_down, no_copy_out, makes_open, shuts_open, acts_once, its_create, its_request, create_at, opens, Once, Outstanding, OwnUp, AttachUp, OwnDown, AttachDown, DownOpen, OnReady, Ready, Stages, Settled, Taken, TakenOn, Creates, Lower, HasOpen, AskedOpen, Fresh, Bodies, First, Unsent, SentReplies, Deleted}
 use Rattle.exchange_law.proofs.Lists.{get-push, rest_of, own_up_count, own_down_count, attach_up_count, attach_down_count, front_up, front_down, waited, waited_down}
 use Rattle.session_law.specs.Sessions.{is_ops}
-use Rattle.lock_law.specs.Locks.{Locks, locking, kept_at, firm, is_unsent, refused_for_good, in_slots, user_at, open_at, kept_of, goes_with, piped, all_piped, SlotIndex, UserBody, InUse, AttachedLow, ShutOk, ShutGone, CloseBefore, CloseAfter, UnsentGone, AskedNew, NoSession, Unanswered, AskUp, AskDown, PresentUp, Users, CopyNow, RetriedOn, RetriedDone, CopyAttached, NowAttached, OpenedReply, JoinReply, JoinedReply, LostReply, KeptSays, NotKept, FirmKept, NoUser, NoSlots, FullDead, OkReply, NoReply, KeptReply, FirstReply, ClosedNot, KeptFiles, LeftFull, LeftStuck, LeftIdle, CloseDone, CloseFull, CloseStuck, TreesOf, ShareUp, MadePlain, AtMost, OkActed, RefusedNot}
+use Rattle.lock_law.specs.Locks.{Locks, locking, kept_at, firm, is_unsent, refused_for_good, in_slots, user_at, open_at, kept_of, goes_with, piped, all_piped, SlotIndex, UserBody, InUse, FullFree, AttachedLow, ShutOk, ShutGone, CloseBefore, CloseAfter, UnsentGone, AskedNew, NoSession, Unanswered, AskUp, AskDown, PresentUp, Users, CopyNow, RetriedOn, RetriedDone, CopyAttached, NowAttached, OpenedReply, JoinReply, JoinedReply, LostReply, KeptSays, NotKept, FirmKept, NoUser, NoSlots, FullDead, OkReply, NoReply, KeptReply, FirstReply, ClosedNot, KeptFiles, LeftFull, LeftStuck, LeftIdle, CloseDone, CloseFull, CloseStuck, TreesOf, ShareUp, MadePlain, AtMost, OkActed, RefusedNot}
 use Rattle.lock_law.proofs.Words.{lock_kind, lock_stays, lock_once, close_kind, own_create, unsettled_firm, unsettled_unsent, unsettled_ok, unsettled_refused, unsent_firm, unsent_ok, ok_firm, ok_settled, firm_settled, unsent_settled, unsent_refused, refused_how, kept_none, kept_same, kept_other, kept_is_some, more_up, more_down, more_asks, down_is_open, up_on, down_on, ask_on, ok_of, made_of, own_ops, own_reply_ops, ask_reply_ops, split_at}
 
 -- the number that it takes isn't one that its slot keeps
@@ -47,6 +47,10 @@ begin_lock_user_body c conns s a g q0 i0 m0 new lock slot its pending live ok ma
 begin_lock_in_use : (c : Client) (conns : ℕ → Conn) (s : Server) (a : ℕ → ℕ) (g q0 i0 m0 : ℕ) → (c.sent g ≡ false) → (locking (c.op g) ≡ true) → (in_slots i0 ≡ true) → (q0 ≡ create_at c g) → (is_unsettled (c.outcome g) ≡ true) → (c.live ≡ true) → (is_ok (c.outcome q0) ≡ true) → (makes_open (c.op q0) ≡ true) → (c.retried q0 i0 ≢ c.number) → (c.full q0 i0 ≡ false) → ((h : ℕ) → c.slot_user q0 i0 ≡ Some h → firm (c.outcome h) ≡ true × m0 ≢ c.number_of h) → InUse c → InUse (record c { slot_of = put c.slot_of g i0; number_of = put c.number_of g m0; slot_user = put2 c.slot_user q0 i0 (Some g); sent = put c.sent g true })
 begin_lock_in_use c conns s a g q0 i0 m0 new lock slot its pending live ok made unretried unfull unused i_in_use =
     λ p. let old = i_in_use p in let un = unused p in grind arith
+
+begin_lock_full_free : (c : Client) (conns : ℕ → Conn) (s : Server) (a : ℕ → ℕ) (g q0 i0 m0 : ℕ) → (c.sent g ≡ false) → (locking (c.op g) ≡ true) → (in_slots i0 ≡ true) → (q0 ≡ create_at c g) → (is_unsettled (c.outcome g) ≡ true) → (c.live ≡ true) → (is_ok (c.outcome q0) ≡ true) → (makes_open (c.op q0) ≡ true) → (c.retried q0 i0 ≢ c.number) → (c.full q0 i0 ≡ false) → FullFree c → FullFree (record c { slot_of = put c.slot_of g i0; number_of = put c.number_of g m0; slot_user = put2 c.slot_user q0 i0 (Some g); sent = put c.sent g true })
+begin_lock_full_free c conns s a g q0 i0 m0 new lock slot its pending live ok made unretried unfull i_full_free =
+    λ p. let old = i_full_free p in grind arith
 
 begin_lock_shut_gone : (c : Client) (conns : ℕ → Conn) (s : Server) (a : ℕ → ℕ) (g q0 i0 m0 : ℕ) → (c.sent g ≡ false) → (locking (c.op g) ≡ true) → (in_slots i0 ≡ true) → (q0 ≡ create_at c g) → (is_unsettled (c.outcome g) ≡ true) → (c.live ≡ true) → (is_ok (c.outcome q0) ≡ true) → (makes_open (c.op q0) ≡ true) → (c.retried q0 i0 ≢ c.number) → (c.full q0 i0 ≡ false) → ShutGone c → ShutGone (record c { slot_of = put c.slot_of g i0; number_of = put c.number_of g m0; slot_user = put2 c.slot_user q0 i0 (Some g); sent = put c.sent g true })
 begin_lock_shut_gone c conns s a g q0 i0 m0 new lock slot its pending live ok made unretried unfull i_shut_gone =
@@ -110,6 +114,7 @@ begin_lock_keeps c conns s a g q0 i0 m0 new lock slot its pending live ok made b
       slot_index = begin_lock_slot_index c conns s a g q0 i0 m0 new lock slot its pending live ok made unretried unfull i.slot_index;
       user_body = begin_lock_user_body c conns s a g q0 i0 m0 new lock slot its pending live ok made unretried unfull i.user_body;
       in_use = begin_lock_in_use c conns s a g q0 i0 m0 new lock slot its pending live ok made unretried unfull unused i.in_use;
+      full_free = begin_lock_full_free c conns s a g q0 i0 m0 new lock slot its pending live ok made unretried unfull i.full_free;
       attached_low = i.attached_low;
       shut_ok = i.shut_ok;
       shut_gone = begin_lock_shut_gone c conns s a g q0 i0 m0 new lock slot its pending live ok made unretried unfull i.shut_gone;

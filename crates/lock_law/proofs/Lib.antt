@@ -25,7 +25,6 @@ pub mod Again
 pub mod Send
 pub mod Ask
 pub mod Opens
-pub mod Fills
 pub mod Settle
 pub mod NoSlot
 pub mod Joined

@@ -2,7 +2,7 @@
 use Rattle.std.proofs.Common.{eqb-true, ◌≡◌, ◌≢◌, ◌⊎◌, inl, inr, ℕ, ◌+◌, ◌==◌, ◌≤◌, ◌<◌, Bool, true, false, not, ◌&&◌, ◌||◌, if◌then◌else◌, List, [], ◌∷◌, ◌++◌, length, Option, Some, None, slice_get, is_some, refl, arith, sym, ◌∙◌, ap, subst}
 use Rattle.std.proofs.lemmas.Bool.{eqb-false}
 use Rattle.exchange_defs.specs.Table.{put, put2, is_at}
-use Rattle.exchange_defs.specs.Status.{success, user_session_deleted, no_memory, disk_full, file_closed}
+use Rattle.exchange_defs.specs.Status.{success, user_session_deleted, disk_full, file_closed}
 use Rattle.exchange_defs.specs.Commands.{Command, Lock, Close, Element, lock_form, all_lock, all_unlock, deletes_on_close}
 use Rattle.exchange_defs.specs.State.{Server, Message, Answer, Record, Empty, LockRecord, Kept, Range}
 use Rattle.exchange_defs.specs.Files.{mark_file, exists, is_full_directory, is_directory, path_of}
@@ -174,8 +174,8 @@ ranges_written t m P o i n f0 ranges slot f =
 
 pub record Says (c : Client) (u : Server) (b : ℕ → ℕ) (g status : ℕ) : Type 0 where
   pub ok : status ≡ success → b g ≡ 1
-  pub no : status ≢ success → status ≢ user_session_deleted → status ≢ no_memory → status ≢ disk_full → b g ≡ 0
-  pub kept : status ≢ user_session_deleted → status ≢ no_memory → status ≢ disk_full → u.standing (open_at c g) ≡ true → is_some (kept_of c u g) ≡ true
+  pub no : status ≢ success → status ≢ user_session_deleted → status ≢ disk_full → b g ≡ 0
+  pub kept : status ≢ user_session_deleted → status ≢ disk_full → u.standing (open_at c g) ≡ true → is_some (kept_of c u g) ≡ true
   pub first : status ≢ success → c.before g ≡ false → b g ≡ 0
 
 pub same_op : (g h : ℕ) (t : Token) → t ≡ ForOp g → t ≡ ForOp h → g ≡ h
@@ -194,8 +194,8 @@ say_lock c u b g y0 tk lk s =
       of_joined_reply = λ h e. absurd (let x = not_ask g h y0.token tk e in cc);
       of_lost_reply = λ h e. absurd (let x = not_ask g h y0.token tk e in cc);
       of_ok_reply = λ h e m st. subst (λ z. b z ≡ 1) (same_op g h y0.token tk e) (s.ok st);
-      of_no_reply = λ h e m n1 n2 n3 n4. subst (λ z. b z ≡ 0) (same_op g h y0.token tk e) (s.no n1 n2 n3 n4);
-      of_kept_reply = λ h e m n2 n3 n4. subst (λ z. u.standing (open_at c z) ≡ true → is_some (kept_of c u z) ≡ true) (same_op g h y0.token tk e) (s.kept n2 n3 n4);
+      of_no_reply = λ h e m n1 n2 n4. subst (λ z. b z ≡ 0) (same_op g h y0.token tk e) (s.no n1 n2 n4);
+      of_kept_reply = λ h e m n2 n4. subst (λ z. u.standing (open_at c z) ≡ true → is_some (kept_of c u z) ≡ true) (same_op g h y0.token tk e) (s.kept n2 n4);
       of_first_reply = λ h e m n1. subst (λ z. c.before z ≡ false → b z ≡ 0) (same_op g h y0.token tk e) (s.first n1);
       of_close_done = λ h e m. absurd (let x = clash (shuts_open (c.op h)) (subst (λ z. shuts_open (c.op z) ≡ false) (same_op g h y0.token tk e) open1) m in cc);
       of_close_full = λ h e m. absurd (let x = clash (shuts_open (c.op h)) (subst (λ z. shuts_open (c.op z) ≡ false) (same_op g h y0.token tk e) open1) m in cc);
@@ -297,8 +297,8 @@ lock_fits c conns d t a k g x0 now front v w same is room (Away on e) =
     (quiet_lock c conns t a k g x0 now v _ w (inl is) refl refl refl,
     λ o place. say_lock c _ _ g _ w.token w.lock (record {
       ok = λ s. absurd (cc);
-      no = λ n1 n2 n3 n4. count_same a x0.token g 0 (away_idle c conns t a k g x0 w p off o);
-      kept = λ n2 n3 n4 st. absurd (let x = clash (t.standing (open_at c g)) off st in cc);
+      no = λ n1 n2 n4. count_same a x0.token g 0 (away_idle c conns t a k g x0 w p off o);
+      kept = λ n2 n4 st. absurd (let x = clash (t.standing (open_at c g)) off st in cc);
       first = λ n1 bf. count_same a x0.token g 0 (sole_idle c conns t a k g x0 w bf);
     }))
 lock_fits c conns d t a k g x0 now front v w same is room (Done on st e) =
@@ -307,7 +307,7 @@ lock_fits c conns d t a k g x0 now front v w same is room (Done on st e) =
     λ o place. say_lock c _ _ g _ w.token w.lock (record {
       ok = λ s. count_same a x0.token g 1 (w.serving.locks.kept_says g success user st e);
       no = λ n1. absurd (n1 refl);
-      kept = λ n2 n3 n4 st2. ap (λ z. is_some z) e;
+      kept = λ n2 n4 st2. ap (λ z. is_some z) e;
       first = λ n1. absurd (n1 refl);
     }))
 lock_fits c conns d t a k g x0 now front v w same is room (Again status on st e bad) =
@@ -316,8 +316,8 @@ lock_fits c conns d t a k g x0 now front v w same is room (Again status on st e 
     (quiet_lock c conns t a k g x0 now v _ w (inl is) refl refl refl,
     λ o place. say_lock c _ _ g _ w.token w.lock (record {
       ok = λ s. absurd (let x = is_it status bad s in cc);
-      no = λ n1 n2 n3 n4. count_same a x0.token g 0 idle;
-      kept = λ n2 n3 n4 st2. ap (λ z. is_some z) e;
+      no = λ n1 n2 n4. count_same a x0.token g 0 idle;
+      kept = λ n2 n4 st2. ap (λ z. is_some z) e;
       first = λ n1 bf. count_same a x0.token g 0 idle;
     }))
   where
@@ -334,8 +334,8 @@ lock_fits c conns d t a k g x0 now front v w same is room (Refused status on st 
     (λ sq. lock_written c conns t a k g status j0 x0 sq t.ranges false w.serving w.token w.lock p st free (grown_by t.journal _) roomy (sym bad))),
     λ o place. say_lock c _ _ g _ w.token w.lock (record {
       ok = λ s. absurd (let x = is_it status bad s in cc);
-      no = λ n1 n2 n3 n4. subst (λ z. counted a z false g ≡ 0) (sym w.token) idle;
-      kept = λ n2 n3 n4 st2. slot_written t m (λ u. is_some (kept_at (u.slots o1 (c.slot_of g)) (c.number_of g)) ≡ true) o1 (c.slot_of g) (c.number_of g) status w.slot (λ sq. kept_put t.slots o1 (c.slot_of g) (c.number_of g) status);
+      no = λ n1 n2 n4. subst (λ z. counted a z false g ≡ 0) (sym w.token) idle;
+      kept = λ n2 n4 st2. slot_written t m (λ u. is_some (kept_at (u.slots o1 (c.slot_of g)) (c.number_of g)) ≡ true) o1 (c.slot_of g) (c.number_of g) status w.slot (λ sq. kept_put t.slots o1 (c.slot_of g) (c.number_of g) status);
       first = λ n1 bf. subst (λ z. counted a z false g ≡ 0) (sym w.token) idle;
     }))
   where
@@ -358,7 +358,7 @@ lock_fits c conns d t a k g x0 now front v w same is room (Granted ranges on st 
     λ o place. say_lock c _ _ g _ w.token w.lock (record {
       ok = λ s. subst (λ z. counted a z true g ≡ 1) (sym w.token) one;
       no = λ n1. absurd (n1 refl);
-      kept = λ n2 n3 n4 st2. ranges_written t m (λ u. is_some (kept_at (u.slots o1 (c.slot_of g)) (c.number_of g)) ≡ true) o1 (c.slot_of g) (c.number_of g) (file_of t o1) ranges w.slot (λ sq. kept_put t.slots o1 (c.slot_of g) (c.number_of g) success);
+      kept = λ n2 n4 st2. ranges_written t m (λ u. is_some (kept_at (u.slots o1 (c.slot_of g)) (c.number_of g)) ≡ true) o1 (c.slot_of g) (c.number_of g) (file_of t o1) ranges w.slot (λ sq. kept_put t.slots o1 (c.slot_of g) (c.number_of g) success);
       first = λ n1. absurd (n1 refl);
     }))
   where
@@ -372,7 +372,7 @@ full_down : (c : Client) (conns : ℕ → Conn) (d : Server) (a : ℕ → ℕ) (
 full_down c conns d a k g x0 now v w is e =
     subst (λ z. Served c conns a k x0 (recorded (apply d x0.message now z) (apply d x0.message now z).records)) (sym e)
     (quiet_lock c conns d a k g x0 now (TurnDown (open_at c g) disk_full) [] w (inr (sym e ∙ is)) refl refl refl,
-    λ o place. say_lock c _ _ g _ w.token w.lock (record { ok = λ s. absurd (cc); no = λ n1 n2 n3 n4. absurd (n4 refl); kept = λ n2 n3 n4. absurd (n4 refl); first = λ n1 bf. count_same a x0.token g 0 (sole_idle c conns d a k g x0 w bf) }))
+    λ o place. say_lock c _ _ g _ w.token w.lock (record { ok = λ s. absurd (cc); no = λ n1 n2 n4. absurd (n4 refl); kept = λ n2 n4. absurd (n4 refl); first = λ n1 bf. count_same a x0.token g 0 (sole_idle c conns d a k g x0 w bf) }))
 
 -- where they don't
 pub no_unfit : (d : Server) → fits d [] ≡ false → true ≡ false

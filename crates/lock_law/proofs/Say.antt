@@ -3,7 +3,7 @@ use Rattle.std.proofs.lemmas.Bool.{eqb-false}
 use Rattle.std.proofs.lemmas.Bool.Decides.{nat_tests}
 use Rattle.std.proofs.Common.{eqb-true, ◌≡◌, ◌≢◌, ℕ, ◌+◌, ◌≤◌, ◌<◌, ◌==◌, ◌%◌, Bool, true, false, not, ◌&&◌, ◌||◌, if◌then◌else◌, List, [], ◌∷◌, ◌++◌, ◌⊎◌, inl, inr, refl, arith, sym, subst, ◌∙◌, ap, Option, Some, None, slice_get, is_some, zero, suc}
 use Rattle.exchange_defs.specs.Table.{put, put2}
-use Rattle.exchange_defs.specs.Status.{success, user_session_deleted, file_closed, object_name_not_found, no_memory, disk_full}
+use Rattle.exchange_defs.specs.Status.{success, user_session_deleted, file_closed, object_name_not_found, disk_full}
 use Rattle.exchange_defs.specs.Commands.{TreeConnect, deletes_on_close}
 use Rattle.exchange_defs.specs.CheckSetup.{tree_in}
 use Rattle.exchange_defs.specs.State.{Server, Message, Reply, Kept, Range}
@@ -16,7 +16,7 @@ use Rattle.exchange_defs.specs.Network.{Conn, Sent, Received, Token, ForDialog, 
 use Rattle.exchange_law.specs.Connections.{Connections, copies, count_up, count_down, no_copy_out, makes_open, shuts_open, acts_once, its_create, its_request, create_at, opens, Once, Outstanding, OwnUp, AttachUp, OwnDown, AttachDown, DownOpen, OnReady, Ready, Stages, Settled, Taken, TakenOn, Creates, Lower, HasOpen, AskedOpen, Fresh, Bodies, First, Unsent, SentReplies, Deleted}
 use Rattle.exchange_law.proofs.Lists.{get-push, rest_of, own_up_count, own_down_count, attach_up_count, attach_down_count, front_up, front_down, waited, waited_down}
 use Rattle.session_law.specs.Sessions.{is_ops}
-use Rattle.lock_law.specs.Locks.{Locks, locking, kept_at, firm, is_unsent, refused_for_good, in_slots, user_at, open_at, kept_of, goes_with, piped, all_piped, SlotIndex, UserBody, InUse, AttachedLow, ShutOk, ShutGone, CloseBefore, CloseAfter, UnsentGone, AskedNew, NoSession, Unanswered, AskUp, AskDown, PresentUp, Users, CopyNow, RetriedOn, RetriedDone, CopyAttached, NowAttached, OpenedReply, JoinReply, JoinedReply, LostReply, KeptSays, NotKept, FirmKept, NoUser, NoSlots, FullDead, OkReply, NoReply, KeptReply, FirstReply, ClosedNot, KeptFiles, LeftFull, LeftStuck, LeftIdle, CloseDone, CloseFull, CloseStuck, TreesOf, ShareUp, MadePlain, AtMost, OkActed, RefusedNot}
+use Rattle.lock_law.specs.Locks.{Locks, locking, kept_at, firm, is_unsent, refused_for_good, in_slots, user_at, open_at, kept_of, goes_with, piped, all_piped, SlotIndex, UserBody, InUse, FullFree, AttachedLow, ShutOk, ShutGone, CloseBefore, CloseAfter, UnsentGone, AskedNew, NoSession, Unanswered, AskUp, AskDown, PresentUp, Users, CopyNow, RetriedOn, RetriedDone, CopyAttached, NowAttached, OpenedReply, JoinReply, JoinedReply, LostReply, KeptSays, NotKept, FirmKept, NoUser, NoSlots, FullDead, OkReply, NoReply, KeptReply, FirstReply, ClosedNot, KeptFiles, LeftFull, LeftStuck, LeftIdle, CloseDone, CloseFull, CloseStuck, TreesOf, ShareUp, MadePlain, AtMost, OkActed, RefusedNot}
 use Rattle.lock_law.proofs.Words.{lock_kind, lock_stays, lock_once, close_kind, own_create, unsettled_firm, unsettled_unsent, unsettled_ok, unsettled_refused, unsent_firm, unsent_ok, ok_firm, ok_settled, firm_settled, unsent_settled, unsent_refused, refused_how, kept_none, kept_same, kept_other, kept_is_some, more_up, more_down, more_asks, down_is_open, up_on, down_on, ask_on, ok_of, made_of, own_ops, own_reply_ops, ask_reply_ops, split_at}
 -- what is to be known of the reply
 pub record MaySay (c : Client) (s : Server) (a : ℕ → ℕ) (y0 : Received) : Type 0 where
@@ -26,8 +26,8 @@ pub record MaySay (c : Client) (s : Server) (a : ℕ → ℕ) (y0 : Received) : 
   pub of_joined_reply : (g : ℕ) → y0.token ≡ ForAttach g → y0.reply.status ≡ success → c.live ≡ true → s.present c.session ≡ true → s.standing (open_at c g) ≡ false → c.attached (create_at c g) ≡ c.number
   pub of_lost_reply : (g : ℕ) → y0.token ≡ ForAttach g → y0.reply.status ≢ success → y0.reply.status ≢ user_session_deleted → y0.reply.status ≡ object_name_not_found × s.standing (open_at c g) ≡ false
   pub of_ok_reply : (g : ℕ) → y0.token ≡ ForOp g → locking (c.op g) ≡ true → y0.reply.status ≡ success → a g ≡ 1
-  pub of_no_reply : (g : ℕ) → y0.token ≡ ForOp g → locking (c.op g) ≡ true → y0.reply.status ≢ success → y0.reply.status ≢ user_session_deleted → y0.reply.status ≢ no_memory → y0.reply.status ≢ disk_full → a g ≡ 0
-  pub of_kept_reply : (g : ℕ) → y0.token ≡ ForOp g → locking (c.op g) ≡ true → y0.reply.status ≢ user_session_deleted → y0.reply.status ≢ no_memory → y0.reply.status ≢ disk_full → s.standing (open_at c g) ≡ true → is_some (kept_of c s g) ≡ true
+  pub of_no_reply : (g : ℕ) → y0.token ≡ ForOp g → locking (c.op g) ≡ true → y0.reply.status ≢ success → y0.reply.status ≢ user_session_deleted → y0.reply.status ≢ disk_full → a g ≡ 0
+  pub of_kept_reply : (g : ℕ) → y0.token ≡ ForOp g → locking (c.op g) ≡ true → y0.reply.status ≢ user_session_deleted → y0.reply.status ≢ disk_full → s.standing (open_at c g) ≡ true → is_some (kept_of c s g) ≡ true
   pub of_first_reply : (g : ℕ) → y0.token ≡ ForOp g → locking (c.op g) ≡ true → y0.reply.status ≢ success → c.before g ≡ false → a g ≡ 0
   pub of_close_done : (h : ℕ) → y0.token ≡ ForOp h → shuts_open (c.op h) ≡ true → y0.reply.status ≡ success → s.standing (open_at c h) ≡ false
   pub of_close_full : (h : ℕ) → y0.token ≡ ForOp h → shuts_open (c.op h) ≡ true → y0.reply.status ≢ user_session_deleted → y0.reply.status ≢ file_closed → s.standing (open_at c h) ≡ true → (s.opened (open_at c h)).persistent ≡ true → lower_limit < s.journal + 66
@@ -94,11 +94,11 @@ say_ok_reply : (c : Client) (conns : ℕ → Conn) (s : Server) (a : ℕ → ℕ
 say_ok_reply c conns s a k y0 of_ok_reply i_ok_reply =
     λ j n p y. let old = i_ok_reply j n p y in let m1 = of_ok_reply p in grind (arith, get-push)
 
-say_no_reply : (c : Client) (conns : ℕ → Conn) (s : Server) (a : ℕ → ℕ) (k : ℕ) (y0 : Received) → ((g : ℕ) → y0.token ≡ ForOp g → locking (c.op g) ≡ true → y0.reply.status ≢ success → y0.reply.status ≢ user_session_deleted → y0.reply.status ≢ no_memory → y0.reply.status ≢ disk_full → a g ≡ 0) → NoReply c conns a → NoReply c (put conns k (record (conns k) { down = (conns k).down ++ y0 ∷ [] })) a
+say_no_reply : (c : Client) (conns : ℕ → Conn) (s : Server) (a : ℕ → ℕ) (k : ℕ) (y0 : Received) → ((g : ℕ) → y0.token ≡ ForOp g → locking (c.op g) ≡ true → y0.reply.status ≢ success → y0.reply.status ≢ user_session_deleted → y0.reply.status ≢ disk_full → a g ≡ 0) → NoReply c conns a → NoReply c (put conns k (record (conns k) { down = (conns k).down ++ y0 ∷ [] })) a
 say_no_reply c conns s a k y0 of_no_reply i_no_reply =
     λ j n p y. let old = i_no_reply j n p y in let m1 = of_no_reply p in grind (arith, get-push)
 
-say_kept_reply : (c : Client) (conns : ℕ → Conn) (s : Server) (a : ℕ → ℕ) (k : ℕ) (y0 : Received) → ((g : ℕ) → y0.token ≡ ForOp g → locking (c.op g) ≡ true → y0.reply.status ≢ user_session_deleted → y0.reply.status ≢ no_memory → y0.reply.status ≢ disk_full → s.standing (open_at c g) ≡ true → is_some (kept_of c s g) ≡ true) → KeptReply c conns s → KeptReply c (put conns k (record (conns k) { down = (conns k).down ++ y0 ∷ [] })) s
+say_kept_reply : (c : Client) (conns : ℕ → Conn) (s : Server) (a : ℕ → ℕ) (k : ℕ) (y0 : Received) → ((g : ℕ) → y0.token ≡ ForOp g → locking (c.op g) ≡ true → y0.reply.status ≢ user_session_deleted → y0.reply.status ≢ disk_full → s.standing (open_at c g) ≡ true → is_some (kept_of c s g) ≡ true) → KeptReply c conns s → KeptReply c (put conns k (record (conns k) { down = (conns k).down ++ y0 ∷ [] })) s
 say_kept_reply c conns s a k y0 of_kept_reply i_kept_reply =
     λ j n p y. let old = i_kept_reply j n p y in let m1 = of_kept_reply p in grind (arith, get-push)
 
@@ -134,12 +134,13 @@ say_share_up : (c : Client) (conns : ℕ → Conn) (s : Server) (a : ℕ → ℕ
 say_share_up c conns s a k y0 i_share_up =
     λ j n x sh. let old = i_share_up j n x sh in grind arith
 
-pub say_keeps : (c : Client) (conns : ℕ → Conn) (s : Server) (a : ℕ → ℕ) (k : ℕ) (y0 : Received) → ((g : ℕ) → y0.token ≡ ForAttach g → 0 < g × g ≤ c.taken × makes_open (c.op g) ≡ false × is_ok (c.outcome (create_at c g)) ≡ true) → ((g : ℕ) → y0.token ≡ ForOp g → makes_open (c.op g) ≡ true → y0.reply.status ≡ success → c.live ≡ true → s.present c.session ≡ true → s.standing (id_in y0.reply.body) ≡ true → s.at (id_in y0.reply.body) ≡ Some c.session) → ((g : ℕ) → y0.token ≡ ForAttach g → y0.reply.status ≡ success → c.live ≡ true → s.present c.session ≡ true → s.standing (open_at c g) ≡ true → s.at (open_at c g) ≡ Some c.session) → ((g : ℕ) → y0.token ≡ ForAttach g → y0.reply.status ≡ success → c.live ≡ true → s.present c.session ≡ true → s.standing (open_at c g) ≡ false → c.attached (create_at c g) ≡ c.number) → ((g : ℕ) → y0.token ≡ ForAttach g → y0.reply.status ≢ success → y0.reply.status ≢ user_session_deleted → y0.reply.status ≡ object_name_not_found × s.standing (open_at c g) ≡ false) → ((g : ℕ) → y0.token ≡ ForOp g → locking (c.op g) ≡ true → y0.reply.status ≡ success → a g ≡ 1) → ((g : ℕ) → y0.token ≡ ForOp g → locking (c.op g) ≡ true → y0.reply.status ≢ success → y0.reply.status ≢ user_session_deleted → y0.reply.status ≢ no_memory → y0.reply.status ≢ disk_full → a g ≡ 0) → ((g : ℕ) → y0.token ≡ ForOp g → locking (c.op g) ≡ true → y0.reply.status ≢ user_session_deleted → y0.reply.status ≢ no_memory → y0.reply.status ≢ disk_full → s.standing (open_at c g) ≡ true → is_some (kept_of c s g) ≡ true) → ((g : ℕ) → y0.token ≡ ForOp g → locking (c.op g) ≡ true → y0.reply.status ≢ success → c.before g ≡ false → a g ≡ 0) → ((h : ℕ) → y0.token ≡ ForOp h → shuts_open (c.op h) ≡ true → y0.reply.status ≡ success → s.standing (open_at c h) ≡ false) → ((h : ℕ) → y0.token ≡ ForOp h → shuts_open (c.op h) ≡ true → y0.reply.status ≢ user_session_deleted → y0.reply.status ≢ file_closed → s.standing (open_at c h) ≡ true → (s.opened (open_at c h)).persistent ≡ true → lower_limit < s.journal + 66) → ((h : ℕ) → y0.token ≡ ForOp h → shuts_open (c.op h) ≡ true → y0.reply.status ≢ user_session_deleted → y0.reply.status ≢ file_closed → s.standing (open_at c h) ≡ true → (s.opened (open_at c h)).persistent ≡ false → lower_limit < s.journal + 34 × goes_with s (open_at c h) ≡ true) → Locks c conns s a → Locks c (put conns k (record (conns k) { down = (conns k).down ++ y0 ∷ [] })) s a
+pub say_keeps : (c : Client) (conns : ℕ → Conn) (s : Server) (a : ℕ → ℕ) (k : ℕ) (y0 : Received) → ((g : ℕ) → y0.token ≡ ForAttach g → 0 < g × g ≤ c.taken × makes_open (c.op g) ≡ false × is_ok (c.outcome (create_at c g)) ≡ true) → ((g : ℕ) → y0.token ≡ ForOp g → makes_open (c.op g) ≡ true → y0.reply.status ≡ success → c.live ≡ true → s.present c.session ≡ true → s.standing (id_in y0.reply.body) ≡ true → s.at (id_in y0.reply.body) ≡ Some c.session) → ((g : ℕ) → y0.token ≡ ForAttach g → y0.reply.status ≡ success → c.live ≡ true → s.present c.session ≡ true → s.standing (open_at c g) ≡ true → s.at (open_at c g) ≡ Some c.session) → ((g : ℕ) → y0.token ≡ ForAttach g → y0.reply.status ≡ success → c.live ≡ true → s.present c.session ≡ true → s.standing (open_at c g) ≡ false → c.attached (create_at c g) ≡ c.number) → ((g : ℕ) → y0.token ≡ ForAttach g → y0.reply.status ≢ success → y0.reply.status ≢ user_session_deleted → y0.reply.status ≡ object_name_not_found × s.standing (open_at c g) ≡ false) → ((g : ℕ) → y0.token ≡ ForOp g → locking (c.op g) ≡ true → y0.reply.status ≡ success → a g ≡ 1) → ((g : ℕ) → y0.token ≡ ForOp g → locking (c.op g) ≡ true → y0.reply.status ≢ success → y0.reply.status ≢ user_session_deleted → y0.reply.status ≢ disk_full → a g ≡ 0) → ((g : ℕ) → y0.token ≡ ForOp g → locking (c.op g) ≡ true → y0.reply.status ≢ user_session_deleted → y0.reply.status ≢ disk_full → s.standing (open_at c g) ≡ true → is_some (kept_of c s g) ≡ true) → ((g : ℕ) → y0.token ≡ ForOp g → locking (c.op g) ≡ true → y0.reply.status ≢ success → c.before g ≡ false → a g ≡ 0) → ((h : ℕ) → y0.token ≡ ForOp h → shuts_open (c.op h) ≡ true → y0.reply.status ≡ success → s.standing (open_at c h) ≡ false) → ((h : ℕ) → y0.token ≡ ForOp h → shuts_open (c.op h) ≡ true → y0.reply.status ≢ user_session_deleted → y0.reply.status ≢ file_closed → s.standing (open_at c h) ≡ true → (s.opened (open_at c h)).persistent ≡ true → lower_limit < s.journal + 66) → ((h : ℕ) → y0.token ≡ ForOp h → shuts_open (c.op h) ≡ true → y0.reply.status ≢ user_session_deleted → y0.reply.status ≢ file_closed → s.standing (open_at c h) ≡ true → (s.opened (open_at c h)).persistent ≡ false → lower_limit < s.journal + 34 × goes_with s (open_at c h) ≡ true) → Locks c conns s a → Locks c (put conns k (record (conns k) { down = (conns k).down ++ y0 ∷ [] })) s a
 say_keeps c conns s a k y0 of_ask_down of_opened_reply of_join_reply of_joined_reply of_lost_reply of_ok_reply of_no_reply of_kept_reply of_first_reply of_close_done of_close_full of_close_stuck i =
     record {
       slot_index = i.slot_index;
       user_body = i.user_body;
       in_use = i.in_use;
+      full_free = i.full_free;
       attached_low = i.attached_low;
       shut_ok = i.shut_ok;
       shut_gone = i.shut_gone;

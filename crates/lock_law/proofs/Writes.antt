@@ -3,7 +3,7 @@ use Rattle.std.proofs.lemmas.Bool.{eqb-false}
 use Rattle.std.proofs.lemmas.Bool.Decides.{nat_tests}
 use Rattle.std.proofs.Common.{eqb-true, ◌≡◌, ◌≢◌, ℕ, ◌+◌, ◌≤◌, ◌<◌, ◌==◌, ◌%◌, Bool, true, false, not, ◌&&◌, ◌||◌, if◌then◌else◌, List, [], ◌∷◌, ◌++◌, ◌⊎◌, inl, inr, refl, arith, sym, subst, ◌∙◌, ap, Option, Some, None, slice_get, is_some, zero, suc}
 use Rattle.exchange_defs.specs.Table.{put, put2}
-use Rattle.exchange_defs.specs.Status.{success, user_session_deleted, file_closed, object_name_not_found, no_memory, disk_full}
+use Rattle.exchange_defs.specs.Status.{success, user_session_deleted, file_closed, object_name_not_found, disk_full}
 use Rattle.exchange_defs.specs.Commands.{TreeConnect, deletes_on_close}
 use Rattle.exchange_defs.specs.CheckSetup.{tree_in}
 use Rattle.exchange_defs.specs.State.{Server, Message, Reply, Kept, Range}
@@ -16,7 +16,7 @@ use Rattle.exchange_defs.specs.Network.{Conn, Sent, Received, Token, ForDialog, 
 use Rattle.exchange_law.specs.Connections.{Connections, copies, count_up, count_down, no_copy_out, makes_open, shuts_open, acts_once, its_create, its_request, create_at, opens, Once, Outstanding, OwnUp, AttachUp, OwnDown, AttachDown, DownOpen, OnReady, Ready, Stages, Settled, Taken, TakenOn, Creates, Lower, HasOpen, AskedOpen, Fresh, Bodies, First, Unsent, SentReplies, Deleted}
 use Rattle.exchange_law.proofs.Lists.{get-push, rest_of, own_up_count, own_down_count, attach_up_count, attach_down_count, front_up, front_down, waited, waited_down}
 use Rattle.session_law.specs.Sessions.{is_ops}
-use Rattle.lock_law.specs.Locks.{Locks, locking, kept_at, firm, is_unsent, refused_for_good, in_slots, user_at, open_at, kept_of, goes_with, piped, all_piped, SlotIndex, UserBody, InUse, AttachedLow, ShutOk, ShutGone, CloseBefore, CloseAfter, UnsentGone, AskedNew, NoSession, Unanswered, AskUp, AskDown, PresentUp, Users, CopyNow, RetriedOn, RetriedDone, CopyAttached, NowAttached, OpenedReply, JoinReply, JoinedReply, LostReply, KeptSays, NotKept, FirmKept, NoUser, NoSlots, FullDead, OkReply, NoReply, KeptReply, FirstReply, ClosedNot, KeptFiles, LeftFull, LeftStuck, LeftIdle, CloseDone, CloseFull, CloseStuck, TreesOf, ShareUp, MadePlain, AtMost, OkActed, RefusedNot}
+use Rattle.lock_law.specs.Locks.{Locks, locking, kept_at, firm, is_unsent, refused_for_good, in_slots, user_at, open_at, kept_of, goes_with, piped, all_piped, SlotIndex, UserBody, InUse, FullFree, AttachedLow, ShutOk, ShutGone, CloseBefore, CloseAfter, UnsentGone, AskedNew, NoSession, Unanswered, AskUp, AskDown, PresentUp, Users, CopyNow, RetriedOn, RetriedDone, CopyAttached, NowAttached, OpenedReply, JoinReply, JoinedReply, LostReply, KeptSays, NotKept, FirmKept, NoUser, NoSlots, FullDead, OkReply, NoReply, KeptReply, FirstReply, ClosedNot, KeptFiles, LeftFull, LeftStuck, LeftIdle, CloseDone, CloseFull, CloseStuck, TreesOf, ShareUp, MadePlain, AtMost, OkActed, RefusedNot}
 use Rattle.lock_law.proofs.Words.{lock_kind, lock_stays, lock_once, close_kind, own_create, unsettled_firm, unsettled_unsent, unsettled_ok, unsettled_refused, unsent_firm, unsent_ok, ok_firm, ok_settled, firm_settled, unsent_settled, unsent_refused, refused_how, kept_none, kept_same, kept_other, kept_is_some, more_up, more_down, more_asks, down_is_open, up_on, down_on, ask_on, ok_of, made_of, own_ops, own_reply_ops, ask_reply_ops, split_at}
 
 in_use_out : (c : Client) (p : ℕ) → InUse c → Settled c → c.sent p ≡ true → locking (c.op p) ≡ true → (j : ℕ) → c.on p ≡ Some j → user_at c p ≡ Some p
@@ -74,11 +74,11 @@ writes_ok_reply c conns s a g st0 j0 sq rg a2 lock sent user free stands unfirm 
 
 writes_no_reply : (c : Client) (conns : ℕ → Conn) (s : Server) (a : ℕ → ℕ) (g st0 j0 : ℕ) (sq : ℕ → ℕ) (rg : ℕ → List Range) (a2 : ℕ → ℕ) → (locking (c.op g) ≡ true) → (c.sent g ≡ true) → (user_at c g ≡ Some g) → (kept_of c s g ≡ None) → (s.standing (open_at c g) ≡ true) → (firm (c.outcome g) ≡ false) → (s.journal ≤ j0) → ((p : ℕ) → locking (c.op p) ≡ true → p ≢ g → a2 p ≡ a p) → (a2 g ≡ (if st0 == success then 1 else 0)) → NoReply c conns a → KeptReply c conns s → NoReply c conns a2
 writes_no_reply c conns s a g st0 j0 sq rg a2 lock sent user free stands unfirm journal others own i_no_reply i_kept_reply =
-    λ j n p y h t m e0 e1 e2 e3. let old = i_no_reply j n p y h t m e0 e1 e2 e3 in let kr = i_kept_reply j n p y h t m e1 e2 e3 in let ot = others p m in grind arith
+    λ j n p y h t m e0 e1 e3. let old = i_no_reply j n p y h t m e0 e1 e3 in let kr = i_kept_reply j n p y h t m e1 e3 in let ot = others p m in grind arith
 
 writes_kept_reply : (c : Client) (conns : ℕ → Conn) (s : Server) (a : ℕ → ℕ) (g st0 j0 : ℕ) (sq : ℕ → ℕ) (rg : ℕ → List Range) (a2 : ℕ → ℕ) → (locking (c.op g) ≡ true) → (c.sent g ≡ true) → (user_at c g ≡ Some g) → (kept_of c s g ≡ None) → (s.standing (open_at c g) ≡ true) → (firm (c.outcome g) ≡ false) → (s.journal ≤ j0) → (a2 g ≡ (if st0 == success then 1 else 0)) → ((q : ℕ) → makes_open (c.op q) ≡ true → is_ok (c.outcome q) ≡ true → s.standing (c.file q) ≡ true → c.file q ≡ open_at c g → q ≡ create_at c g) → Creates c → DownOpen conns → HasOpen c → Outstanding c conns → SentReplies c conns → Settled c → Taken c → KeptReply c conns s → InUse c → KeptReply c conns (record s { sequence = sq; ranges = rg; slots = put2 s.slots (open_at c g) (c.slot_of g) (Some (record { number = c.number_of g; status = st0 })); journal = j0 })
 writes_kept_reply c conns s a g st0 j0 sq rg a2 lock sent user free stands unfirm journal own inj C_creates C_down_open C_has_open C_outstanding C_sent_replies C_settled C_taken i_kept_reply i_in_use =
-    λ j n p y h t m e1 e2 e3 f. let old = i_kept_reply j n p y h t m e1 e2 e3 f in let sent1 = C_sent_replies j n p y h t in let m1 = lock_kind (c.op p) m in let ok1 = ok_of c C_has_open p sent1 m1 in let mk = made_of c C_taken C_creates p sent1 m1 in let ij = inj (create_at c p) mk ok1 in let tk = C_taken p sent1 in let on1 = down_on c conns C_outstanding C_down_open j n p y h t tk.0 in let e = in_use_out c p i_in_use C_settled sent1 m j on1 in split_at (λ z. is_some (kept_of c ((record s { sequence = sq; ranges = rg; slots = put2 s.slots (open_at c g) (c.slot_of g) (Some (record { number = c.number_of g; status = st0 })); journal = j0 })) z) ≡ true) g p (λ d. let row = other_kept c s g p st0 d user e (ij f) in some_it (kept_of c ((record s { sequence = sq; ranges = rg; slots = put2 s.slots (open_at c g) (c.slot_of g) (Some (record { number = c.number_of g; status = st0 })); journal = j0 })) p) (kept_of c s p) row old) (kept_is_some (kept_of c ((record s { sequence = sq; ranges = rg; slots = put2 s.slots (open_at c g) (c.slot_of g) (Some (record { number = c.number_of g; status = st0 })); journal = j0 })) g) st0 (own_kept c s g st0))
+    λ j n p y h t m e1 e3 f. let old = i_kept_reply j n p y h t m e1 e3 f in let sent1 = C_sent_replies j n p y h t in let m1 = lock_kind (c.op p) m in let ok1 = ok_of c C_has_open p sent1 m1 in let mk = made_of c C_taken C_creates p sent1 m1 in let ij = inj (create_at c p) mk ok1 in let tk = C_taken p sent1 in let on1 = down_on c conns C_outstanding C_down_open j n p y h t tk.0 in let e = in_use_out c p i_in_use C_settled sent1 m j on1 in split_at (λ z. is_some (kept_of c ((record s { sequence = sq; ranges = rg; slots = put2 s.slots (open_at c g) (c.slot_of g) (Some (record { number = c.number_of g; status = st0 })); journal = j0 })) z) ≡ true) g p (λ d. let row = other_kept c s g p st0 d user e (ij f) in some_it (kept_of c ((record s { sequence = sq; ranges = rg; slots = put2 s.slots (open_at c g) (c.slot_of g) (Some (record { number = c.number_of g; status = st0 })); journal = j0 })) p) (kept_of c s p) row old) (kept_is_some (kept_of c ((record s { sequence = sq; ranges = rg; slots = put2 s.slots (open_at c g) (c.slot_of g) (Some (record { number = c.number_of g; status = st0 })); journal = j0 })) g) st0 (own_kept c s g st0))
 
 writes_first_reply : (c : Client) (conns : ℕ → Conn) (s : Server) (a : ℕ → ℕ) (g st0 j0 : ℕ) (sq : ℕ → ℕ) (rg : ℕ → List Range) (a2 : ℕ → ℕ) → (locking (c.op g) ≡ true) → (c.sent g ≡ true) → (user_at c g ≡ Some g) → (kept_of c s g ≡ None) → (s.standing (open_at c g) ≡ true) → (firm (c.outcome g) ≡ false) → (s.journal ≤ j0) → ((p : ℕ) → locking (c.op p) ≡ true → p ≢ g → a2 p ≡ a p) → (a2 g ≡ (if st0 == success then 1 else 0)) → (c.before g ≡ false → (j n : ℕ) (y : Received) → slice_get (conns j).down n ≡ Some y → y.token ≢ ForOp g) → FirstReply c conns a → FirstReply c conns a2
 writes_first_reply c conns s a g st0 j0 sq rg a2 lock sent user free stands unfirm journal others own alone i_first_reply =
@@ -130,6 +130,7 @@ writes_keeps c conns s a g st0 j0 sq rg a2 lock sent user free stands unfirm jou
       slot_index = i.slot_index;
       user_body = i.user_body;
       in_use = i.in_use;
+      full_free = i.full_free;
       attached_low = i.attached_low;
       shut_ok = i.shut_ok;
       shut_gone = i.shut_gone;

@@ -1,7 +1,7 @@
 -- What holds of locks and unlocks in every world that a run leads to, where each operation acted a g times: between the
 -- client's slots, what waits on the connections, and what the server's opens keep.
 use Rattle.std.specs.Prelude.{◌≡◌, ◌≢◌, ℕ, ◌+◌, ◌≤◌, ◌<◌, ◌==◌, Bool, true, false, if◌then◌else◌, List, [], ◌∷◌, not, ◌&&◌, Option, Some, None, is_some, slice_get}
-use Rattle.exchange_defs.specs.Status.{success, user_session_deleted, file_closed, object_name_not_found, no_memory, disk_full}
+use Rattle.exchange_defs.specs.Status.{success, user_session_deleted, file_closed, object_name_not_found, disk_full}
 use Rattle.exchange_defs.specs.Texts.{same_name}
 use Rattle.exchange_defs.specs.Commands.{TreeConnect, deletes_on_close}
 use Rattle.exchange_defs.specs.State.{Server, Kept, Tree}
@@ -62,6 +62,10 @@ UserBody c = (q i g : ℕ) → c.slot_user q i ≡ Some g → locking (c.op g) �
 -- one that went out has its slot until it settles as Ok or Refused
 abbrev pub InUse : Client → Type 0
 InUse c = (g : ℕ) → c.sent g ≡ true → locking (c.op g) ≡ true → firm (c.outcome g) ≡ false → user_at c g ≡ Some g
+
+-- while one is unsettled, its slot never met a full disk
+abbrev pub FullFree : Client → Type 0
+FullFree c = (g : ℕ) → c.sent g ≡ true → locking (c.op g) ≡ true → is_unsettled (c.outcome g) ≡ true → c.full (create_at c g) (c.slot_of g) ≡ false
 
 abbrev pub AttachedLow : Client → Type 0
 AttachedLow c = (q : ℕ) → c.attached q ≤ c.number
@@ -175,10 +179,10 @@ OkReply c conns a = (k n g : ℕ) (y : Received) → slice_get (conns k).down n 
 
 -- a refusal that every copy meets
 abbrev pub NoReply : Client → (ℕ → Conn) → (ℕ → ℕ) → Type 0
-NoReply c conns a = (k n g : ℕ) (y : Received) → slice_get (conns k).down n ≡ Some y → y.token ≡ ForOp g → locking (c.op g) ≡ true → y.reply.status ≢ success → y.reply.status ≢ user_session_deleted → y.reply.status ≢ no_memory → y.reply.status ≢ disk_full → a g ≡ 0
+NoReply c conns a = (k n g : ℕ) (y : Received) → slice_get (conns k).down n ≡ Some y → y.token ≡ ForOp g → locking (c.op g) ≡ true → y.reply.status ≢ success → y.reply.status ≢ user_session_deleted → y.reply.status ≢ disk_full → a g ≡ 0
 
 abbrev pub KeptReply : Client → (ℕ → Conn) → Server → Type 0
-KeptReply c conns s = (k n g : ℕ) (y : Received) → slice_get (conns k).down n ≡ Some y → y.token ≡ ForOp g → locking (c.op g) ≡ true → y.reply.status ≢ user_session_deleted → y.reply.status ≢ no_memory → y.reply.status ≢ disk_full → s.standing (open_at c g) ≡ true → is_some (kept_of c s g) ≡ true
+KeptReply c conns s = (k n g : ℕ) (y : Received) → slice_get (conns k).down n ≡ Some y → y.token ≡ ForOp g → locking (c.op g) ≡ true → y.reply.status ≢ user_session_deleted → y.reply.status ≢ disk_full → s.standing (open_at c g) ≡ true → is_some (kept_of c s g) ≡ true
 
 -- the refusal of a sole copy
 abbrev pub FirstReply : Client → (ℕ → Conn) → (ℕ → ℕ) → Type 0
@@ -255,6 +259,7 @@ pub record Locks (c : Client) (conns : ℕ → Conn) (s : Server) (a : ℕ → �
   pub slot_index : SlotIndex c
   pub user_body : UserBody c
   pub in_use : InUse c
+  pub full_free : FullFree c
   pub attached_low : AttachedLow c
   pub shut_ok : ShutOk c
   pub shut_gone : ShutGone c
