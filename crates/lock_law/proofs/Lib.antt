@@ -44,3 +44,4 @@ pub mod Closing
 pub mod Serve
 pub mod Ends
 pub mod Pushing
+pub mod Lines
