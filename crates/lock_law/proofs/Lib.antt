@@ -45,3 +45,4 @@ pub mod Serve
 pub mod Ends
 pub mod Pushing
 pub mod Lines
+pub mod Settling
