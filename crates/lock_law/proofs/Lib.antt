@@ -46,3 +46,4 @@ pub mod Ends
 pub mod Pushing
 pub mod Lines
 pub mod Settling
+pub mod Taking

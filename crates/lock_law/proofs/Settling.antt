@@ -52,7 +52,7 @@ put_own f g o = grind arith
 put_other : (f : ℕ → Outcome) (g h : ℕ) (o : Outcome) → h ≢ g → put f g o h ≡ f h
 put_other f g h o d = grind arith
 
-still : (b : Bool) (P : Type 0) → b ≡ true → b ≡ false → P
+pub still : (b : Bool) (P : Type 0) → b ≡ true → b ≡ false → P
 still b P e f = absurd (grind arith)
 
 abbrev Shuts : Client → ℕ → Outcome → (ℕ → Bool) → Type 0
@@ -96,7 +96,7 @@ gone_ok c q (NoSlot n) e f = refl
 gone_ok c q (NoOpen n) e f = refl
 gone_ok c q (Unknown why) e f = refl
 
-own_for : (c : Client) (g : ℕ) → create_for c g ≡ create_at c g
+pub own_for : (c : Client) (g : ℕ) → create_for c g ≡ create_at c g
 unfolding its_create
 own_for c g = refl
 
@@ -173,15 +173,19 @@ kind_create : (op : Op) → is_create op ≡ true → makes_open op ≡ true
 unfolding makes_open
 kind_create op e = e
 
-kind_close : (op : Op) → is_close op ≡ shuts_open op
+kind_made : (op : Op) → is_create op ≡ makes_open op
+unfolding makes_open
+kind_made op = refl
+
+pub kind_close : (op : Op) → is_close op ≡ shuts_open op
 unfolding shuts_open
 kind_close op = refl
 
-kind_lock : (op : Op) → is_lock op ≡ locking op
+pub kind_lock : (op : Op) → is_lock op ≡ locking op
 unfolding locking
 kind_lock op = refl
 
-create_unshut : (op : Op) → makes_open op ≡ true → shuts_open op ≡ false
+pub create_unshut : (op : Op) → makes_open op ≡ true → shuts_open op ≡ false
 unfolding makes_open shuts_open
 create_unshut op e = grind arith
 
@@ -194,7 +198,7 @@ opened c g id = record c { file = put c.file g id; attached = put c.attached g c
 
 -- what the reply says, in the table before it and in the one that names its open
 pub record Says (c : Client) (conns : ℕ → Conn) (s : Server) (a : ℕ → ℕ) (k g : ℕ) (asking : Bool) (r : Reply) (o : Outcome) : Type 0 where
-  pub plain : Ready c conns s a k g o (filled c g asking r.status)
+  pub plain : (makes_open (c.op g) ≡ true → is_ok o ≡ false) → Ready c conns s a k g o (filled c g asking r.status)
   pub names_open : makes_open (c.op g) ≡ true → is_ok o ≡ true → Ready (opened c g (id_in r.body)) conns s a k g o (filled c g asking r.status)
   pub closes : shuts_open (c.op g) ≡ true → is_ok (c.outcome (create_at c g)) ≡ true × create_at c g ≢ g
 
@@ -225,22 +229,22 @@ pub settles : (c : Client) (conns : ℕ → Conn) (s : Server) (a : ℕ → ℕ)
 settles c conns s a k g asking r place o y = by_outcome o y
   where
     -- nothing was noted of an open
-    plainly : (o : Outcome) → Says c conns s a k g asking r o → (shuts_open (c.op g) ≡ true → is_ok o ≡ false) → Locks (if settles_open (c.op g) then with_no_opens (settled (noted_full c g asking r.status) g o place) (create_for c g) else settled (noted_full c g asking r.status) g o place) conns s a
-    plainly o y quiet =
+    plainly : (o : Outcome) → Says c conns s a k g asking r o → (shuts_open (c.op g) ≡ true → is_ok o ≡ false) → (makes_open (c.op g) ≡ true → is_ok o ≡ false) → Locks (if settles_open (c.op g) then with_no_opens (settled (noted_full c g asking r.status) g o place) (create_for c g) else settled (noted_full c g asking r.status) g o place) conns s a
+    plainly o y quiet unmade =
         full_column (λ x. Locks (if settles_open (c.op g) then with_no_opens (settled x g o place) (create_for c g) else settled x g o place) conns s a) c g asking r.status
         (either (λ x. Locks x conns s a) (settles_open (c.op g)) _ _
-        (λ _. leaf2 c conns s a k g o c.shut (filled c g asking r.status) place y.plain (λ q e. inl e) (λ q e. e) (λ e f. still (is_ok o) _ f (quiet e)) y.closes)
-        (λ off. leaf1 c conns s a k g o (filled c g asking r.status) place y.plain (sym (kind_close (c.op g)) ∙ back_off (is_create (c.op g)) (is_close (c.op g)) off)))
+        (λ _. leaf2 c conns s a k g o c.shut (filled c g asking r.status) place (y.plain unmade) (λ q e. inl e) (λ q e. e) (λ e f. still (is_ok o) _ f (quiet e)) y.closes)
+        (λ off. leaf1 c conns s a k g o (filled c g asking r.status) place (y.plain unmade) (sym (kind_close (c.op g)) ∙ back_off (is_create (c.op g)) (is_close (c.op g)) off)))
       where
         back_off : (x y : Bool) → (x || y) ≡ false → y ≡ false
         back_off x y e = grind arith
 
     by_outcome : (o : Outcome) → Says c conns s a k g asking r o → Locks (settle c g asking r place o) conns s a
-    by_outcome Unsettled y = plainly Unsettled y (λ e. refl)
-    by_outcome (WasRefused status) y = plainly (WasRefused status) y (λ e. refl)
-    by_outcome (NoSlot create) y = plainly (NoSlot create) y (λ e. refl)
-    by_outcome (NoOpen create) y = plainly (NoOpen create) y (λ e. refl)
-    by_outcome (Unknown why) y = plainly (Unknown why) y (λ e. refl)
+    by_outcome Unsettled y = plainly Unsettled y (λ e. refl) (λ e. refl)
+    by_outcome (WasRefused status) y = plainly (WasRefused status) y (λ e. refl) (λ e. refl)
+    by_outcome (NoSlot create) y = plainly (NoSlot create) y (λ e. refl) (λ e. refl)
+    by_outcome (NoOpen create) y = plainly (NoOpen create) y (λ e. refl) (λ e. refl)
+    by_outcome (Unknown why) y = plainly (Unknown why) y (λ e. refl) (λ e. refl)
     by_outcome (WasOk reply) y =
         either (λ x. Locks (if settles_open (c.op g) then with_no_opens (settled (noted_full x g asking r.status) g (WasOk reply) place) (create_for c g) else settled (noted_full x g asking r.status) g (WasOk reply) place) conns s a) (is_create (c.op g)) (opened c g (id_in r.body)) (if is_close (c.op g) then record c { shut = put c.shut (create_for c g) true } else c)
         (λ cr. let mk = kind_create (c.op g) cr in
@@ -252,11 +256,11 @@ settles c conns s a k g asking r place o y = by_outcome o y
         (λ cl. let sh : shuts_open (c.op g) ≡ true = sym (kind_close (c.op g)) ∙ cl in
         full_column (λ x. Locks (if settles_open (c.op g) then with_no_opens (settled x g (WasOk reply) place) (create_for c g) else settled x g (WasOk reply) place) conns s a) (record c { shut = put c.shut (create_for c g) true }) g asking r.status
         (either (λ x. Locks x conns s a) (settles_open (c.op g)) (with_no_opens (done_at c g (WasOk reply) (put c.shut (create_for c g) true) (filled c g asking r.status) place) (create_for c g)) (done_at c g (WasOk reply) (put c.shut (create_for c g) true) (filled c g asking r.status) place)
-        (λ _. leaf2 c conns s a k g (WasOk reply) (put c.shut (create_for c g) true) (filled c g asking r.status) place y.plain
+        (λ _. leaf2 c conns s a k g (WasOk reply) (put c.shut (create_for c g) true) (filled c g asking r.status) place (y.plain (λ e. still (shuts_open (c.op g)) _ sh (create_unshut (c.op g) e)))
         (λ q e. shut_new q sh (put_shut c.shut (create_for c g) q e)) (λ q e. put_more c.shut (create_for c g) q e)
         (λ e f. subst (λ z. put c.shut (create_for c g) true z ≡ true) (own_for c g) (put_here c.shut (create_for c g))) y.closes)
         (λ off. still (settles_open (c.op g)) _ (either_on (is_create (c.op g)) (is_close (c.op g)) cl) off)))
-        (λ ncl. plainly (WasOk reply) y (λ e. still (is_close (c.op g)) _ (kind_close (c.op g) ∙ e) ncl)))
+        (λ ncl. plainly (WasOk reply) y (λ e. still (is_close (c.op g)) _ (kind_close (c.op g) ∙ e) ncl) (λ e. still (makes_open (c.op g)) _ e (sym (kind_made (c.op g)) ∙ ncr))))
       where
         either_on : (x y : Bool) → y ≡ true → (x || y) ≡ true
         either_on x y e = grind arith
