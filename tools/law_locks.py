@@ -19,6 +19,7 @@ PARTS = {
     "full_free": ("c", "p", "sent op outcome full slot_of"),
     "attached_low": ("c", "q", "attached number"),
     "shut_ok": ("c", "p", "op outcome shut"),
+    "shut_made": ("c", "q", "shut outcome taken"),
     "shut_gone": ("c", "p", "taken op shut sent outcome"),
     "close_before": ("c", "p q", "sent op outcome"),
     "close_after": ("c", "q p", "sent op outcome"),
@@ -298,6 +299,7 @@ settle = event("Settle", "a reply settles its operation", "outcome on shut full"
       [("on", "c.on g ≡ Some k"), ("own", "new g ≡ o0"), ("settled0", "is_unsettled o0 ≡ false"), ("real", "is_unsent o0 ≡ false")] + SAME
       + [("gone", "(p : ℕ) → 0 < p → p ≤ c.taken → makes_open (c.op p) ≡ false → sh (create_at c p) ≡ true → c.sent p ≡ false → is_unsettled (new p) ≡ false"),
          ("shuts", "(h : ℕ) → shuts_open (c.op h) ≡ true → is_ok (new h) ≡ true → sh (create_at c h) ≡ true"),
+         ("shut_ok", "(q : ℕ) → sh q ≡ true → is_ok (new q) ≡ true × q ≤ c.taken"),
          ("full_same", "(p : ℕ) → p ≢ g → user_at c p ≡ Some p → fu (create_at c p) (c.slot_of p) ≡ c.full (create_at c p) (c.slot_of p)"),
          ("kept", "firm o0 ≡ true → user_at c g ≡ Some g → fu (create_at c g) (c.slot_of g) ≡ false → s.standing (open_at c g) ≡ true → is_some (kept_of c s g) ≡ true"),
          ("made", "(r : ℕ) → is_ok o0 ≡ true → makes_open (c.op g) ≡ true → s.standing (c.file g) ≡ true → s.slots (c.file g) r ≡ None"),
@@ -308,7 +310,7 @@ settle = event("Settle", "a reply settles its operation", "outcome on shut full"
          ("acted", "locking (c.op g) ≡ true → is_ok o0 ≡ true → a g ≡ 1"), ("unacted", "locking (c.op g) ≡ true → refused_for_good o0 ≡ true → a g ≡ 0")],
       c="(record c { outcome = new; on = put c.on g None; by = by0; order = order0; shut = sh; full = fu })",
       parts={
-          "shut_gone": "λ p l m e f. gone p l m e f", "shut_ok": "λ p. shuts p",
+          "shut_gone": "λ p l m e f. gone p l m e f", "shut_ok": "λ p. shuts p", "shut_made": "λ q. shut_ok q",
       })
 
 
@@ -345,6 +347,7 @@ event("NoSlot", "operations that never went out settle", "outcome", "(g : ℕ) (
           "in_use": "λ p. let old = i.in_use p in let sm = same p in grind arith",
           "full_free": "λ p. let old = i.full_free p in let sm = same p in grind arith",
           "shut_ok": "λ p. let old = i.shut_ok p in let sm = same p in let so = unsent_ok (new p) in grind arith",
+          "shut_made": "λ q e. let old = i.shut_made q e in let sm = same q in let so = ok_settled (c.outcome q) old.0 in grind arith",
           "shut_gone": "λ p. let old = i.shut_gone p in let sm = same p in let so = unsent_settled (new p) in grind arith",
           "close_before": "λ p q. let old = i.close_before p q in let sm = same q in grind arith",
           "close_after": "λ q p. let old = i.close_after q p in let sm = same p in grind arith",
@@ -392,6 +395,7 @@ for e in (leave, finish):
         "in_use": "λ p s0 l. let old = i.in_use p s0 l in let sm = same p in let uf = unsettled_firm (c.outcome p) in grind arith",
         "full_free": "λ p s0 l. let old = i.full_free p s0 l in let sm = same p in grind arith",
         "shut_ok": "λ p. let old = i.shut_ok p in let sm = same p in let uf = unfirm p in grind arith",
+        "shut_made": "λ q e. let old = i.shut_made q e in let sm = same q in let so = ok_settled (c.outcome q) old.0 in grind arith",
         "shut_gone": "λ p l m. let old = i.shut_gone p l m in let sm = same p in grind arith",
         "close_before": "λ p q. let old = i.close_before p q in let sm = same q in grind arith",
         "close_after": "λ q p. let old = i.close_after q p in let sm = same p in grind arith",

@@ -16,7 +16,7 @@ use Rattle.exchange_defs.specs.Network.{Conn, Sent, Received, Token, ForDialog, 
 use Rattle.exchange_law.specs.Connections.{Connections, copies, count_up, count_down, no_copy_out, makes_open, shuts_open, acts_once, its_create, its_request, create_at, opens, Once, Outstanding, OwnUp, AttachUp, OwnDown, AttachDown, DownOpen, OnReady, Ready, Stages, Settled, Taken, TakenOn, Creates, Lower, HasOpen, AskedOpen, Fresh, Bodies, First, Unsent, SentReplies, Deleted}
 use Rattle.exchange_law.proofs.Lists.{get-push, rest_of, own_up_count, own_down_count, attach_up_count, attach_down_count, front_up, front_down, waited, waited_down}
 use Rattle.session_law.specs.Sessions.{is_ops}
-use Rattle.lock_law.specs.Locks.{Locks, locking, kept_at, firm, is_unsent, refused_for_good, in_slots, user_at, open_at, kept_of, goes_with, piped, all_piped, SlotIndex, UserBody, InUse, FullFree, AttachedLow, ShutOk, ShutGone, CloseBefore, CloseAfter, UnsentGone, AskedNew, NoSession, Unanswered, AskUp, AskDown, PresentUp, Users, CopyNow, RetriedOn, RetriedDone, CopyAttached, NowAttached, OpenedReply, JoinReply, JoinedReply, LostReply, KeptSays, NotKept, FirmKept, NoUser, NoSlots, FullDead, OkReply, NoReply, KeptReply, FirstReply, ClosedNot, KeptFiles, LeftFull, LeftStuck, LeftIdle, CloseDone, CloseFull, CloseStuck, TreesOf, ShareUp, MadePlain, AtMost, OkActed, RefusedNot}
+use Rattle.lock_law.specs.Locks.{Locks, locking, kept_at, firm, is_unsent, refused_for_good, in_slots, user_at, open_at, kept_of, goes_with, piped, all_piped, SlotIndex, UserBody, InUse, FullFree, AttachedLow, ShutOk, ShutMade, ShutGone, CloseBefore, CloseAfter, UnsentGone, AskedNew, NoSession, Unanswered, AskUp, AskDown, PresentUp, Users, CopyNow, RetriedOn, RetriedDone, CopyAttached, NowAttached, OpenedReply, JoinReply, JoinedReply, LostReply, KeptSays, NotKept, FirmKept, NoUser, NoSlots, FullDead, OkReply, NoReply, KeptReply, FirstReply, ClosedNot, KeptFiles, LeftFull, LeftStuck, LeftIdle, CloseDone, CloseFull, CloseStuck, TreesOf, ShareUp, MadePlain, AtMost, OkActed, RefusedNot}
 use Rattle.lock_law.proofs.Words.{lock_kind, lock_stays, lock_once, close_kind, own_create, unsettled_firm, unsettled_unsent, unsettled_ok, unsettled_refused, unsent_firm, unsent_ok, ok_firm, ok_settled, firm_settled, unsent_settled, unsent_refused, refused_how, kept_none, kept_same, kept_other, kept_is_some, more_up, more_down, more_asks, down_is_open, up_on, down_on, ask_on, ok_of, made_of, own_ops, own_reply_ops, ask_reply_ops, split_at}
 
 dialog_off_asked_new : (c : Client) (conns : ℕ → Conn) (s : Server) (a : ℕ → ℕ) (k : ℕ) → (c.ready k ≡ false) → AskedNew c → AskedNew (leave_dialog c k)
@@ -132,6 +132,7 @@ dialog_off_keeps c conns s a k apart C i =
       full_free = i.full_free;
       attached_low = i.attached_low;
       shut_ok = i.shut_ok;
+      shut_made = i.shut_made;
       shut_gone = i.shut_gone;
       close_before = i.close_before;
       close_after = i.close_after;

@@ -16,7 +16,7 @@ use Rattle.exchange_defs.specs.Network.{Conn, Sent, Received, Token, ForDialog, 
 use Rattle.exchange_law.specs.Connections.{Connections, copies, count_up, count_down, no_copy_out, makes_open, shuts_open, acts_once, its_create, its_request, create_at, opens, Once, Outstanding, OwnUp, AttachUp, OwnDown, AttachDown, DownOpen, OnReady, Ready, Stages, Settled, Taken, TakenOn, Creates, Lower, HasOpen, AskedOpen, Fresh, Bodies, First, Unsent, SentReplies, Deleted}
 use Rattle.exchange_law.proofs.Lists.{get-push, rest_of, own_up_count, own_down_count, attach_up_count, attach_down_count, front_up, front_down, waited, waited_down}
 use Rattle.session_law.specs.Sessions.{is_ops}
-use Rattle.lock_law.specs.Locks.{Locks, locking, kept_at, firm, is_unsent, refused_for_good, in_slots, user_at, open_at, kept_of, goes_with, piped, all_piped, SlotIndex, UserBody, InUse, FullFree, AttachedLow, ShutOk, ShutGone, CloseBefore, CloseAfter, UnsentGone, AskedNew, NoSession, Unanswered, AskUp, AskDown, PresentUp, Users, CopyNow, RetriedOn, RetriedDone, CopyAttached, NowAttached, OpenedReply, JoinReply, JoinedReply, LostReply, KeptSays, NotKept, FirmKept, NoUser, NoSlots, FullDead, OkReply, NoReply, KeptReply, FirstReply, ClosedNot, KeptFiles, LeftFull, LeftStuck, LeftIdle, CloseDone, CloseFull, CloseStuck, TreesOf, ShareUp, MadePlain, AtMost, OkActed, RefusedNot}
+use Rattle.lock_law.specs.Locks.{Locks, locking, kept_at, firm, is_unsent, refused_for_good, in_slots, user_at, open_at, kept_of, goes_with, piped, all_piped, SlotIndex, UserBody, InUse, FullFree, AttachedLow, ShutOk, ShutMade, ShutGone, CloseBefore, CloseAfter, UnsentGone, AskedNew, NoSession, Unanswered, AskUp, AskDown, PresentUp, Users, CopyNow, RetriedOn, RetriedDone, CopyAttached, NowAttached, OpenedReply, JoinReply, JoinedReply, LostReply, KeptSays, NotKept, FirmKept, NoUser, NoSlots, FullDead, OkReply, NoReply, KeptReply, FirstReply, ClosedNot, KeptFiles, LeftFull, LeftStuck, LeftIdle, CloseDone, CloseFull, CloseStuck, TreesOf, ShareUp, MadePlain, AtMost, OkActed, RefusedNot}
 use Rattle.lock_law.proofs.Words.{lock_kind, lock_stays, lock_once, close_kind, own_create, unsettled_firm, unsettled_unsent, unsettled_ok, unsettled_refused, unsent_firm, unsent_ok, ok_firm, ok_settled, firm_settled, unsent_settled, unsent_refused, refused_how, kept_none, kept_same, kept_other, kept_is_some, more_up, more_down, more_asks, down_is_open, up_on, down_on, ask_on, ok_of, made_of, own_ops, own_reply_ops, ask_reply_ops, split_at}
 
 -- what is firm behind it was firm before
@@ -35,6 +35,10 @@ settle_full_free c conns s a k g o0 new sh fu by0 order0 on own settled0 real sa
 settle_shut_ok : (c : Client) (conns : ℕ → Conn) (s : Server) (a : ℕ → ℕ) (k g : ℕ) (o0 : Outcome) (new : ℕ → Outcome) (sh : ℕ → Bool) (fu : ℕ → ℕ → Bool) (by0 : ℕ → Option ℕ) (order0 : List ℕ) → (c.on g ≡ Some k) → (new g ≡ o0) → (is_unsettled o0 ≡ false) → (is_unsent o0 ≡ false) → ((h : ℕ) → shuts_open (c.op h) ≡ true → is_ok (new h) ≡ true → sh (create_at c h) ≡ true) → ShutOk c → ShutOk (record c { outcome = new; on = put c.on g None; by = by0; order = order0; shut = sh; full = fu })
 settle_shut_ok c conns s a k g o0 new sh fu by0 order0 on own settled0 real shuts i_shut_ok =
     λ p. shuts p
+
+settle_shut_made : (c : Client) (conns : ℕ → Conn) (s : Server) (a : ℕ → ℕ) (k g : ℕ) (o0 : Outcome) (new : ℕ → Outcome) (sh : ℕ → Bool) (fu : ℕ → ℕ → Bool) (by0 : ℕ → Option ℕ) (order0 : List ℕ) → (c.on g ≡ Some k) → (new g ≡ o0) → (is_unsettled o0 ≡ false) → (is_unsent o0 ≡ false) → ((q : ℕ) → sh q ≡ true → is_ok (new q) ≡ true × q ≤ c.taken) → ShutMade c → ShutMade (record c { outcome = new; on = put c.on g None; by = by0; order = order0; shut = sh; full = fu })
+settle_shut_made c conns s a k g o0 new sh fu by0 order0 on own settled0 real shut_ok i_shut_made =
+    λ q. shut_ok q
 
 settle_shut_gone : (c : Client) (conns : ℕ → Conn) (s : Server) (a : ℕ → ℕ) (k g : ℕ) (o0 : Outcome) (new : ℕ → Outcome) (sh : ℕ → Bool) (fu : ℕ → ℕ → Bool) (by0 : ℕ → Option ℕ) (order0 : List ℕ) → (c.on g ≡ Some k) → (new g ≡ o0) → (is_unsettled o0 ≡ false) → (is_unsent o0 ≡ false) → ((p : ℕ) → 0 < p → p ≤ c.taken → makes_open (c.op p) ≡ false → sh (create_at c p) ≡ true → c.sent p ≡ false → is_unsettled (new p) ≡ false) → ShutGone c → ShutGone (record c { outcome = new; on = put c.on g None; by = by0; order = order0; shut = sh; full = fu })
 settle_shut_gone c conns s a k g o0 new sh fu by0 order0 on own settled0 real gone i_shut_gone =
@@ -112,8 +116,8 @@ settle_refused_not : (c : Client) (conns : ℕ → Conn) (s : Server) (a : ℕ �
 settle_refused_not c conns s a k g o0 new sh fu by0 order0 on own settled0 real same gives unacted C_fresh i_refused_not =
     λ p. let old = i_refused_not p in let ac = unacted in let fr = C_fresh p in let ur = unsettled_refused (new p) in let sm = same p in let gv = gives p in grind arith
 
-pub settle_keeps : (c : Client) (conns : ℕ → Conn) (s : Server) (a : ℕ → ℕ) (k g : ℕ) (o0 : Outcome) (new : ℕ → Outcome) (sh : ℕ → Bool) (fu : ℕ → ℕ → Bool) (by0 : ℕ → Option ℕ) (order0 : List ℕ) → (c.on g ≡ Some k) → (new g ≡ o0) → (is_unsettled o0 ≡ false) → (is_unsent o0 ≡ false) → ((h : ℕ) → h ≢ g → is_unsettled (c.outcome h) ≡ false → new h ≡ c.outcome h) → ((h : ℕ) → h ≢ g → is_unsettled (c.outcome h) ≡ true → is_unsettled (new h) ≡ false → is_unsent (new h) ≡ true × c.sent h ≡ false) → ((p : ℕ) → 0 < p → p ≤ c.taken → makes_open (c.op p) ≡ false → sh (create_at c p) ≡ true → c.sent p ≡ false → is_unsettled (new p) ≡ false) → ((h : ℕ) → shuts_open (c.op h) ≡ true → is_ok (new h) ≡ true → sh (create_at c h) ≡ true) → ((p : ℕ) → p ≢ g → user_at c p ≡ Some p → fu (create_at c p) (c.slot_of p) ≡ c.full (create_at c p) (c.slot_of p)) → (firm o0 ≡ true → user_at c g ≡ Some g → fu (create_at c g) (c.slot_of g) ≡ false → s.standing (open_at c g) ≡ true → is_some (kept_of c s g) ≡ true) → ((r : ℕ) → is_ok o0 ≡ true → makes_open (c.op g) ≡ true → s.standing (c.file g) ≡ true → s.slots (c.file g) r ≡ None) → (makes_open (c.op g) ≡ true → is_ok o0 ≡ true → c.live ≡ true → s.present c.session ≡ true → s.standing (c.file g) ≡ true → s.at (c.file g) ≡ Some c.session) → ((j n : ℕ) (x : Sent) → slice_get (conns j).up n ≡ Some x → x.token ≡ ForOp g → locking (c.op g) ≡ true → firm o0 ≡ true → s.present x.message.session ≡ true → fu (create_at c g) (c.slot_of g) ≡ false) → ((j n : ℕ) (x : Sent) → slice_get (conns j).up n ≡ Some x → x.token ≡ ForOp g → shuts_open (c.op g) ≡ true → is_ok o0 ≡ false → s.present x.message.session ≡ true → s.standing (open_at c g) ≡ true → (s.opened (open_at c g)).persistent ≡ true → lower_limit < s.journal + 66) → ((j n : ℕ) (x : Sent) → slice_get (conns j).up n ≡ Some x → x.token ≡ ForOp g → shuts_open (c.op g) ≡ true → is_ok o0 ≡ false → s.present x.message.session ≡ true → s.standing (open_at c g) ≡ true → (s.opened (open_at c g)).persistent ≡ false → lower_limit < s.journal + 34 × goes_with s (open_at c g) ≡ true) → (locking (c.op g) ≡ true → is_ok o0 ≡ true → a g ≡ 1) → (locking (c.op g) ≡ true → refused_for_good o0 ≡ true → a g ≡ 0) → Connections c conns a → Locks c conns s a → Locks (record c { outcome = new; on = put c.on g None; by = by0; order = order0; shut = sh; full = fu }) conns s a
-settle_keeps c conns s a k g o0 new sh fu by0 order0 on own settled0 real same gives gone shuts full_same kept made near dead full stuck acted unacted C i =
+pub settle_keeps : (c : Client) (conns : ℕ → Conn) (s : Server) (a : ℕ → ℕ) (k g : ℕ) (o0 : Outcome) (new : ℕ → Outcome) (sh : ℕ → Bool) (fu : ℕ → ℕ → Bool) (by0 : ℕ → Option ℕ) (order0 : List ℕ) → (c.on g ≡ Some k) → (new g ≡ o0) → (is_unsettled o0 ≡ false) → (is_unsent o0 ≡ false) → ((h : ℕ) → h ≢ g → is_unsettled (c.outcome h) ≡ false → new h ≡ c.outcome h) → ((h : ℕ) → h ≢ g → is_unsettled (c.outcome h) ≡ true → is_unsettled (new h) ≡ false → is_unsent (new h) ≡ true × c.sent h ≡ false) → ((p : ℕ) → 0 < p → p ≤ c.taken → makes_open (c.op p) ≡ false → sh (create_at c p) ≡ true → c.sent p ≡ false → is_unsettled (new p) ≡ false) → ((h : ℕ) → shuts_open (c.op h) ≡ true → is_ok (new h) ≡ true → sh (create_at c h) ≡ true) → ((q : ℕ) → sh q ≡ true → is_ok (new q) ≡ true × q ≤ c.taken) → ((p : ℕ) → p ≢ g → user_at c p ≡ Some p → fu (create_at c p) (c.slot_of p) ≡ c.full (create_at c p) (c.slot_of p)) → (firm o0 ≡ true → user_at c g ≡ Some g → fu (create_at c g) (c.slot_of g) ≡ false → s.standing (open_at c g) ≡ true → is_some (kept_of c s g) ≡ true) → ((r : ℕ) → is_ok o0 ≡ true → makes_open (c.op g) ≡ true → s.standing (c.file g) ≡ true → s.slots (c.file g) r ≡ None) → (makes_open (c.op g) ≡ true → is_ok o0 ≡ true → c.live ≡ true → s.present c.session ≡ true → s.standing (c.file g) ≡ true → s.at (c.file g) ≡ Some c.session) → ((j n : ℕ) (x : Sent) → slice_get (conns j).up n ≡ Some x → x.token ≡ ForOp g → locking (c.op g) ≡ true → firm o0 ≡ true → s.present x.message.session ≡ true → fu (create_at c g) (c.slot_of g) ≡ false) → ((j n : ℕ) (x : Sent) → slice_get (conns j).up n ≡ Some x → x.token ≡ ForOp g → shuts_open (c.op g) ≡ true → is_ok o0 ≡ false → s.present x.message.session ≡ true → s.standing (open_at c g) ≡ true → (s.opened (open_at c g)).persistent ≡ true → lower_limit < s.journal + 66) → ((j n : ℕ) (x : Sent) → slice_get (conns j).up n ≡ Some x → x.token ≡ ForOp g → shuts_open (c.op g) ≡ true → is_ok o0 ≡ false → s.present x.message.session ≡ true → s.standing (open_at c g) ≡ true → (s.opened (open_at c g)).persistent ≡ false → lower_limit < s.journal + 34 × goes_with s (open_at c g) ≡ true) → (locking (c.op g) ≡ true → is_ok o0 ≡ true → a g ≡ 1) → (locking (c.op g) ≡ true → refused_for_good o0 ≡ true → a g ≡ 0) → Connections c conns a → Locks c conns s a → Locks (record c { outcome = new; on = put c.on g None; by = by0; order = order0; shut = sh; full = fu }) conns s a
+settle_keeps c conns s a k g o0 new sh fu by0 order0 on own settled0 real same gives gone shuts shut_ok full_same kept made near dead full stuck acted unacted C i =
     record {
       slot_index = i.slot_index;
       user_body = i.user_body;
@@ -121,6 +125,7 @@ settle_keeps c conns s a k g o0 new sh fu by0 order0 on own settled0 real same g
       full_free = settle_full_free c conns s a k g o0 new sh fu by0 order0 on own settled0 real same gives full_same i.full_free i.in_use;
       attached_low = i.attached_low;
       shut_ok = settle_shut_ok c conns s a k g o0 new sh fu by0 order0 on own settled0 real shuts i.shut_ok;
+      shut_made = settle_shut_made c conns s a k g o0 new sh fu by0 order0 on own settled0 real shut_ok i.shut_made;
       shut_gone = settle_shut_gone c conns s a k g o0 new sh fu by0 order0 on own settled0 real gone i.shut_gone;
       close_before = settle_close_before c conns s a k g o0 new sh fu by0 order0 on own settled0 real same C.settled i.close_before;
       close_after = settle_close_after c conns s a k g o0 new sh fu by0 order0 on own settled0 real same i.close_after;

@@ -55,6 +55,15 @@ put_other f g h o d = grind arith
 pub still : (b : Bool) (P : Type 0) → b ≡ true → b ≡ false → P
 still b P e f = absurd (grind arith)
 
+no_both : (b : Bool) → b ≡ true → b ≡ false → ⊥
+no_both b e f = absurd (grind arith)
+
+some_on : (u : Option ℕ) (k : ℕ) → u ≡ Some k → is_some u ≡ true
+some_on u k e = rw e refl
+
+below : (n g m : ℕ) → n < g → g ≤ m → n ≤ m
+below n g m l e = omega (arith, l, e)
+
 abbrev Shuts : Client → ℕ → Outcome → (ℕ → Bool) → Type 0
 Shuts d g o sh = (q : ℕ) → sh q ≡ true → (d.shut q ≡ true) ⊎ (q ≡ create_at d g × is_ok o ≡ true × shuts_open (d.op g) ≡ true)
 
@@ -66,6 +75,7 @@ leaf1 d conns s a k g o fu place r off =
     (λ h x e f. still (is_unsettled (d.outcome h)) _ e (sym (ap is_unsettled (put_other d.outcome g h o x)) ∙ f))
     (λ p l m e f u. split_at (λ z. is_unsettled (put d.outcome g o z) ≡ false) g p (λ x. ap is_unsettled (put_other d.outcome g p o x) ∙ r.locks.shut_gone p l m e f u) (ap is_unsettled (put_own d.outcome g o) ∙ r.firm))
     (λ h sh ok. shut_before h sh ok)
+    (λ q e. let sm = r.locks.shut_made q e in (split_at (λ z. is_ok (d.outcome z) ≡ true → is_ok (put d.outcome g o z) ≡ true) g q (λ x f. ap is_ok (put_other d.outcome g q o x) ∙ f) (λ f. still (is_ok (d.outcome g)) _ f (unsettled_ok (d.outcome g) r.pending)) sm.0, sm.1))
     r.told.full_same r.told.kept r.told.made r.told.near r.told.dead r.told.full r.told.stuck r.told.acted r.told.unacted r.links r.locks
   where
     shut_before : (h : ℕ) → shuts_open (d.op h) ≡ true → is_ok (put d.outcome g o h) ≡ true → d.shut (create_at d h) ≡ true
@@ -119,6 +129,7 @@ leaf2 d conns s a k g o sh fu place r shuts more own open1 =
     (λ h x e f. let u : is_unsettled (D.outcome h) ≡ true = ap is_unsettled (put_other d.outcome g h o x) ∙ e in without_new (names h) (d.sent h) gone q (D.outcome h) u f)
     (λ p l m e f u. gone_with p l m e f u)
     (λ h e ok. shut_then h e ok)
+    (λ x e. shut_ok_new x (shuts x e))
     r.told.full_same r.told.kept r.told.made r.told.near r.told.dead r.told.full r.told.stuck r.told.acted r.told.unacted r.links r.locks
   where
     D : Client
@@ -153,6 +164,20 @@ leaf2 d conns s a k g o sh fu place r shuts more own open1 =
             let okq : is_ok (D.outcome q) ≡ true = subst (λ z. is_ok (D.outcome z) ≡ true) (sym qs) (ap is_ok (put_other d.outcome g (create_at d g) o op.1) ∙ op.0) in
             let shq : sh q ≡ true = subst (λ z. sh z ≡ true) (new.0 ∙ sym qs) f in
             without_gone (names p) (d.sent p) gone q (D.outcome p) (named_in (create_for D p) q (is_create (d.op p)) (own_for d p ∙ (new.0 ∙ sym qs)) (no_create (d.op p) e)) u (gone_ok D q (D.outcome q) okq shq)
+
+    ok_new : (x : ℕ) → x ≢ g → is_ok (d.outcome x) ≡ true → is_ok (give_up_on D q x) ≡ true
+    ok_new x a e = ap is_ok (kept_new x (ap is_unsettled (put_other d.outcome g x o a) ∙ ok_settled (d.outcome x) e) ∙ put_other d.outcome g x o a) ∙ e
+
+    not_g : (x : ℕ) → is_ok (d.outcome x) ≡ true → x ≢ g
+    not_g x e = λ f. no_both (is_ok (d.outcome x)) e (ap (λ z. is_ok (d.outcome z)) f ∙ unsettled_ok (d.outcome g) r.pending)
+
+    shut_ok_new : (x : ℕ) → (d.shut x ≡ true) ⊎ (x ≡ create_at d g × is_ok o ≡ true × shuts_open (d.op g) ≡ true) → is_ok (give_up_on D q x) ≡ true × x ≤ d.taken
+    shut_ok_new x (inl old) = let sm = r.locks.shut_made x old in (ok_new x (not_g x sm.0) sm.0, sm.1)
+    shut_ok_new x (inr new) =
+        let op = open1 new.2 in
+        let tn = r.links.taken_on g (some_on (d.on g) k r.on) in
+        let cr = r.links.creates g tn.0 tn.1 (close_kind (d.op g) new.2) in
+        (subst (λ z. is_ok (give_up_on D q z) ≡ true) (sym new.0) (ok_new (create_at d g) op.1 op.0), subst (λ z. z ≤ d.taken) (sym new.0) (below (create_at d g) g d.taken cr.1 tn.1))
 
     shut_then : (h : ℕ) → shuts_open (d.op h) ≡ true → is_ok (give_up_on D q h) ≡ true → sh (create_at d h) ≡ true
     shut_then h e ok = split_at (λ z. shuts_open (d.op z) ≡ true → is_ok (give_up_on D q z) ≡ true → sh (create_at d z) ≡ true) g h (λ x f y. others h x f y) (λ f y. own f (sym (ap is_ok (kept_new g (ap is_unsettled (put_own d.outcome g o) ∙ r.firm) ∙ put_own d.outcome g o)) ∙ y)) e ok

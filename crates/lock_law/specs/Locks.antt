@@ -74,6 +74,9 @@ AttachedLow c = (q : ℕ) → c.attached q ≤ c.number
 abbrev pub ShutOk : Client → Type 0
 ShutOk c = (h : ℕ) → shuts_open (c.op h) ≡ true → is_ok (c.outcome h) ≡ true → c.shut (create_at c h) ≡ true
 
+abbrev pub ShutMade : Client → Type 0
+ShutMade c = (q : ℕ) → c.shut q ≡ true → is_ok (c.outcome q) ≡ true × q ≤ c.taken
+
 abbrev pub ShutGone : Client → Type 0
 ShutGone c = (g : ℕ) → 0 < g → g ≤ c.taken → makes_open (c.op g) ≡ false → c.shut (create_at c g) ≡ true → c.sent g ≡ false → is_unsettled (c.outcome g) ≡ false
 
@@ -262,6 +265,7 @@ pub record Locks (c : Client) (conns : ℕ → Conn) (s : Server) (a : ℕ → �
   pub full_free : FullFree c
   pub attached_low : AttachedLow c
   pub shut_ok : ShutOk c
+  pub shut_made : ShutMade c
   pub shut_gone : ShutGone c
   pub close_before : CloseBefore c
   pub close_after : CloseAfter c
