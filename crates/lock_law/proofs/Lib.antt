@@ -47,3 +47,4 @@ pub mod Pushing
 pub mod Lines
 pub mod Settling
 pub mod Taking
+pub mod Run
