@@ -641,5 +641,5 @@ if __name__ == "__main__":
             emit(e)
     first = ["Words", "Views", "Rooms", "Verdicts", "Steady", "Bare", "Undeleting", "Trees"]
     first = [n for n in first if os.path.exists(os.path.join(TOP, n + ".antt"))]
-    later = [n for n in ("Facing", "Sees", "Serving", "Others", "Locking", "Closing", "Serve", "Ends", "Pushing", "Lines", "Settling", "Taking", "Run", "Once") if os.path.exists(os.path.join(TOP, n + ".antt"))]
+    later = [n for n in ("Facing", "Sees", "Serving", "Others", "Locking", "Closing", "Serve", "Ends", "Pushing", "Lines", "Settling", "Taking", "Run", "Law") if os.path.exists(os.path.join(TOP, n + ".antt"))]
     open(os.path.join(TOP, "Lib.antt"), "w").write("".join("pub mod %s\n" % n for n in first + [e.name for e in EVENTS] + later))

@@ -48,3 +48,4 @@ pub mod Lines
 pub mod Settling
 pub mod Taking
 pub mod Run
+pub mod Law
