@@ -1,18 +1,18 @@
 -- An answer that owes no record leaves the files as they are.
 use Rattle.std.proofs.lemmas.Bool.{eqb-false}
-use Rattle.std.proofs.Common.{eqb-true, ◌≡◌, ◌≢◌, ◌⊎◌, inl, inr, ℕ, ◌+◌, ◌==◌, ◌≤◌, ◌<◌, nat_le, Bool, true, false, not, ◌&&◌, ◌||◌, if◌then◌else◌, List, [], ◌∷◌, ◌++◌, Option, Some, None, is_some, refl, arith, sym, ◌∙◌, ap, subst}
+use Rattle.std.proofs.Common.{eqb-true, ◌≡◌, ℕ, ◌==◌, Bool, true, false, not, ◌&&◌, if◌then◌else◌, List, [], ◌∷◌, ◌++◌, Option, Some, None, is_some, refl, arith, sym, ◌∙◌, ap, subst}
 use Rattle.std.proofs.lemmas.Bool.Decides.{nat_tests}
-use Rattle.exchange_defs.specs.Table.{put, has, is_at, without, placed_in}
+use Rattle.exchange_defs.specs.Table.{put, has, placed_in}
 use Rattle.exchange_defs.specs.Commands.{CreateRequest, Durable, SetupRequest, deletes_on_close}
 use Rattle.exchange_defs.specs.State.{Server, Message, Open, Record, Origin, Range, CreateRecord, DeleteRecord, RemoveRecord, ShutRecord}
-use Rattle.exchange_defs.specs.Files.{mark_file, remove_file}
-use Rattle.exchange_defs.specs.Opens.{goes, drop_open, leave_open, marked_by, without_gone, leave_records, mark_records, shut_records, gone_records}
-use Rattle.exchange_defs.specs.CheckCreate.{empties, action_of, action_on_found}
+use Rattle.exchange_defs.specs.Files.{mark_file}
+use Rattle.exchange_defs.specs.Opens.{goes, drop_open, leave_open, marked_by, leave_records, mark_records, shut_records, gone_records}
+use Rattle.exchange_defs.specs.CheckCreate.{empties, action_on_found}
 use Rattle.exchange_defs.specs.CheckOpen.{is_late, is_slot, file_of}
 use Rattle.exchange_defs.specs.Records.{origin_of}
 use Rattle.exchange_defs.specs.Effects.{apply, reach, attach, attached, keep_closed, keep_slot, set_ranges, change_file, change_records, create_records, make_open, file_made, is_persistent, next_open, open_row, new_file, end_session, end_if_named, add_session, files_behind, leave_all, leave_all_records, end_records, records_if_named, plain_of, staying_in, leaves}
 use Rattle.exchange_defs.specs.Verdict.{Verdict, Refuse, Give, KeepRefusal, Repeat, Attach, Make, TurnDown, Tell, Show, KeepSlot, PutRanges, Alter, Shut, Challenge, ChallengeBinding, Begin, Join, EndSession, AddTree, DropTree, Change, PutBytes, PutEnd, PutBasic, PutMark, PutPath, PutNothing}
-use Rattle.server_law.proofs.Logic.{either, front_of, back_of, not_true, not_false}
+use Rattle.server_law.proofs.Logic.{either, front_of}
 use Rattle.server_law.proofs.Lists.{has-placed, has-without, has-staying}
 use Rattle.server_law.proofs.Found.{Facts, MakeFacts}
 use Rattle.lock_law.proofs.Steady.{Steady, steady_same, steady_on}

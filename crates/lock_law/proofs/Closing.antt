@@ -1,11 +1,10 @@
 -- The server takes a copy of a close.
-use Rattle.std.proofs.Common.{eqb-true, ◌≡◌, ◌≢◌, ◌⊎◌, inl, inr, ℕ, ◌+◌, ◌==◌, ◌≤◌, ◌<◌, nat_lt, Bool, true, false, not, ◌&&◌, ◌||◌, if◌then◌else◌, List, [], ◌∷◌, ◌++◌, Option, Some, None, slice_get, is_some, refl, arith, sym, ◌∙◌, ap, subst}
-use Rattle.std.proofs.lemmas.Bool.{eqb-false}
+use Rattle.std.proofs.Common.{eqb-true, ◌≡◌, ◌≢◌, ◌⊎◌, inl, inr, ℕ, ◌+◌, ◌≤◌, ◌<◌, nat_lt, Bool, true, false, List, [], ◌++◌, refl, arith, sym, ◌∙◌, ap, subst}
 use Rattle.std.proofs.lemmas.Bool.Decides.{nat_tests}
 use Rattle.exchange_defs.specs.Table.{put}
 use Rattle.exchange_defs.specs.Status.{success, user_session_deleted, disk_full, file_closed}
-use Rattle.exchange_defs.specs.Commands.{Command, Close, deletes_on_close}
-use Rattle.exchange_defs.specs.State.{Server, Message, Answer, Record, Empty}
+use Rattle.exchange_defs.specs.Commands.{Command, Close}
+use Rattle.exchange_defs.specs.State.{Server, Message, Record, Empty}
 use Rattle.exchange_defs.specs.Opens.{leave_records}
 use Rattle.exchange_defs.specs.CheckOpen.{is_late}
 use Rattle.exchange_defs.specs.Check.{check}
@@ -14,21 +13,21 @@ use Rattle.exchange_defs.specs.Effects.{apply, reach}
 use Rattle.exchange_defs.specs.Step.{without_room}
 use Rattle.exchange_defs.specs.Operations.{Op, is_unsettled, is_ok}
 use Rattle.exchange_defs.specs.Client.{Client, guid_for}
-use Rattle.exchange_defs.specs.Network.{Conn, Sent, Received, Token, ForDialog, ForOp, ForAttach}
+use Rattle.exchange_defs.specs.Network.{Conn, Sent, Received, ForOp}
 use Rattle.exchange_defs.specs.Runs.{is_send_of}
-use Rattle.exchange_defs.specs.Verdict.{Verdict, Refuse, TurnDown, Shut}
-use Rattle.exchange_law.specs.Connections.{Connections, makes_open, shuts_open, create_at, its_request}
+use Rattle.exchange_defs.specs.Verdict.{Verdict, TurnDown, Shut}
+use Rattle.exchange_law.specs.Connections.{makes_open, shuts_open, create_at, its_request}
 use Rattle.server_law.proofs.Logic.{either}
 use Rattle.server_law.proofs.Doors.{recorded}
 use Rattle.server_law.proofs.Checked.{found}
 use Rattle.session_law.specs.Sessions.{is_ops}
-use Rattle.lock_law.specs.Locks.{Locks, locking, open_at, user_at, kept_of, goes_with}
+use Rattle.lock_law.specs.Locks.{Locks, locking, open_at, goes_with}
 use Rattle.lock_law.proofs.Words.{lock_kind, lock_stays, close_kind, ok_of, made_of}
-use Rattle.lock_law.proofs.Views.{view, reach_view, shut_view}
+use Rattle.lock_law.proofs.Views.{reach_view, shut_view}
 use Rattle.lock_law.proofs.Verdicts.{closes_in}
 use Rattle.lock_law.proofs.Rooms.{full_persistent, full_plain, stuck_fits}
 use Rattle.lock_law.proofs.Steady.{bare_of, heads_apply}
-use Rattle.lock_law.proofs.Sees.{CloseSees, Deleted2, NoTree2, Away2, Shuts, close_sees}
+use Rattle.lock_law.proofs.Sees.{CloseSees, Deleted2, NoTree2, Away2, Shuts}
 use Rattle.lock_law.proofs.Serving.{Serving, Served, counted, not_sent, of_other, of_unmade, plain_other, adds_at, quiet_serve}
 use Rattle.lock_law.proofs.Locking.{same_file, goes_same, same_op, not_ask, clash, no_unfit}
 use Rattle.lock_law.proofs.Say.{MaySay}
@@ -146,31 +145,34 @@ left_standing t m o = ap (λ z. z.standing o) (shut_view t o m.session) ∙ put_
 
 pub close_fits : (c : Client) (conns : ℕ → Conn) (d t : Server) (a : ℕ → ℕ) (k h : ℕ) (x0 : Sent) (now : ℕ) (front : List Record) (v : Verdict) → Copy c conns t a k h x0 → t.journal ≡ d.journal → v ≡ check t x0.message → fits d (front ++ (apply t x0.message now v).records) ≡ true
     → CloseSees t x0.message (open_at c h) v → Served c conns a k x0 (recorded (apply t x0.message now v) (front ++ (apply t x0.message now v).records))
-close_fits c conns d t a k h x0 now front v w same is room Deleted2 =
-    (quiet_close c conns t a k h x0 now v _ w (inl is) refl refl refl,
-    λ o place. say_close c _ _ h _ w.token w.shuts (record { done = λ s. absurd (cc); full = λ n1. absurd (n1 refl); stuck = λ n1. absurd (n1 refl) }))
+close_fits c conns d t a k h x0 now front v w same is room Deleted2 = (
+  quiet_close c conns t a k h x0 now v _ w (inl is) refl refl refl,
+  λ o place. say_close c _ _ h _ w.token w.shuts (record { done = λ s. absurd (cc); full = λ n1. absurd (n1 refl); stuck = λ n1. absurd (n1 refl) }),
+)
 close_fits c conns d t a k h x0 now front v w same is room (NoTree2 on e) =
     let p = w.serving.low.fits.on_present x0.message.connection x0.message.session on in let tr = w.serving.trees (ap is_ops w.token) p in absurd (grind arith)
-close_fits c conns d t a k h x0 now front v w same is room Away2 =
-    (quiet_close c conns t a k h x0 now v _ w (inl is) refl refl refl,
-    λ o place. say_close c _ _ h _ w.token w.shuts (record { done = λ s. absurd (cc); full = λ n1 n2. absurd (n2 refl); stuck = λ n1 n2. absurd (n2 refl) }))
+close_fits c conns d t a k h x0 now front v w same is room Away2 = (
+  quiet_close c conns t a k h x0 now v _ w (inl is) refl refl refl,
+  λ o place. say_close c _ _ h _ w.token w.shuts (record { done = λ s. absurd (cc); full = λ n1 n2. absurd (n2 refl); stuck = λ n1 n2. absurd (n2 refl) }),
+)
 close_fits c conns d t a k h x0 now front v w same is room (Shuts on st) =
     let m = x0.message in let o1 = open_at c h in let A = apply t m now v in
     let p = w.serving.low.fits.on_present m.connection m.session on in
-    let big_bare : lower_limit < t.journal + 34 → A.records ≡ [] = λ big. bare_of d front A.records (heads_apply t m now v) room (subst (λ z. lower_limit < z + 34) same big) in
-    (quiet_serve c conns t a k x0 now v (front ++ A.records) (counted a x0.token A.acted) w.serving (found t m v (inl is)) refl big_bare (adds_at c conns t a k x0 v w.serving (inl is)) (plain_other c conns t a k x0 A.acted w.serving (λ p mq. ap (is_send_of p) w.token ∙ of_unmade c h p (close_kind (c.op h) w.shuts) mq)) (counts c conns t a k h x0 A.acted w)
-    (λ g mg s0 u lv pr sg cl gone. let so = closes_same m.command o1 (open_at c g) w.command cl in let kind = lock_kind (c.op g) mg in
-    shut_idle c conns d t a k h g x0 front w same room p mg s0 u lv st
-    (same_file c conns t a w.serving.creates (create_at c h) (create_at c g) w.made w.ok (made_of c w.serving.links.taken w.serving.links.creates g s0 kind) (ok_of c w.serving.links.has_open g s0 kind) st so))
-    (λ j n g y e1 e2 ok lv pr sg cl gone. let so = closes_same m.command o1 (open_at c g) w.command cl in
-    let ad = w.serving.locks.ask_down j n g y e1 e2 in let cr = w.serving.links.creates g ad.0 ad.1 ad.2 in
-    let its = same_file c conns t a w.serving.creates (create_at c h) (create_at c g) w.made w.ok cr.2 ad.3 st so in
-    subst (λ z. c.attached z ≡ c.number) its (w.serving.locks.copy_now k 0 h x0 w.serving.front w.token (close_kind (c.op h) w.shuts) p lv).0),
-    λ o place. say_close c _ _ h _ w.token w.shuts (record {
-      done = λ s. left_standing t m o1;
-      full = λ n1 n2 sd. absurd (let x = clash _ (left_standing t m o1) sd in cc);
-      stuck = λ n1 n2 sd. absurd (let x = clash _ (left_standing t m o1) sd in cc);
-    }))
+    let big_bare : lower_limit < t.journal + 34 → A.records ≡ [] = λ big. bare_of d front A.records (heads_apply t m now v) room (subst (λ z. lower_limit < z + 34) same big) in (
+      quiet_serve c conns t a k x0 now v (front ++ A.records) (counted a x0.token A.acted) w.serving (found t m v (inl is)) refl big_bare (adds_at c conns t a k x0 v w.serving (inl is)) (plain_other c conns t a k x0 A.acted w.serving (λ p mq. ap (is_send_of p) w.token ∙ of_unmade c h p (close_kind (c.op h) w.shuts) mq)) (counts c conns t a k h x0 A.acted w)
+          (λ g mg s0 u lv pr sg cl gone. let so = closes_same m.command o1 (open_at c g) w.command cl in let kind = lock_kind (c.op g) mg in
+          shut_idle c conns d t a k h g x0 front w same room p mg s0 u lv st
+          (same_file c conns t a w.serving.creates (create_at c h) (create_at c g) w.made w.ok (made_of c w.serving.links.taken w.serving.links.creates g s0 kind) (ok_of c w.serving.links.has_open g s0 kind) st so))
+          (λ j n g y e1 e2 ok lv pr sg cl gone. let so = closes_same m.command o1 (open_at c g) w.command cl in
+          let ad = w.serving.locks.ask_down j n g y e1 e2 in let cr = w.serving.links.creates g ad.0 ad.1 ad.2 in
+          let its = same_file c conns t a w.serving.creates (create_at c h) (create_at c g) w.made w.ok cr.2 ad.3 st so in
+          subst (λ z. c.attached z ≡ c.number) its (w.serving.locks.copy_now k 0 h x0 w.serving.front w.token (close_kind (c.op h) w.shuts) p lv).0),
+      λ o place. say_close c _ _ h _ w.token w.shuts (record {
+        done = λ s. left_standing t m o1;
+        full = λ n1 n2 sd. absurd (let x = clash _ (left_standing t m o1) sd in cc);
+        stuck = λ n1 n2 sd. absurd (let x = clash _ (left_standing t m o1) sd in cc);
+      }),
+    )
 
 -- ---- where its records don't fit
 
@@ -193,13 +195,14 @@ reached_stuck d m o n f pe =
 close_down : (c : Client) (conns : ℕ → Conn) (d : Server) (a : ℕ → ℕ) (k h : ℕ) (x0 : Sent) (now : ℕ) → Copy c conns d a k h x0 → TurnDown (open_at c h) disk_full ≡ without_room (check d x0.message) → d.standing (open_at c h) ≡ true → fits d (leave_records d (origin_of x0.message) (open_at c h)) ≡ false
     → Served c conns a k x0 (recorded (apply d x0.message now (TurnDown (open_at c h) disk_full)) [])
 close_down c conns d a k h x0 now w is st room =
-    let m = x0.message in let o1 = open_at c h in
-    (quiet_close c conns d a k h x0 now (TurnDown o1 disk_full) [] w (inr is) refl refl (ap (λ z. z.standing) (reach_view d m o1)),
-    λ o place. say_close c _ _ h _ w.token w.shuts (record {
-      done = λ s. absurd (cc);
-      full = λ n1 n2 sd pe. reached_full d m o1 (entry_bytes []) (λ e. full_persistent d (origin_of m) o1 e room) pe;
-      stuck = λ n1 n2 sd pe. reached_stuck d m o1 (entry_bytes []) (λ e. full_plain d (origin_of m) o1 e (w.serving.locks.kept_files o1 st) room) pe;
-    }))
+    let m = x0.message in let o1 = open_at c h in (
+      quiet_close c conns d a k h x0 now (TurnDown o1 disk_full) [] w (inr is) refl refl (ap (λ z. z.standing) (reach_view d m o1)),
+      λ o place. say_close c _ _ h _ w.token w.shuts (record {
+        done = λ s. absurd (cc);
+        full = λ n1 n2 sd pe. reached_full d m o1 (entry_bytes []) (λ e. full_persistent d (origin_of m) o1 e room) pe;
+        stuck = λ n1 n2 sd pe. reached_stuck d m o1 (entry_bytes []) (λ e. full_plain d (origin_of m) o1 e (w.serving.locks.kept_files o1 st) room) pe;
+      }),
+    )
 
 pub close_full : (c : Client) (conns : ℕ → Conn) (d : Server) (a : ℕ → ℕ) (k h : ℕ) (x0 : Sent) (now : ℕ) (u v : Verdict) → Copy c conns d a k h x0 → u ≡ check d x0.message → v ≡ without_room u → fits d (apply d x0.message now u).records ≡ false
     → CloseSees d x0.message (open_at c h) u → Served c conns a k x0 (recorded (apply d x0.message now v) (apply d x0.message now v).records)

@@ -1,24 +1,20 @@
 -- The server accepts a connection, hears of its end, or starts anew.
-use Rattle.std.proofs.Common.{eqb-true, ◌≡◌, ◌≢◌, ◌⊎◌, inl, inr, ℕ, ◌+◌, ◌*◌, ◌==◌, ◌≤◌, ◌<◌, nat_le, Bool, true, false, not, ◌&&◌, ◌||◌, if◌then◌else◌, List, [], ◌∷◌, ◌++◌, length, Option, Some, None, slice_get, is_some, refl, arith, sym, ◌∙◌, ap, subst}
-use Rattle.exchange_defs.specs.Status.{success, insufficient_resources}
-use Rattle.exchange_defs.specs.Commands.{deletes_on_close}
+use Rattle.std.proofs.Common.{◌≡◌, ◌⊎◌, inl, inr, ℕ, ◌+◌, ◌<◌, nat_le, Bool, true, false, List, [], ◌∷◌, ◌++◌, length, Option, Some, None, refl, sym, subst}
 use Rattle.exchange_defs.specs.State.{Server, ServerEvent, Accept, End, Answer, Record}
-use Rattle.exchange_defs.specs.Opens.{id_of, drop_open, marked_by, gone_records}
 use Rattle.exchange_defs.specs.CheckSetup.{is_new}
 use Rattle.exchange_defs.specs.Records.{lower_limit, fits, entry_bytes, origin_at}
 use Rattle.exchange_defs.specs.Effects.{end_session, end_if_named, records_if_named}
-use Rattle.exchange_defs.specs.Step.{step, table, expiring, written_down, with_deadlines, due, expire, expire_records, max_marks, max_connections, ruling, ruling_without_room, carried_out, connection_of, Ruling, TakesIn, TurnsAway, TakesOut, ends_with, forget_connection, take_out, told}
-use Rattle.exchange_defs.specs.Client.{Client, guid_for}
-use Rattle.exchange_defs.specs.Network.{Conn, Sent, Received}
+use Rattle.exchange_defs.specs.Step.{step, table, expiring, written_down, with_deadlines, due, expire, expire_records, max_marks, max_connections, ruling, ruling_without_room, carried_out, connection_of, Ruling, TakesIn, TurnsAway, TakesOut, ends_with, forget_connection, take_out}
+use Rattle.exchange_defs.specs.Client.{Client}
+use Rattle.exchange_defs.specs.Network.{Conn}
 use Rattle.exchange_law.specs.Connections.{Connections}
 use Rattle.server_law.proofs.Logic.{either}
 use Rattle.server_law.proofs.Doors.{recorded, Before}
-use Rattle.create_law.specs.Creates.{Creates, seen}
 use Rattle.lock_law.specs.Locks.{Locks, piped}
 use Rattle.lock_law.proofs.Trees.{Piped, end_trees}
-use Rattle.lock_law.proofs.Views.{View, view, Quiet, same, stays, grows, end_quiet}
-use Rattle.lock_law.proofs.Rooms.{room_for, is_big, no_room}
-use Rattle.lock_law.proofs.Steady.{Steady, steady_same, bare_of, heads_named, heads}
+use Rattle.lock_law.proofs.Views.{view, Quiet, same, stays, grows, end_quiet}
+use Rattle.lock_law.proofs.Rooms.{no_room}
+use Rattle.lock_law.proofs.Steady.{Steady, steady_same, bare_of, heads_named}
 use Rattle.lock_law.proofs.Bare.{named_steady}
 use Rattle.lock_law.proofs.Undeleting.{NoDelete, end_kept}
 use Rattle.lock_law.proofs.Facing.{Lower, quiet_keeps, before_keeps}

@@ -1,10 +1,9 @@
 -- What is known where the server takes a message, and how an answer that carries out no lock keeps what holds of locks.
-use Rattle.std.proofs.lemmas.Bool.{eqb-false}
-use Rattle.std.proofs.Common.{eqb-true, ◌≡◌, ◌≢◌, ◌⊎◌, inl, inr, ℕ, ◌+◌, ◌==◌, ◌≤◌, ◌<◌, nat_le, Bool, true, false, not, ◌&&◌, ◌||◌, if◌then◌else◌, List, [], ◌∷◌, Option, Some, None, slice_get, is_some, refl, arith, sym, ◌∙◌, ap, subst}
-use Rattle.exchange_defs.specs.Table.{put, has}
+use Rattle.std.proofs.Common.{◌≡◌, ◌≢◌, ◌⊎◌, inl, inr, ℕ, ◌+◌, ◌≤◌, ◌<◌, Bool, true, false, if◌then◌else◌, List, [], ◌∷◌, Option, Some, None, slice_get, is_some, refl, arith, sym, ◌∙◌, ap, subst}
+use Rattle.exchange_defs.specs.Table.{put}
 use Rattle.exchange_defs.specs.Status.{success}
 use Rattle.exchange_defs.specs.Commands.{deletes_on_close}
-use Rattle.exchange_defs.specs.State.{Server, Making, Open}
+use Rattle.exchange_defs.specs.State.{Server}
 use Rattle.exchange_defs.specs.Files.{mark_file}
 use Rattle.exchange_defs.specs.Opens.{drop_open, leave_open, marked_by, goes}
 use Rattle.exchange_defs.specs.CheckSetup.{is_new}
@@ -12,17 +11,17 @@ use Rattle.exchange_defs.specs.Records.{lower_limit}
 use Rattle.exchange_defs.specs.Step.{with_deadlines, due, due_in, is_past, expire, add_mark}
 use Rattle.exchange_defs.specs.Operations.{is_unsettled, is_ok, id_in}
 use Rattle.exchange_defs.specs.Client.{Client, guid_for}
-use Rattle.exchange_defs.specs.Network.{Conn, Sent, Received, ForOp, ForAttach}
+use Rattle.exchange_defs.specs.Network.{Conn, Received, ForOp, ForAttach}
 use Rattle.exchange_law.specs.Connections.{Connections, makes_open, create_at}
-use Rattle.server_law.specs.Fits.{Fits, Listed}
+use Rattle.server_law.specs.Fits.{Fits}
 use Rattle.server_law.proofs.Logic.{either}
 use Rattle.server_law.proofs.Doors.{Before}
 use Rattle.server_law.proofs.Applied.{expired_keeps}
 use Rattle.server_law.proofs.SessionEffects.{deadlines_keeps}
-use Rattle.session_law.specs.Sessions.{RankedUp, is_ops}
-use Rattle.lock_law.specs.Locks.{Locks, locking, open_at, goes_with, piped, all_piped}
+use Rattle.session_law.specs.Sessions.{RankedUp}
+use Rattle.lock_law.specs.Locks.{Locks, locking, open_at, piped, all_piped}
 use Rattle.lock_law.proofs.Trees.{leave_trees}
-use Rattle.lock_law.proofs.Views.{View, view, Quiet, same, left_view, leaves_by, without_guid, expire_view, still_named}
+use Rattle.lock_law.proofs.Views.{View, view, Quiet, same, leaves_by, without_guid, expire_view, still_named}
 use Rattle.lock_law.proofs.Steady.{Steady, steady_same, goes_on}
 use Rattle.lock_law.proofs.Moves.{moves_keeps}
 use Rattle.lock_law.proofs.Words.{lock_kind, ok_of, made_of}
@@ -149,31 +148,33 @@ Behind c conns a t = Lower c conns t × Locks c conns t a
 
 due_keeps : (c : Client) (conns : ℕ → Conn) (s : Server) (a : ℕ → ℕ) (now : ℕ) → Lower c conns s → Connections c conns a → Locks c conns s a → Behind c conns a (with_deadlines s now)
 unfolding none_of
-due_keeps c conns s a now l C i =
-    (record { given = l.given; reply_given = l.reply_given; ranked_up = l.ranked_up; unranked = l.unranked; lives = l.lives; attached = l.attached; named_given = l.named_given; fits = deadlines_keeps s now l.fits },
-    quiet_keeps c conns s a (with_deadlines s now) a 0 none_of l C (λ p m. refl) (same (λ x. is_new x (s.making 0)) none_of (view s) (view (with_deadlines s now)) refl) (λ _. steady_same s (with_deadlines s now) refl refl refl refl refl)
-    i.trees_of i.made_plain i.kept_files (λ g m s0 u lv p st e off. absurd (cc)) (λ j n g y h e ok lv p st x off. absurd (cc)) i)
+due_keeps c conns s a now l C i = (
+  record { given = l.given; reply_given = l.reply_given; ranked_up = l.ranked_up; unranked = l.unranked; lives = l.lives; attached = l.attached; named_given = l.named_given; fits = deadlines_keeps s now l.fits },
+  quiet_keeps c conns s a (with_deadlines s now) a 0 none_of l C (λ p m. refl) (same (λ x. is_new x (s.making 0)) none_of (view s) (view (with_deadlines s now)) refl) (λ _. steady_same s (with_deadlines s now) refl refl refl refl refl)
+      i.trees_of i.made_plain i.kept_files (λ g m s0 u lv p st e off. absurd (cc)) (λ j n g y h e ok lv p st x off. absurd (cc)) i,
+)
 
 expire_keeps : (c : Client) (conns : ℕ → Conn) (s : Server) (a : ℕ → ℕ) (now o : ℕ) → due s now ≡ Some o → (lower_limit < s.journal + 34 → expire s o ≡ s) → Lower c conns s → Connections c conns a → Locks c conns s a → Behind c conns a (expire s o)
 unfolding none_of
 expire_keeps c conns s a now o e full l C i =
-    let v = expire_view s o in let f = expired_keeps s now o e l.fits in let apart = apart_due s now o l.fits e in
-    (record {
-      given = λ q m ok. subst (λ z. c.file q ≤ z.last) (sym v) (l.given q m ok);
-      reply_given = λ j n g y h t m ok. subst (λ z. id_in y.reply.body ≤ z.last) (sym v) (l.reply_given j n g y h t m ok);
-      ranked_up = l.ranked_up;
-      unranked = λ j x h. l.unranked j x (subst (λ z. is_new x (z j) ≡ true) (expire_making s o) h);
-      lives = l.lives;
-      attached = λ p y h. let old = l.attached p y (still_at p y (subst (λ z. z.at p ≡ Some y) v h)) in (subst (λ z. p ≤ z.last) (sym v) old.0, subst (λ z. z.present y ≡ true) (sym v) old.1);
-      named_given = λ q p h. subst (λ z. p ≤ z.last) (sym v) (l.named_given q p (still_named s.by_guid (s.opened o).client (s.opened o).guid c.who.guid (guid_for c q) p (subst (λ z. z.by_guid c.who.guid (guid_for c q) ≡ Some p) v h)));
-      fits = f;
-    },
-    quiet_keeps c conns s a (expire s o) a 0 none_of l C (λ p m. refl)
-    (subst (λ z. Quiet (λ x. is_new x (s.making 0)) none_of (view s) z) (sym v) (leaves_by (λ x. is_new x (s.making 0)) none_of (view s) o (without_guid s o) (λ p y n at. unattached p y at apart) (λ d g p h. still_named s.by_guid (s.opened o).client (s.opened o).guid d g p h)))
-    (λ big. subst (λ z. Steady s z) (sym (full big)) (steady_same s s refl refl refl refl refl))
-    (λ p. subst (λ z. all_piped (piped c.who.share) (z p) ≡ true) (sym (expire_trees s o)) (i.trees_of p)) i.made_plain
-    (λ p st. let row : (expire s o).opened ≡ s.opened = ap (λ z. z.opened) v in let st2 : put s.standing o false p ≡ true = subst (λ z. z.standing p ≡ true) v st in subst (λ z. deletes_on_close (z p).options ≡ false) (sym row) (i.kept_files p (grind arith)))
-    (λ g m s0 u lv p st e2 off. absurd (cc)) (λ j n g y h t ok lv p st x off. absurd (cc)) i)
+    let v = expire_view s o in let f = expired_keeps s now o e l.fits in let apart = apart_due s now o l.fits e in (
+      record {
+        given = λ q m ok. subst (λ z. c.file q ≤ z.last) (sym v) (l.given q m ok);
+        reply_given = λ j n g y h t m ok. subst (λ z. id_in y.reply.body ≤ z.last) (sym v) (l.reply_given j n g y h t m ok);
+        ranked_up = l.ranked_up;
+        unranked = λ j x h. l.unranked j x (subst (λ z. is_new x (z j) ≡ true) (expire_making s o) h);
+        lives = l.lives;
+        attached = λ p y h. let old = l.attached p y (still_at p y (subst (λ z. z.at p ≡ Some y) v h)) in (subst (λ z. p ≤ z.last) (sym v) old.0, subst (λ z. z.present y ≡ true) (sym v) old.1);
+        named_given = λ q p h. subst (λ z. p ≤ z.last) (sym v) (l.named_given q p (still_named s.by_guid (s.opened o).client (s.opened o).guid c.who.guid (guid_for c q) p (subst (λ z. z.by_guid c.who.guid (guid_for c q) ≡ Some p) v h)));
+        fits = f;
+      },
+      quiet_keeps c conns s a (expire s o) a 0 none_of l C (λ p m. refl)
+          (subst (λ z. Quiet (λ x. is_new x (s.making 0)) none_of (view s) z) (sym v) (leaves_by (λ x. is_new x (s.making 0)) none_of (view s) o (without_guid s o) (λ p y n at. unattached p y at apart) (λ d g p h. still_named s.by_guid (s.opened o).client (s.opened o).guid d g p h)))
+          (λ big. subst (λ z. Steady s z) (sym (full big)) (steady_same s s refl refl refl refl refl))
+          (λ p. subst (λ z. all_piped (piped c.who.share) (z p) ≡ true) (sym (expire_trees s o)) (i.trees_of p)) i.made_plain
+          (λ p st. let row : (expire s o).opened ≡ s.opened = ap (λ z. z.opened) v in let st2 : put s.standing o false p ≡ true = subst (λ z. z.standing p ≡ true) v st in subst (λ z. deletes_on_close (z p).options ≡ false) (sym row) (i.kept_files p (grind arith)))
+          (λ g m s0 u lv p st e2 off. absurd (cc)) (λ j n g y h t ok lv p st x off. absurd (cc)) i,
+    )
   where
     still_at : (p y : ℕ) → put s.at o None p ≡ Some y → s.at p ≡ Some y
     still_at p y h = grind arith

@@ -1,15 +1,14 @@
 -- What holds of locks on every run, and what creates, locks and unlocks do once.
-use Rattle.std.proofs.Common.{◌≡◌, ℕ, ◌+◌, ◌≤◌, ◌==◌, Bool, true, false, ◌&&◌, ◌||◌, if◌then◌else◌, List, [], ◌∷◌, ◌++◌, refl, arith, sym, subst, ◌∙◌, ap, Option, Some, None}
-use Rattle.exchange_defs.specs.State.{Server, Record}
-use Rattle.exchange_defs.specs.Fold.{fold_from, sweep, recovered}
-use Rattle.exchange_defs.specs.Operations.{Op, Outcome, is_create, is_lock, is_ok, is_unsettled}
+use Rattle.std.proofs.Common.{◌≡◌, ℕ, ◌+◌, Bool, true, false, ◌||◌, if◌then◌else◌, List, [], ◌∷◌, ◌++◌, refl, arith, subst, ◌∙◌, ap, Option}
+use Rattle.exchange_defs.specs.Fold.{fold_from, sweep}
+use Rattle.exchange_defs.specs.Operations.{Op, Outcome, is_create, is_lock, is_unsettled}
 use Rattle.exchange_defs.specs.ClientStep.{Pick}
-use Rattle.exchange_defs.specs.Network.{World, Event, Push, Serve, Sent, Settings, happens, run, start, changed, later, is_possible, moments, may_serve, serve_front, absorb_front, restarted, answer}
+use Rattle.exchange_defs.specs.Network.{World, Event, Push, Serve, Sent, Settings, happens, run, start, changed, later, may_serve, serve_front, absorb_front, restarted, answer}
 use Rattle.exchange_defs.specs.Runs.{acts, never_acted, front_acts, is_once}
-use Rattle.exchange_defs.specs.Statements.{Once, ExactlyOnce}
+use Rattle.exchange_defs.specs.Statements.{ExactlyOnce}
 use Rattle.exchange_law.specs.Connections.{Connections}
 use Rattle.exchange_law.proofs.Absorb.{absorb_keeps}
-use Rattle.exchange_law.proofs.Run.{connections, after}
+use Rattle.exchange_law.proofs.Run.{connections}
 use Rattle.exchange_law.proofs.Reached.{At, on_every_run, one_event_on}
 use Rattle.exchange_law.proofs.Stays.{settled_stays, settled_op}
 use Rattle.server_law.proofs.Run.{fitting}
@@ -19,7 +18,7 @@ use Rattle.recovery_law.proofs.Worlds.{recovers}
 use Rattle.recovery_law.proofs.Restarts.{restarted as restarted_by}
 use Rattle.session_law.proofs.Always.{sessions}
 use Rattle.create_law.proofs.Law.{creates, at_most_of, acknowledged_of, never_of}
-use Rattle.lock_law.specs.Locks.{Locks, locking, refused_for_good, all_piped, piped}
+use Rattle.lock_law.specs.Locks.{locking, refused_for_good, all_piped}
 use Rattle.lock_law.proofs.Pushing.{Holds}
 use Rattle.lock_law.proofs.Run.{Known, keeps}
 

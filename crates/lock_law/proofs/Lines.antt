@@ -1,11 +1,11 @@
 -- What the lines of the settling table say of the reply that they settle by.
 use Rattle.std.proofs.lemmas.Bool.{eqb-false}
-use Rattle.std.proofs.Common.{eqb-true, ◌≡◌, ◌≢◌, ℕ, ◌==◌, Bool, true, false, not, ◌&&◌, ◌||◌, if◌then◌else◌, refl, arith, sym, subst, ◌∙◌, ap, Option, Some, None}
+use Rattle.std.proofs.Common.{eqb-true, ◌≡◌, ◌≢◌, ℕ, ◌==◌, Bool, true, false, not, ◌&&◌, ◌||◌, if◌then◌else◌, refl, arith, sym, ◌∙◌, ap, Option, Some, None}
 use Rattle.exchange_defs.specs.Status.{success, user_session_deleted, file_closed, object_name_not_found, disk_full}
 use Rattle.exchange_defs.specs.State.{Reply}
 use Rattle.exchange_defs.specs.Operations.{Op, OpReply, Outcome, Unsettled, WasOk, WasRefused, Unknown, WithStatus, IsDone, is_unsettled, is_ok, is_close, is_lock, value_in}
 use Rattle.exchange_defs.specs.Client.{Client}
-use Rattle.exchange_defs.specs.Settling.{Heard as Hearing, Settles, GoesAgain, Attaches, EndsSession, heard, ok_or_unknown, refused, was_closed, may_have_acted, refuses_all, goes_again}
+use Rattle.exchange_defs.specs.Settling.{Heard as Hearing, Settles, GoesAgain, Attaches, EndsSession, heard, ok_or_unknown, was_closed, may_have_acted, refuses_all, goes_again}
 use Rattle.server_law.proofs.Logic.{either}
 use Rattle.lock_law.specs.Locks.{is_unsent, refused_for_good, locking}
 

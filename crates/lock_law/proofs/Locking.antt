@@ -1,37 +1,35 @@
 -- The server takes a copy of a lock or unlock.
-use Rattle.std.proofs.Common.{eqb-true, ◌≡◌, ◌≢◌, ◌⊎◌, inl, inr, ℕ, ◌+◌, ◌==◌, ◌≤◌, ◌<◌, Bool, true, false, not, ◌&&◌, ◌||◌, if◌then◌else◌, List, [], ◌∷◌, ◌++◌, length, Option, Some, None, slice_get, is_some, refl, arith, sym, ◌∙◌, ap, subst}
-use Rattle.std.proofs.lemmas.Bool.{eqb-false}
+use Rattle.std.proofs.Common.{eqb-true, ◌≡◌, ◌≢◌, ◌⊎◌, inl, inr, ℕ, ◌+◌, ◌==◌, ◌≤◌, Bool, true, false, ◌&&◌, if◌then◌else◌, List, [], ◌∷◌, ◌++◌, length, Option, Some, None, slice_get, is_some, refl, arith, sym, ◌∙◌, ap, subst}
 use Rattle.exchange_defs.specs.Table.{put, put2, is_at}
-use Rattle.exchange_defs.specs.Status.{success, user_session_deleted, disk_full, file_closed}
-use Rattle.exchange_defs.specs.Commands.{Command, Lock, Close, Element, lock_form, all_lock, all_unlock, deletes_on_close}
-use Rattle.exchange_defs.specs.State.{Server, Message, Answer, Record, Empty, LockRecord, Kept, Range}
+use Rattle.exchange_defs.specs.Status.{success, user_session_deleted, disk_full}
+use Rattle.exchange_defs.specs.Commands.{Command, Lock, Element, lock_form, deletes_on_close}
+use Rattle.exchange_defs.specs.State.{Server, Message, Record, LockRecord, Kept, Range}
 use Rattle.exchange_defs.specs.Files.{mark_file, exists, is_full_directory, is_directory, path_of}
-use Rattle.exchange_defs.specs.Opens.{goes, drop_open, marked_by, file_has_open, is_of_session}
+use Rattle.exchange_defs.specs.Opens.{goes, drop_open, file_has_open, is_of_session}
 use Rattle.exchange_defs.specs.CheckOpen.{is_late, is_slot, file_of}
 use Rattle.exchange_defs.specs.Check.{check}
 use Rattle.exchange_defs.specs.Records.{lower_limit, fits, entry_bytes, origin_of}
 use Rattle.exchange_defs.specs.Effects.{apply, reach, keep_slot, set_ranges, lock_records, recorded_index}
-use Rattle.exchange_defs.specs.Step.{with_deadlines, expire, without_room}
+use Rattle.exchange_defs.specs.Step.{without_room}
 use Rattle.exchange_defs.specs.Operations.{Op, OpCreate, OpWrite, OpRead, OpEnd, OpTime, OpRename, OpRemove, OpLock, OpUnlock, OpFlush, OpStat, OpList, OpClose, is_unsettled, is_ok, element, lock_flags}
 use Rattle.exchange_defs.specs.Client.{Client, guid_for}
-use Rattle.exchange_defs.specs.Network.{Conn, Sent, Received, Token, ForDialog, ForOp, ForAttach}
+use Rattle.exchange_defs.specs.Network.{Conn, Sent, Received, Token, ForOp, ForAttach}
 use Rattle.exchange_defs.specs.Runs.{is_send_of}
-use Rattle.exchange_defs.specs.Verdict.{Verdict, Refuse, Give, KeepSlot, PutRanges, TurnDown}
-use Rattle.exchange_law.specs.Connections.{Connections, makes_open, shuts_open, create_at, its_request, count_up, count_down, copies}
+use Rattle.exchange_defs.specs.Verdict.{Verdict, TurnDown}
+use Rattle.exchange_law.specs.Connections.{Connections, makes_open, shuts_open, create_at, its_request}
 use Rattle.exchange_law.proofs.Lists.{own_up_count, own_down_count}
 use Rattle.server_law.proofs.Logic.{either}
-use Rattle.server_law.proofs.Doors.{recorded, Before}
+use Rattle.server_law.proofs.Doors.{recorded}
 use Rattle.server_law.proofs.Checked.{found}
 use Rattle.session_law.specs.Sessions.{is_ops}
 use Rattle.create_law.specs.Creates.{Creates, seen, guid_at}
 use Rattle.create_law.proofs.Words.{guid_once}
 use Rattle.create_law.proofs.Requests.{same_guid}
 use Rattle.lock_law.specs.Locks.{Locks, locking, open_at, user_at, kept_of, kept_at, goes_with, firm, in_slots}
-use Rattle.lock_law.proofs.Words.{lock_kind, lock_stays, lock_once, ok_of, made_of, kept_same, down_is_open, up_on, down_on}
-use Rattle.lock_law.proofs.Views.{view, expire_view}
+use Rattle.lock_law.proofs.Words.{lock_kind, lock_stays, lock_once, ok_of, made_of, kept_same, up_on, down_on}
 use Rattle.lock_law.proofs.Verdicts.{closes_in}
 use Rattle.lock_law.proofs.Rooms.{room_for_lock}
-use Rattle.lock_law.proofs.Sees.{LockSees, Deleted, NoTree, Away, Done, Again, Refused, Granted, lock_sees}
+use Rattle.lock_law.proofs.Sees.{LockSees, Deleted, NoTree, Away, Done, Again, Refused, Granted}
 use Rattle.lock_law.proofs.Serving.{Serving, Served, counted, not_acted, of_unmade, plain_other, adds_at, quiet_serve}
 use Rattle.lock_law.proofs.Writes.{writes_keeps}
 use Rattle.lock_law.proofs.Say.{MaySay}
@@ -287,39 +285,43 @@ says_count b g st e f = grind arith
 -- where its records fit
 pub lock_fits : (c : Client) (conns : ℕ → Conn) (d t : Server) (a : ℕ → ℕ) (k g : ℕ) (x0 : Sent) (now : ℕ) (front : List Record) (v : Verdict) → Copy c conns t a k g x0 → t.journal ≡ d.journal → v ≡ check t x0.message → fits d (front ++ (apply t x0.message now v).records) ≡ true
     → LockSees t x0.message (open_at c g) (c.slot_of g) (c.number_of g) (elements_in (c.op g)) v → Served c conns a k x0 (recorded (apply t x0.message now v) (front ++ (apply t x0.message now v).records))
-lock_fits c conns d t a k g x0 now front v w same is room Deleted =
-    (quiet_lock c conns t a k g x0 now v _ w (inl is) refl refl refl,
-    λ o place. say_lock c _ _ g _ w.token w.lock (record { ok = λ s. absurd (cc); no = λ n1 n2. absurd (n2 refl); kept = λ n2. absurd (n2 refl); first = λ n1 bf. count_same a x0.token g 0 (sole_idle c conns t a k g x0 w bf) }))
+lock_fits c conns d t a k g x0 now front v w same is room Deleted = (
+  quiet_lock c conns t a k g x0 now v _ w (inl is) refl refl refl,
+  λ o place. say_lock c _ _ g _ w.token w.lock (record { ok = λ s. absurd (cc); no = λ n1 n2. absurd (n2 refl); kept = λ n2. absurd (n2 refl); first = λ n1 bf. count_same a x0.token g 0 (sole_idle c conns t a k g x0 w bf) }),
+)
 lock_fits c conns d t a k g x0 now front v w same is room (NoTree on e) =
     let p = present_of c conns t a k g x0 w on in let tr = w.serving.trees (ap is_ops w.token) p in absurd (grind arith)
 lock_fits c conns d t a k g x0 now front v w same is room (Away on e) =
-    let p = present_of c conns t a k g x0 w on in let off = away_gone c conns t a k g x0 w p e in
-    (quiet_lock c conns t a k g x0 now v _ w (inl is) refl refl refl,
-    λ o place. say_lock c _ _ g _ w.token w.lock (record {
-      ok = λ s. absurd (cc);
-      no = λ n1 n2 n4. count_same a x0.token g 0 (away_idle c conns t a k g x0 w p off o);
-      kept = λ n2 n4 st. absurd (let x = clash (t.standing (open_at c g)) off st in cc);
-      first = λ n1 bf. count_same a x0.token g 0 (sole_idle c conns t a k g x0 w bf);
-    }))
+    let p = present_of c conns t a k g x0 w on in let off = away_gone c conns t a k g x0 w p e in (
+      quiet_lock c conns t a k g x0 now v _ w (inl is) refl refl refl,
+      λ o place. say_lock c _ _ g _ w.token w.lock (record {
+        ok = λ s. absurd (cc);
+        no = λ n1 n2 n4. count_same a x0.token g 0 (away_idle c conns t a k g x0 w p off o);
+        kept = λ n2 n4 st. absurd (let x = clash (t.standing (open_at c g)) off st in cc);
+        first = λ n1 bf. count_same a x0.token g 0 (sole_idle c conns t a k g x0 w bf);
+      }),
+    )
 lock_fits c conns d t a k g x0 now front v w same is room (Done on st e) =
-    let p = present_of c conns t a k g x0 w on in let user = w.serving.locks.users k 0 g x0 w.serving.front w.token w.lock p in
-    (quiet_lock c conns t a k g x0 now v _ w (inl is) refl refl refl,
-    λ o place. say_lock c _ _ g _ w.token w.lock (record {
-      ok = λ s. count_same a x0.token g 1 (w.serving.locks.kept_says g success user st e);
-      no = λ n1. absurd (n1 refl);
-      kept = λ n2 n4 st2. ap (λ z. is_some z) e;
-      first = λ n1. absurd (n1 refl);
-    }))
+    let p = present_of c conns t a k g x0 w on in let user = w.serving.locks.users k 0 g x0 w.serving.front w.token w.lock p in (
+      quiet_lock c conns t a k g x0 now v _ w (inl is) refl refl refl,
+      λ o place. say_lock c _ _ g _ w.token w.lock (record {
+        ok = λ s. count_same a x0.token g 1 (w.serving.locks.kept_says g success user st e);
+        no = λ n1. absurd (n1 refl);
+        kept = λ n2 n4 st2. ap (λ z. is_some z) e;
+        first = λ n1. absurd (n1 refl);
+      }),
+    )
 lock_fits c conns d t a k g x0 now front v w same is room (Again status on st e bad) =
     let p = present_of c conns t a k g x0 w on in let user = w.serving.locks.users k 0 g x0 w.serving.front w.token w.lock p in
-    let idle = says_count a g status bad (w.serving.locks.kept_says g status user st e) in
-    (quiet_lock c conns t a k g x0 now v _ w (inl is) refl refl refl,
-    λ o place. say_lock c _ _ g _ w.token w.lock (record {
-      ok = λ s. absurd (let x = is_it status bad s in cc);
-      no = λ n1 n2 n4. count_same a x0.token g 0 idle;
-      kept = λ n2 n4 st2. ap (λ z. is_some z) e;
-      first = λ n1 bf. count_same a x0.token g 0 idle;
-    }))
+    let idle = says_count a g status bad (w.serving.locks.kept_says g status user st e) in (
+      quiet_lock c conns t a k g x0 now v _ w (inl is) refl refl refl,
+      λ o place. say_lock c _ _ g _ w.token w.lock (record {
+        ok = λ s. absurd (let x = is_it status bad s in cc);
+        no = λ n1 n2 n4. count_same a x0.token g 0 idle;
+        kept = λ n2 n4 st2. ap (λ z. is_some z) e;
+        first = λ n1 bf. count_same a x0.token g 0 idle;
+      }),
+    )
   where
     is_it : (st : ℕ) → (st == success) ≡ false → st ≡ success → true ≡ false
     is_it st e f = grind arith
@@ -328,16 +330,17 @@ lock_fits c conns d t a k g x0 now front v w same is room (Refused status on st 
     let m = x0.message in let o1 = open_at c g in let es = elements_in (c.op g) in
     let roomy : (t.opened o1).persistent ≡ true → t.journal + 66 ≤ lower_limit = λ pe. subst (λ z. z + 66 ≤ lower_limit) (sym same) (room_for_lock d front (origin_of m) o1 (recorded_index (c.slot_of g)) (c.number_of g) status es (one_element (c.op g) w.lock) (subst (λ z. fits d (front ++ z) ≡ true) (lock_persistent t m o1 (c.slot_of g) (c.number_of g) status es pe) room)) in
     let j0 = t.journal + entry_bytes (front ++ lock_records t m o1 (c.slot_of g) (c.number_of g) status es) in
-    let idle = says_count (counted a (ForOp g) false) g status bad (own_count a g status false (w.serving.locks.not_kept g (w.serving.locks.users k 0 g x0 w.serving.front w.token w.lock p) st free) (sym bad)) in
-    (subst (λ z. Locks c conns (recorded (apply t m now v) (front ++ (apply t m now v).records)).server (counted a z false)) (sym w.token)
-    (journal_of c conns t m o1 status front (lock_records t m o1 (c.slot_of g) (c.number_of g) status es) (counted a (ForOp g) false) w.slot
-    (λ sq. lock_written c conns t a k g status j0 x0 sq t.ranges false w.serving w.token w.lock p st free (grown_by t.journal _) roomy (sym bad))),
-    λ o place. say_lock c _ _ g _ w.token w.lock (record {
-      ok = λ s. absurd (let x = is_it status bad s in cc);
-      no = λ n1 n2 n4. subst (λ z. counted a z false g ≡ 0) (sym w.token) idle;
-      kept = λ n2 n4 st2. slot_written t m (λ u. is_some (kept_at (u.slots o1 (c.slot_of g)) (c.number_of g)) ≡ true) o1 (c.slot_of g) (c.number_of g) status w.slot (λ sq. kept_put t.slots o1 (c.slot_of g) (c.number_of g) status);
-      first = λ n1 bf. subst (λ z. counted a z false g ≡ 0) (sym w.token) idle;
-    }))
+    let idle = says_count (counted a (ForOp g) false) g status bad (own_count a g status false (w.serving.locks.not_kept g (w.serving.locks.users k 0 g x0 w.serving.front w.token w.lock p) st free) (sym bad)) in (
+      subst (λ z. Locks c conns (recorded (apply t m now v) (front ++ (apply t m now v).records)).server (counted a z false)) (sym w.token)
+          (journal_of c conns t m o1 status front (lock_records t m o1 (c.slot_of g) (c.number_of g) status es) (counted a (ForOp g) false) w.slot
+          (λ sq. lock_written c conns t a k g status j0 x0 sq t.ranges false w.serving w.token w.lock p st free (grown_by t.journal _) roomy (sym bad))),
+      λ o place. say_lock c _ _ g _ w.token w.lock (record {
+        ok = λ s. absurd (let x = is_it status bad s in cc);
+        no = λ n1 n2 n4. subst (λ z. counted a z false g ≡ 0) (sym w.token) idle;
+        kept = λ n2 n4 st2. slot_written t m (λ u. is_some (kept_at (u.slots o1 (c.slot_of g)) (c.number_of g)) ≡ true) o1 (c.slot_of g) (c.number_of g) status w.slot (λ sq. kept_put t.slots o1 (c.slot_of g) (c.number_of g) status);
+        first = λ n1 bf. subst (λ z. counted a z false g ≡ 0) (sym w.token) idle;
+      }),
+    )
   where
     is_it : (st : ℕ) → (st == success) ≡ false → st ≡ success → true ≡ false
     is_it st e f = grind arith
@@ -351,16 +354,17 @@ lock_fits c conns d t a k g x0 now front v w same is room (Granted ranges on st 
     let m = x0.message in let o1 = open_at c g in let es = elements_in (c.op g) in
     let roomy : (t.opened o1).persistent ≡ true → t.journal + 66 ≤ lower_limit = λ pe. subst (λ z. z + 66 ≤ lower_limit) (sym same) (room_for_lock d front (origin_of m) o1 (recorded_index (c.slot_of g)) (c.number_of g) success es (one_element (c.op g) w.lock) (subst (λ z. fits d (front ++ z) ≡ true) (lock_persistent t m o1 (c.slot_of g) (c.number_of g) success es pe) room)) in
     let j0 = t.journal + entry_bytes (front ++ lock_records t m o1 (c.slot_of g) (c.number_of g) success es) in
-    let one = own_count a g success true (w.serving.locks.not_kept g (w.serving.locks.users k 0 g x0 w.serving.front w.token w.lock p) st free) refl in
-    (subst (λ z. Locks c conns (recorded (apply t m now v) (front ++ (apply t m now v).records)).server (counted a z true)) (sym w.token)
-    (journal_of c conns t m o1 (file_of t o1) ranges front (lock_records t m o1 (c.slot_of g) (c.number_of g) success es) (counted a (ForOp g) true) w.slot
-    (λ sq. lock_written c conns t a k g success j0 x0 sq (put t.ranges (file_of t o1) ranges) true w.serving w.token w.lock p st free (grown_by t.journal _) roomy refl)),
-    λ o place. say_lock c _ _ g _ w.token w.lock (record {
-      ok = λ s. subst (λ z. counted a z true g ≡ 1) (sym w.token) one;
-      no = λ n1. absurd (n1 refl);
-      kept = λ n2 n4 st2. ranges_written t m (λ u. is_some (kept_at (u.slots o1 (c.slot_of g)) (c.number_of g)) ≡ true) o1 (c.slot_of g) (c.number_of g) (file_of t o1) ranges w.slot (λ sq. kept_put t.slots o1 (c.slot_of g) (c.number_of g) success);
-      first = λ n1. absurd (n1 refl);
-    }))
+    let one = own_count a g success true (w.serving.locks.not_kept g (w.serving.locks.users k 0 g x0 w.serving.front w.token w.lock p) st free) refl in (
+      subst (λ z. Locks c conns (recorded (apply t m now v) (front ++ (apply t m now v).records)).server (counted a z true)) (sym w.token)
+          (journal_of c conns t m o1 (file_of t o1) ranges front (lock_records t m o1 (c.slot_of g) (c.number_of g) success es) (counted a (ForOp g) true) w.slot
+          (λ sq. lock_written c conns t a k g success j0 x0 sq (put t.ranges (file_of t o1) ranges) true w.serving w.token w.lock p st free (grown_by t.journal _) roomy refl)),
+      λ o place. say_lock c _ _ g _ w.token w.lock (record {
+        ok = λ s. subst (λ z. counted a z true g ≡ 1) (sym w.token) one;
+        no = λ n1. absurd (n1 refl);
+        kept = λ n2 n4 st2. ranges_written t m (λ u. is_some (kept_at (u.slots o1 (c.slot_of g)) (c.number_of g)) ≡ true) o1 (c.slot_of g) (c.number_of g) (file_of t o1) ranges w.slot (λ sq. kept_put t.slots o1 (c.slot_of g) (c.number_of g) success);
+        first = λ n1. absurd (n1 refl);
+      }),
+    )
   where
     journal_of : (c : Client) (conns : ℕ → Conn) (t : Server) (m : Message) (o1 f0 : ℕ) (ranges : List Range) (front rs : List Record) (b : ℕ → ℕ) → is_slot (c.slot_of g) ≡ true
         → ((sq : ℕ → ℕ) → Locks c conns (record t { sequence = sq; ranges = put t.ranges f0 ranges; slots = put2 t.slots o1 (c.slot_of g) (Some (record { number = c.number_of g; status = success })); journal = t.journal + entry_bytes (front ++ rs) }) b)
@@ -370,9 +374,10 @@ lock_fits c conns d t a k g x0 now front v w same is room (Granted ranges on st 
 -- DISK_FULL in their place
 full_down : (c : Client) (conns : ℕ → Conn) (d : Server) (a : ℕ → ℕ) (k g : ℕ) (x0 : Sent) (now : ℕ) (v : Verdict) → Copy c conns d a k g x0 → v ≡ without_room (check d x0.message) → v ≡ TurnDown (open_at c g) disk_full → Served c conns a k x0 (recorded (apply d x0.message now v) (apply d x0.message now v).records)
 full_down c conns d a k g x0 now v w is e =
-    subst (λ z. Served c conns a k x0 (recorded (apply d x0.message now z) (apply d x0.message now z).records)) (sym e)
-    (quiet_lock c conns d a k g x0 now (TurnDown (open_at c g) disk_full) [] w (inr (sym e ∙ is)) refl refl refl,
-    λ o place. say_lock c _ _ g _ w.token w.lock (record { ok = λ s. absurd (cc); no = λ n1 n2 n4. absurd (n4 refl); kept = λ n2 n4. absurd (n4 refl); first = λ n1 bf. count_same a x0.token g 0 (sole_idle c conns d a k g x0 w bf) }))
+    subst (λ z. Served c conns a k x0 (recorded (apply d x0.message now z) (apply d x0.message now z).records)) (sym e) (
+      quiet_lock c conns d a k g x0 now (TurnDown (open_at c g) disk_full) [] w (inr (sym e ∙ is)) refl refl refl,
+      λ o place. say_lock c _ _ g _ w.token w.lock (record { ok = λ s. absurd (cc); no = λ n1 n2 n4. absurd (n4 refl); kept = λ n2 n4. absurd (n4 refl); first = λ n1 bf. count_same a x0.token g 0 (sole_idle c conns d a k g x0 w bf) }),
+    )
 
 -- where they don't
 pub no_unfit : (d : Server) → fits d [] ≡ false → true ≡ false

@@ -1,23 +1,12 @@
 -- Operations that never went out settle.
-use Rattle.std.proofs.lemmas.Bool.{eqb-false}
-use Rattle.std.proofs.lemmas.Bool.Decides.{nat_tests}
-use Rattle.std.proofs.Common.{eqb-true, ◌≡◌, ◌≢◌, ℕ, ◌+◌, ◌≤◌, ◌<◌, ◌==◌, ◌%◌, Bool, true, false, not, ◌&&◌, ◌||◌, if◌then◌else◌, List, [], ◌∷◌, ◌++◌, ◌⊎◌, inl, inr, refl, arith, sym, subst, ◌∙◌, ap, Option, Some, None, slice_get, is_some, zero, suc}
-use Rattle.exchange_defs.specs.Table.{put, put2}
-use Rattle.exchange_defs.specs.Status.{success, user_session_deleted, file_closed, object_name_not_found, disk_full}
-use Rattle.exchange_defs.specs.Commands.{TreeConnect, deletes_on_close}
-use Rattle.exchange_defs.specs.CheckSetup.{tree_in}
-use Rattle.exchange_defs.specs.State.{Server, Message, Reply, Kept, Range}
-use Rattle.exchange_defs.specs.Records.{lower_limit}
-use Rattle.exchange_defs.specs.Operations.{Op, Outcome, Why, is_unsettled, is_ok, is_create, is_close, is_lock, create_of, id_in, reconnect_of}
-use Rattle.exchange_defs.specs.Client.{Client, Stage, AskedTree, create_for, guid_for, outstanding as put_out, asked, cut_channel, end_session, finish}
-use Rattle.exchange_defs.specs.Settling.{answered}
-use Rattle.exchange_defs.specs.Dialogs.{open_channel, went_on, accepted, bound, readied, leave_dialog, refused_dialog}
-use Rattle.exchange_defs.specs.Network.{Conn, Sent, Received, Token, ForDialog, ForOp, ForAttach, op_of, fresh as fresh_conn, server_off, client_off, send_up, behind_front, take_front}
-use Rattle.exchange_law.specs.Connections.{Connections, copies, count_up, count_down, no_copy_out, makes_open, shuts_open, acts_once, its_create, its_request, create_at, opens, Once, Outstanding, OwnUp, AttachUp, OwnDown, AttachDown, DownOpen, OnReady, Ready, Stages, Settled, Taken, TakenOn, Creates, Lower, HasOpen, AskedOpen, Fresh, Bodies, First, Unsent, SentReplies, Deleted}
-use Rattle.exchange_law.proofs.Lists.{get-push, rest_of, own_up_count, own_down_count, attach_up_count, attach_down_count, front_up, front_down, waited, waited_down}
-use Rattle.session_law.specs.Sessions.{is_ops}
-use Rattle.lock_law.specs.Locks.{Locks, locking, kept_at, firm, is_unsent, refused_for_good, in_slots, user_at, open_at, kept_of, goes_with, piped, all_piped, SlotIndex, UserBody, InUse, FullFree, AttachedLow, ShutOk, ShutMade, ShutGone, CloseBefore, CloseAfter, UnsentGone, AskedNew, NoSession, Unanswered, AskUp, AskDown, PresentUp, Users, CopyNow, RetriedOn, RetriedDone, CopyAttached, NowAttached, OpenedReply, JoinReply, JoinedReply, LostReply, KeptSays, NotKept, FirmKept, NoUser, NoSlots, FullDead, OkReply, NoReply, KeptReply, FirstReply, ClosedNot, KeptFiles, LeftFull, LeftStuck, LeftIdle, CloseDone, CloseFull, CloseStuck, TreesOf, ShareUp, MadePlain, AtMost, OkActed, RefusedNot}
-use Rattle.lock_law.proofs.Words.{lock_kind, lock_stays, lock_once, close_kind, own_create, unsettled_firm, unsettled_unsent, unsettled_ok, unsettled_refused, unsent_firm, unsent_ok, ok_firm, ok_settled, firm_settled, unsent_settled, unsent_refused, refused_how, kept_none, kept_same, kept_other, kept_is_some, more_up, more_down, more_asks, down_is_open, up_on, down_on, ask_on, ok_of, made_of, own_ops, own_reply_ops, ask_reply_ops, split_at}
+use Rattle.std.proofs.Common.{◌≡◌, ◌≢◌, ℕ, ◌<◌, true, false, arith}
+use Rattle.exchange_defs.specs.State.{Server}
+use Rattle.exchange_defs.specs.Operations.{Outcome, is_unsettled}
+use Rattle.exchange_defs.specs.Client.{Client}
+use Rattle.exchange_defs.specs.Network.{Conn}
+use Rattle.exchange_law.specs.Connections.{Connections, create_at, Fresh, Bodies}
+use Rattle.lock_law.specs.Locks.{Locks, is_unsent, InUse, FullFree, ShutOk, ShutMade, ShutGone, CloseBefore, CloseAfter, UnsentGone, AskUp, AskDown, RetriedDone, NowAttached, FirmKept, NoUser, NoSlots, FullDead, ClosedNot, LeftFull, LeftStuck, LeftIdle, OkActed, RefusedNot}
+use Rattle.lock_law.proofs.Words.{unsettled_ok, unsent_firm, unsent_ok, ok_settled, unsent_settled}
 
 no_slot_in_use : (c : Client) (conns : ℕ → Conn) (s : Server) (a : ℕ → ℕ) (g : ℕ) (new : ℕ → Outcome) → (0 < g) → (is_unsettled (c.outcome g) ≡ true) → (c.sent g ≡ false) → (is_unsent (new g) ≡ true) → ((h : ℕ) → h ≢ g → new h ≡ c.outcome h) → InUse c → InUse (record c { outcome = new })
 no_slot_in_use c conns s a g new above pending unsent own same i_in_use =

@@ -1,34 +1,32 @@
 -- The server takes a message that neither locks nor closes: of a dialog, of another operation, of a create, or a DH2C.
-use Rattle.std.proofs.Common.{eqb-true, ◌≡◌, ◌≢◌, ◌⊎◌, inl, inr, ℕ, ◌+◌, ◌==◌, ◌≤◌, ◌<◌, Bool, true, false, not, ◌&&◌, ◌||◌, if◌then◌else◌, List, [], ◌∷◌, ◌++◌, Option, Some, None, slice_get, is_some, refl, arith, sym, ◌∙◌, ap, subst}
+use Rattle.std.proofs.Common.{◌≡◌, ◌≢◌, ◌⊎◌, inl, inr, ℕ, ◌+◌, ◌==◌, ◌≤◌, ◌<◌, Bool, true, false, not, ◌&&◌, List, [], ◌∷◌, Option, Some, None, is_some, refl, arith, sym, ◌∙◌, ap, subst}
 use Rattle.std.proofs.lemmas.Bool.{eqb-false}
 use Rattle.exchange_defs.specs.Table.{put, is_at}
-use Rattle.exchange_defs.specs.Status.{success, user_session_deleted, object_name_not_found, network_name_deleted, access_denied, disk_full}
+use Rattle.exchange_defs.specs.Status.{success, user_session_deleted, object_name_not_found, disk_full}
 use Rattle.exchange_defs.specs.Texts.{same_name}
 use Rattle.exchange_defs.specs.Commands.{Command, Create, Close, Aside, Setup, TreeConnect, CreateRequest, Durable, Reconnect, create_form, path_form, form}
-use Rattle.exchange_defs.specs.State.{Server, Message, Answer, Record, Body}
-use Rattle.exchange_defs.specs.CheckSetup.{tree_in}
+use Rattle.exchange_defs.specs.State.{Server, Message, Record}
 use Rattle.exchange_defs.specs.Check.{check}
 use Rattle.exchange_defs.specs.CheckCreate.{has_guid, refused_by}
 use Rattle.exchange_defs.specs.Records.{lower_limit}
-use Rattle.exchange_defs.specs.Effects.{apply, attach, attached, make_open, next_open, create_reply}
+use Rattle.exchange_defs.specs.Effects.{apply, attach, attached, next_open}
 use Rattle.exchange_defs.specs.Step.{without_room}
-use Rattle.exchange_defs.specs.Operations.{Op, OpCreate, OpWrite, OpRead, OpEnd, OpTime, OpRename, OpRemove, OpLock, OpUnlock, OpFlush, OpStat, OpList, OpClose, is_unsettled, is_ok, id_in, reconnect_of, create_request, durable_of, request_of}
+use Rattle.exchange_defs.specs.Operations.{Op, OpCreate, OpWrite, OpRead, OpEnd, OpTime, OpRename, OpRemove, OpLock, OpUnlock, OpFlush, OpStat, OpList, OpClose, is_ok, id_in, reconnect_of, create_request, durable_of}
 use Rattle.exchange_defs.specs.Client.{Client, guid_for}
 use Rattle.exchange_defs.specs.Network.{Conn, Sent, Received, Token, ForDialog, ForOp, ForAttach}
 use Rattle.exchange_defs.specs.Runs.{is_send_of}
 use Rattle.exchange_defs.specs.Verdict.{Verdict, Refuse, Give, KeepRefusal, Repeat, Attach, Make, TurnDown, Tell, Show, KeepSlot, PutRanges, Alter, Shut, Challenge, ChallengeBinding, Begin, Join, EndSession, AddTree, DropTree}
-use Rattle.exchange_law.specs.Connections.{Connections, makes_open, shuts_open, create_at, its_request}
-use Rattle.server_law.proofs.Logic.{either, at_of, none_of}
+use Rattle.exchange_law.specs.Connections.{makes_open, shuts_open, create_at, its_request}
+use Rattle.server_law.proofs.Logic.{either, at_of}
 use Rattle.server_law.proofs.Doors.{recorded}
-use Rattle.server_law.proofs.Found.{Facts, RepeatFacts}
+use Rattle.server_law.proofs.Found.{Facts}
 use Rattle.server_law.proofs.Checked.{found}
 use Rattle.session_law.specs.Sessions.{is_ops, is_dialog, logon_user}
-use Rattle.create_law.specs.Creates.{Creates, seen, named, guid_at, keeps_form}
+use Rattle.create_law.specs.Creates.{seen, named, guid_at, keeps_form}
 use Rattle.create_law.proofs.Requests.{create_asked, asks_create, asks_durable, asks_new, same_guid}
-use Rattle.lock_law.specs.Locks.{Locks, locking, open_at, user_at, kept_of, goes_with, piped}
+use Rattle.lock_law.specs.Locks.{Locks, locking, open_at, piped}
 use Rattle.lock_law.proofs.Trees.{piped_in}
-use Rattle.lock_law.proofs.Words.{lock_kind, lock_stays, close_kind}
-use Rattle.lock_law.proofs.Views.{View, view, make_view}
+use Rattle.lock_law.proofs.Views.{make_view}
 use Rattle.lock_law.proofs.Verdicts.{closes_in, is_slot_verdict}
 use Rattle.lock_law.proofs.Sees.{AskSees, Deleted3, NoTree3, Gone, Other, Held, Attached, ask_sees, create_says, create_sees}
 use Rattle.lock_law.proofs.Serving.{Serving, Served, counted, not_acted, not_sent, of_other, of_unmade, plain_other, adds_at, quiet_serve}
@@ -122,9 +120,10 @@ unfolding is_dialog is_other
 dialog_other x e = grind arith
 
 pub serves_dialog : (c : Client) (conns : ℕ → Conn) (t : Server) (a : ℕ → ℕ) (k : ℕ) (x0 : Sent) (now : ℕ) (v : Verdict) (rs : List Record) → Serving c conns t a k x0 → Quietly c conns t a k x0 now v → x0.token ≡ ForDialog → Served c conns a k x0 (recorded (apply t x0.message now v) rs)
-serves_dialog c conns t a k x0 now v rs w q tk =
-    (other_keeps c conns t a k x0 now v rs w q (dialog_other x0.message.command (w.dialog (ap is_ops tk))) (λ p m. ap (is_send_of p) tk) (plain_other c conns t a k x0 _ w (λ p m. ap (is_send_of p) tk)),
-    λ o place. say_nothing c _ _ _ (record { unmade = λ g e. absurd (grind arith); unlocked = λ g e. absurd (grind arith); unshut = λ g e. absurd (grind arith); unasked = λ g e. absurd (grind arith) }))
+serves_dialog c conns t a k x0 now v rs w q tk = (
+  other_keeps c conns t a k x0 now v rs w q (dialog_other x0.message.command (w.dialog (ap is_ops tk))) (λ p m. ap (is_send_of p) tk) (plain_other c conns t a k x0 _ w (λ p m. ap (is_send_of p) tk)),
+  λ o place. say_nothing c _ _ _ (record { unmade = λ g e. absurd (grind arith); unlocked = λ g e. absurd (grind arith); unshut = λ g e. absurd (grind arith); unasked = λ g e. absurd (grind arith) }),
+)
 
 -- ---- an operation that neither makes, locks nor closes
 
@@ -146,14 +145,15 @@ not_ask g h t e f = absurd (grind arith)
 
 pub serves_other : (c : Client) (conns : ℕ → Conn) (t : Server) (a : ℕ → ℕ) (k : ℕ) (x0 : Sent) (now : ℕ) (v : Verdict) (rs : List Record) (g : ℕ) → Serving c conns t a k x0 → Quietly c conns t a k x0 now v → x0.token ≡ ForOp g
     → locking (c.op g) ≡ false → shuts_open (c.op g) ≡ false → makes_open (c.op g) ≡ false → Served c conns a k x0 (recorded (apply t x0.message now v) rs)
-serves_other c conns t a k x0 now v rs g w q tk l s m =
-    (other_keeps c conns t a k x0 now v rs w q (own_other c conns t a k x0 g w tk l s) (λ p f. unsent_other c x0 g p tk l f) (plain_other c conns t a k x0 _ w (λ p f. ap (is_send_of p) tk ∙ of_unmade c g p m f)),
-    λ o place. say_nothing c _ _ _ (record {
-      unmade = λ h e. subst (λ z. makes_open (c.op z) ≡ false) (same_op g h x0.token tk e) m;
-      unlocked = λ h e. subst (λ z. locking (c.op z) ≡ false) (same_op g h x0.token tk e) l;
-      unshut = λ h e. subst (λ z. shuts_open (c.op z) ≡ false) (same_op g h x0.token tk e) s;
-      unasked = λ h e. not_ask g h x0.token tk e;
-    }))
+serves_other c conns t a k x0 now v rs g w q tk l s m = (
+  other_keeps c conns t a k x0 now v rs w q (own_other c conns t a k x0 g w tk l s) (λ p f. unsent_other c x0 g p tk l f) (plain_other c conns t a k x0 _ w (λ p f. ap (is_send_of p) tk ∙ of_unmade c g p m f)),
+  λ o place. say_nothing c _ _ _ (record {
+    unmade = λ h e. subst (λ z. makes_open (c.op z) ≡ false) (same_op g h x0.token tk e) m;
+    unlocked = λ h e. subst (λ z. locking (c.op z) ≡ false) (same_op g h x0.token tk e) l;
+    unshut = λ h e. subst (λ z. shuts_open (c.op z) ≡ false) (same_op g h x0.token tk e) s;
+    unasked = λ h e. not_ask g h x0.token tk e;
+  }),
+)
 
 -- ---- a create
 
@@ -276,23 +276,24 @@ serves_create c conns t a k x0 now v rs g w q tk mk =
     let r = create_asked (c.op g) (guid_for c g) in
     let is : x0.message.command ≡ Create r = b.1 ∙ asks_create (c.op g) (guid_for c g) (c.file (create_at c g)) (c.slot_of g) (c.number_of g) mk in
     let sees = create_sees t x0.message r (durable_of (guid_for c g) _) w.fault is (asks_new (c.op g) (guid_for c g) mk) (asks_durable (c.op g) (guid_for c g) mk) w.creates.refused_status in
-    let gives = gives_by t x0.message now v (found t x0.message v q.0) (says_of t x0.message v q.0 sees) in
-    (other_keeps c conns t a k x0 now v rs w q (own_other c conns t a k x0 g w tk l s) (λ p f. unsent_other c x0 g p tk l f) (λ p f one. plain_create c conns t a k x0 now v w (found t x0.message v q.0) (says_of t x0.message v q.0 sees) p f one),
-    λ o place. let cur = w.current (ap is_ops tk) o in
-    record {
-      of_ask_down = λ h e. absurd (let x = not_ask g h x0.token tk e in cc);
-      of_opened_reply = λ h e m st lv p sd. gives st ∙ ap (λ z. Some z) cur.1;
-      of_join_reply = λ h e. absurd (let x = not_ask g h x0.token tk e in cc);
-      of_joined_reply = λ h e. absurd (let x = not_ask g h x0.token tk e in cc);
-      of_lost_reply = λ h e. absurd (let x = not_ask g h x0.token tk e in cc);
-      of_ok_reply = λ h e m. absurd (let x = clash (locking (c.op h)) (subst (λ z. locking (c.op z) ≡ false) (same_op g h x0.token tk e) l) m in cc);
-      of_no_reply = λ h e m. absurd (let x = clash (locking (c.op h)) (subst (λ z. locking (c.op z) ≡ false) (same_op g h x0.token tk e) l) m in cc);
-      of_kept_reply = λ h e m. absurd (let x = clash (locking (c.op h)) (subst (λ z. locking (c.op z) ≡ false) (same_op g h x0.token tk e) l) m in cc);
-      of_first_reply = λ h e m. absurd (let x = clash (locking (c.op h)) (subst (λ z. locking (c.op z) ≡ false) (same_op g h x0.token tk e) l) m in cc);
-      of_close_done = λ h e m. absurd (let x = clash (shuts_open (c.op h)) (subst (λ z. shuts_open (c.op z) ≡ false) (same_op g h x0.token tk e) s) m in cc);
-      of_close_full = λ h e m. absurd (let x = clash (shuts_open (c.op h)) (subst (λ z. shuts_open (c.op z) ≡ false) (same_op g h x0.token tk e) s) m in cc);
-      of_close_stuck = λ h e m. absurd (let x = clash (shuts_open (c.op h)) (subst (λ z. shuts_open (c.op z) ≡ false) (same_op g h x0.token tk e) s) m in cc);
-    })
+    let gives = gives_by t x0.message now v (found t x0.message v q.0) (says_of t x0.message v q.0 sees) in (
+      other_keeps c conns t a k x0 now v rs w q (own_other c conns t a k x0 g w tk l s) (λ p f. unsent_other c x0 g p tk l f) (λ p f one. plain_create c conns t a k x0 now v w (found t x0.message v q.0) (says_of t x0.message v q.0 sees) p f one),
+      λ o place. let cur = w.current (ap is_ops tk) o in
+          record {
+            of_ask_down = λ h e. absurd (let x = not_ask g h x0.token tk e in cc);
+            of_opened_reply = λ h e m st lv p sd. gives st ∙ ap (λ z. Some z) cur.1;
+            of_join_reply = λ h e. absurd (let x = not_ask g h x0.token tk e in cc);
+            of_joined_reply = λ h e. absurd (let x = not_ask g h x0.token tk e in cc);
+            of_lost_reply = λ h e. absurd (let x = not_ask g h x0.token tk e in cc);
+            of_ok_reply = λ h e m. absurd (let x = clash (locking (c.op h)) (subst (λ z. locking (c.op z) ≡ false) (same_op g h x0.token tk e) l) m in cc);
+            of_no_reply = λ h e m. absurd (let x = clash (locking (c.op h)) (subst (λ z. locking (c.op z) ≡ false) (same_op g h x0.token tk e) l) m in cc);
+            of_kept_reply = λ h e m. absurd (let x = clash (locking (c.op h)) (subst (λ z. locking (c.op z) ≡ false) (same_op g h x0.token tk e) l) m in cc);
+            of_first_reply = λ h e m. absurd (let x = clash (locking (c.op h)) (subst (λ z. locking (c.op z) ≡ false) (same_op g h x0.token tk e) l) m in cc);
+            of_close_done = λ h e m. absurd (let x = clash (shuts_open (c.op h)) (subst (λ z. shuts_open (c.op z) ≡ false) (same_op g h x0.token tk e) s) m in cc);
+            of_close_full = λ h e m. absurd (let x = clash (shuts_open (c.op h)) (subst (λ z. shuts_open (c.op z) ≡ false) (same_op g h x0.token tk e) s) m in cc);
+            of_close_stuck = λ h e m. absurd (let x = clash (shuts_open (c.op h)) (subst (λ z. shuts_open (c.op z) ≡ false) (same_op g h x0.token tk e) s) m in cc);
+          },
+    )
 
 -- ---- a DH2C
 
@@ -418,20 +419,21 @@ serves_ask c conns t a k x0 now v rs g w q tk =
     let is : x0.message.command ≡ Create r = ad.4 ∙ ask_request op guid file cr.2 in
     let fm = ask_form op guid file cr.2 (w.creates.form_acted (create_at c g) cr.2 (w.creates.ok_acted (create_at c g) cr.2 ad.3)) in
     let sees = ask_of t x0.message r (record { file = file; guid = guid }) v q.0 (ask_sees t x0.message r (record { file = file; guid = guid }) w.fault is (ask_reconnect op guid file cr.2) fm (λ pipes e. piped_in (piped c.who.share) (t.trees x0.message.session) x0.message.tree pipes (w.locks.trees_of x0.message.session) e ∙ w.locks.made_plain (create_at c g) cr.2 (w.creates.ok_acted (create_at c g) cr.2 ad.3))) in
-    let says = asked_by c conns t a k x0 now g r v w tk cr.2 ad.3 sees in
-    (other_keeps c conns t a k x0 now v rs w q (ap is_other ad.4 ∙ ask_other op guid file) (λ p f. ap (is_send_of p) tk) (plain_other c conns t a k x0 _ w (λ p f. ap (is_send_of p) tk)),
-    λ o place. let cur = w.current (ap is_ops tk) o in
-    record {
-      of_ask_down = λ h e. subst (λ z. 0 < z × z ≤ c.taken × makes_open (c.op z) ≡ false × is_ok (c.outcome (create_at c z)) ≡ true) (same_ask g h x0.token tk e) (ad.0, ad.1, ad.2, ad.3);
-      of_opened_reply = λ h e. absurd (let x = not_own g h x0.token tk e in cc);
-      of_join_reply = λ h e st lv p sd. subst (λ z. (apply t x0.message now v).server.at (open_at c z) ≡ Some c.session) (same_ask g h x0.token tk e) ((says.ok st).0 ∙ ap (λ z. Some z) cur.1);
-      of_joined_reply = λ h e st lv p off. let sd = subst (λ z. (apply t x0.message now v).server.standing (open_at c z) ≡ true) (same_ask g h x0.token tk e) (says.ok st).1 in absurd (let x = clash _ off sd in cc);
-      of_lost_reply = λ h e n d. subst (λ z. (apply t x0.message now v).reply.status ≡ object_name_not_found × (apply t x0.message now v).server.standing (open_at c z) ≡ false) (same_ask g h x0.token tk e) (says.lost n d);
-      of_ok_reply = λ h e. absurd (let x = not_own g h x0.token tk e in cc);
-      of_no_reply = λ h e. absurd (let x = not_own g h x0.token tk e in cc);
-      of_kept_reply = λ h e. absurd (let x = not_own g h x0.token tk e in cc);
-      of_first_reply = λ h e. absurd (let x = not_own g h x0.token tk e in cc);
-      of_close_done = λ h e. absurd (let x = not_own g h x0.token tk e in cc);
-      of_close_full = λ h e. absurd (let x = not_own g h x0.token tk e in cc);
-      of_close_stuck = λ h e. absurd (let x = not_own g h x0.token tk e in cc);
-    })
+    let says = asked_by c conns t a k x0 now g r v w tk cr.2 ad.3 sees in (
+      other_keeps c conns t a k x0 now v rs w q (ap is_other ad.4 ∙ ask_other op guid file) (λ p f. ap (is_send_of p) tk) (plain_other c conns t a k x0 _ w (λ p f. ap (is_send_of p) tk)),
+      λ o place. let cur = w.current (ap is_ops tk) o in
+          record {
+            of_ask_down = λ h e. subst (λ z. 0 < z × z ≤ c.taken × makes_open (c.op z) ≡ false × is_ok (c.outcome (create_at c z)) ≡ true) (same_ask g h x0.token tk e) (ad.0, ad.1, ad.2, ad.3);
+            of_opened_reply = λ h e. absurd (let x = not_own g h x0.token tk e in cc);
+            of_join_reply = λ h e st lv p sd. subst (λ z. (apply t x0.message now v).server.at (open_at c z) ≡ Some c.session) (same_ask g h x0.token tk e) ((says.ok st).0 ∙ ap (λ z. Some z) cur.1);
+            of_joined_reply = λ h e st lv p off. let sd = subst (λ z. (apply t x0.message now v).server.standing (open_at c z) ≡ true) (same_ask g h x0.token tk e) (says.ok st).1 in absurd (let x = clash _ off sd in cc);
+            of_lost_reply = λ h e n d. subst (λ z. (apply t x0.message now v).reply.status ≡ object_name_not_found × (apply t x0.message now v).server.standing (open_at c z) ≡ false) (same_ask g h x0.token tk e) (says.lost n d);
+            of_ok_reply = λ h e. absurd (let x = not_own g h x0.token tk e in cc);
+            of_no_reply = λ h e. absurd (let x = not_own g h x0.token tk e in cc);
+            of_kept_reply = λ h e. absurd (let x = not_own g h x0.token tk e in cc);
+            of_first_reply = λ h e. absurd (let x = not_own g h x0.token tk e in cc);
+            of_close_done = λ h e. absurd (let x = not_own g h x0.token tk e in cc);
+            of_close_full = λ h e. absurd (let x = not_own g h x0.token tk e in cc);
+            of_close_stuck = λ h e. absurd (let x = not_own g h x0.token tk e in cc);
+          },
+    )

@@ -1,15 +1,14 @@
 -- A push keeps what holds of locks: an operation goes out first, or again, or a DH2C in its place.
 use Rattle.std.proofs.lemmas.Bool.{eqb-false}
 use Rattle.std.proofs.lemmas.Bool.Decides.{nat_tests}
-use Rattle.std.proofs.Common.{eqb-true, ◌≡◌, ◌≢◌, ℕ, ◌+◌, ◌≤◌, ◌<◌, ◌==◌, ◌%◌, nat_lt, nat_le, Bool, true, false, not, ◌&&◌, ◌||◌, if◌then◌else◌, List, [], ◌∷◌, ◌++◌, refl, arith, sym, subst, ◌∙◌, ap, Option, Some, None, slice_get, is_some, zero, suc}
+use Rattle.std.proofs.Common.{eqb-true, ◌≡◌, ◌≢◌, ℕ, ◌+◌, ◌≤◌, ◌<◌, ◌==◌, ◌%◌, nat_lt, nat_le, Bool, true, false, not, ◌&&◌, ◌||◌, if◌then◌else◌, List, [], ◌∷◌, refl, arith, sym, subst, ◌∙◌, ap, Option, Some, None, slice_get, is_some}
 use Rattle.exchange_defs.specs.Table.{put, put2}
 use Rattle.exchange_defs.specs.State.{Server}
-use Rattle.exchange_defs.specs.CheckOpen.{is_slot}
-use Rattle.exchange_defs.specs.Operations.{Op, Outcome, NoSlot, is_unsettled, is_ok, is_create, is_lock, weight, charge, reconnect_of, create_of, is_firm}
+use Rattle.exchange_defs.specs.Operations.{Op, Outcome, NoSlot, is_unsettled, is_ok, is_create, is_lock, weight, charge, reconnect_of}
 use Rattle.exchange_defs.specs.Client.{Client, create_for, guid_for, may_push, has_its_slot, needs_slot, goes_itself, is_attached, lacks_slot, settle_no_slot, settle_no_slots, is_free, is_out_of_use, next_number, begin, again, take_slot, outstanding, own_message, ask_message}
 use Rattle.exchange_defs.specs.ClientStep.{Pick, Act, pick_after, pick_act, some_unsettled}
-use Rattle.exchange_defs.specs.Network.{World, Push, Conn, Sent, ForOp, ForAttach, pushed_by, changed, send_up}
-use Rattle.exchange_law.specs.Connections.{Connections, makes_open, shuts_open, its_create, create_at, opens, Lower}
+use Rattle.exchange_defs.specs.Network.{World, Push, Conn, Sent, ForOp, pushed_by, changed, send_up}
+use Rattle.exchange_law.specs.Connections.{Connections, makes_open, shuts_open, its_create, create_at, Lower}
 use Rattle.exchange_law.proofs.Run.{found, MayPush, front_of, back_of, both_ways}
 use Rattle.exchange_law.proofs.Outcomes.{outcomes_keeps}
 use Rattle.exchange_law.proofs.TakeSlot.{take_slot_keeps}
@@ -54,9 +53,10 @@ no_slot : (c : Client) (conns : ℕ → Conn) (s : Server) (a : ℕ → ℕ) (k 
 no_slot c conns s a k g i =
     either (λ d. Both d conns s a) (lacks_slot c k g) (record c { outcome = put c.outcome g (NoSlot (create_for c g)) }) c
     (λ lacks. let may = found c k g (front_of (may_push c k g) _ lacks) in
-    let unsent = unsent_of c g _ (back_of (goes_itself c g) _ (back_of (may_push c k g) _ lacks)) in
-    (outcomes_keeps c conns a (put c.outcome g (NoSlot (create_for c g))) (slotless_same c g (NoSlot (create_for c g)) may.pending) (slotless_still c g (NoSlot (create_for c g)) may.none i.0.settled) i.0,
-    no_slot_keeps c conns s a g (put c.outcome g (NoSlot (create_for c g))) may.above may.pending unsent (put_own c.outcome g (create_for c g)) (λ h d. put_other c.outcome g h (NoSlot (create_for c g)) d) i.0 i.1))
+    let unsent = unsent_of c g _ (back_of (goes_itself c g) _ (back_of (may_push c k g) _ lacks)) in (
+      outcomes_keeps c conns a (put c.outcome g (NoSlot (create_for c g))) (slotless_same c g (NoSlot (create_for c g)) may.pending) (slotless_still c g (NoSlot (create_for c g)) may.none i.0.settled) i.0,
+      no_slot_keeps c conns s a g (put c.outcome g (NoSlot (create_for c g))) may.above may.pending unsent (put_own c.outcome g (create_for c g)) (λ h d. put_other c.outcome g h (NoSlot (create_for c g)) d) i.0 i.1,
+    ))
     (λ _. i)
 
 no_slots : (c : Client) (conns : ℕ → Conn) (s : Server) (a : ℕ → ℕ) (k : ℕ) (gs : List ℕ) → Both c conns s a → Both (settle_no_slots c k gs) conns s a
@@ -170,14 +170,16 @@ begun_out c conns s a k g n i go low slot false e =
     let q = create_for c g in
     let fr = slot_of_free c q n (free_by slot l) in
     let oks = go.ok kind in
-    sent_out (record (take_slot c g n) { sent = put c.sent g true }) conns s a k g
-    (start_keeps (take_slot c g n) conns a g e may.has_open may.above may.within (take_slot_keeps c conns a g n e i.0),
-    begin_lock_keeps c conns s a g q n (next_number c (c.slot_user q n)) e lk fr.0 (own_for c g) may.pending go.live (subst (λ z. is_ok (c.outcome z) ≡ true) (sym (own_for c g)) oks.0) (subst (λ z. makes_open (c.op z) ≡ true) (sym (own_for c g)) oks.1) before fr.2 fr.3
-    (λ h u. used_firm c (c.slot_user q n) h fr.1 u) i.0 i.1)
+    sent_out (record (take_slot c g n) { sent = put c.sent g true }) conns s a k g (
+      start_keeps (take_slot c g n) conns a g e may.has_open may.above may.within (take_slot_keeps c conns a g n e i.0),
+      begin_lock_keeps c conns s a g q n (next_number c (c.slot_user q n)) e lk fr.0 (own_for c g) may.pending go.live (subst (λ z. is_ok (c.outcome z) ≡ true) (sym (own_for c g)) oks.0) (subst (λ z. makes_open (c.op z) ≡ true) (sym (own_for c g)) oks.1) before fr.2 fr.3
+          (λ h u. used_firm c (c.slot_user q n) h fr.1 u) i.0 i.1,
+    )
     (same_goes c conns k g _ _ _ _ c.retried go) (put_true c.sent g) (λ j m x h t l2. absurd (let y = not_first c conns a g j m x i.0 e h t in cc)))
-    (λ off. sent_out (record c { sent = put c.sent g true }) conns s a k g
-    (start_keeps c conns a g e may.has_open may.above may.within i.0,
-    begin_keeps c conns s a g e (sym (is_locking (c.op g)) ∙ off) may.pending before (λ p l m its mk sh. low p l m its (front_shuts (shuts_open (c.op g)) (shuts_open (c.op p)) sh)) i.1)
+    (λ off. sent_out (record c { sent = put c.sent g true }) conns s a k g (
+      start_keeps c conns a g e may.has_open may.above may.within i.0,
+      begin_keeps c conns s a g e (sym (is_locking (c.op g)) ∙ off) may.pending before (λ p l m its mk sh. low p l m its (front_shuts (shuts_open (c.op g)) (shuts_open (c.op p)) sh)) i.1,
+    )
     (same_goes c conns k g _ c.slot_of c.number_of c.slot_user c.retried go) (put_true c.sent g) (λ j m x h t l2. absurd (let y = not_first c conns a g j m x i.0 e h t in cc)))
   where
     free_by : (if is_lock (c.op g) && not (c.sent g) then is_free c (create_for c g) n else true) ≡ true → is_lock (c.op g) ≡ true → is_free c (create_for c g) n ≡ true

@@ -1,9 +1,9 @@
 -- The way into the server's step once more, with what fitted into the journal, and what records take there.
 use Rattle.std.proofs.lemmas.Bool.Decides.{nat_tests}
-use Rattle.std.proofs.Common.{◌≡◌, ◌⊎◌, inl, inr, ℕ, ◌+◌, ◌*◌, ◌≤◌, ◌<◌, nat_le, Bool, true, false, not, ◌&&◌, if◌then◌else◌, List, [], ◌∷◌, ◌++◌, length, refl, arith, subst, sym, Option, Some, None}
+use Rattle.std.proofs.Common.{◌≡◌, inl, inr, ℕ, ◌+◌, ◌≤◌, ◌<◌, nat_le, Bool, true, false, if◌then◌else◌, List, [], ◌∷◌, ◌++◌, length, refl, arith, subst, Option, Some, None}
 use Rattle.exchange_defs.specs.Table.{is_filled}
 use Rattle.exchange_defs.specs.Commands.{Element, deletes_on_close}
-use Rattle.exchange_defs.specs.State.{Server, Message, Heard, Record, Origin, Answer, Open, EpochRecord, CreateRecord, WriteRecord, EndRecord, BasicRecord, DeleteRecord, RenameRecord, RemoveRecord, LockRecord, ShutRecord, VersionRecord, ExpireRecord}
+use Rattle.exchange_defs.specs.State.{Server, Message, Heard, Record, Origin, Answer, EpochRecord, RemoveRecord, LockRecord, ShutRecord, VersionRecord, ExpireRecord}
 use Rattle.exchange_defs.specs.Opens.{goes, drop_open, marked_by, leave_records, mark_records, shut_records, gone_records}
 use Rattle.exchange_defs.specs.Verdict.{Verdict}
 use Rattle.exchange_defs.specs.Check.{check}
@@ -149,4 +149,3 @@ by_due P s now m f g (Some o) e =
 
 pub by_room : (P : Answer → Type 0) (s : Server) (now : ℕ) (m : Message) → Fitting s now m P → Full s now m P → P (step s now (Heard m))
 by_room P s now m f g = by_due P s now m f g (due (with_deadlines s now) now) refl
-

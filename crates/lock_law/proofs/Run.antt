@@ -1,21 +1,19 @@
 -- Each event keeps what holds of locks.
-use Rattle.std.proofs.lemmas.Bool.{eqb-false}
 use Rattle.std.proofs.Common.{eqb-true, ◌≡◌, ◌≢◌, ◌⊎◌, inl, inr, ℕ, ◌+◌, ◌≤◌, ◌<◌, ◌==◌, Bool, true, false, not, ◌&&◌, ◌||◌, if◌then◌else◌, List, [], ◌∷◌, refl, arith, sym, subst, ◌∙◌, ap, Option, Some, None, slice_get, is_some, zero, suc, nat_lt}
-use Rattle.std.proofs.lemmas.Bool.Decides.{nat_tests}
 use Rattle.exchange_defs.specs.Table.{put, is_filled}
-use Rattle.exchange_defs.specs.Status.{success, user_session_deleted, disk_full}
+use Rattle.exchange_defs.specs.Status.{success, user_session_deleted}
 use Rattle.exchange_defs.specs.Commands.{TreeConnect, deletes_on_close}
 use Rattle.exchange_defs.specs.State.{Server, Reply, Answer, Open as OpenRow}
 use Rattle.exchange_defs.specs.Records.{entry_bytes}
-use Rattle.exchange_defs.specs.Fold.{recovered, recovery_records}
+use Rattle.exchange_defs.specs.Fold.{recovery_records}
 use Rattle.exchange_defs.specs.Operations.{Op, Outcome, Unsettled, WasOk, WasRefused, NoSlot, NoOpen, Unknown, NoSession, Why, SessionLost, is_unsettled, is_ok, is_create, persists, create_of, id_in}
-use Rattle.exchange_defs.specs.Client.{Client, Stage, Apart, SaidNegotiate, SaidFirst, SaidSecond, AskedTree, create_for, guid_for, may_take, outcome_at_first, is_gone, is_gone_after, cut_channel, ends_at_cut, end_session, outcome_after_end, plain_after_end, unsent_after_end, is_taken, outcome_after_finish, given_up_after_finish, finish}
+use Rattle.exchange_defs.specs.Client.{Client, Stage, Apart, SaidNegotiate, SaidFirst, SaidSecond, AskedTree, create_for, guid_for, may_take, outcome_at_first, is_gone, is_gone_after, cut_channel, ends_at_cut, end_session, outcome_after_end, plain_after_end, unsent_after_end, is_taken, outcome_after_finish, finish}
 use Rattle.exchange_defs.specs.Settling.{Heard as Hearing, Settles, GoesAgain, Attaches, EndsSession, heard, hear, is_awaited, answered, ok_or_unknown, refused, goes_again}
-use Rattle.exchange_defs.specs.Dialogs.{DialogStep, GoesOn, Accepts, Binds, Readies, Refuses, dialog_step, dialog_message, stage_command, went_on, accepted, bound, told_session}
+use Rattle.exchange_defs.specs.Dialogs.{DialogStep, GoesOn, Accepts, Binds, Readies, Refuses, dialog_step, dialog_message, went_on, accepted, bound}
 use Rattle.exchange_defs.specs.ClientStep.{Act, Nothing, CloseChannels, act_heard}
 use Rattle.exchange_defs.specs.Network.{World, Event, Submit, Open, Push, Serve, Take, Cut, Drop, Restart, Crash, Wait, Finish, Conn, Sent, Received, Token, ForDialog, ForOp, ForAttach, op_of, happens, changed, later, may_open, may_serve, max_channel, answer, absorbed, replied, serve_front, absorb_front, behind_front, take_front, take_reply, took_by, dialog_took, op_took, closed_by, cut_by, with_client, behind_reply, restarted}
 use Rattle.exchange_defs.specs.Runs.{front_acts}
-use Rattle.exchange_law.specs.Connections.{Connections, copies, makes_open, its_create, create_at, acts_once}
+use Rattle.exchange_law.specs.Connections.{Connections, copies, makes_open, its_create, acts_once}
 use Rattle.exchange_law.proofs.Lists.{front_up, front_down, waited_down}
 use Rattle.exchange_law.proofs.Behind.{behind_keeps as exchange_behind_keeps}
 use Rattle.exchange_law.proofs.Answered.{answered_keeps as exchange_answered_keeps}
@@ -27,13 +25,13 @@ use Rattle.recovery_law.specs.Restarted.{Restarted}
 use Rattle.recovery_law.proofs.Restarts.{was_named, stood}
 use Rattle.create_law.specs.Creates.{Creates, seen, guid_at}
 use Rattle.create_law.proofs.Requests.{same_guid}
-use Rattle.lock_law.specs.Locks.{Locks, firm, is_unsent, refused_for_good, open_at, piped, all_piped}
+use Rattle.lock_law.specs.Locks.{Locks, firm, refused_for_good, piped, all_piped}
 use Rattle.lock_law.proofs.Words.{down_is_open}
 use Rattle.lock_law.proofs.Serving.{counted, Served}
 use Rattle.lock_law.proofs.Serve.{Under, served}
 use Rattle.lock_law.proofs.Ends.{accepts, ends}
-use Rattle.lock_law.proofs.Pushing.{Holds, Both, pushes}
-use Rattle.lock_law.proofs.Lines.{Tells, heard_tells, outcome_in}
+use Rattle.lock_law.proofs.Pushing.{Holds, pushes}
+use Rattle.lock_law.proofs.Lines.{Tells, heard_tells}
 use Rattle.lock_law.proofs.Settling.{settles, own_for}
 use Rattle.lock_law.proofs.Taking.{Taken, says_of}
 use Rattle.lock_law.proofs.Submit.{submit_keeps}

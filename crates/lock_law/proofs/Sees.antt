@@ -1,20 +1,19 @@
 -- What the checks find of a lock, a close, a create, and a create that asks for its open again.
-use Rattle.std.proofs.lemmas.Bool.{eqb-false}
-use Rattle.std.proofs.Common.{eqb-true, ◌≡◌, ◌≢◌, ◌⊎◌, inl, inr, ℕ, ◌+◌, ◌==◌, nat_le, nat_lt, Bool, true, false, not, ◌&&◌, ◌||◌, if◌then◌else◌, List, [], ◌∷◌, length, Option, Some, None, is_some, refl, arith, sym, ◌∙◌, ap, subst}
+use Rattle.std.proofs.Common.{eqb-true, ◌≡◌, ℕ, ◌==◌, nat_le, Bool, true, false, not, ◌&&◌, ◌||◌, List, Option, Some, None, is_some, refl, arith, sym, ◌∙◌, ap, subst}
 use Rattle.exchange_defs.specs.Table.{is_at}
-use Rattle.exchange_defs.specs.Status.{success, user_session_deleted, network_name_deleted, file_closed, object_name_not_found, access_denied, invalid_device_request, invalid_parameter, object_name_invalid, sharing_violation, insufficient_resources, duplicate_objectid}
-use Rattle.exchange_defs.specs.Texts.{same_name, is_path, begins_with_backslash}
-use Rattle.exchange_defs.specs.Commands.{Command, Create, Close, Lock, CreateRequest, Durable, Reconnect, Element, form, create_form, path_form, lock_form, is_setup, asks_directory, asks_file, deletes_on_close}
+use Rattle.exchange_defs.specs.Status.{success, user_session_deleted, network_name_deleted, file_closed, object_name_not_found, access_denied, invalid_device_request, sharing_violation, insufficient_resources}
+use Rattle.exchange_defs.specs.Texts.{same_name}
+use Rattle.exchange_defs.specs.Commands.{Create, Close, Lock, CreateRequest, Durable, Reconnect, Element, form, create_form, path_form, lock_form, is_setup, deletes_on_close}
 use Rattle.exchange_defs.specs.State.{Server, Message, Empty, Range}
 use Rattle.exchange_defs.specs.Files.{find, is_directory}
 use Rattle.exchange_defs.specs.Ranges.{RangeAnswer, Stands, Denied, change_ranges}
 use Rattle.exchange_defs.specs.Opens.{is_of_session, deletes, mapped}
-use Rattle.exchange_defs.specs.CheckCreate.{reconnect_check, reconnect_or_create, has_guid, guid_check, live_check, refusal_check, new_check, durable_check, keeps_guid, max_guids, is_counted_out, after_names, share_names, shares, refused_create, refused_by, action_of}
-use Rattle.exchange_defs.specs.CheckOpen.{file_of, is_slot, kept_status, kept_lock, turn_down_lock, range_check, new_lock_check, slot_check, lock_check, close_check}
+use Rattle.exchange_defs.specs.CheckCreate.{reconnect_check, reconnect_or_create, has_guid, guid_check, live_check, refusal_check, new_check, durable_check, keeps_guid, max_guids, is_counted_out, after_names, share_names, shares, refused_create, refused_by}
+use Rattle.exchange_defs.specs.CheckOpen.{file_of, is_slot, kept_lock, turn_down_lock, range_check, new_lock_check, slot_check}
 use Rattle.exchange_defs.specs.CheckSetup.{tree_in}
-use Rattle.exchange_defs.specs.Check.{check, owed, formed, command_check, with_tree, in_tree, tree_command, on_open, has_session}
-use Rattle.exchange_defs.specs.Verdict.{Verdict, Refuse, Give, KeepRefusal, Repeat, Attach, Make, TurnDown, Tell, Show, KeepSlot, PutRanges, Alter, Shut, Challenge, ChallengeBinding, Begin, Join, EndSession, AddTree, DropTree}
-use Rattle.server_law.proofs.Logic.{either, front_of, back_of, front_off, other_on, at_of, not_true, not_false}
+use Rattle.exchange_defs.specs.Check.{check, owed, formed, command_check, with_tree, in_tree, tree_command, has_session}
+use Rattle.exchange_defs.specs.Verdict.{Verdict, Refuse, Give, KeepRefusal, Repeat, Attach, Make, KeepSlot, PutRanges, Shut}
+use Rattle.server_law.proofs.Logic.{either, front_of, back_of, other_on, at_of, not_true, not_false}
 use Rattle.server_law.proofs.Checked.{change_refuses}
 use Rattle.lock_law.specs.Locks.{kept_at}
 

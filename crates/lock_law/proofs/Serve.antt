@@ -1,17 +1,16 @@
 -- The server takes the front of a connection.
-use Rattle.std.proofs.Common.{eqb-true, ◌≡◌, ◌≢◌, ◌⊎◌, inl, inr, ℕ, ◌+◌, ◌==◌, ◌≤◌, ◌<◌, Bool, true, false, not, ◌&&◌, ◌||◌, if◌then◌else◌, List, [], ◌∷◌, ◌++◌, Option, Some, None, slice_get, is_some, refl, arith, sym, ◌∙◌, ap, subst}
-use Rattle.exchange_defs.specs.Table.{put}
-use Rattle.exchange_defs.specs.Commands.{Command, Aside, Unreadable, Setup, Logoff, TreeConnect, TreeDisconnect, Create, Close, Flush, Read, Write, Lock, Ioctl, ListDirectory, QueryFile, QueryVolume, SetInfo, CreateRequest}
-use Rattle.exchange_defs.specs.State.{Server, Message, Heard, Answer, Record}
+use Rattle.std.proofs.Common.{◌≡◌, inl, inr, ℕ, ◌+◌, ◌<◌, Bool, true, false, List, [], ◌++◌, Some, slice_get, is_some, refl, arith, sym, ◌∙◌, ap, subst}
+use Rattle.exchange_defs.specs.Commands.{Command, Aside, Unreadable, Setup, Logoff, TreeConnect, TreeDisconnect, Create, Close, Flush, Read, Write, Lock, Ioctl, ListDirectory, QueryFile, QueryVolume, SetInfo}
+use Rattle.exchange_defs.specs.State.{Server, Heard, Answer, Record}
 use Rattle.exchange_defs.specs.CheckSetup.{tree_in}
 use Rattle.exchange_defs.specs.Check.{check}
 use Rattle.exchange_defs.specs.Records.{lower_limit, fits}
 use Rattle.exchange_defs.specs.Effects.{apply}
 use Rattle.exchange_defs.specs.Verdict.{Verdict}
-use Rattle.exchange_defs.specs.Step.{step, with_deadlines, expire, without_room}
-use Rattle.exchange_defs.specs.Operations.{Op, OpCreate, OpWrite, OpRead, OpEnd, OpTime, OpRename, OpRemove, OpLock, OpUnlock, OpFlush, OpStat, OpList, OpClose, is_unsettled, is_ok, reconnect_of}
-use Rattle.exchange_defs.specs.Client.{Client, guid_for}
-use Rattle.exchange_defs.specs.Network.{Conn, Sent, Received, Token, ForDialog, ForOp, ForAttach, answer_to, untouched}
+use Rattle.exchange_defs.specs.Step.{step, with_deadlines, without_room}
+use Rattle.exchange_defs.specs.Operations.{Op, reconnect_of}
+use Rattle.exchange_defs.specs.Client.{Client}
+use Rattle.exchange_defs.specs.Network.{Conn, Sent, Token, ForDialog, ForOp, ForAttach, answer_to, untouched}
 use Rattle.exchange_law.specs.Connections.{Connections, makes_open, shuts_open, create_at, its_request}
 use Rattle.server_law.specs.Fits.{Fits}
 use Rattle.server_law.proofs.Doors.{recorded, Before}
@@ -22,12 +21,12 @@ use Rattle.create_law.proofs.Seeing.{expire_seen}
 use Rattle.create_law.proofs.ExpireBy.{expire_by_creates}
 use Rattle.create_law.proofs.Facing.{Rest, rest, expire_rest}
 use Rattle.lock_law.specs.Locks.{Locks, locking, open_at}
-use Rattle.lock_law.proofs.Views.{view, expire_view}
+use Rattle.lock_law.proofs.Views.{expire_view}
 use Rattle.lock_law.proofs.Rooms.{by_room}
 use Rattle.lock_law.proofs.Steady.{bare_of, heads_apply}
 use Rattle.lock_law.proofs.Facing.{Lower, before_keeps}
 use Rattle.lock_law.proofs.Serving.{Serving, Served, counted, not_acted, bare_full}
-use Rattle.lock_law.proofs.Others.{Silent, say_nothing, serves_dialog, serves_other, serves_create, serves_ask}
+use Rattle.lock_law.proofs.Others.{say_nothing, serves_dialog, serves_other, serves_create, serves_ask}
 use Rattle.lock_law.proofs.Sees.{lock_sees, close_sees}
 use Rattle.lock_law.proofs.Locking.{lock_fits, lock_full, copy_of as lock_copy, lock_formed}
 use Rattle.lock_law.proofs.Closing.{close_fits, close_full, copy_of as close_copy}
@@ -157,14 +156,15 @@ unfolding makes_open
 no_ask op guid file status m e = absurd (grind arith)
 
 aside_served : (c : Client) (conns : ℕ → Conn) (s : Server) (a : ℕ → ℕ) (k : ℕ) (x0 : Sent) (status : ℕ) → Under c conns s a → Locks c conns s a → slice_get (conns k).up 0 ≡ Some x0 → x0.message.command ≡ Aside status → Served c conns a k x0 (untouched s x0.message status)
-aside_served c conns s a k x0 status u i front e =
-    (subst (λ b. Locks c conns s b) (sym (same a x0.token)) i,
-    λ o place. say_nothing c _ _ _ (record {
-      unmade = λ g t. absurd (let x = own g t in cc);
-      unlocked = λ g t. absurd (let x = own g t in cc);
-      unshut = λ g t. absurd (let x = own g t in cc);
-      unasked = λ g t. let ad = i.ask_up k 0 g x0 front t in let cr = u.links.creates g ad.0 ad.1 ad.2 in no_ask (c.op (create_at c g)) _ _ status cr.2 (sym ad.4 ∙ e);
-    }))
+aside_served c conns s a k x0 status u i front e = (
+  subst (λ b. Locks c conns s b) (sym (same a x0.token)) i,
+  λ o place. say_nothing c _ _ _ (record {
+    unmade = λ g t. absurd (let x = own g t in cc);
+    unlocked = λ g t. absurd (let x = own g t in cc);
+    unshut = λ g t. absurd (let x = own g t in cc);
+    unasked = λ g t. let ad = i.ask_up k 0 g x0 front t in let cr = u.links.creates g ad.0 ad.1 ad.2 in no_ask (c.op (create_at c g)) _ _ status cr.2 (sym ad.4 ∙ e);
+  }),
+)
   where
     same : (a : ℕ → ℕ) (tk : Token) → counted a tk false ≡ a
     same a tk = λ z h. not_acted a tk false h refl z

@@ -1,37 +1,33 @@
 -- What is known where the server takes the front of a connection, and how a verdict that isn't a lock's keeps it.
-use Rattle.std.proofs.Common.{eqb-true, ◌≡◌, ◌≢◌, ◌⊎◌, inl, inr, ℕ, ◌+◌, ◌==◌, ◌≤◌, ◌<◌, Bool, true, false, not, ◌&&◌, ◌||◌, if◌then◌else◌, List, [], ◌∷◌, ◌++◌, Option, Some, None, slice_get, is_some, refl, arith, sym, ◌∙◌, ap, subst}
-use Rattle.std.proofs.lemmas.Bool.{eqb-false}
+use Rattle.std.proofs.Common.{eqb-true, ◌≡◌, ◌⊎◌, ℕ, ◌+◌, ◌==◌, ◌≤◌, ◌<◌, Bool, true, false, ◌&&◌, if◌then◌else◌, List, [], Option, Some, None, slice_get, is_some, refl, arith, sym, ◌∙◌, subst}
 use Rattle.exchange_defs.specs.Status.{success, disk_full}
-use Rattle.exchange_defs.specs.Commands.{Command, Create, Close, TreeConnect, CreateRequest, Durable, deletes_on_close}
+use Rattle.exchange_defs.specs.Commands.{Command, Create, TreeConnect, CreateRequest, Durable, deletes_on_close}
 use Rattle.exchange_defs.specs.State.{Server, Message, Answer, Record}
-use Rattle.exchange_defs.specs.CheckSetup.{tree_in, is_new}
+use Rattle.exchange_defs.specs.CheckSetup.{tree_in}
 use Rattle.exchange_defs.specs.Check.{check}
-use Rattle.exchange_defs.specs.CheckCreate.{refused_by, refused_create}
-use Rattle.exchange_defs.specs.Records.{lower_limit, fits, entry_bytes}
+use Rattle.exchange_defs.specs.CheckCreate.{refused_by}
+use Rattle.exchange_defs.specs.Records.{lower_limit, entry_bytes}
 use Rattle.exchange_defs.specs.Effects.{apply}
-use Rattle.exchange_defs.specs.Step.{with_deadlines, expire, without_room}
-use Rattle.exchange_defs.specs.Operations.{Op, is_unsettled, is_ok}
+use Rattle.exchange_defs.specs.Step.{without_room}
+use Rattle.exchange_defs.specs.Operations.{is_unsettled}
 use Rattle.exchange_defs.specs.Client.{Client, guid_for}
-use Rattle.exchange_defs.specs.Network.{Conn, Sent, Received, Token, ForDialog, ForOp, ForAttach}
+use Rattle.exchange_defs.specs.Network.{Conn, Sent, Received, Token, ForOp, ForAttach}
 use Rattle.exchange_defs.specs.Runs.{is_send_of}
 use Rattle.exchange_defs.specs.Verdict.{Verdict, Refuse, Give, KeepRefusal, Repeat, Attach, Make, TurnDown, Tell, Show, KeepSlot, PutRanges, Alter, Shut, Challenge, ChallengeBinding, Begin, Join, EndSession, AddTree, DropTree}
-use Rattle.exchange_law.specs.Connections.{Connections, makes_open, create_at, its_request}
-use Rattle.server_law.specs.Fits.{Fits}
-use Rattle.server_law.proofs.Logic.{either}
+use Rattle.exchange_law.specs.Connections.{Connections, makes_open, create_at}
 use Rattle.server_law.proofs.Doors.{recorded}
 use Rattle.server_law.proofs.Found.{Facts}
-use Rattle.server_law.proofs.Checked.{checked, found}
-use Rattle.server_law.proofs.Applied.{applied_keeps, journal_keeps}
+use Rattle.server_law.proofs.Checked.{found}
 use Rattle.session_law.specs.Sessions.{is_ops, is_dialog, is_work, logon_user}
 use Rattle.create_law.specs.Creates.{Creates, seen}
 use Rattle.create_law.proofs.Facing.{own_create}
 use Rattle.create_law.proofs.Requests.{create_asked, asks_create, asks_to_keep}
 use Rattle.lock_law.specs.Locks.{Locks, locking, open_at, piped}
 use Rattle.lock_law.proofs.Trees.{AddsFor, trees_kept, tree_found}
-use Rattle.lock_law.proofs.Views.{View, view, Quiet, grows}
+use Rattle.lock_law.proofs.Views.{view, grows}
 use Rattle.lock_law.proofs.Verdicts.{closes_in, news, verdict_quiet, is_slot_verdict}
 use Rattle.lock_law.proofs.Undeleting.{undeleting, NewKept}
-use Rattle.lock_law.proofs.Steady.{Steady, bare_of, heads_apply}
+use Rattle.lock_law.proofs.Steady.{Steady}
 use Rattle.lock_law.proofs.Bare.{bare_steady}
 use Rattle.lock_law.proofs.Facing.{Lower, quiet_keeps}
 use Rattle.lock_law.proofs.Say.{MaySay}

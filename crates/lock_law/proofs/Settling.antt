@@ -1,24 +1,19 @@
 -- A reply that settles its operation keeps what holds of locks.
-use Rattle.std.proofs.lemmas.Bool.{eqb-false}
-use Rattle.std.proofs.Common.{eqb-true, ◌≡◌, ◌≢◌, ◌⊎◌, inl, inr, ℕ, ◌+◌, ◌≤◌, ◌<◌, ◌==◌, Bool, true, false, not, ◌&&◌, ◌||◌, if◌then◌else◌, List, [], ◌∷◌, ◌++◌, refl, arith, sym, subst, ◌∙◌, ap, Option, Some, None, slice_get, is_some}
+use Rattle.std.proofs.Common.{eqb-true, ◌≡◌, ◌≢◌, ◌⊎◌, inl, inr, ℕ, ◌+◌, ◌≤◌, ◌<◌, ◌==◌, Bool, true, false, not, ◌&&◌, ◌||◌, if◌then◌else◌, [], ◌∷◌, ◌++◌, refl, arith, sym, subst, ◌∙◌, ap, Option, Some, None, slice_get, is_some}
 use Rattle.exchange_defs.specs.Table.{put, put2}
-use Rattle.exchange_defs.specs.Status.{success, user_session_deleted, file_closed, object_name_not_found, disk_full}
-use Rattle.exchange_defs.specs.State.{Server, Reply, Body}
+use Rattle.exchange_defs.specs.Status.{disk_full}
+use Rattle.exchange_defs.specs.State.{Server, Reply}
 use Rattle.exchange_defs.specs.Records.{lower_limit}
 use Rattle.exchange_defs.specs.Operations.{Op, Outcome, Unsettled, WasOk, WasRefused, NoSlot, NoOpen, Unknown, is_unsettled, is_ok, is_create, is_close, is_lock, id_in}
-use Rattle.exchange_defs.specs.Client.{Client, create_for, guid_for, is_gone_after}
-use Rattle.exchange_defs.specs.Settling.{Heard as Hearing, Settles, heard, settle, settled, noted, noted_full, settles_open, with_no_opens, give_up_on, without_open}
-use Rattle.exchange_defs.specs.Network.{Conn, Sent, Received, Token, ForDialog, ForOp, ForAttach}
-use Rattle.exchange_law.specs.Connections.{Connections, makes_open, shuts_open, acts_once, its_create, create_at, copies, no_copy_out}
-use Rattle.exchange_law.proofs.Run.{front_of, back_of, without_same, heard_firm}
-use Rattle.exchange_law.proofs.Opens.{opens_keeps as exchange_opens_keeps}
-use Rattle.server_law.proofs.Logic.{either, not_true}
+use Rattle.exchange_defs.specs.Client.{Client, create_for, is_gone_after}
+use Rattle.exchange_defs.specs.Settling.{settle, settled, noted_full, settles_open, with_no_opens, give_up_on, without_open}
+use Rattle.exchange_defs.specs.Network.{Conn, Sent, ForOp}
+use Rattle.exchange_law.specs.Connections.{Connections, makes_open, shuts_open, its_create, create_at}
+use Rattle.exchange_law.proofs.Run.{without_same}
+use Rattle.server_law.proofs.Logic.{either}
 use Rattle.lock_law.specs.Locks.{Locks, locking, open_at, user_at, kept_of, firm, is_unsent, refused_for_good, goes_with}
-use Rattle.lock_law.proofs.Words.{lock_kind, lock_once, lock_stays, close_kind, own_create, ok_firm, ok_settled, unsettled_ok, unsent_ok, refused_how, more_up, split_at}
-use Rattle.lock_law.proofs.Lines.{Tells, heard_tells, outcome_in}
-use Rattle.lock_law.proofs.Opens.{opens_keeps}
+use Rattle.lock_law.proofs.Words.{close_kind, ok_settled, unsettled_ok, unsent_ok, split_at}
 use Rattle.lock_law.proofs.Settle.{settle_keeps}
-use Rattle.lock_law.proofs.Say.{MaySay}
 
 -- ---- what is known of the operation that settles
 

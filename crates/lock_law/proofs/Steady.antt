@@ -1,21 +1,17 @@
 -- On a full journal no file changes: an answer whose records fit there owes none, and then leaves the files as they are,
 -- so that an open whose file would go with it goes on being such a one.
-use Rattle.std.proofs.lemmas.Bool.{eqb-false}
-use Rattle.std.proofs.Common.{eqb-true, ◌≡◌, ◌≢◌, ◌⊎◌, inl, inr, ℕ, ◌+◌, ◌==◌, ◌≤◌, ◌<◌, nat_le, Bool, true, false, not, ◌&&◌, ◌||◌, if◌then◌else◌, List, [], ◌∷◌, ◌++◌, Option, Some, None, is_some, refl, arith, sym, ◌∙◌, ap, subst}
-use Rattle.exchange_defs.specs.Table.{put, has, is_at, is_filled, without, placed_in}
+use Rattle.std.proofs.Common.{eqb-true, ◌≡◌, ℕ, ◌+◌, ◌==◌, ◌<◌, Bool, true, false, not, ◌&&◌, ◌||◌, List, [], ◌∷◌, ◌++◌, Option, Some, None, refl, arith, sym, ◌∙◌, ap, subst}
+use Rattle.exchange_defs.specs.Table.{has, is_filled, without}
 use Rattle.exchange_defs.specs.Commands.{CreateRequest, Durable, deletes_on_close, has_bit}
-use Rattle.exchange_defs.specs.State.{Server, Message, Open, Record, Origin, NewOpen, CreateRecord, WriteRecord, EndRecord, BasicRecord, DeleteRecord, RenameRecord, RemoveRecord, LockRecord, ShutRecord, ExpireRecord, Entry, Range}
-use Rattle.exchange_defs.specs.Files.{root, exists, exists_in, is_directory, is_full_directory, has_below, path_of, path_in, mark_file, remove_file}
-use Rattle.exchange_defs.specs.Opens.{goes, drop_open, leave_open, marked_by, without_gone, file_has_open, opens_of, opens_in, leave_records, mark_records, shut_records, gone_records}
-use Rattle.exchange_defs.specs.CheckCreate.{empties, action_of, action_on_found}
-use Rattle.exchange_defs.specs.CheckOpen.{is_late, is_slot, file_of}
+use Rattle.exchange_defs.specs.State.{Server, Message, Open, Record, Origin, Entry}
+use Rattle.exchange_defs.specs.Files.{root, exists, exists_in, is_directory, is_full_directory, has_below, path_of, path_in}
+use Rattle.exchange_defs.specs.Opens.{goes, drop_open, leave_open, marked_by, file_has_open, opens_in, leave_records, mark_records, shut_records, gone_records}
+use Rattle.exchange_defs.specs.CheckOpen.{file_of}
 use Rattle.exchange_defs.specs.Records.{fits, lower_limit, origin_of}
-use Rattle.exchange_defs.specs.Effects.{apply, reach, attached, keep_closed, keep_slot, set_ranges, change_file, change_records, create_records, lock_records, make_open, file_made, is_persistent, next_open, open_row, new_file, end_session, end_if_named, files_behind, leave_all, leave_all_records, end_records, records_if_named, plain_of, staying_in, leaves, new_open}
+use Rattle.exchange_defs.specs.Effects.{apply, change_records, create_records, lock_records, leave_all_records, end_records, records_if_named, plain_of}
 use Rattle.exchange_defs.specs.Verdict.{Verdict, Refuse, Give, KeepRefusal, Repeat, Attach, Make, TurnDown, Tell, Show, KeepSlot, PutRanges, Alter, Shut, Challenge, ChallengeBinding, Begin, Join, EndSession, AddTree, DropTree, Change, PutBytes, PutEnd, PutBasic, PutMark, PutPath, PutNothing}
-use Rattle.server_law.specs.Fits.{Listed}
-use Rattle.server_law.proofs.Logic.{either, front_of, back_of, not_true, not_false}
-use Rattle.server_law.proofs.Lists.{has-placed, has-without, has-staying, none-open}
-use Rattle.server_law.proofs.Found.{Facts, MakeFacts}
+use Rattle.server_law.proofs.Logic.{either}
+use Rattle.server_law.proofs.Lists.{has-without, none-open}
 use Rattle.lock_law.specs.Locks.{goes_with}
 use Rattle.lock_law.proofs.Rooms.{is_big, room_for}
 

@@ -1,20 +1,19 @@
 -- A reply that is taken keeps what holds of locks: what is known of it when it settles its operation.
 use Rattle.std.proofs.lemmas.Bool.{eqb-false}
-use Rattle.std.proofs.Common.{eqb-true, ◌≡◌, ◌≢◌, ◌⊎◌, inl, inr, ℕ, ◌+◌, ◌≤◌, ◌<◌, ◌==◌, Bool, true, false, not, ◌&&◌, ◌||◌, if◌then◌else◌, List, [], ◌∷◌, refl, arith, sym, subst, ◌∙◌, ap, Option, Some, None, slice_get, is_some}
+use Rattle.std.proofs.Common.{eqb-true, ◌≡◌, ◌≢◌, ◌⊎◌, inl, inr, ℕ, ◌<◌, ◌==◌, Bool, true, false, not, ◌&&◌, ◌||◌, if◌then◌else◌, refl, arith, sym, subst, ◌∙◌, ap, Option, Some, None, slice_get, is_some}
 use Rattle.exchange_defs.specs.Table.{put, put2}
 use Rattle.exchange_defs.specs.Status.{success, user_session_deleted, file_closed, object_name_not_found, disk_full}
-use Rattle.exchange_defs.specs.State.{Server, Reply}
-use Rattle.exchange_defs.specs.Records.{lower_limit}
+use Rattle.exchange_defs.specs.State.{Server}
 use Rattle.exchange_defs.specs.Operations.{Op, Outcome, Unsettled, WasOk, WasRefused, NoSlot, NoOpen, Unknown, is_unsettled, is_ok, is_lock, is_close, id_in}
 use Rattle.exchange_defs.specs.Client.{Client, create_for, guid_for}
-use Rattle.exchange_defs.specs.Network.{Conn, Sent, Received, Token, ForDialog, ForOp, ForAttach}
-use Rattle.exchange_law.specs.Connections.{Connections, makes_open, shuts_open, acts_once, create_at, copies, no_copy_out}
+use Rattle.exchange_defs.specs.Network.{Conn, Sent, Received, ForOp, ForAttach}
+use Rattle.exchange_law.specs.Connections.{Connections, makes_open, shuts_open, create_at, copies}
 use Rattle.exchange_law.proofs.Opens.{opens_keeps as exchange_opens_keeps}
-use Rattle.lock_law.specs.Locks.{Locks, locking, open_at, user_at, kept_of, firm, is_unsent, refused_for_good, goes_with}
-use Rattle.lock_law.proofs.Words.{lock_kind, lock_once, lock_stays, close_kind, own_create, ok_firm, unsettled_ok, more_up, up_on, ok_of, made_of}
+use Rattle.lock_law.specs.Locks.{Locks, locking, open_at, user_at, kept_of, firm, refused_for_good}
+use Rattle.lock_law.proofs.Words.{lock_once, lock_stays, close_kind, unsettled_ok, more_up, up_on}
 use Rattle.lock_law.proofs.Lines.{Tells}
 use Rattle.lock_law.proofs.Opens.{opens_keeps}
-use Rattle.lock_law.proofs.Settling.{Told, Ready, Says, filled, opened, own_for, kind_close, kind_lock, create_unshut, still}
+use Rattle.lock_law.proofs.Settling.{Told, Says, filled, opened, own_for, kind_close, kind_lock, create_unshut, still}
 use Rattle.lock_law.proofs.Say.{MaySay}
 
 -- what is known where the reply y to g is taken

@@ -1,5 +1,5 @@
 -- The trees of sessions are all of the client's share.
-use Rattle.std.proofs.Common.{eqb-true, ◌≡◌, ◌⊎◌, inl, inr, ℕ, ◌+◌, ◌==◌, nat_le, Bool, true, false, not, ◌&&◌, ◌||◌, if◌then◌else◌, List, [], ◌∷◌, ◌++◌, length, Option, Some, None, is_some, refl, arith, sym, ◌∙◌, ap, subst}
+use Rattle.std.proofs.Common.{◌≡◌, ◌⊎◌, inl, inr, ℕ, ◌==◌, nat_le, Bool, true, false, if◌then◌else◌, List, [], ◌∷◌, ◌++◌, length, Option, Some, None, is_some, refl, arith, sym, ◌∙◌, ap, subst}
 use Rattle.exchange_defs.specs.Table.{put}
 use Rattle.exchange_defs.specs.Texts.{same_name}
 use Rattle.exchange_defs.specs.Commands.{TreeConnect, CreateRequest, SetupRequest, form, is_setup, deletes_on_close}
@@ -8,9 +8,9 @@ use Rattle.exchange_defs.specs.Files.{mark_file}
 use Rattle.exchange_defs.specs.Opens.{leave_open, drop_open, marked_by, goes}
 use Rattle.exchange_defs.specs.CheckCreate.{empties}
 use Rattle.exchange_defs.specs.CheckOpen.{is_late, is_slot, file_of}
-use Rattle.exchange_defs.specs.CheckSetup.{tree_in, tree_check, pipes_name, max_trees}
+use Rattle.exchange_defs.specs.CheckSetup.{tree_in, pipes_name, max_trees}
 use Rattle.exchange_defs.specs.Check.{check, command_check}
-use Rattle.exchange_defs.specs.Effects.{apply, reach, attach, attached, keep_closed, keep_slot, set_ranges, change_file, make_open, end_session, end_if_named, without_tree}
+use Rattle.exchange_defs.specs.Effects.{apply, reach, attached, keep_closed, keep_slot, set_ranges, change_file, make_open, end_if_named, without_tree}
 use Rattle.exchange_defs.specs.Step.{without_room}
 use Rattle.exchange_defs.specs.Verdict.{Verdict, Refuse, Give, KeepRefusal, Repeat, Attach, Make, TurnDown, Tell, Show, KeepSlot, PutRanges, Alter, Shut, Challenge, ChallengeBinding, Begin, Join, EndSession, AddTree, DropTree, Change, PutBytes, PutEnd, PutBasic, PutMark, PutPath, PutNothing}
 use Rattle.server_law.proofs.Logic.{either}

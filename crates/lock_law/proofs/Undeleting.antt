@@ -1,11 +1,10 @@
 -- No open deletes its file on close behind a verdict, since no request of the client asks for one.
-use Rattle.std.proofs.Common.{◌≡◌, ◌≢◌, ℕ, ◌+◌, ◌==◌, Bool, true, false, not, ◌&&◌, if◌then◌else◌, List, Option, Some, None, is_some, refl, arith, sym, ◌∙◌, ap, subst}
+use Rattle.std.proofs.Common.{◌≡◌, ℕ, Bool, true, false, Option, Some, None, is_some, arith, sym, ◌∙◌, subst}
 use Rattle.exchange_defs.specs.Table.{put}
-use Rattle.exchange_defs.specs.Commands.{CreateRequest, SetupRequest, deletes_on_close}
+use Rattle.exchange_defs.specs.Commands.{deletes_on_close}
 use Rattle.exchange_defs.specs.State.{Server, Message, Open}
-use Rattle.exchange_defs.specs.Opens.{leave_open}
-use Rattle.exchange_defs.specs.CheckOpen.{is_late, is_slot, file_of}
-use Rattle.exchange_defs.specs.Effects.{apply, reach, attach, attached, keep_closed, keep_slot, set_ranges, change_file, make_open, open_row, new_file, next_open, end_session, end_if_named}
+use Rattle.exchange_defs.specs.CheckOpen.{is_slot, file_of}
+use Rattle.exchange_defs.specs.Effects.{apply, reach, attached, keep_slot, set_ranges, open_row, new_file, next_open, end_if_named}
 use Rattle.exchange_defs.specs.Verdict.{Verdict, Refuse, Give, KeepRefusal, Repeat, Attach, Make, TurnDown, Tell, Show, KeepSlot, PutRanges, Alter, Shut, Challenge, ChallengeBinding, Begin, Join, EndSession, AddTree, DropTree}
 use Rattle.server_law.proofs.Logic.{either}
 use Rattle.lock_law.proofs.Views.{View, view, reach_view, change_view, shut_view, make_view}

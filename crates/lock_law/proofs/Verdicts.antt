@@ -1,17 +1,16 @@
 -- Each verdict but those of a lock leaves slots, opens and sessions as a lock needs them.
-use Rattle.std.proofs.lemmas.Bool.{eqb-false}
-use Rattle.std.proofs.Common.{eqb-true, ◌≡◌, ◌≢◌, ◌⊎◌, inl, inr, ℕ, ◌+◌, ◌*◌, ◌==◌, ◌≤◌, ◌<◌, Bool, true, false, not, ◌&&◌, ◌||◌, if◌then◌else◌, List, Option, Some, None, is_some, refl, arith, sym, ◌∙◌, ap, subst}
-use Rattle.exchange_defs.specs.Table.{put, put2, is_at}
+use Rattle.std.proofs.Common.{◌≡◌, ◌≢◌, inl, ℕ, ◌+◌, ◌==◌, ◌<◌, Bool, true, false, List, Option, Some, None, is_some, refl, arith, sym, ◌∙◌, subst}
+use Rattle.exchange_defs.specs.Table.{put}
 use Rattle.exchange_defs.specs.Commands.{Command, Close, CreateRequest, SetupRequest}
-use Rattle.exchange_defs.specs.State.{Server, Message, Answer, NewSession, Making}
+use Rattle.exchange_defs.specs.State.{Server, Message, NewSession, Making}
 use Rattle.exchange_defs.specs.Opens.{id_of, leave_open, with_guid}
 use Rattle.exchange_defs.specs.CheckSetup.{is_new}
 use Rattle.exchange_defs.specs.CheckOpen.{is_late, file_of}
-use Rattle.exchange_defs.specs.Effects.{apply, reach, attach, attached, keep_closed, change_file, make_open, open_row, new_file, next_open, guid_of, end_session, end_if_named, guid_staying, leaves, cleared}
+use Rattle.exchange_defs.specs.Effects.{apply, reach, attached, keep_closed, make_open, open_row, new_file, next_open, guid_of, guid_staying, leaves, cleared}
 use Rattle.exchange_defs.specs.Verdict.{Verdict, Refuse, Give, KeepRefusal, Repeat, Attach, Make, TurnDown, Tell, Show, KeepSlot, PutRanges, Alter, Shut, Challenge, ChallengeBinding, Begin, Join, EndSession, AddTree, DropTree}
 use Rattle.server_law.proofs.Logic.{either, none_of}
 use Rattle.server_law.proofs.Found.{Facts}
-use Rattle.lock_law.proofs.Views.{View, view, Quiet, stays, same, attaches, made_view, makes, left_view, leaves_by, ended_view, ends, begins_one, grows, reach_view, change_view, without_guid, leave_view, shut_view, still_named, newly_named, end_quiet, make_view, its_session, staying_named}
+use Rattle.lock_law.proofs.Views.{View, view, Quiet, stays, same, attaches, makes, leaves_by, ended_view, begins_one, reach_view, change_view, without_guid, shut_view, still_named, newly_named, end_quiet, make_view, its_session, staying_named}
 
 -- whether the command closes this open
 unfoldable pub closes_in : Command → ℕ → Bool

@@ -1,18 +1,15 @@
 -- What the server's effects do to sessions, opens and slots, as far as locks go.
-use Rattle.std.proofs.lemmas.Bool.{eqb-false}
-use Rattle.std.proofs.lemmas.Bool.Decides.{nat_tests}
-use Rattle.std.proofs.Common.{eqb-true, ◌≡◌, ◌≢◌, ◌⊎◌, inl, inr, ℕ, ◌+◌, ◌*◌, ◌==◌, ◌≤◌, ◌<◌, Bool, true, false, not, ◌&&◌, ◌||◌, if◌then◌else◌, List, Option, Some, None, is_some, refl, arith, sym, ◌∙◌, ap, subst}
-use Rattle.exchange_defs.specs.Table.{put, put2, is_at}
-use Rattle.exchange_defs.specs.Commands.{CreateRequest, Durable, SetupRequest, deletes_on_close}
-use Rattle.exchange_defs.specs.State.{Server, Message, Open, Kept, Making, Range}
-use Rattle.exchange_defs.specs.Files.{remove_file, mark_file}
-use Rattle.exchange_defs.specs.Opens.{id_of, drop_open, leave_open, marked_by, without_gone, goes, with_guid}
-use Rattle.exchange_defs.specs.CheckSetup.{is_new}
+use Rattle.std.proofs.Common.{eqb-true, ◌≡◌, ◌≢◌, ◌⊎◌, inl, ℕ, ◌+◌, ◌==◌, ◌≤◌, ◌<◌, Bool, true, false, not, ◌&&◌, if◌then◌else◌, Option, Some, None, refl, arith, sym, ◌∙◌, ap, subst}
+use Rattle.exchange_defs.specs.Table.{put, is_at}
+use Rattle.exchange_defs.specs.Commands.{CreateRequest, deletes_on_close}
+use Rattle.exchange_defs.specs.State.{Server, Message, Open, Kept}
+use Rattle.exchange_defs.specs.Files.{mark_file}
+use Rattle.exchange_defs.specs.Opens.{id_of, drop_open, leave_open, marked_by, goes, with_guid}
 use Rattle.exchange_defs.specs.CheckCreate.{empties}
-use Rattle.exchange_defs.specs.CheckOpen.{is_late, is_slot}
-use Rattle.exchange_defs.specs.Effects.{reach, keep_refusal, attach, attached, keep_closed, change_file, make_open, file_made, open_row, new_file, next_open, guid_of, end_session, end_if_named, add_session, guid_staying, leaves, cleared}
+use Rattle.exchange_defs.specs.CheckOpen.{is_late}
+use Rattle.exchange_defs.specs.Effects.{reach, keep_closed, change_file, make_open, open_row, new_file, next_open, guid_of, end_session, guid_staying, leaves, cleared}
 use Rattle.exchange_defs.specs.Verdict.{Change, PutBytes, PutEnd, PutBasic, PutMark, PutPath, PutNothing}
-use Rattle.exchange_defs.specs.Step.{expire, add_mark, with_deadlines}
+use Rattle.exchange_defs.specs.Step.{expire, add_mark}
 use Rattle.server_law.proofs.Logic.{either}
 
 pub record View : Type 0 where

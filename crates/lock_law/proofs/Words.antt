@@ -1,11 +1,11 @@
 -- What the closed words on operations and outcomes say, and what waits.
 use Rattle.std.proofs.lemmas.Bool.{eqb-false}
-use Rattle.std.proofs.Common.{eqb-true, ◌≡◌, ◌≢◌, ℕ, ◌+◌, ◌≤◌, ◌<◌, ◌==◌, Bool, true, false, ◌||◌, if◌then◌else◌, List, [], ◌∷◌, refl, arith, sym, subst, ◌∙◌, ap, Option, Some, None, slice_get, is_some}
+use Rattle.std.proofs.Common.{eqb-true, ◌≡◌, ◌≢◌, ℕ, ◌≤◌, ◌<◌, ◌==◌, true, false, refl, arith, sym, subst, Option, Some, None, slice_get, is_some}
 use Rattle.exchange_defs.specs.State.{Kept}
-use Rattle.exchange_defs.specs.Operations.{Op, Outcome, Unsettled, WasOk, WasRefused, NoSlot, NoOpen, Unknown, is_unsettled, is_ok}
+use Rattle.exchange_defs.specs.Operations.{Op, Outcome, is_unsettled, is_ok}
 use Rattle.exchange_defs.specs.Client.{Client}
-use Rattle.exchange_defs.specs.Network.{Conn, Sent, Received, ForDialog, ForOp, ForAttach, op_of}
-use Rattle.exchange_law.specs.Connections.{Connections, copies, makes_open, shuts_open, acts_once, its_create, create_at, opens, Outstanding, DownOpen, HasOpen, Taken, Creates}
+use Rattle.exchange_defs.specs.Network.{Conn, Sent, Received, ForOp, ForAttach}
+use Rattle.exchange_law.specs.Connections.{copies, makes_open, shuts_open, acts_once, its_create, create_at, Outstanding, DownOpen, HasOpen, Taken, Creates}
 use Rattle.exchange_law.proofs.Lists.{own_up_count, own_down_count, attach_down_count}
 use Rattle.session_law.specs.Sessions.{is_ops}
 use Rattle.lock_law.specs.Locks.{locking, kept_at, firm, is_unsent, refused_for_good}
