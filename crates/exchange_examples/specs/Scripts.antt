@@ -2,11 +2,11 @@
 use Rattle.std.specs.Prelude.{ℕ, zero, suc, ◌+◌, Bool, true, false, if◌then◌else◌, List, [], ◌∷◌, Some}
 use Rattle.exchange_defs.specs.Texts.{name_before}
 use Rattle.exchange_defs.specs.Order.{order_of}
-use Rattle.exchange_defs.specs.Operations.{Op, OpCreate, OpWrite, OpRead, OpEnd, OpTime, OpRename, OpRemove, OpLock, OpUnlock, OpStat, OpList, OpClose, Outcome}
+use Rattle.exchange_defs.specs.Operations.{HadStatus, Op, OpCreate, OpWrite, OpRead, OpEnd, OpTime, OpRename, OpRemove, OpLock, OpUnlock, OpStat, OpList, OpClose, Outcome}
 use Rattle.exchange_defs.specs.Client.{Identity, last_sequence}
 use Rattle.exchange_defs.specs.Commands.{Shows, Refused, Logon}
 use Rattle.exchange_defs.specs.State.{Server, Entry}
-use Rattle.exchange_defs.specs.Network.{Settings, World, Submit, Push, Serve, Take, Cut, Drop, Restart, Crash, Wait, Sent, answer, start}
+use Rattle.exchange_defs.specs.Network.{Settings, World, Submit, Push, Serve, Take, Cut, Drop, Restart, Crash, Wait, Finish, Sent, answer, start}
 use Rattle.exchange_defs.specs.Runs.{account, isolates, acts}
 use Rattle.exchange_defs.specs.Schedules.{Course, Line, Does, Pushes, Links, Settles, course}
 
@@ -449,3 +449,19 @@ abbrev pub retried_rename_until_note : List Line
 retried_rename_until_note =
     Links 0 ∷ Links 1 ∷ submit 1 (OpCreate (97 ∷ []) 0x10183 0 2 false false) ∷ Pushes 0 ∷ Does (Serve 0) ∷ Does (Take 0) ∷
     submit 2 (OpRename 1 (98 ∷ [])) ∷ Pushes 0 ∷ Does (Serve 0) ∷ Does (Cut 0) ∷ Pushes 1 ∷ []
+
+-- Rounds, each of a lock whose copy is lost with its session before the server hears of it, and which is given up.
+abbrev pub locks_given_up : ℕ → ℕ → List Line → List Line
+locks_given_up g zero rest = rest
+locks_given_up g (suc n) rest =
+    submit g (OpLock 1 g 1 true) ∷ Pushes 0 ∷ Does (Serve 0) ∷ Does (Take 0) ∷ Pushes 0 ∷ Does (Cut 0) ∷ Does (Drop 0) ∷ Does (Finish (HadStatus 1)) ∷ Links 0 ∷
+    locks_given_up (g + 1) n rest
+
+-- The numbers of a slot run modulo 16, and the server keeps that of the last lock that it heard of: were the slot of a lock
+-- that was given up used again, the sixteenth lock behind that one would have its number, and be Ok without an act.
+abbrev pub given_up_slots : List Line
+given_up_slots =
+    Links 0 ∷ submit 1 (OpCreate (97 ∷ []) 0x183 0 2 true false) ∷ Pushes 0 ∷ Does (Serve 0) ∷ Does (Take 0) ∷ submit 2 (OpLock 1 0 1 true) ∷
+    Pushes 0 ∷ Does (Serve 0) ∷ Does (Take 0) ∷ Does (Cut 0) ∷ Does (Drop 0) ∷ Links 0 ∷
+    locks_given_up 3 15
+    (submit 18 (OpLock 1 18 1 true) ∷ Pushes 0 ∷ Does (Serve 0) ∷ Does (Take 0) ∷ Pushes 0 ∷ Does (Serve 0) ∷ Does (Take 0) ∷ [])

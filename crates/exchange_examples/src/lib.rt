@@ -16,7 +16,7 @@ ghost use Rattle.exchange_defs.specs.Schedules.{course, Does, Links, Pushes, Set
 ghost use Rattle.exchange_defs.specs.Network.{Cut, Drop, Open, Restart, Finish, start};
 ghost use Rattle.exchange_examples.specs.Servers.{one_session, session, from_client, ask, after_all, status_after, body_after, records_after, files_after, binding, binding_logon, setup, in_second, second_id, make, by_guid, lock_of, made_info, first_open, second_open, with_full_journal, with_all_marks, second_session, ask_second, reconnect, journal_stands};
 ghost use Rattle.exchange_examples.specs.Laws.{laws_hold};
-ghost use Rattle.exchange_examples.specs.Scripts.{beginning, settings, stranger, worn_out, submit, settled_in, told, note, acted_on, id_told, retried_create, retried_create_until_note, kept_refusal, kept_refusal_until_note, replaced_session, replaced_session_until_note, room_counted_once, room_counted_once_until_note, held_back_write, held_back_write_until_note, held_back_write_until_last, restart_persistent, crash_lost, crash_kept, restart_plain, all_slots_retried, shared_readers, denied_writer, delayed_reconnect, delayed_reconnect_until_note, delayed_reconnect_until_last, expired_open, open_before_expiry, expired_create, first_steps, end_of_file, gaps_are_zeros, listed_names, renamed_and_removed, denied_remover, retry_after_act, retried_close, held_back_end, held_back_end_until_note, refusal_adopts, refusal_adopts_until_note, restart_keeps_locks, restart_keeps_refused_locks, attached_again, plain_open_lost, later_write_waits, retried_overwrite, retried_overwrite_until_note, slot_not_used_again, slot_not_used_again_until_note, retried_rename, retried_rename_until_note};
+ghost use Rattle.exchange_examples.specs.Scripts.{beginning, settings, stranger, worn_out, submit, settled_in, told, note, acted_on, id_told, retried_create, retried_create_until_note, kept_refusal, kept_refusal_until_note, replaced_session, replaced_session_until_note, room_counted_once, room_counted_once_until_note, held_back_write, held_back_write_until_note, held_back_write_until_last, restart_persistent, crash_lost, crash_kept, restart_plain, all_slots_retried, shared_readers, denied_writer, delayed_reconnect, delayed_reconnect_until_note, delayed_reconnect_until_last, expired_open, open_before_expiry, expired_create, first_steps, end_of_file, gaps_are_zeros, listed_names, renamed_and_removed, denied_remover, retry_after_act, retried_close, held_back_end, held_back_end_until_note, refusal_adopts, refusal_adopts_until_note, restart_keeps_locks, restart_keeps_refused_locks, attached_again, plain_open_lost, later_write_waits, retried_overwrite, retried_overwrite_until_note, slot_not_used_again, slot_not_used_again_until_note, retried_rename, retried_rename_until_note, given_up_slots};
 
 /// A create is retried on a second channel, its open is closed, and the delayed first copy finds its guid: it acts once.
 pub fn retried_create_example()
@@ -238,6 +238,17 @@ pub fn slot_not_used_again_example()
     ensures note { note 2 268435456 slot_not_used_again_until_note 0 ≡ record { status = 0x00000000; acted = false } }
     ensures acts_2 { acted_on 2 268435456 slot_not_used_again 2 ≡ 1 }
     ensures acts_3 { acted_on 2 268435456 slot_not_used_again 3 ≡ 1 }
+{}
+
+/// The slot of a lock that was given up is used no more, so a later lock never has the number of one that the slot keeps: the
+/// last of these locks acts, and it has a slot that no lock before it had.
+pub fn given_up_slot_not_used_again_example()
+    ensures settled { (course 1 given_up_slots (beginning 268435456)).world.client.outcome 18 ≡ WasOk IsDone }
+    ensures given_up { (course 1 given_up_slots (beginning 268435456)).world.client.outcome 17 ≡ Unknown (NoSession (HadStatus 1)) }
+    ensures slot { (course 1 given_up_slots (beginning 268435456)).world.client.slot_of 18 ≡ 16 }
+    ensures acts_2 { acted_on 1 268435456 given_up_slots 2 ≡ 1 }
+    ensures acts_3 { acted_on 1 268435456 given_up_slots 3 ≡ 0 }
+    ensures acts_18 { acted_on 1 268435456 given_up_slots 18 ≡ 1 }
 {}
 
 /// A rename acted and its reply is lost: the retry finds the file under that very name, and is Ok.
