@@ -24,12 +24,9 @@ PARTS = {
     "close_before": ("c", "p q", "sent op outcome"),
     "close_after": ("c", "q p", "sent op outcome"),
     "unsent_gone": ("c", "p", "outcome sent"),
-    "asked_new": ("c", "j", "stage session accepted"),
-    "no_session": ("c", "", "number session"),
     "unanswered": ("c conns", "j n p x", "up open before"),
     "ask_up": ("c conns", "j n p x", "up taken op outcome file"),
     "ask_down": ("c conns", "j n p y", "down taken op outcome"),
-    "present_up": ("c conns s", "j n x", "up session present"),
     "users": ("c conns s", "j n p x", "up op slot_user slot_of present"),
     "copy_now": ("c conns s", "j n p x", "up op live attached number asking present"),
     "retried_on": ("c conns s", "j n p x", "up open op live on retried slot_of number present"),
@@ -68,7 +65,7 @@ PARTS = {
 
 UP = [p for p, v in PARTS.items() if " up " in " %s " % v[2]]
 DOWN = [p for p, v in PARTS.items() if " down " in " %s " % v[2]]
-OWN_UP = [p for p in UP if p not in ("present_up", "ask_up", "share_up")]
+OWN_UP = [p for p in UP if p not in ("ask_up", "share_up")]
 OWN_DOWN = [p for p in DOWN if p not in ("ask_down", "join_reply", "joined_reply", "lost_reply")]
 ASK_DOWN = [p for p in DOWN if p not in OWN_DOWN]
 
@@ -191,8 +188,8 @@ event("Front", "the server takes the front", "up", "(k : ℕ) (x0 : Sent) (rest 
       parts={p: "λ %s h. %slet old = i.%s %s in grind arith" % (PARTS[p][1], OLD, p, " ".join("w.0" if v == "n" else v for v in PARTS[p][1].split()) + " w.1") for p in UP})
 event("DialogSent", "the next message of a dialog goes out", "up", "(k n0 : ℕ) (m0 : Message)", [("its", "(sh : List ℕ) → m0.command ≡ TreeConnect sh → sh ≡ c.who.share")],
       parts={"share_up": "λ j n x sh. let old = i.share_up j n x sh in let it = its sh in grind (arith, get-push)"}, conns="(put conns k (send_up (conns k) ForDialog m0 n0))")
-event("WentOn", "a dialog goes on", "stage pending", "(k : ℕ) (stage : Stage) (r0 : Reply)", [("untold", "stage ≢ AskedTree")], c="(went_on c k stage r0)")
-event("Accepted", "a new session is accepted", "stage accepted", "(k : ℕ)", [("other", "c.session ≢ c.pending")], c="(accepted c k)")
+event("WentOn", "a dialog goes on", "stage pending", "(k : ℕ) (stage : Stage) (r0 : Reply)", c="(went_on c k stage r0)")
+event("Accepted", "a new session is accepted", "stage accepted", "(k : ℕ)", c="(accepted c k)")
 event("Bound", "a further channel is ready", "stage", "(k : ℕ)", c="(bound c k)")
 event("DialogRefused", "a dialog is refused, and the client closes its channel", "stage open down", "(k status : ℕ)", [("apart", "c.ready k ≡ false")],
       c="(refused_dialog c k status)", conns="(put conns k (client_off (conns k)))")
@@ -206,10 +203,9 @@ for e in EVENTS:
             e.parts[part] = "λ %s h t. let h' : slice_get (conns j).up n ≡ Some x = grind arith in let old = i.%s %s h' t in let b = C.bodies j n p x h' t in let tk = C.taken p b.0 in %slet st1 = C.settled p in grind arith" % (v, part, v, ON_UP)
 event("Readied", "a session is ready", "stage live session number", "(k : ℕ) (r0 : Reply)",
       [("gone", "(j n : ℕ) (x : Sent) → slice_get (conns j).up n ≡ Some x → is_ops x.token ≡ true → s.present x.message.session ≡ false"),
-       ("idle", "(j n : ℕ) (y : Received) → slice_get (conns j).down n ≡ Some y → is_ops y.token ≡ false"), ("only", "(j : ℕ) → c.stage j ≡ AskedTree → j ≡ k")],
+       ("idle", "(j n : ℕ) (y : Received) → slice_get (conns j).down n ≡ Some y → is_ops y.token ≡ false")],
       c="(readied c k r0)",
-      parts={"asked_new": "λ j. let o1 = only j in grind arith", "present_up": "λ j n x h op1. let v = gone j n x h op1 in grind arith",
-             "now_attached": "λ q. let l = i.attached_low q in grind arith", "closed_not": "λ p. let l = i.attached_low (create_at c p) in grind arith"})
+      parts={"now_attached": "λ q. let l = i.attached_low q in grind arith", "closed_not": "λ p. let l = i.attached_low (create_at c p) in grind arith"})
 readied = EVENTS[-1]
 for part in OWN_UP:
     if "number" in PARTS[part][2] or "live" in PARTS[part][2] or "session" in PARTS[part][2]:
@@ -449,7 +445,6 @@ CLOSE1 = "let m1 = close_kind (c.op p) m in "
 PLAIN1 = "let m1 = m in "
 for part in ("users", "retried_on", "retried_done", "full_dead"):
     moves.parts[part] = "λ %s h t m. let old = i.%s %s h t m in %sgrind arith" % (PARTS[part][1], part, PARTS[part][1], OPS)
-moves.parts["present_up"] = "λ j n x h t. let old = i.present_up j n x h t in let sy = stay j n x h t in grind arith"
 moves.parts["copy_now"] = "λ j n p x h t m. let old = i.copy_now j n p x h t m in " + OPS + "grind arith"
 moves.parts["copy_attached"] = copy_term("copy_attached", PLAIN1 + ITS + OPS + "let sd = stands (create_at c p) mk ok1 in let ka = keeps_at (open_at c p) x.message.session in ")
 moves.parts["left_full"] = copy_term("left_full", CLOSE1 + ITS + OPS + "let sd = stands (create_at c p) mk ok1 in let op1 = opened (create_at c p) mk ok1 in ")

@@ -1,17 +1,13 @@
 -- A new session is accepted.
-use Rattle.std.proofs.Common.{◌≢◌, ℕ, arith}
+use Rattle.std.proofs.Common.{ℕ}
 use Rattle.exchange_defs.specs.State.{Server}
 use Rattle.exchange_defs.specs.Client.{Client}
 use Rattle.exchange_defs.specs.Dialogs.{accepted}
 use Rattle.exchange_defs.specs.Network.{Conn}
-use Rattle.lock_law.specs.Locks.{Locks, AskedNew}
+use Rattle.lock_law.specs.Locks.{Locks}
 
-accepted_asked_new : (c : Client) (conns : ℕ → Conn) (s : Server) (a : ℕ → ℕ) (k : ℕ) → (c.session ≢ c.pending) → AskedNew c → AskedNew (accepted c k)
-accepted_asked_new c conns s a k other i_asked_new =
-    λ j. let old = i_asked_new j in grind arith
-
-pub accepted_keeps : (c : Client) (conns : ℕ → Conn) (s : Server) (a : ℕ → ℕ) (k : ℕ) → (c.session ≢ c.pending) → Locks c conns s a → Locks (accepted c k) conns s a
-accepted_keeps c conns s a k other i =
+pub accepted_keeps : (c : Client) (conns : ℕ → Conn) (s : Server) (a : ℕ → ℕ) (k : ℕ) → Locks c conns s a → Locks (accepted c k) conns s a
+accepted_keeps c conns s a k i =
     record {
       slot_index = i.slot_index;
       user_body = i.user_body;
@@ -24,12 +20,9 @@ accepted_keeps c conns s a k other i =
       close_before = i.close_before;
       close_after = i.close_after;
       unsent_gone = i.unsent_gone;
-      asked_new = accepted_asked_new c conns s a k other i.asked_new;
-      no_session = i.no_session;
       unanswered = i.unanswered;
       ask_up = i.ask_up;
       ask_down = i.ask_down;
-      present_up = i.present_up;
       users = i.users;
       copy_now = i.copy_now;
       retried_on = i.retried_on;

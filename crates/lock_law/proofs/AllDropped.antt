@@ -4,7 +4,7 @@ use Rattle.exchange_defs.specs.State.{Server}
 use Rattle.exchange_defs.specs.Client.{Client}
 use Rattle.exchange_defs.specs.Network.{Conn, server_off}
 use Rattle.exchange_law.proofs.Lists.{get-push}
-use Rattle.lock_law.specs.Locks.{Locks, Unanswered, AskUp, PresentUp, Users, CopyNow, RetriedOn, RetriedDone, CopyAttached, FullDead, LeftFull, LeftStuck, LeftIdle, ShareUp}
+use Rattle.lock_law.specs.Locks.{Locks, Unanswered, AskUp, Users, CopyNow, RetriedOn, RetriedDone, CopyAttached, FullDead, LeftFull, LeftStuck, LeftIdle, ShareUp}
 
 all_dropped_unanswered : (c : Client) (conns : ℕ → Conn) (s : Server) (a : ℕ → ℕ) → Unanswered c conns → Unanswered c (λ j. server_off (conns j))
 all_dropped_unanswered c conns s a i_unanswered =
@@ -13,10 +13,6 @@ all_dropped_unanswered c conns s a i_unanswered =
 all_dropped_ask_up : (c : Client) (conns : ℕ → Conn) (s : Server) (a : ℕ → ℕ) → AskUp c conns → AskUp c (λ j. server_off (conns j))
 all_dropped_ask_up c conns s a i_ask_up =
     λ j n p x. let old = i_ask_up j n p x in grind (arith, get-push)
-
-all_dropped_present_up : (c : Client) (conns : ℕ → Conn) (s : Server) (a : ℕ → ℕ) → PresentUp c conns s → PresentUp c (λ j. server_off (conns j)) s
-all_dropped_present_up c conns s a i_present_up =
-    λ j n x. let old = i_present_up j n x in grind (arith, get-push)
 
 all_dropped_users : (c : Client) (conns : ℕ → Conn) (s : Server) (a : ℕ → ℕ) → Users c conns s → Users c (λ j. server_off (conns j)) s
 all_dropped_users c conns s a i_users =
@@ -72,12 +68,9 @@ all_dropped_keeps c conns s a i =
       close_before = i.close_before;
       close_after = i.close_after;
       unsent_gone = i.unsent_gone;
-      asked_new = i.asked_new;
-      no_session = i.no_session;
       unanswered = all_dropped_unanswered c conns s a i.unanswered;
       ask_up = all_dropped_ask_up c conns s a i.ask_up;
       ask_down = i.ask_down;
-      present_up = all_dropped_present_up c conns s a i.present_up;
       users = all_dropped_users c conns s a i.users;
       copy_now = all_dropped_copy_now c conns s a i.copy_now;
       retried_on = all_dropped_retried_on c conns s a i.retried_on;

@@ -7,7 +7,7 @@ use Rattle.exchange_defs.specs.Client.{Client, guid_for, asked}
 use Rattle.exchange_defs.specs.Network.{Conn, ForAttach, send_up}
 use Rattle.exchange_law.specs.Connections.{makes_open, create_at}
 use Rattle.exchange_law.proofs.Lists.{get-push}
-use Rattle.lock_law.specs.Locks.{Locks, open_at, Unanswered, AskUp, AskDown, PresentUp, Users, CopyNow, RetriedOn, RetriedDone, CopyAttached, OpenedReply, JoinReply, JoinedReply, LostReply, FullDead, OkReply, NoReply, KeptReply, FirstReply, LeftFull, LeftStuck, LeftIdle, CloseDone, CloseFull, CloseStuck, ShareUp}
+use Rattle.lock_law.specs.Locks.{Locks, open_at, Unanswered, AskUp, AskDown, Users, CopyNow, RetriedOn, RetriedDone, CopyAttached, OpenedReply, JoinReply, JoinedReply, LostReply, FullDead, OkReply, NoReply, KeptReply, FirstReply, LeftFull, LeftStuck, LeftIdle, CloseDone, CloseFull, CloseStuck, ShareUp}
 use Rattle.lock_law.proofs.Words.{lock_kind}
 
 ask_unanswered : (c : Client) (conns : ℕ → Conn) (s : Server) (a : ℕ → ℕ) (k g n0 : ℕ) (m0 : Message) → (c.ready k ≡ true) → (c.on g ≡ None) → (0 < g) → (g ≤ c.taken) → (makes_open (c.op g) ≡ false) → (is_ok (c.outcome (create_at c g)) ≡ true) → (m0.session ≡ c.session) → (c.live ≡ true) → (m0.command ≡ reconnect_of (c.op (create_at c g)) (guid_for c (create_at c g)) (open_at c g)) → (c.attached (create_at c g) ≢ c.number) → ((conns k).client_open ≡ true) → Unanswered c conns → Unanswered (asked c k g) (put conns k (send_up (conns k) (ForAttach g) m0 n0))
@@ -21,10 +21,6 @@ ask_ask_up c conns s a k g n0 m0 ready none above within kind ok mine live body 
 ask_ask_down : (c : Client) (conns : ℕ → Conn) (s : Server) (a : ℕ → ℕ) (k g n0 : ℕ) (m0 : Message) → (c.ready k ≡ true) → (c.on g ≡ None) → (0 < g) → (g ≤ c.taken) → (makes_open (c.op g) ≡ false) → (is_ok (c.outcome (create_at c g)) ≡ true) → (m0.session ≡ c.session) → (c.live ≡ true) → (m0.command ≡ reconnect_of (c.op (create_at c g)) (guid_for c (create_at c g)) (open_at c g)) → (c.attached (create_at c g) ≢ c.number) → ((conns k).client_open ≡ true) → AskDown c conns → AskDown (asked c k g) (put conns k (send_up (conns k) (ForAttach g) m0 n0))
 ask_ask_down c conns s a k g n0 m0 ready none above within kind ok mine live body loose stands i_ask_down =
     λ j n p y. let old = i_ask_down j n p y in grind arith
-
-ask_present_up : (c : Client) (conns : ℕ → Conn) (s : Server) (a : ℕ → ℕ) (k g n0 : ℕ) (m0 : Message) → (c.ready k ≡ true) → (c.on g ≡ None) → (0 < g) → (g ≤ c.taken) → (makes_open (c.op g) ≡ false) → (is_ok (c.outcome (create_at c g)) ≡ true) → (m0.session ≡ c.session) → (c.live ≡ true) → (m0.command ≡ reconnect_of (c.op (create_at c g)) (guid_for c (create_at c g)) (open_at c g)) → (c.attached (create_at c g) ≢ c.number) → ((conns k).client_open ≡ true) → PresentUp c conns s → PresentUp (asked c k g) (put conns k (send_up (conns k) (ForAttach g) m0 n0)) s
-ask_present_up c conns s a k g n0 m0 ready none above within kind ok mine live body loose stands i_present_up =
-    λ j n x. let old = i_present_up j n x in grind (arith, get-push)
 
 ask_users : (c : Client) (conns : ℕ → Conn) (s : Server) (a : ℕ → ℕ) (k g n0 : ℕ) (m0 : Message) → (c.ready k ≡ true) → (c.on g ≡ None) → (0 < g) → (g ≤ c.taken) → (makes_open (c.op g) ≡ false) → (is_ok (c.outcome (create_at c g)) ≡ true) → (m0.session ≡ c.session) → (c.live ≡ true) → (m0.command ≡ reconnect_of (c.op (create_at c g)) (guid_for c (create_at c g)) (open_at c g)) → (c.attached (create_at c g) ≢ c.number) → ((conns k).client_open ≡ true) → Users c conns s → Users (asked c k g) (put conns k (send_up (conns k) (ForAttach g) m0 n0)) s
 ask_users c conns s a k g n0 m0 ready none above within kind ok mine live body loose stands i_users =
@@ -124,12 +120,9 @@ ask_keeps c conns s a k g n0 m0 ready none above within kind ok mine live body l
       close_before = i.close_before;
       close_after = i.close_after;
       unsent_gone = i.unsent_gone;
-      asked_new = i.asked_new;
-      no_session = i.no_session;
       unanswered = ask_unanswered c conns s a k g n0 m0 ready none above within kind ok mine live body loose stands i.unanswered;
       ask_up = ask_ask_up c conns s a k g n0 m0 ready none above within kind ok mine live body loose stands i.ask_up;
       ask_down = ask_ask_down c conns s a k g n0 m0 ready none above within kind ok mine live body loose stands i.ask_down;
-      present_up = ask_present_up c conns s a k g n0 m0 ready none above within kind ok mine live body loose stands i.present_up;
       users = ask_users c conns s a k g n0 m0 ready none above within kind ok mine live body loose stands i.users;
       copy_now = ask_copy_now c conns s a k g n0 m0 ready none above within kind ok mine live body loose stands i.copy_now;
       retried_on = ask_retried_on c conns s a k g n0 m0 ready none above within kind ok mine live body loose stands i.retried_on i.copy_now;

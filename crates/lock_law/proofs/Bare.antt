@@ -3,14 +3,14 @@ use Rattle.std.proofs.lemmas.Bool.{eqb-false}
 use Rattle.std.proofs.Common.{eqb-true, ◌≡◌, ℕ, ◌==◌, Bool, true, false, not, ◌&&◌, if◌then◌else◌, List, [], ◌∷◌, ◌++◌, Option, Some, None, is_some, refl, arith, sym, ◌∙◌, ap, subst}
 use Rattle.std.proofs.lemmas.Bool.Decides.{nat_tests}
 use Rattle.exchange_defs.specs.Table.{put, has, placed_in}
-use Rattle.exchange_defs.specs.Commands.{CreateRequest, Durable, SetupRequest, deletes_on_close}
-use Rattle.exchange_defs.specs.State.{Server, Message, Open, Record, Origin, Range, CreateRecord, DeleteRecord, RemoveRecord, ShutRecord}
+use Rattle.exchange_defs.specs.Commands.{CreateRequest, deletes_on_close, asks_directory}
+use Rattle.exchange_defs.specs.State.{Server, Message, Open, Record, Origin, CreateRecord, DeleteRecord, RemoveRecord, ShutRecord, Kept}
 use Rattle.exchange_defs.specs.Files.{mark_file}
 use Rattle.exchange_defs.specs.Opens.{goes, drop_open, leave_open, marked_by, leave_records, mark_records, shut_records, gone_records}
 use Rattle.exchange_defs.specs.CheckCreate.{empties, action_on_found}
 use Rattle.exchange_defs.specs.CheckOpen.{is_late, is_slot, file_of}
 use Rattle.exchange_defs.specs.Records.{origin_of}
-use Rattle.exchange_defs.specs.Effects.{apply, reach, attach, attached, keep_closed, keep_slot, set_ranges, change_file, change_records, create_records, make_open, file_made, is_persistent, next_open, open_row, new_file, end_session, end_if_named, add_session, files_behind, leave_all, leave_all_records, end_records, records_if_named, plain_of, staying_in, leaves}
+use Rattle.exchange_defs.specs.Effects.{apply, reach, attached, keep_closed, keep_slot, set_ranges, change_file, change_records, create_records, make_open, file_made, is_persistent, next_open, open_row, new_file, end_session, end_if_named, files_behind, leave_all, leave_all_records, end_records, records_if_named, plain_of, leaves, new_open}
 use Rattle.exchange_defs.specs.Verdict.{Verdict, Refuse, Give, KeepRefusal, Repeat, Attach, Make, TurnDown, Tell, Show, KeepSlot, PutRanges, Alter, Shut, Challenge, ChallengeBinding, Begin, Join, EndSession, AddTree, DropTree, Change, PutBytes, PutEnd, PutBasic, PutMark, PutPath, PutNothing}
 use Rattle.server_law.proofs.Logic.{either, front_of}
 use Rattle.server_law.proofs.Lists.{has-placed, has-without, has-staying}
@@ -133,14 +133,14 @@ opened_there : (s : Server) (m : Message) (r : CreateRequest) (found : Option �
 unfolding create_records
 opened_there s m r found action now e = of_bool (action == 1) (is_persistent r.durable) (λ h. eqb-true action 1 h) e
   where
-    of_bool : (a p : Bool) → (a ≡ true → action ≡ 1) → (if a && not p then [] else CreateRecord (origin_of m) action (new_file s found) r.path r.attributes (Rattle.exchange_defs.specs.Commands.asks_directory r) now (Rattle.exchange_defs.specs.Effects.new_open s m r r.durable) ∷ []) ≡ [] → action ≡ 1
+    of_bool : (a p : Bool) → (a ≡ true → action ≡ 1) → (if a && not p then [] else CreateRecord (origin_of m) action (new_file s found) r.path r.attributes (asks_directory r) now (new_open s m r r.durable) ∷ []) ≡ [] → action ≡ 1
     of_bool true p h e = h refl
     of_bool false p h e = absurd (cc)
 
 no_emptying : (d : ℕ) → action_on_found d ≡ 1 → empties d ≡ false
 no_emptying d e = grind (arith, nat_tests)
 
-new_steady : (t : Server) (o f : ℕ) (row : Open) (by : ℕ → ℕ → Option ℕ) (slots : ℕ → ℕ → Option Rattle.exchange_defs.specs.State.Kept) (u : Server) → row.file ≡ f → t.marked f ≡ false
+new_steady : (t : Server) (o f : ℕ) (row : Open) (by : ℕ → ℕ → Option ℕ) (slots : ℕ → ℕ → Option Kept) (u : Server) → row.file ≡ f → t.marked f ≡ false
     → u.entries ≡ t.entries → u.marked ≡ t.marked → u.directory ≡ t.directory → u.opens ≡ placed_in o t.opens → u.opened ≡ put t.opened o row → Steady t u
 new_steady t o f row by slots u file unmarked e m d os op =
     record {

@@ -114,12 +114,9 @@ begin_lock_keeps c conns s a g q0 i0 m0 new lock slot its pending live ok made b
       close_before = begin_lock_close_before c conns s a g q0 i0 m0 new lock slot its pending live ok made before unretried unfull i.close_before;
       close_after = begin_lock_close_after c conns s a g q0 i0 m0 new lock slot its pending live ok made unretried unfull i.close_after;
       unsent_gone = begin_lock_unsent_gone c conns s a g q0 i0 m0 new lock slot its pending live ok made unretried unfull i.unsent_gone;
-      asked_new = i.asked_new;
-      no_session = i.no_session;
       unanswered = i.unanswered;
       ask_up = i.ask_up;
       ask_down = i.ask_down;
-      present_up = i.present_up;
       users = begin_lock_users c conns s a g q0 i0 m0 new lock slot its pending live ok made unretried unfull unused C.bodies C.outstanding C.settled C.taken i.users i.retried_done;
       copy_now = i.copy_now;
       retried_on = begin_lock_retried_on c conns s a g q0 i0 m0 new lock slot its pending live ok made unretried unfull C.bodies C.taken i.retried_on;

@@ -5,7 +5,7 @@ use Rattle.exchange_defs.specs.State.{Server}
 use Rattle.exchange_defs.specs.Client.{Client}
 use Rattle.exchange_defs.specs.Network.{Conn, Received, take_front}
 use Rattle.exchange_law.proofs.Lists.{waited_down}
-use Rattle.lock_law.specs.Locks.{Locks, Unanswered, AskUp, AskDown, PresentUp, Users, CopyNow, RetriedOn, RetriedDone, CopyAttached, OpenedReply, JoinReply, JoinedReply, LostReply, FullDead, OkReply, NoReply, KeptReply, FirstReply, LeftFull, LeftStuck, LeftIdle, CloseDone, CloseFull, CloseStuck, ShareUp}
+use Rattle.lock_law.specs.Locks.{Locks, Unanswered, AskUp, AskDown, Users, CopyNow, RetriedOn, RetriedDone, CopyAttached, OpenedReply, JoinReply, JoinedReply, LostReply, FullDead, OkReply, NoReply, KeptReply, FirstReply, LeftFull, LeftStuck, LeftIdle, CloseDone, CloseFull, CloseStuck, ShareUp}
 
 behind_unanswered : (c : Client) (conns : ℕ → Conn) (s : Server) (a : ℕ → ℕ) (k : ℕ) (y0 : Received) (rest : List Received) → ((conns k).down ≡ y0 ∷ rest) → Unanswered c conns → Unanswered c (put conns k (take_front (conns k) rest))
 behind_unanswered c conns s a k y0 rest is i_unanswered =
@@ -18,10 +18,6 @@ behind_ask_up c conns s a k y0 rest is i_ask_up =
 behind_ask_down : (c : Client) (conns : ℕ → Conn) (s : Server) (a : ℕ → ℕ) (k : ℕ) (y0 : Received) (rest : List Received) → ((conns k).down ≡ y0 ∷ rest) → AskDown c conns → AskDown c (put conns k (take_front (conns k) rest))
 behind_ask_down c conns s a k y0 rest is i_ask_down =
     λ j n p y h. let w = waited_down conns k y0 rest j n y is h in i_ask_down j w.0 p y w.1
-
-behind_present_up : (c : Client) (conns : ℕ → Conn) (s : Server) (a : ℕ → ℕ) (k : ℕ) (y0 : Received) (rest : List Received) → ((conns k).down ≡ y0 ∷ rest) → PresentUp c conns s → PresentUp c (put conns k (take_front (conns k) rest)) s
-behind_present_up c conns s a k y0 rest is i_present_up =
-    λ j n x. let old = i_present_up j n x in grind arith
 
 behind_users : (c : Client) (conns : ℕ → Conn) (s : Server) (a : ℕ → ℕ) (k : ℕ) (y0 : Received) (rest : List Received) → ((conns k).down ≡ y0 ∷ rest) → Users c conns s → Users c (put conns k (take_front (conns k) rest)) s
 behind_users c conns s a k y0 rest is i_users =
@@ -121,12 +117,9 @@ behind_keeps c conns s a k y0 rest is i =
       close_before = i.close_before;
       close_after = i.close_after;
       unsent_gone = i.unsent_gone;
-      asked_new = i.asked_new;
-      no_session = i.no_session;
       unanswered = behind_unanswered c conns s a k y0 rest is i.unanswered;
       ask_up = behind_ask_up c conns s a k y0 rest is i.ask_up;
       ask_down = behind_ask_down c conns s a k y0 rest is i.ask_down;
-      present_up = behind_present_up c conns s a k y0 rest is i.present_up;
       users = behind_users c conns s a k y0 rest is i.users;
       copy_now = behind_copy_now c conns s a k y0 rest is i.copy_now;
       retried_on = behind_retried_on c conns s a k y0 rest is i.retried_on;

@@ -1,14 +1,10 @@
 -- A further channel is ready.
-use Rattle.std.proofs.Common.{ℕ, arith}
+use Rattle.std.proofs.Common.{ℕ}
 use Rattle.exchange_defs.specs.State.{Server}
 use Rattle.exchange_defs.specs.Client.{Client}
 use Rattle.exchange_defs.specs.Dialogs.{bound}
 use Rattle.exchange_defs.specs.Network.{Conn}
-use Rattle.lock_law.specs.Locks.{Locks, AskedNew}
-
-bound_asked_new : (c : Client) (conns : ℕ → Conn) (s : Server) (a : ℕ → ℕ) (k : ℕ) → AskedNew c → AskedNew (bound c k)
-bound_asked_new c conns s a k i_asked_new =
-    λ j. let old = i_asked_new j in grind arith
+use Rattle.lock_law.specs.Locks.{Locks}
 
 pub bound_keeps : (c : Client) (conns : ℕ → Conn) (s : Server) (a : ℕ → ℕ) (k : ℕ) → Locks c conns s a → Locks (bound c k) conns s a
 bound_keeps c conns s a k i =
@@ -24,12 +20,9 @@ bound_keeps c conns s a k i =
       close_before = i.close_before;
       close_after = i.close_after;
       unsent_gone = i.unsent_gone;
-      asked_new = bound_asked_new c conns s a k i.asked_new;
-      no_session = i.no_session;
       unanswered = i.unanswered;
       ask_up = i.ask_up;
       ask_down = i.ask_down;
-      present_up = i.present_up;
       users = i.users;
       copy_now = i.copy_now;
       retried_on = i.retried_on;

@@ -24,7 +24,7 @@ use Rattle.session_law.specs.Sessions.{is_ops}
 use Rattle.lock_law.specs.Locks.{Locks, locking, open_at, goes_with}
 use Rattle.lock_law.proofs.Words.{lock_kind, lock_stays, close_kind, ok_of, made_of}
 use Rattle.lock_law.proofs.Views.{reach_view, shut_view}
-use Rattle.lock_law.proofs.Verdicts.{closes_in}
+use Rattle.lock_law.proofs.Verdicts.{closes_in, is_slot_verdict}
 use Rattle.lock_law.proofs.Rooms.{full_persistent, full_plain, stuck_fits}
 use Rattle.lock_law.proofs.Steady.{bare_of, heads_apply}
 use Rattle.lock_law.proofs.Sees.{CloseSees, Deleted2, NoTree2, Away2, Shuts}
@@ -93,7 +93,7 @@ counts : (c : Client) (conns : ℕ → Conn) (t : Server) (a : ℕ → ℕ) (k h
 counts c conns t a k h x0 acted w p m = not_sent a x0.token acted p (ap (is_send_of p) w.token ∙ of_other c h p (close_unlocked (c.op h) w.shuts) m)
 
 -- a verdict by which no open leaves
-quiet_close : (c : Client) (conns : ℕ → Conn) (t : Server) (a : ℕ → ℕ) (k h : ℕ) (x0 : Sent) (now : ℕ) (v : Verdict) (rs : List Record) → Copy c conns t a k h x0 → (v ≡ check t x0.message) ⊎ (v ≡ without_room (check t x0.message)) → Rattle.lock_law.proofs.Verdicts.is_slot_verdict v ≡ false
+quiet_close : (c : Client) (conns : ℕ → Conn) (t : Server) (a : ℕ → ℕ) (k h : ℕ) (x0 : Sent) (now : ℕ) (v : Verdict) (rs : List Record) → Copy c conns t a k h x0 → (v ≡ check t x0.message) ⊎ (v ≡ without_room (check t x0.message)) → is_slot_verdict v ≡ false
     → (apply t x0.message now v).records ≡ [] → (apply t x0.message now v).server.standing ≡ t.standing → Locks c conns (recorded (apply t x0.message now v) rs).server (counted a x0.token (apply t x0.message now v).acted)
 quiet_close c conns t a k h x0 now v rs w is off bare same =
     quiet_serve c conns t a k x0 now v rs (counted a x0.token (apply t x0.message now v).acted) w.serving (found t x0.message v is) off (λ big. bare) (adds_at c conns t a k x0 v w.serving is) (plain_other c conns t a k x0 _ w.serving (λ p m. ap (is_send_of p) w.token ∙ of_unmade c h p (close_kind (c.op h) w.shuts) m)) (counts c conns t a k h x0 (apply t x0.message now v).acted w)

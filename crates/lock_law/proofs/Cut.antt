@@ -6,7 +6,7 @@ use Rattle.exchange_defs.specs.Client.{Client, cut_channel}
 use Rattle.exchange_defs.specs.Network.{Conn, client_off}
 use Rattle.exchange_law.specs.Connections.{Connections, Outstanding, OwnUp, Settled, Taken, Bodies}
 use Rattle.exchange_law.proofs.Lists.{get-push}
-use Rattle.lock_law.specs.Locks.{Locks, Unanswered, AskUp, AskDown, PresentUp, Users, CopyNow, RetriedOn, RetriedDone, CopyAttached, OpenedReply, JoinReply, JoinedReply, LostReply, FullDead, OkReply, NoReply, KeptReply, FirstReply, LeftFull, LeftStuck, LeftIdle, CloseDone, CloseFull, CloseStuck, ShareUp}
+use Rattle.lock_law.specs.Locks.{Locks, Unanswered, AskUp, AskDown, Users, CopyNow, RetriedOn, RetriedDone, CopyAttached, OpenedReply, JoinReply, JoinedReply, LostReply, FullDead, OkReply, NoReply, KeptReply, FirstReply, LeftFull, LeftStuck, LeftIdle, CloseDone, CloseFull, CloseStuck, ShareUp}
 use Rattle.lock_law.proofs.Words.{up_on}
 
 cut_unanswered : (c : Client) (conns : ℕ → Conn) (s : Server) (a : ℕ → ℕ) (k : ℕ) → Bodies c conns → Outstanding c conns → OwnUp c conns → Taken c → Unanswered c conns → Unanswered (cut_channel c k) (put conns k (client_off (conns k)))
@@ -20,10 +20,6 @@ cut_ask_up c conns s a k i_ask_up =
 cut_ask_down : (c : Client) (conns : ℕ → Conn) (s : Server) (a : ℕ → ℕ) (k : ℕ) → AskDown c conns → AskDown (cut_channel c k) (put conns k (client_off (conns k)))
 cut_ask_down c conns s a k i_ask_down =
     λ j n p y. let old = i_ask_down j n p y in grind (arith, get-push)
-
-cut_present_up : (c : Client) (conns : ℕ → Conn) (s : Server) (a : ℕ → ℕ) (k : ℕ) → PresentUp c conns s → PresentUp (cut_channel c k) (put conns k (client_off (conns k))) s
-cut_present_up c conns s a k i_present_up =
-    λ j n x. let old = i_present_up j n x in grind arith
 
 cut_users : (c : Client) (conns : ℕ → Conn) (s : Server) (a : ℕ → ℕ) (k : ℕ) → Users c conns s → Users (cut_channel c k) (put conns k (client_off (conns k))) s
 cut_users c conns s a k i_users =
@@ -123,12 +119,9 @@ cut_keeps c conns s a k C i =
       close_before = i.close_before;
       close_after = i.close_after;
       unsent_gone = i.unsent_gone;
-      asked_new = i.asked_new;
-      no_session = i.no_session;
       unanswered = cut_unanswered c conns s a k C.bodies C.outstanding C.own_up C.taken i.unanswered;
       ask_up = cut_ask_up c conns s a k i.ask_up;
       ask_down = cut_ask_down c conns s a k i.ask_down;
-      present_up = cut_present_up c conns s a k i.present_up;
       users = cut_users c conns s a k i.users;
       copy_now = cut_copy_now c conns s a k i.copy_now;
       retried_on = cut_retried_on c conns s a k C.bodies C.outstanding C.own_up C.settled C.taken i.retried_on;

@@ -7,12 +7,8 @@ use Rattle.exchange_defs.specs.Dialogs.{leave_dialog}
 use Rattle.exchange_defs.specs.Network.{Conn, client_off}
 use Rattle.exchange_law.specs.Connections.{Connections, Outstanding, OnReady, Settled, Taken, Bodies}
 use Rattle.exchange_law.proofs.Lists.{get-push}
-use Rattle.lock_law.specs.Locks.{Locks, AskedNew, Unanswered, AskUp, AskDown, PresentUp, Users, CopyNow, RetriedOn, RetriedDone, CopyAttached, OpenedReply, JoinReply, JoinedReply, LostReply, FullDead, OkReply, NoReply, KeptReply, FirstReply, LeftFull, LeftStuck, LeftIdle, CloseDone, CloseFull, CloseStuck, ShareUp}
+use Rattle.lock_law.specs.Locks.{Locks, Unanswered, AskUp, AskDown, Users, CopyNow, RetriedOn, RetriedDone, CopyAttached, OpenedReply, JoinReply, JoinedReply, LostReply, FullDead, OkReply, NoReply, KeptReply, FirstReply, LeftFull, LeftStuck, LeftIdle, CloseDone, CloseFull, CloseStuck, ShareUp}
 use Rattle.lock_law.proofs.Words.{up_on}
-
-dialog_off_asked_new : (c : Client) (conns : ℕ → Conn) (s : Server) (a : ℕ → ℕ) (k : ℕ) → (c.ready k ≡ false) → AskedNew c → AskedNew (leave_dialog c k)
-dialog_off_asked_new c conns s a k apart i_asked_new =
-    λ j. let old = i_asked_new j in grind arith
 
 dialog_off_unanswered : (c : Client) (conns : ℕ → Conn) (s : Server) (a : ℕ → ℕ) (k : ℕ) → (c.ready k ≡ false) → Bodies c conns → OnReady c → Outstanding c conns → Settled c → Taken c → Unanswered c conns → Unanswered (leave_dialog c k) (put conns k (client_off (conns k)))
 dialog_off_unanswered c conns s a k apart C_bodies C_on_ready C_outstanding C_settled C_taken i_unanswered =
@@ -25,10 +21,6 @@ dialog_off_ask_up c conns s a k apart i_ask_up =
 dialog_off_ask_down : (c : Client) (conns : ℕ → Conn) (s : Server) (a : ℕ → ℕ) (k : ℕ) → (c.ready k ≡ false) → AskDown c conns → AskDown (leave_dialog c k) (put conns k (client_off (conns k)))
 dialog_off_ask_down c conns s a k apart i_ask_down =
     λ j n p y. let old = i_ask_down j n p y in grind (arith, get-push)
-
-dialog_off_present_up : (c : Client) (conns : ℕ → Conn) (s : Server) (a : ℕ → ℕ) (k : ℕ) → (c.ready k ≡ false) → PresentUp c conns s → PresentUp (leave_dialog c k) (put conns k (client_off (conns k))) s
-dialog_off_present_up c conns s a k apart i_present_up =
-    λ j n x. let old = i_present_up j n x in grind arith
 
 dialog_off_users : (c : Client) (conns : ℕ → Conn) (s : Server) (a : ℕ → ℕ) (k : ℕ) → (c.ready k ≡ false) → Users c conns s → Users (leave_dialog c k) (put conns k (client_off (conns k))) s
 dialog_off_users c conns s a k apart i_users =
@@ -128,12 +120,9 @@ dialog_off_keeps c conns s a k apart C i =
       close_before = i.close_before;
       close_after = i.close_after;
       unsent_gone = i.unsent_gone;
-      asked_new = dialog_off_asked_new c conns s a k apart i.asked_new;
-      no_session = i.no_session;
       unanswered = dialog_off_unanswered c conns s a k apart C.bodies C.on_ready C.outstanding C.settled C.taken i.unanswered;
       ask_up = dialog_off_ask_up c conns s a k apart i.ask_up;
       ask_down = dialog_off_ask_down c conns s a k apart i.ask_down;
-      present_up = dialog_off_present_up c conns s a k apart i.present_up;
       users = dialog_off_users c conns s a k apart i.users;
       copy_now = dialog_off_copy_now c conns s a k apart i.copy_now;
       retried_on = dialog_off_retried_on c conns s a k apart C.bodies C.on_ready C.outstanding C.settled C.taken i.retried_on;

@@ -6,7 +6,7 @@ use Rattle.exchange_defs.specs.State.{Server, Message}
 use Rattle.exchange_defs.specs.Client.{Client}
 use Rattle.exchange_defs.specs.Network.{Conn, ForDialog, send_up}
 use Rattle.exchange_law.proofs.Lists.{get-push}
-use Rattle.lock_law.specs.Locks.{Locks, Unanswered, AskUp, AskDown, PresentUp, Users, CopyNow, RetriedOn, RetriedDone, CopyAttached, OpenedReply, JoinReply, JoinedReply, LostReply, FullDead, OkReply, NoReply, KeptReply, FirstReply, LeftFull, LeftStuck, LeftIdle, CloseDone, CloseFull, CloseStuck, ShareUp}
+use Rattle.lock_law.specs.Locks.{Locks, Unanswered, AskUp, AskDown, Users, CopyNow, RetriedOn, RetriedDone, CopyAttached, OpenedReply, JoinReply, JoinedReply, LostReply, FullDead, OkReply, NoReply, KeptReply, FirstReply, LeftFull, LeftStuck, LeftIdle, CloseDone, CloseFull, CloseStuck, ShareUp}
 
 dialog_sent_unanswered : (c : Client) (conns : ℕ → Conn) (s : Server) (a : ℕ → ℕ) (k n0 : ℕ) (m0 : Message) → Unanswered c conns → Unanswered c (put conns k (send_up (conns k) ForDialog m0 n0))
 dialog_sent_unanswered c conns s a k n0 m0 i_unanswered =
@@ -19,10 +19,6 @@ dialog_sent_ask_up c conns s a k n0 m0 i_ask_up =
 dialog_sent_ask_down : (c : Client) (conns : ℕ → Conn) (s : Server) (a : ℕ → ℕ) (k n0 : ℕ) (m0 : Message) → AskDown c conns → AskDown c (put conns k (send_up (conns k) ForDialog m0 n0))
 dialog_sent_ask_down c conns s a k n0 m0 i_ask_down =
     λ j n p y. let old = i_ask_down j n p y in grind arith
-
-dialog_sent_present_up : (c : Client) (conns : ℕ → Conn) (s : Server) (a : ℕ → ℕ) (k n0 : ℕ) (m0 : Message) → PresentUp c conns s → PresentUp c (put conns k (send_up (conns k) ForDialog m0 n0)) s
-dialog_sent_present_up c conns s a k n0 m0 i_present_up =
-    λ j n x. let old = i_present_up j n x in grind (arith, get-push)
 
 dialog_sent_users : (c : Client) (conns : ℕ → Conn) (s : Server) (a : ℕ → ℕ) (k n0 : ℕ) (m0 : Message) → Users c conns s → Users c (put conns k (send_up (conns k) ForDialog m0 n0)) s
 dialog_sent_users c conns s a k n0 m0 i_users =
@@ -122,12 +118,9 @@ dialog_sent_keeps c conns s a k n0 m0 its i =
       close_before = i.close_before;
       close_after = i.close_after;
       unsent_gone = i.unsent_gone;
-      asked_new = i.asked_new;
-      no_session = i.no_session;
       unanswered = dialog_sent_unanswered c conns s a k n0 m0 i.unanswered;
       ask_up = dialog_sent_ask_up c conns s a k n0 m0 i.ask_up;
       ask_down = dialog_sent_ask_down c conns s a k n0 m0 i.ask_down;
-      present_up = dialog_sent_present_up c conns s a k n0 m0 i.present_up;
       users = dialog_sent_users c conns s a k n0 m0 i.users;
       copy_now = dialog_sent_copy_now c conns s a k n0 m0 i.copy_now;
       retried_on = dialog_sent_retried_on c conns s a k n0 m0 i.retried_on;

@@ -5,7 +5,7 @@ use Rattle.exchange_defs.specs.State.{Server}
 use Rattle.exchange_defs.specs.Client.{Client}
 use Rattle.exchange_defs.specs.Network.{Conn, server_off}
 use Rattle.exchange_law.proofs.Lists.{get-push}
-use Rattle.lock_law.specs.Locks.{Locks, Unanswered, AskUp, AskDown, PresentUp, Users, CopyNow, RetriedOn, RetriedDone, CopyAttached, OpenedReply, JoinReply, JoinedReply, LostReply, FullDead, OkReply, NoReply, KeptReply, FirstReply, LeftFull, LeftStuck, LeftIdle, CloseDone, CloseFull, CloseStuck, ShareUp}
+use Rattle.lock_law.specs.Locks.{Locks, Unanswered, AskUp, AskDown, Users, CopyNow, RetriedOn, RetriedDone, CopyAttached, OpenedReply, JoinReply, JoinedReply, LostReply, FullDead, OkReply, NoReply, KeptReply, FirstReply, LeftFull, LeftStuck, LeftIdle, CloseDone, CloseFull, CloseStuck, ShareUp}
 
 dropped_unanswered : (c : Client) (conns : ℕ → Conn) (s : Server) (a : ℕ → ℕ) (k : ℕ) → Unanswered c conns → Unanswered c (put conns k (server_off (conns k)))
 dropped_unanswered c conns s a k i_unanswered =
@@ -18,10 +18,6 @@ dropped_ask_up c conns s a k i_ask_up =
 dropped_ask_down : (c : Client) (conns : ℕ → Conn) (s : Server) (a : ℕ → ℕ) (k : ℕ) → AskDown c conns → AskDown c (put conns k (server_off (conns k)))
 dropped_ask_down c conns s a k i_ask_down =
     λ j n p y. let old = i_ask_down j n p y in grind arith
-
-dropped_present_up : (c : Client) (conns : ℕ → Conn) (s : Server) (a : ℕ → ℕ) (k : ℕ) → PresentUp c conns s → PresentUp c (put conns k (server_off (conns k))) s
-dropped_present_up c conns s a k i_present_up =
-    λ j n x. let old = i_present_up j n x in grind (arith, get-push)
 
 dropped_users : (c : Client) (conns : ℕ → Conn) (s : Server) (a : ℕ → ℕ) (k : ℕ) → Users c conns s → Users c (put conns k (server_off (conns k))) s
 dropped_users c conns s a k i_users =
@@ -121,12 +117,9 @@ dropped_keeps c conns s a k i =
       close_before = i.close_before;
       close_after = i.close_after;
       unsent_gone = i.unsent_gone;
-      asked_new = i.asked_new;
-      no_session = i.no_session;
       unanswered = dropped_unanswered c conns s a k i.unanswered;
       ask_up = dropped_ask_up c conns s a k i.ask_up;
       ask_down = dropped_ask_down c conns s a k i.ask_down;
-      present_up = dropped_present_up c conns s a k i.present_up;
       users = dropped_users c conns s a k i.users;
       copy_now = dropped_copy_now c conns s a k i.copy_now;
       retried_on = dropped_retried_on c conns s a k i.retried_on;

@@ -3,8 +3,8 @@ use Rattle.std.proofs.Common.{◌≡◌, ◌⊎◌, inl, inr, ℕ, ◌+◌, ◌<
 use Rattle.exchange_defs.specs.State.{Server, ServerEvent, Accept, End, Answer, Record}
 use Rattle.exchange_defs.specs.CheckSetup.{is_new}
 use Rattle.exchange_defs.specs.Records.{lower_limit, fits, entry_bytes, origin_at}
-use Rattle.exchange_defs.specs.Effects.{end_session, end_if_named, records_if_named}
-use Rattle.exchange_defs.specs.Step.{step, table, expiring, written_down, with_deadlines, due, expire, expire_records, max_marks, max_connections, ruling, ruling_without_room, carried_out, connection_of, Ruling, TakesIn, TurnsAway, TakesOut, ends_with, forget_connection, take_out}
+use Rattle.exchange_defs.specs.Effects.{end_if_named, records_if_named, end_records}
+use Rattle.exchange_defs.specs.Step.{step, table, expiring, written_down, with_deadlines, due, expire, expire_records, behind_expiry, max_marks, max_connections, ruling, ruling_without_room, carried_out, connection_of, Ruling, TakesIn, TurnsAway, TakesOut, ends_with, forget_connection, take_out}
 use Rattle.exchange_defs.specs.Client.{Client}
 use Rattle.exchange_defs.specs.Network.{Conn}
 use Rattle.exchange_law.specs.Connections.{Connections}
@@ -18,7 +18,7 @@ use Rattle.lock_law.proofs.Steady.{Steady, steady_same, bare_of, heads_named}
 use Rattle.lock_law.proofs.Bare.{named_steady}
 use Rattle.lock_law.proofs.Undeleting.{NoDelete, end_kept}
 use Rattle.lock_law.proofs.Facing.{Lower, quiet_keeps, before_keeps}
-use Rattle.lock_law.proofs.Serve.{Under, lower_of}
+use Rattle.lock_law.proofs.Serve.{Under, lower_of, journal_before}
 
 -- ---- the door
 
@@ -37,8 +37,8 @@ by_due : (P : Answer → Type 0) (s : Server) (now : ℕ) (e : ServerEvent) → 
 by_due P s now e f g None h = by_table P s now e f g
 by_due P s now e f g (Some o) h =
     let d = with_deadlines s now in let t = expire d o in
-    either (λ A. P (written_down A)) (nat_le max_marks d.mark_count) (table d now e) _ (λ _. by_table P s now e f g)
-    (λ _. either (λ A. P (written_down A)) (fits d (expire_records d (origin_at (connection_of e)) o ++ (carried_out t now (ruling t e)).records)) _ (table d now e)
+    either (λ A. P (written_down A)) (nat_le max_marks d.mark_count) (table d now e) (behind_expiry d now e (expire_records d (origin_at (connection_of e)) o) (carried_out t now (ruling t e))) (λ _. by_table P s now e f g)
+    (λ _. either (λ A. P (written_down A)) (fits d (expire_records d (origin_at (connection_of e)) o ++ (carried_out t now (ruling t e)).records)) (record (carried_out t now (ruling t e)) { records = expire_records d (origin_at (connection_of e)) o ++ (carried_out t now (ruling t e)).records }) (table d now e)
     (λ r. f t (expire_records d (origin_at (connection_of e)) o) (inr (o, h, refl)) (λ l. absurd (no_room d (connection_of e) o (carried_out t now (ruling t e)).records r l)) r)
     (λ _. by_table P s now e f g))
 
@@ -93,7 +93,7 @@ ended_locks c conns t a k now quiet rs bare l C i =
     (end_trees (piped c.who.share) t now (ends_with t k) quiet i.trees_of) (end_kept t now (ends_with t k) quiet i.kept_files) i
 
 quiet_none : (t : Server) (k : ℕ) (named : Option ℕ) → records_if_named t (origin_at k) named true ≡ []
-unfolding Rattle.exchange_defs.specs.Effects.end_records
+unfolding end_records
 quiet_none t k None = refl
 quiet_none t k (Some x) = refl
 
@@ -102,6 +102,6 @@ ends c conns s a k now u i =
     by_event (λ A. Locks c conns A.server a) s now (End k)
     (λ t front b full room. let x = before_keeps c conns s a now t b full (lower_of c conns s a u) u.links i in
     ended_locks c conns t a k now false _ (λ big. bare_of (with_deadlines s now) front (records_if_named t (origin_at k) (ends_with t k) false) (heads_named t (origin_at k) (ends_with t k) false) room
-    (subst (λ z. lower_limit < z + 34) (Rattle.lock_law.proofs.Serve.journal_before s now t b) big)) x.0 u.links x.1)
+    (subst (λ z. lower_limit < z + 34) (journal_before s now t b) big)) x.0 u.links x.1)
     (let x = before_keeps c conns s a now (with_deadlines s now) (inl refl) (λ _. refl) (lower_of c conns s a u) u.links i in
     ended_locks c conns (with_deadlines s now) a k now true _ (λ big. quiet_none (with_deadlines s now) k (ends_with (with_deadlines s now) k)) x.0 u.links x.1)

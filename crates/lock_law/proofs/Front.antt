@@ -5,7 +5,7 @@ use Rattle.exchange_defs.specs.State.{Server}
 use Rattle.exchange_defs.specs.Client.{Client}
 use Rattle.exchange_defs.specs.Network.{Conn, Sent, behind_front}
 use Rattle.exchange_law.proofs.Lists.{waited}
-use Rattle.lock_law.specs.Locks.{Locks, Unanswered, AskUp, AskDown, PresentUp, Users, CopyNow, RetriedOn, RetriedDone, CopyAttached, OpenedReply, JoinReply, JoinedReply, LostReply, FullDead, OkReply, NoReply, KeptReply, FirstReply, LeftFull, LeftStuck, LeftIdle, CloseDone, CloseFull, CloseStuck, ShareUp}
+use Rattle.lock_law.specs.Locks.{Locks, Unanswered, AskUp, AskDown, Users, CopyNow, RetriedOn, RetriedDone, CopyAttached, OpenedReply, JoinReply, JoinedReply, LostReply, FullDead, OkReply, NoReply, KeptReply, FirstReply, LeftFull, LeftStuck, LeftIdle, CloseDone, CloseFull, CloseStuck, ShareUp}
 
 front_unanswered : (c : Client) (conns : ℕ → Conn) (s : Server) (a : ℕ → ℕ) (k : ℕ) (x0 : Sent) (rest : List Sent) → ((conns k).up ≡ x0 ∷ rest) → Unanswered c conns → Unanswered c (put conns k (behind_front (conns k) rest))
 front_unanswered c conns s a k x0 rest is i_unanswered =
@@ -18,10 +18,6 @@ front_ask_up c conns s a k x0 rest is i_ask_up =
 front_ask_down : (c : Client) (conns : ℕ → Conn) (s : Server) (a : ℕ → ℕ) (k : ℕ) (x0 : Sent) (rest : List Sent) → ((conns k).up ≡ x0 ∷ rest) → AskDown c conns → AskDown c (put conns k (behind_front (conns k) rest))
 front_ask_down c conns s a k x0 rest is i_ask_down =
     λ j n p y. let old = i_ask_down j n p y in grind arith
-
-front_present_up : (c : Client) (conns : ℕ → Conn) (s : Server) (a : ℕ → ℕ) (k : ℕ) (x0 : Sent) (rest : List Sent) → ((conns k).up ≡ x0 ∷ rest) → PresentUp c conns s → PresentUp c (put conns k (behind_front (conns k) rest)) s
-front_present_up c conns s a k x0 rest is i_present_up =
-    λ j n x h. let w = waited conns k x0 rest j n x is h in let old = i_present_up j w.0 x w.1 in grind arith
 
 front_users : (c : Client) (conns : ℕ → Conn) (s : Server) (a : ℕ → ℕ) (k : ℕ) (x0 : Sent) (rest : List Sent) → ((conns k).up ≡ x0 ∷ rest) → Users c conns s → Users c (put conns k (behind_front (conns k) rest)) s
 front_users c conns s a k x0 rest is i_users =
@@ -121,12 +117,9 @@ front_keeps c conns s a k x0 rest is i =
       close_before = i.close_before;
       close_after = i.close_after;
       unsent_gone = i.unsent_gone;
-      asked_new = i.asked_new;
-      no_session = i.no_session;
       unanswered = front_unanswered c conns s a k x0 rest is i.unanswered;
       ask_up = front_ask_up c conns s a k x0 rest is i.ask_up;
       ask_down = front_ask_down c conns s a k x0 rest is i.ask_down;
-      present_up = front_present_up c conns s a k x0 rest is i.present_up;
       users = front_users c conns s a k x0 rest is i.users;
       copy_now = front_copy_now c conns s a k x0 rest is i.copy_now;
       retried_on = front_retried_on c conns s a k x0 rest is i.retried_on;

@@ -6,7 +6,7 @@ use Rattle.exchange_defs.specs.Client.{Client, end_session}
 use Rattle.exchange_defs.specs.Network.{Conn, client_off}
 use Rattle.exchange_law.specs.Connections.{Connections, create_at, Outstanding, OwnUp, Taken, Fresh, Bodies}
 use Rattle.exchange_law.proofs.Lists.{get-push}
-use Rattle.lock_law.specs.Locks.{Locks, firm, refused_for_good, InUse, FullFree, ShutOk, ShutMade, ShutGone, CloseBefore, CloseAfter, UnsentGone, AskedNew, Unanswered, AskUp, AskDown, CopyNow, RetriedOn, RetriedDone, NowAttached, OpenedReply, JoinReply, JoinedReply, LostReply, FirmKept, NoUser, NoSlots, FullDead, OkReply, NoReply, KeptReply, FirstReply, ClosedNot, LeftFull, LeftStuck, LeftIdle, CloseDone, CloseFull, CloseStuck, OkActed, RefusedNot}
+use Rattle.lock_law.specs.Locks.{Locks, firm, refused_for_good, InUse, FullFree, ShutOk, ShutMade, ShutGone, CloseBefore, CloseAfter, UnsentGone, Unanswered, AskUp, AskDown, CopyNow, RetriedOn, RetriedDone, NowAttached, OpenedReply, JoinReply, JoinedReply, LostReply, FirmKept, NoUser, NoSlots, FullDead, OkReply, NoReply, KeptReply, FirstReply, ClosedNot, LeftFull, LeftStuck, LeftIdle, CloseDone, CloseFull, CloseStuck, OkActed, RefusedNot}
 use Rattle.lock_law.proofs.Words.{unsettled_firm, ok_settled, unsent_refused, up_on}
 
 leave_in_use : (c : Client) (conns : ℕ → Conn) (s : Server) (a : ℕ → ℕ) (new : ℕ → Outcome) → ((h : ℕ) → is_unsettled (c.outcome h) ≡ false → new h ≡ c.outcome h) → InUse c → InUse (record (end_session c) { outcome = new })
@@ -40,10 +40,6 @@ leave_close_after c conns s a new same i_close_after =
 leave_unsent_gone : (c : Client) (conns : ℕ → Conn) (s : Server) (a : ℕ → ℕ) (new : ℕ → Outcome) → ((h : ℕ) → is_unsettled (c.outcome h) ≡ false → new h ≡ c.outcome h) → ((h : ℕ) → is_unsettled (c.outcome h) ≡ true → refused_for_good (new h) ≡ true → c.sent h ≡ false) → UnsentGone c → UnsentGone (record (end_session c) { outcome = new })
 leave_unsent_gone c conns s a new same unsent i_unsent_gone =
     λ p. let old = i_unsent_gone p in let sm = same p in let un = unsent p in let ur = unsent_refused (new p) in grind arith
-
-leave_asked_new : (c : Client) (conns : ℕ → Conn) (s : Server) (a : ℕ → ℕ) (new : ℕ → Outcome) → AskedNew c → AskedNew (record (end_session c) { outcome = new })
-leave_asked_new c conns s a new i_asked_new =
-    λ j. let old = i_asked_new j in grind arith
 
 leave_unanswered : (c : Client) (conns : ℕ → Conn) (s : Server) (a : ℕ → ℕ) (new : ℕ → Outcome) → Bodies c conns → Outstanding c conns → OwnUp c conns → Taken c → Unanswered c conns → Unanswered (record (end_session c) { outcome = new }) (λ j. client_off (conns j))
 leave_unanswered c conns s a new C_bodies C_outstanding C_own_up C_taken i_unanswered =
@@ -171,12 +167,9 @@ leave_keeps c conns s a new same unfirm unsent C i =
       close_before = leave_close_before c conns s a new same i.close_before;
       close_after = leave_close_after c conns s a new same i.close_after;
       unsent_gone = leave_unsent_gone c conns s a new same unsent i.unsent_gone;
-      asked_new = leave_asked_new c conns s a new i.asked_new;
-      no_session = i.no_session;
       unanswered = leave_unanswered c conns s a new C.bodies C.outstanding C.own_up C.taken i.unanswered;
       ask_up = leave_ask_up c conns s a new same i.ask_up;
       ask_down = leave_ask_down c conns s a new i.ask_down;
-      present_up = i.present_up;
       users = i.users;
       copy_now = leave_copy_now c conns s a new i.copy_now;
       retried_on = leave_retried_on c conns s a new i.retried_on;

@@ -27,7 +27,7 @@ use Rattle.create_law.proofs.Words.{guid_once}
 use Rattle.create_law.proofs.Requests.{same_guid}
 use Rattle.lock_law.specs.Locks.{Locks, locking, open_at, user_at, kept_of, kept_at, goes_with, firm, in_slots}
 use Rattle.lock_law.proofs.Words.{lock_kind, lock_stays, lock_once, ok_of, made_of, kept_same, up_on, down_on}
-use Rattle.lock_law.proofs.Verdicts.{closes_in}
+use Rattle.lock_law.proofs.Verdicts.{closes_in, is_slot_verdict}
 use Rattle.lock_law.proofs.Rooms.{room_for_lock}
 use Rattle.lock_law.proofs.Sees.{LockSees, Deleted, NoTree, Away, Done, Again, Refused, Granted}
 use Rattle.lock_law.proofs.Serving.{Serving, Served, counted, not_acted, of_unmade, plain_other, adds_at, quiet_serve}
@@ -225,7 +225,7 @@ present_of : (c : Client) (conns : ℕ → Conn) (t : Server) (a : ℕ → ℕ) 
 present_of c conns t a k g x0 w on = w.serving.low.fits.on_present x0.message.connection x0.message.session on
 
 -- a verdict that changes nothing
-quiet_lock : (c : Client) (conns : ℕ → Conn) (t : Server) (a : ℕ → ℕ) (k g : ℕ) (x0 : Sent) (now : ℕ) (v : Verdict) (rs : List Record) → Copy c conns t a k g x0 → (v ≡ check t x0.message) ⊎ (v ≡ without_room (check t x0.message)) → Rattle.lock_law.proofs.Verdicts.is_slot_verdict v ≡ false
+quiet_lock : (c : Client) (conns : ℕ → Conn) (t : Server) (a : ℕ → ℕ) (k g : ℕ) (x0 : Sent) (now : ℕ) (v : Verdict) (rs : List Record) → Copy c conns t a k g x0 → (v ≡ check t x0.message) ⊎ (v ≡ without_room (check t x0.message)) → is_slot_verdict v ≡ false
     → (apply t x0.message now v).records ≡ [] → (apply t x0.message now v).acted ≡ false → Locks c conns (recorded (apply t x0.message now v) rs).server (counted a x0.token (apply t x0.message now v).acted)
 quiet_lock c conns t a k g x0 now v rs w is off bare quiet =
     quiet_serve c conns t a k x0 now v rs (counted a x0.token (apply t x0.message now v).acted) w.serving (found t x0.message v is) off (λ big. bare) (adds_at c conns t a k x0 v w.serving is)

@@ -9,12 +9,8 @@ use Rattle.exchange_defs.specs.Client.{Client, guid_for}
 use Rattle.exchange_defs.specs.Network.{Conn, Sent, Received, ForOp, ForAttach}
 use Rattle.exchange_law.specs.Connections.{Connections, makes_open, create_at, Taken, Creates, HasOpen, Bodies, SentReplies}
 use Rattle.session_law.specs.Sessions.{is_ops}
-use Rattle.lock_law.specs.Locks.{Locks, locking, open_at, goes_with, piped, all_piped, UserBody, AskDown, PresentUp, Users, CopyNow, RetriedOn, RetriedDone, CopyAttached, NowAttached, OpenedReply, JoinReply, JoinedReply, LostReply, KeptSays, NotKept, FirmKept, NoUser, NoSlots, FullDead, OkReply, NoReply, KeptReply, FirstReply, ClosedNot, KeptFiles, LeftFull, LeftStuck, LeftIdle, CloseDone, CloseFull, CloseStuck, TreesOf, MadePlain, AtMost, OkActed, RefusedNot}
+use Rattle.lock_law.specs.Locks.{Locks, locking, open_at, goes_with, piped, all_piped, UserBody, AskDown, Users, CopyNow, RetriedOn, RetriedDone, CopyAttached, NowAttached, OpenedReply, JoinReply, JoinedReply, LostReply, KeptSays, NotKept, FirmKept, NoUser, NoSlots, FullDead, OkReply, NoReply, KeptReply, FirstReply, ClosedNot, KeptFiles, LeftFull, LeftStuck, LeftIdle, CloseDone, CloseFull, CloseStuck, TreesOf, MadePlain, AtMost, OkActed, RefusedNot}
 use Rattle.lock_law.proofs.Words.{lock_kind, close_kind, ok_of, made_of, own_ops}
-
-moves_present_up : (c : Client) (conns : ℕ → Conn) (s : Server) (a : ℕ → ℕ) (s2 : Server) (a2 : ℕ → ℕ) → (s.journal ≤ s2.journal) → ((j n : ℕ) (x : Sent) → slice_get (conns j).up n ≡ Some x → is_ops x.token ≡ true → s2.present x.message.session ≡ true → s.present x.message.session ≡ true) → PresentUp c conns s → PresentUp c conns s2
-moves_present_up c conns s a s2 a2 journal stay i_present_up =
-    λ j n x h t. let old = i_present_up j n x h t in let sy = stay j n x h t in grind arith
 
 moves_users : (c : Client) (conns : ℕ → Conn) (s : Server) (a : ℕ → ℕ) (s2 : Server) (a2 : ℕ → ℕ) → (s.journal ≤ s2.journal) → ((j n : ℕ) (x : Sent) → slice_get (conns j).up n ≡ Some x → is_ops x.token ≡ true → s2.present x.message.session ≡ true → s.present x.message.session ≡ true) → Users c conns s → Users c conns s2
 moves_users c conns s a s2 a2 journal stay i_users =
@@ -162,12 +158,9 @@ moves_keeps c conns s a s2 a2 same_a journal stay stay_now stands keeps_at slots
       close_before = i.close_before;
       close_after = i.close_after;
       unsent_gone = i.unsent_gone;
-      asked_new = i.asked_new;
-      no_session = i.no_session;
       unanswered = i.unanswered;
       ask_up = i.ask_up;
       ask_down = i.ask_down;
-      present_up = moves_present_up c conns s a s2 a2 journal stay i.present_up;
       users = moves_users c conns s a s2 a2 journal stay i.users;
       copy_now = moves_copy_now c conns s a s2 a2 journal stay i.copy_now;
       retried_on = moves_retried_on c conns s a s2 a2 journal stay i.retried_on;

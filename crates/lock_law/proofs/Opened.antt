@@ -6,11 +6,7 @@ use Rattle.exchange_defs.specs.Client.{Client}
 use Rattle.exchange_defs.specs.Dialogs.{open_channel}
 use Rattle.exchange_defs.specs.Network.{Conn, fresh as fresh_conn}
 use Rattle.exchange_law.proofs.Lists.{get-push}
-use Rattle.lock_law.specs.Locks.{Locks, AskedNew, Unanswered, AskUp, AskDown, PresentUp, Users, CopyNow, RetriedOn, RetriedDone, CopyAttached, OpenedReply, JoinReply, JoinedReply, LostReply, FullDead, OkReply, NoReply, KeptReply, FirstReply, LeftFull, LeftStuck, LeftIdle, CloseDone, CloseFull, CloseStuck, ShareUp}
-
-opened_asked_new : (c : Client) (conns : ℕ → Conn) (s : Server) (a : ℕ → ℕ) (k : ℕ) (served : Bool) → ((conns k).client_open ≡ false) → AskedNew c → AskedNew (open_channel c k)
-opened_asked_new c conns s a k served closed i_asked_new =
-    λ j. let old = i_asked_new j in grind arith
+use Rattle.lock_law.specs.Locks.{Locks, Unanswered, AskUp, AskDown, Users, CopyNow, RetriedOn, RetriedDone, CopyAttached, OpenedReply, JoinReply, JoinedReply, LostReply, FullDead, OkReply, NoReply, KeptReply, FirstReply, LeftFull, LeftStuck, LeftIdle, CloseDone, CloseFull, CloseStuck, ShareUp}
 
 opened_unanswered : (c : Client) (conns : ℕ → Conn) (s : Server) (a : ℕ → ℕ) (k : ℕ) (served : Bool) → ((conns k).client_open ≡ false) → Unanswered c conns → Unanswered (open_channel c k) (put conns k (fresh_conn c k served))
 opened_unanswered c conns s a k served closed i_unanswered =
@@ -23,10 +19,6 @@ opened_ask_up c conns s a k served closed i_ask_up =
 opened_ask_down : (c : Client) (conns : ℕ → Conn) (s : Server) (a : ℕ → ℕ) (k : ℕ) (served : Bool) → ((conns k).client_open ≡ false) → AskDown c conns → AskDown (open_channel c k) (put conns k (fresh_conn c k served))
 opened_ask_down c conns s a k served closed i_ask_down =
     λ j n p y. let old = i_ask_down j n p y in grind (arith, get-push)
-
-opened_present_up : (c : Client) (conns : ℕ → Conn) (s : Server) (a : ℕ → ℕ) (k : ℕ) (served : Bool) → ((conns k).client_open ≡ false) → PresentUp c conns s → PresentUp (open_channel c k) (put conns k (fresh_conn c k served)) s
-opened_present_up c conns s a k served closed i_present_up =
-    λ j n x. let old = i_present_up j n x in grind (arith, get-push)
 
 opened_users : (c : Client) (conns : ℕ → Conn) (s : Server) (a : ℕ → ℕ) (k : ℕ) (served : Bool) → ((conns k).client_open ≡ false) → Users c conns s → Users (open_channel c k) (put conns k (fresh_conn c k served)) s
 opened_users c conns s a k served closed i_users =
@@ -126,12 +118,9 @@ opened_keeps c conns s a k served closed i =
       close_before = i.close_before;
       close_after = i.close_after;
       unsent_gone = i.unsent_gone;
-      asked_new = opened_asked_new c conns s a k served closed i.asked_new;
-      no_session = i.no_session;
       unanswered = opened_unanswered c conns s a k served closed i.unanswered;
       ask_up = opened_ask_up c conns s a k served closed i.ask_up;
       ask_down = opened_ask_down c conns s a k served closed i.ask_down;
-      present_up = opened_present_up c conns s a k served closed i.present_up;
       users = opened_users c conns s a k served closed i.users;
       copy_now = opened_copy_now c conns s a k served closed i.copy_now;
       retried_on = opened_retried_on c conns s a k served closed i.retried_on;

@@ -4,7 +4,7 @@ use Rattle.std.proofs.lemmas.Bool.{eqb-false}
 use Rattle.exchange_defs.specs.Table.{put, is_at}
 use Rattle.exchange_defs.specs.Status.{success, user_session_deleted, object_name_not_found, disk_full}
 use Rattle.exchange_defs.specs.Texts.{same_name}
-use Rattle.exchange_defs.specs.Commands.{Command, Create, Close, Aside, Setup, TreeConnect, CreateRequest, Durable, Reconnect, create_form, path_form, form}
+use Rattle.exchange_defs.specs.Commands.{Command, Create, Close, CreateRequest, Durable, Reconnect, create_form, Lock, Element}
 use Rattle.exchange_defs.specs.State.{Server, Message, Record}
 use Rattle.exchange_defs.specs.Check.{check}
 use Rattle.exchange_defs.specs.CheckCreate.{has_guid, refused_by}
@@ -39,7 +39,7 @@ Quietly c conns t a k x0 now v =
     ((v ≡ check t x0.message) ⊎ (v ≡ without_room (check t x0.message))) × (lower_limit < t.journal + 34 → (apply t x0.message now v).records ≡ [])
 
 -- a verdict that changes slots is a lock's
-pub slots_of : (t : Server) (m : Message) (v : Verdict) → Facts t m v → ((o i n : ℕ) (es : List Rattle.exchange_defs.specs.Commands.Element) → m.command ≡ Rattle.exchange_defs.specs.Commands.Lock o i n es → true ≡ false) → is_slot_verdict v ≡ false
+pub slots_of : (t : Server) (m : Message) (v : Verdict) → Facts t m v → ((o i n : ℕ) (es : List Element) → m.command ≡ Lock o i n es → true ≡ false) → is_slot_verdict v ≡ false
 slots_of t m (KeepSlot o i n status es) f no1 = no1 o i n es f.lock.command
 slots_of t m (PutRanges o i n ranges es) f no1 = no1 o i n es f.lock.command
 slots_of t m (Refuse status) f no1 = refl
@@ -63,11 +63,11 @@ slots_of t m DropTree f no1 = refl
 
 -- a command that neither locks nor closes
 unfoldable pub is_other : Command → Bool
-is_other (Rattle.exchange_defs.specs.Commands.Lock o i n es) = false
+is_other (Lock o i n es) = false
 is_other (Close o query) = false
 is_other _ = true
 
-no_lock : (x : Command) (o i n : ℕ) (es : List Rattle.exchange_defs.specs.Commands.Element) → is_other x ≡ true → x ≡ Rattle.exchange_defs.specs.Commands.Lock o i n es → true ≡ false
+no_lock : (x : Command) (o i n : ℕ) (es : List Element) → is_other x ≡ true → x ≡ Lock o i n es → true ≡ false
 unfolding is_other
 no_lock x o i n es e f = sym e ∙ ap is_other f
 

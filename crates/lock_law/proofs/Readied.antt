@@ -1,29 +1,17 @@
 -- A session is ready.
 use Rattle.std.proofs.Common.{◌≡◌, ℕ, true, false, arith, Some, slice_get}
 use Rattle.exchange_defs.specs.State.{Server, Reply}
-use Rattle.exchange_defs.specs.Client.{Client, AskedTree}
+use Rattle.exchange_defs.specs.Client.{Client}
 use Rattle.exchange_defs.specs.Dialogs.{readied}
 use Rattle.exchange_defs.specs.Network.{Conn, Sent, Received}
 use Rattle.exchange_law.specs.Connections.{create_at}
 use Rattle.session_law.specs.Sessions.{is_ops}
-use Rattle.lock_law.specs.Locks.{Locks, AttachedLow, AskedNew, NoSession, PresentUp, CopyNow, RetriedOn, RetriedDone, NowAttached, OpenedReply, JoinReply, JoinedReply, ClosedNot, LeftFull, LeftStuck, LeftIdle}
+use Rattle.lock_law.specs.Locks.{Locks, AttachedLow, CopyNow, RetriedOn, RetriedDone, NowAttached, OpenedReply, JoinReply, JoinedReply, ClosedNot, LeftFull, LeftStuck, LeftIdle}
 use Rattle.lock_law.proofs.Words.{own_ops, own_reply_ops, ask_reply_ops}
 
 readied_attached_low : (c : Client) (conns : ℕ → Conn) (s : Server) (a : ℕ → ℕ) (k : ℕ) (r0 : Reply) → AttachedLow c → AttachedLow (readied c k r0)
 readied_attached_low c conns s a k r0 i_attached_low =
     λ q. let old = i_attached_low q in grind arith
-
-readied_asked_new : (c : Client) (conns : ℕ → Conn) (s : Server) (a : ℕ → ℕ) (k : ℕ) (r0 : Reply) → ((j : ℕ) → c.stage j ≡ AskedTree → j ≡ k) → AskedNew c → AskedNew (readied c k r0)
-readied_asked_new c conns s a k r0 only i_asked_new =
-    λ j. let o1 = only j in grind arith
-
-readied_no_session : (c : Client) (conns : ℕ → Conn) (s : Server) (a : ℕ → ℕ) (k : ℕ) (r0 : Reply) → NoSession c → NoSession (readied c k r0)
-readied_no_session c conns s a k r0 i_no_session =
-    let old = i_no_session in grind arith
-
-readied_present_up : (c : Client) (conns : ℕ → Conn) (s : Server) (a : ℕ → ℕ) (k : ℕ) (r0 : Reply) → ((j n : ℕ) (x : Sent) → slice_get (conns j).up n ≡ Some x → is_ops x.token ≡ true → s.present x.message.session ≡ false) → PresentUp c conns s → PresentUp (readied c k r0) conns s
-readied_present_up c conns s a k r0 gone i_present_up =
-    λ j n x h op1. let v = gone j n x h op1 in grind arith
 
 readied_copy_now : (c : Client) (conns : ℕ → Conn) (s : Server) (a : ℕ → ℕ) (k : ℕ) (r0 : Reply) → ((j n : ℕ) (x : Sent) → slice_get (conns j).up n ≡ Some x → is_ops x.token ≡ true → s.present x.message.session ≡ false) → CopyNow c conns s → CopyNow (readied c k r0) conns s
 readied_copy_now c conns s a k r0 gone i_copy_now =
@@ -69,8 +57,8 @@ readied_left_idle : (c : Client) (conns : ℕ → Conn) (s : Server) (a : ℕ �
 readied_left_idle c conns s a k r0 gone i_left_idle =
     λ j n p q x h t. let v = gone j n x h (own_ops x p t) in grind arith
 
-pub readied_keeps : (c : Client) (conns : ℕ → Conn) (s : Server) (a : ℕ → ℕ) (k : ℕ) (r0 : Reply) → ((j n : ℕ) (x : Sent) → slice_get (conns j).up n ≡ Some x → is_ops x.token ≡ true → s.present x.message.session ≡ false) → ((j n : ℕ) (y : Received) → slice_get (conns j).down n ≡ Some y → is_ops y.token ≡ false) → ((j : ℕ) → c.stage j ≡ AskedTree → j ≡ k) → Locks c conns s a → Locks (readied c k r0) conns s a
-readied_keeps c conns s a k r0 gone idle only i =
+pub readied_keeps : (c : Client) (conns : ℕ → Conn) (s : Server) (a : ℕ → ℕ) (k : ℕ) (r0 : Reply) → ((j n : ℕ) (x : Sent) → slice_get (conns j).up n ≡ Some x → is_ops x.token ≡ true → s.present x.message.session ≡ false) → ((j n : ℕ) (y : Received) → slice_get (conns j).down n ≡ Some y → is_ops y.token ≡ false) → Locks c conns s a → Locks (readied c k r0) conns s a
+readied_keeps c conns s a k r0 gone idle i =
     record {
       slot_index = i.slot_index;
       user_body = i.user_body;
@@ -83,12 +71,9 @@ readied_keeps c conns s a k r0 gone idle only i =
       close_before = i.close_before;
       close_after = i.close_after;
       unsent_gone = i.unsent_gone;
-      asked_new = readied_asked_new c conns s a k r0 only i.asked_new;
-      no_session = readied_no_session c conns s a k r0 i.no_session;
       unanswered = i.unanswered;
       ask_up = i.ask_up;
       ask_down = i.ask_down;
-      present_up = readied_present_up c conns s a k r0 gone i.present_up;
       users = i.users;
       copy_now = readied_copy_now c conns s a k r0 gone i.copy_now;
       retried_on = readied_retried_on c conns s a k r0 gone i.retried_on;

@@ -9,7 +9,7 @@ use Rattle.exchange_defs.specs.Verdict.{Verdict}
 use Rattle.exchange_defs.specs.Check.{check}
 use Rattle.exchange_defs.specs.Records.{entry_bytes, records_size, record_size, text_size, opened_size, fits, origin_at, lower_limit}
 use Rattle.exchange_defs.specs.Effects.{apply}
-use Rattle.exchange_defs.specs.Step.{step, table, expiring, written_down, with_deadlines, due, expire, expire_records, without_room, max_marks}
+use Rattle.exchange_defs.specs.Step.{step, table, expiring, written_down, with_deadlines, due, expire, expire_records, behind_expiry, without_room, max_marks}
 use Rattle.server_law.proofs.Logic.{either}
 use Rattle.server_law.proofs.Doors.{recorded, Before}
 use Rattle.lock_law.specs.Locks.{goes_with}
@@ -133,7 +133,7 @@ Full s now m P = let d = with_deadlines s now in (v : Verdict) → v ≡ without
 by_table : (P : Answer → Type 0) (s : Server) (now : ℕ) (m : Message) → Fitting s now m P → Full s now m P → P (written_down (table (with_deadlines s now) now (Heard m)))
 by_table P s now m f g =
     let d = with_deadlines s now in
-    either (λ A. P (written_down A)) (fits d (apply d m now (check d m)).records) _ _
+    either (λ A. P (written_down A)) (fits d (apply d m now (check d m)).records) (apply d m now (check d m)) (apply d m now (without_room (check d m)))
     (λ r. f d (check d m) [] (inl refl) (λ _. refl) refl r)
     (λ r. g (without_room (check d m)) refl r)
 
@@ -142,8 +142,8 @@ by_due : (P : Answer → Type 0) (s : Server) (now : ℕ) (m : Message) → Fitt
 by_due P s now m f g None e = by_table P s now m f g
 by_due P s now m f g (Some o) e =
     let d = with_deadlines s now in let t = expire d o in
-    either (λ A. P (written_down A)) (nat_le max_marks d.mark_count) _ _ (λ _. by_table P s now m f g)
-    (λ _. either (λ A. P (written_down A)) (fits d (expire_records d (origin_at m.connection) o ++ (apply t m now (check t m)).records)) _ _
+    either (λ A. P (written_down A)) (nat_le max_marks d.mark_count) (table d now (Heard m)) (behind_expiry d now (Heard m) (expire_records d (origin_at m.connection) o) (apply t m now (check t m))) (λ _. by_table P s now m f g)
+    (λ _. either (λ A. P (written_down A)) (fits d (expire_records d (origin_at m.connection) o ++ (apply t m now (check t m)).records)) (record (apply t m now (check t m)) { records = expire_records d (origin_at m.connection) o ++ (apply t m now (check t m)).records }) (table d now (Heard m))
     (λ r. f t (check t m) (expire_records d (origin_at m.connection) o) (inr (o, e, refl)) (λ l. absurd (no_room d m.connection o _ r l)) refl r)
     (λ _. by_table P s now m f g))
 

@@ -1,20 +1,20 @@
 -- Each event keeps what holds of locks.
-use Rattle.std.proofs.Common.{eqb-true, ◌≡◌, ◌≢◌, ◌⊎◌, inl, inr, ℕ, ◌+◌, ◌≤◌, ◌<◌, ◌==◌, Bool, true, false, not, ◌&&◌, ◌||◌, if◌then◌else◌, List, [], ◌∷◌, refl, arith, sym, subst, ◌∙◌, ap, Option, Some, None, slice_get, is_some, zero, suc, nat_lt}
+use Rattle.std.proofs.Common.{eqb-true, ◌≡◌, ℕ, ◌+◌, ◌≤◌, ◌==◌, Bool, true, false, not, ◌&&◌, if◌then◌else◌, List, [], ◌∷◌, refl, arith, sym, subst, ◌∙◌, ap, Option, Some, None, slice_get, nat_lt}
 use Rattle.exchange_defs.specs.Table.{put, is_filled}
 use Rattle.exchange_defs.specs.Status.{success, user_session_deleted}
 use Rattle.exchange_defs.specs.Commands.{TreeConnect, deletes_on_close}
-use Rattle.exchange_defs.specs.State.{Server, Reply, Answer, Open as OpenRow}
+use Rattle.exchange_defs.specs.State.{Server, Reply, Answer, Open as OpenRow, Tree}
 use Rattle.exchange_defs.specs.Records.{entry_bytes}
 use Rattle.exchange_defs.specs.Fold.{recovery_records}
-use Rattle.exchange_defs.specs.Operations.{Op, Outcome, Unsettled, WasOk, WasRefused, NoSlot, NoOpen, Unknown, NoSession, Why, SessionLost, is_unsettled, is_ok, is_create, persists, create_of, id_in}
+use Rattle.exchange_defs.specs.Operations.{Op, Outcome, Unsettled, WasOk, WasRefused, NoSlot, NoOpen, Unknown, NoSession, Why, SessionLost, is_unsettled, is_ok, is_create, persists, create_of, id_in, value_in, OpReply}
 use Rattle.exchange_defs.specs.Client.{Client, Stage, Apart, SaidNegotiate, SaidFirst, SaidSecond, AskedTree, create_for, guid_for, may_take, outcome_at_first, is_gone, is_gone_after, cut_channel, ends_at_cut, end_session, outcome_after_end, plain_after_end, unsent_after_end, is_taken, outcome_after_finish, finish}
-use Rattle.exchange_defs.specs.Settling.{Heard as Hearing, Settles, GoesAgain, Attaches, EndsSession, heard, hear, is_awaited, answered, ok_or_unknown, refused, goes_again}
+use Rattle.exchange_defs.specs.Settling.{Heard as Hearing, Settles, GoesAgain, Attaches, EndsSession, heard, hear, is_awaited, answered, ok_or_unknown, refused, goes_again, refuses_all, may_have_acted, was_closed}
 use Rattle.exchange_defs.specs.Dialogs.{DialogStep, GoesOn, Accepts, Binds, Readies, Refuses, dialog_step, dialog_message, went_on, accepted, bound}
-use Rattle.exchange_defs.specs.ClientStep.{Act, Nothing, CloseChannels, act_heard}
-use Rattle.exchange_defs.specs.Network.{World, Event, Submit, Open, Push, Serve, Take, Cut, Drop, Restart, Crash, Wait, Finish, Conn, Sent, Received, Token, ForDialog, ForOp, ForAttach, op_of, happens, changed, later, may_open, may_serve, max_channel, answer, absorbed, replied, serve_front, absorb_front, behind_front, take_front, take_reply, took_by, dialog_took, op_took, closed_by, cut_by, with_client, behind_reply, restarted}
+use Rattle.exchange_defs.specs.ClientStep.{Nothing, CloseChannels, act_heard, Pick}
+use Rattle.exchange_defs.specs.Network.{World, Event, Submit, Open, Push, Serve, Take, Cut, Drop, Restart, Crash, Wait, Finish, Conn, Sent, Received, Token, ForDialog, ForOp, ForAttach, op_of, happens, changed, later, may_open, may_serve, max_channel, answer, absorbed, replied, serve_front, absorb_front, behind_front, take_front, take_reply, took_by, dialog_took, op_took, closed_by, cut_by, with_client, behind_reply, restarted, client_off}
 use Rattle.exchange_defs.specs.Runs.{front_acts}
 use Rattle.exchange_law.specs.Connections.{Connections, copies, makes_open, its_create, acts_once}
-use Rattle.exchange_law.proofs.Lists.{front_up, front_down, waited_down}
+use Rattle.exchange_law.proofs.Lists.{front_up, front_down, waited_down, counted_down}
 use Rattle.exchange_law.proofs.Behind.{behind_keeps as exchange_behind_keeps}
 use Rattle.exchange_law.proofs.Answered.{answered_keeps as exchange_answered_keeps}
 use Rattle.exchange_law.proofs.Run.{next_of, front_of, back_of, both_ways, put_self, front_reply_gone, awaited_of, heard_firm, heard_ends, after}
@@ -58,7 +58,7 @@ use Rattle.lock_law.proofs.Say.{MaySay, say_told}
 -- what the layers below say at a world
 pub record Known (w : World) (a : ℕ → ℕ) : Type 0 where
   pub under : Under w.client w.conns w.server a
-  pub pushed : (k : ℕ) (slotless : List ℕ) (pick : Option Rattle.exchange_defs.specs.ClientStep.Pick) → w.client.ready k ≡ true → Connections (changed w (Push k slotless pick)).client (changed w (Push k slotless pick)).conns a
+  pub pushed : (k : ℕ) (slotless : List ℕ) (pick : Option Pick) → w.client.ready k ≡ true → Connections (changed w (Push k slotless pick)).client (changed w (Push k slotless pick)).conns a
   pub anew : Restarted w.server (restarted w).server
   pub anew_kept : (k : ℕ) → may_serve w k ≡ true → Restarted (absorb_front w k (w.conns k).up).server (restarted (absorb_front w k (w.conns k).up)).server
 
@@ -145,7 +145,7 @@ serve_open w a k f i false = i
 no_two : (b : Bool) (P : Type 0) → b ≡ true → b ≡ false → P
 no_two b P e f = absurd (grind arith)
 
-none_piped : (p : Bool) (ts : List Rattle.exchange_defs.specs.State.Tree) → ts ≡ [] → all_piped p ts ≡ true
+none_piped : (p : Bool) (ts : List Tree) → ts ≡ [] → all_piped p ts ≡ true
 unfolding all_piped
 none_piped p ts e = rw e refl
 
@@ -220,7 +220,7 @@ end_gives c h (NoSlot n) e = absurd (cc)
 end_gives c h (NoOpen n) e = absurd (cc)
 end_gives c h (Unknown why) e = absurd (cc)
 
-leaves : (c : Client) (conns : ℕ → Conn) (s : Server) (a : ℕ → ℕ) → Connections c conns a → Locks c conns s a → Locks (end_session c) (λ j. Rattle.exchange_defs.specs.Network.client_off (conns j)) s a
+leaves : (c : Client) (conns : ℕ → Conn) (s : Server) (a : ℕ → ℕ) → Connections c conns a → Locks c conns s a → Locks (end_session c) (λ j. client_off (conns j)) s a
 leaves c conns s a C i = leave_keeps c conns s a (λ g. outcome_after_end c g (c.outcome g)) (λ h e. end_same c h (c.outcome h) e) (λ h e. (end_gives c h (c.outcome h) e).0) (λ h e f. (end_gives c h (c.outcome h) e).1 f) C i
 
 -- ---- Take
@@ -231,18 +231,18 @@ attaches_by c g asking r = by_line
     Is : Hearing → Type 0
     Is h = h ≡ Attaches → asking ≡ true × r.status ≡ success
 
-    by_ok : (b : Bool) → asking ≡ b → (r.status == success) ≡ true → Is (if b then Attaches else ok_or_unknown (Rattle.exchange_defs.specs.Operations.value_in (c.op g) r.body))
+    by_ok : (b : Bool) → asking ≡ b → (r.status == success) ≡ true → Is (if b then Attaches else ok_or_unknown (value_in (c.op g) r.body))
     by_ok true e s = λ _. (e, eqb-true r.status success s)
-    by_ok false e s = by_value (Rattle.exchange_defs.specs.Operations.value_in (c.op g) r.body)
+    by_ok false e s = by_value (value_in (c.op g) r.body)
       where
-        by_value : (v : Option Rattle.exchange_defs.specs.Operations.OpReply) → Is (ok_or_unknown v)
+        by_value : (v : Option OpReply) → Is (ok_or_unknown v)
         by_value None = λ f. absurd (cc)
         by_value (Some reply) = λ f. absurd (cc)
 
     by_refused : Is (refused (c.op g) asking (c.before g) r.status)
     by_refused =
-        either Is (not (c.before g)) _ _ (λ _ f. absurd (cc)) (λ _. either Is (Rattle.exchange_defs.specs.Settling.was_closed (c.op g) asking r.status) _ _ (λ _ f. absurd (cc))
-        (λ _. either Is (Rattle.exchange_defs.specs.Settling.may_have_acted (c.op g) asking r.status) _ _ (λ _ f. absurd (cc)) (λ _. either Is (Rattle.exchange_defs.specs.Settling.refuses_all (c.op g) r.status) _ _ (λ _ f. absurd (cc)) (λ _ f. absurd (cc)))))
+        either Is (not (c.before g)) _ _ (λ _ f. absurd (cc)) (λ _. either Is (was_closed (c.op g) asking r.status) _ _ (λ _ f. absurd (cc))
+        (λ _. either Is (may_have_acted (c.op g) asking r.status) _ _ (λ _ f. absurd (cc)) (λ _. either Is (refuses_all (c.op g) r.status) _ _ (λ _ f. absurd (cc)) (λ _ f. absurd (cc)))))
 
     by_line : Is (heard c g asking r)
     by_line =
@@ -281,21 +281,6 @@ its_share c k id (SaidFirst bound) sh e = absurd (cc)
 its_share c k id (SaidSecond bound) sh e = absurd (cc)
 its_share c k id AskedTree sh e = grind arith
 
-goes_untold : (t s : Stage) (status : ℕ) → dialog_step t status ≡ GoesOn s → s ≢ AskedTree
-goes_untold Apart s status e = absurd (cc)
-goes_untold (SaidNegotiate bound) s status e = λ f. absurd (grind arith)
-goes_untold (SaidFirst bound) s status e = λ f. absurd (grind arith)
-goes_untold (SaidSecond bound) s status e = λ f. absurd (grind arith)
-goes_untold AskedTree s status e = λ f. absurd (grind arith)
-
-accepts_stage : (t : Stage) (status : ℕ) → dialog_step t status ≡ Accepts → t ≡ SaidSecond false
-accepts_stage Apart status e = absurd (cc)
-accepts_stage (SaidNegotiate bound) status e = absurd (grind arith)
-accepts_stage (SaidFirst bound) status e = absurd (grind arith)
-accepts_stage (SaidSecond true) status e = absurd (grind arith)
-accepts_stage (SaidSecond false) status e = refl
-accepts_stage AskedTree status e = absurd (grind arith)
-
 readies_stage : (t : Stage) (status : ℕ) → dialog_step t status ≡ Readies → t ≡ AskedTree
 readies_stage Apart status e = absurd (cc)
 readies_stage (SaidNegotiate bound) status e = absurd (grind arith)
@@ -327,44 +312,22 @@ idle_down c conns s a k C ss e j n y h = elim (is_ops y.token) as (λ b. is_ops 
   | false ↦ λ o. o
 ] refl
 
-only_one : (c : Client) (conns : ℕ → Conn) (s : Server) (k : ℕ) → Sessions c conns s → c.stage k ≡ AskedTree → (j : ℕ) → c.stage j ≡ AskedTree → j ≡ k
-only_one c conns s k ss e j f = same_some (sym (ss.making j (ap makes_session f)) ∙ ss.making k (ap makes_session e))
-  where
-    same_some : {x y : ℕ} → Some x ≡ Some y → x ≡ y
-    same_some e = grind arith
-
 -- of the connections in front of the reply the sessions are known
 dialogs : (w : World) (a : ℕ → ℕ) (k : ℕ) (rest : List Received) (y : Received) → (w.conns k).down ≡ y ∷ rest → Known w a → Connections w.client (put w.conns k (take_front (w.conns k) rest)) a → w.client.ready k ≡ false → Holds (behind_reply w k rest) a
     → (d : DialogStep) → dialog_step (w.client.stage k) y.reply.status ≡ d → Holds (dialog_took (behind_reply w k rest) k y.reply d) a
 dialogs w a k rest y is b C apart i (GoesOn stage) e =
     let f : ℕ → Conn = put w.conns k (take_front (w.conns k) rest) in
     dialog_sent_keeps (went_on w.client k stage y.reply) f w.server a k 1 (dialog_message (went_on w.client k stage y.reply) k (f k).next_id stage) (its_share (went_on w.client k stage y.reply) k (f k).next_id stage)
-    (went_on_keeps w.client f w.server a k stage y.reply (goes_untold (w.client.stage k) stage y.reply.status e) i)
+    (went_on_keeps w.client f w.server a k stage y.reply i)
 dialogs w a k rest y is b C apart i Accepts e =
     let f : ℕ → Conn = put w.conns k (take_front (w.conns k) rest) in
-    let st = accepts_stage (w.client.stage k) y.reply.status e in
-    dialog_sent_keeps (accepted w.client k) f w.server a k 1 (dialog_message (accepted w.client k) k (f k).next_id AskedTree) (its_share (accepted w.client k) k (f k).next_id AskedTree)
-    (accepted_keeps w.client f w.server a k (other_in w.client w.conns w.server a k b.under.sessions i st) i)
-  where
-    other_in : (c : Client) (conns : ℕ → Conn) (s : Server) (a : ℕ → ℕ) (k : ℕ) → Sessions c conns s → Locks c (put conns k (take_front (conns k) rest)) s a → c.stage k ≡ SaidSecond false → c.session ≢ c.pending
-    other_in c conns s a k ss i e = λ same. by_number c.number refl same
-      where
-        ranked_not : (n : ℕ) → 0 < n → n ≡ 0 → ⊥
-        ranked_not n l z = absurd (omega (arith, l, z))
-
-        above : (m n : ℕ) → m ≡ suc n → 0 < m
-        above m n z = omega (arith, z)
-
-        by_number : (n : ℕ) → c.number ≡ n → c.session ≡ c.pending → ⊥
-        by_number zero z same = let pg = ss.pending_given k e in ranked_not c.pending pg.0 (sym same ∙ i.no_session z)
-        by_number (suc n) z same = let sr = ss.session_ranked (above c.number n z) in ranked_not (c.rank c.session) sr (ap c.rank same ∙ ss.pending_unranked k e)
+    dialog_sent_keeps (accepted w.client k) f w.server a k 1 (dialog_message (accepted w.client k) k (f k).next_id AskedTree) (its_share (accepted w.client k) k (f k).next_id AskedTree) (accepted_keeps w.client f w.server a k i)
 dialogs w a k rest y is b C apart i Binds e = bound_keeps w.client (put w.conns k (take_front (w.conns k) rest)) w.server a k i
 dialogs w a k rest y is b C apart i Readies e =
     let st = readies_stage (w.client.stage k) y.reply.status e in
     readied_keeps w.client (put w.conns k (take_front (w.conns k) rest)) w.server a k y.reply
     (λ j n x h o. absent_up w.client w.conns w.server k b.under.sessions st j n x (up_behind w.conns k rest j n x h) o)
-    (λ j n z h. let v = waited_down w.conns k y rest j n z is h in idle_down w.client w.conns w.server a k b.under.links b.under.sessions st j v.0 z v.1)
-    (only_one w.client w.conns w.server k b.under.sessions st) i
+    (λ j n z h. let v = waited_down w.conns k y rest j n z is h in idle_down w.client w.conns w.server a k b.under.links b.under.sessions st j v.0 z v.1) i
 dialogs w a k rest y is b C apart i (Refuses status) e = dialog_refused_keeps w.client (put w.conns k (take_front (w.conns k) rest)) w.server a k status apart C i
 
 -- ---- a reply that is taken
@@ -405,7 +368,7 @@ takes_by w a k y rest is b i ForDialog e =
     (no_dialog w.client w.conns k C.ready (counted_dialog (w.conns k) y f0 (ap op_of e))) (behind_keeps w.client w.conns w.server a k y rest is i) (dialog_step (w.client.stage k) y.reply.status) refl
   where
     counted_dialog : (d : Conn) (y : Received) → slice_get d.down 0 ≡ Some y → op_of y.token ≡ 0 → 1 ≤ copies 0 d
-    counted_dialog d y h e = let l = Rattle.exchange_law.proofs.Lists.counted_down 0 d.down 0 y h e in omega (arith, l)
+    counted_dialog d y h e = let l = counted_down 0 d.down 0 y h e in omega (arith, l)
 takes_by w a k y rest is b i (ForOp g) e =
     let C = b.under.links in let f0 = front_down (w.conns k).down y rest is in
     took (behind_reply w k rest) a k g false y
@@ -486,7 +449,7 @@ finishes c conns s a why dead C i =
 -- ---- every event
 
 closed_of : (w : World) (k : ℕ) → may_open w k ≡ true → (w.conns k).client_open ≡ false
-closed_of w k m = not_true (w.conns k).client_open (front_of (not (w.conns k).client_open) _ (back_of (Rattle.std.proofs.Common.nat_lt k max_channel) _ m))
+closed_of w k m = not_true (w.conns k).client_open (front_of (not (w.conns k).client_open) _ (back_of (nat_lt k max_channel) _ m))
 
 pub keeps : (w : World) (a : ℕ → ℕ) (e : Event) → Known w a → ((k : ℕ) → may_serve w k ≡ true → Connections (absorb_front w k (w.conns k).up).client (absorb_front w k (w.conns k).up).conns (λ g. if front_acts w (w.conns k).up g then a g + 1 else a g)) → Holds w a → Holds (happens w e) (after w e a)
 keeps w a (Submit g op) b C i = submits w a g op b i

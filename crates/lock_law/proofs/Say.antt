@@ -9,7 +9,7 @@ use Rattle.exchange_defs.specs.Client.{Client}
 use Rattle.exchange_defs.specs.Network.{Conn, Received, ForOp, ForAttach}
 use Rattle.exchange_law.specs.Connections.{makes_open, shuts_open, create_at}
 use Rattle.exchange_law.proofs.Lists.{get-push}
-use Rattle.lock_law.specs.Locks.{Locks, locking, open_at, kept_of, goes_with, Unanswered, AskUp, AskDown, PresentUp, Users, CopyNow, RetriedOn, RetriedDone, CopyAttached, OpenedReply, JoinReply, JoinedReply, LostReply, FullDead, OkReply, NoReply, KeptReply, FirstReply, LeftFull, LeftStuck, LeftIdle, CloseDone, CloseFull, CloseStuck, ShareUp}
+use Rattle.lock_law.specs.Locks.{Locks, locking, open_at, kept_of, goes_with, Unanswered, AskUp, AskDown, Users, CopyNow, RetriedOn, RetriedDone, CopyAttached, OpenedReply, JoinReply, JoinedReply, LostReply, FullDead, OkReply, NoReply, KeptReply, FirstReply, LeftFull, LeftStuck, LeftIdle, CloseDone, CloseFull, CloseStuck, ShareUp}
 
 -- what is to be known of the reply
 pub record MaySay (c : Client) (s : Server) (a : ℕ → ℕ) (y0 : Received) : Type 0 where
@@ -37,10 +37,6 @@ say_ask_up c conns s a k y0 i_ask_up =
 say_ask_down : (c : Client) (conns : ℕ → Conn) (s : Server) (a : ℕ → ℕ) (k : ℕ) (y0 : Received) → ((g : ℕ) → y0.token ≡ ForAttach g → 0 < g × g ≤ c.taken × makes_open (c.op g) ≡ false × is_ok (c.outcome (create_at c g)) ≡ true) → AskDown c conns → AskDown c (put conns k (record (conns k) { down = (conns k).down ++ y0 ∷ [] }))
 say_ask_down c conns s a k y0 of_ask_down i_ask_down =
     λ j n p y. let old = i_ask_down j n p y in let m1 = of_ask_down p in grind (arith, get-push)
-
-say_present_up : (c : Client) (conns : ℕ → Conn) (s : Server) (a : ℕ → ℕ) (k : ℕ) (y0 : Received) → PresentUp c conns s → PresentUp c (put conns k (record (conns k) { down = (conns k).down ++ y0 ∷ [] })) s
-say_present_up c conns s a k y0 i_present_up =
-    λ j n x. let old = i_present_up j n x in grind arith
 
 say_users : (c : Client) (conns : ℕ → Conn) (s : Server) (a : ℕ → ℕ) (k : ℕ) (y0 : Received) → Users c conns s → Users c (put conns k (record (conns k) { down = (conns k).down ++ y0 ∷ [] })) s
 say_users c conns s a k y0 i_users =
@@ -140,12 +136,9 @@ say_keeps c conns s a k y0 of_ask_down of_opened_reply of_join_reply of_joined_r
       close_before = i.close_before;
       close_after = i.close_after;
       unsent_gone = i.unsent_gone;
-      asked_new = i.asked_new;
-      no_session = i.no_session;
       unanswered = say_unanswered c conns s a k y0 i.unanswered;
       ask_up = say_ask_up c conns s a k y0 i.ask_up;
       ask_down = say_ask_down c conns s a k y0 of_ask_down i.ask_down;
-      present_up = say_present_up c conns s a k y0 i.present_up;
       users = say_users c conns s a k y0 i.users;
       copy_now = say_copy_now c conns s a k y0 i.copy_now;
       retried_on = say_retried_on c conns s a k y0 i.retried_on;

@@ -7,7 +7,7 @@ use Rattle.exchange_defs.specs.Client.{Client, outstanding as put_out}
 use Rattle.exchange_defs.specs.Network.{Conn, Sent, ForOp, send_up}
 use Rattle.exchange_law.specs.Connections.{makes_open, create_at}
 use Rattle.exchange_law.proofs.Lists.{get-push}
-use Rattle.lock_law.specs.Locks.{Locks, locking, InUse, Unanswered, AskUp, AskDown, PresentUp, Users, CopyNow, RetriedOn, RetriedDone, CopyAttached, NowAttached, OpenedReply, JoinReply, JoinedReply, LostReply, FullDead, OkReply, NoReply, KeptReply, FirstReply, LeftFull, LeftStuck, LeftIdle, CloseDone, CloseFull, CloseStuck, ShareUp}
+use Rattle.lock_law.specs.Locks.{Locks, locking, InUse, Unanswered, AskUp, AskDown, Users, CopyNow, RetriedOn, RetriedDone, CopyAttached, NowAttached, OpenedReply, JoinReply, JoinedReply, LostReply, FullDead, OkReply, NoReply, KeptReply, FirstReply, LeftFull, LeftStuck, LeftIdle, CloseDone, CloseFull, CloseStuck, ShareUp}
 use Rattle.lock_law.proofs.Words.{unsettled_firm}
 
 send_unanswered : (c : Client) (conns : ℕ → Conn) (s : Server) (a : ℕ → ℕ) (k g n0 : ℕ) (m0 : Message) → (c.ready k ≡ true) → (c.on g ≡ None) → (is_unsettled (c.outcome g) ≡ true) → (c.sent g ≡ true) → ((conns k).client_open ≡ true) → (m0.session ≡ c.session) → (c.live ≡ true) → Unanswered c conns → Unanswered (put_out c k g) (put conns k (send_up (conns k) (ForOp g) m0 n0))
@@ -21,10 +21,6 @@ send_ask_up c conns s a k g n0 m0 ready none pending sent stands mine live i_ask
 send_ask_down : (c : Client) (conns : ℕ → Conn) (s : Server) (a : ℕ → ℕ) (k g n0 : ℕ) (m0 : Message) → (c.ready k ≡ true) → (c.on g ≡ None) → (is_unsettled (c.outcome g) ≡ true) → (c.sent g ≡ true) → ((conns k).client_open ≡ true) → (m0.session ≡ c.session) → (c.live ≡ true) → AskDown c conns → AskDown (put_out c k g) (put conns k (send_up (conns k) (ForOp g) m0 n0))
 send_ask_down c conns s a k g n0 m0 ready none pending sent stands mine live i_ask_down =
     λ j n p y. let old = i_ask_down j n p y in grind arith
-
-send_present_up : (c : Client) (conns : ℕ → Conn) (s : Server) (a : ℕ → ℕ) (k g n0 : ℕ) (m0 : Message) → (c.ready k ≡ true) → (c.on g ≡ None) → (is_unsettled (c.outcome g) ≡ true) → (c.sent g ≡ true) → ((conns k).client_open ≡ true) → (m0.session ≡ c.session) → (c.live ≡ true) → PresentUp c conns s → PresentUp (put_out c k g) (put conns k (send_up (conns k) (ForOp g) m0 n0)) s
-send_present_up c conns s a k g n0 m0 ready none pending sent stands mine live i_present_up =
-    λ j n x. let old = i_present_up j n x in grind (arith, get-push)
 
 send_users : (c : Client) (conns : ℕ → Conn) (s : Server) (a : ℕ → ℕ) (k g n0 : ℕ) (m0 : Message) → (c.ready k ≡ true) → (c.on g ≡ None) → (is_unsettled (c.outcome g) ≡ true) → (c.sent g ≡ true) → ((conns k).client_open ≡ true) → (m0.session ≡ c.session) → (c.live ≡ true) → Users c conns s → InUse c → Users (put_out c k g) (put conns k (send_up (conns k) (ForOp g) m0 n0)) s
 send_users c conns s a k g n0 m0 ready none pending sent stands mine live i_users i_in_use =
@@ -124,12 +120,9 @@ send_keeps c conns s a k g n0 m0 ready none pending sent stands mine live att ag
       close_before = i.close_before;
       close_after = i.close_after;
       unsent_gone = i.unsent_gone;
-      asked_new = i.asked_new;
-      no_session = i.no_session;
       unanswered = send_unanswered c conns s a k g n0 m0 ready none pending sent stands mine live i.unanswered;
       ask_up = send_ask_up c conns s a k g n0 m0 ready none pending sent stands mine live i.ask_up;
       ask_down = send_ask_down c conns s a k g n0 m0 ready none pending sent stands mine live i.ask_down;
-      present_up = send_present_up c conns s a k g n0 m0 ready none pending sent stands mine live i.present_up;
       users = send_users c conns s a k g n0 m0 ready none pending sent stands mine live i.users i.in_use;
       copy_now = send_copy_now c conns s a k g n0 m0 ready none pending sent stands mine live att i.copy_now;
       retried_on = send_retried_on c conns s a k g n0 m0 ready none pending sent stands mine live again i.retried_on;

@@ -14,7 +14,7 @@ use Rattle.exchange_defs.specs.Network.{Conn, Sent, Token, ForDialog, ForOp, For
 use Rattle.exchange_law.specs.Connections.{Connections, makes_open, shuts_open, create_at, its_request}
 use Rattle.server_law.specs.Fits.{Fits}
 use Rattle.server_law.proofs.Doors.{recorded, Before}
-use Rattle.session_law.specs.Sessions.{Sessions, is_ops, is_dialog}
+use Rattle.session_law.specs.Sessions.{Sessions, logon_user}
 use Rattle.create_law.specs.Creates.{Creates, seen}
 use Rattle.create_law.proofs.Requests.{same_guid}
 use Rattle.create_law.proofs.Seeing.{expire_seen}
@@ -27,8 +27,8 @@ use Rattle.lock_law.proofs.Steady.{bare_of, heads_apply}
 use Rattle.lock_law.proofs.Facing.{Lower, before_keeps}
 use Rattle.lock_law.proofs.Serving.{Serving, Served, counted, not_acted, bare_full}
 use Rattle.lock_law.proofs.Others.{say_nothing, serves_dialog, serves_other, serves_create, serves_ask}
-use Rattle.lock_law.proofs.Sees.{lock_sees, close_sees}
-use Rattle.lock_law.proofs.Locking.{lock_fits, lock_full, copy_of as lock_copy, lock_formed}
+use Rattle.lock_law.proofs.Sees.{lock_sees, close_sees, CloseSees, LockSees}
+use Rattle.lock_law.proofs.Locking.{lock_fits, lock_full, copy_of as lock_copy, lock_formed, elements_in}
 use Rattle.lock_law.proofs.Closing.{close_fits, close_full, copy_of as close_copy}
 
 -- what the layers below say of the world
@@ -82,7 +82,7 @@ serving_at c conns s a k x0 now t u i front b full =
       here = λ y p. u.sessions.present_accepted y (subst (λ (z : Rest). z.present y ≡ true) r p);
       lives = λ l. let y = u.sessions.live_accepted l in (y.0, y.1);
       current = λ o p. u.sessions.current_up k 0 x0 front o p;
-      users = λ y p. subst (λ (z : Rest). z.present y ≡ true → z.user y ≡ Rattle.session_law.specs.Sessions.logon_user c.who.logon) (sym r) (u.sessions.session_users y) p;
+      users = λ y p. subst (λ (z : Rest). z.present y ≡ true → z.user y ≡ logon_user c.who.logon) (sym r) (u.sessions.session_users y) p;
       trees = λ o. subst (λ (z : Rest). z.present x0.message.session ≡ true → is_some (tree_in (z.trees x0.message.session) x0.message.tree) ≡ true) (sym r) (u.sessions.tree_up k 0 x0 front o);
       dialog = λ o. (u.sessions.dialog_up k 0 x0 front o).1;
       work = λ o. u.sessions.work_up k 0 x0 front o;
@@ -116,8 +116,8 @@ fitting c conns s a k x0 now t v front w b is room tk e =
     by_token (ForAttach g) e = serves_ask c conns t a k x0 now v _ g w (inl is, bare) e
     by_token (ForOp g) e =
         by_lock c conns a k g x0 (recorded (apply t x0.message now v) (front ++ (apply t x0.message now v).records))
-        (λ l. let y = lock_copy c conns t a k g x0 w e l in lock_fits c conns (with_deadlines s now) t a k g x0 now front v y same is room (subst (λ z. Rattle.lock_law.proofs.Sees.LockSees t x0.message (open_at c g) (c.slot_of g) (c.number_of g) (Rattle.lock_law.proofs.Locking.elements_in (c.op g)) z) (sym is) (lock_sees t x0.message (open_at c g) (c.slot_of g) (c.number_of g) (Rattle.lock_law.proofs.Locking.elements_in (c.op g)) w.fault y.command (lock_formed (c.op g) l) y.slot)))
-        (λ l sh. let y = close_copy c conns t a k g x0 w e sh in close_fits c conns (with_deadlines s now) t a k g x0 now front v y same is room (subst (λ z. Rattle.lock_law.proofs.Sees.CloseSees t x0.message (open_at c g) z) (sym is) (close_sees t x0.message (open_at c g) w.fault y.command)))
+        (λ l. let y = lock_copy c conns t a k g x0 w e l in lock_fits c conns (with_deadlines s now) t a k g x0 now front v y same is room (subst (λ z. LockSees t x0.message (open_at c g) (c.slot_of g) (c.number_of g) (elements_in (c.op g)) z) (sym is) (lock_sees t x0.message (open_at c g) (c.slot_of g) (c.number_of g) (elements_in (c.op g)) w.fault y.command (lock_formed (c.op g) l) y.slot)))
+        (λ l sh. let y = close_copy c conns t a k g x0 w e sh in close_fits c conns (with_deadlines s now) t a k g x0 now front v y same is room (subst (λ z. CloseSees t x0.message (open_at c g) z) (sym is) (close_sees t x0.message (open_at c g) w.fault y.command)))
         (λ m. serves_create c conns t a k x0 now v _ g w (inl is, bare) e m)
         (λ l sh m. serves_other c conns t a k x0 now v _ g w (inl is, bare) e l sh m)
 
@@ -134,7 +134,7 @@ full c conns s a k x0 now v w is room tk e = by_token tk e
     by_token (ForOp g) e =
         let d = with_deadlines s now in
         by_lock c conns a k g x0 (recorded (apply d x0.message now v) (apply d x0.message now v).records)
-        (λ l. let y = lock_copy c conns d a k g x0 w e l in lock_full c conns d a k g x0 now (check d x0.message) v y refl is room (lock_sees d x0.message (open_at c g) (c.slot_of g) (c.number_of g) (Rattle.lock_law.proofs.Locking.elements_in (c.op g)) w.fault y.command (lock_formed (c.op g) l) y.slot))
+        (λ l. let y = lock_copy c conns d a k g x0 w e l in lock_full c conns d a k g x0 now (check d x0.message) v y refl is room (lock_sees d x0.message (open_at c g) (c.slot_of g) (c.number_of g) (elements_in (c.op g)) w.fault y.command (lock_formed (c.op g) l) y.slot))
         (λ l sh. let y = close_copy c conns d a k g x0 w e sh in close_full c conns d a k g x0 now (check d x0.message) v y refl is room (close_sees d x0.message (open_at c g) w.fault y.command))
         (λ m. serves_create c conns d a k x0 now v _ g w (inr is, bare) e m)
         (λ l sh m. serves_other c conns d a k x0 now v _ g w (inr is, bare) e l sh m)

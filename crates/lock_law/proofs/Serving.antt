@@ -7,7 +7,7 @@ use Rattle.exchange_defs.specs.CheckSetup.{tree_in}
 use Rattle.exchange_defs.specs.Check.{check}
 use Rattle.exchange_defs.specs.CheckCreate.{refused_by}
 use Rattle.exchange_defs.specs.Records.{lower_limit, entry_bytes}
-use Rattle.exchange_defs.specs.Effects.{apply}
+use Rattle.exchange_defs.specs.Effects.{apply, end_records}
 use Rattle.exchange_defs.specs.Step.{without_room}
 use Rattle.exchange_defs.specs.Operations.{is_unsettled}
 use Rattle.exchange_defs.specs.Client.{Client, guid_for}
@@ -73,7 +73,7 @@ bare_refused d m now status None = refl
 bare_refused d m now status (Some x) = refl
 
 pub bare_full : (d : Server) (m : Message) (now : ℕ) (v : Verdict) → (apply d m now (without_room v)).records ≡ []
-unfolding Rattle.exchange_defs.specs.Effects.end_records
+unfolding end_records
 bare_full d m now (Refuse status) = refl
 bare_full d m now (Give body) = refl
 bare_full d m now (KeepRefusal guid status) = refl

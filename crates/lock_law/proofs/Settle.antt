@@ -121,12 +121,9 @@ settle_keeps c conns s a k g o0 new sh fu by0 order0 on own settled0 real same g
       close_before = settle_close_before c conns s a k g o0 new sh fu by0 order0 on own settled0 real same C.settled i.close_before;
       close_after = settle_close_after c conns s a k g o0 new sh fu by0 order0 on own settled0 real same i.close_after;
       unsent_gone = settle_unsent_gone c conns s a k g o0 new sh fu by0 order0 on own settled0 real same gives C.settled i.unsent_gone;
-      asked_new = i.asked_new;
-      no_session = i.no_session;
       unanswered = i.unanswered;
       ask_up = settle_ask_up c conns s a k g o0 new sh fu by0 order0 on own settled0 real same C.settled i.ask_up;
       ask_down = settle_ask_down c conns s a k g o0 new sh fu by0 order0 on own settled0 real same C.settled i.ask_down;
-      present_up = i.present_up;
       users = i.users;
       copy_now = i.copy_now;
       retried_on = settle_retried_on c conns s a k g o0 new sh fu by0 order0 on own settled0 real i.retried_on;

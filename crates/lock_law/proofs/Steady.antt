@@ -2,7 +2,7 @@
 -- so that an open whose file would go with it goes on being such a one.
 use Rattle.std.proofs.Common.{eqb-true, ◌≡◌, ℕ, ◌+◌, ◌==◌, ◌<◌, Bool, true, false, not, ◌&&◌, ◌||◌, List, [], ◌∷◌, ◌++◌, Option, Some, None, refl, arith, sym, ◌∙◌, ap, subst}
 use Rattle.exchange_defs.specs.Table.{has, is_filled, without}
-use Rattle.exchange_defs.specs.Commands.{CreateRequest, Durable, deletes_on_close, has_bit}
+use Rattle.exchange_defs.specs.Commands.{CreateRequest, deletes_on_close, Element}
 use Rattle.exchange_defs.specs.State.{Server, Message, Open, Record, Origin, Entry}
 use Rattle.exchange_defs.specs.Files.{root, exists, exists_in, is_directory, is_full_directory, has_below, path_of, path_in}
 use Rattle.exchange_defs.specs.Opens.{goes, drop_open, leave_open, marked_by, file_has_open, opens_in, leave_records, mark_records, shut_records, gone_records}
@@ -35,7 +35,7 @@ heads_create : (s : Server) (m : Message) (r : CreateRequest) (found : Option �
 unfolding create_records heads is_big
 heads_create s m r found action now = grind arith
 
-heads_lock : (s : Server) (m : Message) (o index number status : ℕ) (es : List Rattle.exchange_defs.specs.Commands.Element) → heads (lock_records s m o index number status es) ≡ true
+heads_lock : (s : Server) (m : Message) (o index number status : ℕ) (es : List Element) → heads (lock_records s m o index number status es) ≡ true
 unfolding lock_records heads is_big
 heads_lock s m o index number status es = grind arith
 

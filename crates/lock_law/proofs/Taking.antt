@@ -15,6 +15,7 @@ use Rattle.lock_law.proofs.Lines.{Tells}
 use Rattle.lock_law.proofs.Opens.{opens_keeps}
 use Rattle.lock_law.proofs.Settling.{Told, Says, filled, opened, own_for, kind_close, kind_lock, create_unshut, still}
 use Rattle.lock_law.proofs.Say.{MaySay}
+use Rattle.exchange_defs.specs.Settling.{Settles}
 
 -- what is known where the reply y to g is taken
 pub record Taken (c : Client) (conns : ℕ → Conn) (s : Server) (a : ℕ → ℕ) (k g : ℕ) (asking : Bool) (y : Received) : Type 0 where
@@ -121,7 +122,7 @@ is_it st n e = rw e (same_number n)
 isnt : (st n : ℕ) → st ≢ n → (st == n) ≡ false
 isnt st n d = elim (st == n) as (λ b. st == n ≡ b → (st == n) ≡ false) [ true ↦ λ e. absurd (d (eqb-true st n e)) | false ↦ λ e. e ] refl
 
-plain_told : (c : Client) (conns : ℕ → Conn) (s : Server) (a : ℕ → ℕ) (k g : ℕ) (asking : Bool) (y : Received) (o : Outcome) → Taken c conns s a k g asking y → Tells (c.op g) asking (c.before g) y.reply.status (Rattle.exchange_defs.specs.Settling.Settles o) → is_unsettled o ≡ false → (makes_open (c.op g) ≡ true → is_ok o ≡ false) → Told c conns s a g o (filled c g asking y.reply.status)
+plain_told : (c : Client) (conns : ℕ → Conn) (s : Server) (a : ℕ → ℕ) (k g : ℕ) (asking : Bool) (y : Received) (o : Outcome) → Taken c conns s a k g asking y → Tells (c.op g) asking (c.before g) y.reply.status (Settles o) → is_unsettled o ≡ false → (makes_open (c.op g) ≡ true → is_ok o ≡ false) → Told c conns s a g o (filled c g asking y.reply.status)
 plain_told c conns s a k g asking y o w tells settled0 unmade =
     record {
       full_same = same_full c conns s a k g asking y w;
@@ -200,7 +201,7 @@ create_no_lock : (op : Op) → makes_open op ≡ true → locking op ≡ false
 unfolding makes_open locking
 create_no_lock op e = grind arith
 
-open_told : (c : Client) (conns : ℕ → Conn) (s : Server) (a : ℕ → ℕ) (k g : ℕ) (asking : Bool) (y : Received) (o : Outcome) → Taken c conns s a k g asking y → Tells (c.op g) asking (c.before g) y.reply.status (Rattle.exchange_defs.specs.Settling.Settles o) → makes_open (c.op g) ≡ true → is_ok o ≡ true
+open_told : (c : Client) (conns : ℕ → Conn) (s : Server) (a : ℕ → ℕ) (k g : ℕ) (asking : Bool) (y : Received) (o : Outcome) → Taken c conns s a k g asking y → Tells (c.op g) asking (c.before g) y.reply.status (Settles o) → makes_open (c.op g) ≡ true → is_ok o ≡ true
     → Told (opened c g (id_in y.reply.body)) conns s a g o (filled c g asking y.reply.status)
 open_told c conns s a k g asking y o w tells mk ok =
     let t = tells.ok ok (create_unclosed (c.op g) mk) in
@@ -237,7 +238,7 @@ close_own c conns s a k g asking y w sh =
     less : (n m : ℕ) → n < m → n ≡ m → ⊥
     less n m l e = absurd (omega (arith, l, e))
 
-pub says_of : (c : Client) (conns : ℕ → Conn) (s : Server) (a : ℕ → ℕ) (k g : ℕ) (asking : Bool) (y : Received) (o : Outcome) → Taken c conns s a k g asking y → Tells (c.op g) asking (c.before g) y.reply.status (Rattle.exchange_defs.specs.Settling.Settles o) → is_unsettled o ≡ false → Says c conns s a k g asking y.reply o
+pub says_of : (c : Client) (conns : ℕ → Conn) (s : Server) (a : ℕ → ℕ) (k g : ℕ) (asking : Bool) (y : Received) (o : Outcome) → Taken c conns s a k g asking y → Tells (c.op g) asking (c.before g) y.reply.status (Settles o) → is_unsettled o ≡ false → Says c conns s a k g asking y.reply o
 says_of c conns s a k g asking y o w tells firm0 =
     record {
       plain = λ unmade. record { links = w.links; locks = w.locks; on = w.on; pending = w.pending; firm = firm0; real = tells.real; told = plain_told c conns s a k g asking y o w tells firm0 unmade };

@@ -2,11 +2,11 @@
 use Rattle.std.proofs.Common.{◌≡◌, ◌⊎◌, inl, inr, ℕ, ◌==◌, nat_le, Bool, true, false, if◌then◌else◌, List, [], ◌∷◌, ◌++◌, length, Option, Some, None, is_some, refl, arith, sym, ◌∙◌, ap, subst}
 use Rattle.exchange_defs.specs.Table.{put}
 use Rattle.exchange_defs.specs.Texts.{same_name}
-use Rattle.exchange_defs.specs.Commands.{TreeConnect, CreateRequest, SetupRequest, form, is_setup, deletes_on_close}
+use Rattle.exchange_defs.specs.Commands.{TreeConnect, CreateRequest, is_setup, deletes_on_close, Durable}
 use Rattle.exchange_defs.specs.State.{Server, Message, Tree}
 use Rattle.exchange_defs.specs.Files.{mark_file}
 use Rattle.exchange_defs.specs.Opens.{leave_open, drop_open, marked_by, goes}
-use Rattle.exchange_defs.specs.CheckCreate.{empties}
+use Rattle.exchange_defs.specs.CheckCreate.{empties, refused_by}
 use Rattle.exchange_defs.specs.CheckOpen.{is_late, is_slot, file_of}
 use Rattle.exchange_defs.specs.CheckSetup.{tree_in, pipes_name, max_trees}
 use Rattle.exchange_defs.specs.Check.{check, command_check}
@@ -16,6 +16,7 @@ use Rattle.exchange_defs.specs.Verdict.{Verdict, Refuse, Give, KeepRefusal, Repe
 use Rattle.server_law.proofs.Logic.{either}
 use Rattle.lock_law.specs.Locks.{piped, all_piped}
 use Rattle.lock_law.proofs.Sees.{through}
+use Rattle.exchange_defs.specs.Status.{disk_full}
 
 -- ---- lists
 
@@ -134,7 +135,7 @@ room_adds : (p : Bool) (v : Verdict) → AddsFor p v → AddsFor p (without_room
 room_adds p (AddTree pipes) a = a
 room_adds p (Make r found action) a = of_durable r.durable
   where
-    of_durable : (u : Option Rattle.exchange_defs.specs.Commands.Durable) → AddsFor p (Rattle.exchange_defs.specs.CheckCreate.refused_by u Rattle.exchange_defs.specs.Status.disk_full)
+    of_durable : (u : Option Durable) → AddsFor p (refused_by u disk_full)
     of_durable None = tt
     of_durable (Some d) = tt
 room_adds p (Refuse status) a = tt

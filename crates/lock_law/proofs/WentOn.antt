@@ -1,17 +1,13 @@
 -- A dialog goes on.
-use Rattle.std.proofs.Common.{◌≢◌, ℕ, arith}
+use Rattle.std.proofs.Common.{ℕ}
 use Rattle.exchange_defs.specs.State.{Server, Reply}
-use Rattle.exchange_defs.specs.Client.{Client, Stage, AskedTree}
+use Rattle.exchange_defs.specs.Client.{Client, Stage}
 use Rattle.exchange_defs.specs.Dialogs.{went_on}
 use Rattle.exchange_defs.specs.Network.{Conn}
-use Rattle.lock_law.specs.Locks.{Locks, AskedNew}
+use Rattle.lock_law.specs.Locks.{Locks}
 
-went_on_asked_new : (c : Client) (conns : ℕ → Conn) (s : Server) (a : ℕ → ℕ) (k : ℕ) (stage : Stage) (r0 : Reply) → (stage ≢ AskedTree) → AskedNew c → AskedNew (went_on c k stage r0)
-went_on_asked_new c conns s a k stage r0 untold i_asked_new =
-    λ j. let old = i_asked_new j in grind arith
-
-pub went_on_keeps : (c : Client) (conns : ℕ → Conn) (s : Server) (a : ℕ → ℕ) (k : ℕ) (stage : Stage) (r0 : Reply) → (stage ≢ AskedTree) → Locks c conns s a → Locks (went_on c k stage r0) conns s a
-went_on_keeps c conns s a k stage r0 untold i =
+pub went_on_keeps : (c : Client) (conns : ℕ → Conn) (s : Server) (a : ℕ → ℕ) (k : ℕ) (stage : Stage) (r0 : Reply) → Locks c conns s a → Locks (went_on c k stage r0) conns s a
+went_on_keeps c conns s a k stage r0 i =
     record {
       slot_index = i.slot_index;
       user_body = i.user_body;
@@ -24,12 +20,9 @@ went_on_keeps c conns s a k stage r0 untold i =
       close_before = i.close_before;
       close_after = i.close_after;
       unsent_gone = i.unsent_gone;
-      asked_new = went_on_asked_new c conns s a k stage r0 untold i.asked_new;
-      no_session = i.no_session;
       unanswered = i.unanswered;
       ask_up = i.ask_up;
       ask_down = i.ask_down;
-      present_up = i.present_up;
       users = i.users;
       copy_now = i.copy_now;
       retried_on = i.retried_on;

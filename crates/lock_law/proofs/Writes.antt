@@ -130,12 +130,9 @@ writes_keeps c conns s a g st0 j0 sq rg a2 lock sent user free stands unfirm jou
       close_before = i.close_before;
       close_after = i.close_after;
       unsent_gone = i.unsent_gone;
-      asked_new = i.asked_new;
-      no_session = i.no_session;
       unanswered = i.unanswered;
       ask_up = i.ask_up;
       ask_down = i.ask_down;
-      present_up = i.present_up;
       users = i.users;
       copy_now = i.copy_now;
       retried_on = i.retried_on;

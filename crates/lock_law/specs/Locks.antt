@@ -10,7 +10,7 @@ use Rattle.exchange_defs.specs.CheckSetup.{pipes_name}
 use Rattle.exchange_defs.specs.CheckOpen.{is_slot, kept_status}
 use Rattle.exchange_defs.specs.Records.{lower_limit}
 use Rattle.exchange_defs.specs.Operations.{Op, Outcome, NoSlot, NoOpen, is_unsettled, is_ok, is_firm, is_lock, id_in, reconnect_of}
-use Rattle.exchange_defs.specs.Client.{Client, AskedTree, guid_for}
+use Rattle.exchange_defs.specs.Client.{Client, guid_for}
 use Rattle.exchange_defs.specs.Network.{Conn, Sent, Received, ForOp, ForAttach}
 use Rattle.exchange_defs.specs.Runs.{never_acted}
 use Rattle.exchange_law.specs.Connections.{makes_open, shuts_open, create_at}
@@ -91,13 +91,6 @@ CloseAfter c = (h g : ℕ) → c.sent h ≡ true → shuts_open (c.op h) ≡ tru
 abbrev pub UnsentGone : Client → Type 0
 UnsentGone c = (g : ℕ) → is_unsent (c.outcome g) ≡ true → c.sent g ≡ false
 
--- the session in the making isn't the one that was live last
-abbrev pub AskedNew : Client → Type 0
-AskedNew c = (k : ℕ) → c.stage k ≡ AskedTree → c.session ≢ c.accepted
-
-abbrev pub NoSession : Client → Type 0
-NoSession c = c.number ≡ 0 → c.session ≡ 0
-
 -- ---- copies
 
 -- one without an unanswered copy waits on an open connection alone
@@ -112,11 +105,7 @@ AskUp c conns = (k n g : ℕ) (x : Sent) → slice_get (conns k).up n ≡ Some x
 abbrev pub AskDown : Client → (ℕ → Conn) → Type 0
 AskDown c conns = (k n g : ℕ) (y : Received) → slice_get (conns k).down n ≡ Some y → y.token ≡ ForAttach g → 0 < g × g ≤ c.taken × makes_open (c.op g) ≡ false × is_ok (c.outcome (create_at c g)) ≡ true
 
--- a message whose session is there is of the session that was live last
-abbrev pub PresentUp : Client → (ℕ → Conn) → Server → Type 0
-PresentUp c conns s = (k n : ℕ) (x : Sent) → slice_get (conns k).up n ≡ Some x → is_ops x.token ≡ true → s.present x.message.session ≡ true → x.message.session ≡ c.session
-
--- while such a copy of a lock waits, its slot is its own
+-- while a copy of a lock waits whose session is there, its slot is its own
 abbrev pub Users : Client → (ℕ → Conn) → Server → Type 0
 Users c conns s = (k n g : ℕ) (x : Sent) → slice_get (conns k).up n ≡ Some x → x.token ≡ ForOp g → locking (c.op g) ≡ true → s.present x.message.session ≡ true → user_at c g ≡ Some g
 
@@ -270,12 +259,9 @@ pub record Locks (c : Client) (conns : ℕ → Conn) (s : Server) (a : ℕ → �
   pub close_before : CloseBefore c
   pub close_after : CloseAfter c
   pub unsent_gone : UnsentGone c
-  pub asked_new : AskedNew c
-  pub no_session : NoSession c
   pub unanswered : Unanswered c conns
   pub ask_up : AskUp c conns
   pub ask_down : AskDown c conns
-  pub present_up : PresentUp c conns s
   pub users : Users c conns s
   pub copy_now : CopyNow c conns s
   pub retried_on : RetriedOn c conns s
