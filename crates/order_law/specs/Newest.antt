@@ -1,0 +1,48 @@
+-- What holds of the pairs of session and sequence that reached an open, in every world that a run leads to.
+use Rattle.std.specs.Prelude.{◌≡◌, ℕ, ◌≤◌, ◌<◌, Bool, true, false, Option, Some, slice_get}
+use Rattle.exchange_defs.specs.Commands.{Command, Aside, Setup, TreeConnect}
+use Rattle.exchange_defs.specs.State.{Server}
+use Rattle.exchange_defs.specs.Opens.{id_of}
+use Rattle.exchange_defs.specs.Network.{World, Conn, Sent, ForDialog}
+use Rattle.exchange_defs.specs.Statements.{NeverAfterNewer}
+
+-- a command of a dialog, which reaches no open
+abbrev pub names_no_open : Command → Bool
+names_no_open (Aside status) = true
+names_no_open (Setup request) = true
+names_no_open (TreeConnect share) = true
+names_no_open _ = false
+
+abbrev pub DialogUp : (ℕ → Conn) → Type 0
+DialogUp conns = (k n : ℕ) (x : Sent) → slice_get (conns k).up n ≡ Some x → x.token ≡ ForDialog → names_no_open x.message.command ≡ true
+
+-- while the open stands and the session is there, the open is attached in it, at this sequence or a newer one
+abbrev pub Pair : Server → ℕ → ℕ → ℕ → Type 0
+Pair s session sequence o = s.standing o ≡ true → s.present session ≡ true → s.at o ≡ Some session × sequence ≤ s.sequence o
+
+-- a pair that reached an open is of a session that the client accepted, and the open's id was given
+abbrev pub Ranked : World → Type 0
+Ranked w = (i o : ℕ) → i < w.log.places → w.trace.reached i ≡ Some o → 0 < w.client.rank (w.trace.session i)
+
+abbrev pub RankedChange : World → Type 0
+RankedChange w = (i o : ℕ) → i < w.log.places → w.trace.altered i ≡ Some o → 0 < w.client.rank (w.trace.session i)
+
+abbrev pub ReachedGiven : World → Type 0
+ReachedGiven w = (i o : ℕ) → i < w.log.places → w.trace.reached i ≡ Some o → o ≤ id_of w.server.epoch w.server.given
+
+-- no pair that reached an open is newer than the open's own
+abbrev pub Held : World → Type 0
+Held w = (i o : ℕ) → i < w.log.places → w.trace.reached i ≡ Some o → Pair w.server (w.trace.session i) (w.trace.sequence i) o
+
+-- sequences stay below half of what their field holds, so that older means less
+abbrev pub LowSequences : Server → Type 0
+LowSequences s = (o : ℕ) → s.sequence o ≤ 32767
+
+pub record Newest (w : World) : Type 0 where
+  pub dialog_up : DialogUp w.conns
+  pub ranked : Ranked w
+  pub ranked_change : RankedChange w
+  pub reached_given : ReachedGiven w
+  pub held : Held w
+  pub low_sequences : LowSequences w.server
+  pub ordered : NeverAfterNewer w
