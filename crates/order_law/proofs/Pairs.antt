@@ -5,13 +5,13 @@ use Rattle.std.proofs.lemmas.Bool.Decides.{nat_tests}
 use Rattle.std.proofs.Common.{eqb-true, ◌≡◌, ◌≢◌, ℕ, ◌+◌, ◌*◌, ◌-◌, ◌%◌, ◌≤◌, ◌<◌, ◌==◌, nat_le, nat_lt, Bool, true, false, not, ◌&&◌, ◌||◌, if◌then◌else◌, List, [], ◌∷◌, ◌++◌, refl, arith, sym, subst, ◌∙◌, ap, Option, Some, None, is_some, ◌⊎◌, inl, inr}
 use Rattle.exchange_defs.specs.Table.{put, put2, is_at}
 use Rattle.exchange_defs.specs.Commands.{CreateRequest, SetupRequest, deletes_on_close}
-use Rattle.exchange_defs.specs.State.{Server, Message, Open, Range}
+use Rattle.exchange_defs.specs.State.{Server, Message, Open, Range, Making}
 use Rattle.exchange_defs.specs.Files.{mark_file, remove_file, empty_file, make_file}
 use Rattle.exchange_defs.specs.Opens.{id_of, add_open, drop_open, marked_by, leave_open, without_gone, goes, is_of_session, with_guid}
 use Rattle.exchange_defs.specs.CheckCreate.{empties}
 use Rattle.exchange_defs.specs.CheckOpen.{is_stale, is_late, is_slot}
 use Rattle.exchange_defs.specs.CheckSetup.{is_new}
-use Rattle.exchange_defs.specs.Effects.{reach, attach, attached, keep_slot, keep_closed, file_made, make_open, next_open, change_file, end_session, end_if_named, add_session}
+use Rattle.exchange_defs.specs.Effects.{reach, attach, attached, keep_slot, keep_closed, file_made, make_open, next_open, change_file, end_session, end_if_named, add_session, leaves, cleared, guid_staying}
 use Rattle.exchange_defs.specs.Verdict.{Change, PutBytes, PutEnd, PutBasic, PutMark, PutPath, PutNothing}
 use Rattle.exchange_defs.specs.Step.{with_deadlines, expire, add_mark, take_out, forget_connection, ends_with}
 use Rattle.exchange_law.proofs.Doors.{either}
@@ -82,3 +82,152 @@ drop_moves s o =
       making = λ x k h. h;
       guid = λ c g p h. guid_dropped s.by_guid (s.opened o).client (s.opened o).guid c g p h;
     }
+
+marked_alike : (s : Server) (o : ℕ) → Alike s (marked_by s o)
+marked_alike s o = either (Alike s) (deletes_on_close (s.opened o).options) (mark_file s (s.opened o).file true) s (λ _. record { standing = refl; present = refl; at = refl; sequence = refl; epoch = refl; given = refl; making = refl; by_guid = refl }) (λ _. same s)
+
+gone_alike : (s : Server) (f : ℕ) → Alike s (without_gone s f)
+gone_alike s f = either (Alike s) (goes s f) (remove_file s f) s (λ _. record { standing = refl; present = refl; at = refl; sequence = refl; epoch = refl; given = refl; making = refl; by_guid = refl }) (λ _. same s)
+
+pub leave_moves : (s : Server) (o : ℕ) → Moves s (leave_open s o)
+leave_moves s o =
+    moves_on s (marked_by s o) (leave_open s o) (moves_alike s (marked_by s o) (marked_alike s o))
+    (moves_on (marked_by s o) (drop_open (marked_by s o) o) (leave_open s o) (drop_moves (marked_by s o) o) (moves_alike _ _ (gone_alike (drop_open (marked_by s o) o) (s.opened o).file)))
+
+mark_alike : (s : Server) (client : ℕ) (guid : Option ℕ) → Alike s (add_mark s client guid)
+mark_alike s client None = same s
+mark_alike s client (Some g) = record { standing = refl; present = refl; at = refl; sequence = refl; epoch = refl; given = refl; making = refl; by_guid = refl }
+
+pub expire_moves : (s : Server) (o : ℕ) → Moves s (expire s o)
+expire_moves s o = moves_on s (leave_open s o) (expire s o) (leave_moves s o) (moves_alike _ _ (mark_alike (leave_open s o) (s.opened o).client (s.opened o).guid))
+
+closed_alike : (s : Server) (session : ℕ) (guid : Option ℕ) → Alike s (keep_closed s session guid)
+closed_alike s session None = same s
+closed_alike s session (Some g) = record { standing = refl; present = refl; at = refl; sequence = refl; epoch = refl; given = refl; making = refl; by_guid = refl }
+
+pub shut_moves : (s : Server) (o session : ℕ) (guid : Option ℕ) → Moves s (keep_closed (leave_open s o) session guid)
+shut_moves s o session guid = moves_on s (leave_open s o) _ (leave_moves s o) (moves_alike _ _ (closed_alike (leave_open s o) session guid))
+
+-- ---- sequences
+
+pub stale_less : (a b : ℕ) → a ≤ 32767 → b ≤ 32767 → is_stale a b ≡ nat_lt a b
+stale_less a b l m = grind (arith, nat_tests)
+
+reached_pair : (s : Server) (n p : ℕ) → s.sequence p ≤ n → (x q o : ℕ) → Pair s x q o → Pair (record s { sequence = put s.sequence p n }) x q o
+reached_pair s n p l x q o h = λ st pr. let old = h st pr in (old.0, grind arith)
+
+reached_low : (s : Server) (n p : ℕ) → n ≤ 32767 → LowSequences s → LowSequences (record s { sequence = put s.sequence p n })
+reached_low s n p l low = λ o. let old = low o in grind arith
+
+not_less : (a b : ℕ) (t : Bool) → t ≡ nat_lt a b → t ≡ false → b ≤ a
+not_less a b t e f = grind (arith, nat_tests)
+
+pub in_time : (s : Server) (m : Message) (o : ℕ) → LowSequences s → m.sequence ≤ 32767 → is_late s m o ≡ false → s.sequence o ≤ m.sequence
+in_time s m o low l e = not_less m.sequence (s.sequence o) (is_late s m o) (stale_less m.sequence (s.sequence o) l (low o)) e
+
+pub reach_moves : (s : Server) (m : Message) (o : ℕ) → LowSequences s → m.sequence ≤ 32767 → Moves s (reach s m o)
+reach_moves s m o low l =
+    either (Moves s) (is_late s m o) s (record s { sequence = put s.sequence o m.sequence }) (λ _. moves_alike s s (same s))
+    (λ e. record {
+      pair = reached_pair s m.sequence o (in_time s m o low l e);
+      stands = λ p h. h;
+      epoch = refl;
+      given = refl;
+      low = reached_low s m.sequence o l;
+      making = λ x k h. h;
+      guid = λ c g p h. h;
+    })
+
+attach_pair : (s : Server) (m : Message) (p : ℕ) → s.at p ≡ None → (x q o : ℕ) → Pair s x q o → Pair (attach s m p) x q o
+attach_pair s m p e x q o h = λ st pr. let old = h st pr in (grind arith, grind arith)
+
+not_some : (o : Option ℕ) → is_some o ≡ false → o ≡ None
+not_some None e = refl
+not_some (Some x) e = absurd (cc)
+
+pub attached_moves : (s : Server) (m : Message) (o : ℕ) → m.sequence ≤ 32767 → Moves s (attached s m o)
+attached_moves s m o l =
+    either (Moves s) (is_some (s.at o)) s (attach s m o) (λ _. moves_alike s s (same s))
+    (λ e. record {
+      pair = attach_pair s m o (not_some (s.at o) e);
+      stands = λ p h. h;
+      epoch = refl;
+      given = refl;
+      low = λ low p. let old = low p in grind arith;
+      making = λ x k h. h;
+      guid = λ c g p h. h;
+    })
+
+-- ---- what touches no pair
+
+pub slot_alike : (s : Server) (o index number status : ℕ) → Alike s (keep_slot s o index number status)
+slot_alike s o index number status = either (Alike s) (is_slot index) _ _ (λ _. record { standing = refl; present = refl; at = refl; sequence = refl; epoch = refl; given = refl; making = refl; by_guid = refl }) (λ _. same s)
+
+pub change_alike : (s : Server) (f now : ℕ) (change : Change) → Alike s (change_file s f now change)
+change_alike s f now (PutBytes at bytes) = record { standing = refl; present = refl; at = refl; sequence = refl; epoch = refl; given = refl; making = refl; by_guid = refl }
+change_alike s f now (PutEnd size) = record { standing = refl; present = refl; at = refl; sequence = refl; epoch = refl; given = refl; making = refl; by_guid = refl }
+change_alike s f now (PutBasic basic) = record { standing = refl; present = refl; at = refl; sequence = refl; epoch = refl; given = refl; making = refl; by_guid = refl }
+change_alike s f now (PutMark flag) = record { standing = refl; present = refl; at = refl; sequence = refl; epoch = refl; given = refl; making = refl; by_guid = refl }
+change_alike s f now (PutPath replaced path) = record { standing = refl; present = refl; at = refl; sequence = refl; epoch = refl; given = refl; making = refl; by_guid = refl }
+change_alike s f now PutNothing = same s
+
+file_alike : (s : Server) (r : CreateRequest) (found : Option ℕ) (now : ℕ) → Alike s (file_made s r found now)
+file_alike s r None now = record { standing = refl; present = refl; at = refl; sequence = refl; epoch = refl; given = refl; making = refl; by_guid = refl }
+file_alike s r (Some f) now = either (Alike s) (empties r.disposition) _ _ (λ _. record { standing = refl; present = refl; at = refl; sequence = refl; epoch = refl; given = refl; making = refl; by_guid = refl }) (λ _. same s)
+
+-- ---- sessions
+
+ended_pair : (s : Server) (session now : ℕ) (is_quiet : Bool) (x q o : ℕ) → Pair s x q o → Pair (end_session s session now is_quiet) x q o
+ended_pair s session now is_quiet x q o h = λ st pr. let a = ended_stands st in let b = ended_present pr in let old = h a b.1 in (cleared_other (s.at o) old.0 b.0, old.1)
+  where
+    ended_stands : (s.standing o && not (leaves s session o)) ≡ true → s.standing o ≡ true
+    ended_stands e = grind arith
+
+    ended_present : put s.present session false x ≡ true → (x ≢ session) × (s.present x ≡ true)
+    ended_present e = (grind arith, grind arith)
+
+    cleared_other : (a : Option ℕ) → a ≡ Some x → x ≢ session → cleared session a ≡ Some x
+    cleared_other a e n = grind arith
+
+staying_guid : (s : Server) (session : ℕ) (a : Option ℕ) (o : ℕ) → guid_staying s session a ≡ Some o → a ≡ Some o
+staying_guid s session None o e = e
+staying_guid s session (Some p) o e = grind arith
+
+pub end_moves : (s : Server) (session now : ℕ) (is_quiet : Bool) → Moves s (end_session s session now is_quiet)
+end_moves s session now is_quiet =
+    record {
+      pair = ended_pair s session now is_quiet;
+      stands = λ o h. front_of (s.standing o) _ h;
+      epoch = refl;
+      given = refl;
+      low = λ l. l;
+      making = λ x k h. h;
+      guid = λ c g o h. staying_guid s session (s.by_guid c g) o h;
+    }
+  where
+    front_of : (a b : Bool) → (a && b) ≡ true → a ≡ true
+    front_of a b e = grind arith
+
+pub end_named_moves : (s : Server) (now : ℕ) (session : Option ℕ) (is_quiet : Bool) → Moves s (end_if_named s now session is_quiet)
+end_named_moves s now None is_quiet = moves_alike s s (same s)
+end_named_moves s now (Some session) is_quiet = end_moves s session now is_quiet
+
+-- a new session, of which no pair is
+pub begun_pair : (s : Server) (m : Message) (user : List ℕ) (r : SetupRequest) (x q o : ℕ) → x ≢ m.session → Pair s x q o → Pair (add_session s m user r) x q o
+begun_pair s m user r x q o n h = λ st pr. h st (other_present pr)
+  where
+    other_present : put s.present m.session true x ≡ true → s.present x ≡ true
+    other_present e = grind arith
+
+-- a connection ends
+pub take_out_moves : (s : Server) (k now : ℕ) (is_quiet : Bool) → Moves s (take_out s k now is_quiet)
+take_out_moves s k now is_quiet =
+    let t = end_if_named s now (ends_with s k) is_quiet in
+    moves_on s t (forget_connection t k) (end_named_moves s now (ends_with s k) is_quiet)
+    (record { pair = λ x q o h. h; stands = λ o h. h; epoch = refl; given = refl; low = λ l. l; making = λ x j h. forgotten t.making k x j h; guid = λ c g o h. h })
+  where
+    forgotten : (f : ℕ → Option Making) (k x j : ℕ) → is_new x (f j) ≡ false → is_new x (put f k None j) ≡ false
+    forgotten f k x j h = grind arith
+
+pub deadlines_moves : (s : Server) (now : ℕ) → Moves s (with_deadlines s now)
+deadlines_moves s now = moves_alike s (with_deadlines s now) (record { standing = refl; present = refl; at = refl; sequence = refl; epoch = refl; given = refl; making = refl; by_guid = refl })
