@@ -141,7 +141,7 @@ reach_moves s m o low l =
 attach_pair : (s : Server) (m : Message) (p : ℕ) → s.at p ≡ None → (x q o : ℕ) → Pair s x q o → Pair (attach s m p) x q o
 attach_pair s m p e x q o h = λ st pr. let old = h st pr in (grind arith, grind arith)
 
-not_some : (o : Option ℕ) → is_some o ≡ false → o ≡ None
+pub not_some : (o : Option ℕ) → is_some o ≡ false → o ≡ None
 not_some None e = refl
 not_some (Some x) e = absurd (cc)
 
@@ -171,7 +171,7 @@ change_alike s f now (PutMark flag) = record { standing = refl; present = refl; 
 change_alike s f now (PutPath replaced path) = record { standing = refl; present = refl; at = refl; sequence = refl; epoch = refl; given = refl; making = refl; by_guid = refl }
 change_alike s f now PutNothing = same s
 
-file_alike : (s : Server) (r : CreateRequest) (found : Option ℕ) (now : ℕ) → Alike s (file_made s r found now)
+pub file_alike : (s : Server) (r : CreateRequest) (found : Option ℕ) (now : ℕ) → Alike s (file_made s r found now)
 file_alike s r None now = record { standing = refl; present = refl; at = refl; sequence = refl; epoch = refl; given = refl; making = refl; by_guid = refl }
 file_alike s r (Some f) now = either (Alike s) (empties r.disposition) _ _ (λ _. record { standing = refl; present = refl; at = refl; sequence = refl; epoch = refl; given = refl; making = refl; by_guid = refl }) (λ _. same s)
 

@@ -1,20 +1,9 @@
 -- What holds of the pairs of session and sequence that reached an open, in every world that a run leads to.
-use Rattle.std.specs.Prelude.{◌≡◌, ℕ, ◌≤◌, ◌<◌, Bool, true, false, Option, Some, slice_get}
-use Rattle.exchange_defs.specs.Commands.{Command, Aside, Setup, TreeConnect}
+use Rattle.std.specs.Prelude.{◌≡◌, ℕ, ◌≤◌, ◌<◌, true, Some}
 use Rattle.exchange_defs.specs.State.{Server}
 use Rattle.exchange_defs.specs.Opens.{id_of}
-use Rattle.exchange_defs.specs.Network.{World, Conn, Sent, ForDialog}
+use Rattle.exchange_defs.specs.Network.{World}
 use Rattle.exchange_defs.specs.Statements.{NeverAfterNewer}
-
--- a command of a dialog, which reaches no open
-abbrev pub names_no_open : Command → Bool
-names_no_open (Aside status) = true
-names_no_open (Setup request) = true
-names_no_open (TreeConnect share) = true
-names_no_open _ = false
-
-abbrev pub DialogUp : (ℕ → Conn) → Type 0
-DialogUp conns = (k n : ℕ) (x : Sent) → slice_get (conns k).up n ≡ Some x → x.token ≡ ForDialog → names_no_open x.message.command ≡ true
 
 -- while the open stands and the session is there, the open is attached in it, at this sequence or a newer one
 abbrev pub Pair : Server → ℕ → ℕ → ℕ → Type 0
@@ -39,7 +28,6 @@ abbrev pub LowSequences : Server → Type 0
 LowSequences s = (o : ℕ) → s.sequence o ≤ 32767
 
 pub record Newest (w : World) : Type 0 where
-  pub dialog_up : DialogUp w.conns
   pub ranked : Ranked w
   pub ranked_change : RankedChange w
   pub reached_given : ReachedGiven w
