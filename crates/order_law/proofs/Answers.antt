@@ -4,11 +4,11 @@ use Rattle.std.proofs.Common.{eqb-true, ◌≡◌, ◌≢◌, ℕ, ◌+◌, ◌*
 use Rattle.exchange_defs.specs.Table.{put, is_at}
 use Rattle.exchange_defs.specs.Commands.{Command, Aside, Unreadable, Setup, Logoff, TreeConnect, TreeDisconnect, Create, Close, Flush, Read, Write, Lock, Ioctl, ListDirectory, QueryFile, QueryVolume, SetInfo, CreateRequest, SetupRequest}
 use Rattle.exchange_defs.specs.State.{Server, Message, Heard, Record, Answer, Body}
-use Rattle.exchange_defs.specs.Opens.{id_of, is_of_session, add_open}
+use Rattle.exchange_defs.specs.Opens.{id_of, is_of_session, add_open, leave_open, drop_open, marked_by}
 use Rattle.exchange_defs.specs.CheckOpen.{is_late, file_of}
 use Rattle.exchange_defs.specs.CheckSetup.{is_new}
 use Rattle.exchange_defs.specs.Check.{check}
-use Rattle.exchange_defs.specs.Effects.{apply, reach, reaches, attached, attach, attaches, keep_slot, set_ranges, change_file, make_open, file_made, open_row, new_file, next_open, end_session, end_if_named, add_session}
+use Rattle.exchange_defs.specs.Effects.{apply, reach, reaches, attached, attach, attaches, keep_slot, set_ranges, change_file, make_open, file_made, open_row, new_file, next_open, end_session, end_if_named, add_session, keep_closed}
 use Rattle.exchange_defs.specs.Verdict.{Verdict, Refuse, Give, KeepRefusal, Repeat, Attach, Make, TurnDown, Tell, Show, KeepSlot, PutRanges, Alter, Shut, Challenge, ChallengeBinding, Begin, Join, EndSession, AddTree, DropTree}
 use Rattle.exchange_defs.specs.Step.{step, with_deadlines, due, expire, without_room}
 use Rattle.exchange_defs.specs.Network.{answer_to}
@@ -16,7 +16,7 @@ use Rattle.exchange_law.proofs.Doors.{either, by_verdict, recorded, Before, Find
 use Rattle.server_law.specs.Fits.{Attached, GuidOpen, OpenIds}
 use Rattle.order_law.specs.Newest.{Pair, LowSequences}
 use Rattle.order_law.proofs.Sound.{Sound, SoundBy, sound, sound_without_room}
-use Rattle.order_law.proofs.Pairs.{Alike, Moves, same, moves_alike, moves_on, leave_moves, expire_moves, shut_moves, in_time, reach_moves, attached_moves, slot_alike, change_alike, file_alike, end_moves, end_named_moves, begun_pair, deadlines_moves, not_some}
+use Rattle.order_law.proofs.Pairs.{shut_left, Alike, Moves, same, moves_alike, moves_on, leave_moves, expire_moves, shut_moves, in_time, reach_moves, attached_moves, slot_alike, change_alike, file_alike, end_moves, end_named_moves, begun_pair, deadlines_moves, not_some, gone_alike, marked_alike, mark_alike}
 
 -- every pair is kept of which the session isn't in the making where the message came from
 pub record Facts (s : Server) (m : Message) (A : Answer) : Type 0 where
@@ -130,3 +130,150 @@ make_facts s m r found action now A g h e a =
 
     made_own : (p : ℕ) → Some (next_open s) ≡ Some p → p ≤ id_of (make_open s m r found action now).epoch (make_open s m r found action now).given × Pair (make_open s m r found action now) m.session m.sequence p
     made_own p e = let al = file_alike s r found now in let ep = al.epoch in (grind arith, λ t q. (grind arith, grind arith))
+
+-- a new session, of which no pair is; the one that it names as its previous one ends before
+begin_facts : (s t : Server) (m : Message) (user : List ℕ) (r : SetupRequest) (A : Answer) → Given s m → Moves s t → is_new m.session (s.making m.connection) ≡ true → A.server ≡ add_session t m user r → A.reached ≡ None → A.altered ≡ None → Facts s m A
+begin_facts s t m user r A g k new h e a =
+    record {
+      pair = λ x q o n l f. subst (λ u. Pair u x q o) (sym h) (begun_pair t m user r x q o (λ z. apart x z n) (k.pair x q o f));
+      ids = subst (λ u. id_of s.epoch s.given ≤ id_of u.epoch u.given) (sym h) (let j = same_ids s t k in let w : id_of s.epoch s.given ≤ id_of t.epoch t.given = omega (arith, j) in w);
+      low = subst LowSequences (sym h) (k.low g.low);
+      reached = λ o f. absurd (let b = e in grind arith);
+      altered = λ o f. absurd (let b = a in grind arith);
+    }
+  where
+    apart : (x : ℕ) → x ≡ m.session → is_new x (s.making m.connection) ≡ false → ⊥
+    apart x z n = absurd (let w = subst (λ y. is_new y (s.making m.connection) ≡ false) z n in grind arith)
+
+alike_facts : (s : Server) (m : Message) (A : Answer) → Given s m → Alike s A.server → A.reached ≡ None → A.altered ≡ None → Facts s m A
+alike_facts s m A g h r a = quiet_facts s m A g (moves_alike s A.server h) r a
+
+-- what a challenge makes is a new session of its own; no pair is asked for it
+making_moves : (s t : Server) → t.standing ≡ s.standing → t.present ≡ s.present → t.at ≡ s.at → t.sequence ≡ s.sequence → t.epoch ≡ s.epoch → t.given ≡ s.given → (m : Message) (A : Answer) → Given s m → A.server ≡ t → A.reached ≡ None → A.altered ≡ None → Facts s m A
+making_moves s t st pr at sq ep gi m A g h r a =
+    record {
+      pair = λ x q o n l f. subst (λ u. Pair u x q o) (sym h) (let old = f in λ u v. grind arith);
+      ids = subst (λ u. id_of s.epoch s.given ≤ id_of u.epoch u.given) (sym h) (grind arith);
+      low = subst LowSequences (sym h) (λ o. let old = g.low o in grind arith);
+      reached = λ o f. absurd (let b = r in grind arith);
+      altered = λ o f. absurd (let b = a in grind arith);
+    }
+
+-- an open leaves, with the sequence that reached it
+shut_facts : (s : Server) (m : Message) (o : ℕ) (A : Answer) → Given s m → is_of_session s o m.session ≡ true → A.server ≡ keep_closed (leave_open s o) m.session (s.opened o).guid → A.reached ≡ reaches s m o → A.altered ≡ None → Facts s m A
+shut_facts s m o A g on h r a =
+    let k : Moves s A.server = subst (λ t. Moves s t) (sym h) (shut_moves s o m.session (s.opened o).guid) in
+    record {
+      pair = λ x q p n l f. k.pair x q p f;
+      ids = let e = same_ids s A.server k in omega (arith, e);
+      low = k.low g.low;
+      reached = λ p e. let own = own_pair s m o g on p (sym r ∙ e) in let i = own.0 in let j = same_ids s A.server k in
+          (omega (arith, i, j), λ st pr. absurd (let z = its_open p (sym r ∙ e) in let f = shut_left s o m.session (s.opened o).guid in let w = ap (λ t. t.standing o) h in grind arith));
+      altered = λ p e. absurd (let f = a in grind arith);
+    }
+  where
+    its_open : (p : ℕ) → reaches s m o ≡ Some p → p ≡ o
+    its_open p e = grind arith
+
+pub verdict_facts : (s : Server) (m : Message) (now : ℕ) → Given s m → (v : Verdict) → Sound s m v → Facts s m (apply s m now v)
+verdict_facts s m now g (Refuse status) h = alike_facts s m _ g (same s) refl refl
+verdict_facts s m now g (Give body) h = alike_facts s m _ g (same s) refl refl
+verdict_facts s m now g (KeepRefusal guid status) h = alike_facts s m _ g (record { standing = refl; present = refl; at = refl; sequence = refl; epoch = refl; given = refl; making = refl; by_guid = refl }) refl refl
+verdict_facts s m now g (Repeat o r) h = attach_facts s m o _ g (g.named m.client h.is.0 o h.is.1) refl refl refl
+verdict_facts s m now g (Attach o r) h = attach_facts s m o _ g (g.ids o h.is) refl refl refl
+verdict_facts s m now g (Make r found action) h = make_facts s m r found action now _ g refl refl refl
+verdict_facts s m now g (TurnDown o status) h = reached_facts s m o _ g h.is (moves_alike _ _ (same (reach s m o))) refl refl
+verdict_facts s m now g (Tell o body) h = reached_facts s m o _ g h.is (moves_alike _ _ (same (reach s m o))) refl refl
+verdict_facts s m now g (Show o last body) h = reached_facts s m o _ g h.is (moves_alike _ _ (record { standing = refl; present = refl; at = refl; sequence = refl; epoch = refl; given = refl; making = refl; by_guid = refl })) refl refl
+verdict_facts s m now g (KeepSlot o index number status elements) h = reached_facts s m o _ g h.is (moves_alike _ _ (slot_alike (reach s m o) o index number status)) refl refl
+verdict_facts s m now g (PutRanges o index number ranges elements) h =
+    reached_facts s m o _ g h.is
+    (moves_on (reach s m o) (set_ranges (reach s m o) (file_of s o) ranges) _
+    (moves_alike _ _ (record { standing = refl; present = refl; at = refl; sequence = refl; epoch = refl; given = refl; making = refl; by_guid = refl }))
+    (moves_alike _ _ (slot_alike (set_ranges (reach s m o) (file_of s o) ranges) o index number 0))) refl refl
+verdict_facts s m now g (Alter o change body) h = alter_facts s m o _ g h.is.0 h.is.1 (moves_alike _ _ (change_alike (reach s m o) (file_of s o) now change)) refl refl
+verdict_facts s m now g (Shut o body) h = shut_facts s m o _ g h.is refl refl refl
+verdict_facts s m now g Challenge h = making_moves s (apply s m now Challenge).server refl refl refl refl refl refl m _ g refl refl refl
+verdict_facts s m now g (ChallengeBinding session) h = making_moves s (apply s m now (ChallengeBinding session)).server refl refl refl refl refl refl m _ g refl refl refl
+verdict_facts s m now g (Begin session user previous r is_quiet) h =
+    begin_facts s (end_if_named s now previous is_quiet) m user r _ g (end_named_moves s now previous is_quiet) h.is.0 refl refl refl
+verdict_facts s m now g (Join session) h = making_moves s (apply s m now (Join session)).server refl refl refl refl refl refl m _ g refl refl refl
+verdict_facts s m now g (EndSession session is_quiet) h = quiet_facts s m _ g (end_moves s session now is_quiet) refl refl
+verdict_facts s m now g (AddTree pipes) h = alike_facts s m _ g (record { standing = refl; present = refl; at = refl; sequence = refl; epoch = refl; given = refl; making = refl; by_guid = refl }) refl refl
+verdict_facts s m now g DropTree h = alike_facts s m _ g (record { standing = refl; present = refl; at = refl; sequence = refl; epoch = refl; given = refl; making = refl; by_guid = refl }) refl refl
+
+-- ---- the event: an expiry in front, and what stands in its place where the records don't fit
+
+-- nothing but an open that expires is gone
+pub record Earlier (s t : Server) : Type 0 where
+  pub moves : Moves s t
+  pub present : t.present ≡ s.present
+  pub at : (o x : ℕ) → t.at o ≡ Some x → s.at o ≡ Some x
+
+drop_at : (s : Server) (p o x : ℕ) → put s.at p None o ≡ Some x → s.at o ≡ Some x
+drop_at s p o x e = grind arith
+
+leave_at : (s : Server) (p o x : ℕ) → (leave_open s p).at o ≡ Some x → s.at o ≡ Some x
+leave_at s p o x e = let a = gone_alike (drop_open (marked_by s p) p) (s.opened p).file in let b = marked_alike s p in drop_at s p o x (ap (λ f. put f p None o) (sym b.at) ∙ (ap (λ f. f o) (sym a.at) ∙ e))
+
+leave_present : (s : Server) (p : ℕ) → (leave_open s p).present ≡ s.present
+leave_present s p = let a = gone_alike (drop_open (marked_by s p) p) (s.opened p).file in let b = marked_alike s p in a.present ∙ b.present
+
+pub earlier : (s : Server) (now : ℕ) (t : Server) → Before s now t → Earlier s t
+earlier s now t (inl e) = subst (Earlier s) (sym e) (record { moves = deadlines_moves s now; present = refl; at = λ o x h. h })
+earlier s now t (inr (o, due, e)) =
+    let d = with_deadlines s now in let l = leave_open d o in let m = mark_alike l (d.opened o).client (d.opened o).guid in
+    subst (Earlier s) (sym e) (record { moves = moves_on s d (expire d o) (deadlines_moves s now) (expire_moves d o); present = m.present ∙ leave_present d o; at = λ p x h. leave_at d o p x (ap (λ f. f p) (sym m.at) ∙ h) })
+
+given_behind : (s t : Server) (m : Message) → Given s m → Earlier s t → Given t m
+given_behind s t m g k =
+    let e = same_ids s t k.moves in
+    record {
+      low = k.moves.low g.low;
+      sequence = g.sequence;
+      attached = λ o x h. ap (λ f. f x) k.present ∙ g.attached o x (k.at o x h);
+      named = λ c h o f. let l = g.named c h o (k.moves.guid c h o f) in omega (arith, l, e);
+      ids = λ o h. let l = g.ids o (k.moves.stands o h) in omega (arith, l, e);
+    }
+
+facts_before : (s t : Server) (m : Message) (A : Answer) → Earlier s t → Facts t m A → Facts s m A
+facts_before s t m A k f =
+    let e = same_ids s t k.moves in
+    record {
+      pair = λ x q o n l p. f.pair x q o (k.moves.making x m.connection n) (omega (arith, l, e)) (k.moves.pair x q o p);
+      ids = let i = f.ids in omega (arith, i, e);
+      low = f.low;
+      reached = f.reached;
+      altered = λ o h. let r = f.altered o h in (ap (λ g. g m.session) (sym k.present) ∙ r.0, λ x q p pr. r.1 x q (k.moves.pair x q o p) (ap (λ g. g x) k.present ∙ pr));
+    }
+
+recorded_facts : (s : Server) (m : Message) (A : Answer) (records : List Record) → Facts s m A → Facts s m (recorded A records)
+recorded_facts s m A records f = record { pair = f.pair; ids = f.ids; low = f.low; reached = f.reached; altered = f.altered }
+
+found_sound : (t : Server) (m : Message) (v : Verdict) → Finds t m v → Sound t m v
+found_sound t m v (inl e) = subst (Sound t m) (sym e) (sound t m)
+found_sound t m v (inr e) = subst (Sound t m) (sym e) (sound_without_room t m (check t m) (sound t m))
+
+step_facts : (s : Server) (now : ℕ) (m : Message) → Given s m → Facts s m (step s now (Heard m))
+step_facts s now m g =
+    by_verdict (Facts s m) s now m
+    (λ t v records b f. let k = earlier s now t b in recorded_facts s m _ records (facts_before s t m _ k (verdict_facts t m now (given_behind s t m g k) v (found_sound t m v f))))
+
+pub facts : (s : Server) (now : ℕ) (m : Message) (c : Command) → Given s m → Facts s m (answer_to s now m c)
+facts s now m (Aside status) g = alike_facts s m _ g (same s) refl refl
+facts s now m (Unreadable status) g = step_facts s now m g
+facts s now m (Setup request) g = step_facts s now m g
+facts s now m Logoff g = step_facts s now m g
+facts s now m (TreeConnect share) g = step_facts s now m g
+facts s now m TreeDisconnect g = step_facts s now m g
+facts s now m (Create request) g = step_facts s now m g
+facts s now m (Close file query) g = step_facts s now m g
+facts s now m (Flush file) g = step_facts s now m g
+facts s now m (Read file at size minimum channel) g = step_facts s now m g
+facts s now m (Write file at bytes channel) g = step_facts s now m g
+facts s now m (Lock file index number elements) g = step_facts s now m g
+facts s now m (Ioctl file code room) g = step_facts s now m g
+facts s now m (ListDirectory file class restart single pattern room) g = step_facts s now m g
+facts s now m (QueryFile file class room) g = step_facts s now m g
+facts s now m (QueryVolume file class room) g = step_facts s now m g
+facts s now m (SetInfo file setting) g = step_facts s now m g

@@ -83,10 +83,10 @@ drop_moves s o =
       guid = λ c g p h. guid_dropped s.by_guid (s.opened o).client (s.opened o).guid c g p h;
     }
 
-marked_alike : (s : Server) (o : ℕ) → Alike s (marked_by s o)
+pub marked_alike : (s : Server) (o : ℕ) → Alike s (marked_by s o)
 marked_alike s o = either (Alike s) (deletes_on_close (s.opened o).options) (mark_file s (s.opened o).file true) s (λ _. record { standing = refl; present = refl; at = refl; sequence = refl; epoch = refl; given = refl; making = refl; by_guid = refl }) (λ _. same s)
 
-gone_alike : (s : Server) (f : ℕ) → Alike s (without_gone s f)
+pub gone_alike : (s : Server) (f : ℕ) → Alike s (without_gone s f)
 gone_alike s f = either (Alike s) (goes s f) (remove_file s f) s (λ _. record { standing = refl; present = refl; at = refl; sequence = refl; epoch = refl; given = refl; making = refl; by_guid = refl }) (λ _. same s)
 
 pub leave_moves : (s : Server) (o : ℕ) → Moves s (leave_open s o)
@@ -94,7 +94,7 @@ leave_moves s o =
     moves_on s (marked_by s o) (leave_open s o) (moves_alike s (marked_by s o) (marked_alike s o))
     (moves_on (marked_by s o) (drop_open (marked_by s o) o) (leave_open s o) (drop_moves (marked_by s o) o) (moves_alike _ _ (gone_alike (drop_open (marked_by s o) o) (s.opened o).file)))
 
-mark_alike : (s : Server) (client : ℕ) (guid : Option ℕ) → Alike s (add_mark s client guid)
+pub mark_alike : (s : Server) (client : ℕ) (guid : Option ℕ) → Alike s (add_mark s client guid)
 mark_alike s client None = same s
 mark_alike s client (Some g) = record { standing = refl; present = refl; at = refl; sequence = refl; epoch = refl; given = refl; making = refl; by_guid = refl }
 
@@ -231,3 +231,12 @@ take_out_moves s k now is_quiet =
 
 pub deadlines_moves : (s : Server) (now : ℕ) → Moves s (with_deadlines s now)
 deadlines_moves s now = moves_alike s (with_deadlines s now) (record { standing = refl; present = refl; at = refl; sequence = refl; epoch = refl; given = refl; making = refl; by_guid = refl })
+
+-- it has left
+pub shut_left : (s : Server) (o session : ℕ) (guid : Option ℕ) → (keep_closed (leave_open s o) session guid).standing o ≡ false
+shut_left s o session guid =
+    let a = closed_alike (leave_open s o) session guid in let b = gone_alike (drop_open (marked_by s o) o) (s.opened o).file in
+    ap (λ f. f o) a.standing ∙ (ap (λ f. f o) b.standing ∙ put_self (marked_by s o).standing o)
+  where
+    put_self : (f : ℕ → Bool) (p : ℕ) → put f p false p ≡ false
+    put_self f p = grind arith
