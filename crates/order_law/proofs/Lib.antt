@@ -1,3 +1,5 @@
 pub mod Sound
 pub mod Pairs
 pub mod Answers
+pub mod Others
+pub mod Newer
