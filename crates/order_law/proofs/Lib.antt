@@ -2,4 +2,5 @@ pub mod Sound
 pub mod Pairs
 pub mod Answers
 pub mod Others
+pub mod Calm
 pub mod Newer
