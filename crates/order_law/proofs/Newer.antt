@@ -1,0 +1,179 @@
+-- No write or set-info acts after a newer pair reached its open: each event of a run keeps it.
+use Rattle.std.proofs.lemmas.Bool.{eqb-false}
+use Rattle.std.proofs.lemmas.Bool.Decides.{nat_tests}
+use Rattle.std.proofs.Common.{eqb-true, ◌≡◌, ◌≢◌, ℕ, ◌+◌, ◌≤◌, ◌<◌, ◌==◌, nat_lt, nat_le, Bool, true, false, not, ◌&&◌, ◌||◌, if◌then◌else◌, List, [], ◌∷◌, ◌++◌, refl, arith, sym, subst, ◌∙◌, ap, Option, Some, None, is_some, slice_get, ◌⊎◌, inl, inr}
+use Rattle.exchange_defs.specs.Table.{put, is_at, is_filled}
+use Rattle.exchange_defs.specs.Status.{disk_full, user_session_deleted}
+use Rattle.exchange_defs.specs.State.{Server, Message, Reply, Body, Record, Answer, Accept, End}
+use Rattle.exchange_defs.specs.Opens.{id_of}
+use Rattle.exchange_defs.specs.CheckSetup.{is_new}
+use Rattle.exchange_defs.specs.Step.{step}
+use Rattle.exchange_defs.specs.Fold.{fold, recovered}
+use Rattle.exchange_defs.specs.Operations.{Op, Outcome, Unsettled, WasOk, WasRefused, NoSlot, NoOpen, Unknown, NoSession, is_create, is_close, is_lock, charge, weight}
+use Rattle.exchange_defs.specs.Client.{Client, Stage, may_take, may_push, has_its_slot, goes_itself, lacks_slot, settle_no_slot, settle_no_slots, begun, outstanding, asked, ends_at_cut, begin, again, take_slot}
+use Rattle.exchange_defs.specs.Settling.{Heard as Hearing, Settles, GoesAgain, Attaches, EndsSession, heard, hear, is_awaited, settle, settled, noted, noted_full, settles_open}
+use Rattle.exchange_defs.specs.Dialogs.{DialogStep, GoesOn, Accepts, Binds, Readies, Refuses, dialog_step}
+use Rattle.exchange_defs.specs.ClientStep.{Pick, Act, Nothing, Sends, Asks, CloseChannels, AllSettled, Pushes, Hears, IsCut, client_after, act, push_after, pick_after, op_after, push_act, hear_after, hear_act, cut_after, cut_act}
+use Rattle.exchange_defs.specs.Network.{World, Event, Submit, Open, Push, Serve, Take, Cut, Drop, Restart, Crash, Wait, Finish, Conn, Sent, Received, Token, ForDialog, ForOp, ForAttach, happens, run, start, Settings, changed, later, may_open, may_serve, pushed_by, answer, absorbed, serve_front, absorb_front, take_reply, took_by, dialog_took, op_took, closed_by, cut_by, with_client, behind_reply, restarted, opened, dropped, transmitted, first_push, is_own, cut_off}
+use Rattle.exchange_defs.specs.Runs.{is_newer, alters}
+use Rattle.exchange_defs.specs.Statements.{NeverAfterNewer, Newer}
+use Rattle.exchange_law.proofs.Doors.{either}
+use Rattle.server_law.specs.Fits.{Attached, GuidOpen, OpenIds, Given as GivenIds}
+use Rattle.session_law.specs.Sessions.{Ranks, LastRank, RankOnce, PendingUnranked, RankedUp, SequencesUp, DialogUp, PresentAccepted, MakingUnranked, is_ops}
+use Rattle.order_law.specs.Newest.{Pair, LowSequences, Ranked, RankedChange, ReachedGiven, Held, Newest}
+use Rattle.order_law.proofs.Pairs.{Moves}
+use Rattle.order_law.proofs.Answers.{Facts, Given, facts}
+use Rattle.order_law.proofs.Others.{accept_moves, end_moves_all, blank_recovered, recovered_ids}
+use Rattle.order_law.proofs.Calm.{aloof}
+
+-- the parts of the layers below that it stands on
+pub record Below (w : World) : Type 0 where
+  pub attached : Attached w.server
+  pub guid_open : GuidOpen w.server
+  pub open_ids : OpenIds w.server
+  pub given : GivenIds w.server
+  pub ranks : Ranks w.client
+  pub last_rank : LastRank w.client
+  pub rank_once : RankOnce w.client
+  pub pending_unranked : PendingUnranked w.client
+  pub ranked_up : RankedUp w.client w.conns
+  pub sequences_up : SequencesUp w.client w.conns
+  pub dialog_up : DialogUp w.conns
+  pub present_accepted : PresentAccepted w.client w.server
+  pub making_unranked : MakingUnranked w.client w.server
+  pub recorded : (fold w.records).epoch ≡ w.server.epoch
+
+-- what is remembered is the same, and so are the ranks
+record Alike (w v : World) : Type 0 where
+  places : v.log.places ≡ w.log.places
+  did : v.log.did ≡ w.log.did
+  trace : v.trace ≡ w.trace
+  rank : v.client.rank ≡ w.client.rank
+
+ids : World → ℕ
+ids w = id_of w.server.epoch w.server.given
+
+-- what the server does between two places
+record Goes (w v : World) : Type 0 where
+  pair : (x q o : ℕ) → 0 < w.client.rank x → o ≤ id_of w.server.epoch w.server.given → Pair w.server x q o → Pair v.server x q o
+  ids_up : id_of w.server.epoch w.server.given ≤ id_of v.server.epoch v.server.given
+  low : LowSequences v.server
+
+goes_same : (w v : World) → v.server ≡ w.server → LowSequences w.server → Goes w v
+goes_same w v e low =
+    record { pair = λ x q o r l p. subst (λ s. Pair s x q o) (sym e) p; ids_up = subst (λ (s : Server). id_of w.server.epoch w.server.given ≤ id_of s.epoch s.given) (sym e) (omega arith); low = subst LowSequences (sym e) low }
+
+goes_moves : (w v : World) → Moves w.server v.server → LowSequences w.server → Goes w v
+goes_moves w v m low =
+    record { pair = λ x q o r l p. m.pair x q o p; ids_up = let a = m.epoch in let b = m.given in same_id w.server.epoch w.server.given v.server.epoch v.server.given a b; low = m.low low }
+  where
+    same_id : (a b c d : ℕ) → c ≡ a → d ≡ b → id_of a b ≤ id_of c d
+    same_id a b c d e f = omega (arith, e, f)
+
+kept : (w v : World) → Alike w v → Goes w v → Newest w → Newest v
+kept w v a g n =
+    let pl = a.places in let di = a.did in let tr = a.trace in let rk = a.rank in
+    record {
+      ranked = λ i o l h. let old = n.ranked i o in grind arith;
+      ranked_change = λ i o l h. let old = n.ranked_change i o in grind arith;
+      reached_given = λ i o l h. let old : o ≤ id_of w.server.epoch w.server.given = n.reached_given i o (subst (λ p. i < p) pl l) (ap (λ t. t.reached i) (sym tr) ∙ h) in let up = g.ids_up in omega (arith, old, up);
+      held = λ i o l h.
+          let l' : i < w.log.places = subst (λ p. i < p) pl l in let h' : w.trace.reached i ≡ Some o = ap (λ t. t.reached i) (sym tr) ∙ h in
+          subst (λ t. Pair v.server (t.session i) (t.sequence i) o) (sym tr) (g.pair (w.trace.session i) (w.trace.sequence i) o (n.ranked i o l' h') (n.reached_given i o l' h') (n.held i o l' h'));
+      low_sequences = g.low;
+      ordered = λ p i o l m d h. let old = n.ordered p i o in grind arith;
+    }
+
+kept_server : (w v : World) → Alike w v → v.server ≡ w.server → Newest w → Newest v
+kept_server w v a e n = kept w v a (goes_same w v e n.low_sequences) n
+
+-- ---- the front of a connection is taken
+
+-- a place below the new one, or the new one
+split : (P : ℕ → Type 0) (n i : ℕ) → i < n + 1 → (i < n → P i) → P n → P i
+split P n i l f p = elim (i == n) as (λ b. i == n ≡ b → P i) [
+  | true ↦ λ e. subst P (sym (eqb-true i n e)) p
+  | false ↦ λ e. let z = eqb-false i n e in f (omega (arith, l, z))
+] refl
+
+put_new : {X : Type 0} (f : ℕ → X) (n : ℕ) (v : X) → put f n v n ≡ v
+put_new f n v = grind arith
+
+put_old : {X : Type 0} (f : ℕ → X) (n : ℕ) (v : X) (i : ℕ) → i < n → put f n v i ≡ f i
+put_old f n v i l = let d : i ≢ n = omega arith in grind arith
+
+-- the front's message: it is an operation's where an open is reached
+record Front (w : World) (m : Message) (A : Answer) : Type 0 where
+  facts : Facts w.server m A
+  ranked : (o : ℕ) → A.reached ≡ Some o → 0 < w.client.rank m.session
+  ranked_change : (o : ℕ) → A.altered ≡ Some o → 0 < w.client.rank m.session
+
+new_pair : (w : World) (x : ℕ) (k : ℕ) → MakingUnranked w.client w.server → 0 < w.client.rank x → is_new x (w.server.making k) ≡ false
+new_pair w x k u r = by_test (is_new x (w.server.making k)) refl
+  where
+    by_test : (b : Bool) → is_new x (w.server.making k) ≡ b → is_new x (w.server.making k) ≡ false
+    by_test true e = let z = u k x e in absurd (omega (arith, z, r))
+    by_test false e = e
+
+-- a change is no older than any pair that reached its open before
+not_newer : (rx rm q s : ℕ) → rx ≤ rm → (rx ≡ rm → q ≤ s) → (nat_lt rm rx || ((rm == rx) && nat_lt s q)) ≡ false
+not_newer rx rm q s l f = elim (rm == rx) as (λ b. rm == rx ≡ b → (nat_lt rm rx || ((rm == rx) && nat_lt s q)) ≡ false) [
+  | true ↦ λ e. let z = eqb-true rm rx e in let g = f (sym z) in grind (arith, nat_tests)
+  | false ↦ λ e. grind (arith, nat_tests)
+] refl
+
+in_order : (w : World) (m : Message) (A : Answer) → Below w → Newest w → Front w m A → (i o : ℕ) → i < w.log.places → A.altered ≡ Some o → w.trace.reached i ≡ Some o
+    → (nat_lt (w.client.rank m.session) (w.client.rank (w.trace.session i)) || ((w.client.rank m.session == w.client.rank (w.trace.session i)) && nat_lt m.sequence (w.trace.sequence i))) ≡ false
+in_order w m A b n f i o l a h =
+    let c = f.facts.altered o a in let r = f.ranked_change o a in let rx = n.ranked i o l h in
+    let here : m.session ≡ w.client.accepted = b.present_accepted m.session c.0 r in
+    let some : 0 < w.client.accepts = (let z = b.ranks m.session in omega (arith, z, r)) in
+    let last : w.client.rank m.session ≡ w.client.accepts = ap w.client.rank here ∙ b.last_rank some in
+    let le = b.ranks (w.trace.session i) in
+    not_newer (w.client.rank (w.trace.session i)) (w.client.rank m.session) (w.trace.sequence i) m.sequence (omega (arith, last, le))
+    (λ e. let z : w.trace.session i ≡ m.session = b.rank_once (w.trace.session i) m.session rx e in
+    (c.1 (w.trace.session i) (w.trace.sequence i) (n.held i o l h) (ap w.server.present z ∙ c.0)).1)
+
+absorb_newest : (w : World) (k : ℕ) (x : Sent) (rest : List Sent) (A : Answer) → Below w → Newest w → Front w x.message A → x.message.sequence ≤ 32767 → Newest (absorbed w k x rest A)
+absorb_newest w k x rest A b n f low =
+    let m = x.message in let N = w.log.places in let v = absorbed w k x rest A in
+    record {
+      ranked = λ i o l. split (λ j. v.trace.reached j ≡ Some o → 0 < w.client.rank (v.trace.session j)) N i l
+          (λ lt h. subst (λ s. 0 < w.client.rank s) (sym (put_old w.trace.session N m.session i lt)) (n.ranked i o lt (sym (put_old w.trace.reached N A.reached i lt) ∙ h)))
+          (λ h. subst (λ s. 0 < w.client.rank s) (sym (put_new w.trace.session N m.session)) (f.ranked o (sym (put_new w.trace.reached N A.reached) ∙ h)));
+      ranked_change = λ i o l. split (λ j. v.trace.altered j ≡ Some o → 0 < w.client.rank (v.trace.session j)) N i l
+          (λ lt h. subst (λ s. 0 < w.client.rank s) (sym (put_old w.trace.session N m.session i lt)) (n.ranked_change i o lt (sym (put_old w.trace.altered N A.altered i lt) ∙ h)))
+          (λ h. subst (λ s. 0 < w.client.rank s) (sym (put_new w.trace.session N m.session)) (f.ranked_change o (sym (put_new w.trace.altered N A.altered) ∙ h)));
+      reached_given = λ i o l. split (λ j. v.trace.reached j ≡ Some o → o ≤ id_of A.server.epoch A.server.given) N i l
+          (λ lt h. let old = n.reached_given i o lt (sym (put_old w.trace.reached N A.reached i lt) ∙ h) in let up = f.facts.ids in omega (arith, old, up))
+          (λ h. (f.facts.reached o (sym (put_new w.trace.reached N A.reached) ∙ h)).0);
+      held = λ i o l. split (λ j. v.trace.reached j ≡ Some o → Pair A.server (v.trace.session j) (v.trace.sequence j) o) N i l
+          (λ lt h. let h' = sym (put_old w.trace.reached N A.reached i lt) ∙ h in
+              subst (λ s. Pair A.server s (v.trace.sequence i) o) (sym (put_old w.trace.session N m.session i lt)) (subst (λ q. Pair A.server (w.trace.session i) q o) (sym (put_old w.trace.sequence N m.sequence i lt))
+              (f.facts.pair (w.trace.session i) (w.trace.sequence i) o (new_pair w (w.trace.session i) m.connection b.making_unranked (n.ranked i o lt h')) (n.reached_given i o lt h') (n.held i o lt h'))))
+          (λ h. subst (λ s. Pair A.server s (v.trace.sequence N) o) (sym (put_new w.trace.session N m.session)) (subst (λ q. Pair A.server m.session q o) (sym (put_new w.trace.sequence N m.sequence))
+              (f.facts.reached o (sym (put_new w.trace.reached N A.reached) ∙ h)).1));
+      low_sequences = f.facts.low;
+      ordered = λ p i o l lt. split (λ j. i < j → alters v j o ≡ true → v.trace.reached i ≡ Some o → is_newer v i j ≡ false) N p l
+          (λ lp li d h. old_order p i o lp li d h)
+          (λ li d h. new_order i o li d h) lt;
+    }
+  where
+    is_there : (b : Bool) (o : ℕ) (a : Option ℕ) → (b && is_at o a) ≡ true → a ≡ Some o
+    is_there b o a e = grind arith
+
+    old_order : (p i o : ℕ) → p < w.log.places → i < p → alters (absorbed w k x rest A) p o ≡ true → (absorbed w k x rest A).trace.reached i ≡ Some o → is_newer (absorbed w k x rest A) i p ≡ false
+    old_order p i o lp li d h =
+        let N = w.log.places in let m = x.message in let l : i < N = omega arith in
+        let e1 = put_old w.log.did N (is_own x.token && A.acted) p lp in let e2 = put_old w.trace.altered N A.altered p lp in let e3 = put_old w.trace.reached N A.reached i l in
+        let e4 = put_old w.trace.session N m.session p lp in let e5 = put_old w.trace.session N m.session i l in let e6 = put_old w.trace.sequence N m.sequence p lp in let e7 = put_old w.trace.sequence N m.sequence i l in
+        let old = n.ordered p i o lp li (ap (λ a. w.log.did p && is_at o a) (sym e2) ∙ (ap (λ b. b && is_at o (put w.trace.altered N A.altered p)) (sym e1) ∙ d)) (sym e3 ∙ h) in
+        rw (e4, e5, e6, e7) old
+
+    new_order : (i o : ℕ) → i < w.log.places → alters (absorbed w k x rest A) w.log.places o ≡ true → (absorbed w k x rest A).trace.reached i ≡ Some o → is_newer (absorbed w k x rest A) i w.log.places ≡ false
+    new_order i o li d h =
+        let N = w.log.places in let m = x.message in
+        let e2 = put_new w.trace.altered N A.altered in let e3 = put_old w.trace.reached N A.reached i li in
+        let e4 = put_new w.trace.session N m.session in let e5 = put_old w.trace.session N m.session i li in let e6 = put_new w.trace.sequence N m.sequence in let e7 = put_old w.trace.sequence N m.sequence i li in
+        let old = in_order w m A b n f i o li (sym e2 ∙ is_there (put w.log.did N (is_own x.token && A.acted) N) o (put w.trace.altered N A.altered N) d) (sym e3 ∙ h) in
+        rw (e4, e5, e6, e7) old
