@@ -10,16 +10,17 @@ use Rattle.exchange_defs.specs.CheckSetup.{is_new}
 use Rattle.exchange_defs.specs.Step.{step}
 use Rattle.exchange_defs.specs.Fold.{fold, recovered}
 use Rattle.exchange_defs.specs.Operations.{Op, Outcome, Unsettled, WasOk, WasRefused, NoSlot, NoOpen, Unknown, NoSession, is_create, is_close, is_lock, charge, weight}
-use Rattle.exchange_defs.specs.Client.{Client, Stage, may_take, may_push, has_its_slot, goes_itself, lacks_slot, settle_no_slot, settle_no_slots, begun, outstanding, asked, ends_at_cut, begin, again, take_slot}
+use Rattle.exchange_defs.specs.Client.{Client, Stage, may_take, may_push, has_its_slot, goes_itself, lacks_slot, settle_no_slot, settle_no_slots, begun, outstanding, asked, ends_at_cut, begin, again, take_slot, create_for, SaidSecond, SaidNegotiate, SaidFirst, Apart, AskedTree}
 use Rattle.exchange_defs.specs.Settling.{Heard as Hearing, Settles, GoesAgain, Attaches, EndsSession, heard, hear, is_awaited, settle, settled, noted, noted_full, settles_open}
 use Rattle.exchange_defs.specs.Dialogs.{DialogStep, GoesOn, Accepts, Binds, Readies, Refuses, dialog_step}
 use Rattle.exchange_defs.specs.ClientStep.{Pick, Act, Nothing, Sends, Asks, CloseChannels, AllSettled, Pushes, Hears, IsCut, client_after, act, push_after, pick_after, op_after, push_act, hear_after, hear_act, cut_after, cut_act}
 use Rattle.exchange_defs.specs.Network.{World, Event, Submit, Open, Push, Serve, Take, Cut, Drop, Restart, Crash, Wait, Finish, Conn, Sent, Received, Token, ForDialog, ForOp, ForAttach, happens, run, start, Settings, changed, later, may_open, may_serve, pushed_by, answer, absorbed, serve_front, absorb_front, take_reply, took_by, dialog_took, op_took, closed_by, cut_by, with_client, behind_reply, restarted, opened, dropped, transmitted, first_push, is_own, cut_off}
+use Rattle.exchange_defs.specs.Order.{Log}
 use Rattle.exchange_defs.specs.Runs.{is_newer, alters}
 use Rattle.exchange_defs.specs.Statements.{NeverAfterNewer, Newer}
 use Rattle.exchange_law.proofs.Doors.{either}
 use Rattle.server_law.specs.Fits.{Attached, GuidOpen, OpenIds, Given as GivenIds}
-use Rattle.session_law.specs.Sessions.{Ranks, LastRank, RankOnce, PendingUnranked, RankedUp, SequencesUp, DialogUp, PresentAccepted, MakingUnranked, is_ops}
+use Rattle.session_law.specs.Sessions.{Ranks, LastRank, RankOnce, PendingUnranked, RankedUp, SequencesUp, DialogUp, PresentAccepted, MakingUnranked, is_ops, is_dialog}
 use Rattle.order_law.specs.Newest.{Pair, LowSequences, Ranked, RankedChange, ReachedGiven, Held, Newest}
 use Rattle.order_law.proofs.Pairs.{Moves}
 use Rattle.order_law.proofs.Answers.{Facts, Given, facts}
@@ -177,3 +178,193 @@ absorb_newest w k x rest A b n f low =
         let e4 = put_new w.trace.session N m.session in let e5 = put_old w.trace.session N m.session i li in let e6 = put_new w.trace.sequence N m.sequence in let e7 = put_old w.trace.sequence N m.sequence i li in
         let old = in_order w m A b n f i o li (sym e2 ∙ is_there (put w.log.did N (is_own x.token && A.acted) N) o (put w.trace.altered N A.altered N) d) (sym e3 ∙ h) in
         rw (e4, e5, e6, e7) old
+
+first_of_list : (xs : List Sent) (x : Sent) (rest : List Sent) → xs ≡ x ∷ rest → slice_get xs 0 ≡ Some x
+first_of_list xs x rest e = rw e refl
+
+given_at : (w : World) (k : ℕ) (x : Sent) → slice_get (w.conns k).up 0 ≡ Some x → Below w → Newest w → Given w.server x.message
+given_at w k x h b n =
+    record {
+      low = n.low_sequences;
+      sequence = (b.sequences_up k 0 x h).0;
+      attached = λ o y e. (b.attached o y e).1;
+      named = λ c g o e. (b.open_ids o (b.guid_open c g o e).0).1;
+      ids = λ o e. (b.open_ids o e).1;
+    }
+
+front_at : (w : World) (k : ℕ) (x : Sent) → slice_get (w.conns k).up 0 ≡ Some x → Below w → Newest w → Front w x.message (answer w x)
+front_at w k x h b n =
+    record {
+      facts = facts w.server w.moment x.message x.message.command (given_at w k x h b n);
+      ranked = λ o e. by_kind (is_ops x.token) refl (answer w x).reached o e (λ d. let a = aloof w.server w.moment x.message x.message.command d in a.reached);
+      ranked_change = λ o e. by_kind (is_ops x.token) refl (answer w x).altered o e (λ d. let a = aloof w.server w.moment x.message x.message.command d in a.altered);
+    }
+  where
+    by_kind : (t : Bool) → is_ops x.token ≡ t → (a : Option ℕ) (o : ℕ) → a ≡ Some o → (is_dialog x.message.command ≡ true → a ≡ None) → 0 < w.client.rank x.message.session
+    by_kind true e a o s f = b.ranked_up k 0 x h e
+    by_kind false e a o s f = absurd (let z = f (b.dialog_up k 0 x h e).1 in grind arith)
+
+-- a world that differs in its connections and moment alone
+replied_newest : (w v : World) → v.log ≡ w.log → v.trace ≡ w.trace → v.client ≡ w.client → v.server ≡ w.server → Newest w → Newest v
+replied_newest w v l t c s n = kept_server w v (record { places = ap (λ x. x.places) l; did = ap (λ x. x.did) l; trace = t; rank = ap (λ x. x.rank) c }) s n
+
+serve_newest : (w : World) (k : ℕ) → Below w → Newest w → (xs : List Sent) → (w.conns k).up ≡ xs → Newest (serve_front w k xs)
+serve_newest w k b n [] e = n
+serve_newest w k b n (x ∷ rest) e =
+    let h = first_of_list (w.conns k).up x rest e in
+    replied_newest (absorbed w k x rest (answer w x)) (serve_front w k (x ∷ rest)) refl refl refl refl (absorb_newest w k x rest (answer w x) b n (front_at w k x h b n) (b.sequences_up k 0 x h).0)
+
+crash_newest : (w : World) (k : ℕ) → Below w → Newest w → (xs : List Sent) → (w.conns k).up ≡ xs → Newest (absorb_front w k xs)
+crash_newest w k b n [] e = n
+crash_newest w k b n (x ∷ rest) e = let h = first_of_list (w.conns k).up x rest e in absorb_newest w k x rest (answer w x) b n (front_at w k x h b n) (b.sequences_up k 0 x h).0
+
+-- ---- a restart
+
+restart_goes : (w : World) → (fold w.records).epoch ≡ w.server.epoch → GivenIds w.server → Goes w (restarted w)
+restart_goes w e g =
+    let b = blank_recovered w.server w.records in
+    record {
+      pair = λ x q o r l p st pr. absurd (let z = b.present x in grind arith);
+      ids_up = recovered_ids w.server w.records e g;
+      low = λ o. let z = b.sequence o in omega (arith, z);
+    }
+
+restart_newest : (w : World) → (fold w.records).epoch ≡ w.server.epoch → GivenIds w.server → Newest w → Newest (restarted w)
+restart_newest w e g n = kept w (restarted w) (record { places = refl; did = refl; trace = refl; rank = refl }) (restart_goes w e g) n
+
+-- ---- the client's events leave ranks alone, but where a session is accepted
+
+abbrev Ranks_same : Client → Client → Type 0
+Ranks_same c d = d.rank ≡ c.rank
+
+slotless_rank : (c : Client) (k : ℕ) (gs : List ℕ) → Ranks_same c (settle_no_slots c k gs)
+unfolding settle_no_slots
+slotless_rank c k [] = refl
+slotless_rank c k (g ∷ gs) = slotless_rank (settle_no_slot c k g) k gs ∙ either (Ranks_same c) (lacks_slot c k g) (record c { outcome = put c.outcome g (NoSlot (create_for c g)) }) c (λ _. refl) (λ _. refl)
+
+begun_rank : (c : Client) (k g i : ℕ) (b : Bool) → Ranks_same c (outstanding (if b then again c g else begin c g i) k g)
+begun_rank c k g i true = either (λ d. Ranks_same c (outstanding d k g)) (is_lock (c.op g)) _ _ (λ _. refl) (λ _. refl)
+begun_rank c k g i false = either (λ d. Ranks_same c (outstanding d k g)) (is_lock (c.op g)) _ _ (λ _. refl) (λ _. refl)
+
+op_rank : (c : Client) (k g i : ℕ) → Ranks_same c (op_after c k g i)
+op_rank c k g i =
+    either (Ranks_same c) (may_push c k g) _ _
+    (λ _. either (Ranks_same c) (goes_itself c g) _ _ (λ _. either (Ranks_same c) (has_its_slot c g i) _ _ (λ _. begun_rank c k g i (c.sent g)) (λ _. refl)) (λ _. refl))
+    (λ _. refl)
+
+pick_rank : (c : Client) (k : ℕ) (pick : Option Pick) → Ranks_same c (pick_after c k pick)
+pick_rank c k None = refl
+pick_rank c k (Some p) = op_rank c k p.op p.slot
+
+push_rank : (c : Client) (k : ℕ) (slotless : List ℕ) (pick : Option Pick) → Ranks_same c (push_after c k slotless pick)
+push_rank c k slotless pick = either (Ranks_same c) (c.ready k) _ _ (λ _. pick_rank (settle_no_slots c k slotless) k pick ∙ slotless_rank c k slotless) (λ _. refl)
+
+noted_rank : (c : Client) (g : ℕ) (body : Body) (o : Outcome) → Ranks_same c (noted c g o body)
+noted_rank c g body (WasOk reply) = either (Ranks_same c) (is_create (c.op g)) _ _ (λ _. refl) (λ _. either (Ranks_same c) (is_close (c.op g)) _ _ (λ _. refl) (λ _. refl))
+noted_rank c g body Unsettled = refl
+noted_rank c g body (WasRefused status) = refl
+noted_rank c g body (NoSlot n) = refl
+noted_rank c g body (NoOpen n) = refl
+noted_rank c g body (Unknown why) = refl
+
+full_rank : (d : Client) (g : ℕ) (asking : Bool) (status : ℕ) → Ranks_same d (noted_full d g asking status)
+full_rank d g asking status = either (Ranks_same d) (is_lock (d.op g) && (not asking && (status == disk_full))) _ _ (λ _. refl) (λ _. refl)
+
+settle_rank : (c : Client) (g : ℕ) (asking : Bool) (r : Reply) (place : ℕ) (o : Outcome) → Ranks_same c (settle c g asking r place o)
+settle_rank c g asking r place o =
+    let e = full_rank (noted c g o r.body) g asking r.status ∙ noted_rank c g r.body o in
+    either (Ranks_same c) (settles_open (c.op g)) _ (settled (noted_full (noted c g o r.body) g asking r.status) g o place) (λ _. e) (λ _. e)
+
+hearing_rank : (c : Client) (g : ℕ) (asking : Bool) (r : Reply) (place : ℕ) (h : Hearing) → Ranks_same c (hear c g asking r place h)
+hearing_rank c g asking r place (Settles o) = settle_rank c g asking r place o
+hearing_rank c g asking r place GoesAgain = refl
+hearing_rank c g asking r place Attaches = refl
+hearing_rank c g asking r place EndsSession = refl
+
+hear_rank : (c : Client) (k g : ℕ) (asking : Bool) (r : Reply) (place : ℕ) → Ranks_same c (hear_after c k g asking r place)
+hear_rank c k g asking r place = either (Ranks_same c) (is_awaited c k g asking) _ _ (λ _. hearing_rank c g asking r place (heard c g asking r)) (λ _. refl)
+
+cut_rank : (c : Client) (k : ℕ) → Ranks_same c (cut_after c k)
+cut_rank c k = either (Ranks_same c) (c.ready k) _ _ (λ _. either (Ranks_same c) (ends_at_cut c) _ _ (λ _. refl) (λ _. refl)) (λ _. refl)
+
+-- ---- events
+
+pushed_newest : (w : World) (k : ℕ) (c : Client) (a : Act) → Ranks_same w.client c → Newest w → Newest (pushed_by w k c a)
+pushed_newest w k c Nothing e n = kept_server w _ (record { places = refl; did = refl; trace = refl; rank = e }) refl n
+pushed_newest w k c (Sends g) e n = kept_server w (transmitted w k g c) (record { places = either (λ (l : Log). l.places ≡ w.log.places) (w.client.sent g) _ _ (λ _. refl) (λ _. refl); did = either (λ (l : Log). l.did ≡ w.log.did) (w.client.sent g) _ _ (λ _. refl) (λ _. refl); trace = refl; rank = e }) refl n
+pushed_newest w k c (Asks g) e n = kept_server w _ (record { places = refl; did = refl; trace = refl; rank = e }) refl n
+pushed_newest w k c CloseChannels e n = kept_server w _ (record { places = refl; did = refl; trace = refl; rank = e }) refl n
+pushed_newest w k c AllSettled e n = kept_server w _ (record { places = refl; did = refl; trace = refl; rank = e }) refl n
+
+closed_newest : (w : World) (c : Client) (a : Act) → Ranks_same w.client c → Newest w → Newest (with_client (closed_by w a) c)
+closed_newest w c Nothing e n = kept_server w _ (record { places = refl; did = refl; trace = refl; rank = e }) refl n
+closed_newest w c (Sends g) e n = kept_server w _ (record { places = refl; did = refl; trace = refl; rank = e }) refl n
+closed_newest w c (Asks g) e n = kept_server w _ (record { places = refl; did = refl; trace = refl; rank = e }) refl n
+closed_newest w c CloseChannels e n = kept_server w _ (record { places = refl; did = refl; trace = refl; rank = e }) refl n
+closed_newest w c AllSettled e n = kept_server w _ (record { places = refl; did = refl; trace = refl; rank = e }) refl n
+
+cut_newest : (w : World) (k : ℕ) (c : Client) (a : Act) → Ranks_same w.client c → Newest w → Newest (with_client (cut_by w k a) c)
+cut_newest w k c Nothing e n = kept_server w _ (record { places = refl; did = refl; trace = refl; rank = e }) refl n
+cut_newest w k c (Sends g) e n = kept_server w _ (record { places = refl; did = refl; trace = refl; rank = e }) refl n
+cut_newest w k c (Asks g) e n = kept_server w _ (record { places = refl; did = refl; trace = refl; rank = e }) refl n
+cut_newest w k c CloseChannels e n = kept_server w _ (record { places = refl; did = refl; trace = refl; rank = e }) refl n
+cut_newest w k c AllSettled e n = kept_server w _ (record { places = refl; did = refl; trace = refl; rank = e }) refl n
+
+-- a session is accepted whose rank was 0: no pair is of it
+other_rank : (w : World) (x r : ℕ) → w.client.rank w.client.pending ≡ 0 → 0 < w.client.rank x → put w.client.rank w.client.pending r x ≡ w.client.rank x
+other_rank w x r e l = elim (x == w.client.pending) as (λ b. x == w.client.pending ≡ b → put w.client.rank w.client.pending r x ≡ w.client.rank x) [
+  | true ↦ λ t. let z = eqb-true x w.client.pending t in absurd (let y = ap w.client.rank z in omega (arith, y, e, l))
+  | false ↦ λ t. grind arith
+] refl
+
+accepted_newest : (w v : World) (r : ℕ) → w.client.rank w.client.pending ≡ 0 → v.log ≡ w.log → v.trace ≡ w.trace → v.server ≡ w.server → v.client.rank ≡ put w.client.rank w.client.pending r → Newest w → Newest v
+accepted_newest w v r z l t s c n =
+    let u : World = record w { client = record w.client { rank = put w.client.rank w.client.pending r } } in
+    replied_newest' u v l t s c
+    (record {
+      ranked = λ i o lt h. let q = n.ranked i o lt h in subst (λ x. 0 < x) (sym (other_rank w (w.trace.session i) r z q)) q;
+      ranked_change = λ i o lt h. let q = n.ranked_change i o lt h in subst (λ x. 0 < x) (sym (other_rank w (w.trace.session i) r z q)) q;
+      reached_given = n.reached_given;
+      held = n.held;
+      low_sequences = n.low_sequences;
+      ordered = λ p i o lp li d h.
+          let e1 = other_rank w (w.trace.session i) r z (n.ranked i o (omega (arith, lp, li)) h) in let e2 = other_rank w (w.trace.session p) r z (n.ranked_change p o lp (is_there (w.log.did p) o (w.trace.altered p) d)) in
+          rw (e1, e2) (n.ordered p i o lp li d h);
+    })
+  where
+    is_there : (b : Bool) (o : ℕ) (a : Option ℕ) → (b && is_at o a) ≡ true → a ≡ Some o
+    is_there b o a e = grind arith
+
+    replied_newest' : (u v : World) → v.log ≡ u.log → v.trace ≡ u.trace → v.server ≡ u.server → v.client.rank ≡ u.client.rank → Newest u → Newest v
+    replied_newest' u v l t s c n = kept_server u v (record { places = ap (λ x. x.places) l; did = ap (λ x. x.did) l; trace = t; rank = c }) s n
+
+accepts_of : (t : Stage) (status : ℕ) → dialog_step t status ≡ Accepts → t ≡ SaidSecond false
+accepts_of Apart status e = absurd (cc)
+accepts_of (SaidNegotiate bound) status e = absurd (grind arith)
+accepts_of (SaidFirst bound) status e = absurd (grind arith)
+accepts_of (SaidSecond true) status e = absurd (grind arith)
+accepts_of (SaidSecond false) status e = refl
+accepts_of AskedTree status e = absurd (grind arith)
+
+dialog_newest : (w : World) (k : ℕ) (r : Reply) → PendingUnranked w.client → Newest w → (d : DialogStep) → dialog_step (w.client.stage k) r.status ≡ d → Newest (dialog_took w k r d)
+dialog_newest w k r p n (GoesOn stage) e = kept_server w _ (record { places = refl; did = refl; trace = refl; rank = refl }) refl n
+dialog_newest w k r p n Accepts e = accepted_newest w _ (w.client.accepts + 1) (p k (accepts_of (w.client.stage k) r.status e)) refl refl refl refl n
+dialog_newest w k r p n Binds e = kept_server w _ (record { places = refl; did = refl; trace = refl; rank = refl }) refl n
+dialog_newest w k r p n Readies e = kept_server w _ (record { places = refl; did = refl; trace = refl; rank = refl }) refl n
+dialog_newest w k r p n (Refuses status) e = kept_server w _ (record { places = refl; did = refl; trace = refl; rank = refl }) refl n
+
+took_newest : (w : World) (k : ℕ) (r : Reply) (place : ℕ) → PendingUnranked w.client → Newest w → (t : Token) → Newest (took_by w k r place t)
+took_newest w k r place p n ForDialog = dialog_newest w k r p n (dialog_step (w.client.stage k) r.status) refl
+took_newest w k r place p n (ForOp g) = closed_newest w _ (hear_act w.client k g false r) (hear_rank w.client k g false r place) n
+took_newest w k r place p n (ForAttach g) = closed_newest w _ (hear_act w.client k g true r) (hear_rank w.client k g true r place) n
+
+take_newest : (w : World) (k : ℕ) → PendingUnranked w.client → Newest w → (ys : List Received) → Newest (take_reply w k ys)
+take_newest w k p n [] = n
+take_newest w k p n (y ∷ rest) = took_newest (behind_reply w k rest) k y.reply y.place p (replied_newest w (behind_reply w k rest) refl refl refl refl n) y.token
+
+later_newest : (w : World) (n : ℕ) → Newest w → Newest (later w n)
+later_newest w n x = replied_newest w (later w n) refl refl refl refl x
+
+crashes : (w : World) (k : ℕ) (kept : Bool) → Below w → ((xs : List Sent) → (w.conns k).up ≡ xs → (fold (absorb_front w k xs).records).epoch ≡ (absorb_front w k xs).server.epoch × GivenIds (absorb_front w k xs).server) → Newest w → Newest (if kept then restarted (absorb_front w k (w.conns k).up) else restarted w)
+crashes w k true b f n = restart_newest (absorb_front w k (w.conns k).up) (f (w.conns k).up refl).0 (f (w.conns k).up refl).1 (crash_newest w k b n (w.conns k).up refl)
+crashes w k false b f n = restart_newest w b.recorded b.given n
