@@ -1,22 +1,20 @@
 -- What an answer to a message does to the pairs that reached the opens, for whichever check answered.
-use Rattle.std.proofs.lemmas.Bool.{eqb-false}
-use Rattle.std.proofs.Common.{eqb-true, ◌≡◌, ◌≢◌, ℕ, ◌+◌, ◌*◌, ◌≤◌, ◌<◌, ◌==◌, nat_le, Bool, true, false, not, ◌&&◌, ◌||◌, if◌then◌else◌, List, [], ◌∷◌, ◌++◌, refl, arith, sym, subst, ◌∙◌, ap, Option, Some, None, is_some, ◌⊎◌, inl, inr}
-use Rattle.exchange_defs.specs.Table.{put, is_at}
+use Rattle.std.proofs.Common.{◌≡◌, ◌≢◌, ℕ, ◌+◌, ◌≤◌, true, false, List, refl, arith, sym, subst, ◌∙◌, ap, Option, Some, None, is_some, inl, inr}
+use Rattle.exchange_defs.specs.Table.{put}
 use Rattle.exchange_defs.specs.Commands.{Command, Aside, Unreadable, Setup, Logoff, TreeConnect, TreeDisconnect, Create, Close, Flush, Read, Write, Lock, Ioctl, ListDirectory, QueryFile, QueryVolume, SetInfo, CreateRequest, SetupRequest}
-use Rattle.exchange_defs.specs.State.{Server, Message, Heard, Record, Answer, Body}
-use Rattle.exchange_defs.specs.Opens.{id_of, is_of_session, add_open, leave_open, drop_open, marked_by}
+use Rattle.exchange_defs.specs.State.{Server, Message, Heard, Record, Answer}
+use Rattle.exchange_defs.specs.Opens.{id_of, is_of_session, leave_open, drop_open, marked_by}
 use Rattle.exchange_defs.specs.CheckOpen.{is_late, file_of}
 use Rattle.exchange_defs.specs.CheckSetup.{is_new}
 use Rattle.exchange_defs.specs.Check.{check}
-use Rattle.exchange_defs.specs.Effects.{apply, reach, reaches, attached, attach, attaches, keep_slot, set_ranges, change_file, make_open, file_made, open_row, new_file, next_open, end_session, end_if_named, add_session, keep_closed}
+use Rattle.exchange_defs.specs.Effects.{apply, reach, reaches, attached, attaches, set_ranges, make_open, next_open, end_if_named, add_session, keep_closed}
 use Rattle.exchange_defs.specs.Verdict.{Verdict, Refuse, Give, KeepRefusal, Repeat, Attach, Make, TurnDown, Tell, Show, KeepSlot, PutRanges, Alter, Shut, Challenge, ChallengeBinding, Begin, Join, EndSession, AddTree, DropTree}
-use Rattle.exchange_defs.specs.Step.{step, with_deadlines, due, expire, without_room}
+use Rattle.exchange_defs.specs.Step.{step, with_deadlines, due, expire}
 use Rattle.exchange_defs.specs.Network.{answer_to}
-use Rattle.exchange_law.proofs.Doors.{either, by_verdict, recorded, Before, Finds}
-use Rattle.server_law.specs.Fits.{Attached, GuidOpen, OpenIds}
+use Rattle.exchange_law.proofs.Doors.{by_verdict, recorded, Before, Finds}
 use Rattle.order_law.specs.Newest.{Pair, LowSequences}
-use Rattle.order_law.proofs.Sound.{Sound, SoundBy, sound, sound_without_room}
-use Rattle.order_law.proofs.Pairs.{shut_left, Alike, Moves, same, moves_alike, moves_on, leave_moves, expire_moves, shut_moves, in_time, reach_moves, attached_moves, slot_alike, change_alike, file_alike, end_moves, end_named_moves, begun_pair, deadlines_moves, not_some, gone_alike, marked_alike, mark_alike}
+use Rattle.order_law.proofs.Sound.{Sound, sound, sound_without_room}
+use Rattle.order_law.proofs.Pairs.{shut_left, Alike, Moves, same, moves_alike, moves_on, expire_moves, shut_moves, in_time, reach_moves, attached_moves, slot_alike, change_alike, file_alike, end_moves, end_named_moves, begun_pair, deadlines_moves, gone_alike, marked_alike, mark_alike}
 
 -- every pair is kept of which the session isn't in the making where the message came from
 pub record Facts (s : Server) (m : Message) (A : Answer) : Type 0 where
@@ -84,9 +82,11 @@ alter_facts s m o A g on late h r a =
       ids = let e = same_ids s A.server k in omega (arith, e);
       low = k.low g.low;
       reached = λ p e. let own = own_pair s m o g on p (sym r ∙ e) in (let i = own.0 in let j = same_ids s A.server k in omega (arith, i, j), h.pair m.session m.sequence p own.1);
-      altered = λ p e. let z : p ≡ o = some_same p o (sym e ∙ a) in
-          (g.attached o m.session at.1, λ x q f pr. let old = f (subst (λ p. s.standing p ≡ true) (sym z) at.0) pr in
-          (some_same x m.session (sym (subst (λ p. s.at p ≡ Some x) z old.0) ∙ at.1), let l : q ≤ s.sequence o = subst (λ p. q ≤ s.sequence p) z old.1 in omega (arith, l, t)));
+      altered = λ p e. let z : p ≡ o = some_same p o (sym e ∙ a) in (
+        g.attached o m.session at.1,
+        λ x q f pr. let old = f (subst (λ p. s.standing p ≡ true) (sym z) at.0) pr in
+            (some_same x m.session (sym (subst (λ p. s.at p ≡ Some x) z old.0) ∙ at.1), let l : q ≤ s.sequence o = subst (λ p. q ≤ s.sequence p) z old.1 in omega (arith, l, t)),
+      );
     }
   where
     some_same : (x y : ℕ) → Some x ≡ Some y → x ≡ y

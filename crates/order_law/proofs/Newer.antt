@@ -1,48 +1,31 @@
 -- No write or set-info acts after a newer pair reached its open: each event of a run keeps it.
 use Rattle.std.proofs.lemmas.Bool.{eqb-false}
 use Rattle.std.proofs.lemmas.Bool.Decides.{nat_tests}
-use Rattle.std.proofs.Common.{eqb-true, ◌≡◌, ◌≢◌, ℕ, ◌+◌, ◌≤◌, ◌<◌, ◌==◌, nat_lt, nat_le, Bool, true, false, not, ◌&&◌, ◌||◌, if◌then◌else◌, List, [], ◌∷◌, ◌++◌, refl, arith, sym, subst, ◌∙◌, ap, Option, Some, None, is_some, slice_get, ◌⊎◌, inl, inr}
+use Rattle.std.proofs.Common.{eqb-true, ◌≡◌, ◌≢◌, ℕ, ◌+◌, ◌*◌, ◌≤◌, ◌<◌, ◌==◌, nat_lt, Bool, true, false, not, ◌&&◌, ◌||◌, if◌then◌else◌, List, [], ◌∷◌, refl, arith, sym, subst, ◌∙◌, ap, Option, Some, None, slice_get}
 use Rattle.exchange_defs.specs.Table.{put, is_at, is_filled}
-use Rattle.exchange_defs.specs.Status.{disk_full, user_session_deleted}
-use Rattle.exchange_defs.specs.State.{Server, Message, Reply, Body, Record, Answer, Accept, End}
+use Rattle.exchange_defs.specs.Status.{disk_full}
+use Rattle.exchange_defs.specs.State.{Server, Message, Reply, Body, Answer}
 use Rattle.exchange_defs.specs.Opens.{id_of}
 use Rattle.exchange_defs.specs.CheckSetup.{is_new}
-use Rattle.exchange_defs.specs.Step.{step}
-use Rattle.exchange_defs.specs.Fold.{fold, recovered}
-use Rattle.exchange_defs.specs.Operations.{Op, Outcome, Unsettled, WasOk, WasRefused, NoSlot, NoOpen, Unknown, NoSession, is_create, is_close, is_lock, charge, weight}
-use Rattle.exchange_defs.specs.Client.{Client, Stage, may_take, may_push, has_its_slot, goes_itself, lacks_slot, settle_no_slot, settle_no_slots, begun, outstanding, asked, ends_at_cut, begin, again, take_slot, create_for, SaidSecond, SaidNegotiate, SaidFirst, Apart, AskedTree}
+use Rattle.exchange_defs.specs.Fold.{fold}
+use Rattle.exchange_defs.specs.Operations.{Outcome, Unsettled, WasOk, WasRefused, NoSlot, NoOpen, Unknown, is_create, is_close, is_lock}
+use Rattle.exchange_defs.specs.Client.{Client, Stage, may_take, may_push, has_its_slot, goes_itself, lacks_slot, settle_no_slot, settle_no_slots, outstanding, ends_at_cut, begin, again, create_for, SaidSecond, SaidNegotiate, SaidFirst, Apart, AskedTree}
 use Rattle.exchange_defs.specs.Settling.{Heard as Hearing, Settles, GoesAgain, Attaches, EndsSession, heard, hear, is_awaited, settle, settled, noted, noted_full, settles_open}
 use Rattle.exchange_defs.specs.Dialogs.{DialogStep, GoesOn, Accepts, Binds, Readies, Refuses, dialog_step}
-use Rattle.exchange_defs.specs.ClientStep.{Pick, Act, Nothing, Sends, Asks, CloseChannels, AllSettled, Pushes, Hears, IsCut, client_after, act, push_after, pick_after, op_after, push_act, hear_after, hear_act, cut_after, cut_act}
-use Rattle.exchange_defs.specs.Network.{World, Event, Submit, Open, Push, Serve, Take, Cut, Drop, Restart, Crash, Wait, Finish, Conn, Sent, Received, Token, ForDialog, ForOp, ForAttach, happens, run, start, Settings, changed, later, may_open, may_serve, pushed_by, answer, absorbed, serve_front, absorb_front, take_reply, took_by, dialog_took, op_took, closed_by, cut_by, with_client, behind_reply, restarted, opened, dropped, transmitted, first_push, is_own, cut_off}
+use Rattle.exchange_defs.specs.ClientStep.{Pick, Act, Nothing, Sends, Asks, CloseChannels, AllSettled, push_after, pick_after, op_after, push_act, hear_after, hear_act, cut_after, cut_act}
+use Rattle.exchange_defs.specs.Network.{World, Event, Submit, Open, Push, Serve, Take, Cut, Drop, Restart, Crash, Wait, Finish, Sent, Received, Token, ForDialog, ForOp, ForAttach, happens, run, start, Settings, blank_server, later, may_open, may_serve, pushed_by, answer, absorbed, serve_front, absorb_front, take_reply, took_by, dialog_took, closed_by, cut_by, with_client, behind_reply, restarted, opened, dropped, transmitted, is_own}
 use Rattle.exchange_defs.specs.Order.{Log}
 use Rattle.exchange_defs.specs.Runs.{is_newer, alters}
-use Rattle.exchange_defs.specs.Statements.{NeverAfterNewer, Newer}
+use Rattle.exchange_defs.specs.Statements.{Newer}
 use Rattle.exchange_law.proofs.Doors.{either}
-use Rattle.server_law.specs.Fits.{Attached, GuidOpen, OpenIds, Given as GivenIds}
-use Rattle.session_law.specs.Sessions.{Ranks, LastRank, RankOnce, PendingUnranked, RankedUp, SequencesUp, DialogUp, PresentAccepted, MakingUnranked, is_ops, is_dialog}
-use Rattle.order_law.specs.Newest.{Pair, LowSequences, Ranked, RankedChange, ReachedGiven, Held, Newest}
+use Rattle.exchange_law.proofs.Reached.{on_every_run, one_event_on}
+use Rattle.server_law.specs.Fits.{Given as GivenIds}
+use Rattle.session_law.specs.Sessions.{PendingUnranked, MakingUnranked, is_ops, is_dialog}
+use Rattle.order_law.specs.Newest.{Pair, LowSequences, Newest, Below, BelowAll}
 use Rattle.order_law.proofs.Pairs.{Moves}
 use Rattle.order_law.proofs.Answers.{Facts, Given, facts}
 use Rattle.order_law.proofs.Others.{accept_moves, end_moves_all, blank_recovered, recovered_ids}
 use Rattle.order_law.proofs.Calm.{aloof}
-
--- the parts of the layers below that it stands on
-pub record Below (w : World) : Type 0 where
-  pub attached : Attached w.server
-  pub guid_open : GuidOpen w.server
-  pub open_ids : OpenIds w.server
-  pub given : GivenIds w.server
-  pub ranks : Ranks w.client
-  pub last_rank : LastRank w.client
-  pub rank_once : RankOnce w.client
-  pub pending_unranked : PendingUnranked w.client
-  pub ranked_up : RankedUp w.client w.conns
-  pub sequences_up : SequencesUp w.client w.conns
-  pub dialog_up : DialogUp w.conns
-  pub present_accepted : PresentAccepted w.client w.server
-  pub making_unranked : MakingUnranked w.client w.server
-  pub recorded : (fold w.records).epoch ≡ w.server.epoch
 
 -- what is remembered is the same, and so are the ranks
 record Alike (w v : World) : Type 0 where
@@ -150,10 +133,10 @@ absorb_newest w k x rest A b n f low =
           (λ h. (f.facts.reached o (sym (put_new w.trace.reached N A.reached) ∙ h)).0);
       held = λ i o l. split (λ j. v.trace.reached j ≡ Some o → Pair A.server (v.trace.session j) (v.trace.sequence j) o) N i l
           (λ lt h. let h' = sym (put_old w.trace.reached N A.reached i lt) ∙ h in
-              subst (λ s. Pair A.server s (v.trace.sequence i) o) (sym (put_old w.trace.session N m.session i lt)) (subst (λ q. Pair A.server (w.trace.session i) q o) (sym (put_old w.trace.sequence N m.sequence i lt))
-              (f.facts.pair (w.trace.session i) (w.trace.sequence i) o (new_pair w (w.trace.session i) m.connection b.making_unranked (n.ranked i o lt h')) (n.reached_given i o lt h') (n.held i o lt h'))))
+          subst (λ s. Pair A.server s (v.trace.sequence i) o) (sym (put_old w.trace.session N m.session i lt)) (subst (λ q. Pair A.server (w.trace.session i) q o) (sym (put_old w.trace.sequence N m.sequence i lt))
+          (f.facts.pair (w.trace.session i) (w.trace.sequence i) o (new_pair w (w.trace.session i) m.connection b.making_unranked (n.ranked i o lt h')) (n.reached_given i o lt h') (n.held i o lt h'))))
           (λ h. subst (λ s. Pair A.server s (v.trace.sequence N) o) (sym (put_new w.trace.session N m.session)) (subst (λ q. Pair A.server m.session q o) (sym (put_new w.trace.sequence N m.sequence))
-              (f.facts.reached o (sym (put_new w.trace.reached N A.reached) ∙ h)).1));
+          (f.facts.reached o (sym (put_new w.trace.reached N A.reached) ∙ h)).1));
       low_sequences = f.facts.low;
       ordered = λ p i o l lt. split (λ j. i < j → alters v j o ≡ true → v.trace.reached i ≡ Some o → is_newer v i j ≡ false) N p l
           (λ lp li d h. old_order p i o lp li d h)
@@ -368,3 +351,69 @@ later_newest w n x = replied_newest w (later w n) refl refl refl refl x
 crashes : (w : World) (k : ℕ) (kept : Bool) → Below w → ((xs : List Sent) → (w.conns k).up ≡ xs → (fold (absorb_front w k xs).records).epoch ≡ (absorb_front w k xs).server.epoch × GivenIds (absorb_front w k xs).server) → Newest w → Newest (if kept then restarted (absorb_front w k (w.conns k).up) else restarted w)
 crashes w k true b f n = restart_newest (absorb_front w k (w.conns k).up) (f (w.conns k).up refl).0 (f (w.conns k).up refl).1 (crash_newest w k b n (w.conns k).up refl)
 crashes w k false b f n = restart_newest w b.recorded b.given n
+
+-- the same front served and absorbed leaves one server
+served_server : (w : World) (k : ℕ) (xs : List Sent) → (serve_front w k xs).server ≡ (absorb_front w k xs).server
+served_server w k [] = refl
+served_server w k (x ∷ rest) = refl
+
+served_records : (w : World) (k : ℕ) (xs : List Sent) → (serve_front w k xs).records ≡ (absorb_front w k xs).records
+served_records w k [] = refl
+served_records w k (x ∷ rest) = refl
+
+if_true : {X : Type 0} (b : Bool) (x y : X) → b ≡ true → (if b then x else y) ≡ x
+if_true b x y e = grind arith
+
+behind_crash : (w : World) (k : ℕ) → may_serve w k ≡ true → Below (happens w (Serve k)) → (xs : List Sent) → (w.conns k).up ≡ xs
+    → (fold (absorb_front w k xs).records).epoch ≡ (absorb_front w k xs).server.epoch × GivenIds (absorb_front w k xs).server
+behind_crash w k may b xs e =
+    let v = subst Below (if_true (may_serve w k) (later (serve_front w k (w.conns k).up) 1) w may) b in (
+      subst (λ s. (fold (absorb_front w k xs).records).epoch ≡ s.epoch) (served_server w k xs) (subst (λ rs. (fold rs).epoch ≡ (serve_front w k xs).server.epoch) (served_records w k xs) (subst (λ ys. (fold (serve_front w k ys).records).epoch ≡ (serve_front w k ys).server.epoch) e v.recorded)),
+      subst GivenIds (served_server w k xs) (subst (λ ys. GivenIds (serve_front w k ys).server) e v.given),
+    )
+
+pub keeps : (w : World) (e : Event) → Below w → ((k : ℕ) → Below (happens w (Serve k))) → Newest w → Newest (happens w e)
+keeps w (Submit g op) b more n = later_newest _ 1 (kept_server w _ (record { places = refl; did = refl; trace = refl; rank = either (Ranks_same w.client) (may_take w.client g op) _ _ (λ _. refl) (λ _. refl) }) refl n)
+keeps w (Open k) b more n =
+    either Newest (may_open w k) _ _
+    (λ _. later_newest _ 1 (kept w (opened w k) (record { places = refl; did = refl; trace = refl; rank = refl }) (goes_moves w (opened w k) (accept_moves w.server w.moment k) n.low_sequences) n)) (λ _. n)
+keeps w (Push k slotless pick) b more n =
+    either Newest (w.client.ready k) _ _
+    (λ _. later_newest _ 1 (pushed_newest w k (push_after w.client k slotless pick) (push_act w.client k slotless pick) (push_rank w.client k slotless pick) n)) (λ _. n)
+keeps w (Serve k) b more n = either Newest (may_serve w k) _ _ (λ _. later_newest _ 1 (serve_newest w k b n (w.conns k).up refl)) (λ _. n)
+keeps w (Take k) b more n = either Newest ((w.conns k).client_open && is_filled (w.conns k).down) _ _ (λ _. later_newest _ 1 (take_newest w k b.pending_unranked n (w.conns k).down)) (λ _. n)
+keeps w (Cut k) b more n =
+    either Newest (w.conns k).client_open _ _
+    (λ _. later_newest _ 1 (either Newest (w.client.ready k) _ _ (λ _. cut_newest w k (cut_after w.client k) (cut_act w.client k) (cut_rank w.client k) n)
+    (λ _. kept_server w _ (record { places = refl; did = refl; trace = refl; rank = refl }) refl n))) (λ _. n)
+keeps w (Drop k) b more n =
+    either Newest (w.conns k).server_open _ _
+    (λ _. later_newest _ 1 (kept w (dropped w k) (record { places = refl; did = refl; trace = refl; rank = refl }) (goes_moves w (dropped w k) (end_moves_all w.server w.moment k) n.low_sequences) n)) (λ _. n)
+keeps w Restart b more n = later_newest _ 1 (restart_newest w b.recorded b.given n)
+keeps w (Crash k kept) b more n =
+    either Newest (may_serve w k) _ _ (λ may. later_newest _ 1 (crashes w k kept b (behind_crash w k may (more k)) n)) (λ _. n)
+keeps w (Wait m) b more n = later_newest w (10000 * m) n
+keeps w (Finish refusal) b more n = either Newest (not w.client.live) _ _ (λ _. later_newest _ 1 (kept_server w _ (record { places = refl; did = refl; trace = refl; rank = refl }) refl n)) (λ _. n)
+
+-- ---- every run, where the layers below hold on every run
+
+begins : (z : Settings) → Newest (start z)
+begins z =
+    let b = blank_recovered (blank_server z) [] in
+    record {
+      ranked = λ i o l. absurd (omega (arith, l));
+      ranked_change = λ i o l. absurd (omega (arith, l));
+      reached_given = λ i o l. absurd (omega (arith, l));
+      held = λ i o l. absurd (omega (arith, l));
+      low_sequences = λ o. let z = b.sequence o in omega (arith, z);
+      ordered = λ p i o l. absurd (omega (arith, l));
+    }
+
+below_next : (z : Settings) → BelowAll z → (es : List Event) (e : Event) → Below (happens (run es (start z)) e)
+below_next z all es e = one_event_on (λ w a. Below w) z all es e
+
+pub newest : (z : Settings) → BelowAll z → (es : List Event) → Newest (run es (start z))
+newest z all es = on_every_run (λ w a. Newest w) z (begins z) (λ ds e n. keeps (run ds (start z)) e (all ds) (λ k. below_next z all ds (Serve k)) n) es
+
+pub newer : ((z : Settings) → BelowAll z) → Newer
+newer all z es = (newest z (all z) es).ordered

@@ -1,20 +1,18 @@
 -- What the server's other steps do to the pairs that reached opens: a connection that is made or ends, and a restart.
-use Rattle.std.proofs.Common.{◌≡◌, ℕ, ◌+◌, ◌*◌, ◌≤◌, nat_le, nat_lt, ◌==◌, max, Bool, true, false, not, ◌&&◌, ◌||◌, if◌then◌else◌, List, [], ◌∷◌, ◌++◌, length, refl, arith, sym, subst, ◌∙◌, ap, Option, Some, None, is_some, ◌⊎◌, inl, inr}
-use Rattle.exchange_defs.specs.Table.{put}
+use Rattle.std.proofs.Common.{◌≡◌, ℕ, ◌+◌, ◌≤◌, nat_le, nat_lt, ◌==◌, Bool, true, false, not, ◌&&◌, ◌||◌, List, [], ◌∷◌, ◌++◌, length, refl, arith, ◌∙◌, ap, Option, Some, None}
 use Rattle.exchange_defs.specs.State.{Server, Accept, End, ServerEvent, Record, Entry, Answer, NewOpen, EpochRecord, VersionRecord, CreateRecord, WriteRecord, EndRecord, BasicRecord, DeleteRecord, RenameRecord, RemoveRecord, LockRecord, ShutRecord, ExpireRecord}
 use Rattle.exchange_defs.specs.Records.{fits, origin_at}
 use Rattle.exchange_defs.specs.Opens.{id_of, max_ids, without_gone, drop_open, marked_by}
 use Rattle.exchange_defs.specs.Ranges.{RangeAnswer, Stands, Denied, change_ranges}
-use Rattle.exchange_defs.specs.Effects.{keep_slot, set_ranges}
+use Rattle.exchange_defs.specs.Effects.{set_ranges}
 use Rattle.exchange_defs.specs.CheckOpen.{file_of}
-use Rattle.exchange_defs.specs.Step.{step, table, where_it_fits, carried_out, expiring, behind_expiry, written_down, with_deadlines, due, expire, expire_records, connection_of, ruling, ruling_without_room, Ruling, Says, TakesIn, TurnsAway, TakesOut, TakesAllOut, max_connections, max_marks, add_mark}
-use Rattle.exchange_defs.specs.Fold.{fold, fold_from, with_record, begin_epoch, sweep, set_version, restore, created_file, lock_recorded, lock_granted, shut_recorded, recovered, recovery_records, nothing_yet, may_create, may_have_open, is_file, may_rename, may_remove}
+use Rattle.exchange_defs.specs.Step.{step, table, carried_out, expiring, with_deadlines, due, expire, expire_records, connection_of, ruling, ruling_without_room, Ruling, Says, TakesIn, TurnsAway, TakesOut, TakesAllOut, max_connections, max_marks}
+use Rattle.exchange_defs.specs.Fold.{fold, fold_from, with_record, begin_epoch, sweep, set_version, restore, created_file, lock_granted, shut_recorded, recovered, recovery_records, nothing_yet, may_create, may_have_open, is_file, may_rename, may_remove}
 use Rattle.exchange_defs.specs.Status.{success}
 use Rattle.exchange_defs.specs.Content.{is_empty}
 use Rattle.exchange_defs.specs.Commands.{all_lock, all_unlock}
 use Rattle.exchange_defs.specs.Files.{root, exists, passes_room}
 use Rattle.exchange_law.proofs.Doors.{either}
-use Rattle.order_law.specs.Newest.{Pair, LowSequences}
 use Rattle.order_law.proofs.Pairs.{Alike, Moves, same, moves_alike, moves_on, expire_moves, deadlines_moves, take_out_moves, gone_alike, marked_alike, mark_alike, slot_alike}
 
 -- ---- a connection that is made or ends

@@ -1,17 +1,16 @@
 -- What the server does keeps every pair that reached an open: while the open stands and the pair's session is there, the
 -- open is attached in that session, at this sequence or a newer one.
-use Rattle.std.proofs.lemmas.Bool.{eqb-false}
 use Rattle.std.proofs.lemmas.Bool.Decides.{nat_tests}
-use Rattle.std.proofs.Common.{eqb-true, ◌≡◌, ◌≢◌, ℕ, ◌+◌, ◌*◌, ◌-◌, ◌%◌, ◌≤◌, ◌<◌, ◌==◌, nat_le, nat_lt, Bool, true, false, not, ◌&&◌, ◌||◌, if◌then◌else◌, List, [], ◌∷◌, ◌++◌, refl, arith, sym, subst, ◌∙◌, ap, Option, Some, None, is_some, ◌⊎◌, inl, inr}
-use Rattle.exchange_defs.specs.Table.{put, put2, is_at}
+use Rattle.std.proofs.Common.{◌≡◌, ◌≢◌, ℕ, ◌≤◌, nat_lt, Bool, true, false, not, ◌&&◌, List, refl, arith, ◌∙◌, ap, Option, Some, None, is_some}
+use Rattle.exchange_defs.specs.Table.{put}
 use Rattle.exchange_defs.specs.Commands.{CreateRequest, SetupRequest, deletes_on_close}
-use Rattle.exchange_defs.specs.State.{Server, Message, Open, Range, Making}
-use Rattle.exchange_defs.specs.Files.{mark_file, remove_file, empty_file, make_file}
-use Rattle.exchange_defs.specs.Opens.{id_of, add_open, drop_open, marked_by, leave_open, without_gone, goes, is_of_session, with_guid}
+use Rattle.exchange_defs.specs.State.{Server, Message, Making}
+use Rattle.exchange_defs.specs.Files.{mark_file, remove_file}
+use Rattle.exchange_defs.specs.Opens.{drop_open, marked_by, leave_open, without_gone, goes, with_guid}
 use Rattle.exchange_defs.specs.CheckCreate.{empties}
 use Rattle.exchange_defs.specs.CheckOpen.{is_stale, is_late, is_slot}
 use Rattle.exchange_defs.specs.CheckSetup.{is_new}
-use Rattle.exchange_defs.specs.Effects.{reach, attach, attached, keep_slot, keep_closed, file_made, make_open, next_open, change_file, end_session, end_if_named, add_session, leaves, cleared, guid_staying}
+use Rattle.exchange_defs.specs.Effects.{reach, attach, attached, keep_slot, keep_closed, file_made, change_file, end_session, end_if_named, add_session, leaves, cleared, guid_staying}
 use Rattle.exchange_defs.specs.Verdict.{Change, PutBytes, PutEnd, PutBasic, PutMark, PutPath, PutNothing}
 use Rattle.exchange_defs.specs.Step.{with_deadlines, expire, add_mark, take_out, forget_connection, ends_with}
 use Rattle.exchange_law.proofs.Doors.{either}

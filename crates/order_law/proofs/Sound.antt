@@ -1,16 +1,16 @@
 -- What the checks have looked at, by their verdict.
-use Rattle.std.proofs.Common.{◌≡◌, ℕ, ◌==◌, nat_le, nat_lt, ◌+◌, Bool, true, false, not, ◌&&◌, ◌||◌, if◌then◌else◌, List, [], ◌∷◌, refl, Option, Some, None, is_some, ◌⊎◌, inl, inr, subst, sym, length}
+use Rattle.std.proofs.Common.{◌≡◌, ℕ, ◌==◌, nat_le, nat_lt, ◌+◌, Bool, true, false, not, ◌&&◌, ◌||◌, List, [], ◌∷◌, refl, Option, Some, None, is_some, length}
 use Rattle.exchange_defs.specs.Table.{is_at}
-use Rattle.exchange_defs.specs.Status.{success, user_session_deleted, file_closed, disk_full}
+use Rattle.exchange_defs.specs.Status.{success, disk_full}
 use Rattle.exchange_defs.specs.Commands.{Command, Aside, Unreadable, Setup, Logoff, TreeConnect, TreeDisconnect, Create, Close, Flush, Read, Write, Lock, Ioctl, ListDirectory, QueryFile, QueryVolume, SetInfo, CreateRequest, Durable, Reconnect, SetupRequest, Shows, Begins, Bad, Refused, Logon, Setting, SetBasic, Rename, SetDelete, SetAllocation, SetEnd, Element, form, is_setup, no_file}
-use Rattle.exchange_defs.specs.State.{Server, Message, Body, Empty, Range, Named}
-use Rattle.exchange_defs.specs.Ranges.{RangeAnswer, Stands, Denied, change_ranges}
+use Rattle.exchange_defs.specs.State.{Server, Message, Body, Empty, Named}
+use Rattle.exchange_defs.specs.Ranges.{RangeAnswer, Stands, Denied}
 use Rattle.exchange_defs.specs.Opens.{is_of_session}
 use Rattle.exchange_defs.specs.Files.{find}
 use Rattle.exchange_defs.specs.Verdict.{Verdict, Refuse, Give, KeepRefusal, Repeat, Attach, Make, TurnDown, Tell, Show, KeepSlot, PutRanges, Alter, Shut, Challenge, ChallengeBinding, Begin, Join, EndSession, AddTree, DropTree, Change, PutBasic, PutPath, PutMark, PutEnd}
-use Rattle.exchange_defs.specs.CheckCreate.{refused_by, refused_create, after_names, new_check, live_check, refusal_check, guid_check, reconnect_check, durable_check, reconnect_or_create, create_check}
-use Rattle.exchange_defs.specs.CheckOpen.{is_late, alter, timely_write, write_check, read_check, turn_down_lock, range_check, new_lock_check, slot_check, lock_check, named_change, rename_change, size_change, setting_check, set_check, flush_check, close_check, file_query_check, volume_query_check, listing_of, list_from, list_check, ioctl_check, free_ioctl_check}
-use Rattle.exchange_defs.specs.CheckSetup.{is_new, session_check, second_token, first_token, granted_session, setup_check, binding_check, live_binding, binding_token, second_binding, first_binding, granted_binding, tree_check, tree_in}
+use Rattle.exchange_defs.specs.CheckCreate.{refused_by, after_names, new_check, live_check, refusal_check, guid_check, reconnect_check, durable_check, reconnect_or_create}
+use Rattle.exchange_defs.specs.CheckOpen.{is_late, alter, write_check, read_check, turn_down_lock, range_check, slot_check, named_change, rename_change, size_change, setting_check, set_check, listing_of, ioctl_check, free_ioctl_check}
+use Rattle.exchange_defs.specs.CheckSetup.{is_new, session_check, second_token, first_token, granted_session, setup_check, binding_check, live_binding, binding_token, second_binding, first_binding, tree_check, tree_in}
 use Rattle.exchange_defs.specs.Check.{has_session, on_open, tree_command, in_tree, with_tree, command_check, formed, owed, check}
 use Rattle.exchange_defs.specs.Step.{without_room}
 use Rattle.exchange_defs.specs.Commands.{deletes_on_close}

@@ -1,9 +1,12 @@
 -- What holds of the pairs of session and sequence that reached an open, in every world that a run leads to.
-use Rattle.std.specs.Prelude.{◌≡◌, ℕ, ◌≤◌, ◌<◌, true, Some}
+use Rattle.std.specs.Prelude.{List, ◌≡◌, ℕ, ◌≤◌, ◌<◌, true, Some}
 use Rattle.exchange_defs.specs.State.{Server}
 use Rattle.exchange_defs.specs.Opens.{id_of}
-use Rattle.exchange_defs.specs.Network.{World}
+use Rattle.exchange_defs.specs.Fold.{fold}
+use Rattle.exchange_defs.specs.Network.{World, Event, Settings, run, start}
 use Rattle.exchange_defs.specs.Statements.{NeverAfterNewer}
+use Rattle.server_law.specs.Fits.{Attached, GuidOpen, OpenIds, Given as GivenIds}
+use Rattle.session_law.specs.Sessions.{Ranks, LastRank, RankOnce, PendingUnranked, RankedUp, SequencesUp, DialogUp, PresentAccepted, MakingUnranked}
 
 -- while the open stands and the session is there, the open is attached in it, at this sequence or a newer one
 abbrev pub Pair : Server → ℕ → ℕ → ℕ → Type 0
@@ -34,3 +37,23 @@ pub record Newest (w : World) : Type 0 where
   pub held : Held w
   pub low_sequences : LowSequences w.server
   pub ordered : NeverAfterNewer w
+
+-- the parts of the layers below that this stands on
+pub record Below (w : World) : Type 0 where
+  pub attached : Attached w.server
+  pub guid_open : GuidOpen w.server
+  pub open_ids : OpenIds w.server
+  pub given : GivenIds w.server
+  pub ranks : Ranks w.client
+  pub last_rank : LastRank w.client
+  pub rank_once : RankOnce w.client
+  pub pending_unranked : PendingUnranked w.client
+  pub ranked_up : RankedUp w.client w.conns
+  pub sequences_up : SequencesUp w.client w.conns
+  pub dialog_up : DialogUp w.conns
+  pub present_accepted : PresentAccepted w.client w.server
+  pub making_unranked : MakingUnranked w.client w.server
+  pub recorded : (fold w.records).epoch ≡ w.server.epoch
+
+abbrev pub BelowAll : Settings → Type 0
+BelowAll z = (es : List Event) → Below (run es (start z))
