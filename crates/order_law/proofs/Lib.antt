@@ -4,3 +4,4 @@ pub mod Answers
 pub mod Others
 pub mod Calm
 pub mod Newer
+pub mod Legal

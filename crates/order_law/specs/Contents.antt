@@ -220,7 +220,7 @@ abbrev pub BirthLe : Log → Type 0
 BirthLe l = (q : ℕ) → l.birth q ≤ l.places
 
 abbrev pub FirstAt : Log → Type 0
-FirstAt l = (g n : ℕ) → l.first g ≡ Some n → n < l.places × l.who n ≡ g × l.did n ≡ true
+FirstAt l = (g n : ℕ) → l.first g ≡ Some n → n < l.places × l.who n ≡ g × 0 < g × l.did n ≡ true
 
 -- the reply that settled an operation, and those that wait, by the places of their messages
 abbrev pub By : Client → Log → Type 0
