@@ -13,6 +13,7 @@ use Rattle.exchange_defs.specs.Client.{Client, AskedTree, guid_for}
 use Rattle.exchange_defs.specs.Runs.{settlement}
 use Rattle.exchange_defs.specs.Network.{Conn, Sent, Received, Trace, ForOp, ForAttach, op_of, said}
 use Rattle.exchange_law.specs.Connections.{create_at, makes_open, no_copy_out}
+use Rattle.session_law.specs.Sessions.{is_ops}
 use Rattle.order_law.specs.Newest.{Pair}
 
 -- ---- words on operations, closed so that a proof doesn't go through their kinds
@@ -59,6 +60,13 @@ last_id s = id_of s.epoch s.given
 -- a reply behind which the edit's sequence reached its open
 abbrev pub is_final : ℕ → Bool
 is_final status = not (status == user_session_deleted) && (not (status == file_closed) && not (status == file_not_available))
+
+-- what waits of an operation is of one that was taken
+abbrev pub TokenUp : Client → (ℕ → Conn) → Type 0
+TokenUp c conns = (k n : ℕ) (x : Sent) → slice_get (conns k).up n ≡ Some x → is_ops x.token ≡ true → 0 < op_of x.token × op_of x.token ≤ c.taken
+
+abbrev pub TokenDown : Client → (ℕ → Conn) → Type 0
+TokenDown c conns = (k n : ℕ) (y : Received) → slice_get (conns k).down n ≡ Some y → is_ops y.token ≡ true → 0 < op_of y.token × op_of y.token ≤ c.taken
 
 -- ---- the client's table
 
@@ -211,7 +219,7 @@ GaveEnd c l = (n : ℕ) → n < l.places → lists (c.op (l.who n)) ≡ true →
 
 -- whose messages were taken: operations that went out, or a DH2C in their place, behind their create
 abbrev pub Whose : Client → Log → Type 0
-Whose c l = (n : ℕ) → n < l.places → 0 < l.who n → (makes_open (c.op (l.who n)) || is_ok (c.outcome (create_at c (l.who n)))) ≡ true × l.who n ≤ c.taken
+Whose c l = (n : ℕ) → n < l.places → l.who n ≤ c.taken × (0 < l.who n → (makes_open (c.op (l.who n)) || is_ok (c.outcome (create_at c (l.who n)))) ≡ true)
 
 abbrev pub Born : Client → Log → Type 0
 Born c l = (n : ℕ) → n < l.places → 0 < l.who n → makes_open (c.op (l.who n)) ≡ false → l.birth (create_at c (l.who n)) ≤ n
@@ -265,6 +273,8 @@ abbrev pub PriorFirst : Client → Log → Type 0
 PriorFirst c l = (h g p : ℕ) → edits (c.op g) ≡ true → l.prior h g ≡ true → l.first g ≡ Some p → p < l.since h
 
 pub record Contents (c : Client) (conns : ℕ → Conn) (s : Server) (t : Trace) (l : Log) (a : ℕ → ℕ) : Type 0 where
+  pub token_up : TokenUp c conns
+  pub token_down : TokenDown c conns
   pub lost_unknown : LostUnknown c
   pub lost_dead : LostDead c
   pub lost_known : LostKnown c

@@ -1,0 +1,146 @@
+-- No session can be had.
+use Rattle.std.proofs.lemmas.Bool.{eqb-false}
+use Rattle.std.proofs.lemmas.Bool.Decides.{nat_tests}
+use Rattle.std.proofs.Common.{eqb-true, ◌≡◌, ◌≢◌, ℕ, ◌+◌, ◌≤◌, ◌<◌, ◌==◌, Bool, true, false, not, ◌&&◌, ◌||◌, if◌then◌else◌, List, [], ◌∷◌, ◌++◌, ◌⊎◌, inl, inr, refl, arith, sym, subst, ◌∙◌, ap, Option, Some, None, slice_get, is_some, zero, suc}
+use Rattle.exchange_defs.specs.Table.{put, put2, is_at}
+use Rattle.exchange_defs.specs.Status.{success, file_not_available, file_closed, user_session_deleted, end_of_file}
+use Rattle.exchange_defs.specs.Content.{ContentReply}
+use Rattle.exchange_defs.specs.Order.{Log, Says_ok, Says_end, Settled_ok, Settled_end}
+use Rattle.exchange_defs.specs.State.{Server, Message, Reply}
+use Rattle.exchange_defs.specs.Operations.{Op, Outcome, Unsettled, Why, is_unsettled, is_firm, is_ok, is_create, persists, create_of, id_in, share_of}
+use Rattle.exchange_defs.specs.Client.{Client, Stage, Apart, AskedTree, guid_for, SaidNegotiate, create_for, outstanding as put_out, asked, cut_channel, end_session, finish, is_taken, outcome_after_end, given_up_after_end, outcome_after_finish, given_up_after_finish}
+use Rattle.exchange_defs.specs.Settling.{answered, joined, settled as settled_by}
+use Rattle.exchange_defs.specs.Dialogs.{open_channel, went_on, accepted, bound, readied, leave_dialog, refused_dialog, told_session}
+use Rattle.exchange_defs.specs.Runs.{settlement}
+use Rattle.exchange_defs.specs.Network.{Conn, Sent, Received, Trace, Token, ForDialog, ForOp, ForAttach, op_of, is_own, fresh as fresh_conn, server_off, client_off, send_up, behind_front, take_front, said}
+use Rattle.exchange_law.specs.Connections.{create_at, makes_open, its_create, no_copy_out, count_up, count_down, copies}
+use Rattle.exchange_law.proofs.Lists.{get-push, own_up_count, attach_up_count, own_down_count, attach_down_count, front_up, front_down, waited, waited_down}
+use Rattle.session_law.specs.Sessions.{is_ops}
+use Rattle.order_law.specs.Newest.{Pair}
+use Rattle.order_law.specs.Contents.{Contents, edits, lists, formed, isolating, clashes, bytes_after, reply_to, ends_before, file_at, pends, last_id, is_final, TokenUp, TokenDown, LostUnknown, LostDead, LostKnown, LostAsked, SessionKnown, SessionAsked, Pairwise, FirstUp, Unacted, FreshFirst, NotDone, CutSeq, OpenSeq, Older, NoReplay, CopyPair, NowPair, CreateReply, AttachReply, Reached, ClosedReply, AttachRefused, StaleReply, SessionSeq, PendingAt, LiveUnsettled, LiveReplay, Shows, Denied, OpenOf, NamedOpen, OpenGiven, OpenRow, OpenActed, Bytes, Quiet, Foreign, Acted, Gave, GaveEnd, Whose, Born, BirthLe, FirstAt, By, ByOk, ByEnd, BySome, Replies, AttachStatus, SinceLe, SinceReply, SinceBy, SinceFirst, Prior, PriorBy, PriorFirst}
+use Rattle.order_law.proofs.Moved.{Steps, Moves, live_back}
+use Rattle.order_law.proofs.Words.{finished_was}
+
+finished_lost_unknown : (c : Client) (conns : ℕ → Conn) (s : Server) (t : Trace) (l : Log) (a : ℕ → ℕ) (why : Why) → (c.live ≡ false) → LostUnknown c → LostUnknown (finish c why)
+finished_lost_unknown c conns s t l a why dead i_lost_unknown =
+    λ p z. let old = i_lost_unknown p z in grind arith
+
+finished_lost_dead : (c : Client) (conns : ℕ → Conn) (s : Server) (t : Trace) (l : Log) (a : ℕ → ℕ) (why : Why) → (c.live ≡ false) → LostDead c → LostDead (finish c why)
+finished_lost_dead c conns s t l a why dead i_lost_dead =
+    λ p. let old = i_lost_dead p in grind arith
+
+finished_lost_known : (c : Client) (conns : ℕ → Conn) (s : Server) (t : Trace) (l : Log) (a : ℕ → ℕ) (why : Why) → (c.live ≡ false) → LostKnown c → SessionKnown c → LostKnown (finish c why)
+finished_lost_known c conns s t l a why dead i_lost_known i_session_known =
+    λ p z. let old = i_lost_known p z in let known = i_session_known in grind arith
+
+finished_lost_asked : (c : Client) (conns : ℕ → Conn) (s : Server) (t : Trace) (l : Log) (a : ℕ → ℕ) (why : Why) → (c.live ≡ false) → LostAsked c → SessionAsked c → LostAsked (finish c why)
+finished_lost_asked c conns s t l a why dead i_lost_asked i_session_asked =
+    λ p j z. let old = i_lost_asked p j z in let known = i_session_asked j in grind arith
+
+finished_pairwise : (c : Client) (conns : ℕ → Conn) (s : Server) (t : Trace) (l : Log) (a : ℕ → ℕ) (why : Why) → (c.live ≡ false) → Pairwise c → Pairwise (finish c why)
+finished_pairwise c conns s t l a why dead i_pairwise =
+    λ p q lt st e1 e2 cr u1 u2. i_pairwise p q lt st e1 e2 cr (finished_was (is_taken c p) why c.session (c.outcome p) (c.given_up p) u1) (finished_was (is_taken c q) why c.session (c.outcome q) (c.given_up q) u2)
+
+finished_unacted : (c : Client) (conns : ℕ → Conn) (s : Server) (t : Trace) (l : Log) (a : ℕ → ℕ) (why : Why) → (c.live ≡ false) → Unacted c l → Unacted (finish c why) l
+finished_unacted c conns s t l a why dead i_unacted =
+    λ p. let old = i_unacted p in grind arith
+
+finished_live_unsettled : (c : Client) (conns : ℕ → Conn) (s : Server) (t : Trace) (l : Log) (a : ℕ → ℕ) (why : Why) → (c.live ≡ false) → LiveUnsettled c conns s → LiveUnsettled (finish c why) conns s
+finished_live_unsettled c conns s t l a why dead i_live_unsettled =
+    λ j n p x. let old = i_live_unsettled j n p x in grind (arith, get-push)
+
+finished_shows : (c : Client) (conns : ℕ → Conn) (s : Server) (t : Trace) (l : Log) (a : ℕ → ℕ) (why : Why) → (c.live ≡ false) → Shows c s l → Shows (finish c why) s l
+finished_shows c conns s t l a why dead i_shows =
+    λ p ed iso sd pe so. i_shows p ed iso sd (finished_was (is_taken c p) why c.session (c.outcome p) (c.given_up p) pe) so
+
+finished_open_of : (c : Client) (conns : ℕ → Conn) (s : Server) (t : Trace) (l : Log) (a : ℕ → ℕ) (why : Why) → (c.live ≡ false) → OpenOf c t → OpenOf (finish c why) t
+finished_open_of c conns s t l a why dead i_open_of =
+    λ q. let old = i_open_of q in grind arith
+
+finished_whose : (c : Client) (conns : ℕ → Conn) (s : Server) (t : Trace) (l : Log) (a : ℕ → ℕ) (why : Why) → (c.live ≡ false) → Whose c l → Whose (finish c why) l
+finished_whose c conns s t l a why dead i_whose =
+    λ n. let old = i_whose n in grind arith
+
+finished_by : (c : Client) (conns : ℕ → Conn) (s : Server) (t : Trace) (l : Log) (a : ℕ → ℕ) (why : Why) → (c.live ≡ false) → By c l → By (finish c why) l
+finished_by c conns s t l a why dead i_by =
+    λ p n. let old = i_by p n in grind arith
+
+finished_by_ok : (c : Client) (conns : ℕ → Conn) (s : Server) (t : Trace) (l : Log) (a : ℕ → ℕ) (why : Why) → (c.live ≡ false) → ByOk c l → ByOk (finish c why) l
+finished_by_ok c conns s t l a why dead i_by_ok =
+    λ p n v. let old = i_by_ok p n v in grind arith
+
+finished_by_end : (c : Client) (conns : ℕ → Conn) (s : Server) (t : Trace) (l : Log) (a : ℕ → ℕ) (why : Why) → (c.live ≡ false) → ByEnd c l → ByEnd (finish c why) l
+finished_by_end c conns s t l a why dead i_by_end =
+    λ p n. let old = i_by_end p n in grind arith
+
+finished_by_some : (c : Client) (conns : ℕ → Conn) (s : Server) (t : Trace) (l : Log) (a : ℕ → ℕ) (why : Why) → (c.live ≡ false) → BySome c → BySome (finish c why)
+finished_by_some c conns s t l a why dead i_by_some =
+    λ p. let old = i_by_some p in grind arith
+
+finished_prior : (c : Client) (conns : ℕ → Conn) (s : Server) (t : Trace) (l : Log) (a : ℕ → ℕ) (why : Why) → (c.live ≡ false) → Prior c l → Prior (finish c why) l
+finished_prior c conns s t l a why dead i_prior =
+    λ p q. let old = i_prior p q in grind arith
+
+pub finished_keeps : (c : Client) (conns : ℕ → Conn) (s : Server) (t : Trace) (l : Log) (a : ℕ → ℕ) (why : Why) → (c.live ≡ false) → Contents c conns s t l a → Contents (finish c why) conns s t l a
+finished_keeps c conns s t l a why dead i =
+    record {
+      token_up = i.token_up;
+      token_down = i.token_down;
+      lost_unknown = finished_lost_unknown c conns s t l a why dead i.lost_unknown;
+      lost_dead = finished_lost_dead c conns s t l a why dead i.lost_dead;
+      lost_known = finished_lost_known c conns s t l a why dead i.lost_known i.session_known;
+      lost_asked = finished_lost_asked c conns s t l a why dead i.lost_asked i.session_asked;
+      session_known = i.session_known;
+      session_asked = i.session_asked;
+      pairwise = finished_pairwise c conns s t l a why dead i.pairwise;
+      first_up = i.first_up;
+      unacted = finished_unacted c conns s t l a why dead i.unacted;
+      fresh_first = i.fresh_first;
+      not_done = i.not_done;
+      cut_seq = i.cut_seq;
+      open_seq = i.open_seq;
+      older = i.older;
+      no_replay = i.no_replay;
+      copy_pair = i.copy_pair;
+      now_pair = i.now_pair;
+      create_reply = i.create_reply;
+      attach_reply = i.attach_reply;
+      reached = i.reached;
+      closed_reply = i.closed_reply;
+      attach_refused = i.attach_refused;
+      stale_reply = i.stale_reply;
+      session_seq = i.session_seq;
+      pending_at = i.pending_at;
+      live_unsettled = finished_live_unsettled c conns s t l a why dead i.live_unsettled;
+      live_replay = i.live_replay;
+      shows = finished_shows c conns s t l a why dead i.shows;
+      denied = i.denied;
+      open_of = finished_open_of c conns s t l a why dead i.open_of;
+      named_open = i.named_open;
+      open_given = i.open_given;
+      open_row = i.open_row;
+      open_acted = i.open_acted;
+      bytes = i.bytes;
+      quiet = i.quiet;
+      foreign = i.foreign;
+      acted = i.acted;
+      gave = i.gave;
+      gave_end = i.gave_end;
+      whose = finished_whose c conns s t l a why dead i.whose;
+      born = i.born;
+      birth_le = i.birth_le;
+      first_at = i.first_at;
+      by = finished_by c conns s t l a why dead i.by;
+      by_ok = finished_by_ok c conns s t l a why dead i.by_ok;
+      by_end = finished_by_end c conns s t l a why dead i.by_end;
+      by_some = finished_by_some c conns s t l a why dead i.by_some;
+      replies = i.replies;
+      attach_status = i.attach_status;
+      since_le = i.since_le;
+      since_reply = i.since_reply;
+      since_by = i.since_by;
+      since_first = i.since_first;
+      prior = finished_prior c conns s t l a why dead i.prior;
+      prior_by = i.prior_by;
+      prior_first = i.prior_first;
+    }

@@ -1,0 +1,197 @@
+#!/usr/bin/env python3
+"""Writes the regular part of the proofs about the bytes under opens: for each small step one lemma for each part that the
+step touches. A part whose columns the step leaves alone holds as it did.
+
+The rule is one line: the old part at the goal's own variables, then grind. EVENTS names each step with what it needs,
+the columns that it changes, and the parts whose proof needs more than that.
+"""
+import os
+import re
+import sys
+
+HERE = os.path.dirname(os.path.abspath(__file__))
+TOP = os.path.join(HERE, "..", "crates", "order_law", "proofs")
+SPEC = open(os.path.join(HERE, "..", "crates", "order_law", "specs", "Contents.antt")).read()
+CONNECTIONS = open(os.path.join(HERE, "..", "crates", "exchange_law", "specs", "Connections.antt")).read()
+
+# part: the variables that it is quantified by, and the columns that it speaks of
+PARTS = {
+    "token_up": ("j n x", "conns taken"),
+    "token_down": ("j n y", "conns taken"),
+    "lost_unknown": ("p z", "given_up outcome"),
+    "lost_dead": ("p", "given_up session live"),
+    "lost_known": ("p z", "given_up rank"),
+    "lost_asked": ("p j z", "stage given_up pending"),
+    "session_known": ("", "session rank"),
+    "session_asked": ("j", "stage session pending"),
+    "pairwise": ("p q", "sent op outcome given_up session"),
+    "first_up": ("j n p x", "conns op before first"),
+    "unacted": ("p", "op before on asking outcome first"),
+    "fresh_first": ("p", "sent first since"),
+    "not_done": ("j n p y", "conns op before first"),
+    "cut_seq": ("j n p x", "conns op live session sequence"),
+    "open_seq": ("j n p x", "conns op seq_of"),
+    "older": ("j n i p x", "conns op asking on session seq_of"),
+    "no_replay": ("j n i q p u x", "conns op"),
+    "copy_pair": ("j n p x", "conns op file server"),
+    "now_pair": ("q", "attached number live session file server"),
+    "create_reply": ("j n p y", "conns op session server trace"),
+    "attach_reply": ("j n p y", "conns op file session server"),
+    "reached": ("j n p y", "conns op session seq_of file server"),
+    "closed_reply": ("j n p y", "conns op file server"),
+    "attach_refused": ("j n p y", "conns op file server"),
+    "stale_reply": ("j n p y", "conns op seq_of sequence"),
+    "session_seq": ("o", "live session sequence server"),
+    "pending_at": ("o j", "stage pending server"),
+    "live_unsettled": ("j n p x", "conns op file outcome given_up session server"),
+    "live_replay": ("j n p x", "conns op file server first"),
+    "shows": ("p", "op file outcome given_up session server first"),
+    "denied": ("o p", "server"),
+    "open_of": ("q", "op outcome file trace"),
+    "named_open": ("q o", "server trace"),
+    "open_given": ("q o", "server trace op sent"),
+    "open_row": ("q o", "server trace op"),
+    "open_acted": ("q o", "trace acts"),
+    "bytes": ("q o", "server trace bytes places"),
+    "quiet": ("n q", "places trace birth did bytes"),
+    "foreign": ("n q", "op places trace birth who bytes"),
+    "acted": ("n", "op places did who first bytes"),
+    "gave": ("n v", "op places gave who bytes"),
+    "gave_end": ("n", "op places gave who bytes"),
+    "whose": ("n", "op outcome taken places who"),
+    "born": ("n", "op places who birth"),
+    "birth_le": ("q", "birth places"),
+    "first_at": ("p n", "first places who did"),
+    "by": ("p n", "by outcome places who"),
+    "by_ok": ("p n v", "op outcome by gave"),
+    "by_end": ("p n", "op outcome by gave"),
+    "by_some": ("p", "outcome by"),
+    "replies": ("j n y", "conns places who gave"),
+    "attach_status": ("j n p y", "conns"),
+    "since_le": ("p", "since places"),
+    "since_reply": ("j n y", "conns since"),
+    "since_by": ("p n", "by since"),
+    "since_first": ("p n", "first since"),
+    "prior": ("p q", "prior sent outcome"),
+    "prior_by": ("p q n", "prior by since"),
+    "prior_first": ("p q n", "op prior first since"),
+}
+NAMES = {"Client": "c", "(ℕ → Conn)": "conns", "Server": "s", "Trace": "t", "Log": "l", "(ℕ → ℕ)": "a"}
+
+
+def type_name(part):
+    return "".join(word.capitalize() for word in part.split("_"))
+
+
+def arguments_in(text, name):
+    found = re.search(r"^abbrev pub %s : (.*) → Type 0$" % name, text, re.M)
+    return [NAMES[x] for x in re.findall(r"\(ℕ → Conn\)|\(ℕ → ℕ\)|\w+", found.group(1))]
+
+
+ARGUMENTS = {part: arguments_in(SPEC, type_name(part)) for part in PARTS}
+assert set(re.findall(r"^  pub (\w+) : ", SPEC[SPEC.index("pub record Contents"):], re.M)) == set(PARTS)
+
+
+def default(part):
+    variables, columns = PARTS[part]
+    tactic = "grind (arith, get-push)" if "conns" in columns else "grind arith"
+    if not variables:
+        return "let old = i.%s in %s" % (part, tactic)
+    return "λ %s. let old = i.%s %s in %s" % (variables, part, variables, tactic)
+
+
+HEAD = """use Rattle.std.proofs.lemmas.Bool.{eqb-false}
+use Rattle.std.proofs.lemmas.Bool.Decides.{nat_tests}
+use Rattle.std.proofs.Common.{eqb-true, ◌≡◌, ◌≢◌, ℕ, ◌+◌, ◌≤◌, ◌<◌, ◌==◌, Bool, true, false, not, ◌&&◌, ◌||◌, if◌then◌else◌, List, [], ◌∷◌, ◌++◌, ◌⊎◌, inl, inr, refl, arith, sym, subst, ◌∙◌, ap, Option, Some, None, slice_get, is_some, zero, suc}
+use Rattle.exchange_defs.specs.Table.{put, put2, is_at}
+use Rattle.exchange_defs.specs.Status.{success, file_not_available, file_closed, user_session_deleted, end_of_file}
+use Rattle.exchange_defs.specs.Content.{ContentReply}
+use Rattle.exchange_defs.specs.Order.{Log, Says_ok, Says_end, Settled_ok, Settled_end}
+use Rattle.exchange_defs.specs.State.{Server, Message, Reply}
+use Rattle.exchange_defs.specs.Operations.{Op, Outcome, Unsettled, Why, is_unsettled, is_firm, is_ok, is_create, persists, create_of, id_in, share_of}
+use Rattle.exchange_defs.specs.Client.{Client, Stage, Apart, AskedTree, guid_for, SaidNegotiate, create_for, outstanding as put_out, asked, cut_channel, end_session, finish, is_taken, outcome_after_end, given_up_after_end, outcome_after_finish, given_up_after_finish}
+use Rattle.exchange_defs.specs.Settling.{answered, joined, settled as settled_by}
+use Rattle.exchange_defs.specs.Dialogs.{open_channel, went_on, accepted, bound, readied, leave_dialog, refused_dialog, told_session}
+use Rattle.exchange_defs.specs.Runs.{settlement}
+use Rattle.exchange_defs.specs.Network.{Conn, Sent, Received, Trace, Token, ForDialog, ForOp, ForAttach, op_of, is_own, fresh as fresh_conn, server_off, client_off, send_up, behind_front, take_front, said}
+use Rattle.exchange_law.specs.Connections.{create_at, makes_open, its_create, no_copy_out, count_up, count_down, CONNECTIONS}
+use Rattle.exchange_law.proofs.Lists.{get-push, own_up_count, attach_up_count, own_down_count, attach_down_count, front_up, front_down, waited, waited_down}
+use Rattle.session_law.specs.Sessions.{is_ops}
+use Rattle.order_law.specs.Newest.{Pair}
+use Rattle.order_law.specs.Contents.{Contents, edits, lists, formed, isolating, clashes, bytes_after, reply_to, ends_before, file_at, pends, last_id, is_final, PARTS}
+use Rattle.order_law.proofs.Moved.{Steps, Moves, live_back}
+use Rattle.order_law.proofs.Words.{WORDS}
+""".replace("PARTS", ", ".join(type_name(p) for p in PARTS))
+
+
+class Event:
+    def __init__(self, name, about, changes, arguments="", needs=(), parts=None, **state):
+        # a need that begins with a line is given to the parts that name it alone
+        self.narrow = {n[1:] for n, _ in needs if n.startswith("_")}
+        self.name, self.about, self.arguments, self.needs = name, about, arguments, [(n.lstrip("_"), ty) for n, ty in needs]
+        self.changes = set(changes.split())
+        self.state = dict(c="c", conns="conns", s="s", t="t", l="l", a="a")
+        self.state.update(state)
+        self.parts = parts or {}
+
+
+exec(open(os.path.join(HERE, "law_contents_events.py")).read())
+
+
+def names(arguments):
+    out = []
+    for group in arguments.split("(")[1:]:
+        out += group.split(":")[0].split()
+    return out
+
+
+STATE = "(c : Client) (conns : ℕ → Conn) (s : Server) (t : Trace) (l : Log) (a : ℕ → ℕ)"
+LOWER = {p: (type_name(p), arguments_in(CONNECTIONS, type_name(p))) for p in re.findall(r"^  pub (\w+) : ", CONNECTIONS[CONNECTIONS.index("pub record Connections"):], re.M)}
+
+
+def emit(event):
+    low = "".join(("_" if i and ch.isupper() else "") + ch.lower() for i, ch in enumerate(event.name))
+    given = " " + event.arguments if event.arguments else ""
+    out = ["-- %s\n" % (event.about[0].upper() + event.about[1:] + "."), HEAD, "\n"]
+    calls = {}
+    lower_used = []
+    for part, (variables, columns) in PARTS.items():
+        if part not in event.parts and not (set(columns.split()) & event.changes):
+            calls[part] = "i.%s" % part
+            continue
+        term = event.parts.get(part) or default(part)
+        parts = [part] + sorted(set(re.findall(r"\bi\.(\w+)", term)) - {part})
+        lower = sorted(set(re.findall(r"\bcn\.(\w+)", term)))
+        for q in lower:
+            if q not in lower_used:
+                lower_used.append(q)
+        # what quantifies is given to the parts that name it alone, and the rest to each
+        bare = re.sub(r"\b(i|cn)\.\w+", "", term)
+        needs = [(n, ty) for n, ty in event.needs if n not in event.narrow or re.search(r"(?<![\w.])%s\b" % n, bare)]
+        premises = "".join("(%s) → " % ty for _, ty in needs) + "".join("C.%s %s → " % (LOWER[q][0], " ".join(LOWER[q][1])) for q in lower) + "".join("%s %s → " % (type_name(q), " ".join(ARGUMENTS[q])) for q in parts)
+        args = names(event.arguments)
+        words = " ".join(args + [n for n, _ in needs] + ["cn_" + q for q in lower] + ["i_" + q for q in parts])
+        types = " ".join(event.state[w] for w in ARGUMENTS[part])
+        body = re.sub(r"\bcn\.(\w+)", r"cn_\1", re.sub(r"\bi\.(\w+)", r"i_\1", term))
+        out.append("%s_%s : %s%s → %s%s %s\n%s_%s c conns s t l a %s =\n    %s\n\n" % (low, part, STATE, given, premises, type_name(part), types, low, part, words, body))
+        calls[part] = "%s_%s c conns s t l a %s" % (low, part, " ".join(args + [n for n, _ in needs] + ["cn_" + q for q in lower] + ["i." + q for q in parts]))
+    premises = "".join("(%s) → " % ty for _, ty in event.needs) + "".join("C.%s %s → " % (LOWER[q][0], " ".join(LOWER[q][1])) for q in lower_used)
+    words = " ".join(names(event.arguments) + [n for n, _ in event.needs] + ["cn_" + q for q in lower_used])
+    st = event.state
+    out.append("pub %s_keeps : %s%s → %sContents c conns s t l a → Contents %s %s %s %s %s %s\n%s_keeps c conns s t l a%s i =\n    record {\n"
+               % (low, STATE, given, premises, st["c"], st["conns"], st["s"], st["t"], st["l"], st["a"], low, " " + words if words else ""))
+    for part in PARTS:
+        out.append("      %s = %s;\n" % (part, calls[part]))
+    out.append("    }\n")
+    text = "".join(out)
+    used = sorted(set(re.findall(r"\bC\.(\w+)", text)))
+    text = text.replace("CONNECTIONS", ", ".join("%s as C%s" % (u, u) for u in used) if used else "copies").replace("C.", "C")
+    words_used = [w for w in WORDS if re.search(r"(?<![\w.])%s\b" % w, "".join(out[2:]))]
+    text = text.replace("use Rattle.order_law.proofs.Words.{WORDS}\n", "use Rattle.order_law.proofs.Words.{%s}\n" % ", ".join(words_used) if words_used else "")
+    open(os.path.join(TOP, "On" + event.name + ".antt"), "w").write(text)
+
+
+if __name__ == "__main__":
+    for event in EVENTS:
+        if not sys.argv[1:] or event.name in sys.argv[1:]:
+            emit(event)
