@@ -1,5 +1,6 @@
 -- What an answer to a message does to the pairs that reached the opens, for whichever check answered.
-use Rattle.std.proofs.Common.{◌≡◌, ◌≢◌, ℕ, ◌+◌, ◌≤◌, true, false, List, refl, arith, sym, subst, ◌∙◌, ap, Option, Some, None, is_some, inl, inr}
+use Rattle.std.proofs.lemmas.Bool.{eqb-false}
+use Rattle.std.proofs.Common.{eqb-true, ◌⊎◌, ◌==◌, ◌≢◌, ◌≡◌, ◌≢◌, ℕ, ◌+◌, ◌≤◌, true, false, List, refl, arith, sym, subst, ◌∙◌, ap, Option, Some, None, is_some, inl, inr}
 use Rattle.exchange_defs.specs.Table.{put}
 use Rattle.exchange_defs.specs.Commands.{Command, Aside, Unreadable, Setup, Logoff, TreeConnect, TreeDisconnect, Create, Close, Flush, Read, Write, Lock, Ioctl, ListDirectory, QueryFile, QueryVolume, SetInfo, CreateRequest, SetupRequest}
 use Rattle.exchange_defs.specs.State.{Server, Message, Heard, Record, Answer}
@@ -14,13 +15,17 @@ use Rattle.exchange_defs.specs.Network.{answer_to}
 use Rattle.exchange_law.proofs.Doors.{by_verdict, recorded, Before, Finds}
 use Rattle.order_law.specs.Newest.{Pair, LowSequences}
 use Rattle.order_law.proofs.Sound.{Sound, sound, sound_without_room}
-use Rattle.order_law.proofs.Pairs.{shut_left, Alike, Moves, same, moves_alike, moves_on, expire_moves, shut_moves, in_time, reach_moves, attached_moves, slot_alike, change_alike, file_alike, end_moves, end_named_moves, begun_pair, deadlines_moves, gone_alike, marked_alike, mark_alike}
+use Rattle.order_law.proofs.Pairs.{shut_left, Alike, Moves, same, moves_alike, moves_on, expire_moves, shut_moves, in_time, reach_moves, attached_moves, slot_alike, change_alike, file_alike, end_moves, end_named_moves, begun_pair, deadlines_moves, gone_alike, marked_alike, mark_alike, Still, still_same, still_alike, still_on, still_shut, still_end, still_end_named, still_expire, still_deadlines}
 
 -- every pair is kept of which the session isn't in the making where the message came from
 pub record Facts (s : Server) (m : Message) (A : Answer) : Type 0 where
   pub pair : (x q o : ℕ) → is_new x (s.making m.connection) ≡ false → o ≤ id_of s.epoch s.given → Pair s x q o → Pair A.server x q o
   pub ids : id_of s.epoch s.given ≤ id_of A.server.epoch A.server.given
   pub low : LowSequences A.server
+  pub stands : (o : ℕ) → o ≤ id_of s.epoch s.given → A.server.standing o ≡ true → s.standing o ≡ true
+  pub there : (x : ℕ) → is_new x (s.making m.connection) ≡ false → A.server.present x ≡ true → s.present x ≡ true
+  pub row : (o : ℕ) → o ≤ id_of s.epoch s.given → A.server.opened o ≡ s.opened o
+  pub at : (o x : ℕ) → A.server.at o ≡ Some x → (s.at o ≡ Some x × A.server.sequence o ≤ s.sequence o) ⊎ (A.reached ≡ Some o × x ≡ m.session × A.server.sequence o ≤ m.sequence)
   pub reached : (o : ℕ) → A.reached ≡ Some o → o ≤ id_of A.server.epoch A.server.given × Pair A.server m.session m.sequence o
   -- a change is of the open's own session, and no older than any pair of it
   pub altered : (o : ℕ) → A.altered ≡ Some o → (s.present m.session ≡ true) × ((x q : ℕ) → Pair s x q o → s.present x ≡ true → (x ≡ m.session) × (q ≤ m.sequence))
@@ -37,12 +42,16 @@ same_ids : (s t : Server) → Moves s t → id_of t.epoch t.given ≡ id_of s.ep
 same_ids s t h = let a = h.epoch in let b = h.given in grind arith
 
 -- the server moved, and no sequence reached an open
-quiet_facts : (s : Server) (m : Message) (A : Answer) → Given s m → Moves s A.server → A.reached ≡ None → A.altered ≡ None → Facts s m A
-quiet_facts s m A g h r a =
+quiet_facts : (s : Server) (m : Message) (A : Answer) → Given s m → Moves s A.server → Still s A.server → A.reached ≡ None → A.altered ≡ None → Facts s m A
+quiet_facts s m A g h still r a =
     record {
       pair = λ x q o n l p. h.pair x q o p;
       ids = let e = same_ids s A.server h in omega (arith, e);
       low = h.low g.low;
+      stands = λ o l f. h.stands o f;
+      there = λ x n f. h.there x f;
+      row = λ o l. ap (λ f. f o) h.row;
+      at = λ o x e. inl (still.at o x e, still.sequence o);
       reached = λ o e. absurd (let f = r in grind arith);
       altered = λ o e. absurd (let f = a in grind arith);
     }
@@ -61,26 +70,63 @@ own_pair s m o g on p e =
 other_id : (o n : ℕ) → o ≤ n → o ≢ n + 1
 other_id o n l e = absurd (omega (arith, l, e))
 
+-- the open whose sequence rises is the message's
+at_reached : (s : Server) (m : Message) (o : ℕ) (A : Answer) → Given s m → is_of_session s o m.session ≡ true → Still (reach s m o) A.server → A.reached ≡ reaches s m o
+    → (p x : ℕ) → A.server.at p ≡ Some x → (s.at p ≡ Some x × A.server.sequence p ≤ s.sequence p) ⊎ (A.reached ≡ Some p × x ≡ m.session × A.server.sequence p ≤ m.sequence)
+at_reached s m o A g on still r p x e =
+    let at : s.at p ≡ Some x = same_at (still.at p x e) in let up = still.sequence p in
+    elim (is_late s m o) as (λ b. is_late s m o ≡ b → (s.at p ≡ Some x × A.server.sequence p ≤ s.sequence p) ⊎ (A.reached ≡ Some p × x ≡ m.session × A.server.sequence p ≤ m.sequence)) [
+      | true ↦ λ l. inl (at, grind arith)
+      | false ↦ λ l. elim (p == o) as (λ b. p == o ≡ b → (s.at p ≡ Some x × A.server.sequence p ≤ s.sequence p) ⊎ (A.reached ≡ Some p × x ≡ m.session × A.server.sequence p ≤ m.sequence)) [
+          | true ↦ λ z. let q : p ≡ o = eqb-true p o z in let own = (on_open s o m.session on).1 in inr (grind arith, some_same x m.session (sym at ∙ (ap s.at q ∙ own)), grind arith)
+          | false ↦ λ z. let q : p ≢ o = eqb-false p o z in inl (at, grind arith)
+        ] refl
+    ] refl
+  where
+    same_at : (reach s m o).at p ≡ Some x → s.at p ≡ Some x
+    same_at e = grind arith
+
+    some_same : (x y : ℕ) → Some x ≡ Some y → x ≡ y
+    some_same x y h = grind arith
+
+at_attached : (s : Server) (m : Message) (o p x : ℕ) (r : Option ℕ) → r ≡ attaches s o → (attached s m o).at p ≡ Some x → (s.at p ≡ Some x × (attached s m o).sequence p ≤ s.sequence p) ⊎ (r ≡ Some p × x ≡ m.session × (attached s m o).sequence p ≤ m.sequence)
+at_attached s m o p x r a e =
+    elim (is_some (s.at o)) as (λ b. is_some (s.at o) ≡ b → (s.at p ≡ Some x × (attached s m o).sequence p ≤ s.sequence p) ⊎ (r ≡ Some p × x ≡ m.session × (attached s m o).sequence p ≤ m.sequence)) [
+      | true ↦ λ l. inl (grind arith, grind arith)
+      | false ↦ λ l. elim (p == o) as (λ b. p == o ≡ b → (s.at p ≡ Some x × (attached s m o).sequence p ≤ s.sequence p) ⊎ (r ≡ Some p × x ≡ m.session × (attached s m o).sequence p ≤ m.sequence)) [
+          | true ↦ λ z. let q : p ≡ o = eqb-true p o z in inr (grind arith, grind arith, grind arith)
+          | false ↦ λ z. let q : p ≢ o = eqb-false p o z in inl (grind arith, grind arith)
+        ] refl
+    ] refl
+
 -- the sequence came to its open
-reached_facts : (s : Server) (m : Message) (o : ℕ) (A : Answer) → Given s m → is_of_session s o m.session ≡ true → Moves (reach s m o) A.server → A.reached ≡ reaches s m o → A.altered ≡ None → Facts s m A
-reached_facts s m o A g on h r a =
+reached_facts : (s : Server) (m : Message) (o : ℕ) (A : Answer) → Given s m → is_of_session s o m.session ≡ true → Moves (reach s m o) A.server → Still (reach s m o) A.server → A.reached ≡ reaches s m o → A.altered ≡ None → Facts s m A
+reached_facts s m o A g on h still r a =
     let k = moves_on s (reach s m o) A.server (reach_moves s m o g.low g.sequence) h in
     record {
       pair = λ x q p n l f. k.pair x q p f;
       ids = let e = same_ids s A.server k in omega (arith, e);
       low = k.low g.low;
+      stands = λ o l h. k.stands o h;
+      there = λ x n h. k.there x h;
+      row = λ o l. ap (λ f. f o) k.row;
+      at = λ p x e. at_reached s m o A g on still r p x e;
       reached = λ p e. let own = own_pair s m o g on p (sym r ∙ e) in (let i = own.0 in let j = same_ids s A.server k in omega (arith, i, j), h.pair m.session m.sequence p own.1);
       altered = λ p e. absurd (let f = a in grind arith);
     }
 
-alter_facts : (s : Server) (m : Message) (o : ℕ) (A : Answer) → Given s m → is_of_session s o m.session ≡ true → is_late s m o ≡ false → Moves (reach s m o) A.server → A.reached ≡ reaches s m o → A.altered ≡ Some o → Facts s m A
-alter_facts s m o A g on late h r a =
+alter_facts : (s : Server) (m : Message) (o : ℕ) (A : Answer) → Given s m → is_of_session s o m.session ≡ true → is_late s m o ≡ false → Moves (reach s m o) A.server → Still (reach s m o) A.server → A.reached ≡ reaches s m o → A.altered ≡ Some o → Facts s m A
+alter_facts s m o A g on late h still r a =
     let k = moves_on s (reach s m o) A.server (reach_moves s m o g.low g.sequence) h in
     let at = on_open s o m.session on in let t = in_time s m o g.low g.sequence late in
     record {
       pair = λ x q p n l f. k.pair x q p f;
       ids = let e = same_ids s A.server k in omega (arith, e);
       low = k.low g.low;
+      stands = λ o l h. k.stands o h;
+      there = λ x n h. k.there x h;
+      row = λ o l. ap (λ f. f o) k.row;
+      at = λ p x e. at_reached s m o A g on still r p x e;
       reached = λ p e. let own = own_pair s m o g on p (sym r ∙ e) in (let i = own.0 in let j = same_ids s A.server k in omega (arith, i, j), h.pair m.session m.sequence p own.1);
       altered = λ p e. let z : p ≡ o = some_same p o (sym e ∙ a) in (
         g.attached o m.session at.1,
@@ -100,6 +146,10 @@ attach_facts s m o A g i h r a =
       pair = λ x q p n l f. k.pair x q p f;
       ids = let e = same_ids s A.server k in omega (arith, e);
       low = k.low g.low;
+      stands = λ o l h. k.stands o h;
+      there = λ x n h. k.there x h;
+      row = λ o l. ap (λ f. f o) k.row;
+      at = λ p x e. subst (λ t. t.at p ≡ Some x → (s.at p ≡ Some x × t.sequence p ≤ s.sequence p) ⊎ (A.reached ≡ Some p × x ≡ m.session × t.sequence p ≤ m.sequence)) (sym h) (at_attached s m o p x A.reached r) e;
       reached = λ p e. subst (λ t. p ≤ id_of t.epoch t.given × Pair t m.session m.sequence p) (sym h) (own s m o p i (sym r ∙ e));
       altered = λ p e. absurd (let f = a in grind arith);
     }
@@ -118,12 +168,33 @@ make_facts s m r found action now A g h e a =
       pair = λ x q o n l f. subst (λ t. Pair t x q o) (sym h) (made_pair x q o l f);
       ids = subst (λ t. id_of s.epoch s.given ≤ id_of t.epoch t.given) (sym h) (let al = file_alike s r found now in let ep = al.epoch in grind arith);
       low = subst LowSequences (sym h) made_low;
+      stands = λ o l f. made_stands o l (subst (λ t. t.standing o ≡ true) h f);
+      there = λ x n f. made_there x (subst (λ t. t.present x ≡ true) h f);
+      row = λ o l. ap (λ t. t.opened o) h ∙ made_row o l;
+      at = λ o x f. made_at o x (subst (λ t. t.at o ≡ Some x) h f);
       reached = λ p f. subst (λ t. p ≤ id_of t.epoch t.given × Pair t m.session m.sequence p) (sym h) (made_own p (sym e ∙ f));
       altered = λ p f. absurd (let b = a in grind arith);
     }
   where
     made_pair : (x q o : ℕ) → o ≤ id_of s.epoch s.given → Pair s x q o → Pair (make_open s m r found action now) x q o
     made_pair x q o l f = let al = file_alike s r found now in let st = al.standing in let pr = al.present in let at = al.at in let sq = al.sequence in λ t p. (grind arith, grind arith)
+
+    made_stands : (o : ℕ) → o ≤ id_of s.epoch s.given → (make_open s m r found action now).standing o ≡ true → s.standing o ≡ true
+    made_stands o l f = let al = file_alike s r found now in let st = al.standing in grind arith
+
+    made_there : (x : ℕ) → (make_open s m r found action now).present x ≡ true → s.present x ≡ true
+    made_there x f = let al = file_alike s r found now in let pr = al.present in grind arith
+
+    made_row : (o : ℕ) → o ≤ id_of s.epoch s.given → (make_open s m r found action now).opened o ≡ s.opened o
+    made_row o l = let al = file_alike s r found now in let op = al.opened in grind arith
+
+    made_at : (o x : ℕ) → (make_open s m r found action now).at o ≡ Some x → (s.at o ≡ Some x × A.server.sequence o ≤ s.sequence o) ⊎ (A.reached ≡ Some o × x ≡ m.session × A.server.sequence o ≤ m.sequence)
+    made_at o x f =
+        let al = file_alike s r found now in let at = al.at in let sq = al.sequence in
+        elim (o == next_open s) as (λ b. o == next_open s ≡ b → (s.at o ≡ Some x × A.server.sequence o ≤ s.sequence o) ⊎ (A.reached ≡ Some o × x ≡ m.session × A.server.sequence o ≤ m.sequence)) [
+          | true ↦ λ z. let on : o ≡ next_open s = eqb-true o (next_open s) z in inr (e ∙ ap Some (sym on), grind arith, subst (λ t. t.sequence o ≤ m.sequence) (sym h) (grind arith))
+          | false ↦ λ z. let on : o ≢ next_open s = eqb-false o (next_open s) z in inl (grind arith, subst (λ t. t.sequence o ≤ s.sequence o) (sym h) (grind arith))
+        ] refl
 
     made_low : LowSequences (make_open s m r found action now)
     made_low = λ o. let al = file_alike s r found now in let sq = al.sequence in let old = g.low o in let l = g.sequence in grind arith
@@ -132,12 +203,16 @@ make_facts s m r found action now A g h e a =
     made_own p e = let al = file_alike s r found now in let ep = al.epoch in (grind arith, λ t q. (grind arith, grind arith))
 
 -- a new session, of which no pair is; the one that it names as its previous one ends before
-begin_facts : (s t : Server) (m : Message) (user : List ℕ) (r : SetupRequest) (A : Answer) → Given s m → Moves s t → is_new m.session (s.making m.connection) ≡ true → A.server ≡ add_session t m user r → A.reached ≡ None → A.altered ≡ None → Facts s m A
-begin_facts s t m user r A g k new h e a =
+begin_facts : (s t : Server) (m : Message) (user : List ℕ) (r : SetupRequest) (A : Answer) → Given s m → Moves s t → Still s t → is_new m.session (s.making m.connection) ≡ true → A.server ≡ add_session t m user r → A.reached ≡ None → A.altered ≡ None → Facts s m A
+begin_facts s t m user r A g k still new h e a =
     record {
       pair = λ x q o n l f. subst (λ u. Pair u x q o) (sym h) (begun_pair t m user r x q o (λ z. apart x z n) (k.pair x q o f));
       ids = subst (λ u. id_of s.epoch s.given ≤ id_of u.epoch u.given) (sym h) (let j = same_ids s t k in let w : id_of s.epoch s.given ≤ id_of t.epoch t.given = omega (arith, j) in w);
       low = subst LowSequences (sym h) (k.low g.low);
+      stands = λ o l f. k.stands o (subst (λ (u : Server). u.standing o ≡ true) h f);
+      there = λ x n f. k.there x (other_there x n (subst (λ (u : Server). u.present x ≡ true) h f));
+      row = λ o l. ap (λ (u : Server). u.opened o) h ∙ ap (λ f. f o) k.row;
+      at = λ o x f. inl (still.at o x (subst (λ (u : Server). u.at o ≡ Some x) h f), subst (λ (u : Server). u.sequence o ≤ s.sequence o) (sym h) (still.sequence o));
       reached = λ o f. absurd (let b = e in grind arith);
       altered = λ o f. absurd (let b = a in grind arith);
     }
@@ -145,16 +220,27 @@ begin_facts s t m user r A g k new h e a =
     apart : (x : ℕ) → x ≡ m.session → is_new x (s.making m.connection) ≡ false → ⊥
     apart x z n = absurd (let w = subst (λ y. is_new y (s.making m.connection) ≡ false) z n in grind arith)
 
+    other_there : (x : ℕ) → is_new x (s.making m.connection) ≡ false → put t.present m.session true x ≡ true → t.present x ≡ true
+    other_there x n e =
+        elim (x == m.session) as (λ b. x == m.session ≡ b → t.present x ≡ true) [
+          | true ↦ λ z. absurd (apart x (eqb-true x m.session z) n)
+          | false ↦ λ z. let ne : x ≢ m.session = eqb-false x m.session z in grind arith
+        ] refl
+
 alike_facts : (s : Server) (m : Message) (A : Answer) → Given s m → Alike s A.server → A.reached ≡ None → A.altered ≡ None → Facts s m A
-alike_facts s m A g h r a = quiet_facts s m A g (moves_alike s A.server h) r a
+alike_facts s m A g h r a = quiet_facts s m A g (moves_alike s A.server h) (still_alike s A.server h.at h.sequence) r a
 
 -- what a challenge makes is a new session of its own; no pair is asked for it
-making_moves : (s t : Server) → t.standing ≡ s.standing → t.present ≡ s.present → t.at ≡ s.at → t.sequence ≡ s.sequence → t.epoch ≡ s.epoch → t.given ≡ s.given → (m : Message) (A : Answer) → Given s m → A.server ≡ t → A.reached ≡ None → A.altered ≡ None → Facts s m A
-making_moves s t st pr at sq ep gi m A g h r a =
+making_moves : (s t : Server) → t.standing ≡ s.standing → t.present ≡ s.present → t.at ≡ s.at → t.sequence ≡ s.sequence → t.epoch ≡ s.epoch → t.given ≡ s.given → t.opened ≡ s.opened → (m : Message) (A : Answer) → Given s m → A.server ≡ t → A.reached ≡ None → A.altered ≡ None → Facts s m A
+making_moves s t st pr at sq ep gi op m A g h r a =
     record {
       pair = λ x q o n l f. subst (λ u. Pair u x q o) (sym h) (let old = f in λ u v. grind arith);
       ids = subst (λ u. id_of s.epoch s.given ≤ id_of u.epoch u.given) (sym h) (grind arith);
       low = subst LowSequences (sym h) (λ o. let old = g.low o in grind arith);
+      stands = λ o l f. ap (λ f. f o) (sym st) ∙ subst (λ (u : Server). u.standing o ≡ true) h f;
+      there = λ x n f. ap (λ f. f x) (sym pr) ∙ subst (λ (u : Server). u.present x ≡ true) h f;
+      row = λ o l. ap (λ (u : Server). u.opened o) h ∙ ap (λ f. f o) op;
+      at = λ o x f. inl (ap (λ f. f o) (sym at) ∙ subst (λ (u : Server). u.at o ≡ Some x) h f, subst (λ (u : Server). u.sequence o ≤ s.sequence o) (sym h) (let z = ap (λ f. f o) sq in omega (arith, z)));
       reached = λ o f. absurd (let b = r in grind arith);
       altered = λ o f. absurd (let b = a in grind arith);
     }
@@ -167,6 +253,10 @@ shut_facts s m o A g on h r a =
       pair = λ x q p n l f. k.pair x q p f;
       ids = let e = same_ids s A.server k in omega (arith, e);
       low = k.low g.low;
+      stands = λ o l h. k.stands o h;
+      there = λ x n h. k.there x h;
+      row = λ o l. ap (λ f. f o) k.row;
+      at = λ p x e. let still = still_shut s o m.session (s.opened o).guid in inl (subst (λ t. t.at p ≡ Some x → s.at p ≡ Some x) (sym h) (still.at p x) e, subst (λ t. t.sequence p ≤ s.sequence p) (sym h) (still.sequence p));
       reached = λ p e. let own = own_pair s m o g on p (sym r ∙ e) in let i = own.0 in let j = same_ids s A.server k in
           (omega (arith, i, j), λ st pr. absurd (let z = its_open p (sym r ∙ e) in let f = shut_left s o m.session (s.opened o).guid in let w = ap (λ t. t.standing o) h in grind arith));
       altered = λ p e. absurd (let f = a in grind arith);
@@ -178,35 +268,36 @@ shut_facts s m o A g on h r a =
 pub verdict_facts : (s : Server) (m : Message) (now : ℕ) → Given s m → (v : Verdict) → Sound s m v → Facts s m (apply s m now v)
 verdict_facts s m now g (Refuse status) h = alike_facts s m _ g (same s) refl refl
 verdict_facts s m now g (Give body) h = alike_facts s m _ g (same s) refl refl
-verdict_facts s m now g (KeepRefusal guid status) h = alike_facts s m _ g (record { standing = refl; present = refl; at = refl; sequence = refl; epoch = refl; given = refl; making = refl; by_guid = refl }) refl refl
+verdict_facts s m now g (KeepRefusal guid status) h = alike_facts s m _ g (record { standing = refl; present = refl; at = refl; sequence = refl; epoch = refl; given = refl; making = refl; by_guid = refl; opened = refl }) refl refl
 verdict_facts s m now g (Repeat o r) h = attach_facts s m o _ g (g.named m.client h.is.0 o h.is.1) refl refl refl
 verdict_facts s m now g (Attach o r) h = attach_facts s m o _ g (g.ids o h.is) refl refl refl
 verdict_facts s m now g (Make r found action) h = make_facts s m r found action now _ g refl refl refl
-verdict_facts s m now g (TurnDown o status) h = reached_facts s m o _ g h.is (moves_alike _ _ (same (reach s m o))) refl refl
-verdict_facts s m now g (Tell o body) h = reached_facts s m o _ g h.is (moves_alike _ _ (same (reach s m o))) refl refl
-verdict_facts s m now g (Show o last body) h = reached_facts s m o _ g h.is (moves_alike _ _ (record { standing = refl; present = refl; at = refl; sequence = refl; epoch = refl; given = refl; making = refl; by_guid = refl })) refl refl
-verdict_facts s m now g (KeepSlot o index number status elements) h = reached_facts s m o _ g h.is (moves_alike _ _ (slot_alike (reach s m o) o index number status)) refl refl
+verdict_facts s m now g (TurnDown o status) h = reached_facts s m o _ g h.is (moves_alike _ _ (same (reach s m o))) (still_same (reach s m o)) refl refl
+verdict_facts s m now g (Tell o body) h = reached_facts s m o _ g h.is (moves_alike _ _ (same (reach s m o))) (still_same (reach s m o)) refl refl
+verdict_facts s m now g (Show o last body) h = reached_facts s m o _ g h.is (moves_alike _ _ (record { standing = refl; present = refl; at = refl; sequence = refl; epoch = refl; given = refl; making = refl; by_guid = refl; opened = refl })) (still_alike (reach s m o) _ refl refl) refl refl
+verdict_facts s m now g (KeepSlot o index number status elements) h = reached_facts s m o _ g h.is (moves_alike _ _ (slot_alike (reach s m o) o index number status)) (let a = slot_alike (reach s m o) o index number status in still_alike (reach s m o) _ a.at a.sequence) refl refl
 verdict_facts s m now g (PutRanges o index number ranges elements) h =
     reached_facts s m o _ g h.is
     (moves_on (reach s m o) (set_ranges (reach s m o) (file_of s o) ranges) _
-    (moves_alike _ _ (record { standing = refl; present = refl; at = refl; sequence = refl; epoch = refl; given = refl; making = refl; by_guid = refl }))
-    (moves_alike _ _ (slot_alike (set_ranges (reach s m o) (file_of s o) ranges) o index number 0))) refl refl
-verdict_facts s m now g (Alter o change body) h = alter_facts s m o _ g h.is.0 h.is.1 (moves_alike _ _ (change_alike (reach s m o) (file_of s o) now change)) refl refl
+    (moves_alike _ _ (record { standing = refl; present = refl; at = refl; sequence = refl; epoch = refl; given = refl; making = refl; by_guid = refl; opened = refl }))
+    (moves_alike _ _ (slot_alike (set_ranges (reach s m o) (file_of s o) ranges) o index number 0))) (let a = slot_alike (set_ranges (reach s m o) (file_of s o) ranges) o index number 0 in still_alike (reach s m o) _ a.at a.sequence) refl refl
+verdict_facts s m now g (Alter o change body) h = alter_facts s m o _ g h.is.0 h.is.1 (moves_alike _ _ (change_alike (reach s m o) (file_of s o) now change)) (let a = change_alike (reach s m o) (file_of s o) now change in still_alike (reach s m o) _ a.at a.sequence) refl refl
 verdict_facts s m now g (Shut o body) h = shut_facts s m o _ g h.is refl refl refl
-verdict_facts s m now g Challenge h = making_moves s (apply s m now Challenge).server refl refl refl refl refl refl m _ g refl refl refl
-verdict_facts s m now g (ChallengeBinding session) h = making_moves s (apply s m now (ChallengeBinding session)).server refl refl refl refl refl refl m _ g refl refl refl
+verdict_facts s m now g Challenge h = making_moves s (apply s m now Challenge).server refl refl refl refl refl refl refl m _ g refl refl refl
+verdict_facts s m now g (ChallengeBinding session) h = making_moves s (apply s m now (ChallengeBinding session)).server refl refl refl refl refl refl refl m _ g refl refl refl
 verdict_facts s m now g (Begin session user previous r is_quiet) h =
-    begin_facts s (end_if_named s now previous is_quiet) m user r _ g (end_named_moves s now previous is_quiet) h.is.0 refl refl refl
-verdict_facts s m now g (Join session) h = making_moves s (apply s m now (Join session)).server refl refl refl refl refl refl m _ g refl refl refl
-verdict_facts s m now g (EndSession session is_quiet) h = quiet_facts s m _ g (end_moves s session now is_quiet) refl refl
-verdict_facts s m now g (AddTree pipes) h = alike_facts s m _ g (record { standing = refl; present = refl; at = refl; sequence = refl; epoch = refl; given = refl; making = refl; by_guid = refl }) refl refl
-verdict_facts s m now g DropTree h = alike_facts s m _ g (record { standing = refl; present = refl; at = refl; sequence = refl; epoch = refl; given = refl; making = refl; by_guid = refl }) refl refl
+    begin_facts s (end_if_named s now previous is_quiet) m user r _ g (end_named_moves s now previous is_quiet) (still_end_named s now previous is_quiet) h.is.0 refl refl refl
+verdict_facts s m now g (Join session) h = making_moves s (apply s m now (Join session)).server refl refl refl refl refl refl refl m _ g refl refl refl
+verdict_facts s m now g (EndSession session is_quiet) h = quiet_facts s m _ g (end_moves s session now is_quiet) (still_end s session now is_quiet) refl refl
+verdict_facts s m now g (AddTree pipes) h = alike_facts s m _ g (record { standing = refl; present = refl; at = refl; sequence = refl; epoch = refl; given = refl; making = refl; by_guid = refl; opened = refl }) refl refl
+verdict_facts s m now g DropTree h = alike_facts s m _ g (record { standing = refl; present = refl; at = refl; sequence = refl; epoch = refl; given = refl; making = refl; by_guid = refl; opened = refl }) refl refl
 
 -- ---- the event: an expiry in front, and what stands in its place where the records don't fit
 
 -- nothing but an open that expires is gone
 pub record Earlier (s t : Server) : Type 0 where
   pub moves : Moves s t
+  pub still : Still s t
   pub present : t.present ≡ s.present
   pub at : (o x : ℕ) → t.at o ≡ Some x → s.at o ≡ Some x
 
@@ -220,10 +311,10 @@ leave_present : (s : Server) (p : ℕ) → (leave_open s p).present ≡ s.presen
 leave_present s p = let a = gone_alike (drop_open (marked_by s p) p) (s.opened p).file in let b = marked_alike s p in a.present ∙ b.present
 
 pub earlier : (s : Server) (now : ℕ) (t : Server) → Before s now t → Earlier s t
-earlier s now t (inl e) = subst (Earlier s) (sym e) (record { moves = deadlines_moves s now; present = refl; at = λ o x h. h })
+earlier s now t (inl e) = subst (Earlier s) (sym e) (record { moves = deadlines_moves s now; still = still_deadlines s now; present = refl; at = λ o x h. h })
 earlier s now t (inr (o, due, e)) =
     let d = with_deadlines s now in let l = leave_open d o in let m = mark_alike l (d.opened o).client (d.opened o).guid in
-    subst (Earlier s) (sym e) (record { moves = moves_on s d (expire d o) (deadlines_moves s now) (expire_moves d o); present = m.present ∙ leave_present d o; at = λ p x h. leave_at d o p x (ap (λ f. f p) (sym m.at) ∙ h) })
+    subst (Earlier s) (sym e) (record { moves = moves_on s d (expire d o) (deadlines_moves s now) (expire_moves d o); still = still_on s d (expire d o) (still_deadlines s now) (still_expire d o); present = m.present ∙ leave_present d o; at = λ p x h. leave_at d o p x (ap (λ f. f p) (sym m.at) ∙ h) })
 
 given_behind : (s t : Server) (m : Message) → Given s m → Earlier s t → Given t m
 given_behind s t m g k =
@@ -243,12 +334,21 @@ facts_before s t m A k f =
       pair = λ x q o n l p. f.pair x q o (k.moves.making x m.connection n) (omega (arith, l, e)) (k.moves.pair x q o p);
       ids = let i = f.ids in omega (arith, i, e);
       low = f.low;
+      stands = λ o l h. k.moves.stands o (f.stands o (omega (arith, l, e)) h);
+      there = λ x n h. k.moves.there x (f.there x (k.moves.making x m.connection n) h);
+      row = λ o l. f.row o (omega (arith, l, e)) ∙ ap (λ g. g o) k.moves.row;
+      at = λ o x h. by_before o x (f.at o x h);
       reached = f.reached;
       altered = λ o h. let r = f.altered o h in (ap (λ g. g m.session) (sym k.present) ∙ r.0, λ x q p pr. r.1 x q (k.moves.pair x q o p) (ap (λ g. g x) k.present ∙ pr));
     }
+  where
+    by_before : (o x : ℕ) → (t.at o ≡ Some x × A.server.sequence o ≤ t.sequence o) ⊎ (A.reached ≡ Some o × x ≡ m.session × A.server.sequence o ≤ m.sequence)
+        → (s.at o ≡ Some x × A.server.sequence o ≤ s.sequence o) ⊎ (A.reached ≡ Some o × x ≡ m.session × A.server.sequence o ≤ m.sequence)
+    by_before o x (inl h) = inl (k.still.at o x h.0, let a = h.1 in let b = k.still.sequence o in omega (arith, a, b))
+    by_before o x (inr h) = inr h
 
 recorded_facts : (s : Server) (m : Message) (A : Answer) (records : List Record) → Facts s m A → Facts s m (recorded A records)
-recorded_facts s m A records f = record { pair = f.pair; ids = f.ids; low = f.low; reached = f.reached; altered = f.altered }
+recorded_facts s m A records f = record { pair = f.pair; ids = f.ids; low = f.low; stands = f.stands; there = f.there; row = f.row; at = f.at; reached = f.reached; altered = f.altered }
 
 found_sound : (t : Server) (m : Message) (v : Verdict) → Finds t m v → Sound t m v
 found_sound t m v (inl e) = subst (Sound t m) (sym e) (sound t m)

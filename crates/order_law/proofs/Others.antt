@@ -33,7 +33,7 @@ without_room_too (TakesAllOut is_quiet) e = absurd (cc)
 
 out_moves : (s : Server) (now : ℕ) (r : Ruling) → is_connections r ≡ true → Moves s (carried_out s now r).server
 out_moves s now (Says m v) e = absurd (cc)
-out_moves s now (TakesIn k) e = moves_alike s _ (record { standing = refl; present = refl; at = refl; sequence = refl; epoch = refl; given = refl; making = refl; by_guid = refl })
+out_moves s now (TakesIn k) e = moves_alike s _ (record { standing = refl; present = refl; at = refl; sequence = refl; epoch = refl; given = refl; making = refl; by_guid = refl; opened = refl })
 out_moves s now TurnsAway e = moves_alike s s (same s)
 out_moves s now (TakesOut k is_quiet) e = take_out_moves s k now is_quiet
 out_moves s now (TakesAllOut is_quiet) e = absurd (cc)
@@ -54,7 +54,7 @@ event_moves : (s : Server) (now : ℕ) (e : ServerEvent) → ((t : Server) → i
 event_moves s now e c =
     let d = with_deadlines s now in let A = expiring d now e (due d now) in
     moves_on s d _ (deadlines_moves s now) (moves_on d A.server _ (expiring_moves d now e c (due d now))
-    (moves_alike A.server _ (record { standing = refl; present = refl; at = refl; sequence = refl; epoch = refl; given = refl; making = refl; by_guid = refl })))
+    (moves_alike A.server _ (record { standing = refl; present = refl; at = refl; sequence = refl; epoch = refl; given = refl; making = refl; by_guid = refl; opened = refl })))
 
 pub accept_moves : (s : Server) (now k : ℕ) → Moves s (step s now (Accept k)).server
 accept_moves s now k = event_moves s now (Accept k) (λ t. either (λ r. is_connections r ≡ true) (nat_le max_connections (length t.connections)) TurnsAway (TakesIn k) (λ _. refl) (λ _. refl))

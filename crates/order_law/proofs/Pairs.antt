@@ -1,7 +1,7 @@
 -- What the server does keeps every pair that reached an open: while the open stands and the pair's session is there, the
 -- open is attached in that session, at this sequence or a newer one.
 use Rattle.std.proofs.lemmas.Bool.Decides.{nat_tests}
-use Rattle.std.proofs.Common.{◌≡◌, ◌≢◌, ℕ, ◌≤◌, nat_lt, Bool, true, false, not, ◌&&◌, List, refl, arith, ◌∙◌, ap, Option, Some, None, is_some}
+use Rattle.std.proofs.Common.{◌≡◌, ◌≢◌, ℕ, ◌≤◌, nat_lt, Bool, true, false, not, ◌&&◌, List, refl, arith, sym, subst, ◌∙◌, ap, Option, Some, None, is_some}
 use Rattle.exchange_defs.specs.Table.{put}
 use Rattle.exchange_defs.specs.Commands.{CreateRequest, SetupRequest, deletes_on_close}
 use Rattle.exchange_defs.specs.State.{Server, Message, Making}
@@ -26,9 +26,10 @@ pub record Alike (s t : Server) : Type 0 where
   pub given : t.given ≡ s.given
   pub making : t.making ≡ s.making
   pub by_guid : t.by_guid ≡ s.by_guid
+  pub opened : t.opened ≡ s.opened
 
 pub same : (s : Server) → Alike s s
-same s = record { standing = refl; present = refl; at = refl; sequence = refl; epoch = refl; given = refl; making = refl; by_guid = refl }
+same s = record { standing = refl; present = refl; at = refl; sequence = refl; epoch = refl; given = refl; making = refl; by_guid = refl; opened = refl }
 
 -- from one state to the next each pair is kept, ids only grow, and sequences stay low
 pub record Moves (s t : Server) : Type 0 where
@@ -39,6 +40,8 @@ pub record Moves (s t : Server) : Type 0 where
   pub low : LowSequences s → LowSequences t
   pub making : (x k : ℕ) → is_new x (s.making k) ≡ false → is_new x (t.making k) ≡ false
   pub guid : (c g o : ℕ) → t.by_guid c g ≡ Some o → s.by_guid c g ≡ Some o
+  pub there : (x : ℕ) → t.present x ≡ true → s.present x ≡ true
+  pub row : t.opened ≡ s.opened
 
 pub moves_alike : (s t : Server) → Alike s t → Moves s t
 moves_alike s t a =
@@ -51,6 +54,8 @@ moves_alike s t a =
       low = λ l o. let old = l o in grind arith;
       making = λ x k. grind arith;
       guid = λ c g o. grind arith;
+      there = λ x. grind arith;
+      row = a.opened;
     }
 
 pub moves_on : (s t u : Server) → Moves s t → Moves t u → Moves s u
@@ -63,6 +68,8 @@ moves_on s t u a b =
       low = λ l. b.low (a.low l);
       making = λ x k h. b.making x k (a.making x k h);
       guid = λ c g o h. a.guid c g o (b.guid c g o h);
+      there = λ x h. a.there x (b.there x h);
+      row = b.row ∙ a.row;
     }
 
 guid_dropped : (by : ℕ → ℕ → Option ℕ) (client : ℕ) (guid : Option ℕ) (c g o : ℕ) → with_guid by client guid None c g ≡ Some o → by c g ≡ Some o
@@ -80,13 +87,15 @@ drop_moves s o =
       low = λ l. l;
       making = λ x k h. h;
       guid = λ c g p h. guid_dropped s.by_guid (s.opened o).client (s.opened o).guid c g p h;
+      there = λ x h. h;
+      row = refl;
     }
 
 pub marked_alike : (s : Server) (o : ℕ) → Alike s (marked_by s o)
-marked_alike s o = either (Alike s) (deletes_on_close (s.opened o).options) (mark_file s (s.opened o).file true) s (λ _. record { standing = refl; present = refl; at = refl; sequence = refl; epoch = refl; given = refl; making = refl; by_guid = refl }) (λ _. same s)
+marked_alike s o = either (Alike s) (deletes_on_close (s.opened o).options) (mark_file s (s.opened o).file true) s (λ _. record { standing = refl; present = refl; at = refl; sequence = refl; epoch = refl; given = refl; making = refl; by_guid = refl; opened = refl }) (λ _. same s)
 
 pub gone_alike : (s : Server) (f : ℕ) → Alike s (without_gone s f)
-gone_alike s f = either (Alike s) (goes s f) (remove_file s f) s (λ _. record { standing = refl; present = refl; at = refl; sequence = refl; epoch = refl; given = refl; making = refl; by_guid = refl }) (λ _. same s)
+gone_alike s f = either (Alike s) (goes s f) (remove_file s f) s (λ _. record { standing = refl; present = refl; at = refl; sequence = refl; epoch = refl; given = refl; making = refl; by_guid = refl; opened = refl }) (λ _. same s)
 
 pub leave_moves : (s : Server) (o : ℕ) → Moves s (leave_open s o)
 leave_moves s o =
@@ -95,14 +104,14 @@ leave_moves s o =
 
 pub mark_alike : (s : Server) (client : ℕ) (guid : Option ℕ) → Alike s (add_mark s client guid)
 mark_alike s client None = same s
-mark_alike s client (Some g) = record { standing = refl; present = refl; at = refl; sequence = refl; epoch = refl; given = refl; making = refl; by_guid = refl }
+mark_alike s client (Some g) = record { standing = refl; present = refl; at = refl; sequence = refl; epoch = refl; given = refl; making = refl; by_guid = refl; opened = refl }
 
 pub expire_moves : (s : Server) (o : ℕ) → Moves s (expire s o)
 expire_moves s o = moves_on s (leave_open s o) (expire s o) (leave_moves s o) (moves_alike _ _ (mark_alike (leave_open s o) (s.opened o).client (s.opened o).guid))
 
 closed_alike : (s : Server) (session : ℕ) (guid : Option ℕ) → Alike s (keep_closed s session guid)
 closed_alike s session None = same s
-closed_alike s session (Some g) = record { standing = refl; present = refl; at = refl; sequence = refl; epoch = refl; given = refl; making = refl; by_guid = refl }
+closed_alike s session (Some g) = record { standing = refl; present = refl; at = refl; sequence = refl; epoch = refl; given = refl; making = refl; by_guid = refl; opened = refl }
 
 pub shut_moves : (s : Server) (o session : ℕ) (guid : Option ℕ) → Moves s (keep_closed (leave_open s o) session guid)
 shut_moves s o session guid = moves_on s (leave_open s o) _ (leave_moves s o) (moves_alike _ _ (closed_alike (leave_open s o) session guid))
@@ -135,6 +144,8 @@ reach_moves s m o low l =
       low = reached_low s m.sequence o l;
       making = λ x k h. h;
       guid = λ c g p h. h;
+      there = λ x h. h;
+      row = refl;
     })
 
 attach_pair : (s : Server) (m : Message) (p : ℕ) → s.at p ≡ None → (x q o : ℕ) → Pair s x q o → Pair (attach s m p) x q o
@@ -155,24 +166,26 @@ attached_moves s m o l =
       low = λ low p. let old = low p in grind arith;
       making = λ x k h. h;
       guid = λ c g p h. h;
+      there = λ x h. h;
+      row = refl;
     })
 
 -- ---- what touches no pair
 
 pub slot_alike : (s : Server) (o index number status : ℕ) → Alike s (keep_slot s o index number status)
-slot_alike s o index number status = either (Alike s) (is_slot index) _ _ (λ _. record { standing = refl; present = refl; at = refl; sequence = refl; epoch = refl; given = refl; making = refl; by_guid = refl }) (λ _. same s)
+slot_alike s o index number status = either (Alike s) (is_slot index) _ _ (λ _. record { standing = refl; present = refl; at = refl; sequence = refl; epoch = refl; given = refl; making = refl; by_guid = refl; opened = refl }) (λ _. same s)
 
 pub change_alike : (s : Server) (f now : ℕ) (change : Change) → Alike s (change_file s f now change)
-change_alike s f now (PutBytes at bytes) = record { standing = refl; present = refl; at = refl; sequence = refl; epoch = refl; given = refl; making = refl; by_guid = refl }
-change_alike s f now (PutEnd size) = record { standing = refl; present = refl; at = refl; sequence = refl; epoch = refl; given = refl; making = refl; by_guid = refl }
-change_alike s f now (PutBasic basic) = record { standing = refl; present = refl; at = refl; sequence = refl; epoch = refl; given = refl; making = refl; by_guid = refl }
-change_alike s f now (PutMark flag) = record { standing = refl; present = refl; at = refl; sequence = refl; epoch = refl; given = refl; making = refl; by_guid = refl }
-change_alike s f now (PutPath replaced path) = record { standing = refl; present = refl; at = refl; sequence = refl; epoch = refl; given = refl; making = refl; by_guid = refl }
+change_alike s f now (PutBytes at bytes) = record { standing = refl; present = refl; at = refl; sequence = refl; epoch = refl; given = refl; making = refl; by_guid = refl; opened = refl }
+change_alike s f now (PutEnd size) = record { standing = refl; present = refl; at = refl; sequence = refl; epoch = refl; given = refl; making = refl; by_guid = refl; opened = refl }
+change_alike s f now (PutBasic basic) = record { standing = refl; present = refl; at = refl; sequence = refl; epoch = refl; given = refl; making = refl; by_guid = refl; opened = refl }
+change_alike s f now (PutMark flag) = record { standing = refl; present = refl; at = refl; sequence = refl; epoch = refl; given = refl; making = refl; by_guid = refl; opened = refl }
+change_alike s f now (PutPath replaced path) = record { standing = refl; present = refl; at = refl; sequence = refl; epoch = refl; given = refl; making = refl; by_guid = refl; opened = refl }
 change_alike s f now PutNothing = same s
 
 pub file_alike : (s : Server) (r : CreateRequest) (found : Option ℕ) (now : ℕ) → Alike s (file_made s r found now)
-file_alike s r None now = record { standing = refl; present = refl; at = refl; sequence = refl; epoch = refl; given = refl; making = refl; by_guid = refl }
-file_alike s r (Some f) now = either (Alike s) (empties r.disposition) _ _ (λ _. record { standing = refl; present = refl; at = refl; sequence = refl; epoch = refl; given = refl; making = refl; by_guid = refl }) (λ _. same s)
+file_alike s r None now = record { standing = refl; present = refl; at = refl; sequence = refl; epoch = refl; given = refl; making = refl; by_guid = refl; opened = refl }
+file_alike s r (Some f) now = either (Alike s) (empties r.disposition) _ _ (λ _. record { standing = refl; present = refl; at = refl; sequence = refl; epoch = refl; given = refl; making = refl; by_guid = refl; opened = refl }) (λ _. same s)
 
 -- ---- sessions
 
@@ -202,10 +215,15 @@ end_moves s session now is_quiet =
       low = λ l. l;
       making = λ x k h. h;
       guid = λ c g o h. staying_guid s session (s.by_guid c g) o h;
+      there = λ x h. ended_present s.present session x h;
+      row = refl;
     }
   where
     front_of : (a b : Bool) → (a && b) ≡ true → a ≡ true
     front_of a b e = grind arith
+
+    ended_present : (f : ℕ → Bool) (session x : ℕ) → put f session false x ≡ true → f x ≡ true
+    ended_present f session x e = grind arith
 
 pub end_named_moves : (s : Server) (now : ℕ) (session : Option ℕ) (is_quiet : Bool) → Moves s (end_if_named s now session is_quiet)
 end_named_moves s now None is_quiet = moves_alike s s (same s)
@@ -223,13 +241,13 @@ pub take_out_moves : (s : Server) (k now : ℕ) (is_quiet : Bool) → Moves s (t
 take_out_moves s k now is_quiet =
     let t = end_if_named s now (ends_with s k) is_quiet in
     moves_on s t (forget_connection t k) (end_named_moves s now (ends_with s k) is_quiet)
-    (record { pair = λ x q o h. h; stands = λ o h. h; epoch = refl; given = refl; low = λ l. l; making = λ x j h. forgotten t.making k x j h; guid = λ c g o h. h })
+    (record { pair = λ x q o h. h; stands = λ o h. h; epoch = refl; given = refl; low = λ l. l; making = λ x j h. forgotten t.making k x j h; guid = λ c g o h. h; there = λ x h. h; row = refl })
   where
     forgotten : (f : ℕ → Option Making) (k x j : ℕ) → is_new x (f j) ≡ false → is_new x (put f k None j) ≡ false
     forgotten f k x j h = grind arith
 
 pub deadlines_moves : (s : Server) (now : ℕ) → Moves s (with_deadlines s now)
-deadlines_moves s now = moves_alike s (with_deadlines s now) (record { standing = refl; present = refl; at = refl; sequence = refl; epoch = refl; given = refl; making = refl; by_guid = refl })
+deadlines_moves s now = moves_alike s (with_deadlines s now) (record { standing = refl; present = refl; at = refl; sequence = refl; epoch = refl; given = refl; making = refl; by_guid = refl; opened = refl })
 
 -- it has left
 pub shut_left : (s : Server) (o session : ℕ) (guid : Option ℕ) → (keep_closed (leave_open s o) session guid).standing o ≡ false
@@ -239,3 +257,96 @@ shut_left s o session guid =
   where
     put_self : (f : ℕ → Bool) (p : ℕ) → put f p false p ≡ false
     put_self f p = grind arith
+
+-- ---- where no message comes to an open: no open is attached and no sequence rises
+
+pub record Still (s t : Server) : Type 0 where
+  pub at : (o x : ℕ) → t.at o ≡ Some x → s.at o ≡ Some x
+  pub sequence : (o : ℕ) → t.sequence o ≤ s.sequence o
+
+pub still_same : (s : Server) → Still s s
+still_same s = record { at = λ o x e. e; sequence = λ o. omega arith }
+
+pub still_on : (s t u : Server) → Still s t → Still t u → Still s u
+still_on s t u a b = record { at = λ o x e. a.at o x (b.at o x e); sequence = λ o. let l = a.sequence o in let m = b.sequence o in omega (arith, l, m) }
+
+-- the columns are the same
+pub still_alike : (s t : Server) → t.at ≡ s.at → t.sequence ≡ s.sequence → Still s t
+still_alike s t a q = record { at = λ o x e. ap (λ f. f o) (sym a) ∙ e; sequence = λ o. let l = ap (λ f. f o) q in omega (arith, l) }
+
+still_drop : (s : Server) (o : ℕ) → Still s (drop_open s o)
+still_drop s o = record { at = λ p x e. dropped s.at o p x e; sequence = λ p. omega arith }
+  where
+    dropped : (f : ℕ → Option ℕ) (o p x : ℕ) → put f o None p ≡ Some x → f p ≡ Some x
+    dropped f o p x e = grind arith
+
+still_gone : (s : Server) (f : ℕ) → Still s (without_gone s f)
+still_gone s f = either (Still s) (goes s f) (remove_file s f) s (λ _. still_alike s _ refl refl) (λ _. still_same s)
+
+still_marked : (s : Server) (o : ℕ) → Still s (marked_by s o)
+still_marked s o = either (Still s) (deletes_on_close (s.opened o).options) (mark_file s (s.opened o).file true) s (λ _. still_alike s _ refl refl) (λ _. still_same s)
+
+pub still_leave : (s : Server) (o : ℕ) → Still s (leave_open s o)
+still_leave s o =
+    still_on s (marked_by s o) (leave_open s o) (still_marked s o)
+    (still_on (marked_by s o) (drop_open (marked_by s o) o) (leave_open s o) (still_drop (marked_by s o) o) (still_gone (drop_open (marked_by s o) o) (s.opened o).file))
+
+still_mark : (s : Server) (client : ℕ) (guid : Option ℕ) → Still s (add_mark s client guid)
+still_mark s client None = still_same s
+still_mark s client (Some g) = still_alike s _ refl refl
+
+pub still_expire : (s : Server) (o : ℕ) → Still s (expire s o)
+still_expire s o = still_on s (leave_open s o) (expire s o) (still_leave s o) (still_mark (leave_open s o) (s.opened o).client (s.opened o).guid)
+
+pub still_shut : (s : Server) (o session : ℕ) (guid : Option ℕ) → Still s (keep_closed (leave_open s o) session guid)
+still_shut s o session None = still_leave s o
+still_shut s o session (Some g) = still_on s (leave_open s o) _ (still_leave s o) (still_alike (leave_open s o) _ refl refl)
+
+pub still_end : (s : Server) (session now : ℕ) (is_quiet : Bool) → Still s (end_session s session now is_quiet)
+still_end s session now is_quiet = record { at = λ o x e. uncleared session (s.at o) x e; sequence = λ o. omega arith }
+  where
+    uncleared : (session : ℕ) (a : Option ℕ) (x : ℕ) → cleared session a ≡ Some x → a ≡ Some x
+    uncleared session a x e = grind arith
+
+pub still_end_named : (s : Server) (now : ℕ) (session : Option ℕ) (is_quiet : Bool) → Still s (end_if_named s now session is_quiet)
+still_end_named s now None is_quiet = still_same s
+still_end_named s now (Some session) is_quiet = still_end s session now is_quiet
+
+pub still_take_out : (s : Server) (k now : ℕ) (is_quiet : Bool) → Still s (take_out s k now is_quiet)
+still_take_out s k now is_quiet = still_on s (end_if_named s now (ends_with s k) is_quiet) _ (still_end_named s now (ends_with s k) is_quiet) (still_alike (end_if_named s now (ends_with s k) is_quiet) _ refl refl)
+
+pub still_deadlines : (s : Server) (now : ℕ) → Still s (with_deadlines s now)
+still_deadlines s now = still_alike s _ refl refl
+
+-- ---- and no byte changes
+
+pub content_leave : (s : Server) (o : ℕ) → (leave_open s o).content ≡ s.content
+content_leave s o =
+    gone (drop_open (marked_by s o) o) (s.opened o).file ∙ either (λ (t : Server). t.content ≡ s.content) (deletes_on_close (s.opened o).options) (mark_file s (s.opened o).file true) s (λ _. refl) (λ _. refl)
+  where
+    gone : (s : Server) (f : ℕ) → (without_gone s f).content ≡ s.content
+    gone s f = either (λ (t : Server). t.content ≡ s.content) (goes s f) (remove_file s f) s (λ _. refl) (λ _. refl)
+
+pub content_expire : (s : Server) (o : ℕ) → (expire s o).content ≡ s.content
+content_expire s o = marked (leave_open s o) (s.opened o).client (s.opened o).guid ∙ content_leave s o
+  where
+    marked : (s : Server) (client : ℕ) (guid : Option ℕ) → (add_mark s client guid).content ≡ s.content
+    marked s client None = refl
+    marked s client (Some g) = refl
+
+pub content_shut : (s : Server) (o session : ℕ) (guid : Option ℕ) → (keep_closed (leave_open s o) session guid).content ≡ s.content
+content_shut s o session None = content_leave s o
+content_shut s o session (Some g) = content_leave s o
+
+pub content_end_named : (s : Server) (now : ℕ) (session : Option ℕ) (is_quiet : Bool) → (end_if_named s now session is_quiet).content ≡ s.content
+content_end_named s now None is_quiet = refl
+content_end_named s now (Some session) is_quiet = refl
+
+pub content_slot : (s : Server) (o index number status : ℕ) → (keep_slot s o index number status).content ≡ s.content
+content_slot s o index number status = either (λ (t : Server). t.content ≡ s.content) (is_slot index) _ _ (λ _. refl) (λ _. refl)
+
+pub content_reach : (s : Server) (m : Message) (o : ℕ) → (reach s m o).content ≡ s.content
+content_reach s m o = either (λ (t : Server). t.content ≡ s.content) (is_late s m o) s (record s { sequence = put s.sequence o m.sequence }) (λ _. refl) (λ _. refl)
+
+pub content_attached : (s : Server) (m : Message) (o : ℕ) → (attached s m o).content ≡ s.content
+content_attached s m o = either (λ (t : Server). t.content ≡ s.content) (is_some (s.at o)) s (attach s m o) (λ _. refl) (λ _. refl)
