@@ -78,9 +78,9 @@ at_reached s m o A g on still r p x e =
     elim (is_late s m o) as (λ b. is_late s m o ≡ b → (s.at p ≡ Some x × A.server.sequence p ≤ s.sequence p) ⊎ (A.reached ≡ Some p × x ≡ m.session × A.server.sequence p ≤ m.sequence)) [
       | true ↦ λ l. inl (at, grind arith)
       | false ↦ λ l. elim (p == o) as (λ b. p == o ≡ b → (s.at p ≡ Some x × A.server.sequence p ≤ s.sequence p) ⊎ (A.reached ≡ Some p × x ≡ m.session × A.server.sequence p ≤ m.sequence)) [
-          | true ↦ λ z. let q : p ≡ o = eqb-true p o z in let own = (on_open s o m.session on).1 in inr (grind arith, some_same x m.session (sym at ∙ (ap s.at q ∙ own)), grind arith)
-          | false ↦ λ z. let q : p ≢ o = eqb-false p o z in inl (at, grind arith)
-        ] refl
+        | true ↦ λ z. let q : p ≡ o = eqb-true p o z in let own = (on_open s o m.session on).1 in inr (grind arith, some_same x m.session (sym at ∙ (ap s.at q ∙ own)), grind arith)
+        | false ↦ λ z. let q : p ≢ o = eqb-false p o z in inl (at, grind arith)
+      ] refl
     ] refl
   where
     same_at : (reach s m o).at p ≡ Some x → s.at p ≡ Some x
@@ -94,9 +94,9 @@ at_attached s m o p x r a e =
     elim (is_some (s.at o)) as (λ b. is_some (s.at o) ≡ b → (s.at p ≡ Some x × (attached s m o).sequence p ≤ s.sequence p) ⊎ (r ≡ Some p × x ≡ m.session × (attached s m o).sequence p ≤ m.sequence)) [
       | true ↦ λ l. inl (grind arith, grind arith)
       | false ↦ λ l. elim (p == o) as (λ b. p == o ≡ b → (s.at p ≡ Some x × (attached s m o).sequence p ≤ s.sequence p) ⊎ (r ≡ Some p × x ≡ m.session × (attached s m o).sequence p ≤ m.sequence)) [
-          | true ↦ λ z. let q : p ≡ o = eqb-true p o z in inr (grind arith, grind arith, grind arith)
-          | false ↦ λ z. let q : p ≢ o = eqb-false p o z in inl (grind arith, grind arith)
-        ] refl
+        | true ↦ λ z. let q : p ≡ o = eqb-true p o z in inr (grind arith, grind arith, grind arith)
+        | false ↦ λ z. let q : p ≢ o = eqb-false p o z in inl (grind arith, grind arith)
+      ] refl
     ] refl
 
 -- the sequence came to its open

@@ -61,10 +61,11 @@ place_facts w a q i iso =
           (x.0, x.1, subst (λ r. w.log.bytes r (n + 1) ≡ effect (content_op (w.client.op (w.log.who n))) (w.log.bytes r n)) k.0 x.2);
       unacted = λ n b l d. i.quiet n q l made b d;
       foreign = λ n b l o. i.foreign n q l made b z.0 (not_of w q (w.log.who n) o);
-      gave = λ n v b l o e. let k = of_open w q (w.log.who n) o in let x = i.gave n v l k.1 e in
-          (subst (λ r. value (content_op (w.client.op (w.log.who n))) (w.log.bytes r n) ≡ v) k.0 x.0,
-          subst (λ r. w.log.bytes r (n + 1) ≡ effect (content_op (w.client.op (w.log.who n))) (w.log.bytes r n)) k.0 x.1,
-          subst (λ r. past_end (content_op (w.client.op (w.log.who n))) (w.log.bytes r n) ≡ false) k.0 x.2);
+      gave = λ n v b l o e. let k = of_open w q (w.log.who n) o in let x = i.gave n v l k.1 e in (
+        subst (λ r. value (content_op (w.client.op (w.log.who n))) (w.log.bytes r n) ≡ v) k.0 x.0,
+        subst (λ r. w.log.bytes r (n + 1) ≡ effect (content_op (w.client.op (w.log.who n))) (w.log.bytes r n)) k.0 x.1,
+        subst (λ r. past_end (content_op (w.client.op (w.log.who n))) (w.log.bytes r n) ≡ false) k.0 x.2,
+      );
       gave_end = λ n b l o e. let k = of_open w q (w.log.who n) o in let x = i.gave_end n l k.1 e in subst (λ r. past_end (content_op (w.client.op (w.log.who n))) (w.log.bytes r n) ≡ true) k.0 x;
       first_at = λ g p o e. let k = of_open w q g o in let x = i.first_at g p e in (since_birth g p k x.0 x.1 x.2, x.0, x.1, x.3);
       by_at = λ g p o e. let k = of_open w q g o in let x = i.by g p e in (since_birth g p k x.0 x.1 x.2, x.0, x.1);

@@ -4,6 +4,7 @@ pub mod Answers
 pub mod Others
 pub mod Calm
 pub mod Newer
+pub mod Lower
 pub mod Legal
 pub mod Moved
 pub mod Words

@@ -212,7 +212,7 @@ Acted c l = (n : ℕ) → n < l.places → l.did n ≡ true → lists (c.op (l.w
 abbrev pub Gave : Client → Log → Type 0
 Gave c l = (n : ℕ) (v : ContentReply) → n < l.places → lists (c.op (l.who n)) ≡ true → l.gave n ≡ Says_ok v
     → reply_to (c.op (l.who n)) (l.bytes (create_at c (l.who n)) n) ≡ v × l.bytes (create_at c (l.who n)) (n + 1) ≡ bytes_after (c.op (l.who n)) (l.bytes (create_at c (l.who n)) n)
-        × ends_before (c.op (l.who n)) (l.bytes (create_at c (l.who n)) n) ≡ false
+    × ends_before (c.op (l.who n)) (l.bytes (create_at c (l.who n)) n) ≡ false
 
 abbrev pub GaveEnd : Client → Log → Type 0
 GaveEnd c l = (n : ℕ) → n < l.places → lists (c.op (l.who n)) ≡ true → l.gave n ≡ Says_end → ends_before (c.op (l.who n)) (l.bytes (create_at c (l.who n)) n) ≡ true

@@ -4,12 +4,10 @@
 //! Each law is a public function with an empty body; its contract is the statement.
 #![tactic(auto)]
 
-ghost use Rattle.exchange_defs.specs.Network.{Settings};
 ghost use Rattle.exchange_defs.specs.Statements.{Newer};
-ghost use Rattle.order_law.specs.Newest.{BelowAll};
 
 /// Where a write or set-info acts on an open, no pair that reached this open before is newer than the message's: on every
-/// run, provided that what is said of the server and of the sessions alone holds on every run.
-pub fn newer_over_sessions()
-    ensures newer { ((z : Settings) → BelowAll z) → Newer }
+/// run, of one client and one server, whatever the network loses.
+pub fn newer_law()
+    ensures newer { Newer }
 {}

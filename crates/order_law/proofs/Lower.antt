@@ -1,0 +1,32 @@
+-- What the layers below say of every run.
+use Rattle.exchange_defs.specs.State.{Server}
+use Rattle.exchange_defs.specs.Network.{Event, Settings, run, start}
+use Rattle.exchange_defs.specs.Statements.{Newer}
+use Rattle.std.proofs.Common.{List}
+use Rattle.server_law.proofs.Run.{fitting}
+use Rattle.session_law.proofs.Always.{sessions, stored}
+use Rattle.order_law.specs.Newest.{BelowAll}
+use Rattle.order_law.proofs.Newer.{newer}
+
+pub below : (z : Settings) → BelowAll z
+below z es =
+    let f = fitting z es in let i = sessions z es in let k = stored z es in
+    record {
+      attached = f.attached;
+      guid_open = f.guid_open;
+      open_ids = f.open_ids;
+      given = f.given;
+      ranks = i.ranks;
+      last_rank = i.last_rank;
+      rank_once = i.rank_once;
+      pending_unranked = i.pending_unranked;
+      ranked_up = i.ranked_up;
+      sequences_up = i.sequences_up;
+      dialog_up = i.dialog_up;
+      present_accepted = i.present_accepted;
+      making_unranked = i.making_unranked;
+      recorded = k.epoch;
+    }
+
+pub newer_always : Newer
+newer_always = newer below
