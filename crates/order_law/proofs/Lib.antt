@@ -5,6 +5,7 @@ pub mod Others
 pub mod Calm
 pub mod Newer
 pub mod Lower
+pub mod Listed
 pub mod Legal
 pub mod Moved
 pub mod Words
