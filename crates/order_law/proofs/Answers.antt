@@ -1,6 +1,6 @@
 -- What an answer to a message does to the pairs that reached the opens, for whichever check answered.
 use Rattle.std.proofs.lemmas.Bool.{eqb-false}
-use Rattle.std.proofs.Common.{eqb-true, ◌⊎◌, ◌==◌, ◌≢◌, ◌≡◌, ◌≢◌, ℕ, ◌+◌, ◌≤◌, true, false, List, refl, arith, sym, subst, ◌∙◌, ap, Option, Some, None, is_some, inl, inr}
+use Rattle.std.proofs.Common.{eqb-true, ◌⊎◌, ◌==◌, ◌≢◌, ◌≡◌, ℕ, Bool, ◌+◌, ◌≤◌, true, false, List, refl, arith, sym, subst, ◌∙◌, ap, Option, Some, None, is_some, inl, inr}
 use Rattle.exchange_defs.specs.Table.{put}
 use Rattle.exchange_defs.specs.Commands.{Command, Aside, Unreadable, Setup, Logoff, TreeConnect, TreeDisconnect, Create, Close, Flush, Read, Write, Lock, Ioctl, ListDirectory, QueryFile, QueryVolume, SetInfo, CreateRequest, SetupRequest}
 use Rattle.exchange_defs.specs.State.{Server, Message, Heard, Record, Answer}
@@ -15,7 +15,7 @@ use Rattle.exchange_defs.specs.Network.{answer_to}
 use Rattle.exchange_law.proofs.Doors.{by_verdict, recorded, Before, Finds}
 use Rattle.order_law.specs.Newest.{Pair, LowSequences}
 use Rattle.order_law.proofs.Sound.{Sound, sound, sound_without_room}
-use Rattle.order_law.proofs.Pairs.{shut_left, Alike, Moves, same, moves_alike, moves_on, expire_moves, shut_moves, in_time, reach_moves, attached_moves, slot_alike, change_alike, file_alike, end_moves, end_named_moves, begun_pair, deadlines_moves, gone_alike, marked_alike, mark_alike, Still, still_same, still_alike, still_on, still_shut, still_end, still_end_named, still_expire, still_deadlines}
+use Rattle.order_law.proofs.Pairs.{shut_left, Alike, Moves, same, moves_alike, moves_on, expire_moves, shut_moves, in_time, reach_moves, attached_moves, slot_alike, change_alike, file_alike, end_moves, end_named_moves, begun_pair, deadlines_moves, gone_alike, marked_alike, mark_alike, Still, still_same, still_alike, still_on, still_shut, still_end, still_end_named, still_expire, still_deadlines, content_expire}
 
 -- every pair is kept of which the session isn't in the making where the message came from
 pub record Facts (s : Server) (m : Message) (A : Answer) : Type 0 where
@@ -300,6 +300,9 @@ pub record Earlier (s t : Server) : Type 0 where
   pub still : Still s t
   pub present : t.present ≡ s.present
   pub at : (o x : ℕ) → t.at o ≡ Some x → s.at o ≡ Some x
+  pub content : t.content ≡ s.content
+  pub sequence : t.sequence ≡ s.sequence
+  pub at_on : (o : ℕ) → t.standing o ≡ true → t.at o ≡ s.at o
 
 drop_at : (s : Server) (p o x : ℕ) → put s.at p None o ≡ Some x → s.at o ≡ Some x
 drop_at s p o x e = grind arith
@@ -310,11 +313,23 @@ leave_at s p o x e = let a = gone_alike (drop_open (marked_by s p) p) (s.opened 
 leave_present : (s : Server) (p : ℕ) → (leave_open s p).present ≡ s.present
 leave_present s p = let a = gone_alike (drop_open (marked_by s p) p) (s.opened p).file in let b = marked_alike s p in a.present ∙ b.present
 
+leave_sequence : (s : Server) (p : ℕ) → (leave_open s p).sequence ≡ s.sequence
+leave_sequence s p = let a = gone_alike (drop_open (marked_by s p) p) (s.opened p).file in let b = marked_alike s p in a.sequence ∙ b.sequence
+
+leave_on : (s : Server) (p o : ℕ) → (leave_open s p).standing o ≡ true → (leave_open s p).at o ≡ s.at o
+leave_on s p o h =
+    let a = gone_alike (drop_open (marked_by s p) p) (s.opened p).file in let b = marked_alike s p in
+    ap (λ f. f o) a.at ∙ dropped (marked_by s p).standing (marked_by s p).at p o (ap (λ f. f o) (sym a.standing) ∙ h) ∙ ap (λ f. f o) b.at
+  where
+    dropped : (f : ℕ → Bool) (g : ℕ → Option ℕ) (p o : ℕ) → put f p false o ≡ true → put g p None o ≡ g o
+    dropped f g p o e = grind arith
+
 pub earlier : (s : Server) (now : ℕ) (t : Server) → Before s now t → Earlier s t
-earlier s now t (inl e) = subst (Earlier s) (sym e) (record { moves = deadlines_moves s now; still = still_deadlines s now; present = refl; at = λ o x h. h })
+earlier s now t (inl e) = subst (Earlier s) (sym e) (record { moves = deadlines_moves s now; still = still_deadlines s now; present = refl; at = λ o x h. h; content = refl; sequence = refl; at_on = λ o h. refl })
 earlier s now t (inr (o, due, e)) =
     let d = with_deadlines s now in let l = leave_open d o in let m = mark_alike l (d.opened o).client (d.opened o).guid in
-    subst (Earlier s) (sym e) (record { moves = moves_on s d (expire d o) (deadlines_moves s now) (expire_moves d o); still = still_on s d (expire d o) (still_deadlines s now) (still_expire d o); present = m.present ∙ leave_present d o; at = λ p x h. leave_at d o p x (ap (λ f. f p) (sym m.at) ∙ h) })
+    subst (Earlier s) (sym e) (record { moves = moves_on s d (expire d o) (deadlines_moves s now) (expire_moves d o); still = still_on s d (expire d o) (still_deadlines s now) (still_expire d o); present = m.present ∙ leave_present d o; at = λ p x h. leave_at d o p x (ap (λ f. f p) (sym m.at) ∙ h);
+      content = content_expire d o; sequence = m.sequence ∙ leave_sequence d o; at_on = λ p h. ap (λ f. f p) m.at ∙ leave_on d o p (ap (λ f. f p) (sym m.standing) ∙ h) })
 
 given_behind : (s t : Server) (m : Message) → Given s m → Earlier s t → Given t m
 given_behind s t m g k =

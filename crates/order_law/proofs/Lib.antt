@@ -6,6 +6,7 @@ pub mod Calm
 pub mod Newer
 pub mod Lower
 pub mod Listed
+pub mod Served
 pub mod Legal
 pub mod Moved
 pub mod Words
