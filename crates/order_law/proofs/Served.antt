@@ -5,17 +5,18 @@ use Rattle.std.proofs.Common.{eqb-true, ◌⊎◌, inl, inr, ◌≡◌, ◌≢�
 use Rattle.exchange_defs.specs.Table.{put, is_at}
 use Rattle.exchange_defs.specs.Texts.{same_name}
 use Rattle.exchange_defs.specs.Status.{success, user_session_deleted, file_closed, file_not_available, end_of_file}
-use Rattle.exchange_defs.specs.Content.{ContentOp, is_change, effect, value, past_end, written, ended}
-use Rattle.exchange_defs.specs.Commands.{Command, Aside, Unreadable, Setup, Logoff, TreeConnect, TreeDisconnect, Create, Close, Flush, Read, Write, Lock, Ioctl, ListDirectory, QueryFile, QueryVolume, SetInfo, CreateRequest, Reconnect, form}
+use Rattle.exchange_defs.specs.Content.{ContentOp, Write as Writes, Read as Reads, SetEnd as Ends, Still, is_change, effect, value, past_end, written, ended}
+use Rattle.exchange_defs.specs.Commands.{Command, Aside, Unreadable, Setup, Logoff, TreeConnect, TreeDisconnect, Create, Close, Flush, Read, Write, Lock, Ioctl, ListDirectory, QueryFile, QueryVolume, SetInfo, CreateRequest, Reconnect, form, deletes_on_close}
 use Rattle.exchange_defs.specs.State.{Server, Message, Heard, Record, Answer, Body}
-use Rattle.exchange_defs.specs.Opens.{id_of, is_of_session}
+use Rattle.exchange_defs.specs.Files.{mark_file, remove_file}
+use Rattle.exchange_defs.specs.Opens.{id_of, is_of_session, leave_open, drop_open, marked_by, without_gone, goes}
 use Rattle.exchange_defs.specs.CheckCreate.{has_guid}
 use Rattle.exchange_defs.specs.CheckOpen.{is_late, file_of}
 use Rattle.exchange_defs.specs.CheckSetup.{tree_in}
 use Rattle.exchange_defs.specs.Check.{check}
 use Rattle.exchange_defs.specs.Effects.{apply, reach, reaches, change_file, attached, attach}
 use Rattle.exchange_defs.specs.Verdict.{Verdict, Refuse, Give, KeepRefusal, Repeat, Attach, Make, TurnDown, Tell, Show, KeepSlot, PutRanges, Alter, Shut, Challenge, ChallengeBinding, Begin, Join, EndSession, AddTree, DropTree, Change, PutBytes, PutEnd, PutBasic, PutMark, PutPath, PutNothing}
-use Rattle.exchange_defs.specs.Step.{step}
+use Rattle.exchange_defs.specs.Step.{step, with_deadlines, expire, add_mark}
 use Rattle.exchange_defs.specs.Network.{content_reply, answer_to}
 use Rattle.exchange_law.proofs.Doors.{either, by_verdict, recorded, Before, Finds}
 use Rattle.order_law.specs.Newest.{Pair, LowSequences}
@@ -168,3 +169,181 @@ listed_before s t m op o A k back f =
       closed = λ e st at. f.closed e st (k.at_on o (back st) ∙ at);
       stale = λ e. let h = f.stale e in (k.at o m.session h.0, subst (λ n. m.sequence < n) sq h.1);
     }
+
+listed_standing : (s : Server) (m : Message) (op : ContentOp) (o now : ℕ) → (v : Verdict) → Listed s m op o v → (apply s m now v).server.standing ≡ s.standing
+listed_standing s m op o now (Refuse status) h = refl
+listed_standing s m op o now (TurnDown p status) h = reach_standing s m p
+listed_standing s m op o now (Tell p body) h = reach_standing s m p
+listed_standing s m op o now (Alter p change body) h = standing_changed (reach s m p) (file_of s p) now change ∙ reach_standing s m p
+listed_standing s m op o now (Give body) h = absurd (h.is)
+listed_standing s m op o now (KeepRefusal guid status) h = absurd (h.is)
+listed_standing s m op o now (Repeat p r) h = absurd (h.is)
+listed_standing s m op o now (Attach p r) h = absurd (h.is)
+listed_standing s m op o now (Make r found action) h = absurd (h.is)
+listed_standing s m op o now (Show p last body) h = absurd (h.is)
+listed_standing s m op o now (KeepSlot p index number status elements) h = absurd (h.is)
+listed_standing s m op o now (PutRanges p index number ranges elements) h = absurd (h.is)
+listed_standing s m op o now (Shut p body) h = absurd (h.is)
+listed_standing s m op o now Challenge h = absurd (h.is)
+listed_standing s m op o now (ChallengeBinding session) h = absurd (h.is)
+listed_standing s m op o now (Begin session user previous r is_quiet) h = absurd (h.is)
+listed_standing s m op o now (Join session) h = absurd (h.is)
+listed_standing s m op o now (EndSession session is_quiet) h = absurd (h.is)
+listed_standing s m op o now (AddTree pipes) h = absurd (h.is)
+listed_standing s m op o now DropTree h = absurd (h.is)
+
+listed_recorded : (s : Server) (m : Message) (op : ContentOp) (o : ℕ) (A : Answer) (records : List Record) → ListedFacts s m op o A → ListedFacts s m op o (recorded A records)
+listed_recorded s m op o A records f = record { acts = f.acts; again = f.again; done = f.done; ended = f.ended; reached = f.reached; closed = f.closed; stale = f.stale }
+
+found_listed : (t : Server) (m : Message) (op : ContentOp) (o : ℕ) (v : Verdict) → Listed t m op o (check t m) → Finds t m v → Listed t m op o v
+found_listed t m op o v l (inl e) = subst (Listed t m op o) (sym e) l
+found_listed t m op o v l (inr e) = subst (Listed t m op o) (sym e) (listed_without_room t m op o (check t m) l)
+
+-- an expiry leaves sequences low and trees as they are
+before_low : (s t : Server) → Earlier s t → LowSequences s → LowSequences t
+before_low s t k low = k.moves.low low
+
+leave_trees : (s : Server) (o : ℕ) → (leave_open s o).trees ≡ s.trees × (leave_open s o).user ≡ s.user
+leave_trees s o = let g = gone_trees (drop_open (marked_by s o) o) (s.opened o).file in let k = marked_trees s o in (g.0 ∙ k.0, g.1 ∙ k.1)
+  where
+    gone_trees : (s : Server) (f : ℕ) → (without_gone s f).trees ≡ s.trees × (without_gone s f).user ≡ s.user
+    gone_trees s f = either (λ (t : Server). t.trees ≡ s.trees × t.user ≡ s.user) (goes s f) (remove_file s f) s (λ _. (refl, refl)) (λ _. (refl, refl))
+
+    marked_trees : (s : Server) (o : ℕ) → (marked_by s o).trees ≡ s.trees × (marked_by s o).user ≡ s.user
+    marked_trees s o = either (λ (t : Server). t.trees ≡ s.trees × t.user ≡ s.user) (deletes_on_close (s.opened o).options) (mark_file s (s.opened o).file true) s (λ _. (refl, refl)) (λ _. (refl, refl))
+
+expire_trees : (s : Server) (o : ℕ) → (expire s o).trees ≡ s.trees × (expire s o).user ≡ s.user
+expire_trees s o = by_guid (s.opened o).guid
+  where
+    by_guid : (g : Option ℕ) → (add_mark (leave_open s o) (s.opened o).client g).trees ≡ s.trees × (add_mark (leave_open s o) (s.opened o).client g).user ≡ s.user
+    by_guid None = leave_trees s o
+    by_guid (Some g) = leave_trees s o
+
+before_trees : (s : Server) (now : ℕ) (t : Server) → Before s now t → t.trees ≡ s.trees
+before_trees s now t (inl e) = ap (λ (u : Server). u.trees) e
+before_trees s now t (inr (o, d, e)) = ap (λ (u : Server). u.trees) e ∙ (expire_trees (with_deadlines s now) o).0
+
+before_user : (s : Server) (now : ℕ) (t : Server) → Before s now t → t.user ≡ s.user
+before_user s now t (inl e) = ap (λ (u : Server). u.user) e
+before_user s now t (inr (o, d, e)) = ap (λ (u : Server). u.user) e ∙ (expire_trees (with_deadlines s now) o).1
+
+listed_step : (s : Server) (now : ℕ) (m : Message) (op : ContentOp) (o : ℕ) → is_asked op ≡ true → m.command ≡ asks op o → m.fault ≡ None → is_some (tree_in (s.trees m.session) m.tree) ≡ true → LowSequences s → m.sequence ≤ 32767
+    → ListedFacts s m op o (step s now (Heard m))
+listed_step s now m op o a e f t low l =
+    by_verdict (ListedFacts s m op o) s now m
+    (λ u v records b h. let k = earlier s now u b in
+      let lv = found_listed u m op o v (listed u m op o a e f (ap (λ g. is_some (tree_in (g m.session) m.tree)) (before_trees s now u b) ∙ t)) h in
+      listed_recorded s m op o _ records (listed_before s u m op o _ k (λ st. ap (λ g. g o) (sym (listed_standing u m op o now v lv)) ∙ st) (listed_facts_at u m op o now (before_low s u k low) l v lv)))
+
+asked_answer : (s : Server) (now : ℕ) (m : Message) (op : ContentOp) (o : ℕ) → is_asked op ≡ true → answer_to s now m (asks op o) ≡ step s now (Heard m)
+asked_answer s now m (Writes at bytes) o a = refl
+asked_answer s now m (Reads at n) o a = refl
+asked_answer s now m (Ends n) o a = refl
+asked_answer s now m Still o a = absurd (cc)
+
+pub listed_facts : (s : Server) (now : ℕ) (m : Message) (op : ContentOp) (o : ℕ) → is_asked op ≡ true → m.command ≡ asks op o → m.fault ≡ None → is_some (tree_in (s.trees m.session) m.tree) ≡ true → LowSequences s → m.sequence ≤ 32767
+    → ListedFacts s m op o (answer_to s now m m.command)
+listed_facts s now m op o a e f t low l =
+    subst (λ c. ListedFacts s m op o (answer_to s now m c)) (sym e) (subst (ListedFacts s m op o) (sym (asked_answer s now m op o a)) (listed_step s now m op o a e f t low l))
+
+-- ---- a request to attach an open
+
+pub record AskedFacts (s : Server) (m : Message) (c : Reconnect) (A : Answer) : Type 0 where
+  pub attached : (A.reply.status == success) ≡ true → A.server.at c.file ≡ Some m.session
+  pub refused : (A.reply.status == success) ≡ false → (A.reply.status == user_session_deleted) ≡ false → A.server.standing c.file ≡ true → has_guid c.guid (s.opened c.file).guid ≡ true → same_name (s.opened c.file).user (s.user m.session) ≡ true
+      → (is_some (s.at c.file) && not (is_at m.session (s.at c.file))) ≡ true
+  pub end : (A.reply.status == end_of_file) ≡ false
+  pub idle : A.acted ≡ false
+
+joined : (s : Server) (m : Message) (o : ℕ) → (is_some (s.at o) && not (is_at m.session (s.at o))) ≡ false → (attached s m o).at o ≡ Some m.session
+joined s m o e =
+    elim (is_some (s.at o)) as (λ b. is_some (s.at o) ≡ b → (attached s m o).at o ≡ Some m.session) [
+      | true ↦ λ z. ap (λ (t : Server). t.at o) (if_on (is_some (s.at o)) s (attach s m o) z) ∙ own (s.at o) z e
+      | false ↦ λ z. ap (λ (t : Server). t.at o) (if_off (is_some (s.at o)) s (attach s m o) z) ∙ put_here s.at o (Some m.session)
+    ] refl
+  where
+    if_on : (b : Bool) (x y : Server) → b ≡ true → (if b then x else y) ≡ x
+    if_on b x y e = rw e refl
+
+    if_off : (b : Bool) (x y : Server) → b ≡ false → (if b then x else y) ≡ y
+    if_off b x y e = rw e refl
+
+    put_here : (g : ℕ → Option ℕ) (k : ℕ) (v : Option ℕ) → put g k v k ≡ v
+    put_here g k v = grind arith
+
+    own : (a : Option ℕ) → is_some a ≡ true → (is_some a && not (is_at m.session a)) ≡ false → a ≡ Some m.session
+    own a z e = grind arith
+
+asked_facts_at : (s : Server) (m : Message) (c : Reconnect) (now : ℕ) → form m.command ≡ None → (v : Verdict) → Asked s m c v → AskedFacts s m c (apply s m now v)
+asked_facts_at s m c now f (Refuse status) h =
+    record { attached = λ e. absurd (let z = h.is.ok in grind arith); refused = λ a b st gd us. h.is.gone b f st gd us; end = h.is.end; idle = refl }
+asked_facts_at s m c now f (Attach p r) h =
+    record { attached = λ e. subst (λ q. (attached s m q).at c.file ≡ Some m.session) (sym h.is.0) (joined s m c.file h.is.1); refused = λ a. absurd (cc); end = refl; idle = refl }
+asked_facts_at s m c now f (Give body) h = absurd (h.is)
+asked_facts_at s m c now f (KeepRefusal guid status) h = absurd (h.is)
+asked_facts_at s m c now f (Repeat p r) h = absurd (h.is)
+asked_facts_at s m c now f (Make r found action) h = absurd (h.is)
+asked_facts_at s m c now f (Show p last body) h = absurd (h.is)
+asked_facts_at s m c now f (KeepSlot p index number status elements) h = absurd (h.is)
+asked_facts_at s m c now f (PutRanges p index number ranges elements) h = absurd (h.is)
+asked_facts_at s m c now f (Shut p body) h = absurd (h.is)
+asked_facts_at s m c now f Challenge h = absurd (h.is)
+asked_facts_at s m c now f (ChallengeBinding session) h = absurd (h.is)
+asked_facts_at s m c now f (Begin session user previous r is_quiet) h = absurd (h.is)
+asked_facts_at s m c now f (Join session) h = absurd (h.is)
+asked_facts_at s m c now f (EndSession session is_quiet) h = absurd (h.is)
+asked_facts_at s m c now f (AddTree pipes) h = absurd (h.is)
+asked_facts_at s m c now f DropTree h = absurd (h.is)
+asked_facts_at s m c now f (TurnDown p status) h = absurd (h.is)
+asked_facts_at s m c now f (Tell p body) h = absurd (h.is)
+asked_facts_at s m c now f (Alter p change body) h = absurd (h.is)
+
+asked_standing : (s : Server) (m : Message) (c : Reconnect) (now : ℕ) → (v : Verdict) → Asked s m c v → (apply s m now v).server.standing ≡ s.standing
+asked_standing s m c now (Refuse status) h = refl
+asked_standing s m c now (Attach p r) h = either (λ (t : Server). t.standing ≡ s.standing) (is_some (s.at p)) s (attach s m p) (λ _. refl) (λ _. refl)
+asked_standing s m c now (Give body) h = absurd (h.is)
+asked_standing s m c now (KeepRefusal guid status) h = absurd (h.is)
+asked_standing s m c now (Repeat p r) h = absurd (h.is)
+asked_standing s m c now (Make r found action) h = absurd (h.is)
+asked_standing s m c now (Show p last body) h = absurd (h.is)
+asked_standing s m c now (KeepSlot p index number status elements) h = absurd (h.is)
+asked_standing s m c now (PutRanges p index number ranges elements) h = absurd (h.is)
+asked_standing s m c now (Shut p body) h = absurd (h.is)
+asked_standing s m c now Challenge h = absurd (h.is)
+asked_standing s m c now (ChallengeBinding session) h = absurd (h.is)
+asked_standing s m c now (Begin session user previous r is_quiet) h = absurd (h.is)
+asked_standing s m c now (Join session) h = absurd (h.is)
+asked_standing s m c now (EndSession session is_quiet) h = absurd (h.is)
+asked_standing s m c now (AddTree pipes) h = absurd (h.is)
+asked_standing s m c now DropTree h = absurd (h.is)
+asked_standing s m c now (TurnDown p status) h = absurd (h.is)
+asked_standing s m c now (Tell p body) h = absurd (h.is)
+asked_standing s m c now (Alter p change body) h = absurd (h.is)
+
+asked_before : (s t : Server) (m : Message) (c : Reconnect) (A : Answer) → Earlier s t → t.user ≡ s.user → A.server.standing ≡ t.standing → AskedFacts t m c A → AskedFacts s m c A
+asked_before s t m c A k us back f =
+    let row : (t.opened c.file).guid ≡ (s.opened c.file).guid = ap (λ g. (g c.file).guid) k.moves.row in let who : (t.opened c.file).user ≡ (s.opened c.file).user = ap (λ g. (g c.file).user) k.moves.row in
+    record {
+      attached = f.attached;
+      refused = λ a b st gd un. let on = k.at_on c.file (ap (λ g. g c.file) (sym back) ∙ st) in
+        ap (λ x. is_some x && not (is_at m.session x)) (sym on) ∙ f.refused a b st (ap (has_guid c.guid) row ∙ gd) (ap (λ x. same_name x (t.user m.session)) who ∙ (ap (λ g. same_name (s.opened c.file).user (g m.session)) us ∙ un));
+      end = f.end;
+      idle = f.idle;
+    }
+
+asked_recorded : (s : Server) (m : Message) (c : Reconnect) (A : Answer) (records : List Record) → AskedFacts s m c A → AskedFacts s m c (recorded A records)
+asked_recorded s m c A records f = record { attached = f.attached; refused = f.refused; end = f.end; idle = f.idle }
+
+found_asked : (t : Server) (m : Message) (c : Reconnect) (v : Verdict) → Asked t m c (check t m) → Finds t m v → Asked t m c v
+found_asked t m c v l (inl e) = subst (Asked t m c) (sym e) l
+found_asked t m c v l (inr e) = subst (Asked t m c) (sym e) (asked_without_room t m c (check t m) l)
+
+asked_step : (s : Server) (now : ℕ) (m : Message) (r : CreateRequest) (c : Reconnect) → m.command ≡ Create r → r.reconnect ≡ Some c → m.fault ≡ None → tree_in (s.trees m.session) m.tree ≡ Some false → form m.command ≡ None → AskedFacts s m c (step s now (Heard m))
+asked_step s now m r c e k f t n =
+    by_verdict (AskedFacts s m c) s now m
+    (λ u v records b h. let q = earlier s now u b in let av = found_asked u m c v (asked u m r c e k f (ap (λ g. tree_in (g m.session) m.tree) (before_trees s now u b) ∙ t) n) h in
+      asked_recorded s m c _ records (asked_before s u m c _ q (before_user s now u b) (asked_standing u m c now v av) (asked_facts_at u m c now n v av)))
+
+pub asked_facts : (s : Server) (now : ℕ) (m : Message) (r : CreateRequest) (c : Reconnect) → m.command ≡ Create r → r.reconnect ≡ Some c → m.fault ≡ None → tree_in (s.trees m.session) m.tree ≡ Some false → form m.command ≡ None
+    → AskedFacts s m c (answer_to s now m m.command)
+asked_facts s now m r c e k f t n = subst (λ x. AskedFacts s m c (answer_to s now m x)) (sym e) (asked_step s now m r c e k f t n)
