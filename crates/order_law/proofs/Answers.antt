@@ -331,7 +331,7 @@ earlier s now t (inr (o, due, e)) =
     subst (Earlier s) (sym e) (record { moves = moves_on s d (expire d o) (deadlines_moves s now) (expire_moves d o); still = still_on s d (expire d o) (still_deadlines s now) (still_expire d o); present = m.present ∙ leave_present d o; at = λ p x h. leave_at d o p x (ap (λ f. f p) (sym m.at) ∙ h);
       content = content_expire d o; sequence = m.sequence ∙ leave_sequence d o; at_on = λ p h. ap (λ f. f p) m.at ∙ leave_on d o p (ap (λ f. f p) (sym m.standing) ∙ h) })
 
-given_behind : (s t : Server) (m : Message) → Given s m → Earlier s t → Given t m
+pub given_behind : (s t : Server) (m : Message) → Given s m → Earlier s t → Given t m
 given_behind s t m g k =
     let e = same_ids s t k.moves in
     record {
@@ -365,7 +365,7 @@ facts_before s t m A k f =
 recorded_facts : (s : Server) (m : Message) (A : Answer) (records : List Record) → Facts s m A → Facts s m (recorded A records)
 recorded_facts s m A records f = record { pair = f.pair; ids = f.ids; low = f.low; stands = f.stands; there = f.there; row = f.row; at = f.at; reached = f.reached; altered = f.altered }
 
-found_sound : (t : Server) (m : Message) (v : Verdict) → Finds t m v → Sound t m v
+pub found_sound : (t : Server) (m : Message) (v : Verdict) → Finds t m v → Sound t m v
 found_sound t m v (inl e) = subst (Sound t m) (sym e) (sound t m)
 found_sound t m v (inr e) = subst (Sound t m) (sym e) (sound_without_room t m (check t m) (sound t m))
 

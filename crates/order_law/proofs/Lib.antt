@@ -7,6 +7,8 @@ pub mod Newer
 pub mod Lower
 pub mod Listed
 pub mod Served
+pub mod Sharing
+pub mod Writing
 pub mod Legal
 pub mod Moved
 pub mod Words
