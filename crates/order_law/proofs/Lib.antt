@@ -9,6 +9,7 @@ pub mod Listed
 pub mod Served
 pub mod Sharing
 pub mod Writing
+pub mod Made
 pub mod Legal
 pub mod Moved
 pub mod Words

@@ -255,7 +255,7 @@ pub record AskedFacts (s : Server) (m : Message) (c : Reconnect) (A : Answer) : 
   pub end : (A.reply.status == end_of_file) ≡ false
   pub idle : A.acted ≡ false
 
-joined : (s : Server) (m : Message) (o : ℕ) → (is_some (s.at o) && not (is_at m.session (s.at o))) ≡ false → (attached s m o).at o ≡ Some m.session
+pub joined : (s : Server) (m : Message) (o : ℕ) → (is_some (s.at o) && not (is_at m.session (s.at o))) ≡ false → (attached s m o).at o ≡ Some m.session
 joined s m o e =
     elim (is_some (s.at o)) as (λ b. is_some (s.at o) ≡ b → (attached s m o).at o ≡ Some m.session) [
       | true ↦ λ z. ap (λ (t : Server). t.at o) (if_on (is_some (s.at o)) s (attach s m o) z) ∙ own (s.at o) z e
