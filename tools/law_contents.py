@@ -18,6 +18,7 @@ CONNECTIONS = open(os.path.join(HERE, "..", "crates", "exchange_law", "specs", "
 PARTS = {
     "token_up": ("j n x", "conns taken"),
     "token_down": ("j n y", "conns taken"),
+    "opens_up": ("j n x", "conns op outcome"),
     "lost_unknown": ("p z", "given_up outcome"),
     "lost_dead": ("p", "given_up session live"),
     "lost_known": ("p z", "given_up rank"),
@@ -53,7 +54,7 @@ PARTS = {
     "open_row": ("q o", "server trace op"),
     "open_acted": ("q o", "trace acts"),
     "bytes": ("q o", "server trace bytes places"),
-    "quiet": ("n q", "places trace birth did bytes"),
+    "quiet": ("n q", "op places trace birth did bytes"),
     "foreign": ("n q", "op places trace birth who bytes"),
     "acted": ("n", "op places did who first bytes"),
     "gave": ("n v", "op places gave who bytes"),

@@ -59,7 +59,7 @@ place_facts w a q i iso =
       acted = λ n b l o d. let k = of_open w q (w.log.who n) o in
           let x = i.acted n l d k.1 (ap (λ r. isolating (w.client.op r)) k.0 ∙ z.0) in
           (x.0, x.1, subst (λ r. w.log.bytes r (n + 1) ≡ effect (content_op (w.client.op (w.log.who n))) (w.log.bytes r n)) k.0 x.2);
-      unacted = λ n b l d. i.quiet n q l made b d;
+      unacted = λ n b l d. i.quiet n q l made b z.0 d;
       foreign = λ n b l o. i.foreign n q l made b z.0 (not_of w q (w.log.who n) o);
       gave = λ n v b l o e. let k = of_open w q (w.log.who n) o in let x = i.gave n v l k.1 e in (
         subst (λ r. value (content_op (w.client.op (w.log.who n))) (w.log.bytes r n) ≡ v) k.0 x.0,

@@ -17,9 +17,13 @@ use Rattle.exchange_law.specs.Connections.{create_at, makes_open, its_create, no
 use Rattle.exchange_law.proofs.Lists.{get-push, own_up_count, attach_up_count, own_down_count, attach_down_count, front_up, front_down, waited, waited_down}
 use Rattle.session_law.specs.Sessions.{is_ops}
 use Rattle.order_law.specs.Newest.{Pair}
-use Rattle.order_law.specs.Contents.{Contents, edits, lists, formed, isolating, clashes, bytes_after, reply_to, ends_before, file_at, pends, last_id, is_final, TokenUp, TokenDown, LostUnknown, LostDead, LostKnown, LostAsked, SessionKnown, SessionAsked, Pairwise, FirstUp, Unacted, FreshFirst, NotDone, CutSeq, OpenSeq, Older, NoReplay, CopyPair, NowPair, CreateReply, AttachReply, Reached, ClosedReply, AttachRefused, StaleReply, SessionSeq, PendingAt, LiveUnsettled, LiveReplay, Shows, Denied, OpenOf, NamedOpen, OpenGiven, OpenRow, OpenActed, Bytes, Quiet, Foreign, Acted, Gave, GaveEnd, Whose, Born, BirthLe, FirstAt, By, ByOk, ByEnd, BySome, Replies, AttachStatus, SinceLe, SinceReply, SinceBy, SinceFirst, Prior, PriorBy, PriorFirst}
+use Rattle.order_law.specs.Contents.{Contents, edits, lists, formed, isolating, clashes, bytes_after, reply_to, ends_before, file_at, pends, last_id, is_final, TokenUp, TokenDown, OpensUp, LostUnknown, LostDead, LostKnown, LostAsked, SessionKnown, SessionAsked, Pairwise, FirstUp, Unacted, FreshFirst, NotDone, CutSeq, OpenSeq, Older, NoReplay, CopyPair, NowPair, CreateReply, AttachReply, Reached, ClosedReply, AttachRefused, StaleReply, SessionSeq, PendingAt, LiveUnsettled, LiveReplay, Shows, Denied, OpenOf, NamedOpen, OpenGiven, OpenRow, OpenActed, Bytes, Quiet, Foreign, Acted, Gave, GaveEnd, Whose, Born, BirthLe, FirstAt, By, ByOk, ByEnd, BySome, Replies, AttachStatus, SinceLe, SinceReply, SinceBy, SinceFirst, Prior, PriorBy, PriorFirst}
 use Rattle.order_law.proofs.Moved.{Steps, Moves, live_back}
 use Rattle.order_law.proofs.Words.{put_other, put_self, firm_settled, may_act}
+
+settle_opens_up : (c : Client) (conns : ℕ → Conn) (s : Server) (t : Trace) (l : Log) (a : ℕ → ℕ) (g place : ℕ) (out : Outcome) → (is_unsettled (c.outcome g) ≡ true) → (0 < g) → (is_unsettled out ≡ false) → (place < l.places) → (l.who place ≡ g) → (l.since g ≤ place) → OpensUp c conns → OpensUp (settled_by c g out place) conns
+settle_opens_up c conns s t l a g place out pending above firm within who since i_opens_up =
+    λ j n x. let old = i_opens_up j n x in grind (arith, get-push)
 
 settle_lost_unknown : (c : Client) (conns : ℕ → Conn) (s : Server) (t : Trace) (l : Log) (a : ℕ → ℕ) (g place : ℕ) (out : Outcome) → (is_unsettled (c.outcome g) ≡ true) → (0 < g) → (is_unsettled out ≡ false) → (place < l.places) → (l.who place ≡ g) → (l.since g ≤ place) → LostUnknown c → LostUnknown (settled_by c g out place)
 settle_lost_unknown c conns s t l a g place out pending above firm within who since i_lost_unknown =
@@ -86,6 +90,7 @@ settle_keeps c conns s t l a g place out pending above firm within who since ok 
     record {
       token_up = i.token_up;
       token_down = i.token_down;
+      opens_up = settle_opens_up c conns s t l a g place out pending above firm within who since i.opens_up;
       lost_unknown = settle_lost_unknown c conns s t l a g place out pending above firm within who since i.lost_unknown;
       lost_dead = i.lost_dead;
       lost_known = i.lost_known;

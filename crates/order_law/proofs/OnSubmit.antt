@@ -17,7 +17,7 @@ use Rattle.exchange_law.specs.Connections.{create_at, makes_open, its_create, no
 use Rattle.exchange_law.proofs.Lists.{get-push, own_up_count, attach_up_count, own_down_count, attach_down_count, front_up, front_down, waited, waited_down}
 use Rattle.session_law.specs.Sessions.{is_ops}
 use Rattle.order_law.specs.Newest.{Pair}
-use Rattle.order_law.specs.Contents.{Contents, edits, lists, formed, isolating, clashes, bytes_after, reply_to, ends_before, file_at, pends, last_id, is_final, TokenUp, TokenDown, LostUnknown, LostDead, LostKnown, LostAsked, SessionKnown, SessionAsked, Pairwise, FirstUp, Unacted, FreshFirst, NotDone, CutSeq, OpenSeq, Older, NoReplay, CopyPair, NowPair, CreateReply, AttachReply, Reached, ClosedReply, AttachRefused, StaleReply, SessionSeq, PendingAt, LiveUnsettled, LiveReplay, Shows, Denied, OpenOf, NamedOpen, OpenGiven, OpenRow, OpenActed, Bytes, Quiet, Foreign, Acted, Gave, GaveEnd, Whose, Born, BirthLe, FirstAt, By, ByOk, ByEnd, BySome, Replies, AttachStatus, SinceLe, SinceReply, SinceBy, SinceFirst, Prior, PriorBy, PriorFirst}
+use Rattle.order_law.specs.Contents.{Contents, edits, lists, formed, isolating, clashes, bytes_after, reply_to, ends_before, file_at, pends, last_id, is_final, TokenUp, TokenDown, OpensUp, LostUnknown, LostDead, LostKnown, LostAsked, SessionKnown, SessionAsked, Pairwise, FirstUp, Unacted, FreshFirst, NotDone, CutSeq, OpenSeq, Older, NoReplay, CopyPair, NowPair, CreateReply, AttachReply, Reached, ClosedReply, AttachRefused, StaleReply, SessionSeq, PendingAt, LiveUnsettled, LiveReplay, Shows, Denied, OpenOf, NamedOpen, OpenGiven, OpenRow, OpenActed, Bytes, Quiet, Foreign, Acted, Gave, GaveEnd, Whose, Born, BirthLe, FirstAt, By, ByOk, ByEnd, BySome, Replies, AttachStatus, SinceLe, SinceReply, SinceBy, SinceFirst, Prior, PriorBy, PriorFirst}
 use Rattle.order_law.proofs.Moved.{Steps, Moves, live_back}
 use Rattle.order_law.proofs.Words.{ops_of, attach_of, put_other, apart_new, below_new, some_of, sent_of, edits_other}
 
@@ -28,6 +28,10 @@ submit_token_up c conns s t l a g op out next untaken other i_token_up =
 submit_token_down : (c : Client) (conns : ℕ → Conn) (s : Server) (t : Trace) (l : Log) (a : ℕ → ℕ) (g : ℕ) (op : Op) (out : Outcome) → (g ≡ c.taken + 1) → (c.outcome g ≡ Unsettled) → (is_firm out ≡ false × is_ok out ≡ false) → TokenDown c conns → TokenDown (record c { taken = g; op = put c.op g op; outcome = put c.outcome g out }) conns
 submit_token_down c conns s t l a g op out next untaken other i_token_down =
     λ j n y. let old = i_token_down j n y in grind (arith, get-push)
+
+submit_opens_up : (c : Client) (conns : ℕ → Conn) (s : Server) (t : Trace) (l : Log) (a : ℕ → ℕ) (g : ℕ) (op : Op) (out : Outcome) → (g ≡ c.taken + 1) → (c.outcome g ≡ Unsettled) → (is_firm out ≡ false × is_ok out ≡ false) → OpensUp c conns → TokenUp c conns → OpensUp (record c { taken = g; op = put c.op g op; outcome = put c.outcome g out }) conns
+submit_opens_up c conns s t l a g op out next untaken other i_opens_up i_token_up =
+    λ j n x h z. let tk = i_token_up j n x h z in let ne = below_new (op_of x.token) g c.taken tk.1 next in let old = i_opens_up j n x h z in let ot = other in grind arith
 
 submit_lost_unknown : (c : Client) (conns : ℕ → Conn) (s : Server) (t : Trace) (l : Log) (a : ℕ → ℕ) (g : ℕ) (op : Op) (out : Outcome) → (g ≡ c.taken + 1) → (c.outcome g ≡ Unsettled) → (is_firm out ≡ false × is_ok out ≡ false) → LostUnknown c → LostUnknown (record c { taken = g; op = put c.op g op; outcome = put c.outcome g out })
 submit_lost_unknown c conns s t l a g op out next untaken other i_lost_unknown =
@@ -117,6 +121,10 @@ submit_open_row : (c : Client) (conns : ℕ → Conn) (s : Server) (t : Trace) (
 submit_open_row c conns s t l a g op out next untaken other cn_taken i_open_row i_open_given =
     λ q o e. let old = i_open_given q o e in let tk = cn_taken q old.2 in let ne = below_new q g c.taken tk.1 next in let row = i_open_row q o e in grind arith
 
+submit_quiet : (c : Client) (conns : ℕ → Conn) (s : Server) (t : Trace) (l : Log) (a : ℕ → ℕ) (g : ℕ) (op : Op) (out : Outcome) → (g ≡ c.taken + 1) → (c.outcome g ≡ Unsettled) → (is_firm out ≡ false × is_ok out ≡ false) → CTaken c → Quiet c t l → OpenGiven c s t → Quiet (record c { taken = g; op = put c.op g op; outcome = put c.outcome g out }) t l
+submit_quiet c conns s t l a g op out next untaken other cn_taken i_quiet i_open_given =
+    λ n q lt mk b iso d. let so = some_of (t.open_of q) mk in let og = i_open_given q so.0 so.1 in let tk = cn_taken q og.2 in let n2 = below_new q g c.taken tk.1 next in let at2 = put_other c.op g op q n2 in i_quiet n q lt mk b (subst (λ o. isolating o ≡ true) at2 iso) d
+
 submit_foreign : (c : Client) (conns : ℕ → Conn) (s : Server) (t : Trace) (l : Log) (a : ℕ → ℕ) (g : ℕ) (op : Op) (out : Outcome) → (g ≡ c.taken + 1) → (c.outcome g ≡ Unsettled) → (is_firm out ≡ false × is_ok out ≡ false) → CTaken c → Foreign c t l → OpenGiven c s t → Whose c l → Foreign (record c { taken = g; op = put c.op g op; outcome = put c.outcome g out }) t l
 submit_foreign c conns s t l a g op out next untaken other cn_taken i_foreign i_open_given i_whose =
     λ n q lt mk b iso no. let w = i_whose n lt in let ne = below_new (l.who n) g c.taken w.0 next in let at = put_other c.op g op (l.who n) ne in let so = some_of (t.open_of q) mk in let og = i_open_given q so.0 so.1 in let tk = cn_taken q og.2 in let n2 = below_new q g c.taken tk.1 next in let at2 = put_other c.op g op q n2 in i_foreign n q lt mk b (subst (λ o. isolating o ≡ true) at2 iso) (subst (λ o. ((its_create (l.who n) o == q) && lists o) ≡ false) at no)
@@ -170,6 +178,7 @@ submit_keeps c conns s t l a g op out next untaken other listed_above listed_cre
     record {
       token_up = submit_token_up c conns s t l a g op out next untaken other i.token_up;
       token_down = submit_token_down c conns s t l a g op out next untaken other i.token_down;
+      opens_up = submit_opens_up c conns s t l a g op out next untaken other i.opens_up i.token_up;
       lost_unknown = submit_lost_unknown c conns s t l a g op out next untaken other i.lost_unknown;
       lost_dead = i.lost_dead;
       lost_known = i.lost_known;
@@ -205,7 +214,7 @@ submit_keeps c conns s t l a g op out next untaken other listed_above listed_cre
       open_row = submit_open_row c conns s t l a g op out next untaken other cn_taken i.open_row i.open_given;
       open_acted = i.open_acted;
       bytes = i.bytes;
-      quiet = i.quiet;
+      quiet = submit_quiet c conns s t l a g op out next untaken other cn_taken i.quiet i.open_given;
       foreign = submit_foreign c conns s t l a g op out next untaken other cn_taken i.foreign i.open_given i.whose;
       acted = submit_acted c conns s t l a g op out next untaken other listed_above listed_create i.acted i.whose;
       gave = submit_gave c conns s t l a g op out next untaken other i.gave i.whose;

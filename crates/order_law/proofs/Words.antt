@@ -220,3 +220,14 @@ sent_up conns k t m n0 j n x h = elim (j == k) as (λ b. j == k ≡ b → (slice
 pub or_else : {A B P : Type 0} → A ⊎ B → (A → P) → (B → P) → P
 or_else (inl a) f g = f a
 or_else (inr b) f g = g b
+
+-- ---- places
+
+pub split : (P : ℕ → Type 0) (n i : ℕ) → i < n + 1 → (i < n → P i) → P n → P i
+split P n i l f p = elim (i == n) as (λ b. i == n ≡ b → P i) [
+  | true ↦ λ e. subst P (sym (eqb-true i n e)) p
+  | false ↦ λ e. let z = eqb-false i n e in f (omega (arith, l, z))
+] refl
+
+pub put_old : {X : Type 0} (f : ℕ → X) (n : ℕ) (v : X) (i : ℕ) → i < n → put f n v i ≡ f i
+put_old f n v i l = let d : i ≢ n = omega arith in grind arith

@@ -68,6 +68,9 @@ TokenUp c conns = (k n : ℕ) (x : Sent) → slice_get (conns k).up n ≡ Some x
 abbrev pub TokenDown : Client → (ℕ → Conn) → Type 0
 TokenDown c conns = (k n : ℕ) (y : Received) → slice_get (conns k).down n ≡ Some y → is_ops y.token ≡ true → 0 < op_of y.token × op_of y.token ≤ c.taken
 
+abbrev pub OpensUp : Client → (ℕ → Conn) → Type 0
+OpensUp c conns = (k n : ℕ) (x : Sent) → slice_get (conns k).up n ≡ Some x → is_ops x.token ≡ true → (makes_open (c.op (op_of x.token)) || is_ok (c.outcome (create_at c (op_of x.token)))) ≡ true
+
 -- ---- the client's table
 
 -- what was given up is unknown, and the session that ended then isn't the one that begins
@@ -199,8 +202,8 @@ OpenActed t a = (q o : ℕ) → t.open_of q ≡ Some o → 1 ≤ a q
 abbrev pub Bytes : Server → Trace → Log → Type 0
 Bytes s t l = (q o : ℕ) → t.open_of q ≡ Some o → s.standing o ≡ true → l.bytes q l.places ≡ s.content (s.opened o).file
 
-abbrev pub Quiet : Trace → Log → Type 0
-Quiet t l = (n q : ℕ) → n < l.places → is_some (t.open_of q) ≡ true → l.birth q ≤ n → l.did n ≡ false → l.bytes q (n + 1) ≡ l.bytes q n
+abbrev pub Quiet : Client → Trace → Log → Type 0
+Quiet c t l = (n q : ℕ) → n < l.places → is_some (t.open_of q) ≡ true → l.birth q ≤ n → isolating (c.op q) ≡ true → l.did n ≡ false → l.bytes q (n + 1) ≡ l.bytes q n
 
 abbrev pub Foreign : Client → Trace → Log → Type 0
 Foreign c t l = (n q : ℕ) → n < l.places → is_some (t.open_of q) ≡ true → l.birth q ≤ n → isolating (c.op q) ≡ true → ((create_at c (l.who n) == q) && lists (c.op (l.who n))) ≡ false → l.bytes q (n + 1) ≡ l.bytes q n
@@ -275,6 +278,7 @@ PriorFirst c l = (h g p : ℕ) → edits (c.op g) ≡ true → l.prior h g ≡ t
 pub record Contents (c : Client) (conns : ℕ → Conn) (s : Server) (t : Trace) (l : Log) (a : ℕ → ℕ) : Type 0 where
   pub token_up : TokenUp c conns
   pub token_down : TokenDown c conns
+  pub opens_up : OpensUp c conns
   pub lost_unknown : LostUnknown c
   pub lost_dead : LostDead c
   pub lost_known : LostKnown c
@@ -310,7 +314,7 @@ pub record Contents (c : Client) (conns : ℕ → Conn) (s : Server) (t : Trace)
   pub open_row : OpenRow c s t
   pub open_acted : OpenActed t a
   pub bytes : Bytes s t l
-  pub quiet : Quiet t l
+  pub quiet : Quiet c t l
   pub foreign : Foreign c t l
   pub acted : Acted c l
   pub gave : Gave c l
