@@ -10,6 +10,7 @@ pub mod Served
 pub mod Sharing
 pub mod Writing
 pub mod Made
+pub mod Taking
 pub mod Legal
 pub mod Moved
 pub mod Words

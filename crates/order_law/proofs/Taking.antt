@@ -1,0 +1,138 @@
+-- What is known where the server takes the front of a connection, and what is remembered of it.
+use Rattle.std.proofs.lemmas.Bool.{eqb-false}
+use Rattle.std.proofs.Common.{eqb-true, ◌⊎◌, inl, inr, ◌≡◌, ◌≢◌, ℕ, ◌+◌, ◌≤◌, ◌<◌, ◌==◌, Bool, true, false, not, ◌&&◌, ◌||◌, if◌then◌else◌, List, refl, arith, sym, subst, ◌∙◌, ap, Option, Some, None, is_some}
+use Rattle.exchange_defs.specs.Table.{put}
+use Rattle.exchange_defs.specs.Order.{Log}
+use Rattle.exchange_defs.specs.State.{Server, Answer}
+use Rattle.exchange_defs.specs.Operations.{Op, is_ok, share_of, content_op}
+use Rattle.exchange_defs.specs.Client.{Client, AskedTree, guid_for}
+use Rattle.exchange_defs.specs.Network.{Conn, Sent, Trace, Token, ForDialog, ForOp, ForAttach, op_of, is_own, makes, said, first_noted, bytes_behind}
+use Rattle.exchange_defs.specs.Runs.{is_send_of}
+use Rattle.exchange_law.specs.Connections.{create_at, makes_open}
+use Rattle.session_law.specs.Sessions.{is_ops}
+use Rattle.order_law.specs.Newest.{Pair}
+use Rattle.order_law.specs.Contents.{edits, lists, file_at, last_id}
+use Rattle.order_law.proofs.Moved.{Steps}
+use Rattle.order_law.proofs.Served.{ListedFacts}
+use Rattle.order_law.proofs.Writing.{Changing, writes_to}
+use Rattle.order_law.proofs.Made.{Making, creates, asks_guid, asks_share}
+
+-- ---- what is remembered behind it
+
+abbrev pub new_trace : Client → Trace → Log → Sent → Answer → Trace
+new_trace c t l x A =
+    record {
+      open_of = if makes c x.token A then put t.open_of (op_of x.token) A.reached else t.open_of;
+      reached = put t.reached l.places A.reached;
+      altered = put t.altered l.places A.altered;
+      session = put t.session l.places x.message.session;
+      sequence = put t.sequence l.places x.message.sequence;
+    }
+
+abbrev pub new_log : Client → Trace → Log → Sent → Answer → Log
+new_log c t l x A =
+    record l {
+      places = l.places + 1;
+      who = put l.who l.places (op_of x.token);
+      gave = put l.gave l.places (said x.token A.reply);
+      did = put l.did l.places (is_own x.token && A.acted);
+      bytes = λ q. put (l.bytes q) (l.places + 1) (bytes_behind A.server ((new_trace c t l x A).open_of q) (l.bytes q l.places));
+      birth = if makes c x.token A then put l.birth (op_of x.token) (l.places + 1) else l.birth;
+      first = if is_own x.token && A.acted then put l.first (op_of x.token) (first_noted (l.first (op_of x.token)) l.places) else l.first;
+    }
+
+abbrev pub new_acts : (ℕ → ℕ) → Sent → Answer → ℕ → ℕ
+new_acts a x A h = if is_send_of h x.token && A.acted then a h + 1 else a h
+
+-- ---- what is known of the front and its answer
+
+pub record Taking (c : Client) (s : Server) (t : Trace) (x0 : Sent) (A : Answer) : Type 0 where
+  pub steps : Steps c.rank s A.server
+  pub at : (o y : ℕ) → A.server.at o ≡ Some y → (s.at o ≡ Some y × A.server.sequence o ≤ s.sequence o) ⊎ (A.reached ≡ Some o × y ≡ x0.message.session × A.server.sequence o ≤ x0.message.sequence)
+  pub reached : (o : ℕ) → A.reached ≡ Some o → o ≤ last_id A.server × Pair A.server x0.message.session x0.message.sequence o
+  pub ops : (o : ℕ) → A.reached ≡ Some o → is_ops x0.token ≡ true
+  pub changing : Changing s x0.message A
+  pub making : Making s x0.message A
+  pub given : (o : ℕ) → s.standing o ≡ true → o ≤ last_id s
+  pub attached : (o y : ℕ) → s.at o ≡ Some y → s.present y ≡ true
+  -- a read, a write or an end, by its own message
+  pub listed : (g : ℕ) → x0.token ≡ ForOp g → lists (c.op g) ≡ true → ListedFacts s x0.message (content_op (c.op g)) (file_at c g) A
+  -- what may change bytes is one of these
+  pub writer : (p : ℕ) → writes_to x0.message.command p ≡ true → (g : ℕ) × ((x0.token ≡ ForOp g) × (lists (c.op g) ≡ true) × (p ≡ file_at c g))
+  -- what makes an open is a create, by its own message
+  pub creator : creates x0.message.command ≡ true → A.acted ≡ true → (g : ℕ) × ((x0.token ≡ ForOp g) × (makes_open (c.op g) ≡ true) × (asks_guid x0.message.command ≡ Some (guid_for c g)) × (asks_share x0.message.command ≡ share_of (c.op g)))
+  pub makes_create : makes c x0.token A ≡ true → creates x0.message.command ≡ true
+  pub client : x0.message.client ≡ c.who.guid
+  pub remade : makes c x0.token A ≡ true → t.open_of (op_of x0.token) ≡ None
+  pub ranked : is_ops x0.token ≡ true → 0 < c.rank x0.message.session
+  pub fresh : is_ops x0.token ≡ true → (j : ℕ) → c.stage j ≡ AskedTree → x0.message.session ≢ c.pending
+  pub upto : c.live ≡ true → x0.message.session ≡ c.session → x0.message.sequence ≤ c.sequence
+  -- the open of a create that settled Ok
+  pub files : (q : ℕ) → makes_open (c.op q) ≡ true → is_ok (c.outcome q) ≡ true → c.file q ≤ last_id s
+
+-- ---- small facts of what is remembered
+
+pub own_of : (t : Token) → is_own t ≡ true → t ≡ ForOp (op_of t)
+own_of ForDialog e = absurd (cc)
+own_of (ForOp g) e = refl
+own_of (ForAttach g) e = absurd (cc)
+
+pub made_own : (c : Client) (t : Token) (A : Answer) → makes c t A ≡ true → is_own t ≡ true × A.acted ≡ true × makes_open (c.op (op_of t)) ≡ true
+unfolding makes_open
+made_own c t A e = (grind arith, grind arith, grind arith)
+
+-- an open that was made stays its create's
+pub open_kept : (c : Client) (t : Trace) (l : Log) (x : Sent) (A : Answer) (q o : ℕ) → (makes c x.token A ≡ true → t.open_of (op_of x.token) ≡ None) → t.open_of q ≡ Some o → (new_trace c t l x A).open_of q ≡ Some o
+open_kept c t l x A q o f e = by_makes (makes c x.token A) refl
+  where
+    by_makes : (b : Bool) → makes c x.token A ≡ b → (if b then put t.open_of (op_of x.token) A.reached else t.open_of) q ≡ Some o
+    by_makes false m = e
+    by_makes true m =
+        elim (q == op_of x.token) as (λ b. q == op_of x.token ≡ b → put t.open_of (op_of x.token) A.reached q ≡ Some o) [
+          | true ↦ λ z. absurd (let y = ap t.open_of (eqb-true q (op_of x.token) z) in let n = f m in grind arith)
+          | false ↦ λ z. let ne = eqb-false q (op_of x.token) z in grind arith
+        ] refl
+
+-- an open is that of before, or the one that was made
+pub open_was : (c : Client) (t : Trace) (l : Log) (x : Sent) (A : Answer) (q o : ℕ) → (new_trace c t l x A).open_of q ≡ Some o → (t.open_of q ≡ Some o) ⊎ (makes c x.token A ≡ true × q ≡ op_of x.token × A.reached ≡ Some o)
+open_was c t l x A q o e = by_makes (makes c x.token A) refl e
+  where
+    by_makes : (b : Bool) → makes c x.token A ≡ b → (if b then put t.open_of (op_of x.token) A.reached else t.open_of) q ≡ Some o → (t.open_of q ≡ Some o) ⊎ (makes c x.token A ≡ true × q ≡ op_of x.token × A.reached ≡ Some o)
+    by_makes false m e = inl e
+    by_makes true m e =
+        elim (q == op_of x.token) as (λ b. q == op_of x.token ≡ b → (t.open_of q ≡ Some o) ⊎ (makes c x.token A ≡ true × q ≡ op_of x.token × A.reached ≡ Some o)) [
+          | true ↦ λ z. let qe : q ≡ op_of x.token = eqb-true q (op_of x.token) z in inr (m, qe, grind arith)
+          | false ↦ λ z. let ne = eqb-false q (op_of x.token) z in inl (grind arith)
+        ] refl
+
+-- where an operation acted first, it acted before, or it is the front's
+pub first_was : (c : Client) (t : Trace) (l : Log) (x : Sent) (A : Answer) (g n : ℕ) → (new_log c t l x A).first g ≡ Some n → (l.first g ≡ Some n) ⊎ (x.token ≡ ForOp g × A.acted ≡ true × n ≡ l.places)
+first_was c t l x A g n e = by_acts (is_own x.token && A.acted) refl e
+  where
+    noted_old : (o : Option ℕ) → first_noted o l.places ≡ Some n → (o ≡ Some n) ⊎ (n ≡ l.places)
+    noted_old None e = inr (grind arith)
+    noted_old (Some i) e = inl e
+
+    either_way : (l.first (op_of x.token) ≡ Some n) ⊎ (n ≡ l.places) → g ≡ op_of x.token → is_own x.token ≡ true → A.acted ≡ true → (l.first g ≡ Some n) ⊎ (x.token ≡ ForOp g × A.acted ≡ true × n ≡ l.places)
+    either_way (inl e) z o a = inl (ap l.first z ∙ e)
+    either_way (inr e) z o a = inr (own_of x.token o ∙ ap ForOp (sym z), a, e)
+
+    by_acts : (b : Bool) → (is_own x.token && A.acted) ≡ b → (if b then put l.first (op_of x.token) (first_noted (l.first (op_of x.token)) l.places) else l.first) g ≡ Some n → (l.first g ≡ Some n) ⊎ (x.token ≡ ForOp g × A.acted ≡ true × n ≡ l.places)
+    by_acts false m e = inl e
+    by_acts true m e =
+        elim (g == op_of x.token) as (λ b. g == op_of x.token ≡ b → (l.first g ≡ Some n) ⊎ (x.token ≡ ForOp g × A.acted ≡ true × n ≡ l.places)) [
+          | true ↦ λ z. let ge : g ≡ op_of x.token = eqb-true g (op_of x.token) z in either_way (noted_old (l.first (op_of x.token)) (grind arith)) ge (grind arith) (grind arith)
+          | false ↦ λ z. let ne = eqb-false g (op_of x.token) z in inl (grind arith)
+        ] refl
+
+-- one that hadn't acted, and of which the front doesn't act, hasn't acted
+pub first_none : (c : Client) (t : Trace) (l : Log) (x : Sent) (A : Answer) (g : ℕ) → l.first g ≡ None → (x.token ≡ ForOp g → A.acted ≡ true → ⊥) → (new_log c t l x A).first g ≡ None
+first_none c t l x A g e f = by_option ((new_log c t l x A).first g) refl
+  where
+    by_option : (o : Option ℕ) → (new_log c t l x A).first g ≡ o → (new_log c t l x A).first g ≡ None
+    by_option None z = z
+    by_option (Some n) z = absurd (by_side (first_was c t l x A g n z))
+      where
+        by_side : (l.first g ≡ Some n) ⊎ (x.token ≡ ForOp g × A.acted ≡ true × n ≡ l.places) → ⊥
+        by_side (inl y) = absurd (grind arith)
+        by_side (inr y) = f y.0 y.1
