@@ -38,3 +38,4 @@ pub mod OnFinished
 pub mod OnSend
 pub mod OnAsk
 pub mod OnMoved
+pub mod OnAbsorb

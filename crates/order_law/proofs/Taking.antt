@@ -136,3 +136,7 @@ first_none c t l x A g e f = by_option ((new_log c t l x A).first g) refl
         by_side : (l.first g ≡ Some n) ⊎ (x.token ≡ ForOp g × A.acted ≡ true × n ≡ l.places) → ⊥
         by_side (inl y) = absurd (grind arith)
         by_side (inr y) = f y.0 y.1
+
+pub makes_it : (c : Client) (t : Token) (A : Answer) (g : ℕ) → t ≡ ForOp g → makes_open (c.op g) ≡ true → A.acted ≡ true → makes c t A ≡ true
+unfolding makes_open
+makes_it c t A g tk mk ac = grind arith
