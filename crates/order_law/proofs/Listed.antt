@@ -68,6 +68,7 @@ pub record Changed (s : Server) (m : Message) (op : ContentOp) (o p : ℕ) (chan
   pub its : p ≡ o
   pub on : On s m o
   pub late : is_late s m o ≡ false
+  pub form : form m.command ≡ None
   pub edit : is_change op ≡ true
   pub reply : value op (s.content (file_of s o)) ≡ content_reply body
   pub after : changed_by change (s.content (file_of s o)) ≡ effect op (s.content (file_of s o))
@@ -95,12 +96,12 @@ of_not a e = grind arith
 
 -- ---- a change
 
-altered : (s : Server) (m : Message) (op : ContentOp) (o : ℕ) (change : Change) (body : Body) → On s m o → is_late s m o ≡ false → is_change op ≡ true → is_directory s (file_of s o) ≡ false → value op (bytes_of s o) ≡ content_reply body
+altered : (s : Server) (m : Message) (op : ContentOp) (o : ℕ) (change : Change) (body : Body) → form m.command ≡ None → On s m o → is_late s m o ≡ false → is_change op ≡ true → is_directory s (file_of s o) ≡ false → value op (bytes_of s o) ≡ content_reply body
     → changed_by change (bytes_of s o) ≡ effect op (bytes_of s o) → changes_nothing s (file_of s o) change ≡ same_bytes (effect op (bytes_of s o)) (bytes_of s o) → past_end op (bytes_of s o) ≡ false → Listed s m op o (alter s m o change body)
-altered s m op o change body on late ed file reply after nothing before =
+altered s m op o change body fm on late ed file reply after nothing before =
     either (Listed s m op o) (m.replay && (not (is_directory s (file_of s o)) && changes_nothing s (file_of s o) change)) _ _
     (λ e. record { is = record { its = refl; on = on; in_time = λ z. late; reply = reply; same = same_bytes-true (effect op (bytes_of s o)) (bytes_of s o) (sym nothing ∙ true_back (not (is_directory s (file_of s o))) _ (true_back m.replay _ e)); before = before } })
-    (λ e. record { is = record { its = refl; on = on; late = late; edit = ed; reply = reply; after = after; before = before;
+    (λ e. record { is = record { its = refl; on = on; late = late; form = fm; edit = ed; reply = reply; after = after; before = before;
       again = λ r. differs (sym nothing ∙ none_front (not (is_directory s (file_of s o))) _ (none_front m.replay _ e r) (of_not _ file)) } })
   where
     differs : same_bytes (effect op (bytes_of s o)) (bytes_of s o) ≡ false → effect op (bytes_of s o) ≡ bytes_of s o → ⊥
@@ -139,26 +140,26 @@ end_value : (n : ℕ) (c : List ℕ) → value (Ends n) c ≡ Done × past_end (
 unfolding value past_end effect
 end_value n c = (refl, refl, refl)
 
-listed_write : (s : Server) (m : Message) (o at : ℕ) (bytes : List ℕ) → On s m o → Listed s m (Writes at bytes) o (write_check s m o at bytes)
-listed_write s m o at bytes on =
+listed_write : (s : Server) (m : Message) (o at : ℕ) (bytes : List ℕ) → form m.command ≡ None → On s m o → Listed s m (Writes at bytes) o (write_check s m o at bytes)
+listed_write s m o at bytes fm on =
     either (Listed s m (Writes at bytes) o) (is_late s m o) _ _ (λ l. too_late s m (Writes at bytes) o on l)
     (λ l. either (Listed s m (Writes at bytes) o) (not (has_access s o 0x2)) _ _ (λ _. down s m (Writes at bytes) o access_denied on (λ _. l) refl refl refl refl)
     (λ _. either (Listed s m (Writes at bytes) o) (is_directory s (file_of s o)) _ _ (λ _. down s m (Writes at bytes) o invalid_device_request on (λ _. l) refl refl refl refl)
     (λ d. either (Listed s m (Writes at bytes) o) (not (may_write (s.ranges (file_of s o)) o at (length bytes))) _ _ (λ _. down s m (Writes at bytes) o file_lock_conflict on (λ _. l) refl refl refl refl)
     (λ _. either (Listed s m (Writes at bytes) o) (not (is_empty bytes) && passes_room s (file_of s o) (at + length bytes)) _ _ (λ _. down s m (Writes at bytes) o disk_full on (λ _. l) refl refl refl refl)
-    (λ _. altered s m (Writes at bytes) o (bytes_change at bytes) (Count (length bytes)) on l (is_write_change at bytes) d ((write_value at bytes (bytes_of s o)).0) (write_after s o at bytes (is_empty bytes) refl) (write_nothing s o at bytes (is_empty bytes) refl) ((write_value at bytes (bytes_of s o)).1))))))
+    (λ _. altered s m (Writes at bytes) o (bytes_change at bytes) (Count (length bytes)) fm on l (is_write_change at bytes) d ((write_value at bytes (bytes_of s o)).0) (write_after s o at bytes (is_empty bytes) refl) (write_nothing s o at bytes (is_empty bytes) refl) ((write_value at bytes (bytes_of s o)).1))))))
 
 end_nothing : (s : Server) (o n : ℕ) → changes_nothing s (file_of s o) (PutEnd n) ≡ same_bytes (effect (Ends n) (bytes_of s o)) (bytes_of s o)
 unfolding effect
 end_nothing s o n = refl
 
-listed_end : (s : Server) (m : Message) (o n : ℕ) → On s m o → Listed s m (Ends n) o (set_check s m o (SetEnd n))
-listed_end s m o n on =
+listed_end : (s : Server) (m : Message) (o n : ℕ) → form m.command ≡ None → On s m o → Listed s m (Ends n) o (set_check s m o (SetEnd n))
+listed_end s m o n fm on =
     either (Listed s m (Ends n) o) (is_late s m o) _ _ (λ l. too_late s m (Ends n) o on l)
     (λ l. either (Listed s m (Ends n) o) (not (has_access s o 0x2)) _ _ (λ _. down s m (Ends n) o access_denied on (λ _. l) refl refl refl refl)
     (λ _. either (Listed s m (Ends n) o) (is_directory s (file_of s o)) _ _ (λ _. down s m (Ends n) o invalid_device_request on (λ _. l) refl refl refl refl)
     (λ d. either (Listed s m (Ends n) o) (passes_room s (file_of s o) n) _ _ (λ _. down s m (Ends n) o disk_full on (λ _. l) refl refl refl refl)
-    (λ _. altered s m (Ends n) o (PutEnd n) Empty on l (is_end_change n) d ((end_value n (bytes_of s o)).0) (sym (end_value n (bytes_of s o)).2) (end_nothing s o n) ((end_value n (bytes_of s o)).1)))))
+    (λ _. altered s m (Ends n) o (PutEnd n) Empty fm on l (is_end_change n) d ((end_value n (bytes_of s o)).0) (sym (end_value n (bytes_of s o)).2) (end_nothing s o n) ((end_value n (bytes_of s o)).1)))))
 
 -- ---- a read
 
@@ -212,15 +213,15 @@ is_asked (Reads at n) = true
 is_asked (Ends n) = true
 is_asked Still = false
 
-listed_open : (s : Server) (m : Message) (pipes : Bool) (op : ContentOp) (o : ℕ) → is_asked op ≡ true → Listed s m op o (tree_command s m pipes (asks op o))
-listed_open s m pipes (Writes at bytes) o a = either (Listed s m (Writes at bytes) o) (is_of_session s o m.session) _ _ (λ on. listed_write s m o at bytes on) (λ off. not_open s m (Writes at bytes) o off)
-listed_open s m pipes (Reads at n) o a = either (Listed s m (Reads at n) o) (is_of_session s o m.session) _ _ (λ on. listed_read s m o at n on) (λ off. not_open s m (Reads at n) o off)
-listed_open s m pipes (Ends n) o a = either (Listed s m (Ends n) o) (is_of_session s o m.session) _ _ (λ on. listed_end s m o n on) (λ off. not_open s m (Ends n) o off)
-listed_open s m pipes Still o a = absurd (cc)
+listed_open : (s : Server) (m : Message) (pipes : Bool) (op : ContentOp) (o : ℕ) → form m.command ≡ None → is_asked op ≡ true → Listed s m op o (tree_command s m pipes (asks op o))
+listed_open s m pipes (Writes at bytes) o fm a = either (Listed s m (Writes at bytes) o) (is_of_session s o m.session) _ _ (λ on. listed_write s m o at bytes fm on) (λ off. not_open s m (Writes at bytes) o off)
+listed_open s m pipes (Reads at n) o fm a = either (Listed s m (Reads at n) o) (is_of_session s o m.session) _ _ (λ on. listed_read s m o at n on) (λ off. not_open s m (Reads at n) o off)
+listed_open s m pipes (Ends n) o fm a = either (Listed s m (Ends n) o) (is_of_session s o m.session) _ _ (λ on. listed_end s m o n fm on) (λ off. not_open s m (Ends n) o off)
+listed_open s m pipes Still o fm a = absurd (cc)
 
-listed_tree : (s : Server) (m : Message) (op : ContentOp) (o : ℕ) → is_asked op ≡ true → m.command ≡ asks op o → (t : Option Bool) → is_some t ≡ true → Listed s m op o (in_tree s m t)
-listed_tree s m op o a e None t = absurd (cc)
-listed_tree s m op o a e (Some pipes) t = subst (λ c. Listed s m op o (tree_command s m pipes c)) (sym e) (listed_open s m pipes op o a)
+listed_tree : (s : Server) (m : Message) (op : ContentOp) (o : ℕ) → form m.command ≡ None → is_asked op ≡ true → m.command ≡ asks op o → (t : Option Bool) → is_some t ≡ true → Listed s m op o (in_tree s m t)
+listed_tree s m op o fm a e None t = absurd (cc)
+listed_tree s m op o fm a e (Some pipes) t = subst (λ c. Listed s m op o (tree_command s m pipes c)) (sym e) (listed_open s m pipes op o fm a)
 
 command_tree : (s : Server) (m : Message) (op : ContentOp) (o : ℕ) → is_asked op ≡ true → command_check s m (asks op o) ≡ with_tree s m
 command_tree s m (Writes at bytes) o a = refl
@@ -230,7 +231,7 @@ command_tree s m Still o a = refl
 
 listed_command : (s : Server) (m : Message) (op : ContentOp) (o : ℕ) → is_asked op ≡ true → m.command ≡ asks op o → is_some (tree_in (s.trees m.session) m.tree) ≡ true → (f : Option ℕ) → form m.command ≡ f → Listed s m op o (formed s m f)
 listed_command s m op o a e t (Some status) f = bad_form s m op o status f (ap form e)
-listed_command s m op o a e t None f = subst (λ c. Listed s m op o (command_check s m c)) (sym e) (subst (Listed s m op o) (sym (command_tree s m op o a)) (listed_tree s m op o a e (tree_in (s.trees m.session) m.tree) t))
+listed_command s m op o a e t None f = subst (λ c. Listed s m op o (command_check s m c)) (sym e) (subst (Listed s m op o) (sym (command_tree s m op o a)) (listed_tree s m op o f a e (tree_in (s.trees m.session) m.tree) t))
 
 gone_session : (s : Server) (m : Message) (op : ContentOp) (o : ℕ) → Listed s m op o (Refuse user_session_deleted)
 gone_session s m op o = record { is = record { ok = refl; end = refl; final = λ f. refl; closed = λ e. absurd (cc); stale = λ e. absurd (cc) } }

@@ -27,7 +27,7 @@ use Rattle.order_law.proofs.Listed.{asks, is_asked, changed_by, Listed, ListedBy
 
 -- what the answer to a read, a write or an end of the open o says, of the state before
 pub record ListedFacts (s : Server) (m : Message) (op : ContentOp) (o : ℕ) (A : Answer) : Type 0 where
-  pub acts : A.acted ≡ true → s.standing o ≡ true × s.at o ≡ Some m.session × s.sequence o ≤ m.sequence × is_change op ≡ true × A.reply.status ≡ success × A.reached ≡ Some o
+  pub acts : A.acted ≡ true → s.standing o ≡ true × s.at o ≡ Some m.session × s.sequence o ≤ m.sequence × is_change op ≡ true × A.reply.status ≡ success × A.reached ≡ Some o × form m.command ≡ None
   pub again : A.acted ≡ true → m.replay ≡ true → effect op (s.content (s.opened o).file) ≢ s.content (s.opened o).file
   pub done : (A.reply.status == success) ≡ true → s.standing o ≡ true × A.server.standing o ≡ true × value op (s.content (s.opened o).file) ≡ content_reply A.reply.body × A.server.content (s.opened o).file ≡ effect op (s.content (s.opened o).file)
       × past_end op (s.content (s.opened o).file) ≡ false
@@ -84,7 +84,7 @@ pub altered_facts : (s : Server) (m : Message) (op : ContentOp) (o now : ℕ) (c
 altered_facts s m op o now change body low l h =
     let on = on_open s o m.session h.on in
     record {
-      acts = λ a. (on.0, on.1, in_time s m o low l h.late, h.edit, refl, reaches_on s m o h.late);
+      acts = λ a. (on.0, on.1, in_time s m o low l h.late, h.edit, refl, reaches_on s m o h.late, h.form);
       again = λ a r. h.again r;
       done = λ e. (on.0, ap (λ f. f o) (standing_changed (reach s m o) (file_of s o) now change) ∙ (ap (λ f. f o) (reach_standing s m o) ∙ on.0), h.reply,
         content_changed (reach s m o) (file_of s o) now change ∙ (ap (λ c. changed_by change (c (file_of s o))) (content_reach s m o) ∙ h.after), h.before);
@@ -161,7 +161,7 @@ listed_before s t m op o A k back f =
     let same : t.content (t.opened o).file ≡ s.content (s.opened o).file = ap (λ g. g (t.opened o).file) k.content ∙ ap s.content row in
     let sq : t.sequence o ≡ s.sequence o = ap (λ g. g o) k.sequence in
     record {
-      acts = λ a. let h = f.acts a in (k.moves.stands o h.0, k.at o m.session h.1, subst (λ n. n ≤ m.sequence) sq h.2, h.3, h.4, h.5);
+      acts = λ a. let h = f.acts a in (k.moves.stands o h.0, k.at o m.session h.1, subst (λ n. n ≤ m.sequence) sq h.2, h.3, h.4, h.5, h.6);
       again = λ a r. subst (λ c. effect op c ≢ c) same (f.again a r);
       done = λ e. let h = f.done e in (k.moves.stands o h.0, h.1, subst (λ c. value op c ≡ content_reply A.reply.body) same h.2, subst (λ g. A.server.content g ≡ effect op (s.content (s.opened o).file)) row (subst (λ c. A.server.content (t.opened o).file ≡ effect op c) same h.3), subst (λ c. past_end op c ≡ false) same h.4);
       ended = λ e. let h = f.ended e in (k.moves.stands o h.0, subst (λ c. past_end op c ≡ true) same h.1);

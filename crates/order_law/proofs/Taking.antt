@@ -2,6 +2,7 @@
 use Rattle.std.proofs.lemmas.Bool.{eqb-false}
 use Rattle.std.proofs.Common.{eqb-true, ◌⊎◌, inl, inr, ◌≡◌, ◌≢◌, ℕ, ◌+◌, ◌≤◌, ◌<◌, ◌==◌, Bool, true, false, not, ◌&&◌, ◌||◌, if◌then◌else◌, List, refl, arith, sym, subst, ◌∙◌, ap, Option, Some, None, is_some}
 use Rattle.exchange_defs.specs.Table.{put}
+use Rattle.exchange_defs.specs.Commands.{form}
 use Rattle.exchange_defs.specs.Order.{Log}
 use Rattle.exchange_defs.specs.State.{Server, Answer}
 use Rattle.exchange_defs.specs.Operations.{Op, is_ok, share_of, content_op}
@@ -11,7 +12,7 @@ use Rattle.exchange_defs.specs.Runs.{is_send_of}
 use Rattle.exchange_law.specs.Connections.{create_at, makes_open}
 use Rattle.session_law.specs.Sessions.{is_ops}
 use Rattle.order_law.specs.Newest.{Pair}
-use Rattle.order_law.specs.Contents.{edits, lists, file_at, last_id}
+use Rattle.order_law.specs.Contents.{edits, formed, lists, file_at, last_id}
 use Rattle.order_law.proofs.Moved.{Steps}
 use Rattle.order_law.proofs.Served.{ListedFacts}
 use Rattle.order_law.proofs.Writing.{Changing, writes_to}
@@ -57,6 +58,7 @@ pub record Taking (c : Client) (s : Server) (t : Trace) (x0 : Sent) (A : Answer)
   pub attached : (o y : ℕ) → s.at o ≡ Some y → s.present y ≡ true
   -- a read, a write or an end, by its own message
   pub listed : (g : ℕ) → x0.token ≡ ForOp g → lists (c.op g) ≡ true → ListedFacts s x0.message (content_op (c.op g)) (file_at c g) A
+  pub well_formed : (g : ℕ) → x0.token ≡ ForOp g → form x0.message.command ≡ None → formed (c.op g) ≡ true
   -- what may change bytes is one of these
   pub writer : (p : ℕ) → writes_to x0.message.command p ≡ true → (g : ℕ) × ((x0.token ≡ ForOp g) × (lists (c.op g) ≡ true) × (p ≡ file_at c g))
   -- what makes an open is a create, by its own message
@@ -140,3 +142,71 @@ first_none c t l x A g e f = by_option ((new_log c t l x A).first g) refl
 pub makes_it : (c : Client) (t : Token) (A : Answer) (g : ℕ) → t ≡ ForOp g → makes_open (c.op g) ≡ true → A.acted ≡ true → makes c t A ≡ true
 unfolding makes_open
 makes_it c t A g tk mk ac = grind arith
+
+-- ---- places before, and the new one
+
+pub first_kept : (c : Client) (t : Trace) (l : Log) (x : Sent) (A : Answer) (g n : ℕ) → l.first g ≡ Some n → (new_log c t l x A).first g ≡ Some n
+first_kept c t l x A g n e = by_acts (is_own x.token && A.acted) refl
+  where
+    by_acts : (b : Bool) → (is_own x.token && A.acted) ≡ b → (if b then put l.first (op_of x.token) (first_noted (l.first (op_of x.token)) l.places) else l.first) g ≡ Some n
+    by_acts false m = e
+    by_acts true m =
+        elim (g == op_of x.token) as (λ b. g == op_of x.token ≡ b → put l.first (op_of x.token) (first_noted (l.first (op_of x.token)) l.places) g ≡ Some n) [
+          | true ↦ λ z. let ge : g ≡ op_of x.token = eqb-true g (op_of x.token) z in let y : l.first (op_of x.token) ≡ Some n = ap l.first (sym ge) ∙ e in
+              subst (λ q. put l.first (op_of x.token) (first_noted (l.first (op_of x.token)) l.places) q ≡ Some n) (sym ge) (put_here l.first (op_of x.token) _ ∙ ap (λ o. first_noted o l.places) y)
+          | false ↦ λ z. let ne = eqb-false g (op_of x.token) z in grind arith
+        ] refl
+      where
+        put_here : (f : ℕ → Option ℕ) (k : ℕ) (v : Option ℕ) → put f k v k ≡ v
+        put_here f k v = grind arith
+
+pub first_new : (c : Client) (t : Trace) (l : Log) (x : Sent) (A : Answer) (g : ℕ) → x.token ≡ ForOp g → A.acted ≡ true → l.first g ≡ None → (new_log c t l x A).first g ≡ Some l.places
+first_new c t l x A g e a n = let z = ap op_of e in let w = own_acts e a in grind arith
+  where
+    own_acts : x.token ≡ ForOp g → A.acted ≡ true → (is_own x.token && A.acted) ≡ true
+    own_acts e a = grind arith
+
+-- the birth of a create that wasn't made now
+pub birth_kept : (c : Client) (t : Trace) (l : Log) (x : Sent) (A : Answer) (q : ℕ) → (makes c x.token A ≡ true → q ≡ op_of x.token → ⊥) → (new_log c t l x A).birth q ≡ l.birth q
+birth_kept c t l x A q f = by_makes (makes c x.token A) refl
+  where
+    by_makes : (b : Bool) → makes c x.token A ≡ b → (if b then put l.birth (op_of x.token) (l.places + 1) else l.birth) q ≡ l.birth q
+    by_makes false m = refl
+    by_makes true m =
+        elim (q == op_of x.token) as (λ b. q == op_of x.token ≡ b → put l.birth (op_of x.token) (l.places + 1) q ≡ l.birth q) [
+          | true ↦ λ z. absurd (f m (eqb-true q (op_of x.token) z))
+          | false ↦ λ z. let ne = eqb-false q (op_of x.token) z in grind arith
+        ] refl
+
+birth_made : (c : Client) (t : Trace) (l : Log) (x : Sent) (A : Answer) (q : ℕ) → makes c x.token A ≡ true → q ≡ op_of x.token → (new_log c t l x A).birth q ≡ l.places + 1
+birth_made c t l x A q m e = grind arith
+
+-- an open that stood in the places before was made before
+pub made_before : (c : Client) (t : Trace) (l : Log) (x : Sent) (A : Answer) (q n o : ℕ) → n ≤ l.places → (new_trace c t l x A).open_of q ≡ Some o → (new_log c t l x A).birth q ≤ n → t.open_of q ≡ Some o × l.birth q ≤ n
+made_before c t l x A q n o le e b =
+    (by_side (open_was c t l x A q o e), subst (λ m. m ≤ n) (birth_kept c t l x A q (λ m z. now m z)) b)
+  where
+    now : makes c x.token A ≡ true → q ≡ op_of x.token → ⊥
+    now m z = absurd (let y = birth_made c t l x A q m z in omega (arith, y, b, le))
+
+    by_side : (t.open_of q ≡ Some o) ⊎ (makes c x.token A ≡ true × q ≡ op_of x.token × A.reached ≡ Some o) → t.open_of q ≡ Some o
+    by_side (inl y) = y
+    by_side (inr y) = absurd (now y.0 y.1)
+
+pub bytes_old : (c : Client) (t : Trace) (l : Log) (x : Sent) (A : Answer) (q n : ℕ) → n ≤ l.places → (new_log c t l x A).bytes q n ≡ l.bytes q n
+bytes_old c t l x A q n le = put_below (l.bytes q) (l.places + 1) _ n (omega (arith, le))
+  where
+    put_below : (f : ℕ → List ℕ) (k : ℕ) (v : List ℕ) (i : ℕ) → i < k → put f k v i ≡ f i
+    put_below f k v i l = let d : i ≢ k = omega arith in grind arith
+
+pub bytes_new : (c : Client) (t : Trace) (l : Log) (x : Sent) (A : Answer) (q : ℕ) → (new_log c t l x A).bytes q (l.places + 1) ≡ bytes_behind A.server ((new_trace c t l x A).open_of q) (l.bytes q l.places)
+bytes_new c t l x A q = put_here (l.bytes q) (l.places + 1) _
+  where
+    put_here : (f : ℕ → List ℕ) (k : ℕ) (v : List ℕ) → put f k v k ≡ v
+    put_here f k v = grind arith
+
+pub behind_standing : (u : Server) (x : Option ℕ) (o : ℕ) (b : List ℕ) → x ≡ Some o → u.standing o ≡ true → bytes_behind u x b ≡ u.content (u.opened o).file
+behind_standing u x o b e st = grind arith
+
+pub behind_left : (u : Server) (x : Option ℕ) (o : ℕ) (b : List ℕ) → x ≡ Some o → u.standing o ≡ false → bytes_behind u x b ≡ b
+behind_left u x o b e st = grind arith
