@@ -1,6 +1,6 @@
 # The small steps of law_contents.py: the name, what it is, the columns that it changes, its arguments, what it needs, and
 # the parts whose proof needs more than the rule.
-WORDS = ["ops_of", "attach_of", "put_other", "put_self", "apart_new", "below_new", "outcomes_back", "outcomes_on", "left_lost", "left_firm", "left_on", "left_was", "finished_was", "still_gone", "unput", "some_of", "sent_of", "begun_was", "live_pends", "firm_settled", "ok_settled", "edits_other", "sent_up", "or_else", "may_act"]
+WORDS = ["ops_of", "attach_of", "put_other", "put_self", "apart_new", "below_new", "outcomes_back", "outcomes_on", "left_lost", "left_firm", "left_on", "left_was", "finished_was", "still_gone", "unput", "some_of", "sent_of", "begun_was", "live_pends", "firm_settled", "ok_settled", "edits_other", "sent_up", "or_else", "may_act", "sent_down"]
 
 G = "grind (arith, get-push)"
 
@@ -32,6 +32,22 @@ MOVED = "let r = ranked j n x h (ops_of x.token p e) in let cp = i.copy_pair j n
 
 def moved_pair(prefix, session, sequence, file):
     return prefix + "let z = old.1 in let up = go.steps.ids in (go.steps.pair %s %s (%s) r old.1 old.0, omega (arith, z, up))" % (session, sequence, file)
+
+
+SAID = ["token_down", "not_done", "create_reply", "attach_reply", "reached", "closed_reply", "attach_refused", "stale_reply", "replies", "attach_status", "since_reply"]
+
+
+# a reply that waits at the end: what each part says of it is a need of its own
+def said_event():
+    needs, parts = [], {}
+    for part in SAID:
+        body = re.search(r"^%s .* = .*?slice_get \(conns k\).down n ≡ Some y → (.*(?:\n    .*)*)" % type_name(part), SPEC, re.M).group(1).replace("\n", " ")
+        body = re.sub(r"  +", " ", re.sub(r"\bg\b", "p", body))
+        own = "p" in PARTS[part][0].split()
+        needs.append(("_said_" + part, ("(p : ℕ) → " if own else "") + re.sub(r"\by\b", "y0", body)))
+        variables = "j n p y" if own else "j n y"
+        parts[part] = "λ %s h. or_else (sent_down conns k y0 j n y h) (λ o. i.%s %s o) (λ z. subst (λ (y : Received). %s) (sym z) (said_%s%s))" % (variables, part, variables, body, part, " p" if own else "")
+    return Event("Say", "a reply is on its way", "conns", "(k : ℕ) (y0 : Received)", needs, parts, conns="(put conns k (record (conns k) { down = (conns k).down ++ y0 ∷ [] }))")
 
 
 EVENTS = [
@@ -96,12 +112,14 @@ EVENTS = [
               "by_some": "λ p f. i.by_some p (firm_back p f)",
               "prior": "λ p q pr. let old = i.prior p q pr in let sm = same q (firm_settled (c.outcome q) old.1) in (old.0, subst (λ o. is_firm o ≡ true) (sym sm) old.1)",
           }),
-    Event("Start", "an operation goes out first", "sent since prior", "(g : ℕ)",
+    Event("Start", "an operation goes out first", "sent since prior", "(g : ℕ) (pr : ℕ → Bool)",
           [("new", "c.sent g ≡ false"), ("above", "0 < g"), ("pending", "is_unsettled (c.outcome g) ≡ true"), ("live", "c.live ≡ true"),
            ("_lower", "(n : ℕ) → n < g → create_at c n ≡ create_at c g → edits (c.op n) ≡ true → edits (c.op g) ≡ true → is_unsettled (c.outcome n) ≡ true → clashes (c.op n) (c.op g) ≡ false"),
+           ("_firm", "(q : ℕ) → pr q ≡ true → is_firm (c.outcome q) ≡ true"),
            ("_quiet", "(j n : ℕ) (y : Received) → slice_get (conns j).down n ≡ Some y → op_of y.token ≢ g")],
-          c="(record c { sent = put c.sent g true })", l="(record l { since = put l.since g l.places; prior = put l.prior g (λ q. is_firm (c.outcome q)) })",
+          c="(record c { sent = put c.sent g true })", l="(record l { since = put l.since g l.places; prior = put l.prior g pr })",
           parts={
+              "prior": "λ p q. let old = i.prior p q in let f = firm q in grind arith",
               "pairwise": "λ p q lt st e1 e2 cr u1 u2. elim (q == g) as (λ b. q == g ≡ b → clashes (c.op p) (c.op q) ≡ false) [ true ↦ λ z. let qg = eqb-true _ _ z in subst (λ r. clashes (c.op p) (c.op r) ≡ false) (sym qg) (lower p (subst (λ r. p < r) qg lt) (subst (λ r. create_at c p ≡ create_at c r) qg cr) e1 (subst (λ r. edits (c.op r) ≡ true) qg e2) (live_pends (c.outcome p) (c.given_up p) c.session c.live (i.lost_dead p) live u1)) | false ↦ λ z. i.pairwise p q lt (sym (put_other c.sent g true q (eqb-false _ _ z)) ∙ st) e1 e2 cr u1 u2 ] refl",
               "since_reply": "λ j n y h. let qu = quiet j n y h in let old = i.since_reply j n y h in grind arith",
               "since_by": "λ p n b. let old = i.since_by p n b in let bb = i.by p n b in grind arith",
@@ -286,4 +304,5 @@ EVENTS = [
               "open_row": "λ q o e st. let g = i.open_given q o e in let row = go.steps.row o g.0 st in let old = i.open_row q o e (go.steps.stands o g.0 st) in subst (λ r. r.guid ≡ Some (guid_for c q) × r.client ≡ c.who.guid × r.share ≡ share_of (c.op q)) (sym row) old",
               "bytes": "λ q o e st. let g = go.given o st in let row = go.steps.row o g st in i.bytes q o e (go.steps.stands o g st) ∙ (ap (λ r. s.content r.file) (sym row) ∙ ap (λ f. f (u.opened o).file) (sym go.content))",
           }),
+    said_event(),
 ]

@@ -39,3 +39,4 @@ pub mod OnSend
 pub mod OnAsk
 pub mod OnMoved
 pub mod OnAbsorb
+pub mod OnSay

@@ -6,7 +6,7 @@ use Rattle.exchange_defs.specs.Operations.{Op, Outcome, Unsettled, WasOk, WasRef
 use Rattle.exchange_defs.specs.Client.{Client, create_for, outcome_after_end, given_up_after_end, plain_after_end, unsent_after_end, outcome_after_finish, given_up_after_finish}
 use Rattle.exchange_defs.specs.Content.{is_change}
 use Rattle.exchange_defs.specs.State.{Message}
-use Rattle.exchange_defs.specs.Network.{Token, ForDialog, ForOp, ForAttach, op_of, Conn, Sent, send_up}
+use Rattle.exchange_defs.specs.Network.{Token, ForDialog, ForOp, ForAttach, op_of, Conn, Sent, Received, send_up}
 use Rattle.exchange_law.specs.Connections.{makes_open}
 use Rattle.exchange_law.proofs.Lists.{get-push}
 use Rattle.order_law.specs.Contents.{edits}
@@ -215,6 +215,22 @@ sent_up conns k t m n0 j n x h = elim (j == k) as (λ b. j == k ≡ b → (slice
     by_push (inr e) h z = inr (some_same x (record { token = t; message = m }) (sym h ∙ (ap (λ c. slice_get c.up n) (put_self conns k (send_up (conns k) t m n0)) ∙ e)))
       where
         some_same : (x y : Sent) → Some x ≡ Some y → x ≡ y
+        some_same x y e = grind arith
+
+-- and the same of replies
+pub sent_down : (conns : ℕ → Conn) (k : ℕ) (y0 : Received) (j n : ℕ) (x : Received) → slice_get (put conns k (record (conns k) { down = (conns k).down ++ y0 ∷ [] }) j).down n ≡ Some x
+    → (slice_get (conns j).down n ≡ Some x) ⊎ (x ≡ y0)
+sent_down conns k y0 j n x h = elim (j == k) as (λ b. j == k ≡ b → (slice_get (conns j).down n ≡ Some x) ⊎ (x ≡ y0)) [
+  | true ↦ λ e. let z = eqb-true j k e in by_push (get-push (conns k).down y0 n).1 (subst (λ i. slice_get (put conns k (record (conns k) { down = (conns k).down ++ y0 ∷ [] }) i).down n ≡ Some x) z h) z
+  | false ↦ λ e. inl (subst (λ c. slice_get c.down n ≡ Some x) (put_other conns k (record (conns k) { down = (conns k).down ++ y0 ∷ [] }) j (eqb-false j k e)) h)
+] refl
+  where
+    by_push : (slice_get ((conns k).down ++ y0 ∷ []) n ≡ slice_get (conns k).down n) ⊎ (slice_get ((conns k).down ++ y0 ∷ []) n ≡ Some y0)
+        → slice_get (put conns k (record (conns k) { down = (conns k).down ++ y0 ∷ [] }) k).down n ≡ Some x → j ≡ k → (slice_get (conns j).down n ≡ Some x) ⊎ (x ≡ y0)
+    by_push (inl e) h z = inl (subst (λ i. slice_get (conns i).down n ≡ Some x) (sym z) (sym e ∙ (ap (λ c. slice_get c.down n) (sym (put_self conns k (record (conns k) { down = (conns k).down ++ y0 ∷ [] }))) ∙ h)))
+    by_push (inr e) h z = inr (some_same x y0 (sym h ∙ (ap (λ c. slice_get c.down n) (put_self conns k (record (conns k) { down = (conns k).down ++ y0 ∷ [] })) ∙ e)))
+      where
+        some_same : (x y : Received) → Some x ≡ Some y → x ≡ y
         some_same x y e = grind arith
 
 pub or_else : {A B P : Type 0} → A ⊎ B → (A → P) → (B → P) → P
