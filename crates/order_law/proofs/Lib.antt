@@ -40,3 +40,4 @@ pub mod OnAsk
 pub mod OnMoved
 pub mod OnAbsorb
 pub mod OnSay
+pub mod Quiet

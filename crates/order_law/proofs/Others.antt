@@ -17,14 +17,14 @@ use Rattle.order_law.proofs.Pairs.{Alike, Moves, same, moves_alike, moves_on, ex
 
 -- ---- a connection that is made or ends
 
-abbrev is_connections : Ruling → Bool
+abbrev pub is_connections : Ruling → Bool
 is_connections (Says m v) = false
 is_connections (TakesIn k) = true
 is_connections TurnsAway = true
 is_connections (TakesOut k is_quiet) = true
 is_connections (TakesAllOut is_quiet) = false
 
-without_room_too : (r : Ruling) → is_connections r ≡ true → is_connections (ruling_without_room r) ≡ true
+pub without_room_too : (r : Ruling) → is_connections r ≡ true → is_connections (ruling_without_room r) ≡ true
 without_room_too (Says m v) e = absurd (cc)
 without_room_too (TakesIn k) e = refl
 without_room_too TurnsAway e = refl
