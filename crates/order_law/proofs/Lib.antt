@@ -41,3 +41,4 @@ pub mod OnMoved
 pub mod OnAbsorb
 pub mod OnSay
 pub mod Quiet
+pub mod Tells

@@ -135,12 +135,18 @@ abbrev pub asks_share : Command → ℕ
 asks_share (Create r) = r.share
 asks_share _ = 0
 
+-- it asks to attach a standing open
+abbrev pub attaches : Command → Bool
+attaches (Create r) = is_some r.reconnect
+attaches _ = false
+
 pub record Making (s : Server) (m : Message) (A : Answer) : Type 0 where
   pub guid : (p q o : ℕ) → A.server.by_guid p q ≡ Some o → (s.by_guid p q ≡ Some o) ⊎ (creates m.command ≡ true × A.acted ≡ true × A.reached ≡ Some o × p ≡ m.client × asks_guid m.command ≡ Some q)
   pub new : (o : ℕ) → A.server.standing o ≡ true → (s.standing o ≡ true) ⊎ (creates m.command ≡ true × A.acted ≡ true × A.reached ≡ Some o)
   pub row : (o : ℕ) → creates m.command ≡ true → A.acted ≡ true → A.reached ≡ Some o
       → (A.server.opened o).guid ≡ asks_guid m.command × (A.server.opened o).client ≡ m.client × (A.server.opened o).share ≡ asks_share m.command × id_of s.epoch s.given < o
   pub acts : creates m.command ≡ true → A.acted ≡ true → is_some A.reached ≡ true
+  pub fresh : creates m.command ≡ true → A.acted ≡ true → attaches m.command ≡ false
   pub pair : creates m.command ≡ true → Pair A.server m.session 0 (id_in A.reply.body)
 
 creates_of : (c : Command) → creates c ≡ true → (r : CreateRequest) × (c ≡ Create r)
@@ -183,6 +189,7 @@ none_made s m A h idle pair =
       new = λ o e. inl (h.stands o e);
       row = λ o c a r. absurd (let z = idle c in grind arith);
       acts = λ c a. absurd (let z = idle c in grind arith);
+      fresh = λ c a. absurd (let z = idle c in grind arith);
       pair = pair;
     }
 
@@ -200,13 +207,14 @@ not_other s m o (inr e) = grind arith
 attached_pair : (s : Server) (m : Message) (o : ℕ) → (s.at o ≡ Some m.session) ⊎ (s.at o ≡ None) → Pair (attached s m o) m.session 0 o
 attached_pair s m o h st pr = (joined s m o (not_other s m o h), omega arith)
 
-make_making : (s : Server) (m : Message) (r : CreateRequest) (found : Option ℕ) (action now : ℕ) → m.command ≡ Create r → Making s m (apply s m now (Make r found action))
-make_making s m r found action now e =
+make_making : (s : Server) (m : Message) (r : CreateRequest) (found : Option ℕ) (action now : ℕ) → m.command ≡ Create r → r.reconnect ≡ None → Making s m (apply s m now (Make r found action))
+make_making s m r found action now e nr =
     record {
       guid = λ p q o h. by_guid p q o h;
       new = λ o h. by_new o h;
       row = λ o c a h. (row_guid o h ∙ sym (ap asks_guid e), row_client o h, row_share o h ∙ sym (ap asks_share e), above o h);
       acts = λ c a. refl;
+      fresh = λ c a. ap attaches e ∙ ap is_some nr;
       pair = λ c st pr. (own_at, omega arith);
     }
   where
@@ -270,7 +278,7 @@ verdict_making s m now g above (Attach o r) h f = none_made s m _ (less_of s _ (
     whose : (s.at o ≡ None) ⊎ (s.at o ≡ Some m.session) → (s.at o ≡ Some m.session) ⊎ (s.at o ≡ None)
     whose (inl e) = inr e
     whose (inr e) = inl e
-verdict_making s m now g above (Make r found action) h f = make_making s m r found action now h.new.create.command
+verdict_making s m now g above (Make r found action) h f = make_making s m r found action now h.new.create.command h.new.new
 verdict_making s m now g above (Give body) h f = other_made s m _ (Give body) refl f (less_same s _ refl refl)
 verdict_making s m now g above (TurnDown o status) h f = other_made s m _ (TurnDown o status) refl f (less_of s _ (reach_moves s m o g.low g.sequence))
 verdict_making s m now g above (Tell o body) h f = other_made s m _ (Tell o body) refl f (less_of s _ (reach_moves s m o g.low g.sequence))
@@ -296,6 +304,7 @@ making_before s t m A k f =
       new = λ o e. by_new o (f.new o e);
       row = λ o c a r. let h = f.row o c a r in let x = k.moves.epoch in let y = k.moves.given in let l = h.3 in (h.0, h.1, h.2, up s.epoch s.given t.epoch t.given o x y l);
       acts = f.acts;
+      fresh = f.fresh;
       pair = f.pair;
     }
   where
@@ -311,7 +320,7 @@ making_before s t m A k f =
     by_new o (inr e) = inr e
 
 making_recorded : (s : Server) (m : Message) (A : Answer) (records : List Record) → Making s m A → Making s m (recorded A records)
-making_recorded s m A records f = record { guid = f.guid; new = f.new; row = f.row; acts = f.acts; pair = f.pair }
+making_recorded s m A records f = record { guid = f.guid; new = f.new; row = f.row; acts = f.acts; fresh = f.fresh; pair = f.pair }
 
 making_step : (s : Server) (now : ℕ) (m : Message) → Fits s → LowSequences s → m.sequence ≤ 32767 → Making s m (step s now (Heard m))
 making_step s now m f low l =
