@@ -42,3 +42,4 @@ pub mod OnAbsorb
 pub mod OnSay
 pub mod Quiet
 pub mod Tells
+pub mod Requests
