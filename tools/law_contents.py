@@ -19,6 +19,7 @@ PARTS = {
     "token_up": ("j n x", "conns taken"),
     "token_down": ("j n y", "conns taken"),
     "opens_up": ("j n x", "conns op outcome"),
+    "asked_as": ("j n p x", "conns op file"),
     "lost_unknown": ("p z", "given_up outcome"),
     "lost_dead": ("p", "given_up session live"),
     "lost_known": ("p z", "given_up rank"),
@@ -109,7 +110,7 @@ use Rattle.exchange_defs.specs.Status.{success, file_not_available, file_closed,
 use Rattle.exchange_defs.specs.Content.{ContentReply}
 use Rattle.exchange_defs.specs.Order.{Log, Says_ok, Says_end, Settled_ok, Settled_end}
 use Rattle.exchange_defs.specs.State.{Server, Message, Reply}
-use Rattle.exchange_defs.specs.Operations.{Op, Outcome, Unsettled, Why, is_unsettled, is_firm, is_ok, is_create, persists, create_of, id_in, share_of}
+use Rattle.exchange_defs.specs.Operations.{Op, Outcome, Unsettled, Why, is_unsettled, is_firm, is_ok, is_create, persists, create_of, id_in, share_of, reconnect_of}
 use Rattle.exchange_defs.specs.Client.{Client, Stage, Apart, AskedTree, guid_for, SaidNegotiate, create_for, outstanding as put_out, asked, cut_channel, end_session, finish, is_taken, outcome_after_end, given_up_after_end, outcome_after_finish, given_up_after_finish}
 use Rattle.exchange_defs.specs.Settling.{answered, joined, settled as settled_by}
 use Rattle.exchange_defs.specs.Dialogs.{open_channel, went_on, accepted, bound, readied, leave_dialog, refused_dialog, told_session}

@@ -53,9 +53,10 @@ def said_event():
 EVENTS = [
     Event("Submit", "an operation is taken", "taken op outcome", "(g : ℕ) (op : Op) (out : Outcome)",
           [("next", "g ≡ c.taken + 1"), ("untaken", "c.outcome g ≡ Unsettled"), ("other", "is_firm out ≡ false × is_ok out ≡ false"),
-           ("_listed_above", "(n : ℕ) → lists (c.op (l.who n)) ≡ true → 0 < l.who n"), ("_listed_create", "(n : ℕ) → n < l.places → lists (c.op (l.who n)) ≡ true → create_at c (l.who n) ≤ c.taken")],
+           ("_below", "(p : ℕ) → 0 < p → p ≤ c.taken → create_at c p ≤ c.taken"), ("_listed_above", "(n : ℕ) → lists (c.op (l.who n)) ≡ true → 0 < l.who n"), ("_listed_create", "(n : ℕ) → n < l.places → lists (c.op (l.who n)) ≡ true → create_at c (l.who n) ≤ c.taken")],
           c="(record c { taken = g; op = put c.op g op; outcome = put c.outcome g out })",
           parts={
+              "asked_as": "λ j n p x h e. let tk = i.token_up j n x h (attach_of x.token p e) in let lp = subst (λ g. g ≤ c.taken) (ap op_of e) tk.1 in let ne = below_new p g c.taken lp next in let at = put_other c.op g op p ne in let n2 = below_new (create_at c p) g c.taken (below p (subst (λ g. 0 < g) (ap op_of e) tk.0) lp) next in let at2 = put_other c.op g op (create_at c p) n2 in let old = i.asked_as j n p x h e in grind arith",
               "first_up": up("first_up"),
               "cut_seq": up("cut_seq"),
               "open_seq": up("open_seq"),
@@ -225,12 +226,13 @@ EVENTS = [
           }),
     Event("Opens", "a create that is outstanding names its open", "file attached", "(g id : ℕ)",
           [("pending", "is_unsettled (c.outcome g) ≡ true"), ("_pair", "Pair s c.session 0 id × id ≤ last_id s"),
-           ("_mine_up", "(j n p : ℕ) (x : Sent) → slice_get (conns j).up n ≡ Some x → x.token ≡ ForOp p → edits (c.op p) ≡ true → create_at c p ≢ g"),
+           ("_asked_up", "(j n p : ℕ) (x : Sent) → slice_get (conns j).up n ≡ Some x → x.token ≡ ForAttach p → create_at c p ≢ g"), ("_mine_up", "(j n p : ℕ) (x : Sent) → slice_get (conns j).up n ≡ Some x → x.token ≡ ForOp p → edits (c.op p) ≡ true → create_at c p ≢ g"),
            ("_mine_down", "(j n p : ℕ) (y : Received) → slice_get (conns j).down n ≡ Some y → y.token ≡ ForOp p → edits (c.op p) ≡ true → create_at c p ≢ g"),
            ("_mine_ask", "(j n p : ℕ) (y : Received) → slice_get (conns j).down n ≡ Some y → y.token ≡ ForAttach p → create_at c p ≢ g"),
            ("_acted", "(p : ℕ) → edits (c.op p) ≡ true → is_some (l.first p) ≡ true → create_at c p ≢ g")],
           c="(record c { file = put c.file g id; attached = put c.attached g c.number })",
           parts={
+              "asked_as": "λ j n p x h e. let old = i.asked_as j n p x h e in (old.0, subst (λ f. x.message.command ≡ reconnect_of (c.op (create_at c p)) (guid_for c (create_at c p)) f) (sym (put_other c.file g id (create_at c p) (asked_up j n p x h e))) old.1)",
               "copy_pair": "λ j n p x h e ed. subst (λ f. Pair s x.message.session 0 f × f ≤ last_id s) (sym (put_other c.file g id (create_at c p) (mine_up j n p x h e ed))) (i.copy_pair j n p x h e ed)",
               "now_pair": "λ q. elim (q == g) as (λ b. q == g ≡ b → put c.attached g c.number q ≡ c.number → c.live ≡ true → Pair s c.session 0 (put c.file g id q) × put c.file g id q ≤ last_id s) [ true ↦ λ z at lv. subst (λ f. Pair s c.session 0 f × f ≤ last_id s) (sym (put_self c.file g id) ∙ ap (put c.file g id) (sym (eqb-true _ _ z))) pair | false ↦ λ z at lv. subst (λ f. Pair s c.session 0 f × f ≤ last_id s) (sym (put_other c.file g id q (eqb-false _ _ z))) (i.now_pair q (sym (put_other c.attached g c.number q (eqb-false _ _ z)) ∙ at) lv) ] refl",
               "attach_reply": "λ j n p y h e st. subst (λ f. Pair s c.session 0 f × f ≤ last_id s) (sym (put_other c.file g id (create_at c p) (mine_ask j n p y h e))) (i.attach_reply j n p y h e st)",
@@ -282,7 +284,8 @@ EVENTS = [
               "live_replay": "λ j n p x. let old = i.live_replay j n p x in let id = idle in let rp = replay in grind (arith, get-push)",
           }),
     Event("Ask", "a DH2C goes out in an operation's place", "on asking conns", "(k g n0 : ℕ) (m : Message)",
-          [("none", "c.on g ≡ None"), ("above", "0 < g"), ("within", "g ≤ c.taken"), ("opens", "(makes_open (c.op g) || is_ok (c.outcome (create_at c g))) ≡ true")], c="(asked c k g)", conns="(put conns k (send_up (conns k) (ForAttach g) m n0))", parts={"opens_up": "λ j n x. let old = i.opens_up j n x in let op = opens in grind (arith, get-push)"}),
+          [("none", "c.on g ≡ None"), ("above", "0 < g"), ("within", "g ≤ c.taken"), ("other", "makes_open (c.op g) ≡ false"), ("command", "m.command ≡ reconnect_of (c.op (create_at c g)) (guid_for c (create_at c g)) (file_at c g)"), ("opens", "(makes_open (c.op g) || is_ok (c.outcome (create_at c g))) ≡ true")], c="(asked c k g)", conns="(put conns k (send_up (conns k) (ForAttach g) m n0))", parts={
+              "asked_as": "λ j n p x h e. or_else (sent_up conns k (ForAttach g) m n0 j n x h) (λ o. i.asked_as j n p x o e) (λ z. let gp : g ≡ p = grind arith in let mx : x.message ≡ m = ap (λ (y : Sent). y.message) z in subst (λ r. makes_open (c.op r) ≡ false × x.message.command ≡ reconnect_of (c.op (create_at c r)) (guid_for c (create_at c r)) (file_at c r)) gp (other, ap (λ (y : Message). y.command) mx ∙ command))","opens_up": "λ j n x. let old = i.opens_up j n x in let op = opens in grind (arith, get-push)"}),
     Event("Moved", "the server moves without a message", "server", "(u : Server)", [("go", "Moves c.rank s u"), ("_ranked", "(j n : ℕ) (x : Sent) → slice_get (conns j).up n ≡ Some x → is_ops x.token ≡ true → 0 < c.rank x.message.session"),
            ("_current", "(j n : ℕ) (y : Received) → slice_get (conns j).down n ≡ Some y → is_ops y.token ≡ true → 0 < c.rank c.session"), ("_alive", "c.live ≡ true → 0 < c.rank c.session")], s="u",
           parts={

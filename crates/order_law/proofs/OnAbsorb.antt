@@ -17,7 +17,7 @@ use Rattle.exchange_law.specs.Connections.{create_at, makes_open, its_create, no
 use Rattle.exchange_law.proofs.Lists.{own_up_count, own_down_count, front_up, waited}
 use Rattle.session_law.specs.Sessions.{is_ops}
 use Rattle.order_law.specs.Newest.{Pair}
-use Rattle.order_law.specs.Contents.{Contents, edits, lists, formed, isolating, clashes, bytes_after, reply_to, ends_before, file_at, pends, last_id, is_final, TokenUp, TokenDown, OpensUp, LostUnknown, LostDead, LostKnown, LostAsked, SessionKnown, SessionAsked, Pairwise, FirstUp, Unacted, FreshFirst, NotDone, CutSeq, OpenSeq, Older, NoReplay, CopyPair, NowPair, CreateReply, AttachReply, Reached, ClosedReply, AttachRefused, StaleReply, SessionSeq, PendingAt, LiveUnsettled, LiveReplay, Shows, Denied, OpenOf, NamedOpen, OpenGiven, OpenRow, OpenActed, Bytes, Quiet, Foreign, Acted, Gave, GaveEnd, Whose, Born, BirthLe, FirstAt, By, ByOk, ByEnd, BySome, Replies, AttachStatus, SinceLe, SinceReply, SinceBy, SinceFirst, Prior, PriorBy, PriorFirst}
+use Rattle.order_law.specs.Contents.{Contents, edits, lists, formed, isolating, clashes, bytes_after, reply_to, ends_before, file_at, pends, last_id, is_final, TokenUp, TokenDown, OpensUp, AskedAs, LostUnknown, LostDead, LostKnown, LostAsked, SessionKnown, SessionAsked, Pairwise, FirstUp, Unacted, FreshFirst, NotDone, CutSeq, OpenSeq, Older, NoReplay, CopyPair, NowPair, CreateReply, AttachReply, Reached, ClosedReply, AttachRefused, StaleReply, SessionSeq, PendingAt, LiveUnsettled, LiveReplay, Shows, Denied, OpenOf, NamedOpen, OpenGiven, OpenRow, OpenActed, Bytes, Quiet, Foreign, Acted, Gave, GaveEnd, Whose, Born, BirthLe, FirstAt, By, ByOk, ByEnd, BySome, Replies, AttachStatus, SinceLe, SinceReply, SinceBy, SinceFirst, Prior, PriorBy, PriorFirst}
 use Rattle.order_law.proofs.Moved.{Steps, live_back}
 use Rattle.order_law.proofs.Words.{ops_of, attach_of, put_other, put_self, put_old, split, still_gone, sent_of, firm_settled, ok_settled, edits_other, some_of}
 use Rattle.order_law.proofs.Served.{ListedFacts}
@@ -241,6 +241,10 @@ absorb_token_down c conns s t l a k x0 rest A i_token_down =
 absorb_opens_up : (c : Client) (conns : ℕ → Conn) (s : Server) (t : Trace) (l : Log) (a : ℕ → ℕ) (k : ℕ) (x0 : Sent) (rest : List Sent) (A : Answer) → ((conns k).up ≡ x0 ∷ rest) → OpensUp c conns → OpensUp c (Front conns k rest)
 absorb_opens_up c conns s t l a k x0 rest A is i_opens_up =
     λ j n x h. let o = waited conns k x0 rest j n x is h in i_opens_up j o.0 x o.1
+
+absorb_asked_as : (c : Client) (conns : ℕ → Conn) (s : Server) (t : Trace) (l : Log) (a : ℕ → ℕ) (k : ℕ) (x0 : Sent) (rest : List Sent) (A : Answer) → ((conns k).up ≡ x0 ∷ rest) → AskedAs c conns → AskedAs c (Front conns k rest)
+absorb_asked_as c conns s t l a k x0 rest A is i_asked_as =
+    λ j n p x h. let o = waited conns k x0 rest j n x is h in i_asked_as j o.0 p x o.1
 
 absorb_first_up : (c : Client) (conns : ℕ → Conn) (s : Server) (t : Trace) (l : Log) (a : ℕ → ℕ) (k : ℕ) (x0 : Sent) (rest : List Sent) (A : Answer) → ((conns k).up ≡ x0 ∷ rest) → (Once conns) → (ConnOutstanding c conns) → FirstUp c conns l → TokenUp c conns → FirstUp c (Front conns k rest) (new_log c t l x0 A)
 absorb_first_up c conns s t l a k x0 rest A is once out i_first_up i_token_up =
@@ -664,6 +668,7 @@ absorb_keeps c conns s t l a k x0 rest A is once out own bodies dopen w ranked a
       token_up = absorb_token_up c conns s t l a k x0 rest A is i.token_up;
       token_down = absorb_token_down c conns s t l a k x0 rest A i.token_down;
       opens_up = absorb_opens_up c conns s t l a k x0 rest A is i.opens_up;
+      asked_as = absorb_asked_as c conns s t l a k x0 rest A is i.asked_as;
       lost_unknown = i.lost_unknown;
       lost_dead = i.lost_dead;
       lost_known = i.lost_known;

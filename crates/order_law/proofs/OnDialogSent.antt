@@ -7,7 +7,7 @@ use Rattle.exchange_defs.specs.Status.{success, file_not_available, file_closed,
 use Rattle.exchange_defs.specs.Content.{ContentReply}
 use Rattle.exchange_defs.specs.Order.{Log, Says_ok, Says_end, Settled_ok, Settled_end}
 use Rattle.exchange_defs.specs.State.{Server, Message, Reply}
-use Rattle.exchange_defs.specs.Operations.{Op, Outcome, Unsettled, Why, is_unsettled, is_firm, is_ok, is_create, persists, create_of, id_in, share_of}
+use Rattle.exchange_defs.specs.Operations.{Op, Outcome, Unsettled, Why, is_unsettled, is_firm, is_ok, is_create, persists, create_of, id_in, share_of, reconnect_of}
 use Rattle.exchange_defs.specs.Client.{Client, Stage, Apart, AskedTree, guid_for, SaidNegotiate, create_for, outstanding as put_out, asked, cut_channel, end_session, finish, is_taken, outcome_after_end, given_up_after_end, outcome_after_finish, given_up_after_finish}
 use Rattle.exchange_defs.specs.Settling.{answered, joined, settled as settled_by}
 use Rattle.exchange_defs.specs.Dialogs.{open_channel, went_on, accepted, bound, readied, leave_dialog, refused_dialog, told_session}
@@ -17,7 +17,7 @@ use Rattle.exchange_law.specs.Connections.{create_at, makes_open, its_create, no
 use Rattle.exchange_law.proofs.Lists.{get-push, own_up_count, attach_up_count, own_down_count, attach_down_count, front_up, front_down, waited, waited_down}
 use Rattle.session_law.specs.Sessions.{is_ops}
 use Rattle.order_law.specs.Newest.{Pair}
-use Rattle.order_law.specs.Contents.{Contents, edits, lists, formed, isolating, clashes, bytes_after, reply_to, ends_before, file_at, pends, last_id, is_final, TokenUp, TokenDown, OpensUp, LostUnknown, LostDead, LostKnown, LostAsked, SessionKnown, SessionAsked, Pairwise, FirstUp, Unacted, FreshFirst, NotDone, CutSeq, OpenSeq, Older, NoReplay, CopyPair, NowPair, CreateReply, AttachReply, Reached, ClosedReply, AttachRefused, StaleReply, SessionSeq, PendingAt, LiveUnsettled, LiveReplay, Shows, Denied, OpenOf, NamedOpen, OpenGiven, OpenRow, OpenActed, Bytes, Quiet, Foreign, Acted, Gave, GaveEnd, Whose, Born, BirthLe, FirstAt, By, ByOk, ByEnd, BySome, Replies, AttachStatus, SinceLe, SinceReply, SinceBy, SinceFirst, Prior, PriorBy, PriorFirst}
+use Rattle.order_law.specs.Contents.{Contents, edits, lists, formed, isolating, clashes, bytes_after, reply_to, ends_before, file_at, pends, last_id, is_final, TokenUp, TokenDown, OpensUp, AskedAs, LostUnknown, LostDead, LostKnown, LostAsked, SessionKnown, SessionAsked, Pairwise, FirstUp, Unacted, FreshFirst, NotDone, CutSeq, OpenSeq, Older, NoReplay, CopyPair, NowPair, CreateReply, AttachReply, Reached, ClosedReply, AttachRefused, StaleReply, SessionSeq, PendingAt, LiveUnsettled, LiveReplay, Shows, Denied, OpenOf, NamedOpen, OpenGiven, OpenRow, OpenActed, Bytes, Quiet, Foreign, Acted, Gave, GaveEnd, Whose, Born, BirthLe, FirstAt, By, ByOk, ByEnd, BySome, Replies, AttachStatus, SinceLe, SinceReply, SinceBy, SinceFirst, Prior, PriorBy, PriorFirst}
 use Rattle.order_law.proofs.Moved.{Steps, Moves, live_back}
 
 dialog_sent_token_up : (c : Client) (conns : ℕ → Conn) (s : Server) (t : Trace) (l : Log) (a : ℕ → ℕ) (k n0 : ℕ) (m : Message) → TokenUp c conns → TokenUp c (put conns k (send_up (conns k) ForDialog m n0))
@@ -31,6 +31,10 @@ dialog_sent_token_down c conns s t l a k n0 m i_token_down =
 dialog_sent_opens_up : (c : Client) (conns : ℕ → Conn) (s : Server) (t : Trace) (l : Log) (a : ℕ → ℕ) (k n0 : ℕ) (m : Message) → OpensUp c conns → OpensUp c (put conns k (send_up (conns k) ForDialog m n0))
 dialog_sent_opens_up c conns s t l a k n0 m i_opens_up =
     λ j n x. let old = i_opens_up j n x in grind (arith, get-push)
+
+dialog_sent_asked_as : (c : Client) (conns : ℕ → Conn) (s : Server) (t : Trace) (l : Log) (a : ℕ → ℕ) (k n0 : ℕ) (m : Message) → AskedAs c conns → AskedAs c (put conns k (send_up (conns k) ForDialog m n0))
+dialog_sent_asked_as c conns s t l a k n0 m i_asked_as =
+    λ j n p x. let old = i_asked_as j n p x in grind (arith, get-push)
 
 dialog_sent_first_up : (c : Client) (conns : ℕ → Conn) (s : Server) (t : Trace) (l : Log) (a : ℕ → ℕ) (k n0 : ℕ) (m : Message) → FirstUp c conns l → FirstUp c (put conns k (send_up (conns k) ForDialog m n0)) l
 dialog_sent_first_up c conns s t l a k n0 m i_first_up =
@@ -110,6 +114,7 @@ dialog_sent_keeps c conns s t l a k n0 m i =
       token_up = dialog_sent_token_up c conns s t l a k n0 m i.token_up;
       token_down = dialog_sent_token_down c conns s t l a k n0 m i.token_down;
       opens_up = dialog_sent_opens_up c conns s t l a k n0 m i.opens_up;
+      asked_as = dialog_sent_asked_as c conns s t l a k n0 m i.asked_as;
       lost_unknown = i.lost_unknown;
       lost_dead = i.lost_dead;
       lost_known = i.lost_known;

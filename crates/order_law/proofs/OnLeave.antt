@@ -7,7 +7,7 @@ use Rattle.exchange_defs.specs.Status.{success, file_not_available, file_closed,
 use Rattle.exchange_defs.specs.Content.{ContentReply}
 use Rattle.exchange_defs.specs.Order.{Log, Says_ok, Says_end, Settled_ok, Settled_end}
 use Rattle.exchange_defs.specs.State.{Server, Message, Reply}
-use Rattle.exchange_defs.specs.Operations.{Op, Outcome, Unsettled, Why, is_unsettled, is_firm, is_ok, is_create, persists, create_of, id_in, share_of}
+use Rattle.exchange_defs.specs.Operations.{Op, Outcome, Unsettled, Why, is_unsettled, is_firm, is_ok, is_create, persists, create_of, id_in, share_of, reconnect_of}
 use Rattle.exchange_defs.specs.Client.{Client, Stage, Apart, AskedTree, guid_for, SaidNegotiate, create_for, outstanding as put_out, asked, cut_channel, end_session, finish, is_taken, outcome_after_end, given_up_after_end, outcome_after_finish, given_up_after_finish}
 use Rattle.exchange_defs.specs.Settling.{answered, joined, settled as settled_by}
 use Rattle.exchange_defs.specs.Dialogs.{open_channel, went_on, accepted, bound, readied, leave_dialog, refused_dialog, told_session}
@@ -17,7 +17,7 @@ use Rattle.exchange_law.specs.Connections.{create_at, makes_open, its_create, no
 use Rattle.exchange_law.proofs.Lists.{get-push, own_up_count, attach_up_count, own_down_count, attach_down_count, front_up, front_down, waited, waited_down}
 use Rattle.session_law.specs.Sessions.{is_ops}
 use Rattle.order_law.specs.Newest.{Pair}
-use Rattle.order_law.specs.Contents.{Contents, edits, lists, formed, isolating, clashes, bytes_after, reply_to, ends_before, file_at, pends, last_id, is_final, TokenUp, TokenDown, OpensUp, LostUnknown, LostDead, LostKnown, LostAsked, SessionKnown, SessionAsked, Pairwise, FirstUp, Unacted, FreshFirst, NotDone, CutSeq, OpenSeq, Older, NoReplay, CopyPair, NowPair, CreateReply, AttachReply, Reached, ClosedReply, AttachRefused, StaleReply, SessionSeq, PendingAt, LiveUnsettled, LiveReplay, Shows, Denied, OpenOf, NamedOpen, OpenGiven, OpenRow, OpenActed, Bytes, Quiet, Foreign, Acted, Gave, GaveEnd, Whose, Born, BirthLe, FirstAt, By, ByOk, ByEnd, BySome, Replies, AttachStatus, SinceLe, SinceReply, SinceBy, SinceFirst, Prior, PriorBy, PriorFirst}
+use Rattle.order_law.specs.Contents.{Contents, edits, lists, formed, isolating, clashes, bytes_after, reply_to, ends_before, file_at, pends, last_id, is_final, TokenUp, TokenDown, OpensUp, AskedAs, LostUnknown, LostDead, LostKnown, LostAsked, SessionKnown, SessionAsked, Pairwise, FirstUp, Unacted, FreshFirst, NotDone, CutSeq, OpenSeq, Older, NoReplay, CopyPair, NowPair, CreateReply, AttachReply, Reached, ClosedReply, AttachRefused, StaleReply, SessionSeq, PendingAt, LiveUnsettled, LiveReplay, Shows, Denied, OpenOf, NamedOpen, OpenGiven, OpenRow, OpenActed, Bytes, Quiet, Foreign, Acted, Gave, GaveEnd, Whose, Born, BirthLe, FirstAt, By, ByOk, ByEnd, BySome, Replies, AttachStatus, SinceLe, SinceReply, SinceBy, SinceFirst, Prior, PriorBy, PriorFirst}
 use Rattle.order_law.proofs.Moved.{Steps, Moves, live_back}
 use Rattle.order_law.proofs.Words.{left_lost, left_firm, left_on, left_was}
 
@@ -32,6 +32,10 @@ leave_token_down c conns s t l a i_token_down =
 leave_opens_up : (c : Client) (conns : ℕ → Conn) (s : Server) (t : Trace) (l : Log) (a : ℕ → ℕ) → OpensUp c conns → OpensUp (end_session c) (λ q. client_off (conns q))
 leave_opens_up c conns s t l a i_opens_up =
     λ j n x. let old = i_opens_up j n x in grind (arith, get-push)
+
+leave_asked_as : (c : Client) (conns : ℕ → Conn) (s : Server) (t : Trace) (l : Log) (a : ℕ → ℕ) → AskedAs c conns → AskedAs (end_session c) (λ q. client_off (conns q))
+leave_asked_as c conns s t l a i_asked_as =
+    λ j n p x. let old = i_asked_as j n p x in grind (arith, get-push)
 
 leave_lost_unknown : (c : Client) (conns : ℕ → Conn) (s : Server) (t : Trace) (l : Log) (a : ℕ → ℕ) → LostUnknown c → LostUnknown (end_session c)
 leave_lost_unknown c conns s t l a i_lost_unknown =
@@ -183,6 +187,7 @@ leave_keeps c conns s t l a mine gone i =
       token_up = leave_token_up c conns s t l a i.token_up;
       token_down = leave_token_down c conns s t l a i.token_down;
       opens_up = leave_opens_up c conns s t l a i.opens_up;
+      asked_as = leave_asked_as c conns s t l a i.asked_as;
       lost_unknown = leave_lost_unknown c conns s t l a i.lost_unknown;
       lost_dead = leave_lost_dead c conns s t l a i.lost_dead;
       lost_known = leave_lost_known c conns s t l a i.lost_known i.session_known;

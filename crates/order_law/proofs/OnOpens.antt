@@ -7,7 +7,7 @@ use Rattle.exchange_defs.specs.Status.{success, file_not_available, file_closed,
 use Rattle.exchange_defs.specs.Content.{ContentReply}
 use Rattle.exchange_defs.specs.Order.{Log, Says_ok, Says_end, Settled_ok, Settled_end}
 use Rattle.exchange_defs.specs.State.{Server, Message, Reply}
-use Rattle.exchange_defs.specs.Operations.{Op, Outcome, Unsettled, Why, is_unsettled, is_firm, is_ok, is_create, persists, create_of, id_in, share_of}
+use Rattle.exchange_defs.specs.Operations.{Op, Outcome, Unsettled, Why, is_unsettled, is_firm, is_ok, is_create, persists, create_of, id_in, share_of, reconnect_of}
 use Rattle.exchange_defs.specs.Client.{Client, Stage, Apart, AskedTree, guid_for, SaidNegotiate, create_for, outstanding as put_out, asked, cut_channel, end_session, finish, is_taken, outcome_after_end, given_up_after_end, outcome_after_finish, given_up_after_finish}
 use Rattle.exchange_defs.specs.Settling.{answered, joined, settled as settled_by}
 use Rattle.exchange_defs.specs.Dialogs.{open_channel, went_on, accepted, bound, readied, leave_dialog, refused_dialog, told_session}
@@ -17,9 +17,13 @@ use Rattle.exchange_law.specs.Connections.{create_at, makes_open, its_create, no
 use Rattle.exchange_law.proofs.Lists.{get-push, own_up_count, attach_up_count, own_down_count, attach_down_count, front_up, front_down, waited, waited_down}
 use Rattle.session_law.specs.Sessions.{is_ops}
 use Rattle.order_law.specs.Newest.{Pair}
-use Rattle.order_law.specs.Contents.{Contents, edits, lists, formed, isolating, clashes, bytes_after, reply_to, ends_before, file_at, pends, last_id, is_final, TokenUp, TokenDown, OpensUp, LostUnknown, LostDead, LostKnown, LostAsked, SessionKnown, SessionAsked, Pairwise, FirstUp, Unacted, FreshFirst, NotDone, CutSeq, OpenSeq, Older, NoReplay, CopyPair, NowPair, CreateReply, AttachReply, Reached, ClosedReply, AttachRefused, StaleReply, SessionSeq, PendingAt, LiveUnsettled, LiveReplay, Shows, Denied, OpenOf, NamedOpen, OpenGiven, OpenRow, OpenActed, Bytes, Quiet, Foreign, Acted, Gave, GaveEnd, Whose, Born, BirthLe, FirstAt, By, ByOk, ByEnd, BySome, Replies, AttachStatus, SinceLe, SinceReply, SinceBy, SinceFirst, Prior, PriorBy, PriorFirst}
+use Rattle.order_law.specs.Contents.{Contents, edits, lists, formed, isolating, clashes, bytes_after, reply_to, ends_before, file_at, pends, last_id, is_final, TokenUp, TokenDown, OpensUp, AskedAs, LostUnknown, LostDead, LostKnown, LostAsked, SessionKnown, SessionAsked, Pairwise, FirstUp, Unacted, FreshFirst, NotDone, CutSeq, OpenSeq, Older, NoReplay, CopyPair, NowPair, CreateReply, AttachReply, Reached, ClosedReply, AttachRefused, StaleReply, SessionSeq, PendingAt, LiveUnsettled, LiveReplay, Shows, Denied, OpenOf, NamedOpen, OpenGiven, OpenRow, OpenActed, Bytes, Quiet, Foreign, Acted, Gave, GaveEnd, Whose, Born, BirthLe, FirstAt, By, ByOk, ByEnd, BySome, Replies, AttachStatus, SinceLe, SinceReply, SinceBy, SinceFirst, Prior, PriorBy, PriorFirst}
 use Rattle.order_law.proofs.Moved.{Steps, Moves, live_back}
 use Rattle.order_law.proofs.Words.{put_other, put_self}
+
+opens_asked_as : (c : Client) (conns : ℕ → Conn) (s : Server) (t : Trace) (l : Log) (a : ℕ → ℕ) (g id : ℕ) → (is_unsettled (c.outcome g) ≡ true) → ((j n p : ℕ) (x : Sent) → slice_get (conns j).up n ≡ Some x → x.token ≡ ForAttach p → create_at c p ≢ g) → AskedAs c conns → AskedAs (record c { file = put c.file g id; attached = put c.attached g c.number }) conns
+opens_asked_as c conns s t l a g id pending asked_up i_asked_as =
+    λ j n p x h e. let old = i_asked_as j n p x h e in (old.0, subst (λ f. x.message.command ≡ reconnect_of (c.op (create_at c p)) (guid_for c (create_at c p)) f) (sym (put_other c.file g id (create_at c p) (asked_up j n p x h e))) old.1)
 
 opens_copy_pair : (c : Client) (conns : ℕ → Conn) (s : Server) (t : Trace) (l : Log) (a : ℕ → ℕ) (g id : ℕ) → (is_unsettled (c.outcome g) ≡ true) → ((j n p : ℕ) (x : Sent) → slice_get (conns j).up n ≡ Some x → x.token ≡ ForOp p → edits (c.op p) ≡ true → create_at c p ≢ g) → CopyPair c conns s → CopyPair (record c { file = put c.file g id; attached = put c.attached g c.number }) conns s
 opens_copy_pair c conns s t l a g id pending mine_up i_copy_pair =
@@ -61,12 +65,13 @@ opens_open_of : (c : Client) (conns : ℕ → Conn) (s : Server) (t : Trace) (l 
 opens_open_of c conns s t l a g id pending i_open_of =
     λ q. let old = i_open_of q in grind arith
 
-pub opens_keeps : (c : Client) (conns : ℕ → Conn) (s : Server) (t : Trace) (l : Log) (a : ℕ → ℕ) (g id : ℕ) → (is_unsettled (c.outcome g) ≡ true) → (Pair s c.session 0 id × id ≤ last_id s) → ((j n p : ℕ) (x : Sent) → slice_get (conns j).up n ≡ Some x → x.token ≡ ForOp p → edits (c.op p) ≡ true → create_at c p ≢ g) → ((j n p : ℕ) (y : Received) → slice_get (conns j).down n ≡ Some y → y.token ≡ ForOp p → edits (c.op p) ≡ true → create_at c p ≢ g) → ((j n p : ℕ) (y : Received) → slice_get (conns j).down n ≡ Some y → y.token ≡ ForAttach p → create_at c p ≢ g) → ((p : ℕ) → edits (c.op p) ≡ true → is_some (l.first p) ≡ true → create_at c p ≢ g) → Contents c conns s t l a → Contents (record c { file = put c.file g id; attached = put c.attached g c.number }) conns s t l a
-opens_keeps c conns s t l a g id pending pair mine_up mine_down mine_ask acted i =
+pub opens_keeps : (c : Client) (conns : ℕ → Conn) (s : Server) (t : Trace) (l : Log) (a : ℕ → ℕ) (g id : ℕ) → (is_unsettled (c.outcome g) ≡ true) → (Pair s c.session 0 id × id ≤ last_id s) → ((j n p : ℕ) (x : Sent) → slice_get (conns j).up n ≡ Some x → x.token ≡ ForAttach p → create_at c p ≢ g) → ((j n p : ℕ) (x : Sent) → slice_get (conns j).up n ≡ Some x → x.token ≡ ForOp p → edits (c.op p) ≡ true → create_at c p ≢ g) → ((j n p : ℕ) (y : Received) → slice_get (conns j).down n ≡ Some y → y.token ≡ ForOp p → edits (c.op p) ≡ true → create_at c p ≢ g) → ((j n p : ℕ) (y : Received) → slice_get (conns j).down n ≡ Some y → y.token ≡ ForAttach p → create_at c p ≢ g) → ((p : ℕ) → edits (c.op p) ≡ true → is_some (l.first p) ≡ true → create_at c p ≢ g) → Contents c conns s t l a → Contents (record c { file = put c.file g id; attached = put c.attached g c.number }) conns s t l a
+opens_keeps c conns s t l a g id pending pair asked_up mine_up mine_down mine_ask acted i =
     record {
       token_up = i.token_up;
       token_down = i.token_down;
       opens_up = i.opens_up;
+      asked_as = opens_asked_as c conns s t l a g id pending asked_up i.asked_as;
       lost_unknown = i.lost_unknown;
       lost_dead = i.lost_dead;
       lost_known = i.lost_known;

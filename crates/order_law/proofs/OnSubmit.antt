@@ -7,7 +7,7 @@ use Rattle.exchange_defs.specs.Status.{success, file_not_available, file_closed,
 use Rattle.exchange_defs.specs.Content.{ContentReply}
 use Rattle.exchange_defs.specs.Order.{Log, Says_ok, Says_end, Settled_ok, Settled_end}
 use Rattle.exchange_defs.specs.State.{Server, Message, Reply}
-use Rattle.exchange_defs.specs.Operations.{Op, Outcome, Unsettled, Why, is_unsettled, is_firm, is_ok, is_create, persists, create_of, id_in, share_of}
+use Rattle.exchange_defs.specs.Operations.{Op, Outcome, Unsettled, Why, is_unsettled, is_firm, is_ok, is_create, persists, create_of, id_in, share_of, reconnect_of}
 use Rattle.exchange_defs.specs.Client.{Client, Stage, Apart, AskedTree, guid_for, SaidNegotiate, create_for, outstanding as put_out, asked, cut_channel, end_session, finish, is_taken, outcome_after_end, given_up_after_end, outcome_after_finish, given_up_after_finish}
 use Rattle.exchange_defs.specs.Settling.{answered, joined, settled as settled_by}
 use Rattle.exchange_defs.specs.Dialogs.{open_channel, went_on, accepted, bound, readied, leave_dialog, refused_dialog, told_session}
@@ -17,7 +17,7 @@ use Rattle.exchange_law.specs.Connections.{create_at, makes_open, its_create, no
 use Rattle.exchange_law.proofs.Lists.{get-push, own_up_count, attach_up_count, own_down_count, attach_down_count, front_up, front_down, waited, waited_down}
 use Rattle.session_law.specs.Sessions.{is_ops}
 use Rattle.order_law.specs.Newest.{Pair}
-use Rattle.order_law.specs.Contents.{Contents, edits, lists, formed, isolating, clashes, bytes_after, reply_to, ends_before, file_at, pends, last_id, is_final, TokenUp, TokenDown, OpensUp, LostUnknown, LostDead, LostKnown, LostAsked, SessionKnown, SessionAsked, Pairwise, FirstUp, Unacted, FreshFirst, NotDone, CutSeq, OpenSeq, Older, NoReplay, CopyPair, NowPair, CreateReply, AttachReply, Reached, ClosedReply, AttachRefused, StaleReply, SessionSeq, PendingAt, LiveUnsettled, LiveReplay, Shows, Denied, OpenOf, NamedOpen, OpenGiven, OpenRow, OpenActed, Bytes, Quiet, Foreign, Acted, Gave, GaveEnd, Whose, Born, BirthLe, FirstAt, By, ByOk, ByEnd, BySome, Replies, AttachStatus, SinceLe, SinceReply, SinceBy, SinceFirst, Prior, PriorBy, PriorFirst}
+use Rattle.order_law.specs.Contents.{Contents, edits, lists, formed, isolating, clashes, bytes_after, reply_to, ends_before, file_at, pends, last_id, is_final, TokenUp, TokenDown, OpensUp, AskedAs, LostUnknown, LostDead, LostKnown, LostAsked, SessionKnown, SessionAsked, Pairwise, FirstUp, Unacted, FreshFirst, NotDone, CutSeq, OpenSeq, Older, NoReplay, CopyPair, NowPair, CreateReply, AttachReply, Reached, ClosedReply, AttachRefused, StaleReply, SessionSeq, PendingAt, LiveUnsettled, LiveReplay, Shows, Denied, OpenOf, NamedOpen, OpenGiven, OpenRow, OpenActed, Bytes, Quiet, Foreign, Acted, Gave, GaveEnd, Whose, Born, BirthLe, FirstAt, By, ByOk, ByEnd, BySome, Replies, AttachStatus, SinceLe, SinceReply, SinceBy, SinceFirst, Prior, PriorBy, PriorFirst}
 use Rattle.order_law.proofs.Moved.{Steps, Moves, live_back}
 use Rattle.order_law.proofs.Words.{ops_of, attach_of, put_other, apart_new, below_new, some_of, sent_of, edits_other}
 
@@ -32,6 +32,10 @@ submit_token_down c conns s t l a g op out next untaken other i_token_down =
 submit_opens_up : (c : Client) (conns : ℕ → Conn) (s : Server) (t : Trace) (l : Log) (a : ℕ → ℕ) (g : ℕ) (op : Op) (out : Outcome) → (g ≡ c.taken + 1) → (c.outcome g ≡ Unsettled) → (is_firm out ≡ false × is_ok out ≡ false) → OpensUp c conns → TokenUp c conns → OpensUp (record c { taken = g; op = put c.op g op; outcome = put c.outcome g out }) conns
 submit_opens_up c conns s t l a g op out next untaken other i_opens_up i_token_up =
     λ j n x h z. let tk = i_token_up j n x h z in let ne = below_new (op_of x.token) g c.taken tk.1 next in let old = i_opens_up j n x h z in let ot = other in grind arith
+
+submit_asked_as : (c : Client) (conns : ℕ → Conn) (s : Server) (t : Trace) (l : Log) (a : ℕ → ℕ) (g : ℕ) (op : Op) (out : Outcome) → (g ≡ c.taken + 1) → (c.outcome g ≡ Unsettled) → (is_firm out ≡ false × is_ok out ≡ false) → ((p : ℕ) → 0 < p → p ≤ c.taken → create_at c p ≤ c.taken) → AskedAs c conns → TokenUp c conns → AskedAs (record c { taken = g; op = put c.op g op; outcome = put c.outcome g out }) conns
+submit_asked_as c conns s t l a g op out next untaken other below i_asked_as i_token_up =
+    λ j n p x h e. let tk = i_token_up j n x h (attach_of x.token p e) in let lp = subst (λ g. g ≤ c.taken) (ap op_of e) tk.1 in let ne = below_new p g c.taken lp next in let at = put_other c.op g op p ne in let n2 = below_new (create_at c p) g c.taken (below p (subst (λ g. 0 < g) (ap op_of e) tk.0) lp) next in let at2 = put_other c.op g op (create_at c p) n2 in let old = i_asked_as j n p x h e in grind arith
 
 submit_lost_unknown : (c : Client) (conns : ℕ → Conn) (s : Server) (t : Trace) (l : Log) (a : ℕ → ℕ) (g : ℕ) (op : Op) (out : Outcome) → (g ≡ c.taken + 1) → (c.outcome g ≡ Unsettled) → (is_firm out ≡ false × is_ok out ≡ false) → LostUnknown c → LostUnknown (record c { taken = g; op = put c.op g op; outcome = put c.outcome g out })
 submit_lost_unknown c conns s t l a g op out next untaken other i_lost_unknown =
@@ -173,12 +177,13 @@ submit_prior_first : (c : Client) (conns : ℕ → Conn) (s : Server) (t : Trace
 submit_prior_first c conns s t l a g op out next untaken other i_prior_first i_first_at i_whose =
     λ p q n ed pr f. let fa = i_first_at q n f in let w = i_whose n fa.0 in let ne = below_new q g c.taken (subst (λ r. r ≤ c.taken) fa.1 w.0) next in let at = put_other c.op g op q ne in i_prior_first p q n (subst (λ o. edits o ≡ true) at ed) pr f
 
-pub submit_keeps : (c : Client) (conns : ℕ → Conn) (s : Server) (t : Trace) (l : Log) (a : ℕ → ℕ) (g : ℕ) (op : Op) (out : Outcome) → (g ≡ c.taken + 1) → (c.outcome g ≡ Unsettled) → (is_firm out ≡ false × is_ok out ≡ false) → ((n : ℕ) → lists (c.op (l.who n)) ≡ true → 0 < l.who n) → ((n : ℕ) → n < l.places → lists (c.op (l.who n)) ≡ true → create_at c (l.who n) ≤ c.taken) → CTaken c → CCreates c → Contents c conns s t l a → Contents (record c { taken = g; op = put c.op g op; outcome = put c.outcome g out }) conns s t l a
-submit_keeps c conns s t l a g op out next untaken other listed_above listed_create cn_taken cn_creates i =
+pub submit_keeps : (c : Client) (conns : ℕ → Conn) (s : Server) (t : Trace) (l : Log) (a : ℕ → ℕ) (g : ℕ) (op : Op) (out : Outcome) → (g ≡ c.taken + 1) → (c.outcome g ≡ Unsettled) → (is_firm out ≡ false × is_ok out ≡ false) → ((p : ℕ) → 0 < p → p ≤ c.taken → create_at c p ≤ c.taken) → ((n : ℕ) → lists (c.op (l.who n)) ≡ true → 0 < l.who n) → ((n : ℕ) → n < l.places → lists (c.op (l.who n)) ≡ true → create_at c (l.who n) ≤ c.taken) → CTaken c → CCreates c → Contents c conns s t l a → Contents (record c { taken = g; op = put c.op g op; outcome = put c.outcome g out }) conns s t l a
+submit_keeps c conns s t l a g op out next untaken other below listed_above listed_create cn_taken cn_creates i =
     record {
       token_up = submit_token_up c conns s t l a g op out next untaken other i.token_up;
       token_down = submit_token_down c conns s t l a g op out next untaken other i.token_down;
       opens_up = submit_opens_up c conns s t l a g op out next untaken other i.opens_up i.token_up;
+      asked_as = submit_asked_as c conns s t l a g op out next untaken other below i.asked_as i.token_up;
       lost_unknown = submit_lost_unknown c conns s t l a g op out next untaken other i.lost_unknown;
       lost_dead = i.lost_dead;
       lost_known = i.lost_known;

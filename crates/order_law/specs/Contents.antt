@@ -8,7 +8,7 @@ use Rattle.exchange_defs.specs.Order.{Log, Says_ok, Says_end, Settled_ok, Settle
 use Rattle.exchange_defs.specs.Commands.{form}
 use Rattle.exchange_defs.specs.State.{Server}
 use Rattle.exchange_defs.specs.Opens.{id_of, writes, denies_writers}
-use Rattle.exchange_defs.specs.Operations.{Op, is_unsettled, is_firm, is_ok, is_create, id_in, share_of, content_op, request_of}
+use Rattle.exchange_defs.specs.Operations.{Op, is_unsettled, is_firm, is_ok, is_create, id_in, share_of, content_op, request_of, reconnect_of}
 use Rattle.exchange_defs.specs.Client.{Client, AskedTree, guid_for}
 use Rattle.exchange_defs.specs.Runs.{settlement}
 use Rattle.exchange_defs.specs.Network.{Conn, Sent, Received, Trace, ForOp, ForAttach, op_of, said}
@@ -70,6 +70,10 @@ TokenDown c conns = (k n : ℕ) (y : Received) → slice_get (conns k).down n �
 
 abbrev pub OpensUp : Client → (ℕ → Conn) → Type 0
 OpensUp c conns = (k n : ℕ) (x : Sent) → slice_get (conns k).up n ≡ Some x → is_ops x.token ≡ true → (makes_open (c.op (op_of x.token)) || is_ok (c.outcome (create_at c (op_of x.token)))) ≡ true
+
+-- a DH2C goes out in the place of no create, and asks for the open of its operation's create
+abbrev pub AskedAs : Client → (ℕ → Conn) → Type 0
+AskedAs c conns = (k n g : ℕ) (x : Sent) → slice_get (conns k).up n ≡ Some x → x.token ≡ ForAttach g → makes_open (c.op g) ≡ false × x.message.command ≡ reconnect_of (c.op (create_at c g)) (guid_for c (create_at c g)) (file_at c g)
 
 -- ---- the client's table
 
@@ -279,6 +283,7 @@ pub record Contents (c : Client) (conns : ℕ → Conn) (s : Server) (t : Trace)
   pub token_up : TokenUp c conns
   pub token_down : TokenDown c conns
   pub opens_up : OpensUp c conns
+  pub asked_as : AskedAs c conns
   pub lost_unknown : LostUnknown c
   pub lost_dead : LostDead c
   pub lost_known : LostKnown c
