@@ -43,3 +43,4 @@ pub mod OnSay
 pub mod Quiet
 pub mod Tells
 pub mod Requests
+pub mod Front

@@ -44,7 +44,7 @@ pub record Refused (s : Server) (m : Message) (op : ContentOp) (o status : ℕ) 
   pub ok : (status == success) ≡ false
   pub end : (status == end_of_file) ≡ false
   pub final : form m.command ≡ None → is_final status ≡ false
-  pub closed : (status == file_closed) ≡ true → is_of_session s o m.session ≡ false
+  pub closed : (status == file_closed) ≡ true → is_of_session s o m.session ≡ false × has_session s m ≡ true
   pub stale : (status == file_not_available) ≡ true → is_of_session s o m.session ≡ true × is_late s m o ≡ true
 
 pub record Turned (s : Server) (m : Message) (op : ContentOp) (o p status : ℕ) : Type 0 where
@@ -188,8 +188,8 @@ listed_read s m o at n on =
 
 -- ---- whatever comes before an open is looked at
 
-not_open : (s : Server) (m : Message) (op : ContentOp) (o : ℕ) → is_of_session s o m.session ≡ false → Listed s m op o (Refuse file_closed)
-not_open s m op o off = record { is = record { ok = refl; end = refl; final = λ f. refl; closed = λ e. off; stale = λ e. absurd (cc) } }
+not_open : (s : Server) (m : Message) (op : ContentOp) (o : ℕ) → has_session s m ≡ true → is_of_session s o m.session ≡ false → Listed s m op o (Refuse file_closed)
+not_open s m op o hs off = record { is = record { ok = refl; end = refl; final = λ f. refl; closed = λ e. (off, hs); stale = λ e. absurd (cc) } }
 
 -- one of a form that isn't kept
 bad_form : (s : Server) (m : Message) (op : ContentOp) (o status : ℕ) → form m.command ≡ Some status → form m.command ≡ form (asks op o) → Listed s m op o (Refuse status)
@@ -213,15 +213,15 @@ is_asked (Reads at n) = true
 is_asked (Ends n) = true
 is_asked Still = false
 
-listed_open : (s : Server) (m : Message) (pipes : Bool) (op : ContentOp) (o : ℕ) → form m.command ≡ None → is_asked op ≡ true → Listed s m op o (tree_command s m pipes (asks op o))
-listed_open s m pipes (Writes at bytes) o fm a = either (Listed s m (Writes at bytes) o) (is_of_session s o m.session) _ _ (λ on. listed_write s m o at bytes fm on) (λ off. not_open s m (Writes at bytes) o off)
-listed_open s m pipes (Reads at n) o fm a = either (Listed s m (Reads at n) o) (is_of_session s o m.session) _ _ (λ on. listed_read s m o at n on) (λ off. not_open s m (Reads at n) o off)
-listed_open s m pipes (Ends n) o fm a = either (Listed s m (Ends n) o) (is_of_session s o m.session) _ _ (λ on. listed_end s m o n fm on) (λ off. not_open s m (Ends n) o off)
-listed_open s m pipes Still o fm a = absurd (cc)
+listed_open : (s : Server) (m : Message) (pipes : Bool) (op : ContentOp) (o : ℕ) → has_session s m ≡ true → form m.command ≡ None → is_asked op ≡ true → Listed s m op o (tree_command s m pipes (asks op o))
+listed_open s m pipes (Writes at bytes) o hs fm a = either (Listed s m (Writes at bytes) o) (is_of_session s o m.session) _ _ (λ on. listed_write s m o at bytes fm on) (λ off. not_open s m (Writes at bytes) o hs off)
+listed_open s m pipes (Reads at n) o hs fm a = either (Listed s m (Reads at n) o) (is_of_session s o m.session) _ _ (λ on. listed_read s m o at n on) (λ off. not_open s m (Reads at n) o hs off)
+listed_open s m pipes (Ends n) o hs fm a = either (Listed s m (Ends n) o) (is_of_session s o m.session) _ _ (λ on. listed_end s m o n fm on) (λ off. not_open s m (Ends n) o hs off)
+listed_open s m pipes Still o hs fm a = absurd (cc)
 
-listed_tree : (s : Server) (m : Message) (op : ContentOp) (o : ℕ) → form m.command ≡ None → is_asked op ≡ true → m.command ≡ asks op o → (t : Option Bool) → is_some t ≡ true → Listed s m op o (in_tree s m t)
-listed_tree s m op o fm a e None t = absurd (cc)
-listed_tree s m op o fm a e (Some pipes) t = subst (λ c. Listed s m op o (tree_command s m pipes c)) (sym e) (listed_open s m pipes op o fm a)
+listed_tree : (s : Server) (m : Message) (op : ContentOp) (o : ℕ) → has_session s m ≡ true → form m.command ≡ None → is_asked op ≡ true → m.command ≡ asks op o → (t : Option Bool) → is_some t ≡ true → Listed s m op o (in_tree s m t)
+listed_tree s m op o hs fm a e None t = absurd (cc)
+listed_tree s m op o hs fm a e (Some pipes) t = subst (λ c. Listed s m op o (tree_command s m pipes c)) (sym e) (listed_open s m pipes op o hs fm a)
 
 command_tree : (s : Server) (m : Message) (op : ContentOp) (o : ℕ) → is_asked op ≡ true → command_check s m (asks op o) ≡ with_tree s m
 command_tree s m (Writes at bytes) o a = refl
@@ -229,17 +229,26 @@ command_tree s m (Reads at n) o a = refl
 command_tree s m (Ends n) o a = refl
 command_tree s m Still o a = refl
 
-listed_command : (s : Server) (m : Message) (op : ContentOp) (o : ℕ) → is_asked op ≡ true → m.command ≡ asks op o → is_some (tree_in (s.trees m.session) m.tree) ≡ true → (f : Option ℕ) → form m.command ≡ f → Listed s m op o (formed s m f)
-listed_command s m op o a e t (Some status) f = bad_form s m op o status f (ap form e)
-listed_command s m op o a e t None f = subst (λ c. Listed s m op o (command_check s m c)) (sym e) (subst (Listed s m op o) (sym (command_tree s m op o a)) (listed_tree s m op o f a e (tree_in (s.trees m.session) m.tree) t))
+listed_command : (s : Server) (m : Message) (op : ContentOp) (o : ℕ) → has_session s m ≡ true → is_asked op ≡ true → m.command ≡ asks op o → is_some (tree_in (s.trees m.session) m.tree) ≡ true → (f : Option ℕ) → form m.command ≡ f → Listed s m op o (formed s m f)
+listed_command s m op o hs a e t (Some status) f = bad_form s m op o status f (ap form e)
+listed_command s m op o hs a e t None f = subst (λ c. Listed s m op o (command_check s m c)) (sym e) (subst (Listed s m op o) (sym (command_tree s m op o a)) (listed_tree s m op o hs f a e (tree_in (s.trees m.session) m.tree) t))
 
 gone_session : (s : Server) (m : Message) (op : ContentOp) (o : ℕ) → Listed s m op o (Refuse user_session_deleted)
 gone_session s m op o = record { is = record { ok = refl; end = refl; final = λ f. refl; closed = λ e. absurd (cc); stale = λ e. absurd (cc) } }
 
-pub listed : (s : Server) (m : Message) (op : ContentOp) (o : ℕ) → is_asked op ≡ true → m.command ≡ asks op o → m.fault ≡ None → is_some (tree_in (s.trees m.session) m.tree) ≡ true → Listed s m op o (check s m)
+no_setup : (op : ContentOp) (o : ℕ) → is_setup (asks op o) ≡ false
+no_setup (Writes at bytes) o = refl
+no_setup (Reads at n) o = refl
+no_setup (Ends n) o = refl
+no_setup Still o = refl
+
+session_of : (a b : Bool) → a ≡ false → (a || b) ≡ true → b ≡ true
+session_of a b e f = grind arith
+
+pub listed : (s : Server) (m : Message) (op : ContentOp) (o : ℕ) → is_asked op ≡ true → m.command ≡ asks op o → m.fault ≡ None → (has_session s m ≡ true → is_some (tree_in (s.trees m.session) m.tree) ≡ true) → Listed s m op o (check s m)
 listed s m op o a e f t =
     either (Listed s m op o) (is_setup m.command || has_session s m) _ _
-    (λ _. subst (λ x. Listed s m op o (owed s m x)) (sym f) (listed_command s m op o a e t (form m.command) refl)) (λ _. gone_session s m op o)
+    (λ z. subst (λ x. Listed s m op o (owed s m x)) (sym f) (let hs = session_of (is_setup m.command) (has_session s m) (ap is_setup e ∙ no_setup op o) z in listed_command s m op o hs a e (t hs) (form m.command) refl)) (λ _. gone_session s m op o)
 
 pub listed_without_room : (s : Server) (m : Message) (op : ContentOp) (o : ℕ) (v : Verdict) → Listed s m op o v → Listed s m op o (without_room v)
 listed_without_room s m op o (Refuse status) h = h
@@ -269,7 +278,7 @@ listed_without_room s m op o DropTree h = absurd (h.is)
 pub record AttachRefused (s : Server) (m : Message) (c : Reconnect) (status : ℕ) : Type 0 where
   pub ok : (status == success) ≡ false
   pub end : (status == end_of_file) ≡ false
-  pub gone : (status == user_session_deleted) ≡ false → form m.command ≡ None → s.standing c.file ≡ true → has_guid c.guid (s.opened c.file).guid ≡ true → same_name (s.opened c.file).user (s.user m.session) ≡ true
+  pub gone : (status == user_session_deleted) ≡ false → form m.command ≡ None → s.standing c.file ≡ true → has_guid c.guid (s.opened c.file).guid ≡ true → (has_session s m ≡ true → same_name (s.opened c.file).user (s.user m.session) ≡ true)
       → (is_some (s.at c.file) && not (is_at m.session (s.at c.file))) ≡ true
 
 abbrev pub AskedBy : Server → Message → Reconnect → Verdict → Type 0
@@ -280,29 +289,35 @@ AskedBy s m c _ = ⊥
 pub record Asked (s : Server) (m : Message) (c : Reconnect) (v : Verdict) : Type 0 where
   pub is : AskedBy s m c v
 
+no_name : (a : Bool) → not a ≡ true → a ≡ true → ⊥
+no_name a e f = absurd (grind arith)
+
 no_test : (a b : Bool) → not (a && b) ≡ true → a ≡ true → b ≡ true → ⊥
 no_test a b e f g = absurd (grind arith)
 
-asked_open : (s : Server) (m : Message) (r : CreateRequest) (c : Reconnect) → Asked s m c (reconnect_check s m r c)
-asked_open s m r c =
+asked_open : (s : Server) (m : Message) (r : CreateRequest) (c : Reconnect) → has_session s m ≡ true → Asked s m c (reconnect_check s m r c)
+asked_open s m r c hs =
     either (Asked s m c) (not (s.standing c.file && has_guid c.guid (s.opened c.file).guid)) _ _ (λ e. record { is = record { ok = refl; end = refl; gone = λ u f st gd us. absurd (no_test (s.standing c.file) (has_guid c.guid (s.opened c.file).guid) e st gd) } })
-    (λ _. either (Asked s m c) (not (same_name (s.opened c.file).user (s.user m.session))) _ _ (λ e. record { is = record { ok = refl; end = refl; gone = λ u f st gd us. absurd (grind arith) } })
+    (λ _. either (Asked s m c) (not (same_name (s.opened c.file).user (s.user m.session))) _ _ (λ e. record { is = record { ok = refl; end = refl; gone = λ u f st gd us. absurd (no_name (same_name (s.opened c.file).user (s.user m.session)) e (us hs)) } })
     (λ _. either (Asked s m c) (is_some (s.at c.file) && not (is_at m.session (s.at c.file))) _ _ (λ e. record { is = record { ok = refl; end = refl; gone = λ u f st gd us. e } })
     (λ e. record { is = (refl, e) })))
 
-asked_tree : (s : Server) (m : Message) (r : CreateRequest) (c : Reconnect) → m.command ≡ Create r → r.reconnect ≡ Some c → (t : Option Bool) → t ≡ Some false → Asked s m c (in_tree s m t)
-asked_tree s m r c e k None t = absurd (cc)
-asked_tree s m r c e k (Some true) t = absurd (grind arith)
-asked_tree s m r c e k (Some false) t = subst (λ x. Asked s m c (tree_command s m false x)) (sym e) (subst (λ x. Asked s m c (reconnect_or_create s m r false x)) (sym k) (asked_open s m r c))
+asked_tree : (s : Server) (m : Message) (r : CreateRequest) (c : Reconnect) → has_session s m ≡ true → m.command ≡ Create r → r.reconnect ≡ Some c → (t : Option Bool) → is_some t ≡ true → (t ≡ Some true → s.standing c.file ≡ true → ⊥) → Asked s m c (in_tree s m t)
+asked_tree s m r c hs e k None t d = absurd (cc)
+asked_tree s m r c hs e k (Some true) t d =
+    subst (λ x. Asked s m c (tree_command s m true x)) (sym e) (subst (λ x. Asked s m c (reconnect_or_create s m r true x)) (sym k) (record { is = record { ok = refl; end = refl; gone = λ u f st gd us. absurd (d refl st) } }))
+asked_tree s m r c hs e k (Some false) t d = subst (λ x. Asked s m c (tree_command s m false x)) (sym e) (subst (λ x. Asked s m c (reconnect_or_create s m r false x)) (sym k) (asked_open s m r c hs))
 
-asked_form : (s : Server) (m : Message) (r : CreateRequest) (c : Reconnect) → m.command ≡ Create r → r.reconnect ≡ Some c → tree_in (s.trees m.session) m.tree ≡ Some false → form m.command ≡ None → (f : Option ℕ) → form m.command ≡ f → Asked s m c (formed s m f)
-asked_form s m r c e k t n (Some status) f = absurd (grind arith)
-asked_form s m r c e k t n None f = subst (λ x. Asked s m c (command_check s m x)) (sym e) (asked_tree s m r c e k (tree_in (s.trees m.session) m.tree) t)
+asked_form : (s : Server) (m : Message) (r : CreateRequest) (c : Reconnect) → has_session s m ≡ true → m.command ≡ Create r → r.reconnect ≡ Some c → is_some (tree_in (s.trees m.session) m.tree) ≡ true → (tree_in (s.trees m.session) m.tree ≡ Some true → s.standing c.file ≡ true → ⊥)
+    → form m.command ≡ None → (f : Option ℕ) → form m.command ≡ f → Asked s m c (formed s m f)
+asked_form s m r c hs e k t d n (Some status) f = absurd (grind arith)
+asked_form s m r c hs e k t d n None f = subst (λ x. Asked s m c (command_check s m x)) (sym e) (asked_tree s m r c hs e k (tree_in (s.trees m.session) m.tree) t d)
 
-pub asked : (s : Server) (m : Message) (r : CreateRequest) (c : Reconnect) → m.command ≡ Create r → r.reconnect ≡ Some c → m.fault ≡ None → tree_in (s.trees m.session) m.tree ≡ Some false → form m.command ≡ None → Asked s m c (check s m)
-asked s m r c e k f t n =
+pub asked : (s : Server) (m : Message) (r : CreateRequest) (c : Reconnect) → m.command ≡ Create r → r.reconnect ≡ Some c → m.fault ≡ None → (has_session s m ≡ true → is_some (tree_in (s.trees m.session) m.tree) ≡ true)
+    → (tree_in (s.trees m.session) m.tree ≡ Some true → s.standing c.file ≡ true → ⊥) → form m.command ≡ None → Asked s m c (check s m)
+asked s m r c e k f t d n =
     either (Asked s m c) (is_setup m.command || has_session s m) _ _
-    (λ _. subst (λ x. Asked s m c (owed s m x)) (sym f) (asked_form s m r c e k t n (form m.command) refl)) (λ _. record { is = record { ok = refl; end = refl; gone = λ u. absurd (cc) } })
+    (λ z. subst (λ x. Asked s m c (owed s m x)) (sym f) (let hs = session_of (is_setup m.command) (has_session s m) (ap is_setup e) z in asked_form s m r c hs e k (t hs) d n (form m.command) refl)) (λ _. record { is = record { ok = refl; end = refl; gone = λ u. absurd (cc) } })
 
 pub asked_without_room : (s : Server) (m : Message) (c : Reconnect) (v : Verdict) → Asked s m c v → Asked s m c (without_room v)
 asked_without_room s m c (Refuse status) h = h

@@ -13,7 +13,7 @@ use Rattle.exchange_defs.specs.Opens.{id_of, is_of_session, leave_open, drop_ope
 use Rattle.exchange_defs.specs.CheckCreate.{has_guid}
 use Rattle.exchange_defs.specs.CheckOpen.{is_late, file_of}
 use Rattle.exchange_defs.specs.CheckSetup.{tree_in}
-use Rattle.exchange_defs.specs.Check.{check}
+use Rattle.exchange_defs.specs.Check.{check, has_session}
 use Rattle.exchange_defs.specs.Effects.{apply, reach, reaches, change_file, attached, attach}
 use Rattle.exchange_defs.specs.Verdict.{Verdict, Refuse, Give, KeepRefusal, Repeat, Attach, Make, TurnDown, Tell, Show, KeepSlot, PutRanges, Alter, Shut, Challenge, ChallengeBinding, Begin, Join, EndSession, AddTree, DropTree, Change, PutBytes, PutEnd, PutBasic, PutMark, PutPath, PutNothing}
 use Rattle.exchange_defs.specs.Step.{step, with_deadlines, expire, add_mark}
@@ -33,7 +33,7 @@ pub record ListedFacts (s : Server) (m : Message) (op : ContentOp) (o : ℕ) (A 
       × past_end op (s.content (s.opened o).file) ≡ false
   pub ended : (A.reply.status == end_of_file) ≡ true → s.standing o ≡ true × past_end op (s.content (s.opened o).file) ≡ true
   pub reached : is_change op ≡ true → form m.command ≡ None → is_final A.reply.status ≡ true → A.reached ≡ Some o
-  pub closed : (A.reply.status == file_closed) ≡ true → A.server.standing o ≡ true → s.at o ≡ Some m.session → ⊥
+  pub closed : (A.reply.status == file_closed) ≡ true → has_session s m ≡ true × (A.server.standing o ≡ true → s.at o ≡ Some m.session → ⊥)
   pub stale : (A.reply.status == file_not_available) ≡ true → s.at o ≡ Some m.session × m.sequence < s.sequence o
 
 on_open : (s : Server) (o x : ℕ) → is_of_session s o x ≡ true → s.standing o ≡ true × s.at o ≡ Some x
@@ -128,7 +128,7 @@ refused_facts s m op o now status low l h =
       done = λ e. absurd (let z = h.ok in grind arith);
       ended = λ e. absurd (let z = h.end in grind arith);
       reached = λ c f z. absurd (let w = h.final f in grind arith);
-      closed = λ e st at. absurd (is_open s o m.session st at (h.closed e));
+      closed = λ e. let z = h.closed e in (z.1, λ st at. absurd (is_open s o m.session st at z.0));
       stale = λ e. let z = h.stale e in ((on_open s o m.session z.0).1, late_less s m o low l z.1);
     }
 
@@ -155,8 +155,8 @@ listed_facts_at s m op o now low l (AddTree pipes) h = absurd (h.is)
 listed_facts_at s m op o now low l DropTree h = absurd (h.is)
 
 -- behind an expiry, of the state before it
-listed_before : (s t : Server) (m : Message) (op : ContentOp) (o : ℕ) (A : Answer) → Earlier s t → (A.server.standing o ≡ true → t.standing o ≡ true) → ListedFacts t m op o A → ListedFacts s m op o A
-listed_before s t m op o A k back f =
+listed_before : (s t : Server) (m : Message) (op : ContentOp) (o : ℕ) (A : Answer) → Earlier s t → t.on ≡ s.on → (A.server.standing o ≡ true → t.standing o ≡ true) → ListedFacts t m op o A → ListedFacts s m op o A
+listed_before s t m op o A k on back f =
     let row : (t.opened o).file ≡ (s.opened o).file = ap (λ g. (g o).file) k.moves.row in
     let same : t.content (t.opened o).file ≡ s.content (s.opened o).file = ap (λ g. g (t.opened o).file) k.content ∙ ap s.content row in
     let sq : t.sequence o ≡ s.sequence o = ap (λ g. g o) k.sequence in
@@ -166,7 +166,7 @@ listed_before s t m op o A k back f =
       done = λ e. let h = f.done e in (k.moves.stands o h.0, h.1, subst (λ c. value op c ≡ content_reply A.reply.body) same h.2, subst (λ g. A.server.content g ≡ effect op (s.content (s.opened o).file)) row (subst (λ c. A.server.content (t.opened o).file ≡ effect op c) same h.3), subst (λ c. past_end op c ≡ false) same h.4);
       ended = λ e. let h = f.ended e in (k.moves.stands o h.0, subst (λ c. past_end op c ≡ true) same h.1);
       reached = f.reached;
-      closed = λ e st at. f.closed e st (k.at_on o (back st) ∙ at);
+      closed = λ e. let z = f.closed e in (ap (λ g. is_at m.session (g m.connection)) (sym on) ∙ z.0, λ st at. z.1 st (k.at_on o (back st) ∙ at));
       stale = λ e. let h = f.stale e in (k.at o m.session h.0, subst (λ n. m.sequence < n) sq h.1);
     }
 
@@ -227,13 +227,27 @@ before_user : (s : Server) (now : ℕ) (t : Server) → Before s now t → t.use
 before_user s now t (inl e) = ap (λ (u : Server). u.user) e
 before_user s now t (inr (o, d, e)) = ap (λ (u : Server). u.user) e ∙ (expire_trees (with_deadlines s now) o).1
 
-listed_step : (s : Server) (now : ℕ) (m : Message) (op : ContentOp) (o : ℕ) → is_asked op ≡ true → m.command ≡ asks op o → m.fault ≡ None → is_some (tree_in (s.trees m.session) m.tree) ≡ true → LowSequences s → m.sequence ≤ 32767
+leave_at_on : (s : Server) (o : ℕ) → (leave_open s o).on ≡ s.on
+leave_at_on s o = gone (drop_open (marked_by s o) o) (s.opened o).file ∙ either (λ (t : Server). t.on ≡ s.on) (deletes_on_close (s.opened o).options) (mark_file s (s.opened o).file true) s (λ _. refl) (λ _. refl)
+  where
+    gone : (s : Server) (f : ℕ) → (without_gone s f).on ≡ s.on
+    gone s f = either (λ (t : Server). t.on ≡ s.on) (goes s f) (remove_file s f) s (λ _. refl) (λ _. refl)
+
+before_on : (s : Server) (now : ℕ) (t : Server) → Before s now t → t.on ≡ s.on
+before_on s now t (inl e) = ap (λ (u : Server). u.on) e
+before_on s now t (inr (o, q, e)) = ap (λ (u : Server). u.on) e ∙ marked (leave_open (with_deadlines s now) o) (s.opened o).client (s.opened o).guid ∙ leave_at_on (with_deadlines s now) o
+  where
+    marked : (s : Server) (client : ℕ) (guid : Option ℕ) → (add_mark s client guid).on ≡ s.on
+    marked s client None = refl
+    marked s client (Some g) = refl
+
+listed_step : (s : Server) (now : ℕ) (m : Message) (op : ContentOp) (o : ℕ) → is_asked op ≡ true → m.command ≡ asks op o → m.fault ≡ None → (has_session s m ≡ true → is_some (tree_in (s.trees m.session) m.tree) ≡ true) → LowSequences s → m.sequence ≤ 32767
     → ListedFacts s m op o (step s now (Heard m))
 listed_step s now m op o a e f t low l =
     by_verdict (ListedFacts s m op o) s now m
     (λ u v records b h. let k = earlier s now u b in
-      let lv = found_listed u m op o v (listed u m op o a e f (ap (λ g. is_some (tree_in (g m.session) m.tree)) (before_trees s now u b) ∙ t)) h in
-      listed_recorded s m op o _ records (listed_before s u m op o _ k (λ st. ap (λ g. g o) (sym (listed_standing u m op o now v lv)) ∙ st) (listed_facts_at u m op o now (before_low s u k low) l v lv)))
+      let lv = found_listed u m op o v (listed u m op o a e f (λ z. ap (λ g. is_some (tree_in (g m.session) m.tree)) (before_trees s now u b) ∙ t (ap (λ g. is_at m.session (g m.connection)) (sym (before_on s now u b)) ∙ z))) h in
+      listed_recorded s m op o _ records (listed_before s u m op o _ k (before_on s now u b) (λ st. ap (λ g. g o) (sym (listed_standing u m op o now v lv)) ∙ st) (listed_facts_at u m op o now (before_low s u k low) l v lv)))
 
 asked_answer : (s : Server) (now : ℕ) (m : Message) (op : ContentOp) (o : ℕ) → is_asked op ≡ true → answer_to s now m (asks op o) ≡ step s now (Heard m)
 asked_answer s now m (Writes at bytes) o a = refl
@@ -241,7 +255,7 @@ asked_answer s now m (Reads at n) o a = refl
 asked_answer s now m (Ends n) o a = refl
 asked_answer s now m Still o a = absurd (cc)
 
-pub listed_facts : (s : Server) (now : ℕ) (m : Message) (op : ContentOp) (o : ℕ) → is_asked op ≡ true → m.command ≡ asks op o → m.fault ≡ None → is_some (tree_in (s.trees m.session) m.tree) ≡ true → LowSequences s → m.sequence ≤ 32767
+pub listed_facts : (s : Server) (now : ℕ) (m : Message) (op : ContentOp) (o : ℕ) → is_asked op ≡ true → m.command ≡ asks op o → m.fault ≡ None → (has_session s m ≡ true → is_some (tree_in (s.trees m.session) m.tree) ≡ true) → LowSequences s → m.sequence ≤ 32767
     → ListedFacts s m op o (answer_to s now m m.command)
 listed_facts s now m op o a e f t low l =
     subst (λ c. ListedFacts s m op o (answer_to s now m c)) (sym e) (subst (ListedFacts s m op o) (sym (asked_answer s now m op o a)) (listed_step s now m op o a e f t low l))
@@ -250,7 +264,7 @@ listed_facts s now m op o a e f t low l =
 
 pub record AskedFacts (s : Server) (m : Message) (c : Reconnect) (A : Answer) : Type 0 where
   pub attached : (A.reply.status == success) ≡ true → A.server.at c.file ≡ Some m.session
-  pub refused : (A.reply.status == success) ≡ false → (A.reply.status == user_session_deleted) ≡ false → A.server.standing c.file ≡ true → has_guid c.guid (s.opened c.file).guid ≡ true → same_name (s.opened c.file).user (s.user m.session) ≡ true
+  pub refused : (A.reply.status == success) ≡ false → (A.reply.status == user_session_deleted) ≡ false → A.server.standing c.file ≡ true → has_guid c.guid (s.opened c.file).guid ≡ true → (has_session s m ≡ true → same_name (s.opened c.file).user (s.user m.session) ≡ true)
       → (is_some (s.at c.file) && not (is_at m.session (s.at c.file))) ≡ true
   pub end : (A.reply.status == end_of_file) ≡ false
   pub idle : A.acted ≡ false
@@ -320,13 +334,13 @@ asked_standing s m c now (TurnDown p status) h = absurd (h.is)
 asked_standing s m c now (Tell p body) h = absurd (h.is)
 asked_standing s m c now (Alter p change body) h = absurd (h.is)
 
-asked_before : (s t : Server) (m : Message) (c : Reconnect) (A : Answer) → Earlier s t → t.user ≡ s.user → A.server.standing ≡ t.standing → AskedFacts t m c A → AskedFacts s m c A
-asked_before s t m c A k us back f =
+asked_before : (s t : Server) (m : Message) (c : Reconnect) (A : Answer) → Earlier s t → t.user ≡ s.user → t.on ≡ s.on → A.server.standing ≡ t.standing → AskedFacts t m c A → AskedFacts s m c A
+asked_before s t m c A k us onn back f =
     let row : (t.opened c.file).guid ≡ (s.opened c.file).guid = ap (λ g. (g c.file).guid) k.moves.row in let who : (t.opened c.file).user ≡ (s.opened c.file).user = ap (λ g. (g c.file).user) k.moves.row in
     record {
       attached = f.attached;
       refused = λ a b st gd un. let on = k.at_on c.file (ap (λ g. g c.file) (sym back) ∙ st) in
-        ap (λ x. is_some x && not (is_at m.session x)) (sym on) ∙ f.refused a b st (ap (has_guid c.guid) row ∙ gd) (ap (λ x. same_name x (t.user m.session)) who ∙ (ap (λ g. same_name (s.opened c.file).user (g m.session)) us ∙ un));
+        ap (λ x. is_some x && not (is_at m.session x)) (sym on) ∙ f.refused a b st (ap (has_guid c.guid) row ∙ gd) (λ hs. ap (λ x. same_name x (t.user m.session)) who ∙ (ap (λ g. same_name (s.opened c.file).user (g m.session)) us ∙ un (ap (λ g. is_at m.session (g m.connection)) (sym onn) ∙ hs)));
       end = f.end;
       idle = f.idle;
     }
@@ -338,12 +352,12 @@ found_asked : (t : Server) (m : Message) (c : Reconnect) (v : Verdict) → Asked
 found_asked t m c v l (inl e) = subst (Asked t m c) (sym e) l
 found_asked t m c v l (inr e) = subst (Asked t m c) (sym e) (asked_without_room t m c (check t m) l)
 
-asked_step : (s : Server) (now : ℕ) (m : Message) (r : CreateRequest) (c : Reconnect) → m.command ≡ Create r → r.reconnect ≡ Some c → m.fault ≡ None → tree_in (s.trees m.session) m.tree ≡ Some false → form m.command ≡ None → AskedFacts s m c (step s now (Heard m))
-asked_step s now m r c e k f t n =
+asked_step : (s : Server) (now : ℕ) (m : Message) (r : CreateRequest) (c : Reconnect) → m.command ≡ Create r → r.reconnect ≡ Some c → m.fault ≡ None → (has_session s m ≡ true → is_some (tree_in (s.trees m.session) m.tree) ≡ true) → (tree_in (s.trees m.session) m.tree ≡ Some true → s.standing c.file ≡ true → ⊥) → form m.command ≡ None → AskedFacts s m c (step s now (Heard m))
+asked_step s now m r c e k f t d n =
     by_verdict (AskedFacts s m c) s now m
-    (λ u v records b h. let q = earlier s now u b in let av = found_asked u m c v (asked u m r c e k f (ap (λ g. tree_in (g m.session) m.tree) (before_trees s now u b) ∙ t) n) h in
-      asked_recorded s m c _ records (asked_before s u m c _ q (before_user s now u b) (asked_standing u m c now v av) (asked_facts_at u m c now n v av)))
+    (λ u v records b h. let q = earlier s now u b in let av = found_asked u m c v (asked u m r c e k f (λ z. ap (λ g. is_some (tree_in (g m.session) m.tree)) (before_trees s now u b) ∙ t (ap (λ g. is_at m.session (g m.connection)) (sym (before_on s now u b)) ∙ z)) (λ z st. d (ap (λ g. tree_in (g m.session) m.tree) (sym (before_trees s now u b)) ∙ z) (q.moves.stands c.file st)) n) h in
+      asked_recorded s m c _ records (asked_before s u m c _ q (before_user s now u b) (before_on s now u b) (asked_standing u m c now v av) (asked_facts_at u m c now n v av)))
 
-pub asked_facts : (s : Server) (now : ℕ) (m : Message) (r : CreateRequest) (c : Reconnect) → m.command ≡ Create r → r.reconnect ≡ Some c → m.fault ≡ None → tree_in (s.trees m.session) m.tree ≡ Some false → form m.command ≡ None
+pub asked_facts : (s : Server) (now : ℕ) (m : Message) (r : CreateRequest) (c : Reconnect) → m.command ≡ Create r → r.reconnect ≡ Some c → m.fault ≡ None → (has_session s m ≡ true → is_some (tree_in (s.trees m.session) m.tree) ≡ true) → (tree_in (s.trees m.session) m.tree ≡ Some true → s.standing c.file ≡ true → ⊥) → form m.command ≡ None
     → AskedFacts s m c (answer_to s now m m.command)
-asked_facts s now m r c e k f t n = subst (λ x. AskedFacts s m c (answer_to s now m x)) (sym e) (asked_step s now m r c e k f t n)
+asked_facts s now m r c e k f t d n = subst (λ x. AskedFacts s m c (answer_to s now m x)) (sym e) (asked_step s now m r c e k f t d n)

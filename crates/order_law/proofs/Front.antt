@@ -1,0 +1,163 @@
+-- What the layers below say of the front of a connection, where the server takes it.
+use Rattle.std.proofs.lemmas.Bool.{eqb-false}
+use Rattle.std.proofs.Common.{eqb-true, ◌⊎◌, inl, inr, ◌≡◌, ◌≢◌, ℕ, ◌+◌, ◌*◌, ◌≤◌, ◌<◌, ◌==◌, Bool, true, false, not, ◌&&◌, ◌||◌, if◌then◌else◌, List, [], ◌∷◌, refl, arith, sym, subst, ◌∙◌, ap, Option, Some, None, is_some, slice_get}
+use Rattle.exchange_defs.specs.Status.{success, user_session_deleted, file_closed, file_not_available, end_of_file}
+use Rattle.exchange_defs.specs.Content.{is_change}
+use Rattle.exchange_defs.specs.Commands.{Command, Create, CreateRequest, Reconnect, form}
+use Rattle.exchange_defs.specs.State.{Server, Message, Answer}
+use Rattle.exchange_defs.specs.Fold.{recovered}
+use Rattle.exchange_defs.specs.CheckSetup.{tree_in, is_new}
+use Rattle.exchange_defs.specs.Table.{is_at}
+use Rattle.exchange_defs.specs.Check.{has_session}
+use Rattle.exchange_defs.specs.Operations.{Op, is_ok, share_of, content_op, id_in}
+use Rattle.exchange_defs.specs.Client.{Client, guid_for}
+use Rattle.exchange_defs.specs.Network.{World, Conn, Sent, Received, Token, ForDialog, ForOp, ForAttach, op_of, is_own, makes, answer}
+use Rattle.exchange_defs.specs.Runs.{is_send_of}
+use Rattle.exchange_law.specs.Connections.{Connections, create_at, makes_open, its_request}
+use Rattle.exchange_law.proofs.Lists.{front_up}
+use Rattle.exchange_law.proofs.Stays.{Beyond}
+use Rattle.server_law.specs.Fits.{Fits}
+use Rattle.recovery_law.specs.Restarted.{Restarted}
+use Rattle.session_law.specs.Sessions.{Sessions, is_ops, is_dialog}
+use Rattle.create_law.specs.Creates.{Creates, seen}
+use Rattle.order_law.specs.Newest.{Pair, LowSequences}
+use Rattle.order_law.specs.Contents.{Contents, is_final, lists, edits, formed, file_at, last_id}
+use Rattle.order_law.proofs.Moved.{Steps}
+use Rattle.order_law.proofs.Answers.{Facts, facts}
+use Rattle.order_law.proofs.Calm.{aloof}
+use Rattle.order_law.proofs.Served.{ListedFacts, listed_facts}
+use Rattle.order_law.proofs.Writing.{Changing, changing, writes_to, given_of}
+use Rattle.order_law.proofs.Made.{Making, making, creates, asks_guid, asks_share, attaches}
+use Rattle.order_law.proofs.Requests.{asks_of, well_formed, writes_of, creates_op, makes_creates, dialog_other, ask_other}
+use Rattle.order_law.proofs.Taking.{Taking, new_acts, made_own, own_of}
+use Rattle.order_law.proofs.Words.{ops_of, attach_of}
+
+-- what the layers below say of a world that a run leads to
+pub record Lower (w : World) (a : ℕ → ℕ) : Type 0 where
+  pub cn : Connections w.client w.conns a
+  pub fits : Fits w.server
+  pub ss : Sessions w.client w.conns w.server
+  pub cr : Creates w.client w.conns (seen w.server) a
+  pub beyond : Beyond w.client
+  pub low : LowSequences w.server
+  pub anew : Restarted w.server (recovered w.server w.records)
+  -- on a tree of the pipes no open is had
+  pub disk : (y id o : ℕ) → tree_in (w.server.trees y) id ≡ Some true → w.server.standing o ≡ false
+
+not_making : (c : Client) (s : Server) (x k : ℕ) → ((k y : ℕ) → is_new y (s.making k) ≡ true → c.rank y ≡ 0) → 0 < c.rank x → is_new x (s.making k) ≡ false
+not_making c s x k u r = by_test (is_new x (s.making k)) refl
+  where
+    by_test : (b : Bool) → is_new x (s.making k) ≡ b → is_new x (s.making k) ≡ false
+    by_test true e = let z = u k x e in absurd (omega (arith, z, r))
+    by_test false e = e
+
+abbrev Holds : World → (ℕ → ℕ) → Type 0
+Holds w a = Contents w.client w.conns w.server w.trace w.log a
+
+at_some : (n : ℕ) (o : Option ℕ) → is_at n o ≡ true → o ≡ Some n
+at_some n o e = grind arith
+
+none_or : (o : Option ℕ) → ((n : ℕ) → o ≡ Some n → ⊥) → o ≡ None
+none_or None f = refl
+none_or (Some n) f = absurd (f n refl)
+
+acted_once : (a : ℕ → ℕ) (x : Sent) (A : Answer) → is_own x.token ≡ true → A.acted ≡ true → new_acts a x A (op_of x.token) ≡ a (op_of x.token) + 1
+acted_once a x A o ac = let z = own_of x.token o in by_send (is_send_of (op_of x.token) x.token) (ap (is_send_of (op_of x.token)) z ∙ same_test (op_of x.token)) ac
+  where
+    same_test : (n : ℕ) → is_send_of n (ForOp n) ≡ true
+    same_test n = grind arith
+
+    by_send : (b : Bool) → b ≡ true → A.acted ≡ true → (if b && A.acted then a (op_of x.token) + 1 else a (op_of x.token)) ≡ a (op_of x.token) + 1
+    by_send b e f = grind arith
+
+pub taking : (w : World) (a : ℕ → ℕ) (k : ℕ) (x0 : Sent) (rest : List Sent) → (w.conns k).up ≡ x0 ∷ rest → Lower w a → ((g : ℕ) → makes_open (w.client.op g) ≡ true → new_acts a x0 (answer w x0) g ≤ 1) → Holds w a
+    → Taking w.client w.server w.trace x0 (answer w x0)
+taking w a k x0 rest is l most i =
+    record {
+      steps = record {
+        pair = λ x q o r le p. pf.pair x q o (not_making c s x m.connection l.ss.making_unranked r) le p;
+        stands = pf.stands;
+        present = λ x r p. pf.there x (not_making c s x m.connection l.ss.making_unranked r) p;
+        ids = pf.ids;
+        row = λ o le st. pf.row o le;
+      };
+      at = pf.at;
+      reached = pf.reached;
+      ops = λ o e. by_kind (is_ops x0.token) refl o e;
+      changing = changing s w.moment m m.command l.fits l.low low_front;
+      making = making s w.moment m m.command refl l.fits l.low low_front;
+      given = λ o st. (l.fits.open_ids o st).1;
+      attached = λ o y e. (l.fits.attached o y e).1;
+      listed = λ g tk ls. listed_by g tk ls;
+      well_formed = λ g tk f. well_formed (c.op g) (guid_for c g) (c.file (create_at c g)) (c.slot_of g) (c.number_of g) (ap form (sym (l.cn.bodies k 0 g x0 f0 tk).1) ∙ f);
+      writer = λ p e. writer_by x0.token refl p e;
+      creator = λ cr ac. creator_by x0.token refl cr ac;
+      makes_create = λ e. let o = made_own c x0.token A e in ap creates (l.cn.bodies k 0 (op_of x0.token) x0 f0 (own_of x0.token o.0)).1 ∙ makes_creates (c.op (op_of x0.token)) _ _ _ _ o.2;
+      client = (l.ss.from_client k 0 x0 f0).0;
+      remade = λ e. let o = made_own c x0.token A e in none_or (w.trace.open_of (op_of x0.token)) (λ n z. absurd (let y = i.open_acted (op_of x0.token) n z in let b = most (op_of x0.token) o.2 in let q = acted_once a x0 A o.0 o.1 in omega (arith, y, b, q)));
+      ranked = λ e. l.ss.ranked_up k 0 x0 f0 e;
+      fresh = λ e j sg. l.ss.asked_fresh j k 0 x0 sg f0 e;
+      upto = (l.ss.sequences_up k 0 x0 f0).1;
+      files = λ q mk ok. (l.cr.file_guid q mk ok).0;
+    }
+  where
+    c : Client
+    c = w.client
+
+    s : Server
+    s = w.server
+
+    m : Message
+    m = x0.message
+
+    A : Answer
+    A = answer w x0
+
+    f0 : slice_get (w.conns k).up 0 ≡ Some x0
+    f0 = front_up (w.conns k).up x0 rest is
+
+    low_front : x0.message.sequence ≤ 32767
+    low_front = (l.ss.sequences_up k 0 x0 f0).0
+
+    pf : Facts w.server x0.message (answer w x0)
+    pf = facts w.server w.moment x0.message x0.message.command (given_of w.server x0.message l.fits l.low low_front)
+
+    session_there : has_session w.server x0.message ≡ true → w.server.present x0.message.session ≡ true
+    session_there z = l.fits.on_present x0.message.connection x0.message.session (at_some x0.message.session (w.server.on x0.message.connection) z)
+
+    by_kind : (b : Bool) → is_ops x0.token ≡ b → (o : ℕ) → (answer w x0).reached ≡ Some o → is_ops x0.token ≡ true
+    by_kind true e o r = e
+    by_kind false e o r = absurd (let z = aloof w.server w.moment x0.message x0.message.command (l.ss.dialog_up k 0 x0 f0 e).1 in let y = z.reached in grind arith)
+
+    listed_by : (g : ℕ) → x0.token ≡ ForOp g → lists (w.client.op g) ≡ true → ListedFacts w.server x0.message (content_op (w.client.op g)) (file_at w.client g) (answer w x0)
+    listed_by g tk ls =
+        let b = l.cn.bodies k 0 g x0 f0 tk in let q = asks_of (w.client.op g) (guid_for w.client g) (w.client.file (create_at w.client g)) (w.client.slot_of g) (w.client.number_of g) ls in
+        listed_facts w.server w.moment x0.message (content_op (w.client.op g)) (file_at w.client g) q.1 (b.1 ∙ q.0) b.3 (λ z. l.ss.tree_up k 0 x0 f0 (ops_of x0.token g tk) (session_there z)) l.low low_front
+
+    writer_by : (t : Token) → x0.token ≡ t → (p : ℕ) → writes_to x0.message.command p ≡ true → (g : ℕ) × ((x0.token ≡ ForOp g) × (lists (w.client.op g) ≡ true) × (p ≡ file_at w.client g))
+    writer_by ForDialog tk p e = absurd (let z = (dialog_other x0.message.command p (l.ss.dialog_up k 0 x0 f0 (ap is_ops tk)).1).0 in grind arith)
+    writer_by (ForOp g) tk p e = let b = (l.cn.bodies k 0 g x0 f0 tk).1 in let q = writes_of (w.client.op g) (guid_for w.client g) (w.client.file (create_at w.client g)) (w.client.slot_of g) (w.client.number_of g) p (ap (λ x. writes_to x p) (sym b) ∙ e) in (g, (tk, q.0, q.1))
+    writer_by (ForAttach g) tk p e = absurd (let z = (ask_other x0.message.command p (l.cr.ask_up k 0 g x0 f0 tk)).0 in grind arith)
+
+    creator_by : (t : Token) → x0.token ≡ t → creates x0.message.command ≡ true → (answer w x0).acted ≡ true
+        → (g : ℕ) × ((x0.token ≡ ForOp g) × (makes_open (w.client.op g) ≡ true) × (asks_guid x0.message.command ≡ Some (guid_for w.client g)) × (asks_share x0.message.command ≡ share_of (w.client.op g)))
+    creator_by ForDialog tk e ac = absurd (let z = (dialog_other x0.message.command 0 (l.ss.dialog_up k 0 x0 f0 (ap is_ops tk)).1).1 in grind arith)
+    creator_by (ForOp g) tk e ac =
+        let b = (l.cn.bodies k 0 g x0 f0 tk).1 in let q = creates_op (w.client.op g) (guid_for w.client g) (w.client.file (create_at w.client g)) (w.client.slot_of g) (w.client.number_of g) (ap creates (sym b) ∙ e) in
+        (g, (tk, q.0, ap asks_guid b ∙ q.1, ap asks_share b ∙ q.2))
+    creator_by (ForAttach g) tk e ac =
+        absurd (let z = (ask_other x0.message.command 0 (l.cr.ask_up k 0 g x0 f0 tk)).1 e in let mk = making w.server w.moment x0.message x0.message.command refl l.fits l.low low_front in let y = mk.fresh e ac in grind arith)
+
+-- ---- the reply that it makes: on an open connection the session is the client's
+
+pub record Said (w : World) (a : ℕ → ℕ) (k : ℕ) (x0 : Sent) (A : Answer) : Type 0 where
+  pub not_done : (p : ℕ) → x0.token ≡ ForOp p → edits (w.client.op p) ≡ true → (A.reply.status == success) ≡ false → A.acted ≡ false
+  pub create_reply : (p : ℕ) → x0.token ≡ ForOp p → makes_open (w.client.op p) ≡ true → A.reply.status ≡ success
+      → (A.acted ≡ true × A.reached ≡ Some (id_in A.reply.body)) ⊎ (w.server.by_guid w.client.who.guid (guid_for w.client p) ≡ Some (id_in A.reply.body))
+  pub create_pair : (p : ℕ) → x0.token ≡ ForOp p → makes_open (w.client.op p) ≡ true → Pair A.server w.client.session 0 (id_in A.reply.body)
+  pub attach_reply : (p : ℕ) → x0.token ≡ ForAttach p → A.reply.status ≡ success → Pair A.server w.client.session 0 (file_at w.client p)
+  pub reached : (p : ℕ) → x0.token ≡ ForOp p → edits (w.client.op p) ≡ true → formed (w.client.op p) ≡ true → is_final A.reply.status ≡ true → Pair A.server w.client.session x0.message.sequence (file_at w.client p)
+  pub closed : (p : ℕ) → x0.token ≡ ForOp p → edits (w.client.op p) ≡ true → A.reply.status ≡ file_closed → A.server.standing (file_at w.client p) ≡ false
+  pub refused : (p : ℕ) → x0.token ≡ ForAttach p → (A.reply.status == success) ≡ false → (A.reply.status == user_session_deleted) ≡ false → A.server.standing (file_at w.client p) ≡ false
+  pub stale : (p : ℕ) → x0.token ≡ ForOp p → edits (w.client.op p) ≡ true → A.reply.status ≡ file_not_available → x0.message.sequence < w.client.sequence
+  pub attach_status : (p : ℕ) → x0.token ≡ ForAttach p → (A.reply.status == end_of_file) ≡ false
