@@ -2,14 +2,14 @@
 use Rattle.std.proofs.lemmas.Bool.{eqb-false}
 use Rattle.std.proofs.Common.{eqb-true, ◌⊎◌, inl, inr, ◌≡◌, ◌≢◌, ℕ, ◌+◌, ◌*◌, ◌≤◌, ◌<◌, ◌==◌, Bool, true, false, not, ◌&&◌, ◌||◌, if◌then◌else◌, List, [], ◌∷◌, refl, arith, sym, subst, ◌∙◌, ap, Option, Some, None, is_some, slice_get}
 use Rattle.exchange_defs.specs.Status.{success, user_session_deleted, file_closed, file_not_available, end_of_file}
-use Rattle.exchange_defs.specs.Content.{is_change}
+use Rattle.exchange_defs.specs.Content.{is_change, is_listed}
 use Rattle.exchange_defs.specs.Commands.{Command, Create, CreateRequest, Reconnect, form}
 use Rattle.exchange_defs.specs.State.{Server, Message, Answer}
 use Rattle.exchange_defs.specs.Fold.{recovered}
 use Rattle.exchange_defs.specs.CheckSetup.{tree_in, is_new}
 use Rattle.exchange_defs.specs.Table.{is_at}
 use Rattle.exchange_defs.specs.Check.{has_session}
-use Rattle.exchange_defs.specs.Operations.{Op, is_ok, share_of, content_op, id_in}
+use Rattle.exchange_defs.specs.Operations.{Op, is_ok, share_of, content_op, id_in, durable_of, persists}
 use Rattle.exchange_defs.specs.Client.{Client, guid_for}
 use Rattle.exchange_defs.specs.Network.{World, Conn, Sent, Received, Token, ForDialog, ForOp, ForAttach, op_of, is_own, makes, answer}
 use Rattle.exchange_defs.specs.Runs.{is_send_of}
@@ -25,10 +25,15 @@ use Rattle.order_law.specs.Contents.{Contents, is_final, lists, edits, formed, f
 use Rattle.order_law.proofs.Moved.{Steps}
 use Rattle.order_law.proofs.Answers.{Facts, facts}
 use Rattle.order_law.proofs.Calm.{aloof}
-use Rattle.order_law.proofs.Served.{ListedFacts, listed_facts}
+use Rattle.order_law.proofs.Served.{ListedFacts, listed_facts, AskedFacts, asked_facts}
 use Rattle.order_law.proofs.Writing.{Changing, changing, writes_to, given_of}
 use Rattle.order_law.proofs.Made.{Making, making, creates, asks_guid, asks_share, attaches}
-use Rattle.order_law.proofs.Requests.{asks_of, well_formed, writes_of, creates_op, makes_creates, dialog_other, ask_other}
+use Rattle.order_law.proofs.Requests.{asks_of, ask_reads, ask_form, create_asks, formed_none, well_formed, writes_of, creates_op, makes_creates, dialog_other, ask_other}
+use Rattle.order_law.proofs.Tells.{tells}
+use Rattle.exchange_law.proofs.Run.{makes_one}
+use Rattle.create_law.proofs.Requests.{same_guid}
+use Rattle.exchange_defs.specs.CheckCreate.{has_guid}
+use Rattle.exchange_defs.specs.Texts.{same_name}
 use Rattle.order_law.proofs.Taking.{Taking, new_acts, made_own, own_of}
 use Rattle.order_law.proofs.Words.{ops_of, attach_of}
 
@@ -161,3 +166,100 @@ pub record Said (w : World) (a : ℕ → ℕ) (k : ℕ) (x0 : Sent) (A : Answer)
   pub refused : (p : ℕ) → x0.token ≡ ForAttach p → (A.reply.status == success) ≡ false → (A.reply.status == user_session_deleted) ≡ false → A.server.standing (file_at w.client p) ≡ false
   pub stale : (p : ℕ) → x0.token ≡ ForOp p → edits (w.client.op p) ≡ true → A.reply.status ≡ file_not_available → x0.message.sequence < w.client.sequence
   pub attach_status : (p : ℕ) → x0.token ≡ ForAttach p → (A.reply.status == end_of_file) ≡ false
+
+name_self : (xs : List ℕ) → same_name xs xs ≡ true
+unfolding same_name
+name_self [] = refl
+name_self (x ∷ xs) = let h = name_self xs in grind arith
+
+is_test : (n m : ℕ) → n ≡ m → (n == m) ≡ true
+is_test n m e = grind arith
+
+lists_edit : (op : Op) → edits op ≡ true → lists op ≡ true
+unfolding edits lists is_change is_listed
+lists_edit op e = grind arith
+
+change_edit : (op : Op) → edits op ≡ true → is_change (content_op op) ≡ true
+unfolding edits
+change_edit op e = e
+
+idle_of : (A : Bool) (status : ℕ) → (A ≡ true → status ≡ success) → (status == success) ≡ false → A ≡ false
+idle_of true status f e = absurd (let z = is_test status success (f refl) in grind arith)
+idle_of false status f e = refl
+
+not_standing : (b : Bool) → (b ≡ true → ⊥) → b ≡ false
+not_standing true f = absurd (f refl)
+not_standing false f = refl
+
+own_session : (a : Option ℕ) (x : ℕ) → (is_some a && not (is_at x a)) ≡ true → ((y : ℕ) → a ≡ Some y → y ≡ x) → ⊥
+own_session None x e f = absurd (cc)
+own_session (Some y) x e f = absurd (let z = f y refl in grind arith)
+
+guid_test : (g : ℕ) (o : Option ℕ) → o ≡ Some g → has_guid g o ≡ true
+guid_test g o e = grind arith
+
+pub said : (w : World) (a : ℕ → ℕ) (k : ℕ) (x0 : Sent) (rest : List Sent) → (w.conns k).up ≡ x0 ∷ rest → (w.conns k).client_open ≡ true → Lower w a → Taking w.client w.server w.trace x0 (answer w x0) → Holds w a → Said w a k x0 (answer w x0)
+said w a k x0 rest is opn l t i =
+    record {
+      not_done = λ p tk ed bad. let f = t.listed p tk (lists_edit (c.op p) ed) in idle_of A.acted A.reply.status (λ ac. (f.acts ac).4) bad;
+      create_reply = λ p tk mk ok. told p tk mk ok;
+      create_pair = λ p tk mk. subst (λ x. Pair A.server x 0 (id_in A.reply.body)) (here (ops_of x0.token p tk)) (t.making.pair (ap creates (l.cn.bodies k 0 p x0 f0 tk).1 ∙ makes_creates (c.op p) _ _ _ _ mk));
+      attach_reply = λ p tk ok. subst (λ x. Pair A.server x 0 (file_at c p)) (here (attach_of x0.token p tk)) (λ st pr. ((asked_by p tk).attached (is_test A.reply.status success ok), omega arith));
+      reached = λ p tk ed fm fin. let f = t.listed p tk (lists_edit (c.op p) ed) in
+          subst (λ x. Pair A.server x x0.message.sequence (file_at c p)) (here (ops_of x0.token p tk))
+          (t.reached (file_at c p) (f.reached (change_edit (c.op p) ed) (ap form (l.cn.bodies k 0 p x0 f0 tk).1 ∙ formed_none (c.op p) _ _ _ _ fm) fin)).1;
+      closed = λ p tk ed st. let f = (t.listed p tk (lists_edit (c.op p) ed)).closed (is_test A.reply.status file_closed st) in let cp = i.copy_pair k 0 p x0 f0 tk ed in
+          not_standing (A.server.standing (file_at c p)) (λ sa. f.1 sa (cp.0 (t.steps.stands (file_at c p) cp.1 sa) (there f.0)).0);
+      refused = λ p tk bad del. not_standing (A.server.standing (file_at c p)) (λ sa. refused_off p tk bad del sa);
+      stale = λ p tk ed st. let f = (t.listed p tk (lists_edit (c.op p) ed)).stale (is_test A.reply.status file_not_available st) in
+          let le = i.session_seq (file_at c p) (live_of (ops_of x0.token p tk)) (f.0 ∙ ap Some (here (ops_of x0.token p tk))) in let z = f.1 in omega (arith, le, z);
+      attach_status = λ p tk. (asked_by p tk).end;
+    }
+  where
+    c : Client
+    c = w.client
+
+    A : Answer
+    A = answer w x0
+
+    f0 : slice_get (w.conns k).up 0 ≡ Some x0
+    f0 = front_up (w.conns k).up x0 rest is
+
+    here : is_ops x0.token ≡ true → x0.message.session ≡ w.client.session
+    here e = (l.ss.current_up k 0 x0 f0 e opn).1
+
+    live_of : is_ops x0.token ≡ true → w.client.live ≡ true
+    live_of e = (l.ss.current_up k 0 x0 f0 e opn).0
+
+    there : has_session w.server x0.message ≡ true → w.server.present x0.message.session ≡ true
+    there z = l.fits.on_present x0.message.connection x0.message.session (at_some x0.message.session (w.server.on x0.message.connection) z)
+
+    told : (p : ℕ) → x0.token ≡ ForOp p → makes_open (w.client.op p) ≡ true → (answer w x0).reply.status ≡ success
+        → ((answer w x0).acted ≡ true × (answer w x0).reached ≡ Some (id_in (answer w x0).reply.body)) ⊎ (w.server.by_guid w.client.who.guid (guid_for w.client p) ≡ Some (id_in (answer w x0).reply.body))
+    told p tk mk ok =
+        let b = l.cn.bodies k 0 p x0 f0 tk in let q = create_asks (w.client.op p) (guid_for w.client p) (w.client.file (create_at w.client p)) (w.client.slot_of p) (w.client.number_of p) mk in
+        let z = tells w.server w.moment x0.message (durable_of (guid_for w.client p) (persists (w.client.op p))) q.0 (b.1 ∙ q.1.0) q.1.1 q.1.2 b.3 (λ y status e. l.cr.refused_status x0.message.session y status e) in
+        subst (λ u. ((answer w x0).acted ≡ true × (answer w x0).reached ≡ Some (id_in (answer w x0).reply.body)) ⊎ (w.server.by_guid u (guid_for w.client p) ≡ Some (id_in (answer w x0).reply.body))) b.2 (z.tells (is_test (answer w x0).reply.status success ok))
+
+    ok_create : (p : ℕ) → x0.token ≡ ForAttach p → makes_open (w.client.op (create_at w.client p)) ≡ true × is_ok (w.client.outcome (create_at w.client p)) ≡ true
+    ok_create p tk =
+        let e = attach_of x0.token p tk in let ab = i.token_up k 0 x0 f0 e in let o = i.opens_up k 0 x0 f0 e in let s = i.asked_as k 0 p x0 f0 tk in
+        let above = subst (λ g. 0 < g) (ap op_of tk) ab.0 in let within = subst (λ g. g ≤ w.client.taken) (ap op_of tk) ab.1 in let op = subst (λ g. (makes_open (w.client.op g) || is_ok (w.client.outcome (create_at w.client g))) ≡ true) (ap op_of tk) o in
+        ((l.cn.creates p above within s.0).2, makes_one (w.client.op p) (w.client.outcome (create_at w.client p)) op s.0)
+
+    asked_by : (p : ℕ) → x0.token ≡ ForAttach p → AskedFacts w.server x0.message (record { file = file_at w.client p; guid = guid_for w.client (create_at w.client p) }) (answer w x0)
+    asked_by p tk =
+        let s = i.asked_as k 0 p x0 f0 tk in let o = ok_create p tk in let r = ask_reads (w.client.op (create_at w.client p)) (guid_for w.client (create_at w.client p)) (file_at w.client p) o.0 in
+        let kf = l.cr.form_acted (create_at w.client p) o.0 (l.cr.ok_acted (create_at w.client p) o.0 o.1) in
+        asked_facts w.server w.moment x0.message r.0 (record { file = file_at w.client p; guid = guid_for w.client (create_at w.client p) }) (s.1 ∙ r.1.0) r.1.1 (l.ss.from_client k 0 x0 f0).2
+        (λ z. l.ss.tree_up k 0 x0 f0 (attach_of x0.token p tk) (there z)) (λ z st. absurd (let n = l.disk x0.message.session x0.message.tree (file_at w.client p) z in grind arith))
+        (ap form s.1 ∙ ask_form (w.client.op (create_at w.client p)) (guid_for w.client (create_at w.client p)) (file_at w.client p) o.0 kf)
+
+    refused_off : (p : ℕ) → x0.token ≡ ForAttach p → ((answer w x0).reply.status == success) ≡ false → ((answer w x0).reply.status == user_session_deleted) ≡ false → (answer w x0).server.standing (file_at w.client p) ≡ true → ⊥
+    refused_off p tk bad del sa =
+        let o = ok_create p tk in let fg = l.cr.file_guid (create_at w.client p) o.0 o.1 in let st = t.steps.stands (file_at w.client p) fg.0 sa in
+        let us = (l.ss.open_users (file_at w.client p) st).0 in
+        own_session (w.server.at (file_at w.client p)) x0.message.session
+        ((asked_by p tk).refused bad del sa (guid_test (guid_for w.client (create_at w.client p)) _ ((fg.1 st).1 ∙ ap Some (sym (same_guid w.client (create_at w.client p)))))
+          (λ z. subst (λ u. same_name (w.server.opened (file_at w.client p)).user u ≡ true) (us ∙ sym (l.ss.session_users x0.message.session (there z))) (name_self (w.server.opened (file_at w.client p)).user)))
+        (λ y e. let at = l.cr.attached (file_at w.client p) y e in l.ss.present_accepted y at.1 at.0 ∙ (sym (l.ss.live_accepted (live_of (attach_of x0.token p tk))).0 ∙ sym (here (attach_of x0.token p tk))))
