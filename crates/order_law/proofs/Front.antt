@@ -56,7 +56,7 @@ not_making c s x k u r = by_test (is_new x (s.making k)) refl
     by_test true e = let z = u k x e in absurd (omega (arith, z, r))
     by_test false e = e
 
-abbrev Holds : World → (ℕ → ℕ) → Type 0
+abbrev pub Holds : World → (ℕ → ℕ) → Type 0
 Holds w a = Contents w.client w.conns w.server w.trace w.log a
 
 at_some : (n : ℕ) (o : Option ℕ) → is_at n o ≡ true → o ≡ Some n

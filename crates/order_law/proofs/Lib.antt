@@ -44,3 +44,5 @@ pub mod Quiet
 pub mod Tells
 pub mod Requests
 pub mod Front
+pub mod Server
+pub mod Table

@@ -101,7 +101,7 @@ lists_of : (op : Op) → edits op ≡ true → lists op ≡ true
 unfolding edits lists is_change is_listed
 lists_of op e = grind arith
 
-lists_other : (op : Op) → lists op ≡ true → makes_open op ≡ false
+pub lists_other : (op : Op) → lists op ≡ true → makes_open op ≡ false
 unfolding lists makes_open is_listed
 lists_other op e = grind arith
 
@@ -115,7 +115,7 @@ isolating_is op e = (grind arith, grind arith)
 
 -- ---- the open of an operation that went out
 
-record Its (c : Client) (s : Server) (t : Trace) (g : ℕ) : Type 0 where
+pub record Its (c : Client) (s : Server) (t : Trace) (g : ℕ) : Type 0 where
   made : makes_open (c.op (create_at c g)) ≡ true
   ok : is_ok (c.outcome (create_at c g)) ≡ true
   named : t.open_of (create_at c g) ≡ Some (file_at c g)
@@ -124,7 +124,7 @@ record Its (c : Client) (s : Server) (t : Trace) (g : ℕ) : Type 0 where
 ok_of : (x y : Bool) → (x || y) ≡ true → x ≡ false → y ≡ true
 ok_of x y e f = grind arith
 
-its_open : (c : Client) (s : Server) (t : Trace) (g : ℕ) → (makes_open (c.op g) || is_ok (c.outcome (create_at c g))) ≡ true → makes_open (c.op g) ≡ false → makes_open (c.op (create_at c g)) ≡ true → OpenOf c t → OpenGiven c s t → Its c s t g
+pub its_open : (c : Client) (s : Server) (t : Trace) (g : ℕ) → (makes_open (c.op g) || is_ok (c.outcome (create_at c g))) ≡ true → makes_open (c.op g) ≡ false → makes_open (c.op (create_at c g)) ≡ true → OpenOf c t → OpenGiven c s t → Its c s t g
 its_open c s t g o n m named given =
     let ok = ok_of (makes_open (c.op g)) (is_ok (c.outcome (create_at c g))) o n in let e = named (create_at c g) m ok in record { made = m; ok = ok; named = e; given = (given (create_at c g) (file_at c g) e).0 }
 
