@@ -11,7 +11,7 @@ use Rattle.exchange_defs.specs.ClientStep.{Pick, Act, Nothing, Sends, Asks, Clos
 use Rattle.exchange_defs.specs.Order.{Log}
 use Rattle.exchange_defs.specs.Network.{World, Event, Submit, Push, Cut, Finish, Conn, Sent, Received, Token, ForDialog, ForOp, ForAttach, op_of, changed, with_client, cut_by, pushed_by, first_push, send_up}
 use Rattle.exchange_law.specs.Connections.{Connections, create_at, makes_open, its_create, copies, count_up, count_down, Bodies}
-use Rattle.exchange_law.proofs.Lists.{own_up_count, own_down_count, attach_down_count}
+use Rattle.exchange_law.proofs.Lists.{own_up_count, own_down_count, attach_down_count, counted_down}
 use Rattle.exchange_law.proofs.Doors.{either}
 use Rattle.exchange_law.proofs.Run.{MayPush, next_of, not_true, found, free_of, no_slots, no_wait, own_for, own_create, both_ways, ok_is_settled}
 use Rattle.exchange_law.proofs.Stays.{Beyond}
@@ -106,3 +106,148 @@ pub cuts : (w : World) (a : ℕ → ℕ) (k : ℕ) → Lower w a → Holds w a �
 cuts w a k l i =
     either (λ v. Holds v a) (w.client.ready k) _ _ (λ ready. cuts_ready w a k l i (w.client.ready k) (ends_at_cut w.client) ready)
     (λ apart. dialog_off_keeps w.client w.conns w.server w.trace w.log a k (not_there w a k apart l i) i)
+
+-- ---- Push: locks that find no slot settle first
+
+abbrev Only : Client → (ℕ → Outcome) → Client
+Only c o = record c { outcome = o }
+
+record Slotless (w : World) (a : ℕ → ℕ) (c : Client) : Type 0 where
+  holds : Contents c w.conns w.server w.trace w.log a
+  is : c ≡ Only w.client c.outcome
+  same : (h : ℕ) → is_unsettled (w.client.outcome h) ≡ false → c.outcome h ≡ w.client.outcome h
+
+other_put : (f : ℕ → Outcome) (g h : ℕ) (o : Outcome) → h ≢ g → put f g o h ≡ f h
+other_put f g h o n = grind arith
+
+own_put : (f : ℕ → Outcome) (g h : ℕ) (o : Outcome) → h ≡ g → put f g o h ≡ o
+own_put f g h o e = grind arith
+
+-- what is said of an outcome holds of a table with one more, where it holds of that and of the others
+by_put : (P : ℕ → Outcome → Type 0) (f : ℕ → Outcome) (g h : ℕ) (o : Outcome) → (h ≡ g → P h o) → (h ≢ g → P h (f h)) → P h (put f g o h)
+by_put P f g h o here there = elim (h == g) as (λ b. h == g ≡ b → P h (put f g o h)) [
+  | true ↦ λ e. let z = eqb-true h g e in subst (P h) (sym (own_put f g h o z)) (here z)
+  | false ↦ λ e. let z = eqb-false h g e in subst (P h) (sym (other_put f g h o z)) (there z)
+] refl
+
+differ : (x : Outcome) → is_unsettled x ≡ true → is_unsettled x ≡ false → ⊥
+differ x e f = absurd (grind arith)
+
+settles_one : (c : Client) (w : World) (a : ℕ → ℕ) (g n : ℕ) → is_unsettled (c.outcome g) ≡ true → c.sent g ≡ false → Bodies c w.conns → Contents c w.conns w.server w.trace w.log a → Contents (Only c (put c.outcome g (NoSlot n))) w.conns w.server w.trace w.log a
+settles_one c w a g n u s b i =
+    outcomes_keeps c w.conns w.server w.trace w.log a (put c.outcome g (NoSlot n))
+    (λ h e. by_put (λ h o. is_unsettled (c.outcome h) ≡ false → o ≡ c.outcome h) c.outcome g h (NoSlot n) (λ z f. absurd (differ (c.outcome h) (ap (λ x. is_unsettled (c.outcome x)) z ∙ u) f)) (λ z f. refl) e)
+    (λ h. by_put (λ h o. is_unsettled (c.outcome h) ≡ true → is_unsettled o ≡ false → c.sent h ≡ false × is_firm o ≡ false × is_ok o ≡ false) c.outcome g h (NoSlot n) (λ z e f. (ap c.sent z ∙ s, refl, refl)) (λ z e f. absurd (differ (c.outcome h) e f)))
+    (λ h. by_put (λ h o. is_unsettled o ≡ true → is_unsettled (c.outcome h) ≡ true) c.outcome g h (NoSlot n) (λ z e. absurd (cc)) (λ z e. e))
+    (λ h. by_put (λ h o. is_firm o ≡ true → is_firm (c.outcome h) ≡ true) c.outcome g h (NoSlot n) (λ z e. absurd (cc)) (λ z e. e))
+    (λ h. by_put (λ h o. is_ok o ≡ true → is_ok (c.outcome h) ≡ true) c.outcome g h (NoSlot n) (λ z e. absurd (cc)) (λ z e. e))
+    (λ h. by_put (λ h o. is_ok (c.outcome h) ≡ true → is_ok o ≡ true) c.outcome g h (NoSlot n) (λ z e. absurd (differ (c.outcome h) (ap (λ x. is_unsettled (c.outcome x)) z ∙ u) (ok_is_settled (c.outcome h) e))) (λ z e. e))
+    b i
+
+lacks_parts : (x y z v : Bool) → (x && (y && ((z && not v) && true))) ≡ true → x ≡ true × v ≡ false
+lacks_parts x y z v e = (grind arith, grind arith)
+
+lacks_of : (c : Client) (k g : ℕ) → lacks_slot c k g ≡ true → may_push c k g ≡ true × c.sent g ≡ false
+lacks_of c k g e = (first_of _ _ e, sent_of (may_push c k g) (goes_itself c g) (is_lock (c.op g)) (c.sent g) _ e)
+  where
+    first_of : (x y : Bool) → (x && y) ≡ true → x ≡ true
+    first_of x y e = grind arith
+
+    sent_of : (x y z v u : Bool) → (x && (y && ((z && not v) && u))) ≡ true → v ≡ false
+    sent_of x y z v u e = grind arith
+
+only_bodies : (w : World) (c : Client) → c ≡ Only w.client c.outcome → Bodies w.client w.conns → Bodies c w.conns
+only_bodies w c e b = subst (λ d. Bodies d w.conns) (sym e) b
+
+slotless_one : (w : World) (a : ℕ → ℕ) (c : Client) (k g : ℕ) → Bodies w.client w.conns → Slotless w a c → Slotless w a (settle_no_slot c k g)
+slotless_one w a c k g b i =
+    either (Slotless w a) (lacks_slot c k g) (Only c (put c.outcome g (NoSlot (create_for c g)))) c
+    (λ e. let m = lacks_of c k g e in let u = (found c k g m.0).pending in
+      record {
+        holds = settles_one c w a g (create_for c g) u m.1 (only_bodies w c i.is b) i.holds;
+        is = ap (λ d. Only d (put c.outcome g (NoSlot (create_for c g)))) i.is;
+        same = λ h f. by_put (λ h o. is_unsettled (w.client.outcome h) ≡ false → o ≡ w.client.outcome h) c.outcome g h (NoSlot (create_for c g))
+            (λ z q. absurd (differ (c.outcome g) u (ap is_unsettled (ap c.outcome (sym z) ∙ i.same h q) ∙ q))) (λ z q. i.same h q) f;
+      })
+    (λ _. i)
+
+slotless : (w : World) (a : ℕ → ℕ) (c : Client) (k : ℕ) (gs : List ℕ) → Bodies w.client w.conns → Slotless w a c → Slotless w a (settle_no_slots c k gs)
+unfolding settle_no_slots
+slotless w a c k [] b i = i
+slotless w a c k (g ∷ gs) b i = slotless w a (settle_no_slot c k g) k gs b (slotless_one w a c k g b i)
+
+-- ---- what goes out
+
+replays_by : (op : Op) (b : Bool) → edits op ≡ true → (b && (is_create op || changes op)) ≡ b
+unfolding edits is_change
+replays_by op b e = grind arith
+
+holds_clash : (x y : Op) → edits x ≡ true → edits y ≡ true → holds_up x y ≡ false → clashes x y ≡ false
+unfolding edits is_change clashes collides
+holds_clash x y e f h = grind arith
+
+attached_of : (x y : Bool) → (x && y) ≡ true → y ≡ true
+attached_of x y e = grind arith
+
+itself_of : (op : Op) (x : Bool) → edits op ≡ true → (is_create op || x) ≡ true → x ≡ true
+unfolding edits is_change
+itself_of op x e f = grind arith
+
+none_out : (b : Bool) (o : Option ℕ) → o ≡ None → (if b then true else not (is_some o)) ≡ true
+none_out b o e = grind arith
+
+no_some : (o : Option ℕ) (k : ℕ) → o ≡ None → o ≡ Some k → ⊥
+no_some o k e f = absurd (grind arith)
+
+-- nothing of what isn't outstanding waits as a reply, nor on an open connection
+quiet_down : (w : World) (a : ℕ → ℕ) → Lower w a → Holds w a → (g : ℕ) → 0 < g → w.client.on g ≡ None → (j n : ℕ) (y : Received) → slice_get (w.conns j).down n ≡ Some y → op_of y.token ≢ g
+quiet_down w a l i g ab none j n y h e =
+    no_some (w.client.on g) j none (l.cn.outstanding j g (open_of_down w a l j n y h) (let c = counted_down g (w.conns j).down n y h e in omega (arith, c)) ab)
+
+off_up : (w : World) (a : ℕ → ℕ) → Lower w a → Holds w a → (g : ℕ) → w.client.on g ≡ None → (j n : ℕ) (x : Sent) → slice_get (w.conns j).up n ≡ Some x → x.token ≡ ForOp g → (w.conns j).client_open ≡ false
+off_up w a l i g none j n x h e = by_test (w.conns j).client_open refl
+  where
+    by_test : (b : Bool) → (w.conns j).client_open ≡ b → (w.conns j).client_open ≡ false
+    by_test true o = absurd (no_some (w.client.on g) j none (out_there w a l i j n g x h e o).0)
+    by_test false o = o
+
+-- it goes out from this table, which differs in outcomes, slots and what went out alone
+record Goes (w : World) (a : ℕ → ℕ) (c : Client) (l : Log) (k g : ℕ) : Type 0 where
+  holds : Contents c w.conns w.server w.trace l a
+  file : c.file ≡ w.client.file
+  op : c.op ≡ w.client.op
+  on : c.on ≡ w.client.on
+  may : MayPush c k g
+  live : c.live ≡ true
+  itself : goes_itself c g ≡ true
+
+sends : (w : World) (a : ℕ → ℕ) (c : Client) (l : Log) (k g n0 : ℕ) (m : Message) → Lower w a → Holds w a → (w.conns k).client_open ≡ true → Goes w a c l k g → m.session ≡ c.session → m.sequence ≡ c.sequence → m.replay ≡ is_replay c g
+    → Contents (outstanding c k g) (put w.conns k (send_up (w.conns k) (ForOp g) m n0)) w.server w.trace l a
+unfolding its_create
+sends w a c l k g n0 m lw i0 stands q ms mq mr =
+    let none : w.client.on g ≡ None = ap (λ f. f g) (sym q.on) ∙ q.may.none in
+    send_keeps c w.conns w.server w.trace l a k g n0 m stands q.may.none q.may.above q.may.within q.may.pending q.live ms mq q.may.has_open
+    (λ ed. mr ∙ replays_by (c.op g) (c.before g) ed)
+    (λ ed. q.holds.now_pair (create_for c g) (eqb-true _ _ (attached_of c.live _ (itself_of (c.op g) _ ed q.itself))) q.live)
+    (λ j n y h e. quiet_down w a lw i0 g q.may.above none j n y h (ap op_of e))
+    (λ j n x h e. off_up w a lw i0 g none j n x h e)
+    (λ ed b. q.holds.unacted g ed b (none_out (c.asking g) (c.on g) q.may.none) q.may.pending) q.holds
+
+starts : (w : World) (a : ℕ → ℕ) (c : Client) (k g : ℕ) → Lower w a → Holds w a → Slotless w a c → may_push c k g ≡ true → w.client.live ≡ true → c.live ≡ true → c.on ≡ w.client.on → c.sent g ≡ false
+    → Contents (record c { sent = put c.sent g true }) w.conns w.server w.trace (record w.log { since = put w.log.since g w.log.places; prior = put w.log.prior g (λ q. is_firm (w.client.outcome q)) }) a
+starts w a c k g l i0 i may live lc on new =
+    let m = found c k g may in
+    start_keeps c w.conns w.server w.trace w.log a g (λ q. is_firm (w.client.outcome q)) new m.above m.pending lc
+    (λ n lt cr en eg u. holds_clash (c.op n) (c.op g) en eg (not_held n lt cr u))
+    (λ q f. subst (λ o. is_firm o ≡ true) (sym (i.same q (firm_is_settled (w.client.outcome q) f))) f)
+    (λ j n y h. quiet_down w a l i0 g m.above (ap (λ f. f g) (sym on) ∙ m.none) j n y h) i.holds
+  where
+    firm_is_settled : (o : Outcome) → is_firm o ≡ true → is_unsettled o ≡ false
+    firm_is_settled o e = grind arith
+
+    not_held : (n : ℕ) → n < g → create_at c n ≡ create_at c g → is_unsettled (c.outcome n) ≡ true → holds_up (c.op n) (c.op g) ≡ false
+    not_held n lt cr u = by_test (holds_up (c.op n) (c.op g)) refl
+      where
+        by_test : (b : Bool) → holds_up (c.op n) (c.op g) ≡ b → holds_up (c.op n) (c.op g) ≡ false
+        by_test true h = absurd (differ (c.outcome n) u (no_wait c g g n (free_of c k g may) lt (own_for c n ∙ (cr ∙ sym (own_for c g))) h))
+        by_test false h = h
