@@ -6,7 +6,7 @@ use Rattle.exchange_defs.specs.Table.{put, put2}
 use Rattle.exchange_defs.specs.Content.{is_listed, is_change, collides, meets}
 use Rattle.exchange_defs.specs.State.{Server, Message}
 use Rattle.exchange_defs.specs.Operations.{Op, OpCreate, OpWrite, OpRead, OpEnd, OpTime, OpRename, OpRemove, OpLock, OpUnlock, OpFlush, OpStat, OpList, OpClose, Outcome, Unsettled, NoSlot, NoOpen, Why, NoSession, is_unsettled, is_firm, is_ok, is_create, is_lock, is_change as changes, create_of, holds_up, content_op, charge, weight}
-use Rattle.exchange_defs.specs.Client.{Client, may_take, outcome_at_first, is_gone, is_taken, may_push, goes_itself, is_attached, has_its_slot, lacks_slot, settle_no_slot, settle_no_slots, begin, again, take_slot, outstanding, own_message, ask_message, create_for, cut_channel, end_session, finish, ends_at_cut, guid_for, is_replay}
+use Rattle.exchange_defs.specs.Client.{Client, may_take, outcome_at_first, is_gone, is_taken, may_push, goes_itself, is_attached, has_its_slot, lacks_slot, settle_no_slot, settle_no_slots, begin, again, take_slot, outstanding, asked, own_message, ask_message, create_for, cut_channel, end_session, finish, ends_at_cut, guid_for, is_replay}
 use Rattle.exchange_defs.specs.ClientStep.{Pick, Act, Nothing, Sends, Asks, CloseChannels, AllSettled, pick_after, pick_act, some_unsettled}
 use Rattle.exchange_defs.specs.Order.{Log}
 use Rattle.exchange_defs.specs.Network.{World, Event, Submit, Push, Cut, Finish, Conn, Sent, Received, Token, ForDialog, ForOp, ForAttach, op_of, changed, with_client, cut_by, pushed_by, first_push, send_up}
@@ -251,3 +251,74 @@ starts w a c k g l i0 i may live lc on new =
         by_test : (b : Bool) → holds_up (c.op n) (c.op g) ≡ b → holds_up (c.op n) (c.op g) ≡ false
         by_test true h = absurd (differ (c.outcome n) u (no_wait c g g n (free_of c k g may) lt (own_for c n ∙ (cr ∙ sym (own_for c g))) h))
         by_test false h = h
+
+-- ---- Push, all of it
+
+-- the table and the client's own, but for outcomes
+record Beside (w : World) (c : Client) : Type 0 where
+  file : c.file ≡ w.client.file
+  op : c.op ≡ w.client.op
+  on : c.on ≡ w.client.on
+  sent : c.sent ≡ w.client.sent
+  live : c.live ≡ w.client.live
+
+beside_of : (w : World) (c : Client) → c ≡ Only w.client c.outcome → Beside w c
+beside_of w c e = record { file = ap (λ (d : Client). d.file) e; op = ap (λ (d : Client). d.op) e; on = ap (λ (d : Client). d.on) e; sent = ap (λ (d : Client). d.sent) e; live = ap (λ (d : Client). d.live) e }
+
+old_log : (w : World) (g : ℕ) → w.client.sent g ≡ true → first_push w g ≡ w.log
+old_log w g e = rw e refl
+
+new_log : (w : World) (g : ℕ) → w.client.sent g ≡ false → first_push w g ≡ record w.log { since = put w.log.since g w.log.places; prior = put w.log.prior g (λ q. is_firm (w.client.outcome q)) }
+new_log w g e = rw e refl
+
+abbrev Out : World → (ℕ → ℕ) → ℕ → ℕ → Log → Client → Type 0
+Out w a k g l c =
+    Contents (outstanding c k g) (put w.conns k (send_up (w.conns k) (ForOp g) (own_message (outstanding c k g) k (w.conns k).next_id g) (charge (weight ((outstanding c k g).op g))))) w.server w.trace l a
+
+goes_out : (w : World) (a : ℕ → ℕ) (c : Client) (k g s : ℕ) → Lower w a → Holds w a → Slotless w a c → may_push c k g ≡ true → goes_itself c g ≡ true → (w.conns k).client_open ≡ true → w.client.live ≡ true → (b : Bool) → c.sent g ≡ b → Out w a k g (first_push w g) (if b then again c g else begin c g s)
+goes_out w a c k g s l i0 i may itself stands live true e =
+    let y = beside_of w c i.is in let m = found c k g may in
+    subst (λ lg. Out w a k g lg (again c g)) (sym (old_log w g (ap (λ f. f g) (sym y.sent) ∙ e)))
+    (either (Out w a k g w.log) (is_lock (c.op g)) (record c { retried = put2 c.retried (create_for c g) (c.slot_of g) c.number }) c
+    (λ _. sends w a (record c { retried = put2 c.retried (create_for c g) (c.slot_of g) c.number }) w.log k g _ _ l i0 stands
+      (record { holds = i.holds; file = y.file; op = y.op; on = y.on; may = record { ready = m.ready; above = m.above; within = m.within; pending = m.pending; none = m.none; has_open = m.has_open }; live = y.live ∙ live; itself = itself }) refl refl refl)
+    (λ _. sends w a c w.log k g _ _ l i0 stands (record { holds = i.holds; file = y.file; op = y.op; on = y.on; may = m; live = y.live ∙ live; itself = itself }) refl refl refl))
+goes_out w a c k g s l i0 i may itself stands live false e =
+    let y = beside_of w c i.is in let m = found c k g may in let h = starts w a c k g l i0 i may live (y.live ∙ live) y.on e in
+    let lg : Log = record w.log { since = put w.log.since g w.log.places; prior = put w.log.prior g (λ q. is_firm (w.client.outcome q)) } in
+    subst (λ lg. Out w a k g lg (begin c g s)) (sym (new_log w g (ap (λ f. f g) (sym y.sent) ∙ e)))
+    (either (Out w a k g lg) (is_lock (c.op g)) (record (take_slot c g s) { sent = put c.sent g true }) (record c { sent = put c.sent g true })
+    (λ _. sends w a (record (take_slot c g s) { sent = put c.sent g true }) lg k g _ _ l i0 stands
+      (record { holds = h; file = y.file; op = y.op; on = y.on; may = record { ready = m.ready; above = m.above; within = m.within; pending = m.pending; none = m.none; has_open = m.has_open }; live = y.live ∙ live; itself = itself }) refl refl refl)
+    (λ _. sends w a (record c { sent = put c.sent g true }) lg k g _ _ l i0 stands
+      (record { holds = h; file = y.file; op = y.op; on = y.on; may = record { ready = m.ready; above = m.above; within = m.within; pending = m.pending; none = m.none; has_open = m.has_open }; live = y.live ∙ live; itself = itself }) refl refl refl))
+
+no_create : (op : Op) (x : Bool) → (is_create op || x) ≡ false → makes_open op ≡ false
+unfolding makes_open
+no_create op x e = grind arith
+
+asks_out : (w : World) (a : ℕ → ℕ) (c : Client) (k g : ℕ) → Slotless w a c → MayPush c k g → makes_open (c.op g) ≡ false
+    → Contents (asked c k g) (put w.conns k (send_up (w.conns k) (ForAttach g) (ask_message (asked c k g) k (w.conns k).next_id g) 1)) w.server w.trace w.log a
+unfolding its_create
+asks_out w a c k g i m n = ask_keeps c w.conns w.server w.trace w.log a k g 1 (ask_message (asked c k g) k (w.conns k).next_id g) m.none m.above m.within n refl m.has_open i.holds
+
+pushes_op : (w : World) (a : ℕ → ℕ) (c : Client) (k g s : ℕ) → Lower w a → Holds w a → Slotless w a c → (w.conns k).client_open ≡ true → w.client.live ≡ true
+    → Holds (pushed_by w k (pick_after c k (Some (record { op = g; slot = s }))) (pick_act c k (Some (record { op = g; slot = s })))) a
+pushes_op w a c k g s l i0 i stands live =
+    let P : Client → Act → Type 0 = λ d x. Holds (pushed_by w k d x) a in
+    both_ways P (may_push c k g) _ _ _ _
+    (λ may. both_ways P (goes_itself c g) _ _ _ _
+      (λ it. both_ways P (has_its_slot c g s) _ _ _ _ (λ _. goes_out w a c k g s l i0 i may it stands live (c.sent g) refl) (λ _. i.holds))
+      (λ it. asks_out w a c k g i (found c k g may) (no_create (c.op g) _ it)))
+    (λ _. i.holds)
+
+picks : (w : World) (a : ℕ → ℕ) (c : Client) (k : ℕ) (pick : Option Pick) → Lower w a → Holds w a → Slotless w a c → (w.conns k).client_open ≡ true → w.client.live ≡ true → Holds (pushed_by w k (pick_after c k pick) (pick_act c k pick)) a
+picks w a c k None l i0 i stands live = either (λ x. Holds (pushed_by w k c x) a) (some_unsettled c c.taken) _ _ (λ _. i.holds) (λ _. i.holds)
+picks w a c k (Some p) l i0 i stands live = pushes_op w a c k p.op p.slot l i0 i stands live
+
+pub pushes : (w : World) (a : ℕ → ℕ) (k : ℕ) (slots : List ℕ) (pick : Option Pick) → w.client.ready k ≡ true → Lower w a → Holds w a → Holds (changed w (Push k slots pick)) a
+pushes w a k slots pick ready l i =
+    let r = l.cn.ready k ready in
+    both_ways (λ d x. Holds (pushed_by w k d x) a) (w.client.ready k) _ _ _ _
+    (λ _. picks w a (settle_no_slots w.client k slots) k pick l i (slotless w a w.client k slots l.cn.bodies (record { holds = i; is = refl; same = λ h e. refl })) r.0 r.1)
+    (λ off. absurd (grind arith))
