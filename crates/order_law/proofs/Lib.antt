@@ -19,6 +19,10 @@ pub mod OnOpened
 pub mod OnDropped
 pub mod OnAllDropped
 pub mod OnOutcomes
+pub mod OnTakeSlot
+pub mod OnRetried
+pub mod OnFills
+pub mod OnShuts
 pub mod OnStart
 pub mod OnBehind
 pub mod OnWentOn

@@ -27,6 +27,8 @@ use Rattle.order_law.proofs.OnCut.{cut_keeps}
 use Rattle.order_law.proofs.OnLeave.{leave_keeps}
 use Rattle.order_law.proofs.OnDialogOff.{dialog_off_keeps}
 use Rattle.order_law.proofs.OnOutcomes.{outcomes_keeps}
+use Rattle.order_law.proofs.OnTakeSlot.{take_slot_keeps}
+use Rattle.order_law.proofs.OnRetried.{retried_keeps}
 use Rattle.order_law.proofs.OnStart.{start_keeps}
 use Rattle.order_law.proofs.OnSend.{send_keeps}
 use Rattle.order_law.proofs.OnAsk.{ask_keeps}
@@ -281,7 +283,7 @@ goes_out w a c k g s l i0 i may itself stands live true e =
     subst (λ lg. Out w a k g lg (again c g)) (sym (old_log w g (ap (λ f. f g) (sym y.sent) ∙ e)))
     (either (Out w a k g w.log) (is_lock (c.op g)) (record c { retried = put2 c.retried (create_for c g) (c.slot_of g) c.number }) c
     (λ _. sends w a (record c { retried = put2 c.retried (create_for c g) (c.slot_of g) c.number }) w.log k g _ _ l i0 stands
-      (record { holds = i.holds; file = y.file; op = y.op; on = y.on; may = record { ready = m.ready; above = m.above; within = m.within; pending = m.pending; none = m.none; has_open = m.has_open }; live = y.live ∙ live; itself = itself }) refl refl refl)
+      (record { holds = retried_keeps c w.conns w.server w.trace w.log a (create_for c g) (c.slot_of g) i.holds; file = y.file; op = y.op; on = y.on; may = record { ready = m.ready; above = m.above; within = m.within; pending = m.pending; none = m.none; has_open = m.has_open }; live = y.live ∙ live; itself = itself }) refl refl refl)
     (λ _. sends w a c w.log k g _ _ l i0 stands (record { holds = i.holds; file = y.file; op = y.op; on = y.on; may = m; live = y.live ∙ live; itself = itself }) refl refl refl))
 goes_out w a c k g s l i0 i may itself stands live false e =
     let y = beside_of w c i.is in let m = found c k g may in let h = starts w a c k g l i0 i may live (y.live ∙ live) y.on e in
@@ -289,7 +291,7 @@ goes_out w a c k g s l i0 i may itself stands live false e =
     subst (λ lg. Out w a k g lg (begin c g s)) (sym (new_log w g (ap (λ f. f g) (sym y.sent) ∙ e)))
     (either (Out w a k g lg) (is_lock (c.op g)) (record (take_slot c g s) { sent = put c.sent g true }) (record c { sent = put c.sent g true })
     (λ _. sends w a (record (take_slot c g s) { sent = put c.sent g true }) lg k g _ _ l i0 stands
-      (record { holds = h; file = y.file; op = y.op; on = y.on; may = record { ready = m.ready; above = m.above; within = m.within; pending = m.pending; none = m.none; has_open = m.has_open }; live = y.live ∙ live; itself = itself }) refl refl refl)
+      (record { holds = take_slot_keeps (record c { sent = put c.sent g true }) w.conns w.server w.trace lg a g s h; file = y.file; op = y.op; on = y.on; may = record { ready = m.ready; above = m.above; within = m.within; pending = m.pending; none = m.none; has_open = m.has_open }; live = y.live ∙ live; itself = itself }) refl refl refl)
     (λ _. sends w a (record c { sent = put c.sent g true }) lg k g _ _ l i0 stands
       (record { holds = h; file = y.file; op = y.op; on = y.on; may = record { ready = m.ready; above = m.above; within = m.within; pending = m.pending; none = m.none; has_open = m.has_open }; live = y.live ∙ live; itself = itself }) refl refl refl))
 
