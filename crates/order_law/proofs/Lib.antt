@@ -50,3 +50,5 @@ pub mod Requests
 pub mod Front
 pub mod Server
 pub mod Table
+pub mod Hearing
+pub mod Replies
