@@ -319,3 +319,7 @@ settled_stays z es more g s = ap (λ w. w.client.outcome g) (run_on es more (sta
 
 pub settled_op : (z : Settings) (es more : List Event) (g : ℕ) → is_unsettled ((run es (start z)).client.outcome g) ≡ false → (run (es ++ more) (start z)).client.op g ≡ (run es (start z)).client.op g
 settled_op z es more g s = ap (λ w. w.client.op g) (run_on es more (start z)) ∙ (stays_on z es more g s).1
+
+-- what was never taken has no outcome but the first
+pub beyond : (z : Settings) (es : List Event) → Beyond (run es (start z)).client
+beyond z es = (run_stays es (start z) (λ x. 0) (begins z) (λ h f. (refl, refl))).0

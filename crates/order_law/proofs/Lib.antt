@@ -52,3 +52,4 @@ pub mod Server
 pub mod Table
 pub mod Hearing
 pub mod Replies
+pub mod Run
