@@ -328,8 +328,15 @@ pub earlier : (s : Server) (now : ℕ) (t : Server) → Before s now t → Earli
 earlier s now t (inl e) = subst (Earlier s) (sym e) (record { moves = deadlines_moves s now; still = still_deadlines s now; present = refl; at = λ o x h. h; content = refl; sequence = refl; at_on = λ o h. refl })
 earlier s now t (inr (o, due, e)) =
     let d = with_deadlines s now in let l = leave_open d o in let m = mark_alike l (d.opened o).client (d.opened o).guid in
-    subst (Earlier s) (sym e) (record { moves = moves_on s d (expire d o) (deadlines_moves s now) (expire_moves d o); still = still_on s d (expire d o) (still_deadlines s now) (still_expire d o); present = m.present ∙ leave_present d o; at = λ p x h. leave_at d o p x (ap (λ f. f p) (sym m.at) ∙ h);
-      content = content_expire d o; sequence = m.sequence ∙ leave_sequence d o; at_on = λ p h. ap (λ f. f p) m.at ∙ leave_on d o p (ap (λ f. f p) (sym m.standing) ∙ h) })
+    subst (Earlier s) (sym e) (record {
+      moves = moves_on s d (expire d o) (deadlines_moves s now) (expire_moves d o);
+      still = still_on s d (expire d o) (still_deadlines s now) (still_expire d o);
+      present = m.present ∙ leave_present d o;
+      at = λ p x h. leave_at d o p x (ap (λ f. f p) (sym m.at) ∙ h);
+      content = content_expire d o;
+      sequence = m.sequence ∙ leave_sequence d o;
+      at_on = λ p h. ap (λ f. f p) m.at ∙ leave_on d o p (ap (λ f. f p) (sym m.standing) ∙ h);
+    })
 
 pub given_behind : (s t : Server) (m : Message) → Given s m → Earlier s t → Given t m
 given_behind s t m g k =

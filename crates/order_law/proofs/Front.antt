@@ -1,9 +1,8 @@
 -- What the layers below say of the front of a connection, where the server takes it.
-use Rattle.std.proofs.lemmas.Bool.{eqb-false}
-use Rattle.std.proofs.Common.{eqb-true, ◌⊎◌, inl, inr, ◌≡◌, ◌≢◌, ℕ, ◌+◌, ◌*◌, ◌≤◌, ◌<◌, ◌==◌, Bool, true, false, not, ◌&&◌, ◌||◌, if◌then◌else◌, List, [], ◌∷◌, refl, arith, sym, subst, ◌∙◌, ap, Option, Some, None, is_some, slice_get}
+use Rattle.std.proofs.Common.{◌⊎◌, ◌≡◌, ℕ, ◌+◌, ◌≤◌, ◌<◌, ◌==◌, Bool, true, false, not, ◌&&◌, ◌||◌, if◌then◌else◌, List, [], ◌∷◌, refl, arith, sym, subst, ◌∙◌, ap, Option, Some, None, is_some, slice_get}
 use Rattle.exchange_defs.specs.Status.{success, user_session_deleted, file_closed, file_not_available, end_of_file}
 use Rattle.exchange_defs.specs.Content.{is_change, is_listed}
-use Rattle.exchange_defs.specs.Commands.{Command, Create, CreateRequest, Reconnect, form}
+use Rattle.exchange_defs.specs.Commands.{form}
 use Rattle.exchange_defs.specs.State.{Server, Message, Answer}
 use Rattle.exchange_defs.specs.Fold.{recovered}
 use Rattle.exchange_defs.specs.CheckSetup.{tree_in, is_new}
@@ -11,23 +10,22 @@ use Rattle.exchange_defs.specs.Table.{is_at}
 use Rattle.exchange_defs.specs.Check.{has_session}
 use Rattle.exchange_defs.specs.Operations.{Op, is_ok, share_of, content_op, id_in, durable_of, persists}
 use Rattle.exchange_defs.specs.Client.{Client, guid_for}
-use Rattle.exchange_defs.specs.Network.{World, Conn, Sent, Received, Token, ForDialog, ForOp, ForAttach, op_of, is_own, makes, answer}
+use Rattle.exchange_defs.specs.Network.{World, Sent, Token, ForDialog, ForOp, ForAttach, op_of, is_own, answer}
 use Rattle.exchange_defs.specs.Runs.{is_send_of}
-use Rattle.exchange_law.specs.Connections.{Connections, create_at, makes_open, its_request}
+use Rattle.exchange_law.specs.Connections.{Connections, create_at, makes_open}
 use Rattle.exchange_law.proofs.Lists.{front_up}
 use Rattle.exchange_law.proofs.Stays.{Beyond}
 use Rattle.server_law.specs.Fits.{Fits}
 use Rattle.recovery_law.specs.Restarted.{Restarted}
-use Rattle.session_law.specs.Sessions.{Sessions, is_ops, is_dialog}
+use Rattle.session_law.specs.Sessions.{Sessions, is_ops}
 use Rattle.create_law.specs.Creates.{Creates, seen}
 use Rattle.order_law.specs.Newest.{Pair, LowSequences}
-use Rattle.order_law.specs.Contents.{Contents, is_final, lists, edits, formed, file_at, last_id}
-use Rattle.order_law.proofs.Moved.{Steps}
+use Rattle.order_law.specs.Contents.{Contents, is_final, lists, edits, formed, file_at}
 use Rattle.order_law.proofs.Answers.{Facts, facts}
 use Rattle.order_law.proofs.Calm.{aloof}
 use Rattle.order_law.proofs.Served.{ListedFacts, listed_facts, AskedFacts, asked_facts}
-use Rattle.order_law.proofs.Writing.{Changing, changing, writes_to, given_of}
-use Rattle.order_law.proofs.Made.{Making, making, creates, asks_guid, asks_share, attaches}
+use Rattle.order_law.proofs.Writing.{changing, writes_to, given_of}
+use Rattle.order_law.proofs.Made.{making, creates, asks_guid, asks_share}
 use Rattle.order_law.proofs.Requests.{asks_of, ask_reads, ask_form, create_asks, formed_none, well_formed, writes_of, creates_op, makes_creates, dialog_other, ask_other}
 use Rattle.order_law.proofs.Tells.{tells}
 use Rattle.exchange_law.proofs.Run.{makes_one}
@@ -261,5 +259,5 @@ said w a k x0 rest is opn l t i =
         let us = (l.ss.open_users (file_at w.client p) st).0 in
         own_session (w.server.at (file_at w.client p)) x0.message.session
         ((asked_by p tk).refused bad del sa (guid_test (guid_for w.client (create_at w.client p)) _ ((fg.1 st).1 ∙ ap Some (sym (same_guid w.client (create_at w.client p)))))
-          (λ z. subst (λ u. same_name (w.server.opened (file_at w.client p)).user u ≡ true) (us ∙ sym (l.ss.session_users x0.message.session (there z))) (name_self (w.server.opened (file_at w.client p)).user)))
+        (λ z. subst (λ u. same_name (w.server.opened (file_at w.client p)).user u ≡ true) (us ∙ sym (l.ss.session_users x0.message.session (there z))) (name_self (w.server.opened (file_at w.client p)).user)))
         (λ y e. let at = l.cr.attached (file_at w.client p) y e in l.ss.present_accepted y at.1 at.0 ∙ (sym (l.ss.live_accepted (live_of (attach_of x0.token p tk))).0 ∙ sym (here (attach_of x0.token p tk))))

@@ -1,23 +1,21 @@
 -- A reply to an operation is taken, or to the DH2C in its place: it settles the operation, or leaves it to go out again, or
 -- attaches its open, or ends the session.
-use Rattle.std.proofs.lemmas.Bool.{eqb-false}
 use Rattle.std.proofs.lemmas.Bool.Decides.{nat_tests}
-use Rattle.std.proofs.Common.{eqb-true, ◌⊎◌, inl, inr, ◌≡◌, ◌≢◌, ℕ, ◌+◌, ◌≤◌, ◌<◌, ◌==◌, nat_lt, Bool, true, false, not, ◌&&◌, ◌||◌, if◌then◌else◌, List, [], ◌∷◌, refl, arith, sym, subst, ◌∙◌, ap, Option, Some, None, is_some, slice_get}
-use Rattle.exchange_defs.specs.Table.{put, put2, is_at}
+use Rattle.std.proofs.Common.{eqb-true, ◌⊎◌, inl, inr, ◌≡◌, ◌≢◌, ℕ, ◌≤◌, ◌<◌, ◌==◌, nat_lt, Bool, true, false, not, ◌&&◌, ◌||◌, if◌then◌else◌, [], refl, arith, sym, subst, ◌∙◌, ap, Option, Some, None, slice_get}
+use Rattle.exchange_defs.specs.Table.{put}
 use Rattle.exchange_defs.specs.Status.{success, file_not_available, file_closed, user_session_deleted, end_of_file, disk_full}
 use Rattle.exchange_defs.specs.Content.{ContentReply, is_listed, is_change}
-use Rattle.exchange_defs.specs.State.{Server, Reply, Body, Empty, Created, Count, Content}
-use Rattle.exchange_defs.specs.Operations.{Op, OpCreate, OpWrite, OpRead, OpEnd, OpTime, OpRename, OpRemove, OpLock, OpUnlock, OpFlush, OpStat, OpList, OpClose, Outcome, Unsettled, WasOk, WasRefused, NoSlot, NoOpen, Unknown, OpReply, is_unsettled, is_firm, is_ok, is_create, is_close, is_lock, is_change as changes, content_op, value_in, id_in}
-use Rattle.exchange_defs.specs.Client.{Client, create_for, guid_for, is_gone_after, end_session}
-use Rattle.exchange_defs.specs.Settling.{Heard, Settles, GoesAgain, Attaches, EndsSession, heard, hear, is_awaited, settle, settled, noted, noted_ok, noted_full, settles_open, with_no_opens, give_up_on, without_open, ok_or_unknown, refused, was_closed, may_have_acted, refuses_all, goes_again, answered, joined}
+use Rattle.exchange_defs.specs.State.{Server, Reply, Body}
+use Rattle.exchange_defs.specs.Operations.{Op, OpCreate, OpWrite, OpRead, OpEnd, OpTime, OpRename, OpRemove, OpLock, OpUnlock, OpFlush, OpStat, OpList, OpClose, Outcome, Unsettled, WasOk, WasRefused, NoSlot, NoOpen, Unknown, OpReply, is_unsettled, is_firm, is_ok, is_create, is_close, is_lock, is_change as changes, value_in, id_in}
+use Rattle.exchange_defs.specs.Client.{Client, create_for, is_gone_after}
+use Rattle.exchange_defs.specs.Settling.{Heard, Settles, GoesAgain, Attaches, EndsSession, heard, hear, is_awaited, settle, settled, noted, noted_full, settles_open, with_no_opens, give_up_on, without_open, ok_or_unknown, refused, was_closed, may_have_acted, refuses_all, goes_again, answered}
 use Rattle.exchange_defs.specs.ClientStep.{Nothing, act_heard}
 use Rattle.exchange_defs.specs.Order.{Log, Says_ok, Says_end, Says_other, Settled_ok, Settled_end}
 use Rattle.exchange_defs.specs.Runs.{settlement, content_of}
-use Rattle.exchange_defs.specs.Network.{World, Conn, Sent, Received, Token, ForDialog, ForOp, ForAttach, op_of, Trace, said, content_reply, op_took, closed_by, with_client, client_off}
+use Rattle.exchange_defs.specs.Network.{World, Conn, Sent, Received, ForOp, op_of, Trace, said, content_reply, op_took, closed_by, with_client}
 use Rattle.exchange_law.specs.Connections.{Connections, create_at, makes_open, its_create, copies, count_up, count_down, Bodies}
-use Rattle.exchange_law.proofs.Lists.{own_up_count, own_down_count, attach_down_count}
+use Rattle.exchange_law.proofs.Lists.{own_up_count, attach_down_count}
 use Rattle.exchange_law.proofs.Doors.{either}
-use Rattle.exchange_law.proofs.Answered.{answered_keeps as answered_connections}
 use Rattle.exchange_law.proofs.Settle.{settle_keeps as settle_connections}
 use Rattle.exchange_law.proofs.Run.{own_create, Noted, noted_keeps as noted_connections, full_keeps as full_connections, both_ways, own_for, makes_one, ok_is_settled, awaited_of, heard_again, heard_attaches, heard_ends, heard_firm, without_same, some_of}
 use Rattle.session_law.specs.Sessions.{is_ops}
@@ -41,7 +39,6 @@ line b1 b2 b3 asking x y = if b1 then EndsSession else if b2 then (if asking the
 
 line_settles : (b1 b2 b3 asking : Bool) (x y : Heard) (o : Outcome) → line b1 b2 b3 asking x y ≡ Settles o → b1 ≡ false × (asking ≡ true → b2 ≡ false) × (b2 ≡ false → b3 ≡ false)
 line_settles b1 b2 b3 asking x y o e = (grind arith, grind arith, grind arith)
-
 
 settles_by : (c : Client) (g : ℕ) (asking : Bool) (r : Reply) (o : Outcome) → heard c g asking r ≡ Settles o
     → (r.status == user_session_deleted) ≡ false × (asking ≡ true → (r.status == success) ≡ false) × ((r.status == success) ≡ false → goes_again c g asking r.status ≡ false)
@@ -209,8 +206,8 @@ dead c conns s t l a k g asking r place o cn i d he j n x h e ed fm sd pr le = b
     by_asking false q =
         by_status (r.status == file_closed) ⊥ (λ y. clash (s.standing (file_at c g)) sd (d.closed q ed (eqb-true r.status file_closed y)).0)
         (λ nc. by_status (r.status == file_not_available) ⊥
-          (λ y. clash (goes_again c g asking r.status) (again_of (c.op g) asking r.status (c.seq_of g) c.sequence q (changes_edit (c.op g) ed) y (d.stale q ed (eqb-true r.status file_not_available y))) (st.2 (stale_other r.status y)))
-          (λ nf. let p = d.reached q ed fm (final_of r.status st.0 nc nf) in let z = (p.0 sd (subst (λ y. s.present y ≡ true) here pr)).1 in let w = older (d.asks ∙ q) in absurd (omega (arith, z, w, le))))
+        (λ y. clash (goes_again c g asking r.status) (again_of (c.op g) asking r.status (c.seq_of g) c.sequence q (changes_edit (c.op g) ed) y (d.stale q ed (eqb-true r.status file_not_available y))) (st.2 (stale_other r.status y)))
+        (λ nf. let p = d.reached q ed fm (final_of r.status st.0 nc nf) in let z = (p.0 sd (subst (λ y. s.present y ≡ true) here pr)).1 in let w = older (d.asks ∙ q) in absurd (omega (arith, z, w, le))))
       where
         stale_other : (status : ℕ) → (status == file_not_available) ≡ true → (status == success) ≡ false
         stale_other status e = subst (λ q. (q == success) ≡ false) (sym (eqb-true status file_not_available e)) refl
@@ -278,8 +275,8 @@ opened_create c conns s t l a k g asking r place cn i d u own_g pair =
     (λ j n p x h e ed. not_own c conns a g p cn u (cn.bodies j n p x h e).0 ed)
     (λ j n p y h e ed. not_own c conns a g p cn u (cn.sent_replies j n p y h e) ed)
     (λ j n p y h e. let o = open_down c conns a cn j n y h in let one = attach_down_count p (conns j).down n y h e in
-      let at = cn.outstanding j p o (more j p one) (subst (λ q. 0 < q) (ap op_of e) (i.token_down j n y h (attach_of y.token p e)).0) in
-      not_asked c conns a g p u (d.asks ∙ own_g) (cn.asked_open p (some_of (c.on p) j at)) (cn.attach_down j n p y h o e))
+    let at = cn.outstanding j p o (more j p one) (subst (λ q. 0 < q) (ap op_of e) (i.token_down j n y h (attach_of y.token p e)).0) in
+    not_asked c conns a g p u (d.asks ∙ own_g) (cn.asked_open p (some_of (c.on p) j at)) (cn.attach_down j n p y h o e))
     (λ p ed f. not_own c conns a g p cn u (sent_of (c.sent p) (l.first p) (λ z. (i.fresh_first p z).0) f) ed)
     i
   where
@@ -295,16 +292,16 @@ marks c conns s t l a k g asking r place cn i d u (WasOk v) he =
     let P : Client → Type 0 = λ e. Marked c e conns s t l a g (WasOk v) in
     either P (is_create (c.op g)) _ _
     (λ cr. let b = ok_by c g asking r (WasOk v) he refl (create_closes (c.op g) cr) in let q = d.create_reply b.1 (create_makes (c.op g) cr) b.0 in
-      record {
-        holds = opened_create c conns s t l a k g asking r place cn i d u b.1 (q.0, q.1);
-        op = refl;
-        outcome = refl;
-        file = λ ed. absurd (create_edits (c.op g) cr ed);
-        made = λ mk ok. q.2 ∙ ap Some (sym (put_here c.file g (id_in r.body)));
-      })
+    record {
+      holds = opened_create c conns s t l a k g asking r place cn i d u b.1 (q.0, q.1);
+      op = refl;
+      outcome = refl;
+      file = λ ed. absurd (create_edits (c.op g) cr ed);
+      made = λ mk ok. q.2 ∙ ap Some (sym (put_here c.file g (id_in r.body)));
+    })
     (λ cr. either P (is_close (c.op g)) _ _
-      (λ _. record { holds = shuts_keeps c conns s t l a (create_for c g) i; op = refl; outcome = refl; file = λ _. refl; made = λ mk ok. absurd (other_makes (c.op g) cr mk) })
-      (λ _. record { holds = i; op = refl; outcome = refl; file = λ _. refl; made = λ mk ok. absurd (other_makes (c.op g) cr mk) }))
+    (λ _. record { holds = shuts_keeps c conns s t l a (create_for c g) i; op = refl; outcome = refl; file = λ _. refl; made = λ mk ok. absurd (other_makes (c.op g) cr mk) })
+    (λ _. record { holds = i; op = refl; outcome = refl; file = λ _. refl; made = λ mk ok. absurd (other_makes (c.op g) cr mk) }))
 marks c conns s t l a k g asking r place cn i d u Unsettled he = same_marked c conns s t l a g Unsettled refl i
 marks c conns s t l a k g asking r place cn i d u (WasRefused status) he = same_marked c conns s t l a g (WasRefused status) refl i
 marks c conns s t l a k g asking r place cn i d u (NoSlot create) he = same_marked c conns s t l a g (NoSlot create) refl i
@@ -432,14 +429,14 @@ settles c conns s t l a k g asking r place o cn i d u he =
     by_marked e n m firm =
         let opg : e.op g ≡ c.op g = ap (λ f. f g) m.op in
         let h : Contents (settled e g o place) conns s t l a =
-          settle_keeps e conns s t l a g place o (ap (λ f. is_unsettled (f g)) m.outcome ∙ u) d.above firm d.within d.who d.since
-          (λ v ls st. says_ok c conns s t l k g asking r place o d he v (subst (λ p. lists p ≡ true) opg ls) (subst (λ p. settlement p o ≡ Settled_ok v) opg st))
-          (λ st. says_end c conns s t l k g asking r place o d he (subst (λ p. settlement p o ≡ Settled_end) opg st))
-          (λ mk ok. m.made (subst (λ p. makes_open p ≡ true) opg mk) ok)
-          (λ j q x hx tk ed fm sd pr le. let ed2 : edits (c.op g) ≡ true = subst (λ p. edits p ≡ true) opg ed in
-            let fl : file_at e g ≡ file_at c g = ap (λ f. f (its_create g (e.op g))) (m.file ed2) ∙ ap (λ p. c.file (its_create g p)) opg in
-            dead c conns s t l a k g asking r place o cn i d he j q x hx tk ed2 (subst (λ p. formed p ≡ true) opg fm) (subst (λ f. s.standing f ≡ true) fl sd) pr (subst (λ f. s.sequence f ≤ x.message.sequence) fl le))
-          m.holds in
+        settle_keeps e conns s t l a g place o (ap (λ f. is_unsettled (f g)) m.outcome ∙ u) d.above firm d.within d.who d.since
+        (λ v ls st. says_ok c conns s t l k g asking r place o d he v (subst (λ p. lists p ≡ true) opg ls) (subst (λ p. settlement p o ≡ Settled_ok v) opg st))
+        (λ st. says_end c conns s t l k g asking r place o d he (subst (λ p. settlement p o ≡ Settled_end) opg st))
+        (λ mk ok. m.made (subst (λ p. makes_open p ≡ true) opg mk) ok)
+        (λ j q x hx tk ed fm sd pr le. let ed2 : edits (c.op g) ≡ true = subst (λ p. edits p ≡ true) opg ed in
+        let fl : file_at e g ≡ file_at c g = ap (λ f. f (its_create g (e.op g))) (m.file ed2) ∙ ap (λ p. c.file (its_create g p)) opg in
+        dead c conns s t l a k g asking r place o cn i d he j q x hx tk ed2 (subst (λ p. formed p ≡ true) opg fm) (subst (λ f. s.standing f ≡ true) fl sd) pr (subst (λ f. s.sequence f ≤ x.message.sequence) fl le))
+        m.holds in
         either (λ e. Contents e conns s t l a) (settles_open (c.op g)) (with_no_opens (settled e g o place) (create_for c g)) (settled e g o place)
         (λ _. no_opens (settled e g o place) conns s t l a (create_for c g) (settle_connections e conns a k g place o (ap (λ f. f g) n.on ∙ d.on) d.none firm n.keeps).bodies h)
         (λ _. h)

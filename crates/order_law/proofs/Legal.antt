@@ -1,12 +1,11 @@
 -- The order of an open that denies writers is legal, from what holds by places.
-use Rattle.std.proofs.Common.{eqb-true, ◌≡◌, ◌≢◌, ℕ, ◌+◌, ◌≤◌, ◌<◌, ◌==◌, Bool, true, false, not, ◌&&◌, ◌||◌, if◌then◌else◌, List, [], refl, arith, sym, subst, ◌∙◌, ap, Option, Some, None, is_some}
+use Rattle.std.proofs.Common.{eqb-true, ◌≡◌, ℕ, ◌+◌, ◌≤◌, ◌<◌, ◌==◌, Bool, true, false, ◌&&◌, refl, arith, sym, subst, ◌∙◌, ap, Option, Some, None, is_some}
 use Rattle.exchange_defs.specs.Table.{is_at as is_at_option}
-use Rattle.exchange_defs.specs.Content.{ContentOp, ContentReply, effect, value, past_end, is_change, is_listed}
-use Rattle.exchange_defs.specs.Order.{Account, Settlement, Settled_ok, Settled_end, Says_ok, Says_end, placed, place, is_of, is_firm as is_firm_settlement, order_of, bytes_at_birth, bytes_at_last, Legal}
-use Rattle.exchange_defs.specs.Opens.{denies_writers}
-use Rattle.exchange_defs.specs.Operations.{Op, Outcome, Unsettled, WasOk, WasRefused, NoSlot, NoOpen, Unknown, is_create, is_ok, is_firm, is_read, share_of, create_of, content_op}
+use Rattle.exchange_defs.specs.Content.{effect, value, past_end, is_listed}
+use Rattle.exchange_defs.specs.Order.{placed, is_of, is_firm as is_firm_settlement}
+use Rattle.exchange_defs.specs.Operations.{Op, Outcome, Unsettled, WasOk, WasRefused, NoSlot, NoOpen, Unknown, is_create, is_ok, is_firm, create_of, content_op}
 use Rattle.exchange_defs.specs.Network.{World}
-use Rattle.exchange_defs.specs.Runs.{account, isolates, stands_open, settlement}
+use Rattle.exchange_defs.specs.Runs.{account, isolates, settlement}
 use Rattle.exchange_defs.specs.Statements.{OneConnections, BytesNow}
 use Rattle.exchange_defs.proofs.Order.{PlaceFacts, legal}
 use Rattle.exchange_law.specs.Connections.{makes_open, its_create, create_at}

@@ -1,21 +1,21 @@
 -- What the checks have looked at for a read, a write or an end, and for a request to attach an open.
-use Rattle.std.proofs.Common.{◌≡◌, ◌≢◌, ℕ, ◌==◌, ◌+◌, ◌-◌, nat_le, nat_lt, min, Bool, true, false, not, ◌&&◌, ◌||◌, if◌then◌else◌, List, [], ◌∷◌, refl, sym, subst, ◌∙◌, ap, arith, Option, Some, None, is_some, length, take, drop}
+use Rattle.std.proofs.Common.{◌≡◌, ◌≢◌, ℕ, ◌==◌, ◌+◌, nat_lt, Bool, true, false, not, ◌&&◌, ◌||◌, if◌then◌else◌, List, refl, sym, subst, ◌∙◌, ap, arith, Option, Some, None, is_some, length, take, drop}
 use Rattle.std.proofs.lemmas.Bool.Decides.{nat_tests}
 use Rattle.exchange_defs.specs.Table.{is_at}
 use Rattle.exchange_defs.specs.Texts.{same_name}
-use Rattle.exchange_defs.specs.Status.{success, user_session_deleted, network_name_deleted, file_closed, file_not_available, end_of_file, access_denied, invalid_device_request, file_lock_conflict, disk_full}
-use Rattle.exchange_defs.specs.Content.{ContentOp, Write as Writes, Read as Reads, SetEnd as Ends, Still, ContentReply, Counted, Gives, Done, is_change, effect, value, past_end, written, ended, is_empty, same_bytes}
+use Rattle.exchange_defs.specs.Status.{success, user_session_deleted, file_closed, file_not_available, end_of_file, access_denied, invalid_device_request, file_lock_conflict, disk_full}
+use Rattle.exchange_defs.specs.Content.{ContentOp, Write as Writes, Read as Reads, SetEnd as Ends, Still, Counted, Gives, Done, is_change, effect, value, past_end, written, ended, is_empty, same_bytes}
 use Rattle.exchange_defs.proofs.Content.{same_bytes-true, same_bytes-refl, written-empty}
 use Rattle.exchange_defs.specs.Commands.{Command, Read, Write, SetInfo, SetEnd, Create, CreateRequest, Reconnect, form, is_setup}
-use Rattle.exchange_defs.specs.State.{Server, Message, Body, Empty, Content, Count}
+use Rattle.exchange_defs.specs.State.{Server, Message, Body, Empty, Count}
 use Rattle.exchange_defs.specs.Files.{is_directory, passes_room}
 use Rattle.exchange_defs.specs.Ranges.{may_read, may_write}
 use Rattle.exchange_defs.specs.Opens.{is_of_session}
-use Rattle.exchange_defs.specs.Verdict.{Verdict, Refuse, Give, KeepRefusal, Repeat, Attach, Make, TurnDown, Tell, Show, KeepSlot, PutRanges, Alter, Shut, Challenge, ChallengeBinding, Begin, Join, EndSession, AddTree, DropTree, Change, PutBytes, PutEnd, PutBasic, PutMark, PutPath, PutNothing}
+use Rattle.exchange_defs.specs.Verdict.{Verdict, Refuse, Give, KeepRefusal, Repeat, Attach, Make, TurnDown, Tell, Show, KeepSlot, PutRanges, Alter, Shut, Challenge, ChallengeBinding, Begin, Join, EndSession, AddTree, DropTree, Change, PutBytes, PutEnd, PutNothing}
 use Rattle.exchange_defs.specs.CheckCreate.{has_guid, reconnect_check, reconnect_or_create}
-use Rattle.exchange_defs.specs.CheckOpen.{is_late, file_of, has_access, changes_nothing, alter, bytes_change, timely_write, write_check, read_check, there, size_change, set_check}
+use Rattle.exchange_defs.specs.CheckOpen.{is_late, file_of, has_access, changes_nothing, alter, bytes_change, write_check, read_check, there, set_check}
 use Rattle.exchange_defs.specs.CheckSetup.{tree_in}
-use Rattle.exchange_defs.specs.Check.{has_session, on_open, tree_command, in_tree, with_tree, command_check, formed, owed, check}
+use Rattle.exchange_defs.specs.Check.{has_session, tree_command, in_tree, with_tree, command_check, formed, owed, check}
 use Rattle.exchange_defs.specs.Step.{without_room}
 use Rattle.exchange_defs.specs.Network.{content_reply}
 use Rattle.exchange_law.proofs.Doors.{either}
@@ -101,8 +101,19 @@ altered : (s : Server) (m : Message) (op : ContentOp) (o : ℕ) (change : Change
 altered s m op o change body fm on late ed file reply after nothing before =
     either (Listed s m op o) (m.replay && (not (is_directory s (file_of s o)) && changes_nothing s (file_of s o) change)) _ _
     (λ e. record { is = record { its = refl; on = on; in_time = λ z. late; reply = reply; same = same_bytes-true (effect op (bytes_of s o)) (bytes_of s o) (sym nothing ∙ true_back (not (is_directory s (file_of s o))) _ (true_back m.replay _ e)); before = before } })
-    (λ e. record { is = record { its = refl; on = on; late = late; form = fm; edit = ed; reply = reply; after = after; before = before;
-      again = λ r. differs (sym nothing ∙ none_front (not (is_directory s (file_of s o))) _ (none_front m.replay _ e r) (of_not _ file)) } })
+    (λ e. record {
+      is = record {
+        its = refl;
+        on = on;
+        late = late;
+        form = fm;
+        edit = ed;
+        reply = reply;
+        after = after;
+        before = before;
+        again = λ r. differs (sym nothing ∙ none_front (not (is_directory s (file_of s o))) _ (none_front m.replay _ e r) (of_not _ file));
+      };
+    })
   where
     differs : same_bytes (effect op (bytes_of s o)) (bytes_of s o) ≡ false → effect op (bytes_of s o) ≡ bytes_of s o → ⊥
     differs f e = absurd (let z = subst (λ b. same_bytes b (bytes_of s o) ≡ true) (sym e) (same_bytes-refl (bytes_of s o)) in grind arith)
@@ -182,9 +193,9 @@ listed_read s m o at n on =
     (λ _. either (Listed s m (Reads at n) o) (is_directory s (file_of s o)) _ _ (λ _. down s m (Reads at n) o invalid_device_request on idle refl refl refl refl)
     (λ _. either (Listed s m (Reads at n) o) (not (may_read (s.ranges (file_of s o)) o at n)) _ _ (λ _. down s m (Reads at n) o file_lock_conflict on idle refl refl refl refl)
     (λ _. either (Listed s m (Reads at n) o) (not (n == 0) && not (nat_lt at (length (s.content (file_of s o))))) _ _
-      (λ e. record { is = record { its = refl; on = on; in_time = idle; ok = refl; end = λ z. r.2 ∙ e; closed = refl; stale = refl } })
+    (λ e. record { is = record { its = refl; on = on; in_time = idle; ok = refl; end = λ z. r.2 ∙ e; closed = refl; stale = refl } })
     (λ e. either (Listed s m (Reads at n) o) (nat_lt (there s (file_of s o) at n) 0) _ _ (λ z. absurd (no_less (there s (file_of s o) at n) z))
-      (λ _. record { is = record { its = refl; on = on; in_time = idle; reply = r.0; same = r.1; before = r.2 ∙ e } })))))
+    (λ _. record { is = record { its = refl; on = on; in_time = idle; reply = r.0; same = r.1; before = r.2 ∙ e } })))))
 
 -- ---- whatever comes before an open is looked at
 

@@ -1,8 +1,6 @@
 -- What the layers below say of every run.
-use Rattle.exchange_defs.specs.State.{Server}
-use Rattle.exchange_defs.specs.Network.{Event, Settings, run, start}
+use Rattle.exchange_defs.specs.Network.{Settings}
 use Rattle.exchange_defs.specs.Statements.{Newer}
-use Rattle.std.proofs.Common.{List}
 use Rattle.server_law.proofs.Run.{fitting}
 use Rattle.session_law.proofs.Always.{sessions, stored}
 use Rattle.order_law.specs.Newest.{BelowAll}

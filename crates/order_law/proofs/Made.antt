@@ -1,27 +1,27 @@
 -- Which opens an answer makes: a create's alone, with the guid and the share access that it asked for.
 use Rattle.std.proofs.lemmas.Bool.{eqb-false}
-use Rattle.std.proofs.Common.{eqb-true, ◌⊎◌, inl, inr, ◌≡◌, ◌≢◌, ℕ, ◌+◌, ◌*◌, ◌≤◌, ◌<◌, ◌==◌, nat_le, Bool, true, false, not, ◌&&◌, ◌||◌, if◌then◌else◌, List, refl, arith, sym, subst, ◌∙◌, ap, Option, Some, None, is_some}
-use Rattle.exchange_defs.specs.Table.{put, put2, is_at}
+use Rattle.std.proofs.Common.{eqb-true, ◌⊎◌, inl, inr, ◌≡◌, ◌≢◌, ℕ, ◌≤◌, ◌<◌, ◌==◌, nat_le, Bool, true, false, not, ◌&&◌, ◌||◌, List, refl, arith, sym, subst, ◌∙◌, ap, Option, Some, None, is_some}
+use Rattle.exchange_defs.specs.Table.{put, is_at}
 use Rattle.exchange_defs.specs.Texts.{same_name}
 use Rattle.exchange_defs.specs.Commands.{Command, Aside, Unreadable, Setup, Logoff, TreeConnect, TreeDisconnect, Create, Close, Flush, Read, Write, Lock, Ioctl, ListDirectory, QueryFile, QueryVolume, SetInfo, CreateRequest, Durable, Reconnect, deletes_on_close, form, is_setup}
-use Rattle.exchange_defs.specs.State.{Server, Message, Heard, Record, Answer, Body, Open}
+use Rattle.exchange_defs.specs.State.{Server, Message, Heard, Record, Answer}
 use Rattle.exchange_defs.specs.Files.{find}
 use Rattle.exchange_defs.specs.Opens.{id_of, deletes, mapped, with_guid}
 use Rattle.exchange_defs.specs.Operations.{id_in}
-use Rattle.exchange_defs.specs.CheckCreate.{shares, keeps_guid, max_guids, is_counted_out, has_guid, refused_by, refused_create, after_names, share_names, new_check, live_check, refusal_check, guid_check, reconnect_check, durable_check, reconnect_or_create}
+use Rattle.exchange_defs.specs.CheckCreate.{shares, keeps_guid, max_guids, is_counted_out, has_guid, refused_by, after_names, share_names, new_check, live_check, refusal_check, guid_check, reconnect_check, durable_check, reconnect_or_create}
 use Rattle.exchange_defs.specs.CheckSetup.{tree_in}
-use Rattle.exchange_defs.specs.Check.{has_session, tree_command, in_tree, with_tree, command_check, formed, owed, check}
-use Rattle.exchange_defs.specs.Effects.{apply, reach, attached, file_made, make_open, next_open, guid_of, set_ranges, keep_slot, end_if_named}
+use Rattle.exchange_defs.specs.Check.{has_session, tree_command, in_tree, command_check, formed, owed, check}
+use Rattle.exchange_defs.specs.Effects.{apply, reach, attached, file_made, make_open, next_open, guid_of, set_ranges}
 use Rattle.exchange_defs.specs.CheckOpen.{file_of}
 use Rattle.exchange_defs.specs.Verdict.{Verdict, Refuse, Give, KeepRefusal, Repeat, Attach, Make, TurnDown, Tell, Show, KeepSlot, PutRanges, Alter, Shut, Challenge, ChallengeBinding, Begin, Join, EndSession, AddTree, DropTree}
 use Rattle.exchange_defs.specs.Step.{step, without_room}
 use Rattle.exchange_defs.specs.Network.{answer_to}
-use Rattle.exchange_law.proofs.Doors.{either, by_verdict, recorded, Before, Finds}
+use Rattle.exchange_law.proofs.Doors.{either, by_verdict, recorded, Finds}
 use Rattle.server_law.specs.Fits.{Fits}
-use Rattle.server_law.proofs.Found.{Facts as Found, MakeFacts}
+use Rattle.server_law.proofs.Found.{Facts as Found}
 use Rattle.server_law.proofs.Checked.{found}
 use Rattle.order_law.specs.Newest.{Pair, LowSequences}
-use Rattle.order_law.proofs.Pairs.{Moves, file_alike, slot_alike, change_alike, reach_moves, attached_moves, shut_moves, end_moves, end_named_moves, moves_on, moves_alike}
+use Rattle.order_law.proofs.Pairs.{Moves, file_alike, slot_alike, change_alike, reach_moves, attached_moves, shut_moves, end_moves, end_named_moves}
 use Rattle.order_law.proofs.Answers.{Earlier, earlier, Given, given_behind}
 use Rattle.order_law.proofs.Served.{joined}
 use Rattle.order_law.proofs.Writing.{fits_before, given_of}
@@ -231,9 +231,9 @@ make_making s m r found action now e nr =
         by_durable (Some g) k h =
             elim (p == m.client) as (λ b. p == m.client ≡ b → (s.by_guid p q ≡ Some o) ⊎ (creates m.command ≡ true × (apply s m now (Make r found action)).acted ≡ true × (apply s m now (Make r found action)).reached ≡ Some o × p ≡ m.client × asks_guid m.command ≡ Some q)) [
               | true ↦ λ zp. elim (q == g) as (λ b. q == g ≡ b → (s.by_guid p q ≡ Some o) ⊎ (creates m.command ≡ true × (apply s m now (Make r found action)).acted ≡ true × (apply s m now (Make r found action)).reached ≡ Some o × p ≡ m.client × asks_guid m.command ≡ Some q)) [
-                  | true ↦ λ zq. let pe : p ≡ m.client = eqb-true p m.client zp in let qe : q ≡ g = eqb-true q g zq in inr (ap creates e, refl, grind arith, pe, ap asks_guid e ∙ (k ∙ ap Some (sym qe)))
-                  | false ↦ λ zq. let qe : q ≢ g = eqb-false q g zq in inl (grind arith)
-                ] refl
+                | true ↦ λ zq. let pe : p ≡ m.client = eqb-true p m.client zp in let qe : q ≡ g = eqb-true q g zq in inr (ap creates e, refl, grind arith, pe, ap asks_guid e ∙ (k ∙ ap Some (sym qe)))
+                | false ↦ λ zq. let qe : q ≢ g = eqb-false q g zq in inl (grind arith)
+              ] refl
               | false ↦ λ zp. let pe : p ≢ m.client = eqb-false p m.client zp in inl (grind arith)
             ] refl
 
@@ -326,7 +326,7 @@ making_step : (s : Server) (now : ℕ) (m : Message) → Fits s → LowSequences
 making_step s now m f low l =
     by_verdict (Making s m) s now m
     (λ t v records b h. let k = earlier s now t b in let ft = fits_before s now m t b f in
-      making_recorded s m _ records (making_before s t m _ k (verdict_making t m now (given_behind s t m (given_of s m f low l) k) (λ o st. (ft.open_ids o st).0) v (found t m v h) (λ c. let r = creates_of m.command c in found_creation t m v r.0 r.1 h))))
+    making_recorded s m _ records (making_before s t m _ k (verdict_making t m now (given_behind s t m (given_of s m f low l) k) (λ o st. (ft.open_ids o st).0) v (found t m v h) (λ c. let r = creates_of m.command c in found_creation t m v r.0 r.1 h))))
 
 pub making : (s : Server) (now : ℕ) (m : Message) (c : Command) → c ≡ m.command → Fits s → LowSequences s → m.sequence ≤ 32767 → Making s m (answer_to s now m c)
 making s now m (Aside status) e f low l = none_made s m _ (less_same s s refl refl) (λ c. refl) (λ c. absurd (let z = ap creates e in grind arith))

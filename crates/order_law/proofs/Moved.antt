@@ -1,5 +1,5 @@
 -- What the server does from one state to the next, as far as opens, sessions and bytes go.
-use Rattle.std.proofs.Common.{◌≡◌, ℕ, ◌≤◌, ◌<◌, true, refl, arith, Option, Some}
+use Rattle.std.proofs.Common.{◌≡◌, ℕ, ◌≤◌, ◌<◌, true, arith, Some}
 use Rattle.exchange_defs.specs.State.{Server}
 use Rattle.order_law.specs.Newest.{Pair}
 use Rattle.order_law.specs.Contents.{last_id}

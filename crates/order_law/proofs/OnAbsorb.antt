@@ -1,28 +1,25 @@
 -- The server takes the front of a connection.
 use Rattle.std.proofs.lemmas.Bool.{eqb-false}
-use Rattle.std.proofs.lemmas.Bool.Decides.{nat_tests}
-use Rattle.std.proofs.Common.{eqb-true, ◌≡◌, ◌≢◌, ℕ, ◌+◌, ◌≤◌, ◌<◌, ◌==◌, Bool, true, false, not, ◌&&◌, ◌||◌, if◌then◌else◌, List, [], ◌∷◌, ◌++◌, ◌⊎◌, inl, inr, refl, arith, sym, subst, ◌∙◌, ap, Option, Some, None, slice_get, is_some, zero, suc}
+use Rattle.std.proofs.Common.{eqb-true, ◌≡◌, ◌≢◌, ℕ, ◌+◌, ◌≤◌, ◌<◌, ◌==◌, Bool, true, false, ◌&&◌, ◌||◌, if◌then◌else◌, List, [], ◌∷◌, ◌⊎◌, inl, inr, refl, arith, sym, subst, ◌∙◌, ap, Option, Some, None, slice_get, is_some}
 use Rattle.exchange_defs.specs.Table.{put, is_at}
-use Rattle.exchange_defs.specs.Status.{success, file_not_available, file_closed, user_session_deleted, end_of_file}
-use Rattle.exchange_defs.specs.Content.{ContentOp, ContentReply, is_change, effect, value, past_end, is_listed, collides}
+use Rattle.exchange_defs.specs.Status.{success, end_of_file}
+use Rattle.exchange_defs.specs.Content.{ContentReply, is_change, effect, value, past_end, is_listed, collides}
 use Rattle.exchange_defs.proofs.Content.{effect-twice, effect-kept, collides_comm}
-use Rattle.exchange_defs.specs.Order.{Log, Said, Says_ok, Says_end, Says_other, Settled_ok, Settled_end}
-use Rattle.exchange_defs.specs.Opens.{denies_writers, writes}
-use Rattle.exchange_defs.specs.State.{Server, Message, Reply, Answer}
+use Rattle.exchange_defs.specs.Order.{Log, Says_ok, Says_end}
+use Rattle.exchange_defs.specs.Opens.{denies_writers}
+use Rattle.exchange_defs.specs.State.{Server, Reply, Answer}
 use Rattle.exchange_defs.specs.Operations.{Op, Outcome, is_unsettled, is_firm, is_ok, id_in, share_of, content_op}
 use Rattle.exchange_defs.specs.Client.{Client, AskedTree, guid_for}
-use Rattle.exchange_defs.specs.Runs.{settlement, is_send_of}
+use Rattle.exchange_defs.specs.Runs.{is_send_of}
 use Rattle.exchange_defs.specs.Network.{Conn, Sent, Received, Trace, Token, ForDialog, ForOp, ForAttach, op_of, is_own, makes, said, content_reply, behind_front, bytes_behind}
-use Rattle.exchange_law.specs.Connections.{create_at, makes_open, its_create, no_copy_out, copies, count_up, count_down, Once, Outstanding as ConnOutstanding, OwnUp, DownOpen, Bodies, HasOpen}
+use Rattle.exchange_law.specs.Connections.{create_at, makes_open, copies, count_up, Once, Outstanding as ConnOutstanding, OwnUp, DownOpen, Bodies}
 use Rattle.exchange_law.proofs.Lists.{own_up_count, own_down_count, front_up, waited}
 use Rattle.session_law.specs.Sessions.{is_ops}
-use Rattle.order_law.specs.Newest.{Pair}
-use Rattle.order_law.specs.Contents.{Contents, edits, lists, formed, isolating, clashes, bytes_after, reply_to, ends_before, file_at, pends, last_id, is_final, TokenUp, TokenDown, OpensUp, AskedAs, LostUnknown, LostDead, LostKnown, LostAsked, SessionKnown, SessionAsked, Pairwise, FirstUp, Unacted, FreshFirst, NotDone, CutSeq, OpenSeq, Older, NoReplay, CopyPair, NowPair, CreateReply, AttachReply, Reached, ClosedReply, AttachRefused, StaleReply, SessionSeq, PendingAt, LiveUnsettled, LiveReplay, Shows, Denied, OpenOf, NamedOpen, OpenGiven, OpenRow, OpenActed, Bytes, Quiet, Foreign, Acted, Gave, GaveEnd, Whose, Born, BirthLe, FirstAt, By, ByOk, ByEnd, BySome, Replies, AttachStatus, SinceLe, SinceReply, SinceBy, SinceFirst, Prior, PriorBy, PriorFirst}
-use Rattle.order_law.proofs.Moved.{Steps, live_back}
-use Rattle.order_law.proofs.Words.{ops_of, attach_of, put_other, put_self, put_old, split, still_gone, sent_of, firm_settled, ok_settled, edits_other, some_of}
-use Rattle.order_law.proofs.Served.{ListedFacts}
-use Rattle.order_law.proofs.Writing.{Changing, Writer, writes_to}
-use Rattle.order_law.proofs.Made.{Making, creates, asks_guid, asks_share}
+use Rattle.order_law.specs.Contents.{Contents, edits, lists, formed, isolating, clashes, bytes_after, reply_to, ends_before, file_at, pends, last_id, TokenUp, TokenDown, OpensUp, AskedAs, LostUnknown, Pairwise, FirstUp, Unacted, FreshFirst, NotDone, CutSeq, OpenSeq, Older, NoReplay, CopyPair, NowPair, CreateReply, AttachReply, Reached, ClosedReply, AttachRefused, StaleReply, SessionSeq, PendingAt, LiveUnsettled, LiveReplay, Shows, Denied, OpenOf, NamedOpen, OpenGiven, OpenRow, OpenActed, Bytes, Quiet, Foreign, Acted, Gave, GaveEnd, Whose, Born, BirthLe, FirstAt, By, ByOk, ByEnd, Replies, AttachStatus, SinceLe, SinceReply, SinceFirst, Prior, PriorFirst}
+use Rattle.order_law.proofs.Moved.{live_back}
+use Rattle.order_law.proofs.Words.{ops_of, attach_of, put_self, put_old, split, still_gone, sent_of, firm_settled, edits_other, some_of}
+use Rattle.order_law.proofs.Writing.{Writer}
+use Rattle.order_law.proofs.Made.{creates, asks_guid, asks_share}
 use Rattle.order_law.proofs.Taking.{Taking, new_trace, new_log, new_acts, own_of, made_own, makes_it, open_kept, open_was, first_was, first_none, first_kept, first_new, birth_kept, made_before, bytes_old, bytes_new, behind_standing, behind_left}
 
 abbrev Front : (ℕ → Conn) → ℕ → List Sent → ℕ → Conn
@@ -73,7 +70,6 @@ down_is_open conns d j n y h = by_test (conns j).client_open refl
 reply_twin : (conns : ℕ → Conn) (k : ℕ) (x0 : Sent) (rest : List Sent) (j n g : ℕ) (y : Received) → Once conns → (conns k).up ≡ x0 ∷ rest → x0.token ≡ ForOp g → slice_get (conns j).down n ≡ Some y → y.token ≡ ForOp g → j ≡ k → ⊥
 reply_twin conns k x0 rest j n g y once is t h u e =
     absurd (let one = once k g in let a = own_up_count g (conns k).up 0 x0 (front_up (conns k).up x0 rest is) t in let b = own_down_count g (conns k).down n y (subst (λ i. slice_get (conns i).down n ≡ Some y) e h) u in omega (arith, one, a, b))
-
 
 -- ---- the words on operations, read back
 
@@ -171,7 +167,7 @@ acting : (c : Client) (conns : ℕ → Conn) (s : Server) (t : Trace) (l : Log) 
 acting c conns s t l k x0 rest A g w live replay shows is tk ls ac iso =
     let a = acts_of c s t x0 A g w tk ls ac in let f = w.listed g tk ls in
     none_of (l.first g) (λ so. f.again ac (replay k 0 g x0 (front_up (conns k).up x0 rest is) tk a.edit a.stands a.there a.newest so)
-      (sym (after_is (c.op g) _) ∙ shows g a.edit iso a.stands (acting_pends c conns s k x0 rest A g live is tk a) so))
+    (sym (after_is (c.op g) _) ∙ shows g a.edit iso a.stands (acting_pends c conns s k x0 rest A g live is tk a) so))
 
 -- ---- the bytes under an open that denies writers
 
@@ -214,9 +210,10 @@ unmoved c s t l x0 A q o w given bytes e f =
 -- and where its own open was written to
 moved : (c : Client) (s : Server) (t : Trace) (l : Log) (x0 : Sent) (A : Answer) (g : ℕ) → Taking c s t x0 A → Its c s t g → Bytes s t l → s.standing (file_at c g) ≡ true → A.server.standing (file_at c g) ≡ true
     → (new_log c t l x0 A).bytes (create_at c g) (l.places + 1) ≡ A.server.content (s.opened (file_at c g)).file × (new_log c t l x0 A).bytes (create_at c g) l.places ≡ s.content (s.opened (file_at c g)).file
-moved c s t l x0 A g w its bytes st sa =
-    (bytes_new c t l x0 A (create_at c g) ∙ (behind_standing A.server _ (file_at c g) (l.bytes (create_at c g) l.places) (open_kept c t l x0 A (create_at c g) (file_at c g) w.remade its.named) sa ∙ ap (λ r. A.server.content r.file) (w.steps.row (file_at c g) its.given sa)),
-    bytes_old c t l x0 A (create_at c g) l.places (omega arith) ∙ bytes (create_at c g) (file_at c g) its.named st)
+moved c s t l x0 A g w its bytes st sa = (
+  bytes_new c t l x0 A (create_at c g) ∙ (behind_standing A.server _ (file_at c g) (l.bytes (create_at c g) l.places) (open_kept c t l x0 A (create_at c g) (file_at c g) w.remade its.named) sa ∙ ap (λ r. A.server.content r.file) (w.steps.row (file_at c g) its.given sa)),
+  bytes_old c t l x0 A (create_at c g) l.places (omega arith) ∙ bytes (create_at c g) (file_at c g) its.named st,
+)
 
 -- ---- what the reply said
 
@@ -248,14 +245,16 @@ absorb_asked_as c conns s t l a k x0 rest A is i_asked_as =
 
 absorb_first_up : (c : Client) (conns : ℕ → Conn) (s : Server) (t : Trace) (l : Log) (a : ℕ → ℕ) (k : ℕ) (x0 : Sent) (rest : List Sent) (A : Answer) → ((conns k).up ≡ x0 ∷ rest) → (Once conns) → (ConnOutstanding c conns) → FirstUp c conns l → TokenUp c conns → FirstUp c (Front conns k rest) (new_log c t l x0 A)
 absorb_first_up c conns s t l a k x0 rest A is once out i_first_up i_token_up =
-    λ j n p x h e ed b. let o = waited conns k x0 rest j n x is h in let old = i_first_up j o.0 p x o.1 e ed b in ((open_as_before conns k rest j).0 ∙ old.0,
+    λ j n p x h e ed b. let o = waited conns k x0 rest j n x is h in let old = i_first_up j o.0 p x o.1 e ed b in (
+      (open_as_before conns k rest j).0 ∙ old.0,
       first_none c t l x0 A p old.1 (λ z a. let fr = i_first_up k 0 p x0 (front_up (conns k).up x0 rest is) z ed b in let tk = (i_token_up j o.0 x o.1 (ops_of x.token p e)).0 in let above = subst (λ g. 0 < g) (ap op_of e) tk in
-        apart_of conns k x0 rest j n p x once is z h e (some_same j k (sym (out j p old.0 (copies_up conns j o.0 p x o.1 e) above) ∙ front_on c conns k x0 rest p out is z fr.0 above))))
+          apart_of conns k x0 rest j n p x once is z h e (some_same j k (sym (out j p old.0 (copies_up conns j o.0 p x o.1 e) above) ∙ front_on c conns k x0 rest p out is z fr.0 above))),
+    )
 
 absorb_unacted : (c : Client) (conns : ℕ → Conn) (s : Server) (t : Trace) (l : Log) (a : ℕ → ℕ) (k : ℕ) (x0 : Sent) (rest : List Sent) (A : Answer) → ((conns k).up ≡ x0 ∷ rest) → (ConnOutstanding c conns) → (OwnUp c conns) → Unacted c l → FirstUp c conns l → TokenUp c conns → Unacted c (new_log c t l x0 A)
 absorb_unacted c conns s t l a k x0 rest A is out own i_unacted i_first_up i_token_up =
     λ p ed b no un. first_none c t l x0 A p (i_unacted p ed b no un) (λ z a. let f0 = front_up (conns k).up x0 rest is in let fr = i_first_up k 0 p x0 f0 z ed b in
-        let above = subst (λ g. 0 < g) (ap op_of z) (i_token_up k 0 x0 f0 (ops_of x0.token p z)).0 in let on = front_on c conns k x0 rest p out is z fr.0 above in let ak = own k 0 p x0 f0 fr.0 z in absurd (grind arith))
+    let above = subst (λ g. 0 < g) (ap op_of z) (i_token_up k 0 x0 f0 (ops_of x0.token p z)).0 in let on = front_on c conns k x0 rest p out is z fr.0 above in let ak = own k 0 p x0 f0 fr.0 z in absurd (grind arith))
 
 absorb_fresh_first : (c : Client) (conns : ℕ → Conn) (s : Server) (t : Trace) (l : Log) (a : ℕ → ℕ) (k : ℕ) (x0 : Sent) (rest : List Sent) (A : Answer) → ((conns k).up ≡ x0 ∷ rest) → (Bodies c conns) → FreshFirst c l → FreshFirst c (new_log c t l x0 A)
 absorb_fresh_first c conns s t l a k x0 rest A is bodies i_fresh_first =
@@ -264,8 +263,8 @@ absorb_fresh_first c conns s t l a k x0 rest A is bodies i_fresh_first =
 absorb_not_done : (c : Client) (conns : ℕ → Conn) (s : Server) (t : Trace) (l : Log) (a : ℕ → ℕ) (k : ℕ) (x0 : Sent) (rest : List Sent) (A : Answer) → ((conns k).up ≡ x0 ∷ rest) → (Once conns) → (ConnOutstanding c conns) → (DownOpen conns) → NotDone c conns l → FirstUp c conns l → TokenDown c conns → NotDone c (Front conns k rest) (new_log c t l x0 A)
 absorb_not_done c conns s t l a k x0 rest A is once out dopen i_not_done i_first_up i_token_down =
     λ j n p y h e ed st b. let h' = was_down conns k rest j n y h in first_none c t l x0 A p (i_not_done j n p y h' e ed st b) (λ z a. let f0 = front_up (conns k).up x0 rest is in let fr = i_first_up k 0 p x0 f0 z ed b in
-        let above = subst (λ g. 0 < g) (ap op_of e) (i_token_down j n y h' (ops_of y.token p e)).0 in let on = front_on c conns k x0 rest p out is z fr.0 above in
-        reply_twin conns k x0 rest j n p y once is z h' e (some_same j k (sym (out j p (down_is_open conns dopen j n y h') (copies_down conns j n p y h' e) above) ∙ on)))
+    let above = subst (λ g. 0 < g) (ap op_of e) (i_token_down j n y h' (ops_of y.token p e)).0 in let on = front_on c conns k x0 rest p out is z fr.0 above in
+    reply_twin conns k x0 rest j n p y once is z h' e (some_same j k (sym (out j p (down_is_open conns dopen j n y h') (copies_down conns j n p y h' e) above) ∙ on)))
 
 absorb_cut_seq : (c : Client) (conns : ℕ → Conn) (s : Server) (t : Trace) (l : Log) (a : ℕ → ℕ) (k : ℕ) (x0 : Sent) (rest : List Sent) (A : Answer) → ((conns k).up ≡ x0 ∷ rest) → CutSeq c conns → CutSeq c (Front conns k rest)
 absorb_cut_seq c conns s t l a k x0 rest A is i_cut_seq =
@@ -338,8 +337,8 @@ absorb_live_unsettled c conns s t l a k x0 rest A is w ranked i_live_unsettled i
 absorb_live_replay : (c : Client) (conns : ℕ → Conn) (s : Server) (t : Trace) (l : Log) (a : ℕ → ℕ) (k : ℕ) (x0 : Sent) (rest : List Sent) (A : Answer) → ((conns k).up ≡ x0 ∷ rest) → (Taking c s t x0 A) → (Once conns) → ((j n : ℕ) (x : Sent) → slice_get (conns j).up n ≡ Some x → is_ops x.token ≡ true → 0 < c.rank x.message.session) → LiveReplay c conns s l → CopyPair c conns s → NoReplay c conns → LiveReplay c (Front conns k rest) A.server (new_log c t l x0 A)
 absorb_live_replay c conns s t l a k x0 rest A is w once ranked i_live_replay i_copy_pair i_no_replay =
     λ j n p x h e ed sd pr le so. let o = waited conns k x0 rest j n x is h in let cp = i_copy_pair j o.0 p x o.1 e ed in
-      let b = live_back c.rank s A.server x.message.session x.message.sequence (file_at c p) w.steps (ranked j o.0 x o.1 (ops_of x.token p e)) cp.1 cp.0 sd pr le in let f = some_of ((new_log c t l x0 A).first p) so in
-      by_first j n p x h e ed sd pr le b.0 b.1 ((cp.0 b.0 b.1).0) o.0 o.1 (λ z. i_live_replay j o.0 p x o.1 e ed b.0 b.1 b.2 z) (first_was c t l x0 A p f.0 f.1)
+    let b = live_back c.rank s A.server x.message.session x.message.sequence (file_at c p) w.steps (ranked j o.0 x o.1 (ops_of x.token p e)) cp.1 cp.0 sd pr le in let f = some_of ((new_log c t l x0 A).first p) so in
+    by_first j n p x h e ed sd pr le b.0 b.1 ((cp.0 b.0 b.1).0) o.0 o.1 (λ z. i_live_replay j o.0 p x o.1 e ed b.0 b.1 b.2 z) (first_was c t l x0 A p f.0 f.1)
   where
     by_first : (j n p : ℕ) (x : Sent) → slice_get (Front conns k rest j).up n ≡ Some x → x.token ≡ ForOp p → edits (c.op p) ≡ true → A.server.standing (file_at c p) ≡ true → A.server.present x.message.session ≡ true → A.server.sequence (file_at c p) ≤ x.message.sequence
         → s.standing (file_at c p) ≡ true → s.present x.message.session ≡ true → s.at (file_at c p) ≡ Some x.message.session → (m : ℕ) → slice_get (conns j).up m ≡ Some x → (is_some (l.first p) ≡ true → x.message.replay ≡ true)
@@ -348,8 +347,8 @@ absorb_live_replay c conns s t l a k x0 rest A is w once ranked i_live_replay i_
     by_first j n p x h e ed sd pr le st there at m hm old (inr z) =
         let a = acts_of c s t x0 A p w z.0 (lists_of (c.op p) ed) z.1 in let same : x.message.session ≡ x0.message.session = some_same _ _ (sym at ∙ a.at) in
         not_false x.message.replay (λ r.
-          let less = i_no_replay j m k 0 p x x0 hm (front_up (conns k).up x0 rest is) e z.0 ed (apart_of conns k x0 rest j n p x once is z.0 h e) same r in
-          let pair = ((w.reached (file_at c p) a.reached).1 sd (subst (λ y. A.server.present y ≡ true) same pr)).1 in absurd (omega (arith, less, pair, le)))
+        let less = i_no_replay j m k 0 p x x0 hm (front_up (conns k).up x0 rest is) e z.0 ed (apart_of conns k x0 rest j n p x once is z.0 h e) same r in
+        let pair = ((w.reached (file_at c p) a.reached).1 sd (subst (λ y. A.server.present y ≡ true) same pr)).1 in absurd (omega (arith, less, pair, le)))
       where
         not_false : (b : Bool) → (b ≡ false → ⊥) → b ≡ true
         not_false true f = refl
@@ -358,8 +357,8 @@ absorb_live_replay c conns s t l a k x0 rest A is w once ranked i_live_replay i_
 absorb_shows : (c : Client) (conns : ℕ → Conn) (s : Server) (t : Trace) (l : Log) (a : ℕ → ℕ) (k : ℕ) (x0 : Sent) (rest : List Sent) (A : Answer) → ((conns k).up ≡ x0 ∷ rest) → (Taking c s t x0 A) → (Bodies c conns) → ((g : ℕ) → c.sent g ≡ true → makes_open (c.op g) ≡ false → (makes_open (c.op g) || is_ok (c.outcome (create_at c g))) ≡ true × makes_open (c.op (create_at c g)) ≡ true) → Shows c s l → Denied s → FreshFirst c l → LiveUnsettled c conns s → OpenGiven c s t → OpenOf c t → OpenRow c s t → Pairwise c → Shows c A.server (new_log c t l x0 A)
 absorb_shows c conns s t l a k x0 rest A is w bodies sent_opens i_shows i_denied i_fresh_first i_live_unsettled i_open_given i_open_of i_open_row i_pairwise =
     λ p ed iso sd pe so. let f = some_of ((new_log c t l x0 A).first p) so in let st = went_out p (first_was c t l x0 A p f.0 f.1) in let og = sent_opens p st (edits_other (c.op p) ed) in
-      let its = its_open c s t p og.0 (edits_other (c.op p) ed) og.1 i_open_of i_open_given in let stood = w.steps.stands (file_at c p) its.given sd in
-      subst (λ r. bytes_after (c.op p) (A.server.content r.file) ≡ A.server.content r.file) (sym (w.steps.row (file_at c p) its.given sd)) (by_first p ed iso sd pe st its stood (first_was c t l x0 A p f.0 f.1))
+    let its = its_open c s t p og.0 (edits_other (c.op p) ed) og.1 i_open_of i_open_given in let stood = w.steps.stands (file_at c p) its.given sd in
+    subst (λ r. bytes_after (c.op p) (A.server.content r.file) ≡ A.server.content r.file) (sym (w.steps.row (file_at c p) its.given sd)) (by_first p ed iso sd pe st its stood (first_was c t l x0 A p f.0 f.1))
   where
     went_out : (p : ℕ) {v : ℕ} → (l.first p ≡ Some v) ⊎ (x0.token ≡ ForOp p × A.acted ≡ true × v ≡ l.places) → c.sent p ≡ true
     went_out p (inl z) = sent_of (c.sent p) (l.first p) (λ u. (i_fresh_first p u).0) (ap is_some z)
@@ -487,9 +486,9 @@ absorb_bytes c conns s t l a k x0 rest A i_bytes =
 absorb_quiet : (c : Client) (conns : ℕ → Conn) (s : Server) (t : Trace) (l : Log) (a : ℕ → ℕ) (k : ℕ) (x0 : Sent) (rest : List Sent) (A : Answer) → (Taking c s t x0 A) → ((g : ℕ) → x0.token ≡ ForOp g → lists (c.op g) ≡ true → (makes_open (c.op g) || is_ok (c.outcome (create_at c g))) ≡ true × makes_open (c.op (create_at c g)) ≡ true) → Quiet c t l → Bytes s t l → Denied s → OpenGiven c s t → OpenOf c t → OpenRow c s t → Quiet c (new_trace c t l x0 A) (new_log c t l x0 A)
 absorb_quiet c conns s t l a k x0 rest A w opens i_quiet i_bytes i_denied i_open_given i_open_of i_open_row =
     λ n q lt mk b iso. let f = some_of ((new_trace c t l x0 A).open_of q) mk in split (λ m. (new_log c t l x0 A).birth q ≤ m → (new_log c t l x0 A).did m ≡ false → (new_log c t l x0 A).bytes q (m + 1) ≡ (new_log c t l x0 A).bytes q m) l.places n lt
-      (λ z bb d. let g = made_before c t l x0 A q n f.0 (omega (arith, z)) f.1 bb in bytes_old c t l x0 A q (n + 1) (omega (arith, z)) ∙ (i_quiet n q z (ap is_some g.0) g.1 iso (sym (put_old l.did l.places (is_own x0.token && A.acted) n z) ∙ d) ∙ sym (bytes_old c t l x0 A q n (omega (arith, z)))))
-      (λ bb d. let g = made_before c t l x0 A q l.places f.0 (omega arith) f.1 bb in unmoved c s t l x0 A q f.0 w i_open_given i_bytes g.0
-        (λ st sa. by_touch (sym (put_self l.did l.places (is_own x0.token && A.acted)) ∙ d) (untouched c s t x0 A q f.0 w i_denied i_open_of i_open_given i_open_row opens g.0 st sa iso))) b
+    (λ z bb d. let g = made_before c t l x0 A q n f.0 (omega (arith, z)) f.1 bb in bytes_old c t l x0 A q (n + 1) (omega (arith, z)) ∙ (i_quiet n q z (ap is_some g.0) g.1 iso (sym (put_old l.did l.places (is_own x0.token && A.acted) n z) ∙ d) ∙ sym (bytes_old c t l x0 A q n (omega (arith, z)))))
+    (λ bb d. let g = made_before c t l x0 A q l.places f.0 (omega arith) f.1 bb in unmoved c s t l x0 A q f.0 w i_open_given i_bytes g.0
+    (λ st sa. by_touch (sym (put_self l.did l.places (is_own x0.token && A.acted)) ∙ d) (untouched c s t x0 A q f.0 w i_denied i_open_of i_open_given i_open_row opens g.0 st sa iso))) b
   where
     own_acts : (g : ℕ) → x0.token ≡ ForOp g → A.acted ≡ true → (is_own x0.token && A.acted) ≡ false → ⊥
     own_acts g tk ac d = absurd (grind arith)
@@ -501,9 +500,9 @@ absorb_quiet c conns s t l a k x0 rest A w opens i_quiet i_bytes i_denied i_open
 absorb_foreign : (c : Client) (conns : ℕ → Conn) (s : Server) (t : Trace) (l : Log) (a : ℕ → ℕ) (k : ℕ) (x0 : Sent) (rest : List Sent) (A : Answer) → (Taking c s t x0 A) → ((g : ℕ) → x0.token ≡ ForOp g → lists (c.op g) ≡ true → (makes_open (c.op g) || is_ok (c.outcome (create_at c g))) ≡ true × makes_open (c.op (create_at c g)) ≡ true) → Foreign c t l → Bytes s t l → Denied s → OpenGiven c s t → OpenOf c t → OpenRow c s t → Foreign c (new_trace c t l x0 A) (new_log c t l x0 A)
 absorb_foreign c conns s t l a k x0 rest A w opens i_foreign i_bytes i_denied i_open_given i_open_of i_open_row =
     λ n q lt mk b iso. let f = some_of ((new_trace c t l x0 A).open_of q) mk in split (λ m. (new_log c t l x0 A).birth q ≤ m → ((create_at c ((new_log c t l x0 A).who m) == q) && lists (c.op ((new_log c t l x0 A).who m))) ≡ false → (new_log c t l x0 A).bytes q (m + 1) ≡ (new_log c t l x0 A).bytes q m) l.places n lt
-      (λ z bb d. let g = made_before c t l x0 A q n f.0 (omega (arith, z)) f.1 bb in bytes_old c t l x0 A q (n + 1) (omega (arith, z)) ∙ (i_foreign n q z (ap is_some g.0) g.1 iso (subst (λ h. ((create_at c h == q) && lists (c.op h)) ≡ false) (put_old l.who l.places (op_of x0.token) n z) d) ∙ sym (bytes_old c t l x0 A q n (omega (arith, z)))))
-      (λ bb d. let g = made_before c t l x0 A q l.places f.0 (omega arith) f.1 bb in unmoved c s t l x0 A q f.0 w i_open_given i_bytes g.0
-        (λ st sa. by_touch (subst (λ h. ((create_at c h == q) && lists (c.op h)) ≡ false) (put_self l.who l.places (op_of x0.token)) d) (untouched c s t x0 A q f.0 w i_denied i_open_of i_open_given i_open_row opens g.0 st sa iso))) b
+    (λ z bb d. let g = made_before c t l x0 A q n f.0 (omega (arith, z)) f.1 bb in bytes_old c t l x0 A q (n + 1) (omega (arith, z)) ∙ (i_foreign n q z (ap is_some g.0) g.1 iso (subst (λ h. ((create_at c h == q) && lists (c.op h)) ≡ false) (put_old l.who l.places (op_of x0.token) n z) d) ∙ sym (bytes_old c t l x0 A q n (omega (arith, z)))))
+    (λ bb d. let g = made_before c t l x0 A q l.places f.0 (omega arith) f.1 bb in unmoved c s t l x0 A q f.0 w i_open_given i_bytes g.0
+    (λ st sa. by_touch (subst (λ h. ((create_at c h == q) && lists (c.op h)) ≡ false) (put_self l.who l.places (op_of x0.token)) d) (untouched c s t x0 A q f.0 w i_denied i_open_of i_open_given i_open_row opens g.0 st sa iso))) b
   where
     its_own : (g q : ℕ) → op_of x0.token ≡ g → create_at c g ≡ q → lists (c.op g) ≡ true → ((create_at c (op_of x0.token) == q) && lists (c.op (op_of x0.token))) ≡ false → ⊥
     its_own g q z e ls d = absurd (its_test (create_at c (op_of x0.token)) q (lists (c.op (op_of x0.token))) (ap (create_at c) z ∙ e) (ap (λ h. lists (c.op h)) z ∙ ls) d)
@@ -518,12 +517,12 @@ absorb_foreign c conns s t l a k x0 rest A w opens i_foreign i_bytes i_denied i_
 absorb_acted : (c : Client) (conns : ℕ → Conn) (s : Server) (t : Trace) (l : Log) (a : ℕ → ℕ) (k : ℕ) (x0 : Sent) (rest : List Sent) (A : Answer) → ((conns k).up ≡ x0 ∷ rest) → (Taking c s t x0 A) → ((g : ℕ) → x0.token ≡ ForOp g → lists (c.op g) ≡ true → (makes_open (c.op g) || is_ok (c.outcome (create_at c g))) ≡ true × makes_open (c.op (create_at c g)) ≡ true) → Acted c l → Bytes s t l → LiveReplay c conns s l → LiveUnsettled c conns s → OpenGiven c s t → OpenOf c t → Shows c s l → Acted c (new_log c t l x0 A)
 absorb_acted c conns s t l a k x0 rest A is w opens i_acted i_bytes i_live_replay i_live_unsettled i_open_given i_open_of i_shows =
     λ n lt. split (λ m. (new_log c t l x0 A).did m ≡ true → lists (c.op ((new_log c t l x0 A).who m)) ≡ true → isolating (c.op (create_at c ((new_log c t l x0 A).who m))) ≡ true
-        → (new_log c t l x0 A).first ((new_log c t l x0 A).who m) ≡ Some m × edits (c.op ((new_log c t l x0 A).who m)) ≡ true × (new_log c t l x0 A).bytes (create_at c ((new_log c t l x0 A).who m)) (m + 1) ≡ bytes_after (c.op ((new_log c t l x0 A).who m)) ((new_log c t l x0 A).bytes (create_at c ((new_log c t l x0 A).who m)) m)) l.places n lt
-      (λ z d. subst (λ h. lists (c.op h) ≡ true → isolating (c.op (create_at c h)) ≡ true → (new_log c t l x0 A).first h ≡ Some n × edits (c.op h) ≡ true × (new_log c t l x0 A).bytes (create_at c h) (n + 1) ≡ bytes_after (c.op h) ((new_log c t l x0 A).bytes (create_at c h) n)) (sym (put_old l.who l.places (op_of x0.token) n z))
-        (λ ls iso. let old = i_acted n z (sym (put_old l.did l.places (is_own x0.token && A.acted) n z) ∙ d) ls iso in
-          (first_kept c t l x0 A (l.who n) n old.0, old.1, bytes_old c t l x0 A (create_at c (l.who n)) (n + 1) (omega (arith, z)) ∙ (old.2 ∙ ap (bytes_after (c.op (l.who n))) (sym (bytes_old c t l x0 A (create_at c (l.who n)) n (omega (arith, z))))))))
-      (λ d. subst (λ h. lists (c.op h) ≡ true → isolating (c.op (create_at c h)) ≡ true → (new_log c t l x0 A).first h ≡ Some l.places × edits (c.op h) ≡ true × (new_log c t l x0 A).bytes (create_at c h) (l.places + 1) ≡ bytes_after (c.op h) ((new_log c t l x0 A).bytes (create_at c h) l.places)) (sym (put_self l.who l.places (op_of x0.token)))
-        (λ ls iso. own (op_of x0.token) (own_of x0.token (did_own (sym (put_self l.did l.places (is_own x0.token && A.acted)) ∙ d)).0) (did_own (sym (put_self l.did l.places (is_own x0.token && A.acted)) ∙ d)).1 ls iso))
+    → (new_log c t l x0 A).first ((new_log c t l x0 A).who m) ≡ Some m × edits (c.op ((new_log c t l x0 A).who m)) ≡ true × (new_log c t l x0 A).bytes (create_at c ((new_log c t l x0 A).who m)) (m + 1) ≡ bytes_after (c.op ((new_log c t l x0 A).who m)) ((new_log c t l x0 A).bytes (create_at c ((new_log c t l x0 A).who m)) m)) l.places n lt
+    (λ z d. subst (λ h. lists (c.op h) ≡ true → isolating (c.op (create_at c h)) ≡ true → (new_log c t l x0 A).first h ≡ Some n × edits (c.op h) ≡ true × (new_log c t l x0 A).bytes (create_at c h) (n + 1) ≡ bytes_after (c.op h) ((new_log c t l x0 A).bytes (create_at c h) n)) (sym (put_old l.who l.places (op_of x0.token) n z))
+    (λ ls iso. let old = i_acted n z (sym (put_old l.did l.places (is_own x0.token && A.acted) n z) ∙ d) ls iso in
+    (first_kept c t l x0 A (l.who n) n old.0, old.1, bytes_old c t l x0 A (create_at c (l.who n)) (n + 1) (omega (arith, z)) ∙ (old.2 ∙ ap (bytes_after (c.op (l.who n))) (sym (bytes_old c t l x0 A (create_at c (l.who n)) n (omega (arith, z))))))))
+    (λ d. subst (λ h. lists (c.op h) ≡ true → isolating (c.op (create_at c h)) ≡ true → (new_log c t l x0 A).first h ≡ Some l.places × edits (c.op h) ≡ true × (new_log c t l x0 A).bytes (create_at c h) (l.places + 1) ≡ bytes_after (c.op h) ((new_log c t l x0 A).bytes (create_at c h) l.places)) (sym (put_self l.who l.places (op_of x0.token)))
+    (λ ls iso. own (op_of x0.token) (own_of x0.token (did_own (sym (put_self l.did l.places (is_own x0.token && A.acted)) ∙ d)).0) (did_own (sym (put_self l.did l.places (is_own x0.token && A.acted)) ∙ d)).1 ls iso))
   where
     did_own : (is_own x0.token && A.acted) ≡ true → is_own x0.token ≡ true × A.acted ≡ true
     did_own d = (grind arith, grind arith)
@@ -538,13 +537,13 @@ absorb_acted c conns s t l a k x0 rest A is w opens i_acted i_bytes i_live_repla
 absorb_gave : (c : Client) (conns : ℕ → Conn) (s : Server) (t : Trace) (l : Log) (a : ℕ → ℕ) (k : ℕ) (x0 : Sent) (rest : List Sent) (A : Answer) → (Taking c s t x0 A) → ((g : ℕ) → x0.token ≡ ForOp g → lists (c.op g) ≡ true → (makes_open (c.op g) || is_ok (c.outcome (create_at c g))) ≡ true × makes_open (c.op (create_at c g)) ≡ true) → Gave c l → Bytes s t l → OpenGiven c s t → OpenOf c t → Gave c (new_log c t l x0 A)
 absorb_gave c conns s t l a k x0 rest A w opens i_gave i_bytes i_open_given i_open_of =
     λ n v lt. split (λ m. lists (c.op ((new_log c t l x0 A).who m)) ≡ true → (new_log c t l x0 A).gave m ≡ Says_ok v
-        → reply_to (c.op ((new_log c t l x0 A).who m)) ((new_log c t l x0 A).bytes (create_at c ((new_log c t l x0 A).who m)) m) ≡ v × (new_log c t l x0 A).bytes (create_at c ((new_log c t l x0 A).who m)) (m + 1) ≡ bytes_after (c.op ((new_log c t l x0 A).who m)) ((new_log c t l x0 A).bytes (create_at c ((new_log c t l x0 A).who m)) m)
-          × ends_before (c.op ((new_log c t l x0 A).who m)) ((new_log c t l x0 A).bytes (create_at c ((new_log c t l x0 A).who m)) m) ≡ false) l.places n lt
-      (λ z. subst (λ h. lists (c.op h) ≡ true → (new_log c t l x0 A).gave n ≡ Says_ok v → reply_to (c.op h) ((new_log c t l x0 A).bytes (create_at c h) n) ≡ v × (new_log c t l x0 A).bytes (create_at c h) (n + 1) ≡ bytes_after (c.op h) ((new_log c t l x0 A).bytes (create_at c h) n) × ends_before (c.op h) ((new_log c t l x0 A).bytes (create_at c h) n) ≡ false) (sym (put_old l.who l.places (op_of x0.token) n z))
-        (λ ls gv. let old = i_gave n v z ls (sym (put_old l.gave l.places (said x0.token A.reply) n z) ∙ gv) in let e1 = bytes_old c t l x0 A (create_at c (l.who n)) n (omega (arith, z)) in let e2 = bytes_old c t l x0 A (create_at c (l.who n)) (n + 1) (omega (arith, z)) in
-          (ap (reply_to (c.op (l.who n))) e1 ∙ old.0, e2 ∙ (old.1 ∙ ap (bytes_after (c.op (l.who n))) (sym e1)), ap (ends_before (c.op (l.who n))) e1 ∙ old.2)))
-      (subst (λ h. lists (c.op h) ≡ true → (new_log c t l x0 A).gave l.places ≡ Says_ok v → reply_to (c.op h) ((new_log c t l x0 A).bytes (create_at c h) l.places) ≡ v × (new_log c t l x0 A).bytes (create_at c h) (l.places + 1) ≡ bytes_after (c.op h) ((new_log c t l x0 A).bytes (create_at c h) l.places) × ends_before (c.op h) ((new_log c t l x0 A).bytes (create_at c h) l.places) ≡ false) (sym (put_self l.who l.places (op_of x0.token)))
-        (λ ls gv. let sd = said_ok x0.token A.reply v (sym (put_self l.gave l.places (said x0.token A.reply)) ∙ gv) in own (op_of x0.token) v sd.0 ls sd.1 sd.2))
+    → reply_to (c.op ((new_log c t l x0 A).who m)) ((new_log c t l x0 A).bytes (create_at c ((new_log c t l x0 A).who m)) m) ≡ v × (new_log c t l x0 A).bytes (create_at c ((new_log c t l x0 A).who m)) (m + 1) ≡ bytes_after (c.op ((new_log c t l x0 A).who m)) ((new_log c t l x0 A).bytes (create_at c ((new_log c t l x0 A).who m)) m)
+    × ends_before (c.op ((new_log c t l x0 A).who m)) ((new_log c t l x0 A).bytes (create_at c ((new_log c t l x0 A).who m)) m) ≡ false) l.places n lt
+    (λ z. subst (λ h. lists (c.op h) ≡ true → (new_log c t l x0 A).gave n ≡ Says_ok v → reply_to (c.op h) ((new_log c t l x0 A).bytes (create_at c h) n) ≡ v × (new_log c t l x0 A).bytes (create_at c h) (n + 1) ≡ bytes_after (c.op h) ((new_log c t l x0 A).bytes (create_at c h) n) × ends_before (c.op h) ((new_log c t l x0 A).bytes (create_at c h) n) ≡ false) (sym (put_old l.who l.places (op_of x0.token) n z))
+    (λ ls gv. let old = i_gave n v z ls (sym (put_old l.gave l.places (said x0.token A.reply) n z) ∙ gv) in let e1 = bytes_old c t l x0 A (create_at c (l.who n)) n (omega (arith, z)) in let e2 = bytes_old c t l x0 A (create_at c (l.who n)) (n + 1) (omega (arith, z)) in
+    (ap (reply_to (c.op (l.who n))) e1 ∙ old.0, e2 ∙ (old.1 ∙ ap (bytes_after (c.op (l.who n))) (sym e1)), ap (ends_before (c.op (l.who n))) e1 ∙ old.2)))
+    (subst (λ h. lists (c.op h) ≡ true → (new_log c t l x0 A).gave l.places ≡ Says_ok v → reply_to (c.op h) ((new_log c t l x0 A).bytes (create_at c h) l.places) ≡ v × (new_log c t l x0 A).bytes (create_at c h) (l.places + 1) ≡ bytes_after (c.op h) ((new_log c t l x0 A).bytes (create_at c h) l.places) × ends_before (c.op h) ((new_log c t l x0 A).bytes (create_at c h) l.places) ≡ false) (sym (put_self l.who l.places (op_of x0.token)))
+    (λ ls gv. let sd = said_ok x0.token A.reply v (sym (put_self l.gave l.places (said x0.token A.reply)) ∙ gv) in own (op_of x0.token) v sd.0 ls sd.1 sd.2))
   where
     own : (g : ℕ) (v : ContentReply) → x0.token ≡ ForOp g → lists (c.op g) ≡ true → (A.reply.status == success) ≡ true → v ≡ content_reply A.reply.body
         → reply_to (c.op g) ((new_log c t l x0 A).bytes (create_at c g) l.places) ≡ v × (new_log c t l x0 A).bytes (create_at c g) (l.places + 1) ≡ bytes_after (c.op g) ((new_log c t l x0 A).bytes (create_at c g) l.places) × ends_before (c.op g) ((new_log c t l x0 A).bytes (create_at c g) l.places) ≡ false
@@ -555,10 +554,10 @@ absorb_gave c conns s t l a k x0 rest A w opens i_gave i_bytes i_open_given i_op
 absorb_gave_end : (c : Client) (conns : ℕ → Conn) (s : Server) (t : Trace) (l : Log) (a : ℕ → ℕ) (k : ℕ) (x0 : Sent) (rest : List Sent) (A : Answer) → (Taking c s t x0 A) → ((g : ℕ) → x0.token ≡ ForOp g → lists (c.op g) ≡ true → (makes_open (c.op g) || is_ok (c.outcome (create_at c g))) ≡ true × makes_open (c.op (create_at c g)) ≡ true) → GaveEnd c l → Bytes s t l → OpenGiven c s t → OpenOf c t → GaveEnd c (new_log c t l x0 A)
 absorb_gave_end c conns s t l a k x0 rest A w opens i_gave_end i_bytes i_open_given i_open_of =
     λ n lt. split (λ m. lists (c.op ((new_log c t l x0 A).who m)) ≡ true → (new_log c t l x0 A).gave m ≡ Says_end → ends_before (c.op ((new_log c t l x0 A).who m)) ((new_log c t l x0 A).bytes (create_at c ((new_log c t l x0 A).who m)) m) ≡ true) l.places n lt
-      (λ z. subst (λ h. lists (c.op h) ≡ true → (new_log c t l x0 A).gave n ≡ Says_end → ends_before (c.op h) ((new_log c t l x0 A).bytes (create_at c h) n) ≡ true) (sym (put_old l.who l.places (op_of x0.token) n z))
-        (λ ls gv. ap (ends_before (c.op (l.who n))) (bytes_old c t l x0 A (create_at c (l.who n)) n (omega (arith, z))) ∙ i_gave_end n z ls (sym (put_old l.gave l.places (said x0.token A.reply) n z) ∙ gv)))
-      (subst (λ h. lists (c.op h) ≡ true → (new_log c t l x0 A).gave l.places ≡ Says_end → ends_before (c.op h) ((new_log c t l x0 A).bytes (create_at c h) l.places) ≡ true) (sym (put_self l.who l.places (op_of x0.token)))
-        (λ ls gv. let sd = said_end x0.token A.reply (sym (put_self l.gave l.places (said x0.token A.reply)) ∙ gv) in own (op_of x0.token) sd.0 ls sd.1))
+    (λ z. subst (λ h. lists (c.op h) ≡ true → (new_log c t l x0 A).gave n ≡ Says_end → ends_before (c.op h) ((new_log c t l x0 A).bytes (create_at c h) n) ≡ true) (sym (put_old l.who l.places (op_of x0.token) n z))
+    (λ ls gv. ap (ends_before (c.op (l.who n))) (bytes_old c t l x0 A (create_at c (l.who n)) n (omega (arith, z))) ∙ i_gave_end n z ls (sym (put_old l.gave l.places (said x0.token A.reply) n z) ∙ gv)))
+    (subst (λ h. lists (c.op h) ≡ true → (new_log c t l x0 A).gave l.places ≡ Says_end → ends_before (c.op h) ((new_log c t l x0 A).bytes (create_at c h) l.places) ≡ true) (sym (put_self l.who l.places (op_of x0.token)))
+    (λ ls gv. let sd = said_end x0.token A.reply (sym (put_self l.gave l.places (said x0.token A.reply)) ∙ gv) in own (op_of x0.token) sd.0 ls sd.1))
   where
     own : (g : ℕ) → x0.token ≡ ForOp g → lists (c.op g) ≡ true → (A.reply.status == end_of_file) ≡ true → ends_before (c.op g) ((new_log c t l x0 A).bytes (create_at c g) l.places) ≡ true
     own g tk ls e =
@@ -568,8 +567,8 @@ absorb_gave_end c conns s t l a k x0 rest A w opens i_gave_end i_bytes i_open_gi
 absorb_whose : (c : Client) (conns : ℕ → Conn) (s : Server) (t : Trace) (l : Log) (a : ℕ → ℕ) (k : ℕ) (x0 : Sent) (rest : List Sent) (A : Answer) → ((conns k).up ≡ x0 ∷ rest) → Whose c l → OpensUp c conns → TokenUp c conns → Whose c (new_log c t l x0 A)
 absorb_whose c conns s t l a k x0 rest A is i_whose i_opens_up i_token_up =
     λ n lt. split (λ m. put l.who l.places (op_of x0.token) m ≤ c.taken × (0 < put l.who l.places (op_of x0.token) m → (makes_open (c.op (put l.who l.places (op_of x0.token) m)) || is_ok (c.outcome (create_at c (put l.who l.places (op_of x0.token) m)))) ≡ true)) l.places n lt
-      (λ z. subst (λ g. g ≤ c.taken × (0 < g → (makes_open (c.op g) || is_ok (c.outcome (create_at c g))) ≡ true)) (sym (put_old l.who l.places (op_of x0.token) n z)) (i_whose n z))
-      (subst (λ g. g ≤ c.taken × (0 < g → (makes_open (c.op g) || is_ok (c.outcome (create_at c g))) ≡ true)) (sym (put_self l.who l.places (op_of x0.token))) (own x0.token refl))
+    (λ z. subst (λ g. g ≤ c.taken × (0 < g → (makes_open (c.op g) || is_ok (c.outcome (create_at c g))) ≡ true)) (sym (put_old l.who l.places (op_of x0.token) n z)) (i_whose n z))
+    (subst (λ g. g ≤ c.taken × (0 < g → (makes_open (c.op g) || is_ok (c.outcome (create_at c g))) ≡ true)) (sym (put_self l.who l.places (op_of x0.token))) (own x0.token refl))
   where
     own : (tk : Token) → x0.token ≡ tk → op_of x0.token ≤ c.taken × (0 < op_of x0.token → (makes_open (c.op (op_of x0.token)) || is_ok (c.outcome (create_at c (op_of x0.token)))) ≡ true)
     own ForDialog e = (let z = ap op_of e in omega (arith, z), λ ab. absurd (let z = ap op_of e in omega (arith, z, ab)))
@@ -579,11 +578,11 @@ absorb_whose c conns s t l a k x0 rest A is i_whose i_opens_up i_token_up =
 absorb_born : (c : Client) (conns : ℕ → Conn) (s : Server) (t : Trace) (l : Log) (a : ℕ → ℕ) (k : ℕ) (x0 : Sent) (rest : List Sent) (A : Answer) → (Taking c s t x0 A) → ((g : ℕ) → 0 < g → g ≤ c.taken → makes_open (c.op g) ≡ false → makes_open (c.op (create_at c g)) ≡ true) → Born c l → BirthLe l → OpenOf c t → Whose c l → Born c (new_log c t l x0 A)
 absorb_born c conns s t l a k x0 rest A w creates_of i_born i_birth_le i_open_of i_whose =
     λ n lt. split (λ m. 0 < (new_log c t l x0 A).who m → makes_open (c.op ((new_log c t l x0 A).who m)) ≡ false → (new_log c t l x0 A).birth (create_at c ((new_log c t l x0 A).who m)) ≤ m) l.places n lt
-      (λ z. subst (λ h. 0 < h → makes_open (c.op h) ≡ false → (new_log c t l x0 A).birth (create_at c h) ≤ n) (sym (put_old l.who l.places (op_of x0.token) n z))
-        (λ ab mk. let wh = i_whose n z in let ok = ok_of (makes_open (c.op (l.who n))) (is_ok (c.outcome (create_at c (l.who n)))) (wh.1 ab) mk in let nm = i_open_of (create_at c (l.who n)) (creates_of (l.who n) ab wh.0 mk) ok in
-          subst (λ b. b ≤ n) (sym (birth_kept c t l x0 A (create_at c (l.who n)) (λ m e. once_made (create_at c (l.who n)) m e nm))) (i_born n z ab mk)))
-      (subst (λ h. 0 < h → makes_open (c.op h) ≡ false → (new_log c t l x0 A).birth (create_at c h) ≤ l.places) (sym (put_self l.who l.places (op_of x0.token)))
-        (λ ab mk. subst (λ b. b ≤ l.places) (sym (birth_kept c t l x0 A (create_at c (op_of x0.token)) (λ m e. absurd (let y = (made_own c x0.token A m).2 in grind arith)))) (i_birth_le (create_at c (op_of x0.token)))))
+    (λ z. subst (λ h. 0 < h → makes_open (c.op h) ≡ false → (new_log c t l x0 A).birth (create_at c h) ≤ n) (sym (put_old l.who l.places (op_of x0.token) n z))
+    (λ ab mk. let wh = i_whose n z in let ok = ok_of (makes_open (c.op (l.who n))) (is_ok (c.outcome (create_at c (l.who n)))) (wh.1 ab) mk in let nm = i_open_of (create_at c (l.who n)) (creates_of (l.who n) ab wh.0 mk) ok in
+    subst (λ b. b ≤ n) (sym (birth_kept c t l x0 A (create_at c (l.who n)) (λ m e. once_made (create_at c (l.who n)) m e nm))) (i_born n z ab mk)))
+    (subst (λ h. 0 < h → makes_open (c.op h) ≡ false → (new_log c t l x0 A).birth (create_at c h) ≤ l.places) (sym (put_self l.who l.places (op_of x0.token)))
+    (λ ab mk. subst (λ b. b ≤ l.places) (sym (birth_kept c t l x0 A (create_at c (op_of x0.token)) (λ m e. absurd (let y = (made_own c x0.token A m).2 in grind arith)))) (i_birth_le (create_at c (op_of x0.token)))))
   where
     once_made : (q : ℕ) → makes c x0.token A ≡ true → q ≡ op_of x0.token → t.open_of q ≡ Some (c.file q) → ⊥
     once_made q m e z = absurd (let r = w.remade m in let y = ap t.open_of e in grind arith)
@@ -602,9 +601,12 @@ absorb_first_at c conns s t l a k x0 rest A is i_first_at i_token_up =
     by_side : (p n : ℕ) → (l.first p ≡ Some n) ⊎ (x0.token ≡ ForOp p × A.acted ≡ true × n ≡ l.places) → n < l.places + 1 × (new_log c t l x0 A).who n ≡ p × 0 < p × (new_log c t l x0 A).did n ≡ true
     by_side p n (inl e) = let old = i_first_at p n e in let z = old.0 in (omega (arith, z), put_old l.who l.places (op_of x0.token) n old.0 ∙ old.1, old.2, put_old l.did l.places (is_own x0.token && A.acted) n old.0 ∙ old.3)
     by_side p n (inr e) =
-        let z = e.2 in let above = (i_token_up k 0 x0 (front_up (conns k).up x0 rest is) (ops_of x0.token p e.0)).0 in
-        (omega (arith, z), subst (λ m. put l.who l.places (op_of x0.token) m ≡ p) (sym z) (put_self l.who l.places (op_of x0.token) ∙ ap op_of e.0), subst (λ g. 0 < g) (ap op_of e.0) above,
-        subst (λ m. put l.did l.places (is_own x0.token && A.acted) m ≡ true) (sym z) (put_self l.did l.places (is_own x0.token && A.acted) ∙ own_did p e.0 e.1))
+        let z = e.2 in let above = (i_token_up k 0 x0 (front_up (conns k).up x0 rest is) (ops_of x0.token p e.0)).0 in (
+          omega (arith, z),
+          subst (λ m. put l.who l.places (op_of x0.token) m ≡ p) (sym z) (put_self l.who l.places (op_of x0.token) ∙ ap op_of e.0),
+          subst (λ g. 0 < g) (ap op_of e.0) above,
+          subst (λ m. put l.did l.places (is_own x0.token && A.acted) m ≡ true) (sym z) (put_self l.did l.places (is_own x0.token && A.acted) ∙ own_did p e.0 e.1),
+        )
 
 absorb_by : (c : Client) (conns : ℕ → Conn) (s : Server) (t : Trace) (l : Log) (a : ℕ → ℕ) (k : ℕ) (x0 : Sent) (rest : List Sent) (A : Answer) → By c l → By c (new_log c t l x0 A)
 absorb_by c conns s t l a k x0 rest A i_by =

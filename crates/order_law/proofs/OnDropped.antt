@@ -1,24 +1,12 @@
 -- The server closes its end.
-use Rattle.std.proofs.lemmas.Bool.{eqb-false}
-use Rattle.std.proofs.lemmas.Bool.Decides.{nat_tests}
-use Rattle.std.proofs.Common.{eqb-true, ◌≡◌, ◌≢◌, ℕ, ◌+◌, ◌≤◌, ◌<◌, ◌==◌, Bool, true, false, not, ◌&&◌, ◌||◌, if◌then◌else◌, List, [], ◌∷◌, ◌++◌, ◌⊎◌, inl, inr, refl, arith, sym, subst, ◌∙◌, ap, Option, Some, None, slice_get, is_some, zero, suc}
-use Rattle.exchange_defs.specs.Table.{put, put2, is_at}
-use Rattle.exchange_defs.specs.Status.{success, file_not_available, file_closed, user_session_deleted, end_of_file}
-use Rattle.exchange_defs.specs.Content.{ContentReply}
-use Rattle.exchange_defs.specs.Order.{Log, Says_ok, Says_end, Settled_ok, Settled_end}
-use Rattle.exchange_defs.specs.State.{Server, Message, Reply}
-use Rattle.exchange_defs.specs.Operations.{Op, Outcome, Unsettled, Why, is_unsettled, is_firm, is_ok, is_create, persists, create_of, id_in, share_of, reconnect_of}
-use Rattle.exchange_defs.specs.Client.{Client, Stage, Apart, AskedTree, guid_for, SaidNegotiate, create_for, outstanding as put_out, take_slot, asked, cut_channel, end_session, finish, is_taken, outcome_after_end, given_up_after_end, outcome_after_finish, given_up_after_finish}
-use Rattle.exchange_defs.specs.Settling.{answered, joined, settled as settled_by}
-use Rattle.exchange_defs.specs.Dialogs.{open_channel, went_on, accepted, bound, readied, leave_dialog, refused_dialog, told_session}
-use Rattle.exchange_defs.specs.Runs.{settlement}
-use Rattle.exchange_defs.specs.Network.{Conn, Sent, Received, Trace, Token, ForDialog, ForOp, ForAttach, op_of, is_own, fresh as fresh_conn, server_off, client_off, send_up, behind_front, take_front, said}
-use Rattle.exchange_law.specs.Connections.{create_at, makes_open, its_create, no_copy_out, count_up, count_down, copies}
-use Rattle.exchange_law.proofs.Lists.{get-push, own_up_count, attach_up_count, own_down_count, attach_down_count, front_up, front_down, waited, waited_down}
-use Rattle.session_law.specs.Sessions.{is_ops}
-use Rattle.order_law.specs.Newest.{Pair}
-use Rattle.order_law.specs.Contents.{Contents, edits, lists, formed, isolating, clashes, bytes_after, reply_to, ends_before, file_at, pends, last_id, is_final, TokenUp, TokenDown, OpensUp, AskedAs, LostUnknown, LostDead, LostKnown, LostAsked, SessionKnown, SessionAsked, Pairwise, FirstUp, Unacted, FreshFirst, NotDone, CutSeq, OpenSeq, Older, NoReplay, CopyPair, NowPair, CreateReply, AttachReply, Reached, ClosedReply, AttachRefused, StaleReply, SessionSeq, PendingAt, LiveUnsettled, LiveReplay, Shows, Denied, OpenOf, NamedOpen, OpenGiven, OpenRow, OpenActed, Bytes, Quiet, Foreign, Acted, Gave, GaveEnd, Whose, Born, BirthLe, FirstAt, By, ByOk, ByEnd, BySome, Replies, AttachStatus, SinceLe, SinceReply, SinceBy, SinceFirst, Prior, PriorBy, PriorFirst}
-use Rattle.order_law.proofs.Moved.{Steps, Moves, live_back}
+use Rattle.std.proofs.Common.{ℕ, arith}
+use Rattle.exchange_defs.specs.Table.{put}
+use Rattle.exchange_defs.specs.Order.{Log}
+use Rattle.exchange_defs.specs.State.{Server}
+use Rattle.exchange_defs.specs.Client.{Client}
+use Rattle.exchange_defs.specs.Network.{Conn, Trace, server_off}
+use Rattle.exchange_law.proofs.Lists.{get-push}
+use Rattle.order_law.specs.Contents.{Contents, TokenUp, TokenDown, OpensUp, AskedAs, FirstUp, NotDone, CutSeq, OpenSeq, Older, NoReplay, CopyPair, CreateReply, AttachReply, Reached, ClosedReply, AttachRefused, StaleReply, LiveUnsettled, LiveReplay, Replies, AttachStatus, SinceReply}
 
 dropped_token_up : (c : Client) (conns : ℕ → Conn) (s : Server) (t : Trace) (l : Log) (a : ℕ → ℕ) (k : ℕ) → TokenUp c conns → TokenUp c (put conns k (server_off (conns k)))
 dropped_token_up c conns s t l a k i_token_up =

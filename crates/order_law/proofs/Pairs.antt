@@ -1,7 +1,7 @@
 -- What the server does keeps every pair that reached an open: while the open stands and the pair's session is there, the
 -- open is attached in that session, at this sequence or a newer one.
 use Rattle.std.proofs.lemmas.Bool.Decides.{nat_tests}
-use Rattle.std.proofs.Common.{◌≡◌, ◌≢◌, ℕ, ◌≤◌, nat_lt, Bool, true, false, not, ◌&&◌, List, refl, arith, sym, subst, ◌∙◌, ap, Option, Some, None, is_some}
+use Rattle.std.proofs.Common.{◌≡◌, ◌≢◌, ℕ, ◌≤◌, nat_lt, Bool, true, false, not, ◌&&◌, List, refl, arith, sym, ◌∙◌, ap, Option, Some, None, is_some}
 use Rattle.exchange_defs.specs.Table.{put}
 use Rattle.exchange_defs.specs.Commands.{CreateRequest, SetupRequest, deletes_on_close}
 use Rattle.exchange_defs.specs.State.{Server, Message, Making}

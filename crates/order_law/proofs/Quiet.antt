@@ -1,20 +1,17 @@
 -- What the server does without a message, as far as the bytes under opens go: a connection is made or ends, or it starts anew.
-use Rattle.std.proofs.Common.{◌≡◌, ℕ, ◌+◌, ◌*◌, ◌≤◌, ◌<◌, nat_le, Bool, true, false, if◌then◌else◌, List, [], ◌∷◌, ◌++◌, length, refl, arith, sym, subst, ◌∙◌, ap, Option, Some, None}
+use Rattle.std.proofs.Common.{◌≡◌, ℕ, ◌≤◌, nat_le, true, ◌++◌, length, refl, arith, ◌∙◌, ap, Option, Some, None}
 use Rattle.exchange_defs.specs.State.{Server, Accept, End, ServerEvent, Answer}
 use Rattle.exchange_defs.specs.Records.{fits, origin_at}
 use Rattle.exchange_defs.specs.Opens.{id_of}
-use Rattle.exchange_defs.specs.Fold.{recovered}
 use Rattle.exchange_defs.specs.Step.{step, table, carried_out, expiring, with_deadlines, due, expire, expire_records, connection_of, ruling, ruling_without_room, Ruling, Says, TakesIn, TurnsAway, TakesOut, TakesAllOut, max_connections, max_marks, ends_with}
 use Rattle.exchange_law.proofs.Doors.{either}
 use Rattle.server_law.specs.Fits.{Fits}
 use Rattle.recovery_law.specs.Restarted.{Restarted}
-use Rattle.recovery_law.specs.Recovers.{staying}
 use Rattle.recovery_law.proofs.Restarts.{was_named, stood, ids_above}
-use Rattle.order_law.specs.Newest.{Pair}
 use Rattle.order_law.specs.Contents.{last_id}
 use Rattle.order_law.proofs.Pairs.{Moves as Goes, moves_alike, moves_on, same, expire_moves, deadlines_moves, take_out_moves, Still, still_same, still_on, still_alike, still_expire, still_deadlines, still_take_out, content_expire, content_end_named}
 use Rattle.order_law.proofs.Others.{is_connections, without_room_too}
-use Rattle.order_law.proofs.Moved.{Steps, Moves}
+use Rattle.order_law.proofs.Moved.{Moves}
 
 pub record Calmly (s t : Server) : Type 0 where
   pub goes : Goes s t

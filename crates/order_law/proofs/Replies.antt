@@ -1,12 +1,11 @@
 -- The client takes a reply: of an operation, of the DH2C in its place, or of a dialog.
-use Rattle.std.proofs.lemmas.Bool.{eqb-false}
-use Rattle.std.proofs.Common.{eqb-true, ◌≡◌, ◌≢◌, ℕ, ◌+◌, ◌≤◌, ◌<◌, ◌==◌, Bool, true, false, not, ◌&&◌, ◌||◌, if◌then◌else◌, List, [], ◌∷◌, refl, arith, sym, subst, ◌∙◌, ap, Option, Some, None, is_some, slice_get}
+use Rattle.std.proofs.Common.{eqb-true, ◌≡◌, ◌≢◌, ℕ, ◌≤◌, ◌<◌, ◌==◌, Bool, true, false, if◌then◌else◌, List, [], ◌∷◌, refl, arith, sym, subst, ◌∙◌, ap, Option, Some, None, slice_get}
 use Rattle.exchange_defs.specs.Table.{put}
 use Rattle.exchange_defs.specs.State.{Reply}
 use Rattle.exchange_defs.specs.Client.{Client, Stage, Apart, SaidNegotiate, SaidFirst, SaidSecond, AskedTree}
-use Rattle.exchange_defs.specs.Dialogs.{DialogStep, GoesOn, Accepts, Binds, Readies, Refuses, dialog_step, dialog_message, went_on, accepted, told_session}
+use Rattle.exchange_defs.specs.Dialogs.{DialogStep, GoesOn, Accepts, Binds, Readies, Refuses, dialog_step, went_on, accepted, told_session}
 use Rattle.exchange_defs.specs.Network.{World, Conn, Sent, Received, Token, ForDialog, ForOp, ForAttach, op_of, said, take_front, behind_reply, took_by, take_reply, dialog_took}
-use Rattle.exchange_law.specs.Connections.{Connections, copies, count_down, create_at, makes_open}
+use Rattle.exchange_law.specs.Connections.{copies}
 use Rattle.exchange_law.proofs.Lists.{counted_down, front_down, waited_down}
 use Rattle.exchange_law.proofs.Behind.{behind_keeps as behind_connections}
 use Rattle.exchange_law.proofs.Run.{front_reply_gone, reply_open, no_dialog, more_down}
@@ -14,8 +13,7 @@ use Rattle.session_law.specs.Sessions.{is_ops, makes_session}
 use Rattle.order_law.specs.Contents.{Contents}
 use Rattle.order_law.proofs.Front.{Lower, Holds}
 use Rattle.order_law.proofs.Server.{open_of_down}
-use Rattle.order_law.proofs.Table.{out_there, not_there}
-use Rattle.order_law.proofs.Words.{ops_of, attach_of}
+use Rattle.order_law.proofs.Table.{not_there}
 use Rattle.order_law.proofs.Hearing.{Told, took}
 use Rattle.order_law.proofs.OnBehind.{behind_keeps}
 use Rattle.order_law.proofs.OnWentOn.{went_on_keeps}
@@ -158,7 +156,7 @@ dialogs w a k y rest is opn tok l i0 i Readies e =
     (λ q. (l.ss.numbered_sessions q 0).0)
     (λ j n u h. let o = waited_down w.conns k y rest j n u is h in by_ops st j o.0 u o.1 (is_ops u.token) refl)
     (λ j n x h ops. let h2 = up_there w.conns k rest j n x h in let fr = l.ss.asked_fresh k j n x st h2 ops in
-      (fr, by_test (w.server.present x.message.session) x.message.session (λ pr. fr (l.ss.present_accepted x.message.session pr (l.ss.ranked_up j n x h2 ops) ∙ sym p.0)) refl))
+    (fr, by_test (w.server.present x.message.session) x.message.session (λ pr. fr (l.ss.present_accepted x.message.session pr (l.ss.ranked_up j n x h2 ops) ∙ sym p.0)) refl))
     i
   where
     by_ops : w.client.stage k ≡ AskedTree → (j n : ℕ) (u : Received) → slice_get (w.conns j).down n ≡ Some u → (b : Bool) → is_ops u.token ≡ b → is_ops u.token ≡ false

@@ -1,13 +1,12 @@
 -- What an operation's request is, read back.
-use Rattle.std.proofs.Common.{◌⊎◌, inl, inr, ◌≡◌, ℕ, ◌+◌, ◌*◌, ◌==◌, eqb-true, Bool, true, false, not, refl, arith, sym, subst, ◌∙◌, ap, Option, Some, None, is_some}
-use Rattle.exchange_defs.specs.Status.{success}
-use Rattle.exchange_defs.specs.Content.{ContentOp, Still, is_listed, is_change}
-use Rattle.exchange_defs.specs.Commands.{Command, Aside, Unreadable, Setup, Logoff, TreeConnect, TreeDisconnect, Create, Close, Flush, Read, Write, Lock, Ioctl, ListDirectory, QueryFile, QueryVolume, SetInfo, CreateRequest, Durable, Reconnect, form}
-use Rattle.exchange_defs.specs.Operations.{Op, OpCreate, OpWrite, OpRead, OpEnd, OpTime, OpRename, OpRemove, OpLock, OpUnlock, OpFlush, OpStat, OpList, OpClose, content_op, create_of, share_of, persists, is_create, durable_of, create_request, request_of, reconnect_of}
-use Rattle.exchange_law.specs.Connections.{its_request, makes_open, its_create}
+use Rattle.std.proofs.Common.{◌≡◌, ℕ, eqb-true, true, false, not, refl, arith, sym, ◌∙◌, Option, Some, None, is_some}
+use Rattle.exchange_defs.specs.Content.{is_listed}
+use Rattle.exchange_defs.specs.Commands.{Command, Aside, Unreadable, Setup, Logoff, TreeConnect, TreeDisconnect, Create, Close, Flush, Read, Write, Lock, Ioctl, ListDirectory, QueryFile, QueryVolume, SetInfo, CreateRequest, form}
+use Rattle.exchange_defs.specs.Operations.{Op, OpCreate, OpWrite, OpRead, OpEnd, OpTime, OpRename, OpRemove, OpLock, OpUnlock, OpFlush, OpStat, OpList, OpClose, content_op, share_of, persists, durable_of, create_request, request_of, reconnect_of}
+use Rattle.exchange_law.specs.Connections.{its_request, makes_open}
 use Rattle.session_law.specs.Sessions.{is_dialog}
 use Rattle.create_law.specs.Creates.{is_of_ask, keeps_form}
-use Rattle.order_law.specs.Contents.{lists, formed, edits}
+use Rattle.order_law.specs.Contents.{lists, formed}
 use Rattle.order_law.proofs.Listed.{asks, is_asked}
 use Rattle.order_law.proofs.Writing.{writes_to}
 use Rattle.order_law.proofs.Made.{creates, asks_guid, asks_share, attaches}

@@ -1,14 +1,12 @@
 -- Each event keeps what holds of the bytes under opens, and so does each run.
-use Rattle.std.proofs.lemmas.Bool.{eqb-false}
-use Rattle.std.proofs.Common.{eqb-true, ◌≡◌, ◌≢◌, ℕ, ◌+◌, ◌≤◌, ◌<◌, ◌==◌, Bool, true, false, not, ◌&&◌, ◌||◌, if◌then◌else◌, List, [], ◌∷◌, refl, arith, sym, subst, ◌∙◌, ap, Option, Some, None, is_some, slice_get}
+use Rattle.std.proofs.Common.{eqb-true, ◌≡◌, ℕ, ◌+◌, ◌≤◌, ◌==◌, Bool, true, false, not, ◌&&◌, if◌then◌else◌, List, [], ◌∷◌, refl, arith, sym, subst, ◌∙◌, ap, Some, slice_get}
 use Rattle.exchange_defs.specs.Table.{put, is_filled}
-use Rattle.exchange_defs.specs.State.{Server}
 use Rattle.exchange_defs.specs.Fold.{fold_from, sweep, recovered}
 use Rattle.exchange_defs.specs.Texts.{same_name}
 use Rattle.exchange_defs.specs.CheckSetup.{pipes_name}
 use Rattle.exchange_defs.specs.Operations.{NoSession}
 use Rattle.exchange_defs.specs.Client.{Client}
-use Rattle.exchange_defs.specs.Network.{World, Event, Submit, Open, Push, Serve, Take, Cut, Drop, Restart, Crash, Wait, Finish, Conn, Sent, Received, Settings, happens, run, start, later, may_open, may_serve, answer, absorbed, serve_front, absorb_front, behind_front, restarted}
+use Rattle.exchange_defs.specs.Network.{World, Event, Submit, Open, Push, Serve, Take, Cut, Drop, Restart, Crash, Wait, Finish, Conn, Sent, Settings, happens, run, start, later, may_open, may_serve, answer, absorbed, serve_front, absorb_front, behind_front, restarted}
 use Rattle.exchange_defs.specs.Runs.{acts, front_acts}
 use Rattle.exchange_defs.specs.Statements.{OneConnection}
 use Rattle.exchange_law.specs.Connections.{makes_open}
@@ -23,7 +21,6 @@ use Rattle.recovery_law.specs.Recovers.{Recovers}
 use Rattle.recovery_law.specs.Restarted.{Restarted}
 use Rattle.recovery_law.proofs.Worlds.{recovers}
 use Rattle.recovery_law.proofs.Restarts.{restarted as restarted_by}
-use Rattle.session_law.specs.Sessions.{is_ops}
 use Rattle.session_law.proofs.Always.{sessions}
 use Rattle.session_law.proofs.KindsAlways.{kinds, open_kind}
 use Rattle.create_law.specs.Creates.{AtMost}

@@ -1,15 +1,14 @@
 -- What an answer to a read, a write or an end says and does, and one to a request to attach an open.
-use Rattle.std.proofs.lemmas.Bool.{eqb-false}
 use Rattle.std.proofs.lemmas.Bool.Decides.{nat_tests}
-use Rattle.std.proofs.Common.{eqb-true, ◌⊎◌, inl, inr, ◌≡◌, ◌≢◌, ℕ, ◌+◌, ◌≤◌, ◌<◌, ◌==◌, nat_lt, Bool, true, false, not, ◌&&◌, ◌||◌, if◌then◌else◌, List, refl, arith, sym, subst, ◌∙◌, ap, Option, Some, None, is_some}
+use Rattle.std.proofs.Common.{inl, inr, ◌≡◌, ◌≢◌, ℕ, ◌≤◌, ◌<◌, ◌==◌, nat_lt, Bool, true, false, not, ◌&&◌, if◌then◌else◌, List, refl, arith, sym, subst, ◌∙◌, ap, Option, Some, None, is_some}
 use Rattle.exchange_defs.specs.Table.{put, is_at}
 use Rattle.exchange_defs.specs.Texts.{same_name}
 use Rattle.exchange_defs.specs.Status.{success, user_session_deleted, file_closed, file_not_available, end_of_file}
 use Rattle.exchange_defs.specs.Content.{ContentOp, Write as Writes, Read as Reads, SetEnd as Ends, Still, is_change, effect, value, past_end, written, ended}
-use Rattle.exchange_defs.specs.Commands.{Command, Aside, Unreadable, Setup, Logoff, TreeConnect, TreeDisconnect, Create, Close, Flush, Read, Write, Lock, Ioctl, ListDirectory, QueryFile, QueryVolume, SetInfo, CreateRequest, Reconnect, form, deletes_on_close}
+use Rattle.exchange_defs.specs.Commands.{Create, CreateRequest, Reconnect, form, deletes_on_close}
 use Rattle.exchange_defs.specs.State.{Server, Message, Heard, Record, Answer, Body}
 use Rattle.exchange_defs.specs.Files.{mark_file, remove_file}
-use Rattle.exchange_defs.specs.Opens.{id_of, is_of_session, leave_open, drop_open, marked_by, without_gone, goes}
+use Rattle.exchange_defs.specs.Opens.{is_of_session, leave_open, drop_open, marked_by, without_gone, goes}
 use Rattle.exchange_defs.specs.CheckCreate.{has_guid}
 use Rattle.exchange_defs.specs.CheckOpen.{is_late, file_of}
 use Rattle.exchange_defs.specs.CheckSetup.{tree_in}
@@ -19,9 +18,9 @@ use Rattle.exchange_defs.specs.Verdict.{Verdict, Refuse, Give, KeepRefusal, Repe
 use Rattle.exchange_defs.specs.Step.{step, with_deadlines, expire, add_mark}
 use Rattle.exchange_defs.specs.Network.{content_reply, answer_to}
 use Rattle.exchange_law.proofs.Doors.{either, by_verdict, recorded, Before, Finds}
-use Rattle.order_law.specs.Newest.{Pair, LowSequences}
+use Rattle.order_law.specs.Newest.{LowSequences}
 use Rattle.order_law.specs.Contents.{is_final}
-use Rattle.order_law.proofs.Pairs.{Moves, stale_less, in_time, content_reach, content_attached}
+use Rattle.order_law.proofs.Pairs.{stale_less, in_time, content_reach}
 use Rattle.order_law.proofs.Answers.{Earlier, earlier}
 use Rattle.order_law.proofs.Listed.{asks, is_asked, changed_by, Listed, ListedBy, listed, listed_without_room, Asked, asked, asked_without_room}
 
@@ -86,8 +85,13 @@ altered_facts s m op o now change body low l h =
     record {
       acts = λ a. (on.0, on.1, in_time s m o low l h.late, h.edit, refl, reaches_on s m o h.late, h.form);
       again = λ a r. h.again r;
-      done = λ e. (on.0, ap (λ f. f o) (standing_changed (reach s m o) (file_of s o) now change) ∙ (ap (λ f. f o) (reach_standing s m o) ∙ on.0), h.reply,
-        content_changed (reach s m o) (file_of s o) now change ∙ (ap (λ c. changed_by change (c (file_of s o))) (content_reach s m o) ∙ h.after), h.before);
+      done = λ e. (
+        on.0,
+        ap (λ f. f o) (standing_changed (reach s m o) (file_of s o) now change) ∙ (ap (λ f. f o) (reach_standing s m o) ∙ on.0),
+        h.reply,
+        content_changed (reach s m o) (file_of s o) now change ∙ (ap (λ c. changed_by change (c (file_of s o))) (content_reach s m o) ∙ h.after),
+        h.before,
+      );
       ended = λ e. absurd (cc);
       reached = λ c f z. reaches_on s m o h.late;
       closed = λ e. absurd (cc);
@@ -246,8 +250,8 @@ listed_step : (s : Server) (now : ℕ) (m : Message) (op : ContentOp) (o : ℕ) 
 listed_step s now m op o a e f t low l =
     by_verdict (ListedFacts s m op o) s now m
     (λ u v records b h. let k = earlier s now u b in
-      let lv = found_listed u m op o v (listed u m op o a e f (λ z. ap (λ g. is_some (tree_in (g m.session) m.tree)) (before_trees s now u b) ∙ t (ap (λ g. is_at m.session (g m.connection)) (sym (before_on s now u b)) ∙ z))) h in
-      listed_recorded s m op o _ records (listed_before s u m op o _ k (before_on s now u b) (λ st. ap (λ g. g o) (sym (listed_standing u m op o now v lv)) ∙ st) (listed_facts_at u m op o now (before_low s u k low) l v lv)))
+    let lv = found_listed u m op o v (listed u m op o a e f (λ z. ap (λ g. is_some (tree_in (g m.session) m.tree)) (before_trees s now u b) ∙ t (ap (λ g. is_at m.session (g m.connection)) (sym (before_on s now u b)) ∙ z))) h in
+    listed_recorded s m op o _ records (listed_before s u m op o _ k (before_on s now u b) (λ st. ap (λ g. g o) (sym (listed_standing u m op o now v lv)) ∙ st) (listed_facts_at u m op o now (before_low s u k low) l v lv)))
 
 asked_answer : (s : Server) (now : ℕ) (m : Message) (op : ContentOp) (o : ℕ) → is_asked op ≡ true → answer_to s now m (asks op o) ≡ step s now (Heard m)
 asked_answer s now m (Writes at bytes) o a = refl
@@ -340,7 +344,7 @@ asked_before s t m c A k us onn back f =
     record {
       attached = f.attached;
       refused = λ a b st gd un. let on = k.at_on c.file (ap (λ g. g c.file) (sym back) ∙ st) in
-        ap (λ x. is_some x && not (is_at m.session x)) (sym on) ∙ f.refused a b st (ap (has_guid c.guid) row ∙ gd) (λ hs. ap (λ x. same_name x (t.user m.session)) who ∙ (ap (λ g. same_name (s.opened c.file).user (g m.session)) us ∙ un (ap (λ g. is_at m.session (g m.connection)) (sym onn) ∙ hs)));
+          ap (λ x. is_some x && not (is_at m.session x)) (sym on) ∙ f.refused a b st (ap (has_guid c.guid) row ∙ gd) (λ hs. ap (λ x. same_name x (t.user m.session)) who ∙ (ap (λ g. same_name (s.opened c.file).user (g m.session)) us ∙ un (ap (λ g. is_at m.session (g m.connection)) (sym onn) ∙ hs)));
       end = f.end;
       idle = f.idle;
     }
@@ -356,7 +360,7 @@ asked_step : (s : Server) (now : ℕ) (m : Message) (r : CreateRequest) (c : Rec
 asked_step s now m r c e k f t d n =
     by_verdict (AskedFacts s m c) s now m
     (λ u v records b h. let q = earlier s now u b in let av = found_asked u m c v (asked u m r c e k f (λ z. ap (λ g. is_some (tree_in (g m.session) m.tree)) (before_trees s now u b) ∙ t (ap (λ g. is_at m.session (g m.connection)) (sym (before_on s now u b)) ∙ z)) (λ z st. d (ap (λ g. tree_in (g m.session) m.tree) (sym (before_trees s now u b)) ∙ z) (q.moves.stands c.file st)) n) h in
-      asked_recorded s m c _ records (asked_before s u m c _ q (before_user s now u b) (before_on s now u b) (asked_standing u m c now v av) (asked_facts_at u m c now n v av)))
+    asked_recorded s m c _ records (asked_before s u m c _ q (before_user s now u b) (before_on s now u b) (asked_standing u m c now v av) (asked_facts_at u m c now n v av)))
 
 pub asked_facts : (s : Server) (now : ℕ) (m : Message) (r : CreateRequest) (c : Reconnect) → m.command ≡ Create r → r.reconnect ≡ Some c → m.fault ≡ None → (has_session s m ≡ true → is_some (tree_in (s.trees m.session) m.tree) ≡ true) → (tree_in (s.trees m.session) m.tree ≡ Some true → s.standing c.file ≡ true → ⊥) → form m.command ≡ None
     → AskedFacts s m c (answer_to s now m m.command)

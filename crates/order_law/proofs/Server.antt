@@ -1,15 +1,14 @@
 -- The events in which the server moves: it takes a message, a connection is made or ends, it starts anew.
-use Rattle.std.proofs.lemmas.Bool.{eqb-false}
-use Rattle.std.proofs.Common.{eqb-true, ◌⊎◌, inl, inr, ◌≡◌, ◌≢◌, ℕ, ◌+◌, ◌*◌, ◌≤◌, ◌<◌, ◌==◌, Bool, true, false, not, ◌&&◌, ◌||◌, if◌then◌else◌, List, [], ◌∷◌, ◌++◌, refl, arith, sym, subst, ◌∙◌, ap, Option, Some, None, is_some, slice_get}
+use Rattle.std.proofs.Common.{◌⊎◌, inl, inr, ◌≡◌, ℕ, ◌≤◌, ◌<◌, ◌==◌, Bool, true, false, ◌||◌, if◌then◌else◌, List, [], ◌∷◌, ◌++◌, refl, arith, sym, subst, ◌∙◌, ap, Option, Some, slice_get}
 use Rattle.exchange_defs.specs.Table.{put}
-use Rattle.exchange_defs.specs.Status.{success, user_session_deleted, end_of_file}
-use Rattle.exchange_defs.specs.State.{Server, Message, Answer, Accept, End}
+use Rattle.exchange_defs.specs.Status.{success}
+use Rattle.exchange_defs.specs.State.{Server, Accept, End}
 use Rattle.exchange_defs.specs.Fold.{recovered}
 use Rattle.exchange_defs.specs.Step.{step}
-use Rattle.exchange_defs.specs.Operations.{Op, is_ok, id_in}
-use Rattle.exchange_defs.specs.Client.{Client, guid_for}
-use Rattle.exchange_defs.specs.Network.{World, Conn, Sent, Received, Token, ForDialog, ForOp, ForAttach, op_of, makes, answer, absorbed, replied, serve_front, absorb_front, behind_front, restarted, opened, dropped, say_down, said as said_by}
-use Rattle.exchange_law.specs.Connections.{Connections, create_at, makes_open}
+use Rattle.exchange_defs.specs.Operations.{is_ok, id_in}
+use Rattle.exchange_defs.specs.Client.{guid_for}
+use Rattle.exchange_defs.specs.Network.{World, Conn, Sent, Received, ForOp, ForAttach, op_of, makes, answer, absorbed, replied, behind_front, restarted, opened, dropped, said as said_by}
+use Rattle.exchange_law.specs.Connections.{create_at, makes_open}
 use Rattle.exchange_law.proofs.Lists.{front_up}
 use Rattle.exchange_law.proofs.Doors.{either}
 use Rattle.exchange_law.proofs.Run.{makes_one, put_self}
@@ -17,13 +16,13 @@ use Rattle.recovery_law.specs.Restarted.{Restarted}
 use Rattle.server_law.specs.Fits.{Fits}
 use Rattle.session_law.specs.Sessions.{is_ops}
 use Rattle.order_law.specs.Newest.{Pair}
-use Rattle.order_law.specs.Contents.{Contents, lists, edits, file_at, last_id}
-use Rattle.order_law.proofs.Front.{Lower, Holds, Said, taking, said}
+use Rattle.order_law.specs.Contents.{Contents, edits, file_at, last_id}
+use Rattle.order_law.proofs.Front.{Lower, Holds, taking, said}
 use Rattle.order_law.proofs.Moved.{Moves}
 use Rattle.order_law.proofs.Quiet.{calm_moves, calm_accept, calm_end, anew_moves}
 use Rattle.order_law.proofs.Taking.{Taking, new_trace, new_log, new_acts, open_kept, first_none, makes_it}
-use Rattle.order_law.proofs.Words.{ops_of, attach_of, put_old, put_self as put_there, edits_other}
-use Rattle.order_law.proofs.OnAbsorb.{absorb_keeps, its_open, lists_other}
+use Rattle.order_law.proofs.Words.{attach_of, put_self as put_there}
+use Rattle.order_law.proofs.OnAbsorb.{absorb_keeps, lists_other}
 use Rattle.order_law.proofs.OnSay.{say_keeps}
 use Rattle.order_law.proofs.OnMoved.{moved_keeps}
 use Rattle.order_law.proofs.OnOpened.{opened_keeps}
@@ -114,7 +113,7 @@ serves w a k x0 rest is l most i =
     says : (put w.conns k (behind_front (w.conns k) rest) k).client_open ≡ true
         → Contents w.client (put w.conns k (behind_front (w.conns k) rest)) (answer w x0).server (new_trace w.client w.trace w.log x0 (answer w x0)) (new_log w.client w.trace w.log x0 (answer w x0)) (new_acts a x0 (answer w x0))
         → Contents w.client (put (put w.conns k (behind_front (w.conns k) rest)) k (record (put w.conns k (behind_front (w.conns k) rest) k) { down = (put w.conns k (behind_front (w.conns k) rest) k).down ++ record { token = x0.token; reply = (answer w x0).reply; place = w.log.places } ∷ [] }))
-            (answer w x0).server (new_trace w.client w.trace w.log x0 (answer w x0)) (new_log w.client w.trace w.log x0 (answer w x0)) (new_acts a x0 (answer w x0))
+        (answer w x0).server (new_trace w.client w.trace w.log x0 (answer w x0)) (new_log w.client w.trace w.log x0 (answer w x0)) (new_acts a x0 (answer w x0))
     says o j =
         let A = answer w x0 in let opn = some_open w.conns k rest o in let q = said w a k x0 rest is opn l t i in
         say_keeps w.client (put w.conns k (behind_front (w.conns k) rest)) A.server (new_trace w.client w.trace w.log x0 A) (new_log w.client w.trace w.log x0 A) (new_acts a x0 A) k (record { token = x0.token; reply = A.reply; place = w.log.places })

@@ -1,26 +1,23 @@
 -- The events of the client's table and its channels, but for those of a reply.
 use Rattle.std.proofs.lemmas.Bool.{eqb-false}
 use Rattle.std.proofs.lemmas.Bool.Decides.{nat_tests}
-use Rattle.std.proofs.Common.{eqb-true, ◌⊎◌, inl, inr, ◌≡◌, ◌≢◌, ℕ, ◌+◌, ◌*◌, ◌≤◌, ◌<◌, ◌==◌, nat_lt, nat_le, Bool, true, false, not, ◌&&◌, ◌||◌, if◌then◌else◌, List, [], ◌∷◌, ◌++◌, refl, arith, sym, subst, ◌∙◌, ap, Option, Some, None, is_some, slice_get}
+use Rattle.std.proofs.Common.{eqb-true, ◌≡◌, ◌≢◌, ℕ, ◌+◌, ◌≤◌, ◌<◌, ◌==◌, Bool, true, false, not, ◌&&◌, ◌||◌, if◌then◌else◌, List, [], ◌∷◌, refl, arith, sym, subst, ◌∙◌, ap, Option, Some, None, is_some, slice_get}
 use Rattle.exchange_defs.specs.Table.{put, put2}
-use Rattle.exchange_defs.specs.Content.{is_listed, is_change, collides, meets}
-use Rattle.exchange_defs.specs.State.{Server, Message}
-use Rattle.exchange_defs.specs.Operations.{Op, OpCreate, OpWrite, OpRead, OpEnd, OpTime, OpRename, OpRemove, OpLock, OpUnlock, OpFlush, OpStat, OpList, OpClose, Outcome, Unsettled, NoSlot, NoOpen, Why, NoSession, is_unsettled, is_firm, is_ok, is_create, is_lock, is_change as changes, create_of, holds_up, content_op, charge, weight}
-use Rattle.exchange_defs.specs.Client.{Client, may_take, outcome_at_first, is_gone, is_taken, may_push, goes_itself, is_attached, has_its_slot, lacks_slot, settle_no_slot, settle_no_slots, begin, again, take_slot, outstanding, asked, own_message, ask_message, create_for, cut_channel, end_session, finish, ends_at_cut, guid_for, is_replay}
-use Rattle.exchange_defs.specs.ClientStep.{Pick, Act, Nothing, Sends, Asks, CloseChannels, AllSettled, pick_after, pick_act, some_unsettled}
+use Rattle.exchange_defs.specs.Content.{is_listed, is_change, collides}
+use Rattle.exchange_defs.specs.State.{Message}
+use Rattle.exchange_defs.specs.Operations.{Op, OpClose, Outcome, Unsettled, NoSlot, NoOpen, Why, is_unsettled, is_firm, is_ok, is_create, is_lock, is_change as changes, create_of, holds_up, charge, weight}
+use Rattle.exchange_defs.specs.Client.{Client, may_take, outcome_at_first, is_gone, is_taken, may_push, goes_itself, has_its_slot, lacks_slot, settle_no_slot, settle_no_slots, begin, again, take_slot, outstanding, asked, own_message, ask_message, create_for, cut_channel, end_session, finish, ends_at_cut, is_replay}
+use Rattle.exchange_defs.specs.ClientStep.{Pick, Act, Nothing, CloseChannels, pick_after, pick_act, some_unsettled}
 use Rattle.exchange_defs.specs.Order.{Log}
-use Rattle.exchange_defs.specs.Network.{World, Event, Submit, Push, Cut, Finish, Conn, Sent, Received, Token, ForDialog, ForOp, ForAttach, op_of, changed, with_client, cut_by, pushed_by, first_push, send_up}
-use Rattle.exchange_law.specs.Connections.{Connections, create_at, makes_open, its_create, copies, count_up, count_down, Bodies}
-use Rattle.exchange_law.proofs.Lists.{own_up_count, own_down_count, attach_down_count, counted_down}
+use Rattle.exchange_defs.specs.Network.{World, Submit, Push, Cut, Conn, Sent, Received, ForOp, ForAttach, op_of, changed, with_client, cut_by, pushed_by, first_push, send_up}
+use Rattle.exchange_law.specs.Connections.{Connections, create_at, makes_open, its_create, copies, Bodies}
+use Rattle.exchange_law.proofs.Lists.{own_up_count, counted_down}
 use Rattle.exchange_law.proofs.Doors.{either}
-use Rattle.exchange_law.proofs.Run.{MayPush, next_of, not_true, found, free_of, no_slots, no_wait, own_for, own_create, both_ways, ok_is_settled}
-use Rattle.exchange_law.proofs.Stays.{Beyond}
-use Rattle.session_law.specs.Sessions.{is_ops}
-use Rattle.order_law.specs.Newest.{Pair}
-use Rattle.order_law.specs.Contents.{Contents, lists, edits, clashes, file_at, last_id}
+use Rattle.exchange_law.proofs.Run.{MayPush, next_of, found, free_of, no_wait, own_for, own_create, both_ways, ok_is_settled}
+use Rattle.order_law.specs.Contents.{Contents, lists, edits, clashes}
 use Rattle.order_law.proofs.Front.{Lower, Holds}
 use Rattle.order_law.proofs.Server.{open_of_down}
-use Rattle.order_law.proofs.Words.{ops_of, attach_of}
+use Rattle.order_law.proofs.Words.{ops_of}
 use Rattle.order_law.proofs.OnSubmit.{submit_keeps}
 use Rattle.order_law.proofs.OnFinished.{finished_keeps}
 use Rattle.order_law.proofs.OnCut.{cut_keeps}
@@ -65,8 +62,8 @@ pub submits : (w : World) (a : ℕ → ℕ) (g : ℕ) (op : Op) → Lower w a �
 submits w a g op l i =
     either (λ d. Contents d w.conns w.server w.trace w.log a) (may_take w.client g op) _ _
     (λ may. submit_keeps w.client w.conns w.server w.trace w.log a g op (outcome_at_first w.client g op) (next_of w.client g op may) (l.beyond g (not_taken w.client g (next_of w.client g op may))).0
-      (first_outcome (is_create op) (is_gone w.client (create_of g op)) (create_of g op)) (below_taken w.client w.conns a l.cn) (λ n ls. listed_above n ls)
-      (λ n lt ls. below_taken w.client w.conns a l.cn (w.log.who n) (listed_above n ls) (i.whose n lt).0) l.cn.taken l.cn.creates i)
+    (first_outcome (is_create op) (is_gone w.client (create_of g op)) (create_of g op)) (below_taken w.client w.conns a l.cn) (λ n ls. listed_above n ls)
+    (λ n lt ls. below_taken w.client w.conns a l.cn (w.log.who n) (listed_above n ls) (i.whose n lt).0) l.cn.taken l.cn.creates i)
     (λ _. i)
   where
     listed_above : (n : ℕ) → lists (w.client.op (w.log.who n)) ≡ true → 0 < w.log.who n
@@ -165,12 +162,12 @@ slotless_one : (w : World) (a : ℕ → ℕ) (c : Client) (k g : ℕ) → Bodies
 slotless_one w a c k g b i =
     either (Slotless w a) (lacks_slot c k g) (Only c (put c.outcome g (NoSlot (create_for c g)))) c
     (λ e. let m = lacks_of c k g e in let u = (found c k g m.0).pending in
-      record {
-        holds = settles_one c w a g (create_for c g) u m.1 (only_bodies w c i.is b) i.holds;
-        is = ap (λ d. Only d (put c.outcome g (NoSlot (create_for c g)))) i.is;
-        same = λ h f. by_put (λ h o. is_unsettled (w.client.outcome h) ≡ false → o ≡ w.client.outcome h) c.outcome g h (NoSlot (create_for c g))
-            (λ z q. absurd (differ (c.outcome g) u (ap is_unsettled (ap c.outcome (sym z) ∙ i.same h q) ∙ q))) (λ z q. i.same h q) f;
-      })
+    record {
+      holds = settles_one c w a g (create_for c g) u m.1 (only_bodies w c i.is b) i.holds;
+      is = ap (λ d. Only d (put c.outcome g (NoSlot (create_for c g)))) i.is;
+      same = λ h f. by_put (λ h o. is_unsettled (w.client.outcome h) ≡ false → o ≡ w.client.outcome h) c.outcome g h (NoSlot (create_for c g))
+          (λ z q. absurd (differ (c.outcome g) u (ap is_unsettled (ap c.outcome (sym z) ∙ i.same h q) ∙ q))) (λ z q. i.same h q) f;
+    })
     (λ _. i)
 
 slotless : (w : World) (a : ℕ → ℕ) (c : Client) (k : ℕ) (gs : List ℕ) → Bodies w.client w.conns → Slotless w a c → Slotless w a (settle_no_slots c k gs)
@@ -283,7 +280,7 @@ goes_out w a c k g s l i0 i may itself stands live true e =
     subst (λ lg. Out w a k g lg (again c g)) (sym (old_log w g (ap (λ f. f g) (sym y.sent) ∙ e)))
     (either (Out w a k g w.log) (is_lock (c.op g)) (record c { retried = put2 c.retried (create_for c g) (c.slot_of g) c.number }) c
     (λ _. sends w a (record c { retried = put2 c.retried (create_for c g) (c.slot_of g) c.number }) w.log k g _ _ l i0 stands
-      (record { holds = retried_keeps c w.conns w.server w.trace w.log a (create_for c g) (c.slot_of g) i.holds; file = y.file; op = y.op; on = y.on; may = record { ready = m.ready; above = m.above; within = m.within; pending = m.pending; none = m.none; has_open = m.has_open }; live = y.live ∙ live; itself = itself }) refl refl refl)
+    (record { holds = retried_keeps c w.conns w.server w.trace w.log a (create_for c g) (c.slot_of g) i.holds; file = y.file; op = y.op; on = y.on; may = record { ready = m.ready; above = m.above; within = m.within; pending = m.pending; none = m.none; has_open = m.has_open }; live = y.live ∙ live; itself = itself }) refl refl refl)
     (λ _. sends w a c w.log k g _ _ l i0 stands (record { holds = i.holds; file = y.file; op = y.op; on = y.on; may = m; live = y.live ∙ live; itself = itself }) refl refl refl))
 goes_out w a c k g s l i0 i may itself stands live false e =
     let y = beside_of w c i.is in let m = found c k g may in let h = starts w a c k g l i0 i may live (y.live ∙ live) y.on e in
@@ -291,9 +288,9 @@ goes_out w a c k g s l i0 i may itself stands live false e =
     subst (λ lg. Out w a k g lg (begin c g s)) (sym (new_log w g (ap (λ f. f g) (sym y.sent) ∙ e)))
     (either (Out w a k g lg) (is_lock (c.op g)) (record (take_slot c g s) { sent = put c.sent g true }) (record c { sent = put c.sent g true })
     (λ _. sends w a (record (take_slot c g s) { sent = put c.sent g true }) lg k g _ _ l i0 stands
-      (record { holds = take_slot_keeps (record c { sent = put c.sent g true }) w.conns w.server w.trace lg a g s h; file = y.file; op = y.op; on = y.on; may = record { ready = m.ready; above = m.above; within = m.within; pending = m.pending; none = m.none; has_open = m.has_open }; live = y.live ∙ live; itself = itself }) refl refl refl)
+    (record { holds = take_slot_keeps (record c { sent = put c.sent g true }) w.conns w.server w.trace lg a g s h; file = y.file; op = y.op; on = y.on; may = record { ready = m.ready; above = m.above; within = m.within; pending = m.pending; none = m.none; has_open = m.has_open }; live = y.live ∙ live; itself = itself }) refl refl refl)
     (λ _. sends w a (record c { sent = put c.sent g true }) lg k g _ _ l i0 stands
-      (record { holds = h; file = y.file; op = y.op; on = y.on; may = record { ready = m.ready; above = m.above; within = m.within; pending = m.pending; none = m.none; has_open = m.has_open }; live = y.live ∙ live; itself = itself }) refl refl refl))
+    (record { holds = h; file = y.file; op = y.op; on = y.on; may = record { ready = m.ready; above = m.above; within = m.within; pending = m.pending; none = m.none; has_open = m.has_open }; live = y.live ∙ live; itself = itself }) refl refl refl))
 
 no_create : (op : Op) (x : Bool) → (is_create op || x) ≡ false → makes_open op ≡ false
 unfolding makes_open
@@ -310,8 +307,8 @@ pushes_op w a c k g s l i0 i stands live =
     let P : Client → Act → Type 0 = λ d x. Holds (pushed_by w k d x) a in
     both_ways P (may_push c k g) _ _ _ _
     (λ may. both_ways P (goes_itself c g) _ _ _ _
-      (λ it. both_ways P (has_its_slot c g s) _ _ _ _ (λ _. goes_out w a c k g s l i0 i may it stands live (c.sent g) refl) (λ _. i.holds))
-      (λ it. asks_out w a c k g i (found c k g may) (no_create (c.op g) _ it)))
+    (λ it. both_ways P (has_its_slot c g s) _ _ _ _ (λ _. goes_out w a c k g s l i0 i may it stands live (c.sent g) refl) (λ _. i.holds))
+    (λ it. asks_out w a c k g i (found c k g may) (no_create (c.op g) _ it)))
     (λ _. i.holds)
 
 picks : (w : World) (a : ℕ → ℕ) (c : Client) (k : ℕ) (pick : Option Pick) → Lower w a → Holds w a → Slotless w a c → (w.conns k).client_open ≡ true → w.client.live ≡ true → Holds (pushed_by w k (pick_after c k pick) (pick_act c k pick)) a

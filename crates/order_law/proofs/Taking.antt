@@ -1,18 +1,18 @@
 -- What is known where the server takes the front of a connection, and what is remembered of it.
 use Rattle.std.proofs.lemmas.Bool.{eqb-false}
-use Rattle.std.proofs.Common.{eqb-true, ◌⊎◌, inl, inr, ◌≡◌, ◌≢◌, ℕ, ◌+◌, ◌≤◌, ◌<◌, ◌==◌, Bool, true, false, not, ◌&&◌, ◌||◌, if◌then◌else◌, List, refl, arith, sym, subst, ◌∙◌, ap, Option, Some, None, is_some}
+use Rattle.std.proofs.Common.{eqb-true, ◌⊎◌, inl, inr, ◌≡◌, ◌≢◌, ℕ, ◌+◌, ◌≤◌, ◌<◌, ◌==◌, Bool, true, false, ◌&&◌, if◌then◌else◌, List, refl, arith, sym, subst, ◌∙◌, ap, Option, Some, None}
 use Rattle.exchange_defs.specs.Table.{put}
 use Rattle.exchange_defs.specs.Commands.{form}
 use Rattle.exchange_defs.specs.Order.{Log}
 use Rattle.exchange_defs.specs.State.{Server, Answer}
-use Rattle.exchange_defs.specs.Operations.{Op, is_ok, share_of, content_op}
+use Rattle.exchange_defs.specs.Operations.{is_ok, share_of, content_op}
 use Rattle.exchange_defs.specs.Client.{Client, AskedTree, guid_for}
-use Rattle.exchange_defs.specs.Network.{Conn, Sent, Trace, Token, ForDialog, ForOp, ForAttach, op_of, is_own, makes, said, first_noted, bytes_behind}
+use Rattle.exchange_defs.specs.Network.{Sent, Trace, Token, ForDialog, ForOp, ForAttach, op_of, is_own, makes, said, first_noted, bytes_behind}
 use Rattle.exchange_defs.specs.Runs.{is_send_of}
-use Rattle.exchange_law.specs.Connections.{create_at, makes_open}
+use Rattle.exchange_law.specs.Connections.{makes_open}
 use Rattle.session_law.specs.Sessions.{is_ops}
 use Rattle.order_law.specs.Newest.{Pair}
-use Rattle.order_law.specs.Contents.{edits, formed, lists, file_at, last_id}
+use Rattle.order_law.specs.Contents.{formed, lists, file_at, last_id}
 use Rattle.order_law.proofs.Moved.{Steps}
 use Rattle.order_law.proofs.Served.{ListedFacts}
 use Rattle.order_law.proofs.Writing.{Changing, writes_to}

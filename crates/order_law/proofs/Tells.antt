@@ -1,21 +1,21 @@
 -- What a success says to a create's own message: its open was made now, or its guid names the one that it tells.
-use Rattle.std.proofs.Common.{◌⊎◌, inl, inr, ◌≡◌, ℕ, ◌==◌, nat_le, nat_lt, Bool, true, false, not, ◌&&◌, ◌||◌, if◌then◌else◌, List, refl, arith, sym, subst, ◌∙◌, ap, Option, Some, None, is_some}
+use Rattle.std.proofs.Common.{◌⊎◌, inl, inr, ◌≡◌, ℕ, ◌==◌, nat_le, Bool, true, false, not, ◌&&◌, ◌||◌, refl, arith, sym, subst, ◌∙◌, ap, Option, Some, None, is_some}
 use Rattle.exchange_defs.specs.Table.{is_at}
 use Rattle.exchange_defs.specs.Texts.{same_name}
 use Rattle.exchange_defs.specs.Status.{success}
-use Rattle.exchange_defs.specs.Commands.{Command, Aside, Create, CreateRequest, Durable, deletes_on_close, form, create_form, path_form, is_setup}
-use Rattle.exchange_defs.specs.State.{Server, Message, Heard, Record, Answer}
+use Rattle.exchange_defs.specs.Commands.{Create, CreateRequest, Durable, deletes_on_close, form, create_form, path_form, is_setup}
+use Rattle.exchange_defs.specs.State.{Server, Message, Heard, Answer}
 use Rattle.exchange_defs.specs.Files.{find, mark_file, remove_file}
 use Rattle.exchange_defs.specs.Opens.{deletes, mapped, leave_open, drop_open, marked_by, without_gone, goes}
 use Rattle.exchange_defs.specs.Operations.{id_in}
-use Rattle.exchange_defs.specs.CheckCreate.{shares, keeps_guid, max_guids, is_counted_out, refused_by, refused_create, after_names, share_names, new_check, live_check, refusal_check, guid_check, durable_check, reconnect_or_create}
+use Rattle.exchange_defs.specs.CheckCreate.{shares, keeps_guid, max_guids, is_counted_out, refused_by, after_names, share_names, new_check, live_check, refusal_check, guid_check, durable_check, reconnect_or_create}
 use Rattle.exchange_defs.specs.CheckSetup.{tree_in}
-use Rattle.exchange_defs.specs.Check.{has_session, in_tree, tree_command, with_tree, command_check, formed, owed, check}
+use Rattle.exchange_defs.specs.Check.{has_session, in_tree, tree_command, command_check, formed, owed, check}
 use Rattle.exchange_defs.specs.Effects.{apply}
 use Rattle.exchange_defs.specs.Verdict.{Verdict, Refuse, Give, KeepRefusal, Repeat, Attach, Make, TurnDown, Tell, Show, KeepSlot, PutRanges, Alter, Shut, Challenge, ChallengeBinding, Begin, Join, EndSession, AddTree, DropTree}
-use Rattle.exchange_defs.specs.Step.{step, without_room, with_deadlines, expire, add_mark}
+use Rattle.exchange_defs.specs.Step.{step, without_room, with_deadlines, add_mark}
 use Rattle.exchange_defs.specs.Network.{answer_to}
-use Rattle.exchange_law.proofs.Doors.{either, by_verdict, recorded, Before, Finds}
+use Rattle.exchange_law.proofs.Doors.{either, by_verdict, Before, Finds}
 use Rattle.server_law.proofs.Found.{Facts as Found}
 use Rattle.server_law.proofs.Checked.{found}
 use Rattle.order_law.proofs.Answers.{Earlier, earlier}
@@ -155,7 +155,7 @@ tells_step : (s : Server) (now : ℕ) (m : Message) (d : Durable) (r : CreateReq
 tells_step s now m d r e n k f u =
     by_verdict (Tells s m d) s now m
     (λ t v records b h. let q = earlier s now t b in let c = check_sure t m d r e n k f (λ x status z. u x status (ap (λ g. g m.session x) (sym (before_refused s now t b)) ∙ z)) in
-      let a = tells_at t m d now v (found_sure t m d r v e k c h) (found t m v h) in record { tells = λ z. by_side t q v (a.tells z) })
+    let a = tells_at t m d now v (found_sure t m d r v e k c h) (found t m v h) in record { tells = λ z. by_side t q v (a.tells z) })
   where
     by_side : (t : Server) → Earlier s t → (v : Verdict) → ((apply t m now v).acted ≡ true × (apply t m now v).reached ≡ Some (id_in (apply t m now v).reply.body)) ⊎ (t.by_guid m.client d.guid ≡ Some (id_in (apply t m now v).reply.body))
         → ((apply t m now v).acted ≡ true × (apply t m now v).reached ≡ Some (id_in (apply t m now v).reply.body)) ⊎ (s.by_guid m.client d.guid ≡ Some (id_in (apply t m now v).reply.body))

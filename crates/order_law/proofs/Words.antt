@@ -1,12 +1,12 @@
 -- Small facts of the client's table and of what waits.
 use Rattle.std.proofs.lemmas.Bool.{eqb-false}
-use Rattle.std.proofs.Common.{eqb-true, ◌≡◌, ◌≢◌, ℕ, ◌+◌, ◌<◌, ◌≤◌, ◌==◌, Bool, true, false, not, if◌then◌else◌, List, [], ◌∷◌, ◌++◌, ◌⊎◌, inl, inr, slice_get, is_some, refl, arith, sym, subst, Option, Some, None, ap, ◌∙◌}
+use Rattle.std.proofs.Common.{eqb-true, ◌≡◌, ◌≢◌, ℕ, ◌+◌, ◌<◌, ◌≤◌, ◌==◌, Bool, true, false, if◌then◌else◌, [], ◌∷◌, ◌++◌, ◌⊎◌, inl, inr, slice_get, is_some, refl, arith, sym, subst, Option, Some, None, ap, ◌∙◌}
 use Rattle.exchange_defs.specs.Table.{put, is_at}
 use Rattle.exchange_defs.specs.Operations.{Op, Outcome, Unsettled, WasOk, WasRefused, NoSlot, NoOpen, Unknown, Why, is_unsettled, is_firm, is_ok, is_create, persists}
-use Rattle.exchange_defs.specs.Client.{Client, create_for, outcome_after_end, given_up_after_end, plain_after_end, unsent_after_end, outcome_after_finish, given_up_after_finish}
+use Rattle.exchange_defs.specs.Client.{Client, create_for, outcome_after_end, given_up_after_end, unsent_after_end, outcome_after_finish, given_up_after_finish}
 use Rattle.exchange_defs.specs.Content.{is_change}
 use Rattle.exchange_defs.specs.State.{Message}
-use Rattle.exchange_defs.specs.Network.{Token, ForDialog, ForOp, ForAttach, op_of, Conn, Sent, Received, send_up}
+use Rattle.exchange_defs.specs.Network.{Token, ForOp, ForAttach, Conn, Sent, Received, send_up}
 use Rattle.exchange_law.specs.Connections.{makes_open}
 use Rattle.exchange_law.proofs.Lists.{get-push}
 use Rattle.order_law.specs.Contents.{edits}

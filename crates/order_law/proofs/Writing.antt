@@ -1,31 +1,28 @@
 -- What an answer does to the bytes of files and to the opens that stand, for whichever check answered.
 use Rattle.std.proofs.lemmas.Bool.{eqb-false}
-use Rattle.std.proofs.lemmas.Bool.Decides.{nat_tests}
-use Rattle.std.proofs.Common.{eqb-true, ◌⊎◌, inl, inr, ◌≡◌, ◌≢◌, ℕ, ◌+◌, ◌*◌, ◌≤◌, ◌<◌, ◌==◌, Bool, true, false, not, ◌&&◌, ◌||◌, if◌then◌else◌, List, [], refl, arith, sym, subst, ◌∙◌, ap, Option, Some, None, is_some, length}
-use Rattle.exchange_defs.specs.Table.{put, put2, has}
-use Rattle.exchange_defs.specs.Content.{written, ended, same_bytes, is_empty}
+use Rattle.std.proofs.Common.{eqb-true, ◌⊎◌, inl, inr, ◌≡◌, ◌≢◌, ℕ, ◌≤◌, ◌<◌, ◌==◌, Bool, true, false, not, ◌&&◌, ◌||◌, List, [], refl, arith, sym, subst, ◌∙◌, ap, Option, Some, None}
+use Rattle.exchange_defs.specs.Table.{put, has}
+use Rattle.exchange_defs.specs.Content.{written, ended}
 use Rattle.exchange_defs.proofs.Content.{same_bytes-true}
-use Rattle.exchange_defs.specs.Commands.{Command, Aside, Unreadable, Setup, Logoff, TreeConnect, TreeDisconnect, Create, Close, Flush, Read, Write, Lock, Ioctl, ListDirectory, QueryFile, QueryVolume, SetInfo, CreateRequest, Durable, Setting, SetBasic, Rename, SetDelete, SetAllocation, SetEnd}
+use Rattle.exchange_defs.specs.Commands.{Command, Aside, Unreadable, Setup, Logoff, TreeConnect, TreeDisconnect, Create, Close, Flush, Read, Write, Lock, Ioctl, ListDirectory, QueryFile, QueryVolume, SetInfo, CreateRequest, Setting, SetBasic, Rename, SetDelete, SetAllocation, SetEnd}
 use Rattle.exchange_defs.specs.State.{Server, Message, Heard, Record, Answer, Body, Open}
 use Rattle.exchange_defs.specs.Files.{root, exists, exists_in, empty_file}
-use Rattle.exchange_defs.specs.Opens.{id_of, is_of_session, denies_writers, writes, mapped, add_open, with_guid}
+use Rattle.exchange_defs.specs.Opens.{id_of, denies_writers, writes, mapped}
 use Rattle.exchange_defs.specs.CheckCreate.{empties, shares}
-use Rattle.exchange_defs.specs.CheckOpen.{is_late, file_of, has_access, bytes_change, allocation_change}
-use Rattle.exchange_defs.specs.Check.{check}
-use Rattle.exchange_defs.specs.Effects.{apply, reach, reaches, change_file, change_acts, attached, file_made, make_open, next_open, new_file, open_row, guid_of, end_session, end_if_named, add_session, is_touched_at, set_ranges}
+use Rattle.exchange_defs.specs.CheckOpen.{file_of, has_access}
+use Rattle.exchange_defs.specs.Effects.{apply, reach, change_file, change_acts, file_made, make_open, next_open, new_file, open_row, is_touched_at, set_ranges}
 use Rattle.exchange_defs.specs.Verdict.{Verdict, Refuse, Give, KeepRefusal, Repeat, Attach, Make, TurnDown, Tell, Show, KeepSlot, PutRanges, Alter, Shut, Challenge, ChallengeBinding, Begin, Join, EndSession, AddTree, DropTree, Change, PutBytes, PutEnd, PutBasic, PutMark, PutPath, PutNothing}
 use Rattle.exchange_defs.specs.Step.{step}
 use Rattle.exchange_defs.specs.Network.{answer_to}
-use Rattle.exchange_law.proofs.Doors.{either, by_verdict, recorded, Before, Finds}
+use Rattle.exchange_law.proofs.Doors.{either, by_verdict, recorded, Before}
 use Rattle.server_law.proofs.Found.{Facts as Found, MakeFacts, AlterFacts, WriteFacts, SettingFacts, SettingSays, setting_change}
 use Rattle.server_law.specs.Fits.{Fits}
 use Rattle.server_law.proofs.Checked.{found}
 use Rattle.server_law.proofs.Stepped.{front_fits}
 use Rattle.order_law.specs.Newest.{LowSequences}
-use Rattle.order_law.proofs.Sound.{Sound, sound, sound_without_room}
 use Rattle.order_law.specs.Contents.{Denied}
 use Rattle.order_law.proofs.Pairs.{Moves, content_reach, content_attached, content_shut, content_end_named, content_slot, file_alike, change_alike, slot_alike, attached_moves, reach_moves, shut_moves, end_moves, end_named_moves}
-use Rattle.order_law.proofs.Answers.{Earlier, earlier, Given, given_behind, Facts as PairFacts, verdict_facts, found_sound}
+use Rattle.order_law.proofs.Answers.{Earlier, earlier, Given, given_behind, verdict_facts, found_sound}
 use Rattle.order_law.proofs.Sharing.{not_shared, admitted, emptying_writes, narrow_writes}
 
 -- a command that may change the bytes of the open p's file
@@ -211,16 +208,16 @@ apart_more : (standing : ℕ → Bool) (opened : ℕ → Open) (n : ℕ) (row : 
 apart_more standing opened n row d from_new to_new o p so sp ne fe dn =
     elim (o == n) as (λ b. o == n ≡ b → writes (put opened n row p).access ≡ false) [
       | true ↦ λ zo. let on : o ≡ n = eqb-true o n zo in let ro = new_row o on in elim (p == n) as (λ b. p == n ≡ b → writes (put opened n row p).access ≡ false) [
-          | true ↦ λ zp. absurd (ne (on ∙ sym (eqb-true p n zp)))
-          | false ↦ λ zp. let rp = old_row p (eqb-false p n zp) in
-              ap (λ (r : Open). writes r.access) rp ∙ from_new p (old_standing p (eqb-false p n zp) sp) (ap (λ (r : Open). r.file) (sym rp) ∙ (sym fe ∙ ap (λ (r : Open). r.file) ro)) (ap (λ (r : Open). denies_writers r.share) (sym ro) ∙ dn)
-        ] refl
+        | true ↦ λ zp. absurd (ne (on ∙ sym (eqb-true p n zp)))
+        | false ↦ λ zp. let rp = old_row p (eqb-false p n zp) in
+            ap (λ (r : Open). writes r.access) rp ∙ from_new p (old_standing p (eqb-false p n zp) sp) (ap (λ (r : Open). r.file) (sym rp) ∙ (sym fe ∙ ap (λ (r : Open). r.file) ro)) (ap (λ (r : Open). denies_writers r.share) (sym ro) ∙ dn)
+      ] refl
       | false ↦ λ zo. let ro = old_row o (eqb-false o n zo) in let st = old_standing o (eqb-false o n zo) so in elim (p == n) as (λ b. p == n ≡ b → writes (put opened n row p).access ≡ false) [
-          | true ↦ λ zp. let rp = new_row p (eqb-true p n zp) in
-              ap (λ (r : Open). writes r.access) rp ∙ to_new o st (ap (λ (r : Open). r.file) (sym ro) ∙ (fe ∙ ap (λ (r : Open). r.file) rp)) (ap (λ (r : Open). denies_writers r.share) (sym ro) ∙ dn)
-          | false ↦ λ zp. let rp = old_row p (eqb-false p n zp) in
-              ap (λ (r : Open). writes r.access) rp ∙ d o p st (old_standing p (eqb-false p n zp) sp) ne (ap (λ (r : Open). r.file) (sym ro) ∙ (fe ∙ ap (λ (r : Open). r.file) rp)) (ap (λ (r : Open). denies_writers r.share) (sym ro) ∙ dn)
-        ] refl
+        | true ↦ λ zp. let rp = new_row p (eqb-true p n zp) in
+            ap (λ (r : Open). writes r.access) rp ∙ to_new o st (ap (λ (r : Open). r.file) (sym ro) ∙ (fe ∙ ap (λ (r : Open). r.file) rp)) (ap (λ (r : Open). denies_writers r.share) (sym ro) ∙ dn)
+        | false ↦ λ zp. let rp = old_row p (eqb-false p n zp) in
+            ap (λ (r : Open). writes r.access) rp ∙ d o p st (old_standing p (eqb-false p n zp) sp) ne (ap (λ (r : Open). r.file) (sym ro) ∙ (fe ∙ ap (λ (r : Open). r.file) rp)) (ap (λ (r : Open). denies_writers r.share) (sym ro) ∙ dn)
+      ] refl
     ] refl
   where
     new_row : (q : ℕ) → q ≡ n → put opened n row q ≡ row
@@ -245,8 +242,8 @@ made_denied s m r found action now k sh d =
     let u = file_made s r found now in let al = file_alike s r found now in let row = open_row s m r (new_file s found) action in
     subst (λ st. Apart (put st (next_open s) true) (put u.opened (next_open s) row)) (sym al.standing) (subst (λ op. Apart (put s.standing (next_open s) true) (put op (next_open s) row)) (sym al.opened)
     (apart_more s.standing s.opened (next_open s) row d
-      (λ p st e dn. by_bool (writes (s.opened p).access) (λ w. let a = admitted s r (s.opened p).file p (subst (λ f. shares s r f ≡ true) (file_of_new s found p k st e) sh) (k.listed p ∙ st) refl in not_shared _ _ a.1 w dn))
-      (λ o st e dn. by_bool (writes (mapped r.access)) (λ w. let a = admitted s r (s.opened o).file o (subst (λ f. shares s r f ≡ true) (file_of_new s found o k st e) sh) (k.listed o ∙ st) refl in not_shared _ _ a.0 (narrow_writes r w) dn))))
+    (λ p st e dn. by_bool (writes (s.opened p).access) (λ w. let a = admitted s r (s.opened p).file p (subst (λ f. shares s r f ≡ true) (file_of_new s found p k st e) sh) (k.listed p ∙ st) refl in not_shared _ _ a.1 w dn))
+    (λ o st e dn. by_bool (writes (mapped r.access)) (λ w. let a = admitted s r (s.opened o).file o (subst (λ f. shares s r f ≡ true) (file_of_new s found o k st e) sh) (k.listed o ∙ st) refl in not_shared _ _ a.0 (narrow_writes r w) dn))))
 
 make_changing : (s : Server) (m : Message) (r : CreateRequest) (found : Option ℕ) (action now : ℕ) → Kept s → MakeFacts s m r found action → Changing s m (apply s m now (Make r found action))
 make_changing s m r found action now k h =
@@ -330,8 +327,8 @@ changing_step : (s : Server) (now : ℕ) (m : Message) → Fits s → LowSequenc
 changing_step s now m f low l =
     by_verdict (Changing s m) s now m
     (λ t v records b h. let k = earlier s now t b in let ft = fits_before s now m t b f in let g = given_behind s t m (given_of s m f low l) k in
-      let pf = verdict_facts t m now g v (found_sound t m v h) in
-      changing_recorded s m _ records (changing_before s t m _ k (λ o st sa. pf.stands o (same_ids s t k o (f.open_ids o st).1) sa) (verdict_changing t m now (kept_of t ft) g v (found t m v h))))
+    let pf = verdict_facts t m now g v (found_sound t m v h) in
+    changing_recorded s m _ records (changing_before s t m _ k (λ o st sa. pf.stands o (same_ids s t k o (f.open_ids o st).1) sa) (verdict_changing t m now (kept_of t ft) g v (found t m v h))))
   where
     same_ids : (s t : Server) → Earlier s t → (o : ℕ) → o ≤ id_of s.epoch s.given → o ≤ id_of t.epoch t.given
     same_ids s t k o l = let a = k.moves.epoch in let b = k.moves.given in same s.epoch s.given t.epoch t.given o a b l

@@ -1,6 +1,6 @@
 -- What holds of the bytes under opens, and of what may still change them, in every world that a run leads to. An edit is an
 -- operation that may change its file's bytes: a write or an end.
-use Rattle.std.specs.Prelude.{◌≡◌, ◌≢◌, ℕ, ◌+◌, ◌≤◌, ◌<◌, ◌==◌, Bool, true, false, not, ◌&&◌, ◌||◌, if◌then◌else◌, List, Option, Some, None, is_some, slice_get}
+use Rattle.std.specs.Prelude.{◌≡◌, ◌≢◌, ℕ, ◌+◌, ◌≤◌, ◌<◌, ◌==◌, Bool, true, false, not, ◌&&◌, ◌||◌, if◌then◌else◌, List, Some, None, is_some, slice_get}
 use Rattle.exchange_defs.specs.Table.{is_at}
 use Rattle.exchange_defs.specs.Status.{success, file_not_available, file_closed, user_session_deleted, end_of_file}
 use Rattle.exchange_defs.specs.Content.{ContentReply, effect, value, past_end, is_change, is_listed, collides}
