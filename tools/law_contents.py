@@ -4,6 +4,8 @@ step touches. A part whose columns the step leaves alone holds as it did.
 
 The rule is one line: the old part at the goal's own variables, then grind. EVENTS names each step with what it needs,
 the columns that it changes, and the parts whose proof needs more than that.
+
+Run `rt tidy` and `rt fmt` in the crate behind it: it writes all imports into each file.
 """
 import os
 import re
