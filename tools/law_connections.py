@@ -267,6 +267,6 @@ if __name__ == "__main__":
     for event in EVENTS:
         if not wanted or event.name in wanted:
             emit(event)
-    own = ["Lists", "Doors"]
+    own = ["Lists"]
     extra = [n for n in ("Facts", "Run", "Stays", "Reached") if os.path.exists(os.path.join(TOP, n + ".antt"))]
     open(os.path.join(TOP, "Lib.antt"), "w").write("".join("pub mod %s\n" % n for n in own + [e.name for e in EVENTS] + extra))

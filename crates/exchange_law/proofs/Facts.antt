@@ -7,7 +7,7 @@ use Rattle.exchange_defs.specs.Verdict.{Verdict, Refuse, Give, KeepRefusal, Repe
 use Rattle.exchange_defs.specs.Effects.{apply}
 use Rattle.exchange_defs.specs.Step.{step}
 use Rattle.exchange_defs.specs.Network.{answer_to}
-use Rattle.exchange_law.proofs.Doors.{by_verdict}
+use Rattle.server_law.proofs.Doors.{by_verdict}
 
 -- a message whose session is gone does nothing
 abbrev pub DeletedIsQuiet : Answer → Type 0

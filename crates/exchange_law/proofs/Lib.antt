@@ -1,5 +1,4 @@
 pub mod Lists
-pub mod Doors
 pub mod Submit
 pub mod Opened
 pub mod Dropped

@@ -15,7 +15,7 @@ use Rattle.exchange_defs.specs.Runs.{is_once, is_send_of, acts, acts_now, front_
 use Rattle.exchange_law.specs.Connections.{Connections, Unsent, Ready, copies, count_up, count_down, is_bound, makes_open, shuts_open, acts_once, its_create, its_request, create_at, opens}
 use Rattle.exchange_law.proofs.Lists.{counted_up, counted_down, front_up, front_down}
 use Rattle.exchange_law.proofs.Facts.{deleted_is_quiet}
-use Rattle.exchange_law.proofs.Doors.{either}
+use Rattle.server_law.proofs.Logic.{either}
 use Rattle.exchange_law.proofs.Submit.{submit_keeps}
 use Rattle.exchange_law.proofs.Opened.{opened_keeps}
 use Rattle.exchange_law.proofs.Dropped.{dropped_keeps}

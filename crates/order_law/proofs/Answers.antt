@@ -12,7 +12,7 @@ use Rattle.exchange_defs.specs.Effects.{apply, reach, reaches, attached, attache
 use Rattle.exchange_defs.specs.Verdict.{Verdict, Refuse, Give, KeepRefusal, Repeat, Attach, Make, TurnDown, Tell, Show, KeepSlot, PutRanges, Alter, Shut, Challenge, ChallengeBinding, Begin, Join, EndSession, AddTree, DropTree}
 use Rattle.exchange_defs.specs.Step.{step, with_deadlines, due, expire}
 use Rattle.exchange_defs.specs.Network.{answer_to}
-use Rattle.exchange_law.proofs.Doors.{by_verdict, recorded, Before, Finds}
+use Rattle.server_law.proofs.Doors.{by_verdict, recorded, Before, Finds}
 use Rattle.order_law.specs.Newest.{Pair, LowSequences}
 use Rattle.order_law.proofs.Sound.{Sound, sound, sound_without_room}
 use Rattle.order_law.proofs.Pairs.{shut_left, Alike, Moves, same, moves_alike, moves_on, expire_moves, shut_moves, in_time, reach_moves, attached_moves, slot_alike, change_alike, file_alike, end_moves, end_named_moves, begun_pair, deadlines_moves, gone_alike, marked_alike, mark_alike, Still, still_same, still_alike, still_on, still_shut, still_end, still_end_named, still_expire, still_deadlines, content_expire}

@@ -10,7 +10,8 @@ use Rattle.exchange_defs.specs.Effects.{apply}
 use Rattle.exchange_defs.specs.Verdict.{Verdict, Refuse, Give, KeepRefusal, Repeat, Attach, Make, TurnDown, Tell, Show, KeepSlot, PutRanges, Alter, Shut, Challenge, ChallengeBinding, Begin, Join, EndSession, AddTree, DropTree}
 use Rattle.exchange_defs.specs.Step.{step, without_room}
 use Rattle.exchange_defs.specs.Network.{answer_to}
-use Rattle.exchange_law.proofs.Doors.{either, by_verdict, Finds}
+use Rattle.server_law.proofs.Doors.{by_verdict, Finds}
+use Rattle.server_law.proofs.Logic.{either}
 use Rattle.session_law.specs.Sessions.{is_dialog}
 
 -- a verdict of a dialog's message

@@ -15,7 +15,7 @@ use Rattle.exchange_defs.specs.Runs.{settlement, content_of}
 use Rattle.exchange_defs.specs.Network.{World, Conn, Sent, Received, ForOp, op_of, Trace, said, content_reply, op_took, closed_by, with_client}
 use Rattle.exchange_law.specs.Connections.{Connections, create_at, makes_open, its_create, copies, count_up, count_down, Bodies}
 use Rattle.exchange_law.proofs.Lists.{own_up_count, attach_down_count}
-use Rattle.exchange_law.proofs.Doors.{either}
+use Rattle.server_law.proofs.Logic.{either}
 use Rattle.exchange_law.proofs.Settle.{settle_keeps as settle_connections}
 use Rattle.exchange_law.proofs.Run.{own_create, Noted, noted_keeps as noted_connections, full_keeps as full_connections, both_ways, own_for, makes_one, ok_is_settled, awaited_of, heard_again, heard_attaches, heard_ends, heard_firm, without_same, some_of}
 use Rattle.session_law.specs.Sessions.{is_ops}

@@ -18,7 +18,7 @@ use Rattle.exchange_defs.specs.CheckSetup.{tree_in}
 use Rattle.exchange_defs.specs.Check.{has_session, tree_command, in_tree, with_tree, command_check, formed, owed, check}
 use Rattle.exchange_defs.specs.Step.{without_room}
 use Rattle.exchange_defs.specs.Network.{content_reply}
-use Rattle.exchange_law.proofs.Doors.{either}
+use Rattle.server_law.proofs.Logic.{either}
 use Rattle.order_law.specs.Contents.{is_final}
 
 -- the request of a read, a write or an end

@@ -16,7 +16,8 @@ use Rattle.exchange_defs.specs.CheckOpen.{file_of}
 use Rattle.exchange_defs.specs.Verdict.{Verdict, Refuse, Give, KeepRefusal, Repeat, Attach, Make, TurnDown, Tell, Show, KeepSlot, PutRanges, Alter, Shut, Challenge, ChallengeBinding, Begin, Join, EndSession, AddTree, DropTree}
 use Rattle.exchange_defs.specs.Step.{step, without_room}
 use Rattle.exchange_defs.specs.Network.{answer_to}
-use Rattle.exchange_law.proofs.Doors.{either, by_verdict, recorded, Finds}
+use Rattle.server_law.proofs.Doors.{by_verdict, recorded, Finds}
+use Rattle.server_law.proofs.Logic.{either}
 use Rattle.server_law.specs.Fits.{Fits}
 use Rattle.server_law.proofs.Found.{Facts as Found}
 use Rattle.server_law.proofs.Checked.{found}

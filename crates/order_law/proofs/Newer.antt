@@ -17,7 +17,7 @@ use Rattle.exchange_defs.specs.Network.{World, Event, Submit, Open, Push, Serve,
 use Rattle.exchange_defs.specs.Order.{Log}
 use Rattle.exchange_defs.specs.Runs.{is_newer, alters}
 use Rattle.exchange_defs.specs.Statements.{Newer}
-use Rattle.exchange_law.proofs.Doors.{either}
+use Rattle.server_law.proofs.Logic.{either}
 use Rattle.exchange_law.proofs.Reached.{on_every_run, one_event_on}
 use Rattle.server_law.specs.Fits.{Given as GivenIds}
 use Rattle.session_law.specs.Sessions.{PendingUnranked, MakingUnranked, is_ops, is_dialog}

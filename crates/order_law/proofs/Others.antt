@@ -12,7 +12,7 @@ use Rattle.exchange_defs.specs.Status.{success}
 use Rattle.exchange_defs.specs.Content.{is_empty}
 use Rattle.exchange_defs.specs.Commands.{all_lock, all_unlock}
 use Rattle.exchange_defs.specs.Files.{root, exists, passes_room}
-use Rattle.exchange_law.proofs.Doors.{either}
+use Rattle.server_law.proofs.Logic.{either}
 use Rattle.order_law.proofs.Pairs.{Alike, Moves, same, moves_alike, moves_on, expire_moves, deadlines_moves, take_out_moves, gone_alike, marked_alike, mark_alike, slot_alike}
 
 -- ---- a connection that is made or ends

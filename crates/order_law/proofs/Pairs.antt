@@ -13,7 +13,7 @@ use Rattle.exchange_defs.specs.CheckSetup.{is_new}
 use Rattle.exchange_defs.specs.Effects.{reach, attach, attached, keep_slot, keep_closed, file_made, change_file, end_session, end_if_named, add_session, leaves, cleared, guid_staying}
 use Rattle.exchange_defs.specs.Verdict.{Change, PutBytes, PutEnd, PutBasic, PutMark, PutPath, PutNothing}
 use Rattle.exchange_defs.specs.Step.{with_deadlines, expire, add_mark, take_out, forget_connection, ends_with}
-use Rattle.exchange_law.proofs.Doors.{either}
+use Rattle.server_law.proofs.Logic.{either}
 use Rattle.order_law.specs.Newest.{Pair, LowSequences}
 
 -- the columns that a pair speaks of are the same

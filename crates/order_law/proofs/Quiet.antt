@@ -4,7 +4,7 @@ use Rattle.exchange_defs.specs.State.{Server, Accept, End, ServerEvent, Answer}
 use Rattle.exchange_defs.specs.Records.{fits, origin_at}
 use Rattle.exchange_defs.specs.Opens.{id_of}
 use Rattle.exchange_defs.specs.Step.{step, table, carried_out, expiring, with_deadlines, due, expire, expire_records, connection_of, ruling, ruling_without_room, Ruling, Says, TakesIn, TurnsAway, TakesOut, TakesAllOut, max_connections, max_marks, ends_with}
-use Rattle.exchange_law.proofs.Doors.{either}
+use Rattle.server_law.proofs.Logic.{either}
 use Rattle.server_law.specs.Fits.{Fits}
 use Rattle.recovery_law.specs.Restarted.{Restarted}
 use Rattle.recovery_law.proofs.Restarts.{was_named, stood, ids_above}

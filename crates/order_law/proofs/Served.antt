@@ -17,7 +17,8 @@ use Rattle.exchange_defs.specs.Effects.{apply, reach, reaches, change_file, atta
 use Rattle.exchange_defs.specs.Verdict.{Verdict, Refuse, Give, KeepRefusal, Repeat, Attach, Make, TurnDown, Tell, Show, KeepSlot, PutRanges, Alter, Shut, Challenge, ChallengeBinding, Begin, Join, EndSession, AddTree, DropTree, Change, PutBytes, PutEnd, PutBasic, PutMark, PutPath, PutNothing}
 use Rattle.exchange_defs.specs.Step.{step, with_deadlines, expire, add_mark}
 use Rattle.exchange_defs.specs.Network.{content_reply, answer_to}
-use Rattle.exchange_law.proofs.Doors.{either, by_verdict, recorded, Before, Finds}
+use Rattle.server_law.proofs.Doors.{by_verdict, recorded, Before, Finds}
+use Rattle.server_law.proofs.Logic.{either}
 use Rattle.order_law.specs.Newest.{LowSequences}
 use Rattle.order_law.specs.Contents.{is_final}
 use Rattle.order_law.proofs.Pairs.{stale_less, in_time, content_reach}

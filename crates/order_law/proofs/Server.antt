@@ -10,7 +10,7 @@ use Rattle.exchange_defs.specs.Client.{guid_for}
 use Rattle.exchange_defs.specs.Network.{World, Conn, Sent, Received, ForOp, ForAttach, op_of, makes, answer, absorbed, replied, behind_front, restarted, opened, dropped, said as said_by}
 use Rattle.exchange_law.specs.Connections.{create_at, makes_open}
 use Rattle.exchange_law.proofs.Lists.{front_up}
-use Rattle.exchange_law.proofs.Doors.{either}
+use Rattle.server_law.proofs.Logic.{either}
 use Rattle.exchange_law.proofs.Run.{makes_one, put_self}
 use Rattle.recovery_law.specs.Restarted.{Restarted}
 use Rattle.server_law.specs.Fits.{Fits}

@@ -23,7 +23,7 @@ use Rattle.exchange_defs.specs.Listing.{file_info_size, volume_info_size}
 use Rattle.exchange_defs.specs.CheckCreate.{shares, keeps_guid, max_guids, is_counted_out, has_guid}
 use Rattle.exchange_defs.specs.CheckOpen.{changes_nothing, file_of, has_access, there, is_slot, ioctl_status, needs_attributes, target_of, kept_lock, rename_names, delete_names, allocation_change}
 use Rattle.exchange_defs.specs.CheckSetup.{max_sessions, max_channels, max_numbers, max_trees, count_channels, is_binding, pipes_name}
-use Rattle.exchange_law.proofs.Doors.{either}
+use Rattle.server_law.proofs.Logic.{either}
 
 -- an open stands in the message's session, a changing request isn't late, a given guid names its open, an attached open
 -- stands, and a session that begins was in the making on the connection

@@ -12,7 +12,7 @@ use Rattle.exchange_defs.specs.Order.{Log}
 use Rattle.exchange_defs.specs.Network.{World, Submit, Push, Cut, Conn, Sent, Received, ForOp, ForAttach, op_of, changed, with_client, cut_by, pushed_by, first_push, send_up}
 use Rattle.exchange_law.specs.Connections.{Connections, create_at, makes_open, its_create, copies, Bodies}
 use Rattle.exchange_law.proofs.Lists.{own_up_count, counted_down}
-use Rattle.exchange_law.proofs.Doors.{either}
+use Rattle.server_law.proofs.Logic.{either}
 use Rattle.exchange_law.proofs.Run.{MayPush, next_of, found, free_of, no_wait, own_for, own_create, both_ways, ok_is_settled}
 use Rattle.order_law.specs.Contents.{Contents, lists, edits, clashes}
 use Rattle.order_law.proofs.Front.{Lower, Holds}

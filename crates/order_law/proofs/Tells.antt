@@ -15,7 +15,8 @@ use Rattle.exchange_defs.specs.Effects.{apply}
 use Rattle.exchange_defs.specs.Verdict.{Verdict, Refuse, Give, KeepRefusal, Repeat, Attach, Make, TurnDown, Tell, Show, KeepSlot, PutRanges, Alter, Shut, Challenge, ChallengeBinding, Begin, Join, EndSession, AddTree, DropTree}
 use Rattle.exchange_defs.specs.Step.{step, without_room, with_deadlines, add_mark}
 use Rattle.exchange_defs.specs.Network.{answer_to}
-use Rattle.exchange_law.proofs.Doors.{either, by_verdict, Before, Finds}
+use Rattle.server_law.proofs.Doors.{by_verdict, Before, Finds}
+use Rattle.server_law.proofs.Logic.{either}
 use Rattle.server_law.proofs.Found.{Facts as Found}
 use Rattle.server_law.proofs.Checked.{found}
 use Rattle.order_law.proofs.Answers.{Earlier, earlier}

@@ -10,7 +10,7 @@ use Rattle.exchange_defs.specs.Network.{Token, ForOp, ForAttach, Conn, Sent, Rec
 use Rattle.exchange_law.specs.Connections.{makes_open}
 use Rattle.exchange_law.proofs.Lists.{get-push}
 use Rattle.order_law.specs.Contents.{edits}
-use Rattle.exchange_law.proofs.Doors.{either}
+use Rattle.server_law.proofs.Logic.{either}
 use Rattle.session_law.specs.Sessions.{is_ops}
 
 pub ops_of : (t : Token) (p : ℕ) → t ≡ ForOp p → is_ops t ≡ true

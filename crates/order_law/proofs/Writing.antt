@@ -14,7 +14,8 @@ use Rattle.exchange_defs.specs.Effects.{apply, reach, change_file, change_acts, 
 use Rattle.exchange_defs.specs.Verdict.{Verdict, Refuse, Give, KeepRefusal, Repeat, Attach, Make, TurnDown, Tell, Show, KeepSlot, PutRanges, Alter, Shut, Challenge, ChallengeBinding, Begin, Join, EndSession, AddTree, DropTree, Change, PutBytes, PutEnd, PutBasic, PutMark, PutPath, PutNothing}
 use Rattle.exchange_defs.specs.Step.{step}
 use Rattle.exchange_defs.specs.Network.{answer_to}
-use Rattle.exchange_law.proofs.Doors.{either, by_verdict, recorded, Before}
+use Rattle.server_law.proofs.Doors.{by_verdict, recorded, Before}
+use Rattle.server_law.proofs.Logic.{either}
 use Rattle.server_law.proofs.Found.{Facts as Found, MakeFacts, AlterFacts, WriteFacts, SettingFacts, SettingSays, setting_change}
 use Rattle.server_law.specs.Fits.{Fits}
 use Rattle.server_law.proofs.Checked.{found}

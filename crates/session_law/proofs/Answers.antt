@@ -11,7 +11,7 @@ use Rattle.exchange_defs.specs.Opens.{leave_open}
 use Rattle.exchange_defs.specs.CheckOpen.{file_of}
 use Rattle.exchange_defs.specs.Effects.{apply, next_session, next_open, reach, set_ranges, file_made, end_if_named, open_row, new_file}
 use Rattle.exchange_defs.specs.Verdict.{Verdict, Refuse, Give, KeepRefusal, Repeat, Attach, Make, TurnDown, Tell, Show, KeepSlot, PutRanges, Alter, Shut, Challenge, ChallengeBinding, Begin, Join, EndSession, AddTree, DropTree}
-use Rattle.exchange_law.proofs.Doors.{recorded}
+use Rattle.server_law.proofs.Doors.{recorded}
 use Rattle.session_law.specs.Sessions.{is_new_setup, is_tree_connect, is_logon, logon_user, logs_on, user_in, previous_in}
 use Rattle.session_law.proofs.Checks.{Found, Begun, asks}
 use Rattle.session_law.proofs.Columns.{Stays, stays_same, stays_so, stays_reached, stays_attached, stays_kept, stays_ranged, stays_closed, stays_changed, stays_left, stays_made, stays_refused, stays_shown}

@@ -12,7 +12,7 @@ use Rattle.exchange_defs.specs.CheckOpen.{close_check, flush_check, read_check, 
 use Rattle.exchange_defs.specs.CheckSetup.{session_check, binding_check, second_token, first_token, granted_session, previous_of, setup_check, tree_check, tree_in, is_new, max_sessions, max_trees, pipes_name}
 use Rattle.exchange_defs.specs.Check.{check, owed, formed, command_check, with_tree, in_tree, tree_command, on_open, has_session}
 use Rattle.exchange_defs.specs.Step.{without_room}
-use Rattle.exchange_law.proofs.Doors.{either}
+use Rattle.server_law.proofs.Logic.{either}
 use Rattle.session_law.specs.Sessions.{is_new_setup, is_tree_connect, is_logon, logon_user}
 
 -- a new session or a tree is asked for

@@ -10,7 +10,7 @@ use Rattle.exchange_defs.specs.CheckOpen.{is_late, is_slot}
 use Rattle.exchange_defs.specs.Effects.{reach, keep_slot, keep_refusal, set_ranges, attach, attached, keep_closed, change_file, file_made}
 use Rattle.exchange_defs.specs.Verdict.{Change, PutBytes, PutEnd, PutBasic, PutMark, PutPath, PutNothing}
 use Rattle.exchange_defs.specs.Step.{add_mark, expire, with_deadlines}
-use Rattle.exchange_law.proofs.Doors.{either}
+use Rattle.server_law.proofs.Logic.{either}
 
 -- the columns of sessions, of ids and of opens' rows are the same, and no open is new
 pub record Stays (s t : Server) : Type 0 where

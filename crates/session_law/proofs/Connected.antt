@@ -8,7 +8,8 @@ use Rattle.exchange_defs.specs.Records.{fits, origin_at}
 use Rattle.exchange_defs.specs.Step.{step, table, expiring, with_deadlines, due, expire, expire_records, connection_of, max_marks, Ruling, TakesIn, TurnsAway, TakesOut, ruling, ruling_without_room, carried_out, ends_with, take_out}
 use Rattle.exchange_defs.specs.Fold.{fold, recovered, recovery_records}
 use Rattle.exchange_defs.specs.Client.{Client}
-use Rattle.exchange_law.proofs.Doors.{either, Before}
+use Rattle.server_law.proofs.Doors.{Before}
+use Rattle.server_law.proofs.Logic.{either}
 use Rattle.session_law.specs.Sessions.{MakingUnranked, SessionUsers, OpenUsers, logon_user}
 use Rattle.session_law.proofs.Words.{Moves}
 use Rattle.session_law.proofs.Columns.{Stays}

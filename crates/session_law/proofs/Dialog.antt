@@ -9,7 +9,7 @@ use Rattle.exchange_defs.specs.Client.{Client, Stage, Apart, SaidNegotiate, Said
 use Rattle.exchange_defs.specs.Dialogs.{GoesOn, Accepts, Binds, Readies, Refuses, dialog_step, dialog_message, stage_command, accepted, refused_dialog}
 use Rattle.exchange_defs.specs.Network.{Conn, World, ForDialog, dialog_took, send_up}
 use Rattle.exchange_law.specs.Connections.{copies}
-use Rattle.exchange_law.proofs.Doors.{either}
+use Rattle.server_law.proofs.Logic.{either}
 use Rattle.session_law.specs.Sessions.{Sessions, makes_session, is_dialog, is_new_setup, is_tree_connect, logs_on, user_in, previous_in, logon_user}
 use Rattle.session_law.proofs.WentOn.{went_on_keeps}
 use Rattle.session_law.proofs.Told.{told_keeps}

@@ -10,7 +10,7 @@ use Rattle.exchange_defs.specs.Effects.{apply}
 use Rattle.exchange_defs.specs.Verdict.{Verdict}
 use Rattle.exchange_defs.specs.Step.{step, with_deadlines, expire}
 use Rattle.exchange_defs.specs.Network.{answer_to, untouched}
-use Rattle.exchange_law.proofs.Doors.{by_verdict, Before, Finds, recorded}
+use Rattle.server_law.proofs.Doors.{by_verdict, Before, Finds, recorded}
 use Rattle.session_law.specs.Sessions.{user_in, previous_in, is_new_setup, is_tree_connect}
 use Rattle.session_law.proofs.Checks.{Found, found, found_full, asks}
 use Rattle.session_law.proofs.Columns.{Stays, stays_so, stays_same, stays_dated, stays_expired}

@@ -15,7 +15,7 @@ use Rattle.exchange_defs.specs.Fold.{fold, recovered, recovery_records}
 use Rattle.exchange_defs.specs.Step.{step}
 use Rattle.exchange_defs.specs.Network.{World, Event, Submit, Open, Push, Serve, Take, Cut, Drop, Restart, Crash, Wait, Finish, Settings, Conn, Sent, Received, Token, ForDialog, ForOp, ForAttach, fresh, happens, run, start, changed, later, is_possible, pushed_by, send_up, answer, absorbed, say_down, serve_front, absorb_front, behind_front, take_reply, behind_reply, took_by, dialog_sent, dialog_took, op_took, closed_by, cut_by, client_off, server_off, with_client, restarted, blank_server}
 use Rattle.exchange_law.proofs.Lists.{get-push, rest_of}
-use Rattle.exchange_law.proofs.Doors.{either}
+use Rattle.server_law.proofs.Logic.{either}
 use Rattle.exchange_law.proofs.Run.{both_ways}
 use Rattle.exchange_law.proofs.Reached.{run_more, on_every_run}
 use Rattle.server_law.specs.Fits.{NoTrees}

@@ -11,7 +11,8 @@ use Rattle.exchange_defs.specs.Records.{origin_at, origin_of, fits}
 use Rattle.exchange_defs.specs.Verdict.{Verdict, Refuse, Give, KeepRefusal, Repeat, Attach, Make, TurnDown, Tell, Show, KeepSlot, PutRanges, Alter, Shut, Challenge, ChallengeBinding, Begin, Join, EndSession, AddTree, DropTree, Change, PutBytes, PutEnd, PutBasic, PutMark, PutPath, PutNothing}
 use Rattle.exchange_defs.specs.Step.{step, table, expiring, with_deadlines, due, expire, expire_records, connection_of, max_marks, max_connections, Ruling, Says, TakesIn, TurnsAway, TakesOut, TakesAllOut, ruling, ruling_without_room, without_room, carried_out, ends_with}
 use Rattle.exchange_defs.specs.Network.{answer_to}
-use Rattle.exchange_law.proofs.Doors.{either, Before}
+use Rattle.server_law.proofs.Doors.{Before}
+use Rattle.server_law.proofs.Logic.{either}
 use Rattle.session_law.proofs.Checks.{Found, found, found_full}
 use Rattle.session_law.proofs.Heard.{before_stays}
 use Rattle.session_law.proofs.Written.{Clean, OwnOpen, clean_more}

@@ -12,7 +12,8 @@ use Rattle.exchange_defs.specs.Records.{origin_of}
 use Rattle.exchange_defs.specs.Verdict.{Verdict, Refuse, Give, KeepRefusal, Repeat, Attach, Make, TurnDown, Tell, Show, KeepSlot, PutRanges, Alter, Shut, Challenge, ChallengeBinding, Begin, Join, EndSession, AddTree, DropTree, Change, PutBytes, PutEnd, PutBasic, PutMark, PutPath, PutNothing}
 use Rattle.exchange_defs.specs.Step.{step, without_room, carried_out}
 use Rattle.exchange_defs.specs.Fold.{fold, recovery_records}
-use Rattle.exchange_law.proofs.Doors.{either, Before, Finds}
+use Rattle.server_law.proofs.Doors.{Before, Finds}
+use Rattle.server_law.proofs.Logic.{either}
 use Rattle.session_law.proofs.Written.{Clean, clean_more, Folds, anew, folds_more}
 use Rattle.session_law.proofs.Owed.{AllClean, clean_step}
 

@@ -16,7 +16,7 @@ use Rattle.exchange_defs.specs.Step.{step}
 use Rattle.exchange_defs.specs.Network.{opened_by, World, Event, Submit, Open, Push, Serve, Take, Cut, Drop, Restart, Crash, Wait, Finish, Conn, Sent, Received, Token, ForDialog, ForOp, ForAttach, op_of, happens, changed, later, may_open, may_serve, max_channel, pushed_by, answer, absorbed, replied, serve_front, absorb_front, behind_front, take_front, take_reply, took_by, dialog_took, op_took, closed_by, cut_by, with_client, behind_reply, restarted}
 use Rattle.exchange_law.specs.Connections.{Once, Ready, copies}
 use Rattle.exchange_law.proofs.Lists.{front_up, front_down}
-use Rattle.exchange_law.proofs.Doors.{either}
+use Rattle.server_law.proofs.Logic.{either}
 use Rattle.server_law.specs.Fits.{OnPresent, MakingOnce, Begun}
 use Rattle.session_law.specs.Sessions.{Sessions, is_ops, is_work, is_dialog, logs_on, logon_user}
 use Rattle.session_law.proofs.Same.{same_keeps}

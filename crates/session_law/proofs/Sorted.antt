@@ -14,7 +14,8 @@ use Rattle.exchange_defs.specs.Effects.{apply, reach, set_ranges, end_session, e
 use Rattle.exchange_defs.specs.Verdict.{Verdict, Refuse, Give, KeepRefusal, Repeat, Attach, Make, TurnDown, Tell, Show, KeepSlot, PutRanges, Alter, Shut, Challenge, ChallengeBinding, Begin, Join, EndSession, AddTree, DropTree}
 use Rattle.exchange_defs.specs.Step.{step, without_room, Ruling, TakesIn, TurnsAway, TakesOut, ruling, carried_out, ends_with}
 use Rattle.exchange_defs.specs.Network.{answer_to, untouched}
-use Rattle.exchange_law.proofs.Doors.{either, by_verdict, Finds}
+use Rattle.server_law.proofs.Doors.{by_verdict, Finds}
+use Rattle.server_law.proofs.Logic.{either}
 use Rattle.server_law.proofs.Logic.{front_of}
 use Rattle.server_law.proofs.Doors.{by_ruling, Front}
 use Rattle.server_law.proofs.Found.{Facts, SessionFacts}

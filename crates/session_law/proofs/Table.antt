@@ -6,7 +6,7 @@ use Rattle.exchange_defs.specs.State.{Reply, Body}
 use Rattle.exchange_defs.specs.Operations.{Outcome, Unsettled, WasOk, WasRefused, NoSlot, NoOpen, Unknown, is_create, is_close, is_lock, id_in}
 use Rattle.exchange_defs.specs.Client.{Client, create_for, settle_no_slot, settle_no_slots, lacks_slot, again, begin, take_slot, begun, outstanding, asked}
 use Rattle.exchange_defs.specs.Settling.{answered, joined, settle, settled, noted, noted_full, settles_open, with_no_opens}
-use Rattle.exchange_law.proofs.Doors.{either}
+use Rattle.server_law.proofs.Logic.{either}
 use Rattle.session_law.specs.Sessions.{NumberedSessions}
 use Rattle.session_law.proofs.Words.{SameSession}
 

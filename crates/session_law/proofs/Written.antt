@@ -13,7 +13,7 @@ use Rattle.exchange_defs.specs.CheckOpen.{target_of, file_of}
 use Rattle.exchange_defs.specs.Effects.{keep_slot, set_ranges}
 use Rattle.exchange_defs.specs.Step.{add_mark, max_marks}
 use Rattle.exchange_defs.specs.Fold.{fold, fold_from, with_record, nothing_yet, begin_epoch, set_version, sweep, may_create, may_have_open, restore, restored_row, created_file, is_file, may_rename, may_remove, lock_recorded, lock_granted, shut_recorded, recovery_records}
-use Rattle.exchange_law.proofs.Doors.{either}
+use Rattle.server_law.proofs.Logic.{either}
 use Rattle.session_law.proofs.Columns.{Stays, stays_same, stays_so, stays_marked, stays_dropped, stays_gone, stays_kept, stays_ranged, stays_noted}
 
 -- ---- records that a step owes: no epoch begins, and an open is this client's
