@@ -1,0 +1,5 @@
+pub mod Copies
+pub mod Gone
+pub mod Edits
+pub mod Older
+pub mod Law
