@@ -1,14 +1,14 @@
 -- What the records below say of each copy that waits: its request and its pair, and of creates and locks what the server
 -- keeps of them.
 use Rattle.std.proofs.lemmas.Bool.{eqb-false}
-use Rattle.std.proofs.Common.{eqb-true, ◌≡◌, ◌≢◌, ℕ, ◌+◌, ◌≤◌, ◌<◌, ◌==◌, nat_le, Bool, true, false, not, ◌||◌, if◌then◌else◌, refl, arith, sym, ◌∙◌, ap, subst, Option, Some, None, is_some, slice_get}
+use Rattle.std.proofs.Common.{eqb-true, ◌≡◌, ℕ, ◌≤◌, ◌<◌, ◌==◌, nat_le, Bool, true, false, not, ◌||◌, refl, arith, sym, ◌∙◌, ap, Option, Some, None, is_some}
 use Rattle.exchange_defs.specs.Commands.{form}
 use Rattle.exchange_defs.specs.State.{Server}
 use Rattle.exchange_defs.specs.CheckCreate.{max_guids}
 use Rattle.exchange_defs.specs.CheckOpen.{kept_status}
-use Rattle.exchange_defs.specs.Operations.{Op, is_create, request_of}
+use Rattle.exchange_defs.specs.Operations.{is_create, request_of}
 use Rattle.exchange_defs.specs.Client.{Client, guid_for}
-use Rattle.exchange_defs.specs.Network.{World, Sent, Token, ForOp}
+use Rattle.exchange_defs.specs.Network.{World, Sent}
 use Rattle.exchange_defs.specs.Runs.{never_acted}
 use Rattle.exchange_law.specs.Connections.{Connections, its_request, its_create, makes_open}
 use Rattle.session_law.specs.Sessions.{Sessions, RankOnce}
@@ -16,7 +16,7 @@ use Rattle.create_law.specs.Creates.{Creates, seen, own_guid, is_full, keeps_for
 use Rattle.lock_law.specs.Locks.{Locks, locking, kept_at, user_at}
 use Rattle.order_law.proofs.Requests.{form_same}
 use Rattle.order_law.proofs.Words.{ops_of}
-use Rattle.invariant_law.specs.Parts.{open_of, LiveCopy, NotNewer, OlderSession, SameSession, OwnCopy, CopiesAreOwn, ToldByGuid, NamesOpen, KeptClosed, Marked, RefusedAgain, KeptRefusal, BadForm, GuidsFull, CreateHolds, CreateActed, CreateRefused, CreateToCome, CreatesAreKept, LockHolds, OpenLeft, SlotTells, LockToCome, LockCopy, LocksAreKept}
+use Rattle.invariant_law.specs.Parts.{open_of, LiveCopy, NotNewer, OlderSession, SameSession, CopiesAreOwn, ToldByGuid, NamesOpen, KeptClosed, Marked, RefusedAgain, KeptRefusal, BadForm, GuidsFull, CreateHolds, CreateActed, CreateRefused, CreateToCome, CreatesAreKept, LockHolds, OpenLeft, SlotTells, LockToCome, LocksAreKept}
 
 -- ---- 1
 

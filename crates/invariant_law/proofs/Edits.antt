@@ -1,15 +1,14 @@
 -- The writes and ends of an open that may still act.
 use Rattle.std.proofs.lemmas.Bool.Decides.{nat_tests}
-use Rattle.std.proofs.Common.{◌≡◌, ◌≢◌, ℕ, ◌<◌, nat_lt, Bool, true, false, ◌&&◌, refl, arith, sym, ◌∙◌, is_some}
+use Rattle.std.proofs.Common.{◌≡◌, ◌≢◌, ℕ, ◌<◌, nat_lt, Bool, true, false, refl, arith, sym, ◌∙◌}
 use Rattle.exchange_defs.specs.Content.{is_change, collides}
 use Rattle.exchange_defs.proofs.Content.{collides_comm}
-use Rattle.exchange_defs.specs.Opens.{denies_writers}
-use Rattle.exchange_defs.specs.Operations.{is_create, share_of, content_op}
+use Rattle.exchange_defs.specs.Operations.{content_op}
 use Rattle.exchange_defs.specs.Client.{create_for}
 use Rattle.exchange_defs.specs.Network.{World}
 use Rattle.exchange_law.specs.Connections.{its_create}
 use Rattle.order_law.specs.Contents.{Contents, edits, isolating, clashes, bytes_after, pends}
-use Rattle.invariant_law.specs.Parts.{open_of, EditHolds, EditsAreShown}
+use Rattle.invariant_law.specs.Parts.{EditsAreShown}
 
 less_of : (g h : ℕ) → nat_lt g h ≡ true → g < h
 less_of g h e = grind (arith, nat_tests)

@@ -1,17 +1,17 @@
 -- Where the session is gone, the check of it is the first to apply.
-use Rattle.std.proofs.Common.{◌≡◌, ℕ, Bool, true, false, ◌||◌, List, inl, inr, refl, arith, sym, ◌∙◌, ap, subst, Option, Some, None, slice_get}
+use Rattle.std.proofs.Common.{◌≡◌, ℕ, Bool, true, false, ◌||◌, List, inl, inr, refl, arith, sym, ◌∙◌, ap, subst, Some, slice_get}
 use Rattle.exchange_defs.specs.Table.{is_at}
 use Rattle.exchange_defs.specs.Status.{user_session_deleted}
 use Rattle.exchange_defs.specs.Commands.{Command, Aside, Unreadable, Setup, Logoff, TreeConnect, TreeDisconnect, Create, Close, Flush, Read, Write, Lock, Ioctl, ListDirectory, QueryFile, QueryVolume, SetInfo, is_setup}
-use Rattle.exchange_defs.specs.State.{Server, Message, Heard, Record, Answer}
+use Rattle.exchange_defs.specs.State.{Server, Message, Heard, Record}
 use Rattle.exchange_defs.specs.Check.{has_session, check}
 use Rattle.exchange_defs.specs.Effects.{apply}
 use Rattle.exchange_defs.specs.Verdict.{Verdict, Refuse}
 use Rattle.exchange_defs.specs.Step.{step, without_room}
-use Rattle.exchange_defs.specs.Operations.{Op, reconnect_of}
+use Rattle.exchange_defs.specs.Operations.{Op}
 use Rattle.exchange_defs.specs.Client.{guid_for}
-use Rattle.exchange_defs.specs.Network.{World, Sent, Token, ForDialog, ForOp, ForAttach, answer_to, answer}
-use Rattle.exchange_law.specs.Connections.{Connections, its_request, makes_open, create_at}
+use Rattle.exchange_defs.specs.Network.{World, Sent, Token, ForDialog, ForOp, ForAttach, answer_to}
+use Rattle.exchange_law.specs.Connections.{Connections, its_request, create_at}
 use Rattle.server_law.specs.Fits.{Fits, OnPresent}
 use Rattle.server_law.proofs.Doors.{by_verdict, recorded, Finds}
 use Rattle.server_law.proofs.Logic.{either, at_of}

@@ -1,11 +1,11 @@
 -- A write or an end of an older sequence than its open's, and the pairs that reached an open before.
 use Rattle.std.proofs.lemmas.Bool.Decides.{nat_tests}
 use Rattle.std.proofs.lemmas.Bool.{eqb-false}
-use Rattle.std.proofs.Common.{eqb-true, ◌≡◌, ◌≢◌, ℕ, ◌≤◌, ◌<◌, ◌==◌, nat_lt, Bool, true, false, ◌||◌, ◌&&◌, List, [], ◌∷◌, inl, inr, refl, arith, sym, ◌∙◌, ap, subst, Option, Some, None, is_some, slice_get}
+use Rattle.std.proofs.Common.{eqb-true, ◌≡◌, ◌≢◌, ℕ, ◌≤◌, ◌<◌, ◌==◌, nat_lt, Bool, true, false, ◌||◌, ◌&&◌, List, [], ◌∷◌, inl, inr, refl, arith, sym, ◌∙◌, ap, subst, Option, Some, None, is_some}
 use Rattle.exchange_defs.specs.Table.{put, is_at}
 use Rattle.exchange_defs.specs.Status.{user_session_deleted, file_not_available}
 use Rattle.exchange_defs.specs.Content.{ContentOp, Write as Writes, Read as Reads, SetEnd as Ends, Still, is_change, is_listed}
-use Rattle.exchange_defs.specs.Commands.{form, is_setup, SetEnd}
+use Rattle.exchange_defs.specs.Commands.{form, is_setup}
 use Rattle.exchange_defs.specs.State.{Server, Message, Heard, Record, Answer}
 use Rattle.exchange_defs.specs.Opens.{is_of_session}
 use Rattle.exchange_defs.specs.CheckOpen.{is_late}
@@ -15,17 +15,17 @@ use Rattle.exchange_defs.specs.Effects.{apply}
 use Rattle.exchange_defs.specs.Verdict.{Verdict, Refuse}
 use Rattle.exchange_defs.specs.Step.{step, with_deadlines, due, due_in, is_past, expire, without_room}
 use Rattle.exchange_defs.specs.Operations.{Op, content_op}
-use Rattle.exchange_defs.specs.Client.{Client, guid_for}
+use Rattle.exchange_defs.specs.Client.{guid_for}
 use Rattle.exchange_defs.specs.Network.{World, Sent, answer}
-use Rattle.exchange_law.specs.Connections.{Connections, its_create, create_at}
+use Rattle.exchange_law.specs.Connections.{Connections, its_create}
 use Rattle.server_law.specs.Fits.{Fits}
 use Rattle.server_law.proofs.Doors.{by_verdict, recorded, Before, Finds}
-use Rattle.server_law.proofs.Logic.{either, other_on, back_off, at_of}
+use Rattle.server_law.proofs.Logic.{either, back_off}
 use Rattle.server_law.proofs.SessionEffects.{deadlines_keeps}
 use Rattle.session_law.specs.Sessions.{Sessions}
 use Rattle.session_law.proofs.Heard.{before_stays}
 use Rattle.create_law.specs.Creates.{Creates, seen}
-use Rattle.lock_law.proofs.Views.{View, view, expire_view}
+use Rattle.lock_law.proofs.Views.{View, expire_view}
 use Rattle.order_law.specs.Newest.{Newest}
 use Rattle.order_law.specs.Contents.{lists}
 use Rattle.order_law.proofs.Pairs.{stale_less}
@@ -33,8 +33,8 @@ use Rattle.order_law.proofs.Answers.{earlier}
 use Rattle.order_law.proofs.Listed.{asks}
 use Rattle.order_law.proofs.Requests.{asks_of}
 use Rattle.order_law.proofs.Words.{ops_of}
-use Rattle.invariant_law.specs.Parts.{open_of, LiveCopy, OlderStatus, NoChannel, BreaksForm, NotAvailable, OlderRefused, OlderIsRefused, ReachedBefore, InOlderSession, InSameSession, OpenIsNewest, OpensAreNewest}
-use Rattle.invariant_law.proofs.Gone.{is_checked, own_checked, no_setup, answer_step}
+use Rattle.invariant_law.specs.Parts.{open_of, OlderStatus, NoChannel, BreaksForm, NotAvailable, OlderIsRefused, ReachedBefore, InOlderSession, InSameSession, OpensAreNewest}
+use Rattle.invariant_law.proofs.Gone.{is_checked, own_checked, answer_step}
 
 -- ---- the open stands behind an expiry too
 
@@ -170,8 +170,8 @@ older_refused w a cn ss f nw k n g x l ed st at less =
     let q = asks_of (w.client.op g) (guid_for w.client g) (open_of w.client g) (w.client.slot_of g) (w.client.number_of g) (lists_of (w.client.op g) ed) in
     let c : is_checked x.message.command ≡ true = ap is_checked b.1 ∙ own_checked (w.client.op g) _ _ _ _ in
     let t : TurnedBy w.server x (answer w x) = subst (TurnedBy w.server x) (sym (answer_step w.server w.moment x.message x.message.command c))
-        (late_step w.server w.moment x (content_op (w.client.op g)) (open_of w.client g) f (b.1 ∙ q.0) b.3 ed (ss.tree_up k n x l.waits (ops_of x.token g l.own) l.live) at
-        (late_of w.server x.message (open_of w.client g) (ss.sequences_up k n x l.waits).0 (nw.low_sequences (open_of w.client g)) less)) in
+    (late_step w.server w.moment x (content_op (w.client.op g)) (open_of w.client g) f (b.1 ∙ q.0) b.3 ed (ss.tree_up k n x l.waits (ops_of x.token g l.own) l.live) at
+    (late_of w.server x.message (open_of w.client g) (ss.sequences_up k n x l.waits).0 (nw.low_sequences (open_of w.client g)) less)) in
     record { acted = t.0; status = t.1 }
 
 some_same : (x y : ℕ) → Some x ≡ Some y → x ≡ y

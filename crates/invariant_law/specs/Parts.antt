@@ -1,7 +1,7 @@
 -- The invariant under the three statements, in six sentences on a world w that a run leads to, in which each operation
 -- acted a g times. A copy is a message of an operation itself that waits for the server; it is live where its session is
 -- present on the server.
-use Rattle.std.specs.Prelude.{◌≡◌, ◌≢◌, ℕ, ◌≤◌, ◌<◌, ◌==◌, nat_le, Bool, true, false, ◌&&◌, if◌then◌else◌, Option, Some, None, is_some, slice_get}
+use Rattle.std.specs.Prelude.{◌≡◌, ◌≢◌, ℕ, ◌≤◌, ◌<◌, ◌==◌, nat_le, true, false, ◌&&◌, if◌then◌else◌, Some, None, is_some, slice_get}
 use Rattle.exchange_defs.specs.Status.{success, user_session_deleted, file_not_available}
 use Rattle.exchange_defs.specs.Content.{effect, is_change, collides}
 use Rattle.exchange_defs.specs.Commands.{form}
