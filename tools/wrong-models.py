@@ -1,20 +1,28 @@
 #!/usr/bin/env python3
-"""Applies each change of tools/wrong-models.txt to a copy of the crates, one at a time, and checks a crate there.
+"""Applies each change of tools/wrong-models.txt to a copy of the crates, one at a time, and checks crates there.
 
-usage: tools/wrong-models.py [--examples] CRATE FOLDER [NAME ..]
+usage: tools/wrong-models.py --laws FOLDER [NAME ..]
+       tools/wrong-models.py [--examples] CRATE FOLDER [NAME ..]
        tools/wrong-models.py --texts
 
-FOLDER is where the copy is made; NAMEs choose some of the changes. With --examples only the function that a change's
-`example` names is proved, and changes without one are left out. A line is printed for each: its name, then `refused`
-with the functions or lemmas whose proof fails, `passes`, or `BAD` where the text doesn't stand once or doesn't compile.
-With --texts nothing is proved: a line is printed for each change whose text doesn't stand once, or whose example isn't there.
+FOLDER is where the copy is made (a folder of its own for each run); NAMEs choose some of the changes.
+With --laws the crates that a change's `laws` names are checked in that order until one refuses, and changes without them
+are left out. With CRATE that crate is checked for each change; with --examples only the function that a change's `example`
+names is proved, and changes without one are left out. A line is printed for each: its name, then `refused` with the
+functions or lemmas whose proof fails (with --laws `refused by CRATE`), `passes`, `LATE` where a check took longer than the
+limit, which tells nothing, or `BAD` where the text doesn't stand once or doesn't compile.
+With --texts nothing is proved: a line is printed for each change whose text doesn't stand once, whose example isn't there,
+or which has neither an example nor a law.
 """
-import os, re, shutil, subprocess, sys
+import os, re, shutil, signal, subprocess, sys
+
+TOP = os.path.dirname(os.path.dirname(os.path.abspath(__file__)))
+LIMIT = 900  # seconds of one check
 
 
-def read_changes(path):
+def read_changes():
     changes, current = [], {}
-    for line in open(path, encoding="utf-8"):
+    for line in open(os.path.join(TOP, "tools", "wrong-models.txt"), encoding="utf-8"):
         line = line.rstrip("\n")
         if not line or line.startswith("#"):
             continue
@@ -32,54 +40,104 @@ def failing(text):
     return sorted(set(names))
 
 
-def check_texts(top):
-    functions = re.findall(r"fn (\w+)\(", open(os.path.join(top, "crates", "exchange_examples", "src", "lib.rt"), encoding="utf-8").read())
-    changes = read_changes(os.path.join(top, "tools", "wrong-models.txt"))
+def times_in(change, top):
+    return open(os.path.join(top, change["file"]), encoding="utf-8").read().count(change["old"])
+
+
+def check_texts():
+    examples = os.path.join(TOP, "crates", "exchange_examples", "src", "lib.rt")
+    functions = re.findall(r"fn (\w+)\(", open(examples, encoding="utf-8").read())
+    changes = read_changes()
     for change in changes:
-        times = open(os.path.join(top, change["file"]), encoding="utf-8").read().count(change["old"])
-        if times != 1:
-            print(change["name"], "BAD: the text stands", times, "times")
+        if times_in(change, TOP) != 1:
+            print(change["name"], "BAD: the text stands", times_in(change, TOP), "times")
         if change.get("example", functions[0]) not in functions:
             print(change["name"], "BAD: no example", change["example"])
+        if "example" not in change and "laws" not in change:
+            print(change["name"], "BAD: neither an example nor a law")
     print(len(changes), "changes read")
+
+
+def copy_crates(folder):
+    copy = os.path.join(folder, "wrong")
+    shutil.rmtree(copy, ignore_errors=True)
+    os.makedirs(copy)
+    shutil.copytree(os.path.join(TOP, "crates"), os.path.join(copy, "crates"), ignore=shutil.ignore_patterns("out"))
+    for part in ("crates.txt", "HANDLES"):
+        shutil.copy(os.path.join(TOP, part), os.path.join(copy, part))
+    subprocess.run(["git", "init", "-q"], cwd=copy, check=False)
+    return copy
+
+
+def run_check(copy, crate, words):
+    """The status of the check, None where it took too long, and what it printed."""
+    folder = os.path.join(copy, "crates", crate)
+    with subprocess.Popen(["rt", "check"] + words, cwd=folder, stdout=subprocess.PIPE, stderr=subprocess.STDOUT, text=True, start_new_session=True) as run:
+        try:
+            text, _ = run.communicate(timeout=LIMIT)
+            return run.returncode, text
+        except subprocess.TimeoutExpired:
+            os.killpg(run.pid, signal.SIGTERM)
+            run.communicate()
+            return None, ""
+
+
+def keep_log(copy, name, crate, text):
+    logs = os.path.join(os.path.dirname(copy), "logs")
+    os.makedirs(logs, exist_ok=True)
+    open(os.path.join(logs, name + "." + crate), "w", encoding="utf-8").write(text)
+
+
+def verdict(copy, change, crate, words):
+    status, text = run_check(copy, crate, words)
+    keep_log(copy, change["name"], crate, text)
+    broken = re.findall(r"exchange_defs/specs/\w+\.antt:\d+:\d+: error: .{0,120}|^specs/\w+\.antt:\d+:\d+: error: .{0,120}", text, re.M)
+    if broken:
+        return "BAD: " + broken[0]
+    if status is None:
+        return "LATE"
+    if status == 0:
+        return "passes"
+    return "refused: " + (", ".join(failing(text)) or "no lemma named")
+
+
+def by_laws(copy, change):
+    passed = []
+    for crate in change["laws"].split():
+        found = verdict(copy, change, crate, [])
+        if found != "passes":
+            return found.replace("refused:", "refused by " + crate + ":", 1)
+        passed.append(crate)
+    return "passes " + " ".join(passed)
+
+
+def try_change(copy, change, decide):
+    """Decides one change in the copy, which is as it was behind it."""
+    path = os.path.join(copy, change["file"])
+    original = open(path, encoding="utf-8").read()
+    if original.count(change["old"]) != 1:
+        return "BAD: the text stands %d times" % original.count(change["old"])
+    open(path, "w", encoding="utf-8").write(original.replace(change["old"], change["new"]))
+    try:
+        return decide(copy, change)
+    finally:
+        open(path, "w", encoding="utf-8").write(original)
 
 
 def main():
     words = sys.argv[1:]
     if words == ["--texts"]:
-        check_texts(os.path.dirname(os.path.dirname(os.path.abspath(__file__))))
+        check_texts()
         return
-    by_example = words[:1] == ["--examples"]
-    words = words[1:] if by_example else words
-    crate, folder, chosen = words[0], words[1], words[2:]
-    top = os.path.dirname(os.path.dirname(os.path.abspath(__file__)))
-    copy = os.path.join(folder, "wrong")
-    shutil.rmtree(copy, ignore_errors=True)
-    os.makedirs(copy)
-    for part in ("crates", "crates.txt", "HANDLES"):
-        source, target = os.path.join(top, part), os.path.join(copy, part)
-        shutil.copytree(source, target) if os.path.isdir(source) else shutil.copy(source, target)
-    subprocess.run(["git", "init", "-q"], cwd=copy, check=False)
-    for change in read_changes(os.path.join(top, "tools", "wrong-models.txt")):
-        if (chosen and change["name"] not in chosen) or (by_example and "example" not in change):
-            continue
-        path = os.path.join(copy, change["file"])
-        original = open(path, encoding="utf-8").read()
-        if original.count(change["old"]) != 1:
-            print(change["name"], "BAD: the text stands", original.count(change["old"]), "times", flush=True)
-            continue
-        open(path, "w", encoding="utf-8").write(original.replace(change["old"], change["new"]))
-        only = ["--only", change["example"]] if by_example else []
-        run = subprocess.run(["rt", "check"] + only, cwd=os.path.join(copy, "crates", crate), capture_output=True, text=True)
-        text = run.stdout + run.stderr
-        open(path, "w", encoding="utf-8").write(original)
-        broken = re.findall(r"specs/\w+\.antt:\d+:\d+: error: .{0,120}", text)
-        if broken:
-            print(change["name"], "BAD:", broken[0], flush=True)
-        elif run.returncode != 0:
-            print(change["name"], "refused:", ", ".join(failing(text)), flush=True)
-        else:
-            print(change["name"], "passes", flush=True)
+    mode = words.pop(0) if words and words[0] in ("--laws", "--examples") else ""
+    crate = "" if mode == "--laws" else words.pop(0)
+    folder, chosen = words[0], words[1:]
+    needs = {"--laws": "laws", "--examples": "example"}.get(mode, "name")
+    decide = by_laws if crate == "" else lambda copy, c: verdict(copy, c, crate, ["--only", c["example"]] if mode else [])
+    copy = copy_crates(folder)
+    for change in read_changes():
+        if needs in change and (not chosen or change["name"] in chosen):
+            print(change["name"], try_change(copy, change, decide), flush=True)
 
 
 main()
