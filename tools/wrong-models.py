@@ -8,11 +8,12 @@ usage: tools/wrong-models.py --laws FOLDER [NAME ..]
 FOLDER is where the copy is made (a folder of its own for each run); NAMEs choose some of the changes.
 With --laws the crates that a change's `laws` names are checked in that order until one refuses, and changes without them
 are left out. With CRATE that crate is checked for each change; with --examples only the function that a change's `example`
-names is proved, and changes without one are left out. A line is printed for each: its name, then `refused` with the
-functions or lemmas whose proof fails (with --laws `refused by CRATE`), `passes`, `LATE` where a check took longer than the
-limit, which tells nothing, or `BAD` where the text doesn't stand once or doesn't compile.
-With --texts nothing is proved: a line is printed for each change whose text doesn't stand once, whose example isn't there,
-or which has neither an example nor a law.
+names is proved, and changes without one are left out. A line is printed for each: its name, then `refused` with the crate
+and the functions or lemmas whose proof fails (`below` where a crate that it stands on refused already), `passes`, `LATE`
+where a check took longer than the limit, which tells nothing, or `BAD` where a text doesn't stand once or doesn't compile.
+What each check printed is kept in FOLDER/logs.
+With --texts nothing is proved: a line is printed for each text that doesn't stand once, each example that isn't there, and
+each change that has neither an example nor a law.
 """
 import os, re, shutil, signal, subprocess, sys
 
@@ -28,9 +29,14 @@ def read_changes():
             continue
         key, value = line.split(": ", 1)
         if key == "name":
-            current = {}
+            current = {"edits": []}
             changes.append(current)
-        current[key] = value.replace("\\n", "\n") if key in ("old", "new") else value
+        if key in ("file", "also"):
+            current["edits"].append({"file": value})
+        elif key in ("old", "new"):
+            current["edits"][-1][key] = value.replace("\\n", "\n")
+        else:
+            current[key] = value
     return changes
 
 
@@ -40,8 +46,21 @@ def failing(text):
     return sorted(set(names))
 
 
-def times_in(change, top):
-    return open(os.path.join(top, change["file"]), encoding="utf-8").read().count(change["old"])
+def refusal(text, crate):
+    """What refused: the crate itself, or one below it, behind which nothing was checked."""
+    below = re.findall(r"rt: the library (\w+) did not build", text)
+    refuses = "refused by " + below[0] + " below " + crate if below else "refused by " + crate
+    return refuses + ": " + (", ".join(failing(text)) or "no lemma named")
+
+
+def misplaced(change, top):
+    """Each text of the change that doesn't stand once, by how often it stands."""
+    found = []
+    for edit in change["edits"]:
+        times = open(os.path.join(top, edit["file"]), encoding="utf-8").read().count(edit["old"])
+        if times != 1:
+            found.append("BAD: a text stands %d times in %s" % (times, edit["file"]))
+    return found
 
 
 def check_texts():
@@ -49,8 +68,8 @@ def check_texts():
     functions = re.findall(r"fn (\w+)\(", open(examples, encoding="utf-8").read())
     changes = read_changes()
     for change in changes:
-        if times_in(change, TOP) != 1:
-            print(change["name"], "BAD: the text stands", times_in(change, TOP), "times")
+        for bad in misplaced(change, TOP):
+            print(change["name"], bad)
         if change.get("example", functions[0]) not in functions:
             print(change["name"], "BAD: no example", change["example"])
         if "example" not in change and "laws" not in change:
@@ -98,30 +117,40 @@ def verdict(copy, change, crate, words):
         return "LATE"
     if status == 0:
         return "passes"
-    return "refused: " + (", ".join(failing(text)) or "no lemma named")
+    return refusal(text, crate)
 
 
 def by_laws(copy, change):
-    passed = []
-    for crate in change["laws"].split():
+    crates = change["laws"].split()
+    for crate in crates:
         found = verdict(copy, change, crate, [])
         if found != "passes":
-            return found.replace("refused:", "refused by " + crate + ":", 1)
-        passed.append(crate)
-    return "passes " + " ".join(passed)
+            return found
+    return "passes " + " ".join(crates)
+
+
+def apply_edits(copy, edits):
+    """Applies them, and returns what undoes them."""
+    originals = {}
+    for edit in edits:
+        path = os.path.join(copy, edit["file"])
+        text = open(path, encoding="utf-8").read()
+        originals.setdefault(path, text)
+        open(path, "w", encoding="utf-8").write(text.replace(edit["old"], edit["new"]))
+    return originals
 
 
 def try_change(copy, change, decide):
     """Decides one change in the copy, which is as it was behind it."""
-    path = os.path.join(copy, change["file"])
-    original = open(path, encoding="utf-8").read()
-    if original.count(change["old"]) != 1:
-        return "BAD: the text stands %d times" % original.count(change["old"])
-    open(path, "w", encoding="utf-8").write(original.replace(change["old"], change["new"]))
+    bad = misplaced(change, copy)
+    if bad:
+        return bad[0]
+    originals = apply_edits(copy, change["edits"])
     try:
         return decide(copy, change)
     finally:
-        open(path, "w", encoding="utf-8").write(original)
+        for path, text in originals.items():
+            open(path, "w", encoding="utf-8").write(text)
 
 
 def main():
