@@ -110,7 +110,7 @@ def keep_log(copy, name, crate, text):
 def verdict(copy, change, crate, words):
     status, text = run_check(copy, crate, words)
     keep_log(copy, change["name"], crate, text)
-    broken = re.findall(r"exchange_defs/specs/\w+\.antt:\d+:\d+: error: .{0,120}|^specs/\w+\.antt:\d+:\d+: error: .{0,120}", text, re.M)
+    broken = re.findall(r"^(?:\./)?specs/\w+\.antt:\d+:\d+: error: .{0,120}", text, re.M)
     if broken:
         return "BAD: " + broken[0]
     if status is None:
