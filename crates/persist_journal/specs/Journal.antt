@@ -64,10 +64,10 @@ OnlyRoom old new = (new ≡ record old { room = new.room }) × (old.room ≤ new
 -- What `append` answers, and what it leaves.
 abbrev pub Appends : {D : Type 0} → (D → ℕ) → JournalState D → List ℕ → Bool → Result ℕ JournalError → JournalState D → Type 0
 Appends faults old body epoch (Ok n) new =
-    Allows old (length body) epoch × (n ≡ old.count) × (new.count ≡ old.count + 1) × (new.used ≡ old.used + 5 + length body) × (new.stopped ≡ None) × (faults new.disk ≡ faults old.disk) × (old.room ≤ new.room) × (new.taken ≡ old.taken)
+    Allows old (length body) epoch × (n ≡ old.count) × (new.count ≡ old.count + 1) × (new.used ≡ old.used + 5 + length body) × (new.stopped ≡ None) × (faults new.disk ≡ faults old.disk) × (old.room ≤ new.room) × (new.taken ≡ old.taken) × (new.next ≡ old.next)
 Appends faults old body epoch (Err errors.Memory) new = Allows old (length body) epoch × (old.room < length body + 5) × OnlyRoom old new
 Appends faults old body epoch (Err (errors.DiskFault n)) new =
-    Allows old (length body) epoch × Rose (faults old.disk) n × (n ≡ faults new.disk) × (new.stopped ≡ Some n) × (new.used ≡ old.used) × (new.count ≡ old.count) × (old.room ≤ new.room) × (new.taken ≡ old.taken)
+    Allows old (length body) epoch × Rose (faults old.disk) n × (n ≡ faults new.disk) × (new.stopped ≡ Some n) × (new.used ≡ old.used) × (new.count ≡ old.count) × (old.room ≤ new.room) × (new.taken ≡ old.taken) × (new.next ≡ old.next)
 Appends faults old body epoch (Err (errors.NotAJournal at)) new = ⊥
 Appends faults old body epoch (Err (errors.Full would limit)) new = (old.stopped ≡ None) × (would ≡ capped (old.used + 5 + length body)) × (limit ≡ limit_of epoch) × (limit < would) × (new ≡ old)
 Appends faults old body epoch (Err (errors.Stopped n)) new = (old.stopped ≡ Some n) × (new ≡ old)
@@ -81,11 +81,17 @@ Reserves old size epoch (Err (errors.NotAJournal at)) new = ⊥
 Reserves old size epoch (Err (errors.Full would limit)) new = (old.stopped ≡ None) × (would ≡ capped (old.used + 5 + size)) × (limit ≡ limit_of epoch) × (limit < would) × (new ≡ old)
 Reserves old size epoch (Err (errors.Stopped n)) new = (old.stopped ≡ Some n) × (new ≡ old)
 
+-- A disk failed in a call that then dropped it, at this count of faults. Generic code has no such disk but by a call that failed.
+pub record FailedAt {D : Type 0} (faults : D → ℕ) (disk : D) (n : ℕ) : Type 0 where
+  pub dropped : D
+  pub count : n ≡ faults dropped
+  pub rose : Rose (faults disk) n
+
 -- What `create` answers of a disk.
 abbrev pub Creates : {D : Type 0} → (D → ℕ) → D → Result (JournalState D) JournalError → Type 0
 Creates faults disk (Ok journal) = (faults journal.disk ≡ faults disk) × (journal.used ≡ 9) × (journal.count ≡ 0) × (journal.taken ≡ 0) × (journal.stopped ≡ None)
 Creates faults disk (Err errors.Memory) = ⊥
-Creates faults disk (Err (errors.DiskFault n)) = Rose (faults disk) n
+Creates faults disk (Err (errors.DiskFault n)) = FailedAt faults disk n
 Creates faults disk (Err (errors.NotAJournal at)) = ⊥
 Creates faults disk (Err (errors.Full would limit)) = ⊥
 Creates faults disk (Err (errors.Stopped n)) = ⊥
@@ -94,7 +100,7 @@ Creates faults disk (Err (errors.Stopped n)) = ⊥
 abbrev pub Recovers : {D : Type 0} → Type 0 → (D → List ℕ) → (D → ℕ) → D → Result (JournalState D) JournalError → Type 0
 Recovers told seen faults disk (Ok journal) = (faults journal.disk ≡ faults disk) × (journal.taken ≡ 0) × (journal.stopped ≡ None) × (told → (bodies : List (List ℕ)) × StandsFor (seen disk) bodies × (journal.used ≡ length (front bodies) + 1) × (journal.count ≡ length bodies))
 Recovers told seen faults disk (Err errors.Memory) = ⊥
-Recovers told seen faults disk (Err (errors.DiskFault n)) = Rose (faults disk) n
+Recovers told seen faults disk (Err (errors.DiskFault n)) = FailedAt faults disk n
 Recovers told seen faults disk (Err (errors.NotAJournal at)) = told → BreaksAt (seen disk) at
 Recovers told seen faults disk (Err (errors.Full would limit)) = ⊥
 Recovers told seen faults disk (Err (errors.Stopped n)) = ⊥
@@ -121,9 +127,9 @@ StopsAt faults n old new = (old.stopped ≡ None) × Rose (faults old.disk) n ×
 abbrev pub NextAnswers : {D : Type 0} → (D → ℕ) → JournalState D → Result (Option (List ℕ)) JournalError → JournalState D → Type 0
 NextAnswers faults old (Ok (Some body)) new = (old.stopped ≡ None) × (new ≡ record old { disk = new.disk; taken = old.taken + 1; next = old.next + 5 + length body }) × (new.next < new.used) × (faults new.disk ≡ faults old.disk)
 NextAnswers faults old (Ok None) new = (old.stopped ≡ None) × (old.next + 1 ≡ old.used) × (new ≡ old)
-NextAnswers faults old (Err errors.Memory) new = (old.stopped ≡ None) × OnlyRead faults old new
+NextAnswers faults old (Err errors.Memory) new = (old.stopped ≡ None) × (old.next + 1 < old.used) × OnlyRead faults old new
 NextAnswers faults old (Err (errors.DiskFault n)) new = StopsAt faults n old new × (new.taken ≡ old.taken) × (new.next ≡ old.next)
-NextAnswers faults old (Err (errors.NotAJournal at)) new = (old.stopped ≡ None) × (at ≡ old.next) × OnlyRead faults old new
+NextAnswers faults old (Err (errors.NotAJournal at)) new = (old.stopped ≡ None) × (old.next + 1 < old.used) × (at ≡ old.next) × OnlyRead faults old new
 NextAnswers faults old (Err (errors.Full would limit)) new = ⊥
 NextAnswers faults old (Err (errors.Stopped n)) new = (old.stopped ≡ Some n) × (new ≡ old)
 
@@ -144,7 +150,7 @@ abbrev pub RestAnswers : {D : Type 0} → (D → ℕ) → JournalState D → Res
 RestAnswers faults old (Ok list) new = (old.stopped ≡ None) × Advances faults old new
 RestAnswers faults old (Err errors.Memory) new = (old.stopped ≡ None) × Advances faults old new
 RestAnswers faults old (Err (errors.DiskFault n)) new = StopsAt faults n old new
-RestAnswers faults old (Err (errors.NotAJournal at)) new = (old.stopped ≡ None) × Advances faults old new
+RestAnswers faults old (Err (errors.NotAJournal at)) new = (old.stopped ≡ None) × (at ≡ new.next) × (new.next + 1 < new.used) × Advances faults old new
 RestAnswers faults old (Err (errors.Full would limit)) new = ⊥
 RestAnswers faults old (Err (errors.Stopped n)) new = ⊥
 
@@ -162,6 +168,6 @@ abbrev pub AllAnswers : {D : Type 0} → (D → ℕ) → JournalState D → Resu
 AllAnswers faults old (Ok list) new = (old.stopped ≡ None) × OnlyRead faults old new
 AllAnswers faults old (Err errors.Memory) new = (old.stopped ≡ None) × OnlyRead faults old new
 AllAnswers faults old (Err (errors.DiskFault n)) new = StopsAt faults n old new × (new.taken ≡ old.taken) × (new.next ≡ old.next)
-AllAnswers faults old (Err (errors.NotAJournal at)) new = (old.stopped ≡ None) × OnlyRead faults old new
+AllAnswers faults old (Err (errors.NotAJournal at)) new = (old.stopped ≡ None) × (8 ≤ at) × (at + 1 < old.used) × OnlyRead faults old new
 AllAnswers faults old (Err (errors.Full would limit)) new = ⊥
 AllAnswers faults old (Err (errors.Stopped n)) new = (old.stopped ≡ Some n) × (new ≡ old)

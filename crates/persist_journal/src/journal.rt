@@ -112,7 +112,8 @@ fn fill(buffer: &mut Vec<u8>, body: &[u8]) -> Result<(), AllocError>
 impl<D: Disk> Journal<D> {
     /// Makes a new journal of a disk of at most 9 bytes on which nothing waits for a sync. A crash at any
     /// moment leaves a disk that stands for no bodies. `DiskFault` comes only where the disk's count of
-    /// faults rose, and carries it. Where it refuses, the disk is dropped: hand in a `&mut` to keep it.
+    /// faults rose, and carries it. Where it refuses, the disk is dropped: hand in a `&mut` to keep it; what
+    /// is left of it then is said by `prepare` alone.
     pub fn create(alloc: Global, mut disk: D) -> Result<Journal<D>, JournalError>
     where
         D: Drop,
@@ -143,7 +144,8 @@ impl<D: Disk> Journal<D> {
     ///
     /// `NotAJournal` carries the first byte that isn't the mark's, or the open gate whose entry doesn't
     /// fit; then the disk was only read. `DiskFault` comes only where the disk's count of faults rose, and
-    /// carries it. Where it refuses, the disk is dropped: hand in a `&mut` to keep it.
+    /// carries it. Where it refuses, the disk is dropped: hand in a `&mut` to keep it; what is left of it
+    /// then is said by `repair` alone.
     pub fn recover(alloc: Global, mut disk: D) -> Result<Journal<D>, JournalError>
     where
         D: Drop,

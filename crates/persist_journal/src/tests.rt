@@ -115,11 +115,10 @@ fn each_call_of_the_disk_may_fail(rt: HostRuntime) -> Result<(), Fail> {
 #[test]
 fn what_is_no_journal_is_refused_by_its_place(rt: HostRuntime) -> Result<(), Fail> {
     let alloc = rt.alloc();
-    let other = disk_of(alloc, b"hello, journal")?;
-    assert_eq!(rt;
-        recovered(alloc, other)?.err(),
-        Some(JournalError::NotAJournal(0))
-    );
+    let mut other = disk_of(alloc, b"hello, journal")?;
+    let refused = recovered(alloc, &mut other)?.err();
+    assert_eq!(rt; refused, Some(JournalError::NotAJournal(0)));
+    assert_eq!(rt; other.bytes(), b"hello, journal".as_slice());
     let mark = disk_of(alloc, b"smb311j2\0\0")?;
     assert_eq!(rt;
         recovered(alloc, mark)?.err(),
@@ -150,6 +149,14 @@ fn a_file_is_recovered_without_a_stop(rt: HostRuntime) -> Result<(), Fail> {
     drop(journal);
     let bodies = recovered(alloc, file_disk(&rt, "journal")?)??;
     assert_eq!(rt; bodies.as_slice(), b"ab;;".as_slice());
+    Ok(())
+}
+
+// The null device takes every write, and refuses a sync.
+#[test]
+fn a_file_that_does_not_sync_is_refused(rt: HostRuntime) -> Result<(), Fail> {
+    let refused = recovered(rt.alloc(), file_disk(&rt, "/dev/null")?)?.err();
+    assert_eq!(rt; refused, Some(JournalError::DiskFault(1)));
     Ok(())
 }
 
