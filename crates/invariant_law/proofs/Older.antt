@@ -1,8 +1,8 @@
 -- A write or an end of an older sequence than its open's, and the pairs that reached an open before.
 use Rattle.std.proofs.lemmas.Bool.Decides.{nat_tests}
 use Rattle.std.proofs.lemmas.Bool.{eqb-false}
-use Rattle.std.proofs.Common.{eqb-true, ◌≡◌, ◌≢◌, ℕ, ◌≤◌, ◌<◌, ◌==◌, nat_lt, Bool, true, false, ◌||◌, ◌&&◌, List, [], ◌∷◌, inl, inr, refl, arith, sym, ◌∙◌, ap, subst, Option, Some, None, is_some}
-use Rattle.exchange_defs.specs.Table.{put, is_at}
+use Rattle.std.proofs.Common.{eqb-true, ◌≡◌, ◌≢◌, ℕ, ◌≤◌, ◌<◌, ◌==◌, nat_lt, Bool, true, false, ◌||◌, ◌&&◌, List, inl, inr, refl, arith, sym, ◌∙◌, ap, subst, Option, Some, None, is_some}
+use Rattle.exchange_defs.specs.Table.{is_at}
 use Rattle.exchange_defs.specs.Status.{user_session_deleted, file_not_available}
 use Rattle.exchange_defs.specs.Content.{ContentOp, Write as Writes, Read as Reads, SetEnd as Ends, Still, is_change, is_listed}
 use Rattle.exchange_defs.specs.Commands.{form, is_setup}
@@ -13,7 +13,7 @@ use Rattle.exchange_defs.specs.CheckSetup.{tree_in}
 use Rattle.exchange_defs.specs.Check.{has_session, tree_command, in_tree, command_check, formed, owed, check}
 use Rattle.exchange_defs.specs.Effects.{apply}
 use Rattle.exchange_defs.specs.Verdict.{Verdict, Refuse}
-use Rattle.exchange_defs.specs.Step.{step, with_deadlines, due, due_in, is_past, expire, without_room}
+use Rattle.exchange_defs.specs.Step.{step, with_deadlines, expire, without_room}
 use Rattle.exchange_defs.specs.Operations.{Op, content_op}
 use Rattle.exchange_defs.specs.Client.{guid_for}
 use Rattle.exchange_defs.specs.Network.{World, Sent, answer}
@@ -25,6 +25,7 @@ use Rattle.server_law.proofs.SessionEffects.{deadlines_keeps}
 use Rattle.session_law.specs.Sessions.{Sessions}
 use Rattle.session_law.proofs.Heard.{before_stays}
 use Rattle.create_law.specs.Creates.{Creates, seen}
+use Rattle.lock_law.proofs.Facing.{apart_due}
 use Rattle.lock_law.proofs.Views.{View, expire_view}
 use Rattle.order_law.specs.Newest.{Newest}
 use Rattle.order_law.specs.Contents.{lists}
@@ -32,39 +33,17 @@ use Rattle.order_law.proofs.Pairs.{stale_less}
 use Rattle.order_law.proofs.Answers.{earlier}
 use Rattle.order_law.proofs.Listed.{asks}
 use Rattle.order_law.proofs.Requests.{asks_of}
-use Rattle.order_law.proofs.Words.{ops_of}
+use Rattle.order_law.proofs.Words.{ops_of, put_other}
 use Rattle.invariant_law.specs.Parts.{open_of, OlderStatus, NoChannel, BreaksForm, NotAvailable, OlderIsRefused, ReachedBefore, InOlderSession, InSameSession, OpensAreNewest}
 use Rattle.invariant_law.proofs.Gone.{is_checked, own_checked, answer_step}
 
 -- ---- the open stands behind an expiry too
-
-past_due : (deadline : ℕ → Option ℕ) (os : List ℕ) (now o : ℕ) → due_in deadline os now ≡ Some o → is_some (deadline o) ≡ true
-unfolding due_in
-past_due deadline [] now o e = absurd (cc)
-past_due deadline (p ∷ os) now o e = elim (is_past now (deadline p)) as (λ b. is_past now (deadline p) ≡ b → is_some (deadline o) ≡ true) [
-  | true ↦ λ h. let same : p ≡ o = grind arith in subst (λ z. is_some (deadline z) ≡ true) same (of_past (deadline p) h)
-  | false ↦ λ h. past_due deadline os now o (grind arith)
-] refl
-  where
-    of_past : (d : Option ℕ) → is_past now d ≡ true → is_some d ≡ true
-    of_past None h = absurd (cc)
-    of_past (Some d) h = refl
-
-apart_due : (s : Server) (now o : ℕ) → Fits s → due s now ≡ Some o → s.at o ≡ None
-apart_due s now o f e = of_deadline (s.deadline o) refl (past_due s.deadline s.opens now o e)
-  where
-    of_deadline : (d : Option ℕ) → s.deadline o ≡ d → is_some d ≡ true → s.at o ≡ None
-    of_deadline None h x = absurd (cc)
-    of_deadline (Some d) h x = f.deadlines o d h
 
 two_opens : (at : ℕ → Option ℕ) (o p y : ℕ) → at o ≡ Some y → at p ≡ None → o ≢ p
 two_opens at o p y e f same = absurd (grind arith)
 
 of_session : (stands : Bool) (at : Option ℕ) (y : ℕ) → stands ≡ true → at ≡ Some y → (stands && is_at y at) ≡ true
 of_session stands at y e f = grind arith
-
-put_apart : {X : Type 0} (f : ℕ → X) (k : ℕ) (v : X) (q : ℕ) → q ≢ k → put f k v q ≡ f q
-put_apart f k v q n = grind arith
 
 still_there : (s : Server) (now : ℕ) (t : Server) → Before s now t → Fits s → (o y : ℕ) → s.at o ≡ Some y → is_of_session t o y ≡ true
 still_there s now t (inl e) f o y at = subst (λ u. is_of_session u o y ≡ true) (sym e) (of_session (s.standing o) (s.at o) y (f.attached o y at).0 at)
@@ -74,8 +53,8 @@ still_there s now t (inr q) f o y at =
     let v = expire_view d q.0 in
     subst (λ u. is_of_session u o y ≡ true) (sym q.2)
     (of_session ((expire d q.0).standing o) ((expire d q.0).at o) y
-    (ap (λ (z : View). z.standing o) v ∙ (put_apart s.standing q.0 false o apart ∙ (f.attached o y at).0))
-    (ap (λ (z : View). z.at o) v ∙ (put_apart s.at q.0 None o apart ∙ at)))
+    (ap (λ (z : View). z.standing o) v ∙ (put_other s.standing q.0 false o apart ∙ (f.attached o y at).0))
+    (ap (λ (z : View). z.at o) v ∙ (put_other s.at q.0 None o apart ∙ at)))
 
 -- ---- the checks, to that of the sequence
 

@@ -111,7 +111,7 @@ past_due deadline (p ∷ os) now o e = elim (is_past now (deadline p)) as (λ b.
     of_past None h = absurd (cc)
     of_past (Some d) h = refl
 
-apart_due : (s : Server) (now o : ℕ) → Fits s → due s now ≡ Some o → s.at o ≡ None
+pub apart_due : (s : Server) (now o : ℕ) → Fits s → due s now ≡ Some o → s.at o ≡ None
 apart_due s now o f e = of_deadline (s.deadline o) refl (past_due s.deadline s.opens now o e)
   where
     of_deadline : (d : Option ℕ) → s.deadline o ≡ d → is_some d ≡ true → s.at o ≡ None
