@@ -84,28 +84,33 @@ unfolding create_records Clean
 clean_create guid user s m r found action now a b =
     either (λ rs. Clean guid user rs) ((action == 1) && not (is_persistent r.durable)) [] _ (λ _. tt) (λ _. (own_new guid user s m r r.durable a b, tt))
 
-by_verdict : (guid : ℕ) (user : List ℕ) (s : Server) (m : Message) (now : ℕ) (v : Verdict) → m.client ≡ guid → (s.on m.connection ≡ Some m.session → s.user m.session ≡ user) → Found s m v → Clean guid user (apply s m now v).records
+abbrev pub is_make : Verdict → Bool
+is_make (Make r place action) = true
+is_make _ = false
+
+-- whose the message is matters where it makes an open
+pub by_verdict : (guid : ℕ) (user : List ℕ) (s : Server) (m : Message) (now : ℕ) (v : Verdict) → (is_make v ≡ true → m.client ≡ guid × s.user m.session ≡ user) → Clean guid user (apply s m now v).records
 unfolding Clean
-by_verdict guid user s m now (Refuse status) a b f = tt
-by_verdict guid user s m now (Give body) a b f = tt
-by_verdict guid user s m now (KeepRefusal g status) a b f = tt
-by_verdict guid user s m now (Repeat o r) a b f = tt
-by_verdict guid user s m now (Attach o r) a b f = tt
-by_verdict guid user s m now (Make r place action) a b f = clean_create guid user s m r place action now a (b f.1)
-by_verdict guid user s m now (TurnDown o status) a b f = tt
-by_verdict guid user s m now (Tell o body) a b f = tt
-by_verdict guid user s m now (Show o last body) a b f = tt
-by_verdict guid user s m now (KeepSlot o index number status elements) a b f = clean_lock guid user s m o index number status elements
-by_verdict guid user s m now (PutRanges o index number ranges elements) a b f = clean_lock guid user s m o index number success elements
-by_verdict guid user s m now (Alter o change body) a b f = clean_change guid user m (file_of s o) now change
-by_verdict guid user s m now (Shut o body) a b f = clean_left guid user s (origin_of m) o
-by_verdict guid user s m now Challenge a b f = tt
-by_verdict guid user s m now (ChallengeBinding session) a b f = tt
-by_verdict guid user s m now (Begin session its previous r is_quiet) a b f = clean_named guid user s (origin_of m) previous is_quiet
-by_verdict guid user s m now (Join session) a b f = tt
-by_verdict guid user s m now (EndSession session is_quiet) a b f = clean_ended guid user s (origin_of m) session is_quiet
-by_verdict guid user s m now (AddTree pipes) a b f = tt
-by_verdict guid user s m now DropTree a b f = tt
+by_verdict guid user s m now (Refuse status) own = tt
+by_verdict guid user s m now (Give body) own = tt
+by_verdict guid user s m now (KeepRefusal g status) own = tt
+by_verdict guid user s m now (Repeat o r) own = tt
+by_verdict guid user s m now (Attach o r) own = tt
+by_verdict guid user s m now (Make r place action) own = let o = own refl in clean_create guid user s m r place action now o.0 o.1
+by_verdict guid user s m now (TurnDown o status) own = tt
+by_verdict guid user s m now (Tell o body) own = tt
+by_verdict guid user s m now (Show o last body) own = tt
+by_verdict guid user s m now (KeepSlot o index number status elements) own = clean_lock guid user s m o index number status elements
+by_verdict guid user s m now (PutRanges o index number ranges elements) own = clean_lock guid user s m o index number success elements
+by_verdict guid user s m now (Alter o change body) own = clean_change guid user m (file_of s o) now change
+by_verdict guid user s m now (Shut o body) own = clean_left guid user s (origin_of m) o
+by_verdict guid user s m now Challenge own = tt
+by_verdict guid user s m now (ChallengeBinding session) own = tt
+by_verdict guid user s m now (Begin session its previous r is_quiet) own = clean_named guid user s (origin_of m) previous is_quiet
+by_verdict guid user s m now (Join session) own = tt
+by_verdict guid user s m now (EndSession session is_quiet) own = clean_ended guid user s (origin_of m) session is_quiet
+by_verdict guid user s m now (AddTree pipes) own = tt
+by_verdict guid user s m now DropTree own = tt
 
 -- ---- every step
 
@@ -140,9 +145,13 @@ clean_heard guid user s now m a b = clean_step guid user s now (Heard m) all
     at_t : (t : Server) → Before s now t → t.on m.connection ≡ Some m.session → t.user m.session ≡ user
     at_t t q on = let st = before_stays s now t q in ap (λ f. f m.session) st.user ∙ b (ap (λ f. f m.connection) (sym st.on) ∙ on)
 
+    own : (t : Server) (v : Verdict) → Before s now t → Found t m v → is_make v ≡ true → m.client ≡ guid × t.user m.session ≡ user
+    own t (Make r place action) q f e = (a, at_t t q f.1)
+    own t _ q f e = absurd (cc)
+
     all : AllClean guid user s now (Heard m)
-    all t r q (inl e) = subst (λ x. Clean guid user (carried_out t now x).records) (sym e) (by_verdict guid user t m now (check t m) a (at_t t q) (found t m))
-    all t r q (inr e) = subst (λ x. Clean guid user (carried_out t now x).records) (sym e) (by_verdict guid user t m now (without_room (check t m)) a (at_t t q) (found_full t m (check t m) (found t m)))
+    all t r q (inl e) = subst (λ x. Clean guid user (carried_out t now x).records) (sym e) (by_verdict guid user t m now (check t m) (own t (check t m) q (found t m)))
+    all t r q (inr e) = subst (λ x. Clean guid user (carried_out t now x).records) (sym e) (by_verdict guid user t m now (without_room (check t m)) (own t (without_room (check t m)) q (found_full t m (check t m) (found t m))))
 
 pub clean_answer : (guid : ℕ) (user : List ℕ) (s : Server) (now : ℕ) (m : Message) → m.client ≡ guid → (s.on m.connection ≡ Some m.session → s.user m.session ≡ user) → (c : Command) → Clean guid user (answer_to s now m c).records
 unfolding Clean

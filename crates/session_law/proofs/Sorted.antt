@@ -24,7 +24,8 @@ use Rattle.session_law.proofs.Columns.{Stays, stays_reached, stays_attached, sta
 use Rattle.session_law.proofs.Heard.{before_stays}
 use Rattle.session_law.proofs.Owed.{connects, connects_by, takes_in}
 use Rattle.session_law.proofs.Written.{Clean}
-use Rattle.session_law.proofs.Restoring.{is_make, bare_heard}
+use Rattle.session_law.proofs.Owed.{is_make}
+use Rattle.session_law.proofs.Restoring.{bare_heard}
 
 -- each tree is of this kind, and an open stands only where it isn't that of the pipes
 abbrev pub AllOfKind : Bool → (ℕ → List Tree) → Type 0
