@@ -1,5 +1,5 @@
 -- What holds of creates on every run, and what it says of their acts.
-use Rattle.std.proofs.Common.{◌≡◌, ℕ, ◌≤◌, Bool, true, false, ◌&&◌, List, [], ◌∷◌, ◌++◌, refl, arith, subst, ◌∙◌, ap}
+use Rattle.std.proofs.Common.{◌≡◌, ℕ, ◌≤◌, true, false, List, [], ◌∷◌, ◌++◌, refl, arith, subst, ◌∙◌, ap}
 use Rattle.exchange_defs.specs.State.{Server, Open}
 use Rattle.exchange_defs.specs.Fold.{fold_from, sweep, recovered}
 use Rattle.exchange_defs.specs.Operations.{Op, Outcome, is_create, is_ok, is_unsettled}
@@ -18,11 +18,9 @@ use Rattle.recovery_law.proofs.Restarts.{restarted as restarted_by, was_named, s
 use Rattle.session_law.proofs.Always.{sessions}
 use Rattle.create_law.specs.Creates.{seen, Restarts}
 use Rattle.create_law.proofs.Run.{Holds, Known, StartsAnew, keeps}
+use Rattle.server_law.proofs.Logic.{both}
 
 -- ---- a restart
-
-stays_there : (x y : Bool) → x ≡ true → y ≡ true → (x && y) ≡ true
-stays_there x y e f = grind arith
 
 restarts_of : (s u : Server) → Fits s → Restarted s u → Restarts (seen s) (seen u)
 restarts_of s u f r =
@@ -30,7 +28,7 @@ restarts_of s u f r =
       absent = r.bare.absent;
       apart = r.bare.apart;
       unrefused = r.bare.unrefused;
-      stays = λ p q o e k. stays_named s u r p q o e (stays_there (s.standing o) (s.opened o).persistent (f.guid_open p q o e).0 k);
+      stays = λ p q o e k. stays_named s u r p q o e (both (s.standing o) (s.opened o).persistent (f.guid_open p q o e).0 k);
       was = λ p q o e. (was_named s u r p q o e).0;
       named = λ p q o e. r.standing o ∙ (was_named s u r p q o e).1;
       stood = λ o e. let t = stood s u r o e in (t.0, t.2, ap (λ (x : Open). x.persistent) t.2 ∙ t.1);

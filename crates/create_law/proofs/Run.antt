@@ -14,8 +14,8 @@ use Rattle.exchange_law.specs.Connections.{Connections, copies, makes_open, acts
 use Rattle.exchange_law.proofs.Lists.{front_up, front_down, own_up_count}
 use Rattle.exchange_law.proofs.Behind.{behind_keeps}
 use Rattle.exchange_law.proofs.Answered.{answered_keeps}
-use Rattle.exchange_law.proofs.Run.{next_of, found, front_of, back_of, both_ways, put_self, front_reply_gone, awaited_of, heard_firm, heard_ends, after}
-use Rattle.server_law.proofs.Logic.{either}
+use Rattle.exchange_law.proofs.Run.{next_of, found, both_ways, put_self, front_reply_gone, awaited_of, heard_firm, heard_ends, after}
+use Rattle.server_law.proofs.Logic.{either, front_of, back_of}
 use Rattle.session_law.specs.Sessions.{RankedUp, PresentAccepted, LiveAccepted, Making, is_ops, makes_session}
 use Rattle.create_law.specs.Creates.{Seen, seen, Creates, Restarts, guid_at, named, is_current, is_barred, refuses, is_of_dialog, is_of_ask}
 use Rattle.create_law.proofs.Facing.{once_of}

@@ -12,7 +12,7 @@ use Rattle.exchange_defs.specs.Network.{Conn, Sent, Token, ForOp, answer_to}
 use Rattle.exchange_defs.specs.Runs.{is_send_of}
 use Rattle.exchange_law.specs.Connections.{Connections, makes_open, create_at}
 use Rattle.server_law.specs.Fits.{OnPresent}
-use Rattle.server_law.proofs.Logic.{either}
+use Rattle.server_law.proofs.Logic.{either, front_of}
 use Rattle.server_law.proofs.Doors.{Before, Finds, by_verdict}
 use Rattle.server_law.proofs.Checked.{found}
 use Rattle.session_law.specs.Sessions.{LiveAccepted, RankedUp, PresentAccepted, MakingUnranked, SessionUsers, TreeUp, is_ops}
@@ -74,7 +74,7 @@ mine_of c conns a t k g x0 f fc i tk mk =
       keeps = asks_to_keep (c.op g) (guid_for c g) mk;
       form = asks_form (c.op g) (guid_for c g) mk;
       fresh = λ b. (f.first k 0 g x0 fc.front tk (once_of c g mk) b).1;
-      mine = λ cur there. (fc.lives (live_of c.live _ cur)).0 ∙ sym (fc.here x0.message.session there ranked);
+      mine = λ cur there. (fc.lives (front_of c.live _ cur)).0 ∙ sym (fc.here x0.message.session there ranked);
       made = i.made;
       named_ = i.named;
       given = i.named_given;
@@ -86,9 +86,6 @@ mine_of c conns a t k g x0 f fc i tk mk =
       users = λ there. fc.users x0.message.session there;
       tree = λ there. fc.trees k 0 x0 fc.front ops there;
     }
-  where
-    live_of : (x y : Bool) → (x && y) ≡ true → x ≡ true
-    live_of x y e = grind arith
 
 says_found : (c : Client) (a : ℕ → ℕ) (t : Server) (g : ℕ) (tk : Token) (m : Message) (r : CreateRequest) (now : ℕ) (v : Verdict) → Mine c t a g tk m r → Finds t m v → SayFor c (seen (apply t m now v).server) (counted a tk (apply t m now v).acted) g (apply t m now v).reply
 says_found c a t g tk m r now v mi (inl e) = subst (λ w. SayFor c (seen (apply t m now w).server) (counted a tk (apply t m now w).acted) g (apply t m now w).reply) (sym e) (says c t a g tk m r now mi).0

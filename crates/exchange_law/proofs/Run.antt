@@ -15,7 +15,7 @@ use Rattle.exchange_defs.specs.Runs.{is_once, is_send_of, acts, acts_now, front_
 use Rattle.exchange_law.specs.Connections.{Connections, Unsent, Ready, copies, count_up, count_down, is_bound, makes_open, shuts_open, acts_once, its_create, its_request, create_at, opens}
 use Rattle.exchange_law.proofs.Lists.{counted_up, counted_down, front_up, front_down}
 use Rattle.exchange_law.proofs.Facts.{deleted_is_quiet}
-use Rattle.server_law.proofs.Logic.{either}
+use Rattle.server_law.proofs.Logic.{either, front_of, back_of, not_true, both, at_of}
 use Rattle.exchange_law.proofs.Submit.{submit_keeps}
 use Rattle.exchange_law.proofs.Opened.{opened_keeps}
 use Rattle.exchange_law.proofs.Dropped.{dropped_keeps}
@@ -66,14 +66,6 @@ submits w a g op i =
 
 -- ---- Push
 
-pub front_of : (x y : Bool) → (x && y) ≡ true → x ≡ true
-front_of true y e = refl
-front_of false y e = e
-
-pub back_of : (x y : Bool) → (x && y) ≡ true → y ≡ true
-back_of true y e = e
-back_of false y e = absurd (cc)
-
 pub none_of : (o : Option ℕ) → is_none o ≡ true → o ≡ None
 none_of None e = refl
 none_of (Some k) e = absurd (cc)
@@ -86,10 +78,6 @@ pub record MayPush (c : Client) (k g : ℕ) : Type 0 where
   pub pending : is_unsettled (c.outcome g) ≡ true
   pub none : c.on g ≡ None
   pub has_open : opens c g ≡ true
-
-pub not_true : (b : Bool) → not b ≡ true → b ≡ false
-not_true true e = absurd (cc)
-not_true false e = refl
 
 pub opens_of : (c : Client) (g : ℕ) → (is_create (c.op g) || is_ok (c.outcome (create_of g (c.op g)))) ≡ true → opens c g ≡ true
 unfolding makes_open its_create
@@ -147,9 +135,6 @@ rest_waits x s r e = grind arith
 
 pub first_waits : (x s r : Bool) → (if x then (if s then true else r) else r) ≡ false → x ≡ true → s ≡ false
 first_waits x s r e h = grind arith
-
-pub both : (x y : Bool) → x ≡ true → y ≡ true → (x && y) ≡ true
-both x y e f = grind arith
 
 pub same_test : (n m : ℕ) → n ≡ m → (n == m) ≡ true
 same_test n m e = grind arith
@@ -546,12 +531,8 @@ settles c conns a k g asking r place o i on none firm =
 -- ---- what a reply does
 
 pub awaited_of : (c : Client) (k g : ℕ) (asking : Bool) → is_awaited c k g asking ≡ true → c.on g ≡ Some k × c.asking g ≡ asking
-awaited_of c k g asking e = (on_of k (c.on g) (front_of (is_at k (c.on g)) _ e), same_of (c.asking g) asking (back_of (is_at k (c.on g)) _ e))
+awaited_of c k g asking e = (at_of k (c.on g) (front_of (is_at k (c.on g)) _ e), same_of (c.asking g) asking (back_of (is_at k (c.on g)) _ e))
   where
-    on_of : (k : ℕ) (o : Option ℕ) → is_at k o ≡ true → o ≡ Some k
-    on_of k None e = absurd (cc)
-    on_of k (Some j) e = ap (λ x. Some x) (eqb-true j k e)
-
     same_of : (x y : Bool) → (if x then y else not y) ≡ true → x ≡ y
     same_of x y e = grind arith
 

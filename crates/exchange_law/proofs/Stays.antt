@@ -12,8 +12,8 @@ use Rattle.exchange_defs.specs.ClientStep.{Pick, Act, Nothing, Sends, Asks, Clos
 use Rattle.exchange_defs.specs.Network.{World, Event, Submit, Open, Push, Serve, Take, Cut, Drop, Restart, Crash, Wait, Finish, Received, Sent, Token, ForDialog, ForOp, ForAttach, happens, run, start, Settings, may_open, may_serve, pushed_by, serve_front, absorb_front, take_reply, took_by, dialog_took, behind_reply}
 use Rattle.exchange_defs.specs.Statements.{SettledStays}
 use Rattle.exchange_law.specs.Connections.{Settled as AllSettledOff, Taken, TakenOn, Creates, makes_open, its_create}
-use Rattle.server_law.proofs.Logic.{either}
-use Rattle.exchange_law.proofs.Run.{Holds, after, keeps, begins, found, front_of, awaited_of, without_same, next_of, always}
+use Rattle.server_law.proofs.Logic.{either, front_of}
+use Rattle.exchange_law.proofs.Run.{Holds, after, keeps, begins, found, awaited_of, without_same, next_of, always}
 
 -- the row of a number that isn't taken is as in the beginning
 abbrev pub Beyond : Client → Type 0

@@ -1,5 +1,5 @@
 -- What holds of locks on every run, and what creates, locks and unlocks do once.
-use Rattle.std.proofs.Common.{◌≡◌, ℕ, ◌+◌, Bool, true, false, ◌||◌, if◌then◌else◌, List, [], ◌∷◌, ◌++◌, refl, arith, subst, ◌∙◌, ap, Option}
+use Rattle.std.proofs.Common.{◌≡◌, ℕ, ◌+◌, Bool, true, false, if◌then◌else◌, List, [], ◌∷◌, ◌++◌, refl, arith, subst, ◌∙◌, ap, Option}
 use Rattle.exchange_defs.specs.Fold.{fold_from, sweep}
 use Rattle.exchange_defs.specs.Operations.{Op, Outcome, is_create, is_lock, is_unsettled}
 use Rattle.exchange_defs.specs.ClientStep.{Pick}
@@ -21,6 +21,7 @@ use Rattle.create_law.proofs.Law.{creates, at_most_of, acknowledged_of, never_of
 use Rattle.lock_law.specs.Locks.{locking, refused_for_good, all_piped}
 use Rattle.lock_law.proofs.Pushing.{Holds}
 use Rattle.lock_law.proofs.Run.{Known, keeps}
+use Rattle.server_law.proofs.Logic.{other_on}
 
 -- ---- what is known of each world of a run
 
@@ -136,11 +137,8 @@ never_settled o e = grind arith
 by_kind : (op : Op) (P : Type 0) → is_once op ≡ true → (is_create op ≡ true → P) → (is_lock op ≡ true → P) → P
 by_kind op P e f g = elim (is_create op) as (λ b. is_create op ≡ b → P) [
   | true ↦ λ h. f h
-  | false ↦ λ h. g (other_of (is_create op) (is_lock op) e h)
+  | false ↦ λ h. g (other_on (is_create op) (is_lock op) e h)
 ] refl
-  where
-    other_of : (x y : Bool) → (x || y) ≡ true → x ≡ false → y ≡ true
-    other_of x y e h = grind arith
 
 never_lock : (z : Settings) → (es more : List Event) (g : ℕ) → is_lock ((run es (start z)).client.op g) ≡ true → never_acted ((run es (start z)).client.outcome g) ≡ true → acts (es ++ more) (start z) g ≡ 0
 never_lock z es more g e never =

@@ -9,12 +9,12 @@ use Rattle.exchange_defs.specs.Client.{Client, create_for, guid_for, may_push, h
 use Rattle.exchange_defs.specs.ClientStep.{Pick, Act, pick_after, pick_act, some_unsettled}
 use Rattle.exchange_defs.specs.Network.{World, Push, Conn, Sent, ForOp, pushed_by, changed, send_up}
 use Rattle.exchange_law.specs.Connections.{Connections, makes_open, shuts_open, its_create, create_at, Lower}
-use Rattle.exchange_law.proofs.Run.{found, MayPush, front_of, back_of, both_ways}
+use Rattle.exchange_law.proofs.Run.{found, MayPush, both_ways, slotless_same, slotless_still, own_for}
 use Rattle.exchange_law.proofs.Outcomes.{outcomes_keeps}
 use Rattle.exchange_law.proofs.TakeSlot.{take_slot_keeps}
 use Rattle.exchange_law.proofs.Start.{start_keeps}
 use Rattle.exchange_law.proofs.Retried.{retried_keeps}
-use Rattle.server_law.proofs.Logic.{either, not_true}
+use Rattle.server_law.proofs.Logic.{either, not_true, other_on, front_of, back_of}
 use Rattle.lock_law.specs.Locks.{Locks, locking, open_at, firm, in_slots, is_unsent}
 use Rattle.lock_law.proofs.Words.{lock_kind, close_kind, own_create}
 use Rattle.lock_law.proofs.NoSlot.{no_slot_keeps}
@@ -32,12 +32,6 @@ abbrev pub Both : Client → (ℕ → Conn) → Server → (ℕ → ℕ) → Typ
 Both c conns s a = Connections c conns a × Locks c conns s a
 
 -- ---- locks for which there is no slot
-
-slotless_same : (c : Client) (g : ℕ) (out : Outcome) → is_unsettled (c.outcome g) ≡ true → (h : ℕ) → is_unsettled (c.outcome h) ≡ false → put c.outcome g out h ≡ c.outcome h
-slotless_same c g out pending h s = grind arith
-
-slotless_still : (c : Client) (g : ℕ) (out : Outcome) → c.on g ≡ None → ((h : ℕ) → is_unsettled (c.outcome h) ≡ false → c.on h ≡ None) → (h : ℕ) → is_unsettled (put c.outcome g out h) ≡ false → c.on h ≡ None
-slotless_still c g out none st h u = let s = st h in grind arith
 
 put_other : (f : ℕ → Outcome) (g h : ℕ) (o : Outcome) → h ≢ g → put f g o h ≡ f h
 put_other f g h o d = grind arith
@@ -121,10 +115,6 @@ used_firm c u h e f = (subst (λ z. is_out_of_use c z ≡ true) f e, subst (λ z
 abbrev Out : (ℕ → Conn) → Server → (ℕ → ℕ) → ℕ → ℕ → Client → Type 0
 Out conns s a k g c = Locks (outstanding c k g) (put conns k (send_up (conns k) (ForOp g) (own_message c k (conns k).next_id g) (charge (weight (c.op g))))) s a
 
-own_for : (c : Client) (g : ℕ) → create_for c g ≡ create_at c g
-unfolding its_create
-own_for c g = refl
-
 is_locking : (op : Op) → is_lock op ≡ locking op
 unfolding locking
 is_locking op = refl
@@ -192,10 +182,7 @@ begun_out c conns s a k g n i go low slot false e =
 
 itself_att : (c : Client) (g : ℕ) → goes_itself c g ≡ true → makes_open (c.op g) ≡ false → c.attached (create_at c g) ≡ c.number
 unfolding makes_open its_create
-itself_att c g e m = eqb-true (c.attached (create_for c g)) c.number (back_of c.live (c.attached (create_for c g) == c.number) (other_of (is_create (c.op g)) (is_attached c (create_for c g)) e m))
-  where
-    other_of : (x y : Bool) → (x || y) ≡ true → x ≡ false → y ≡ true
-    other_of x y e m = grind arith
+itself_att c g e m = eqb-true (c.attached (create_for c g)) c.number (back_of c.live (c.attached (create_for c g) == c.number) (other_on (is_create (c.op g)) (is_attached c (create_for c g)) e m))
 
 not_itself : (c : Client) (g : ℕ) → goes_itself c g ≡ false → c.live ≡ true → makes_open (c.op g) ≡ false × c.attached (create_at c g) ≢ c.number
 unfolding makes_open its_create
@@ -205,10 +192,7 @@ not_itself c g e l = let p = both_off (is_create (c.op g)) c.live (c.attached (c
     both_off x y z e l = (grind arith, grind arith)
 
 ok_of_may : (c : Client) (conns : ℕ → Conn) (a : ℕ → ℕ) (k g : ℕ) → Connections c conns a → MayPush c k g → makes_open (c.op g) ≡ false → is_ok (c.outcome (create_at c g)) ≡ true × makes_open (c.op (create_at c g)) ≡ true
-ok_of_may c conns a k g C m kind = let h = m.has_open in let cr = C.creates g m.above m.within kind in (one_of (makes_open (c.op g)) (is_ok (c.outcome (create_at c g))) h kind, cr.2)
-  where
-    one_of : (x y : Bool) → (x || y) ≡ true → x ≡ false → y ≡ true
-    one_of x y e m = grind arith
+ok_of_may c conns a k g C m kind = let h = m.has_open in let cr = C.creates g m.above m.within kind in (other_on (makes_open (c.op g)) (is_ok (c.outcome (create_at c g))) h kind, cr.2)
 
 ask_body : (c : Client) (k id g : ℕ) → (ask_message c k id g).command ≡ reconnect_of (c.op (create_at c g)) (guid_for c (create_at c g)) (open_at c g)
 unfolding its_create

@@ -1,5 +1,5 @@
 -- Each event keeps what holds of locks.
-use Rattle.std.proofs.Common.{eqb-true, ◌≡◌, ℕ, ◌+◌, ◌≤◌, ◌==◌, Bool, true, false, not, ◌&&◌, if◌then◌else◌, List, [], ◌∷◌, refl, arith, sym, subst, ◌∙◌, ap, Option, Some, None, slice_get, nat_lt}
+use Rattle.std.proofs.Common.{eqb-true, ◌≡◌, ℕ, ◌+◌, ◌≤◌, ◌==◌, Bool, true, false, not, ◌&&◌, if◌then◌else◌, List, [], ◌∷◌, refl, arith, sym, subst, ◌∙◌, ap, Option, Some, None, slice_get}
 use Rattle.exchange_defs.specs.Table.{put, is_filled}
 use Rattle.exchange_defs.specs.Status.{success, user_session_deleted}
 use Rattle.exchange_defs.specs.Commands.{TreeConnect, deletes_on_close}
@@ -11,13 +11,13 @@ use Rattle.exchange_defs.specs.Client.{Client, Stage, Apart, SaidNegotiate, Said
 use Rattle.exchange_defs.specs.Settling.{Heard as Hearing, Settles, GoesAgain, Attaches, EndsSession, heard, hear, is_awaited, answered, ok_or_unknown, refused, goes_again, refuses_all, may_have_acted, was_closed}
 use Rattle.exchange_defs.specs.Dialogs.{DialogStep, GoesOn, Accepts, Binds, Readies, Refuses, dialog_step, dialog_message, went_on, accepted, bound}
 use Rattle.exchange_defs.specs.ClientStep.{Nothing, CloseChannels, act_heard, Pick}
-use Rattle.exchange_defs.specs.Network.{World, Event, Submit, Open, Push, Serve, Take, Cut, Drop, Restart, Crash, Wait, Finish, Conn, Sent, Received, Token, ForDialog, ForOp, ForAttach, op_of, happens, changed, later, may_open, may_serve, max_channel, answer, absorbed, replied, serve_front, absorb_front, behind_front, take_front, take_reply, took_by, dialog_took, op_took, closed_by, cut_by, with_client, behind_reply, restarted, client_off}
+use Rattle.exchange_defs.specs.Network.{World, Event, Submit, Open, Push, Serve, Take, Cut, Drop, Restart, Crash, Wait, Finish, Conn, Sent, Received, Token, ForDialog, ForOp, ForAttach, op_of, happens, changed, later, may_open, may_serve, answer, absorbed, replied, serve_front, absorb_front, behind_front, take_front, take_reply, took_by, dialog_took, op_took, closed_by, cut_by, with_client, behind_reply, restarted, client_off}
 use Rattle.exchange_defs.specs.Runs.{front_acts}
 use Rattle.exchange_law.specs.Connections.{Connections, copies, makes_open, its_create, acts_once}
 use Rattle.exchange_law.proofs.Lists.{front_up, front_down, waited_down, counted_down}
 use Rattle.exchange_law.proofs.Behind.{behind_keeps as exchange_behind_keeps}
 use Rattle.exchange_law.proofs.Answered.{answered_keeps as exchange_answered_keeps}
-use Rattle.exchange_law.proofs.Run.{next_of, front_of, back_of, both_ways, put_self, front_reply_gone, awaited_of, heard_firm, heard_ends, after}
+use Rattle.exchange_law.proofs.Run.{next_of, both_ways, put_self, front_reply_gone, awaited_of, heard_firm, heard_ends, after, still_open, closed_of}
 use Rattle.server_law.specs.Fits.{Fits}
 use Rattle.server_law.proofs.Logic.{either, not_true}
 use Rattle.session_law.specs.Sessions.{Sessions, is_ops, makes_session}
@@ -108,9 +108,6 @@ submits w a g op b i =
 
 -- ---- Serve
 
-reply_open : (f : ℕ → Conn) (k : ℕ) (rest : List Sent) → (put f k (behind_front (f k) rest) k).client_open ≡ true → (f k).client_open ≡ true
-reply_open f k rest o = grind arith
-
 takes_front : (w : World) (a : ℕ → ℕ) (k : ℕ) (x : Sent) (rest : List Sent) → (w.conns k).up ≡ x ∷ rest → Served w.client w.conns a k x (answer w x) → Holds (absorbed w k x rest (answer w x)) (counted a x.token (answer w x).acted)
 takes_front w a k x rest is good = front_keeps w.client w.conns (answer w x).server (counted a x.token (answer w x).acted) k x rest is good.0
 
@@ -124,7 +121,7 @@ says w a k x rest place is good =
     let A : Answer = answer w x in
     let j = takes_front w a k x rest is good in
     either (λ d. Locks w.client (put f k d) A.server (counted a x.token A.acted)) (f k).client_open _ _
-    (λ o. say_told w.client f A.server (counted a x.token A.acted) k (record { token = x.token; reply = A.reply; place = place }) (good.1 (reply_open w.conns k rest o) place) j)
+    (λ o. say_told w.client f A.server (counted a x.token A.acted) k (record { token = x.token; reply = A.reply; place = place }) (good.1 (still_open w.conns k rest o) place) j)
     (λ _. subst (λ d. Locks w.client d A.server (counted a x.token A.acted)) (put_self f k) j)
 
 serves : (w : World) (a : ℕ → ℕ) (k : ℕ) → Known w a → Holds w a → (xs : List Sent) → (w.conns k).up ≡ xs → Holds (serve_front w k xs) (λ g. if front_acts w xs g then a g + 1 else a g)
@@ -447,9 +444,6 @@ finishes c conns s a why dead C i =
     (λ h e. finish_same why (is_taken c h) (c.outcome h) e) (λ h e. let f = finish_gives why (is_taken c h) (c.outcome h) e in (f.0, f.1)) (λ h e r. let f = finish_gives why (is_taken c h) (c.outcome h) e in no_two _ _ r f.2) C i
 
 -- ---- every event
-
-closed_of : (w : World) (k : ℕ) → may_open w k ≡ true → (w.conns k).client_open ≡ false
-closed_of w k m = not_true (w.conns k).client_open (front_of (not (w.conns k).client_open) _ (back_of (nat_lt k max_channel) _ m))
 
 pub keeps : (w : World) (a : ℕ → ℕ) (e : Event) → Known w a → ((k : ℕ) → may_serve w k ≡ true → Connections (absorb_front w k (w.conns k).up).client (absorb_front w k (w.conns k).up).conns (λ g. if front_acts w (w.conns k).up g then a g + 1 else a g)) → Holds w a → Holds (happens w e) (after w e a)
 keeps w a (Submit g op) b C i = submits w a g op b i

@@ -10,7 +10,7 @@ use Rattle.exchange_defs.specs.Settling.{settle, settled, noted_full, settles_op
 use Rattle.exchange_defs.specs.Network.{Conn, Sent, ForOp}
 use Rattle.exchange_law.specs.Connections.{Connections, makes_open, shuts_open, its_create, create_at}
 use Rattle.exchange_law.proofs.Run.{without_same}
-use Rattle.server_law.proofs.Logic.{either}
+use Rattle.server_law.proofs.Logic.{either, back_off}
 use Rattle.lock_law.specs.Locks.{Locks, locking, open_at, user_at, kept_of, firm, is_unsent, refused_for_good, goes_with}
 use Rattle.lock_law.proofs.Words.{close_kind, ok_settled, unsettled_ok, unsent_ok, split_at}
 use Rattle.lock_law.proofs.Settle.{settle_keeps}
@@ -255,9 +255,6 @@ settles c conns s a k g asking r place o y = by_outcome o y
         (either (λ x. Locks x conns s a) (settles_open (c.op g)) _ _
         (λ _. leaf2 c conns s a k g o c.shut (filled c g asking r.status) place (y.plain unmade) (λ q e. inl e) (λ q e. e) (λ e f. still (is_ok o) _ f (quiet e)) y.closes)
         (λ off. leaf1 c conns s a k g o (filled c g asking r.status) place (y.plain unmade) (sym (kind_close (c.op g)) ∙ back_off (is_create (c.op g)) (is_close (c.op g)) off)))
-      where
-        back_off : (x y : Bool) → (x || y) ≡ false → y ≡ false
-        back_off x y e = grind arith
 
     by_outcome : (o : Outcome) → Says c conns s a k g asking r o → Locks (settle c g asking r place o) conns s a
     by_outcome Unsettled y = plainly Unsettled y (λ e. refl) (λ e. refl)

@@ -1,6 +1,6 @@
 -- A reply that is taken keeps what holds of locks: what is known of it when it settles its operation.
 use Rattle.std.proofs.lemmas.Bool.{eqb-false}
-use Rattle.std.proofs.Common.{eqb-true, ◌≡◌, ◌≢◌, ◌⊎◌, inl, inr, ℕ, ◌<◌, ◌==◌, Bool, true, false, not, ◌&&◌, ◌||◌, if◌then◌else◌, refl, arith, sym, subst, ◌∙◌, ap, Option, Some, None, slice_get, is_some}
+use Rattle.std.proofs.Common.{eqb-true, ◌≡◌, ◌≢◌, ◌⊎◌, inl, inr, ℕ, ◌<◌, ◌==◌, Bool, true, false, not, ◌&&◌, if◌then◌else◌, refl, arith, sym, subst, ◌∙◌, ap, Option, Some, None, slice_get, is_some}
 use Rattle.exchange_defs.specs.Table.{put, put2}
 use Rattle.exchange_defs.specs.Status.{success, user_session_deleted, file_closed, object_name_not_found, disk_full}
 use Rattle.exchange_defs.specs.State.{Server}
@@ -16,6 +16,7 @@ use Rattle.lock_law.proofs.Opens.{opens_keeps}
 use Rattle.lock_law.proofs.Settling.{Told, Says, filled, opened, own_for, kind_close, kind_lock, create_unshut, still}
 use Rattle.lock_law.proofs.Say.{MaySay}
 use Rattle.exchange_defs.specs.Settling.{Settles}
+use Rattle.server_law.proofs.Logic.{other_on, other_off}
 
 -- what is known where the reply y to g is taken
 pub record Taken (c : Client) (conns : ℕ → Conn) (s : Server) (a : ℕ → ℕ) (k g : ℕ) (asking : Bool) (y : Received) : Type 0 where
@@ -183,14 +184,11 @@ plain_told c conns s a k g asking y o w tells settled0 unmade =
         r : y.reply.status ≢ success × y.reply.status ≢ user_session_deleted
         r = tells.refuses rf
 
-        both_true : (b z : Bool) → (b && z) ≡ false → b ≡ true → z ≡ false
-        both_true b z e f = grind arith
-
         by_both : (b : Bool) → asking ≡ b → (q : Bool) → c.before g ≡ q → a g ≡ 0
         by_both true e false e2 = w.links.unsent g (lock_once (c.op g) l) e2 (ap (λ z. if z then true else not (is_some (c.on g))) (w.asks ∙ e)) w.pending
         by_both true e true e2 =
             let t = (tells.refused_all rf e2 l).0 in let lost = w.said.of_lost_reply g (w.ask e) r.0 r.1 in
-            still (y.reply.status == object_name_not_found) _ (is_it y.reply.status object_name_not_found lost.0) (both_true asking (y.reply.status == object_name_not_found) t e)
+            still (y.reply.status == object_name_not_found) _ (is_it y.reply.status object_name_not_found lost.0) (other_off asking (y.reply.status == object_name_not_found) t e)
         by_both false e false e2 = w.said.of_first_reply g (w.own e).0 l r.0 e2
         by_both false e true e2 = w.said.of_no_reply g (w.own e).0 l r.0 r.1 (tells.refused_all rf e2 l).1
 
@@ -230,11 +228,8 @@ close_own c conns s a k g asking y w sh =
     let C = w.links in let kind = close_kind (c.op g) sh in
     let tn = C.taken_on g (some_on (c.on g) k w.on) in let cr = C.creates g tn.0 tn.1 kind in
     let op = C.asked_open g (some_on (c.on g) k w.on) in
-    (one_of (makes_open (c.op g)) (is_ok (c.outcome (create_at c g))) op kind, λ e. absurd (less (create_at c g) g cr.1 e))
+    (other_on (makes_open (c.op g)) (is_ok (c.outcome (create_at c g))) op kind, λ e. absurd (less (create_at c g) g cr.1 e))
   where
-    one_of : (x y : Bool) → (x || y) ≡ true → x ≡ false → y ≡ true
-    one_of x y e m = grind arith
-
     less : (n m : ℕ) → n < m → n ≡ m → ⊥
     less n m l e = absurd (omega (arith, l, e))
 

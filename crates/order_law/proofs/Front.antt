@@ -34,6 +34,7 @@ use Rattle.exchange_defs.specs.CheckCreate.{has_guid}
 use Rattle.exchange_defs.specs.Texts.{same_name}
 use Rattle.order_law.proofs.Taking.{Taking, new_acts, made_own, own_of}
 use Rattle.order_law.proofs.Words.{ops_of, attach_of}
+use Rattle.server_law.proofs.Logic.{at_of}
 
 -- what the layers below say of a world that a run leads to
 pub record Lower (w : World) (a : ℕ → ℕ) : Type 0 where
@@ -56,9 +57,6 @@ not_making c s x k u r = by_test (is_new x (s.making k)) refl
 
 abbrev pub Holds : World → (ℕ → ℕ) → Type 0
 Holds w a = Contents w.client w.conns w.server w.trace w.log a
-
-at_some : (n : ℕ) (o : Option ℕ) → is_at n o ≡ true → o ≡ Some n
-at_some n o e = grind arith
 
 none_or : (o : Option ℕ) → ((n : ℕ) → o ≡ Some n → ⊥) → o ≡ None
 none_or None f = refl
@@ -126,7 +124,7 @@ taking w a k x0 rest is l most i =
     pf = facts w.server w.moment x0.message x0.message.command (given_of w.server x0.message l.fits l.low low_front)
 
     session_there : has_session w.server x0.message ≡ true → w.server.present x0.message.session ≡ true
-    session_there z = l.fits.on_present x0.message.connection x0.message.session (at_some x0.message.session (w.server.on x0.message.connection) z)
+    session_there z = l.fits.on_present x0.message.connection x0.message.session (at_of x0.message.session (w.server.on x0.message.connection) z)
 
     by_kind : (b : Bool) → is_ops x0.token ≡ b → (o : ℕ) → (answer w x0).reached ≡ Some o → is_ops x0.token ≡ true
     by_kind true e o r = e
@@ -230,7 +228,7 @@ said w a k x0 rest is opn l t i =
     live_of e = (l.ss.current_up k 0 x0 f0 e opn).0
 
     there : has_session w.server x0.message ≡ true → w.server.present x0.message.session ≡ true
-    there z = l.fits.on_present x0.message.connection x0.message.session (at_some x0.message.session (w.server.on x0.message.connection) z)
+    there z = l.fits.on_present x0.message.connection x0.message.session (at_of x0.message.session (w.server.on x0.message.connection) z)
 
     told : (p : ℕ) → x0.token ≡ ForOp p → makes_open (w.client.op p) ≡ true → (answer w x0).reply.status ≡ success
         → ((answer w x0).acted ≡ true × (answer w x0).reached ≡ Some (id_in (answer w x0).reply.body)) ⊎ (w.server.by_guid w.client.who.guid (guid_for w.client p) ≡ Some (id_in (answer w x0).reply.body))

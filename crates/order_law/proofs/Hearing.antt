@@ -15,7 +15,7 @@ use Rattle.exchange_defs.specs.Runs.{settlement, content_of}
 use Rattle.exchange_defs.specs.Network.{World, Conn, Sent, Received, ForOp, op_of, Trace, said, content_reply, op_took, closed_by, with_client}
 use Rattle.exchange_law.specs.Connections.{Connections, create_at, makes_open, its_create, copies, count_up, count_down, Bodies}
 use Rattle.exchange_law.proofs.Lists.{own_up_count, attach_down_count}
-use Rattle.server_law.proofs.Logic.{either}
+use Rattle.server_law.proofs.Logic.{either, front_of}
 use Rattle.exchange_law.proofs.Settle.{settle_keeps as settle_connections}
 use Rattle.exchange_law.proofs.Run.{own_create, Noted, noted_keeps as noted_connections, full_keeps as full_connections, both_ways, own_for, makes_one, ok_is_settled, awaited_of, heard_again, heard_attaches, heard_ends, heard_firm, without_same, some_of}
 use Rattle.session_law.specs.Sessions.{is_ops}
@@ -73,12 +73,9 @@ as_unknown op status u a b o e = let z = ok_outcome u o e in (λ k. absurd (let 
 as_done : (op : Op) (status : ℕ) (v : OpReply) → is_close op ≡ true → Plain op status (Settles (WasOk v))
 as_done op status v cl o e = let z = ok_outcome (WasOk v) o e in (λ k. cl, λ n w. absurd (let y = z ∙ w in cc))
 
-front_and : (x y : Bool) → (x && y) ≡ true → x ≡ true
-front_and x y e = grind arith
-
 plain : (op : Op) (asking unanswered : Bool) (status : ℕ) → Plain op status (refused op asking unanswered status)
 plain op asking unanswered status =
-    either (Plain op status) (not unanswered) _ _ (λ _. as_refused op status) (λ _. either (Plain op status) (was_closed op asking status) _ _ (λ e. as_done op status _ (front_and (is_close op) _ e))
+    either (Plain op status) (not unanswered) _ _ (λ _. as_refused op status) (λ _. either (Plain op status) (was_closed op asking status) _ _ (λ e. as_done op status _ (front_of (is_close op) _ e))
     (λ _. either (Plain op status) (may_have_acted op asking status) _ _ (λ _. as_unknown op status _ refl refl) (λ _. either (Plain op status) (refuses_all op status) _ _ (λ _. as_refused op status) (λ _. as_unknown op status _ refl refl))))
 
 ok_value : (v : Option OpReply) (o : Outcome) → ok_or_unknown v ≡ Settles o → (is_ok o ≡ true → (r : OpReply) × (v ≡ Some r × o ≡ WasOk r)) × ((n : ℕ) → o ≡ WasRefused n → ⊥)

@@ -1,5 +1,5 @@
 -- The order of an open that denies writers is legal, from what holds by places.
-use Rattle.std.proofs.Common.{eqb-true, ◌≡◌, ℕ, ◌+◌, ◌≤◌, ◌<◌, ◌==◌, Bool, true, false, ◌&&◌, refl, arith, sym, subst, ◌∙◌, ap, Option, Some, None, is_some}
+use Rattle.std.proofs.Common.{eqb-true, ◌≡◌, ℕ, ◌+◌, ◌≤◌, ◌<◌, ◌==◌, true, false, ◌&&◌, refl, arith, sym, subst, ◌∙◌, ap, Option, Some, None, is_some}
 use Rattle.exchange_defs.specs.Table.{is_at as is_at_option}
 use Rattle.exchange_defs.specs.Content.{effect, value, past_end, is_listed}
 use Rattle.exchange_defs.specs.Order.{placed, is_of, is_firm as is_firm_settlement}
@@ -10,21 +10,13 @@ use Rattle.exchange_defs.specs.Statements.{OneConnections, BytesNow}
 use Rattle.exchange_defs.proofs.Order.{PlaceFacts, legal}
 use Rattle.exchange_law.specs.Connections.{makes_open, its_create, create_at}
 use Rattle.order_law.specs.Contents.{Contents, edits, lists, isolating, bytes_after, reply_to, ends_before}
-
-front_of : (a b : Bool) → (a && b) ≡ true → a ≡ true
-front_of a b e = grind arith
-
-back_of : (a b : Bool) → (a && b) ≡ true → b ≡ true
-back_of a b e = grind arith
+use Rattle.server_law.proofs.Logic.{front_of, back_of, both}
 
 -- a create that settled Ok and denies writers
 isolated : (w : World) (q : ℕ) → isolates w q ≡ true → isolating (w.client.op q) ≡ true × makes_open (w.client.op q) ≡ true × is_ok (w.client.outcome q) ≡ true
 unfolding isolating makes_open
 isolated w q e =
-    let k = front_of (is_create (w.client.op q)) _ e in let r = back_of (is_create (w.client.op q)) _ e in let o = front_of (is_ok (w.client.outcome q)) _ r in let d = back_of (is_ok (w.client.outcome q)) _ r in (both k d, k, o)
-  where
-    both : {a b : Bool} → a ≡ true → b ≡ true → (a && b) ≡ true
-    both x y = grind arith
+    let k = front_of (is_create (w.client.op q)) _ e in let r = back_of (is_create (w.client.op q)) _ e in let o = front_of (is_ok (w.client.outcome q)) _ r in let d = back_of (is_ok (w.client.outcome q)) _ r in (both _ _ k d, k, o)
 
 of_open : (w : World) (q g : ℕ) → is_of (account w) q g ≡ true → create_at w.client g ≡ q × lists (w.client.op g) ≡ true
 unfolding its_create lists

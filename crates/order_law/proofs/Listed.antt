@@ -18,7 +18,7 @@ use Rattle.exchange_defs.specs.CheckSetup.{tree_in}
 use Rattle.exchange_defs.specs.Check.{has_session, tree_command, in_tree, with_tree, command_check, formed, owed, check}
 use Rattle.exchange_defs.specs.Step.{without_room}
 use Rattle.exchange_defs.specs.Network.{content_reply}
-use Rattle.server_law.proofs.Logic.{either}
+use Rattle.server_law.proofs.Logic.{either, back_of, other_off}
 use Rattle.order_law.specs.Contents.{is_final}
 
 -- the request of a read, a write or an end
@@ -85,12 +85,6 @@ ListedBy s m op o _ = ⊥
 pub record Listed (s : Server) (m : Message) (op : ContentOp) (o : ℕ) (v : Verdict) : Type 0 where
   pub is : ListedBy s m op o v
 
-none_front : (a b : Bool) → (a && b) ≡ false → a ≡ true → b ≡ false
-none_front a b e f = grind arith
-
-true_back : (a b : Bool) → (a && b) ≡ true → b ≡ true
-true_back a b e = grind arith
-
 of_not : (a : Bool) → a ≡ false → not a ≡ true
 of_not a e = grind arith
 
@@ -100,7 +94,7 @@ altered : (s : Server) (m : Message) (op : ContentOp) (o : ℕ) (change : Change
     → changed_by change (bytes_of s o) ≡ effect op (bytes_of s o) → changes_nothing s (file_of s o) change ≡ same_bytes (effect op (bytes_of s o)) (bytes_of s o) → past_end op (bytes_of s o) ≡ false → Listed s m op o (alter s m o change body)
 altered s m op o change body fm on late ed file reply after nothing before =
     either (Listed s m op o) (m.replay && (not (is_directory s (file_of s o)) && changes_nothing s (file_of s o) change)) _ _
-    (λ e. record { is = record { its = refl; on = on; in_time = λ z. late; reply = reply; same = same_bytes-true (effect op (bytes_of s o)) (bytes_of s o) (sym nothing ∙ true_back (not (is_directory s (file_of s o))) _ (true_back m.replay _ e)); before = before } })
+    (λ e. record { is = record { its = refl; on = on; in_time = λ z. late; reply = reply; same = same_bytes-true (effect op (bytes_of s o)) (bytes_of s o) (sym nothing ∙ back_of (not (is_directory s (file_of s o))) _ (back_of m.replay _ e)); before = before } })
     (λ e. record {
       is = record {
         its = refl;
@@ -111,7 +105,7 @@ altered s m op o change body fm on late ed file reply after nothing before =
         reply = reply;
         after = after;
         before = before;
-        again = λ r. differs (sym nothing ∙ none_front (not (is_directory s (file_of s o))) _ (none_front m.replay _ e r) (of_not _ file));
+        again = λ r. differs (sym nothing ∙ other_off (not (is_directory s (file_of s o))) _ (other_off m.replay _ e r) (of_not _ file));
       };
     })
   where

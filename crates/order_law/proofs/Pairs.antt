@@ -13,7 +13,7 @@ use Rattle.exchange_defs.specs.CheckSetup.{is_new}
 use Rattle.exchange_defs.specs.Effects.{reach, attach, attached, keep_slot, keep_closed, file_made, change_file, end_session, end_if_named, add_session, leaves, cleared, guid_staying}
 use Rattle.exchange_defs.specs.Verdict.{Change, PutBytes, PutEnd, PutBasic, PutMark, PutPath, PutNothing}
 use Rattle.exchange_defs.specs.Step.{with_deadlines, expire, add_mark, take_out, forget_connection, ends_with}
-use Rattle.server_law.proofs.Logic.{either}
+use Rattle.server_law.proofs.Logic.{either, front_of, none_of}
 use Rattle.order_law.specs.Newest.{Pair, LowSequences}
 
 -- the columns that a pair speaks of are the same
@@ -151,15 +151,11 @@ reach_moves s m o low l =
 attach_pair : (s : Server) (m : Message) (p : ℕ) → s.at p ≡ None → (x q o : ℕ) → Pair s x q o → Pair (attach s m p) x q o
 attach_pair s m p e x q o h = λ st pr. let old = h st pr in (grind arith, grind arith)
 
-pub not_some : (o : Option ℕ) → is_some o ≡ false → o ≡ None
-not_some None e = refl
-not_some (Some x) e = absurd (cc)
-
 pub attached_moves : (s : Server) (m : Message) (o : ℕ) → m.sequence ≤ 32767 → Moves s (attached s m o)
 attached_moves s m o l =
     either (Moves s) (is_some (s.at o)) s (attach s m o) (λ _. moves_alike s s (same s))
     (λ e. record {
-      pair = attach_pair s m o (not_some (s.at o) e);
+      pair = attach_pair s m o (none_of (s.at o) e);
       stands = λ p h. h;
       epoch = refl;
       given = refl;
@@ -219,9 +215,6 @@ end_moves s session now is_quiet =
       row = refl;
     }
   where
-    front_of : (a b : Bool) → (a && b) ≡ true → a ≡ true
-    front_of a b e = grind arith
-
     ended_present : (f : ℕ → Bool) (session x : ℕ) → put f session false x ≡ true → f x ≡ true
     ended_present f session x e = grind arith
 

@@ -11,8 +11,8 @@ use Rattle.exchange_defs.specs.Runs.{acts, front_acts}
 use Rattle.exchange_defs.specs.Statements.{OneConnection}
 use Rattle.exchange_law.specs.Connections.{makes_open}
 use Rattle.exchange_law.proofs.Lists.{waited}
-use Rattle.server_law.proofs.Logic.{either}
-use Rattle.exchange_law.proofs.Run.{connections, front_of, not_true, closed_of, after}
+use Rattle.server_law.proofs.Logic.{either, front_of, not_true}
+use Rattle.exchange_law.proofs.Run.{connections, closed_of, after}
 use Rattle.exchange_law.proofs.Reached.{At, on_every_run, one_event_on}
 use Rattle.exchange_law.proofs.Stays.{beyond}
 use Rattle.server_law.specs.Fits.{Fits}

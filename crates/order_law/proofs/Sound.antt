@@ -23,7 +23,7 @@ use Rattle.exchange_defs.specs.Listing.{file_info_size, volume_info_size}
 use Rattle.exchange_defs.specs.CheckCreate.{shares, keeps_guid, max_guids, is_counted_out, has_guid}
 use Rattle.exchange_defs.specs.CheckOpen.{changes_nothing, file_of, has_access, there, is_slot, ioctl_status, needs_attributes, target_of, kept_lock, rename_names, delete_names, allocation_change}
 use Rattle.exchange_defs.specs.CheckSetup.{max_sessions, max_channels, max_numbers, max_trees, count_channels, is_binding, pipes_name}
-use Rattle.server_law.proofs.Logic.{either}
+use Rattle.server_law.proofs.Logic.{either, front_of, not_false}
 
 -- an open stands in the message's session, a changing request isn't late, a given guid names its open, an attached open
 -- stands, and a session that begins was in the making on the connection
@@ -51,14 +51,6 @@ SoundBy s m DropTree = Unit {0}
 
 pub record Sound (s : Server) (m : Message) (v : Verdict) : Type 0 where
   pub is : SoundBy s m v
-
-front : (x y : Bool) → (x && y) ≡ true → x ≡ true
-front true y e = refl
-front false y e = e
-
-of_not : (b : Bool) → not b ≡ false → b ≡ true
-of_not true e = refl
-of_not false e = absurd (cc)
 
 -- ---- CREATE
 
@@ -88,7 +80,7 @@ guid_sound s m r pipes d None e = either (Sound s m) (s.closed m.session d.guid)
 
 reconnect_sound : (s : Server) (m : Message) (r : CreateRequest) (c : Reconnect) → Sound s m (reconnect_check s m r c)
 reconnect_sound s m r c =
-    either (Sound s m) (not (s.standing c.file && has_guid c.guid (s.opened c.file).guid)) _ _ (λ _. record { is = tt }) (λ e. either (Sound s m) (not (same_name (s.opened c.file).user (s.user m.session))) _ _ (λ _. record { is = tt }) (λ _. either (Sound s m) (is_some (s.at c.file) && not (is_at m.session (s.at c.file))) _ _ (λ _. record { is = tt }) (λ _. record { is = front _ _ (of_not _ e) })))
+    either (Sound s m) (not (s.standing c.file && has_guid c.guid (s.opened c.file).guid)) _ _ (λ _. record { is = tt }) (λ e. either (Sound s m) (not (same_name (s.opened c.file).user (s.user m.session))) _ _ (λ _. record { is = tt }) (λ _. either (Sound s m) (is_some (s.at c.file) && not (is_at m.session (s.at c.file))) _ _ (λ _. record { is = tt }) (λ _. record { is = front_of _ _ (not_false _ e) })))
 
 durable_sound : (s : Server) (m : Message) (r : CreateRequest) (pipes : Bool) (d : Option Durable) → Sound s m (durable_check s m r pipes d)
 durable_sound s m r pipes None = new_sound s m r pipes (find s r.path)

@@ -12,7 +12,7 @@ use Rattle.exchange_defs.specs.Order.{Log}
 use Rattle.exchange_defs.specs.Network.{World, Submit, Push, Cut, Conn, Sent, Received, ForOp, ForAttach, op_of, changed, with_client, cut_by, pushed_by, first_push, send_up}
 use Rattle.exchange_law.specs.Connections.{Connections, create_at, makes_open, its_create, copies, Bodies}
 use Rattle.exchange_law.proofs.Lists.{own_up_count, counted_down}
-use Rattle.server_law.proofs.Logic.{either}
+use Rattle.server_law.proofs.Logic.{either, front_of, back_of}
 use Rattle.exchange_law.proofs.Run.{MayPush, next_of, found, free_of, no_wait, own_for, own_create, both_ways, ok_is_settled}
 use Rattle.order_law.specs.Contents.{Contents, lists, edits, clashes}
 use Rattle.order_law.proofs.Front.{Lower, Holds}
@@ -147,11 +147,8 @@ lacks_parts : (x y z v : Bool) → (x && (y && ((z && not v) && true))) ≡ true
 lacks_parts x y z v e = (grind arith, grind arith)
 
 lacks_of : (c : Client) (k g : ℕ) → lacks_slot c k g ≡ true → may_push c k g ≡ true × c.sent g ≡ false
-lacks_of c k g e = (first_of _ _ e, sent_of (may_push c k g) (goes_itself c g) (is_lock (c.op g)) (c.sent g) _ e)
+lacks_of c k g e = (front_of _ _ e, sent_of (may_push c k g) (goes_itself c g) (is_lock (c.op g)) (c.sent g) _ e)
   where
-    first_of : (x y : Bool) → (x && y) ≡ true → x ≡ true
-    first_of x y e = grind arith
-
     sent_of : (x y z v u : Bool) → (x && (y && ((z && not v) && u))) ≡ true → v ≡ false
     sent_of x y z v u e = grind arith
 
@@ -184,9 +181,6 @@ replays_by op b e = grind arith
 holds_clash : (x y : Op) → edits x ≡ true → edits y ≡ true → holds_up x y ≡ false → clashes x y ≡ false
 unfolding edits is_change clashes collides
 holds_clash x y e f h = grind arith
-
-attached_of : (x y : Bool) → (x && y) ≡ true → y ≡ true
-attached_of x y e = grind arith
 
 itself_of : (op : Op) (x : Bool) → edits op ≡ true → (is_create op || x) ≡ true → x ≡ true
 unfolding edits is_change
@@ -227,7 +221,7 @@ sends w a c l k g n0 m lw i0 stands q ms mq mr =
     let none : w.client.on g ≡ None = ap (λ f. f g) (sym q.on) ∙ q.may.none in
     send_keeps c w.conns w.server w.trace l a k g n0 m stands q.may.none q.may.above q.may.within q.may.pending q.live ms mq q.may.has_open
     (λ ed. mr ∙ replays_by (c.op g) (c.before g) ed)
-    (λ ed. q.holds.now_pair (create_for c g) (eqb-true _ _ (attached_of c.live _ (itself_of (c.op g) _ ed q.itself))) q.live)
+    (λ ed. q.holds.now_pair (create_for c g) (eqb-true _ _ (back_of c.live _ (itself_of (c.op g) _ ed q.itself))) q.live)
     (λ j n y h e. quiet_down w a lw i0 g q.may.above none j n y h (ap op_of e))
     (λ j n x h e. off_up w a lw i0 g none j n x h e)
     (λ ed b. q.holds.unacted g ed b (none_out (c.asking g) (c.on g) q.may.none) q.may.pending) q.holds

@@ -7,7 +7,7 @@ use Rattle.exchange_defs.specs.Records.{entry_bytes}
 use Rattle.exchange_defs.specs.Opens.{goes, without_gone}
 use Rattle.exchange_defs.specs.Fold.{nothing_yet, no_open, full_room, persistent_in, stays, stays_by_guid, ranges_that_stay, durable, fold, fold_from, sweep, begin_epoch, set_version, recovery_records, recovered}
 use Rattle.server_law.specs.Fits.{Listed}
-use Rattle.server_law.proofs.Logic.{either, both}
+use Rattle.server_law.proofs.Logic.{either, both, back_of}
 use Rattle.recovery_law.specs.Recovers.{staying, kept_ranges, kept_guid, Opens, Mirrors, Recovers}
 use Rattle.recovery_law.proofs.Lists.{ext, ext2, at_head, in_tail}
 use Rattle.recovery_law.proofs.Ranges.{kept_that_stay, kept_twice}
@@ -19,11 +19,8 @@ stays_by : (dst sst : Bool) (row its : Open) → dst ≡ sst → (sst ≡ true �
 stays_by dst true row its e f g = let r = f refl in let p = g refl in grind arith
 stays_by dst false row its e f g = grind arith
 
-persistent_of : (x y : Bool) → (x && y) ≡ true → y ≡ true
-persistent_of x y e = grind arith
-
 pub same_stays : (d s : Server) → Opens d s → (o : ℕ) → staying d.standing d.opened o ≡ staying s.standing s.opened o
-same_stays d s h o = stays_by (d.standing o) (staying s.standing s.opened o) (d.opened o) (s.opened o) (h.standing o) (h.opened o) (persistent_of (s.standing o) (s.opened o).persistent)
+same_stays d s h o = stays_by (d.standing o) (staying s.standing s.opened o) (d.opened o) (s.opened o) (h.standing o) (h.opened o) (back_of (s.standing o) (s.opened o).persistent)
 
 guid_twice : (p : ℕ → Bool) (x : Option ℕ) → kept_guid p (kept_guid p x) ≡ kept_guid p x
 guid_twice p None = refl

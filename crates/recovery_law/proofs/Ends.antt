@@ -14,6 +14,7 @@ use Rattle.recovery_law.proofs.Lists.{ext, has_without, has_file, at_head, in_ta
 use Rattle.recovery_law.proofs.Ranges.{kept_ranges_staying}
 use Rattle.recovery_law.proofs.Files.{put_same_bool}
 use Rattle.recovery_law.proofs.Leaves.{marked_if, fold_append, removable, removed, may_mark, marked_record, plain_records, records_apart}
+use Rattle.server_law.proofs.Logic.{back_of, both}
 
 -- ---- the session's opens, each once
 
@@ -44,10 +45,7 @@ above_first x (y ∷ ys) h p e =
 ascending_tail : (x : ℕ) (xs : List ℕ) → is_ascending (x ∷ xs) ≡ true → is_ascending xs ≡ true
 unfolding is_ascending
 ascending_tail x [] h = refl
-ascending_tail x (y ∷ ys) h = back (nat_lt x y) (is_ascending (y ∷ ys)) h
-  where
-    back : (a b : Bool) → (a && b) ≡ true → b ≡ true
-    back a b q = grind arith
+ascending_tail x (y ∷ ys) h = back_of (nat_lt x y) (is_ascending (y ∷ ys)) h
 
 absent_by : (x : ℕ) (b : Bool) → (b ≡ true → x < x) → b ≡ false
 absent_by x true h = let l = h refl in absurd (omega arith)
@@ -297,9 +295,6 @@ chain_begins d s e h =
   where
     both_of : (a b : Bool) → (a && b) ≡ true → a ≡ true × b ≡ true
     both_of a b q = (grind arith, grind arith)
-
-    both : (a b : Bool) → a ≡ true → b ≡ true → (a && b) ≡ true
-    both a b q r = grind arith
 
 end_stays : (standing : Bool) (persistent at : Bool) → ((standing && not (at && not persistent)) && persistent) ≡ (standing && persistent)
 end_stays standing persistent at = grind arith

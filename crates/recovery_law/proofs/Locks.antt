@@ -1,5 +1,5 @@
 -- Locks: the slot and the ranges of an open that stays, in both states.
-use Rattle.std.proofs.Common.{◌≡◌, ◌≢◌, ℕ, ◌==◌, nat_le, Bool, true, false, not, ◌&&◌, ◌||◌, if◌then◌else◌, List, [], ◌∷◌, refl, arith, sym, subst, ◌∙◌, ap, Option, Some}
+use Rattle.std.proofs.Common.{◌≡◌, ◌≢◌, ℕ, ◌==◌, nat_le, Bool, true, false, not, ◌||◌, if◌then◌else◌, List, [], ◌∷◌, refl, arith, sym, subst, ◌∙◌, ap, Option, Some}
 use Rattle.exchange_defs.specs.Table.{put, put2}
 use Rattle.exchange_defs.specs.Status.{success}
 use Rattle.exchange_defs.specs.Commands.{Element, all_lock, all_unlock}
@@ -9,7 +9,7 @@ use Rattle.exchange_defs.specs.CheckOpen.{is_slot, file_of}
 use Rattle.exchange_defs.specs.Records.{origin_of}
 use Rattle.exchange_defs.specs.Effects.{keep_slot, set_ranges, recorded_index, lock_records}
 use Rattle.exchange_defs.specs.Fold.{with_record, fold_from, lock_granted}
-use Rattle.server_law.proofs.Logic.{either, both}
+use Rattle.server_law.proofs.Logic.{either, both, back_of}
 use Rattle.recovery_law.specs.Recovers.{staying, kept_ranges, Mirrors}
 use Rattle.recovery_law.proofs.Ranges.{changed_kept, changed_plain}
 
@@ -96,11 +96,7 @@ sets_ranges d s f out h = (
 -- ---- the record
 
 index_fits : (index : ℕ) → nat_le (recorded_index index) 64 ≡ true
-index_fits index = either (λ x. nat_le x 64 ≡ true) (is_slot index) index 0 (λ e. back (nat_le 1 index) (nat_le index 64) e) (λ _. refl)
-  where
-    back : (x y : Bool) → (x && y) ≡ true → y ≡ true
-    back true y e = e
-    back false y e = absurd (cc)
+index_fits index = either (λ x. nat_le x 64 ≡ true) (is_slot index) index 0 (λ e. back_of (nat_le 1 index) (nat_le index 64) e) (λ _. refl)
 
 not_both : (x : Bool) → x ≡ true → not x ≡ false
 not_both x e = grind arith

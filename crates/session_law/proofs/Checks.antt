@@ -1,6 +1,5 @@
 -- What the checks' verdicts say of sessions and trees.
-use Rattle.std.proofs.Common.{eqb-true, ◌≡◌, ℕ, ◌==◌, Bool, true, false, not, ◌&&◌, ◌||◌, nat_le, List, [], ◌∷◌, refl, arith, sym, subst, ◌∙◌, ap, Option, Some, None, is_some, length}
-use Rattle.exchange_defs.specs.Table.{is_at}
+use Rattle.std.proofs.Common.{◌≡◌, ℕ, ◌==◌, Bool, true, false, not, ◌&&◌, ◌||◌, nat_le, List, [], ◌∷◌, refl, arith, sym, subst, ◌∙◌, ap, Option, Some, None, is_some, length}
 use Rattle.exchange_defs.specs.Status.{success, more_processing_required, insufficient_resources, disk_full, invalid_parameter, user_session_deleted}
 use Rattle.exchange_defs.specs.Texts.{same_name}
 use Rattle.exchange_defs.specs.Commands.{Command, Unreadable, Aside, Setup, Logoff, TreeConnect, TreeDisconnect, Create, Close, Flush, Read, Write, Lock, Ioctl, ListDirectory, QueryFile, QueryVolume, SetInfo, Element, SetupRequest, CreateRequest, Durable, Shows, Begins, Bad, Refused, Logon, Setting, form, is_setup, no_file}
@@ -12,7 +11,7 @@ use Rattle.exchange_defs.specs.CheckOpen.{close_check, flush_check, read_check, 
 use Rattle.exchange_defs.specs.CheckSetup.{session_check, binding_check, second_token, first_token, granted_session, previous_of, setup_check, tree_check, tree_in, is_new, max_sessions, max_trees, pipes_name}
 use Rattle.exchange_defs.specs.Check.{check, owed, formed, command_check, with_tree, in_tree, tree_command, on_open, has_session}
 use Rattle.exchange_defs.specs.Step.{without_room}
-use Rattle.server_law.proofs.Logic.{either}
+use Rattle.server_law.proofs.Logic.{either, at_of, other_on}
 use Rattle.session_law.specs.Sessions.{is_new_setup, is_tree_connect, is_logon, logon_user}
 
 -- a new session or a tree is asked for
@@ -303,18 +302,10 @@ of_fault : (s : Server) (m : Message) → (is_setup m.command ≡ false → s.on
 of_fault s m o (Some status) e = λ a f. absurd (cc)
 of_fault s m o None e = of_form s m o (form m.command) refl
 
-on_it : (x : ℕ) (o : Option ℕ) → is_at x o ≡ true → o ≡ Some x
-on_it x None e = absurd (cc)
-on_it x (Some y) e = ap (λ z. Some z) (eqb-true y x e)
-
-second_of : (b c : Bool) → (b || c) ≡ true → b ≡ false → c ≡ true
-second_of true c e f = absurd (cc)
-second_of false c e f = e
-
 pub found : (s : Server) (m : Message) → Found s m (check s m)
 found s m =
     either (λ v. Found s m v) (is_setup m.command || has_session s m) (owed s m m.fault) (Refuse user_session_deleted)
-    (λ e. of_fault s m (λ n. on_it m.session (s.on m.connection) (second_of (is_setup m.command) (has_session s m) e n)) m.fault refl)
+    (λ e. of_fault s m (λ n. at_of m.session (s.on m.connection) (other_on (is_setup m.command) (has_session s m) e n)) m.fault refl)
     (λ _ a f. (refl, refl))
 
 -- ---- where the records don't fit

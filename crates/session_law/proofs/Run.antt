@@ -1,6 +1,6 @@
 -- Each event keeps what holds of sessions, and so does each run.
 use Rattle.std.proofs.lemmas.Bool.{eqb-false}
-use Rattle.std.proofs.Common.{eqb-true, ◌≡◌, ◌≢◌, ℕ, ◌+◌, ◌*◌, ◌≤◌, ◌==◌, nat_lt, Bool, true, false, not, ◌&&◌, ◌||◌, if◌then◌else◌, List, [], ◌∷◌, ◌++◌, refl, arith, sym, subst, ◌∙◌, ap, Option, Some, None, is_some}
+use Rattle.std.proofs.Common.{◌≡◌, ◌≢◌, ℕ, ◌+◌, ◌*◌, ◌≤◌, ◌==◌, nat_lt, Bool, true, false, not, ◌&&◌, if◌then◌else◌, List, [], ◌∷◌, ◌++◌, refl, arith, sym, subst, ◌∙◌, ap, Option, Some, None, is_some}
 use Rattle.exchange_defs.specs.Table.{put, is_filled}
 use Rattle.exchange_defs.specs.Status.{success}
 use Rattle.exchange_defs.specs.Commands.{TreeDisconnect}
@@ -16,7 +16,7 @@ use Rattle.exchange_defs.specs.Step.{step}
 use Rattle.exchange_defs.specs.Network.{opened_by, World, Event, Submit, Open, Push, Serve, Take, Cut, Drop, Restart, Crash, Wait, Finish, Conn, Sent, Received, Token, ForDialog, ForOp, ForAttach, op_of, happens, changed, later, may_open, may_serve, max_channel, pushed_by, answer, absorbed, replied, serve_front, absorb_front, behind_front, take_front, take_reply, took_by, dialog_took, op_took, closed_by, cut_by, with_client, behind_reply, restarted}
 use Rattle.exchange_law.specs.Connections.{Once, Ready, copies}
 use Rattle.exchange_law.proofs.Lists.{front_up, front_down}
-use Rattle.server_law.proofs.Logic.{either}
+use Rattle.server_law.proofs.Logic.{either, back_of, not_true, none_of, back_off}
 use Rattle.server_law.specs.Fits.{OnPresent, MakingOnce, Begun}
 use Rattle.session_law.specs.Sessions.{Sessions, is_ops, is_work, is_dialog, logs_on, logon_user}
 use Rattle.session_law.proofs.Same.{same_keeps}
@@ -39,6 +39,7 @@ use Rattle.session_law.proofs.Serving.{moves_of, reply_current, reply_first, rep
 use Rattle.session_law.proofs.Written.{Folds, folds_more, anew}
 use Rattle.session_law.proofs.Owed.{clean_answer, clean_accept, clean_end}
 use Rattle.session_law.proofs.Connected.{falls_accept, falls_end, moves_falls, moves_restart}
+use Rattle.exchange_law.proofs.Run.{both_ways, put_self, still_open, front_reply_gone}
 
 -- ---- what holds of a world
 
@@ -65,45 +66,6 @@ kept : (c d : Client) (conns : ℕ → Conn) (s : Server) → Keeps c d → Sess
 kept c d conns s k i = same_keeps c conns s d k.same (k.numbers i.numbered_sessions) i
 
 -- ---- small facts
-
-front_of : (x y : Bool) → (x && y) ≡ true → x ≡ true
-front_of true y e = refl
-front_of false y e = e
-
-back_of : (x y : Bool) → (x && y) ≡ true → y ≡ true
-back_of true y e = e
-back_of false y e = absurd (cc)
-
-not_true : (b : Bool) → not b ≡ true → b ≡ false
-not_true true e = absurd (cc)
-not_true false e = refl
-
-not_some : {X : Type 0} (o : Option X) → is_some o ≡ false → o ≡ None
-not_some None e = refl
-not_some (Some x) e = absurd (cc)
-
-neither : (x y : Bool) → (x || y) ≡ false → y ≡ false
-neither true y e = absurd (cc)
-neither false y e = e
-
-both_ways : {X Y : Type 0} (P : X → Y → Type 0) (b : Bool) (x y : X) (u v : Y) → (b ≡ true → P x u) → (b ≡ false → P y v) → P (if b then x else y) (if b then u else v)
-both_ways P true x y u v f g = f refl
-both_ways P false x y u v f g = g refl
-
-put_at_self : (f : ℕ → Conn) (k q : ℕ) → put f k (f k) q ≡ f q
-put_at_self f k q = elim (q == k) as (λ b. q == k ≡ b → put f k (f k) q ≡ f q) [
-  | true ↦ λ e. let s = eqb-true q k e in grind arith
-  | false ↦ λ e. grind arith
-] refl
-
-put_self : (f : ℕ → Conn) (k : ℕ) → f ≡ put f k (f k)
-put_self f k = λ t q. sym (put_at_self f k q) t
-
-still_open : (f : ℕ → Conn) (k : ℕ) (rest : List Sent) → (put f k (behind_front (f k) rest) k).client_open ≡ true → (f k).client_open ≡ true
-still_open f k rest o = grind arith
-
-front_reply_gone : (f : ℕ → Conn) (k : ℕ) (y : Received) (rest : List Received) → (f k).down ≡ y ∷ rest → copies (op_of y.token) (f k) ≤ 1 → copies (op_of y.token) (put f k (take_front (f k) rest) k) ≡ 0
-front_reply_gone f k y rest is one = grind arith
 
 -- ---- Submit
 
@@ -144,7 +106,7 @@ drops w k h =
 
 free_of : (w : World) (k : ℕ) → may_open w k ≡ true → w.client.making ≡ None
 free_of w k m =
-    not_some w.client.making (not_true (is_some w.client.making) (back_of (not (w.conns k).server_open) _ (back_of (not (w.conns k).client_open) _ (back_of (nat_lt k max_channel) _ m))))
+    none_of w.client.making (not_true (is_some w.client.making) (back_of (not (w.conns k).server_open) _ (back_of (not (w.conns k).client_open) _ (back_of (nat_lt k max_channel) _ m))))
 
 -- ---- Push
 
@@ -343,7 +305,7 @@ cuts_ready w k i true false h n = record { sits = cut_keeps w.client w.conns w.s
 cuts_ready w k i false e h n = absurd (cc)
 
 not_last : (c : Client) → ends_at_cut c ≡ false → c.sequence ≢ 32767
-not_last c e = eqb-false c.sequence 32767 (neither (c.channels == 1) (c.sequence == last_sequence) e)
+not_last c e = eqb-false c.sequence 32767 (back_off (c.channels == 1) (c.sequence == last_sequence) e)
 
 cuts : (w : World) (k : ℕ) → Holds w → Holds (changed w (Cut k))
 cuts w k i =

@@ -1,6 +1,6 @@
 -- What an answer to the message at a connection's front does to what holds of sessions, and what its reply says.
 use Rattle.std.proofs.lemmas.Bool.{eqb-false}
-use Rattle.std.proofs.Common.{eqb-true, ◌≡◌, ◌≢◌, ℕ, ◌+◌, ◌≤◌, ◌<◌, ◌==◌, Bool, true, false, List, [], ◌∷◌, ◌&&◌, refl, arith, sym, subst, ◌∙◌, ap, Option, Some, None, slice_get, is_some}
+use Rattle.std.proofs.Common.{eqb-true, ◌≡◌, ◌≢◌, ℕ, ◌+◌, ◌≤◌, ◌<◌, ◌==◌, Bool, true, false, List, [], ◌∷◌, refl, arith, sym, subst, ◌∙◌, ap, Option, Some, None, slice_get, is_some}
 use Rattle.exchange_defs.specs.Status.{success, more_processing_required}
 use Rattle.exchange_defs.specs.Texts.{same_name, upper}
 use Rattle.exchange_defs.specs.Commands.{Command, TreeDisconnect}
@@ -14,6 +14,7 @@ use Rattle.server_law.specs.Fits.{OnPresent, MakingOnce}
 use Rattle.session_law.specs.Sessions.{is_ops, is_work, is_dialog, is_new_setup, logs_on, user_in, logon_user, MakingUnranked, SessionUsers, OpenUsers, RankedGiven, CurrentUp, WorkUp, FirstUp, SecondUp, TreeConnectUp, PendingAccepted, LogonUp, FromClient}
 use Rattle.session_law.proofs.Words.{Moves}
 use Rattle.session_law.proofs.Answers.{Facts}
+use Rattle.server_law.proofs.Logic.{both}
 
 -- ---- small facts
 
@@ -37,9 +38,6 @@ same_given e d n b a c = omega (arith, a, c)
 
 same_test : (n : ℕ) → (n == n) ≡ true
 same_test n = grind arith
-
-both : (x y : Bool) → x ≡ true → y ≡ true → (x && y) ≡ true
-both x y a b = grind arith
 
 pub same_itself : (xs : List ℕ) → same_name xs xs ≡ true
 unfolding same_name
