@@ -4,11 +4,11 @@
 The rule is one line: the old part at the goal's own variables, then grind. EVENTS names each step with what it needs,
 what it does to the client's table, the connections and the counts, and the parts whose proof needs more than that.
 """
-import os
 import re
-import sys
 
-TOP = os.path.join(os.path.dirname(os.path.abspath(__file__)), "..", "crates", "exchange_law", "proofs")
+from law_text import fields, kept_part, low_name, names, proofs_of, sentence, standing, type_name, write_list, write_module, write_wanted
+
+TOP = proofs_of("exchange_law")
 
 # part: (its type's arguments, the variables that it is quantified by, whether it speaks of what waits)
 PARTS = {
@@ -40,10 +40,6 @@ PARTS = {
 COUNTS = "grind (arith, count_up-push, count_down-push)"
 
 
-def type_name(part):
-    return "".join(word.capitalize() for word in part.split("_"))
-
-
 def default(part):
     arguments, variables, waits = PARTS[part]
     if not variables:
@@ -51,7 +47,7 @@ def default(part):
     if part == "ready":
         return "λ j. let old = i.ready j in " + COUNTS
     tactic = "grind (arith, get-push)" if waits else "grind arith"
-    return "λ %s. let old = i.%s %s in %s" % (variables, part, variables, tactic)
+    return kept_part(part, variables, tactic)
 
 
 HEAD = """use Rattle.std.proofs.lemmas.Bool.{eqb-false}
@@ -228,18 +224,11 @@ create_of_create g op e = grind arith
 }
 
 
-def names(arguments):
-    out = []
-    for group in arguments.split("(")[1:]:
-        out += group.split(":")[0].split()
-    return out
-
-
 def emit(event):
-    low = "".join(("_" if i and ch.isupper() else "") + ch.lower() for i, ch in enumerate(event.name))
+    low = low_name(event.name)
     state = {"c": event.c, "conns": event.conns, "a": event.a}
     given = " " + event.arguments if event.arguments else ""
-    out = ["-- %s\n" % (event.about[0].upper() + event.about[1:] + "."), HEAD, "\n", BEFORE.get(event.name, "")]
+    out = [sentence(event.about), HEAD, "\n", BEFORE.get(event.name, "")]
     calls = {}
     for part, (arguments, _, _) in PARTS.items():
         term = event.parts.get(part) or default(part)
@@ -256,17 +245,12 @@ def emit(event):
     words = " ".join(names(event.arguments) + [n for n, _ in event.needs])
     out.append("pub %s_keeps : (c : Client) (conns : ℕ → Conn) (a : ℕ → ℕ)%s → %sConnections c conns a → Connections %s %s %s\n%s_keeps c conns a%s i =\n    record {\n"
                % (low, given, premises, event.c, event.conns, event.a, low, " " + words if words else ""))
-    for part in PARTS:
-        out.append("      %s = %s;\n" % (part, calls[part]))
-    out.append("    }\n")
-    open(os.path.join(TOP, event.name + ".antt"), "w").write("".join(out))
+    out.append(fields(PARTS, calls))
+    write_module(TOP, event.name, "".join(out))
 
 
 if __name__ == "__main__":
-    wanted = sys.argv[1:]
-    for event in EVENTS:
-        if not wanted or event.name in wanted:
-            emit(event)
+    write_wanted(EVENTS, emit)
     own = ["Lists"]
-    extra = [n for n in ("Facts", "Run", "Stays", "Reached") if os.path.exists(os.path.join(TOP, n + ".antt"))]
-    open(os.path.join(TOP, "Lib.antt"), "w").write("".join("pub mod %s\n" % n for n in own + [e.name for e in EVENTS] + extra))
+    extra = standing(TOP, ("Facts", "Run", "Stays", "Reached"))
+    write_list(TOP, own + [e.name for e in EVENTS] + extra)

@@ -9,12 +9,13 @@ Run `rt tidy` and `rt fmt` in the crate behind it: it writes all imports into ea
 """
 import os
 import re
-import sys
+
+from law_text import CRATES, fields, kept_part, low_name, names, proofs_of, sentence, type_name, write_module, write_wanted
 
 HERE = os.path.dirname(os.path.abspath(__file__))
-TOP = os.path.join(HERE, "..", "crates", "order_law", "proofs")
-SPEC = open(os.path.join(HERE, "..", "crates", "order_law", "specs", "Contents.antt")).read()
-CONNECTIONS = open(os.path.join(HERE, "..", "crates", "exchange_law", "specs", "Connections.antt")).read()
+TOP = proofs_of("order_law")
+SPEC = open(os.path.join(CRATES, "order_law", "specs", "Contents.antt")).read()
+CONNECTIONS = open(os.path.join(CRATES, "exchange_law", "specs", "Connections.antt")).read()
 
 # part: the variables that it is quantified by, and the columns that it speaks of
 PARTS = {
@@ -83,10 +84,6 @@ PARTS = {
 NAMES = {"Client": "c", "(ℕ → Conn)": "conns", "Server": "s", "Trace": "t", "Log": "l", "(ℕ → ℕ)": "a"}
 
 
-def type_name(part):
-    return "".join(word.capitalize() for word in part.split("_"))
-
-
 def arguments_in(text, name):
     found = re.search(r"^abbrev pub %s : (.*) → Type 0$" % name, text, re.M)
     return [NAMES[x] for x in re.findall(r"\(ℕ → Conn\)|\(ℕ → ℕ\)|\w+", found.group(1))]
@@ -99,9 +96,7 @@ assert set(re.findall(r"^  pub (\w+) : ", SPEC[SPEC.index("pub record Contents")
 def default(part):
     variables, columns = PARTS[part]
     tactic = "grind (arith, get-push)" if "conns" in columns else "grind arith"
-    if not variables:
-        return "let old = i.%s in %s" % (part, tactic)
-    return "λ %s. let old = i.%s %s in %s" % (variables, part, variables, tactic)
+    return kept_part(part, variables, tactic)
 
 
 HEAD = """use Rattle.std.proofs.lemmas.Bool.{eqb-false}
@@ -142,21 +137,14 @@ class Event:
 exec(open(os.path.join(HERE, "law_contents_events.py")).read())
 
 
-def names(arguments):
-    out = []
-    for group in arguments.split("(")[1:]:
-        out += group.split(":")[0].split()
-    return out
-
-
 STATE = "(c : Client) (conns : ℕ → Conn) (s : Server) (t : Trace) (l : Log) (a : ℕ → ℕ)"
 LOWER = {p: (type_name(p), arguments_in(CONNECTIONS, type_name(p))) for p in re.findall(r"^  pub (\w+) : ", CONNECTIONS[CONNECTIONS.index("pub record Connections"):], re.M)}
 
 
 def emit(event):
-    low = "".join(("_" if i and ch.isupper() else "") + ch.lower() for i, ch in enumerate(event.name))
+    low = low_name(event.name)
     given = " " + event.arguments if event.arguments else ""
-    out = ["-- %s\n" % (event.about[0].upper() + event.about[1:] + "."), HEAD, "\n"]
+    out = [sentence(event.about), HEAD, "\n"]
     calls = {}
     lower_used = []
     for part, (variables, columns) in PARTS.items():
@@ -184,18 +172,14 @@ def emit(event):
     st = event.state
     out.append("pub %s_keeps : %s%s → %sContents c conns s t l a → Contents %s %s %s %s %s %s\n%s_keeps c conns s t l a%s i =\n    record {\n"
                % (low, STATE, given, premises, st["c"], st["conns"], st["s"], st["t"], st["l"], st["a"], low, " " + words if words else ""))
-    for part in PARTS:
-        out.append("      %s = %s;\n" % (part, calls[part]))
-    out.append("    }\n")
+    out.append(fields(PARTS, calls))
     text = "".join(out)
     used = sorted(set(re.findall(r"\bC\.(\w+)", text)))
     text = text.replace("CONNECTIONS", ", ".join("%s as C%s" % (u, u) for u in used) if used else "copies").replace("C.", "C")
     words_used = [w for w in WORDS if re.search(r"(?<![\w.])%s\b" % w, "".join(out[2:]))]
     text = text.replace("use Rattle.order_law.proofs.Words.{WORDS}\n", "use Rattle.order_law.proofs.Words.{%s}\n" % ", ".join(words_used) if words_used else "")
-    open(os.path.join(TOP, "On" + event.name + ".antt"), "w").write(text)
+    write_module(TOP, "On" + event.name, text)
 
 
 if __name__ == "__main__":
-    for event in EVENTS:
-        if not sys.argv[1:] or event.name in sys.argv[1:]:
-            emit(event)
+    write_wanted(EVENTS, emit)

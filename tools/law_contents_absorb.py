@@ -35,7 +35,5 @@ print("missing", missing)
 if not missing:
     out.append("pub absorb_keeps : %s (k : ℕ) (x0 : Sent) (rest : List Sent) (A : Answer) → %sContents c conns s t l a → Contents %s\nabsorb_keeps c conns s t l a k x0 rest A %s i =\n    record {\n" % (
         STATE, "".join("(%s) → " % ty for _, ty in needs), " ".join(after[w] for w in ("c", "conns", "s", "t", "l", "a")), " ".join(n for n, _ in needs)))
-    for part in PARTS:
-        out.append("      %s = %s;\n" % (part, calls[part]))
-    out.append("    }\n")
-open(os.path.join(TOP, "OnAbsorb.antt"), "w").write("".join(out))
+    out.append(fields(PARTS, calls))
+write_module(TOP, "OnAbsorb", "".join(out))

@@ -7,11 +7,11 @@ the parts whose proof needs more than that. A part that reads no column that cha
 
 Run `rt tidy` and `rt fmt` in the crate behind it: it writes all imports into each file.
 """
-import os
 import re
-import sys
 
-TOP = os.path.join(os.path.dirname(os.path.abspath(__file__)), "..", "crates", "create_law", "proofs")
+from law_text import fields, kept_part, low_name, names, proofs_of, sentence, standing, type_name, write_list, write_module, write_wanted
+
+TOP = proofs_of("create_law")
 
 # part: (its type's arguments, the variables that it is quantified by, the columns that it reads)
 PARTS = {
@@ -49,14 +49,10 @@ FIT = {
 }
 
 
-def type_name(part):
-    return "".join(word.capitalize() for word in part.split("_"))
-
-
 def default(part):
     _, variables, reads = PARTS[part]
     tactic = "grind (arith, get-push)" if "up" in reads.split() or "down" in reads.split() else "grind arith"
-    return "λ %s. let old = i.%s %s in %s" % (variables, part, variables, tactic)
+    return kept_part(part, variables, tactic)
 
 
 HEAD = """use Rattle.std.proofs.lemmas.Bool.{eqb-false}
@@ -379,22 +375,11 @@ restart_unclosed c v a u r un nk p m s l t =
 }
 
 
-def names(arguments):
-    out = []
-    for group in arguments.split("(")[1:]:
-        out += group.split(":")[0].split()
-    return out
-
-
-def low_name(event):
-    return "".join(("_" if i and ch.isupper() else "") + ch.lower() for i, ch in enumerate(event.name))
-
-
 def emit(event):
-    low = low_name(event)
+    low = low_name(event.name)
     state = {"c": event.c, "conns": event.conns, "v": event.v, "a": event.a}
     given = " " + event.arguments if event.arguments else ""
-    out = ["-- %s\n" % (event.about[0].upper() + event.about[1:] + "."), HEAD, "\n", BEFORE.get(event.name, "")]
+    out = [sentence(event.about), HEAD, "\n", BEFORE.get(event.name, "")]
     calls = {}
     for part, (arguments, _, reads) in PARTS.items():
         if not event.changes & set(reads.split()):
@@ -418,20 +403,15 @@ def emit(event):
     words = " ".join(names(event.arguments) + [n for n, _ in event.needs] + (["f"] if fit else []))
     out.append("pub %s_creates : (c : Client) (conns : ℕ → Conn) (v : Seen) (a : ℕ → ℕ)%s → %sCreates c conns v a → Creates %s %s %s %s\n%s_creates c conns v a%s i =\n    record {\n"
                % (low, given, premises, event.c, event.conns, event.v, event.a, low, " " + words if words else ""))
-    for part in PARTS:
-        out.append("      %s = %s;\n" % (part, calls[part]))
-    out.append("    }\n")
+    out.append(fields(PARTS, calls))
     text = "".join(out)
     if fit:
         text = text.replace("Connections.{copies", "Connections.{Connections, copies")
-    open(os.path.join(TOP, event.name + ".antt"), "w").write(text)
+    write_module(TOP, event.name, text)
 
 
 if __name__ == "__main__":
-    wanted = sys.argv[1:]
-    for event in EVENTS:
-        if not wanted or event.name in wanted:
-            emit(event)
+    write_wanted(EVENTS, emit)
     own = ["Words", "Moves", "Requests", "Seeing"]
-    extra = [n for n in ("Facing", "Moved", "Says", "Served", "Doors", "Run", "Law") if os.path.exists(os.path.join(TOP, n + ".antt"))]
-    open(os.path.join(TOP, "Lib.antt"), "w").write("".join("pub mod %s\n" % n for n in own + [e.name for e in EVENTS] + extra))
+    extra = standing(TOP, ("Facing", "Moved", "Says", "Served", "Doors", "Run", "Law"))
+    write_list(TOP, own + [e.name for e in EVENTS] + extra)

@@ -7,9 +7,10 @@ stays as it is, with no lemma. Run `rt tidy` and `rt fmt` afterwards: each file 
 """
 import os
 import re
-import sys
 
-TOP = os.path.join(os.path.dirname(os.path.abspath(__file__)), "..", "crates", "lock_law", "proofs")
+from law_text import fields, kept_part, low_name, names, proofs_of, sentence, standing, type_name, write_list, write_module, write_wanted
+
+TOP = proofs_of("lock_law")
 
 # part: (its type's arguments, the variables that it is quantified by, the columns that it reads)
 PARTS = {
@@ -70,16 +71,10 @@ OWN_DOWN = [p for p in DOWN if p not in ("ask_down", "join_reply", "joined_reply
 ASK_DOWN = [p for p in DOWN if p not in OWN_DOWN]
 
 
-def type_name(part):
-    return "".join(word.capitalize() for word in part.split("_"))
-
-
 def default(part, touched):
     arguments, variables, reads = PARTS[part]
     tactic = "grind (arith, get-push)" if set(touched) & {"up", "down"} & set(reads.split()) else "grind arith"
-    if not variables:
-        return "let old = i.%s in %s" % (part, tactic)
-    return "λ %s. let old = i.%s %s in %s" % (variables, part, variables, tactic)
+    return kept_part(part, variables, tactic)
 
 
 def with_facts(part, facts, tactic=None):
@@ -579,22 +574,11 @@ says_other c s a g q0 i0 m0 p st d old u stands kept = grind arith
 }
 
 
-def names(arguments):
-    out = []
-    for group in arguments.split("(")[1:]:
-        out += group.split(":")[0].split()
-    return out
-
-
-def low(name):
-    return "".join(("_" if n and ch.isupper() else "") + ch.lower() for n, ch in enumerate(name))
-
-
 def emit(event):
     state = {"c": event.c, "conns": event.conns, "s": event.s, "a": event.a}
     given = " " + event.arguments if event.arguments else ""
     base = "(c : Client) (conns : ℕ → Conn) (s : Server) (a : ℕ → ℕ)"
-    out = ["-- %s\n" % (event.about[0].upper() + event.about[1:] + "."), HEAD, "\n", BEFORE.get(event.name, "").replace("STATE", event.c).replace("BEHIND", "(%s)" % event.s)]
+    out = [sentence(event.about), HEAD, "\n", BEFORE.get(event.name, "").replace("STATE", event.c).replace("BEHIND", "(%s)" % event.s)]
     calls = {}
     for part, (arguments, _, reads) in PARTS.items():
         if not set(reads.split()) & set(event.touched) and not (event.conns.startswith("(put") and "conns" in arguments):
@@ -611,30 +595,25 @@ def emit(event):
         words = " ".join(names(event.arguments) + [n for n, _ in needs] + ["C_" + q for q in lower] + ["i_" + q for q in mine])
         types = " ".join(state[w] for w in arguments.split())
         body = re.sub(r"\bC\.(\w+)", r"C_\1", re.sub(r"\bi\.(\w+)", r"i_\1", term))
-        name = "%s_%s" % (low(event.name), part)
+        name = "%s_%s" % (low_name(event.name), part)
         out.append("%s : %s%s → %s%s %s\n%s c conns s a %s =\n    %s\n\n" % (name, base, given, premises, type_name(part), types, name, words, body))
         calls[part] = "%s c conns s a %s" % (name, " ".join(names(event.arguments) + [n for n, _ in needs] + ["C." + q for q in lower] + ["i." + q for q in mine]))
     uses_c = any("C." in call for call in calls.values())
     premises = "".join("(%s) → " % t for _, t in event.needs) + ("Connections c conns a → " if uses_c else "")
     words = " ".join(names(event.arguments) + [n for n, _ in event.needs] + (["C"] if uses_c else []))
-    name = "%s_keeps" % low(event.name)
+    name = "%s_keeps" % low_name(event.name)
     out.append("pub %s : %s%s → %sLocks c conns s a → Locks %s %s %s %s\n%s c conns s a%s i =\n    record {\n" % (name, base, given, premises, event.c, event.conns, event.s, event.a, name, " " + words if words else ""))
-    for part in PARTS:
-        out.append("      %s = %s;\n" % (part, calls[part]))
-    out.append("    }\n")
+    out.append(fields(PARTS, calls))
     if event.name == "Say":
         record = "pub record MaySay (c : Client) (s : Server) (a : ℕ → ℕ) (y0 : Received) : Type 0 where\n" + "".join("  pub %s : %s\n" % (n, t) for n, t in event.needs) + "\n"
         out.insert(2, "-- what is to be known of the reply\n" + record)
         out.append("\npub say_told : %s (k : ℕ) (y0 : Received) → MaySay c s a y0 → Locks c conns s a → Locks c %s s a\nsay_told c conns s a k y0 m i = say_keeps c conns s a k y0 %s i\n" % (base, event.conns, " ".join("m." + n for n, _ in event.needs)))
-    open(os.path.join(TOP, event.name + ".antt"), "w").write("".join(out))
+    write_module(TOP, event.name, "".join(out))
 
 
 if __name__ == "__main__":
-    wanted = sys.argv[1:]
-    for e in EVENTS:
-        if not wanted or e.name in wanted:
-            emit(e)
+    write_wanted(EVENTS, emit)
     first = ["Words", "Views", "Rooms", "Verdicts", "Steady", "Bare", "Undeleting", "Trees"]
-    first = [n for n in first if os.path.exists(os.path.join(TOP, n + ".antt"))]
-    later = [n for n in ("Facing", "Sees", "Serving", "Others", "Locking", "Closing", "Serve", "Ends", "Pushing", "Lines", "Settling", "Taking", "Run", "Law") if os.path.exists(os.path.join(TOP, n + ".antt"))]
-    open(os.path.join(TOP, "Lib.antt"), "w").write("".join("pub mod %s\n" % n for n in first + [e.name for e in EVENTS] + later))
+    first = standing(TOP, first)
+    later = standing(TOP, ("Facing", "Sees", "Serving", "Others", "Locking", "Closing", "Serve", "Ends", "Pushing", "Lines", "Settling", "Taking", "Run", "Law"))
+    write_list(TOP, first + [e.name for e in EVENTS] + later)

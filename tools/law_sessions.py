@@ -7,9 +7,10 @@ handed on as it is.
 """
 import os
 import re
-import sys
 
-TOP = os.path.join(os.path.dirname(os.path.abspath(__file__)), "..", "crates", "session_law", "proofs")
+from law_text import fields, kept_part, low_name, names, proofs_of, sentence, type_name, write_list, write_module, write_wanted
+
+TOP = proofs_of("session_law")
 
 # part: (its type's arguments, the variables that it is quantified by, what it reads)
 PARTS = {
@@ -49,16 +50,10 @@ PARTS = {
 }
 
 
-def type_name(part):
-    return "".join(word.capitalize() for word in part.split("_"))
-
-
 def default(part):
     variables, reads = PARTS[part][1], PARTS[part][2].split()
     tactic = "grind (arith, get-push)" if "conns" in reads else "grind arith"
-    if not variables:
-        return "let old = i.%s in %s" % (part, tactic)
-    return "λ %s. let old = i.%s %s in %s" % (variables, part, variables, tactic)
+    return kept_part(part, variables, tactic)
 
 
 HEAD = """use Rattle.std.proofs.Common.{◌≡◌, ◌≢◌, ℕ, ◌+◌, ◌-◌, ◌≤◌, ◌<◌, ◌==◌, Bool, true, false, not, ◌&&◌, ◌||◌, if◌then◌else◌, List, [], ◌∷◌, ◌++◌, ◌⊎◌, inl, inr, refl, arith, sym, subst, ◌∙◌, ap, Option, Some, None, slice_get, is_some, zero, suc}
@@ -215,18 +210,11 @@ EVENTS = [
           }),
 ]
 
-def names(arguments):
-    out = []
-    for group in arguments.split("(")[1:]:
-        out += group.split(":")[0].split()
-    return out
-
-
 def emit(event):
-    low = "".join(("_" if i and ch.isupper() else "") + ch.lower() for i, ch in enumerate(event.name))
+    low = low_name(event.name)
     state = {"c": event.c, "conns": event.conns, "s": event.s}
     given = " " + event.arguments if event.arguments else ""
-    out = ["-- %s\n" % (event.about[0].upper() + event.about[1:] + "."), HEAD, "\n"]
+    out = [sentence(event.about), HEAD, "\n"]
     calls = {}
     for part, (arguments, _, reads) in PARTS.items():
         if not event.writes & set(reads.split()):
@@ -248,17 +236,12 @@ def emit(event):
     words = " ".join(names(event.arguments) + [n for n, _ in event.needs])
     out.append("pub %s_keeps : (c : Client) (conns : ℕ → Conn) (s : Server)%s → %sSessions c conns s → Sessions %s %s %s\n%s_keeps c conns s%s i =\n    record {\n"
                % (low, given, premises, event.c, event.conns, event.s, low, " " + words if words else ""))
-    for part in PARTS:
-        out.append("      %s = %s;\n" % (part, calls[part]))
-    out.append("    }\n")
-    open(os.path.join(TOP, event.name + ".antt"), "w").write("".join(out))
+    out.append(fields(PARTS, calls))
+    write_module(TOP, event.name, "".join(out))
 
 
 if __name__ == "__main__":
-    wanted = sys.argv[1:]
-    for event in EVENTS:
-        if not wanted or event.name in wanted:
-            emit(event)
+    write_wanted(EVENTS, emit)
     named = {e.name for e in EVENTS}
     own = sorted(n[:-5] for n in os.listdir(TOP) if n.endswith(".antt") and n != "Lib.antt" and n[:-5] not in named)
-    open(os.path.join(TOP, "Lib.antt"), "w").write("".join("pub mod %s\n" % n for n in own + [e.name for e in EVENTS]))
+    write_list(TOP, own + [e.name for e in EVENTS])
