@@ -56,8 +56,6 @@ PARTS = {
     "close_done": ("c conns s", "j n p y", "down op file standing"),
     "close_full": ("c conns s", "j n p y", "down op file standing opened journal"),
     "close_stuck": ("c conns s", "j n p y", "down op file standing opened journal files"),
-    "trees_of": ("c s", "q", "trees"),
-    "share_up": ("c conns", "j n x sh", "up"),
     "made_plain": ("c a", "p", "op a"),
     "at_most": ("c a", "p", "op a"),
     "ok_acted": ("c a", "p", "op outcome a"),
@@ -66,7 +64,7 @@ PARTS = {
 
 UP = [p for p, v in PARTS.items() if " up " in " %s " % v[2]]
 DOWN = [p for p, v in PARTS.items() if " down " in " %s " % v[2]]
-OWN_UP = [p for p in UP if p not in ("ask_up", "share_up")]
+OWN_UP = [p for p in UP if p != "ask_up"]
 OWN_DOWN = [p for p in DOWN if p not in ("ask_down", "join_reply", "joined_reply", "lost_reply")]
 ASK_DOWN = [p for p in DOWN if p not in OWN_DOWN]
 
@@ -108,7 +106,7 @@ use Rattle.exchange_defs.specs.Network.{Conn, Sent, Received, Token, ForDialog, 
 use Rattle.exchange_law.specs.Connections.{Connections, copies, count_up, count_down, no_copy_out, makes_open, shuts_open, acts_once, its_create, its_request, create_at, opens, CPARTS}
 use Rattle.exchange_law.proofs.Lists.{get-push, rest_of, own_up_count, own_down_count, attach_up_count, attach_down_count, front_up, front_down, waited, waited_down}
 use Rattle.session_law.specs.Sessions.{is_ops}
-use Rattle.lock_law.specs.Locks.{Locks, locking, kept_at, firm, is_unsent, refused_for_good, in_slots, user_at, open_at, kept_of, goes_with, piped, all_piped, PARTS}
+use Rattle.lock_law.specs.Locks.{Locks, locking, kept_at, firm, is_unsent, refused_for_good, in_slots, user_at, open_at, kept_of, goes_with, piped, PARTS}
 use Rattle.lock_law.proofs.Words.{WORDS}
 """.replace("CPARTS", ", ".join(type_name(p) for p in C_PARTS)).replace("PARTS", ", ".join(type_name(p) for p in PARTS)).replace("WORDS", WORDS)
 
@@ -181,8 +179,7 @@ event("Behind", "a reply leaves its connection", "down", "(k : ℕ) (y0 : Receiv
       parts={p: "λ %s h. %si.%s %s" % (PARTS[p][1], OLD_DOWN, p, " ".join("w.0" if v == "n" else v for v in PARTS[p][1].split()) + " w.1") for p in DOWN})
 event("Front", "the server takes the front", "up", "(k : ℕ) (x0 : Sent) (rest : List Sent)", [("is", "(conns k).up ≡ x0 ∷ rest")], conns="(put conns k (behind_front (conns k) rest))",
       parts={p: "λ %s h. %slet old = i.%s %s in grind arith" % (PARTS[p][1], OLD, p, " ".join("w.0" if v == "n" else v for v in PARTS[p][1].split()) + " w.1") for p in UP})
-event("DialogSent", "the next message of a dialog goes out", "up", "(k n0 : ℕ) (m0 : Message)", [("its", "(sh : List ℕ) → m0.command ≡ TreeConnect sh → sh ≡ c.who.share")],
-      parts={"share_up": "λ j n x sh. let old = i.share_up j n x sh in let it = its sh in grind (arith, get-push)"}, conns="(put conns k (send_up (conns k) ForDialog m0 n0))")
+event("DialogSent", "the next message of a dialog goes out", "up", "(k n0 : ℕ) (m0 : Message)", conns="(put conns k (send_up (conns k) ForDialog m0 n0))")
 event("WentOn", "a dialog goes on", "stage pending", "(k : ℕ) (stage : Stage) (r0 : Reply)", c="(went_on c k stage r0)")
 event("Accepted", "a new session is accepted", "stage accepted", "(k : ℕ)", c="(accepted c k)")
 event("Bound", "a further channel is ready", "stage", "(k : ℕ)", c="(bound c k)")
@@ -408,7 +405,7 @@ for e in (leave, finish):
 
 # ---- the server moves, and no lock is carried out
 OK = "makes_open (c.op q) ≡ true → is_ok (c.outcome q) ≡ true → "
-moves = event("Moves", "the server moves, and carries out no lock", "present standing at slots opened journal files by_guid trees a", "(s2 : Server) (a2 : ℕ → ℕ)",
+moves = event("Moves", "the server moves, and carries out no lock", "present standing at slots opened journal files by_guid a", "(s2 : Server) (a2 : ℕ → ℕ)",
       [("same_a", "(p : ℕ) → locking (c.op p) ≡ true → a2 p ≡ a p"), ("journal", "s.journal ≤ s2.journal"),
        ("stay", "(j n : ℕ) (x : Sent) → slice_get (conns j).up n ≡ Some x → is_ops x.token ≡ true → s2.present x.message.session ≡ true → s.present x.message.session ≡ true"),
        ("stay_now", "c.live ≡ true → s2.present c.session ≡ true → s.present c.session ≡ true"),
@@ -418,7 +415,7 @@ moves = event("Moves", "the server moves, and carries out no lock", "present sta
        ("opened", "(q : ℕ) → " + OK + "s2.standing (c.file q) ≡ true → (s2.opened (c.file q)).persistent ≡ (s.opened (c.file q)).persistent"),
        ("stuck", "(q : ℕ) → " + OK + "s2.standing (c.file q) ≡ true → (s.opened (c.file q)).persistent ≡ false → goes_with s (c.file q) ≡ true → lower_limit < s.journal + 34 → goes_with s2 (c.file q) ≡ true"),
        ("unmade", "(q r o : ℕ) → makes_open (c.op q) ≡ true → is_ok (c.outcome q) ≡ false → s2.by_guid c.who.guid (guid_for c q) ≡ Some o → s2.slots o r ≡ None"),
-       ("trees", "(q : ℕ) → all_piped (piped c.who.share) (s2.trees q) ≡ true"), ("plain", "(q : ℕ) → makes_open (c.op q) ≡ true → 1 ≤ a2 q → piped c.who.share ≡ false"),
+       ("plain", "(q : ℕ) → makes_open (c.op q) ≡ true → 1 ≤ a2 q → piped c.who.share ≡ false"),
        ("keeps", "(o : ℕ) → s2.standing o ≡ true → deletes_on_close (s2.opened o).options ≡ false"),
        ("open_stands", "(j n g : ℕ) (y : Received) → slice_get (conns j).down n ≡ Some y → y.token ≡ ForOp g → makes_open (c.op g) ≡ true → y.reply.status ≡ success → s2.standing (id_in y.reply.body) ≡ true → s.standing (id_in y.reply.body) ≡ true"),
        ("closed", "(g : ℕ) → locking (c.op g) ≡ true → c.sent g ≡ true → is_unsettled (c.outcome g) ≡ true → c.live ≡ true → c.attached (create_at c g) ≡ c.number → s2.present c.session ≡ true → s.standing (open_at c g) ≡ true → s2.standing (open_at c g) ≡ false → a g ≡ 0"),
@@ -456,7 +453,6 @@ moves.parts["kept_says"] = "λ p st e f. let old = i.kept_says p st e in " + USE
 moves.parts["not_kept"] = "λ p e f. let old = i.not_kept p e in " + USES + "let sa = same_a p ub.0 in grind arith"
 moves.parts["firm_kept"] = "λ p e. let old = i.firm_kept p e in " + USES + "grind arith"
 moves.parts["no_user"] = "λ q r ok1 mk. let old = i.no_user q r ok1 mk in let sd = stands q mk ok1 in let sl = slots q r mk ok1 in grind arith"
-moves.parts["trees_of"] = "λ q. trees q"
 moves.parts["made_plain"] = "λ q m l. plain q m l"
 moves.parts["kept_files"] = "λ o e. keeps o e"
 moves.parts["no_slots"] = "λ q r o m ok1 e. unmade q r o m ok1 e"
@@ -613,7 +609,7 @@ def emit(event):
 
 if __name__ == "__main__":
     write_wanted(EVENTS, emit)
-    first = ["Words", "Views", "Rooms", "Verdicts", "Steady", "Bare", "Undeleting", "Trees"]
+    first = ["Words", "Views", "Rooms", "Verdicts", "Steady", "Bare", "Undeleting"]
     first = standing(TOP, first)
     later = standing(TOP, ("Facing", "Sees", "Serving", "Others", "Locking", "Closing", "Serve", "Ends", "Pushing", "Lines", "Settling", "Taking", "Run", "Law"))
     write_list(TOP, first + [e.name for e in EVENTS] + later)

@@ -4,7 +4,7 @@ use Rattle.exchange_defs.specs.State.{Server}
 use Rattle.exchange_defs.specs.Client.{Client}
 use Rattle.exchange_defs.specs.Network.{Conn, server_off}
 use Rattle.exchange_law.proofs.Lists.{get-push}
-use Rattle.lock_law.specs.Locks.{Locks, Unanswered, AskUp, Users, CopyNow, RetriedOn, RetriedDone, CopyAttached, FullDead, LeftFull, LeftStuck, LeftIdle, ShareUp}
+use Rattle.lock_law.specs.Locks.{Locks, Unanswered, AskUp, Users, CopyNow, RetriedOn, RetriedDone, CopyAttached, FullDead, LeftFull, LeftStuck, LeftIdle}
 
 all_dropped_unanswered : (c : Client) (conns : ℕ → Conn) (s : Server) (a : ℕ → ℕ) → Unanswered c conns → Unanswered c (λ j. server_off (conns j))
 all_dropped_unanswered c conns s a i_unanswered =
@@ -49,10 +49,6 @@ all_dropped_left_stuck c conns s a i_left_stuck =
 all_dropped_left_idle : (c : Client) (conns : ℕ → Conn) (s : Server) (a : ℕ → ℕ) → LeftIdle c conns s a → LeftIdle c (λ j. server_off (conns j)) s a
 all_dropped_left_idle c conns s a i_left_idle =
     λ j n p q x. let old = i_left_idle j n p q x in grind (arith, get-push)
-
-all_dropped_share_up : (c : Client) (conns : ℕ → Conn) (s : Server) (a : ℕ → ℕ) → ShareUp c conns → ShareUp c (λ j. server_off (conns j))
-all_dropped_share_up c conns s a i_share_up =
-    λ j n x sh. let old = i_share_up j n x sh in grind (arith, get-push)
 
 pub all_dropped_keeps : (c : Client) (conns : ℕ → Conn) (s : Server) (a : ℕ → ℕ) → Locks c conns s a → Locks c (λ j. server_off (conns j)) s a
 all_dropped_keeps c conns s a i =
@@ -99,8 +95,6 @@ all_dropped_keeps c conns s a i =
       close_done = i.close_done;
       close_full = i.close_full;
       close_stuck = i.close_stuck;
-      trees_of = i.trees_of;
-      share_up = all_dropped_share_up c conns s a i.share_up;
       made_plain = i.made_plain;
       at_most = i.at_most;
       ok_acted = i.ok_acted;

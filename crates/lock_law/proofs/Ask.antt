@@ -7,7 +7,7 @@ use Rattle.exchange_defs.specs.Client.{Client, guid_for, asked}
 use Rattle.exchange_defs.specs.Network.{Conn, ForAttach, send_up}
 use Rattle.exchange_law.specs.Connections.{makes_open, create_at}
 use Rattle.exchange_law.proofs.Lists.{get-push}
-use Rattle.lock_law.specs.Locks.{Locks, open_at, Unanswered, AskUp, AskDown, Users, CopyNow, RetriedOn, RetriedDone, CopyAttached, OpenedReply, JoinReply, JoinedReply, LostReply, FullDead, OkReply, NoReply, KeptReply, FirstReply, LeftFull, LeftStuck, LeftIdle, CloseDone, CloseFull, CloseStuck, ShareUp}
+use Rattle.lock_law.specs.Locks.{Locks, open_at, Unanswered, AskUp, AskDown, Users, CopyNow, RetriedOn, RetriedDone, CopyAttached, OpenedReply, JoinReply, JoinedReply, LostReply, FullDead, OkReply, NoReply, KeptReply, FirstReply, LeftFull, LeftStuck, LeftIdle, CloseDone, CloseFull, CloseStuck}
 use Rattle.lock_law.proofs.Words.{lock_kind}
 
 ask_unanswered : (c : Client) (conns : ℕ → Conn) (s : Server) (a : ℕ → ℕ) (k g n0 : ℕ) (m0 : Message) → (c.ready k ≡ true) → (c.on g ≡ None) → (0 < g) → (g ≤ c.taken) → (makes_open (c.op g) ≡ false) → (is_ok (c.outcome (create_at c g)) ≡ true) → (m0.session ≡ c.session) → (c.live ≡ true) → (m0.command ≡ reconnect_of (c.op (create_at c g)) (guid_for c (create_at c g)) (open_at c g)) → (c.attached (create_at c g) ≢ c.number) → ((conns k).client_open ≡ true) → Unanswered c conns → Unanswered (asked c k g) (put conns k (send_up (conns k) (ForAttach g) m0 n0))
@@ -102,10 +102,6 @@ ask_close_stuck : (c : Client) (conns : ℕ → Conn) (s : Server) (a : ℕ → 
 ask_close_stuck c conns s a k g n0 m0 ready none above within kind ok mine live body loose stands i_close_stuck =
     λ j n p y. let old = i_close_stuck j n p y in grind arith
 
-ask_share_up : (c : Client) (conns : ℕ → Conn) (s : Server) (a : ℕ → ℕ) (k g n0 : ℕ) (m0 : Message) → (c.ready k ≡ true) → (c.on g ≡ None) → (0 < g) → (g ≤ c.taken) → (makes_open (c.op g) ≡ false) → (is_ok (c.outcome (create_at c g)) ≡ true) → (m0.session ≡ c.session) → (c.live ≡ true) → (m0.command ≡ reconnect_of (c.op (create_at c g)) (guid_for c (create_at c g)) (open_at c g)) → (c.attached (create_at c g) ≢ c.number) → ((conns k).client_open ≡ true) → ShareUp c conns → ShareUp (asked c k g) (put conns k (send_up (conns k) (ForAttach g) m0 n0))
-ask_share_up c conns s a k g n0 m0 ready none above within kind ok mine live body loose stands i_share_up =
-    λ j n x sh. let old = i_share_up j n x sh in grind (arith, get-push)
-
 pub ask_keeps : (c : Client) (conns : ℕ → Conn) (s : Server) (a : ℕ → ℕ) (k g n0 : ℕ) (m0 : Message) → (c.ready k ≡ true) → (c.on g ≡ None) → (0 < g) → (g ≤ c.taken) → (makes_open (c.op g) ≡ false) → (is_ok (c.outcome (create_at c g)) ≡ true) → (m0.session ≡ c.session) → (c.live ≡ true) → (m0.command ≡ reconnect_of (c.op (create_at c g)) (guid_for c (create_at c g)) (open_at c g)) → (c.attached (create_at c g) ≢ c.number) → ((conns k).client_open ≡ true) → Locks c conns s a → Locks (asked c k g) (put conns k (send_up (conns k) (ForAttach g) m0 n0)) s a
 ask_keeps c conns s a k g n0 m0 ready none above within kind ok mine live body loose stands i =
     record {
@@ -151,8 +147,6 @@ ask_keeps c conns s a k g n0 m0 ready none above within kind ok mine live body l
       close_done = ask_close_done c conns s a k g n0 m0 ready none above within kind ok mine live body loose stands i.close_done;
       close_full = ask_close_full c conns s a k g n0 m0 ready none above within kind ok mine live body loose stands i.close_full;
       close_stuck = ask_close_stuck c conns s a k g n0 m0 ready none above within kind ok mine live body loose stands i.close_stuck;
-      trees_of = i.trees_of;
-      share_up = ask_share_up c conns s a k g n0 m0 ready none above within kind ok mine live body loose stands i.share_up;
       made_plain = i.made_plain;
       at_most = i.at_most;
       ok_acted = i.ok_acted;

@@ -145,8 +145,6 @@ begin_lock_keeps c conns s a g q0 i0 m0 new lock slot its pending live ok made b
       close_done = i.close_done;
       close_full = i.close_full;
       close_stuck = i.close_stuck;
-      trees_of = i.trees_of;
-      share_up = i.share_up;
       made_plain = i.made_plain;
       at_most = i.at_most;
       ok_acted = i.ok_acted;

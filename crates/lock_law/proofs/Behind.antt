@@ -5,7 +5,7 @@ use Rattle.exchange_defs.specs.State.{Server}
 use Rattle.exchange_defs.specs.Client.{Client}
 use Rattle.exchange_defs.specs.Network.{Conn, Received, take_front}
 use Rattle.exchange_law.proofs.Lists.{waited_down}
-use Rattle.lock_law.specs.Locks.{Locks, Unanswered, AskUp, AskDown, Users, CopyNow, RetriedOn, RetriedDone, CopyAttached, OpenedReply, JoinReply, JoinedReply, LostReply, FullDead, OkReply, NoReply, KeptReply, FirstReply, LeftFull, LeftStuck, LeftIdle, CloseDone, CloseFull, CloseStuck, ShareUp}
+use Rattle.lock_law.specs.Locks.{Locks, Unanswered, AskUp, AskDown, Users, CopyNow, RetriedOn, RetriedDone, CopyAttached, OpenedReply, JoinReply, JoinedReply, LostReply, FullDead, OkReply, NoReply, KeptReply, FirstReply, LeftFull, LeftStuck, LeftIdle, CloseDone, CloseFull, CloseStuck}
 
 behind_unanswered : (c : Client) (conns : ℕ → Conn) (s : Server) (a : ℕ → ℕ) (k : ℕ) (y0 : Received) (rest : List Received) → ((conns k).down ≡ y0 ∷ rest) → Unanswered c conns → Unanswered c (put conns k (take_front (conns k) rest))
 behind_unanswered c conns s a k y0 rest is i_unanswered =
@@ -99,10 +99,6 @@ behind_close_stuck : (c : Client) (conns : ℕ → Conn) (s : Server) (a : ℕ �
 behind_close_stuck c conns s a k y0 rest is i_close_stuck =
     λ j n p y h. let w = waited_down conns k y0 rest j n y is h in i_close_stuck j w.0 p y w.1
 
-behind_share_up : (c : Client) (conns : ℕ → Conn) (s : Server) (a : ℕ → ℕ) (k : ℕ) (y0 : Received) (rest : List Received) → ((conns k).down ≡ y0 ∷ rest) → ShareUp c conns → ShareUp c (put conns k (take_front (conns k) rest))
-behind_share_up c conns s a k y0 rest is i_share_up =
-    λ j n x sh. let old = i_share_up j n x sh in grind arith
-
 pub behind_keeps : (c : Client) (conns : ℕ → Conn) (s : Server) (a : ℕ → ℕ) (k : ℕ) (y0 : Received) (rest : List Received) → ((conns k).down ≡ y0 ∷ rest) → Locks c conns s a → Locks c (put conns k (take_front (conns k) rest)) s a
 behind_keeps c conns s a k y0 rest is i =
     record {
@@ -148,8 +144,6 @@ behind_keeps c conns s a k y0 rest is i =
       close_done = behind_close_done c conns s a k y0 rest is i.close_done;
       close_full = behind_close_full c conns s a k y0 rest is i.close_full;
       close_stuck = behind_close_stuck c conns s a k y0 rest is i.close_stuck;
-      trees_of = i.trees_of;
-      share_up = behind_share_up c conns s a k y0 rest is i.share_up;
       made_plain = i.made_plain;
       at_most = i.at_most;
       ok_acted = i.ok_acted;

@@ -28,7 +28,7 @@ use Rattle.lock_law.proofs.Verdicts.{closes_in, is_slot_verdict}
 use Rattle.lock_law.proofs.Rooms.{full_persistent, full_plain, stuck_fits}
 use Rattle.lock_law.proofs.Steady.{bare_of, heads_apply}
 use Rattle.lock_law.proofs.Sees.{CloseSees, Deleted2, NoTree2, Away2, Shuts}
-use Rattle.lock_law.proofs.Serving.{Serving, Served, counted, not_sent, of_other, of_unmade, plain_other, adds_at, quiet_serve}
+use Rattle.lock_law.proofs.Serving.{Serving, Served, counted, not_sent, of_other, of_unmade, plain_other, quiet_serve}
 use Rattle.lock_law.proofs.Locking.{same_file, goes_same, same_op, not_ask, clash, no_unfit}
 use Rattle.lock_law.proofs.Say.{MaySay}
 
@@ -96,7 +96,7 @@ counts c conns t a k h x0 acted w p m = not_sent a x0.token acted p (ap (is_send
 quiet_close : (c : Client) (conns : ℕ → Conn) (t : Server) (a : ℕ → ℕ) (k h : ℕ) (x0 : Sent) (now : ℕ) (v : Verdict) (rs : List Record) → Copy c conns t a k h x0 → (v ≡ check t x0.message) ⊎ (v ≡ without_room (check t x0.message)) → is_slot_verdict v ≡ false
     → (apply t x0.message now v).records ≡ [] → (apply t x0.message now v).server.standing ≡ t.standing → Locks c conns (recorded (apply t x0.message now v) rs).server (counted a x0.token (apply t x0.message now v).acted)
 quiet_close c conns t a k h x0 now v rs w is off bare same =
-    quiet_serve c conns t a k x0 now v rs (counted a x0.token (apply t x0.message now v).acted) w.serving (found t x0.message v is) off (λ big. bare) (adds_at c conns t a k x0 v w.serving is) (plain_other c conns t a k x0 _ w.serving (λ p m. ap (is_send_of p) w.token ∙ of_unmade c h p (close_kind (c.op h) w.shuts) m)) (counts c conns t a k h x0 (apply t x0.message now v).acted w)
+    quiet_serve c conns t a k x0 now v rs (counted a x0.token (apply t x0.message now v).acted) w.serving (found t x0.message v is) off (λ big. bare) (plain_other c conns t a k x0 _ w.serving (λ p m. ap (is_send_of p) w.token ∙ of_unmade c h p (close_kind (c.op h) w.shuts) m)) (counts c conns t a k h x0 (apply t x0.message now v).acted w)
     (λ g m s0 u lv p st cl gone. absurd (let x = clash _ gone (ap (λ z. z (open_at c g)) same ∙ st) in cc))
     (λ j n g y e1 e2 ok lv p st cl gone. absurd (let x = clash _ gone (ap (λ z. z (open_at c g)) same ∙ st) in cc))
 
@@ -159,7 +159,7 @@ close_fits c conns d t a k h x0 now front v w same is room (Shuts on st) =
     let m = x0.message in let o1 = open_at c h in let A = apply t m now v in
     let p = w.serving.low.fits.on_present m.connection m.session on in
     let big_bare : lower_limit < t.journal + 34 → A.records ≡ [] = λ big. bare_of d front A.records (heads_apply t m now v) room (subst (λ z. lower_limit < z + 34) same big) in (
-      quiet_serve c conns t a k x0 now v (front ++ A.records) (counted a x0.token A.acted) w.serving (found t m v (inl is)) refl big_bare (adds_at c conns t a k x0 v w.serving (inl is)) (plain_other c conns t a k x0 A.acted w.serving (λ p mq. ap (is_send_of p) w.token ∙ of_unmade c h p (close_kind (c.op h) w.shuts) mq)) (counts c conns t a k h x0 A.acted w)
+      quiet_serve c conns t a k x0 now v (front ++ A.records) (counted a x0.token A.acted) w.serving (found t m v (inl is)) refl big_bare (plain_other c conns t a k x0 A.acted w.serving (λ p mq. ap (is_send_of p) w.token ∙ of_unmade c h p (close_kind (c.op h) w.shuts) mq)) (counts c conns t a k h x0 A.acted w)
           (λ g mg s0 u lv pr sg cl gone. let so = closes_same m.command o1 (open_at c g) w.command cl in let kind = lock_kind (c.op g) mg in
           shut_idle c conns d t a k h g x0 front w same room p mg s0 u lv st
           (same_file c conns t a w.serving.creates (create_at c h) (create_at c g) w.made w.ok (made_of c w.serving.links.taken w.serving.links.creates g s0 kind) (ok_of c w.serving.links.has_open g s0 kind) st so))

@@ -6,7 +6,7 @@ use Rattle.exchange_defs.specs.Client.{Client, cut_channel}
 use Rattle.exchange_defs.specs.Network.{Conn, client_off}
 use Rattle.exchange_law.specs.Connections.{Connections, Outstanding, OwnUp, Settled, Taken, Bodies}
 use Rattle.exchange_law.proofs.Lists.{get-push}
-use Rattle.lock_law.specs.Locks.{Locks, Unanswered, AskUp, AskDown, Users, CopyNow, RetriedOn, RetriedDone, CopyAttached, OpenedReply, JoinReply, JoinedReply, LostReply, FullDead, OkReply, NoReply, KeptReply, FirstReply, LeftFull, LeftStuck, LeftIdle, CloseDone, CloseFull, CloseStuck, ShareUp}
+use Rattle.lock_law.specs.Locks.{Locks, Unanswered, AskUp, AskDown, Users, CopyNow, RetriedOn, RetriedDone, CopyAttached, OpenedReply, JoinReply, JoinedReply, LostReply, FullDead, OkReply, NoReply, KeptReply, FirstReply, LeftFull, LeftStuck, LeftIdle, CloseDone, CloseFull, CloseStuck}
 use Rattle.lock_law.proofs.Words.{up_on}
 
 cut_unanswered : (c : Client) (conns : ℕ → Conn) (s : Server) (a : ℕ → ℕ) (k : ℕ) → Bodies c conns → Outstanding c conns → OwnUp c conns → Taken c → Unanswered c conns → Unanswered (cut_channel c k) (put conns k (client_off (conns k)))
@@ -101,10 +101,6 @@ cut_close_stuck : (c : Client) (conns : ℕ → Conn) (s : Server) (a : ℕ → 
 cut_close_stuck c conns s a k i_close_stuck =
     λ j n p y. let old = i_close_stuck j n p y in grind (arith, get-push)
 
-cut_share_up : (c : Client) (conns : ℕ → Conn) (s : Server) (a : ℕ → ℕ) (k : ℕ) → ShareUp c conns → ShareUp (cut_channel c k) (put conns k (client_off (conns k)))
-cut_share_up c conns s a k i_share_up =
-    λ j n x sh. let old = i_share_up j n x sh in grind arith
-
 pub cut_keeps : (c : Client) (conns : ℕ → Conn) (s : Server) (a : ℕ → ℕ) (k : ℕ) → Connections c conns a → Locks c conns s a → Locks (cut_channel c k) (put conns k (client_off (conns k))) s a
 cut_keeps c conns s a k C i =
     record {
@@ -150,8 +146,6 @@ cut_keeps c conns s a k C i =
       close_done = cut_close_done c conns s a k i.close_done;
       close_full = cut_close_full c conns s a k i.close_full;
       close_stuck = cut_close_stuck c conns s a k i.close_stuck;
-      trees_of = i.trees_of;
-      share_up = cut_share_up c conns s a k i.share_up;
       made_plain = i.made_plain;
       at_most = i.at_most;
       ok_acted = i.ok_acted;

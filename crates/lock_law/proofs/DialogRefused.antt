@@ -7,7 +7,7 @@ use Rattle.exchange_defs.specs.Dialogs.{refused_dialog}
 use Rattle.exchange_defs.specs.Network.{Conn, client_off}
 use Rattle.exchange_law.specs.Connections.{Connections, Outstanding, OnReady, Settled, Taken, Bodies}
 use Rattle.exchange_law.proofs.Lists.{get-push}
-use Rattle.lock_law.specs.Locks.{Locks, Unanswered, AskUp, AskDown, Users, CopyNow, RetriedOn, RetriedDone, CopyAttached, OpenedReply, JoinReply, JoinedReply, LostReply, FullDead, OkReply, NoReply, KeptReply, FirstReply, LeftFull, LeftStuck, LeftIdle, CloseDone, CloseFull, CloseStuck, ShareUp}
+use Rattle.lock_law.specs.Locks.{Locks, Unanswered, AskUp, AskDown, Users, CopyNow, RetriedOn, RetriedDone, CopyAttached, OpenedReply, JoinReply, JoinedReply, LostReply, FullDead, OkReply, NoReply, KeptReply, FirstReply, LeftFull, LeftStuck, LeftIdle, CloseDone, CloseFull, CloseStuck}
 use Rattle.lock_law.proofs.Words.{up_on}
 
 dialog_refused_unanswered : (c : Client) (conns : ℕ → Conn) (s : Server) (a : ℕ → ℕ) (k status : ℕ) → (c.ready k ≡ false) → Bodies c conns → OnReady c → Outstanding c conns → Settled c → Taken c → Unanswered c conns → Unanswered (refused_dialog c k status) (put conns k (client_off (conns k)))
@@ -102,10 +102,6 @@ dialog_refused_close_stuck : (c : Client) (conns : ℕ → Conn) (s : Server) (a
 dialog_refused_close_stuck c conns s a k status apart i_close_stuck =
     λ j n p y. let old = i_close_stuck j n p y in grind (arith, get-push)
 
-dialog_refused_share_up : (c : Client) (conns : ℕ → Conn) (s : Server) (a : ℕ → ℕ) (k status : ℕ) → (c.ready k ≡ false) → ShareUp c conns → ShareUp (refused_dialog c k status) (put conns k (client_off (conns k)))
-dialog_refused_share_up c conns s a k status apart i_share_up =
-    λ j n x sh. let old = i_share_up j n x sh in grind arith
-
 pub dialog_refused_keeps : (c : Client) (conns : ℕ → Conn) (s : Server) (a : ℕ → ℕ) (k status : ℕ) → (c.ready k ≡ false) → Connections c conns a → Locks c conns s a → Locks (refused_dialog c k status) (put conns k (client_off (conns k))) s a
 dialog_refused_keeps c conns s a k status apart C i =
     record {
@@ -151,8 +147,6 @@ dialog_refused_keeps c conns s a k status apart C i =
       close_done = dialog_refused_close_done c conns s a k status apart i.close_done;
       close_full = dialog_refused_close_full c conns s a k status apart i.close_full;
       close_stuck = dialog_refused_close_stuck c conns s a k status apart i.close_stuck;
-      trees_of = i.trees_of;
-      share_up = dialog_refused_share_up c conns s a k status apart i.share_up;
       made_plain = i.made_plain;
       at_most = i.at_most;
       ok_acted = i.ok_acted;

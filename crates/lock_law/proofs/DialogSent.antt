@@ -1,12 +1,11 @@
 -- The next message of a dialog goes out.
-use Rattle.std.proofs.Common.{◌≡◌, ℕ, List, arith}
+use Rattle.std.proofs.Common.{ℕ, arith}
 use Rattle.exchange_defs.specs.Table.{put}
-use Rattle.exchange_defs.specs.Commands.{TreeConnect}
 use Rattle.exchange_defs.specs.State.{Server, Message}
 use Rattle.exchange_defs.specs.Client.{Client}
 use Rattle.exchange_defs.specs.Network.{Conn, ForDialog, send_up}
 use Rattle.exchange_law.proofs.Lists.{get-push}
-use Rattle.lock_law.specs.Locks.{Locks, Unanswered, AskUp, AskDown, Users, CopyNow, RetriedOn, RetriedDone, CopyAttached, OpenedReply, JoinReply, JoinedReply, LostReply, FullDead, OkReply, NoReply, KeptReply, FirstReply, LeftFull, LeftStuck, LeftIdle, CloseDone, CloseFull, CloseStuck, ShareUp}
+use Rattle.lock_law.specs.Locks.{Locks, Unanswered, AskUp, AskDown, Users, CopyNow, RetriedOn, RetriedDone, CopyAttached, OpenedReply, JoinReply, JoinedReply, LostReply, FullDead, OkReply, NoReply, KeptReply, FirstReply, LeftFull, LeftStuck, LeftIdle, CloseDone, CloseFull, CloseStuck}
 
 dialog_sent_unanswered : (c : Client) (conns : ℕ → Conn) (s : Server) (a : ℕ → ℕ) (k n0 : ℕ) (m0 : Message) → Unanswered c conns → Unanswered c (put conns k (send_up (conns k) ForDialog m0 n0))
 dialog_sent_unanswered c conns s a k n0 m0 i_unanswered =
@@ -100,12 +99,8 @@ dialog_sent_close_stuck : (c : Client) (conns : ℕ → Conn) (s : Server) (a : 
 dialog_sent_close_stuck c conns s a k n0 m0 i_close_stuck =
     λ j n p y. let old = i_close_stuck j n p y in grind arith
 
-dialog_sent_share_up : (c : Client) (conns : ℕ → Conn) (s : Server) (a : ℕ → ℕ) (k n0 : ℕ) (m0 : Message) → ((sh : List ℕ) → m0.command ≡ TreeConnect sh → sh ≡ c.who.share) → ShareUp c conns → ShareUp c (put conns k (send_up (conns k) ForDialog m0 n0))
-dialog_sent_share_up c conns s a k n0 m0 its i_share_up =
-    λ j n x sh. let old = i_share_up j n x sh in let it = its sh in grind (arith, get-push)
-
-pub dialog_sent_keeps : (c : Client) (conns : ℕ → Conn) (s : Server) (a : ℕ → ℕ) (k n0 : ℕ) (m0 : Message) → ((sh : List ℕ) → m0.command ≡ TreeConnect sh → sh ≡ c.who.share) → Locks c conns s a → Locks c (put conns k (send_up (conns k) ForDialog m0 n0)) s a
-dialog_sent_keeps c conns s a k n0 m0 its i =
+pub dialog_sent_keeps : (c : Client) (conns : ℕ → Conn) (s : Server) (a : ℕ → ℕ) (k n0 : ℕ) (m0 : Message) → Locks c conns s a → Locks c (put conns k (send_up (conns k) ForDialog m0 n0)) s a
+dialog_sent_keeps c conns s a k n0 m0 i =
     record {
       slot_index = i.slot_index;
       user_body = i.user_body;
@@ -149,8 +144,6 @@ dialog_sent_keeps c conns s a k n0 m0 its i =
       close_done = dialog_sent_close_done c conns s a k n0 m0 i.close_done;
       close_full = dialog_sent_close_full c conns s a k n0 m0 i.close_full;
       close_stuck = dialog_sent_close_stuck c conns s a k n0 m0 i.close_stuck;
-      trees_of = i.trees_of;
-      share_up = dialog_sent_share_up c conns s a k n0 m0 its i.share_up;
       made_plain = i.made_plain;
       at_most = i.at_most;
       ok_acted = i.ok_acted;

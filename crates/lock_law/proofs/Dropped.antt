@@ -5,7 +5,7 @@ use Rattle.exchange_defs.specs.State.{Server}
 use Rattle.exchange_defs.specs.Client.{Client}
 use Rattle.exchange_defs.specs.Network.{Conn, server_off}
 use Rattle.exchange_law.proofs.Lists.{get-push}
-use Rattle.lock_law.specs.Locks.{Locks, Unanswered, AskUp, AskDown, Users, CopyNow, RetriedOn, RetriedDone, CopyAttached, OpenedReply, JoinReply, JoinedReply, LostReply, FullDead, OkReply, NoReply, KeptReply, FirstReply, LeftFull, LeftStuck, LeftIdle, CloseDone, CloseFull, CloseStuck, ShareUp}
+use Rattle.lock_law.specs.Locks.{Locks, Unanswered, AskUp, AskDown, Users, CopyNow, RetriedOn, RetriedDone, CopyAttached, OpenedReply, JoinReply, JoinedReply, LostReply, FullDead, OkReply, NoReply, KeptReply, FirstReply, LeftFull, LeftStuck, LeftIdle, CloseDone, CloseFull, CloseStuck}
 
 dropped_unanswered : (c : Client) (conns : ℕ → Conn) (s : Server) (a : ℕ → ℕ) (k : ℕ) → Unanswered c conns → Unanswered c (put conns k (server_off (conns k)))
 dropped_unanswered c conns s a k i_unanswered =
@@ -99,10 +99,6 @@ dropped_close_stuck : (c : Client) (conns : ℕ → Conn) (s : Server) (a : ℕ 
 dropped_close_stuck c conns s a k i_close_stuck =
     λ j n p y. let old = i_close_stuck j n p y in grind arith
 
-dropped_share_up : (c : Client) (conns : ℕ → Conn) (s : Server) (a : ℕ → ℕ) (k : ℕ) → ShareUp c conns → ShareUp c (put conns k (server_off (conns k)))
-dropped_share_up c conns s a k i_share_up =
-    λ j n x sh. let old = i_share_up j n x sh in grind (arith, get-push)
-
 pub dropped_keeps : (c : Client) (conns : ℕ → Conn) (s : Server) (a : ℕ → ℕ) (k : ℕ) → Locks c conns s a → Locks c (put conns k (server_off (conns k))) s a
 dropped_keeps c conns s a k i =
     record {
@@ -148,8 +144,6 @@ dropped_keeps c conns s a k i =
       close_done = dropped_close_done c conns s a k i.close_done;
       close_full = dropped_close_full c conns s a k i.close_full;
       close_stuck = dropped_close_stuck c conns s a k i.close_stuck;
-      trees_of = i.trees_of;
-      share_up = dropped_share_up c conns s a k i.share_up;
       made_plain = i.made_plain;
       at_most = i.at_most;
       ok_acted = i.ok_acted;

@@ -10,8 +10,7 @@ use Rattle.exchange_defs.specs.Network.{Conn}
 use Rattle.exchange_law.specs.Connections.{Connections}
 use Rattle.server_law.proofs.Logic.{either}
 use Rattle.server_law.proofs.Doors.{recorded, Before}
-use Rattle.lock_law.specs.Locks.{Locks, piped}
-use Rattle.lock_law.proofs.Trees.{Piped, end_trees}
+use Rattle.lock_law.specs.Locks.{Locks}
 use Rattle.lock_law.proofs.Views.{view, Quiet, same, stays, grows, end_quiet}
 use Rattle.lock_law.proofs.Rooms.{no_room}
 use Rattle.lock_law.proofs.Steady.{Steady, steady_same, bare_of, heads_named}
@@ -50,21 +49,21 @@ by_event P s now e f g = by_due P s now e f g (due (with_deadlines s now) now) r
 no_closes : ℕ → Bool
 no_closes o = false
 
-moved : (c : Client) (conns : ℕ → Conn) (t u : Server) (a : ℕ → ℕ) (rs : List Record) → Lower c conns t → Connections c conns a → Quiet (λ x. is_new x (t.making 0)) no_closes (view t) (view u) → (lower_limit < t.journal + 34 → Steady t u) → Piped (piped c.who.share) u.trees → NoDelete (view u) → Locks c conns t a
+moved : (c : Client) (conns : ℕ → Conn) (t u : Server) (a : ℕ → ℕ) (rs : List Record) → Lower c conns t → Connections c conns a → Quiet (λ x. is_new x (t.making 0)) no_closes (view t) (view u) → (lower_limit < t.journal + 34 → Steady t u) → NoDelete (view u) → Locks c conns t a
     → Locks c conns (record u { journal = u.journal + entry_bytes rs }) a
 unfolding no_closes
-moved c conns t u a rs l C q st tr k i =
+moved c conns t u a rs l C q st k i =
     quiet_keeps c conns t a (record u { journal = u.journal + entry_bytes rs }) a 0 no_closes l C (λ p m. refl) (grows (λ x. is_new x (t.making 0)) no_closes (view t) (view u) (entry_bytes rs) q)
-    (λ big. let x = st big in record { entries = x.entries; marked = x.marked; directory = x.directory; others = x.others }) tr i.made_plain k
+    (λ big. let x = st big in record { entries = x.entries; marked = x.marked; directory = x.directory; others = x.others }) i.made_plain k
     (λ g m s0 un lv p sd e off. absurd (cc)) (λ j n g y h e ok lv p sd x off. absurd (cc)) i
 
 -- ---- a connection is accepted
 
 accepted_locks : (c : Client) (conns : ℕ → Conn) (t : Server) (a : ℕ → ℕ) (k now : ℕ) (rs : List Record) → Lower c conns t → Connections c conns a → Locks c conns t a → (r : Ruling) → (r ≡ TurnsAway) ⊎ (r ≡ TakesIn k) → Locks c conns (recorded (carried_out t now r) rs).server a
-accepted_locks c conns t a k now rs l C i r (inl e) = subst (λ z. Locks c conns (recorded (carried_out t now z) rs).server a) (sym e) (moved c conns t t a rs l C (stays _ _ (view t)) (λ _. steady_same t t refl refl refl refl refl) i.trees_of i.kept_files i)
+accepted_locks c conns t a k now rs l C i r (inl e) = subst (λ z. Locks c conns (recorded (carried_out t now z) rs).server a) (sym e) (moved c conns t t a rs l C (stays _ _ (view t)) (λ _. steady_same t t refl refl refl refl refl) i.kept_files i)
 accepted_locks c conns t a k now rs l C i r (inr e) =
     subst (λ z. Locks c conns (recorded (carried_out t now z) rs).server a) (sym e)
-    (moved c conns t (record t { connections = t.connections ++ k ∷ [] }) a rs l C (same _ _ (view t) _ refl) (λ _. steady_same t _ refl refl refl refl refl) i.trees_of i.kept_files i)
+    (moved c conns t (record t { connections = t.connections ++ k ∷ [] }) a rs l C (same _ _ (view t) _ refl) (λ _. steady_same t _ refl refl refl refl refl) i.kept_files i)
 
 accept_rules : (t : Server) (k : ℕ) → (ruling t (Accept k) ≡ TurnsAway) ⊎ (ruling t (Accept k) ≡ TakesIn k)
 accept_rules t k = either (λ r. (r ≡ TurnsAway) ⊎ (r ≡ TakesIn k)) (nat_le max_connections (length t.connections)) TurnsAway (TakesIn k) (λ _. inl refl) (λ _. inr refl)
@@ -90,7 +89,7 @@ ended_locks : (c : Client) (conns : ℕ → Conn) (t : Server) (a : ℕ → ℕ)
 ended_locks c conns t a k now quiet rs bare l C i =
     moved c conns t (take_out t k now quiet) a rs l C (ended_quiet t k now (ends_with t k) quiet)
     (λ big. let x = named_steady t (origin_at k) now (ends_with t k) quiet (bare big) in record { entries = x.entries; marked = x.marked; directory = x.directory; others = x.others })
-    (end_trees (piped c.who.share) t now (ends_with t k) quiet i.trees_of) (end_kept t now (ends_with t k) quiet i.kept_files) i
+    (end_kept t now (ends_with t k) quiet i.kept_files) i
 
 quiet_none : (t : Server) (k : ℕ) (named : Option ℕ) → records_if_named t (origin_at k) named true ≡ []
 unfolding end_records

@@ -19,8 +19,7 @@ use Rattle.server_law.proofs.Doors.{Before}
 use Rattle.server_law.proofs.Applied.{expired_keeps}
 use Rattle.server_law.proofs.SessionEffects.{deadlines_keeps}
 use Rattle.session_law.specs.Sessions.{RankedUp}
-use Rattle.lock_law.specs.Locks.{Locks, locking, open_at, piped, all_piped}
-use Rattle.lock_law.proofs.Trees.{leave_trees}
+use Rattle.lock_law.specs.Locks.{Locks, locking, open_at, piped}
 use Rattle.lock_law.proofs.Views.{View, view, Quiet, same, leaves_by, without_guid, expire_view, still_named}
 use Rattle.lock_law.proofs.Steady.{Steady, steady_same, goes_on}
 use Rattle.lock_law.proofs.Moves.{moves_keeps}
@@ -49,11 +48,11 @@ was_there c begins closes v u q un x ranked p = elim (v.present x) as (λ b. v.p
 -- a server that moved quietly, but for the opens that the message closes
 pub quiet_keeps : (c : Client) (conns : ℕ → Conn) (t : Server) (a : ℕ → ℕ) (u : Server) (a2 : ℕ → ℕ) (k : ℕ) (closes : ℕ → Bool)
     → Lower c conns t → Connections c conns a → ((p : ℕ) → locking (c.op p) ≡ true → a2 p ≡ a p) → Quiet (λ x. is_new x (t.making k)) closes (view t) (view u)
-    → (lower_limit < t.journal + 34 → Steady t u) → ((q : ℕ) → all_piped (piped c.who.share) (u.trees q) ≡ true) → ((q : ℕ) → makes_open (c.op q) ≡ true → 1 ≤ a2 q → piped c.who.share ≡ false) → ((o : ℕ) → u.standing o ≡ true → deletes_on_close (u.opened o).options ≡ false)
+    → (lower_limit < t.journal + 34 → Steady t u) → ((q : ℕ) → makes_open (c.op q) ≡ true → 1 ≤ a2 q → piped c.who.share ≡ false) → ((o : ℕ) → u.standing o ≡ true → deletes_on_close (u.opened o).options ≡ false)
     → ((g : ℕ) → locking (c.op g) ≡ true → c.sent g ≡ true → is_unsettled (c.outcome g) ≡ true → c.live ≡ true → u.present c.session ≡ true → t.standing (open_at c g) ≡ true → closes (open_at c g) ≡ true → u.standing (open_at c g) ≡ false → a g ≡ 0)
     → ((j n g : ℕ) (y : Received) → slice_get (conns j).down n ≡ Some y → y.token ≡ ForAttach g → y.reply.status ≡ success → c.live ≡ true → u.present c.session ≡ true → t.standing (open_at c g) ≡ true → closes (open_at c g) ≡ true → u.standing (open_at c g) ≡ false → c.attached (create_at c g) ≡ c.number)
     → Locks c conns t a → Locks c conns u a2
-quiet_keeps c conns t a u a2 k closes l C same_a q steady trees plain keeps shut joined i =
+quiet_keeps c conns t a u a2 k closes l C same_a q steady plain keeps shut joined i =
     moves_keeps c conns t a u a2 same_a q.journal
     (λ j n x h o p. stay x.message.session (l.ranked_up j n x h o) p)
     stay_now
@@ -63,7 +62,7 @@ quiet_keeps c conns t a u a2 k closes l C same_a q steady trees plain keeps shut
     (λ p m ok st. ap (λ z. z.persistent) (q.opened (c.file p) (l.given p m ok)))
     (λ p m ok st pl g big. goes_on t u (c.file p) (steady big) (q.opened (c.file p) (l.given p m ok)) (i.kept_files (c.file p) (q.standing (c.file p) (l.given p m ok) st)) g)
     (λ p r o m ok e. unmade p r o m ok e)
-    trees plain keeps
+    plain keeps
     (λ j n g y h e m ok st. q.standing (id_in y.reply.body) (l.reply_given j n g y h e m ok) st)
     (λ g m s0 un lv at1 p st off. closed_not g m s0 un lv at1 p st off)
     (λ j n g y h e ok lv p st off. joined_now j n g y h e ok lv p st off)
@@ -133,13 +132,6 @@ mark_making s client (Some g) = refl
 expire_making : (s : Server) (o : ℕ) → (expire s o).making ≡ s.making
 expire_making s o = mark_making (leave_open s o) (s.opened o).client (s.opened o).guid ∙ leave_making s o
 
-mark_trees : (s : Server) (client : ℕ) (q : Option ℕ) → (add_mark s client q).trees ≡ s.trees
-mark_trees s client None = refl
-mark_trees s client (Some g) = refl
-
-expire_trees : (s : Server) (o : ℕ) → (expire s o).trees ≡ s.trees
-expire_trees s o = mark_trees (leave_open s o) (s.opened o).client (s.opened o).guid ∙ leave_trees s o
-
 none_of : ℕ → Bool
 none_of o = false
 
@@ -151,7 +143,7 @@ unfolding none_of
 due_keeps c conns s a now l C i = (
   record { given = l.given; reply_given = l.reply_given; ranked_up = l.ranked_up; unranked = l.unranked; lives = l.lives; attached = l.attached; named_given = l.named_given; fits = deadlines_keeps s now l.fits },
   quiet_keeps c conns s a (with_deadlines s now) a 0 none_of l C (λ p m. refl) (same (λ x. is_new x (s.making 0)) none_of (view s) (view (with_deadlines s now)) refl) (λ _. steady_same s (with_deadlines s now) refl refl refl refl refl)
-      i.trees_of i.made_plain i.kept_files (λ g m s0 u lv p st e off. absurd (cc)) (λ j n g y h e ok lv p st x off. absurd (cc)) i,
+      i.made_plain i.kept_files (λ g m s0 u lv p st e off. absurd (cc)) (λ j n g y h e ok lv p st x off. absurd (cc)) i,
 )
 
 expire_keeps : (c : Client) (conns : ℕ → Conn) (s : Server) (a : ℕ → ℕ) (now o : ℕ) → due s now ≡ Some o → (lower_limit < s.journal + 34 → expire s o ≡ s) → Lower c conns s → Connections c conns a → Locks c conns s a → Behind c conns a (expire s o)
@@ -171,7 +163,7 @@ expire_keeps c conns s a now o e full l C i =
       quiet_keeps c conns s a (expire s o) a 0 none_of l C (λ p m. refl)
           (subst (λ z. Quiet (λ x. is_new x (s.making 0)) none_of (view s) z) (sym v) (leaves_by (λ x. is_new x (s.making 0)) none_of (view s) o (without_guid s o) (λ p y n at. unattached p y at apart) (λ d g p h. still_named s.by_guid (s.opened o).client (s.opened o).guid d g p h)))
           (λ big. subst (λ z. Steady s z) (sym (full big)) (steady_same s s refl refl refl refl refl))
-          (λ p. subst (λ z. all_piped (piped c.who.share) (z p) ≡ true) (sym (expire_trees s o)) (i.trees_of p)) i.made_plain
+          i.made_plain
           (λ p st. let row : (expire s o).opened ≡ s.opened = ap (λ z. z.opened) v in let st2 : put s.standing o false p ≡ true = subst (λ z. z.standing p ≡ true) v st in subst (λ z. deletes_on_close (z p).options ≡ false) (sym row) (i.kept_files p (grind arith)))
           (λ g m s0 u lv p st e2 off. absurd (cc)) (λ j n g y h t ok lv p st x off. absurd (cc)) i,
     )

@@ -5,7 +5,7 @@ use Rattle.exchange_defs.specs.State.{Server}
 use Rattle.exchange_defs.specs.Client.{Client}
 use Rattle.exchange_defs.specs.Network.{Conn, Sent, behind_front}
 use Rattle.exchange_law.proofs.Lists.{waited}
-use Rattle.lock_law.specs.Locks.{Locks, Unanswered, AskUp, AskDown, Users, CopyNow, RetriedOn, RetriedDone, CopyAttached, OpenedReply, JoinReply, JoinedReply, LostReply, FullDead, OkReply, NoReply, KeptReply, FirstReply, LeftFull, LeftStuck, LeftIdle, CloseDone, CloseFull, CloseStuck, ShareUp}
+use Rattle.lock_law.specs.Locks.{Locks, Unanswered, AskUp, AskDown, Users, CopyNow, RetriedOn, RetriedDone, CopyAttached, OpenedReply, JoinReply, JoinedReply, LostReply, FullDead, OkReply, NoReply, KeptReply, FirstReply, LeftFull, LeftStuck, LeftIdle, CloseDone, CloseFull, CloseStuck}
 
 front_unanswered : (c : Client) (conns : ℕ → Conn) (s : Server) (a : ℕ → ℕ) (k : ℕ) (x0 : Sent) (rest : List Sent) → ((conns k).up ≡ x0 ∷ rest) → Unanswered c conns → Unanswered c (put conns k (behind_front (conns k) rest))
 front_unanswered c conns s a k x0 rest is i_unanswered =
@@ -99,10 +99,6 @@ front_close_stuck : (c : Client) (conns : ℕ → Conn) (s : Server) (a : ℕ �
 front_close_stuck c conns s a k x0 rest is i_close_stuck =
     λ j n p y. let old = i_close_stuck j n p y in grind arith
 
-front_share_up : (c : Client) (conns : ℕ → Conn) (s : Server) (a : ℕ → ℕ) (k : ℕ) (x0 : Sent) (rest : List Sent) → ((conns k).up ≡ x0 ∷ rest) → ShareUp c conns → ShareUp c (put conns k (behind_front (conns k) rest))
-front_share_up c conns s a k x0 rest is i_share_up =
-    λ j n x sh h. let w = waited conns k x0 rest j n x is h in let old = i_share_up j w.0 x sh w.1 in grind arith
-
 pub front_keeps : (c : Client) (conns : ℕ → Conn) (s : Server) (a : ℕ → ℕ) (k : ℕ) (x0 : Sent) (rest : List Sent) → ((conns k).up ≡ x0 ∷ rest) → Locks c conns s a → Locks c (put conns k (behind_front (conns k) rest)) s a
 front_keeps c conns s a k x0 rest is i =
     record {
@@ -148,8 +144,6 @@ front_keeps c conns s a k x0 rest is i =
       close_done = front_close_done c conns s a k x0 rest is i.close_done;
       close_full = front_close_full c conns s a k x0 rest is i.close_full;
       close_stuck = front_close_stuck c conns s a k x0 rest is i.close_stuck;
-      trees_of = i.trees_of;
-      share_up = front_share_up c conns s a k x0 rest is i.share_up;
       made_plain = i.made_plain;
       at_most = i.at_most;
       ok_acted = i.ok_acted;

@@ -17,8 +17,9 @@ use Rattle.recovery_law.specs.Restarted.{Restarted}
 use Rattle.recovery_law.proofs.Worlds.{recovers}
 use Rattle.recovery_law.proofs.Restarts.{restarted as restarted_by}
 use Rattle.session_law.proofs.Always.{sessions}
+use Rattle.session_law.proofs.KindsAlways.{kinds}
 use Rattle.create_law.proofs.Law.{creates, at_most_of, acknowledged_of, never_of}
-use Rattle.lock_law.specs.Locks.{locking, refused_for_good, all_piped}
+use Rattle.lock_law.specs.Locks.{locking, refused_for_good}
 use Rattle.lock_law.proofs.Pushing.{Holds}
 use Rattle.lock_law.proofs.Run.{Known, keeps}
 use Rattle.server_law.proofs.Logic.{other_on}
@@ -57,14 +58,14 @@ known : (z : Settings) → (es : List Event) → Known (run es (start z)) (acts 
 known z es =
     let w : World = run es (start z) in
     record {
-      under = record { links = connections z es; sessions = sessions z es; creates = creates z es; fits = fitting z es };
+      under = record { links = connections z es; sessions = sessions z es; kinds = kinds z es; creates = creates z es; fits = fitting z es };
       pushed = λ k slotless pick ready. pushed_of w (acts es (start z)) k slotless pick ready (one_event_on (λ (v : World) a. Connections v.client v.conns a) z (connections z) es (Push k slotless pick));
       anew = anew_at w (recovers z (fitting z) es);
       anew_kept = λ k may. anew_kept w k may (one_event_on (λ (v : World) a. Recovers v.records v.server) z (recovers z (fitting z)) es (Serve k));
     }
 
 begins : (z : Settings) → Holds (start z) (λ g. 0)
-unfolding fold_from sweep all_piped
+unfolding fold_from sweep
 begins z =
     record {
       slot_index = λ g s. absurd (cc);
@@ -109,8 +110,6 @@ begins z =
       close_done = λ k n h y e. absurd (cc);
       close_full = λ k n h y e. absurd (cc);
       close_stuck = λ k n h y e. absurd (cc);
-      trees_of = λ x. refl;
-      share_up = λ k n x sh h. absurd (cc);
       made_plain = λ q m l. absurd (omega (arith, l));
       at_most = λ g l. omega arith;
       ok_acted = λ g l e. absurd (cc);

@@ -5,7 +5,6 @@ pub mod Verdicts
 pub mod Steady
 pub mod Bare
 pub mod Undeleting
-pub mod Trees
 pub mod Submit
 pub mod Opened
 pub mod Dropped

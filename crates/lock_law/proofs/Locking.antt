@@ -30,7 +30,7 @@ use Rattle.lock_law.proofs.Words.{lock_kind, lock_stays, lock_once, ok_of, made_
 use Rattle.lock_law.proofs.Verdicts.{closes_in, is_slot_verdict}
 use Rattle.lock_law.proofs.Rooms.{room_for_lock}
 use Rattle.lock_law.proofs.Sees.{LockSees, Deleted, NoTree, Away, Done, Again, Refused, Granted}
-use Rattle.lock_law.proofs.Serving.{Serving, Served, counted, not_acted, of_unmade, plain_other, adds_at, quiet_serve}
+use Rattle.lock_law.proofs.Serving.{Serving, Served, counted, not_acted, of_unmade, plain_other, quiet_serve}
 use Rattle.lock_law.proofs.Writes.{writes_keeps}
 use Rattle.lock_law.proofs.Say.{MaySay}
 
@@ -228,7 +228,7 @@ present_of c conns t a k g x0 w on = w.serving.low.fits.on_present x0.message.co
 quiet_lock : (c : Client) (conns : ℕ → Conn) (t : Server) (a : ℕ → ℕ) (k g : ℕ) (x0 : Sent) (now : ℕ) (v : Verdict) (rs : List Record) → Copy c conns t a k g x0 → (v ≡ check t x0.message) ⊎ (v ≡ without_room (check t x0.message)) → is_slot_verdict v ≡ false
     → (apply t x0.message now v).records ≡ [] → (apply t x0.message now v).acted ≡ false → Locks c conns (recorded (apply t x0.message now v) rs).server (counted a x0.token (apply t x0.message now v).acted)
 quiet_lock c conns t a k g x0 now v rs w is off bare quiet =
-    quiet_serve c conns t a k x0 now v rs (counted a x0.token (apply t x0.message now v).acted) w.serving (found t x0.message v is) off (λ big. bare) (adds_at c conns t a k x0 v w.serving is)
+    quiet_serve c conns t a k x0 now v rs (counted a x0.token (apply t x0.message now v).acted) w.serving (found t x0.message v is) off (λ big. bare)
     (plain_other c conns t a k x0 _ w.serving (λ p m. ap (is_send_of p) w.token ∙ of_unmade c g p (lock_kind (c.op g) w.lock) m))
     (λ p m. not_acted a x0.token (apply t x0.message now v).acted p quiet)
     (λ h m s0 u lv p st cl off2. let n = no_close x0.message.command (open_at c g) (c.slot_of g) (c.number_of g) (open_at c h) (elements_in (c.op g)) w.command in absurd (grind arith))

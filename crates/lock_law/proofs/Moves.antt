@@ -9,7 +9,7 @@ use Rattle.exchange_defs.specs.Client.{Client, guid_for}
 use Rattle.exchange_defs.specs.Network.{Conn, Sent, Received, ForOp, ForAttach}
 use Rattle.exchange_law.specs.Connections.{Connections, makes_open, create_at, Taken, Creates, HasOpen, Bodies, SentReplies}
 use Rattle.session_law.specs.Sessions.{is_ops}
-use Rattle.lock_law.specs.Locks.{Locks, locking, open_at, goes_with, piped, all_piped, UserBody, AskDown, Users, CopyNow, RetriedOn, RetriedDone, CopyAttached, NowAttached, OpenedReply, JoinReply, JoinedReply, LostReply, KeptSays, NotKept, FirmKept, NoUser, NoSlots, FullDead, OkReply, NoReply, KeptReply, FirstReply, ClosedNot, KeptFiles, LeftFull, LeftStuck, LeftIdle, CloseDone, CloseFull, CloseStuck, TreesOf, MadePlain, AtMost, OkActed, RefusedNot}
+use Rattle.lock_law.specs.Locks.{Locks, locking, open_at, goes_with, piped, UserBody, AskDown, Users, CopyNow, RetriedOn, RetriedDone, CopyAttached, NowAttached, OpenedReply, JoinReply, JoinedReply, LostReply, KeptSays, NotKept, FirmKept, NoUser, NoSlots, FullDead, OkReply, NoReply, KeptReply, FirstReply, ClosedNot, KeptFiles, LeftFull, LeftStuck, LeftIdle, CloseDone, CloseFull, CloseStuck, MadePlain, AtMost, OkActed, RefusedNot}
 use Rattle.lock_law.proofs.Words.{lock_kind, close_kind, ok_of, made_of, own_ops}
 
 moves_users : (c : Client) (conns : ℕ → Conn) (s : Server) (a : ℕ → ℕ) (s2 : Server) (a2 : ℕ → ℕ) → (s.journal ≤ s2.journal) → ((j n : ℕ) (x : Sent) → slice_get (conns j).up n ≡ Some x → is_ops x.token ≡ true → s2.present x.message.session ≡ true → s.present x.message.session ≡ true) → Users c conns s → Users c conns s2
@@ -124,10 +124,6 @@ moves_close_stuck : (c : Client) (conns : ℕ → Conn) (s : Server) (a : ℕ �
 moves_close_stuck c conns s a s2 a2 journal stands opened stuck C_creates C_has_open C_sent_replies C_taken i_close_stuck =
     λ j n p y h t m. let old = i_close_stuck j n p y h t m in let sent = C_sent_replies j n p y h t in let m1 = close_kind (c.op p) m in let ok1 = ok_of c C_has_open p sent m1 in let mk = made_of c C_taken C_creates p sent m1 in let sd = stands (create_at c p) mk ok1 in let op1 = opened (create_at c p) mk ok1 in let sk = stuck (create_at c p) mk ok1 in grind arith
 
-moves_trees_of : (c : Client) (conns : ℕ → Conn) (s : Server) (a : ℕ → ℕ) (s2 : Server) (a2 : ℕ → ℕ) → (s.journal ≤ s2.journal) → ((q : ℕ) → all_piped (piped c.who.share) (s2.trees q) ≡ true) → TreesOf c s → TreesOf c s2
-moves_trees_of c conns s a s2 a2 journal trees i_trees_of =
-    λ q. trees q
-
 moves_made_plain : (c : Client) (conns : ℕ → Conn) (s : Server) (a : ℕ → ℕ) (s2 : Server) (a2 : ℕ → ℕ) → (s.journal ≤ s2.journal) → ((q : ℕ) → makes_open (c.op q) ≡ true → 1 ≤ a2 q → piped c.who.share ≡ false) → MadePlain c a → MadePlain c a2
 moves_made_plain c conns s a s2 a2 journal plain i_made_plain =
     λ q m l. plain q m l
@@ -144,8 +140,8 @@ moves_refused_not : (c : Client) (conns : ℕ → Conn) (s : Server) (a : ℕ �
 moves_refused_not c conns s a s2 a2 same_a journal i_refused_not =
     λ p m. let old = i_refused_not p m in let sa = same_a p m in grind arith
 
-pub moves_keeps : (c : Client) (conns : ℕ → Conn) (s : Server) (a : ℕ → ℕ) (s2 : Server) (a2 : ℕ → ℕ) → ((p : ℕ) → locking (c.op p) ≡ true → a2 p ≡ a p) → (s.journal ≤ s2.journal) → ((j n : ℕ) (x : Sent) → slice_get (conns j).up n ≡ Some x → is_ops x.token ≡ true → s2.present x.message.session ≡ true → s.present x.message.session ≡ true) → (c.live ≡ true → s2.present c.session ≡ true → s.present c.session ≡ true) → ((q : ℕ) → makes_open (c.op q) ≡ true → is_ok (c.outcome q) ≡ true → s2.standing (c.file q) ≡ true → s.standing (c.file q) ≡ true) → ((o y : ℕ) → s.at o ≡ Some y → s2.standing o ≡ true → s2.present y ≡ true → s2.at o ≡ Some y) → ((q r : ℕ) → makes_open (c.op q) ≡ true → is_ok (c.outcome q) ≡ true → s2.standing (c.file q) ≡ true → s2.slots (c.file q) r ≡ s.slots (c.file q) r) → ((q : ℕ) → makes_open (c.op q) ≡ true → is_ok (c.outcome q) ≡ true → s2.standing (c.file q) ≡ true → (s2.opened (c.file q)).persistent ≡ (s.opened (c.file q)).persistent) → ((q : ℕ) → makes_open (c.op q) ≡ true → is_ok (c.outcome q) ≡ true → s2.standing (c.file q) ≡ true → (s.opened (c.file q)).persistent ≡ false → goes_with s (c.file q) ≡ true → lower_limit < s.journal + 34 → goes_with s2 (c.file q) ≡ true) → ((q r o : ℕ) → makes_open (c.op q) ≡ true → is_ok (c.outcome q) ≡ false → s2.by_guid c.who.guid (guid_for c q) ≡ Some o → s2.slots o r ≡ None) → ((q : ℕ) → all_piped (piped c.who.share) (s2.trees q) ≡ true) → ((q : ℕ) → makes_open (c.op q) ≡ true → 1 ≤ a2 q → piped c.who.share ≡ false) → ((o : ℕ) → s2.standing o ≡ true → deletes_on_close (s2.opened o).options ≡ false) → ((j n g : ℕ) (y : Received) → slice_get (conns j).down n ≡ Some y → y.token ≡ ForOp g → makes_open (c.op g) ≡ true → y.reply.status ≡ success → s2.standing (id_in y.reply.body) ≡ true → s.standing (id_in y.reply.body) ≡ true) → ((g : ℕ) → locking (c.op g) ≡ true → c.sent g ≡ true → is_unsettled (c.outcome g) ≡ true → c.live ≡ true → c.attached (create_at c g) ≡ c.number → s2.present c.session ≡ true → s.standing (open_at c g) ≡ true → s2.standing (open_at c g) ≡ false → a g ≡ 0) → ((j n g : ℕ) (y : Received) → slice_get (conns j).down n ≡ Some y → y.token ≡ ForAttach g → y.reply.status ≡ success → c.live ≡ true → s2.present c.session ≡ true → s.standing (open_at c g) ≡ true → s2.standing (open_at c g) ≡ false → c.attached (create_at c g) ≡ c.number) → Connections c conns a → Locks c conns s a → Locks c conns s2 a2
-moves_keeps c conns s a s2 a2 same_a journal stay stay_now stands keeps_at slots opened stuck unmade trees plain keeps open_stands closed joined C i =
+pub moves_keeps : (c : Client) (conns : ℕ → Conn) (s : Server) (a : ℕ → ℕ) (s2 : Server) (a2 : ℕ → ℕ) → ((p : ℕ) → locking (c.op p) ≡ true → a2 p ≡ a p) → (s.journal ≤ s2.journal) → ((j n : ℕ) (x : Sent) → slice_get (conns j).up n ≡ Some x → is_ops x.token ≡ true → s2.present x.message.session ≡ true → s.present x.message.session ≡ true) → (c.live ≡ true → s2.present c.session ≡ true → s.present c.session ≡ true) → ((q : ℕ) → makes_open (c.op q) ≡ true → is_ok (c.outcome q) ≡ true → s2.standing (c.file q) ≡ true → s.standing (c.file q) ≡ true) → ((o y : ℕ) → s.at o ≡ Some y → s2.standing o ≡ true → s2.present y ≡ true → s2.at o ≡ Some y) → ((q r : ℕ) → makes_open (c.op q) ≡ true → is_ok (c.outcome q) ≡ true → s2.standing (c.file q) ≡ true → s2.slots (c.file q) r ≡ s.slots (c.file q) r) → ((q : ℕ) → makes_open (c.op q) ≡ true → is_ok (c.outcome q) ≡ true → s2.standing (c.file q) ≡ true → (s2.opened (c.file q)).persistent ≡ (s.opened (c.file q)).persistent) → ((q : ℕ) → makes_open (c.op q) ≡ true → is_ok (c.outcome q) ≡ true → s2.standing (c.file q) ≡ true → (s.opened (c.file q)).persistent ≡ false → goes_with s (c.file q) ≡ true → lower_limit < s.journal + 34 → goes_with s2 (c.file q) ≡ true) → ((q r o : ℕ) → makes_open (c.op q) ≡ true → is_ok (c.outcome q) ≡ false → s2.by_guid c.who.guid (guid_for c q) ≡ Some o → s2.slots o r ≡ None) → ((q : ℕ) → makes_open (c.op q) ≡ true → 1 ≤ a2 q → piped c.who.share ≡ false) → ((o : ℕ) → s2.standing o ≡ true → deletes_on_close (s2.opened o).options ≡ false) → ((j n g : ℕ) (y : Received) → slice_get (conns j).down n ≡ Some y → y.token ≡ ForOp g → makes_open (c.op g) ≡ true → y.reply.status ≡ success → s2.standing (id_in y.reply.body) ≡ true → s.standing (id_in y.reply.body) ≡ true) → ((g : ℕ) → locking (c.op g) ≡ true → c.sent g ≡ true → is_unsettled (c.outcome g) ≡ true → c.live ≡ true → c.attached (create_at c g) ≡ c.number → s2.present c.session ≡ true → s.standing (open_at c g) ≡ true → s2.standing (open_at c g) ≡ false → a g ≡ 0) → ((j n g : ℕ) (y : Received) → slice_get (conns j).down n ≡ Some y → y.token ≡ ForAttach g → y.reply.status ≡ success → c.live ≡ true → s2.present c.session ≡ true → s.standing (open_at c g) ≡ true → s2.standing (open_at c g) ≡ false → c.attached (create_at c g) ≡ c.number) → Connections c conns a → Locks c conns s a → Locks c conns s2 a2
+moves_keeps c conns s a s2 a2 same_a journal stay stay_now stands keeps_at slots opened stuck unmade plain keeps open_stands closed joined C i =
     record {
       slot_index = i.slot_index;
       user_body = i.user_body;
@@ -189,8 +185,6 @@ moves_keeps c conns s a s2 a2 same_a journal stay stay_now stands keeps_at slots
       close_done = moves_close_done c conns s a s2 a2 journal stands opened C.creates C.has_open C.sent_replies C.taken i.close_done;
       close_full = moves_close_full c conns s a s2 a2 journal stands opened C.creates C.has_open C.sent_replies C.taken i.close_full;
       close_stuck = moves_close_stuck c conns s a s2 a2 journal stands opened stuck C.creates C.has_open C.sent_replies C.taken i.close_stuck;
-      trees_of = moves_trees_of c conns s a s2 a2 journal trees i.trees_of;
-      share_up = i.share_up;
       made_plain = moves_made_plain c conns s a s2 a2 journal plain i.made_plain;
       at_most = moves_at_most c conns s a s2 a2 same_a journal i.at_most;
       ok_acted = moves_ok_acted c conns s a s2 a2 same_a journal i.ok_acted;

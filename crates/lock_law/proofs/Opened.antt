@@ -6,7 +6,7 @@ use Rattle.exchange_defs.specs.Client.{Client}
 use Rattle.exchange_defs.specs.Dialogs.{open_channel}
 use Rattle.exchange_defs.specs.Network.{Conn, fresh as fresh_conn}
 use Rattle.exchange_law.proofs.Lists.{get-push}
-use Rattle.lock_law.specs.Locks.{Locks, Unanswered, AskUp, AskDown, Users, CopyNow, RetriedOn, RetriedDone, CopyAttached, OpenedReply, JoinReply, JoinedReply, LostReply, FullDead, OkReply, NoReply, KeptReply, FirstReply, LeftFull, LeftStuck, LeftIdle, CloseDone, CloseFull, CloseStuck, ShareUp}
+use Rattle.lock_law.specs.Locks.{Locks, Unanswered, AskUp, AskDown, Users, CopyNow, RetriedOn, RetriedDone, CopyAttached, OpenedReply, JoinReply, JoinedReply, LostReply, FullDead, OkReply, NoReply, KeptReply, FirstReply, LeftFull, LeftStuck, LeftIdle, CloseDone, CloseFull, CloseStuck}
 
 opened_unanswered : (c : Client) (conns : ℕ → Conn) (s : Server) (a : ℕ → ℕ) (k : ℕ) (served : Bool) → ((conns k).client_open ≡ false) → Unanswered c conns → Unanswered (open_channel c k) (put conns k (fresh_conn c k served))
 opened_unanswered c conns s a k served closed i_unanswered =
@@ -100,10 +100,6 @@ opened_close_stuck : (c : Client) (conns : ℕ → Conn) (s : Server) (a : ℕ �
 opened_close_stuck c conns s a k served closed i_close_stuck =
     λ j n p y. let old = i_close_stuck j n p y in grind (arith, get-push)
 
-opened_share_up : (c : Client) (conns : ℕ → Conn) (s : Server) (a : ℕ → ℕ) (k : ℕ) (served : Bool) → ((conns k).client_open ≡ false) → ShareUp c conns → ShareUp (open_channel c k) (put conns k (fresh_conn c k served))
-opened_share_up c conns s a k served closed i_share_up =
-    λ j n x sh. let old = i_share_up j n x sh in grind (arith, get-push)
-
 pub opened_keeps : (c : Client) (conns : ℕ → Conn) (s : Server) (a : ℕ → ℕ) (k : ℕ) (served : Bool) → ((conns k).client_open ≡ false) → Locks c conns s a → Locks (open_channel c k) (put conns k (fresh_conn c k served)) s a
 opened_keeps c conns s a k served closed i =
     record {
@@ -149,8 +145,6 @@ opened_keeps c conns s a k served closed i =
       close_done = opened_close_done c conns s a k served closed i.close_done;
       close_full = opened_close_full c conns s a k served closed i.close_full;
       close_stuck = opened_close_stuck c conns s a k served closed i.close_stuck;
-      trees_of = i.trees_of;
-      share_up = opened_share_up c conns s a k served closed i.share_up;
       made_plain = i.made_plain;
       at_most = i.at_most;
       ok_acted = i.ok_acted;

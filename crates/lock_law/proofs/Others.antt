@@ -5,6 +5,7 @@ use Rattle.exchange_defs.specs.Table.{put, is_at}
 use Rattle.exchange_defs.specs.Status.{success, user_session_deleted, object_name_not_found, disk_full}
 use Rattle.exchange_defs.specs.Texts.{same_name}
 use Rattle.exchange_defs.specs.Commands.{Command, Create, Close, CreateRequest, Durable, Reconnect, create_form, Lock, Element}
+use Rattle.exchange_defs.specs.CheckSetup.{tree_in}
 use Rattle.exchange_defs.specs.State.{Server, Message, Record}
 use Rattle.exchange_defs.specs.Check.{check}
 use Rattle.exchange_defs.specs.CheckCreate.{has_guid, refused_by}
@@ -25,11 +26,11 @@ use Rattle.session_law.specs.Sessions.{is_ops, is_dialog, logon_user}
 use Rattle.create_law.specs.Creates.{seen, named, guid_at, keeps_form}
 use Rattle.create_law.proofs.Requests.{create_asked, asks_create, asks_durable, asks_new, same_guid}
 use Rattle.lock_law.specs.Locks.{Locks, locking, open_at, piped}
-use Rattle.lock_law.proofs.Trees.{piped_in}
+use Rattle.session_law.specs.Kinds.{TreeKinds}
 use Rattle.lock_law.proofs.Views.{make_view}
 use Rattle.lock_law.proofs.Verdicts.{closes_in, is_slot_verdict}
 use Rattle.lock_law.proofs.Sees.{AskSees, Deleted3, NoTree3, Gone, Other, Held, Attached, ask_sees, create_says, create_sees}
-use Rattle.lock_law.proofs.Serving.{Serving, Served, counted, not_acted, not_sent, of_other, of_unmade, plain_other, adds_at, quiet_serve}
+use Rattle.lock_law.proofs.Serving.{Serving, Served, counted, not_acted, not_sent, of_other, of_unmade, plain_other, quiet_serve}
 use Rattle.lock_law.proofs.Say.{MaySay}
 
 -- ---- what isn't a lock's
@@ -80,7 +81,7 @@ pub other_keeps : (c : Client) (conns : ℕ → Conn) (t : Server) (a : ℕ → 
     → Locks c conns (recorded (apply t x0.message now v) rs).server (counted a x0.token (apply t x0.message now v).acted)
 other_keeps c conns t a k x0 now v rs w q oth unsent plain =
     let f = found t x0.message v q.0 in
-    quiet_serve c conns t a k x0 now v rs (counted a x0.token (apply t x0.message now v).acted) w f (slots_of t x0.message v f (λ o i n es. no_lock x0.message.command o i n es oth)) q.1 (adds_at c conns t a k x0 v w q.0) plain
+    quiet_serve c conns t a k x0 now v rs (counted a x0.token (apply t x0.message now v).acted) w f (slots_of t x0.message v f (λ o i n es. no_lock x0.message.command o i n es oth)) q.1 plain
     (λ p m. not_sent a x0.token (apply t x0.message now v).acted p (unsent p m))
     (λ g m s0 u lv p st cl off. let n = no_close x0.message.command (open_at c g) oth in absurd (grind arith))
     (λ j n g y h e ok lv p st cl off. let n1 = no_close x0.message.command (open_at c g) oth in absurd (grind arith))
@@ -246,8 +247,17 @@ says_of t m v (inr e) h = ap create_says e ∙ says_room (check t m) h
 still_count : (a : ℕ → ℕ) (tk : Token) (p n : ℕ) (acted : Bool) → acted ≡ false → 1 ≤ counted a tk acted p → 1 ≤ a p
 still_count a tk p n acted e l = subst (λ z. 1 ≤ z) (not_acted a tk acted p e) l
 
+-- a tree is of the pipes exactly where the client's share is
+plain_tree : (c : Client) (t : Server) (x id : ℕ) → TreeKinds c t → tree_in (t.trees x) id ≡ Some false → piped c.who.share ≡ false
+unfolding piped
+plain_tree c t x id kinds e = sym (kinds x id false e)
+
+tree_plain : (c : Client) (t : Server) (x id : ℕ) (pipes : Bool) → TreeKinds c t → tree_in (t.trees x) id ≡ Some pipes → piped c.who.share ≡ false → pipes ≡ false
+unfolding piped
+tree_plain c t x id pipes kinds e plain = kinds x id pipes e ∙ plain
+
 plain_create : (c : Client) (conns : ℕ → Conn) (t : Server) (a : ℕ → ℕ) (k : ℕ) (x0 : Sent) (now : ℕ) (v : Verdict) → Serving c conns t a k x0 → Facts t x0.message v → create_says v ≡ true → (q : ℕ) → makes_open (c.op q) ≡ true → 1 ≤ counted a x0.token (apply t x0.message now v).acted q → piped c.who.share ≡ false
-plain_create c conns t a k x0 now (Make r found1 action) w f e q m l = sym (piped_in (piped c.who.share) (t.trees x0.message.session) x0.message.tree false (w.locks.trees_of x0.message.session) f.new.create.tree)
+plain_create c conns t a k x0 now (Make r found1 action) w f e q m l = plain_tree c t x0.message.session x0.message.tree w.kinds f.new.create.tree
 plain_create c conns t a k x0 now (Refuse status) w f e q m l = w.locks.made_plain q m (still_count a x0.token q 0 false refl l)
 plain_create c conns t a k x0 now (KeepRefusal guid status) w f e q m l = w.locks.made_plain q m (still_count a x0.token q 0 false refl l)
 plain_create c conns t a k x0 now (Repeat o r) w f e q m l = w.locks.made_plain q m (still_count a x0.token q 0 false refl l)
@@ -418,7 +428,7 @@ serves_ask c conns t a k x0 now v rs g w q tk =
     let r = asked_again op guid file in
     let is : x0.message.command ≡ Create r = ad.4 ∙ ask_request op guid file cr.2 in
     let fm = ask_form op guid file cr.2 (w.creates.form_acted (create_at c g) cr.2 (w.creates.ok_acted (create_at c g) cr.2 ad.3)) in
-    let sees = ask_of t x0.message r (record { file = file; guid = guid }) v q.0 (ask_sees t x0.message r (record { file = file; guid = guid }) w.fault is (ask_reconnect op guid file cr.2) fm (λ pipes e. piped_in (piped c.who.share) (t.trees x0.message.session) x0.message.tree pipes (w.locks.trees_of x0.message.session) e ∙ w.locks.made_plain (create_at c g) cr.2 (w.creates.ok_acted (create_at c g) cr.2 ad.3))) in
+    let sees = ask_of t x0.message r (record { file = file; guid = guid }) v q.0 (ask_sees t x0.message r (record { file = file; guid = guid }) w.fault is (ask_reconnect op guid file cr.2) fm (λ pipes e. tree_plain c t x0.message.session x0.message.tree pipes w.kinds e (w.locks.made_plain (create_at c g) cr.2 (w.creates.ok_acted (create_at c g) cr.2 ad.3)))) in
     let says = asked_by c conns t a k x0 now g r v w tk cr.2 ad.3 sees in (
       other_keeps c conns t a k x0 now v rs w q (ap is_other ad.4 ∙ ask_other op guid file) (λ p f. ap (is_send_of p) tk) (plain_other c conns t a k x0 _ w (λ p f. ap (is_send_of p) tk)),
       λ o place. let cur = w.current (ap is_ops tk) o in

@@ -2,8 +2,8 @@
 use Rattle.std.proofs.Common.{eqb-true, ◌≡◌, ℕ, ◌+◌, ◌≤◌, ◌==◌, Bool, true, false, not, ◌&&◌, if◌then◌else◌, List, [], ◌∷◌, refl, arith, sym, subst, ◌∙◌, ap, Option, Some, None, slice_get}
 use Rattle.exchange_defs.specs.Table.{put, is_filled}
 use Rattle.exchange_defs.specs.Status.{success, user_session_deleted}
-use Rattle.exchange_defs.specs.Commands.{TreeConnect, deletes_on_close}
-use Rattle.exchange_defs.specs.State.{Server, Reply, Answer, Open as OpenRow, Tree}
+use Rattle.exchange_defs.specs.Commands.{deletes_on_close}
+use Rattle.exchange_defs.specs.State.{Server, Reply, Answer, Open as OpenRow}
 use Rattle.exchange_defs.specs.Records.{entry_bytes}
 use Rattle.exchange_defs.specs.Fold.{recovery_records}
 use Rattle.exchange_defs.specs.Operations.{Op, Outcome, Unsettled, WasOk, WasRefused, NoSlot, NoOpen, Unknown, NoSession, Why, SessionLost, is_unsettled, is_ok, is_create, persists, create_of, id_in, value_in, OpReply}
@@ -25,7 +25,7 @@ use Rattle.recovery_law.specs.Restarted.{Restarted}
 use Rattle.recovery_law.proofs.Restarts.{was_named, stood}
 use Rattle.create_law.specs.Creates.{Creates, seen, guid_at}
 use Rattle.create_law.proofs.Requests.{same_guid}
-use Rattle.lock_law.specs.Locks.{Locks, firm, refused_for_good, piped, all_piped}
+use Rattle.lock_law.specs.Locks.{Locks, firm, refused_for_good}
 use Rattle.lock_law.proofs.Words.{down_is_open}
 use Rattle.lock_law.proofs.Serving.{counted, Served}
 use Rattle.lock_law.proofs.Serve.{Under, served}
@@ -142,10 +142,6 @@ serve_open w a k f i false = i
 no_two : (b : Bool) (P : Type 0) → b ≡ true → b ≡ false → P
 no_two b P e f = absurd (grind arith)
 
-none_piped : (p : Bool) (ts : List Tree) → ts ≡ [] → all_piped p ts ≡ true
-unfolding all_piped
-none_piped p ts e = rw e refl
-
 more_journal : (n m : ℕ) → n ≤ n + m
 more_journal n m = omega arith
 
@@ -160,7 +156,6 @@ anew_locks c conns s u a C grown r i =
     (λ q m ok st. ap (λ (z : OpenRow). z.persistent) (stood s u r (c.file q) st).2)
     (λ q m ok st pl g big. no_two (s.opened (c.file q)).persistent _ (stood s u r (c.file q) st).1 pl)
     (λ q n o m ok e. let wn = was_named s u r c.who.guid (guid_for c q) o e in r.slots o n wn.1 ∙ i.no_slots q n o m ok wn.0)
-    (λ x. none_piped (piped c.who.share) (u.trees x) (r.bare.no_trees x))
     i.made_plain
     (λ o st. let t = stood s u r o st in subst (λ (z : OpenRow). deletes_on_close z.options ≡ false) (sym t.2) (i.kept_files o t.0))
     (λ j n g y h t m e st. (stood s u r (id_in y.reply.body) st).0)
@@ -271,13 +266,6 @@ took w a k g asking y t gone i =
 
 -- ---- dialogs
 
-its_share : (c : Client) (k id : ℕ) (stage : Stage) (sh : List ℕ) → (dialog_message c k id stage).command ≡ TreeConnect sh → sh ≡ c.who.share
-its_share c k id Apart sh e = absurd (cc)
-its_share c k id (SaidNegotiate bound) sh e = absurd (cc)
-its_share c k id (SaidFirst bound) sh e = absurd (cc)
-its_share c k id (SaidSecond bound) sh e = absurd (cc)
-its_share c k id AskedTree sh e = grind arith
-
 readies_stage : (t : Stage) (status : ℕ) → dialog_step t status ≡ Readies → t ≡ AskedTree
 readies_stage Apart status e = absurd (cc)
 readies_stage (SaidNegotiate bound) status e = absurd (grind arith)
@@ -314,11 +302,11 @@ dialogs : (w : World) (a : ℕ → ℕ) (k : ℕ) (rest : List Received) (y : Re
     → (d : DialogStep) → dialog_step (w.client.stage k) y.reply.status ≡ d → Holds (dialog_took (behind_reply w k rest) k y.reply d) a
 dialogs w a k rest y is b C apart i (GoesOn stage) e =
     let f : ℕ → Conn = put w.conns k (take_front (w.conns k) rest) in
-    dialog_sent_keeps (went_on w.client k stage y.reply) f w.server a k 1 (dialog_message (went_on w.client k stage y.reply) k (f k).next_id stage) (its_share (went_on w.client k stage y.reply) k (f k).next_id stage)
+    dialog_sent_keeps (went_on w.client k stage y.reply) f w.server a k 1 (dialog_message (went_on w.client k stage y.reply) k (f k).next_id stage)
     (went_on_keeps w.client f w.server a k stage y.reply i)
 dialogs w a k rest y is b C apart i Accepts e =
     let f : ℕ → Conn = put w.conns k (take_front (w.conns k) rest) in
-    dialog_sent_keeps (accepted w.client k) f w.server a k 1 (dialog_message (accepted w.client k) k (f k).next_id AskedTree) (its_share (accepted w.client k) k (f k).next_id AskedTree) (accepted_keeps w.client f w.server a k i)
+    dialog_sent_keeps (accepted w.client k) f w.server a k 1 (dialog_message (accepted w.client k) k (f k).next_id AskedTree) (accepted_keeps w.client f w.server a k i)
 dialogs w a k rest y is b C apart i Binds e = bound_keeps w.client (put w.conns k (take_front (w.conns k) rest)) w.server a k i
 dialogs w a k rest y is b C apart i Readies e =
     let st = readies_stage (w.client.stage k) y.reply.status e in

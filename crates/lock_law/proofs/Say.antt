@@ -9,7 +9,7 @@ use Rattle.exchange_defs.specs.Client.{Client}
 use Rattle.exchange_defs.specs.Network.{Conn, Received, ForOp, ForAttach}
 use Rattle.exchange_law.specs.Connections.{makes_open, shuts_open, create_at}
 use Rattle.exchange_law.proofs.Lists.{get-push}
-use Rattle.lock_law.specs.Locks.{Locks, locking, open_at, kept_of, goes_with, Unanswered, AskUp, AskDown, Users, CopyNow, RetriedOn, RetriedDone, CopyAttached, OpenedReply, JoinReply, JoinedReply, LostReply, FullDead, OkReply, NoReply, KeptReply, FirstReply, LeftFull, LeftStuck, LeftIdle, CloseDone, CloseFull, CloseStuck, ShareUp}
+use Rattle.lock_law.specs.Locks.{Locks, locking, open_at, kept_of, goes_with, Unanswered, AskUp, AskDown, Users, CopyNow, RetriedOn, RetriedDone, CopyAttached, OpenedReply, JoinReply, JoinedReply, LostReply, FullDead, OkReply, NoReply, KeptReply, FirstReply, LeftFull, LeftStuck, LeftIdle, CloseDone, CloseFull, CloseStuck}
 
 -- what is to be known of the reply
 pub record MaySay (c : Client) (s : Server) (a : ℕ → ℕ) (y0 : Received) : Type 0 where
@@ -118,10 +118,6 @@ say_close_stuck : (c : Client) (conns : ℕ → Conn) (s : Server) (a : ℕ → 
 say_close_stuck c conns s a k y0 of_close_stuck i_close_stuck =
     λ j n p y. let old = i_close_stuck j n p y in let m1 = of_close_stuck p in grind (arith, get-push)
 
-say_share_up : (c : Client) (conns : ℕ → Conn) (s : Server) (a : ℕ → ℕ) (k : ℕ) (y0 : Received) → ShareUp c conns → ShareUp c (put conns k (record (conns k) { down = (conns k).down ++ y0 ∷ [] }))
-say_share_up c conns s a k y0 i_share_up =
-    λ j n x sh. let old = i_share_up j n x sh in grind arith
-
 pub say_keeps : (c : Client) (conns : ℕ → Conn) (s : Server) (a : ℕ → ℕ) (k : ℕ) (y0 : Received) → ((g : ℕ) → y0.token ≡ ForAttach g → 0 < g × g ≤ c.taken × makes_open (c.op g) ≡ false × is_ok (c.outcome (create_at c g)) ≡ true) → ((g : ℕ) → y0.token ≡ ForOp g → makes_open (c.op g) ≡ true → y0.reply.status ≡ success → c.live ≡ true → s.present c.session ≡ true → s.standing (id_in y0.reply.body) ≡ true → s.at (id_in y0.reply.body) ≡ Some c.session) → ((g : ℕ) → y0.token ≡ ForAttach g → y0.reply.status ≡ success → c.live ≡ true → s.present c.session ≡ true → s.standing (open_at c g) ≡ true → s.at (open_at c g) ≡ Some c.session) → ((g : ℕ) → y0.token ≡ ForAttach g → y0.reply.status ≡ success → c.live ≡ true → s.present c.session ≡ true → s.standing (open_at c g) ≡ false → c.attached (create_at c g) ≡ c.number) → ((g : ℕ) → y0.token ≡ ForAttach g → y0.reply.status ≢ success → y0.reply.status ≢ user_session_deleted → y0.reply.status ≡ object_name_not_found × s.standing (open_at c g) ≡ false) → ((g : ℕ) → y0.token ≡ ForOp g → locking (c.op g) ≡ true → y0.reply.status ≡ success → a g ≡ 1) → ((g : ℕ) → y0.token ≡ ForOp g → locking (c.op g) ≡ true → y0.reply.status ≢ success → y0.reply.status ≢ user_session_deleted → y0.reply.status ≢ disk_full → a g ≡ 0) → ((g : ℕ) → y0.token ≡ ForOp g → locking (c.op g) ≡ true → y0.reply.status ≢ user_session_deleted → y0.reply.status ≢ disk_full → s.standing (open_at c g) ≡ true → is_some (kept_of c s g) ≡ true) → ((g : ℕ) → y0.token ≡ ForOp g → locking (c.op g) ≡ true → y0.reply.status ≢ success → c.before g ≡ false → a g ≡ 0) → ((h : ℕ) → y0.token ≡ ForOp h → shuts_open (c.op h) ≡ true → y0.reply.status ≡ success → s.standing (open_at c h) ≡ false) → ((h : ℕ) → y0.token ≡ ForOp h → shuts_open (c.op h) ≡ true → y0.reply.status ≢ user_session_deleted → y0.reply.status ≢ file_closed → s.standing (open_at c h) ≡ true → (s.opened (open_at c h)).persistent ≡ true → lower_limit < s.journal + 66) → ((h : ℕ) → y0.token ≡ ForOp h → shuts_open (c.op h) ≡ true → y0.reply.status ≢ user_session_deleted → y0.reply.status ≢ file_closed → s.standing (open_at c h) ≡ true → (s.opened (open_at c h)).persistent ≡ false → lower_limit < s.journal + 34 × goes_with s (open_at c h) ≡ true) → Locks c conns s a → Locks c (put conns k (record (conns k) { down = (conns k).down ++ y0 ∷ [] })) s a
 say_keeps c conns s a k y0 of_ask_down of_opened_reply of_join_reply of_joined_reply of_lost_reply of_ok_reply of_no_reply of_kept_reply of_first_reply of_close_done of_close_full of_close_stuck i =
     record {
@@ -167,8 +163,6 @@ say_keeps c conns s a k y0 of_ask_down of_opened_reply of_join_reply of_joined_r
       close_done = say_close_done c conns s a k y0 of_close_done i.close_done;
       close_full = say_close_full c conns s a k y0 of_close_full i.close_full;
       close_stuck = say_close_stuck c conns s a k y0 of_close_stuck i.close_stuck;
-      trees_of = i.trees_of;
-      share_up = say_share_up c conns s a k y0 i.share_up;
       made_plain = i.made_plain;
       at_most = i.at_most;
       ok_acted = i.ok_acted;

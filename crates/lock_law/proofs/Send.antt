@@ -7,7 +7,7 @@ use Rattle.exchange_defs.specs.Client.{Client, outstanding as put_out}
 use Rattle.exchange_defs.specs.Network.{Conn, Sent, ForOp, send_up}
 use Rattle.exchange_law.specs.Connections.{makes_open, create_at}
 use Rattle.exchange_law.proofs.Lists.{get-push}
-use Rattle.lock_law.specs.Locks.{Locks, locking, InUse, Unanswered, AskUp, AskDown, Users, CopyNow, RetriedOn, RetriedDone, CopyAttached, NowAttached, OpenedReply, JoinReply, JoinedReply, LostReply, FullDead, OkReply, NoReply, KeptReply, FirstReply, LeftFull, LeftStuck, LeftIdle, CloseDone, CloseFull, CloseStuck, ShareUp}
+use Rattle.lock_law.specs.Locks.{Locks, locking, InUse, Unanswered, AskUp, AskDown, Users, CopyNow, RetriedOn, RetriedDone, CopyAttached, NowAttached, OpenedReply, JoinReply, JoinedReply, LostReply, FullDead, OkReply, NoReply, KeptReply, FirstReply, LeftFull, LeftStuck, LeftIdle, CloseDone, CloseFull, CloseStuck}
 use Rattle.lock_law.proofs.Words.{unsettled_firm}
 
 send_unanswered : (c : Client) (conns : ℕ → Conn) (s : Server) (a : ℕ → ℕ) (k g n0 : ℕ) (m0 : Message) → (c.ready k ≡ true) → (c.on g ≡ None) → (is_unsettled (c.outcome g) ≡ true) → (c.sent g ≡ true) → ((conns k).client_open ≡ true) → (m0.session ≡ c.session) → (c.live ≡ true) → Unanswered c conns → Unanswered (put_out c k g) (put conns k (send_up (conns k) (ForOp g) m0 n0))
@@ -102,10 +102,6 @@ send_close_stuck : (c : Client) (conns : ℕ → Conn) (s : Server) (a : ℕ →
 send_close_stuck c conns s a k g n0 m0 ready none pending sent stands mine live i_close_stuck =
     λ j n p y. let old = i_close_stuck j n p y in grind arith
 
-send_share_up : (c : Client) (conns : ℕ → Conn) (s : Server) (a : ℕ → ℕ) (k g n0 : ℕ) (m0 : Message) → (c.ready k ≡ true) → (c.on g ≡ None) → (is_unsettled (c.outcome g) ≡ true) → (c.sent g ≡ true) → ((conns k).client_open ≡ true) → (m0.session ≡ c.session) → (c.live ≡ true) → ShareUp c conns → ShareUp (put_out c k g) (put conns k (send_up (conns k) (ForOp g) m0 n0))
-send_share_up c conns s a k g n0 m0 ready none pending sent stands mine live i_share_up =
-    λ j n x sh. let old = i_share_up j n x sh in grind (arith, get-push)
-
 pub send_keeps : (c : Client) (conns : ℕ → Conn) (s : Server) (a : ℕ → ℕ) (k g n0 : ℕ) (m0 : Message) → (c.ready k ≡ true) → (c.on g ≡ None) → (is_unsettled (c.outcome g) ≡ true) → (c.sent g ≡ true) → ((conns k).client_open ≡ true) → (m0.session ≡ c.session) → (c.live ≡ true) → (makes_open (c.op g) ≡ false → c.attached (create_at c g) ≡ c.number) → ((j n : ℕ) (x : Sent) → slice_get (conns j).up n ≡ Some x → x.token ≡ ForOp g → locking (c.op g) ≡ true → c.retried (create_at c g) (c.slot_of g) ≡ c.number) → (makes_open (c.op g) ≡ false → is_ok (c.outcome (create_at c g)) ≡ true × makes_open (c.op (create_at c g)) ≡ true) → Locks c conns s a → Locks (put_out c k g) (put conns k (send_up (conns k) (ForOp g) m0 n0)) s a
 send_keeps c conns s a k g n0 m0 ready none pending sent stands mine live att again ok i =
     record {
@@ -151,8 +147,6 @@ send_keeps c conns s a k g n0 m0 ready none pending sent stands mine live att ag
       close_done = send_close_done c conns s a k g n0 m0 ready none pending sent stands mine live i.close_done;
       close_full = send_close_full c conns s a k g n0 m0 ready none pending sent stands mine live i.close_full;
       close_stuck = send_close_stuck c conns s a k g n0 m0 ready none pending sent stands mine live i.close_stuck;
-      trees_of = i.trees_of;
-      share_up = send_share_up c conns s a k g n0 m0 ready none pending sent stands mine live i.share_up;
       made_plain = i.made_plain;
       at_most = i.at_most;
       ok_acted = i.ok_acted;

@@ -1,8 +1,9 @@
 -- The server takes the front of a connection.
 use Rattle.std.proofs.Common.{◌≡◌, inl, inr, ℕ, ◌+◌, ◌<◌, Bool, true, false, List, [], ◌++◌, Some, slice_get, is_some, refl, arith, sym, ◌∙◌, ap, subst}
 use Rattle.exchange_defs.specs.Commands.{Command, Aside, Unreadable, Setup, Logoff, TreeConnect, TreeDisconnect, Create, Close, Flush, Read, Write, Lock, Ioctl, ListDirectory, QueryFile, QueryVolume, SetInfo}
+use Rattle.exchange_defs.specs.Texts.{same_name}
 use Rattle.exchange_defs.specs.State.{Server, Heard, Answer, Record}
-use Rattle.exchange_defs.specs.CheckSetup.{tree_in}
+use Rattle.exchange_defs.specs.CheckSetup.{tree_in, pipes_name}
 use Rattle.exchange_defs.specs.Check.{check}
 use Rattle.exchange_defs.specs.Records.{lower_limit, fits}
 use Rattle.exchange_defs.specs.Effects.{apply}
@@ -15,6 +16,7 @@ use Rattle.exchange_law.specs.Connections.{Connections, makes_open, shuts_open, 
 use Rattle.server_law.specs.Fits.{Fits}
 use Rattle.server_law.proofs.Doors.{recorded, Before}
 use Rattle.session_law.specs.Sessions.{Sessions, logon_user}
+use Rattle.session_law.specs.Kinds.{TreeKinds}
 use Rattle.create_law.specs.Creates.{Creates, seen}
 use Rattle.create_law.proofs.Requests.{same_guid}
 use Rattle.create_law.proofs.Seeing.{expire_seen}
@@ -35,6 +37,7 @@ use Rattle.lock_law.proofs.Closing.{close_fits, close_full, copy_of as close_cop
 pub record Under (c : Client) (conns : ℕ → Conn) (s : Server) (a : ℕ → ℕ) : Type 0 where
   pub links : Connections c conns a
   pub sessions : Sessions c conns s
+  pub kinds : TreeKinds c s
   pub creates : Creates c conns (seen s) a
   pub fits : Fits s
 
@@ -84,6 +87,7 @@ serving_at c conns s a k x0 now t u i front b full =
       current = λ o p. u.sessions.current_up k 0 x0 front o p;
       users = λ y p. subst (λ (z : Rest). z.present y ≡ true → z.user y ≡ logon_user c.who.logon) (sym r) (u.sessions.session_users y) p;
       trees = λ o. subst (λ (z : Rest). z.present x0.message.session ≡ true → is_some (tree_in (z.trees x0.message.session) x0.message.tree) ≡ true) (sym r) (u.sessions.tree_up k 0 x0 front o);
+      kinds = subst (λ (z : Rest). (y n : ℕ) (p : Bool) → tree_in (z.trees y) n ≡ Some p → p ≡ same_name c.who.share pipes_name) (sym r) u.kinds;
       dialog = λ o. (u.sessions.dialog_up k 0 x0 front o).1;
       work = λ o. u.sessions.work_up k 0 x0 front o;
     }

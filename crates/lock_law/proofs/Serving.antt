@@ -1,10 +1,9 @@
 -- What is known where the server takes the front of a connection, and how a verdict that isn't a lock's keeps it.
-use Rattle.std.proofs.Common.{eqb-true, ◌≡◌, ◌⊎◌, ℕ, ◌+◌, ◌==◌, ◌≤◌, ◌<◌, Bool, true, false, ◌&&◌, if◌then◌else◌, List, [], Option, Some, None, slice_get, is_some, refl, arith, sym, ◌∙◌, subst}
+use Rattle.std.proofs.Common.{eqb-true, ◌≡◌, ℕ, ◌+◌, ◌==◌, ◌≤◌, ◌<◌, Bool, true, false, ◌&&◌, if◌then◌else◌, List, [], Option, Some, None, slice_get, is_some, refl, arith, sym, ◌∙◌, subst}
 use Rattle.exchange_defs.specs.Status.{success, disk_full}
-use Rattle.exchange_defs.specs.Commands.{Command, Create, TreeConnect, CreateRequest, Durable, deletes_on_close}
+use Rattle.exchange_defs.specs.Commands.{Command, Create, CreateRequest, Durable, deletes_on_close}
 use Rattle.exchange_defs.specs.State.{Server, Message, Answer, Record}
 use Rattle.exchange_defs.specs.CheckSetup.{tree_in}
-use Rattle.exchange_defs.specs.Check.{check}
 use Rattle.exchange_defs.specs.CheckCreate.{refused_by}
 use Rattle.exchange_defs.specs.Records.{lower_limit, entry_bytes}
 use Rattle.exchange_defs.specs.Effects.{apply, end_records}
@@ -19,11 +18,11 @@ use Rattle.server_law.proofs.Doors.{recorded}
 use Rattle.server_law.proofs.Found.{Facts}
 use Rattle.server_law.proofs.Checked.{found}
 use Rattle.session_law.specs.Sessions.{is_ops, is_dialog, is_work, logon_user}
+use Rattle.session_law.specs.Kinds.{TreeKinds}
 use Rattle.create_law.specs.Creates.{Creates, seen}
 use Rattle.create_law.proofs.Facing.{own_create}
 use Rattle.create_law.proofs.Requests.{create_asked, asks_create, asks_to_keep}
 use Rattle.lock_law.specs.Locks.{Locks, locking, open_at, piped}
-use Rattle.lock_law.proofs.Trees.{AddsFor, trees_kept, tree_found}
 use Rattle.lock_law.proofs.Views.{view, grows}
 use Rattle.lock_law.proofs.Verdicts.{closes_in, news, verdict_quiet, is_slot_verdict}
 use Rattle.lock_law.proofs.Undeleting.{undeleting, NewKept}
@@ -47,6 +46,7 @@ pub record Serving (c : Client) (conns : ℕ → Conn) (t : Server) (a : ℕ →
   pub current : is_ops x0.token ≡ true → (conns k).client_open ≡ true → c.live ≡ true × x0.message.session ≡ c.session
   pub users : (x : ℕ) → t.present x ≡ true → t.user x ≡ logon_user c.who.logon
   pub trees : is_ops x0.token ≡ true → t.present x0.message.session ≡ true → is_some (tree_in (t.trees x0.message.session) x0.message.tree) ≡ true
+  pub kinds : TreeKinds c t
   pub work : is_ops x0.token ≡ true → is_work x0.message.command ≡ true
   pub dialog : is_ops x0.token ≡ false → is_dialog x0.message.command ≡ true
 
@@ -126,41 +126,6 @@ new_kept c conns t a k x0 (EndSession session is_quiet) w f = tt
 new_kept c conns t a k x0 (AddTree pipes) w f = tt
 new_kept c conns t a k x0 DropTree w f = tt
 
--- ---- a tree is of the client's share
-
-not_work : (x : Command) (share : List ℕ) → x ≡ TreeConnect share → is_work x ≡ false
-unfolding is_work
-not_work x share e = rw e refl
-
-of_dialog : (b : Bool) → (b ≡ true → true ≡ false) → b ≡ false
-of_dialog true f = f refl
-of_dialog false f = refl
-
-pub adds_at : (c : Client) (conns : ℕ → Conn) (t : Server) (a : ℕ → ℕ) (k : ℕ) (x0 : Sent) (v : Verdict) → Serving c conns t a k x0 → (v ≡ check t x0.message) ⊎ (v ≡ without_room (check t x0.message)) → AddsFor (piped c.who.share) v
-adds_at c conns t a k x0 (AddTree pipes) w is =
-    let f = found t x0.message (AddTree pipes) is in
-    let off = of_dialog (is_ops x0.token) (λ o. sym (w.work o) ∙ not_work x0.message.command f.share f.command) in
-    subst (λ z. pipes ≡ piped z) (w.locks.share_up k 0 x0 f.share w.front off f.command) (tree_found t x0.message (AddTree pipes) f.share is w.fault f.command)
-adds_at c conns t a k x0 (Make r found1 action) w is = tt
-adds_at c conns t a k x0 (Refuse status) w is = tt
-adds_at c conns t a k x0 (Give body) w is = tt
-adds_at c conns t a k x0 (KeepRefusal guid status) w is = tt
-adds_at c conns t a k x0 (Repeat o r) w is = tt
-adds_at c conns t a k x0 (Attach o r) w is = tt
-adds_at c conns t a k x0 (TurnDown o status) w is = tt
-adds_at c conns t a k x0 (Tell o body) w is = tt
-adds_at c conns t a k x0 (Show o last body) w is = tt
-adds_at c conns t a k x0 (KeepSlot o index number status elements) w is = tt
-adds_at c conns t a k x0 (PutRanges o index number ranges elements) w is = tt
-adds_at c conns t a k x0 (Alter o change body) w is = tt
-adds_at c conns t a k x0 (Shut o body) w is = tt
-adds_at c conns t a k x0 Challenge w is = tt
-adds_at c conns t a k x0 (ChallengeBinding session) w is = tt
-adds_at c conns t a k x0 (Begin session user previous r is_quiet) w is = tt
-adds_at c conns t a k x0 (Join session) w is = tt
-adds_at c conns t a k x0 (EndSession session is_quiet) w is = tt
-adds_at c conns t a k x0 DropTree w is = tt
-
 -- creates act by their own messages alone
 pub plain_other : (c : Client) (conns : ℕ → Conn) (t : Server) (a : ℕ → ℕ) (k : ℕ) (x0 : Sent) (acted : Bool) → Serving c conns t a k x0 → ((q : ℕ) → makes_open (c.op q) ≡ true → is_send_of q x0.token ≡ false) → (q : ℕ) → makes_open (c.op q) ≡ true → 1 ≤ counted a x0.token acted q → piped c.who.share ≡ false
 plain_other c conns t a k x0 acted w off q m l = w.locks.made_plain q m (subst (λ z. 1 ≤ z) (not_sent a x0.token acted q (off q m)) l)
@@ -177,14 +142,14 @@ steady_recorded : (t u : Server) (n : ℕ) → Steady t u → Steady t (record u
 steady_recorded t u n s = record { entries = s.entries; marked = s.marked; directory = s.directory; others = s.others }
 
 pub quiet_serve : (c : Client) (conns : ℕ → Conn) (t : Server) (a : ℕ → ℕ) (k : ℕ) (x0 : Sent) (now : ℕ) (v : Verdict) (rs : List Record) (a2 : ℕ → ℕ)
-    → Serving c conns t a k x0 → Facts t x0.message v → is_slot_verdict v ≡ false → (lower_limit < t.journal + 34 → (apply t x0.message now v).records ≡ []) → AddsFor (piped c.who.share) v → ((q : ℕ) → makes_open (c.op q) ≡ true → 1 ≤ a2 q → piped c.who.share ≡ false) → ((p : ℕ) → locking (c.op p) ≡ true → a2 p ≡ a p)
+    → Serving c conns t a k x0 → Facts t x0.message v → is_slot_verdict v ≡ false → (lower_limit < t.journal + 34 → (apply t x0.message now v).records ≡ []) → ((q : ℕ) → makes_open (c.op q) ≡ true → 1 ≤ a2 q → piped c.who.share ≡ false) → ((p : ℕ) → locking (c.op p) ≡ true → a2 p ≡ a p)
     → ((g : ℕ) → locking (c.op g) ≡ true → c.sent g ≡ true → is_unsettled (c.outcome g) ≡ true → c.live ≡ true → (apply t x0.message now v).server.present c.session ≡ true → t.standing (open_at c g) ≡ true → closes_in x0.message.command (open_at c g) ≡ true → (apply t x0.message now v).server.standing (open_at c g) ≡ false → a g ≡ 0)
     → ((j n g : ℕ) (y : Received) → slice_get (conns j).down n ≡ Some y → y.token ≡ ForAttach g → y.reply.status ≡ success → c.live ≡ true → (apply t x0.message now v).server.present c.session ≡ true → t.standing (open_at c g) ≡ true → closes_in x0.message.command (open_at c g) ≡ true → (apply t x0.message now v).server.standing (open_at c g) ≡ false → c.attached (create_at c g) ≡ c.number)
     → Locks c conns (recorded (apply t x0.message now v) rs).server a2
-quiet_serve c conns t a k x0 now v rs a2 w f off bare adds plain same_a shut joined =
+quiet_serve c conns t a k x0 now v rs a2 w f off bare plain same_a shut joined =
     let m = x0.message in let A = apply t m now v in
     quiet_keeps c conns t a (recorded A rs).server a2 m.connection (closes_in m.command) w.low w.links same_a
     (grows (news t m) (closes_in m.command) (view t) (view A.server) (entry_bytes rs) (verdict_quiet t m now v (λ o y h. (w.low.attached o y h).1) f off))
     (λ big. steady_recorded t A.server _ (bare_steady t m now v f (bare big)))
-    (trees_kept (piped c.who.share) t m now v adds w.locks.trees_of) plain
+    plain
     (undeleting t m now v (new_kept c conns t a k x0 v w f) w.locks.kept_files) shut joined w.locks

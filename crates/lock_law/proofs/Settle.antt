@@ -152,8 +152,6 @@ settle_keeps c conns s a k g o0 new sh fu by0 order0 on own settled0 real same g
       close_done = i.close_done;
       close_full = i.close_full;
       close_stuck = i.close_stuck;
-      trees_of = i.trees_of;
-      share_up = i.share_up;
       made_plain = i.made_plain;
       at_most = i.at_most;
       ok_acted = settle_ok_acted c conns s a k g o0 new sh fu by0 order0 on own settled0 real same gives acted C.settled i.ok_acted;

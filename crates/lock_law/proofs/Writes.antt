@@ -161,8 +161,6 @@ writes_keeps c conns s a g st0 j0 sq rg a2 lock sent user free stands unfirm jou
       close_done = i.close_done;
       close_full = writes_close_full c conns s a g st0 j0 sq rg a2 lock sent user free stands unfirm journal own i.close_full;
       close_stuck = writes_close_stuck c conns s a g st0 j0 sq rg a2 lock sent user free stands unfirm journal own goes_same i.close_stuck;
-      trees_of = i.trees_of;
-      share_up = i.share_up;
       made_plain = writes_made_plain c conns s a g st0 j0 sq rg a2 lock sent user free stands unfirm journal own creates_same i.made_plain;
       at_most = writes_at_most c conns s a g st0 j0 sq rg a2 lock sent user free stands unfirm journal others own i.at_most;
       ok_acted = writes_ok_acted c conns s a g st0 j0 sq rg a2 lock sent user free stands unfirm journal others own i.ok_acted;

@@ -1,10 +1,10 @@
 -- What holds of locks and unlocks in every world that a run leads to, where each operation acted a g times: between the
 -- client's slots, what waits on the connections, and what the server's opens keep.
-use Rattle.std.specs.Prelude.{◌≡◌, ◌≢◌, ℕ, ◌+◌, ◌≤◌, ◌<◌, ◌==◌, Bool, true, false, if◌then◌else◌, List, [], ◌∷◌, not, ◌&&◌, Option, Some, None, is_some, slice_get}
+use Rattle.std.specs.Prelude.{◌≡◌, ◌≢◌, ℕ, ◌+◌, ◌≤◌, ◌<◌, ◌==◌, Bool, true, false, if◌then◌else◌, List, Option, Some, None, is_some, slice_get}
 use Rattle.exchange_defs.specs.Status.{success, user_session_deleted, file_closed, object_name_not_found, disk_full}
 use Rattle.exchange_defs.specs.Texts.{same_name}
-use Rattle.exchange_defs.specs.Commands.{TreeConnect, deletes_on_close}
-use Rattle.exchange_defs.specs.State.{Server, Kept, Tree}
+use Rattle.exchange_defs.specs.Commands.{deletes_on_close}
+use Rattle.exchange_defs.specs.State.{Server, Kept}
 use Rattle.exchange_defs.specs.Opens.{goes, drop_open, marked_by}
 use Rattle.exchange_defs.specs.CheckSetup.{pipes_name}
 use Rattle.exchange_defs.specs.CheckOpen.{is_slot, kept_status}
@@ -14,7 +14,6 @@ use Rattle.exchange_defs.specs.Client.{Client, guid_for}
 use Rattle.exchange_defs.specs.Network.{Conn, Sent, Received, ForOp, ForAttach}
 use Rattle.exchange_defs.specs.Runs.{never_acted}
 use Rattle.exchange_law.specs.Connections.{makes_open, shuts_open, create_at}
-use Rattle.session_law.specs.Sessions.{is_ops}
 
 -- ---- words, closed so that a proof doesn't go through the kinds of operations
 
@@ -222,17 +221,6 @@ CloseStuck c conns s = (k n h : ℕ) (y : Received) → slice_get (conns k).down
 unfoldable pub piped : List ℕ → Bool
 piped share = same_name share pipes_name
 
--- each is one of the pipes, or none is
-unfoldable pub all_piped : Bool → List Tree → Bool
-all_piped p [] = true
-all_piped p (t ∷ ts) = (if p then t.pipes else not t.pipes) && all_piped p ts
-
-abbrev pub TreesOf : Client → Server → Type 0
-TreesOf c s = (x : ℕ) → all_piped (piped c.who.share) (s.trees x) ≡ true
-
-abbrev pub ShareUp : Client → (ℕ → Conn) → Type 0
-ShareUp c conns = (k n : ℕ) (x : Sent) (share : List ℕ) → slice_get (conns k).up n ≡ Some x → is_ops x.token ≡ false → x.message.command ≡ TreeConnect share → share ≡ c.who.share
-
 abbrev pub MadePlain : Client → (ℕ → ℕ) → Type 0
 MadePlain c a = (q : ℕ) → makes_open (c.op q) ≡ true → 1 ≤ a q → piped c.who.share ≡ false
 
@@ -290,8 +278,6 @@ pub record Locks (c : Client) (conns : ℕ → Conn) (s : Server) (a : ℕ → �
   pub close_done : CloseDone c conns s
   pub close_full : CloseFull c conns s
   pub close_stuck : CloseStuck c conns s
-  pub trees_of : TreesOf c s
-  pub share_up : ShareUp c conns
   pub made_plain : MadePlain c a
   pub at_most : AtMost c a
   pub ok_acted : OkActed c a
