@@ -243,10 +243,6 @@ says_of : (t : Server) (m : Message) (v : Verdict) → (v ≡ check t m) ⊎ (v 
 says_of t m v (inl e) h = ap create_says e ∙ h
 says_of t m v (inr e) h = ap create_says e ∙ says_room (check t m) h
 
--- one that acts makes an open, on no tree of the pipes
-still_count : (a : ℕ → ℕ) (tk : Token) (p n : ℕ) (acted : Bool) → acted ≡ false → 1 ≤ counted a tk acted p → 1 ≤ a p
-still_count a tk p n acted e l = subst (λ z. 1 ≤ z) (not_acted a tk acted p e) l
-
 -- a tree is of the pipes exactly where the client's share is
 plain_tree : (c : Client) (t : Server) (x id : ℕ) → TreeKinds c t → tree_in (t.trees x) id ≡ Some false → piped c.who.share ≡ false
 unfolding piped
@@ -255,6 +251,10 @@ plain_tree c t x id kinds e = sym (kinds x id false e)
 tree_plain : (c : Client) (t : Server) (x id : ℕ) (pipes : Bool) → TreeKinds c t → tree_in (t.trees x) id ≡ Some pipes → piped c.who.share ≡ false → pipes ≡ false
 unfolding piped
 tree_plain c t x id pipes kinds e plain = kinds x id pipes e ∙ plain
+
+-- one that acts makes an open, on no tree of the pipes
+still_count : (a : ℕ → ℕ) (tk : Token) (p n : ℕ) (acted : Bool) → acted ≡ false → 1 ≤ counted a tk acted p → 1 ≤ a p
+still_count a tk p n acted e l = subst (λ z. 1 ≤ z) (not_acted a tk acted p e) l
 
 plain_create : (c : Client) (conns : ℕ → Conn) (t : Server) (a : ℕ → ℕ) (k : ℕ) (x0 : Sent) (now : ℕ) (v : Verdict) → Serving c conns t a k x0 → Facts t x0.message v → create_says v ≡ true → (q : ℕ) → makes_open (c.op q) ≡ true → 1 ≤ counted a x0.token (apply t x0.message now v).acted q → piped c.who.share ≡ false
 plain_create c conns t a k x0 now (Make r found1 action) w f e q m l = plain_tree c t x0.message.session x0.message.tree w.kinds f.new.create.tree

@@ -216,7 +216,7 @@ CloseFull c conns s = (k n h : ℕ) (y : Received) → slice_get (conns k).down 
 abbrev pub CloseStuck : Client → (ℕ → Conn) → Server → Type 0
 CloseStuck c conns s = (k n h : ℕ) (y : Received) → slice_get (conns k).down n ≡ Some y → y.token ≡ ForOp h → shuts_open (c.op h) ≡ true → y.reply.status ≢ user_session_deleted → y.reply.status ≢ file_closed → s.standing (open_at c h) ≡ true → (s.opened (open_at c h)).persistent ≡ false → lower_limit < s.journal + 34 × goes_with s (open_at c h) ≡ true
 
--- ---- trees: each is of the client's share, on which creates act, if any acted
+-- ---- where a create acted, the client's share isn't that of the pipes
 
 unfoldable pub piped : List ℕ → Bool
 piped share = same_name share pipes_name
