@@ -252,5 +252,5 @@ def emit(event):
 if __name__ == "__main__":
     write_wanted(EVENTS, emit)
     own = ["Lists"]
-    extra = standing(TOP, ("Facts", "Run", "Stays", "Reached"))
+    extra = standing(TOP, ("Facts", "Run", "Reached", "Stays"))
     write_list(TOP, own + [e.name for e in EVENTS] + extra)

@@ -14,6 +14,7 @@ use Rattle.exchange_defs.specs.Runs.{is_send_of}
 use Rattle.exchange_defs.specs.Network.{Conn, Sent, Received, Trace, Token, ForDialog, ForOp, ForAttach, op_of, is_own, makes, said, content_reply, behind_front, bytes_behind}
 use Rattle.exchange_law.specs.Connections.{create_at, makes_open, copies, count_up, Once, Outstanding as ConnOutstanding, OwnUp, DownOpen, Bodies}
 use Rattle.exchange_law.proofs.Lists.{own_up_count, own_down_count, front_up, waited}
+use Rattle.server_law.proofs.Logic.{other_on}
 use Rattle.session_law.specs.Sessions.{is_ops}
 use Rattle.order_law.specs.Contents.{Contents, edits, lists, formed, isolating, clashes, bytes_after, reply_to, ends_before, file_at, pends, last_id, TokenUp, TokenDown, OpensUp, AskedAs, LostUnknown, Pairwise, FirstUp, Unacted, FreshFirst, NotDone, CutSeq, OpenSeq, Older, NoReplay, CopyPair, NowPair, CreateReply, AttachReply, Reached, ClosedReply, AttachRefused, StaleReply, SessionSeq, PendingAt, LiveUnsettled, LiveReplay, Shows, Denied, OpenOf, NamedOpen, OpenGiven, OpenRow, OpenActed, Bytes, Quiet, Foreign, Acted, Gave, GaveEnd, Whose, Born, BirthLe, FirstAt, By, ByOk, ByEnd, Replies, AttachStatus, SinceLe, SinceReply, SinceFirst, Prior, PriorFirst}
 use Rattle.order_law.proofs.Moved.{live_back}
@@ -117,12 +118,9 @@ pub record Its (c : Client) (s : Server) (t : Trace) (g : ℕ) : Type 0 where
   named : t.open_of (create_at c g) ≡ Some (file_at c g)
   given : file_at c g ≤ last_id s
 
-ok_of : (x y : Bool) → (x || y) ≡ true → x ≡ false → y ≡ true
-ok_of x y e f = grind arith
-
 pub its_open : (c : Client) (s : Server) (t : Trace) (g : ℕ) → (makes_open (c.op g) || is_ok (c.outcome (create_at c g))) ≡ true → makes_open (c.op g) ≡ false → makes_open (c.op (create_at c g)) ≡ true → OpenOf c t → OpenGiven c s t → Its c s t g
 its_open c s t g o n m named given =
-    let ok = ok_of (makes_open (c.op g)) (is_ok (c.outcome (create_at c g))) o n in let e = named (create_at c g) m ok in record { made = m; ok = ok; named = e; given = (given (create_at c g) (file_at c g) e).0 }
+    let ok = other_on (makes_open (c.op g)) (is_ok (c.outcome (create_at c g))) o n in let e = named (create_at c g) m ok in record { made = m; ok = ok; named = e; given = (given (create_at c g) (file_at c g) e).0 }
 
 -- creates of one open are one
 same_create : (c : Client) (s : Server) (t : Trace) (p q o : ℕ) → OpenRow c s t → t.open_of p ≡ Some o → t.open_of q ≡ Some o → s.standing o ≡ true → p ≡ q
@@ -579,7 +577,7 @@ absorb_born : (c : Client) (conns : ℕ → Conn) (s : Server) (t : Trace) (l : 
 absorb_born c conns s t l a k x0 rest A w creates_of i_born i_birth_le i_open_of i_whose =
     λ n lt. split (λ m. 0 < (new_log c t l x0 A).who m → makes_open (c.op ((new_log c t l x0 A).who m)) ≡ false → (new_log c t l x0 A).birth (create_at c ((new_log c t l x0 A).who m)) ≤ m) l.places n lt
     (λ z. subst (λ h. 0 < h → makes_open (c.op h) ≡ false → (new_log c t l x0 A).birth (create_at c h) ≤ n) (sym (put_old l.who l.places (op_of x0.token) n z))
-    (λ ab mk. let wh = i_whose n z in let ok = ok_of (makes_open (c.op (l.who n))) (is_ok (c.outcome (create_at c (l.who n)))) (wh.1 ab) mk in let nm = i_open_of (create_at c (l.who n)) (creates_of (l.who n) ab wh.0 mk) ok in
+    (λ ab mk. let wh = i_whose n z in let ok = other_on (makes_open (c.op (l.who n))) (is_ok (c.outcome (create_at c (l.who n)))) (wh.1 ab) mk in let nm = i_open_of (create_at c (l.who n)) (creates_of (l.who n) ab wh.0 mk) ok in
     subst (λ b. b ≤ n) (sym (birth_kept c t l x0 A (create_at c (l.who n)) (λ m e. once_made (create_at c (l.who n)) m e nm))) (i_born n z ab mk)))
     (subst (λ h. 0 < h → makes_open (c.op h) ≡ false → (new_log c t l x0 A).birth (create_at c h) ≤ l.places) (sym (put_self l.who l.places (op_of x0.token)))
     (λ ab mk. subst (λ b. b ≤ l.places) (sym (birth_kept c t l x0 A (create_at c (op_of x0.token)) (λ m e. absurd (let y = (made_own c x0.token A m).2 in grind arith)))) (i_birth_le (create_at c (op_of x0.token)))))
