@@ -6,7 +6,7 @@ what it does to the client's table, the connections and the counts, and the part
 """
 import re
 
-from law_text import fields, kept_part, low_name, names, proofs_of, sentence, standing, type_name, write_list, write_module, write_wanted
+from law_text import bound, fields, kept_part, lemma, low_name, named_in, names, premised, proofs_of, sentence, standing, step, type_name, write_list, write_module, write_wanted
 
 TOP = proofs_of("exchange_law")
 
@@ -224,27 +224,29 @@ create_of_create g op e = grind arith
 }
 
 
+BASE = "(c : Client) (conns : ℕ → Conn) (a : ℕ → ℕ)"
+
+
 def emit(event):
     low = low_name(event.name)
     state = {"c": event.c, "conns": event.conns, "a": event.a}
-    given = " " + event.arguments if event.arguments else ""
+    over = BASE + (" " + event.arguments if event.arguments else "")
+    variables = names(over)
     out = [sentence(event.about), HEAD, "\n", BEFORE.get(event.name, "")]
     calls = {}
     for part, (arguments, _, _) in PARTS.items():
         term = event.parts.get(part) or default(part)
-        parts = [part] + sorted(set(re.findall(r"\bi\.(\w+)", term)) - {part})
+        parts = [part] + sorted(named_in("i", term) - {part})
         # what quantifies is given to the parts that name it alone, and the rest to each
         needs = [(n, t) for n, t in event.needs if "→" not in t or re.search(r"\b%s\b" % n, re.sub(r"\bi\.\w+", "", term))]
-        premises = "".join("(%s) → " % t for _, t in needs) + "".join("%s %s → " % (type_name(q), PARTS[q][0]) for q in parts)
-        words = " ".join(names(event.arguments) + [n for n, _ in needs] + ["i_" + q for q in parts])
-        types = " ".join(state[w] for w in arguments.split())
-        out.append("%s_%s : (c : Client) (conns : ℕ → Conn) (a : ℕ → ℕ)%s → %s%s %s\n%s_%s c conns a %s =\n    %s\n\n"
-                   % (low, part, given, premises, type_name(part), types, low, part, words, re.sub(r"\bi\.(\w+)", r"i_\1", term)))
-        calls[part] = "%s_%s c conns a %s" % (low, part, " ".join(names(event.arguments) + [n for n, _ in needs] + ["i." + q for q in parts]))
-    premises = "".join("(%s) → " % t for _, t in event.needs)
-    words = " ".join(names(event.arguments) + [n for n, _ in event.needs])
-    out.append("pub %s_keeps : (c : Client) (conns : ℕ → Conn) (a : ℕ → ℕ)%s → %sConnections c conns a → Connections %s %s %s\n%s_keeps c conns a%s i =\n    record {\n"
-               % (low, given, premises, event.c, event.conns, event.a, low, " " + words if words else ""))
+        premises = premised(needs) + "".join("%s %s → " % (type_name(q), PARTS[q][0]) for q in parts)
+        goal = type_name(part) + " " + " ".join(state[w] for w in arguments.split())
+        given = variables + [n for n, _ in needs]
+        name = "%s_%s" % (low, part)
+        out.append(lemma(name, over, premises, goal, " ".join(given + ["i_" + q for q in parts]), bound("i", term)))
+        calls[part] = " ".join([name] + given + ["i." + q for q in parts])
+    words = " ".join(variables + [n for n, _ in event.needs] + ["i"])
+    out.append(step(low + "_keeps", over, premised(event.needs), "Connections c conns a", "Connections %s %s %s" % (event.c, event.conns, event.a), words))
     out.append(fields(PARTS, calls))
     write_module(TOP, event.name, "".join(out))
 

@@ -10,7 +10,7 @@ Run `rt tidy` and `rt fmt` in the crate behind it: it writes all imports into ea
 import os
 import re
 
-from law_text import CRATES, fields, kept_part, low_name, names, proofs_of, sentence, type_name, write_module, write_wanted
+from law_text import CRATES, bound, fields, kept_part, lemma, low_name, named_in, names, premised, proofs_of, sentence, step, type_name, write_module, write_wanted
 
 HERE = os.path.dirname(os.path.abspath(__file__))
 TOP = proofs_of("order_law")
@@ -143,7 +143,8 @@ LOWER = {p: (type_name(p), arguments_in(CONNECTIONS, type_name(p))) for p in re.
 
 def emit(event):
     low = low_name(event.name)
-    given = " " + event.arguments if event.arguments else ""
+    over = STATE + (" " + event.arguments if event.arguments else "")
+    before = names(over)
     out = [sentence(event.about), HEAD, "\n"]
     calls = {}
     lower_used = []
@@ -152,26 +153,24 @@ def emit(event):
             calls[part] = "i.%s" % part
             continue
         term = event.parts.get(part) or default(part)
-        parts = [part] + sorted(set(re.findall(r"\bi\.(\w+)", term)) - {part})
-        lower = sorted(set(re.findall(r"\bcn\.(\w+)", term)))
+        parts = [part] + sorted(named_in("i", term) - {part})
+        lower = sorted(named_in("cn", term))
         for q in lower:
             if q not in lower_used:
                 lower_used.append(q)
         # what quantifies is given to the parts that name it alone, and the rest to each
         bare = re.sub(r"\b(i|cn)\.\w+", "", term)
         needs = [(n, ty) for n, ty in event.needs if n not in event.narrow or re.search(r"(?<![\w.])%s\b" % n, bare)]
-        premises = "".join("(%s) → " % ty for _, ty in needs) + "".join("C.%s %s → " % (LOWER[q][0], " ".join(LOWER[q][1])) for q in lower) + "".join("%s %s → " % (type_name(q), " ".join(ARGUMENTS[q])) for q in parts)
-        args = names(event.arguments)
-        words = " ".join(args + [n for n, _ in needs] + ["cn_" + q for q in lower] + ["i_" + q for q in parts])
-        types = " ".join(event.state[w] for w in ARGUMENTS[part])
-        body = re.sub(r"\bcn\.(\w+)", r"cn_\1", re.sub(r"\bi\.(\w+)", r"i_\1", term))
-        out.append("%s_%s : %s%s → %s%s %s\n%s_%s c conns s t l a %s =\n    %s\n\n" % (low, part, STATE, given, premises, type_name(part), types, low, part, words, body))
-        calls[part] = "%s_%s c conns s t l a %s" % (low, part, " ".join(args + [n for n, _ in needs] + ["cn_" + q for q in lower] + ["i." + q for q in parts]))
-    premises = "".join("(%s) → " % ty for _, ty in event.needs) + "".join("C.%s %s → " % (LOWER[q][0], " ".join(LOWER[q][1])) for q in lower_used)
-    words = " ".join(names(event.arguments) + [n for n, _ in event.needs] + ["cn_" + q for q in lower_used])
-    st = event.state
-    out.append("pub %s_keeps : %s%s → %sContents c conns s t l a → Contents %s %s %s %s %s %s\n%s_keeps c conns s t l a%s i =\n    record {\n"
-               % (low, STATE, given, premises, st["c"], st["conns"], st["s"], st["t"], st["l"], st["a"], low, " " + words if words else ""))
+        premises = premised(needs) + "".join("C.%s %s → " % (LOWER[q][0], " ".join(LOWER[q][1])) for q in lower) + "".join("%s %s → " % (type_name(q), " ".join(ARGUMENTS[q])) for q in parts)
+        goal = type_name(part) + " " + " ".join(event.state[w] for w in ARGUMENTS[part])
+        given = before + [n for n, _ in needs] + ["cn_" + q for q in lower]
+        name = "%s_%s" % (low, part)
+        out.append(lemma(name, over, premises, goal, " ".join(given + ["i_" + q for q in parts]), bound("cn", bound("i", term))))
+        calls[part] = " ".join([name] + given + ["i." + q for q in parts])
+    premises = premised(event.needs) + "".join("C.%s %s → " % (LOWER[q][0], " ".join(LOWER[q][1])) for q in lower_used)
+    words = " ".join(before + [n for n, _ in event.needs] + ["cn_" + q for q in lower_used] + ["i"])
+    behind = " ".join(event.state[w] for w in ("c", "conns", "s", "t", "l", "a"))
+    out.append(step(low + "_keeps", over, premises, "Contents c conns s t l a", "Contents " + behind, words))
     out.append(fields(PARTS, calls))
     text = "".join(out)
     used = sorted(set(re.findall(r"\bC\.(\w+)", text)))

@@ -4,11 +4,12 @@ what comes before them in law_contents_absorb.txt."""
 import json
 import os
 import re
-import sys
 
-sys.argv = sys.argv[:1] + ["none"]
-HERE = os.path.dirname(os.path.abspath(__file__))
-exec(open(os.path.join(HERE, "law_contents.py")).read().split('if __name__')[0])
+from law_contents import ARGUMENTS, HERE, PARTS, STATE, TOP
+from law_text import bound, fields, lemma, named_in, names, premised, step, type_name, write_module
+
+OVER = STATE + " (k : ℕ) (x0 : Sent) (rest : List Sent) (A : Answer)"
+VARIABLES = names(OVER)
 
 texts = json.load(open(os.path.join(HERE, "law_contents_absorb.json")))
 out = [open(os.path.join(HERE, "law_contents_absorb.txt")).read().replace("PARTS", ", ".join(type_name(p) for p in PARTS))]
@@ -21,19 +22,18 @@ for part, (variables, columns) in PARTS.items():
             calls[part] = "i.%s" % part
         continue
     premises, term = texts[part]
-    parts = [part] + sorted(set(re.findall(r"\bi[._](\w+)", term)) - {part})
-    parts = [p for p in parts if p in PARTS]
-    for name, ty in premises:
-        if name not in [n for n, _ in needs]:
-            needs.append((name, ty))
-    out.append("absorb_%s : %s (k : ℕ) (x0 : Sent) (rest : List Sent) (A : Answer) → %s%s%s %s\nabsorb_%s c conns s t l a k x0 rest A %s =\n    %s\n\n" % (
-        part, STATE, "".join("(%s) → " % ty for _, ty in premises), "".join("%s %s → " % (type_name(q), " ".join(ARGUMENTS[q])) for q in parts), type_name(part), " ".join(after[w] for w in ARGUMENTS[part]),
-        part, " ".join([n for n, _ in premises] + ["i_" + q for q in parts]), re.sub(r"\bi\.(\w+)", r"i_\1", term)))
-    calls[part] = "absorb_%s c conns s t l a k x0 rest A %s" % (part, " ".join([n for n, _ in premises] + ["i." + q for q in parts]))
+    parts = [part] + [q for q in sorted((named_in("i", term) | set(re.findall(r"\bi_(\w+)", term))) - {part}) if q in PARTS]
+    needs += [need for need in premises if need[0] not in [n for n, _ in needs]]
+    wanted = premised(premises) + "".join("%s %s → " % (type_name(q), " ".join(ARGUMENTS[q])) for q in parts)
+    given = VARIABLES + [n for n, _ in premises]
+    name = "absorb_" + part
+    goal = type_name(part) + " " + " ".join(after[w] for w in ARGUMENTS[part])
+    out.append(lemma(name, OVER, wanted, goal, " ".join(given + ["i_" + q for q in parts]), bound("i", term)))
+    calls[part] = " ".join([name] + given + ["i." + q for q in parts])
 missing = [p for p in PARTS if p not in calls]
 print("missing", missing)
 if not missing:
-    out.append("pub absorb_keeps : %s (k : ℕ) (x0 : Sent) (rest : List Sent) (A : Answer) → %sContents c conns s t l a → Contents %s\nabsorb_keeps c conns s t l a k x0 rest A %s i =\n    record {\n" % (
-        STATE, "".join("(%s) → " % ty for _, ty in needs), " ".join(after[w] for w in ("c", "conns", "s", "t", "l", "a")), " ".join(n for n, _ in needs)))
+    behind = "Contents " + " ".join(after[w] for w in ("c", "conns", "s", "t", "l", "a"))
+    out.append(step("absorb_keeps", OVER, premised(needs), "Contents c conns s t l a", behind, " ".join(VARIABLES + [n for n, _ in needs] + ["i"])))
     out.append(fields(PARTS, calls))
 write_module(TOP, "OnAbsorb", "".join(out))

@@ -9,7 +9,7 @@ Run `rt tidy` and `rt fmt` in the crate behind it: it writes all imports into ea
 """
 import re
 
-from law_text import fields, kept_part, low_name, names, proofs_of, sentence, standing, type_name, write_list, write_module, write_wanted
+from law_text import bound, fields, kept_part, lemma, low_name, named_in, names, premised, proofs_of, sentence, standing, step, type_name, write_list, write_module, write_wanted
 
 TOP = proofs_of("create_law")
 
@@ -375,10 +375,14 @@ restart_unclosed c v a u r un nk p m s l t =
 }
 
 
+BASE = "(c : Client) (conns : ℕ → Conn) (v : Seen) (a : ℕ → ℕ)"
+
+
 def emit(event):
     low = low_name(event.name)
     state = {"c": event.c, "conns": event.conns, "v": event.v, "a": event.a}
-    given = " " + event.arguments if event.arguments else ""
+    over = BASE + (" " + event.arguments if event.arguments else "")
+    variables = names(over)
     out = [sentence(event.about), HEAD, "\n", BEFORE.get(event.name, "")]
     calls = {}
     for part, (arguments, _, reads) in PARTS.items():
@@ -386,23 +390,20 @@ def emit(event):
             calls[part] = "i.%s" % part
             continue
         term = event.parts.get(part) or default(part)
-        parts = [part] + sorted(set(re.findall(r"\bi\.(\w+)", term)) - {part})
-        fits = sorted(set(re.findall(r"\bf\.(\w+)", term)))
+        parts = [part] + sorted(named_in("i", term) - {part})
+        fits = sorted(named_in("f", term))
         # what quantifies is given to the parts that name it alone, and the rest to each
         needs = [(n, t) for n, t in event.needs if ("→" not in t and not t.startswith("Restarts")) or re.search(r"\b%s\b" % n, re.sub(r"\b[if]\.\w+", "", term))]
-        premises = "".join("(%s) → " % t for _, t in needs) + "".join("%s %s → " % (type_name(q), PARTS[q][0]) for q in parts) + "".join("%s %s → " % (type_name(q), FIT[q]) for q in fits)
-        words = " ".join(names(event.arguments) + [n for n, _ in needs] + ["i_" + q for q in parts] + ["f_" + q for q in fits])
-        types = " ".join(state[w] for w in arguments.split())
-        term = re.sub(r"\bi\.(\w+)", r"i_\1", term)
-        term = re.sub(r"\bf\.(\w+)", r"f_\1", term)
-        out.append("%s_%s : (c : Client) (conns : ℕ → Conn) (v : Seen) (a : ℕ → ℕ)%s → %s%s %s\n%s_%s c conns v a %s =\n    %s\n\n"
-                   % (low, part, given, premises, type_name(part), types, low, part, words, term))
-        calls[part] = "%s_%s c conns v a %s" % (low, part, " ".join(names(event.arguments) + [n for n, _ in needs] + ["i." + q for q in parts] + ["f." + q for q in fits]))
+        premises = premised(needs) + "".join("%s %s → " % (type_name(q), PARTS[q][0]) for q in parts) + "".join("%s %s → " % (type_name(q), FIT[q]) for q in fits)
+        goal = type_name(part) + " " + " ".join(state[w] for w in arguments.split())
+        given = variables + [n for n, _ in needs]
+        name = "%s_%s" % (low, part)
+        out.append(lemma(name, over, premises, goal, " ".join(given + ["i_" + q for q in parts] + ["f_" + q for q in fits]), bound("f", bound("i", term))))
+        calls[part] = " ".join([name] + given + ["i." + q for q in parts] + ["f." + q for q in fits])
     fit = any("f." in call for call in calls.values())
-    premises = "".join("(%s) → " % t for _, t in event.needs) + ("Connections c conns a → " if fit else "")
-    words = " ".join(names(event.arguments) + [n for n, _ in event.needs] + (["f"] if fit else []))
-    out.append("pub %s_creates : (c : Client) (conns : ℕ → Conn) (v : Seen) (a : ℕ → ℕ)%s → %sCreates c conns v a → Creates %s %s %s %s\n%s_creates c conns v a%s i =\n    record {\n"
-               % (low, given, premises, event.c, event.conns, event.v, event.a, low, " " + words if words else ""))
+    premises = premised(event.needs) + ("Connections c conns a → " if fit else "")
+    words = " ".join(variables + [n for n, _ in event.needs] + (["f"] if fit else []) + ["i"])
+    out.append(step(low + "_creates", over, premises, "Creates c conns v a", "Creates %s %s %s %s" % (event.c, event.conns, event.v, event.a), words))
     out.append(fields(PARTS, calls))
     text = "".join(out)
     if fit:

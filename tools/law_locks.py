@@ -8,7 +8,7 @@ stays as it is, with no lemma. Run `rt tidy` and `rt fmt` afterwards: each file 
 import os
 import re
 
-from law_text import fields, kept_part, low_name, names, proofs_of, sentence, standing, type_name, write_list, write_module, write_wanted
+from law_text import bound, fields, kept_part, lemma, low_name, named_in, names, premised, proofs_of, sentence, standing, step, type_name, write_list, write_module, write_wanted
 
 TOP = proofs_of("lock_law")
 
@@ -570,10 +570,13 @@ says_other c s a g q0 i0 m0 p st d old u stands kept = grind arith
 }
 
 
+BASE = "(c : Client) (conns : ℕ → Conn) (s : Server) (a : ℕ → ℕ)"
+
+
 def emit(event):
     state = {"c": event.c, "conns": event.conns, "s": event.s, "a": event.a}
-    given = " " + event.arguments if event.arguments else ""
-    base = "(c : Client) (conns : ℕ → Conn) (s : Server) (a : ℕ → ℕ)"
+    over = BASE + (" " + event.arguments if event.arguments else "")
+    variables = names(over)
     out = [sentence(event.about), HEAD, "\n", BEFORE.get(event.name, "").replace("STATE", event.c).replace("BEHIND", "(%s)" % event.s)]
     calls = {}
     for part, (arguments, _, reads) in PARTS.items():
@@ -581,29 +584,26 @@ def emit(event):
             calls[part] = "i." + part
             continue
         term = (event.parts.get(part) or default(part, event.touched)).replace("STATE", event.c).replace("BEHIND", "(%s)" % event.s)
-        mine = sorted(set(re.findall(r"\bi\.(\w+)", term)) | {part}, key=lambda p: (p != part, p))
-        lower = sorted(set(re.findall(r"\bC\.(\w+)", term)))
+        mine = [part] + sorted(named_in("i", term) - {part})
+        lower = sorted(named_in("C", term))
         bare = re.sub(r"\b[iC]\.\w+", "", term)
         # what quantifies is given to the parts that name it alone, and the rest to each
         needs = [(n, t) for n, t in event.needs if "→" not in t or re.search(r"\b%s\b" % n, bare)]
-        premises = "".join("(%s) → " % t for _, t in needs) + "".join("C_T%s %s → " % (type_name(q), C_PARTS[q]) for q in lower) + "".join("%s %s → " % (type_name(q), PARTS[q][0]) for q in mine)
-        premises = premises.replace("C_T", "")
-        words = " ".join(names(event.arguments) + [n for n, _ in needs] + ["C_" + q for q in lower] + ["i_" + q for q in mine])
-        types = " ".join(state[w] for w in arguments.split())
-        body = re.sub(r"\bC\.(\w+)", r"C_\1", re.sub(r"\bi\.(\w+)", r"i_\1", term))
+        premises = premised(needs) + "".join("%s %s → " % (type_name(q), C_PARTS[q]) for q in lower) + "".join("%s %s → " % (type_name(q), PARTS[q][0]) for q in mine)
+        goal = type_name(part) + " " + " ".join(state[w] for w in arguments.split())
+        given = variables + [n for n, _ in needs]
         name = "%s_%s" % (low_name(event.name), part)
-        out.append("%s : %s%s → %s%s %s\n%s c conns s a %s =\n    %s\n\n" % (name, base, given, premises, type_name(part), types, name, words, body))
-        calls[part] = "%s c conns s a %s" % (name, " ".join(names(event.arguments) + [n for n, _ in needs] + ["C." + q for q in lower] + ["i." + q for q in mine]))
+        out.append(lemma(name, over, premises, goal, " ".join(given + ["C_" + q for q in lower] + ["i_" + q for q in mine]), bound("C", bound("i", term))))
+        calls[part] = " ".join([name] + given + ["C." + q for q in lower] + ["i." + q for q in mine])
     uses_c = any("C." in call for call in calls.values())
-    premises = "".join("(%s) → " % t for _, t in event.needs) + ("Connections c conns a → " if uses_c else "")
-    words = " ".join(names(event.arguments) + [n for n, _ in event.needs] + (["C"] if uses_c else []))
-    name = "%s_keeps" % low_name(event.name)
-    out.append("pub %s : %s%s → %sLocks c conns s a → Locks %s %s %s %s\n%s c conns s a%s i =\n    record {\n" % (name, base, given, premises, event.c, event.conns, event.s, event.a, name, " " + words if words else ""))
+    premises = premised(event.needs) + ("Connections c conns a → " if uses_c else "")
+    words = " ".join(variables + [n for n, _ in event.needs] + (["C"] if uses_c else []) + ["i"])
+    out.append(step(low_name(event.name) + "_keeps", over, premises, "Locks c conns s a", "Locks %s %s %s %s" % (event.c, event.conns, event.s, event.a), words))
     out.append(fields(PARTS, calls))
     if event.name == "Say":
         record = "pub record MaySay (c : Client) (s : Server) (a : ℕ → ℕ) (y0 : Received) : Type 0 where\n" + "".join("  pub %s : %s\n" % (n, t) for n, t in event.needs) + "\n"
         out.insert(2, "-- what is to be known of the reply\n" + record)
-        out.append("\npub say_told : %s (k : ℕ) (y0 : Received) → MaySay c s a y0 → Locks c conns s a → Locks c %s s a\nsay_told c conns s a k y0 m i = say_keeps c conns s a k y0 %s i\n" % (base, event.conns, " ".join("m." + n for n, _ in event.needs)))
+        out.append("\npub say_told : %s (k : ℕ) (y0 : Received) → MaySay c s a y0 → Locks c conns s a → Locks c %s s a\nsay_told c conns s a k y0 m i = say_keeps c conns s a k y0 %s i\n" % (BASE, event.conns, " ".join("m." + n for n, _ in event.needs)))
     write_module(TOP, event.name, "".join(out))
 
 

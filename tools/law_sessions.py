@@ -8,7 +8,7 @@ handed on as it is.
 import os
 import re
 
-from law_text import fields, kept_part, low_name, names, proofs_of, sentence, type_name, write_list, write_module, write_wanted
+from law_text import bound, fields, kept_part, lemma, low_name, named_in, names, premised, proofs_of, sentence, step, type_name, write_list, write_module, write_wanted
 
 TOP = proofs_of("session_law")
 
@@ -210,10 +210,14 @@ EVENTS = [
           }),
 ]
 
+BASE = "(c : Client) (conns : ℕ → Conn) (s : Server)"
+
+
 def emit(event):
     low = low_name(event.name)
     state = {"c": event.c, "conns": event.conns, "s": event.s}
-    given = " " + event.arguments if event.arguments else ""
+    over = BASE + (" " + event.arguments if event.arguments else "")
+    variables = names(over)
     out = [sentence(event.about), HEAD, "\n"]
     calls = {}
     for part, (arguments, _, reads) in PARTS.items():
@@ -221,21 +225,19 @@ def emit(event):
             calls[part] = "i." + part
             continue
         term = event.parts.get(part) or default(part)
-        used = set(re.findall(r"\bi\.(\w+)", term))
+        used = named_in("i", term)
         parts = ([part] if part in used else []) + sorted(used - {part})
         # what quantifies is given to the parts that name it alone, and the rest to each
         bare = re.sub(r"\bi\.\w+", "", term)
         needs = [(n, t) for n, t in event.needs if n in ("none",) and re.search(r"\b%s\b" % n, bare) or n != "none" and ("→" not in t or re.search(r"\b%s\b" % n, bare))]
-        premises = "".join("(%s) → " % t for _, t in needs) + "".join("%s %s → " % (type_name(q), PARTS[q][0]) for q in parts)
-        words = " ".join(names(event.arguments) + [n for n, _ in needs] + ["i_" + q for q in parts])
-        types = " ".join(state[w] for w in arguments.split())
-        out.append("%s_%s : (c : Client) (conns : ℕ → Conn) (s : Server)%s → %s%s %s\n%s_%s c conns s %s =\n    %s\n\n"
-                   % (low, part, given, premises, type_name(part), types, low, part, words, re.sub(r"\bi\.(\w+)", r"i_\1", term)))
-        calls[part] = "%s_%s c conns s %s" % (low, part, " ".join(names(event.arguments) + [n for n, _ in needs] + ["i." + q for q in parts]))
-    premises = "".join("(%s) → " % t for _, t in event.needs)
-    words = " ".join(names(event.arguments) + [n for n, _ in event.needs])
-    out.append("pub %s_keeps : (c : Client) (conns : ℕ → Conn) (s : Server)%s → %sSessions c conns s → Sessions %s %s %s\n%s_keeps c conns s%s i =\n    record {\n"
-               % (low, given, premises, event.c, event.conns, event.s, low, " " + words if words else ""))
+        premises = premised(needs) + "".join("%s %s → " % (type_name(q), PARTS[q][0]) for q in parts)
+        goal = type_name(part) + " " + " ".join(state[w] for w in arguments.split())
+        given = variables + [n for n, _ in needs]
+        name = "%s_%s" % (low, part)
+        out.append(lemma(name, over, premises, goal, " ".join(given + ["i_" + q for q in parts]), bound("i", term)))
+        calls[part] = " ".join([name] + given + ["i." + q for q in parts])
+    words = " ".join(variables + [n for n, _ in event.needs] + ["i"])
+    out.append(step(low + "_keeps", over, premised(event.needs), "Sessions c conns s", "Sessions %s %s %s" % (event.c, event.conns, event.s), words))
     out.append(fields(PARTS, calls))
     write_module(TOP, event.name, "".join(out))
 

@@ -1,5 +1,6 @@
 """What the scripts that write the regular part of the laws' proofs share: where the files stand, and the names in them."""
 import os
+import re
 import sys
 
 sys.dont_write_bytecode = True
@@ -38,6 +39,31 @@ def kept_part(part, variables, tactic):
     if not variables:
         return "let old = i.%s in %s" % (part, tactic)
     return "λ %s. let old = i.%s %s in %s" % (variables, part, variables, tactic)
+
+
+def named_in(letter, term):
+    """the parts that a proof takes from the record of this letter"""
+    return set(re.findall(r"\b%s\.(\w+)" % letter, term))
+
+
+def bound(letter, term):
+    """the proof with these parts as variables"""
+    return re.sub(r"\b%s\.(\w+)" % letter, letter + r"_\1", term)
+
+
+def premised(needs):
+    """what is needed, as premises"""
+    return "".join("(%s) → " % wanted for _, wanted in needs)
+
+
+def lemma(name, state, premises, goal, words, term):
+    """a lemma over a state, with its arguments behind, and its proof"""
+    return "%s : %s → %s%s\n%s %s =\n    %s\n\n" % (name, state, premises, goal, name, words, term)
+
+
+def step(name, state, premises, record, behind, words):
+    """the beginning of what keeps a whole record; `fields` ends it"""
+    return "pub %s : %s → %s%s → %s\n%s %s =\n    record {\n" % (name, state, premises, record, behind, name, words)
 
 
 def fields(parts, calls):
