@@ -1,5 +1,8 @@
 -- One client, one server and the messages between them, over connection 0.
 --
+-- This is the small model, of one file, that `smb311 drill` is proved against today. The model of the whole exchange is
+-- exchange_defs: a rule of the protocol goes there, and this one goes once the program runs on that.
+--
 -- The client has at most one request outstanding. Each message travels whole: a list holds what its messages say.
 use Rattle.std.specs.Prelude.{ℕ, zero, suc, ◌+◌, ◌-◌, ◌/◌, ◌==◌, min, Bool, true, false, ◌&&◌, if◌then◌else◌, List, [], ◌∷◌, ◌++◌, length, Option, Some, None, is_some}
 use Rattle.exchange_defs.specs.Content.{Counted, Gives}

@@ -1,4 +1,5 @@
 -- The server's step on one file: the first check that applies answers (MS-SMB2 3.3.5.12 READ, 3.3.5.13 WRITE).
+-- The small model, that Exchange speaks of; the checks of the whole server are exchange_defs' Check.
 use Rattle.std.specs.Prelude.{ℕ, ◌+◌, ◌==◌, nat_lt, nat_le, Bool, false, not, ◌&&◌, ◌||◌, if◌then◌else◌, List, length, take, drop}
 use Rattle.exchange_defs.specs.Content.{ContentOp, Write, Read, effect, past_end, touches, Counted, Gives}
 use Rattle.exchange_defs.specs.Order.{Said, Says_ok, Says_end, Says_other}
