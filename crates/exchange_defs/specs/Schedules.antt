@@ -1,6 +1,6 @@
 -- The program's own choices, as lists of events: which operation a push sends, how a channel is linked, how a run is settled.
 -- The laws speak of every list of events, so nothing here is a premise of them.
-use Rattle.std.specs.Prelude.{ℕ, zero, suc, ◌+◌, ◌*◌, ◌==◌, nat_le, Bool, true, false, not, ◌&&◌, ◌||◌, if◌then◌else◌, List, [], ◌∷◌, ◌++◌, length, Option, Some, None}
+use Rattle.std.specs.Prelude.{ℕ, zero, suc, ◌+◌, ◌-◌, ◌*◌, ◌==◌, nat_le, Bool, true, false, not, ◌&&◌, ◌||◌, if◌then◌else◌, List, [], ◌∷◌, ◌++◌, length, Option, Some, None}
 use Rattle.exchange_defs.specs.Table.{is_at, is_filled}
 use Rattle.exchange_defs.specs.Operations.{Refusal, weight, charge}
 use Rattle.exchange_defs.specs.Client.{Client, Stage, Apart, RefusedDialog, create_for, may_push, goes_itself, needs_slot, is_free, settle_no_slot}
@@ -17,8 +17,21 @@ unfoldable pub least_free : Client → ℕ → ℕ → ℕ → Option ℕ
 least_free c create i zero = None
 least_free c create i (suc n) = elim (is_free c create i) [ true ↦ Some i | false ↦ least_free c create (i + 1) n ]
 
+-- a request to attach pays 1
 abbrev pub cost : Client → ℕ → ℕ
 cost c g = if goes_itself c g then charge (weight (c.op g)) else 1
+
+abbrev pub paid : Client → ℕ → ℕ
+paid c g = if c.asking g then 1 else charge (weight (c.op g))
+
+-- what the operations from 1 to n have outstanding on a channel
+unfoldable pub paid_on : Client → ℕ → ℕ → ℕ
+paid_on c k zero = 0
+paid_on c k (suc n) = (if is_at k (c.on (n + 1)) then paid c (n + 1) else 0) + paid_on c k n
+
+-- the credits that a ready channel's client holds: each request asks for 512, and its reply gives back what it paid
+abbrev pub purse : Client → ℕ → ℕ
+purse c k = 512 - paid_on c k c.taken
 
 unfoldable pub choose : Client → ℕ → ℕ → List ℕ → ℕ → ℕ → Choice
 choose c k credits slotless g zero = record { slotless = slotless; pick = None }
@@ -39,9 +52,9 @@ choose c k credits slotless g (suc n) =
 abbrev pub push_by : ℕ → Choice → Event
 push_by k x = Push k x.slotless x.pick
 
--- the program's push on a channel that holds so many credits
-abbrev pub push_lowest : World → ℕ → ℕ → Event
-push_lowest w k credits = push_by k (choose w.client k credits [] 1 w.client.taken)
+-- the program's push on a channel
+abbrev pub push_lowest : World → ℕ → Event
+push_lowest w k = push_by k (choose w.client k (purse w.client k) [] 1 w.client.taken)
 
 -- ---- a schedule and the world that it comes to
 
@@ -52,9 +65,8 @@ pub record Course : Type 0 where
 unfoldable pub went : Course → Event → Course
 went c e = record { world = happens c.world e; events = c.events ++ e ∷ [] }
 
--- a channel with nothing outstanding holds 512 credits, and one request asks for as many again
 unfoldable pub went_push : Course → ℕ → Course
-went_push c k = went c (push_lowest c.world k 512)
+went_push c k = went c (push_lowest c.world k)
 
 -- ---- link: open, then serve and take in turn until the channel is ready or an end is closed
 

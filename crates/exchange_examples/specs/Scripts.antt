@@ -1,5 +1,5 @@
 -- Scripts of the worked examples, and what is told of the worlds that they come to.
-use Rattle.std.specs.Prelude.{ℕ, zero, suc, ◌+◌, Bool, true, false, if◌then◌else◌, List, [], ◌∷◌, Some}
+use Rattle.std.specs.Prelude.{ℕ, zero, suc, ◌+◌, Bool, true, false, if◌then◌else◌, List, [], ◌∷◌, Some, is_some}
 use Rattle.exchange_defs.specs.Texts.{name_before}
 use Rattle.exchange_defs.specs.Order.{order_of}
 use Rattle.exchange_defs.specs.Operations.{HadStatus, Op, OpCreate, OpWrite, OpRead, OpEnd, OpTime, OpRename, OpRemove, OpLock, OpUnlock, OpStat, OpList, OpClose, Outcome}
@@ -8,7 +8,7 @@ use Rattle.exchange_defs.specs.Commands.{Shows, Refused, Logon}
 use Rattle.exchange_defs.specs.State.{Server, Entry}
 use Rattle.exchange_defs.specs.Network.{Settings, World, Submit, Push, Serve, Take, Cut, Drop, Restart, Crash, Wait, Finish, Sent, answer, start}
 use Rattle.exchange_defs.specs.Runs.{account, isolates, acts}
-use Rattle.exchange_defs.specs.Schedules.{Course, Line, Does, Pushes, Links, Settles, course}
+use Rattle.exchange_defs.specs.Schedules.{Course, Line, Does, Pushes, Links, Settles, course, purse}
 
 abbrev pub somebody : Shows → Identity
 somebody logon = record { guid = 7; salt = 3; logon = logon; share = 100 ∷ []; cipher = 2; signing = 1 }
@@ -465,3 +465,29 @@ given_up_slots =
     Pushes 0 ∷ Does (Serve 0) ∷ Does (Take 0) ∷ Does (Cut 0) ∷ Does (Drop 0) ∷ Links 0 ∷
     locks_given_up 3 15
     (submit 18 (OpLock 1 18 1 true) ∷ Pushes 0 ∷ Does (Serve 0) ∷ Does (Take 0) ∷ Pushes 0 ∷ Does (Serve 0) ∷ Does (Take 0) ∷ [])
+
+-- listings of the root's open 1 from operation g on, each of 16 credits
+abbrev pub listings : ℕ → ℕ → List Line → List Line
+listings g zero rest = rest
+listings g (suc n) rest = submit g (OpList 1) ∷ Pushes 0 ∷ listings (g + 1) n rest
+
+-- A channel's 512 credits pay for thirty-two listings: the thirty-third stays back until a reply gives back what it paid.
+abbrev pub listings_unheard : List Line
+listings_unheard = Links 0 ∷ submit 1 (OpCreate [] 0x81 3 1 false true) ∷ Pushes 0 ∷ Does (Serve 0) ∷ Does (Take 0) ∷ listings 2 33 []
+
+abbrev pub listings_heard : List Line
+listings_heard = Links 0 ∷ submit 1 (OpCreate [] 0x81 3 1 false true) ∷ Pushes 0 ∷ Does (Serve 0) ∷ Does (Take 0) ∷ listings 2 33 (Does (Serve 0) ∷ Does (Take 0) ∷ Pushes 0 ∷ [])
+
+-- In a new session a request to attach goes out in a listing's place, and pays 1.
+abbrev pub listing_asks : List Line
+listing_asks =
+    Links 0 ∷ submit 1 (OpCreate [] 0x81 3 1 true true) ∷ Pushes 0 ∷ Does (Serve 0) ∷ Does (Take 0) ∷ Does (Cut 0) ∷ Does (Drop 0) ∷ Links 0 ∷
+    submit 2 (OpList 1) ∷ Pushes 0 ∷ []
+
+-- the operation has a request on its way
+abbrev pub is_out_behind : List Line → ℕ → Bool
+is_out_behind script g = is_some ((course 1 script (beginning 268435456)).world.client.on g)
+
+-- the credits that channel 0 holds behind a script
+abbrev pub purse_behind : List Line → ℕ
+purse_behind script = purse (course 1 script (beginning 268435456)).world.client 0
