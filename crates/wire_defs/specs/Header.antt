@@ -38,3 +38,7 @@ IsWritableHeader h = AreWritable (header_table h)
 -- the canonical spelling, 64 bytes
 abbrev pub header_spelling : Header → List ℕ
 header_spelling h = with_fields [] (header_table h)
+
+-- In an asynchronous message the AsyncId stands where Reserved and TreeId stand else (MS-SMB2 2.2.1.1).
+abbrev pub async_id : List ℕ → ℕ
+async_id m = number 8 m 32

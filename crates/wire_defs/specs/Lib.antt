@@ -7,3 +7,12 @@ pub mod Write
 pub mod Error
 pub mod Lock
 pub mod Create
+pub mod Utf16
+pub mod Frames
+pub mod Compound
+pub mod Contexts
+pub mod Negotiate
+pub mod SessionSetup
+pub mod TreeConnect
+pub mod Bare
+pub mod Offer

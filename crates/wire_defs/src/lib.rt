@@ -5,7 +5,14 @@
 mod error;
 mod header;
 mod message;
+mod refusal;
+mod session_message;
 
 pub use error::{HeaderError, MessageError, Part};
 pub use header::Header;
 pub use message::{ErrorResponse, LockElement, ReadRequest, WriteResponse};
+pub use refusal::{CtxError, FrameError, TextError};
+pub use session_message::{
+    EchoRequest, EchoResponse, LogoffRequest, LogoffResponse, TreeConnectResponse,
+    TreeDisconnectRequest, TreeDisconnectResponse,
+};
