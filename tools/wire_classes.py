@@ -1,0 +1,114 @@
+"""Info classes of MS-FSCC 2.4 (files), 2.4 (directories), 2.5 (volumes), and FSCTL_QUERY_NETWORK_INTERFACE_INFO (MS-SMB2 2.2.32.5)."""
+import struct
+
+from wire_layouts import aligned, packed
+from wire_shown import Shown, shown
+
+TIMES = (0x01D9A0B1C2D3E4F5, 0x01D9A0B1C2D3E4F6, 0x01D9A0B1C2D3E4F7, 0x01D9A0B1C2D3E4F8)
+NAME = "aé\U0001F600.txt"
+
+
+def utf16(text):
+    return text.encode("utf-16-le")
+
+
+# ---- files
+
+
+def basic(times, attributes=0x20, reserved=0):
+    return struct.pack("<QQQQII", *times, attributes, reserved)
+
+
+def standard(allocated, end, links, pending, directory):
+    return struct.pack("<QQIBBH", allocated, end, links, pending, directory, 0)
+
+
+def internal(number):
+    return packed(8, number)
+
+
+def rename(replace, name, root=0, reserved=0):
+    data = utf16(name)
+    return struct.pack("<B", replace) + bytes([reserved]) * 7 + struct.pack("<QI", root, len(data)) + data
+
+
+def all_information(times, attributes, sizes, number, access, mode, name):
+    """2.4.2: basic, standard, internal, EA size, access, position, mode, alignment, name."""
+    data = utf16(name)
+    return (basic(times, attributes) + standard(*sizes) + internal(number) + packed(4, 0) + packed(4, access) + packed(8, 0) + packed(4, mode)
+            + packed(4, 0) + packed(4, len(data)) + data)
+
+
+def network_open(times, allocated, end, attributes, reserved=0):
+    return struct.pack("<QQQQQQII", *times, allocated, end, attributes, reserved)
+
+
+# ---- directories
+
+FIXED = {1: 64, 2: 68, 3: 94, 12: 12, 37: 104, 38: 80}
+
+
+class Entry:
+    def __init__(self, name, times=TIMES, end=5, allocated=8, attributes=0x20, file=7, index=0):
+        self.name, self.times, self.end, self.allocated = name, times, end, allocated
+        self.attributes, self.file, self.index = attributes, file, index
+
+    def spelled(self, kind):
+        """The entry but for NextEntryOffset."""
+        data = utf16(self.name)
+        if kind == 12:
+            return struct.pack("<II", self.index, len(data)) + data
+        out = struct.pack("<IQQQQQQII", self.index, *self.times, self.end, self.allocated, self.attributes, len(data))
+        out += {1: b"", 2: bytes(4), 3: bytes(4) + bytes(2) + bytes(24), 37: bytes(4) + bytes(2) + bytes(24) + bytes(2) + packed(8, self.file),
+                38: bytes(4) + bytes(4) + packed(8, self.file)}[kind]
+        return out + data
+
+
+def some_entries():
+    return [Entry(".", attributes=0x10, end=0, allocated=0, file=3), Entry("..", attributes=0x10, end=0, allocated=0, file=1),
+            Entry(NAME, file=0x1122334455667788), Entry("b", end=0, allocated=0, file=9)]
+
+
+def directory(kind, entries):
+    """The entries of a listing, each at a multiple of 8 (MS-FSCC 2.4)."""
+    out = b""
+    for place, entry in enumerate(entries):
+        spelled = entry.spelled(kind)
+        assert 4 + len(spelled) == FIXED[kind] + len(utf16(entry.name))
+        last = place + 1 == len(entries)
+        out += packed(4, 0 if last else aligned(4 + len(spelled))) + spelled
+        out = out if last else out.ljust(aligned(len(out)), b"\0")
+    return out
+
+
+# ---- volumes
+
+
+def volume(created, serial, label):
+    data = utf16(label)
+    return struct.pack("<QIIBB", created, serial, len(data), 0, 0) + data
+
+
+def size(total, free, sectors, sector_bytes):
+    return struct.pack("<QQII", total, free, sectors, sector_bytes)
+
+
+def device(kind, characteristics):
+    return struct.pack("<II", kind, characteristics)
+
+
+def attribute(attributes, longest, name):
+    data = utf16(name)
+    return struct.pack("<III", attributes, longest, len(data)) + data
+
+
+def full_size(total, caller, free, sectors, sector_bytes):
+    return struct.pack("<QQQII", total, caller, free, sectors, sector_bytes)
+
+
+def interface(address, index=1, capability=0, speed=10**9, family=2):
+    """One interface of 152 bytes: Next, IfIndex, Capability, Reserved, LinkSpeed, and a SOCKADDR_IN in 128 bytes."""
+    socket = struct.pack("<HHI", family, 0, address).ljust(128, b"\0")
+    out = struct.pack("<IIIIQ", 0, index, capability, 0, speed) + socket
+    assert len(out) == 152
+    return out
