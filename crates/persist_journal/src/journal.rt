@@ -27,15 +27,15 @@ const AROUND: u64 = 5;
 /// Why a call of the journal was refused.
 #[derive(Clone, Copy, PartialEq, Eq, Debug, Drop, Error)]
 pub enum JournalError {
-    #[error("no memory")]
+    #[error("memory ran out")]
     Memory,
-    #[error("the disk failed, for the {0}th time")]
+    #[error("the disk failed, and its count of faults is now {0}")]
     DiskFault(u64),
-    #[error("no journal from byte {0} on")]
+    #[error("the disk holds no journal: its bytes break the grammar at byte {0}")]
     NotAJournal(u64),
-    #[error("the journal would hold {0} bytes of {1}")]
+    #[error("the journal would use {0} bytes, and its limit is {1}")]
     Full(u64, u64),
-    #[error("the journal stopped when the disk failed for the {0}th time")]
+    #[error("the journal stopped when the disk failed, at a count of {0} faults")]
     Stopped(u64),
 }
 

@@ -35,11 +35,11 @@ pub const NO_NOTE: StepNote = StepNote {
 /// Why a step was refused. After all but `Memory` the world is as before.
 #[derive(Debug, Drop, Error)]
 pub enum WorldError {
-    #[error("out of memory")]
+    #[error("memory ran out")]
     Memory,
-    #[error("no channel {0}")]
+    #[error("connection {0} is not open")]
     NoChannel(u32),
-    #[error("nothing there {0}")]
+    #[error("no message waits on connection {0}")]
     NothingThere(u32),
 }
 
