@@ -14,6 +14,9 @@ pub mod Written
 pub mod Restoring
 pub mod Sorted
 pub mod KindsAlways
+pub mod Channels
+pub mod Waiting
+pub mod DialogFacts
 pub mod Same
 pub mod Moved
 pub mod Opened

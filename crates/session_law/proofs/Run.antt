@@ -104,17 +104,17 @@ drops w k h =
           (folds_more w.client.who.guid (logon_user w.client.who.logon) w.server.epoch w.records A.records (clean_end w.client.who.guid (logon_user w.client.who.logon) w.server w.moment k) h.stored);
     }
 
-free_of : (w : World) (k : ℕ) → may_open w k ≡ true → w.client.making ≡ None
+pub free_of : (w : World) (k : ℕ) → may_open w k ≡ true → w.client.making ≡ None
 free_of w k m =
     none_of w.client.making (not_true (is_some w.client.making) (back_of (not (w.conns k).server_open) _ (back_of (not (w.conns k).client_open) _ (back_of (nat_lt k max_channel) _ m))))
 
 -- ---- Push
 
-own_work : (op : Op) (guid file slot number : ℕ) → is_work (request_of op guid file slot number) ≡ true × logs_on (request_of op guid file slot number) ≡ false
+pub own_work : (op : Op) (guid file slot number : ℕ) → is_work (request_of op guid file slot number) ≡ true × logs_on (request_of op guid file slot number) ≡ false
 unfolding is_work logs_on
 own_work op guid file slot number = (grind arith, grind arith)
 
-ask_work : (op : Op) (guid file : ℕ) → is_work (reconnect_of op guid file) ≡ true × logs_on (reconnect_of op guid file) ≡ false
+pub ask_work : (op : Op) (guid file : ℕ) → is_work (reconnect_of op guid file) ≡ true × logs_on (reconnect_of op guid file) ≡ false
 unfolding is_work logs_on
 ask_work op guid file = (grind arith, grind arith)
 

@@ -6,6 +6,7 @@
 
 ghost use Rattle.std.specs.Prelude.{List};
 ghost use Rattle.exchange_defs.specs.Network.{Event, Settings, run, start};
+ghost use Rattle.session_law.specs.Dialogs.{Dialogs};
 ghost use Rattle.session_law.specs.Kinds.{Kinds};
 ghost use Rattle.session_law.specs.Sessions.{Sessions};
 
@@ -19,4 +20,12 @@ ghost use Rattle.session_law.specs.Sessions.{Sessions};
 pub fn sessions_law()
     ensures fit { (settings : Settings) (events : List Event) → Sessions (run events (start settings)).client (run events (start settings)).conns (run events (start settings)).server }
     ensures kinds { (settings : Settings) (events : List Event) → Kinds (run events (start settings)).client (run events (start settings)).conns (run events (start settings)).server }
+{}
+
+/// On every run, behind every event, the client stays who it was, and each of its channels is closed, or ready, or in its
+/// dialog (each part of `Dialogs`): a ready channel's dialog is over; an open end whose dialog is over is ready; a dialog's
+/// message that waits is alone in its list, and nothing else waits beside it; the session in the making has its dialog on
+/// its channel; and a signed SESSION_SETUP that waits, on whichever connection, is of a session that the client accepted.
+pub fn dialogs_law()
+    ensures fit { (settings : Settings) (events : List Event) → Dialogs settings.who (run events (start settings)).client (run events (start settings)).conns }
 {}
