@@ -1,4 +1,4 @@
--- What a reader gives, but for want of memory.
+-- What a reader gives, unless memory runs out.
 use Rattle.std.specs.Prelude.{◌≡◌, ℕ, Result, Ok, Err}
 use Rattle.smb311_cli.specs.declared.script.Code.{Code}
 use Rattle.smb311_cli.specs.declared.script.Refusal.{Refusal}
@@ -11,7 +11,7 @@ abbrev pub ◌>>=◌ : {A B E : Type 0} → Result A E → (A → Result B E) �
 (Ok x) >>= f = f x
 (Err e) >>= f = Err e
 
--- A fault is want of memory, or the refusal that is due.
+-- A fault is that memory ran out, or the refusal that is due.
 abbrev pub Fails : {B E : Type 0} → Fault E → Result B E → Type 0
 Fails Memory due = Unit {0}
 Fails (Refused e) due = due ≡ Err e

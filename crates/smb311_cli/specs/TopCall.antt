@@ -80,8 +80,8 @@ pub record HasEnded (left left' written written' : Option (List ℕ)) : Type 0 w
   pub ended : IsAtEnd left'
   pub done : IsDone script written written'
 
--- What each ending says of the command: what was read, what was written, and whose count of faults rose. Want of memory
--- alone is free.
+-- What each ending says of the command: what was read, what was written, and whose count of faults rose. That memory
+-- ran out is free.
 abbrev pub Drills : (left left' written written' : Option (List ℕ)) → (source_rose sink_rose : Type 0) → Ending → Type 0
 Drills left left' written written' source_rose sink_rose Done = HasEnded left left' written written'
 Drills left left' written written' source_rose sink_rose Usage = ⊥

@@ -11,6 +11,6 @@ pub enum Ending {
     SourceFailed = 4,
     /// The sink failed.
     SinkFailed = 5,
-    /// Memory was wanting.
+    /// Memory ran out.
     Memory = 8,
 }

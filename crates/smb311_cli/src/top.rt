@@ -19,7 +19,7 @@ const USAGE: &str = "usage: smb311 drill\n";
 /// The one command is `drill`: it reads a script, runs it, and writes the outcome of each operation
 /// and the file's bytes. The status is 0 where that was done, 2 where the words are another list, 3
 /// where a line of the script is refused, 4 where the source failed, 5 where the sink did, and 8
-/// where memory was wanting. What is written goes to the sink alone.
+/// where memory ran out. What is written goes to the sink alone.
 pub fn smb311<S: Source, O: Sink>(
     alloc: Global,
     words: &[String],

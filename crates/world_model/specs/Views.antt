@@ -57,7 +57,7 @@ pub record IsSettling (old new : Client) (number : ℕ) (outcome : Outcome) (ans
   pub ops : new.ops ≡ old.ops
   pub next : new.next ≡ old.next
 
--- a step failed for want of memory, which is free, or by the model's cause
+-- a step failed since memory ran out, which is free, or by the model's cause
 abbrev pub StepFails : Option WorldError → WorldError → Type 0
 StepFails cause Memory = Unit {0}
 StepFails cause (NoChannel k) = cause ≡ Some (NoChannel k)

@@ -34,7 +34,7 @@ fn outcome_in(alloc: Global, m: &[u8], header: &Header) -> Result<Outcome, Alloc
     }
 }
 
-/// Adds an outcome. For want of memory nothing changes.
+/// Adds an outcome. Where memory runs out nothing changes.
 fn settle(outcomes: &mut Outcomes, number: u32, outcome: Outcome) -> Result<(), AllocError>
     ensures ok { OnOk result (outcomes.new.settled ≡ outcomes.old.settled ++ (number, outcome) ∷ []) }
     ensures order { OnOk result (outcomes.new.order ≡ outcomes.old.order ++ number ∷ []) }
@@ -102,7 +102,7 @@ impl Client {
         Ok(true)
     }
 
-    /// Hears a response, and settles the operation whose message id it has. For want of memory
+    /// Hears a response, and settles the operation whose message id it has. Where memory runs out
     /// nothing changes.
     pub fn hear(&mut self, alloc: Global, m: &[u8]) -> Result<Option<u32>, AllocError>
         ensures ok { (message number : ℕ) (kind : Kind) (reply : Reply) → message < 2 ^ 64 → Suits kind reply → m.now ≡ response_bytes message kind reply → self.old.sent ≡ Some (record { number = number; message = message }) → IfOk result (IsSettling self.old self.new number (outcome_by reply)) }

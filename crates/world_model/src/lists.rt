@@ -47,7 +47,7 @@ impl NumberList {
         self.items.is_empty()
     }
 
-    /// Adds one number at the end. For want of memory nothing changes.
+    /// Adds one number at the end. Where memory runs out nothing changes.
     pub fn push(&mut self, number: u32) -> Result<(), AllocError>
         ensures ok { OnOk result (self.new ≡ self.old ++ number ∷ []) }
         ensures err { OnErr result (self.new ≡ self.old) }
@@ -109,7 +109,7 @@ impl SettledList {
         self.items.is_empty()
     }
 
-    /// Adds one at the end. For want of memory nothing changes.
+    /// Adds one at the end. Where memory runs out nothing changes.
     pub fn push(&mut self, number: u32, outcome: Outcome) -> Result<(), AllocError>
         ensures ok { OnOk result (self.new ≡ self.old ++ (number, outcome) ∷ []) }
         ensures err { OnErr result (self.new ≡ self.old) }
@@ -163,7 +163,7 @@ impl FileList {
         self.items.is_empty()
     }
 
-    /// Adds one file at the end. For want of memory nothing changes.
+    /// Adds one file at the end. Where memory runs out nothing changes.
     pub fn push(&mut self, path: Text, bytes: Bytes) -> Result<(), AllocError>
         ensures ok { OnOk result (self.new ≡ self.old ++ (path, bytes) ∷ []) }
         ensures err { OnErr result (self.new ≡ self.old) }

@@ -162,7 +162,7 @@ fn overwrite(file: &mut [u8], offset: usize, payload: &[u8])
     file[offset..offset + payload.len()].copy_from_slice(payload);
 }
 
-/// Writes into a file, with zeros up to the offset. For want of memory the file stays.
+/// Writes into a file, with zeros up to the offset. Where memory runs out the file stays.
 #[tactic(auto, using(crate::proofs::Writing::written_nothing, crate::proofs::Writing::written_inside, crate::proofs::Writing::written_grown))]
 fn write_at(file: &mut Vec<u8>, offset: usize, payload: &[u8]) -> Result<(), AllocError>
     requires { offset + length payload.now < 2 ^ 64 }
@@ -183,8 +183,8 @@ fn write_at(file: &mut Vec<u8>, offset: usize, payload: &[u8]) -> Result<(), All
 }
 
 impl Server {
-    /// Acts on a command and answers the request that had this header. For want of memory the file
-    /// stays.
+    /// Acts on a command and answers the request that had this header. Where memory runs out the
+    /// file stays.
     #[tactic(auto, using(crate::proofs::Writing::empty_by_length), unfolding(crate::specs::Server::answer, exchange_defs::specs::Content::effect, exchange_defs::specs::Content::touches))]
     fn act(
         &mut self,
@@ -226,7 +226,7 @@ impl Server {
     }
 
     /// Answers the request in a message, which it acts on. A message that isn't a READ or WRITE
-    /// request breaks the form. For want of memory the file stays.
+    /// request breaks the form. Where memory runs out the file stays.
     pub fn respond(&mut self, alloc: Global, m: &[u8]) -> Result<Answered, AllocError>
         ensures ok { (message : ℕ) (kind : OpKind) → is_in_limits kind ≡ true → message < 2 ^ 64 → m.now ≡ request_bytes message kind → IfOk result (Answers (request_header message kind) (answer (command_of kind) self.old.file.items)) }
         ensures file { (message : ℕ) (kind : OpKind) → is_in_limits kind ≡ true → message < 2 ^ 64 → m.now ≡ request_bytes message kind → OnOk result (self.new.file.items ≡ (answer (command_of kind) self.old.file.items).file) }
