@@ -1,0 +1,6 @@
+pub mod Chain
+pub mod Choice
+pub mod Derivation
+pub mod Nonces
+pub mod Sealing
+pub mod Signing

@@ -1,0 +1,31 @@
+use std::alloc::AllocError;
+use thiserror::Error;
+
+/// Why a frame isn't a sealed message of a session, in the order in which it is looked at (MS-SMB2 3.3.5.2.1.1).
+#[derive(Clone, Copy, Debug, PartialEq, Eq, Error)]
+pub enum SealError {
+    #[error("There is no memory for the message.")]
+    Memory,
+    /// Fewer bytes than a transform header, or other ones in front.
+    #[error("The frame is not sealed.")]
+    NotSealed,
+    /// The OriginalMessageSize, which isn't the number of bytes behind the transform header or is above 1,114,060.
+    #[error("The original message size {0} is not that of the frame.")]
+    BadSize(u32),
+    /// The SessionId, which is another session's.
+    #[error("The frame is sealed for the session {0}.")]
+    OtherSession(u64),
+    #[error("The tag of the frame is not the one of its bytes.")]
+    BadTag,
+}
+
+impl From<AllocError> for SealError {
+    ghost use Rattle.std.specs.Prelude.{◌≡◌};
+    ghost use Rattle.session_defs.specs.declared.error.SealError.TheVariants as errors;
+
+    ghost from_gives = { λ a e. e ≡ errors.Memory };
+
+    fn from(_error: AllocError) -> SealError {
+        SealError::Memory
+    }
+}
