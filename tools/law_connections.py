@@ -56,10 +56,10 @@ use Rattle.std.proofs.Common.{eqb-true, ◌≡◌, ◌≢◌, ℕ, ◌+◌, ◌�
 use Rattle.exchange_defs.specs.Table.{put, put2}
 use Rattle.exchange_defs.specs.Status.{user_session_deleted}
 use Rattle.exchange_defs.specs.State.{Message, Reply}
-use Rattle.exchange_defs.specs.Operations.{Op, Outcome, Why, is_unsettled, is_ok, is_create, is_close, is_lock, create_of, holds_up, request_of}
-use Rattle.exchange_defs.specs.Client.{Client, Stage, create_for, guid_for, has_open, may_take, take_op, waits, take_slot, outstanding as put_out, asked, cut_channel, end_session, finish}
+use Rattle.exchange_defs.specs.Operations.{Op, Outcome, Why, HadStatus, is_unsettled, is_ok, is_create, is_close, is_lock, create_of, holds_up, request_of}
+use Rattle.exchange_defs.specs.Client.{Client, Stage, create_for, guid_for, has_open, may_take, take_op, waits, take_slot, outstanding as put_out, asked, cut_channel, end_session, bind_channel, begin_session, leave_dialog, note_refusal, finish}
 use Rattle.exchange_defs.specs.Settling.{answered, joined, settled as settled_by}
-use Rattle.exchange_defs.specs.Dialogs.{open_channel, went_on, accepted, bound, readied, leave_dialog, refused_dialog}
+use Rattle.exchange_defs.specs.Dialogs.{open_channel, went_on, accepted}
 use Rattle.exchange_defs.specs.Network.{Conn, Sent, Received, Token, ForDialog, ForOp, ForAttach, op_of, is_own, fresh as fresh_conn, server_off, client_off, send_up, behind_front, take_front}
 use Rattle.exchange_defs.specs.Runs.{is_once, is_send_of}
 use Rattle.exchange_law.specs.Connections.{Connections, copies, count_up, count_down, no_copy_out, is_bound, makes_open, shuts_open, acts_once, its_create, its_request, create_at, opens, PARTS}
@@ -140,12 +140,12 @@ EVENTS = [
           parts={"stages": "λ j. let old = i.stages j in let l = live in grind arith"}),
     Event("Accepted", "a new session is accepted", "(k : ℕ)", c="(accepted c k)"),
     Event("DialogRefused", "a dialog is refused, and the client closes its channel", "(k status : ℕ)", [("apart", "c.ready k ≡ false")],
-          c="(refused_dialog c k status)", conns="(put conns k (client_off (conns k)))",
+          c="(note_refusal c k (HadStatus status))", conns="(put conns k (client_off (conns k)))",
           parts={"first": "λ j n p x h t ao b. " + UP + "let old = i.first j n p x h' t ao b in let r = i.on_ready p k in grind arith"}),
     Event("DialogSent", "the next message of a dialog goes out", "(k n0 : ℕ) (m : Message)", [("none", "copies 0 (conns k) ≡ 0"), ("apart", "c.ready k ≡ false")],
           conns="(put conns k (send_up (conns k) ForDialog m n0))"),
-    Event("Bound", "a further channel is ready", "(k : ℕ)", [("live", "c.live ≡ true"), ("stands", "(conns k).client_open ≡ true"), ("none", "copies 0 (conns k) ≡ 0")], c="(bound c k)"),
-    Event("Readied", "a session is ready", "(k : ℕ) (r : Reply)", [("stands", "(conns k).client_open ≡ true"), ("none", "copies 0 (conns k) ≡ 0")], c="(readied c k r)"),
+    Event("Bound", "a further channel is ready", "(k : ℕ)", [("live", "c.live ≡ true"), ("stands", "(conns k).client_open ≡ true"), ("none", "copies 0 (conns k) ≡ 0")], c="(bind_channel c k)"),
+    Event("Readied", "a session is ready", "(k session tree : ℕ)", [("stands", "(conns k).client_open ≡ true"), ("none", "copies 0 (conns k) ≡ 0")], c="(begin_session c k session tree)"),
     Event("DialogOff", "the client closes a channel that isn't ready", "(k : ℕ)", [("apart", "c.ready k ≡ false")],
           c="(leave_dialog c k)", conns="(put conns k (client_off (conns k)))",
           parts={"first": "λ j n p x h t ao b. " + UP + "let old = i.first j n p x h' t ao b in let r = i.on_ready p k in grind arith"}),

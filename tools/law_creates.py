@@ -61,10 +61,10 @@ use Rattle.std.proofs.Common.{eqb-true, ◌≡◌, ◌≢◌, ℕ, ◌+◌, ◌�
 use Rattle.exchange_defs.specs.Table.{put, put2}
 use Rattle.exchange_defs.specs.Status.{success, user_session_deleted}
 use Rattle.exchange_defs.specs.State.{Message, Reply, Open as OpenRow}
-use Rattle.exchange_defs.specs.Operations.{Op, Outcome, Unsettled, Why, is_unsettled, is_ok, id_in}
-use Rattle.exchange_defs.specs.Client.{Client, Stage, take_slot, outstanding as put_out, asked, cut_channel, end_session, finish}
+use Rattle.exchange_defs.specs.Operations.{Op, Outcome, Unsettled, Why, is_unsettled, is_ok, id_in, HadStatus}
+use Rattle.exchange_defs.specs.Client.{Client, Stage, take_slot, outstanding as put_out, asked, cut_channel, end_session, finish, bind_channel, begin_session, leave_dialog, note_refusal}
 use Rattle.exchange_defs.specs.Settling.{answered, joined, settled as settled_by}
-use Rattle.exchange_defs.specs.Dialogs.{open_channel, went_on, accepted, bound, readied, leave_dialog, refused_dialog}
+use Rattle.exchange_defs.specs.Dialogs.{open_channel, went_on, accepted}
 use Rattle.exchange_defs.specs.Network.{Conn, Sent, Received, Token, ForDialog, ForOp, ForAttach, op_of, fresh as fresh_conn, server_off, client_off, send_up, behind_front, take_front}
 use Rattle.exchange_defs.specs.Runs.{never_acted}
 use Rattle.exchange_law.specs.Connections.{copies, makes_open, FIT}
@@ -147,11 +147,11 @@ EVENTS = [
           }),
     Event("WentOn", "a dialog goes on", "", "(k : ℕ) (stage : Stage) (r : Reply)", c="(went_on c k stage r)"),
     Event("Accepted", "a new session is accepted", "rank", "(k : ℕ)", c="(accepted c k)"),
-    Event("DialogRefused", "a dialog is refused, and the client closes its channel", "down", "(k status : ℕ)", c="(refused_dialog c k status)", conns="(put conns k (client_off (conns k)))"),
+    Event("DialogRefused", "a dialog is refused, and the client closes its channel", "down", "(k status : ℕ)", c="(note_refusal c k (HadStatus status))", conns="(put conns k (client_off (conns k)))"),
     Event("DialogSent", "the next message of a dialog goes out", "up", "(k n0 : ℕ) (m : Message)", [("says", "is_of_dialog m.command ≡ true")],
           conns="(put conns k (send_up (conns k) ForDialog m n0))"),
-    Event("Bound", "a further channel is ready", "", "(k : ℕ)", c="(bound c k)"),
-    Event("Readied", "a session is ready", "live session", "(k : ℕ) (r : Reply)", [("dead", "c.live ≡ false")], c="(readied c k r)",
+    Event("Bound", "a further channel is ready", "", "(k : ℕ)", c="(bind_channel c k)"),
+    Event("Readied", "a session is ready", "live session", "(k session tree : ℕ)", [("dead", "c.live ≡ false")], c="(begin_session c k session tree)",
           parts={
               "unclosed": "λ p. let old = i.unclosed p in let pd = i.plain_dead p in let fr = f.fresh p in grind arith",
               "barred_reply": "λ j n p y h t. let h' = h in " + OUT + "let on = f.on_ready p j in let rd = f.ready j in grind arith",

@@ -98,10 +98,10 @@ use Rattle.exchange_defs.specs.Commands.{TreeConnect, deletes_on_close}
 use Rattle.exchange_defs.specs.CheckSetup.{tree_in}
 use Rattle.exchange_defs.specs.State.{Server, Message, Reply, Kept, Range}
 use Rattle.exchange_defs.specs.Records.{lower_limit}
-use Rattle.exchange_defs.specs.Operations.{Op, Outcome, Why, is_unsettled, is_ok, is_create, is_close, is_lock, create_of, id_in, reconnect_of}
-use Rattle.exchange_defs.specs.Client.{Client, Stage, AskedTree, create_for, guid_for, outstanding as put_out, asked, cut_channel, end_session, finish}
+use Rattle.exchange_defs.specs.Operations.{Op, Outcome, Why, is_unsettled, is_ok, is_create, is_close, is_lock, create_of, id_in, reconnect_of, HadStatus}
+use Rattle.exchange_defs.specs.Client.{Client, Stage, AskedTree, create_for, guid_for, outstanding as put_out, asked, cut_channel, end_session, finish, bind_channel, begin_session, leave_dialog, note_refusal}
 use Rattle.exchange_defs.specs.Settling.{answered}
-use Rattle.exchange_defs.specs.Dialogs.{open_channel, went_on, accepted, bound, readied, leave_dialog, refused_dialog}
+use Rattle.exchange_defs.specs.Dialogs.{open_channel, went_on, accepted}
 use Rattle.exchange_defs.specs.Network.{Conn, Sent, Received, Token, ForDialog, ForOp, ForAttach, op_of, fresh as fresh_conn, server_off, client_off, send_up, behind_front, take_front}
 use Rattle.exchange_law.specs.Connections.{Connections, copies, count_up, count_down, no_copy_out, makes_open, shuts_open, acts_once, its_create, its_request, create_at, opens, CPARTS}
 use Rattle.exchange_law.proofs.Lists.{get-push, rest_of, own_up_count, own_down_count, attach_up_count, attach_down_count, front_up, front_down, waited, waited_down}
@@ -182,9 +182,9 @@ event("Front", "the server takes the front", "up", "(k : ℕ) (x0 : Sent) (rest 
 event("DialogSent", "the next message of a dialog goes out", "up", "(k n0 : ℕ) (m0 : Message)", conns="(put conns k (send_up (conns k) ForDialog m0 n0))")
 event("WentOn", "a dialog goes on", "stage pending", "(k : ℕ) (stage : Stage) (r0 : Reply)", c="(went_on c k stage r0)")
 event("Accepted", "a new session is accepted", "stage accepted", "(k : ℕ)", c="(accepted c k)")
-event("Bound", "a further channel is ready", "stage", "(k : ℕ)", c="(bound c k)")
+event("Bound", "a further channel is ready", "stage", "(k : ℕ)", c="(bind_channel c k)")
 event("DialogRefused", "a dialog is refused, and the client closes its channel", "stage open down", "(k status : ℕ)", [("apart", "c.ready k ≡ false")],
-      c="(refused_dialog c k status)", conns="(put conns k (client_off (conns k)))")
+      c="(note_refusal c k (HadStatus status))", conns="(put conns k (client_off (conns k)))")
 event("DialogOff", "the client closes a channel that isn't ready", "stage open down", "(k : ℕ)", [("apart", "c.ready k ≡ false")],
       c="(leave_dialog c k)", conns="(put conns k (client_off (conns k)))")
 ON_UP = "let on1 = up_on c conns C.outstanding j n p x h' t tk.0 in let rd = C.on_ready p k in "
@@ -193,10 +193,10 @@ for e in EVENTS:
         for part in ("unanswered", "retried_on", "retried_done"):
             v = PARTS[part][1]
             e.parts[part] = "λ %s h t. let h' : slice_get (conns j).up n ≡ Some x = grind arith in let old = i.%s %s h' t in let b = C.bodies j n p x h' t in let tk = C.taken p b.0 in %slet st1 = C.settled p in grind arith" % (v, part, v, ON_UP)
-event("Readied", "a session is ready", "stage live session number", "(k : ℕ) (r0 : Reply)",
+event("Readied", "a session is ready", "stage live session number", "(k session tree : ℕ)",
       [("gone", "(j n : ℕ) (x : Sent) → slice_get (conns j).up n ≡ Some x → is_ops x.token ≡ true → s.present x.message.session ≡ false"),
        ("idle", "(j n : ℕ) (y : Received) → slice_get (conns j).down n ≡ Some y → is_ops y.token ≡ false")],
-      c="(readied c k r0)",
+      c="(begin_session c k session tree)",
       parts={"now_attached": "λ q. let l = i.attached_low q in grind arith", "closed_not": "λ p. let l = i.attached_low (create_at c p) in grind arith"})
 readied = EVENTS[-1]
 for part in OWN_UP:

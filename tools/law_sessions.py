@@ -64,8 +64,8 @@ use Rattle.exchange_defs.specs.State.{Server, Message, Reply}
 use Rattle.exchange_defs.specs.CheckSetup.{is_new, tree_in}
 use Rattle.exchange_defs.specs.Opens.{id_of}
 use Rattle.exchange_defs.specs.Operations.{Refusal}
-use Rattle.exchange_defs.specs.Client.{Client, Stage, Apart, SaidNegotiate, SaidFirst, SaidSecond, AskedTree, RefusedDialog, cut_channel, end_session}
-use Rattle.exchange_defs.specs.Dialogs.{open_channel, accepted, bound, readied, unmade}
+use Rattle.exchange_defs.specs.Client.{Client, Stage, Apart, SaidNegotiate, SaidFirst, SaidSecond, AskedTree, RefusedDialog, cut_channel, end_session, bind_channel, begin_session, leave_dialog, note_refusal, unmade}
+use Rattle.exchange_defs.specs.Dialogs.{open_channel, accepted}
 use Rattle.exchange_defs.specs.Network.{Conn, Sent, Received, Token, ForDialog, server_off, client_off, send_up, behind_front, take_front}
 use Rattle.exchange_law.specs.Connections.{copies}
 use Rattle.exchange_law.proofs.Lists.{get-push, waited, waited_down}
@@ -170,9 +170,9 @@ EVENTS = [
               "second_up": "λ j n x. let old = i.second_up j n x in let q = second in grind (arith, get-push)",
               "tree_connect_up": "λ j n x. let old = i.tree_connect_up j n x in let q = tree in grind (arith, get-push)",
           }),
-    Event("Bound", "a further channel is ready", "stage", "(k : ℕ)", [], c="(bound c k)"),
+    Event("Bound", "a further channel is ready", "stage", "(k : ℕ)", [], c="(bind_channel c k)"),
     Event("Readied", "a session is ready", "live session number tree sequence stage making", "(k : ℕ) (r : Reply)",
-          [NONE, ("at", "c.stage k ≡ AskedTree"), ("told", "s.present c.accepted ≡ true → is_some (tree_in (s.trees c.accepted) r.tree) ≡ true")], c="(readied c k r)",
+          [NONE, ("at", "c.stage k ≡ AskedTree"), ("told", "s.present c.accepted ≡ true → is_some (tree_in (s.trees c.accepted) r.tree) ≡ true")], c="(begin_session c k c.pending r.tree)",
           parts={
               "live_accepted": "λ l. let a = i.pending_accepted k at in grind arith",
               "session_ranked": "λ l. let a = i.pending_accepted k at in grind arith",

@@ -1,8 +1,7 @@
 -- The client closes a channel that isn't ready.
 use Rattle.std.proofs.Common.{ℕ, arith}
 use Rattle.exchange_defs.specs.Table.{put}
-use Rattle.exchange_defs.specs.Client.{Client}
-use Rattle.exchange_defs.specs.Dialogs.{leave_dialog}
+use Rattle.exchange_defs.specs.Client.{Client, leave_dialog}
 use Rattle.exchange_defs.specs.Network.{Conn, client_off}
 use Rattle.exchange_law.proofs.Lists.{get-push}
 use Rattle.create_law.specs.Creates.{Seen, Creates, ActedKept, DeadRefused, NoReply, BarredReply, OkReply, ReplyGuid, ReplyOf, DialogUp, AskUp}

@@ -59,7 +59,6 @@ known z es =
     record {
       fit = connections z es;
       below = record { ranked = s.ranked_up; here = s.present_accepted; lives = s.live_accepted; making = s.making_unranked; users = s.session_users; on_present = f.on_present; trees = s.tree_up };
-      making = s.making;
       anew = anew_at w f (recovers z (fitting z) es);
       anew_kept = λ k may. anew_kept w k may
           (one_event_on (λ (v : World) a. Fits v.server) z (fitting z) es (Serve k))

@@ -6,17 +6,17 @@ use Rattle.exchange_defs.specs.State.{Reply, Answer}
 use Rattle.exchange_defs.specs.Operations.{Op, Outcome, Unsettled, WasOk, WasRefused, NoSlot, NoOpen, Unknown, NoSession, OpReply, Why, WithStatus, IsDone, is_unsettled, is_ok, is_create, is_close, is_lock, value_in, id_in, weight, charge, reconnect_of}
 use Rattle.exchange_defs.specs.Client.{Client, Stage, Apart, SaidNegotiate, SaidFirst, SaidSecond, AskedTree, create_for, guid_for, may_take, outcome_at_first, may_push, has_its_slot, needs_slot, goes_itself, lacks_slot, settle_no_slot, settle_no_slots, begin, again, take_slot, outstanding, own_message, ask_message, cut_channel, ends_at_cut, end_session, is_gone_after}
 use Rattle.exchange_defs.specs.Settling.{Heard as Hearing, Settles, GoesAgain, Attaches, EndsSession, heard, hear, is_awaited, settle, settled, noted, noted_full, settles_open, with_no_opens, give_up_on, without_open, ok_or_unknown, was_closed, may_have_acted, refuses_all, goes_again, answered}
-use Rattle.exchange_defs.specs.Dialogs.{DialogStep, GoesOn, Accepts, Binds, Readies, Refuses, dialog_step, dialog_message, stage_command, went_on, accepted, bound}
-use Rattle.exchange_defs.specs.ClientStep.{Pick, Act, Nothing, CloseChannels, pick_after, pick_act, act_heard, some_unsettled}
-use Rattle.exchange_defs.specs.Network.{World, Event, Submit, Open, Push, Serve, Take, Cut, Drop, Restart, Crash, Wait, Finish, Conn, Sent, Received, Token, ForDialog, ForOp, ForAttach, op_of, happens, changed, later, may_open, may_serve, pushed_by, answer, absorbed, replied, serve_front, absorb_front, behind_front, take_front, take_reply, took_by, dialog_took, op_took, closed_by, cut_by, with_client, send_up, behind_reply, restarted}
+use Rattle.exchange_defs.specs.Dialogs.{DialogStep, GoesOn, Accepts, Binds, Readies, Refuses, dialog_step, dialog_message, stage_command, went_on, accepted}
+use Rattle.exchange_defs.specs.ClientStep.{Pick, Act, Nothing, CloseChannels, pick_after, pick_act, act_heard, some_unsettled, IsReady}
+use Rattle.exchange_defs.specs.Network.{World, Event, Submit, Open, Push, Serve, Take, Cut, Drop, Restart, Crash, Wait, Finish, Conn, Sent, Received, Token, ForDialog, ForOp, ForAttach, op_of, happens, changed, later, may_open, may_serve, pushed_by, answer, absorbed, replied, serve_front, absorb_front, behind_front, take_front, take_reply, took_by, dialog_took, op_took, closed_by, cut_by, with_client, send_up, behind_reply, restarted, dialog_ended}
 use Rattle.exchange_defs.specs.Runs.{front_acts, never_acted}
 use Rattle.exchange_law.specs.Connections.{Connections, copies, makes_open, acts_once}
 use Rattle.exchange_law.proofs.Lists.{front_up, front_down, own_up_count}
 use Rattle.exchange_law.proofs.Behind.{behind_keeps}
 use Rattle.exchange_law.proofs.Answered.{answered_keeps}
-use Rattle.exchange_law.proofs.Run.{next_of, found, both_ways, put_self, front_reply_gone, awaited_of, heard_firm, heard_ends, after}
+use Rattle.exchange_law.proofs.Run.{next_of, found, both_ways, put_self, front_reply_gone, awaited_of, heard_firm, heard_ends, after, ended_well}
 use Rattle.server_law.proofs.Logic.{either, front_of, back_of}
-use Rattle.session_law.specs.Sessions.{RankedUp, PresentAccepted, LiveAccepted, Making, is_ops, makes_session}
+use Rattle.session_law.specs.Sessions.{RankedUp, PresentAccepted, LiveAccepted, is_ops}
 use Rattle.create_law.specs.Creates.{Seen, seen, Creates, Restarts, guid_at, named, is_current, is_barred, refuses, is_of_dialog, is_of_ask}
 use Rattle.create_law.proofs.Facing.{once_of}
 use Rattle.create_law.proofs.Moved.{counted}
@@ -382,7 +382,7 @@ told c conns v a k g r o f on none ranked here lives said tells =
 hears : (w : World) (a : ℕ → ℕ) (k g : ℕ) (asking : Bool) (r : Reply) (place : ℕ) → Connections w.client w.conns a → Holds w a → RankedUp w.client w.conns → PresentAccepted w.client w.server → LiveAccepted w.client → w.client.on g ≡ Some k → w.client.asking g ≡ asking → copies g (w.conns k) ≡ 0
     → (asking ≡ false → makes_open (w.client.op g) ≡ true → SayFor w.client (seen w.server) a g r)
     → (asking ≡ false → acts_once (w.client.op g) ≡ true → r.status ≡ user_session_deleted → w.client.before g ≡ false → a g ≡ 0)
-    → (h : Hearing) → heard w.client g asking r ≡ h → Holds (with_client (closed_by w (act_heard h)) (hear w.client g asking r place h)) a
+    → (h : Hearing) → heard w.client g asking r ≡ h → Holds (with_client (closed_by w k (act_heard h)) (hear w.client g asking r place h)) a
 hears w a k g asking r place f i ranked here lives on asks none said gone (Settles o) e =
     let c = w.client in
     let own : makes_open (c.op g) ≡ true → asking ≡ false = λ mk. own_asks (c.asking g) asking asks (λ q. sym mk ∙ (i.asking_other g q).0) in
@@ -403,7 +403,7 @@ took : (w : World) (a : ℕ → ℕ) (k g : ℕ) (asking : Bool) (r : Reply) (pl
     → (asking ≡ false → makes_open (w.client.op g) ≡ true → SayFor w.client (seen w.server) a g r)
     → (asking ≡ false → acts_once (w.client.op g) ≡ true → r.status ≡ user_session_deleted → w.client.before g ≡ false → a g ≡ 0) → Holds (op_took w k g asking r place) a
 took w a k g asking r place f i ranked here lives none said gone =
-    both_ways (λ c x. Holds (with_client (closed_by w x) c) a) (is_awaited w.client k g asking) (hear w.client g asking r place (heard w.client g asking r)) w.client (act_heard (heard w.client g asking r)) Nothing
+    both_ways (λ c x. Holds (with_client (closed_by w k x) c) a) (is_awaited w.client k g asking) (hear w.client g asking r place (heard w.client g asking r)) w.client (act_heard (heard w.client g asking r)) Nothing
     (λ aw. let q = awaited_of w.client k g asking aw in hears w a k g asking r place f i ranked here lives q.0 q.1 none said gone (heard w.client g asking r) refl)
     (λ _. i)
 
@@ -416,28 +416,20 @@ says_dialog c (SaidFirst bound) = refl
 says_dialog c (SaidSecond bound) = refl
 says_dialog c AskedTree = refl
 
-readies_tree : (t : Stage) (status : ℕ) → dialog_step t status ≡ Readies → t ≡ AskedTree
-readies_tree Apart status e = absurd (cc)
-readies_tree (SaidNegotiate bound) status e = absurd (grind arith)
-readies_tree (SaidFirst bound) status e = absurd (grind arith)
-readies_tree (SaidSecond bound) status e = absurd (grind arith)
-readies_tree AskedTree status e = refl
+ends_dialog : (w : World) (a : ℕ → ℕ) (k session tree : ℕ) → Connections w.client w.conns a → Holds w a → Holds (dialog_ended w k (IsReady k session tree)) a
+ends_dialog w a k session tree f i =
+    ended_well (λ v. Holds v a) w k session tree (λ _. bound_creates w.client w.conns (seen w.server) a k i) (λ dead _. readied_creates w.client w.conns (seen w.server) a k session tree dead f i)
+    (dialog_off_creates w.client w.conns (seen w.server) a k i)
 
-dead_of : (c : Client) (k : ℕ) → Making c → LiveAccepted c → c.stage k ≡ AskedTree → c.live ≡ false
-dead_of c k making lives e =
-    let m : c.making ≡ Some k = making k (ap makes_session e) in
-    elim c.live as (λ b. c.live ≡ b → b ≡ false) [ true ↦ λ q. let l = (lives q).2 in absurd (grind arith) | false ↦ λ q. refl ] refl
-
-dialogs : (w : World) (a : ℕ → ℕ) (k : ℕ) (r : Reply) → Connections w.client w.conns a → Holds w a → Making w.client → LiveAccepted w.client → (d : DialogStep) → dialog_step (w.client.stage k) r.status ≡ d → Holds (dialog_took w k r d) a
-dialogs w a k r f i making lives (GoesOn stage) e =
+dialogs : (w : World) (a : ℕ → ℕ) (k : ℕ) (r : Reply) → Connections w.client w.conns a → Holds w a → (d : DialogStep) → dialog_step (w.client.stage k) r.status ≡ d → Holds (dialog_took w k r d) a
+dialogs w a k r f i (GoesOn stage) e =
     dialog_sent_creates (went_on w.client k stage r) w.conns (seen w.server) a k 1 (dialog_message (went_on w.client k stage r) k (w.conns k).next_id stage) (says_dialog (went_on w.client k stage r) stage)
     (went_on_creates w.client w.conns (seen w.server) a k stage r i)
-dialogs w a k r f i making lives Accepts e =
+dialogs w a k r f i Accepts e =
     dialog_sent_creates (accepted w.client k) w.conns (seen w.server) a k 1 (dialog_message (accepted w.client k) k (w.conns k).next_id AskedTree) refl (accepted_creates w.client w.conns (seen w.server) a k i)
-dialogs w a k r f i making lives Binds e = bound_creates w.client w.conns (seen w.server) a k i
-dialogs w a k r f i making lives Readies e =
-    readied_creates w.client w.conns (seen w.server) a k r (dead_of w.client k making lives (readies_tree (w.client.stage k) r.status e)) f i
-dialogs w a k r f i making lives (Refuses status) e = dialog_refused_creates w.client w.conns (seen w.server) a k status i
+dialogs w a k r f i Binds e = ends_dialog w a k w.client.session w.client.tree f i
+dialogs w a k r f i Readies e = ends_dialog w a k w.client.pending r.tree f i
+dialogs w a k r f i (Refuses status) e = dialog_refused_creates w.client w.conns (seen w.server) a k status i
 
 -- ---- a reply that is taken
 
@@ -454,25 +446,25 @@ told_by w a k g y i f0 t mk =
 ranked_behind : (c : Client) (conns : ℕ → Conn) (k : ℕ) (rest : List Received) → RankedUp c conns → RankedUp c (put conns k (take_front (conns k) rest))
 ranked_behind c conns k rest r = λ j n x h. let h' : slice_get (conns j).up n ≡ Some x = grind arith in r j n x h'
 
-takes_by : (w : World) (a : ℕ → ℕ) (k : ℕ) (y : Received) (rest : List Received) → (w.conns k).down ≡ y ∷ rest → Connections w.client w.conns a → Below w.client w.conns w.server → Making w.client → Holds w a → (t : Token) → y.token ≡ t
+takes_by : (w : World) (a : ℕ → ℕ) (k : ℕ) (y : Received) (rest : List Received) → (w.conns k).down ≡ y ∷ rest → Connections w.client w.conns a → Below w.client w.conns w.server → Holds w a → (t : Token) → y.token ≡ t
     → Holds (took_by (behind_reply w k rest) k y.reply y.place t) a
-takes_by w a k y rest is f b making i ForDialog e =
-    dialogs (behind_reply w k rest) a k y.reply (behind_keeps w.client w.conns a k y rest is f) (behind_creates w.client w.conns (seen w.server) a k y rest is i) making b.lives (dialog_step (w.client.stage k) y.reply.status) refl
-takes_by w a k y rest is f b making i (ForOp g) e =
+takes_by w a k y rest is f b i ForDialog e =
+    dialogs (behind_reply w k rest) a k y.reply (behind_keeps w.client w.conns a k y rest is f) (behind_creates w.client w.conns (seen w.server) a k y rest is i) (dialog_step (w.client.stage k) y.reply.status) refl
+takes_by w a k y rest is f b i (ForOp g) e =
     let f0 = front_down (w.conns k).down y rest is in
     took (behind_reply w k rest) a k g false y.reply y.place (behind_keeps w.client w.conns a k y rest is f) (behind_creates w.client w.conns (seen w.server) a k y rest is i) (ranked_behind w.client w.conns k rest b.ranked) b.here b.lives
     (subst (λ g. copies g (put w.conns k (take_front (w.conns k) rest) k) ≡ 0) (ap op_of e) (front_reply_gone w.conns k y rest is (f.once k (op_of y.token))))
     (λ _ mk. told_by w a k g y i f0 e mk)
     (λ _ ao st b. f.deleted k 0 g y f0 e ao st b)
-takes_by w a k y rest is f b making i (ForAttach g) e =
+takes_by w a k y rest is f b i (ForAttach g) e =
     took (behind_reply w k rest) a k g true y.reply y.place (behind_keeps w.client w.conns a k y rest is f) (behind_creates w.client w.conns (seen w.server) a k y rest is i) (ranked_behind w.client w.conns k rest b.ranked) b.here b.lives
     (subst (λ g. copies g (put w.conns k (take_front (w.conns k) rest) k) ≡ 0) (ap op_of e) (front_reply_gone w.conns k y rest is (f.once k (op_of y.token))))
     (λ q. absurd (cc))
     (λ q. absurd (cc))
 
-takes : (w : World) (a : ℕ → ℕ) (k : ℕ) → Connections w.client w.conns a → Below w.client w.conns w.server → Making w.client → Holds w a → (ys : List Received) → (w.conns k).down ≡ ys → Holds (take_reply w k ys) a
-takes w a k f b making i [] is = i
-takes w a k f b making i (y ∷ rest) is = takes_by w a k y rest is f b making i y.token refl
+takes : (w : World) (a : ℕ → ℕ) (k : ℕ) → Connections w.client w.conns a → Below w.client w.conns w.server → Holds w a → (ys : List Received) → (w.conns k).down ≡ ys → Holds (take_reply w k ys) a
+takes w a k f b i [] is = i
+takes w a k f b i (y ∷ rest) is = takes_by w a k y rest is f b i y.token refl
 
 -- ---- Cut
 
@@ -492,7 +484,6 @@ cuts w a k f i =
 pub record Known (w : World) (a : ℕ → ℕ) : Type 0 where
   pub fit : Connections w.client w.conns a
   pub below : Below w.client w.conns w.server
-  pub making : Making w.client
   pub anew : StartsAnew w
   pub anew_kept : (k : ℕ) → may_serve w k ≡ true → StartsAnew (absorb_front w k (w.conns k).up)
 
@@ -502,7 +493,7 @@ keeps w a (Open k) b i =
     either (λ v. Holds v a) (may_open w k) _ _ (λ m. opened_creates w.client w.conns _ a k _ (accepts w.client w.conns a w.server w.moment k i)) (λ _. i)
 keeps w a (Push k slotless pick) b i = either (λ v. Holds v a) (w.client.ready k) _ _ (λ ready. pushes w a k slotless pick ready (b.fit.ready k ready).1 i) (λ _. i)
 keeps w a (Serve k) b i = serve_open w a k b.fit b.below i (may_serve w k)
-keeps w a (Take k) b i = either (λ v. Holds v a) ((w.conns k).client_open && is_filled (w.conns k).down) _ _ (λ m. takes w a k b.fit b.below b.making i (w.conns k).down refl) (λ _. i)
+keeps w a (Take k) b i = either (λ v. Holds v a) ((w.conns k).client_open && is_filled (w.conns k).down) _ _ (λ m. takes w a k b.fit b.below i (w.conns k).down refl) (λ _. i)
 keeps w a (Cut k) b i = either (λ v. Holds v a) (w.conns k).client_open _ _ (λ _. cuts w a k b.fit i) (λ _. i)
 keeps w a (Drop k) b i = either (λ v. Holds v a) (w.conns k).server_open _ _ (λ _. dropped_creates w.client w.conns _ a k (ends w.client w.conns a w.server w.moment k b.below i)) (λ _. i)
 keeps w a Restart b i = restarts w a b.anew i

@@ -238,10 +238,21 @@ ends_at_cut c = (c.channels == 1) || (c.sequence == last_sequence)
 -- ---- a channel that becomes ready: a further one of the session, or the first one of a new session
 
 abbrev pub bind_channel : Client → ℕ → Client
-bind_channel c k = record c { ready = put c.ready k true; channels = c.channels + 1 }
+bind_channel c k = record c { ready = put c.ready k true; channels = c.channels + 1; stage = put c.stage k Apart }
 
 abbrev pub begin_session : Client → ℕ → ℕ → ℕ → Client
-begin_session c k session tree = record c { live = true; session = session; number = c.number + 1; tree = tree; sequence = 0; ready = put c.ready k true; channels = 1 }
+begin_session c k session tree =
+    record c {
+      live = true;
+      session = session;
+      number = c.number + 1;
+      tree = tree;
+      sequence = 0;
+      ready = put c.ready k true;
+      channels = 1;
+      stage = put c.stage k Apart;
+      making = None;
+    }
 
 -- ---- the end of the session: what was outstanding is unanswered, and what hung on a plain open is given up
 
@@ -280,10 +291,19 @@ end_session c =
       given_up = λ g. given_up_after_end c g (c.outcome g) (c.given_up g);
     }
 
--- ---- a dialog is refused
+-- ---- a dialog that ends without a ready channel
 
+-- the session in the making on a channel is given up with it
+abbrev pub unmade : ℕ → Option ℕ → Option ℕ
+unmade k None = None
+unmade k (Some j) = if j == k then None else Some j
+
+abbrev pub leave_dialog : Client → ℕ → Client
+leave_dialog c k = record c { stage = put c.stage k Apart; making = unmade k c.making }
+
+-- it was refused
 abbrev pub note_refusal : Client → ℕ → Refusal → Client
-note_refusal c k why = record c { refusals = c.refusals ++ record { connection = k; refusal = why } ∷ [] }
+note_refusal c k why = record (leave_dialog c k) { refusals = c.refusals ++ record { connection = k; refusal = why } ∷ [] }
 
 -- ---- no session can be had: all that was taken and is unsettled is given up
 

@@ -3,7 +3,7 @@
 use Rattle.std.specs.Prelude.{ℕ, zero, suc, ◌+◌, ◌==◌, nat_lt, Bool, true, false, ◌&&◌, if◌then◌else◌, List, Option, Some, None}
 use Rattle.exchange_defs.specs.State.{Reply}
 use Rattle.exchange_defs.specs.Operations.{Op, Why, Refusal, is_unsettled}
-use Rattle.exchange_defs.specs.Client.{Client, has_its_slot, may_take, take_op, may_push, goes_itself, begun, outstanding, asked, settle_no_slots, cut_channel, ends_at_cut, end_session, bind_channel, begin_session, note_refusal, finish}
+use Rattle.exchange_defs.specs.Client.{Client, has_its_slot, may_take, take_op, may_push, goes_itself, begun, outstanding, asked, settle_no_slots, cut_channel, ends_at_cut, end_session, bind_channel, begin_session, leave_dialog, note_refusal, finish}
 use Rattle.exchange_defs.specs.Settling.{Heard, EndsSession, heard, hear, is_awaited}
 
 -- which operation a push sends, and the slot of a lock that goes out first
@@ -16,15 +16,16 @@ pub data ClientEvent : Type 0 where
   Pushes : (k : ℕ) (slotless : List ℕ) (pick : Option Pick) → ClientEvent
   Hears : (k g : ℕ) (asking : Bool) (reply : Reply) (place : ℕ) → ClientEvent
   IsCut : (k : ℕ) → ClientEvent
-  IsReady : (k session tree : ℕ) → ClientEvent
-  IsRefused : (k : ℕ) (why : Refusal) → ClientEvent  -- its dialog; a new session that can't be had is a Finishes
+  IsReady : (k session tree : ℕ) → ClientEvent  -- the dialog of channel k ended well
+  IsRefused : (k : ℕ) (why : Refusal) → ClientEvent  -- it was refused; a new session that can't be had is a Finishes
   Finishes : (why : Why) → ClientEvent
 
 pub data Act : Type 0 where
   Nothing : Act
   Sends : (g : ℕ) → Act  -- the operation itself
   Asks : (g : ℕ) → Act  -- DH2C in its place
-  CloseChannels : Act
+  CloseChannel : Act  -- its end of the connection whose dialog failed
+  CloseChannels : Act  -- its end of every connection
   AllSettled : Act  -- a push where every operation is settled
 
 -- some operation from 1 to n is unsettled
@@ -76,10 +77,21 @@ cut_after c k = if c.ready k then (if ends_at_cut c then end_session c else cut_
 abbrev pub cut_act : Client → ℕ → Act
 cut_act c k = if c.ready k && ends_at_cut c then CloseChannels else Nothing
 
--- one that names a session which has ended leaves its channel not ready
+-- sessions are counted in 32 bits
+abbrev pub last_number : ℕ
+last_number = 0xffff_ffff
+
+-- a dialog that ended well binds its channel to the live session, or begins a new one while there is a number for it: ids
+-- of sessions rise, so one that isn't above the last one's names a session which has ended
+abbrev pub becomes_ready : Client → ℕ → Bool
+becomes_ready c session = if c.live then session == c.session else nat_lt c.session session && nat_lt c.number last_number
+
+-- else its channel isn't ready, and the connection counts as failed
 abbrev pub ready_after : Client → ℕ → ℕ → ℕ → Client
-ready_after c k session tree =
-    if c.live then (if session == c.session then bind_channel c k else c) else if nat_lt c.session session then begin_session c k session tree else c
+ready_after c k session tree = if becomes_ready c session then (if c.live then bind_channel c k else begin_session c k session tree) else leave_dialog c k
+
+abbrev pub ready_act : Client → ℕ → Act
+ready_act c session = if becomes_ready c session then Nothing else CloseChannel
 
 -- ---- the step
 
@@ -97,6 +109,6 @@ act c (TakesOp g op) = Nothing
 act c (Pushes k slotless pick) = push_act c k slotless pick
 act c (Hears k g asking r place) = hear_act c k g asking r
 act c (IsCut k) = cut_act c k
-act c (IsReady k session tree) = Nothing
-act c (IsRefused k why) = Nothing
+act c (IsReady k session tree) = ready_act c session
+act c (IsRefused k why) = CloseChannel
 act c (Finishes why) = Nothing

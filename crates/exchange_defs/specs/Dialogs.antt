@@ -1,11 +1,10 @@
 -- How the client makes a session or binds a further channel to it (MS-SMB2 3.2.4.2 and 3.2.5.2 to 3.2.5.5).
-use Rattle.std.specs.Prelude.{ℕ, ◌+◌, ◌==◌, Bool, true, false, if◌then◌else◌, Option, Some, None}
+use Rattle.std.specs.Prelude.{ℕ, ◌+◌, ◌==◌, Bool, true, false, if◌then◌else◌, Some, None}
 use Rattle.exchange_defs.specs.Table.{put}
 use Rattle.exchange_defs.specs.Status.{success, more_processing_required}
 use Rattle.exchange_defs.specs.Commands.{Command, Aside, Setup, TreeConnect, Shows, Begins}
 use Rattle.exchange_defs.specs.State.{Message, Reply}
-use Rattle.exchange_defs.specs.Operations.{HadStatus}
-use Rattle.exchange_defs.specs.Client.{Client, Stage, Apart, SaidNegotiate, SaidFirst, SaidSecond, AskedTree, bind_channel, begin_session, note_refusal}
+use Rattle.exchange_defs.specs.Client.{Client, Stage, Apart, SaidNegotiate, SaidFirst, SaidSecond, AskedTree}
 
 -- what a response of a dialog comes to
 pub data DialogStep : Type 0 where
@@ -52,7 +51,7 @@ abbrev pub dialog_message : Client → ℕ → ℕ → Stage → Message
 dialog_message c k id stage =
     record { connection = k; client = c.who.guid; session = stage_session c stage; tree = 0; id = id; sequence = 0; replay = false; fault = None; command = stage_command c stage }
 
--- ---- its steps
+-- ---- its steps; what its end does is the client's own step (`ClientStep.client_after`)
 
 -- a dialog begins: a binding where a session is ready
 abbrev pub open_channel : Client → ℕ → Client
@@ -68,20 +67,3 @@ went_on c k stage r = record c { stage = put c.stage k stage; pending = told_ses
 
 abbrev pub accepted : Client → ℕ → Client
 accepted c k = record c { stage = put c.stage k AskedTree; accepted = c.pending; accepts = c.accepts + 1; rank = put c.rank c.pending (c.accepts + 1) }
-
-abbrev pub bound : Client → ℕ → Client
-bound c k = record (bind_channel c k) { stage = put c.stage k Apart }
-
-abbrev pub readied : Client → ℕ → Reply → Client
-readied c k r = record (begin_session c k c.pending r.tree) { stage = put c.stage k Apart; making = None }
-
--- the session in the making on a channel is given up with it
-abbrev pub unmade : ℕ → Option ℕ → Option ℕ
-unmade k None = None
-unmade k (Some j) = if j == k then None else Some j
-
-abbrev pub leave_dialog : Client → ℕ → Client
-leave_dialog c k = record c { stage = put c.stage k Apart; making = unmade k c.making }
-
-abbrev pub refused_dialog : Client → ℕ → ℕ → Client
-refused_dialog c k status = note_refusal (leave_dialog c k) k (HadStatus status)

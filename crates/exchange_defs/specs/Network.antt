@@ -8,10 +8,10 @@ use Rattle.exchange_defs.specs.Commands.{Command, Aside}
 use Rattle.exchange_defs.specs.State.{Server, Address, Message, Accept, Heard, End, Reply, Body, Empty, Content, Count, Record, Answer}
 use Rattle.exchange_defs.specs.Step.{step}
 use Rattle.exchange_defs.specs.Fold.{recovered, recovery_records, nothing_yet, full_room}
-use Rattle.exchange_defs.specs.Operations.{Op, OpClose, Unsettled, NoSession, Refusal, is_create, is_firm, weight, charge}
-use Rattle.exchange_defs.specs.Client.{Client, Identity, Stage, Apart, AskedTree, SaidNegotiate, own_message, ask_message}
-use Rattle.exchange_defs.specs.ClientStep.{Pick, TakesOp, Pushes, Hears, IsCut, Finishes, Act, Sends, Asks, CloseChannels, client_after, act}
-use Rattle.exchange_defs.specs.Dialogs.{DialogStep, GoesOn, Accepts, Binds, Readies, Refuses, dialog_step, dialog_message, open_channel, went_on, accepted, bound, readied, leave_dialog, refused_dialog}
+use Rattle.exchange_defs.specs.Operations.{Op, OpClose, Unsettled, NoSession, Refusal, HadStatus, is_create, is_firm, weight, charge}
+use Rattle.exchange_defs.specs.Client.{Client, Identity, Stage, Apart, AskedTree, SaidNegotiate, own_message, ask_message, leave_dialog}
+use Rattle.exchange_defs.specs.ClientStep.{Pick, ClientEvent, TakesOp, Pushes, Hears, IsCut, IsReady, IsRefused, Finishes, Act, Sends, Asks, CloseChannel, CloseChannels, client_after, act}
+use Rattle.exchange_defs.specs.Dialogs.{DialogStep, GoesOn, Accepts, Binds, Readies, Refuses, dialog_step, dialog_message, open_channel, went_on, accepted}
 
 -- ---- connections
 
@@ -241,20 +241,25 @@ behind_reply w k rest = record w { conns = put w.conns k (take_front (w.conns k)
 abbrev pub dialog_sent : World → ℕ → Stage → World
 dialog_sent w k stage = record w { conns = put w.conns k (send_up (w.conns k) ForDialog (dialog_message w.client k (w.conns k).next_id stage) 1) }
 
+-- a client that is told so closes its end of this connection, or of every one
+abbrev pub closed_by : World → ℕ → Act → World
+closed_by w k CloseChannels = all_cut w
+closed_by w k CloseChannel = one_cut w k
+closed_by w k _ = w
+
+-- the client's own step at the end of a dialog
+abbrev pub dialog_ended : World → ℕ → ClientEvent → World
+dialog_ended w k e = with_client (closed_by w k (act w.client e)) (client_after w.client e)
+
 abbrev pub dialog_took : World → ℕ → Reply → DialogStep → World
 dialog_took w k r (GoesOn stage) = dialog_sent (with_client w (went_on w.client k stage r)) k stage
 dialog_took w k r Accepts = dialog_sent (with_client w (accepted w.client k)) k AskedTree
-dialog_took w k r Binds = with_client w (bound w.client k)
-dialog_took w k r Readies = with_client w (readied w.client k r)
-dialog_took w k r (Refuses status) = one_cut (with_client w (refused_dialog w.client k status)) k
-
--- a client that is told so closes its end of every connection
-abbrev pub closed_by : World → Act → World
-closed_by w CloseChannels = all_cut w
-closed_by w _ = w
+dialog_took w k r Binds = dialog_ended w k (IsReady k w.client.session w.client.tree)
+dialog_took w k r Readies = dialog_ended w k (IsReady k w.client.pending r.tree)
+dialog_took w k r (Refuses status) = dialog_ended w k (IsRefused k (HadStatus status))
 
 abbrev pub op_took : World → ℕ → ℕ → Bool → Reply → ℕ → World
-op_took w k g asking r place = with_client (closed_by w (act w.client (Hears k g asking r place))) (client_after w.client (Hears k g asking r place))
+op_took w k g asking r place = with_client (closed_by w k (act w.client (Hears k g asking r place))) (client_after w.client (Hears k g asking r place))
 
 abbrev pub took_by : World → ℕ → Reply → ℕ → Token → World
 took_by w k r place ForDialog = dialog_took w k r (dialog_step (w.client.stage k) r.status)

@@ -6,11 +6,11 @@ use Rattle.exchange_defs.specs.Table.{put, put2, is_at, is_filled}
 use Rattle.exchange_defs.specs.Status.{success, user_session_deleted, disk_full}
 use Rattle.exchange_defs.specs.State.{Reply, Answer, Body}
 use Rattle.exchange_defs.specs.Operations.{Op, Outcome, Unsettled, WasOk, WasRefused, NoSlot, NoOpen, Unknown, NoSession, is_unsettled, is_ok, is_create, is_close, OpReply, value_in, id_in, is_lock, is_change, create_of, holds_up, weight, charge}
-use Rattle.exchange_defs.specs.Client.{Client, Stage, Apart, SaidNegotiate, SaidFirst, SaidSecond, AskedTree, create_for, guid_for, may_take, outcome_at_first, may_push, has_its_slot, goes_itself, lacks_slot, settle_no_slot, settle_no_slots, waits, begin, again, take_slot, outstanding, own_message, ask_message, cut_channel, ends_at_cut, end_session, is_gone_after}
+use Rattle.exchange_defs.specs.Client.{Client, Stage, Apart, SaidNegotiate, SaidFirst, SaidSecond, AskedTree, create_for, guid_for, may_take, outcome_at_first, may_push, has_its_slot, goes_itself, lacks_slot, settle_no_slot, settle_no_slots, waits, begin, again, take_slot, outstanding, own_message, ask_message, cut_channel, ends_at_cut, end_session, is_gone_after, bind_channel, begin_session, leave_dialog}
 use Rattle.exchange_defs.specs.Settling.{Heard as Hearing, Settles, GoesAgain, Attaches, EndsSession, heard, hear, is_awaited, settle, settled, noted, noted_full, settles_open, with_no_opens, give_up_on, without_open, ok_or_unknown, refused, was_closed, may_have_acted, refuses_all, goes_again, answered}
-use Rattle.exchange_defs.specs.Dialogs.{DialogStep, GoesOn, Accepts, Binds, Readies, Refuses, dialog_step, dialog_message, went_on, accepted, bound}
-use Rattle.exchange_defs.specs.ClientStep.{Pick, Act, Nothing, CloseChannels, pick_after, pick_act, act_heard, some_unsettled}
-use Rattle.exchange_defs.specs.Network.{World, Event, Submit, Open, Push, Serve, Take, Cut, Drop, Restart, Crash, Wait, Finish, Conn, Sent, Received, Token, ForDialog, ForOp, ForAttach, op_of, happens, run, start, Settings, no_conn, changed, later, may_open, may_serve, max_channel, pushed_by, answer, absorbed, replied, serve_front, absorb_front, behind_front, take_front, take_reply, took_by, dialog_took, op_took, closed_by, cut_by, with_client, send_up, behind_reply, restarted}
+use Rattle.exchange_defs.specs.Dialogs.{DialogStep, GoesOn, Accepts, Binds, Readies, Refuses, dialog_step, dialog_message, went_on, accepted}
+use Rattle.exchange_defs.specs.ClientStep.{Pick, Act, Nothing, CloseChannels, pick_after, pick_act, act_heard, some_unsettled, IsReady, CloseChannel, becomes_ready, last_number}
+use Rattle.exchange_defs.specs.Network.{World, Event, Submit, Open, Push, Serve, Take, Cut, Drop, Restart, Crash, Wait, Finish, Conn, Sent, Received, Token, ForDialog, ForOp, ForAttach, op_of, happens, run, start, Settings, no_conn, changed, later, may_open, may_serve, max_channel, pushed_by, answer, absorbed, replied, serve_front, absorb_front, behind_front, take_front, take_reply, took_by, dialog_took, op_took, closed_by, cut_by, with_client, send_up, behind_reply, restarted, dialog_ended, one_cut}
 use Rattle.exchange_defs.specs.Runs.{is_once, is_send_of, acts, acts_now, front_acts}
 use Rattle.exchange_law.specs.Connections.{Connections, Unsent, Ready, copies, count_up, count_down, is_bound, makes_open, shuts_open, acts_once, its_create, its_request, create_at, opens}
 use Rattle.exchange_law.proofs.Lists.{counted_up, counted_down, front_up, front_down}
@@ -231,6 +231,18 @@ begun_out c conns a k g s i may low false e =
 pub both_ways : {X Y : Type 0} (P : X → Y → Type 0) (b : Bool) (x y : X) (u v : Y) → (b ≡ true → P x u) → (b ≡ false → P y v) → P (if b then x else y) (if b then u else v)
 both_ways P true x y u v f g = f refl
 both_ways P false x y u v f g = g refl
+
+-- a dialog that ended well: a bound channel, the first one of a new session, or one that failed
+pub ended_well : (P : World → Type 0) (w : World) (k session tree : ℕ) → (w.client.live ≡ true → P (with_client w (bind_channel w.client k)))
+    → (w.client.live ≡ false → w.client.session < session → P (with_client w (begin_session w.client k session tree))) → P (one_cut (with_client w (leave_dialog w.client k)) k)
+    → P (dialog_ended w k (IsReady k session tree))
+ended_well P w k session tree binds begins fails =
+    both_ways (λ c x. P (with_client (closed_by w k x) c)) (becomes_ready w.client session) (if w.client.live then bind_channel w.client k else begin_session w.client k session tree) (leave_dialog w.client k) Nothing CloseChannel
+    (λ b. either (λ c. P (with_client w c)) w.client.live (bind_channel w.client k) (begin_session w.client k session tree) binds (λ l. begins l (newer_id w.client.live w.client.session w.client.number session l b)))
+    (λ _. fails)
+  where
+    newer_id : (live : Bool) (old number session : ℕ) → live ≡ false → (if live then session == old else nat_lt old session && nat_lt number last_number) ≡ true → old < session
+    newer_id live old number session l b = grind (arith, nat_tests)
 
 pub pushes_op : (w : World) (a : ℕ → ℕ) (k g s : ℕ) (c : Client) → Connections c w.conns a → Holds (pushed_by w k (pick_after c k (Some (record { op = g; slot = s }))) (pick_act c k (Some (record { op = g; slot = s })))) a
 pushes_op w a k g s c i =
@@ -541,7 +553,7 @@ unclear b c P e f g = absurd (grind arith)
 
 pub hears : (w : World) (a : ℕ → ℕ) (k g : ℕ) (asking : Bool) (r : Reply) (place : ℕ) → Holds w a → w.client.on g ≡ Some k → w.client.asking g ≡ asking → copies g (w.conns k) ≡ 0
     → (asking ≡ false → acts_once (w.client.op g) ≡ true → r.status ≡ user_session_deleted → w.client.before g ≡ false → a g ≡ 0)
-    → (h : Hearing) → heard w.client g asking r ≡ h → Holds (with_client (closed_by w (act_heard h)) (hear w.client g asking r place h)) a
+    → (h : Hearing) → heard w.client g asking r ≡ h → Holds (with_client (closed_by w k (act_heard h)) (hear w.client g asking r place h)) a
 hears w a k g asking r place i on asks none gone (Settles o) e = settles w.client w.conns a k g asking r place o i on none (heard_firm w.client g asking r o e)
 hears w a k g asking r place i on asks none gone GoesAgain e =
     answered_keeps w.client w.conns a k g on none (λ o b k. once_again w.client g asking r.status (heard_again w.client g asking r e) o (a g)) i
@@ -553,7 +565,7 @@ hears w a k g asking r place i on asks none gone EndsSession e =
 pub took : (w : World) (a : ℕ → ℕ) (k g : ℕ) (asking : Bool) (r : Reply) (place : ℕ) → Holds w a → copies g (w.conns k) ≡ 0
     → (asking ≡ false → acts_once (w.client.op g) ≡ true → r.status ≡ user_session_deleted → w.client.before g ≡ false → a g ≡ 0) → Holds (op_took w k g asking r place) a
 took w a k g asking r place i none gone =
-    both_ways (λ c x. Holds (with_client (closed_by w x) c) a) (is_awaited w.client k g asking) (hear w.client g asking r place (heard w.client g asking r)) w.client (act_heard (heard w.client g asking r)) Nothing
+    both_ways (λ c x. Holds (with_client (closed_by w k x) c) a) (is_awaited w.client k g asking) (hear w.client g asking r place (heard w.client g asking r)) w.client (act_heard (heard w.client g asking r)) Nothing
     (λ aw. let q = awaited_of w.client k g asking aw in hears w a k g asking r place i q.0 q.1 none gone (heard w.client g asking r) refl)
     (λ _. i)
 
@@ -566,12 +578,10 @@ goes_on_bound (SaidFirst bound) s status e = grind arith
 goes_on_bound (SaidSecond bound) s status e = grind arith
 goes_on_bound AskedTree s status e = grind arith
 
-pub binds_bound : (t : Stage) (status : ℕ) → dialog_step t status ≡ Binds → is_bound t ≡ true
-binds_bound Apart status e = absurd (cc)
-binds_bound (SaidNegotiate bound) status e = grind arith
-binds_bound (SaidFirst bound) status e = grind arith
-binds_bound (SaidSecond bound) status e = grind arith
-binds_bound AskedTree status e = grind arith
+readies : (w : World) (a : ℕ → ℕ) (k session tree : ℕ) → Holds w a → copies 0 (w.conns k) ≡ 0 → w.client.ready k ≡ false → (w.conns k).client_open ≡ true → Holds (dialog_ended w k (IsReady k session tree)) a
+readies w a k session tree i none apart stands =
+    ended_well (λ v. Holds v a) w k session tree (λ live. bound_keeps w.client w.conns a k live stands none i) (λ _ _. readied_keeps w.client w.conns a k session tree stands none i)
+    (dialog_off_keeps w.client w.conns a k apart i)
 
 pub dialogs : (w : World) (a : ℕ → ℕ) (k : ℕ) (r : Reply) → Holds w a → copies 0 (w.conns k) ≡ 0 → w.client.ready k ≡ false → (w.conns k).client_open ≡ true
     → (d : DialogStep) → dialog_step (w.client.stage k) r.status ≡ d → Holds (dialog_took w k r d) a
@@ -580,8 +590,8 @@ dialogs w a k r i none apart stands (GoesOn stage) e =
     (went_on_keeps w.client w.conns a k stage r (λ b. i.stages k (sym (goes_on_bound (w.client.stage k) stage r.status e) ∙ b)) i)
 dialogs w a k r i none apart stands Accepts e =
     dialog_sent_keeps (accepted w.client k) w.conns a k 1 (dialog_message (accepted w.client k) k (w.conns k).next_id AskedTree) none apart (accepted_keeps w.client w.conns a k i)
-dialogs w a k r i none apart stands Binds e = bound_keeps w.client w.conns a k (i.stages k (binds_bound (w.client.stage k) r.status e)) stands none i
-dialogs w a k r i none apart stands Readies e = readied_keeps w.client w.conns a k r stands none i
+dialogs w a k r i none apart stands Binds e = readies w a k w.client.session w.client.tree i none apart stands
+dialogs w a k r i none apart stands Readies e = readies w a k w.client.pending r.tree i none apart stands
 dialogs w a k r i none apart stands (Refuses status) e = dialog_refused_keeps w.client w.conns a k status apart i
 
 -- ---- a reply that is taken

@@ -8,12 +8,12 @@ use Rattle.exchange_defs.specs.Operations.{Op, OpClose, Outcome, Unsettled, WasO
 use Rattle.exchange_defs.specs.Client.{Client, create_for, is_taken, may_take, may_push, has_its_slot, goes_itself, lacks_slot, settle_no_slot, settle_no_slots, begin, again, outstanding, cut_channel, ends_at_cut, end_session, outcome_after_end, unsent_after_end, finish, outcome_after_finish, is_gone_after}
 use Rattle.exchange_defs.specs.Settling.{Heard as Hearing, Settles, GoesAgain, Attaches, EndsSession, heard, hear, is_awaited, settle, settled, noted, noted_full, settles_open, with_no_opens, without_open, answered}
 use Rattle.exchange_defs.specs.Dialogs.{DialogStep, GoesOn, Accepts, Binds, Readies, Refuses, dialog_step}
-use Rattle.exchange_defs.specs.ClientStep.{Pick, Act, Nothing, Sends, Asks, CloseChannels, AllSettled, pick_after, op_after, push_after, hear_after, client_after, act, Pushes}
-use Rattle.exchange_defs.specs.Network.{World, Event, Submit, Open, Push, Serve, Take, Cut, Drop, Restart, Crash, Wait, Finish, Received, Sent, Token, ForDialog, ForOp, ForAttach, happens, run, start, Settings, may_open, may_serve, pushed_by, serve_front, absorb_front, take_reply, took_by, dialog_took, behind_reply}
+use Rattle.exchange_defs.specs.ClientStep.{Pick, Act, Nothing, Sends, Asks, CloseChannels, AllSettled, pick_after, op_after, push_after, hear_after, client_after, act, Pushes, IsReady, CloseChannel}
+use Rattle.exchange_defs.specs.Network.{World, Event, Submit, Open, Push, Serve, Take, Cut, Drop, Restart, Crash, Wait, Finish, Received, Sent, Token, ForDialog, ForOp, ForAttach, happens, run, start, Settings, may_open, may_serve, pushed_by, serve_front, absorb_front, take_reply, took_by, dialog_took, behind_reply, dialog_ended}
 use Rattle.exchange_defs.specs.Statements.{SettledStays}
 use Rattle.exchange_law.specs.Connections.{Settled as AllSettledOff, Taken, TakenOn, Creates, makes_open, its_create}
 use Rattle.server_law.proofs.Logic.{either, front_of}
-use Rattle.exchange_law.proofs.Run.{Holds, after, keeps, begins, found, awaited_of, without_same, next_of, always}
+use Rattle.exchange_law.proofs.Run.{Holds, after, keeps, begins, found, awaited_of, without_same, next_of, always, ended_well}
 
 -- the row of a number that isn't taken is as in the beginning
 abbrev pub Beyond : Client → Type 0
@@ -253,14 +253,18 @@ pushed_client : (w : World) (k : ℕ) (d : Client) (x : Act) → (pushed_by w k 
 pushed_client w k d Nothing = refl
 pushed_client w k d (Sends g) = refl
 pushed_client w k d (Asks g) = refl
+pushed_client w k d CloseChannel = refl
 pushed_client w k d CloseChannels = refl
 pushed_client w k d AllSettled = refl
+
+ended_stays : (w : World) (k session tree : ℕ) → Stay w (dialog_ended w k (IsReady k session tree))
+ended_stays w k session tree = ended_well (λ v. Stay w v) w k session tree (λ _. kept_same w.client) (λ _ _. kept_same w.client) (kept_same w.client)
 
 dialog_stays : (w : World) (k : ℕ) (r : Reply) (d : DialogStep) → Stay w (dialog_took w k r d)
 dialog_stays w k r (GoesOn stage) = kept_same w.client
 dialog_stays w k r Accepts = kept_same w.client
-dialog_stays w k r Binds = kept_same w.client
-dialog_stays w k r Readies = kept_same w.client
+dialog_stays w k r Binds = ended_stays w k w.client.session w.client.tree
+dialog_stays w k r Readies = ended_stays w k w.client.pending r.tree
 dialog_stays w k r (Refuses status) = kept_same w.client
 
 took_stays : (w : World) (k : ℕ) (r : Reply) (place : ℕ) → Fits w.client → (t : Token) → Stay w (took_by w k r place t)

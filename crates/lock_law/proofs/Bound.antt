@@ -1,12 +1,11 @@
 -- A further channel is ready.
 use Rattle.std.proofs.Common.{ℕ}
 use Rattle.exchange_defs.specs.State.{Server}
-use Rattle.exchange_defs.specs.Client.{Client}
-use Rattle.exchange_defs.specs.Dialogs.{bound}
+use Rattle.exchange_defs.specs.Client.{Client, bind_channel}
 use Rattle.exchange_defs.specs.Network.{Conn}
 use Rattle.lock_law.specs.Locks.{Locks}
 
-pub bound_keeps : (c : Client) (conns : ℕ → Conn) (s : Server) (a : ℕ → ℕ) (k : ℕ) → Locks c conns s a → Locks (bound c k) conns s a
+pub bound_keeps : (c : Client) (conns : ℕ → Conn) (s : Server) (a : ℕ → ℕ) (k : ℕ) → Locks c conns s a → Locks (bind_channel c k) conns s a
 bound_keeps c conns s a k i =
     record {
       slot_index = i.slot_index;

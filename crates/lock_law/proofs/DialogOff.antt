@@ -2,8 +2,7 @@
 use Rattle.std.proofs.Common.{◌≡◌, ℕ, false, arith, Some, slice_get}
 use Rattle.exchange_defs.specs.Table.{put}
 use Rattle.exchange_defs.specs.State.{Server}
-use Rattle.exchange_defs.specs.Client.{Client}
-use Rattle.exchange_defs.specs.Dialogs.{leave_dialog}
+use Rattle.exchange_defs.specs.Client.{Client, leave_dialog}
 use Rattle.exchange_defs.specs.Network.{Conn, client_off}
 use Rattle.exchange_law.specs.Connections.{Connections, Outstanding, OnReady, Settled, Taken, Bodies}
 use Rattle.exchange_law.proofs.Lists.{get-push}

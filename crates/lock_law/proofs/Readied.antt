@@ -1,70 +1,69 @@
 -- A session is ready.
 use Rattle.std.proofs.Common.{◌≡◌, ℕ, true, false, arith, Some, slice_get}
-use Rattle.exchange_defs.specs.State.{Server, Reply}
-use Rattle.exchange_defs.specs.Client.{Client}
-use Rattle.exchange_defs.specs.Dialogs.{readied}
+use Rattle.exchange_defs.specs.State.{Server}
+use Rattle.exchange_defs.specs.Client.{Client, begin_session}
 use Rattle.exchange_defs.specs.Network.{Conn, Sent, Received}
 use Rattle.exchange_law.specs.Connections.{create_at}
 use Rattle.session_law.specs.Sessions.{is_ops}
 use Rattle.lock_law.specs.Locks.{Locks, AttachedLow, CopyNow, RetriedOn, RetriedDone, NowAttached, OpenedReply, JoinReply, JoinedReply, ClosedNot, LeftFull, LeftStuck, LeftIdle}
 use Rattle.lock_law.proofs.Words.{own_ops, own_reply_ops, ask_reply_ops}
 
-readied_attached_low : (c : Client) (conns : ℕ → Conn) (s : Server) (a : ℕ → ℕ) (k : ℕ) (r0 : Reply) → AttachedLow c → AttachedLow (readied c k r0)
-readied_attached_low c conns s a k r0 i_attached_low =
+readied_attached_low : (c : Client) (conns : ℕ → Conn) (s : Server) (a : ℕ → ℕ) (k session tree : ℕ) → AttachedLow c → AttachedLow (begin_session c k session tree)
+readied_attached_low c conns s a k session tree i_attached_low =
     λ q. let old = i_attached_low q in grind arith
 
-readied_copy_now : (c : Client) (conns : ℕ → Conn) (s : Server) (a : ℕ → ℕ) (k : ℕ) (r0 : Reply) → ((j n : ℕ) (x : Sent) → slice_get (conns j).up n ≡ Some x → is_ops x.token ≡ true → s.present x.message.session ≡ false) → CopyNow c conns s → CopyNow (readied c k r0) conns s
-readied_copy_now c conns s a k r0 gone i_copy_now =
+readied_copy_now : (c : Client) (conns : ℕ → Conn) (s : Server) (a : ℕ → ℕ) (k session tree : ℕ) → ((j n : ℕ) (x : Sent) → slice_get (conns j).up n ≡ Some x → is_ops x.token ≡ true → s.present x.message.session ≡ false) → CopyNow c conns s → CopyNow (begin_session c k session tree) conns s
+readied_copy_now c conns s a k session tree gone i_copy_now =
     λ j n p x h t. let v = gone j n x h (own_ops x p t) in grind arith
 
-readied_retried_on : (c : Client) (conns : ℕ → Conn) (s : Server) (a : ℕ → ℕ) (k : ℕ) (r0 : Reply) → ((j n : ℕ) (x : Sent) → slice_get (conns j).up n ≡ Some x → is_ops x.token ≡ true → s.present x.message.session ≡ false) → RetriedOn c conns s → RetriedOn (readied c k r0) conns s
-readied_retried_on c conns s a k r0 gone i_retried_on =
+readied_retried_on : (c : Client) (conns : ℕ → Conn) (s : Server) (a : ℕ → ℕ) (k session tree : ℕ) → ((j n : ℕ) (x : Sent) → slice_get (conns j).up n ≡ Some x → is_ops x.token ≡ true → s.present x.message.session ≡ false) → RetriedOn c conns s → RetriedOn (begin_session c k session tree) conns s
+readied_retried_on c conns s a k session tree gone i_retried_on =
     λ j n p x h t. let v = gone j n x h (own_ops x p t) in grind arith
 
-readied_retried_done : (c : Client) (conns : ℕ → Conn) (s : Server) (a : ℕ → ℕ) (k : ℕ) (r0 : Reply) → ((j n : ℕ) (x : Sent) → slice_get (conns j).up n ≡ Some x → is_ops x.token ≡ true → s.present x.message.session ≡ false) → RetriedDone c conns s → RetriedDone (readied c k r0) conns s
-readied_retried_done c conns s a k r0 gone i_retried_done =
+readied_retried_done : (c : Client) (conns : ℕ → Conn) (s : Server) (a : ℕ → ℕ) (k session tree : ℕ) → ((j n : ℕ) (x : Sent) → slice_get (conns j).up n ≡ Some x → is_ops x.token ≡ true → s.present x.message.session ≡ false) → RetriedDone c conns s → RetriedDone (begin_session c k session tree) conns s
+readied_retried_done c conns s a k session tree gone i_retried_done =
     λ j n p x h t. let v = gone j n x h (own_ops x p t) in grind arith
 
-readied_now_attached : (c : Client) (conns : ℕ → Conn) (s : Server) (a : ℕ → ℕ) (k : ℕ) (r0 : Reply) → NowAttached c s → AttachedLow c → NowAttached (readied c k r0) s
-readied_now_attached c conns s a k r0 i_now_attached i_attached_low =
+readied_now_attached : (c : Client) (conns : ℕ → Conn) (s : Server) (a : ℕ → ℕ) (k session tree : ℕ) → NowAttached c s → AttachedLow c → NowAttached (begin_session c k session tree) s
+readied_now_attached c conns s a k session tree i_now_attached i_attached_low =
     λ q. let l = i_attached_low q in grind arith
 
-readied_opened_reply : (c : Client) (conns : ℕ → Conn) (s : Server) (a : ℕ → ℕ) (k : ℕ) (r0 : Reply) → ((j n : ℕ) (y : Received) → slice_get (conns j).down n ≡ Some y → is_ops y.token ≡ false) → OpenedReply c conns s → OpenedReply (readied c k r0) conns s
-readied_opened_reply c conns s a k r0 idle i_opened_reply =
+readied_opened_reply : (c : Client) (conns : ℕ → Conn) (s : Server) (a : ℕ → ℕ) (k session tree : ℕ) → ((j n : ℕ) (y : Received) → slice_get (conns j).down n ≡ Some y → is_ops y.token ≡ false) → OpenedReply c conns s → OpenedReply (begin_session c k session tree) conns s
+readied_opened_reply c conns s a k session tree idle i_opened_reply =
     λ j n p y h t. let v = idle j n y h in let o1 = own_reply_ops y p t in grind arith
 
-readied_join_reply : (c : Client) (conns : ℕ → Conn) (s : Server) (a : ℕ → ℕ) (k : ℕ) (r0 : Reply) → ((j n : ℕ) (y : Received) → slice_get (conns j).down n ≡ Some y → is_ops y.token ≡ false) → JoinReply c conns s → JoinReply (readied c k r0) conns s
-readied_join_reply c conns s a k r0 idle i_join_reply =
+readied_join_reply : (c : Client) (conns : ℕ → Conn) (s : Server) (a : ℕ → ℕ) (k session tree : ℕ) → ((j n : ℕ) (y : Received) → slice_get (conns j).down n ≡ Some y → is_ops y.token ≡ false) → JoinReply c conns s → JoinReply (begin_session c k session tree) conns s
+readied_join_reply c conns s a k session tree idle i_join_reply =
     λ j n p y h t. let v = idle j n y h in let o1 = ask_reply_ops y p t in grind arith
 
-readied_joined_reply : (c : Client) (conns : ℕ → Conn) (s : Server) (a : ℕ → ℕ) (k : ℕ) (r0 : Reply) → ((j n : ℕ) (y : Received) → slice_get (conns j).down n ≡ Some y → is_ops y.token ≡ false) → JoinedReply c conns s → JoinedReply (readied c k r0) conns s
-readied_joined_reply c conns s a k r0 idle i_joined_reply =
+readied_joined_reply : (c : Client) (conns : ℕ → Conn) (s : Server) (a : ℕ → ℕ) (k session tree : ℕ) → ((j n : ℕ) (y : Received) → slice_get (conns j).down n ≡ Some y → is_ops y.token ≡ false) → JoinedReply c conns s → JoinedReply (begin_session c k session tree) conns s
+readied_joined_reply c conns s a k session tree idle i_joined_reply =
     λ j n p y h t. let v = idle j n y h in let o1 = ask_reply_ops y p t in grind arith
 
-readied_closed_not : (c : Client) (conns : ℕ → Conn) (s : Server) (a : ℕ → ℕ) (k : ℕ) (r0 : Reply) → ClosedNot c s a → AttachedLow c → ClosedNot (readied c k r0) s a
-readied_closed_not c conns s a k r0 i_closed_not i_attached_low =
+readied_closed_not : (c : Client) (conns : ℕ → Conn) (s : Server) (a : ℕ → ℕ) (k session tree : ℕ) → ClosedNot c s a → AttachedLow c → ClosedNot (begin_session c k session tree) s a
+readied_closed_not c conns s a k session tree i_closed_not i_attached_low =
     λ p. let l = i_attached_low (create_at c p) in grind arith
 
-readied_left_full : (c : Client) (conns : ℕ → Conn) (s : Server) (a : ℕ → ℕ) (k : ℕ) (r0 : Reply) → ((j n : ℕ) (x : Sent) → slice_get (conns j).up n ≡ Some x → is_ops x.token ≡ true → s.present x.message.session ≡ false) → LeftFull c conns s → LeftFull (readied c k r0) conns s
-readied_left_full c conns s a k r0 gone i_left_full =
+readied_left_full : (c : Client) (conns : ℕ → Conn) (s : Server) (a : ℕ → ℕ) (k session tree : ℕ) → ((j n : ℕ) (x : Sent) → slice_get (conns j).up n ≡ Some x → is_ops x.token ≡ true → s.present x.message.session ≡ false) → LeftFull c conns s → LeftFull (begin_session c k session tree) conns s
+readied_left_full c conns s a k session tree gone i_left_full =
     λ j n p x h t. let v = gone j n x h (own_ops x p t) in grind arith
 
-readied_left_stuck : (c : Client) (conns : ℕ → Conn) (s : Server) (a : ℕ → ℕ) (k : ℕ) (r0 : Reply) → ((j n : ℕ) (x : Sent) → slice_get (conns j).up n ≡ Some x → is_ops x.token ≡ true → s.present x.message.session ≡ false) → LeftStuck c conns s → LeftStuck (readied c k r0) conns s
-readied_left_stuck c conns s a k r0 gone i_left_stuck =
+readied_left_stuck : (c : Client) (conns : ℕ → Conn) (s : Server) (a : ℕ → ℕ) (k session tree : ℕ) → ((j n : ℕ) (x : Sent) → slice_get (conns j).up n ≡ Some x → is_ops x.token ≡ true → s.present x.message.session ≡ false) → LeftStuck c conns s → LeftStuck (begin_session c k session tree) conns s
+readied_left_stuck c conns s a k session tree gone i_left_stuck =
     λ j n p x h t. let v = gone j n x h (own_ops x p t) in grind arith
 
-readied_left_idle : (c : Client) (conns : ℕ → Conn) (s : Server) (a : ℕ → ℕ) (k : ℕ) (r0 : Reply) → ((j n : ℕ) (x : Sent) → slice_get (conns j).up n ≡ Some x → is_ops x.token ≡ true → s.present x.message.session ≡ false) → LeftIdle c conns s a → LeftIdle (readied c k r0) conns s a
-readied_left_idle c conns s a k r0 gone i_left_idle =
+readied_left_idle : (c : Client) (conns : ℕ → Conn) (s : Server) (a : ℕ → ℕ) (k session tree : ℕ) → ((j n : ℕ) (x : Sent) → slice_get (conns j).up n ≡ Some x → is_ops x.token ≡ true → s.present x.message.session ≡ false) → LeftIdle c conns s a → LeftIdle (begin_session c k session tree) conns s a
+readied_left_idle c conns s a k session tree gone i_left_idle =
     λ j n p q x h t. let v = gone j n x h (own_ops x p t) in grind arith
 
-pub readied_keeps : (c : Client) (conns : ℕ → Conn) (s : Server) (a : ℕ → ℕ) (k : ℕ) (r0 : Reply) → ((j n : ℕ) (x : Sent) → slice_get (conns j).up n ≡ Some x → is_ops x.token ≡ true → s.present x.message.session ≡ false) → ((j n : ℕ) (y : Received) → slice_get (conns j).down n ≡ Some y → is_ops y.token ≡ false) → Locks c conns s a → Locks (readied c k r0) conns s a
-readied_keeps c conns s a k r0 gone idle i =
+pub readied_keeps : (c : Client) (conns : ℕ → Conn) (s : Server) (a : ℕ → ℕ) (k session tree : ℕ) → ((j n : ℕ) (x : Sent) → slice_get (conns j).up n ≡ Some x → is_ops x.token ≡ true → s.present x.message.session ≡ false) → ((j n : ℕ) (y : Received) → slice_get (conns j).down n ≡ Some y → is_ops y.token ≡ false) → Locks c conns s a → Locks (begin_session c k session tree) conns s a
+readied_keeps c conns s a k session tree gone idle i =
     record {
       slot_index = i.slot_index;
       user_body = i.user_body;
       in_use = i.in_use;
       full_free = i.full_free;
-      attached_low = readied_attached_low c conns s a k r0 i.attached_low;
+      attached_low = readied_attached_low c conns s a k session tree i.attached_low;
       shut_ok = i.shut_ok;
       shut_made = i.shut_made;
       shut_gone = i.shut_gone;
@@ -75,14 +74,14 @@ readied_keeps c conns s a k r0 gone idle i =
       ask_up = i.ask_up;
       ask_down = i.ask_down;
       users = i.users;
-      copy_now = readied_copy_now c conns s a k r0 gone i.copy_now;
-      retried_on = readied_retried_on c conns s a k r0 gone i.retried_on;
-      retried_done = readied_retried_done c conns s a k r0 gone i.retried_done;
+      copy_now = readied_copy_now c conns s a k session tree gone i.copy_now;
+      retried_on = readied_retried_on c conns s a k session tree gone i.retried_on;
+      retried_done = readied_retried_done c conns s a k session tree gone i.retried_done;
       copy_attached = i.copy_attached;
-      now_attached = readied_now_attached c conns s a k r0 i.now_attached i.attached_low;
-      opened_reply = readied_opened_reply c conns s a k r0 idle i.opened_reply;
-      join_reply = readied_join_reply c conns s a k r0 idle i.join_reply;
-      joined_reply = readied_joined_reply c conns s a k r0 idle i.joined_reply;
+      now_attached = readied_now_attached c conns s a k session tree i.now_attached i.attached_low;
+      opened_reply = readied_opened_reply c conns s a k session tree idle i.opened_reply;
+      join_reply = readied_join_reply c conns s a k session tree idle i.join_reply;
+      joined_reply = readied_joined_reply c conns s a k session tree idle i.joined_reply;
       lost_reply = i.lost_reply;
       kept_says = i.kept_says;
       not_kept = i.not_kept;
@@ -94,11 +93,11 @@ readied_keeps c conns s a k r0 gone idle i =
       no_reply = i.no_reply;
       kept_reply = i.kept_reply;
       first_reply = i.first_reply;
-      closed_not = readied_closed_not c conns s a k r0 i.closed_not i.attached_low;
+      closed_not = readied_closed_not c conns s a k session tree i.closed_not i.attached_low;
       kept_files = i.kept_files;
-      left_full = readied_left_full c conns s a k r0 gone i.left_full;
-      left_stuck = readied_left_stuck c conns s a k r0 gone i.left_stuck;
-      left_idle = readied_left_idle c conns s a k r0 gone i.left_idle;
+      left_full = readied_left_full c conns s a k session tree gone i.left_full;
+      left_stuck = readied_left_stuck c conns s a k session tree gone i.left_stuck;
+      left_idle = readied_left_idle c conns s a k session tree gone i.left_idle;
       close_done = i.close_done;
       close_full = i.close_full;
       close_stuck = i.close_stuck;

@@ -9,7 +9,7 @@ use Rattle.exchange_defs.specs.Fold.{recovery_records}
 use Rattle.exchange_defs.specs.Operations.{Op, Outcome, Unsettled, WasOk, WasRefused, NoSlot, NoOpen, Unknown, NoSession, Why, SessionLost, is_unsettled, is_ok, is_create, persists, create_of, id_in, value_in, OpReply}
 use Rattle.exchange_defs.specs.Client.{Client, Stage, Apart, SaidNegotiate, SaidFirst, SaidSecond, AskedTree, create_for, guid_for, may_take, outcome_at_first, is_gone, is_gone_after, cut_channel, ends_at_cut, end_session, outcome_after_end, plain_after_end, unsent_after_end, is_taken, outcome_after_finish, finish}
 use Rattle.exchange_defs.specs.Settling.{Heard as Hearing, Settles, GoesAgain, Attaches, EndsSession, heard, hear, is_awaited, answered, ok_or_unknown, refused, goes_again, refuses_all, may_have_acted, was_closed}
-use Rattle.exchange_defs.specs.Dialogs.{DialogStep, GoesOn, Accepts, Binds, Readies, Refuses, dialog_step, dialog_message, went_on, accepted, bound}
+use Rattle.exchange_defs.specs.Dialogs.{DialogStep, GoesOn, Accepts, Binds, Readies, Refuses, dialog_step, dialog_message, went_on, accepted}
 use Rattle.exchange_defs.specs.ClientStep.{Nothing, CloseChannels, act_heard, Pick}
 use Rattle.exchange_defs.specs.Network.{World, Event, Submit, Open, Push, Serve, Take, Cut, Drop, Restart, Crash, Wait, Finish, Conn, Sent, Received, Token, ForDialog, ForOp, ForAttach, op_of, happens, changed, later, may_open, may_serve, answer, absorbed, replied, serve_front, absorb_front, behind_front, take_front, take_reply, took_by, dialog_took, op_took, closed_by, cut_by, with_client, behind_reply, restarted, client_off}
 use Rattle.exchange_defs.specs.Runs.{front_acts}
@@ -17,7 +17,7 @@ use Rattle.exchange_law.specs.Connections.{Connections, copies, makes_open, its_
 use Rattle.exchange_law.proofs.Lists.{front_up, front_down, waited_down, counted_down}
 use Rattle.exchange_law.proofs.Behind.{behind_keeps as exchange_behind_keeps}
 use Rattle.exchange_law.proofs.Answered.{answered_keeps as exchange_answered_keeps}
-use Rattle.exchange_law.proofs.Run.{next_of, both_ways, put_self, front_reply_gone, awaited_of, heard_firm, heard_ends, after, still_open, closed_of}
+use Rattle.exchange_law.proofs.Run.{next_of, both_ways, put_self, front_reply_gone, awaited_of, heard_firm, heard_ends, after, still_open, closed_of, ended_well}
 use Rattle.server_law.specs.Fits.{Fits}
 use Rattle.server_law.proofs.Logic.{either, not_true}
 use Rattle.session_law.specs.Sessions.{Sessions, is_ops, makes_session}
@@ -242,7 +242,7 @@ attaches_by c g asking r = by_line
         (λ _. either Is (r.status == success) _ _ (λ s. by_ok asking refl s) (λ _. either Is (goes_again c g asking r.status) _ _ (λ _ f. absurd (cc)) (λ _. by_refused)))
 
 hears : (w : World) (a : ℕ → ℕ) (k g : ℕ) (asking : Bool) (y : Received) → Taken w.client w.conns w.server a k g asking y → (asking ≡ false → acts_once (w.client.op g) ≡ true → y.reply.status ≡ user_session_deleted → w.client.before g ≡ false → a g ≡ 0)
-    → (h : Hearing) → heard w.client g asking y.reply ≡ h → Holds (with_client (closed_by w (act_heard h)) (hear w.client g asking y.reply y.place h)) a
+    → (h : Hearing) → heard w.client g asking y.reply ≡ h → Holds (with_client (closed_by w k (act_heard h)) (hear w.client g asking y.reply y.place h)) a
 hears w a k g asking y t gone (Settles o) e =
     let firm0 = heard_firm w.client g asking y.reply o e in
     settles w.client w.conns w.server a k g asking y.reply y.place o (says_of w.client w.conns w.server a k g asking y o t (subst (λ h. Tells (w.client.op g) asking (w.client.before g) y.reply.status h) e (heard_tells w.client g asking y.reply)) firm0)
@@ -260,7 +260,7 @@ hears w a k g asking y t gone EndsSession e =
 took : (w : World) (a : ℕ → ℕ) (k g : ℕ) (asking : Bool) (y : Received) → (w.client.on g ≡ Some k → w.client.asking g ≡ asking → Taken w.client w.conns w.server a k g asking y) → (asking ≡ false → acts_once (w.client.op g) ≡ true → y.reply.status ≡ user_session_deleted → w.client.before g ≡ false → a g ≡ 0) → Holds w a
     → Holds (op_took w k g asking y.reply y.place) a
 took w a k g asking y t gone i =
-    both_ways (λ c x. Holds (with_client (closed_by w x) c) a) (is_awaited w.client k g asking) (hear w.client g asking y.reply y.place (heard w.client g asking y.reply)) w.client (act_heard (heard w.client g asking y.reply)) Nothing
+    both_ways (λ c x. Holds (with_client (closed_by w k x) c) a) (is_awaited w.client k g asking) (hear w.client g asking y.reply y.place (heard w.client g asking y.reply)) w.client (act_heard (heard w.client g asking y.reply)) Nothing
     (λ aw. let q = awaited_of w.client k g asking aw in hears w a k g asking y (t q.0 q.1) gone (heard w.client g asking y.reply) refl)
     (λ _. i)
 
@@ -307,12 +307,18 @@ dialogs w a k rest y is b C apart i (GoesOn stage) e =
 dialogs w a k rest y is b C apart i Accepts e =
     let f : ℕ → Conn = put w.conns k (take_front (w.conns k) rest) in
     dialog_sent_keeps (accepted w.client k) f w.server a k 1 (dialog_message (accepted w.client k) k (f k).next_id AskedTree) (accepted_keeps w.client f w.server a k i)
-dialogs w a k rest y is b C apart i Binds e = bound_keeps w.client (put w.conns k (take_front (w.conns k) rest)) w.server a k i
+dialogs w a k rest y is b C apart i Binds e =
+    let f : ℕ → Conn = put w.conns k (take_front (w.conns k) rest) in
+    ended_well (λ v. Holds v a) (behind_reply w k rest) k w.client.session w.client.tree (λ _. bound_keeps w.client f w.server a k i) (λ dead newer. absurd (omega (arith, newer)))
+    (dialog_off_keeps w.client f w.server a k apart C i)
 dialogs w a k rest y is b C apart i Readies e =
     let st = readies_stage (w.client.stage k) y.reply.status e in
-    readied_keeps w.client (put w.conns k (take_front (w.conns k) rest)) w.server a k y.reply
+    let f : ℕ → Conn = put w.conns k (take_front (w.conns k) rest) in
+    ended_well (λ v. Holds v a) (behind_reply w k rest) k w.client.pending y.reply.tree (λ _. bound_keeps w.client f w.server a k i)
+    (λ _ _. readied_keeps w.client f w.server a k w.client.pending y.reply.tree
     (λ j n x h o. absent_up w.client w.conns w.server k b.under.sessions st j n x (up_behind w.conns k rest j n x h) o)
-    (λ j n z h. let v = waited_down w.conns k y rest j n z is h in idle_down w.client w.conns w.server a k b.under.links b.under.sessions st j v.0 z v.1) i
+    (λ j n z h. let v = waited_down w.conns k y rest j n z is h in idle_down w.client w.conns w.server a k b.under.links b.under.sessions st j v.0 z v.1) i)
+    (dialog_off_keeps w.client f w.server a k apart C i)
 dialogs w a k rest y is b C apart i (Refuses status) e = dialog_refused_keeps w.client (put w.conns k (take_front (w.conns k) rest)) w.server a k status apart C i
 
 -- ---- a reply that is taken

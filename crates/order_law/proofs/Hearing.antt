@@ -491,7 +491,7 @@ same_some o j k e f = grind arith
 
 hears : (w : World) (a : ℕ → ℕ) (k g : ℕ) (asking : Bool) (r : Reply) (place : ℕ) → Connections w.client w.conns a → Contents w.client w.conns w.server w.trace w.log a → Told w.client w.conns w.server w.trace w.log k g asking r place
     → is_unsettled (w.client.outcome g) ≡ true → (h : Heard) → heard w.client g asking r ≡ h
-    → Holds (with_client (closed_by w (act_heard h)) (hear w.client g asking r place h)) a
+    → Holds (with_client (closed_by w k (act_heard h)) (hear w.client g asking r place h)) a
 hears w a k g asking r place cn i d u (Settles o) e = settles w.client w.conns w.server w.trace w.log a k g asking r place o cn i d u e
 hears w a k g asking r place cn i d u GoesAgain e =
     let z = again_status w.client g asking r.status (heard_again w.client g asking r e) in answered_keeps w.client w.conns w.server w.trace w.log a g (λ ed b own. d.not_done z.0 ed z.1 b) i
@@ -517,7 +517,7 @@ pub took : (w : World) (a : ℕ → ℕ) (k g : ℕ) (asking : Bool) (r : Reply)
     → (w.client.on g ≡ Some k → w.client.asking g ≡ asking → Told w.client w.conns w.server w.trace w.log k g asking r place)
     → Holds (op_took w k g asking r place) a
 took w a k g asking r place cn i told =
-    both_ways (λ c x. Holds (with_client (closed_by w x) c) a) (is_awaited w.client k g asking) (hear w.client g asking r place (heard w.client g asking r)) w.client
+    both_ways (λ c x. Holds (with_client (closed_by w k x) c) a) (is_awaited w.client k g asking) (hear w.client g asking r place (heard w.client g asking r)) w.client
     (act_heard (heard w.client g asking r)) Nothing
     (λ aw. let q = awaited_of w.client k g asking aw in hears w a k g asking r place cn i (told q.0 q.1) (pending q.0) (heard w.client g asking r) refl)
     (λ _. i)

@@ -12,8 +12,8 @@ use Rattle.exchange_defs.specs.Operations.{Outcome, Unsettled, WasOk, WasRefused
 use Rattle.exchange_defs.specs.Client.{Client, Stage, may_take, may_push, has_its_slot, goes_itself, lacks_slot, settle_no_slot, settle_no_slots, outstanding, ends_at_cut, begin, again, create_for, SaidSecond, SaidNegotiate, SaidFirst, Apart, AskedTree}
 use Rattle.exchange_defs.specs.Settling.{Heard as Hearing, Settles, GoesAgain, Attaches, EndsSession, heard, hear, is_awaited, settle, settled, noted, noted_full, settles_open}
 use Rattle.exchange_defs.specs.Dialogs.{DialogStep, GoesOn, Accepts, Binds, Readies, Refuses, dialog_step}
-use Rattle.exchange_defs.specs.ClientStep.{Pick, Act, Nothing, Sends, Asks, CloseChannels, AllSettled, push_after, pick_after, op_after, push_act, hear_after, hear_act, cut_after, cut_act}
-use Rattle.exchange_defs.specs.Network.{World, Event, Submit, Open, Push, Serve, Take, Cut, Drop, Restart, Crash, Wait, Finish, Sent, Received, Token, ForDialog, ForOp, ForAttach, happens, run, start, Settings, blank_server, later, may_open, may_serve, pushed_by, answer, absorbed, serve_front, absorb_front, take_reply, took_by, dialog_took, closed_by, cut_by, with_client, behind_reply, restarted, opened, dropped, transmitted, is_own}
+use Rattle.exchange_defs.specs.ClientStep.{Pick, Act, Nothing, Sends, Asks, CloseChannels, AllSettled, push_after, pick_after, op_after, push_act, hear_after, hear_act, cut_after, cut_act, IsReady, CloseChannel}
+use Rattle.exchange_defs.specs.Network.{World, Event, Submit, Open, Push, Serve, Take, Cut, Drop, Restart, Crash, Wait, Finish, Sent, Received, Token, ForDialog, ForOp, ForAttach, happens, run, start, Settings, blank_server, later, may_open, may_serve, pushed_by, answer, absorbed, serve_front, absorb_front, take_reply, took_by, dialog_took, closed_by, cut_by, with_client, behind_reply, restarted, opened, dropped, transmitted, is_own, dialog_ended}
 use Rattle.exchange_defs.specs.Order.{Log}
 use Rattle.exchange_defs.specs.Runs.{is_newer, alters}
 use Rattle.exchange_defs.specs.Statements.{Newer}
@@ -26,6 +26,7 @@ use Rattle.order_law.proofs.Pairs.{Moves}
 use Rattle.order_law.proofs.Answers.{Facts, Given, facts}
 use Rattle.order_law.proofs.Others.{accept_moves, end_moves_all, blank_recovered, recovered_ids}
 use Rattle.order_law.proofs.Calm.{aloof}
+use Rattle.exchange_law.proofs.Run.{ended_well}
 
 -- what is remembered is the same, and so are the ranks
 record Alike (w v : World) : Type 0 where
@@ -276,20 +277,23 @@ pushed_newest : (w : World) (k : ℕ) (c : Client) (a : Act) → Ranks_same w.cl
 pushed_newest w k c Nothing e n = kept_server w _ (record { places = refl; did = refl; trace = refl; rank = e }) refl n
 pushed_newest w k c (Sends g) e n = kept_server w (transmitted w k g c) (record { places = either (λ (l : Log). l.places ≡ w.log.places) (w.client.sent g) _ _ (λ _. refl) (λ _. refl); did = either (λ (l : Log). l.did ≡ w.log.did) (w.client.sent g) _ _ (λ _. refl) (λ _. refl); trace = refl; rank = e }) refl n
 pushed_newest w k c (Asks g) e n = kept_server w _ (record { places = refl; did = refl; trace = refl; rank = e }) refl n
+pushed_newest w k c CloseChannel e n = kept_server w _ (record { places = refl; did = refl; trace = refl; rank = e }) refl n
 pushed_newest w k c CloseChannels e n = kept_server w _ (record { places = refl; did = refl; trace = refl; rank = e }) refl n
 pushed_newest w k c AllSettled e n = kept_server w _ (record { places = refl; did = refl; trace = refl; rank = e }) refl n
 
-closed_newest : (w : World) (c : Client) (a : Act) → Ranks_same w.client c → Newest w → Newest (with_client (closed_by w a) c)
-closed_newest w c Nothing e n = kept_server w _ (record { places = refl; did = refl; trace = refl; rank = e }) refl n
-closed_newest w c (Sends g) e n = kept_server w _ (record { places = refl; did = refl; trace = refl; rank = e }) refl n
-closed_newest w c (Asks g) e n = kept_server w _ (record { places = refl; did = refl; trace = refl; rank = e }) refl n
-closed_newest w c CloseChannels e n = kept_server w _ (record { places = refl; did = refl; trace = refl; rank = e }) refl n
-closed_newest w c AllSettled e n = kept_server w _ (record { places = refl; did = refl; trace = refl; rank = e }) refl n
+closed_newest : (w : World) (k : ℕ) (c : Client) (a : Act) → Ranks_same w.client c → Newest w → Newest (with_client (closed_by w k a) c)
+closed_newest w k c Nothing e n = kept_server w _ (record { places = refl; did = refl; trace = refl; rank = e }) refl n
+closed_newest w k c (Sends g) e n = kept_server w _ (record { places = refl; did = refl; trace = refl; rank = e }) refl n
+closed_newest w k c (Asks g) e n = kept_server w _ (record { places = refl; did = refl; trace = refl; rank = e }) refl n
+closed_newest w k c CloseChannel e n = kept_server w _ (record { places = refl; did = refl; trace = refl; rank = e }) refl n
+closed_newest w k c CloseChannels e n = kept_server w _ (record { places = refl; did = refl; trace = refl; rank = e }) refl n
+closed_newest w k c AllSettled e n = kept_server w _ (record { places = refl; did = refl; trace = refl; rank = e }) refl n
 
 cut_newest : (w : World) (k : ℕ) (c : Client) (a : Act) → Ranks_same w.client c → Newest w → Newest (with_client (cut_by w k a) c)
 cut_newest w k c Nothing e n = kept_server w _ (record { places = refl; did = refl; trace = refl; rank = e }) refl n
 cut_newest w k c (Sends g) e n = kept_server w _ (record { places = refl; did = refl; trace = refl; rank = e }) refl n
 cut_newest w k c (Asks g) e n = kept_server w _ (record { places = refl; did = refl; trace = refl; rank = e }) refl n
+cut_newest w k c CloseChannel e n = kept_server w _ (record { places = refl; did = refl; trace = refl; rank = e }) refl n
 cut_newest w k c CloseChannels e n = kept_server w _ (record { places = refl; did = refl; trace = refl; rank = e }) refl n
 cut_newest w k c AllSettled e n = kept_server w _ (record { places = refl; did = refl; trace = refl; rank = e }) refl n
 
@@ -329,17 +333,22 @@ accepts_of (SaidSecond true) status e = absurd (grind arith)
 accepts_of (SaidSecond false) status e = refl
 accepts_of AskedTree status e = absurd (grind arith)
 
+ended_newest : (w : World) (k session tree : ℕ) → Newest w → Newest (dialog_ended w k (IsReady k session tree))
+ended_newest w k session tree n =
+    ended_well Newest w k session tree (λ _. kept_server w _ (record { places = refl; did = refl; trace = refl; rank = refl }) refl n)
+    (λ _ _. kept_server w _ (record { places = refl; did = refl; trace = refl; rank = refl }) refl n) (kept_server w _ (record { places = refl; did = refl; trace = refl; rank = refl }) refl n)
+
 dialog_newest : (w : World) (k : ℕ) (r : Reply) → PendingUnranked w.client → Newest w → (d : DialogStep) → dialog_step (w.client.stage k) r.status ≡ d → Newest (dialog_took w k r d)
 dialog_newest w k r p n (GoesOn stage) e = kept_server w _ (record { places = refl; did = refl; trace = refl; rank = refl }) refl n
 dialog_newest w k r p n Accepts e = accepted_newest w _ (w.client.accepts + 1) (p k (accepts_of (w.client.stage k) r.status e)) refl refl refl refl n
-dialog_newest w k r p n Binds e = kept_server w _ (record { places = refl; did = refl; trace = refl; rank = refl }) refl n
-dialog_newest w k r p n Readies e = kept_server w _ (record { places = refl; did = refl; trace = refl; rank = refl }) refl n
+dialog_newest w k r p n Binds e = ended_newest w k w.client.session w.client.tree n
+dialog_newest w k r p n Readies e = ended_newest w k w.client.pending r.tree n
 dialog_newest w k r p n (Refuses status) e = kept_server w _ (record { places = refl; did = refl; trace = refl; rank = refl }) refl n
 
 took_newest : (w : World) (k : ℕ) (r : Reply) (place : ℕ) → PendingUnranked w.client → Newest w → (t : Token) → Newest (took_by w k r place t)
 took_newest w k r place p n ForDialog = dialog_newest w k r p n (dialog_step (w.client.stage k) r.status) refl
-took_newest w k r place p n (ForOp g) = closed_newest w _ (hear_act w.client k g false r) (hear_rank w.client k g false r place) n
-took_newest w k r place p n (ForAttach g) = closed_newest w _ (hear_act w.client k g true r) (hear_rank w.client k g true r place) n
+took_newest w k r place p n (ForOp g) = closed_newest w k _ (hear_act w.client k g false r) (hear_rank w.client k g false r place) n
+took_newest w k r place p n (ForAttach g) = closed_newest w k _ (hear_act w.client k g true r) (hear_rank w.client k g true r place) n
 
 take_newest : (w : World) (k : ℕ) → PendingUnranked w.client → Newest w → (ys : List Received) → Newest (take_reply w k ys)
 take_newest w k p n [] = n

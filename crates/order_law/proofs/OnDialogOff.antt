@@ -3,8 +3,7 @@ use Rattle.std.proofs.Common.{◌≡◌, ℕ, false, arith, Some, slice_get}
 use Rattle.exchange_defs.specs.Table.{put}
 use Rattle.exchange_defs.specs.Order.{Log}
 use Rattle.exchange_defs.specs.State.{Server}
-use Rattle.exchange_defs.specs.Client.{Client}
-use Rattle.exchange_defs.specs.Dialogs.{leave_dialog}
+use Rattle.exchange_defs.specs.Client.{Client, leave_dialog}
 use Rattle.exchange_defs.specs.Network.{Conn, Sent, Trace, ForOp, client_off}
 use Rattle.exchange_law.proofs.Lists.{get-push}
 use Rattle.order_law.specs.Contents.{Contents, TokenUp, TokenDown, OpensUp, AskedAs, LostAsked, SessionAsked, FirstUp, NotDone, CutSeq, OpenSeq, Older, NoReplay, CopyPair, CreateReply, AttachReply, Reached, ClosedReply, AttachRefused, StaleReply, PendingAt, LiveUnsettled, LiveReplay, Replies, AttachStatus, SinceReply}

@@ -2,13 +2,13 @@
 use Rattle.std.proofs.Common.{eqb-true, ◌≡◌, ◌≢◌, ℕ, ◌≤◌, ◌<◌, ◌==◌, Bool, true, false, if◌then◌else◌, List, [], ◌∷◌, refl, arith, sym, subst, ◌∙◌, ap, Option, Some, None, slice_get}
 use Rattle.exchange_defs.specs.Table.{put}
 use Rattle.exchange_defs.specs.State.{Reply}
-use Rattle.exchange_defs.specs.Client.{Client, Stage, Apart, SaidNegotiate, SaidFirst, SaidSecond, AskedTree}
+use Rattle.exchange_defs.specs.Client.{Client, Stage, Apart, SaidNegotiate, SaidFirst, SaidSecond, AskedTree, leave_dialog}
 use Rattle.exchange_defs.specs.Dialogs.{DialogStep, GoesOn, Accepts, Binds, Readies, Refuses, dialog_step, went_on, accepted, told_session}
-use Rattle.exchange_defs.specs.Network.{World, Conn, Sent, Received, Token, ForDialog, ForOp, ForAttach, op_of, said, take_front, behind_reply, took_by, take_reply, dialog_took}
+use Rattle.exchange_defs.specs.Network.{World, Conn, Sent, Received, Token, ForDialog, ForOp, ForAttach, op_of, said, take_front, behind_reply, took_by, take_reply, dialog_took, one_cut, with_client}
 use Rattle.exchange_law.specs.Connections.{copies}
 use Rattle.exchange_law.proofs.Lists.{counted_down, front_down, waited_down}
 use Rattle.exchange_law.proofs.Behind.{behind_keeps as behind_connections}
-use Rattle.exchange_law.proofs.Run.{front_reply_gone, reply_open, no_dialog, more_down}
+use Rattle.exchange_law.proofs.Run.{front_reply_gone, reply_open, no_dialog, more_down, ended_well}
 use Rattle.session_law.specs.Sessions.{is_ops, makes_session}
 use Rattle.order_law.specs.Contents.{Contents}
 use Rattle.order_law.proofs.Front.{Lower, Holds}
@@ -22,6 +22,7 @@ use Rattle.order_law.proofs.OnBound.{bound_keeps}
 use Rattle.order_law.proofs.OnReadied.{readied_keeps}
 use Rattle.order_law.proofs.OnDialogSent.{dialog_sent_keeps}
 use Rattle.order_law.proofs.OnDialogRefused.{dialog_refused_keeps}
+use Rattle.order_law.proofs.OnDialogOff.{dialog_off_keeps}
 
 -- what goes up is as it was
 up_at : (f : ℕ → Conn) (k : ℕ) (rest : List Received) (j : ℕ) → (put f k (take_front (f k) rest) j).up ≡ (f j).up
@@ -136,6 +137,21 @@ asks_makes t e = ap makes_session e
 alone : (w : World) (a : ℕ → ℕ) (j k : ℕ) → Lower w a → j ≢ k → makes_session (w.client.stage k) ≡ true → w.client.stage j ≡ AskedTree → ⊥
 alone w a j k l n mk st = n (same_some w.client.making j k (l.ss.making j (asks_makes (w.client.stage j) st)) (l.ss.making k mk))
 
+-- no operation's message waits on a connection that isn't ready
+own_gone : (w : World) (a : ℕ → ℕ) (k : ℕ) (y : Received) (rest : List Received) → (w.conns k).down ≡ y ∷ rest → (w.conns k).client_open ≡ true → y.token ≡ ForDialog → Lower w a → Holds w a → (n p : ℕ) (x : Sent)
+    → slice_get (put w.conns k (take_front (w.conns k) rest) k).up n ≡ Some x → x.token ≡ ForOp p → (put w.conns k (take_front (w.conns k) rest) k).client_open ≡ false
+own_gone w a k y rest is opn tok l i0 n p x h tk = absurd (shuts (w.conns k).client_open opn (not_there w a k off l i0 n p x (up_there w.conns k rest k n x h) tk))
+  where
+    shuts : (b : Bool) → b ≡ true → b ≡ false → ⊥
+    shuts b e f = absurd (grind arith)
+
+    off : w.client.ready k ≡ false
+    off = no_dialog w.client w.conns k l.cn.ready (more_down (w.conns k) 0 (counted_down 0 (w.conns k).down 0 y (front_down (w.conns k).down y rest is) (ap op_of tok)))
+
+dialog_fails : (w : World) (a : ℕ → ℕ) (k : ℕ) (y : Received) (rest : List Received) → (w.conns k).down ≡ y ∷ rest → (w.conns k).client_open ≡ true → y.token ≡ ForDialog → Lower w a → Holds w a
+    → Contents w.client (put w.conns k (take_front (w.conns k) rest)) w.server w.trace w.log a → Holds (one_cut (with_client (behind_reply w k rest) (leave_dialog w.client k)) k) a
+dialog_fails w a k y rest is opn tok l i0 i = dialog_off_keeps w.client (put w.conns k (take_front (w.conns k) rest)) w.server w.trace w.log a k (own_gone w a k y rest is opn tok l i0) i
+
 dialogs : (w : World) (a : ℕ → ℕ) (k : ℕ) (y : Received) (rest : List Received) → (w.conns k).down ≡ y ∷ rest → (w.conns k).client_open ≡ true → y.token ≡ ForDialog → Lower w a → Holds w a → Contents w.client (put w.conns k (take_front (w.conns k) rest)) w.server w.trace w.log a
     → (d : DialogStep) → dialog_step (w.client.stage k) y.reply.status ≡ d → Holds (dialog_took (behind_reply w k rest) k y.reply d) a
 dialogs w a k y rest is opn tok l i0 i (GoesOn stage) e =
@@ -149,15 +165,19 @@ dialogs w a k y rest is opn tok l i0 i Accepts e =
     let st = accepts_stage (w.client.stage k) y.reply.status e in
     dialog_sent_keeps (accepted w.client k) (put w.conns k (take_front (w.conns k) rest)) w.server w.trace w.log a k 1 _
     (accepted_keeps w.client (put w.conns k (take_front (w.conns k) rest)) w.server w.trace w.log a k (l.ss.pending_unranked k st) (l.ss.pending_given k st).0 (λ o x z. (l.cr.attached o x z).0) i)
-dialogs w a k y rest is opn tok l i0 i Binds e = bound_keeps w.client (put w.conns k (take_front (w.conns k) rest)) w.server w.trace w.log a k i
+dialogs w a k y rest is opn tok l i0 i Binds e =
+    ended_well (λ v. Holds v a) (behind_reply w k rest) k w.client.session w.client.tree (λ _. bound_keeps w.client (put w.conns k (take_front (w.conns k) rest)) w.server w.trace w.log a k i)
+    (λ dead newer. absurd (omega (arith, newer))) (dialog_fails w a k y rest is opn tok l i0 i)
 dialogs w a k y rest is opn tok l i0 i Readies e =
     let st = readies_stage (w.client.stage k) y.reply.status e in let p = l.ss.pending_accepted k st in
-    readied_keeps w.client (put w.conns k (take_front (w.conns k) rest)) w.server w.trace w.log a k y.reply st (subst (λ x. 0 < w.client.rank x) (sym p.0) p.1) (λ j n z. alone w a j k l n (asks_makes (w.client.stage k) st) z)
+    ended_well (λ v. Holds v a) (behind_reply w k rest) k w.client.pending y.reply.tree (λ _. bound_keeps w.client (put w.conns k (take_front (w.conns k) rest)) w.server w.trace w.log a k i)
+    (λ _ _. readied_keeps w.client (put w.conns k (take_front (w.conns k) rest)) w.server w.trace w.log a k y.reply st (subst (λ x. 0 < w.client.rank x) (sym p.0) p.1) (λ j n z. alone w a j k l n (asks_makes (w.client.stage k) st) z)
     (λ q. (l.ss.numbered_sessions q 0).0)
     (λ j n u h. let o = waited_down w.conns k y rest j n u is h in by_ops st j o.0 u o.1 (is_ops u.token) refl)
     (λ j n x h ops. let h2 = up_there w.conns k rest j n x h in let fr = l.ss.asked_fresh k j n x st h2 ops in
     (fr, by_test (w.server.present x.message.session) x.message.session (λ pr. fr (l.ss.present_accepted x.message.session pr (l.ss.ranked_up j n x h2 ops) ∙ sym p.0)) refl))
-    i
+    i)
+    (dialog_fails w a k y rest is opn tok l i0 i)
   where
     by_ops : w.client.stage k ≡ AskedTree → (j n : ℕ) (u : Received) → slice_get (w.conns j).down n ≡ Some u → (b : Bool) → is_ops u.token ≡ b → is_ops u.token ≡ false
     by_ops st j n u h false z = z
@@ -167,14 +187,7 @@ dialogs w a k y rest is opn tok l i0 i Readies e =
     by_test true x f z = absurd (f z)
     by_test false x f z = z
 dialogs w a k y rest is opn tok l i0 i (Refuses status) e =
-    dialog_refused_keeps w.client (put w.conns k (take_front (w.conns k) rest)) w.server w.trace w.log a k status
-    (λ n p x h tk. absurd (shuts (w.conns k).client_open opn (not_there w a k off l i0 n p x (up_there w.conns k rest k n x h) tk))) i
-  where
-    shuts : (b : Bool) → b ≡ true → b ≡ false → ⊥
-    shuts b e f = absurd (grind arith)
-
-    off : w.client.ready k ≡ false
-    off = no_dialog w.client w.conns k l.cn.ready (more_down (w.conns k) 0 (counted_down 0 (w.conns k).down 0 y (front_down (w.conns k).down y rest is) (ap op_of tok)))
+    dialog_refused_keeps w.client (put w.conns k (take_front (w.conns k) rest)) w.server w.trace w.log a k status (own_gone w a k y rest is opn tok l i0) i
 
 -- ---- it takes a reply
 

@@ -4,9 +4,9 @@ use Rattle.exchange_defs.specs.Commands.{Command, Aside, Unreadable, Setup, Logo
 use Rattle.exchange_defs.specs.State.{Server, Message, ServerEvent, Accept, Heard, End, Record, Reply}
 use Rattle.exchange_defs.specs.Step.{step, with_deadlines}
 use Rattle.exchange_defs.specs.Fold.{nothing_yet, persistent_in, fold, fold_from, StandsFor}
-use Rattle.exchange_defs.specs.ClientStep.{Act, Nothing, CloseChannels, Sends, Asks, AllSettled, Pushes, IsCut, Hears, act, client_after}
-use Rattle.exchange_defs.specs.Client.{Client}
-use Rattle.exchange_defs.specs.Dialogs.{DialogStep, GoesOn, Accepts, Binds, Readies, Refuses, dialog_step, leave_dialog}
+use Rattle.exchange_defs.specs.ClientStep.{Act, Nothing, CloseChannels, Sends, Asks, AllSettled, Pushes, IsCut, Hears, act, client_after, CloseChannel, IsReady}
+use Rattle.exchange_defs.specs.Client.{Client, leave_dialog}
+use Rattle.exchange_defs.specs.Dialogs.{DialogStep, GoesOn, Accepts, Binds, Readies, Refuses, dialog_step}
 use Rattle.exchange_defs.specs.Network.{World, Event, Submit, Open, Push, Serve, Take, Cut, Drop, Restart, Crash, Wait, Finish, Sent, Received, Token, ForDialog, ForOp, ForAttach, Settings, start, blank_server, run, happens, changed, is_possible, moments, later, answer_to, serve_front, absorb_front, pushed_by, take_reply, took_by, dialog_took, closed_by, cut_by, restarted, crashed, behind_reply, with_client, one_cut, may_serve}
 use Rattle.server_law.specs.Fits.{Fits, Listed}
 use Rattle.server_law.proofs.Logic.{either}
@@ -81,20 +81,23 @@ same_server w k (x ∷ rest) = refl
 
 pushes : (w : World) (k : ℕ) (c : Client) (x : Act) → Kept w → Kept (pushed_by w k c x)
 pushes w k c Nothing h = h
+pushes w k c CloseChannel h = h
 pushes w k c CloseChannels h = h
 pushes w k c (Sends g) h = h
 pushes w k c (Asks g) h = h
 pushes w k c AllSettled h = h
 
-closes : (w : World) (x : Act) → Kept w → Kept (closed_by w x)
-closes w Nothing h = h
-closes w CloseChannels h = h
-closes w (Sends g) h = h
-closes w (Asks g) h = h
-closes w AllSettled h = h
+closes : (w : World) (k : ℕ) (x : Act) → Kept w → Kept (closed_by w k x)
+closes w k Nothing h = h
+closes w k CloseChannel h = h
+closes w k CloseChannels h = h
+closes w k (Sends g) h = h
+closes w k (Asks g) h = h
+closes w k AllSettled h = h
 
 cuts : (w : World) (k : ℕ) (x : Act) → Kept w → Kept (cut_by w k x)
 cuts w k Nothing h = h
+cuts w k CloseChannel h = h
 cuts w k CloseChannels h = h
 cuts w k (Sends g) h = h
 cuts w k (Asks g) h = h
@@ -103,14 +106,14 @@ cuts w k AllSettled h = h
 dialogs : (w : World) (k : ℕ) (r : Reply) (x : DialogStep) → Kept w → Kept (dialog_took w k r x)
 dialogs w k r (GoesOn stage) h = h
 dialogs w k r Accepts h = h
-dialogs w k r Binds h = h
-dialogs w k r Readies h = h
+dialogs w k r Binds h = closes w k (act w.client (IsReady k w.client.session w.client.tree)) h
+dialogs w k r Readies h = closes w k (act w.client (IsReady k w.client.pending r.tree)) h
 dialogs w k r (Refuses status) h = h
 
 tokens : (w : World) (k : ℕ) (r : Reply) (place : ℕ) (t : Token) → Kept w → Kept (took_by w k r place t)
 tokens w k r place ForDialog h = dialogs w k r (dialog_step (w.client.stage k) r.status) h
-tokens w k r place (ForOp g) h = closes w (act w.client (Hears k g false r place)) h
-tokens w k r place (ForAttach g) h = closes w (act w.client (Hears k g true r place)) h
+tokens w k r place (ForOp g) h = closes w k (act w.client (Hears k g false r place)) h
+tokens w k r place (ForAttach g) h = closes w k (act w.client (Hears k g true r place)) h
 
 takes : (w : World) (k : ℕ) (down : List Received) → Kept w → Kept (take_reply w k down)
 takes w k [] h = h

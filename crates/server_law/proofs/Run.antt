@@ -5,7 +5,7 @@ use Rattle.exchange_defs.specs.State.{Server, Message, Accept, Heard, End, Answe
 use Rattle.exchange_defs.specs.Fold.{recovery_records, full_room}
 use Rattle.exchange_defs.specs.Step.{step}
 use Rattle.exchange_defs.specs.Client.{Client}
-use Rattle.exchange_defs.specs.ClientStep.{Act, Nothing, Sends, Asks, CloseChannels, AllSettled}
+use Rattle.exchange_defs.specs.ClientStep.{Act, Nothing, Sends, Asks, CloseChannels, AllSettled, CloseChannel, IsReady, act}
 use Rattle.exchange_defs.specs.Dialogs.{DialogStep, GoesOn, Accepts, Binds, Readies, Refuses, dialog_step}
 use Rattle.exchange_defs.specs.Network.{World, Event, Submit, Open, Push, Serve, Take, Cut, Drop, Restart, Crash, Wait, Finish, Sent, Received, Token, ForDialog, ForOp, ForAttach, happens, run, start, Settings, blank_server, changed, is_possible, pushed_by, answer, answer_to, serve_front, absorb_front, crashed, restarted, take_reply, behind_reply, took_by, dialog_took, closed_by, cut_by, cut_off}
 use Rattle.server_law.specs.Fits.{Fits, all_sound}
@@ -64,34 +64,37 @@ pushes : (w : World) (k : ℕ) (c : Client) (a : Act) → Holds w → Holds (pus
 pushes w k c Nothing i = i
 pushes w k c (Sends g) i = i
 pushes w k c (Asks g) i = i
+pushes w k c CloseChannel i = i
 pushes w k c CloseChannels i = i
 pushes w k c AllSettled i = i
 
-closes : (w : World) (a : Act) → Holds w → Holds (closed_by w a)
-closes w Nothing i = i
-closes w (Sends g) i = i
-closes w (Asks g) i = i
-closes w CloseChannels i = i
-closes w AllSettled i = i
+closes : (w : World) (k : ℕ) (a : Act) → Holds w → Holds (closed_by w k a)
+closes w k Nothing i = i
+closes w k (Sends g) i = i
+closes w k (Asks g) i = i
+closes w k CloseChannel i = i
+closes w k CloseChannels i = i
+closes w k AllSettled i = i
 
 cuts : (w : World) (k : ℕ) (a : Act) → Holds w → Holds (cut_by w k a)
 cuts w k Nothing i = i
 cuts w k (Sends g) i = i
 cuts w k (Asks g) i = i
+cuts w k CloseChannel i = i
 cuts w k CloseChannels i = i
 cuts w k AllSettled i = i
 
 dialogs : (w : World) (k : ℕ) (r : Reply) (step : DialogStep) → Holds w → Holds (dialog_took w k r step)
 dialogs w k r (GoesOn stage) i = i
 dialogs w k r Accepts i = i
-dialogs w k r Binds i = i
-dialogs w k r Readies i = i
+dialogs w k r Binds i = closes w k (act w.client (IsReady k w.client.session w.client.tree)) i
+dialogs w k r Readies i = closes w k (act w.client (IsReady k w.client.pending r.tree)) i
 dialogs w k r (Refuses status) i = i
 
 takes_by : (w : World) (k : ℕ) (r : Reply) (place : ℕ) (token : Token) → Holds w → Holds (took_by w k r place token)
 takes_by w k r place ForDialog i = dialogs w k r (dialog_step (w.client.stage k) r.status) i
-takes_by w k r place (ForOp g) i = closes w _ i
-takes_by w k r place (ForAttach g) i = closes w _ i
+takes_by w k r place (ForOp g) i = closes w k _ i
+takes_by w k r place (ForAttach g) i = closes w k _ i
 
 takes : (w : World) (k : ℕ) (ys : List Received) → Holds w → Holds (take_reply w k ys)
 takes w k [] i = i

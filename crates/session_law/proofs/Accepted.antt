@@ -2,8 +2,8 @@
 use Rattle.std.proofs.Common.{◌≡◌, ℕ, ◌<◌, false, arith}
 use Rattle.exchange_defs.specs.State.{Server}
 use Rattle.exchange_defs.specs.CheckSetup.{is_new}
-use Rattle.exchange_defs.specs.Client.{Client, SaidSecond}
-use Rattle.exchange_defs.specs.Dialogs.{accepted, unmade}
+use Rattle.exchange_defs.specs.Client.{Client, SaidSecond, unmade}
+use Rattle.exchange_defs.specs.Dialogs.{accepted}
 use Rattle.exchange_defs.specs.Network.{Conn}
 use Rattle.exchange_law.specs.Connections.{copies}
 use Rattle.exchange_law.proofs.Lists.{get-push}

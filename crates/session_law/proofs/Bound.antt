@@ -1,57 +1,56 @@
 -- A further channel is ready.
 use Rattle.std.proofs.Common.{ℕ, arith}
 use Rattle.exchange_defs.specs.State.{Server}
-use Rattle.exchange_defs.specs.Client.{Client}
-use Rattle.exchange_defs.specs.Dialogs.{bound}
+use Rattle.exchange_defs.specs.Client.{Client, bind_channel}
 use Rattle.exchange_defs.specs.Network.{Conn}
 use Rattle.exchange_law.proofs.Lists.{get-push}
 use Rattle.session_law.specs.Sessions.{Sessions, Making, PendingAccepted, PendingUnranked, FirstUp, SecondUp, TreeConnectUp, AskedFresh, PendingGiven, FirstReply, SecondReply, TreeReply}
 
-bound_making : (c : Client) (conns : ℕ → Conn) (s : Server) (k : ℕ) → Making c → Making (bound c k)
+bound_making : (c : Client) (conns : ℕ → Conn) (s : Server) (k : ℕ) → Making c → Making (bind_channel c k)
 bound_making c conns s k i_making =
     λ p. let old = i_making p in grind arith
 
-bound_pending_accepted : (c : Client) (conns : ℕ → Conn) (s : Server) (k : ℕ) → PendingAccepted c → PendingAccepted (bound c k)
+bound_pending_accepted : (c : Client) (conns : ℕ → Conn) (s : Server) (k : ℕ) → PendingAccepted c → PendingAccepted (bind_channel c k)
 bound_pending_accepted c conns s k i_pending_accepted =
     λ p. let old = i_pending_accepted p in grind arith
 
-bound_pending_unranked : (c : Client) (conns : ℕ → Conn) (s : Server) (k : ℕ) → PendingUnranked c → PendingUnranked (bound c k)
+bound_pending_unranked : (c : Client) (conns : ℕ → Conn) (s : Server) (k : ℕ) → PendingUnranked c → PendingUnranked (bind_channel c k)
 bound_pending_unranked c conns s k i_pending_unranked =
     λ p. let old = i_pending_unranked p in grind arith
 
-bound_first_up : (c : Client) (conns : ℕ → Conn) (s : Server) (k : ℕ) → FirstUp c conns → FirstUp (bound c k) conns
+bound_first_up : (c : Client) (conns : ℕ → Conn) (s : Server) (k : ℕ) → FirstUp c conns → FirstUp (bind_channel c k) conns
 bound_first_up c conns s k i_first_up =
     λ j n x. let old = i_first_up j n x in grind (arith, get-push)
 
-bound_second_up : (c : Client) (conns : ℕ → Conn) (s : Server) (k : ℕ) → SecondUp c conns → SecondUp (bound c k) conns
+bound_second_up : (c : Client) (conns : ℕ → Conn) (s : Server) (k : ℕ) → SecondUp c conns → SecondUp (bind_channel c k) conns
 bound_second_up c conns s k i_second_up =
     λ j n x. let old = i_second_up j n x in grind (arith, get-push)
 
-bound_tree_connect_up : (c : Client) (conns : ℕ → Conn) (s : Server) (k : ℕ) → TreeConnectUp c conns → TreeConnectUp (bound c k) conns
+bound_tree_connect_up : (c : Client) (conns : ℕ → Conn) (s : Server) (k : ℕ) → TreeConnectUp c conns → TreeConnectUp (bind_channel c k) conns
 bound_tree_connect_up c conns s k i_tree_connect_up =
     λ j n x. let old = i_tree_connect_up j n x in grind (arith, get-push)
 
-bound_asked_fresh : (c : Client) (conns : ℕ → Conn) (s : Server) (k : ℕ) → AskedFresh c conns → AskedFresh (bound c k) conns
+bound_asked_fresh : (c : Client) (conns : ℕ → Conn) (s : Server) (k : ℕ) → AskedFresh c conns → AskedFresh (bind_channel c k) conns
 bound_asked_fresh c conns s k i_asked_fresh =
     λ p j n x. let old = i_asked_fresh p j n x in grind (arith, get-push)
 
-bound_pending_given : (c : Client) (conns : ℕ → Conn) (s : Server) (k : ℕ) → PendingGiven c s → PendingGiven (bound c k) s
+bound_pending_given : (c : Client) (conns : ℕ → Conn) (s : Server) (k : ℕ) → PendingGiven c s → PendingGiven (bind_channel c k) s
 bound_pending_given c conns s k i_pending_given =
     λ p. let old = i_pending_given p in grind arith
 
-bound_first_reply : (c : Client) (conns : ℕ → Conn) (s : Server) (k : ℕ) → FirstReply c conns s → FirstReply (bound c k) conns s
+bound_first_reply : (c : Client) (conns : ℕ → Conn) (s : Server) (k : ℕ) → FirstReply c conns s → FirstReply (bind_channel c k) conns s
 bound_first_reply c conns s k i_first_reply =
     λ j n y. let old = i_first_reply j n y in grind (arith, get-push)
 
-bound_second_reply : (c : Client) (conns : ℕ → Conn) (s : Server) (k : ℕ) → SecondReply c conns s → SecondReply (bound c k) conns s
+bound_second_reply : (c : Client) (conns : ℕ → Conn) (s : Server) (k : ℕ) → SecondReply c conns s → SecondReply (bind_channel c k) conns s
 bound_second_reply c conns s k i_second_reply =
     λ j n y. let old = i_second_reply j n y in grind (arith, get-push)
 
-bound_tree_reply : (c : Client) (conns : ℕ → Conn) (s : Server) (k : ℕ) → TreeReply c conns s → TreeReply (bound c k) conns s
+bound_tree_reply : (c : Client) (conns : ℕ → Conn) (s : Server) (k : ℕ) → TreeReply c conns s → TreeReply (bind_channel c k) conns s
 bound_tree_reply c conns s k i_tree_reply =
     λ j n y. let old = i_tree_reply j n y in grind (arith, get-push)
 
-pub bound_keeps : (c : Client) (conns : ℕ → Conn) (s : Server) (k : ℕ) → Sessions c conns s → Sessions (bound c k) conns s
+pub bound_keeps : (c : Client) (conns : ℕ → Conn) (s : Server) (k : ℕ) → Sessions c conns s → Sessions (bind_channel c k) conns s
 bound_keeps c conns s k i =
     record {
       live_accepted = i.live_accepted;

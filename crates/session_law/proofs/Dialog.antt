@@ -1,13 +1,13 @@
 -- What a dialog's response does.
-use Rattle.std.proofs.Common.{eqb-true, ◌≡◌, ◌≢◌, ℕ, ◌≤◌, ◌<◌, ◌==◌, Bool, true, false, refl, arith, sym, ◌∙◌, ap, Some, is_some}
+use Rattle.std.proofs.Common.{eqb-true, ◌≡◌, ◌≢◌, ℕ, ◌≤◌, ◌<◌, ◌==◌, Bool, true, false, refl, arith, sym, ◌∙◌, ap, Some, is_some, Option, None}
 use Rattle.exchange_defs.specs.Table.{put}
 use Rattle.exchange_defs.specs.Status.{success, more_processing_required}
 use Rattle.exchange_defs.specs.State.{Server, Reply}
 use Rattle.exchange_defs.specs.CheckSetup.{is_new, tree_in}
 use Rattle.exchange_defs.specs.Opens.{id_of}
-use Rattle.exchange_defs.specs.Client.{Client, Stage, Apart, SaidNegotiate, SaidFirst, SaidSecond, AskedTree}
-use Rattle.exchange_defs.specs.Dialogs.{GoesOn, Accepts, Binds, Readies, Refuses, dialog_step, dialog_message, stage_command, accepted, refused_dialog}
-use Rattle.exchange_defs.specs.Network.{Conn, World, ForDialog, dialog_took, send_up}
+use Rattle.exchange_defs.specs.Client.{Client, Stage, Apart, SaidNegotiate, SaidFirst, SaidSecond, AskedTree, note_refusal, leave_dialog}
+use Rattle.exchange_defs.specs.Dialogs.{GoesOn, Accepts, Binds, Readies, Refuses, dialog_step, dialog_message, stage_command, accepted}
+use Rattle.exchange_defs.specs.Network.{Conn, World, ForDialog, dialog_took, send_up, one_cut, with_client}
 use Rattle.exchange_law.specs.Connections.{copies}
 use Rattle.server_law.proofs.Logic.{either}
 use Rattle.session_law.specs.Sessions.{Sessions, makes_session, is_dialog, is_new_setup, is_tree_connect, logs_on, user_in, previous_in, logon_user}
@@ -18,6 +18,8 @@ use Rattle.session_law.proofs.Bound.{bound_keeps}
 use Rattle.session_law.proofs.Readied.{readied_keeps}
 use Rattle.session_law.proofs.DialogOff.{dialog_off_keeps}
 use Rattle.session_law.proofs.DialogSent.{dialog_sent_keeps}
+use Rattle.exchange_defs.specs.Operations.{HadStatus}
+use Rattle.exchange_law.proofs.Run.{ended_well}
 
 -- ---- the next message
 
@@ -64,7 +66,14 @@ abbrev Holds : World → Type 0
 Holds w = Sessions w.client w.conns w.server
 
 turned_down : (w : World) (k : ℕ) (r : Reply) (status : ℕ) → Holds w → Holds (dialog_took w k r (Refuses status))
-turned_down w k r status i = dialog_off_keeps w.client w.conns w.server k (refused_dialog w.client k status).refusals i
+turned_down w k r status i = dialog_off_keeps w.client w.conns w.server k (note_refusal w.client k (HadStatus status)).refusals i
+
+-- a dialog that ended well for nothing
+failed : (w : World) (k : ℕ) → Holds w → Holds (one_cut (with_client w (leave_dialog w.client k)) k)
+failed w k i = dialog_off_keeps w.client w.conns w.server k w.client.refusals i
+
+not_making : (o : Option ℕ) (k : ℕ) → o ≡ None → o ≡ Some k → ⊥
+not_making o k e f = absurd (grind arith)
 
 not_second : (a : Stage) (b : Bool) → b ≡ true → a ≡ SaidSecond b → a ≢ SaidSecond false
 not_second a b t e = λ q. absurd (grind arith)
@@ -111,7 +120,7 @@ took_dialog w k r none tells i (SaidFirst false) at =
     (λ _. turned_down w k r r.status i)
 took_dialog w k r none tells i (SaidSecond true) at =
     either (λ d. Holds (dialog_took w k r d)) (r.status == success) Binds (Refuses r.status)
-    (λ _. bound_keeps w.client w.conns w.server k i) (λ _. turned_down w k r r.status i)
+    (λ _. ended_well Holds w k w.client.session w.client.tree (λ live. bound_keeps w.client w.conns w.server k i) (λ dead newer. absurd (omega (arith, newer))) (failed w k i)) (λ _. turned_down w k r r.status i)
 took_dialog w k r none tells i (SaidSecond false) at =
     either (λ d. Holds (dialog_took w k r d)) (r.status == success) Accepts (Refuses r.status)
     (λ e. let u = tells.second at (eqb-true r.status success e) in
@@ -120,4 +129,6 @@ took_dialog w k r none tells i (SaidSecond false) at =
     (λ _. turned_down w k r r.status i)
 took_dialog w k r none tells i AskedTree at =
     either (λ d. Holds (dialog_took w k r d)) (r.status == success) Readies (Refuses r.status)
-    (λ e. readied_keeps w.client w.conns w.server k r none at (tells.tree at (eqb-true r.status success e)) i) (λ _. turned_down w k r r.status i)
+    (λ e. ended_well Holds w k w.client.pending r.tree (λ live. absurd (not_making w.client.making k (i.live_accepted live).2 (i.making k (ap makes_session at))))
+    (λ dead newer. readied_keeps w.client w.conns w.server k r none at (tells.tree at (eqb-true r.status success e)) i) (failed w k i))
+    (λ _. turned_down w k r r.status i)

@@ -2,8 +2,7 @@
 use Rattle.std.proofs.Common.{ℕ, List, arith}
 use Rattle.exchange_defs.specs.Table.{put}
 use Rattle.exchange_defs.specs.State.{Server}
-use Rattle.exchange_defs.specs.Client.{Client, Apart, RefusedDialog}
-use Rattle.exchange_defs.specs.Dialogs.{unmade}
+use Rattle.exchange_defs.specs.Client.{Client, Apart, RefusedDialog, unmade}
 use Rattle.exchange_defs.specs.Network.{Conn, client_off}
 use Rattle.exchange_law.proofs.Lists.{get-push}
 use Rattle.session_law.specs.Sessions.{Sessions, LiveAccepted, Making, PendingAccepted, PendingUnranked, CurrentUp, CurrentDown, RankedUp, FromClient, SequencesUp, WorkUp, DialogUp, LogonUp, FirstUp, SecondUp, TreeConnectUp, AskedFresh, PendingGiven, FirstReply, SecondReply, TreeUp, TreeReply}

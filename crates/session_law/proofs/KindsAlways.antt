@@ -7,16 +7,16 @@ use Rattle.exchange_defs.specs.Commands.{TreeConnect}
 use Rattle.exchange_defs.specs.State.{Server, Reply, Accept, End, Record}
 use Rattle.exchange_defs.specs.CheckSetup.{tree_in, pipes_name}
 use Rattle.exchange_defs.specs.Operations.{Op, NoSession, request_of, reconnect_of, weight, charge}
-use Rattle.exchange_defs.specs.Client.{Client, Stage, Apart, SaidNegotiate, SaidFirst, SaidSecond, AskedTree, create_for, guid_for, may_take, may_push, has_its_slot, goes_itself, settle_no_slots, begun, outstanding, asked, own_message, ask_message, ends_at_cut, finish}
+use Rattle.exchange_defs.specs.Client.{Client, Stage, Apart, SaidNegotiate, SaidFirst, SaidSecond, AskedTree, create_for, guid_for, may_take, may_push, has_its_slot, goes_itself, settle_no_slots, begun, outstanding, asked, own_message, ask_message, ends_at_cut, finish, bind_channel, begin_session, leave_dialog}
 use Rattle.exchange_defs.specs.Settling.{Heard as Hearing, Settles, GoesAgain, Attaches, EndsSession, heard, hear, is_awaited, answered}
-use Rattle.exchange_defs.specs.Dialogs.{DialogStep, GoesOn, Accepts, Binds, Readies, Refuses, dialog_step, dialog_message, stage_command, went_on, accepted, bound, readied}
-use Rattle.exchange_defs.specs.ClientStep.{Pick, Act, Nothing, CloseChannels, Sends, Asks, AllSettled, pick_after, pick_act, act_heard, cut_act, cut_after, some_unsettled}
+use Rattle.exchange_defs.specs.Dialogs.{DialogStep, GoesOn, Accepts, Binds, Readies, Refuses, dialog_step, dialog_message, stage_command, went_on, accepted}
+use Rattle.exchange_defs.specs.ClientStep.{Pick, Act, Nothing, CloseChannels, Sends, Asks, AllSettled, pick_after, pick_act, act_heard, cut_act, cut_after, some_unsettled, IsReady, CloseChannel}
 use Rattle.exchange_defs.specs.Fold.{fold, recovered, recovery_records}
 use Rattle.exchange_defs.specs.Step.{step}
-use Rattle.exchange_defs.specs.Network.{World, Event, Submit, Open, Push, Serve, Take, Cut, Drop, Restart, Crash, Wait, Finish, Settings, Conn, Sent, Received, Token, ForDialog, ForOp, ForAttach, fresh, happens, run, start, changed, later, is_possible, pushed_by, send_up, answer, absorbed, say_down, serve_front, absorb_front, behind_front, take_reply, behind_reply, took_by, dialog_sent, dialog_took, op_took, closed_by, cut_by, client_off, server_off, with_client, restarted, blank_server}
+use Rattle.exchange_defs.specs.Network.{World, Event, Submit, Open, Push, Serve, Take, Cut, Drop, Restart, Crash, Wait, Finish, Settings, Conn, Sent, Received, Token, ForDialog, ForOp, ForAttach, fresh, happens, run, start, changed, later, is_possible, pushed_by, send_up, answer, absorbed, say_down, serve_front, absorb_front, behind_front, take_reply, behind_reply, took_by, dialog_sent, dialog_took, op_took, closed_by, cut_by, client_off, server_off, with_client, restarted, blank_server, dialog_ended}
 use Rattle.exchange_law.proofs.Lists.{get-push, rest_of}
 use Rattle.server_law.proofs.Logic.{either}
-use Rattle.exchange_law.proofs.Run.{both_ways}
+use Rattle.exchange_law.proofs.Run.{both_ways, ended_well}
 use Rattle.exchange_law.proofs.Reached.{run_more, on_every_run}
 use Rattle.server_law.specs.Fits.{NoTrees}
 use Rattle.server_law.proofs.Run.{fitting}
@@ -237,23 +237,28 @@ restarts share w e h =
 
 -- ---- Take
 
+ends_dialog : (share : List ℕ) (w : World) (k session tree : ℕ) → Holds share w → Holds share (dialog_ended w k (IsReady k session tree))
+ends_dialog share w k session tree h =
+    ended_well (Holds share) w k session tree (λ _. becomes share w (bind_channel w.client k) refl h) (λ _ _. becomes share w (begin_session w.client k session tree) refl h)
+    (cuts_one share _ k (becomes share w (leave_dialog w.client k) refl h))
+
 takes_dialog : (share : List ℕ) (w : World) (k : ℕ) (r : Reply) (d : DialogStep) → Holds share w → Holds share (dialog_took w k r d)
 takes_dialog share w k r (GoesOn stage) h = sends_dialog share (with_client w (went_on w.client k stage r)) k stage (becomes share w (went_on w.client k stage r) refl h)
 takes_dialog share w k r Accepts h = sends_dialog share (with_client w (accepted w.client k)) k AskedTree (becomes share w (accepted w.client k) refl h)
-takes_dialog share w k r Binds h = becomes share w (bound w.client k) refl h
-takes_dialog share w k r Readies h = becomes share w (readied w.client k r) refl h
+takes_dialog share w k r Binds h = ends_dialog share w k w.client.session w.client.tree h
+takes_dialog share w k r Readies h = ends_dialog share w k w.client.pending r.tree h
 takes_dialog share w k r (Refuses status) h = cuts_one share _ k (becomes share w _ refl h)
 
-hears : (share : List ℕ) (w : World) (g : ℕ) (asking : Bool) (r : Reply) (place : ℕ) → Holds share w → (h : Hearing) → Holds share (with_client (closed_by w (act_heard h)) (hear w.client g asking r place h))
-hears share w g asking r place i (Settles o) = becomes share w (hear w.client g asking r place (Settles o)) (keeps_settle w.client g asking r place o).same.who i
-hears share w g asking r place i GoesAgain = becomes share w (answered w.client g) refl i
-hears share w g asking r place i Attaches = becomes share w (hear w.client g asking r place Attaches) refl i
-hears share w g asking r place i EndsSession = becomes share (closed_by w CloseChannels) (hear w.client g asking r place EndsSession) refl (cuts_all share w i)
+hears : (share : List ℕ) (w : World) (k g : ℕ) (asking : Bool) (r : Reply) (place : ℕ) → Holds share w → (h : Hearing) → Holds share (with_client (closed_by w k (act_heard h)) (hear w.client g asking r place h))
+hears share w k g asking r place i (Settles o) = becomes share w (hear w.client g asking r place (Settles o)) (keeps_settle w.client g asking r place o).same.who i
+hears share w k g asking r place i GoesAgain = becomes share w (answered w.client g) refl i
+hears share w k g asking r place i Attaches = becomes share w (hear w.client g asking r place Attaches) refl i
+hears share w k g asking r place i EndsSession = becomes share (closed_by w k CloseChannels) (hear w.client g asking r place EndsSession) refl (cuts_all share w i)
 
 took : (share : List ℕ) (w : World) (k g : ℕ) (asking : Bool) (r : Reply) (place : ℕ) → Holds share w → Holds share (op_took w k g asking r place)
 took share w k g asking r place i =
-    both_ways (λ c x. Holds share (with_client (closed_by w x) c)) (is_awaited w.client k g asking) (hear w.client g asking r place (heard w.client g asking r)) w.client (act_heard (heard w.client g asking r)) Nothing
-    (λ _. hears share w g asking r place i (heard w.client g asking r)) (λ _. i)
+    both_ways (λ c x. Holds share (with_client (closed_by w k x) c)) (is_awaited w.client k g asking) (hear w.client g asking r place (heard w.client g asking r)) w.client (act_heard (heard w.client g asking r)) Nothing
+    (λ _. hears share w k g asking r place i (heard w.client g asking r)) (λ _. i)
 
 takes_by : (share : List ℕ) (w : World) (k : ℕ) (r : Reply) (place : ℕ) → Holds share w → (t : Token) → Holds share (took_by w k r place t)
 takes_by share w k r place h ForDialog = takes_dialog share w k r (dialog_step (w.client.stage k) r.status) h
@@ -268,6 +273,7 @@ takes share w k h (y ∷ rest) =
 -- ---- Cut
 
 cut_from : (share : List ℕ) (w : World) (k : ℕ) (a : Act) → Holds share w → Holds share (cut_by w k a)
+cut_from share w k CloseChannel h = cuts_one share w k h
 cut_from share w k CloseChannels h = cuts_all share w h
 cut_from share w k Nothing h = cuts_one share w k h
 cut_from share w k (Sends g) h = cuts_one share w k h
@@ -278,6 +284,7 @@ cut_who : (c : Client) (k : ℕ) → (cut_after c k).who ≡ c.who
 cut_who c k = either (λ (d : Client). d.who ≡ c.who) (c.ready k) _ _ (λ _. either (λ (d : Client). d.who ≡ c.who) (ends_at_cut c) _ _ (λ _. refl) (λ _. refl)) (λ _. refl)
 
 cut_client : (share : List ℕ) (w : World) (k : ℕ) (a : Act) (c : Client) → c.who ≡ w.client.who → Holds share w → Holds share (with_client (cut_by w k a) c)
+cut_client share w k CloseChannel c e h = becomes share (cut_by w k CloseChannel) c e (cut_from share w k CloseChannel h)
 cut_client share w k CloseChannels c e h = becomes share (cut_by w k CloseChannels) c e (cut_from share w k CloseChannels h)
 cut_client share w k Nothing c e h = becomes share (cut_by w k Nothing) c e (cut_from share w k Nothing h)
 cut_client share w k (Sends g) c e h = becomes share (cut_by w k (Sends g)) c e (cut_from share w k (Sends g) h)

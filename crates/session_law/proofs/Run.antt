@@ -10,10 +10,10 @@ use Rattle.exchange_defs.specs.Operations.{Op, Refusal, NoSession, request_of, r
 use Rattle.exchange_defs.specs.Client.{Client, SaidNegotiate, create_for, guid_for, may_take, outcome_at_first, may_push, has_its_slot, goes_itself, settle_no_slots, begun, outstanding, asked, own_message, ask_message, cut_channel, ends_at_cut, end_session, last_sequence, finish}
 use Rattle.exchange_defs.specs.Settling.{Heard as Hearing, Settles, GoesAgain, Attaches, EndsSession, heard, hear, is_awaited, answered}
 use Rattle.exchange_defs.specs.Dialogs.{DialogStep, GoesOn, Accepts, Binds, Readies, Refuses, dialog_step, dialog_message}
-use Rattle.exchange_defs.specs.ClientStep.{Pick, Act, Nothing, CloseChannels, Sends, Asks, pick_after, pick_act, act_heard, some_unsettled}
+use Rattle.exchange_defs.specs.ClientStep.{Pick, Act, Nothing, CloseChannels, Sends, Asks, pick_after, pick_act, act_heard, some_unsettled, IsReady}
 use Rattle.exchange_defs.specs.Fold.{fold, recovered, recovery_records}
 use Rattle.exchange_defs.specs.Step.{step}
-use Rattle.exchange_defs.specs.Network.{opened_by, World, Event, Submit, Open, Push, Serve, Take, Cut, Drop, Restart, Crash, Wait, Finish, Conn, Sent, Received, Token, ForDialog, ForOp, ForAttach, op_of, happens, changed, later, may_open, may_serve, max_channel, pushed_by, answer, absorbed, replied, serve_front, absorb_front, behind_front, take_front, take_reply, took_by, dialog_took, op_took, closed_by, cut_by, with_client, behind_reply, restarted}
+use Rattle.exchange_defs.specs.Network.{opened_by, World, Event, Submit, Open, Push, Serve, Take, Cut, Drop, Restart, Crash, Wait, Finish, Conn, Sent, Received, Token, ForDialog, ForOp, ForAttach, op_of, happens, changed, later, may_open, may_serve, max_channel, pushed_by, answer, absorbed, replied, serve_front, absorb_front, behind_front, take_front, take_reply, took_by, dialog_took, op_took, closed_by, cut_by, with_client, behind_reply, restarted, dialog_ended}
 use Rattle.exchange_law.specs.Connections.{Once, Ready, copies}
 use Rattle.exchange_law.proofs.Lists.{front_up, front_down}
 use Rattle.server_law.proofs.Logic.{either, back_of, not_true, none_of, back_off}
@@ -39,7 +39,7 @@ use Rattle.session_law.proofs.Serving.{moves_of, reply_current, reply_first, rep
 use Rattle.session_law.proofs.Written.{Folds, folds_more, anew}
 use Rattle.session_law.proofs.Owed.{clean_answer, clean_accept, clean_end}
 use Rattle.session_law.proofs.Connected.{falls_accept, falls_end, moves_falls, moves_restart}
-use Rattle.exchange_law.proofs.Run.{both_ways, put_self, still_open, front_reply_gone}
+use Rattle.exchange_law.proofs.Run.{both_ways, put_self, still_open, front_reply_gone, ended_well}
 
 -- ---- what holds of a world
 
@@ -259,7 +259,7 @@ tells_dialog w k y rest is t i =
       tree = λ at st p. i.tree_reply k 0 y f0 d at st p;
     }
 
-hears : (w : World) (k g : ℕ) (asking : Bool) (r : Reply) (place : ℕ) → Holds w → (h : Hearing) → Holds (with_client (closed_by w (act_heard h)) (hear w.client g asking r place h))
+hears : (w : World) (k g : ℕ) (asking : Bool) (r : Reply) (place : ℕ) → Holds w → (h : Hearing) → Holds (with_client (closed_by w k (act_heard h)) (hear w.client g asking r place h))
 hears w k g asking r place i (Settles o) = idles w _ (keeps_settle w.client g asking r place o) i
 hears w k g asking r place i GoesAgain = idles w _ (keeps_answered w.client g) i
 hears w k g asking r place i Attaches = idles w _ (keeps_joined w.client g) i
@@ -268,7 +268,7 @@ hears w k g asking r place i EndsSession =
 
 took : (w : World) (k g : ℕ) (asking : Bool) (r : Reply) (place : ℕ) → Holds w → Holds (op_took w k g asking r place)
 took w k g asking r place i =
-    both_ways (λ c x. Holds (with_client (closed_by w x) c)) (is_awaited w.client k g asking) (hear w.client g asking r place (heard w.client g asking r)) w.client (act_heard (heard w.client g asking r)) Nothing
+    both_ways (λ c x. Holds (with_client (closed_by w k x) c)) (is_awaited w.client k g asking) (hear w.client g asking r place (heard w.client g asking r)) w.client (act_heard (heard w.client g asking r)) Nothing
     (λ _. hears w k g asking r place i (heard w.client g asking r)) (λ _. i)
 
 takes_by : (w : World) (k : ℕ) (y : Received) (rest : List Received) → (w.conns k).down ≡ y ∷ rest → Once w.conns → Holds w → (t : Token) → y.token ≡ t → Holds (took_by (behind_reply w k rest) k y.reply y.place t)
@@ -278,11 +278,14 @@ takes_by w k y rest is once i ForDialog e =
     (took_dialog (behind_reply w k rest) k y.reply (subst (λ g. copies g (put w.conns k (take_front (w.conns k) rest) k) ≡ 0) (ap op_of e) (front_reply_gone w.conns k y rest is (once k (op_of y.token))))
     (tells_dialog w k y rest is e i.sits) j (w.client.stage k) refl)
   where
+    end_stored : (w : World) (k session tree : ℕ) → Stored w → Stored (dialog_ended w k (IsReady k session tree))
+    end_stored w k session tree s = ended_well Stored w k session tree (λ _. s) (λ _ _. s) s
+
     step_stored : (w : World) (k : ℕ) (r : Reply) → Stored w → (d : DialogStep) → Sits (dialog_took w k r d) → Holds (dialog_took w k r d)
     step_stored w k r s (GoesOn stage) i = record { sits = i; stored = s }
     step_stored w k r s Accepts i = record { sits = i; stored = s }
-    step_stored w k r s Binds i = record { sits = i; stored = s }
-    step_stored w k r s Readies i = record { sits = i; stored = s }
+    step_stored w k r s Binds i = record { sits = i; stored = end_stored w k w.client.session w.client.tree s }
+    step_stored w k r s Readies i = record { sits = i; stored = end_stored w k w.client.pending r.tree s }
     step_stored w k r s (Refuses status) i = record { sits = i; stored = s }
 
     dialog_stored : (w : World) (k : ℕ) (r : Reply) → Stored w → Sits (dialog_took w k r (dialog_step (w.client.stage k) r.status)) → Holds (dialog_took w k r (dialog_step (w.client.stage k) r.status))
