@@ -6,16 +6,16 @@ use Rattle.exchange_defs.specs.Status.{success, more_processing_required, disk_f
 use Rattle.exchange_defs.specs.State.{Reply, Answer, Accept, Body}
 use Rattle.exchange_defs.specs.Step.{step}
 use Rattle.exchange_defs.specs.Operations.{Op, Outcome, Unsettled, WasOk, WasRefused, NoSlot, NoOpen, Unknown, is_create, is_close, is_lock, id_in}
-use Rattle.exchange_defs.specs.Client.{Client, Stage, Apart, SaidNegotiate, SaidFirst, SaidSecond, AskedTree, RefusedDialog, create_for, may_take, may_push, has_its_slot, goes_itself, lacks_slot, settle_no_slot, settle_no_slots, begin, again, begun, take_slot, outstanding, asked, cut_channel, ends_at_cut, end_session}
+use Rattle.exchange_defs.specs.Client.{Client, Stage, Apart, SaidNegotiate, SaidFirst, SaidSecond, AskedTree, RefusedDialog, create_for, may_take, may_push, has_its_slot, goes_itself, lacks_slot, settle_no_slot, settle_no_slots, begin, again, begun, take_slot, outstanding, asked, cut_channel, ends_at_cut, end_session, bind_channel, begin_session, leave_dialog, unmade}
 use Rattle.exchange_defs.specs.Settling.{Heard as Hearing, Settles, GoesAgain, Attaches, EndsSession, heard, hear, is_awaited, settle, settled, noted, noted_full, settles_open, with_no_opens, answered}
-use Rattle.exchange_defs.specs.Dialogs.{GoesOn, Accepts, Binds, Readies, Refuses, dialog_step, dialog_message, open_channel, went_on, accepted, bound, readied, unmade}
+use Rattle.exchange_defs.specs.Dialogs.{GoesOn, Accepts, Binds, Readies, Refuses, dialog_step, dialog_message, open_channel, went_on, accepted}
 use Rattle.exchange_defs.specs.ClientStep.{Pick, Act, Nothing, CloseChannels, pick_after, pick_act, act_heard, some_unsettled}
 use Rattle.exchange_defs.specs.Schedules.{is_talking}
 use Rattle.exchange_defs.specs.Network.{World, Event, Submit, Open, Push, Serve, Take, Cut, Drop, Restart, Crash, Wait, Finish, Conn, Sent, Received, Token, ForDialog, ForOp, ForAttach, happens, changed, later, may_open, may_serve, fresh, opened_by, server_off, client_off, send_up, say_down, behind_front, take_front, pushed_by, answer, serve_front, absorb_front, take_reply, took_by, dialog_took, op_took, closed_by, cut_by, with_client, behind_reply, restarted}
 use Rattle.exchange_defs.specs.Network.{op_of}
 use Rattle.exchange_law.specs.Connections.{Ready}
 use Rattle.exchange_law.proofs.Lists.{counted_down, front_down}
-use Rattle.exchange_law.proofs.Run.{both_ways, closed_of, no_dialog, more_down}
+use Rattle.exchange_law.proofs.Run.{both_ways, closed_of, no_dialog, more_down, ended_well}
 use Rattle.session_law.proofs.Run.{free_of}
 use Rattle.server_law.proofs.Logic.{either}
 use Rattle.session_law.specs.Sessions.{makes_session, Making}
@@ -262,7 +262,7 @@ takes_op_on r s c y rest is n (IsInDialog off talks stands (ReplyAlone z none on
 takes_op_on r s c y rest is n (IsInDialog off talks stands (IsLost gone none empty)) t = filled c.down y rest _ is empty
 
 hears : (w : World) (k g : ℕ) (asking : Bool) (r : Reply) (place : ℕ) → Holds w.client w.conns → (h : Hearing)
-    → Holds (with_client (closed_by w (act_heard h)) (hear w.client g asking r place h)).client (with_client (closed_by w (act_heard h)) (hear w.client g asking r place h)).conns
+    → Holds (with_client (closed_by w k (act_heard h)) (hear w.client g asking r place h)).client (with_client (closed_by w k (act_heard h)) (hear w.client g asking r place h)).conns
 hears w k g asking r place i (Settles o) = same_holds w.client _ w.conns (same_settle w.client g asking r place o) i
 hears w k g asking r place i GoesAgain = record { channels = i.channels; making = i.making }
 hears w k g asking r place i Attaches = record { channels = i.channels; making = i.making }
@@ -270,7 +270,7 @@ hears w k g asking r place i EndsSession = nothing_open (answered w.client g) w.
 
 took : (w : World) (k g : ℕ) (asking : Bool) (r : Reply) (place : ℕ) → Holds w.client w.conns → Holds (op_took w k g asking r place).client (op_took w k g asking r place).conns
 took w k g asking r place i =
-    both_ways (λ c x. Holds (with_client (closed_by w x) c).client (with_client (closed_by w x) c).conns) (is_awaited w.client k g asking) (hear w.client g asking r place (heard w.client g asking r)) w.client
+    both_ways (λ c x. Holds (with_client (closed_by w k x) c).client (with_client (closed_by w k x) c).conns) (is_awaited w.client k g asking) (hear w.client g asking r place (heard w.client g asking r)) w.client
     (act_heard (heard w.client g asking r)) Nothing
     (λ _. hears w k g asking r place i (heard w.client g asking r)) (λ _. i)
 
@@ -345,6 +345,16 @@ leaves c conns k rs off h =
 refuses : (w : World) (k : ℕ) (r : Reply) (status : ℕ) → InDialog w.client k (w.conns k) → Elsewhere w.client w.conns k → Holds (dialog_took w k r (Refuses status)).client (dialog_took w k r (Refuses status)).conns
 refuses w k r status i h = leaves w.client w.conns k _ i.off h
 
+fails : (w : World) (k : ℕ) → InDialog w.client k (w.conns k) → Elsewhere w.client w.conns k → Holds (leave_dialog w.client k) (put w.conns k (client_off (w.conns k)))
+fails w k i h = leaves w.client w.conns k w.client.refusals i.off h
+
+-- a further channel, beside which no session is in the making
+binds : (w : World) (k : ℕ) → w.client.making ≡ None → InDialog w.client k (w.conns k) → Elsewhere w.client w.conns k → Holds (bind_channel w.client k) w.conns
+binds w k none i h = is_over w.client (bind_channel w.client k) w.conns k i refl refl (λ q e. absurd (not_some w.client.making q none e)) h
+  where
+    not_some : (o : Option ℕ) (q : ℕ) → o ≡ None → o ≡ Some q → ⊥
+    not_some o q e f = absurd (grind arith)
+
 still_bound : (a b : Stage) → makes_session a ≡ makes_session b → makes_session a ≡ true → makes_session b ≡ true
 still_bound a b e m = sym e ∙ m
 
@@ -352,31 +362,27 @@ goes_on : (w : World) (k : ℕ) (r : Reply) (s : Stage) → InDialog w.client k 
     → Holds (dialog_took w k r (GoesOn s)).client (dialog_took w k r (GoesOn s)).conns
 goes_on w k r s i talks same mine h = talks_on w.client (went_on w.client k s r) w.conns k 1 s _ i talks refl refl refl mine (still_bound (w.client.stage k) s same) h
 
-not_made : (c : Client) (k : ℕ) → MakingTalks c → makes_session (c.stage k) ≡ false → (q : ℕ) → c.making ≡ Some q → q ≢ k
-not_made c k m n q e = λ i. not_both (makes_session (c.stage k)) _ (subst (λ x. makes_session (c.stage x) ≡ true) i (m q e)) n
-
-bound_not_made : (t : Stage) (b : Bool) → b ≡ true → t ≡ SaidSecond b → makes_session t ≡ false
-bound_not_made t b e f = grind arith
-
-pub took_dialog : (w : World) (k : ℕ) (r : Reply) → InDialog w.client k (w.conns k) → ((q : ℕ) → makes_session (w.client.stage q) ≡ true → w.client.making ≡ Some q) → Elsewhere w.client w.conns k
+pub took_dialog : (w : World) (k : ℕ) (r : Reply) → InDialog w.client k (w.conns k) → ((q : ℕ) → makes_session (w.client.stage q) ≡ true → w.client.making ≡ Some q) → (w.client.live ≡ true → w.client.making ≡ None) → Elsewhere w.client w.conns k
     → (t : Stage) → w.client.stage k ≡ t → Holds (dialog_took w k r (dialog_step t r.status)).client (dialog_took w k r (dialog_step t r.status)).conns
 unfolding is_talking
-took_dialog w k r i mine h Apart at = refuses w k r r.status i h
-took_dialog w k r i mine h (SaidNegotiate bound) at =
+took_dialog w k r i mine alone h Apart at = refuses w k r r.status i h
+took_dialog w k r i mine alone h (SaidNegotiate bound) at =
     either (λ d. Holds (dialog_took w k r d).client (dialog_took w k r d).conns) (r.status == success) (GoesOn (SaidFirst bound)) (Refuses r.status)
     (λ _. goes_on w k r (SaidFirst bound) i refl (ap makes_session at) (λ m. mine k (ap makes_session at ∙ m)) h) (λ _. refuses w k r r.status i h)
-took_dialog w k r i mine h (SaidFirst bound) at =
+took_dialog w k r i mine alone h (SaidFirst bound) at =
     either (λ d. Holds (dialog_took w k r d).client (dialog_took w k r d).conns) (r.status == more_processing_required) (GoesOn (SaidSecond bound)) (Refuses r.status)
     (λ _. goes_on w k r (SaidSecond bound) i refl (ap makes_session at) (λ m. mine k (ap makes_session at ∙ m)) h) (λ _. refuses w k r r.status i h)
-took_dialog w k r i mine h (SaidSecond true) at =
+took_dialog w k r i mine alone h (SaidSecond true) at =
     either (λ d. Holds (dialog_took w k r d).client (dialog_took w k r d).conns) (r.status == success) Binds (Refuses r.status)
-    (λ _. is_over w.client (bound w.client k) w.conns k i refl refl (λ q e. (e, not_made w.client k h.making (ap makes_session at) q e)) h) (λ _. refuses w k r r.status i h)
-took_dialog w k r i mine h (SaidSecond false) at =
+    (λ _. ended_well (λ v. Holds v.client v.conns) w k w.client.session w.client.tree (λ live. binds w k (alone live) i h) (λ dead newer. absurd (omega (arith, newer))) (fails w k i h)) (λ _. refuses w k r r.status i h)
+took_dialog w k r i mine alone h (SaidSecond false) at =
     either (λ d. Holds (dialog_took w k r d).client (dialog_took w k r d).conns) (r.status == success) Accepts (Refuses r.status)
     (λ _. talks_on w.client (accepted w.client k) w.conns k 1 AskedTree _ i refl refl refl refl (λ m. mine k (ap makes_session at)) (λ _. refl) h) (λ _. refuses w k r r.status i h)
-took_dialog w k r i mine h AskedTree at =
+took_dialog w k r i mine alone h AskedTree at =
     either (λ d. Holds (dialog_took w k r d).client (dialog_took w k r d).conns) (r.status == success) Readies (Refuses r.status)
-    (λ _. is_over w.client (readied w.client k r) w.conns k i refl refl (λ q e. absurd (cc)) h) (λ _. refuses w k r r.status i h)
+    (λ _. ended_well (λ v. Holds v.client v.conns) w k w.client.pending r.tree (λ live. binds w k (alone live) i h)
+    (λ _ _. is_over w.client (begin_session w.client k w.client.pending r.tree) w.conns k i refl refl (λ q e. absurd (cc)) h) (fails w k i h))
+    (λ _. refuses w k r r.status i h)
 
 -- the reply is the one that waits alone
 pub only_reply : (c : Client) (k : ℕ) (conn : Conn) (y : Received) (rest : List Received) → conn.down ≡ y ∷ rest → c.ready k ≡ false → Channel (c.ready k) (c.stage k) conn → InDialog c k (take_front conn rest)
@@ -390,19 +396,19 @@ only_reply c k conn y rest is off (IsInDialog o talks stands (IsLost gone none e
 takes_op_behind : (c : Client) (conns : ℕ → Conn) (k : ℕ) (y : Received) (rest : List Received) → (conns k).down ≡ y ∷ rest → y.token ≢ ForDialog → Holds c conns → Holds c (put conns k (take_front (conns k) rest))
 takes_op_behind c conns k y rest is n h = record { channels = put_on c conns k (take_front (conns k) rest) (takes_op_on (c.ready k) (c.stage k) (conns k) y rest is (λ t. absurd (n t)) (h.channels k) n) h.channels; making = h.making }
 
-pub takes_by : (w : World) (k : ℕ) (y : Received) (rest : List Received) → (w.conns k).down ≡ y ∷ rest → (y.token ≡ ForDialog → w.client.ready k ≡ false) → ((q : ℕ) → makes_session (w.client.stage q) ≡ true → w.client.making ≡ Some q)
+pub takes_by : (w : World) (k : ℕ) (y : Received) (rest : List Received) → (w.conns k).down ≡ y ∷ rest → (y.token ≡ ForDialog → w.client.ready k ≡ false) → ((q : ℕ) → makes_session (w.client.stage q) ≡ true → w.client.making ≡ Some q) → (w.client.live ≡ true → w.client.making ≡ None)
     → Holds w.client w.conns → (t : Token) → y.token ≡ t → Holds (took_by (behind_reply w k rest) k y.reply y.place t).client (took_by (behind_reply w k rest) k y.reply y.place t).conns
-takes_by w k y rest is off mine h ForDialog e =
+takes_by w k y rest is off mine alone h ForDialog e =
     let i = only_reply w.client k (w.conns k) y rest is (off e) (h.channels k) in
-    took_dialog (behind_reply w k rest) k y.reply (subst (λ d. InDialog w.client k d) (sym (at_key w.conns k (take_front (w.conns k) rest))) i) mine
+    took_dialog (behind_reply w k rest) k y.reply (subst (λ d. InDialog w.client k d) (sym (at_key w.conns k (take_front (w.conns k) rest))) i) mine alone
     (record { channels = λ q n. subst (λ d. Channel (w.client.ready q) (w.client.stage q) d) (sym (put_off w.conns k (take_front (w.conns k) rest) q n)) (h.channels q); making = h.making }) (w.client.stage k) refl
-takes_by w k y rest is off mine h (ForOp g) e = took (behind_reply w k rest) k g false y.reply y.place (takes_op_behind w.client w.conns k y rest is (λ q. absurd (cc)) h)
-takes_by w k y rest is off mine h (ForAttach g) e = took (behind_reply w k rest) k g true y.reply y.place (takes_op_behind w.client w.conns k y rest is (λ q. absurd (cc)) h)
+takes_by w k y rest is off mine alone h (ForOp g) e = took (behind_reply w k rest) k g false y.reply y.place (takes_op_behind w.client w.conns k y rest is (λ q. absurd (cc)) h)
+takes_by w k y rest is off mine alone h (ForAttach g) e = took (behind_reply w k rest) k g true y.reply y.place (takes_op_behind w.client w.conns k y rest is (λ q. absurd (cc)) h)
 
-takes : (w : World) (k : ℕ) → ((y : Received) (rest : List Received) → (w.conns k).down ≡ y ∷ rest → y.token ≡ ForDialog → w.client.ready k ≡ false) → ((q : ℕ) → makes_session (w.client.stage q) ≡ true → w.client.making ≡ Some q)
+takes : (w : World) (k : ℕ) → ((y : Received) (rest : List Received) → (w.conns k).down ≡ y ∷ rest → y.token ≡ ForDialog → w.client.ready k ≡ false) → ((q : ℕ) → makes_session (w.client.stage q) ≡ true → w.client.making ≡ Some q) → (w.client.live ≡ true → w.client.making ≡ None)
     → Holds w.client w.conns → (ys : List Received) → (w.conns k).down ≡ ys → Holds (take_reply w k ys).client (take_reply w k ys).conns
-takes w k off mine h [] is = h
-takes w k off mine h (y ∷ rest) is = takes_by w k y rest is (off y rest is) mine h y.token refl
+takes w k off mine alone h [] is = h
+takes w k off mine alone h (y ∷ rest) is = takes_by w k y rest is (off y rest is) mine alone h y.token refl
 
 -- ---- Cut
 
@@ -449,20 +455,20 @@ Here w = Holds w.client w.conns
 moved_on : (w : World) (n : ℕ) → Here w → Here (later w n)
 moved_on w n h = record { channels = h.channels; making = h.making }
 
-pub keeps : (w : World) (e : Event) → Ready w.client w.conns → Making w.client → Here w → Here (happens w e)
-keeps w (Submit g op) ready mine h = moved_on (changed w (Submit g op)) 1 (submits w g op h)
-keeps w (Open k) ready mine h =
+pub keeps : (w : World) (e : Event) → Ready w.client w.conns → Making w.client → (w.client.live ≡ true → w.client.making ≡ None) → Here w → Here (happens w e)
+keeps w (Submit g op) ready mine alone h = moved_on (changed w (Submit g op)) 1 (submits w g op h)
+keeps w (Open k) ready mine alone h =
     either Here (may_open w k) _ _ (λ m. moved_on (changed w (Open k)) 1 (opens w k (step w.server w.moment (Accept k)) (closed_of w k m) (free_of w k m) h)) (λ _. h)
-keeps w (Push k slotless pick) ready mine h = either Here (w.client.ready k) _ _ (λ r. moved_on (changed w (Push k slotless pick)) 1 (pushes w k slotless pick r h)) (λ _. h)
-keeps w (Serve k) ready mine h = serves_open w k h (may_serve w k)
-keeps w (Take k) ready mine h =
+keeps w (Push k slotless pick) ready mine alone h = either Here (w.client.ready k) _ _ (λ r. moved_on (changed w (Push k slotless pick)) 1 (pushes w k slotless pick r h)) (λ _. h)
+keeps w (Serve k) ready mine alone h = serves_open w k h (may_serve w k)
+keeps w (Take k) ready mine alone h =
     either Here ((w.conns k).client_open && is_filled (w.conns k).down) _ _
     (λ m. moved_on (changed w (Take k)) 1
-    (takes w k (λ y rest is t. no_dialog w.client w.conns k ready (more_down (w.conns k) 0 (counted_down 0 (w.conns k).down 0 y (front_down (w.conns k).down y rest is) (ap op_of t)))) mine h (w.conns k).down refl))
+    (takes w k (λ y rest is t. no_dialog w.client w.conns k ready (more_down (w.conns k) 0 (counted_down 0 (w.conns k).down 0 y (front_down (w.conns k).down y rest is) (ap op_of t)))) mine alone h (w.conns k).down refl))
     (λ _. h)
-keeps w (Cut k) ready mine h = either Here (w.conns k).client_open _ _ (λ _. moved_on (changed w (Cut k)) 1 (cuts w k h)) (λ _. h)
-keeps w (Drop k) ready mine h = either Here (w.conns k).server_open _ _ (λ _. moved_on (changed w (Drop k)) 1 (drops w k h)) (λ _. h)
-keeps w Restart ready mine h = moved_on (restarted w) 1 (all_off w.client w.conns h)
-keeps w (Crash k kept) ready mine h = either Here (may_serve w k) _ _ (λ m. moved_on (changed w (Crash k kept)) 1 (crash_either w k kept h)) (λ _. h)
-keeps w (Wait n) ready mine h = moved_on w (10000 * n) h
-keeps w (Finish refusal) ready mine h = either Here (not w.client.live) _ _ (λ d. moved_on (changed w (Finish refusal)) 1 (record { channels = h.channels; making = h.making })) (λ _. h)
+keeps w (Cut k) ready mine alone h = either Here (w.conns k).client_open _ _ (λ _. moved_on (changed w (Cut k)) 1 (cuts w k h)) (λ _. h)
+keeps w (Drop k) ready mine alone h = either Here (w.conns k).server_open _ _ (λ _. moved_on (changed w (Drop k)) 1 (drops w k h)) (λ _. h)
+keeps w Restart ready mine alone h = moved_on (restarted w) 1 (all_off w.client w.conns h)
+keeps w (Crash k kept) ready mine alone h = either Here (may_serve w k) _ _ (λ m. moved_on (changed w (Crash k kept)) 1 (crash_either w k kept h)) (λ _. h)
+keeps w (Wait n) ready mine alone h = moved_on w (10000 * n) h
+keeps w (Finish refusal) ready mine alone h = either Here (not w.client.live) _ _ (λ d. moved_on (changed w (Finish refusal)) 1 (record { channels = h.channels; making = h.making })) (λ _. h)

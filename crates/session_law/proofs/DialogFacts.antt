@@ -6,10 +6,10 @@ use Rattle.exchange_defs.specs.State.{Reply}
 use Rattle.exchange_defs.specs.Client.{Client, Stage, Apart, SaidNegotiate, SaidFirst, SaidSecond, AskedTree, may_take, may_push, goes_itself, has_its_slot, settle_no_slots, begun, outstanding, asked, ends_at_cut, end_session, cut_channel}
 use Rattle.exchange_defs.specs.Settling.{Heard as Hearing, Settles, GoesAgain, Attaches, EndsSession, heard, hear, is_awaited}
 use Rattle.exchange_defs.specs.Dialogs.{DialogStep, GoesOn, Accepts, Binds, Readies, Refuses, dialog_step, dialog_message, stage_command, went_on}
-use Rattle.exchange_defs.specs.ClientStep.{Pick, Act, pick_after, pick_act, some_unsettled}
-use Rattle.exchange_defs.specs.Network.{World, Event, Submit, Open, Push, Serve, Take, Cut, Drop, Restart, Crash, Wait, Finish, Sent, Received, Token, ForDialog, ForOp, ForAttach, happens, changed, later, may_open, may_serve, pushed_by, serve_front, absorb_front, take_reply, took_by, dialog_took, op_took, behind_reply, run, start, Settings}
+use Rattle.exchange_defs.specs.ClientStep.{Pick, Act, pick_after, pick_act, some_unsettled, IsReady}
+use Rattle.exchange_defs.specs.Network.{World, Event, Submit, Open, Push, Serve, Take, Cut, Drop, Restart, Crash, Wait, Finish, Sent, Received, Token, ForDialog, ForOp, ForAttach, happens, changed, later, may_open, may_serve, pushed_by, serve_front, absorb_front, take_reply, took_by, dialog_took, op_took, behind_reply, run, start, Settings, dialog_ended}
 use Rattle.exchange_law.specs.Connections.{Connections, is_bound}
-use Rattle.exchange_law.proofs.Run.{both_ways, connections, goes_on_bound}
+use Rattle.exchange_law.proofs.Run.{both_ways, connections, goes_on_bound, ended_well}
 use Rattle.exchange_law.proofs.Reached.{on_every_run}
 use Rattle.server_law.proofs.Logic.{either}
 use Rattle.session_law.specs.Sessions.{Sessions, is_work}
@@ -58,11 +58,15 @@ grows_hear c g asking r place GoesAgain = by_keeps c _ (keeps_answered c g)
 grows_hear c g asking r place Attaches = by_keeps c _ (keeps_joined c g)
 grows_hear c g asking r place EndsSession = record { who = refl; ranked = λ x r. r }
 
+grows_ended : (w : World) (k session tree : ℕ) → Grows w.client (dialog_ended w k (IsReady k session tree)).client
+grows_ended w k session tree =
+    ended_well (λ v. Grows w.client v.client) w k session tree (λ _. record { who = refl; ranked = λ x r. r }) (λ _ _. record { who = refl; ranked = λ x r. r }) (record { who = refl; ranked = λ x r. r })
+
 grows_dialog : (w : World) (k : ℕ) (r : Reply) (d : DialogStep) → Grows w.client (dialog_took w k r d).client
 grows_dialog w k r (GoesOn s) = record { who = refl; ranked = λ x r. r }
 grows_dialog w k r Accepts = record { who = refl; ranked = ranked_on w.client.rank w.client.pending w.client.accepts }
-grows_dialog w k r Binds = record { who = refl; ranked = λ x r. r }
-grows_dialog w k r Readies = record { who = refl; ranked = λ x r. r }
+grows_dialog w k r Binds = grows_ended w k w.client.session w.client.tree
+grows_dialog w k r Readies = grows_ended w k w.client.pending r.tree
 grows_dialog w k r (Refuses status) = record { who = refl; ranked = λ x r. r }
 
 grows_take : (w : World) (k : ℕ) (ys : List Received) → Grows w.client (take_reply w k ys).client
@@ -162,7 +166,7 @@ more : (z : Settings) (w : World) (a : ℕ → ℕ) (e : Event) → Connections 
 more z w a e c s h =
     let g = grows w e in let d = (happens w e).client in
     record {
-      here = keeps w e c.ready s.making h.here;
+      here = keeps w e c.ready s.making (λ l. (s.live_accepted l).2) h.here;
       who = g.who ∙ h.who;
       signed = still_all_up (Signed d) w e (signed_news w d g.ranked c.stages (live_ranked w.client s.session_ranked (λ l. (s.numbered_sessions 0 0).2 l))) (λ k n x i q. g.ranked x.message.session (h.signed k n x i q));
     }

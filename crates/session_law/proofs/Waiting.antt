@@ -7,10 +7,10 @@ use Rattle.exchange_defs.specs.Step.{step}
 use Rattle.exchange_defs.specs.Client.{Client, Stage, SaidNegotiate, AskedTree, create_for, guid_for, may_push, has_its_slot, goes_itself, settle_no_slots, begun, outstanding, asked, own_message, ask_message, ends_at_cut}
 use Rattle.exchange_defs.specs.Settling.{Heard as Hearing, Settles, GoesAgain, Attaches, EndsSession, heard, is_awaited}
 use Rattle.exchange_defs.specs.Dialogs.{DialogStep, GoesOn, Accepts, Binds, Readies, Refuses, dialog_step, dialog_message, went_on, accepted}
-use Rattle.exchange_defs.specs.ClientStep.{Pick, Act, Nothing, CloseChannels, pick_after, pick_act, act_heard, some_unsettled}
-use Rattle.exchange_defs.specs.Network.{World, Event, Submit, Open, Push, Serve, Take, Cut, Drop, Restart, Crash, Wait, Finish, Conn, Sent, Received, Token, ForDialog, ForOp, ForAttach, happens, changed, later, may_open, may_serve, fresh, server_off, client_off, send_up, say_down, behind_front, take_front, pushed_by, answer, serve_front, absorb_front, take_reply, took_by, dialog_took, op_took, closed_by, cut_by, behind_reply, restarted}
+use Rattle.exchange_defs.specs.ClientStep.{Pick, Act, Nothing, CloseChannels, pick_after, pick_act, act_heard, some_unsettled, IsReady}
+use Rattle.exchange_defs.specs.Network.{World, Event, Submit, Open, Push, Serve, Take, Cut, Drop, Restart, Crash, Wait, Finish, Conn, Sent, Received, Token, ForDialog, ForOp, ForAttach, happens, changed, later, may_open, may_serve, fresh, server_off, client_off, send_up, say_down, behind_front, take_front, pushed_by, answer, serve_front, absorb_front, take_reply, took_by, dialog_took, op_took, closed_by, cut_by, behind_reply, restarted, dialog_ended}
 use Rattle.exchange_law.proofs.Lists.{get-push, waited}
-use Rattle.exchange_law.proofs.Run.{both_ways}
+use Rattle.exchange_law.proofs.Run.{both_ways, ended_well}
 use Rattle.server_law.proofs.Logic.{either}
 use Rattle.session_law.specs.Sessions.{is_work}
 use Rattle.session_law.proofs.Run.{own_work, ask_work}
@@ -106,19 +106,22 @@ serves P w k i (x ∷ rest) is =
 
 hears : (P : Sent → Type 0) (w : World) (k g : ℕ) (asking : Bool) (r : Reply) (place : ℕ) → AllUp P w.conns → AllUp P (op_took w k g asking r place).conns
 hears P w k g asking r place i =
-    either (λ (x : Act). AllUp P (closed_by w x).conns) (is_awaited w.client k g asking) (act_heard (heard w.client g asking r)) Nothing (λ _. by (heard w.client g asking r)) (λ _. i)
+    either (λ (x : Act). AllUp P (closed_by w k x).conns) (is_awaited w.client k g asking) (act_heard (heard w.client g asking r)) Nothing (λ _. by (heard w.client g asking r)) (λ _. i)
   where
-    by : (h : Hearing) → AllUp P (closed_by w (act_heard h)).conns
+    by : (h : Hearing) → AllUp P (closed_by w k (act_heard h)).conns
     by (Settles o) = i
     by GoesAgain = i
     by Attaches = i
     by EndsSession = i
 
+ended_up : (P : Sent → Type 0) (w : World) (k session tree : ℕ) → AllUp P w.conns → AllUp P (dialog_ended w k (IsReady k session tree)).conns
+ended_up P w k session tree i = ended_well (λ v. AllUp P v.conns) w k session tree (λ _. i) (λ _ _. i) (lost_up P w.conns k (client_off (w.conns k)) (inl refl) i)
+
 dialogs : (P : Sent → Type 0) (w : World) (k : ℕ) (r : Reply) → News P w → AllUp P w.conns → (d : DialogStep) → dialog_step (w.client.stage k) r.status ≡ d → AllUp P (dialog_took w k r d).conns
 dialogs P w k r new i (GoesOn s) e = sent_up P w.conns k 1 ForDialog _ (new.next k (w.conns k).next_id r s e) i
 dialogs P w k r new i Accepts e = sent_up P w.conns k 1 ForDialog _ (new.tree k (w.conns k).next_id) i
-dialogs P w k r new i Binds e = i
-dialogs P w k r new i Readies e = i
+dialogs P w k r new i Binds e = ended_up P w k w.client.session w.client.tree i
+dialogs P w k r new i Readies e = ended_up P w k w.client.pending r.tree i
 dialogs P w k r new i (Refuses status) e = lost_up P w.conns k (client_off (w.conns k)) (inl refl) i
 
 news_behind : (P : Sent → Type 0) (w : World) (k : ℕ) (rest : List Received) → News P w → News P (behind_reply w k rest)
