@@ -1,8 +1,8 @@
 """Info classes of MS-FSCC 2.4 (files), 2.4 (directories), 2.5 (volumes), and FSCTL_QUERY_NETWORK_INTERFACE_INFO (MS-SMB2 2.2.32.5)."""
 import struct
 
-from wire_layouts import aligned, packed
-from wire_shown import Shown, shown
+from wire_layouts import aligned, packed, snake
+from wire_shown import Shown
 
 TIMES = (0x01D9A0B1C2D3E4F5, 0x01D9A0B1C2D3E4F6, 0x01D9A0B1C2D3E4F7, 0x01D9A0B1C2D3E4F8)
 NAME = "aé\U0001F600.txt"
@@ -112,3 +112,55 @@ def interface(address, index=1, capability=0, speed=10**9, family=2):
     out = struct.pack("<IIIIQ", 0, index, capability, 0, speed) + socket
     assert len(out) == 152
     return out
+
+
+# ---- rows
+
+TIME_FIELDS = "CreationTime:8 LastAccessTime:8 LastWriteTime:8 ChangeTime:8"
+PLAIN = (
+    ("FileBasicInformation", f"{TIME_FIELDS} FileAttributes:4 Reserved:4"),
+    ("FileStandardInformation", "AllocationSize:8 EndOfFile:8 NumberOfLinks:4 DeletePending:1 Directory:1 Reserved:2"),
+    ("FileInternalInformation", "IndexNumber:8"),
+    ("FileDispositionInformation", "DeletePending:1"),
+    ("FileAllocationInformation", "AllocationSize:8"),
+    ("FileEndOfFileInformation", "EndOfFile:8"),
+    ("FileNetworkOpenInformation", f"{TIME_FIELDS} AllocationSize:8 EndOfFile:8 FileAttributes:4 Reserved:4"),
+    ("FileFsSizeInformation", "TotalAllocationUnits:8 AvailableAllocationUnits:8 SectorsPerAllocationUnit:4 BytesPerSector:4"),
+    ("FileFsDeviceInformation", "DeviceType:4 Characteristics:4"),
+    ("FileFsFullSizeInformation", "TotalAllocationUnits:8 CallerAvailableAllocationUnits:8 ActualAvailableAllocationUnits:8"
+                                  " SectorsPerAllocationUnit:4 BytesPerSector:4"),
+)
+
+
+def fields_of(words):
+    return [(name, int(width)) for name, width in (word.split(":") for word in words.split())]
+
+
+def plain_bytes(fields, first, reserved=0):
+    """Fields of unlike bytes that count upwards from the first, and the numbers in them."""
+    out, numbers = b"", {}
+    for name, width in fields:
+        if name == "Reserved":
+            out += bytes([reserved]) * width
+            continue
+        content = bytes((first + i) % 256 for i in range(width))
+        first += width
+        out, numbers[snake(name)] = out + content, int.from_bytes(content, "little")
+    return out, numbers
+
+
+def plain_rows(table, name, words):
+    kind, fields = snake(name), fields_of(words)
+    for first, reserved in ((1, 0), (0xB0, 0), (3, 0xEE)):
+        data, numbers = plain_bytes(fields, first, reserved)
+        table.row(f"{kind} {data.hex()}", f"{kind}: {Shown(name, **numbers)}", f"  {plain_bytes(fields, first)[0].hex()}")
+    data, at = plain_bytes(fields, 1)[0], 0
+    for field, width in fields:
+        table.row(f"{kind} {data[:at + width - 1].hex() or '-'}", f"{kind}: Short({at})")
+        at += width
+
+
+def class_rows(table):
+    table.title("info classes of one length (MS-FSCC 2.4, 2.5)")
+    for name, words in PLAIN:
+        plain_rows(table, name, words)

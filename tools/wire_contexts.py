@@ -54,18 +54,18 @@ def split_row(table, frame, answer):
 
 
 def compound_rows(table):
-    table.title("compounds (3.3.5.2.7): each message with the padding behind it")
+    table.title("compounds (3.3.5.2.7): each message with the padding behind it; a refusal names the place of the message whose NextCommand breaks")
     one, two, three = compound(b"abc"), compound(b"abc", b"12345678"), compound(b"", b"x", b"yz")
     split_row(table, one, "0..67")
     split_row(table, two, "0..72 72..144")
     split_row(table, three, "0..64 64..136 136..202")
     split_row(table, compound(b""), "0..64")
     split_row(table, one[:63], "Short")
-    split_row(table, two[:135], "BadNext(20)")
+    split_row(table, two[:135], "BadNext(0)")
     split_row(table, two[:136], "0..72 72..136")
     for number in (1, 8, 56, 63, 65, 71, 88, 2**32 - 8, 2**32 - 1):
-        split_row(table, two[:20] + packed(4, number) + two[24:], "BadNext(20)")
-    split_row(table, two[:92] + packed(4, 72) + two[96:], "BadNext(92)")
+        split_row(table, two[:20] + packed(4, number) + two[24:], "BadNext(0)")
+    split_row(table, two[:92] + packed(4, 72) + two[96:], "BadNext(72)")
     split_row(table, two[:72] + b"\xffSMB" + two[76:], "BadProtocol([255, 83, 77, 66])")
 
 
@@ -217,6 +217,37 @@ def chain_row(table, asked, **told):
     table.row(f"chain {asked.hex()}", *lines)
 
 
+def answers_row(table, asked, dh2q=None, mxac=None, qfid=None):
+    """A response's chain as bytes, its value, and the canonical chain of that value."""
+    written = []
+    if dh2q:
+        written.append((b"DH2Q", struct.pack("<II", dh2q[0], 2 if dh2q[1] else 0)))
+    if mxac:
+        written.append((b"MxAc", struct.pack("<II", *mxac)))
+    if qfid:
+        written.append((b"QFid", struct.pack("<QQ", *qfid) + bytes(16)))
+    value = Shown("ReplyContexts", dh2q=dh2q and some(Shown("Dh2qReply", timeout=dh2q[0], persistent=dh2q[1])),
+                  mxac=mxac and some(Shown("MaximalAccess", query_status=mxac[0], maximal_access=mxac[1])),
+                  qfid=qfid and some(Shown("DiskId", file=qfid[0], volume=qfid[1])))
+    table.row(f"answers {(asked or create_chain(written)).hex()}", f"answers: {value}", f"  {create_chain(written).hex()}")
+
+
+def answer_rows(table):
+    table.title("create contexts of responses (2.2.14.2)")
+    timeout, access, disk = (60000, True), (0, 0x1F01FF), (0x1122334455667788, 1)
+    answers_row(table, None, timeout)
+    answers_row(table, None, None, access)
+    answers_row(table, None, None, None, disk)
+    answers_row(table, None, timeout, access, disk)
+    other = create_chain([(b"QFid", struct.pack("<QQ", *disk) + b"\xee" * 16), (b"RqLs", bytes(52)), (b"MxAc", struct.pack("<II", 0xC0000022, 0))])
+    answers_row(table, other, None, (0xC0000022, 0), disk)
+    for name, length in ((b"DH2Q", 7), (b"DH2Q", 9), (b"MxAc", 0), (b"MxAc", 4), (b"QFid", 31), (b"QFid", 33)):
+        table.row(f"answers {create_chain([(name, bytes(length))]).hex()}", f"answers: BadLength({shown(name)})")
+    whole = create_chain([(b"MxAc", bytes(8)), (b"QFid", bytes(32))])
+    for data, refusal in ((whole[:-1], "Short"), (whole[:15], "Short"), (packed(4, 4) + whole[4:], "BadNext"), (packed(4, 800) + whole[4:], "BadNext")):
+        table.row(f"answers {data.hex()}", f"answers: {refusal}")
+
+
 def create_context_rows(table):
     table.title("create contexts of requests (2.2.13.2): the value of a chain, and its canonical chain")
     guid, file = bytes(range(0x40, 0x50)), bytes(range(1, 9)) * 2
@@ -233,10 +264,11 @@ def create_context_rows(table):
               qfid=(True, b""))
     chain_row(table, create_chain([(b"AlSi", bytes(8)), (b"SecD", b"")]))
     chain_row(table, create_context(b"DH2Q", plain[1], name_at=24, data_at=40), dh2q=plain)
-    chain_refusals(table, guid, asked[1])
+    chain_refusals(table, asked[1])
+    answer_rows(table)
 
 
-def chain_refusals(table, guid, data):
+def chain_refusals(table, data):
     table.title("chains that do not read")
     whole = create_chain([(b"DH2Q", data)])
     two = create_chain([(b"MxAc", b""), (b"DH2Q", data)])
