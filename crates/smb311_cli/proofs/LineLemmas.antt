@@ -6,7 +6,6 @@ use Rattle.std.proofs.lemmas.Bool.Decides.{leb_tells}
 use Rattle.smb311_cli.specs.Pieces.{pieces}
 use Rattle.smb311_cli.proofs.PieceLemmas.{pieces_left_over}
 use Rattle.std.proofs.lemmas.Bool.{cond-true, cond-false, le-leb, lt-leb}
-use Rattle.smb311_cli.specs.declared.limits.TheConstants.{SCRIPT_BYTES}
 use Rattle.std.specs.Prelude.{◌&&◌, ◌==◌, Option, Result, Ok, Err}
 use Rattle.smb311_cli.specs.Outcome.{◌>>=◌, Fails}
 use Rattle.smb311_cli.specs.Progress.{Says}
@@ -77,13 +76,13 @@ all_read front cut number before left all none so_far =
     sym so_far ∙ (ap (λ ls. with_front front (lines_from cut number before ls)) none ∙ ap Ok (append-nil front))
 
 -- a text within the limit, and one that passes it
-pub script_whole : (text : List ℕ) → length text ≤ SCRIPT_BYTES → script text ≡ lines_of false (without_last_feed text)
+pub script_whole : (text : List ℕ) → length text ≤ 268_435_456 → script text ≡ lines_of false (without_last_feed text)
 unfolding script
-script_whole text short = cond-true (nat_le (length text) SCRIPT_BYTES) _ _ (le-leb _ _ short)
+script_whole text short = cond-true (nat_le (length text) 268_435_456) _ _ (le-leb _ _ short)
 
-pub script_cut : (text : List ℕ) → SCRIPT_BYTES < length text → script text ≡ lines_of true (take SCRIPT_BYTES text)
+pub script_cut : (text : List ℕ) → 268_435_456 < length text → script text ≡ lines_of true (take 268_435_456 text)
 unfolding script
-script_cut text long = cond-false (nat_le (length text) SCRIPT_BYTES) _ _ (lt-leb _ _ long)
+script_cut text long = cond-false (nat_le (length text) 268_435_456) _ _ (lt-leb _ _ long)
 
 bind_ok : {A B E : Type 0} (r : Result A E) (f : A → Result B E) (y : B) → (r >>= f) ≡ Ok y → (x : A) × (r ≡ Ok x) × (f x ≡ Ok y)
 bind_ok (Ok x) f y h = (x, refl, h)
@@ -108,8 +107,8 @@ within_or_past : (a b : ℕ) → (a ≤ b) ⊎ (b < a)
 within_or_past a b = grind (arith, leb_tells a b)
 
 -- a script that is read keeps the limit on bytes
-pub keeps_limit : (text : List ℕ) (lines : List Line) → script text ≡ Ok lines → length text ≤ SCRIPT_BYTES
-keeps_limit text lines said = elim (within_or_past (length text) SCRIPT_BYTES) as (λ _. length text ≤ SCRIPT_BYTES) [
+pub keeps_limit : (text : List ℕ) (lines : List Line) → script text ≡ Ok lines → length text ≤ 268_435_456
+keeps_limit text lines said = elim (within_or_past (length text) 268_435_456) as (λ _. length text ≤ 268_435_456) [
   | inl short ↦ short
-  | inr long ↦ absurd (pieces_refused (pieces 10 (take SCRIPT_BYTES text)) lines (pieces_left_over 10 (take SCRIPT_BYTES text)) (sym (script_cut text long) ∙ said))
+  | inr long ↦ absurd (pieces_refused (pieces 10 (take 268_435_456 text)) lines (pieces_left_over 10 (take 268_435_456 text)) (sym (script_cut text long) ∙ said))
 ]

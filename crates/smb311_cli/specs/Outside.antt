@@ -2,7 +2,6 @@
 use Rattle.std.specs.Prelude.{◌≡◌, ℕ, ◌<◌, ◌≤◌, List, ◌++◌, length, take, Option}
 use Rattle.std.specs.Io.KnownBytes.{Appends, Consumes, IsAtEnd}
 use Rattle.smb_io.specs.Faults.{Rose}
-use Rattle.smb311_cli.specs.declared.limits.TheConstants.{SCRIPT_BYTES}
 use Rattle.smb311_cli.specs.declared.outside.read_error.ReadError.{ReadError}
 use Rattle.smb311_cli.specs.declared.outside.read_error.ReadError.TheVariants.{Memory, Failed}
 
@@ -18,11 +17,11 @@ pub record Takes (left left' : Option (List ℕ)) (text text' : List ℕ) (room 
 -- The text was read, to the source's end unless it passes the limit on a script's bytes.
 pub record HasRead (left left' : Option (List ℕ)) (text : List ℕ) : Type 0 where
   pub read : Consumes left left' text
-  pub ended : length text ≤ SCRIPT_BYTES → IsAtEnd left'
+  pub ended : length text ≤ 268_435_456 → IsAtEnd left'
 
--- reading failed only where the count of faults rose
+-- reading failed only where the count of faults rose, and where memory ran out it stayed
 abbrev pub HasFailed : ℕ → ℕ → ReadError → Type 0
-HasFailed old new Memory = Unit {0}
+HasFailed old new Memory = new ≡ old
 HasFailed old new Failed = Rose old new
 
 -- a front of the text was written

@@ -10,7 +10,6 @@ use Rattle.smb311_cli.specs.declared.script.Line.{Line}
 use Rattle.smb311_cli.specs.declared.script.Refusal.{Refusal}
 use Rattle.smb311_cli.specs.declared.script.Statement.{Statement}
 use Rattle.smb311_cli.specs.declared.script.Statement.TheVariants.{Operation, Event, Settle}
-use Rattle.smb311_cli.specs.declared.limits.TheConstants.{SCRIPT_BYTES, SCRIPT_LINES, SCRIPT_OPERATIONS}
 
 -- a line that is empty or a comment
 abbrev pub says_nothing : List ℕ → Bool
@@ -39,11 +38,11 @@ operations_said (Some statement) = operations statement
 
 -- an operation that passes the limit on them is too long
 abbrev pub within : ℕ → Option Statement → Result (Option Statement) Code
-within before said = if nat_le (before + operations_said said) SCRIPT_OPERATIONS then Ok said else Err TooLong
+within before said = if nat_le (before + operations_said said) 1_048_576 then Ok said else Err TooLong
 
 -- what a line says behind so many lines and operations; it is too long where it passes a limit
 unfoldable pub judged : Bool → ℕ → ℕ → List ℕ → Result (Option Statement) Code
-judged past lines before line = if past || nat_le SCRIPT_LINES lines then Err TooLong else said line >>= within before
+judged past lines before line = if past || nat_le 4_194_304 lines then Err TooLong else said line >>= within before
 
 -- a refusal with its line
 abbrev pub at_line : {A : Type 0} → ℕ → Result A Code → Result A Refusal
@@ -73,5 +72,5 @@ without_last_feed text = if slice_index text (length text - 1) == 10 then take (
 -- the lines of a script that say something, or its first refused line
 unfoldable pub script : List ℕ → Result (List Line) Refusal
 script text =
-    if nat_le (length text) SCRIPT_BYTES then lines_of false (without_last_feed text)
-    else lines_of true (take SCRIPT_BYTES text)
+    if nat_le (length text) 268_435_456 then lines_of false (without_last_feed text)
+    else lines_of true (take 268_435_456 text)

@@ -1,7 +1,6 @@
 // The top call.
 ghost use Rattle.std.specs.Prelude.{◌≡◌, map, false};
 ghost use Rattle.std.specs.String.{string_bytes};
-ghost use Rattle.smb_io.specs.Faults.{Rose};
 ghost use Rattle.smb311_cli.specs.TopCall as top;
 
 use crate::drill::drill;
@@ -30,7 +29,7 @@ pub fn smb311<S: Source, O: Sink>(
     ensures ends { (ending : Ending) × (result ≡ top.status_of ending)
         × top.Ends (top.is_drill (map string_bytes words.now)) (S.left source.old) (S.left source.new)
         (O.written sink.old) (O.written sink.new)
-        (Rose (S.faults source.old) (S.faults source.new)) (Rose (O.faults sink.old) (O.faults sink.new)) ending }
+        (S.faults source.old) (S.faults source.new) (O.faults sink.old) (O.faults sink.new) ending }
     // The words are judged first: where they are no command, nothing is read.
     ensures words_first { top.is_drill (map string_bytes words.now) ≡ false → source.new ≡ source.old }
 {
@@ -49,7 +48,7 @@ fn is_drill(words: &[String]) -> bool
 }
 
 fn usage<O: Sink>(sink: &mut O) -> Ending
-    ensures { top.IsUsage (O.written sink.old) (O.written sink.new) (Rose (O.faults sink.old) (O.faults sink.new)) result }
+    ensures { top.IsUsage (O.written sink.old) (O.written sink.new) (O.faults sink.old) (O.faults sink.new) result }
 {
     match write_all(sink, USAGE.as_bytes()) {
         Ok(()) => Ending::Usage,
@@ -60,7 +59,7 @@ fn usage<O: Sink>(sink: &mut O) -> Ending
 // Reads a script, and does what it says.
 fn drilled<S: Source, O: Sink>(alloc: Global, source: &mut S, sink: &mut O) -> Ending
     ensures { top.Drills (S.left source.old) (S.left source.new) (O.written sink.old) (O.written sink.new)
-        (Rose (S.faults source.old) (S.faults source.new)) (Rose (O.faults sink.old) (O.faults sink.new)) result }
+        (S.faults source.old) (S.faults source.new) (O.faults sink.old) (O.faults sink.new) result }
 {
     match read_script(alloc, source) {
         Ok(script) => answered(alloc, script.as_slice(), sink),
@@ -71,7 +70,7 @@ fn drilled<S: Source, O: Sink>(alloc: Global, source: &mut S, sink: &mut O) -> E
 
 // Runs a script and writes what it prints, or its first refused line.
 fn answered<O: Sink>(alloc: Global, script: &[u8], sink: &mut O) -> Ending
-    ensures { top.Answers script.now (O.written sink.old) (O.written sink.new) (Rose (O.faults sink.old) (O.faults sink.new)) result }
+    ensures { top.Answers script.now (O.written sink.old) (O.written sink.new) (O.faults sink.old) (O.faults sink.new) result }
 {
     match drill(alloc, script) {
         Ok(text) => match write_all(sink, text.as_bytes()) {
@@ -84,7 +83,7 @@ fn answered<O: Sink>(alloc: Global, script: &[u8], sink: &mut O) -> Ending
 }
 
 fn refused<O: Sink>(alloc: Global, refusal: &Refusal, sink: &mut O) -> Ending
-    ensures { top.Refuses refusal.now (O.written sink.old) (O.written sink.new) (Rose (O.faults sink.old) (O.faults sink.new)) result }
+    ensures { top.Refuses refusal.now (O.written sink.old) (O.written sink.new) (O.faults sink.old) (O.faults sink.new) result }
 {
     let Ok(line) = refusal_line(alloc, refusal) else {
         return Ending::Memory;

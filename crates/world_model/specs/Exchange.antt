@@ -13,9 +13,8 @@ use Rattle.world_model.specs.declared.operation.OpKind.TheVariants as kinds
 use Rattle.world_model.specs.declared.operation.OpReply.TheVariants as replies
 use Rattle.world_model.specs.declared.operation.Outcome.{Outcome}
 use Rattle.world_model.specs.declared.operation.Outcome.TheVariants as outcomes
-use Rattle.world_model.specs.declared.limits.TheConstants.{CREDIT_BYTES}
 use Rattle.world_model.specs.Limits.{kind_at, is_in_limits}
-use Rattle.world_model.specs.declared.status.TheConstants.{END_OF_FILE}
+use Rattle.exchange_defs.specs.Status.{end_of_file}
 use Rattle.world_model.specs.declared.table.Sent.{Sent}
 use Rattle.world_model.specs.declared.network.WorldEvent.{WorldEvent}
 use Rattle.world_model.specs.declared.network.WorldEvent.TheVariants.{Submit, Push, Serve, Take}
@@ -51,7 +50,7 @@ moved (kinds.Read create at size) = size
 
 -- the credits that a request costs, and the message ids that it takes (MS-SMB2 3.2.4.1.5): one for each 65,536 bytes begun, and one at least
 abbrev pub charge : OpKind → ℕ
-charge kind = min ((moved kind - 1) / CREDIT_BYTES + 1) 65535
+charge kind = min ((moved kind - 1) / 65536 + 1) 65535
 
 -- the next message id, which stands still at the end of its type
 abbrev pub id_after : ℕ → OpKind → ℕ
@@ -97,7 +96,7 @@ abbrev pub settlement_of : Option Outcome → Settlement
 settlement_of None = Unsettled
 settlement_of (Some (outcomes.Ok (replies.Count count))) = Settled_ok (Counted count)
 settlement_of (Some (outcomes.Ok (replies.Content bytes))) = Settled_ok (Gives bytes)
-settlement_of (Some (outcomes.Refused status)) = if status == END_OF_FILE then Settled_end else Settled_refused
+settlement_of (Some (outcomes.Refused status)) = if status == end_of_file then Settled_end else Settled_refused
 settlement_of (Some (outcomes.Unknown why)) = Settled_unknown
 
 abbrev pub settlement_at : List (ℕ × Outcome) → ℕ → Settlement

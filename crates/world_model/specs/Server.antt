@@ -3,8 +3,7 @@
 use Rattle.std.specs.Prelude.{ℕ, ◌+◌, ◌==◌, nat_lt, nat_le, Bool, false, not, ◌&&◌, ◌||◌, if◌then◌else◌, List, length, take, drop}
 use Rattle.exchange_defs.specs.Content.{ContentOp, Write, Read, effect, past_end, touches, Counted, Gives}
 use Rattle.exchange_defs.specs.Order.{Said, Says_ok, Says_end, Says_other}
-use Rattle.world_model.specs.declared.limits.TheConstants.{LARGEST_TRANSFER, OFFSET_END, LARGEST_FILE}
-use Rattle.world_model.specs.declared.status.TheConstants.{INVALID_PARAMETER, END_OF_FILE, DISK_FULL}
+use Rattle.exchange_defs.specs.Status.{invalid_parameter, end_of_file, disk_full}
 
 -- What a request asks, as its message spells it: offset, length and minimum count in bytes, and the channel.
 pub data Command : Type 0 where
@@ -37,7 +36,7 @@ channel_of (Write_file offset channel payload) = channel
 
 -- the form of a request: the largest transfer, no channel, and a range that ends below 2^63
 abbrev pub is_in_form : Command → Bool
-is_in_form c = nat_le (size_of c) LARGEST_TRANSFER && ((channel_of c == 0) && nat_lt (offset_of c + size_of c) OFFSET_END)
+is_in_form c = nat_le (size_of c) 1_048_576 && ((channel_of c == 0) && nat_lt (offset_of c + size_of c) 0x8000_0000_0000_0000)
 
 -- fewer bytes are there than a read wants at least
 abbrev pub is_short_of : Command → List ℕ → Bool
@@ -50,7 +49,7 @@ is_past_end c file = past_end (asked c) file || is_short_of c file
 
 -- the file would pass its largest length
 abbrev pub is_overfull : Command → List ℕ → Bool
-is_overfull c file = nat_lt LARGEST_FILE (length (effect (asked c) file))
+is_overfull c file = nat_lt 268_435_456 (length (effect (asked c) file))
 
 -- Which check answers.
 pub data Verdict : Type 0 where
@@ -81,9 +80,9 @@ abbrev pub refused_with : ℕ → List ℕ → Answer
 refused_with status file = record { reply = Refuses status; file = file; acted = false }
 
 abbrev pub answered : Verdict → Command → List ℕ → Answer
-answered Bad_form c file = refused_with INVALID_PARAMETER file
-answered At_end c file = refused_with END_OF_FILE file
-answered No_room c file = refused_with DISK_FULL file
+answered Bad_form c file = refused_with invalid_parameter file
+answered At_end c file = refused_with end_of_file file
+answered No_room c file = refused_with disk_full file
 answered Success c file = record { reply = reply_of c file; file = effect (asked c) file; acted = touches (asked c) }
 
 unfoldable pub answer : Command → List ℕ → Answer
@@ -93,4 +92,4 @@ answer c file = answered (check c file) c file
 abbrev pub said : Reply → Said
 said (Counts count) = Says_ok (Counted count)
 said (Content bytes) = Says_ok (Gives bytes)
-said (Refuses status) = if status == END_OF_FILE then Says_end else Says_other
+said (Refuses status) = if status == end_of_file then Says_end else Says_other

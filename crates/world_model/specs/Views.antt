@@ -4,7 +4,7 @@ use Rattle.world_model.specs.declared.message.Reply as code_reply
 use Rattle.world_model.specs.declared.message.Reply.TheVariants as replies
 use Rattle.world_model.specs.declared.server.Command as code_command
 use Rattle.world_model.specs.declared.server.Command.TheVariants as commands
-use Rattle.world_model.specs.declared.status.TheConstants.{INVALID_PARAMETER, END_OF_FILE, DISK_FULL}
+use Rattle.exchange_defs.specs.Status.{invalid_parameter, end_of_file, disk_full}
 use Rattle.wire_defs.specs.declared.header.Header.{Header}
 use Rattle.world_model.specs.declared.server.Answered.{Answered}
 use Rattle.world_model.specs.declared.operation.Outcome.{Outcome}
@@ -32,9 +32,9 @@ command_view (commands.Write offset channel payload) = Write_file offset channel
 
 -- the status with which a check refuses
 abbrev pub status_for : Verdict → Option ℕ
-status_for Bad_form = Some INVALID_PARAMETER
-status_for At_end = Some END_OF_FILE
-status_for No_room = Some DISK_FULL
+status_for Bad_form = Some invalid_parameter
+status_for At_end = Some end_of_file
+status_for No_room = Some disk_full
 status_for Success = None
 
 -- an answer of the program says what the model's does, in the response to the request that had this header
