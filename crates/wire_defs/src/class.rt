@@ -1,0 +1,93 @@
+/// FileBasicInformation, class 4, asked and set (MS-FSCC 2.4.7).
+#[derive(Clone, Copy, Debug, PartialEq, Eq)]
+pub struct FileBasicInformation {
+    pub creation_time: u64,
+    pub last_access_time: u64,
+    pub last_write_time: u64,
+    pub change_time: u64,
+    pub file_attributes: u32,
+}
+
+/// FileStandardInformation, class 5 (MS-FSCC 2.4.41).
+#[derive(Clone, Copy, Debug, PartialEq, Eq)]
+pub struct FileStandardInformation {
+    pub allocation_size: u64,
+    pub end_of_file: u64,
+    pub number_of_links: u32,
+    pub delete_pending: u8,
+    pub directory: u8,
+}
+
+/// FileInternalInformation, class 6 (MS-FSCC 2.4.22).
+#[derive(Clone, Copy, Debug, PartialEq, Eq)]
+pub struct FileInternalInformation {
+    pub index_number: u64,
+}
+
+/// FileDispositionInformation, class 13, set (MS-FSCC 2.4.11).
+#[derive(Clone, Copy, Debug, PartialEq, Eq)]
+pub struct FileDispositionInformation {
+    pub delete_pending: u8,
+}
+
+/// FileAllocationInformation, class 19, set (MS-FSCC 2.4.4).
+#[derive(Clone, Copy, Debug, PartialEq, Eq)]
+pub struct FileAllocationInformation {
+    pub allocation_size: u64,
+}
+
+/// FileEndOfFileInformation, class 20, set (MS-FSCC 2.4.13).
+#[derive(Clone, Copy, Debug, PartialEq, Eq)]
+pub struct FileEndOfFileInformation {
+    pub end_of_file: u64,
+}
+
+/// FileNetworkOpenInformation, class 34 (MS-FSCC 2.4.29).
+#[derive(Clone, Copy, Debug, PartialEq, Eq)]
+pub struct FileNetworkOpenInformation {
+    pub creation_time: u64,
+    pub last_access_time: u64,
+    pub last_write_time: u64,
+    pub change_time: u64,
+    pub allocation_size: u64,
+    pub end_of_file: u64,
+    pub file_attributes: u32,
+}
+
+/// FileFsSizeInformation, class 3 (MS-FSCC 2.5.8).
+#[derive(Clone, Copy, Debug, PartialEq, Eq)]
+pub struct FileFsSizeInformation {
+    pub total_allocation_units: u64,
+    pub available_allocation_units: u64,
+    pub sectors_per_allocation_unit: u32,
+    pub bytes_per_sector: u32,
+}
+
+/// FileFsDeviceInformation, class 4 (MS-FSCC 2.5.10).
+#[derive(Clone, Copy, Debug, PartialEq, Eq)]
+pub struct FileFsDeviceInformation {
+    pub device_type: u32,
+    pub characteristics: u32,
+}
+
+/// FileFsFullSizeInformation, class 7 (MS-FSCC 2.5.4).
+#[derive(Clone, Copy, Debug, PartialEq, Eq)]
+pub struct FileFsFullSizeInformation {
+    pub total_allocation_units: u64,
+    pub caller_available_allocation_units: u64,
+    pub actual_available_allocation_units: u64,
+    pub sectors_per_allocation_unit: u32,
+    pub bytes_per_sector: u32,
+}
+
+/// An entry of FSCTL_QUERY_NETWORK_INTERFACE_INFO (MS-SMB2 2.2.32.5).
+#[derive(Clone, Copy, Debug, PartialEq, Eq)]
+pub struct NetworkInterface {
+    pub next: u32,
+    pub if_index: u32,
+    pub capability: u32,
+    pub link_speed: u64,
+    pub family: u16,
+    pub port: [u8; 2],
+    pub address: [u8; 4],
+}
