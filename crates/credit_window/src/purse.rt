@@ -28,7 +28,8 @@ impl fmt::Display for NoCredit {
 
 impl Error for NoCredit {}
 
-/// How many credits a client holds, and the message id that it uses next.
+/// How many credits a client holds, and the message id that it uses next (MS-SMB2 3.2.1.2,
+/// Connection.SequenceWindow).
 #[derive(Drop)]
 pub struct Purse {
     held: u32,
@@ -54,6 +55,7 @@ impl Purse {
         Purse { held: 1, next: 0 }
     }
 
+    /// How many credits are held.
     pub fn held(&self) -> u32
         ensures { result ≡ self.now.held }
     {

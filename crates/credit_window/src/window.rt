@@ -35,8 +35,9 @@ impl fmt::Display for Outside {
 
 impl Error for Outside {}
 
-/// The message ids that a client may still use, each once. They stand in a ring of 512 places, least first,
-/// and all room is taken by `new`.
+/// The message ids that a client may still use, each once (MS-SMB2 3.3.1.7,
+/// Connection.CommandSequenceWindow). They stand in a ring of 512 places, least first, and all room is
+/// taken by `new`.
 #[derive(Drop)]
 pub struct Window {
     ids: VecDeque<u64>,
@@ -66,9 +67,10 @@ impl Window {
         Ok(Window { ids, next: 1 })
     }
 
-    /// Takes the ids of a charge, of which 0 counts as 1, from the first upwards. Where one of them is not
-    /// held, the least such id is told and nothing changes. It costs a search of the ring, one step for each
-    /// id of the charge, and moves of the held ids below or above them, whichever are fewer.
+    /// Takes the ids of a charge (CreditCharge, of which 0 counts as 1), from the first (MessageId) upwards.
+    /// Where one of them is not held, the least such id is told and nothing changes. It costs a search of
+    /// the ring, one step for each id of the charge, and moves of the held ids below or above them,
+    /// whichever are fewer.
     pub fn take(&mut self, first: u64, charge: u16) -> Result<(), Outside>
         ensures taken { OnOk result ((outside self.old.held first (counted charge) ≡ None) × (self.new ≡ after_take first charge self.old)) }
         ensures outside { IfErr result (λ e. outside self.old.held first (counted charge) ≡ Some e.id) }
