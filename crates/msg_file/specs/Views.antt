@@ -3,10 +3,12 @@ use Rattle.wire_defs.specs.Read.{ReadResponseValue}
 use Rattle.wire_defs.specs.Write.{WriteRequestValue}
 use Rattle.wire_defs.specs.Lock.{LockRequestValue}
 use Rattle.wire_defs.specs.Create.{CreateRequestValue}
+use Rattle.wire_defs.specs.CreateResponse.{CreateResponseValue}
 use Rattle.msg_file.specs.declared.read.ReadResponse.{ReadResponse}
 use Rattle.msg_file.specs.declared.write.WriteRequest.{WriteRequest}
 use Rattle.msg_file.specs.declared.lock.LockRequest.{LockRequest}
 use Rattle.msg_file.specs.declared.create.CreateRequest.{CreateRequest}
+use Rattle.msg_file.specs.declared.create.CreateResponse.{CreateResponse}
 
 abbrev pub read_response : ReadResponse → ReadResponseValue
 read_response v = record { data_remaining = v.data_remaining; payload = v.payload.now }
@@ -19,3 +21,6 @@ lock_request v = record { lock_sequence = v.lock_sequence; file_id = v.file_id; 
 
 abbrev pub create_request : CreateRequest → CreateRequestValue
 create_request v = record { requested_oplock_level = v.requested_oplock_level; impersonation_level = v.impersonation_level; desired_access = v.desired_access; file_attributes = v.file_attributes; share_access = v.share_access; create_disposition = v.create_disposition; create_options = v.create_options; name = v.name.now; contexts = v.contexts.now }
+
+abbrev pub create_response : CreateResponse → CreateResponseValue
+create_response v = record { oplock_level = v.oplock_level; flags = v.flags; create_action = v.create_action; creation_time = v.creation_time; last_access_time = v.last_access_time; last_write_time = v.last_write_time; change_time = v.change_time; allocation_size = v.allocation_size; end_of_file = v.end_of_file; file_attributes = v.file_attributes; file_id = v.file_id; contexts = v.contexts.now }

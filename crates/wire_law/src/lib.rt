@@ -3,18 +3,26 @@
 //! follows it, reads back. Each law is the contract of a function that does nothing.
 #![tactic(auto)]
 
+mod close;
 mod create;
+mod create_response;
 mod error;
+mod flush;
 mod header;
 mod lock;
+mod lock_response;
 mod read;
 mod table;
 mod write;
 
+pub use close::{close_request_law, close_response_law};
 pub use create::create_request_law;
+pub use create_response::create_response_law;
 pub use error::error_response_law;
+pub use flush::{flush_request_law, flush_response_law};
 pub use header::header_law;
 pub use lock::{lock_element_law, lock_request_law};
+pub use lock_response::lock_response_law;
 pub use read::{read_request_law, read_response_law};
 pub use table::{number_law, part_law, table_law};
 pub use write::{write_request_law, write_response_law};
