@@ -1,7 +1,7 @@
 -- What holds of creates on every run, and what it says of their acts.
 use Rattle.std.proofs.Common.{◌≡◌, ℕ, ◌≤◌, true, false, List, [], ◌∷◌, ◌++◌, refl, arith, subst, ◌∙◌, ap}
 use Rattle.exchange_defs.specs.State.{Server, Open}
-use Rattle.exchange_defs.specs.Fold.{fold_from, sweep, recovered}
+use Rattle.exchange_defs.specs.Fold.{fold_from, sweep, recovered_from}
 use Rattle.exchange_defs.specs.Operations.{Op, Outcome, is_create, is_ok, is_unsettled}
 use Rattle.exchange_defs.specs.Network.{World, Event, Serve, Sent, Settings, happens, run, start, later, may_serve, serve_front, absorb_front}
 use Rattle.exchange_defs.specs.Runs.{acts, never_acted}
@@ -37,7 +37,7 @@ restarts_of s u f r =
     }
 
 anew_at : (w : World) → Fits w.server → Recovers w.records w.server → StartsAnew w
-anew_at w f r = restarts_of w.server (recovered w.server w.records) f (restarted_by w.server w.records r)
+anew_at w f r = restarts_of w.server (recovered_from w.server w.records) f (restarted_by w.server w.records r)
 
 -- the server behind an absorbed front is the one behind a serve
 anew_behind : (w : World) (k : ℕ) (xs : List Sent) → StartsAnew (serve_front w k xs) → StartsAnew (absorb_front w k xs)

@@ -170,13 +170,31 @@ fold rs = fold_from nothing_yet rs
 
 -- ---- restart
 
--- an Epoch record is written, and the server stands at the fold under its configuration
--- a journal of version 1 gets the Version record too, in the same body
-abbrev pub recovery_records : Server → List Record
-recovery_records s = if s.version == 1 then VersionRecord 2 ∷ EpochRecord (s.epoch + 1) ∷ [] else EpochRecord (s.epoch + 1) ∷ []
+-- what a server is told when it starts, beside its disk
+pub record Configuration : Type 0 where
+  pub share : List ℕ
+  pub room : ℕ
+  pub seals : Bool
+  pub address : Address
 
-abbrev pub recovered : Server → List Record → Server
-recovered s rs = record (fold (rs ++ recovery_records s)) { share = s.share; room = s.room; seals = s.seals; address = s.address; journal = s.journal + entry_bytes (recovery_records s) }
+-- an Epoch record is written, and in a journal of version 1 the Version record too, in the same body
+abbrev pub opening_records : Server → List Record
+opening_records d = if d.version == 1 then VersionRecord 2 ∷ EpochRecord (d.epoch + 1) ∷ [] else EpochRecord (d.epoch + 1) ∷ []
+
+-- what a recovery adds to the records of its disk
+abbrev pub recovery_records : List Record → List Record
+recovery_records rs = opening_records (fold rs)
+
+-- recovery: nothing but the configuration, the disk's bytes and its records decide where a server stands
+abbrev pub recovered : Configuration → ℕ → List Record → Server
+recovered z bytes rs = record (fold (rs ++ recovery_records rs)) { share = z.share; room = z.room; seals = z.seals; address = z.address; journal = bytes + entry_bytes (recovery_records rs) }
+
+-- behind a server that ran under the same configuration, on the disk that it left
+abbrev pub configuration_of : Server → Configuration
+configuration_of s = record { share = s.share; room = s.room; seals = s.seals; address = s.address }
+
+abbrev pub recovered_from : Server → List Record → Server
+recovered_from s rs = recovered (configuration_of s) s.journal rs
 
 -- ---- the durable part of a state: what a fold of all its records gives, the counters of the epoch aside
 

@@ -7,7 +7,7 @@ use Rattle.exchange_defs.specs.Order.{Log, Said, Says_ok, Says_end, Says_other}
 use Rattle.exchange_defs.specs.Commands.{Command, Aside}
 use Rattle.exchange_defs.specs.State.{Server, Address, Message, Accept, Heard, End, Reply, Body, Empty, Content, Count, Record, Answer}
 use Rattle.exchange_defs.specs.Step.{step}
-use Rattle.exchange_defs.specs.Fold.{recovered, recovery_records, nothing_yet, full_room}
+use Rattle.exchange_defs.specs.Fold.{recovered_from, recovery_records, nothing_yet, full_room}
 use Rattle.exchange_defs.specs.Operations.{Op, OpClose, Unsettled, NoSession, Refusal, HadStatus, is_create, is_firm, weight, charge}
 use Rattle.exchange_defs.specs.Client.{Client, Identity, Stage, Apart, AskedTree, SaidNegotiate, own_message, ask_message, leave_dialog}
 use Rattle.exchange_defs.specs.ClientStep.{Pick, ClientEvent, TakesOp, Pushes, Hears, IsCut, IsReady, IsRefused, Finishes, Act, Sends, Asks, CloseChannel, CloseChannels, client_after, act}
@@ -289,8 +289,8 @@ cut_off w k =
 abbrev pub restarted : World → World
 restarted w =
     record w {
-      server = recovered w.server w.records;
-      records = w.records ++ recovery_records w.server;
+      server = recovered_from w.server w.records;
+      records = w.records ++ recovery_records w.records;
       conns = λ k. server_off (w.conns k);
     }
 
@@ -417,8 +417,8 @@ abbrev pub start : Settings → World
 start z =
     record {
       client = new_client z.who;
-      server = recovered (blank_server z) [];
-      records = recovery_records (blank_server z);
+      server = recovered_from (blank_server z) [];
+      records = recovery_records [];
       moment = 0;
       conns = λ k. no_conn;
       log = record { places = 0; who = λ n. 0; gave = λ n. Says_other; did = λ n. false; bytes = λ c n. []; birth = λ c. 0; first = λ g. None; since = λ g. 0; prior = λ h a. false };

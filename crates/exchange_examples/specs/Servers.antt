@@ -2,11 +2,11 @@
 use Rattle.std.specs.Prelude.{ℕ, zero, suc, ◌+◌, ◌==◌, Bool, true, false, not, ◌&&◌, List, [], ◌∷◌, length, Option, Some, None}
 use Rattle.exchange_defs.specs.Content.{same_bytes}
 use Rattle.exchange_defs.specs.Commands.{Command, Setup, TreeConnect, Shows, Begins, Logon, Create, Durable, Element}
-use Rattle.exchange_defs.specs.State.{Accept, Server, Message, ServerEvent, Heard, Body, Info, Entry, Open, Range, Record}
+use Rattle.exchange_defs.specs.State.{Accept, Server, Message, ServerEvent, Heard, Body, Info, Entry, Open, Range, Record, Origin, EpochRecord, CreateRecord, WriteRecord}
 use Rattle.exchange_defs.specs.Files.{same_basic}
 use Rattle.exchange_defs.specs.Records.{lower_limit}
 use Rattle.exchange_defs.specs.Step.{step}
-use Rattle.exchange_defs.specs.Fold.{fold, durable}
+use Rattle.exchange_defs.specs.Fold.{fold, durable, recovered}
 use Rattle.exchange_defs.specs.Network.{World}
 use Rattle.exchange_defs.specs.Schedules.{Links, course}
 use Rattle.exchange_examples.specs.Scripts.{beginning}
@@ -102,6 +102,26 @@ with_full_journal s = record s { journal = lower_limit }
 
 abbrev pub with_all_marks : Server → Server
 with_all_marks s = record s { mark_count = 65536 }
+
+-- ---- a server that starts on a disk with these records
+
+abbrev pub on_disk : List Record → Server
+on_disk records = recovered (record { share = 100 ∷ []; room = 268435456; seals = true; address = record { ip = 2130706433; port = 445 } }) 100 records
+
+abbrev pub epoch_on : List Record → ℕ
+epoch_on records = (on_disk records).epoch
+
+abbrev pub version_on : List Record → ℕ
+version_on records = (on_disk records).version
+
+abbrev pub its_origin : Origin
+its_origin = record { session = session; connection = 0; message = 5 }
+
+-- a journal of version 1 in which a persistent open made a file, and wrote to it
+abbrev pub first_version_disk : List Record
+first_version_disk =
+    EpochRecord 1 ∷ CreateRecord its_origin 2 1 (97 ∷ []) 0 false 50 (Some (record { id = first_open; client = 7; guid = 5; user = 117 ∷ []; access = 0x183; share = 0; options = 0x40; timeout = 60000 })) ∷
+    WriteRecord its_origin 1 0 60 (104 ∷ 105 ∷ []) ∷ []
 
 -- ---- the journal stands for the state: the fold of a world's records and the world's server agree on what outlives a restart
 

@@ -11,10 +11,11 @@ ghost use Rattle.exchange_defs.specs.CheckOpen.{is_stale, query_interfaces};
 ghost use Rattle.exchange_defs.specs.CheckSetup.{pipes_name};
 ghost use Rattle.exchange_defs.specs.Listing.{matches};
 ghost use Rattle.exchange_defs.specs.Step.{step};
-ghost use Rattle.exchange_defs.specs.Fold.{recovered, recovery_records, with_record, nothing_yet};
+ghost use Rattle.exchange_defs.specs.Effects.{next_open};
+ghost use Rattle.exchange_defs.specs.Fold.{recovered_from, recovery_records, with_record};
 ghost use Rattle.exchange_defs.specs.Schedules.{course, Does, Links, Pushes, Settles as SettlesAll};
 ghost use Rattle.exchange_defs.specs.Network.{Cut, Drop, Open, Restart, Finish, start};
-ghost use Rattle.exchange_examples.specs.Servers.{one_session, session, from_client, ask, after_all, status_after, body_after, records_after, files_after, binding, binding_logon, setup, in_second, second_id, make, by_guid, lock_of, made_info, first_open, second_open, with_full_journal, with_all_marks, second_session, ask_second, reconnect, journal_stands};
+ghost use Rattle.exchange_examples.specs.Servers.{one_session, session, from_client, ask, after_all, status_after, body_after, records_after, files_after, binding, binding_logon, setup, in_second, second_id, make, by_guid, lock_of, made_info, first_open, second_open, with_full_journal, with_all_marks, second_session, ask_second, reconnect, journal_stands, on_disk, epoch_on, version_on, first_version_disk};
 ghost use Rattle.exchange_examples.specs.Laws.{laws_hold};
 ghost use Rattle.exchange_examples.specs.Scripts.{beginning, settings, stranger, worn_out, submit, settled_in, told, note, acted_on, id_told, retried_create, retried_create_until_note, kept_refusal, kept_refusal_until_note, replaced_session, replaced_session_until_note, room_counted_once, room_counted_once_until_note, held_back_write, held_back_write_until_note, held_back_write_until_last, restart_persistent, crash_lost, crash_kept, restart_plain, all_slots_retried, shared_readers, denied_writer, delayed_reconnect, delayed_reconnect_until_note, delayed_reconnect_until_last, expired_open, open_before_expiry, expired_create, first_steps, end_of_file, gaps_are_zeros, listed_names, renamed_and_removed, denied_remover, retry_after_act, retried_close, held_back_end, held_back_end_until_note, refusal_adopts, refusal_adopts_until_note, restart_keeps_locks, restart_keeps_refused_locks, attached_again, plain_open_lost, later_write_waits, retried_overwrite, retried_overwrite_until_note, slot_not_used_again, slot_not_used_again_until_note, retried_rename, retried_rename_until_note, given_up_slots, listings_unheard, listings_heard, listing_asks, is_out_behind, purse_behind};
 
@@ -442,14 +443,28 @@ pub fn told_by_successes_example()
     ensures listing { body_after one_session (ask (make 0x183 7 2 1 None) ∷ []) (ask (ListDirectory first_open 37 true true (42 ∷ []) 200)) ≡ Listing 37 (record { name = 46 ∷ []; info = made_info true 100 } ∷ []) }
     ensures interfaces { body_after one_session [] (ask (Ioctl no_file query_interfaces 152)) ≡ Interfaces (record { ip = 2130706433; port = 445 }) }
     ensures interfaces_of_an_open { body_after one_session (ask (make 0x183 7 2 0x40 None) ∷ []) (ask (Ioctl first_open query_interfaces 152)) ≡ Interfaces (record { ip = 2130706433; port = 445 }) }
-    ensures interfaces_after_a_restart { (recovered one_session []).address ≡ record { ip = 2130706433; port = 445 } }
+    ensures interfaces_after_a_restart { (recovered_from one_session []).address ≡ record { ip = 2130706433; port = 445 } }
 {}
 
 /// A new journal, and one of the first version, gets the Version record and the Epoch record; a later one the Epoch record alone.
 pub fn a_journal_of_the_first_version_example()
-    ensures new { recovery_records nothing_yet ≡ VersionRecord 2 ∷ EpochRecord 1 ∷ [] }
-    ensures later { recovery_records one_session ≡ EpochRecord 2 ∷ [] }
+    ensures new { recovery_records [] ≡ VersionRecord 2 ∷ EpochRecord 1 ∷ [] }
+    ensures first_version { recovery_records (EpochRecord 1 ∷ []) ≡ VersionRecord 2 ∷ EpochRecord 2 ∷ [] }
+    ensures later { recovery_records (VersionRecord 2 ∷ EpochRecord 1 ∷ []) ≡ EpochRecord 2 ∷ [] }
     ensures bytes { (start (settings 268435456)).server.journal ≡ 24 }
+{}
+
+/// A server that starts on a disk stands where its records and what it adds to them lead, and gives no id twice.
+pub fn recovery_reads_the_disk_example()
+    ensures no_records { epoch_on [] ≡ 1 }
+    ensures no_records_version { version_on [] ≡ 2 }
+    ensures one_epoch { epoch_on (EpochRecord 1 ∷ []) ≡ 2 }
+    ensures one_epoch_version { version_on (EpochRecord 1 ∷ []) ≡ 2 }
+    ensures first_version { epoch_on first_version_disk ≡ 2 }
+    ensures first_version_version { version_on first_version_disk ≡ 2 }
+    ensures opens { (on_disk first_version_disk).opens ≡ 4294967297 ∷ [] }
+    ensures next_id { next_open (on_disk first_version_disk) ≡ 8589934593 }
+    ensures content { (on_disk first_version_disk).content 1 ≡ 104 ∷ 105 ∷ [] }
 {}
 
 /// Each script's run keeps the three statements: once, newer, and one connection's order.

@@ -164,7 +164,7 @@ anew_locks c conns s u a C grown r i =
     C i
 
 restarts : (w : World) (a : ℕ → ℕ) → Connections w.client w.conns a → Restarted w.server (restarted w).server → Holds w a → Holds (restarted w) a
-restarts w a C r i = all_dropped_keeps w.client w.conns (restarted w).server a (anew_locks w.client w.conns w.server (restarted w).server a C (more_journal w.server.journal (entry_bytes (recovery_records w.server))) r i)
+restarts w a C r i = all_dropped_keeps w.client w.conns (restarted w).server a (anew_locks w.client w.conns w.server (restarted w).server a C (more_journal w.server.journal (entry_bytes (recovery_records w.records))) r i)
 
 crash_open : (w : World) (a : ℕ → ℕ) (k : ℕ) → Known w a → (may_serve w k ≡ true → Connections (absorb_front w k (w.conns k).up).client (absorb_front w k (w.conns k).up).conns (λ g. if front_acts w (w.conns k).up g then a g + 1 else a g)) → Holds w a → (kept b : Bool) → may_serve w k ≡ b
     → Holds (if b then later (if kept then restarted (absorb_front w k (w.conns k).up) else restarted w) 1 else w) (λ g. if kept && (b && front_acts w (w.conns k).up g) then a g + 1 else a g)

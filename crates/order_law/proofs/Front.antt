@@ -4,7 +4,7 @@ use Rattle.exchange_defs.specs.Status.{success, user_session_deleted, file_close
 use Rattle.exchange_defs.specs.Content.{is_change, is_listed}
 use Rattle.exchange_defs.specs.Commands.{form}
 use Rattle.exchange_defs.specs.State.{Server, Message, Answer}
-use Rattle.exchange_defs.specs.Fold.{recovered}
+use Rattle.exchange_defs.specs.Fold.{recovered_from}
 use Rattle.exchange_defs.specs.CheckSetup.{tree_in, is_new}
 use Rattle.exchange_defs.specs.Table.{is_at}
 use Rattle.exchange_defs.specs.Check.{has_session}
@@ -44,7 +44,7 @@ pub record Lower (w : World) (a : ℕ → ℕ) : Type 0 where
   pub cr : Creates w.client w.conns (seen w.server) a
   pub beyond : Beyond w.client
   pub low : LowSequences w.server
-  pub anew : Restarted w.server (recovered w.server w.records)
+  pub anew : Restarted w.server (recovered_from w.server w.records)
   -- on a tree of the pipes no open is had
   pub disk : (y id o : ℕ) → tree_in (w.server.trees y) id ≡ Some true → w.server.standing o ≡ false
 

@@ -7,7 +7,7 @@ use Rattle.exchange_defs.specs.Ranges.{RangeAnswer, Stands, Denied, change_range
 use Rattle.exchange_defs.specs.Effects.{set_ranges}
 use Rattle.exchange_defs.specs.CheckOpen.{file_of}
 use Rattle.exchange_defs.specs.Step.{step, table, carried_out, expiring, with_deadlines, due, expire, expire_records, connection_of, ruling, ruling_without_room, Ruling, Says, TakesIn, TurnsAway, TakesOut, TakesAllOut, max_connections, max_marks}
-use Rattle.exchange_defs.specs.Fold.{fold, fold_from, with_record, begin_epoch, sweep, set_version, restore, created_file, lock_granted, shut_recorded, recovered, recovery_records, nothing_yet, may_create, may_have_open, is_file, may_rename, may_remove}
+use Rattle.exchange_defs.specs.Fold.{fold, fold_from, with_record, begin_epoch, sweep, set_version, restore, created_file, lock_granted, shut_recorded, recovered_from, recovery_records, nothing_yet, may_create, may_have_open, is_file, may_rename, may_remove, opening_records}
 use Rattle.exchange_defs.specs.Status.{success}
 use Rattle.exchange_defs.specs.Content.{is_empty}
 use Rattle.exchange_defs.specs.Commands.{all_lock, all_unlock}
@@ -126,9 +126,9 @@ unfolding fold_from
 blank_fold [] s b = b
 blank_fold (r ∷ rs) s b = blank_fold rs (with_record s r) (blank_record s r b)
 
-pub blank_recovered : (s : Server) (rs : List Record) → Blank (recovered s rs)
+pub blank_recovered : (s : Server) (rs : List Record) → Blank (recovered_from s rs)
 blank_recovered s rs =
-    let b = blank_fold (rs ++ recovery_records s) nothing_yet (record { present = λ x. refl; at = λ o. refl; sequence = λ o. refl }) in
+    let b = blank_fold (rs ++ recovery_records rs) nothing_yet (record { present = λ x. refl; at = λ o. refl; sequence = λ o. refl }) in
     record { present = b.present; at = b.at; sequence = b.sequence }
 
 -- the next epoch's ids are above those of the one before
@@ -143,17 +143,17 @@ epoch_begun s n e = grind arith
 version_epoch : (s : Server) (n : ℕ) → (set_version s n).epoch ≡ s.epoch
 version_epoch s n = either (λ (t : Server). t.epoch ≡ s.epoch) ((n == 2) && (s.version == 1)) _ _ (λ _. refl) (λ _. refl)
 
-recorded_epoch : (s d : Server) → d.epoch ≡ s.epoch → (fold_from d (recovery_records s)).epoch ≡ s.epoch + 1
+recorded_epoch : (d : Server) → (fold_from d (opening_records d)).epoch ≡ d.epoch + 1
 unfolding fold_from
-recorded_epoch s d e =
-    either (λ (rs : List Record). (fold_from d rs).epoch ≡ s.epoch + 1) (s.version == 1) (VersionRecord 2 ∷ EpochRecord (s.epoch + 1) ∷ []) (EpochRecord (s.epoch + 1) ∷ [])
-    (λ _. let v = version_epoch d 2 in epoch_begun (set_version d 2) (s.epoch + 1) (grind arith)) (λ _. epoch_begun d (s.epoch + 1) (grind arith))
+recorded_epoch d =
+    either (λ (rs : List Record). (fold_from d rs).epoch ≡ d.epoch + 1) (d.version == 1) (VersionRecord 2 ∷ EpochRecord (d.epoch + 1) ∷ []) (EpochRecord (d.epoch + 1) ∷ [])
+    (λ _. let v = version_epoch d 2 in epoch_begun (set_version d 2) (d.epoch + 1) (grind arith)) (λ _. epoch_begun d (d.epoch + 1) refl)
 
-pub recovered_epoch : (s : Server) (rs : List Record) → (fold rs).epoch ≡ s.epoch → (recovered s rs).epoch ≡ s.epoch + 1
-recovered_epoch s rs e = ap (λ (t : Server). t.epoch) (fold_more rs (recovery_records s) nothing_yet) ∙ recorded_epoch s (fold rs) e
+pub recovered_epoch : (s : Server) (rs : List Record) → (fold rs).epoch ≡ s.epoch → (recovered_from s rs).epoch ≡ s.epoch + 1
+recovered_epoch s rs e = ap (λ (t : Server). t.epoch) (fold_more rs (recovery_records rs) nothing_yet) ∙ (recorded_epoch (fold rs) ∙ ap (λ n. n + 1) e)
 
-pub recovered_ids : (s : Server) (rs : List Record) → (fold rs).epoch ≡ s.epoch → s.given ≤ max_ids → id_of s.epoch s.given ≤ id_of (recovered s rs).epoch (recovered s rs).given
-recovered_ids s rs e l = let n = recovered_epoch s rs e in above s.epoch s.given (recovered s rs).epoch (recovered s rs).given n l
+pub recovered_ids : (s : Server) (rs : List Record) → (fold rs).epoch ≡ s.epoch → s.given ≤ max_ids → id_of s.epoch s.given ≤ id_of (recovered_from s rs).epoch (recovered_from s rs).given
+recovered_ids s rs e l = let n = recovered_epoch s rs e in above s.epoch s.given (recovered_from s rs).epoch (recovered_from s rs).given n l
   where
     above : (epoch given next more : ℕ) → next ≡ epoch + 1 → given ≤ max_ids → id_of epoch given ≤ id_of next more
     above epoch given next more n l = omega (arith, n, l)

@@ -1,7 +1,7 @@
 -- Each event keeps what holds of the bytes under opens, and so does each run.
 use Rattle.std.proofs.Common.{eqb-true, ◌≡◌, ℕ, ◌+◌, ◌≤◌, ◌==◌, Bool, true, false, not, ◌&&◌, if◌then◌else◌, List, [], ◌∷◌, refl, arith, sym, subst, ◌∙◌, ap, Some, slice_get}
 use Rattle.exchange_defs.specs.Table.{put, is_filled}
-use Rattle.exchange_defs.specs.Fold.{fold_from, sweep, recovered}
+use Rattle.exchange_defs.specs.Fold.{fold_from, sweep, recovered_from}
 use Rattle.exchange_defs.specs.Texts.{same_name}
 use Rattle.exchange_defs.specs.CheckSetup.{pipes_name}
 use Rattle.exchange_defs.specs.Operations.{NoSession}
@@ -35,7 +35,7 @@ use Rattle.order_law.proofs.Newer.{newest}
 
 -- a server that would start anew from its records
 abbrev Anew : World → Type 0
-Anew w = Fits w.server × Restarted w.server (recovered w.server w.records)
+Anew w = Fits w.server × Restarted w.server (recovered_from w.server w.records)
 
 -- how often each operation acted where the front is taken
 abbrev Behind : World → (ℕ → ℕ) → List Sent → ℕ → ℕ

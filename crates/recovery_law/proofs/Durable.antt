@@ -5,7 +5,7 @@ use Rattle.exchange_defs.specs.State.{Server, Open, Kept, Record, VersionRecord,
 use Rattle.exchange_defs.specs.Files.{remove_file}
 use Rattle.exchange_defs.specs.Records.{entry_bytes}
 use Rattle.exchange_defs.specs.Opens.{goes, without_gone}
-use Rattle.exchange_defs.specs.Fold.{nothing_yet, no_open, full_room, persistent_in, stays, stays_by_guid, ranges_that_stay, durable, fold, fold_from, sweep, begin_epoch, set_version, recovery_records, recovered}
+use Rattle.exchange_defs.specs.Fold.{nothing_yet, no_open, full_room, persistent_in, stays, stays_by_guid, ranges_that_stay, durable, fold, fold_from, sweep, begin_epoch, set_version, recovery_records, recovered_from, opening_records}
 use Rattle.server_law.specs.Fits.{Listed}
 use Rattle.server_law.proofs.Logic.{either, both, back_of}
 use Rattle.recovery_law.specs.Recovers.{staying, kept_ranges, kept_guid, Opens, Mirrors, Recovers}
@@ -111,7 +111,7 @@ own_epoch d number h =
 own_version : (d : Server) (number : ℕ) → Own d → Own (set_version d number)
 own_version d number h = either (λ x. Own x) ((number == 2) && (d.version == 1)) (record d { version = 2 }) d (λ _. h) (λ _. h)
 
-own_recovered : (d s : Server) → Own d → Own (fold_from d (recovery_records s))
+own_recovered : (d s : Server) → Own d → Own (fold_from d (opening_records s))
 unfolding fold_from
 own_recovered d s h =
     either (λ rs. Own (fold_from d rs)) (s.version == 1) (VersionRecord 2 ∷ EpochRecord (s.epoch + 1) ∷ []) (EpochRecord (s.epoch + 1) ∷ [])
@@ -125,7 +125,7 @@ configured d s journal h fits = (
   record { version = refl; epoch = refl; given = omega arith; full = h.1; room = fits; marks = refl; mark_count = refl },
 )
 
-pub restarts : (s : Server) (rs : List Record) → Listed s → Recovers rs s → Recovers (rs ++ recovery_records s) (recovered s rs)
+pub restarts : (s : Server) (rs : List Record) → Listed s → Recovers rs s → Recovers (rs ++ recovery_records rs) (recovered_from s rs)
 restarts s rs l h =
-    configured (fold (rs ++ recovery_records s)) s (s.journal + entry_bytes (recovery_records s))
-    (subst (λ (x : Server). Own x) (sym (fold_append nothing_yet rs (recovery_records s))) (own_recovered (fold rs) s (mirrors_itself (fold rs) s l h.1, h.2.full))) h.2.room
+    configured (fold (rs ++ recovery_records rs)) s (s.journal + entry_bytes (recovery_records rs))
+    (subst (λ (x : Server). Own x) (sym (fold_append nothing_yet rs (recovery_records rs))) (own_recovered (fold rs) (fold rs) (mirrors_itself (fold rs) s l h.1, h.2.full))) h.2.room

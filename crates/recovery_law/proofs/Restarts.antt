@@ -11,7 +11,7 @@ use Rattle.exchange_defs.specs.Opens.{id_of, max_ids, opens_in, file_has_open, d
 use Rattle.exchange_defs.specs.CheckOpen.{target_of, file_of, is_slot}
 use Rattle.exchange_defs.specs.Effects.{keep_slot, set_ranges}
 use Rattle.exchange_defs.specs.Step.{add_mark, max_marks}
-use Rattle.exchange_defs.specs.Fold.{nothing_yet, with_record, fold_from, fold, sweep, begin_epoch, set_version, may_create, may_have_open, restore, created_file, is_file, may_rename, may_remove, lock_granted, lock_recorded, shut_recorded, recovery_records, recovered}
+use Rattle.exchange_defs.specs.Fold.{nothing_yet, with_record, fold_from, fold, sweep, begin_epoch, set_version, may_create, may_have_open, restore, created_file, is_file, may_rename, may_remove, lock_granted, lock_recorded, shut_recorded, recovery_records, recovered_from, opening_records}
 use Rattle.server_law.proofs.Logic.{either, both}
 use Rattle.recovery_law.specs.Recovers.{staying, kept_guid, Files, Opens, Recovers}
 use Rattle.recovery_law.specs.Restarted.{Bare, Restarted, EntriesLeft}
@@ -233,20 +233,23 @@ version_raised s number =
     })
     (λ _. record { carried = carries_itself s; epoch = refl })
 
-recovers_epoch : (d s : Server) → d.epoch ≡ s.epoch → NextEpoch d (fold_from d (recovery_records s)) (s.epoch + 1)
+recovers_epoch : (d : Server) → NextEpoch d (fold_from d (opening_records d)) (d.epoch + 1)
 unfolding fold_from
-recovers_epoch d s e =
+recovers_epoch d =
     let r = version_raised d 2 in
-    either (λ rs. NextEpoch d (fold_from d rs) (s.epoch + 1)) (s.version == 1) (VersionRecord 2 ∷ EpochRecord (s.epoch + 1) ∷ []) (EpochRecord (s.epoch + 1) ∷ [])
-    (λ _. epoch_begins d (set_version d 2) (s.epoch + 1) (sym (ap (λ n. n + 1) (r.epoch ∙ e))) r.carried)
-    (λ _. epoch_begins d d (s.epoch + 1) (sym (ap (λ n. n + 1) e)) (carries_itself d))
+    either (λ rs. NextEpoch d (fold_from d rs) (d.epoch + 1)) (d.version == 1) (VersionRecord 2 ∷ EpochRecord (d.epoch + 1) ∷ []) (EpochRecord (d.epoch + 1) ∷ [])
+    (λ _. epoch_begins d (set_version d 2) (d.epoch + 1) (sym (ap (λ n. n + 1) r.epoch)) r.carried)
+    (λ _. epoch_begins d d (d.epoch + 1) refl (carries_itself d))
+
+recovers_next : (d : Server) (n : ℕ) → d.epoch ≡ n → NextEpoch d (fold_from d (opening_records d)) (n + 1)
+recovers_next d n e = subst (λ i. NextEpoch d (fold_from d (opening_records d)) (i + 1)) e (recovers_epoch d)
 
 -- ---- the restart
 
-pub restarted : (s : Server) (rs : List Record) → Recovers rs s → Restarted s (recovered s rs)
+pub restarted : (s : Server) (rs : List Record) → Recovers rs s → Restarted s (recovered_from s rs)
 restarted s rs h =
-    let all = subst (λ (x : Server). NextEpoch (fold rs) x (s.epoch + 1)) (sym (fold_append nothing_yet rs (recovery_records s))) (recovers_epoch (fold rs) s h.2.epoch) in
-    let c = all.carried in let b = bare_fold (rs ++ recovery_records s) in
+    let all = subst (λ (x : Server). NextEpoch (fold rs) x (s.epoch + 1)) (sym (fold_append nothing_yet rs (recovery_records rs))) (recovers_next (fold rs) s.epoch h.2.epoch) in
+    let c = all.carried in let b = bare_fold (rs ++ recovery_records rs) in
     record {
       epoch = all.epoch;
       given = all.given;
@@ -285,18 +288,18 @@ stays_unmarked m o e = grind arith
 stays_opened : (m o : Bool) → o ≡ true → (m && not o) ≡ false
 stays_opened m o e = grind arith
 
-left_from : (d s : Server) → Listed s → Files d s → Opens d s → EntriesLeft s (fold_from d (recovery_records s))
+left_from : (d s : Server) → Listed s → Files d s → Opens d s → EntriesLeft s (fold_from d (opening_records d))
 left_from d s l f h =
     record {
-      were = λ g e. let t = left_behind d s g e in (ap (λ es. exists_in es g) (sym f.entries) ∙ t.0, t.1 ∙ ap (λ es. path_in es g) f.entries);
-      unmarked = λ g m. held_behind d s g (stays_unmarked (d.marked g) (file_has_open d g) (ap (λ (x : ℕ → Bool). x g) f.marked ∙ m)) ∙ ap (λ es. exists_in es g) f.entries;
+      were = λ g e. let t = left_behind d d g e in (ap (λ es. exists_in es g) (sym f.entries) ∙ t.0, t.1 ∙ ap (λ es. path_in es g) f.entries);
+      unmarked = λ g m. held_behind d d g (stays_unmarked (d.marked g) (file_has_open d g) (ap (λ (x : ℕ → Bool). x g) f.marked ∙ m)) ∙ ap (λ es. exists_in es g) f.entries;
       held = λ o stays. let g = (s.opened o).file in
-          held_behind d s g (stays_opened (d.marked g) (file_has_open d g) (open_there d s o l h stays)) ∙ ap (λ es. exists_in es g) f.entries;
+          held_behind d d g (stays_opened (d.marked g) (file_has_open d g) (open_there d s o l h stays)) ∙ ap (λ es. exists_in es g) f.entries;
     }
 
-pub entries_left : (s : Server) (rs : List Record) → Listed s → Recovers rs s → EntriesLeft s (recovered s rs)
+pub entries_left : (s : Server) (rs : List Record) → Listed s → Recovers rs s → EntriesLeft s (recovered_from s rs)
 entries_left s rs l h =
-    let t = subst (λ (x : Server). EntriesLeft s x) (sym (fold_append nothing_yet rs (recovery_records s))) (left_from (fold rs) s l h.0 h.1) in
+    let t = subst (λ (x : Server). EntriesLeft s x) (sym (fold_append nothing_yet rs (recovery_records rs))) (left_from (fold rs) s l h.0 h.1) in
     record { were = t.were; unmarked = t.unmarked; held = t.held }
 
 -- ---- what the laws above ask of it

@@ -6,7 +6,7 @@
 #![tactic(auto)]
 
 ghost use Rattle.std.specs.Prelude.{List};
-ghost use Rattle.exchange_defs.specs.Fold.{StandsFor, recovered};
+ghost use Rattle.exchange_defs.specs.Fold.{StandsFor, recovered_from};
 ghost use Rattle.exchange_defs.specs.Network.{Event, Settings, run, start};
 ghost use Rattle.recovery_law.specs.Recovers.{Recovers};
 ghost use Rattle.recovery_law.specs.Restarted.{EntriesLeft, Restarted};
@@ -18,6 +18,6 @@ ghost use Rattle.recovery_law.specs.Restarted.{EntriesLeft, Restarted};
 pub fn recovery_law()
     ensures stands { (settings : Settings) (events : List Event) → StandsFor (run events (start settings)).records (run events (start settings)).server }
     ensures agree { (settings : Settings) (events : List Event) → Recovers (run events (start settings)).records (run events (start settings)).server }
-    ensures restart { (settings : Settings) (events : List Event) → Restarted (run events (start settings)).server (recovered (run events (start settings)).server (run events (start settings)).records) }
-    ensures entries { (settings : Settings) (events : List Event) → EntriesLeft (run events (start settings)).server (recovered (run events (start settings)).server (run events (start settings)).records) }
+    ensures restart { (settings : Settings) (events : List Event) → Restarted (run events (start settings)).server (recovered_from (run events (start settings)).server (run events (start settings)).records) }
+    ensures entries { (settings : Settings) (events : List Event) → EntriesLeft (run events (start settings)).server (recovered_from (run events (start settings)).server (run events (start settings)).records) }
 {}

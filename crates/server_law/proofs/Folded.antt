@@ -13,7 +13,7 @@ use Rattle.exchange_defs.specs.Opens.{id_of, max_ids, drop_open, file_has_open, 
 use Rattle.exchange_defs.specs.CheckOpen.{target_of, file_of}
 use Rattle.exchange_defs.specs.Records.{entry_bytes}
 use Rattle.exchange_defs.specs.Step.{max_marks}
-use Rattle.exchange_defs.specs.Fold.{nothing_yet, full_room, sweep, begin_epoch, may_make, may_restore, may_have_open, may_create, restored_row, restore, created_file, is_file, same_target, may_replace, may_rename, may_remove, lock_granted, lock_recorded, shut_recorded, with_record, fold_from, fold, recovery_records, recovered}
+use Rattle.exchange_defs.specs.Fold.{nothing_yet, full_room, sweep, begin_epoch, may_make, may_restore, may_have_open, may_create, restored_row, restore, created_file, is_file, same_target, may_replace, may_rename, may_remove, lock_granted, lock_recorded, shut_recorded, with_record, fold_from, fold, recovery_records, recovered_from, opening_records}
 use Rattle.server_law.specs.Fits.{Fits, Listed, is_sound, all_sound, keeps_root}
 use Rattle.server_law.proofs.Logic.{either, front_of, back_of, both, not_true, none_of}
 use Rattle.server_law.proofs.Lists.{exists-pushed}
@@ -243,12 +243,12 @@ nothing_fits =
       room = omega arith;
     }
 
-pub sound_recovery : (s : Server) → all_sound (recovery_records s) ≡ true
+pub sound_recovery : (s : Server) → all_sound (opening_records s) ≡ true
 unfolding all_sound
 sound_recovery s = either (λ rs. all_sound rs ≡ true) (s.version == 1) _ _ (λ _. refl) (λ _. refl)
 
 -- a server that stands at the fold of its records, under a configuration with no more than the full room
-pub recovered_fits : (s : Server) (rs : List Record) → s.room ≤ full_room → all_sound rs ≡ true → Fits (recovered s rs)
+pub recovered_fits : (s : Server) (rs : List Record) → s.room ≤ full_room → all_sound rs ≡ true → Fits (recovered_from s rs)
 recovered_fits s rs small sound =
-    configured_keeps (fold (rs ++ recovery_records s)) s.share s.room s.seals s.address (s.journal + entry_bytes (recovery_records s)) small
-    (folded_keeps nothing_yet (rs ++ recovery_records s) (sound_more rs (recovery_records s) sound (sound_recovery s)) nothing_fits)
+    configured_keeps (fold (rs ++ recovery_records rs)) s.share s.room s.seals s.address (s.journal + entry_bytes (recovery_records rs)) small
+    (folded_keeps nothing_yet (rs ++ recovery_records rs) (sound_more rs (recovery_records rs) sound (sound_recovery (fold rs))) nothing_fits)

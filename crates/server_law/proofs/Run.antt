@@ -2,7 +2,7 @@
 use Rattle.std.proofs.Common.{◌≡◌, ℕ, ◌≤◌, min, Bool, true, false, List, [], ◌∷◌, ◌++◌, arith}
 use Rattle.exchange_defs.specs.Commands.{Command, Unreadable, Aside, Setup, Logoff, TreeConnect, TreeDisconnect, Create, Close, Flush, Read, Write, Lock, Ioctl, ListDirectory, QueryFile, QueryVolume, SetInfo}
 use Rattle.exchange_defs.specs.State.{Server, Message, Accept, Heard, End, Answer, Reply}
-use Rattle.exchange_defs.specs.Fold.{recovery_records, full_room}
+use Rattle.exchange_defs.specs.Fold.{recovery_records, full_room, fold}
 use Rattle.exchange_defs.specs.Step.{step}
 use Rattle.exchange_defs.specs.Client.{Client}
 use Rattle.exchange_defs.specs.ClientStep.{Act, Nothing, Sends, Asks, CloseChannels, AllSettled, CloseChannel, IsReady, act}
@@ -52,7 +52,7 @@ serves w k (x ∷ rest) i = with_good w (answer w x) i.1 (answered w.server w.mo
 -- ---- Restart and Crash
 
 restarts : (w : World) → Holds w → Holds (restarted w)
-restarts w i = (recovered_fits w.server w.records i.0.room i.1, sound_more w.records (recovery_records w.server) i.1 (sound_recovery w.server))
+restarts w i = (recovered_fits w.server w.records i.0.room i.1, sound_more w.records (recovery_records w.records) i.1 (sound_recovery (fold w.records)))
 
 crashes : (w : World) (k : ℕ) (kept : Bool) → Holds w → Holds (crashed w k kept)
 crashes w k true i = restarts (absorb_front w k (w.conns k).up) (absorbs w k (w.conns k).up i)
@@ -130,7 +130,7 @@ room_within : (n : ℕ) → min n full_room ≤ full_room
 room_within n = omega arith
 
 begins : (z : Settings) → Holds (start z)
-begins z = (recovered_fits (blank_server z) [] (room_within z.room) sound_none, sound_recovery (blank_server z))
+begins z = (recovered_fits (blank_server z) [] (room_within z.room) sound_none, sound_recovery (fold []))
 
 pub holds : (z : Settings) (es : List Event) → Holds (run es (start z))
 holds z es = always es (start z) (begins z)

@@ -19,7 +19,7 @@ never b e f P = absurd (cc)
 not_made : (y : ℕ) (s : Server) (k : ℕ) → s.making k ≡ None → is_new y (s.making k) ≡ true → (P : Type 0) → P
 not_made y s k e h P = absurd (grind arith)
 
-begins_new : (z : Settings) → Anew z.who.guid (logon_user z.who.logon) 1 (fold (recovery_records (blank_server z)))
+begins_new : (z : Settings) → Anew z.who.guid (logon_user z.who.logon) 1 (fold (recovery_records []))
 begins_new z = anew z.who.guid (logon_user z.who.logon) (blank_server z) [] (folds_nothing z.who.guid (logon_user z.who.logon))
 
 sits_at_first : (z : Settings) (s : Server) → ((x : ℕ) → s.present x ≡ false) → ((k : ℕ) → s.making k ≡ None) → ((o : ℕ) → s.standing o ≡ true → (s.opened o).user ≡ logon_user z.who.logon × (s.opened o).client ≡ z.who.guid)

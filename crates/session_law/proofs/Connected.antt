@@ -6,7 +6,7 @@ use Rattle.exchange_defs.specs.Opens.{id_of, max_ids}
 use Rattle.exchange_defs.specs.Effects.{end_if_named}
 use Rattle.exchange_defs.specs.Records.{fits, origin_at}
 use Rattle.exchange_defs.specs.Step.{step, table, expiring, with_deadlines, due, expire, expire_records, connection_of, max_marks, Ruling, TakesIn, TurnsAway, TakesOut, ruling, ruling_without_room, carried_out, ends_with, take_out}
-use Rattle.exchange_defs.specs.Fold.{fold, recovered, recovery_records}
+use Rattle.exchange_defs.specs.Fold.{fold, recovered_from, recovery_records}
 use Rattle.exchange_defs.specs.Client.{Client}
 use Rattle.server_law.proofs.Doors.{Before}
 use Rattle.server_law.proofs.Logic.{either}
@@ -121,9 +121,9 @@ never b e f P = absurd (cc)
 none_made : (k y : ℕ) (f : ℕ → Option Making) → f k ≡ None → is_new y (f k) ≡ true → (P : Type 0) → P
 none_made k y f e h P = absurd (grind arith)
 
-pub moves_restart : (c : Client) (s : Server) (rs : List Record) → s.begun ≤ max_ids → Folds c.who.guid (logon_user c.who.logon) s.epoch (fold rs) → Moves c s (recovered s rs)
+pub moves_restart : (c : Client) (s : Server) (rs : List Record) → s.begun ≤ max_ids → Folds c.who.guid (logon_user c.who.logon) s.epoch (fold rs) → Moves c s (recovered_from s rs)
 moves_restart c s rs l f =
-    let a = anew c.who.guid (logon_user c.who.logon) s rs f in let d = fold (rs ++ recovery_records s) in
+    let a = anew c.who.guid (logon_user c.who.logon) s rs f in let d = fold (rs ++ recovery_records rs) in
     record {
       present = λ x r p. never (d.present x) (a.folds.present x) p _;
       users = λ x p. never (d.present x) (a.folds.present x) p _;

@@ -11,7 +11,7 @@ use Rattle.exchange_defs.specs.Client.{Client, Stage, Apart, SaidNegotiate, Said
 use Rattle.exchange_defs.specs.Settling.{Heard as Hearing, Settles, GoesAgain, Attaches, EndsSession, heard, hear, is_awaited, answered}
 use Rattle.exchange_defs.specs.Dialogs.{DialogStep, GoesOn, Accepts, Binds, Readies, Refuses, dialog_step, dialog_message, stage_command, went_on, accepted}
 use Rattle.exchange_defs.specs.ClientStep.{Pick, Act, Nothing, CloseChannels, Sends, Asks, AllSettled, pick_after, pick_act, act_heard, cut_act, cut_after, some_unsettled, IsReady, CloseChannel}
-use Rattle.exchange_defs.specs.Fold.{fold, recovered, recovery_records}
+use Rattle.exchange_defs.specs.Fold.{fold, recovered_from, recovery_records}
 use Rattle.exchange_defs.specs.Step.{step}
 use Rattle.exchange_defs.specs.Network.{World, Event, Submit, Open, Push, Serve, Take, Cut, Drop, Restart, Crash, Wait, Finish, Settings, Conn, Sent, Received, Token, ForDialog, ForOp, ForAttach, fresh, happens, run, start, changed, later, is_possible, pushed_by, send_up, answer, absorbed, say_down, serve_front, absorb_front, behind_front, take_reply, behind_reply, took_by, dialog_sent, dialog_took, op_took, closed_by, cut_by, client_off, server_off, with_client, restarted, blank_server, dialog_ended}
 use Rattle.exchange_law.proofs.Lists.{get-push, rest_of}
@@ -217,10 +217,10 @@ absorbs share w k h (x ∷ rest) is = absorbs_front share w k x rest is h
 
 -- ---- Restart and Crash
 
-restarted_sorted : (kind : Bool) (s : Server) (rs : List Record) → Bare kind s.epoch rs → NoTrees (recovered s rs) → ((x : ℕ) → (fold (rs ++ recovery_records s)).present x ≡ false) → Sorted kind (recovered s rs)
+restarted_sorted : (kind : Bool) (s : Server) (rs : List Record) → Bare kind s.epoch rs → NoTrees (recovered_from s rs) → ((x : ℕ) → (fold (rs ++ recovery_records rs)).present x ≡ false) → Sorted kind (recovered_from s rs)
 restarted_sorted kind s rs b none absent = (
   λ x id p h. no_tree kind p (sym (ap (λ ts. tree_in ts id) (none x (absent x))) ∙ h),
-  bare_opens kind (fold (rs ++ recovery_records s)).epoch (rs ++ recovery_records s) (bare_anew kind s rs b),
+  bare_opens kind (fold (rs ++ recovery_records rs)).epoch (rs ++ recovery_records rs) (bare_anew kind s rs b),
 )
   where
     no_tree : (kind p : Bool) → None ≡ Some p → p ≡ kind

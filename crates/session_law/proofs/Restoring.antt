@@ -33,7 +33,7 @@ Bare kind epoch rs = kind ≡ true → (g : ℕ) → Folds g [] epoch (fold rs)
 pub bare_more : (kind : Bool) (epoch n : ℕ) (rs more : List Record) → n ≡ epoch → (kind ≡ true → (g : ℕ) → Clean g [] more) → Bare kind epoch rs → Bare kind n (rs ++ more)
 bare_more kind epoch n rs more e clean b = λ piped g. subst (λ i. Folds g [] i (fold (rs ++ more))) (sym e) (folds_more g [] epoch rs more (clean piped g) (b piped g))
 
-pub bare_anew : (kind : Bool) (s : Server) (rs : List Record) → Bare kind s.epoch rs → Bare kind (fold (rs ++ recovery_records s)).epoch (rs ++ recovery_records s)
+pub bare_anew : (kind : Bool) (s : Server) (rs : List Record) → Bare kind s.epoch rs → Bare kind (fold (rs ++ recovery_records rs)).epoch (rs ++ recovery_records rs)
 bare_anew kind s rs b = λ piped g. let f = (anew g [] s rs (b piped g)).folds in record { epoch = refl; present = f.present; making = f.making; opens = f.opens }
 
 two_clients : (n : ℕ) → n ≡ 0 → n ≡ 1 → (P : Type 0) → P

@@ -11,7 +11,7 @@ use Rattle.exchange_defs.specs.Client.{Client, SaidNegotiate, create_for, guid_f
 use Rattle.exchange_defs.specs.Settling.{Heard as Hearing, Settles, GoesAgain, Attaches, EndsSession, heard, hear, is_awaited, answered}
 use Rattle.exchange_defs.specs.Dialogs.{DialogStep, GoesOn, Accepts, Binds, Readies, Refuses, dialog_step, dialog_message}
 use Rattle.exchange_defs.specs.ClientStep.{Pick, Act, Nothing, CloseChannels, Sends, Asks, pick_after, pick_act, act_heard, some_unsettled, IsReady}
-use Rattle.exchange_defs.specs.Fold.{fold, recovered, recovery_records}
+use Rattle.exchange_defs.specs.Fold.{fold, recovered_from, recovery_records}
 use Rattle.exchange_defs.specs.Step.{step}
 use Rattle.exchange_defs.specs.Network.{opened_by, World, Event, Submit, Open, Push, Serve, Take, Cut, Drop, Restart, Crash, Wait, Finish, Conn, Sent, Received, Token, ForDialog, ForOp, ForAttach, op_of, happens, changed, later, may_open, may_serve, max_channel, pushed_by, answer, absorbed, replied, serve_front, absorb_front, behind_front, take_front, take_reply, took_by, dialog_took, op_took, closed_by, cut_by, with_client, behind_reply, restarted, dialog_ended}
 use Rattle.exchange_law.specs.Connections.{Once, Ready, copies}
@@ -227,8 +227,8 @@ restarts : (w : World) → w.server.begun ≤ max_ids → Holds w → Holds (res
 restarts w low h =
     let guid = w.client.who.guid in let user = logon_user w.client.who.logon in let a = anew guid user w.server w.records h.stored in
     record {
-      sits = all_server_off_keeps w.client w.conns (recovered w.server w.records) (moved_keeps w.client w.conns w.server (recovered w.server w.records) (moves_restart w.client w.server w.records low h.stored) h.sits);
-      stored = renumbered guid user (w.server.epoch + 1) (fold (w.records ++ recovery_records w.server)) a.folds;
+      sits = all_server_off_keeps w.client w.conns (recovered_from w.server w.records) (moved_keeps w.client w.conns w.server (recovered_from w.server w.records) (moves_restart w.client w.server w.records low h.stored) h.sits);
+      stored = renumbered guid user (w.server.epoch + 1) (fold (w.records ++ recovery_records w.records)) a.folds;
     }
 
 -- a served message leaves the server as an absorbed one does

@@ -12,7 +12,7 @@ use Rattle.exchange_defs.specs.Opens.{marked_by, without_gone}
 use Rattle.exchange_defs.specs.CheckOpen.{target_of, file_of}
 use Rattle.exchange_defs.specs.Effects.{keep_slot, set_ranges}
 use Rattle.exchange_defs.specs.Step.{add_mark, max_marks}
-use Rattle.exchange_defs.specs.Fold.{fold, fold_from, with_record, nothing_yet, begin_epoch, set_version, sweep, may_create, may_have_open, restore, restored_row, created_file, is_file, may_rename, may_remove, lock_recorded, lock_granted, shut_recorded, recovery_records}
+use Rattle.exchange_defs.specs.Fold.{fold, fold_from, with_record, nothing_yet, begin_epoch, set_version, sweep, may_create, may_have_open, restore, restored_row, created_file, is_file, may_rename, may_remove, lock_recorded, lock_granted, shut_recorded, recovery_records, opening_records}
 use Rattle.server_law.proofs.Logic.{either}
 use Rattle.session_law.proofs.Columns.{Stays, stays_same, stays_so, stays_marked, stays_dropped, stays_gone, stays_kept, stays_ranged, stays_noted}
 
@@ -163,15 +163,19 @@ begins_anew guid user epoch d f =
     no_other : (a b : ℕ) → b ≡ a → (a + 1 == b + 1) ≡ false → ⊥
     no_other a b e n = grind arith
 
-anew_from : (guid : ℕ) (user : List ℕ) (s d : Server) → Folds guid user s.epoch d → Anew guid user (s.epoch + 1) (fold_from d (recovery_records s))
+anew_at : (guid : ℕ) (user : List ℕ) (d : Server) → Folds guid user d.epoch d → Anew guid user (d.epoch + 1) (fold_from d (opening_records d))
 unfolding fold_from
-anew_from guid user s d f =
-    either (λ rs. Anew guid user (s.epoch + 1) (fold_from d rs)) (s.version == 1) _ _
-    (λ _. begins_anew guid user s.epoch (set_version d 2) (fold_stays guid user s.epoch d (set_version d 2) (stays_version d 2) f))
-    (λ _. begins_anew guid user s.epoch d f)
+anew_at guid user d f =
+    either (λ rs. Anew guid user (d.epoch + 1) (fold_from d rs)) (d.version == 1) _ _
+    (λ _. begins_anew guid user d.epoch (set_version d 2) (fold_stays guid user d.epoch d (set_version d 2) (stays_version d 2) f))
+    (λ _. begins_anew guid user d.epoch d f)
 
-pub anew : (guid : ℕ) (user : List ℕ) (s : Server) (rs : List Record) → Folds guid user s.epoch (fold rs) → Anew guid user (s.epoch + 1) (fold (rs ++ recovery_records s))
-anew guid user s rs f = subst (λ d. Anew guid user (s.epoch + 1) d) (sym (fold_more nothing_yet rs (recovery_records s))) (anew_from guid user s (fold rs) f)
+anew_from : (guid : ℕ) (user : List ℕ) (epoch : ℕ) (d : Server) → Folds guid user epoch d → Anew guid user (epoch + 1) (fold_from d (opening_records d))
+anew_from guid user epoch d f =
+    subst (λ n. Anew guid user (n + 1) (fold_from d (opening_records d))) f.epoch (anew_at guid user d (record { epoch = refl; present = f.present; making = f.making; opens = f.opens }))
+
+pub anew : (guid : ℕ) (user : List ℕ) (s : Server) (rs : List Record) → Folds guid user s.epoch (fold rs) → Anew guid user (s.epoch + 1) (fold (rs ++ recovery_records rs))
+anew guid user s rs f = subst (λ d. Anew guid user (s.epoch + 1) d) (sym (fold_more nothing_yet rs (recovery_records rs))) (anew_from guid user s.epoch (fold rs) f)
 
 pub folds_nothing : (guid : ℕ) (user : List ℕ) → Folds guid user 0 (fold [])
 unfolding fold_from
