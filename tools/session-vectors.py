@@ -283,7 +283,11 @@ def token_breaks(table, one, first):
         table.row(f"init {broken.hex()}", f"BadTag({place}, {tag})")
     table.row(f"init {(plain[:1] + bytes([0x80]) + plain[2:]).hex()}", "BadLength(1)")
     table.row(f"init {(plain[:1] + bytes([0x85, 0, 0, 0, 0, 28]) + plain[2:]).hex()}", "BadLength(1)")
-    table.row(f"init {(plain + b'1').hex()}", "Trailing(30)")
+    for bytes_of, refusal in (
+            (plain[:29], "Truncated(1)"), (plain[:1], "Truncated(1)"), (b"", "Truncated(0)"), (plain + b"1", "Trailing(30)"),
+            (plain[:3] + b"\7" + plain[4:], "BadLength(3)"), (plain[:9] + b"\3" + plain[10:], "BadTag(9, 3)"),
+            (plain[:11] + b"\x13" + plain[12:], "Truncated(11)"), (plain[:11] + b"\x11" + plain[12:], "Truncated(13)")):
+        table.row(f"init {digits(bytes_of)}", refusal)
     answer = f.resp_token(0)
     table.row(f"resp {(answer + b'12').hex()}", f"Trailing({len(answer)})")
     table.row(f"resp {(answer[:1] + bytes([0x80]) + answer[2:]).hex()}", "BadLength(1)")

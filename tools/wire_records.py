@@ -157,4 +157,4 @@ def refusals(table, records):
 
 def cut_row(table, body, second):
     found = [(0, "read"), (1, "BadRecord(0)"), (second, "read"), (second + 1, f"BadRecord({second})"), (len(body), "read")]
-    table.row(f"cuts {body.hex()}", "cuts: " + ", ".join(f"{length} {word}" for length, word in found))
+    table.row(f"cuts records {body.hex()}", "cuts records: " + ", ".join(f"{length} {word}" for length, word in found))
