@@ -71,7 +71,9 @@ def published(table):
     answer = f.proof(owf, CHALLENGE, blob)
     base = f.hmac_md5(owf, answer)
     assert owf.hex() == "0c868a403bfd7a93a3001ef22ef02e3f" and answer.hex() == "68cd0ab851e51c96aabc927bebef6a1c"
-    assert base.hex() == "8de40ccadbc14a82f15cb0ad0de95ca3" and f.Rc4(base).apply(b"\x55" * 16).hex() == "c5dad2544fc9799094ce1ce90bc9d03e"
+    assert (
+        base.hex() == "8de40ccadbc14a82f15cb0ad0de95ca3" and f.Rc4(base).apply(b"\x55" * 16).hex() == "c5dad2544fc9799094ce1ce90bc9d03e"
+    )
     stream = f.Rc4(f.session_key_of(b"\x55" * 16, True, "sealing"))
     assert stream.apply(utf16("Plaintext")).hex() == "54e50165bf1936dc996020c1811b0f06fb5f"
     assert f.message_signature(b"\x55" * 16, True, True, utf16("Plaintext"), 0, stream).hex() == "010000007fb38ec5c55d497600000000"
@@ -84,12 +86,17 @@ def published(table):
     published_messages(table)
 
 
-PUBLISHED_2 = ("4e544c4d53535000020000000c000c003800000033828ae20123456789abcdef00000000000000002400240044000000060070170000000f"
-               "53006500720076006500720002000c0044006f006d00610069006e0001000c0053006500720076006500720000000000")
-PUBLISHED_3 = ("4e544c4d5353500003000000180018006c00000054005400840000000c000c00480000000800080054000000100010005c00000010001000d8000000"
-               "358288e20501280a0000000f44006f006d00610069006e005500730065007200" "43004f004d0050005500540045005200"
-               "86c35097ac9cec102554764a57cccc19aaaaaaaaaaaaaaaa68cd0ab851e51c96aabc927bebef6a1c01010000000000000000000000000000aaaaaaaaaaaaaaaa"
-               "0000000002000c0044006f006d00610069006e0001000c005300650072007600650072000000000000000000c5dad2544fc9799094ce1ce90bc9d03e")
+PUBLISHED_2 = (
+    "4e544c4d53535000020000000c000c003800000033828ae20123456789abcdef00000000000000002400240044000000060070170000000f"
+    "53006500720076006500720002000c0044006f006d00610069006e0001000c0053006500720076006500720000000000"
+)
+PUBLISHED_3 = (
+    "4e544c4d5353500003000000180018006c00000054005400840000000c000c00480000000800080054000000100010005c00000010001000d8000000"
+    "358288e20501280a0000000f44006f006d00610069006e005500730065007200"
+    "43004f004d0050005500540045005200"
+    "86c35097ac9cec102554764a57cccc19aaaaaaaaaaaaaaaa68cd0ab851e51c96aabc927bebef6a1c01010000000000000000000000000000aaaaaaaaaaaaaaaa"
+    "0000000002000c0044006f006d00610069006e0001000c005300650072007600650072000000000000000000c5dad2544fc9799094ce1ce90bc9d03e"
+)
 
 
 def published_messages(table):
@@ -106,12 +113,27 @@ def type2_shown(flags, challenge, name, info):
 
 
 def type3_shown(m):
-    return Shown("Type3", flags=m.flags, lm=m.lm, nt=m.nt, domain=m.domain, user=m.user, workstation=m.workstation, session_key=m.session_key, mic=m.mic)
+    return Shown(
+        "Type3",
+        flags=m.flags,
+        lm=m.lm,
+        nt=m.nt,
+        domain=m.domain,
+        user=m.user,
+        workstation=m.workstation,
+        session_key=m.session_key,
+        mic=m.mic,
+    )
 
 
 def formulas(table):
     table.title("the formulas on other texts: an empty domain, text beyond ASCII, a long password")
-    for password, user, domain in (("Password", "User", "-"), ("pässwörd", "Bob", "-"), ("\U0001F600key", "admin", "DOMÄNE"), ("x" * 100, "a", "b")):
+    for password, user, domain in (
+        ("Password", "User", "-"),
+        ("pässwörd", "Bob", "-"),
+        ("\U0001F600key", "admin", "DOMÄNE"),
+        ("x" * 100, "a", "b"),
+    ):
         table.row(f"ntowf {password} {user} {domain}", f.ntowf(password, user, "" if domain == "-" else domain).hex())
     messages = [bytes(40), bytes(range(150)), bytes(range(200, 255)) * 5]
     table.row(f"mic {EXPORTED.hex()} " + " ".join(m.hex() for m in messages), f.hmac_md5(EXPORTED, b"".join(messages)).hex())
@@ -119,8 +141,10 @@ def formulas(table):
     for key in (b"\x55" * 16, EXPORTED):
         for side in ("client", "server"):
             for exchanged in ("exchanged", "plain"):
-                table.row(f"list_mic {key.hex()} {side} {exchanged} {listed.hex()}",
-                          f.message_signature(key, side == "client", exchanged == "exchanged", listed).hex())
+                table.row(
+                    f"list_mic {key.hex()} {side} {exchanged} {listed.hex()}",
+                    f.message_signature(key, side == "client", exchanged == "exchanged", listed).hex(),
+                )
 
 
 def server_info():
@@ -136,7 +160,9 @@ def challenge_of(first_flags):
 class Logon:
     """A client's third message to a first one and its challenge."""
 
-    def __init__(self, first=None, flags=CLIENT_FLAGS, user="User", password="Password", domain="", workstation="", told=2, exported=EXPORTED):
+    def __init__(
+        self, first=None, flags=CLIENT_FLAGS, user="User", password="Password", domain="", workstation="", told=2, exported=EXPORTED
+    ):
         self.first = first or f.type1(CLIENT_FLAGS)
         self.second = challenge_of(struct.unpack_from("<I", self.first, 12)[0])
         kept = server_info() + (((6, struct.pack("<I", told)),) if told is not None else ())
@@ -163,14 +189,16 @@ def token_messages(table):
     info = pairs((2, utf16("D")), (7, bytes(8)))
     for name, told, version in ((utf16("SMB311"), info, bytes(8)), (b"", info, bytes(range(8))), (b"", b"", bytes(8))):
         second = f.type2(0x60880215, CHALLENGE, name, told, version)
-        table.row(f"type2 {second.hex()}", type2_shown(0x60880215, CHALLENGE, name, told), f.type2(0x60880215, CHALLENGE, name, told).hex())
+        table.row(
+            f"type2 {second.hex()}", type2_shown(0x60880215, CHALLENGE, name, told), f.type2(0x60880215, CHALLENGE, name, told).hex()
+        )
     third = Logon(domain="WORK", workstation="PC").third
     table.row(f"type3 {third.spelled().hex()}", type3_shown(third), third.spelled().hex())
     token_refusals(table, first, third)
 
 
 def field_set(message, at, length, offset):
-    return message[:at] + struct.pack("<HHI", length, length, offset) + message[at + 8:]
+    return message[:at] + struct.pack("<HHI", length, length, offset) + message[at + 8 :]
 
 
 def token_refusals(table, first, third):
@@ -234,13 +262,19 @@ def word_of(data):
 
 
 def init_row(table, token, listed, ntlm_first, mech_token=None, mic=None):
-    table.row(f"init {token.hex()}", f"list {listed.hex()} ntlm_first {str(ntlm_first).lower()} token {word_of(mech_token)} mic {word_of(mic)}",
-              f.init_token(listed, mech_token, mic).hex())
+    table.row(
+        f"init {token.hex()}",
+        f"list {listed.hex()} ntlm_first {str(ntlm_first).lower()} token {word_of(mech_token)} mic {word_of(mic)}",
+        f.init_token(listed, mech_token, mic).hex(),
+    )
 
 
 def resp_row(table, token, state=None, ntlm=False, inner=None, mic=None):
-    table.row(f"resp {token.hex()}", f"state {'none' if state is None else state} ntlm {str(ntlm).lower()} token {word_of(inner)} mic {word_of(mic)}",
-              f.resp_token(state, f.NTLM_OID if ntlm else None, inner, mic).hex())
+    table.row(
+        f"resp {token.hex()}",
+        f"state {'none' if state is None else state} ntlm {str(ntlm).lower()} token {word_of(inner)} mic {word_of(mic)}",
+        f.resp_token(state, f.NTLM_OID if ntlm else None, inner, mic).hex(),
+    )
 
 
 def tokens(table):
@@ -279,14 +313,20 @@ def token_breaks(table, one, first):
     table.row(f"resp {plain.hex()}", "BadTag(0, 96)")
     table.row(f"init {first.hex()}", "BadTag(0, 78)")
     for place, tag in ((2, 4), (10, 0xA1), (12, 0x31), (14, 0xA5), (16, 0x31), (18, 4)):
-        broken = plain[:place] + bytes([tag]) + plain[place + 1:]
+        broken = plain[:place] + bytes([tag]) + plain[place + 1 :]
         table.row(f"init {broken.hex()}", f"BadTag({place}, {tag})")
     table.row(f"init {(plain[:1] + bytes([0x80]) + plain[2:]).hex()}", "BadLength(1)")
     table.row(f"init {(plain[:1] + bytes([0x85, 0, 0, 0, 0, 28]) + plain[2:]).hex()}", "BadLength(1)")
     for bytes_of, refusal in (
-            (plain[:29], "Truncated(1)"), (plain[:1], "Truncated(1)"), (b"", "Truncated(0)"), (plain + b"1", "Trailing(30)"),
-            (plain[:3] + b"\7" + plain[4:], "BadLength(3)"), (plain[:9] + b"\3" + plain[10:], "BadTag(9, 3)"),
-            (plain[:11] + b"\x13" + plain[12:], "Truncated(11)"), (plain[:11] + b"\x11" + plain[12:], "Truncated(13)")):
+        (plain[:29], "Truncated(1)"),
+        (plain[:1], "Truncated(1)"),
+        (b"", "Truncated(0)"),
+        (plain + b"1", "Trailing(30)"),
+        (plain[:3] + b"\7" + plain[4:], "BadLength(3)"),
+        (plain[:9] + b"\3" + plain[10:], "BadTag(9, 3)"),
+        (plain[:11] + b"\x13" + plain[12:], "Truncated(11)"),
+        (plain[:11] + b"\x11" + plain[12:], "Truncated(13)"),
+    ):
         table.row(f"init {digits(bytes_of)}", refusal)
     answer = f.resp_token(0)
     table.row(f"resp {(answer + b'12').hex()}", f"Trailing({len(answer)})")
@@ -309,9 +349,10 @@ def chains(table):
 def derivations(table):
     table.title("Microsoft's published derivations of SMB 3.0, then those of SMB 3.1.1 (3.1.4.2) for each cipher")
     for key, label, context, answer in (
-            ("b4546771b515f766a86735532dd6c4f0", "SMB2AESCCM", "ServerIn ", "261b72350558f2e9dcf613070383edbf"),
-            ("b4546771b515f766a86735532dd6c4f0", "SMB2AESCCM", "ServerOut", "8fe2b57ec34d2db5b1a9727f526bbdb5"),
-            ("7cd451825d0450d235424e44ba6e78cc", "SMB2AESCMAC", "SmbSign", "0b7e9c5cac36c0f6ea9ab275298cedce")):
+        ("b4546771b515f766a86735532dd6c4f0", "SMB2AESCCM", "ServerIn ", "261b72350558f2e9dcf613070383edbf"),
+        ("b4546771b515f766a86735532dd6c4f0", "SMB2AESCCM", "ServerOut", "8fe2b57ec34d2db5b1a9727f526bbdb5"),
+        ("7cd451825d0450d235424e44ba6e78cc", "SMB2AESCMAC", "SmbSign", "0b7e9c5cac36c0f6ea9ab275298cedce"),
+    ):
         label_bytes, context_bytes = label.encode() + b"\0", context.encode() + b"\0"
         assert f.kdf(bytes.fromhex(key), label_bytes, context_bytes, 128).hex() == answer
         table.row(f"kdf {key} {label_bytes.hex()} {context_bytes.hex()} 128", answer + "00" * 16)
@@ -321,8 +362,10 @@ def derivations(table):
             none = [keys.signing.hex(), keys.to_server.ljust(32, b"\0").hex(), keys.to_client.ljust(32, b"\0").hex()]
             algorithm = 1 + cipher % 2
             if cipher:
-                table.row(f"keys {base.hex()} {words} {cipher} {algorithm} {0x1122334455667788 + cipher}",
-                          f"{none[0]} {algorithm} {none[1]} {none[2]} {cipher} {0x1122334455667788 + cipher}")
+                table.row(
+                    f"keys {base.hex()} {words} {cipher} {algorithm} {0x1122334455667788 + cipher}",
+                    f"{none[0]} {algorithm} {none[1]} {none[2]} {cipher} {0x1122334455667788 + cipher}",
+                )
 
 
 def message_head(response=False, command=9, number=77):
@@ -332,8 +375,19 @@ def message_head(response=False, command=9, number=77):
 def signatures(table):
     table.title("signatures (3.1.4.1), whatever stands in the Signature field: AES-CMAC 1, AES-GMAC 2")
     key = said("16*40")
-    words = ["64*0", "65*1", "80*2", "127*3", "1000*4", "100000*5", message_head(), message_head(response=True) + "+100*6",
-             message_head(command=12, number=2**64 - 1), message_head(response=True, command=12), message_head(number=0) + "+65536*7"]
+    words = [
+        "64*0",
+        "65*1",
+        "80*2",
+        "127*3",
+        "1000*4",
+        "100000*5",
+        message_head(),
+        message_head(response=True) + "+100*6",
+        message_head(command=12, number=2**64 - 1),
+        message_head(response=True, command=12),
+        message_head(number=0) + "+65536*7",
+    ]
     for algorithm in (1, 2):
         for word in words:
             table.row(f"sign {algorithm} {key.hex()} {word}", f.signature(algorithm, key, said(word)).hex())
@@ -358,8 +412,10 @@ def seals(table):
         for place, word in enumerate(words):
             for side in ("client", "server") if place in (0, 2, 7) else ("client" if (place + cipher) % 2 else "server",):
                 nonce = nonce_for(place)
-                table.row(f"seal {cipher} {key_for(cipher).hex()} {session} {side} {nonce.hex()} {word}",
-                          shown(f.sealed(cipher, key_for(cipher), session, nonce, said(word))))
+                table.row(
+                    f"seal {cipher} {key_for(cipher).hex()} {session} {side} {nonce.hex()} {word}",
+                    shown(f.sealed(cipher, key_for(cipher), session, nonce, said(word))),
+                )
     breaks(table, session)
 
 
@@ -382,7 +438,7 @@ def breaks(table, session):
         row(frame[:44] + struct.pack("<Q", session + 1) + frame[52:], f"OtherSession({session + 1})")
         row(frame[:4] + bytes(16) + frame[20:44] + bytes(8) + frame[52:], "OtherSession(0)")
         for place in (4, 19, 20, 30, 40, 42, 52, 115):
-            row(frame[:place] + bytes([frame[place] ^ 1]) + frame[place + 1:], "BadTag")
+            row(frame[:place] + bytes([frame[place] ^ 1]) + frame[place + 1 :], "BadTag")
 
 
 def main():

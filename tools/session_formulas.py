@@ -24,9 +24,11 @@ def md4(message):
     """RFC 1320."""
     state = [0x67452301, 0xEFCDAB89, 0x98BADCFE, 0x10325476]
     padded = message + b"\x80" + bytes((55 - len(message)) % 64) + struct.pack("<Q", 8 * len(message))
-    rounds = ((lambda x, y, z: x & y | ~x & z, 0, range(16), (3, 7, 11, 19)),
-              (lambda x, y, z: x & y | x & z | y & z, 0x5A827999, [i % 4 * 4 + i // 4 for i in range(16)], (3, 5, 9, 13)),
-              (lambda x, y, z: x ^ y ^ z, 0x6ED9EBA1, (0, 8, 4, 12, 2, 10, 6, 14, 1, 9, 5, 13, 3, 11, 7, 15), (3, 9, 11, 15)))
+    rounds = (
+        (lambda x, y, z: x & y | ~x & z, 0, range(16), (3, 7, 11, 19)),
+        (lambda x, y, z: x & y | x & z | y & z, 0x5A827999, [i % 4 * 4 + i // 4 for i in range(16)], (3, 5, 9, 13)),
+        (lambda x, y, z: x ^ y ^ z, 0x6ED9EBA1, (0, 8, 4, 12, 2, 10, 6, 14, 1, 9, 5, 13, 3, 11, 7, 15), (3, 9, 11, 15)),
+    )
     for block in range(0, len(padded), 64):
         words, (a, b, c, d) = struct.unpack_from("<16I", padded, block), state
         for mixed, added, order, turns in rounds:
@@ -124,7 +126,18 @@ def type1(flags, version=bytes(8)):
 
 def type2(flags, challenge, name, info, version=bytes(8)):
     places = fields(b"", 56, [name, info])
-    return b"NTLMSSP\0" + struct.pack("<I", 2) + places[0] + struct.pack("<I", flags) + challenge + bytes(8) + places[1] + version + name + info
+    return (
+        b"NTLMSSP\0"
+        + struct.pack("<I", 2)
+        + places[0]
+        + struct.pack("<I", flags)
+        + challenge
+        + bytes(8)
+        + places[1]
+        + version
+        + name
+        + info
+    )
 
 
 class Type3:
@@ -137,7 +150,15 @@ class Type3:
     def spelled(self):
         parts = [self.lm, self.nt, self.domain, self.user, self.workstation, self.session_key]
         places = fields(b"", 88, parts)
-        return (b"NTLMSSP\0" + struct.pack("<I", 3) + b"".join(places) + struct.pack("<I", self.flags) + self.version + self.mic + b"".join(parts))
+        return (
+            b"NTLMSSP\0"
+            + struct.pack("<I", 3)
+            + b"".join(places)
+            + struct.pack("<I", self.flags)
+            + self.version
+            + self.mic
+            + b"".join(parts)
+        )
 
 
 # ---- SPNEGO (RFC 4178), DER with the shortest lengths
@@ -194,7 +215,7 @@ LONG_KEYS, GCM = (3, 4), (2, 4)
 
 def kdf(key, label, context, bits):
     """SP 800-108 in counter mode with HMAC-SHA256, one block."""
-    return hmac.new(key, b"\0\0\0\1" + label + b"\0" + context + struct.pack(">I", bits), "sha256").digest()[:bits // 8]
+    return hmac.new(key, b"\0\0\0\1" + label + b"\0" + context + struct.pack(">I", bits), "sha256").digest()[: bits // 8]
 
 
 class Keys:

@@ -57,7 +57,11 @@ def judge_name(path):
     if path[0] == "\\":
         raise Refused(INVALID)
     parts = path.split("\\")
-    if any(part in ("", ".", "..") for part in parts) or any(c in '"*/:<>?|' or c < " " for c in path) or len(path.encode("utf-16-le")) > 2048:
+    if (
+        any(part in ("", ".", "..") for part in parts)
+        or any(c in '"*/:<>?|' or c < " " for c in path)
+        or len(path.encode("utf-16-le")) > 2048
+    ):
         raise Refused(NAME_INVALID)
 
 
@@ -122,7 +126,7 @@ class Store:
         old = self.files[number].bytes
         if self.used() - len(old) + max(len(old), at + len(data)) > self.room and at + len(data) > len(old):
             raise Refused(FULL)
-        self.resized(number, old[:at].ljust(at, b"\0") + data + old[at + len(data):], now)
+        self.resized(number, old[:at].ljust(at, b"\0") + data + old[at + len(data) :], now)
 
     def set_end(self, number, length, now):
         old = self.files[number].bytes
@@ -153,7 +157,7 @@ class Store:
             if upper(file.path) == upper(old):
                 file.path = to
             elif is_below(old, file.path):
-                file.path = to + file.path[len(old):]
+                file.path = to + file.path[len(old) :]
 
     def remove(self, number):
         file = self.files[number]
@@ -167,12 +171,16 @@ class Store:
         data = self.files[number].bytes
         if length and at >= len(data):
             raise Refused(PAST_END)
-        return data[at:at + length]
+        return data[at : at + length]
 
     def list(self, number, pattern):
         path = self.files[number].path
-        inside = [(upper(name).encode(), name, other) for other, file in self.files.items() if other != ROOT
-                  and upper(parent_of(file.path)) == upper(path) for name in [file.path.rpartition("\\")[2]]]
+        inside = [
+            (upper(name).encode(), name, other)
+            for other, file in self.files.items()
+            if other != ROOT and upper(parent_of(file.path)) == upper(path)
+            for name in [file.path.rpartition("\\")[2]]
+        ]
         names = [(".", number), ("..", self.find(parent_of(path)))] + [(name, other) for _, name, other in sorted(inside)]
         return [(name, other) for name, other in names if accepts(pattern, name)]
 
@@ -244,7 +252,9 @@ class Caller:
         path, directory, attributes = self.a_path(), self.chance.random() < 0.35, self.chance.choice([0, 0x20, 0x80, 2])
         if self.chance.random() < 0.01:
             path = ""
-        return f"make {shown(path)} {'dir' if directory else 'file'} {attributes} {self.now}", lambda: self.store.make(path, directory, attributes, self.now)
+        return f"make {shown(path)} {'dir' if directory else 'file'} {attributes} {self.now}", lambda: self.store.make(
+            path, directory, attributes, self.now
+        )
 
     def call_write(self):
         number = self.a_number(False)
@@ -252,7 +262,13 @@ class Caller:
             return self.call_make()
         at = self.a_place(len(self.store.files[number].bytes))
         first, kind = self.chance.randrange(256), self.chance.random()
-        count = self.chance.randrange(0, 9) if kind < 0.5 else self.chance.randrange(9, 600) if kind < 0.95 else self.chance.randrange(600, 9000)
+        count = (
+            self.chance.randrange(0, 9)
+            if kind < 0.5
+            else self.chance.randrange(9, 600)
+            if kind < 0.95
+            else self.chance.randrange(600, 9000)
+        )
         data = bytes_of(count, first)
         words = f"{count}*{first}" if count > 8 else data.hex() or "-"
         return f"write {number} {at} {words} {self.now}", lambda: self.store.write(number, at, data, self.now)
@@ -299,11 +315,15 @@ class Caller:
     def call_info(self):
         number = self.a_number()
         file = self.store.files[number]
-        return f"info {number}", " ".join(map(str, ["dir" if file.directory else "file", len(file.bytes), "marked" if file.marked else "kept", *file.basic]))
+        return f"info {number}", " ".join(
+            map(str, ["dir" if file.directory else "file", len(file.bytes), "marked" if file.marked else "kept", *file.basic])
+        )
 
     def call_basic(self):
         number = self.a_number()
-        basic = [self.chance.randrange(2**self.chance.choice([4, 20, 64])) for _ in range(4)] + [self.chance.choice([0, 0x20, 0x80, 0x2022])]
+        basic = [self.chance.randrange(2 ** self.chance.choice([4, 20, 64])) for _ in range(4)] + [
+            self.chance.choice([0, 0x20, 0x80, 0x2022])
+        ]
 
         def act():
             self.store.files[number].basic = basic
@@ -341,9 +361,23 @@ class Caller:
     def weights(self):
         """More removals where there are many files."""
         many = len(self.store.files) > 70
-        return {self.call_find: 9, self.call_make: 8 if many else 14, self.call_write: 17, self.call_end: 6, self.call_rename: 9, self.call_remove: 11 if many else 5,
-                self.call_read: 12, self.call_list: 2, self.call_path: 4, self.call_info: 9, self.call_basic: 2, self.call_mark: 3, self.call_used: 3,
-                self.call_room: 0.6, self.call_files: 0.4}
+        return {
+            self.call_find: 9,
+            self.call_make: 8 if many else 14,
+            self.call_write: 17,
+            self.call_end: 6,
+            self.call_rename: 9,
+            self.call_remove: 11 if many else 5,
+            self.call_read: 12,
+            self.call_list: 2,
+            self.call_path: 4,
+            self.call_info: 9,
+            self.call_basic: 2,
+            self.call_mark: 3,
+            self.call_used: 3,
+            self.call_room: 0.6,
+            self.call_files: 0.4,
+        }
 
     def line(self):
         self.now += self.chance.randrange(1, 5)

@@ -11,12 +11,15 @@ name, and its canonical spelling, or the refusal. A line `cuts` asks for the out
 lengths from which it is another. Lines that begin with `#` are printed as they are.
 """
 import os
+import struct
 import sys
 
+import wire_classes as classes
+import wire_contexts as contexts
 import wire_layouts as layouts
-import wire_parts as parts
-from wire_layouts import HEADER, aligned, packed, snake
-from wire_shown import Shown, shown
+import wire_records as records
+from wire_layouts import HEADER, packed, snake
+from wire_shown import Shown
 
 FILE_ID = bytes(range(1, 17))
 OTHER_ID = bytes(range(0x21, 0x31))
@@ -75,7 +78,7 @@ def refused(table, kind, layout, body, refusal, cut=None):
 
 
 def with_number(body, place, width, number):
-    return body[:place - HEADER] + packed(width, number) + body[place - HEADER + width:]
+    return body[: place - HEADER] + packed(width, number) + body[place - HEADER + width :]
 
 
 def part_refusals(table, kind, layout, value, part):
@@ -159,26 +162,59 @@ PATH = r"\\smb311\data".encode("utf-16-le")
 NAME = "d\\Aé\U0001F600.txt".encode("utf-16-le")
 
 
+def lock_element(offset, length, flags):
+    return struct.pack("<QQII", offset, length, flags, 0)
+
+
 def client_contexts():
-    return parts.negotiate_contexts([(1, parts.hash_data([1], bytes(range(32)))), (2, parts.ids_data([2, 1, 4, 3])), (8, parts.ids_data([1, 2]))])
+    return contexts.negotiate_contexts(
+        [(1, contexts.hash_data([1], bytes(range(32)))), (2, contexts.ids_data([2, 1, 4, 3])), (8, contexts.ids_data([1, 2]))]
+    )
 
 
 def server_contexts():
-    return parts.negotiate_contexts([(1, parts.hash_data([1], bytes(range(64, 96)))), (2, parts.ids_data([2])), (8, parts.ids_data([1]))])
+    return contexts.negotiate_contexts(
+        [(1, contexts.hash_data([1], bytes(range(64, 96)))), (2, contexts.ids_data([2])), (8, contexts.ids_data([1]))]
+    )
 
 
 def session_values():
     hello = {"dialects": packed(2, 0x0311), "negotiate_context_count": 3, "contexts": client_contexts()}
-    usual = {"security_mode": 1, "capabilities": 0x7F, "dialects": b"".join(packed(2, d) for d in (0x202, 0x210, 0x300, 0x302, 0x311)),
-             "negotiate_context_count": 5, "contexts": parts.usual_contexts()}
-    old = {"dialects": packed(2, 0x202) + packed(2, 0x210), "negotiate_context_count": 1, "contexts": parts.negotiate_contexts([(3, bytes(10))])}
-    answer = {"security_mode": 3, "dialect_revision": 0x311, "negotiate_context_count": 3, "capabilities": 0x1C, "max_transact_size": 1048576,
-              "max_read_size": 1048576, "max_write_size": 1048576, "server_start_time": 0, "security": TOKEN, "contexts": server_contexts()}
-    bare = {"security": b"", "negotiate_context_count": 1, "contexts": parts.negotiate_contexts([(1, parts.hash_data([1], bytes(32)))])}
+    usual = {
+        "security_mode": 1,
+        "capabilities": 0x7F,
+        "dialects": b"".join(packed(2, d) for d in (0x202, 0x210, 0x300, 0x302, 0x311)),
+        "negotiate_context_count": 5,
+        "contexts": contexts.usual_contexts(),
+    }
+    old = {
+        "dialects": packed(2, 0x202) + packed(2, 0x210),
+        "negotiate_context_count": 1,
+        "contexts": contexts.negotiate_contexts([(3, bytes(10))]),
+    }
+    answer = {
+        "security_mode": 3,
+        "dialect_revision": 0x311,
+        "negotiate_context_count": 3,
+        "capabilities": 0x1C,
+        "max_transact_size": 1048576,
+        "max_read_size": 1048576,
+        "max_write_size": 1048576,
+        "server_start_time": 0,
+        "security": TOKEN,
+        "contexts": server_contexts(),
+    }
+    bare = {
+        "security": b"",
+        "negotiate_context_count": 1,
+        "contexts": contexts.negotiate_contexts([(1, contexts.hash_data([1], bytes(32)))]),
+    }
     first = {"flags": 0, "security_mode": 1, "capabilities": 0, "channel": 0, "previous_session_id": 0, "security": b"first token"}
     return {
-        "negotiate_request": (hello, usual, old), "negotiate_response": (answer, bare),
-        "session_setup_request": ({"security": b"a token"}, first), "session_setup_response": ({"security": TOKEN}, {"session_flags": 4, "security": b"last"}),
+        "negotiate_request": (hello, usual, old),
+        "negotiate_response": (answer, bare),
+        "session_setup_request": ({"security": b"a token"}, first),
+        "session_setup_response": ({"security": TOKEN}, {"session_flags": 4, "security": b"last"}),
         "tree_connect_request": ({"path": PATH}, {"flags": 0, "path": r"\\s\IPC$".encode("utf-16-le")}),
         "tree_connect_response": ({}, {"share_type": 1, "share_flags": 0, "capabilities": 0x10, "maximal_access": 0x1F01FF}),
         "error_response": ({}, {"error_context_count": 0, "byte_count": 0}),
@@ -186,31 +222,49 @@ def session_values():
 
 
 def file_values():
-    chain = parts.create_chain([(b"DH2Q", parts.dh2q(0, 2, OTHER_ID)), (b"MxAc", b""), (b"QFid", b"")])
-    answers = parts.create_chain([(b"DH2Q", packed(4, 60000) + packed(4, 2)), (b"MxAc", packed(4, 0) + packed(4, 0x1F01FF))])
+    chain = contexts.create_chain([(b"DH2Q", contexts.dh2q(0, 2, OTHER_ID)), (b"MxAc", b""), (b"QFid", b"")])
+    answers = contexts.create_chain([(b"DH2Q", packed(4, 60000) + packed(4, 2)), (b"MxAc", packed(4, 0) + packed(4, 0x1F01FF))])
     root = {"requested_oplock_level": 0, "impersonation_level": 2, "desired_access": 0x81, "name": b"", "contexts": b""}
-    two = parts.lock_element(10, 20, 0x12) + parts.lock_element(2**64 - 1, 1, 4)
+    two = lock_element(10, 20, 0x12) + lock_element(2**64 - 1, 1, 4)
     return {
-        "create_request": ({"name": NAME, "contexts": chain}, {"name": "abcd".encode("utf-16-le")}, {"name": "abcde".encode("utf-16-le")}, root),
+        "create_request": (
+            {"name": NAME, "contexts": chain},
+            {"name": "abcd".encode("utf-16-le")},
+            {"name": "abcde".encode("utf-16-le")},
+            root,
+        ),
         "create_response": ({"contexts": answers}, {"contexts": b""}),
         "read_response": ({"payload": b"hello"}, {"data_remaining": 0, "payload": b""}),
         "write_request": ({"payload": b"hello"}, {"offset": 2**63, "payload": bytes(range(256))}),
-        "lock_request": ({"locks": two}, {"lock_sequence": 0x1F, "locks": parts.lock_element(0, 1, 2)}),
+        "lock_request": ({"locks": two}, {"lock_sequence": 0x1F, "locks": lock_element(0, 1, 2)}),
     }
 
 
 def info_values():
-    names = parts.directory(37, parts.some_entries())
+    names = classes.directory(37, classes.some_entries())
     return {
-        "ioctl_request": ({"input": b"sixteen bytes ..", "output": b"more"}, {"ctl_code": 0x1401FC, "file_id": b"\xff" * 16, "input": b"in", "flags": 1}),
-        "ioctl_response": ({"input": b"eightbyt", "output": b"output"}, {"ctl_code": 0x1401FC, "output": parts.interface(0x0100007F), "input": b"eightbyt"}),
-        "query_directory_request": ({"file_information_class": 37, "name": "*".encode("utf-16-le")},
-                                    {"file_information_class": 12, "flags": 1, "name": NAME, "output_buffer_length": 1048576}),
+        "ioctl_request": (
+            {"input": b"sixteen bytes ..", "output": b"more"},
+            {"ctl_code": 0x1401FC, "file_id": b"\xff" * 16, "input": b"in", "flags": 1},
+        ),
+        "ioctl_response": (
+            {"input": b"eightbyt", "output": b"output"},
+            {"ctl_code": 0x1401FC, "output": classes.interface(0x0100007F), "input": b"eightbyt"},
+        ),
+        "query_directory_request": (
+            {"file_information_class": 37, "name": "*".encode("utf-16-le")},
+            {"file_information_class": 12, "flags": 1, "name": NAME, "output_buffer_length": 1048576},
+        ),
         "query_directory_response": ({"output": names},),
-        "query_info_request": ({"info_type": 1, "file_info_class": 18, "input": b"not looked at"}, {"info_type": 2, "file_info_class": 7, "input": b"."}),
+        "query_info_request": (
+            {"info_type": 1, "file_info_class": 18, "input": b"not looked at"},
+            {"info_type": 2, "file_info_class": 7, "input": b"."},
+        ),
         "query_info_response": ({"output": bytes(range(40))},),
-        "set_info_request": ({"info_type": 1, "file_info_class": 4, "input": parts.basic(parts.TIMES)},
-                             {"info_type": 1, "file_info_class": 13, "additional_information": 0, "input": b"\1"}),
+        "set_info_request": (
+            {"info_type": 1, "file_info_class": 4, "input": classes.basic(classes.TIMES)},
+            {"info_type": 1, "file_info_class": 13, "additional_information": 0, "input": b"\1"},
+        ),
     }
 
 
@@ -228,8 +282,19 @@ def logon_cuts(table, messages, values):
 
 
 LOGON = {
-    "session": ("negotiate_request", "negotiate_response", "session_setup_request", "session_setup_response", "tree_connect_request",
-                "tree_connect_response", "tree_disconnect_request", "tree_disconnect_response", "logoff_request", "logoff_response", "error_response"),
+    "session": (
+        "negotiate_request",
+        "negotiate_response",
+        "session_setup_request",
+        "session_setup_response",
+        "tree_connect_request",
+        "tree_connect_response",
+        "tree_disconnect_request",
+        "tree_disconnect_response",
+        "logoff_request",
+        "logoff_response",
+        "error_response",
+    ),
     "file": ("create_request", "create_response", "write_request", "write_response", "close_request", "close_response"),
     "info": ("query_directory_request", "query_directory_response"),
 }
@@ -241,19 +306,19 @@ def chosen(messages, names):
 
 def main():
     session, file, info, record = Table(), Table(), Table(), Table()
-    parts.header_rows(session)
-    parts.frame_rows(session)
-    parts.text_rows(session)
+    contexts.header_rows(session)
+    contexts.frame_rows(session)
+    contexts.text_rows(session)
     tables_of(session, layouts.SESSION, session_values())
     logon_cuts(session, chosen(layouts.SESSION, LOGON["session"]), session_values())
-    parts.negotiate_context_rows(session)
+    contexts.negotiate_context_rows(session)
     tables_of(file, layouts.FILE, file_values())
     logon_cuts(file, chosen(layouts.FILE, LOGON["file"]), file_values())
-    parts.create_context_rows(file)
+    contexts.create_context_rows(file)
     tables_of(info, layouts.INFO, info_values())
     logon_cuts(info, chosen(layouts.INFO, LOGON["info"]), info_values())
-    parts.class_rows(info)
-    parts.record_rows(record)
+    classes.class_rows(info)
+    records.record_rows(record)
     for name, table in (("session_vectors", session), ("file_vectors", file), ("info_vectors", info), ("record_vectors", record)):
         table.write(name)
     return 0

@@ -19,30 +19,6 @@ def basic(times, attributes=0x20, reserved=0):
     return struct.pack("<QQQQII", *times, attributes, reserved)
 
 
-def standard(allocated, end, links, pending, directory):
-    return struct.pack("<QQIBBH", allocated, end, links, pending, directory, 0)
-
-
-def internal(number):
-    return packed(8, number)
-
-
-def rename(replace, name, root=0, reserved=0):
-    data = utf16(name)
-    return struct.pack("<B", replace) + bytes([reserved]) * 7 + struct.pack("<QI", root, len(data)) + data
-
-
-def all_information(times, attributes, sizes, number, access, mode, name):
-    """2.4.2: basic, standard, internal, EA size, access, position, mode, alignment, name."""
-    data = utf16(name)
-    return (basic(times, attributes) + standard(*sizes) + internal(number) + packed(4, 0) + packed(4, access) + packed(8, 0) + packed(4, mode)
-            + packed(4, 0) + packed(4, len(data)) + data)
-
-
-def network_open(times, allocated, end, attributes, reserved=0):
-    return struct.pack("<QQQQQQII", *times, allocated, end, attributes, reserved)
-
-
 # ---- directories
 
 FIXED = {1: 64, 2: 68, 3: 94, 12: 12, 37: 104, 38: 80}
@@ -59,14 +35,23 @@ class Entry:
         if kind == 12:
             return struct.pack("<II", self.index, len(data)) + data
         out = struct.pack("<IQQQQQQII", self.index, *self.times, self.end, self.allocated, self.attributes, len(data))
-        out += {1: b"", 2: bytes(4), 3: bytes(4) + bytes(2) + bytes(24), 37: bytes(4) + bytes(2) + bytes(24) + bytes(2) + packed(8, self.file),
-                38: bytes(4) + bytes(4) + packed(8, self.file)}[kind]
+        out += {
+            1: b"",
+            2: bytes(4),
+            3: bytes(4) + bytes(2) + bytes(24),
+            37: bytes(4) + bytes(2) + bytes(24) + bytes(2) + packed(8, self.file),
+            38: bytes(4) + bytes(4) + packed(8, self.file),
+        }[kind]
         return out + data
 
 
 def some_entries():
-    return [Entry(".", attributes=0x10, end=0, allocated=0, file=3), Entry("..", attributes=0x10, end=0, allocated=0, file=1),
-            Entry(NAME, file=0x1122334455667788), Entry("b", end=0, allocated=0, file=9)]
+    return [
+        Entry(".", attributes=0x10, end=0, allocated=0, file=3),
+        Entry("..", attributes=0x10, end=0, allocated=0, file=1),
+        Entry(NAME, file=0x1122334455667788),
+        Entry("b", end=0, allocated=0, file=9),
+    ]
 
 
 def directory(kind, entries):
@@ -81,31 +66,6 @@ def directory(kind, entries):
     return out
 
 
-# ---- volumes
-
-
-def volume(created, serial, label):
-    data = utf16(label)
-    return struct.pack("<QIIBB", created, serial, len(data), 0, 0) + data
-
-
-def size(total, free, sectors, sector_bytes):
-    return struct.pack("<QQII", total, free, sectors, sector_bytes)
-
-
-def device(kind, characteristics):
-    return struct.pack("<II", kind, characteristics)
-
-
-def attribute(attributes, longest, name):
-    data = utf16(name)
-    return struct.pack("<III", attributes, longest, len(data)) + data
-
-
-def full_size(total, caller, free, sectors, sector_bytes):
-    return struct.pack("<QQQII", total, caller, free, sectors, sector_bytes)
-
-
 def interface(address, index=1, capability=0, speed=10**9, family=2):
     """One interface of 152 bytes: Next, IfIndex, Capability, Reserved, LinkSpeed, and a SOCKADDR_IN in 128 bytes."""
     socket = struct.pack("<HHI", family, 0, address).ljust(128, b"\0")
@@ -117,6 +77,7 @@ def interface(address, index=1, capability=0, speed=10**9, family=2):
 # ---- rows
 
 TIME_FIELDS = "CreationTime:8 LastAccessTime:8 LastWriteTime:8 ChangeTime:8"
+RAW = ("Port", "Address")
 PLAIN = (
     ("FileBasicInformation", f"{TIME_FIELDS} FileAttributes:4 Reserved:4"),
     ("FileStandardInformation", "AllocationSize:8 EndOfFile:8 NumberOfLinks:4 DeletePending:1 Directory:1 Reserved:2"),
@@ -127,8 +88,12 @@ PLAIN = (
     ("FileNetworkOpenInformation", f"{TIME_FIELDS} AllocationSize:8 EndOfFile:8 FileAttributes:4 Reserved:4"),
     ("FileFsSizeInformation", "TotalAllocationUnits:8 AvailableAllocationUnits:8 SectorsPerAllocationUnit:4 BytesPerSector:4"),
     ("FileFsDeviceInformation", "DeviceType:4 Characteristics:4"),
-    ("FileFsFullSizeInformation", "TotalAllocationUnits:8 CallerAvailableAllocationUnits:8 ActualAvailableAllocationUnits:8"
-                                  " SectorsPerAllocationUnit:4 BytesPerSector:4"),
+    ("NetworkInterface", "Next:4 IfIndex:4 Capability:4 Reserved1:4 LinkSpeed:8 Family:2 Port:2 Address:4 Reserved2:120"),
+    (
+        "FileFsFullSizeInformation",
+        "TotalAllocationUnits:8 CallerAvailableAllocationUnits:8 ActualAvailableAllocationUnits:8"
+        " SectorsPerAllocationUnit:4 BytesPerSector:4",
+    ),
 )
 
 
@@ -136,16 +101,19 @@ def fields_of(words):
     return [(name, int(width)) for name, width in (word.split(":") for word in words.split())]
 
 
-def plain_bytes(fields, first, reserved=0):
-    """Fields of unlike bytes that count upwards from the first, and the numbers in them."""
+def plain_bytes(fields, first, reserved=0, given=None):
+    """Fields of unlike bytes that count upwards from the first, but for the given numbers, and the numbers in them."""
     out, numbers = b"", {}
     for name, width in fields:
-        if name == "Reserved":
+        if name.startswith("Reserved"):
             out += bytes([reserved]) * width
             continue
         content = bytes((first + i) % 256 for i in range(width))
+        if name in (given or {}):
+            content = packed(width, given[name])
         first += width
-        out, numbers[snake(name)] = out + content, int.from_bytes(content, "little")
+        out += content
+        numbers[snake(name)] = content if name in RAW else int.from_bytes(content, "little")
     return out, numbers
 
 
@@ -154,13 +122,72 @@ def plain_rows(table, name, words):
     for first, reserved in ((1, 0), (0xB0, 0), (3, 0xEE)):
         data, numbers = plain_bytes(fields, first, reserved)
         table.row(f"{kind} {data.hex()}", f"{kind}: {Shown(name, **numbers)}", f"  {plain_bytes(fields, first)[0].hex()}")
-    data, at = plain_bytes(fields, 1)[0], 0
-    for field, width in fields:
+    short_rows(table, kind, fields, plain_bytes(fields, 1)[0])
+
+
+def short_rows(table, kind, fields, data):
+    """Each field cut by one byte: the place of the first that doesn't fit."""
+    at = 0
+    for _, width in fields:
         table.row(f"{kind} {data[:at + width - 1].hex() or '-'}", f"{kind}: Short({at})")
         at += width
 
 
+# the length of the name stands in the field of this name; MS-FSCC's EA size, position and alignment are passed over and written 0
+NAMED = (
+    ("FileRenameInformation", "ReplaceIfExists:1 Reserved:7 RootDirectory:8 FileNameLength:4", "FileNameLength", "name"),
+    (
+        "FileAllInformation",
+        f"{TIME_FIELDS} FileAttributes:4 Reserved1:4 AllocationSize:8 EndOfFile:8 NumberOfLinks:4 DeletePending:1"
+        " Directory:1 Reserved2:2 IndexNumber:8 ReservedEaSize:4 AccessFlags:4 ReservedPosition:8 Mode:4"
+        " ReservedAlignment:4 FileNameLength:4",
+        "FileNameLength",
+        "name",
+    ),
+    (
+        "FileFsVolumeInformation",
+        "VolumeCreationTime:8 VolumeSerialNumber:4 VolumeLabelLength:4 SupportsObjects:1 Reserved:1",
+        "VolumeLabelLength",
+        "label",
+    ),
+    (
+        "FileFsAttributeInformation",
+        "FileSystemAttributes:4 MaximumComponentNameLength:4 FileSystemNameLength:4",
+        "FileSystemNameLength",
+        "name",
+    ),
+)
+
+
+def named_rows(table, name, words, length, part):
+    kind, fields = snake(name), fields_of(words)
+    for text, first, reserved, behind in ((NAME, 1, 0, b""), ("", 0x91, 0, b""), ("\\d\\x", 5, 0xEE, b"behind"), ("NTFS", 9, 0, b"")):
+        data, numbers = plain_bytes(fields, first, reserved, {length: len(utf16(text))})
+        del numbers[snake(length)]
+        written = plain_bytes(fields, first, 0, {length: len(utf16(text))})[0] + utf16(text)
+        table.row(
+            f"{kind} {(data + utf16(text) + behind).hex()}",
+            f"{kind}: {Shown(name, **numbers, **{part: utf16(text)})}",
+            f"  {written.hex()}",
+        )
+    whole = plain_bytes(fields, 1, 0, {length: len(utf16(NAME))})[0] + utf16(NAME)
+    short_rows(table, kind, fields, whole)
+    for data in (
+        whole[:-1],
+        plain_bytes(fields, 1, 0, {length: 2**32 - 1})[0] + utf16(NAME),
+        plain_bytes(fields, 1, 0, {length: 1})[0],
+    ):
+        table.row(f"{kind} {data.hex()}", f"{kind}: BadOffset(Name)")
+
+
 def class_rows(table):
-    table.title("info classes of one length (MS-FSCC 2.4, 2.5)")
+    table.title("info classes of one length (MS-FSCC 2.4, 2.5), and the entry of a network interface (MS-SMB2 2.2.32.5)")
     for name, words in PLAIN:
         plain_rows(table, name, words)
+    address = Shown(
+        "NetworkInterface", next=0, if_index=1, capability=0, link_speed=10**9, family=2, port=bytes(2), address=b"\x7f\0\0\1"
+    )
+    table.row(f"network_interface {interface(0x0100007F).hex()}", f"network_interface: {address}", f"  {interface(0x0100007F).hex()}")
+    table.title("info classes that end in a name")
+    for name, words, length, part in NAMED:
+        named_rows(table, name, words, length, part)

@@ -10,12 +10,20 @@ PROTOCOL, OLD_PROTOCOL = b"\xfeSMB", b"\xffSMB"
 # ---- headers and compounds
 
 
-def header(charge=0, status=0, command=0, credits=0, flags=0, next=0, message=0, reserved=0, tree=0, session=0, signature=bytes(16), size=64):
-    return PROTOCOL + struct.pack("<HHIHHIIQIIQ", size, charge, status, command, credits, flags, next, message, reserved, tree, session) + signature
+def header(
+    charge=0, status=0, command=0, credits=0, flags=0, next=0, message=0, reserved=0, tree=0, session=0, signature=bytes(16), size=64
+):
+    return (
+        PROTOCOL
+        + struct.pack("<HHIHHIIQIIQ", size, charge, status, command, credits, flags, next, message, reserved, tree, session)
+        + signature
+    )
 
 
 def header_row(table, **fields):
-    shown_fields = {name: fields.get(name, 0) for name in ("charge", "status", "command", "credits", "flags", "next", "message", "tree", "session")}
+    shown_fields = {
+        name: fields.get(name, 0) for name in ("charge", "status", "command", "credits", "flags", "next", "message", "tree", "session")
+    }
     value = Shown("Header", **shown_fields, signature=fields.get("signature", bytes(16)))
     written = header(**{name: number for name, number in fields.items() if name != "reserved"})
     table.row(f"header {header(**fields).hex()}", f"header: {value}", f"  {written.hex()}")
@@ -24,16 +32,42 @@ def header_row(table, **fields):
 def header_rows(table):
     table.title("headers (2.2.1.2; asynchronous 2.2.1.1, whose AsyncId has TreeId's place in its upper half)")
     signature = bytes(range(16, 32))
-    header_row(table, charge=1, status=0x01020304, command=9, credits=512, flags=0x20000008, next=0x70, message=0x1122334455667788,
-               tree=0xA1B2C3D4, session=0x0102030405060708, signature=signature)
-    header_row(table, charge=2, status=0x103, command=15, credits=1, flags=3, message=7, reserved=0x0D0C0B0A, tree=0x11100F0E, session=9,
-               signature=signature)
+    header_row(
+        table,
+        charge=1,
+        status=0x01020304,
+        command=9,
+        credits=512,
+        flags=0x20000008,
+        next=0x70,
+        message=0x1122334455667788,
+        tree=0xA1B2C3D4,
+        session=0x0102030405060708,
+        signature=signature,
+    )
+    header_row(
+        table,
+        charge=2,
+        status=0x103,
+        command=15,
+        credits=1,
+        flags=3,
+        message=7,
+        reserved=0x0D0C0B0A,
+        tree=0x11100F0E,
+        session=9,
+        signature=signature,
+    )
     header_row(table, command=13, message=2**64 - 1, reserved=0xFEFF, tree=2**32 - 1, session=2**64 - 1, flags=0x10000000)
     whole = header(command=1)
     table.row(f"header {whole[:63].hex()}", "header: Short")
     table.row("header -", "header: Short")
-    for data, refusal in ((b"\xfdSMB" + whole[4:], "BadProtocol([253, 83, 77, 66])"), (OLD_PROTOCOL + whole[4:], "BadProtocol([255, 83, 77, 66])"),
-                          (header(size=65), "BadSize(65)"), (OLD_PROTOCOL + header(size=65)[4:], "BadProtocol([255, 83, 77, 66])")):
+    for data, refusal in (
+        (b"\xfdSMB" + whole[4:], "BadProtocol([253, 83, 77, 66])"),
+        (OLD_PROTOCOL + whole[4:], "BadProtocol([255, 83, 77, 66])"),
+        (header(size=65), "BadSize(65)"),
+        (OLD_PROTOCOL + header(size=65)[4:], "BadProtocol([255, 83, 77, 66])"),
+    ):
         table.row(f"header {data.hex()}", f"header: {refusal}")
     compound_rows(table)
 
@@ -54,7 +88,9 @@ def split_row(table, frame, answer):
 
 
 def compound_rows(table):
-    table.title("compounds (3.3.5.2.7): each message with the padding behind it; a refusal names the place of the message whose NextCommand breaks")
+    table.title(
+        "compounds (3.3.5.2.7): each message with the padding behind it; a refusal names the place of the message whose NextCommand breaks"
+    )
     one, two, three = compound(b"abc"), compound(b"abc", b"12345678"), compound(b"", b"x", b"yz")
     split_row(table, one, "0..67")
     split_row(table, two, "0..72 72..144")
@@ -82,8 +118,17 @@ def frame_rows(table):
     whole = b"\0\0\0\x40" + message
     table.row(f"frame {message.hex()}", f"frame: {whole.hex()}")
     table.row("frame -", "frame: 00000000")
-    stream_row(table, [whole[:1], whole[1:3], whole[3:4], whole[4:67], whole[67:], bytes(4), b"\1"],
-               "None", "None", "None", "None", f"{message.hex()}, None", "empty, None", "BadLead(1), BadLead(1)")
+    stream_row(
+        table,
+        [whole[:1], whole[1:3], whole[3:4], whole[4:67], whole[67:], bytes(4), b"\1"],
+        "None",
+        "None",
+        "None",
+        "None",
+        f"{message.hex()}, None",
+        "empty, None",
+        "BadLead(1), BadLead(1)",
+    )
     stream_row(table, [b"\0\0\0\1a\0\0\0\2bc\0\0", b"\0\1d"], "61, 6263, None", "64, None")
     stream_row(table, [b"\0\x11\0\0"], "None")
     stream_row(table, [b"\0\x11\0", b"\1", b"abc"], "None", "TooLong(1114113), TooLong(1114113)", "TooLong(1114113), TooLong(1114113)")
@@ -97,9 +142,17 @@ def text_rows(table):
     for text in ("aé", "", "d\\a.txt", "\ud7ff\ue000\uffff", "\U00010000\U0001F600\U0010FFFF", "x\U0001F600y"):
         data = text.encode("utf-16-le").hex() or "-"
         table.row(f"text {data}", f"text: {text}", f"  {data}")
-    for data, refusal in (("61", "OddLength(1)"), ("610062", "OddLength(3)"), ("00d8", "LoneSurrogate(0)"), ("00dc", "LoneSurrogate(0)"),
-                          ("61003dd8", "LoneSurrogate(2)"), ("3dd86100", "LoneSurrogate(0)"), ("3dd83dd800de", "LoneSurrogate(0)"),
-                          ("3dd800de00de", "LoneSurrogate(4)"), ("6100ffdf", "LoneSurrogate(2)")):
+    for data, refusal in (
+        ("61", "OddLength(1)"),
+        ("610062", "OddLength(3)"),
+        ("00d8", "LoneSurrogate(0)"),
+        ("00dc", "LoneSurrogate(0)"),
+        ("61003dd8", "LoneSurrogate(2)"),
+        ("3dd86100", "LoneSurrogate(0)"),
+        ("3dd83dd800de", "LoneSurrogate(0)"),
+        ("3dd800de00de", "LoneSurrogate(4)"),
+        ("6100ffdf", "LoneSurrogate(2)"),
+    ):
         table.row(f"text {data}", f"text: {refusal}")
 
 
@@ -125,13 +178,19 @@ def negotiate_contexts(contexts, reserved=0):
 def usual_contexts():
     name = "smb311".encode("utf-16-le")
     compression = struct.pack("<HHIHH", 2, 0, 1, 1, 4)
-    return negotiate_contexts([(1, hash_data([1], bytes(range(100, 132)))), (2, ids_data([2, 1, 4, 3])), (3, compression), (5, name), (8, ids_data([2, 1, 0]))])
+    return negotiate_contexts(
+        [(1, hash_data([1], bytes(range(100, 132)))), (2, ids_data([2, 1, 4, 3])), (3, compression), (5, name), (8, ids_data([2, 1, 0]))]
+    )
 
 
 def offer_row(table, contexts, ciphers, signings, chosen, hashes=True, **form):
     """Contexts that read as an offer, the offer as it is written with a salt of 32 bytes 5a, and the choice."""
     words = f"sha512 {shown(hashes)} preauth true ciphers {shown(ciphers)} signings {shown(signings)}"
-    written = [(1, hash_data([1], b"\x5a" * 32))] + ([(2, ids_data(ciphers))] if ciphers else []) + ([(8, ids_data(signings))] if signings else [])
+    written = (
+        [(1, hash_data([1], b"\x5a" * 32))]
+        + ([(2, ids_data(ciphers))] if ciphers else [])
+        + ([(8, ids_data(signings))] if signings else [])
+    )
     lines = [f"contexts: {words}"]
     if hashes:
         lines.append(f"  {negotiate_contexts(written).hex()}")
@@ -142,12 +201,19 @@ def context_refusals(table):
     hashed, ciphers = (1, hash_data([1], bytes(32))), (2, ids_data([2]))
     whole = negotiate_contexts([hashed, ciphers])
     for count, data, refusal in (
-            (2, whole[:-1], "Short"), (1, whole[:7], "Short"), (3, whole, "Short"), (1, whole[:45], "Short"),
-            (1, negotiate_contexts([(2, packed(2, 3) + bytes(4))]), "Short"), (1, negotiate_contexts([(8, packed(2, 2) + bytes(3))]), "Short"),
-            (1, negotiate_contexts([(2, b"\1")]), "Short"), (1, negotiate_contexts([(1, hash_data([1], bytes(32))[:-1])]), "Short"),
-            (1, negotiate_contexts([(1, struct.pack("<HH", 2, 0) + packed(2, 1))]), "Short"),
-            (3, negotiate_contexts([hashed, ciphers, hashed]), "Doubled(1)"), (2, negotiate_contexts([ciphers, ciphers]), "Doubled(2)"),
-            (3, negotiate_contexts([(8, ids_data([1])), hashed, (8, ids_data([1]))]), "Doubled(8)")):
+        (2, whole[:-1], "Short"),
+        (1, whole[:7], "Short"),
+        (3, whole, "Short"),
+        (1, whole[:45], "Short"),
+        (1, negotiate_contexts([(2, packed(2, 3) + bytes(4))]), "Short"),
+        (1, negotiate_contexts([(8, packed(2, 2) + bytes(3))]), "Short"),
+        (1, negotiate_contexts([(2, b"\1")]), "Short"),
+        (1, negotiate_contexts([(1, hash_data([1], bytes(32))[:-1])]), "Short"),
+        (1, negotiate_contexts([(1, struct.pack("<HH", 2, 0) + packed(2, 1))]), "Short"),
+        (3, negotiate_contexts([hashed, ciphers, hashed]), "Doubled(1)"),
+        (2, negotiate_contexts([ciphers, ciphers]), "Doubled(2)"),
+        (3, negotiate_contexts([(8, ids_data([1])), hashed, (8, ids_data([1]))]), "Doubled(8)"),
+    ):
         table.row(f"contexts {count} {data.hex()}", f"contexts: {refusal}")
 
 
@@ -160,13 +226,21 @@ def negotiate_context_rows(table):
     offer_row(table, [salted], [], [], chosen(0, 1, "false"), reserved=0x01020304)
     offer_row(table, [salted, (2, ids_data([9, 3])), (8, ids_data([0]))], [9, 3], [0], chosen(3, 1, "false"))
     offer_row(table, [salted, (2, ids_data([5, 6]) + b"more")], [5, 6], [], chosen(0, 1, "false"))
-    offer_row(table, [(3, bytes(9)), (3, bytes(9)), (1, hash_data([2, 1], b"")), (5, b"ab"), (8, ids_data([7, 2])), (5, b"")], [], [7, 2],
-              chosen(0, 2, "true"))
+    offer_row(
+        table,
+        [(3, bytes(9)), (3, bytes(9)), (1, hash_data([2, 1], b"")), (5, b"ab"), (8, ids_data([7, 2])), (5, b"")],
+        [],
+        [7, 2],
+        chosen(0, 2, "true"),
+    )
     offer_row(table, [(1, hash_data([2, 3], b"salt"))], [], [], "NoHash", hashes=False)
     usual = usual_contexts()
-    table.row(f"contexts 5 {usual.hex()}", "contexts: sha512 true preauth true ciphers [2, 1, 4, 3] signings [2, 1, 0]",
-              "  " + negotiate_contexts([(1, hash_data([1], b"\x5a" * 32)), (2, ids_data([2, 1, 4, 3])), (8, ids_data([2, 1, 0]))]).hex(),
-              "  " + chosen(2, 2, "true"))
+    table.row(
+        f"contexts 5 {usual.hex()}",
+        "contexts: sha512 true preauth true ciphers [2, 1, 4, 3] signings [2, 1, 0]",
+        "  " + negotiate_contexts([(1, hash_data([1], b"\x5a" * 32)), (2, ids_data([2, 1, 4, 3])), (8, ids_data([2, 1, 0]))]).hex(),
+        "  " + chosen(2, 2, "true"),
+    )
     bare = negotiate_contexts([(2, ids_data([1]))])
     table.row(f"choice 1 {bare.hex()}", "choice: NoPreauth")
     table.row("choice 0 -", "choice: NoPreauth")
@@ -226,9 +300,12 @@ def answers_row(table, asked, dh2q=None, mxac=None, qfid=None):
         written.append((b"MxAc", struct.pack("<II", *mxac)))
     if qfid:
         written.append((b"QFid", struct.pack("<QQ", *qfid) + bytes(16)))
-    value = Shown("ReplyContexts", dh2q=dh2q and some(Shown("Dh2qReply", timeout=dh2q[0], persistent=dh2q[1])),
-                  mxac=mxac and some(Shown("MaximalAccess", query_status=mxac[0], maximal_access=mxac[1])),
-                  qfid=qfid and some(Shown("DiskId", file=qfid[0], volume=qfid[1])))
+    value = Shown(
+        "ReplyContexts",
+        dh2q=dh2q and some(Shown("Dh2qReply", timeout=dh2q[0], persistent=dh2q[1])),
+        mxac=mxac and some(Shown("MaximalAccess", query_status=mxac[0], maximal_access=mxac[1])),
+        qfid=qfid and some(Shown("DiskId", file=qfid[0], volume=qfid[1])),
+    )
     table.row(f"answers {(asked or create_chain(written)).hex()}", f"answers: {value}", f"  {create_chain(written).hex()}")
 
 
@@ -239,12 +316,19 @@ def answer_rows(table):
     answers_row(table, None, None, access)
     answers_row(table, None, None, None, disk)
     answers_row(table, None, timeout, access, disk)
-    other = create_chain([(b"QFid", struct.pack("<QQ", *disk) + b"\xee" * 16), (b"RqLs", bytes(52)), (b"MxAc", struct.pack("<II", 0xC0000022, 0))])
+    other = create_chain(
+        [(b"QFid", struct.pack("<QQ", *disk) + b"\xee" * 16), (b"RqLs", bytes(52)), (b"MxAc", struct.pack("<II", 0xC0000022, 0))]
+    )
     answers_row(table, other, None, (0xC0000022, 0), disk)
     for name, length in ((b"DH2Q", 7), (b"DH2Q", 9), (b"MxAc", 0), (b"MxAc", 4), (b"QFid", 31), (b"QFid", 33)):
         table.row(f"answers {create_chain([(name, bytes(length))]).hex()}", f"answers: BadLength({shown(name)})")
     whole = create_chain([(b"MxAc", bytes(8)), (b"QFid", bytes(32))])
-    for data, refusal in ((whole[:-1], "Short"), (whole[:15], "Short"), (packed(4, 4) + whole[4:], "BadNext"), (packed(4, 800) + whole[4:], "BadNext")):
+    for data, refusal in (
+        (whole[:-1], "Short"),
+        (whole[:15], "Short"),
+        (packed(4, 4) + whole[4:], "BadNext"),
+        (packed(4, 800) + whole[4:], "BadNext"),
+    ):
         table.row(f"answers {data.hex()}", f"answers: {refusal}")
 
 
@@ -256,12 +340,28 @@ def create_context_rows(table):
     again = Shown("Dh2c", file=file, guid=guid, persistent=True), dh2c(file, guid, 2)
     chain_row(table, create_chain([(b"DH2Q", asked[1])]), dh2q=asked)
     chain_row(table, create_chain([(b"DH2C", again[1])]), dh2c=again)
-    chain_row(table, create_chain([(b"DH2Q", asked[1]), (b"DH2C", again[1]), (b"MxAc", b""), (b"QFid", b"")]), dh2q=asked, dh2c=again, mxac=(True, b""),
-              qfid=(True, b""))
-    chain_row(table, create_chain([(b"QFid", b""), (b"MxAc", bytes(8)), (b"DH2Q", dh2q(0, 0, guid, reserved=5))]), dh2q=plain, mxac=(True, b""), qfid=(True, b""))
+    chain_row(
+        table,
+        create_chain([(b"DH2Q", asked[1]), (b"DH2C", again[1]), (b"MxAc", b""), (b"QFid", b"")]),
+        dh2q=asked,
+        dh2c=again,
+        mxac=(True, b""),
+        qfid=(True, b""),
+    )
+    chain_row(
+        table,
+        create_chain([(b"QFid", b""), (b"MxAc", bytes(8)), (b"DH2Q", dh2q(0, 0, guid, reserved=5))]),
+        dh2q=plain,
+        mxac=(True, b""),
+        qfid=(True, b""),
+    )
     lease, instance = bytes(52), bytes.fromhex("45bca66aefa7f74a9008fa462e144d74")
-    chain_row(table, create_chain([(b"DHnQ", bytes(16)), (b"RqLs", lease), (b"MxAc", b""), (instance, bytes(20)), (b"QFid", b"123")]), mxac=(True, b""),
-              qfid=(True, b""))
+    chain_row(
+        table,
+        create_chain([(b"DHnQ", bytes(16)), (b"RqLs", lease), (b"MxAc", b""), (instance, bytes(20)), (b"QFid", b"123")]),
+        mxac=(True, b""),
+        qfid=(True, b""),
+    )
     chain_row(table, create_chain([(b"AlSi", bytes(8)), (b"SecD", b"")]))
     chain_row(table, create_context(b"DH2Q", plain[1], name_at=24, data_at=40), dh2q=plain)
     chain_refusals(table, asked[1])
@@ -273,11 +373,20 @@ def chain_refusals(table, data):
     whole = create_chain([(b"DH2Q", data)])
     two = create_chain([(b"MxAc", b""), (b"DH2Q", data)])
     for bytes_of, refusal in (
-            (whole[:15], "Short"), (whole[:19], "Short"), (whole[:-1], "Short"), (two[:24 + 10], "Short"), (two[:-1], "Short"),
-            (packed(4, 4) + two[4:], "BadNext"), (packed(4, 25) + two[4:], "BadNext"), (packed(4, 2**32 - 8) + two[4:], "BadNext"),
-            (packed(4, 4096) + two[4:], "BadNext"), (two[:24] + packed(4, 1 << 20) + two[28:], "BadNext"),
-            (create_chain([(b"DH2Q", data[:-1])]), f"BadLength({shown(b'DH2Q')})"), (create_chain([(b"DH2Q", b"")]), f"BadLength({shown(b'DH2Q')})"),
-            (create_chain([(b"DH2Q", data + b"\0")]), f"BadLength({shown(b'DH2Q')})"), (create_chain([(b"QFid", b""), (b"DH2C", bytes(35))]),
-                                                                                         f"BadLength({shown(b'DH2C')})"),
-            (create_chain([(b"DH2C", bytes(37))]), f"BadLength({shown(b'DH2C')})")):
+        (whole[:15], "Short"),
+        (whole[:19], "Short"),
+        (whole[:-1], "Short"),
+        (two[: 24 + 10], "Short"),
+        (two[:-1], "Short"),
+        (packed(4, 4) + two[4:], "BadNext"),
+        (packed(4, 25) + two[4:], "BadNext"),
+        (packed(4, 2**32 - 8) + two[4:], "BadNext"),
+        (packed(4, 4096) + two[4:], "BadNext"),
+        (two[:24] + packed(4, 1 << 20) + two[28:], "BadNext"),
+        (create_chain([(b"DH2Q", data[:-1])]), f"BadLength({shown(b'DH2Q')})"),
+        (create_chain([(b"DH2Q", b"")]), f"BadLength({shown(b'DH2Q')})"),
+        (create_chain([(b"DH2Q", data + b"\0")]), f"BadLength({shown(b'DH2Q')})"),
+        (create_chain([(b"QFid", b""), (b"DH2C", bytes(35))]), f"BadLength({shown(b'DH2C')})"),
+        (create_chain([(b"DH2C", bytes(37))]), f"BadLength({shown(b'DH2C')})"),
+    ):
         table.row(f"chain {bytes_of.hex()}", f"chain: {refusal}")

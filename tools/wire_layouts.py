@@ -56,7 +56,9 @@ class Layout:
         """Whether the value of a message has the field: not reserved ones, nor the place and length of a part."""
         if name in self.walked:
             return True
-        return name not in self.of_parts and not re.match(r"Reserved|Padding|One|(Read|Write)ChannelInfo|SecurityFlags|SmbCreateFlags", name)
+        return name not in self.of_parts and not re.match(
+            r"Reserved|Padding|One|(Read|Write)ChannelInfo|SecurityFlags|SmbCreateFlags", name
+        )
 
     def told(self):
         return [(name, width) for name, width in self.fields if self.is_told(name)]
@@ -116,7 +118,7 @@ class Layout:
         for name, width in self.fields:
             if len(message) < at + width:
                 return f"Short({at})"
-            values[name] = message[at:at + width] if width > 8 else number_at(message, at, width)
+            values[name] = message[at : at + width] if width > 8 else number_at(message, at, width)
             at += width
         size = number_at(message, HEADER, 2)
         if size != self.size:
@@ -138,7 +140,7 @@ class Layout:
             return None
         if count and not self.end <= start <= start + count <= len(message):
             return None
-        return message[start:start + count] if count else b""
+        return message[start : start + count] if count else b""
 
 
 def walked_contexts(message, start, count, fixed_end):
@@ -183,27 +185,36 @@ def negotiate_contexts():
 
 SESSION = {
     "negotiate_request": Layout(
-        "NegotiateRequest", 36,
+        "NegotiateRequest",
+        36,
         "DialectCount:2 SecurityMode:2 Reserved:2 Capabilities:4 ClientGuid:16 NegotiateContextOffset:4"
         " NegotiateContextCount:2 Reserved2:2",
-        Part("dialects", None, "DialectCount", each=2, counted=True), negotiate_contexts()),
+        Part("dialects", None, "DialectCount", each=2, counted=True),
+        negotiate_contexts(),
+    ),
     "negotiate_response": Layout(
-        "NegotiateResponse", 65,
+        "NegotiateResponse",
+        65,
         "SecurityMode:2 DialectRevision:2 NegotiateContextCount:2 ServerGuid:16 Capabilities:4 MaxTransactSize:4 MaxReadSize:4"
         " MaxWriteSize:4 SystemTime:8 ServerStartTime:8 SecurityBufferOffset:2 SecurityBufferLength:2 NegotiateContextOffset:4",
-        security(), negotiate_contexts()),
+        security(),
+        negotiate_contexts(),
+    ),
     "session_setup_request": Layout(
-        "SessionSetupRequest", 25,
+        "SessionSetupRequest",
+        25,
         "Flags:1 SecurityMode:1 Capabilities:4 Channel:4 SecurityBufferOffset:2 SecurityBufferLength:2 PreviousSessionId:8",
-        security()),
+        security(),
+    ),
     "session_setup_response": Layout(
-        "SessionSetupResponse", 9, "SessionFlags:2 SecurityBufferOffset:2 SecurityBufferLength:2", security()),
+        "SessionSetupResponse", 9, "SessionFlags:2 SecurityBufferOffset:2 SecurityBufferLength:2", security()
+    ),
     "logoff_request": Layout("LogoffRequest", 4, "Reserved:2"),
     "logoff_response": Layout("LogoffResponse", 4, "Reserved:2"),
     "tree_connect_request": Layout(
-        "TreeConnectRequest", 9, "Flags:2 PathOffset:2 PathLength:2", Part("path", "PathOffset", "PathLength")),
-    "tree_connect_response": Layout(
-        "TreeConnectResponse", 16, "ShareType:1 Reserved:1 ShareFlags:4 Capabilities:4 MaximalAccess:4"),
+        "TreeConnectRequest", 9, "Flags:2 PathOffset:2 PathLength:2", Part("path", "PathOffset", "PathLength")
+    ),
+    "tree_connect_response": Layout("TreeConnectResponse", 16, "ShareType:1 Reserved:1 ShareFlags:4 Capabilities:4 MaximalAccess:4"),
     "tree_disconnect_request": Layout("TreeDisconnectRequest", 4, "Reserved:2"),
     "tree_disconnect_response": Layout("TreeDisconnectResponse", 4, "Reserved:2"),
     "echo_request": Layout("EchoRequest", 4, "Reserved:2"),
@@ -213,60 +224,84 @@ SESSION = {
 
 FILE = {
     "create_request": Layout(
-        "CreateRequest", 57,
+        "CreateRequest",
+        57,
         "SecurityFlags:1 RequestedOplockLevel:1 ImpersonationLevel:4 SmbCreateFlags:8 Reserved:8 DesiredAccess:4 FileAttributes:4"
         " ShareAccess:4 CreateDisposition:4 CreateOptions:4 NameOffset:2 NameLength:2 CreateContextsOffset:4 CreateContextsLength:4",
-        Part("name", "NameOffset", "NameLength", one_byte=True), create_contexts()),
+        Part("name", "NameOffset", "NameLength", one_byte=True),
+        create_contexts(),
+    ),
     "create_response": Layout(
-        "CreateResponse", 89,
+        "CreateResponse",
+        89,
         f"OplockLevel:1 Flags:1 CreateAction:4 {TIMES} {LENGTHS} Reserved2:4 {FILE_ID} CreateContextsOffset:4 CreateContextsLength:4",
-        create_contexts()),
+        create_contexts(),
+    ),
     "close_request": Layout("CloseRequest", 24, f"Flags:2 Reserved:4 {FILE_ID}"),
     "close_response": Layout("CloseResponse", 60, f"Flags:2 Reserved:4 {TIMES} {LENGTHS}"),
     "flush_request": Layout("FlushRequest", 24, f"Reserved1:2 Reserved2:4 {FILE_ID}"),
     "flush_response": Layout("FlushResponse", 4, "Reserved:2"),
     "read_request": Layout(
-        "ReadRequest", 49,
+        "ReadRequest",
+        49,
         f"Padding:1 Flags:1 Length:4 Offset:8 {FILE_ID} MinimumCount:4 Channel:4 RemainingBytes:4 ReadChannelInfoOffset:2"
-        " ReadChannelInfoLength:2 OneByte:1"),
+        " ReadChannelInfoLength:2 OneByte:1",
+    ),
     "read_response": Layout(
-        "ReadResponse", 17, "DataOffset:1 Reserved:1 DataLength:4 DataRemaining:4 Reserved2:4",
-        Part("payload", "DataOffset", "DataLength", one_byte=True)),
+        "ReadResponse",
+        17,
+        "DataOffset:1 Reserved:1 DataLength:4 DataRemaining:4 Reserved2:4",
+        Part("payload", "DataOffset", "DataLength", one_byte=True),
+    ),
     "write_request": Layout(
-        "WriteRequest", 49,
+        "WriteRequest",
+        49,
         f"DataOffset:2 Length:4 Offset:8 {FILE_ID} Channel:4 RemainingBytes:4 WriteChannelInfoOffset:2 WriteChannelInfoLength:2 Flags:4",
-        Part("payload", "DataOffset", "Length")),
-    "write_response": Layout(
-        "WriteResponse", 17, "Reserved:2 Count:4 Remaining:4 WriteChannelInfoOffset:2 WriteChannelInfoLength:2"),
+        Part("payload", "DataOffset", "Length"),
+    ),
+    "write_response": Layout("WriteResponse", 17, "Reserved:2 Count:4 Remaining:4 WriteChannelInfoOffset:2 WriteChannelInfoLength:2"),
     "lock_request": Layout(
-        "LockRequest", 48, f"LockCount:2 LockSequence:4 {FILE_ID}", Part("locks", None, "LockCount", each=24, counted=True)),
+        "LockRequest", 48, f"LockCount:2 LockSequence:4 {FILE_ID}", Part("locks", None, "LockCount", each=24, counted=True)
+    ),
     "lock_response": Layout("LockResponse", 4, "Reserved:2"),
 }
 
 INFO = {
     "ioctl_request": Layout(
-        "IoctlRequest", 57,
+        "IoctlRequest",
+        57,
         f"Reserved:2 CtlCode:4 {FILE_ID} InputOffset:4 InputCount:4 MaxInputResponse:4 OutputOffset:4 OutputCount:4"
         " MaxOutputResponse:4 Flags:4 Reserved2:4",
-        Part("input", "InputOffset", "InputCount"), Part("output", "OutputOffset", "OutputCount")),
+        Part("input", "InputOffset", "InputCount"),
+        Part("output", "OutputOffset", "OutputCount"),
+    ),
     "ioctl_response": Layout(
-        "IoctlResponse", 49,
+        "IoctlResponse",
+        49,
         f"Reserved:2 CtlCode:4 {FILE_ID} InputOffset:4 InputCount:4 OutputOffset:4 OutputCount:4 Flags:4 Reserved2:4",
-        Part("input", "InputOffset", "InputCount"), Part("output", "OutputOffset", "OutputCount")),
+        Part("input", "InputOffset", "InputCount"),
+        Part("output", "OutputOffset", "OutputCount"),
+    ),
     "query_directory_request": Layout(
-        "QueryDirectoryRequest", 33,
+        "QueryDirectoryRequest",
+        33,
         f"FileInformationClass:1 Flags:1 FileIndex:4 {FILE_ID} FileNameOffset:2 FileNameLength:2 OutputBufferLength:4",
-        Part("name", "FileNameOffset", "FileNameLength")),
+        Part("name", "FileNameOffset", "FileNameLength"),
+    ),
     "query_directory_response": Layout("QueryDirectoryResponse", 9, "OutputBufferOffset:2 OutputBufferLength:4", output()),
     "query_info_request": Layout(
-        "QueryInfoRequest", 41,
+        "QueryInfoRequest",
+        41,
         f"InfoType:1 FileInfoClass:1 OutputBufferLength:4 InputBufferOffset:2 Reserved:2 InputBufferLength:4 AdditionalInformation:4"
         f" Flags:4 {FILE_ID}",
-        Part("input", "InputBufferOffset", "InputBufferLength")),
+        Part("input", "InputBufferOffset", "InputBufferLength"),
+    ),
     "query_info_response": Layout("QueryInfoResponse", 9, "OutputBufferOffset:2 OutputBufferLength:4", output()),
     "set_info_request": Layout(
-        "SetInfoRequest", 33,
+        "SetInfoRequest",
+        33,
         f"InfoType:1 FileInfoClass:1 BufferLength:4 BufferOffset:2 Reserved:2 AdditionalInformation:4 {FILE_ID}",
-        Part("input", "BufferOffset", "BufferLength")),
+        Part("input", "BufferOffset", "BufferLength"),
+    ),
     "set_info_response": Layout("SetInfoResponse", 2, ""),
 }

@@ -2,7 +2,7 @@
 import struct
 
 from wire_layouts import packed
-from wire_shown import Shown, owned, shown, some, text
+from wire_shown import Shown, owned, some, text
 
 ORIGIN = (0x0102030405060708, 0x11121314, 0x2122232425262728)
 CLIENT, GUID = b"smb311-client-01", bytes(range(0x60, 0x70))
@@ -44,6 +44,7 @@ def epoch(number):
 
 def create(path, directory=False, opened=None, timeout=30000):
     """`opened` is the user's name."""
+
     def data(version):
         out = struct.pack("<IQ", 2, 0x3132333435363738) + spelled_text(path) + struct.pack("<IBQ", 0x20, directory, 0x4142434445464748)
         if opened is None:
@@ -54,10 +55,28 @@ def create(path, directory=False, opened=None, timeout=30000):
     def told(version):
         made = None
         if opened is not None:
-            made = some(Shown("NewOpen", id=0x5152535455565758, client=CLIENT, guid=GUID, user=text(opened), access=0x183, share=5, options=0x40,
-                              timeout=timeout if version == 2 else 60000))
-        return {"action": 2, "file": 0x3132333435363738, "path": text(path), "attributes": 0x20, "directory": directory, "time": 0x4142434445464748,
-                "opened": made}
+            made = some(
+                Shown(
+                    "NewOpen",
+                    id=0x5152535455565758,
+                    client=CLIENT,
+                    guid=GUID,
+                    user=text(opened),
+                    access=0x183,
+                    share=5,
+                    options=0x40,
+                    timeout=timeout if version == 2 else 60000,
+                )
+            )
+        return {
+            "action": 2,
+            "file": 0x3132333435363738,
+            "path": text(path),
+            "attributes": 0x20,
+            "directory": directory,
+            "time": 0x4142434445464748,
+            "opened": made,
+        }
 
     return Record(2, "Create", data, told)
 
@@ -68,23 +87,37 @@ def basic_told():
 
 def lock(elements):
     data = b"".join(struct.pack("<QQII", *element, 0) for element in elements)
-    return Record(9, "Lock", struct.pack("<QBBIH", 9, 64, 15, 0xC0000055, len(elements)) + data,
-                  {"id": 9, "index": 64, "number": 15, "status": 0xC0000055, "elements": owned(data)})
+    return Record(
+        9,
+        "Lock",
+        struct.pack("<QBBIH", 9, 64, 15, 0xC0000055, len(elements)) + data,
+        {"id": 9, "index": 64, "number": 15, "status": 0xC0000055, "elements": owned(data)},
+    )
 
 
 def all_records():
     return [
-        epoch(7), create("d\\aé\U0001F600"), create("dir", directory=True), create("a", opened="User"), create("", opened=""),
+        epoch(7),
+        create("d\\aé\U0001F600"),
+        create("dir", directory=True),
+        create("a", opened="User"),
+        create("", opened=""),
         Record(3, "Write", struct.pack("<QQQI", 5, 6, 7, 3) + b"abc", {"file": 5, "at": 6, "time": 7, "bytes": owned(b"abc")}),
         Record(3, "Write", struct.pack("<QQQI", 5, 2**63, 7, 0), {"file": 5, "at": 2**63, "time": 7, "bytes": owned(b"")}),
         Record(4, "SetEnd", struct.pack("<QQQ", 8, 9, 10), {"file": 8, "length": 9, "time": 10}),
-        Record(5, "SetBasic", struct.pack("<QQQQQI", 11, 1, 2**40, 2**48 + 5, 2**64 - 1, 0x80), {"file": 11, "basic": basic_told()}),
+        Record(
+            5, "SetBasic", struct.pack("<QQQQQI", 11, 1, 2**40, 2**48 + 5, 2**64 - 1, 0x80), {"file": 11, "basic": basic_told()}
+        ),
         Record(6, "SetDelete", struct.pack("<QB", 12, 1), {"file": 12, "marked": True}),
         Record(6, "SetDelete", struct.pack("<QB", 12, 0), {"file": 12, "marked": False}),
         Record(7, "Rename", struct.pack("<QQ", 13, 14) + spelled_text("to\\é"), {"file": 13, "replaced": 14, "path": text("to\\é")}),
-        Record(8, "Remove", packed(8, 15), {"file": 15}), lock([(10, 20, 2), (2**64 - 1, 1, 4)]), lock([]),
-        Record(10, "Shut", packed(8, 16), {"id": 16}), Record(11, "Version", packed(4, 2), {"number": 2}, has_origin=False),
-        Record(12, "Expire", packed(8, 17), {"id": 17})]
+        Record(8, "Remove", packed(8, 15), {"file": 15}),
+        lock([(10, 20, 2), (2**64 - 1, 1, 4)]),
+        lock([]),
+        Record(10, "Shut", packed(8, 16), {"id": 16}),
+        Record(11, "Version", packed(4, 2), {"number": 2}, has_origin=False),
+        Record(12, "Expire", packed(8, 17), {"id": 17}),
+    ]
 
 
 def body_row(table, version, records, behind=2):
@@ -146,8 +179,8 @@ def refusals(table, records):
     bad(table, 2, create("a", opened="User").spelled(1), 0)
     path_at = 1 + 20 + 4 + 8
     plain = create("ab").spelled()
-    bad(table, 2, plain[:path_at + 2] + b"\x00\xd8" + plain[path_at + 4:], 0)
-    bad(table, 2, plain[:path_at] + packed(2, 3) + plain[path_at + 2:], 0)
+    bad(table, 2, plain[: path_at + 2] + b"\x00\xd8" + plain[path_at + 4 :], 0)
+    bad(table, 2, plain[:path_at] + packed(2, 3) + plain[path_at + 2 :], 0)
     bad(table, 2, plain[:-1] + b"\2", 0)
     bad(table, 2, packed(1, 11) + packed(4, 3), 0)
     table.title("bodies cut at each length")
