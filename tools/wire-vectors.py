@@ -61,7 +61,8 @@ def outcome(kind, layout, message):
 
 def accepted(table, kind, layout, value, **form):
     """A message that reads as the value, and the value's canonical spelling."""
-    body = layout.spelled(value, **form)
+    behind = form.pop("behind", b"")
+    body = layout.spelled(value, **form) + behind
     assert layout.read(bytes(HEADER) + body) == value, (kind, value)
     table.row(f"{kind} {body.hex()}", f"{kind}: {value_shown(layout, value)}", f"  {layout.spelled(value).hex()}")
 
@@ -86,8 +87,10 @@ def part_refusals(table, kind, layout, value, part):
     body = layout.spelled(value)
     if not part.walked and part.place:
         width = dict(layout.fields)[part.place]
-        for place in (layout.end - 1, HEADER + len(body) - len(value[part.name]) + 1):
+        for place in (layout.end - 1, HEADER + len(body) - len(value[part.name]) + 1, 256**width - 1):
             refused(table, kind, layout, with_number(body, layout.place_of(part.place), width, place), part.refusal())
+        far = all_ones(all_ones(body, layout, part.place), layout, part.length)
+        refused(table, kind, layout, far, part.refusal())
         return
     at = layout.place_of(part.length)
     if not part.walked:
@@ -110,9 +113,30 @@ def refusals(table, kind, layout, value):
     for length in (HEADER - 1, HEADER + 1, layout.end - 1):
         place = 0 if length < HEADER else short_place(layout, length)
         refused(table, kind, layout, body, f"Short({place})", length)
-    refused(table, kind, layout, with_number(body, HEADER, 2, layout.size + 1), f"BadSize({layout.size + 1})")
+    other_size = with_number(body, HEADER, 2, layout.size + 1)
+    refused(table, kind, layout, other_size, f"BadSize({layout.size + 1})")
     for part in layout.parts:
         part_refusals(table, kind, layout, value, part)
+    if layout.end > HEADER + 2:
+        refused(table, kind, layout, other_size, f"Short({short_place(layout, layout.end - 1)})", layout.end - 1)
+    breaking = [part for part in layout.parts if not part.walked]
+    if breaking:
+        broken = other_size
+        for part in breaking:
+            broken = all_ones(broken, layout, part.length)
+        refused(table, kind, layout, broken, f"BadSize({layout.size + 1})")
+        refused(table, kind, layout, with_number(broken, HEADER, 2, layout.size), breaking[0].refusal())
+
+
+def all_ones(body, layout, field):
+    width = dict(layout.fields)[field]
+    return with_number(body, layout.place_of(field), width, 256**width - 1)
+
+
+def with_empty_part(table, kind, layout, value, part):
+    """A part of no bytes may be told to stand anywhere."""
+    body = all_ones(layout.spelled(value), layout, part.place)
+    only_read(table, kind, layout, with_number(body, layout.place_of(part.length), dict(layout.fields)[part.length], 0))
 
 
 def counted_value(layout, given):
@@ -131,15 +155,20 @@ def counted_value(layout, given):
 
 
 def message_rows(table, kind, layout, given, *typical):
-    """A value of unlike bytes in its canonical spelling and in another one, typical values, and the refusals."""
+    """A value of unlike bytes in its canonical spelling, in another one and with bytes behind it, typical values, and the refusals."""
     table.title(kind)
     value = counted_value(layout, given)
     accepted(table, kind, layout, value)
+    if not any(part.walked for part in layout.parts):
+        accepted(table, kind, layout, value, behind=b"\xdd" * 3)
     placed = [part for part in layout.parts if part.place]
     turned = len(placed) > 1 and len(placed) == len(layout.parts) and not any(part.walked for part in placed)
     accepted(table, kind, layout, value, reserved=0xEE, gap=16, turned=turned)
     for other in typical:
         accepted(table, kind, layout, counted_value(layout, other))
+    for part in layout.parts:
+        if part.place:
+            with_empty_part(table, kind, layout, value, part)
     refusals(table, kind, layout, value)
 
 
