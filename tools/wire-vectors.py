@@ -93,7 +93,10 @@ def part_refusals(table, kind, layout, value, part):
         refused(table, kind, layout, far, part.refusal())
         return
     at = layout.place_of(part.length)
-    if not part.walked:
+    if part.walked:
+        for place in (0, HEADER, layout.end - 1, HEADER + len(body) + 1, 2**32 - 1):
+            refused(table, kind, layout, with_number(body, layout.place_of(part.place), 4, place), f"BadOffset({part.told})")
+    else:
         refused(table, kind, layout, with_number(body, at, 2, 0), part.refusal())
     refused(table, kind, layout, with_number(body, at, 2, 200), part.refusal())
 
@@ -275,24 +278,28 @@ def info_values():
         "ioctl_request": (
             {"input": b"sixteen bytes ..", "output": b"more"},
             {"ctl_code": 0x1401FC, "file_id": b"\xff" * 16, "input": b"in", "flags": 1},
+            {"ctl_code": 0x1401FC, "file_id": b"\xff" * 16, "max_input_response": 0, "flags": 1},
         ),
         "ioctl_response": (
             {"input": b"eightbyt", "output": b"output"},
             {"ctl_code": 0x1401FC, "output": classes.interface(0x0100007F), "input": b"eightbyt"},
+            {"ctl_code": 0x1401FC, "output": classes.interface(0x0100007F)},
         ),
         "query_directory_request": (
             {"file_information_class": 37, "name": "*".encode("utf-16-le")},
             {"file_information_class": 12, "flags": 1, "name": NAME, "output_buffer_length": 1048576},
+            {"file_information_class": 1},
         ),
         "query_directory_response": ({"output": names},),
         "query_info_request": (
             {"info_type": 1, "file_info_class": 18, "input": b"not looked at"},
             {"info_type": 2, "file_info_class": 7, "input": b"."},
+            {"info_type": 1, "file_info_class": 5},
         ),
         "query_info_response": ({"output": bytes(range(40))},),
         "set_info_request": (
-            {"info_type": 1, "file_info_class": 4, "input": classes.basic(classes.TIMES)},
-            {"info_type": 1, "file_info_class": 13, "additional_information": 0, "input": b"\1"},
+            {"info_type": 1, "file_info_class": 4, "payload": classes.basic(classes.TIMES)},
+            {"info_type": 1, "file_info_class": 13, "additional_information": 0, "payload": b"\1"},
         ),
     }
 
@@ -303,11 +310,39 @@ def tables_of(table, messages, values):
         message_rows(table, kind, layout, given, *typical)
 
 
+def class_refusals(table, messages):
+    """Classes that aren't known, before any part; the types whose things are left out have no such class."""
+    table.title("information classes (MS-FSCC 2.4, 2.5): the known ones are read, others are refused before a part is looked at")
+    listing, asked, given = (messages[name] for name in ("query_directory_request", "query_info_request", "set_info_request"))
+    for number in (0, 4, 5, 36, 39, 255):
+        value = counted_value(listing, {"file_information_class": number, "name": b"*\0"})
+        refused(table, "query_directory_request", listing, listing.spelled(value), f"BadClass({number})")
+    for number in layouts.DIRECTORY_CLASSES:
+        value = counted_value(listing, {"file_information_class": number, "name": b"*\0"})
+        only_read(table, "query_directory_request", listing, listing.spelled(value))
+    for kind, layout, part, known, others in (
+        ("query_info_request", asked, "input", layouts.QUERY_CLASSES, {1: (0, 1, 10, 13, 19, 20, 64), 2: (0, 2, 6, 8, 9)}),
+        ("set_info_request", given, "payload", layouts.SET_CLASSES, {1: (0, 1, 5, 6, 18, 34, 255)}),
+    ):
+        for info_type, numbers in others.items():
+            for number in numbers:
+                body = layout.spelled(counted_value(layout, {"info_type": info_type, "file_info_class": number, part: b"part"}))
+                refused(table, kind, layout, body, f"BadClass({number})")
+                refused(table, kind, layout, all_ones(body, layout, layout.parts[0].length), f"BadClass({number})")
+        for info_type, numbers in known.items():
+            for number in numbers:
+                value = counted_value(layout, {"info_type": info_type, "file_info_class": number, part: b"part"})
+                only_read(table, kind, layout, layout.spelled(value))
+        for info_type in (3, 4):
+            value = counted_value(layout, {"info_type": info_type, "file_info_class": 0, part: b"part"})
+            only_read(table, kind, layout, layout.spelled(value))
+
+
 def logon_cuts(table, messages, values):
     table.title("each message of a logon with a create, a write, a listing and a close, cut at each length")
     for kind in messages:
         given = values.get(kind, ({},))
-        cuts(table, kind, messages[kind], counted_value(messages[kind], given[-1] if kind == "query_directory_request" else given[0]))
+        cuts(table, kind, messages[kind], counted_value(messages[kind], given[1] if kind == "query_directory_request" else given[0]))
 
 
 LOGON = {
@@ -345,6 +380,7 @@ def main():
     logon_cuts(file, chosen(layouts.FILE, LOGON["file"]), file_values())
     contexts.create_context_rows(file)
     tables_of(info, layouts.INFO, info_values())
+    class_refusals(info, layouts.INFO)
     logon_cuts(info, chosen(layouts.INFO, LOGON["info"]), info_values())
     classes.class_rows(info)
     records.record_rows(record)

@@ -2,7 +2,7 @@
 
 A layout is the standard's list of fields behind the header of 64 bytes, and the variable parts that some of them place.
 The reader tells the first break of a message: a fixed part that doesn't fit (at the field that doesn't), another
-StructureSize, then the parts in the order of their fields.
+StructureSize, an information class that isn't known, then the parts in the order of their fields.
 """
 import re
 import struct
@@ -31,12 +31,14 @@ class Part:
     """A variable part: the fields of its place and its length, its name, and where it may begin.
 
     `each` is the length of an element where the length field is a count; a count of 0 then breaks. `walked` parts are
-    negotiate contexts, whose elements carry their own lengths. A part without a place stands behind the fixed part.
+    negotiate contexts, whose elements carry their own lengths. A part without a place stands behind the fixed part. The place
+    of an `absent` part of no bytes is written 0, that of another one where it would stand.
     """
 
-    def __init__(self, name, place, length, told=None, each=1, step=1, counted=False, walked=False, one_byte=False):
+    def __init__(self, name, place, length, told=None, each=1, step=1, counted=False, walked=False, one_byte=False, absent=False):
         self.name, self.place, self.length, self.told = name, place, length, told or name.capitalize()
-        self.each, self.step, self.counted, self.walked, self.one_byte = each, step, counted, walked, one_byte
+        self.each, self.step, self.counted, self.walked = each, step, counted, walked
+        self.one_byte, self.absent = one_byte, absent or step == 8
 
     def refusal(self):
         return f"BadCount({self.told})" if self.counted else f"BadOffset({self.told})"
@@ -51,6 +53,7 @@ class Layout:
         self.of_parts = {name: part for part in parts for name in (part.place, part.length) if name}
         self.walked = {part.length for part in parts if part.walked}
         self.end = HEADER + 2 + sum(width for _, width in self.fields)
+        self.class_field, self.known = None, None
 
     def is_told(self, name):
         """Whether the value of a message has the field: not reserved ones, nor the place and length of a part."""
@@ -81,7 +84,7 @@ class Layout:
             if part.place:
                 start = self.end + len(behind) + gap
                 start += -start % part.step
-                numbers[part.place] = start if content or part.step == 1 else 0
+                numbers[part.place] = start if content or not part.absent else 0
                 if content:
                     behind = behind.ljust(start - self.end, b"\xcc" if gap else b"\0")
             behind += content
@@ -123,8 +126,12 @@ class Layout:
         size = number_at(message, HEADER, 2)
         if size != self.size:
             return f"BadSize({size})"
+        if self.class_field and not self.known(values):
+            return f"BadClass({values[self.class_field]})"
         value = {snake(name): values[name] for name, _ in self.told()}
         for part in self.parts:
+            if part.walked and values[part.length] and not self.end <= values[part.place] <= len(message):
+                return f"BadOffset({part.told})"
             content = self.part_read(message, part, values)
             if content is None:
                 return part.refusal()
@@ -134,7 +141,7 @@ class Layout:
     def part_read(self, message, part, values):
         start = values[part.place] if part.place else self.end
         if part.walked:
-            return walked_contexts(message, start, values[part.length], self.end)
+            return walked_contexts(message, start, values[part.length])
         count = values[part.length] * part.each
         if part.counted and count == 0:
             return None
@@ -143,12 +150,10 @@ class Layout:
         return message[start : start + count] if count else b""
 
 
-def walked_contexts(message, start, count, fixed_end):
+def walked_contexts(message, start, count):
     """The bytes of so many negotiate contexts (MS-SMB2 2.2.3.1), each at a multiple of 8."""
     if count == 0:
         return b""
-    if start < fixed_end:
-        return None
     at = start
     for _ in range(count):
         at = aligned(at)
@@ -272,21 +277,21 @@ INFO = {
         57,
         f"Reserved:2 CtlCode:4 {FILE_ID} InputOffset:4 InputCount:4 MaxInputResponse:4 OutputOffset:4 OutputCount:4"
         " MaxOutputResponse:4 Flags:4 Reserved2:4",
-        Part("input", "InputOffset", "InputCount"),
-        Part("output", "OutputOffset", "OutputCount"),
+        Part("input", "InputOffset", "InputCount", absent=True),
+        Part("output", "OutputOffset", "OutputCount", absent=True),
     ),
     "ioctl_response": Layout(
         "IoctlResponse",
         49,
         f"Reserved:2 CtlCode:4 {FILE_ID} InputOffset:4 InputCount:4 OutputOffset:4 OutputCount:4 Flags:4 Reserved2:4",
-        Part("input", "InputOffset", "InputCount"),
-        Part("output", "OutputOffset", "OutputCount"),
+        Part("input", "InputOffset", "InputCount", absent=True),
+        Part("output", "OutputOffset", "OutputCount", absent=True),
     ),
     "query_directory_request": Layout(
         "QueryDirectoryRequest",
         33,
         f"FileInformationClass:1 Flags:1 FileIndex:4 {FILE_ID} FileNameOffset:2 FileNameLength:2 OutputBufferLength:4",
-        Part("name", "FileNameOffset", "FileNameLength"),
+        Part("name", "FileNameOffset", "FileNameLength", absent=True),
     ),
     "query_directory_response": Layout("QueryDirectoryResponse", 9, "OutputBufferOffset:2 OutputBufferLength:4", output()),
     "query_info_request": Layout(
@@ -294,14 +299,32 @@ INFO = {
         41,
         f"InfoType:1 FileInfoClass:1 OutputBufferLength:4 InputBufferOffset:2 Reserved:2 InputBufferLength:4 AdditionalInformation:4"
         f" Flags:4 {FILE_ID}",
-        Part("input", "InputBufferOffset", "InputBufferLength"),
+        Part("input", "InputBufferOffset", "InputBufferLength", absent=True),
     ),
     "query_info_response": Layout("QueryInfoResponse", 9, "OutputBufferOffset:2 OutputBufferLength:4", output()),
     "set_info_request": Layout(
         "SetInfoRequest",
         33,
         f"InfoType:1 FileInfoClass:1 BufferLength:4 BufferOffset:2 Reserved:2 AdditionalInformation:4 {FILE_ID}",
-        Part("input", "BufferOffset", "BufferLength"),
+        Part("payload", "BufferOffset", "BufferLength"),
     ),
     "set_info_response": Layout("SetInfoResponse", 2, ""),
 }
+
+# ---- information classes: those that are known, by information type; types of other kinds have none
+
+DIRECTORY_CLASSES = (1, 2, 3, 12, 37, 38)
+QUERY_CLASSES = {1: (4, 5, 6, 18, 34), 2: (1, 3, 4, 5, 7)}
+SET_CLASSES = {1: (4, 10, 13, 19, 20)}
+
+
+def known_by(classes):
+    return lambda values: values["InfoType"] not in classes or values["FileInfoClass"] in classes[values["InfoType"]]
+
+
+INFO["query_directory_request"].class_field = "FileInformationClass"
+INFO["query_directory_request"].known = lambda values: values["FileInformationClass"] in DIRECTORY_CLASSES
+INFO["query_info_request"].class_field = "FileInfoClass"
+INFO["query_info_request"].known = known_by(QUERY_CLASSES)
+INFO["set_info_request"].class_field = "FileInfoClass"
+INFO["set_info_request"].known = known_by(SET_CLASSES)
