@@ -1,2 +1,3 @@
 pub mod Endian
 pub mod Filling
+pub mod Units

@@ -1,1 +1,2 @@
 pub mod Spot
+pub mod Pair

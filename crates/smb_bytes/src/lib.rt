@@ -1,4 +1,4 @@
-//! Bytes: owned ones and text, which contracts see as lists; fields read one after the other at a
+//! Bytes: owned ones and text, which contracts see as lists; text in UTF-16; fields read one after the other at a
 //! place; fields put at the end or into a fixed number of bytes.
 #![tactic(auto)]
 
@@ -9,6 +9,7 @@ mod numbers;
 mod out;
 mod short;
 mod text;
+mod utf16;
 
 pub use bytes::Bytes;
 pub use cursor::Cursor;
@@ -16,6 +17,8 @@ pub use fixed::FixedOut;
 pub use out::Out;
 pub use short::Short;
 pub use text::Text;
+pub use utf16::{text_of_utf16, utf16_of};
+pub use wire_defs::TextError;
 
 #[cfg(test)]
 mod tests;

@@ -1,15 +1,21 @@
-//! The header of a message, and what the readers of messages share.
+//! The header of a message, the messages of a frame, and what the readers of messages share.
 #![tactic(auto)]
 
+mod compound;
+mod contexts;
 mod parts;
 mod places;
 mod reading;
 mod request;
+mod spans;
 mod writing;
 
+pub use compound::split_compound;
+pub use contexts::{ContextAt, context_behind, contexts_of};
 pub use parts::{counted_at, part_of};
 pub use places::{gap_before, told_place};
 pub use reading::read_header;
 pub use request::Request;
-pub use wire_defs::{Header, HeaderError, MessageError, Part};
+pub use spans::Parts;
+pub use wire_defs::{Header, HeaderError, MessageError, Part, Span};
 pub use writing::write_header;

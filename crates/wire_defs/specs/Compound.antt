@@ -2,13 +2,9 @@
 use Rattle.std.specs.Prelude.{◌≡◌, ℕ, ◌+◌, ◌%◌, ◌≤◌, List, [], ◌∷◌, ◌++◌, length, drop, Result, Ok, Err, ⊤}
 use Rattle.wire_defs.specs.Header.{SpellsHeader, BreaksHeader}
 use Rattle.wire_defs.specs.declared.header.Header.{Header}
+use Rattle.wire_defs.specs.declared.header.Span.{Span}
 use Rattle.wire_defs.specs.declared.error.HeaderError.{HeaderError}
 use Rattle.wire_defs.specs.declared.error.HeaderError.TheVariants as errors
-
--- A message of a frame: from a place on, up to another one. What pads it to the next message is its own.
-pub record Span : Type 0 where
-  pub start : ℕ
-  pub end : ℕ
 
 -- a header stands at a place of a frame
 abbrev pub HasHeader : List ℕ → ℕ → Header → Type 0

@@ -1,6 +1,6 @@
 -- Text in UTF-16, the lower byte of each unit first (RFC 2781; names and paths of MS-SMB2). A text is the list of
 -- its UTF-8 bytes.
-use Rattle.std.specs.Prelude.{◌≡◌, ℕ, ◌+◌, ◌-◌, ◌/◌, ◌%◌, ◌<◌, ◌≤◌, ◌⊎◌, true, nat_lt, if◌then◌else◌, List, [], ◌∷◌, ◌++◌, length, take, Result, Ok, Err, ⊤, chars}
+use Rattle.std.specs.Prelude.{◌≡◌, ℕ, ◌+◌, ◌-◌, ◌/◌, ◌%◌, ◌<◌, ◌≤◌, ◌⊎◌, true, nat_lt, if◌then◌else◌, List, ◌++◌, length, take, Result, Ok, Err, ⊤, chars, flat_map}
 use Rattle.std.specs.Str.{all_scalars}
 use Rattle.wire_defs.specs.Places.{le, number}
 use Rattle.wire_defs.specs.declared.refusal.TextError.{TextError}
@@ -10,9 +10,8 @@ use Rattle.wire_defs.specs.declared.refusal.TextError.TheVariants as errors
 abbrev pub units_of : ℕ → List ℕ
 units_of c = if nat_lt c 0x10000 then le 2 c else le 2 (0xd800 + (c - 0x10000) / 0x400) ++ le 2 (0xdc00 + (c - 0x10000) % 0x400)
 
-unfoldable pub utf16_of : List ℕ → List ℕ
-utf16_of [] = []
-utf16_of (c ∷ cs) = units_of c ++ utf16_of cs
+abbrev pub utf16_of : List ℕ → List ℕ
+utf16_of characters = flat_map units_of characters
 
 unfoldable pub utf16 : List ℕ → List ℕ
 utf16 text = utf16_of (chars text)

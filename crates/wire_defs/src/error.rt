@@ -1,3 +1,4 @@
+use std::alloc::AllocError;
 use thiserror::Error;
 
 /// A variable part of a message.
@@ -52,4 +53,15 @@ pub enum HeaderError {
     /// The place of a message whose NextCommand leads nowhere.
     #[error("the next message of the one at {0}")]
     BadNext(usize),
+}
+
+impl From<AllocError> for HeaderError {
+    ghost use Rattle.std.specs.Prelude.{◌≡◌};
+    ghost use Rattle.wire_defs.specs.declared.error.HeaderError.TheVariants as errors;
+
+    ghost from_gives = { λ a e. e ≡ errors.Memory };
+
+    fn from(_short: AllocError) -> HeaderError {
+        HeaderError::Memory
+    }
 }

@@ -13,3 +13,11 @@ pub struct Header {
     pub session: u64,
     pub signature: [u8; 16],
 }
+
+/// A message of a frame, from the byte `start` up to the byte `end`, which isn't its own. What pads it
+/// to the next message is.
+#[derive(Clone, Copy, Debug, PartialEq, Eq)]
+pub struct Span {
+    pub start: usize,
+    pub end: usize,
+}

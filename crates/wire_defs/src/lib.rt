@@ -26,7 +26,7 @@ pub use error::{HeaderError, MessageError, Part};
 pub use file_message::{
     CloseRequest, CloseResponse, FlushRequest, FlushResponse, LockResponse, SetInfoResponse,
 };
-pub use header::Header;
+pub use header::{Header, Span};
 pub use message::{ErrorResponse, LockElement, ReadRequest, WriteResponse};
 pub use refusal::{CtxError, FrameError, TextError};
 pub use session_message::{

@@ -1,3 +1,4 @@
+use std::alloc::AllocError;
 use thiserror::Error;
 
 /// What keeps bytes from being a text in UTF-16: the first break, in the order written here.
@@ -35,4 +36,26 @@ pub enum CtxError {
     /// A type, 1, 2 or 8, that stands twice.
     #[error("the context of type {0} stands twice")]
     Doubled(u16),
+}
+
+impl From<AllocError> for TextError {
+    ghost use Rattle.std.specs.Prelude.{◌≡◌};
+    ghost use Rattle.wire_defs.specs.declared.refusal.TextError.TheVariants as errors;
+
+    ghost from_gives = { λ a e. e ≡ errors.Memory };
+
+    fn from(_short: AllocError) -> TextError {
+        TextError::Memory
+    }
+}
+
+impl From<AllocError> for FrameError {
+    ghost use Rattle.std.specs.Prelude.{◌≡◌};
+    ghost use Rattle.wire_defs.specs.declared.refusal.FrameError.TheVariants as errors;
+
+    ghost from_gives = { λ a e. e ≡ errors.Memory };
+
+    fn from(_short: AllocError) -> FrameError {
+        FrameError::Memory
+    }
 }
