@@ -1,0 +1,29 @@
+ghost use Rattle.std.specs.Prelude.{◌≡◌, IfOk};
+ghost use Rattle.wire_defs.specs.Fault.{Reads};
+ghost use Rattle.wire_defs.specs.FileClasses.{SpellsFileAllocationInformation, file_allocation_information_fault, file_allocation_information_spelling};
+
+use smb_bytes::{Bytes, Cursor, Out};
+use smb_header::MessageError;
+use std::alloc::{AllocError, Global};
+use wire_defs::FileAllocationInformation;
+
+/// Reads the FileAllocationInformation that `m` begins with.
+pub fn read_file_allocation_information(m: &[u8]) -> Result<FileAllocationInformation, MessageError>
+    ensures { Reads (file_allocation_information_fault m.now) (SpellsFileAllocationInformation m.now) (λ v. v) result }
+{
+    let mut cursor = Cursor::new(m);
+    let allocation_size = cursor.get_u64()?;
+    Ok(FileAllocationInformation { allocation_size })
+}
+
+/// The canonical spelling of the FileAllocationInformation.
+pub fn write_file_allocation_information(
+    alloc: Global,
+    v: &FileAllocationInformation,
+) -> Result<Bytes, AllocError>
+    ensures { IfOk result (λ b. b ≡ file_allocation_information_spelling v.now) }
+{
+    let mut out = Out::new(alloc);
+    out.put_u64(v.allocation_size)?;
+    Ok(out.finish())
+}

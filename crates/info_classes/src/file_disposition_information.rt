@@ -1,0 +1,31 @@
+ghost use Rattle.std.specs.Prelude.{◌≡◌, IfOk};
+ghost use Rattle.wire_defs.specs.Fault.{Reads};
+ghost use Rattle.wire_defs.specs.FileClasses.{SpellsFileDispositionInformation, file_disposition_information_fault, file_disposition_information_spelling};
+
+use smb_bytes::{Bytes, Cursor, Out};
+use smb_header::MessageError;
+use std::alloc::{AllocError, Global};
+use wire_defs::FileDispositionInformation;
+
+/// Reads the FileDispositionInformation that `m` begins with.
+pub fn read_file_disposition_information(
+    m: &[u8],
+) -> Result<FileDispositionInformation, MessageError>
+    ensures { Reads (file_disposition_information_fault m.now) (SpellsFileDispositionInformation m.now) (λ v. v) result }
+{
+    let mut cursor = Cursor::new(m);
+    let delete_pending = cursor.get_u8()?;
+    Ok(FileDispositionInformation { delete_pending })
+}
+
+/// The canonical spelling of the FileDispositionInformation.
+pub fn write_file_disposition_information(
+    alloc: Global,
+    v: &FileDispositionInformation,
+) -> Result<Bytes, AllocError>
+    ensures { IfOk result (λ b. b ≡ file_disposition_information_spelling v.now) }
+{
+    let mut out = Out::new(alloc);
+    out.put_u8(v.delete_pending)?;
+    Ok(out.finish())
+}

@@ -1,0 +1,29 @@
+ghost use Rattle.std.specs.Prelude.{◌≡◌, IfOk};
+ghost use Rattle.wire_defs.specs.Fault.{Reads};
+ghost use Rattle.wire_defs.specs.FileClasses.{SpellsFileEndOfFileInformation, file_end_of_file_information_fault, file_end_of_file_information_spelling};
+
+use smb_bytes::{Bytes, Cursor, Out};
+use smb_header::MessageError;
+use std::alloc::{AllocError, Global};
+use wire_defs::FileEndOfFileInformation;
+
+/// Reads the FileEndOfFileInformation that `m` begins with.
+pub fn read_file_end_of_file_information(m: &[u8]) -> Result<FileEndOfFileInformation, MessageError>
+    ensures { Reads (file_end_of_file_information_fault m.now) (SpellsFileEndOfFileInformation m.now) (λ v. v) result }
+{
+    let mut cursor = Cursor::new(m);
+    let end_of_file = cursor.get_u64()?;
+    Ok(FileEndOfFileInformation { end_of_file })
+}
+
+/// The canonical spelling of the FileEndOfFileInformation.
+pub fn write_file_end_of_file_information(
+    alloc: Global,
+    v: &FileEndOfFileInformation,
+) -> Result<Bytes, AllocError>
+    ensures { IfOk result (λ b. b ≡ file_end_of_file_information_spelling v.now) }
+{
+    let mut out = Out::new(alloc);
+    out.put_u64(v.end_of_file)?;
+    Ok(out.finish())
+}

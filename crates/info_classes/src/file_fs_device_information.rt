@@ -1,0 +1,34 @@
+ghost use Rattle.std.specs.Prelude.{◌≡◌, IfOk};
+ghost use Rattle.wire_defs.specs.Fault.{Reads};
+ghost use Rattle.wire_defs.specs.VolumeClasses.{SpellsFileFsDeviceInformation, file_fs_device_information_fault, file_fs_device_information_spelling};
+
+use smb_bytes::{Bytes, Cursor, Out};
+use smb_header::MessageError;
+use std::alloc::{AllocError, Global};
+use wire_defs::FileFsDeviceInformation;
+
+/// Reads the FileFsDeviceInformation that `m` begins with.
+pub fn read_file_fs_device_information(m: &[u8]) -> Result<FileFsDeviceInformation, MessageError>
+    ensures { Reads (file_fs_device_information_fault m.now) (SpellsFileFsDeviceInformation m.now) (λ v. v) result }
+{
+    let mut cursor = Cursor::new(m);
+    let device_type = cursor.get_u32()?;
+    let characteristics = cursor.get_u32()?;
+    Ok(FileFsDeviceInformation {
+        device_type,
+        characteristics,
+    })
+}
+
+/// The canonical spelling of the FileFsDeviceInformation.
+pub fn write_file_fs_device_information(
+    alloc: Global,
+    v: &FileFsDeviceInformation,
+) -> Result<Bytes, AllocError>
+    ensures { IfOk result (λ b. b ≡ file_fs_device_information_spelling v.now) }
+{
+    let mut out = Out::new(alloc);
+    out.put_u32(v.device_type)?;
+    out.put_u32(v.characteristics)?;
+    Ok(out.finish())
+}

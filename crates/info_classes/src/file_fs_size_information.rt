@@ -1,0 +1,40 @@
+ghost use Rattle.std.specs.Prelude.{◌≡◌, IfOk};
+ghost use Rattle.wire_defs.specs.Fault.{Reads};
+ghost use Rattle.wire_defs.specs.VolumeClasses.{SpellsFileFsSizeInformation, file_fs_size_information_fault, file_fs_size_information_spelling};
+
+use smb_bytes::{Bytes, Cursor, Out};
+use smb_header::MessageError;
+use std::alloc::{AllocError, Global};
+use wire_defs::FileFsSizeInformation;
+
+/// Reads the FileFsSizeInformation that `m` begins with.
+pub fn read_file_fs_size_information(m: &[u8]) -> Result<FileFsSizeInformation, MessageError>
+    ensures { Reads (file_fs_size_information_fault m.now) (SpellsFileFsSizeInformation m.now) (λ v. v) result }
+{
+    let mut cursor = Cursor::new(m);
+    let total_allocation_units = cursor.get_u64()?;
+    let available_allocation_units = cursor.get_u64()?;
+    let sectors_per_allocation_unit = cursor.get_u32()?;
+    let bytes_per_sector = cursor.get_u32()?;
+    Ok(FileFsSizeInformation {
+        total_allocation_units,
+        available_allocation_units,
+        sectors_per_allocation_unit,
+        bytes_per_sector,
+    })
+}
+
+/// The canonical spelling of the FileFsSizeInformation.
+pub fn write_file_fs_size_information(
+    alloc: Global,
+    v: &FileFsSizeInformation,
+) -> Result<Bytes, AllocError>
+    ensures { IfOk result (λ b. b ≡ file_fs_size_information_spelling v.now) }
+{
+    let mut out = Out::new(alloc);
+    out.put_u64(v.total_allocation_units)?;
+    out.put_u64(v.available_allocation_units)?;
+    out.put_u32(v.sectors_per_allocation_unit)?;
+    out.put_u32(v.bytes_per_sector)?;
+    Ok(out.finish())
+}

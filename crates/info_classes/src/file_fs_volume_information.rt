@@ -1,0 +1,49 @@
+ghost use Rattle.std.specs.Prelude.{◌≡◌, IfOk, ◌<◌, ◌^◌, length};
+ghost use Rattle.wire_defs.specs.Fault.{Reads};
+ghost use Rattle.wire_defs.specs.VolumeClasses.{SpellsFileFsVolumeInformation, file_fs_volume_information_fault, file_fs_volume_information_spelling};
+ghost use Rattle.info_classes.specs.Views.{file_fs_volume_information};
+
+use crate::named::FileFsVolumeInformation;
+use smb_bytes::{Bytes, Cursor, Out};
+use smb_header::{MessageError, Part, part_of};
+use std::alloc::{AllocError, Global};
+
+/// Reads the FileFsVolumeInformation that `m` begins with.
+pub fn read_file_fs_volume_information(
+    m: &[u8],
+) -> Result<FileFsVolumeInformation<'_>, MessageError>
+    ensures { Reads (file_fs_volume_information_fault m.now) (SpellsFileFsVolumeInformation m.now) file_fs_volume_information result }
+{
+    let mut cursor = Cursor::new(m);
+    let volume_creation_time = cursor.get_u64()?;
+    let volume_serial_number = cursor.get_u32()?;
+    let label_len = cursor.get_u32()?;
+    let supports_objects = cursor.get_u8()?;
+    let _reserved = cursor.get_u8()?;
+    let label = part_of(m, 18, label_len as usize, 18, Part::Name)?;
+    Ok(FileFsVolumeInformation {
+        volume_creation_time,
+        volume_serial_number,
+        supports_objects,
+        label,
+    })
+}
+
+/// The canonical spelling of the FileFsVolumeInformation. The length of the label must fit its
+/// field of 4 bytes.
+pub fn write_file_fs_volume_information(
+    alloc: Global,
+    v: &FileFsVolumeInformation<'_>,
+) -> Result<Bytes, AllocError>
+    requires { length v.now.label.now < 2 ^ 32 }
+    ensures { IfOk result (λ b. b ≡ file_fs_volume_information_spelling (file_fs_volume_information v.now)) }
+{
+    let mut out = Out::new(alloc);
+    out.put_u64(v.volume_creation_time)?;
+    out.put_u32(v.volume_serial_number)?;
+    out.put_u32(v.label.len() as u32)?;
+    out.put_u8(v.supports_objects)?;
+    out.put_u8(0)?;
+    out.put_slice(v.label)?;
+    Ok(out.finish())
+}

@@ -1,0 +1,29 @@
+ghost use Rattle.std.specs.Prelude.{◌≡◌, IfOk};
+ghost use Rattle.wire_defs.specs.Fault.{Reads};
+ghost use Rattle.wire_defs.specs.FileClasses.{SpellsFileInternalInformation, file_internal_information_fault, file_internal_information_spelling};
+
+use smb_bytes::{Bytes, Cursor, Out};
+use smb_header::MessageError;
+use std::alloc::{AllocError, Global};
+use wire_defs::FileInternalInformation;
+
+/// Reads the FileInternalInformation that `m` begins with.
+pub fn read_file_internal_information(m: &[u8]) -> Result<FileInternalInformation, MessageError>
+    ensures { Reads (file_internal_information_fault m.now) (SpellsFileInternalInformation m.now) (λ v. v) result }
+{
+    let mut cursor = Cursor::new(m);
+    let index_number = cursor.get_u64()?;
+    Ok(FileInternalInformation { index_number })
+}
+
+/// The canonical spelling of the FileInternalInformation.
+pub fn write_file_internal_information(
+    alloc: Global,
+    v: &FileInternalInformation,
+) -> Result<Bytes, AllocError>
+    ensures { IfOk result (λ b. b ≡ file_internal_information_spelling v.now) }
+{
+    let mut out = Out::new(alloc);
+    out.put_u64(v.index_number)?;
+    Ok(out.finish())
+}

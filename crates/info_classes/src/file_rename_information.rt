@@ -1,0 +1,44 @@
+ghost use Rattle.std.specs.Prelude.{◌≡◌, IfOk, ◌<◌, ◌^◌, length};
+ghost use Rattle.wire_defs.specs.Fault.{Reads};
+ghost use Rattle.wire_defs.specs.FileClasses.{SpellsFileRenameInformation, file_rename_information_fault, file_rename_information_spelling};
+ghost use Rattle.info_classes.specs.Views.{file_rename_information};
+
+use crate::named::FileRenameInformation;
+use smb_bytes::{Bytes, Cursor, Out};
+use smb_header::{MessageError, Part, part_of};
+use std::alloc::{AllocError, Global};
+
+/// Reads the FileRenameInformation that `m` begins with.
+pub fn read_file_rename_information(m: &[u8]) -> Result<FileRenameInformation<'_>, MessageError>
+    ensures { Reads (file_rename_information_fault m.now) (SpellsFileRenameInformation m.now) file_rename_information result }
+{
+    let mut cursor = Cursor::new(m);
+    let replace_if_exists = cursor.get_u8()?;
+    let _reserved = cursor.take(7)?;
+    let root_directory = cursor.get_u64()?;
+    let name_len = cursor.get_u32()?;
+    let name = part_of(m, 20, name_len as usize, 20, Part::Name)?;
+    Ok(FileRenameInformation {
+        replace_if_exists,
+        root_directory,
+        name,
+    })
+}
+
+/// The canonical spelling of the FileRenameInformation. The length of the name must fit its
+/// field of 4 bytes.
+pub fn write_file_rename_information(
+    alloc: Global,
+    v: &FileRenameInformation<'_>,
+) -> Result<Bytes, AllocError>
+    requires { length v.now.name.now < 2 ^ 32 }
+    ensures { IfOk result (λ b. b ≡ file_rename_information_spelling (file_rename_information v.now)) }
+{
+    let mut out = Out::new(alloc);
+    out.put_u8(v.replace_if_exists)?;
+    out.put_zeros(7)?;
+    out.put_u64(v.root_directory)?;
+    out.put_u32(v.name.len() as u32)?;
+    out.put_slice(v.name)?;
+    Ok(out.finish())
+}
