@@ -1,0 +1,42 @@
+ghost use Rattle.std.specs.Prelude.{◌≡◌, IfOk, ◌<◌, ◌^◌, length};
+ghost use Rattle.wire_defs.specs.Fault.{Reads};
+ghost use Rattle.wire_defs.specs.QueryDirectory.{SpellsQueryDirectoryResponse, query_directory_response_fault, query_directory_response_spelling};
+ghost use Rattle.msg_info.specs.Views.{query_directory_response};
+
+use crate::query_directory::QueryDirectoryResponse;
+use smb_bytes::{Bytes, Cursor, Out};
+use smb_header::{MessageError, Part, part_of};
+use std::alloc::{AllocError, Global};
+
+/// Reads the QUERY_DIRECTORY response that stands behind the header of `m`.
+pub fn read_query_directory_response(m: &[u8]) -> Result<QueryDirectoryResponse<'_>, MessageError>
+    ensures { Reads (query_directory_response_fault m.now) (SpellsQueryDirectoryResponse m.now) query_directory_response result }
+{
+    let mut cursor = Cursor::new(m);
+    let _header = cursor.take(64)?;
+    let size = cursor.get_u16()?;
+    let output_at = cursor.get_u16()?;
+    let output_len = cursor.get_u32()?;
+    if size != 9 {
+        return Err(MessageError::BadSize(size));
+    }
+    let output = part_of(m, output_at as usize, output_len as usize, 72, Part::Output)?;
+    Ok(QueryDirectoryResponse { output })
+}
+
+/// The canonical spelling of the QUERY_DIRECTORY response, which stands behind a header. The
+/// length of the output must fit its field of 4 bytes.
+pub fn write_query_directory_response(
+    alloc: Global,
+    v: &QueryDirectoryResponse<'_>,
+) -> Result<Bytes, AllocError>
+    requires { length v.now.output.now < 2 ^ 32 }
+    ensures { IfOk result (λ b. b ≡ query_directory_response_spelling (query_directory_response v.now)) }
+{
+    let mut out = Out::new(alloc);
+    out.put_u16(9)?;
+    out.put_u16(72)?;
+    out.put_u32(v.output.len() as u32)?;
+    out.put_slice(v.output)?;
+    Ok(out.finish())
+}

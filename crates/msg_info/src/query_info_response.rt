@@ -1,0 +1,42 @@
+ghost use Rattle.std.specs.Prelude.{◌≡◌, IfOk, ◌<◌, ◌^◌, length};
+ghost use Rattle.wire_defs.specs.Fault.{Reads};
+ghost use Rattle.wire_defs.specs.QueryInfo.{SpellsQueryInfoResponse, query_info_response_fault, query_info_response_spelling};
+ghost use Rattle.msg_info.specs.Views.{query_info_response};
+
+use crate::query_info::QueryInfoResponse;
+use smb_bytes::{Bytes, Cursor, Out};
+use smb_header::{MessageError, Part, part_of};
+use std::alloc::{AllocError, Global};
+
+/// Reads the QUERY_INFO response that stands behind the header of `m`.
+pub fn read_query_info_response(m: &[u8]) -> Result<QueryInfoResponse<'_>, MessageError>
+    ensures { Reads (query_info_response_fault m.now) (SpellsQueryInfoResponse m.now) query_info_response result }
+{
+    let mut cursor = Cursor::new(m);
+    let _header = cursor.take(64)?;
+    let size = cursor.get_u16()?;
+    let output_at = cursor.get_u16()?;
+    let output_len = cursor.get_u32()?;
+    if size != 9 {
+        return Err(MessageError::BadSize(size));
+    }
+    let output = part_of(m, output_at as usize, output_len as usize, 72, Part::Output)?;
+    Ok(QueryInfoResponse { output })
+}
+
+/// The canonical spelling of the QUERY_INFO response, which stands behind a header. The length
+/// of the output must fit its field of 4 bytes.
+pub fn write_query_info_response(
+    alloc: Global,
+    v: &QueryInfoResponse<'_>,
+) -> Result<Bytes, AllocError>
+    requires { length v.now.output.now < 2 ^ 32 }
+    ensures { IfOk result (λ b. b ≡ query_info_response_spelling (query_info_response v.now)) }
+{
+    let mut out = Out::new(alloc);
+    out.put_u16(9)?;
+    out.put_u16(72)?;
+    out.put_u32(v.output.len() as u32)?;
+    out.put_slice(v.output)?;
+    Ok(out.finish())
+}

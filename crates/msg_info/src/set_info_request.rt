@@ -1,0 +1,63 @@
+ghost use Rattle.std.specs.Prelude.{◌≡◌, IfOk, ◌<◌, ◌^◌, length};
+ghost use Rattle.wire_defs.specs.Fault.{Reads};
+ghost use Rattle.wire_defs.specs.SetInfo.{SpellsSetInfoRequest, set_info_request_fault, set_info_request_spelling};
+ghost use Rattle.msg_info.specs.Views.{set_info_request};
+
+use crate::known::{check_class, is_set_class};
+use crate::set_info::SetInfoRequest;
+use smb_bytes::{Bytes, Cursor, Out};
+use smb_header::{MessageError, Part, part_of};
+use std::alloc::{AllocError, Global};
+
+/// Reads the SET_INFO request that stands behind the header of `m`.
+pub fn read_set_info_request(m: &[u8]) -> Result<SetInfoRequest<'_>, MessageError>
+    ensures { Reads (set_info_request_fault m.now) (SpellsSetInfoRequest m.now) set_info_request result }
+{
+    let mut cursor = Cursor::new(m);
+    let _header = cursor.take(64)?;
+    let size = cursor.get_u16()?;
+    let info_type = cursor.get_u8()?;
+    let file_info_class = cursor.get_u8()?;
+    let payload_len = cursor.get_u32()?;
+    let payload_at = cursor.get_u16()?;
+    let _reserved = cursor.get_u16()?;
+    let additional_information = cursor.get_u32()?;
+    let file_id = cursor.get_array::<16>()?;
+    if size != 33 {
+        return Err(MessageError::BadSize(size));
+    }
+    check_class(is_set_class(info_type, file_info_class), file_info_class)?;
+    let payload = part_of(
+        m,
+        payload_at as usize,
+        payload_len as usize,
+        96,
+        Part::Payload,
+    )?;
+    Ok(SetInfoRequest {
+        info_type,
+        file_info_class,
+        additional_information,
+        file_id,
+        payload,
+    })
+}
+
+/// The canonical spelling of the SET_INFO request, which stands behind a header. The length of
+/// the payload must fit its field of 4 bytes.
+pub fn write_set_info_request(alloc: Global, v: &SetInfoRequest<'_>) -> Result<Bytes, AllocError>
+    requires { length v.now.payload.now < 2 ^ 32 }
+    ensures { IfOk result (λ b. b ≡ set_info_request_spelling (set_info_request v.now)) }
+{
+    let mut out = Out::new(alloc);
+    out.put_u16(33)?;
+    out.put_u8(v.info_type)?;
+    out.put_u8(v.file_info_class)?;
+    out.put_u32(v.payload.len() as u32)?;
+    out.put_u16(96)?;
+    out.put_u16(0)?;
+    out.put_u32(v.additional_information)?;
+    out.put_slice(&v.file_id)?;
+    out.put_slice(v.payload)?;
+    Ok(out.finish())
+}

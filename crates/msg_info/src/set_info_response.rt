@@ -1,0 +1,30 @@
+ghost use Rattle.std.specs.Prelude.{◌≡◌, IfOk};
+ghost use Rattle.wire_defs.specs.Fault.{Reads};
+ghost use Rattle.wire_defs.specs.SetInfo.{SpellsSetInfoResponse, set_info_response_fault, set_info_response_spelling};
+
+use smb_bytes::{Bytes, Cursor, Out};
+use smb_header::MessageError;
+use std::alloc::{AllocError, Global};
+use wire_defs::SetInfoResponse;
+
+/// Reads the SET_INFO response that stands behind the header of `m`.
+pub fn read_set_info_response(m: &[u8]) -> Result<SetInfoResponse, MessageError>
+    ensures { Reads (set_info_response_fault m.now) (SpellsSetInfoResponse m.now) (λ v. v) result }
+{
+    let mut cursor = Cursor::new(m);
+    let _header = cursor.take(64)?;
+    let size = cursor.get_u16()?;
+    if size != 2 {
+        return Err(MessageError::BadSize(size));
+    }
+    Ok(SetInfoResponse)
+}
+
+/// The canonical spelling of the SET_INFO response, which stands behind a header.
+pub fn write_set_info_response(alloc: Global, _v: &SetInfoResponse) -> Result<Bytes, AllocError>
+    ensures { IfOk result (λ b. b ≡ set_info_response_spelling _v.now) }
+{
+    let mut out = Out::new(alloc);
+    out.put_u16(2)?;
+    Ok(out.finish())
+}
