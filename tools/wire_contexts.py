@@ -285,10 +285,7 @@ def chain_row(table, asked, **told):
         value[name] = given is not None if name in ("mxac", "qfid") else None if given is None else some(given[0])
         if given is not None:
             written.append((name.upper().encode() if name[0] == "d" else {"mxac": b"MxAc", "qfid": b"QFid"}[name], given[1]))
-    lines = [f"chain: {Shown('CreateContexts', **value)}"]
-    if written:
-        lines.append(f"  {create_chain(written).hex()}")
-    table.row(f"chain {asked.hex()}", *lines)
+    table.row(f"chain {asked.hex()}", f"chain: {Shown('CreateContexts', **value)}", f"  {create_chain(written).hex() or '-'}")
 
 
 def answers_row(table, asked, dh2q=None, mxac=None, qfid=None):
@@ -368,6 +365,39 @@ def create_context_rows(table):
     answer_rows(table)
 
 
+LENGTHS = {b"DH2Q": (32,), b"DH2C": (36,)}
+
+
+def chain_break(data):
+    """The first break of a request's chain, by a slow reader, or none."""
+    at = 0
+    while True:
+        if len(data) < at + 16:
+            return "Short"
+        next, name_at, name_length, _, data_at, data_length = struct.unpack_from("<IHHHHI", data, at)
+        if next % 8 or at + next > len(data):
+            return "BadNext"
+        end = next or len(data) - at
+        for place, length in ((name_at, name_length), (data_at, data_length)):
+            if length and not 16 <= place <= place + length <= end:
+                return "Short"
+        name = data[at + name_at : at + name_at + name_length]
+        if data_length not in LENGTHS.get(name, (data_length,)):
+            return f"BadLength({shown(name)})"
+        if next == 0:
+            return None
+        at += next
+
+
+def chain_cuts(table, data):
+    found = []
+    for length in range(len(data) + 1):
+        word = chain_break(data[:length]) or "read"
+        if not found or found[-1][1] != word:
+            found.append((length, word))
+    table.row(f"cuts chain {data.hex()}", "cuts chain: " + ", ".join(f"{length} {word}" for length, word in found))
+
+
 def chain_refusals(table, data):
     table.title("chains that do not read")
     whole = create_chain([(b"DH2Q", data)])
@@ -389,4 +419,7 @@ def chain_refusals(table, data):
         (create_chain([(b"QFid", b""), (b"DH2C", bytes(35))]), f"BadLength({shown(b'DH2C')})"),
         (create_chain([(b"DH2C", bytes(37))]), f"BadLength({shown(b'DH2C')})"),
     ):
+        assert chain_break(bytes_of) == refusal
         table.row(f"chain {bytes_of.hex()}", f"chain: {refusal}")
+    chain_cuts(table, two)
+    chain_cuts(table, create_chain([(b"QFid", b""), (b"DH2C", bytes(36)), (b"RqLs", bytes(32))]))
