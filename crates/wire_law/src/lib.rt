@@ -3,6 +3,7 @@
 //! follows it, reads back. Each law is the contract of a function that does nothing.
 #![tactic(auto)]
 
+mod bare;
 mod close;
 mod create;
 mod create_response;
@@ -11,10 +12,14 @@ mod flush;
 mod header;
 mod lock;
 mod lock_response;
+mod negotiate;
 mod read;
+mod session_setup;
 mod table;
+mod tree_connect;
 mod write;
 
+pub use bare::bare_law;
 pub use close::{close_request_law, close_response_law};
 pub use create::create_request_law;
 pub use create_response::create_response_law;
@@ -23,6 +28,9 @@ pub use flush::{flush_request_law, flush_response_law};
 pub use header::header_law;
 pub use lock::{lock_element_law, lock_request_law};
 pub use lock_response::lock_response_law;
+pub use negotiate::{negotiate_request_law, negotiate_response_law};
 pub use read::{read_request_law, read_response_law};
+pub use session_setup::{session_setup_request_law, session_setup_response_law};
 pub use table::{number_law, part_law, table_law};
+pub use tree_connect::{tree_connect_request_law, tree_connect_response_law};
 pub use write::{write_request_law, write_response_law};
