@@ -25,24 +25,33 @@ FIXED = {1: 64, 2: 68, 3: 94, 12: 12, 37: 104, 38: 80}
 
 
 class Entry:
-    def __init__(self, name, times=TIMES, end=5, allocated=8, attributes=0x20, file=7, index=0):
-        self.name, self.times, self.end, self.allocated = name, times, end, allocated
-        self.attributes, self.file, self.index = attributes, file, index
+    """A file in a listing; what stands in `passed` fields (FileIndex, EA size, short name, reserved) is read as anything and written 0."""
 
-    def spelled(self, kind):
+    def __init__(self, name, times=TIMES, end=5, allocated=8, attributes=0x20, file=7):
+        self.name, self.times, self.end, self.allocated = name, times, end, allocated
+        self.attributes, self.file = attributes, file
+
+    def spelled(self, kind, passed=0):
         """The entry but for NextEntryOffset."""
-        data = utf16(self.name)
+        data, zeros = utf16(self.name), lambda count: bytes([passed]) * count
         if kind == 12:
-            return struct.pack("<II", self.index, len(data)) + data
-        out = struct.pack("<IQQQQQQII", self.index, *self.times, self.end, self.allocated, self.attributes, len(data))
+            return zeros(4) + packed(4, len(data)) + data
+        out = zeros(4) + struct.pack("<QQQQQQII", *self.times, self.end, self.allocated, self.attributes, len(data))
         out += {
             1: b"",
-            2: bytes(4),
-            3: bytes(4) + bytes(2) + bytes(24),
-            37: bytes(4) + bytes(2) + bytes(24) + bytes(2) + packed(8, self.file),
-            38: bytes(4) + bytes(4) + packed(8, self.file),
+            2: zeros(4),
+            3: zeros(4) + zeros(2) + zeros(24),
+            37: zeros(4) + zeros(2) + zeros(24) + zeros(2) + packed(8, self.file),
+            38: zeros(4) + zeros(4) + packed(8, self.file),
         }[kind]
         return out + data
+
+    def value(self, kind):
+        told = kind != 12
+        times = dict(zip(("creation_time", "last_access_time", "last_write_time", "change_time"), self.times if told else (0, 0, 0, 0)))
+        sizes = {"end_of_file": self.end, "allocation_size": self.allocated, "file_attributes": self.attributes}
+        file = self.file if kind in (37, 38) else 0
+        return Shown("DirectoryEntry", **times, **(sizes if told else dict.fromkeys(sizes, 0)), file_id=file, name=utf16(self.name))
 
 
 def some_entries():
@@ -54,16 +63,43 @@ def some_entries():
     ]
 
 
-def directory(kind, entries):
-    """The entries of a listing, each at a multiple of 8 (MS-FSCC 2.4)."""
+def directory(kind, entries, passed=0, gap=0):
+    """The entries of a listing, each at a multiple of 8 (MS-FSCC 2.4), with a gap of so many bytes more between them."""
     out = b""
     for place, entry in enumerate(entries):
-        spelled = entry.spelled(kind)
+        spelled = entry.spelled(kind, passed)
         assert 4 + len(spelled) == FIXED[kind] + len(utf16(entry.name))
         last = place + 1 == len(entries)
-        out += packed(4, 0 if last else aligned(4 + len(spelled))) + spelled
-        out = out if last else out.ljust(aligned(len(out)), b"\0")
+        out += packed(4, 0 if last else aligned(4 + len(spelled)) + gap) + spelled
+        out = out if last else out.ljust(aligned(len(out)) + gap, bytes([passed]))
     return out
+
+
+def listing_row(table, kind, entries, data):
+    lines = [f"  {entry.value(kind)}" for entry in entries]
+    table.row(f"listing {kind} {data.hex() or '-'}", f"listing: {len(entries)}", *lines, f"  {directory(kind, entries).hex() or '-'}")
+
+
+def listing_rows(table):
+    table.title("listings by class (MS-FSCC 2.4): their entries, and the listing again")
+    entries = some_entries()
+    for kind in FIXED:
+        listing_row(table, kind, entries, directory(kind, entries))
+        listing_row(table, kind, entries, directory(kind, entries, passed=0xEE, gap=16) + b"behind")
+        listing_row(table, kind, entries[2:3], directory(kind, entries[2:3]))
+        listing_row(table, kind, [], b"")
+    table.title("listings that do not read: places are counted from the entry")
+    for kind, fixed in FIXED.items():
+        one, two = directory(kind, entries[2:3]), directory(kind, entries[2:])
+        second = aligned(len(one))
+        name_at = 8 if kind == 12 else 60
+        breaks = [(one[:3], "Short(0)"), (one[:7], "Short(4)"), (one[: fixed - 1], None), (one[:-1], "BadOffset(Name)")]
+        breaks += [(packed(4, number) + two[4:], "BadOffset(Output)") for number in (4, second + 1, len(two) + 8, 2**32 - 8)]
+        breaks += [(two[:-1], "BadOffset(Name)"), (two[: second + 3], "Short(0)"), (two[:second], "Short(0)")]
+        breaks += [(two[:name_at] + packed(4, second - fixed + 1) + two[name_at + 4 :], "BadOffset(Name)")]
+        for data, refusal in breaks:
+            last = {1: 60, 2: 64, 3: 70, 12: 8, 37: 96, 38: 72}[kind]
+            table.row(f"listing {kind} {data.hex()}", f"listing: {refusal or f'Short({last})'}")
 
 
 def interface(address, index=1, capability=0, speed=10**9, family=2):
@@ -191,3 +227,4 @@ def class_rows(table):
     table.title("info classes that end in a name")
     for name, words, length, part in NAMED:
         named_rows(table, name, words, length, part)
+    listing_rows(table)
