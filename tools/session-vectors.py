@@ -357,15 +357,21 @@ def derivations(table):
         assert f.kdf(bytes.fromhex(key), label_bytes, context_bytes, 128).hex() == answer
         table.row(f"kdf {key} {label_bytes.hex()} {context_bytes.hex()} 128", answer + "00" * 16)
     for base, words in ((EXPORTED, "64*9"), (b"\x55" * 16, "64*200")):
-        for cipher in (0, 1, 2, 3, 4):
+        for cipher in (1, 2, 3, 4):
+            algorithm, session = 1 + cipher % 2, 0x1122334455667788 + cipher
             keys = f.Keys(base, said(words), cipher)
-            none = [keys.signing.hex(), keys.to_server.ljust(32, b"\0").hex(), keys.to_client.ljust(32, b"\0").hex()]
-            algorithm = 1 + cipher % 2
-            if cipher:
-                table.row(
-                    f"keys {base.hex()} {words} {cipher} {algorithm} {0x1122334455667788 + cipher}",
-                    f"{none[0]} {algorithm} {none[1]} {none[2]} {cipher} {0x1122334455667788 + cipher}",
-                )
+            asked = f"keys {base.hex()} {words} {cipher} {algorithm} {session}"
+            table.row(asked, keys_shown(keys, keys.signing, algorithm, cipher, session))
+            bound = f.Keys(bytes(range(16)), said("64*31"), cipher).signing
+            table.row(f"{asked} {bytes(range(16)).hex()} 64*31", keys_shown(keys, bound, algorithm, cipher, session))
+        unsealed = f.Keys(base, said(words), 0)
+        table.row(f"signing {base.hex()} {words}", unsealed.signing.hex())
+
+
+def keys_shown(keys, signing, algorithm, cipher, session):
+    """A bound channel signs with its own key; the keys of the ciphers are its session's."""
+    long = [key.ljust(32, b"\0").hex() for key in (keys.to_server, keys.to_client)]
+    return f"{signing.hex()} {algorithm} {long[0]} {long[1]} {cipher} {session}"
 
 
 def message_head(response=False, command=9, number=77):
