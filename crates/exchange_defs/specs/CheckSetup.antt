@@ -1,5 +1,5 @@
 -- The checks of SESSION_SETUP and TREE_CONNECT (MS-SMB2 3.3.5.5, 3.3.5.5.2, 3.3.5.5.3, 3.3.5.7).
-use Rattle.std.specs.Prelude.{ℕ, ◌+◌, ◌==◌, nat_le, Bool, true, false, not, ◌&&◌, if◌then◌else◌, List, [], ◌∷◌, length, Option, Some, None, is_some}
+use Rattle.std.specs.Prelude.{ℕ, ◌+◌, ◌==◌, nat_le, nat_lt, Bool, true, false, not, ◌&&◌, ◌||◌, if◌then◌else◌, List, [], ◌∷◌, length, Option, Some, None, is_some}
 use Rattle.exchange_defs.specs.Table.{is_at}
 use Rattle.exchange_defs.specs.Status.{user_session_deleted, request_not_accepted, invalid_parameter, logon_failure, access_denied, insufficient_resources, bad_network_name}
 use Rattle.exchange_defs.specs.Texts.{same_name}
@@ -19,6 +19,10 @@ max_numbers = 65535
 
 abbrev pub max_trees : ℕ
 max_trees = 64
+
+-- ids of trees are counted in 32 bits
+abbrev pub last_tree : ℕ
+last_tree = 0xffff_ffff
 
 -- ---- what is in the making on a connection
 
@@ -116,9 +120,13 @@ setup_check s m r = if r.binding then binding_check s m r else session_check s m
 abbrev pub pipes_name : List ℕ
 pipes_name = 73 ∷ 80 ∷ 67 ∷ 36 ∷ []
 
+-- 64 trees stand, or each id was given
+abbrev pub no_tree_left : Server → ℕ → Bool
+no_tree_left s session = nat_le max_trees (length (s.trees session)) || nat_lt last_tree (s.next_tree session)
+
 abbrev pub tree_check : Server → Message → List ℕ → Verdict
 tree_check s m share =
-    if nat_le max_trees (length (s.trees m.session)) then Refuse insufficient_resources
+    if no_tree_left s m.session then Refuse insufficient_resources
     else if same_name share pipes_name then AddTree true
     else if same_name share s.share then AddTree false
     else Refuse bad_network_name

@@ -4,7 +4,7 @@ use Rattle.exchange_defs.specs.Table.{put, put2, is_at, is_filled, number_or_zer
 use Rattle.exchange_defs.specs.Status.{success, more_processing_required}
 use Rattle.exchange_defs.specs.Content.{written, ended, same_bytes}
 use Rattle.exchange_defs.specs.Commands.{CreateRequest, Durable, SetupRequest, Basic, Element, asks_directory}
-use Rattle.exchange_defs.specs.State.{Server, Message, Open, Range, Tree, NewSession, Binding, Body, Empty, Created, SetUp, Connected, Record, NewOpen, Origin, CreateRecord, WriteRecord, EndRecord, BasicRecord, DeleteRecord, RenameRecord, LockRecord, Answer}
+use Rattle.exchange_defs.specs.State.{no_later, Server, Message, Open, Range, Tree, NewSession, Binding, Body, Empty, Created, SetUp, Connected, Record, NewOpen, Origin, CreateRecord, WriteRecord, EndRecord, BasicRecord, DeleteRecord, RenameRecord, LockRecord, Answer}
 use Rattle.exchange_defs.specs.Files.{make_file, empty_file, set_content, store_basic, mark_file, rename_file, info_of, same_basic, path_of}
 use Rattle.exchange_defs.specs.Opens.{id_of, mapped, add_open, leave_open, leave_records}
 use Rattle.exchange_defs.specs.CheckCreate.{empties}
@@ -226,9 +226,13 @@ guid_staying s session (Some o) = if leaves s session o then None else Some o
 abbrev pub cleared : ℕ → Option ℕ → Option ℕ
 cleared session at = if is_at session at then None else at
 
--- an open that stays without its session gets its deadline: 10,000 times its timeout behind now
+-- 10,000 times a timeout behind now
+abbrev pub deadline_behind : ℕ → ℕ → ℕ
+deadline_behind now timeout = no_later (now + 10000 * timeout)
+
+-- an open that stays without its session gets its deadline
 abbrev pub dated : ℕ → ℕ → Open → Option ℕ → Option ℕ → Option ℕ
-dated session now row at deadline = if is_at session at then (if row.persistent then Some (now + 10000 * row.timeout) else None) else deadline
+dated session now row at deadline = if is_at session at then (if row.persistent then Some (deadline_behind now row.timeout) else None) else deadline
 
 -- its plain opens leave, its persistent ones stay without a session, and what it kept is forgotten
 abbrev pub end_session : Server → ℕ → ℕ → Bool → Server

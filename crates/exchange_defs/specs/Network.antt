@@ -5,7 +5,7 @@ use Rattle.exchange_defs.specs.Status.{success, end_of_file}
 use Rattle.exchange_defs.specs.Content.{ContentReply, Counted, Gives, Done}
 use Rattle.exchange_defs.specs.Order.{Log, Said, Says_ok, Says_end, Says_other}
 use Rattle.exchange_defs.specs.Commands.{Command, Aside}
-use Rattle.exchange_defs.specs.State.{Server, Address, Message, Accept, Heard, End, Reply, Body, Empty, Content, Count, Record, Answer}
+use Rattle.exchange_defs.specs.State.{no_later, Server, Address, Message, Accept, Heard, End, Reply, Body, Empty, Content, Count, Record, Answer}
 use Rattle.exchange_defs.specs.Step.{step}
 use Rattle.exchange_defs.specs.Fold.{recovered_from, recovery_records, nothing_yet, full_room}
 use Rattle.exchange_defs.specs.Operations.{Op, OpClose, Unsettled, NoSession, Refusal, HadStatus, is_create, is_firm, weight, charge}
@@ -342,13 +342,13 @@ changed w (Crash k kept) = crashed w k kept
 changed w (Wait n) = w
 changed w (Finish refusal) = with_client w (client_after w.client (Finishes (NoSession refusal)))
 
--- each event but Wait raises the moment by 1; a millisecond is 10,000 of it
+-- each event but Wait raises the moment by 1; a millisecond is 10,000 of it; at the last one it stands still
 abbrev pub moments : Event → ℕ
 moments (Wait n) = 10000 * n
 moments _ = 1
 
 abbrev pub later : World → ℕ → World
-later w n = record w { moment = w.moment + n }
+later w n = record w { moment = no_later (w.moment + n) }
 
 -- an event that the world can't meet is none
 abbrev pub happens : World → Event → World

@@ -1,7 +1,7 @@
 -- The operations of a script, what they send and how they settle.
-use Rattle.std.specs.Prelude.{ℕ, ◌+◌, ◌-◌, ◌/◌, ◌==◌, nat_le, Bool, true, false, not, ◌||◌, if◌then◌else◌, List, [], ◌∷◌, length, Option, Some, None}
+use Rattle.std.specs.Prelude.{ℕ, ◌+◌, ◌-◌, ◌/◌, ◌==◌, nat_le, nat_lt, Bool, true, false, not, ◌&&◌, ◌||◌, if◌then◌else◌, List, [], ◌∷◌, length, Option, Some, None}
 use Rattle.exchange_defs.specs.Status.{success}
-use Rattle.exchange_defs.specs.Texts.{utf16_length}
+use Rattle.exchange_defs.specs.Texts.{is_utf8, utf16_length}
 use Rattle.exchange_defs.specs.Content.{ContentOp, Still, Write as Writes, Read as Reads, SetEnd as Ends, meets, same_bytes}
 use Rattle.exchange_defs.specs.Commands.{Command, Create as CreateCommand, Write as WriteCommand, Read as ReadCommand, Close, Flush, Lock, ListDirectory, QueryFile, SetInfo, Aside, Basic, Element, SetBasic, Rename, SetDelete, SetEnd, CreateRequest, Durable, Reconnect}
 use Rattle.exchange_defs.specs.State.{Body, Created, Content, Count, Listing, FileInfo, Empty, Named}
@@ -125,12 +125,34 @@ abbrev pub share_of : Op → ℕ
 share_of (OpCreate path access share disposition persist directory) = share
 share_of _ = 0
 
--- paths of at most 1,024 UTF-16 units, and no more bytes than a script's line gives
+-- what can be spelled: numbers of 4 and of 8 bytes, bytes, and texts of at most 1,024 UTF-16 units
+abbrev pub fits_32 : ℕ → Bool
+fits_32 n = nat_lt n 0x1_0000_0000
+
+abbrev pub fits_64 : ℕ → Bool
+fits_64 n = nat_lt n 0x1_0000_0000_0000_0000
+
+unfoldable pub are_below : ℕ → List ℕ → Bool
+are_below n [] = true
+are_below n (b ∷ bs) = nat_lt b n && are_below n bs
+
+-- UTF-8, of which ASCII is told at a glance
+unfoldable pub is_text : List ℕ → Bool
+is_text bytes = are_below 128 bytes || is_utf8 bytes
+
+unfoldable pub is_spelled_path : List ℕ → Bool
+is_spelled_path path = is_text path && nat_le (utf16_length path) 1024
+
+-- and no more bytes than a script's line gives
 abbrev pub keeps_limits : Op → Bool
-keeps_limits (OpCreate path access share disposition persist directory) = nat_le (utf16_length path) 1024
-keeps_limits (OpWrite create at bytes) = nat_le (length bytes) 1048577
-keeps_limits (OpRead create at size) = nat_le size 1048577
-keeps_limits (OpRename create path) = nat_le (utf16_length path) 1024
+keeps_limits (OpCreate path access share disposition persist directory) = is_spelled_path path && (fits_32 access && (fits_32 share && fits_32 disposition))
+keeps_limits (OpWrite create at bytes) = fits_64 at && (are_below 256 bytes && nat_le (length bytes) 1048577)
+keeps_limits (OpRead create at size) = fits_64 at && nat_le size 1048577
+keeps_limits (OpEnd create size) = fits_64 size
+keeps_limits (OpTime create time) = fits_64 time
+keeps_limits (OpRename create path) = is_spelled_path path
+keeps_limits (OpLock create at length exclusive) = fits_64 at && fits_64 length
+keeps_limits (OpUnlock create at length) = fits_64 at && fits_64 length
 keeps_limits _ = true
 
 -- ---- what waits for what: whether the second, of a higher number and the same open, waits for the first

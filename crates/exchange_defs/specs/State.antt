@@ -1,6 +1,14 @@
 -- The server's state, what it hears and what it answers.
-use Rattle.std.specs.Prelude.{ℕ, Bool, List, Option}
+use Rattle.std.specs.Prelude.{ℕ, ◌-◌, Bool, List, Option}
 use Rattle.exchange_defs.specs.Commands.{Command, Basic, Element}
+
+-- times are counted in 64 bits, in steps of 100 nanoseconds; at the last one they stand still
+abbrev pub last_moment : ℕ
+last_moment = 0xffff_ffff_ffff_ffff
+
+-- the moment, or the last one where it is more; differences end at 0, and the moment stands in it once, so that long runs compute
+abbrev pub no_later : ℕ → ℕ
+no_later moment = last_moment - (last_moment - moment)
 
 -- ---- rows of the tables
 

@@ -8,7 +8,7 @@ use Rattle.exchange_defs.specs.CheckCreate.{refused_create}
 use Rattle.exchange_defs.specs.CheckSetup.{count_channels}
 use Rattle.exchange_defs.specs.Check.{check}
 use Rattle.exchange_defs.specs.Records.{origin_at, entry_bytes, fits}
-use Rattle.exchange_defs.specs.Effects.{apply, end_if_named, records_if_named, acts_if_named}
+use Rattle.exchange_defs.specs.Effects.{apply, deadline_behind, end_if_named, records_if_named, acts_if_named}
 use Rattle.exchange_defs.specs.Verdict.{Verdict, Refuse, Give, KeepRefusal, Repeat, Attach, Make, TurnDown, Tell, Show, KeepSlot, PutRanges, Alter, Shut, Challenge, ChallengeBinding, Begin, Join, EndSession, AddTree, DropTree}
 
 abbrev pub max_connections : ℕ
@@ -115,7 +115,7 @@ table s now e = where_it_fits s now (ruling s e) (carried_out s now (ruling s e)
 
 -- an open that recovery found gets its deadline at the first event
 abbrev pub first_deadline : ℕ → Bool → Option ℕ → Open → Option ℕ → Option ℕ
-first_deadline now stands at row deadline = if stands && (not (is_some at) && not (is_some deadline)) then Some (now + 10000 * row.timeout) else deadline
+first_deadline now stands at row deadline = if stands && (not (is_some at) && not (is_some deadline)) then Some (deadline_behind now row.timeout) else deadline
 
 abbrev pub with_deadlines : Server → ℕ → Server
 with_deadlines s now = record s { deadline = λ o. first_deadline now (s.standing o) (s.at o) (s.opened o) (s.deadline o) }

@@ -1,5 +1,6 @@
 -- Texts as lists of their UTF-8 bytes, and paths (MS-FSCC 2.1.5, MS-SMB2 2.2.13).
 use Rattle.std.specs.Prelude.{ℕ, ◌-◌, ◌==◌, nat_le, nat_lt, Bool, true, false, not, ◌&&◌, ◌||◌, if◌then◌else◌, List, [], ◌∷◌, ◌++◌, sum_by, Option, Some, None}
+pub use Rattle.std.specs.Str.{is_utf8, chars}
 use Rattle.exchange_defs.specs.Content.{same_bytes}
 
 -- a letter a to z as A to Z

@@ -491,3 +491,18 @@ is_out_behind script g = is_some ((course 1 script (beginning 268435456)).world.
 -- the credits that channel 0 holds behind a script
 abbrev pub purse_behind : List Line → ℕ
 purse_behind script = purse (course 1 script (beginning 268435456)).world.client 0
+
+-- the moment behind a script
+abbrev pub moment_behind : List Line → ℕ
+moment_behind script = (course 1 script (beginning 268435456)).world.moment
+
+-- the world behind a first link, of a client that has had so many sessions
+abbrev pub counted : ℕ → Course → Course
+counted number c = record c { world = record c.world { client = record c.world.client { number = number } } }
+
+abbrev pub linked_at : ℕ → World
+linked_at number = (course 1 (Links 0 ∷ []) (counted number (beginning 268435456))).world
+
+-- how many operations are taken where this one comes behind a create
+abbrev pub taken_of : Op → ℕ
+taken_of op = (course 1 (submit 1 (OpCreate (97 ∷ []) 0x183 0 2 false false) ∷ submit 2 op ∷ []) (beginning 268435456)).world.client.taken

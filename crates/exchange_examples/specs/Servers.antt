@@ -123,6 +123,11 @@ first_version_disk =
     EpochRecord 1 ∷ CreateRecord its_origin 2 1 (97 ∷ []) 0 false 50 (Some (record { id = first_open; client = 7; guid = 5; user = 117 ∷ []; access = 0x183; share = 0; options = 0x40; timeout = 60000 })) ∷
     WriteRecord its_origin 1 0 60 (104 ∷ 105 ∷ []) ∷ []
 
+-- ---- a server that has given a session's tree ids below this one
+
+abbrev pub with_next_tree : Server → ℕ → Server
+with_next_tree s id = record s { next_tree = λ x. id }
+
 -- ---- the journal stands for the state: the fold of a world's records and the world's server agree on what outlives a restart
 
 abbrev pub same_paths : List Entry → List Entry → Bool

@@ -4,7 +4,7 @@ use Rattle.exchange_defs.specs.Texts.{same_name}
 use Rattle.exchange_defs.specs.Commands.{Command, Aside, Unreadable, Setup, Logoff, TreeConnect, TreeDisconnect, Create, Close, Flush, Read, Write, Lock, Ioctl, ListDirectory, QueryFile, QueryVolume, SetInfo, SetupRequest, Shows, Begins, Bad, Refused, Logon, form, is_setup}
 use Rattle.exchange_defs.specs.State.{Server, Message, Heard, Answer}
 use Rattle.exchange_defs.specs.Opens.{max_ids}
-use Rattle.exchange_defs.specs.CheckSetup.{is_new, is_binding, session_check, second_token, first_token, granted_session, binding_check, live_binding, second_binding, first_binding, granted_binding, tree_check, max_sessions, max_channels, max_numbers, max_trees, count_channels, pipes_name}
+use Rattle.exchange_defs.specs.CheckSetup.{is_new, is_binding, session_check, second_token, first_token, granted_session, binding_check, live_binding, second_binding, first_binding, granted_binding, tree_check, max_sessions, max_channels, max_numbers, max_trees, count_channels, pipes_name, no_tree_left}
 use Rattle.exchange_defs.specs.Check.{has_session, command_check, formed, owed, check}
 use Rattle.exchange_defs.specs.Effects.{apply}
 use Rattle.exchange_defs.specs.Verdict.{Verdict, Refuse, Give, KeepRefusal, Repeat, Attach, Make, TurnDown, Tell, Show, KeepSlot, PutRanges, Alter, Shut, Challenge, ChallengeBinding, Begin, Join, EndSession, AddTree, DropTree}
@@ -78,7 +78,7 @@ binding_calm s m r =
 
 tree_calm : (s : Server) (m : Message) (share : List ℕ) → Calm (tree_check s m share)
 tree_calm s m share =
-    either Calm (nat_le max_trees (length (s.trees m.session))) _ _ (λ _. record { calm = refl })
+    either Calm (no_tree_left s m.session) _ _ (λ _. record { calm = refl })
     (λ _. either Calm (same_name share pipes_name) _ _ (λ _. record { calm = refl }) (λ _. either Calm (same_name share s.share) _ _ (λ _. record { calm = refl }) (λ _. record { calm = refl })))
 
 command_calm : (s : Server) (m : Message) (c : Command) → is_dialog c ≡ true → Calm (command_check s m c)

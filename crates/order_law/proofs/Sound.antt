@@ -10,7 +10,7 @@ use Rattle.exchange_defs.specs.Files.{find}
 use Rattle.exchange_defs.specs.Verdict.{Verdict, Refuse, Give, KeepRefusal, Repeat, Attach, Make, TurnDown, Tell, Show, KeepSlot, PutRanges, Alter, Shut, Challenge, ChallengeBinding, Begin, Join, EndSession, AddTree, DropTree, Change, PutBasic, PutPath, PutMark, PutEnd}
 use Rattle.exchange_defs.specs.CheckCreate.{refused_by, after_names, new_check, live_check, refusal_check, guid_check, reconnect_check, durable_check, reconnect_or_create}
 use Rattle.exchange_defs.specs.CheckOpen.{is_late, alter, write_check, read_check, turn_down_lock, range_check, slot_check, named_change, rename_change, size_change, setting_check, set_check, listing_of, ioctl_check, free_ioctl_check}
-use Rattle.exchange_defs.specs.CheckSetup.{is_new, session_check, second_token, first_token, granted_session, setup_check, binding_check, live_binding, binding_token, second_binding, first_binding, tree_check, tree_in}
+use Rattle.exchange_defs.specs.CheckSetup.{is_new, session_check, second_token, first_token, granted_session, setup_check, binding_check, live_binding, binding_token, second_binding, first_binding, tree_check, tree_in, no_tree_left}
 use Rattle.exchange_defs.specs.Check.{has_session, on_open, tree_command, in_tree, with_tree, command_check, formed, owed, check}
 use Rattle.exchange_defs.specs.Step.{without_room}
 use Rattle.exchange_defs.specs.Commands.{deletes_on_close}
@@ -231,7 +231,7 @@ setup_sound s m r = either (Sound s m) (r.binding) _ _ (λ _. binding_sound s m 
 -- ---- the whole
 
 tree_connect_sound : (s : Server) (m : Message) (share : List ℕ) → Sound s m (tree_check s m share)
-tree_connect_sound s m share = either (Sound s m) (nat_le max_trees (length (s.trees m.session))) _ _ (λ _. record { is = tt }) (λ _. either (Sound s m) (same_name share pipes_name) _ _ (λ _. record { is = tt }) (λ _. either (Sound s m) (same_name share s.share) _ _ (λ _. record { is = tt }) (λ _. record { is = tt })))
+tree_connect_sound s m share = either (Sound s m) (no_tree_left s m.session) _ _ (λ _. record { is = tt }) (λ _. either (Sound s m) (same_name share pipes_name) _ _ (λ _. record { is = tt }) (λ _. either (Sound s m) (same_name share s.share) _ _ (λ _. record { is = tt }) (λ _. record { is = tt })))
 
 with_tree_sound : (s : Server) (m : Message) → Sound s m (with_tree s m)
 with_tree_sound s m = in_tree_sound s m (tree_in (s.trees m.session) m.tree)

@@ -12,7 +12,7 @@ use Rattle.exchange_defs.specs.Ranges.{RangeAnswer, Stands, Denied, change_range
 use Rattle.exchange_defs.specs.Opens.{deletes, mapped, max_ids, is_of_session}
 use Rattle.exchange_defs.specs.CheckCreate.{keeps_guid, max_guids, max_opens, max_files, last_file, is_counted_out, action_of, names, names_of_found, found_names, missing_names, share_names, shares, makes_missing, has_guid, refused_by, refused_create, after_names, new_check, live_check, refusal_check, guid_check, reconnect_check, durable_check, reconnect_or_create}
 use Rattle.exchange_defs.specs.CheckOpen.{is_late, file_of, has_access, is_slot, kept_status, kept_lock, changes_nothing, bytes_change, allocation_change, target_of, target_refused, rename_names, delete_names, open_below, alter, write_check, read_check, there, turn_down_lock, range_check, new_lock_check, slot_check, lock_check, named_change, size_change, setting_check, set_check, flush_check, file_query_check, volume_query_check, listing_of, list_check, ioctl_check, ioctl_status, free_ioctl_check, needs_attributes, begins_at}
-use Rattle.exchange_defs.specs.CheckSetup.{tree_in, is_new, is_binding, granted_session, second_token, first_token, session_check, granted_binding, second_binding, first_binding, binding_check, setup_check, tree_check, max_sessions, max_channels, max_numbers, max_trees, pipes_name, count_channels}
+use Rattle.exchange_defs.specs.CheckSetup.{tree_in, is_new, is_binding, granted_session, second_token, first_token, session_check, granted_binding, second_binding, first_binding, binding_check, setup_check, tree_check, max_sessions, max_channels, max_numbers, max_trees, pipes_name, count_channels, no_tree_left}
 use Rattle.exchange_defs.specs.Check.{check, owed, formed, command_check, with_tree, in_tree, tree_command, on_open, has_session}
 use Rattle.exchange_defs.specs.Listing.{wanted, fitting, one_or_all, all_named, file_info_size, volume_info_size}
 use Rattle.exchange_defs.specs.Verdict.{Verdict, Refuse, Give, KeepRefusal, Repeat, Attach, Make, TurnDown, Tell, Show, KeepSlot, PutRanges, Alter, Shut, Challenge, ChallengeBinding, Begin, Join, EndSession, AddTree, DropTree, Change, PutEnd, PutMark}
@@ -477,7 +477,7 @@ setup_facts s m r c = either (λ v. Facts s m v) r.binding _ _ (λ k. binding_fa
 
 tree_facts : (s : Server) (m : Message) (share : List ℕ) → SessionFacts s m → m.command ≡ TreeConnect share → Facts s m (tree_check s m share)
 tree_facts s m share f c =
-    either (λ v. Facts s m v) (nat_le max_trees (length (s.trees m.session))) _ _ (λ _. tt)
+    either (λ v. Facts s m v) (no_tree_left s m.session) _ _ (λ _. tt)
     (λ _. either (λ v. Facts s m v) (same_name share pipes_name) _ _ (λ _. record { session = f; share = share; command = c })
     (λ _. either (λ v. Facts s m v) (same_name share s.share) _ _ (λ _. record { session = f; share = share; command = c }) (λ _. tt)))
 

@@ -8,7 +8,7 @@ use Rattle.exchange_defs.specs.Opens.{max_ids}
 use Rattle.exchange_defs.specs.Verdict.{Verdict, Refuse, Give, KeepRefusal, Repeat, Attach, Make, TurnDown, Tell, Show, KeepSlot, PutRanges, Alter, Shut, Challenge, ChallengeBinding, Begin, Join, EndSession, AddTree, DropTree}
 use Rattle.exchange_defs.specs.CheckCreate.{create_check, refused_by}
 use Rattle.exchange_defs.specs.CheckOpen.{close_check, flush_check, read_check, write_check, lock_check, ioctl_check, free_ioctl_check, list_check, file_query_check, volume_query_check, set_check, listing_of}
-use Rattle.exchange_defs.specs.CheckSetup.{session_check, binding_check, second_token, first_token, granted_session, previous_of, setup_check, tree_check, tree_in, is_new, max_sessions, max_trees, pipes_name}
+use Rattle.exchange_defs.specs.CheckSetup.{session_check, binding_check, second_token, first_token, granted_session, previous_of, setup_check, tree_check, tree_in, is_new, max_sessions, max_trees, pipes_name, no_tree_left}
 use Rattle.exchange_defs.specs.Check.{check, owed, formed, command_check, with_tree, in_tree, tree_command, on_open, has_session}
 use Rattle.exchange_defs.specs.Step.{without_room}
 use Rattle.server_law.proofs.Logic.{either, at_of, other_on}
@@ -128,7 +128,7 @@ asks_tree m share e = ap is_tree_connect e
 trees : (s : Server) (m : Message) (share : List ℕ) → m.command ≡ TreeConnect share → Found s m (tree_check s m share)
 trees s m share e =
     let P : Verdict → Type 0 = λ v. Found s m v in
-    either P (nat_le max_trees (length (s.trees m.session))) _ _ (λ _ a f. (refl, refl))
+    either P (no_tree_left s m.session) _ _ (λ _ a f. (refl, refl))
     (λ _. either P (same_name share pipes_name) _ _ (λ _. asks_tree m share e)
     (λ _. either P (same_name share s.share) _ _ (λ _. asks_tree m share e) (λ _ a f. (refl, refl))))
 

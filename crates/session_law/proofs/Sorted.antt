@@ -9,7 +9,7 @@ use Rattle.exchange_defs.specs.Opens.{leave_open}
 use Rattle.exchange_defs.specs.Check.{check, owed, formed, command_check}
 use Rattle.exchange_defs.specs.CheckCreate.{refused_by}
 use Rattle.exchange_defs.specs.CheckOpen.{file_of}
-use Rattle.exchange_defs.specs.CheckSetup.{tree_in, tree_check, pipes_name, max_trees}
+use Rattle.exchange_defs.specs.CheckSetup.{tree_in, tree_check, pipes_name, max_trees, no_tree_left}
 use Rattle.exchange_defs.specs.Effects.{apply, reach, set_ranges, end_session, end_if_named, file_made, without_tree, leaves}
 use Rattle.exchange_defs.specs.Verdict.{Verdict, Refuse, Give, KeepRefusal, Repeat, Attach, Make, TurnDown, Tell, Show, KeepSlot, PutRanges, Alter, Shut, Challenge, ChallengeBinding, Begin, Join, EndSession, AddTree, DropTree}
 use Rattle.exchange_defs.specs.Step.{step, without_room, Ruling, TakesIn, TurnsAway, TakesOut, ruling, carried_out, ends_with}
@@ -120,7 +120,7 @@ asks_tree s m share f command =
 added_here : (s : Server) (m : Message) (v : Verdict) (b : Bool) → Facts s m v → check s m ≡ v → added v ≡ Some b → (share : List ℕ) × m.command ≡ TreeConnect share × b ≡ same_name share pipes_name
 added_here s m (AddTree pipes) b f e is =
     let t = sym (asks_tree s m f.share f.session f.command) ∙ e in
-    (f.share, f.command, same_option pipes b is ∙ added_by (nat_le max_trees (length (s.trees m.session))) (same_name f.share pipes_name) (same_name f.share s.share) pipes t)
+    (f.share, f.command, same_option pipes b is ∙ added_by (no_tree_left s m.session) (same_name f.share pipes_name) (same_name f.share s.share) pipes t)
   where
     same_option : (p q : Bool) → Some p ≡ Some q → q ≡ p
     same_option p q e = grind arith
