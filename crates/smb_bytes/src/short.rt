@@ -1,4 +1,4 @@
-use wire_defs::{HeaderError, MessageError};
+use wire_defs::{ChainError, HeaderError, MessageError};
 
 /// Too few bytes are left for what was asked. `at` is the cursor's place, which stays.
 #[derive(Clone, Copy, Debug, PartialEq, Eq)]
@@ -25,5 +25,16 @@ impl From<Short> for HeaderError {
 
     fn from(_short: Short) -> HeaderError {
         HeaderError::Short
+    }
+}
+
+impl From<Short> for ChainError {
+    ghost use Rattle.std.specs.Prelude.{◌≡◌};
+    ghost use Rattle.wire_defs.specs.declared.chain_error.ChainError.TheVariants as errors;
+
+    ghost from_gives = { λ s e. e ≡ errors.Short };
+
+    fn from(_short: Short) -> ChainError {
+        ChainError::Short
     }
 }

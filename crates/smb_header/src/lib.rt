@@ -3,6 +3,7 @@
 
 mod compound;
 mod contexts;
+mod links;
 mod parts;
 mod places;
 mod reading;
@@ -12,6 +13,7 @@ mod writing;
 
 pub use compound::split_compound;
 pub use contexts::{ContextAt, context_behind, contexts_of};
+pub use links::{is_badly_linked, items_behind, piece_of};
 pub use parts::{counted_at, part_of};
 pub use places::{gap_before, told_place};
 pub use reading::read_header;

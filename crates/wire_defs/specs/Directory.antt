@@ -113,10 +113,11 @@ SpellsListing c m vs = IsChainOf (SpellsDirectoryEntry c) m vs
 unfoldable pub link_fault : List ℕ → Option MessageError
 link_fault m = if is_badly_linked m then Some (BadOffset Output) else None
 
--- the first break of the entry that a listing begins with; the place of a field that doesn't fit is counted from it
+-- The first break of the entry that a listing begins with: NextEntryOffset doesn't fit or leads nowhere, then those of
+-- the entry, which ends where the next one begins. The place of a field that doesn't fit is counted from the entry.
 abbrev pub first_entry_fault : DirectoryClass → List ℕ → Option MessageError
 first_entry_fault c m =
-    short_fault m 0 (widths (directory_entry_table c (directory_entry_in c m) (number 4 m 0)))
+    short_fault m 0 (4 ∷ [])
     or_else link_fault m
     or_else directory_entry_fault c (piece m)
 
