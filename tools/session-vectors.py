@@ -136,7 +136,7 @@ def formulas(table):
     ):
         table.row(f"ntowf {password} {user} {domain}", f.ntowf(password, user, "" if domain == "-" else domain).hex())
     messages = [bytes(40), bytes(range(150)), bytes(range(200, 255)) * 5]
-    table.row(f"mic {EXPORTED.hex()} " + " ".join(m.hex() for m in messages), f.hmac_md5(EXPORTED, b"".join(messages)).hex())
+    table.row(f"mic {EXPORTED.hex()} " + " ".join(m.hex() for m in messages), f.mic(EXPORTED, *messages).hex())
     listed = f.mech_list(f.NTLM_OID)
     for key in (b"\x55" * 16, EXPORTED):
         for side in ("client", "server"):
@@ -173,7 +173,7 @@ class Logon:
         self.key = exported if self.exchanged else base
         carried = f.Rc4(base).apply(exported) if self.exchanged else b""
         self.third = Type3(flags, bytes(24), answer + blob, utf16(domain), utf16(user), utf16(workstation), carried)
-        self.third.mic = f.hmac_md5(self.key, self.first + self.second + self.third.spelled())
+        self.third.mic = f.mic(self.key, self.first, self.second, self.third.spelled())
 
     def row(self, table, answer=None):
         words = answer or f"{self.key.hex()} {'exchanged' if self.exchanged else 'plain'}"
@@ -194,6 +194,7 @@ def token_messages(table):
         )
     third = Logon(domain="WORK", workstation="PC").third
     table.row(f"type3 {third.spelled().hex()}", type3_shown(third), third.spelled().hex())
+    table.row("first -", first.hex())
     token_refusals(table, first, third)
 
 
@@ -226,7 +227,11 @@ def token_refusals(table, first, third):
 
 
 def logons(table):
-    table.title("the acceptor over users User:Password and bob:secret: the exported key, or its refusal")
+    table.title("the client's answers; the acceptor over users User:Password and bob:secret: the exported key, or its refusal")
+    for user, password, domain in (("User", "Password", ""), ("bob", "secret", "WORK"), ("User", "p\u00e4ss", "")):
+        made = Logon(user=user, password=password, domain=domain)
+        words = f"{user} {password} {domain or '-'} {'11' * 8} {EXPORTED.hex()} {made.first.hex()} {made.second.hex()}"
+        table.row(f"answer {words}", made.third.spelled().hex())
     Logon().row(table)
     Logon(user="bob", password="secret", told=None).row(table)
     Logon(user="USER", domain="WORKGROUP", workstation="PC").row(table)

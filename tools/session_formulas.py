@@ -93,6 +93,11 @@ def proof(owf, server_challenge, blob):
     return hmac_md5(owf, server_challenge + blob)
 
 
+def mic(exported, first, second, third):
+    """Over the three messages, the MIC of the last one zero (MS-NLMP 3.1.5.1.2)."""
+    return hmac_md5(exported, first + second + third[:72] + bytes(16) + third[88:])
+
+
 def session_key_of(exported, from_client, purpose):
     side = "client-to-server" if from_client else "server-to-client"
     return md5(exported + f"session key to {side} {purpose} key magic constant".encode() + b"\0")
