@@ -369,9 +369,9 @@ LENGTHS = {b"DH2Q": (32,), b"DH2C": (36,)}
 
 
 def chain_break(data):
-    """The first break of a request's chain, by a slow reader, or none."""
+    """The first break of a request's chain, by a slow reader, or none; no bytes are a chain of no contexts."""
     at = 0
-    while True:
+    while data:
         if len(data) < at + 16:
             return "Short"
         next, name_at, name_length, _, data_at, data_length = struct.unpack_from("<IHHHHI", data, at)
