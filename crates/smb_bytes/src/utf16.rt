@@ -1,11 +1,11 @@
 ghost use Rattle.std.specs.Prelude.{◌≡◌, ◌+◌, ◌-◌, ◌*◌, ◌%◌, ◌≤◌, ◌<◌, ◌++◌, length, take, IfOk, OnOk, OnErr, MatchOption};
 ghost use Rattle.std.specs.Char.{IsScalar};
-ghost use Rattle.wire_defs.specs.Places.{le, number};
+ghost use Rattle.wire_defs.specs.Places.{number};
 ghost use Rattle.wire_defs.specs.Utf16.{units_of, utf16, IsHigh, IsLow, IsLone, ReadsUtf16};
 ghost use Rattle.smb_bytes.specs.Pair.{IsPair};
 
 use crate::bytes::Bytes;
-use crate::numbers::u16_of;
+use crate::place::u16_at;
 use crate::out::Out;
 use crate::text::Text;
 use std::alloc::{AllocError, Global};
@@ -35,16 +35,6 @@ pub fn utf16_of(alloc: Global, text: &str) -> Result<Bytes, AllocError>
     Ok(out.finish())
 }
 
-// The unit at a place.
-#[tactic(auto, unfolding(wire_defs::specs::Places::bytes_at))]
-fn unit_at(bytes: &[u8], at: usize) -> u16
-    requires { at + 2 ≤ length bytes.now }
-    ensures value { result ≡ number 2 bytes.now at }
-    ensures spelled { take (at + 2) bytes.now ≡ take at bytes.now ++ le 2 result }
-{
-    u16_of(&bytes[at..at + 2])
-}
-
 // The code of the character whose two surrogates stand at a place, if two do.
 #[tactic(auto, using(crate::proofs::Units::number_past))]
 fn pair_at(bytes: &[u8], at: usize) -> Option<u32>
@@ -52,14 +42,14 @@ fn pair_at(bytes: &[u8], at: usize) -> Option<u32>
     requires whole { (length bytes.now % 2 ≡ 0) × (at % 2 ≡ 0) }
     ensures { MatchOption result (IsHigh (number 2 bytes.now at) → IsLow (number 2 bytes.now (at + 2)) → ⊥) (λ code. IsPair bytes.now at code) }
 {
-    let high = unit_at(bytes, at) as u32;
+    let high = u16_at(bytes, at) as u32;
     if high < 0xd800 || high >= 0xdc00 {
         return None;
     }
     if bytes.len() - at < 4 {
         return None;
     }
-    let low = unit_at(bytes, at + 2) as u32;
+    let low = u16_at(bytes, at + 2) as u32;
     if low < 0xdc00 || low >= 0xe000 {
         return None;
     }
@@ -88,7 +78,7 @@ fn character_at(bytes: &[u8], at: usize) -> Option<Found>
             })
         }
         None => {
-            let character = char::from_u32(unit_at(bytes, at) as u32)?;
+            let character = char::from_u32(u16_at(bytes, at) as u32)?;
             Some(Found {
                 character,
                 end: at + 2,

@@ -1,5 +1,5 @@
 -- What the contexts of a NEGOTIATE offer or choose (MS-SMB2 2.2.3.1.1, 2.2.3.1.2, 2.2.3.1.7, 2.2.4.1).
-use Rattle.std.specs.Prelude.{ℕ, zero, suc, ◌+◌, ◌*◌, Bool, true, false, ◌&&◌, ◌||◌, ◌==◌, nat_le, nat_lt, not, if◌then◌else◌, List, [], ◌∷◌, ◌++◌, length, Option, Some, None}
+use Rattle.std.specs.Prelude.{ℕ, zero, suc, ◌+◌, ◌*◌, Bool, true, false, ◌&&◌, ◌||◌, ◌==◌, nat_le, nat_lt, not, if◌then◌else◌, List, [], ◌∷◌, ◌++◌, length, Option, Some, None, flat_map}
 use Rattle.wire_defs.specs.Places.{le, number}
 use Rattle.wire_defs.specs.Contexts.{Context, contexts_end, contexts_in, with_contexts}
 use Rattle.wire_defs.specs.declared.refusal.CtxError.{CtxError}
@@ -84,9 +84,8 @@ abbrev pub offer_in : List ℕ → ℕ → OfferValue
 offer_in bytes count = offer_of (contexts_in bytes 0 count)
 
 -- What is written: each kind that is offered, in the order of their types.
-unfoldable pub ids_spelling : List ℕ → List ℕ
-ids_spelling [] = []
-ids_spelling (x ∷ xs) = le 2 x ++ ids_spelling xs
+abbrev pub ids_spelling : List ℕ → List ℕ
+ids_spelling ids = flat_map (λ id. le 2 id) ids
 
 abbrev pub preauth_ids : OfferValue → List ℕ
 preauth_ids v = if v.sha512 then 1 ∷ [] else []

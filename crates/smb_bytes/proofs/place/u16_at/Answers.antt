@@ -1,6 +1,6 @@
 use Rattle.std.proofs.Common.{◌≡◌, ℕ, ◌+◌, ◌-◌, take, drop, ap, ◌∙◌, arith}
 use Rattle.wire_defs.specs.Places.{number, number_of, bytes_at}
-use Rattle.smb_bytes.proofs.utf16.unit_at.Goals as goal
+use Rattle.smb_bytes.proofs.place.u16_at.Goals as goal
 use Rattle.smb_bytes.proofs.Units.{one_unit}
 
 pub returns-clause-spelled : goal.returns-clause-spelled
