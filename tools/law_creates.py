@@ -70,7 +70,7 @@ use Rattle.exchange_defs.specs.Runs.{never_acted}
 use Rattle.exchange_law.specs.Connections.{copies, makes_open, FIT}
 use Rattle.exchange_law.proofs.Lists.{get-push, counted_up, counted_down, own_up_count, own_down_count, front_up, front_down, waited, waited_down}
 use Rattle.session_law.specs.Sessions.{logon_user}
-use Rattle.create_law.specs.Creates.{Seen, Creates, Restarts, own_guid, guid_at, named, is_kept, is_current, is_barred, is_full, refuses, outlives, keeps_form, is_of_dialog, is_of_ask, PARTS}
+use Rattle.create_law.specs.Creates.{Seen, Creates, Restarts, own_guid, guid_at, named, is_kept, is_current, is_barred, is_full, refuses, outlives, keeps_form, is_of_dialog, is_of_ask, has_files, may_act, PARTS}
 use Rattle.create_law.proofs.Words.{guid_once, full_more, after_end}
 use Rattle.create_law.proofs.Moves.{refuse_in, attach_to, make_new, leave_by, closed_by, shut_in, expire_by, goes_with, named_still, end_of, begin_of}
 """
@@ -229,7 +229,7 @@ EVENTS = [
               "barred_reply": "λ j n p y h t m e s u. let old = i.barred_reply j n p y h t m e s u in let fm = full_more (v.guids x) in grind arith",
           }),
     Event("MakeNew", "a create acts", "standing opened at by_guid guids last a", "(g x o0 : ℕ) (row : OpenRow) (b : ℕ → ℕ)",
-          [("create", "makes_open (c.op g) ≡ true"), ("idle", "a g ≡ 0"), ("counted", "b g ≡ 1"), ("formed", "keeps_form (c.op g) ≡ true"),
+          [("create", "makes_open (c.op g) ≡ true"), ("idle", "a g ≡ 0"), ("counted", "b g ≡ 1"), ("formed", "may_act c g ≡ true"),
            ("above", "o0 ≡ v.last + 1"), ("ranked", "0 < c.rank x"), ("there", "v.present x ≡ true"),
            ("client", "row.client ≡ c.who.guid"), ("guid", "row.guid ≡ Some (guid_at c g)"), ("kind", "row.persistent ≡ outlives (c.op g)"), ("user", "row.user ≡ logon_user c.who.logon"),
            ("alive", "never_acted (c.outcome g) ≡ false"),

@@ -1,5 +1,5 @@
 -- What is known where the server takes a message: of the client, of what waits, and of the columns that an expiry leaves.
-use Rattle.std.proofs.Common.{eqb-true, ◌≡◌, ℕ, ◌<◌, ◌==◌, Bool, true, false, if◌then◌else◌, List, Option, Some, None, slice_get, is_some, refl, arith, sym, ◌∙◌, subst}
+use Rattle.std.proofs.Common.{eqb-true, ◌≡◌, ℕ, ◌<◌, ◌==◌, Bool, true, false, if◌then◌else◌, List, Option, Some, None, slice_get, is_some, refl, arith, sym, ◌∙◌, subst, not}
 use Rattle.exchange_defs.specs.Commands.{Command, Create, CreateRequest}
 use Rattle.exchange_defs.specs.State.{Server, Tree, Making}
 use Rattle.exchange_defs.specs.CheckSetup.{tree_in, is_new}
@@ -12,7 +12,7 @@ use Rattle.exchange_defs.specs.Runs.{is_send_of}
 use Rattle.exchange_law.specs.Connections.{Connections, makes_open, acts_once, create_at}
 use Rattle.server_law.proofs.Logic.{either}
 use Rattle.session_law.specs.Sessions.{RankedUp, is_ops, logon_user}
-use Rattle.create_law.specs.Creates.{DialogUp, AskUp}
+use Rattle.create_law.specs.Creates.{DialogUp, AskUp, has_files}
 use Rattle.create_law.proofs.Requests.{asks_create, makes_of}
 
 -- sessions and trees, which an expiry leaves as they are
@@ -35,6 +35,7 @@ pub record Facing (c : Client) (conns : ℕ → Conn) (r : Rest) (k : ℕ) (x0 :
   pub users : (x : ℕ) → r.present x ≡ true → r.user x ≡ logon_user c.who.logon
   pub on_present : (j x : ℕ) → r.on j ≡ Some x → r.present x ≡ true
   pub trees : (j n : ℕ) (x : Sent) → slice_get (conns j).up n ≡ Some x → is_ops x.token ≡ true → r.present x.message.session ≡ true → is_some (tree_in (r.trees x.message.session) x.message.tree) ≡ true
+  pub kinds : (x id : ℕ) (b : Bool) → tree_in (r.trees x) id ≡ Some b → has_files c.who.share ≡ not b
 
 -- ---- an expiry
 

@@ -19,6 +19,7 @@ use Rattle.session_law.proofs.Always.{sessions}
 use Rattle.create_law.specs.Creates.{seen, Restarts}
 use Rattle.create_law.proofs.Run.{Holds, Known, StartsAnew, keeps}
 use Rattle.server_law.proofs.Logic.{both}
+use Rattle.session_law.proofs.KindsAlways.{kinds}
 
 -- ---- a restart
 
@@ -58,7 +59,7 @@ known z es =
     let f = fitting z es in
     record {
       fit = connections z es;
-      below = record { ranked = s.ranked_up; here = s.present_accepted; lives = s.live_accepted; making = s.making_unranked; users = s.session_users; on_present = f.on_present; trees = s.tree_up };
+      below = record { ranked = s.ranked_up; here = s.present_accepted; lives = s.live_accepted; making = s.making_unranked; users = s.session_users; on_present = f.on_present; trees = s.tree_up; kinds = kinds z es };
       anew = anew_at w f (recovers z (fitting z) es);
       anew_kept = λ k may. anew_kept w k may
           (one_event_on (λ (v : World) a. Fits v.server) z (fitting z) es (Serve k))

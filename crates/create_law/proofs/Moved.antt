@@ -13,10 +13,10 @@ use Rattle.exchange_defs.specs.Network.{Conn, Sent, Received, Token, ForDialog, 
 use Rattle.exchange_defs.specs.Runs.{is_send_of, never_acted}
 use Rattle.exchange_law.specs.Connections.{Connections, makes_open, create_at, count_down}
 use Rattle.exchange_law.proofs.Lists.{own_up_count, own_down_count}
-use Rattle.server_law.proofs.Logic.{either}
+use Rattle.server_law.proofs.Logic.{either, both}
 use Rattle.server_law.proofs.Found.{Facts, SessionFacts, MakeFacts, ShutFacts, AlterFacts, WriteFacts, SettingFacts}
 use Rattle.session_law.specs.Sessions.{is_ops}
-use Rattle.create_law.specs.Creates.{Seen, seen, Creates, named, guid_at, is_full, refuses, outlives, keeps_form, ActedKept, DeadRefused, BarredReply}
+use Rattle.create_law.specs.Creates.{Seen, seen, Creates, named, guid_at, is_full, refuses, outlives, keeps_form, ActedKept, DeadRefused, BarredReply, has_files, may_act}
 use Rattle.create_law.proofs.Words.{guid_once, zero_by}
 use Rattle.create_law.proofs.Moves.{shut_in}
 use Rattle.create_law.proofs.Requests.{create_asked, asks_create, asks_durable, asks_form, shuts_of, same_guid}
@@ -29,6 +29,7 @@ use Rattle.create_law.proofs.MakeNew.{make_new_creates}
 use Rattle.create_law.proofs.ShutIn.{shut_in_creates}
 use Rattle.create_law.proofs.EndOf.{end_of_creates}
 use Rattle.create_law.proofs.BeginOf.{begin_of_creates}
+use Rattle.exchange_defs.specs.CheckSetup.{tree_in}
 
 abbrev pub counted : (ℕ → ℕ) → Token → Bool → ℕ → ℕ
 counted a tk acted h = if is_send_of h tk && acted then a h + 1 else a h
@@ -87,7 +88,7 @@ keeps_by b n e f = grind arith
 pub record Own (c : Client) (g : ℕ) (t : Server) (m : Message) (r : CreateRequest) : Type 0 where
   pub client : m.client ≡ c.who.guid
   pub durable : r.durable ≡ Some (durable_of (guid_at c g) (outlives (c.op g)))
-  pub formed : keeps_form (c.op g) ≡ true
+  pub formed : may_act c g ≡ true
   pub unnamed : named c (seen t) g ≡ None
   pub unclosed : t.closed m.session (guid_at c g) ≡ false
   pub unmarked : t.marks c.who.guid (guid_at c g) ≡ false
@@ -95,8 +96,8 @@ pub record Own (c : Client) (g : ℕ) (t : Server) (m : Message) (r : CreateRequ
   pub unfull : is_full (t.guids m.session) ≡ false
 
 owns : (c : Client) (conns : ℕ → Conn) (a : ℕ → ℕ) (t : Server) (k : ℕ) (x0 : Sent) (r : CreateRequest) (found : Option ℕ) (action g : ℕ) → Connections c conns a → slice_get (conns k).up 0 ≡ Some x0 → MakeFacts t x0.message r found action
-    → x0.token ≡ ForOp g → makes_open (c.op g) ≡ true → Own c g t x0.message r
-owns c conns a t k x0 r found action g f front mf tk mk =
+    → ((x id : ℕ) (b : Bool) → tree_in (t.trees x) id ≡ Some b → has_files c.who.share ≡ not b) → x0.token ≡ ForOp g → makes_open (c.op g) ≡ true → Own c g t x0.message r
+owns c conns a t k x0 r found action g f front mf kinds tk mk =
     let bd = f.bodies k 0 g x0 front tk in
     let ask = asks_create (c.op g) (guid_for c g) (c.file (create_at c g)) (c.slot_of g) (c.number_of g) mk in
     let same : r ≡ create_asked (c.op g) (guid_for c g) = same_request x0.message.command _ r _ mf.new.create.command bd.1 ask in
@@ -106,7 +107,8 @@ owns c conns a t k x0 r found action g f front mf tk mk =
     record {
       client = bd.2;
       durable = dur;
-      formed = keeps_by (keeps_form (c.op g)) (is_some (create_form (create_asked (c.op g) (guid_for c g)))) (asks_form (c.op g) (guid_for c g) mk) (subst (λ q. is_some (create_form q) ≡ false) same (formed_of x0.message.command r mf.new.create.command mf.new.create.session.formed));
+      formed = both (keeps_form (c.op g)) (has_files c.who.share) (keeps_by (keeps_form (c.op g)) (is_some (create_form (create_asked (c.op g) (guid_for c g)))) (asks_form (c.op g) (guid_for c g) mk) (subst (λ q. is_some (create_form q) ≡ false) same (formed_of x0.message.command r mf.new.create.command mf.new.create.session.formed)))
+          (kinds x0.message.session x0.message.tree false mf.new.create.tree);
       unnamed = subst (λ p. t.by_guid p (guid_at c g) ≡ None) bd.2 (mf.new.no_open d dur);
       unclosed = mf.new.no_closed d dur;
       unmarked = subst (λ p. t.marks p (guid_at c g) ≡ false) bd.2 (mf.new.no_mark d dur);
@@ -172,7 +174,7 @@ makes_it : (c : Client) (conns : ℕ → Conn) (a : ℕ → ℕ) (t : Server) (k
     → MakeFacts t x0.message r found action → x0.token ≡ ForOp g → makes_open (c.op g) ≡ true → Kept c conns a x0.token (apply t x0.message now (Make r found action))
 makes_it c conns a t k x0 now r found action g f fc i mf tk mk =
     let m = x0.message in
-    let own = owns c conns a t k x0 r found action g f fc.front mf tk mk in
+    let own = owns c conns a t k x0 r found action g f fc.front mf fc.kinds tk mk in
     let there = fc.on_present m.connection m.session mf.new.create.session.on in
     let ranked = fc.ranked k 0 x0 fc.front (of_op conns k x0 r i.dialog_up fc.front mf.new.create.command) in
     let idle = idle_of c conns a t k g x0 r i.acted_kept own fc.front tk mk there in

@@ -2,13 +2,13 @@
 use Rattle.std.proofs.Common.{◌≡◌, ℕ, ◌≤◌, ◌==◌, nat_le, Bool, true, false, not, ◌&&◌, ◌||◌, List, [], ◌∷◌, Option, Some, None, is_some, refl, arith, sym, ◌∙◌, ap, subst}
 use Rattle.exchange_defs.specs.Table.{is_at}
 use Rattle.exchange_defs.specs.Texts.{same_name}
-use Rattle.exchange_defs.specs.Status.{success, user_session_deleted, duplicate_objectid, insufficient_resources, sharing_violation, disk_full}
+use Rattle.exchange_defs.specs.Status.{success, user_session_deleted, duplicate_objectid, insufficient_resources, sharing_violation, disk_full, object_name_not_found}
 use Rattle.exchange_defs.specs.Commands.{Command, Create, CreateRequest, Durable, create_form, path_form, form, deletes_on_close, is_setup}
 use Rattle.exchange_defs.specs.State.{Server, Message, Reply}
 use Rattle.exchange_defs.specs.Files.{find}
 use Rattle.exchange_defs.specs.Opens.{deletes, mapped}
 use Rattle.exchange_defs.specs.CheckSetup.{tree_in}
-use Rattle.exchange_defs.specs.CheckCreate.{keeps_guid, max_guids, is_counted_out, share_names, shares, names, names_of_found, found_names, missing_names, action_of, refused_by, refused_create, after_names, new_check, refusal_check, live_check, guid_check, durable_check, reconnect_or_create}
+use Rattle.exchange_defs.specs.CheckCreate.{keeps_guid, max_guids, is_counted_out, names, shares, names, names_of_found, found_names, missing_names, action_of, refused_by, refused_create, after_names, new_check, refusal_check, live_check, guid_check, durable_check, reconnect_or_create, create_check}
 use Rattle.exchange_defs.specs.Check.{check, owed, formed, command_check, in_tree, tree_command, has_session}
 use Rattle.exchange_defs.specs.Effects.{apply, next_open, open_row, new_file, guid_of}
 use Rattle.exchange_defs.specs.Verdict.{Verdict, Refuse, KeepRefusal, Repeat, Make}
@@ -17,9 +17,9 @@ use Rattle.exchange_defs.specs.Operations.{durable_of, id_in}
 use Rattle.exchange_defs.specs.Client.{Client}
 use Rattle.exchange_defs.specs.Network.{Token, ForOp}
 use Rattle.exchange_law.specs.Connections.{makes_open}
-use Rattle.server_law.proofs.Logic.{either, at_of}
+use Rattle.server_law.proofs.Logic.{either, at_of, front_of, back_of}
 use Rattle.session_law.specs.Sessions.{logon_user}
-use Rattle.create_law.specs.Creates.{Seen, seen, named, guid_at, is_kept, is_current, is_barred, is_full, refuses, outlives, keeps_form, Made, Named, NamedGiven, NamedKind, FormActed, RefusedStatus}
+use Rattle.create_law.specs.Creates.{Seen, seen, named, guid_at, is_kept, is_current, is_barred, is_full, refuses, outlives, keeps_form, Made, Named, NamedGiven, NamedKind, FormActed, RefusedStatus, has_files}
 use Rattle.create_law.proofs.Words.{zero_by}
 use Rattle.create_law.proofs.Moves.{make_new}
 use Rattle.create_law.proofs.Seeing.{make_seen}
@@ -56,6 +56,7 @@ pub record Mine (c : Client) (t : Server) (a : ℕ → ℕ) (g : ℕ) (tk : Toke
   pub there : t.on m.connection ≡ Some m.session → t.present m.session ≡ true
   pub users : t.present m.session ≡ true → t.user m.session ≡ logon_user c.who.logon
   pub tree : t.present m.session ≡ true → is_some (tree_in (t.trees m.session) m.tree) ≡ true
+  pub files : (b : Bool) → tree_in (t.trees m.session) m.tree ≡ Some b → has_files c.who.share ≡ not b
 
 abbrev Says : Client → Server → (ℕ → ℕ) → ℕ → Token → Message → ℕ → Verdict → Type 0
 Says c t a g tk m now v = SayFor c (seen (apply t m now v).server) (counted a tk (apply t m now v).acted) g (apply t m now v).reply
@@ -109,14 +110,24 @@ formless : (c : Client) (t : Server) (a : ℕ → ℕ) (g : ℕ) (tk : Token) (m
 formless c t a g tk m r now status mi e =
     let broken : keeps_form (c.op g) ≡ false = broken_of (keeps_form (c.op g)) (create_form r) status mi.form e in
     refuses_by c t a g tk m now status (ill_formed r status e)
-    (λ _. zero_by (a g) (λ l. let q = mi.formed g mi.create l in sym q ∙ broken))
-    (λ _ _ _. barred_by (is_some (t.refused c.session (guid_at c g))) (is_full (t.guids c.session)) (keeps_form (c.op g)) broken)
+    (λ _. zero_by (a g) (λ l. sym (front_of (keeps_form (c.op g)) _ (mi.formed g mi.create l)) ∙ broken))
+    (λ _ _ _. barred_by (is_some (t.refused c.session (guid_at c g))) (is_full (t.guids c.session)) (keeps_form (c.op g)) (has_files c.who.share) broken)
   where
     broken_of : (b : Bool) (u : Option ℕ) (status : ℕ) → is_some u ≡ not b → u ≡ Some status → b ≡ false
     broken_of b u status e f = grind arith
 
-    barred_by : (x y b : Bool) → b ≡ false → (x || (y || not b)) ≡ true
-    barred_by x y b e = grind arith
+    barred_by : (x y b f : Bool) → b ≡ false → (x || (y || not (b && f))) ≡ true
+    barred_by x y b f e = grind arith
+
+-- on the pipes' share
+no_name : (c : Client) (t : Server) (a : ℕ → ℕ) (g : ℕ) (tk : Token) (m : Message) (r : CreateRequest) (now : ℕ) → Mine c t a g tk m r → has_files c.who.share ≡ false → Says c t a g tk m now (Refuse object_name_not_found)
+no_name c t a g tk m r now mi off =
+    refuses_by c t a g tk m now object_name_not_found refl
+    (λ _. zero_by (a g) (λ l. sym (back_of (keeps_form (c.op g)) (has_files c.who.share) (mi.formed g mi.create l)) ∙ off))
+    (λ _ _ _. barred_by (is_some (t.refused c.session (guid_at c g))) (is_full (t.guids c.session)) (keeps_form (c.op g)) (has_files c.who.share) off)
+  where
+    barred_by : (x y b f : Bool) → f ≡ false → (x || (y || not (b && f))) ≡ true
+    barred_by x y b f e = grind arith
 
 -- ---- the first answer again
 
@@ -186,19 +197,19 @@ makes_it c t a g tk m r now found action mi =
 abbrev Both : Client → Server → (ℕ → ℕ) → ℕ → Token → Message → ℕ → Verdict → Type 0
 Both c t a g tk m now v = Says c t a g tk m now v × Says c t a g tk m now (without_room v)
 
-names_refuse : (s : Server) (r : CreateRequest) (pipes : Bool) (found : Option ℕ) (status : ℕ) → share_names s r pipes found ≡ Some status → (status == success) ≡ false
+names_refuse : (s : Server) (r : CreateRequest) (found : Option ℕ) (status : ℕ) → names s r found ≡ Some status → (status == success) ≡ false
 unfolding names names_of_found found_names missing_names
-names_refuse s r pipes None status e = grind arith
-names_refuse s r pipes (Some f) status e = grind arith
+names_refuse s r None status e = grind arith
+names_refuse s r (Some f) status e = grind arith
 
 both_turned : (c : Client) (t : Server) (a : ℕ → ℕ) (g : ℕ) (tk : Token) (m : Message) (r : CreateRequest) (now status : ℕ) → Mine c t a g tk m r → Free c t g m.session → t.present m.session ≡ true → (status == success) ≡ false → Both c t a g tk m now (refused_create r status)
 both_turned c t a g tk m r now status mi fr there bad =
     subst (λ w. Both c t a g tk m now (refused_by w status)) (sym mi.durable) (keeps_it c t a g tk m r now status mi fr there bad, keeps_it c t a g tk m r now status mi fr there bad)
 
-by_names : (c : Client) (t : Server) (a : ℕ → ℕ) (g : ℕ) (tk : Token) (m : Message) (r : CreateRequest) (now : ℕ) (pipes : Bool) (found : Option ℕ) → Mine c t a g tk m r → Free c t g m.session → t.present m.session ≡ true
-    → (u : Option ℕ) → share_names t r pipes found ≡ u → Both c t a g tk m now (after_names t r found u)
-by_names c t a g tk m r now pipes found mi fr there (Some status) e = both_turned c t a g tk m r now status mi fr there (names_refuse t r pipes found status e)
-by_names c t a g tk m r now pipes found mi fr there None e =
+by_names : (c : Client) (t : Server) (a : ℕ → ℕ) (g : ℕ) (tk : Token) (m : Message) (r : CreateRequest) (now : ℕ) (found : Option ℕ) → Mine c t a g tk m r → Free c t g m.session → t.present m.session ≡ true
+    → (u : Option ℕ) → names t r found ≡ u → Both c t a g tk m now (after_names t r found u)
+by_names c t a g tk m r now found mi fr there (Some status) e = both_turned c t a g tk m r now status mi fr there (names_refuse t r found status e)
+by_names c t a g tk m r now found mi fr there None e =
     either (λ v. Both c t a g tk m now v) (shares t r found) _ _
     (λ _. (makes_it c t a g tk m r now found (action_of r found) mi, turned c t a g tk m r now disk_full mi fr there refl r.durable mi.durable))
     (λ _. both_turned c t a g tk m r now sharing_violation mi fr there refl)
@@ -210,9 +221,9 @@ full_of : (r : CreateRequest) (n : ℕ) → (keeps_guid r && nat_le max_guids n)
 unfolding is_full
 full_of r n e = grind arith
 
-by_new : (c : Client) (t : Server) (a : ℕ → ℕ) (g : ℕ) (tk : Token) (m : Message) (r : CreateRequest) (now : ℕ) (pipes : Bool) (found : Option ℕ) → Mine c t a g tk m r → Free c t g m.session → t.present m.session ≡ true
-    → Both c t a g tk m now (new_check t m r pipes found)
-by_new c t a g tk m r now pipes found mi fr there =
+by_new : (c : Client) (t : Server) (a : ℕ → ℕ) (g : ℕ) (tk : Token) (m : Message) (r : CreateRequest) (now : ℕ) (found : Option ℕ) → Mine c t a g tk m r → Free c t g m.session → t.present m.session ≡ true
+    → Both c t a g tk m now (new_check t m r found)
+by_new c t a g tk m r now found mi fr there =
     either (λ v. Both c t a g tk m now v) (deletes_on_close r.options && not (deletes (mapped r.access))) _ _
     (λ e. absurd (let h = no_delete (deletes_on_close r.options) _ mi.keeps e in cc))
     (λ _. either (λ v. Both c t a g tk m now v) (keeps_guid r && nat_le max_guids (t.guids m.session)) _ _
@@ -220,16 +231,16 @@ by_new c t a g tk m r now pipes found mi fr there =
     (λ _ _ cur. full_barred _ (is_full (t.guids c.session)) _ (subst (λ x. is_full (t.guids x) ≡ true) (sym (mi.mine cur there)) (full_of r (t.guids m.session) e))) in (q, q))
     (λ _. either (λ v. Both c t a g tk m now v) (is_counted_out t r found) _ _
     (λ _. both_turned c t a g tk m r now insufficient_resources mi fr there refl)
-    (λ _. by_names c t a g tk m r now pipes found mi fr there (share_names t r pipes found) refl)))
+    (λ _. by_names c t a g tk m r now found mi fr there (names t r found) refl)))
   where
     no_delete : (x y : Bool) → x ≡ false → (x && y) ≡ true → true ≡ false
     no_delete x y e f = grind arith
 
-by_refusal : (c : Client) (t : Server) (a : ℕ → ℕ) (g : ℕ) (tk : Token) (m : Message) (r : CreateRequest) (now : ℕ) (pipes : Bool) → Mine c t a g tk m r → Free c t g m.session → t.present m.session ≡ true
-    → (u : Option ℕ) → t.refused m.session (guid_at c g) ≡ u → Both c t a g tk m now (refusal_check t m r pipes u)
-by_refusal c t a g tk m r now pipes mi fr there (Some status) e =
+by_refusal : (c : Client) (t : Server) (a : ℕ → ℕ) (g : ℕ) (tk : Token) (m : Message) (r : CreateRequest) (now : ℕ) → Mine c t a g tk m r → Free c t g m.session → t.present m.session ≡ true
+    → (u : Option ℕ) → t.refused m.session (guid_at c g) ≡ u → Both c t a g tk m now (refusal_check t m r u)
+by_refusal c t a g tk m r now mi fr there (Some status) e =
     let q : Says c t a g tk m now (Refuse status) = refuses_by c t a g tk m now status (mi.statuses m.session (guid_at c g) status e) (λ _. idle c t a g tk m r mi fr there) (λ _ _ cur. let same = mi.mine cur there in grind arith) in (q, q)
-by_refusal c t a g tk m r now pipes mi fr there None e = by_new c t a g tk m r now pipes (find t r.path) mi fr there
+by_refusal c t a g tk m r now mi fr there None e = by_new c t a g tk m r now (find t r.path) mi fr there
 
 by_live : (c : Client) (t : Server) (a : ℕ → ℕ) (g : ℕ) (tk : Token) (m : Message) (r : CreateRequest) (now o : ℕ) → Mine c t a g tk m r → t.present m.session ≡ true → named c (seen t) g ≡ Some o → Both c t a g tk m now (live_check t m r o)
 by_live c t a g tk m r now o mi there is =
@@ -245,26 +256,30 @@ by_live c t a g tk m r now o mi there is =
     stranger : (t.opened o).user ≡ t.user m.session → same_name (t.opened o).user (t.user m.session) ≡ false → true ≡ false
     stranger same e = sym (subst (λ x. same_name x (t.user m.session) ≡ true) (sym same) (same_self (t.user m.session))) ∙ e
 
-by_guid_is : (c : Client) (t : Server) (a : ℕ → ℕ) (g : ℕ) (tk : Token) (m : Message) (r : CreateRequest) (now : ℕ) (pipes : Bool) → Mine c t a g tk m r → t.present m.session ≡ true
-    → (u : Option ℕ) → named c (seen t) g ≡ u → Both c t a g tk m now (guid_check t m r pipes (durable_of (guid_at c g) (outlives (c.op g))) u)
-by_guid_is c t a g tk m r now pipes mi there (Some o) e = by_live c t a g tk m r now o mi there e
-by_guid_is c t a g tk m r now pipes mi there None e =
+by_guid_is : (c : Client) (t : Server) (a : ℕ → ℕ) (g : ℕ) (tk : Token) (m : Message) (r : CreateRequest) (now : ℕ) → Mine c t a g tk m r → t.present m.session ≡ true
+    → (u : Option ℕ) → named c (seen t) g ≡ u → Both c t a g tk m now (guid_check t m r (durable_of (guid_at c g) (outlives (c.op g))) u)
+by_guid_is c t a g tk m r now mi there (Some o) e = by_live c t a g tk m r now o mi there e
+by_guid_is c t a g tk m r now mi there None e =
     let P : Verdict → Type 0 = λ v. Both c t a g tk m now v in
     let s = soft c t a g tk m now mi.fresh in
     either P (t.closed m.session (guid_at c g)) _ _ (λ _. (s, s))
     (λ x. either P (t.marks m.client (guid_at c g)) _ _ (λ _. (s, s))
-    (λ y. by_refusal c t a g tk m r now pipes mi (record { unnamed = e; unclosed = x; unmarked = subst (λ p. t.marks p (guid_at c g) ≡ false) mi.client y }) there (t.refused m.session (guid_at c g)) refl))
+    (λ y. by_refusal c t a g tk m r now mi (record { unnamed = e; unclosed = x; unmarked = subst (λ p. t.marks p (guid_at c g) ≡ false) mi.client y }) there (t.refused m.session (guid_at c g)) refl))
 
-by_durable : (c : Client) (t : Server) (a : ℕ → ℕ) (g : ℕ) (tk : Token) (m : Message) (r : CreateRequest) (now : ℕ) (pipes : Bool) → Mine c t a g tk m r → t.present m.session ≡ true → Both c t a g tk m now (durable_check t m r pipes r.durable)
-by_durable c t a g tk m r now pipes mi there =
-    subst (λ u. Both c t a g tk m now (durable_check t m r pipes u)) (sym mi.durable)
-    (subst (λ u. Both c t a g tk m now (guid_check t m r pipes (durable_of (guid_at c g) (outlives (c.op g))) u)) (ap (λ p. t.by_guid p (guid_at c g)) (sym mi.client)) (by_guid_is c t a g tk m r now pipes mi there (named c (seen t) g) refl))
+by_durable : (c : Client) (t : Server) (a : ℕ → ℕ) (g : ℕ) (tk : Token) (m : Message) (r : CreateRequest) (now : ℕ) → Mine c t a g tk m r → t.present m.session ≡ true → Both c t a g tk m now (durable_check t m r r.durable)
+by_durable c t a g tk m r now mi there =
+    subst (λ u. Both c t a g tk m now (durable_check t m r u)) (sym mi.durable)
+    (subst (λ u. Both c t a g tk m now (guid_check t m r (durable_of (guid_at c g) (outlives (c.op g))) u)) (ap (λ p. t.by_guid p (guid_at c g)) (sym mi.client)) (by_guid_is c t a g tk m r now mi there (named c (seen t) g) refl))
+
+by_share : (c : Client) (t : Server) (a : ℕ → ℕ) (g : ℕ) (tk : Token) (m : Message) (r : CreateRequest) (now : ℕ) → Mine c t a g tk m r → t.present m.session ≡ true → (b : Bool) → has_files c.who.share ≡ not b → Both c t a g tk m now (create_check t m r b)
+by_share c t a g tk m r now mi there true off = let q = no_name c t a g tk m r now mi off in (q, q)
+by_share c t a g tk m r now mi there false on = subst (λ x. Both c t a g tk m now (reconnect_or_create t m r x)) (sym mi.new) (by_durable c t a g tk m r now mi there)
 
 by_tree : (c : Client) (t : Server) (a : ℕ → ℕ) (g : ℕ) (tk : Token) (m : Message) (r : CreateRequest) (now : ℕ) → Mine c t a g tk m r → t.present m.session ≡ true → (u : Option Bool) → tree_in (t.trees m.session) m.tree ≡ u → Both c t a g tk m now (in_tree t m u)
 by_tree c t a g tk m r now mi there None e = absurd (let h = mi.tree there in grind arith)
 by_tree c t a g tk m r now mi there (Some pipes) e =
     subst (λ x. Both c t a g tk m now (tree_command t m pipes x)) (sym mi.command)
-    (subst (λ x. Both c t a g tk m now (reconnect_or_create t m r pipes x)) (sym mi.new) (by_durable c t a g tk m r now pipes mi there))
+    (by_share c t a g tk m r now mi there pipes (mi.files pipes e))
 
 by_form : (c : Client) (t : Server) (a : ℕ → ℕ) (g : ℕ) (tk : Token) (m : Message) (r : CreateRequest) (now : ℕ) → Mine c t a g tk m r → t.present m.session ≡ true → (u : Option ℕ) → create_form r ≡ u → Both c t a g tk m now (formed t m u)
 by_form c t a g tk m r now mi there (Some status) e = let q = formless c t a g tk m r now status mi e in (q, q)

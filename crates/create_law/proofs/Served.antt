@@ -1,5 +1,5 @@
 -- The server's step keeps what holds of creates: where it takes a message, accepts a connection or hears of its end.
-use Rattle.std.proofs.Common.{◌≡◌, ℕ, ◌+◌, ◌<◌, nat_le, Bool, true, false, ◌&&◌, if◌then◌else◌, ◌++◌, Option, Some, None, slice_get, refl, arith, sym, ◌∙◌, ap, subst, inl, inr, length}
+use Rattle.std.proofs.Common.{◌≡◌, ℕ, ◌+◌, ◌<◌, nat_le, Bool, true, false, ◌&&◌, if◌then◌else◌, ◌++◌, Option, Some, None, slice_get, refl, arith, sym, ◌∙◌, ap, subst, inl, inr, length, List, not}
 use Rattle.exchange_defs.specs.Commands.{Command, Aside, Unreadable, Setup, Logoff, TreeConnect, TreeDisconnect, Create, Close, Flush, Read, Write, Lock, Ioctl, ListDirectory, QueryFile, QueryVolume, SetInfo, CreateRequest}
 use Rattle.exchange_defs.specs.State.{Server, Message, ServerEvent, Accept, Heard, End, Answer}
 use Rattle.exchange_defs.specs.Records.{fits, origin_at}
@@ -16,7 +16,7 @@ use Rattle.server_law.proofs.Logic.{either, front_of}
 use Rattle.server_law.proofs.Doors.{Before, Finds, by_verdict}
 use Rattle.server_law.proofs.Checked.{found}
 use Rattle.session_law.specs.Sessions.{LiveAccepted, RankedUp, PresentAccepted, MakingUnranked, SessionUsers, TreeUp, is_ops}
-use Rattle.create_law.specs.Creates.{Seen, seen, Creates, outlives}
+use Rattle.create_law.specs.Creates.{Seen, seen, Creates, outlives, has_files}
 use Rattle.create_law.proofs.Requests.{create_asked, asks_create, asks_durable, asks_new, asks_form, asks_to_keep, same_guid}
 use Rattle.create_law.proofs.Seeing.{end_seen, expire_seen}
 use Rattle.create_law.proofs.Facing.{Facing, rest, expire_rest, is_creating, other_send, once_of}
@@ -25,6 +25,9 @@ use Rattle.create_law.proofs.Says.{SayFor, Mine, says}
 use Rattle.create_law.proofs.ExpireBy.{expire_by_creates}
 use Rattle.create_law.proofs.EndOf.{end_of_creates}
 use Rattle.create_law.proofs.Recount.{recount_creates}
+use Rattle.session_law.specs.Kinds.{TreeKinds}
+use Rattle.exchange_defs.specs.Texts.{same_name}
+use Rattle.exchange_defs.specs.CheckSetup.{pipes_name}
 
 -- what the layers below say of the client, the connections and the server's sessions
 pub record Below (c : Client) (conns : ℕ → Conn) (s : Server) : Type 0 where
@@ -35,10 +38,15 @@ pub record Below (c : Client) (conns : ℕ → Conn) (s : Server) : Type 0 where
   pub users : SessionUsers c s
   pub on_present : OnPresent s
   pub trees : TreeUp conns s
+  pub kinds : TreeKinds c s
+
+files_by : (share : List ℕ) (pipes : Bool) → pipes ≡ same_name share pipes_name → has_files share ≡ not pipes
+unfolding has_files
+files_by share pipes e = ap not (sym e)
 
 pub facing : (c : Client) (conns : ℕ → Conn) (s : Server) (k : ℕ) (x0 : Sent) → Below c conns s → slice_get (conns k).up 0 ≡ Some x0 → Facing c conns (rest s) k x0
 facing c conns s k x0 b front =
-    record { front = front; ranked = b.ranked; here = b.here; lives = λ l. ((b.lives l).0, (b.lives l).1); making = b.making; users = b.users; on_present = b.on_present; trees = b.trees }
+    record { front = front; ranked = b.ranked; here = b.here; lives = λ l. ((b.lives l).0, (b.lives l).1); making = b.making; users = b.users; on_present = b.on_present; trees = b.trees; kinds = λ x id pipes e. files_by c.who.share pipes (b.kinds x id pipes e) }
 
 -- ---- the state that the checks see
 
@@ -85,6 +93,7 @@ mine_of c conns a t k g x0 f fc i tk mk =
       there = λ on. fc.on_present x0.message.connection x0.message.session on;
       users = λ there. fc.users x0.message.session there;
       tree = λ there. fc.trees k 0 x0 fc.front ops there;
+      files = λ b e. fc.kinds x0.message.session x0.message.tree b e;
     }
 
 says_found : (c : Client) (a : ℕ → ℕ) (t : Server) (g : ℕ) (tk : Token) (m : Message) (r : CreateRequest) (now : ℕ) (v : Verdict) → Mine c t a g tk m r → Finds t m v → SayFor c (seen (apply t m now v).server) (counted a tk (apply t m now v).acted) g (apply t m now v).reply

@@ -1,11 +1,13 @@
 -- What holds of the creates in every world that a run leads to, where each operation acted a g times: between the client's
 -- table, what waits, and what the server keeps of opens, their guids and refusals.
-use Rattle.std.specs.Prelude.{◌≡◌, ℕ, ◌+◌, ◌*◌, ◌≤◌, ◌<◌, ◌==◌, nat_le, Bool, true, false, not, ◌&&◌, ◌||◌, Option, Some, None, is_some, slice_get}
+use Rattle.std.specs.Prelude.{◌≡◌, ℕ, ◌+◌, ◌*◌, ◌≤◌, ◌<◌, ◌==◌, nat_le, Bool, true, false, not, ◌&&◌, ◌||◌, List, Option, Some, None, is_some, slice_get}
 use Rattle.exchange_defs.specs.Status.{success, user_session_deleted, duplicate_objectid, no_memory}
 use Rattle.exchange_defs.specs.Commands.{Command, Aside, Setup, TreeConnect, Create, form}
 use Rattle.exchange_defs.specs.State.{Server, Open}
 use Rattle.exchange_defs.specs.Opens.{id_of}
+use Rattle.exchange_defs.specs.Texts.{same_name}
 use Rattle.exchange_defs.specs.CheckCreate.{max_guids}
+use Rattle.exchange_defs.specs.CheckSetup.{pipes_name}
 use Rattle.exchange_defs.specs.Operations.{Op, is_unsettled, is_ok, persists, request_of, id_in}
 use Rattle.exchange_defs.specs.Client.{Client}
 use Rattle.exchange_defs.specs.Runs.{never_acted}
@@ -55,6 +57,10 @@ outlives op = persists op
 unfoldable pub keeps_form : Op → Bool
 keeps_form op = not (is_some (form (request_of op 0 0 0 0)))
 
+-- the share has files; on that of the pipes no create acts
+unfoldable pub has_files : List ℕ → Bool
+has_files share = not (same_name share pipes_name)
+
 unfoldable pub is_full : ℕ → Bool
 is_full count = nat_le max_guids count
 
@@ -73,9 +79,13 @@ is_kept c v g = is_some (named c v g) || v.marks c.who.guid (guid_at c g)
 abbrev pub is_current : Client → Seen → Bool
 is_current c v = c.live && v.present c.session
 
+-- the create keeps the form rules, on a share that has files
+abbrev pub may_act : Client → ℕ → Bool
+may_act c g = keeps_form (c.op g) && has_files c.who.share
+
 -- no copy of the create acts in this session
 abbrev pub is_barred : Client → Seen → ℕ → ℕ → Bool
-is_barred c v x g = is_some (v.refused x (guid_at c g)) || (is_full (v.guids x) || not (keeps_form (c.op g)))
+is_barred c v x g = is_some (v.refused x (guid_at c g)) || (is_full (v.guids x) || not (may_act c g))
 
 -- a status that settles a create as refused, by whether a copy of it is unanswered
 abbrev pub refuses : Bool → ℕ → Bool
@@ -131,7 +141,7 @@ abbrev pub AtMost : Client → (ℕ → ℕ) → Type 0
 AtMost c a = (g : ℕ) → makes_open (c.op g) ≡ true → a g ≤ 1
 
 abbrev pub FormActed : Client → (ℕ → ℕ) → Type 0
-FormActed c a = (g : ℕ) → makes_open (c.op g) ≡ true → 1 ≤ a g → keeps_form (c.op g) ≡ true
+FormActed c a = (g : ℕ) → makes_open (c.op g) ≡ true → 1 ≤ a g → may_act c g ≡ true
 
 -- ---- one that was refused doesn't act
 

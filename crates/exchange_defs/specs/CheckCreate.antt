@@ -63,10 +63,6 @@ names_of_found s r (Some f) = found_names s r f
 unfoldable pub names : Server → CreateRequest → Option ℕ → Option ℕ
 names s r found = if is_some found || has_parent s r.path then names_of_found s r found else Some object_path_not_found
 
--- on the share of the pipes no name is found
-abbrev pub share_names : Server → CreateRequest → Bool → Option ℕ → Option ℕ
-share_names s r pipes found = if pipes then Some object_name_not_found else names s r found
-
 -- ---- sharing: a create that empties a file asks for write access too
 
 abbrev pub shared_access : CreateRequest → ℕ
@@ -97,12 +93,12 @@ after_names s r found (Some status) = refused_create r status
 after_names s r found None = if shares s r found then Make r found (action_of r found) else refused_create r sharing_violation
 
 -- a create whose CreateGuid is new, or that has none
-abbrev pub new_check : Server → Message → CreateRequest → Bool → Option ℕ → Verdict
-new_check s m r pipes found =
+abbrev pub new_check : Server → Message → CreateRequest → Option ℕ → Verdict
+new_check s m r found =
     if deletes_on_close r.options && not (deletes (mapped r.access)) then Refuse access_denied
     else if keeps_guid r && nat_le max_guids (s.guids m.session) then Refuse insufficient_resources
     else if is_counted_out s r found then refused_create r insufficient_resources
-    else after_names s r found (share_names s r pipes found)
+    else after_names s r found (names s r found)
 
 -- ---- kept results
 
@@ -116,16 +112,16 @@ live_check s m r o =
     else if same_name (s.opened o).user (s.user m.session) then Repeat o r
     else Refuse access_denied
 
-abbrev pub refusal_check : Server → Message → CreateRequest → Bool → Option ℕ → Verdict
-refusal_check s m r pipes (Some status) = Refuse status
-refusal_check s m r pipes None = new_check s m r pipes (find s r.path)
+abbrev pub refusal_check : Server → Message → CreateRequest → Option ℕ → Verdict
+refusal_check s m r (Some status) = Refuse status
+refusal_check s m r None = new_check s m r (find s r.path)
 
-abbrev pub guid_check : Server → Message → CreateRequest → Bool → Durable → Option ℕ → Verdict
-guid_check s m r pipes d (Some o) = live_check s m r o
-guid_check s m r pipes d None =
+abbrev pub guid_check : Server → Message → CreateRequest → Durable → Option ℕ → Verdict
+guid_check s m r d (Some o) = live_check s m r o
+guid_check s m r d None =
     if s.closed m.session d.guid then Refuse duplicate_objectid
     else if s.marks m.client d.guid then Refuse duplicate_objectid
-    else refusal_check s m r pipes (s.refused m.session d.guid)
+    else refusal_check s m r (s.refused m.session d.guid)
 
 abbrev pub has_guid : ℕ → Option ℕ → Bool
 has_guid g None = false
@@ -139,13 +135,14 @@ reconnect_check s m r c =
     else if is_some (s.at c.file) && not (is_at m.session (s.at c.file)) then Refuse object_name_not_found
     else Attach c.file r
 
-abbrev pub durable_check : Server → Message → CreateRequest → Bool → Option Durable → Verdict
-durable_check s m r pipes None = new_check s m r pipes (find s r.path)
-durable_check s m r pipes (Some d) = guid_check s m r pipes d (s.by_guid m.client d.guid)
+abbrev pub durable_check : Server → Message → CreateRequest → Option Durable → Verdict
+durable_check s m r None = new_check s m r (find s r.path)
+durable_check s m r (Some d) = guid_check s m r d (s.by_guid m.client d.guid)
 
-abbrev pub reconnect_or_create : Server → Message → CreateRequest → Bool → Option Reconnect → Verdict
-reconnect_or_create s m r pipes (Some c) = if pipes then Refuse object_name_not_found else reconnect_check s m r c
-reconnect_or_create s m r pipes None = durable_check s m r pipes r.durable
+abbrev pub reconnect_or_create : Server → Message → CreateRequest → Option Reconnect → Verdict
+reconnect_or_create s m r (Some c) = reconnect_check s m r c
+reconnect_or_create s m r None = durable_check s m r r.durable
 
+-- on the share of the pipes no name is found, whatever the request carries, and nothing is looked up or kept of it
 abbrev pub create_check : Server → Message → CreateRequest → Bool → Verdict
-create_check s m r pipes = reconnect_or_create s m r pipes r.reconnect
+create_check s m r pipes = if pipes then Refuse object_name_not_found else reconnect_or_create s m r r.reconnect

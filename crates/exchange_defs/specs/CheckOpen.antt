@@ -25,7 +25,7 @@ file_of s o = (s.opened o).file
 abbrev pub has_access : Server → ℕ → ℕ → Bool
 has_access s o bit = has_bit (s.opened o).access bit
 
--- ---- changes: a replayed request that would change nothing but times is answered without a change
+-- ---- changes
 
 abbrev pub changes_nothing : Server → ℕ → Change → Bool
 changes_nothing s f (PutBytes at bytes) = same_bytes (written at bytes (s.content f)) (s.content f)
@@ -35,8 +35,10 @@ changes_nothing s f (PutMark flag) = if s.marked f then flag else not flag
 changes_nothing s f (PutPath replaced path) = not (is_some replaced) && same_bytes path (path_of s f)
 changes_nothing s f PutNothing = true
 
-abbrev pub alter : Server → Message → ℕ → Change → Body → Verdict
-alter s m o change body = if m.replay && (not (is_directory s (file_of s o)) && changes_nothing s (file_of s o) change) then Tell o body else Alter o change body
+-- check 8: a replayed request that would change nothing but times is SUCCESS. It stands behind the access and before ranges,
+-- names, the room and the journal, so that a change that acted is heard as one though they would refuse it now.
+abbrev pub is_repeated : Server → Message → ℕ → Change → Bool
+is_repeated s m o change = m.replay && changes_nothing s (file_of s o) change
 
 -- ---- WRITE (3.3.5.13)
 
@@ -47,9 +49,10 @@ abbrev pub timely_write : Server → Message → ℕ → ℕ → List ℕ → Ve
 timely_write s m o at bytes =
     if not (has_access s o 0x2) then TurnDown o access_denied
     else if is_directory s (file_of s o) then TurnDown o invalid_device_request
+    else if is_repeated s m o (bytes_change at bytes) then Tell o (Count (length bytes))
     else if not (may_write (s.ranges (file_of s o)) o at (length bytes)) then TurnDown o file_lock_conflict
     else if not (is_empty bytes) && passes_room s (file_of s o) (at + length bytes) then TurnDown o disk_full
-    else alter s m o (bytes_change at bytes) (Count (length bytes))
+    else Alter o (bytes_change at bytes) (Count (length bytes))
 
 abbrev pub write_check : Server → Message → ℕ → ℕ → List ℕ → Verdict
 write_check s m o at bytes = if is_late s m o then Refuse file_not_available else timely_write s m o at bytes
@@ -129,30 +132,34 @@ rename_names s f replace path =
 unfoldable pub delete_names : Server → ℕ → Bool → Option ℕ
 delete_names s f flag = if not flag then None else if f == root then Some access_denied else if is_full_directory s f then Some directory_not_empty else None
 
-abbrev pub named_change : Server → Message → ℕ → Change → Option ℕ → Verdict
-named_change s m o change (Some status) = TurnDown o status
-named_change s m o change None = alter s m o change Empty
+abbrev pub named_change : ℕ → Change → Option ℕ → Verdict
+named_change o change (Some status) = TurnDown o status
+named_change o change None = Alter o change Empty
 
--- a replay onto the very name that the file has is answered before its names are looked at
-abbrev pub rename_change : Server → Message → ℕ → Change → Option ℕ → Verdict
-rename_change s m o change names = if m.replay && (not (is_directory s (file_of s o)) && changes_nothing s (file_of s o) change) then Tell o Empty else named_change s m o change names
+abbrev pub unless_repeated : Server → Message → ℕ → Change → Verdict → Verdict
+unless_repeated s m o change v = if is_repeated s m o change then Tell o Empty else v
 
 abbrev pub size_change : Server → Message → ℕ → ℕ → Change → Verdict
 size_change s m o size change =
     if not (has_access s o 0x2) then TurnDown o access_denied
     else if is_directory s (file_of s o) then TurnDown o invalid_device_request
+    else if is_repeated s m o change then Tell o Empty
     else if passes_room s (file_of s o) size then TurnDown o disk_full
-    else alter s m o change Empty
+    else Alter o change Empty
 
 abbrev pub allocation_change : Server → ℕ → ℕ → Change
 allocation_change s f size = if nat_lt size (length (s.content f)) then PutEnd size else PutNothing
 
+abbrev pub path_change : Server → ℕ → List ℕ → Change
+path_change s o path = PutPath (target_of (file_of s o) (find s path)) path
+
 abbrev pub setting_check : Server → Message → ℕ → Setting → Verdict
-setting_check s m o (SetBasic basic) = if has_access s o 0x100 then alter s m o (PutBasic (set_basic (s.basic (file_of s o)) basic)) Empty else TurnDown o access_denied
-setting_check s m o (Rename replace path) =
-    if has_access s o 0x1_0000 then rename_change s m o (PutPath (target_of (file_of s o) (find s path)) path) (rename_names s (file_of s o) replace path)
+setting_check s m o (SetBasic basic) =
+    if has_access s o 0x100 then unless_repeated s m o (PutBasic (set_basic (s.basic (file_of s o)) basic)) (Alter o (PutBasic (set_basic (s.basic (file_of s o)) basic)) Empty)
     else TurnDown o access_denied
-setting_check s m o (SetDelete flag) = if has_access s o 0x1_0000 then named_change s m o (PutMark flag) (delete_names s (file_of s o) flag) else TurnDown o access_denied
+setting_check s m o (Rename replace path) =
+    if has_access s o 0x1_0000 then unless_repeated s m o (path_change s o path) (named_change o (path_change s o path) (rename_names s (file_of s o) replace path)) else TurnDown o access_denied
+setting_check s m o (SetDelete flag) = if has_access s o 0x1_0000 then unless_repeated s m o (PutMark flag) (named_change o (PutMark flag) (delete_names s (file_of s o) flag)) else TurnDown o access_denied
 setting_check s m o (SetAllocation size) = size_change s m o (allocated size (length (s.content (file_of s o)))) (allocation_change s (file_of s o) size)
 setting_check s m o (SetEnd size) = size_change s m o size (PutEnd size)
 

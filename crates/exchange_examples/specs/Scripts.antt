@@ -506,3 +506,16 @@ linked_at number = (course 1 (Links 0 ∷ []) (counted number (beginning 2684354
 -- how many operations are taken where this one comes behind a create
 abbrev pub taken_of : Op → ℕ
 taken_of op = (course 1 (submit 1 (OpCreate (97 ∷ []) 0x183 0 2 false false) ∷ submit 2 op ∷ []) (beginning 268435456)).world.client.taken
+
+-- A write is served and unheard, a shared lock over its range is granted meanwhile, and then its second copy is taken.
+abbrev pub repeated_behind_a_lock : List Line
+repeated_behind_a_lock =
+    Links 0 ∷ Links 1 ∷ submit 1 (OpCreate (97 ∷ []) 0x183 0 2 false false) ∷ Pushes 0 ∷ Does (Serve 0) ∷ Does (Take 0) ∷
+    submit 2 (OpWrite 1 0 (97 ∷ [])) ∷ submit 3 (OpLock 1 0 10 false) ∷ Pushes 0 ∷ Does (Serve 0) ∷ Pushes 1 ∷ Does (Serve 1) ∷ Does (Take 1) ∷
+    Does (Cut 0) ∷ Pushes 1 ∷ Does (Serve 1) ∷ Does (Take 1) ∷ []
+
+-- A change of a directory is served and unheard, and then its second copy is taken.
+abbrev pub repeated_on_a_directory : Op → List Line
+repeated_on_a_directory op =
+    Links 0 ∷ Links 1 ∷ submit 1 (OpCreate (100 ∷ []) 0x10183 0 2 false true) ∷ Pushes 0 ∷ Does (Serve 0) ∷ Does (Take 0) ∷ submit 2 op ∷
+    Pushes 0 ∷ Does (Serve 0) ∷ Does (Cut 0) ∷ Pushes 1 ∷ Does (Serve 1) ∷ Does (Take 1) ∷ []

@@ -123,6 +123,13 @@ first_version_disk =
     EpochRecord 1 ∷ CreateRecord its_origin 2 1 (97 ∷ []) 0 false 50 (Some (record { id = first_open; client = 7; guid = 5; user = 117 ∷ []; access = 0x183; share = 0; options = 0x40; timeout = 60000 })) ∷
     WriteRecord its_origin 1 0 60 (104 ∷ 105 ∷ []) ∷ []
 
+-- the same with the replay flag, and on the session's second tree
+abbrev pub again : Command → ServerEvent
+again command = Heard (from_client 0 7 9 0 true command)
+
+abbrev pub on_pipes : Command → ServerEvent
+on_pipes command = Heard (record (from_client 0 7 9 0 false command) { tree = 2 })
+
 -- ---- a server that has given a session's tree ids below this one
 
 abbrev pub with_next_tree : Server → ℕ → Server

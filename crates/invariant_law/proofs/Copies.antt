@@ -1,7 +1,7 @@
 -- What the records below say of each copy that waits: its request and its pair, and of creates and locks what the server
 -- keeps of them.
 use Rattle.std.proofs.lemmas.Bool.{eqb-false}
-use Rattle.std.proofs.Common.{eqb-true, ◌≡◌, ℕ, ◌≤◌, ◌<◌, ◌==◌, nat_le, Bool, true, false, not, ◌||◌, refl, arith, sym, ◌∙◌, ap, Option, Some, None, is_some}
+use Rattle.std.proofs.Common.{eqb-true, ◌≡◌, ℕ, ◌≤◌, ◌<◌, ◌==◌, nat_le, Bool, true, false, not, ◌||◌, refl, arith, sym, ◌∙◌, ap, Option, Some, None, is_some, ◌&&◌}
 use Rattle.exchange_defs.specs.Commands.{form}
 use Rattle.exchange_defs.specs.State.{Server}
 use Rattle.exchange_defs.specs.CheckCreate.{max_guids}
@@ -12,11 +12,13 @@ use Rattle.exchange_defs.specs.Network.{World, Sent}
 use Rattle.exchange_defs.specs.Runs.{never_acted}
 use Rattle.exchange_law.specs.Connections.{Connections, its_request, its_create, makes_open}
 use Rattle.session_law.specs.Sessions.{Sessions, RankOnce}
-use Rattle.create_law.specs.Creates.{Creates, seen, own_guid, is_full, keeps_form, is_barred}
+use Rattle.create_law.specs.Creates.{Creates, seen, own_guid, is_full, keeps_form, is_barred, has_files}
 use Rattle.lock_law.specs.Locks.{Locks, locking, kept_at, user_at}
 use Rattle.order_law.proofs.Requests.{form_same}
 use Rattle.order_law.proofs.Words.{ops_of}
-use Rattle.invariant_law.specs.Parts.{open_of, LiveCopy, NotNewer, OlderSession, SameSession, CopiesAreOwn, ToldByGuid, NamesOpen, KeptClosed, Marked, RefusedAgain, KeptRefusal, BadForm, GuidsFull, CreateHolds, CreateActed, CreateRefused, CreateToCome, CreatesAreKept, LockHolds, OpenLeft, SlotTells, LockToCome, LocksAreKept}
+use Rattle.invariant_law.specs.Parts.{open_of, LiveCopy, NotNewer, OlderSession, SameSession, CopiesAreOwn, ToldByGuid, NamesOpen, KeptClosed, Marked, RefusedAgain, KeptRefusal, BadForm, GuidsFull, CreateHolds, CreateActed, CreateRefused, CreateToCome, CreatesAreKept, LockHolds, OpenLeft, SlotTells, LockToCome, LocksAreKept, OnPipes}
+use Rattle.exchange_defs.specs.Texts.{same_name}
+use Rattle.exchange_defs.specs.CheckSetup.{pipes_name}
 
 -- ---- 1
 
@@ -60,14 +62,16 @@ told_by c s session g stands e =
     (λ z. Marked z)
 
 refused_by : (c : Client) (s : Server) (x : Sent) (g : ℕ) → form x.message.command ≡ form (request_of (c.op g) 0 0 0 0) → is_barred c (seen s) x.message.session g ≡ true → RefusedAgain c s x g
-unfolding own_guid is_full keeps_form
+unfolding own_guid is_full keeps_form has_files
 refused_by c s x g same e =
-    one_of (RefusedAgain c s x g) (is_some (s.refused x.message.session (guid_for c g))) (nat_le max_guids (s.guids x.message.session)) (not (not (is_some (form (request_of (c.op g) 0 0 0 0))))) e
-    (λ z. KeptRefusal z) (λ z. GuidsFull z) (λ z. BadForm (ap is_some same ∙ twice (is_some (form (request_of (c.op g) 0 0 0 0))) z))
+    one_of (RefusedAgain c s x g) (is_some (s.refused x.message.session (guid_for c g))) (nat_le max_guids (s.guids x.message.session))
+    (not (not (is_some (form (request_of (c.op g) 0 0 0 0))) && not (same_name c.who.share pipes_name))) e
+    (λ z. KeptRefusal z) (λ z. GuidsFull z) (λ z. by_form (is_some (form (request_of (c.op g) 0 0 0 0))) (same_name c.who.share pipes_name) refl refl z)
   where
-    twice : (b : Bool) → not (not b) ≡ true → b ≡ true
-    twice true e = refl
-    twice false e = absurd (cc)
+    by_form : (b p : Bool) → is_some (form (request_of (c.op g) 0 0 0 0)) ≡ b → same_name c.who.share pipes_name ≡ p → not (not b && not p) ≡ true → RefusedAgain c s x g
+    by_form true p f h z = BadForm (ap is_some same ∙ f)
+    by_form false true f h z = OnPipes h
+    by_form false false f h z = absurd (cc)
 
 create_acted : (w : World) (a : ℕ → ℕ) (k n g : ℕ) (x : Sent) → Creates w.client w.conns (seen w.server) a → LiveCopy w k n g x → is_create (w.client.op g) ≡ true → 1 ≤ a g → CreateHolds w a x g
 unfolding makes_open own_guid

@@ -16,6 +16,8 @@ use Rattle.exchange_defs.specs.Network.{World, Sent, ForOp, answer}
 use Rattle.exchange_defs.specs.Runs.{never_acted}
 use Rattle.session_law.specs.Sessions.{is_ops}
 use Rattle.order_law.specs.Contents.{pends}
+use Rattle.exchange_defs.specs.Texts.{same_name}
+use Rattle.exchange_defs.specs.CheckSetup.{pipes_name}
 
 -- ---- words
 
@@ -72,6 +74,7 @@ pub data RefusedAgain (c : Client) (s : Server) (x : Sent) (g : ℕ) : Type 0 wh
   KeptRefusal : is_some (s.refused x.message.session (guid_for c g)) ≡ true → RefusedAgain c s x g
   BadForm : is_some (form x.message.command) ≡ true → RefusedAgain c s x g
   GuidsFull : nat_le max_guids (s.guids x.message.session) ≡ true → RefusedAgain c s x g
+  OnPipes : same_name c.who.share pipes_name ≡ true → RefusedAgain c s x g
 
 pub data CreateHolds (w : World) (a : ℕ → ℕ) (x : Sent) (g : ℕ) : Type 0 where
   CreateActed : a g ≡ 1 → ToldByGuid w.client w.server x.message.session g → CreateHolds w a x g

@@ -18,7 +18,7 @@ use Rattle.exchange_defs.specs.Network.{Conn, Sent, Received, Token, ForDialog, 
 use Rattle.exchange_defs.specs.Runs.{is_send_of}
 use Rattle.exchange_defs.specs.Verdict.{Verdict, Refuse, Give, KeepRefusal, Repeat, Attach, Make, TurnDown, Tell, Show, KeepSlot, PutRanges, Alter, Shut, Challenge, ChallengeBinding, Begin, Join, EndSession, AddTree, DropTree}
 use Rattle.exchange_law.specs.Connections.{makes_open, shuts_open, create_at, its_request}
-use Rattle.server_law.proofs.Logic.{either, at_of}
+use Rattle.server_law.proofs.Logic.{either, at_of, front_of}
 use Rattle.server_law.proofs.Doors.{recorded}
 use Rattle.server_law.proofs.Found.{Facts}
 use Rattle.server_law.proofs.Checked.{found}
@@ -427,7 +427,7 @@ serves_ask c conns t a k x0 now v rs g w q tk =
     let op = c.op (create_at c g) in let guid = guid_for c (create_at c g) in let file = open_at c g in
     let r = asked_again op guid file in
     let is : x0.message.command ≡ Create r = ad.4 ∙ ask_request op guid file cr.2 in
-    let fm = ask_form op guid file cr.2 (w.creates.form_acted (create_at c g) cr.2 (w.creates.ok_acted (create_at c g) cr.2 ad.3)) in
+    let fm = ask_form op guid file cr.2 (front_of (keeps_form op) _ (w.creates.form_acted (create_at c g) cr.2 (w.creates.ok_acted (create_at c g) cr.2 ad.3))) in
     let sees = ask_of t x0.message r (record { file = file; guid = guid }) v q.0 (ask_sees t x0.message r (record { file = file; guid = guid }) w.fault is (ask_reconnect op guid file cr.2) fm (λ pipes e. tree_plain c t x0.message.session x0.message.tree pipes w.kinds e (w.locks.made_plain (create_at c g) cr.2 (w.creates.ok_acted (create_at c g) cr.2 ad.3)))) in
     let says = asked_by c conns t a k x0 now g r v w tk cr.2 ad.3 sees in (
       other_keeps c conns t a k x0 now v rs w q (ap is_other ad.4 ∙ ask_other op guid file) (λ p f. ap (is_send_of p) tk) (plain_other c conns t a k x0 _ w (λ p f. ap (is_send_of p) tk)),

@@ -8,7 +8,7 @@ use Rattle.exchange_defs.specs.State.{Server, Message, Empty, Range}
 use Rattle.exchange_defs.specs.Files.{find, is_directory}
 use Rattle.exchange_defs.specs.Ranges.{RangeAnswer, Stands, Denied, change_ranges}
 use Rattle.exchange_defs.specs.Opens.{is_of_session, deletes, mapped}
-use Rattle.exchange_defs.specs.CheckCreate.{reconnect_check, reconnect_or_create, has_guid, guid_check, live_check, refusal_check, new_check, durable_check, keeps_guid, max_guids, is_counted_out, after_names, share_names, shares, refused_create, refused_by}
+use Rattle.exchange_defs.specs.CheckCreate.{reconnect_check, reconnect_or_create, has_guid, guid_check, live_check, refusal_check, new_check, durable_check, keeps_guid, max_guids, is_counted_out, after_names, names, shares, refused_create, refused_by}
 use Rattle.exchange_defs.specs.CheckOpen.{file_of, is_slot, kept_lock, turn_down_lock, range_check, new_lock_check, slot_check}
 use Rattle.exchange_defs.specs.CheckSetup.{tree_in}
 use Rattle.exchange_defs.specs.Check.{check, owed, formed, command_check, with_tree, in_tree, tree_command, has_session}
@@ -128,7 +128,7 @@ ask_sees s m r q fault is asks formed1 flat =
   where
     by_pipes : (b : Bool) → b ≡ false → s.on m.connection ≡ Some m.session → AskSees s m r q (tree_command s m b (Create r))
     by_pipes true e on = absurd (cc)
-    by_pipes false e on = subst (λ u. AskSees s m r q (reconnect_or_create s m r false u)) (sym asks) (reconnect_sees s m r q on)
+    by_pipes false e on = subst (λ u. AskSees s m r q (reconnect_or_create s m r u)) (sym asks) (reconnect_sees s m r q on)
 
 -- ---- a create: a success makes an open or gives one
 
@@ -154,13 +154,13 @@ kept_says r status e = by_durable r.durable e
     by_durable None e = absurd (cc)
     by_durable (Some d) e = refl
 
-new_says : (s : Server) (m : Message) (r : CreateRequest) (pipes : Bool) (found : Option ℕ) → is_some r.durable ≡ true → create_says (new_check s m r pipes found) ≡ true
-new_says s m r pipes found d =
+new_says : (s : Server) (m : Message) (r : CreateRequest) (found : Option ℕ) → is_some r.durable ≡ true → create_says (new_check s m r found) ≡ true
+new_says s m r found d =
     let P : Verdict → Type 0 = λ v. create_says v ≡ true in
     either P (deletes_on_close r.options && not (deletes (mapped r.access))) _ _ (λ _. refl)
     (λ _. either P (keeps_guid r && nat_le max_guids (s.guids m.session)) _ _ (λ _. refl)
     (λ _. either P (is_counted_out s r found) _ _ (λ _. kept_says r insufficient_resources d)
-    (λ _. by_names (share_names s r pipes found))))
+    (λ _. by_names (names s r found))))
   where
     by_names : (u : Option ℕ) → create_says (after_names s r found u) ≡ true
     by_names (Some status) = kept_says r status d
@@ -173,15 +173,15 @@ live_says s m r o =
     (λ _. either P (is_some (s.at o) || not (s.opened o).persistent) _ _ (λ _. refl)
     (λ _. either P (same_name (s.opened o).user (s.user m.session)) _ _ (λ _. refl) (λ _. refl))))
 
-guid_says : (s : Server) (m : Message) (r : CreateRequest) (pipes : Bool) (d : Durable) → is_some r.durable ≡ true → ((x g status : ℕ) → s.refused x g ≡ Some status → (status == success) ≡ false) → (u : Option ℕ) → create_says (guid_check s m r pipes d u) ≡ true
-guid_says s m r pipes d k bad (Some o) = live_says s m r o
-guid_says s m r pipes d k bad None =
+guid_says : (s : Server) (m : Message) (r : CreateRequest) (d : Durable) → is_some r.durable ≡ true → ((x g status : ℕ) → s.refused x g ≡ Some status → (status == success) ≡ false) → (u : Option ℕ) → create_says (guid_check s m r d u) ≡ true
+guid_says s m r d k bad (Some o) = live_says s m r o
+guid_says s m r d k bad None =
     let P : Verdict → Type 0 = λ v. create_says v ≡ true in
     either P (s.closed m.session d.guid) _ _ (λ _. refl) (λ _. either P (s.marks m.client d.guid) _ _ (λ _. refl) (λ _. by_refused (s.refused m.session d.guid) refl))
   where
-    by_refused : (w : Option ℕ) → s.refused m.session d.guid ≡ w → create_says (refusal_check s m r pipes w) ≡ true
+    by_refused : (w : Option ℕ) → s.refused m.session d.guid ≡ w → create_says (refusal_check s m r w) ≡ true
     by_refused (Some status) e = says_refuse status (bad m.session d.guid status e)
-    by_refused None e = new_says s m r pipes (find s r.path) k
+    by_refused None e = new_says s m r (find s r.path) k
 
 pub create_sees : (s : Server) (m : Message) (r : CreateRequest) (d : Durable) → m.fault ≡ None → m.command ≡ Create r → r.reconnect ≡ None → r.durable ≡ Some d → ((x g status : ℕ) → s.refused x g ≡ Some status → (status == success) ≡ false) → create_says (check s m) ≡ true
 create_sees s m r d fault is new kept bad =
@@ -191,6 +191,7 @@ create_sees s m r d fault is new kept bad =
     (in_trees P s m (λ _. refl) (λ pipes t. subst (λ c. P (tree_command s m pipes c)) (sym is) (by_new pipes))))
   where
     by_new : (pipes : Bool) → create_says (tree_command s m pipes (Create r)) ≡ true
-    by_new pipes =
-        subst (λ u. create_says (reconnect_or_create s m r pipes u) ≡ true) (sym new)
-        (subst (λ u. create_says (durable_check s m r pipes u) ≡ true) (sym kept) (guid_says s m r pipes d (ap (λ u. is_some u) kept) bad (s.by_guid m.client d.guid)))
+    by_new true = refl
+    by_new false =
+        subst (λ u. create_says (reconnect_or_create s m r u) ≡ true) (sym new)
+        (subst (λ u. create_says (durable_check s m r u) ≡ true) (sym kept) (guid_says s m r d (ap (λ u. is_some u) kept) bad (s.by_guid m.client d.guid)))

@@ -18,7 +18,7 @@ use Rattle.exchange_law.proofs.Stays.{Beyond}
 use Rattle.server_law.specs.Fits.{Fits}
 use Rattle.recovery_law.specs.Restarted.{Restarted}
 use Rattle.session_law.specs.Sessions.{Sessions, is_ops}
-use Rattle.create_law.specs.Creates.{Creates, seen}
+use Rattle.create_law.specs.Creates.{Creates, seen, keeps_form}
 use Rattle.order_law.specs.Newest.{Pair, LowSequences}
 use Rattle.order_law.specs.Contents.{Contents, is_final, lists, edits, formed, file_at}
 use Rattle.order_law.proofs.Answers.{Facts, facts}
@@ -34,7 +34,7 @@ use Rattle.exchange_defs.specs.CheckCreate.{has_guid}
 use Rattle.exchange_defs.specs.Texts.{same_name}
 use Rattle.order_law.proofs.Taking.{Taking, new_acts, made_own, own_of}
 use Rattle.order_law.proofs.Words.{ops_of, attach_of}
-use Rattle.server_law.proofs.Logic.{at_of}
+use Rattle.server_law.proofs.Logic.{at_of, front_of}
 
 -- what the layers below say of a world that a run leads to
 pub record Lower (w : World) (a : ℕ → ℕ) : Type 0 where
@@ -246,7 +246,7 @@ said w a k x0 rest is opn l t i =
     asked_by : (p : ℕ) → x0.token ≡ ForAttach p → AskedFacts w.server x0.message (record { file = file_at w.client p; guid = guid_for w.client (create_at w.client p) }) (answer w x0)
     asked_by p tk =
         let s = i.asked_as k 0 p x0 f0 tk in let o = ok_create p tk in let r = ask_reads (w.client.op (create_at w.client p)) (guid_for w.client (create_at w.client p)) (file_at w.client p) o.0 in
-        let kf = l.cr.form_acted (create_at w.client p) o.0 (l.cr.ok_acted (create_at w.client p) o.0 o.1) in
+        let kf = front_of (keeps_form (w.client.op (create_at w.client p))) _ (l.cr.form_acted (create_at w.client p) o.0 (l.cr.ok_acted (create_at w.client p) o.0 o.1)) in
         asked_facts w.server w.moment x0.message r.0 (record { file = file_at w.client p; guid = guid_for w.client (create_at w.client p) }) (s.1 ∙ r.1.0) r.1.1 (l.ss.from_client k 0 x0 f0).2
         (λ z. l.ss.tree_up k 0 x0 f0 (attach_of x0.token p tk) (there z)) (λ z st. absurd (let n = l.disk x0.message.session x0.message.tree (file_at w.client p) z in grind arith))
         (ap form s.1 ∙ ask_form (w.client.op (create_at w.client p)) (guid_for w.client (create_at w.client p)) (file_at w.client p) o.0 kf)

@@ -13,7 +13,7 @@ use Rattle.exchange_defs.specs.Ranges.{may_read, may_write}
 use Rattle.exchange_defs.specs.Opens.{is_of_session}
 use Rattle.exchange_defs.specs.Verdict.{Verdict, Refuse, Give, KeepRefusal, Repeat, Attach, Make, TurnDown, Tell, Show, KeepSlot, PutRanges, Alter, Shut, Challenge, ChallengeBinding, Begin, Join, EndSession, AddTree, DropTree, Change, PutBytes, PutEnd, PutNothing}
 use Rattle.exchange_defs.specs.CheckCreate.{has_guid, reconnect_check, reconnect_or_create}
-use Rattle.exchange_defs.specs.CheckOpen.{is_late, file_of, has_access, changes_nothing, alter, bytes_change, write_check, read_check, there, set_check}
+use Rattle.exchange_defs.specs.CheckOpen.{is_late, file_of, has_access, changes_nothing, bytes_change, write_check, read_check, there, set_check, is_repeated}
 use Rattle.exchange_defs.specs.CheckSetup.{tree_in}
 use Rattle.exchange_defs.specs.Check.{has_session, tree_command, in_tree, with_tree, command_check, formed, owed, check}
 use Rattle.exchange_defs.specs.Step.{without_room}
@@ -90,12 +90,16 @@ of_not a e = grind arith
 
 -- ---- a change
 
-altered : (s : Server) (m : Message) (op : ContentOp) (o : ℕ) (change : Change) (body : Body) → form m.command ≡ None → On s m o → is_late s m o ≡ false → is_change op ≡ true → is_directory s (file_of s o) ≡ false → value op (bytes_of s o) ≡ content_reply body
-    → changed_by change (bytes_of s o) ≡ effect op (bytes_of s o) → changes_nothing s (file_of s o) change ≡ same_bytes (effect op (bytes_of s o)) (bytes_of s o) → past_end op (bytes_of s o) ≡ false → Listed s m op o (alter s m o change body)
-altered s m op o change body fm on late ed file reply after nothing before =
-    either (Listed s m op o) (m.replay && (not (is_directory s (file_of s o)) && changes_nothing s (file_of s o) change)) _ _
-    (λ e. record { is = record { its = refl; on = on; in_time = λ z. late; reply = reply; same = same_bytes-true (effect op (bytes_of s o)) (bytes_of s o) (sym nothing ∙ back_of (not (is_directory s (file_of s o))) _ (back_of m.replay _ e)); before = before } })
-    (λ e. record {
+-- a replayed one that would change nothing
+repeated : (s : Server) (m : Message) (op : ContentOp) (o : ℕ) (change : Change) (body : Body) → On s m o → is_late s m o ≡ false → value op (bytes_of s o) ≡ content_reply body
+    → changes_nothing s (file_of s o) change ≡ same_bytes (effect op (bytes_of s o)) (bytes_of s o) → past_end op (bytes_of s o) ≡ false → is_repeated s m o change ≡ true → Listed s m op o (Tell o body)
+repeated s m op o change body on late reply nothing before e =
+    record { is = record { its = refl; on = on; in_time = λ z. late; reply = reply; same = same_bytes-true (effect op (bytes_of s o)) (bytes_of s o) (sym nothing ∙ back_of m.replay _ e); before = before } }
+
+altered : (s : Server) (m : Message) (op : ContentOp) (o : ℕ) (change : Change) (body : Body) → form m.command ≡ None → On s m o → is_late s m o ≡ false → is_change op ≡ true → value op (bytes_of s o) ≡ content_reply body
+    → changed_by change (bytes_of s o) ≡ effect op (bytes_of s o) → changes_nothing s (file_of s o) change ≡ same_bytes (effect op (bytes_of s o)) (bytes_of s o) → past_end op (bytes_of s o) ≡ false → is_repeated s m o change ≡ false → Listed s m op o (Alter o change body)
+altered s m op o change body fm on late ed reply after nothing before e =
+    record {
       is = record {
         its = refl;
         on = on;
@@ -105,9 +109,9 @@ altered s m op o change body fm on late ed file reply after nothing before =
         reply = reply;
         after = after;
         before = before;
-        again = λ r. differs (sym nothing ∙ other_off (not (is_directory s (file_of s o))) _ (other_off m.replay _ e r) (of_not _ file));
+        again = λ r. differs (sym nothing ∙ other_off m.replay _ e r);
       };
-    })
+    }
   where
     differs : same_bytes (effect op (bytes_of s o)) (bytes_of s o) ≡ false → effect op (bytes_of s o) ≡ bytes_of s o → ⊥
     differs f e = absurd (let z = subst (λ b. same_bytes b (bytes_of s o) ≡ true) (sym e) (same_bytes-refl (bytes_of s o)) in grind arith)
@@ -150,9 +154,11 @@ listed_write s m o at bytes fm on =
     either (Listed s m (Writes at bytes) o) (is_late s m o) _ _ (λ l. too_late s m (Writes at bytes) o on l)
     (λ l. either (Listed s m (Writes at bytes) o) (not (has_access s o 0x2)) _ _ (λ _. down s m (Writes at bytes) o access_denied on (λ _. l) refl refl refl refl)
     (λ _. either (Listed s m (Writes at bytes) o) (is_directory s (file_of s o)) _ _ (λ _. down s m (Writes at bytes) o invalid_device_request on (λ _. l) refl refl refl refl)
-    (λ d. either (Listed s m (Writes at bytes) o) (not (may_write (s.ranges (file_of s o)) o at (length bytes))) _ _ (λ _. down s m (Writes at bytes) o file_lock_conflict on (λ _. l) refl refl refl refl)
+    (λ _. either (Listed s m (Writes at bytes) o) (is_repeated s m o (bytes_change at bytes)) _ _
+    (λ e. repeated s m (Writes at bytes) o (bytes_change at bytes) (Count (length bytes)) on l (write_value at bytes (bytes_of s o)).0 (write_nothing s o at bytes (is_empty bytes) refl) (write_value at bytes (bytes_of s o)).1 e)
+    (λ e. either (Listed s m (Writes at bytes) o) (not (may_write (s.ranges (file_of s o)) o at (length bytes))) _ _ (λ _. down s m (Writes at bytes) o file_lock_conflict on (λ _. l) refl refl refl refl)
     (λ _. either (Listed s m (Writes at bytes) o) (not (is_empty bytes) && passes_room s (file_of s o) (at + length bytes)) _ _ (λ _. down s m (Writes at bytes) o disk_full on (λ _. l) refl refl refl refl)
-    (λ _. altered s m (Writes at bytes) o (bytes_change at bytes) (Count (length bytes)) fm on l (is_write_change at bytes) d ((write_value at bytes (bytes_of s o)).0) (write_after s o at bytes (is_empty bytes) refl) (write_nothing s o at bytes (is_empty bytes) refl) ((write_value at bytes (bytes_of s o)).1))))))
+    (λ _. altered s m (Writes at bytes) o (bytes_change at bytes) (Count (length bytes)) fm on l (is_write_change at bytes) (write_value at bytes (bytes_of s o)).0 (write_after s o at bytes (is_empty bytes) refl) (write_nothing s o at bytes (is_empty bytes) refl) (write_value at bytes (bytes_of s o)).1 e))))))
 
 end_nothing : (s : Server) (o n : ℕ) → changes_nothing s (file_of s o) (PutEnd n) ≡ same_bytes (effect (Ends n) (bytes_of s o)) (bytes_of s o)
 unfolding effect
@@ -163,8 +169,10 @@ listed_end s m o n fm on =
     either (Listed s m (Ends n) o) (is_late s m o) _ _ (λ l. too_late s m (Ends n) o on l)
     (λ l. either (Listed s m (Ends n) o) (not (has_access s o 0x2)) _ _ (λ _. down s m (Ends n) o access_denied on (λ _. l) refl refl refl refl)
     (λ _. either (Listed s m (Ends n) o) (is_directory s (file_of s o)) _ _ (λ _. down s m (Ends n) o invalid_device_request on (λ _. l) refl refl refl refl)
-    (λ d. either (Listed s m (Ends n) o) (passes_room s (file_of s o) n) _ _ (λ _. down s m (Ends n) o disk_full on (λ _. l) refl refl refl refl)
-    (λ _. altered s m (Ends n) o (PutEnd n) Empty fm on l (is_end_change n) d ((end_value n (bytes_of s o)).0) (sym (end_value n (bytes_of s o)).2) (end_nothing s o n) ((end_value n (bytes_of s o)).1)))))
+    (λ _. either (Listed s m (Ends n) o) (is_repeated s m o (PutEnd n)) _ _
+    (λ e. repeated s m (Ends n) o (PutEnd n) Empty on l (end_value n (bytes_of s o)).0 (end_nothing s o n) (end_value n (bytes_of s o)).1 e)
+    (λ e. either (Listed s m (Ends n) o) (passes_room s (file_of s o) n) _ _ (λ _. down s m (Ends n) o disk_full on (λ _. l) refl refl refl refl)
+    (λ _. altered s m (Ends n) o (PutEnd n) Empty fm on l (is_end_change n) (end_value n (bytes_of s o)).0 (sym (end_value n (bytes_of s o)).2) (end_nothing s o n) (end_value n (bytes_of s o)).1 e)))))
 
 -- ---- a read
 
@@ -310,8 +318,8 @@ asked_open s m r c hs =
 asked_tree : (s : Server) (m : Message) (r : CreateRequest) (c : Reconnect) → has_session s m ≡ true → m.command ≡ Create r → r.reconnect ≡ Some c → (t : Option Bool) → is_some t ≡ true → (t ≡ Some true → s.standing c.file ≡ true → ⊥) → Asked s m c (in_tree s m t)
 asked_tree s m r c hs e k None t d = absurd (cc)
 asked_tree s m r c hs e k (Some true) t d =
-    subst (λ x. Asked s m c (tree_command s m true x)) (sym e) (subst (λ x. Asked s m c (reconnect_or_create s m r true x)) (sym k) (record { is = record { ok = refl; end = refl; gone = λ u f st gd us. absurd (d refl st) } }))
-asked_tree s m r c hs e k (Some false) t d = subst (λ x. Asked s m c (tree_command s m false x)) (sym e) (subst (λ x. Asked s m c (reconnect_or_create s m r false x)) (sym k) (asked_open s m r c hs))
+    subst (λ x. Asked s m c (tree_command s m true x)) (sym e) (record { is = record { ok = refl; end = refl; gone = λ u f st gd us. absurd (d refl st) } })
+asked_tree s m r c hs e k (Some false) t d = subst (λ x. Asked s m c (tree_command s m false x)) (sym e) (subst (λ x. Asked s m c (reconnect_or_create s m r x)) (sym k) (asked_open s m r c hs))
 
 asked_form : (s : Server) (m : Message) (r : CreateRequest) (c : Reconnect) → has_session s m ≡ true → m.command ≡ Create r → r.reconnect ≡ Some c → is_some (tree_in (s.trees m.session) m.tree) ≡ true → (tree_in (s.trees m.session) m.tree ≡ Some true → s.standing c.file ≡ true → ⊥)
     → form m.command ≡ None → (f : Option ℕ) → form m.command ≡ f → Asked s m c (formed s m f)

@@ -8,7 +8,7 @@ use Rattle.exchange_defs.specs.State.{Server, Message, Heard, Record, Answer}
 use Rattle.exchange_defs.specs.Files.{find}
 use Rattle.exchange_defs.specs.Opens.{id_of, deletes, mapped, with_guid}
 use Rattle.exchange_defs.specs.Operations.{id_in}
-use Rattle.exchange_defs.specs.CheckCreate.{shares, keeps_guid, max_guids, is_counted_out, has_guid, refused_by, after_names, share_names, new_check, live_check, refusal_check, guid_check, reconnect_check, durable_check, reconnect_or_create}
+use Rattle.exchange_defs.specs.CheckCreate.{shares, keeps_guid, max_guids, is_counted_out, has_guid, refused_by, after_names, names, new_check, live_check, refusal_check, guid_check, reconnect_check, durable_check, reconnect_or_create}
 use Rattle.exchange_defs.specs.CheckSetup.{tree_in}
 use Rattle.exchange_defs.specs.Check.{has_session, tree_command, in_tree, command_check, formed, owed, check}
 use Rattle.exchange_defs.specs.Effects.{apply, reach, attached, file_made, make_open, next_open, guid_of, set_ranges}
@@ -26,6 +26,7 @@ use Rattle.order_law.proofs.Pairs.{Moves, file_alike, slot_alike, change_alike, 
 use Rattle.order_law.proofs.Answers.{Earlier, earlier, Given, given_behind}
 use Rattle.order_law.proofs.Served.{joined}
 use Rattle.order_law.proofs.Writing.{fits_before, given_of}
+use Rattle.exchange_defs.specs.Status.{object_name_not_found}
 
 -- ---- which verdicts answer a create
 
@@ -48,41 +49,41 @@ names_creation : (s : Server) (r : CreateRequest) (f n : Option ℕ) → Creatio
 names_creation s r f (Some status) = refused_creation r.durable status
 names_creation s r f None = either Creation (shares s r f) _ _ (λ _. record { is = refl }) (λ _. refused_creation r.durable _)
 
-new_creation : (s : Server) (m : Message) (r : CreateRequest) (pipes : Bool) (f : Option ℕ) → Creation (new_check s m r pipes f)
-new_creation s m r pipes f =
+new_creation : (s : Server) (m : Message) (r : CreateRequest) (f : Option ℕ) → Creation (new_check s m r f)
+new_creation s m r f =
     either Creation (deletes_on_close r.options && not (deletes (mapped r.access))) _ _ (λ _. record { is = refl })
-    (λ _. either Creation (keeps_guid r && nat_le max_guids (s.guids m.session)) _ _ (λ _. record { is = refl }) (λ _. either Creation (is_counted_out s r f) _ _ (λ _. refused_creation r.durable _) (λ _. names_creation s r f (share_names s r pipes f))))
+    (λ _. either Creation (keeps_guid r && nat_le max_guids (s.guids m.session)) _ _ (λ _. record { is = refl }) (λ _. either Creation (is_counted_out s r f) _ _ (λ _. refused_creation r.durable _) (λ _. names_creation s r f (names s r f))))
 
 live_creation : (s : Server) (m : Message) (r : CreateRequest) (o : ℕ) → Creation (live_check s m r o)
 live_creation s m r o =
     either Creation (not m.replay) _ _ (λ _. record { is = refl }) (λ _. either Creation (is_at m.session (s.at o)) _ _ (λ _. record { is = refl })
     (λ _. either Creation (is_some (s.at o) || not (s.opened o).persistent) _ _ (λ _. record { is = refl }) (λ _. either Creation (same_name (s.opened o).user (s.user m.session)) _ _ (λ _. record { is = refl }) (λ _. record { is = refl }))))
 
-refusal_creation : (s : Server) (m : Message) (r : CreateRequest) (pipes : Bool) (k : Option ℕ) → Creation (refusal_check s m r pipes k)
-refusal_creation s m r pipes (Some status) = record { is = refl }
-refusal_creation s m r pipes None = new_creation s m r pipes (find s r.path)
+refusal_creation : (s : Server) (m : Message) (r : CreateRequest) (k : Option ℕ) → Creation (refusal_check s m r k)
+refusal_creation s m r (Some status) = record { is = refl }
+refusal_creation s m r None = new_creation s m r (find s r.path)
 
-guid_creation : (s : Server) (m : Message) (r : CreateRequest) (pipes : Bool) (d : Durable) (o : Option ℕ) → Creation (guid_check s m r pipes d o)
-guid_creation s m r pipes d (Some o) = live_creation s m r o
-guid_creation s m r pipes d None =
-    either Creation (s.closed m.session d.guid) _ _ (λ _. record { is = refl }) (λ _. either Creation (s.marks m.client d.guid) _ _ (λ _. record { is = refl }) (λ _. refusal_creation s m r pipes (s.refused m.session d.guid)))
+guid_creation : (s : Server) (m : Message) (r : CreateRequest) (d : Durable) (o : Option ℕ) → Creation (guid_check s m r d o)
+guid_creation s m r d (Some o) = live_creation s m r o
+guid_creation s m r d None =
+    either Creation (s.closed m.session d.guid) _ _ (λ _. record { is = refl }) (λ _. either Creation (s.marks m.client d.guid) _ _ (λ _. record { is = refl }) (λ _. refusal_creation s m r (s.refused m.session d.guid)))
 
 reconnect_creation : (s : Server) (m : Message) (r : CreateRequest) (c : Reconnect) → Creation (reconnect_check s m r c)
 reconnect_creation s m r c =
     either Creation (not (s.standing c.file && has_guid c.guid (s.opened c.file).guid)) _ _ (λ _. record { is = refl }) (λ _. either Creation (not (same_name (s.opened c.file).user (s.user m.session))) _ _ (λ _. record { is = refl })
     (λ _. either Creation (is_some (s.at c.file) && not (is_at m.session (s.at c.file))) _ _ (λ _. record { is = refl }) (λ _. record { is = refl })))
 
-durable_creation : (s : Server) (m : Message) (r : CreateRequest) (pipes : Bool) (d : Option Durable) → Creation (durable_check s m r pipes d)
-durable_creation s m r pipes None = new_creation s m r pipes (find s r.path)
-durable_creation s m r pipes (Some d) = guid_creation s m r pipes d (s.by_guid m.client d.guid)
+durable_creation : (s : Server) (m : Message) (r : CreateRequest) (d : Option Durable) → Creation (durable_check s m r d)
+durable_creation s m r None = new_creation s m r (find s r.path)
+durable_creation s m r (Some d) = guid_creation s m r d (s.by_guid m.client d.guid)
 
-create_creation : (s : Server) (m : Message) (r : CreateRequest) (pipes : Bool) (c : Option Reconnect) → Creation (reconnect_or_create s m r pipes c)
-create_creation s m r pipes (Some c) = either Creation pipes _ _ (λ _. record { is = refl }) (λ _. reconnect_creation s m r c)
-create_creation s m r pipes None = durable_creation s m r pipes r.durable
+create_creation : (s : Server) (m : Message) (r : CreateRequest) (c : Option Reconnect) → Creation (reconnect_or_create s m r c)
+create_creation s m r (Some c) = reconnect_creation s m r c
+create_creation s m r None = durable_creation s m r r.durable
 
 tree_creation : (s : Server) (m : Message) (r : CreateRequest) → m.command ≡ Create r → (t : Option Bool) → Creation (in_tree s m t)
 tree_creation s m r e None = record { is = refl }
-tree_creation s m r e (Some pipes) = subst (λ c. Creation (tree_command s m pipes c)) (sym e) (create_creation s m r pipes r.reconnect)
+tree_creation s m r e (Some pipes) = subst (λ c. Creation (tree_command s m pipes c)) (sym e) (either Creation pipes (Refuse object_name_not_found) (reconnect_or_create s m r r.reconnect) (λ _. record { is = refl }) (λ _. create_creation s m r r.reconnect))
 
 formed_creation : (s : Server) (m : Message) (r : CreateRequest) → m.command ≡ Create r → (f : Option ℕ) → Creation (formed s m f)
 formed_creation s m r e (Some status) = record { is = refl }

@@ -1,7 +1,7 @@
 -- What the checks have looked at, by their verdict.
 use Rattle.std.proofs.Common.{◌≡◌, ℕ, ◌==◌, nat_le, nat_lt, ◌+◌, Bool, true, false, not, ◌&&◌, ◌||◌, List, [], ◌∷◌, refl, Option, Some, None, is_some, length}
 use Rattle.exchange_defs.specs.Table.{is_at}
-use Rattle.exchange_defs.specs.Status.{success, disk_full}
+use Rattle.exchange_defs.specs.Status.{success, disk_full, object_name_not_found}
 use Rattle.exchange_defs.specs.Commands.{Command, Aside, Unreadable, Setup, Logoff, TreeConnect, TreeDisconnect, Create, Close, Flush, Read, Write, Lock, Ioctl, ListDirectory, QueryFile, QueryVolume, SetInfo, CreateRequest, Durable, Reconnect, SetupRequest, Shows, Begins, Bad, Refused, Logon, Setting, SetBasic, Rename, SetDelete, SetAllocation, SetEnd, Element, form, is_setup, no_file}
 use Rattle.exchange_defs.specs.State.{Server, Message, Body, Empty, Named}
 use Rattle.exchange_defs.specs.Ranges.{RangeAnswer, Stands, Denied}
@@ -9,7 +9,7 @@ use Rattle.exchange_defs.specs.Opens.{is_of_session}
 use Rattle.exchange_defs.specs.Files.{find}
 use Rattle.exchange_defs.specs.Verdict.{Verdict, Refuse, Give, KeepRefusal, Repeat, Attach, Make, TurnDown, Tell, Show, KeepSlot, PutRanges, Alter, Shut, Challenge, ChallengeBinding, Begin, Join, EndSession, AddTree, DropTree, Change, PutBasic, PutPath, PutMark, PutEnd}
 use Rattle.exchange_defs.specs.CheckCreate.{refused_by, after_names, new_check, live_check, refusal_check, guid_check, reconnect_check, durable_check, reconnect_or_create}
-use Rattle.exchange_defs.specs.CheckOpen.{is_late, alter, write_check, read_check, turn_down_lock, range_check, slot_check, named_change, rename_change, size_change, setting_check, set_check, listing_of, ioctl_check, free_ioctl_check}
+use Rattle.exchange_defs.specs.CheckOpen.{is_late, write_check, read_check, turn_down_lock, range_check, slot_check, named_change, size_change, setting_check, set_check, listing_of, ioctl_check, free_ioctl_check, is_repeated, unless_repeated, path_change, bytes_change}
 use Rattle.exchange_defs.specs.CheckSetup.{is_new, session_check, second_token, first_token, granted_session, setup_check, binding_check, live_binding, binding_token, second_binding, first_binding, tree_check, tree_in, no_tree_left}
 use Rattle.exchange_defs.specs.Check.{has_session, on_open, tree_command, in_tree, with_tree, command_check, formed, owed, check}
 use Rattle.exchange_defs.specs.Step.{without_room}
@@ -62,33 +62,33 @@ names_sound : (s : Server) (m : Message) (r : CreateRequest) (found names : Opti
 names_sound s m r found (Some status) = refused_by_sound s m r.durable status
 names_sound s m r found None = either (Sound s m) (shares s r found) _ _ (λ _. record { is = tt }) (λ _. refused_by_sound s m r.durable _)
 
-new_sound : (s : Server) (m : Message) (r : CreateRequest) (pipes : Bool) (found : Option ℕ) → Sound s m (new_check s m r pipes found)
-new_sound s m r pipes found =
+new_sound : (s : Server) (m : Message) (r : CreateRequest) (found : Option ℕ) → Sound s m (new_check s m r found)
+new_sound s m r found =
     either (Sound s m) (deletes_on_close r.options && not (deletes (mapped r.access))) _ _ (λ _. record { is = tt }) (λ _. either (Sound s m) (keeps_guid r && nat_le max_guids (s.guids m.session)) _ _ (λ _. record { is = tt }) (λ _. either (Sound s m) (is_counted_out s r found) _ _ (λ _. refused_by_sound s m r.durable _) (λ _. names_sound s m r found _)))
 
 live_sound : (s : Server) (m : Message) (r : CreateRequest) (guid o : ℕ) → s.by_guid m.client guid ≡ Some o → Sound s m (live_check s m r o)
 live_sound s m r guid o e =
     either (Sound s m) (not m.replay) _ _ (λ _. record { is = tt }) (λ _. either (Sound s m) (is_at m.session (s.at o)) _ _ (λ _. record { is = (guid, e) }) (λ _. either (Sound s m) (is_some (s.at o) || not (s.opened o).persistent) _ _ (λ _. record { is = tt }) (λ _. either (Sound s m) (same_name (s.opened o).user (s.user m.session)) _ _ (λ _. record { is = (guid, e) }) (λ _. record { is = tt }))))
 
-refusal_sound : (s : Server) (m : Message) (r : CreateRequest) (pipes : Bool) (kept : Option ℕ) → Sound s m (refusal_check s m r pipes kept)
-refusal_sound s m r pipes (Some status) = record { is = tt }
-refusal_sound s m r pipes None = new_sound s m r pipes (find s r.path)
+refusal_sound : (s : Server) (m : Message) (r : CreateRequest) (kept : Option ℕ) → Sound s m (refusal_check s m r kept)
+refusal_sound s m r (Some status) = record { is = tt }
+refusal_sound s m r None = new_sound s m r (find s r.path)
 
-guid_sound : (s : Server) (m : Message) (r : CreateRequest) (pipes : Bool) (d : Durable) (o : Option ℕ) → s.by_guid m.client d.guid ≡ o → Sound s m (guid_check s m r pipes d o)
-guid_sound s m r pipes d (Some o) e = live_sound s m r d.guid o e
-guid_sound s m r pipes d None e = either (Sound s m) (s.closed m.session d.guid) _ _ (λ _. record { is = tt }) (λ _. either (Sound s m) (s.marks m.client d.guid) _ _ (λ _. record { is = tt }) (λ _. refusal_sound s m r pipes _))
+guid_sound : (s : Server) (m : Message) (r : CreateRequest) (d : Durable) (o : Option ℕ) → s.by_guid m.client d.guid ≡ o → Sound s m (guid_check s m r d o)
+guid_sound s m r d (Some o) e = live_sound s m r d.guid o e
+guid_sound s m r d None e = either (Sound s m) (s.closed m.session d.guid) _ _ (λ _. record { is = tt }) (λ _. either (Sound s m) (s.marks m.client d.guid) _ _ (λ _. record { is = tt }) (λ _. refusal_sound s m r _))
 
 reconnect_sound : (s : Server) (m : Message) (r : CreateRequest) (c : Reconnect) → Sound s m (reconnect_check s m r c)
 reconnect_sound s m r c =
     either (Sound s m) (not (s.standing c.file && has_guid c.guid (s.opened c.file).guid)) _ _ (λ _. record { is = tt }) (λ e. either (Sound s m) (not (same_name (s.opened c.file).user (s.user m.session))) _ _ (λ _. record { is = tt }) (λ _. either (Sound s m) (is_some (s.at c.file) && not (is_at m.session (s.at c.file))) _ _ (λ _. record { is = tt }) (λ _. record { is = front_of _ _ (not_false _ e) })))
 
-durable_sound : (s : Server) (m : Message) (r : CreateRequest) (pipes : Bool) (d : Option Durable) → Sound s m (durable_check s m r pipes d)
-durable_sound s m r pipes None = new_sound s m r pipes (find s r.path)
-durable_sound s m r pipes (Some d) = guid_sound s m r pipes d _ refl
+durable_sound : (s : Server) (m : Message) (r : CreateRequest) (d : Option Durable) → Sound s m (durable_check s m r d)
+durable_sound s m r None = new_sound s m r (find s r.path)
+durable_sound s m r (Some d) = guid_sound s m r d _ refl
 
-create_sound : (s : Server) (m : Message) (r : CreateRequest) (pipes : Bool) (c : Option Reconnect) → Sound s m (reconnect_or_create s m r pipes c)
-create_sound s m r pipes (Some c) = either (Sound s m) (pipes) _ _ (λ _. record { is = tt }) (λ _. reconnect_sound s m r c)
-create_sound s m r pipes None = durable_sound s m r pipes r.durable
+create_sound : (s : Server) (m : Message) (r : CreateRequest) (c : Option Reconnect) → Sound s m (reconnect_or_create s m r c)
+create_sound s m r (Some c) = reconnect_sound s m r c
+create_sound s m r None = durable_sound s m r r.durable
 
 -- ---- requests on an open
 
@@ -98,13 +98,16 @@ On s m o = is_of_session s o m.session ≡ true
 open_sound : (s : Server) (m : Message) (o : ℕ) (v : Verdict) → (On s m o → Sound s m v) → Sound s m (on_open s m o v)
 open_sound s m o v f = either (Sound s m) (is_of_session s o m.session) _ _ f (λ _. record { is = tt })
 
-alter_sound : (s : Server) (m : Message) (o : ℕ) (change : Change) (body : Body) → On s m o → is_late s m o ≡ false → Sound s m (alter s m o change body)
-alter_sound s m o change body on t = either (Sound s m) (m.replay && (not (is_directory s (file_of s o)) && changes_nothing s (file_of s o) change)) _ _ (λ _. record { is = on }) (λ _. record { is = (on, t) })
+alter_sound : (s : Server) (m : Message) (o : ℕ) (change : Change) (body : Body) → On s m o → is_late s m o ≡ false → Sound s m (Alter o change body)
+alter_sound s m o change body on t = record { is = (on, t) }
+
+unrepeated : (s : Server) (m : Message) (o : ℕ) (change : Change) (v : Verdict) → On s m o → Sound s m v → Sound s m (unless_repeated s m o change v)
+unrepeated s m o change v on f = either (Sound s m) (is_repeated s m o change) (Tell o Empty) v (λ _. record { is = on }) (λ _. f)
 
 write_sound : (s : Server) (m : Message) (o at : ℕ) (bytes : List ℕ) → On s m o → Sound s m (write_check s m o at bytes)
 write_sound s m o at bytes on =
     either (Sound s m) (is_late s m o) _ _ (λ _. record { is = tt })
-    (λ t. either (Sound s m) (not (has_access s o 0x2)) _ _ (λ _. record { is = on }) (λ _. either (Sound s m) (is_directory s (file_of s o)) _ _ (λ _. record { is = on }) (λ _. either (Sound s m) (not (may_write (s.ranges (file_of s o)) o at (length bytes))) _ _ (λ _. record { is = on }) (λ _. either (Sound s m) (not (is_empty bytes) && passes_room s (file_of s o) (at + length bytes)) _ _ (λ _. record { is = on }) (λ _. alter_sound s m o _ _ on t)))))
+    (λ t. either (Sound s m) (not (has_access s o 0x2)) _ _ (λ _. record { is = on }) (λ _. either (Sound s m) (is_directory s (file_of s o)) _ _ (λ _. record { is = on }) (λ _. either (Sound s m) (is_repeated s m o (bytes_change at bytes)) _ _ (λ _. record { is = on }) (λ _. either (Sound s m) (not (may_write (s.ranges (file_of s o)) o at (length bytes))) _ _ (λ _. record { is = on }) (λ _. either (Sound s m) (not (is_empty bytes) && passes_room s (file_of s o) (at + length bytes)) _ _ (λ _. record { is = on }) (λ _. alter_sound s m o _ _ on t))))))
 
 read_sound : (s : Server) (m : Message) (o at size minimum : ℕ) → On s m o → Sound s m (read_check s o at size minimum)
 read_sound s m o at size minimum on =
@@ -122,22 +125,23 @@ slot_sound : (s : Server) (m : Message) (o index number : ℕ) (elements : List 
 slot_sound s m o index number elements None on = either (Sound s m) (is_directory s (file_of s o)) _ _ (λ _. turn_down_sound s m o index number elements _ on) (λ _. range_sound s m o index number elements _ on)
 slot_sound s m o index number elements (Some status) on = either (Sound s m) (status == success) _ _ (λ _. record { is = tt }) (λ _. record { is = tt })
 
-named_sound : (s : Server) (m : Message) (o : ℕ) (change : Change) (names : Option ℕ) → On s m o → is_late s m o ≡ false → Sound s m (named_change s m o change names)
+named_sound : (s : Server) (m : Message) (o : ℕ) (change : Change) (names : Option ℕ) → On s m o → is_late s m o ≡ false → Sound s m (named_change o change names)
 named_sound s m o change (Some status) on t = record { is = on }
 named_sound s m o change None on t = alter_sound s m o change _ on t
 
-rename_sound : (s : Server) (m : Message) (o : ℕ) (change : Change) (names : Option ℕ) → On s m o → is_late s m o ≡ false → Sound s m (rename_change s m o change names)
-rename_sound s m o change names on t = either (Sound s m) (m.replay && (not (is_directory s (file_of s o)) && changes_nothing s (file_of s o) change)) _ _ (λ _. record { is = on }) (λ _. named_sound s m o change names on t)
-
 size_sound : (s : Server) (m : Message) (o size : ℕ) (change : Change) → On s m o → is_late s m o ≡ false → Sound s m (size_change s m o size change)
 size_sound s m o size change on t =
-    either (Sound s m) (not (has_access s o 0x2)) _ _ (λ _. record { is = on }) (λ _. either (Sound s m) (is_directory s (file_of s o)) _ _ (λ _. record { is = on }) (λ _. either (Sound s m) (passes_room s (file_of s o) size) _ _ (λ _. record { is = on }) (λ _. alter_sound s m o change _ on t)))
+    either (Sound s m) (not (has_access s o 0x2)) _ _ (λ _. record { is = on }) (λ _. either (Sound s m) (is_directory s (file_of s o)) _ _ (λ _. record { is = on }) (λ _. either (Sound s m) (is_repeated s m o change) _ _ (λ _. record { is = on }) (λ _. either (Sound s m) (passes_room s (file_of s o) size) _ _ (λ _. record { is = on }) (λ _. alter_sound s m o change _ on t))))
 
 setting_sound : (s : Server) (m : Message) (o : ℕ) (setting : Setting) → On s m o → is_late s m o ≡ false → Sound s m (setting_check s m o setting)
-setting_sound s m o (SetBasic basic) on t = either (Sound s m) (has_access s o 0x100) _ _ (λ _. alter_sound s m o (PutBasic (set_basic (s.basic (file_of s o)) basic)) Empty on t) (λ _. record { is = on })
+setting_sound s m o (SetBasic basic) on t =
+    let change = PutBasic (set_basic (s.basic (file_of s o)) basic) in
+    either (Sound s m) (has_access s o 0x100) _ _ (λ _. unrepeated s m o change _ on (alter_sound s m o change Empty on t)) (λ _. record { is = on })
 setting_sound s m o (Rename replace path) on t =
-    either (Sound s m) (has_access s o 0x1_0000) _ _ (λ _. rename_sound s m o (PutPath (target_of (file_of s o) (find s path)) path) (rename_names s (file_of s o) replace path) on t) (λ _. record { is = on })
-setting_sound s m o (SetDelete flag) on t = either (Sound s m) (has_access s o 0x1_0000) _ _ (λ _. named_sound s m o (PutMark flag) (delete_names s (file_of s o) flag) on t) (λ _. record { is = on })
+    either (Sound s m) (has_access s o 0x1_0000) _ _
+    (λ _. unrepeated s m o (path_change s o path) _ on (named_sound s m o (path_change s o path) (rename_names s (file_of s o) replace path) on t)) (λ _. record { is = on })
+setting_sound s m o (SetDelete flag) on t =
+    either (Sound s m) (has_access s o 0x1_0000) _ _ (λ _. unrepeated s m o (PutMark flag) _ on (named_sound s m o (PutMark flag) (delete_names s (file_of s o) flag) on t)) (λ _. record { is = on })
 setting_sound s m o (SetAllocation size) on t = size_sound s m o (allocated size (length (s.content (file_of s o)))) (allocation_change s (file_of s o) size) on t
 setting_sound s m o (SetEnd size) on t = size_sound s m o size (PutEnd size) on t
 
@@ -159,7 +163,7 @@ free_sound s m code room = either (Sound s m) (ioctl_status code room == success
 tree_sound : (s : Server) (m : Message) (pipes : Bool) (c : Command) → Sound s m (tree_command s m pipes c)
 tree_sound s m pipes (Unreadable status) = record { is = tt }
 tree_sound s m pipes TreeDisconnect = record { is = tt }
-tree_sound s m pipes (Create request) = create_sound s m request pipes request.reconnect
+tree_sound s m pipes (Create request) = either (Sound s m) pipes (Refuse object_name_not_found) (reconnect_or_create s m request request.reconnect) (λ _. record { is = tt }) (λ _. create_sound s m request request.reconnect)
 tree_sound s m pipes (Close o query) = open_sound s m o _ (λ on. record { is = on })
 tree_sound s m pipes (Flush o) = open_sound s m o _ (λ on. either (Sound s m) (has_access s o 0x2 || has_access s o 0x4) _ _ (λ _. record { is = on }) (λ _. record { is = on }))
 tree_sound s m pipes (Read o at size minimum channel) = open_sound s m o _ (λ on. read_sound s m o at size minimum on)

@@ -8,7 +8,7 @@ use Rattle.exchange_defs.specs.State.{Server, Message, Heard, Answer}
 use Rattle.exchange_defs.specs.Files.{find, mark_file, remove_file}
 use Rattle.exchange_defs.specs.Opens.{deletes, mapped, leave_open, drop_open, marked_by, without_gone, goes}
 use Rattle.exchange_defs.specs.Operations.{id_in}
-use Rattle.exchange_defs.specs.CheckCreate.{shares, keeps_guid, max_guids, is_counted_out, refused_by, after_names, share_names, new_check, live_check, refusal_check, guid_check, durable_check, reconnect_or_create}
+use Rattle.exchange_defs.specs.CheckCreate.{shares, keeps_guid, max_guids, is_counted_out, refused_by, after_names, names, new_check, live_check, refusal_check, guid_check, durable_check, reconnect_or_create}
 use Rattle.exchange_defs.specs.CheckSetup.{tree_in}
 use Rattle.exchange_defs.specs.Check.{has_session, in_tree, tree_command, command_check, formed, owed, check}
 use Rattle.exchange_defs.specs.Effects.{apply}
@@ -43,30 +43,31 @@ names_sure : (s : Server) (m : Message) (d : Durable) (r : CreateRequest) (f n :
 names_sure s m d r f (Some status) k = refused_sure s m d r.durable status k
 names_sure s m d r f None k = either (Sure s m d) (shares s r f) _ _ (λ _. record { is = tt }) (λ _. refused_sure s m d r.durable _ k)
 
-new_sure : (s : Server) (m : Message) (d : Durable) (r : CreateRequest) (pipes : Bool) (f : Option ℕ) → r.durable ≡ Some d → Sure s m d (new_check s m r pipes f)
-new_sure s m d r pipes f k =
+new_sure : (s : Server) (m : Message) (d : Durable) (r : CreateRequest) (f : Option ℕ) → r.durable ≡ Some d → Sure s m d (new_check s m r f)
+new_sure s m d r f k =
     either (Sure s m d) (deletes_on_close r.options && not (deletes (mapped r.access))) _ _ (λ _. record { is = refl })
-    (λ _. either (Sure s m d) (keeps_guid r && nat_le max_guids (s.guids m.session)) _ _ (λ _. record { is = refl }) (λ _. either (Sure s m d) (is_counted_out s r f) _ _ (λ _. refused_sure s m d r.durable _ k) (λ _. names_sure s m d r f (share_names s r pipes f) k)))
+    (λ _. either (Sure s m d) (keeps_guid r && nat_le max_guids (s.guids m.session)) _ _ (λ _. record { is = refl }) (λ _. either (Sure s m d) (is_counted_out s r f) _ _ (λ _. refused_sure s m d r.durable _ k) (λ _. names_sure s m d r f (names s r f) k)))
 
 live_sure : (s : Server) (m : Message) (d : Durable) (r : CreateRequest) (o : ℕ) → s.by_guid m.client d.guid ≡ Some o → Sure s m d (live_check s m r o)
 live_sure s m d r o e =
     either (Sure s m d) (not m.replay) _ _ (λ _. record { is = refl }) (λ _. either (Sure s m d) (is_at m.session (s.at o)) _ _ (λ _. record { is = e })
     (λ _. either (Sure s m d) (is_some (s.at o) || not (s.opened o).persistent) _ _ (λ _. record { is = refl }) (λ _. either (Sure s m d) (same_name (s.opened o).user (s.user m.session)) _ _ (λ _. record { is = e }) (λ _. record { is = refl }))))
 
-refusal_sure : (s : Server) (m : Message) (d : Durable) (r : CreateRequest) (pipes : Bool) (k : Option ℕ) → r.durable ≡ Some d → ((status : ℕ) → k ≡ Some status → (status == success) ≡ false) → Sure s m d (refusal_check s m r pipes k)
-refusal_sure s m d r pipes (Some status) k f = record { is = f status refl }
-refusal_sure s m d r pipes None k f = new_sure s m d r pipes (find s r.path) k
+refusal_sure : (s : Server) (m : Message) (d : Durable) (r : CreateRequest) (k : Option ℕ) → r.durable ≡ Some d → ((status : ℕ) → k ≡ Some status → (status == success) ≡ false) → Sure s m d (refusal_check s m r k)
+refusal_sure s m d r (Some status) k f = record { is = f status refl }
+refusal_sure s m d r None k f = new_sure s m d r (find s r.path) k
 
-guid_sure : (s : Server) (m : Message) (d : Durable) (r : CreateRequest) (pipes : Bool) (o : Option ℕ) → r.durable ≡ Some d → Unkept s m → s.by_guid m.client d.guid ≡ o → Sure s m d (guid_check s m r pipes d o)
-guid_sure s m d r pipes (Some o) k u e = live_sure s m d r o e
-guid_sure s m d r pipes None k u e =
-    either (Sure s m d) (s.closed m.session d.guid) _ _ (λ _. record { is = refl }) (λ _. either (Sure s m d) (s.marks m.client d.guid) _ _ (λ _. record { is = refl }) (λ _. refusal_sure s m d r pipes (s.refused m.session d.guid) k (u d.guid)))
+guid_sure : (s : Server) (m : Message) (d : Durable) (r : CreateRequest) (o : Option ℕ) → r.durable ≡ Some d → Unkept s m → s.by_guid m.client d.guid ≡ o → Sure s m d (guid_check s m r d o)
+guid_sure s m d r (Some o) k u e = live_sure s m d r o e
+guid_sure s m d r None k u e =
+    either (Sure s m d) (s.closed m.session d.guid) _ _ (λ _. record { is = refl }) (λ _. either (Sure s m d) (s.marks m.client d.guid) _ _ (λ _. record { is = refl }) (λ _. refusal_sure s m d r (s.refused m.session d.guid) k (u d.guid)))
 
 tree_sure : (s : Server) (m : Message) (d : Durable) (r : CreateRequest) → m.command ≡ Create r → r.reconnect ≡ None → r.durable ≡ Some d → Unkept s m → (t : Option Bool) → Sure s m d (in_tree s m t)
 tree_sure s m d r e n k u None = record { is = refl }
-tree_sure s m d r e n k u (Some pipes) =
-    subst (λ c. Sure s m d (tree_command s m pipes c)) (sym e) (subst (λ x. Sure s m d (reconnect_or_create s m r pipes x)) (sym n)
-    (subst (λ x. Sure s m d (durable_check s m r pipes x)) (sym k) (guid_sure s m d r pipes (s.by_guid m.client d.guid) k u refl)))
+tree_sure s m d r e n k u (Some true) = subst (λ c. Sure s m d (tree_command s m true c)) (sym e) (record { is = refl })
+tree_sure s m d r e n k u (Some false) =
+    subst (λ c. Sure s m d (tree_command s m false c)) (sym e) (subst (λ x. Sure s m d (reconnect_or_create s m r x)) (sym n)
+    (subst (λ x. Sure s m d (durable_check s m r x)) (sym k) (guid_sure s m d r (s.by_guid m.client d.guid) k u refl)))
 
 ill_formed : (r : CreateRequest) (status : ℕ) → create_form r ≡ Some status → (status == success) ≡ false
 unfolding path_form

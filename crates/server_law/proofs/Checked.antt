@@ -10,8 +10,8 @@ use Rattle.exchange_defs.specs.State.{Server, Message, Making, NewSession, Bindi
 use Rattle.exchange_defs.specs.Files.{root, find, find_in, path_of, exists, exists_in, is_directory, has_parent, passes_room, allocated}
 use Rattle.exchange_defs.specs.Ranges.{RangeAnswer, Stands, Denied, change_ranges, lock_ranges, unlock_ranges, stands_or, may_write, ranges_of, any_wraps, add_ranges, take_ranges, count_owned, max_ranges}
 use Rattle.exchange_defs.specs.Opens.{deletes, mapped, max_ids, is_of_session}
-use Rattle.exchange_defs.specs.CheckCreate.{keeps_guid, max_guids, max_opens, max_files, last_file, is_counted_out, action_of, names, names_of_found, found_names, missing_names, share_names, shares, makes_missing, has_guid, refused_by, refused_create, after_names, new_check, live_check, refusal_check, guid_check, reconnect_check, durable_check, reconnect_or_create}
-use Rattle.exchange_defs.specs.CheckOpen.{is_late, file_of, has_access, is_slot, kept_status, kept_lock, changes_nothing, bytes_change, allocation_change, target_of, target_refused, rename_names, delete_names, open_below, alter, write_check, read_check, there, turn_down_lock, range_check, new_lock_check, slot_check, lock_check, named_change, size_change, setting_check, set_check, flush_check, file_query_check, volume_query_check, listing_of, list_check, ioctl_check, ioctl_status, free_ioctl_check, needs_attributes, begins_at}
+use Rattle.exchange_defs.specs.CheckCreate.{keeps_guid, max_guids, max_opens, max_files, last_file, is_counted_out, action_of, names, names_of_found, found_names, missing_names, shares, makes_missing, has_guid, refused_by, refused_create, after_names, new_check, live_check, refusal_check, guid_check, reconnect_check, durable_check, reconnect_or_create, create_check}
+use Rattle.exchange_defs.specs.CheckOpen.{is_late, file_of, has_access, is_slot, kept_status, kept_lock, bytes_change, allocation_change, target_of, target_refused, rename_names, delete_names, open_below, write_check, read_check, there, turn_down_lock, range_check, new_lock_check, slot_check, lock_check, named_change, size_change, setting_check, set_check, flush_check, file_query_check, volume_query_check, listing_of, list_check, ioctl_check, ioctl_status, free_ioctl_check, needs_attributes, begins_at, is_repeated, unless_repeated}
 use Rattle.exchange_defs.specs.CheckSetup.{tree_in, is_new, is_binding, granted_session, second_token, first_token, session_check, granted_binding, second_binding, first_binding, binding_check, setup_check, tree_check, max_sessions, max_channels, max_numbers, max_trees, pipes_name, count_channels, no_tree_left}
 use Rattle.exchange_defs.specs.Check.{check, owed, formed, command_check, with_tree, in_tree, tree_command, on_open, has_session}
 use Rattle.exchange_defs.specs.Listing.{wanted, fitting, one_or_all, all_named, file_info_size, volume_info_size}
@@ -36,24 +36,20 @@ found_exists s [] f e = grind arith
 found_exists s (c ∷ cs) f e = let h = found_in s.entries (c ∷ cs) f e in grind arith
 
 -- a broken rule of the names is no success
-names_refuse : (s : Server) (r : CreateRequest) (pipes : Bool) (found : Option ℕ) (status : ℕ) → share_names s r pipes found ≡ Some status → (status == success) ≡ false
+names_refuse : (s : Server) (r : CreateRequest) (found : Option ℕ) (status : ℕ) → names s r found ≡ Some status → (status == success) ≡ false
 unfolding names names_of_found found_names missing_names
-names_refuse s r pipes None status e = grind arith
-names_refuse s r pipes (Some f) status e = grind arith
+names_refuse s r None status e = grind arith
+names_refuse s r (Some f) status e = grind arith
 
 there_facts : (s : Server) (r : CreateRequest) (f : ℕ) → find s r.path ≡ Some f → found_names s r f ≡ None → ThereFacts s r f
 unfolding found_names
 there_facts s r f is e = record { there = found_exists s r.path f is; unmarked = grind arith; emptied = grind arith; no_root = grind arith }
 
-no_pipes : (s : Server) (r : CreateRequest) (pipes : Bool) (found : Option ℕ) → share_names s r pipes found ≡ None → pipes ≡ false
-no_pipes s r true found e = absurd (cc)
-no_pipes s r false found e = refl
-
-names_of_there : (s : Server) (r : CreateRequest) (f : ℕ) → share_names s r false (Some f) ≡ None → found_names s r f ≡ None
+names_of_there : (s : Server) (r : CreateRequest) (f : ℕ) → names s r (Some f) ≡ None → found_names s r f ≡ None
 unfolding names names_of_found
 names_of_there s r f e = grind arith
 
-names_of_missing : (s : Server) (r : CreateRequest) → share_names s r false None ≡ None → makes_missing r.disposition ≡ true × has_parent s r.path ≡ true
+names_of_missing : (s : Server) (r : CreateRequest) → names s r None ≡ None → makes_missing r.disposition ≡ true × has_parent s r.path ≡ true
 unfolding names names_of_found missing_names
 names_of_missing s r e = (grind arith, grind arith)
 
@@ -79,7 +75,7 @@ create_path m r is e = let h : form (Create r) ≡ None = subst (λ c. form c �
 create_disposition : (m : Message) (r : CreateRequest) → m.command ≡ Create r → form m.command ≡ None → r.disposition ≤ 5
 create_disposition m r is e = let h : form (Create r) ≡ None = subst (λ c. form c ≡ None) is e in grind (arith, nat_tests)
 
-missing_facts : (s : Server) (r : CreateRequest) → is_counted_out s r None ≡ false → share_names s r false None ≡ None → MissingFacts s r
+missing_facts : (s : Server) (r : CreateRequest) → is_counted_out s r None ≡ false → names s r None ≡ None → MissingFacts s r
 missing_facts s r k e =
     let n = names_of_missing s r e in let f = files_left s r k n.0 in record { makes = n.0; parent = n.1; files = f.0; number = f.1 }
 
@@ -93,7 +89,7 @@ turned s m r pipes status n bad (Some d) e = record { request = r; durable = d; 
 turned_down : (s : Server) (m : Message) (r : CreateRequest) (pipes : Bool) (status : ℕ) → NewFacts s m r pipes → (status == success) ≡ false → Facts s m (refused_create r status)
 turned_down s m r pipes status n bad = turned s m r pipes status n bad r.durable refl
 
-make_facts : (s : Server) (m : Message) (r : CreateRequest) (found : Option ℕ) → NewFacts s m r false → found ≡ find s r.path → is_counted_out s r found ≡ false → share_names s r false found ≡ None → shares s r found ≡ true
+make_facts : (s : Server) (m : Message) (r : CreateRequest) (found : Option ℕ) → NewFacts s m r false → found ≡ find s r.path → is_counted_out s r found ≡ false → names s r found ≡ None → shares s r found ≡ true
     → MakeFacts s m r found (action_of r found)
 make_facts s m r found n is k e h =
     record {
@@ -105,19 +101,17 @@ make_facts s m r found n is k e h =
       disposition = create_disposition m r n.create.command n.create.session.formed;
       opens = opens_left s r found k;
       given = ids_left s r found k;
-      there = λ f t. there_facts s r f (sym is ∙ t) (names_of_there s r f (subst (λ u. share_names s r false u ≡ None) t e));
-      missing = λ t. missing_facts s r (subst (λ u. is_counted_out s r u ≡ false) t k) (subst (λ u. share_names s r false u ≡ None) t e);
+      there = λ f t. there_facts s r f (sym is ∙ t) (names_of_there s r f (subst (λ u. names s r u ≡ None) t e));
+      missing = λ t. missing_facts s r (subst (λ u. is_counted_out s r u ≡ false) t k) (subst (λ u. names s r u ≡ None) t e);
     }
 
-names_facts : (s : Server) (m : Message) (r : CreateRequest) (pipes : Bool) (found : Option ℕ) → NewFacts s m r pipes → found ≡ find s r.path → is_counted_out s r found ≡ false
-    → (u : Option ℕ) → share_names s r pipes found ≡ u → Facts s m (after_names s r found u)
-names_facts s m r pipes found n is k (Some status) e = turned_down s m r pipes status n (names_refuse s r pipes found status e)
-names_facts s m r pipes found n is k None e =
-    let p = no_pipes s r pipes found e in
-    let q : NewFacts s m r false = subst (λ b. NewFacts s m r b) p n in
+names_facts : (s : Server) (m : Message) (r : CreateRequest) (found : Option ℕ) → NewFacts s m r false → found ≡ find s r.path → is_counted_out s r found ≡ false
+    → (u : Option ℕ) → names s r found ≡ u → Facts s m (after_names s r found u)
+names_facts s m r found n is k (Some status) e = turned_down s m r false status n (names_refuse s r found status e)
+names_facts s m r found n is k None e =
     either (λ v. Facts s m v) (shares s r found) _ _
-    (λ h. make_facts s m r found q is k (subst (λ b. share_names s r b found ≡ None) p e) h)
-    (λ h. turned_down s m r pipes sharing_violation n refl)
+    (λ h. make_facts s m r found n is k e h)
+    (λ h. turned_down s m r false sharing_violation n refl)
 
 -- a guid that names nothing
 pub record FreeGuid (s : Server) (m : Message) (r : CreateRequest) : Type 0 where
@@ -126,40 +120,40 @@ pub record FreeGuid (s : Server) (m : Message) (r : CreateRequest) : Type 0 wher
   pub no_mark : (d : Durable) → r.durable ≡ Some d → s.marks m.client d.guid ≡ false
   pub no_refusal : (d : Durable) → r.durable ≡ Some d → s.refused m.session d.guid ≡ None
 
-new_facts : (s : Server) (m : Message) (r : CreateRequest) (pipes : Bool) (found : Option ℕ) → CreateFacts s m r pipes → r.reconnect ≡ None → FreeGuid s m r → found ≡ find s r.path
-    → Facts s m (new_check s m r pipes found)
-new_facts s m r pipes found c new free is =
+new_facts : (s : Server) (m : Message) (r : CreateRequest) (found : Option ℕ) → CreateFacts s m r false → r.reconnect ≡ None → FreeGuid s m r → found ≡ find s r.path
+    → Facts s m (new_check s m r found)
+new_facts s m r found c new free is =
     either (λ v. Facts s m v) (deletes_on_close r.options && not (deletes (mapped r.access))) _ _ (λ _. tt)
     (λ d. either (λ v. Facts s m v) (keeps_guid r && nat_le max_guids (s.guids m.session)) _ _ (λ _. tt)
-    (λ g. let n : NewFacts s m r pipes = record { create = c; new = new; no_open = free.no_open; no_closed = free.no_closed; no_mark = free.no_mark; no_refusal = free.no_refusal; may_delete = d; guids = g } in
+    (λ g. let n : NewFacts s m r false = record { create = c; new = new; no_open = free.no_open; no_closed = free.no_closed; no_mark = free.no_mark; no_refusal = free.no_refusal; may_delete = d; guids = g } in
     either (λ v. Facts s m v) (is_counted_out s r found) _ _
-    (λ _. turned_down s m r pipes insufficient_resources n refl)
-    (λ k. names_facts s m r pipes found n is k (share_names s r pipes found) refl)))
+    (λ _. turned_down s m r false insufficient_resources n refl)
+    (λ k. names_facts s m r found n is k (names s r found) refl)))
 
 -- ---- CREATE: what is kept of its guid
 
 same_durable : (s : Server) (r : CreateRequest) (d e : Durable) → r.durable ≡ Some d → r.durable ≡ Some e → d ≡ e
 same_durable s r d e h k = grind arith
 
-repeat_facts : (s : Server) (m : Message) (r : CreateRequest) (pipes : Bool) (d : Durable) (o : ℕ) → CreateFacts s m r pipes → r.reconnect ≡ None → r.durable ≡ Some d → s.by_guid m.client d.guid ≡ Some o
+repeat_facts : (s : Server) (m : Message) (r : CreateRequest) (d : Durable) (o : ℕ) → CreateFacts s m r false → r.reconnect ≡ None → r.durable ≡ Some d → s.by_guid m.client d.guid ≡ Some o
     → m.replay ≡ true → (s.at o ≡ Some m.session) ⊎ (s.at o ≡ None × (s.opened o).persistent ≡ true × same_name (s.opened o).user (s.user m.session) ≡ true) → RepeatFacts s m o r
-repeat_facts s m r pipes d o c new kept named replay whose = record { durable = d; pipes = pipes; create = c; new = new; kept = kept; named = named; replay = replay; whose = whose }
+repeat_facts s m r d o c new kept named replay whose = record { durable = d; pipes = false; create = c; new = new; kept = kept; named = named; replay = replay; whose = whose }
 
-live_facts : (s : Server) (m : Message) (r : CreateRequest) (pipes : Bool) (d : Durable) (o : ℕ) → CreateFacts s m r pipes → r.reconnect ≡ None → r.durable ≡ Some d → s.by_guid m.client d.guid ≡ Some o
+live_facts : (s : Server) (m : Message) (r : CreateRequest) (d : Durable) (o : ℕ) → CreateFacts s m r false → r.reconnect ≡ None → r.durable ≡ Some d → s.by_guid m.client d.guid ≡ Some o
     → Facts s m (live_check s m r o)
-live_facts s m r pipes d o c new kept named =
+live_facts s m r d o c new kept named =
     either (λ v. Facts s m v) (not m.replay) _ _ (λ _. tt)
-    (λ p. either (λ v. Facts s m v) (is_at m.session (s.at o)) _ _ (λ a. repeat_facts s m r pipes d o c new kept named (not_false m.replay p) (inl (at_of m.session (s.at o) a)))
+    (λ p. either (λ v. Facts s m v) (is_at m.session (s.at o)) _ _ (λ a. repeat_facts s m r d o c new kept named (not_false m.replay p) (inl (at_of m.session (s.at o) a)))
     (λ _. either (λ v. Facts s m v) (is_some (s.at o) || not (s.opened o).persistent) _ _ (λ _. tt)
     (λ a. either (λ v. Facts s m v) (same_name (s.opened o).user (s.user m.session)) _ _
-    (λ u. repeat_facts s m r pipes d o c new kept named (not_false m.replay p) (inr (none_of (s.at o) (front_off (is_some (s.at o)) _ a), not_false (s.opened o).persistent (back_off (is_some (s.at o)) _ a), u)))
+    (λ u. repeat_facts s m r d o c new kept named (not_false m.replay p) (inr (none_of (s.at o) (front_off (is_some (s.at o)) _ a), not_false (s.opened o).persistent (back_off (is_some (s.at o)) _ a), u)))
     (λ _. tt))))
 
-refusal_facts : (s : Server) (m : Message) (r : CreateRequest) (pipes : Bool) (d : Durable) → CreateFacts s m r pipes → r.reconnect ≡ None → r.durable ≡ Some d
-    → s.by_guid m.client d.guid ≡ None → s.closed m.session d.guid ≡ false → s.marks m.client d.guid ≡ false → (u : Option ℕ) → s.refused m.session d.guid ≡ u → Facts s m (refusal_check s m r pipes u)
-refusal_facts s m r pipes d c new kept none unclosed unmarked (Some status) e = tt
-refusal_facts s m r pipes d c new kept none unclosed unmarked None e =
-    new_facts s m r pipes (find s r.path) c new
+refusal_facts : (s : Server) (m : Message) (r : CreateRequest) (d : Durable) → CreateFacts s m r false → r.reconnect ≡ None → r.durable ≡ Some d
+    → s.by_guid m.client d.guid ≡ None → s.closed m.session d.guid ≡ false → s.marks m.client d.guid ≡ false → (u : Option ℕ) → s.refused m.session d.guid ≡ u → Facts s m (refusal_check s m r u)
+refusal_facts s m r d c new kept none unclosed unmarked (Some status) e = tt
+refusal_facts s m r d c new kept none unclosed unmarked None e =
+    new_facts s m r (find s r.path) c new
     (record {
       no_open = λ x k. subst (λ y. s.by_guid m.client y.guid ≡ None) (same_durable s r d x kept k) none;
       no_closed = λ x k. subst (λ y. s.closed m.session y.guid ≡ false) (same_durable s r d x kept k) unclosed;
@@ -168,20 +162,20 @@ refusal_facts s m r pipes d c new kept none unclosed unmarked None e =
     })
     refl
 
-guid_facts : (s : Server) (m : Message) (r : CreateRequest) (pipes : Bool) (d : Durable) → CreateFacts s m r pipes → r.reconnect ≡ None → r.durable ≡ Some d → (u : Option ℕ) → s.by_guid m.client d.guid ≡ u
-    → Facts s m (guid_check s m r pipes d u)
-guid_facts s m r pipes d c new kept (Some o) e = live_facts s m r pipes d o c new kept e
-guid_facts s m r pipes d c new kept None e =
+guid_facts : (s : Server) (m : Message) (r : CreateRequest) (d : Durable) → CreateFacts s m r false → r.reconnect ≡ None → r.durable ≡ Some d → (u : Option ℕ) → s.by_guid m.client d.guid ≡ u
+    → Facts s m (guid_check s m r d u)
+guid_facts s m r d c new kept (Some o) e = live_facts s m r d o c new kept e
+guid_facts s m r d c new kept None e =
     either (λ v. Facts s m v) (s.closed m.session d.guid) _ _ (λ _. tt)
     (λ x. either (λ v. Facts s m v) (s.marks m.client d.guid) _ _ (λ _. tt)
-    (λ y. refusal_facts s m r pipes d c new kept e x y (s.refused m.session d.guid) refl))
+    (λ y. refusal_facts s m r d c new kept e x y (s.refused m.session d.guid) refl))
 
 plain_guid : (s : Server) (m : Message) (r : CreateRequest) → r.durable ≡ None → FreeGuid s m r
 plain_guid s m r e = record { no_open = λ d k. absurd (cc); no_closed = λ d k. absurd (cc); no_mark = λ d k. absurd (cc); no_refusal = λ d k. absurd (cc) }
 
-durable_facts : (s : Server) (m : Message) (r : CreateRequest) (pipes : Bool) → CreateFacts s m r pipes → r.reconnect ≡ None → (u : Option Durable) → r.durable ≡ u → Facts s m (durable_check s m r pipes u)
-durable_facts s m r pipes c new None e = new_facts s m r pipes (find s r.path) c new (plain_guid s m r e) refl
-durable_facts s m r pipes c new (Some d) e = guid_facts s m r pipes d c new e (s.by_guid m.client d.guid) refl
+durable_facts : (s : Server) (m : Message) (r : CreateRequest) → CreateFacts s m r false → r.reconnect ≡ None → (u : Option Durable) → r.durable ≡ u → Facts s m (durable_check s m r u)
+durable_facts s m r c new None e = new_facts s m r (find s r.path) c new (plain_guid s m r e) refl
+durable_facts s m r c new (Some d) e = guid_facts s m r d c new e (s.by_guid m.client d.guid) refl
 
 -- ---- CREATE: an open that is attached
 
@@ -206,13 +200,13 @@ reconnect_facts s m r c f asked =
       whose = whose_of s m.session (s.at c.file) w;
     })))
 
-pipes_facts : (s : Server) (m : Message) (r : CreateRequest) (pipes : Bool) (c : Reconnect) → CreateFacts s m r pipes → r.reconnect ≡ Some c → Facts s m (if pipes then Refuse object_name_not_found else reconnect_check s m r c)
-pipes_facts s m r true c f asked = tt
-pipes_facts s m r false c f asked = reconnect_facts s m r c f asked
+create_facts : (s : Server) (m : Message) (r : CreateRequest) → CreateFacts s m r false → (u : Option Reconnect) → r.reconnect ≡ u → Facts s m (reconnect_or_create s m r u)
+create_facts s m r c (Some x) e = reconnect_facts s m r x c e
+create_facts s m r c None e = durable_facts s m r c e r.durable refl
 
-create_facts : (s : Server) (m : Message) (r : CreateRequest) (pipes : Bool) → CreateFacts s m r pipes → (u : Option Reconnect) → r.reconnect ≡ u → Facts s m (reconnect_or_create s m r pipes u)
-create_facts s m r pipes c (Some x) e = pipes_facts s m r pipes x c e
-create_facts s m r pipes c None e = durable_facts s m r pipes c e r.durable refl
+share_facts : (s : Server) (m : Message) (r : CreateRequest) (pipes : Bool) → CreateFacts s m r pipes → Facts s m (create_check s m r pipes)
+share_facts s m r true c = tt
+share_facts s m r false c = create_facts s m r c r.reconnect refl
 
 -- ---- LOCK
 
@@ -267,19 +261,18 @@ lock_facts s m o index number elements f c = slot_facts s m o index number eleme
 
 -- ---- WRITE and SET_INFO
 
-alter_facts : (s : Server) (m : Message) (o : ℕ) (change : Change) (body : Body) → OpenFacts s m o → is_late s m o ≡ false → WriteFacts s m o change body ⊎ SettingFacts s m o change body → Facts s m (alter s m o change body)
-alter_facts s m o change body f late asked =
-    either (λ v. Facts s m v) (m.replay && (not (is_directory s (file_of s o)) && changes_nothing s (file_of s o) change)) _ _ (λ _. f)
-    (λ h. record { opened = f; late = late; fresh = h; asked = asked })
+alter_facts : (s : Server) (m : Message) (o : ℕ) (change : Change) (body : Body) → OpenFacts s m o → is_late s m o ≡ false → is_repeated s m o change ≡ false → WriteFacts s m o change body ⊎ SettingFacts s m o change body → Facts s m (Alter o change body)
+alter_facts s m o change body f late fresh asked = record { opened = f; late = late; fresh = fresh; asked = asked }
 
 write_facts : (s : Server) (m : Message) (o at : ℕ) (bytes : List ℕ) (channel : ℕ) → OpenFacts s m o → m.command ≡ Write o at bytes channel → Facts s m (write_check s m o at bytes)
 write_facts s m o at bytes channel f c =
     either (λ v. Facts s m v) (is_late s m o) _ _ (λ _. tt)
     (λ late. either (λ v. Facts s m v) (not (has_access s o 0x2)) _ _ (λ _. f)
     (λ a. either (λ v. Facts s m v) (is_directory s (file_of s o)) _ _ (λ _. f)
-    (λ d. either (λ v. Facts s m v) (not (may_write (s.ranges (file_of s o)) o at (length bytes))) _ _ (λ _. f)
+    (λ d. either (λ v. Facts s m v) (is_repeated s m o (bytes_change at bytes)) _ _ (λ _. f)
+    (λ fresh. either (λ v. Facts s m v) (not (may_write (s.ranges (file_of s o)) o at (length bytes))) _ _ (λ _. f)
     (λ u. either (λ v. Facts s m v) (not (is_empty bytes) && passes_room s (file_of s o) (at + length bytes)) _ _ (λ _. f)
-    (λ r. alter_facts s m o (bytes_change at bytes) (Count (length bytes)) f late
+    (λ r. alter_facts s m o (bytes_change at bytes) (Count (length bytes)) f late fresh
     (inl (record {
       at = at;
       bytes = bytes;
@@ -291,7 +284,7 @@ write_facts s m o at bytes channel f c =
       file = d;
       unlocked = not_false _ u;
       room = r;
-    })))))))
+    }))))))))
 
 setting_of : (s : Server) (m : Message) (o : ℕ) (setting : Setting) → m.command ≡ SetInfo o setting → SettingSays s o setting → WriteFacts s m o (setting_change s o setting) Empty ⊎ SettingFacts s m o (setting_change s o setting) Empty
 setting_of s m o setting c h = inr (record { setting = setting; command = c; change_is = refl; body_is = refl; says = h })
@@ -300,13 +293,18 @@ size_facts : (s : Server) (m : Message) (o size : ℕ) (change : Change) → Ope
 size_facts s m o size change f late made =
     either (λ v. Facts s m v) (not (has_access s o 0x2)) _ _ (λ _. f)
     (λ a. either (λ v. Facts s m v) (is_directory s (file_of s o)) _ _ (λ _. f)
-    (λ d. either (λ v. Facts s m v) (passes_room s (file_of s o) size) _ _ (λ _. f)
-    (λ r. alter_facts s m o change Empty f late (made (record { access = not_false _ a; file = d; room = r })))))
+    (λ d. either (λ v. Facts s m v) (is_repeated s m o change) _ _ (λ _. f)
+    (λ fresh. either (λ v. Facts s m v) (passes_room s (file_of s o) size) _ _ (λ _. f)
+    (λ r. alter_facts s m o change Empty f late fresh (made (record { access = not_false _ a; file = d; room = r }))))))
 
-named_facts : (s : Server) (m : Message) (o : ℕ) (change : Change) → OpenFacts s m o → is_late s m o ≡ false → (u : Option ℕ) → (u ≡ None → WriteFacts s m o change Empty ⊎ SettingFacts s m o change Empty)
-    → Facts s m (named_change s m o change u)
-named_facts s m o change f late (Some status) made = f
-named_facts s m o change f late None made = alter_facts s m o change Empty f late (made refl)
+named_facts : (s : Server) (m : Message) (o : ℕ) (change : Change) → OpenFacts s m o → is_late s m o ≡ false → is_repeated s m o change ≡ false → (u : Option ℕ) → (u ≡ None → WriteFacts s m o change Empty ⊎ SettingFacts s m o change Empty)
+    → Facts s m (named_change o change u)
+named_facts s m o change f late fresh (Some status) made = f
+named_facts s m o change f late fresh None made = alter_facts s m o change Empty f late fresh (made refl)
+
+-- check 8, in front of what names say
+unrepeated : (s : Server) (m : Message) (o : ℕ) (change : Change) (v : Verdict) → OpenFacts s m o → (is_repeated s m o change ≡ false → Facts s m v) → Facts s m (unless_repeated s m o change v)
+unrepeated s m o change v f g = either (λ u. Facts s m u) (is_repeated s m o change) (Tell o Empty) v (λ _. f) g
 
 setting_path : (m : Message) (o : ℕ) (replace : Bool) (path : List ℕ) → m.command ≡ SetInfo o (Rename replace path) → form m.command ≡ None → is_path path ≡ true
 setting_path m o replace path is e = path_formed path (subst (λ c. form c ≡ None) is e)
@@ -342,17 +340,21 @@ path_facts s m o replace path a p e =
 
 setting_facts : (s : Server) (m : Message) (o : ℕ) (setting : Setting) → OpenFacts s m o → is_late s m o ≡ false → m.command ≡ SetInfo o setting → Facts s m (setting_check s m o setting)
 setting_facts s m o (SetBasic basic) f late c =
-    either (λ v. Facts s m v) (has_access s o 0x100) _ _ (λ a. alter_facts s m o (setting_change s o (SetBasic basic)) Empty f late (setting_of s m o (SetBasic basic) c a)) (λ _. f)
+    let change = setting_change s o (SetBasic basic) in
+    either (λ v. Facts s m v) (has_access s o 0x100) _ _
+    (λ a. unrepeated s m o change _ f (λ fresh. alter_facts s m o change Empty f late fresh (setting_of s m o (SetBasic basic) c a))) (λ _. f)
 setting_facts s m o (Rename replace path) f late c =
     let change = setting_change s o (Rename replace path) in
     either (λ v. Facts s m v) (has_access s o 0x1_0000) _ _
-    (λ a. either (λ v. Facts s m v) (m.replay && (not (is_directory s (file_of s o)) && changes_nothing s (file_of s o) change)) _ _ (λ _. f)
-    (λ _. named_facts s m o change f late (rename_names s (file_of s o) replace path)
+    (λ a. unrepeated s m o change _ f
+    (λ fresh. named_facts s m o change f late fresh (rename_names s (file_of s o) replace path)
     (λ e. setting_of s m o (Rename replace path) c (path_facts s m o replace path a (setting_path m o replace path c f.tree.session.formed) e))))
     (λ _. f)
 setting_facts s m o (SetDelete flag) f late c =
     either (λ v. Facts s m v) (has_access s o 0x1_0000) _ _
-    (λ a. named_facts s m o (PutMark flag) f late (delete_names s (file_of s o) flag) (λ e. setting_of s m o (SetDelete flag) c (record { access = a; names = e }))) (λ _. f)
+    (λ a. unrepeated s m o (PutMark flag) _ f
+    (λ fresh. named_facts s m o (PutMark flag) f late fresh (delete_names s (file_of s o) flag) (λ e. setting_of s m o (SetDelete flag) c (record { access = a; names = e }))))
+    (λ _. f)
 setting_facts s m o (SetAllocation size) f late c =
     size_facts s m o (allocated size (length (s.content (file_of s o)))) (allocation_change s (file_of s o) size) f late (λ h. setting_of s m o (SetAllocation size) c h)
 setting_facts s m o (SetEnd size) f late c = size_facts s m o size (PutEnd size) f late (λ h. setting_of s m o (SetEnd size) c h)
@@ -499,7 +501,7 @@ command_facts s m pipes f t (Setup r) e = tt
 command_facts s m pipes f t Logoff e = tt
 command_facts s m pipes f t (TreeConnect share) e = tt
 command_facts s m pipes f t TreeDisconnect e = record { tree = record { session = f; tree = some_of _ pipes t }; command = e }
-command_facts s m pipes f t (Create r) e = create_facts s m r pipes (record { session = f; tree = t; command = e }) r.reconnect refl
+command_facts s m pipes f t (Create r) e = share_facts s m r pipes (record { session = f; tree = t; command = e })
 command_facts s m pipes f t (Close o query) e = on_open_facts s m o _ (record { session = f; tree = some_of _ pipes t }) (λ x. record { opened = x; query = query; command = e })
 command_facts s m pipes f t (Flush o) e = on_open_facts s m o _ (record { session = f; tree = some_of _ pipes t }) (λ x. flush_facts s m o x)
 command_facts s m pipes f t (Read o at size minimum channel) e = on_open_facts s m o _ (record { session = f; tree = some_of _ pipes t }) (λ x. read_facts s m o at size minimum x)

@@ -9,7 +9,7 @@ use Rattle.exchange_defs.specs.Files.{root, find, path_of, exists, is_directory,
 use Rattle.exchange_defs.specs.Ranges.{change_ranges, Stands, may_write}
 use Rattle.exchange_defs.specs.Opens.{deletes, mapped, max_ids}
 use Rattle.exchange_defs.specs.CheckCreate.{keeps_guid, max_guids, max_opens, max_files, last_file, action_of, shares, makes_missing, empties, has_guid}
-use Rattle.exchange_defs.specs.CheckOpen.{is_late, file_of, has_access, is_slot, kept_status, changes_nothing, bytes_change, allocation_change, target_of, target_refused, delete_names, open_below}
+use Rattle.exchange_defs.specs.CheckOpen.{is_late, file_of, has_access, is_slot, kept_status, bytes_change, allocation_change, target_of, target_refused, delete_names, open_below, is_repeated}
 use Rattle.exchange_defs.specs.CheckSetup.{tree_in, is_binding, previous_of}
 use Rattle.exchange_defs.specs.Verdict.{Verdict, Refuse, Give, KeepRefusal, Repeat, Attach, Make, TurnDown, Tell, Show, KeepSlot, PutRanges, Alter, Shut, Challenge, ChallengeBinding, Begin, Join, EndSession, AddTree, DropTree, Change, PutEnd, PutBasic, PutMark, PutPath}
 
@@ -179,7 +179,7 @@ pub record SettingFacts (s : Server) (m : Message) (o : ℕ) (change : Change) (
 pub record AlterFacts (s : Server) (m : Message) (o : ℕ) (change : Change) (body : Body) : Type 0 where
   pub opened : OpenFacts s m o
   pub late : is_late s m o ≡ false
-  pub fresh : (m.replay && (not (is_directory s (file_of s o)) && changes_nothing s (file_of s o) change)) ≡ false
+  pub fresh : is_repeated s m o change ≡ false
   pub asked : WriteFacts s m o change body ⊎ SettingFacts s m o change body
 
 -- ---- CLOSE, SESSION_SETUP and trees
