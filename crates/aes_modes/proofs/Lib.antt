@@ -5,3 +5,4 @@ pub mod Compared
 pub mod Linear
 pub mod Masking
 pub mod Unmasking
+mod Joined

@@ -113,8 +113,8 @@ pub(crate) fn push_masked_block(
     out.extend_from_slice(&masked[..count])
 }
 
-/// Whether two tags are the same. It takes the same time whatever they are.
-pub(crate) fn is_same(a: &[u8], b: &[u8]) -> bool
+/// Whether two tags of one length are the same. It takes the same time whatever they are.
+pub fn is_same(a: &[u8], b: &[u8]) -> bool
     requires { length a.now ≡ length b.now }
     ensures { IsTrue result ↔ (a.now ≡ b.now) }
 {

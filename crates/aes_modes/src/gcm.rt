@@ -1,5 +1,5 @@
 //! GCM and GMAC with a nonce of 12 bytes and a tag of 16 (SP 800-38D).
-ghost use Rattle.std.specs.Prelude.{◌≡◌, ◌<◌, ◌≤◌, ◌+◌, ◌-◌, ◌^◌, length, IfOk};
+ghost use Rattle.std.specs.Prelude.{◌≡◌, ◌<◌, ◌≤◌, ◌+◌, ◌-◌, ◌^◌, ◌++◌, length, IfOk};
 ghost use Rattle.cipher_defs.specs.Gcm.{counter_block, hash_key, ciphertext, tag_of, sealed, Opens, gmac};
 
 use crate::blocks::{block_count_of, is_same, push_masked_block};
@@ -127,4 +127,14 @@ pub fn gmac(aes: &Aes, nonce: &[u8; 12], message: &[u8]) -> [u8; 16]
     ensures { result ≡ gmac aes.now nonce.now message.now }
 {
     tag_of_sealed(aes, nonce, message, &[])
+}
+
+/// The tag under GMAC of a message in two pieces, the first of 64 bytes. It takes no memory.
+pub fn gmac_joined(aes: &Aes, nonce: &[u8; 12], front: &[u8; 64], rest: &[u8]) -> [u8; 16]
+    requires { length rest.now < 2 ^ 60 }
+    ensures { result ≡ gmac aes.now nonce.now (front.now ++ rest.now) }
+{
+    let hash = table_of(aes).ghash_joined(front, rest);
+    let mask = aes.encrypt_block(&counter_block_of(nonce, 1));
+    block_sum_of(&hash.to_be_bytes(), &mask)
 }

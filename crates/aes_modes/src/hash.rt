@@ -1,5 +1,5 @@
 //! The product in GF(2^128) and GHASH (SP 800-38D, 6.3 and 6.4), four bits at a time from a table made for the key.
-ghost use Rattle.std.specs.Prelude.{◌≡◌, ◌<◌, ◌^◌, ℕ, length, slice_index_or, if◌then◌else◌};
+ghost use Rattle.std.specs.Prelude.{◌≡◌, ◌<◌, ◌^◌, ◌++◌, [], ℕ, length, slice_index_or, if◌then◌else◌};
 ghost use Rattle.cipher_defs.specs.Ghash.{shifted, product, bits_of, sum_at, hashed_all, ghash};
 ghost use Rattle.aes_modes.specs.Sums.{IsTable};
 
@@ -119,5 +119,18 @@ impl Table {
         let behind_sealed = self.hashed_of(behind_added, sealed);
         let lengths = 8 * added.len() as u128 * 0x1_0000_0000_0000_0000 + 8 * sealed.len() as u128;
         self.product_of(behind_sealed ^ lengths)
+    }
+
+    /// The hash of additional data in two pieces, the first of 64 bytes, and of no ciphertext.
+    #[tactic(auto, using(crate::proofs::Joined::ghash_parts))]
+    pub(crate) fn ghash_joined(&self, front: &[u8; 64], rest: &[u8]) -> u128
+        requires { length rest.now < 2 ^ 60 }
+        ensures { result ≡ ghash self.now.h (front.now ++ rest.now) [] }
+    {
+        let behind_front = self.hashed_of(0, front);
+        let behind_added = self.hashed_of(behind_front, rest);
+        let behind_sealed = self.hashed_of(behind_added, &[]);
+        let length = 8 * (64 + rest.len() as u128) * 0x1_0000_0000_0000_0000;
+        self.product_of(behind_sealed ^ length)
     }
 }

@@ -9,10 +9,11 @@ mod laws;
 mod mac;
 mod prefix;
 
+pub use blocks::is_same;
 pub use ccm::{ccm_fits, ccm_open, ccm_seal};
-pub use gcm::{gcm_open, gcm_seal, gmac};
+pub use gcm::{gcm_open, gcm_seal, gmac, gmac_joined};
 pub use laws::{ccm_law, gcm_law};
-pub use mac::cmac;
+pub use mac::{cmac, cmac_joined};
 
 #[cfg(test)]
 mod tests;

@@ -1,6 +1,8 @@
 //! CMAC (SP 800-38B, section 6).
-ghost use Rattle.std.specs.Prelude.{◌≡◌, ◌≤◌, ◌<◌, ◌*◌, ◌+◌, length, nat_lt, ◌==◌, if◌then◌else◌, slice_index};
-ghost use Rattle.cipher_defs.specs.Cmac.{doubled_block, first_subkey, padded, cmac};
+ghost use Rattle.std.specs.Prelude.{◌≡◌, ◌≤◌, ◌<◌, ◌*◌, ◌+◌, ◌++◌, length, nat_lt, ◌==◌, if◌then◌else◌, slice_index};
+ghost use Rattle.cipher_defs.specs.Aes.{block_sum, cipher};
+ghost use Rattle.cipher_defs.specs.Blocks.{chained};
+ghost use Rattle.cipher_defs.specs.Cmac.{doubled_block, first_subkey, padded, before_last, last_block, cmac};
 
 use crate::blocks::chain_of;
 use aes_block::{Aes, block_sum_of};
@@ -59,19 +61,45 @@ fn padded_of(rest: &[u8]) -> [u8; 16]
     ]
 }
 
-/// The tag of a message under CMAC, 16 bytes (SP 800-38B, 6.2). It takes no memory.
-#[tactic(auto, unfolding(cipher_defs::specs::Cmac::cmac, cipher_defs::specs::Cmac::last_block, cipher_defs::specs::Cmac::second_subkey))]
-pub fn cmac(aes: &Aes, m: &[u8]) -> [u8; 16]
-    ensures { result ≡ cmac aes.now m.now }
+/// The last block of a message as it is enciphered: whole or padded, and with its subkey.
+#[tactic(auto, unfolding(cipher_defs::specs::Cmac::last_block, cipher_defs::specs::Cmac::second_subkey))]
+fn last_block_of(aes: &Aes, m: &[u8]) -> [u8; 16]
+    ensures { result ≡ last_block aes.now m.now }
 {
     let before = m.len().saturating_sub(1) / 16;
     let rest = &m[16 * before..];
     let first = first_subkey_of(aes);
-    let last = if rest.len() == 16 {
+    if rest.len() == 16 {
         block_sum_of(&padded_of(rest), &first)
     } else {
         block_sum_of(&padded_of(rest), &doubled_block_of(first))
-    };
-    let chain = chain_of(aes, &[0; 16], m, before);
-    aes.encrypt_block(&block_sum_of(&chain, &last))
+    }
+}
+
+/// The tag of a message whose blocks before `m` were chained to `start`. It takes no memory.
+fn cmac_from(aes: &Aes, start: &[u8; 16], m: &[u8]) -> [u8; 16]
+    ensures { result ≡ cipher aes.now (block_sum (chained aes.now start.now m.now (before_last m.now)) (last_block aes.now m.now)) }
+{
+    let before = m.len().saturating_sub(1) / 16;
+    let chain = chain_of(aes, start, m, before);
+    aes.encrypt_block(&block_sum_of(&chain, &last_block_of(aes, m)))
+}
+
+/// The tag of a message under CMAC, 16 bytes (SP 800-38B, 6.2). It takes no memory.
+#[tactic(auto, unfolding(cipher_defs::specs::Cmac::cmac))]
+pub fn cmac(aes: &Aes, m: &[u8]) -> [u8; 16]
+    ensures { result ≡ cmac aes.now m.now }
+{
+    cmac_from(aes, &[0; 16], m)
+}
+
+/// The tag under CMAC of a message in two pieces, the first of 64 bytes. It takes no memory.
+#[tactic(auto, using(crate::proofs::Joined::cmac_parts, crate::proofs::Joined::cmac_front))]
+pub fn cmac_joined(aes: &Aes, front: &[u8; 64], rest: &[u8]) -> [u8; 16]
+    ensures { result ≡ cmac aes.now (front.now ++ rest.now) }
+{
+    if rest.is_empty() {
+        return cmac(aes, front);
+    }
+    cmac_from(aes, &chain_of(aes, &[0; 16], front, 4), rest)
 }

@@ -51,24 +51,32 @@ sealed keys from_client nonce text = sealed_by keys.cipher (key_for keys from_cl
 
 -- whether a frame begins as a sealed one
 unfoldable pub is_sealed : List ℕ → Bool
-is_sealed frame = nat_le 52 (length frame) && bytes_eq (take 4 frame) protocol
+is_sealed frame = nat_le 52 (length frame) && bytes_eq (bytes_at 4 frame 0) protocol
+
+-- the first cause for which a frame isn't looked into: the size is that of all behind the transform header, at most 1,114,060
+unfoldable pub frame_fault : ℕ → List ℕ → Option SealError
+frame_fault session frame =
+    if not (is_sealed frame) then Some NotSealed
+    else if not (number 4 frame 36 + 52 == length frame) || nat_lt 1114060 (number 4 frame 36) then Some (BadSize (number 4 frame 36))
+    else if number 8 frame 44 == session then None
+    else Some (OtherSession (number 8 frame 44))
 
 -- what a text is hidden as is shown by hiding it once more
 abbrev pub shown : ℕ → List ℕ → List ℕ → List ℕ
 shown cipher key frame = ciphertext cipher key (bytes_at 16 frame 20) (drop 52 frame)
 
-abbrev pub tag_is_right : ℕ → List ℕ → List ℕ → Bool
+unfoldable pub tag_is_right : ℕ → List ℕ → List ℕ → Bool
 tag_is_right cipher key frame =
     bytes_eq (bytes_at 16 frame 4) (tag_of cipher key (bytes_at 16 frame 20) (bytes_at 32 frame 20) (shown cipher key frame) (drop 52 frame))
+
+abbrev pub if_whole : Option SealError → Result (List ℕ) SealError → Result (List ℕ) SealError
+if_whole (Some e) r = Err e
+if_whole None r = r
 
 -- the message in a frame, or the first cause for which it isn't given
 unfoldable pub unsealed_by : ℕ → List ℕ → ℕ → List ℕ → Result (List ℕ) SealError
 unsealed_by cipher key session frame =
-    if not (is_sealed frame) then Err NotSealed
-    else if not (number 4 frame 36 + 52 == length frame) || nat_lt 1114060 (number 4 frame 36) then Err (BadSize (number 4 frame 36))
-    else if not (number 8 frame 44 == session) then Err (OtherSession (number 8 frame 44))
-    else if tag_is_right cipher key frame then Ok (shown cipher key frame)
-    else Err BadTag
+    if_whole (frame_fault session frame) (if tag_is_right cipher key frame then Ok (shown cipher key frame) else Err BadTag)
 
 abbrev pub unsealed : Keys → Bool → List ℕ → Result (List ℕ) SealError
 unsealed keys from_client frame = unsealed_by keys.cipher (key_for keys from_client) keys.session frame

@@ -75,21 +75,30 @@ names_ntlm (suc n) p = if length p.bytes == 0 then Ok false else (do
 unfoldable pub begins_with_ntlm : Piece → Result Bool DerError
 begins_with_ntlm p = if length p.bytes == 0 then Ok false else (element 0x06 p >>= λ e. Ok (bytes_eq e.contents.bytes ntlmssp))
 
-pub record MechTypes : Type 0 where
-  pub list : List ℕ
+pub record Names : Type 0 where
   pub first : Bool
   pub named : Bool
-  pub rest : Piece
 
--- [0] of the SEQUENCE of mechTypes
-unfoldable pub mech_types : Piece → Result MechTypes DerError
-mech_types p = do
-  e ← element 0xa0 p
-  list ← element 0x30 e.contents
+-- the SEQUENCE of mechTypes: whether NTLMSSP comes first in it, and whether it is named
+unfoldable pub names_in : Piece → Result Names DerError
+names_in p = do
+  list ← element 0x30 p
   first ← begins_with_ntlm list.contents
   named ← names_ntlm (length list.contents.bytes) list.contents
   _ ← ends list.rest
-  Ok (record { list = e.contents.bytes; first = first; named = named; rest = e.rest })
+  Ok (record { first = first; named = named })
+
+pub record MechTypes : Type 0 where
+  pub list : List ℕ
+  pub names : Names
+  pub rest : Piece
+
+-- [0] of that
+unfoldable pub mech_types : Piece → Result MechTypes DerError
+mech_types p = do
+  e ← element 0xa0 p
+  names ← names_in e.contents
+  Ok (record { list = e.contents.bytes; names = names; rest = e.rest })
 
 pub record Hints : Type 0 where
   pub there : Bool
@@ -116,7 +125,7 @@ init_fields p = do
   told ← hints token.rest
   mic ← octets (if told.there then 0xa4 else 0xa3) told.rest
   _ ← ends mic.rest
-  Ok (record { named = types.named; value = record { mech_list = types.list; ntlm_first = types.first; token = token.bytes; mic = mic.bytes } })
+  Ok (record { named = types.names.named; value = record { mech_list = types.list; ntlm_first = types.names.first; token = token.bytes; mic = mic.bytes } })
 
 -- [0] of the SEQUENCE, and nothing behind it
 unfoldable pub init_choice : Piece → Result Named DerError
@@ -210,7 +219,7 @@ resp_spelling v = spelled 0xa1 (spelled 0x30 (resp_fields_spelling v))
 
 -- A value can be written where its list reads, names NTLMSSP and says rightly whether first, and the lengths have four bytes.
 pub record IsWritableInit (v : InitValue) : Type 0 where
-  pub list : (at : ℕ) → mech_types (record { at = at; bytes = spelled 0xa0 v.mech_list }) ≡ Ok (record { list = v.mech_list; first = v.ntlm_first; named = true; rest = record { at = at + length (spelled 0xa0 v.mech_list); bytes = [] } })
+  pub list : (at : ℕ) → names_in (record { at = at; bytes = v.mech_list }) ≡ Ok (record { first = v.ntlm_first; named = true })
   pub short : length (init_spelling v) < 2 ^ 32
 
 pub record IsWritableResp (v : RespValue) : Type 0 where

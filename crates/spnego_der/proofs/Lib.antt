@@ -1,0 +1,4 @@
+mod Again
+mod Lengths
+mod Mechanisms
+mod Spelled

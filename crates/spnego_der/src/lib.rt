@@ -1,0 +1,16 @@
+//! SPNEGO's tokens (RFC 4178, MS-SPNG) around NTLM: NegTokenInit and NegTokenResp in DER, read with every definite
+//! length form of up to four bytes and written with the shortest.
+#![tactic(auto)]
+
+mod element;
+mod fields;
+mod laws;
+mod reading;
+mod token;
+mod writing;
+
+pub use laws::{init_law, resp_law};
+pub use reading::{read_init, read_resp};
+pub use token::{InitToken, RespToken};
+pub use token_defs::DerError;
+pub use writing::{write_init, write_resp};
