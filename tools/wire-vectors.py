@@ -8,7 +8,7 @@ Writes `stdin` and `stdout` of crates/session_vectors, file_vectors, info_vector
 program. A line of `stdin` is a word and the hexadecimal digits of a body, which stands behind a header of 64 zero bytes where
 the word is a message; a number behind them cuts the message to so many bytes. `stdout` has the value that stands in it, by
 name, and its canonical spelling, or the refusal. A line `cuts` asks for the outcome at each length, and `stdout` has the
-lengths from which it is another. Lines that begin with `#` are printed as they are.
+lengths from which it is another; a line `only` asks for the value alone. Lines that begin with `#` are printed as they are.
 """
 import os
 import struct
@@ -21,7 +21,6 @@ import wire_records as records
 from wire_layouts import HEADER, packed, snake
 from wire_shown import Shown
 
-FILE_ID = bytes(range(1, 17))
 OTHER_ID = bytes(range(0x21, 0x31))
 
 
