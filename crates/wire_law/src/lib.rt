@@ -5,6 +5,7 @@
 
 mod bare;
 mod close;
+mod compound;
 mod create;
 mod create_response;
 mod error;
@@ -22,6 +23,7 @@ mod write;
 
 pub use bare::bare_law;
 pub use close::{close_request_law, close_response_law};
+pub use compound::compound_law;
 pub use create::create_request_law;
 pub use create_response::create_response_law;
 pub use error::error_response_law;
