@@ -88,15 +88,15 @@ aligned : (n : ℕ) → (n + gap_to_8 n) % 8 ≡ 0
 aligned n = omega arith
 
 module _ {V : Type 0} (Is : List ℕ → V → Type 0) (item : V → ℕ → List ℕ) (size : V → ℕ) (Fits : V → ℕ → Type 0) where
+  -- each item fits with the place of the next one that is written in it
+  abbrev pub AllFit : V → List V → Type 0
+  AllFit v [] = Fits v 0
+  AllFit v (w ∷ ws) = Fits v (size v + gap_to_8 (size v)) × AllFit w ws
+
   module _ (some : (v : V) → 0 < size v)
       (length-item : (v : V) (next : ℕ) → Fits v next → length (item v next) ≡ size v)
       (next_told : (v : V) (next : ℕ) (rest : List ℕ) → Fits v next → number 4 (item v next ++ rest) 0 ≡ next)
       (again : (v : V) (next : ℕ) (rest : List ℕ) → Fits v next → Is (item v next ++ rest) v) where
-    -- each item fits with the place of the next one that is written in it
-    abbrev pub AllFit : V → List V → Type 0
-    AllFit v [] = Fits v 0
-    AllFit v (w ∷ ws) = Fits v (size v + gap_to_8 (size v)) × AllFit w ws
-
     pub spelled : (v : V) (vs : List V) → AllFit v vs → IsChain Is (chain_spelling item size (v ∷ vs)) v vs
     spelled v [] fit =
         let m : List ℕ = item v 0 ++ [] in

@@ -1,1 +1,4 @@
 pub mod Chains
+pub mod OneContext
+pub mod ContextChain
+pub mod Gathered

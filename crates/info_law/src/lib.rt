@@ -2,6 +2,7 @@
 //! classes, listings and create contexts. Each law is the contract of a function that does nothing.
 #![tactic(auto)]
 
+mod create_context;
 mod file_class;
 mod interface;
 mod ioctl;
@@ -10,6 +11,7 @@ mod query_info;
 mod set_info;
 mod volume_class;
 
+pub use create_context::{create_context_law, create_contexts_law, reply_contexts_law};
 pub use file_class::{
     file_all_information_law, file_allocation_information_law, file_basic_information_law,
     file_disposition_information_law, file_end_of_file_information_law,
