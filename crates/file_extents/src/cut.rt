@@ -1,4 +1,5 @@
-ghost use Rattle.std.specs.Prelude.{◌≡◌, ◌+◌, ◌-◌, ◌<◌, ◌≤◌, List, ℕ, length, take, Option, None, Some, Vec, vec_items, IsSome, IfSome, IfNone, ◌≢◌};
+ghost use Rattle.std.specs.Prelude.{◌≡◌, ◌+◌, ◌-◌, ◌<◌, ◌≤◌, List, ℕ, length, take, Option, None, Some, Vec, vec_items, IsSome, IfSome};
+ghost use Rattle.std.specs.Prelude.{IfNone, ◌≢◌};
 ghost use Rattle.std.specs.Ordering.{nat_cmp};
 ghost use Rattle.std.specs.BTreeMap.{get, btree_map_len};
 ghost use Rattle.file_extents.specs.Shown.{Shows, Reaches, Agrees};
@@ -18,7 +19,8 @@ fn size_of(piece: Option<Vec<u8>>) -> u64 {
 /// Takes away each piece that begins at `n` or behind it. Answers how many bytes they had.
 pub fn remove_from(pieces: &mut BTreeMap<u64, Vec<u8>>, n: u64) -> u64
     ensures gone { (k : ℕ) → n ≤ k → get nat_cmp pieces.new k ≡ None }
-    ensures kept { (c : List ℕ) → length c ≡ n → Reaches vec_items (λ k. get nat_cmp pieces.old k) c → Reaches vec_items (λ k. get nat_cmp pieces.new k) c }
+    ensures kept { (c : List ℕ) → length c ≡ n → Reaches vec_items (λ k. get nat_cmp pieces.old k) c
+        → Reaches vec_items (λ k. get nat_cmp pieces.new k) c }
 {
     let mut removed: u64 = 0;
     while let Some(place) = next_from(pieces, n) {
@@ -31,7 +33,8 @@ pub fn remove_from(pieces: &mut BTreeMap<u64, Vec<u8>>, n: u64) -> u64
 fn remove_past(pieces: &mut BTreeMap<u64, Vec<u8>>, place: u64, n: u64) -> u64
     requires { (n ≤ place) × IsSome (get nat_cmp pieces.old place) }
     ensures fewer { btree_map_len pieces.new < btree_map_len pieces.old }
-    ensures kept { (c : List ℕ) → length c ≡ n → Reaches vec_items (λ k. get nat_cmp pieces.old k) c → Reaches vec_items (λ k. get nat_cmp pieces.new k) c }
+    ensures kept { (c : List ℕ) → length c ≡ n → Reaches vec_items (λ k. get nat_cmp pieces.old k) c
+        → Reaches vec_items (λ k. get nat_cmp pieces.new k) c }
 {
     let piece = pieces.remove(&place);
     size_of(piece)
@@ -40,7 +43,8 @@ fn remove_past(pieces: &mut BTreeMap<u64, Vec<u8>>, place: u64, n: u64) -> u64
 /// Cuts the last piece where it goes on behind `n`. Answers by how many bytes.
 pub fn trim_last(pieces: &mut BTreeMap<u64, Vec<u8>>, n: u64) -> u64
     requires { (k : ℕ) → n ≤ k → get nat_cmp pieces.old k ≡ None }
-    ensures { (c : List ℕ) → length c ≡ n → Reaches vec_items (λ k. get nat_cmp pieces.old k) c → Shows vec_items (λ k. get nat_cmp pieces.new k) c }
+    ensures { (c : List ℕ) → length c ≡ n → Reaches vec_items (λ k. get nat_cmp pieces.old k) c
+        → Shows vec_items (λ k. get nat_cmp pieces.new k) c }
 {
     let Some((place, _)) = floor(pieces, n) else {
         return 0;
@@ -51,7 +55,8 @@ pub fn trim_last(pieces: &mut BTreeMap<u64, Vec<u8>>, n: u64) -> u64
 // Cuts the last piece where it goes on behind `n`.
 fn trim_at(pieces: &mut BTreeMap<u64, Vec<u8>>, place: u64, n: u64) -> u64
     requires { (place ≤ n) × IsSome (get nat_cmp pieces.old place) × ((q : ℕ) → IsSome (get nat_cmp pieces.old q) → q ≤ place) }
-    ensures { (c : List ℕ) → length c ≡ n → Reaches vec_items (λ k. get nat_cmp pieces.old k) c → Shows vec_items (λ k. get nat_cmp pieces.new k) c }
+    ensures { (c : List ℕ) → length c ≡ n → Reaches vec_items (λ k. get nat_cmp pieces.old k) c
+        → Shows vec_items (λ k. get nat_cmp pieces.new k) c }
 {
     match pieces.get_mut(&place) {
         Some(piece) => cut_piece(piece, (n - place) as usize),
@@ -96,7 +101,9 @@ fn remove_one(pieces: &mut BTreeMap<u64, Vec<u8>>, place: u64, from: u64, end: u
     ensures fewer { btree_map_len pieces.new < btree_map_len pieces.old }
     ensures others { (k : ℕ) → k ≢ place → get nat_cmp pieces.new k ≡ get nat_cmp pieces.old k }
     ensures gone { get nat_cmp pieces.new place ≡ None }
-    ensures kept { (b c : List ℕ) → ((p : Vec ℕ Global) → get nat_cmp pieces.old place ≡ Some p → place + length p.items ≤ end) → Agrees from (end - from) b c → Shows vec_items (λ k. get nat_cmp pieces.old k) b → (a : List ℕ) × Agrees from (end - from) a c × Shows vec_items (λ k. get nat_cmp pieces.new k) a }
+    ensures kept { (b c : List ℕ) → ((p : Vec ℕ Global) → get nat_cmp pieces.old place ≡ Some p → place + length p.items ≤ end)
+        → Agrees from (end - from) b c → Shows vec_items (λ k. get nat_cmp pieces.old k) b → (a : List ℕ) × Agrees from (end - from) a c
+        × Shows vec_items (λ k. get nat_cmp pieces.new k) a }
 {
     let piece = pieces.remove(&place);
     size_of(piece)
@@ -108,7 +115,9 @@ pub fn remove_inside(pieces: &mut BTreeMap<u64, Vec<u8>>, from: u64, end: u64) -
     ensures gone { (k : ℕ) → from < k → k < end → get nat_cmp pieces.new k ≡ None }
     ensures others { (k : ℕ) → k ≤ from → get nat_cmp pieces.new k ≡ get nat_cmp pieces.old k }
     ensures behind { (k : ℕ) → end ≤ k → get nat_cmp pieces.new k ≡ get nat_cmp pieces.old k }
-    ensures kept { (c : List ℕ) → ((k : ℕ) (p : Vec ℕ Global) → get nat_cmp pieces.old k ≡ Some p → from < k → k < end → k + length p.items ≤ end) → Shows vec_items (λ k. get nat_cmp pieces.old k) c → (a : List ℕ) × Agrees from (end - from) a c × Shows vec_items (λ k. get nat_cmp pieces.new k) a }
+    ensures kept { (c : List ℕ) → ((k : ℕ) (p : Vec ℕ Global) → get nat_cmp pieces.old k ≡ Some p → from < k → k < end
+        → k + length p.items ≤ end) → Shows vec_items (λ k. get nat_cmp pieces.old k) c → (a : List ℕ) × Agrees from (end - from) a c
+        × Shows vec_items (λ k. get nat_cmp pieces.new k) a }
 {
     let mut removed: u64 = 0;
     while let Some(place) = next_inside(pieces, from, end) {

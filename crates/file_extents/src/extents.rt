@@ -82,6 +82,8 @@ impl Extents {
         requires { at + length bytes.now < 2 ^ 64 }
         ensures ok { OnOk result ((c : List ℕ) → IsContent self.old c → IsContent self.new (written at bytes.now c)) }
         ensures err { OnErr result ((c : List ℕ) → IsContent self.old c → IsContent self.new c) }
+        ensures held { (c : List ℕ) (h : ℕ) → IsContent self.old c → IsHeld self.old h
+            → (k : ℕ) × (k ≤ h + length bytes.now) × IsHeld self.new k }
     {
         if bytes.is_empty() {
             return Ok(());
@@ -107,8 +109,10 @@ impl Extents {
 
     /// Does a prepared write. It takes no memory.
     pub fn finish(&mut self, prepared: Prepared, bytes: &[u8])
-        ensures shown { (at : ℕ) (c : List ℕ) → IsReady self.old prepared at bytes.now → IsContent self.old c → IsContent self.new (written at bytes.now c) }
-        ensures held { (at h : ℕ) → IsReady self.old prepared at bytes.now → IsHeld self.old h → (k : ℕ) × (k ≤ h + length bytes.now) × IsHeld self.new k }
+        ensures shown { (at : ℕ) (c : List ℕ) → IsReady self.old prepared at bytes.now → IsContent self.old c
+            → IsContent self.new (written at bytes.now c) }
+        ensures held { (at h : ℕ) → IsReady self.old prepared at bytes.now → IsHeld self.old h → (k : ℕ) × (k ≤ h + length bytes.now)
+            × IsHeld self.new k }
     {
         let plan = prepared.plan;
         let added = prepared.middle.len() as u64;
@@ -123,7 +127,8 @@ impl Extents {
     fn read_part(&self, at: u64, end: u64, out: &mut Vec<u8>) -> Result<u64, AllocError>
         requires { (at < end) × (end ≤ self.now.len) }
         ensures goes { IfOk result (λ r. (at < r) × (r ≤ end)) }
-        ensures bytes { IfOk result (λ r. (c : List ℕ) → IsContent self.now c → out.new.items ≡ out.old.items ++ take (r - at) (drop at c)) }
+        ensures bytes { IfOk result (λ r. (c : List ℕ) → IsContent self.now c
+            → out.new.items ≡ out.old.items ++ take (r - at) (drop at c)) }
     {
         let Some((place, piece)) = covering(&self.pieces, at) else {
             let behind = gap_end(&self.pieces, at, end);

@@ -1,4 +1,5 @@
-ghost use Rattle.std.specs.Prelude.{◌≡◌, ◌+◌, ◌-◌, ◌<◌, ◌≤◌, ◌++◌, List, ℕ, length, take, drop, Option, None, Some, Vec, vec_items, IsSome, IfSome, false, ◌≢◌};
+ghost use Rattle.std.specs.Prelude.{◌≡◌, ◌+◌, ◌-◌, ◌<◌, ◌≤◌, ◌++◌, List, ℕ, length, take, drop, Option, None, Some, Vec, vec_items};
+ghost use Rattle.std.specs.Prelude.{IsSome, IfSome, false, ◌≢◌};
 ghost use Rattle.std.specs.Ordering.{nat_cmp};
 ghost use Rattle.std.specs.BTreeMap.{get};
 ghost use Rattle.exchange_defs.specs.Content.{written, is_empty};
@@ -28,7 +29,8 @@ fn behind(bytes: &[u8], count: usize) -> &[u8]
 pub fn put_part(pieces: &mut BTreeMap<u64, Vec<u8>>, part: Option<Inside>, bytes: &[u8])
     ensures others { (k : ℕ) → IsAway part k → get nat_cmp pieces.new k ≡ get nat_cmp pieces.old k }
     ensures shown { (at x y : ℕ) (c : List ℕ) → IsPart (λ k. get nat_cmp pieces.old k) part at x y → at ≤ x → y ≤ at + length bytes.now
-        → Shows vec_items (λ k. get nat_cmp pieces.old k) c → Shows vec_items (λ k. get nat_cmp pieces.new k) (written x (take (y - x) (drop (x - at) bytes.now)) c) }
+        → Shows vec_items (λ k. get nat_cmp pieces.old k) c → Shows vec_items (λ k. get nat_cmp pieces.new k)
+        (written x (take (y - x) (drop (x - at) bytes.now)) c) }
 {
     match part {
         Some(part) => put_inside(
@@ -44,8 +46,10 @@ pub fn put_part(pieces: &mut BTreeMap<u64, Vec<u8>>, part: Option<Inside>, bytes
 // Puts bytes in the place of as many that a piece has.
 fn put_inside(pieces: &mut BTreeMap<u64, Vec<u8>>, place: u64, offset: usize, bytes: &[u8])
     ensures others { (k : ℕ) → k ≢ place → get nat_cmp pieces.new k ≡ get nat_cmp pieces.old k }
-    ensures shown { (c : List ℕ) → 0 < length bytes.now → IsSome (get nat_cmp pieces.old place) → IfSome (get nat_cmp pieces.old place) (λ p. offset + length bytes.now ≤ length p.items)
-        → Shows vec_items (λ k. get nat_cmp pieces.old k) c → Shows vec_items (λ k. get nat_cmp pieces.new k) (written (place + offset) bytes.now c) }
+    ensures shown { (c : List ℕ) → 0 < length bytes.now → IsSome (get nat_cmp pieces.old place)
+        → IfSome (get nat_cmp pieces.old place) (λ p. offset + length bytes.now ≤ length p.items)
+        → Shows vec_items (λ k. get nat_cmp pieces.old k) c → Shows vec_items (λ k. get nat_cmp pieces.new k)
+        (written (place + offset) bytes.now c) }
 {
     if let Some(piece) = pieces.get_mut(&place) {
         overwrite(piece, offset, bytes);
@@ -54,7 +58,8 @@ fn put_inside(pieces: &mut BTreeMap<u64, Vec<u8>>, place: u64, offset: usize, by
 
 // Puts bytes in the place of as many, where there are so many.
 fn overwrite(bytes: &mut Vec<u8>, at: usize, from: &[u8])
-    ensures { at + length from.now ≤ length bytes.old.items → bytes.new.items ≡ take at bytes.old.items ++ (from.now ++ drop (at + length from.now) bytes.old.items) }
+    ensures { at + length from.now ≤ length bytes.old.items → bytes.new.items ≡ take at bytes.old.items ++
+        (from.now ++ drop (at + length from.now) bytes.old.items) }
 {
     if at <= bytes.len() && from.len() <= bytes.len() - at {
         bytes[at..at + from.len()].copy_from_slice(from);
@@ -87,7 +92,8 @@ fn fill(pieces: &mut BTreeMap<u64, Vec<u8>>, place: u64, bytes: Vec<u8>) -> u64
         → ((k : ℕ) (p : Vec ℕ Global) → get nat_cmp pieces.old k ≡ Some p → k < place → k + length p.items ≤ place)
         → ((k : ℕ) (p : Vec ℕ Global) → get nat_cmp pieces.old k ≡ Some p → k ≤ place → k + length p.items ≤ place + length bytes.items)
         → ((k : ℕ) → IsSome (get nat_cmp pieces.old k) → place < k → place + length bytes.items ≤ k)
-        → Shows vec_items (λ k. get nat_cmp pieces.old k) c → Shows vec_items (λ k. get nat_cmp pieces.new k) (written place bytes.items c) }
+        → Shows vec_items (λ k. get nat_cmp pieces.old k) c → Shows vec_items (λ k. get nat_cmp pieces.new k)
+        (written place bytes.items c) }
 {
     match pieces.insert(place, bytes) {
         Ok(Some(piece)) => return piece.len() as u64,

@@ -4,7 +4,6 @@ ghost use Rattle.std.specs.Ordering.{nat_cmp};
 ghost use Rattle.std.specs.BTreeMap.{get};
 ghost use Rattle.std.specs.Prelude.{None, Some};
 
-
 use std::alloc::Global;
 use std::collections::BTreeMap;
 
@@ -50,7 +49,8 @@ pub fn gap_end(pieces: &BTreeMap<u64, Vec<u8>>, at: u64, end: u64) -> u64
 pub fn covering(pieces: &BTreeMap<u64, Vec<u8>>, at: u64) -> Option<(u64, &Vec<u8>)>
     ensures piece { IfSome result (λ e. get nat_cmp pieces.now e.0 ≡ Some e.1.now) }
     ensures inside { IfSome result (λ e. (e.0 ≤ at) × (at < e.0 + length e.1.now.items)) }
-    ensures none { IfNone result ((c : List ℕ) → Shows vec_items (λ k. get nat_cmp pieces.now k) c → (k : ℕ) (p : Vec ℕ Global) → get nat_cmp pieces.now k ≡ Some p → k ≤ at → k + length p.items ≤ at) }
+    ensures none { IfNone result ((c : List ℕ) → Shows vec_items (λ k. get nat_cmp pieces.now k) c → (k : ℕ) (p : Vec ℕ Global)
+        → get nat_cmp pieces.now k ≡ Some p → k ≤ at → k + length p.items ≤ at) }
 {
     match floor(pieces, at) {
         Some((place, piece)) => {

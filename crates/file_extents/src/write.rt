@@ -1,4 +1,5 @@
-ghost use Rattle.std.specs.Prelude.{◌≡◌, ◌+◌, ◌-◌, ◌<◌, ◌≤◌, List, ℕ, length, Option, None, Some, Vec, vec_items, IsSome, IfSome, IfNone, IfOk, take, drop, OnOk, OnErr, ◌≢◌};
+ghost use Rattle.std.specs.Prelude.{◌≡◌, ◌+◌, ◌-◌, ◌<◌, ◌≤◌, List, ℕ, length, Option, None, Some, Vec, vec_items, IsSome, IfSome, IfNone};
+ghost use Rattle.std.specs.Prelude.{IfOk, take, drop, OnOk, OnErr, ◌≢◌};
 ghost use Rattle.std.specs.Ordering.{nat_cmp};
 ghost use Rattle.std.specs.BTreeMap.{get};
 ghost use Rattle.file_extents.specs.Shown.{Shows};
@@ -40,13 +41,20 @@ pub struct Prepared {
 pub fn plan_of(pieces: &BTreeMap<u64, Vec<u8>>, at: u64, end: u64) -> Plan
     requires { at < end }
     ensures order { (at ≤ result.from) × (result.from ≤ result.until) × (result.until ≤ end) × (result.end ≡ end) }
-    ensures planned { (c : List ℕ) → Shows vec_items (λ k. get nat_cmp pieces.now k) c → IsPlan (λ k. get nat_cmp pieces.now k) result at end }
+    ensures planned { (c : List ℕ) → Shows vec_items (λ k. get nat_cmp pieces.now k) c
+        → IsPlan (λ k. get nat_cmp pieces.now k) result at end }
 {
     let left = left_part(pieces, at, end);
     let from = left_end(left, at, end);
     let right = right_part(pieces, at, from, end);
     let until = right_begin(right, from, end);
-    Plan { left, from, until, right, end }
+    Plan {
+        left,
+        from,
+        until,
+        right,
+        end,
+    }
 }
 
 // Where the part ends that falls into the piece which has the place.
@@ -84,14 +92,20 @@ fn left_part(pieces: &BTreeMap<u64, Vec<u8>>, at: u64, end: u64) -> Option<Insid
     };
     let offset = (at - place) as usize;
     let count = (piece.len() - offset).min((end - at) as usize);
-    Some(Inside { place, offset, first: 0, count })
+    Some(Inside {
+        place,
+        offset,
+        first: 0,
+        count,
+    })
 }
 
 // What falls into a piece that goes on behind the end.
 fn right_part(pieces: &BTreeMap<u64, Vec<u8>>, at: u64, from: u64, end: u64) -> Option<Inside>
     requires { (at < end) × (at ≤ from) × (from ≤ end) }
     ensures inside { IfSome result (λ p. (from ≤ p.place) × (p.place < end)) }
-    ensures right { (c : List ℕ) → Shows vec_items (λ k. get nat_cmp pieces.now k) c → IsRight (λ k. get nat_cmp pieces.now k) result at from end }
+    ensures right { (c : List ℕ) → Shows vec_items (λ k. get nat_cmp pieces.now k) c
+        → IsRight (λ k. get nat_cmp pieces.now k) result at from end }
 {
     let Some((place, piece)) = floor(pieces, end - 1) else {
         return None;
@@ -101,7 +115,12 @@ fn right_part(pieces: &BTreeMap<u64, Vec<u8>>, at: u64, from: u64, end: u64) -> 
     }
     let first = (place - at) as usize;
     let count = (end - place) as usize;
-    Some(Inside { place, offset: 0, first, count })
+    Some(Inside {
+        place,
+        offset: 0,
+        first,
+        count,
+    })
 }
 
 /// The bytes of a write that go into a new piece.
@@ -115,7 +134,11 @@ pub fn middle_of(alloc: Global, plan: Plan, at: u64, bytes: &[u8]) -> Result<Vec
 }
 
 /// An empty piece where the new one is to begin, so that it can be put there without more memory.
-pub fn mark(pieces: &mut BTreeMap<u64, Vec<u8>>, plan: Plan, alloc: Global) -> Result<(), AllocError>
+pub fn mark(
+    pieces: &mut BTreeMap<u64, Vec<u8>>,
+    plan: Plan,
+    alloc: Global,
+) -> Result<(), AllocError>
     ensures shown { (at end : ℕ) (c : List ℕ) → IsPlan (λ k. get nat_cmp pieces.old k) plan at end
         → Shows vec_items (λ k. get nat_cmp pieces.old k) c → Shows vec_items (λ k. get nat_cmp pieces.new k) c }
     ensures ok { OnOk result ((at end : ℕ) → IsPlan (λ k. get nat_cmp pieces.old k) plan at end
@@ -128,7 +151,11 @@ pub fn mark(pieces: &mut BTreeMap<u64, Vec<u8>>, plan: Plan, alloc: Global) -> R
 }
 
 // Puts an empty piece where the new one is to begin.
-fn put_empty(pieces: &mut BTreeMap<u64, Vec<u8>>, plan: Plan, piece: Vec<u8>) -> Result<(), AllocError>
+fn put_empty(
+    pieces: &mut BTreeMap<u64, Vec<u8>>,
+    plan: Plan,
+    piece: Vec<u8>,
+) -> Result<(), AllocError>
     requires { (plan.from < plan.until) × (get nat_cmp pieces.old plan.from ≡ None) × (length piece.items ≡ 0) }
     ensures shown { (at end : ℕ) (c : List ℕ) → IsPlan (λ k. get nat_cmp pieces.old k) plan at end
         → Shows vec_items (λ k. get nat_cmp pieces.old k) c → Shows vec_items (λ k. get nat_cmp pieces.new k) c }

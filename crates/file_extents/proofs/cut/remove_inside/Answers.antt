@@ -1,4 +1,5 @@
-use Rattle.std.proofs.Common.{◌≡◌, ◌≢◌, ◌≤◌, ◌<◌, ◌+◌, ◌==◌, ℕ, Bool, true, false, None, Some, Vec, Global, length, arith, sym, ap, ◌∙◌, refl}
+use Rattle.std.proofs.Common.{◌≡◌, ◌≢◌, ◌==◌, ℕ, Bool, true, false, None, Some, arith, sym, ap, ◌∙◌}
+use Rattle.std.proofs.Common.{refl}
 use Rattle.std.specs.Prelude.{Option}
 use Rattle.std.specs.Ordering.{nat_cmp}
 use Rattle.std.specs.BTreeMap.{get}
@@ -14,12 +15,14 @@ pub loop-place-preserved : goal.loop-place-preserved
 loop-place-preserved c =
     let i = c.loop-place.invariant in
     let n = c.in-Some.ensures.some in
-    let e = c.remove_one.ensures in
-    (i.0,
-     (λ k p l r h. i.1 k p l r (stays (λ q. get nat_cmp c.loop-place.pieces q) (λ q. get nat_cmp c.remove_one.new.pieces q) c.in-Some.place k p
-         (k == c.in-Some.place) refl e.gone e.others h)),
-     (λ k l. e.others k (λ q. omega (arith, q, l, n)) ∙ i.2 k l),
-     (λ k l. e.others k (λ q. omega (arith, q, l, n)) ∙ i.3 k l),
-     (λ b fit s.
-         let w = i.4 b fit s in
-         e.kept w.0 b (λ p a. fit c.in-Some.place p (i.1 c.in-Some.place p n.0 n.1 a) n.0 n.1) w.1 w.2))
+    let e = c.remove_one.ensures in (
+      i.0,
+      (λ k p l r h. i.1 k p l r (stays (λ q. get nat_cmp c.loop-place.pieces q) (λ q. get nat_cmp c.remove_one.new.pieces q)
+          c.in-Some.place k p
+          (k == c.in-Some.place) refl e.gone e.others h)),
+      (λ k l. e.others k (λ q. omega (arith, q, l, n)) ∙ i.2 k l),
+      (λ k l. e.others k (λ q. omega (arith, q, l, n)) ∙ i.3 k l),
+      (λ b fit s.
+          let w = i.4 b fit s in
+          e.kept w.0 b (λ p a. fit c.in-Some.place p (i.1 c.in-Some.place p n.0 n.1 a) n.0 n.1) w.1 w.2),
+    )

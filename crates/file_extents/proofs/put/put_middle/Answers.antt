@@ -1,9 +1,10 @@
-use Rattle.std.proofs.Common.{◌≡◌, ◌≤◌, ◌<◌, ◌+◌, ◌-◌, ◌==◌, Bool, true, false, List, ℕ, length, None, Some, Vec, Global, IsSome, arith, sym, subst, refl, ◌∙◌, nat_lt, [], ◌∷◌}
+use Rattle.std.proofs.Common.{◌≡◌, ◌≤◌, ◌<◌, ◌+◌, ◌==◌, Bool, true, false, List, ℕ, length, None, Some, Vec, Global, IsSome, arith}
+use Rattle.std.proofs.Common.{sym, subst, refl, ◌∙◌, nat_lt, [], ◌∷◌}
 use Rattle.std.specs.Prelude.{Option, vec_items}
 use Rattle.std.specs.Ordering.{nat_cmp}
 use Rattle.std.specs.BTreeMap.{get}
 use Rattle.std.proofs.lemmas.Bool.Decides.{nat_tests}
-use Rattle.exchange_defs.specs.Content.{written, is_empty}
+use Rattle.exchange_defs.specs.Content.{is_empty}
 use Rattle.file_extents.specs.Shown.{Shows, Agrees}
 use Rattle.file_extents.proofs.Shown.{written-over}
 use Rattle.file_extents.proofs.Planned.{written-none, still-there, not-there}
@@ -12,7 +13,8 @@ use Rattle.file_extents.proofs.put.put_middle.Goals as goal
 pub returns-then-from-until-clause-shown : goal.returns-then-from-until-clause-shown
 returns-then-from-until-clause-shown c b n marked clear inner s =
     let t = c.if-from-until.true in
-    subst (λ v. Shows vec_items (λ k. get nat_cmp c.args.pieces.now k) v) (sym (written-none c.args.from c.args.bytes.items b (omega arith))) s
+    subst (λ v. Shows vec_items (λ k. get nat_cmp c.args.pieces.now k) v)
+    (sym (written-none c.args.from c.args.bytes.items b (omega arith))) s
 
 full : (d : List ℕ) → 0 < length d → is_empty d ≡ false
 unfolding is_empty
@@ -20,7 +22,8 @@ full [] l = absurd (omega (arith, l))
 full (x ∷ xs) l = refl
 
 -- what is left behind the removal
-module _ (f g : ℕ → Option (Vec ℕ Global)) (from until : ℕ) (others : (k : ℕ) → k ≤ from → g k ≡ f k) (gone : (k : ℕ) → from < k → k < until → g k ≡ None)
+module _ (f g : ℕ → Option (Vec ℕ Global)) (from until : ℕ) (others : (k : ℕ) → k ≤ from → g k ≡ f k)
+    (gone : (k : ℕ) → from < k → k < until → g k ≡ None)
     (inner : (k : ℕ) (p : Vec ℕ Global) → f k ≡ Some p → from ≤ k → k < until → k + length p.items ≤ until)
     (clear : (k : ℕ) (p : Vec ℕ Global) → f k ≡ Some p → k < from → k + length p.items ≤ from) (l : from < until) where
   covered : (k : ℕ) (p : Vec ℕ Global) (b : Bool) → (k == from) ≡ b → g k ≡ Some p → k ≤ from → k + length p.items ≤ until
@@ -42,10 +45,12 @@ returns-clause-shown c b n marked clear inner s =
     let e : c.args.from + length d ≡ c.args.until = omega arith in
     let some : is_empty d ≡ false = full d (omega arith) in
     let shown = c.fill-replaced.ensures.shown w.0 some
-        (still-there f g c.args.from (r.others c.args.from (omega arith)) (marked l))
-        (λ k p h m. clear l k p (sym (r.others k (omega arith)) ∙ h) m)
-        (λ k p h m. subst (λ v. k + length p.items ≤ v) (sym e) (covered f g c.args.from c.args.until r.others r.gone inner (clear l) l k p (k == c.args.from) refl h m))
-        (λ k h m. subst (λ v. v ≤ k) (sym e) (behind f g c.args.from c.args.until r.others r.gone inner (clear l) l k (nat_lt k c.args.until) refl h m))
-        w.2 in
+    (still-there f g c.args.from (r.others c.args.from (omega arith)) (marked l))
+    (λ k p h m. clear l k p (sym (r.others k (omega arith)) ∙ h) m)
+    (λ k p h m. subst (λ v. k + length p.items ≤ v) (sym e)
+    (covered f g c.args.from c.args.until r.others r.gone inner (clear l) l k p (k == c.args.from) refl h m))
+    (λ k h m. subst (λ v. v ≤ k) (sym e) (behind f g c.args.from c.args.until r.others r.gone inner (clear l) l k
+    (nat_lt k c.args.until) refl h m))
+    w.2 in
     subst (λ v. Shows vec_items (λ k. get nat_cmp c.fill-replaced.new.pieces k) v)
-        (written-over c.args.from d w.0 b some (subst (λ v. Agrees c.args.from v w.0 b) (sym n) w.1)) shown
+    (written-over c.args.from d w.0 b some (subst (λ v. Agrees c.args.from v w.0 b) (sym n) w.1)) shown

@@ -1,13 +1,13 @@
-use Rattle.std.proofs.Common.{◌≡◌, ◌-◌, List, ℕ, length, take, drop, arith, sym, subst}
+use Rattle.std.proofs.Common.{◌-◌, take, drop, arith, sym, subst}
 use Rattle.std.specs.Prelude.{vec_items}
 use Rattle.std.specs.Ordering.{nat_cmp}
 use Rattle.std.specs.BTreeMap.{get}
 use Rattle.std.proofs.lemmas.List.{places}
 use Rattle.file_extents.specs.Shown.{Shows}
-use Rattle.file_extents.specs.Ready.{IsPart}
 use Rattle.file_extents.proofs.Planned.{written-none}
 use Rattle.file_extents.proofs.put.put_part.Goals as goal
 
 pub returns-in-None-clause-shown : goal.returns-in-None-clause-shown
 returns-in-None-clause-shown c at x y b p l e s =
-    subst (λ v. Shows vec_items (λ k. get nat_cmp c.args.pieces.now k) v) (sym (written-none x (take (y - x) (drop (x - at) c.args.bytes.now)) b (grind (arith, places)))) s
+    subst (λ v. Shows vec_items (λ k. get nat_cmp c.args.pieces.now k) v)
+    (sym (written-none x (take (y - x) (drop (x - at) c.args.bytes.now)) b (grind (arith, places)))) s

@@ -1,5 +1,5 @@
-use Rattle.std.proofs.Common.{◌≡◌, ◌≤◌, ◌<◌, ◌+◌, ◌-◌, ◌==◌, List, ℕ, length, None, Some, is_some, arith, ap, refl, sym, subst, Vec, Global}
-use Rattle.std.specs.Prelude.{vec_items, Option}
+use Rattle.std.proofs.Common.{◌≡◌, ◌≤◌, ◌+◌, ◌==◌, ℕ, length, is_some, arith, ap, refl, sym, subst, Vec, Global}
+use Rattle.std.specs.Prelude.{Option}
 use Rattle.std.specs.Ordering.{nat_cmp}
 use Rattle.std.specs.BTreeMap.{get}
 use Rattle.file_extents.proofs.Planned.{ends-there, same-piece}
@@ -14,16 +14,18 @@ returns-clause-left c b s =
     let i = c.in-Some.ensures.inside in
     let r = c.requires in
     let n = c.len.ensures in
-    let m = c.min-count.ensures in
-    (record {
-       some = omega arith;
-       place = omega arith;
-       first = omega arith;
-       count = omega arith;
-       there = ap (λ v. is_some v) c.in-Some.ensures.piece;
-       fits = λ q e. let w = same-piece f c.in-Some.place c.in-Some.piece.now q c.in-Some.ensures.piece e in omega arith
-     },
-     (λ h q p e l.
-         let all : c.args.at + c.min-count.result ≡ c.in-Some.place + length c.in-Some.piece.now.items = omega arith in
-         subst (λ v. q + length p.items ≤ v) (sym all)
-             (ends-there f b c.in-Some.place c.in-Some.piece.now s c.in-Some.ensures.piece q p (q == c.in-Some.place) refl e (omega arith))))
+    let m = c.min-count.ensures in (
+      record {
+        some = omega arith;
+        place = omega arith;
+        first = omega arith;
+        count = omega arith;
+        there = ap (λ v. is_some v) c.in-Some.ensures.piece;
+        fits = λ q e. let w = same-piece f c.in-Some.place c.in-Some.piece.now q c.in-Some.ensures.piece e in omega arith;
+      },
+      (λ h q p e l.
+          let all : c.args.at + c.min-count.result ≡ c.in-Some.place + length c.in-Some.piece.now.items = omega arith in
+          subst (λ v. q + length p.items ≤ v) (sym all)
+          (ends-there f b c.in-Some.place c.in-Some.piece.now s c.in-Some.ensures.piece q p (q == c.in-Some.place) refl e
+          (omega arith))),
+    )

@@ -1,4 +1,4 @@
-use Rattle.std.proofs.Common.{◌≡◌, ◌≤◌, ◌<◌, ◌+◌, ℕ, Vec, Global, Some, length, arith, sym, subst, refl}
+use Rattle.std.proofs.Common.{◌≤◌, ◌+◌, ℕ, Vec, Global, length, arith, sym, subst, refl}
 use Rattle.std.specs.Prelude.{Option}
 use Rattle.std.specs.Ordering.{nat_cmp}
 use Rattle.std.specs.BTreeMap.{get}
@@ -20,8 +20,11 @@ returns-clause-planned c b s =
     record {
       order = (v.0, w.0, w.1, refl);
       left = subst (λ v. IsPart f l c.args.at c.args.at v) x (part-of-left f l c.args.at c.args.end left);
-      clear = λ m. subst (λ v. IsClear f v) x (clear-of-left f l c.args.at c.args.end left (let z = c.left_end-from.ensures.is in omega arith));
-      inner = λ q o e m n. subst (λ v. q + length o.items ≤ v) y (inner-of-right f r c.args.at c.left_end-from.result c.args.end right q o e m (let z = c.right_begin-until.ensures.is in omega arith));
+      clear = λ m. subst (λ v. IsClear f v) x (clear-of-left f l c.args.at c.args.end left
+          (let z = c.left_end-from.ensures.is in omega arith));
+      inner = λ q o e m n. subst (λ v. q + length o.items ≤ v) y
+          (inner-of-right f r c.args.at c.left_end-from.result c.args.end right q o e m
+          (let z = c.right_begin-until.ensures.is in omega arith));
       right = subst (λ v. IsPart f r c.args.at v c.args.end) y (part-of-right f r c.args.at c.left_end-from.result c.args.end right);
-      begins = subst (λ v. BeginsAt r v) y (begins-of-right f r c.args.end)
+      begins = subst (λ v. BeginsAt r v) y (begins-of-right f r c.args.end);
     }

@@ -1,4 +1,4 @@
-use Rattle.std.proofs.Common.{◌≡◌, ◌≤◌, ◌<◌, ◌+◌, ◌==◌, ℕ, Vec, Global, None, Some, IsSome, is_some, length, arith, sym, ap, subst, refl}
+use Rattle.std.proofs.Common.{◌==◌, ℕ, Vec, Global, Some, is_some, ap, refl}
 use Rattle.std.specs.Prelude.{Option, vec_items}
 use Rattle.std.specs.Ordering.{nat_cmp}
 use Rattle.std.specs.BTreeMap.{get}
@@ -13,8 +13,9 @@ returns-in-Ok-clause-shown c at end b h s =
     let g : ℕ → Option (Vec ℕ Global) = λ k. get nat_cmp c.insert.new.self k in
     let r = c.requires in
     let m = c.args.plan.from in
-    shows-mark vec_items f g m c.args.piece b (puts_of vec_items c.args.pieces.now c.insert.new.self m (Some c.args.piece) c.in-Ok.ensures.updates) r.2 r.1
-        (λ k p. clear-behind f m r.1 (h.clear r.0) k p (k == m) refl) s
+    shows-mark vec_items f g m c.args.piece b (puts_of vec_items c.args.pieces.now c.insert.new.self m (Some c.args.piece)
+    c.in-Ok.ensures.updates) r.2 r.1
+    (λ k p. clear-behind f m r.1 (h.clear r.0) k p (k == m) refl) s
 
 pub returns-in-Ok-clause-ok : goal.returns-in-Ok-clause-ok
 returns-in-Ok-clause-ok c at end h =

@@ -1,9 +1,4 @@
-use Rattle.std.proofs.Common.{◌≡◌, ◌+◌, List, ℕ, length, arith}
-use Rattle.std.proofs.lemmas.List.{places}
-use Rattle.std.specs.Prelude.{vec_items}
-use Rattle.std.specs.Ordering.{nat_cmp}
-use Rattle.std.specs.BTreeMap.{get}
-use Rattle.file_extents.specs.Kept.{IsContent}
+use Rattle.std.proofs.Common.{◌+◌, length}
 use Rattle.file_extents.proofs.extents.Extents.prepare.Goals as goal
 
 pub returns-in_err-mark-clause-same : goal.returns-in_err-mark-clause-same

@@ -1,10 +1,8 @@
-use Rattle.std.proofs.Common.{◌≡◌, List, ℕ, length, arith, refl}
 use Rattle.std.specs.Prelude.{vec_items}
 use Rattle.std.specs.Ordering.{nat_cmp}
 use Rattle.std.specs.BTreeMap.{get}
 use Rattle.exchange_defs.specs.Content.{ended}
 use Rattle.exchange_defs.proofs.Content.{length-ended}
-use Rattle.file_extents.specs.Kept.{IsContent}
 use Rattle.file_extents.proofs.Shown.{reaches-ended}
 use Rattle.file_extents.proofs.extents.Extents.set_end.Goals as goal
 
@@ -13,6 +11,7 @@ returns-clause-shown c b s =
     let e = length-ended c.args.n b in
     record {
       shows = c.trim_last-trimmed.ensures (ended c.args.n b) e
-          (c.remove_from-removed.ensures.kept (ended c.args.n b) e (reaches-ended vec_items (λ k. get nat_cmp c.args.self.now.pieces k) b c.args.n s.shows));
-      len = e
+          (c.remove_from-removed.ensures.kept (ended c.args.n b) e
+          (reaches-ended vec_items (λ k. get nat_cmp c.args.self.now.pieces k) b c.args.n s.shows));
+      len = e;
     }

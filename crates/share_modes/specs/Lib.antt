@@ -1,0 +1,3 @@
+pub mod Sharing
+pub mod Locking
+pub mod Answers
