@@ -87,7 +87,7 @@ grows_cut w k =
     (λ _. either (λ d. Grows w.client d) (w.client.ready k) _ _ (λ _. either (λ d. Grows w.client d) (ends_at_cut w.client) (end_session w.client) (cut_channel w.client k) (λ _. record { who = refl; ranked = λ x r. r }) (λ _. record { who = refl; ranked = λ x r. r })) (λ _. grown w.client))
     (λ _. record { who = refl; ranked = λ x r. r })
 
-same_served : (w : World) (k : ℕ) (xs : List Sent) → (serve_front w k xs).client ≡ w.client
+pub same_served : (w : World) (k : ℕ) (xs : List Sent) → (serve_front w k xs).client ≡ w.client
 same_served w k [] = refl
 same_served w k (x ∷ rest) = refl
 
@@ -95,7 +95,7 @@ same_absorbed : (w : World) (k : ℕ) (xs : List Sent) → (absorb_front w k xs)
 same_absorbed w k [] = refl
 same_absorbed w k (x ∷ rest) = refl
 
-crash_client : (w : World) (k : ℕ) (kept : Bool) → (changed w (Crash k kept)).client ≡ w.client
+pub crash_client : (w : World) (k : ℕ) (kept : Bool) → (changed w (Crash k kept)).client ≡ w.client
 crash_client w k true = same_absorbed w k (w.conns k).up
 crash_client w k false = refl
 

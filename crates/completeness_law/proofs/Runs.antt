@@ -1,0 +1,138 @@
+-- What is known of every run, and the statements.
+use Rattle.std.proofs.Common.{◌≡◌, ℕ, ◌+◌, ◌*◌, false, List, [], ◌∷◌, ◌++◌, inl, inr, refl, arith, sym, subst, ◌∙◌, ap}
+use Rattle.exchange_defs.specs.Operations.{is_unsettled}
+use Rattle.exchange_defs.specs.Schedules.{Course, Line, Does, Pushes, Links as LinksLine, Settles, course, go, went, link}
+use Rattle.exchange_defs.specs.Network.{World, Event, Open, Settings, happens, run, start}
+use Rattle.exchange_law.proofs.Run.{connections}
+use Rattle.exchange_law.proofs.Reached.{on_every_run, run_more}
+use Rattle.exchange_law.proofs.Stays.{settled_stays, beyond}
+use Rattle.session_law.proofs.DialogFacts.{dialogs}
+use Rattle.session_law.proofs.Always.{sessions}
+use Rattle.completeness_law.specs.Completeness.{begun, course_of, DrainSuffices, LinkSuffices, AllSettled, FindsSession, RisingIds, SettleSettles}
+use Rattle.completeness_law.proofs.Facts.{Facts, Always}
+use Rattle.completeness_law.proofs.Columns.{count_none, Counted, counted_on, taken_on, number_on, Limits, limits_on}
+use Rattle.completeness_law.proofs.Waits.{CreateOk, waits_on}
+use Rattle.completeness_law.proofs.Carried.{Carried, carried_on, Low, low_on}
+use Rattle.completeness_law.proofs.Server.{accepted}
+use Rattle.completeness_law.proofs.Links.{Links, links_on, room_for, bit, tally, none_folded}
+use Rattle.completeness_law.proofs.Drain.{drains_all}
+use Rattle.completeness_law.proofs.Link.{links_all}
+use Rattle.completeness_law.proofs.Later.{push_later, link_later}
+use Rattle.completeness_law.proofs.Rounds.{Done}
+use Rattle.completeness_law.proofs.Settling.{settles, settle_later}
+
+pub record Known (w : World) : Type 0 where
+  pub counted : Counted w.client
+  pub low : Low w.conns
+  pub carried : Carried w.client w.conns
+  pub links : Links w.server w.conns
+  pub create_ok : CreateOk w.client
+  pub limits : Limits w.client
+
+begins : (z : Settings) → Known (start z)
+unfolding bit tally
+begins z =
+    record {
+      counted = record { counted = sym (count_none (λ k. false) 256 (λ j. refl)); live = λ l. absurd (cc) };
+      low = record { client = λ k o. absurd (cc); server = λ k o. absurd (cc) };
+      carried = λ g k on. absurd (cc);
+      links = λ k. ap (λ xs. tally k xs) (none_folded _);
+      create_ok = λ g low high. absurd (omega (arith, low, high));
+      limits = λ g low high. absurd (omega (arith, low, high));
+    }
+
+known : (z : Settings) (es : List Event) → Known (run es (start z))
+known z es =
+    on_every_run (λ w a. Known w) z (begins z)
+    (λ xs e h. let w = run xs (start z) in let fit = connections z xs in let d = dialogs z xs in
+    record {
+      counted = counted_on w e _ fit d.channels h.low.client h.counted;
+      low = low_on w e h.low;
+      carried = carried_on w e _ fit h.carried;
+      links = links_on w e h.low h.links;
+      create_ok = waits_on w e _ fit h.create_ok;
+      limits = limits_on w e h.limits;
+    }) es
+
+-- a world of a run
+pub record OfRun (z : Settings) (w : World) : Type 0 where
+  pub events : List Event
+  pub is : run events (start z) ≡ w
+
+facts_at : (z : Settings) (es : List Event) → Facts (run es (start z))
+facts_at z es =
+    let w = run es (start z) in let k = known z es in let d = dialogs z es in let s = sessions z es in
+    record {
+      acted = _;
+      fit = connections z es;
+      channels = d.channels;
+      making_talks = d.making_talks;
+      making = s.making;
+      live_alone = λ l. (s.live_accepted l).2;
+      counted = k.counted.counted;
+      live_channels = k.counted.live;
+      client_low = k.low.client;
+      server_low = k.low.server;
+      carried = k.carried;
+      accepts = λ q low off. (accepted w.server w.moment q (room_for w.server w.conns q k.links k.low low off)).status;
+      create_ok = k.create_ok;
+      limits = k.limits;
+      beyond = (beyond z es 0 refl).1;
+    }
+
+still : (z : Settings) (es : List Event) (e : Event) (g : ℕ) → is_unsettled ((run es (start z)).client.outcome g) ≡ false → is_unsettled ((happens (run es (start z)) e).client.outcome g) ≡ false
+still z es e g s = ap (λ (w : World). is_unsettled (w.client.outcome g)) (sym (run_more es e (start z))) ∙ ap is_unsettled (settled_stays z es (e ∷ []) g s) ∙ s
+
+always : (z : Settings) → Always (OfRun z)
+always z =
+    record {
+      step = λ w e h. record { events = h.events ++ e ∷ []; is = run_more h.events e (start z) ∙ ap (λ v. happens v e) h.is };
+      facts = λ w h. subst Facts h.is (facts_at z h.events);
+      stays = λ w e g h. subst (λ (v : World). is_unsettled (v.client.outcome g) ≡ false → is_unsettled ((happens v e).client.outcome g) ≡ false) h.is (still z h.events e g);
+      taken = λ w e n. (taken_on w e n).taken;
+      number = number_on;
+    }
+
+-- ---- scripts
+
+went_of : (z : Settings) → (c : Course) (e : Event) → OfRun z c.world → OfRun z (went c e).world
+unfolding went
+went_of z c e h = (always z).step c.world e h
+
+goes : (z : Settings) → (c : Course) (l : Line) → OfRun z c.world → OfRun z (go 256 c l).world
+unfolding go
+goes z c (Does e) h = went_of z c e h
+goes z c (Pushes k) h = (push_later (OfRun z) (always z) c k h).known
+goes z c (LinksLine k) h = (link_later (OfRun z) (always z) c k h).known
+goes z c Settles h = (settle_later (OfRun z) (always z) c (8 * (c.world.client.taken + 256 + 1)) h).known
+
+courses : (z : Settings) → (ls : List Line) (c : Course) → OfRun z c.world → OfRun z (course 256 ls c).world
+unfolding course
+courses z [] c h = h
+courses z (l ∷ ls) c h = courses z ls (go 256 c l) (goes z c l h)
+
+at_end : (ls : List Line) (c : Course) → course 256 (ls ++ Settles ∷ []) c ≡ go 256 (course 256 ls c) Settles
+unfolding course
+at_end [] c = refl
+at_end (l ∷ ls) c = at_end ls (go 256 c l)
+
+at_first : (z : Settings) → OfRun z (begun z).world
+unfolding run
+at_first z = record { events = []; is = refl }
+
+pub drain_suffices : DrainSuffices
+drain_suffices z ls k = (drains_all (OfRun z) (always z) (course_of z ls) k (courses z ls (begun z) (at_first z))).done
+
+pub link_suffices : LinkSuffices
+unfolding link
+link_suffices z ls k =
+    let c = course_of z ls in let v = went c (Open k) in (links_all (OfRun z) (always z) v k (went_of z c (Open k) (courses z ls (begun z) (at_first z)))).done
+
+pub settle_settles : SettleSettles
+settle_settles z ls present rising few =
+    let c = course_of z ls in let h = courses z ls (begun z) (at_first z) in let e = at_end ls (begun z) in
+    by (subst (λ (d : Course). Done d.world) (sym e) (settles (OfRun z) (always z) (record { present = λ w o. subst FindsSession o.is (present o.events); rise = λ w o. subst RisingIds o.is (rising o.events) }) c h))
+  where
+    by : Done (course_of z (ls ++ Settles ∷ [])).world → AllSettled (course_of z (ls ++ Settles ∷ [])).world.client
+    by (inl s) = s
+    by (inr n) = absurd (omega (arith, n, few))

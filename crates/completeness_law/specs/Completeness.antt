@@ -1,0 +1,45 @@
+-- What is said of schedules that end in settling, over all 256 channels.
+use Rattle.std.specs.Prelude.{◌≡◌, ◌≢◌, ℕ, ◌≤◌, ◌<◌, true, false, List, [], ◌∷◌, ◌++◌}
+use Rattle.exchange_defs.specs.Status.{user_session_deleted}
+use Rattle.exchange_defs.specs.Operations.{is_unsettled}
+use Rattle.exchange_defs.specs.Client.{Client, AskedTree}
+use Rattle.exchange_defs.specs.ClientStep.{last_number}
+use Rattle.exchange_defs.specs.Schedules.{Course, Line, Settles, course, drain, link, has_more, is_linking}
+use Rattle.exchange_defs.specs.Network.{World, Event, Sent, Settings, run, start, answer}
+
+abbrev pub begun : Settings → Course
+begun z = record { world = start z; events = [] }
+
+-- the course of a script
+abbrev pub course_of : Settings → List Line → Course
+course_of z ls = course 256 ls (begun z)
+
+-- ---- the bounds of the loops
+
+-- behind draining, an end of the channel is closed or nothing waits there
+abbrev pub DrainSuffices : Type 0
+DrainSuffices = (z : Settings) (ls : List Line) (k : ℕ) → has_more (drain 64 (course_of z ls) k).world k ≡ false
+
+-- behind linking, an end of the channel is closed or it is ready
+abbrev pub LinkSuffices : Type 0
+LinkSuffices = (z : Settings) (ls : List Line) (k : ℕ) → is_linking (link (course_of z ls) k).world k ≡ false
+
+-- ---- settling
+
+-- each operation that was taken is settled
+abbrev pub AllSettled : Client → Type 0
+AllSettled c = (g : ℕ) → 0 < g → g ≤ c.taken → is_unsettled (c.outcome g) ≡ false
+
+-- On a ready channel both of whose ends are open, the server finds the session of what it takes.
+abbrev pub FindsSession : World → Type 0
+FindsSession w = (k : ℕ) (x : Sent) (rest : List Sent) → w.client.ready k ≡ true → (w.conns k).client_open ≡ true → (w.conns k).server_open ≡ true → (w.conns k).up ≡ x ∷ rest → (answer w x).reply.status ≢ user_session_deleted
+
+-- The session that waits for its tree has an id above that of the one before it.
+abbrev pub RisingIds : World → Type 0
+RisingIds w = (k : ℕ) → w.client.stage k ≡ AskedTree → w.client.session < w.client.pending
+
+-- A schedule that ends in settling leaves no operation unsettled, where the client has counted fewer sessions than it can.
+abbrev pub SettleSettles : Type 0
+SettleSettles =
+    (z : Settings) (ls : List Line) → ((events : List Event) → FindsSession (run events (start z))) → ((events : List Event) → RisingIds (run events (start z))) → (course_of z (ls ++ Settles ∷ [])).world.client.number < last_number
+    → AllSettled (course_of z (ls ++ Settles ∷ [])).world.client
