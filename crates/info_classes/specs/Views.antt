@@ -1,6 +1,8 @@
 -- The classes that borrow a name, as the values that they stand for.
 use Rattle.wire_defs.specs.FileClasses.{FileRenameInformationValue, FileAllInformationValue}
 use Rattle.wire_defs.specs.VolumeClasses.{FileFsVolumeInformationValue, FileFsAttributeInformationValue}
+use Rattle.wire_defs.specs.Directory.{DirectoryEntryValue}
+use Rattle.info_classes.specs.declared.directory_entry.DirectoryEntry.{DirectoryEntry}
 use Rattle.info_classes.specs.declared.named.FileRenameInformation.{FileRenameInformation}
 use Rattle.info_classes.specs.declared.named.FileAllInformation.{FileAllInformation}
 use Rattle.info_classes.specs.declared.named.FileFsVolumeInformation.{FileFsVolumeInformation}
@@ -17,3 +19,6 @@ file_fs_volume_information v = record { volume_creation_time = v.volume_creation
 
 abbrev pub file_fs_attribute_information : FileFsAttributeInformation → FileFsAttributeInformationValue
 file_fs_attribute_information v = record { file_system_attributes = v.file_system_attributes; maximum_component_name_length = v.maximum_component_name_length; name = v.name.now }
+
+abbrev pub directory_entry : DirectoryEntry → DirectoryEntryValue
+directory_entry v = record { creation_time = v.creation_time; last_access_time = v.last_access_time; last_write_time = v.last_write_time; change_time = v.change_time; end_of_file = v.end_of_file; allocation_size = v.allocation_size; file_attributes = v.file_attributes; file_id = v.file_id; name = v.name.now }

@@ -3,6 +3,9 @@
 //! gives them.
 #![tactic(auto)]
 
+mod directory_entry;
+mod directory_reading;
+mod directory_writing;
 mod file_all_information;
 mod file_allocation_information;
 mod file_basic_information;
@@ -17,9 +20,13 @@ mod file_internal_information;
 mod file_network_open_information;
 mod file_rename_information;
 mod file_standard_information;
+mod listing;
 mod named;
 mod network_interface;
 
+pub use directory_entry::DirectoryEntry;
+pub use directory_reading::read_directory_entry;
+pub use directory_writing::{directory_entry_size, put_directory_entry};
 pub use file_all_information::{read_file_all_information, write_file_all_information};
 pub use file_allocation_information::{
     read_file_allocation_information, write_file_allocation_information,
@@ -54,12 +61,13 @@ pub use file_rename_information::{read_file_rename_information, write_file_renam
 pub use file_standard_information::{
     read_file_standard_information, write_file_standard_information,
 };
+pub use listing::{FirstEntry, ListingError, first_entry, read_listing};
 pub use named::{
     FileAllInformation, FileFsAttributeInformation, FileFsVolumeInformation, FileRenameInformation,
 };
 pub use network_interface::{read_network_interface, write_network_interface};
 pub use wire_defs::{
-    FileAllocationInformation, FileBasicInformation, FileDispositionInformation,
+    DirectoryClass, FileAllocationInformation, FileBasicInformation, FileDispositionInformation,
     FileEndOfFileInformation, FileFsDeviceInformation, FileFsFullSizeInformation,
     FileFsSizeInformation, FileInternalInformation, FileNetworkOpenInformation,
     FileStandardInformation, NetworkInterface,

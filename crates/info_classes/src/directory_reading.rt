@@ -1,0 +1,202 @@
+ghost use Rattle.wire_defs.specs.Fault.{Reads};
+ghost use Rattle.wire_defs.specs.Directory.{SpellsDirectoryEntry, directory_entry_fault};
+ghost use Rattle.wire_defs.specs.declared.directory_class.DirectoryClass.TheVariants as classes;
+ghost use Rattle.info_classes.specs.Views.{directory_entry};
+
+use crate::directory_entry::DirectoryEntry;
+use smb_bytes::Cursor;
+use smb_header::{MessageError, Part, part_of};
+use wire_defs::DirectoryClass;
+
+fn read_directory(m: &[u8]) -> Result<DirectoryEntry<'_>, MessageError>
+    ensures { Reads (directory_entry_fault classes.Directory m.now) (SpellsDirectoryEntry classes.Directory m.now) directory_entry result }
+{
+    let mut cursor = Cursor::new(m);
+    let _next = cursor.get_u32()?;
+    let _file_index = cursor.get_u32()?;
+    let creation_time = cursor.get_u64()?;
+    let last_access_time = cursor.get_u64()?;
+    let last_write_time = cursor.get_u64()?;
+    let change_time = cursor.get_u64()?;
+    let end_of_file = cursor.get_u64()?;
+    let allocation_size = cursor.get_u64()?;
+    let file_attributes = cursor.get_u32()?;
+    let name_len = cursor.get_u32()?;
+    let name = part_of(m, 64, name_len as usize, 64, Part::Name)?;
+    Ok(DirectoryEntry {
+        creation_time,
+        last_access_time,
+        last_write_time,
+        change_time,
+        end_of_file,
+        allocation_size,
+        file_attributes,
+        file_id: 0,
+        name,
+    })
+}
+
+fn read_full_directory(m: &[u8]) -> Result<DirectoryEntry<'_>, MessageError>
+    ensures { Reads (directory_entry_fault classes.FullDirectory m.now) (SpellsDirectoryEntry classes.FullDirectory m.now) directory_entry result }
+{
+    let mut cursor = Cursor::new(m);
+    let _next = cursor.get_u32()?;
+    let _file_index = cursor.get_u32()?;
+    let creation_time = cursor.get_u64()?;
+    let last_access_time = cursor.get_u64()?;
+    let last_write_time = cursor.get_u64()?;
+    let change_time = cursor.get_u64()?;
+    let end_of_file = cursor.get_u64()?;
+    let allocation_size = cursor.get_u64()?;
+    let file_attributes = cursor.get_u32()?;
+    let name_len = cursor.get_u32()?;
+    let _ea_size = cursor.get_u32()?;
+    let name = part_of(m, 68, name_len as usize, 68, Part::Name)?;
+    Ok(DirectoryEntry {
+        creation_time,
+        last_access_time,
+        last_write_time,
+        change_time,
+        end_of_file,
+        allocation_size,
+        file_attributes,
+        file_id: 0,
+        name,
+    })
+}
+
+fn read_both_directory(m: &[u8]) -> Result<DirectoryEntry<'_>, MessageError>
+    ensures { Reads (directory_entry_fault classes.BothDirectory m.now) (SpellsDirectoryEntry classes.BothDirectory m.now) directory_entry result }
+{
+    let mut cursor = Cursor::new(m);
+    let _next = cursor.get_u32()?;
+    let _file_index = cursor.get_u32()?;
+    let creation_time = cursor.get_u64()?;
+    let last_access_time = cursor.get_u64()?;
+    let last_write_time = cursor.get_u64()?;
+    let change_time = cursor.get_u64()?;
+    let end_of_file = cursor.get_u64()?;
+    let allocation_size = cursor.get_u64()?;
+    let file_attributes = cursor.get_u32()?;
+    let name_len = cursor.get_u32()?;
+    let _ea_size = cursor.get_u32()?;
+    let _short_name_length = cursor.get_u8()?;
+    let _reserved = cursor.get_u8()?;
+    let _short_name = cursor.take(24)?;
+    let name = part_of(m, 94, name_len as usize, 94, Part::Name)?;
+    Ok(DirectoryEntry {
+        creation_time,
+        last_access_time,
+        last_write_time,
+        change_time,
+        end_of_file,
+        allocation_size,
+        file_attributes,
+        file_id: 0,
+        name,
+    })
+}
+
+fn read_names(m: &[u8]) -> Result<DirectoryEntry<'_>, MessageError>
+    ensures { Reads (directory_entry_fault classes.Names m.now) (SpellsDirectoryEntry classes.Names m.now) directory_entry result }
+{
+    let mut cursor = Cursor::new(m);
+    let _next = cursor.get_u32()?;
+    let _file_index = cursor.get_u32()?;
+    let name_len = cursor.get_u32()?;
+    let name = part_of(m, 12, name_len as usize, 12, Part::Name)?;
+    Ok(DirectoryEntry {
+        creation_time: 0,
+        last_access_time: 0,
+        last_write_time: 0,
+        change_time: 0,
+        end_of_file: 0,
+        allocation_size: 0,
+        file_attributes: 0,
+        file_id: 0,
+        name,
+    })
+}
+
+fn read_id_both_directory(m: &[u8]) -> Result<DirectoryEntry<'_>, MessageError>
+    ensures { Reads (directory_entry_fault classes.IdBothDirectory m.now) (SpellsDirectoryEntry classes.IdBothDirectory m.now) directory_entry result }
+{
+    let mut cursor = Cursor::new(m);
+    let _next = cursor.get_u32()?;
+    let _file_index = cursor.get_u32()?;
+    let creation_time = cursor.get_u64()?;
+    let last_access_time = cursor.get_u64()?;
+    let last_write_time = cursor.get_u64()?;
+    let change_time = cursor.get_u64()?;
+    let end_of_file = cursor.get_u64()?;
+    let allocation_size = cursor.get_u64()?;
+    let file_attributes = cursor.get_u32()?;
+    let name_len = cursor.get_u32()?;
+    let _ea_size = cursor.get_u32()?;
+    let _short_name_length = cursor.get_u8()?;
+    let _reserved = cursor.get_u8()?;
+    let _short_name = cursor.take(24)?;
+    let _reserved_too = cursor.get_u16()?;
+    let file_id = cursor.get_u64()?;
+    let name = part_of(m, 104, name_len as usize, 104, Part::Name)?;
+    Ok(DirectoryEntry {
+        creation_time,
+        last_access_time,
+        last_write_time,
+        change_time,
+        end_of_file,
+        allocation_size,
+        file_attributes,
+        file_id,
+        name,
+    })
+}
+
+fn read_id_full_directory(m: &[u8]) -> Result<DirectoryEntry<'_>, MessageError>
+    ensures { Reads (directory_entry_fault classes.IdFullDirectory m.now) (SpellsDirectoryEntry classes.IdFullDirectory m.now) directory_entry result }
+{
+    let mut cursor = Cursor::new(m);
+    let _next = cursor.get_u32()?;
+    let _file_index = cursor.get_u32()?;
+    let creation_time = cursor.get_u64()?;
+    let last_access_time = cursor.get_u64()?;
+    let last_write_time = cursor.get_u64()?;
+    let change_time = cursor.get_u64()?;
+    let end_of_file = cursor.get_u64()?;
+    let allocation_size = cursor.get_u64()?;
+    let file_attributes = cursor.get_u32()?;
+    let name_len = cursor.get_u32()?;
+    let _ea_size = cursor.get_u32()?;
+    let _reserved = cursor.get_u32()?;
+    let file_id = cursor.get_u64()?;
+    let name = part_of(m, 80, name_len as usize, 80, Part::Name)?;
+    Ok(DirectoryEntry {
+        creation_time,
+        last_access_time,
+        last_write_time,
+        change_time,
+        end_of_file,
+        allocation_size,
+        file_attributes,
+        file_id,
+        name,
+    })
+}
+
+/// Reads the entry that `m` begins with, laid out by its class (MS-FSCC 2.4). What the class doesn't tell is
+/// 0. Where the next entry is, is passed over: `first_entry` tells it.
+pub fn read_directory_entry(
+    class: DirectoryClass,
+    m: &[u8],
+) -> Result<DirectoryEntry<'_>, MessageError>
+    ensures { Reads (directory_entry_fault class m.now) (SpellsDirectoryEntry class m.now) directory_entry result }
+{
+    match class {
+        DirectoryClass::Directory => read_directory(m),
+        DirectoryClass::FullDirectory => read_full_directory(m),
+        DirectoryClass::BothDirectory => read_both_directory(m),
+        DirectoryClass::Names => read_names(m),
+        DirectoryClass::IdBothDirectory => read_id_both_directory(m),
+        DirectoryClass::IdFullDirectory => read_id_full_directory(m),
+    }
+}
