@@ -52,13 +52,13 @@ abbrev pub second_token : Server → Message → SetupRequest → Shows → Verd
 second_token s m r Begins = Refuse invalid_parameter
 second_token s m r Bad = Refuse invalid_parameter
 second_token s m r Refused = Refuse logon_failure
-second_token s m r (Logon user key) = granted_session s m r user
+second_token s m r (Logon user) = granted_session s m r user
 
 abbrev pub first_token : Server → Shows → Verdict
 first_token s Begins = if nat_le max_ids s.begun then Refuse insufficient_resources else Challenge
 first_token s Bad = Refuse invalid_parameter
 first_token s Refused = Refuse invalid_parameter
-first_token s (Logon user key) = Refuse invalid_parameter
+first_token s (Logon user) = Refuse invalid_parameter
 
 abbrev pub session_check : Server → Message → SetupRequest → Verdict
 session_check s m r =
@@ -84,13 +84,13 @@ abbrev pub second_binding : Server → Message → Shows → Verdict
 second_binding s m Begins = ChallengeBinding m.session
 second_binding s m Bad = Refuse invalid_parameter
 second_binding s m Refused = Refuse logon_failure
-second_binding s m (Logon user key) = granted_binding s m user
+second_binding s m (Logon user) = granted_binding s m user
 
 abbrev pub first_binding : Message → Shows → Verdict
 first_binding m Begins = ChallengeBinding m.session
 first_binding m Bad = Refuse invalid_parameter
 first_binding m Refused = Refuse invalid_parameter
-first_binding m (Logon user key) = Refuse invalid_parameter
+first_binding m (Logon user) = Refuse invalid_parameter
 
 abbrev pub binding_token : Server → Message → SetupRequest → Verdict
 binding_token s m r = if is_binding m.session (s.making m.connection) then second_binding s m r.shows else first_binding m r.shows

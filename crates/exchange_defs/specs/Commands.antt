@@ -1,6 +1,8 @@
 -- Commands as values: what a request asks, whoever sent it (MS-SMB2 2.2).
 use Rattle.std.specs.Prelude.{ℕ, ◌+◌, ◌/◌, ◌%◌, ◌==◌, nat_lt, Bool, true, false, not, ◌&&◌, ◌||◌, if◌then◌else◌, List, [], ◌∷◌, length, Option, Some, None}
 use Rattle.exchange_defs.specs.Status.{invalid_parameter, object_name_invalid}
+use Rattle.exchange_defs.specs.declared.values.Basic as basic_value
+use Rattle.exchange_defs.specs.declared.values.Element as element_value
 use Rattle.exchange_defs.specs.Texts.{is_path, begins_with_backslash}
 
 -- whether the number has this bit, a power of two
@@ -48,7 +50,7 @@ pub data Shows : Type 0 where
   Begins : Shows  -- a first token that names NTLM
   Bad : Shows  -- a token that doesn't read as the due one
   Refused : Shows  -- a logon that is refused
-  Logon : (user : List ℕ) (key : ℕ) → Shows  -- a logon of this user, with its exported key
+  Logon : (user : List ℕ) → Shows  -- a logon of this user; its exported key, fresh in each dialog, stays with the level of bytes
 
 pub record SetupRequest : Type 0 where
   pub readable : Bool  -- its body reads
@@ -62,10 +64,9 @@ pub record SetupRequest : Type 0 where
 
 -- ---- LOCK (2.2.26)
 
-pub record Element : Type 0 where
-  pub at : ℕ
-  pub length : ℕ
-  pub flags : ℕ  -- shared 1, exclusive 2, unlock 4, at once 0x10
+-- flags: shared 1, exclusive 2, unlock 4, at once 0x10
+abbrev pub Element : Type 0
+Element = element_value.Element
 
 abbrev pub locks : ℕ → Bool
 locks flags = (flags == 0x1) || ((flags == 0x2) || ((flags == 0x11) || (flags == 0x12)))
@@ -84,12 +85,8 @@ all_unlock (e ∷ es) = (e.flags == 0x4) && all_unlock es
 -- ---- SET_INFO (2.2.39) of the file classes 4, 10, 13, 19 and 20
 
 -- times in 100 nanoseconds since 1601 (MS-FSCC 2.4.7)
-pub record Basic : Type 0 where
-  pub created : ℕ
-  pub accessed : ℕ
-  pub written : ℕ
-  pub changed : ℕ
-  pub attributes : ℕ
+abbrev pub Basic : Type 0
+Basic = basic_value.Basic
 
 pub data Setting : Type 0 where
   SetBasic : (basic : Basic) → Setting

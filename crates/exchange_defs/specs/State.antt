@@ -1,6 +1,10 @@
 -- The server's state, what it hears and what it answers.
 use Rattle.std.specs.Prelude.{ℕ, ◌-◌, Bool, List, Option}
 use Rattle.exchange_defs.specs.Commands.{Command, Basic, Element}
+use Rattle.exchange_defs.specs.declared.values.Range as range_value
+use Rattle.exchange_defs.specs.declared.values.Kept as kept_value
+use Rattle.exchange_defs.specs.declared.values.Tree as tree_value
+use Rattle.exchange_defs.specs.declared.values.Origin as origin_value
 
 -- times are counted in 64 bits, in steps of 100 nanoseconds; at the last one they stand still
 abbrev pub last_moment : ℕ
@@ -30,20 +34,16 @@ pub record Open : Type 0 where
   pub user : List ℕ
   pub timeout : ℕ  -- in milliseconds
 
-pub record Range : Type 0 where
-  pub owner : ℕ
-  pub at : ℕ
-  pub length : ℕ
-  pub exclusive : Bool
+-- a range that an open locks
+abbrev pub Range : Type 0
+Range = range_value.Range
 
 -- what a lock slot keeps: the number of the last request and its answer
-pub record Kept : Type 0 where
-  pub number : ℕ
-  pub status : ℕ
+abbrev pub Kept : Type 0
+Kept = kept_value.Kept
 
-pub record Tree : Type 0 where
-  pub id : ℕ
-  pub pipes : Bool
+abbrev pub Tree : Type 0
+Tree = tree_value.Tree
 
 -- what is in the making on a connection: a session of a new id, or a binding to a session
 pub data Making : Type 0 where
@@ -171,10 +171,8 @@ pub record Reply : Type 0 where
 
 -- ---- journal records
 
-pub record Origin : Type 0 where
-  pub session : ℕ
-  pub connection : ℕ
-  pub message : ℕ
+abbrev pub Origin : Type 0
+Origin = origin_value.Origin
 
 pub record NewOpen : Type 0 where
   pub id : ℕ

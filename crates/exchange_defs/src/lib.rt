@@ -3,3 +3,5 @@
 //! Commands are values and not bytes, and connections are lists. The model says what the server, the client
 //! and the network between them do at each event, and what the once theorem states about every run.
 #![tactic(auto)]
+
+pub mod values;

@@ -1,6 +1,5 @@
 -- Scripts of the worked examples, and what is told of the worlds that they come to.
-use Rattle.std.specs.Prelude.{ℕ, zero, suc, ◌+◌, Bool, true, false, if◌then◌else◌, List, [], ◌∷◌, Some, is_some}
-use Rattle.exchange_defs.specs.Texts.{name_before}
+use Rattle.std.specs.Prelude.{ℕ, zero, suc, ◌+◌, Bool, true, false, if◌then◌else◌, List, [], ◌∷◌, Some, is_some, ◌==◌, nat_lt}
 use Rattle.exchange_defs.specs.Order.{order_of}
 use Rattle.exchange_defs.specs.Operations.{HadStatus, Op, OpCreate, OpWrite, OpRead, OpEnd, OpTime, OpRename, OpRemove, OpLock, OpUnlock, OpStat, OpList, OpClose, Outcome}
 use Rattle.exchange_defs.specs.Client.{Identity, last_sequence}
@@ -15,7 +14,7 @@ somebody logon = record { guid = 7; salt = 3; logon = logon; share = 100 ∷ [];
 
 -- a share with so much room
 abbrev pub settings : ℕ → Settings
-settings room = record { who = somebody (Logon (117 ∷ []) 1); share = 100 ∷ []; room = room; seals = true; address = record { ip = 2130706433; port = 445 } }
+settings room = record { who = somebody (Logon (117 ∷ [])); share = 100 ∷ []; room = room; seals = true; address = record { ip = 2130706433; port = 445 } }
 
 abbrev pub beginning : ℕ → Course
 beginning room = record { world = start (settings room); events = [] }
@@ -56,9 +55,15 @@ pub record FileLine : Type 0 where
   pub path : List ℕ
   pub bytes : List ℕ
 
+-- byte order
+abbrev pub bytes_before : List ℕ → List ℕ → Bool
+bytes_before xs [] = false
+bytes_before [] (y ∷ ys) = true
+bytes_before (x ∷ xs) (y ∷ ys) = if x == y then bytes_before xs ys else nat_lt x y
+
 abbrev pub place_line : FileLine → List FileLine → List FileLine
 place_line l [] = l ∷ []
-place_line l (m ∷ ms) = if name_before l.path m.path then l ∷ m ∷ ms else m ∷ place_line l ms
+place_line l (m ∷ ms) = if bytes_before l.path m.path then l ∷ m ∷ ms else m ∷ place_line l ms
 
 abbrev pub lines_from : Server → List Entry → List FileLine
 lines_from s [] = []
@@ -519,3 +524,7 @@ abbrev pub repeated_on_a_directory : Op → List Line
 repeated_on_a_directory op =
     Links 0 ∷ Links 1 ∷ submit 1 (OpCreate (100 ∷ []) 0x10183 0 2 false true) ∷ Pushes 0 ∷ Does (Serve 0) ∷ Does (Take 0) ∷ submit 2 op ∷
     Pushes 0 ∷ Does (Serve 0) ∷ Does (Cut 0) ∷ Pushes 1 ∷ Does (Serve 1) ∷ Does (Take 1) ∷ []
+
+-- Two files whose names stand in another order by bytes than by upper case.
+abbrev pub files_by_bytes : List Line
+files_by_bytes = submit 1 (OpCreate (97 ∷ []) 0x183 0 2 false false) ∷ submit 2 (OpCreate (66 ∷ []) 0x183 0 2 false false) ∷ Settles ∷ []

@@ -51,7 +51,7 @@ binding signed = Setup (record { readable = true; binding = true; signed = signe
 
 -- the second request of a binding to the session, on connection 1
 abbrev pub binding_logon : ServerEvent
-binding_logon = Heard (from_client 1 7 10 0 false (Setup (record { readable = true; binding = true; signed = true; verified = true; previous = 0; cipher = 2; signing = 1; shows = Logon (117 ∷ []) 1 })))
+binding_logon = Heard (from_client 1 7 10 0 false (Setup (record { readable = true; binding = true; signed = true; verified = true; previous = 0; cipher = 2; signing = 1; shows = Logon (117 ∷ []) })))
 
 abbrev pub make : ℕ → ℕ → ℕ → ℕ → Option Durable → Command
 make access share disposition options durable =
@@ -86,7 +86,7 @@ abbrev pub in_second : ℕ → ℕ → Bool → Command → ServerEvent
 in_second id tree replay command = Heard (record { connection = 1; client = 7; session = id; tree = tree; id = 9; sequence = 0; replay = replay; fault = None; command = command })
 
 abbrev pub second_session : Server
-second_session = after_all one_session 50 (Accept 1 ∷ in_second 0 0 false (setup Begins) ∷ in_second second_id 0 false (setup (Logon (117 ∷ []) 1)) ∷ in_second second_id 0 false (TreeConnect (100 ∷ [])) ∷ [])
+second_session = after_all one_session 50 (Accept 1 ∷ in_second 0 0 false (setup Begins) ∷ in_second second_id 0 false (setup (Logon (117 ∷ []))) ∷ in_second second_id 0 false (TreeConnect (100 ∷ [])) ∷ [])
 
 abbrev pub ask_second : Bool → Command → ServerEvent
 ask_second replay command = in_second second_id 1 replay command

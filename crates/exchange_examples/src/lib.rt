@@ -17,7 +17,7 @@ ghost use Rattle.exchange_defs.specs.Schedules.{course, Does, Links, Pushes, Set
 ghost use Rattle.exchange_defs.specs.Network.{Cut, Drop, Open, Restart, Wait, Finish, start};
 ghost use Rattle.exchange_examples.specs.Servers.{one_session, session, from_client, ask, after_all, status_after, body_after, records_after, files_after, binding, binding_logon, setup, in_second, second_id, make, by_guid, lock_of, made_info, first_open, second_open, with_full_journal, with_all_marks, second_session, ask_second, reconnect, journal_stands, again, on_pipes, with_next_tree, on_disk, epoch_on, version_on, first_version_disk};
 ghost use Rattle.exchange_examples.specs.Laws.{laws_hold};
-ghost use Rattle.exchange_examples.specs.Scripts.{beginning, settings, stranger, worn_out, submit, settled_in, told, note, acted_on, id_told, retried_create, retried_create_until_note, kept_refusal, kept_refusal_until_note, replaced_session, replaced_session_until_note, room_counted_once, room_counted_once_until_note, held_back_write, held_back_write_until_note, held_back_write_until_last, restart_persistent, crash_lost, crash_kept, restart_plain, all_slots_retried, shared_readers, denied_writer, delayed_reconnect, delayed_reconnect_until_note, delayed_reconnect_until_last, expired_open, open_before_expiry, expired_create, first_steps, end_of_file, gaps_are_zeros, listed_names, renamed_and_removed, denied_remover, retry_after_act, retried_close, held_back_end, held_back_end_until_note, refusal_adopts, refusal_adopts_until_note, restart_keeps_locks, restart_keeps_refused_locks, attached_again, plain_open_lost, later_write_waits, retried_overwrite, retried_overwrite_until_note, slot_not_used_again, slot_not_used_again_until_note, retried_rename, retried_rename_until_note, given_up_slots, repeated_behind_a_lock, repeated_on_a_directory, moment_behind, linked_at, taken_of, listings_unheard, listings_heard, listing_asks, is_out_behind, purse_behind};
+ghost use Rattle.exchange_examples.specs.Scripts.{beginning, settings, stranger, worn_out, submit, settled_in, told, note, acted_on, id_told, retried_create, retried_create_until_note, kept_refusal, kept_refusal_until_note, replaced_session, replaced_session_until_note, room_counted_once, room_counted_once_until_note, held_back_write, held_back_write_until_note, held_back_write_until_last, restart_persistent, crash_lost, crash_kept, restart_plain, all_slots_retried, shared_readers, denied_writer, delayed_reconnect, delayed_reconnect_until_note, delayed_reconnect_until_last, expired_open, open_before_expiry, expired_create, first_steps, end_of_file, gaps_are_zeros, listed_names, renamed_and_removed, denied_remover, retry_after_act, retried_close, held_back_end, held_back_end_until_note, refusal_adopts, refusal_adopts_until_note, restart_keeps_locks, restart_keeps_refused_locks, attached_again, plain_open_lost, later_write_waits, retried_overwrite, retried_overwrite_until_note, slot_not_used_again, slot_not_used_again_until_note, retried_rename, retried_rename_until_note, given_up_slots, files_by_bytes, repeated_behind_a_lock, repeated_on_a_directory, moment_behind, linked_at, taken_of, listings_unheard, listings_heard, listing_asks, is_out_behind, purse_behind};
 
 /// A create is retried on a second channel, its open is closed, and the delayed first copy finds its guid: it acts once.
 pub fn retried_create_example()
@@ -258,6 +258,11 @@ pub fn retried_rename_example()
     ensures note { note 2 268435456 retried_rename_until_note 1 ≡ record { status = 0x00000000; acted = false } }
 {}
 
+/// The files are told in byte order of their paths: B stands before a.
+pub fn files_by_bytes_example()
+    ensures told { told 1 268435456 files_by_bytes ≡ record { settled = WasOk (Action 2) ∷ WasOk (Action 2) ∷ []; printed = [] ∷ [] ∷ []; stored = record { path = (66 ∷ []); bytes = [] } ∷ record { path = (97 ∷ []); bytes = [] } ∷ [] } }
+{}
+
 /// A write acted and is unheard, a shared lock comes over its range, and its second copy is told that it is done.
 pub fn repeated_behind_a_lock_example()
     ensures told { told 2 268435456 repeated_behind_a_lock ≡ record { settled = WasOk (Action 2) ∷ WasOk (Wrote 1) ∷ WasOk IsDone ∷ []; printed = (2 ∷ []) ∷ []; stored = record { path = (97 ∷ []); bytes = (97 ∷ []) } ∷ [] } }
@@ -468,7 +473,7 @@ pub fn what_a_gone_open_leaves_example()
 pub fn told_by_successes_example()
     ensures pipes { body_after one_session [] (ask (TreeConnect pipes_name)) ≡ Connected 2 0 2032127 }
     ensures disk { body_after one_session [] (ask (TreeConnect (100 ∷ []))) ≡ Connected 1 16 2032127 }
-    ensures session { body_after one_session (Accept 1 ∷ in_second 0 0 false (setup Begins) ∷ []) (in_second second_id 0 false (setup (Logon (117 ∷ []) 1))) ≡ SetUp true 1 }
+    ensures session { body_after one_session (Accept 1 ∷ in_second 0 0 false (setup Begins) ∷ []) (in_second second_id 0 false (setup (Logon (117 ∷ [])))) ≡ SetUp true 1 }
     ensures channel { body_after one_session (Accept 1 ∷ Heard (from_client 1 7 9 0 false (binding true)) ∷ []) binding_logon ≡ SetUp true 2 }
     ensures volume { body_after one_session (ask (make 0x183 7 2 0x40 (by_guid 5 true)) ∷ ask (Write first_open 3 (1 ∷ 2 ∷ []) 0) ∷ []) (ask (QueryVolume first_open 7 32)) ≡ VolumeInfo 7 268435456 5 }
     ensures file { body_after one_session (ask (make 0x10183 7 2 0x1040 None) ∷ []) (ask (QueryFile first_open 18 104)) ≡ FileInfo 18 (97 ∷ []) (made_info false 100) 0x10183 0x1040 }

@@ -34,13 +34,13 @@ second_calm : (s : Server) (m : Message) (r : SetupRequest) (t : Shows) → Calm
 second_calm s m r Begins = record { calm = refl }
 second_calm s m r Bad = record { calm = refl }
 second_calm s m r Refused = record { calm = refl }
-second_calm s m r (Logon user key) = granted_calm s m r user
+second_calm s m r (Logon user) = granted_calm s m r user
 
 first_calm : (s : Server) (t : Shows) → Calm (first_token s t)
 first_calm s Begins = either Calm (nat_le max_ids s.begun) _ _ (λ _. record { calm = refl }) (λ _. record { calm = refl })
 first_calm s Bad = record { calm = refl }
 first_calm s Refused = record { calm = refl }
-first_calm s (Logon user key) = record { calm = refl }
+first_calm s (Logon user) = record { calm = refl }
 
 session_calm : (s : Server) (m : Message) (r : SetupRequest) → Calm (session_check s m r)
 session_calm s m r =
@@ -56,13 +56,13 @@ second_binding_calm : (s : Server) (m : Message) (t : Shows) → Calm (second_bi
 second_binding_calm s m Begins = record { calm = refl }
 second_binding_calm s m Bad = record { calm = refl }
 second_binding_calm s m Refused = record { calm = refl }
-second_binding_calm s m (Logon user key) = bound_calm s m user
+second_binding_calm s m (Logon user) = bound_calm s m user
 
 first_binding_calm : (m : Message) (t : Shows) → Calm (first_binding m t)
 first_binding_calm m Begins = record { calm = refl }
 first_binding_calm m Bad = record { calm = refl }
 first_binding_calm m Refused = record { calm = refl }
-first_binding_calm m (Logon user key) = record { calm = refl }
+first_binding_calm m (Logon user) = record { calm = refl }
 
 live_binding_calm : (s : Server) (m : Message) (r : SetupRequest) → Calm (live_binding s m r)
 live_binding_calm s m r =

@@ -193,13 +193,13 @@ second_sound : (s : Server) (m : Message) (r : SetupRequest) (t : Shows) → is_
 second_sound s m r Begins e = record { is = tt }
 second_sound s m r Bad e = record { is = tt }
 second_sound s m r Refused e = record { is = tt }
-second_sound s m r (Logon user key) e = granted_sound s m r user e
+second_sound s m r (Logon user) e = granted_sound s m r user e
 
 first_sound : (s : Server) (m : Message) (t : Shows) → Sound s m (first_token s t)
 first_sound s m Begins = either (Sound s m) (nat_le max_ids s.begun) _ _ (λ _. record { is = tt }) (λ _. record { is = tt })
 first_sound s m Bad = record { is = tt }
 first_sound s m Refused = record { is = tt }
-first_sound s m (Logon user key) = record { is = tt }
+first_sound s m (Logon user) = record { is = tt }
 
 session_sound : (s : Server) (m : Message) (r : SetupRequest) → Sound s m (session_check s m r)
 session_sound s m r =
@@ -210,13 +210,13 @@ second_binding_sound : (s : Server) (m : Message) (t : Shows) → Sound s m (sec
 second_binding_sound s m Begins = record { is = tt }
 second_binding_sound s m Bad = record { is = tt }
 second_binding_sound s m Refused = record { is = tt }
-second_binding_sound s m (Logon user key) = either (Sound s m) (not (same_name user (s.user m.session))) _ _ (λ _. record { is = tt }) (λ _. either (Sound s m) (nat_le max_channels (count_channels s.on s.connections m.session)) _ _ (λ _. record { is = tt }) (λ _. either (Sound s m) (nat_le max_numbers (s.drawn m.session)) _ _ (λ _. record { is = tt }) (λ _. record { is = tt })))
+second_binding_sound s m (Logon user) = either (Sound s m) (not (same_name user (s.user m.session))) _ _ (λ _. record { is = tt }) (λ _. either (Sound s m) (nat_le max_channels (count_channels s.on s.connections m.session)) _ _ (λ _. record { is = tt }) (λ _. either (Sound s m) (nat_le max_numbers (s.drawn m.session)) _ _ (λ _. record { is = tt }) (λ _. record { is = tt })))
 
 first_binding_sound : (s : Server) (m : Message) (t : Shows) → Sound s m (first_binding m t)
 first_binding_sound s m Begins = record { is = tt }
 first_binding_sound s m Bad = record { is = tt }
 first_binding_sound s m Refused = record { is = tt }
-first_binding_sound s m (Logon user key) = record { is = tt }
+first_binding_sound s m (Logon user) = record { is = tt }
 
 binding_token_sound : (s : Server) (m : Message) (r : SetupRequest) → Sound s m (binding_token s m r)
 binding_token_sound s m r = either (Sound s m) (is_binding m.session (s.making m.connection)) _ _ (λ _. second_binding_sound s m r.shows) (λ _. first_binding_sound s m r.shows)

@@ -406,19 +406,19 @@ free_ioctl_facts s m code room f = either (λ v. Facts s m v) (ioctl_status code
 
 -- ---- SESSION_SETUP
 
-granted_facts : (s : Server) (m : Message) (r : SetupRequest) (user : List ℕ) (key : ℕ) → m.command ≡ Setup r → r.shows ≡ Logon user key → s.present m.session ≡ false → s.making m.connection ≡ Some (NewSession m.session)
+granted_facts : (s : Server) (m : Message) (r : SetupRequest) (user : List ℕ) → m.command ≡ Setup r → r.shows ≡ Logon user → s.present m.session ≡ false → s.making m.connection ≡ Some (NewSession m.session)
     → Facts s m (granted_session s m r user)
-granted_facts s m r user key c shows absent making =
+granted_facts s m r user c shows absent making =
     either (λ v. Facts s m v) (s.seals && (r.cipher == 0)) _ _ (λ _. tt)
     (λ _. either (λ v. Facts s m v) (nat_le max_sessions s.sessions) _ _ (λ _. tt)
-    (λ _. record { command = c; key = key; shows = shows; session_is = refl; absent = absent; making = making; previous_is = refl }))
+    (λ _. record { command = c; shows = shows; session_is = refl; absent = absent; making = making; previous_is = refl }))
 
 second_facts : (s : Server) (m : Message) (r : SetupRequest) → m.command ≡ Setup r → s.present m.session ≡ false → s.making m.connection ≡ Some (NewSession m.session)
     → (h : Shows) → r.shows ≡ h → Facts s m (second_token s m r h)
 second_facts s m r c absent making Begins e = tt
 second_facts s m r c absent making Bad e = tt
 second_facts s m r c absent making Refused e = tt
-second_facts s m r c absent making (Logon user key) e = granted_facts s m r user key c e absent making
+second_facts s m r c absent making (Logon user) e = granted_facts s m r user c e absent making
 
 below_of : (a b : ℕ) → nat_le b a ≡ false → a < b
 below_of a b e = grind (arith, nat_tests)
@@ -428,7 +428,7 @@ first_facts s m r c new off Begins =
     either (λ v. Facts s m v) (nat_le max_ids s.begun) _ _ (λ _. tt) (λ b. record { request = r; command = c; new = new; off = off; begun = below_of s.begun max_ids b })
 first_facts s m r c new off Bad = tt
 first_facts s m r c new off Refused = tt
-first_facts s m r c new off (Logon user key) = tt
+first_facts s m r c new off (Logon user) = tt
 
 new_of : (x : ℕ) (u : Option Making) → is_new x u ≡ true → u ≡ Some (NewSession x)
 new_of x None e = absurd (cc)
@@ -453,13 +453,13 @@ second_binding_facts : (s : Server) (m : Message) → BindingFacts s m m.session
 second_binding_facts s m b i Begins = b
 second_binding_facts s m b i Bad = tt
 second_binding_facts s m b i Refused = tt
-second_binding_facts s m b i (Logon user key) = join_facts s m user b i
+second_binding_facts s m b i (Logon user) = join_facts s m user b i
 
 first_binding_facts : (s : Server) (m : Message) → BindingFacts s m m.session → (h : Shows) → Facts s m (first_binding m h)
 first_binding_facts s m b Begins = b
 first_binding_facts s m b Bad = tt
 first_binding_facts s m b Refused = tt
-first_binding_facts s m b (Logon user key) = tt
+first_binding_facts s m b (Logon user) = tt
 
 binding_facts : (s : Server) (m : Message) (r : SetupRequest) → m.command ≡ Setup r → r.binding ≡ true → Facts s m (binding_check s m r)
 binding_facts s m r c k =

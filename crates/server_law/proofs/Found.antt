@@ -208,8 +208,7 @@ pub record BindingFacts (s : Server) (m : Message) (session : ℕ) : Type 0 wher
 -- a session begins where its id is in the making on this connection
 pub record BeginFacts (s : Server) (m : Message) (session : ℕ) (user : List ℕ) (previous : Option ℕ) (r : SetupRequest) : Type 0 where
   pub command : m.command ≡ Setup r
-  pub key : ℕ
-  pub shows : r.shows ≡ Logon user key
+  pub shows : r.shows ≡ Logon user
   pub session_is : session ≡ m.session
   pub absent : s.present m.session ≡ false
   pub making : s.making m.connection ≡ Some (NewSession m.session)

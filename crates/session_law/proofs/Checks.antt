@@ -59,8 +59,8 @@ Found s m DropTree = m.command ≡ TreeDisconnect
 abbrev Asked : Message → SetupRequest → Type 0
 Asked m r = m.command ≡ Setup r × r.binding ≡ false
 
-granted : (s : Server) (m : Message) (r : SetupRequest) (user : List ℕ) (key : ℕ) → Asked m r → s.present m.session ≡ false → is_new m.session (s.making m.connection) ≡ true → r.shows ≡ Logon user key → Found s m (granted_session s m r user)
-granted s m r user key q apart made shows =
+granted : (s : Server) (m : Message) (r : SetupRequest) (user : List ℕ) → Asked m r → s.present m.session ≡ false → is_new m.session (s.making m.connection) ≡ true → r.shows ≡ Logon user → Found s m (granted_session s m r user)
+granted s m r user q apart made shows =
     let P : Verdict → Type 0 = λ v. Found s m v in
     either P (s.seals && (r.cipher == 0)) _ _ (λ _ a f. (refl, refl))
     (λ _. either P (nat_le max_sessions s.sessions) _ _ (λ _ a f. (refl, refl))
@@ -70,7 +70,7 @@ second : (s : Server) (m : Message) (r : SetupRequest) → Asked m r → s.prese
 second s m r q apart made Begins e = λ a f. (refl, refl)
 second s m r q apart made Bad e = λ a f. (refl, refl)
 second s m r q apart made Refused e = λ a f. (refl, refl)
-second s m r q apart made (Logon user key) e = granted s m r user key q apart made e
+second s m r q apart made (Logon user) e = granted s m r user q apart made e
 
 asks_new : (m : Message) (r : SetupRequest) → Asked m r → is_new_setup m.command ≡ true
 unfolding is_new_setup
@@ -80,7 +80,7 @@ first : (s : Server) (m : Message) (r : SetupRequest) → Asked m r → (shows :
 first s m r q Begins = either (λ v. Found s m v) (nat_le max_ids s.begun) (Refuse insufficient_resources) Challenge (λ _ a f. (refl, refl)) (λ _. asks_new m r q)
 first s m r q Bad = λ a f. (refl, refl)
 first s m r q Refused = λ a f. (refl, refl)
-first s m r q (Logon user key) = λ a f. (refl, refl)
+first s m r q (Logon user) = λ a f. (refl, refl)
 
 new_session : (s : Server) (m : Message) (r : SetupRequest) → Asked m r → Found s m (session_check s m r)
 new_session s m r q =

@@ -29,13 +29,13 @@ abbrev pub logon_user : Shows → List ℕ
 logon_user Begins = []
 logon_user Bad = []
 logon_user Refused = []
-logon_user (Logon user key) = user
+logon_user (Logon user) = user
 
 abbrev pub is_logon : Shows → Bool
 is_logon Begins = false
 is_logon Bad = false
 is_logon Refused = false
-is_logon (Logon user key) = true
+is_logon (Logon user) = true
 
 -- ---- words on commands, closed so that a proof doesn't go through the kinds of commands
 
