@@ -19,6 +19,7 @@ mod offer;
 mod read;
 mod session_setup;
 mod table;
+mod text;
 mod tree_connect;
 mod write;
 
@@ -38,5 +39,6 @@ pub use offer::offer_law;
 pub use read::{read_request_law, read_response_law};
 pub use session_setup::{session_setup_request_law, session_setup_response_law};
 pub use table::{number_law, part_law, table_law};
+pub use text::text_law;
 pub use tree_connect::{tree_connect_request_law, tree_connect_response_law};
 pub use write::{write_request_law, write_response_law};
