@@ -1,5 +1,10 @@
-# The small steps of law_contents.py: the name, what it is, the columns that it changes, its arguments, what it needs, and
-# the parts whose proof needs more than the rule.
+"""The small steps of law_contents.py: the name, what it is, the columns that it changes, its arguments, what it needs,
+and the parts whose proof needs more than the rule."""
+import re
+
+from law_contents_parts import PARTS, SPEC, Event
+from law_text import type_name
+
 WORDS = ["ops_of", "attach_of", "put_other", "put_self", "apart_new", "below_new", "outcomes_back", "outcomes_on", "left_lost", "left_firm", "left_on", "left_was", "finished_was", "still_gone", "unput", "some_of", "sent_of", "begun_was", "live_pends", "firm_settled", "ok_settled", "edits_other", "sent_up", "or_else", "may_act", "sent_down"]
 
 G = "grind (arith, get-push)"
