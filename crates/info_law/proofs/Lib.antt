@@ -2,3 +2,5 @@ pub mod Chains
 pub mod OneContext
 pub mod ContextChain
 pub mod Gathered
+pub mod OneEntry
+pub mod EntryChain

@@ -3,6 +3,7 @@
 #![tactic(auto)]
 
 mod create_context;
+mod directory;
 mod file_class;
 mod interface;
 mod ioctl;
@@ -12,6 +13,7 @@ mod set_info;
 mod volume_class;
 
 pub use create_context::{create_context_law, create_contexts_law, reply_contexts_law};
+pub use directory::{directory_entry_law, listing_law};
 pub use file_class::{
     file_all_information_law, file_allocation_information_law, file_basic_information_law,
     file_disposition_information_law, file_end_of_file_information_law,
