@@ -342,6 +342,27 @@ def token_breaks(table, one, first):
 # ---- chain, keys, signatures
 
 
+def choices(table):
+    table.title(
+        "the choice of a server (MS-SMB2 3.3.5.4): whether there is a preauthentication context with SHA-512, ciphers, algorithms"
+    )
+    for preauth, sha512, ciphers, signings, answer in (
+        ("yes", "yes", "2,1,4,3", "1,2", (2, 1, True)),
+        ("yes", "yes", "4,2", "2,1", (4, 2, True)),
+        ("yes", "yes", "-", "-", (0, 1, False)),
+        ("yes", "yes", "9,3", "0", (3, 1, False)),
+        ("yes", "yes", "5,6", "-", (0, 1, False)),
+        ("yes", "yes", "0,65535,1,2", "7,2", (1, 2, True)),
+        ("yes", "yes", "2,1,4,3", "2,1,0", (2, 2, True)),
+        ("yes", "no", "2", "1", "NoHash"),
+        ("no", "no", "2", "1", "NoPreauth"),
+        ("no", "yes", "-", "-", "NoPreauth"),
+    ):
+        if not isinstance(answer, str):
+            answer = Shown("Chosen", cipher=answer[0], signing=answer[1], signing_told=answer[2])
+        table.row(f"choice {preauth} {sha512} {ciphers} {signings}", answer)
+
+
 def chains(table):
     table.title("the preauthentication chain (MS-SMB2 3.1.4.4.1)")
     five = [said(f"{count}*{first}") for count, first in ((190, 1), (250, 2), (150, 3), (220, 4), (333, 5))]
@@ -459,6 +480,7 @@ def main():
     token_messages(table)
     logons(table)
     tokens(table)
+    choices(table)
     chains(table)
     derivations(table)
     signatures(table)

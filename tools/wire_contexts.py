@@ -183,8 +183,8 @@ def usual_contexts():
     )
 
 
-def offer_row(table, contexts, ciphers, signings, chosen, hashes=True, **form):
-    """Contexts that read as an offer, the offer as it is written with a salt of 32 bytes 5a, and the choice."""
+def offer_row(table, contexts, ciphers, signings, hashes=True, **form):
+    """Contexts that read as an offer, the offer as it is written with a salt of 32 bytes 5a."""
     words = f"sha512 {shown(hashes)} preauth true ciphers {shown(ciphers)} signings {shown(signings)}"
     written = (
         [(1, hash_data([1], b"\x5a" * 32))]
@@ -194,7 +194,7 @@ def offer_row(table, contexts, ciphers, signings, chosen, hashes=True, **form):
     lines = [f"contexts: {words}"]
     if hashes:
         lines.append(f"  {negotiate_contexts(written).hex()}")
-    table.row(f"contexts {len(contexts)} {negotiate_contexts(contexts, **form).hex()}", *lines, f"  {chosen}")
+    table.row(f"contexts {len(contexts)} {negotiate_contexts(contexts, **form).hex()}", *lines)
 
 
 def context_refusals(table):
@@ -218,32 +218,22 @@ def context_refusals(table):
 
 
 def negotiate_context_rows(table):
-    table.title("negotiate contexts (2.2.3.1): what they offer, its canonical spelling, and the choice")
+    table.title("negotiate contexts (2.2.3.1): what they offer, and its canonical spelling")
     salted = (1, hash_data([1], bytes(range(32))))
-    chosen = "Chosen {{ cipher: {}, signing: {}, signing_told: {} }}".format
-    offer_row(table, [salted, (2, ids_data([2, 1, 4, 3])), (8, ids_data([1, 2]))], [2, 1, 4, 3], [1, 2], chosen(2, 1, "true"))
-    offer_row(table, [(8, ids_data([2, 1])), (2, ids_data([4, 2])), salted], [4, 2], [2, 1], chosen(4, 2, "true"))
-    offer_row(table, [salted], [], [], chosen(0, 1, "false"), reserved=0x01020304)
-    offer_row(table, [salted, (2, ids_data([9, 3])), (8, ids_data([0]))], [9, 3], [0], chosen(3, 1, "false"))
-    offer_row(table, [salted, (2, ids_data([5, 6]) + b"more")], [5, 6], [], chosen(0, 1, "false"))
-    offer_row(
-        table,
-        [(3, bytes(9)), (3, bytes(9)), (1, hash_data([2, 1], b"")), (5, b"ab"), (8, ids_data([7, 2])), (5, b"")],
-        [],
-        [7, 2],
-        chosen(0, 2, "true"),
-    )
-    offer_row(table, [(1, hash_data([2, 3], b"salt"))], [], [], "NoHash", hashes=False)
+    offer_row(table, [salted, (2, ids_data([2, 1, 4, 3])), (8, ids_data([1, 2]))], [2, 1, 4, 3], [1, 2])
+    offer_row(table, [(8, ids_data([2, 1])), (2, ids_data([4, 2])), salted], [4, 2], [2, 1])
+    offer_row(table, [salted], [], [], reserved=0x01020304)
+    offer_row(table, [salted, (2, ids_data([9, 3])), (8, ids_data([0]))], [9, 3], [0])
+    offer_row(table, [salted, (2, ids_data([5, 6]) + b"more")], [5, 6], [])
+    passed_over = [(3, bytes(9)), (3, bytes(9)), (1, hash_data([2, 1], b"")), (5, b"ab"), (8, ids_data([7, 2])), (5, b"")]
+    offer_row(table, passed_over, [], [7, 2])
+    offer_row(table, [(1, hash_data([2, 3], b"salt"))], [], [], hashes=False)
     usual = usual_contexts()
     table.row(
         f"contexts 5 {usual.hex()}",
         "contexts: sha512 true preauth true ciphers [2, 1, 4, 3] signings [2, 1, 0]",
         "  " + negotiate_contexts([(1, hash_data([1], b"\x5a" * 32)), (2, ids_data([2, 1, 4, 3])), (8, ids_data([2, 1, 0]))]).hex(),
-        "  " + chosen(2, 2, "true"),
     )
-    bare = negotiate_contexts([(2, ids_data([1]))])
-    table.row(f"choice 1 {bare.hex()}", "choice: NoPreauth")
-    table.row("choice 0 -", "choice: NoPreauth")
     context_refusals(table)
 
 
