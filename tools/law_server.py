@@ -301,7 +301,7 @@ def main():
     for module, effects in FILES.items():
         path = 'crates/server_law/proofs/%s.antt' % module
         with open(path, 'w') as f:
-            f.write('-- %s.\n' % '; '.join(e.says[0].upper() + e.says[1:] if i == 0 else e.says for i, e in enumerate(effects)))
+            f.write('-- Written by tools/law_server.py. %s.\n' % '; '.join(e.says[0].upper() + e.says[1:] if i == 0 else e.says for i, e in enumerate(effects)))
             f.write(HEAD)
             f.write(MORE.get(module, ''))
             f.write('\n')

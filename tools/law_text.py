@@ -31,7 +31,8 @@ def names(arguments):
 
 
 def sentence(about):
-    return "-- %s\n" % (about[0].upper() + about[1:] + ".")
+    """the first line of a module: the script that writes it, and what it says"""
+    return "-- Written by tools/%s. %s.\n" % (os.path.basename(sys.argv[0]), about[0].upper() + about[1:])
 
 
 def kept_part(part, variables, tactic):

@@ -1,4 +1,4 @@
--- An open becomes a session's.
+-- Written by tools/law_creates.py. An open becomes a session's.
 use Rattle.std.proofs.Common.{◌≡◌, ℕ, ◌<◌, true, arith}
 use Rattle.exchange_defs.specs.Client.{Client}
 use Rattle.exchange_defs.specs.Network.{Conn}

@@ -1,4 +1,4 @@
--- A session begins.
+-- Written by tools/law_creates.py. A session begins.
 use Rattle.std.proofs.Common.{◌≡◌, ℕ, ◌<◌, true, arith, Some, slice_get}
 use Rattle.exchange_defs.specs.Client.{Client}
 use Rattle.exchange_defs.specs.Network.{Conn, Sent, ForOp}

@@ -1,4 +1,4 @@
--- The client closes a channel that isn't ready.
+-- Written by tools/law_creates.py. The client closes a channel that isn't ready.
 use Rattle.std.proofs.Common.{ℕ, arith}
 use Rattle.exchange_defs.specs.Table.{put}
 use Rattle.exchange_defs.specs.Client.{Client, leave_dialog}

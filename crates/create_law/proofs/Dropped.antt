@@ -1,4 +1,4 @@
--- The server closes its end.
+-- Written by tools/law_creates.py. The server closes its end.
 use Rattle.std.proofs.Common.{ℕ, arith}
 use Rattle.exchange_defs.specs.Table.{put}
 use Rattle.exchange_defs.specs.Client.{Client}

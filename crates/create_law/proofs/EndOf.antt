@@ -1,4 +1,4 @@
--- A session ends.
+-- Written by tools/law_creates.py. A session ends.
 use Rattle.std.proofs.Common.{◌≡◌, ◌≢◌, ℕ, ◌<◌, Bool, true, false, ◌||◌, refl, arith, Option, Some, None, slice_get}
 use Rattle.exchange_defs.specs.Client.{Client}
 use Rattle.exchange_defs.specs.Network.{Conn, Sent, ForOp}

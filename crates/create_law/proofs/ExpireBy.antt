@@ -1,4 +1,4 @@
--- An open leaves by its deadline.
+-- Written by tools/law_creates.py. An open leaves by its deadline.
 use Rattle.std.proofs.Common.{◌≡◌, ℕ, arith, Option}
 use Rattle.exchange_defs.specs.Client.{Client}
 use Rattle.exchange_defs.specs.Network.{Conn}

@@ -1,4 +1,4 @@
--- No session can be had.
+-- Written by tools/law_creates.py. No session can be had.
 use Rattle.std.proofs.Common.{ℕ, arith}
 use Rattle.exchange_defs.specs.Operations.{Why}
 use Rattle.exchange_defs.specs.Client.{Client, finish}

@@ -1,4 +1,4 @@
--- The front leaves.
+-- Written by tools/law_creates.py. The front leaves.
 use Rattle.std.proofs.Common.{◌≡◌, ℕ, List, ◌∷◌, arith}
 use Rattle.exchange_defs.specs.Table.{put}
 use Rattle.exchange_defs.specs.Client.{Client}

@@ -1,4 +1,4 @@
--- Operations other than creates settle without a reply.
+-- Written by tools/law_creates.py. Operations other than creates settle without a reply.
 use Rattle.std.proofs.Common.{◌≡◌, ℕ, true, arith}
 use Rattle.exchange_defs.specs.Operations.{Outcome}
 use Rattle.exchange_defs.specs.Client.{Client}

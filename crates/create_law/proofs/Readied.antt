@@ -1,4 +1,4 @@
--- A session is ready.
+-- Written by tools/law_creates.py. A session is ready.
 use Rattle.std.proofs.Common.{◌≡◌, ℕ, false, arith}
 use Rattle.exchange_defs.specs.Client.{Client, begin_session}
 use Rattle.exchange_defs.specs.Network.{Conn}

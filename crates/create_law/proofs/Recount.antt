@@ -1,4 +1,4 @@
--- Other operations act.
+-- Written by tools/law_creates.py. Other operations act.
 use Rattle.std.proofs.Common.{◌≡◌, ℕ, true, arith}
 use Rattle.exchange_defs.specs.Client.{Client}
 use Rattle.exchange_defs.specs.Network.{Conn}

@@ -1,4 +1,4 @@
--- A refusal is kept.
+-- Written by tools/law_creates.py. A refusal is kept.
 use Rattle.std.proofs.Common.{◌≡◌, ℕ, ◌==◌, false, arith}
 use Rattle.exchange_defs.specs.Status.{success}
 use Rattle.exchange_defs.specs.Client.{Client}

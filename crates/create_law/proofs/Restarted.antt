@@ -1,4 +1,4 @@
--- The server starts anew.
+-- Written by tools/law_creates.py. The server starts anew.
 use Rattle.std.proofs.Common.{◌≡◌, ℕ, true, ◌||◌, refl, arith, ◌∙◌, ap, Option, Some, None, is_some}
 use Rattle.exchange_defs.specs.Operations.{id_in}
 use Rattle.exchange_defs.specs.Client.{Client}

@@ -1,4 +1,4 @@
--- A reply is on its way.
+-- Written by tools/law_creates.py. A reply is on its way.
 use Rattle.std.proofs.Common.{◌≡◌, ℕ, ◌≤◌, true, [], ◌∷◌, ◌++◌, arith, Some}
 use Rattle.exchange_defs.specs.Table.{put}
 use Rattle.exchange_defs.specs.Status.{success}

@@ -1,4 +1,4 @@
--- An operation goes out itself.
+-- Written by tools/law_creates.py. An operation goes out itself.
 use Rattle.std.proofs.Common.{◌≡◌, ℕ, true, arith}
 use Rattle.exchange_defs.specs.Table.{put}
 use Rattle.exchange_defs.specs.State.{Message}

@@ -1,4 +1,4 @@
--- A reply settles its operation.
+-- Written by tools/law_creates.py. A reply settles its operation.
 use Rattle.std.proofs.Common.{◌≡◌, ℕ, ◌≤◌, true, false, arith, Some, slice_get}
 use Rattle.exchange_defs.specs.Operations.{Outcome, is_unsettled, is_ok}
 use Rattle.exchange_defs.specs.Client.{Client}

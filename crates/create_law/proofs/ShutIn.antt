@@ -1,4 +1,4 @@
--- An open leaves by a close.
+-- Written by tools/law_creates.py. An open leaves by a close.
 use Rattle.std.proofs.Common.{◌≡◌, ℕ, true, false, arith, Option, Some, slice_get}
 use Rattle.exchange_defs.specs.Operations.{is_unsettled}
 use Rattle.exchange_defs.specs.Client.{Client}

@@ -1,4 +1,4 @@
--- A dialog goes on.
+-- Written by tools/law_creates.py. A dialog goes on.
 use Rattle.std.proofs.Common.{ℕ}
 use Rattle.exchange_defs.specs.State.{Reply}
 use Rattle.exchange_defs.specs.Client.{Client, Stage}

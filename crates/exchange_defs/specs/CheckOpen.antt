@@ -4,7 +4,7 @@ use Rattle.exchange_defs.specs.Status.{success, file_not_available, access_denie
 use Rattle.exchange_defs.specs.Texts.{is_below}
 use Rattle.exchange_defs.specs.Content.{written, ended, same_bytes, is_empty}
 use Rattle.exchange_defs.specs.Commands.{has_bit, Setting, SetBasic, Rename, SetDelete, SetAllocation, SetEnd, Element}
-use Rattle.exchange_defs.specs.State.{Server, Message, Kept, Entry, Body, Empty, Content, Count, Closed, Listing, FileInfo, VolumeInfo, Interfaces, Named}
+use Rattle.exchange_defs.specs.State.{Server, Message, Kept, Entry, Empty, Content, Count, Closed, Listing, FileInfo, VolumeInfo, Interfaces, Named}
 use Rattle.exchange_defs.specs.Files.{root, find, path_of, has_parent, is_directory, is_full_directory, info_of, used, passes_room, allocated, set_basic, same_basic}
 use Rattle.exchange_defs.specs.Ranges.{RangeAnswer, Stands, Denied, change_ranges, may_read, may_write}
 use Rattle.exchange_defs.specs.Opens.{file_has_open}

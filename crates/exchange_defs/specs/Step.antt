@@ -1,5 +1,5 @@
 -- One event of the server: the expiry in front, the table's answer, and what the journal holds behind it.
-use Rattle.std.specs.Prelude.{ℕ, ◌+◌, ◌*◌, nat_le, Bool, true, false, not, ◌&&◌, ◌||◌, if◌then◌else◌, List, [], ◌∷◌, ◌++◌, length, Option, Some, None, is_some}
+use Rattle.std.specs.Prelude.{ℕ, ◌+◌, nat_le, Bool, true, false, not, ◌&&◌, ◌||◌, if◌then◌else◌, List, [], ◌∷◌, ◌++◌, length, Option, Some, None, is_some}
 use Rattle.exchange_defs.specs.Table.{put, put2, without}
 use Rattle.exchange_defs.specs.Status.{success, insufficient_resources, disk_full}
 use Rattle.exchange_defs.specs.State.{Server, Message, ServerEvent, Accept, Heard, End, Stop, Open, Empty, Record, Origin, ExpireRecord, Answer}
@@ -17,7 +17,7 @@ max_connections = 256
 abbrev pub max_marks : ℕ
 max_marks = 65536
 
--- ---- what an event asks for, as the checks find it
+-- ---- the ruling on an event: what the checks say of a message, or what becomes of a connection
 
 pub data Ruling : Type 0 where
   Says : (message : Message) (verdict : Verdict) → Ruling
@@ -93,10 +93,12 @@ take_all_acts s (k ∷ ks) now is_quiet = acts_if_named s (ends_with s k) || tak
 
 -- ---- the table's answer
 
+-- an answer of no message, so with neither ids nor a body: to an Accept, an End and a Stop
 abbrev pub told : Server → ℕ → List Record → Bool → Answer
 told s status records acted =
     record { server = s; reply = record { status = status; session = 0; tree = 0; body = Empty }; records = records; acted = acted; reached = None; altered = None }
 
+-- what a ruling does: the state behind it, its reply and the records that it owes
 abbrev pub carried_out : Server → ℕ → Ruling → Answer
 carried_out s now (Says m v) = apply s m now v
 carried_out s now (TakesIn k) = told (record s { connections = s.connections ++ k ∷ [] }) success [] false
@@ -108,6 +110,7 @@ carried_out s now (TakesAllOut is_quiet) = told (take_all_out s s.connections no
 abbrev pub where_it_fits : Server → ℕ → Ruling → Answer → Answer
 where_it_fits s now r A = if fits s A.records then A else carried_out s now (ruling_without_room r)
 
+-- the answer of MS-SMB2 3.3.5 to an event, without the expiry in front of it
 abbrev pub table : Server → ℕ → ServerEvent → Answer
 table s now e = where_it_fits s now (ruling s e) (carried_out s now (ruling s e))
 

@@ -1,4 +1,4 @@
--- The server takes the front.
+-- Written by tools/law_connections.py. The server takes the front.
 use Rattle.std.proofs.Common.{◌≡◌, ℕ, ◌+◌, Bool, ◌&&◌, if◌then◌else◌, List, ◌∷◌, arith, Some, slice_get}
 use Rattle.exchange_defs.specs.Table.{put}
 use Rattle.exchange_defs.specs.Client.{Client}

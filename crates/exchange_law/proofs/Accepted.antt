@@ -1,4 +1,4 @@
--- A new session is accepted.
+-- Written by tools/law_connections.py. A new session is accepted.
 use Rattle.std.proofs.Common.{ℕ, arith}
 use Rattle.exchange_defs.specs.Client.{Client}
 use Rattle.exchange_defs.specs.Dialogs.{accepted}

@@ -1,4 +1,4 @@
--- The server starts anew.
+-- Written by tools/law_connections.py. The server starts anew.
 use Rattle.std.proofs.Common.{ℕ, arith}
 use Rattle.exchange_defs.specs.Client.{Client}
 use Rattle.exchange_defs.specs.Network.{Conn, server_off}

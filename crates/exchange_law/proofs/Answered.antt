@@ -1,4 +1,4 @@
--- An operation is answered and isn't settled.
+-- Written by tools/law_connections.py. An operation is answered and isn't settled.
 use Rattle.std.proofs.Common.{◌≡◌, ℕ, true, false, arith, Some}
 use Rattle.exchange_defs.specs.Client.{Client}
 use Rattle.exchange_defs.specs.Settling.{answered}

@@ -1,4 +1,4 @@
--- A further channel is ready.
+-- Written by tools/law_connections.py. A further channel is ready.
 use Rattle.std.proofs.Common.{◌≡◌, ℕ, true, arith}
 use Rattle.exchange_defs.specs.Client.{Client, bind_channel}
 use Rattle.exchange_defs.specs.Network.{Conn}

@@ -1,4 +1,4 @@
--- The next message of a dialog goes out.
+-- Written by tools/law_connections.py. The next message of a dialog goes out.
 use Rattle.std.proofs.Common.{◌≡◌, ℕ, false, arith}
 use Rattle.exchange_defs.specs.Table.{put}
 use Rattle.exchange_defs.specs.State.{Message}

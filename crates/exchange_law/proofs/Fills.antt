@@ -1,4 +1,4 @@
--- A lock met a full disk.
+-- Written by tools/law_connections.py. A lock met a full disk.
 use Rattle.std.proofs.Common.{ℕ, true, arith}
 use Rattle.exchange_defs.specs.Table.{put2}
 use Rattle.exchange_defs.specs.Client.{Client}

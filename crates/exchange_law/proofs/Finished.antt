@@ -1,4 +1,4 @@
--- No session can be had.
+-- Written by tools/law_connections.py. No session can be had.
 use Rattle.std.proofs.Common.{◌≡◌, ℕ, false, refl, arith, Option, Some, None}
 use Rattle.exchange_defs.specs.Operations.{Why}
 use Rattle.exchange_defs.specs.Client.{Client, finish}

@@ -1,4 +1,4 @@
--- A DH2C attached its open.
+-- Written by tools/law_connections.py. A DH2C attached its open.
 use Rattle.std.proofs.Common.{◌≡◌, ℕ, true, false, arith, Some}
 use Rattle.exchange_defs.specs.Client.{Client}
 use Rattle.exchange_defs.specs.Settling.{joined}

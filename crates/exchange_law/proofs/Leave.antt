@@ -1,4 +1,4 @@
--- The session ends.
+-- Written by tools/law_connections.py. The session ends.
 use Rattle.std.proofs.Common.{◌≡◌, ℕ, arith, Some, slice_get}
 use Rattle.exchange_defs.specs.Client.{Client, end_session}
 use Rattle.exchange_defs.specs.Network.{Conn, client_off}

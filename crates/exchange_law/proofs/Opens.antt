@@ -1,4 +1,4 @@
--- A create that is outstanding names its open.
+-- Written by tools/law_connections.py. A create that is outstanding names its open.
 use Rattle.std.proofs.Common.{◌≡◌, ℕ, true, arith, is_some}
 use Rattle.exchange_defs.specs.Table.{put}
 use Rattle.exchange_defs.specs.Operations.{Op}

@@ -1,4 +1,4 @@
--- Operations that aren't outstanding settle without a reply.
+-- Written by tools/law_connections.py. Operations that aren't outstanding settle without a reply.
 use Rattle.std.proofs.Common.{◌≡◌, ℕ, false, arith, None}
 use Rattle.exchange_defs.specs.Operations.{Outcome, is_unsettled}
 use Rattle.exchange_defs.specs.Client.{Client}

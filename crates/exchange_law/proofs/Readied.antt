@@ -1,4 +1,4 @@
--- A session is ready.
+-- Written by tools/law_connections.py. A session is ready.
 use Rattle.std.proofs.Common.{◌≡◌, ℕ, true, arith}
 use Rattle.exchange_defs.specs.Client.{Client, begin_session}
 use Rattle.exchange_defs.specs.Network.{Conn}

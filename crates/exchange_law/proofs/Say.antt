@@ -1,4 +1,4 @@
--- A reply is on its way.
+-- Written by tools/law_connections.py. A reply is on its way.
 use Rattle.std.proofs.Common.{◌≡◌, ℕ, ◌<◌, true, false, [], ◌∷◌, ◌++◌, arith, Some}
 use Rattle.exchange_defs.specs.Table.{put}
 use Rattle.exchange_defs.specs.Status.{user_session_deleted}

@@ -1,4 +1,4 @@
--- A reply settles its operation.
+-- Written by tools/law_connections.py. A reply settles its operation.
 use Rattle.std.proofs.Common.{◌≡◌, ℕ, false, arith, Some}
 use Rattle.exchange_defs.specs.Operations.{Outcome, is_unsettled}
 use Rattle.exchange_defs.specs.Client.{Client}

@@ -1,4 +1,4 @@
--- A close shut its open.
+-- Written by tools/law_connections.py. A close shut its open.
 use Rattle.std.proofs.Common.{ℕ, true, arith}
 use Rattle.exchange_defs.specs.Table.{put}
 use Rattle.exchange_defs.specs.Client.{Client}

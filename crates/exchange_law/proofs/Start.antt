@@ -1,4 +1,4 @@
--- An operation goes out first.
+-- Written by tools/law_connections.py. An operation goes out first.
 use Rattle.std.proofs.Common.{◌≡◌, ℕ, ◌≤◌, ◌<◌, true, false, arith}
 use Rattle.exchange_defs.specs.Table.{put}
 use Rattle.exchange_defs.specs.Client.{Client}

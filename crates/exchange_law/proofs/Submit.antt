@@ -1,4 +1,4 @@
--- An operation is taken.
+-- Written by tools/law_connections.py. An operation is taken.
 use Rattle.std.proofs.Common.{◌≡◌, ℕ, ◌+◌, ◌<◌, true, false, arith}
 use Rattle.exchange_defs.specs.Table.{put}
 use Rattle.exchange_defs.specs.Operations.{Op, Outcome}

@@ -1,4 +1,4 @@
--- A lock takes a slot.
+-- Written by tools/law_connections.py. A lock takes a slot.
 use Rattle.std.proofs.Common.{◌≡◌, ℕ, false, arith}
 use Rattle.exchange_defs.specs.Client.{Client, take_slot}
 use Rattle.exchange_defs.specs.Network.{Conn}

@@ -1,4 +1,4 @@
--- A dialog goes on.
+-- Written by tools/law_connections.py. A dialog goes on.
 use Rattle.std.proofs.Common.{◌≡◌, ℕ, true, arith}
 use Rattle.exchange_defs.specs.State.{Reply}
 use Rattle.exchange_defs.specs.Client.{Client, Stage}

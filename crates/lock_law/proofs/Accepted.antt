@@ -1,4 +1,4 @@
--- A new session is accepted.
+-- Written by tools/law_locks.py. A new session is accepted.
 use Rattle.std.proofs.Common.{ℕ}
 use Rattle.exchange_defs.specs.State.{Server}
 use Rattle.exchange_defs.specs.Client.{Client}

@@ -1,4 +1,4 @@
--- A slot's lock goes out again.
+-- Written by tools/law_locks.py. A slot's lock goes out again.
 use Rattle.std.proofs.Common.{ℕ, arith}
 use Rattle.exchange_defs.specs.Table.{put2}
 use Rattle.exchange_defs.specs.State.{Server}

@@ -1,4 +1,4 @@
--- The server starts anew.
+-- Written by tools/law_locks.py. The server starts anew.
 use Rattle.std.proofs.Common.{ℕ, arith}
 use Rattle.exchange_defs.specs.State.{Server}
 use Rattle.exchange_defs.specs.Client.{Client}

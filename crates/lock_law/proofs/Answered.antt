@@ -1,4 +1,4 @@
--- An operation is answered and isn't settled.
+-- Written by tools/law_locks.py. An operation is answered and isn't settled.
 use Rattle.std.proofs.Common.{ℕ, arith}
 use Rattle.exchange_defs.specs.State.{Server}
 use Rattle.exchange_defs.specs.Client.{Client}

@@ -1,4 +1,4 @@
--- A DH2C goes out in an operation's place.
+-- Written by tools/law_locks.py. A DH2C goes out in an operation's place.
 use Rattle.std.proofs.Common.{◌≡◌, ◌≢◌, ℕ, ◌≤◌, ◌<◌, true, false, arith, None}
 use Rattle.exchange_defs.specs.Table.{put}
 use Rattle.exchange_defs.specs.State.{Server, Message}

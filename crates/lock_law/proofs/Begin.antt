@@ -1,4 +1,4 @@
--- An operation other than a lock goes out first.
+-- Written by tools/law_locks.py. An operation other than a lock goes out first.
 use Rattle.std.proofs.Common.{◌≡◌, ℕ, ◌<◌, true, false, arith}
 use Rattle.exchange_defs.specs.Table.{put}
 use Rattle.exchange_defs.specs.State.{Server}

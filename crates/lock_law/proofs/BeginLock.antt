@@ -1,4 +1,4 @@
--- A lock takes its slot and goes out first.
+-- Written by tools/law_locks.py. A lock takes its slot and goes out first.
 use Rattle.std.proofs.lemmas.Bool.{eqb-false}
 use Rattle.std.proofs.Common.{eqb-true, ◌≡◌, ◌≢◌, ℕ, ◌<◌, ◌==◌, true, false, if◌then◌else◌, refl, arith, sym, subst, ◌∙◌, ap, Option, Some, None}
 use Rattle.exchange_defs.specs.Table.{put, put2}

@@ -1,4 +1,4 @@
--- A ready channel is cut.
+-- Written by tools/law_locks.py. A ready channel is cut.
 use Rattle.std.proofs.Common.{◌≡◌, ℕ, arith, Some, slice_get}
 use Rattle.exchange_defs.specs.Table.{put}
 use Rattle.exchange_defs.specs.State.{Server}

@@ -1,4 +1,4 @@
--- A dialog is refused, and the client closes its channel.
+-- Written by tools/law_locks.py. A dialog is refused, and the client closes its channel.
 use Rattle.std.proofs.Common.{◌≡◌, ℕ, false, arith, Some, slice_get}
 use Rattle.exchange_defs.specs.Table.{put}
 use Rattle.exchange_defs.specs.State.{Server}

@@ -1,4 +1,4 @@
--- The next message of a dialog goes out.
+-- Written by tools/law_locks.py. The next message of a dialog goes out.
 use Rattle.std.proofs.Common.{ℕ, arith}
 use Rattle.exchange_defs.specs.Table.{put}
 use Rattle.exchange_defs.specs.State.{Server, Message}

@@ -1,4 +1,4 @@
--- No session can be had.
+-- Written by tools/law_locks.py. No session can be had.
 use Rattle.std.proofs.Common.{◌≡◌, ℕ, true, false, arith, Option, Some, slice_get}
 use Rattle.exchange_defs.specs.State.{Server}
 use Rattle.exchange_defs.specs.Operations.{Outcome, is_unsettled, is_ok}

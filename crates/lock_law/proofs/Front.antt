@@ -1,4 +1,4 @@
--- The server takes the front.
+-- Written by tools/law_locks.py. The server takes the front.
 use Rattle.std.proofs.Common.{◌≡◌, ℕ, List, ◌∷◌, arith}
 use Rattle.exchange_defs.specs.Table.{put}
 use Rattle.exchange_defs.specs.State.{Server}

@@ -1,4 +1,4 @@
--- A DH2C attached its open.
+-- Written by tools/law_locks.py. A DH2C attached its open.
 use Rattle.std.proofs.Common.{◌≡◌, ℕ, true, false, arith, Some, None}
 use Rattle.exchange_defs.specs.Table.{put}
 use Rattle.exchange_defs.specs.State.{Server}

@@ -1,4 +1,4 @@
--- The session ends.
+-- Written by tools/law_locks.py. The session ends.
 use Rattle.std.proofs.Common.{◌≡◌, ℕ, true, false, arith, Some, slice_get}
 use Rattle.exchange_defs.specs.State.{Server}
 use Rattle.exchange_defs.specs.Operations.{Outcome, is_unsettled, is_ok}

@@ -1,4 +1,4 @@
--- The server moves, and carries out no lock.
+-- Written by tools/law_locks.py. The server moves, and carries out no lock.
 use Rattle.std.proofs.Common.{◌≡◌, ℕ, ◌+◌, ◌≤◌, ◌<◌, true, false, arith, Some, None, slice_get}
 use Rattle.exchange_defs.specs.Status.{success}
 use Rattle.exchange_defs.specs.Commands.{deletes_on_close}

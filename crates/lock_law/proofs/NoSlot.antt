@@ -1,4 +1,4 @@
--- Operations that never went out settle.
+-- Written by tools/law_locks.py. Operations that never went out settle.
 use Rattle.std.proofs.Common.{◌≡◌, ◌≢◌, ℕ, ◌<◌, true, false, arith}
 use Rattle.exchange_defs.specs.State.{Server}
 use Rattle.exchange_defs.specs.Operations.{Outcome, is_unsettled}

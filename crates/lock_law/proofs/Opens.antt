@@ -1,4 +1,4 @@
--- A create that is outstanding names its open.
+-- Written by tools/law_locks.py. A create that is outstanding names its open.
 use Rattle.std.proofs.Common.{◌≡◌, ℕ, true, arith}
 use Rattle.exchange_defs.specs.Table.{put}
 use Rattle.exchange_defs.specs.State.{Server}

@@ -1,4 +1,4 @@
--- A session is ready.
+-- Written by tools/law_locks.py. A session is ready.
 use Rattle.std.proofs.Common.{◌≡◌, ℕ, true, false, arith, Some, slice_get}
 use Rattle.exchange_defs.specs.State.{Server}
 use Rattle.exchange_defs.specs.Client.{Client, begin_session}

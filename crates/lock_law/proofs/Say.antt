@@ -1,4 +1,4 @@
--- A reply is on its way.
+-- Written by tools/law_locks.py. A reply is on its way.
 use Rattle.std.proofs.Common.{◌≡◌, ◌≢◌, ℕ, ◌+◌, ◌≤◌, ◌<◌, true, false, [], ◌∷◌, ◌++◌, arith, Some, is_some}
 use Rattle.exchange_defs.specs.Table.{put}
 use Rattle.exchange_defs.specs.Status.{success, user_session_deleted, file_closed, object_name_not_found, disk_full}

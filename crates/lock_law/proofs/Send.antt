@@ -1,4 +1,4 @@
--- An operation goes out itself.
+-- Written by tools/law_locks.py. An operation goes out itself.
 use Rattle.std.proofs.Common.{◌≡◌, ℕ, true, false, arith, Some, None, slice_get}
 use Rattle.exchange_defs.specs.Table.{put}
 use Rattle.exchange_defs.specs.State.{Server, Message}

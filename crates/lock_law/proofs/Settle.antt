@@ -1,4 +1,4 @@
--- A reply settles its operation.
+-- Written by tools/law_locks.py. A reply settles its operation.
 use Rattle.std.proofs.Common.{◌≡◌, ◌≢◌, ℕ, ◌+◌, ◌≤◌, ◌<◌, Bool, true, false, List, arith, Option, Some, None, slice_get, is_some}
 use Rattle.exchange_defs.specs.Table.{put}
 use Rattle.exchange_defs.specs.State.{Server}

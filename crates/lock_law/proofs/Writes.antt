@@ -1,4 +1,4 @@
--- A slot keeps a lock's answer.
+-- Written by tools/law_locks.py. A slot keeps a lock's answer.
 use Rattle.std.proofs.Common.{◌≡◌, ◌≢◌, ℕ, ◌+◌, ◌≤◌, ◌==◌, true, false, if◌then◌else◌, List, arith, sym, subst, ◌∙◌, ap, Option, Some, None, slice_get, is_some}
 use Rattle.exchange_defs.specs.Table.{put2}
 use Rattle.exchange_defs.specs.Status.{success}

@@ -1,4 +1,4 @@
--- A new session is accepted.
+-- Written by tools/law_contents.py. A new session is accepted.
 use Rattle.std.proofs.Common.{◌≡◌, ℕ, ◌<◌, arith, Some}
 use Rattle.exchange_defs.specs.Order.{Log}
 use Rattle.exchange_defs.specs.State.{Server}

@@ -1,4 +1,4 @@
--- The server starts anew.
+-- Written by tools/law_contents.py. The server starts anew.
 use Rattle.std.proofs.Common.{ℕ, arith}
 use Rattle.exchange_defs.specs.Order.{Log}
 use Rattle.exchange_defs.specs.State.{Server}

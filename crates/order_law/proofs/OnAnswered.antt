@@ -1,4 +1,4 @@
--- An operation is answered and isn't settled.
+-- Written by tools/law_contents.py. An operation is answered and isn't settled.
 use Rattle.std.proofs.Common.{◌≡◌, ℕ, true, false, arith, None}
 use Rattle.exchange_defs.specs.Order.{Log}
 use Rattle.exchange_defs.specs.State.{Server}

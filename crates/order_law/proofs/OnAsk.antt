@@ -1,4 +1,4 @@
--- A DH2C goes out in an operation's place.
+-- Written by tools/law_contents.py. A DH2C goes out in an operation's place.
 use Rattle.std.proofs.Common.{◌≡◌, ℕ, ◌≤◌, ◌<◌, true, false, ◌||◌, arith, subst, ◌∙◌, ap, None}
 use Rattle.exchange_defs.specs.Table.{put}
 use Rattle.exchange_defs.specs.Order.{Log}

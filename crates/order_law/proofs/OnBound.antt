@@ -1,4 +1,4 @@
--- A further channel is ready.
+-- Written by tools/law_contents.py. A further channel is ready.
 use Rattle.std.proofs.Common.{ℕ, arith}
 use Rattle.exchange_defs.specs.Order.{Log}
 use Rattle.exchange_defs.specs.State.{Server}

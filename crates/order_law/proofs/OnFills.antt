@@ -1,4 +1,4 @@
--- A slot is full.
+-- Written by tools/law_contents.py. A slot is full.
 use Rattle.std.proofs.Common.{ℕ, true}
 use Rattle.exchange_defs.specs.Table.{put2}
 use Rattle.exchange_defs.specs.Order.{Log}

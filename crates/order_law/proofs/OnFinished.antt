@@ -1,4 +1,4 @@
--- No session can be had.
+-- Written by tools/law_contents.py. No session can be had.
 use Rattle.std.proofs.Common.{◌≡◌, ℕ, false, arith}
 use Rattle.exchange_defs.specs.Order.{Log}
 use Rattle.exchange_defs.specs.State.{Server}

@@ -1,4 +1,4 @@
--- A DH2C attached its open.
+-- Written by tools/law_contents.py. A DH2C attached its open.
 use Rattle.std.proofs.lemmas.Bool.{eqb-false}
 use Rattle.std.proofs.Common.{eqb-true, ◌≡◌, ℕ, ◌≤◌, ◌==◌, true, false, refl, arith, sym, subst, ◌∙◌}
 use Rattle.exchange_defs.specs.Table.{put}

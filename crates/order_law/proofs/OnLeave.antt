@@ -1,4 +1,4 @@
--- The session ends.
+-- Written by tools/law_contents.py. The session ends.
 use Rattle.std.proofs.Common.{◌≡◌, ℕ, true, false, arith, Some, slice_get}
 use Rattle.exchange_defs.specs.Order.{Log}
 use Rattle.exchange_defs.specs.State.{Server}

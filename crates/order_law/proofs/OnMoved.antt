@@ -1,4 +1,4 @@
--- The server moves without a message.
+-- Written by tools/law_contents.py. The server moves without a message.
 use Rattle.std.proofs.Common.{◌≡◌, ℕ, ◌<◌, true, arith, sym, subst, ◌∙◌, ap, Some, slice_get}
 use Rattle.exchange_defs.specs.Order.{Log}
 use Rattle.exchange_defs.specs.State.{Server}

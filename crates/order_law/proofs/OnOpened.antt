@@ -1,4 +1,4 @@
--- A connection is made.
+-- Written by tools/law_contents.py. A connection is made.
 use Rattle.std.proofs.Common.{◌≡◌, ℕ, Bool, false, arith}
 use Rattle.exchange_defs.specs.Table.{put}
 use Rattle.exchange_defs.specs.Order.{Log}

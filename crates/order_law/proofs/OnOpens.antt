@@ -1,4 +1,4 @@
--- A create that is outstanding names its open.
+-- Written by tools/law_contents.py. A create that is outstanding names its open.
 use Rattle.std.proofs.lemmas.Bool.{eqb-false}
 use Rattle.std.proofs.Common.{eqb-true, ◌≡◌, ◌≢◌, ℕ, ◌≤◌, ◌==◌, true, false, refl, arith, sym, subst, ◌∙◌, ap, Some, slice_get, is_some}
 use Rattle.exchange_defs.specs.Table.{put}

@@ -1,4 +1,4 @@
--- Operations that never went out settle without a reply.
+-- Written by tools/law_contents.py. Operations that never went out settle without a reply.
 use Rattle.std.proofs.Common.{◌≡◌, ℕ, true, false, arith, sym, subst}
 use Rattle.exchange_defs.specs.Table.{is_at}
 use Rattle.exchange_defs.specs.Order.{Log, Settled_ok, Settled_end}

@@ -1,4 +1,4 @@
--- A session is ready.
+-- Written by tools/law_contents.py. A session is ready.
 use Rattle.std.proofs.Common.{◌≡◌, ◌≢◌, ℕ, ◌≤◌, ◌<◌, true, false, refl, arith, Some, slice_get}
 use Rattle.exchange_defs.specs.Table.{is_at}
 use Rattle.exchange_defs.specs.Order.{Log}

@@ -1,4 +1,4 @@
--- A number goes out again.
+-- Written by tools/law_contents.py. A number goes out again.
 use Rattle.std.proofs.Common.{ℕ}
 use Rattle.exchange_defs.specs.Table.{put2}
 use Rattle.exchange_defs.specs.Order.{Log}

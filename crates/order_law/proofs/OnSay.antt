@@ -1,4 +1,4 @@
--- A reply is on its way.
+-- Written by tools/law_contents.py. A reply is on its way.
 use Rattle.std.proofs.Common.{◌≡◌, ℕ, ◌≤◌, ◌<◌, ◌==◌, true, false, [], ◌∷◌, ◌++◌, arith, sym, subst, Some, None}
 use Rattle.exchange_defs.specs.Table.{put}
 use Rattle.exchange_defs.specs.Status.{success, file_not_available, file_closed, user_session_deleted, end_of_file}

@@ -1,4 +1,4 @@
--- An operation goes out itself.
+-- Written by tools/law_contents.py. An operation goes out itself.
 use Rattle.std.proofs.Common.{◌≡◌, ◌≢◌, ℕ, ◌≤◌, ◌<◌, true, false, ◌||◌, arith, sym, subst, ◌∙◌, ap, Some, None, slice_get}
 use Rattle.exchange_defs.specs.Table.{put}
 use Rattle.exchange_defs.specs.Order.{Log}

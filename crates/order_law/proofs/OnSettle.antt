@@ -1,4 +1,4 @@
--- A reply settles its operation.
+-- Written by tools/law_contents.py. A reply settles its operation.
 use Rattle.std.proofs.lemmas.Bool.{eqb-false}
 use Rattle.std.proofs.Common.{eqb-true, ◌≡◌, ℕ, ◌≤◌, ◌<◌, ◌==◌, true, false, refl, arith, sym, subst, ◌∙◌, Some, slice_get}
 use Rattle.exchange_defs.specs.Table.{put, is_at}

@@ -1,4 +1,4 @@
--- An open is shut.
+-- Written by tools/law_contents.py. An open is shut.
 use Rattle.std.proofs.Common.{ℕ, true}
 use Rattle.exchange_defs.specs.Table.{put}
 use Rattle.exchange_defs.specs.Order.{Log}

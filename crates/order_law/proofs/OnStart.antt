@@ -1,4 +1,4 @@
--- An operation goes out first.
+-- Written by tools/law_contents.py. An operation goes out first.
 use Rattle.std.proofs.lemmas.Bool.{eqb-false}
 use Rattle.std.proofs.Common.{eqb-true, ◌≡◌, ◌≢◌, ℕ, ◌<◌, ◌==◌, Bool, true, false, refl, arith, sym, subst, ◌∙◌, Some, slice_get}
 use Rattle.exchange_defs.specs.Table.{put}

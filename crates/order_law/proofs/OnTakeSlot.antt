@@ -1,4 +1,4 @@
--- A number of a slot is taken.
+-- Written by tools/law_contents.py. A number of a slot is taken.
 use Rattle.std.proofs.Common.{ℕ}
 use Rattle.exchange_defs.specs.Order.{Log}
 use Rattle.exchange_defs.specs.State.{Server}

@@ -1,4 +1,4 @@
--- A dialog goes on.
+-- Written by tools/law_contents.py. A dialog goes on.
 use Rattle.std.proofs.Common.{◌≡◌, ◌≢◌, ℕ, sym, subst, Some}
 use Rattle.exchange_defs.specs.Order.{Log}
 use Rattle.exchange_defs.specs.State.{Server, Reply}

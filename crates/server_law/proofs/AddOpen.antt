@@ -1,4 +1,4 @@
--- A new open stands, with an id that no open has.
+-- Written by tools/law_server.py. A new open stands, with an id that no open has.
 use Rattle.std.proofs.Common.{◌≡◌, ◌≢◌, ℕ, ◌≤◌, ◌<◌, true, false, refl, arith, ◌∙◌, Option, Some, None, is_some}
 use Rattle.exchange_defs.specs.Table.{put}
 use Rattle.exchange_defs.specs.Commands.{deletes_on_close}

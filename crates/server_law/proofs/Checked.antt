@@ -2,7 +2,7 @@
 use Rattle.std.proofs.Common.{◌≡◌, ◌⊎◌, inl, inr, ℕ, ◌+◌, ◌==◌, ◌≤◌, ◌<◌, nat_le, nat_lt, Bool, true, false, not, ◌&&◌, ◌||◌, if◌then◌else◌, List, [], ◌∷◌, length, refl, arith, sym, subst, ◌∙◌, ap, eqb-true, Option, Some, None, is_some}
 use Rattle.std.proofs.lemmas.Bool.Decides.{nat_tests}
 use Rattle.exchange_defs.specs.Table.{is_at}
-use Rattle.exchange_defs.specs.Status.{success, object_name_not_found, sharing_violation, insufficient_resources, invalid_device_request, lock_not_granted, range_not_locked, disk_full}
+use Rattle.exchange_defs.specs.Status.{success, sharing_violation, insufficient_resources, invalid_device_request, lock_not_granted, range_not_locked, disk_full}
 use Rattle.exchange_defs.specs.Texts.{is_path, is_below, same_name}
 use Rattle.exchange_defs.specs.Content.{is_empty}
 use Rattle.exchange_defs.specs.Commands.{Command, Unreadable, Aside, Setup, Logoff, TreeConnect, TreeDisconnect, Create, Close, Flush, Read, Write, Lock, Ioctl, ListDirectory, QueryFile, QueryVolume, SetInfo, Setting, SetBasic, Rename, SetDelete, SetAllocation, SetEnd, CreateRequest, Durable, Reconnect, SetupRequest, Shows, Begins, Bad, Refused, Logon, Element, deletes_on_close, form, path_form, lock_form, all_lock, all_unlock, is_setup, asks_directory, asks_file, no_file}
@@ -12,7 +12,7 @@ use Rattle.exchange_defs.specs.Ranges.{RangeAnswer, Stands, Denied, change_range
 use Rattle.exchange_defs.specs.Opens.{deletes, mapped, max_ids, is_of_session}
 use Rattle.exchange_defs.specs.CheckCreate.{keeps_guid, max_guids, max_opens, max_files, last_file, is_counted_out, action_of, names, names_of_found, found_names, missing_names, shares, makes_missing, has_guid, refused_by, refused_create, after_names, new_check, live_check, refusal_check, guid_check, reconnect_check, durable_check, reconnect_or_create, create_check}
 use Rattle.exchange_defs.specs.CheckOpen.{is_late, file_of, has_access, is_slot, kept_status, kept_lock, bytes_change, allocation_change, target_of, target_refused, rename_names, delete_names, open_below, write_check, read_check, there, turn_down_lock, range_check, new_lock_check, slot_check, lock_check, named_change, size_change, setting_check, set_check, flush_check, file_query_check, volume_query_check, listing_of, list_check, ioctl_check, ioctl_status, free_ioctl_check, needs_attributes, begins_at, is_repeated, unless_repeated}
-use Rattle.exchange_defs.specs.CheckSetup.{tree_in, is_new, is_binding, granted_session, second_token, first_token, session_check, granted_binding, second_binding, first_binding, binding_check, setup_check, tree_check, max_sessions, max_channels, max_numbers, max_trees, pipes_name, count_channels, no_tree_left}
+use Rattle.exchange_defs.specs.CheckSetup.{tree_in, is_new, is_binding, granted_session, second_token, first_token, session_check, granted_binding, second_binding, first_binding, binding_check, setup_check, tree_check, max_sessions, max_channels, max_numbers, pipes_name, count_channels, no_tree_left}
 use Rattle.exchange_defs.specs.Check.{check, owed, formed, command_check, with_tree, in_tree, tree_command, on_open, has_session}
 use Rattle.exchange_defs.specs.Listing.{wanted, fitting, one_or_all, all_named, file_info_size, volume_info_size}
 use Rattle.exchange_defs.specs.Verdict.{Verdict, Refuse, Give, KeepRefusal, Repeat, Attach, Make, TurnDown, Tell, Show, KeepSlot, PutRanges, Alter, Shut, Challenge, ChallengeBinding, Begin, Join, EndSession, AddTree, DropTree, Change, PutEnd, PutMark}

@@ -1,4 +1,4 @@
--- An open leaves, with its ranges and its guid.
+-- Written by tools/law_server.py. An open leaves, with its ranges and its guid.
 use Rattle.std.proofs.Common.{◌≡◌, ℕ, ◌==◌, Bool, true, false, if◌then◌else◌, refl, arith, ◌∙◌, eqb-true, Option, Some, None, slice_get}
 use Rattle.exchange_defs.specs.Table.{put}
 use Rattle.exchange_defs.specs.State.{Server, Range}

@@ -1,4 +1,4 @@
--- A session ends: its plain opens leave, and what it kept is forgotten.
+-- Written by tools/law_server.py. A session ends: its plain opens leave, and what it kept is forgotten.
 use Rattle.std.proofs.Common.{◌≡◌, ℕ, ◌<◌, ◌==◌, Bool, true, false, not, ◌&&◌, ◌||◌, refl, arith, subst, ◌∙◌, Option, Some, None}
 use Rattle.exchange_defs.specs.State.{Server, Open}
 use Rattle.exchange_defs.specs.Files.{root, exists, exists_in}

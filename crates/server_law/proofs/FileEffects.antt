@@ -1,4 +1,4 @@
--- A file is made, with the next number; a file is marked or unmarked, and not the root; a file goes that no open has; a file has another path, and what no open has goes for it; a file's ranges are others, of opens that stand at it.
+-- Written by tools/law_server.py. A file is made, with the next number; a file is marked or unmarked, and not the root; a file goes that no open has; a file has another path, and what no open has goes for it; a file's ranges are others, of opens that stand at it.
 use Rattle.std.proofs.Common.{◌≡◌, ◌≢◌, ℕ, ◌==◌, Bool, true, false, ◌||◌, List, refl, arith, sym, ◌∙◌, Option, Some, None, slice_get}
 use Rattle.std.proofs.lemmas.Bool.Decides.{nat_tests}
 use Rattle.exchange_defs.specs.State.{Server, Range, Entry}

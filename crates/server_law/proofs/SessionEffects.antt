@@ -1,4 +1,4 @@
--- An open that stands becomes a session's; a session keeps a refusal; a session keeps that an open was closed; a session is in the making, with the next id; a binding is in the making; a session begins that was in the making; a session that is there has a further connection; a session has a further tree; a session has a tree less; a connection is forgotten; an open without a session gets its deadline; a new epoch begins, in which no id was given; the configuration is another; what nothing here reads is other.
+-- Written by tools/law_server.py. An open that stands becomes a session's; a session keeps a refusal; a session keeps that an open was closed; a session is in the making, with the next id; a binding is in the making; a session begins that was in the making; a session that is there has a further connection; a session has a further tree; a session has a tree less; a connection is forgotten; an open without a session gets its deadline; a new epoch begins, in which no id was given; the configuration is another; what nothing here reads is other.
 use Rattle.std.proofs.Common.{◌≡◌, inl, inr, ℕ, ◌+◌, ◌≤◌, ◌<◌, ◌==◌, Bool, true, false, if◌then◌else◌, List, [], ◌∷◌, ◌++◌, refl, arith, eqb-true, Option, Some, None, slice_get}
 use Rattle.exchange_defs.specs.Table.{put, put2}
 use Rattle.exchange_defs.specs.Commands.{Basic, SetupRequest}

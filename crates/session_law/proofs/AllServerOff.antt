@@ -1,4 +1,4 @@
--- The server closes every end.
+-- Written by tools/law_sessions.py. The server closes every end.
 use Rattle.std.proofs.Common.{ℕ, arith}
 use Rattle.exchange_defs.specs.State.{Server}
 use Rattle.exchange_defs.specs.Client.{Client}

@@ -1,4 +1,4 @@
--- A reply leaves its connection.
+-- Written by tools/law_sessions.py. A reply leaves its connection.
 use Rattle.std.proofs.Common.{◌≡◌, ℕ, List, ◌∷◌, arith}
 use Rattle.exchange_defs.specs.Table.{put}
 use Rattle.exchange_defs.specs.State.{Server}

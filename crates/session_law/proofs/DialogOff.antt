@@ -1,4 +1,4 @@
--- The client closes a channel that isn't ready.
+-- Written by tools/law_sessions.py. The client closes a channel that isn't ready.
 use Rattle.std.proofs.Common.{ℕ, List, arith}
 use Rattle.exchange_defs.specs.Table.{put}
 use Rattle.exchange_defs.specs.State.{Server}

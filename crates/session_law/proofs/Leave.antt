@@ -1,4 +1,4 @@
--- The session ends.
+-- Written by tools/law_sessions.py. The session ends.
 use Rattle.std.proofs.Common.{ℕ, arith}
 use Rattle.exchange_defs.specs.State.{Server}
 use Rattle.exchange_defs.specs.Client.{Client, end_session}

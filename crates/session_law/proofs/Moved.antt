@@ -1,4 +1,4 @@
--- The server takes a step.
+-- Written by tools/law_sessions.py. The server takes a step.
 use Rattle.std.proofs.Common.{ℕ, arith}
 use Rattle.exchange_defs.specs.State.{Server}
 use Rattle.exchange_defs.specs.Client.{Client}

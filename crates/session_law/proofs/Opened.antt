@@ -1,4 +1,4 @@
--- A connection is made.
+-- Written by tools/law_sessions.py. A connection is made.
 use Rattle.std.proofs.Common.{◌≡◌, ℕ, Bool, true, false, if◌then◌else◌, [], ◌∷◌, arith, None}
 use Rattle.exchange_defs.specs.Table.{put}
 use Rattle.exchange_defs.specs.State.{Server, Message}

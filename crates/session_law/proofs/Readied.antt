@@ -1,4 +1,4 @@
--- A session is ready.
+-- Written by tools/law_sessions.py. A session is ready.
 use Rattle.std.proofs.Common.{◌≡◌, ℕ, true, arith, is_some}
 use Rattle.exchange_defs.specs.State.{Server, Reply}
 use Rattle.exchange_defs.specs.CheckSetup.{tree_in}

@@ -1,4 +1,4 @@
--- The client's other columns change.
+-- Written by tools/law_sessions.py. The client's other columns change.
 use Rattle.std.proofs.Common.{ℕ, arith}
 use Rattle.exchange_defs.specs.State.{Server}
 use Rattle.exchange_defs.specs.Client.{Client}

@@ -1,4 +1,4 @@
--- An operation goes out.
+-- Written by tools/law_sessions.py. An operation goes out.
 use Rattle.std.proofs.Common.{◌≡◌, ℕ, true, false, arith, None}
 use Rattle.exchange_defs.specs.Table.{put}
 use Rattle.exchange_defs.specs.State.{Server, Message}

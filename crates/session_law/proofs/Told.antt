@@ -1,4 +1,4 @@
--- A dialog is told the new session's id.
+-- Written by tools/law_sessions.py. A dialog is told the new session's id.
 use Rattle.std.proofs.Common.{◌≡◌, ℕ, ◌≤◌, ◌<◌, false, arith, Some}
 use Rattle.exchange_defs.specs.Table.{put}
 use Rattle.exchange_defs.specs.State.{Server}

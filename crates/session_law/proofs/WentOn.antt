@@ -1,4 +1,4 @@
--- A dialog goes on.
+-- Written by tools/law_sessions.py. A dialog goes on.
 use Rattle.std.proofs.Common.{◌≡◌, ◌≢◌, ℕ, true, false, arith, Some}
 use Rattle.exchange_defs.specs.Table.{put}
 use Rattle.exchange_defs.specs.State.{Server}
