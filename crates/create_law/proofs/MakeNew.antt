@@ -1,22 +1,15 @@
 -- Written by tools/law_creates.py. A create acts.
-use Rattle.std.proofs.lemmas.Bool.{eqb-false}
-use Rattle.std.proofs.lemmas.Bool.Decides.{nat_tests}
-use Rattle.std.proofs.Common.{eqb-true, ◌≡◌, ◌≢◌, ℕ, ◌+◌, ◌≤◌, ◌<◌, ◌==◌, Bool, true, false, not, ◌&&◌, ◌||◌, if◌then◌else◌, List, [], ◌∷◌, ◌++◌, ◌⊎◌, inl, inr, refl, arith, sym, subst, ◌∙◌, ap, Option, Some, None, slice_get, is_some, zero, suc}
-use Rattle.exchange_defs.specs.Table.{put, put2}
-use Rattle.exchange_defs.specs.Status.{success, user_session_deleted}
-use Rattle.exchange_defs.specs.State.{Message, Reply, Open as OpenRow}
-use Rattle.exchange_defs.specs.Operations.{Op, Outcome, Unsettled, Why, is_unsettled, is_ok, id_in, HadStatus}
-use Rattle.exchange_defs.specs.Client.{Client, Stage, take_slot, outstanding as put_out, asked, cut_channel, end_session, finish, bind_channel, begin_session, leave_dialog, note_refusal}
-use Rattle.exchange_defs.specs.Settling.{answered, joined, settled as settled_by}
-use Rattle.exchange_defs.specs.Dialogs.{open_channel, went_on, accepted}
-use Rattle.exchange_defs.specs.Network.{Conn, Sent, Received, Token, ForDialog, ForOp, ForAttach, op_of, fresh as fresh_conn, server_off, client_off, send_up, behind_front, take_front}
+use Rattle.std.proofs.Common.{◌≡◌, ◌≢◌, ℕ, ◌+◌, ◌<◌, true, false, arith, Some, slice_get}
+use Rattle.exchange_defs.specs.State.{Open as OpenRow}
+use Rattle.exchange_defs.specs.Client.{Client}
+use Rattle.exchange_defs.specs.Network.{Conn, Received, ForOp}
 use Rattle.exchange_defs.specs.Runs.{never_acted}
-use Rattle.exchange_law.specs.Connections.{copies, makes_open, Once, Outstanding, OwnUp, DownOpen, OnReady, Ready, Settled, Taken, Fresh, Bodies, First, SentReplies}
-use Rattle.exchange_law.proofs.Lists.{get-push, counted_up, counted_down, own_up_count, own_down_count, front_up, front_down, waited, waited_down}
+use Rattle.exchange_law.specs.Connections.{makes_open}
+use Rattle.exchange_law.proofs.Lists.{get-push}
 use Rattle.session_law.specs.Sessions.{logon_user}
-use Rattle.create_law.specs.Creates.{Seen, Creates, Restarts, own_guid, guid_at, named, is_kept, is_current, is_barred, is_full, refuses, outlives, keeps_form, is_of_dialog, is_of_ask, has_files, may_act, Made, Named, NamedKind, NamedGiven, Attached, PlainAttached, Unclosed, ActedKept, AtMost, FormActed, RefusedNot, DeadRefused, NoReply, BarredReply, RefusedStatus, OkActed, OkReply, FileGuid, FileOf, ReplyGuid, ReplyOf, PlainDead, AskingOther, DialogUp, AskUp}
-use Rattle.create_law.proofs.Words.{guid_once, full_more, after_end}
-use Rattle.create_law.proofs.Moves.{refuse_in, attach_to, make_new, leave_by, closed_by, shut_in, expire_by, goes_with, named_still, end_of, begin_of}
+use Rattle.create_law.specs.Creates.{Seen, Creates, guid_at, refuses, outlives, may_act, Made, Named, NamedKind, NamedGiven, Attached, PlainAttached, Unclosed, ActedKept, AtMost, FormActed, RefusedNot, DeadRefused, NoReply, BarredReply, OkActed, OkReply, FileGuid, FileOf, ReplyGuid, ReplyOf}
+use Rattle.create_law.proofs.Words.{guid_once, full_more}
+use Rattle.create_law.proofs.Moves.{make_new}
 
 make_new_made : (c : Client) (conns : ℕ → Conn) (v : Seen) (a : ℕ → ℕ) (g x o0 : ℕ) (row : OpenRow) (b : ℕ → ℕ) → (makes_open (c.op g) ≡ true) → (a g ≡ 0) → (b g ≡ 1) → (may_act c g ≡ true) → (o0 ≡ v.last + 1) → (0 < c.rank x) → (v.present x ≡ true) → (row.client ≡ c.who.guid) → (row.guid ≡ Some (guid_at c g)) → (row.persistent ≡ outlives (c.op g)) → (row.user ≡ logon_user c.who.logon) → (never_acted (c.outcome g) ≡ false) → ((h : ℕ) → makes_open (c.op h) ≡ true → h ≢ g → b h ≡ a h) → Made c v a → Made c (make_new v o0 row x (guid_at c g)) b
 make_new_made c conns v a g x o0 row b create idle counted formed above ranked there client guid kind user alive others i_made =

@@ -1,5 +1,5 @@
 -- What the checks' verdicts say of sessions and trees.
-use Rattle.std.proofs.Common.{◌≡◌, ℕ, ◌==◌, Bool, true, false, not, ◌&&◌, ◌||◌, nat_le, List, [], ◌∷◌, refl, arith, sym, subst, ◌∙◌, ap, Option, Some, None, is_some, length}
+use Rattle.std.proofs.Common.{◌≡◌, ℕ, ◌==◌, Bool, true, false, not, ◌&&◌, ◌||◌, nat_le, List, [], ◌∷◌, refl, arith, sym, subst, ◌∙◌, ap, Option, Some, None, is_some}
 use Rattle.exchange_defs.specs.Status.{success, more_processing_required, insufficient_resources, disk_full, invalid_parameter, user_session_deleted}
 use Rattle.exchange_defs.specs.Texts.{same_name}
 use Rattle.exchange_defs.specs.Commands.{Command, Unreadable, Aside, Setup, Logoff, TreeConnect, TreeDisconnect, Create, Close, Flush, Read, Write, Lock, Ioctl, ListDirectory, QueryFile, QueryVolume, SetInfo, Element, SetupRequest, CreateRequest, Durable, Shows, Begins, Bad, Refused, Logon, Setting, form, is_setup, no_file}
@@ -8,7 +8,7 @@ use Rattle.exchange_defs.specs.Opens.{max_ids}
 use Rattle.exchange_defs.specs.Verdict.{Verdict, Refuse, Give, KeepRefusal, Repeat, Attach, Make, TurnDown, Tell, Show, KeepSlot, PutRanges, Alter, Shut, Challenge, ChallengeBinding, Begin, Join, EndSession, AddTree, DropTree}
 use Rattle.exchange_defs.specs.CheckCreate.{create_check, refused_by}
 use Rattle.exchange_defs.specs.CheckOpen.{close_check, flush_check, read_check, write_check, lock_check, ioctl_check, free_ioctl_check, list_check, file_query_check, volume_query_check, set_check, listing_of}
-use Rattle.exchange_defs.specs.CheckSetup.{session_check, binding_check, second_token, first_token, granted_session, previous_of, setup_check, tree_check, tree_in, is_new, max_sessions, max_trees, pipes_name, no_tree_left}
+use Rattle.exchange_defs.specs.CheckSetup.{session_check, binding_check, second_token, first_token, granted_session, previous_of, setup_check, tree_check, tree_in, is_new, max_sessions, pipes_name, no_tree_left}
 use Rattle.exchange_defs.specs.Check.{check, owed, formed, command_check, with_tree, in_tree, tree_command, on_open, has_session}
 use Rattle.exchange_defs.specs.Step.{without_room}
 use Rattle.server_law.proofs.Logic.{either, at_of, other_on}

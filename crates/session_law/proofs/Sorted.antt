@@ -1,5 +1,5 @@
 -- A step of the server keeps the kind of trees, and makes an open only where the kind isn't that of the pipes.
-use Rattle.std.proofs.Common.{◌≡◌, ℕ, ◌==◌, nat_le, Bool, true, false, not, ◌||◌, if◌then◌else◌, List, [], ◌∷◌, ◌++◌, length, inl, inr, refl, arith, sym, ◌∙◌, ap, Option, Some, None}
+use Rattle.std.proofs.Common.{◌≡◌, ℕ, ◌==◌, Bool, true, false, not, ◌||◌, if◌then◌else◌, List, [], ◌∷◌, ◌++◌, inl, inr, refl, arith, sym, ◌∙◌, ap, Option, Some, None}
 use Rattle.exchange_defs.specs.Table.{put, is_at}
 use Rattle.exchange_defs.specs.Status.{user_session_deleted, insufficient_resources, bad_network_name, disk_full}
 use Rattle.exchange_defs.specs.Texts.{same_name}
@@ -9,7 +9,7 @@ use Rattle.exchange_defs.specs.Opens.{leave_open}
 use Rattle.exchange_defs.specs.Check.{check, owed, formed, command_check}
 use Rattle.exchange_defs.specs.CheckCreate.{refused_by}
 use Rattle.exchange_defs.specs.CheckOpen.{file_of}
-use Rattle.exchange_defs.specs.CheckSetup.{tree_in, tree_check, pipes_name, max_trees, no_tree_left}
+use Rattle.exchange_defs.specs.CheckSetup.{tree_in, tree_check, pipes_name, no_tree_left}
 use Rattle.exchange_defs.specs.Effects.{apply, reach, set_ranges, end_session, end_if_named, file_made, without_tree, leaves}
 use Rattle.exchange_defs.specs.Verdict.{Verdict, Refuse, Give, KeepRefusal, Repeat, Attach, Make, TurnDown, Tell, Show, KeepSlot, PutRanges, Alter, Shut, Challenge, ChallengeBinding, Begin, Join, EndSession, AddTree, DropTree}
 use Rattle.exchange_defs.specs.Step.{step, without_room, Ruling, TakesIn, TurnsAway, TakesOut, ruling, carried_out, ends_with}
