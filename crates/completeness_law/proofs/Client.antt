@@ -14,7 +14,7 @@ use Rattle.server_law.proofs.Logic.{either, front_of}
 use Rattle.session_law.proofs.DialogFacts.{same_served, crash_client}
 
 -- the small steps; behind a push the client may be another one that P holds of
-pub record Small (P : Client → Type 0) (w : World) : Type 0 where
+pub record Small (P : Client → Type 0) (w : World) (e : Event) : Type 0 where
   pub opens : (k : ℕ) → P (open_channel w.client k)
   pub slotless : (c : Client) (k g : ℕ) → lacks_slot c k g ≡ true → P c → P (record c { outcome = put c.outcome g (NoSlot (create_for c g)) })
   pub begins_op : (c : Client) (k g i : ℕ) → may_push c k g ≡ true → P c → P (outstanding (begun c g i) k g)
@@ -25,42 +25,42 @@ pub record Small (P : Client → Type 0) (w : World) : Type 0 where
   pub ends : (g : ℕ) → P (end_session (answered w.client g))
   pub cut_ends : (k : ℕ) → w.client.ready k ≡ true → P (end_session w.client)
   pub cuts : (k : ℕ) → w.client.ready k ≡ true → ends_at_cut w.client ≡ false → P (cut_channel w.client k)
-  pub goes : (k : ℕ) (s : Stage) (r : Reply) → dialog_step (w.client.stage k) r.status ≡ GoesOn s → P (went_on w.client k s r)
+  pub goes : (k : ℕ) → e ≡ Take k → (s : Stage) (y : Received) (rest : List Received) → (w.conns k).down ≡ y ∷ rest → y.token ≡ ForDialog → dialog_step (w.client.stage k) y.reply.status ≡ GoesOn s → P (went_on w.client k s y.reply)
   pub accepts : (k : ℕ) (r : Reply) → dialog_step (w.client.stage k) r.status ≡ Accepts → P (accepted w.client k)
   pub binds : (k : ℕ) → w.client.stage k ≢ Apart → (w.conns k).client_open ≡ true → w.client.live ≡ true → P (bind_channel w.client k)
   pub begins : (k tree : ℕ) → w.client.stage k ≡ AskedTree → (w.conns k).client_open ≡ true → w.client.live ≡ false → P (begin_session w.client k w.client.pending tree)
   pub leaves : (k : ℕ) (rs : List RefusedDialog) → P (record (leave_dialog w.client k) { refusals = rs })
   pub finishes : (why : Why) → P (finish w.client why)
 
-slotless_one : (P : Client → Type 0) (w : World) → Small P w → (c : Client) (k g : ℕ) → P c → P (settle_no_slot c k g)
-slotless_one P w s c k g h = either P (lacks_slot c k g) (record c { outcome = put c.outcome g (NoSlot (create_for c g)) }) c (λ e. s.slotless c k g e h) (λ _. h)
+slotless_one : (P : Client → Type 0) (w : World) (ev : Event) → Small P w ev → (c : Client) (k g : ℕ) → P c → P (settle_no_slot c k g)
+slotless_one P w ev s c k g h = either P (lacks_slot c k g) (record c { outcome = put c.outcome g (NoSlot (create_for c g)) }) c (λ e. s.slotless c k g e h) (λ _. h)
 
-slotless_all : (P : Client → Type 0) (w : World) → Small P w → (c : Client) (k : ℕ) (gs : List ℕ) → P c → P (settle_no_slots c k gs)
+slotless_all : (P : Client → Type 0) (w : World) (ev : Event) → Small P w ev → (c : Client) (k : ℕ) (gs : List ℕ) → P c → P (settle_no_slots c k gs)
 unfolding settle_no_slots
-slotless_all P w s c k [] h = h
-slotless_all P w s c k (g ∷ gs) h = slotless_all P w s (settle_no_slot c k g) k gs (slotless_one P w s c k g h)
+slotless_all P w ev s c k [] h = h
+slotless_all P w ev s c k (g ∷ gs) h = slotless_all P w ev s (settle_no_slot c k g) k gs (slotless_one P w ev s c k g h)
 
-pushes_op : (P : Client → Type 0) (w : World) → Small P w → (k g i : ℕ) (c : Client) → P c → P (pushed_by w k (pick_after c k (Some (record { op = g; slot = i }))) (pick_act c k (Some (record { op = g; slot = i })))).client
-pushes_op P w s k g i c h =
+pushes_op : (P : Client → Type 0) (w : World) (ev : Event) → Small P w ev → (k g i : ℕ) (c : Client) → P c → P (pushed_by w k (pick_after c k (Some (record { op = g; slot = i }))) (pick_act c k (Some (record { op = g; slot = i })))).client
+pushes_op P w ev s k g i c h =
     let Q : Client → Act → Type 0 = λ d x. P (pushed_by w k d x).client in
     both_ways Q (may_push c k g) _ _ _ _
     (λ may. both_ways Q (goes_itself c g) _ _ _ _ (λ _. both_ways Q (has_its_slot c g i) _ _ _ _ (λ _. s.begins_op c k g i may h) (λ _. h)) (λ _. s.asks c k g may h))
     (λ _. h)
 
-picks : (P : Client → Type 0) (w : World) → Small P w → (k : ℕ) (c : Client) (pick : Option Pick) → P c → P (pushed_by w k (pick_after c k pick) (pick_act c k pick)).client
-picks P w s k c None h = either (λ x. P (pushed_by w k c x).client) (some_unsettled c c.taken) _ _ (λ _. h) (λ _. h)
-picks P w s k c (Some p) h = pushes_op P w s k p.op p.slot c h
+picks : (P : Client → Type 0) (w : World) (ev : Event) → Small P w ev → (k : ℕ) (c : Client) (pick : Option Pick) → P c → P (pushed_by w k (pick_after c k pick) (pick_act c k pick)).client
+picks P w ev s k c None h = either (λ x. P (pushed_by w k c x).client) (some_unsettled c c.taken) _ _ (λ _. h) (λ _. h)
+picks P w ev s k c (Some p) h = pushes_op P w ev s k p.op p.slot c h
 
-pushes : (P : Client → Type 0) (w : World) → Small P w → (k : ℕ) (slotless : List ℕ) (pick : Option Pick) → P w.client → P (changed w (Push k slotless pick)).client
-pushes P w s k slotless pick h =
-    both_ways (λ d x. P (pushed_by w k d x).client) (w.client.ready k) _ _ _ _ (λ _. picks P w s k (settle_no_slots w.client k slotless) pick (slotless_all P w s w.client k slotless h))
+pushes : (P : Client → Type 0) (w : World) (ev : Event) → Small P w ev → (k : ℕ) (slotless : List ℕ) (pick : Option Pick) → P w.client → P (changed w (Push k slotless pick)).client
+pushes P w ev s k slotless pick h =
+    both_ways (λ d x. P (pushed_by w k d x).client) (w.client.ready k) _ _ _ _ (λ _. picks P w ev s k (settle_no_slots w.client k slotless) pick (slotless_all P w ev s w.client k slotless h))
     (λ _. either (λ x. P (pushed_by w k w.client x).client) (some_unsettled w.client w.client.taken) _ _ (λ _. h) (λ _. h))
 
-hears : (P : Client → Type 0) (w : World) → Small P w → (k g : ℕ) (asking : Bool) (r : Reply) (place : ℕ) → is_awaited w.client k g asking ≡ true → (h : Hearing) → heard w.client g asking r ≡ h → P (hear w.client g asking r place h)
-hears P w s k g asking r place awaited (Settles o) e = s.settles k g asking r place o (awaited_of w.client k g asking awaited).0 (heard_firm w.client g asking r o e)
-hears P w s k g asking r place awaited GoesAgain e = s.answers g
-hears P w s k g asking r place awaited Attaches e = s.joins k g (awaited_of w.client k g asking awaited).0
-hears P w s k g asking r place awaited EndsSession e = s.ends g
+hears : (P : Client → Type 0) (w : World) (ev : Event) → Small P w ev → (k g : ℕ) (asking : Bool) (r : Reply) (place : ℕ) → is_awaited w.client k g asking ≡ true → (h : Hearing) → heard w.client g asking r ≡ h → P (hear w.client g asking r place h)
+hears P w ev s k g asking r place awaited (Settles o) e = s.settles k g asking r place o (awaited_of w.client k g asking awaited).0 (heard_firm w.client g asking r o e)
+hears P w ev s k g asking r place awaited GoesAgain e = s.answers g
+hears P w ev s k g asking r place awaited Attaches e = s.joins k g (awaited_of w.client k g asking awaited).0
+hears P w ev s k g asking r place awaited EndsSession e = s.ends g
 
 second_not : {s : Stage} → s ≡ Apart → s ≡ SaidSecond true → ⊥
 second_not z at = absurd (grind arith)
@@ -68,39 +68,39 @@ second_not z at = absurd (grind arith)
 asked_not : {s : Stage} → s ≡ Apart → s ≡ AskedTree → ⊥
 asked_not z at = absurd (grind arith)
 
-dialogs : (P : Client → Type 0) (w : World) → Small P w → (k : ℕ) (rest : List Received) (r : Reply) → (w.conns k).client_open ≡ true → (t : Stage) → w.client.stage k ≡ t → P (dialog_took (behind_reply w k rest) k r (dialog_step t r.status)).client
-dialogs P w s k rest r o Apart at = s.leaves k _
-dialogs P w s k rest r o (SaidNegotiate bound) at =
-    either (λ d. P (dialog_took (behind_reply w k rest) k r d).client) (r.status == success) (GoesOn (SaidFirst bound)) (Refuses r.status)
-    (λ e. s.goes k (SaidFirst bound) r (ap (λ t. dialog_step t r.status) at ∙ ap (λ b. if b then GoesOn (SaidFirst bound) else Refuses r.status) e)) (λ _. s.leaves k _)
-dialogs P w s k rest r o (SaidFirst bound) at =
-    either (λ d. P (dialog_took (behind_reply w k rest) k r d).client) (r.status == more_processing_required) (GoesOn (SaidSecond bound)) (Refuses r.status)
-    (λ e. s.goes k (SaidSecond bound) r (ap (λ t. dialog_step t r.status) at ∙ ap (λ b. if b then GoesOn (SaidSecond bound) else Refuses r.status) e)) (λ _. s.leaves k _)
-dialogs P w s k rest r o (SaidSecond true) at =
-    either (λ d. P (dialog_took (behind_reply w k rest) k r d).client) (r.status == success) Binds (Refuses r.status)
+dialogs : (P : Client → Type 0) (w : World) (ev : Event) → Small P w ev → (k : ℕ) → ev ≡ Take k → (y : Received) (rest : List Received) → (w.conns k).down ≡ y ∷ rest → y.token ≡ ForDialog → (w.conns k).client_open ≡ true → (t : Stage) → w.client.stage k ≡ t → P (dialog_took (behind_reply w k rest) k y.reply (dialog_step t y.reply.status)).client
+dialogs P w ev s k te y rest is token o Apart at = s.leaves k _
+dialogs P w ev s k te y rest is token o (SaidNegotiate bound) at =
+    either (λ d. P (dialog_took (behind_reply w k rest) k y.reply d).client) (y.reply.status == success) (GoesOn (SaidFirst bound)) (Refuses y.reply.status)
+    (λ e. s.goes k te (SaidFirst bound) y rest is token (ap (λ t. dialog_step t y.reply.status) at ∙ ap (λ b. if b then GoesOn (SaidFirst bound) else Refuses y.reply.status) e)) (λ _. s.leaves k _)
+dialogs P w ev s k te y rest is token o (SaidFirst bound) at =
+    either (λ d. P (dialog_took (behind_reply w k rest) k y.reply d).client) (y.reply.status == more_processing_required) (GoesOn (SaidSecond bound)) (Refuses y.reply.status)
+    (λ e. s.goes k te (SaidSecond bound) y rest is token (ap (λ t. dialog_step t y.reply.status) at ∙ ap (λ b. if b then GoesOn (SaidSecond bound) else Refuses y.reply.status) e)) (λ _. s.leaves k _)
+dialogs P w ev s k te y rest is token o (SaidSecond true) at =
+    either (λ d. P (dialog_took (behind_reply w k rest) k y.reply d).client) (y.reply.status == success) Binds (Refuses y.reply.status)
     (λ e. ended_well (λ (v : World). P v.client) (behind_reply w k rest) k w.client.session w.client.tree (λ live. s.binds k (λ z. second_not z at) o live)
     (λ dead newer. absurd (omega (arith, newer))) (s.leaves k w.client.refusals)) (λ _. s.leaves k _)
-dialogs P w s k rest r o (SaidSecond false) at =
-    either (λ d. P (dialog_took (behind_reply w k rest) k r d).client) (r.status == success) Accepts (Refuses r.status)
-    (λ e. s.accepts k r (ap (λ t. dialog_step t r.status) at ∙ ap (λ b. if b then Accepts else Refuses r.status) e)) (λ _. s.leaves k _)
-dialogs P w s k rest r o AskedTree at =
-    either (λ d. P (dialog_took (behind_reply w k rest) k r d).client) (r.status == success) Readies (Refuses r.status)
-    (λ e. ended_well (λ (v : World). P v.client) (behind_reply w k rest) k w.client.pending r.tree (λ live. s.binds k (λ z. asked_not z at) o live) (λ dead newer. s.begins k r.tree at o dead) (s.leaves k w.client.refusals)) (λ _. s.leaves k _)
+dialogs P w ev s k te y rest is token o (SaidSecond false) at =
+    either (λ d. P (dialog_took (behind_reply w k rest) k y.reply d).client) (y.reply.status == success) Accepts (Refuses y.reply.status)
+    (λ e. s.accepts k y.reply (ap (λ t. dialog_step t y.reply.status) at ∙ ap (λ b. if b then Accepts else Refuses y.reply.status) e)) (λ _. s.leaves k _)
+dialogs P w ev s k te y rest is token o AskedTree at =
+    either (λ d. P (dialog_took (behind_reply w k rest) k y.reply d).client) (y.reply.status == success) Readies (Refuses y.reply.status)
+    (λ e. ended_well (λ (v : World). P v.client) (behind_reply w k rest) k w.client.pending y.reply.tree (λ live. s.binds k (λ z. asked_not z at) o live) (λ dead newer. s.begins k y.reply.tree at o dead) (s.leaves k w.client.refusals)) (λ _. s.leaves k _)
 
-takes : (P : Client → Type 0) (w : World) → Small P w → (k : ℕ) → (w.conns k).client_open ≡ true → P w.client → (ys : List Received) → P (take_reply w k ys).client
-takes P w s k o h [] = h
-takes P w s k o h (y ∷ rest) = by y.token
+takes : (P : Client → Type 0) (w : World) (ev : Event) → Small P w ev → (k : ℕ) → ev ≡ Take k → (w.conns k).client_open ≡ true → P w.client → (ys : List Received) → (w.conns k).down ≡ ys → P (take_reply w k ys).client
+takes P w ev s k te o h [] is = h
+takes P w ev s k te o h (y ∷ rest) is = by y.token refl
   where
     op : (g : ℕ) (asking : Bool) → P (op_took (behind_reply w k rest) k g asking y.reply y.place).client
-    op g asking = either P (is_awaited w.client k g asking) _ _ (λ a. hears P w s k g asking y.reply y.place a (heard w.client g asking y.reply) refl) (λ _. h)
+    op g asking = either P (is_awaited w.client k g asking) _ _ (λ a. hears P w ev s k g asking y.reply y.place a (heard w.client g asking y.reply) refl) (λ _. h)
 
-    by : (t : Token) → P (took_by (behind_reply w k rest) k y.reply y.place t).client
-    by ForDialog = dialogs P w s k rest y.reply o (w.client.stage k) refl
-    by (ForOp g) = op g false
-    by (ForAttach g) = op g true
+    by : (t : Token) → y.token ≡ t → P (took_by (behind_reply w k rest) k y.reply y.place t).client
+    by ForDialog e = dialogs P w ev s k te y rest is e o (w.client.stage k) refl
+    by (ForOp g) e = op g false
+    by (ForAttach g) e = op g true
 
-cut_off : (P : Client → Type 0) (w : World) → Small P w → (k : ℕ) → P (changed w (Cut k)).client
-cut_off P w s k =
+cut_off : (P : Client → Type 0) (w : World) (ev : Event) → Small P w ev → (k : ℕ) → P (changed w (Cut k)).client
+cut_off P w ev s k =
     either (λ (v : World). P v.client) (w.client.ready k) _ _
     (λ on. either P (w.client.ready k) _ _ (λ _. either P (ends_at_cut w.client) (end_session w.client) (cut_channel w.client k) (λ _. s.cut_ends k on) (λ e. s.cuts k on e)) (λ off. both (w.client.ready k) _ on off))
     (λ _. s.leaves k w.client.refusals)
@@ -112,13 +112,13 @@ cut_off P w s k =
 abbrev pub Takes : (Client → Type 0) → World → Event → Type 0
 Takes P w e = (g : ℕ) (op : Op) → e ≡ Submit g op → may_take w.client g op ≡ true → P (take_op w.client g op)
 
-pub client_keeps : (P : Client → Type 0) (w : World) (e : Event) → Takes P w e → Small P w → P w.client → P (happens w e).client
+pub client_keeps : (P : Client → Type 0) (w : World) (e : Event) → Takes P w e → Small P w e → P w.client → P (happens w e).client
 client_keeps P w (Submit g op) t s h = either P (may_take w.client g op) _ _ (λ m. t g op refl m) (λ _. h)
 client_keeps P w (Open k) t s h = either (λ (v : World). P v.client) (may_open w k) _ _ (λ _. s.opens k) (λ _. h)
-client_keeps P w (Push k slotless pick) t s h = either (λ (v : World). P v.client) (w.client.ready k) _ _ (λ _. pushes P w s k slotless pick h) (λ _. h)
+client_keeps P w (Push k slotless pick) t s h = either (λ (v : World). P v.client) (w.client.ready k) _ _ (λ _. pushes P w (Push k slotless pick) s k slotless pick h) (λ _. h)
 client_keeps P w (Serve k) t s h = either (λ (v : World). P v.client) (may_serve w k) (later (serve_front w k (w.conns k).up) 1) w (λ _. subst P (sym (same_served w k (w.conns k).up)) h) (λ _. h)
-client_keeps P w (Take k) t s h = either (λ (v : World). P v.client) ((w.conns k).client_open && is_filled (w.conns k).down) _ _ (λ m. takes P w s k (front_of (w.conns k).client_open _ m) h (w.conns k).down) (λ _. h)
-client_keeps P w (Cut k) t s h = either (λ (v : World). P v.client) (w.conns k).client_open _ _ (λ _. cut_off P w s k) (λ _. h)
+client_keeps P w (Take k) t s h = either (λ (v : World). P v.client) ((w.conns k).client_open && is_filled (w.conns k).down) _ _ (λ m. takes P w (Take k) s k refl (front_of (w.conns k).client_open _ m) h (w.conns k).down refl) (λ _. h)
+client_keeps P w (Cut k) t s h = either (λ (v : World). P v.client) (w.conns k).client_open _ _ (λ _. cut_off P w (Cut k) s k) (λ _. h)
 client_keeps P w (Drop k) t s h = either (λ (v : World). P v.client) (w.conns k).server_open _ _ (λ _. h) (λ _. h)
 client_keeps P w Restart t s h = h
 client_keeps P w (Crash k kept) t s h = either (λ (v : World). P v.client) (may_serve w k) _ _ (λ _. subst P (sym (crash_client w k kept)) h) (λ _. h)

@@ -110,7 +110,7 @@ counted_on w e a fit channels low h =
       cut_ends = λ k on. record { counted = sym (count_none (λ k. false) 256 (λ j. refl)); live = λ l. absurd (cc) };
       cuts = λ k on more. let c = count_off w.client.ready k 256 (low k (fit.ready k on).0) on in
           record { counted = one_less w.client.channels (count_on w.client.ready 256) (count_on (put w.client.ready k false) 256) h.counted c; live = λ l. not_last w.client.channels (w.client.sequence == last_sequence) (h.live l) more };
-      goes = λ k s r d. record { counted = h.counted; live = h.live };
+      goes = λ k te s y rest is token d. record { counted = h.counted; live = h.live };
       accepts = λ k r d. record { counted = h.counted; live = h.live };
       binds = λ k talks o live. let c = count_put w.client.ready k 256 (low k o) (off_in_dialog (w.client.ready k) (w.client.stage k) (w.conns k) talks (channels k)) in
           record { counted = ap (λ n. n + 1) h.counted ∙ sym c; live = λ l. omega arith };
@@ -184,8 +184,8 @@ taken_begun w c k g i t =
 pub taken_rows : (c d : Client) → Rows c d → Taken c d
 taken_rows c d r = record { op = r.op; taken = r.taken; number = omega (arith, r.number) }
 
-taken_small : (w : World) → Small (Taken w.client) w
-taken_small w =
+taken_small : (w : World) (e : Event) → Small (Taken w.client) w e
+taken_small w e =
     record {
       opens = λ k. record { op = refl; taken = refl; number = omega arith };
       slotless = λ c k g l i. record { op = i.op; taken = i.taken; number = i.number };
@@ -197,7 +197,7 @@ taken_small w =
       ends = λ g. record { op = refl; taken = refl; number = omega arith };
       cut_ends = λ k on. record { op = refl; taken = refl; number = omega arith };
       cuts = λ k on more. record { op = refl; taken = refl; number = omega arith };
-      goes = λ k s r d. record { op = refl; taken = refl; number = omega arith };
+      goes = λ k te s y rest is token d. record { op = refl; taken = refl; number = omega arith };
       accepts = λ k r d. record { op = refl; taken = refl; number = omega arith };
       binds = λ k talks o live. record { op = refl; taken = refl; number = omega arith };
       begins = λ k tree at o dead. record { op = refl; taken = refl; number = omega arith };
@@ -206,7 +206,7 @@ taken_small w =
     }
 
 pub taken_on : (w : World) (e : Event) → is_submit e ≡ false → Taken w.client (happens w e).client
-taken_on w e n = client_keeps (Taken w.client) w e (λ g op is m. absurd (submits e g op is n)) (taken_small w) (record { op = refl; taken = refl; number = omega arith })
+taken_on w e n = client_keeps (Taken w.client) w e (λ g op is m. absurd (submits e g op is n)) (taken_small w e) (record { op = refl; taken = refl; number = omega arith })
   where
     submits : (e : Event) (g : ℕ) (op : Op) → e ≡ Submit g op → is_submit e ≡ false → ⊥
     submits e g op is n = absurd (grind arith)

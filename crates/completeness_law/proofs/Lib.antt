@@ -20,3 +20,5 @@ pub mod Carried
 pub mod Server
 pub mod Links
 pub mod Runs
+pub mod Rising
+pub mod Interim

@@ -6,15 +6,18 @@ use Rattle.exchange_defs.specs.Network.{World, Event, Open, Settings, happens, r
 use Rattle.exchange_law.proofs.Run.{connections}
 use Rattle.exchange_law.proofs.Reached.{on_every_run, run_more}
 use Rattle.exchange_law.proofs.Stays.{settled_stays, beyond}
+use Rattle.session_law.specs.Dialogs.{Channels}
 use Rattle.session_law.proofs.DialogFacts.{dialogs}
 use Rattle.session_law.proofs.Always.{sessions}
-use Rattle.completeness_law.specs.Completeness.{begun, course_of, DrainSuffices, LinkSuffices, AllSettled, FindsSession, RisingIds, SettleSettles}
-use Rattle.completeness_law.proofs.Facts.{Facts, Always}
+use Rattle.completeness_law.specs.Completeness.{begun, course_of, DrainSuffices, LinkSuffices, AllSettled, FindsSession, SettleSettles}
+use Rattle.completeness_law.proofs.Facts.{Facts, Rises, Always}
 use Rattle.completeness_law.proofs.Columns.{count_none, Counted, counted_on, taken_on, number_on, Limits, limits_on}
 use Rattle.completeness_law.proofs.Waits.{CreateOk, waits_on}
 use Rattle.completeness_law.proofs.Carried.{Carried, carried_on, Low, low_on}
 use Rattle.completeness_law.proofs.Server.{accepted}
 use Rattle.completeness_law.proofs.Links.{Links, links_on, room_for, bit, tally, none_folded}
+use Rattle.completeness_law.proofs.Rising.{Rising, ReplyAbove, rising_on}
+use Rattle.completeness_law.proofs.Interim.{reply_on}
 use Rattle.completeness_law.proofs.Drain.{drains_all}
 use Rattle.completeness_law.proofs.Link.{links_all}
 use Rattle.completeness_law.proofs.Later.{push_later, link_later}
@@ -80,6 +83,26 @@ facts_at z es =
       beyond = (beyond z es 0 refl).1;
     }
 
+-- each session's id is above that of the one before it
+pub record RisesAt (w : World) : Type 0 where
+  pub rising : Rising w.client
+  pub reply : ReplyAbove w.client w.conns
+
+rises_first : (z : Settings) → RisesAt (start z)
+rises_first z = record { rising = record { zero_session = λ e. refl; second = λ k e. absurd (cc); asked = λ k e. absurd (cc) }; reply = λ k y rest at. absurd (cc) }
+
+rises_known : (z : Settings) (es : List Event) → RisesAt (run es (start z))
+rises_known z es =
+    on_every_run (λ w a. RisesAt w) z (rises_first z)
+    (λ xs e h. let w = run xs (start z) in let s = sessions z xs in
+    record {
+      rising = rising_on w e s.making h.reply h.rising;
+      reply = reply_on w e (facts_at z xs) s (subst (λ (v : World). Channels v.client v.conns) (run_more xs e (start z)) (dialogs z (xs ++ e ∷ [])).channels) h.rising h.reply;
+    }) es
+
+rises_always : (z : Settings) (es : List Event) → Rises (run es (start z))
+rises_always z es = (rises_known z es).rising.asked
+
 still : (z : Settings) (es : List Event) (e : Event) (g : ℕ) → is_unsettled ((run es (start z)).client.outcome g) ≡ false → is_unsettled ((happens (run es (start z)) e).client.outcome g) ≡ false
 still z es e g s = ap (λ (w : World). is_unsettled (w.client.outcome g)) (sym (run_more es e (start z))) ∙ ap is_unsettled (settled_stays z es (e ∷ []) g s) ∙ s
 
@@ -129,9 +152,9 @@ link_suffices z ls k =
     let c = course_of z ls in let v = went c (Open k) in (links_all (OfRun z) (always z) v k (went_of z c (Open k) (courses z ls (begun z) (at_first z)))).done
 
 pub settle_settles : SettleSettles
-settle_settles z ls present rising few =
+settle_settles z ls present few =
     let c = course_of z ls in let h = courses z ls (begun z) (at_first z) in let e = at_end ls (begun z) in
-    by (subst (λ (d : Course). Done d.world) (sym e) (settles (OfRun z) (always z) (record { present = λ w o. subst FindsSession o.is (present o.events); rise = λ w o. subst RisingIds o.is (rising o.events) }) c h))
+    by (subst (λ (d : Course). Done d.world) (sym e) (settles (OfRun z) (always z) (record { present = λ w o. subst FindsSession o.is (present o.events); rise = λ w o. subst Rises o.is (rises_always z o.events) }) c h))
   where
     by : Done (course_of z (ls ++ Settles ∷ [])).world → AllSettled (course_of z (ls ++ Settles ∷ [])).world.client
     by (inl s) = s

@@ -348,8 +348,8 @@ settling_of w a g k fit on =
     or_else : (x y : Bool) → (x || y) ≡ true → x ≡ false → y ≡ true
     or_else x y e f = grind arith
 
-waits_small : (w : World) (a : ℕ → ℕ) → Connections w.client w.conns a → CreateOk w.client → Small (Ok w.client) w
-waits_small w a fit h =
+waits_small : (w : World) (e : Event) (a : ℕ → ℕ) → Connections w.client w.conns a → CreateOk w.client → Small (Ok w.client) w e
+waits_small w e a fit h =
     let c = w.client in let i : Ok c c = record { op = refl; taken = refl; ok = h } in let k = kinds_of w a fit in
     record {
       opens = λ q. ok_same c c _ refl refl refl i;
@@ -362,7 +362,7 @@ waits_small w a fit h =
       ends = λ g. ok_same c (end_session c) (end_session (answered c g)) refl refl refl (ends_ok c k h);
       cut_ends = λ q on. ends_ok c k h;
       cuts = λ q on more. ok_same c c _ refl refl refl i;
-      goes = λ q s r d. ok_same c c _ refl refl refl i;
+      goes = λ q te s y rest is token d. ok_same c c _ refl refl refl i;
       accepts = λ q r d. ok_same c c _ refl refl refl i;
       binds = λ q talks o live. ok_same c c _ refl refl refl i;
       begins = λ q tree at o dead. ok_same c c _ refl refl refl i;
@@ -374,7 +374,7 @@ pub waits_on : (w : World) (e : Event) (a : ℕ → ℕ) → Connections w.clien
 waits_on w e a fit h = by e
   where
     others : (e : Event) → ((g : ℕ) (op : Op) → e ≡ Submit g op → ⊥) → CreateOk (happens w e).client
-    others e n = (client_keeps (Ok w.client) w e (λ g op is m. absurd (n g op is)) (waits_small w a fit h) (record { op = refl; taken = refl; ok = h })).ok
+    others e n = (client_keeps (Ok w.client) w e (λ g op is m. absurd (n g op is)) (waits_small w e a fit h) (record { op = refl; taken = refl; ok = h })).ok
 
     lower : (x : ℕ) → 0 < x → x ≤ w.client.taken → create_for w.client x ≤ x
     lower x low high =

@@ -2,7 +2,7 @@
 use Rattle.std.specs.Prelude.{◌≡◌, ◌≢◌, ℕ, ◌≤◌, ◌<◌, true, false, List, [], ◌∷◌, ◌++◌}
 use Rattle.exchange_defs.specs.Status.{user_session_deleted}
 use Rattle.exchange_defs.specs.Operations.{is_unsettled}
-use Rattle.exchange_defs.specs.Client.{Client, AskedTree}
+use Rattle.exchange_defs.specs.Client.{Client}
 use Rattle.exchange_defs.specs.ClientStep.{last_number}
 use Rattle.exchange_defs.specs.Schedules.{Course, Line, Settles, course, drain, link, has_more, is_linking}
 use Rattle.exchange_defs.specs.Network.{World, Event, Sent, Settings, run, start, answer}
@@ -34,12 +34,8 @@ AllSettled c = (g : ℕ) → 0 < g → g ≤ c.taken → is_unsettled (c.outcome
 abbrev pub FindsSession : World → Type 0
 FindsSession w = (k : ℕ) (x : Sent) (rest : List Sent) → w.client.ready k ≡ true → (w.conns k).client_open ≡ true → (w.conns k).server_open ≡ true → (w.conns k).up ≡ x ∷ rest → (answer w x).reply.status ≢ user_session_deleted
 
--- The session that waits for its tree has an id above that of the one before it.
-abbrev pub RisingIds : World → Type 0
-RisingIds w = (k : ℕ) → w.client.stage k ≡ AskedTree → w.client.session < w.client.pending
-
 -- A schedule that ends in settling leaves no operation unsettled, where the client has counted fewer sessions than it can.
 abbrev pub SettleSettles : Type 0
 SettleSettles =
-    (z : Settings) (ls : List Line) → ((events : List Event) → FindsSession (run events (start z))) → ((events : List Event) → RisingIds (run events (start z))) → (course_of z (ls ++ Settles ∷ [])).world.client.number < last_number
+    (z : Settings) (ls : List Line) → ((events : List Event) → FindsSession (run events (start z))) → (course_of z (ls ++ Settles ∷ [])).world.client.number < last_number
     → AllSettled (course_of z (ls ++ Settles ∷ [])).world.client

@@ -13,10 +13,10 @@ pub fn bounds_law()
     ensures link { LinkSuffices }
 {}
 
-/// A schedule that ends in settling leaves no operation unsettled: so the bound on its rounds never cuts them short. The
-/// premises: on every run of these settings the server finds the session of whatever it takes on a ready channel both of
-/// whose ends are open, and the session that waits for its tree has a higher id than the one before it; and the client
-/// has counted fewer sessions than 32 bits hold. Beyond those no session can begin, and settling would go on for ever.
+/// A schedule that ends in settling leaves no operation unsettled: so the bound on its rounds never cuts them short. There
+/// are two premises. On every run of these settings the server finds the session of whatever it takes on a ready channel
+/// both of whose ends are open. And the client has counted fewer sessions than 32 bits hold: beyond those no session can
+/// begin, and settling would go on for ever.
 pub fn settle_law()
     ensures settles { SettleSettles }
 {}

@@ -171,7 +171,7 @@ keeps_trees : (x : Sent) → (is_ops x.token ≡ true → is_work x.message.comm
 keeps_trees x work dialog =
     elim (is_ops x.token) as (λ b. is_ops x.token ≡ b → x.message.command ≢ TreeDisconnect) [ true ↦ λ e. work_keeps x.message.command (work e) | false ↦ λ e. dialog_keeps x.message.command (dialog e) ] refl
 
-answer_facts : (w : World) (x : Sent) → Facts w.server x.message (answer w x)
+pub answer_facts : (w : World) (x : Sent) → Facts w.server x.message (answer w x)
 answer_facts w x = answered_by w.server w.moment x.message x.message.command refl
 
 -- the step is taken, and the front still waits
