@@ -1,4 +1,5 @@
--- The client's state and its rules: what may go out, and what a cut or the end of its session does.
+-- The client's session, channels and outstanding requests (MS-SMB2 3.2.1.2 to 3.2.1.7) and its rules: what may go out, and what
+-- a lost connection (3.2.7.1), called a cut, or the end of its session does.
 use Rattle.std.specs.Prelude.{ℕ, zero, suc, ◌+◌, ◌-◌, ◌*◌, ◌%◌, ◌==◌, nat_le, nat_lt, Bool, true, false, not, ◌&&◌, ◌||◌, if◌then◌else◌, List, [], ◌∷◌, ◌++◌, Option, Some, None, is_none}
 use Rattle.exchange_defs.specs.Table.{put, put2}
 use Rattle.exchange_defs.specs.Commands.{Command, Shows}

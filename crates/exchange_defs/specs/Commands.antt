@@ -1,4 +1,4 @@
--- Commands as values: what a request asks, whoever sent it (MS-SMB2 2.2).
+-- Requests as values (MS-SMB2 2.2): what a command asks, whoever sent it.
 use Rattle.std.specs.Prelude.{ℕ, ◌+◌, ◌/◌, ◌%◌, ◌==◌, nat_lt, Bool, true, false, not, ◌&&◌, ◌||◌, if◌then◌else◌, List, [], ◌∷◌, length, Option, Some, None}
 use Rattle.exchange_defs.specs.Status.{invalid_parameter, object_name_invalid}
 use Rattle.exchange_defs.specs.declared.values.Basic as basic_value

@@ -1,4 +1,4 @@
--- The content machine: the bytes of one file as one list, what an operation does to them and what it replies
+-- A file's data as one list of bytes, what an operation does to it and what it replies, called the content machine
 -- (MS-FSA 2.1.5.3 reading, 2.1.5.4 writing, 2.1.5.15.4 setting the end).
 use Rattle.std.specs.Prelude.{ℕ, ◌+◌, ◌-◌, ◌==◌, nat_lt, max, min, Bool, true, false, not, ◌&&◌, if◌then◌else◌, List, [], ◌∷◌, ◌++◌, length, take, drop, replicate}
 

@@ -1,4 +1,5 @@
--- How the client makes a session or binds a further channel to it (MS-SMB2 3.2.4.2 and 3.2.5.2 to 3.2.5.5).
+-- NEGOTIATE, SESSION_SETUP and TREE_CONNECT at the client, called a dialog: how it makes a session or binds a further channel
+-- to it (MS-SMB2 3.2.4.2 and 3.2.5.2 to 3.2.5.5).
 use Rattle.std.specs.Prelude.{ℕ, ◌+◌, ◌==◌, Bool, true, false, if◌then◌else◌, Some, None}
 use Rattle.exchange_defs.specs.Table.{put}
 use Rattle.exchange_defs.specs.Status.{success, more_processing_required}

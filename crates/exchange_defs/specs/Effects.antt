@@ -1,4 +1,5 @@
--- What a verdict does: the state behind it, the reply, the records owed and whether it acted.
+-- What a request does to the server's tables (MS-SMB2 3.3.5) by its verdict: the state behind it, the reply, the records owed
+-- and whether it acted.
 use Rattle.std.specs.Prelude.{ℕ, ◌+◌, ◌-◌, ◌*◌, ◌==◌, nat_lt, Bool, true, false, not, ◌&&◌, ◌||◌, if◌then◌else◌, List, [], ◌∷◌, ◌++◌, Option, Some, None, is_some}
 use Rattle.exchange_defs.specs.Table.{put, put2, is_at, is_filled, number_or_zero}
 use Rattle.exchange_defs.specs.Status.{success, more_processing_required}

@@ -1,4 +1,4 @@
--- The files of the share: paths, times, marks and bytes (MS-FSA 2.1.1.3 to 2.1.1.5).
+-- The files of the share: paths, times, delete pending (called marked) and bytes (MS-FSA 2.1.1.3 to 2.1.1.5).
 use Rattle.std.specs.Prelude.{ℕ, ◌+◌, ◌-◌, ◌==◌, nat_lt, min, Bool, true, false, ◌&&◌, ◌||◌, if◌then◌else◌, List, [], ◌∷◌, ◌++◌, length, Option, Some, None}
 use Rattle.exchange_defs.specs.Table.{put}
 use Rattle.exchange_defs.specs.Texts.{same_name, is_below, parent_of, after_name}

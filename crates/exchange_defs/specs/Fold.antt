@@ -1,4 +1,5 @@
--- What the journal's records stand for: a state folded from them, and the part of a state that outlives a restart.
+-- What the journal's records stand for (this project's): a state folded from them, and the part of a state that outlives a
+-- restart, of opens the persistent ones (MS-SMB2 3.3.1.10, Open.IsPersistent).
 use Rattle.std.specs.Prelude.{◌≡◌, ℕ, ◌+◌, ◌/◌, ◌%◌, ◌==◌, nat_lt, nat_le, max, Bool, true, false, not, ◌&&◌, ◌||◌, if◌then◌else◌, List, [], ◌∷◌, ◌++◌, length, Option, Some, None, is_some}
 use Rattle.exchange_defs.specs.Status.{success}
 use Rattle.exchange_defs.specs.Texts.{is_path, is_below}

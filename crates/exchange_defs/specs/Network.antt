@@ -1,4 +1,4 @@
--- One client, one server, and connections that lose what they hold.
+-- Connections between one client and one server, which lose what they hold (MS-SMB2 3.2.7.1, 3.3.7.1): the events of a world.
 use Rattle.std.specs.Prelude.{ℕ, ◌+◌, ◌*◌, ◌==◌, nat_lt, Bool, true, false, not, ◌&&◌, if◌then◌else◌, List, [], ◌∷◌, ◌++◌, Option, Some, None, is_some, min}
 use Rattle.exchange_defs.specs.Table.{put, is_filled}
 use Rattle.exchange_defs.specs.Status.{success, end_of_file}

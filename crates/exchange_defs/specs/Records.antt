@@ -1,4 +1,4 @@
--- The journal: how many bytes a record takes, and what fits below the limit.
+-- The journal (this project's): how many bytes a record takes, and what fits below the limit.
 use Rattle.std.specs.Prelude.{ℕ, ◌+◌, ◌-◌, ◌*◌, nat_le, Bool, true, List, [], ◌∷◌, length, Option, Some, None}
 use Rattle.exchange_defs.specs.Texts.{utf16_length}
 use Rattle.exchange_defs.specs.State.{Server, Message, Origin, Record, NewOpen, EpochRecord, CreateRecord, WriteRecord, EndRecord, BasicRecord, DeleteRecord, RenameRecord, RemoveRecord, LockRecord, ShutRecord, VersionRecord, ExpireRecord}

@@ -1,4 +1,4 @@
--- What a reply does to the operation that it answers: the settling table.
+-- What a response (MS-SMB2 3.2.5) does to the operation that it answers: the settling table.
 use Rattle.std.specs.Prelude.{ℕ, ◌==◌, nat_lt, Bool, true, not, ◌&&◌, ◌||◌, if◌then◌else◌, [], ◌∷◌, ◌++◌, Option, Some, None}
 use Rattle.exchange_defs.specs.Table.{put, put2, is_at}
 use Rattle.exchange_defs.specs.Status.{success, user_session_deleted, file_not_available, file_closed, object_name_not_found, duplicate_objectid, no_memory, disk_full, file_lock_conflict}

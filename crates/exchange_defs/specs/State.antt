@@ -1,4 +1,5 @@
--- The server's state, what it hears and what it answers.
+-- The server's tables (MS-SMB2 3.3.1.5 to 3.3.1.10: opens, sessions, tree connects, connections; files, MS-FSA 2.1.1), what it
+-- hears and what it answers.
 use Rattle.std.specs.Prelude.{ℕ, ◌-◌, Bool, List, Option}
 use Rattle.exchange_defs.specs.Commands.{Command, Basic, Element}
 use Rattle.exchange_defs.specs.declared.values.Range as range_value

@@ -1,4 +1,5 @@
--- One event of the server: the expiry in front, the table's answer, and what the journal holds behind it.
+-- One event of the server: a connection made or lost (MS-SMB2 3.3.5.1, 3.3.7.1) or a request (3.3.5.2); in front of it an open
+-- that expires (3.3.6.2), behind it what the journal holds.
 use Rattle.std.specs.Prelude.{ℕ, ◌+◌, nat_le, Bool, true, false, not, ◌&&◌, ◌||◌, if◌then◌else◌, List, [], ◌∷◌, ◌++◌, length, Option, Some, None, is_some}
 use Rattle.exchange_defs.specs.Table.{put, put2, without}
 use Rattle.exchange_defs.specs.Status.{success, insufficient_resources, disk_full}

@@ -1,4 +1,4 @@
--- What the checks say of a message: which answer applies, with what its effect needs.
+-- What the processing of a request (MS-SMB2 3.3.5) comes to: a verdict, which answer applies, with what its effect needs.
 use Rattle.std.specs.Prelude.{ℕ, Bool, List, Option}
 use Rattle.exchange_defs.specs.Commands.{CreateRequest, SetupRequest, Basic, Element}
 use Rattle.exchange_defs.specs.State.{Body, Range}
