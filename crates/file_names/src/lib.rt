@@ -1,0 +1,9 @@
+//! Names and paths of files (MS-FSCC 2.1.5, MS-SMB2 2.2.13).
+#![tactic(auto)]
+
+mod names;
+
+pub use names::{key_of, path_form, units};
+
+#[cfg(test)]
+mod tests;
