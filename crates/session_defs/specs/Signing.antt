@@ -1,23 +1,22 @@
 -- What is signed (MS-SMB2 3.1.4.1): the whole message, its Signature field, 16 bytes at 48, counting as zeros.
-use Rattle.std.specs.Prelude.{ℕ, ◌+◌, ◌%◌, ◌==◌, Bool, if◌then◌else◌, List, [], ◌∷◌, ◌++◌, take, drop, replicate, slice_index}
+use Rattle.std.specs.Prelude.{ℕ, ◌+◌, ◌%◌, ◌==◌, Bool, if◌then◌else◌, List, ◌++◌, take, drop, replicate}
 use Rattle.std.specs.Str.{bytes_eq}
 use Rattle.cipher_defs.specs.Aes.{schedule}
 use Rattle.cipher_defs.specs.Cmac.{cmac}
 use Rattle.cipher_defs.specs.Gcm.{gmac}
-use Rattle.wire_defs.specs.Places.{number, bytes_at}
+use Rattle.wire_defs.specs.Places.{le, number, bytes_at}
 use Rattle.session_defs.specs.declared.material.Signer.{Signer}
 
 abbrev pub unsigned : List ℕ → List ℕ
 unsigned m = take 48 m ++ (replicate 16 0 ++ drop 64 m)
 
--- The first of the four bytes behind the message id: bit 0 in a server's message, which the response flag tells, and bit 1 in
--- a CANCEL, command 12.
+-- Bit 0 is set in a server's message, which the response flag tells, and bit 1 in a CANCEL, command 12.
 abbrev pub role : List ℕ → ℕ
-role m = slice_index m 16 % 2 + (if number 2 m 12 == 12 then 2 else 0)
+role m = number 1 m 16 % 2 + (if number 2 m 12 == 12 then 2 else 0)
 
--- GMAC's nonce: the message id, that byte and three zeros
+-- GMAC's nonce: the message id, and that in four bytes
 abbrev pub signing_nonce : List ℕ → List ℕ
-signing_nonce m = bytes_at 8 m 24 ++ role m ∷ 0 ∷ 0 ∷ 0 ∷ []
+signing_nonce m = bytes_at 8 m 24 ++ le 4 (role m)
 
 -- AES-GMAC for the algorithm 2, else AES-CMAC
 unfoldable pub signature : Signer → List ℕ → List ℕ

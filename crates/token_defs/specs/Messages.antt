@@ -1,6 +1,6 @@
 -- NTLM's messages (MS-NLMP 2.2.1). Each begins `NTLMSSP` and a zero, and its type:4. A variable part is told by Length:2, MaxLength:2,
 -- which is passed over, and Offset:4, counted from the message's first byte.
-use Rattle.std.specs.Prelude.{ℕ, ◌+◌, ◌==◌, nat_lt, nat_le, not, ◌||◌, if◌then◌else◌, List, [], ◌∷◌, length, drop, Option, Some, None, Result, Ok, Err}
+use Rattle.std.specs.Prelude.{ℕ, ◌+◌, ◌==◌, nat_lt, nat_le, not, ◌||◌, if◌then◌else◌, List, [], ◌∷◌, ◌++◌, length, drop, Option, Some, None, Result, Ok, Err}
 use Rattle.std.specs.Str.{bytes_eq}
 use Rattle.wire_defs.specs.Places.{number, bytes_at}
 use Rattle.wire_defs.specs.Table.{Field, Num, Raw, Any, with_fields, AreWritable}
@@ -45,22 +45,24 @@ start_fault m fixed type =
     else if number 4 m 8 == type then None
     else Some (BadType (number 4 m 8))
 
--- a part, told at this place, that isn't empty and leaves the message
-unfoldable pub part_fault : List ℕ → ℕ → NtlmField → Option NtlmError
-part_fault m at field =
-    if (number 2 m at == 0) || nat_le (number 4 m (at + 4) + number 2 m at) (length m) then None else Some (OutOfRange field)
+-- a part of so many bytes at a place that isn't empty and leaves the message
+unfoldable pub range_fault : List ℕ → ℕ → ℕ → NtlmField → Option NtlmError
+range_fault m count from field = if (count == 0) || nat_le (from + count) (length m) then None else Some (OutOfRange field)
 
-unfoldable pub part_in : List ℕ → ℕ → List ℕ
+-- the part that is told at a place
+abbrev pub part_fault : List ℕ → ℕ → NtlmField → Option NtlmError
+part_fault m at field = range_fault m (number 2 m at) (number 4 m (at + 4)) field
+
+abbrev pub part_in : List ℕ → ℕ → List ℕ
 part_in m at = bytes_at (number 2 m at) m (number 4 m (at + 4))
 
 abbrev pub pairs_fault : Option ℕ → Option NtlmError
 pairs_fault None = None
 pairs_fault (Some at) = Some (BadPairs at)
 
--- the pairs of target information that a part's bytes from `from` on hold, where it has so many
-unfoldable pub info_fault : List ℕ → ℕ → ℕ → Option NtlmError
-info_fault m at from =
-    let bytes = drop from (part_in m at) in pairs_fault (pairs_break (length bytes) (number 4 m (at + 4) + from) bytes)
+-- pairs that begin at a place of the message
+unfoldable pub info_fault : ℕ → List ℕ → Option NtlmError
+info_fault at bytes = pairs_fault (pairs_break (length bytes) at bytes)
 
 abbrev pub type1_fault : List ℕ → Option NtlmError
 type1_fault m = start_fault m 16 1
@@ -71,7 +73,7 @@ type2_fault m =
     start_fault m 56 2
     or_else part_fault m 12 TargetName
     or_else part_fault m 40 TargetInfo
-    or_else (if number 2 m 40 == 0 then None else info_fault m 40 0)
+    or_else (if number 2 m 40 == 0 then None else info_fault (number 4 m 44) (part_in m 40))
 
 -- an NTLMv2 response has its pairs behind 44 bytes (2.2.2.7, 2.2.2.8)
 abbrev pub type3_fault : List ℕ → Option NtlmError
@@ -83,7 +85,7 @@ type3_fault m =
     or_else part_fault m 36 User
     or_else part_fault m 44 Workstation
     or_else part_fault m 52 SessionKey
-    or_else (if nat_lt (number 2 m 20) 44 then None else info_fault m 20 44)
+    or_else (if nat_lt (number 2 m 20) 44 then None else info_fault (number 4 m 24 + 44) (drop 44 (part_in m 20)))
 
 -- ---- the values
 
@@ -155,16 +157,20 @@ workstation_at v = user_at v + length v.user
 abbrev pub session_key_at : Type3Value → ℕ
 session_key_at v = workstation_at v + length v.workstation
 
-abbrev pub type3_table : Type3Value → List Field
-type3_table v =
-    Raw 8 ntlm_signature ∷ Num 4 3
-    ∷ Num 2 (length v.lm) ∷ Num 2 (length v.lm) ∷ Num 4 88
+-- where the six parts stand: Length, MaxLength and Offset of each
+abbrev pub type3_places : Type3Value → List Field
+type3_places v =
+    Num 2 (length v.lm) ∷ Num 2 (length v.lm) ∷ Num 4 88
     ∷ Num 2 (length v.nt) ∷ Num 2 (length v.nt) ∷ Num 4 (nt_at v)
     ∷ Num 2 (length v.domain) ∷ Num 2 (length v.domain) ∷ Num 4 (domain_at v)
     ∷ Num 2 (length v.user) ∷ Num 2 (length v.user) ∷ Num 4 (user_at v)
     ∷ Num 2 (length v.workstation) ∷ Num 2 (length v.workstation) ∷ Num 4 (workstation_at v)
-    ∷ Num 2 (length v.session_key) ∷ Num 2 (length v.session_key) ∷ Num 4 (session_key_at v)
-    ∷ Num 4 v.flags ∷ Any 8 ∷ Raw 16 v.mic
+    ∷ Num 2 (length v.session_key) ∷ Num 2 (length v.session_key) ∷ Num 4 (session_key_at v) ∷ []
+
+abbrev pub type3_table : Type3Value → List Field
+type3_table v =
+    (Raw 8 ntlm_signature ∷ Num 4 3 ∷ type3_places v)
+    ++ Num 4 v.flags ∷ Any 8 ∷ Raw 16 v.mic
     ∷ Raw (length v.lm) v.lm ∷ Raw (length v.nt) v.nt ∷ Raw (length v.domain) v.domain ∷ Raw (length v.user) v.user
     ∷ Raw (length v.workstation) v.workstation ∷ Raw (length v.session_key) v.session_key ∷ []
 
