@@ -442,7 +442,7 @@ def seals(table):
     words = ["64*1", "65*2", "79*3", "80*4", "128*5", message_head() + "+33*6", "4096*7", "100000*8"]
     for cipher in (1, 2, 3, 4):
         for place, word in enumerate(words):
-            for side in ("client", "server") if place in (0, 2, 7) else ("client" if (place + cipher) % 2 else "server",):
+            for side in ("client", "server") if place in (0, 2, 6) else ("client" if (place + cipher) % 2 else "server",):
                 nonce = nonce_for(place)
                 table.row(
                     f"seal {cipher} {key_for(cipher).hex()} {session} {side} {nonce.hex()} {word}",
