@@ -1,10 +1,10 @@
 -- What a dialog sends reaches no open.
-use Rattle.std.proofs.Common.{◌≡◌, ℕ, ◌==◌, nat_le, Bool, true, false, not, ◌&&◌, ◌||◌, List, length, refl, sym, subst, Option, Some, None, is_some, inl, inr}
+use Rattle.std.proofs.Common.{◌≡◌, ℕ, ◌==◌, nat_le, Bool, true, false, not, ◌&&◌, ◌||◌, List, refl, sym, subst, Option, Some, None, is_some, inl, inr}
 use Rattle.exchange_defs.specs.Texts.{same_name}
 use Rattle.exchange_defs.specs.Commands.{Command, Aside, Unreadable, Setup, Logoff, TreeConnect, TreeDisconnect, Create, Close, Flush, Read, Write, Lock, Ioctl, ListDirectory, QueryFile, QueryVolume, SetInfo, SetupRequest, Shows, Begins, Bad, Refused, Logon, form, is_setup}
 use Rattle.exchange_defs.specs.State.{Server, Message, Heard, Answer}
 use Rattle.exchange_defs.specs.Opens.{max_ids}
-use Rattle.exchange_defs.specs.CheckSetup.{is_new, is_binding, session_check, second_token, first_token, granted_session, binding_check, live_binding, second_binding, first_binding, granted_binding, tree_check, max_sessions, max_channels, max_numbers, max_trees, count_channels, pipes_name, no_tree_left}
+use Rattle.exchange_defs.specs.CheckSetup.{is_new, is_binding, session_check, second_token, first_token, granted_session, binding_check, live_binding, second_binding, first_binding, granted_binding, tree_check, max_sessions, max_channels, max_numbers, count_channels, pipes_name, no_tree_left}
 use Rattle.exchange_defs.specs.Check.{has_session, command_check, formed, owed, check}
 use Rattle.exchange_defs.specs.Effects.{apply}
 use Rattle.exchange_defs.specs.Verdict.{Verdict, Refuse, Give, KeepRefusal, Repeat, Attach, Make, TurnDown, Tell, Show, KeepSlot, PutRanges, Alter, Shut, Challenge, ChallengeBinding, Begin, Join, EndSession, AddTree, DropTree}

@@ -7,7 +7,7 @@ use Rattle.exchange_defs.specs.State.{Server, Message, Body, Empty, Named}
 use Rattle.exchange_defs.specs.Ranges.{RangeAnswer, Stands, Denied}
 use Rattle.exchange_defs.specs.Opens.{is_of_session}
 use Rattle.exchange_defs.specs.Files.{find}
-use Rattle.exchange_defs.specs.Verdict.{Verdict, Refuse, Give, KeepRefusal, Repeat, Attach, Make, TurnDown, Tell, Show, KeepSlot, PutRanges, Alter, Shut, Challenge, ChallengeBinding, Begin, Join, EndSession, AddTree, DropTree, Change, PutBasic, PutPath, PutMark, PutEnd}
+use Rattle.exchange_defs.specs.Verdict.{Verdict, Refuse, Give, KeepRefusal, Repeat, Attach, Make, TurnDown, Tell, Show, KeepSlot, PutRanges, Alter, Shut, Challenge, ChallengeBinding, Begin, Join, EndSession, AddTree, DropTree, Change, PutBasic, PutMark, PutEnd}
 use Rattle.exchange_defs.specs.CheckCreate.{refused_by, after_names, new_check, live_check, refusal_check, guid_check, reconnect_check, durable_check, reconnect_or_create}
 use Rattle.exchange_defs.specs.CheckOpen.{is_late, write_check, read_check, turn_down_lock, range_check, slot_check, named_change, size_change, setting_check, set_check, listing_of, ioctl_check, free_ioctl_check, is_repeated, unless_repeated, path_change, bytes_change}
 use Rattle.exchange_defs.specs.CheckSetup.{is_new, session_check, second_token, first_token, granted_session, setup_check, binding_check, live_binding, binding_token, second_binding, first_binding, tree_check, tree_in, no_tree_left}
@@ -21,8 +21,8 @@ use Rattle.exchange_defs.specs.Ranges.{may_read, may_write}
 use Rattle.exchange_defs.specs.Opens.{mapped, deletes, max_ids}
 use Rattle.exchange_defs.specs.Listing.{file_info_size, volume_info_size}
 use Rattle.exchange_defs.specs.CheckCreate.{shares, keeps_guid, max_guids, is_counted_out, has_guid}
-use Rattle.exchange_defs.specs.CheckOpen.{changes_nothing, file_of, has_access, there, is_slot, ioctl_status, needs_attributes, target_of, kept_lock, rename_names, delete_names, allocation_change}
-use Rattle.exchange_defs.specs.CheckSetup.{max_sessions, max_channels, max_numbers, max_trees, count_channels, is_binding, pipes_name}
+use Rattle.exchange_defs.specs.CheckOpen.{file_of, has_access, there, is_slot, ioctl_status, needs_attributes, kept_lock, rename_names, delete_names, allocation_change}
+use Rattle.exchange_defs.specs.CheckSetup.{max_sessions, max_channels, max_numbers, count_channels, is_binding, pipes_name}
 use Rattle.server_law.proofs.Logic.{either, front_of, not_false}
 
 -- an open stands in the message's session, a changing request isn't late, a given guid names its open, an attached open
