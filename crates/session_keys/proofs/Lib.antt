@@ -1,0 +1,4 @@
+mod Frames
+mod Halves
+mod Opening
+mod Verifying

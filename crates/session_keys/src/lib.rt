@@ -1,0 +1,15 @@
+//! The keys of a session and of its channels, signatures, sealed messages and nonces (MS-SMB2 3.1.4.1 to 3.1.4.3).
+#![tactic(auto)]
+
+mod derivation;
+mod laws;
+mod nonces;
+mod sealing;
+mod signing;
+
+pub use derivation::{bind, derive};
+pub use laws::{distinct_nonces_law, sealed_opens_law, signed_verifies_law};
+pub use nonces::{Nonces, Spent};
+pub use sealing::{seal, unseal};
+pub use session_defs::{Chosen, Keys, SealError, Signer};
+pub use signing::{sign, verify};
