@@ -5,8 +5,8 @@ ghost use Rattle.wire_defs.specs.Utf16.{units_of, utf16, IsHigh, IsLow, IsLone, 
 ghost use Rattle.smb_bytes.specs.Pair.{IsPair};
 
 use crate::bytes::Bytes;
-use crate::place::u16_at;
 use crate::out::Out;
+use crate::place::u16_at;
 use crate::text::Text;
 use std::alloc::{AllocError, Global};
 use wire_defs::TextError;

@@ -19,22 +19,22 @@ module _ {V E C : Type 0} (Is : List ℕ → V → Type 0) (fault : List ℕ →
 
   pub begins : ((c : C) → both none c ≡ c) → (bytes : List ℕ) → (bytes ≡ [] → ⊥) → Walked bytes bytes none
   begins unit bytes some = record {
-      some = some;
-      later = λ v vs chain. record { items = v ∷ vs; chain = chain; says = unit (all (v ∷ vs)) };
-      break = λ n e b. record { some = some; count = n; break = b };
-    }
+    some = some;
+    later = λ v vs chain. record { items = v ∷ vs; chain = chain; says = unit (all (v ∷ vs)) };
+    break = λ n e b. record { some = some; count = n; break = b };
+  }
 
   module _ (step : (v : V) (vs : List V) → all (v ∷ vs) ≡ both (of v) (all vs)) where
     pub goes_on : ((a b c : C) → both (both a b) c ≡ both a (both b c)) → (bytes rest : List ℕ) (found : C) (v : V) → Walked bytes rest found
         → fault rest ≡ None → (number 4 rest 0 ≡ 0 → ⊥) → is_badly_linked rest ≡ false → Is (piece rest) v
         → Walked bytes (drop (number 4 rest 0) rest) (both found (of v))
     goes_on assoc bytes rest found v walked whole more link is = record {
-        some = walked.some;
-        later = λ w ws chain.
-            let t = walked.later v (w ∷ ws) (more, link, is, chain) in
-            record { items = t.items; chain = t.chain; says = assoc found (of v) (all (w ∷ ws)) ∙ ap (both found) (sym (step v (w ∷ ws))) ∙ t.says };
-        break = λ n e b. walked.break (suc n) e (whole, more, b);
-      }
+      some = walked.some;
+      later = λ w ws chain.
+          let t = walked.later v (w ∷ ws) (more, link, is, chain) in
+          record { items = t.items; chain = t.chain; says = assoc found (of v) (all (w ∷ ws)) ∙ ap (both found) (sym (step v (w ∷ ws))) ∙ t.says };
+      break = λ n e b. walked.break (suc n) e (whole, more, b);
+    }
 
     pub ends : ((c : C) → both c none ≡ c) → all [] ≡ none → (bytes rest : List ℕ) (found : C) (v : V) → Walked bytes rest found
         → number 4 rest 0 ≡ 0 → is_badly_linked rest ≡ false → Is (piece rest) v → Says bytes (both found (of v))
