@@ -19,6 +19,14 @@ pub mod Waits
 pub mod Carried
 pub mod Server
 pub mod Links
+pub mod Present
+pub mod Lossless
 pub mod Runs
 pub mod Rising
 pub mod Interim
+pub mod Statuses
+pub mod Keeps
+pub mod Held
+pub mod Seats
+pub mod Seated
+pub mod Past

@@ -48,7 +48,7 @@ stage_put c d k s number session pending stage a b h =
       asked = λ q. elim (q == k) as (λ t. q == k ≡ t → (if t then s else c.stage q) ≡ AskedTree → c.session < c.pending) [ true ↦ λ e f. b f | false ↦ λ e f. h.asked q f ] refl;
     })
 
-second_from : (t : Stage) (status : ℕ) → dialog_step t status ≡ GoesOn (SaidSecond false) → t ≡ SaidFirst false × status ≡ more_processing_required
+pub second_from : (t : Stage) (status : ℕ) → dialog_step t status ≡ GoesOn (SaidSecond false) → t ≡ SaidFirst false × status ≡ more_processing_required
 second_from Apart status e = absurd (cc)
 second_from (SaidNegotiate b) status e = absurd (grind arith)
 second_from (SaidFirst true) status e = absurd (grind arith)
@@ -57,7 +57,7 @@ second_from (SaidSecond true) status e = absurd (grind arith)
 second_from (SaidSecond false) status e = absurd (grind arith)
 second_from AskedTree status e = absurd (grind arith)
 
-accept_from : (t : Stage) (status : ℕ) → dialog_step t status ≡ Accepts → t ≡ SaidSecond false
+pub accept_from : (t : Stage) (status : ℕ) → dialog_step t status ≡ Accepts → t ≡ SaidSecond false
 accept_from Apart status e = absurd (cc)
 accept_from (SaidNegotiate b) status e = absurd (grind arith)
 accept_from (SaidFirst b) status e = absurd (grind arith)
@@ -65,7 +65,7 @@ accept_from (SaidSecond true) status e = absurd (grind arith)
 accept_from (SaidSecond false) status e = refl
 accept_from AskedTree status e = absurd (grind arith)
 
-no_asked : (t : Stage) (status : ℕ) → dialog_step t status ≡ GoesOn AskedTree → ⊥
+pub no_asked : (t : Stage) (status : ℕ) → dialog_step t status ≡ GoesOn AskedTree → ⊥
 no_asked Apart status e = absurd (cc)
 no_asked (SaidNegotiate b) status e = absurd (grind arith)
 no_asked (SaidFirst b) status e = absurd (grind arith)
@@ -73,7 +73,7 @@ no_asked (SaidSecond b) status e = absurd (grind arith)
 no_asked AskedTree status e = absurd (grind arith)
 
 -- at most one channel makes a session
-one_making : (c : Client) (j k : ℕ) → Making c → makes_session (c.stage j) ≡ true → makes_session (c.stage k) ≡ true → j ≡ k
+pub one_making : (c : Client) (j k : ℕ) → Making c → makes_session (c.stage j) ≡ true → makes_session (c.stage k) ≡ true → j ≡ k
 one_making c j k m a b = same (sym (m j a) ∙ m k b)
   where
     same : Some j ≡ Some k → j ≡ k

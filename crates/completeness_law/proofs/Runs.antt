@@ -1,5 +1,5 @@
 -- What is known of every run, and the statements.
-use Rattle.std.proofs.Common.{◌≡◌, ℕ, ◌+◌, ◌*◌, false, List, [], ◌∷◌, ◌++◌, inl, inr, refl, arith, sym, subst, ◌∙◌, ap}
+use Rattle.std.proofs.Common.{◌≡◌, ℕ, ◌+◌, ◌*◌, ◌<◌, false, List, [], ◌∷◌, ◌++◌, inl, inr, refl, arith, sym, subst, ◌∙◌, ap}
 use Rattle.exchange_defs.specs.Operations.{is_unsettled}
 use Rattle.exchange_defs.specs.Schedules.{Course, Line, Does, Pushes, Links as LinksLine, Settles, course, go, went, link}
 use Rattle.exchange_defs.specs.Network.{World, Event, Open, Settings, happens, run, start}
@@ -9,7 +9,7 @@ use Rattle.exchange_law.proofs.Stays.{settled_stays, beyond}
 use Rattle.session_law.specs.Dialogs.{Channels}
 use Rattle.session_law.proofs.DialogFacts.{dialogs}
 use Rattle.session_law.proofs.Always.{sessions}
-use Rattle.completeness_law.specs.Completeness.{begun, course_of, DrainSuffices, LinkSuffices, AllSettled, FindsSession, SettleSettles}
+use Rattle.completeness_law.specs.Completeness.{begun, course_of, DrainSuffices, LinkSuffices, AllSettled, FindsSession, SettleSettles, NothingLost}
 use Rattle.completeness_law.proofs.Facts.{Facts, Rises, Always}
 use Rattle.completeness_law.proofs.Columns.{count_none, Counted, counted_on, taken_on, number_on, Limits, limits_on}
 use Rattle.completeness_law.proofs.Waits.{CreateOk, waits_on}
@@ -18,6 +18,12 @@ use Rattle.completeness_law.proofs.Server.{accepted}
 use Rattle.completeness_law.proofs.Links.{Links, links_on, room_for, bit, tally, none_folded}
 use Rattle.completeness_law.proofs.Rising.{Rising, ReplyAbove, rising_on}
 use Rattle.completeness_law.proofs.Interim.{reply_on}
+use Rattle.completeness_law.proofs.Seats.{Seats, IsPast, shut_seat}
+use Rattle.completeness_law.proofs.Seated.{seats_on}
+use Rattle.completeness_law.proofs.Past.{PlainOp, onward, past_on, plain_on}
+use Rattle.completeness_law.proofs.Present.{FairWorld, fair_first, fair_on, finds}
+use Rattle.completeness_law.proofs.Lossless.{nothing_lost}
+use Rattle.session_law.proofs.Waiting.{AllUp}
 use Rattle.completeness_law.proofs.Drain.{drains_all}
 use Rattle.completeness_law.proofs.Link.{links_all}
 use Rattle.completeness_law.proofs.Later.{push_later, link_later}
@@ -116,6 +122,43 @@ always z =
       number = number_on;
     }
 
+-- ---- the server holds the client's session
+
+pub record Held (w : World) : Type 0 where
+  pub seats : Seats w.client w.conns w.server
+  pub past : AllUp (IsPast w.client) w.conns
+  pub last : 0 < w.client.accepted → 0 < w.client.rank w.client.accepted
+  pub plain : AllUp PlainOp w.conns
+  pub fair : FairWorld w
+
+held_first : (z : Settings) → Held (start z)
+held_first z =
+    record {
+      seats = λ q. shut_seat _ _ _ _ _ _ refl;
+      past = λ k n x is. absurd (grind arith);
+      last = λ low. absurd (omega (arith, low));
+      plain = λ k n x is. absurd (grind arith);
+      fair = fair_first z;
+    }
+
+held : (z : Settings) (es : List Event) → Held (run es (start z))
+held z es =
+    on_every_run (λ w a. Held w) z (held_first z)
+    (λ xs e h. let w = run xs (start z) in let s = sessions z xs in
+    record {
+      seats = seats_on w e _ (connections z xs) s (dialogs z xs).channels (known z xs).links h.past h.seats;
+      past = past_on w e s h.last h.past;
+      last = (onward w e s).last h.last;
+      plain = plain_on w e h.plain;
+      fair = fair_on w e h.fair;
+    }) es
+
+pub session_found : (z : Settings) (es : List Event) → FindsSession (run es (start z))
+session_found z es = let h = held z es in finds (run es (start z)) _ (connections z es) (sessions z es) h.seats h.plain h.fair.0
+
+pub nothing_unknown : NothingLost
+nothing_unknown z es l g = nothing_lost z (session_found z) es l g
+
 -- ---- scripts
 
 went_of : (z : Settings) → (c : Course) (e : Event) → OfRun z c.world → OfRun z (went c e).world
@@ -152,9 +195,9 @@ link_suffices z ls k =
     let c = course_of z ls in let v = went c (Open k) in (links_all (OfRun z) (always z) v k (went_of z c (Open k) (courses z ls (begun z) (at_first z)))).done
 
 pub settle_settles : SettleSettles
-settle_settles z ls present few =
+settle_settles z ls few =
     let c = course_of z ls in let h = courses z ls (begun z) (at_first z) in let e = at_end ls (begun z) in
-    by (subst (λ (d : Course). Done d.world) (sym e) (settles (OfRun z) (always z) (record { present = λ w o. subst FindsSession o.is (present o.events); rise = λ w o. subst Rises o.is (rises_always z o.events) }) c h))
+    by (subst (λ (d : Course). Done d.world) (sym e) (settles (OfRun z) (always z) (record { present = λ w o. subst FindsSession o.is (session_found z o.events); rise = λ w o. subst Rises o.is (rises_always z o.events) }) c h))
   where
     by : Done (course_of z (ls ++ Settles ∷ [])).world → AllSettled (course_of z (ls ++ Settles ∷ [])).world.client
     by (inl s) = s

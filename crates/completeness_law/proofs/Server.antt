@@ -41,6 +41,9 @@ expired s o = same_so s (leave_open s o) (expire s o) (left s o) (mark (leave_op
     mark t client None = record { connections = refl }
     mark t client (Some g) = record { connections = refl }
 
+pub expired_connections : (s : Server) (o : ℕ) → (expire s o).connections ≡ s.connections
+expired_connections s o = (expired s o).connections
+
 reached : (s : Server) (m : Message) (o : ℕ) → Same s (reach s m o)
 reached s m o = either (λ t. Same s t) (is_late s m o) s (record s { sequence = put s.sequence o m.sequence }) (λ _. record { connections = refl }) (λ _. record { connections = refl })
 

@@ -1,11 +1,11 @@
 -- What is said of schedules that end in settling, over all 256 channels.
-use Rattle.std.specs.Prelude.{◌≡◌, ◌≢◌, ℕ, ◌≤◌, ◌<◌, true, false, List, [], ◌∷◌, ◌++◌}
-use Rattle.exchange_defs.specs.Status.{user_session_deleted}
-use Rattle.exchange_defs.specs.Operations.{is_unsettled}
+use Rattle.std.specs.Prelude.{◌≡◌, ◌≢◌, ℕ, ◌≤◌, ◌<◌, ◌==◌, Bool, true, false, ◌&&◌, List, [], ◌∷◌, ◌++◌}
+use Rattle.exchange_defs.specs.Status.{success, user_session_deleted}
+use Rattle.exchange_defs.specs.Operations.{Outcome, Unknown, Why, WithStatus, is_unsettled}
 use Rattle.exchange_defs.specs.Client.{Client}
 use Rattle.exchange_defs.specs.ClientStep.{last_number}
 use Rattle.exchange_defs.specs.Schedules.{Course, Line, Settles, course, drain, link, has_more, is_linking}
-use Rattle.exchange_defs.specs.Network.{World, Event, Sent, Settings, run, start, answer}
+use Rattle.exchange_defs.specs.Network.{World, Event, Cut, Drop, Restart, Crash, Finish, Sent, Settings, run, start, answer}
 
 abbrev pub begun : Settings → Course
 begun z = record { world = start z; events = [] }
@@ -24,18 +24,53 @@ DrainSuffices = (z : Settings) (ls : List Line) (k : ℕ) → has_more (drain 64
 abbrev pub LinkSuffices : Type 0
 LinkSuffices = (z : Settings) (ls : List Line) (k : ℕ) → is_linking (link (course_of z ls) k).world k ≡ false
 
+-- ---- the session of a ready channel
+
+-- On a ready channel both of whose ends are open, the server finds the session of what it takes.
+abbrev pub FindsSession : World → Type 0
+FindsSession w = (k : ℕ) (x : Sent) (rest : List Sent) → w.client.ready k ≡ true → (w.conns k).client_open ≡ true → (w.conns k).server_open ≡ true → (w.conns k).up ≡ x ∷ rest → (answer w x).reply.status ≢ user_session_deleted
+
+abbrev pub SessionFound : Type 0
+SessionFound = (z : Settings) (events : List Event) → FindsSession (run events (start z))
+
 -- ---- settling
 
 -- each operation that was taken is settled
 abbrev pub AllSettled : Client → Type 0
 AllSettled c = (g : ℕ) → 0 < g → g ≤ c.taken → is_unsettled (c.outcome g) ≡ false
 
--- On a ready channel both of whose ends are open, the server finds the session of what it takes.
-abbrev pub FindsSession : World → Type 0
-FindsSession w = (k : ℕ) (x : Sent) (rest : List Sent) → w.client.ready k ≡ true → (w.conns k).client_open ≡ true → (w.conns k).server_open ≡ true → (w.conns k).up ≡ x ∷ rest → (answer w x).reply.status ≢ user_session_deleted
-
 -- A schedule that ends in settling leaves no operation unsettled, where the client has counted fewer sessions than it can.
 abbrev pub SettleSettles : Type 0
 SettleSettles =
-    (z : Settings) (ls : List Line) → ((events : List Event) → FindsSession (run events (start z))) → (course_of z (ls ++ Settles ∷ [])).world.client.number < last_number
+    (z : Settings) (ls : List Line) → (course_of z (ls ++ Settles ∷ [])).world.client.number < last_number
     → AllSettled (course_of z (ls ++ Settles ∷ [])).world.client
+
+-- ---- runs on which nothing is lost
+
+-- no connection is cut or dropped, the server doesn't stop, and nothing is given up for a logon that is refused
+abbrev pub loses_nothing : Event → Bool
+loses_nothing (Cut k) = false
+loses_nothing (Drop k) = false
+loses_nothing Restart = false
+loses_nothing (Crash k kept) = false
+loses_nothing (Finish refusal) = false
+loses_nothing _ = true
+
+unfoldable pub without_losses : List Event → Bool
+without_losses [] = true
+without_losses (e ∷ es) = loses_nothing e && without_losses es
+
+-- unknown for the one reason that is left there: a success whose body doesn't read as the operation's
+abbrev pub is_unread : Why → Bool
+is_unread (WithStatus status) = status == success
+is_unread _ = false
+
+abbrev pub is_told : Outcome → Bool
+is_told (Unknown why) = is_unread why
+is_told _ = true
+
+-- Then no operation's outcome is unknown for the loss of its session, for a refused dialog, or for a status that an unanswered
+-- copy leaves open. A script without such events may yet end otherwise: `settle` gives all up where the logon is refused, as
+-- `refused_logon_example` in exchange_examples computes, so the events here are those of the whole course.
+abbrev pub NothingLost : Type 0
+NothingLost = (z : Settings) (events : List Event) → without_losses events ≡ true → (g : ℕ) → is_told ((run events (start z)).client.outcome g) ≡ true

@@ -4,7 +4,7 @@
 //! Each law is a public function with an empty body; its contract is the statement, which stands in `specs`.
 #![tactic(auto)]
 
-ghost use Rattle.completeness_law.specs.Completeness.{DrainSuffices, LinkSuffices, SettleSettles};
+ghost use Rattle.completeness_law.specs.Completeness.{DrainSuffices, LinkSuffices, SessionFound, SettleSettles, NothingLost};
 
 /// The bounds of the two inner loops never cut them short: behind draining a channel, wherever a schedule has led, an end
 /// of it is closed or nothing waits there; and behind linking one, an end of it is closed or it is ready.
@@ -13,10 +13,22 @@ pub fn bounds_law()
     ensures link { LinkSuffices }
 {}
 
-/// A schedule that ends in settling leaves no operation unsettled: so the bound on its rounds never cuts them short. There
-/// are two premises. On every run of these settings the server finds the session of whatever it takes on a ready channel
-/// both of whose ends are open. And the client has counted fewer sessions than 32 bits hold: beyond those no session can
-/// begin, and settling would go on for ever.
+/// On every run the server finds the session of whatever it takes on a ready channel both of whose ends are open: it never
+/// answers USER_SESSION_DELETED there.
+pub fn session_found_law()
+    ensures found { SessionFound }
+{}
+
+/// A schedule that ends in settling leaves no operation unsettled: so the bound on its rounds never cuts them short. The
+/// one premise is that the client has counted fewer sessions than 32 bits hold: beyond those no session can begin, and
+/// settling would go on for ever.
 pub fn settle_law()
     ensures settles { SettleSettles }
+{}
+
+/// On a run on which no connection is cut or dropped, the server doesn't stop and nothing is given up for a refused logon,
+/// each operation is unsettled, or settled as Ok, as Refused, or for want of a slot or an open. The one outcome beside these
+/// that the law leaves room for is a success whose body doesn't read as the operation's.
+pub fn nothing_lost_law()
+    ensures told { NothingLost }
 {}
