@@ -1,0 +1,9 @@
+pub mod Ids
+pub mod Text
+pub mod Items
+pub mod Tables
+pub mod CommandOf
+pub mod BodyOf
+pub mod Infos
+pub mod ReplyBody
+pub mod ReplyOf
