@@ -1,0 +1,5 @@
+pub mod Fields
+pub mod ReadBack
+pub mod Texts
+pub mod PathLength
+pub mod Items

@@ -1,0 +1,22 @@
+use Rattle.std.proofs.Common.{◌≡◌, ℕ, List, ◌++◌, ap, ◌∙◌, arith}
+use Rattle.wire_defs.specs.Flush.{SpellsFlushRequest, flush_request_fault, flush_request_in}
+use Rattle.wire_defs.specs.declared.file_message.FlushRequest.{FlushRequest}
+use Rattle.exchange_defs.specs.Commands.{Command, Flush}
+use Rattle.command_defs.specs.Ids.{file_of}
+use Rattle.command_defs.specs.BodyOf.{body_of, flush_value}
+use Rattle.command_defs.specs.CommandOf.{flush_in}
+use Rattle.command_law.proofs.Fields.{file_again, length-file_id}
+use Rattle.command_law.proofs.ReadBack.{found, read_as}
+use Rattle.command_law.proofs.plain.flush_again.Goals as goal
+
+abbrev of_value : FlushRequest → Command
+of_value v = Flush (file_of v.file_id)
+
+pub returns : goal.returns
+unfolding flush_in body_of
+returns c = λ header rest file len small.
+    let law = c.flush_request_law.ensures in
+    let v : FlushRequest = flush_value file in
+    let m : List ℕ = header ++ (body_of (Flush file) ++ rest) in
+    let is = found SpellsFlushRequest flush_request_fault flush_request_in law.one law.whole law.given m v (law.again header rest v len (omega arith, (length-file_id file, tt))) in
+    read_as SpellsFlushRequest flush_request_fault flush_request_in of_value m v is ∙ ap Flush (file_again file small)

@@ -1,0 +1,23 @@
+use Rattle.std.proofs.Common.{◌≡◌, ℕ, List, ◌++◌, ap, ◌∙◌, arith}
+use Rattle.wire_defs.specs.Read.{SpellsReadRequest, read_request_fault, read_request_in}
+use Rattle.wire_defs.specs.declared.message.ReadRequest.{ReadRequest}
+use Rattle.exchange_defs.specs.Commands.{Command, Read}
+use Rattle.command_defs.specs.Ids.{file_of}
+use Rattle.command_defs.specs.BodyOf.{body_of, read_value}
+use Rattle.command_defs.specs.CommandOf.{read_in}
+use Rattle.command_law.proofs.Fields.{file_again, length-file_id}
+use Rattle.command_law.proofs.ReadBack.{found, read_as}
+use Rattle.command_law.proofs.plain.read_again.Goals as goal
+
+abbrev of_value : ReadRequest → Command
+of_value v = Read (file_of v.file_id) v.offset v.length v.minimum_count v.channel
+
+pub returns : goal.returns
+unfolding read_in body_of
+returns c = λ header rest file at size minimum channel len small far long least on.
+    let law = c.read_request_law.ensures in
+    let v : ReadRequest = read_value file at size minimum channel in
+    let m : List ℕ = header ++ (body_of (Read file at size minimum channel) ++ rest) in
+    let is = found SpellsReadRequest read_request_fault read_request_in law.one law.whole law.given m v
+            (law.again header rest v len (omega arith, (omega arith, (long, (far, (length-file_id file, (least, (on, (omega arith, tt))))))))) in
+    read_as SpellsReadRequest read_request_fault read_request_in of_value m v is ∙ ap (λ (o : ℕ). Read o at size minimum channel) (file_again file small)

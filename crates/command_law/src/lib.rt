@@ -1,0 +1,6 @@
+//! Laws of commands and replies as bytes, over their definitions alone: what a client writes for the
+//! command of an operation reads back as that command. Each law is the contract of a function that does
+//! nothing.
+#![tactic(auto)]
+
+mod plain;
