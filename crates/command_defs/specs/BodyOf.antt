@@ -116,7 +116,7 @@ body_of (SetInfo file setting) = set_info_request_spelling (set_value file setti
 body_of _ = []
 
 -- the number that the header tells (2.2.1.2)
-unfoldable pub number_of_command : Command → ℕ
+abbrev pub number_of_command : Command → ℕ
 number_of_command (TreeConnect share) = 3
 number_of_command (Create request) = 5
 number_of_command (Close file query) = 6

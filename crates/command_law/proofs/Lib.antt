@@ -3,3 +3,7 @@ pub mod ReadBack
 pub mod Texts
 pub mod PathLength
 pub mod Items
+pub mod Elements
+pub mod Settings
+pub mod Chained
+pub mod Limits

@@ -3,4 +3,10 @@
 //! nothing.
 #![tactic(auto)]
 
+mod create;
+mod parts;
 mod plain;
+mod request;
+mod setting;
+
+pub use request::request_law;

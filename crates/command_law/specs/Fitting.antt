@@ -1,0 +1,93 @@
+-- What can be written: numbers within their fields, and texts.
+use Rattle.std.specs.Prelude.{◌≡◌, ℕ, ◌+◌, ◌^◌, ◌<◌, List, [], ◌∷◌, length, Option, Some, None, IsUtf8}
+use Rattle.wire_defs.specs.Utf16.{utf16}
+use Rattle.exchange_defs.specs.Commands.{Element, Basic, Setting, SetBasic, Rename, SetDelete, SetAllocation, SetEnd, Durable, Reconnect, CreateRequest}
+use Rattle.exchange_defs.specs.State.{Info, CreateReply, Named, Body, Empty, Created, Content, Count, Listing, FileInfo}
+use Rattle.exchange_defs.specs.Operations.{Op, OpCreate, OpWrite, OpRead, OpStat, OpList}
+use Rattle.command_defs.specs.Infos.{listing_bytes}
+
+-- a name: a text of fewer than 2^16 bytes in UTF-16
+pub record IsName (text : List ℕ) : Type 0 where
+  pub utf8 : IsUtf8 text
+  pub short : length (utf16 text) < 256 ^ 2
+
+-- an element of a LOCK (MS-SMB2 2.2.26.1)
+pub record IsElement (e : Element) : Type 0 where
+  pub at : e.at < 256 ^ 8
+  pub size : e.length < 256 ^ 8
+  pub flags : e.flags < 256 ^ 4
+
+abbrev pub AreElements : List Element → Type 0
+AreElements [] = Unit {0}
+AreElements (e ∷ es) = IsElement e × AreElements es
+
+pub record IsBasic (b : Basic) : Type 0 where
+  pub created : b.created < 256 ^ 8
+  pub accessed : b.accessed < 256 ^ 8
+  pub written : b.written < 256 ^ 8
+  pub changed : b.changed < 256 ^ 8
+  pub attributes : b.attributes < 256 ^ 4
+
+-- a setting (MS-FSCC 2.4)
+abbrev pub IsSetting : Setting → Type 0
+IsSetting (SetBasic basic) = IsBasic basic
+IsSetting (Rename replace path) = IsName path
+IsSetting (SetDelete marked) = Unit {0}
+IsSetting (SetAllocation size) = size < 256 ^ 8
+IsSetting (SetEnd size) = size < 256 ^ 8
+
+abbrev pub IsDurable : Option Durable → Type 0
+IsDurable None = Unit {0}
+IsDurable (Some d) = (d.timeout < 256 ^ 4) × (d.guid < 256 ^ 16)
+
+abbrev pub IsReconnect : Option Reconnect → Type 0
+IsReconnect None = Unit {0}
+IsReconnect (Some c) = (c.file < 256 ^ 8) × (c.guid < 256 ^ 16)
+
+-- a CREATE (MS-SMB2 2.2.13)
+pub record IsCreate (r : CreateRequest) : Type 0 where
+  pub path : IsName r.path
+  pub access : r.access < 256 ^ 4
+  pub share : r.share < 256 ^ 4
+  pub attributes : r.attributes < 256 ^ 4
+  pub disposition : r.disposition < 256 ^ 4
+  pub options : r.options < 256 ^ 4
+  pub durable : IsDurable r.durable
+  pub reconnect : IsReconnect r.reconnect
+
+-- ---- what replies tell
+
+pub record IsInfo (i : Info) : Type 0 where
+  pub file : i.file < 256 ^ 8
+  pub size : i.size + 4095 < 256 ^ 8
+  pub times : IsBasic i.times
+
+abbrev pub IsTimeout : Option ℕ → Type 0
+IsTimeout None = Unit {0}
+IsTimeout (Some timeout) = timeout < 256 ^ 4
+
+pub record IsCreated (r : CreateReply) : Type 0 where
+  pub id : r.id < 256 ^ 8
+  pub action : r.action < 256 ^ 4
+  pub info : IsInfo r.info
+  pub timeout : IsTimeout r.timeout
+
+abbrev pub AreNames : List Named → Type 0
+AreNames [] = Unit {0}
+AreNames (n ∷ ns) = IsName n.name × AreNames ns
+
+-- The body that a success of an operation's command has, its numbers within their fields: a CREATE's tells the open, a WRITE's
+-- a count, a READ's bytes, a QUERY_INFO's the class 5, a QUERY_DIRECTORY's entries of the class 12, and the others' nothing.
+abbrev pub IsAnswer : Op → Body → Type 0
+IsAnswer (OpCreate path access share disposition persist directory) (Created reply) = IsCreated reply
+IsAnswer (OpCreate path access share disposition persist directory) _ = ⊥
+IsAnswer (OpWrite create at bytes) (Count count) = count < 256 ^ 4
+IsAnswer (OpWrite create at bytes) _ = ⊥
+IsAnswer (OpRead create at size) (Content bytes) = length bytes < 256 ^ 4
+IsAnswer (OpRead create at size) _ = ⊥
+IsAnswer (OpStat create) (FileInfo class path info access options) = (class ≡ 5) × IsInfo info
+IsAnswer (OpStat create) _ = ⊥
+IsAnswer (OpList create) (Listing class entries) = (class ≡ 12) × AreNames entries × (length (listing_bytes 12 entries) < 256 ^ 4)
+IsAnswer (OpList create) _ = ⊥
+IsAnswer _ Empty = Unit {0}
+IsAnswer _ _ = ⊥
