@@ -64,8 +64,16 @@ one_asked false tag = omega arith
 
 few_contexts : (c : CreateContexts) → length (asked_contexts c) ≤ 4
 few_contexts c =
-    omega (arith, length-append (dh2q_asked c.dh2q) (dh2c_asked c.dh2c ++ (asked c.mxac mxac ++ asked c.qfid qfid)), length-append (dh2c_asked c.dh2c) (asked c.mxac mxac ++ asked c.qfid qfid),
-      length-append (asked c.mxac mxac) (asked c.qfid qfid), one_dh2q c.dh2q, one_dh2c c.dh2c, one_asked c.mxac mxac, one_asked c.qfid qfid)
+    omega (
+      arith,
+      length-append (dh2q_asked c.dh2q) (dh2c_asked c.dh2c ++ (asked c.mxac mxac ++ asked c.qfid qfid)),
+      length-append (dh2c_asked c.dh2c) (asked c.mxac mxac ++ asked c.qfid qfid),
+      length-append (asked c.mxac mxac) (asked c.qfid qfid),
+      one_dh2q c.dh2q,
+      one_dh2c c.dh2c,
+      one_asked c.mxac mxac,
+      one_asked c.qfid qfid,
+    )
 
 pub contexts_few : (c : CreateContexts) → IsWritableCreateContexts c → length (create_contexts_spelling c) ≤ 400
 contexts_few c fit = omega (arith, length-chain (asked_contexts c) (requests_small c fit), few_contexts c)

@@ -70,8 +70,8 @@ returns c = λ header rest r len is.
     let few : length (create_contexts_spelling (contexts_of r)) ≤ 400 = contexts_few (contexts_of r) fit in
     let place : contexts_place v < 256 ^ 4 = place_small (length (create_contexts_spelling (contexts_of r)) == 0) (length (utf16 r.path)) is.path.short in
     let row = found SpellsCreateRequest create_request_fault create_request_in law.one law.whole law.given m v
-            (law.again header rest v len
-              (omega arith, (omega arith, (omega arith, (is.access, (is.attributes, (is.share, (is.disposition, (is.options, (omega arith, (is.path.short, (place, (omega (arith, few), (refl, (refl, tt))))))))))))))) in
+    (law.again header rest v len
+    (omega arith, (omega arith, (omega arith, (is.access, (is.attributes, (is.share, (is.disposition, (is.options, (omega arith, (is.path.short, (place, (omega (arith, few), (refl, (refl, tt))))))))))))))) in
     read_as SpellsCreateRequest create_request_fault create_request_in of_value m v row
     ∙ ap (λ (t : Option (List ℕ)). create_of v t (contexts_in v.contexts)) (text_again r.path is.path.utf8)
     ∙ ap (create_of v (Some r.path)) (contexts_again (create_contexts_spelling (contexts_of r)) (contexts_of r) (told.again (contexts_of r) fit))

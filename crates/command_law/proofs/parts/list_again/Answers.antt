@@ -52,9 +52,9 @@ returns c = λ header rest file class restart single pattern room len small low 
     let v : QueryDirectoryRequestValue = list_value file class restart single pattern room in
     let m : List ℕ = header ++ (body_of (ListDirectory file class restart single pattern room) ++ rest) in
     let fit : IsWritableQueryDirectoryRequest v = record {
-            fits = (omega arith, (low, (omega (arith, flags_small restart single), (omega arith, (length-file_id file, (omega (arith, told_small (length (utf16 pattern))), (name.short, (fits, (refl, tt)))))))));
-            known = known;
-          } in
+      fits = (omega arith, (low, (omega (arith, flags_small restart single), (omega arith, (length-file_id file, (omega (arith, told_small (length (utf16 pattern))), (name.short, (fits, (refl, tt)))))))));
+      known = known;
+    } in
     let is = found SpellsQueryDirectoryRequest query_directory_request_fault query_directory_request_in law.one law.whole law.given m v (law.again header rest v len fit) in
     read_as SpellsQueryDirectoryRequest query_directory_request_fault query_directory_request_in of_value m v is
     ∙ ap (list_of v) (text_again pattern name.utf8)

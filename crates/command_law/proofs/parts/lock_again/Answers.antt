@@ -23,9 +23,9 @@ returns c = λ header rest file index number elements len small low few some man
     let size = length-elements elements all in
     let count : length (all_bytes elements) / 24 ≡ length elements = omega (arith, size) in
     let fit : IsWritableLockRequest v = record {
-            fits = (omega arith, (omega (arith, count, many), (omega (arith, low, few), (length-file_id file, (omega (arith, size, count), tt)))));
-            some = omega (arith, count, some);
-          } in
+      fits = (omega arith, (omega (arith, count, many), (omega (arith, low, few), (length-file_id file, (omega (arith, size, count), tt)))));
+      some = omega (arith, count, some);
+    } in
     let is = found SpellsLockRequest lock_request_fault lock_request_in law.one law.whole law.given m v (law.again header rest v len fit) in
     read_as SpellsLockRequest lock_request_fault lock_request_in lock_of m v is
     ∙ ap (λ (o : ℕ). Lock o ((16 * index + number) / 16) ((16 * index + number) % 16) (elements_in (length (all_bytes elements) / 24) (all_bytes elements))) (file_again file small)

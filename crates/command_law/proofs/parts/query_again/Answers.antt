@@ -17,9 +17,9 @@ returns c = λ header rest file class room len small low known other fits.
     let v : QueryInfoRequestValue = query_value file class room in
     let m : List ℕ = header ++ (body_of (QueryFile file class room) ++ rest) in
     let fit : IsWritableQueryInfoRequest v = record {
-            fits = (omega arith, (omega arith, (low, (fits, (omega arith, (omega arith, (omega arith, (omega arith, (length-file_id file, (refl, tt))))))))));
-            known = known;
-          } in
+      fits = (omega arith, (omega arith, (low, (fits, (omega arith, (omega arith, (omega arith, (omega arith, (length-file_id file, (refl, tt))))))))));
+      known = known;
+    } in
     let is = found SpellsQueryInfoRequest query_info_request_fault query_info_request_in law.one law.whole law.given m v (law.again header rest v len fit) in
     read_as SpellsQueryInfoRequest query_info_request_fault query_info_request_in query_of m v is
     ∙ ap (λ (b : Bool). if b then Unreadable not_supported else QueryFile (file_of v.file_id) class room) other

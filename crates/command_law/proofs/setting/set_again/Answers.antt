@@ -73,9 +73,9 @@ returns c = λ header rest file setting len small is.
     let v : SetInfoRequestValue = set_value file setting in
     let m : List ℕ = header ++ (body_of (SetInfo file setting) ++ rest) in
     let fit : IsWritableSetInfoRequest v = record {
-            fits = (omega arith, (omega arith, (class_small setting, (bytes_few setting is, (omega arith, (omega arith, (length-file_id file, (refl, tt))))))));
-            known = class_known setting;
-          } in
+      fits = (omega arith, (omega arith, (class_small setting, (bytes_few setting is, (omega arith, (omega arith, (length-file_id file, (refl, tt))))))));
+      known = class_known setting;
+    } in
     let row = found SpellsSetInfoRequest set_info_request_fault set_info_request_in law.one law.whole law.given m v (law.again header rest v len fit) in
     read_as SpellsSetInfoRequest set_info_request_fault set_info_request_in set_of m v row
     ∙ ap (λ (o : ℕ). setting_of o (class_of setting) (setting_bytes setting)) (file_again file small)
