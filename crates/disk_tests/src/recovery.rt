@@ -31,7 +31,7 @@ fn recovered<D: Disk + Drop>(alloc: Global, disk: D) -> Result<Result<Bytes, Jou
 // How many calls of a disk with these bytes fail a recovery, each failing alone. Each such failure must be told as the
 // disk's first fault, and the next recovery must find these bodies; else there is no number.
 fn faults_of(alloc: Global, bytes: &[u8], bodies: &[u8]) -> Result<Option<usize>, Fail> {
-    let mut faults = 0;
+    let mut faults: usize = 0;
     for call in 0..24usize {
         let mut failing = [0u8; 24];
         failing[call] = 1;
@@ -40,7 +40,7 @@ fn faults_of(alloc: Global, bytes: &[u8], bodies: &[u8]) -> Result<Option<usize>
         let mut disk = MemDisk::new(alloc, bytes, failing)?;
         let found = match recovered(alloc, &mut disk)? {
             Err(JournalError::DiskFault(1)) => {
-                faults += 1;
+                faults = faults.saturating_add(1);
                 recovered(alloc, &mut disk)??
             }
             other => other?,
