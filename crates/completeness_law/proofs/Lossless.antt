@@ -1,17 +1,18 @@
 -- On a run on which nothing is lost and nothing given up, no operation's outcome is unknown for the loss of its session, a
 -- refused dialog or a status that an unanswered copy leaves open.
 use Rattle.std.proofs.lemmas.List.{append-nil, append_assoc}
-use Rattle.std.proofs.Common.{◌≡◌, ◌≢◌, ℕ, ◌==◌, Bool, true, false, not, ◌&&◌, if◌then◌else◌, List, [], ◌∷◌, ◌++◌, ◌⊎◌, inl, inr, refl, arith, sym, subst, ◌∙◌, ap, eqb-true, Option, Some, None, slice_get}
+use Rattle.std.proofs.Common.{◌≡◌, ◌≢◌, ℕ, ◌+◌, ◌<◌, ◌==◌, Bool, true, false, not, ◌&&◌, if◌then◌else◌, List, [], ◌∷◌, ◌++◌, ◌⊎◌, inl, inr, refl, arith, sym, subst, ◌∙◌, ap, eqb-true, Option, Some, None, slice_get}
 use Rattle.exchange_defs.specs.Table.{put, put2}
 use Rattle.exchange_defs.specs.Status.{success, user_session_deleted, disk_full}
+use Rattle.exchange_defs.specs.Order.{Log}
 use Rattle.exchange_defs.specs.State.{Reply, Message, Accept, Body}
 use Rattle.exchange_defs.specs.Step.{step}
-use Rattle.exchange_defs.specs.Operations.{Op, OpReply, Outcome, Unsettled, WasOk, WasRefused, NoSlot, NoOpen, Unknown, is_create, is_lock, is_close, create_of, id_in, value_in}
+use Rattle.exchange_defs.specs.Operations.{Op, OpReply, Outcome, Unsettled, WasOk, WasRefused, NoSlot, NoOpen, Unknown, is_create, is_lock, is_close, is_firm, create_of, id_in, value_in}
 use Rattle.exchange_defs.specs.Client.{Client, Stage, create_for, may_take, take_op, is_gone, is_gone_after, outcome_at_first, may_push, goes_itself, has_its_slot, lacks_slot, settle_no_slot, settle_no_slots, begin, again, begun, take_slot, outstanding}
 use Rattle.exchange_defs.specs.Settling.{Heard as Hearing, Settles, GoesAgain, Attaches, EndsSession, heard, hear, is_awaited, settle, settled, noted, noted_full, settles_open, with_no_opens, without_open, ok_or_unknown, refused, goes_again}
 use Rattle.exchange_defs.specs.Dialogs.{DialogStep, GoesOn, Accepts, Binds, Readies, Refuses, dialog_step}
-use Rattle.exchange_defs.specs.ClientStep.{Pick, Act, Nothing, Sends, Asks, CloseChannel, CloseChannels, AllSettled, pick_after, pick_act, act_heard, some_unsettled, IsReady}
-use Rattle.exchange_defs.specs.Network.{World, Event, Submit, Open, Push, Serve, Take, Cut, Drop, Restart, Crash, Wait, Finish, Conn, Sent, Received, Token, ForDialog, ForOp, ForAttach, happens, changed, later, may_open, may_serve, may_take_reply, fresh, client_off, send_up, say_down, behind_front, pushed_by, answer, serve_front, take_reply, took_by, dialog_took, op_took, closed_by, with_client, behind_reply, dialog_ended, run, start, Settings}
+use Rattle.exchange_defs.specs.ClientStep.{Pick, Act, Nothing, Sends, pick_after, pick_act, act_heard, some_unsettled, IsReady}
+use Rattle.exchange_defs.specs.Network.{World, Event, Submit, Open, Push, Serve, Take, Cut, Drop, Restart, Crash, Wait, Finish, Conn, Sent, Received, Token, ForDialog, ForOp, ForAttach, op_of, happens, changed, later, may_open, may_serve, may_take_reply, fresh, client_off, send_up, say_down, behind_front, pushed_by, first_push, answer, serve_front, take_reply, took_by, dialog_took, op_took, closed_by, with_client, behind_reply, dialog_ended, run, start, Settings}
 use Rattle.exchange_law.proofs.Lists.{get-push, front_down, waited_down}
 use Rattle.exchange_law.proofs.Run.{both_ways, ended_well}
 use Rattle.exchange_law.proofs.Reached.{run_more}
@@ -19,87 +20,102 @@ use Rattle.server_law.proofs.Logic.{either, front_of, back_of}
 use Rattle.session_law.specs.Sessions.{is_ops}
 use Rattle.session_law.specs.Dialogs.{MessageAlone, ReplyAlone, IsLost, Channel, IsClosed, IsReady, IsInDialog, Channels}
 use Rattle.session_law.proofs.DialogFacts.{dialogs as dialogs_known}
-use Rattle.completeness_law.specs.Completeness.{loses_nothing, without_losses, is_told}
+use Rattle.completeness_law.specs.Completeness.{loses_nothing, without_losses, is_told, Answered}
 use Rattle.completeness_law.proofs.Facts.{StaysPresent}
+use Rattle.completeness_law.proofs.Events.{put_at, put_off}
 
 -- ---- replies that wait
 
-abbrev pub Told : Received → Type 0
-Told y = is_ops y.token ≡ true → y.reply.status ≢ user_session_deleted
+-- it doesn't end the session, and it stands in the log under its place
+abbrev pub Told : ℕ → (ℕ → ℕ) → Received → Type 0
+Told places who y = (is_ops y.token ≡ true → y.reply.status ≢ user_session_deleted) × y.place < places × who y.place ≡ op_of y.token
 
-abbrev pub AllTold : (ℕ → Conn) → Type 0
-AllTold conns = (k n : ℕ) (y : Received) → slice_get (conns k).down n ≡ Some y → Told y
+abbrev pub AllTold : ℕ → (ℕ → ℕ) → (ℕ → Conn) → Type 0
+AllTold places who conns = (k n : ℕ) (y : Received) → slice_get (conns k).down n ≡ Some y → Told places who y
 
-one_of : (ys : List Received) (z : Received) (n : ℕ) (y : Received) → slice_get (ys ++ z ∷ []) n ≡ Some y → ((m : ℕ) → slice_get ys m ≡ Some y → Told y) → Told z → Told y
-one_of ys z n y h old new = by (get-push ys z n).1
+one_of : (P : Received → Type 0) (ys : List Received) (z : Received) (n : ℕ) (y : Received) → slice_get (ys ++ z ∷ []) n ≡ Some y → ((m : ℕ) → slice_get ys m ≡ Some y → P y) → P z → P y
+one_of P ys z n y h old new = by (get-push ys z n).1
   where
     same : (z y : Received) → Some z ≡ Some y → z ≡ y
     same z y e = cc
 
-    by : (slice_get (ys ++ z ∷ []) n ≡ slice_get ys n) ⊎ (slice_get (ys ++ z ∷ []) n ≡ Some z) → Told y
+    by : (slice_get (ys ++ z ∷ []) n ≡ slice_get ys n) ⊎ (slice_get (ys ++ z ∷ []) n ≡ Some z) → P y
     by (inl e) = old n (sym e ∙ h)
-    by (inr e) = subst Told (same z y (sym e ∙ h)) new
+    by (inr e) = subst P (same z y (sym e ∙ h)) new
 
-put_told : (conns : ℕ → Conn) (k : ℕ) (d : Conn) → ((n : ℕ) (y : Received) → slice_get d.down n ≡ Some y → Told y) → AllTold conns → AllTold (put conns k d)
-put_told conns k d here i j n y h = elim (j == k) as (λ b. slice_get (if b then d else conns j).down n ≡ Some y → Told y) [ true ↦ λ g. here n y g | false ↦ λ g. i j n y g ] h
+put_told : (places : ℕ) (who : ℕ → ℕ) (conns : ℕ → Conn) (k : ℕ) (d : Conn) → ((n : ℕ) (y : Received) → slice_get d.down n ≡ Some y → Told places who y) → AllTold places who conns → AllTold places who (put conns k d)
+put_told places who conns k d here i j n y h =
+    elim (j == k) as (λ b. slice_get (if b then d else conns j).down n ≡ Some y → Told places who y) [ true ↦ λ g. here n y g | false ↦ λ g. i j n y g ] h
 
-none_told : (n : ℕ) (y : Received) → slice_get [] n ≡ Some y → Told y
-none_told n y h = absurd (grind arith)
+none_told : (places : ℕ) (who : ℕ → ℕ) (n : ℕ) (y : Received) → slice_get [] n ≡ Some y → Told places who y
+none_told places who n y h = absurd (grind arith)
 
-shut_told : (conns : ℕ → Conn) (k : ℕ) → AllTold conns → AllTold (put conns k (client_off (conns k)))
-shut_told conns k i = put_told conns k (client_off (conns k)) none_told i
+shut_told : (places : ℕ) (who : ℕ → ℕ) (conns : ℕ → Conn) (k : ℕ) → AllTold places who conns → AllTold places who (put conns k (client_off (conns k)))
+shut_told places who conns k i = put_told places who conns k (client_off (conns k)) (none_told places who) i
 
-sent_told : (conns : ℕ → Conn) (k n0 : ℕ) (t : Token) (m : Message) → AllTold conns → AllTold (put conns k (send_up (conns k) t m n0))
-sent_told conns k n0 t m i = put_told conns k (send_up (conns k) t m n0) (λ n y. i k n y) i
-
-closed_told : (w : World) (k : ℕ) (x : Act) → AllTold w.conns → AllTold (closed_by w k x).conns
-closed_told w k Nothing i = i
-closed_told w k (Sends g) i = i
-closed_told w k (Asks g) i = i
-closed_told w k CloseChannel i = shut_told w.conns k i
-closed_told w k CloseChannels i = λ j n y h. none_told n y h
-closed_told w k AllSettled i = i
+sent_told : (places : ℕ) (who : ℕ → ℕ) (conns : ℕ → Conn) (k n0 : ℕ) (t : Token) (m : Message) → AllTold places who conns → AllTold places who (put conns k (send_up (conns k) t m n0))
+sent_told places who conns k n0 t m i = put_told places who conns k (send_up (conns k) t m n0) (λ n y. i k n y) i
 
 -- ---- outcomes
 
-abbrev pub Unlost : Client → Type 0
-Unlost c = (g : ℕ) → c.before g ≡ false × is_told (c.outcome g) ≡ true
+-- a message of the operation was taken at the place whose reply settled it
+pub record At (places : ℕ) (who : ℕ → ℕ) (settled_by : Option ℕ) (g : ℕ) : Type 0 where
+  pub place : ℕ
+  pub is : settled_by ≡ Some place
+  pub low : place < places
+  pub own : who place ≡ g
+
+abbrev pub Unlost : ℕ → (ℕ → ℕ) → Client → Type 0
+Unlost places who c = (g : ℕ) → c.before g ≡ false × is_told (c.outcome g) ≡ true × (is_firm (c.outcome g) ≡ true → At places who (c.by g) g)
 
 put_outcome : (f : ℕ → Outcome) (g : ℕ) (o : Outcome) (x : ℕ) → is_told o ≡ true → is_told (f x) ≡ true → is_told (put f g o x) ≡ true
 put_outcome f g o x a b = either (λ r. is_told r ≡ true) (x == g) o (f x) (λ _. a) (λ _. b)
 
-first_told : (c : Client) (g : ℕ) (op : Op) → is_told (outcome_at_first c g op) ≡ true
-first_told c g op = either (λ r. is_told r ≡ true) (is_create op) Unsettled _ (λ _. refl) (λ _. either (λ r. is_told r ≡ true) (is_gone c (create_of g op)) (NoOpen (create_of g op)) Unsettled (λ _. refl) (λ _. refl))
+put_weak : (f : ℕ → Outcome) (g : ℕ) (o : Outcome) (x : ℕ) (P : Type 0) → is_firm o ≡ false → (is_firm (f x) ≡ true → P) → is_firm (put f g o x) ≡ true → P
+put_weak f g o x P n h = either (λ r. is_firm r ≡ true → P) (x == g) o (f x) (λ _ e. firm_not (is_firm o) e n) (λ _ e. h e)
+  where
+    firm_not : (b : Bool) → b ≡ true → b ≡ false → P
+    firm_not b e f = absurd (cc)
 
-takes_op : (c : Client) (g : ℕ) (op : Op) → Unlost c → Unlost (take_op c g op)
-takes_op c g op h x = ((h x).0, put_outcome c.outcome g (outcome_at_first c g op) x (first_told c g op) (h x).1)
+first_told : (c : Client) (g : ℕ) (op : Op) → is_told (outcome_at_first c g op) ≡ true × is_firm (outcome_at_first c g op) ≡ false
+first_told c g op =
+    let P : Outcome → Type 0 = λ r. is_told r ≡ true × is_firm r ≡ false in
+    either P (is_create op) Unsettled _ (λ _. (refl, refl)) (λ _. either P (is_gone c (create_of g op)) (NoOpen (create_of g op)) Unsettled (λ _. (refl, refl)) (λ _. (refl, refl)))
 
-slotless : (c : Client) (k : ℕ) (gs : List ℕ) → Unlost c → Unlost (settle_no_slots c k gs)
+takes_op : (places : ℕ) (who : ℕ → ℕ) (c : Client) (g : ℕ) (op : Op) → Unlost places who c → Unlost places who (take_op c g op)
+takes_op places who c g op h x =
+    let o = outcome_at_first c g op in let t = first_told c g op in ((h x).0, put_outcome c.outcome g o x t.0 (h x).1, put_weak c.outcome g o x (At places who (c.by x) x) t.1 (h x).2)
+
+slotless : (places : ℕ) (who : ℕ → ℕ) (c : Client) (k : ℕ) (gs : List ℕ) → Unlost places who c → Unlost places who (settle_no_slots c k gs)
 unfolding settle_no_slots
-slotless c k [] h = h
-slotless c k (g ∷ gs) h =
-    slotless (settle_no_slot c k g) k gs
-    (either Unlost (lacks_slot c k g) (record c { outcome = put c.outcome g (NoSlot (create_for c g)) }) c (λ _ x. ((h x).0, put_outcome c.outcome g (NoSlot (create_for c g)) x refl (h x).1)) (λ _. h))
+slotless places who c k [] h = h
+slotless places who c k (g ∷ gs) h =
+    let o = NoSlot (create_for c g) in
+    slotless places who (settle_no_slot c k g) k gs
+    (either (Unlost places who) (lacks_slot c k g) (record c { outcome = put c.outcome g o }) c
+    (λ _ x. ((h x).0, put_outcome c.outcome g o x refl (h x).1, put_weak c.outcome g o x (At places who (c.by x) x) refl (h x).2)) (λ _. h))
 
-begins : (c : Client) (k g i : ℕ) → Unlost c → Unlost (outstanding (begun c g i) k g)
-begins c k g i h =
-    let P : Client → Type 0 = λ d. Unlost (outstanding d k g) in
+begins : (places : ℕ) (who : ℕ → ℕ) (c : Client) (k g i : ℕ) → Unlost places who c → Unlost places who (outstanding (begun c g i) k g)
+begins places who c k g i h =
+    let P : Client → Type 0 = λ d. Unlost places who (outstanding d k g) in
     either P (c.sent g) (again c g) (begin c g i)
     (λ _. either P (is_lock (c.op g)) (record c { retried = put2 c.retried (create_for c g) (c.slot_of g) c.number }) c (λ _. h) (λ _. h))
     (λ _. either P (is_lock (c.op g)) (record (take_slot c g i) { sent = put c.sent g true }) (record c { sent = put c.sent g true }) (λ _. h) (λ _. h))
 
-noted_same : (c : Client) (g : ℕ) (o : Outcome) (body : Body) → Unlost c → Unlost (noted c g o body)
-noted_same c g (WasOk reply) body h =
-    either Unlost (is_create (c.op g)) (record c { file = put c.file g (id_in body); attached = put c.attached g c.number }) (if is_close (c.op g) then record c { shut = put c.shut (create_for c g) true } else c) (λ _. h)
-    (λ _. either Unlost (is_close (c.op g)) (record c { shut = put c.shut (create_for c g) true }) c (λ _. h) (λ _. h))
-noted_same c g Unsettled body h = h
-noted_same c g (WasRefused status) body h = h
-noted_same c g (NoSlot create) body h = h
-noted_same c g (NoOpen create) body h = h
-noted_same c g (Unknown why) body h = h
+noted_same : (places : ℕ) (who : ℕ → ℕ) (c : Client) (g : ℕ) (o : Outcome) (body : Body) → Unlost places who c → Unlost places who (noted c g o body)
+noted_same places who c g (WasOk reply) body h =
+    let P : Client → Type 0 = Unlost places who in
+    either P (is_create (c.op g)) (record c { file = put c.file g (id_in body); attached = put c.attached g c.number }) (if is_close (c.op g) then record c { shut = put c.shut (create_for c g) true } else c) (λ _. h)
+    (λ _. either P (is_close (c.op g)) (record c { shut = put c.shut (create_for c g) true }) c (λ _. h) (λ _. h))
+noted_same places who c g Unsettled body h = h
+noted_same places who c g (WasRefused status) body h = h
+noted_same places who c g (NoSlot create) body h = h
+noted_same places who c g (NoOpen create) body h = h
+noted_same places who c g (Unknown why) body h = h
 
-full_same : (c : Client) (g : ℕ) (asking : Bool) (status : ℕ) → Unlost c → Unlost (noted_full c g asking status)
-full_same c g asking status h = either Unlost (is_lock (c.op g) && (not asking && (status == disk_full))) (record c { full = put2 c.full (create_for c g) (c.slot_of g) true }) c (λ _. h) (λ _. h)
+full_same : (places : ℕ) (who : ℕ → ℕ) (c : Client) (g : ℕ) (asking : Bool) (status : ℕ) → Unlost places who c → Unlost places who (noted_full c g asking status)
+full_same places who c g asking status h =
+    either (Unlost places who) (is_lock (c.op g) && (not asking && (status == disk_full))) (record c { full = put2 c.full (create_for c g) (c.slot_of g) true }) c (λ _. h) (λ _. h)
 
 given_up : (a b c : Bool) (create : ℕ) (o : Outcome) → is_told o ≡ true → is_told (without_open a b c create o) ≡ true
 given_up a b c create Unsettled h = either (λ r. is_told r ≡ true) (a && (not b && c)) (NoOpen create) Unsettled (λ _. refl) (λ _. refl)
@@ -109,13 +125,32 @@ given_up a b c create (NoSlot n) h = h
 given_up a b c create (NoOpen n) h = h
 given_up a b c create (Unknown why) h = h
 
-settles : (c : Client) (g : ℕ) (asking : Bool) (r : Reply) (place : ℕ) (o : Outcome) → is_told o ≡ true → Unlost c → Unlost (settle c g asking r place o)
-settles c g asking r place o t h =
+still_firm : (a b c : Bool) (create : ℕ) (o : Outcome) → is_firm (without_open a b c create o) ≡ true → is_firm o ≡ true
+still_firm a b c create Unsettled = either (λ r. is_firm r ≡ true → false ≡ true) (a && (not b && c)) (NoOpen create) Unsettled (λ _ e. e) (λ _ e. e)
+still_firm a b c create (WasOk reply) = λ e. e
+still_firm a b c create (WasRefused status) = λ e. e
+still_firm a b c create (NoSlot n) = λ e. e
+still_firm a b c create (NoOpen n) = λ e. e
+still_firm a b c create (Unknown why) = λ e. e
+
+settled_at : (places : ℕ) (who : ℕ → ℕ) (c : Client) (g place : ℕ) (o : Outcome) → is_told o ≡ true → place < places → who place ≡ g → Unlost places who c → Unlost places who (settled c g o place)
+settled_at places who c g place o t low own h x = (
+  (h x).0,
+  put_outcome c.outcome g o x t (h x).1,
+  elim (x == g) as (λ b. x == g ≡ b → is_firm (if b then o else c.outcome x) ≡ true → At places who (if b then Some place else c.by x) x) [
+    | true ↦ λ q e. record { place = place; is = refl; low = low; own = own ∙ sym (eqb-true x g q) }
+    | false ↦ λ q e. (h x).2 e
+  ] refl,
+)
+
+settles : (places : ℕ) (who : ℕ → ℕ) (c : Client) (g : ℕ) (asking : Bool) (r : Reply) (place : ℕ) (o : Outcome) → is_told o ≡ true → place < places → who place ≡ g → Unlost places who c → Unlost places who (settle c g asking r place o)
+settles places who c g asking r place o t low own h =
     let n = noted c g o r.body in let f = noted_full n g asking r.status in let d = settled f g o place in
-    let i : Unlost f = full_same n g asking r.status (noted_same c g o r.body h) in
-    let j : Unlost d = λ x. ((i x).0, put_outcome f.outcome g o x t (i x).1) in
-    either Unlost (settles_open (c.op g)) (with_no_opens d (create_for c g)) d
-    (λ _ x. ((j x).0, given_up ((create_for d x == create_for c g) && not (is_create (d.op x))) (d.sent x) (is_gone_after d (create_for c g) (d.outcome (create_for c g))) (create_for c g) (d.outcome x) (j x).1)) (λ _. j)
+    let i : Unlost places who f = full_same places who n g asking r.status (noted_same places who c g o r.body h) in
+    let j : Unlost places who d = settled_at places who f g place o t low own i in
+    either (Unlost places who) (settles_open (c.op g)) (with_no_opens d (create_for c g)) d
+    (λ _ x. let a = (create_for d x == create_for c g) && not (is_create (d.op x)) in let z = is_gone_after d (create_for c g) (d.outcome (create_for c g)) in
+    ((j x).0, given_up a (d.sent x) z (create_for c g) (d.outcome x) (j x).1, λ e. (j x).2 (still_firm a (d.sent x) z (create_for c g) (d.outcome x) e))) (λ _. j)
 
 -- ---- what a reply comes to
 
@@ -153,22 +188,34 @@ heard_ends c g asking r =
 -- ---- by event
 
 pub record Here (w : World) : Type 0 where
-  pub client : Unlost w.client
-  pub told : AllTold w.conns
+  pub client : Unlost w.log.places w.log.who w.client
+  pub told : AllTold w.log.places w.log.who w.conns
 
 with_moment : (w : World) (n : ℕ) → Here w → Here (later w n)
 with_moment w n h = record { client = h.client; told = h.told }
 
-sends_op : (w : World) (k g i : ℕ) (c : Client) → Unlost c → AllTold w.conns → Here (pushed_by w k (pick_after c k (Some (record { op = g; slot = i }))) (pick_act c k (Some (record { op = g; slot = i }))))
+-- the log's places are the same
+logged_alike : (w v : World) → v.log.places ≡ w.log.places → v.log.who ≡ w.log.who → Unlost w.log.places w.log.who v.client → AllTold w.log.places w.log.who v.conns → Here v
+logged_alike w v places who h t =
+    record {
+      client = subst (λ p. Unlost p v.log.who v.client) (sym places) (subst (λ f. Unlost w.log.places f v.client) (sym who) h);
+      told = subst (λ p. AllTold p v.log.who v.conns) (sym places) (subst (λ f. AllTold w.log.places f v.conns) (sym who) t);
+    }
+
+first_same : (w : World) (g : ℕ) → (first_push w g).places ≡ w.log.places × (first_push w g).who ≡ w.log.who
+first_same w g = either (λ (l : Log). l.places ≡ w.log.places × l.who ≡ w.log.who) (w.client.sent g) w.log _ (λ _. (refl, refl)) (λ _. (refl, refl))
+
+sends_op : (w : World) (k g i : ℕ) (c : Client) → Unlost w.log.places w.log.who c → AllTold w.log.places w.log.who w.conns → Here (pushed_by w k (pick_after c k (Some (record { op = g; slot = i }))) (pick_act c k (Some (record { op = g; slot = i }))))
 sends_op w k g i c h t =
-    let P : Client → Act → Type 0 = λ d x. Here (pushed_by w k d x) in
+    let P : Client → Act → Type 0 = λ d x. Here (pushed_by w k d x) in let p = w.log.places in let f = w.log.who in let e = first_same w g in
     both_ways P (may_push c k g) _ _ _ _
     (λ _. both_ways P (goes_itself c g) _ _ _ _
-    (λ _. both_ways P (has_its_slot c g i) _ _ _ _ (λ _. record { client = begins c k g i h; told = sent_told w.conns k _ (ForOp g) _ t }) (λ _. record { client = h; told = t }))
-    (λ _. record { client = h; told = sent_told w.conns k _ (ForAttach g) _ t }))
+    (λ _. both_ways P (has_its_slot c g i) _ _ _ _
+    (λ _. logged_alike w (pushed_by w k (outstanding (begun c g i) k g) (Sends g)) e.0 e.1 (begins p f c k g i h) (sent_told p f w.conns k _ (ForOp g) _ t)) (λ _. record { client = h; told = t }))
+    (λ _. record { client = h; told = sent_told p f w.conns k _ (ForAttach g) _ t }))
     (λ _. record { client = h; told = t })
 
-picks : (w : World) (k : ℕ) (c : Client) (pick : Option Pick) → Unlost c → AllTold w.conns → Here (pushed_by w k (pick_after c k pick) (pick_act c k pick))
+picks : (w : World) (k : ℕ) (c : Client) (pick : Option Pick) → Unlost w.log.places w.log.who c → AllTold w.log.places w.log.who w.conns → Here (pushed_by w k (pick_after c k pick) (pick_act c k pick))
 picks w k c None h t = either (λ x. Here (pushed_by w k c x)) (some_unsettled c c.taken) _ _ (λ _. record { client = h; told = t }) (λ _. record { client = h; told = t })
 picks w k c (Some p) h t = sends_op w k p.op p.slot c h t
 
@@ -177,7 +224,7 @@ absent b P e f = absurd (cc)
 
 pushes : (w : World) (k : ℕ) (gs : List ℕ) (pick : Option Pick) → w.client.ready k ≡ true → Here w → Here (changed w (Push k gs pick))
 pushes w k gs pick on h =
-    both_ways (λ d x. Here (pushed_by w k d x)) (w.client.ready k) _ _ _ _ (λ _. picks w k (settle_no_slots w.client k gs) pick (slotless w.client k gs h.client) h.told) (λ off. absent (w.client.ready k) _ on off)
+    both_ways (λ d x. Here (pushed_by w k d x)) (w.client.ready k) _ _ _ _ (λ _. picks w k (settle_no_slots w.client k gs) pick (slotless w.log.places w.log.who w.client k gs h.client) h.told) (λ off. absent (w.client.ready k) _ on off)
 
 -- a message of an operation on an open connection is of a ready channel
 front_ready : (r : Bool) (t : Stage) (conn : Conn) (x : Sent) (rest : List Sent) → Channel r t conn → conn.up ≡ x ∷ rest → conn.client_open ≡ true → x.token ≢ ForDialog → r ≡ true
@@ -196,41 +243,69 @@ front_ready r t conn x rest (IsInDialog off talks stands (IsLost gone none empty
     filled : (xs : List Sent) → xs ≡ x ∷ rest → xs ≡ [] → r ≡ true
     filled xs e f = absurd (cc)
 
+-- one place more
+more_at : (places : ℕ) (who : ℕ → ℕ) (n : ℕ) (u : Option ℕ) (g : ℕ) → At places who u g → At (places + 1) (put who places n) u g
+more_at places who n u g h = record { place = h.place; is = h.is; low = above h.low; own = put_off who places n h.place (below h.low) ∙ h.own }
+  where
+    above : {a b : ℕ} → a < b → a < b + 1
+    above l = omega (arith, l)
+
+    below : {a b : ℕ} → a < b → a ≢ b
+    below l e = absurd (omega (arith, l, e))
+
+more_unlost : (places : ℕ) (who : ℕ → ℕ) (n : ℕ) (c : Client) → Unlost places who c → Unlost (places + 1) (put who places n) c
+more_unlost places who n c h x = ((h x).0, (h x).1, λ e. more_at places who n (c.by x) x ((h x).2 e))
+
+more_told : (places : ℕ) (who : ℕ → ℕ) (n : ℕ) (y : Received) → Told places who y → Told (places + 1) (put who places n) y
+more_told places who n y h = (h.0, above h.1, put_off who places n y.place (below h.1) ∙ h.2)
+  where
+    above : {a b : ℕ} → a < b → a < b + 1
+    above l = omega (arith, l)
+
+    below : {a b : ℕ} → a < b → a ≢ b
+    below l e = absurd (omega (arith, l, e))
+
 serves : (w : World) (k : ℕ) (xs : List Sent) → (w.conns k).up ≡ xs → ((x : Sent) (rest : List Sent) → (w.conns k).up ≡ x ∷ rest → (w.conns k).client_open ≡ true → is_ops x.token ≡ true → (answer w x).reply.status ≢ user_session_deleted) → Here w → Here (serve_front w k xs)
 serves w k [] is f h = h
 serves w k (x ∷ rest) is f h =
     let g = put w.conns k (behind_front (w.conns k) rest) in let y : Received = record { token = x.token; reply = (answer w x).reply; place = w.log.places } in
-    let i : AllTold g = put_told w.conns k (behind_front (w.conns k) rest) (λ n z. h.told k n z) h.told in
+    let p = w.log.places + 1 in let who = put w.log.who w.log.places (op_of x.token) in
+    let all : AllTold p who w.conns = λ j n z q. more_told w.log.places w.log.who (op_of x.token) z (h.told j n z q) in
+    let i : AllTold p who g = put_told p who w.conns k (behind_front (w.conns k) rest) (λ n z. all k n z) all in
     record {
-      client = h.client;
-      told = put_told g k (say_down (g k) y) (either (λ (d : Conn). (n : ℕ) (z : Received) → slice_get d.down n ≡ Some z → Told z) (g k).client_open (record (g k) { down = (g k).down ++ y ∷ [] }) (g k)
-          (λ o n z q. one_of (g k).down y n z q (λ m. i k m z) (λ ops. f x rest is (stands o) ops)) (λ _ n z. i k n z)) i;
+      client = more_unlost w.log.places w.log.who (op_of x.token) w.client h.client;
+      told = put_told p who g k (say_down (g k) y)
+          (either (λ (d : Conn). (n : ℕ) (z : Received) → slice_get d.down n ≡ Some z → Told p who z) (g k).client_open (record (g k) { down = (g k).down ++ y ∷ [] }) (g k)
+          (λ o n z q. one_of (Told p who) (g k).down y n z q (λ m. i k m z) (λ ops. f x rest is (stands o) ops, next w.log.places, put_at w.log.who w.log.places (op_of x.token))) (λ _ n z. i k n z)) i;
     }
   where
     stands : (put w.conns k (behind_front (w.conns k) rest) k).client_open ≡ true → (w.conns k).client_open ≡ true
     stands o = grind arith
 
-hears : (w : World) (k g : ℕ) (asking : Bool) (r : Reply) (place : ℕ) → r.status ≢ user_session_deleted → Here w → (h : Hearing) → heard w.client g asking r ≡ h → Here (with_client (closed_by w k (act_heard h)) (hear w.client g asking r place h))
-hears w k g asking r place n i (Settles o) e = record { client = settles w.client g asking r place o (heard_told w.client g asking r o (i.client g).0 e) i.client; told = i.told }
-hears w k g asking r place n i GoesAgain e = record { client = i.client; told = i.told }
-hears w k g asking r place n i Attaches e = record { client = i.client; told = i.told }
-hears w k g asking r place n i EndsSession e = absurd (n (heard_ends w.client g asking r e))
+    next : (n : ℕ) → n < n + 1
+    next n = omega arith
 
-took : (w : World) (k g : ℕ) (asking : Bool) (r : Reply) (place : ℕ) → r.status ≢ user_session_deleted → Here w → Here (op_took w k g asking r place)
-took w k g asking r place n i =
+hears : (w : World) (k g : ℕ) (asking : Bool) (r : Reply) (place : ℕ) → r.status ≢ user_session_deleted → place < w.log.places → w.log.who place ≡ g → Here w → (h : Hearing) → heard w.client g asking r ≡ h → Here (with_client (closed_by w k (act_heard h)) (hear w.client g asking r place h))
+hears w k g asking r place n low own i (Settles o) e = record { client = settles w.log.places w.log.who w.client g asking r place o (heard_told w.client g asking r o (i.client g).0 e) low own i.client; told = i.told }
+hears w k g asking r place n low own i GoesAgain e = record { client = i.client; told = i.told }
+hears w k g asking r place n low own i Attaches e = record { client = i.client; told = i.told }
+hears w k g asking r place n low own i EndsSession e = absurd (n (heard_ends w.client g asking r e))
+
+took : (w : World) (k g : ℕ) (asking : Bool) (r : Reply) (place : ℕ) → r.status ≢ user_session_deleted → place < w.log.places → w.log.who place ≡ g → Here w → Here (op_took w k g asking r place)
+took w k g asking r place n low own i =
     both_ways (λ c x. Here (with_client (closed_by w k x) c)) (is_awaited w.client k g asking) (hear w.client g asking r place (heard w.client g asking r)) w.client (act_heard (heard w.client g asking r)) Nothing
-    (λ _. hears w k g asking r place n i (heard w.client g asking r) refl) (λ _. record { client = i.client; told = i.told })
+    (λ _. hears w k g asking r place n low own i (heard w.client g asking r) refl) (λ _. record { client = i.client; told = i.told })
 
 ended : (w : World) (k session tree : ℕ) → Here w → Here (dialog_ended w k (IsReady k session tree))
 ended w k session tree i =
-    ended_well Here w k session tree (λ _. record { client = i.client; told = i.told }) (λ _ _. record { client = i.client; told = i.told }) (record { client = i.client; told = shut_told w.conns k i.told })
+    ended_well Here w k session tree (λ _. record { client = i.client; told = i.told }) (λ _ _. record { client = i.client; told = i.told }) (record { client = i.client; told = shut_told w.log.places w.log.who w.conns k i.told })
 
 dialogs : (w : World) (k : ℕ) (r : Reply) (d : DialogStep) → Here w → Here (dialog_took w k r d)
-dialogs w k r (GoesOn s) i = record { client = i.client; told = sent_told w.conns k 1 ForDialog _ i.told }
-dialogs w k r Accepts i = record { client = i.client; told = sent_told w.conns k 1 ForDialog _ i.told }
+dialogs w k r (GoesOn s) i = record { client = i.client; told = sent_told w.log.places w.log.who w.conns k 1 ForDialog _ i.told }
+dialogs w k r Accepts i = record { client = i.client; told = sent_told w.log.places w.log.who w.conns k 1 ForDialog _ i.told }
 dialogs w k r Binds i = ended w k w.client.session w.client.tree i
 dialogs w k r Readies i = ended w k w.client.pending r.tree i
-dialogs w k r (Refuses status) i = record { client = i.client; told = shut_told w.conns k i.told }
+dialogs w k r (Refuses status) i = record { client = i.client; told = shut_told w.log.places w.log.who w.conns k i.told }
 
 takes : (w : World) (k : ℕ) (ys : List Received) → (w.conns k).down ≡ ys → Here w → Here (take_reply w k ys)
 takes w k [] is h = h
@@ -239,15 +314,18 @@ takes w k (y ∷ rest) is h = by y.token refl
     behind : Here (behind_reply w k rest)
     behind = record { client = h.client; told = λ j n z q. let o = waited_down w.conns k y rest j n z is q in h.told j o.0 z o.1 }
 
+    here : Told w.log.places w.log.who y
+    here = h.told k 0 y (front_down (w.conns k).down y rest is)
+
     by : (t : Token) → y.token ≡ t → Here (took_by (behind_reply w k rest) k y.reply y.place t)
     by ForDialog e = dialogs (behind_reply w k rest) k y.reply (dialog_step (w.client.stage k) y.reply.status) behind
-    by (ForOp g) e = took (behind_reply w k rest) k g false y.reply y.place (h.told k 0 y (front_down (w.conns k).down y rest is) (ap is_ops e)) behind
-    by (ForAttach g) e = took (behind_reply w k rest) k g true y.reply y.place (h.told k 0 y (front_down (w.conns k).down y rest is) (ap is_ops e)) behind
+    by (ForOp g) e = took (behind_reply w k rest) k g false y.reply y.place (here.0 (ap is_ops e)) here.1 (here.2 ∙ ap op_of e) behind
+    by (ForAttach g) e = took (behind_reply w k rest) k g true y.reply y.place (here.0 (ap is_ops e)) here.1 (here.2 ∙ ap op_of e) behind
 
 pub unlost_on : (w : World) (e : Event) → ((k : ℕ) → may_serve w k ≡ true → (x : Sent) (rest : List Sent) → (w.conns k).up ≡ x ∷ rest → (w.conns k).client_open ≡ true → is_ops x.token ≡ true → (answer w x).reply.status ≢ user_session_deleted) → loses_nothing e ≡ true → Here w → Here (happens w e)
-unlost_on w (Submit g op) f l h = record { client = either Unlost (may_take w.client g op) (take_op w.client g op) w.client (λ _. takes_op w.client g op h.client) (λ _. h.client); told = h.told }
+unlost_on w (Submit g op) f l h = record { client = either (Unlost w.log.places w.log.who) (may_take w.client g op) (take_op w.client g op) w.client (λ _. takes_op w.log.places w.log.who w.client g op h.client) (λ _. h.client); told = h.told }
 unlost_on w (Open k) f l h =
-    either Here (may_open w k) (later (changed w (Open k)) 1) w (λ _. record { client = h.client; told = put_told w.conns k (fresh w.client k ((step w.server w.moment (Accept k)).reply.status == success)) none_told h.told }) (λ _. h)
+    either Here (may_open w k) (later (changed w (Open k)) 1) w (λ _. record { client = h.client; told = put_told w.log.places w.log.who w.conns k (fresh w.client k ((step w.server w.moment (Accept k)).reply.status == success)) (none_told w.log.places w.log.who) h.told }) (λ _. h)
 unlost_on w (Push k gs pick) f l h = either Here (w.client.ready k) (later (changed w (Push k gs pick)) 1) w (λ on. with_moment (changed w (Push k gs pick)) 1 (pushes w k gs pick on h)) (λ _. h)
 unlost_on w (Serve k) f l h = either Here (may_serve w k) (later (serve_front w k (w.conns k).up) 1) w (λ m. with_moment (serve_front w k (w.conns k).up) 1 (serves w k (w.conns k).up refl (f k m) h)) (λ _. h)
 unlost_on w (Take k) f l h = either Here (may_take_reply w k) (later (changed w (Take k)) 1) w (λ _. with_moment (changed w (Take k)) 1 (takes w k (w.conns k).down refl h)) (λ _. h)
@@ -277,11 +355,14 @@ along z (e ∷ es) before present l h =
     (along z es (before ++ e ∷ []) present (back_of (loses_nothing e) (without_losses es) l) (subst Here (sym (run_more before e (start z))) i))
 
 first : (z : Settings) → Here (start z)
-first z = record { client = λ g. (refl, refl); told = λ k n y h. none_told n y h }
+first z = record { client = λ g. (refl, refl, λ e. absurd (cc)); told = λ k n y h. none_told 0 (λ n. 0) n y h }
 
 at_first : (z : Settings) → Here (run [] (start z))
 unfolding run
 at_first z = first z
 
-pub nothing_lost : (z : Settings) → ((xs : List Event) → StaysPresent (run xs (start z))) → (es : List Event) → without_losses es ≡ true → (g : ℕ) → is_told ((run es (start z)).client.outcome g) ≡ true
-nothing_lost z present es l g = ((along z es [] present l (at_first z)).client g).1
+answered_by : (w : World) (g : ℕ) → At w.log.places w.log.who (w.client.by g) g → Answered w g
+answered_by w g h = record { place = h.place; settled = h.is; taken = h.low; own = h.own }
+
+pub nothing_lost : (z : Settings) → ((xs : List Event) → StaysPresent (run xs (start z))) → (es : List Event) → without_losses es ≡ true → (g : ℕ) → is_told ((run es (start z)).client.outcome g) ≡ true × (is_firm ((run es (start z)).client.outcome g) ≡ true → Answered (run es (start z)) g)
+nothing_lost z present es l g = let w = run es (start z) in let h = (along z es [] present l (at_first z)).client g in (h.1, λ e. answered_by w g (h.2 e))

@@ -1,7 +1,7 @@
 -- What is said of schedules that end in settling, over all 256 channels.
-use Rattle.std.specs.Prelude.{◌≡◌, ◌≢◌, ℕ, ◌≤◌, ◌<◌, ◌==◌, Bool, true, false, ◌&&◌, List, [], ◌∷◌, ◌++◌}
+use Rattle.std.specs.Prelude.{◌≡◌, ◌≢◌, ℕ, ◌≤◌, ◌<◌, ◌==◌, Bool, true, false, ◌&&◌, List, [], ◌∷◌, ◌++◌, Some}
 use Rattle.exchange_defs.specs.Status.{success, user_session_deleted}
-use Rattle.exchange_defs.specs.Operations.{Outcome, Unknown, Why, WithStatus, is_unsettled}
+use Rattle.exchange_defs.specs.Operations.{Outcome, Unknown, Why, WithStatus, is_unsettled, is_firm}
 use Rattle.exchange_defs.specs.Client.{Client}
 use Rattle.exchange_defs.specs.ClientStep.{last_number}
 use Rattle.exchange_defs.specs.Schedules.{Course, Line, Settles, course, drain, link, has_more, is_linking}
@@ -69,8 +69,18 @@ abbrev pub is_told : Outcome → Bool
 is_told (Unknown why) = is_unread why
 is_told _ = true
 
+-- the place of the operation's message, its own or the request to attach, whose reply settled it, among those that the server took
+pub record Answered (w : World) (g : ℕ) : Type 0 where
+  pub place : ℕ
+  pub settled : w.client.by g ≡ Some place
+  pub taken : place < w.log.places
+  pub own : w.log.who place ≡ g
+
 -- Then no operation's outcome is unknown for the loss of its session, for a refused dialog, or for a status that an unanswered
--- copy leaves open. A script without such events may yet end otherwise: `settle` gives all up where the logon is refused, as
--- `refused_logon_example` in exchange_examples computes, so the events here are those of the whole course.
+-- copy leaves open; and what is Ok or Refused was settled by the reply to a message of its own. A script without such events
+-- may yet end otherwise: `settle` gives all up where the logon is refused, as `refused_logon_example` in exchange_examples
+-- computes, so the events here are those of the whole course.
 abbrev pub NothingLost : Type 0
-NothingLost = (z : Settings) (events : List Event) → without_losses events ≡ true → (g : ℕ) → is_told ((run events (start z)).client.outcome g) ≡ true
+NothingLost =
+    (z : Settings) (events : List Event) → without_losses events ≡ true → (g : ℕ)
+    → is_told ((run events (start z)).client.outcome g) ≡ true × (is_firm ((run events (start z)).client.outcome g) ≡ true → Answered (run events (start z)) g)

@@ -27,8 +27,9 @@ pub fn settle_law()
 {}
 
 /// On a run on which no connection is cut or dropped, the server doesn't stop and nothing is given up for a refused logon,
-/// each operation is unsettled, or settled as Ok, as Refused, or for want of a slot or an open. The one outcome beside these
-/// that the law leaves room for is a success whose body doesn't read as the operation's.
+/// each operation is unsettled, or settled as Ok, as Refused, or for want of a slot or an open; and where it is Ok or
+/// Refused, by the reply to a message of its own that the server took. The one outcome beside these that the law leaves
+/// room for is a success whose body doesn't read as the operation's.
 pub fn nothing_lost_law()
     ensures told { NothingLost }
 {}
