@@ -1,4 +1,4 @@
--- The contexts of a CREATE take few bytes.
+-- The contexts of a CREATE and of its response take few bytes.
 use Rattle.std.proofs.Common.{◌≡◌, ℕ, suc, ◌+◌, ◌*◌, ◌<◌, ◌≤◌, Bool, true, false, List, [], ◌∷◌, ◌++◌, length, Option, Some, None, refl, ap, ◌∙◌, arith, length-append}
 use Rattle.std.specs.Prelude.{◌==◌, if◌then◌else◌}
 use Rattle.wire_defs.specs.Places.{le, gap_to_8}
@@ -6,13 +6,17 @@ use Rattle.wire_defs.proofs.Numbers.{length-le}
 use Rattle.wire_defs.specs.Table.{AreWritable}
 use Rattle.wire_defs.specs.Aligned.{told, aligned_gap}
 use Rattle.wire_defs.specs.Chain.{chain_spelling, linked}
-use Rattle.wire_defs.specs.CreateContexts.{CreateContext, request_due, context_whole, context_spelling, context_size, asked, dh2q_asked, dh2c_asked, asked_contexts, mxac, qfid, IsWritableCreateContexts, create_contexts_spelling}
+use Rattle.wire_defs.specs.CreateContexts.{CreateContext, request_due, reply_due, dh2q_told, mxac_told, qfid_told, told_contexts, IsWritableReplyContexts, reply_contexts_spelling, context_whole, context_spelling, context_size, asked, dh2q_asked, dh2c_asked, asked_contexts, mxac, qfid, IsWritableCreateContexts, create_contexts_spelling}
 use Rattle.wire_defs.specs.declared.context.CreateContexts.{CreateContexts}
 use Rattle.wire_defs.specs.declared.context.Dh2q.{Dh2q}
 use Rattle.wire_defs.specs.declared.context.Dh2c.{Dh2c}
+use Rattle.wire_defs.specs.declared.context.ReplyContexts.{ReplyContexts}
+use Rattle.wire_defs.specs.declared.context.Dh2qReply.{Dh2qReply}
+use Rattle.wire_defs.specs.declared.context.MaximalAccess.{MaximalAccess}
+use Rattle.wire_defs.specs.declared.context.DiskId.{DiskId}
 use Rattle.wire_law.proofs.Rows.{length-with_fields, size_of}
 use Rattle.info_law.proofs.ContextChain.{IsSmall, AreSmall}
-use Rattle.info_law.proofs.Gathered.{requests_small}
+use Rattle.info_law.proofs.Gathered.{requests_small, replies_small}
 
 at_most : (empty : Bool) (n : ℕ) → (if empty then 0 else n) ≤ n
 at_most true n = omega arith
@@ -24,30 +28,30 @@ gap_small n = omega arith
 gap_fits : (v : CreateContext) → aligned_gap (length v.value) (length v.name) ≤ 7
 gap_fits v = omega (arith, at_most (length v.value == 0) (gap_to_8 (length v.name)), gap_small (length v.name))
 
-fits : (v : CreateContext) (next : ℕ) → IsSmall request_due v → next ≤ 100 → AreWritable (context_whole v next)
-fits v next s le =
+fits : (due : List ℕ → Option ℕ) (v : CreateContext) (next : ℕ) → IsSmall due v → next ≤ 100 → AreWritable (context_whole v next)
+fits due v next s le =
     let gap = gap_fits v in
     let at : ℕ = 16 + length v.name + aligned_gap (length v.value) (length v.name) in
     let place : told (length v.value) at ≤ at = at_most (length v.value == 0) at in
     (omega arith, (omega arith, (omega (arith, s.name), (omega (arith, s.name, gap, place), (omega (arith, s.few), (refl, (refl, tt)))))))
 
-size_small : (v : CreateContext) → IsSmall request_due v → context_size v ≤ 70
-size_small v s = omega (arith, s.name, s.few, gap_fits v)
+size_small : (due : List ℕ → Option ℕ) (v : CreateContext) → IsSmall due v → context_size v ≤ 70
+size_small due v s = omega (arith, s.name, s.few, gap_fits v)
 
-length-one : (v : CreateContext) (next : ℕ) → IsSmall request_due v → next ≤ 100 → length (context_spelling v next) ≤ 70
+length-one : (due : List ℕ → Option ℕ) (v : CreateContext) (next : ℕ) → IsSmall due v → next ≤ 100 → length (context_spelling v next) ≤ 70
 unfolding size_of
-length-one v next s le = omega (arith, length-with_fields (context_whole v next) [] (fits v next s le), s.name, s.few, gap_fits v)
+length-one due v next s le = omega (arith, length-with_fields (context_whole v next) [] (fits due v next s le), s.name, s.few, gap_fits v)
 
-length-chain : (vs : List CreateContext) → AreSmall request_due vs → length (chain_spelling context_spelling context_size vs) ≤ 100 * length vs
-length-chain [] s = omega arith
-length-chain (v ∷ []) s = omega (arith, length-one v 0 s.0 (omega arith), length-append (context_spelling v 0) [])
-length-chain (v ∷ w ∷ ws) s =
+length-chain : (due : List ℕ → Option ℕ) (vs : List CreateContext) → AreSmall due vs → length (chain_spelling context_spelling context_size vs) ≤ 100 * length vs
+length-chain due [] s = omega arith
+length-chain due (v ∷ []) s = omega (arith, length-one due v 0 s.0 (omega arith), length-append (context_spelling v 0) [])
+length-chain due (v ∷ w ∷ ws) s =
     let gap : ℕ = gap_to_8 (context_size v) in
-    let small = size_small v s.0 in
+    let small = size_small due v s.0 in
     let gap_is = gap_small (context_size v) in
     let next : ℕ = context_size v + gap in
-    let first = length-one v next s.0 (omega (arith, small, gap_is)) in
-    let later = length-chain (w ∷ ws) s.1 in
+    let first = length-one due v next s.0 (omega (arith, small, gap_is)) in
+    let later = length-chain due (w ∷ ws) s.1 in
     omega (arith, length-append (context_spelling v next ++ le gap 0) (chain_spelling context_spelling context_size (w ∷ ws)), length-append (context_spelling v next) (le gap 0), length-le gap 0, gap_is, first, later)
 
 one_dh2q : (o : Option Dh2q) → length (dh2q_asked o) ≤ 1
@@ -76,4 +80,21 @@ few_contexts c =
     )
 
 pub contexts_few : (c : CreateContexts) → IsWritableCreateContexts c → length (create_contexts_spelling c) ≤ 400
-contexts_few c fit = omega (arith, length-chain (asked_contexts c) (requests_small c fit), few_contexts c)
+contexts_few c fit = omega (arith, length-chain request_due (asked_contexts c) (requests_small c fit), few_contexts c)
+
+one_timeout : (o : Option Dh2qReply) → length (dh2q_told o) ≤ 1
+one_timeout None = omega arith
+one_timeout (Some q) = omega arith
+
+one_access : (o : Option MaximalAccess) → length (mxac_told o) ≤ 1
+one_access None = omega arith
+one_access (Some a) = omega arith
+
+one_disk_id : (o : Option DiskId) → length (qfid_told o) ≤ 1
+one_disk_id None = omega arith
+one_disk_id (Some d) = omega arith
+
+pub replies_few : (c : ReplyContexts) → IsWritableReplyContexts c → length (reply_contexts_spelling c) ≤ 300
+replies_few c fit =
+    omega (arith, length-chain reply_due (told_contexts c) (replies_small c fit), length-append (dh2q_told c.dh2q) (mxac_told c.mxac ++ qfid_told c.qfid), length-append (mxac_told c.mxac) (qfid_told c.qfid), one_timeout c.dh2q,
+      one_access c.mxac, one_disk_id c.qfid)

@@ -7,3 +7,6 @@ pub mod Elements
 pub mod Settings
 pub mod Chained
 pub mod Limits
+pub mod HeardBack
+pub mod Infos
+pub mod Names

@@ -1,10 +1,11 @@
 -- What can be written: numbers within their fields, and texts.
-use Rattle.std.specs.Prelude.{◌≡◌, ℕ, ◌+◌, ◌^◌, ◌<◌, List, [], ◌∷◌, length, Option, Some, None, IsUtf8}
+use Rattle.std.specs.Prelude.{◌≡◌, ℕ, ◌+◌, ◌^◌, ◌<◌, List, [], ◌∷◌, length, false, Option, Some, None, IsUtf8}
 use Rattle.wire_defs.specs.Utf16.{utf16}
 use Rattle.exchange_defs.specs.Commands.{Element, Basic, Setting, SetBasic, Rename, SetDelete, SetAllocation, SetEnd, Durable, Reconnect, CreateRequest}
 use Rattle.exchange_defs.specs.State.{Info, CreateReply, Named, Body, Empty, Created, Content, Count, Listing, FileInfo}
-use Rattle.exchange_defs.specs.Operations.{Op, OpCreate, OpWrite, OpRead, OpStat, OpList}
+use Rattle.exchange_defs.specs.Operations.{Op, OpCreate, OpWrite, OpRead, OpStat, OpList, value_in, id_in}
 use Rattle.command_defs.specs.Infos.{listing_bytes}
+use Rattle.command_defs.specs.ReplyOf.{of_length, named_of}
 
 -- a name: a text of fewer than 2^16 bytes in UTF-16
 pub record IsName (text : List ℕ) : Type 0 where
@@ -91,3 +92,16 @@ IsAnswer (OpList create) (Listing class entries) = (class ≡ 12) × AreNames en
 IsAnswer (OpList create) _ = ⊥
 IsAnswer _ Empty = Unit {0}
 IsAnswer _ _ = ⊥
+
+-- what a client sees of a CREATE's success and of a listing's names
+abbrev pub as_created : CreateReply → CreateReply
+as_created r = record { id = r.id; action = r.action; info = of_length r.info.size; timeout = None; maximal = false; disk_id = false }
+
+abbrev pub as_named : List Named → List Named
+as_named [] = []
+as_named (n ∷ ns) = named_of 0 n.name ∷ as_named ns
+
+-- two bodies are heard alike: the operation settles with the same reply, and a create opens the same file
+pub record IsHeardAlike (op : Op) (a b : Body) : Type 0 where
+  pub value : value_in op a ≡ value_in op b
+  pub id : id_in a ≡ id_in b
