@@ -96,5 +96,12 @@ one_disk_id (Some d) = omega arith
 
 pub replies_few : (c : ReplyContexts) → IsWritableReplyContexts c → length (reply_contexts_spelling c) ≤ 300
 replies_few c fit =
-    omega (arith, length-chain reply_due (told_contexts c) (replies_small c fit), length-append (dh2q_told c.dh2q) (mxac_told c.mxac ++ qfid_told c.qfid), length-append (mxac_told c.mxac) (qfid_told c.qfid), one_timeout c.dh2q,
-      one_access c.mxac, one_disk_id c.qfid)
+    omega (
+      arith,
+      length-chain reply_due (told_contexts c) (replies_small c fit),
+      length-append (dh2q_told c.dh2q) (mxac_told c.mxac ++ qfid_told c.qfid),
+      length-append (mxac_told c.mxac) (qfid_told c.qfid),
+      one_timeout c.dh2q,
+      one_access c.mxac,
+      one_disk_id c.qfid,
+    )

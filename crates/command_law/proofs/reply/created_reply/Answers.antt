@@ -60,6 +60,6 @@ returns c = λ header rest token request r len is.
     let place = told_small (length (reply_contexts_spelling (contexts_told r))) in
     let size : r.info.size < 256 ^ 8 = omega (arith, is.info.size) in
     let row = found SpellsCreateResponse create_response_fault create_response_in law.one law.whole law.given m v
-            (law.again header rest v len
-              (omega arith, (omega arith, (omega arith, (is.action, (times.created, (times.accessed, (times.written, (times.changed, (allocation_small r.info.size is.info.size, (size, (attributes_small r.info times.attributes, (length-file_id r.id, (omega (arith, place), (omega (arith, few), (refl, tt)))))))))))))))) in
+    (law.again header rest v len
+    (omega arith, (omega arith, (omega arith, (is.action, (times.created, (times.accessed, (times.written, (times.changed, (allocation_small r.info.size is.info.size, (size, (attributes_small r.info times.attributes, (length-file_id r.id, (omega (arith, place), (omega (arith, few), (refl, tt)))))))))))))))) in
     heard_as create_response_fault create_response_in created_in m v row ∙ ap (heard_with r) (file_again r.id is.id)

@@ -35,7 +35,7 @@ returns c = λ header rest token file restart single pattern room ns len names f
     let m : List ℕ = header ++ (query_directory_response_spelling v ++ rest) in
     let row = found SpellsQueryDirectoryResponse query_directory_response_fault query_directory_response_in law.one law.whole law.given m v (law.again header rest v len (omega arith, (omega arith, (few, (refl, tt))))) in
     let given : (m : List ℕ) (v : DirectoryEntryValue) → SpellsDirectoryEntry class.Names m v → directory_entry_in class.Names m ≡ v =
-        λ m v is. one.one class.Names m (directory_entry_in class.Names m) v (one.given class.Names m (one.whole class.Names m v is)) is in
+    λ m v is. one.one class.Names m (directory_entry_in class.Names m) v (one.given class.Names m (one.whole class.Names m v is)) is in
     let items = items_again (SpellsDirectoryEntry class.Names) (directory_entry_in class.Names) breaks whole_entry given some_entry bytes entries (c.listing_law.ensures.again class.Names entries (entries_fit ns names)) in
     heard_as query_directory_response_fault query_directory_response_in told_in m v row
     ∙ ap (λ (o : Option (List DirectoryEntryValue)). option_map (Listing 12) (option_and_then names_of o)) items

@@ -30,7 +30,7 @@ unfolding reply_of reply_body
 returns c = λ h header rest token op guid file slot number r len ok same is.
     let command : Command = request_of op guid file slot number in
     subst (λ (n : ℕ). IsHeardAlike op (body_by n command (header ++ (bytes_by r.status token command r.body ++ rest))) r.body) (sym (same ∙ ok))
-      (subst (λ (n : ℕ). IsHeardAlike op (body_by 0 command (header ++ (bytes_by n token command r.body ++ rest))) r.body) (sym ok) (by_op op r.body header rest token guid file slot number len is))
+    (subst (λ (n : ℕ). IsHeardAlike op (body_by 0 command (header ++ (bytes_by n token command r.body ++ rest))) r.body) (sym ok) (by_op op r.body header rest token guid file slot number len is))
   where
     by_op : (op : Op) (b : Body) (header rest token : List ℕ) (guid file slot number : ℕ) → length header ≡ 64 → IsAnswer op b
         → Alike op (request_of op guid file slot number) (header ++ (success_body token (request_of op guid file slot number) b ++ rest)) b
@@ -43,13 +43,13 @@ returns c = λ h header rest token op guid file slot number r len ok same is.
     by_op (OpRead create at size) b header rest token guid file slot number len is = absurd is
     by_op (OpStat create) (FileInfo class path info access options) header rest token guid file slot number len is =
         alike (OpStat create) _ (FileInfo class path info access options) _
-          (ap (λ (k : ℕ). body_in (QueryFile file 5 24) (header ++ (success_body token (QueryFile file 5 24) (FileInfo k path info access options) ++ rest))) is.0 ∙ c.stat_reply.ensures header rest token file 24 path info access options len is.1) refl refl
+        (ap (λ (k : ℕ). body_in (QueryFile file 5 24) (header ++ (success_body token (QueryFile file 5 24) (FileInfo k path info access options) ++ rest))) is.0 ∙ c.stat_reply.ensures header rest token file 24 path info access options len is.1) refl refl
     by_op (OpStat create) b header rest token guid file slot number len is = absurd is
     by_op (OpList create) (Listing class entries) header rest token guid file slot number len is =
         alike (OpList create) _ (Listing class entries) _
-          (ap (λ (k : ℕ). body_in (ListDirectory file 12 true false (42 ∷ []) 1048576) (header ++ (success_body token (ListDirectory file 12 true false (42 ∷ []) 1048576) (Listing k entries) ++ rest))) is.0
-          ∙ c.list_reply.ensures header rest token file true false (42 ∷ []) 1048576 entries len is.1 is.2)
-          (ap (λ (ns : List (List ℕ)). Some (Names ns)) (same_names entries)) refl
+        (ap (λ (k : ℕ). body_in (ListDirectory file 12 true false (42 ∷ []) 1048576) (header ++ (success_body token (ListDirectory file 12 true false (42 ∷ []) 1048576) (Listing k entries) ++ rest))) is.0
+        ∙ c.list_reply.ensures header rest token file true false (42 ∷ []) 1048576 entries len is.1 is.2)
+        (ap (λ (ns : List (List ℕ)). Some (Names ns)) (same_names entries)) refl
     by_op (OpList create) b header rest token guid file slot number len is = absurd is
     by_op (OpEnd create size) Empty header rest token guid file slot number len is = alike (OpEnd create size) Empty Empty _ (c.empty_replies.ensures.set header rest token file (SetEnd size) len) refl refl
     by_op (OpEnd create size) b header rest token guid file slot number len is = absurd is
