@@ -47,7 +47,19 @@ contexts_of r = record { dh2q = option_map dh2q_of r.durable; dh2c = option_map 
 
 abbrev pub create_value : CreateRequest → CreateRequestValue
 create_value r =
-    record { requested_oplock_level = 0; impersonation_level = 2; desired_access = r.access; file_attributes = r.attributes; share_access = r.share; create_disposition = r.disposition; create_options = r.options; name = utf16 r.path; contexts = create_contexts_spelling (contexts_of r) }
+    record {
+      requested_oplock_level = 0;
+      impersonation_level = 2;
+      desired_access = r.access;
+      file_attributes =
+          r.attributes;
+      share_access = r.share;
+      create_disposition = r.disposition;
+      create_options = r.options;
+      name =
+          utf16 r.path;
+      contexts = create_contexts_spelling (contexts_of r);
+    }
 
 -- ---- LOCK (2.2.26)
 
@@ -55,7 +67,12 @@ abbrev pub element_of : Element → LockElement
 element_of e = record { offset = e.at; length = e.length; flags = e.flags }
 
 abbrev pub lock_value : ℕ → ℕ → ℕ → List Element → LockRequestValue
-lock_value file index number elements = record { lock_sequence = 16 * index + number; file_id = file_id file; locks = flat_map (λ e. lock_element_spelling (element_of e)) elements }
+lock_value file index number elements = record {
+  lock_sequence = 16 * index + number;
+  file_id = file_id file;
+  locks =
+      flat_map (λ e. lock_element_spelling (element_of e)) elements;
+}
 
 -- ---- SET_INFO (2.2.39): the class of a setting, and its bytes (MS-FSCC 2.4)
 
@@ -67,17 +84,34 @@ class_of (SetAllocation size) = 19
 class_of (SetEnd size) = 20
 
 abbrev pub basic_value : Basic → FileBasicInformation
-basic_value b = record { creation_time = b.created; last_access_time = b.accessed; last_write_time = b.written; change_time = b.changed; file_attributes = b.attributes }
+basic_value b = record {
+  creation_time = b.created;
+  last_access_time = b.accessed;
+  last_write_time = b.written;
+  change_time = b.changed;
+  file_attributes = b.attributes;
+}
 
 abbrev pub setting_bytes : Setting → List ℕ
 setting_bytes (SetBasic basic) = file_basic_information_spelling (basic_value basic)
-setting_bytes (Rename replace path) = file_rename_information_spelling (record { replace_if_exists = bit_if replace 1; root_directory = 0; name = utf16 path })
+setting_bytes (Rename replace path) = file_rename_information_spelling (record {
+  replace_if_exists = bit_if replace 1;
+  root_directory = 0;
+  name = utf16 path;
+})
 setting_bytes (SetDelete marked) = file_disposition_information_spelling (record { delete_pending = bit_if marked 1 })
 setting_bytes (SetAllocation size) = file_allocation_information_spelling (record { allocation_size = size })
 setting_bytes (SetEnd size) = file_end_of_file_information_spelling (record { end_of_file = size })
 
 abbrev pub set_value : ℕ → Setting → SetInfoRequestValue
-set_value file setting = record { info_type = 1; file_info_class = class_of setting; additional_information = 0; file_id = file_id file; payload = setting_bytes setting }
+set_value file setting = record {
+  info_type = 1;
+  file_info_class = class_of setting;
+  additional_information = 0;
+  file_id
+      = file_id file;
+  payload = setting_bytes setting;
+}
 
 -- ---- the others (2.2.15, 2.2.17, 2.2.19, 2.2.21, 2.2.33, 2.2.37)
 
@@ -88,17 +122,49 @@ abbrev pub flush_value : ℕ → FlushRequest
 flush_value file = record { file_id = file_id file }
 
 abbrev pub read_value : ℕ → ℕ → ℕ → ℕ → ℕ → ReadRequest
-read_value file at size minimum channel = record { flags = 0; length = size; offset = at; file_id = file_id file; minimum_count = minimum; channel = channel; remaining_bytes = 0 }
+read_value file at size minimum channel = record {
+  flags = 0;
+  length = size;
+  offset = at;
+  file_id = file_id file;
+  minimum_count = minimum;
+  channel = channel;
+  remaining_bytes = 0;
+}
 
 abbrev pub write_value : ℕ → ℕ → List ℕ → ℕ → WriteRequestValue
-write_value file at bytes channel = record { offset = at; file_id = file_id file; channel = channel; remaining_bytes = 0; flags = 0; payload = bytes }
+write_value file at bytes channel = record {
+  offset = at;
+  file_id = file_id file;
+  channel = channel;
+  remaining_bytes =
+      0;
+  flags = 0;
+  payload = bytes;
+}
 
 abbrev pub list_value : ℕ → ℕ → Bool → Bool → List ℕ → ℕ → QueryDirectoryRequestValue
 list_value file class restart single pattern room =
-    record { file_information_class = class; flags = bit_if restart 1 + bit_if single 2; file_index = 0; file_id = file_id file; output_buffer_length = room; name = utf16 pattern }
+    record {
+      file_information_class = class;
+      flags = bit_if restart 1 + bit_if single 2;
+      file_index = 0;
+      file_id =
+          file_id file;
+      output_buffer_length = room;
+      name = utf16 pattern;
+    }
 
 abbrev pub query_value : ℕ → ℕ → ℕ → QueryInfoRequestValue
-query_value file class room = record { info_type = 1; file_info_class = class; output_buffer_length = room; additional_information = 0; flags = 0; file_id = file_id file; input = [] }
+query_value file class room = record {
+  info_type = 1;
+  file_info_class = class;
+  output_buffer_length = room;
+  additional_information = 0;
+  flags = 0;
+  file_id = file_id file;
+  input = [];
+}
 
 -- ---- the body of a command; the client sends no others, but those of a dialog that carry a token
 
@@ -110,7 +176,8 @@ body_of (Flush file) = flush_request_spelling (flush_value file)
 body_of (Read file at size minimum channel) = read_request_spelling (read_value file at size minimum channel)
 body_of (Write file at bytes channel) = write_request_spelling (write_value file at bytes channel)
 body_of (Lock file index number elements) = lock_request_spelling (lock_value file index number elements)
-body_of (ListDirectory file class restart single pattern room) = query_directory_request_spelling (list_value file class restart single pattern room)
+body_of (ListDirectory file class restart single pattern room) = query_directory_request_spelling (list_value file class
+    restart single pattern room)
 body_of (QueryFile file class room) = query_info_request_spelling (query_value file class room)
 body_of (SetInfo file setting) = set_info_request_spelling (set_value file setting)
 body_of _ = []

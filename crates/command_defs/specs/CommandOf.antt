@@ -58,7 +58,16 @@ unless None c = c
 
 abbrev pub setup_of : Told → Header → Bool → SessionSetupRequestValue → Command
 setup_of t h readable v =
-    Setup (record { readable = readable; binding = has_bit v.flags 1; signed = has_bit h.flags 8; verified = t.verified; previous = v.previous_session_id; cipher = t.cipher; signing = t.signing; shows = t.shows v.security })
+    Setup (record {
+      readable = readable;
+      binding = has_bit v.flags 1;
+      signed = has_bit h.flags 8;
+      verified = t.verified;
+      previous = v.previous_session_id;
+      cipher = t.cipher;
+      signing = t.signing;
+      shows = t.shows v.security;
+    })
 
 -- ---- TREE_CONNECT (2.2.9): the share's name stands behind the last `\` of the path
 
@@ -82,13 +91,25 @@ abbrev pub create_of : CreateRequestValue → Option (List ℕ) → Option Creat
 create_of v None contexts = Unreadable object_name_invalid
 create_of v (Some path) None = Unreadable invalid_parameter
 create_of v (Some path) (Some c) =
-    Create (record { path = path; access = v.desired_access; share = v.share_access; attributes = v.file_attributes; disposition = v.create_disposition; options = v.create_options; durable = option_map durable_of c.dh2q; reconnect = option_map reconnect_of c.dh2c; maximal = c.mxac; disk_id = c.qfid })
+    Create (record {
+      path = path;
+      access = v.desired_access;
+      share = v.share_access;
+      attributes = v.file_attributes;
+      disposition = v.create_disposition;
+      options = v.create_options;
+      durable = option_map durable_of c.dh2q;
+      reconnect = option_map reconnect_of c.dh2c;
+      maximal = c.mxac;
+      disk_id = c.qfid;
+    })
 
 -- ---- LOCK (2.2.26): LockSequence is the number in its low 4 bits, and the slot's index; 24 bytes an element
 
 unfoldable pub elements_in : ℕ → List ℕ → List Element
 elements_in zero bytes = []
-elements_in (suc n) bytes = record { at = number 8 bytes 0; length = number 8 bytes 8; flags = number 4 bytes 16 } ∷ elements_in n (drop 24 bytes)
+elements_in (suc n) bytes = record { at = number 8 bytes 0; length = number 8 bytes 8; flags = number 4 bytes 16 } ∷
+    elements_in n (drop 24 bytes)
 
 abbrev pub lock_of : LockRequestValue → Command
 lock_of v = Lock (file_of v.file_id) (v.lock_sequence / 16) (v.lock_sequence % 16) (elements_in (length v.locks / 24) v.locks)
@@ -97,14 +118,16 @@ lock_of v = Lock (file_of v.file_id) (v.lock_sequence / 16) (v.lock_sequence % 1
 
 abbrev pub list_of : QueryDirectoryRequestValue → Option (List ℕ) → Command
 list_of v None = Unreadable object_name_invalid
-list_of v (Some pattern) = ListDirectory (file_of v.file_id) v.file_information_class (has_bit v.flags 0x1 || has_bit v.flags 0x10) (has_bit v.flags 0x2) pattern v.output_buffer_length
+list_of v (Some pattern) = ListDirectory (file_of v.file_id) v.file_information_class (has_bit v.flags 0x1 || has_bit
+    v.flags 0x10) (has_bit v.flags 0x2) pattern v.output_buffer_length
 
 -- ---- QUERY_INFO (2.2.37): type 1 a file, of which extended attributes (7 and 15) are left out, 2 a volume; security (3) and
 -- quotas (4) are left out
 
 abbrev pub query_of : QueryInfoRequestValue → Command
 query_of v =
-    if v.info_type == 1 then (if (v.file_info_class == 7) || (v.file_info_class == 15) then Unreadable not_supported else QueryFile (file_of v.file_id) v.file_info_class v.output_buffer_length)
+    if v.info_type == 1 then (if (v.file_info_class == 7) || (v.file_info_class == 15) then Unreadable not_supported
+    else QueryFile (file_of v.file_id) v.file_info_class v.output_buffer_length)
     else if v.info_type == 2 then QueryVolume (file_of v.file_id) v.file_info_class v.output_buffer_length
     else if (v.info_type == 3) || (v.info_type == 4) then Unreadable not_supported
     else Unreadable invalid_parameter
@@ -112,20 +135,32 @@ query_of v =
 -- ---- SET_INFO (2.2.39) with the classes of MS-FSCC 2.4; types and extended attributes as above
 
 abbrev pub basic_of : FileBasicInformation → Basic
-basic_of v = record { created = v.creation_time; accessed = v.last_access_time; written = v.last_write_time; changed = v.change_time; attributes = v.file_attributes }
+basic_of v = record {
+  created = v.creation_time;
+  accessed = v.last_access_time;
+  written = v.last_write_time;
+  changed =
+      v.change_time;
+  attributes = v.file_attributes;
+}
 
 -- RootDirectory names no directory
 abbrev pub rename_of : ℕ → FileRenameInformationValue → Option (List ℕ) → Command
 rename_of file v None = Unreadable object_name_invalid
-rename_of file v (Some path) = if v.root_directory == 0 then SetInfo file (Rename (not (v.replace_if_exists == 0)) path) else Unreadable invalid_parameter
+rename_of file v (Some path) = if v.root_directory == 0 then SetInfo file (Rename (not (v.replace_if_exists == 0)) path)
+    else Unreadable invalid_parameter
 
 abbrev pub setting_of : ℕ → ℕ → List ℕ → Command
 setting_of file class bytes =
     if class == 4 then unless (file_basic_information_fault bytes) (SetInfo file (SetBasic (basic_of (file_basic_information_in bytes))))
-    else if class == 10 then unless (file_rename_information_fault bytes) (let v = file_rename_information_in bytes in rename_of file v (text_in v.name))
-    else if class == 13 then unless (file_disposition_information_fault bytes) (SetInfo file (SetDelete (not ((file_disposition_information_in bytes).delete_pending == 0))))
-    else if class == 19 then unless (file_allocation_information_fault bytes) (SetInfo file (SetAllocation (file_allocation_information_in bytes).allocation_size))
-    else if class == 20 then unless (file_end_of_file_information_fault bytes) (SetInfo file (SetEnd (file_end_of_file_information_in bytes).end_of_file))
+    else if class == 10 then unless (file_rename_information_fault bytes) (let v = file_rename_information_in bytes in
+    rename_of file v (text_in v.name))
+    else if class == 13 then unless (file_disposition_information_fault bytes) (SetInfo file (SetDelete (not
+    ((file_disposition_information_in bytes).delete_pending == 0))))
+    else if class == 19 then unless (file_allocation_information_fault bytes) (SetInfo file (SetAllocation
+    (file_allocation_information_in bytes).allocation_size))
+    else if class == 20 then unless (file_end_of_file_information_fault bytes) (SetInfo file (SetEnd
+    (file_end_of_file_information_in bytes).end_of_file))
     else Unreadable not_supported
 
 abbrev pub set_of : SetInfoRequestValue → Command
@@ -166,7 +201,8 @@ unfoldable pub flush_in : List ℕ → Command
 flush_in m = unless (flush_request_fault m) (Flush (file_of (flush_request_in m).file_id))
 
 unfoldable pub read_in : List ℕ → Command
-read_in m = unless (read_request_fault m) (let v = read_request_in m in Read (file_of v.file_id) v.offset v.length v.minimum_count v.channel)
+read_in m = unless (read_request_fault m) (let v = read_request_in m in Read (file_of v.file_id) v.offset v.length
+    v.minimum_count v.channel)
 
 unfoldable pub write_in : List ℕ → Command
 write_in m = unless (write_request_fault m) (let v = write_request_in m in Write (file_of v.file_id) v.offset v.payload v.channel)
@@ -218,7 +254,18 @@ command_of t h m = if h.command == 12 then None else Some (named_command h.comma
 -- The message that the server hears. The sequence of its channel is the low half of the header's Status (2.2.1.2); replay is
 -- 0x20000000. The ids of a related request are those of its header and body behind what it takes from the one before.
 abbrev pub heard_as : Told → Header → Command → Message
-heard_as t h c = record { connection = t.connection; client = t.client; session = h.session; tree = h.tree; id = h.message; sequence = h.status % 65536; replay = has_bit h.flags 0x2000_0000; fault = t.fault; command = c }
+heard_as t h c = record {
+  connection = t.connection;
+  client = t.client;
+  session = h.session;
+  tree = h.tree;
+  id =
+      h.message;
+  sequence = h.status % 65536;
+  replay = has_bit h.flags 0x2000_0000;
+  fault = t.fault;
+  command = c;
+}
 
 unfoldable pub message_of : Told → Header → List ℕ → Option Message
 message_of t h m = option_map (heard_as t h) (command_of t h m)

@@ -32,11 +32,25 @@ attributes_of i =
     else i.times.attributes
 
 abbrev pub basic_of : Info → FileBasicInformation
-basic_of i = record { creation_time = i.times.created; last_access_time = i.times.accessed; last_write_time = i.times.written; change_time = i.times.changed; file_attributes = attributes_of i }
+basic_of i = record {
+  creation_time = i.times.created;
+  last_access_time = i.times.accessed;
+  last_write_time =
+      i.times.written;
+  change_time = i.times.changed;
+  file_attributes = attributes_of i;
+}
 
 -- one link
 abbrev pub standard_of : Info → FileStandardInformation
-standard_of i = record { allocation_size = allocation i.size; end_of_file = i.size; number_of_links = 1; delete_pending = bit_if i.is_marked 1; directory = bit_if i.is_directory 1 }
+standard_of i = record {
+  allocation_size = allocation i.size;
+  end_of_file = i.size;
+  number_of_links = 1;
+  delete_pending
+      = bit_if i.is_marked 1;
+  directory = bit_if i.is_directory 1;
+}
 
 -- the bits of an open's options that FileModeInformation names (MS-FSCC 2.4.26)
 abbrev pub mode_of : ℕ → ℕ
@@ -63,7 +77,16 @@ all_of path i access options =
     }
 
 abbrev pub network_open_of : Info → FileNetworkOpenInformation
-network_open_of i = record { creation_time = i.times.created; last_access_time = i.times.accessed; last_write_time = i.times.written; change_time = i.times.changed; allocation_size = allocation i.size; end_of_file = i.size; file_attributes = attributes_of i }
+network_open_of i = record {
+  creation_time = i.times.created;
+  last_access_time = i.times.accessed;
+  last_write_time =
+      i.times.written;
+  change_time = i.times.changed;
+  allocation_size = allocation i.size;
+  end_of_file = i.size;
+  file_attributes = attributes_of i;
+}
 
 -- the classes that can be asked: 4, 5, 6, 34 and 18
 unfoldable pub file_bytes : ℕ → List ℕ → Info → ℕ → ℕ → List ℕ
@@ -83,10 +106,23 @@ abbrev pub volume_value : FileFsVolumeInformationValue
 volume_value = record { volume_creation_time = 0; volume_serial_number = 1; supports_objects = 0; label = [] }
 
 abbrev pub sizes_of : ℕ → ℕ → FileFsSizeInformation
-sizes_of room used = record { total_allocation_units = units room; available_allocation_units = units (room - used); sectors_per_allocation_unit = 8; bytes_per_sector = 512 }
+sizes_of room used = record {
+  total_allocation_units = units room;
+  available_allocation_units = units (room - used);
+  sectors_per_allocation_unit = 8;
+  bytes_per_sector = 512;
+}
 
 abbrev pub full_sizes_of : ℕ → ℕ → FileFsFullSizeInformation
-full_sizes_of room used = record { total_allocation_units = units room; caller_available_allocation_units = units (room - used); actual_available_allocation_units = units (room - used); sectors_per_allocation_unit = 8; bytes_per_sector = 512 }
+full_sizes_of room used = record {
+  total_allocation_units = units room;
+  caller_available_allocation_units = units (room
+      - used);
+  actual_available_allocation_units = units (room - used);
+  sectors_per_allocation_unit = 8;
+  bytes_per_sector
+      = 512;
+}
 
 -- names keep their case, 2, and are Unicode, 4; a name is at most a path of 1,024 units
 abbrev pub file_system : FileFsAttributeInformationValue
@@ -104,7 +140,18 @@ volume_bytes class room used =
 -- ---- the entries of a listing; what a class doesn't tell is 0
 
 abbrev pub only_name : List ℕ → DirectoryEntryValue
-only_name name = record { creation_time = 0; last_access_time = 0; last_write_time = 0; change_time = 0; end_of_file = 0; allocation_size = 0; file_attributes = 0; file_id = 0; name = name }
+only_name name = record {
+  creation_time = 0;
+  last_access_time = 0;
+  last_write_time = 0;
+  change_time = 0;
+  end_of_file =
+      0;
+  allocation_size = 0;
+  file_attributes = 0;
+  file_id = 0;
+  name = name;
+}
 
 abbrev pub with_info : Named → ℕ → DirectoryEntryValue
 with_info n file =

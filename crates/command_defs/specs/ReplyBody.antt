@@ -48,7 +48,12 @@ abbrev pub disk_id_told : Bool → ℕ → Option DiskId
 disk_id_told asked file = if asked then Some (record { file = file; volume = 1 }) else None
 
 abbrev pub contexts_told : CreateReply → ReplyContexts
-contexts_told r = record { dh2q = option_map timeout_told r.timeout; mxac = access_told r.maximal; qfid = disk_id_told r.disk_id r.info.file }
+contexts_told r = record {
+  dh2q = option_map timeout_told r.timeout;
+  mxac = access_told r.maximal;
+  qfid = disk_id_told
+      r.disk_id r.info.file;
+}
 
 -- no oplock is granted
 abbrev pub created_value : CreateReply → CreateResponseValue
@@ -84,12 +89,26 @@ closed_value i =
     }
 
 abbrev pub untold_value : CloseResponse
-untold_value = record { flags = 0; creation_time = 0; last_access_time = 0; last_write_time = 0; change_time = 0; allocation_size = 0; end_of_file = 0; file_attributes = 0 }
+untold_value = record {
+  flags = 0;
+  creation_time = 0;
+  last_access_time = 0;
+  last_write_time = 0;
+  change_time = 0;
+  allocation_size = 0;
+  end_of_file = 0;
+  file_attributes = 0;
+}
 
 -- ---- the others (2.2.10, 2.2.20, 2.2.22, 2.2.32)
 
 abbrev pub connected_value : ℕ → ℕ → ℕ → TreeConnectResponse
-connected_value kind capabilities access = record { share_type = kind; share_flags = 0; capabilities = capabilities; maximal_access = access }
+connected_value kind capabilities access = record {
+  share_type = kind;
+  share_flags = 0;
+  capabilities = capabilities;
+  maximal_access = access;
+}
 
 abbrev pub content_value : List ℕ → ReadResponseValue
 content_value bytes = record { data_remaining = 0; payload = bytes }
@@ -98,14 +117,26 @@ abbrev pub count_value : ℕ → WriteResponse
 count_value count = record { count = count; remaining = 0 }
 
 abbrev pub interfaces_value : ℕ → ℕ → Address → IoctlResponseValue
-interfaces_value file code address = record { ctl_code = code; file_id = file_id file; flags = 0; input = []; output = interface_bytes address }
+interfaces_value file code address = record {
+  ctl_code = code;
+  file_id = file_id file;
+  flags = 0;
+  input = [];
+  output =
+      interface_bytes address;
+}
 
 -- ---- the body of a success to a command, and of the interim response to a SESSION_SETUP, whose token is its dialog's
 
 abbrev pub success_body : List ℕ → Command → Body → List ℕ
-success_body token (Setup request) body = session_setup_response_spelling (record { session_flags = bit_if (seals_in body) 4; security = token })
+success_body token (Setup request) body = session_setup_response_spelling (record {
+  session_flags = bit_if (seals_in
+      body) 4;
+  security = token;
+})
 success_body token Logoff body = bare_spelling
-success_body token (TreeConnect share) (Connected kind capabilities access) = tree_connect_response_spelling (connected_value kind capabilities access)
+success_body token (TreeConnect share) (Connected kind capabilities access) = tree_connect_response_spelling
+    (connected_value kind capabilities access)
 success_body token TreeDisconnect body = bare_spelling
 success_body token (Create request) (Created reply) = create_response_spelling (created_value reply)
 success_body token (Close file query) (Closed info) = close_response_spelling (closed_value info)
@@ -116,9 +147,13 @@ success_body token (Write file at bytes channel) (Count count) = write_response_
 success_body token (Lock file index number elements) body = lock_response_spelling (record {})
 success_body token (Ioctl file code room) (Interfaces address) = ioctl_response_spelling (interfaces_value file code address)
 success_body token (Aside status) body = bare_spelling
-success_body token (ListDirectory file class restart single pattern room) (Listing told entries) = query_directory_response_spelling (record { output = listing_bytes told entries })
-success_body token (QueryFile file class room) (FileInfo told path info access options) = query_info_response_spelling (record { output = file_bytes told path info access options })
-success_body token (QueryVolume file class room) (VolumeInfo told size used) = query_info_response_spelling (record { output = volume_bytes told size used })
+success_body token (ListDirectory file class restart single pattern room) (Listing told entries) =
+    query_directory_response_spelling (record { output = listing_bytes told entries })
+success_body token (QueryFile file class room) (FileInfo told path info access options) = query_info_response_spelling
+    (record { output = file_bytes told path info access options })
+success_body token (QueryVolume file class room) (VolumeInfo told size used) = query_info_response_spelling (record {
+  output = volume_bytes told size used;
+})
 success_body token (SetInfo file setting) body = set_info_response_spelling (record {})
 success_body token _ _ = []
 
@@ -127,4 +162,7 @@ abbrev pub is_told : Command → ℕ → Bool
 is_told c status = (status == success) || (is_setup c && (status == more_processing_required))
 
 unfoldable pub reply_body : List ℕ → Command → Reply → List ℕ
-reply_body token c r = if is_told c r.status then success_body token c r.body else error_response_spelling (record { error_context_count = 0; byte_count = 0 })
+reply_body token c r = if is_told c r.status then success_body token c r.body else error_response_spelling (record {
+  error_context_count = 0;
+  byte_count = 0;
+})

@@ -41,7 +41,15 @@ of_length size = record { file = 0; is_directory = false; size = size; is_marked
 -- ---- CREATE (2.2.14): of its success at the action and the open
 
 abbrev pub created_of : CreateResponseValue → CreateReply
-created_of v = record { id = file_of v.file_id; action = v.create_action; info = of_length v.end_of_file; timeout = None; maximal = false; disk_id = false }
+created_of v = record {
+  id = file_of v.file_id;
+  action = v.create_action;
+  info = of_length v.end_of_file;
+  timeout =
+      None;
+  maximal = false;
+  disk_id = false;
+}
 
 -- ---- QUERY_DIRECTORY (2.2.34): at the names
 
@@ -58,7 +66,8 @@ names_of (v ∷ vs) = in_front (option_map (named_of v.end_of_file) (text_in v.n
 
 abbrev pub listing_by : Option DirectoryClass → ℕ → List ℕ → Option Body
 listing_by None class bytes = None
-listing_by (Some c) class bytes = option_map (Listing class) (option_and_then names_of (items_in (directory_entry_in c) (λ m. is_some (first_entry_fault c m)) bytes))
+listing_by (Some c) class bytes = option_map (Listing class) (option_and_then names_of (items_in (directory_entry_in c)
+    (λ m. is_some (first_entry_fault c m)) bytes))
 
 unfoldable pub listing_in : ℕ → List ℕ → Option Body
 listing_in class bytes = listing_by (directory_class class) class bytes
@@ -66,7 +75,8 @@ listing_in class bytes = listing_by (directory_class class) class bytes
 -- ---- QUERY_INFO (2.2.38): this client asks class 5 alone (MS-FSCC 2.4.41)
 
 abbrev pub standard_in : List ℕ → Option Body
-standard_in bytes = unless (file_standard_information_fault bytes) (Some (FileInfo 5 [] (of_length (file_standard_information_in bytes).end_of_file) 0 0))
+standard_in bytes = unless (file_standard_information_fault bytes) (Some (FileInfo 5 [] (of_length
+    (file_standard_information_in bytes).end_of_file) 0 0))
 
 unfoldable pub file_in : ℕ → List ℕ → Option Body
 file_in class bytes = if class == 5 then standard_in bytes else None
@@ -78,7 +88,8 @@ file_in class bytes = if class == 5 then standard_in bytes else None
 unfoldable pub body_in : Command → List ℕ → Option Body
 body_in (Setup request) m = unless (session_setup_response_fault m) (Some (SetUp (has_bit (session_setup_response_in m).session_flags 4) 0))
 body_in Logoff m = unless (bare_fault m) (Some Empty)
-body_in (TreeConnect share) m = unless (tree_connect_response_fault m) (let v = tree_connect_response_in m in Some (Connected v.share_type v.capabilities v.maximal_access))
+body_in (TreeConnect share) m = unless (tree_connect_response_fault m) (let v = tree_connect_response_in m in Some
+    (Connected v.share_type v.capabilities v.maximal_access))
 body_in TreeDisconnect m = unless (bare_fault m) (Some Empty)
 body_in (Create request) m = unless (create_response_fault m) (Some (Created (created_of (create_response_in m))))
 body_in (Close file query) m = unless (close_response_fault m) (Some Empty)
@@ -86,7 +97,8 @@ body_in (Flush file) m = unless (flush_response_fault m) (Some Empty)
 body_in (Read file at size minimum channel) m = unless (read_response_fault m) (Some (Content (read_response_in m).payload))
 body_in (Write file at bytes channel) m = unless (write_response_fault m) (Some (Count (write_response_in m).count))
 body_in (Lock file index number elements) m = unless (lock_response_fault m) (Some Empty)
-body_in (ListDirectory file class restart single pattern room) m = unless (query_directory_response_fault m) (listing_in class (query_directory_response_in m).output)
+body_in (ListDirectory file class restart single pattern room) m = unless (query_directory_response_fault m) (listing_in
+    class (query_directory_response_in m).output)
 body_in (QueryFile file class room) m = unless (query_info_response_fault m) (file_in class (query_info_response_in m).output)
 body_in (SetInfo file setting) m = unless (set_info_response_fault m) (Some Empty)
 body_in _ m = None
@@ -101,4 +113,10 @@ or_other None = other_body
 or_other (Some body) = body
 
 unfoldable pub reply_of : Command → Header → List ℕ → Reply
-reply_of c h m = record { status = h.status; session = h.session; tree = h.tree; body = if h.status == success then or_other (body_in c m) else Empty }
+reply_of c h m = record {
+  status = h.status;
+  session = h.session;
+  tree = h.tree;
+  body = if h.status == success then
+      or_other (body_in c m) else Empty;
+}

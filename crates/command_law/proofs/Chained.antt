@@ -1,11 +1,11 @@
 -- The contexts of a CREATE and of its response take few bytes.
-use Rattle.std.proofs.Common.{◌≡◌, ℕ, suc, ◌+◌, ◌*◌, ◌<◌, ◌≤◌, Bool, true, false, List, [], ◌∷◌, ◌++◌, length, Option, Some, None, refl, ap, ◌∙◌, arith, length-append}
+use Rattle.std.proofs.Common.{ℕ, ◌+◌, ◌*◌, ◌≤◌, Bool, true, false, List, [], ◌∷◌, ◌++◌, length, Option, Some, None, refl, arith, length-append}
 use Rattle.std.specs.Prelude.{◌==◌, if◌then◌else◌}
 use Rattle.wire_defs.specs.Places.{le, gap_to_8}
 use Rattle.wire_defs.proofs.Numbers.{length-le}
 use Rattle.wire_defs.specs.Table.{AreWritable}
 use Rattle.wire_defs.specs.Aligned.{told, aligned_gap}
-use Rattle.wire_defs.specs.Chain.{chain_spelling, linked}
+use Rattle.wire_defs.specs.Chain.{chain_spelling}
 use Rattle.wire_defs.specs.CreateContexts.{CreateContext, request_due, reply_due, dh2q_told, mxac_told, qfid_told, told_contexts, IsWritableReplyContexts, reply_contexts_spelling, context_whole, context_spelling, context_size, asked, dh2q_asked, dh2c_asked, asked_contexts, mxac, qfid, IsWritableCreateContexts, create_contexts_spelling}
 use Rattle.wire_defs.specs.declared.context.CreateContexts.{CreateContexts}
 use Rattle.wire_defs.specs.declared.context.Dh2q.{Dh2q}
@@ -42,7 +42,8 @@ length-one : (due : List ℕ → Option ℕ) (v : CreateContext) (next : ℕ) �
 unfolding size_of
 length-one due v next s le = omega (arith, length-with_fields (context_whole v next) [] (fits due v next s le), s.name, s.few, gap_fits v)
 
-length-chain : (due : List ℕ → Option ℕ) (vs : List CreateContext) → AreSmall due vs → length (chain_spelling context_spelling context_size vs) ≤ 100 * length vs
+length-chain : (due : List ℕ → Option ℕ) (vs : List CreateContext) → AreSmall due vs → length (chain_spelling
+    context_spelling context_size vs) ≤ 100 * length vs
 length-chain due [] s = omega arith
 length-chain due (v ∷ []) s = omega (arith, length-one due v 0 s.0 (omega arith), length-append (context_spelling v 0) [])
 length-chain due (v ∷ w ∷ ws) s =
@@ -52,7 +53,16 @@ length-chain due (v ∷ w ∷ ws) s =
     let next : ℕ = context_size v + gap in
     let first = length-one due v next s.0 (omega (arith, small, gap_is)) in
     let later = length-chain due (w ∷ ws) s.1 in
-    omega (arith, length-append (context_spelling v next ++ le gap 0) (chain_spelling context_spelling context_size (w ∷ ws)), length-append (context_spelling v next) (le gap 0), length-le gap 0, gap_is, first, later)
+    omega (
+      arith,
+      length-append (context_spelling v next ++ le gap 0) (chain_spelling context_spelling context_size (w ∷
+          ws)),
+      length-append (context_spelling v next) (le gap 0),
+      length-le gap 0,
+      gap_is,
+      first,
+      later,
+    )
 
 one_dh2q : (o : Option Dh2q) → length (dh2q_asked o) ≤ 1
 one_dh2q None = omega arith
@@ -99,7 +109,8 @@ replies_few c fit =
     omega (
       arith,
       length-chain reply_due (told_contexts c) (replies_small c fit),
-      length-append (dh2q_told c.dh2q) (mxac_told c.mxac ++ qfid_told c.qfid),
+      length-append (dh2q_told c.dh2q)
+          (mxac_told c.mxac ++ qfid_told c.qfid),
       length-append (mxac_told c.mxac) (qfid_told c.qfid),
       one_timeout c.dh2q,
       one_access c.mxac,

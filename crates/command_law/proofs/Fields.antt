@@ -1,9 +1,9 @@
 -- Ids and flags read back.
-use Rattle.std.proofs.Common.{◌≡◌, ℕ, ◌+◌, ◌*◌, ◌/◌, ◌%◌, ◌^◌, ◌<◌, Bool, true, false, List, [], ◌∷◌, ◌++◌, length, refl, sym, ap, ◌∙◌, arith, length-append}
+use Rattle.std.proofs.Common.{◌≡◌, ℕ, ◌^◌, ◌<◌, Bool, true, false, List, [], ◌++◌, length, refl, sym, ap, ◌∙◌, arith, length-append}
 use Rattle.std.specs.Prelude.{◌==◌, if◌then◌else◌}
 use Rattle.std.proofs.lemmas.Grind.{common_steps}
 use Rattle.std.proofs.lemmas.List.{append-nil}
-use Rattle.wire_defs.specs.Places.{le, number, number_of, bytes_at}
+use Rattle.wire_defs.specs.Places.{le, number, number_of}
 use Rattle.wire_defs.proofs.Numbers.{length-le, number_of-le, bytes_at-behind}
 use Rattle.exchange_defs.specs.Commands.{has_bit}
 use Rattle.command_defs.specs.Ids.{file_of, file_id, guid_of, guid_id}
@@ -14,7 +14,8 @@ pub number_behind : (w n : ℕ) (front rest : List ℕ) (at : ℕ) → at ≡ le
 number_behind w n front rest at e fits = ap number_of (bytes_at-behind w front (le w n) rest at e (length-le w n)) ∙ number_of-le w n fits
 
 pub number_last : (w n : ℕ) (front : List ℕ) (at : ℕ) → at ≡ length front → n < 256 ^ w → number w (front ++ le w n) at ≡ n
-number_last w n front at e fits = ap (λ (l : List ℕ). number w (front ++ l) at) (sym (append-nil (le w n))) ∙ number_behind w n front [] at e fits
+number_last w n front at e fits = ap (λ (l : List ℕ). number w (front ++ l) at) (sym (append-nil (le w n))) ∙
+    number_behind w n front [] at e fits
 
 same_halves : (x y o : ℕ) → x ≡ o → y ≡ o → (if x == y then x else 0) ≡ o
 same_halves x y o e f = grind (arith, common_steps)

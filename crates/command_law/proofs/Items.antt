@@ -1,14 +1,12 @@
 -- The items of a chain read back.
-use Rattle.std.proofs.Common.{◌≡◌, ℕ, zero, suc, ◌+◌, ◌≤◌, Bool, true, false, List, [], ◌∷◌, ◌++◌, length, drop, take, Option, Some, None, refl, sym, ap, subst, ◌∙◌, arith, length-drop, length-append}
+use Rattle.std.proofs.Common.{◌≡◌, ℕ, zero, suc, ◌≤◌, Bool, true, false, List, [], ◌∷◌, length, drop, take, Option, Some, None, refl, sym, ap, ◌∙◌, arith, length-drop}
 use Rattle.std.specs.Prelude.{◌==◌, if◌then◌else◌, is_some, option_map}
 use Rattle.std.proofs.lemmas.Grind.{common_steps}
 use Rattle.std.proofs.lemmas.List.{length-take}
 use Rattle.wire_defs.specs.Places.{number}
 use Rattle.wire_defs.specs.Chain.{is_badly_linked, piece, IsChain, IsChainOf}
-use Rattle.wire_defs.specs.Table.{Stands}
-use Rattle.wire_defs.specs.CreateContexts.{CreateContext, IsContext, context_in, context_fault, first_fault, request_due, request_contexts, SpellsCreateContexts}
+use Rattle.wire_defs.specs.CreateContexts.{CreateContext, IsContext, context_in, first_fault, request_due, request_contexts, SpellsCreateContexts}
 use Rattle.wire_defs.specs.declared.context.CreateContexts.{CreateContexts}
-use Rattle.wire_defs.specs.declared.chain_error.ChainError.{ChainError}
 use Rattle.info_law.proofs.OneContext.{same_context, whole_context, given_context, whole_first}
 use Rattle.command_defs.specs.Items.{first_items, items_in}
 use Rattle.command_defs.specs.CommandOf.{contexts_in}
@@ -32,12 +30,14 @@ unfolding piece
 piece_short m = shorter (number 4 m 0 == 0) (number 4 m 0) m
 
 module _ {V : Type 0} where
-  last_item : (breaks last : Bool) (x : V) (o : Option (List V)) → breaks ≡ false → last ≡ true → (if breaks then None else if last then Some (x ∷ []) else o) ≡ Some (x ∷ [])
+  last_item : (breaks last : Bool) (x : V) (o : Option (List V)) → breaks ≡ false → last ≡ true → (if breaks then None
+      else if last then Some (x ∷ []) else o) ≡ Some (x ∷ [])
   last_item true last x o e f = absurd cc
   last_item false true x o e f = refl
   last_item false false x o e f = absurd cc
 
-  next_item : (breaks last : Bool) (x : V) (o : Option (List V)) → breaks ≡ false → last ≡ false → (if breaks then None else if last then Some (x ∷ []) else o) ≡ o
+  next_item : (breaks last : Bool) (x : V) (o : Option (List V)) → breaks ≡ false → last ≡ false → (if breaks then None
+      else if last then Some (x ∷ []) else o) ≡ o
   next_item true last x o e f = absurd cc
   next_item false true x o e f = absurd cc
   next_item false false x o e f = refl
@@ -46,12 +46,14 @@ module _ {V : Type 0} (Is : List ℕ → V → Type 0) (value : List ℕ → V) 
   module _ (whole : (m : List ℕ) (v : V) → is_badly_linked m ≡ false → Is (piece m) v → breaks m ≡ false)
       (gives : (m : List ℕ) (v : V) → Is m v → value m ≡ v)
       (some : (m : List ℕ) (v : V) → Is m v → 1 ≤ length m) where
-    first_again : (n : ℕ) (m : List ℕ) (v : V) (vs : List V) → length m ≤ n → IsChain Is m v vs → first_items value breaks n m ≡ Some (v ∷ vs)
+    first_again : (n : ℕ) (m : List ℕ) (v : V) (vs : List V) → length m ≤ n → IsChain Is m v vs → first_items value
+        breaks n m ≡ Some (v ∷ vs)
     unfolding first_items
     first_again zero m v [] le s = absurd (let long = some (piece m) v s.2 in omega (arith, le, long, piece_short m))
     first_again zero m v (w ∷ ws) le s = absurd (let long = some (piece m) v s.2 in omega (arith, le, long, piece_short m))
     first_again (suc n) m v [] le s =
-        last_item (breaks m) (number 4 m 0 == 0) (value (piece m)) _ (whole m v s.1 s.2) (is_last (number 4 m 0) s.0) ∙ ap (λ (x : V). Some (x ∷ [])) (gives (piece m) v s.2)
+        last_item (breaks m) (number 4 m 0 == 0) (value (piece m)) _ (whole m v s.1 s.2) (is_last (number 4 m 0) s.0) ∙
+        ap (λ (x : V). Some (x ∷ [])) (gives (piece m) v s.2)
     first_again (suc n) m v (w ∷ ws) le s =
         let some_next = positive (number 4 m 0) s.0 in
         let later = first_again n (drop (number 4 m 0) m) w ws (omega (arith, length-drop (number 4 m 0) m, le, some_next)) s.3 in
@@ -75,7 +77,8 @@ module _ {V : Type 0} (Is : List ℕ → V → Type 0) (value : List ℕ → V) 
 no_fault : {E : Type 0} (e : Option E) → e ≡ None → is_some e ≡ false
 no_fault e is = ap is_some is
 
-first_whole : (m : List ℕ) (v : CreateContext) → is_badly_linked m ≡ false → IsContext request_due (piece m) v → is_some (first_fault request_due m) ≡ false
+first_whole : (m : List ℕ) (v : CreateContext) → is_badly_linked m ≡ false → IsContext request_due (piece m) v → is_some
+    (first_fault request_due m) ≡ false
 first_whole m v link is = no_fault (first_fault request_due m) (whole_first request_due m v link is)
 
 one_given : (m : List ℕ) (v : CreateContext) → IsContext request_due m v → context_in m ≡ v
@@ -87,5 +90,6 @@ some_bytes m v is = grind (arith, common_steps)
 pub contexts_again : (m : List ℕ) (c : CreateContexts) → SpellsCreateContexts m c → contexts_in m ≡ Some c
 unfolding contexts_in
 contexts_again m c s =
-    ap (option_map request_contexts) (items_again (IsContext request_due) context_in (λ m. is_some (first_fault request_due m)) first_whole one_given some_bytes m s.contexts s.chain)
+    ap (option_map request_contexts) (items_again (IsContext request_due) context_in (λ m. is_some (first_fault
+    request_due m)) first_whole one_given some_bytes m s.contexts s.chain)
     ∙ ap Some (sym s.says)

@@ -1,10 +1,9 @@
 -- What an operation is taken with can be written.
-use Rattle.std.proofs.Common.{◌≡◌, ℕ, ◌+◌, ◌*◌, ◌^◌, ◌<◌, ◌≤◌, Bool, true, false, List, [], ◌∷◌, ◌++◌, length, Option, Some, None, IsUtf8, refl, subst, arith}
-use Rattle.std.specs.Prelude.{◌&&◌, ◌||◌, nat_le, nat_lt, if◌then◌else◌}
+use Rattle.std.proofs.Common.{◌≡◌, ℕ, ◌^◌, ◌<◌, ◌≤◌, Bool, true, false, List, [], ◌∷◌, IsUtf8, refl, subst, arith}
+use Rattle.std.specs.Prelude.{◌&&◌, ◌||◌, nat_le, nat_lt}
 use Rattle.std.proofs.lemmas.Grind.{common_steps}
 use Rattle.std.proofs.lemmas.Str.{IsUtf8-append, IsUtf8-nil, IsUtf8-encode, IsUtf8-from_is_utf8, encode_ascii}
 use lib.Utf8.{low_scalar}
-use Rattle.wire_defs.specs.Utf16.{utf16}
 use Rattle.exchange_defs.specs.Texts.{is_utf8, utf16_length, units_of}
 use Rattle.exchange_defs.specs.Operations.{are_below, is_text, is_spelled_path, fits_32, fits_64, lock_flags, options_of}
 use Rattle.command_law.specs.Fitting.{IsName}
@@ -27,7 +26,8 @@ pub in_64 : (n : ℕ) → fits_64 n ≡ true → n < 256 ^ 8
 in_64 n e = omega (arith, below n 0x1_0000_0000_0000_0000 e)
 
 ascii_then : (x : ℕ) (xs : List ℕ) → x < 128 → IsUtf8 xs → IsUtf8 (x ∷ xs)
-ascii_then x xs small u = IsUtf8-append (x ∷ []) xs (subst IsUtf8 (encode_ascii x small) (IsUtf8-encode x (low_scalar x (omega (arith, small))))) u
+ascii_then x xs small u = IsUtf8-append (x ∷ []) xs (subst IsUtf8 (encode_ascii x small) (IsUtf8-encode x (low_scalar x
+    (omega (arith, small))))) u
 
 ascii : (xs : List ℕ) → are_below 128 xs ≡ true → IsUtf8 xs
 unfolding are_below
@@ -63,4 +63,12 @@ unfolding utf16_length units_of
 star_few = omega arith
 
 pub star_is : IsName (42 ∷ [])
-star_is = let is = ascii_then 42 [] (omega arith) IsUtf8-nil in record { utf8 = is; short = omega (arith, utf16_few (42 ∷ []) is, star_few) }
+star_is = let is = ascii_then 42 [] (omega arith) IsUtf8-nil in record {
+  utf8 = is;
+  short = omega (
+    arith,
+    utf16_few (42
+        ∷ []) is,
+    star_few,
+  );
+}

@@ -1,6 +1,6 @@
 -- The bytes of a path in UTF-16 are few.
-use Rattle.std.proofs.Common.{◌≡◌, ℕ, suc, ◌+◌, ◌*◌, ◌/◌, ◌<◌, ◌≤◌, Bool, true, false, cond, List, [], ◌∷◌, ◌++◌, length, chars, encode_utf8_all, IsUtf8, refl, subst, ◌∙◌, arith, length-append}
-use Rattle.std.specs.Prelude.{nat_lt, sum_by, if◌then◌else◌}
+use Rattle.std.proofs.Common.{◌≡◌, ℕ, ◌+◌, ◌*◌, ◌/◌, ◌<◌, ◌≤◌, Bool, true, false, cond, List, [], ◌∷◌, ◌++◌, length, chars, encode_utf8_all, IsUtf8, refl, subst, ◌∙◌, arith, length-append}
+use Rattle.std.specs.Prelude.{nat_lt, if◌then◌else◌}
 use Rattle.std.specs.List.{fold}
 use Rattle.std.proofs.lemmas.Grind.{common_steps}
 use Rattle.std.proofs.lemmas.Str.{encodes-chars}
@@ -16,7 +16,8 @@ fold_from : (n : ℕ) (xs : List ℕ) → fold (λ a x. a + weight x) n xs ≡ n
 fold_from n [] = omega arith
 fold_from n (x ∷ xs) = fold_from (n + weight x) xs ∙ omega (arith, fold_from (0 + weight x) xs)
 
-fold_append : (n : ℕ) (xs ys : List ℕ) → fold (λ a x. a + weight x) n (xs ++ ys) ≡ fold (λ a x. a + weight x) (fold (λ a x. a + weight x) n xs) ys
+fold_append : (n : ℕ) (xs ys : List ℕ) → fold (λ a x. a + weight x) n (xs ++ ys) ≡ fold (λ a x. a + weight x) (fold (λ a
+    x. a + weight x) n xs) ys
 fold_append n [] ys = refl
 fold_append n (x ∷ xs) ys = fold_append (n + weight x) xs ys
 
@@ -50,7 +51,8 @@ is_below c n e = grind (arith, common_steps)
 
 one_counts : (c : ℕ) → 1 ≤ utf16_length (encode c)
 unfolding encode
-one_counts c = counts (nat_lt c 128) _ _ c _ _ _ _ _ _ _ (λ e. low_byte c (is_below c 128 e)) (high_byte (192 + c / 64) (omega arith)) (high_byte (224 + c / 4096) (omega arith)) (high_byte (240 + c / 262144) (omega arith))
+one_counts c = counts (nat_lt c 128) _ _ c _ _ _ _ _ _ _ (λ e. low_byte c (is_below c 128 e)) (high_byte (192 + c / 64)
+    (omega arith)) (high_byte (224 + c / 4096) (omega arith)) (high_byte (240 + c / 262144) (omega arith))
 
 all_count : (cs : List ℕ) → length cs ≤ utf16_length (encode_utf8_all cs)
 all_count [] = omega arith
@@ -72,5 +74,6 @@ all_few (c ∷ cs) = omega (arith, length-append (units_of c) (utf16_of cs), uni
 pub utf16_few : (t : List ℕ) → IsUtf8 t → length (utf16 t) ≤ 4 * utf16_length t
 unfolding utf16
 utf16_few t is =
-    let count : length (chars t) ≤ utf16_length t = subst (λ (l : List ℕ). length (chars t) ≤ utf16_length l) (encodes-chars t is) (all_count (chars t)) in
+    let count : length (chars t) ≤ utf16_length t = subst (λ (l : List ℕ). length (chars t) ≤ utf16_length l)
+    (encodes-chars t is) (all_count (chars t)) in
     omega (arith, all_few (chars t), count)

@@ -6,7 +6,8 @@ use Rattle.command_defs.specs.CommandOf.{unless}
 
 module _ {V : Type 0} (Spells : List ℕ → V → Type 0) (fault : List ℕ → Option MessageError) (value : List ℕ → V) where
   -- by the three laws of a message
-  pub found : ((m : List ℕ) (v w : V) → Spells m v → Spells m w → v ≡ w) → ((m : List ℕ) (v : V) → Spells m v → fault m ≡ None) → ((m : List ℕ) → fault m ≡ None → Spells m (value m))
+  pub found : ((m : List ℕ) (v w : V) → Spells m v → Spells m w → v ≡ w) → ((m : List ℕ) (v : V) → Spells m v → fault m
+      ≡ None) → ((m : List ℕ) → fault m ≡ None → Spells m (value m))
       → (m : List ℕ) (v : V) → Spells m v → (fault m ≡ None) × (value m ≡ v)
   found one whole given m v s = let none = whole m v s in (none, one m (value m) v (given m none) s)
 

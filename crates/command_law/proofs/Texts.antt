@@ -1,9 +1,9 @@
 -- A text in UTF-16 reads back, and a path's is short.
-use Rattle.std.proofs.Common.{◌≡◌, ℕ, zero, suc, ◌+◌, ◌-◌, ◌*◌, ◌/◌, ◌%◌, ◌<◌, ◌≤◌, ◌⊎◌, inl, inr, Bool, true, false, ◌&&◌, List, [], ◌∷◌, ◌++◌, length, flat_map, chars, encode_utf8_all, IsUtf8, Option, Some, None, refl, sym, ap, ◌∙◌, arith, length-append, append_assoc}
+use Rattle.std.proofs.Common.{◌≡◌, ℕ, ◌+◌, ◌-◌, ◌*◌, ◌/◌, ◌%◌, ◌<◌, ◌≤◌, ◌⊎◌, inl, inr, Bool, true, false, ◌&&◌, List, [], ◌∷◌, ◌++◌, chars, encode_utf8_all, IsUtf8, Option, Some, None, refl, ap, ◌∙◌, arith, append_assoc}
 use Rattle.std.specs.Char.{IsScalar, InScalarRange}
 use Rattle.std.specs.Char.Utf16.{utf16_chars, lone_unit_char, surrogate_pair_char}
 use Rattle.std.specs.Str.{all_scalars}
-use Rattle.std.specs.Prelude.{nat_lt, option_map, if◌then◌else◌, get_or}
+use Rattle.std.specs.Prelude.{option_map, get_or}
 use Rattle.std.proofs.str.Utf16.{IsPair}
 use Rattle.std.proofs.lemmas.Bool.{cases_lt}
 use Rattle.std.proofs.lemmas.Grind.{common_steps}
@@ -45,11 +45,13 @@ no_pair : (c v : ℕ) → InScalarRange c → IsPair c v → ⊥
 no_pair c v (inl below) pair = let h = pair.0 in omega (arith, below, h)
 no_pair c v (inr inside) pair = let low = inside.0 in let h = pair.1 in omega (arith, low, h)
 
-small_char : (c : ℕ) (o : Option (List ℕ)) → c < 0x10000 → InScalarRange c → characters_in (option_map (λ (us : List ℕ). c ∷ us) o) ≡ option_map (λ (cs : List ℕ). c ∷ cs) (characters_in o)
+small_char : (c : ℕ) (o : Option (List ℕ)) → c < 0x10000 → InScalarRange c → characters_in (option_map (λ (us : List ℕ).
+    c ∷ us) o) ≡ option_map (λ (cs : List ℕ). c ∷ cs) (characters_in o)
 unfolding characters_in all_there
 small_char c None small range = refl
 small_char c (Some us) small range =
-    ap all_there (utf16_chars_lone c us (no_pair c (get_or us 0 0) range)) ∙ ap (λ (x : Option ℕ). all_there (x ∷ utf16_chars us)) (lone_char c small range)
+    ap all_there (utf16_chars_lone c us (no_pair c (get_or us 0 0) range)) ∙ ap (λ (x : Option ℕ). all_there (x ∷
+    utf16_chars us)) (lone_char c small range)
 
 -- a character of two units
 pair_of : (c : ℕ) → 0x10000 ≤ c → InScalarRange c → IsPair (high_of c) (low_of c)
@@ -62,27 +64,33 @@ unfolding high_of low_of
 pair_char c big = omega (arith, big)
 
 big_char : (c : ℕ) (o : Option (List ℕ)) → 0x10000 ≤ c → InScalarRange c
-    → characters_in (option_map (λ (us : List ℕ). high_of c ∷ us) (option_map (λ (us : List ℕ). low_of c ∷ us) o)) ≡ option_map (λ (cs : List ℕ). c ∷ cs) (characters_in o)
+    → characters_in (option_map (λ (us : List ℕ). high_of c ∷ us) (option_map (λ (us : List ℕ). low_of c ∷ us) o)) ≡
+    option_map (λ (cs : List ℕ). c ∷ cs) (characters_in o)
 unfolding characters_in all_there
 big_char c None big range = refl
 big_char c (Some us) big range =
-    ap all_there (utf16_chars_pair (high_of c) (low_of c) us (pair_of c big range)) ∙ ap (λ (x : ℕ). all_there (Some x ∷ utf16_chars us)) (pair_char c big)
+    ap all_there (utf16_chars_pair (high_of c) (low_of c) us (pair_of c big range)) ∙ ap (λ (x : ℕ). all_there (Some x ∷
+    utf16_chars us)) (pair_char c big)
 
-char_in : (c : ℕ) (rest : List ℕ) → IsScalar c → characters_in (units_in (units_of c ++ rest)) ≡ option_map (λ (cs : List ℕ). c ∷ cs) (characters_in (units_in rest))
+char_in : (c : ℕ) (rest : List ℕ) → IsScalar c → characters_in (units_in (units_of c ++ rest)) ≡ option_map (λ (cs :
+    List ℕ). c ∷ cs) (characters_in (units_in rest))
 char_in c rest is = by_size (cases_lt c 0x10000)
   where
     range : InScalarRange c
     range = range_of c is
 
-    by_size : (c < 0x10000) ⊎ (0x10000 ≤ c) → characters_in (units_in (units_of c ++ rest)) ≡ option_map (λ (cs : List ℕ). c ∷ cs) (characters_in (units_in rest))
-    by_size (inl small) = ap (λ (l : List ℕ). characters_in (units_in (l ++ rest))) (small_units c small) ∙ ap characters_in (unit_in c rest small) ∙ small_char c (units_in rest) small range
+    by_size : (c < 0x10000) ⊎ (0x10000 ≤ c) → characters_in (units_in (units_of c ++ rest)) ≡ option_map (λ (cs : List
+        ℕ). c ∷ cs) (characters_in (units_in rest))
+    by_size (inl small) = ap (λ (l : List ℕ). characters_in (units_in (l ++ rest))) (small_units c small) ∙ ap
+        characters_in (unit_in c rest small) ∙ small_char c (units_in rest) small range
     by_size (inr big) =
         let pair = pair_of c big range in
         let high = pair.1 in
         let low = pair.3 in
         ap (λ (l : List ℕ). characters_in (units_in (l ++ rest))) (big_units c big)
         ∙ ap (λ (l : List ℕ). characters_in (units_in l)) (append_assoc (le 2 (high_of c)) (le 2 (low_of c)) rest)
-        ∙ ap characters_in (unit_in (high_of c) (le 2 (low_of c) ++ rest) (omega (arith, high)) ∙ ap (option_map (λ (us : List ℕ). high_of c ∷ us)) (unit_in (low_of c) rest (omega (arith, low))))
+        ∙ ap characters_in (unit_in (high_of c) (le 2 (low_of c) ++ rest) (omega (arith, high)) ∙ ap (option_map (λ (us
+        : List ℕ). high_of c ∷ us)) (unit_in (low_of c) rest (omega (arith, low))))
         ∙ big_char c (units_in rest) big range
 
 both : (a b : Bool) → (a && b) ≡ true → (a ≡ true) × (b ≡ true)

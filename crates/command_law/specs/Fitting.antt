@@ -1,5 +1,5 @@
 -- What can be written: numbers within their fields, and texts.
-use Rattle.std.specs.Prelude.{◌≡◌, ℕ, ◌+◌, ◌^◌, ◌<◌, List, [], ◌∷◌, length, false, Option, Some, None, IsUtf8}
+use Rattle.std.specs.Prelude.{◌≡◌, ℕ, ◌+◌, ◌^◌, ◌<◌, ◌==◌, List, [], ◌∷◌, length, false, Option, Some, None, IsUtf8}
 use Rattle.wire_defs.specs.Utf16.{utf16}
 use Rattle.exchange_defs.specs.Commands.{Element, Basic, Setting, SetBasic, Rename, SetDelete, SetAllocation, SetEnd, Durable, Reconnect, CreateRequest}
 use Rattle.exchange_defs.specs.State.{Info, CreateReply, Named, Body, Empty, Created, Content, Count, Listing, FileInfo}
@@ -105,3 +105,8 @@ as_named (n ∷ ns) = named_of 0 n.name ∷ as_named ns
 pub record IsHeardAlike (op : Op) (a b : Body) : Type 0 where
   pub value : value_in op a ≡ value_in op b
   pub id : id_in a ≡ id_in b
+
+-- no `\` stands in it
+abbrev pub HasNoBackslash : List ℕ → Type 0
+HasNoBackslash [] = Unit {0}
+HasNoBackslash (c ∷ cs) = ((c == 92) ≡ false) × HasNoBackslash cs

@@ -1,15 +1,16 @@
 //! Laws of commands and replies as bytes, over their definitions alone: what a client writes for the
 //! command of an operation reads back as that command, and what a server writes for its success is heard
-//! as that success. Each law is the contract of a function that does
-//! nothing.
+//! as that success. Each law is the contract of a function that does nothing.
 #![tactic(auto)]
 
 mod create;
+mod dialog;
 mod parts;
 mod plain;
 mod reply;
 mod request;
 mod setting;
 
+pub use dialog::{dialog_reply_law, share_law};
 pub use reply::reply_law;
 pub use request::request_law;

@@ -4,9 +4,8 @@ use Rattle.wire_defs.specs.Places.{gap_to_8}
 use Rattle.wire_defs.specs.Utf16.{utf16}
 use Rattle.wire_defs.specs.Create.{CreateRequestValue, SpellsCreateRequest, create_request_fault, create_request_in, contexts_place}
 use Rattle.wire_defs.specs.CreateContexts.{IsWritableCreateContexts, IsWritableDh2q, IsWritableDh2c, create_contexts_spelling, flags_of}
-use Rattle.wire_defs.specs.declared.context.CreateContexts.{CreateContexts}
 use Rattle.exchange_defs.specs.Commands.{Command, Create, CreateRequest, Durable, Reconnect}
-use Rattle.command_defs.specs.Ids.{file_of, file_id, guid_of, guid_id}
+use Rattle.command_defs.specs.Ids.{guid_of, guid_id}
 use Rattle.command_defs.specs.Text.{text_in}
 use Rattle.command_defs.specs.BodyOf.{body_of, create_value, contexts_of, dh2q_of, dh2c_of}
 use Rattle.command_defs.specs.CommandOf.{create_in, create_of, contexts_in, durable_of, reconnect_of}
@@ -46,14 +45,28 @@ durable_again (Some d) is = ap (λ (g : ℕ). Some (made d.timeout d.persistent 
 
 reconnect_again : (o : Option Reconnect) → IsReconnect o → option_map reconnect_of (option_map dh2c_of o) ≡ o
 reconnect_again None is = refl
-reconnect_again (Some q) is = ap (λ (o : ℕ). Some (made o (guid_of (guid_id q.guid)))) (file_again q.file is.0) ∙ ap (λ (g : ℕ). Some (made q.file g)) (guid_again q.guid is.1)
+reconnect_again (Some q) is = ap (λ (o : ℕ). Some (made o (guid_of (guid_id q.guid)))) (file_again q.file is.0) ∙ ap (λ
+    (g : ℕ). Some (made q.file g)) (guid_again q.guid is.1)
   where
     made : ℕ → ℕ → Reconnect
     made file guid = record { file = file; guid = guid }
 
 -- the request with these in place of its own
 abbrev with_contexts : CreateRequest → Option Durable → Option Reconnect → Command
-with_contexts r durable reconnect = Create (record { path = r.path; access = r.access; share = r.share; attributes = r.attributes; disposition = r.disposition; options = r.options; durable = durable; reconnect = reconnect; maximal = r.maximal; disk_id = r.disk_id })
+with_contexts r durable reconnect = Create (record {
+  path = r.path;
+  access = r.access;
+  share = r.share;
+  attributes =
+      r.attributes;
+  disposition = r.disposition;
+  options = r.options;
+  durable = durable;
+  reconnect = reconnect;
+  maximal =
+      r.maximal;
+  disk_id = r.disk_id;
+})
 
 place_small : (none : Bool) (n : ℕ) → n < 256 ^ 2 → (if none then 0 else 120 + n + gap_to_8 n) < 256 ^ 4
 place_small true n small = omega arith
@@ -68,12 +81,56 @@ returns c = λ header rest r len is.
     let m : List ℕ = header ++ (body_of (Create r) ++ rest) in
     let fit = fits r is in
     let few : length (create_contexts_spelling (contexts_of r)) ≤ 400 = contexts_few (contexts_of r) fit in
-    let place : contexts_place v < 256 ^ 4 = place_small (length (create_contexts_spelling (contexts_of r)) == 0) (length (utf16 r.path)) is.path.short in
+    let place : contexts_place v < 256 ^ 4 = place_small (length (create_contexts_spelling (contexts_of r)) == 0)
+    (length (utf16 r.path)) is.path.short in
     let row = found SpellsCreateRequest create_request_fault create_request_in law.one law.whole law.given m v
-    (law.again header rest v len
-    (omega arith, (omega arith, (omega arith, (is.access, (is.attributes, (is.share, (is.disposition, (is.options, (omega arith, (is.path.short, (place, (omega (arith, few), (refl, (refl, tt))))))))))))))) in
+    (law.again header rest v len (
+      omega arith,
+      (
+        omega arith,
+        (
+          omega arith,
+          (
+            is.access,
+            (
+              is.attributes,
+              (
+                is.share,
+                (
+                  is.disposition,
+                  (
+                    is.options,
+                    (
+                      omega arith,
+                      (
+                        is.path.short,
+                        (
+                          place,
+                          (
+                            omega (arith, few),
+                            (
+                              refl,
+                              (
+                                refl,
+                                tt,
+                              ),
+                            ),
+                          ),
+                        ),
+                      ),
+                    ),
+                  ),
+                ),
+              ),
+            ),
+          ),
+        ),
+      ),
+    )) in
     read_as SpellsCreateRequest create_request_fault create_request_in of_value m v row
     ∙ ap (λ (t : Option (List ℕ)). create_of v t (contexts_in v.contexts)) (text_again r.path is.path.utf8)
-    ∙ ap (create_of v (Some r.path)) (contexts_again (create_contexts_spelling (contexts_of r)) (contexts_of r) (told.again (contexts_of r) fit))
-    ∙ ap (λ (d : Option Durable). with_contexts r d (option_map reconnect_of (option_map dh2c_of r.reconnect))) (durable_again r.durable is.durable)
+    ∙ ap (create_of v (Some r.path)) (contexts_again (create_contexts_spelling (contexts_of r)) (contexts_of r)
+    (told.again (contexts_of r) fit))
+    ∙ ap (λ (d : Option Durable). with_contexts r d (option_map reconnect_of (option_map dh2c_of r.reconnect)))
+    (durable_again r.durable is.durable)
     ∙ ap (with_contexts r r.durable) (reconnect_again r.reconnect is.reconnect)

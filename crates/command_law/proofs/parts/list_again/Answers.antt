@@ -1,10 +1,9 @@
-use Rattle.std.proofs.Common.{◌≡◌, ℕ, ◌+◌, ◌≤◌, ◌<◌, Bool, true, false, List, ◌++◌, length, Option, Some, refl, ap, ◌∙◌, arith}
+use Rattle.std.proofs.Common.{◌≡◌, ℕ, ◌+◌, ◌≤◌, ◌<◌, Bool, true, false, List, ◌++◌, length, refl, ap, ◌∙◌, arith}
 use Rattle.std.specs.Prelude.{◌==◌, ◌||◌, if◌then◌else◌}
 use Rattle.wire_defs.specs.Aligned.{told}
 use Rattle.wire_defs.specs.Utf16.{utf16}
 use Rattle.wire_defs.specs.QueryDirectory.{IsWritableQueryDirectoryRequest, QueryDirectoryRequestValue, SpellsQueryDirectoryRequest, query_directory_request_fault, query_directory_request_in}
 use Rattle.exchange_defs.specs.Commands.{Command, ListDirectory, has_bit}
-use Rattle.command_defs.specs.Ids.{file_of}
 use Rattle.command_defs.specs.Text.{text_in}
 use Rattle.command_defs.specs.Tables.{bit_if}
 use Rattle.command_defs.specs.BodyOf.{body_of, list_value}
@@ -17,7 +16,8 @@ use Rattle.command_law.proofs.parts.list_again.Goals as goal
 abbrev of_value : QueryDirectoryRequestValue → Command
 of_value v = list_of v (text_in v.name)
 
-restart_again : (restart single : Bool) → (has_bit (bit_if restart 1 + bit_if single 2) 0x1 || has_bit (bit_if restart 1 + bit_if single 2) 0x10) ≡ restart
+restart_again : (restart single : Bool) → (has_bit (bit_if restart 1 + bit_if single 2) 0x1 || has_bit (bit_if restart 1
+    + bit_if single 2) 0x10) ≡ restart
 unfolding has_bit bit_if
 restart_again true true = refl
 restart_again true false = refl
@@ -52,12 +52,29 @@ returns c = λ header rest file class restart single pattern room len small low 
     let v : QueryDirectoryRequestValue = list_value file class restart single pattern room in
     let m : List ℕ = header ++ (body_of (ListDirectory file class restart single pattern room) ++ rest) in
     let fit : IsWritableQueryDirectoryRequest v = record {
-      fits = (omega arith, (low, (omega (arith, flags_small restart single), (omega arith, (length-file_id file, (omega (arith, told_small (length (utf16 pattern))), (name.short, (fits, (refl, tt)))))))));
+      fits = (
+        omega arith,
+        (
+          low,
+          (
+            omega (arith, flags_small restart single),
+            (
+              omega arith,
+              (
+                length-file_id file,
+                (omega (arith, told_small (length (utf16 pattern))), (name.short, (fits, (refl, tt)))),
+              ),
+            ),
+          ),
+        ),
+      );
       known = known;
     } in
-    let is = found SpellsQueryDirectoryRequest query_directory_request_fault query_directory_request_in law.one law.whole law.given m v (law.again header rest v len fit) in
+    let is = found SpellsQueryDirectoryRequest query_directory_request_fault query_directory_request_in law.one
+    law.whole law.given m v (law.again header rest v len fit) in
     read_as SpellsQueryDirectoryRequest query_directory_request_fault query_directory_request_in of_value m v is
     ∙ ap (list_of v) (text_again pattern name.utf8)
-    ∙ ap (λ (o : ℕ). ListDirectory o class (has_bit v.flags 0x1 || has_bit v.flags 0x10) (has_bit v.flags 0x2) pattern room) (file_again file small)
+    ∙ ap (λ (o : ℕ). ListDirectory o class (has_bit v.flags 0x1 || has_bit v.flags 0x10) (has_bit v.flags 0x2) pattern
+    room) (file_again file small)
     ∙ ap (λ (b : Bool). ListDirectory file class b (has_bit v.flags 0x2) pattern room) (restart_again restart single)
     ∙ ap (λ (b : Bool). ListDirectory file class restart b pattern room) (single_again restart single)

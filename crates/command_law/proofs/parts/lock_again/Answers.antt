@@ -1,6 +1,6 @@
-use Rattle.std.proofs.Common.{◌≡◌, ℕ, ◌+◌, ◌*◌, ◌/◌, ◌%◌, ◌<◌, List, ◌++◌, length, refl, ap, ◌∙◌, arith}
+use Rattle.std.proofs.Common.{◌≡◌, ℕ, ◌+◌, ◌*◌, ◌/◌, ◌%◌, ◌<◌, List, ◌++◌, length, ap, ◌∙◌, arith}
 use Rattle.wire_defs.specs.Lock.{IsWritableLockRequest, LockRequestValue, SpellsLockRequest, lock_request_fault, lock_request_in}
-use Rattle.exchange_defs.specs.Commands.{Element, Lock}
+use Rattle.exchange_defs.specs.Commands.{Lock}
 use Rattle.command_defs.specs.BodyOf.{body_of, lock_value}
 use Rattle.command_defs.specs.CommandOf.{lock_in, lock_of, elements_in}
 use Rattle.command_law.proofs.Fields.{file_again, length-file_id}
@@ -23,12 +23,31 @@ returns c = λ header rest file index number elements len small low few some man
     let size = length-elements elements all in
     let count : length (all_bytes elements) / 24 ≡ length elements = omega (arith, size) in
     let fit : IsWritableLockRequest v = record {
-      fits = (omega arith, (omega (arith, count, many), (omega (arith, low, few), (length-file_id file, (omega (arith, size, count), tt)))));
+      fits = (
+        omega arith,
+        (
+          omega (arith, count, many),
+          (
+            omega (arith, low, few),
+            (
+              length-file_id file,
+              (
+                omega
+                    (arith, size, count),
+                tt,
+              ),
+            ),
+          ),
+        ),
+      );
       some = omega (arith, count, some);
     } in
     let is = found SpellsLockRequest lock_request_fault lock_request_in law.one law.whole law.given m v (law.again header rest v len fit) in
     read_as SpellsLockRequest lock_request_fault lock_request_in lock_of m v is
-    ∙ ap (λ (o : ℕ). Lock o ((16 * index + number) / 16) ((16 * index + number) % 16) (elements_in (length (all_bytes elements) / 24) (all_bytes elements))) (file_again file small)
-    ∙ ap (λ (i : ℕ). Lock file i ((16 * index + number) % 16) (elements_in (length (all_bytes elements) / 24) (all_bytes elements))) (slot_of index number few)
-    ∙ ap (λ (i : ℕ). Lock file index i (elements_in (length (all_bytes elements) / 24) (all_bytes elements))) (number_of_slot index number few)
+    ∙ ap (λ (o : ℕ). Lock o ((16 * index + number) / 16) ((16 * index + number) % 16) (elements_in (length (all_bytes
+    elements) / 24) (all_bytes elements))) (file_again file small)
+    ∙ ap (λ (i : ℕ). Lock file i ((16 * index + number) % 16) (elements_in (length (all_bytes elements) / 24) (all_bytes
+    elements))) (slot_of index number few)
+    ∙ ap (λ (i : ℕ). Lock file index i (elements_in (length (all_bytes elements) / 24) (all_bytes elements)))
+    (number_of_slot index number few)
     ∙ ap (Lock file index number) (ap (λ (n : ℕ). elements_in n (all_bytes elements)) count ∙ elements_again elements all)

@@ -1,8 +1,8 @@
-use Rattle.std.proofs.Common.{◌≡◌, ℕ, Bool, List, ◌++◌, refl, ap, ◌∙◌, arith}
+use Rattle.std.proofs.Common.{ℕ, Bool, List, ◌++◌, refl, ap, ◌∙◌, arith}
 use Rattle.std.specs.Prelude.{if◌then◌else◌}
 use Rattle.wire_defs.specs.QueryInfo.{IsWritableQueryInfoRequest, QueryInfoRequestValue, SpellsQueryInfoRequest, query_info_request_fault, query_info_request_in}
 use Rattle.exchange_defs.specs.Status.{not_supported}
-use Rattle.exchange_defs.specs.Commands.{Command, QueryFile, Unreadable}
+use Rattle.exchange_defs.specs.Commands.{QueryFile, Unreadable}
 use Rattle.command_defs.specs.Ids.{file_of}
 use Rattle.command_defs.specs.BodyOf.{body_of, query_value}
 use Rattle.command_defs.specs.CommandOf.{query_in, query_of}
@@ -17,10 +17,35 @@ returns c = λ header rest file class room len small low known other fits.
     let v : QueryInfoRequestValue = query_value file class room in
     let m : List ℕ = header ++ (body_of (QueryFile file class room) ++ rest) in
     let fit : IsWritableQueryInfoRequest v = record {
-      fits = (omega arith, (omega arith, (low, (fits, (omega arith, (omega arith, (omega arith, (omega arith, (length-file_id file, (refl, tt))))))))));
+      fits = (
+        omega arith,
+        (
+          omega arith,
+          (
+            low,
+            (
+              fits,
+              (
+                omega arith,
+                (
+                  omega arith,
+                  (
+                    omega arith,
+                    (
+                      omega arith,
+                      (length-file_id file, (refl, tt)),
+                    ),
+                  ),
+                ),
+              ),
+            ),
+          ),
+        ),
+      );
       known = known;
     } in
-    let is = found SpellsQueryInfoRequest query_info_request_fault query_info_request_in law.one law.whole law.given m v (law.again header rest v len fit) in
+    let is = found SpellsQueryInfoRequest query_info_request_fault query_info_request_in law.one law.whole law.given m v
+    (law.again header rest v len fit) in
     read_as SpellsQueryInfoRequest query_info_request_fault query_info_request_in query_of m v is
     ∙ ap (λ (b : Bool). if b then Unreadable not_supported else QueryFile (file_of v.file_id) class room) other
     ∙ ap (λ (o : ℕ). QueryFile o class room) (file_again file small)

@@ -1,4 +1,4 @@
-use Rattle.std.proofs.Common.{◌≡◌, ℕ, List, ◌++◌, refl, ap, ◌∙◌, arith}
+use Rattle.std.proofs.Common.{ℕ, List, ◌++◌, refl, ap, ◌∙◌, arith}
 use Rattle.wire_defs.specs.Write.{WriteRequestValue, SpellsWriteRequest, write_request_fault, write_request_in}
 use Rattle.exchange_defs.specs.Commands.{Command, Write}
 use Rattle.command_defs.specs.Ids.{file_of}
@@ -18,5 +18,28 @@ returns c = λ header rest file at bytes channel len small far few on.
     let v : WriteRequestValue = write_value file at bytes channel in
     let m : List ℕ = header ++ (body_of (Write file at bytes channel) ++ rest) in
     let is = found SpellsWriteRequest write_request_fault write_request_in law.one law.whole law.given m v
-    (law.again header rest v len (omega arith, (omega arith, (few, (far, (length-file_id file, (on, (omega arith, (omega arith, (refl, tt)))))))))) in
-    read_as SpellsWriteRequest write_request_fault write_request_in of_value m v is ∙ ap (λ (o : ℕ). Write o at bytes channel) (file_again file small)
+    (law.again header rest v len (
+      omega arith,
+      (
+        omega arith,
+        (
+          few,
+          (
+            far,
+            (
+              length-file_id file,
+              (
+                on,
+                (
+                  omega
+                      arith,
+                  (omega arith, (refl, tt)),
+                ),
+              ),
+            ),
+          ),
+        ),
+      ),
+    )) in
+    read_as SpellsWriteRequest write_request_fault write_request_in of_value m v is ∙ ap (λ (o : ℕ). Write o at bytes
+    channel) (file_again file small)

@@ -1,4 +1,4 @@
-use Rattle.std.proofs.Common.{◌≡◌, ℕ, List, ◌++◌, ap, ◌∙◌, arith}
+use Rattle.std.proofs.Common.{ℕ, List, ◌++◌, ap, ◌∙◌, arith}
 use Rattle.wire_defs.specs.Close.{SpellsCloseRequest, close_request_fault, close_request_in}
 use Rattle.wire_defs.specs.declared.file_message.CloseRequest.{CloseRequest}
 use Rattle.exchange_defs.specs.Commands.{Command, Close, has_bit}
@@ -18,6 +18,7 @@ returns c = λ header rest file query len small.
     let law = c.close_request_law.ensures in
     let v : CloseRequest = close_value file query in
     let m : List ℕ = header ++ (body_of (Close file query) ++ rest) in
-    let is = found SpellsCloseRequest close_request_fault close_request_in law.one law.whole law.given m v (law.again header rest v len (omega arith, (omega (arith, bit_small query), (length-file_id file, tt)))) in
+    let is = found SpellsCloseRequest close_request_fault close_request_in law.one law.whole law.given m v (law.again
+    header rest v len (omega arith, (omega (arith, bit_small query), (length-file_id file, tt)))) in
     read_as SpellsCloseRequest close_request_fault close_request_in of_value m v is
     ∙ ap (λ (o : ℕ). Close o (has_bit v.flags 1)) (file_again file small) ∙ ap (Close file) (bit_again query)

@@ -1,4 +1,4 @@
-use Rattle.std.proofs.Common.{◌≡◌, ℕ, List, ◌++◌, ap, ◌∙◌, arith}
+use Rattle.std.proofs.Common.{ℕ, List, ◌++◌, ap, ◌∙◌, arith}
 use Rattle.wire_defs.specs.Flush.{SpellsFlushRequest, flush_request_fault, flush_request_in}
 use Rattle.wire_defs.specs.declared.file_message.FlushRequest.{FlushRequest}
 use Rattle.exchange_defs.specs.Commands.{Command, Flush}
@@ -18,5 +18,6 @@ returns c = λ header rest file len small.
     let law = c.flush_request_law.ensures in
     let v : FlushRequest = flush_value file in
     let m : List ℕ = header ++ (body_of (Flush file) ++ rest) in
-    let is = found SpellsFlushRequest flush_request_fault flush_request_in law.one law.whole law.given m v (law.again header rest v len (omega arith, (length-file_id file, tt))) in
+    let is = found SpellsFlushRequest flush_request_fault flush_request_in law.one law.whole law.given m v (law.again
+    header rest v len (omega arith, (length-file_id file, tt))) in
     read_as SpellsFlushRequest flush_request_fault flush_request_in of_value m v is ∙ ap Flush (file_again file small)

@@ -1,4 +1,4 @@
-use Rattle.std.proofs.Common.{◌≡◌, ℕ, List, ◌++◌, ap, ◌∙◌, arith}
+use Rattle.std.proofs.Common.{ℕ, List, ◌++◌, ap, ◌∙◌, arith}
 use Rattle.wire_defs.specs.Read.{SpellsReadRequest, read_request_fault, read_request_in}
 use Rattle.wire_defs.specs.declared.message.ReadRequest.{ReadRequest}
 use Rattle.exchange_defs.specs.Commands.{Command, Read}
@@ -19,5 +19,27 @@ returns c = λ header rest file at size minimum channel len small far long least
     let v : ReadRequest = read_value file at size minimum channel in
     let m : List ℕ = header ++ (body_of (Read file at size minimum channel) ++ rest) in
     let is = found SpellsReadRequest read_request_fault read_request_in law.one law.whole law.given m v
-    (law.again header rest v len (omega arith, (omega arith, (long, (far, (length-file_id file, (least, (on, (omega arith, tt))))))))) in
-    read_as SpellsReadRequest read_request_fault read_request_in of_value m v is ∙ ap (λ (o : ℕ). Read o at size minimum channel) (file_again file small)
+    (law.again header rest v len (
+      omega arith,
+      (
+        omega arith,
+        (
+          long,
+          (
+            far,
+            (
+              length-file_id file,
+              (
+                least,
+                (
+                  on,
+                  (omega arith, tt),
+                ),
+              ),
+            ),
+          ),
+        ),
+      ),
+    )) in
+    read_as SpellsReadRequest read_request_fault read_request_in of_value m v is ∙ ap (λ (o : ℕ). Read o at size minimum
+    channel) (file_again file small)

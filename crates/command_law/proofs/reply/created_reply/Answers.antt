@@ -1,10 +1,9 @@
-use Rattle.std.proofs.Common.{◌≡◌, ℕ, ◌+◌, ◌^◌, ◌≤◌, ◌<◌, Bool, true, false, List, ◌++◌, length, Option, Some, None, refl, ap, ◌∙◌, arith}
+use Rattle.std.proofs.Common.{ℕ, ◌^◌, ◌≤◌, ◌<◌, Bool, true, false, List, ◌++◌, length, Option, Some, None, refl, ap, ◌∙◌, arith}
 use Rattle.std.specs.Prelude.{◌==◌, if◌then◌else◌, option_map}
 use Rattle.wire_defs.specs.Aligned.{told}
 use Rattle.wire_defs.specs.CreateResponse.{CreateResponseValue, SpellsCreateResponse, create_response_fault, create_response_in, create_response_spelling}
 use Rattle.wire_defs.specs.CreateContexts.{IsWritableReplyContexts, IsWritableDh2qReply, IsWritableMaximalAccess, IsWritableDiskId, reply_contexts_spelling, flags_of}
 use Rattle.exchange_defs.specs.State.{Body, Created, CreateReply}
-use Rattle.command_defs.specs.Ids.{file_of}
 use Rattle.command_defs.specs.ReplyBody.{created_value, contexts_told, timeout_told, access_told, disk_id_told}
 use Rattle.command_defs.specs.ReplyOf.{body_in, created_of, of_length}
 use Rattle.command_law.specs.Fitting.{IsCreated, IsTimeout}
@@ -20,7 +19,14 @@ created_in v = Some (Created (created_of v))
 
 -- the open's id as it is read
 abbrev heard_with : CreateReply → ℕ → Option Body
-heard_with r id = Some (Created (record { id = id; action = r.action; info = of_length r.info.size; timeout = None; maximal = false; disk_id = false }))
+heard_with r id = Some (Created (record {
+  id = id;
+  action = r.action;
+  info = of_length r.info.size;
+  timeout = None;
+  maximal = false;
+  disk_id = false;
+}))
 
 flags_small : (b : Bool) → flags_of b < 256 ^ 4
 unfolding flags_of
@@ -40,7 +46,12 @@ disk_id_fits true file is = (is, (omega arith, tt))
 disk_id_fits false file is = tt
 
 fits : (r : CreateReply) → IsCreated r → IsWritableReplyContexts (contexts_told r)
-fits r is = record { dh2q = timeout_fits r.timeout is.timeout; mxac = access_fits r.maximal; qfid = disk_id_fits r.disk_id r.info.file is.info.file }
+fits r is = record {
+  dh2q = timeout_fits r.timeout is.timeout;
+  mxac = access_fits r.maximal;
+  qfid = disk_id_fits
+      r.disk_id r.info.file is.info.file;
+}
 
 told_at_most : (empty : Bool) → (if empty then 0 else 152) ≤ 152
 told_at_most true = omega arith
@@ -60,6 +71,51 @@ returns c = λ header rest token request r len is.
     let place = told_small (length (reply_contexts_spelling (contexts_told r))) in
     let size : r.info.size < 256 ^ 8 = omega (arith, is.info.size) in
     let row = found SpellsCreateResponse create_response_fault create_response_in law.one law.whole law.given m v
-    (law.again header rest v len
-    (omega arith, (omega arith, (omega arith, (is.action, (times.created, (times.accessed, (times.written, (times.changed, (allocation_small r.info.size is.info.size, (size, (attributes_small r.info times.attributes, (length-file_id r.id, (omega (arith, place), (omega (arith, few), (refl, tt)))))))))))))))) in
+    (law.again header rest v len (
+      omega arith,
+      (
+        omega arith,
+        (
+          omega arith,
+          (
+            is.action,
+            (
+              times.created,
+              (
+                times.accessed,
+                (
+                  times.written,
+                  (
+                    times.changed,
+                    (
+                      allocation_small r.info.size is.info.size,
+                      (
+                        size,
+                        (
+                          attributes_small r.info
+                              times.attributes,
+                          (
+                            length-file_id r.id,
+                            (
+                              omega (arith, place),
+                              (
+                                omega (arith, few),
+                                (
+                                  refl,
+                                  tt,
+                                ),
+                              ),
+                            ),
+                          ),
+                        ),
+                      ),
+                    ),
+                  ),
+                ),
+              ),
+            ),
+          ),
+        ),
+      ),
+    )) in
     heard_as create_response_fault create_response_in created_in m v row ∙ ap (heard_with r) (file_again r.id is.id)

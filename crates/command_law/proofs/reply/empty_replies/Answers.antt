@@ -1,9 +1,8 @@
-use Rattle.std.proofs.Common.{◌≡◌, ℕ, List, ◌++◌, Some, arith}
+use Rattle.std.proofs.Common.{ℕ, List, ◌++◌, Some, arith}
 use Rattle.wire_defs.specs.Close.{close_response_fault, close_response_spelling}
 use Rattle.wire_defs.specs.Flush.{flush_response_fault, flush_response_spelling}
 use Rattle.wire_defs.specs.LockResponse.{lock_response_fault, lock_response_spelling}
 use Rattle.wire_defs.specs.SetInfo.{set_info_response_fault, set_info_response_spelling}
-use Rattle.wire_defs.specs.declared.file_message.CloseResponse.{CloseResponse}
 use Rattle.wire_defs.specs.declared.file_message.FlushResponse.{FlushResponse}
 use Rattle.wire_defs.specs.declared.file_message.LockResponse.{LockResponse}
 use Rattle.wire_defs.specs.declared.file_message.SetInfoResponse.{SetInfoResponse}
@@ -18,7 +17,23 @@ unfolding body_in
 returns-clause-close c = λ header rest token file query len.
     let law = c.close_response_law.ensures in
     let m : List ℕ = header ++ (close_response_spelling untold_value ++ rest) in
-    let spelled = law.again header rest untold_value len (omega arith, (omega arith, (omega arith, (omega arith, (omega arith, (omega arith, (omega arith, (omega arith, (omega arith, tt))))))))) in
+    let spelled = law.again header rest untold_value len (
+      omega arith,
+      (
+        omega arith,
+        (
+          omega arith,
+          (
+            omega arith,
+            (
+              omega
+                  arith,
+              (omega arith, (omega arith, (omega arith, (omega arith, tt)))),
+            ),
+          ),
+        ),
+      ),
+    ) in
     unbroken (close_response_fault m) (Some Empty) (law.whole m untold_value spelled)
 
 pub returns-clause-flush : goal.returns-clause-flush

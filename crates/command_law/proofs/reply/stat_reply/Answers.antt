@@ -1,4 +1,4 @@
-use Rattle.std.proofs.Common.{◌≡◌, ℕ, ◌+◌, ◌^◌, ◌<◌, Bool, true, false, List, [], ◌++◌, length, Option, Some, None, refl, ap, ◌∙◌, arith}
+use Rattle.std.proofs.Common.{ℕ, ◌^◌, ◌<◌, Bool, true, false, List, [], ◌++◌, length, Option, Some, refl, ◌∙◌, arith}
 use Rattle.wire_defs.specs.QueryInfo.{QueryInfoResponseValue, SpellsQueryInfoResponse, query_info_response_fault, query_info_response_in, query_info_response_spelling}
 use Rattle.wire_defs.specs.FileClasses.{SpellsFileStandardInformation, file_standard_information_fault, file_standard_information_in, IsWritableFileStandardInformation, file_standard_information_spelling, file_standard_information_table}
 use Rattle.wire_defs.specs.declared.class.FileStandardInformation.{FileStandardInformation}
@@ -26,7 +26,17 @@ bit_small true = omega arith
 bit_small false = omega arith
 
 fits : (i : Info) → IsInfo i → IsWritableFileStandardInformation (standard_of i)
-fits i is = let size : i.size < 256 ^ 8 = omega (arith, is.size) in (allocation_small i.size is.size, (size, (omega arith, (bit_small i.is_marked, (bit_small i.is_directory, tt)))))
+fits i is = let size : i.size < 256 ^ 8 = omega (arith, is.size) in (
+  allocation_small i.size is.size,
+  (
+    size,
+    (
+      omega
+          arith,
+      (bit_small i.is_marked, (bit_small i.is_directory, tt)),
+    ),
+  ),
+)
 
 few : (i : Info) → IsInfo i → length (file_standard_information_spelling (standard_of i)) < 256 ^ 4
 unfolding size_of
@@ -39,7 +49,11 @@ returns c = λ header rest token file room path info access options len is.
     let told = c.file_standard_information_law.ensures in
     let v : QueryInfoResponseValue = record { output = file_standard_information_spelling (standard_of info) } in
     let m : List ℕ = header ++ (query_info_response_spelling v ++ rest) in
-    let row = found SpellsQueryInfoResponse query_info_response_fault query_info_response_in law.one law.whole law.given m v (law.again header rest v len (omega arith, (omega arith, (few info is, (refl, tt))))) in
-    let inner = alone SpellsFileStandardInformation file_standard_information_fault file_standard_information_in IsWritableFileStandardInformation file_standard_information_spelling told.one told.whole told.given told.again (standard_of info) (fits info is) in
+    let row = found SpellsQueryInfoResponse query_info_response_fault query_info_response_in law.one law.whole law.given
+    m v (law.again header rest v len (omega arith, (omega arith, (few info is, (refl, tt))))) in
+    let inner = alone SpellsFileStandardInformation file_standard_information_fault file_standard_information_in
+    IsWritableFileStandardInformation file_standard_information_spelling told.one told.whole told.given told.again
+    (standard_of info) (fits info is) in
     heard_as query_info_response_fault query_info_response_in told_in m v row
-    ∙ heard_as file_standard_information_fault file_standard_information_in length_of (file_standard_information_spelling (standard_of info)) (standard_of info) inner
+    ∙ heard_as file_standard_information_fault file_standard_information_in length_of
+    (file_standard_information_spelling (standard_of info)) (standard_of info) inner

@@ -1,4 +1,4 @@
-use Rattle.std.proofs.Common.{◌≡◌, ℕ, List, ◌++◌, Option, Some, refl, arith}
+use Rattle.std.proofs.Common.{ℕ, List, ◌++◌, Option, Some, refl, arith}
 use Rattle.wire_defs.specs.Read.{ReadResponseValue, SpellsReadResponse, read_response_fault, read_response_in, read_response_spelling}
 use Rattle.wire_defs.specs.Write.{SpellsWriteResponse, write_response_fault, write_response_in, write_response_spelling}
 use Rattle.wire_defs.specs.declared.message.WriteResponse.{WriteResponse}
@@ -22,7 +22,8 @@ returns-clause-read c = λ header rest token file at size minimum channel bytes 
     let v : ReadResponseValue = content_value bytes in
     let m : List ℕ = header ++ (read_response_spelling v ++ rest) in
     heard_as read_response_fault read_response_in content_of m v
-    (found SpellsReadResponse read_response_fault read_response_in law.one law.whole law.given m v (law.again header rest v len (omega arith, (omega arith, (few, (omega arith, (refl, tt)))))))
+    (found SpellsReadResponse read_response_fault read_response_in law.one law.whole law.given m v (law.again header
+    rest v len (omega arith, (omega arith, (few, (omega arith, (refl, tt)))))))
 
 pub returns-clause-write : goal.returns-clause-write
 unfolding body_in
@@ -31,4 +32,5 @@ returns-clause-write c = λ header rest token file at bytes channel count len fe
     let v : WriteResponse = count_value count in
     let m : List ℕ = header ++ (write_response_spelling v ++ rest) in
     heard_as write_response_fault write_response_in count_of m v
-    (found SpellsWriteResponse write_response_fault write_response_in law.one law.whole law.given m v (law.again header rest v len (omega arith, (few, (omega arith, tt)))))
+    (found SpellsWriteResponse write_response_fault write_response_in law.one law.whole law.given m v (law.again
+    header rest v len (omega arith, (few, (omega arith, tt)))))

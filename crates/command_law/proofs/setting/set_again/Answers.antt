@@ -1,8 +1,7 @@
-use Rattle.std.proofs.Common.{◌≡◌, ℕ, ◌+◌, ◌^◌, ◌<◌, Bool, true, false, List, [], ◌++◌, length, Option, Some, None, refl, sym, ap, ◌∙◌, arith}
-use Rattle.std.specs.Prelude.{◌==◌, not, if◌then◌else◌}
+use Rattle.std.proofs.Common.{◌≡◌, ℕ, ◌^◌, ◌<◌, Bool, true, false, List, [], ◌++◌, length, None, refl, ap, ◌∙◌, arith}
+use Rattle.std.specs.Prelude.{◌==◌, not}
 use Rattle.wire_defs.specs.Utf16.{utf16}
 use Rattle.wire_defs.specs.Classes.{is_set_class}
-use Rattle.wire_defs.specs.declared.error.MessageError.{MessageError}
 use Rattle.wire_defs.specs.SetInfo.{IsWritableSetInfoRequest, SetInfoRequestValue, SpellsSetInfoRequest, set_info_request_fault, set_info_request_in}
 use Rattle.wire_defs.specs.FileClasses
 use Rattle.wire_defs.specs.declared.class.FileBasicInformation.{FileBasicInformation}
@@ -10,9 +9,7 @@ use Rattle.wire_defs.specs.declared.class.FileDispositionInformation.{FileDispos
 use Rattle.wire_defs.specs.declared.class.FileAllocationInformation.{FileAllocationInformation}
 use Rattle.wire_defs.specs.declared.class.FileEndOfFileInformation.{FileEndOfFileInformation}
 use Rattle.wire_law.proofs.Rows.{length-with_fields, size_of}
-use Rattle.exchange_defs.specs.Status.{object_name_invalid, invalid_parameter}
-use Rattle.exchange_defs.specs.Commands.{Command, SetInfo, Setting, SetBasic, Rename, SetDelete, SetAllocation, SetEnd, Basic}
-use Rattle.command_defs.specs.Ids.{file_of, file_id}
+use Rattle.exchange_defs.specs.Commands.{SetInfo, Setting, SetBasic, Rename, SetDelete, SetAllocation, SetEnd, Basic}
 use Rattle.command_defs.specs.Text.{text_in}
 use Rattle.command_defs.specs.Tables.{bit_if}
 use Rattle.command_defs.specs.BodyOf.{body_of, set_value, setting_bytes, class_of, basic_value}
@@ -60,11 +57,33 @@ rename_fits replace path is = (bit_small replace, (omega arith, (omega (arith, i
 
 bytes_few : (s : Setting) → IsSetting s → length (setting_bytes s) < 256 ^ 4
 unfolding size_of
-bytes_few (SetBasic basic) is = omega (arith, length-with_fields (FileClasses.file_basic_information_table (basic_value basic)) [] (basic_fits basic is))
-bytes_few (Rename replace path) is = omega (arith, is.short, length-with_fields (FileClasses.file_rename_information_whole (rename_value replace path)) [] (rename_fits replace path is))
-bytes_few (SetDelete marked) is = omega (arith, length-with_fields (FileClasses.file_disposition_information_table (record { delete_pending = bit_if marked 1 })) [] (bit_small marked, tt))
-bytes_few (SetAllocation size) is = omega (arith, length-with_fields (FileClasses.file_allocation_information_table (record { allocation_size = size })) [] (is, tt))
-bytes_few (SetEnd size) is = omega (arith, length-with_fields (FileClasses.file_end_of_file_information_table (record { end_of_file = size })) [] (is, tt))
+bytes_few (SetBasic basic) is = omega (
+  arith,
+  length-with_fields (FileClasses.file_basic_information_table (basic_value
+      basic)) [] (basic_fits basic is),
+)
+bytes_few (Rename replace path) is = omega (
+  arith,
+  is.short,
+  length-with_fields
+      (FileClasses.file_rename_information_whole (rename_value replace path)) [] (rename_fits replace path is),
+)
+bytes_few (SetDelete marked) is = omega (
+  arith,
+  length-with_fields (FileClasses.file_disposition_information_table
+      (record { delete_pending = bit_if marked 1 })) [] (bit_small marked, tt),
+)
+bytes_few (SetAllocation size) is = omega (
+  arith,
+  length-with_fields (FileClasses.file_allocation_information_table
+      (record { allocation_size = size })) [] (is, tt),
+)
+bytes_few (SetEnd size) is = omega (
+  arith,
+  length-with_fields (FileClasses.file_end_of_file_information_table (record {
+    end_of_file = size;
+  })) [] (is, tt),
+)
 
 pub returns : goal.returns
 unfolding set_in body_of
@@ -73,41 +92,87 @@ returns c = λ header rest file setting len small is.
     let v : SetInfoRequestValue = set_value file setting in
     let m : List ℕ = header ++ (body_of (SetInfo file setting) ++ rest) in
     let fit : IsWritableSetInfoRequest v = record {
-      fits = (omega arith, (omega arith, (class_small setting, (bytes_few setting is, (omega arith, (omega arith, (length-file_id file, (refl, tt))))))));
+      fits = (
+        omega arith,
+        (
+          omega arith,
+          (
+            class_small setting,
+            (
+              bytes_few setting is,
+              (
+                omega arith,
+                (
+                  omega arith,
+                  (length-file_id file, (refl, tt)),
+                ),
+              ),
+            ),
+          ),
+        ),
+      );
       known = class_known setting;
     } in
-    let row = found SpellsSetInfoRequest set_info_request_fault set_info_request_in law.one law.whole law.given m v (law.again header rest v len fit) in
+    let row = found SpellsSetInfoRequest set_info_request_fault set_info_request_in law.one law.whole law.given m v
+    (law.again header rest v len fit) in
     read_as SpellsSetInfoRequest set_info_request_fault set_info_request_in set_of m v row
     ∙ ap (λ (o : ℕ). setting_of o (class_of setting) (setting_bytes setting)) (file_again file small)
     ∙ by_class setting file is
   where
-    basic_is : (b : Basic) → IsBasic b → (FileClasses.file_basic_information_fault (FileClasses.file_basic_information_spelling (basic_value b)) ≡ None) × (FileClasses.file_basic_information_in (FileClasses.file_basic_information_spelling (basic_value b)) ≡ basic_value b)
+    basic_is : (b : Basic) → IsBasic b → (FileClasses.file_basic_information_fault
+        (FileClasses.file_basic_information_spelling (basic_value b)) ≡ None) × (FileClasses.file_basic_information_in
+        (FileClasses.file_basic_information_spelling (basic_value b)) ≡ basic_value b)
     basic_is b is =
         let law = c.file_basic_information_law.ensures in
-        alone FileClasses.SpellsFileBasicInformation FileClasses.file_basic_information_fault FileClasses.file_basic_information_in FileClasses.IsWritableFileBasicInformation FileClasses.file_basic_information_spelling law.one law.whole law.given law.again (basic_value b) (basic_fits b is)
+        alone FileClasses.SpellsFileBasicInformation FileClasses.file_basic_information_fault
+        FileClasses.file_basic_information_in FileClasses.IsWritableFileBasicInformation
+        FileClasses.file_basic_information_spelling law.one law.whole law.given law.again (basic_value b)
+        (basic_fits b is)
 
     by_class : (s : Setting) (file : ℕ) → IsSetting s → setting_of file (class_of s) (setting_bytes s) ≡ SetInfo file s
     by_class (SetBasic b) file is =
-        read_as FileClasses.SpellsFileBasicInformation FileClasses.file_basic_information_fault FileClasses.file_basic_information_in (λ (v : FileBasicInformation). SetInfo file (SetBasic (basic_of v))) (setting_bytes (SetBasic b)) (basic_value b) (basic_is b is)
+        read_as FileClasses.SpellsFileBasicInformation FileClasses.file_basic_information_fault
+        FileClasses.file_basic_information_in (λ (v : FileBasicInformation). SetInfo file (SetBasic (basic_of v)))
+        (setting_bytes (SetBasic b)) (basic_value b) (basic_is b is)
     by_class (Rename replace path) file is =
         let law = c.file_rename_information_law.ensures in
-        let row = alone FileClasses.SpellsFileRenameInformation FileClasses.file_rename_information_fault FileClasses.file_rename_information_in FileClasses.IsWritableFileRenameInformation FileClasses.file_rename_information_spelling law.one law.whole law.given law.again (rename_value replace path) (rename_fits replace path is) in
-        read_as FileClasses.SpellsFileRenameInformation FileClasses.file_rename_information_fault FileClasses.file_rename_information_in (λ (v : FileClasses.FileRenameInformationValue). rename_of file v (text_in v.name)) (setting_bytes (Rename replace path)) (rename_value replace path) row
+        let row = alone FileClasses.SpellsFileRenameInformation FileClasses.file_rename_information_fault
+        FileClasses.file_rename_information_in FileClasses.IsWritableFileRenameInformation
+        FileClasses.file_rename_information_spelling law.one law.whole law.given law.again (rename_value replace
+        path) (rename_fits replace path is) in
+        read_as FileClasses.SpellsFileRenameInformation FileClasses.file_rename_information_fault
+        FileClasses.file_rename_information_in (λ (v : FileClasses.FileRenameInformationValue). rename_of file v
+        (text_in v.name)) (setting_bytes (Rename replace path)) (rename_value replace path) row
         ∙ ap (rename_of file (rename_value replace path)) (text_again path is.utf8)
         ∙ ap (λ (b : Bool). SetInfo file (Rename b path)) (marked_again replace)
     by_class (SetDelete marked) file is =
         let law = c.file_disposition_information_law.ensures in
         let v : FileDispositionInformation = record { delete_pending = bit_if marked 1 } in
-        let row = alone FileClasses.SpellsFileDispositionInformation FileClasses.file_disposition_information_fault FileClasses.file_disposition_information_in FileClasses.IsWritableFileDispositionInformation FileClasses.file_disposition_information_spelling law.one law.whole law.given law.again v (bit_small marked, tt) in
-        read_as FileClasses.SpellsFileDispositionInformation FileClasses.file_disposition_information_fault FileClasses.file_disposition_information_in (λ (v : FileDispositionInformation). SetInfo file (SetDelete (not (v.delete_pending == 0)))) (setting_bytes (SetDelete marked)) v row
+        let row = alone FileClasses.SpellsFileDispositionInformation FileClasses.file_disposition_information_fault
+        FileClasses.file_disposition_information_in FileClasses.IsWritableFileDispositionInformation
+        FileClasses.file_disposition_information_spelling law.one law.whole law.given law.again v (
+          bit_small marked,
+          tt,
+        ) in
+        read_as FileClasses.SpellsFileDispositionInformation FileClasses.file_disposition_information_fault
+        FileClasses.file_disposition_information_in (λ (v : FileDispositionInformation). SetInfo file (SetDelete
+        (not (v.delete_pending == 0)))) (setting_bytes (SetDelete marked)) v row
         ∙ ap (λ (b : Bool). SetInfo file (SetDelete b)) (marked_again marked)
     by_class (SetAllocation size) file is =
         let law = c.file_allocation_information_law.ensures in
         let v : FileAllocationInformation = record { allocation_size = size } in
-        let row = alone FileClasses.SpellsFileAllocationInformation FileClasses.file_allocation_information_fault FileClasses.file_allocation_information_in FileClasses.IsWritableFileAllocationInformation FileClasses.file_allocation_information_spelling law.one law.whole law.given law.again v (is, tt) in
-        read_as FileClasses.SpellsFileAllocationInformation FileClasses.file_allocation_information_fault FileClasses.file_allocation_information_in (λ (v : FileAllocationInformation). SetInfo file (SetAllocation v.allocation_size)) (setting_bytes (SetAllocation size)) v row
+        let row = alone FileClasses.SpellsFileAllocationInformation FileClasses.file_allocation_information_fault
+        FileClasses.file_allocation_information_in FileClasses.IsWritableFileAllocationInformation
+        FileClasses.file_allocation_information_spelling law.one law.whole law.given law.again v (is, tt) in
+        read_as FileClasses.SpellsFileAllocationInformation FileClasses.file_allocation_information_fault
+        FileClasses.file_allocation_information_in (λ (v : FileAllocationInformation). SetInfo file (SetAllocation
+        v.allocation_size)) (setting_bytes (SetAllocation size)) v row
     by_class (SetEnd size) file is =
         let law = c.file_end_of_file_information_law.ensures in
         let v : FileEndOfFileInformation = record { end_of_file = size } in
-        let row = alone FileClasses.SpellsFileEndOfFileInformation FileClasses.file_end_of_file_information_fault FileClasses.file_end_of_file_information_in FileClasses.IsWritableFileEndOfFileInformation FileClasses.file_end_of_file_information_spelling law.one law.whole law.given law.again v (is, tt) in
-        read_as FileClasses.SpellsFileEndOfFileInformation FileClasses.file_end_of_file_information_fault FileClasses.file_end_of_file_information_in (λ (v : FileEndOfFileInformation). SetInfo file (SetEnd v.end_of_file)) (setting_bytes (SetEnd size)) v row
+        let row = alone FileClasses.SpellsFileEndOfFileInformation FileClasses.file_end_of_file_information_fault
+        FileClasses.file_end_of_file_information_in FileClasses.IsWritableFileEndOfFileInformation
+        FileClasses.file_end_of_file_information_spelling law.one law.whole law.given law.again v (is, tt) in
+        read_as FileClasses.SpellsFileEndOfFileInformation FileClasses.file_end_of_file_information_fault
+        FileClasses.file_end_of_file_information_in (λ (v : FileEndOfFileInformation). SetInfo file (SetEnd
+        v.end_of_file)) (setting_bytes (SetEnd size)) v row
