@@ -14,7 +14,7 @@ use Rattle.command_defs.specs.CommandOf.{contexts_in}
 is_last : (n : ℕ) → n ≡ 0 → (n == 0) ≡ true
 is_last n e = grind (arith, common_steps)
 
-is_linked : (n : ℕ) → (n ≡ 0 → ⊥) → (n == 0) ≡ false
+pub is_linked : (n : ℕ) → (n ≡ 0 → ⊥) → (n == 0) ≡ false
 is_linked n some = grind (arith, common_steps)
 
 positive : (n : ℕ) → (n ≡ 0 → ⊥) → 1 ≤ n
@@ -36,7 +36,7 @@ module _ {V : Type 0} where
   last_item false true x o e f = refl
   last_item false false x o e f = absurd cc
 
-  next_item : (breaks last : Bool) (x : V) (o : Option (List V)) → breaks ≡ false → last ≡ false → (if breaks then None
+  pub next_item : (breaks last : Bool) (x : V) (o : Option (List V)) → breaks ≡ false → last ≡ false → (if breaks then None
       else if last then Some (x ∷ []) else o) ≡ o
   next_item true last x o e f = absurd cc
   next_item false true x o e f = absurd cc

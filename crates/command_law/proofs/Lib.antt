@@ -10,3 +10,4 @@ pub mod Limits
 pub mod HeardBack
 pub mod Infos
 pub mod Names
+pub mod Broken

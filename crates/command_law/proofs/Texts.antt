@@ -72,7 +72,7 @@ big_char c (Some us) big range =
     ap all_there (utf16_chars_pair (high_of c) (low_of c) us (pair_of c big range)) ∙ ap (λ (x : ℕ). all_there (Some x ∷
     utf16_chars us)) (pair_char c big)
 
-char_in : (c : ℕ) (rest : List ℕ) → IsScalar c → characters_in (units_in (units_of c ++ rest)) ≡ option_map (λ (cs :
+pub char_in : (c : ℕ) (rest : List ℕ) → IsScalar c → characters_in (units_in (units_of c ++ rest)) ≡ option_map (λ (cs :
     List ℕ). c ∷ cs) (characters_in (units_in rest))
 char_in c rest is = by_size (cases_lt c 0x10000)
   where
@@ -97,7 +97,7 @@ both : (a b : Bool) → (a && b) ≡ true → (a ≡ true) × (b ≡ true)
 both true b e = (refl, e)
 both false b e = absurd cc
 
-each : (c : ℕ) (cs : List ℕ) → all_scalars (c ∷ cs) ≡ true → IsScalar c × (all_scalars cs ≡ true)
+pub each : (c : ℕ) (cs : List ℕ) → all_scalars (c ∷ cs) ≡ true → IsScalar c × (all_scalars cs ≡ true)
 each c cs e = both _ (all_scalars cs) e
 
 nothing_in : characters_in (units_in []) ≡ Some []

@@ -7,10 +7,12 @@ mod create;
 mod dialog;
 mod parts;
 mod plain;
+mod reading;
 mod reply;
 mod request;
 mod setting;
 
 pub use dialog::{dialog_reply_law, share_law};
+pub use reading::same_reading_law;
 pub use reply::reply_law;
 pub use request::request_law;

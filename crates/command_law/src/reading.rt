@@ -1,0 +1,19 @@
+ghost use Rattle.std.specs.Prelude.{◌≡◌, ℕ, List, Some, None, IsUtf8};
+ghost use Rattle.wire_defs.specs.Chain.{BreaksChain};
+ghost use Rattle.wire_defs.specs.CreateContexts.{SpellsCreateContexts, first_fault, request_due};
+ghost use Rattle.wire_defs.specs.Utf16.{utf16, BreaksUtf16};
+ghost use Rattle.wire_defs.specs.declared.chain_error.ChainError.{ChainError};
+ghost use Rattle.wire_defs.specs.declared.context.CreateContexts.{CreateContexts};
+ghost use Rattle.wire_defs.specs.declared.refusal.TextError.{TextError};
+ghost use Rattle.wire_defs.specs.declared.refusal.TextError.TheVariants as errors;
+ghost use Rattle.command_defs.specs.CommandOf.{contexts_in};
+ghost use Rattle.command_defs.specs.Text.{text_in};
+
+/// Contexts and texts read as the wire's own grammar says: what is spelled gives its value, and what has a
+/// break gives none.
+pub fn same_reading_law()
+    ensures contexts { (m : List ℕ) (c : CreateContexts) → SpellsCreateContexts m c → contexts_in m ≡ Some c }
+    ensures no_contexts { (m : List ℕ) (e : ChainError) → BreaksChain (first_fault request_due) m e → contexts_in m ≡ None }
+    ensures text { (t : List ℕ) → IsUtf8 t → text_in (utf16 t) ≡ Some t }
+    ensures no_text { (bytes : List ℕ) (e : TextError) → BreaksUtf16 bytes e → (e ≡ errors.Memory → ⊥) → text_in bytes ≡ None }
+{}
