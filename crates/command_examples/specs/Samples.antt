@@ -1,0 +1,67 @@
+-- The values of the examples.
+use Rattle.std.specs.Prelude.{ℕ, false, true, List, [], ◌∷◌, Some, None}
+use Rattle.wire_defs.specs.Places.{le}
+use Rattle.wire_defs.specs.declared.header.Header.{Header}
+use Rattle.exchange_defs.specs.Commands.{CreateRequest, Bad}
+use Rattle.exchange_defs.specs.State.{Info, Named, Body, Reply}
+use Rattle.command_defs.specs.CommandOf.{Told}
+
+-- the bytes of a header, which no body looks at
+abbrev pub zeros : List ℕ
+zeros = le 64 0
+
+abbrev pub header_of : ℕ → ℕ → Header
+header_of command status = record {
+  charge = 1;
+  status = status;
+  command = command;
+  credits = 1;
+  flags = 0;
+  next = 0;
+  message = 4;
+  tree = 0;
+  session = 0;
+  signature = le 16 0;
+}
+
+abbrev pub told : Told
+told = record { connection = 0; client = 0; fault = None; verified = false; cipher = 0; signing = 1; shows = λ token. Bad; negotiated = 0 }
+
+-- `a`, to be written by this open alone, opened or made, persistent
+abbrev pub a_create : CreateRequest
+a_create = record {
+  path = 97 ∷ [];
+  access = 0x102;
+  share = 1;
+  attributes = 0;
+  disposition = 3;
+  options = 0x40;
+  durable
+      = Some (record { timeout = 0; persistent = true; guid = 7 });
+  reconnect = None;
+  maximal = false;
+  disk_id = false;
+}
+
+abbrev pub replied : ℕ → Body → Reply
+replied status body = record { status = status; session = 0; tree = 0; body = body }
+
+abbrev pub nothing : Info
+nothing = record {
+  file = 0;
+  is_directory = false;
+  size = 0;
+  is_marked = false;
+  times = record {
+    created = 0;
+    accessed =
+        0;
+    written = 0;
+    changed = 0;
+    attributes = 0;
+  };
+}
+
+-- `.` and `ab`
+abbrev pub two_names : List Named
+two_names = record { name = 46 ∷ []; info = nothing } ∷ record { name = 97 ∷ 98 ∷ []; info = nothing } ∷ []

@@ -1,0 +1,18 @@
+-- One row of the table, after a change at one number.
+use Rattle.std.proofs.Common.{◌≡◌, ℕ, ◌==◌, nat_eq, Bool, true, false, if◌then◌else◌, List, Option, Some, None, option_map, refl, sym, ap, ◌∙◌, arith}
+use Rattle.std.proofs.lemmas.Grind.{common_steps}
+use Rattle.exchange_defs.specs.Commands.{Basic}
+use Rattle.file_table.specs.declared.row.Row.{Row}
+use Rattle.file_table.specs.Shown.{RowIs, RowShown}
+
+pub row_basic : (b : Bool) (old : Option Row) (path : Option (List ℕ)) (directory marked : Bool) (basic new : Basic) (content : List ℕ) → RowShown old path directory marked basic content
+    → RowShown (if b then option_map (λ (r : Row). record r { basic = new }) old else old) path directory marked (if b then new else basic) content
+row_basic true None path directory marked basic new content h = h
+row_basic true (Some r) path directory marked basic new content h = (h.0, record { key_is = h.1.key_is; below_is = h.1.below_is; directory_is = h.1.directory_is; marked_is = h.1.marked_is; basic_is = refl; content_is = h.1.content_is })
+row_basic false old path directory marked basic new content h = h
+
+pub row_marked : (b : Bool) (old : Option Row) (path : Option (List ℕ)) (directory marked new : Bool) (basic : Basic) (content : List ℕ) → RowShown old path directory marked basic content
+    → RowShown (if b then option_map (λ (r : Row). record r { marked = new }) old else old) path directory (if b then new else marked) basic content
+row_marked true None path directory marked new basic content h = h
+row_marked true (Some r) path directory marked new basic content h = (h.0, record { key_is = h.1.key_is; below_is = h.1.below_is; directory_is = h.1.directory_is; marked_is = refl; basic_is = h.1.basic_is; content_is = h.1.content_is })
+row_marked false old path directory marked new basic content h = h

@@ -1,0 +1,4 @@
+pub mod Keys
+pub mod Shown
+pub mod Refusals
+pub mod Made

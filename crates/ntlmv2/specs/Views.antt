@@ -1,0 +1,42 @@
+-- The messages in code as the definitions see them.
+use Rattle.std.specs.Prelude.{◌≡◌, ℕ, List, Result, Ok, Err}
+use Rattle.token_defs.specs.declared.ntlm.NtlmError.{NtlmError}
+use Rattle.token_defs.specs.declared.ntlm.NtlmError.TheVariants as ntlm
+use Rattle.token_defs.specs.declared.ntlm.LogonError.{LogonError}
+use Rattle.token_defs.specs.declared.ntlm.LogonError.TheVariants as logon
+use Rattle.token_defs.specs.Messages.{Type2Value, Type3Value}
+use Rattle.token_defs.specs.Acceptor.{LogonValue}
+use Rattle.token_defs.specs.Answer
+use Rattle.ntlmv2.specs.declared.answer.Credentials.{Credentials}
+use Rattle.ntlmv2.specs.declared.messages.Type2.{Type2}
+use Rattle.ntlmv2.specs.declared.messages.Type3.{Type3}
+use Rattle.ntlmv2.specs.declared.acceptor.Logon.{Logon}
+
+abbrev pub type2_view : Type2 → Type2Value
+type2_view m = record { flags = m.flags; challenge = m.challenge; target_name = m.target_name.now; target_info = m.target_info.now }
+
+abbrev pub type3_view : Type3 → Type3Value
+type3_view m = record {
+  flags = m.flags;
+  lm = m.lm.now;
+  nt = m.nt.now;
+  domain = m.domain.now;
+  user = m.user.now;
+  workstation = m.workstation.now;
+  session_key = m.session_key.now;
+  mic = m.mic;
+}
+
+abbrev pub credentials_view : Credentials → Answer.Credentials
+credentials_view c = record { user = c.user.now; password = c.password.now; domain = c.domain.now; challenge = c.challenge; key = c.key }
+
+-- what a reader answered, seen so, is what is due
+abbrev pub Reads : {X V : Type 0} → (X → V) → Result X NtlmError → Result V NtlmError → Type 0
+Reads view (Ok x) due = due ≡ Ok (view x)
+Reads view (Err e) due = due ≡ Err e
+
+-- a logon or the refusal that is due, or no memory
+abbrev pub Judges : Result Logon LogonError → Result LogonValue LogonError → Type 0
+Judges (Ok l) due = due ≡ Ok (record { user = l.user; key = l.key; exchanged = l.exchanged })
+Judges (Err logon.Memory) due = Unit {0}
+Judges (Err e) due = due ≡ Err e

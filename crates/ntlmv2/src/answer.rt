@@ -1,0 +1,158 @@
+//! The client's side: the first message, and the answer to a challenge.
+ghost use Rattle.std.specs.Prelude.{◌≡◌, ◌≤◌, ◌<◌, ◌+◌, ◌++◌, ◌^◌, length, take, replicate, IfOk};
+ghost use Rattle.token_defs.specs.Formulas.{temp};
+ghost use Rattle.token_defs.specs.Answer.{first_message, time_in, client_info, answer};
+ghost use Rattle.ntlmv2.specs.Views.{type2_view, credentials_view};
+ghost use Rattle.ntlmv2.specs.Responses.{IsResponse, IsShort, answer_value};
+ghost use Rattle.token_defs.specs.Messages.{type3_spelling};
+
+use crate::formulas::{base_key, exchanged_key_of, mic, ntowf, proof};
+use crate::messages::{Type2, Type3, write_type1, write_type3};
+use crate::pairs::{end_of, pair_of};
+use crate::text::utf16_of;
+use smb_bytes::{Bytes, Out};
+use std::alloc::{AllocError, Global};
+use token_defs::Type1;
+
+const CLIENT_FLAGS: u32 = 0x6008_0215;
+
+/// A user, and the random bytes of one logon.
+#[derive(Clone, Copy, Debug)]
+pub struct Credentials<'a> {
+    pub user: &'a str,
+    pub password: &'a str,
+    pub domain: &'a str,
+    pub challenge: [u8; 8],
+    /// The key that is exchanged.
+    pub key: [u8; 16],
+}
+
+/// The type 1 of this client, 40 bytes.
+#[tactic(auto, unfolding(token_defs::specs::Answer::first_message))]
+pub fn first_message(alloc: Global) -> Result<Bytes, AllocError>
+    ensures { IfOk result (λ b. b ≡ first_message) }
+{
+    write_type1(
+        alloc,
+        &Type1 {
+            flags: CLIENT_FLAGS,
+        },
+    )
+}
+
+/// The first eight bytes of a value, with zeros behind a shorter one.
+#[tactic(auto, using(crate::proofs::Sizes::filled, crate::proofs::Sizes::long_enough))]
+fn eight_of(value: &[u8]) -> [u8; 8]
+    ensures { result ≡ take 8 (value.now ++ replicate 8 0) }
+{
+    let mut front = [0; 8];
+    if value.len() < 8 {
+        front[..value.len()].copy_from_slice(value);
+        return front;
+    }
+    front.copy_from_slice(&value[..8]);
+    front
+}
+
+/// The time in the server's pair 7, zeros where there is none.
+fn time_of(info: &[u8]) -> [u8; 8]
+    ensures { result ≡ time_in info.now }
+{
+    match pair_of(7, info) {
+        None => [0; 8],
+        Some(value) => eight_of(value),
+    }
+}
+
+/// What the proof is of, behind the server's challenge.
+#[tactic(auto, using(crate::proofs::Info::temp_spelled), unfolding(token_defs::specs::Answer::client_info))]
+fn temp_of(alloc: Global, client: &Credentials<'_>, info: &[u8]) -> Result<Bytes, AllocError>
+    ensures { IfOk result (λ b. b ≡ temp (time_in info.now) client.now.challenge (client_info info.now)) }
+{
+    let mut out = Out::new(alloc);
+    out.put_u16(0x0101)?;
+    out.put_zeros(6)?;
+    out.put_slice(&time_of(info))?;
+    out.put_slice(&client.challenge)?;
+    out.put_zeros(4)?;
+    out.put_slice(&info[..end_of(info)])?;
+    out.put_u16(6)?;
+    out.put_u16(4)?;
+    out.put_u32(2)?;
+    out.put_u32(0)?;
+    out.put_zeros(4)?;
+    Ok(out.finish())
+}
+
+/// What a type 3 tells of a user: the response to a challenge (MS-NLMP 2.2.2.8), the names in UTF-16, and the key
+/// that is exchanged, enciphered.
+#[derive(Drop)]
+struct Response {
+    nt: Bytes,
+    domain: Bytes,
+    user: Bytes,
+    session_key: [u8; 16],
+}
+
+fn response_to(
+    alloc: Global,
+    client: &Credentials<'_>,
+    second: &Type2<'_>,
+) -> Result<Response, AllocError>
+    ensures { IfOk result (λ r. IsResponse (credentials_view client.now) (type2_view second.now) r) }
+{
+    let key = ntowf(alloc, client.password, client.user, client.domain)?;
+    let temp = temp_of(alloc, client, second.target_info)?;
+    let shown = proof(&key, &second.challenge, temp.as_slice());
+    let mut nt = Bytes::from_slice(alloc, &shown)?;
+    nt.extend(temp.as_slice())?;
+    let domain = utf16_of(alloc, client.domain)?;
+    let user = utf16_of(alloc, client.user)?;
+    Ok(Response {
+        nt,
+        domain,
+        user,
+        session_key: exchanged_key_of(&base_key(&key, &shown), &client.key),
+    })
+}
+
+/// The type 3 of a response, with this MIC.
+fn write_answer(alloc: Global, response: &Response, mic: [u8; 16]) -> Result<Bytes, AllocError>
+    requires { IsShort response.now }
+    ensures { IfOk result (λ b. b ≡ type3_spelling (answer_value response.now mic)) }
+{
+    write_type3(
+        alloc,
+        &Type3 {
+            flags: CLIENT_FLAGS,
+            lm: &[0; 24],
+            nt: response.nt.as_slice(),
+            domain: response.domain.as_slice(),
+            user: response.user.as_slice(),
+            workstation: &[],
+            session_key: &response.session_key,
+            mic,
+        },
+    )
+}
+
+/// The type 3 that answers a type 2 of these bytes and this value, with a MIC over all three messages
+/// (MS-NLMP 3.1.5.1.2). The names of the user and of the domain have fewer than 16,384 bytes, and the target
+/// information leaves room for the response's other parts.
+pub fn answer_to(
+    alloc: Global,
+    client: &Credentials<'_>,
+    first: &[u8],
+    second_bytes: &[u8],
+    second: &Type2<'_>,
+) -> Result<Bytes, AllocError>
+    requires user { length client.now.user.now < 2 ^ 14 }
+    requires domain { length client.now.domain.now < 2 ^ 14 }
+    requires info { length second.now.target_info.now + 64 ≤ 2 ^ 16 }
+    ensures { IfOk result (λ b. b ≡ answer (credentials_view client.now) first.now second_bytes.now (type2_view second.now)) }
+{
+    let response = response_to(alloc, client, second)?;
+    let unsigned = write_answer(alloc, &response, [0; 16])?;
+    let code = mic(alloc, &client.key, first, second_bytes, unsigned.as_slice())?;
+    write_answer(alloc, &response, code)
+}
