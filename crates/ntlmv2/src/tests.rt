@@ -33,6 +33,7 @@ fn a_logon(rt: HostRuntime) -> Result<(), Fail> {
         challenge: [9; 8],
         key: [5; 16],
     };
+    assert!(rt; value.target_info.len() <= 65_472);
     let third = answer_to(alloc, &client, first.as_slice(), second.as_slice(), &value)?;
     let mut users = Users::new(alloc);
     users.push(Text::from_str(alloc, "bob")?, Text::from_str(alloc, "x")?)?;
