@@ -1,0 +1,9 @@
+pub mod Standing
+pub mod Told
+pub mod Walk
+pub mod Written
+pub mod Again
+pub mod Sizes
+pub mod Refusals
+pub mod Flags
+pub mod One

@@ -1,0 +1,19 @@
+use Rattle.journal_records.proofs.Again.{read_again}
+use Rattle.journal_records.proofs.One.{one_body, breaks_alone, breaks_once}
+use Rattle.journal_records.proofs.Sizes.{written_size}
+use Rattle.journal_records.proofs.laws.records_law.Goals as goal
+
+pub returns-clause-one : goal.returns-clause-one
+returns-clause-one c = λ v m rs ss a b. one_body rs ss v m 0 a b
+
+pub returns-clause-whole : goal.returns-clause-whole
+returns-clause-whole c = breaks_alone
+
+pub returns-clause-first : goal.returns-clause-first
+returns-clause-first c = breaks_once
+
+pub returns-clause-again : goal.returns-clause-again
+returns-clause-again c = read_again
+
+pub returns-clause-size : goal.returns-clause-size
+returns-clause-size c = written_size

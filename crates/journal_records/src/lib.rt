@@ -1,0 +1,20 @@
+//! The journal's records as bytes, both ways: twelve kinds, in versions 1 and 2 of the journal.
+#![tactic(auto)]
+
+mod fault;
+mod fixed;
+mod laws;
+mod list;
+mod parts;
+mod reading;
+mod value;
+mod variable;
+mod writing;
+
+pub use exchange_defs::values::{Basic, Origin};
+pub use fault::RecordError;
+pub use laws::records_law;
+pub use list::Records;
+pub use reading::read_records;
+pub use value::{NewOpen, Record};
+pub use writing::write_records;
