@@ -17,7 +17,7 @@ use Rattle.recovery_law.proofs.Worlds.{recovers}
 use Rattle.recovery_law.proofs.Restarts.{restarted as restarted_by, was_named, stays_named, stood, ids_above}
 use Rattle.session_law.proofs.Always.{sessions}
 use Rattle.create_law.specs.Creates.{seen, Restarts}
-use Rattle.create_law.proofs.Run.{Holds, Known, StartsAnew, keeps}
+use Rattle.create_law.proofs.Run.{CreatesHold, Known, StartsAnew, keeps}
 use Rattle.server_law.proofs.Logic.{both}
 use Rattle.session_law.proofs.KindsAlways.{kinds}
 
@@ -66,7 +66,7 @@ known z es =
           (one_event_on (λ (v : World) a. Recovers v.records v.server) z (recovers z (fitting z)) es (Serve k));
     }
 
-begins : (z : Settings) → Holds (start z) (λ g. 0)
+begins : (z : Settings) → CreatesHold (start z) (λ g. 0)
 unfolding fold_from sweep
 begins z =
     record {
@@ -97,8 +97,8 @@ begins z =
       ask_up = λ k n g x h. absurd (cc);
     }
 
-pub creates : (z : Settings) → (es : List Event) → At Holds z es
-creates z = on_every_run Holds z (begins z) (λ es e h. keeps (run es (start z)) (acts es (start z)) e (known z es) h)
+pub creates : (z : Settings) → (es : List Event) → At CreatesHold z es
+creates z = on_every_run CreatesHold z (begins z) (λ es e h. keeps (run es (start z)) (acts es (start z)) e (known z es) h)
 
 -- ---- acts
 

@@ -52,8 +52,8 @@ use Rattle.create_law.proofs.Ask.{ask_creates}
 use Rattle.create_law.proofs.Say.{say_creates}
 use Rattle.create_law.proofs.Restarted.{restarted_creates}
 
-abbrev pub Holds : World → (ℕ → ℕ) → Type 0
-Holds w a = Creates w.client w.conns (seen w.server) a
+abbrev pub CreatesHold : World → (ℕ → ℕ) → Type 0
+CreatesHold w a = Creates w.client w.conns (seen w.server) a
 
 -- ---- Submit
 
@@ -61,7 +61,7 @@ first_out : (c : Client) (g : ℕ) (op : Op) → makes_open op ≡ true → outc
 unfolding makes_open
 first_out c g op e = grind arith
 
-submits : (w : World) (a : ℕ → ℕ) (g : ℕ) (op : Op) → Connections w.client w.conns a → Holds w a → Holds (changed w (Submit g op)) a
+submits : (w : World) (a : ℕ → ℕ) (g : ℕ) (op : Op) → Connections w.client w.conns a → CreatesHold w a → CreatesHold (changed w (Submit g op)) a
 submits w a g op f i =
     either (λ d. Creates d w.conns (seen w.server) a) (may_take w.client g op) _ _
     (λ may. submit_creates w.client w.conns (seen w.server) a g op (outcome_at_first w.client g op) (next_of w.client g op may) (first_out w.client g op) f i)
@@ -119,9 +119,9 @@ other_goes : (c : Client) (g : ℕ) → goes_itself c g ≡ false → makes_open
 unfolding makes_open
 other_goes c g e = grind arith
 
-pushes_op : (w : World) (a : ℕ → ℕ) (k g s : ℕ) (c : Client) → c.live ≡ true → Creates c w.conns (seen w.server) a → Holds (pushed_by w k (pick_after c k (Some (record { op = g; slot = s }))) (pick_act c k (Some (record { op = g; slot = s })))) a
+pushes_op : (w : World) (a : ℕ → ℕ) (k g s : ℕ) (c : Client) → c.live ≡ true → Creates c w.conns (seen w.server) a → CreatesHold (pushed_by w k (pick_after c k (Some (record { op = g; slot = s }))) (pick_act c k (Some (record { op = g; slot = s })))) a
 pushes_op w a k g s c live i =
-    let P : Client → Act → Type 0 = λ d x. Holds (pushed_by w k d x) a in
+    let P : Client → Act → Type 0 = λ d x. CreatesHold (pushed_by w k d x) a in
     both_ways P (may_push c k g) _ _ _ _
     (λ may. let m = found c k g may in
     both_ways P (goes_itself c g) _ _ _ _
@@ -129,27 +129,27 @@ pushes_op w a k g s c live i =
     (λ e. ask_creates c w.conns (seen w.server) a k g 1 (ask_message c k (w.conns k).next_id g) (other_goes c g e) m.within (asks_for (c.op (create_for c g)) (guid_for c (create_for c g)) (c.file (create_for c g))) i))
     (λ _. i)
 
-picks : (w : World) (a : ℕ → ℕ) (k : ℕ) (c : Client) (pick : Option Pick) → c.live ≡ true → Creates c w.conns (seen w.server) a → Holds (pushed_by w k (pick_after c k pick) (pick_act c k pick)) a
-picks w a k c None live i = either (λ x. Holds (pushed_by w k c x) a) (some_unsettled c c.taken) _ _ (λ _. i) (λ _. i)
+picks : (w : World) (a : ℕ → ℕ) (k : ℕ) (c : Client) (pick : Option Pick) → c.live ≡ true → Creates c w.conns (seen w.server) a → CreatesHold (pushed_by w k (pick_after c k pick) (pick_act c k pick)) a
+picks w a k c None live i = either (λ x. CreatesHold (pushed_by w k c x) a) (some_unsettled c c.taken) _ _ (λ _. i) (λ _. i)
 picks w a k c (Some p) live i = pushes_op w a k p.op p.slot c live i
 
-pushes : (w : World) (a : ℕ → ℕ) (k : ℕ) (slotless : List ℕ) (pick : Option Pick) → w.client.ready k ≡ true → w.client.live ≡ true → Holds w a → Holds (changed w (Push k slotless pick)) a
+pushes : (w : World) (a : ℕ → ℕ) (k : ℕ) (slotless : List ℕ) (pick : Option Pick) → w.client.ready k ≡ true → w.client.live ≡ true → CreatesHold w a → CreatesHold (changed w (Push k slotless pick)) a
 pushes w a k slotless pick ready live i =
-    both_ways (λ d x. Holds (pushed_by w k d x) a) (w.client.ready k) _ _ _ _
+    both_ways (λ d x. CreatesHold (pushed_by w k d x) a) (w.client.ready k) _ _ _ _
     (λ _. picks w a k (settle_no_slots w.client k slotless) pick (live_stays w.client k slotless ∙ live) (no_slots w.client w.conns (seen w.server) a k slotless i))
     (λ off. absurd (grind arith))
 
 -- ---- Serve
 
-heads : (w : World) (a : ℕ → ℕ) (k : ℕ) (x : Sent) (rest : List Sent) → (w.conns k).up ≡ x ∷ rest → Connections w.client w.conns a → Below w.client w.conns w.server → Holds w a → Good w.client w.conns a x.token (answer w x)
+heads : (w : World) (a : ℕ → ℕ) (k : ℕ) (x : Sent) (rest : List Sent) → (w.conns k).up ≡ x ∷ rest → Connections w.client w.conns a → Below w.client w.conns w.server → CreatesHold w a → Good w.client w.conns a x.token (answer w x)
 heads w a k x rest is f b i =
     answered_by w.client w.conns a w.server w.moment k x f (facing w.client w.conns w.server k x b (front_up (w.conns k).up x rest is)) i x.message.command refl
 
-takes_front : (w : World) (a : ℕ → ℕ) (k : ℕ) (x : Sent) (rest : List Sent) → (w.conns k).up ≡ x ∷ rest → Good w.client w.conns a x.token (answer w x) → Holds (absorbed w k x rest (answer w x)) (counted a x.token (answer w x).acted)
+takes_front : (w : World) (a : ℕ → ℕ) (k : ℕ) (x : Sent) (rest : List Sent) → (w.conns k).up ≡ x ∷ rest → Good w.client w.conns a x.token (answer w x) → CreatesHold (absorbed w k x rest (answer w x)) (counted a x.token (answer w x).acted)
 takes_front w a k x rest is good = front_creates w.client w.conns (seen (answer w x).server) (counted a x.token (answer w x).acted) k x rest is good.0
 
 says : (w : World) (a : ℕ → ℕ) (k : ℕ) (x : Sent) (rest : List Sent) (place : ℕ) → (w.conns k).up ≡ x ∷ rest → Good w.client w.conns a x.token (answer w x)
-    → Holds (replied (absorbed w k x rest (answer w x)) k (record { token = x.token; reply = (answer w x).reply; place = place })) (counted a x.token (answer w x).acted)
+    → CreatesHold (replied (absorbed w k x rest (answer w x)) k (record { token = x.token; reply = (answer w x).reply; place = place })) (counted a x.token (answer w x).acted)
 says w a k x rest place is good =
     let f : ℕ → Conn = put w.conns k (behind_front (w.conns k) rest) in
     let A : Answer = answer w x in
@@ -160,16 +160,16 @@ says w a k x rest place is good =
     (λ g t mk. (said g t mk).never) (λ g t mk. (said g t mk).barred) (λ g t mk. (said g t mk).acted) (λ g t mk. (said g t mk).guid) (λ g o t mk. (said g t mk).names o) j)
     (λ _. subst (λ d. Creates w.client d (seen A.server) (counted a x.token A.acted)) (put_self f k) j)
 
-serves : (w : World) (a : ℕ → ℕ) (k : ℕ) → Connections w.client w.conns a → Below w.client w.conns w.server → Holds w a → (xs : List Sent) → (w.conns k).up ≡ xs → Holds (serve_front w k xs) (λ g. if front_acts w xs g then a g + 1 else a g)
+serves : (w : World) (a : ℕ → ℕ) (k : ℕ) → Connections w.client w.conns a → Below w.client w.conns w.server → CreatesHold w a → (xs : List Sent) → (w.conns k).up ≡ xs → CreatesHold (serve_front w k xs) (λ g. if front_acts w xs g then a g + 1 else a g)
 serves w a k f b i [] is = i
 serves w a k f b i (x ∷ rest) is = says w a k x rest w.log.places is (heads w a k x rest is f b i)
 
-absorbs : (w : World) (a : ℕ → ℕ) (k : ℕ) → Connections w.client w.conns a → Below w.client w.conns w.server → Holds w a → (xs : List Sent) → (w.conns k).up ≡ xs → Holds (absorb_front w k xs) (λ g. if front_acts w xs g then a g + 1 else a g)
+absorbs : (w : World) (a : ℕ → ℕ) (k : ℕ) → Connections w.client w.conns a → Below w.client w.conns w.server → CreatesHold w a → (xs : List Sent) → (w.conns k).up ≡ xs → CreatesHold (absorb_front w k xs) (λ g. if front_acts w xs g then a g + 1 else a g)
 absorbs w a k f b i [] is = i
 absorbs w a k f b i (x ∷ rest) is = takes_front w a k x rest is (heads w a k x rest is f b i)
 
-serve_open : (w : World) (a : ℕ → ℕ) (k : ℕ) → Connections w.client w.conns a → Below w.client w.conns w.server → Holds w a → (b : Bool)
-    → Holds (if b then later (serve_front w k (w.conns k).up) 1 else w) (λ g. if b && front_acts w (w.conns k).up g then a g + 1 else a g)
+serve_open : (w : World) (a : ℕ → ℕ) (k : ℕ) → Connections w.client w.conns a → Below w.client w.conns w.server → CreatesHold w a → (b : Bool)
+    → CreatesHold (if b then later (serve_front w k (w.conns k).up) 1 else w) (λ g. if b && front_acts w (w.conns k).up g then a g + 1 else a g)
 serve_open w a k f b i true = serves w a k f b i (w.conns k).up refl
 serve_open w a k f b i false = i
 
@@ -178,11 +178,11 @@ serve_open w a k f b i false = i
 abbrev pub StartsAnew : World → Type 0
 StartsAnew w = Restarts (seen w.server) (seen (restarted w).server)
 
-restarts : (w : World) (a : ℕ → ℕ) → StartsAnew w → Holds w a → Holds (restarted w) a
+restarts : (w : World) (a : ℕ → ℕ) → StartsAnew w → CreatesHold w a → CreatesHold (restarted w) a
 restarts w a r i = restarted_creates w.client w.conns (seen w.server) a (seen (restarted w).server) r i
 
-crash_open : (w : World) (a : ℕ → ℕ) (k : ℕ) → Connections w.client w.conns a → Below w.client w.conns w.server → StartsAnew w → (may_serve w k ≡ true → StartsAnew (absorb_front w k (w.conns k).up)) → Holds w a → (kept b : Bool) → may_serve w k ≡ b
-    → Holds (if b then later (if kept then restarted (absorb_front w k (w.conns k).up) else restarted w) 1 else w) (λ g. if kept && (b && front_acts w (w.conns k).up g) then a g + 1 else a g)
+crash_open : (w : World) (a : ℕ → ℕ) (k : ℕ) → Connections w.client w.conns a → Below w.client w.conns w.server → StartsAnew w → (may_serve w k ≡ true → StartsAnew (absorb_front w k (w.conns k).up)) → CreatesHold w a → (kept b : Bool) → may_serve w k ≡ b
+    → CreatesHold (if b then later (if kept then restarted (absorb_front w k (w.conns k).up) else restarted w) 1 else w) (λ g. if kept && (b && front_acts w (w.conns k).up g) then a g + 1 else a g)
 crash_open w a k f b r s i true true e = restarts (absorb_front w k (w.conns k).up) _ (s e) (absorbs w a k f b i (w.conns k).up refl)
 crash_open w a k f b r s i true false e = i
 crash_open w a k f b r s i false true e = restarts w a r i
@@ -259,7 +259,7 @@ pub record MaySettle (d : Client) (conns : ℕ → Conn) (v : Seen) (a : ℕ →
   pub names : (p : ℕ) → makes_open (d.op g) ≡ true → is_ok o ≡ true → named d v g ≡ Some p → p ≡ d.file g
 
 -- what is known of a create whose own reply settles it
-pub record Told (c : Client) (conns : ℕ → Conn) (v : Seen) (a : ℕ → ℕ) (g : ℕ) (r : Reply) (o : Outcome) : Type 0 where
+pub record CreateAnswered (c : Client) (conns : ℕ → Conn) (v : Seen) (a : ℕ → ℕ) (g : ℕ) (r : Reply) (o : Outcome) : Type 0 where
   pub never : makes_open (c.op g) ≡ true → never_acted o ≡ true → a g ≡ 0
   pub acted : makes_open (c.op g) ≡ true → is_ok o ≡ true → 1 ≤ a g
   pub barred : (j n : ℕ) (y : Sent) → slice_get (conns j).up n ≡ Some y → y.token ≡ ForOp g → makes_open (c.op g) ≡ true → never_acted o ≡ true → v.present y.message.session ≡ true → is_barred c v y.message.session g ≡ true
@@ -273,7 +273,7 @@ create_makes op e f = sym e ∙ f
 put_at : (f : ℕ → ℕ) (g n : ℕ) → put f g n g ≡ n
 put_at f g n = grind arith
 
-not_ok : (c : Client) (conns : ℕ → Conn) (v : Seen) (a : ℕ → ℕ) (g : ℕ) (r : Reply) (o : Outcome) → is_ok o ≡ false → Creates c conns v a → Told c conns v a g r o → MaySettle c conns v a g o
+not_ok : (c : Client) (conns : ℕ → Conn) (v : Seen) (a : ℕ → ℕ) (g : ℕ) (r : Reply) (o : Outcome) → is_ok o ≡ false → Creates c conns v a → CreateAnswered c conns v a g r o → MaySettle c conns v a g o
 not_ok c conns v a g r o e i t =
     record { creates = i; never = t.never; acted = t.acted; barred = t.barred; guid = λ mk ok. absurd (grind arith); names = λ p mk ok. absurd (grind arith) }
 
@@ -288,7 +288,7 @@ not_create c d conns v a g o e i =
       names = λ p mk. absurd (let h = create_makes (d.op g) mk e in cc);
     }
 
-noted_may : (c : Client) (conns : ℕ → Conn) (v : Seen) (a : ℕ → ℕ) (g : ℕ) (r : Reply) → is_unsettled (c.outcome g) ≡ true → Creates c conns v a → (o : Outcome) → Told c conns v a g r o → MaySettle (noted c g o r.body) conns v a g o
+noted_may : (c : Client) (conns : ℕ → Conn) (v : Seen) (a : ℕ → ℕ) (g : ℕ) (r : Reply) → is_unsettled (c.outcome g) ≡ true → Creates c conns v a → (o : Outcome) → CreateAnswered c conns v a g r o → MaySettle (noted c g o r.body) conns v a g o
 noted_may c conns v a g r pending i (WasOk reply) t =
     either (λ d. MaySettle d conns v a g (WasOk reply)) (is_create (c.op g)) _ _
     (λ e. let at = put_at c.file g (id_in r.body) in
@@ -336,7 +336,7 @@ settles_in d conns v a g place create o b firm m =
     (λ h mk. unnamed ((create_for e h == create) && not (is_create (e.op h))) (e.sent h) (is_gone_after e create (e.outcome create)) create (e.outcome h) (no_names (create_for e h == create) (e.op h) mk)) s)
     (λ _. s)
 
-settles : (c : Client) (conns : ℕ → Conn) (v : Seen) (a : ℕ → ℕ) (g : ℕ) (asking : Bool) (r : Reply) (place : ℕ) (o : Outcome) → is_unsettled (c.outcome g) ≡ true → is_unsettled o ≡ false → Creates c conns v a → Told c conns v a g r o
+settles : (c : Client) (conns : ℕ → Conn) (v : Seen) (a : ℕ → ℕ) (g : ℕ) (asking : Bool) (r : Reply) (place : ℕ) (o : Outcome) → is_unsettled (c.outcome g) ≡ true → is_unsettled o ≡ false → Creates c conns v a → CreateAnswered c conns v a g r o
     → Creates (settle c g asking r place o) conns v a
 settles c conns v a g asking r place o pending firm i t =
     settles_in (noted_full (noted c g o r.body) g asking r.status) conns v a g place (create_for c g) o (settles_open (c.op g)) firm (full_may (noted c g o r.body) conns v a g asking r.status o (noted_may c conns v a g r pending i o t))
@@ -361,7 +361,7 @@ current_of : (c : Client) (v : Seen) (y : ℕ) → c.live ≡ true → v.present
 current_of c v y l p e = grind arith
 
 told : (c : Client) (conns : ℕ → Conn) (v : Seen) (a : ℕ → ℕ) (k g : ℕ) (r : Reply) (o : Outcome) → Connections c conns a → c.on g ≡ Some k → copies g (conns k) ≡ 0 → RankedUp c conns → ((x : ℕ) → v.present x ≡ true → 0 < c.rank x → x ≡ c.accepted) → LiveAccepted c
-    → (makes_open (c.op g) ≡ true → SayFor c v a g r) → (makes_open (c.op g) ≡ true → Tells (c.before g) r.status (Settles o)) → Told c conns v a g r o
+    → (makes_open (c.op g) ≡ true → SayFor c v a g r) → (makes_open (c.op g) ≡ true → Tells (c.before g) r.status (Settles o)) → CreateAnswered c conns v a g r o
 told c conns v a k g r o f on none ranked here lives said tells =
     record {
       never = λ mk e. (said mk).never ((tells mk).refused e);
@@ -379,10 +379,10 @@ told c conns v a k g r o f on none ranked here lives said tells =
         let q : refuses true r.status ≡ true = subst (λ x. refuses x r.status ≡ true) b ((tells mk).refused e) in
         subst (λ x. is_barred c v x g ≡ true) same ((said mk).barred b q (current_of c v y.message.session lv p same))
 
-hears : (w : World) (a : ℕ → ℕ) (k g : ℕ) (asking : Bool) (r : Reply) (place : ℕ) → Connections w.client w.conns a → Holds w a → RankedUp w.client w.conns → PresentAccepted w.client w.server → LiveAccepted w.client → w.client.on g ≡ Some k → w.client.asking g ≡ asking → copies g (w.conns k) ≡ 0
+hears : (w : World) (a : ℕ → ℕ) (k g : ℕ) (asking : Bool) (r : Reply) (place : ℕ) → Connections w.client w.conns a → CreatesHold w a → RankedUp w.client w.conns → PresentAccepted w.client w.server → LiveAccepted w.client → w.client.on g ≡ Some k → w.client.asking g ≡ asking → copies g (w.conns k) ≡ 0
     → (asking ≡ false → makes_open (w.client.op g) ≡ true → SayFor w.client (seen w.server) a g r)
     → (asking ≡ false → acts_once (w.client.op g) ≡ true → r.status ≡ user_session_deleted → w.client.before g ≡ false → a g ≡ 0)
-    → (h : Hearing) → heard w.client g asking r ≡ h → Holds (with_client (closed_by w k (act_heard h)) (hear w.client g asking r place h)) a
+    → (h : Hearing) → heard w.client g asking r ≡ h → CreatesHold (with_client (closed_by w k (act_heard h)) (hear w.client g asking r place h)) a
 hears w a k g asking r place f i ranked here lives on asks none said gone (Settles o) e =
     let c = w.client in
     let own : makes_open (c.op g) ≡ true → asking ≡ false = λ mk. own_asks (c.asking g) asking asks (λ q. sym mk ∙ (i.asking_other g q).0) in
@@ -399,11 +399,11 @@ hears w a k g asking r place f i ranked here lives on asks none said gone EndsSe
     leave_creates (answered w.client g) w.conns (seen w.server) a
     (answered_keeps w.client w.conns a k g on none (λ o b q. gone (sym asks ∙ q) o (heard_ends w.client g asking r e) b) f) (answered_creates w.client w.conns (seen w.server) a g i)
 
-took : (w : World) (a : ℕ → ℕ) (k g : ℕ) (asking : Bool) (r : Reply) (place : ℕ) → Connections w.client w.conns a → Holds w a → RankedUp w.client w.conns → PresentAccepted w.client w.server → LiveAccepted w.client → copies g (w.conns k) ≡ 0
+took : (w : World) (a : ℕ → ℕ) (k g : ℕ) (asking : Bool) (r : Reply) (place : ℕ) → Connections w.client w.conns a → CreatesHold w a → RankedUp w.client w.conns → PresentAccepted w.client w.server → LiveAccepted w.client → copies g (w.conns k) ≡ 0
     → (asking ≡ false → makes_open (w.client.op g) ≡ true → SayFor w.client (seen w.server) a g r)
-    → (asking ≡ false → acts_once (w.client.op g) ≡ true → r.status ≡ user_session_deleted → w.client.before g ≡ false → a g ≡ 0) → Holds (op_took w k g asking r place) a
+    → (asking ≡ false → acts_once (w.client.op g) ≡ true → r.status ≡ user_session_deleted → w.client.before g ≡ false → a g ≡ 0) → CreatesHold (op_took w k g asking r place) a
 took w a k g asking r place f i ranked here lives none said gone =
-    both_ways (λ c x. Holds (with_client (closed_by w k x) c) a) (is_awaited w.client k g asking) (hear w.client g asking r place (heard w.client g asking r)) w.client (act_heard (heard w.client g asking r)) Nothing
+    both_ways (λ c x. CreatesHold (with_client (closed_by w k x) c) a) (is_awaited w.client k g asking) (hear w.client g asking r place (heard w.client g asking r)) w.client (act_heard (heard w.client g asking r)) Nothing
     (λ aw. let q = awaited_of w.client k g asking aw in hears w a k g asking r place f i ranked here lives q.0 q.1 none said gone (heard w.client g asking r) refl)
     (λ _. i)
 
@@ -416,12 +416,12 @@ says_dialog c (SaidFirst bound) = refl
 says_dialog c (SaidSecond bound) = refl
 says_dialog c AskedTree = refl
 
-ends_dialog : (w : World) (a : ℕ → ℕ) (k session tree : ℕ) → Connections w.client w.conns a → Holds w a → Holds (dialog_ended w k (IsReady k session tree)) a
+ends_dialog : (w : World) (a : ℕ → ℕ) (k session tree : ℕ) → Connections w.client w.conns a → CreatesHold w a → CreatesHold (dialog_ended w k (IsReady k session tree)) a
 ends_dialog w a k session tree f i =
-    ended_well (λ v. Holds v a) w k session tree (λ _. bound_creates w.client w.conns (seen w.server) a k i) (λ dead _. readied_creates w.client w.conns (seen w.server) a k session tree dead f i)
+    ended_well (λ v. CreatesHold v a) w k session tree (λ _. bound_creates w.client w.conns (seen w.server) a k i) (λ dead _. readied_creates w.client w.conns (seen w.server) a k session tree dead f i)
     (dialog_off_creates w.client w.conns (seen w.server) a k i)
 
-dialogs : (w : World) (a : ℕ → ℕ) (k : ℕ) (r : Reply) → Connections w.client w.conns a → Holds w a → (d : DialogStep) → dialog_step (w.client.stage k) r.status ≡ d → Holds (dialog_took w k r d) a
+dialogs : (w : World) (a : ℕ → ℕ) (k : ℕ) (r : Reply) → Connections w.client w.conns a → CreatesHold w a → (d : DialogStep) → dialog_step (w.client.stage k) r.status ≡ d → CreatesHold (dialog_took w k r d) a
 dialogs w a k r f i (GoesOn stage) e =
     dialog_sent_creates (went_on w.client k stage r) w.conns (seen w.server) a k 1 (dialog_message (went_on w.client k stage r) k (w.conns k).next_id stage) (says_dialog (went_on w.client k stage r) stage)
     (went_on_creates w.client w.conns (seen w.server) a k stage r i)
@@ -433,7 +433,7 @@ dialogs w a k r f i (Refuses status) e = dialog_refused_creates w.client w.conns
 
 -- ---- a reply that is taken
 
-told_by : (w : World) (a : ℕ → ℕ) (k g : ℕ) (y : Received) → Holds w a → slice_get (w.conns k).down 0 ≡ Some y → y.token ≡ ForOp g → makes_open (w.client.op g) ≡ true → SayFor w.client (seen w.server) a g y.reply
+told_by : (w : World) (a : ℕ → ℕ) (k g : ℕ) (y : Received) → CreatesHold w a → slice_get (w.conns k).down 0 ≡ Some y → y.token ≡ ForOp g → makes_open (w.client.op g) ≡ true → SayFor w.client (seen w.server) a g y.reply
 told_by w a k g y i f0 t mk =
     record {
       never = i.no_reply k 0 g y f0 t mk;
@@ -446,8 +446,8 @@ told_by w a k g y i f0 t mk =
 ranked_behind : (c : Client) (conns : ℕ → Conn) (k : ℕ) (rest : List Received) → RankedUp c conns → RankedUp c (put conns k (take_front (conns k) rest))
 ranked_behind c conns k rest r = λ j n x h. let h' : slice_get (conns j).up n ≡ Some x = grind arith in r j n x h'
 
-takes_by : (w : World) (a : ℕ → ℕ) (k : ℕ) (y : Received) (rest : List Received) → (w.conns k).down ≡ y ∷ rest → Connections w.client w.conns a → Below w.client w.conns w.server → Holds w a → (t : Token) → y.token ≡ t
-    → Holds (took_by (behind_reply w k rest) k y.reply y.place t) a
+takes_by : (w : World) (a : ℕ → ℕ) (k : ℕ) (y : Received) (rest : List Received) → (w.conns k).down ≡ y ∷ rest → Connections w.client w.conns a → Below w.client w.conns w.server → CreatesHold w a → (t : Token) → y.token ≡ t
+    → CreatesHold (took_by (behind_reply w k rest) k y.reply y.place t) a
 takes_by w a k y rest is f b i ForDialog e =
     dialogs (behind_reply w k rest) a k y.reply (behind_keeps w.client w.conns a k y rest is f) (behind_creates w.client w.conns (seen w.server) a k y rest is i) (dialog_step (w.client.stage k) y.reply.status) refl
 takes_by w a k y rest is f b i (ForOp g) e =
@@ -462,21 +462,21 @@ takes_by w a k y rest is f b i (ForAttach g) e =
     (λ q. absurd (cc))
     (λ q. absurd (cc))
 
-takes : (w : World) (a : ℕ → ℕ) (k : ℕ) → Connections w.client w.conns a → Below w.client w.conns w.server → Holds w a → (ys : List Received) → (w.conns k).down ≡ ys → Holds (take_reply w k ys) a
+takes : (w : World) (a : ℕ → ℕ) (k : ℕ) → Connections w.client w.conns a → Below w.client w.conns w.server → CreatesHold w a → (ys : List Received) → (w.conns k).down ≡ ys → CreatesHold (take_reply w k ys) a
 takes w a k f b i [] is = i
 takes w a k f b i (y ∷ rest) is = takes_by w a k y rest is f b i y.token refl
 
 -- ---- Cut
 
-cuts_ready : (w : World) (a : ℕ → ℕ) (k : ℕ) → Connections w.client w.conns a → Holds w a → (b e : Bool) → b ≡ true
-    → Holds (with_client (cut_by w k (if b && e then CloseChannels else Nothing)) (if b then (if e then end_session w.client else cut_channel w.client k) else w.client)) a
+cuts_ready : (w : World) (a : ℕ → ℕ) (k : ℕ) → Connections w.client w.conns a → CreatesHold w a → (b e : Bool) → b ≡ true
+    → CreatesHold (with_client (cut_by w k (if b && e then CloseChannels else Nothing)) (if b then (if e then end_session w.client else cut_channel w.client k) else w.client)) a
 cuts_ready w a k f i true true h = leave_creates w.client w.conns (seen w.server) a f i
 cuts_ready w a k f i true false h = cut_creates w.client w.conns (seen w.server) a k f i
 cuts_ready w a k f i false e h = absurd (cc)
 
-cuts : (w : World) (a : ℕ → ℕ) (k : ℕ) → Connections w.client w.conns a → Holds w a → Holds (changed w (Cut k)) a
+cuts : (w : World) (a : ℕ → ℕ) (k : ℕ) → Connections w.client w.conns a → CreatesHold w a → CreatesHold (changed w (Cut k)) a
 cuts w a k f i =
-    either (λ v. Holds v a) (w.client.ready k) _ _ (λ ready. cuts_ready w a k f i (w.client.ready k) (ends_at_cut w.client) ready) (λ apart. dialog_off_creates w.client w.conns (seen w.server) a k i)
+    either (λ v. CreatesHold v a) (w.client.ready k) _ _ (λ ready. cuts_ready w a k f i (w.client.ready k) (ends_at_cut w.client) ready) (λ apart. dialog_off_creates w.client w.conns (seen w.server) a k i)
 
 -- ---- every event
 
@@ -487,16 +487,16 @@ pub record Known (w : World) (a : ℕ → ℕ) : Type 0 where
   pub anew : StartsAnew w
   pub anew_kept : (k : ℕ) → may_serve w k ≡ true → StartsAnew (absorb_front w k (w.conns k).up)
 
-pub keeps : (w : World) (a : ℕ → ℕ) (e : Event) → Known w a → Holds w a → Holds (happens w e) (after w e a)
+pub keeps : (w : World) (a : ℕ → ℕ) (e : Event) → Known w a → CreatesHold w a → CreatesHold (happens w e) (after w e a)
 keeps w a (Submit g op) b i = submits w a g op b.fit i
 keeps w a (Open k) b i =
-    either (λ v. Holds v a) (may_open w k) _ _ (λ m. opened_creates w.client w.conns _ a k _ (accepts w.client w.conns a w.server w.moment k i)) (λ _. i)
-keeps w a (Push k slotless pick) b i = either (λ v. Holds v a) (w.client.ready k) _ _ (λ ready. pushes w a k slotless pick ready (b.fit.ready k ready).1 i) (λ _. i)
+    either (λ v. CreatesHold v a) (may_open w k) _ _ (λ m. opened_creates w.client w.conns _ a k _ (accepts w.client w.conns a w.server w.moment k i)) (λ _. i)
+keeps w a (Push k slotless pick) b i = either (λ v. CreatesHold v a) (w.client.ready k) _ _ (λ ready. pushes w a k slotless pick ready (b.fit.ready k ready).1 i) (λ _. i)
 keeps w a (Serve k) b i = serve_open w a k b.fit b.below i (may_serve w k)
-keeps w a (Take k) b i = either (λ v. Holds v a) ((w.conns k).client_open && is_filled (w.conns k).down) _ _ (λ m. takes w a k b.fit b.below i (w.conns k).down refl) (λ _. i)
-keeps w a (Cut k) b i = either (λ v. Holds v a) (w.conns k).client_open _ _ (λ _. cuts w a k b.fit i) (λ _. i)
-keeps w a (Drop k) b i = either (λ v. Holds v a) (w.conns k).server_open _ _ (λ _. dropped_creates w.client w.conns _ a k (ends w.client w.conns a w.server w.moment k b.below i)) (λ _. i)
+keeps w a (Take k) b i = either (λ v. CreatesHold v a) ((w.conns k).client_open && is_filled (w.conns k).down) _ _ (λ m. takes w a k b.fit b.below i (w.conns k).down refl) (λ _. i)
+keeps w a (Cut k) b i = either (λ v. CreatesHold v a) (w.conns k).client_open _ _ (λ _. cuts w a k b.fit i) (λ _. i)
+keeps w a (Drop k) b i = either (λ v. CreatesHold v a) (w.conns k).server_open _ _ (λ _. dropped_creates w.client w.conns _ a k (ends w.client w.conns a w.server w.moment k b.below i)) (λ _. i)
 keeps w a Restart b i = restarts w a b.anew i
 keeps w a (Crash k kept) b i = crash_open w a k b.fit b.below b.anew (b.anew_kept k) i kept (may_serve w k) refl
 keeps w a (Wait n) b i = i
-keeps w a (Finish refusal) b i = either (λ v. Holds v a) (not w.client.live) _ _ (λ d. finished_creates w.client w.conns (seen w.server) a (NoSession refusal) i) (λ _. i)
+keeps w a (Finish refusal) b i = either (λ v. CreatesHold v a) (not w.client.live) _ _ (λ d. finished_creates w.client w.conns (seen w.server) a (NoSession refusal) i) (λ _. i)

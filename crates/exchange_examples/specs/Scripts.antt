@@ -1,4 +1,4 @@
--- Scripts of the worked examples, and what is told of the worlds that they come to.
+-- Scripts of the worked examples, and what is script_ends of the worlds that they come to.
 use Rattle.std.specs.Prelude.{ℕ, zero, suc, ◌+◌, Bool, true, false, if◌then◌else◌, List, [], ◌∷◌, Some, is_some, ◌==◌, nat_lt}
 use Rattle.exchange_defs.specs.Order.{order_of}
 use Rattle.exchange_defs.specs.Operations.{HadStatus, Op, OpCreate, OpWrite, OpRead, OpEnd, OpTime, OpRename, OpRemove, OpLock, OpUnlock, OpStat, OpList, OpClose, Outcome}
@@ -30,7 +30,7 @@ worn_out c = record c { world = record c.world { client = record c.world.client 
 abbrev pub submit : ℕ → Op → Line
 submit g op = Does (Submit g op)
 
--- ---- what is told
+-- ---- what is script_ends
 
 abbrev pub outcomes_from : World → ℕ → ℕ → List Outcome
 outcomes_from w g zero = []
@@ -73,17 +73,17 @@ lines_from s (e ∷ es) = if s.directory e.file then lines_from s es else place_
 abbrev pub files : World → List FileLine
 files w = lines_from w.server w.server.entries
 
-pub record Told : Type 0 where
+pub record ScriptEnds : Type 0 where
   pub settled : List Outcome
   pub printed : List (List ℕ)
   pub stored : List FileLine
 
-abbrev pub tell : World → Told
-tell w = record { settled = outcomes w; printed = orders w; stored = files w }
+abbrev pub end_of : World → ScriptEnds
+end_of w = record { settled = outcomes w; printed = orders w; stored = files w }
 
 -- what a script tells at its end, over the channels below n
-abbrev pub told : ℕ → ℕ → List Line → Told
-told n room script = tell (course n script (beginning room)).world
+abbrev pub script_ends : ℕ → ℕ → List Line → ScriptEnds
+script_ends n room script = end_of (course n script (beginning room)).world
 
 pub record Note : Type 0 where
   pub status : ℕ
@@ -101,7 +101,7 @@ note n room script k = let w = (course n script (beginning room)).world in note_
 abbrev pub acted_on : ℕ → ℕ → List Line → ℕ → ℕ
 acted_on n room script g = acts (course n script (beginning room)).events (start (settings room)) g
 
--- the id of the open that a create was told
+-- the id of the open that a create was script_ends
 abbrev pub id_told : ℕ → ℕ → List Line → ℕ → ℕ
 id_told n room script c = (course n script (beginning room)).world.client.file c
 
@@ -133,7 +133,7 @@ kept_refusal_until_note =
     Does (Take 1) ∷ submit 4 (OpLock 1 0 10 true) ∷ Pushes 0 ∷ Does (Cut 0) ∷ Pushes 1 ∷ Does (Serve 1) ∷ Does (Take 1) ∷
     submit 5 (OpUnlock 2 0 10) ∷ Pushes 1 ∷ Does (Serve 1) ∷ Does (Take 1) ∷ []
 
--- A new session replaces the old one, and a copy of the old one that waits is told so.
+-- A new session replaces the old one, and a copy of the old one that waits is script_ends so.
 abbrev pub replaced_session : List Line
 replaced_session =
     Links 0 ∷ submit 1 (OpCreate (97 ∷ []) 0x183 0 2 true false) ∷ Pushes 0 ∷ Does (Serve 0) ∷ Does (Take 0) ∷

@@ -17,11 +17,11 @@ ghost use Rattle.exchange_defs.specs.Schedules.{course, Does, Links, Pushes, Set
 ghost use Rattle.exchange_defs.specs.Network.{Cut, Drop, Open, Restart, Wait, Finish, start};
 ghost use Rattle.exchange_examples.specs.Servers.{one_session, session, from_client, ask, after_all, status_after, body_after, records_after, files_after, binding, binding_logon, setup, in_second, second_id, make, by_guid, lock_of, made_info, first_open, second_open, with_full_journal, with_all_marks, second_session, ask_second, reconnect, journal_stands, again, on_pipes, with_next_tree, on_disk, epoch_on, version_on, first_version_disk};
 ghost use Rattle.exchange_examples.specs.Laws.{laws_hold};
-ghost use Rattle.exchange_examples.specs.Scripts.{beginning, settings, stranger, worn_out, submit, settled_in, told, note, acted_on, id_told, retried_create, retried_create_until_note, kept_refusal, kept_refusal_until_note, replaced_session, replaced_session_until_note, room_counted_once, room_counted_once_until_note, held_back_write, held_back_write_until_note, held_back_write_until_last, restart_persistent, crash_lost, crash_kept, restart_plain, all_slots_retried, shared_readers, denied_writer, delayed_reconnect, delayed_reconnect_until_note, delayed_reconnect_until_last, expired_open, open_before_expiry, expired_create, first_steps, end_of_file, gaps_are_zeros, listed_names, renamed_and_removed, denied_remover, retry_after_act, retried_close, held_back_end, held_back_end_until_note, refusal_adopts, refusal_adopts_until_note, restart_keeps_locks, restart_keeps_refused_locks, attached_again, plain_open_lost, later_write_waits, retried_overwrite, retried_overwrite_until_note, slot_not_used_again, slot_not_used_again_until_note, retried_rename, retried_rename_until_note, given_up_slots, files_by_bytes, repeated_behind_a_lock, repeated_on_a_directory, moment_behind, linked_at, taken_of, listings_unheard, listings_heard, listing_asks, is_out_behind, purse_behind};
+ghost use Rattle.exchange_examples.specs.Scripts.{beginning, settings, stranger, worn_out, submit, settled_in, script_ends, note, acted_on, id_told, retried_create, retried_create_until_note, kept_refusal, kept_refusal_until_note, replaced_session, replaced_session_until_note, room_counted_once, room_counted_once_until_note, held_back_write, held_back_write_until_note, held_back_write_until_last, restart_persistent, crash_lost, crash_kept, restart_plain, all_slots_retried, shared_readers, denied_writer, delayed_reconnect, delayed_reconnect_until_note, delayed_reconnect_until_last, expired_open, open_before_expiry, expired_create, first_steps, end_of_file, gaps_are_zeros, listed_names, renamed_and_removed, denied_remover, retry_after_act, retried_close, held_back_end, held_back_end_until_note, refusal_adopts, refusal_adopts_until_note, restart_keeps_locks, restart_keeps_refused_locks, attached_again, plain_open_lost, later_write_waits, retried_overwrite, retried_overwrite_until_note, slot_not_used_again, slot_not_used_again_until_note, retried_rename, retried_rename_until_note, given_up_slots, files_by_bytes, repeated_behind_a_lock, repeated_on_a_directory, moment_behind, linked_at, taken_of, listings_unheard, listings_heard, listing_asks, is_out_behind, purse_behind};
 
 /// A create is retried on a second channel, its open is closed, and the delayed first copy finds its guid: it acts once.
 pub fn retried_create_example()
-    ensures told { told 2 268435456 retried_create ≡ record { settled = WasOk (Action 2) ∷ WasOk IsDone ∷ []; printed = [] ∷ []; stored = record { path = (97 ∷ []); bytes = [] } ∷ [] } }
+    ensures script_ends { script_ends 2 268435456 retried_create ≡ record { settled = WasOk (Action 2) ∷ WasOk IsDone ∷ []; printed = [] ∷ []; stored = record { path = (97 ∷ []); bytes = [] } ∷ [] } }
     ensures note { note 2 268435456 retried_create_until_note 0 ≡ record { status = 0xc000022a; acted = false } }
     ensures acts_1 { acted_on 2 268435456 retried_create 1 ≡ 1 }
     ensures acts_2 { acted_on 2 268435456 retried_create 2 ≡ 1 }
@@ -29,7 +29,7 @@ pub fn retried_create_example()
 
 /// A lock is refused, the range becomes free, and the delayed first copy is refused again by its slot.
 pub fn kept_refusal_example()
-    ensures told { told 2 268435456 kept_refusal ≡ record { settled = WasOk (Action 2) ∷ WasOk (Action 1) ∷ WasOk IsDone ∷ WasRefused 0xc0000055 ∷ WasOk IsDone ∷ WasOk IsDone ∷ []; printed = []; stored = record { path = (97 ∷ []); bytes = [] } ∷ [] } }
+    ensures script_ends { script_ends 2 268435456 kept_refusal ≡ record { settled = WasOk (Action 2) ∷ WasOk (Action 1) ∷ WasOk IsDone ∷ WasRefused 0xc0000055 ∷ WasOk IsDone ∷ WasOk IsDone ∷ []; printed = []; stored = record { path = (97 ∷ []); bytes = [] } ∷ [] } }
     ensures note { note 2 268435456 kept_refusal_until_note 0 ≡ record { status = 0xc0000055; acted = false } }
     ensures acts_3 { acted_on 2 268435456 kept_refusal 3 ≡ 1 }
     ensures acts_4 { acted_on 2 268435456 kept_refusal 4 ≡ 0 }
@@ -37,9 +37,9 @@ pub fn kept_refusal_example()
     ensures acts_6 { acted_on 2 268435456 kept_refusal 6 ≡ 1 }
 {}
 
-/// A new session replaces the old one, and a copy of the old one that waits is told so.
+/// A new session replaces the old one, and a copy of the old one that waits is script_ends so.
 pub fn replaced_session_example()
-    ensures told { told 2 268435456 replaced_session ≡ record { settled = WasOk (Action 2) ∷ WasOk (Wrote 3) ∷ []; printed = (2 ∷ []) ∷ []; stored = record { path = (97 ∷ []); bytes = (111 ∷ 108 ∷ 100 ∷ []) } ∷ [] } }
+    ensures script_ends { script_ends 2 268435456 replaced_session ≡ record { settled = WasOk (Action 2) ∷ WasOk (Wrote 3) ∷ []; printed = (2 ∷ []) ∷ []; stored = record { path = (97 ∷ []); bytes = (111 ∷ 108 ∷ 100 ∷ []) } ∷ [] } }
     ensures note { note 2 268435456 replaced_session_until_note 0 ≡ record { status = 0xc0000203; acted = false } }
     ensures acts_1 { acted_on 2 268435456 replaced_session 1 ≡ 1 }
     ensures acts_2 { acted_on 2 268435456 replaced_session 2 ≡ 1 }
@@ -47,7 +47,7 @@ pub fn replaced_session_example()
 
 /// A write that fills the room is retried: its bytes are not counted twice, and the next write finds no room.
 pub fn room_counted_once_example()
-    ensures told { told 2 4 room_counted_once ≡ record { settled = WasOk (Action 2) ∷ WasOk (Wrote 4) ∷ WasRefused 0xc000007f ∷ []; printed = (2 ∷ 3 ∷ []) ∷ []; stored = record { path = (97 ∷ []); bytes = (97 ∷ 98 ∷ 99 ∷ 100 ∷ []) } ∷ [] } }
+    ensures script_ends { script_ends 2 4 room_counted_once ≡ record { settled = WasOk (Action 2) ∷ WasOk (Wrote 4) ∷ WasRefused 0xc000007f ∷ []; printed = (2 ∷ 3 ∷ []) ∷ []; stored = record { path = (97 ∷ []); bytes = (97 ∷ 98 ∷ 99 ∷ 100 ∷ []) } ∷ [] } }
     ensures note { note 2 4 room_counted_once_until_note 1 ≡ record { status = 0x00000000; acted = false } }
     ensures acts_2 { acted_on 2 4 room_counted_once 2 ≡ 1 }
     ensures acts_3 { acted_on 2 4 room_counted_once 3 ≡ 0 }
@@ -55,7 +55,7 @@ pub fn room_counted_once_example()
 
 /// A write under an older sequence is held back and goes out again; the delayed copy of the other is held back too.
 pub fn held_back_write_example()
-    ensures told { told 3 268435456 held_back_write ≡ record { settled = WasOk (Action 2) ∷ WasOk (Wrote 1) ∷ WasOk (Wrote 1) ∷ []; printed = (2 ∷ 3 ∷ []) ∷ []; stored = record { path = (97 ∷ []); bytes = (97 ∷ 98 ∷ []) } ∷ [] } }
+    ensures script_ends { script_ends 3 268435456 held_back_write ≡ record { settled = WasOk (Action 2) ∷ WasOk (Wrote 1) ∷ WasOk (Wrote 1) ∷ []; printed = (2 ∷ 3 ∷ []) ∷ []; stored = record { path = (97 ∷ []); bytes = (97 ∷ 98 ∷ []) } ∷ [] } }
     ensures note_1 { note 3 268435456 held_back_write_until_note 2 ≡ record { status = 0xc0000467; acted = false } }
     ensures note_2 { note 3 268435456 held_back_write_until_last 0 ≡ record { status = 0xc0000467; acted = false } }
     ensures acts_2 { acted_on 3 268435456 held_back_write 2 ≡ 1 }
@@ -64,49 +64,49 @@ pub fn held_back_write_example()
 
 /// The server restarts behind a persistent create whose reply is lost: the retry finds the same open.
 pub fn restart_persistent_example()
-    ensures told { told 1 268435456 restart_persistent ≡ record { settled = WasOk (Action 2) ∷ []; printed = [] ∷ []; stored = record { path = (97 ∷ []); bytes = [] } ∷ [] } }
+    ensures script_ends { script_ends 1 268435456 restart_persistent ≡ record { settled = WasOk (Action 2) ∷ []; printed = [] ∷ []; stored = record { path = (97 ∷ []); bytes = [] } ∷ [] } }
     ensures acts_1 { acted_on 1 268435456 restart_persistent 1 ≡ 1 }
     ensures file { id_told 1 268435456 restart_persistent 1 ≡ 4294967297 }
 {}
 
 /// The server dies before it serves a persistent create: the retry makes the open.
 pub fn crash_lost_example()
-    ensures told { told 1 268435456 crash_lost ≡ record { settled = WasOk (Action 2) ∷ []; printed = [] ∷ []; stored = record { path = (97 ∷ []); bytes = [] } ∷ [] } }
+    ensures script_ends { script_ends 1 268435456 crash_lost ≡ record { settled = WasOk (Action 2) ∷ []; printed = [] ∷ []; stored = record { path = (97 ∷ []); bytes = [] } ∷ [] } }
     ensures acts_1 { acted_on 1 268435456 crash_lost 1 ≡ 1 }
     ensures file { id_told 1 268435456 crash_lost 1 ≡ 8589934593 }
 {}
 
 /// The server dies behind a persistent create whose records stand: the retry finds the same open.
 pub fn crash_kept_example()
-    ensures told { told 1 268435456 crash_kept ≡ record { settled = WasOk (Action 2) ∷ []; printed = [] ∷ []; stored = record { path = (97 ∷ []); bytes = [] } ∷ [] } }
+    ensures script_ends { script_ends 1 268435456 crash_kept ≡ record { settled = WasOk (Action 2) ∷ []; printed = [] ∷ []; stored = record { path = (97 ∷ []); bytes = [] } ∷ [] } }
     ensures acts_1 { acted_on 1 268435456 crash_kept 1 ≡ 1 }
     ensures file { id_told 1 268435456 crash_kept 1 ≡ 4294967297 }
 {}
 
 /// The server restarts behind a plain create: its session is lost, and the file stays.
 pub fn restart_plain_example()
-    ensures told { told 1 268435456 restart_plain ≡ record { settled = Unknown (SessionLost 1) ∷ []; printed = []; stored = record { path = (97 ∷ []); bytes = [] } ∷ [] } }
+    ensures script_ends { script_ends 1 268435456 restart_plain ≡ record { settled = Unknown (SessionLost 1) ∷ []; printed = []; stored = record { path = (97 ∷ []); bytes = [] } ∷ [] } }
     ensures acts_1 { acted_on 1 268435456 restart_plain 1 ≡ 1 }
 {}
 
 /// Each of the sixty-four slots was retried in the session: the next lock finds none, and the next session has them again.
 pub fn all_slots_retried_example()
-    ensures { told 2 268435456 all_slots_retried ≡ record { settled = WasOk (Action 2) ∷ WasOk IsDone ∷ WasOk IsDone ∷ WasOk IsDone ∷ WasOk IsDone ∷ WasOk IsDone ∷ WasOk IsDone ∷ WasOk IsDone ∷ WasOk IsDone ∷ WasOk IsDone ∷ WasOk IsDone ∷ WasOk IsDone ∷ WasOk IsDone ∷ WasOk IsDone ∷ WasOk IsDone ∷ WasOk IsDone ∷ WasOk IsDone ∷ WasOk IsDone ∷ WasOk IsDone ∷ WasOk IsDone ∷ WasOk IsDone ∷ WasOk IsDone ∷ WasOk IsDone ∷ WasOk IsDone ∷ WasOk IsDone ∷ WasOk IsDone ∷ WasOk IsDone ∷ WasOk IsDone ∷ WasOk IsDone ∷ WasOk IsDone ∷ WasOk IsDone ∷ WasOk IsDone ∷ WasOk IsDone ∷ WasOk IsDone ∷ WasOk IsDone ∷ WasOk IsDone ∷ WasOk IsDone ∷ WasOk IsDone ∷ WasOk IsDone ∷ WasOk IsDone ∷ WasOk IsDone ∷ WasOk IsDone ∷ WasOk IsDone ∷ WasOk IsDone ∷ WasOk IsDone ∷ WasOk IsDone ∷ WasOk IsDone ∷ WasOk IsDone ∷ WasOk IsDone ∷ WasOk IsDone ∷ WasOk IsDone ∷ WasOk IsDone ∷ WasOk IsDone ∷ WasOk IsDone ∷ WasOk IsDone ∷ WasOk IsDone ∷ WasOk IsDone ∷ WasOk IsDone ∷ WasOk IsDone ∷ WasOk IsDone ∷ WasOk IsDone ∷ WasOk IsDone ∷ WasOk IsDone ∷ WasOk IsDone ∷ WasOk IsDone ∷ NoSlot 1 ∷ WasOk IsDone ∷ []; printed = [] ∷ []; stored = record { path = (97 ∷ []); bytes = [] } ∷ [] } }
+    ensures { script_ends 2 268435456 all_slots_retried ≡ record { settled = WasOk (Action 2) ∷ WasOk IsDone ∷ WasOk IsDone ∷ WasOk IsDone ∷ WasOk IsDone ∷ WasOk IsDone ∷ WasOk IsDone ∷ WasOk IsDone ∷ WasOk IsDone ∷ WasOk IsDone ∷ WasOk IsDone ∷ WasOk IsDone ∷ WasOk IsDone ∷ WasOk IsDone ∷ WasOk IsDone ∷ WasOk IsDone ∷ WasOk IsDone ∷ WasOk IsDone ∷ WasOk IsDone ∷ WasOk IsDone ∷ WasOk IsDone ∷ WasOk IsDone ∷ WasOk IsDone ∷ WasOk IsDone ∷ WasOk IsDone ∷ WasOk IsDone ∷ WasOk IsDone ∷ WasOk IsDone ∷ WasOk IsDone ∷ WasOk IsDone ∷ WasOk IsDone ∷ WasOk IsDone ∷ WasOk IsDone ∷ WasOk IsDone ∷ WasOk IsDone ∷ WasOk IsDone ∷ WasOk IsDone ∷ WasOk IsDone ∷ WasOk IsDone ∷ WasOk IsDone ∷ WasOk IsDone ∷ WasOk IsDone ∷ WasOk IsDone ∷ WasOk IsDone ∷ WasOk IsDone ∷ WasOk IsDone ∷ WasOk IsDone ∷ WasOk IsDone ∷ WasOk IsDone ∷ WasOk IsDone ∷ WasOk IsDone ∷ WasOk IsDone ∷ WasOk IsDone ∷ WasOk IsDone ∷ WasOk IsDone ∷ WasOk IsDone ∷ WasOk IsDone ∷ WasOk IsDone ∷ WasOk IsDone ∷ WasOk IsDone ∷ WasOk IsDone ∷ WasOk IsDone ∷ WasOk IsDone ∷ WasOk IsDone ∷ WasOk IsDone ∷ NoSlot 1 ∷ WasOk IsDone ∷ []; printed = [] ∷ []; stored = record { path = (97 ∷ []); bytes = [] } ∷ [] } }
 {}
 
 /// Two opens that share with each other stand together.
 pub fn shared_readers_example()
-    ensures { told 1 268435456 shared_readers ≡ record { settled = WasOk (Action 2) ∷ WasOk (Action 1) ∷ []; printed = [] ∷ []; stored = record { path = (97 ∷ []); bytes = [] } ∷ [] } }
+    ensures { script_ends 1 268435456 shared_readers ≡ record { settled = WasOk (Action 2) ∷ WasOk (Action 1) ∷ []; printed = [] ∷ []; stored = record { path = (97 ∷ []); bytes = [] } ∷ [] } }
 {}
 
 /// A writer is refused beside an open that shares no writing, and what hangs on it has no open.
 pub fn denied_writer_example()
-    ensures { told 1 268435456 denied_writer ≡ record { settled = WasOk (Action 2) ∷ WasRefused 0xc0000043 ∷ NoOpen 2 ∷ []; printed = [] ∷ []; stored = record { path = (97 ∷ []); bytes = [] } ∷ [] } }
+    ensures { script_ends 1 268435456 denied_writer ≡ record { settled = WasOk (Action 2) ∷ WasRefused 0xc0000043 ∷ NoOpen 2 ∷ []; printed = [] ∷ []; stored = record { path = (97 ∷ []); bytes = [] } ∷ [] } }
 {}
 
 /// A delayed request to attach an open lowers no sequence, and an older write behind it is held back.
 pub fn delayed_reconnect_example()
-    ensures told { told 3 268435456 delayed_reconnect ≡ record { settled = WasOk (Action 2) ∷ WasOk (Wrote 1) ∷ WasOk (Wrote 1) ∷ []; printed = (2 ∷ 3 ∷ []) ∷ []; stored = record { path = (97 ∷ []); bytes = (98 ∷ []) } ∷ [] } }
+    ensures script_ends { script_ends 3 268435456 delayed_reconnect ≡ record { settled = WasOk (Action 2) ∷ WasOk (Wrote 1) ∷ WasOk (Wrote 1) ∷ []; printed = (2 ∷ 3 ∷ []) ∷ []; stored = record { path = (97 ∷ []); bytes = (98 ∷ []) } ∷ [] } }
     ensures note_1 { note 3 268435456 delayed_reconnect_until_note 0 ≡ record { status = 0x00000000; acted = false } }
     ensures note_2 { note 3 268435456 delayed_reconnect_until_last 1 ≡ record { status = 0xc0000467; acted = false } }
     ensures acts_1 { acted_on 3 268435456 delayed_reconnect 1 ≡ 1 }
@@ -116,7 +116,7 @@ pub fn delayed_reconnect_example()
 
 /// A persistent open without a session expires: a write that may have acted is unknown, and the file can be opened anew.
 pub fn expired_open_example()
-    ensures told { told 1 268435456 expired_open ≡ record { settled = WasOk (Action 2) ∷ Unknown (WithStatus 0xc0000034) ∷ WasOk (Action 1) ∷ []; printed = (2 ∷ []) ∷ [] ∷ []; stored = record { path = (97 ∷ []); bytes = (97 ∷ []) } ∷ [] } }
+    ensures script_ends { script_ends 1 268435456 expired_open ≡ record { settled = WasOk (Action 2) ∷ Unknown (WithStatus 0xc0000034) ∷ WasOk (Action 1) ∷ []; printed = (2 ∷ []) ∷ [] ∷ []; stored = record { path = (97 ∷ []); bytes = (97 ∷ []) } ∷ [] } }
     ensures acts_1 { acted_on 1 268435456 expired_open 1 ≡ 1 }
     ensures acts_2 { acted_on 1 268435456 expired_open 2 ≡ 1 }
     ensures acts_3 { acted_on 1 268435456 expired_open 3 ≡ 1 }
@@ -124,62 +124,62 @@ pub fn expired_open_example()
 
 /// Before its deadline the open stands, is attached again, and denies the other create.
 pub fn open_before_expiry_example()
-    ensures told { told 1 268435456 open_before_expiry ≡ record { settled = WasOk (Action 2) ∷ WasOk (Wrote 1) ∷ WasRefused 0xc0000043 ∷ []; printed = (2 ∷ []) ∷ []; stored = record { path = (97 ∷ []); bytes = (97 ∷ []) } ∷ [] } }
+    ensures script_ends { script_ends 1 268435456 open_before_expiry ≡ record { settled = WasOk (Action 2) ∷ WasOk (Wrote 1) ∷ WasRefused 0xc0000043 ∷ []; printed = (2 ∷ []) ∷ []; stored = record { path = (97 ∷ []); bytes = (97 ∷ []) } ∷ [] } }
     ensures acts_2 { acted_on 1 268435456 open_before_expiry 2 ≡ 1 }
     ensures acts_3 { acted_on 1 268435456 open_before_expiry 3 ≡ 0 }
 {}
 
 /// A create whose reply is lost expires: its retry finds the mark, so it is unknown.
 pub fn expired_create_example()
-    ensures told { told 1 268435456 expired_create ≡ record { settled = Unknown (WithStatus 0xc000022a) ∷ []; printed = []; stored = record { path = (97 ∷ []); bytes = [] } ∷ [] } }
+    ensures script_ends { script_ends 1 268435456 expired_create ≡ record { settled = Unknown (WithStatus 0xc000022a) ∷ []; printed = []; stored = record { path = (97 ∷ []); bytes = [] } ∷ [] } }
     ensures acts_1 { acted_on 1 268435456 expired_create 1 ≡ 1 }
 {}
 
 /// One connection creates, writes, reads and closes.
 pub fn first_steps_example()
-    ensures { told 1 268435456 first_steps ≡ record { settled = WasOk (Action 2) ∷ WasOk (Wrote 5) ∷ WasOk (Holds (104 ∷ 101 ∷ 108 ∷ 108 ∷ 111 ∷ [])) ∷ WasOk IsDone ∷ []; printed = (2 ∷ 3 ∷ []) ∷ []; stored = record { path = (97 ∷ 46 ∷ 116 ∷ 120 ∷ 116 ∷ []); bytes = (104 ∷ 101 ∷ 108 ∷ 108 ∷ 111 ∷ []) } ∷ [] } }
+    ensures { script_ends 1 268435456 first_steps ≡ record { settled = WasOk (Action 2) ∷ WasOk (Wrote 5) ∷ WasOk (Holds (104 ∷ 101 ∷ 108 ∷ 108 ∷ 111 ∷ [])) ∷ WasOk IsDone ∷ []; printed = (2 ∷ 3 ∷ []) ∷ []; stored = record { path = (97 ∷ 46 ∷ 116 ∷ 120 ∷ 116 ∷ []); bytes = (104 ∷ 101 ∷ 108 ∷ 108 ∷ 111 ∷ []) } ∷ [] } }
 {}
 
 /// A read of no bytes at the end is a success, and one of a byte is END_OF_FILE.
 pub fn end_of_file_example()
-    ensures { told 1 268435456 end_of_file ≡ record { settled = WasOk (Action 2) ∷ WasOk (Wrote 2) ∷ WasOk (Holds []) ∷ WasRefused 0xc0000011 ∷ []; printed = (2 ∷ 3 ∷ 4 ∷ []) ∷ []; stored = record { path = (97 ∷ []); bytes = (97 ∷ 98 ∷ []) } ∷ [] } }
+    ensures { script_ends 1 268435456 end_of_file ≡ record { settled = WasOk (Action 2) ∷ WasOk (Wrote 2) ∷ WasOk (Holds []) ∷ WasRefused 0xc0000011 ∷ []; printed = (2 ∷ 3 ∷ 4 ∷ []) ∷ []; stored = record { path = (97 ∷ []); bytes = (97 ∷ 98 ∷ []) } ∷ [] } }
 {}
 
 /// A write behind the end fills the gap with zeros.
 pub fn gaps_are_zeros_example()
-    ensures { told 1 268435456 gaps_are_zeros ≡ record { settled = WasOk (Action 2) ∷ WasOk (Wrote 1) ∷ WasOk (Wrote 1) ∷ []; printed = (2 ∷ 3 ∷ []) ∷ []; stored = record { path = (97 ∷ []); bytes = (0 ∷ 0 ∷ 0 ∷ 122 ∷ 123 ∷ []) } ∷ [] } }
+    ensures { script_ends 1 268435456 gaps_are_zeros ≡ record { settled = WasOk (Action 2) ∷ WasOk (Wrote 1) ∷ WasOk (Wrote 1) ∷ []; printed = (2 ∷ 3 ∷ []) ∷ []; stored = record { path = (97 ∷ []); bytes = (0 ∷ 0 ∷ 0 ∷ 122 ∷ 123 ∷ []) } ∷ [] } }
 {}
 
 /// A directory lists its names in order; files of one path each.
 pub fn listed_names_example()
-    ensures { told 1 268435456 listed_names ≡ record { settled = WasOk (Action 2) ∷ WasOk (Action 2) ∷ WasOk (Action 2) ∷ WasOk (Names ((97 ∷ []) ∷ (98 ∷ []) ∷ [])) ∷ []; printed = [] ∷ [] ∷ [] ∷ []; stored = record { path = (100 ∷ 92 ∷ 97 ∷ []); bytes = [] } ∷ record { path = (100 ∷ 92 ∷ 98 ∷ []); bytes = [] } ∷ [] } }
+    ensures { script_ends 1 268435456 listed_names ≡ record { settled = WasOk (Action 2) ∷ WasOk (Action 2) ∷ WasOk (Action 2) ∷ WasOk (Names ((97 ∷ []) ∷ (98 ∷ []) ∷ [])) ∷ []; printed = [] ∷ [] ∷ [] ∷ []; stored = record { path = (100 ∷ 92 ∷ 97 ∷ []); bytes = [] } ∷ record { path = (100 ∷ 92 ∷ 98 ∷ []); bytes = [] } ∷ [] } }
 {}
 
 /// A file is renamed, stamped and marked, and goes with its last open.
 pub fn renamed_and_removed_example()
-    ensures { told 1 268435456 renamed_and_removed ≡ record { settled = WasOk (Action 2) ∷ WasOk (Wrote 2) ∷ WasOk IsDone ∷ WasOk (Length 2) ∷ WasOk IsDone ∷ WasOk IsDone ∷ WasOk IsDone ∷ []; printed = (2 ∷ []) ∷ []; stored = [] } }
+    ensures { script_ends 1 268435456 renamed_and_removed ≡ record { settled = WasOk (Action 2) ∷ WasOk (Wrote 2) ∷ WasOk IsDone ∷ WasOk (Length 2) ∷ WasOk IsDone ∷ WasOk IsDone ∷ WasOk IsDone ∷ []; printed = (2 ∷ []) ∷ []; stored = [] } }
 {}
 
 /// An open that shares nothing keeps out who would delete.
 pub fn denied_remover_example()
-    ensures { told 1 268435456 denied_remover ≡ record { settled = WasOk (Action 2) ∷ WasOk (Action 2) ∷ WasRefused 0xc0000043 ∷ NoOpen 3 ∷ []; printed = [] ∷ [] ∷ []; stored = record { path = (100 ∷ 92 ∷ 97 ∷ []); bytes = [] } ∷ [] } }
+    ensures { script_ends 1 268435456 denied_remover ≡ record { settled = WasOk (Action 2) ∷ WasOk (Action 2) ∷ WasRefused 0xc0000043 ∷ NoOpen 3 ∷ []; printed = [] ∷ [] ∷ []; stored = record { path = (100 ∷ 92 ∷ 97 ∷ []); bytes = [] } ∷ [] } }
 {}
 
 /// A create acted and its reply is lost with its channel: the retry is given the same answer.
 pub fn retry_after_act_example()
-    ensures told { told 2 268435456 retry_after_act ≡ record { settled = WasOk (Action 2) ∷ []; printed = [] ∷ []; stored = record { path = (97 ∷ []); bytes = [] } ∷ [] } }
+    ensures script_ends { script_ends 2 268435456 retry_after_act ≡ record { settled = WasOk (Action 2) ∷ []; printed = [] ∷ []; stored = record { path = (97 ∷ []); bytes = [] } ∷ [] } }
     ensures acts_1 { acted_on 2 268435456 retry_after_act 1 ≡ 1 }
 {}
 
 /// A close acted and its reply is lost: the retry finds no open, and the close is Ok.
 pub fn retried_close_example()
-    ensures told { told 2 268435456 retried_close ≡ record { settled = WasOk (Action 2) ∷ WasOk IsDone ∷ []; printed = [] ∷ []; stored = record { path = (97 ∷ []); bytes = [] } ∷ [] } }
+    ensures script_ends { script_ends 2 268435456 retried_close ≡ record { settled = WasOk (Action 2) ∷ WasOk IsDone ∷ []; printed = [] ∷ []; stored = record { path = (97 ∷ []); bytes = [] } ∷ [] } }
     ensures acts_2 { acted_on 2 268435456 retried_close 2 ≡ 1 }
 {}
 
 /// A delayed end is held back, as a write is.
 pub fn held_back_end_example()
-    ensures told { told 2 268435456 held_back_end ≡ record { settled = WasOk (Action 2) ∷ WasOk IsDone ∷ WasOk IsDone ∷ []; printed = (2 ∷ 3 ∷ []) ∷ []; stored = record { path = (97 ∷ []); bytes = (0 ∷ 0 ∷ 0 ∷ []) } ∷ [] } }
+    ensures script_ends { script_ends 2 268435456 held_back_end ≡ record { settled = WasOk (Action 2) ∷ WasOk IsDone ∷ WasOk IsDone ∷ []; printed = (2 ∷ 3 ∷ []) ∷ []; stored = record { path = (97 ∷ []); bytes = (0 ∷ 0 ∷ 0 ∷ []) } ∷ [] } }
     ensures note { note 2 268435456 held_back_end_until_note 0 ≡ record { status = 0xc0000467; acted = false } }
     ensures acts_2 { acted_on 2 268435456 held_back_end 2 ≡ 1 }
     ensures acts_3 { acted_on 2 268435456 held_back_end 3 ≡ 1 }
@@ -187,47 +187,47 @@ pub fn held_back_end_example()
 
 /// A write that finds no room adopts its sequence all the same, so its delayed copy is held back.
 pub fn refusal_adopts_example()
-    ensures told { told 2 4 refusal_adopts ≡ record { settled = WasOk (Action 2) ∷ WasRefused 0xc000007f ∷ []; printed = (2 ∷ []) ∷ []; stored = record { path = (97 ∷ []); bytes = [] } ∷ [] } }
+    ensures script_ends { script_ends 2 4 refusal_adopts ≡ record { settled = WasOk (Action 2) ∷ WasRefused 0xc000007f ∷ []; printed = (2 ∷ []) ∷ []; stored = record { path = (97 ∷ []); bytes = [] } ∷ [] } }
     ensures note { note 2 4 refusal_adopts_until_note 0 ≡ record { status = 0xc0000467; acted = false } }
     ensures acts_2 { acted_on 2 4 refusal_adopts 2 ≡ 0 }
 {}
 
 /// A lock acted and its reply is lost with the server: the retry is answered by its slot.
 pub fn restart_keeps_locks_example()
-    ensures told { told 1 268435456 restart_keeps_locks ≡ record { settled = WasOk (Action 2) ∷ WasOk IsDone ∷ []; printed = [] ∷ []; stored = record { path = (97 ∷ []); bytes = [] } ∷ [] } }
+    ensures script_ends { script_ends 1 268435456 restart_keeps_locks ≡ record { settled = WasOk (Action 2) ∷ WasOk IsDone ∷ []; printed = [] ∷ []; stored = record { path = (97 ∷ []); bytes = [] } ∷ [] } }
     ensures acts_2 { acted_on 1 268435456 restart_keeps_locks 2 ≡ 1 }
 {}
 
 /// A lock of a persistent open is refused, and a restart keeps that.
 pub fn restart_keeps_refused_locks_example()
-    ensures told { told 2 268435456 restart_keeps_refused_locks ≡ record { settled = WasOk (Action 2) ∷ WasOk (Action 1) ∷ WasOk IsDone ∷ WasRefused 0xc0000055 ∷ []; printed = []; stored = record { path = (97 ∷ []); bytes = [] } ∷ [] } }
+    ensures script_ends { script_ends 2 268435456 restart_keeps_refused_locks ≡ record { settled = WasOk (Action 2) ∷ WasOk (Action 1) ∷ WasOk IsDone ∷ WasRefused 0xc0000055 ∷ []; printed = []; stored = record { path = (97 ∷ []); bytes = [] } ∷ [] } }
     ensures acts_3 { acted_on 2 268435456 restart_keeps_refused_locks 3 ≡ 1 }
     ensures acts_4 { acted_on 2 268435456 restart_keeps_refused_locks 4 ≡ 0 }
 {}
 
 /// An open that is attached again has no deadline any more.
 pub fn attached_again_example()
-    ensures told { told 1 268435456 attached_again ≡ record { settled = WasOk (Action 2) ∷ WasOk (Wrote 1) ∷ WasOk (Wrote 1) ∷ []; printed = (2 ∷ 3 ∷ []) ∷ []; stored = record { path = (97 ∷ []); bytes = (98 ∷ []) } ∷ [] } }
+    ensures script_ends { script_ends 1 268435456 attached_again ≡ record { settled = WasOk (Action 2) ∷ WasOk (Wrote 1) ∷ WasOk (Wrote 1) ∷ []; printed = (2 ∷ 3 ∷ []) ∷ []; stored = record { path = (97 ∷ []); bytes = (98 ∷ []) } ∷ [] } }
     ensures acts_2 { acted_on 1 268435456 attached_again 2 ≡ 1 }
     ensures acts_3 { acted_on 1 268435456 attached_again 3 ≡ 1 }
 {}
 
 /// A plain open is lost with its session, and what comes later has no open.
 pub fn plain_open_lost_example()
-    ensures told { told 1 268435456 plain_open_lost ≡ record { settled = WasOk (Action 2) ∷ Unknown (SessionLost 1) ∷ NoOpen 1 ∷ NoOpen 1 ∷ []; printed = [] ∷ []; stored = record { path = (97 ∷ []); bytes = [] } ∷ [] } }
+    ensures script_ends { script_ends 1 268435456 plain_open_lost ≡ record { settled = WasOk (Action 2) ∷ Unknown (SessionLost 1) ∷ NoOpen 1 ∷ NoOpen 1 ∷ []; printed = [] ∷ []; stored = record { path = (97 ∷ []); bytes = [] } ∷ [] } }
     ensures acts_2 { acted_on 1 268435456 plain_open_lost 2 ≡ 0 }
 {}
 
 /// A write waits for a lower one that overlaps it as long as that is unsettled, though no copy of it is outstanding.
 pub fn later_write_waits_example()
-    ensures told { told 3 268435456 later_write_waits ≡ record { settled = WasOk (Action 2) ∷ WasOk (Wrote 1) ∷ WasOk (Wrote 1) ∷ []; printed = (2 ∷ 3 ∷ []) ∷ []; stored = record { path = (97 ∷ []); bytes = (98 ∷ []) } ∷ [] } }
+    ensures script_ends { script_ends 3 268435456 later_write_waits ≡ record { settled = WasOk (Action 2) ∷ WasOk (Wrote 1) ∷ WasOk (Wrote 1) ∷ []; printed = (2 ∷ 3 ∷ []) ∷ []; stored = record { path = (97 ∷ []); bytes = (98 ∷ []) } ∷ [] } }
     ensures acts_2 { acted_on 3 268435456 later_write_waits 2 ≡ 1 }
     ensures acts_3 { acted_on 3 268435456 later_write_waits 3 ≡ 1 }
 {}
 
 /// A retried write that did not act before is carried out, though it lies within the file.
 pub fn retried_overwrite_example()
-    ensures told { told 2 268435456 retried_overwrite ≡ record { settled = WasOk (Action 2) ∷ WasOk (Wrote 2) ∷ WasOk (Wrote 1) ∷ []; printed = (2 ∷ 3 ∷ []) ∷ []; stored = record { path = (97 ∷ []); bytes = (98 ∷ 97 ∷ []) } ∷ [] } }
+    ensures script_ends { script_ends 2 268435456 retried_overwrite ≡ record { settled = WasOk (Action 2) ∷ WasOk (Wrote 2) ∷ WasOk (Wrote 1) ∷ []; printed = (2 ∷ 3 ∷ []) ∷ []; stored = record { path = (97 ∷ []); bytes = (98 ∷ 97 ∷ []) } ∷ [] } }
     ensures note { note 2 268435456 retried_overwrite_until_note 0 ≡ record { status = 0xc0000467; acted = false } }
     ensures acts_2 { acted_on 2 268435456 retried_overwrite 2 ≡ 1 }
     ensures acts_3 { acted_on 2 268435456 retried_overwrite 3 ≡ 1 }
@@ -235,7 +235,7 @@ pub fn retried_overwrite_example()
 
 /// A slot whose lock was retried is used no more in the session, so the delayed copy of that lock is answered by it.
 pub fn slot_not_used_again_example()
-    ensures told { told 2 268435456 slot_not_used_again ≡ record { settled = WasOk (Action 2) ∷ WasOk IsDone ∷ WasOk IsDone ∷ []; printed = [] ∷ []; stored = record { path = (97 ∷ []); bytes = [] } ∷ [] } }
+    ensures script_ends { script_ends 2 268435456 slot_not_used_again ≡ record { settled = WasOk (Action 2) ∷ WasOk IsDone ∷ WasOk IsDone ∷ []; printed = [] ∷ []; stored = record { path = (97 ∷ []); bytes = [] } ∷ [] } }
     ensures note { note 2 268435456 slot_not_used_again_until_note 0 ≡ record { status = 0x00000000; acted = false } }
     ensures acts_2 { acted_on 2 268435456 slot_not_used_again 2 ≡ 1 }
     ensures acts_3 { acted_on 2 268435456 slot_not_used_again 3 ≡ 1 }
@@ -254,18 +254,18 @@ pub fn given_up_slot_not_used_again_example()
 
 /// A rename acted and its reply is lost: the retry finds the file under that very name, and is Ok.
 pub fn retried_rename_example()
-    ensures told { told 2 268435456 retried_rename ≡ record { settled = WasOk (Action 2) ∷ WasOk IsDone ∷ []; printed = [] ∷ []; stored = record { path = (98 ∷ []); bytes = [] } ∷ [] } }
+    ensures script_ends { script_ends 2 268435456 retried_rename ≡ record { settled = WasOk (Action 2) ∷ WasOk IsDone ∷ []; printed = [] ∷ []; stored = record { path = (98 ∷ []); bytes = [] } ∷ [] } }
     ensures note { note 2 268435456 retried_rename_until_note 1 ≡ record { status = 0x00000000; acted = false } }
 {}
 
-/// The files are told in byte order of their paths: B stands before a.
+/// The files are script_ends in byte order of their paths: B stands before a.
 pub fn files_by_bytes_example()
-    ensures told { told 1 268435456 files_by_bytes ≡ record { settled = WasOk (Action 2) ∷ WasOk (Action 2) ∷ []; printed = [] ∷ [] ∷ []; stored = record { path = (66 ∷ []); bytes = [] } ∷ record { path = (97 ∷ []); bytes = [] } ∷ [] } }
+    ensures script_ends { script_ends 1 268435456 files_by_bytes ≡ record { settled = WasOk (Action 2) ∷ WasOk (Action 2) ∷ []; printed = [] ∷ [] ∷ []; stored = record { path = (66 ∷ []); bytes = [] } ∷ record { path = (97 ∷ []); bytes = [] } ∷ [] } }
 {}
 
-/// A write acted and is unheard, a shared lock comes over its range, and its second copy is told that it is done.
+/// A write acted and is unheard, a shared lock comes over its range, and its second copy is script_ends that it is done.
 pub fn repeated_behind_a_lock_example()
-    ensures told { told 2 268435456 repeated_behind_a_lock ≡ record { settled = WasOk (Action 2) ∷ WasOk (Wrote 1) ∷ WasOk IsDone ∷ []; printed = (2 ∷ []) ∷ []; stored = record { path = (97 ∷ []); bytes = (97 ∷ []) } ∷ [] } }
+    ensures script_ends { script_ends 2 268435456 repeated_behind_a_lock ≡ record { settled = WasOk (Action 2) ∷ WasOk (Wrote 1) ∷ WasOk IsDone ∷ []; printed = (2 ∷ []) ∷ []; stored = record { path = (97 ∷ []); bytes = (97 ∷ []) } ∷ [] } }
     ensures acts_2 { acted_on 2 268435456 repeated_behind_a_lock 2 ≡ 1 }
 {}
 
@@ -282,7 +282,7 @@ pub fn repeated_without_access_example()
     ensures end { status_after one_session (ask (make 0x81 7 2 0x40 None) ∷ []) (again (SetInfo first_open (SetEnd 0))) ≡ 0xc000_0022 }
     ensures write { status_after one_session (ask (make 0x81 7 2 0x40 None) ∷ []) (again (Write first_open 0 [] 0)) ≡ 0xc000_0022 }
     ensures mark { status_after one_session (ask (make 0x81 7 2 0x40 None) ∷ []) (again (SetInfo first_open (SetDelete false))) ≡ 0xc000_0022 }
-    ensures told { status_after one_session (ask (make 0x183 7 2 0x40 None) ∷ []) (again (SetInfo first_open (SetEnd 0))) ≡ 0x0000_0000 }
+    ensures script_ends { status_after one_session (ask (make 0x183 7 2 0x40 None) ∷ []) (again (SetInfo first_open (SetEnd 0))) ≡ 0x0000_0000 }
 {}
 
 /// On the pipes' share each CREATE is OBJECT_NAME_NOT_FOUND, whatever it carries, and nothing is kept or counted of it.
@@ -468,7 +468,7 @@ pub fn what_a_gone_open_leaves_example()
     ensures guid_when_gone { status_after second_session (ask (make 0x183 7 2 0x40 (by_guid 5 false)) ∷ End 0 ∷ []) (ask_second false (make 0x183 7 1 0x40 (by_guid 5 false))) ≡ 0 }
 {}
 
-/// What successes tell: ENCRYPT_DATA and the channel's number, kind and capabilities of a tree, room and what is used of
+/// What successes end_of: ENCRYPT_DATA and the channel's number, kind and capabilities of a tree, room and what is used of
 /// it, a file's class with the open's access and options, a listing's class, and the server's address.
 pub fn told_by_successes_example()
     ensures pipes { body_after one_session [] (ask (TreeConnect pipes_name)) ≡ Connected 2 0 2032127 }

@@ -46,8 +46,8 @@ use Rattle.exchange_law.proofs.Send.{send_keeps}
 use Rattle.exchange_law.proofs.Ask.{ask_keeps}
 use Rattle.exchange_law.proofs.Say.{say_keeps}
 
-abbrev pub Holds : World → (ℕ → ℕ) → Type 0
-Holds w a = Connections w.client w.conns a
+abbrev pub ConnectionsHold : World → (ℕ → ℕ) → Type 0
+ConnectionsHold w a = Connections w.client w.conns a
 
 -- ---- Submit
 
@@ -58,7 +58,7 @@ pub create_below : (c : Client) (g : ℕ) (op : Op) → may_take c g op ≡ true
 unfolding makes_open its_create
 create_below c g op may kind = (grind (arith, nat_tests), grind (arith, nat_tests), grind (arith, nat_tests))
 
-pub submits : (w : World) (a : ℕ → ℕ) (g : ℕ) (op : Op) → Holds w a → Holds (changed w (Submit g op)) a
+pub submits : (w : World) (a : ℕ → ℕ) (g : ℕ) (op : Op) → ConnectionsHold w a → ConnectionsHold (changed w (Submit g op)) a
 submits w a g op i =
     either (λ d. Connections d w.conns a) (may_take w.client g op) _ _
     (λ may. submit_keeps w.client w.conns a g op (outcome_at_first w.client g op) (next_of w.client g op may) (create_below w.client g op may) i)
@@ -244,9 +244,9 @@ ended_well P w k session tree binds begins fails =
     newer_id : (live : Bool) (old number session : ℕ) → live ≡ false → (if live then session == old else nat_lt old session && nat_lt number last_number) ≡ true → old < session
     newer_id live old number session l b = grind (arith, nat_tests)
 
-pub pushes_op : (w : World) (a : ℕ → ℕ) (k g s : ℕ) (c : Client) → Connections c w.conns a → Holds (pushed_by w k (pick_after c k (Some (record { op = g; slot = s }))) (pick_act c k (Some (record { op = g; slot = s })))) a
+pub pushes_op : (w : World) (a : ℕ → ℕ) (k g s : ℕ) (c : Client) → Connections c w.conns a → ConnectionsHold (pushed_by w k (pick_after c k (Some (record { op = g; slot = s }))) (pick_act c k (Some (record { op = g; slot = s })))) a
 pushes_op w a k g s c i =
-    let P : Client → Act → Type 0 = λ d x. Holds (pushed_by w k d x) a in
+    let P : Client → Act → Type 0 = λ d x. ConnectionsHold (pushed_by w k d x) a in
     both_ways P (may_push c k g) _ _ _ _
     (λ may. let m = found c k g may in let low = lower_at c g m.has_open (free_of c k g may) in
     both_ways P (goes_itself c g) _ _ _ _
@@ -254,13 +254,13 @@ pushes_op w a k g s c i =
     (λ _. ask_keeps c w.conns a k g 1 (ask_message c k (w.conns k).next_id g) m.ready m.none m.above m.within m.pending m.has_open low i))
     (λ _. i)
 
-pub picks : (w : World) (a : ℕ → ℕ) (k : ℕ) (c : Client) (pick : Option Pick) → Connections c w.conns a → Holds (pushed_by w k (pick_after c k pick) (pick_act c k pick)) a
-picks w a k c None i = either (λ x. Holds (pushed_by w k c x) a) (some_unsettled c c.taken) _ _ (λ _. i) (λ _. i)
+pub picks : (w : World) (a : ℕ → ℕ) (k : ℕ) (c : Client) (pick : Option Pick) → Connections c w.conns a → ConnectionsHold (pushed_by w k (pick_after c k pick) (pick_act c k pick)) a
+picks w a k c None i = either (λ x. ConnectionsHold (pushed_by w k c x) a) (some_unsettled c c.taken) _ _ (λ _. i) (λ _. i)
 picks w a k c (Some p) i = pushes_op w a k p.op p.slot c i
 
-pub pushes : (w : World) (a : ℕ → ℕ) (k : ℕ) (slotless : List ℕ) (pick : Option Pick) → w.client.ready k ≡ true → Holds w a → Holds (changed w (Push k slotless pick)) a
+pub pushes : (w : World) (a : ℕ → ℕ) (k : ℕ) (slotless : List ℕ) (pick : Option Pick) → w.client.ready k ≡ true → ConnectionsHold w a → ConnectionsHold (changed w (Push k slotless pick)) a
 pushes w a k slotless pick ready i =
-    both_ways (λ d x. Holds (pushed_by w k d x) a) (w.client.ready k) _ _ _ _
+    both_ways (λ d x. ConnectionsHold (pushed_by w k d x) a) (w.client.ready k) _ _ _ _
     (λ _. picks w a k (settle_no_slots w.client k slotless) pick (no_slots w.client w.conns a k slotless i))
     (λ off. absurd (grind arith))
 
@@ -299,8 +299,8 @@ counted a x acted h = if is_send_of h x.token && acted then a h + 1 else a h
 pub not_counted : (a : ℕ → ℕ) (x : Sent) (acted : Bool) (g : ℕ) → acted ≡ false → a g ≡ 0 → counted a x acted g ≡ 0
 not_counted a x acted g e z = grind arith
 
-pub says : (w : World) (a : ℕ → ℕ) (k : ℕ) (x : Sent) (rest : List Sent) (A : Answer) (place : ℕ) → (w.conns k).up ≡ x ∷ rest → (A.reply.status ≡ user_session_deleted → A.acted ≡ false) → Holds w a
-    → Holds (replied (absorbed w k x rest A) k (record { token = x.token; reply = A.reply; place = place })) (counted a x A.acted)
+pub says : (w : World) (a : ℕ → ℕ) (k : ℕ) (x : Sent) (rest : List Sent) (A : Answer) (place : ℕ) → (w.conns k).up ≡ x ∷ rest → (A.reply.status ≡ user_session_deleted → A.acted ≡ false) → ConnectionsHold w a
+    → ConnectionsHold (replied (absorbed w k x rest A) k (record { token = x.token; reply = A.reply; place = place })) (counted a x A.acted)
 says w a k x rest A place is quiet i =
     let f0 = front_up (w.conns k).up x rest is in let n0 = counted_up (op_of x.token) (w.conns k).up 0 x f0 refl in
     let f : ℕ → Conn = put w.conns k (behind_front (w.conns k) rest) in
@@ -315,23 +315,23 @@ says w a k x rest A place is quiet i =
     (λ g t ao st b. not_counted a x A.acted g (quiet st) (i.first k 0 g x f0 t ao b).1) j)
     (λ _. subst (λ v. Connections w.client v (counted a x A.acted)) (put_self f k) j)
 
-pub serves : (w : World) (a : ℕ → ℕ) (k : ℕ) → Holds w a → (xs : List Sent) → (w.conns k).up ≡ xs → Holds (serve_front w k xs) (λ g. if front_acts w xs g then a g + 1 else a g)
+pub serves : (w : World) (a : ℕ → ℕ) (k : ℕ) → ConnectionsHold w a → (xs : List Sent) → (w.conns k).up ≡ xs → ConnectionsHold (serve_front w k xs) (λ g. if front_acts w xs g then a g + 1 else a g)
 serves w a k i [] is = i
 serves w a k i (x ∷ rest) is = says w a k x rest (answer w x) w.log.places is (deleted_is_quiet w.server w.moment x.message x.message.command) i
 
-pub absorbs : (w : World) (a : ℕ → ℕ) (k : ℕ) → Holds w a → (xs : List Sent) → (w.conns k).up ≡ xs → Holds (absorb_front w k xs) (λ g. if front_acts w xs g then a g + 1 else a g)
+pub absorbs : (w : World) (a : ℕ → ℕ) (k : ℕ) → ConnectionsHold w a → (xs : List Sent) → (w.conns k).up ≡ xs → ConnectionsHold (absorb_front w k xs) (λ g. if front_acts w xs g then a g + 1 else a g)
 absorbs w a k i [] is = i
 absorbs w a k i (x ∷ rest) is = absorb_keeps w.client w.conns a k x rest (answer w x).acted is i
 
-pub serve_open : (w : World) (a : ℕ → ℕ) (k : ℕ) → Holds w a → (b : Bool) → Holds (if b then later (serve_front w k (w.conns k).up) 1 else w) (λ g. if b && front_acts w (w.conns k).up g then a g + 1 else a g)
+pub serve_open : (w : World) (a : ℕ → ℕ) (k : ℕ) → ConnectionsHold w a → (b : Bool) → ConnectionsHold (if b then later (serve_front w k (w.conns k).up) 1 else w) (λ g. if b && front_acts w (w.conns k).up g then a g + 1 else a g)
 serve_open w a k i true = serves w a k i (w.conns k).up refl
 serve_open w a k i false = i
 
-pub restarts : (w : World) (a : ℕ → ℕ) → Holds w a → Holds (restarted w) a
+pub restarts : (w : World) (a : ℕ → ℕ) → ConnectionsHold w a → ConnectionsHold (restarted w) a
 restarts w a i = all_dropped_keeps w.client w.conns a i
 
-pub crash_open : (w : World) (a : ℕ → ℕ) (k : ℕ) → Holds w a → (kept b : Bool)
-    → Holds (if b then later (if kept then restarted (absorb_front w k (w.conns k).up) else restarted w) 1 else w) (λ g. if kept && (b && front_acts w (w.conns k).up g) then a g + 1 else a g)
+pub crash_open : (w : World) (a : ℕ → ℕ) (k : ℕ) → ConnectionsHold w a → (kept b : Bool)
+    → ConnectionsHold (if b then later (if kept then restarted (absorb_front w k (w.conns k).up) else restarted w) 1 else w) (λ g. if kept && (b && front_acts w (w.conns k).up g) then a g + 1 else a g)
 crash_open w a k i true true = restarts (absorb_front w k (w.conns k).up) _ (absorbs w a k i (w.conns k).up refl)
 crash_open w a k i true false = i
 crash_open w a k i false true = restarts w a i
@@ -551,9 +551,9 @@ awaited_of c k g asking e = (at_of k (c.on g) (front_of (is_at k (c.on g)) _ e),
 pub unclear : (b c : Bool) (P : Type 0) → b ≡ c → b ≡ true → c ≡ false → P
 unclear b c P e f g = absurd (grind arith)
 
-pub hears : (w : World) (a : ℕ → ℕ) (k g : ℕ) (asking : Bool) (r : Reply) (place : ℕ) → Holds w a → w.client.on g ≡ Some k → w.client.asking g ≡ asking → copies g (w.conns k) ≡ 0
+pub hears : (w : World) (a : ℕ → ℕ) (k g : ℕ) (asking : Bool) (r : Reply) (place : ℕ) → ConnectionsHold w a → w.client.on g ≡ Some k → w.client.asking g ≡ asking → copies g (w.conns k) ≡ 0
     → (asking ≡ false → acts_once (w.client.op g) ≡ true → r.status ≡ user_session_deleted → w.client.before g ≡ false → a g ≡ 0)
-    → (h : Hearing) → heard w.client g asking r ≡ h → Holds (with_client (closed_by w k (act_heard h)) (hear w.client g asking r place h)) a
+    → (h : Hearing) → heard w.client g asking r ≡ h → ConnectionsHold (with_client (closed_by w k (act_heard h)) (hear w.client g asking r place h)) a
 hears w a k g asking r place i on asks none gone (Settles o) e = settles w.client w.conns a k g asking r place o i on none (heard_firm w.client g asking r o e)
 hears w a k g asking r place i on asks none gone GoesAgain e =
     answered_keeps w.client w.conns a k g on none (λ o b k. once_again w.client g asking r.status (heard_again w.client g asking r e) o (a g)) i
@@ -562,10 +562,10 @@ hears w a k g asking r place i on asks none gone Attaches e =
 hears w a k g asking r place i on asks none gone EndsSession e =
     leave_keeps (answered w.client g) w.conns a (answered_keeps w.client w.conns a k g on none (λ o b q. gone (sym asks ∙ q) o (heard_ends w.client g asking r e) b) i)
 
-pub took : (w : World) (a : ℕ → ℕ) (k g : ℕ) (asking : Bool) (r : Reply) (place : ℕ) → Holds w a → copies g (w.conns k) ≡ 0
-    → (asking ≡ false → acts_once (w.client.op g) ≡ true → r.status ≡ user_session_deleted → w.client.before g ≡ false → a g ≡ 0) → Holds (op_took w k g asking r place) a
+pub took : (w : World) (a : ℕ → ℕ) (k g : ℕ) (asking : Bool) (r : Reply) (place : ℕ) → ConnectionsHold w a → copies g (w.conns k) ≡ 0
+    → (asking ≡ false → acts_once (w.client.op g) ≡ true → r.status ≡ user_session_deleted → w.client.before g ≡ false → a g ≡ 0) → ConnectionsHold (op_took w k g asking r place) a
 took w a k g asking r place i none gone =
-    both_ways (λ c x. Holds (with_client (closed_by w k x) c) a) (is_awaited w.client k g asking) (hear w.client g asking r place (heard w.client g asking r)) w.client (act_heard (heard w.client g asking r)) Nothing
+    both_ways (λ c x. ConnectionsHold (with_client (closed_by w k x) c) a) (is_awaited w.client k g asking) (hear w.client g asking r place (heard w.client g asking r)) w.client (act_heard (heard w.client g asking r)) Nothing
     (λ aw. let q = awaited_of w.client k g asking aw in hears w a k g asking r place i q.0 q.1 none gone (heard w.client g asking r) refl)
     (λ _. i)
 
@@ -578,13 +578,13 @@ goes_on_bound (SaidFirst bound) s status e = grind arith
 goes_on_bound (SaidSecond bound) s status e = grind arith
 goes_on_bound AskedTree s status e = grind arith
 
-readies : (w : World) (a : ℕ → ℕ) (k session tree : ℕ) → Holds w a → copies 0 (w.conns k) ≡ 0 → w.client.ready k ≡ false → (w.conns k).client_open ≡ true → Holds (dialog_ended w k (IsReady k session tree)) a
+readies : (w : World) (a : ℕ → ℕ) (k session tree : ℕ) → ConnectionsHold w a → copies 0 (w.conns k) ≡ 0 → w.client.ready k ≡ false → (w.conns k).client_open ≡ true → ConnectionsHold (dialog_ended w k (IsReady k session tree)) a
 readies w a k session tree i none apart stands =
-    ended_well (λ v. Holds v a) w k session tree (λ live. bound_keeps w.client w.conns a k live stands none i) (λ _ _. readied_keeps w.client w.conns a k session tree stands none i)
+    ended_well (λ v. ConnectionsHold v a) w k session tree (λ live. bound_keeps w.client w.conns a k live stands none i) (λ _ _. readied_keeps w.client w.conns a k session tree stands none i)
     (dialog_off_keeps w.client w.conns a k apart i)
 
-pub dialogs : (w : World) (a : ℕ → ℕ) (k : ℕ) (r : Reply) → Holds w a → copies 0 (w.conns k) ≡ 0 → w.client.ready k ≡ false → (w.conns k).client_open ≡ true
-    → (d : DialogStep) → dialog_step (w.client.stage k) r.status ≡ d → Holds (dialog_took w k r d) a
+pub dialogs : (w : World) (a : ℕ → ℕ) (k : ℕ) (r : Reply) → ConnectionsHold w a → copies 0 (w.conns k) ≡ 0 → w.client.ready k ≡ false → (w.conns k).client_open ≡ true
+    → (d : DialogStep) → dialog_step (w.client.stage k) r.status ≡ d → ConnectionsHold (dialog_took w k r d) a
 dialogs w a k r i none apart stands (GoesOn stage) e =
     dialog_sent_keeps (went_on w.client k stage r) w.conns a k 1 (dialog_message (went_on w.client k stage r) k (w.conns k).next_id stage) none apart
     (went_on_keeps w.client w.conns a k stage r (λ b. i.stages k (sym (goes_on_bound (w.client.stage k) stage r.status e) ∙ b)) i)
@@ -599,8 +599,8 @@ dialogs w a k r i none apart stands (Refuses status) e = dialog_refused_keeps w.
 pub reply_open : (f : ℕ → Conn) (k : ℕ) (rest : List Received) → (f k).client_open ≡ true → (put f k (take_front (f k) rest) k).client_open ≡ true
 reply_open f k rest o = grind arith
 
-pub takes_by : (w : World) (a : ℕ → ℕ) (k : ℕ) (y : Received) (rest : List Received) → (w.conns k).down ≡ y ∷ rest → (w.conns k).client_open ≡ true → Holds w a → (t : Token) → y.token ≡ t
-    → Holds (took_by (behind_reply w k rest) k y.reply y.place t) a
+pub takes_by : (w : World) (a : ℕ → ℕ) (k : ℕ) (y : Received) (rest : List Received) → (w.conns k).down ≡ y ∷ rest → (w.conns k).client_open ≡ true → ConnectionsHold w a → (t : Token) → y.token ≡ t
+    → ConnectionsHold (took_by (behind_reply w k rest) k y.reply y.place t) a
 takes_by w a k y rest is o i ForDialog e =
     let zero_of : op_of y.token ≡ 0 = ap op_of e in let f0 = front_down (w.conns k).down y rest is in
     dialogs (behind_reply w k rest) a k y.reply (behind_keeps w.client w.conns a k y rest is i)
@@ -617,21 +617,21 @@ takes_by w a k y rest is o i (ForAttach g) e =
     (subst (λ g. copies g (put w.conns k (take_front (w.conns k) rest) k) ≡ 0) (ap op_of e) (front_reply_gone w.conns k y rest is (i.once k (op_of y.token))))
     (λ q. absurd (cc))
 
-pub takes : (w : World) (a : ℕ → ℕ) (k : ℕ) → (w.conns k).client_open ≡ true → Holds w a → (ys : List Received) → (w.conns k).down ≡ ys → Holds (take_reply w k ys) a
+pub takes : (w : World) (a : ℕ → ℕ) (k : ℕ) → (w.conns k).client_open ≡ true → ConnectionsHold w a → (ys : List Received) → (w.conns k).down ≡ ys → ConnectionsHold (take_reply w k ys) a
 takes w a k o i [] is = i
 takes w a k o i (y ∷ rest) is = takes_by w a k y rest is o i y.token refl
 
 -- ---- Cut
 
-pub cuts_ready : (w : World) (a : ℕ → ℕ) (k : ℕ) → Holds w a → (b e : Bool) → b ≡ true
-    → Holds (with_client (cut_by w k (if b && e then CloseChannels else Nothing)) (if b then (if e then end_session w.client else cut_channel w.client k) else w.client)) a
+pub cuts_ready : (w : World) (a : ℕ → ℕ) (k : ℕ) → ConnectionsHold w a → (b e : Bool) → b ≡ true
+    → ConnectionsHold (with_client (cut_by w k (if b && e then CloseChannels else Nothing)) (if b then (if e then end_session w.client else cut_channel w.client k) else w.client)) a
 cuts_ready w a k i true true h = leave_keeps w.client w.conns a i
 cuts_ready w a k i true false h = cut_keeps w.client w.conns a k i
 cuts_ready w a k i false e h = absurd (cc)
 
-pub cuts : (w : World) (a : ℕ → ℕ) (k : ℕ) → Holds w a → Holds (changed w (Cut k)) a
+pub cuts : (w : World) (a : ℕ → ℕ) (k : ℕ) → ConnectionsHold w a → ConnectionsHold (changed w (Cut k)) a
 cuts w a k i =
-    either (λ v. Holds v a) (w.client.ready k) _ _ (λ ready. cuts_ready w a k i (w.client.ready k) (ends_at_cut w.client) ready) (λ apart. dialog_off_keeps w.client w.conns a k apart i)
+    either (λ v. ConnectionsHold v a) (w.client.ready k) _ _ (λ ready. cuts_ready w a k i (w.client.ready k) (ends_at_cut w.client) ready) (λ apart. dialog_off_keeps w.client w.conns a k apart i)
 
 -- ---- every event
 
@@ -642,25 +642,25 @@ after w e a g = if acts_now w e g then a g + 1 else a g
 pub closed_of : (w : World) (k : ℕ) → may_open w k ≡ true → (w.conns k).client_open ≡ false
 closed_of w k m = not_true (w.conns k).client_open (front_of (not (w.conns k).client_open) _ (back_of (nat_lt k max_channel) _ m))
 
-pub keeps : (w : World) (a : ℕ → ℕ) (e : Event) → Holds w a → Holds (happens w e) (after w e a)
+pub keeps : (w : World) (a : ℕ → ℕ) (e : Event) → ConnectionsHold w a → ConnectionsHold (happens w e) (after w e a)
 keeps w a (Submit g op) i = submits w a g op i
-keeps w a (Open k) i = either (λ v. Holds v a) (may_open w k) _ _ (λ m. opened_keeps w.client w.conns a k _ (closed_of w k m) i) (λ _. i)
-keeps w a (Push k slotless pick) i = either (λ v. Holds v a) (w.client.ready k) _ _ (λ ready. pushes w a k slotless pick ready i) (λ _. i)
+keeps w a (Open k) i = either (λ v. ConnectionsHold v a) (may_open w k) _ _ (λ m. opened_keeps w.client w.conns a k _ (closed_of w k m) i) (λ _. i)
+keeps w a (Push k slotless pick) i = either (λ v. ConnectionsHold v a) (w.client.ready k) _ _ (λ ready. pushes w a k slotless pick ready i) (λ _. i)
 keeps w a (Serve k) i = serve_open w a k i (may_serve w k)
-keeps w a (Take k) i = either (λ v. Holds v a) ((w.conns k).client_open && is_filled (w.conns k).down) _ _ (λ m. takes w a k (front_of (w.conns k).client_open _ m) i (w.conns k).down refl) (λ _. i)
-keeps w a (Cut k) i = either (λ v. Holds v a) (w.conns k).client_open _ _ (λ _. cuts w a k i) (λ _. i)
-keeps w a (Drop k) i = either (λ v. Holds v a) (w.conns k).server_open _ _ (λ _. dropped_keeps w.client w.conns a k i) (λ _. i)
+keeps w a (Take k) i = either (λ v. ConnectionsHold v a) ((w.conns k).client_open && is_filled (w.conns k).down) _ _ (λ m. takes w a k (front_of (w.conns k).client_open _ m) i (w.conns k).down refl) (λ _. i)
+keeps w a (Cut k) i = either (λ v. ConnectionsHold v a) (w.conns k).client_open _ _ (λ _. cuts w a k i) (λ _. i)
+keeps w a (Drop k) i = either (λ v. ConnectionsHold v a) (w.conns k).server_open _ _ (λ _. dropped_keeps w.client w.conns a k i) (λ _. i)
 keeps w a Restart i = restarts w a i
 keeps w a (Crash k kept) i = crash_open w a k i kept (may_serve w k)
 keeps w a (Wait n) i = i
-keeps w a (Finish refusal) i = either (λ v. Holds v a) (not w.client.live) _ _ (λ d. finished_keeps w.client w.conns a (NoSession refusal) (not_true w.client.live d) i) (λ _. i)
+keeps w a (Finish refusal) i = either (λ v. ConnectionsHold v a) (not w.client.live) _ _ (λ d. finished_keeps w.client w.conns a (NoSession refusal) (not_true w.client.live d) i) (λ _. i)
 
 -- ---- runs
 
 pub no_conn_counts : (g : ℕ) → copies g no_conn ≤ 1
 no_conn_counts g = grind arith
 
-pub begins : (z : Settings) → Holds (start z) (λ g. 0)
+pub begins : (z : Settings) → ConnectionsHold (start z) (λ g. 0)
 begins z =
     record {
       once = λ k g. grind arith;
@@ -692,7 +692,7 @@ pub counts : List Event → World → (ℕ → ℕ) → ℕ → ℕ
 counts [] w a = a
 counts (e ∷ es) w a = counts es (happens w e) (after w e a)
 
-pub always : (es : List Event) (w : World) (a : ℕ → ℕ) → Holds w a → Holds (run es w) (counts es w a)
+pub always : (es : List Event) (w : World) (a : ℕ → ℕ) → ConnectionsHold w a → ConnectionsHold (run es w) (counts es w a)
 unfolding run counts
 always [] w a i = i
 always (e ∷ es) w a i = always es (happens w e) (after w e a) (keeps w a e i)

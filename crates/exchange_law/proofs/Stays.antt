@@ -13,7 +13,7 @@ use Rattle.exchange_defs.specs.Network.{World, Event, Submit, Open, Push, Serve,
 use Rattle.exchange_defs.specs.Statements.{SettledStays}
 use Rattle.exchange_law.specs.Connections.{Settled as AllSettledOff, Taken, TakenOn, Creates, makes_open, its_create}
 use Rattle.server_law.proofs.Logic.{either, front_of}
-use Rattle.exchange_law.proofs.Run.{Holds, after, keeps, begins, found, awaited_of, without_same, next_of, always, ended_well}
+use Rattle.exchange_law.proofs.Run.{ConnectionsHold, after, keeps, begins, found, awaited_of, without_same, next_of, always, ended_well}
 
 -- the row of a number that isn't taken is as in the beginning
 abbrev pub Beyond : Client → Type 0
@@ -284,7 +284,7 @@ absorb_stays : (w : World) (k : ℕ) (xs : List Sent) → Stay w (absorb_front w
 absorb_stays w k [] = kept_same w.client
 absorb_stays w k (x ∷ rest) = kept_same w.client
 
-event_stays : (w : World) (a : ℕ → ℕ) (e : Event) → Holds w a → Stay w (happens w e)
+event_stays : (w : World) (a : ℕ → ℕ) (e : Event) → ConnectionsHold w a → Stay w (happens w e)
 event_stays w a (Submit g op) i = either (Kept w.client) (may_take w.client g op) _ _ (λ may. kept_take w.client g op _ (next_of w.client g op may)) (λ _. kept_same w.client)
 event_stays w a (Open k) i = either (Stay w) (may_open w k) _ _ (λ _. kept_same w.client) (λ _. kept_same w.client)
 event_stays w a (Push k slotless pick) i =
@@ -303,7 +303,7 @@ event_stays w a (Finish refusal) i = either (Stay w) (not w.client.live) _ _ (λ
 
 -- ---- runs
 
-run_stays : (es : List Event) (w : World) (a : ℕ → ℕ) → Holds w a → Stay w (run es w)
+run_stays : (es : List Event) (w : World) (a : ℕ → ℕ) → ConnectionsHold w a → Stay w (run es w)
 unfolding run
 run_stays [] w a i = kept_same w.client
 run_stays (e ∷ es) w a i = kept_on w.client (happens w e).client (run es (happens w e)).client (event_stays w a e i) (run_stays es (happens w e) (after w e a) (keeps w a e i))

@@ -4,9 +4,9 @@ use thiserror::Error;
 /// Why a call on the files is refused. The files are then as before.
 #[derive(Debug, PartialEq, Eq, Drop, Error)]
 pub enum StoreError {
-    #[error("no memory")]
+    #[error("memory ran out")]
     Memory,
-    #[error("the call is answered with the status {0:08x}")]
+    #[error("the call is answered with the status {0:#010x}")]
     Status(u32),
 }
 

@@ -1,11 +1,11 @@
--- Which bytes stand for which bodies. A journal is a mark, then for each body an open gate, the body's
+-- Which bytes stand for which bodies. A journal is a magic, then for each body an open gate, the body's
 -- length in four bytes and the body, and behind the last one a closed gate and any bytes.
 use Rattle.std.specs.Prelude.{◌≡◌, ◌≢◌, ◌⊎◌, ℕ, ◌+◌, ◌^◌, ◌<◌, ◌≤◌, List, [], ◌∷◌, ◌++◌, length, take, get_or}
 use Rattle.wire_defs.specs.Places.{le, number_of}
 
--- the mark at the front: `smb311j1`
-abbrev pub mark : List ℕ
-mark = 115 ∷ 109 ∷ 98 ∷ 51 ∷ 49 ∷ 49 ∷ 106 ∷ 49 ∷ []
+-- the magic at the front: `smb311j1`
+abbrev pub magic : List ℕ
+magic = 115 ∷ 109 ∷ 98 ∷ 51 ∷ 49 ∷ 49 ∷ 106 ∷ 49 ∷ []
 
 -- a gate is open exactly where it is 01, and else closed
 abbrev pub IsClosed : ℕ → Type 0
@@ -22,7 +22,7 @@ opened (body ∷ bodies) = 1 ∷ (entry body ++ opened bodies)
 
 -- all that stands before the gate behind these bodies
 abbrev pub front : List (List ℕ) → List ℕ
-front bodies = mark ++ opened bodies
+front bodies = magic ++ opened bodies
 
 -- four bytes can tell each body's length
 abbrev pub AllFit : List (List ℕ) → Type 0
@@ -30,7 +30,7 @@ AllFit [] = Unit {0}
 AllFit (body ∷ bodies) = (length body < 2 ^ 32) × AllFit bodies
 
 -- these bodies, a closed gate and any bytes
-pub record Holds (bytes : List ℕ) (bodies : List (List ℕ)) : Type 0 where
+pub record JournalHolds (bytes : List ℕ) (bodies : List (List ℕ)) : Type 0 where
   pub gate : ℕ
   pub rest : List ℕ
   pub spelled : bytes ≡ front bodies ++ gate ∷ rest
@@ -39,13 +39,13 @@ pub record Holds (bytes : List ℕ) (bodies : List (List ℕ)) : Type 0 where
 
 -- What bytes stand for. At most 9 bytes stand for no bodies, whatever they are.
 abbrev pub StandsFor : List ℕ → List (List ℕ) → Type 0
-StandsFor bytes bodies = ((length bytes ≤ 9) × (bodies ≡ [])) ⊎ Holds bytes bodies
+StandsFor bytes bodies = ((length bytes ≤ 9) × (bodies ≡ [])) ⊎ JournalHolds bytes bodies
 
 -- This byte is the first that isn't the mark's.
 pub record DiffersAt (bytes : List ℕ) (at : ℕ) : Type 0 where
   pub within : at < 8
-  pub same : take at bytes ≡ take at mark
-  pub other : get_or bytes at 0 ≢ get_or mark at 0
+  pub same : take at bytes ≡ take at magic
+  pub other : get_or bytes at 0 ≢ get_or magic at 0
 
 -- Behind these bodies stands an open gate, and the bytes end before the gate that its entry wants behind it.
 pub record EndsEarlyAt (bytes : List ℕ) (at : ℕ) : Type 0 where

@@ -5,10 +5,10 @@ use thiserror::Error;
 /// Why bytes give no list of records.
 #[derive(Clone, Copy, Debug, PartialEq, Eq, Error)]
 pub enum RecordError {
-    #[error("out of memory")]
+    #[error("memory ran out")]
     Memory,
     /// The place in the body where the first record would begin that is none.
-    #[error("no record begins at place {0} of the body")]
+    #[error("no record begins at byte {0} of the body")]
     BadRecord(usize),
 }
 

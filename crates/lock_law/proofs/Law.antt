@@ -20,7 +20,7 @@ use Rattle.session_law.proofs.Always.{sessions}
 use Rattle.session_law.proofs.KindsAlways.{kinds}
 use Rattle.create_law.proofs.Law.{creates, at_most_of, acknowledged_of, never_of}
 use Rattle.lock_law.specs.Locks.{locking, refused_for_good}
-use Rattle.lock_law.proofs.Pushing.{Holds}
+use Rattle.lock_law.proofs.Pushing.{LocksHold}
 use Rattle.lock_law.proofs.Run.{Known, keeps}
 use Rattle.server_law.proofs.Logic.{other_on}
 
@@ -64,7 +64,7 @@ known z es =
       anew_kept = λ k may. anew_kept w k may (one_event_on (λ (v : World) a. Recovers v.records v.server) z (recovers z (fitting z)) es (Serve k));
     }
 
-begins : (z : Settings) → Holds (start z) (λ g. 0)
+begins : (z : Settings) → LocksHold (start z) (λ g. 0)
 unfolding fold_from sweep
 begins z =
     record {
@@ -116,8 +116,8 @@ begins z =
       refused_not = λ g l e. refl;
     }
 
-pub locks : (z : Settings) → (es : List Event) → At Holds z es
-locks z = on_every_run Holds z (begins z) (λ es e h. keeps (run es (start z)) (acts es (start z)) e (known z es) (λ k may. absorbed_links (run es (start z)) (acts es (start z)) k (connections z es) ((run es (start z)).conns k).up refl) h)
+pub locks : (z : Settings) → (es : List Event) → At LocksHold z es
+locks z = on_every_run LocksHold z (begins z) (λ es e h. keeps (run es (start z)) (acts es (start z)) e (known z es) (λ k may. absorbed_links (run es (start z)) (acts es (start z)) k (connections z es) ((run es (start z)).conns k).up refl) h)
 
 -- ---- acts
 

@@ -24,8 +24,8 @@ use Rattle.lock_law.proofs.Again.{again_keeps}
 use Rattle.lock_law.proofs.Send.{send_keeps}
 use Rattle.lock_law.proofs.Ask.{ask_keeps}
 
-abbrev pub Holds : World → (ℕ → ℕ) → Type 0
-Holds w a = Locks w.client w.conns w.server a
+abbrev pub LocksHold : World → (ℕ → ℕ) → Type 0
+LocksHold w a = Locks w.client w.conns w.server a
 
 -- both of the connections and of locks
 abbrev pub Both : Client → (ℕ → Conn) → Server → (ℕ → ℕ) → Type 0
@@ -220,7 +220,7 @@ lowest_before c d g e f low = subst (λ z. LowestIn c.op z g) f (subst (λ z. Lo
 
 -- of the world behind it the connections are known already
 abbrev Then : World → ℕ → (ℕ → ℕ) → Client → Act → Type 0
-Then w k a d x = Connections (pushed_by w k d x).client (pushed_by w k d x).conns a → Holds (pushed_by w k d x) a
+Then w k a d x = Connections (pushed_by w k d x).client (pushed_by w k d x).conns a → LocksHold (pushed_by w k d x) a
 
 pushes_op : (w : World) (a : ℕ → ℕ) (k g n : ℕ) (c : Client) → c.live ≡ true → (w.conns k).client_open ≡ true → Both c w.conns w.server a
     → Then w k a (pick_after c k (Some (record { op = g; slot = n }))) (pick_act c k (Some (record { op = g; slot = n })))
@@ -248,7 +248,7 @@ unfolding settle_no_slots
 live_stays c k [] = refl
 live_stays c k (g ∷ gs) = live_stays (settle_no_slot c k g) k gs ∙ live_still c k g
 
-pub pushes : (w : World) (a : ℕ → ℕ) (k : ℕ) (slotless : List ℕ) (pick : Option Pick) → w.client.ready k ≡ true → Both w.client w.conns w.server a → Connections (changed w (Push k slotless pick)).client (changed w (Push k slotless pick)).conns a → Holds (changed w (Push k slotless pick)) a
+pub pushes : (w : World) (a : ℕ → ℕ) (k : ℕ) (slotless : List ℕ) (pick : Option Pick) → w.client.ready k ≡ true → Both w.client w.conns w.server a → Connections (changed w (Push k slotless pick)).client (changed w (Push k slotless pick)).conns a → LocksHold (changed w (Push k slotless pick)) a
 pushes w a k slotless pick ready i =
     let rd = i.0.ready k ready in
     both_ways (Then w k a) (w.client.ready k) _ _ _ _

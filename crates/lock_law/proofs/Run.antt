@@ -30,7 +30,7 @@ use Rattle.lock_law.proofs.Words.{down_is_open}
 use Rattle.lock_law.proofs.Serving.{counted, Served}
 use Rattle.lock_law.proofs.Serve.{Under, served}
 use Rattle.lock_law.proofs.Ends.{accepts, ends}
-use Rattle.lock_law.proofs.Pushing.{Holds, pushes}
+use Rattle.lock_law.proofs.Pushing.{LocksHold, pushes}
 use Rattle.lock_law.proofs.Lines.{Tells, heard_tells}
 use Rattle.lock_law.proofs.Settling.{settles, own_for}
 use Rattle.lock_law.proofs.Taking.{Taken, says_of}
@@ -98,7 +98,7 @@ first_gone c g op made m sh =
     either P (is_create op) Unsettled (if is_gone c (create_of g op) then NoOpen (create_of g op) else Unsettled) (λ e. absurd (grind arith))
     (λ _. either P (is_gone c (create_of g op)) (NoOpen (create_of g op)) Unsettled (λ _. refl) (λ off. absurd (let x = sym (gone_shut c (create_of g op) (c.outcome (create_of g op)) (made (create_of g op) sh) sh) ∙ off in cc)))
 
-submits : (w : World) (a : ℕ → ℕ) (g : ℕ) (op : Op) → Known w a → Holds w a → Holds (changed w (Submit g op)) a
+submits : (w : World) (a : ℕ → ℕ) (g : ℕ) (op : Op) → Known w a → LocksHold w a → LocksHold (changed w (Submit g op)) a
 submits w a g op b i =
     let c = w.client in
     either (λ d. Locks d w.conns w.server a) (may_take c g op) _ _
@@ -108,14 +108,14 @@ submits w a g op b i =
 
 -- ---- Serve
 
-takes_front : (w : World) (a : ℕ → ℕ) (k : ℕ) (x : Sent) (rest : List Sent) → (w.conns k).up ≡ x ∷ rest → Served w.client w.conns a k x (answer w x) → Holds (absorbed w k x rest (answer w x)) (counted a x.token (answer w x).acted)
+takes_front : (w : World) (a : ℕ → ℕ) (k : ℕ) (x : Sent) (rest : List Sent) → (w.conns k).up ≡ x ∷ rest → Served w.client w.conns a k x (answer w x) → LocksHold (absorbed w k x rest (answer w x)) (counted a x.token (answer w x).acted)
 takes_front w a k x rest is good = front_keeps w.client w.conns (answer w x).server (counted a x.token (answer w x).acted) k x rest is good.0
 
-heads : (w : World) (a : ℕ → ℕ) (k : ℕ) (x : Sent) (rest : List Sent) → (w.conns k).up ≡ x ∷ rest → Known w a → Holds w a → Served w.client w.conns a k x (answer w x)
+heads : (w : World) (a : ℕ → ℕ) (k : ℕ) (x : Sent) (rest : List Sent) → (w.conns k).up ≡ x ∷ rest → Known w a → LocksHold w a → Served w.client w.conns a k x (answer w x)
 heads w a k x rest is b i = served w.client w.conns w.server a k x w.moment b.under i (front_up (w.conns k).up x rest is) x.message.command refl
 
 says : (w : World) (a : ℕ → ℕ) (k : ℕ) (x : Sent) (rest : List Sent) (place : ℕ) → (w.conns k).up ≡ x ∷ rest → Served w.client w.conns a k x (answer w x)
-    → Holds (replied (absorbed w k x rest (answer w x)) k (record { token = x.token; reply = (answer w x).reply; place = place })) (counted a x.token (answer w x).acted)
+    → LocksHold (replied (absorbed w k x rest (answer w x)) k (record { token = x.token; reply = (answer w x).reply; place = place })) (counted a x.token (answer w x).acted)
 says w a k x rest place is good =
     let f : ℕ → Conn = put w.conns k (behind_front (w.conns k) rest) in
     let A : Answer = answer w x in
@@ -124,16 +124,16 @@ says w a k x rest place is good =
     (λ o. say_told w.client f A.server (counted a x.token A.acted) k (record { token = x.token; reply = A.reply; place = place }) (good.1 (still_open w.conns k rest o) place) j)
     (λ _. subst (λ d. Locks w.client d A.server (counted a x.token A.acted)) (put_self f k) j)
 
-serves : (w : World) (a : ℕ → ℕ) (k : ℕ) → Known w a → Holds w a → (xs : List Sent) → (w.conns k).up ≡ xs → Holds (serve_front w k xs) (λ g. if front_acts w xs g then a g + 1 else a g)
+serves : (w : World) (a : ℕ → ℕ) (k : ℕ) → Known w a → LocksHold w a → (xs : List Sent) → (w.conns k).up ≡ xs → LocksHold (serve_front w k xs) (λ g. if front_acts w xs g then a g + 1 else a g)
 serves w a k b i [] is = i
 serves w a k b i (x ∷ rest) is = says w a k x rest w.log.places is (heads w a k x rest is b i)
 
-absorbs : (w : World) (a : ℕ → ℕ) (k : ℕ) → Known w a → Holds w a → (xs : List Sent) → (w.conns k).up ≡ xs → Holds (absorb_front w k xs) (λ g. if front_acts w xs g then a g + 1 else a g)
+absorbs : (w : World) (a : ℕ → ℕ) (k : ℕ) → Known w a → LocksHold w a → (xs : List Sent) → (w.conns k).up ≡ xs → LocksHold (absorb_front w k xs) (λ g. if front_acts w xs g then a g + 1 else a g)
 absorbs w a k b i [] is = i
 absorbs w a k b i (x ∷ rest) is = takes_front w a k x rest is (heads w a k x rest is b i)
 
-serve_open : (w : World) (a : ℕ → ℕ) (k : ℕ) → Known w a → Holds w a → (b : Bool)
-    → Holds (if b then later (serve_front w k (w.conns k).up) 1 else w) (λ g. if b && front_acts w (w.conns k).up g then a g + 1 else a g)
+serve_open : (w : World) (a : ℕ → ℕ) (k : ℕ) → Known w a → LocksHold w a → (b : Bool)
+    → LocksHold (if b then later (serve_front w k (w.conns k).up) 1 else w) (λ g. if b && front_acts w (w.conns k).up g then a g + 1 else a g)
 serve_open w a k f i true = serves w a k f i (w.conns k).up refl
 serve_open w a k f i false = i
 
@@ -163,11 +163,11 @@ anew_locks c conns s u a C grown r i =
     (λ j n g y h t e lv p st off. no_two (u.present c.session) _ p (r.bare.absent c.session))
     C i
 
-restarts : (w : World) (a : ℕ → ℕ) → Connections w.client w.conns a → Restarted w.server (restarted w).server → Holds w a → Holds (restarted w) a
+restarts : (w : World) (a : ℕ → ℕ) → Connections w.client w.conns a → Restarted w.server (restarted w).server → LocksHold w a → LocksHold (restarted w) a
 restarts w a C r i = all_dropped_keeps w.client w.conns (restarted w).server a (anew_locks w.client w.conns w.server (restarted w).server a C (more_journal w.server.journal (entry_bytes (recovery_records w.records))) r i)
 
-crash_open : (w : World) (a : ℕ → ℕ) (k : ℕ) → Known w a → (may_serve w k ≡ true → Connections (absorb_front w k (w.conns k).up).client (absorb_front w k (w.conns k).up).conns (λ g. if front_acts w (w.conns k).up g then a g + 1 else a g)) → Holds w a → (kept b : Bool) → may_serve w k ≡ b
-    → Holds (if b then later (if kept then restarted (absorb_front w k (w.conns k).up) else restarted w) 1 else w) (λ g. if kept && (b && front_acts w (w.conns k).up g) then a g + 1 else a g)
+crash_open : (w : World) (a : ℕ → ℕ) (k : ℕ) → Known w a → (may_serve w k ≡ true → Connections (absorb_front w k (w.conns k).up).client (absorb_front w k (w.conns k).up).conns (λ g. if front_acts w (w.conns k).up g then a g + 1 else a g)) → LocksHold w a → (kept b : Bool) → may_serve w k ≡ b
+    → LocksHold (if b then later (if kept then restarted (absorb_front w k (w.conns k).up) else restarted w) 1 else w) (λ g. if kept && (b && front_acts w (w.conns k).up g) then a g + 1 else a g)
 crash_open w a k f C i true true e = restarts (absorb_front w k (w.conns k).up) _ (C e) (f.anew_kept k e) (absorbs w a k f i (w.conns k).up refl)
 crash_open w a k f C i true false e = i
 crash_open w a k f C i false true e = restarts w a f.under.links f.anew i
@@ -242,7 +242,7 @@ attaches_by c g asking r = by_line
         (λ _. either Is (r.status == success) _ _ (λ s. by_ok asking refl s) (λ _. either Is (goes_again c g asking r.status) _ _ (λ _ f. absurd (cc)) (λ _. by_refused)))
 
 hears : (w : World) (a : ℕ → ℕ) (k g : ℕ) (asking : Bool) (y : Received) → Taken w.client w.conns w.server a k g asking y → (asking ≡ false → acts_once (w.client.op g) ≡ true → y.reply.status ≡ user_session_deleted → w.client.before g ≡ false → a g ≡ 0)
-    → (h : Hearing) → heard w.client g asking y.reply ≡ h → Holds (with_client (closed_by w k (act_heard h)) (hear w.client g asking y.reply y.place h)) a
+    → (h : Hearing) → heard w.client g asking y.reply ≡ h → LocksHold (with_client (closed_by w k (act_heard h)) (hear w.client g asking y.reply y.place h)) a
 hears w a k g asking y t gone (Settles o) e =
     let firm0 = heard_firm w.client g asking y.reply o e in
     settles w.client w.conns w.server a k g asking y.reply y.place o (says_of w.client w.conns w.server a k g asking y o t (subst (λ h. Tells (w.client.op g) asking (w.client.before g) y.reply.status h) e (heard_tells w.client g asking y.reply)) firm0)
@@ -257,10 +257,10 @@ hears w a k g asking y t gone EndsSession e =
     leaves (answered w.client g) w.conns w.server a
     (exchange_answered_keeps w.client w.conns a k g t.on t.none (λ o b q. gone (sym t.asks ∙ q) o (heard_ends w.client g asking y.reply e) b) t.links) (answered_keeps w.client w.conns w.server a g t.locks)
 
-took : (w : World) (a : ℕ → ℕ) (k g : ℕ) (asking : Bool) (y : Received) → (w.client.on g ≡ Some k → w.client.asking g ≡ asking → Taken w.client w.conns w.server a k g asking y) → (asking ≡ false → acts_once (w.client.op g) ≡ true → y.reply.status ≡ user_session_deleted → w.client.before g ≡ false → a g ≡ 0) → Holds w a
-    → Holds (op_took w k g asking y.reply y.place) a
+took : (w : World) (a : ℕ → ℕ) (k g : ℕ) (asking : Bool) (y : Received) → (w.client.on g ≡ Some k → w.client.asking g ≡ asking → Taken w.client w.conns w.server a k g asking y) → (asking ≡ false → acts_once (w.client.op g) ≡ true → y.reply.status ≡ user_session_deleted → w.client.before g ≡ false → a g ≡ 0) → LocksHold w a
+    → LocksHold (op_took w k g asking y.reply y.place) a
 took w a k g asking y t gone i =
-    both_ways (λ c x. Holds (with_client (closed_by w k x) c) a) (is_awaited w.client k g asking) (hear w.client g asking y.reply y.place (heard w.client g asking y.reply)) w.client (act_heard (heard w.client g asking y.reply)) Nothing
+    both_ways (λ c x. LocksHold (with_client (closed_by w k x) c) a) (is_awaited w.client k g asking) (hear w.client g asking y.reply y.place (heard w.client g asking y.reply)) w.client (act_heard (heard w.client g asking y.reply)) Nothing
     (λ aw. let q = awaited_of w.client k g asking aw in hears w a k g asking y (t q.0 q.1) gone (heard w.client g asking y.reply) refl)
     (λ _. i)
 
@@ -298,8 +298,8 @@ idle_down c conns s a k C ss e j n y h = elim (is_ops y.token) as (λ b. is_ops 
 ] refl
 
 -- of the connections in front of the reply the sessions are known
-dialogs : (w : World) (a : ℕ → ℕ) (k : ℕ) (rest : List Received) (y : Received) → (w.conns k).down ≡ y ∷ rest → Known w a → Connections w.client (put w.conns k (take_front (w.conns k) rest)) a → w.client.ready k ≡ false → Holds (behind_reply w k rest) a
-    → (d : DialogStep) → dialog_step (w.client.stage k) y.reply.status ≡ d → Holds (dialog_took (behind_reply w k rest) k y.reply d) a
+dialogs : (w : World) (a : ℕ → ℕ) (k : ℕ) (rest : List Received) (y : Received) → (w.conns k).down ≡ y ∷ rest → Known w a → Connections w.client (put w.conns k (take_front (w.conns k) rest)) a → w.client.ready k ≡ false → LocksHold (behind_reply w k rest) a
+    → (d : DialogStep) → dialog_step (w.client.stage k) y.reply.status ≡ d → LocksHold (dialog_took (behind_reply w k rest) k y.reply d) a
 dialogs w a k rest y is b C apart i (GoesOn stage) e =
     let f : ℕ → Conn = put w.conns k (take_front (w.conns k) rest) in
     dialog_sent_keeps (went_on w.client k stage y.reply) f w.server a k 1 (dialog_message (went_on w.client k stage y.reply) k (f k).next_id stage)
@@ -309,12 +309,12 @@ dialogs w a k rest y is b C apart i Accepts e =
     dialog_sent_keeps (accepted w.client k) f w.server a k 1 (dialog_message (accepted w.client k) k (f k).next_id AskedTree) (accepted_keeps w.client f w.server a k i)
 dialogs w a k rest y is b C apart i Binds e =
     let f : ℕ → Conn = put w.conns k (take_front (w.conns k) rest) in
-    ended_well (λ v. Holds v a) (behind_reply w k rest) k w.client.session w.client.tree (λ _. bound_keeps w.client f w.server a k i) (λ dead newer. absurd (omega (arith, newer)))
+    ended_well (λ v. LocksHold v a) (behind_reply w k rest) k w.client.session w.client.tree (λ _. bound_keeps w.client f w.server a k i) (λ dead newer. absurd (omega (arith, newer)))
     (dialog_off_keeps w.client f w.server a k apart C i)
 dialogs w a k rest y is b C apart i Readies e =
     let st = readies_stage (w.client.stage k) y.reply.status e in
     let f : ℕ → Conn = put w.conns k (take_front (w.conns k) rest) in
-    ended_well (λ v. Holds v a) (behind_reply w k rest) k w.client.pending y.reply.tree (λ _. bound_keeps w.client f w.server a k i)
+    ended_well (λ v. LocksHold v a) (behind_reply w k rest) k w.client.pending y.reply.tree (λ _. bound_keeps w.client f w.server a k i)
     (λ _ _. readied_keeps w.client f w.server a k w.client.pending y.reply.tree
     (λ j n x h o. absent_up w.client w.conns w.server k b.under.sessions st j n x (up_behind w.conns k rest j n x h) o)
     (λ j n z h. let v = waited_down w.conns k y rest j n z is h in idle_down w.client w.conns w.server a k b.under.links b.under.sessions st j v.0 z v.1) i)
@@ -352,7 +352,7 @@ named_by c conns s a k g y cr f f0 t m st sd =
 no_dialog : (c : Client) (conns : ℕ → Conn) (k : ℕ) → ((k : ℕ) → c.ready k ≡ true → (conns k).client_open ≡ true × c.live ≡ true × copies 0 (conns k) ≡ 0) → 1 ≤ copies 0 (conns k) → c.ready k ≡ false
 no_dialog c conns k r l = elim (c.ready k) as (λ b. c.ready k ≡ b → c.ready k ≡ false) [ true ↦ λ e. let q = (r k e).2 in absurd (omega (arith, q, l)) | false ↦ λ e. e ] refl
 
-takes_by : (w : World) (a : ℕ → ℕ) (k : ℕ) (y : Received) (rest : List Received) → (w.conns k).down ≡ y ∷ rest → Known w a → Holds w a → (t : Token) → y.token ≡ t → Holds (took_by (behind_reply w k rest) k y.reply y.place t) a
+takes_by : (w : World) (a : ℕ → ℕ) (k : ℕ) (y : Received) (rest : List Received) → (w.conns k).down ≡ y ∷ rest → Known w a → LocksHold w a → (t : Token) → y.token ≡ t → LocksHold (took_by (behind_reply w k rest) k y.reply y.place t) a
 takes_by w a k y rest is b i ForDialog e =
     let C = b.under.links in let f0 = front_down (w.conns k).down y rest is in
     dialogs w a k rest y is b (exchange_behind_keeps w.client w.conns a k y rest is C)
@@ -397,21 +397,21 @@ takes_by w a k y rest is b i (ForAttach g) e =
     })
     (λ q. absurd (cc)) (behind_keeps w.client w.conns w.server a k y rest is i)
 
-takes : (w : World) (a : ℕ → ℕ) (k : ℕ) → Known w a → Holds w a → (ys : List Received) → (w.conns k).down ≡ ys → Holds (take_reply w k ys) a
+takes : (w : World) (a : ℕ → ℕ) (k : ℕ) → Known w a → LocksHold w a → (ys : List Received) → (w.conns k).down ≡ ys → LocksHold (take_reply w k ys) a
 takes w a k b i [] is = i
 takes w a k b i (y ∷ rest) is = takes_by w a k y rest is b i y.token refl
 
 -- ---- Cut and Finish
 
-cuts_ready : (w : World) (a : ℕ → ℕ) (k : ℕ) → Connections w.client w.conns a → Holds w a → (b e : Bool) → b ≡ true
-    → Holds (with_client (cut_by w k (if b && e then CloseChannels else Nothing)) (if b then (if e then end_session w.client else cut_channel w.client k) else w.client)) a
+cuts_ready : (w : World) (a : ℕ → ℕ) (k : ℕ) → Connections w.client w.conns a → LocksHold w a → (b e : Bool) → b ≡ true
+    → LocksHold (with_client (cut_by w k (if b && e then CloseChannels else Nothing)) (if b then (if e then end_session w.client else cut_channel w.client k) else w.client)) a
 cuts_ready w a k C i true true h = leaves w.client w.conns w.server a C i
 cuts_ready w a k C i true false h = cut_keeps w.client w.conns w.server a k C i
 cuts_ready w a k C i false e h = absurd (cc)
 
-cuts : (w : World) (a : ℕ → ℕ) (k : ℕ) → Connections w.client w.conns a → Holds w a → Holds (changed w (Cut k)) a
+cuts : (w : World) (a : ℕ → ℕ) (k : ℕ) → Connections w.client w.conns a → LocksHold w a → LocksHold (changed w (Cut k)) a
 cuts w a k C i =
-    either (λ v. Holds v a) (w.client.ready k) _ _ (λ ready. cuts_ready w a k C i (w.client.ready k) (ends_at_cut w.client) ready) (λ apart. dialog_off_keeps w.client w.conns w.server a k apart C i)
+    either (λ v. LocksHold v a) (w.client.ready k) _ _ (λ ready. cuts_ready w a k C i (w.client.ready k) (ends_at_cut w.client) ready) (λ apart. dialog_off_keeps w.client w.conns w.server a k apart C i)
 
 finish_same : (why : Why) (b : Bool) (o : Outcome) → is_unsettled o ≡ false → (if b then outcome_after_finish why o else o) ≡ o
 finish_same why true Unsettled e = absurd (cc)
@@ -439,16 +439,16 @@ finishes c conns s a why dead C i =
 
 -- ---- every event
 
-pub keeps : (w : World) (a : ℕ → ℕ) (e : Event) → Known w a → ((k : ℕ) → may_serve w k ≡ true → Connections (absorb_front w k (w.conns k).up).client (absorb_front w k (w.conns k).up).conns (λ g. if front_acts w (w.conns k).up g then a g + 1 else a g)) → Holds w a → Holds (happens w e) (after w e a)
+pub keeps : (w : World) (a : ℕ → ℕ) (e : Event) → Known w a → ((k : ℕ) → may_serve w k ≡ true → Connections (absorb_front w k (w.conns k).up).client (absorb_front w k (w.conns k).up).conns (λ g. if front_acts w (w.conns k).up g then a g + 1 else a g)) → LocksHold w a → LocksHold (happens w e) (after w e a)
 keeps w a (Submit g op) b C i = submits w a g op b i
 keeps w a (Open k) b C i =
-    either (λ v. Holds v a) (may_open w k) _ _ (λ m. opened_keeps w.client w.conns _ a k _ (closed_of w k m) (accepts w.client w.conns w.server a k w.moment b.under i)) (λ _. i)
-keeps w a (Push k slotless pick) b C i = either (λ v. Holds v a) (w.client.ready k) _ _ (λ ready. pushes w a k slotless pick ready (b.under.links, i) (b.pushed k slotless pick ready)) (λ _. i)
+    either (λ v. LocksHold v a) (may_open w k) _ _ (λ m. opened_keeps w.client w.conns _ a k _ (closed_of w k m) (accepts w.client w.conns w.server a k w.moment b.under i)) (λ _. i)
+keeps w a (Push k slotless pick) b C i = either (λ v. LocksHold v a) (w.client.ready k) _ _ (λ ready. pushes w a k slotless pick ready (b.under.links, i) (b.pushed k slotless pick ready)) (λ _. i)
 keeps w a (Serve k) b C i = serve_open w a k b i (may_serve w k)
-keeps w a (Take k) b C i = either (λ v. Holds v a) ((w.conns k).client_open && is_filled (w.conns k).down) _ _ (λ m. takes w a k b i (w.conns k).down refl) (λ _. i)
-keeps w a (Cut k) b C i = either (λ v. Holds v a) (w.conns k).client_open _ _ (λ _. cuts w a k b.under.links i) (λ _. i)
-keeps w a (Drop k) b C i = either (λ v. Holds v a) (w.conns k).server_open _ _ (λ _. dropped_keeps w.client w.conns _ a k (ends w.client w.conns w.server a k w.moment b.under i)) (λ _. i)
+keeps w a (Take k) b C i = either (λ v. LocksHold v a) ((w.conns k).client_open && is_filled (w.conns k).down) _ _ (λ m. takes w a k b i (w.conns k).down refl) (λ _. i)
+keeps w a (Cut k) b C i = either (λ v. LocksHold v a) (w.conns k).client_open _ _ (λ _. cuts w a k b.under.links i) (λ _. i)
+keeps w a (Drop k) b C i = either (λ v. LocksHold v a) (w.conns k).server_open _ _ (λ _. dropped_keeps w.client w.conns _ a k (ends w.client w.conns w.server a k w.moment b.under i)) (λ _. i)
 keeps w a Restart b C i = restarts w a b.under.links b.anew i
 keeps w a (Crash k kept) b C i = crash_open w a k b (C k) i kept (may_serve w k) refl
 keeps w a (Wait n) b C i = i
-keeps w a (Finish refusal) b C i = either (λ v. Holds v a) (not w.client.live) _ _ (λ d. finishes w.client w.conns w.server a (NoSession refusal) (not_true w.client.live d) b.under.links i) (λ _. i)
+keeps w a (Finish refusal) b C i = either (λ v. LocksHold v a) (not w.client.live) _ _ (λ d. finishes w.client w.conns w.server a (NoSession refusal) (not_true w.client.live d) b.under.links i) (λ _. i)

@@ -17,7 +17,7 @@ use Rattle.lock_law.proofs.Settle.{settle_keeps}
 
 -- ---- what is known of the operation that settles
 
-pub record Told (d : Client) (conns : ℕ → Conn) (s : Server) (a : ℕ → ℕ) (g : ℕ) (o : Outcome) (fu : ℕ → ℕ → Bool) : Type 0 where
+pub record OperationSettles (d : Client) (conns : ℕ → Conn) (s : Server) (a : ℕ → ℕ) (g : ℕ) (o : Outcome) (fu : ℕ → ℕ → Bool) : Type 0 where
   pub full_same : (p : ℕ) → p ≢ g → user_at d p ≡ Some p → fu (create_at d p) (d.slot_of p) ≡ d.full (create_at d p) (d.slot_of p)
   pub kept : firm o ≡ true → user_at d g ≡ Some g → fu (create_at d g) (d.slot_of g) ≡ false → s.standing (open_at d g) ≡ true → is_some (kept_of d s g) ≡ true
   pub made : (r : ℕ) → is_ok o ≡ true → makes_open (d.op g) ≡ true → s.standing (d.file g) ≡ true → s.slots (d.file g) r ≡ None
@@ -36,7 +36,7 @@ pub record Ready (d : Client) (conns : ℕ → Conn) (s : Server) (a : ℕ → �
   pub pending : is_unsettled (d.outcome g) ≡ true
   pub firm : is_unsettled o ≡ false
   pub real : is_unsent o ≡ false
-  pub told : Told d conns s a g o fu
+  pub told : OperationSettles d conns s a g o fu
 
 abbrev pub done_at : Client → ℕ → Outcome → (ℕ → Bool) → (ℕ → ℕ → Bool) → ℕ → Client
 done_at d g o sh fu place = record d { outcome = put d.outcome g o; on = put d.on g None; by = put d.by g (Some place); order = d.order ++ g ∷ []; shut = sh; full = fu }

@@ -13,7 +13,7 @@ use Rattle.lock_law.specs.Locks.{Locks, locking, open_at, user_at, kept_of, firm
 use Rattle.lock_law.proofs.Words.{lock_once, lock_stays, close_kind, unsettled_ok, more_up, up_on}
 use Rattle.lock_law.proofs.Lines.{Tells}
 use Rattle.lock_law.proofs.Opens.{opens_keeps}
-use Rattle.lock_law.proofs.Settling.{Told, Says, filled, opened, own_for, kind_close, kind_lock, create_unshut, still}
+use Rattle.lock_law.proofs.Settling.{OperationSettles, Says, filled, opened, own_for, kind_close, kind_lock, create_unshut, still}
 use Rattle.lock_law.proofs.Say.{MaySay}
 use Rattle.exchange_defs.specs.Settling.{Settles}
 use Rattle.server_law.proofs.Logic.{other_on, other_off}
@@ -123,7 +123,7 @@ is_it st n e = rw e (same_number n)
 isnt : (st n : ℕ) → st ≢ n → (st == n) ≡ false
 isnt st n d = elim (st == n) as (λ b. st == n ≡ b → (st == n) ≡ false) [ true ↦ λ e. absurd (d (eqb-true st n e)) | false ↦ λ e. e ] refl
 
-plain_told : (c : Client) (conns : ℕ → Conn) (s : Server) (a : ℕ → ℕ) (k g : ℕ) (asking : Bool) (y : Received) (o : Outcome) → Taken c conns s a k g asking y → Tells (c.op g) asking (c.before g) y.reply.status (Settles o) → is_unsettled o ≡ false → (makes_open (c.op g) ≡ true → is_ok o ≡ false) → Told c conns s a g o (filled c g asking y.reply.status)
+plain_told : (c : Client) (conns : ℕ → Conn) (s : Server) (a : ℕ → ℕ) (k g : ℕ) (asking : Bool) (y : Received) (o : Outcome) → Taken c conns s a k g asking y → Tells (c.op g) asking (c.before g) y.reply.status (Settles o) → is_unsettled o ≡ false → (makes_open (c.op g) ≡ true → is_ok o ≡ false) → OperationSettles c conns s a g o (filled c g asking y.reply.status)
 plain_told c conns s a k g asking y o w tells settled0 unmade =
     record {
       full_same = same_full c conns s a k g asking y w;
@@ -200,7 +200,7 @@ unfolding makes_open locking
 create_no_lock op e = grind arith
 
 open_told : (c : Client) (conns : ℕ → Conn) (s : Server) (a : ℕ → ℕ) (k g : ℕ) (asking : Bool) (y : Received) (o : Outcome) → Taken c conns s a k g asking y → Tells (c.op g) asking (c.before g) y.reply.status (Settles o) → makes_open (c.op g) ≡ true → is_ok o ≡ true
-    → Told (opened c g (id_in y.reply.body)) conns s a g o (filled c g asking y.reply.status)
+    → OperationSettles (opened c g (id_in y.reply.body)) conns s a g o (filled c g asking y.reply.status)
 open_told c conns s a k g asking y o w tells mk ok =
     let t = tells.ok ok (create_unclosed (c.op g) mk) in
     let id = id_in y.reply.body in

@@ -55,8 +55,8 @@ not_making c s x k u r = by_test (is_new x (s.making k)) refl
     by_test true e = let z = u k x e in absurd (omega (arith, z, r))
     by_test false e = e
 
-abbrev pub Holds : World → (ℕ → ℕ) → Type 0
-Holds w a = Contents w.client w.conns w.server w.trace w.log a
+abbrev pub ContentsHold : World → (ℕ → ℕ) → Type 0
+ContentsHold w a = Contents w.client w.conns w.server w.trace w.log a
 
 none_or : (o : Option ℕ) → ((n : ℕ) → o ≡ Some n → ⊥) → o ≡ None
 none_or None f = refl
@@ -71,7 +71,7 @@ acted_once a x A o ac = let z = own_of x.token o in by_send (is_send_of (op_of x
     by_send : (b : Bool) → b ≡ true → A.acted ≡ true → (if b && A.acted then a (op_of x.token) + 1 else a (op_of x.token)) ≡ a (op_of x.token) + 1
     by_send b e f = grind arith
 
-pub taking : (w : World) (a : ℕ → ℕ) (k : ℕ) (x0 : Sent) (rest : List Sent) → (w.conns k).up ≡ x0 ∷ rest → Lower w a → ((g : ℕ) → makes_open (w.client.op g) ≡ true → new_acts a x0 (answer w x0) g ≤ 1) → Holds w a
+pub taking : (w : World) (a : ℕ → ℕ) (k : ℕ) (x0 : Sent) (rest : List Sent) → (w.conns k).up ≡ x0 ∷ rest → Lower w a → ((g : ℕ) → makes_open (w.client.op g) ≡ true → new_acts a x0 (answer w x0) g ≤ 1) → ContentsHold w a
     → Taking w.client w.server w.trace x0 (answer w x0)
 taking w a k x0 rest is l most i =
     record {
@@ -194,7 +194,7 @@ own_session (Some y) x e f = absurd (let z = f y refl in grind arith)
 guid_test : (g : ℕ) (o : Option ℕ) → o ≡ Some g → has_guid g o ≡ true
 guid_test g o e = grind arith
 
-pub said : (w : World) (a : ℕ → ℕ) (k : ℕ) (x0 : Sent) (rest : List Sent) → (w.conns k).up ≡ x0 ∷ rest → (w.conns k).client_open ≡ true → Lower w a → Taking w.client w.server w.trace x0 (answer w x0) → Holds w a → Said w a k x0 (answer w x0)
+pub said : (w : World) (a : ℕ → ℕ) (k : ℕ) (x0 : Sent) (rest : List Sent) → (w.conns k).up ≡ x0 ∷ rest → (w.conns k).client_open ≡ true → Lower w a → Taking w.client w.server w.trace x0 (answer w x0) → ContentsHold w a → Said w a k x0 (answer w x0)
 said w a k x0 rest is opn l t i =
     record {
       not_done = λ p tk ed bad. let f = t.listed p tk (lists_edit (c.op p) ed) in idle_of A.acted A.reply.status (λ ac. (f.acts ac).4) bad;

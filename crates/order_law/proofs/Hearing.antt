@@ -21,7 +21,7 @@ use Rattle.exchange_law.proofs.Run.{own_create, Noted, noted_keeps as noted_conn
 use Rattle.session_law.specs.Sessions.{is_ops}
 use Rattle.order_law.specs.Newest.{Pair}
 use Rattle.order_law.specs.Contents.{Contents, lists, edits, formed, file_at, last_id, is_final, TokenUp}
-use Rattle.order_law.proofs.Front.{Holds}
+use Rattle.order_law.proofs.Front.{ContentsHold}
 use Rattle.order_law.proofs.Words.{ops_of, attach_of, edits_other, sent_of}
 use Rattle.order_law.proofs.OnAnswered.{answered_keeps}
 use Rattle.order_law.proofs.OnJoined.{joined_keeps}
@@ -127,7 +127,7 @@ value_said (OpClose create) body v ls e = absurd (cc)
 
 -- ---- what is known of a reply that is taken, its connection being behind it
 
-pub record Told (c : Client) (conns : ℕ → Conn) (s : Server) (t : Trace) (l : Log) (k g : ℕ) (asking : Bool) (r : Reply) (place : ℕ) : Type 0 where
+pub record ReplyTaken (c : Client) (conns : ℕ → Conn) (s : Server) (t : Trace) (l : Log) (k g : ℕ) (asking : Bool) (r : Reply) (place : ℕ) : Type 0 where
   pub on : c.on g ≡ Some k
   pub asks : c.asking g ≡ asking
   pub none : copies g (conns k) ≡ 0
@@ -172,7 +172,7 @@ clash b e f = absurd (grind arith)
 other_conn : (f : ℕ → Conn) (j k : ℕ) → (f j).client_open ≡ false → (f k).client_open ≡ true → j ≢ k
 other_conn f j k e o = grind arith
 
-dead : (c : Client) (conns : ℕ → Conn) (s : Server) (t : Trace) (l : Log) (a : ℕ → ℕ) (k g : ℕ) (asking : Bool) (r : Reply) (place : ℕ) (o : Outcome) → Connections c conns a → Contents c conns s t l a → Told c conns s t l k g asking r place
+dead : (c : Client) (conns : ℕ → Conn) (s : Server) (t : Trace) (l : Log) (a : ℕ → ℕ) (k g : ℕ) (asking : Bool) (r : Reply) (place : ℕ) (o : Outcome) → Connections c conns a → Contents c conns s t l a → ReplyTaken c conns s t l k g asking r place
     → heard c g asking r ≡ Settles o → (j n : ℕ) (x : Sent) → slice_get (conns j).up n ≡ Some x → x.token ≡ ForOp g → edits (c.op g) ≡ true → formed (c.op g) ≡ true → s.standing (file_at c g) ≡ true → s.present x.message.session ≡ true
     → s.sequence (file_at c g) ≤ x.message.sequence → ⊥
 dead c conns s t l a k g asking r place o cn i d he j n x h e ed fm sd pr le = by_asking asking refl
@@ -264,7 +264,7 @@ open_down c conns a cn j n y h = by_test (conns j).client_open refl
     by_test true e = e
     by_test false e = absurd (none_in n y (subst (λ ys. slice_get ys n ≡ Some y) (cn.down_open j e) h))
 
-opened_create : (c : Client) (conns : ℕ → Conn) (s : Server) (t : Trace) (l : Log) (a : ℕ → ℕ) (k g : ℕ) (asking : Bool) (r : Reply) (place : ℕ) → Connections c conns a → Contents c conns s t l a → Told c conns s t l k g asking r place
+opened_create : (c : Client) (conns : ℕ → Conn) (s : Server) (t : Trace) (l : Log) (a : ℕ → ℕ) (k g : ℕ) (asking : Bool) (r : Reply) (place : ℕ) → Connections c conns a → Contents c conns s t l a → ReplyTaken c conns s t l k g asking r place
     → is_unsettled (c.outcome g) ≡ true → asking ≡ false → (Pair s c.session 0 (id_in r.body) × id_in r.body ≤ last_id s) → Contents (record c { file = put c.file g (id_in r.body); attached = put c.attached g c.number }) conns s t l a
 opened_create c conns s t l a k g asking r place cn i d u own_g pair =
     opens_keeps c conns s t l a g (id_in r.body) u pair
@@ -283,7 +283,7 @@ opened_create c conns s t l a k g asking r place cn i d u own_g pair =
 same_marked : (c : Client) (conns : ℕ → Conn) (s : Server) (t : Trace) (l : Log) (a : ℕ → ℕ) (g : ℕ) (o : Outcome) → is_ok o ≡ false → Contents c conns s t l a → Marked c c conns s t l a g o
 same_marked c conns s t l a g o n i = record { holds = i; op = refl; outcome = refl; file = λ _. refl; made = λ mk ok. absurd (clash (is_ok o) ok n) }
 
-marks : (c : Client) (conns : ℕ → Conn) (s : Server) (t : Trace) (l : Log) (a : ℕ → ℕ) (k g : ℕ) (asking : Bool) (r : Reply) (place : ℕ) → Connections c conns a → Contents c conns s t l a → Told c conns s t l k g asking r place
+marks : (c : Client) (conns : ℕ → Conn) (s : Server) (t : Trace) (l : Log) (a : ℕ → ℕ) (k g : ℕ) (asking : Bool) (r : Reply) (place : ℕ) → Connections c conns a → Contents c conns s t l a → ReplyTaken c conns s t l k g asking r place
     → is_unsettled (c.outcome g) ≡ true → (o : Outcome) → heard c g asking r ≡ Settles o → Marked c (noted c g o r.body) conns s t l a g o
 marks c conns s t l a k g asking r place cn i d u (WasOk v) he =
     let P : Client → Type 0 = λ e. Marked c e conns s t l a g (WasOk v) in
@@ -356,13 +356,13 @@ said_end g r e = by_tests (r.status == success) (r.status == end_of_file) (subst
 same_value : (x y : OpReply) → WasOk x ≡ WasOk y → x ≡ y
 same_value x y e = cc
 
-says_ok : (c : Client) (conns : ℕ → Conn) (s : Server) (t : Trace) (l : Log) (k g : ℕ) (asking : Bool) (r : Reply) (place : ℕ) (o : Outcome) → Told c conns s t l k g asking r place → heard c g asking r ≡ Settles o
+says_ok : (c : Client) (conns : ℕ → Conn) (s : Server) (t : Trace) (l : Log) (k g : ℕ) (asking : Bool) (r : Reply) (place : ℕ) (o : Outcome) → ReplyTaken c conns s t l k g asking r place → heard c g asking r ≡ Settles o
     → (v : ContentReply) → lists (c.op g) ≡ true → settlement (c.op g) o ≡ Settled_ok v → l.gave place ≡ Says_ok v
 says_ok c conns s t l k g asking r place o d he v ls e =
     let z = settled_ok (c.op g) o v e in let b = ok_by c g asking r o he (subst (λ o. is_ok o ≡ true) (sym z.1.0) refl) (close_lists (c.op g) ls) in let q = b.2 in
     d.own b.1 ∙ (said_ok g r b.0 ∙ ap Says_ok (value_said (c.op g) r.body b.2 ls b.3.0 ∙ (ap content_of (sym (same_value z.0 b.2 (sym z.1.0 ∙ b.3.1))) ∙ sym z.1.1)))
 
-says_end : (c : Client) (conns : ℕ → Conn) (s : Server) (t : Trace) (l : Log) (k g : ℕ) (asking : Bool) (r : Reply) (place : ℕ) (o : Outcome) → Told c conns s t l k g asking r place → heard c g asking r ≡ Settles o
+says_end : (c : Client) (conns : ℕ → Conn) (s : Server) (t : Trace) (l : Log) (k g : ℕ) (asking : Bool) (r : Reply) (place : ℕ) (o : Outcome) → ReplyTaken c conns s t l k g asking r place → heard c g asking r ≡ Settles o
     → settlement (c.op g) o ≡ Settled_end → l.gave place ≡ Says_end
 says_end c conns s t l k g asking r place o d he e =
     let z = settled_end (c.op g) o e in let st = refused_by c g asking r z.0 (he ∙ ap Settles z.1.0) in let at : (r.status == end_of_file) ≡ true = subst (λ n. (n == end_of_file) ≡ true) st z.1.1 in
@@ -414,7 +414,7 @@ no_opens c conns s t l a create b i =
 
 -- ---- it settles
 
-settles : (c : Client) (conns : ℕ → Conn) (s : Server) (t : Trace) (l : Log) (a : ℕ → ℕ) (k g : ℕ) (asking : Bool) (r : Reply) (place : ℕ) (o : Outcome) → Connections c conns a → Contents c conns s t l a → Told c conns s t l k g asking r place
+settles : (c : Client) (conns : ℕ → Conn) (s : Server) (t : Trace) (l : Log) (a : ℕ → ℕ) (k g : ℕ) (asking : Bool) (r : Reply) (place : ℕ) (o : Outcome) → Connections c conns a → Contents c conns s t l a → ReplyTaken c conns s t l k g asking r place
     → is_unsettled (c.outcome g) ≡ true → heard c g asking r ≡ Settles o → Contents (settle c g asking r place o) conns s t l a
 settles c conns s t l a k g asking r place o cn i d u he =
     let firm = heard_firm c g asking r o he in
@@ -489,9 +489,9 @@ off_other f g p v n e = grind arith
 same_some : (o : Option ℕ) (j k : ℕ) → o ≡ Some j → o ≡ Some k → j ≡ k
 same_some o j k e f = grind arith
 
-hears : (w : World) (a : ℕ → ℕ) (k g : ℕ) (asking : Bool) (r : Reply) (place : ℕ) → Connections w.client w.conns a → Contents w.client w.conns w.server w.trace w.log a → Told w.client w.conns w.server w.trace w.log k g asking r place
+hears : (w : World) (a : ℕ → ℕ) (k g : ℕ) (asking : Bool) (r : Reply) (place : ℕ) → Connections w.client w.conns a → Contents w.client w.conns w.server w.trace w.log a → ReplyTaken w.client w.conns w.server w.trace w.log k g asking r place
     → is_unsettled (w.client.outcome g) ≡ true → (h : Heard) → heard w.client g asking r ≡ h
-    → Holds (with_client (closed_by w k (act_heard h)) (hear w.client g asking r place h)) a
+    → ContentsHold (with_client (closed_by w k (act_heard h)) (hear w.client g asking r place h)) a
 hears w a k g asking r place cn i d u (Settles o) e = settles w.client w.conns w.server w.trace w.log a k g asking r place o cn i d u e
 hears w a k g asking r place cn i d u GoesAgain e =
     let z = again_status w.client g asking r.status (heard_again w.client g asking r e) in answered_keeps w.client w.conns w.server w.trace w.log a g (λ ed b own. d.not_done z.0 ed z.1 b) i
@@ -514,10 +514,10 @@ hears w a k g asking r place cn i d u EndsSession e =
         gone_here at one = let q = d.on in let z = d.none in let jk : j ≡ k = same_some (w.client.on g) j k at q in let one2 = subst (λ v. 1 ≤ copies g (w.conns v)) jk one in omega (arith, one2, z)
 
 pub took : (w : World) (a : ℕ → ℕ) (k g : ℕ) (asking : Bool) (r : Reply) (place : ℕ) → Connections w.client w.conns a → Contents w.client w.conns w.server w.trace w.log a
-    → (w.client.on g ≡ Some k → w.client.asking g ≡ asking → Told w.client w.conns w.server w.trace w.log k g asking r place)
-    → Holds (op_took w k g asking r place) a
+    → (w.client.on g ≡ Some k → w.client.asking g ≡ asking → ReplyTaken w.client w.conns w.server w.trace w.log k g asking r place)
+    → ContentsHold (op_took w k g asking r place) a
 took w a k g asking r place cn i told =
-    both_ways (λ c x. Holds (with_client (closed_by w k x) c) a) (is_awaited w.client k g asking) (hear w.client g asking r place (heard w.client g asking r)) w.client
+    both_ways (λ c x. ContentsHold (with_client (closed_by w k x) c) a) (is_awaited w.client k g asking) (hear w.client g asking r place (heard w.client g asking r)) w.client
     (act_heard (heard w.client g asking r)) Nothing
     (λ aw. let q = awaited_of w.client k g asking aw in hears w a k g asking r place cn i (told q.0 q.1) (pending q.0) (heard w.client g asking r) refl)
     (λ _. i)

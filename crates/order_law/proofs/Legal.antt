@@ -38,10 +38,10 @@ firm_of op (NoSlot n) e = absurd (cc)
 firm_of op (NoOpen n) e = absurd (cc)
 firm_of op (Unknown why) e = absurd (cc)
 
-abbrev Holds : World → (ℕ → ℕ) → Type 0
-Holds w a = Contents w.client w.conns w.server w.trace w.log a
+abbrev ContentsHold : World → (ℕ → ℕ) → Type 0
+ContentsHold w a = Contents w.client w.conns w.server w.trace w.log a
 
-place_facts : (w : World) (a : ℕ → ℕ) (q : ℕ) → Holds w a → isolates w q ≡ true → PlaceFacts (account w) q
+place_facts : (w : World) (a : ℕ → ℕ) (q : ℕ) → ContentsHold w a → isolates w q ≡ true → PlaceFacts (account w) q
 unfolding edits bytes_after reply_to ends_before
 place_facts w a q i iso =
     let z = isolated w q iso in let made = ap is_some (i.open_of q z.1 z.2) in
@@ -82,10 +82,10 @@ place_facts w a q i iso =
     since_by h p (Some n) by f b pl = i.since_first h p (f ∙ pl)
     since_by h p None by f b pl = i.since_by h p (b ∙ pl)
 
-pub one_connections : (w : World) (a : ℕ → ℕ) → Holds w a → OneConnections w
+pub one_connections : (w : World) (a : ℕ → ℕ) → ContentsHold w a → OneConnections w
 one_connections w a i q iso = legal (account w) q (place_facts w a q i iso)
 
-pub bytes_now : (w : World) (a : ℕ → ℕ) → Holds w a → BytesNow w
+pub bytes_now : (w : World) (a : ℕ → ℕ) → ContentsHold w a → BytesNow w
 bytes_now w a i q o iso st = i.bytes q o (found (w.trace.open_of q) o (front_of (is_at_option o (w.trace.open_of q)) _ st)) (back_of (is_at_option o (w.trace.open_of q)) _ st)
   where
     found : (x : Option ℕ) (o : ℕ) → is_at_option o x ≡ true → x ≡ Some o

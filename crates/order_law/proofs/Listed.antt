@@ -56,7 +56,7 @@ pub record Turned (s : Server) (m : Message) (op : ContentOp) (o p status : ℕ)
   pub closed : (status == file_closed) ≡ false
   pub stale : (status == file_not_available) ≡ false
 
-pub record Told (s : Server) (m : Message) (op : ContentOp) (o p : ℕ) (body : Body) : Type 0 where
+pub record BytesTold (s : Server) (m : Message) (op : ContentOp) (o p : ℕ) (body : Body) : Type 0 where
   pub its : p ≡ o
   pub on : On s m o
   pub in_time : is_change op ≡ true → is_late s m o ≡ false
@@ -78,7 +78,7 @@ pub record Changed (s : Server) (m : Message) (op : ContentOp) (o p : ℕ) (chan
 abbrev pub ListedBy : Server → Message → ContentOp → ℕ → Verdict → Type 0
 ListedBy s m op o (Refuse status) = Refused s m op o status
 ListedBy s m op o (TurnDown p status) = Turned s m op o p status
-ListedBy s m op o (Tell p body) = Told s m op o p body
+ListedBy s m op o (Tell p body) = BytesTold s m op o p body
 ListedBy s m op o (Alter p change body) = Changed s m op o p change body
 ListedBy s m op o _ = ⊥
 

@@ -11,10 +11,10 @@ use Rattle.exchange_law.proofs.Behind.{behind_keeps as behind_connections}
 use Rattle.exchange_law.proofs.Run.{front_reply_gone, reply_open, no_dialog, more_down, ended_well}
 use Rattle.session_law.specs.Sessions.{is_ops, makes_session}
 use Rattle.order_law.specs.Contents.{Contents}
-use Rattle.order_law.proofs.Front.{Lower, Holds}
+use Rattle.order_law.proofs.Front.{Lower, ContentsHold}
 use Rattle.order_law.proofs.Server.{open_of_down}
 use Rattle.order_law.proofs.Table.{not_there}
-use Rattle.order_law.proofs.Hearing.{Told, took}
+use Rattle.order_law.proofs.Hearing.{ReplyTaken, took}
 use Rattle.order_law.proofs.OnBehind.{behind_keeps}
 use Rattle.order_law.proofs.OnWentOn.{went_on_keeps}
 use Rattle.order_law.proofs.OnAccepted.{accepted_keeps}
@@ -36,8 +36,8 @@ up_there f k rest j n x h = subst (λ xs. slice_get xs n ≡ Some x) (up_at f k 
 
 -- ---- what is known of the front that the client takes
 
-told : (w : World) (a : ℕ → ℕ) (k g : ℕ) (y : Received) (rest : List Received) (asking : Bool) → (w.conns k).down ≡ y ∷ rest → (w.conns k).client_open ≡ true → Lower w a → Holds w a → (t : Token) → t ≡ (if asking then ForAttach g else ForOp g) → y.token ≡ t
-    → w.client.on g ≡ Some k → w.client.asking g ≡ asking → Told w.client (put w.conns k (take_front (w.conns k) rest)) w.server w.trace w.log k g asking y.reply y.place
+told : (w : World) (a : ℕ → ℕ) (k g : ℕ) (y : Received) (rest : List Received) (asking : Bool) → (w.conns k).down ≡ y ∷ rest → (w.conns k).client_open ≡ true → Lower w a → ContentsHold w a → (t : Token) → t ≡ (if asking then ForAttach g else ForOp g) → y.token ≡ t
+    → w.client.on g ≡ Some k → w.client.asking g ≡ asking → ReplyTaken w.client (put w.conns k (take_front (w.conns k) rest)) w.server w.trace w.log k g asking y.reply y.place
 told w a k g y rest asking is opn l i t shape tok on asks =
     record {
       on = on;
@@ -138,7 +138,7 @@ alone : (w : World) (a : ℕ → ℕ) (j k : ℕ) → Lower w a → j ≢ k → 
 alone w a j k l n mk st = n (same_some w.client.making j k (l.ss.making j (asks_makes (w.client.stage j) st)) (l.ss.making k mk))
 
 -- no operation's message waits on a connection that isn't ready
-own_gone : (w : World) (a : ℕ → ℕ) (k : ℕ) (y : Received) (rest : List Received) → (w.conns k).down ≡ y ∷ rest → (w.conns k).client_open ≡ true → y.token ≡ ForDialog → Lower w a → Holds w a → (n p : ℕ) (x : Sent)
+own_gone : (w : World) (a : ℕ → ℕ) (k : ℕ) (y : Received) (rest : List Received) → (w.conns k).down ≡ y ∷ rest → (w.conns k).client_open ≡ true → y.token ≡ ForDialog → Lower w a → ContentsHold w a → (n p : ℕ) (x : Sent)
     → slice_get (put w.conns k (take_front (w.conns k) rest) k).up n ≡ Some x → x.token ≡ ForOp p → (put w.conns k (take_front (w.conns k) rest) k).client_open ≡ false
 own_gone w a k y rest is opn tok l i0 n p x h tk = absurd (shuts (w.conns k).client_open opn (not_there w a k off l i0 n p x (up_there w.conns k rest k n x h) tk))
   where
@@ -148,12 +148,12 @@ own_gone w a k y rest is opn tok l i0 n p x h tk = absurd (shuts (w.conns k).cli
     off : w.client.ready k ≡ false
     off = no_dialog w.client w.conns k l.cn.ready (more_down (w.conns k) 0 (counted_down 0 (w.conns k).down 0 y (front_down (w.conns k).down y rest is) (ap op_of tok)))
 
-dialog_fails : (w : World) (a : ℕ → ℕ) (k : ℕ) (y : Received) (rest : List Received) → (w.conns k).down ≡ y ∷ rest → (w.conns k).client_open ≡ true → y.token ≡ ForDialog → Lower w a → Holds w a
-    → Contents w.client (put w.conns k (take_front (w.conns k) rest)) w.server w.trace w.log a → Holds (one_cut (with_client (behind_reply w k rest) (leave_dialog w.client k)) k) a
+dialog_fails : (w : World) (a : ℕ → ℕ) (k : ℕ) (y : Received) (rest : List Received) → (w.conns k).down ≡ y ∷ rest → (w.conns k).client_open ≡ true → y.token ≡ ForDialog → Lower w a → ContentsHold w a
+    → Contents w.client (put w.conns k (take_front (w.conns k) rest)) w.server w.trace w.log a → ContentsHold (one_cut (with_client (behind_reply w k rest) (leave_dialog w.client k)) k) a
 dialog_fails w a k y rest is opn tok l i0 i = dialog_off_keeps w.client (put w.conns k (take_front (w.conns k) rest)) w.server w.trace w.log a k (own_gone w a k y rest is opn tok l i0) i
 
-dialogs : (w : World) (a : ℕ → ℕ) (k : ℕ) (y : Received) (rest : List Received) → (w.conns k).down ≡ y ∷ rest → (w.conns k).client_open ≡ true → y.token ≡ ForDialog → Lower w a → Holds w a → Contents w.client (put w.conns k (take_front (w.conns k) rest)) w.server w.trace w.log a
-    → (d : DialogStep) → dialog_step (w.client.stage k) y.reply.status ≡ d → Holds (dialog_took (behind_reply w k rest) k y.reply d) a
+dialogs : (w : World) (a : ℕ → ℕ) (k : ℕ) (y : Received) (rest : List Received) → (w.conns k).down ≡ y ∷ rest → (w.conns k).client_open ≡ true → y.token ≡ ForDialog → Lower w a → ContentsHold w a → Contents w.client (put w.conns k (take_front (w.conns k) rest)) w.server w.trace w.log a
+    → (d : DialogStep) → dialog_step (w.client.stage k) y.reply.status ≡ d → ContentsHold (dialog_took (behind_reply w k rest) k y.reply d) a
 dialogs w a k y rest is opn tok l i0 i (GoesOn stage) e =
     dialog_sent_keeps (went_on w.client k stage y.reply) (put w.conns k (take_front (w.conns k) rest)) w.server w.trace w.log a k 1 _
     (went_on_keeps w.client (put w.conns k (take_front (w.conns k) rest)) w.server w.trace w.log a k stage y.reply (not_tree (w.client.stage k) stage y.reply.status e) (λ j n st. by_kind j n st (makes_session stage) refl) i)
@@ -166,11 +166,11 @@ dialogs w a k y rest is opn tok l i0 i Accepts e =
     dialog_sent_keeps (accepted w.client k) (put w.conns k (take_front (w.conns k) rest)) w.server w.trace w.log a k 1 _
     (accepted_keeps w.client (put w.conns k (take_front (w.conns k) rest)) w.server w.trace w.log a k (l.ss.pending_unranked k st) (l.ss.pending_given k st).0 (λ o x z. (l.cr.attached o x z).0) i)
 dialogs w a k y rest is opn tok l i0 i Binds e =
-    ended_well (λ v. Holds v a) (behind_reply w k rest) k w.client.session w.client.tree (λ _. bound_keeps w.client (put w.conns k (take_front (w.conns k) rest)) w.server w.trace w.log a k i)
+    ended_well (λ v. ContentsHold v a) (behind_reply w k rest) k w.client.session w.client.tree (λ _. bound_keeps w.client (put w.conns k (take_front (w.conns k) rest)) w.server w.trace w.log a k i)
     (λ dead newer. absurd (omega (arith, newer))) (dialog_fails w a k y rest is opn tok l i0 i)
 dialogs w a k y rest is opn tok l i0 i Readies e =
     let st = readies_stage (w.client.stage k) y.reply.status e in let p = l.ss.pending_accepted k st in
-    ended_well (λ v. Holds v a) (behind_reply w k rest) k w.client.pending y.reply.tree (λ _. bound_keeps w.client (put w.conns k (take_front (w.conns k) rest)) w.server w.trace w.log a k i)
+    ended_well (λ v. ContentsHold v a) (behind_reply w k rest) k w.client.pending y.reply.tree (λ _. bound_keeps w.client (put w.conns k (take_front (w.conns k) rest)) w.server w.trace w.log a k i)
     (λ _ _. readied_keeps w.client (put w.conns k (take_front (w.conns k) rest)) w.server w.trace w.log a k y.reply st (subst (λ x. 0 < w.client.rank x) (sym p.0) p.1) (λ j n z. alone w a j k l n (asks_makes (w.client.stage k) st) z)
     (λ q. (l.ss.numbered_sessions q 0).0)
     (λ j n u h. let o = waited_down w.conns k y rest j n u is h in by_ops st j o.0 u o.1 (is_ops u.token) refl)
@@ -191,8 +191,8 @@ dialogs w a k y rest is opn tok l i0 i (Refuses status) e =
 
 -- ---- it takes a reply
 
-takes_by : (w : World) (a : ℕ → ℕ) (k : ℕ) (y : Received) (rest : List Received) → (w.conns k).down ≡ y ∷ rest → (w.conns k).client_open ≡ true → Lower w a → Holds w a → (t : Token) → y.token ≡ t
-    → Holds (took_by (behind_reply w k rest) k y.reply y.place t) a
+takes_by : (w : World) (a : ℕ → ℕ) (k : ℕ) (y : Received) (rest : List Received) → (w.conns k).down ≡ y ∷ rest → (w.conns k).client_open ≡ true → Lower w a → ContentsHold w a → (t : Token) → y.token ≡ t
+    → ContentsHold (took_by (behind_reply w k rest) k y.reply y.place t) a
 takes_by w a k y rest is o l i ForDialog e =
     dialogs w a k y rest is o e l i (behind_keeps w.client w.conns w.server w.trace w.log a k y rest is i) (dialog_step (w.client.stage k) y.reply.status) refl
 takes_by w a k y rest is o l i (ForOp g) e =
@@ -200,6 +200,6 @@ takes_by w a k y rest is o l i (ForOp g) e =
 takes_by w a k y rest is o l i (ForAttach g) e =
     took (behind_reply w k rest) a k g true y.reply y.place (behind_connections w.client w.conns a k y rest is l.cn) (behind_keeps w.client w.conns w.server w.trace w.log a k y rest is i) (told w a k g y rest true is o l i (ForAttach g) refl e)
 
-pub takes : (w : World) (a : ℕ → ℕ) (k : ℕ) → (w.conns k).client_open ≡ true → Lower w a → Holds w a → (ys : List Received) → (w.conns k).down ≡ ys → Holds (take_reply w k ys) a
+pub takes : (w : World) (a : ℕ → ℕ) (k : ℕ) → (w.conns k).client_open ≡ true → Lower w a → ContentsHold w a → (ys : List Received) → (w.conns k).down ≡ ys → ContentsHold (take_reply w k ys) a
 takes w a k o l i [] is = i
 takes w a k o l i (y ∷ rest) is = takes_by w a k y rest is o l i y.token refl

@@ -25,7 +25,7 @@ use Rattle.session_law.proofs.Always.{sessions}
 use Rattle.session_law.proofs.KindsAlways.{kinds, open_kind}
 use Rattle.create_law.specs.Creates.{AtMost}
 use Rattle.create_law.proofs.Law.{creates}
-use Rattle.order_law.proofs.Front.{Lower, Holds}
+use Rattle.order_law.proofs.Front.{Lower, ContentsHold}
 use Rattle.order_law.proofs.Server.{absorbs, serves, opens_conn, drops, restarts, ranked_of, alive_of, current_of}
 use Rattle.order_law.proofs.Table.{submits, finishes, cuts, pushes}
 use Rattle.order_law.proofs.Replies.{takes}
@@ -49,11 +49,11 @@ record Known (w : World) (a : ℕ → ℕ) : Type 0 where
 
 -- ---- the server takes a message, or starts anew
 
-serve_any : (w : World) (a : ℕ → ℕ) (k : ℕ) → Lower w a → Holds w a → (xs : List Sent) → (w.conns k).up ≡ xs → ((g : ℕ) → makes_open (w.client.op g) ≡ true → Behind w a xs g ≤ 1) → Holds (serve_front w k xs) (Behind w a xs)
+serve_any : (w : World) (a : ℕ → ℕ) (k : ℕ) → Lower w a → ContentsHold w a → (xs : List Sent) → (w.conns k).up ≡ xs → ((g : ℕ) → makes_open (w.client.op g) ≡ true → Behind w a xs g ≤ 1) → ContentsHold (serve_front w k xs) (Behind w a xs)
 serve_any w a k l i [] is most = i
 serve_any w a k l i (x ∷ rest) is most = serves w a k x rest is l most i
 
-serve_open : (w : World) (a : ℕ → ℕ) (k : ℕ) → Known w a → Holds w a → (b : Bool) → may_serve w k ≡ b → Holds (if b then later (serve_front w k (w.conns k).up) 1 else w) (λ g. if b && front_acts w (w.conns k).up g then a g + 1 else a g)
+serve_open : (w : World) (a : ℕ → ℕ) (k : ℕ) → Known w a → ContentsHold w a → (b : Bool) → may_serve w k ≡ b → ContentsHold (if b then later (serve_front w k (w.conns k).up) 1 else w) (λ g. if b && front_acts w (w.conns k).up g then a g + 1 else a g)
 serve_open w a k f i true e = serve_any w a k f.lower i (w.conns k).up refl (f.most k e)
 serve_open w a k f i false e = i
 
@@ -63,10 +63,10 @@ down_at f k rest j = elim (j == k) as (λ b. j == k ≡ b → (put f k (behind_f
   | false ↦ λ e. grind arith
 ] refl
 
-starts_anew : (w : World) (a : ℕ → ℕ) → Lower w a → Holds w a → Holds (restarted w) a
+starts_anew : (w : World) (a : ℕ → ℕ) → Lower w a → ContentsHold w a → ContentsHold (restarted w) a
 starts_anew w a l i = restarts w a l.fits l.anew (ranked_of w a l) (current_of w a l) (alive_of w a l) i
 
-anew_any : (w : World) (a : ℕ → ℕ) (k : ℕ) → Lower w a → Holds w a → (xs : List Sent) → (w.conns k).up ≡ xs → ((g : ℕ) → makes_open (w.client.op g) ≡ true → Behind w a xs g ≤ 1) → Anew (absorb_front w k xs) → Holds (restarted (absorb_front w k xs)) (Behind w a xs)
+anew_any : (w : World) (a : ℕ → ℕ) (k : ℕ) → Lower w a → ContentsHold w a → (xs : List Sent) → (w.conns k).up ≡ xs → ((g : ℕ) → makes_open (w.client.op g) ≡ true → Behind w a xs g ≤ 1) → Anew (absorb_front w k xs) → ContentsHold (restarted (absorb_front w k xs)) (Behind w a xs)
 anew_any w a k l i [] is most r = starts_anew w a l i
 anew_any w a k l i (x ∷ rest) is most r =
     restarts (absorbed w k x rest (answer w x)) (Behind w a (x ∷ rest)) r.0 r.1
@@ -74,8 +74,8 @@ anew_any w a k l i (x ∷ rest) is most r =
     (λ j n y h e. current_of w a l j n y (subst (λ ys. slice_get ys n ≡ Some y) (down_at w.conns k rest j) h) e)
     (alive_of w a l) (absorbs w a k x rest is l most i)
 
-crash_open : (w : World) (a : ℕ → ℕ) (k : ℕ) → Known w a → Holds w a → (kept b : Bool) → may_serve w k ≡ b
-    → Holds (if b then later (if kept then restarted (absorb_front w k (w.conns k).up) else restarted w) 1 else w) (λ g. if kept && (b && front_acts w (w.conns k).up g) then a g + 1 else a g)
+crash_open : (w : World) (a : ℕ → ℕ) (k : ℕ) → Known w a → ContentsHold w a → (kept b : Bool) → may_serve w k ≡ b
+    → ContentsHold (if b then later (if kept then restarted (absorb_front w k (w.conns k).up) else restarted w) 1 else w) (λ g. if kept && (b && front_acts w (w.conns k).up g) then a g + 1 else a g)
 crash_open w a k f i true true e = anew_any w a k f.lower i (w.conns k).up refl (f.most k e) (f.anew_kept k e)
 crash_open w a k f i true false e = i
 crash_open w a k f i false true e = starts_anew w a f.lower i
@@ -83,22 +83,22 @@ crash_open w a k f i false false e = i
 
 -- ---- every event
 
-keeps : (w : World) (a : ℕ → ℕ) (e : Event) → Known w a → Holds w a → Holds (happens w e) (after w e a)
+keeps : (w : World) (a : ℕ → ℕ) (e : Event) → Known w a → ContentsHold w a → ContentsHold (happens w e) (after w e a)
 keeps w a (Submit g op) f i = submits w a g op f.lower i
-keeps w a (Open k) f i = either (λ v. Holds v a) (may_open w k) _ _ (λ m. opens_conn w a k (closed_of w k m) f.lower i) (λ _. i)
-keeps w a (Push k slotless pick) f i = either (λ v. Holds v a) (w.client.ready k) _ _ (λ ready. pushes w a k slotless pick ready f.lower i) (λ _. i)
+keeps w a (Open k) f i = either (λ v. ContentsHold v a) (may_open w k) _ _ (λ m. opens_conn w a k (closed_of w k m) f.lower i) (λ _. i)
+keeps w a (Push k slotless pick) f i = either (λ v. ContentsHold v a) (w.client.ready k) _ _ (λ ready. pushes w a k slotless pick ready f.lower i) (λ _. i)
 keeps w a (Serve k) f i = serve_open w a k f i (may_serve w k) refl
-keeps w a (Take k) f i = either (λ v. Holds v a) ((w.conns k).client_open && is_filled (w.conns k).down) _ _ (λ m. takes w a k (front_of (w.conns k).client_open _ m) f.lower i (w.conns k).down refl) (λ _. i)
-keeps w a (Cut k) f i = either (λ v. Holds v a) (w.conns k).client_open _ _ (λ _. cuts w a k f.lower i) (λ _. i)
-keeps w a (Drop k) f i = either (λ v. Holds v a) (w.conns k).server_open _ _ (λ _. drops w a k f.lower i) (λ _. i)
+keeps w a (Take k) f i = either (λ v. ContentsHold v a) ((w.conns k).client_open && is_filled (w.conns k).down) _ _ (λ m. takes w a k (front_of (w.conns k).client_open _ m) f.lower i (w.conns k).down refl) (λ _. i)
+keeps w a (Cut k) f i = either (λ v. ContentsHold v a) (w.conns k).client_open _ _ (λ _. cuts w a k f.lower i) (λ _. i)
+keeps w a (Drop k) f i = either (λ v. ContentsHold v a) (w.conns k).server_open _ _ (λ _. drops w a k f.lower i) (λ _. i)
 keeps w a Restart f i = starts_anew w a f.lower i
 keeps w a (Crash k kept) f i = crash_open w a k f i kept (may_serve w k) refl
 keeps w a (Wait n) f i = i
-keeps w a (Finish refusal) f i = either (λ v. Holds v a) (not w.client.live) _ _ (λ d. finishes w a (NoSession refusal) (not_true w.client.live d) i) (λ _. i)
+keeps w a (Finish refusal) f i = either (λ v. ContentsHold v a) (not w.client.live) _ _ (λ d. finishes w a (NoSession refusal) (not_true w.client.live d) i) (λ _. i)
 
 -- ---- at the start
 
-begins : (z : Settings) → Holds (start z) (λ g. 0)
+begins : (z : Settings) → ContentsHold (start z) (λ g. 0)
 unfolding fold_from sweep
 begins z =
     record {
@@ -214,8 +214,8 @@ known z es =
           (anew_at (happens w (Serve k)) (one_event_on (λ (v : World) b. Fits v.server) z (fitting z) es (Serve k)) (one_event_on (λ (v : World) b. Recovers v.records v.server) z (recovers z (fitting z)) es (Serve k))));
     }
 
-pub contents : (z : Settings) → (es : List Event) → At Holds z es
-contents z = on_every_run Holds z (begins z) (λ es e i. keeps (run es (start z)) (acts es (start z)) e (known z es) i)
+pub contents : (z : Settings) → (es : List Event) → At ContentsHold z es
+contents z = on_every_run ContentsHold z (begins z) (λ es e i. keeps (run es (start z)) (acts es (start z)) e (known z es) i)
 
 pub one_connection : OneConnection
 one_connection z es = let i = contents z es in (one_connections (run es (start z)) (acts es (start z)) i, bytes_now (run es (start z)) (acts es (start z)) i)

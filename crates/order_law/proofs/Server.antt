@@ -17,7 +17,7 @@ use Rattle.server_law.specs.Fits.{Fits}
 use Rattle.session_law.specs.Sessions.{is_ops}
 use Rattle.order_law.specs.Newest.{Pair}
 use Rattle.order_law.specs.Contents.{Contents, edits, file_at, last_id}
-use Rattle.order_law.proofs.Front.{Lower, Holds, taking, said}
+use Rattle.order_law.proofs.Front.{Lower, ContentsHold, taking, said}
 use Rattle.order_law.proofs.Moved.{Moves}
 use Rattle.order_law.proofs.Quiet.{calm_moves, calm_accept, calm_end, anew_moves}
 use Rattle.order_law.proofs.Taking.{Taking, new_trace, new_log, new_acts, open_kept, first_none, makes_it}
@@ -56,8 +56,8 @@ sent_opens w a l g s n = let t = l.cn.taken g s in (l.cn.has_open g s, (l.cn.cre
 
 -- ---- a message is taken
 
-pub absorbs : (w : World) (a : ℕ → ℕ) (k : ℕ) (x0 : Sent) (rest : List Sent) → (w.conns k).up ≡ x0 ∷ rest → Lower w a → ((g : ℕ) → makes_open (w.client.op g) ≡ true → new_acts a x0 (answer w x0) g ≤ 1) → Holds w a
-    → Holds (absorbed w k x0 rest (answer w x0)) (new_acts a x0 (answer w x0))
+pub absorbs : (w : World) (a : ℕ → ℕ) (k : ℕ) (x0 : Sent) (rest : List Sent) → (w.conns k).up ≡ x0 ∷ rest → Lower w a → ((g : ℕ) → makes_open (w.client.op g) ≡ true → new_acts a x0 (answer w x0) g ≤ 1) → ContentsHold w a
+    → ContentsHold (absorbed w k x0 rest (answer w x0)) (new_acts a x0 (answer w x0))
 absorbs w a k x0 rest is l most i =
     absorb_keeps w.client w.conns w.server w.trace w.log a k x0 rest (answer w x0) is l.cn.once l.cn.outstanding l.cn.own_up l.cn.bodies l.cn.down_open (taking w a k x0 rest is l most i)
     (ranked_of w a l) (alive_of w a l) (current_of w a l) (sent_opens w a l)
@@ -71,8 +71,8 @@ some_open : (f : ℕ → Conn) (k : ℕ) (rest : List Sent) → (put f k (behind
 some_open f k rest o = grind arith
 
 -- and its reply is on its way, where the client's end is open
-pub serves : (w : World) (a : ℕ → ℕ) (k : ℕ) (x0 : Sent) (rest : List Sent) → (w.conns k).up ≡ x0 ∷ rest → Lower w a → ((g : ℕ) → makes_open (w.client.op g) ≡ true → new_acts a x0 (answer w x0) g ≤ 1) → Holds w a
-    → Holds (replied (absorbed w k x0 rest (answer w x0)) k (record { token = x0.token; reply = (answer w x0).reply; place = w.log.places })) (new_acts a x0 (answer w x0))
+pub serves : (w : World) (a : ℕ → ℕ) (k : ℕ) (x0 : Sent) (rest : List Sent) → (w.conns k).up ≡ x0 ∷ rest → Lower w a → ((g : ℕ) → makes_open (w.client.op g) ≡ true → new_acts a x0 (answer w x0) g ≤ 1) → ContentsHold w a
+    → ContentsHold (replied (absorbed w k x0 rest (answer w x0)) k (record { token = x0.token; reply = (answer w x0).reply; place = w.log.places })) (new_acts a x0 (answer w x0))
 serves w a k x0 rest is l most i =
     let A = answer w x0 in let f : ℕ → Conn = put w.conns k (behind_front (w.conns k) rest) in let j = absorbs w a k x0 rest is l most i in
     either (λ d. Contents w.client (put f k d) A.server (new_trace w.client w.trace w.log x0 A) (new_log w.client w.trace w.log x0 A) (new_acts a x0 A)) (f k).client_open _ _
@@ -130,21 +130,21 @@ serves w a k x0 rest is l most i =
 
 -- ---- the server moves by itself
 
-pub moves : (w : World) (a : ℕ → ℕ) (u : Server) → Lower w a → Moves w.client.rank w.server u → Holds w a → Contents w.client w.conns u w.trace w.log a
+pub moves : (w : World) (a : ℕ → ℕ) (u : Server) → Lower w a → Moves w.client.rank w.server u → ContentsHold w a → Contents w.client w.conns u w.trace w.log a
 moves w a u l m i = moved_keeps w.client w.conns w.server w.trace w.log a u m (ranked_of w a l) (current_of w a l) (alive_of w a l) i
 
-pub opens_conn : (w : World) (a : ℕ → ℕ) (k : ℕ) → (w.conns k).client_open ≡ false → Lower w a → Holds w a → Holds (opened w k) a
+pub opens_conn : (w : World) (a : ℕ → ℕ) (k : ℕ) → (w.conns k).client_open ≡ false → Lower w a → ContentsHold w a → ContentsHold (opened w k) a
 opens_conn w a k shut l i =
     let A = step w.server w.moment (Accept k) in
     opened_keeps w.client w.conns A.server w.trace w.log a k (A.reply.status == success) shut (moves w a A.server l (calm_moves w.client.rank w.server A.server (λ o st. (l.fits.open_ids o st).1) (calm_accept w.server w.moment k)) i)
 
-pub drops : (w : World) (a : ℕ → ℕ) (k : ℕ) → Lower w a → Holds w a → Holds (dropped w k) a
+pub drops : (w : World) (a : ℕ → ℕ) (k : ℕ) → Lower w a → ContentsHold w a → ContentsHold (dropped w k) a
 drops w a k l i =
     let A = step w.server w.moment (End k) in
     dropped_keeps w.client w.conns A.server w.trace w.log a k (moves w a A.server l (calm_moves w.client.rank w.server A.server (λ o st. (l.fits.open_ids o st).1) (calm_end w.server w.moment k)) i)
 
 -- a restart, from any world of which this is known
 pub restarts : (w : World) (a : ℕ → ℕ) → Fits w.server → Restarted w.server (recovered_from w.server w.records) → ((j n : ℕ) (x : Sent) → slice_get (w.conns j).up n ≡ Some x → is_ops x.token ≡ true → 0 < w.client.rank x.message.session)
-    → ((j n : ℕ) (y : Received) → slice_get (w.conns j).down n ≡ Some y → is_ops y.token ≡ true → 0 < w.client.rank w.client.session) → (w.client.live ≡ true → 0 < w.client.rank w.client.session) → Holds w a → Holds (restarted w) a
+    → ((j n : ℕ) (y : Received) → slice_get (w.conns j).down n ≡ Some y → is_ops y.token ≡ true → 0 < w.client.rank w.client.session) → (w.client.live ≡ true → 0 < w.client.rank w.client.session) → ContentsHold w a → ContentsHold (restarted w) a
 restarts w a f r ranked current alive i =
     all_dropped_keeps w.client w.conns (recovered_from w.server w.records) w.trace w.log a (moved_keeps w.client w.conns w.server w.trace w.log a (recovered_from w.server w.records) (anew_moves w.client.rank w.server (recovered_from w.server w.records) f r) ranked current alive i)

@@ -15,7 +15,7 @@ use Rattle.exchange_law.proofs.Lists.{own_up_count, counted_down}
 use Rattle.server_law.proofs.Logic.{either, front_of, back_of}
 use Rattle.exchange_law.proofs.Run.{MayPush, next_of, found, free_of, no_wait, own_for, own_create, both_ways, ok_is_settled}
 use Rattle.order_law.specs.Contents.{Contents, lists, edits, clashes}
-use Rattle.order_law.proofs.Front.{Lower, Holds}
+use Rattle.order_law.proofs.Front.{Lower, ContentsHold}
 use Rattle.order_law.proofs.Server.{open_of_down}
 use Rattle.order_law.proofs.Words.{ops_of}
 use Rattle.order_law.proofs.OnSubmit.{submit_keeps}
@@ -58,7 +58,7 @@ below_taken c conns a cn p ab wi = by_kind (makes_open (c.op p)) refl
     by_kind true e = let z = own_create p (c.op p) e in omega (arith, z, wi)
     by_kind false e = let z = (cn.creates p ab wi e).1 in omega (arith, z, wi)
 
-pub submits : (w : World) (a : ℕ → ℕ) (g : ℕ) (op : Op) → Lower w a → Holds w a → Holds (changed w (Submit g op)) a
+pub submits : (w : World) (a : ℕ → ℕ) (g : ℕ) (op : Op) → Lower w a → ContentsHold w a → ContentsHold (changed w (Submit g op)) a
 submits w a g op l i =
     either (λ d. Contents d w.conns w.server w.trace w.log a) (may_take w.client g op) _ _
     (λ may. submit_keeps w.client w.conns w.server w.trace w.log a g op (outcome_at_first w.client g op) (next_of w.client g op may) (l.beyond g (not_taken w.client g (next_of w.client g op may))).0
@@ -71,7 +71,7 @@ submits w a g op l i =
 
 -- ---- Finish
 
-pub finishes : (w : World) (a : ℕ → ℕ) (why : Why) → w.client.live ≡ false → Holds w a → Contents (finish w.client why) w.conns w.server w.trace w.log a
+pub finishes : (w : World) (a : ℕ → ℕ) (why : Why) → w.client.live ≡ false → ContentsHold w a → Contents (finish w.client why) w.conns w.server w.trace w.log a
 finishes w a why dead i = finished_keeps w.client w.conns w.server w.trace w.log a why dead i
 
 -- ---- Cut
@@ -80,30 +80,30 @@ more_up : (conns : ℕ → Conn) (j n g : ℕ) (x : Sent) → slice_get (conns j
 more_up conns j n g x h e = let z = own_up_count g (conns j).up n x h e in omega (arith, z)
 
 -- a copy on an open connection is outstanding there
-pub out_there : (w : World) (a : ℕ → ℕ) → Lower w a → Holds w a → (j n p : ℕ) (x : Sent) → slice_get (w.conns j).up n ≡ Some x → x.token ≡ ForOp p → (w.conns j).client_open ≡ true → w.client.on p ≡ Some j × w.client.asking p ≡ false
+pub out_there : (w : World) (a : ℕ → ℕ) → Lower w a → ContentsHold w a → (j n p : ℕ) (x : Sent) → slice_get (w.conns j).up n ≡ Some x → x.token ≡ ForOp p → (w.conns j).client_open ≡ true → w.client.on p ≡ Some j × w.client.asking p ≡ false
 out_there w a l i j n p x h e o =
     (l.cn.outstanding j p o (more_up w.conns j n p x h e) (subst (λ g. 0 < g) (ap op_of e) (i.token_up j n x h (ops_of x.token p e)).0), l.cn.own_up j n p x h o e)
 
 pub went_out : (w : World) (a : ℕ → ℕ) → Lower w a → (j n p : ℕ) (x : Sent) → slice_get (w.conns j).up n ≡ Some x → x.token ≡ ForOp p → w.client.sent p ≡ true
 went_out w a l j n p x h e = (l.cn.bodies j n p x h e).0
 
-pub not_there : (w : World) (a : ℕ → ℕ) (k : ℕ) → w.client.ready k ≡ false → Lower w a → Holds w a → (n p : ℕ) (x : Sent) → slice_get (w.conns k).up n ≡ Some x → x.token ≡ ForOp p → (w.conns k).client_open ≡ false
+pub not_there : (w : World) (a : ℕ → ℕ) (k : ℕ) → w.client.ready k ≡ false → Lower w a → ContentsHold w a → (n p : ℕ) (x : Sent) → slice_get (w.conns k).up n ≡ Some x → x.token ≡ ForOp p → (w.conns k).client_open ≡ false
 not_there w a k apart l i n p x h e = by_test (w.conns k).client_open refl
   where
     by_test : (b : Bool) → (w.conns k).client_open ≡ b → (w.conns k).client_open ≡ false
     by_test true o = absurd (let z = (l.cn.on_ready p k (out_there w a l i k n p x h e o).0).0 in grind arith)
     by_test false o = o
 
-cuts_ready : (w : World) (a : ℕ → ℕ) (k : ℕ) → Lower w a → Holds w a → (b e : Bool) → b ≡ true
-    → Holds (with_client (cut_by w k (if b && e then CloseChannels else Nothing)) (if b then (if e then end_session w.client else cut_channel w.client k) else w.client)) a
+cuts_ready : (w : World) (a : ℕ → ℕ) (k : ℕ) → Lower w a → ContentsHold w a → (b e : Bool) → b ≡ true
+    → ContentsHold (with_client (cut_by w k (if b && e then CloseChannels else Nothing)) (if b then (if e then end_session w.client else cut_channel w.client k) else w.client)) a
 cuts_ready w a k l i true true h = leave_keeps w.client w.conns w.server w.trace w.log a (out_there w a l i) (went_out w a l) i
 cuts_ready w a k l i true false h =
     cut_keeps w.client w.conns w.server w.trace w.log a k (λ n p x h e o. out_there w a l i k n p x h e o) (λ j n x h se lv. (l.ss.sequences_up j n x h).1 lv se) i
 cuts_ready w a k l i false e h = absurd (cc)
 
-pub cuts : (w : World) (a : ℕ → ℕ) (k : ℕ) → Lower w a → Holds w a → Holds (changed w (Cut k)) a
+pub cuts : (w : World) (a : ℕ → ℕ) (k : ℕ) → Lower w a → ContentsHold w a → ContentsHold (changed w (Cut k)) a
 cuts w a k l i =
-    either (λ v. Holds v a) (w.client.ready k) _ _ (λ ready. cuts_ready w a k l i (w.client.ready k) (ends_at_cut w.client) ready)
+    either (λ v. ContentsHold v a) (w.client.ready k) _ _ (λ ready. cuts_ready w a k l i (w.client.ready k) (ends_at_cut w.client) ready)
     (λ apart. dialog_off_keeps w.client w.conns w.server w.trace w.log a k (not_there w a k apart l i) i)
 
 -- ---- Push: locks that find no slot settle first
@@ -193,11 +193,11 @@ no_some : (o : Option ℕ) (k : ℕ) → o ≡ None → o ≡ Some k → ⊥
 no_some o k e f = absurd (grind arith)
 
 -- nothing of what isn't outstanding waits as a reply, nor on an open connection
-quiet_down : (w : World) (a : ℕ → ℕ) → Lower w a → Holds w a → (g : ℕ) → 0 < g → w.client.on g ≡ None → (j n : ℕ) (y : Received) → slice_get (w.conns j).down n ≡ Some y → op_of y.token ≢ g
+quiet_down : (w : World) (a : ℕ → ℕ) → Lower w a → ContentsHold w a → (g : ℕ) → 0 < g → w.client.on g ≡ None → (j n : ℕ) (y : Received) → slice_get (w.conns j).down n ≡ Some y → op_of y.token ≢ g
 quiet_down w a l i g ab none j n y h e =
     no_some (w.client.on g) j none (l.cn.outstanding j g (open_of_down w a l j n y h) (let c = counted_down g (w.conns j).down n y h e in omega (arith, c)) ab)
 
-off_up : (w : World) (a : ℕ → ℕ) → Lower w a → Holds w a → (g : ℕ) → w.client.on g ≡ None → (j n : ℕ) (x : Sent) → slice_get (w.conns j).up n ≡ Some x → x.token ≡ ForOp g → (w.conns j).client_open ≡ false
+off_up : (w : World) (a : ℕ → ℕ) → Lower w a → ContentsHold w a → (g : ℕ) → w.client.on g ≡ None → (j n : ℕ) (x : Sent) → slice_get (w.conns j).up n ≡ Some x → x.token ≡ ForOp g → (w.conns j).client_open ≡ false
 off_up w a l i g none j n x h e = by_test (w.conns j).client_open refl
   where
     by_test : (b : Bool) → (w.conns j).client_open ≡ b → (w.conns j).client_open ≡ false
@@ -214,7 +214,7 @@ record Goes (w : World) (a : ℕ → ℕ) (c : Client) (l : Log) (k g : ℕ) : T
   live : c.live ≡ true
   itself : goes_itself c g ≡ true
 
-sends : (w : World) (a : ℕ → ℕ) (c : Client) (l : Log) (k g n0 : ℕ) (m : Message) → Lower w a → Holds w a → (w.conns k).client_open ≡ true → Goes w a c l k g → m.session ≡ c.session → m.sequence ≡ c.sequence → m.replay ≡ is_replay c g
+sends : (w : World) (a : ℕ → ℕ) (c : Client) (l : Log) (k g n0 : ℕ) (m : Message) → Lower w a → ContentsHold w a → (w.conns k).client_open ≡ true → Goes w a c l k g → m.session ≡ c.session → m.sequence ≡ c.sequence → m.replay ≡ is_replay c g
     → Contents (outstanding c k g) (put w.conns k (send_up (w.conns k) (ForOp g) m n0)) w.server w.trace l a
 unfolding its_create
 sends w a c l k g n0 m lw i0 stands q ms mq mr =
@@ -226,7 +226,7 @@ sends w a c l k g n0 m lw i0 stands q ms mq mr =
     (λ j n x h e. off_up w a lw i0 g none j n x h e)
     (λ ed b. q.holds.unacted g ed b (none_out (c.asking g) (c.on g) q.may.none) q.may.pending) q.holds
 
-starts : (w : World) (a : ℕ → ℕ) (c : Client) (k g : ℕ) → Lower w a → Holds w a → Slotless w a c → may_push c k g ≡ true → w.client.live ≡ true → c.live ≡ true → c.on ≡ w.client.on → c.sent g ≡ false
+starts : (w : World) (a : ℕ → ℕ) (c : Client) (k g : ℕ) → Lower w a → ContentsHold w a → Slotless w a c → may_push c k g ≡ true → w.client.live ≡ true → c.live ≡ true → c.on ≡ w.client.on → c.sent g ≡ false
     → Contents (record c { sent = put c.sent g true }) w.conns w.server w.trace (record w.log { since = put w.log.since g w.log.places; prior = put w.log.prior g (λ q. is_firm (w.client.outcome q)) }) a
 starts w a c k g l i0 i may live lc on new =
     let m = found c k g may in
@@ -268,7 +268,7 @@ abbrev Out : World → (ℕ → ℕ) → ℕ → ℕ → Log → Client → Type
 Out w a k g l c =
     Contents (outstanding c k g) (put w.conns k (send_up (w.conns k) (ForOp g) (own_message (outstanding c k g) k (w.conns k).next_id g) (charge (weight ((outstanding c k g).op g))))) w.server w.trace l a
 
-goes_out : (w : World) (a : ℕ → ℕ) (c : Client) (k g s : ℕ) → Lower w a → Holds w a → Slotless w a c → may_push c k g ≡ true → goes_itself c g ≡ true → (w.conns k).client_open ≡ true → w.client.live ≡ true → (b : Bool) → c.sent g ≡ b → Out w a k g (first_push w g) (if b then again c g else begin c g s)
+goes_out : (w : World) (a : ℕ → ℕ) (c : Client) (k g s : ℕ) → Lower w a → ContentsHold w a → Slotless w a c → may_push c k g ≡ true → goes_itself c g ≡ true → (w.conns k).client_open ≡ true → w.client.live ≡ true → (b : Bool) → c.sent g ≡ b → Out w a k g (first_push w g) (if b then again c g else begin c g s)
 goes_out w a c k g s l i0 i may itself stands live true e =
     let y = beside_of w c i.is in let m = found c k g may in
     subst (λ lg. Out w a k g lg (again c g)) (sym (old_log w g (ap (λ f. f g) (sym y.sent) ∙ e)))
@@ -295,23 +295,23 @@ asks_out : (w : World) (a : ℕ → ℕ) (c : Client) (k g : ℕ) → Slotless w
 unfolding its_create
 asks_out w a c k g i m n = ask_keeps c w.conns w.server w.trace w.log a k g 1 (ask_message (asked c k g) k (w.conns k).next_id g) m.none m.above m.within n refl m.has_open i.holds
 
-pushes_op : (w : World) (a : ℕ → ℕ) (c : Client) (k g s : ℕ) → Lower w a → Holds w a → Slotless w a c → (w.conns k).client_open ≡ true → w.client.live ≡ true
-    → Holds (pushed_by w k (pick_after c k (Some (record { op = g; slot = s }))) (pick_act c k (Some (record { op = g; slot = s })))) a
+pushes_op : (w : World) (a : ℕ → ℕ) (c : Client) (k g s : ℕ) → Lower w a → ContentsHold w a → Slotless w a c → (w.conns k).client_open ≡ true → w.client.live ≡ true
+    → ContentsHold (pushed_by w k (pick_after c k (Some (record { op = g; slot = s }))) (pick_act c k (Some (record { op = g; slot = s })))) a
 pushes_op w a c k g s l i0 i stands live =
-    let P : Client → Act → Type 0 = λ d x. Holds (pushed_by w k d x) a in
+    let P : Client → Act → Type 0 = λ d x. ContentsHold (pushed_by w k d x) a in
     both_ways P (may_push c k g) _ _ _ _
     (λ may. both_ways P (goes_itself c g) _ _ _ _
     (λ it. both_ways P (has_its_slot c g s) _ _ _ _ (λ _. goes_out w a c k g s l i0 i may it stands live (c.sent g) refl) (λ _. i.holds))
     (λ it. asks_out w a c k g i (found c k g may) (no_create (c.op g) _ it)))
     (λ _. i.holds)
 
-picks : (w : World) (a : ℕ → ℕ) (c : Client) (k : ℕ) (pick : Option Pick) → Lower w a → Holds w a → Slotless w a c → (w.conns k).client_open ≡ true → w.client.live ≡ true → Holds (pushed_by w k (pick_after c k pick) (pick_act c k pick)) a
-picks w a c k None l i0 i stands live = either (λ x. Holds (pushed_by w k c x) a) (some_unsettled c c.taken) _ _ (λ _. i.holds) (λ _. i.holds)
+picks : (w : World) (a : ℕ → ℕ) (c : Client) (k : ℕ) (pick : Option Pick) → Lower w a → ContentsHold w a → Slotless w a c → (w.conns k).client_open ≡ true → w.client.live ≡ true → ContentsHold (pushed_by w k (pick_after c k pick) (pick_act c k pick)) a
+picks w a c k None l i0 i stands live = either (λ x. ContentsHold (pushed_by w k c x) a) (some_unsettled c c.taken) _ _ (λ _. i.holds) (λ _. i.holds)
 picks w a c k (Some p) l i0 i stands live = pushes_op w a c k p.op p.slot l i0 i stands live
 
-pub pushes : (w : World) (a : ℕ → ℕ) (k : ℕ) (slots : List ℕ) (pick : Option Pick) → w.client.ready k ≡ true → Lower w a → Holds w a → Holds (changed w (Push k slots pick)) a
+pub pushes : (w : World) (a : ℕ → ℕ) (k : ℕ) (slots : List ℕ) (pick : Option Pick) → w.client.ready k ≡ true → Lower w a → ContentsHold w a → ContentsHold (changed w (Push k slots pick)) a
 pushes w a k slots pick ready l i =
     let r = l.cn.ready k ready in
-    both_ways (λ d x. Holds (pushed_by w k d x) a) (w.client.ready k) _ _ _ _
+    both_ways (λ d x. ContentsHold (pushed_by w k d x) a) (w.client.ready k) _ _ _ _
     (λ _. picks w a (settle_no_slots w.client k slots) k pick l i (slotless w a w.client k slots l.cn.bodies (record { holds = i; is = refl; same = λ h e. refl })) r.0 r.1)
     (λ off. absurd (grind arith))

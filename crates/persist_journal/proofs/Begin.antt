@@ -2,7 +2,7 @@
 use Rattle.std.proofs.Common.{◌≡◌, inl, ℕ, ◌+◌, ◌≤◌, List, [], ◌∷◌, ◌++◌, length, take, drop, replicate, refl, ◌∙◌, ap, arith, length-append, length-drop}
 use Rattle.std.proofs.lemmas.List.{drop_all, append-nil, take_at}
 use Rattle.smb_io.specs.Disk.{WritesAt, Torn, Follows}
-use Rattle.journal_defs.specs.Grammar.{mark, StandsFor}
+use Rattle.journal_defs.specs.Grammar.{magic, StandsFor}
 use Rattle.journal_defs.specs.Moments.{LeavesOnly}
 use Rattle.persist_journal.specs.Entry.{IsShort}
 use Rattle.persist_journal.proofs.Moments.{weakened}
@@ -33,7 +33,7 @@ blank_done old one two short first second =
     ∙ ap (λ (l : List ℕ). zeros ++ (0 ∷ []) ++ l) (drop_all 9 one (omega arith))
     ∙ append-nil (zeros ++ 0 ∷ [])
 
--- the mark over the zeros
-pub mark_done : (old new : List ℕ) → old ≡ replicate 8 0 ++ 0 ∷ [] → WritesAt old 0 mark new → new ≡ mark ++ 0 ∷ []
+-- the magic over the zeros
+pub mark_done : (old new : List ℕ) → old ≡ replicate 8 0 ++ 0 ∷ [] → WritesAt old 0 magic new → new ≡ magic ++ 0 ∷ []
 mark_done old new is writes =
-    writes.within (omega arith) ∙ ap (λ (l : List ℕ). take 0 l ++ mark ++ drop 8 l) is
+    writes.within (omega arith) ∙ ap (λ (l : List ℕ). take 0 l ++ magic ++ drop 8 l) is

@@ -5,7 +5,7 @@ use Rattle.std.proofs.lemmas.Bool.{cases_lt}
 use Rattle.wire_defs.specs.Places.{le, number_of}
 use Rattle.wire_defs.proofs.Numbers.{number_of-le, length-le}
 use Rattle.smb_io.specs.Disk.{Only}
-use Rattle.journal_defs.specs.Grammar.{mark, entry, opened, front, AllFit, StandsFor}
+use Rattle.journal_defs.specs.Grammar.{magic, entry, opened, front, AllFit, StandsFor}
 use Rattle.persist_journal.specs.declared.read.NoBody.{NoBody}
 use Rattle.persist_journal.specs.declared.read.NoBody.TheVariants.{EndsEarly}
 use Rattle.persist_journal.specs.Read.{EntryAt, TellsLength, GivesBody}
@@ -70,7 +70,7 @@ opened_append (x ∷ a) b =
 -- the bodies that were handed out, and the rest
 split_front : (t : ℕ) (bodies : List (List ℕ)) → front bodies ≡ front (take t bodies) ++ opened (drop t bodies)
 split_front t bodies =
-    ap front (sym (take-append-drop t bodies)) ∙ ap (λ (l : List ℕ). mark ++ l) (opened_append (take t bodies) (drop t bodies)) ∙ sym (append_assoc mark (opened (take t bodies)) (opened (drop t bodies)))
+    ap front (sym (take-append-drop t bodies)) ∙ ap (λ (l : List ℕ). magic ++ l) (opened_append (take t bodies) (drop t bodies)) ∙ sym (append_assoc magic (opened (take t bodies)) (opened (drop t bodies)))
 
 none_opened : (bodies : List (List ℕ)) → length (opened bodies) ≡ 0 → bodies ≡ []
 none_opened [] none = refl

@@ -3,7 +3,7 @@ use Rattle.std.proofs.Common.{◌≡◌, ℕ, ◌+◌, ◌*◌, ◌/◌, ◌%◌
 use Rattle.std.proofs.lemmas.List.{take_at, drop_at, drop-drop, length-take-le, take-append-le}
 use Rattle.wire_defs.specs.Places.{le, number_of}
 use Rattle.wire_defs.proofs.Numbers.{number_of-le}
-use Rattle.journal_defs.specs.Grammar.{mark, entry, front, AllFit, EndsEarlyAt}
+use Rattle.journal_defs.specs.Grammar.{magic, entry, front, AllFit, EndsEarlyAt}
 use Rattle.persist_journal.specs.declared.read.Look.{Look}
 use Rattle.persist_journal.specs.declared.read.Look.TheVariants.{Closed, Entry, EndsEarly}
 use Rattle.persist_journal.specs.Read.{Shows, ReadTo, EndsWith}
@@ -102,7 +102,7 @@ pub read_early : (bytes : List ℕ) (gate count : ℕ) → ReadTo bytes gate cou
 read_early bytes gate count so_far shows =
     early_gate bytes so_far.rest so_far.bodies gate so_far.spelled so_far.place so_far.fit (subst (λ (l : List ℕ). Shows l EndsEarly) (rest_at bytes so_far.rest so_far.bodies gate so_far.spelled so_far.place) shows)
 
-pub read_mark : (bytes : List ℕ) → take 8 bytes ≡ mark → ReadTo bytes 8 0
+pub read_mark : (bytes : List ℕ) → take 8 bytes ≡ magic → ReadTo bytes 8 0
 read_mark bytes is = record {
   bodies = [];
   rest = drop 8 bytes;

@@ -4,7 +4,7 @@ use Rattle.std.proofs.lemmas.List.{append-nil}
 use Rattle.std.specs.Result.{OnOk, is_err}
 use Rattle.wire_defs.specs.Places.{le}
 use Rattle.wire_defs.proofs.Numbers.{length-le}
-use Rattle.journal_defs.specs.Grammar.{mark, entry, opened, front, AllFit, Holds}
+use Rattle.journal_defs.specs.Grammar.{magic, entry, opened, front, AllFit, JournalHolds}
 use Rattle.persist_journal.specs.Entry.{StaysClosed, IsClosedOrOpened}
 use Rattle.persist_journal.specs.Journal.{BeforeOrAfter}
 
@@ -18,9 +18,9 @@ opened-push (b ∷ bodies) body rest =
 -- an entry whose gate is open belongs to what stands before the next gate
 pub front-push : (bodies : List (List ℕ)) (body rest : List ℕ) → front bodies ++ 1 ∷ (entry body ++ rest) ≡ front (bodies ++ body ∷ []) ++ rest
 front-push bodies body rest =
-    append_assoc mark (opened bodies) (1 ∷ (entry body ++ rest))
-    ∙ ap (λ (l : List ℕ). mark ++ l) (opened-push bodies body rest)
-    ∙ sym (append_assoc mark (opened (bodies ++ body ∷ [])) rest)
+    append_assoc magic (opened bodies) (1 ∷ (entry body ++ rest))
+    ∙ ap (λ (l : List ℕ). magic ++ l) (opened-push bodies body rest)
+    ∙ sym (append_assoc magic (opened (bodies ++ body ∷ [])) rest)
 
 pub length-front-push : (bodies : List (List ℕ)) (body : List ℕ) → length (front (bodies ++ body ∷ [])) ≡ length (front bodies) + 5 + length body
 length-front-push bodies body =
@@ -37,7 +37,7 @@ all_fit_push [] body fit small = (small, tt)
 all_fit_push (b ∷ bodies) body fit small = (fit.0, all_fit_push bodies body fit.1 small)
 
 -- a gate that stays closed behind these bodies
-pub stands : (bodies : List (List ℕ)) (bytes : List ℕ) → AllFit bodies → StaysClosed (front bodies) bytes → Holds bytes bodies
+pub stands : (bodies : List (List ℕ)) (bytes : List ℕ) → AllFit bodies → StaysClosed (front bodies) bytes → JournalHolds bytes bodies
 stands bodies bytes fit stays = record { gate = stays.gate; rest = stays.rest; spelled = stays.file; closed = stays.closed; fit = fit }
 
 -- a gate that is closed, or open before a whole entry

@@ -4,7 +4,7 @@ use Rattle.std.proofs.lemmas.Bool.{cases_lt}
 use Rattle.std.proofs.lemmas.List.{take_at, append_cancel_left, get_or_append_left, get_or-take}
 use Rattle.wire_defs.specs.Places.{le, number_of}
 use Rattle.wire_defs.proofs.Numbers.{number_of-le, length-le}
-use Rattle.journal_defs.specs.Grammar.{mark, entry, opened, front, AllFit, Holds, StandsFor, DiffersAt, EndsEarlyAt, BreaksAt}
+use Rattle.journal_defs.specs.Grammar.{magic, entry, opened, front, AllFit, JournalHolds, StandsFor, DiffersAt, EndsEarlyAt, BreaksAt}
 use Rattle.persist_journal.proofs.Lists.{parts}
 
 -- an entry is split in one way
@@ -50,11 +50,11 @@ no_list (x ∷ a) (y ∷ b) g r s fit fit2 shut early same =
     let both = next x y (opened a) (opened b) (g ∷ r) (1 ∷ s) fit.0 fit2.0 same in
     no_list a b g r s fit.1 fit2.1 shut early both.1
 
-behind_mark : (a b : List ℕ) (r s bytes : List ℕ) → bytes ≡ (mark ++ a) ++ r → bytes ≡ (mark ++ b) ++ s → a ++ r ≡ b ++ s
+behind_mark : (a b : List ℕ) (r s bytes : List ℕ) → bytes ≡ (magic ++ a) ++ r → bytes ≡ (magic ++ b) ++ s → a ++ r ≡ b ++ s
 behind_mark a b r s bytes one two =
-    append_cancel_left mark (a ++ r) (b ++ s) (sym (append_assoc mark a r) ∙ sym one ∙ two ∙ append_assoc mark b s)
+    append_cancel_left magic (a ++ r) (b ++ s) (sym (append_assoc magic a r) ∙ sym one ∙ two ∙ append_assoc magic b s)
 
-holds_long : (bytes : List ℕ) (bodies : List (List ℕ)) → Holds bytes bodies → length bytes ≤ 9 → bodies ≡ []
+holds_long : (bytes : List ℕ) (bodies : List (List ℕ)) → JournalHolds bytes bodies → length bytes ≤ 9 → bodies ≡ []
 holds_long bytes [] holds short = refl
 holds_long bytes (body ∷ bodies) holds short =
     let long : length bytes ≡ length (front (body ∷ bodies)) + length (holds.gate ∷ holds.rest) = ap length holds.spelled ∙ length-append (front (body ∷ bodies)) (holds.gate ∷ holds.rest) in
@@ -70,10 +70,10 @@ stands_for_one bytes a b (inr holds) (inl short) = holds_long bytes a holds shor
 stands_for_one bytes a b (inr one) (inr two) =
     one_list a b one.gate two.gate one.rest two.rest one.fit two.fit one.closed two.closed (behind_mark (opened a) (opened b) (one.gate ∷ one.rest) (two.gate ∷ two.rest) bytes one.spelled two.spelled)
 
-differs : (bytes : List ℕ) (bodies : List (List ℕ)) (at : ℕ) → Holds bytes bodies → DiffersAt bytes at → ⊥
+differs : (bytes : List ℕ) (bodies : List (List ℕ)) (at : ℕ) → JournalHolds bytes bodies → DiffersAt bytes at → ⊥
 differs bytes bodies at holds breaks =
-    let same : get_or bytes at 0 ≡ get_or mark at 0 =
-    ap (λ (l : List ℕ). get_or l at 0) (holds.spelled ∙ append_assoc mark (opened bodies) (holds.gate ∷ holds.rest)) ∙ get_or_append_left mark (opened bodies ++ holds.gate ∷ holds.rest) 0 at breaks.within in
+    let same : get_or bytes at 0 ≡ get_or magic at 0 =
+    ap (λ (l : List ℕ). get_or l at 0) (holds.spelled ∙ append_assoc magic (opened bodies) (holds.gate ∷ holds.rest)) ∙ get_or_append_left magic (opened bodies ++ holds.gate ∷ holds.rest) 0 at breaks.within in
     breaks.other same
 
 pub breaks_for_none : (bytes : List ℕ) (bodies : List (List ℕ)) (at : ℕ) → StandsFor bytes bodies → BreaksAt bytes at → ⊥
@@ -99,7 +99,7 @@ one_early (x ∷ a) (y ∷ b) r s fit fit2 early early2 same =
 
 not_behind : (bytes : List ℕ) (a b : ℕ) → DiffersAt bytes a → DiffersAt bytes b → a < b → ⊥
 not_behind bytes a b one two less =
-    one.other (sym (get_or-take b bytes a 0 less) ∙ ap (λ (l : List ℕ). get_or l a 0) two.same ∙ get_or-take b mark a 0 less)
+    one.other (sym (get_or-take b bytes a 0 less) ∙ ap (λ (l : List ℕ). get_or l a 0) two.same ∙ get_or-take b magic a 0 less)
 
 one_difference : (bytes : List ℕ) (a b : ℕ) → DiffersAt bytes a → DiffersAt bytes b → a ≡ b
 one_difference bytes a b one two = elim (cases_lt a b) [
@@ -112,7 +112,7 @@ one_difference bytes a b one two = elim (cases_lt a b) [
 
 marked : (bytes : List ℕ) (a b : ℕ) → DiffersAt bytes a → EndsEarlyAt bytes b → ⊥
 marked bytes a b differs early =
-    differs.other (ap (λ (l : List ℕ). get_or l a 0) (early.spelled ∙ append_assoc mark (opened early.bodies) (1 ∷ early.rest)) ∙ get_or_append_left mark (opened early.bodies ++ 1 ∷ early.rest) 0 a differs.within)
+    differs.other (ap (λ (l : List ℕ). get_or l a 0) (early.spelled ∙ append_assoc magic (opened early.bodies) (1 ∷ early.rest)) ∙ get_or_append_left magic (opened early.bodies ++ 1 ∷ early.rest) 0 a differs.within)
 
 one_end : (bytes : List ℕ) (a b : ℕ) → EndsEarlyAt bytes a → EndsEarlyAt bytes b → a ≡ b
 one_end bytes a b one two =

@@ -20,7 +20,7 @@ pub record StaysClosed (front bytes : List ℕ) : Type 0 where
 abbrev pub IsClosedOrOpened : List ℕ → List ℕ → List ℕ → Type 0
 IsClosedOrOpened front behind bytes = StaysClosed front bytes ⊎ (bytes ≡ front ++ 1 ∷ behind)
 
--- at most 9 bytes: the mark and one gate at most
+-- at most 9 bytes: the magic and one gate at most
 abbrev pub IsShort : List ℕ → Type 0
 IsShort bytes = length bytes ≤ 9
 

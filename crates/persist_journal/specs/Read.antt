@@ -1,7 +1,7 @@
 -- What is read of a journal.
 use Rattle.std.specs.Prelude.{◌≡◌, ◌⊎◌, ℕ, ◌+◌, ◌^◌, ◌<◌, ◌≤◌, List, [], ◌∷◌, ◌++◌, length, take, drop, Option, Some, None, Result, Ok, Err}
 use Rattle.wire_defs.specs.Places.{le, number_of}
-use Rattle.journal_defs.specs.Grammar.{mark, IsClosed, entry, front, AllFit, DiffersAt, EndsEarlyAt}
+use Rattle.journal_defs.specs.Grammar.{magic, IsClosed, entry, front, AllFit, DiffersAt, EndsEarlyAt}
 use Rattle.journal_defs.specs.Moments.{Quiet}
 use Rattle.persist_journal.specs.declared.read.Look.{Look}
 use Rattle.persist_journal.specs.declared.read.Look.TheVariants as look
@@ -46,7 +46,7 @@ pub record Scanned {D : Type 0} (told : Type 0) (seen : D → List ℕ) (may_lea
   pub before_end : gate < end
   pub few : count ≤ gate
   pub past_mark : 8 ≤ gate
-  pub read : told → end ≡ length (seen start) → take 8 (seen start) ≡ mark → ReadTo (seen start) gate count
+  pub read : told → end ≡ length (seen start) → take 8 (seen start) ≡ magic → ReadTo (seen start) gate count
   pub quiet : Quiet told seen may_leave moment left_since start now
   pub no_fault : faults now ≡ faults start
 
@@ -72,9 +72,9 @@ IsWithin end (found.Behind gate count) = (gate < end) × (count ≤ gate) × (8 
 IsWithin end (found.Broken at) = Unit {0}
 
 -- the place of the first byte that isn't the mark's, if there is one
-abbrev pub ChecksMark : List ℕ → Option ℕ → Type 0
-ChecksMark bytes None = take 8 bytes ≡ mark
-ChecksMark bytes (Some at) = DiffersAt bytes at
+abbrev pub ChecksMagic : List ℕ → Option ℕ → Type 0
+ChecksMagic bytes None = take 8 bytes ≡ magic
+ChecksMagic bytes (Some at) = DiffersAt bytes at
 
 -- the number that four bytes spell
 abbrev pub TellsLength : List ℕ → Option ℕ → Type 0

@@ -1,7 +1,7 @@
 //! A journal on a disk that may crash at any moment. It keeps each body that was appended, or loses the
 //! last one whole.
 //!
-//! The mark `smb311j1` stands at the front, then for each body an open gate (01), its length in four
+//! The magic `smb311j1` stands at the front, then for each body an open gate (01), its length in four
 //! bytes, the lowest first, and itself, and behind the last a closed gate. An entry is on the disk, with
 //! the next closed gate, before its own gate opens. No checksum is used.
 #![tactic(auto)]

@@ -2,9 +2,9 @@
 ghost use Rattle.std.specs.Prelude.{◌≡◌, ℕ, ◌+◌, ◌^◌, ◌<◌, ◌≤◌, List, [], ◌∷◌, length, take, drop, min, IsTrue, IfOk};
 ghost use Rattle.wire_defs.specs.Places.{le};
 ghost use Rattle.smb_io.specs.Faults.{CountsFault};
-ghost use Rattle.journal_defs.specs.Grammar.{mark};
+ghost use Rattle.journal_defs.specs.Grammar.{magic};
 ghost use Rattle.journal_defs.specs.Moments.{Quiet};
-ghost use Rattle.persist_journal.specs.Read.{Shows, FitsBefore, FoundIn, IsWithin, ChecksMark, GivesBody, ReadCause, EntryAt, TellsLength};
+ghost use Rattle.persist_journal.specs.Read.{Shows, FitsBefore, FoundIn, IsWithin, ChecksMagic, GivesBody, ReadCause, EntryAt, TellsLength};
 
 use smb_bytes::Bytes;
 use smb_io::{Disk, Failed};
@@ -101,7 +101,7 @@ fn read_gate<D: Disk>(disk: &mut D, gate: u64, end: u64) -> Result<Look, Failed>
 
 fn first_difference(head: &[u8]) -> Option<u64>
     requires { length head.now ≡ 8 }
-    ensures { (m : List ℕ) → 8 ≤ length m → take 8 m ≡ head.now → ChecksMark m result }
+    ensures { (m : List ℕ) → 8 ≤ length m → take 8 m ≡ head.now → ChecksMagic m result }
 {
     for i in 0..8usize {
         if head[i] != MARK[i] {
@@ -111,8 +111,8 @@ fn first_difference(head: &[u8]) -> Option<u64>
     None
 }
 
-fn check_mark<D: Disk>(disk: &mut D) -> Result<Option<u64>, Failed>
-    ensures checks { D.told → 8 ≤ length (D.seen disk.old) → IfOk result (λ o. ChecksMark (D.seen disk.old) o) }
+fn check_magic<D: Disk>(disk: &mut D) -> Result<Option<u64>, Failed>
+    ensures checks { D.told → 8 ≤ length (D.seen disk.old) → IfOk result (λ o. ChecksMagic (D.seen disk.old) o) }
     ensures quiet { Quiet D.told D.seen D.may_leave D.moment D.left_since disk.old disk.new }
     ensures cause { CountsFault (D.faults disk.old) (D.faults disk.new) result }
 {
@@ -127,7 +127,7 @@ fn check_mark<D: Disk>(disk: &mut D) -> Result<Option<u64>, Failed>
 // From the first gate to one that is closed, or whose entry doesn't fit.
 fn scan<D: Disk>(disk: &mut D, end: u64) -> Result<Found, Failed>
     requires { 8 < end }
-    ensures found { D.told → end ≡ length (D.seen disk.old) → take 8 (D.seen disk.old) ≡ mark → IfOk result (λ f. FoundIn (D.seen disk.old) f) }
+    ensures found { D.told → end ≡ length (D.seen disk.old) → take 8 (D.seen disk.old) ≡ magic → IfOk result (λ f. FoundIn (D.seen disk.old) f) }
     ensures bound { IfOk result (λ f. IsWithin end f) }
     ensures quiet { Quiet D.told D.seen D.may_leave D.moment D.left_since disk.old disk.new }
     ensures cause { CountsFault (D.faults disk.old) (D.faults disk.new) result }
@@ -154,7 +154,7 @@ pub(crate) fn survey<D: Disk>(disk: &mut D, end: u64) -> Result<Found, Failed>
     ensures quiet { Quiet D.told D.seen D.may_leave D.moment D.left_since disk.old disk.new }
     ensures cause { CountsFault (D.faults disk.old) (D.faults disk.new) result }
 {
-    match check_mark(disk)? {
+    match check_magic(disk)? {
         Some(at) => Ok(Found::Broken(at)),
         None => scan(disk, end),
     }

@@ -119,9 +119,9 @@ fn what_is_no_journal_is_refused_by_its_place(rt: HostRuntime) -> Result<(), Fai
     let refused = recovered(alloc, &mut other)?.err();
     assert_eq!(rt; refused, Some(JournalError::NotAJournal(0)));
     assert_eq!(rt; other.bytes(), b"hello, journal".as_slice());
-    let mark = disk_of(alloc, b"smb311j2\0\0")?;
+    let magic = disk_of(alloc, b"smb311j2\0\0")?;
     assert_eq!(rt;
-        recovered(alloc, mark)?.err(),
+        recovered(alloc, magic)?.err(),
         Some(JournalError::NotAJournal(7))
     );
     let mut short = disk_of(alloc, b"hello")?;

@@ -13,8 +13,8 @@ use Rattle.server_law.proofs.Logic.{either}
 use Rattle.server_law.proofs.Folded.{sound_more, sound_none, sound_recovery, recovered_fits}
 use Rattle.server_law.proofs.Stepped.{Good, stepped}
 
-abbrev pub Holds : World → Type 0
-Holds w = Fits w.server × all_sound w.records ≡ true
+abbrev pub ServerFits : World → Type 0
+ServerFits w = Fits w.server × all_sound w.records ≡ true
 
 -- ---- Serve
 
@@ -41,26 +41,26 @@ answered s now m (SetInfo file setting) i = stepped s now (Heard m) i
 with_good : (w : World) (A : Answer) → all_sound w.records ≡ true → Good A → Fits A.server × all_sound (w.records ++ A.records) ≡ true
 with_good w A r g = (g.0, sound_more w.records A.records r g.1)
 
-absorbs : (w : World) (k : ℕ) (xs : List Sent) → Holds w → Holds (absorb_front w k xs)
+absorbs : (w : World) (k : ℕ) (xs : List Sent) → ServerFits w → ServerFits (absorb_front w k xs)
 absorbs w k [] i = i
 absorbs w k (x ∷ rest) i = with_good w (answer w x) i.1 (answered w.server w.moment x.message x.message.command i.0)
 
-serves : (w : World) (k : ℕ) (xs : List Sent) → Holds w → Holds (serve_front w k xs)
+serves : (w : World) (k : ℕ) (xs : List Sent) → ServerFits w → ServerFits (serve_front w k xs)
 serves w k [] i = i
 serves w k (x ∷ rest) i = with_good w (answer w x) i.1 (answered w.server w.moment x.message x.message.command i.0)
 
 -- ---- Restart and Crash
 
-restarts : (w : World) → Holds w → Holds (restarted w)
+restarts : (w : World) → ServerFits w → ServerFits (restarted w)
 restarts w i = (recovered_fits w.server w.records i.0.room i.1, sound_more w.records (recovery_records w.records) i.1 (sound_recovery (fold w.records)))
 
-crashes : (w : World) (k : ℕ) (kept : Bool) → Holds w → Holds (crashed w k kept)
+crashes : (w : World) (k : ℕ) (kept : Bool) → ServerFits w → ServerFits (crashed w k kept)
 crashes w k true i = restarts (absorb_front w k (w.conns k).up) (absorbs w k (w.conns k).up i)
 crashes w k false i = restarts w i
 
 -- ---- the events that the server doesn't meet
 
-pushes : (w : World) (k : ℕ) (c : Client) (a : Act) → Holds w → Holds (pushed_by w k c a)
+pushes : (w : World) (k : ℕ) (c : Client) (a : Act) → ServerFits w → ServerFits (pushed_by w k c a)
 pushes w k c Nothing i = i
 pushes w k c (Sends g) i = i
 pushes w k c (Asks g) i = i
@@ -68,7 +68,7 @@ pushes w k c CloseChannel i = i
 pushes w k c CloseChannels i = i
 pushes w k c AllSettled i = i
 
-closes : (w : World) (k : ℕ) (a : Act) → Holds w → Holds (closed_by w k a)
+closes : (w : World) (k : ℕ) (a : Act) → ServerFits w → ServerFits (closed_by w k a)
 closes w k Nothing i = i
 closes w k (Sends g) i = i
 closes w k (Asks g) i = i
@@ -76,7 +76,7 @@ closes w k CloseChannel i = i
 closes w k CloseChannels i = i
 closes w k AllSettled i = i
 
-cuts : (w : World) (k : ℕ) (a : Act) → Holds w → Holds (cut_by w k a)
+cuts : (w : World) (k : ℕ) (a : Act) → ServerFits w → ServerFits (cut_by w k a)
 cuts w k Nothing i = i
 cuts w k (Sends g) i = i
 cuts w k (Asks g) i = i
@@ -84,28 +84,28 @@ cuts w k CloseChannel i = i
 cuts w k CloseChannels i = i
 cuts w k AllSettled i = i
 
-dialogs : (w : World) (k : ℕ) (r : Reply) (step : DialogStep) → Holds w → Holds (dialog_took w k r step)
+dialogs : (w : World) (k : ℕ) (r : Reply) (step : DialogStep) → ServerFits w → ServerFits (dialog_took w k r step)
 dialogs w k r (GoesOn stage) i = i
 dialogs w k r Accepts i = i
 dialogs w k r Binds i = closes w k (act w.client (IsReady k w.client.session w.client.tree)) i
 dialogs w k r Readies i = closes w k (act w.client (IsReady k w.client.pending r.tree)) i
 dialogs w k r (Refuses status) i = i
 
-takes_by : (w : World) (k : ℕ) (r : Reply) (place : ℕ) (token : Token) → Holds w → Holds (took_by w k r place token)
+takes_by : (w : World) (k : ℕ) (r : Reply) (place : ℕ) (token : Token) → ServerFits w → ServerFits (took_by w k r place token)
 takes_by w k r place ForDialog i = dialogs w k r (dialog_step (w.client.stage k) r.status) i
 takes_by w k r place (ForOp g) i = closes w k _ i
 takes_by w k r place (ForAttach g) i = closes w k _ i
 
-takes : (w : World) (k : ℕ) (ys : List Received) → Holds w → Holds (take_reply w k ys)
+takes : (w : World) (k : ℕ) (ys : List Received) → ServerFits w → ServerFits (take_reply w k ys)
 takes w k [] i = i
 takes w k (y ∷ rest) i = takes_by (behind_reply w k rest) k y.reply y.place y.token i
 
-cut_offs : (w : World) (k : ℕ) → Holds w → Holds (cut_off w k)
-cut_offs w k i = either (λ v. Holds v) (w.client.ready k) _ _ (λ _. cuts w k _ i) (λ _. i)
+cut_offs : (w : World) (k : ℕ) → ServerFits w → ServerFits (cut_off w k)
+cut_offs w k i = either (λ v. ServerFits v) (w.client.ready k) _ _ (λ _. cuts w k _ i) (λ _. i)
 
 -- ---- each event
 
-changes : (w : World) (e : Event) → Holds w → Holds (changed w e)
+changes : (w : World) (e : Event) → ServerFits w → ServerFits (changed w e)
 changes w (Submit g op) i = i
 changes w (Open k) i = with_good w (step w.server w.moment (Accept k)) i.1 (stepped w.server w.moment (Accept k) i.0)
 changes w (Push k slotless pick) i = pushes w k _ _ i
@@ -118,10 +118,10 @@ changes w (Crash k kept) i = crashes w k kept i
 changes w (Wait n) i = i
 changes w (Finish refusal) i = i
 
-pub holds_behind : (w : World) (e : Event) → Holds w → Holds (happens w e)
-holds_behind w e i = either (λ v. Holds v) (is_possible w e) _ _ (λ _. changes w e i) (λ _. i)
+pub holds_behind : (w : World) (e : Event) → ServerFits w → ServerFits (happens w e)
+holds_behind w e i = either (λ v. ServerFits v) (is_possible w e) _ _ (λ _. changes w e i) (λ _. i)
 
-always : (es : List Event) (w : World) → Holds w → Holds (run es w)
+always : (es : List Event) (w : World) → ServerFits w → ServerFits (run es w)
 unfolding run
 always [] w i = i
 always (e ∷ es) w i = always es (happens w e) (holds_behind w e i)
@@ -129,10 +129,10 @@ always (e ∷ es) w i = always es (happens w e) (holds_behind w e i)
 room_within : (n : ℕ) → min n full_room ≤ full_room
 room_within n = omega arith
 
-begins : (z : Settings) → Holds (start z)
+begins : (z : Settings) → ServerFits (start z)
 begins z = (recovered_fits (blank_server z) [] (room_within z.room) sound_none, sound_recovery (fold []))
 
-pub holds : (z : Settings) (es : List Event) → Holds (run es (start z))
+pub holds : (z : Settings) (es : List Event) → ServerFits (run es (start z))
 holds z es = always es (start z) (begins z)
 
 pub fitting : (z : Settings) (es : List Event) → Fits (run es (start z)).server

@@ -14,8 +14,8 @@ pub struct Chosen {
 /// Why an offer leaves nothing to choose (MS-SMB2 3.3.5.4).
 #[derive(Clone, Copy, Debug, PartialEq, Eq, Error)]
 pub enum ChooseError {
-    #[error("The offer has no preauthentication context.")]
+    #[error("the offer has no preauthentication context")]
     NoPreauth,
-    #[error("The preauthentication context does not name SHA-512.")]
+    #[error("the preauthentication context does not name SHA-512")]
     NoHash,
 }

@@ -4,18 +4,18 @@ use thiserror::Error;
 /// Why a frame isn't a sealed message of a session, in the order in which it is looked at (MS-SMB2 3.3.5.2.1.1).
 #[derive(Clone, Copy, Debug, PartialEq, Eq, Error)]
 pub enum SealError {
-    #[error("There is no memory for the message.")]
+    #[error("memory ran out")]
     Memory,
     /// Fewer bytes than a transform header, or other ones in front.
-    #[error("The frame is not sealed.")]
+    #[error("the frame isn't sealed")]
     NotSealed,
     /// The OriginalMessageSize, which isn't the number of bytes behind the transform header or is above 1,114,060.
-    #[error("The original message size {0} is not that of the frame.")]
+    #[error("the original message size {0} isn't that of the frame")]
     BadSize(u32),
     /// The SessionId, which is another session's.
-    #[error("The frame is sealed for the session {0}.")]
+    #[error("the frame is sealed for the session {0}")]
     OtherSession(u64),
-    #[error("The tag of the frame is not the one of its bytes.")]
+    #[error("the tag of the frame isn't the one of its bytes")]
     BadTag,
 }
 

@@ -11,7 +11,7 @@ use Rattle.server_law.specs.Fits.{Fits}
 use Rattle.server_law.proofs.Run.{fitting}
 use Rattle.session_law.specs.Sessions.{Sessions, logon_user}
 use Rattle.session_law.proofs.Written.{Folds, Anew, anew, folds_nothing}
-use Rattle.session_law.proofs.Run.{Holds, Bounds, keeps}
+use Rattle.session_law.proofs.Run.{SessionsHold, Bounds, keeps}
 
 never : (b : Bool) → b ≡ false → b ≡ true → (P : Type 0) → P
 never b e f P = absurd (cc)
@@ -61,7 +61,7 @@ sits_at_first z s present making opens =
       tree_reply = λ k n y h. absurd (cc);
     }
 
-begins : (z : Settings) → Holds (start z)
+begins : (z : Settings) → SessionsHold (start z)
 begins z =
     let a = begins_new z in
     record {
@@ -75,9 +75,9 @@ bounds_of s f = record { on_present = f.on_present; making_once = f.making_once;
 behind : (z : Settings) (es : List Event) (k : ℕ) → (happens (run es (start z)) (Serve k)).server.begun ≤ max_ids
 behind z es k = subst (λ w. w.server.begun ≤ max_ids) (run_more es (Serve k) (start z)) (fitting z (es ++ Serve k ∷ [])).begun
 
-pub holds : (z : Settings) (es : List Event) → Holds (run es (start z))
+pub holds : (z : Settings) (es : List Event) → SessionsHold (run es (start z))
 holds z es =
-    on_every_run (λ w a. Holds w) z (begins z)
+    on_every_run (λ w a. SessionsHold w) z (begins z)
     (λ xs e h. let c = connections z xs in keeps (run xs (start z)) e c.once c.ready (bounds_of (run xs (start z)).server (fitting z xs)) (behind z xs) h) es
 
 -- ---- for the laws above: at a world of a run, and one event further

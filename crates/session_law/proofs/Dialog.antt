@@ -62,14 +62,14 @@ put_stage f k stage = grind arith
 
 -- ---- its response
 
-abbrev Holds : World → Type 0
-Holds w = Sessions w.client w.conns w.server
+abbrev SessionsFit : World → Type 0
+SessionsFit w = Sessions w.client w.conns w.server
 
-turned_down : (w : World) (k : ℕ) (r : Reply) (status : ℕ) → Holds w → Holds (dialog_took w k r (Refuses status))
+turned_down : (w : World) (k : ℕ) (r : Reply) (status : ℕ) → SessionsFit w → SessionsFit (dialog_took w k r (Refuses status))
 turned_down w k r status i = dialog_off_keeps w.client w.conns w.server k (note_refusal w.client k (HadStatus status)).refusals i
 
 -- a dialog that ended well for nothing
-failed : (w : World) (k : ℕ) → Holds w → Holds (one_cut (with_client w (leave_dialog w.client k)) k)
+failed : (w : World) (k : ℕ) → SessionsFit w → SessionsFit (one_cut (with_client w (leave_dialog w.client k)) k)
 failed w k i = dialog_off_keeps w.client w.conns w.server k w.client.refusals i
 
 not_making : (o : Option ℕ) (k : ℕ) → o ≡ None → o ≡ Some k → ⊥
@@ -79,7 +79,7 @@ not_second : (a : Stage) (b : Bool) → b ≡ true → a ≡ SaidSecond b → a 
 not_second a b t e = λ q. absurd (grind arith)
 
 -- a stage that tells no id and asks for no tree
-went : (w : World) (k : ℕ) (stage : Stage) → copies 0 (w.conns k) ≡ 0 → (makes_session stage ≡ true → w.client.making ≡ Some k) → stage ≢ SaidSecond false → stage ≢ AskedTree → Holds w
+went : (w : World) (k : ℕ) (stage : Stage) → copies 0 (w.conns k) ≡ 0 → (makes_session stage ≡ true → w.client.making ≡ Some k) → stage ≢ SaidSecond false → stage ≢ AskedTree → SessionsFit w
     → Sessions (record w.client { stage = put w.client.stage k stage }) (put w.conns k (send_up (w.conns k) ForDialog (dialog_message (record w.client { stage = put w.client.stage k stage }) k (w.conns k).next_id stage) 1)) w.server
 went w k stage none from untold unasked i =
     sends (record w.client { stage = put w.client.stage k stage }) w.conns w.server k (w.conns k).next_id stage (put_stage w.client.stage k stage) none
@@ -103,32 +103,32 @@ pub record Tells (w : World) (k : ℕ) (r : Reply) : Type 0 where
   pub second : w.client.stage k ≡ SaidSecond false → r.status ≡ success → (0 < w.client.rank w.client.accepted → w.server.present w.client.accepted ≡ false) × ((j : ℕ) → is_new w.client.pending (w.server.making j) ≡ false)
   pub tree : w.client.stage k ≡ AskedTree → r.status ≡ success → w.server.present w.client.accepted ≡ true → is_some (tree_in (w.server.trees w.client.accepted) r.tree) ≡ true
 
-pub took_dialog : (w : World) (k : ℕ) (r : Reply) → copies 0 (w.conns k) ≡ 0 → Tells w k r → Holds w → (t : Stage) → w.client.stage k ≡ t → Holds (dialog_took w k r (dialog_step t r.status))
+pub took_dialog : (w : World) (k : ℕ) (r : Reply) → copies 0 (w.conns k) ≡ 0 → Tells w k r → SessionsFit w → (t : Stage) → w.client.stage k ≡ t → SessionsFit (dialog_took w k r (dialog_step t r.status))
 took_dialog w k r none tells i Apart at = turned_down w k r r.status i
 took_dialog w k r none tells i (SaidNegotiate bound) at =
-    either (λ d. Holds (dialog_took w k r d)) (r.status == success) (GoesOn (SaidFirst bound)) (Refuses r.status)
+    either (λ d. SessionsFit (dialog_took w k r d)) (r.status == success) (GoesOn (SaidFirst bound)) (Refuses r.status)
     (λ _. went w k (SaidFirst bound) none (λ m. i.making k (ap makes_session at ∙ m)) (no_first bound) (no_tree bound) i) (λ _. turned_down w k r r.status i)
 took_dialog w k r none tells i (SaidFirst true) at =
-    either (λ d. Holds (dialog_took w k r d)) (r.status == more_processing_required) (GoesOn (SaidSecond true)) (Refuses r.status)
+    either (λ d. SessionsFit (dialog_took w k r d)) (r.status == more_processing_required) (GoesOn (SaidSecond true)) (Refuses r.status)
     (λ _. went w k (SaidSecond true) none (λ m. absurd (cc)) bound_second bound_tree i) (λ _. turned_down w k r r.status i)
 took_dialog w k r none tells i (SaidFirst false) at =
     let c = record w.client { stage = put w.client.stage k (SaidSecond false); pending = r.session } in
-    either (λ d. Holds (dialog_took w k r d)) (r.status == more_processing_required) (GoesOn (SaidSecond false)) (Refuses r.status)
+    either (λ d. SessionsFit (dialog_took w k r d)) (r.status == more_processing_required) (GoesOn (SaidSecond false)) (Refuses r.status)
     (λ e. let u = tells.first at (eqb-true r.status more_processing_required e) in
     sends c w.conns w.server k (w.conns k).next_id (SaidSecond false) (put_stage w.client.stage k (SaidSecond false)) none
     (told_keeps w.client w.conns w.server k r.session none (i.making k (ap makes_session at)) u.0 u.1 u.2 i))
     (λ _. turned_down w k r r.status i)
 took_dialog w k r none tells i (SaidSecond true) at =
-    either (λ d. Holds (dialog_took w k r d)) (r.status == success) Binds (Refuses r.status)
-    (λ _. ended_well Holds w k w.client.session w.client.tree (λ live. bound_keeps w.client w.conns w.server k i) (λ dead newer. absurd (omega (arith, newer))) (failed w k i)) (λ _. turned_down w k r r.status i)
+    either (λ d. SessionsFit (dialog_took w k r d)) (r.status == success) Binds (Refuses r.status)
+    (λ _. ended_well SessionsFit w k w.client.session w.client.tree (λ live. bound_keeps w.client w.conns w.server k i) (λ dead newer. absurd (omega (arith, newer))) (failed w k i)) (λ _. turned_down w k r r.status i)
 took_dialog w k r none tells i (SaidSecond false) at =
-    either (λ d. Holds (dialog_took w k r d)) (r.status == success) Accepts (Refuses r.status)
+    either (λ d. SessionsFit (dialog_took w k r d)) (r.status == success) Accepts (Refuses r.status)
     (λ e. let u = tells.second at (eqb-true r.status success e) in
     sends (accepted w.client k) w.conns w.server k (w.conns k).next_id AskedTree (put_stage w.client.stage k AskedTree) none
     (accepted_keeps w.client w.conns w.server k none at u.0 u.1 i))
     (λ _. turned_down w k r r.status i)
 took_dialog w k r none tells i AskedTree at =
-    either (λ d. Holds (dialog_took w k r d)) (r.status == success) Readies (Refuses r.status)
-    (λ e. ended_well Holds w k w.client.pending r.tree (λ live. absurd (not_making w.client.making k (i.live_accepted live).2 (i.making k (ap makes_session at))))
+    either (λ d. SessionsFit (dialog_took w k r d)) (r.status == success) Readies (Refuses r.status)
+    (λ e. ended_well SessionsFit w k w.client.pending r.tree (λ live. absurd (not_making w.client.making k (i.live_accepted live).2 (i.making k (ap makes_session at))))
     (λ dead newer. readied_keeps w.client w.conns w.server k r none at (tells.tree at (eqb-true r.status success e)) i) (failed w k i))
     (λ _. turned_down w k r r.status i)

@@ -87,7 +87,7 @@ dialog_asks c AskedTree other e = grind arith
 abbrev Piped : List ℕ → Bool
 Piped share = same_name share pipes_name
 
-record Holds (share : List ℕ) (w : World) : Type 0 where
+record KindsHold (share : List ℕ) (w : World) : Type 0 where
   pub who : w.client.who.share ≡ share
   pub waits : Waits share w.conns
   pub sorted : Sorted (Piped share) w.server
@@ -99,20 +99,20 @@ record Empties (w : World) : Type 0 where
   pub absent : (x : ℕ) → (fold w.records).present x ≡ false
 
 -- the client alone changes
-becomes : (share : List ℕ) (w : World) (c : Client) → c.who ≡ w.client.who → Holds share w → Holds share (with_client w c)
+becomes : (share : List ℕ) (w : World) (c : Client) → c.who ≡ w.client.who → KindsHold share w → KindsHold share (with_client w c)
 becomes share w c e h = record { who = ap (λ who. who.share) e ∙ h.who; waits = h.waits; sorted = h.sorted; bare = h.bare }
 
 -- the connections alone change
-carries : (share : List ℕ) (w : World) (conns : ℕ → Conn) → Waits share conns → Holds share w → Holds share (record w { conns = conns })
+carries : (share : List ℕ) (w : World) (conns : ℕ → Conn) → Waits share conns → KindsHold share w → KindsHold share (record w { conns = conns })
 carries share w conns f h = record { who = h.who; waits = f; sorted = h.sorted; bare = h.bare }
 
-cuts_one : (share : List ℕ) (w : World) (k : ℕ) → Holds share w → Holds share (record w { conns = put w.conns k (client_off (w.conns k)) })
+cuts_one : (share : List ℕ) (w : World) (k : ℕ) → KindsHold share w → KindsHold share (record w { conns = put w.conns k (client_off (w.conns k)) })
 cuts_one share w k h = carries share w (put w.conns k (client_off (w.conns k))) (put_waits share w.conns k (client_off (w.conns k)) (h.waits k) h.waits) h
 
-cuts_all : (share : List ℕ) (w : World) → Holds share w → Holds share (record w { conns = λ k. client_off (w.conns k) })
+cuts_all : (share : List ℕ) (w : World) → KindsHold share w → KindsHold share (record w { conns = λ k. client_off (w.conns k) })
 cuts_all share w h = carries share w (λ k. client_off (w.conns k)) h.waits h
 
-sends_dialog : (share : List ℕ) (w : World) (k : ℕ) (stage : Stage) → Holds share w → Holds share (dialog_sent w k stage)
+sends_dialog : (share : List ℕ) (w : World) (k : ℕ) (stage : Stage) → KindsHold share w → KindsHold share (dialog_sent w k stage)
 sends_dialog share w k stage h =
     let x : Sent = record { token = ForDialog; message = dialog_message w.client k (w.conns k).next_id stage } in let d = send_up (w.conns k) ForDialog x.message 1 in
     carries share w (put w.conns k d) (put_waits share w.conns k d (pushed_ask share (w.conns k).up x (λ other e. dialog_asks w.client stage other e ∙ h.who) (h.waits k)) h.waits) h
@@ -124,7 +124,7 @@ fresh_asks share c k served =
     let x : Sent = record { token = ForDialog; message = dialog_message c k 0 (SaidNegotiate c.live) } in
     either (λ xs. AllAsk share xs) served (x ∷ []) [] (λ _. pushed_ask share [] x (λ other e. absurd (cc)) (none_ask share)) (λ _. none_ask share)
 
-opens : (share : List ℕ) (w : World) (k : ℕ) → Holds share w → Holds share (changed w (Open k))
+opens : (share : List ℕ) (w : World) (k : ℕ) → KindsHold share w → KindsHold share (changed w (Open k))
 opens share w k h =
     let A = step w.server w.moment (Accept k) in let c = fresh w.client k (A.reply.status == success) in
     record {
@@ -134,7 +134,7 @@ opens share w k h =
       bare = bare_more (Piped share) w.server.epoch A.server.epoch w.records A.records (falls_accept w.server w.moment k).epoch (λ _ g. clean_accept g [] w.server w.moment k) h.bare;
     }
 
-drops : (share : List ℕ) (w : World) (k : ℕ) → Holds share w → Holds share (changed w (Drop k))
+drops : (share : List ℕ) (w : World) (k : ℕ) → KindsHold share w → KindsHold share (changed w (Drop k))
 drops share w k h =
     let A = step w.server w.moment (End k) in
     record {
@@ -146,10 +146,10 @@ drops share w k h =
 
 -- ---- Push
 
-pushes_up : (share : List ℕ) (w : World) (k n : ℕ) (x : Sent) → AsksShare share x → Holds share w → Waits share (put w.conns k (send_up (w.conns k) x.token x.message n))
+pushes_up : (share : List ℕ) (w : World) (k n : ℕ) (x : Sent) → AsksShare share x → KindsHold share w → Waits share (put w.conns k (send_up (w.conns k) x.token x.message n))
 pushes_up share w k n x f h = let d = send_up (w.conns k) x.token x.message n in put_waits share w.conns k d (pushed_ask share (w.conns k).up x f (h.waits k)) h.waits
 
-sends_own : (share : List ℕ) (w : World) (k g : ℕ) (c : Client) → Keeps w.client c → Holds share w → Holds share (pushed_by w k c (Sends g))
+sends_own : (share : List ℕ) (w : World) (k g : ℕ) (c : Client) → Keeps w.client c → KindsHold share w → KindsHold share (pushed_by w k c (Sends g))
 sends_own share w k g c q h =
     let x : Sent = record { token = ForOp g; message = own_message c k (w.conns k).next_id g } in
     record {
@@ -159,7 +159,7 @@ sends_own share w k g c q h =
       bare = h.bare;
     }
 
-asks_attach : (share : List ℕ) (w : World) (k g : ℕ) (c : Client) → Keeps w.client c → Holds share w → Holds share (pushed_by w k c (Asks g))
+asks_attach : (share : List ℕ) (w : World) (k g : ℕ) (c : Client) → Keeps w.client c → KindsHold share w → KindsHold share (pushed_by w k c (Asks g))
 asks_attach share w k g c q h =
     let x : Sent = record { token = ForAttach g; message = ask_message c k (w.conns k).next_id g } in
     record {
@@ -169,11 +169,11 @@ asks_attach share w k g c q h =
       bare = h.bare;
     }
 
-picks : (share : List ℕ) (w : World) (k : ℕ) (c : Client) (pick : Option Pick) → Keeps w.client c → Holds share w → Holds share (pushed_by w k (pick_after c k pick) (pick_act c k pick))
+picks : (share : List ℕ) (w : World) (k : ℕ) (c : Client) (pick : Option Pick) → Keeps w.client c → KindsHold share w → KindsHold share (pushed_by w k (pick_after c k pick) (pick_act c k pick))
 picks share w k c None q h =
-    either (λ x. Holds share (pushed_by w k c x)) (some_unsettled c c.taken) _ _ (λ _. becomes share w c q.same.who h) (λ _. becomes share w c q.same.who h)
+    either (λ x. KindsHold share (pushed_by w k c x)) (some_unsettled c c.taken) _ _ (λ _. becomes share w c q.same.who h) (λ _. becomes share w c q.same.who h)
 picks share w k c (Some p) q h =
-    let P : Client → Act → Type 0 = λ d x. Holds share (pushed_by w k d x) in let g = p.op in
+    let P : Client → Act → Type 0 = λ d x. KindsHold share (pushed_by w k d x) in let g = p.op in
     both_ways P (may_push c k g) _ _ _ _
     (λ _. both_ways P (goes_itself c g) _ _ _ _
     (λ _. both_ways P (has_its_slot c g p.slot) _ _ _ _
@@ -181,14 +181,14 @@ picks share w k c (Some p) q h =
     (λ _. let d = asked c k g in asks_attach share w k g d (keeps_so w.client c d q (keeps_asked c k g)) h))
     (λ _. becomes share w c q.same.who h)
 
-pushes : (share : List ℕ) (w : World) (k : ℕ) (slotless : List ℕ) (pick : Option Pick) → Holds share w → Holds share (changed w (Push k slotless pick))
+pushes : (share : List ℕ) (w : World) (k : ℕ) (slotless : List ℕ) (pick : Option Pick) → KindsHold share w → KindsHold share (changed w (Push k slotless pick))
 pushes share w k slotless pick h =
-    both_ways (λ d x. Holds share (pushed_by w k d x)) (w.client.ready k) _ _ _ _ (λ _. picks share w k (settle_no_slots w.client k slotless) pick (keeps_no_slots w.client k slotless) h)
-    (λ _. either (λ x. Holds share (pushed_by w k w.client x)) (some_unsettled w.client w.client.taken) _ _ (λ _. becomes share w w.client refl h) (λ _. becomes share w w.client refl h))
+    both_ways (λ d x. KindsHold share (pushed_by w k d x)) (w.client.ready k) _ _ _ _ (λ _. picks share w k (settle_no_slots w.client k slotless) pick (keeps_no_slots w.client k slotless) h)
+    (λ _. either (λ x. KindsHold share (pushed_by w k w.client x)) (some_unsettled w.client w.client.taken) _ _ (λ _. becomes share w w.client refl h) (λ _. becomes share w w.client refl h))
 
 -- ---- Serve
 
-absorbs_front : (share : List ℕ) (w : World) (k : ℕ) (x : Sent) (rest : List Sent) → (w.conns k).up ≡ x ∷ rest → Holds share w → Holds share (absorbed w k x rest (answer w x))
+absorbs_front : (share : List ℕ) (w : World) (k : ℕ) (x : Sent) (rest : List Sent) → (w.conns k).up ≡ x ∷ rest → KindsHold share w → KindsHold share (absorbed w k x rest (answer w x))
 absorbs_front share w k x rest is h =
     let A = answer w x in let kind = Piped share in
     record {
@@ -200,18 +200,18 @@ absorbs_front share w k x rest is h =
     }
 
 -- a reply leaves what waits to be served
-says : (share : List ℕ) (w : World) (k : ℕ) (y : Received) → Holds share w → Holds share (record w { conns = put w.conns k (say_down (w.conns k) y) })
+says : (share : List ℕ) (w : World) (k : ℕ) (y : Received) → KindsHold share w → KindsHold share (record w { conns = put w.conns k (say_down (w.conns k) y) })
 says share w k y h =
     let d = say_down (w.conns k) y in
     carries share w (put w.conns k d)
     (put_waits share w.conns k d (either (λ (e : Conn). AllAsk share e.up) (w.conns k).client_open (record (w.conns k) { down = (w.conns k).down ++ y ∷ [] }) (w.conns k) (λ _. h.waits k) (λ _. h.waits k)) h.waits) h
 
-serves : (share : List ℕ) (w : World) (k : ℕ) → Holds share w → (xs : List Sent) → (w.conns k).up ≡ xs → Holds share (serve_front w k xs)
+serves : (share : List ℕ) (w : World) (k : ℕ) → KindsHold share w → (xs : List Sent) → (w.conns k).up ≡ xs → KindsHold share (serve_front w k xs)
 serves share w k h [] is = h
 serves share w k h (x ∷ rest) is =
     let A = answer w x in says share (absorbed w k x rest A) k (record { token = x.token; reply = A.reply; place = w.log.places }) (absorbs_front share w k x rest is h)
 
-absorbs : (share : List ℕ) (w : World) (k : ℕ) → Holds share w → (xs : List Sent) → (w.conns k).up ≡ xs → Holds share (absorb_front w k xs)
+absorbs : (share : List ℕ) (w : World) (k : ℕ) → KindsHold share w → (xs : List Sent) → (w.conns k).up ≡ xs → KindsHold share (absorb_front w k xs)
 absorbs share w k h [] is = h
 absorbs share w k h (x ∷ rest) is = absorbs_front share w k x rest is h
 
@@ -226,7 +226,7 @@ restarted_sorted kind s rs b none absent = (
     no_tree : (kind p : Bool) → None ≡ Some p → p ≡ kind
     no_tree kind p e = absurd (cc)
 
-restarts : (share : List ℕ) (w : World) → Empties (restarted w) → Holds share w → Holds share (restarted w)
+restarts : (share : List ℕ) (w : World) → Empties (restarted w) → KindsHold share w → KindsHold share (restarted w)
 restarts share w e h =
     record {
       who = h.who;
@@ -237,42 +237,42 @@ restarts share w e h =
 
 -- ---- Take
 
-ends_dialog : (share : List ℕ) (w : World) (k session tree : ℕ) → Holds share w → Holds share (dialog_ended w k (IsReady k session tree))
+ends_dialog : (share : List ℕ) (w : World) (k session tree : ℕ) → KindsHold share w → KindsHold share (dialog_ended w k (IsReady k session tree))
 ends_dialog share w k session tree h =
-    ended_well (Holds share) w k session tree (λ _. becomes share w (bind_channel w.client k) refl h) (λ _ _. becomes share w (begin_session w.client k session tree) refl h)
+    ended_well (KindsHold share) w k session tree (λ _. becomes share w (bind_channel w.client k) refl h) (λ _ _. becomes share w (begin_session w.client k session tree) refl h)
     (cuts_one share _ k (becomes share w (leave_dialog w.client k) refl h))
 
-takes_dialog : (share : List ℕ) (w : World) (k : ℕ) (r : Reply) (d : DialogStep) → Holds share w → Holds share (dialog_took w k r d)
+takes_dialog : (share : List ℕ) (w : World) (k : ℕ) (r : Reply) (d : DialogStep) → KindsHold share w → KindsHold share (dialog_took w k r d)
 takes_dialog share w k r (GoesOn stage) h = sends_dialog share (with_client w (went_on w.client k stage r)) k stage (becomes share w (went_on w.client k stage r) refl h)
 takes_dialog share w k r Accepts h = sends_dialog share (with_client w (accepted w.client k)) k AskedTree (becomes share w (accepted w.client k) refl h)
 takes_dialog share w k r Binds h = ends_dialog share w k w.client.session w.client.tree h
 takes_dialog share w k r Readies h = ends_dialog share w k w.client.pending r.tree h
 takes_dialog share w k r (Refuses status) h = cuts_one share _ k (becomes share w _ refl h)
 
-hears : (share : List ℕ) (w : World) (k g : ℕ) (asking : Bool) (r : Reply) (place : ℕ) → Holds share w → (h : Hearing) → Holds share (with_client (closed_by w k (act_heard h)) (hear w.client g asking r place h))
+hears : (share : List ℕ) (w : World) (k g : ℕ) (asking : Bool) (r : Reply) (place : ℕ) → KindsHold share w → (h : Hearing) → KindsHold share (with_client (closed_by w k (act_heard h)) (hear w.client g asking r place h))
 hears share w k g asking r place i (Settles o) = becomes share w (hear w.client g asking r place (Settles o)) (keeps_settle w.client g asking r place o).same.who i
 hears share w k g asking r place i GoesAgain = becomes share w (answered w.client g) refl i
 hears share w k g asking r place i Attaches = becomes share w (hear w.client g asking r place Attaches) refl i
 hears share w k g asking r place i EndsSession = becomes share (closed_by w k CloseChannels) (hear w.client g asking r place EndsSession) refl (cuts_all share w i)
 
-took : (share : List ℕ) (w : World) (k g : ℕ) (asking : Bool) (r : Reply) (place : ℕ) → Holds share w → Holds share (op_took w k g asking r place)
+took : (share : List ℕ) (w : World) (k g : ℕ) (asking : Bool) (r : Reply) (place : ℕ) → KindsHold share w → KindsHold share (op_took w k g asking r place)
 took share w k g asking r place i =
-    both_ways (λ c x. Holds share (with_client (closed_by w k x) c)) (is_awaited w.client k g asking) (hear w.client g asking r place (heard w.client g asking r)) w.client (act_heard (heard w.client g asking r)) Nothing
+    both_ways (λ c x. KindsHold share (with_client (closed_by w k x) c)) (is_awaited w.client k g asking) (hear w.client g asking r place (heard w.client g asking r)) w.client (act_heard (heard w.client g asking r)) Nothing
     (λ _. hears share w k g asking r place i (heard w.client g asking r)) (λ _. i)
 
-takes_by : (share : List ℕ) (w : World) (k : ℕ) (r : Reply) (place : ℕ) → Holds share w → (t : Token) → Holds share (took_by w k r place t)
+takes_by : (share : List ℕ) (w : World) (k : ℕ) (r : Reply) (place : ℕ) → KindsHold share w → (t : Token) → KindsHold share (took_by w k r place t)
 takes_by share w k r place h ForDialog = takes_dialog share w k r (dialog_step (w.client.stage k) r.status) h
 takes_by share w k r place h (ForOp g) = took share w k g false r place h
 takes_by share w k r place h (ForAttach g) = took share w k g true r place h
 
-takes : (share : List ℕ) (w : World) (k : ℕ) → Holds share w → (ys : List Received) → Holds share (take_reply w k ys)
+takes : (share : List ℕ) (w : World) (k : ℕ) → KindsHold share w → (ys : List Received) → KindsHold share (take_reply w k ys)
 takes share w k h [] = h
 takes share w k h (y ∷ rest) =
     let v = behind_reply w k rest in takes_by share v k y.reply y.place (carries share w v.conns (put_waits share w.conns k _ (h.waits k) h.waits) h) y.token
 
 -- ---- Cut
 
-cut_from : (share : List ℕ) (w : World) (k : ℕ) (a : Act) → Holds share w → Holds share (cut_by w k a)
+cut_from : (share : List ℕ) (w : World) (k : ℕ) (a : Act) → KindsHold share w → KindsHold share (cut_by w k a)
 cut_from share w k CloseChannel h = cuts_one share w k h
 cut_from share w k CloseChannels h = cuts_all share w h
 cut_from share w k Nothing h = cuts_one share w k h
@@ -283,7 +283,7 @@ cut_from share w k AllSettled h = cuts_one share w k h
 cut_who : (c : Client) (k : ℕ) → (cut_after c k).who ≡ c.who
 cut_who c k = either (λ (d : Client). d.who ≡ c.who) (c.ready k) _ _ (λ _. either (λ (d : Client). d.who ≡ c.who) (ends_at_cut c) _ _ (λ _. refl) (λ _. refl)) (λ _. refl)
 
-cut_client : (share : List ℕ) (w : World) (k : ℕ) (a : Act) (c : Client) → c.who ≡ w.client.who → Holds share w → Holds share (with_client (cut_by w k a) c)
+cut_client : (share : List ℕ) (w : World) (k : ℕ) (a : Act) (c : Client) → c.who ≡ w.client.who → KindsHold share w → KindsHold share (with_client (cut_by w k a) c)
 cut_client share w k CloseChannel c e h = becomes share (cut_by w k CloseChannel) c e (cut_from share w k CloseChannel h)
 cut_client share w k CloseChannels c e h = becomes share (cut_by w k CloseChannels) c e (cut_from share w k CloseChannels h)
 cut_client share w k Nothing c e h = becomes share (cut_by w k Nothing) c e (cut_from share w k Nothing h)
@@ -291,14 +291,14 @@ cut_client share w k (Sends g) c e h = becomes share (cut_by w k (Sends g)) c e 
 cut_client share w k (Asks g) c e h = becomes share (cut_by w k (Asks g)) c e (cut_from share w k (Asks g) h)
 cut_client share w k AllSettled c e h = becomes share (cut_by w k AllSettled) c e (cut_from share w k AllSettled h)
 
-cuts : (share : List ℕ) (w : World) (k : ℕ) → Holds share w → Holds share (changed w (Cut k))
+cuts : (share : List ℕ) (w : World) (k : ℕ) → KindsHold share w → KindsHold share (changed w (Cut k))
 cuts share w k h =
-    either (λ v. Holds share v) (w.client.ready k) _ _ (λ _. cut_client share w k (cut_act w.client k) (cut_after w.client k) (cut_who w.client k) h) (λ _. cuts_one share _ k (becomes share w _ refl h))
+    either (λ v. KindsHold share v) (w.client.ready k) _ _ (λ _. cut_client share w k (cut_act w.client k) (cut_after w.client k) (cut_who w.client k) h) (λ _. cuts_one share _ k (becomes share w _ refl h))
 
 -- ---- every event
 
-changes : (share : List ℕ) (w : World) (e : Event) → Empties (changed w e) → Holds share w → Holds share (changed w e)
-changes share w (Submit g op) v h = either (λ c. Holds share (with_client w c)) (may_take w.client g op) _ _ (λ _. becomes share w _ refl h) (λ _. becomes share w w.client refl h)
+changes : (share : List ℕ) (w : World) (e : Event) → Empties (changed w e) → KindsHold share w → KindsHold share (changed w e)
+changes share w (Submit g op) v h = either (λ c. KindsHold share (with_client w c)) (may_take w.client g op) _ _ (λ _. becomes share w _ refl h) (λ _. becomes share w w.client refl h)
 changes share w (Open k) v h = opens share w k h
 changes share w (Push k slotless pick) v h = pushes share w k slotless pick h
 changes share w (Serve k) v h = serves share w k h (w.conns k).up refl
@@ -311,12 +311,12 @@ changes share w (Crash k false) v h = restarts share w v h
 changes share w (Wait n) v h = h
 changes share w (Finish refusal) v h = becomes share w (finish w.client (NoSession refusal)) refl h
 
-later_holds : (share : List ℕ) (w : World) (n : ℕ) → Holds share w → Holds share (later w n)
+later_holds : (share : List ℕ) (w : World) (n : ℕ) → KindsHold share w → KindsHold share (later w n)
 later_holds share w n h = record { who = h.who; waits = h.waits; sorted = h.sorted; bare = h.bare }
 
-keeps : (share : List ℕ) (w : World) (e : Event) → Empties (happens w e) → Holds share w → Holds share (happens w e)
+keeps : (share : List ℕ) (w : World) (e : Event) → Empties (happens w e) → KindsHold share w → KindsHold share (happens w e)
 keeps share w e v h =
-    either (λ u. Empties u → Holds share u) (is_possible w e) (later (changed w e) _) w
+    either (λ u. Empties u → KindsHold share u) (is_possible w e) (later (changed w e) _) w
     (λ _ u. later_holds share (changed w e) _ (changes share w e (record { none = u.none; absent = u.absent }) h)) (λ _ u. h) v
 
 -- ---- every run
@@ -328,19 +328,19 @@ first_empties : (z : Settings) → Empties (start z)
 unfolding run
 first_empties z = empties z []
 
-begins : (z : Settings) → Holds z.who.share (start z)
+begins : (z : Settings) → KindsHold z.who.share (start z)
 begins z =
     let s = blank_server z in let b : Bare (Piped z.who.share) s.epoch [] = λ piped g. folds_nothing g [] in let e = first_empties z in
     record { who = refl; waits = λ k. none_ask z.who.share; sorted = restarted_sorted (Piped z.who.share) s [] b e.none e.absent; bare = bare_anew (Piped z.who.share) s [] b }
 
-holds : (z : Settings) (es : List Event) → Holds z.who.share (run es (start z))
+holds : (z : Settings) (es : List Event) → KindsHold z.who.share (run es (start z))
 holds z es =
-    on_every_run (λ w a. Holds z.who.share w) z (begins z)
+    on_every_run (λ w a. KindsHold z.who.share w) z (begins z)
     (λ xs e h. keeps z.who.share (run xs (start z)) e (subst (λ w. Empties w) (run_more xs e (start z)) (empties z (xs ++ e ∷ []))) h) es
 
 -- ---- for the laws above
 
-kinds_of : (share : List ℕ) (w : World) → Holds share w → Kinds w.client w.conns w.server
+kinds_of : (share : List ℕ) (w : World) → KindsHold share w → Kinds w.client w.conns w.server
 kinds_of share w h =
     let p = ap (λ l. same_name l pipes_name) (sym h.who) in
     record {

@@ -3,7 +3,7 @@ ghost use Rattle.std.specs.Prelude.{◌≡◌, ◌+◌, ◌≤◌, ◌<◌, ◌^
 ghost use Rattle.std.specs.String.{string_bytes};
 ghost use Rattle.world_model.specs.Exchange.{State, start, refusal, Does};
 ghost use Rattle.world_model.specs.Exchange as exchange;
-ghost use Rattle.world_model.specs.Holding.{Holds};
+ghost use Rattle.world_model.specs.Holding.{WorldHolds};
 ghost use Rattle.smb311_cli.specs.Outcome.{Gives};
 ghost use Rattle.smb311_cli.specs.Run as run;
 ghost use Rattle.smb311_cli.specs.Script as script;
@@ -33,7 +33,7 @@ pub(crate) fn drill(alloc: Global, text: &[u8]) -> Result<String, Fault<Refusal>
 }
 
 fn started(alloc: Global) -> Result<World, AllocError>
-    ensures { IfOk result (λ world. Holds world start) }
+    ensures { IfOk result (λ world. WorldHolds world start) }
 {
     match World::new(alloc) {
         Ok(world) => Ok(world),
@@ -44,7 +44,7 @@ fn started(alloc: Global) -> Result<World, AllocError>
 // Runs the lines, and says how many operations they are.
 fn run(world: &mut World, mut lines: VecDeque<Line>) -> Result<u32, Fault<Refusal>>
     requires { run.count_of lines.items < 2 ^ 32 }
-    ensures { (s : State) → Holds world.old s → running.Runs s lines.items result world.new }
+    ensures { (s : State) → WorldHolds world.old s → running.Runs s lines.items result world.new }
 {
     let mut count = 0;
     while let Some(line) = lines.pop_front() {
@@ -57,7 +57,7 @@ fn run(world: &mut World, mut lines: VecDeque<Line>) -> Result<u32, Fault<Refusa
 fn act(world: &mut World, before: u32, line: Line) -> Result<u32, Fault<Refusal>>
     requires { before + script.operations line.statement < 2 ^ 32 }
     ensures count { IfOk result (λ count. count ≡ script.operations line.statement) }
-    ensures state { (s : State) → Holds world.old s → running.Acts (run.did s before line) result world.new }
+    ensures state { (s : State) → WorldHolds world.old s → running.Acts (run.did s before line) result world.new }
 {
     let Line {
         number: line,
@@ -81,7 +81,7 @@ fn act(world: &mut World, before: u32, line: Line) -> Result<u32, Fault<Refusal>
 }
 
 fn settle(world: &mut World) -> Result<(), AllocError>
-    ensures { OnOk result ((s : State) → Holds world.old s → Holds world.new (exchange.settle s)) }
+    ensures { OnOk result ((s : State) → WorldHolds world.old s → WorldHolds world.new (exchange.settle s)) }
 {
     match world.settle() {
         Ok(()) => Ok(()),
@@ -91,7 +91,7 @@ fn settle(world: &mut World) -> Result<(), AllocError>
 
 // One event, or its refusal with the line that says it.
 fn happen(world: &mut World, line: u64, event: WorldEvent) -> Result<(), Fault<Refusal>>
-    ensures { (s : State) → Holds world.old s → running.Acts (run.moved s (Does event) line (refusal s event)) result world.new }
+    ensures { (s : State) → WorldHolds world.old s → running.Acts (run.moved s (Does event) line (refusal s event)) result world.new }
 {
     match world.step(event) {
         Ok(_) => Ok(()),

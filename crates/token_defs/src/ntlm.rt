@@ -17,36 +17,36 @@ pub enum NtlmField {
 /// What keeps bytes from being an NTLM message: the first break, in the order written here.
 #[derive(Clone, Copy, Debug, PartialEq, Eq, Error)]
 pub enum NtlmError {
-    #[error("There is no memory for the message.")]
+    #[error("memory ran out")]
     Memory,
     /// Too few bytes, or others in front than `NTLMSSP` and a zero.
-    #[error("The message is too short or does not begin as one of NTLM.")]
+    #[error("the message is too short or does not begin as one of NTLM")]
     BadSignature,
     /// The MessageType, which is another one's.
-    #[error("The message type {0} is not the one that is due.")]
+    #[error("the message type {0} isn't the one that is due")]
     BadType(u32),
     /// The first part that isn't empty and leaves the message.
-    #[error("The part {0:?} leaves the message.")]
+    #[error("the part {0:?} leaves the message")]
     OutOfRange(NtlmField),
     /// The place in the message of the first pair of target information that doesn't fit before an end pair.
-    #[error("The pair of target information at {0} does not fit.")]
+    #[error("the pair of target information at {0} does not fit")]
     BadPairs(usize),
 }
 
 /// Why a logon is refused, in the order in which it is looked at.
 #[derive(Clone, Copy, Debug, PartialEq, Eq, Error)]
 pub enum LogonError {
-    #[error("There is no memory for the logon.")]
+    #[error("memory ran out")]
     Memory,
-    #[error("No user has that name.")]
+    #[error("no user has that name")]
     UnknownUser,
     /// The message doesn't read, lacks what it needs, or its proof isn't the user's.
-    #[error("The proof is not the user's.")]
+    #[error("the proof isn't the user's")]
     WrongProof,
     /// The message owes a MIC, and its MIC is another one.
-    #[error("The message integrity code is not the one of the three messages.")]
+    #[error("the message integrity code isn't the one of the three messages")]
     WrongMic,
-    #[error("The user's name is not ASCII.")]
+    #[error("the user's name isn't ASCII")]
     NotAscii,
 }
 

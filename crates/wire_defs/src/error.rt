@@ -20,38 +20,38 @@ pub enum Part {
 pub enum MessageError {
     /// The place of the first field of the fixed part, a reserved one too, that doesn't fit. The
     /// header is the first field.
-    #[error("too few bytes for the field at {0}")]
+    #[error("the field at byte {0} doesn't fit into the message")]
     Short(usize),
     /// The StructureSize, which isn't the message's.
-    #[error("structure size {0}")]
+    #[error("the StructureSize is {0}, which isn't this message's")]
     BadSize(u16),
     /// A part that isn't empty and doesn't stand behind the fixed part and inside the message.
-    #[error("{0:?} isn't behind the fixed part and inside the message")]
+    #[error("the part {0:?} isn't behind the fixed part and inside the message")]
     BadOffset(Part),
     /// A list whose count is 0 where it must not be, or that doesn't fit.
-    #[error("the count of {0:?}")]
+    #[error("the count of the part {0:?} is 0 or doesn't fit into the message")]
     BadCount(Part),
     /// An information class that isn't known.
-    #[error("information class {0}")]
+    #[error("the information class {0} isn't known")]
     BadClass(u8),
 }
 
 /// What keeps bytes from being a header, or a frame from being a chain of messages.
 #[derive(Clone, Copy, Debug, PartialEq, Eq, Error)]
 pub enum HeaderError {
-    #[error("out of memory")]
+    #[error("memory ran out")]
     Memory,
     /// Fewer than 64 bytes.
-    #[error("fewer bytes than a header")]
+    #[error("the message has fewer bytes than a header, which has 64")]
     Short,
     /// The first four bytes, which aren't FE 'S' 'M' 'B'.
-    #[error("protocol {0:?}")]
+    #[error("the message begins with the bytes {0:?}, and not with FE 'S' 'M' 'B'")]
     BadProtocol([u8; 4]),
     /// The StructureSize, which isn't 64.
-    #[error("header size {0}")]
+    #[error("the header's StructureSize is {0}, and not 64")]
     BadSize(u16),
     /// The place of a message whose NextCommand leads nowhere.
-    #[error("the next message of the one at {0}")]
+    #[error("the NextCommand of the message at byte {0} leads to no message")]
     BadNext(usize),
 }
 

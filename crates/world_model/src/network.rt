@@ -56,14 +56,14 @@ impl From<AllocError> for WorldError {
 
 /// A request that travels: its operation and its bytes.
 #[derive(Drop)]
-pub struct Asked {
+pub struct WaitingRequest {
     pub number: u32,
     pub bytes: Bytes,
 }
 
 /// A response that travels: the number of the serve that made it, from 0 on, and its bytes.
 #[derive(Drop)]
-pub struct Told {
+pub struct WaitingResponse {
     pub place: u64,
     pub bytes: Bytes,
 }
@@ -71,7 +71,7 @@ pub struct Told {
 /// What the server did for an operation: the number of the serve in which it acted first, and of
 /// the one whose reply settled it.
 #[derive(Clone, Copy)]
-pub struct Mark {
+pub struct OperationServes {
     pub first: Option<u64>,
     pub by: Option<u64>,
 }
@@ -82,9 +82,9 @@ pub struct Mark {
 pub struct World {
     pub(crate) client: Client,
     pub(crate) server: Server,
-    pub(crate) up: VecDeque<Asked>,
-    pub(crate) down: VecDeque<Told>,
+    pub(crate) up: VecDeque<WaitingRequest>,
+    pub(crate) down: VecDeque<WaitingResponse>,
     pub(crate) served: Vec<u32>,
-    pub(crate) marks: Vec<Mark>,
+    pub(crate) serves_by_operation: Vec<OperationServes>,
     pub(crate) alloc: Global,
 }

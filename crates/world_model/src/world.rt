@@ -5,11 +5,14 @@ ghost use Rattle.world_model.specs.OneContent.{account_of};
 ghost use Rattle.world_model.specs.Exchange.{State, front_note, happens, note_of, noted, pushed, refusal, served, settle, start, submitted, took};
 ghost use Rattle.world_model.specs.Shape.{CountsFrom};
 ghost use Rattle.world_model.specs.Views.{IsAllSettled, StepFails};
-ghost use Rattle.world_model.specs.Holding.{Holds, mark_at};
+ghost use Rattle.world_model.specs.Holding.{WorldHolds, serves_at};
 
 use crate::lists::{FileList, NumberList, SettledList};
 use crate::message::{id_behind, request};
-use crate::network::{Asked, Mark, NO_NOTE, StepNote, Told, World, WorldError, WorldEvent};
+use crate::network::{
+    NO_NOTE, OperationServes, StepNote, WaitingRequest, WaitingResponse, World, WorldError,
+    WorldEvent,
+};
 use crate::operation::Op;
 use crate::server::Server;
 use crate::table::{Client, Outcomes, Sent};
@@ -20,7 +23,7 @@ use std::collections::VecDeque;
 impl World {
     /// One client and one server, with the empty file `given`, which is open under create 0.
     pub fn new(alloc: Global) -> Result<World, WorldError>
-        ensures { IfOk result (λ w. Holds w start) }
+        ensures { IfOk result (λ w. WorldHolds w start) }
     {
         Ok(World {
             client: Client {
@@ -38,7 +41,7 @@ impl World {
             up: VecDeque::new(alloc),
             down: VecDeque::new(alloc),
             served: Vec::new(alloc),
-            marks: Vec::new(alloc),
+            serves_by_operation: Vec::new(alloc),
             alloc,
         })
     }
@@ -46,9 +49,9 @@ impl World {
     /// One event. `NoChannel` comes exactly for a connection that isn't 0, `NothingThere` exactly
     /// where the list is empty from which the event takes its front.
     pub fn step(&mut self, event: WorldEvent) -> Result<StepNote, WorldError>
-        ensures ok { IfOk result (λ note. (s : State) → Holds self.old s → (refusal s event ≡ None) × (note ≡ note_of s event) × Holds self.new (happens s event)) }
-        ensures err { IfErr result (λ e. (s : State) → Holds self.old s → StepFails (refusal s event) e × Holds self.new s) }
-        ensures refused { (s : State) (e : Refusal) → Holds self.old s → refusal s event ≡ Some e → result ≡ Err e }
+        ensures ok { IfOk result (λ note. (s : State) → WorldHolds self.old s → (refusal s event ≡ None) × (note ≡ note_of s event) × WorldHolds self.new (happens s event)) }
+        ensures err { IfErr result (λ e. (s : State) → WorldHolds self.old s → StepFails (refusal s event) e × WorldHolds self.new s) }
+        ensures refused { (s : State) (e : Refusal) → WorldHolds self.old s → refusal s event ≡ Some e → result ≡ Err e }
     {
         match event {
             WorldEvent::Submit(op) => self.submit(op)?,
@@ -77,8 +80,8 @@ impl World {
     /// Pushes, serves and takes, once for each operation that isn't settled, and then all are. Its
     /// only error is `Memory`; some of these events have happened then.
     pub fn settle(&mut self) -> Result<(), WorldError>
-        ensures ok { OnOk result ((s : State) → Holds self.old s → Holds self.new (settle s)) }
-        ensures all { OnOk result ((s : State) → Holds self.old s → IsAllSettled (settle s)) }
+        ensures ok { OnOk result ((s : State) → WorldHolds self.old s → WorldHolds self.new (settle s)) }
+        ensures all { OnOk result ((s : State) → WorldHolds self.old s → IsAllSettled (settle s)) }
         ensures cause { IfErr result (λ e. e ≡ WorldError.Memory) }
     {
         let settled = self.client.outcomes.settled.len();
@@ -91,7 +94,7 @@ impl World {
 
     /// A push, a serve and a take.
     fn round(&mut self) -> Result<(), AllocError>
-        ensures { (s : State) → Holds self.old s → OnOk result (Holds self.new (took (served (pushed s)))) }
+        ensures { (s : State) → WorldHolds self.old s → OnOk result (WorldHolds self.new (took (served (pushed s)))) }
     {
         self.push()?;
         self.serve()?;
@@ -100,17 +103,17 @@ impl World {
 
     /// What the client settled so far.
     pub fn outcomes(&self) -> &Outcomes
-        ensures settled { (s : State) → Holds self.now s → result.now.settled ≡ s.settled }
-        ensures order { (s : State) → Holds self.now s → result.now.order ≡ map (λ x. x.0) s.settled }
-        ensures numbers { (s : State) → Holds self.now s → CountsFrom 1 s.settled }
-        ensures within { (s : State) → Holds self.now s → length s.settled ≤ length s.taken }
+        ensures settled { (s : State) → WorldHolds self.now s → result.now.settled ≡ s.settled }
+        ensures order { (s : State) → WorldHolds self.now s → result.now.order ≡ map (λ x. x.0) s.settled }
+        ensures numbers { (s : State) → WorldHolds self.now s → CountsFrom 1 s.settled }
+        ensures within { (s : State) → WorldHolds self.now s → length s.settled ≤ length s.taken }
     {
         &self.client.outcomes
     }
 
     /// The reads and writes of a create, in the order in which the server took them.
     pub fn order(&self, create: u32) -> Result<NumberList, AllocError>
-        ensures { (s : State) → Holds self.now s → IfOk result (λ l. l ≡ order_of (account_of s) create) }
+        ensures { (s : State) → WorldHolds self.now s → IfOk result (λ l. l ≡ order_of (account_of s) create) }
     {
         let mut numbers = NumberList::new(self.alloc);
         if create != 0 {
@@ -119,7 +122,7 @@ impl World {
         for place in 0..self.served.len() {
             let number = self.served[place];
             if has_place(
-                &self.marks,
+                &self.serves_by_operation,
                 (number as usize).saturating_sub(1),
                 place as u64,
             ) {
@@ -131,7 +134,7 @@ impl World {
 
     /// The files, each with its path and bytes.
     pub fn files(&self) -> Result<FileList, AllocError>
-        ensures { IfOk result (λ files. (s : State) → Holds self.now s → files ≡ (codes "given", s.file) ∷ []) }
+        ensures { IfOk result (λ files. (s : State) → WorldHolds self.now s → files ≡ (codes "given", s.file) ∷ []) }
     {
         let mut files = FileList::new(self.alloc);
         let path = Text::from_str(self.alloc, "given")?;
@@ -142,8 +145,8 @@ impl World {
 
     /// The client sends the lowest unsettled operation, where none is outstanding.
     fn push(&mut self) -> Result<(), AllocError>
-        ensures ok { (s : State) → Holds self.old s → OnOk result (Holds self.new (pushed s)) }
-        ensures err { (s : State) → Holds self.old s → OnErr result (Holds self.new s) }
+        ensures ok { (s : State) → WorldHolds self.old s → OnOk result (WorldHolds self.new (pushed s)) }
+        ensures err { (s : State) → WorldHolds self.old s → OnErr result (WorldHolds self.new s) }
     {
         if self.client.sent.is_some() {
             return Ok(());
@@ -156,7 +159,7 @@ impl World {
         let bytes = self.client.request_at(self.alloc, settled)?;
         let next = self.client.id_behind(settled);
         let number = (settled + 1) as u32;
-        self.up.push_back(Asked { number, bytes })?;
+        self.up.push_back(WaitingRequest { number, bytes })?;
         self.client.sent = Some(Sent { number, message });
         self.client.next = next;
         Ok(())
@@ -164,12 +167,12 @@ impl World {
 
     /// The client takes an operation, where its number is the next one and it keeps the limits.
     fn submit(&mut self, op: Op) -> Result<(), AllocError>
-        ensures ok { (s : State) → Holds self.old s → OnOk result (Holds self.new (submitted s op)) }
-        ensures err { (s : State) → Holds self.old s → OnErr result (Holds self.new s) }
+        ensures ok { (s : State) → WorldHolds self.old s → OnOk result (WorldHolds self.new (submitted s op)) }
+        ensures err { (s : State) → WorldHolds self.old s → OnErr result (WorldHolds self.new s) }
     {
-        self.marks.reserve(1)?;
+        self.serves_by_operation.reserve(1)?;
         if self.client.submit(op)? {
-            let _ = self.marks.push(Mark {
+            let _ = self.serves_by_operation.push(OperationServes {
                 first: None,
                 by: None,
             });
@@ -179,9 +182,9 @@ impl World {
 
     /// The server answers the front of the up list, where there is one.
     fn serve(&mut self) -> Result<StepNote, AllocError>
-        ensures ok { (s : State) → Holds self.old s → OnOk result (Holds self.new (served s)) }
-        ensures note { (s : State) → Holds self.old s → IfOk result (λ n. n ≡ front_note s s.up) }
-        ensures err { (s : State) → Holds self.old s → OnErr result (Holds self.new s) }
+        ensures ok { (s : State) → WorldHolds self.old s → OnOk result (WorldHolds self.new (served s)) }
+        ensures note { (s : State) → WorldHolds self.old s → IfOk result (λ n. n ≡ front_note s s.up) }
+        ensures err { (s : State) → WorldHolds self.old s → OnErr result (WorldHolds self.new s) }
     {
         self.down.reserve(1)?;
         self.served.reserve(1)?;
@@ -199,21 +202,25 @@ impl World {
             status: Some(answered.status),
             acted: answered.acted,
         };
-        let _ = self.down.push_back(Told {
+        let _ = self.down.push_back(WaitingResponse {
             place,
             bytes: answered.bytes,
         });
         let _ = self.served.push(number);
         if note.acted {
-            mark_first(&mut self.marks, (number as usize).saturating_sub(1), place);
+            note_first(
+                &mut self.serves_by_operation,
+                (number as usize).saturating_sub(1),
+                place,
+            );
         }
         Ok(note)
     }
 
     /// The client hears the front of the down list, where there is one.
     fn take(&mut self) -> Result<(), AllocError>
-        ensures ok { (s : State) → Holds self.old s → OnOk result (Holds self.new (took s)) }
-        ensures err { (s : State) → Holds self.old s → OnErr result (Holds self.new s) }
+        ensures ok { (s : State) → WorldHolds self.old s → OnOk result (WorldHolds self.new (took s)) }
+        ensures err { (s : State) → WorldHolds self.old s → OnErr result (WorldHolds self.new s) }
     {
         let Some(told) = self.down.front() else {
             return Ok(());
@@ -222,7 +229,11 @@ impl World {
         let settled = self.client.hear(self.alloc, told.bytes.as_slice())?;
         let _ = self.down.pop_front();
         if let Some(number) = settled {
-            mark_by(&mut self.marks, (number as usize).saturating_sub(1), place);
+            note_settled_by(
+                &mut self.serves_by_operation,
+                (number as usize).saturating_sub(1),
+                place,
+            );
         }
         Ok(())
     }
@@ -230,13 +241,13 @@ impl World {
 
 /// Whether an operation has its place at a serve: it acted there first, or else its settling reply
 /// was made there.
-fn has_place(marks: &[Mark], index: usize, place: u64) -> bool
-    ensures { result ≡ is_at place (placed (mark_at marks.now index).first (mark_at marks.now index).by) }
+fn has_place(serves_by_operation: &[OperationServes], index: usize, place: u64) -> bool
+    ensures { result ≡ is_at place (placed (serves_at serves_by_operation.now index).first (serves_at serves_by_operation.now index).by) }
 {
-    if index >= marks.len() {
+    if index >= serves_by_operation.len() {
         return false;
     }
-    let mark = marks[index];
+    let mark = serves_by_operation[index];
     match mark.first {
         Some(first) => first == place,
         None => mark.by == Some(place),
@@ -244,12 +255,12 @@ fn has_place(marks: &[Mark], index: usize, place: u64) -> bool
 }
 
 /// Notes the serve in which an operation acted, where none is noted.
-fn mark_first(marks: &mut [Mark], index: usize, place: u64)
-    ensures first { (n : ℕ) → index < length marks.old → (mark_at marks.new n).first ≡ (if n == index then noted (mark_at marks.old n).first place else (mark_at marks.old n).first) }
-    ensures by { (n : ℕ) → (mark_at marks.new n).by ≡ (mark_at marks.old n).by }
+fn note_first(serves_by_operation: &mut [OperationServes], index: usize, place: u64)
+    ensures first { (n : ℕ) → index < length serves_by_operation.old → (serves_at serves_by_operation.new n).first ≡ (if n == index then noted (serves_at serves_by_operation.old n).first place else (serves_at serves_by_operation.old n).first) }
+    ensures by { (n : ℕ) → (serves_at serves_by_operation.new n).by ≡ (serves_at serves_by_operation.old n).by }
 {
-    if index < marks.len() {
-        let mark = &mut marks[index];
+    if index < serves_by_operation.len() {
+        let mark = &mut serves_by_operation[index];
         if mark.first.is_none() {
             mark.first = Some(place);
         }
@@ -257,12 +268,12 @@ fn mark_first(marks: &mut [Mark], index: usize, place: u64)
 }
 
 /// Notes the serve whose reply settled an operation.
-fn mark_by(marks: &mut [Mark], index: usize, place: u64)
-    ensures first { (n : ℕ) → (mark_at marks.new n).first ≡ (mark_at marks.old n).first }
-    ensures by { (n : ℕ) → index < length marks.old → (mark_at marks.new n).by ≡ (if n == index then Some place else (mark_at marks.old n).by) }
+fn note_settled_by(serves_by_operation: &mut [OperationServes], index: usize, place: u64)
+    ensures first { (n : ℕ) → (serves_at serves_by_operation.new n).first ≡ (serves_at serves_by_operation.old n).first }
+    ensures by { (n : ℕ) → index < length serves_by_operation.old → (serves_at serves_by_operation.new n).by ≡ (if n == index then Some place else (serves_at serves_by_operation.old n).by) }
 {
-    if index < marks.len() {
-        let mark = &mut marks[index];
+    if index < serves_by_operation.len() {
+        let mark = &mut serves_by_operation[index];
         mark.by = Some(place);
     }
 }

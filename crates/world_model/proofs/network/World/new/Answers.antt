@@ -18,7 +18,7 @@ returns c =
       who = λ n l. absurd (omega arith);
       named = λ n l. absurd (omega arith);
       birth = refl;
-      marks = c.new-8.ensures.len;
+      serves_by_operation = c.new-8.ensures.len;
       first = λ n. rw c.new-8.ensures.items refl;
       by = λ n. rw c.new-8.ensures.items refl;
     }
