@@ -9,7 +9,8 @@ pub after_none : (ws : List (List ℕ)) (block : List ℕ) → block_sum block (
 unfolding after
 after_none ws block = refl
 
-pub after_more : (ws : List (List ℕ)) (block : List ℕ) (i : ℕ) → block_sum (mixed_columns (replaced (after ws block i))) (round_key ws (i + 1)) ≡ after ws block (i + 1)
+pub after_more : (ws : List (List ℕ)) (block : List ℕ) (i : ℕ) → block_sum (mixed_columns (replaced (after ws block i)))
+    (round_key ws (i + 1)) ≡ after ws block (i + 1)
 unfolding after
 after_more ws block i = let k : i + 1 ≡ suc i = omega arith in rw k refl
 
@@ -32,5 +33,6 @@ unfolding expanded
 expanded_more nk key ws i next lt so_far is =
     let k : i + 1 ≡ suc i = omega arith in
     let len : length (take i ws) ≡ i = length-take-le i ws (omega arith) in
-    let new : next ≡ next_word nk key (expanded nk key i) i = is ∙ ap (λ (n : ℕ). next_word nk key (take i ws) n) len ∙ ap (λ (l : List (List ℕ)). next_word nk key l i) so_far in
+    let new : next ≡ next_word nk key (expanded nk key i) i = is ∙ ap (λ (n : ℕ). next_word nk key (take i ws) n) len
+    ∙ ap (λ (l : List (List ℕ)). next_word nk key l i) so_far in
     take_more_set ws i next lt ∙ rw (so_far, k, new) refl

@@ -4,10 +4,12 @@ use Rattle.cipher_defs.specs.Md4.{block_words, rounds, compress, hash_after, dig
 use Rattle.cipher_defs.specs.Rc4.{scheduled, opened, enciphered}
 
 -- the orders of RFC 1320, 3.4
-pub columns_are : map column_place (0 ∷ 1 ∷ 2 ∷ 3 ∷ 4 ∷ 5 ∷ 6 ∷ 7 ∷ 8 ∷ 9 ∷ 10 ∷ 11 ∷ 12 ∷ 13 ∷ 14 ∷ 15 ∷ []) ≡ 0 ∷ 4 ∷ 8 ∷ 12 ∷ 1 ∷ 5 ∷ 9 ∷ 13 ∷ 2 ∷ 6 ∷ 10 ∷ 14 ∷ 3 ∷ 7 ∷ 11 ∷ 15 ∷ []
+pub columns_are : map column_place (0 ∷ 1 ∷ 2 ∷ 3 ∷ 4 ∷ 5 ∷ 6 ∷ 7 ∷ 8 ∷ 9 ∷ 10 ∷ 11 ∷ 12 ∷ 13 ∷ 14 ∷ 15 ∷ [])
+    ≡ 0 ∷ 4 ∷ 8 ∷ 12 ∷ 1 ∷ 5 ∷ 9 ∷ 13 ∷ 2 ∷ 6 ∷ 10 ∷ 14 ∷ 3 ∷ 7 ∷ 11 ∷ 15 ∷ []
 columns_are = refl
 
-pub reversed_are : map reversed_place (0 ∷ 1 ∷ 2 ∷ 3 ∷ 4 ∷ 5 ∷ 6 ∷ 7 ∷ 8 ∷ 9 ∷ 10 ∷ 11 ∷ 12 ∷ 13 ∷ 14 ∷ 15 ∷ []) ≡ 0 ∷ 8 ∷ 4 ∷ 12 ∷ 2 ∷ 10 ∷ 6 ∷ 14 ∷ 1 ∷ 9 ∷ 5 ∷ 13 ∷ 3 ∷ 11 ∷ 7 ∷ 15 ∷ []
+pub reversed_are : map reversed_place (0 ∷ 1 ∷ 2 ∷ 3 ∷ 4 ∷ 5 ∷ 6 ∷ 7 ∷ 8 ∷ 9 ∷ 10 ∷ 11 ∷ 12 ∷ 13 ∷ 14 ∷ 15 ∷ [])
+    ≡ 0 ∷ 8 ∷ 4 ∷ 12 ∷ 2 ∷ 10 ∷ 6 ∷ 14 ∷ 1 ∷ 9 ∷ 5 ∷ 13 ∷ 3 ∷ 11 ∷ 7 ∷ 15 ∷ []
 reversed_are = refl
 
 -- RFC 1320, A.5
@@ -16,7 +18,8 @@ unfolding block_words rounds compress hash_after digest_bytes md4
 digest_of_abc = refl
 
 -- 62 bytes, which the padding carries into a second block
-pub digest_of_two_blocks : md4 (codes "ABCDEFGHIJKLMNOPQRSTUVWXYZabcdefghijklmnopqrstuvwxyz0123456789") ≡ 4 ∷ 63 ∷ 133 ∷ 130 ∷ 242 ∷ 65 ∷ 219 ∷ 53 ∷ 28 ∷ 230 ∷ 39 ∷ 225 ∷ 83 ∷ 231 ∷ 240 ∷ 228 ∷ []
+pub digest_of_two_blocks : md4 (codes "ABCDEFGHIJKLMNOPQRSTUVWXYZabcdefghijklmnopqrstuvwxyz0123456789")
+    ≡ 4 ∷ 63 ∷ 133 ∷ 130 ∷ 242 ∷ 65 ∷ 219 ∷ 53 ∷ 28 ∷ 230 ∷ 39 ∷ 225 ∷ 83 ∷ 231 ∷ 240 ∷ 228 ∷ []
 unfolding block_words rounds compress hash_after digest_bytes md4
 digest_of_two_blocks = refl
 

@@ -1,7 +1,8 @@
 -- The cipher of FIPS 197, for keys of 4 and 8 words (AES-128 and AES-256).
 -- A block and the state are 16 bytes, column after column: byte r + 4 c stands in row r and column c (3.4).
 -- The expanded key is a list of words, each of 4 bytes.
-use Rattle.std.specs.Prelude.{ℕ, zero, suc, ◌+◌, ◌-◌, ◌*◌, ◌/◌, ◌%◌, nat_lt, ◌==◌, ◌&&◌, if◌then◌else◌, List, [], ◌∷◌, ◌++◌, length, map, slice_index, slice_index_or, bit_xor}
+use Rattle.std.specs.Prelude.{ℕ, zero, suc, ◌+◌, ◌-◌, ◌*◌, ◌/◌, ◌%◌, nat_lt, ◌==◌, ◌&&◌, if◌then◌else◌, List, [], ◌∷◌}
+use Rattle.std.specs.Prelude.{◌++◌, length, map, slice_index, slice_index_or, bit_xor}
 use Rattle.cipher_defs.specs.Field.{doubled, sbox}
 
 abbrev pub four : (ℕ → ℕ) → List ℕ

@@ -1,13 +1,15 @@
 -- CCM of SP 800-38C over AES, with the formatting and the counter blocks of its appendix A.
 -- The nonce has n bytes, 7 to 13; the text's length stands in q = 15 - n bytes; the tag has t bytes, 4, 6 .. 16.
-use Rattle.std.specs.Prelude.{◌≡◌, ℕ, ◌+◌, ◌-◌, ◌*◌, ◌/◌, ◌%◌, ◌^◌, ◌≤◌, ◌<◌, List, [], ◌∷◌, ◌++◌, length, take, drop, slice_index, nat_lt, nat_le, ◌==◌, if◌then◌else◌, Option, Some, None}
+use Rattle.std.specs.Prelude.{◌≡◌, ℕ, ◌+◌, ◌-◌, ◌*◌, ◌/◌, ◌%◌, ◌^◌, ◌≤◌, ◌<◌, List, [], ◌∷◌, ◌++◌, length, take, drop}
+use Rattle.std.specs.Prelude.{slice_index, nat_lt, nat_le, ◌==◌, if◌then◌else◌, Option, Some, None}
 use Rattle.cipher_defs.specs.Aes.{sixteen, cipher}
 use Rattle.cipher_defs.specs.Blocks.{big_byte, block_count, chained, masked}
 
 -- a first byte, the nonce, and a number in the q bytes behind it
 unfoldable pub nonce_block : ℕ → List ℕ → ℕ → List ℕ
 nonce_block first nonce n =
-    sixteen (λ k. if k == 0 then first else if nat_le k (length nonce) then slice_index nonce (k - 1) else big_byte (15 - length nonce) n (k - 1 - length nonce))
+    sixteen (λ k. if k == 0 then first else if nat_le k (length nonce) then slice_index nonce (k - 1) else big_byte
+    (15 - length nonce) n (k - 1 - length nonce))
 
 -- the flags of the first block: whether there is additional data, (t - 2) / 2 in three bits, q - 1 in three bits (A.2.1)
 abbrev pub flags : List ℕ → List ℕ → ℕ → ℕ
@@ -22,7 +24,8 @@ unfoldable pub length_prefix : ℕ → List ℕ
 length_prefix a =
     if nat_lt a 65280 then big_byte 2 a 0 ∷ big_byte 2 a 1 ∷ []
     else if nat_lt a (2 ^ 32) then 255 ∷ 254 ∷ big_byte 4 a 0 ∷ big_byte 4 a 1 ∷ big_byte 4 a 2 ∷ big_byte 4 a 3 ∷ []
-    else 255 ∷ 255 ∷ big_byte 8 a 0 ∷ big_byte 8 a 1 ∷ big_byte 8 a 2 ∷ big_byte 8 a 3 ∷ big_byte 8 a 4 ∷ big_byte 8 a 5 ∷ big_byte 8 a 6 ∷ big_byte 8 a 7 ∷ []
+    else 255 ∷ 255 ∷ big_byte 8 a 0 ∷ big_byte 8 a 1 ∷ big_byte 8 a 2 ∷ big_byte 8 a 3 ∷ big_byte 8 a 4 ∷ big_byte 8 a 5
+    ∷ big_byte 8 a 6 ∷ big_byte 8 a 7 ∷ []
 
 -- what stands for the additional data: nothing, or its length and itself (A.2.2)
 unfoldable pub prefixed : List ℕ → List ℕ

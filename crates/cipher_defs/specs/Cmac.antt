@@ -1,5 +1,6 @@
 -- CMAC of SP 800-38B, section 6, over AES, with a tag of 16 bytes.
-use Rattle.std.specs.Prelude.{ℕ, ◌+◌, ◌-◌, ◌*◌, ◌/◌, ◌%◌, ◌^◌, List, [], ◌∷◌, length, drop, slice_index, nat_lt, ◌==◌, if◌then◌else◌, bit_xor}
+use Rattle.std.specs.Prelude.{ℕ, ◌+◌, ◌-◌, ◌*◌, ◌/◌, ◌%◌, ◌^◌, List, [], ◌∷◌, length, drop, slice_index, nat_lt, ◌==◌}
+use Rattle.std.specs.Prelude.{if◌then◌else◌, bit_xor}
 use Rattle.std.specs.Int.{w128, from_be_bytes, to_be_bytes}
 use Rattle.cipher_defs.specs.Aes.{sixteen, block_sum, cipher}
 use Rattle.cipher_defs.specs.Blocks.{chained}

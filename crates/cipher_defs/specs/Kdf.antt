@@ -1,4 +1,5 @@
--- Key derivation in counter mode (SP 800-108, 4.1) by HMAC with SHA-256, as MS-SMB2 3.1.4.2 takes it: the counter and the length have 32 bits, high byte first.
+-- Key derivation in counter mode (SP 800-108, 4.1) by HMAC with SHA-256, as MS-SMB2 3.1.4.2 takes it: the counter and
+-- the length have 32 bits, high byte first.
 use Rattle.std.specs.Prelude.{ℕ, zero, suc, ◌+◌, ◌/◌, List, [], ◌∷◌, ◌++◌, take}
 use Rattle.std.specs.Int.{w32, to_be_bytes}
 use Rattle.cipher_defs.specs.Hmac.{zero_padded, hmac_of_sha256}

@@ -22,7 +22,12 @@ or_false true = refl
 or_false false = refl
 
 pub requests_assoc : (a b c : CreateContexts) → both_requests (both_requests a b) c ≡ both_requests a (both_requests b c)
-requests_assoc a b c = rw (first_assoc a.dh2q b.dh2q c.dh2q, first_assoc a.dh2c b.dh2c c.dh2c, or_assoc a.mxac b.mxac c.mxac, or_assoc a.qfid b.qfid c.qfid) refl
+requests_assoc a b c = rw (
+  first_assoc a.dh2q b.dh2q c.dh2q,
+  first_assoc a.dh2c b.dh2c c.dh2c,
+  or_assoc a.mxac b.mxac c.mxac,
+  or_assoc a.qfid b.qfid c.qfid,
+) refl
 
 pub requests_none : (a : CreateContexts) → both_requests a no_requests ≡ a
 requests_none a = rw (first_none a.dh2q, first_none a.dh2c, or_false a.mxac, or_false a.qfid) refl

@@ -1,8 +1,11 @@
 -- A chain that is written piece by piece.
-use Rattle.std.proofs.Common.{◌≡◌, ℕ, ◌≤◌, Bool, true, false, List, [], ◌∷◌, ◌++◌, length, Option, Some, None, refl, sym, ap, ◌∙◌, append_assoc, arith}
+use Rattle.std.proofs.Common.{◌≡◌, ℕ, ◌≤◌, Bool, true, false, List, [], ◌∷◌, ◌++◌, length, Option, Some, None, refl}
+use Rattle.std.proofs.Common.{sym, ap, ◌∙◌, append_assoc, arith}
 use Rattle.std.proofs.lemmas.List.{append-nil}
 use Rattle.wire_defs.specs.Chain.{chain_spelling}
-use Rattle.wire_defs.specs.CreateContexts.{CreateContext, context_spelling, context_size, dh2q_asked, dh2c_asked, asked, mxac, qfid, create_contexts_spelling, dh2q_told, mxac_told, qfid_told, reply_contexts_spelling}
+use Rattle.wire_defs.specs.CreateContexts.{CreateContext, context_spelling, context_size, dh2q_asked, dh2c_asked, asked}
+use Rattle.wire_defs.specs.CreateContexts.{mxac, qfid, create_contexts_spelling, dh2q_told, mxac_told, qfid_told}
+use Rattle.wire_defs.specs.CreateContexts.{reply_contexts_spelling}
 use Rattle.wire_defs.specs.declared.context.CreateContexts.{CreateContexts}
 use Rattle.wire_defs.specs.declared.context.ReplyContexts.{ReplyContexts}
 use Rattle.wire_defs.specs.declared.context.Dh2q.{Dh2q}
@@ -30,7 +33,8 @@ joined_three : (xs ys zs : List CreateContext) → length xs ≤ 1 → length ys
     → written (xs ++ (ys ++ zs)) ≡ (pieces (some (ys ++ zs)) xs ++ pieces (some zs) ys) ++ pieces false zs
 joined_three xs ys zs one two three =
     joined xs (ys ++ zs) one
-    ∙ ap (λ (b : List ℕ). pieces (some (ys ++ zs)) xs ++ b) (joined ys zs two ∙ ap (λ (b : List ℕ). pieces (some zs) ys ++ b) (joined_last zs three))
+    ∙ ap (λ (b : List ℕ). pieces (some (ys ++ zs)) xs ++ b) (joined ys zs two ∙ ap (λ (b : List ℕ). pieces (some zs) ys
+    ++ b) (joined_last zs three))
     ∙ sym (append_assoc (pieces (some (ys ++ zs)) xs) (pieces (some zs) ys) (pieces false zs))
 
 few_asked : (wanted : Bool) (name : List ℕ) → length (asked wanted name) ≤ 1
@@ -61,14 +65,21 @@ some_asked : (wanted : Bool) (name : List ℕ) → some (asked wanted name) ≡ 
 some_asked true name = refl
 some_asked false name = refl
 
-pub replies_written : (c : ReplyContexts) → reply_contexts_spelling c ≡ (pieces (some (mxac_told c.mxac ++ qfid_told c.qfid)) (dh2q_told c.dh2q) ++ pieces (some (qfid_told c.qfid)) (mxac_told c.mxac)) ++ pieces false (qfid_told c.qfid)
-replies_written c = joined_three (dh2q_told c.dh2q) (mxac_told c.mxac) (qfid_told c.qfid) (few_dh2q_told c.dh2q) (few_mxac_told c.mxac) (few_qfid_told c.qfid)
+pub replies_written : (c : ReplyContexts) → reply_contexts_spelling c
+    ≡ (pieces (some (mxac_told c.mxac ++ qfid_told c.qfid)) (dh2q_told c.dh2q) ++ pieces (some (qfid_told c.qfid))
+    (mxac_told c.mxac)) ++ pieces false (qfid_told c.qfid)
+replies_written c = joined_three (dh2q_told c.dh2q) (mxac_told c.mxac) (qfid_told c.qfid) (few_dh2q_told c.dh2q)
+    (few_mxac_told c.mxac) (few_qfid_told c.qfid)
 
-pub requests_written : (c : CreateContexts) → create_contexts_spelling c ≡ ((pieces (some (dh2c_asked c.dh2c ++ (asked c.mxac mxac ++ asked c.qfid qfid))) (dh2q_asked c.dh2q) ++ pieces (some (asked c.mxac mxac ++ asked c.qfid qfid)) (dh2c_asked c.dh2c)) ++ pieces c.qfid (asked c.mxac mxac)) ++ pieces false (asked c.qfid qfid)
+pub requests_written : (c : CreateContexts) → create_contexts_spelling c
+    ≡ ((pieces (some (dh2c_asked c.dh2c ++ (asked c.mxac mxac ++ asked c.qfid qfid))) (dh2q_asked c.dh2q)
+    ++ pieces (some (asked c.mxac mxac ++ asked c.qfid qfid)) (dh2c_asked c.dh2c)) ++ pieces c.qfid (asked c.mxac mxac))
+    ++ pieces false (asked c.qfid qfid)
 requests_written c =
     let first : List ℕ = pieces (some (dh2c_asked c.dh2c ++ (asked c.mxac mxac ++ asked c.qfid qfid))) (dh2q_asked c.dh2q) in
     let last : List ℕ = pieces false (asked c.qfid qfid) in
-    let rest = joined_three (dh2c_asked c.dh2c) (asked c.mxac mxac) (asked c.qfid qfid) (few_dh2c c.dh2c) (few_asked c.mxac mxac) (few_asked c.qfid qfid) in
+    let rest = joined_three (dh2c_asked c.dh2c) (asked c.mxac mxac) (asked c.qfid qfid) (few_dh2c c.dh2c)
+    (few_asked c.mxac mxac) (few_asked c.qfid qfid) in
     joined (dh2q_asked c.dh2q) (dh2c_asked c.dh2c ++ (asked c.mxac mxac ++ asked c.qfid qfid)) (few_dh2q c.dh2q)
     ∙ ap (λ (b : List ℕ). first ++ b) rest
     ∙ rw (some_asked c.qfid qfid) (simp append_assoc)

@@ -4,7 +4,8 @@ use Rattle.std.proofs.lemmas.Grind.{common_steps}
 use Rattle.wire_defs.specs.Chain.{is_badly_linked, piece}
 use Rattle.wire_defs.specs.CreateContexts.{first_fault, context_fault}
 
-pub behind_link : (due : List ℕ → Option ℕ) (m : List ℕ) → 16 ≤ length m → is_badly_linked m ≡ false → first_fault due m ≡ context_fault due (piece m)
+pub behind_link : (due : List ℕ → Option ℕ) (m : List ℕ) → 16 ≤ length m → is_badly_linked m ≡ false → first_fault due m
+    ≡ context_fault due (piece m)
 unfolding first_fault
 behind_link due m long link = grind (arith, common_steps)
 

@@ -1,8 +1,10 @@
 -- What the functions of this crate make of a chain of create contexts: one context, and the chain written piece by piece.
-use Rattle.std.specs.Prelude.{◌≡◌, ℕ, ◌+◌, ◌<◌, ◌≤◌, Bool, true, false, if◌then◌else◌, List, [], ◌∷◌, ◌++◌, length, Option, Some, None, Result, Ok, Err}
+use Rattle.std.specs.Prelude.{◌≡◌, ℕ, ◌+◌, ◌<◌, ◌≤◌, Bool, true, false, if◌then◌else◌, List, [], ◌∷◌, ◌++◌, length}
+use Rattle.std.specs.Prelude.{Option, Some, None, Result, Ok, Err}
 use Rattle.wire_defs.specs.Places.{number, le, gap_to_8}
 use Rattle.wire_defs.specs.Chain.{is_badly_linked, piece}
-use Rattle.wire_defs.specs.CreateContexts.{CreateContext, IsContext, first_fault, request_due, reply_due, request_of, reply_of, context_spelling, context_size}
+use Rattle.wire_defs.specs.CreateContexts.{CreateContext, IsContext, first_fault, request_due, reply_due, request_of}
+use Rattle.wire_defs.specs.CreateContexts.{reply_of, context_spelling, context_size}
 use Rattle.wire_defs.specs.declared.chain_error.ChainError.{ChainError}
 use Rattle.wire_defs.specs.declared.context.CreateContexts.{CreateContexts}
 use Rattle.wire_defs.specs.declared.context.ReplyContexts.{ReplyContexts}
@@ -23,12 +25,14 @@ context c = record { name = c.name.now; value = c.value.now }
 
 -- The context that a chain begins with and how far the next one is, or its first break.
 abbrev pub ReadsFirst : Side → List ℕ → Result First ChainError → Type 0
-ReadsFirst side m (Ok f) = (first_fault (due_of side) m ≡ None) × (is_badly_linked m ≡ false) × IsContext (due_of side) (piece m) (context f.context) × (f.next ≡ number 4 m 0)
+ReadsFirst side m (Ok f) = (first_fault (due_of side) m ≡ None) × (is_badly_linked m ≡ false) × IsContext (due_of side)
+    (piece m) (context f.context) × (f.next ≡ number 4 m 0)
 ReadsFirst side m (Err e) = first_fault (due_of side) m ≡ Some e
 
 -- a context written where more follow, or none
 abbrev pub linked_if : Bool → CreateContext → List ℕ
-linked_if more v = if more then context_spelling v (context_size v + gap_to_8 (context_size v)) ++ le (gap_to_8 (context_size v)) 0 else context_spelling v 0
+linked_if more v = if more then context_spelling v (context_size v + gap_to_8 (context_size v))
+    ++ le (gap_to_8 (context_size v)) 0 else context_spelling v 0
 
 -- what the context of a request says that a chain begins with, and how far the next one is
 pub record FirstRequestSays (m : List ℕ) (said : CreateContexts) (next : ℕ) : Type 0 where

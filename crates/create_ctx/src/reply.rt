@@ -1,5 +1,7 @@
 ghost use Rattle.std.specs.Prelude.{◌≡◌, ◌<◌, length, if◌then◌else◌, true, Some, None, MatchResult};
-ghost use Rattle.wire_defs.specs.CreateContexts.{first_fault, is_named, dh2q, dh2q_reply_in, mxac, maximal_access_in, qfid, disk_id_in, reply_due, reply_of, both_replies, no_replies, HasLength, ReadsReplyContexts};
+ghost use Rattle.wire_defs.specs.CreateContexts.{first_fault, is_named, dh2q, dh2q_reply_in, mxac, maximal_access_in};
+ghost use Rattle.wire_defs.specs.CreateContexts.{qfid, disk_id_in, reply_due, reply_of, both_replies, no_replies};
+ghost use Rattle.wire_defs.specs.CreateContexts.{HasLength, ReadsReplyContexts};
 ghost use Rattle.create_ctx.specs.Parts.{context, FirstReplySays};
 
 use crate::context::{Context, first_context};

@@ -1,6 +1,7 @@
 ghost use Rattle.std.specs.Prelude.{◌≡◌, ◌++◌, [], length, IfOk, OnOk};
 ghost use Rattle.wire_defs.specs.Table.{with_fields};
-ghost use Rattle.wire_defs.specs.CreateContexts.{dh2q_reply_table, maximal_access_table, disk_id_table, dh2q_told, mxac_told, qfid_told, reply_contexts_spelling};
+ghost use Rattle.wire_defs.specs.CreateContexts.{dh2q_reply_table, maximal_access_table, disk_id_table, dh2q_told};
+ghost use Rattle.wire_defs.specs.CreateContexts.{mxac_told, qfid_told, reply_contexts_spelling};
 ghost use Rattle.create_ctx.specs.Parts.{pieces, some};
 
 use crate::values::flags_of;

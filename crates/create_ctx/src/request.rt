@@ -1,5 +1,7 @@
 ghost use Rattle.std.specs.Prelude.{◌≡◌, ◌<◌, length, if◌then◌else◌, true, Some, None, IfOk, MatchResult, OnOk};
-ghost use Rattle.wire_defs.specs.CreateContexts.{first_fault, is_named, is_persistent, dh2q, dh2q_in, dh2c, dh2c_in, request_due, request_of, both_requests, no_requests, first, HasLength, ReadsCreateContexts};
+ghost use Rattle.wire_defs.specs.CreateContexts.{first_fault, is_named, is_persistent, dh2q, dh2q_in, dh2c, dh2c_in};
+ghost use Rattle.wire_defs.specs.CreateContexts.{request_due, request_of, both_requests, no_requests, first, HasLength};
+ghost use Rattle.wire_defs.specs.CreateContexts.{ReadsCreateContexts};
 ghost use Rattle.create_ctx.specs.Parts.{context, FirstRequestSays};
 
 use crate::context::{Context, first_context};

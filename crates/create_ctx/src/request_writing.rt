@@ -1,6 +1,7 @@
 ghost use Rattle.std.specs.Prelude.{◌≡◌, ◌++◌, [], IfOk, OnOk};
 ghost use Rattle.wire_defs.specs.Table.{with_fields};
-ghost use Rattle.wire_defs.specs.CreateContexts.{dh2q_table, dh2c_table, dh2q_asked, dh2c_asked, asked, mxac, qfid, create_contexts_spelling};
+ghost use Rattle.wire_defs.specs.CreateContexts.{dh2q_table, dh2c_table, dh2q_asked, dh2c_asked, asked, mxac, qfid};
+ghost use Rattle.wire_defs.specs.CreateContexts.{create_contexts_spelling};
 ghost use Rattle.create_ctx.specs.Parts.{pieces, some};
 
 use crate::values::flags_of;

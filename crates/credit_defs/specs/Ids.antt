@@ -1,5 +1,6 @@
 -- Message ids, as numbers and lists of numbers.
-use Rattle.std.specs.Prelude.{ℕ, zero, suc, ◌+◌, ◌==◌, ◌&&◌, ◌||◌, max, nat_lt, nat_le, not, Bool, true, false, List, [], ◌∷◌, Some, None, filter, Option as Perhaps}
+use Rattle.std.specs.Prelude.{ℕ, zero, suc, ◌+◌, ◌==◌, ◌&&◌, ◌||◌, max, nat_lt, nat_le, not, Bool, true, false, List}
+use Rattle.std.specs.Prelude.{[], ◌∷◌, Some, None, filter, Option as Perhaps}
 
 -- a charge of 0 counts as 1 (MS-SMB2 3.3.5.2.3)
 abbrev pub counted : ℕ → ℕ

@@ -15,7 +15,8 @@ first_window = record { held = 0 ∷ []; next = 1 }
 abbrev pub after_take : ℕ → ℕ → HeldIds → HeldIds
 after_take first charge w = record w { held = without first (counted charge) w.held }
 
--- How many credits are granted: what is asked for, at least 1, as far as 512 ids may be held and as far as ids go. The id 2^64 - 1 is never added.
+-- How many credits are granted: what is asked for, at least 1, as far as 512 ids may be held and as far as ids go. The
+-- id 2^64 - 1 is never added.
 abbrev pub granted : ℕ → HeldIds → ℕ
 granted asked w = min (min (max asked 1) (512 - length w.held)) (2 ^ 64 - 1 - w.next)
 

@@ -1,11 +1,14 @@
 -- Over a connection that loses nothing the window holds what the purse spends.
-use Rattle.std.proofs.Common.{◌≡◌, ℕ, ◌+◌, ◌-◌, ◌≤◌, ◌^◌, leb, not, Bool, true, false, List, [], ◌∷◌, ◌++◌, length, sum, None, refl, ap, sym, ◌∙◌, subst, arith}
+use Rattle.std.proofs.Common.{◌≡◌, ℕ, ◌+◌, ◌-◌, ◌≤◌, ◌^◌, leb, not, Bool, true, false, List, [], ◌∷◌, ◌++◌, length, sum}
+use Rattle.std.proofs.Common.{None, refl, ap, sym, ◌∙◌, subst, arith}
 use Rattle.std.proofs.lemmas.List.Elements.{filter-append}
 use Rattle.std.proofs.lemmas.List.Sums.{sum_by-append, sum_by-cons}
 use borrow.Author.Tests.{leb-true}
 use Rattle.credit_defs.specs.Ids.{counted, ids_from, is_among, without, outside}
 use Rattle.credit_defs.specs.Window.{HeldIds, after_take, granted}
-use Rattle.credit_defs.specs.Exchange.{Line, first_line, Step, sends, serves, hears, sent_if, served_if, served, heard, after_step, after_steps, ids_on_their_way, IsBalanced, FrontIsHeld, NothingIsRefused}
+use Rattle.credit_defs.specs.Exchange.{Line, first_line, Step, sends, serves, hears, sent_if, served_if, served, heard}
+use Rattle.credit_defs.specs.Exchange.{after_step, after_steps, ids_on_their_way, IsBalanced, FrontIsHeld}
+use Rattle.credit_defs.specs.Exchange.{NothingIsRefused}
 use Rattle.credit_window.proofs.Rows.{IsAscending-ids_from, ids_from-append, length-ids_from, outside-run, without-run, without-above}
 
 -- the requests on their way use ids one behind the other
@@ -17,7 +20,8 @@ Follow-le : (low : ℕ) (qs : List (ℕ × ℕ)) (end : ℕ) → Follow low qs e
 Follow-le low [] end f = omega arith
 Follow-le low (q ∷ qs) end f = let later = Follow-le (low + counted q.1) qs end f.1 in omega arith
 
-Follow-push : (low : ℕ) (qs : List (ℕ × ℕ)) (end charge : ℕ) → Follow low qs end → Follow low (qs ++ (end, charge) ∷ []) (end + counted charge)
+Follow-push : (low : ℕ) (qs : List (ℕ × ℕ)) (end charge : ℕ) → Follow low qs end → Follow low (qs ++ (end, charge) ∷ [])
+    (end + counted charge)
 Follow-push low [] end charge f = (sym f, ap (λ x. x + counted charge) f)
 Follow-push low (q ∷ qs) end charge f = (f.0, Follow-push (low + counted q.1) qs end charge f.1)
 
@@ -55,7 +59,8 @@ run_left low count n le =
     let rest : List ℕ = ids_from (low + n) (count - n) in
     let p : ℕ → Bool = λ id. not (is_among low n id) in
     let gone : without low n (ids_from low n) ≡ [] = without-run low n low n (omega arith) (omega arith) in
-    let stay : without low n rest ≡ rest = without-above low n (low + n) rest (IsAscending-ids_from (low + n) (low + n) (count - n) (omega arith)) (omega arith) in
+    let stay : without low n rest ≡ rest = without-above low n (low + n) rest (IsAscending-ids_from (low + n) (low + n)
+    (count - n) (omega arith)) (omega arith) in
     ap (λ c. without low n (ids_from low c)) parts
     ∙ (ap (without low n) (sym (ids_from-append n (count - n) low))
     ∙ (filter-append p (ids_from low n) rest ∙ (λ i. gone i ++ stay i)))
@@ -76,14 +81,16 @@ sent_flows true charge l e f =
     }
 
 -- the first request finds its ids
-front_held : (l : Line) (q : ℕ × ℕ) (qs : List (ℕ × ℕ)) (f : Flows l) → Follow f.low (q ∷ qs) l.purse.next → outside l.window.held q.0 (counted q.1) ≡ None
+front_held : (l : Line) (q : ℕ × ℕ) (qs : List (ℕ × ℕ)) (f : Flows l) → Follow f.low (q ∷ qs) l.purse.next
+    → outside l.window.held q.0 (counted q.1) ≡ None
 front_held l q qs f follow =
     let n : ℕ = counted q.1 in
     let later = Follow-le (f.low + n) qs l.purse.next follow.1 in
     let sum_is = f.all in
     (λ i. outside (f.held i) (follow.0 i) n) ∙ run_held f.low f.count n (omega arith)
 
-served_flows : (asked : ℕ) (l : Line) (q : ℕ × ℕ) (qs : List (ℕ × ℕ)) (f : Flows l) → Follow f.low (q ∷ qs) l.purse.next → Flows (served_if None q qs asked l)
+served_flows : (asked : ℕ) (l : Line) (q : ℕ × ℕ) (qs : List (ℕ × ℕ)) (f : Flows l) → Follow f.low (q ∷ qs) l.purse.next
+    → Flows (served_if None q qs asked l)
 served_flows asked l q qs f follow =
     let n : ℕ = counted q.1 in
     let low : ℕ = f.low in
@@ -94,10 +101,12 @@ served_flows asked l q qs f follow =
     let next_is = f.next in
     let fits = f.fits in
     let few = f.few in
-    let left : w.held ≡ ids_from (low + n) (f.count - n) = (λ i. without (follow.0 i) n (f.held i)) ∙ run_left low f.count n (omega arith) in
+    let left : w.held ≡ ids_from (low + n) (f.count - n) = (λ i. without (follow.0 i) n (f.held i))
+    ∙ run_left low f.count n (omega arith) in
     let counts : length w.held ≡ f.count - n = ap length left ∙ length-ids_from (low + n) (f.count - n) in
     let from : l.window.next ≡ low + n + (f.count - n) = omega arith in
-    let more : sum (l.grants ++ g ∷ []) ≡ sum l.grants + g = sum_by-append (λ x. x) l.grants (g ∷ []) ∙ (let one : sum (g ∷ []) ≡ g = omega arith in ap (λ x. sum l.grants + x) one) in record {
+    let more : sum (l.grants ++ g ∷ []) ≡ sum l.grants + g = sum_by-append (λ x. x) l.grants (g ∷ [])
+    ∙ (let one : sum (g ∷ []) ≡ g = omega arith in ap (λ x. sum l.grants + x) one) in record {
       low = low + n;
       count = f.count - n + g;
       follow = follow.1;
@@ -162,7 +171,8 @@ balanced l f =
     let rest : ℕ = l.purse.held + sum l.grants in
     let end : f.low + k ≡ l.purse.next = omega arith in
     let whole : k + rest ≡ f.count = omega arith in (
-      f.held ∙ sym ((λ i. Follow-ids f.low l.requests l.purse.next f.follow i ++ ids_from (sym end i) rest) ∙ (ids_from-append k rest f.low ∙ ap (ids_from f.low) whole)),
+      f.held ∙ sym ((λ i. Follow-ids f.low l.requests l.purse.next f.follow i ++ ids_from (sym end i) rest)
+          ∙ (ids_from-append k rest f.low ∙ ap (ids_from f.low) whole)),
       omega arith,
     )
 

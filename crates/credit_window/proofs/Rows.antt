@@ -1,5 +1,8 @@
 -- Facts on rows of ids.
-use Rattle.std.proofs.Common.{◌≡◌, ◌≢◌, ℕ, zero, suc, ◌+◌, ◌-◌, ◌≤◌, ◌<◌, ◌&&◌, ◌||◌, ltb, not, cond, Bool, true, false, List, [], ◌∷◌, ◌++◌, length, take, drop, get_or, filter, Some, None, ⊎_elim, refl, ap, sym, ◌∙◌, subst, arith, eq-eqb, ne_eqb, take-append-drop, length-append, length-drop, drop-drop, get_or-drop}
+use Rattle.std.proofs.Common.{◌≡◌, ◌≢◌, ℕ, zero, suc, ◌+◌, ◌-◌, ◌≤◌, ◌<◌, ◌&&◌, ◌||◌, ltb, not, cond, Bool, true, false}
+use Rattle.std.proofs.Common.{List, [], ◌∷◌, ◌++◌, length, take, drop, get_or, filter, Some, None, ⊎_elim, refl, ap}
+use Rattle.std.proofs.Common.{sym, ◌∙◌, subst, arith, eq-eqb, ne_eqb, take-append-drop, length-append, length-drop}
+use Rattle.std.proofs.Common.{drop-drop, get_or-drop}
 use Rattle.std.specs.Prelude.{is_some, Option as Perhaps}
 use Rattle.std.specs.List.Sorted.{IsNonDecreasing}
 use Rattle.std.proofs.lemmas.List.Elements.{filter-append}
@@ -49,7 +52,8 @@ pub IsAscending-ids_from : (low first n : ℕ) → low ≤ first → IsAscending
 IsAscending-ids_from low first zero le = tt
 IsAscending-ids_from low first (suc n) le = (le, IsAscending-ids_from (first + 1) (first + 1) n (omega arith))
 
-pub IsAscending-append : (low next n : ℕ) (xs : List ℕ) → low ≤ next → IsAscending low xs → AllLess next xs → IsAscending low (xs ++ ids_from next n)
+pub IsAscending-append : (low next n : ℕ) (xs : List ℕ) → low ≤ next → IsAscending low xs → AllLess next xs
+    → IsAscending low (xs ++ ids_from next n)
 IsAscending-append low next n [] le a b = IsAscending-ids_from low next n le
 IsAscending-append low next n (x ∷ xs) le a b =
     let below = b.0 in (a.0, IsAscending-append (x + 1) next n xs (omega arith) a.1 b.1)
@@ -71,14 +75,16 @@ AllLess-filter p bound [] a = tt
 AllLess-filter p bound (x ∷ xs) a = kept_less (p x) bound x (filter p xs) a.0 (AllLess-filter p bound xs a.1)
 
 -- the ids before a place, where each is below a bound
-pub AllLess-take : (bound place : ℕ) (xs : List ℕ) → ((k d : ℕ) → k < place → get_or xs k d < bound) → place ≤ length xs → AllLess bound (take place xs)
+pub AllLess-take : (bound place : ℕ) (xs : List ℕ) → ((k d : ℕ) → k < place → get_or xs k d < bound) → place ≤ length xs
+    → AllLess bound (take place xs)
 AllLess-take bound zero xs all le = tt
 AllLess-take bound (suc place) [] all le = tt
 AllLess-take bound (suc place) (x ∷ xs) all le =
     (all 0 0 (omega arith), AllLess-take bound place xs (λ k d l. all (suc k) d (omega arith)) (omega arith))
 
 -- the ids from a place on, where none is below the first
-pub IsAscending-drop : (low first place : ℕ) (xs : List ℕ) → IsAscending low xs → ((k d : ℕ) → place ≤ k → k < length xs → first ≤ get_or xs k d) → IsAscending first (drop place xs)
+pub IsAscending-drop : (low first place : ℕ) (xs : List ℕ) → IsAscending low xs
+    → ((k d : ℕ) → place ≤ k → k < length xs → first ≤ get_or xs k d) → IsAscending first (drop place xs)
 IsAscending-drop low first zero [] a all = tt
 IsAscending-drop low first zero (x ∷ xs) a all = (all 0 0 (omega arith) (omega arith), a.1)
 IsAscending-drop low first (suc place) [] a all = tt
@@ -105,7 +111,8 @@ ids_from-append zero n first =
 ids_from-append (suc k) n first =
     let e : first + suc k ≡ first + 1 + k = omega arith in
     let f : suc (k + n) ≡ suc k + n = omega arith in
-    ap (λ x. first ∷ (ids_from (first + 1) k ++ ids_from x n)) e ∙ (ap (λ xs. first ∷ xs) (ids_from-append k n (first + 1)) ∙ ap (ids_from first) f)
+    ap (λ x. first ∷ (ids_from (first + 1) k ++ ids_from x n)) e
+    ∙ (ap (λ xs. first ∷ xs) (ids_from-append k n (first + 1)) ∙ ap (ids_from first) f)
 
 pub length-ids_from : (first n : ℕ) → length (ids_from first n) ≡ n
 length-ids_from first zero = refl
@@ -120,14 +127,16 @@ holds-tail x id xs apart = ap (λ b. b || holds xs id) (ne_eqb x id apart)
 
 pub holds-before : (bound id : ℕ) (xs ys : List ℕ) → AllLess bound xs → bound ≤ id → holds (xs ++ ys) id ≡ holds ys id
 holds-before bound id [] ys a le = refl
-holds-before bound id (x ∷ xs) ys a le = let below = a.0 in holds-tail x id (xs ++ ys) (λ e. omega arith) ∙ holds-before bound id xs ys a.1 le
+holds-before bound id (x ∷ xs) ys a le = let below = a.0 in holds-tail x id (xs ++ ys) (λ e. omega arith)
+    ∙ holds-before bound id xs ys a.1 le
 
 pub holds-none : (low id : ℕ) (xs : List ℕ) → IsAscending low xs → id < low → holds xs id ≡ false
 holds-none low id [] a l = refl
 holds-none low id (x ∷ xs) a l = let first = a.0 in holds-tail x id xs (λ e. omega arith) ∙ holds-none (x + 1) id xs a.1 (omega arith)
 
 -- what is below a charge does not matter to it
-pub outside-before : (bound : ℕ) (xs ys : List ℕ) (n first : ℕ) → AllLess bound xs → bound ≤ first → outside (xs ++ ys) first n ≡ outside ys first n
+pub outside-before : (bound : ℕ) (xs ys : List ℕ) (n first : ℕ) → AllLess bound xs → bound ≤ first
+    → outside (xs ++ ys) first n ≡ outside ys first n
 outside-before bound xs ys zero first a le = refl
 outside-before bound xs ys (suc n) first a le =
     (λ i. gap_if (holds-before bound first xs ys a le i) first (outside-before bound xs ys n (first + 1) a (omega arith) i))
@@ -141,7 +150,8 @@ outside-run (suc k) m first rest =
     let f : suc k + m ≡ suc (k + m) = omega arith in
     let ys : List ℕ = ids_from (first + 1) k ++ rest in
     ap (outside (first ∷ ys) first) f
-    ∙ ((λ i. gap_if (holds-head first ys i) first (outside-before (first + 1) (first ∷ []) ys (k + m) (first + 1) (omega arith, tt) (omega arith) i))
+    ∙ ((λ i. gap_if (holds-head first ys i) first (outside-before (first + 1) (first ∷ []) ys (k + m) (first + 1)
+    (omega arith, tt) (omega arith) i))
     ∙ (outside-run k m (first + 1) rest ∙ ap (λ x. outside rest x m) e))
 
 -- the split of a row at a charge's first id
@@ -156,7 +166,8 @@ outside_behind first n place xs s =
     ap (λ l. outside l first n) (sym (split_is place xs))
     ∙ outside-before first (take place xs) (drop place xs) n first (AllLess-take first place xs s.below s.within) (omega arith)
 
-pub no_gap : (first n place : ℕ) (xs : List ℕ) → IsSplitAt first xs place → take n (drop place xs) ≡ ids_from first n → outside xs first n ≡ None
+pub no_gap : (first n place : ℕ) (xs : List ℕ) → IsSplitAt first xs place → take n (drop place xs) ≡ ids_from first n
+    → outside xs first n ≡ None
 no_gap first n place xs s e =
     let whole : n ≡ n + 0 = omega arith in
     outside_behind first n place xs s
@@ -171,7 +182,8 @@ head_apart id [] a apart = refl
 head_apart id (x ∷ xs) a apart =
     let other : x ≢ id = apart (omega arith) in holds-tail x id xs other ∙ holds-none (x + 1) id xs a.1 (let first = a.0 in omega arith)
 
-pub gap : (low first n k place : ℕ) (xs : List ℕ) → IsAscending low xs → IsSplitAt first xs place → k < n → take k (drop place xs) ≡ ids_from first k
+pub gap : (low first n k place : ℕ) (xs : List ℕ) → IsAscending low xs → IsSplitAt first xs place → k < n
+    → take k (drop place xs) ≡ ids_from first k
     → (0 < length (drop k (drop place xs)) → get_or (drop k (drop place xs)) 0 0 ≢ first + k) → outside xs first n ≡ Some (first + k)
 gap low first n k place xs a s l e apart =
     let back : List ℕ = drop place xs in
@@ -199,7 +211,9 @@ is_among-above first n id le =
 
 pub without-below : (first n : ℕ) (xs : List ℕ) → AllLess first xs → without first n xs ≡ xs
 without-below first n [] a = refl
-without-below first n (x ∷ xs) a = (λ i. cond (not (is_among-below first n x a.0 i)) (x ∷ without-below first n xs a.1 i) (without-below first n xs a.1 i))
+without-below first n (x ∷ xs) a =
+    (λ i. cond (not (is_among-below first n x a.0 i)) (x ∷ without-below first n xs a.1 i)
+    (without-below first n xs a.1 i))
 
 pub without-above : (first n low : ℕ) (xs : List ℕ) → IsAscending low xs → first + n ≤ low → without first n xs ≡ xs
 without-above first n low [] a le = refl
@@ -217,7 +231,8 @@ without-run first n f (suc k) le within =
     (λ i. cond (not (among i)) (f ∷ rest i) (rest i))
 
 -- a run is cut out of a row
-pub without_cut : (low first n place : ℕ) (xs : List ℕ) → IsAscending low xs → IsSplitAt first xs place → take n (drop place xs) ≡ ids_from first n
+pub without_cut : (low first n place : ℕ) (xs : List ℕ) → IsAscending low xs → IsSplitAt first xs place
+    → take n (drop place xs) ≡ ids_from first n
     → take place xs ++ drop n (drop place xs) ≡ without first n xs
 without_cut low first n place xs a s e =
     let front : List ℕ = take place xs in
@@ -240,7 +255,9 @@ without_cut low first n place xs a s e =
 pub run_fits : (first n place : ℕ) (xs : List ℕ) → take n (drop place xs) ≡ ids_from first n → n ≤ length (drop place xs)
 run_fits first n place xs e =
     let back : List ℕ = drop place xs in
-    let whole : length back ≡ n + length (drop n back) = ap length (run_is first n back e) ∙ (length-append (ids_from first n) (drop n back) ∙ ap (λ k. k + length (drop n back)) (length-ids_from first n)) in
+    let whole : length back ≡ n + length (drop n back) = ap length (run_is first n back e)
+    ∙ (length-append (ids_from first n) (drop n back) ∙ ap (λ k. k + length (drop n back))
+    (length-ids_from first n)) in
     omega arith
 
 pub not_less : (x first : ℕ) → ltb x first ≡ false → first ≤ x
@@ -252,14 +269,17 @@ after_run place k d xs =
     let e : place + k + 0 ≡ place + k = omega arith in
     ap (λ l. get_or l 0 d) (drop-drop k place xs) ∙ (get_or-drop (place + k) xs 0 d ∙ ap (λ i. get_or xs i d) e)
 
-pub found_gap : (first n k place wanted : ℕ) (xs : List ℕ) → IsAscending 0 xs → IsSplitAt first xs place → k < n → take k (drop place xs) ≡ ids_from first k → wanted ≡ first + k
+pub found_gap : (first n k place wanted : ℕ) (xs : List ℕ) → IsAscending 0 xs → IsSplitAt first xs place → k < n
+    → take k (drop place xs) ≡ ids_from first k → wanted ≡ first + k
     → (place + k < length xs → get_or xs (place + k) 0 ≢ wanted) → Some wanted ≡ outside xs first n
 found_gap first n k place wanted xs a s l run is apart =
     ap Some is
-    ∙ sym (gap 0 first n k place xs a s l run (λ there e. let lengths : length (drop k (drop place xs)) ≡ length xs - (place + k) = ap length (drop-drop k place xs) ∙ length-drop (place + k) xs in
+    ∙ sym (gap 0 first n k place xs a s l run (λ there e. let lengths : length (drop k (drop place xs))
+    ≡ length xs - (place + k) = ap length (drop-drop k place xs) ∙ length-drop (place + k) xs in
     apart (omega arith) (sym (after_run place k 0 xs) ∙ (e ∙ sym is))))
 
-pub run_more : (first k place wanted id : ℕ) (xs : List ℕ) → place + k < length xs → take k (drop place xs) ≡ ids_from first k → wanted ≡ first + k → id ≡ wanted → id ≡ get_or xs (place + k) id
+pub run_more : (first k place wanted id : ℕ) (xs : List ℕ) → place + k < length xs → take k (drop place xs)
+    ≡ ids_from first k → wanted ≡ first + k → id ≡ wanted → id ≡ get_or xs (place + k) id
     → take (k + 1) (drop place xs) ≡ ids_from first (k + 1)
 run_more first k place wanted id xs l run is same read =
     let back : List ℕ = drop place xs in
@@ -268,17 +288,28 @@ run_more first k place wanted id xs l run is same read =
     take_more back k id (omega arith) ∙ ((λ i. run i ++ item i ∷ []) ∙ ids_from-push k first)
 
 -- the window after its ids are taken, and after more are granted
-pub take_is : (first charge count place next : ℕ) (xs ys : List ℕ) (w : HeldIds) → record { held = xs; next = next } ≡ w → count ≡ counted charge → IsAscending 0 xs → IsSplitAt first xs place
-    → take count (drop place xs) ≡ ids_from first count → ys ≡ take place xs ++ drop (place + count) xs → record { held = ys; next = next } ≡ after_take first charge w
+pub take_is : (first charge count place next : ℕ) (xs ys : List ℕ) (w : HeldIds) → record {
+  held = xs;
+  next = next;
+} ≡ w → count ≡ counted charge → IsAscending 0 xs → IsSplitAt first xs place
+    → take count (drop place xs) ≡ ids_from first count → ys ≡ take place xs ++ drop (place + count) xs → record {
+      held = ys;
+      next = next;
+    } ≡ after_take first charge w
 take_is first charge count place next xs ys w is counts a s run cut =
-    let left : ys ≡ without first (counted charge) xs = cut ∙ (ap (λ l. take place xs ++ l) (sym (drop-drop count place xs)) ∙ (without_cut 0 first count place xs a s run ∙ ap (λ n. without first n xs) counts)) in
+    let left : ys ≡ without first (counted charge) xs = cut
+    ∙ (ap (λ l. take place xs ++ l) (sym (drop-drop count place xs)) ∙ (without_cut 0 first count place xs a s run
+    ∙ ap (λ n. without first n xs) counts)) in
     let p : HeldIds = record { held = ys; next = next } in
     let q : HeldIds = record { held = xs; next = next } in
     let both : p ≡ after_take first charge q = (λ i. record { held = left i; next = next }) in
     both ∙ ap (after_take first charge) is
 
-pub left_is : (first count place : ℕ) (xs ys : List ℕ) → IsAscending 0 xs → IsSplitAt first xs place → take count (drop place xs) ≡ ids_from first count → ys ≡ take place xs ++ drop (place + count) xs → ys ≡ without first count xs
-left_is first count place xs ys a s run cut = cut ∙ (ap (λ l. take place xs ++ l) (sym (drop-drop count place xs)) ∙ without_cut 0 first count place xs a s run)
+pub left_is : (first count place : ℕ) (xs ys : List ℕ) → IsAscending 0 xs → IsSplitAt first xs place
+    → take count (drop place xs) ≡ ids_from first count → ys ≡ take place xs ++ drop (place + count) xs → ys
+    ≡ without first count xs
+left_is first count place xs ys a s run cut = cut ∙ (ap (λ l. take place xs ++ l) (sym (drop-drop count place xs))
+    ∙ without_cut 0 first count place xs a s run)
 
 kept_length : (b : Bool) (x : ℕ) (ys xs : List ℕ) → length ys ≤ length xs → length (cond b (x ∷ ys) ys) ≤ length (x ∷ xs)
 kept_length true x ys xs le = omega arith

@@ -2,7 +2,8 @@
 use Rattle.std.specs.Prelude.{◌≡◌, ℕ, ◌+◌, Bool, false, if◌then◌else◌, List, ◌++◌, map, Some, None, Result, Ok, Err, ⊤}
 use Rattle.wire_defs.specs.Places.{number, le, gap_to_8}
 use Rattle.wire_defs.specs.Chain.{is_badly_linked, piece}
-use Rattle.wire_defs.specs.Directory.{DirectoryEntryValue, SpellsDirectoryEntry, SpellsListing, BreaksListing, first_entry_fault, directory_entry_spelling, directory_entry_size}
+use Rattle.wire_defs.specs.Directory.{DirectoryEntryValue, SpellsDirectoryEntry, SpellsListing, BreaksListing}
+use Rattle.wire_defs.specs.Directory.{first_entry_fault, directory_entry_spelling, directory_entry_size}
 use Rattle.wire_defs.specs.declared.directory_class.DirectoryClass.{DirectoryClass}
 use Rattle.wire_defs.specs.declared.error.MessageError.{MessageError}
 use Rattle.info_classes.specs.declared.directory_entry.DirectoryEntry.{DirectoryEntry}
@@ -13,11 +14,14 @@ use Rattle.info_classes.specs.Views.{directory_entry}
 
 -- an entry written where more follow, or none
 abbrev pub entry_if : Bool → DirectoryClass → DirectoryEntryValue → List ℕ
-entry_if more c v = if more then directory_entry_spelling c v (directory_entry_size c v + gap_to_8 (directory_entry_size c v)) ++ le (gap_to_8 (directory_entry_size c v)) 0 else directory_entry_spelling c v 0
+entry_if more c v = if more then directory_entry_spelling c v
+    (directory_entry_size c v + gap_to_8 (directory_entry_size c v)) ++ le (gap_to_8 (directory_entry_size c v)) 0 else
+    directory_entry_spelling c v 0
 
 -- the entry that a listing begins with and how far the next one is, or its first break
 abbrev pub ReadsFirstEntry : DirectoryClass → List ℕ → Result FirstEntry MessageError → Type 0
-ReadsFirstEntry c m (Ok f) = (first_entry_fault c m ≡ None) × (is_badly_linked m ≡ false) × SpellsDirectoryEntry c (piece m) (directory_entry f.entry) × (f.next ≡ number 4 m 0)
+ReadsFirstEntry c m (Ok f) = (first_entry_fault c m ≡ None) × (is_badly_linked m ≡ false)
+    × SpellsDirectoryEntry c (piece m) (directory_entry f.entry) × (f.next ≡ number 4 m 0)
 ReadsFirstEntry c m (Err e) = first_entry_fault c m ≡ Some e
 
 abbrev pub entries : List DirectoryEntry → List DirectoryEntryValue

@@ -1,6 +1,7 @@
 ghost use Rattle.std.specs.Prelude.{◌≡◌, IfOk, ◌<◌, ◌^◌, length};
 ghost use Rattle.wire_defs.specs.Fault.{Reads};
-ghost use Rattle.wire_defs.specs.VolumeClasses.{SpellsFileFsAttributeInformation, file_fs_attribute_information_fault, file_fs_attribute_information_spelling};
+ghost use Rattle.wire_defs.specs.VolumeClasses.{SpellsFileFsAttributeInformation, file_fs_attribute_information_fault};
+ghost use Rattle.wire_defs.specs.VolumeClasses.{file_fs_attribute_information_spelling};
 ghost use Rattle.info_classes.specs.Views.{file_fs_attribute_information};
 
 use crate::named::FileFsAttributeInformation;

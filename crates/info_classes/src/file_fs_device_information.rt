@@ -1,6 +1,7 @@
 ghost use Rattle.std.specs.Prelude.{◌≡◌, IfOk};
 ghost use Rattle.wire_defs.specs.Fault.{Reads};
-ghost use Rattle.wire_defs.specs.VolumeClasses.{SpellsFileFsDeviceInformation, file_fs_device_information_fault, file_fs_device_information_spelling};
+ghost use Rattle.wire_defs.specs.VolumeClasses.{SpellsFileFsDeviceInformation, file_fs_device_information_fault};
+ghost use Rattle.wire_defs.specs.VolumeClasses.{file_fs_device_information_spelling};
 
 use smb_bytes::{Bytes, Cursor, Out};
 use smb_header::MessageError;

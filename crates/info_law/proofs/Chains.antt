@@ -1,6 +1,7 @@
 -- Chains of items: at most one list of items stands, what stands breaks nothing, there is at most one break, and a chain
 -- that is written stands.
-use Rattle.std.proofs.Common.{◌≡◌, ℕ, zero, suc, ◌+◌, ◌%◌, ◌<◌, ◌≤◌, Bool, true, false, List, [], ◌∷◌, ◌++◌, length, take, drop, Option, None, refl, sym, ap, subst, ◌∙◌, append_assoc, arith, length-append}
+use Rattle.std.proofs.Common.{◌≡◌, ℕ, zero, suc, ◌+◌, ◌%◌, ◌<◌, ◌≤◌, Bool, true, false, List, [], ◌∷◌, ◌++◌, length}
+use Rattle.std.proofs.Common.{take, drop, Option, None, refl, sym, ap, subst, ◌∙◌, append_assoc, arith, length-append}
 use Rattle.std.specs.Prelude.{◌==◌, if◌then◌else◌}
 use Rattle.std.proofs.lemmas.Grind.{common_steps}
 use Rattle.std.proofs.lemmas.List.{take_at, drop_at, take_all}
@@ -108,12 +109,17 @@ module _ {V : Type 0} (Is : List ℕ → V → Type 0) (item : V → ℕ → Lis
         let front : List ℕ = item v next ++ le gap 0 in
         let rest : List ℕ = chain_spelling item size (w ∷ ws) in
         let m : List ℕ = front ++ rest in
-        let told : number 4 m 0 ≡ next = ap (λ (b : List ℕ). number 4 b 0) (append_assoc (item v next) (le gap 0) rest) ∙ next_told v next (le gap 0 ++ rest) fit.0 in
+        let told : number 4 m 0 ≡ next = ap (λ (b : List ℕ). number 4 b 0) (append_assoc (item v next) (le gap 0) rest)
+        ∙ next_told v next (le gap 0 ++ rest) fit.0 in
         let len : length front ≡ next = length-append (item v next) (le gap 0) ∙ omega (arith, length-item v next fit.0, length-le gap 0) in
         let head : take next m ≡ front = take_at front rest next len in
         let tail : drop next m ≡ rest = drop_at front rest next len in
         let positive : number 4 m 0 ≡ 0 → ⊥ = λ z. omega (arith, told, some v, z) in
         let whole : number 4 m 0 % 8 ≡ 0 = rw told (aligned (size v)) in
         let inside : number 4 m 0 ≤ length m = omega (arith, told, len, length-append front rest) in
-        let first : piece m ≡ front = linked_piece m positive ∙ ap (λ (k : ℕ). take k m) told ∙ head in
-        (positive, good_link m whole inside, subst (λ (b : List ℕ). Is b v) (sym first) (again v next (le gap 0) fit.0), subst (λ (b : List ℕ). IsChain Is b w ws) (sym (ap (λ (k : ℕ). drop k m) told ∙ tail)) (spelled w ws fit.1))
+        let first : piece m ≡ front = linked_piece m positive ∙ ap (λ (k : ℕ). take k m) told ∙ head in (
+          positive,
+          good_link m whole inside,
+          subst (λ (b : List ℕ). Is b v) (sym first) (again v next (le gap 0) fit.0),
+          subst (λ (b : List ℕ). IsChain Is b w ws) (sym (ap (λ (k : ℕ). drop k m) told ∙ tail)) (spelled w ws fit.1),
+        )

@@ -41,13 +41,22 @@ fits : (due : List ℕ → Option ℕ) (v : CreateContext) (next : ℕ) → IsSm
 fits due v next s le =
     let gap = gap_fits v in
     let at : ℕ = 16 + length v.name + aligned_gap (length v.value) (length v.name) in
-    let place : told (length v.value) at ≤ at = choice_at_most (length v.value == 0) at in
-    ((omega arith, (omega arith, (omega (arith, s.name), (omega (arith, s.name, gap, place), (omega (arith, s.few), (refl, (refl, tt))))))), s.size)
+    let place : told (length v.value) at ≤ at = choice_at_most (length v.value == 0) at in (
+      (
+        omega arith,
+        (
+          omega arith,
+          (omega (arith, s.name), (omega (arith, s.name, gap, place), (omega (arith, s.few), (refl, (refl, tt))))),
+        ),
+      ),
+      s.size,
+    )
 
 size_small : (due : List ℕ → Option ℕ) (v : CreateContext) → IsSmall due v → context_size v + gap_to_8 (context_size v) ≤ 100
 size_small due v s = omega (arith, s.name, s.few, gap_fits v, gap_small (context_size v))
 
-all_fit : (due : List ℕ → Option ℕ) (v : CreateContext) (vs : List CreateContext) → AreSmall due (v ∷ vs) → AllFit (IsContext due) context_spelling context_size (Fits due) v vs
+all_fit : (due : List ℕ → Option ℕ) (v : CreateContext) (vs : List CreateContext) → AreSmall due (v ∷ vs)
+    → AllFit (IsContext due) context_spelling context_size (Fits due) v vs
 all_fit due v [] s = fits due v 0 s.0 (omega arith)
 all_fit due v (w ∷ ws) s = (fits due v (context_size v + gap_to_8 (context_size v)) s.0 (size_small due v s.0), all_fit due w ws s.1)
 
@@ -58,12 +67,16 @@ length-item : (due : List ℕ → Option ℕ) (v : CreateContext) (next : ℕ) �
 unfolding size_of
 length-item due v next fit = length-with_fields (context_whole v next) [] fit.0 ∙ omega arith
 
-next_told : (due : List ℕ → Option ℕ) (v : CreateContext) (next : ℕ) (rest : List ℕ) → Fits due v next → number 4 (context_spelling v next ++ rest) 0 ≡ next
+next_told : (due : List ℕ → Option ℕ) (v : CreateContext) (next : ℕ) (rest : List ℕ) → Fits due v next
+    → number 4 (context_spelling v next ++ rest) 0 ≡ next
 next_told due v next rest fit = let row = table_again (context_whole v next) [] rest 0 refl fit.0 in row.0
 
-again : (due : List ℕ → Option ℕ) (v : CreateContext) (next : ℕ) (rest : List ℕ) → Fits due v next → IsContext due (context_spelling v next ++ rest) v
+again : (due : List ℕ → Option ℕ) (v : CreateContext) (next : ℕ) (rest : List ℕ) → Fits due v next
+    → IsContext due (context_spelling v next ++ rest) v
 again due v next rest fit = again_context due rest v next fit.0 fit.1
 
-pub chain_again : (due : List ℕ → Option ℕ) (vs : List CreateContext) → AreSmall due vs → IsChainOf (IsContext due) (chain_spelling context_spelling context_size vs) vs
+pub chain_again : (due : List ℕ → Option ℕ) (vs : List CreateContext) → AreSmall due vs → IsChainOf (IsContext due)
+    (chain_spelling context_spelling context_size vs) vs
 chain_again due [] s = refl
-chain_again due (v ∷ vs) s = spelled (IsContext due) context_spelling context_size (Fits due) positive (length-item due) (next_told due) (again due) v vs (all_fit due v vs s)
+chain_again due (v ∷ vs) s = spelled (IsContext due) context_spelling context_size (Fits due) positive (length-item due)
+    (next_told due) (again due) v vs (all_fit due v vs s)

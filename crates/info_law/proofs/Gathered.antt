@@ -2,7 +2,14 @@
 use Rattle.std.proofs.Common.{◌≡◌, ℕ, Bool, true, false, List, [], ◌++◌, length, Option, Some, None, refl, subst, arith}
 use Rattle.std.proofs.lemmas.List.{append-nil}
 use Rattle.wire_defs.specs.Table.{AreWritable, Stands, with_fields, Field}
-use Rattle.wire_defs.specs.CreateContexts.{CreateContext, is_named, mxac, qfid, is_persistent, flags_of, request_due, request_contexts, reply_due, reply_contexts, dh2q_table, dh2q_in, dh2c_table, dh2c_in, asked, dh2q_asked, dh2c_asked, asked_contexts, dh2q_reply_table, dh2q_reply_in, maximal_access_table, maximal_access_in, disk_id_table, disk_id_in, dh2q_told, mxac_told, qfid_told, told_contexts, IsWritableCreateContexts, IsWritableReplyContexts, IsWritableDh2q, IsWritableDh2c, IsWritableDh2qReply, IsWritableMaximalAccess, IsWritableDiskId}
+use Rattle.wire_defs.specs.CreateContexts.{CreateContext, is_named, mxac, qfid, is_persistent, flags_of, request_due}
+use Rattle.wire_defs.specs.CreateContexts.{request_contexts, reply_due, reply_contexts, dh2q_table, dh2q_in, dh2c_table}
+use Rattle.wire_defs.specs.CreateContexts.{dh2c_in, asked, dh2q_asked, dh2c_asked, asked_contexts, dh2q_reply_table}
+use Rattle.wire_defs.specs.CreateContexts.{dh2q_reply_in, maximal_access_table, maximal_access_in, disk_id_table}
+use Rattle.wire_defs.specs.CreateContexts.{disk_id_in, dh2q_told, mxac_told, qfid_told, told_contexts}
+use Rattle.wire_defs.specs.CreateContexts.{IsWritableCreateContexts, IsWritableReplyContexts, IsWritableDh2q}
+use Rattle.wire_defs.specs.CreateContexts.{IsWritableDh2c, IsWritableDh2qReply, IsWritableMaximalAccess}
+use Rattle.wire_defs.specs.CreateContexts.{IsWritableDiskId}
 use Rattle.wire_defs.specs.declared.context.CreateContexts.{CreateContexts}
 use Rattle.wire_defs.specs.declared.context.ReplyContexts.{ReplyContexts}
 use Rattle.wire_defs.specs.declared.context.Dh2q.{Dh2q}
@@ -107,20 +114,23 @@ replies_small c fit =
 
 -- ---- what they say
 
-asked_says : (wants_mxac wants_qfid : Bool) → request_contexts (asked wants_mxac mxac ++ asked wants_qfid qfid) ≡ record { dh2q = None; dh2c = None; mxac = wants_mxac; qfid = wants_qfid }
+asked_says : (wants_mxac wants_qfid : Bool) → request_contexts (asked wants_mxac mxac ++ asked wants_qfid qfid)
+    ≡ record { dh2q = None; dh2c = None; mxac = wants_mxac; qfid = wants_qfid }
 unfolding is_named
 asked_says true true = refl
 asked_says true false = refl
 asked_says false true = refl
 asked_says false false = refl
 
-dh2c_says : (o : Option Dh2c) (a b : Bool) (rest : List CreateContext) → IsWritableDh2c o → request_contexts rest ≡ record { dh2q = None; dh2c = None; mxac = a; qfid = b }
+dh2c_says : (o : Option Dh2c) (a b : Bool) (rest : List CreateContext) → IsWritableDh2c o → request_contexts rest
+    ≡ record { dh2q = None; dh2c = None; mxac = a; qfid = b }
     → request_contexts (dh2c_asked o ++ rest) ≡ record { dh2q = None; dh2c = o; mxac = a; qfid = b }
 unfolding is_named
 dh2c_says None a b rest fit says = says
 dh2c_says (Some q) a b rest fit says = rw (says, dh2c_again q fit) refl
 
-dh2q_says : (o : Option Dh2q) (p : Option Dh2c) (a b : Bool) (rest : List CreateContext) → IsWritableDh2q o → request_contexts rest ≡ record { dh2q = None; dh2c = p; mxac = a; qfid = b }
+dh2q_says : (o : Option Dh2q) (p : Option Dh2c) (a b : Bool) (rest : List CreateContext) → IsWritableDh2q o
+    → request_contexts rest ≡ record { dh2q = None; dh2c = p; mxac = a; qfid = b }
     → request_contexts (dh2q_asked o ++ rest) ≡ record { dh2q = o; dh2c = p; mxac = a; qfid = b }
 unfolding is_named
 dh2q_says None p a b rest fit says = says
@@ -134,13 +144,15 @@ unfolding is_named
 qfid_says None fit = refl
 qfid_says (Some d) fit = rw (disk_id_again d fit) refl
 
-mxac_says : (o : Option MaximalAccess) (d : Option DiskId) (rest : List CreateContext) → IsWritableMaximalAccess o → reply_contexts rest ≡ record { dh2q = None; mxac = None; qfid = d }
+mxac_says : (o : Option MaximalAccess) (d : Option DiskId) (rest : List CreateContext) → IsWritableMaximalAccess o
+    → reply_contexts rest ≡ record { dh2q = None; mxac = None; qfid = d }
     → reply_contexts (mxac_told o ++ rest) ≡ record { dh2q = None; mxac = o; qfid = d }
 unfolding is_named
 mxac_says None d rest fit says = says
 mxac_says (Some a) d rest fit says = rw (says, access_again a fit) refl
 
-reply_says : (o : Option Dh2qReply) (a : Option MaximalAccess) (d : Option DiskId) (rest : List CreateContext) → IsWritableDh2qReply o → reply_contexts rest ≡ record { dh2q = None; mxac = a; qfid = d }
+reply_says : (o : Option Dh2qReply) (a : Option MaximalAccess) (d : Option DiskId) (rest : List CreateContext)
+    → IsWritableDh2qReply o → reply_contexts rest ≡ record { dh2q = None; mxac = a; qfid = d }
     → reply_contexts (dh2q_told o ++ rest) ≡ record { dh2q = o; mxac = a; qfid = d }
 unfolding is_named
 reply_says None a d rest fit says = says

@@ -1,5 +1,6 @@
 -- One create context: it stands once, breaks nothing, and reads back as it was written.
-use Rattle.std.proofs.Common.{◌≡◌, ℕ, ◌+◌, ◌≤◌, ◌⊎◌, Bool, true, false, List, [], ◌++◌, length, take, Option, Some, None, refl, sym, ap, ◌∙◌, arith, inl, inr}
+use Rattle.std.proofs.Common.{◌≡◌, ℕ, ◌+◌, ◌≤◌, ◌⊎◌, Bool, true, false, List, [], ◌++◌, length, take, Option, Some}
+use Rattle.std.proofs.Common.{None, refl, sym, ap, ◌∙◌, arith, inl, inr}
 use Rattle.std.specs.Prelude.{◌==◌, nat_lt, if◌then◌else◌}
 use Rattle.std.proofs.lemmas.Grind.{common_steps}
 use Rattle.std.proofs.lemmas.List.{length-take}
@@ -7,7 +8,8 @@ use Rattle.wire_defs.specs.Places.{number, bytes_at}
 use Rattle.wire_defs.specs.Table.{AreWritable, IsPart}
 use Rattle.wire_defs.specs.Aligned.{told, aligned_gap}
 use Rattle.wire_defs.specs.Chain.{is_badly_linked, piece}
-use Rattle.wire_defs.specs.CreateContexts.{CreateContext, IsContext, HasLength, context_fault, first_fault, is_outside, length_fault, context_in, context_whole, context_spelling}
+use Rattle.wire_defs.specs.CreateContexts.{CreateContext, IsContext, HasLength, context_fault, first_fault, is_outside}
+use Rattle.wire_defs.specs.CreateContexts.{length_fault, context_in, context_whole, context_spelling}
 use Rattle.wire_defs.specs.declared.chain_error.ChainError.{ChainError}
 use Rattle.wire_defs.proofs.Numbers.{length-bytes_at, bytes_at-nothing}
 use Rattle.wire_law.proofs.Rows.{table_again}
@@ -47,7 +49,8 @@ unfolding length_fault
 length_due None name len e = tt
 length_due (Some d) name len e = grind (arith, common_steps)
 
-no_context_fault : (long outside_name outside_value : Bool) (short : Option ChainError) (rest : Option ChainError) → long ≡ false → outside_name ≡ false → outside_value ≡ false → rest ≡ None
+no_context_fault : (long outside_name outside_value : Bool) (short : Option ChainError) (rest : Option ChainError)
+    → long ≡ false → outside_name ≡ false → outside_value ≡ false → rest ≡ None
     → (if long then short else if outside_name then short else if outside_value then short else rest) ≡ None
 no_context_fault long outside_name outside_value short rest a b c d = rw (a, b, c, d) refl
 
@@ -70,7 +73,8 @@ given_context due m none =
     let long : 16 ≤ length m = grind (arith, common_steps) in
     let name : is_outside m (number 2 m 4) (number 2 m 6) ≡ false = grind (arith, common_steps) in
     let value : is_outside m (number 2 m 10) (number 4 m 12) ≡ false = grind (arith, common_steps) in
-    let fit : length_fault (due (bytes_at (number 2 m 6) m (number 2 m 4))) (bytes_at (number 2 m 6) m (number 2 m 4)) (number 4 m 12) ≡ None = grind (arith, common_steps) in
+    let fit : length_fault (due (bytes_at (number 2 m 6) m (number 2 m 4))) (bytes_at (number 2 m 6) m (number 2 m 4))
+    (number 4 m 12) ≡ None = grind (arith, common_steps) in
     let name_part = part_in m (number 2 m 4) (number 2 m 6) name in
     let value_part = part_in m (number 2 m 10) (number 4 m 12) value in
     record {
@@ -80,7 +84,9 @@ given_context due m none =
       size = length_due (due (bytes_at (number 2 m 6) m (number 2 m 4))) (bytes_at (number 2 m 6) m (number 2 m 4)) (number 4 m 12) fit;
     }
 
-pub again_context : (due : List ℕ → Option ℕ) (rest : List ℕ) (v : CreateContext) (next : ℕ) → AreWritable (context_whole v next) → HasLength (due v.name) (length v.value) → IsContext due (context_spelling v next ++ rest) v
+pub again_context : (due : List ℕ → Option ℕ) (rest : List ℕ) (v : CreateContext) (next : ℕ)
+    → AreWritable (context_whole v next) → HasLength (due v.name) (length v.value)
+    → IsContext due (context_spelling v next ++ rest) v
 again_context due rest v next fit size =
     let m : List ℕ = context_spelling v next ++ rest in
     let row = table_again (context_whole v next) [] rest 0 refl fit in
@@ -92,7 +98,8 @@ again_context due rest v next fit size =
     record {
       fixed = grind (arith, common_steps);
       name = record { bytes = grind (arith, common_steps); whole = grind (arith, common_steps); place = grind (arith, common_steps) };
-      value = rw value_told (part_told m v.value value_at (told (length v.value) value_at) (number 4 m 12) 16 value_len value_bytes (told_stands (length v.value) value_at 16 (length m) (omega arith) value_inside));
+      value = rw value_told (part_told m v.value value_at (told (length v.value) value_at) (number 4 m 12) 16 value_len
+          value_bytes (told_stands (length v.value) value_at 16 (length m) (omega arith) value_inside));
       size = rw value_len size;
     }
 
@@ -100,7 +107,8 @@ longer : (m : List ℕ) (last : Bool) (next : ℕ) → 16 ≤ length (if last th
 longer m true next le = le
 longer m false next le = omega (arith, length-take next m)
 
-pub whole_first : (due : List ℕ → Option ℕ) (m : List ℕ) (v : CreateContext) → is_badly_linked m ≡ false → IsContext due (piece m) v → first_fault due m ≡ None
+pub whole_first : (due : List ℕ → Option ℕ) (m : List ℕ) (v : CreateContext) → is_badly_linked m ≡ false
+    → IsContext due (piece m) v → first_fault due m ≡ None
 unfolding first_fault piece
 whole_first due m v link is =
     let whole = whole_context due (piece m) v is in

@@ -8,4 +8,5 @@ use Rattle.wire_defs.specs.declared.directory_class.DirectoryClass.{DirectoryCla
 abbrev pub AreWritableEntries : DirectoryClass → List DirectoryEntryValue → Type 0
 AreWritableEntries c [] = Unit {0}
 AreWritableEntries c (v ∷ []) = IsWritableDirectoryEntry c v 0
-AreWritableEntries c (v ∷ w ∷ ws) = IsWritableDirectoryEntry c v (directory_entry_size c v + gap_to_8 (directory_entry_size c v)) × AreWritableEntries c (w ∷ ws)
+AreWritableEntries c (v ∷ w ∷ ws) = IsWritableDirectoryEntry c v
+    (directory_entry_size c v + gap_to_8 (directory_entry_size c v)) × AreWritableEntries c (w ∷ ws)

@@ -1,8 +1,11 @@
 ghost use Rattle.std.specs.Prelude.{◌≡◌, ◌++◌, ℕ, List, length, Option, None};
 ghost use Rattle.wire_defs.specs.Table.{AreWritable};
 ghost use Rattle.wire_defs.specs.Chain.{BreaksChain};
-ghost use Rattle.wire_defs.specs.CreateContexts.{CreateContext, IsContext, HasLength, context_fault, first_fault, context_in, context_whole, context_spelling, request_due, reply_due};
-ghost use Rattle.wire_defs.specs.CreateContexts.{SpellsCreateContexts, IsWritableCreateContexts, create_contexts_spelling, SpellsReplyContexts, IsWritableReplyContexts, reply_contexts_spelling};
+ghost use Rattle.wire_defs.specs.CreateContexts.{CreateContext, IsContext, HasLength, context_fault, first_fault};
+ghost use Rattle.wire_defs.specs.CreateContexts.{context_in, context_whole, context_spelling, request_due, reply_due};
+ghost use Rattle.wire_defs.specs.CreateContexts.{SpellsCreateContexts, IsWritableCreateContexts};
+ghost use Rattle.wire_defs.specs.CreateContexts.{create_contexts_spelling, SpellsReplyContexts, IsWritableReplyContexts};
+ghost use Rattle.wire_defs.specs.CreateContexts.{reply_contexts_spelling};
 ghost use Rattle.wire_defs.specs.declared.chain_error.ChainError.{ChainError};
 ghost use Rattle.wire_defs.specs.declared.context.CreateContexts.{CreateContexts};
 ghost use Rattle.wire_defs.specs.declared.context.ReplyContexts.{ReplyContexts};

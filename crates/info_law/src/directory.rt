@@ -1,5 +1,7 @@
 ghost use Rattle.std.specs.Prelude.{◌≡◌, ◌++◌, ℕ, List, None};
-ghost use Rattle.wire_defs.specs.Directory.{DirectoryEntryValue, SpellsDirectoryEntry, IsWritableDirectoryEntry, directory_entry_fault, directory_entry_in, directory_entry_spelling, SpellsListing, BreaksListing, listing_spelling};
+ghost use Rattle.wire_defs.specs.Directory.{DirectoryEntryValue, SpellsDirectoryEntry, IsWritableDirectoryEntry};
+ghost use Rattle.wire_defs.specs.Directory.{directory_entry_fault, directory_entry_in, directory_entry_spelling};
+ghost use Rattle.wire_defs.specs.Directory.{SpellsListing, BreaksListing, listing_spelling};
 ghost use Rattle.info_law.specs.Entries.{AreWritableEntries};
 ghost use Rattle.wire_defs.specs.declared.directory_class.DirectoryClass.{DirectoryClass};
 ghost use Rattle.wire_defs.specs.declared.error.MessageError.{MessageError};

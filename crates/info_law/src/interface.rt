@@ -1,5 +1,6 @@
 ghost use Rattle.std.specs.Prelude.{◌≡◌, ◌++◌, ℕ, List, None};
-ghost use Rattle.wire_defs.specs.Interfaces.{SpellsNetworkInterface, IsWritableNetworkInterface, network_interface_fault, network_interface_in, network_interface_spelling};
+ghost use Rattle.wire_defs.specs.Interfaces.{SpellsNetworkInterface, IsWritableNetworkInterface};
+ghost use Rattle.wire_defs.specs.Interfaces.{network_interface_fault, network_interface_in, network_interface_spelling};
 ghost use Rattle.wire_defs.specs.declared.class.NetworkInterface.{NetworkInterface};
 
 /// The laws of the entry of network interfaces.

@@ -1,6 +1,8 @@
 ghost use Rattle.std.specs.Prelude.{◌≡◌, ◌++◌, ℕ, List, length, None};
-ghost use Rattle.wire_defs.specs.Ioctl.{IoctlRequestValue, SpellsIoctlRequest, IsWritableIoctlRequest, ioctl_request_fault, ioctl_request_in, ioctl_request_spelling};
-ghost use Rattle.wire_defs.specs.Ioctl.{IoctlResponseValue, SpellsIoctlResponse, IsWritableIoctlResponse, ioctl_response_fault, ioctl_response_in, ioctl_response_spelling};
+ghost use Rattle.wire_defs.specs.Ioctl.{IoctlRequestValue, SpellsIoctlRequest, IsWritableIoctlRequest};
+ghost use Rattle.wire_defs.specs.Ioctl.{ioctl_request_fault, ioctl_request_in, ioctl_request_spelling};
+ghost use Rattle.wire_defs.specs.Ioctl.{IoctlResponseValue, SpellsIoctlResponse, IsWritableIoctlResponse};
+ghost use Rattle.wire_defs.specs.Ioctl.{ioctl_response_fault, ioctl_response_in, ioctl_response_spelling};
 
 /// The laws of the IOCTL request.
 pub fn ioctl_request_law()

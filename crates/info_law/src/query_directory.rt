@@ -1,6 +1,10 @@
 ghost use Rattle.std.specs.Prelude.{◌≡◌, ◌++◌, ℕ, List, length, None};
-ghost use Rattle.wire_defs.specs.QueryDirectory.{QueryDirectoryRequestValue, SpellsQueryDirectoryRequest, IsWritableQueryDirectoryRequest, query_directory_request_fault, query_directory_request_in, query_directory_request_spelling};
-ghost use Rattle.wire_defs.specs.QueryDirectory.{QueryDirectoryResponseValue, SpellsQueryDirectoryResponse, IsWritableQueryDirectoryResponse, query_directory_response_fault, query_directory_response_in, query_directory_response_spelling};
+ghost use Rattle.wire_defs.specs.QueryDirectory.{QueryDirectoryRequestValue, SpellsQueryDirectoryRequest};
+ghost use Rattle.wire_defs.specs.QueryDirectory.{IsWritableQueryDirectoryRequest, query_directory_request_fault};
+ghost use Rattle.wire_defs.specs.QueryDirectory.{query_directory_request_in, query_directory_request_spelling};
+ghost use Rattle.wire_defs.specs.QueryDirectory.{QueryDirectoryResponseValue, SpellsQueryDirectoryResponse};
+ghost use Rattle.wire_defs.specs.QueryDirectory.{IsWritableQueryDirectoryResponse, query_directory_response_fault};
+ghost use Rattle.wire_defs.specs.QueryDirectory.{query_directory_response_in, query_directory_response_spelling};
 
 /// The laws of the QUERY_DIRECTORY request.
 pub fn query_directory_request_law()

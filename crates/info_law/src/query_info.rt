@@ -1,6 +1,10 @@
 ghost use Rattle.std.specs.Prelude.{◌≡◌, ◌++◌, ℕ, List, length, None};
-ghost use Rattle.wire_defs.specs.QueryInfo.{QueryInfoRequestValue, SpellsQueryInfoRequest, IsWritableQueryInfoRequest, query_info_request_fault, query_info_request_in, query_info_request_spelling};
-ghost use Rattle.wire_defs.specs.QueryInfo.{QueryInfoResponseValue, SpellsQueryInfoResponse, IsWritableQueryInfoResponse, query_info_response_fault, query_info_response_in, query_info_response_spelling};
+ghost use Rattle.wire_defs.specs.QueryInfo.{QueryInfoRequestValue, SpellsQueryInfoRequest, IsWritableQueryInfoRequest};
+ghost use Rattle.wire_defs.specs.QueryInfo.{query_info_request_fault, query_info_request_in};
+ghost use Rattle.wire_defs.specs.QueryInfo.{query_info_request_spelling};
+ghost use Rattle.wire_defs.specs.QueryInfo.{QueryInfoResponseValue, SpellsQueryInfoResponse};
+ghost use Rattle.wire_defs.specs.QueryInfo.{IsWritableQueryInfoResponse, query_info_response_fault};
+ghost use Rattle.wire_defs.specs.QueryInfo.{query_info_response_in, query_info_response_spelling};
 
 /// The laws of the QUERY_INFO request.
 pub fn query_info_request_law()

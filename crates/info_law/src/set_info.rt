@@ -1,6 +1,8 @@
 ghost use Rattle.std.specs.Prelude.{◌≡◌, ◌++◌, ℕ, List, length, None};
-ghost use Rattle.wire_defs.specs.SetInfo.{SetInfoRequestValue, SpellsSetInfoRequest, IsWritableSetInfoRequest, set_info_request_fault, set_info_request_in, set_info_request_spelling};
-ghost use Rattle.wire_defs.specs.SetInfo.{SpellsSetInfoResponse, IsWritableSetInfoResponse, set_info_response_fault, set_info_response_in, set_info_response_spelling};
+ghost use Rattle.wire_defs.specs.SetInfo.{SetInfoRequestValue, SpellsSetInfoRequest, IsWritableSetInfoRequest};
+ghost use Rattle.wire_defs.specs.SetInfo.{set_info_request_fault, set_info_request_in, set_info_request_spelling};
+ghost use Rattle.wire_defs.specs.SetInfo.{SpellsSetInfoResponse, IsWritableSetInfoResponse, set_info_response_fault};
+ghost use Rattle.wire_defs.specs.SetInfo.{set_info_response_in, set_info_response_spelling};
 ghost use Rattle.wire_defs.specs.declared.file_message.SetInfoResponse.{SetInfoResponse};
 
 /// The laws of the SET_INFO request.

@@ -1,11 +1,22 @@
 ghost use Rattle.std.specs.Prelude.{◌≡◌, ◌++◌, ℕ, List, None};
-ghost use Rattle.wire_defs.specs.VolumeClasses.{FileFsVolumeInformationValue, SpellsFileFsVolumeInformation, IsWritableFileFsVolumeInformation, file_fs_volume_information_fault, file_fs_volume_information_in, file_fs_volume_information_spelling};
-ghost use Rattle.wire_defs.specs.VolumeClasses.{SpellsFileFsSizeInformation, IsWritableFileFsSizeInformation, file_fs_size_information_fault, file_fs_size_information_in, file_fs_size_information_spelling};
+ghost use Rattle.wire_defs.specs.VolumeClasses.{FileFsVolumeInformationValue, SpellsFileFsVolumeInformation};
+ghost use Rattle.wire_defs.specs.VolumeClasses.{IsWritableFileFsVolumeInformation, file_fs_volume_information_fault};
+ghost use Rattle.wire_defs.specs.VolumeClasses.{file_fs_volume_information_in, file_fs_volume_information_spelling};
+ghost use Rattle.wire_defs.specs.VolumeClasses.{SpellsFileFsSizeInformation, IsWritableFileFsSizeInformation};
+ghost use Rattle.wire_defs.specs.VolumeClasses.{file_fs_size_information_fault, file_fs_size_information_in};
+ghost use Rattle.wire_defs.specs.VolumeClasses.{file_fs_size_information_spelling};
 ghost use Rattle.wire_defs.specs.declared.class.FileFsSizeInformation.{FileFsSizeInformation};
-ghost use Rattle.wire_defs.specs.VolumeClasses.{SpellsFileFsDeviceInformation, IsWritableFileFsDeviceInformation, file_fs_device_information_fault, file_fs_device_information_in, file_fs_device_information_spelling};
+ghost use Rattle.wire_defs.specs.VolumeClasses.{SpellsFileFsDeviceInformation, IsWritableFileFsDeviceInformation};
+ghost use Rattle.wire_defs.specs.VolumeClasses.{file_fs_device_information_fault, file_fs_device_information_in};
+ghost use Rattle.wire_defs.specs.VolumeClasses.{file_fs_device_information_spelling};
 ghost use Rattle.wire_defs.specs.declared.class.FileFsDeviceInformation.{FileFsDeviceInformation};
-ghost use Rattle.wire_defs.specs.VolumeClasses.{FileFsAttributeInformationValue, SpellsFileFsAttributeInformation, IsWritableFileFsAttributeInformation, file_fs_attribute_information_fault, file_fs_attribute_information_in, file_fs_attribute_information_spelling};
-ghost use Rattle.wire_defs.specs.VolumeClasses.{SpellsFileFsFullSizeInformation, IsWritableFileFsFullSizeInformation, file_fs_full_size_information_fault, file_fs_full_size_information_in, file_fs_full_size_information_spelling};
+ghost use Rattle.wire_defs.specs.VolumeClasses.{FileFsAttributeInformationValue, SpellsFileFsAttributeInformation};
+ghost use Rattle.wire_defs.specs.VolumeClasses.{IsWritableFileFsAttributeInformation};
+ghost use Rattle.wire_defs.specs.VolumeClasses.{file_fs_attribute_information_fault, file_fs_attribute_information_in};
+ghost use Rattle.wire_defs.specs.VolumeClasses.{file_fs_attribute_information_spelling};
+ghost use Rattle.wire_defs.specs.VolumeClasses.{SpellsFileFsFullSizeInformation, IsWritableFileFsFullSizeInformation};
+ghost use Rattle.wire_defs.specs.VolumeClasses.{file_fs_full_size_information_fault, file_fs_full_size_information_in};
+ghost use Rattle.wire_defs.specs.VolumeClasses.{file_fs_full_size_information_spelling};
 ghost use Rattle.wire_defs.specs.declared.class.FileFsFullSizeInformation.{FileFsFullSizeInformation};
 
 /// The laws of FileFsVolumeInformation.

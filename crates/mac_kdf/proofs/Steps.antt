@@ -1,5 +1,6 @@
 -- The words of a block, and a step of the rounds.
-use Rattle.std.proofs.Common.{◌≡◌, ℕ, zero, suc, ◌+◌, ◌-◌, ◌*◌, ◌<◌, List, [], ◌∷◌, length, slice_index, get_or, inl, inr, arith, refl, sym, ◌∙◌}
+use Rattle.std.proofs.Common.{◌≡◌, ℕ, zero, suc, ◌+◌, ◌-◌, ◌*◌, ◌<◌, List, [], ◌∷◌, length, slice_index, get_or, inl}
+use Rattle.std.proofs.Common.{inr, arith, refl, sym, ◌∙◌}
 use Rattle.std.proofs.lemmas.Bool.{cases_lt}
 use Rattle.std.proofs.lemmas.List.{same_lists, length-append, get_or_default, get_or_append_left, get_or-append_right}
 use Rattle.cipher_defs.specs.Md4.{add32, word_at, block_words, rounds, round, step_fn, step_constant, step_shifts, word_place}

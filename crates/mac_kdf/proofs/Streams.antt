@@ -1,11 +1,13 @@
 -- RC4's key schedule and its stream, a step at a time.
-use Rattle.std.proofs.Common.{◌≡◌, ℕ, zero, suc, ◌+◌, ◌%◌, ◌<◌, List, [], ◌∷◌, ◌++◌, length, take, drop, get_or, set, swap, refl, ap, sym, ◌∙◌, arith, add-one, append_assoc, length-take-le}
+use Rattle.std.proofs.Common.{◌≡◌, ℕ, zero, suc, ◌+◌, ◌%◌, ◌<◌, List, [], ◌∷◌, ◌++◌, length, take, drop, get_or, set}
+use Rattle.std.proofs.Common.{swap, refl, ap, sym, ◌∙◌, arith, add-one, append_assoc, length-take-le}
 use Rattle.std.specs.Prelude.{slice_index, bit_xor}
 use Rattle.std.specs.List.{range_with_len}
 use Rattle.std.proofs.lemmas.List.{same_lists, get_or_default, take_more, drop_more, get_or_at, set_at}
 use Rattle.std.proofs.lemmas.List.FromFn.{length-range_with_len}
 use Rattle.std.specs.Int.Bits.{xor_self, xor_assoc, xor_zero_r}
-use Rattle.cipher_defs.specs.Rc4.{PiecesJoin, Deciphers, CipherState, scheduled_place, scheduled, advanced, stream_byte, advanced_by, enciphered}
+use Rattle.cipher_defs.specs.Rc4.{PiecesJoin, Deciphers, CipherState, scheduled_place, scheduled, advanced, stream_byte}
+use Rattle.cipher_defs.specs.Rc4.{advanced_by, enciphered}
 
 get_or-range : (a n k d : ℕ) → k < n → get_or (range_with_len a n) k d ≡ a + k
 get_or-range a zero k d l = absurd (omega arith)
@@ -28,7 +30,8 @@ pub schedule_more : (key table table' : List ℕ) (n j j' : ℕ) → table ≡ (
     → (table' ≡ (scheduled key (n + 1)).table) × (j' ≡ (scheduled key (n + 1)).j)
 unfolding scheduled
 schedule_more key table table' n j j' at place next swapped =
-    let goes : j' ≡ scheduled_place key (scheduled key n).table (scheduled key n).j n = next ∙ (λ i. scheduled_place key (at i) (place i) n) in
+    let goes : j' ≡ scheduled_place key (scheduled key n).table (scheduled key n).j n = next
+    ∙ (λ i. scheduled_place key (at i) (place i) n) in
     (rw add-one (swapped ∙ (λ i. swap (at i) n (goes i))), rw add-one goes)
 
 pub advanced_by-more : (s : CipherState) (n : ℕ) → advanced_by s (n + 1) ≡ advanced (advanced_by s n)
@@ -36,7 +39,8 @@ advanced_by-more s zero = refl
 advanced_by-more s (suc n) = let e : suc n + 1 ≡ suc (n + 1) = omega arith in ap (advanced_by s) e ∙ advanced_by-more (advanced s) n
 
 -- the law of two pieces
-pub enciphered-append : (s : CipherState) (xs ys : List ℕ) → enciphered s (xs ++ ys) ≡ enciphered s xs ++ enciphered (advanced_by s (length xs)) ys
+pub enciphered-append : (s : CipherState) (xs ys : List ℕ) → enciphered s (xs ++ ys) ≡ enciphered s xs
+    ++ enciphered (advanced_by s (length xs)) ys
 enciphered-append s [] ys = refl
 enciphered-append s (x ∷ xs) ys = ap (λ l. bit_xor x (stream_byte (advanced s)) ∷ l) (enciphered-append (advanced s) xs ys)
 
@@ -55,12 +59,17 @@ enciphered_more s old now i byte l is stream =
     let len : length front ≡ i = length-enciphered s (take i old) ∙ count in
     let split : now ≡ front ++ (y ∷ drop (i + 1) old) = is ∙ ap (λ r. front ++ r) (drop_more old i 0 l) in
     let read : get_or now i 0 ≡ y = ap (λ r. get_or r i 0) split ∙ get_or_at front y (drop (i + 1) old) 0 i len in
-    let joined : bit_xor (get_or now i 0) byte ≡ bit_xor y (stream_byte (advanced (advanced_by s (length (take i old))))) = (λ k. bit_xor (read k) (stream k)) ∙ ap (λ n. bit_xor y (stream_byte (advanced (advanced_by s n)))) (sym count) in
+    let joined : bit_xor (get_or now i 0) byte
+    ≡ bit_xor y (stream_byte (advanced (advanced_by s (length (take i old))))) = (λ k. bit_xor (read k) (stream k))
+    ∙ ap (λ n. bit_xor y (stream_byte (advanced (advanced_by s n)))) (sym count) in
     let b : ℕ = bit_xor y (stream_byte (advanced (advanced_by s (length (take i old))))) in
-    let one : enciphered s (take (i + 1) old) ≡ front ++ b ∷ [] = ap (enciphered s) (take_more old i 0 l) ∙ enciphered-append s (take i old) (y ∷ []) in
-    (λ k. set (split k) i (joined k)) ∙ (set_at front y (drop (i + 1) old) b i len ∙ (sym (append_assoc front (b ∷ []) (drop (i + 1) old)) ∙ ap (λ r. r ++ drop (i + 1) old) (sym one)))
+    let one : enciphered s (take (i + 1) old) ≡ front ++ b ∷ [] = ap (enciphered s) (take_more old i 0 l)
+    ∙ enciphered-append s (take i old) (y ∷ []) in
+    (λ k. set (split k) i (joined k)) ∙ (set_at front y (drop (i + 1) old) b i len
+    ∙ (sym (append_assoc front (b ∷ []) (drop (i + 1) old)) ∙ ap (λ r. r ++ drop (i + 1) old) (sym one)))
 
-advanced_by-append : (s : CipherState) (xs ys : List ℕ) → advanced_by s (length (xs ++ ys)) ≡ advanced_by (advanced_by s (length xs)) (length ys)
+advanced_by-append : (s : CipherState) (xs ys : List ℕ) → advanced_by s (length (xs ++ ys))
+    ≡ advanced_by (advanced_by s (length xs)) (length ys)
 advanced_by-append s [] ys = refl
 advanced_by-append s (x ∷ xs) ys = advanced_by-append (advanced s) xs ys
 

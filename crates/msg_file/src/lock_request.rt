@@ -1,7 +1,8 @@
 ghost use Rattle.std.specs.Prelude.{◌≡◌, ◌+◌, ◌*◌, ◌%◌, ◌<◌, ◌≤◌, ◌^◌, ◌++◌, length, drop, IfOk, OnOk, OnErr, MatchOption, MatchResult};
 ghost use Rattle.wire_defs.specs.Table.{Stands};
 ghost use Rattle.wire_defs.specs.Fault.{Reads};
-ghost use Rattle.wire_defs.specs.Lock.{SpellsLockRequest, lock_request_fault, lock_request_spelling, lock_element_table, lock_element_spelling};
+ghost use Rattle.wire_defs.specs.Lock.{SpellsLockRequest, lock_request_fault, lock_request_spelling, lock_element_table};
+ghost use Rattle.wire_defs.specs.Lock.{lock_element_spelling};
 ghost use Rattle.msg_file.specs.Views.{lock_request};
 
 use crate::lock::LockRequest;

@@ -1,6 +1,7 @@
 ghost use Rattle.std.specs.Prelude.{◌≡◌, IfOk, ◌<◌, ◌^◌, length};
 ghost use Rattle.wire_defs.specs.Fault.{Reads};
-ghost use Rattle.wire_defs.specs.QueryDirectory.{SpellsQueryDirectoryRequest, query_directory_request_fault, query_directory_request_spelling};
+ghost use Rattle.wire_defs.specs.QueryDirectory.{SpellsQueryDirectoryRequest, query_directory_request_fault};
+ghost use Rattle.wire_defs.specs.QueryDirectory.{query_directory_request_spelling};
 ghost use Rattle.msg_info.specs.Views.{query_directory_request};
 
 use crate::known::{check_class, is_directory_class};

@@ -1,6 +1,7 @@
 ghost use Rattle.std.specs.Prelude.{◌≡◌, IfOk, ◌<◌, ◌^◌, length};
 ghost use Rattle.wire_defs.specs.Fault.{Reads};
-ghost use Rattle.wire_defs.specs.QueryDirectory.{SpellsQueryDirectoryResponse, query_directory_response_fault, query_directory_response_spelling};
+ghost use Rattle.wire_defs.specs.QueryDirectory.{SpellsQueryDirectoryResponse, query_directory_response_fault};
+ghost use Rattle.wire_defs.specs.QueryDirectory.{query_directory_response_spelling};
 ghost use Rattle.msg_info.specs.Views.{query_directory_response};
 
 use crate::query_directory::QueryDirectoryResponse;

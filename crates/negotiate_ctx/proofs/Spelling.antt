@@ -1,5 +1,6 @@
 -- Ids and contexts that are written.
-use Rattle.std.proofs.Common.{◌≡◌, ℕ, ◌*◌, ◌^◌, ◌<◌, ◌≤◌, List, [], ◌∷◌, ◌++◌, length, true, false, Bool, refl, ap, ◌∙◌, arith, length-append}
+use Rattle.std.proofs.Common.{◌≡◌, ℕ, ◌*◌, ◌^◌, ◌<◌, ◌≤◌, List, [], ◌∷◌, ◌++◌, length, true, false, Bool, refl, ap, ◌∙◌}
+use Rattle.std.proofs.Common.{arith, length-append}
 use Rattle.std.specs.Prelude.{if◌then◌else◌}
 use Rattle.wire_defs.specs.Places.{le}
 use Rattle.wire_defs.specs.Contexts.{Context, with_context, with_contexts}
@@ -39,9 +40,15 @@ preauth_fit v salt e =
     omega (arith, e, tail, salted, all, length-le 2 (length ids), length-le 2 (length salt), length-ids ids, few_ids v)
 
 -- the three kinds, one behind the other
-pub written : (v : OfferValue) (salt one two three xs ys : List ℕ) → one ≡ with_contexts [] (if v.preauth then preauth_context v salt ∷ [] else [])
-    → two ≡ with_contexts one (ids_contexts 2 xs) → xs ≡ v.ciphers → three ≡ with_contexts two (ids_contexts 8 ys) → ys ≡ v.signings → three ≡ offer_spelling v salt
+pub written : (v : OfferValue) (salt one two three xs ys : List ℕ) → one
+    ≡ with_contexts [] (if v.preauth then preauth_context v salt ∷ [] else [])
+    → two ≡ with_contexts one (ids_contexts 2 xs) → xs ≡ v.ciphers → three ≡ with_contexts two (ids_contexts 8 ys) → ys
+    ≡ v.signings → three ≡ offer_spelling v salt
 written v salt one two three xs ys first second e third f =
     let preauth : List Context = if v.preauth then preauth_context v salt ∷ [] else [] in
-    third ∙ ap (λ (l : List ℕ). with_contexts two (ids_contexts 8 l)) f ∙ ap (λ (o : List ℕ). with_contexts o (ids_contexts 8 v.signings)) (second ∙ ap (λ (l : List ℕ). with_contexts one (ids_contexts 2 l)) e ∙ ap (λ (o : List ℕ). with_contexts o (ids_contexts 2 v.ciphers)) first)
-    ∙ with_contexts-append (with_contexts [] preauth) (ids_contexts 2 v.ciphers) (ids_contexts 8 v.signings) ∙ with_contexts-append [] preauth (ids_contexts 2 v.ciphers ++ ids_contexts 8 v.signings)
+    third ∙ ap (λ (l : List ℕ). with_contexts two (ids_contexts 8 l)) f
+    ∙ ap (λ (o : List ℕ). with_contexts o (ids_contexts 8 v.signings))
+    (second ∙ ap (λ (l : List ℕ). with_contexts one (ids_contexts 2 l)) e
+    ∙ ap (λ (o : List ℕ). with_contexts o (ids_contexts 2 v.ciphers)) first)
+    ∙ with_contexts-append (with_contexts [] preauth) (ids_contexts 2 v.ciphers) (ids_contexts 8 v.signings)
+    ∙ with_contexts-append [] preauth (ids_contexts 2 v.ciphers ++ ids_contexts 8 v.signings)

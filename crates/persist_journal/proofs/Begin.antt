@@ -1,5 +1,6 @@
 -- What a crash leaves while a new journal is made.
-use Rattle.std.proofs.Common.{◌≡◌, inl, ℕ, ◌+◌, ◌≤◌, List, [], ◌∷◌, ◌++◌, length, take, drop, replicate, refl, ◌∙◌, ap, arith, length-append, length-drop}
+use Rattle.std.proofs.Common.{◌≡◌, inl, ℕ, ◌+◌, ◌≤◌, List, [], ◌∷◌, ◌++◌, length, take, drop, replicate, refl, ◌∙◌, ap}
+use Rattle.std.proofs.Common.{arith, length-append, length-drop}
 use Rattle.std.proofs.lemmas.List.{drop_all, append-nil, take_at}
 use Rattle.smb_io.specs.Disk.{WritesAt, Torn, Follows}
 use Rattle.journal_defs.specs.Grammar.{magic, StandsFor}
@@ -12,7 +13,8 @@ torn_short : (at n : ℕ) (old c : List ℕ) → at + n ≤ 9 → IsShort old �
 torn_short at n old c fits short torn =
     let rest = ap length torn.after in omega (arith, length-drop (at + n) c, length-drop (at + n) old, rest)
 
-pub short_write : (at n : ℕ) (before after : List ℕ → Type 0) → at + n ≤ 9 → ((c : List ℕ) → before c → IsShort c) → Follows (Torn at n) before after → (c : List ℕ) → after c → IsShort c
+pub short_write : (at n : ℕ) (before after : List ℕ → Type 0) → at + n ≤ 9 → ((c : List ℕ) → before c → IsShort c)
+    → Follows (Torn at n) before after → (c : List ℕ) → after c → IsShort c
 short_write at n before after fits short follows c now =
     let from = follows c now in torn_short at n from.0 c fits (short from.0 from.1) from.2
 
@@ -21,7 +23,8 @@ module _ {D : Type 0} (moment : D → ℕ) (left_since : D → ℕ → List ℕ 
   no_bodies old new run = weakened moment left_since old new IsShort (λ c. StandsFor c []) (λ c short. inl (short, refl)) run
 
 -- the zeros, and the closed gate behind them
-pub blank_done : (old one two : List ℕ) → length old ≤ 9 → WritesAt old 0 (replicate 8 0) one → WritesAt one 8 (0 ∷ []) two → two ≡ replicate 8 0 ++ 0 ∷ []
+pub blank_done : (old one two : List ℕ) → length old ≤ 9 → WritesAt old 0 (replicate 8 0) one → WritesAt one 8 (0 ∷ [])
+    two → two ≡ replicate 8 0 ++ 0 ∷ []
 blank_done old one two short first second =
     let zeros : List ℕ = replicate 8 0 in
     let one_is : one ≡ zeros ++ drop 8 old = first.within (omega arith) in

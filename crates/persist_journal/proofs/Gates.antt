@@ -1,5 +1,7 @@
 -- What is read of a disk, gate by gate.
-use Rattle.std.proofs.Common.{◌≡◌, ℕ, ◌+◌, ◌*◌, ◌/◌, ◌%◌, ◌^◌, ◌<◌, ◌≤◌, List, [], ◌∷◌, ◌++◌, length, take, drop, get_or, refl, sym, ◌∙◌, ap, subst, arith, append_assoc, length-append, length-drop, take-append-drop}
+use Rattle.std.proofs.Common.{◌≡◌, ℕ, ◌+◌, ◌*◌, ◌/◌, ◌%◌, ◌^◌, ◌<◌, ◌≤◌, List, [], ◌∷◌, ◌++◌, length, take, drop}
+use Rattle.std.proofs.Common.{get_or, refl, sym, ◌∙◌, ap, subst, arith, append_assoc, length-append, length-drop}
+use Rattle.std.proofs.Common.{take-append-drop}
 use Rattle.std.proofs.lemmas.List.{take_at, drop_at, drop-drop, length-take-le, take-append-le}
 use Rattle.wire_defs.specs.Places.{le, number_of}
 use Rattle.wire_defs.proofs.Numbers.{number_of-le}
@@ -25,17 +27,21 @@ le_4 a b c d la lb lc ld =
     rw (first, n1, second, n2, third, n3, fourth) refl
 
 -- one read more of a buffer
-pub fill_more : (bytes buffer piece rest : List ℕ) (at done count : ℕ) → done ≤ length buffer → take done buffer ≡ take done (drop at bytes) → count ≤ length piece → take count piece ≡ take count (drop (at + done) bytes)
+pub fill_more : (bytes buffer piece rest : List ℕ) (at done count : ℕ) → done ≤ length buffer → take done buffer
+    ≡ take done (drop at bytes) → count ≤ length piece → take count piece ≡ take count (drop (at + done) bytes)
     → take (done + count) (take done buffer ++ (piece ++ rest)) ≡ take (done + count) (drop at bytes)
 fill_more bytes buffer piece rest at done count fits so_far within read =
     let long : length (take done buffer) ≡ done = length-take-le done buffer fits in
     take_sum done count (done + count) (take done buffer ++ (piece ++ rest)) refl
-    ∙ ap (λ (l : List ℕ). l ++ take count (drop done (take done buffer ++ (piece ++ rest)))) (take_at (take done buffer) (piece ++ rest) done long ∙ so_far)
+    ∙ ap (λ (l : List ℕ). l ++ take count (drop done (take done buffer ++ (piece ++ rest))))
+    (take_at (take done buffer) (piece ++ rest) done long ∙ so_far)
     ∙ ap (λ (l : List ℕ). take done (drop at bytes) ++ take count l) (drop_at (take done buffer) (piece ++ rest) done long)
-    ∙ ap (λ (l : List ℕ). take done (drop at bytes) ++ l) (take-append-le count piece rest within ∙ read ∙ ap (λ (l : List ℕ). take count l) (sym (drop-drop done at bytes)))
+    ∙ ap (λ (l : List ℕ). take done (drop at bytes) ++ l) (take-append-le count piece rest within ∙ read
+    ∙ ap (λ (l : List ℕ). take count l) (sym (drop-drop done at bytes)))
     ∙ sym (take_sum done count (done + count) (drop at bytes) refl)
 
-five : (head : List ℕ) → length head ≡ 5 → head ≡ get_or head 0 0 ∷ get_or head 1 0 ∷ get_or head 2 0 ∷ get_or head 3 0 ∷ get_or head 4 0 ∷ []
+five : (head : List ℕ) → length head ≡ 5 → head ≡ get_or head 0 0 ∷ get_or head 1 0 ∷ get_or head 2 0 ∷ get_or head 3 0
+    ∷ get_or head 4 0 ∷ []
 five [] long = absurd (omega arith)
 five (a ∷ []) long = absurd (omega arith)
 five (a ∷ b ∷ []) long = absurd (omega arith)
@@ -45,18 +51,21 @@ five (a ∷ b ∷ c ∷ d ∷ e ∷ []) long = refl
 five (a ∷ b ∷ c ∷ d ∷ e ∷ f ∷ rest) long = absurd (omega arith)
 
 -- what the first bytes tell where the entry ends before its end
-pub shows_early : (m head : List ℕ) (n left : ℕ) → get_or head 0 0 ≡ 1 → length head ≡ 5 → le 4 n ≡ get_or head 1 0 ∷ get_or head 2 0 ∷ get_or head 3 0 ∷ get_or head 4 0 ∷ [] → n < 2 ^ 32 → left ≤ 5 + n
+pub shows_early : (m head : List ℕ) (n left : ℕ) → get_or head 0 0 ≡ 1 → length head ≡ 5 → le 4 n
+    ≡ get_or head 1 0 ∷ get_or head 2 0 ∷ get_or head 3 0 ∷ get_or head 4 0 ∷ [] → n < 2 ^ 32 → left ≤ 5 + n
     → length m ≡ left → 5 ≤ left → take (length head) m ≡ head → Shows m EndsEarly
 shows_early [] head n left is_open long spelled small early size some front = absurd (omega arith)
 shows_early (gate ∷ rest) head n left is_open long spelled small early size some front =
-    let fives : gate ∷ take 4 rest ≡ get_or head 0 0 ∷ get_or head 1 0 ∷ get_or head 2 0 ∷ get_or head 3 0 ∷ get_or head 4 0 ∷ [] = ap (λ (k : ℕ). take k (gate ∷ rest)) (sym long) ∙ front ∙ five head long in
+    let fives : gate ∷ take 4 rest ≡ get_or head 0 0 ∷ get_or head 1 0 ∷ get_or head 2 0 ∷ get_or head 3 0 ∷ get_or head
+    4 0 ∷ [] = ap (λ (k : ℕ). take k (gate ∷ rest)) (sym long) ∙ front ∙ five head long in
     let gate_is : gate ≡ get_or head 0 0 = cc in
     let four : take 4 rest ≡ get_or head 1 0 ∷ get_or head 2 0 ∷ get_or head 3 0 ∷ get_or head 4 0 ∷ [] = cc in
     let value : number_of (take 4 rest) ≡ n = ap number_of (four ∙ sym spelled) ∙ number_of-le 4 n small in
     (gate_is ∙ is_open, omega arith)
 
 -- an entry behind a gate, and the rest behind it
-split_entry : (rest : List ℕ) (n : ℕ) → 4 + n < length rest → le 4 n ≡ take 4 rest → rest ≡ entry (take n (drop 4 rest)) ++ drop n (drop 4 rest)
+split_entry : (rest : List ℕ) (n : ℕ) → 4 + n < length rest → le 4 n ≡ take 4 rest → rest ≡ entry (take n (drop 4 rest))
+    ++ drop n (drop 4 rest)
 split_entry rest n fits spelled =
     let body = take n (drop 4 rest) in
     let size : length body ≡ n = length-take-le n (drop 4 rest) (omega (arith, length-drop 4 rest)) in
@@ -65,7 +74,9 @@ split_entry rest n fits spelled =
     ∙ ap (λ (l : List ℕ). le 4 (length body) ++ l) (sym (take-append-drop n (drop 4 rest)))
     ∙ sym (append_assoc (le 4 (length body)) body (drop n (drop 4 rest)))
 
-read_entry : (bytes rest : List ℕ) (bodies : List (List ℕ)) (gate count n : ℕ) → bytes ≡ front bodies ++ rest → gate ≡ length (front bodies) → count ≡ length bodies → AllFit bodies → Shows rest (Entry n) → ReadTo bytes (gate + (5 + n)) (count + 1)
+read_entry : (bytes rest : List ℕ) (bodies : List (List ℕ)) (gate count n : ℕ) → bytes ≡ front bodies ++ rest → gate
+    ≡ length (front bodies) → count ≡ length bodies → AllFit bodies → Shows rest (Entry n)
+    → ReadTo bytes (gate + (5 + n)) (count + 1)
 read_entry bytes [] bodies gate count n spelled place number fit shows = absurd shows
 read_entry bytes (g ∷ rest) bodies gate count n spelled place number fit shows =
     let body = take n (drop 4 rest) in
@@ -73,34 +84,61 @@ read_entry bytes (g ∷ rest) bodies gate count n spelled place number fit shows
     record {
       bodies = bodies ++ body ∷ [];
       rest = drop n (drop 4 rest);
-      spelled = spelled ∙ ap (λ (k : ℕ). front bodies ++ k ∷ rest) shows.0 ∙ ap (λ (l : List ℕ). front bodies ++ 1 ∷ l) (split_entry rest n shows.2 shows.3) ∙ front-push bodies body (drop n (drop 4 rest));
+      spelled = spelled ∙ ap (λ (k : ℕ). front bodies ++ k ∷ rest) shows.0 ∙ ap (λ (l : List ℕ). front bodies ++ 1 ∷ l)
+          (split_entry rest n shows.2 shows.3) ∙ front-push bodies body (drop n (drop 4 rest));
       place = omega (arith, place, size, length-front-push bodies body);
       number = omega (arith, number, length-append bodies (body ∷ []));
       fit = all_fit_push bodies body fit (omega (arith, size, shows.1));
     }
 
-rest_at : (bytes rest : List ℕ) (bodies : List (List ℕ)) (gate : ℕ) → bytes ≡ front bodies ++ rest → gate ≡ length (front bodies) → drop gate bytes ≡ rest
+rest_at : (bytes rest : List ℕ) (bodies : List (List ℕ)) (gate : ℕ) → bytes ≡ front bodies ++ rest → gate
+    ≡ length (front bodies) → drop gate bytes ≡ rest
 rest_at bytes rest bodies gate spelled place = ap (λ (l : List ℕ). drop gate l) spelled ∙ drop_at (front bodies) rest gate (sym place)
 
-pub read_more : (bytes : List ℕ) (gate count n : ℕ) → ReadTo bytes gate count → Shows (drop gate bytes) (Entry n) → ReadTo bytes (gate + (5 + n)) (count + 1)
+pub read_more : (bytes : List ℕ) (gate count n : ℕ) → ReadTo bytes gate count → Shows (drop gate bytes) (Entry n)
+    → ReadTo bytes (gate + (5 + n)) (count + 1)
 read_more bytes gate count n so_far shows =
-    read_entry bytes so_far.rest so_far.bodies gate count n so_far.spelled so_far.place so_far.number so_far.fit (subst (λ (l : List ℕ). Shows l (Entry n)) (rest_at bytes so_far.rest so_far.bodies gate so_far.spelled so_far.place) shows)
+    read_entry bytes so_far.rest so_far.bodies gate count n so_far.spelled so_far.place so_far.number so_far.fit
+    (subst (λ (l : List ℕ). Shows l (Entry n)) (rest_at bytes so_far.rest so_far.bodies gate so_far.spelled
+    so_far.place) shows)
 
-closed_gate : (bytes rest : List ℕ) (bodies : List (List ℕ)) (gate count : ℕ) → bytes ≡ front bodies ++ rest → gate ≡ length (front bodies) → count ≡ length bodies → AllFit bodies → Shows rest Closed → EndsWith bytes gate count
+closed_gate : (bytes rest : List ℕ) (bodies : List (List ℕ)) (gate count : ℕ) → bytes ≡ front bodies ++ rest → gate
+    ≡ length (front bodies) → count ≡ length bodies → AllFit bodies → Shows rest Closed → EndsWith bytes gate count
 closed_gate bytes [] bodies gate count spelled place number fit shows = absurd shows
-closed_gate bytes (g ∷ rest) bodies gate count spelled place number fit shows = record { bodies = bodies; shut = g; rest = rest; spelled = spelled; closed = shows; place = place; number = number; fit = fit }
+closed_gate bytes (g ∷ rest) bodies gate count spelled place number fit shows = record {
+  bodies = bodies;
+  shut = g;
+  rest = rest;
+  spelled = spelled;
+  closed = shows;
+  place = place;
+  number = number;
+  fit = fit;
+}
 
 pub read_closed : (bytes : List ℕ) (gate count : ℕ) → ReadTo bytes gate count → Shows (drop gate bytes) Closed → EndsWith bytes gate count
 read_closed bytes gate count so_far shows =
-    closed_gate bytes so_far.rest so_far.bodies gate count so_far.spelled so_far.place so_far.number so_far.fit (subst (λ (l : List ℕ). Shows l Closed) (rest_at bytes so_far.rest so_far.bodies gate so_far.spelled so_far.place) shows)
+    closed_gate bytes so_far.rest so_far.bodies gate count so_far.spelled so_far.place so_far.number so_far.fit
+    (subst (λ (l : List ℕ). Shows l Closed) (rest_at bytes so_far.rest so_far.bodies gate so_far.spelled
+    so_far.place) shows)
 
-early_gate : (bytes rest : List ℕ) (bodies : List (List ℕ)) (gate : ℕ) → bytes ≡ front bodies ++ rest → gate ≡ length (front bodies) → AllFit bodies → Shows rest EndsEarly → EndsEarlyAt bytes gate
+early_gate : (bytes rest : List ℕ) (bodies : List (List ℕ)) (gate : ℕ) → bytes ≡ front bodies ++ rest → gate
+    ≡ length (front bodies) → AllFit bodies → Shows rest EndsEarly → EndsEarlyAt bytes gate
 early_gate bytes [] bodies gate spelled place fit shows = absurd shows
-early_gate bytes (g ∷ rest) bodies gate spelled place fit shows = record { bodies = bodies; rest = rest; spelled = spelled ∙ ap (λ (k : ℕ). front bodies ++ k ∷ rest) shows.0; place = place; early = shows.1; fit = fit }
+early_gate bytes (g ∷ rest) bodies gate spelled place fit shows = record {
+  bodies = bodies;
+  rest = rest;
+  spelled = spelled ∙ ap (λ (k : ℕ). front bodies ++ k ∷ rest) shows.0;
+  place = place;
+  early = shows.1;
+  fit = fit;
+}
 
 pub read_early : (bytes : List ℕ) (gate count : ℕ) → ReadTo bytes gate count → Shows (drop gate bytes) EndsEarly → EndsEarlyAt bytes gate
 read_early bytes gate count so_far shows =
-    early_gate bytes so_far.rest so_far.bodies gate so_far.spelled so_far.place so_far.fit (subst (λ (l : List ℕ). Shows l EndsEarly) (rest_at bytes so_far.rest so_far.bodies gate so_far.spelled so_far.place) shows)
+    early_gate bytes so_far.rest so_far.bodies gate so_far.spelled so_far.place so_far.fit
+    (subst (λ (l : List ℕ). Shows l EndsEarly) (rest_at bytes so_far.rest so_far.bodies gate so_far.spelled
+    so_far.place) shows)
 
 pub read_mark : (bytes : List ℕ) → take 8 bytes ≡ magic → ReadTo bytes 8 0
 read_mark bytes is = record {
@@ -112,6 +150,7 @@ read_mark bytes is = record {
   fit = tt;
 }
 
-pub shows_there : (now start : List ℕ) (gate n : ℕ) (l : Look) → now ≡ start → l ≡ Entry n → Shows (drop gate now) l → Shows (drop gate start) (Entry n)
+pub shows_there : (now start : List ℕ) (gate n : ℕ) (l : Look) → now ≡ start → l ≡ Entry n → Shows (drop gate now) l
+    → Shows (drop gate start) (Entry n)
 shows_there now start gate n l same is shows =
     subst (λ (k : Look). Shows (drop gate start) k) is (subst (λ (b : List ℕ). Shows (drop gate b) l) same shows)

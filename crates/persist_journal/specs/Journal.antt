@@ -1,5 +1,6 @@
 -- What contracts see of a journal, and what its calls answer.
-use Rattle.std.specs.Prelude.{◌≡◌, ◌⊎◌, ℕ, ◌+◌, ◌-◌, ◌^◌, ◌<◌, ◌≤◌, min, Bool, true, false, List, [], ◌∷◌, ◌++◌, length, take, drop, Option, Some, None, Result, Ok, Err}
+use Rattle.std.specs.Prelude.{◌≡◌, ◌⊎◌, ℕ, ◌+◌, ◌-◌, ◌^◌, ◌<◌, ◌≤◌, min, Bool, true, false, List, [], ◌∷◌, ◌++◌, length}
+use Rattle.std.specs.Prelude.{take, drop, Option, Some, None, Result, Ok, Err}
 use Rattle.smb_io.specs.Disk.{Only}
 use Rattle.smb_io.specs.Faults.{Rose}
 use Rattle.journal_defs.specs.Grammar.{IsClosed, front, AllFit, StandsFor, BreaksAt}
@@ -19,7 +20,8 @@ pub record JournalState (D : Type 0) : Type 0 where
   pub room : ℕ
 
 -- The disk holds these bodies and a closed gate, and nothing on it waits for a sync.
-pub record Settled {D : Type 0} (seen : D → List ℕ) (may_leave : D → List ℕ → Type 0) (journal : JournalState D) (bodies : List (List ℕ)) : Type 0 where
+pub record Settled {D : Type 0} (seen : D → List ℕ) (may_leave : D → List ℕ → Type 0) (journal : JournalState D)
+    (bodies : List (List ℕ)) : Type 0 where
   pub gate : ℕ
   pub file : seen journal.disk ≡ front bodies ++ gate ∷ []
   pub closed : IsClosed gate
@@ -50,7 +52,8 @@ Admits stopped used size epoch (Ok _) = (stopped ≡ None) × (used + 5 + size �
 Admits stopped used size epoch (Err errors.Memory) = ⊥
 Admits stopped used size epoch (Err (errors.DiskFault n)) = ⊥
 Admits stopped used size epoch (Err (errors.NotAJournal at)) = ⊥
-Admits stopped used size epoch (Err (errors.Full would limit)) = (stopped ≡ None) × (would ≡ capped (used + 5 + size)) × (limit ≡ limit_of epoch) × (limit < would)
+Admits stopped used size epoch (Err (errors.Full would limit)) = (stopped ≡ None) × (would ≡ capped (used + 5 + size))
+    × (limit ≡ limit_of epoch) × (limit < would)
 Admits stopped used size epoch (Err (errors.Stopped n)) = stopped ≡ Some n
 
 -- an entry of so many bytes may be added
@@ -64,12 +67,17 @@ OnlyRoom old new = (new ≡ record old { room = new.room }) × (old.room ≤ new
 -- What `append` answers, and what it leaves.
 abbrev pub Appends : {D : Type 0} → (D → ℕ) → JournalState D → List ℕ → Bool → Result ℕ JournalError → JournalState D → Type 0
 Appends faults old body epoch (Ok n) new =
-    Allows old (length body) epoch × (n ≡ old.count) × (new.count ≡ old.count + 1) × (new.used ≡ old.used + 5 + length body) × (new.stopped ≡ None) × (faults new.disk ≡ faults old.disk) × (old.room ≤ new.room) × (new.taken ≡ old.taken) × (new.next ≡ old.next)
+    Allows old (length body) epoch × (n ≡ old.count) × (new.count ≡ old.count + 1)
+    × (new.used ≡ old.used + 5 + length body) × (new.stopped ≡ None) × (faults new.disk ≡ faults old.disk)
+    × (old.room ≤ new.room) × (new.taken ≡ old.taken) × (new.next ≡ old.next)
 Appends faults old body epoch (Err errors.Memory) new = Allows old (length body) epoch × (old.room < length body + 5) × OnlyRoom old new
 Appends faults old body epoch (Err (errors.DiskFault n)) new =
-    Allows old (length body) epoch × Rose (faults old.disk) n × (n ≡ faults new.disk) × (new.stopped ≡ Some n) × (new.used ≡ old.used) × (new.count ≡ old.count) × (old.room ≤ new.room) × (new.taken ≡ old.taken) × (new.next ≡ old.next)
+    Allows old (length body) epoch × Rose (faults old.disk) n × (n ≡ faults new.disk) × (new.stopped ≡ Some n)
+    × (new.used ≡ old.used) × (new.count ≡ old.count) × (old.room ≤ new.room) × (new.taken ≡ old.taken)
+    × (new.next ≡ old.next)
 Appends faults old body epoch (Err (errors.NotAJournal at)) new = ⊥
-Appends faults old body epoch (Err (errors.Full would limit)) new = (old.stopped ≡ None) × (would ≡ capped (old.used + 5 + length body)) × (limit ≡ limit_of epoch) × (limit < would) × (new ≡ old)
+Appends faults old body epoch (Err (errors.Full would limit)) new = (old.stopped ≡ None)
+    × (would ≡ capped (old.used + 5 + length body)) × (limit ≡ limit_of epoch) × (limit < would) × (new ≡ old)
 Appends faults old body epoch (Err (errors.Stopped n)) new = (old.stopped ≡ Some n) × (new ≡ old)
 
 -- What `reserve` answers, and what it leaves.
@@ -78,7 +86,8 @@ Reserves old size epoch (Ok _) new = Allows old size epoch × (size + 5 ≤ new.
 Reserves old size epoch (Err errors.Memory) new = Allows old size epoch × (old.room < size + 5) × OnlyRoom old new
 Reserves old size epoch (Err (errors.DiskFault n)) new = ⊥
 Reserves old size epoch (Err (errors.NotAJournal at)) new = ⊥
-Reserves old size epoch (Err (errors.Full would limit)) new = (old.stopped ≡ None) × (would ≡ capped (old.used + 5 + size)) × (limit ≡ limit_of epoch) × (limit < would) × (new ≡ old)
+Reserves old size epoch (Err (errors.Full would limit)) new = (old.stopped ≡ None)
+    × (would ≡ capped (old.used + 5 + size)) × (limit ≡ limit_of epoch) × (limit < would) × (new ≡ old)
 Reserves old size epoch (Err (errors.Stopped n)) new = (old.stopped ≡ Some n) × (new ≡ old)
 
 -- A disk failed in a call that then dropped it, at this count of faults. Generic code has no such disk but by a call that failed.
@@ -89,7 +98,8 @@ pub record FailedAt {D : Type 0} (faults : D → ℕ) (disk : D) (n : ℕ) : Typ
 
 -- What `create` answers of a disk.
 abbrev pub Creates : {D : Type 0} → (D → ℕ) → D → Result (JournalState D) JournalError → Type 0
-Creates faults disk (Ok journal) = (faults journal.disk ≡ faults disk) × (journal.used ≡ 9) × (journal.count ≡ 0) × (journal.taken ≡ 0) × (journal.stopped ≡ None)
+Creates faults disk (Ok journal) = (faults journal.disk ≡ faults disk) × (journal.used ≡ 9) × (journal.count ≡ 0)
+    × (journal.taken ≡ 0) × (journal.stopped ≡ None)
 Creates faults disk (Err errors.Memory) = ⊥
 Creates faults disk (Err (errors.DiskFault n)) = FailedAt faults disk n
 Creates faults disk (Err (errors.NotAJournal at)) = ⊥
@@ -98,7 +108,9 @@ Creates faults disk (Err (errors.Stopped n)) = ⊥
 
 -- What `recover` answers of a disk: a journal of the bodies that its bytes stand for, or where they break the grammar.
 abbrev pub Recovers : {D : Type 0} → Type 0 → (D → List ℕ) → (D → ℕ) → D → Result (JournalState D) JournalError → Type 0
-Recovers told seen faults disk (Ok journal) = (faults journal.disk ≡ faults disk) × (journal.taken ≡ 0) × (journal.stopped ≡ None) × (told → (bodies : List (List ℕ)) × StandsFor (seen disk) bodies × (journal.used ≡ length (front bodies) + 1) × (journal.count ≡ length bodies))
+Recovers told seen faults disk (Ok journal) = (faults journal.disk ≡ faults disk) × (journal.taken ≡ 0)
+    × (journal.stopped ≡ None) × (told → (bodies : List (List ℕ)) × StandsFor (seen disk) bodies
+    × (journal.used ≡ length (front bodies) + 1) × (journal.count ≡ length bodies))
 Recovers told seen faults disk (Err errors.Memory) = ⊥
 Recovers told seen faults disk (Err (errors.DiskFault n)) = FailedAt faults disk n
 Recovers told seen faults disk (Err (errors.NotAJournal at)) = told → BreaksAt (seen disk) at
@@ -106,8 +118,10 @@ Recovers told seen faults disk (Err (errors.Full would limit)) = ⊥
 Recovers told seen faults disk (Err (errors.Stopped n)) = ⊥
 
 -- What `next_body` hands out of a journal of these bodies: each once, in order, and none exactly behind the last.
-abbrev pub HandsOut : {D : Type 0} → (D → List ℕ) → (D → List ℕ → Type 0) → JournalState D → List (List ℕ) → Result (Option (List ℕ)) JournalError → JournalState D → Type 0
-HandsOut seen may_leave old bodies (Ok (Some body)) new = (drop old.taken bodies ≡ body ∷ drop new.taken bodies) × Settled seen may_leave new bodies
+abbrev pub HandsOut : {D : Type 0} → (D → List ℕ) → (D → List ℕ → Type 0) → JournalState D → List (List ℕ)
+    → Result (Option (List ℕ)) JournalError → JournalState D → Type 0
+HandsOut seen may_leave old bodies (Ok (Some body)) new = (drop old.taken bodies ≡ body ∷ drop new.taken bodies)
+    × Settled seen may_leave new bodies
 HandsOut seen may_leave old bodies (Ok None) new = (drop old.taken bodies ≡ []) × Settled seen may_leave new bodies
 HandsOut seen may_leave old bodies (Err errors.Memory) new = Settled seen may_leave new bodies
 HandsOut seen may_leave old bodies (Err (errors.DiskFault n)) new = Unit {0}
@@ -121,20 +135,28 @@ OnlyRead faults old new = (new ≡ record old { disk = new.disk }) × (faults ne
 
 -- the disk failed while it was read, and the journal stopped
 abbrev pub StopsAt : {D : Type 0} → (D → ℕ) → ℕ → JournalState D → JournalState D → Type 0
-StopsAt faults n old new = (old.stopped ≡ None) × Rose (faults old.disk) n × (n ≡ faults new.disk) × (new.stopped ≡ Some n) × (new.used ≡ old.used) × (new.count ≡ old.count) × (new.room ≡ old.room)
+StopsAt faults n old new = (old.stopped ≡ None) × Rose (faults old.disk) n × (n ≡ faults new.disk)
+    × (new.stopped ≡ Some n) × (new.used ≡ old.used) × (new.count ≡ old.count) × (new.room ≡ old.room)
 
 -- What `next_body` answers on any disk, and what it leaves.
 abbrev pub NextAnswers : {D : Type 0} → (D → ℕ) → JournalState D → Result (Option (List ℕ)) JournalError → JournalState D → Type 0
-NextAnswers faults old (Ok (Some body)) new = (old.stopped ≡ None) × (new ≡ record old { disk = new.disk; taken = old.taken + 1; next = old.next + 5 + length body }) × (new.next < new.used) × (faults new.disk ≡ faults old.disk)
+NextAnswers faults old (Ok (Some body)) new = (old.stopped ≡ None) × (new ≡ record old {
+  disk = new.disk;
+  taken = old.taken + 1;
+  next = old.next + 5 + length body;
+}) × (new.next < new.used)
+    × (faults new.disk ≡ faults old.disk)
 NextAnswers faults old (Ok None) new = (old.stopped ≡ None) × (old.next + 1 ≡ old.used) × (new ≡ old)
 NextAnswers faults old (Err errors.Memory) new = (old.stopped ≡ None) × (old.next + 1 < old.used) × OnlyRead faults old new
 NextAnswers faults old (Err (errors.DiskFault n)) new = StopsAt faults n old new × (new.taken ≡ old.taken) × (new.next ≡ old.next)
-NextAnswers faults old (Err (errors.NotAJournal at)) new = (old.stopped ≡ None) × (old.next + 1 < old.used) × (at ≡ old.next) × OnlyRead faults old new
+NextAnswers faults old (Err (errors.NotAJournal at)) new = (old.stopped ≡ None) × (old.next + 1 < old.used)
+    × (at ≡ old.next) × OnlyRead faults old new
 NextAnswers faults old (Err (errors.Full would limit)) new = ⊥
 NextAnswers faults old (Err (errors.Stopped n)) new = (old.stopped ≡ Some n) × (new ≡ old)
 
 -- What is read of a journal of these bodies until none is left.
-abbrev pub HandsOutRest : {D : Type 0} → (D → List ℕ) → (D → List ℕ → Type 0) → JournalState D → List (List ℕ) → Result (List (List ℕ)) JournalError → JournalState D → Type 0
+abbrev pub HandsOutRest : {D : Type 0} → (D → List ℕ) → (D → List ℕ → Type 0) → JournalState D → List (List ℕ)
+    → Result (List (List ℕ)) JournalError → JournalState D → Type 0
 HandsOutRest seen may_leave old bodies (Ok list) new = (list ≡ drop old.taken bodies) × Settled seen may_leave new bodies
 HandsOutRest seen may_leave old bodies (Err errors.Memory) new = Settled seen may_leave new bodies
 HandsOutRest seen may_leave old bodies (Err (errors.DiskFault n)) new = Unit {0}
@@ -150,12 +172,14 @@ abbrev pub RestAnswers : {D : Type 0} → (D → ℕ) → JournalState D → Res
 RestAnswers faults old (Ok list) new = (old.stopped ≡ None) × Advances faults old new
 RestAnswers faults old (Err errors.Memory) new = (old.stopped ≡ None) × Advances faults old new
 RestAnswers faults old (Err (errors.DiskFault n)) new = StopsAt faults n old new
-RestAnswers faults old (Err (errors.NotAJournal at)) new = (old.stopped ≡ None) × (at ≡ new.next) × (new.next + 1 < new.used) × Advances faults old new
+RestAnswers faults old (Err (errors.NotAJournal at)) new = (old.stopped ≡ None) × (at ≡ new.next)
+    × (new.next + 1 < new.used) × Advances faults old new
 RestAnswers faults old (Err (errors.Full would limit)) new = ⊥
 RestAnswers faults old (Err (errors.Stopped n)) new = ⊥
 
 -- What `bodies` answers of a journal of these bodies: all of them.
-abbrev pub HandsOutAll : {D : Type 0} → (D → List ℕ) → (D → List ℕ → Type 0) → List (List ℕ) → Result (List (List ℕ)) JournalError → JournalState D → Type 0
+abbrev pub HandsOutAll : {D : Type 0} → (D → List ℕ) → (D → List ℕ → Type 0) → List (List ℕ) → Result (List (List ℕ))
+    JournalError → JournalState D → Type 0
 HandsOutAll seen may_leave bodies (Ok list) new = (list ≡ bodies) × Settled seen may_leave new bodies
 HandsOutAll seen may_leave bodies (Err errors.Memory) new = Settled seen may_leave new bodies
 HandsOutAll seen may_leave bodies (Err (errors.DiskFault n)) new = Unit {0}

@@ -12,7 +12,8 @@ use Rattle.persist_journal.specs.declared.read.Found.{Found}
 use Rattle.persist_journal.specs.declared.read.Found.TheVariants as found
 
 -- So many bytes of a buffer are filled with what stands at a place.
-pub record Filled {D : Type 0} (told : Type 0) (seen : D → List ℕ) (may_leave : D → List ℕ → Type 0) (moment : D → ℕ) (left_since : D → ℕ → List ℕ → Type 0) (faults : D → ℕ) (start now : D) (at done : ℕ) (into : List ℕ) : Type 0 where
+pub record Filled {D : Type 0} (told : Type 0) (seen : D → List ℕ) (may_leave : D → List ℕ → Type 0) (moment : D → ℕ)
+    (left_since : D → ℕ → List ℕ → Type 0) (faults : D → ℕ) (start now : D) (at done : ℕ) (into : List ℕ) : Type 0 where
   pub fits : done ≤ length into
   pub same : told → take done into ≡ take done (drop at (seen start))
   pub quiet : Quiet told seen may_leave moment left_since start now
@@ -42,7 +43,8 @@ pub record ReadTo (bytes : List ℕ) (gate count : ℕ) : Type 0 where
   pub fit : AllFit bodies
 
 -- The disk is read up to a gate before its end.
-pub record Scanned {D : Type 0} (told : Type 0) (seen : D → List ℕ) (may_leave : D → List ℕ → Type 0) (moment : D → ℕ) (left_since : D → ℕ → List ℕ → Type 0) (faults : D → ℕ) (start now : D) (end gate count : ℕ) : Type 0 where
+pub record Scanned {D : Type 0} (told : Type 0) (seen : D → List ℕ) (may_leave : D → List ℕ → Type 0) (moment : D → ℕ)
+    (left_since : D → ℕ → List ℕ → Type 0) (faults : D → ℕ) (start now : D) (end gate count : ℕ) : Type 0 where
   pub before_end : gate < end
   pub few : count ≤ gate
   pub past_mark : 8 ≤ gate

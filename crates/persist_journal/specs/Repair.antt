@@ -14,7 +14,8 @@ pub record ClosedAt (gate : ℕ) (front : List ℕ) (shut : ℕ) (rest bytes : L
   pub closed : IsClosed shut
 
 -- The disk holds these bodies and a closed gate at this place, and nothing on it waits for a sync.
-pub record Rests {D : Type 0} (seen : D → List ℕ) (may_leave : D → List ℕ → Type 0) (disk : D) (bodies : List (List ℕ)) (gate count : ℕ) : Type 0 where
+pub record Rests {D : Type 0} (seen : D → List ℕ) (may_leave : D → List ℕ → Type 0) (disk : D) (bodies : List (List ℕ))
+    (gate count : ℕ) : Type 0 where
   pub shut : ℕ
   pub file : seen disk ≡ front bodies ++ shut ∷ []
   pub closed : IsClosed shut
@@ -35,10 +36,12 @@ MayBeWithin end (Some f) = IsWithin end f
 
 -- What `repair` makes of a disk: one that holds exactly the bodies that the old one stood for, or no journal.
 abbrev pub Mends : {D : Type 0} → (D → List ℕ) → (D → List ℕ → Type 0) → D → D → Found → Type 0
-Mends seen may_leave old new (found.Behind gate count) = (bodies : List (List ℕ)) × StandsFor (seen old) bodies × Rests seen may_leave new bodies gate count
+Mends seen may_leave old new (found.Behind gate count) = (bodies : List (List ℕ)) × StandsFor (seen old) bodies
+    × Rests seen may_leave new bodies gate count
 Mends seen may_leave old new (found.Broken at) = BreaksAt (seen old) at
 
 -- A disk that isn't a journal was only read.
-abbrev pub LeavesBroken : {D : Type 0} → Type 0 → (D → List ℕ) → (D → List ℕ → Type 0) → (D → ℕ) → (D → ℕ → List ℕ → Type 0) → D → D → Found → Type 0
+abbrev pub LeavesBroken : {D : Type 0} → Type 0 → (D → List ℕ) → (D → List ℕ → Type 0) → (D → ℕ)
+    → (D → ℕ → List ℕ → Type 0) → D → D → Found → Type 0
 LeavesBroken told seen may_leave moment left_since old new (found.Behind gate count) = Unit {0}
 LeavesBroken told seen may_leave moment left_since old new (found.Broken at) = Quiet told seen may_leave moment left_since old new

@@ -4,7 +4,9 @@ ghost use Rattle.wire_defs.specs.Places.{le};
 ghost use Rattle.journal_defs.specs.Grammar.{entry, StandsFor};
 ghost use Rattle.journal_defs.specs.Moments.{LeavesOnly, Quiet};
 ghost use Rattle.persist_journal.specs.Entry.{IsNew};
-ghost use Rattle.persist_journal.specs.Journal.{JournalState, Settled, Admits, Appends, Reserves, Creates, Recovers, HandsOut, NextAnswers, HandsOutRest, RestAnswers, HandsOutAll, AllAnswers, BeforeOrAfter, limit_of};
+ghost use Rattle.persist_journal.specs.Journal.{JournalState, Settled, Admits, Appends, Reserves, Creates, Recovers};
+ghost use Rattle.persist_journal.specs.Journal.{HandsOut, NextAnswers, HandsOutRest, RestAnswers, HandsOutAll};
+ghost use Rattle.persist_journal.specs.Journal.{AllAnswers, BeforeOrAfter, limit_of};
 
 use crate::entry::write_entry;
 use crate::list::BytesList;

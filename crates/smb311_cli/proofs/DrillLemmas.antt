@@ -32,7 +32,8 @@ fails_there due s before line left more Memory split is fails = tt
 fails_there due s before line left more (Refused refusal) split is fails =
     is ∙ (ap (schedule s before) split ∙ ap (λ r. r >>= λ after. schedule after (before + operations line.statement) more) fails)
 
-pub all_done : (due : Result State Refusal) (s : State) (before : ℕ) (left : List Line) → left ≡ [] → due ≡ schedule s before left → due ≡ Ok s
+pub all_done : (due : Result State Refusal) (s : State) (before : ℕ) (left : List Line) → left ≡ [] → due
+    ≡ schedule s before left → due ≡ Ok s
 unfolding schedule
 all_done due s before left none is = is ∙ ap (schedule s before) none
 
@@ -50,7 +51,8 @@ is_play s t before (line ∷ more) led =
     is_play (moves s move) t (before + operations line.statement) more
     (moved_on s t move line.number (move_refusal s move) (λ after. schedule after (before + operations line.statement) more) led)
 
-pub ran_by : ((ms : List Move) → OneContent (play ms start)) → (text : List ℕ) (lines : List Line) (s : State) → script text ≡ Ok lines → schedule start 0 lines ≡ Ok s → Ran text lines s
+pub ran_by : ((ms : List Move) → OneContent (play ms start)) → (text : List ℕ) (lines : List Line) (s : State)
+    → script text ≡ Ok lines → schedule start 0 lines ≡ Ok s → Ran text lines s
 ran_by law text lines s said led =
     let played = is_play start s 0 lines led in
     record { said = said; led = led; played = played; legal = subst OneContent (sym played) (law (moves_of 0 lines)) }
@@ -60,7 +62,8 @@ unfolding report
 refused_text text Memory fails = tt
 refused_text text (Refused refusal) fails = rw fails refl
 
-pub refused_schedule : (text : List ℕ) (lines : List Line) (fault : Fault Refusal) → script text ≡ Ok lines → Fails fault (schedule start 0 lines) → Fails fault (report text)
+pub refused_schedule : (text : List ℕ) (lines : List Line) (fault : Fault Refusal) → script text ≡ Ok lines
+    → Fails fault (schedule start 0 lines) → Fails fault (report text)
 unfolding report
 refused_schedule text lines Memory said fails = tt
 refused_schedule text lines (Refused refusal) said fails = rw (said, fails) refl
@@ -83,7 +86,8 @@ pub all_counted : (left : List Line) (before total : ℕ) → left ≡ [] → be
 all_counted left before total none so_far = let zero = ap count_of none in omega (arith, zero)
 
 -- the lines of operations and of the one file make the text of a state
-pub state_printed : (lines : List Line) (s : State) (count : ℕ) (settled : List (ℕ × Outcome)) (files : List (List ℕ × List ℕ)) (first middle last : List ℕ)
+pub state_printed : (lines : List Line) (s : State) (count : ℕ) (settled : List (ℕ × Outcome))
+    (files : List (List ℕ × List ℕ)) (first middle last : List ℕ)
     → count ≡ count_of lines → settled ≡ s.settled → files ≡ (codes "given", s.file) ∷ []
     → first ≡ [] → middle ≡ first ++ outcome_lines 1 count settled → last ≡ middle ++ flat_map file_line files
     → last ≡ state_text lines s

@@ -1,5 +1,6 @@
 -- The lines so far, and the lines of the rest.
-use Rattle.std.proofs.Common.{◌≡◌, ℕ, ◌+◌, List, [], ◌∷◌, ◌++◌, length, nat_eq, refl, sym, ap, ◌∙◌, append_assoc, append-nil, subst, take, ◌<◌, ◌≤◌, Bool, true, false}
+use Rattle.std.proofs.Common.{◌≡◌, ℕ, ◌+◌, List, [], ◌∷◌, ◌++◌, length, nat_eq, refl, sym, ap, ◌∙◌, append_assoc}
+use Rattle.std.proofs.Common.{append-nil, subst, take, ◌<◌, ◌≤◌, Bool, true, false}
 use Rattle.std.specs.Prelude.{nat_le}
 use Rattle.std.proofs.Common.{◌⊎◌, inl, inr, arith}
 use Rattle.std.proofs.lemmas.Bool.Decides.{leb_tells}
@@ -32,7 +33,9 @@ pub one_more : (front : List Line) (cut : Bool) (number before : ℕ) (line : Li
     → with_front (front ++ line_saying (number + 1) says) (lines_from cut (number + 1) (before + operations_said says) more)
     ≡ with_front front (lines_from cut number before (line ∷ more))
 unfolding lines_from
-one_more front cut number before line more says is = rw is (sym (fronts front (line_saying (number + 1) says) (lines_from cut (number + 1) (before + operations_said says) more)))
+one_more front cut number before line more says is =
+    rw is (sym (fronts front (line_saying (number + 1) says)
+    (lines_from cut (number + 1) (before + operations_said says) more)))
 
 -- a refused line ends the reading
 pub refused : (front : List Line) (cut : Bool) (number before : ℕ) (line : List ℕ) (more : List (List ℕ)) (refusal : Refusal)
@@ -55,7 +58,8 @@ goes_on old new cut past line more left all is said split so_far =
     ∙ (ap (λ ls. with_front old.lines.items (lines_from cut old.number old.operations ls)) (sym split) ∙ so_far))
 
 -- and where it refuses the line
-pub fails_there : (old : Progress) (cut past : Bool) (line : List ℕ) (more left : List (List ℕ)) (all : Result (List Line) Refusal) (fault : Fault Refusal)
+pub fails_there : (old : Progress) (cut past : Bool) (line : List ℕ) (more left : List (List ℕ))
+    (all : Result (List Line) Refusal) (fault : Fault Refusal)
     → past ≡ (cut && length more == 0)
     → Fails fault (at_line (old.number + 1) (judged past old.number old.operations line))
     → left ≡ line ∷ more
@@ -65,7 +69,8 @@ fails_there old cut past line more left all Memory is due split so_far = tt
 fails_there old cut past line more left all (Refused refusal) is due split so_far =
     sym so_far
     ∙ (ap (λ ls. with_front old.lines.items (lines_from cut old.number old.operations ls)) split
-    ∙ refused old.lines.items cut old.number old.operations line more refusal (subst (λ p. at_line (old.number + 1) (judged p old.number old.operations line) ≡ Err refusal) is due))
+    ∙ refused old.lines.items cut old.number old.operations line more refusal
+    (subst (λ p. at_line (old.number + 1) (judged p old.number old.operations line) ≡ Err refusal) is due))
 
 pub all_read : (front : List Line) (cut : Bool) (number before : ℕ) (left : List (List ℕ)) (all : Result (List Line) Refusal)
     → left ≡ []
@@ -89,12 +94,14 @@ bind_ok (Ok x) f y h = (x, refl, h)
 bind_ok (Err e) f y h = cc
 
 -- the last line of a text that was cut is refused
-cut_is_refused : (number before : ℕ) (line : List ℕ) (more : List (List ℕ)) (lines : List Line) → lines_from true number before (line ∷ more) ≡ Ok lines → ⊥
+cut_is_refused : (number before : ℕ) (line : List ℕ) (more : List (List ℕ)) (lines : List Line) → lines_from true number
+    before (line ∷ more) ≡ Ok lines → ⊥
 unfolding lines_from judged
 cut_is_refused number before line [] lines h = cc
 cut_is_refused number before line (next ∷ more) lines h =
     let first = bind_ok (at_line (number + 1) (judged (true && length (next ∷ more) == 0) number before line))
-    (λ says. lines_from true (number + 1) (before + operations_said says) (next ∷ more) >>= λ rest. Ok (line_saying (number + 1) says ++ rest)) lines h in
+    (λ says. lines_from true (number + 1) (before + operations_said says) (next ∷ more) >>= λ rest.
+    Ok (line_saying (number + 1) says ++ rest)) lines h in
     let rest = bind_ok (lines_from true (number + 1) (before + operations_said first.0) (next ∷ more))
     (λ rest. Ok (line_saying (number + 1) first.0 ++ rest)) lines first.2 in
     cut_is_refused (number + 1) (before + operations_said first.0) next more rest.0 rest.1
@@ -110,5 +117,6 @@ within_or_past a b = grind (arith, leb_tells a b)
 pub keeps_limit : (text : List ℕ) (lines : List Line) → script text ≡ Ok lines → length text ≤ 268_435_456
 keeps_limit text lines said = elim (within_or_past (length text) 268_435_456) as (λ _. length text ≤ 268_435_456) [
   | inl short ↦ short
-  | inr long ↦ absurd (pieces_refused (pieces 10 (take 268_435_456 text)) lines (pieces_left_over 10 (take 268_435_456 text)) (sym (script_cut text long) ∙ said))
+  | inr long ↦ absurd (pieces_refused (pieces 10 (take 268_435_456 text)) lines
+      (pieces_left_over 10 (take 268_435_456 text)) (sym (script_cut text long) ∙ said))
 ]

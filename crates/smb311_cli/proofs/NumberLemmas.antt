@@ -47,7 +47,8 @@ ok_by_last : {E : Type 0} (r : Result ℕ E) (A B C : Type 0) (n : ℕ) → A �
 ok_by_last (Ok x) A B C n a b h = (h.0.2, h.1)
 ok_by_last (Err e) A B C n a b h = λ c. h (a, b, c)
 
-pub parses_numeral : {E : Type 0} (word : List ℕ) (r : Result ℕ E) → is_numeral word ≡ true → ParsesUnsigned 64 10 word r → OkIff r (digits_value 10 word < 2 ^ 64) (digits_value 10 word)
+pub parses_numeral : {E : Type 0} (word : List ℕ) (r : Result ℕ E) → is_numeral word ≡ true → ParsesUnsigned 64 10 word
+    r → OkIff r (digits_value 10 word < 2 ^ 64) (digits_value 10 word)
 parses_numeral word r h parsed =
     let digits = digits_of_numeral word h in
     let no_plus : get_or word 0 0 ≢ 43 = not_in_digits own word 43 digits.0 (λ range. omega arith) 0 digits.1 in
@@ -58,7 +59,8 @@ no_number true n limit h = grind (arith, nat_tests)
 no_number false n limit h = refl
 
 -- what `parse` refuses of a numeral is past every limit
-pub past_every_limit : {E : Type 0} (limit : ℕ) (word : List ℕ) (e : E) → limit < 2 ^ 64 → is_numeral word ≡ true → ParsesUnsigned 64 10 word (Err e) → None ≡ number_to limit word
+pub past_every_limit : {E : Type 0} (limit : ℕ) (word : List ℕ) (e : E) → limit < 2 ^ 64 → is_numeral word ≡ true
+    → ParsesUnsigned 64 10 word (Err e) → None ≡ number_to limit word
 past_every_limit limit word e fits h parsed =
     let wide : ¬ (digits_value 10 word < 2 ^ 64) = parses_numeral word (Err e) h parsed in
     no_number (is_numeral word) (digits_value 10 word) limit (omega (arith, wide))

@@ -11,9 +11,12 @@ use Rattle.smb311_cli.specs.Outside.{Takes}
 pub take_on : (at count : ℕ) (text : List ℕ) → take at text ++ take count (take (length text - at) (drop at text)) ≡ take (at + count) text
 take_on at count text = rw (take_rest text at) (sym (take-add at count text))
 
-pub read_on : (first left left' : Option (List ℕ)) (text text' : List ℕ) (room count : ℕ) → Consumes first left text → Takes left left' text text' room count → Consumes first left' text'
+pub read_on : (first left left' : Option (List ℕ)) (text text' : List ℕ) (room count : ℕ) → Consumes first left text
+    → Takes left left' text text' room count → Consumes first left' text'
 read_on first left left' text text' room count before takes =
     subst (Consumes first left') (sym takes.added) (Consumes-trans first left left' text takes.bytes before takes.read)
 
-pub grows : (left left' : Option (List ℕ)) (text text' : List ℕ) (room count : ℕ) → Takes left left' text text' room count → length text' ≡ length text + count
-grows left left' text text' room count takes = ap length takes.added ∙ (length-append text takes.bytes ∙ ap (λ n. length text + n) takes.counted)
+pub grows : (left left' : Option (List ℕ)) (text text' : List ℕ) (room count : ℕ) → Takes left left' text text' room
+    count → length text' ≡ length text + count
+grows left left' text text' room count takes = ap length takes.added
+    ∙ (length-append text takes.bytes ∙ ap (λ n. length text + n) takes.counted)

@@ -1,5 +1,6 @@
 -- A text is its first piece and then the pieces of the rest.
-use Rattle.std.proofs.Common.{◌≡◌, ℕ, ◌+◌, ◌-◌, ◌≤◌, List, [], ◌∷◌, length, take, drop, refl, sym, subst, arith, Bool, true, false, cond, Option, Some, None, nat_eq, nat_lt}
+use Rattle.std.proofs.Common.{◌≡◌, ℕ, ◌+◌, ◌-◌, ◌≤◌, List, [], ◌∷◌, length, take, drop, refl, sym, subst, arith, Bool}
+use Rattle.std.proofs.Common.{true, false, cond, Option, Some, None, nat_eq, nat_lt}
 use Rattle.std.specs.Prelude.{position, ◌==◌, not, is_some}
 use Rattle.std.proofs.lemmas.Bool.Decides.{nat_tests}
 use denote.Ref.{Bor}
@@ -30,13 +31,15 @@ pub pieces_whole : (separator : ℕ) (text : List ℕ)
     → pieces separator text ≡ text ∷ []
 pieces_whole separator text missing =
     let p : ℕ → Bool = λ byte. byte == separator in
-    let past : length text ≤ position_or_len p text = ltb-false _ _ (cond_none (nat_lt (position_or_len p text) (length text)) (position_or_len p text) missing) in
+    let past : length text ≤ position_or_len p text =
+    ltb-false _ _ (cond_none (nat_lt (position_or_len p text) (length text)) (position_or_len p text) missing) in
     slice_split_none p text (All-from_get_or (λ x. p x ≡ false) text 0 (λ i h. fails_before_first p text i 0 (omega arith)))
 
 some_left : (n : ℕ) → nat_eq (n + 1) 0 ≡ false
 some_left n = grind (arith, nat_tests)
 
-pub is_none_left : (separator : ℕ) (rest : Option (Bor (List ℕ))) (none : Bool) → is_some rest ≡ not none → none ≡ nat_eq (length (pieces_left separator rest)) 0
+pub is_none_left : (separator : ℕ) (rest : Option (Bor (List ℕ))) (none : Bool) → is_some rest ≡ not none → none
+    ≡ nat_eq (length (pieces_left separator rest)) 0
 is_none_left separator None true h = refl
 is_none_left separator None false h = cc
 is_none_left separator (Some text) true h = cc

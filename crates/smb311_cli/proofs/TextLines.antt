@@ -1,5 +1,6 @@
 -- The lines of operations, one after the other.
-use Rattle.std.proofs.Common.{◌≡◌, ℕ, zero, suc, ◌+◌, ◌<◌, ◌≤◌, List, [], ◌∷◌, ◌++◌, length, get_or, refl, sym, ap, ◌∙◌, subst, append_assoc, append-nil, arith, nat_eq, nat_lt, true, false}
+use Rattle.std.proofs.Common.{◌≡◌, ℕ, zero, suc, ◌+◌, ◌<◌, ◌≤◌, List, [], ◌∷◌, ◌++◌, length, get_or, refl, sym, ap, ◌∙◌}
+use Rattle.std.proofs.Common.{subst, append_assoc, append-nil, arith, nat_eq, nat_lt, true, false}
 use Rattle.std.specs.Prelude.{Some, None}
 use Rattle.std.proofs.lemmas.Bool.{cond-true, cond-false, ltb-true, ltb-false}
 use Rattle.std.proofs.lemmas.Bool.Decides.{nat_tests}
@@ -15,7 +16,8 @@ other_number : (a b : ℕ) → a < b → nat_eq a b ≡ false
 other_number a b h = grind (arith, nat_tests)
 
 -- where the numbers count up, an operation's outcome stands at its place
-at_place : (n i : ℕ) (settled : List (ℕ × Outcome)) (d : ℕ × Outcome) → CountsFrom n settled → i < length settled → outcome_of (n + i) settled ≡ Some (get_or settled i d).1
+at_place : (n i : ℕ) (settled : List (ℕ × Outcome)) (d : ℕ × Outcome) → CountsFrom n settled → i < length settled
+    → outcome_of (n + i) settled ≡ Some (get_or settled i d).1
 unfolding CountsFrom outcome_of
 at_place n i [] d h within = absurd (omega arith)
 at_place n zero (s ∷ ss) d h within = cond-true _ _ _ (same_number s.0 (n + 0) (omega (arith, h.0)))
@@ -31,12 +33,15 @@ past_places n (suc i) (s ∷ ss) h past =
     cond-false _ _ _ (other_number s.0 (n + suc i) (omega (arith, h.0)))
     ∙ subst (λ k. outcome_of k ss ≡ None) (omega arith) (past_places (n + 1) i ss h.1 (omega arith))
 
-pub settled_at : (i : ℕ) (settled : List (ℕ × Outcome)) (d : ℕ × Outcome) → CountsFrom 1 settled → true ≡ nat_lt i (length settled) → d ≡ get_or settled i d → Some d.1 ≡ outcome_of (i + 1) settled
+pub settled_at : (i : ℕ) (settled : List (ℕ × Outcome)) (d : ℕ × Outcome) → CountsFrom 1 settled → true
+    ≡ nat_lt i (length settled) → d ≡ get_or settled i d → Some d.1 ≡ outcome_of (i + 1) settled
 settled_at i settled d h within is =
     ap (λ (s : ℕ × Outcome). Some s.1) is
-    ∙ sym (subst (λ k. outcome_of k settled ≡ Some (get_or settled i d).1) (omega arith) (at_place 1 i settled d h (ltb-true _ _ (sym within))))
+    ∙ sym (subst (λ k. outcome_of k settled ≡ Some (get_or settled i d).1) (omega arith)
+    (at_place 1 i settled d h (ltb-true _ _ (sym within))))
 
-pub unsettled_at : (i : ℕ) (settled : List (ℕ × Outcome)) → CountsFrom 1 settled → false ≡ nat_lt i (length settled) → None ≡ outcome_of (i + 1) settled
+pub unsettled_at : (i : ℕ) (settled : List (ℕ × Outcome)) → CountsFrom 1 settled → false ≡ nat_lt i (length settled)
+    → None ≡ outcome_of (i + 1) settled
 unsettled_at i settled h past =
     sym (subst (λ k. outcome_of k settled ≡ None) (omega arith) (past_places 1 i settled h (ltb-false _ _ (sym past))))
 

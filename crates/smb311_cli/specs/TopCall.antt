@@ -90,9 +90,11 @@ pub record HasEnded (left left' written written' : Option (List ℕ)) (faults fa
 abbrev pub Drills : (left left' written written' : Option (List ℕ)) → (source source' sink sink' : ℕ) → Ending → Type 0
 Drills left left' written written' source source' sink sink' Done = (source' ≡ source) × HasEnded left left' written written' sink sink'
 Drills left left' written written' source source' sink sink' Usage = ⊥
-Drills left left' written written' source source' sink sink' Script = (source' ≡ source) × HasAnswered left left' written written' sink sink' Script
+Drills left left' written written' source source' sink sink' Script = (source' ≡ source)
+    × HasAnswered left left' written written' sink sink' Script
 Drills left left' written written' source source' sink sink' SourceFailed = Rose source source' × Keeps written written'
-Drills left left' written written' source source' sink sink' SinkFailed = (source' ≡ source) × HasAnswered left left' written written' sink sink' SinkFailed
+Drills left left' written written' source source' sink sink' SinkFailed = (source' ≡ source) × HasAnswered left left'
+    written written' sink sink' SinkFailed
 Drills left left' written written' source source' sink sink' Memory = (source' ≡ source) × Keeps written written'
 
 -- What each ending says where the words are no command.

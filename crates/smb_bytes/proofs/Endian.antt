@@ -1,5 +1,6 @@
 -- The numbers that `byteorder` reads and writes, the lowest byte first, are those of `number_of` and `le`.
-use Rattle.std.proofs.Common.{◌≡◌, ℕ, zero, suc, ◌+◌, ◌-◌, ◌*◌, ◌/◌, ◌%◌, ◌^◌, ◌<◌, ◌≤◌, List, [], ◌∷◌, ◌++◌, length, get_or, take, drop, replicate, refl, sym, ap, ◌∙◌, arith, drop-cons}
+use Rattle.std.proofs.Common.{◌≡◌, ℕ, zero, suc, ◌+◌, ◌-◌, ◌*◌, ◌/◌, ◌%◌, ◌^◌, ◌<◌, ◌≤◌, List, [], ◌∷◌, ◌++◌, length}
+use Rattle.std.proofs.Common.{get_or, take, drop, replicate, refl, sym, ap, ◌∙◌, arith, drop-cons}
 use Rattle.std.proofs.lemmas.List.{take_all, append-nil}
 use Rattle.std.proofs.Math.Nat.{div-div-eq-div-mul, pow-suc}
 use Rattle.std.specs.Int.{bytes_low_first, byte_at}
@@ -57,7 +58,8 @@ pub le_8 : (n : ℕ) → le 8 n ≡ little_bytes 8 n
 le_8 n = le_is 8 n
 
 -- zero bytes at the end of a list
-pub filled : (old : List ℕ) (len count : ℕ) → len ≡ length old → take (len + count) old ++ replicate (len + count - len) 0 ≡ old ++ le count 0
+pub filled : (old : List ℕ) (len count : ℕ) → len ≡ length old → take (len + count) old ++ replicate (len + count - len)
+    0 ≡ old ++ le count 0
 filled old len count e =
     let n : len + count - len ≡ count = omega arith in
     rw (n, take_all (len + count) old (omega arith), le_zeros count) refl

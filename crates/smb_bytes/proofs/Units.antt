@@ -1,5 +1,6 @@
 -- Units of UTF-16 in bytes, and characters read so far.
-use Rattle.std.proofs.Common.{◌≡◌, ℕ, ◌+◌, ◌-◌, ◌*◌, ◌/◌, ◌%◌, ◌<◌, ◌≤◌, List, [], ◌∷◌, ◌++◌, length, get_or, take, drop, refl, sym, ap, ◌∙◌, arith, length-drop}
+use Rattle.std.proofs.Common.{◌≡◌, ℕ, ◌+◌, ◌-◌, ◌*◌, ◌/◌, ◌%◌, ◌<◌, ◌≤◌, List, [], ◌∷◌, ◌++◌, length, get_or, take}
+use Rattle.std.proofs.Common.{drop, refl, sym, ap, ◌∙◌, arith, length-drop}
 use Rattle.std.proofs.lemmas.Grind.{common_steps}
 use Rattle.std.proofs.lemmas.List.{drop_all, length-take, get_or-drop, get_or-take}
 use Rattle.std.proofs.Math.Seq.{take-add}
@@ -29,20 +30,24 @@ two_bytes (x ∷ y ∷ []) e a b =
 two_bytes (x ∷ y ∷ z ∷ zs) e a b = absurd (omega (arith, e))
 
 -- a unit more
-pub one_unit : (m : List ℕ) (at : ℕ) → at + 2 ≤ length m → get_or m at 0 < 256 → get_or m (at + 1) 0 < 256 → take (at + 2) m ≡ take at m ++ le 2 (number 2 m at)
+pub one_unit : (m : List ℕ) (at : ℕ) → at + 2 ≤ length m → get_or m at 0 < 256 → get_or m (at + 1) 0 < 256
+    → take (at + 2) m ≡ take at m ++ le 2 (number 2 m at)
 unfolding bytes_at
 one_unit m at inside a b =
-    let low : get_or (take 2 (drop at m)) 0 0 ≡ get_or m at 0 = get_or-take 2 (drop at m) 0 0 (omega arith) ∙ get_or-drop at m 0 0 ∙ ap (λ (k : ℕ). get_or m k 0) (omega arith) in
+    let low : get_or (take 2 (drop at m)) 0 0 ≡ get_or m at 0 = get_or-take 2 (drop at m) 0 0 (omega arith)
+    ∙ get_or-drop at m 0 0 ∙ ap (λ (k : ℕ). get_or m k 0) (omega arith) in
     let high : get_or (take 2 (drop at m)) 1 0 ≡ get_or m (at + 1) 0 = get_or-take 2 (drop at m) 1 0 (omega arith) ∙ get_or-drop at m 1 0 in
     let size : length (take 2 (drop at m)) ≡ 2 = omega (arith, length-take 2 (drop at m), length-drop at m) in
-    take-add at 2 m ∙ ap (λ (x : List ℕ). take at m ++ x) (two_bytes (take 2 (drop at m)) size (omega (arith, low, a)) (omega (arith, high, b)))
+    take-add at 2 m ∙ ap (λ (x : List ℕ). take at m ++ x) (two_bytes (take 2 (drop at m)) size (omega (arith, low, a))
+    (omega (arith, high, b)))
 
 -- a unit that is no surrogate is its character's
 pub plain_units : (c : ℕ) → c < 0x10000 → units_of c ≡ le 2 c
 plain_units c small = grind (arith, common_steps)
 
 -- two surrogates are their character's
-pub pair_units : (c high low : ℕ) → IsHigh high → IsLow low → c ≡ 0x10000 + (high - 0xd800) * 0x400 + (low - 0xdc00) → units_of c ≡ le 2 high ++ le 2 low
+pub pair_units : (c high low : ℕ) → IsHigh high → IsLow low → c ≡ 0x10000 + (high - 0xd800) * 0x400 + (low - 0xdc00)
+    → units_of c ≡ le 2 high ++ le 2 low
 pair_units c high low h l e =
     let big : 0x10000 ≤ c = omega (arith, e) in
     let first : 0xd800 + (c - 0x10000) / 0x400 ≡ high = omega (arith, e, h.0, l.0, l.1) in
@@ -57,12 +62,15 @@ pub scalars_more : (cs : List ℕ) (c : ℕ) → all_scalars cs ≡ true → IsS
 scalars_more [] c all one = grind (arith, common_steps)
 scalars_more (x ∷ xs) c all one = grind (arith, common_steps, scalars_more xs c)
 
-pub read_more : (bytes : List ℕ) (at end : ℕ) (text more : List ℕ) (c : ℕ) → Read bytes at text → IsScalar c → take end bytes ≡ take at bytes ++ units_of c → more ≡ text ++ encode_utf8 c → Read bytes end more
+pub read_more : (bytes : List ℕ) (at end : ℕ) (text more : List ℕ) (c : ℕ) → Read bytes at text → IsScalar c
+    → take end bytes ≡ take at bytes ++ units_of c → more ≡ text ++ encode_utf8 c → Read bytes end more
 read_more bytes at end text more c (cs, all, units, is) one spelled e = (
   cs ++ c ∷ [],
   scalars_more cs c all one,
-  flat_map-append units_of cs (c ∷ []) ∙ ap (λ (x : List ℕ). utf16_of cs ++ x) (append-nil (units_of c)) ∙ ap (λ (x : List ℕ). x ++ units_of c) units ∙ sym spelled,
-  encodes-append cs (c ∷ []) ∙ ap (λ (x : List ℕ). encode_utf8_all cs ++ x) (append-nil (encode_utf8 c)) ∙ ap (λ (x : List ℕ). x ++ encode_utf8 c) is ∙ sym e,
+  flat_map-append units_of cs (c ∷ []) ∙ ap (λ (x : List ℕ). utf16_of cs ++ x) (append-nil (units_of c))
+      ∙ ap (λ (x : List ℕ). x ++ units_of c) units ∙ sym spelled,
+  encodes-append cs (c ∷ []) ∙ ap (λ (x : List ℕ). encode_utf8_all cs ++ x) (append-nil (encode_utf8 c))
+      ∙ ap (λ (x : List ℕ). x ++ encode_utf8 c) is ∙ sym e,
 )
 
 pub read_all : (bytes : List ℕ) (at : ℕ) (text : List ℕ) → Read bytes at text → length bytes ≤ at → utf16 text ≡ bytes

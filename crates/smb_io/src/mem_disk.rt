@@ -1,5 +1,6 @@
 // A disk in memory.
-ghost use Rattle.std.specs.Prelude.{◌≡◌, ◌↔◌, ◌+◌, ◌-◌, ◌≤◌, ◌++◌, min, length, take, drop, replicate, IsTrue, IsErr, IfOk, OnOk, OnErr, refl};
+ghost use Rattle.std.specs.Prelude.{◌≡◌, ◌↔◌, ◌+◌, ◌-◌, ◌≤◌, ◌++◌, min, length, take, drop, replicate, IsTrue, IsErr};
+ghost use Rattle.std.specs.Prelude.{IfOk, OnOk, OnErr, refl};
 ghost use Rattle.smb_io.specs.Disk.{ReadsAt, WritesAt, Torn, CutShort, Follows, Elapses};
 ghost use Rattle.smb_io.specs.Faults.{CountsFault, CountsWhere};
 ghost use Rattle.smb_io.specs.Memory.{next_fails};

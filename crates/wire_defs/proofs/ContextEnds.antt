@@ -9,11 +9,13 @@ pub ends_behind : (n : ℕ) (m : List ℕ) (behind : ℕ) → behind ≤ context
 unfolding contexts_end
 ends_behind zero m behind = omega arith
 ends_behind (suc n) m behind =
-    let later : context_end m (context_place behind) ≤ contexts_end m (context_end m (context_place behind)) n = ends_behind n m (context_end m (context_place behind)) in
+    let later : context_end m (context_place behind) ≤ contexts_end m (context_end m (context_place behind)) n =
+    ends_behind n m (context_end m (context_place behind)) in
     omega arith
 
 -- one context more
-pub one_more : (left n : ℕ) (m : List ℕ) (behind end : ℕ) → left ≡ suc n → end ≡ context_end m (context_place behind) → contexts_end m behind left ≡ contexts_end m end n
+pub one_more : (left n : ℕ) (m : List ℕ) (behind end : ℕ) → left ≡ suc n → end ≡ context_end m (context_place behind)
+    → contexts_end m behind left ≡ contexts_end m end n
 unfolding contexts_end
 one_more left n m behind end e is = ap (λ (k : ℕ). contexts_end m behind k) e ∙ ap (λ (k : ℕ). contexts_end m k n) (sym is)
 
@@ -22,10 +24,13 @@ unfolding contexts_end
 none_more left m behind e = ap (λ (k : ℕ). contexts_end m behind k) e
 
 -- contexts of which one doesn't fit don't fit
-pub past_end : (left n : ℕ) (m : List ℕ) (behind size : ℕ) → left ≡ suc n → size < context_end m (context_place behind) → size < contexts_end m behind left
+pub past_end : (left n : ℕ) (m : List ℕ) (behind size : ℕ) → left ≡ suc n → size < context_end m (context_place behind)
+    → size < contexts_end m behind left
 past_end left n m behind size e past =
-    let next : contexts_end m behind left ≡ contexts_end m (context_end m (context_place behind)) n = one_more left n m behind (context_end m (context_place behind)) e refl in
-    let later : context_end m (context_place behind) ≤ contexts_end m (context_end m (context_place behind)) n = ends_behind n m (context_end m (context_place behind)) in
+    let next : contexts_end m behind left ≡ contexts_end m (context_end m (context_place behind)) n = one_more left n m
+    behind (context_end m (context_place behind)) e refl in
+    let later : context_end m (context_place behind) ≤ contexts_end m (context_end m (context_place behind)) n =
+    ends_behind n m (context_end m (context_place behind)) in
     omega (arith, next, later, past)
 
 -- where the count is 0 there are none

@@ -1,5 +1,6 @@
 -- Facts on numbers in bytes and on places.
-use Rattle.std.proofs.Common.{◌≡◌, ℕ, zero, suc, ◌+◌, ◌-◌, ◌*◌, ◌/◌, ◌%◌, ◌^◌, ◌<◌, ◌≤◌, List, [], ◌∷◌, ◌++◌, length, take, drop, replicate, refl, sym, ap, ◌∙◌, arith, length-drop}
+use Rattle.std.proofs.Common.{◌≡◌, ℕ, zero, suc, ◌+◌, ◌-◌, ◌*◌, ◌/◌, ◌%◌, ◌^◌, ◌<◌, ◌≤◌, List, [], ◌∷◌, ◌++◌, length}
+use Rattle.std.proofs.Common.{take, drop, replicate, refl, sym, ap, ◌∙◌, arith, length-drop}
 use Rattle.std.proofs.lemmas.List.{take_at, drop_at, length-take}
 use Rattle.std.proofs.Math.Nat.{pow-suc}
 use Rattle.wire_defs.specs.Places.{le, number_of, bytes_at}
@@ -29,7 +30,8 @@ unfolding bytes_at
 bytes_at-nothing m at = refl
 
 -- the bytes behind a front
-pub bytes_at-behind : (w : ℕ) (front mid rest : List ℕ) (at : ℕ) → at ≡ length front → length mid ≡ w → bytes_at w (front ++ (mid ++ rest)) at ≡ mid
+pub bytes_at-behind : (w : ℕ) (front mid rest : List ℕ) (at : ℕ) → at ≡ length front → length mid ≡ w
+    → bytes_at w (front ++ (mid ++ rest)) at ≡ mid
 unfolding bytes_at
 bytes_at-behind w front mid rest at e len = rw (drop_at front (mid ++ rest) at (sym e), take_at mid rest w len) refl
 

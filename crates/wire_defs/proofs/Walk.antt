@@ -4,7 +4,8 @@ use Rattle.wire_defs.specs.Places.{number}
 use Rattle.wire_defs.specs.Chain.{is_badly_linked, piece, IsChain, IsChainOf, BreaksBehind, BreaksChain}
 
 -- `all` says what a list of items says, `of` what one says, `both` what two parts say together.
-module _ {V E C : Type 0} (Is : List ℕ → V → Type 0) (fault : List ℕ → Option E) (of : V → C) (both : C → C → C) (none : C) (all : List V → C) where
+module _ {V E C : Type 0} (Is : List ℕ → V → Type 0) (fault : List ℕ → Option E) (of : V → C) (both : C → C → C)
+    (none : C) (all : List V → C) where
   -- bytes are items that say c
   pub record Says (bytes : List ℕ) (c : C) : Type 0 where
     pub items : List V
@@ -25,14 +26,19 @@ module _ {V E C : Type 0} (Is : List ℕ → V → Type 0) (fault : List ℕ →
   }
 
   module _ (step : (v : V) (vs : List V) → all (v ∷ vs) ≡ both (of v) (all vs)) where
-    pub goes_on : ((a b c : C) → both (both a b) c ≡ both a (both b c)) → (bytes rest : List ℕ) (found : C) (v : V) → Walked bytes rest found
+    pub goes_on : ((a b c : C) → both (both a b) c ≡ both a (both b c)) → (bytes rest : List ℕ) (found : C) (v : V)
+        → Walked bytes rest found
         → fault rest ≡ None → (number 4 rest 0 ≡ 0 → ⊥) → is_badly_linked rest ≡ false → Is (piece rest) v
         → Walked bytes (drop (number 4 rest 0) rest) (both found (of v))
     goes_on assoc bytes rest found v walked whole more link is = record {
       some = walked.some;
       later = λ w ws chain.
           let t = walked.later v (w ∷ ws) (more, link, is, chain) in
-          record { items = t.items; chain = t.chain; says = assoc found (of v) (all (w ∷ ws)) ∙ ap (both found) (sym (step v (w ∷ ws))) ∙ t.says };
+          record {
+            items = t.items;
+            chain = t.chain;
+            says = assoc found (of v) (all (w ∷ ws)) ∙ ap (both found) (sym (step v (w ∷ ws))) ∙ t.says;
+          };
       break = λ n e b. walked.break (suc n) e (whole, more, b);
     }
 

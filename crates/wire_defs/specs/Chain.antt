@@ -1,6 +1,7 @@
 -- Items one behind the other: each tells in its first 4 bytes how far behind its own beginning the next one is, the last
 -- one tells 0 (MS-SMB2 2.2.13.2, MS-FSCC 2.4).
-use Rattle.std.specs.Prelude.{◌≡◌, ℕ, zero, suc, ◌+◌, ◌%◌, ◌==◌, nat_lt, Bool, false, not, ◌&&◌, ◌||◌, if◌then◌else◌, List, [], ◌∷◌, ◌++◌, length, take, drop, Option, Some, None}
+use Rattle.std.specs.Prelude.{◌≡◌, ℕ, zero, suc, ◌+◌, ◌%◌, ◌==◌, nat_lt, Bool, false, not, ◌&&◌, ◌||◌, if◌then◌else◌}
+use Rattle.std.specs.Prelude.{List, [], ◌∷◌, ◌++◌, length, take, drop, Option, Some, None}
 use Rattle.wire_defs.specs.Places.{number, le, gap_to_8}
 
 -- it tells of a next one that isn't at a multiple of 8 or is past the end

@@ -12,7 +12,8 @@ is_directory_class class = (class == 1) || ((class == 2) || ((class == 3) || ((c
 -- other types (security, quota) are not looked at.
 unfoldable pub is_query_class : ℕ → ℕ → Bool
 is_query_class type class =
-    if type == 1 then (class == 4) || ((class == 5) || ((class == 6) || ((class == 18) || ((class == 34) || ((class == 7) || (class == 15))))))
+    if type == 1 then (class == 4)
+    || ((class == 5) || ((class == 6) || ((class == 18) || ((class == 34) || ((class == 7) || (class == 15))))))
     else if type == 2 then (class == 1) || ((class == 3) || ((class == 4) || ((class == 5) || (class == 7))))
     else true
 

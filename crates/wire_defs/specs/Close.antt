@@ -41,7 +41,16 @@ SpellsCloseResponse m v = Stands m 64 (close_response_table v)
 
 -- the response that stands in m
 abbrev pub close_response_in : List ℕ → CloseResponse
-close_response_in m = record { flags = number 2 m 66; creation_time = number 8 m 72; last_access_time = number 8 m 80; last_write_time = number 8 m 88; change_time = number 8 m 96; allocation_size = number 8 m 104; end_of_file = number 8 m 112; file_attributes = number 4 m 120 }
+close_response_in m = record {
+  flags = number 2 m 66;
+  creation_time = number 8 m 72;
+  last_access_time = number 8 m 80;
+  last_write_time = number 8 m 88;
+  change_time = number 8 m 96;
+  allocation_size = number 8 m 104;
+  end_of_file = number 8 m 112;
+  file_attributes = number 4 m 120;
+}
 
 abbrev pub close_response_fault : List ℕ → Option MessageError
 close_response_fault m = fields_fault m (close_response_table (close_response_in m)) or_else size_fault m 60

@@ -1,6 +1,7 @@
 -- The list of contexts of a NEGOTIATE (MS-SMB2 2.2.3.1). Each begins at a multiple of 8, counted from the header:
 -- ContextType, DataLength, Reserved, then so many bytes.
-use Rattle.std.specs.Prelude.{◌≡◌, ℕ, zero, suc, ◌+◌, ◌-◌, ◌%◌, ◌≤◌, ◌⊎◌, ◌||◌, ◌==◌, nat_lt, not, if◌then◌else◌, List, [], ◌∷◌, ◌++◌, length, Option, Some, None}
+use Rattle.std.specs.Prelude.{◌≡◌, ℕ, zero, suc, ◌+◌, ◌-◌, ◌%◌, ◌≤◌, ◌⊎◌, ◌||◌, ◌==◌, nat_lt, not, if◌then◌else◌, List}
+use Rattle.std.specs.Prelude.{[], ◌∷◌, ◌++◌, length, Option, Some, None}
 use Rattle.wire_defs.specs.Places.{le, number, bytes_at, gap_to_8}
 use Rattle.wire_defs.specs.declared.error.MessageError.{MessageError}
 use Rattle.wire_defs.specs.declared.error.MessageError.TheVariants.{BadOffset, BadCount}

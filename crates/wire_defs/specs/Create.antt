@@ -35,7 +35,17 @@ pub record SpellsCreateRequest (m : List ℕ) (v : CreateRequestValue) : Type 0 
 
 -- the request that stands in m
 abbrev pub create_request_in : List ℕ → CreateRequestValue
-create_request_in m = record { requested_oplock_level = number 1 m 67; impersonation_level = number 4 m 68; desired_access = number 4 m 88; file_attributes = number 4 m 92; share_access = number 4 m 96; create_disposition = number 4 m 100; create_options = number 4 m 104; name = bytes_at (number 2 m 110) m (number 2 m 108); contexts = bytes_at (number 4 m 116) m (number 4 m 112) }
+create_request_in m = record {
+  requested_oplock_level = number 1 m 67;
+  impersonation_level = number 4 m 68;
+  desired_access = number 4 m 88;
+  file_attributes = number 4 m 92;
+  share_access = number 4 m 96;
+  create_disposition = number 4 m 100;
+  create_options = number 4 m 104;
+  name = bytes_at (number 2 m 110) m (number 2 m 108);
+  contexts = bytes_at (number 4 m 116) m (number 4 m 112);
+}
 
 abbrev pub create_request_fault : List ℕ → Option MessageError
 create_request_fault m =

@@ -1,5 +1,6 @@
 -- The create contexts of a CREATE request and of its response (MS-SMB2 2.2.13.2, 2.2.14.2).
-use Rattle.std.specs.Prelude.{◌≡◌, ℕ, ◌+◌, ◌/◌, ◌%◌, ◌==◌, nat_eq, nat_lt, Bool, true, false, not, ◌&&◌, ◌||◌, if◌then◌else◌, List, [], ◌∷◌, ◌++◌, length, Option, Some, None, Result, Ok, Err}
+use Rattle.std.specs.Prelude.{◌≡◌, ℕ, ◌+◌, ◌/◌, ◌%◌, ◌==◌, nat_eq, nat_lt, Bool, true, false, not, ◌&&◌, ◌||◌}
+use Rattle.std.specs.Prelude.{if◌then◌else◌, List, [], ◌∷◌, ◌++◌, length, Option, Some, None, Result, Ok, Err}
 use Rattle.std.specs.Cmp.Lexicographic.{pointwise}
 use Rattle.wire_defs.specs.Places.{number, bytes_at}
 use Rattle.wire_defs.specs.Table.{Field, Num, Raw, Any, Stands, with_fields, AreWritable, IsPart}
@@ -132,7 +133,12 @@ dh2c_in b = record { file = bytes_at 16 b 0; guid = bytes_at 16 b 16; persistent
 
 -- what one context says
 abbrev pub request_of : CreateContext → CreateContexts
-request_of v = record { dh2q = if is_named v.name dh2q then Some (dh2q_in v.value) else None; dh2c = if is_named v.name dh2c then Some (dh2c_in v.value) else None; mxac = is_named v.name mxac; qfid = is_named v.name qfid }
+request_of v = record {
+  dh2q = if is_named v.name dh2q then Some (dh2q_in v.value) else None;
+  dh2c = if is_named v.name dh2c then Some (dh2c_in v.value) else None;
+  mxac = is_named v.name mxac;
+  qfid = is_named v.name qfid;
+}
 
 -- what two say together: of two with one name the first counts
 abbrev pub both_requests : CreateContexts → CreateContexts → CreateContexts
@@ -215,7 +221,11 @@ abbrev pub disk_id_in : List ℕ → DiskId
 disk_id_in b = record { file = number 8 b 0; volume = number 8 b 8 }
 
 abbrev pub reply_of : CreateContext → ReplyContexts
-reply_of v = record { dh2q = if is_named v.name dh2q then Some (dh2q_reply_in v.value) else None; mxac = if is_named v.name mxac then Some (maximal_access_in v.value) else None; qfid = if is_named v.name qfid then Some (disk_id_in v.value) else None }
+reply_of v = record {
+  dh2q = if is_named v.name dh2q then Some (dh2q_reply_in v.value) else None;
+  mxac = if is_named v.name mxac then Some (maximal_access_in v.value) else None;
+  qfid = if is_named v.name qfid then Some (disk_id_in v.value) else None;
+}
 
 abbrev pub both_replies : ReplyContexts → ReplyContexts → ReplyContexts
 both_replies a b = record { dh2q = first a.dh2q b.dh2q; mxac = first a.mxac b.mxac; qfid = first a.qfid b.qfid }

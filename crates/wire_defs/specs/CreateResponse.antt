@@ -38,7 +38,20 @@ pub record SpellsCreateResponse (m : List ℕ) (v : CreateResponseValue) : Type 
 
 -- the response that stands in m
 abbrev pub create_response_in : List ℕ → CreateResponseValue
-create_response_in m = record { oplock_level = number 1 m 66; flags = number 1 m 67; create_action = number 4 m 68; creation_time = number 8 m 72; last_access_time = number 8 m 80; last_write_time = number 8 m 88; change_time = number 8 m 96; allocation_size = number 8 m 104; end_of_file = number 8 m 112; file_attributes = number 4 m 120; file_id = bytes_at 16 m 128; contexts = bytes_at (number 4 m 148) m (number 4 m 144) }
+create_response_in m = record {
+  oplock_level = number 1 m 66;
+  flags = number 1 m 67;
+  create_action = number 4 m 68;
+  creation_time = number 8 m 72;
+  last_access_time = number 8 m 80;
+  last_write_time = number 8 m 88;
+  change_time = number 8 m 96;
+  allocation_size = number 8 m 104;
+  end_of_file = number 8 m 112;
+  file_attributes = number 4 m 120;
+  file_id = bytes_at 16 m 128;
+  contexts = bytes_at (number 4 m 148) m (number 4 m 144);
+}
 
 abbrev pub create_response_fault : List ℕ → Option MessageError
 create_response_fault m =

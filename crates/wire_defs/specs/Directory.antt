@@ -85,8 +85,28 @@ pub record SpellsDirectoryEntry (c : DirectoryClass) (m : List ℕ) (v : Directo
 
 -- the entry that stands in m
 abbrev pub directory_entry_in : DirectoryClass → List ℕ → DirectoryEntryValue
-directory_entry_in class.Names m = record { creation_time = 0; last_access_time = 0; last_write_time = 0; change_time = 0; end_of_file = 0; allocation_size = 0; file_attributes = 0; file_id = 0; name = bytes_at (number 4 m 8) m 12 }
-directory_entry_in c m = record { creation_time = number 8 m 8; last_access_time = number 8 m 16; last_write_time = number 8 m 24; change_time = number 8 m 32; end_of_file = number 8 m 40; allocation_size = number 8 m 48; file_attributes = number 4 m 56; file_id = file_id_in c m; name = bytes_at (number 4 m 60) m (entry_size c) }
+directory_entry_in class.Names m = record {
+  creation_time = 0;
+  last_access_time = 0;
+  last_write_time = 0;
+  change_time = 0;
+  end_of_file = 0;
+  allocation_size = 0;
+  file_attributes = 0;
+  file_id = 0;
+  name = bytes_at (number 4 m 8) m 12;
+}
+directory_entry_in c m = record {
+  creation_time = number 8 m 8;
+  last_access_time = number 8 m 16;
+  last_write_time = number 8 m 24;
+  change_time = number 8 m 32;
+  end_of_file = number 8 m 40;
+  allocation_size = number 8 m 48;
+  file_attributes = number 4 m 56;
+  file_id = file_id_in c m;
+  name = bytes_at (number 4 m 60) m (entry_size c);
+}
 
 abbrev pub directory_entry_fault : DirectoryClass → List ℕ → Option MessageError
 directory_entry_fault c m =

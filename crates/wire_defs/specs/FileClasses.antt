@@ -26,7 +26,13 @@ SpellsFileBasicInformation m v = Stands m 0 (file_basic_information_table v)
 
 -- the information that stands in m
 abbrev pub file_basic_information_in : List ℕ → FileBasicInformation
-file_basic_information_in m = record { creation_time = number 8 m 0; last_access_time = number 8 m 8; last_write_time = number 8 m 16; change_time = number 8 m 24; file_attributes = number 4 m 32 }
+file_basic_information_in m = record {
+  creation_time = number 8 m 0;
+  last_access_time = number 8 m 8;
+  last_write_time = number 8 m 16;
+  change_time = number 8 m 24;
+  file_attributes = number 4 m 32;
+}
 
 abbrev pub file_basic_information_fault : List ℕ → Option MessageError
 file_basic_information_fault m = short_fault m 0 (widths (file_basic_information_table (file_basic_information_in m)))
@@ -50,7 +56,13 @@ SpellsFileStandardInformation m v = Stands m 0 (file_standard_information_table 
 
 -- the information that stands in m
 abbrev pub file_standard_information_in : List ℕ → FileStandardInformation
-file_standard_information_in m = record { allocation_size = number 8 m 0; end_of_file = number 8 m 8; number_of_links = number 4 m 16; delete_pending = number 1 m 20; directory = number 1 m 21 }
+file_standard_information_in m = record {
+  allocation_size = number 8 m 0;
+  end_of_file = number 8 m 8;
+  number_of_links = number 4 m 16;
+  delete_pending = number 1 m 20;
+  directory = number 1 m 21;
+}
 
 abbrev pub file_standard_information_fault : List ℕ → Option MessageError
 file_standard_information_fault m =
@@ -102,7 +114,11 @@ pub record SpellsFileRenameInformation (m : List ℕ) (v : FileRenameInformation
 
 -- the information that stands in m
 abbrev pub file_rename_information_in : List ℕ → FileRenameInformationValue
-file_rename_information_in m = record { replace_if_exists = number 1 m 0; root_directory = number 8 m 8; name = bytes_at (number 4 m 16) m 20 }
+file_rename_information_in m = record {
+  replace_if_exists = number 1 m 0;
+  root_directory = number 8 m 8;
+  name = bytes_at (number 4 m 16) m 20;
+}
 
 abbrev pub file_rename_information_fault : List ℕ → Option MessageError
 file_rename_information_fault m =
@@ -175,7 +191,22 @@ pub record SpellsFileAllInformation (m : List ℕ) (v : FileAllInformationValue)
 
 -- the information that stands in m
 abbrev pub file_all_information_in : List ℕ → FileAllInformationValue
-file_all_information_in m = record { creation_time = number 8 m 0; last_access_time = number 8 m 8; last_write_time = number 8 m 16; change_time = number 8 m 24; file_attributes = number 4 m 32; allocation_size = number 8 m 40; end_of_file = number 8 m 48; number_of_links = number 4 m 56; delete_pending = number 1 m 60; directory = number 1 m 61; index_number = number 8 m 64; access_flags = number 4 m 76; mode = number 4 m 88; name = bytes_at (number 4 m 96) m 100 }
+file_all_information_in m = record {
+  creation_time = number 8 m 0;
+  last_access_time = number 8 m 8;
+  last_write_time = number 8 m 16;
+  change_time = number 8 m 24;
+  file_attributes = number 4 m 32;
+  allocation_size = number 8 m 40;
+  end_of_file = number 8 m 48;
+  number_of_links = number 4 m 56;
+  delete_pending = number 1 m 60;
+  directory = number 1 m 61;
+  index_number = number 8 m 64;
+  access_flags = number 4 m 76;
+  mode = number 4 m 88;
+  name = bytes_at (number 4 m 96) m 100;
+}
 
 abbrev pub file_all_information_fault : List ℕ → Option MessageError
 file_all_information_fault m =
@@ -249,7 +280,15 @@ SpellsFileNetworkOpenInformation m v = Stands m 0 (file_network_open_information
 
 -- the information that stands in m
 abbrev pub file_network_open_information_in : List ℕ → FileNetworkOpenInformation
-file_network_open_information_in m = record { creation_time = number 8 m 0; last_access_time = number 8 m 8; last_write_time = number 8 m 16; change_time = number 8 m 24; allocation_size = number 8 m 32; end_of_file = number 8 m 40; file_attributes = number 4 m 48 }
+file_network_open_information_in m = record {
+  creation_time = number 8 m 0;
+  last_access_time = number 8 m 8;
+  last_write_time = number 8 m 16;
+  change_time = number 8 m 24;
+  allocation_size = number 8 m 32;
+  end_of_file = number 8 m 40;
+  file_attributes = number 4 m 48;
+}
 
 abbrev pub file_network_open_information_fault : List ℕ → Option MessageError
 file_network_open_information_fault m =

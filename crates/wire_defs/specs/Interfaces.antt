@@ -19,7 +19,15 @@ SpellsNetworkInterface m v = Stands m 0 (network_interface_table v)
 
 -- the information that stands in m
 abbrev pub network_interface_in : List ℕ → NetworkInterface
-network_interface_in m = record { next = number 4 m 0; if_index = number 4 m 4; capability = number 4 m 8; link_speed = number 8 m 16; family = number 2 m 24; port = bytes_at 2 m 26; address = bytes_at 4 m 28 }
+network_interface_in m = record {
+  next = number 4 m 0;
+  if_index = number 4 m 4;
+  capability = number 4 m 8;
+  link_speed = number 8 m 16;
+  family = number 2 m 24;
+  port = bytes_at 2 m 26;
+  address = bytes_at 4 m 28;
+}
 
 abbrev pub network_interface_fault : List ℕ → Option MessageError
 network_interface_fault m = short_fault m 0 (widths (network_interface_table (network_interface_in m)))

@@ -32,7 +32,15 @@ pub record SpellsIoctlRequest (m : List ℕ) (v : IoctlRequestValue) : Type 0 wh
 
 -- the request that stands in m
 abbrev pub ioctl_request_in : List ℕ → IoctlRequestValue
-ioctl_request_in m = record { ctl_code = number 4 m 68; file_id = bytes_at 16 m 72; max_input_response = number 4 m 96; max_output_response = number 4 m 108; flags = number 4 m 112; input = bytes_at (number 4 m 92) m (number 4 m 88); output = bytes_at (number 4 m 104) m (number 4 m 100) }
+ioctl_request_in m = record {
+  ctl_code = number 4 m 68;
+  file_id = bytes_at 16 m 72;
+  max_input_response = number 4 m 96;
+  max_output_response = number 4 m 108;
+  flags = number 4 m 112;
+  input = bytes_at (number 4 m 92) m (number 4 m 88);
+  output = bytes_at (number 4 m 104) m (number 4 m 100);
+}
 
 abbrev pub ioctl_request_fault : List ℕ → Option MessageError
 ioctl_request_fault m =
@@ -45,7 +53,8 @@ ioctl_request_fault m =
 -- empty is told as 0.
 abbrev pub ioctl_request_whole : IoctlRequestValue → List Field
 ioctl_request_whole v =
-    ioctl_request_table v (told (length v.input) 120) (told (length v.output) (120 + length v.input + aligned_gap (length v.output) (length v.input)))
+    ioctl_request_table v (told (length v.input) 120)
+    (told (length v.output) (120 + length v.input + aligned_gap (length v.output) (length v.input)))
     ++ Raw (length v.input) v.input ∷ Any (aligned_gap (length v.output) (length v.input)) ∷ Raw (length v.output) v.output ∷ []
 
 abbrev pub IsWritableIoctlRequest : IoctlRequestValue → Type 0
@@ -76,7 +85,13 @@ pub record SpellsIoctlResponse (m : List ℕ) (v : IoctlResponseValue) : Type 0 
 
 -- the response that stands in m
 abbrev pub ioctl_response_in : List ℕ → IoctlResponseValue
-ioctl_response_in m = record { ctl_code = number 4 m 68; file_id = bytes_at 16 m 72; flags = number 4 m 104; input = bytes_at (number 4 m 92) m (number 4 m 88); output = bytes_at (number 4 m 100) m (number 4 m 96) }
+ioctl_response_in m = record {
+  ctl_code = number 4 m 68;
+  file_id = bytes_at 16 m 72;
+  flags = number 4 m 104;
+  input = bytes_at (number 4 m 92) m (number 4 m 88);
+  output = bytes_at (number 4 m 100) m (number 4 m 96);
+}
 
 abbrev pub ioctl_response_fault : List ℕ → Option MessageError
 ioctl_response_fault m =
@@ -89,7 +104,8 @@ ioctl_response_fault m =
 -- empty is told as 0.
 abbrev pub ioctl_response_whole : IoctlResponseValue → List Field
 ioctl_response_whole v =
-    ioctl_response_table v (told (length v.input) 112) (told (length v.output) (112 + length v.input + aligned_gap (length v.output) (length v.input)))
+    ioctl_response_table v (told (length v.input) 112)
+    (told (length v.output) (112 + length v.input + aligned_gap (length v.output) (length v.input)))
     ++ Raw (length v.input) v.input ∷ Any (aligned_gap (length v.output) (length v.input)) ∷ Raw (length v.output) v.output ∷ []
 
 abbrev pub IsWritableIoctlResponse : IoctlResponseValue → Type 0

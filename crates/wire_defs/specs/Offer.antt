@@ -1,5 +1,6 @@
 -- What the contexts of a NEGOTIATE offer or choose (MS-SMB2 2.2.3.1.1, 2.2.3.1.2, 2.2.3.1.7, 2.2.4.1).
-use Rattle.std.specs.Prelude.{ℕ, zero, suc, ◌+◌, ◌*◌, Bool, true, false, ◌&&◌, ◌||◌, ◌==◌, nat_le, nat_lt, not, if◌then◌else◌, List, [], ◌∷◌, ◌++◌, length, Option, Some, None, flat_map}
+use Rattle.std.specs.Prelude.{ℕ, zero, suc, ◌+◌, ◌*◌, Bool, true, false, ◌&&◌, ◌||◌, ◌==◌, nat_le, nat_lt, not}
+use Rattle.std.specs.Prelude.{if◌then◌else◌, List, [], ◌∷◌, ◌++◌, length, Option, Some, None, flat_map}
 use Rattle.wire_defs.specs.Places.{le, number}
 use Rattle.wire_defs.specs.Contexts.{Context, contexts_end, contexts_in, with_contexts}
 use Rattle.wire_defs.specs.declared.refusal.CtxError.{CtxError}

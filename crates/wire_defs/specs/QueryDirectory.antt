@@ -31,7 +31,14 @@ pub record SpellsQueryDirectoryRequest (m : List ℕ) (v : QueryDirectoryRequest
 
 -- the request that stands in m
 abbrev pub query_directory_request_in : List ℕ → QueryDirectoryRequestValue
-query_directory_request_in m = record { file_information_class = number 1 m 66; flags = number 1 m 67; file_index = number 4 m 68; file_id = bytes_at 16 m 72; output_buffer_length = number 4 m 92; name = bytes_at (number 2 m 90) m (number 2 m 88) }
+query_directory_request_in m = record {
+  file_information_class = number 1 m 66;
+  flags = number 1 m 67;
+  file_index = number 4 m 68;
+  file_id = bytes_at 16 m 72;
+  output_buffer_length = number 4 m 92;
+  name = bytes_at (number 2 m 90) m (number 2 m 88);
+}
 
 abbrev pub query_directory_request_fault : List ℕ → Option MessageError
 query_directory_request_fault m =

@@ -32,7 +32,15 @@ pub record SpellsQueryInfoRequest (m : List ℕ) (v : QueryInfoRequestValue) : T
 
 -- the request that stands in m
 abbrev pub query_info_request_in : List ℕ → QueryInfoRequestValue
-query_info_request_in m = record { info_type = number 1 m 66; file_info_class = number 1 m 67; output_buffer_length = number 4 m 68; additional_information = number 4 m 80; flags = number 4 m 84; file_id = bytes_at 16 m 88; input = bytes_at (number 4 m 76) m (number 2 m 72) }
+query_info_request_in m = record {
+  info_type = number 1 m 66;
+  file_info_class = number 1 m 67;
+  output_buffer_length = number 4 m 68;
+  additional_information = number 4 m 80;
+  flags = number 4 m 84;
+  file_id = bytes_at 16 m 88;
+  input = bytes_at (number 4 m 76) m (number 2 m 72);
+}
 
 abbrev pub query_info_request_fault : List ℕ → Option MessageError
 query_info_request_fault m =

@@ -20,7 +20,15 @@ SpellsReadRequest m v = Stands m 64 (read_request_table v)
 
 -- the request that stands in m
 abbrev pub read_request_in : List ℕ → ReadRequest
-read_request_in m = record { flags = number 1 m 67; length = number 4 m 68; offset = number 8 m 72; file_id = bytes_at 16 m 80; minimum_count = number 4 m 96; channel = number 4 m 100; remaining_bytes = number 4 m 104 }
+read_request_in m = record {
+  flags = number 1 m 67;
+  length = number 4 m 68;
+  offset = number 8 m 72;
+  file_id = bytes_at 16 m 80;
+  minimum_count = number 4 m 96;
+  channel = number 4 m 100;
+  remaining_bytes = number 4 m 104;
+}
 
 abbrev pub read_request_fault : List ℕ → Option MessageError
 read_request_fault m =

@@ -30,7 +30,13 @@ pub record SpellsSetInfoRequest (m : List ℕ) (v : SetInfoRequestValue) : Type 
 
 -- the request that stands in m
 abbrev pub set_info_request_in : List ℕ → SetInfoRequestValue
-set_info_request_in m = record { info_type = number 1 m 66; file_info_class = number 1 m 67; additional_information = number 4 m 76; file_id = bytes_at 16 m 80; payload = bytes_at (number 4 m 68) m (number 2 m 72) }
+set_info_request_in m = record {
+  info_type = number 1 m 66;
+  file_info_class = number 1 m 67;
+  additional_information = number 4 m 76;
+  file_id = bytes_at 16 m 80;
+  payload = bytes_at (number 4 m 68) m (number 2 m 72);
+}
 
 abbrev pub set_info_request_fault : List ℕ → Option MessageError
 set_info_request_fault m =

@@ -1,6 +1,7 @@
 -- Text in UTF-16, the lower byte of each unit first (RFC 2781; names and paths of MS-SMB2). A text is the list of
 -- its UTF-8 bytes.
-use Rattle.std.specs.Prelude.{◌≡◌, ℕ, ◌+◌, ◌-◌, ◌/◌, ◌%◌, ◌<◌, ◌≤◌, ◌⊎◌, true, nat_lt, if◌then◌else◌, List, ◌++◌, length, take, Result, Ok, Err, ⊤, chars, flat_map}
+use Rattle.std.specs.Prelude.{◌≡◌, ℕ, ◌+◌, ◌-◌, ◌/◌, ◌%◌, ◌<◌, ◌≤◌, ◌⊎◌, true, nat_lt, if◌then◌else◌, List, ◌++◌}
+use Rattle.std.specs.Prelude.{length, take, Result, Ok, Err, ⊤, chars, flat_map}
 use Rattle.std.specs.Str.{all_scalars}
 use Rattle.wire_defs.specs.Places.{le, number}
 use Rattle.wire_defs.specs.declared.refusal.TextError.{TextError}

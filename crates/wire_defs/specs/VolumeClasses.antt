@@ -29,7 +29,12 @@ pub record SpellsFileFsVolumeInformation (m : List ℕ) (v : FileFsVolumeInforma
 
 -- the information that stands in m
 abbrev pub file_fs_volume_information_in : List ℕ → FileFsVolumeInformationValue
-file_fs_volume_information_in m = record { volume_creation_time = number 8 m 0; volume_serial_number = number 4 m 8; supports_objects = number 1 m 16; label = bytes_at (number 4 m 12) m 18 }
+file_fs_volume_information_in m = record {
+  volume_creation_time = number 8 m 0;
+  volume_serial_number = number 4 m 8;
+  supports_objects = number 1 m 16;
+  label = bytes_at (number 4 m 12) m 18;
+}
 
 abbrev pub file_fs_volume_information_fault : List ℕ → Option MessageError
 file_fs_volume_information_fault m =
@@ -59,7 +64,12 @@ SpellsFileFsSizeInformation m v = Stands m 0 (file_fs_size_information_table v)
 
 -- the information that stands in m
 abbrev pub file_fs_size_information_in : List ℕ → FileFsSizeInformation
-file_fs_size_information_in m = record { total_allocation_units = number 8 m 0; available_allocation_units = number 8 m 8; sectors_per_allocation_unit = number 4 m 16; bytes_per_sector = number 4 m 20 }
+file_fs_size_information_in m = record {
+  total_allocation_units = number 8 m 0;
+  available_allocation_units = number 8 m 8;
+  sectors_per_allocation_unit = number 4 m 16;
+  bytes_per_sector = number 4 m 20;
+}
 
 abbrev pub file_fs_size_information_fault : List ℕ → Option MessageError
 file_fs_size_information_fault m =
@@ -111,7 +121,11 @@ pub record SpellsFileFsAttributeInformation (m : List ℕ) (v : FileFsAttributeI
 
 -- the information that stands in m
 abbrev pub file_fs_attribute_information_in : List ℕ → FileFsAttributeInformationValue
-file_fs_attribute_information_in m = record { file_system_attributes = number 4 m 0; maximum_component_name_length = number 4 m 4; name = bytes_at (number 4 m 8) m 12 }
+file_fs_attribute_information_in m = record {
+  file_system_attributes = number 4 m 0;
+  maximum_component_name_length = number 4 m 4;
+  name = bytes_at (number 4 m 8) m 12;
+}
 
 abbrev pub file_fs_attribute_information_fault : List ℕ → Option MessageError
 file_fs_attribute_information_fault m =
@@ -141,7 +155,13 @@ SpellsFileFsFullSizeInformation m v = Stands m 0 (file_fs_full_size_information_
 
 -- the information that stands in m
 abbrev pub file_fs_full_size_information_in : List ℕ → FileFsFullSizeInformation
-file_fs_full_size_information_in m = record { total_allocation_units = number 8 m 0; caller_available_allocation_units = number 8 m 8; actual_available_allocation_units = number 8 m 16; sectors_per_allocation_unit = number 4 m 24; bytes_per_sector = number 4 m 28 }
+file_fs_full_size_information_in m = record {
+  total_allocation_units = number 8 m 0;
+  caller_available_allocation_units = number 8 m 8;
+  actual_available_allocation_units = number 8 m 16;
+  sectors_per_allocation_unit = number 4 m 24;
+  bytes_per_sector = number 4 m 28;
+}
 
 abbrev pub file_fs_full_size_information_fault : List ℕ → Option MessageError
 file_fs_full_size_information_fault m =

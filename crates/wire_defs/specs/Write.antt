@@ -29,7 +29,14 @@ pub record SpellsWriteRequest (m : List ℕ) (v : WriteRequestValue) : Type 0 wh
 
 -- the request that stands in m
 abbrev pub write_request_in : List ℕ → WriteRequestValue
-write_request_in m = record { offset = number 8 m 72; file_id = bytes_at 16 m 80; channel = number 4 m 96; remaining_bytes = number 4 m 100; flags = number 4 m 108; payload = bytes_at (number 4 m 68) m (number 2 m 66) }
+write_request_in m = record {
+  offset = number 8 m 72;
+  file_id = bytes_at 16 m 80;
+  channel = number 4 m 96;
+  remaining_bytes = number 4 m 100;
+  flags = number 4 m 108;
+  payload = bytes_at (number 4 m 68) m (number 2 m 66);
+}
 
 abbrev pub write_request_fault : List ℕ → Option MessageError
 write_request_fault m =

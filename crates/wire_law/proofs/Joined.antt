@@ -29,10 +29,14 @@ same_end one frame s t e (h, header, leads, end) (k, other, far, next) =
     omega (arith, e, end, next, step)
 
 same_span : (s t : Span) → s.start ≡ t.start → s.end ≡ t.end → s ≡ t
-same_span s t e f = ap {B = Span} (λ (x : ℕ). record { start = x; end = s.end }) e ∙ ap {B = Span} (λ (x : ℕ). record { start = t.start; end = x }) f
+same_span s t e f = ap {B = Span} (λ (x : ℕ). record { start = x; end = s.end }) e ∙ ap {B = Span} (λ (x : ℕ). record {
+  start = t.start;
+  end = x;
+}) f
 
 -- both chains come to a last message, so they are one
-pub same_chain : OneHeader → (frame : List ℕ) (ss ts : List Span) (from : ℕ) (l m : Span) → AreJoined frame from ss l.start → AreJoined frame from ts m.start → IsLast frame l → IsLast frame m
+pub same_chain : OneHeader → (frame : List ℕ) (ss ts : List Span) (from : ℕ) (l m : Span) → AreJoined frame from ss
+    l.start → AreJoined frame from ts m.start → IsLast frame l → IsLast frame m
     → (ss ≡ ts) × (l.start ≡ m.start)
 same_chain one frame [] [] from l m f g last other = (refl, sym f ∙ g)
 same_chain one frame [] (t ∷ ts) from l m f g last other = absurd (ends_there one frame l t (sym f ∙ sym g.0) last g.1)
@@ -49,33 +53,46 @@ last_end frame l (h, header, last, end) = end
 pub one_split : OneHeader → (frame : List ℕ) (ss ts : List Span) → SpellsCompound frame ss → SpellsCompound frame ts → ss ≡ ts
 one_split one frame ss ts p q =
     let chains = same_chain one frame p.joined q.joined 0 p.last q.last p.are_joined q.are_joined p.is_last q.is_last in
-    let last : p.last ≡ q.last = same_span p.last q.last chains.1 (last_end frame p.last p.is_last ∙ sym (last_end frame q.last q.is_last)) in
+    let last : p.last ≡ q.last = same_span p.last q.last chains.1 (last_end frame p.last p.is_last
+    ∙ sym (last_end frame q.last q.is_last)) in
     p.whole ∙ ap (λ (xs : List Span). xs ++ p.last ∷ []) chains.0 ∙ ap (λ (x : Span). q.joined ++ x ∷ []) last ∙ sym q.whole
 
 -- a place where a message stands, and what follows it leads on or ends, has no break
-last_holds : OneHeader → NoBreak → (frame : List ℕ) (s : Span) (e : HeaderError) → IsLast frame s → BreaksAt frame s.start e → (e ≡ errors.Memory → ⊥) → ⊥
+last_holds : OneHeader → NoBreak → (frame : List ℕ) (s : Span) (e : HeaderError) → IsLast frame s
+    → BreaksAt frame s.start e → (e ≡ errors.Memory → ⊥) → ⊥
 last_holds one none frame s errors.Memory (h, header, last, end) broken other = other refl
 last_holds one none frame s errors.Short (h, header, last, end) broken other = none (drop s.start frame) h errors.Short header broken
-last_holds one none frame s (errors.BadProtocol p) (h, header, last, end) broken other = none (drop s.start frame) h (errors.BadProtocol p) header broken
-last_holds one none frame s (errors.BadSize n) (h, header, last, end) broken other = none (drop s.start frame) h (errors.BadSize n) header broken
+last_holds one none frame s (errors.BadProtocol p) (h, header, last, end) broken other = none (drop s.start frame) h
+    (errors.BadProtocol p) header broken
+last_holds one none frame s (errors.BadSize n) (h, header, last, end) broken other = none (drop s.start frame) h
+    (errors.BadSize n) header broken
 last_holds one none frame s (errors.BadNext at) (h, header, last, end) (is, (k, found, some, lost)) other =
     some (ap (λ (x : Header). x.next) (sym (one (drop s.start frame) h k header found)) ∙ last)
 
-joined_holds : OneHeader → NoBreak → (frame : List ℕ) (s : Span) (e : HeaderError) → IsJoined frame s → BreaksAt frame s.start e → (e ≡ errors.Memory → ⊥) → ⊥
+joined_holds : OneHeader → NoBreak → (frame : List ℕ) (s : Span) (e : HeaderError) → IsJoined frame s
+    → BreaksAt frame s.start e → (e ≡ errors.Memory → ⊥) → ⊥
 joined_holds one none frame s errors.Memory (h, header, leads, end) broken other = other refl
 joined_holds one none frame s errors.Short (h, header, leads, end) broken other = none (drop s.start frame) h errors.Short header broken
-joined_holds one none frame s (errors.BadProtocol p) (h, header, leads, end) broken other = none (drop s.start frame) h (errors.BadProtocol p) header broken
-joined_holds one none frame s (errors.BadSize n) (h, header, leads, end) broken other = none (drop s.start frame) h (errors.BadSize n) header broken
+joined_holds one none frame s (errors.BadProtocol p) (h, header, leads, end) broken other = none (drop s.start frame) h
+    (errors.BadProtocol p) header broken
+joined_holds one none frame s (errors.BadSize n) (h, header, leads, end) broken other = none (drop s.start frame) h
+    (errors.BadSize n) header broken
 joined_holds one none frame s (errors.BadNext at) (h, header, leads, end) (is, (k, found, some, lost)) other =
     lost (subst (λ (x : Header). LeadsOn frame s.start x.next) (one (drop s.start frame) h k header found) leads)
 
-chain_holds : OneHeader → NoBreak → (frame : List ℕ) (ss ts : List Span) (from at : ℕ) (l : Span) (e : HeaderError) → AreJoined frame from ss l.start → IsLast frame l → AreJoined frame from ts at → BreaksAt frame at e → (e ≡ errors.Memory → ⊥) → ⊥
-chain_holds one none frame [] [] from at l e f last g broken other = last_holds one none frame l e last (subst (λ (x : ℕ). BreaksAt frame x e) (sym g ∙ f) broken) other
-chain_holds one none frame (s ∷ ss) [] from at l e f last g broken other = joined_holds one none frame s e f.1 (subst (λ (x : ℕ). BreaksAt frame x e) (sym g ∙ sym f.0) broken) other
+chain_holds : OneHeader → NoBreak → (frame : List ℕ) (ss ts : List Span) (from at : ℕ) (l : Span) (e : HeaderError)
+    → AreJoined frame from ss l.start → IsLast frame l → AreJoined frame from ts at → BreaksAt frame at e
+    → (e ≡ errors.Memory → ⊥) → ⊥
+chain_holds one none frame [] [] from at l e f last g broken other = last_holds one none frame l e last
+    (subst (λ (x : ℕ). BreaksAt frame x e) (sym g ∙ f) broken) other
+chain_holds one none frame (s ∷ ss) [] from at l e f last g broken other = joined_holds one none frame s e f.1
+    (subst (λ (x : ℕ). BreaksAt frame x e) (sym g ∙ sym f.0) broken) other
 chain_holds one none frame [] (t ∷ ts) from at l e f last g broken other = ends_there one frame l t (sym f ∙ sym g.0) last g.1
 chain_holds one none frame (s ∷ ss) (t ∷ ts) from at l e f last g broken other =
     let ends : s.end ≡ t.end = same_end one frame s t (f.0 ∙ sym g.0) f.1 g.1 in
     chain_holds one none frame ss ts s.end at l e f.2 last (subst (λ (x : ℕ). AreJoined frame x ts at) (sym ends) g.2) broken other
 
-pub split_holds : OneHeader → NoBreak → (frame : List ℕ) (ss : List Span) (e : HeaderError) → SpellsCompound frame ss → BreaksCompound frame e → (e ≡ errors.Memory → ⊥) → ⊥
-split_holds one none frame ss e p b other = chain_holds one none frame p.joined b.joined 0 b.at p.last e p.are_joined p.is_last b.are_joined b.breaks other
+pub split_holds : OneHeader → NoBreak → (frame : List ℕ) (ss : List Span) (e : HeaderError) → SpellsCompound frame ss
+    → BreaksCompound frame e → (e ≡ errors.Memory → ⊥) → ⊥
+split_holds one none frame ss e p b other = chain_holds one none frame p.joined b.joined 0 b.at p.last e p.are_joined
+    p.is_last b.are_joined b.breaks other

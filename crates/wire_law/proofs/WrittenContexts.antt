@@ -1,5 +1,6 @@
 -- Contexts that were written one behind the other stand there.
-use Rattle.std.proofs.Common.{◌≡◌, ℕ, suc, ◌+◌, ◌^◌, ◌<◌, List, [], ◌∷◌, ◌++◌, length, refl, sym, ap, subst, ◌∙◌, arith, append_assoc, length-append}
+use Rattle.std.proofs.Common.{◌≡◌, ℕ, suc, ◌+◌, ◌^◌, ◌<◌, List, [], ◌∷◌, ◌++◌, length, refl, sym, ap, subst, ◌∙◌, arith}
+use Rattle.std.proofs.Common.{append_assoc, length-append}
 use Rattle.std.proofs.lemmas.List.{append-nil}
 use Rattle.wire_defs.specs.Places.{le, number, bytes_at, gap_to_8}
 use Rattle.wire_defs.specs.Table.{Field, Num, Raw, Any}
@@ -49,43 +50,58 @@ pub record Begins (m : List ℕ) (behind : ℕ) (c : Context) : Type 0 where
   pub is_length : number 2 m (context_place behind + 2) ≡ length c.bytes
   pub is_bytes : bytes_at (length c.bytes) m (context_place behind + 8) ≡ c.bytes
 
-begins_here : (out rest : List ℕ) (c : Context) → (c.kind < 256 ^ 2) × (length c.bytes < 256 ^ 2) → Begins (with_context out c ++ rest) (length out) c
+begins_here : (out rest : List ℕ) (c : Context) → (c.kind < 256 ^ 2) × (length c.bytes < 256 ^ 2)
+    → Begins (with_context out c ++ rest) (length out) c
 begins_here out rest c fit =
     let m : List ℕ = with_context out c ++ rest in
     let row = row_stands (context_fields out c) out rest (length out) refl (fit.0, (fit.1, (refl, tt))) in
     let place : context_place (length out) + 2 + 2 + 4 ≡ context_place (length out) + 8 = omega arith in
     record { is_kind = row.0; is_length = row.1.0; is_bytes = ap (λ (k : ℕ). bytes_at (length c.bytes) m k) (sym place) ∙ row.1.1.0 }
 
-one_in : (m : List ℕ) (behind n : ℕ) (c : Context) (end : ℕ) → Begins m behind c → end ≡ context_place behind + 8 + length c.bytes → contexts_in m behind (suc n) ≡ c ∷ contexts_in m end n
+one_in : (m : List ℕ) (behind n : ℕ) (c : Context) (end : ℕ) → Begins m behind c → end ≡ context_place behind + 8
+    + length c.bytes → contexts_in m behind (suc n) ≡ c ∷ contexts_in m end n
 unfolding contexts_in
 one_in m behind n c end is e =
     let there : context_end m (context_place behind) ≡ end = omega (arith, is.is_length, e) in
-    ap (λ (k : ℕ). record { kind = k; bytes = bytes_at (number 2 m (context_place behind + 2)) m (context_place behind + 8) } ∷ contexts_in m (context_end m (context_place behind)) n) is.is_kind
-    ∙ ap (λ (k : ℕ). record { kind = c.kind; bytes = bytes_at k m (context_place behind + 8) } ∷ contexts_in m (context_end m (context_place behind)) n) is.is_length
+    ap (λ (k : ℕ). record {
+      kind = k;
+      bytes = bytes_at (number 2 m (context_place behind + 2)) m (context_place behind + 8);
+    } ∷ contexts_in m
+    (context_end m (context_place behind)) n) is.is_kind
+    ∙ ap (λ (k : ℕ). record { kind = c.kind; bytes = bytes_at k m (context_place behind + 8) } ∷ contexts_in m
+    (context_end m (context_place behind)) n) is.is_length
     ∙ ap (λ (b : List ℕ). record { kind = c.kind; bytes = b } ∷ contexts_in m (context_end m (context_place behind)) n) is.is_bytes
     ∙ ap (λ (k : ℕ). c ∷ contexts_in m k n) there
 
-one_end : (m : List ℕ) (behind n : ℕ) (c : Context) (end : ℕ) → Begins m behind c → end ≡ context_place behind + 8 + length c.bytes → contexts_end m behind (suc n) ≡ contexts_end m end n
+one_end : (m : List ℕ) (behind n : ℕ) (c : Context) (end : ℕ) → Begins m behind c → end ≡ context_place behind + 8
+    + length c.bytes → contexts_end m behind (suc n) ≡ contexts_end m end n
 unfolding contexts_end
 one_end m behind n c end is e =
     let there : context_end m (context_place behind) ≡ end = omega (arith, is.is_length, e) in
     ap (λ (k : ℕ). contexts_end m k n) there
 
-begins_again : (cs : List Context) (out rest : List ℕ) (c : Context) → (c.kind < 256 ^ 2) × (length c.bytes < 256 ^ 2) → Begins (with_contexts (with_context out c) cs ++ rest) (length out) c
+begins_again : (cs : List Context) (out rest : List ℕ) (c : Context) → (c.kind < 256 ^ 2) × (length c.bytes < 256 ^ 2)
+    → Begins (with_contexts (with_context out c) cs ++ rest) (length out) c
 begins_again cs out rest c fit =
     let (tail, e) = begins cs (with_context out c) in
-    subst (λ (m : List ℕ). Begins m (length out) c) (sym (ap (λ (l : List ℕ). l ++ rest) e ∙ append_assoc (with_context out c) tail rest)) (begins_here out (tail ++ rest) c fit)
+    subst (λ (m : List ℕ). Begins m (length out) c)
+    (sym (ap (λ (l : List ℕ). l ++ rest) e ∙ append_assoc (with_context out c) tail rest))
+    (begins_here out (tail ++ rest) c fit)
 
-pub written_in : (cs : List Context) (out rest : List ℕ) → AreFit cs → contexts_in (with_contexts out cs ++ rest) (length out) (length cs) ≡ cs
+pub written_in : (cs : List Context) (out rest : List ℕ) → AreFit cs → contexts_in (with_contexts out cs ++ rest)
+    (length out) (length cs) ≡ cs
 unfolding with_contexts contexts_in
 written_in [] out rest fit = refl
 written_in (c ∷ cs) out rest fit =
     let next = with_context out c in
-    one_in (with_contexts next cs ++ rest) (length out) (length cs) c (length next) (begins_again cs out rest c fit.0) (length-context out c) ∙ ap (λ (l : List Context). c ∷ l) (written_in cs next rest fit.1)
+    one_in (with_contexts next cs ++ rest) (length out) (length cs) c (length next) (begins_again cs out rest c fit.0)
+    (length-context out c) ∙ ap (λ (l : List Context). c ∷ l) (written_in cs next rest fit.1)
 
-pub written_end : (cs : List Context) (out rest : List ℕ) → AreFit cs → contexts_end (with_contexts out cs ++ rest) (length out) (length cs) ≡ length (with_contexts out cs)
+pub written_end : (cs : List Context) (out rest : List ℕ) → AreFit cs → contexts_end (with_contexts out cs ++ rest)
+    (length out) (length cs) ≡ length (with_contexts out cs)
 unfolding with_contexts contexts_end
 written_end [] out rest fit = refl
 written_end (c ∷ cs) out rest fit =
     let next = with_context out c in
-    one_end (with_contexts next cs ++ rest) (length out) (length cs) c (length next) (begins_again cs out rest c fit.0) (length-context out c) ∙ written_end cs next rest fit.1
+    one_end (with_contexts next cs ++ rest) (length out) (length cs) c (length next) (begins_again cs out rest c fit.0)
+    (length-context out c) ∙ written_end cs next rest fit.1

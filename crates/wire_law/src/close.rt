@@ -1,7 +1,9 @@
 ghost use Rattle.std.specs.Prelude.{◌≡◌, ◌++◌, ℕ, List, length, None};
-ghost use Rattle.wire_defs.specs.Close.{SpellsCloseRequest, IsWritableCloseRequest, close_request_fault, close_request_in, close_request_spelling};
+ghost use Rattle.wire_defs.specs.Close.{SpellsCloseRequest, IsWritableCloseRequest, close_request_fault};
+ghost use Rattle.wire_defs.specs.Close.{close_request_in, close_request_spelling};
 ghost use Rattle.wire_defs.specs.declared.file_message.CloseRequest.{CloseRequest};
-ghost use Rattle.wire_defs.specs.Close.{SpellsCloseResponse, IsWritableCloseResponse, close_response_fault, close_response_in, close_response_spelling};
+ghost use Rattle.wire_defs.specs.Close.{SpellsCloseResponse, IsWritableCloseResponse, close_response_fault};
+ghost use Rattle.wire_defs.specs.Close.{close_response_in, close_response_spelling};
 ghost use Rattle.wire_defs.specs.declared.file_message.CloseResponse.{CloseResponse};
 
 /// The laws of the CLOSE request.

@@ -1,5 +1,6 @@
 ghost use Rattle.std.specs.Prelude.{◌≡◌, ◌++◌, ℕ, List, length, None};
-ghost use Rattle.wire_defs.specs.Create.{CreateRequestValue, SpellsCreateRequest, IsWritableCreateRequest, create_request_fault, create_request_in, create_request_spelling};
+ghost use Rattle.wire_defs.specs.Create.{CreateRequestValue, SpellsCreateRequest, IsWritableCreateRequest};
+ghost use Rattle.wire_defs.specs.Create.{create_request_fault, create_request_in, create_request_spelling};
 
 /// The laws of the CREATE request.
 pub fn create_request_law()

@@ -1,5 +1,6 @@
 ghost use Rattle.std.specs.Prelude.{◌≡◌, ◌++◌, ℕ, List, length, None};
-ghost use Rattle.wire_defs.specs.CreateResponse.{CreateResponseValue, SpellsCreateResponse, IsWritableCreateResponse, create_response_fault, create_response_in, create_response_spelling};
+ghost use Rattle.wire_defs.specs.CreateResponse.{CreateResponseValue, SpellsCreateResponse, IsWritableCreateResponse};
+ghost use Rattle.wire_defs.specs.CreateResponse.{create_response_fault, create_response_in, create_response_spelling};
 
 /// The laws of the CREATE response.
 pub fn create_response_law()

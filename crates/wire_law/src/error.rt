@@ -1,5 +1,6 @@
 ghost use Rattle.std.specs.Prelude.{◌≡◌, ◌++◌, ℕ, List, length, None};
-ghost use Rattle.wire_defs.specs.Error.{SpellsErrorResponse, IsWritableErrorResponse, error_response_fault, error_response_in, error_response_spelling};
+ghost use Rattle.wire_defs.specs.Error.{SpellsErrorResponse, IsWritableErrorResponse, error_response_fault};
+ghost use Rattle.wire_defs.specs.Error.{error_response_in, error_response_spelling};
 ghost use Rattle.wire_defs.specs.declared.message.ErrorResponse.{ErrorResponse};
 
 /// The laws of the error response.

@@ -1,7 +1,9 @@
 ghost use Rattle.std.specs.Prelude.{◌≡◌, ◌++◌, ℕ, List, length, None};
-ghost use Rattle.wire_defs.specs.Flush.{SpellsFlushRequest, IsWritableFlushRequest, flush_request_fault, flush_request_in, flush_request_spelling};
+ghost use Rattle.wire_defs.specs.Flush.{SpellsFlushRequest, IsWritableFlushRequest, flush_request_fault};
+ghost use Rattle.wire_defs.specs.Flush.{flush_request_in, flush_request_spelling};
 ghost use Rattle.wire_defs.specs.declared.file_message.FlushRequest.{FlushRequest};
-ghost use Rattle.wire_defs.specs.Flush.{SpellsFlushResponse, IsWritableFlushResponse, flush_response_fault, flush_response_in, flush_response_spelling};
+ghost use Rattle.wire_defs.specs.Flush.{SpellsFlushResponse, IsWritableFlushResponse, flush_response_fault};
+ghost use Rattle.wire_defs.specs.Flush.{flush_response_in, flush_response_spelling};
 ghost use Rattle.wire_defs.specs.declared.file_message.FlushResponse.{FlushResponse};
 
 /// The laws of the FLUSH request.

@@ -1,7 +1,9 @@
 ghost use Rattle.std.specs.Prelude.{◌≡◌, ◌++◌, ℕ, List, length, None};
 ghost use Rattle.wire_defs.specs.Table.{Stands, AreWritable};
 ghost use Rattle.wire_defs.specs.declared.message.LockElement.{LockElement};
-ghost use Rattle.wire_defs.specs.Lock.{lock_element_table, lock_element_spelling, LockRequestValue, SpellsLockRequest, IsWritableLockRequest, lock_request_fault, lock_request_in, lock_request_spelling};
+ghost use Rattle.wire_defs.specs.Lock.{lock_element_table, lock_element_spelling, LockRequestValue, SpellsLockRequest};
+ghost use Rattle.wire_defs.specs.Lock.{IsWritableLockRequest, lock_request_fault, lock_request_in};
+ghost use Rattle.wire_defs.specs.Lock.{lock_request_spelling};
 
 /// The laws of the LOCK request.
 pub fn lock_request_law()

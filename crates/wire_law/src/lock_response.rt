@@ -1,5 +1,6 @@
 ghost use Rattle.std.specs.Prelude.{◌≡◌, ◌++◌, ℕ, List, length, None};
-ghost use Rattle.wire_defs.specs.LockResponse.{SpellsLockResponse, IsWritableLockResponse, lock_response_fault, lock_response_in, lock_response_spelling};
+ghost use Rattle.wire_defs.specs.LockResponse.{SpellsLockResponse, IsWritableLockResponse, lock_response_fault};
+ghost use Rattle.wire_defs.specs.LockResponse.{lock_response_in, lock_response_spelling};
 ghost use Rattle.wire_defs.specs.declared.file_message.LockResponse.{LockResponse};
 
 /// The laws of the LOCK response.

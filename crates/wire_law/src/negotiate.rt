@@ -1,6 +1,9 @@
 ghost use Rattle.std.specs.Prelude.{◌≡◌, ◌++◌, ℕ, List, length, None};
-ghost use Rattle.wire_defs.specs.Negotiate.{NegotiateRequestValue, SpellsNegotiateRequest, IsWritableNegotiateRequest, negotiate_request_fault, negotiate_request_in, negotiate_request_spelling};
-ghost use Rattle.wire_defs.specs.Negotiate.{NegotiateResponseValue, SpellsNegotiateResponse, IsWritableNegotiateResponse, negotiate_response_fault, negotiate_response_in, negotiate_response_spelling};
+ghost use Rattle.wire_defs.specs.Negotiate.{NegotiateRequestValue, SpellsNegotiateRequest, IsWritableNegotiateRequest};
+ghost use Rattle.wire_defs.specs.Negotiate.{negotiate_request_fault, negotiate_request_in, negotiate_request_spelling};
+ghost use Rattle.wire_defs.specs.Negotiate.{NegotiateResponseValue, SpellsNegotiateResponse};
+ghost use Rattle.wire_defs.specs.Negotiate.{IsWritableNegotiateResponse, negotiate_response_fault};
+ghost use Rattle.wire_defs.specs.Negotiate.{negotiate_response_in, negotiate_response_spelling};
 
 /// The laws of the NEGOTIATE request.
 pub fn negotiate_request_law()

@@ -1,7 +1,9 @@
 ghost use Rattle.std.specs.Prelude.{◌≡◌, ◌++◌, ℕ, List, length, None};
-ghost use Rattle.wire_defs.specs.Read.{SpellsReadRequest, IsWritableReadRequest, read_request_fault, read_request_in, read_request_spelling};
+ghost use Rattle.wire_defs.specs.Read.{SpellsReadRequest, IsWritableReadRequest, read_request_fault, read_request_in};
+ghost use Rattle.wire_defs.specs.Read.{read_request_spelling};
 ghost use Rattle.wire_defs.specs.declared.message.ReadRequest.{ReadRequest};
-ghost use Rattle.wire_defs.specs.Read.{ReadResponseValue, SpellsReadResponse, IsWritableReadResponse, read_response_fault, read_response_in, read_response_spelling};
+ghost use Rattle.wire_defs.specs.Read.{ReadResponseValue, SpellsReadResponse, IsWritableReadResponse};
+ghost use Rattle.wire_defs.specs.Read.{read_response_fault, read_response_in, read_response_spelling};
 
 /// The laws of the READ request.
 pub fn read_request_law()

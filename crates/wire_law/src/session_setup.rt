@@ -1,6 +1,10 @@
 ghost use Rattle.std.specs.Prelude.{◌≡◌, ◌++◌, ℕ, List, length, None};
-ghost use Rattle.wire_defs.specs.SessionSetup.{SessionSetupRequestValue, SpellsSessionSetupRequest, IsWritableSessionSetupRequest, session_setup_request_fault, session_setup_request_in, session_setup_request_spelling};
-ghost use Rattle.wire_defs.specs.SessionSetup.{SessionSetupResponseValue, SpellsSessionSetupResponse, IsWritableSessionSetupResponse, session_setup_response_fault, session_setup_response_in, session_setup_response_spelling};
+ghost use Rattle.wire_defs.specs.SessionSetup.{SessionSetupRequestValue, SpellsSessionSetupRequest};
+ghost use Rattle.wire_defs.specs.SessionSetup.{IsWritableSessionSetupRequest, session_setup_request_fault};
+ghost use Rattle.wire_defs.specs.SessionSetup.{session_setup_request_in, session_setup_request_spelling};
+ghost use Rattle.wire_defs.specs.SessionSetup.{SessionSetupResponseValue, SpellsSessionSetupResponse};
+ghost use Rattle.wire_defs.specs.SessionSetup.{IsWritableSessionSetupResponse, session_setup_response_fault};
+ghost use Rattle.wire_defs.specs.SessionSetup.{session_setup_response_in, session_setup_response_spelling};
 
 /// The laws of the SESSION_SETUP request.
 pub fn session_setup_request_law()

@@ -1,6 +1,10 @@
 ghost use Rattle.std.specs.Prelude.{◌≡◌, ◌++◌, ℕ, List, length, None};
-ghost use Rattle.wire_defs.specs.TreeConnect.{TreeConnectRequestValue, SpellsTreeConnectRequest, IsWritableTreeConnectRequest, tree_connect_request_fault, tree_connect_request_in, tree_connect_request_spelling};
-ghost use Rattle.wire_defs.specs.TreeConnect.{SpellsTreeConnectResponse, IsWritableTreeConnectResponse, tree_connect_response_fault, tree_connect_response_in, tree_connect_response_spelling};
+ghost use Rattle.wire_defs.specs.TreeConnect.{TreeConnectRequestValue, SpellsTreeConnectRequest};
+ghost use Rattle.wire_defs.specs.TreeConnect.{IsWritableTreeConnectRequest, tree_connect_request_fault};
+ghost use Rattle.wire_defs.specs.TreeConnect.{tree_connect_request_in, tree_connect_request_spelling};
+ghost use Rattle.wire_defs.specs.TreeConnect.{SpellsTreeConnectResponse, IsWritableTreeConnectResponse};
+ghost use Rattle.wire_defs.specs.TreeConnect.{tree_connect_response_fault, tree_connect_response_in};
+ghost use Rattle.wire_defs.specs.TreeConnect.{tree_connect_response_spelling};
 ghost use Rattle.wire_defs.specs.declared.session_message.TreeConnectResponse.{TreeConnectResponse};
 
 /// The laws of the TREE_CONNECT request.

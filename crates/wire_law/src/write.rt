@@ -1,6 +1,8 @@
 ghost use Rattle.std.specs.Prelude.{◌≡◌, ◌++◌, ℕ, List, length, None};
-ghost use Rattle.wire_defs.specs.Write.{WriteRequestValue, SpellsWriteRequest, IsWritableWriteRequest, write_request_fault, write_request_in, write_request_spelling};
-ghost use Rattle.wire_defs.specs.Write.{SpellsWriteResponse, IsWritableWriteResponse, write_response_fault, write_response_in, write_response_spelling};
+ghost use Rattle.wire_defs.specs.Write.{WriteRequestValue, SpellsWriteRequest, IsWritableWriteRequest};
+ghost use Rattle.wire_defs.specs.Write.{write_request_fault, write_request_in, write_request_spelling};
+ghost use Rattle.wire_defs.specs.Write.{SpellsWriteResponse, IsWritableWriteResponse, write_response_fault};
+ghost use Rattle.wire_defs.specs.Write.{write_response_in, write_response_spelling};
 ghost use Rattle.wire_defs.specs.declared.message.WriteResponse.{WriteResponse};
 
 /// The laws of the WRITE request.

@@ -7,7 +7,9 @@ use Rattle.exchange_defs.proofs.Content.{effect-untouched}
 use Rattle.world_model.specs.declared.operation.OpKind.{OpKind}
 use Rattle.world_model.specs.declared.operation.OpKind.TheVariants as kinds
 use Rattle.exchange_defs.specs.Status.{invalid_parameter, end_of_file, disk_full}
-use Rattle.world_model.specs.Server.{Command, Read_file, Write_file, Reply, Counts, Content, Refuses, asked, is_in_form, is_short_of, is_overfull, Verdict, Bad_form, At_end, No_room, Success, check, reply_of, Answer, answered, answer, said}
+use Rattle.world_model.specs.Server.{Command, Read_file, Write_file, Reply, Counts, Content, Refuses, asked, is_in_form}
+use Rattle.world_model.specs.Server.{is_short_of, is_overfull, Verdict, Bad_form, At_end, No_room, Success, check}
+use Rattle.world_model.specs.Server.{reply_of, Answer, answered, answer, said}
 use Rattle.world_model.specs.Exchange.{command_of, settlement_of, outcome_by}
 
 -- One answer to an operation on a file.
@@ -17,10 +19,19 @@ pub record AnswerFacts (op : ContentOp) (file : List ℕ) (a : Answer) : Type 0 
   pub gave : (v : ContentReply) → said a.reply ≡ Says_ok v → value op file ≡ v × a.file ≡ effect op file × past_end op file ≡ false
   pub gave_end : said a.reply ≡ Says_end → past_end op file ≡ true
 
-refused_facts : (op : ContentOp) (file : List ℕ) (status : ℕ) → (said (Refuses status) ≡ Says_end → past_end op file ≡ true) → (said (Refuses status) ≡ Says_other) → AnswerFacts op file (record { reply = Refuses status; file = file; acted = false })
+refused_facts : (op : ContentOp) (file : List ℕ) (status : ℕ) → (said (Refuses status) ≡ Says_end → past_end op file
+    ≡ true) → (said (Refuses status) ≡ Says_other) → AnswerFacts op file (record {
+      reply = Refuses status;
+      file = file;
+      acted = false;
+    })
 refused_facts op file status e o = record { acted = λ h. absurd (cc); unacted = λ h. refl; gave = λ v h. absurd (cc); gave_end = e }
 
-end_facts : (op : ContentOp) (file : List ℕ) → past_end op file ≡ true → AnswerFacts op file (record { reply = Refuses end_of_file; file = file; acted = false })
+end_facts : (op : ContentOp) (file : List ℕ) → past_end op file ≡ true → AnswerFacts op file (record {
+  reply = Refuses end_of_file;
+  file = file;
+  acted = false;
+})
 end_facts op file e = record { acted = λ h. absurd (cc); unacted = λ h. refl; gave = λ v h. absurd (cc); gave_end = λ h. e }
 
 says_value : (c : Command) (file : List ℕ) → said (reply_of c file) ≡ Says_ok (value (asked c) file)
@@ -28,24 +39,38 @@ unfolding value
 says_value (Read_file offset size minimum channel) file = refl
 says_value (Write_file offset channel payload) file = refl
 
-success_facts : (c : Command) (file : List ℕ) → past_end (asked c) file ≡ false → AnswerFacts (asked c) file (record { reply = reply_of c file; file = effect (asked c) file; acted = touches (asked c) })
+success_facts : (c : Command) (file : List ℕ) → past_end (asked c) file ≡ false → AnswerFacts (asked c) file (record {
+  reply = reply_of c file;
+  file = effect (asked c) file;
+  acted = touches (asked c);
+})
 success_facts c file e =
     let s = says_value c file in
-    record { acted = λ h. (h, refl); unacted = λ h. effect-untouched (asked c) file h; gave = λ v h. (same v h, refl, e); gave_end = λ h. absurd (cc) }
+    record {
+      acted = λ h. (h, refl);
+      unacted = λ h. effect-untouched (asked c) file h;
+      gave = λ v h. (same v h, refl, e);
+      gave_end = λ h. absurd (cc);
+    }
   where
     same : (v : ContentReply) → said (reply_of c file) ≡ Says_ok v → value (asked c) file ≡ v
     same v h = let s = says_value c file in cc
 
-verdict_facts : (c : Command) (file : List ℕ) → is_short_of c file ≡ false → (v : Verdict) → check c file ≡ v → AnswerFacts (asked c) file (answered v c file)
+verdict_facts : (c : Command) (file : List ℕ) → is_short_of c file ≡ false → (v : Verdict) → check c file ≡ v
+    → AnswerFacts (asked c) file (answered v c file)
 verdict_facts c file n Bad_form e = refused_facts (asked c) file invalid_parameter (λ h. absurd (cc)) refl
-verdict_facts c file n At_end e = end_facts (asked c) file (at_end (is_in_form c) (past_end (asked c) file) (is_short_of c file) (is_overfull c file) n e)
+verdict_facts c file n At_end e = end_facts (asked c) file (at_end (is_in_form c) (past_end (asked c) file)
+    (is_short_of c file) (is_overfull c file) n e)
   where
-    at_end : (f p m o : Bool) → m ≡ false → (if not f then Bad_form else if p || m then At_end else if o then No_room else Success) ≡ At_end → p ≡ true
+    at_end : (f p m o : Bool) → m ≡ false → (if not f then Bad_form else if p || m then At_end else if o then No_room
+        else Success) ≡ At_end → p ≡ true
     at_end f p m o n e = grind arith
 verdict_facts c file n No_room e = refused_facts (asked c) file disk_full (λ h. absurd (cc)) refl
-verdict_facts c file n Success e = success_facts c file (not_past (is_in_form c) (past_end (asked c) file) (is_short_of c file) (is_overfull c file) e)
+verdict_facts c file n Success e = success_facts c file (not_past (is_in_form c) (past_end (asked c) file)
+    (is_short_of c file) (is_overfull c file) e)
   where
-    not_past : (f p m o : Bool) → (if not f then Bad_form else if p || m then At_end else if o then No_room else Success) ≡ Success → p ≡ false
+    not_past : (f p m o : Bool) → (if not f then Bad_form else if p || m then At_end else if o then No_room else
+        Success) ≡ Success → p ≡ false
     not_past f p m o e = grind arith
 
 none_wanted : (kind : OpKind) (file : List ℕ) → is_short_of (command_of kind) file ≡ false

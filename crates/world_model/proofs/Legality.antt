@@ -1,5 +1,6 @@
 -- The theorem: in every run the given file's operations have a legal order.
-use Rattle.std.proofs.Common.{◌≡◌, ℕ, zero, suc, ◌+◌, ◌-◌, ◌<◌, ◌≤◌, ◌==◌, Bool, true, false, if◌then◌else◌, List, [], ◌∷◌, length, refl, sym, ap, subst, ◌∙◌, arith, Option, Some, None, is_some}
+use Rattle.std.proofs.Common.{◌≡◌, ℕ, zero, suc, ◌+◌, ◌-◌, ◌<◌, ◌≤◌, ◌==◌, Bool, true, false, if◌then◌else◌, List, []}
+use Rattle.std.proofs.Common.{◌∷◌, length, refl, sym, ap, subst, ◌∙◌, arith, Option, Some, None, is_some}
 use Rattle.exchange_defs.specs.Content.{effect, value, past_end, is_change}
 use Rattle.exchange_defs.specs.Order.{is_firm, place, placed, is_of, Legal}
 use Rattle.exchange_defs.proofs.Content.{is_change-touches}
@@ -7,7 +8,8 @@ use Rattle.exchange_defs.proofs.Order.{PlaceFacts, legal}
 use Rattle.world_model.specs.declared.operation.Outcome.{Outcome}
 use Rattle.world_model.specs.declared.network.WorldEvent.{WorldEvent}
 use Rattle.world_model.specs.declared.network.WorldEvent.TheVariants.{Submit, Push, Serve, Take}
-use Rattle.world_model.specs.Exchange.{State, outcome_of, settlement_of, settlement_at, pushed, served, took, happens, start, rounds, Move, Does, Settles, moves, play}
+use Rattle.world_model.specs.Exchange.{State, outcome_of, settlement_of, settlement_at, pushed, served, took, happens}
+use Rattle.world_model.specs.Exchange.{start, rounds, Move, Does, Settles, moves, play}
 use Rattle.world_model.specs.Limits.{kind_at}
 use Rattle.world_model.specs.Shape.{Stage, Idle, Asking, Answering, places_in, Shape}
 use Rattle.world_model.specs.OneContent.{account_of, given_order, OneContent}
@@ -20,7 +22,8 @@ use Rattle.world_model.proofs.Logged.{op_at, Logged, start_logged, submitted_log
 all_of : (s : State) (g : ℕ) → is_of (account_of s) 0 g ≡ true
 all_of s g = listed (kind_at s.taken g)
 
-settled_at : (s : State) (g : ℕ) → Shape s → Logged s → is_some (outcome_of g s.settled) ≡ true → (n : ℕ) × (g ≡ n + 1) × (n < length s.settled) × (settlement_at s.settled g ≡ settled_as (s.log.gave n))
+settled_at : (s : State) (g : ℕ) → Shape s → Logged s → is_some (outcome_of g s.settled) ≡ true → (n : ℕ) × (g ≡ n + 1)
+    × (n < length s.settled) × (settlement_at s.settled g ≡ settled_as (s.log.gave n))
 settled_at s g i f h =
     let b = is_some-counted g s.settled i.counted h in let e : g ≡ g - 1 + 1 = omega (arith, b.0) in
     (g - 1, e, omega (arith, b.0, b.1), ap (settlement_at s.settled) e ∙ f.answered (g - 1) (omega (arith, b.0, b.1)))
@@ -49,16 +52,21 @@ facts : (s : State) → Shape s → Logged s → PlaceFacts (account_of s) 0
 facts s i f =
     record {
       birth_le = let b = f.birth in omega arith;
-      acted = λ n b l k d. subst (λ g. s.log.first g ≡ Some n × is_change (op_at s.taken g) ≡ true × s.log.bytes 0 (n + 1) ≡ effect (op_at s.taken g) (s.log.bytes 0 n)) (sym (f.who n l))
+      acted = λ n b l k d. subst (λ g. s.log.first g ≡ Some n × is_change (op_at s.taken g) ≡ true
+          × s.log.bytes 0 (n + 1) ≡ effect (op_at s.taken g) (s.log.bytes 0 n)) (sym (f.who n l))
           (let o = f.acted n l d in (o.0, is_change-touches (op_at s.taken (n + 1)) o.1, o.2));
       unacted = λ n b l d. f.unacted n l d;
       foreign = λ n b l k. absurd (let a = all_of s (s.log.who n) in grind arith);
-      gave = λ n v b l k e. subst (λ g. value (op_at s.taken g) (s.log.bytes 0 n) ≡ v × s.log.bytes 0 (n + 1) ≡ effect (op_at s.taken g) (s.log.bytes 0 n) × past_end (op_at s.taken g) (s.log.bytes 0 n) ≡ false) (sym (f.who n l)) (f.gave n v l e);
+      gave = λ n v b l k e. subst (λ g. value (op_at s.taken g) (s.log.bytes 0 n) ≡ v × s.log.bytes 0 (n + 1)
+          ≡ effect (op_at s.taken g) (s.log.bytes 0 n) × past_end (op_at s.taken g) (s.log.bytes 0 n) ≡ false)
+          (sym (f.who n l)) (f.gave n v l e);
       gave_end = λ n b l k e. subst (λ g. past_end (op_at s.taken g) (s.log.bytes 0 n) ≡ true) (sym (f.who n l)) (f.gave_end n l e);
       first_at = λ g p k e. let o = f.first_at g p e in (born p, o.1, f.who p o.1 ∙ sym o.0, o.2);
       by_at = λ g p k e. let o = f.by_at g p e in let l = settled_places p o.1 in (born p, l, f.who p l ∙ sym o.0);
-      by_ok = λ g p v k e h. let o = f.by_at g p e in said-ok (s.log.gave p) v (sym (ap (settlement_at s.settled) o.0 ∙ f.answered p o.1) ∙ h);
-      by_end = λ g p k e h. let o = f.by_at g p e in said-end (s.log.gave p) (sym (ap (settlement_at s.settled) o.0 ∙ f.answered p o.1) ∙ h);
+      by_ok = λ g p v k e h. let o = f.by_at g p e in
+          said-ok (s.log.gave p) v (sym (ap (settlement_at s.settled) o.0 ∙ f.answered p o.1) ∙ h);
+      by_end = λ g p k e h. let o = f.by_at g p e in
+          said-end (s.log.gave p) (sym (ap (settlement_at s.settled) o.0 ∙ f.answered p o.1) ∙ h);
       by_some = λ g k h. some_by g (settled_at s g i f (firm_some (outcome_of g s.settled) h));
       prior = λ g h p k e x. let z = placed_at s g p i f x in let o = f.prior h g e in omega (arith, z.0, o.1);
       since = λ h p k x. let z = placed_at s h p i f x in let o = ap s.log.since z.0 ∙ f.since p z.1 in omega (arith, o);
@@ -75,18 +83,22 @@ facts s i f =
         by_stage (Asking x) e = omega arith
         by_stage (Answering x r) e = omega arith
 
-    some_by : (g : ℕ) → (n : ℕ) × (g ≡ n + 1) × (n < length s.settled) × (settlement_at s.settled g ≡ settled_as (s.log.gave n)) → is_some (s.by g) ≡ true
+    some_by : (g : ℕ) → (n : ℕ) × (g ≡ n + 1) × (n < length s.settled)
+        × (settlement_at s.settled g ≡ settled_as (s.log.gave n)) → is_some (s.by g) ≡ true
     some_by g (n, e, l, x) = ap is_some (ap s.by e ∙ f.by_some n l)
 
 pub one_content : (s : State) → Shape s → Logged s → OneContent s
 one_content s i f =
     let k = legal (account_of s) 0 (facts s i f) in
     record {
-      legal = subst (λ e. Legal (account_of s) 0 (given_order s) [] e) f.last (subst (λ b. Legal (account_of s) 0 (given_order s) b (s.log.bytes 0 s.log.places)) (ap (s.log.bytes 0) f.birth ∙ f.begins) k);
+      legal = subst (λ e. Legal (account_of s) 0 (given_order s) [] e) f.last
+          (subst (λ b. Legal (account_of s) 0 (given_order s) b (s.log.bytes 0 s.log.places))
+          (ap (s.log.bytes 0) f.birth ∙ f.begins) k);
       stands = λ g h. k.settled g (all_of s g) (firm_at g (settled_at s g i f h));
     }
   where
-    firm_at : (g : ℕ) → (n : ℕ) × (g ≡ n + 1) × (n < length s.settled) × (settlement_at s.settled g ≡ settled_as (s.log.gave n)) → is_firm (settlement_at s.settled g) ≡ true
+    firm_at : (g : ℕ) → (n : ℕ) × (g ≡ n + 1) × (n < length s.settled)
+        × (settlement_at s.settled g ≡ settled_as (s.log.gave n)) → is_firm (settlement_at s.settled g) ≡ true
     firm_at g (n, e, l, x) = ap is_firm x ∙ firm (s.log.gave n)
 
 -- ---- every run
@@ -106,7 +118,8 @@ unfolding rounds
 rounds_logged zero s i f = f
 rounds_logged (suc n) s i f =
     let p = pushed_shape s i in let q = served_shape (pushed s) p in
-    rounds_logged n (took (served (pushed s))) (round_shape s i) (took_logged (served (pushed s)) q (served_logged (pushed s) p (pushed_logged s i f)))
+    rounds_logged n (took (served (pushed s))) (round_shape s i)
+    (took_logged (served (pushed s)) q (served_logged (pushed s) p (pushed_logged s i f)))
 
 moves_logged : (s : State) (m : Move) → Shape s → Logged s → Logged (moves s m)
 moves_logged s (Does e) i f = happens_logged s e i f

@@ -20,7 +20,8 @@ unfolding answer
 answer_suits (kinds.Write create at bytes) file h = by_check (check (command_of (kinds.Write create at bytes)) file)
   where
     small : length bytes < 2 ^ 32
-    small = let l = limited (create == 0) (nat_le (length bytes) 1_048_577) (nat_le at 0xffff_ffff_ffff_ffff) h in let m : length bytes ≤ 1_048_577 = grind (arith, nat_tests) in omega arith
+    small = let l = limited (create == 0) (nat_le (length bytes) 1_048_577) (nat_le at 0xffff_ffff_ffff_ffff) h in
+        let m : length bytes ≤ 1_048_577 = grind (arith, nat_tests) in omega arith
 
     by_check : (v : Verdict) → Suits (kinds.Write create at bytes) (answered v (command_of (kinds.Write create at bytes)) file).reply
     by_check Bad_form = (omega arith, omega arith)
@@ -30,7 +31,8 @@ answer_suits (kinds.Write create at bytes) file h = by_check (check (command_of 
 answer_suits (kinds.Read create at size) file h = by_check (check (command_of (kinds.Read create at size)) file)
   where
     small : length (take size (drop at file)) < 2 ^ 32
-    small = let l = limited (create == 0) (nat_le size 1_048_577) (nat_le at 0xffff_ffff_ffff_ffff) h in let m : size ≤ 1_048_577 = grind (arith, nat_tests) in let t = take_short size at file in omega arith
+    small = let l = limited (create == 0) (nat_le size 1_048_577) (nat_le at 0xffff_ffff_ffff_ffff) h in
+        let m : size ≤ 1_048_577 = grind (arith, nat_tests) in let t = take_short size at file in omega arith
 
     by_check : (v : Verdict) → Suits (kinds.Read create at size) (answered v (command_of (kinds.Read create at size)) file).reply
     by_check Bad_form = (omega arith, omega arith)

@@ -4,9 +4,11 @@
 -- exchange_defs: a rule of the protocol goes there, and this one goes once the program runs on that.
 --
 -- The client has at most one request outstanding. Each message travels whole: a list holds what its messages say.
-use Rattle.std.specs.Prelude.{ℕ, zero, suc, ◌+◌, ◌-◌, ◌/◌, ◌==◌, min, Bool, true, false, ◌&&◌, if◌then◌else◌, List, [], ◌∷◌, ◌++◌, length, Option, Some, None, is_some}
+use Rattle.std.specs.Prelude.{ℕ, zero, suc, ◌+◌, ◌-◌, ◌/◌, ◌==◌, min, Bool, true, false, ◌&&◌, if◌then◌else◌, List, []}
+use Rattle.std.specs.Prelude.{◌∷◌, ◌++◌, length, Option, Some, None, is_some}
 use Rattle.exchange_defs.specs.Content.{Counted, Gives}
-use Rattle.exchange_defs.specs.Order.{Log, Settlement, Unsettled, Settled_ok, Settled_end, Settled_refused, Settled_unknown, Says_other, is_firm}
+use Rattle.exchange_defs.specs.Order.{Log, Settlement, Unsettled, Settled_ok, Settled_end, Settled_refused}
+use Rattle.exchange_defs.specs.Order.{Settled_unknown, Says_other, is_firm}
 use Rattle.world_model.specs.declared.operation.Op.{Op}
 use Rattle.world_model.specs.declared.operation.OpKind.{OpKind}
 use Rattle.world_model.specs.declared.operation.OpKind.TheVariants as kinds
@@ -48,7 +50,8 @@ abbrev pub moved : OpKind → ℕ
 moved (kinds.Write create at bytes) = length bytes
 moved (kinds.Read create at size) = size
 
--- the credits that a request costs, and the message ids that it takes (MS-SMB2 3.2.4.1.5): one for each 65,536 bytes begun, and one at least
+-- the credits that a request costs, and the message ids that it takes (MS-SMB2 3.2.4.1.5): one for each 65,536 bytes
+-- begun, and one at least
 abbrev pub charge : OpKind → ℕ
 charge kind = min ((moved kind - 1) / 65536 + 1) 65535
 
@@ -117,7 +120,10 @@ submitted s op = if takes s op then record s { taken = s.taken ++ op.kind ∷ []
 -- ---- push
 
 abbrev pub pushed_log : State → ℕ → Log
-pushed_log s g = record s.log { since = put s.log.since g s.log.places; prior = put s.log.prior g (λ a. is_firm (settlement_at s.settled a)) }
+pushed_log s g = record s.log {
+  since = put s.log.since g s.log.places;
+  prior = put s.log.prior g (λ a. is_firm (settlement_at s.settled a));
+}
 
 -- the request of operation g goes to the end of the up list
 abbrev pub transmitted : State → ℕ → State
@@ -249,7 +255,17 @@ start =
       up = [];
       down = [];
       by = λ g. None;
-      log = record { places = 0; who = λ n. 0; gave = λ n. Says_other; did = λ n. false; bytes = λ o n. []; birth = λ o. 0; first = λ g. None; since = λ g. 0; prior = λ h g. false };
+      log = record {
+        places = 0;
+        who = λ n. 0;
+        gave = λ n. Says_other;
+        did = λ n. false;
+        bytes = λ o n. [];
+        birth = λ o. 0;
+        first = λ g. None;
+        since = λ g. 0;
+        prior = λ h g. false;
+      };
     }
 
 abbrev pub run : List WorldEvent → State → State

@@ -22,10 +22,29 @@ command_number (kinds.Read create at size) = 8
 -- session, tree and channel sequence are 0, and nothing is signed
 abbrev pub request_header : ℕ → OpKind → Header
 request_header message kind =
-    record { charge = charge kind; status = 0; command = command_number kind; credits = 512; flags = 0; next = 0; message = message; tree = 0; session = 0; signature = zeros }
+    record {
+      charge = charge kind;
+      status = 0;
+      command = command_number kind;
+      credits = 512;
+      flags = 0;
+      next = 0;
+      message = message;
+      tree = 0;
+      session = 0;
+      signature = zeros;
+    }
 
 abbrev pub read_request_of : ℕ → ℕ → ReadRequest
-read_request_of at size = record { flags = 0; length = size; offset = at; file_id = zeros; minimum_count = 0; channel = 0; remaining_bytes = 0 }
+read_request_of at size = record {
+  flags = 0;
+  length = size;
+  offset = at;
+  file_id = zeros;
+  minimum_count = 0;
+  channel = 0;
+  remaining_bytes = 0;
+}
 
 abbrev pub write_request_of : ℕ → List ℕ → WriteRequestValue
 write_request_of at bytes = record { offset = at; file_id = zeros; channel = 0; remaining_bytes = 0; flags = 0; payload = bytes }
@@ -40,7 +59,18 @@ request_bytes message kind = header_spelling (request_header message kind) ++ re
 -- a response has its request's charge, command, message id, tree and session, and grants the credits asked
 abbrev pub response_header : Header → ℕ → Header
 response_header asked status =
-    record { charge = asked.charge; status = status; command = asked.command; credits = asked.credits; flags = 1; next = 0; message = asked.message; tree = asked.tree; session = asked.session; signature = zeros }
+    record {
+      charge = asked.charge;
+      status = status;
+      command = asked.command;
+      credits = asked.credits;
+      flags = 1;
+      next = 0;
+      message = asked.message;
+      tree = asked.tree;
+      session = asked.session;
+      signature = zeros;
+    }
 
 abbrev pub response_body : Reply → List ℕ
 response_body (Counts count) = write_response_spelling (record { count = count; remaining = 0 })

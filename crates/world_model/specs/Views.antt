@@ -13,7 +13,8 @@ use Rattle.world_model.specs.Messages.{response_to}
 use Rattle.world_model.specs.declared.network.WorldError.{WorldError}
 use Rattle.world_model.specs.declared.network.WorldError.TheVariants.{Memory, NoChannel, NothingThere}
 use Rattle.world_model.specs.Exchange.{State, outcome_of, status_of}
-use Rattle.world_model.specs.Server.{Answer, Command, Read_file, Write_file, Reply, Counts, Content, Refuses, Verdict, Bad_form, At_end, No_room, Success}
+use Rattle.world_model.specs.Server.{Answer, Command, Read_file, Write_file, Reply, Counts, Content, Refuses, Verdict}
+use Rattle.world_model.specs.Server.{Bad_form, At_end, No_room, Success}
 
 abbrev pub reply_of : code_reply.Reply → Reply
 reply_of (replies.Counts count) = Counts count

@@ -1,4 +1,5 @@
-ghost use Rattle.std.specs.Prelude.{◌≡◌, ◌+◌, ◌<◌, ◌^◌, ◌++◌, ◌∷◌, [], ℕ, true, Some, None, IfOk, OnOk, OnErr, vec_len, if◌then◌else◌, ◌==◌, ◌&&◌, nat_le};
+ghost use Rattle.std.specs.Prelude.{◌≡◌, ◌+◌, ◌<◌, ◌^◌, ◌++◌, ◌∷◌, [], ℕ, true, Some, None, IfOk, OnOk, OnErr, vec_len};
+ghost use Rattle.std.specs.Prelude.{if◌then◌else◌, ◌==◌, ◌&&◌, nat_le};
 ghost use Rattle.world_model.specs.Limits.{is_in_limits, kind_at};
 ghost use Rattle.world_model.specs.declared.operation.OpKind.{OpKind as Kind};
 ghost use Rattle.world_model.specs.Server.{Reply};

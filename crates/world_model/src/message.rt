@@ -2,7 +2,8 @@ ghost use Rattle.std.specs.Prelude.{◌≡◌, ◌<◌, ◌^◌, ◌++◌, true,
 ghost use Rattle.wire_defs.specs.Header.{header_spelling};
 ghost use Rattle.world_model.specs.Exchange.{charge, id_after, status_of as status};
 ghost use Rattle.world_model.specs.Limits.{is_in_limits};
-ghost use Rattle.world_model.specs.Messages.{command_number, request_header, request_body, request_bytes, response_header, response_body, response_to};
+ghost use Rattle.world_model.specs.Messages.{command_number, request_header, request_body, request_bytes};
+ghost use Rattle.world_model.specs.Messages.{response_header, response_body, response_to};
 ghost use Rattle.world_model.specs.Views.{reply_of, IsShort};
 
 use crate::limits::{CREDIT_BYTES, CREDITS_ASKED};

@@ -1,4 +1,5 @@
-ghost use Rattle.std.specs.Prelude.{◌≡◌, ◌+◌, ◌<◌, ◌≤◌, ◌^◌, ◌++◌, ◌==◌, ◌&&◌, ◌||◌, List, ℕ, None, true, false, length, take, drop, IfOk, OnOk, OnErr, nat_lt, nat_le};
+ghost use Rattle.std.specs.Prelude.{◌≡◌, ◌+◌, ◌<◌, ◌≤◌, ◌^◌, ◌++◌, ◌==◌, ◌&&◌, ◌||◌, List, ℕ, None, true, false, length};
+ghost use Rattle.std.specs.Prelude.{take, drop, IfOk, OnOk, OnErr, nat_lt, nat_le};
 ghost use Rattle.exchange_defs.specs.Content.{written, effect, past_end, Read};
 ghost use Rattle.world_model.specs.Server.{Refuses, answer, asked, check, is_in_form, is_overfull, is_past_end};
 ghost use Rattle.world_model.specs.declared.operation.OpKind.{OpKind};

@@ -9,7 +9,8 @@ ghost use Rattle.world_model.specs.Server.{Counts, Content, Reply};
 ghost use Rattle.world_model.specs.Exchange.{status_of};
 ghost use Rattle.world_model.specs.Limits.{is_in_limits};
 ghost use Rattle.world_model.specs.Shape.{Suits};
-ghost use Rattle.world_model.specs.Messages.{read_request_of, request_bytes, request_header, response_bytes, response_header, write_request_of};
+ghost use Rattle.world_model.specs.Messages.{read_request_of, request_bytes, request_header, response_bytes};
+ghost use Rattle.world_model.specs.Messages.{response_header, write_request_of};
 
 use wire_law::{
     header_law, read_request_law, read_response_law, write_request_law, write_response_law,

@@ -1,8 +1,10 @@
-ghost use Rattle.std.specs.Prelude.{◌≡◌, ◌==◌, ◌<◌, ◌≤◌, ℕ, List, Some, None, Option, [], ◌∷◌, length, map, if◌then◌else◌, IfOk, IfErr, OnOk, OnErr, codes};
+ghost use Rattle.std.specs.Prelude.{◌≡◌, ◌==◌, ◌<◌, ◌≤◌, ℕ, List, Some, None, Option, [], ◌∷◌, length, map};
+ghost use Rattle.std.specs.Prelude.{if◌then◌else◌, IfOk, IfErr, OnOk, OnErr, codes};
 ghost use Rattle.world_model.specs.declared.network.WorldError.{WorldError as Refusal};
 ghost use Rattle.exchange_defs.specs.Order.{is_at, order_of, placed};
 ghost use Rattle.world_model.specs.OneContent.{account_of};
-ghost use Rattle.world_model.specs.Exchange.{State, front_note, happens, note_of, noted, pushed, refusal, served, settle, start, submitted, took};
+ghost use Rattle.world_model.specs.Exchange.{State, front_note, happens, note_of, noted, pushed, refusal, served};
+ghost use Rattle.world_model.specs.Exchange.{settle, start, submitted, took};
 ghost use Rattle.world_model.specs.Shape.{CountsFrom};
 ghost use Rattle.world_model.specs.Views.{IsAllSettled, StepFails};
 ghost use Rattle.world_model.specs.Holding.{WorldHolds, serves_at};

@@ -1,6 +1,7 @@
 use Rattle.std.proofs.Common.{refl}
 use Rattle.cipher_defs.specs.Field.{sbox}
-use Rattle.cipher_defs.specs.Aes.{replaced, mixed_columns, block_sum, round_key, rounds, after, cipher, constant, word_change, next_word, expanded}
+use Rattle.cipher_defs.specs.Aes.{replaced, mixed_columns, block_sum, round_key, rounds, after, cipher, constant}
+use Rattle.cipher_defs.specs.Aes.{word_change, next_word, expanded}
 use Rattle.cipher_defs.specs.Blocks.{block_at, stream_byte, masked}
 use Rattle.cipher_defs.specs.Ghash.{shifted, bits_of, sum_at, hashed, ghash}
 use Rattle.cipher_defs.specs.Gcm.{counter_block, hash_key, sealed}

@@ -8,6 +8,7 @@ loop-i-init c = record { known = expanded_none c.args.key_words c.args.key.now; 
 
 pub loop-i-preserved : goal.loop-i-preserved
 loop-i-preserved c = record {
-  known = expanded_more c.args.key_words c.args.key.now c.loop-i.words c.loop-i.i c.next_word_of.result (omega (arith, c.loop-i.invariant.len)) c.loop-i.invariant.known c.next_word_of.ensures;
+  known = expanded_more c.args.key_words c.args.key.now c.loop-i.words c.loop-i.i c.next_word_of.result
+      (omega (arith, c.loop-i.invariant.len)) c.loop-i.invariant.known c.next_word_of.ensures;
   len = simp length-set c.loop-i.invariant.len;
 }

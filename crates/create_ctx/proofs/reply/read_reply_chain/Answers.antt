@@ -9,15 +9,19 @@ loop-head-init c =
     rw c.no_replies-found.ensures (replies_begin c.args.bytes.now some)
 
 pub returns-in-Err : goal.returns-in-Err
-returns-in-Err c = replies_break c.args.bytes.now c.loop-head.rest.now c.loop-head.found c.in-Err.error c.loop-head.invariant c.in-Err.ensures
+returns-in-Err c = replies_break c.args.bytes.now c.loop-head.rest.now c.loop-head.found c.in-Err.error
+    c.loop-head.invariant c.in-Err.ensures
 
 pub returns-then-head-eq0 : goal.returns-then-head-eq0
 returns-then-head-eq0 c =
-    rw c.both_replies-found.ensures (replies_end c.args.bytes.now c.loop-head.rest.now c.loop-head.found c.in-Ok.head.said c.in-Ok.head.next c.loop-head.invariant c.in-Ok.ensures c.if-head-eq0.true)
+    rw c.both_replies-found.ensures (replies_end c.args.bytes.now c.loop-head.rest.now c.loop-head.found
+    c.in-Ok.head.said c.in-Ok.head.next c.loop-head.invariant c.in-Ok.ensures c.if-head-eq0.true)
 
 pub loop-head-smaller : goal.loop-head-smaller
 loop-head-smaller c = c.items_behind-rest.ensures.shorter c.if-head-eq0.false
 
 pub loop-head-preserved : goal.loop-head-preserved
 loop-head-preserved c =
-    rw (c.items_behind-rest.ensures.value, c.both_replies-found.ensures) (replies_go_on c.args.bytes.now c.loop-head.rest.now c.loop-head.found c.in-Ok.head.said c.in-Ok.head.next c.loop-head.invariant c.in-Ok.ensures c.if-head-eq0.false)
+    rw (c.items_behind-rest.ensures.value, c.both_replies-found.ensures)
+    (replies_go_on c.args.bytes.now c.loop-head.rest.now c.loop-head.found c.in-Ok.head.said c.in-Ok.head.next
+    c.loop-head.invariant c.in-Ok.ensures c.if-head-eq0.false)

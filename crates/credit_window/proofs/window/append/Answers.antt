@@ -8,7 +8,8 @@ loop-k-preserved c = record {
   items =
       c.push_back_reserved.ensures.items
       ∙ (ap (λ l. l ++ (c.args.from + c.loop-k.k) ∷ []) c.loop-k.invariant.items
-      ∙ (append_assoc c.args.ids.now.items (ids_from c.args.from c.loop-k.k) ((c.args.from + c.loop-k.k) ∷ []) ∙ ap (λ l. c.args.ids.now.items ++ l) (ids_from-push c.loop-k.k c.args.from)));
+      ∙ (append_assoc c.args.ids.now.items (ids_from c.args.from c.loop-k.k) ((c.args.from + c.loop-k.k) ∷ [])
+      ∙ ap (λ l. c.args.ids.now.items ++ l) (ids_from-push c.loop-k.k c.args.from)));
   len = omega arith;
   capacity = c.push_back_reserved.ensures.capacity ∙ c.loop-k.invariant.capacity;
 }

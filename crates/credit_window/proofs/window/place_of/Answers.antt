@@ -6,7 +6,8 @@ use Rattle.credit_window.proofs.window.place_of.Goals as goal
 pub returns : goal.returns
 returns c =
     let parted = IsPartitionedBy-ltb (λ x. x) _ c.args.first (ascending_order 0 _ c.requires) in
-    let point = IsPartitionPoint-from_clause (λ x. ltb x c.args.first) _ _ c.partition_point.ensures.partitioned parted (λ a r q k. search rules) in
+    let point = IsPartitionPoint-from_clause (λ x. ltb x c.args.first) _ _ c.partition_point.ensures.partitioned parted
+    (λ a r q k. search rules) in
     record {
       within = let bound = c.partition_point.ensures.bound in omega arith;
       below = λ k d l. ltb-true _ _ (point.0 k d (omega arith) l);

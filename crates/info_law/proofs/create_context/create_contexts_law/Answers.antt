@@ -7,13 +7,20 @@ use Rattle.info_law.proofs.Gathered.{requests_small, requests_say}
 use Rattle.info_law.proofs.create_context.create_contexts_law.Goals as goal
 
 pub returns-clause-one : goal.returns-clause-one
-returns-clause-one c = λ m a b s t. s.says ∙ ap request_contexts (same_items (IsContext request_due) (same_context request_due) (no_context request_due) m s.contexts t.contexts s.chain t.chain) ∙ sym t.says
+returns-clause-one c = λ m a b s t. s.says
+    ∙ ap request_contexts (same_items (IsContext request_due) (same_context request_due) (no_context request_due) m
+    s.contexts t.contexts s.chain t.chain) ∙ sym t.says
 
 pub returns-clause-whole : goal.returns-clause-whole
-returns-clause-whole c = λ m a e s b. no_break (IsContext request_due) (first_fault request_due) (whole_first request_due) m e s.contexts s.chain b
+returns-clause-whole c = λ m a e s b. no_break (IsContext request_due) (first_fault request_due)
+    (whole_first request_due) m e s.contexts s.chain b
 
 pub returns-clause-broken : goal.returns-clause-broken
 returns-clause-broken c = λ m e f s t. same_break (first_fault request_due) m e f s t
 
 pub returns-clause-again : goal.returns-clause-again
-returns-clause-again c = λ a fit. record { contexts = asked_contexts a; chain = chain_again request_due (asked_contexts a) (requests_small a fit); says = sym (requests_say a fit) }
+returns-clause-again c = λ a fit. record {
+  contexts = asked_contexts a;
+  chain = chain_again request_due (asked_contexts a) (requests_small a fit);
+  says = sym (requests_say a fit);
+}

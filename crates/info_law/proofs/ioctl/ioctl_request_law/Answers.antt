@@ -41,6 +41,8 @@ returns-clause-again c = λ header rest v e fit.
     let output_inside : output_at + length v.output ≤ length m = grind (arith, common_steps) in
     record {
       fixed = grind (arith, common_steps);
-      input = rw input_told (part_told m v.input 120 (told (length v.input) 120) (number 4 m 92) 120 input_len input_bytes (told_stands (length v.input) 120 120 (length m) (omega arith) input_inside));
-      output = rw output_told (part_told m v.output output_at (told (length v.output) output_at) (number 4 m 104) 120 output_len output_bytes (told_stands (length v.output) output_at 120 (length m) (omega arith) output_inside));
+      input = rw input_told (part_told m v.input 120 (told (length v.input) 120) (number 4 m 92) 120 input_len
+          input_bytes (told_stands (length v.input) 120 120 (length m) (omega arith) input_inside));
+      output = rw output_told (part_told m v.output output_at (told (length v.output) output_at) (number 4 m 104) 120
+          output_len output_bytes (told_stands (length v.output) output_at 120 (length m) (omega arith) output_inside));
     }

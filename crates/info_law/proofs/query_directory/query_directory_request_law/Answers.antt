@@ -5,7 +5,8 @@ use Rattle.wire_defs.specs.Aligned.{told}
 use Rattle.wire_defs.specs.Fault.{◌or_else◌, fields_fault, size_fault, part_fault}
 use Rattle.wire_defs.specs.Classes.{class_fault, is_directory_class}
 use Rattle.wire_defs.specs.declared.error.Part.TheVariants.{Name}
-use Rattle.wire_defs.specs.QueryDirectory.{query_directory_request_table, query_directory_request_in, query_directory_request_whole, query_directory_request_spelling}
+use Rattle.wire_defs.specs.QueryDirectory.{query_directory_request_table, query_directory_request_in}
+use Rattle.wire_defs.specs.QueryDirectory.{query_directory_request_whole, query_directory_request_spelling}
 use Rattle.wire_law.proofs.Rows.{table_again}
 use Rattle.wire_law.proofs.Faults.{no_part_fault, part_stands, none_of, part_told}
 use Rattle.wire_law.proofs.Told.{told_stands, no_class_fault, class_stands}
@@ -14,7 +15,8 @@ use Rattle.info_law.proofs.query_directory.query_directory_request_law.Goals as 
 pub returns-clause-whole : goal.returns-clause-whole
 returns-clause-whole c = λ m v p.
     let known : is_directory_class (number 1 m 66) ≡ true = rw (p.fixed.1.0) p.known in
-    let class : class_fault (is_directory_class (number 1 m 66)) (number 1 m 66) ≡ None = no_class_fault (is_directory_class (number 1 m 66)) (number 1 m 66) known in
+    let class : class_fault (is_directory_class (number 1 m 66)) (number 1 m 66) ≡ None =
+    no_class_fault (is_directory_class (number 1 m 66)) (number 1 m 66) known in
     let name : part_fault m (number 2 m 88) (number 2 m 90) 96 Name ≡ None = no_part_fault m _ _ _ _ Name p.name in
     grind (arith, common_steps)
 
@@ -25,7 +27,11 @@ returns-clause-given c = λ m none.
     let at_name = none_of front_known (part_fault m (number 2 m 88) (number 2 m 90) 96 Name) none in
     let at_known = none_of front (class_fault (is_directory_class (number 1 m 66)) (number 1 m 66)) at_name.0 in
     let name = part_stands m (number 2 m 88) (number 2 m 90) 96 Name at_name.1 in
-    record { fixed = grind (arith, common_steps); known = class_stands (is_directory_class (number 1 m 66)) (number 1 m 66) at_known.1; name = name }
+    record {
+      fixed = grind (arith, common_steps);
+      known = class_stands (is_directory_class (number 1 m 66)) (number 1 m 66) at_known.1;
+      name = name;
+    }
 
 pub returns-clause-again : goal.returns-clause-again
 returns-clause-again c = λ header rest v e fit.
@@ -38,5 +44,6 @@ returns-clause-again c = λ header rest v e fit.
     record {
       fixed = grind (arith, common_steps);
       known = fit.known;
-      name = rw name_told (part_told m v.name 96 (told (length v.name) 96) (number 2 m 90) 96 name_len name_bytes (told_stands (length v.name) 96 96 (length m) (omega arith) name_inside));
+      name = rw name_told (part_told m v.name 96 (told (length v.name) 96) (number 2 m 90) 96 name_len name_bytes
+          (told_stands (length v.name) 96 96 (length m) (omega arith) name_inside));
     }

@@ -5,7 +5,8 @@ use Rattle.wire_defs.specs.Aligned.{told}
 use Rattle.wire_defs.specs.Fault.{◌or_else◌, fields_fault, size_fault, part_fault}
 use Rattle.wire_defs.specs.Classes.{class_fault, is_query_class}
 use Rattle.wire_defs.specs.declared.error.Part.TheVariants.{Input}
-use Rattle.wire_defs.specs.QueryInfo.{query_info_request_table, query_info_request_in, query_info_request_whole, query_info_request_spelling}
+use Rattle.wire_defs.specs.QueryInfo.{query_info_request_table, query_info_request_in, query_info_request_whole}
+use Rattle.wire_defs.specs.QueryInfo.{query_info_request_spelling}
 use Rattle.wire_law.proofs.Rows.{table_again}
 use Rattle.wire_law.proofs.Faults.{no_part_fault, part_stands, none_of, part_told}
 use Rattle.wire_law.proofs.Told.{told_stands, no_class_fault, class_stands}
@@ -14,7 +15,8 @@ use Rattle.info_law.proofs.query_info.query_info_request_law.Goals as goal
 pub returns-clause-whole : goal.returns-clause-whole
 returns-clause-whole c = λ m v p.
     let known : is_query_class (number 1 m 66) (number 1 m 67) ≡ true = rw (p.fixed.1.0, p.fixed.1.1.0) p.known in
-    let class : class_fault (is_query_class (number 1 m 66) (number 1 m 67)) (number 1 m 67) ≡ None = no_class_fault (is_query_class (number 1 m 66) (number 1 m 67)) (number 1 m 67) known in
+    let class : class_fault (is_query_class (number 1 m 66) (number 1 m 67)) (number 1 m 67) ≡ None =
+    no_class_fault (is_query_class (number 1 m 66) (number 1 m 67)) (number 1 m 67) known in
     let input : part_fault m (number 2 m 72) (number 4 m 76) 104 Input ≡ None = no_part_fault m _ _ _ _ Input p.input in
     grind (arith, common_steps)
 
@@ -25,7 +27,11 @@ returns-clause-given c = λ m none.
     let at_input = none_of front_known (part_fault m (number 2 m 72) (number 4 m 76) 104 Input) none in
     let at_known = none_of front (class_fault (is_query_class (number 1 m 66) (number 1 m 67)) (number 1 m 67)) at_input.0 in
     let input = part_stands m (number 2 m 72) (number 4 m 76) 104 Input at_input.1 in
-    record { fixed = grind (arith, common_steps); known = class_stands (is_query_class (number 1 m 66) (number 1 m 67)) (number 1 m 67) at_known.1; input = input }
+    record {
+      fixed = grind (arith, common_steps);
+      known = class_stands (is_query_class (number 1 m 66) (number 1 m 67)) (number 1 m 67) at_known.1;
+      input = input;
+    }
 
 pub returns-clause-again : goal.returns-clause-again
 returns-clause-again c = λ header rest v e fit.
@@ -38,5 +44,6 @@ returns-clause-again c = λ header rest v e fit.
     record {
       fixed = grind (arith, common_steps);
       known = fit.known;
-      input = rw input_told (part_told m v.input 104 (told (length v.input) 104) (number 4 m 76) 104 input_len input_bytes (told_stands (length v.input) 104 104 (length m) (omega arith) input_inside));
+      input = rw input_told (part_told m v.input 104 (told (length v.input) 104) (number 4 m 76) 104 input_len
+          input_bytes (told_stands (length v.input) 104 104 (length m) (omega arith) input_inside));
     }

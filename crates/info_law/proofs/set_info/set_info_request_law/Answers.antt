@@ -13,7 +13,8 @@ use Rattle.info_law.proofs.set_info.set_info_request_law.Goals as goal
 pub returns-clause-whole : goal.returns-clause-whole
 returns-clause-whole c = λ m v p.
     let known : is_set_class (number 1 m 66) (number 1 m 67) ≡ true = rw (p.fixed.1.0, p.fixed.1.1.0) p.known in
-    let class : class_fault (is_set_class (number 1 m 66) (number 1 m 67)) (number 1 m 67) ≡ None = no_class_fault (is_set_class (number 1 m 66) (number 1 m 67)) (number 1 m 67) known in
+    let class : class_fault (is_set_class (number 1 m 66) (number 1 m 67)) (number 1 m 67) ≡ None =
+    no_class_fault (is_set_class (number 1 m 66) (number 1 m 67)) (number 1 m 67) known in
     let payload : part_fault m (number 2 m 72) (number 4 m 68) 96 Payload ≡ None = no_part_fault m _ _ _ _ Payload p.payload in
     grind (arith, common_steps)
 
@@ -24,7 +25,11 @@ returns-clause-given c = λ m none.
     let at_payload = none_of front_known (part_fault m (number 2 m 72) (number 4 m 68) 96 Payload) none in
     let at_known = none_of front (class_fault (is_set_class (number 1 m 66) (number 1 m 67)) (number 1 m 67)) at_payload.0 in
     let payload = part_stands m (number 2 m 72) (number 4 m 68) 96 Payload at_payload.1 in
-    record { fixed = grind (arith, common_steps); known = class_stands (is_set_class (number 1 m 66) (number 1 m 67)) (number 1 m 67) at_known.1; payload = payload }
+    record {
+      fixed = grind (arith, common_steps);
+      known = class_stands (is_set_class (number 1 m 66) (number 1 m 67)) (number 1 m 67) at_known.1;
+      payload = payload;
+    }
 
 pub returns-clause-again : goal.returns-clause-again
 returns-clause-again c = λ header rest v e fit.

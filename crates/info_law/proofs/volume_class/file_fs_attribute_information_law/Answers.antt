@@ -4,7 +4,8 @@ use Rattle.wire_defs.specs.Places.{number}
 use Rattle.wire_defs.specs.Fault.{short_fault, part_fault}
 use Rattle.wire_defs.specs.Table.{widths}
 use Rattle.wire_defs.specs.declared.error.Part.TheVariants.{Name}
-use Rattle.wire_defs.specs.VolumeClasses.{file_fs_attribute_information_table, file_fs_attribute_information_in, file_fs_attribute_information_whole}
+use Rattle.wire_defs.specs.VolumeClasses.{file_fs_attribute_information_table, file_fs_attribute_information_in}
+use Rattle.wire_defs.specs.VolumeClasses.{file_fs_attribute_information_whole}
 use Rattle.wire_law.proofs.Rows.{table_again}
 use Rattle.wire_law.proofs.Faults.{no_part_fault, part_stands, none_of}
 use Rattle.info_law.proofs.volume_class.file_fs_attribute_information_law.Goals as goal

@@ -6,7 +6,8 @@ use Rattle.negotiate_ctx.proofs.reading.first_of.Given as goal
 
 abbrev pub invariant-loop-left : goal.invariant-loop-left
 invariant-loop-left l =
-    Walks l.bytes l.count l.end l.left × (first_of l.kind (contexts_in l.bytes l.end l.left) ≡ first_of l.kind (contexts_in l.bytes 0 l.count))
+    Walks l.bytes l.count l.end l.left × (first_of l.kind (contexts_in l.bytes l.end l.left)
+    ≡ first_of l.kind (contexts_in l.bytes 0 l.count))
     × (all_fit (contexts_in l.bytes l.end l.left) ≡ true)
 
 abbrev pub decreases-loop-left : goal.decreases-loop-left

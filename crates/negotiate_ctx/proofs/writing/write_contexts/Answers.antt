@@ -10,6 +10,9 @@ pub returns : goal.returns
 returns c =
     let v = offer c.args.v.now in
     let salt = c.args.salt.now in
-    c.finish.ensures ∙ written v salt c.put_preauth.new.out c.put_ids.new.out c.put_ids-2.new.out c.as_slice.result.now c.as_slice-2.result.now
-    (c.in_ok-put_preauth.ensures ∙ ap (λ (o : List ℕ). with_contexts o (if v.preauth then preauth_context v salt ∷ [] else [])) c.new-out.ensures)
+    c.finish.ensures ∙ written v salt c.put_preauth.new.out c.put_ids.new.out c.put_ids-2.new.out c.as_slice.result.now
+    c.as_slice-2.result.now
+    (c.in_ok-put_preauth.ensures
+    ∙ ap (λ (o : List ℕ). with_contexts o (if v.preauth then preauth_context v salt ∷ [] else []))
+    c.new-out.ensures)
     c.in_ok-put_ids.ensures c.as_slice.ensures c.in_ok-put_ids-2.ensures c.as_slice-2.ensures

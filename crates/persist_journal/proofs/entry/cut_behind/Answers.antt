@@ -5,17 +5,20 @@ use Rattle.persist_journal.proofs.entry.cut_behind.Goals as goal
 
 pub returns-in_err-cut-clause-any_moment : goal.returns-in_err-cut-clause-any_moment
 returns-in_err-cut-clause-any_moment g c = λ told front rest shut at_gate only.
-    cut g.D.Disk.seen g.D.Disk.may_leave g.D.Disk.moment g.D.Disk.left_since g.met.D.Disk.only_now front rest c.args.gate shut c.args.disk.now at_gate only
+    cut g.D.Disk.seen g.D.Disk.may_leave g.D.Disk.moment g.D.Disk.left_since g.met.D.Disk.only_now front rest
+    c.args.gate shut c.args.disk.now at_gate only
     c.cut.new.self c.cut.ensures.crash c.cut.ensures.time
 
 pub returns-in_err-sync-clause-any_moment : goal.returns-in_err-sync-clause-any_moment
 returns-in_err-sync-clause-any_moment g c = λ told front rest shut at_gate only.
-    kept g.D.Disk.seen g.D.Disk.may_leave g.D.Disk.moment g.D.Disk.left_since g.met.D.Disk.only_now front rest c.args.gate shut c.args.disk.now at_gate only
+    kept g.D.Disk.seen g.D.Disk.may_leave g.D.Disk.moment g.D.Disk.left_since g.met.D.Disk.only_now front rest
+    c.args.gate shut c.args.disk.now at_gate only
     c.cut.new.self c.cut.ensures.crash c.cut.ensures.time c.sync.new.self c.sync.ensures.crash c.sync.ensures.time
 
 pub returns-clause-any_moment : goal.returns-clause-any_moment
 returns-clause-any_moment g c = λ told front rest shut at_gate only.
-    kept g.D.Disk.seen g.D.Disk.may_leave g.D.Disk.moment g.D.Disk.left_since g.met.D.Disk.only_now front rest c.args.gate shut c.args.disk.now at_gate only
+    kept g.D.Disk.seen g.D.Disk.may_leave g.D.Disk.moment g.D.Disk.left_since g.met.D.Disk.only_now front rest
+    c.args.gate shut c.args.disk.now at_gate only
     c.cut.new.self c.cut.ensures.crash c.cut.ensures.time c.sync.new.self c.sync.ensures.crash c.sync.ensures.time
 
 pub returns-clause-done : goal.returns-clause-done

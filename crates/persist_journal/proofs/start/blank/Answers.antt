@@ -6,35 +6,66 @@ use Rattle.persist_journal.proofs.start.blank.Goals as goal
 
 pub returns-in_err-write_at-2-clause-any_moment : goal.returns-in_err-write_at-2-clause-any_moment
 returns-in_err-write_at-2-clause-any_moment g c = λ told new.
-    let short0 : (f : List ℕ) → g.D.Disk.may_leave c.args.disk.now f → IsShort f = λ f now. subst IsShort (sym (new.durable f now)) new.short in
-    let short1 : (f : List ℕ) → g.D.Disk.may_leave c.write_at.new.self f → IsShort f = short_write 0 8 (g.D.Disk.may_leave c.args.disk.now) (g.D.Disk.may_leave c.write_at.new.self) (omega arith) short0 c.write_at.ensures.crash in
+    let short0 : (f : List ℕ) → g.D.Disk.may_leave c.args.disk.now f → IsShort f = λ f now.
+    subst IsShort (sym (new.durable f now)) new.short in
+    let short1 : (f : List ℕ) → g.D.Disk.may_leave c.write_at.new.self f → IsShort f =
+    short_write 0 8 (g.D.Disk.may_leave c.args.disk.now) (g.D.Disk.may_leave c.write_at.new.self) (omega arith)
+    short0 c.write_at.ensures.crash in
     let short2 : (f : List ℕ) → g.D.Disk.may_leave c.sync.new.self f → IsShort f = λ f now. short1 f (c.sync.ensures.crash f now) in
-    let short3 : (f : List ℕ) → g.D.Disk.may_leave c.write_at-2.new.self f → IsShort f = short_write 8 1 (g.D.Disk.may_leave c.sync.new.self) (g.D.Disk.may_leave c.write_at-2.new.self) (omega arith) short2 c.write_at-2.ensures.crash in
-    let run0 = started g.D.Disk.moment g.D.Disk.left_since c.args.disk.now IsShort (λ f left. short0 f (g.met.D.Disk.only_now c.args.disk.now f left)) in
-    let run1 = goes_on g.D.Disk.moment g.D.Disk.left_since c.args.disk.now c.args.disk.now c.write_at.new.self IsShort (g.D.Disk.may_leave c.write_at.new.self) run0 c.write_at.ensures.time short1 in
-    let run2 = goes_on g.D.Disk.moment g.D.Disk.left_since c.args.disk.now c.write_at.new.self c.sync.new.self IsShort (g.D.Disk.may_leave c.sync.new.self) run1 c.sync.ensures.time short2 in
-    goes_on g.D.Disk.moment g.D.Disk.left_since c.args.disk.now c.sync.new.self c.write_at-2.new.self IsShort (g.D.Disk.may_leave c.write_at-2.new.self) run2 c.write_at-2.ensures.time short3
+    let short3 : (f : List ℕ) → g.D.Disk.may_leave c.write_at-2.new.self f → IsShort f =
+    short_write 8 1 (g.D.Disk.may_leave c.sync.new.self) (g.D.Disk.may_leave c.write_at-2.new.self) (omega arith)
+    short2 c.write_at-2.ensures.crash in
+    let run0 = started g.D.Disk.moment g.D.Disk.left_since c.args.disk.now IsShort
+    (λ f left. short0 f (g.met.D.Disk.only_now c.args.disk.now f left)) in
+    let run1 = goes_on g.D.Disk.moment g.D.Disk.left_since c.args.disk.now c.args.disk.now c.write_at.new.self IsShort
+    (g.D.Disk.may_leave c.write_at.new.self) run0 c.write_at.ensures.time short1 in
+    let run2 = goes_on g.D.Disk.moment g.D.Disk.left_since c.args.disk.now c.write_at.new.self c.sync.new.self IsShort
+    (g.D.Disk.may_leave c.sync.new.self) run1 c.sync.ensures.time short2 in
+    goes_on g.D.Disk.moment g.D.Disk.left_since c.args.disk.now c.sync.new.self c.write_at-2.new.self IsShort
+    (g.D.Disk.may_leave c.write_at-2.new.self) run2 c.write_at-2.ensures.time short3
 
 pub returns-in_err-sync-2-clause-any_moment : goal.returns-in_err-sync-2-clause-any_moment
 returns-in_err-sync-2-clause-any_moment g c = λ told new.
-    let short0 : (f : List ℕ) → g.D.Disk.may_leave c.args.disk.now f → IsShort f = λ f now. subst IsShort (sym (new.durable f now)) new.short in
-    let short1 : (f : List ℕ) → g.D.Disk.may_leave c.write_at.new.self f → IsShort f = short_write 0 8 (g.D.Disk.may_leave c.args.disk.now) (g.D.Disk.may_leave c.write_at.new.self) (omega arith) short0 c.write_at.ensures.crash in
+    let short0 : (f : List ℕ) → g.D.Disk.may_leave c.args.disk.now f → IsShort f = λ f now.
+    subst IsShort (sym (new.durable f now)) new.short in
+    let short1 : (f : List ℕ) → g.D.Disk.may_leave c.write_at.new.self f → IsShort f =
+    short_write 0 8 (g.D.Disk.may_leave c.args.disk.now) (g.D.Disk.may_leave c.write_at.new.self) (omega arith)
+    short0 c.write_at.ensures.crash in
     let short2 : (f : List ℕ) → g.D.Disk.may_leave c.sync.new.self f → IsShort f = λ f now. short1 f (c.sync.ensures.crash f now) in
-    let short3 : (f : List ℕ) → g.D.Disk.may_leave c.write_at-2.new.self f → IsShort f = short_write 8 1 (g.D.Disk.may_leave c.sync.new.self) (g.D.Disk.may_leave c.write_at-2.new.self) (omega arith) short2 c.write_at-2.ensures.crash in
-    let run0 = started g.D.Disk.moment g.D.Disk.left_since c.args.disk.now IsShort (λ f left. short0 f (g.met.D.Disk.only_now c.args.disk.now f left)) in
-    let run1 = goes_on g.D.Disk.moment g.D.Disk.left_since c.args.disk.now c.args.disk.now c.write_at.new.self IsShort (g.D.Disk.may_leave c.write_at.new.self) run0 c.write_at.ensures.time short1 in
-    let run2 = goes_on g.D.Disk.moment g.D.Disk.left_since c.args.disk.now c.write_at.new.self c.sync.new.self IsShort (g.D.Disk.may_leave c.sync.new.self) run1 c.sync.ensures.time short2 in
-    let run3 = goes_on g.D.Disk.moment g.D.Disk.left_since c.args.disk.now c.sync.new.self c.write_at-2.new.self IsShort (g.D.Disk.may_leave c.write_at-2.new.self) run2 c.write_at-2.ensures.time short3 in
-    goes_on g.D.Disk.moment g.D.Disk.left_since c.args.disk.now c.write_at-2.new.self c.sync-2.new.self IsShort (g.D.Disk.may_leave c.sync-2.new.self) run3 c.sync-2.ensures.time (λ f now. short3 f (c.sync-2.ensures.crash f now))
+    let short3 : (f : List ℕ) → g.D.Disk.may_leave c.write_at-2.new.self f → IsShort f =
+    short_write 8 1 (g.D.Disk.may_leave c.sync.new.self) (g.D.Disk.may_leave c.write_at-2.new.self) (omega arith)
+    short2 c.write_at-2.ensures.crash in
+    let run0 = started g.D.Disk.moment g.D.Disk.left_since c.args.disk.now IsShort
+    (λ f left. short0 f (g.met.D.Disk.only_now c.args.disk.now f left)) in
+    let run1 = goes_on g.D.Disk.moment g.D.Disk.left_since c.args.disk.now c.args.disk.now c.write_at.new.self IsShort
+    (g.D.Disk.may_leave c.write_at.new.self) run0 c.write_at.ensures.time short1 in
+    let run2 = goes_on g.D.Disk.moment g.D.Disk.left_since c.args.disk.now c.write_at.new.self c.sync.new.self IsShort
+    (g.D.Disk.may_leave c.sync.new.self) run1 c.sync.ensures.time short2 in
+    let run3 = goes_on g.D.Disk.moment g.D.Disk.left_since c.args.disk.now c.sync.new.self c.write_at-2.new.self IsShort
+    (g.D.Disk.may_leave c.write_at-2.new.self) run2 c.write_at-2.ensures.time short3 in
+    goes_on g.D.Disk.moment g.D.Disk.left_since c.args.disk.now c.write_at-2.new.self c.sync-2.new.self IsShort
+    (g.D.Disk.may_leave c.sync-2.new.self) run3 c.sync-2.ensures.time
+    (λ f now. short3 f (c.sync-2.ensures.crash f now))
 
 pub returns-clause-any_moment : goal.returns-clause-any_moment
 returns-clause-any_moment g c = λ told new.
-    let short0 : (f : List ℕ) → g.D.Disk.may_leave c.args.disk.now f → IsShort f = λ f now. subst IsShort (sym (new.durable f now)) new.short in
-    let short1 : (f : List ℕ) → g.D.Disk.may_leave c.write_at.new.self f → IsShort f = short_write 0 8 (g.D.Disk.may_leave c.args.disk.now) (g.D.Disk.may_leave c.write_at.new.self) (omega arith) short0 c.write_at.ensures.crash in
+    let short0 : (f : List ℕ) → g.D.Disk.may_leave c.args.disk.now f → IsShort f = λ f now.
+    subst IsShort (sym (new.durable f now)) new.short in
+    let short1 : (f : List ℕ) → g.D.Disk.may_leave c.write_at.new.self f → IsShort f =
+    short_write 0 8 (g.D.Disk.may_leave c.args.disk.now) (g.D.Disk.may_leave c.write_at.new.self) (omega arith)
+    short0 c.write_at.ensures.crash in
     let short2 : (f : List ℕ) → g.D.Disk.may_leave c.sync.new.self f → IsShort f = λ f now. short1 f (c.sync.ensures.crash f now) in
-    let short3 : (f : List ℕ) → g.D.Disk.may_leave c.write_at-2.new.self f → IsShort f = short_write 8 1 (g.D.Disk.may_leave c.sync.new.self) (g.D.Disk.may_leave c.write_at-2.new.self) (omega arith) short2 c.write_at-2.ensures.crash in
-    let run0 = started g.D.Disk.moment g.D.Disk.left_since c.args.disk.now IsShort (λ f left. short0 f (g.met.D.Disk.only_now c.args.disk.now f left)) in
-    let run1 = goes_on g.D.Disk.moment g.D.Disk.left_since c.args.disk.now c.args.disk.now c.write_at.new.self IsShort (g.D.Disk.may_leave c.write_at.new.self) run0 c.write_at.ensures.time short1 in
-    let run2 = goes_on g.D.Disk.moment g.D.Disk.left_since c.args.disk.now c.write_at.new.self c.sync.new.self IsShort (g.D.Disk.may_leave c.sync.new.self) run1 c.sync.ensures.time short2 in
-    let run3 = goes_on g.D.Disk.moment g.D.Disk.left_since c.args.disk.now c.sync.new.self c.write_at-2.new.self IsShort (g.D.Disk.may_leave c.write_at-2.new.self) run2 c.write_at-2.ensures.time short3 in
-    goes_on g.D.Disk.moment g.D.Disk.left_since c.args.disk.now c.write_at-2.new.self c.sync-2.new.self IsShort (g.D.Disk.may_leave c.sync-2.new.self) run3 c.sync-2.ensures.time (λ f now. short3 f (c.sync-2.ensures.crash f now))
+    let short3 : (f : List ℕ) → g.D.Disk.may_leave c.write_at-2.new.self f → IsShort f =
+    short_write 8 1 (g.D.Disk.may_leave c.sync.new.self) (g.D.Disk.may_leave c.write_at-2.new.self) (omega arith)
+    short2 c.write_at-2.ensures.crash in
+    let run0 = started g.D.Disk.moment g.D.Disk.left_since c.args.disk.now IsShort
+    (λ f left. short0 f (g.met.D.Disk.only_now c.args.disk.now f left)) in
+    let run1 = goes_on g.D.Disk.moment g.D.Disk.left_since c.args.disk.now c.args.disk.now c.write_at.new.self IsShort
+    (g.D.Disk.may_leave c.write_at.new.self) run0 c.write_at.ensures.time short1 in
+    let run2 = goes_on g.D.Disk.moment g.D.Disk.left_since c.args.disk.now c.write_at.new.self c.sync.new.self IsShort
+    (g.D.Disk.may_leave c.sync.new.self) run1 c.sync.ensures.time short2 in
+    let run3 = goes_on g.D.Disk.moment g.D.Disk.left_since c.args.disk.now c.sync.new.self c.write_at-2.new.self IsShort
+    (g.D.Disk.may_leave c.write_at-2.new.self) run2 c.write_at-2.ensures.time short3 in
+    goes_on g.D.Disk.moment g.D.Disk.left_since c.args.disk.now c.write_at-2.new.self c.sync-2.new.self IsShort
+    (g.D.Disk.may_leave c.sync-2.new.self) run3 c.sync-2.ensures.time
+    (λ f now. short3 f (c.sync-2.ensures.crash f now))

@@ -15,7 +15,8 @@ returns-in_err-lines-clause-printed c =
 pub returns-in_err-count-clause-printed : goal.returns-in_err-count-clause-printed
 returns-in_err-count-clause-printed c =
     let p = err_from_is_err_and c.from_residual-in_err-count.result c.from_residual-in_err-count.ensures.1 in
-    rw (p.1, p.2) (refused_schedule c.args.text.now c.in_ok-lines.lines.items _ c.in_ok-lines.ensures.value (c.in_err-count.ensures start c.in_ok-world.ensures))
+    rw (p.1, p.2) (refused_schedule c.args.text.now c.in_ok-lines.lines.items _ c.in_ok-lines.ensures.value
+    (c.in_err-count.ensures start c.in_ok-world.ensures))
 
 pub returns-clause-ran : goal.returns-clause-ran
 returns-clause-ran c =
@@ -38,4 +39,5 @@ returns-clause-printed c =
 pub push_outcomes-requires : goal.push_outcomes-requires
 push_outcomes-requires c =
     let led = c.in_ok-count.ensures start c.in_ok-world.ensures in
-    subst (CountsFrom 1) (sym (c.as_slice.ensures ∙ c.outcomes.ensures.settled led.1.0 led.1.2)) (c.outcomes.ensures.numbers led.1.0 led.1.2)
+    subst (CountsFrom 1) (sym (c.as_slice.ensures ∙ c.outcomes.ensures.settled led.1.0 led.1.2))
+    (c.outcomes.ensures.numbers led.1.0 led.1.2)

@@ -14,4 +14,5 @@ returns-in_err-take-clause-value c =
     c.passes-past.ensures c.in_err-take.ensures c.in-Some.ensures c.loop-line.invariant)
 
 pub returns-clause-value : goal.returns-clause-value
-returns-clause-value c = all_read c.loop-line.progress.lines.items c.args.cut c.loop-line.progress.number c.loop-line.progress.operations c.loop-line.rest _ c.in_default.ensures.0 c.loop-line.invariant
+returns-clause-value c = all_read c.loop-line.progress.lines.items c.args.cut c.loop-line.progress.number
+    c.loop-line.progress.operations c.loop-line.rest _ c.in_default.ensures.0 c.loop-line.invariant

@@ -10,4 +10,7 @@ pub returns-then-text-gt-SCRIPT_BYTES : goal.returns-then-text-gt-SCRIPT_BYTES
 returns-then-text-gt-SCRIPT_BYTES c = rw (script_cut c.args.text.now c.if-text-gt-SCRIPT_BYTES.true) c.lines.ensures
 
 pub returns-else-text-gt-SCRIPT_BYTES : goal.returns-else-text-gt-SCRIPT_BYTES
-returns-else-text-gt-SCRIPT_BYTES c = rw (script_whole c.args.text.now c.if-text-gt-SCRIPT_BYTES.false, ← c.without_last_feed.ensures) c.lines-else-text-gt-SCRIPT_BYTES.ensures
+returns-else-text-gt-SCRIPT_BYTES c = rw (
+  script_whole c.args.text.now c.if-text-gt-SCRIPT_BYTES.false,
+  ← c.without_last_feed.ensures,
+) c.lines-else-text-gt-SCRIPT_BYTES.ensures

@@ -7,5 +7,6 @@ use Rattle.smb_bytes.proofs.utf16.utf16_of.Goals as goal
 pub returns : goal.returns
 unfolding utf16
 returns c =
-    let end = YieldsList-end (YieldsList-from_chars c.args.text.now c.utf8.text cc) c.loop-character.yielded _ c.loop-character.yielded_by _ _ c.in-None.is c.next.ensures.steps in
+    let end = YieldsList-end (YieldsList-from_chars c.args.text.now c.utf8.text cc) c.loop-character.yielded _
+    c.loop-character.yielded_by _ _ c.in-None.is c.next.ensures.steps in
     c.finish.ensures ∙ c.loop-character.invariant ∙ ap (flat_map units_of) (sym (map-id c.loop-character.yielded) ∙ end.0)

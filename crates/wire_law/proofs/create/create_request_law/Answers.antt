@@ -4,7 +4,8 @@ use Rattle.std.proofs.lemmas.Grind.{common_steps}
 use Rattle.wire_defs.specs.Places.{number, bytes_at, gap_to_8}
 use Rattle.wire_defs.specs.Fault.{◌or_else◌, fields_fault, size_fault, part_fault}
 use Rattle.wire_defs.specs.declared.error.Part.TheVariants.{Name, Contexts}
-use Rattle.wire_defs.specs.Create.{create_request_table, create_request_in, create_request_whole, create_request_spelling, contexts_place, contexts_gap}
+use Rattle.wire_defs.specs.Create.{create_request_table, create_request_in, create_request_whole}
+use Rattle.wire_defs.specs.Create.{create_request_spelling, contexts_place, contexts_gap}
 use Rattle.wire_law.proofs.Rows.{table_again}
 use Rattle.wire_law.proofs.Faults.{no_part_fault, part_stands, part_told, none_of}
 use Rattle.wire_law.proofs.create.create_request_law.Goals as goal
@@ -26,8 +27,10 @@ returns-clause-given c = λ m none.
     record { fixed = grind (arith, common_steps); name = name; contexts = contexts }
 
 -- where there are contexts, their place is the one that is told
-told_place : (empty : Bool) (name contexts gap total : ℕ) → (empty ≡ true → contexts ≡ 0) → 120 + name + (if empty then 0 else gap) + contexts ≤ total
-    → (contexts ≡ 0) ⊎ ((if empty then 0 else 120 + name + gap) ≡ 120 + name + (if empty then 0 else gap)) × (120 ≤ 120 + name + (if empty then 0 else gap)) × (120 + name + (if empty then 0 else gap) + contexts ≤ total)
+told_place : (empty : Bool) (name contexts gap total : ℕ) → (empty ≡ true → contexts ≡ 0)
+    → 120 + name + (if empty then 0 else gap) + contexts ≤ total
+    → (contexts ≡ 0) ⊎ ((if empty then 0 else 120 + name + gap) ≡ 120 + name + (if empty then 0 else gap))
+    × (120 ≤ 120 + name + (if empty then 0 else gap)) × (120 + name + (if empty then 0 else gap) + contexts ≤ total)
 told_place true name contexts gap total none inside = inl (none refl)
 told_place false name contexts gap total none inside = inr (refl, omega arith, inside)
 
@@ -43,7 +46,9 @@ returns-clause-again c = λ header rest v e fit.
     let len : number 4 m 116 ≡ length v.contexts = grind (arith, common_steps) in
     let bytes : bytes_at (length v.contexts) m at ≡ v.contexts = grind (arith, common_steps) in
     let inside : at + length v.contexts ≤ length m = grind (arith, common_steps) in
-    let place : (length v.contexts ≡ 0) ⊎ (contexts_place v ≡ at) × (120 ≤ at) × (at + length v.contexts ≤ length m) = told_place (length v.contexts == 0) (length v.name) (length v.contexts) (gap_to_8 (length v.name)) (length m) (none_where (length v.contexts)) inside in
+    let place : (length v.contexts ≡ 0) ⊎ (contexts_place v ≡ at) × (120 ≤ at) × (at + length v.contexts ≤ length m) =
+    told_place (length v.contexts == 0) (length v.name) (length v.contexts) (gap_to_8 (length v.name)) (length m)
+    (none_where (length v.contexts)) inside in
     record {
       fixed = grind (arith, common_steps);
       name = record { bytes = grind (arith, common_steps); whole = grind (arith, common_steps); place = grind (arith, common_steps) };

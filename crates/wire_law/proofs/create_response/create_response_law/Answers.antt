@@ -32,5 +32,7 @@ returns-clause-again c = λ header rest v e fit.
     let contexts_inside : 152 + length v.contexts ≤ length m = grind (arith, common_steps) in
     record {
       fixed = grind (arith, common_steps);
-      contexts = rw contexts_told (part_told m v.contexts 152 (told (length v.contexts) 152) (number 4 m 148) 152 contexts_len contexts_bytes (told_stands (length v.contexts) 152 152 (length m) (omega arith) contexts_inside));
+      contexts = rw contexts_told (part_told m v.contexts 152 (told (length v.contexts) 152) (number 4 m 148) 152
+          contexts_len contexts_bytes (told_stands (length v.contexts) 152 152 (length m) (omega arith)
+          contexts_inside));
     }

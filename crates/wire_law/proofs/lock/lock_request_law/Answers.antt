@@ -25,5 +25,10 @@ returns-clause-again c = λ header rest v e fit.
     let row = table_again (lock_request_whole v (lock_count v)) header rest 64 e fit.fits in
     record {
       fixed = grind (arith, common_steps);
-      locks = record { bytes = grind (arith, common_steps); whole = grind (arith, common_steps); some = grind (arith, common_steps, fit.some); place = grind (arith, common_steps) };
+      locks = record {
+        bytes = grind (arith, common_steps);
+        whole = grind (arith, common_steps);
+        some = grind (arith, common_steps, fit.some);
+        place = grind (arith, common_steps);
+      };
     }

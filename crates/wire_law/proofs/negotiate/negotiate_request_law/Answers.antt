@@ -4,7 +4,8 @@ use Rattle.wire_defs.specs.Places.{number, bytes_at}
 use Rattle.wire_defs.specs.Fault.{◌or_else◌, fields_fault, size_fault, count_fault}
 use Rattle.wire_defs.specs.declared.error.Part.TheVariants.{Dialects}
 use Rattle.wire_defs.specs.Contexts.{contexts_fault, contexts_gap, contexts_told}
-use Rattle.wire_defs.specs.Negotiate.{dialect_count, negotiate_request_table, negotiate_request_in, negotiate_request_whole, negotiate_request_spelling}
+use Rattle.wire_defs.specs.Negotiate.{dialect_count, negotiate_request_table, negotiate_request_in}
+use Rattle.wire_defs.specs.Negotiate.{negotiate_request_whole, negotiate_request_spelling}
 use Rattle.wire_law.proofs.Rows.{table_again}
 use Rattle.wire_law.proofs.Faults.{no_count_fault, list_stands, none_of}
 use Rattle.wire_law.proofs.ContextLists.{no_list_fault, contexts_stand, contexts_again}
@@ -18,7 +19,8 @@ returns-clause-whole c = λ m v p.
 
 pub returns-clause-given : goal.returns-clause-given
 returns-clause-given c = λ m none.
-    let fields = fields_fault m (negotiate_request_table (negotiate_request_in m) (number 2 m 66) (number 4 m 92)) or_else size_fault m 36 in
+    let fields = fields_fault m (negotiate_request_table (negotiate_request_in m) (number 2 m 66) (number 4 m 92))
+    or_else size_fault m 36 in
     let front = fields or_else count_fault m 100 (number 2 m 66) 2 Dialects in
     let split = none_of front (contexts_fault m (number 4 m 92) (number 2 m 96) 100) none in
     let earlier = none_of fields (count_fault m 100 (number 2 m 66) 2 Dialects) split.0 in
@@ -39,6 +41,11 @@ returns-clause-again c = λ header rest v e fit.
     let inside : behind + contexts_gap count behind + length v.contexts ≤ length m = grind (arith, common_steps) in
     record {
       fixed = grind (arith, common_steps);
-      dialects = record { bytes = grind (arith, common_steps); whole = grind (arith, common_steps); some = grind (arith, common_steps, fit.some); place = grind (arith, common_steps) };
+      dialects = record {
+        bytes = grind (arith, common_steps);
+        whole = grind (arith, common_steps);
+        some = grind (arith, common_steps, fit.some);
+        place = grind (arith, common_steps);
+      };
       contexts = rw same (contexts_again m v.contexts count behind (number 4 m 92) 100 fit.contexts told (omega arith) bytes inside);
     }

@@ -4,7 +4,8 @@ use Rattle.wire_defs.specs.Places.{number, bytes_at}
 use Rattle.wire_defs.specs.Fault.{◌or_else◌, fields_fault, size_fault, part_fault}
 use Rattle.wire_defs.specs.declared.error.Part.TheVariants.{Security}
 use Rattle.wire_defs.specs.Contexts.{contexts_fault, contexts_gap, contexts_told}
-use Rattle.wire_defs.specs.Negotiate.{negotiate_response_table, negotiate_response_in, negotiate_response_whole, negotiate_response_spelling}
+use Rattle.wire_defs.specs.Negotiate.{negotiate_response_table, negotiate_response_in, negotiate_response_whole}
+use Rattle.wire_defs.specs.Negotiate.{negotiate_response_spelling}
 use Rattle.wire_law.proofs.Rows.{table_again}
 use Rattle.wire_law.proofs.Faults.{no_part_fault, part_stands, none_of}
 use Rattle.wire_law.proofs.ContextLists.{no_list_fault, contexts_stand, contexts_again}
@@ -18,7 +19,8 @@ returns-clause-whole c = λ m v p.
 
 pub returns-clause-given : goal.returns-clause-given
 returns-clause-given c = λ m none.
-    let fields = fields_fault m (negotiate_response_table (negotiate_response_in m) (number 2 m 120) (number 4 m 124)) or_else size_fault m 65 in
+    let fields = fields_fault m (negotiate_response_table (negotiate_response_in m) (number 2 m 120) (number 4 m 124))
+    or_else size_fault m 65 in
     let front = fields or_else part_fault m (number 2 m 120) (number 2 m 122) 128 Security in
     let split = none_of front (contexts_fault m (number 4 m 124) (number 2 m 70) 128) none in
     let earlier = none_of fields (part_fault m (number 2 m 120) (number 2 m 122) 128 Security) split.0 in

@@ -6,7 +6,8 @@ use Rattle.wire_law.proofs.WrittenOffers.{contexts_again, offer_whole, offer_aga
 use Rattle.wire_law.proofs.offer.offer_law.Goals as goal
 
 pub returns-clause-list : goal.returns-clause-list
-returns-clause-list c = λ v salt w. ap (λ l. contexts_end l 0 (offer_count v)) (sym (append-nil (offer_spelling v salt))) ∙ (contexts_again v salt [] w).1
+returns-clause-list c = λ v salt w. ap (λ l. contexts_end l 0 (offer_count v))
+    (sym (append-nil (offer_spelling v salt))) ∙ (contexts_again v salt [] w).1
 
 pub returns-clause-whole : goal.returns-clause-whole
 returns-clause-whole c = offer_whole

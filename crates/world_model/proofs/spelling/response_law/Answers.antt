@@ -10,7 +10,9 @@ use Rattle.world_model.proofs.spelling.response_law.Goals as goal
 
 pub returns-clause-header : goal.returns-clause-header
 unfolding response_to
-returns-clause-header c = λ message kind reply l u. c.header_law.ensures.again (response_body reply) (response_header (request_header message kind) (status_of reply)) (response_header_fits message kind (status_of reply) l (status_fits kind reply u))
+returns-clause-header c = λ message kind reply l u. c.header_law.ensures.again (response_body reply)
+    (response_header (request_header message kind) (status_of reply))
+    (response_header_fits message kind (status_of reply) l (status_fits kind reply u))
 
 pub returns-clause-read : goal.returns-clause-read
 unfolding response_to

@@ -11,8 +11,11 @@ invariant_of-self c =
     let n = c.min-count.result in
     let now = sym c.append.ensures.items in (
       subst (IsAscending 0) now (IsAscending-append 0 next n xs (omega arith) c.self.invariant.0 c.self.invariant.1),
-      subst (AllLess (next + n)) now (AllLess-append (next + n) xs (ids_from next n) (AllLess-weaken next (next + n) xs (omega arith) c.self.invariant.1) (AllLess-ids_from next n (next + n) (omega arith))),
-      (let counts = ap length c.append.ensures.items ∙ (length-append xs (ids_from next n) ∙ ap (λ k. length xs + k) (length-ids_from next n)) in
+      subst (AllLess (next + n)) now (AllLess-append (next + n) xs (ids_from next n)
+          (AllLess-weaken next (next + n) xs (omega arith) c.self.invariant.1)
+          (AllLess-ids_from next n (next + n) (omega arith))),
+      (let counts = ap length c.append.ensures.items
+          ∙ (length-append xs (ids_from next n) ∙ ap (λ k. length xs + k) (length-ids_from next n)) in
           let few = c.self.invariant.2 in omega arith),
       (let room = c.self.invariant.3 in let same = c.append.ensures.capacity in omega arith),
     )

@@ -18,7 +18,8 @@ pub invariant_of-self : goal.invariant_of-self
 invariant_of-self c =
     let xs = c.self.inside.ids.items in
     let n = c.from-count.result in
-    let left = left_is c.args.first n c.place_of-place.result xs c.cut.new.ids.items c.self.invariant.0 c.place_of-place.ensures (c.in-None.ensures.held refl) c.cut.ensures.items in (
+    let left = left_is c.args.first n c.place_of-place.result xs c.cut.new.ids.items c.self.invariant.0
+    c.place_of-place.ensures (c.in-None.ensures.held refl) c.cut.ensures.items in (
       subst (IsAscending 0) (sym left) (IsAscending-filter _ 0 xs c.self.invariant.0),
       subst (AllLess c.self.inside.next) (sym left) (AllLess-filter _ c.self.inside.next xs c.self.invariant.1),
       (let fewer = length-without c.args.first n xs in let counts = ap length left in let few = c.self.invariant.2 in omega arith),
@@ -31,5 +32,7 @@ returns-in-None-clause-taken c =
     let n = c.from-count.result in
     let counts : n ≡ counted c.args.charge = let most = c.max.ensures in let same = c.from-count.ensures in omega arith in (
       (λ i. outside ((sym c.self.view_is) i).held c.args.first ((sym counts) i)) ∙ sym c.in-None.ensures.found,
-      take_is c.args.first c.args.charge n c.place_of-place.result c.self.inside.next xs c.cut.new.ids.items c.args.self.now c.self.view_is counts c.self.invariant.0 c.place_of-place.ensures (c.in-None.ensures.held refl) c.cut.ensures.items,
+      take_is c.args.first c.args.charge n c.place_of-place.result c.self.inside.next xs c.cut.new.ids.items
+          c.args.self.now c.self.view_is counts c.self.invariant.0 c.place_of-place.ensures
+          (c.in-None.ensures.held refl) c.cut.ensures.items,
     )

@@ -9,5 +9,6 @@ loop-byte-preserved c =
     let next = c.next.ensures.state ∙ ap advanced c.loop-byte.invariant.state in
     record {
       state = next ∙ sym (advanced_by-more c.args.self.now i);
-      bytes = enciphered_more c.args.self.now c.args.bytes.now c.loop-byte.bytes i c.next.result (omega arith) c.loop-byte.invariant.bytes (c.next.ensures.byte ∙ ap stream_byte next);
+      bytes = enciphered_more c.args.self.now c.args.bytes.now c.loop-byte.bytes i c.next.result (omega arith)
+          c.loop-byte.invariant.bytes (c.next.ensures.byte ∙ ap stream_byte next);
     }

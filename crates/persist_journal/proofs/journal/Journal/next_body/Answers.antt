@@ -14,11 +14,14 @@ returns-in-Ok-clause-in_order g c = λ told bodies settled.
     let s = subst (λ j. Settled g.D.Disk.seen g.D.Disk.may_leave j bodies) (sym c.self.view_is) settled in
     let e = begun g.D.Disk.seen g.D.Disk.may_leave bodies _ s c.self.inside.gate refl c.if-self.false in
     let is = c.in-Ok.ensures.body told (front (take c.self.inside.taken bodies)) (get_or bodies c.self.inside.taken []) _ e in
-    let out = handed g.D.Disk.seen g.D.Disk.may_leave bodies _ _ c.in-Ok.body s (λ same. c.if-self.false (omega arith)) is (c.read_body.ensures.quiet.same told) c.read_body.ensures.quiet.no_more refl refl refl refl (omega arith) in
+    let out = handed g.D.Disk.seen g.D.Disk.may_leave bodies _ _ c.in-Ok.body s (λ same. c.if-self.false (omega arith))
+    is (c.read_body.ensures.quiet.same told) c.read_body.ensures.quiet.no_more refl refl refl refl (omega arith) in
     (ap (λ j. drop j.taken bodies) (sym c.self.view_is) ∙ out.0, out.1)
 
 pub returns-in-Err-EndsEarly-clause-in_order : goal.returns-in-Err-EndsEarly-clause-in_order
 returns-in-Err-EndsEarly-clause-in_order g c = λ told bodies settled.
     let s = subst (λ j. Settled g.D.Disk.seen g.D.Disk.may_leave j bodies) (sym c.self.view_is) settled in
     let e = begun g.D.Disk.seen g.D.Disk.may_leave bodies _ s c.self.inside.gate refl c.if-self.false in
-    gives_none (get_or bodies c.self.inside.taken []) c.in-Err-EndsEarly.field-0 c.in-Err-EndsEarly.field-0-is (c.in-Err-EndsEarly.ensures.body told (front (take c.self.inside.taken bodies)) (get_or bodies c.self.inside.taken []) _ e)
+    gives_none (get_or bodies c.self.inside.taken []) c.in-Err-EndsEarly.field-0 c.in-Err-EndsEarly.field-0-is
+    (c.in-Err-EndsEarly.ensures.body told (front (take c.self.inside.taken bodies))
+    (get_or bodies c.self.inside.taken []) _ e)

@@ -17,8 +17,18 @@ loop-round-preserved c = λ s h.
 
 pub returns-clause-ok : goal.returns-clause-ok
 returns-clause-ok c = λ s h.
-    let e : c.loop-round.round - c.len-settled.result ≡ length s.taken - length s.settled = (let t = ap length h.taken in let u = ap length h.settled in let k = c.args.self.now.client.ops.ok in let a = c.loop-round.auto in omega (arith, c.loop-round-test.false, c.len-taken.ensures, c.len-settled.ensures, t, u)) in
+    let e : c.loop-round.round - c.len-settled.result ≡ length s.taken - length s.settled =
+    (let t = ap length h.taken in let u = ap length h.settled in let k = c.args.self.now.client.ops.ok in
+    let a = c.loop-round.auto in omega (
+      arith,
+      c.loop-round-test.false,
+      c.len-taken.ensures,
+      c.len-settled.ensures,
+      t,
+      u,
+    )) in
     subst (λ n. WorldHolds c.loop-round.self (rounds n s)) e (c.loop-round.invariant s h)
 
 pub returns-clause-all : goal.returns-clause-all
-returns-clause-all c = λ s h. let k = settle_settles s h.shape in all_settled (settle s) (rounds_shape (length s.taken - length s.settled) s h.shape) k.0
+returns-clause-all c = λ s h. let k = settle_settles s h.shape in
+    all_settled (settle s) (rounds_shape (length s.taken - length s.settled) s h.shape) k.0

@@ -10,5 +10,6 @@ request-requires c =
     let k : kind_at c.args.self.now.ops.items (c.args.index + 1) ≡ c.index.result.now = at_default l ∙ sym c.index.ensures in
     subst (λ v. is_in_limits v ≡ true) k h
   where
-    at_default : c.args.index < length c.args.self.now.ops.items → kind_at c.args.self.now.ops.items (c.args.index + 1) ≡ get_or c.args.self.now.ops.items c.args.index c.index.result.now
+    at_default : c.args.index < length c.args.self.now.ops.items → kind_at c.args.self.now.ops.items (c.args.index + 1)
+        ≡ get_or c.args.self.now.ops.items c.args.index c.index.result.now
     at_default l = grind (arith, common_steps)
