@@ -1,0 +1,14 @@
+pub mod Settings
+pub mod Messages
+pub mod Ends
+pub mod Negotiate
+pub mod Hearing
+pub mod Related
+pub mod Logon
+pub mod Answering
+pub mod Connection
+pub mod Sending
+pub mod Dialog
+pub mod World
+pub mod Events
+pub mod Statements

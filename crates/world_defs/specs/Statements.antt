@@ -1,0 +1,129 @@
+-- What is said of runs over bytes.
+use Rattle.std.specs.Prelude.{◌≡◌, ℕ, ◌⊎◌, true, false, List, [], ◌∷◌, length, Some, None, Ok, slice_get}
+use Rattle.exchange_defs.specs.Commands.{has_bit}
+use Rattle.exchange_defs.specs.Network.{Event, Push, Sent}
+use Rattle.exchange_defs.specs.Network.{answer, run, start}
+use Rattle.session_defs.specs.declared.material.Signer.{Signer}
+use Rattle.session_defs.specs.Chain.{chain, hashed, Collide}
+use Rattle.session_defs.specs.Derivation.{signing_key}
+use Rattle.session_defs.specs.Signing.{verifies}
+use Rattle.world_defs.specs.Settings.{WorldSettings, values_of}
+use Rattle.world_defs.specs.Ends.{ServerEnd, nonce_at}
+use Rattle.world_defs.specs.Hearing.{Checked, Frame, check_frame, signed_by, is_negotiate, is_setup}
+use Rattle.world_defs.specs.Answering.{Ending, Seal}
+use Rattle.world_defs.specs.World.{World, paid, step_at}
+use Rattle.world_defs.specs.Events.{ByteEvent, Plain, bytes_happen, bytes_run, bytes_start}
+
+-- ---- negotiation: a client accepts on the server's own transcript, or two lists have one hash, or the response is forged
+
+abbrev pub signer_of_ending : Ending → Signer
+signer_of_ending a = record { key = signing_key a.base a.chain; algorithm = a.algorithm }
+
+-- the response verifies under the key of this base key and this chain value
+abbrev pub IsVerified : Ending → Type 0
+IsVerified a = verifies (signer_of_ending a) a.message ≡ true
+
+-- the chain value is that of the transcript, which has five messages
+pub record IsWhole (a : Ending) : Type 0 where
+  pub five : length a.transcript ≡ 5
+  pub value : a.chain ≡ chain a.transcript
+
+-- base key, chain value and message are the same
+pub record IsSame (e a : Ending) : Type 0 where
+  pub base : e.base ≡ a.base
+  pub value : e.chain ≡ a.chain
+  pub message : e.message ≡ a.message
+
+pub data Agreed (made : List Ending) (a : Ending) : Type 0 where
+  AsMade : (i : ℕ) (e : Ending) → slice_get made i ≡ Some e → e.transcript ≡ a.transcript → Agreed made a
+  Collides : (i : ℕ) (e : Ending) → slice_get made i ≡ Some e → Collide (hashed e.transcript) (hashed a.transcript) → Agreed made a
+  IsForged : ((i : ℕ) (e : Ending) → slice_get made i ≡ Some e → IsSame e a → ⊥) → Agreed made a
+
+pub record IsNegotiated (w : World) (a : Ending) : Type 0 where
+  pub whole : IsWhole a
+  pub verified : IsVerified a
+  pub agreed : Agreed w.made a
+
+-- Of every accepted final response, and every one that was made is whole.
+pub record Negotiated (w : World) : Type 0 where
+  pub accepted : (i : ℕ) (a : Ending) → slice_get w.accepted i ≡ Some a → IsNegotiated w a
+  pub made : (i : ℕ) (e : Ending) → slice_get w.made i ≡ Some e → IsWhole e
+
+-- over every run, tampered with or not
+abbrev pub Negotiation : Type 0
+Negotiation = (z : WorldSettings) (events : List ByteEvent) → Negotiated (bytes_run z events (bytes_start z))
+
+-- ---- runs without tampering
+
+unfoldable pub plainly : List Event → List ByteEvent
+plainly [] = []
+plainly (e ∷ es) = Plain e ∷ plainly es
+
+abbrev pub plain_run : WorldSettings → List Event → World
+plain_run z events = bytes_run z (plainly events) (bytes_start z)
+
+-- ---- nonces: no two messages are sealed under one in a session and a direction
+
+pub record IsOneNonce (a b : Seal) : Type 0 where
+  pub session : a.session ≡ b.session
+  pub direction : a.to_server ≡ b.to_server
+  pub bytes : nonce_at a.channel a.counter ≡ nonce_at b.channel b.counter
+
+abbrev pub IsToClient : Seal → Type 0
+IsToClient a = a.to_server ≡ false
+
+abbrev pub NoncesOnce : World → Type 0
+NoncesOnce w = (i j : ℕ) (a b : Seal) → slice_get w.sealings i ≡ Some a → slice_get w.sealings j ≡ Some b → IsOneNonce a b → i ≡ j
+
+abbrev pub NoncesToClientOnce : World → Type 0
+NoncesToClientOnce w =
+    (i j : ℕ) (a b : Seal) → slice_get w.sealings i ≡ Some a → slice_get w.sealings j ≡ Some b → IsToClient a → IsOneNonce a b → i ≡ j
+
+-- both ways without tampering, and to the client over every run
+pub record Nonces : Type 0 where
+  pub plain : (z : WorldSettings) (events : List Event) → NoncesOnce (plain_run z events)
+  pub to_client : (z : WorldSettings) (events : List ByteEvent) → NoncesToClientOnce (bytes_run z events (bytes_start z))
+
+-- ---- in step: without tampering the values are those of a run of the model of values
+
+-- a pick that can't be paid for goes out in neither
+abbrev pub value_event : World → Event → Event
+value_event w (Push k slotless pick) = Push k slotless (paid w k slotless pick)
+value_event w e = e
+
+unfoldable pub value_events : WorldSettings → World → List Event → List Event
+value_events z w [] = []
+value_events z w (e ∷ es) = value_event w e ∷ value_events z (bytes_happen z w (Plain e)) es
+
+abbrev pub IsInStep : WorldSettings → List Event → Type 0
+IsInStep z events = (plain_run z events).values ≡ run (value_events z (bytes_start z) events) (start (values_of z))
+
+-- ---- each end hears what the other sent
+
+-- the front of what goes up is heard as the message that it was made for, and its answer is that of the model of values
+abbrev pub RequestsAreHeard : WorldSettings → World → Type 0
+RequestsAreHeard z w =
+    (k : ℕ) (b : List ℕ) (bs : List (List ℕ)) (x : Sent) (xs : List Sent) →
+    (w.values.conns k).server_open ≡ true → (w.wires k).up ≡ b ∷ bs → (w.values.conns k).up ≡ x ∷ xs →
+    (step_at z w k b).taken ≡ Some (record { message = x.message; answer = answer w.values x })
+
+-- ---- behind a logon nothing is taken unsigned and unsealed but a SESSION_SETUP, and a NEGOTIATE, which no connection hears twice
+
+abbrev pub IsGuarded : ServerEnd → Frame → Checked → Type 0
+IsGuarded f x c =
+    (x.sealed ≡ true) ⊎ (has_bit c.header.flags 8 ≡ true) × (signed_by f.keys c.raw ≡ true)
+    ⊎ (is_setup c.header ≡ true) ⊎ (is_negotiate c.header ≡ true)
+
+abbrev pub FramesAreGuarded : Type 0
+FramesAreGuarded =
+    (f : ServerEnd) (frame : List ℕ) (x : Frame) (i : ℕ) (c : Checked) →
+    check_frame f frame ≡ Ok x → slice_get x.messages i ≡ Some c → c.fault ≡ None → IsGuarded f x c
+
+-- ---- the lists of both levels are as long as one another, so that an absent message is told of bytes, over every run
+
+pub record AreAlong (w : World) : Type 0 where
+  pub up : (k : ℕ) → length (w.wires k).up ≡ length (w.values.conns k).up
+  pub down : (k : ℕ) → length (w.wires k).down ≡ length (w.values.conns k).down
+
+abbrev pub ListsAreAlong : Type 0
+ListsAreAlong = (z : WorldSettings) (events : List ByteEvent) → AreAlong (bytes_run z events (bytes_start z))
