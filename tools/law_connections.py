@@ -104,7 +104,7 @@ EVENTS = [
     Event("AllDropped", "the server starts anew", "", conns="(λ q. server_off (conns q))"),
     Event("Outcomes", "operations that aren't outstanding settle without a reply", "(new : ℕ → Outcome)",
           [("same", "(h : ℕ) → is_unsettled (c.outcome h) ≡ false → new h ≡ c.outcome h"),
-           ("still", "(h : ℕ) → is_unsettled (new h) ≡ false → c.on h ≡ None")],
+           ("still", "(h : ℕ) → is_unsettled (new h) ≡ false → c.outstanding_on h ≡ None")],
           c="(record c { outcome = new })",
           parts={
               "has_open": "λ p. let old = i.has_open p in let s = same (create_at c p) in grind arith",
@@ -154,38 +154,38 @@ EVENTS = [
     Event("Leave", "the session ends", "", c="(end_session c)", conns="(λ q. client_off (conns q))",
           parts={"first": "λ j n p x h t ao b. " + UP + "let old = i.first j n p x h' t in grind arith"}),
     Event("Answered", "an operation is answered and isn't settled", "(k g : ℕ)",
-          [("on", "c.on g ≡ Some k"), ("none", "copies g (conns k) ≡ 0"), ("idle", "acts_once (c.op g) ≡ true → c.before g ≡ false → c.asking g ≡ false → a g ≡ 0")],
+          [("on", "c.outstanding_on g ≡ Some k"), ("none", "copies g (conns k) ≡ 0"), ("idle", "acts_once (c.op g) ≡ true → c.unanswered g ≡ false → c.asks_attach g ≡ false → a g ≡ 0")],
           c="(answered c g)", parts={"unsent": "λ p. let old = i.unsent p in let q = idle in grind arith"}),
-    Event("Opens", "a create that is outstanding names its open", "(g id : ℕ)", [("create", "makes_open (c.op g) ≡ true"), ("out", "is_some (c.on g) ≡ true")],
-          c="(record c { file = put c.file g id; attached = put c.attached g c.number })",
+    Event("Opens", "a create that is outstanding names its open", "(g id : ℕ)", [("create", "makes_open (c.op g) ≡ true"), ("out", "is_some (c.outstanding_on g) ≡ true")],
+          c="(record c { file = put c.file g id; attached = put c.attached g c.session_number })",
           parts={"bodies": "λ j n p x h t. let old = i.bodies j n p x h t in let op = i.has_open p old.0 in let s = i.settled g in let r = request_of_create (c.op p) (guid_for c p) (c.file (create_at c p)) id (c.slot_of p) (c.number_of p) in let own = create_of_create p (c.op p) in grind arith"}),
     Event("Joined", "a DH2C attached its open", "(k g : ℕ)",
-          [("on", "c.on g ≡ Some k"), ("none", "copies g (conns k) ≡ 0"), ("idle", "acts_once (c.op g) ≡ true → c.before g ≡ false → c.asking g ≡ false → a g ≡ 0")],
+          [("on", "c.outstanding_on g ≡ Some k"), ("none", "copies g (conns k) ≡ 0"), ("idle", "acts_once (c.op g) ≡ true → c.unanswered g ≡ false → c.asks_attach g ≡ false → a g ≡ 0")],
           c="(joined c g)", parts={"unsent": "λ p. let old = i.unsent p in let q = idle in grind arith"}),
-    Event("Shuts", "a close shut its open", "(create : ℕ)", c="(record c { shut = put c.shut create true })"),
+    Event("Shuts", "a close shut its open", "(create : ℕ)", c="(record c { closed_ok = put c.closed_ok create true })"),
     Event("Fills", "a lock met a full disk", "(create slot : ℕ)", c="(record c { full = put2 c.full create slot true })"),
-    Event("Retried", "a slot's lock goes out again", "(create slot : ℕ)", c="(record c { retried = put2 c.retried create slot c.number })"),
+    Event("Retried", "a slot's lock goes out again", "(create slot : ℕ)", c="(record c { retried = put2 c.retried create slot c.session_number })"),
     Event("Finished", "no session can be had", "(why : Why)", [("dead", "c.live ≡ false")], c="(finish c why)",
-          parts={"settled": "λ p h. finished_off c conns dead i.on_ready i.ready p (c.on p) refl"}),
+          parts={"settled": "λ p h. finished_off c conns dead i.on_ready i.ready p (c.outstanding_on p) refl"}),
     Event("Settle", "a reply settles its operation", "(k g place : ℕ) (outcome : Outcome)",
-          [("on", "c.on g ≡ Some k"), ("none", "copies g (conns k) ≡ 0"), ("firm", "is_unsettled outcome ≡ false")],
+          [("on", "c.outstanding_on g ≡ Some k"), ("none", "copies g (conns k) ≡ 0"), ("firm", "is_unsettled outcome ≡ false")],
           c="(settled_by c g outcome place)",
           parts={
               "has_open": "λ p. let old = i.has_open p in let s = i.settled g in grind arith",
               "asked_open": "λ p. let old = i.asked_open p in let s = i.settled g in grind arith",
           }),
     Event("Send", "an operation goes out itself", "(k g n0 : ℕ) (m : Message)",
-          [("ready", "c.ready k ≡ true"), ("none", "c.on g ≡ None"), ("above", "0 < g"), ("within", "g ≤ c.taken"), ("pending", "is_unsettled (c.outcome g) ≡ true"), ("may", "opens c g ≡ true"),
+          [("ready", "c.ready k ≡ true"), ("none", "c.outstanding_on g ≡ None"), ("above", "0 < g"), ("within", "g ≤ c.taken"), ("pending", "is_unsettled (c.outcome g) ≡ true"), ("may", "opens c g ≡ true"),
            ("lower", "(n : ℕ) → 0 < n → n < g → create_at c n ≡ create_at c g → (shuts_open (c.op g) || shuts_open (c.op n)) ≡ true → is_unsettled (c.outcome n) ≡ false"),
            ("sent", "c.sent g ≡ true"), ("body", "m.command ≡ its_request (c.op g) (guid_for c g) (c.file (create_at c g)) (c.slot_of g) (c.number_of g)"),
-           ("who", "m.client ≡ c.who.guid"), ("fault", "m.fault ≡ None"), ("idle", "acts_once (c.op g) ≡ true → c.before g ≡ false → a g ≡ 0")],
+           ("who", "m.client ≡ c.who.guid"), ("fault", "m.fault ≡ None"), ("idle", "acts_once (c.op g) ≡ true → c.unanswered g ≡ false → a g ≡ 0")],
           c="(put_out c k g)", conns="(put conns k (send_up (conns k) (ForOp g) m n0))"),
-    Event("Ask", "a DH2C goes out in an operation's place", "(k g n0 : ℕ) (m : Message)", [("ready", "c.ready k ≡ true"), ("none", "c.on g ≡ None"), ("above", "0 < g"), ("within", "g ≤ c.taken"), ("pending", "is_unsettled (c.outcome g) ≡ true"), ("may", "opens c g ≡ true"),
+    Event("Ask", "a DH2C goes out in an operation's place", "(k g n0 : ℕ) (m : Message)", [("ready", "c.ready k ≡ true"), ("none", "c.outstanding_on g ≡ None"), ("above", "0 < g"), ("within", "g ≤ c.taken"), ("pending", "is_unsettled (c.outcome g) ≡ true"), ("may", "opens c g ≡ true"),
            ("lower", "(n : ℕ) → 0 < n → n < g → create_at c n ≡ create_at c g → (shuts_open (c.op g) || shuts_open (c.op n)) ≡ true → is_unsettled (c.outcome n) ≡ false")],
           c="(asked c k g)", conns="(put conns k (send_up (conns k) (ForAttach g) m n0))"),
-    Event("Say", "a reply is on its way", "(k : ℕ) (y0 : Received)", [("stands", "(conns k).client_open ≡ true"), ("none", "copies (op_of y0.token) (conns k) ≡ 0"), ("on", "0 < op_of y0.token → c.on (op_of y0.token) ≡ Some k"),
-           ("own", "(g : ℕ) → y0.token ≡ ForOp g → c.asking g ≡ false"), ("attach", "(g : ℕ) → y0.token ≡ ForAttach g → c.asking g ≡ true"), ("dialog", "op_of y0.token ≡ 0 → c.ready k ≡ false"),
-           ("sent", "(g : ℕ) → y0.token ≡ ForOp g → c.sent g ≡ true"), ("deleted", "(g : ℕ) → y0.token ≡ ForOp g → acts_once (c.op g) ≡ true → y0.reply.status ≡ user_session_deleted → c.before g ≡ false → a g ≡ 0")],
+    Event("Say", "a reply is on its way", "(k : ℕ) (y0 : Received)", [("stands", "(conns k).client_open ≡ true"), ("none", "copies (op_of y0.token) (conns k) ≡ 0"), ("on", "0 < op_of y0.token → c.outstanding_on (op_of y0.token) ≡ Some k"),
+           ("own", "(g : ℕ) → y0.token ≡ ForOp g → c.asks_attach g ≡ false"), ("attach", "(g : ℕ) → y0.token ≡ ForAttach g → c.asks_attach g ≡ true"), ("dialog", "op_of y0.token ≡ 0 → c.ready k ≡ false"),
+           ("sent", "(g : ℕ) → y0.token ≡ ForOp g → c.sent g ≡ true"), ("deleted", "(g : ℕ) → y0.token ≡ ForOp g → acts_once (c.op g) ≡ true → y0.reply.status ≡ user_session_deleted → c.unanswered g ≡ false → a g ≡ 0")],
           conns="(put conns k (record (conns k) { down = (conns k).down ++ y0 ∷ [] }))",
           parts={
               "own_down": "λ j n p y h. let old = i.own_down j n p y in let m = own p in " + PUSHED,
@@ -207,7 +207,7 @@ for event in EVENTS:
         event.parts["lower"] = "λ p q. let old = i.lower p q in let l = lower q in grind arith"
 
 BEFORE = {
-    "Finished": """finished_off : (c : Client) (conns : ℕ → Conn) → c.live ≡ false → OnReady c → Ready c conns → (p : ℕ) (o : Option ℕ) → c.on p ≡ o → c.on p ≡ None
+    "Finished": """finished_off : (c : Client) (conns : ℕ → Conn) → c.live ≡ false → OnReady c → Ready c conns → (p : ℕ) (o : Option ℕ) → c.outstanding_on p ≡ o → c.outstanding_on p ≡ None
 finished_off c conns dead r l p None e = e
 finished_off c conns dead r l p (Some k) e = let on = r p k e in let live = l k on.0 in absurd (grind arith)
 

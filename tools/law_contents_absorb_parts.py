@@ -148,7 +148,7 @@ PARTS = {
             ),
         ],
         """λ j n p y h e ed fm fin. let h' = was_down conns k rest j n y h in let old = i.reached j n p y h' e ed fm fin in
-      let z = old.1 in let up = w.steps.ids in (w.steps.pair c.session (c.seq_of p) (file_at c p) (current j n y h'
+      let z = old.1 in let up = w.steps.ids in (w.steps.pair c.session (c.sequence_of p) (file_at c p) (current j n y h'
       (ops_of y.token p e)) old.1 old.0, omega (arith, z, up))""",
     ),
     "closed_reply": (
@@ -183,9 +183,9 @@ PARTS = {
         [
             ("w", "Taking c s t x0 A"),
         ],
-        """λ o lv at. by_side o lv (w.at o c.session at)
+        """λ o lv at. by_side o lv (w.session_of_open o c.session at)
       where
-      by_side : (o : ℕ) → c.live ≡ true → (s.at o ≡ Some c.session × A.server.sequence o ≤ s.sequence o) ⊎ (A.reached ≡
+      by_side : (o : ℕ) → c.live ≡ true → (s.session_of_open o ≡ Some c.session × A.server.sequence o ≤ s.sequence o) ⊎ (A.reached ≡
       Some o × c.session ≡ x0.message.session × A.server.sequence o ≤ x0.message.sequence) → A.server.sequence o ≤
       c.sequence
       by_side o lv (inl e) = let old = i_session_seq o lv e.0 in let z = e.1 in omega (arith, old, z)
@@ -195,9 +195,9 @@ PARTS = {
         [
             ("w", "Taking c s t x0 A"),
         ],
-        """λ o j sg e. by_side o j sg (w.at o c.pending e)
+        """λ o j sg e. by_side o j sg (w.session_of_open o c.pending e)
       where
-      by_side : (o j : ℕ) → c.stage j ≡ AskedTree → (s.at o ≡ Some c.pending × A.server.sequence o ≤ s.sequence o) ⊎
+      by_side : (o j : ℕ) → c.stage j ≡ AskedTree → (s.session_of_open o ≡ Some c.pending × A.server.sequence o ≤ s.sequence o) ⊎
       (A.reached ≡ Some o × c.pending ≡ x0.message.session × A.server.sequence o ≤ x0.message.sequence) → ⊥
       by_side o j sg (inl e) = i_pending_at o j sg e.0
       by_side o j sg (inr e) = w.fresh (w.ops o e.0) j sg (sym e.1)""",
@@ -426,14 +426,14 @@ PARTS = {
       by_first : (j n p : ℕ) (x : Sent) → slice_get (Front conns k rest j).up n ≡ Some x → x.token ≡ ForOp p → edits
       (c.op p) ≡ true → A.server.standing (file_at c p) ≡ true → A.server.present x.message.session ≡ true →
       A.server.sequence (file_at c p) ≤ x.message.sequence
-      → s.standing (file_at c p) ≡ true → s.present x.message.session ≡ true → s.at (file_at c p) ≡ Some
+      → s.standing (file_at c p) ≡ true → s.present x.message.session ≡ true → s.session_of_open (file_at c p) ≡ Some
       x.message.session → (m : ℕ) → slice_get (conns j).up m ≡ Some x → (is_some (l.first p) ≡ true → x.message.replay
       ≡ true)
       → {v : ℕ} → (l.first p ≡ Some v) ⊎ (x0.token ≡ ForOp p × A.acted ≡ true × v ≡ l.places) → x.message.replay ≡ true
       by_first j n p x h e ed sd pr le st there at m hm old (inl z) = old (ap is_some z)
       by_first j n p x h e ed sd pr le st there at m hm old (inr z) =
       let a = acts_of c s t x0 A p w z.0 (lists_of (c.op p) ed) z.1 in let same : x.message.session ≡
-      x0.message.session = some_same _ _ (sym at ∙ a.at) in
+      x0.message.session = some_same _ _ (sym at ∙ a.session_of_open) in
       not_false x.message.replay (λ r.
       let less = i_no_replay j m k 0 p x x0 hm (front_up (conns k).up x0 rest is) e z.0 ed (apart_of conns k x0 rest j
       n p x once is z.0 h e) same r in

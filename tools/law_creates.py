@@ -19,16 +19,16 @@ PARTS = {
     "named": ("c v", "p o", "by_guid standing opened"),
     "named_kind": ("c v", "p o", "by_guid opened op"),
     "named_given": ("c v", "p o", "by_guid last"),
-    "attached": ("c v", "o z", "at present rank"),
-    "plain_attached": ("v", "o", "standing opened at"),
-    "unclosed": ("c v a", "p", "op outcome live session by_guid marks present a"),
-    "acted_kept": ("c conns v a", "j n p y", "op up present closed by_guid marks a"),
+    "attached": ("c v", "o z", "session_of_open present rank"),
+    "plain_attached": ("v", "o", "standing opened session_of_open"),
+    "unclosed": ("c v a", "p", "op outcome live session by_guid expired_guids present a"),
+    "acted_kept": ("c conns v a", "j n p y", "op up present closed by_guid expired_guids a"),
     "at_most": ("c a", "p", "op a"),
     "form_acted": ("c a", "p", "op a"),
     "refused_not": ("c a", "p", "op outcome a"),
     "dead_refused": ("c conns v", "j n p y", "op outcome up present refused guids"),
-    "no_reply": ("c conns a", "j n p y", "op down before a"),
-    "barred_reply": ("c conns v", "j n p y", "op down before live session present refused guids"),
+    "no_reply": ("c conns a", "j n p y", "op down unanswered a"),
+    "barred_reply": ("c conns v", "j n p y", "op down unanswered live session present refused guids"),
     "refused_status": ("v", "z q t", "refused"),
     "ok_acted": ("c a", "p", "op outcome a"),
     "ok_reply": ("c conns a", "j n p y", "op down a"),
@@ -37,7 +37,7 @@ PARTS = {
     "reply_guid": ("c conns v", "j n p y", "op down last standing opened"),
     "reply_of": ("c conns v", "j n p o y", "op down by_guid"),
     "plain_dead": ("c", "p", "live op sent outcome"),
-    "asking_other": ("c", "p", "asking op taken"),
+    "asking_other": ("c", "p", "asks_attach op taken"),
     "dialog_up": ("conns", "j n y", "up"),
     "ask_up": ("conns", "j n p y", "up"),
 }
@@ -157,12 +157,12 @@ EVENTS = [
               "barred_reply": "λ j n p y h t. let h' = h in " + OUT + "let on = f.on_ready p j in let rd = f.ready j in grind arith",
           }),
     Event("DialogOff", "the client closes a channel that isn't ready", "down", "(k : ℕ)", c="(leave_dialog c k)", conns="(put conns k (client_off (conns k)))"),
-    Event("Cut", "a ready channel is cut", "down before", "(k : ℕ)", c="(cut_channel c k)", conns="(put conns k (client_off (conns k)))",
+    Event("Cut", "a ready channel is cut", "down unanswered", "(k : ℕ)", c="(cut_channel c k)", conns="(put conns k (client_off (conns k)))",
           parts={
               "no_reply": "λ j n p y h t. " + DOWN + OUT + "let old = i.no_reply j n p y h' t in grind arith",
               "barred_reply": "λ j n p y h t. " + DOWN + OUT + "let old = i.barred_reply j n p y h' t in grind arith",
           }),
-    Event("Leave", "the session ends", "down before live outcome", c="(end_session c)", conns="(λ q. client_off (conns q))",
+    Event("Leave", "the session ends", "down unanswered live outcome", c="(end_session c)", conns="(λ q. client_off (conns q))",
           parts={
               "unclosed": "λ p m u l s. let e = after_end c p m in let old = i.unclosed p m (e.still u) l in let lasts = e.lasts u in let fr = f.fresh p in grind arith",
               "refused_not": "λ p m. let e = (after_end c p m).never in let old = i.refused_not p m in grind arith",
@@ -173,11 +173,11 @@ EVENTS = [
               "plain_dead": "λ p l m. let e = (after_end c p m).lasts in grind arith",
           }),
     Event("Answered", "an operation is answered and isn't settled", "", "(g : ℕ)", c="(answered c g)"),
-    Event("Opens", "a create that is outstanding names its open", "file", "(g id : ℕ)", [("pending", "is_unsettled (c.outcome g) ≡ true")], c="(record c { file = put c.file g id; attached = put c.attached g c.number })"),
+    Event("Opens", "a create that is outstanding names its open", "file", "(g id : ℕ)", [("pending", "is_unsettled (c.outcome g) ≡ true")], c="(record c { file = put c.file g id; attached = put c.attached g c.session_number })"),
     Event("Joined", "a DH2C attached its open", "", "(g : ℕ)", c="(joined c g)"),
-    Event("Shuts", "a close shut its open", "", "(create : ℕ)", c="(record c { shut = put c.shut create true })"),
+    Event("Shuts", "a close shut its open", "", "(create : ℕ)", c="(record c { closed_ok = put c.closed_ok create true })"),
     Event("Fills", "a lock met a full disk", "", "(create slot : ℕ)", c="(record c { full = put2 c.full create slot true })"),
-    Event("Retried", "a slot's lock goes out again", "", "(create slot : ℕ)", c="(record c { retried = put2 c.retried create slot c.number })"),
+    Event("Retried", "a slot's lock goes out again", "", "(create slot : ℕ)", c="(record c { retried = put2 c.retried create slot c.session_number })"),
     Event("Finished", "no session can be had", "outcome", "(why : Why)", c="(finish c why)"),
     Event("Settle", "a reply settles its operation", "outcome", "(g place : ℕ) (outcome : Outcome)",
           [("never", "makes_open (c.op g) ≡ true → never_acted outcome ≡ true → a g ≡ 0"),
@@ -194,18 +194,18 @@ EVENTS = [
               "file_guid": "λ p. let old = i.file_guid p in let q = guid in grind arith",
               "file_of": "λ p o. let old = i.file_of p o in let q = names o in grind arith",
           }),
-    Event("Send", "an operation goes out itself", "up asking", "(k g n0 : ℕ) (m : Message)",
+    Event("Send", "an operation goes out itself", "up asks_attach", "(k g n0 : ℕ) (m : Message)",
           [("pending", "is_unsettled (c.outcome g) ≡ true"), ("lives", "c.live ≡ true"), ("session", "m.session ≡ c.session")],
           c="(put_out c k g)", conns="(put conns k (send_up (conns k) (ForOp g) m n0))",
           parts={
               "acted_kept": "λ j n p y. let old = i.acted_kept j n p y in let un = i.unclosed g in grind (arith, get-push)",
           }),
-    Event("Ask", "a DH2C goes out in an operation's place", "up asking", "(k g n0 : ℕ) (m : Message)",
+    Event("Ask", "a DH2C goes out in an operation's place", "up asks_attach", "(k g n0 : ℕ) (m : Message)",
           [("other", "makes_open (c.op g) ≡ false"), ("within", "g ≤ c.taken"), ("says", "is_of_ask m.command ≡ true")],
           c="(asked c k g)", conns="(put conns k (send_up (conns k) (ForAttach g) m n0))"),
     Event("Say", "a reply is on its way", "down", "(k : ℕ) (y0 : Received)",
-          [("never", "(g : ℕ) → y0.token ≡ ForOp g → makes_open (c.op g) ≡ true → refuses (c.before g) y0.reply.status ≡ true → a g ≡ 0"),
-           ("barred", "(g : ℕ) → y0.token ≡ ForOp g → makes_open (c.op g) ≡ true → c.before g ≡ true → refuses true y0.reply.status ≡ true → is_current c v ≡ true → is_barred c v c.session g ≡ true"),
+          [("never", "(g : ℕ) → y0.token ≡ ForOp g → makes_open (c.op g) ≡ true → refuses (c.unanswered g) y0.reply.status ≡ true → a g ≡ 0"),
+           ("barred", "(g : ℕ) → y0.token ≡ ForOp g → makes_open (c.op g) ≡ true → c.unanswered g ≡ true → refuses true y0.reply.status ≡ true → is_current c v ≡ true → is_barred c v c.session g ≡ true"),
            ("acted", "(g : ℕ) → y0.token ≡ ForOp g → makes_open (c.op g) ≡ true → y0.reply.status ≡ success → 1 ≤ a g"),
            ("guid", "(g : ℕ) → y0.token ≡ ForOp g → makes_open (c.op g) ≡ true → y0.reply.status ≡ success → id_in y0.reply.body ≤ v.last × (v.standing (id_in y0.reply.body) ≡ true → (v.opened (id_in y0.reply.body)).client ≡ c.who.guid × (v.opened (id_in y0.reply.body)).guid ≡ Some (guid_at c g))"),
            ("names", "(g o : ℕ) → y0.token ≡ ForOp g → makes_open (c.op g) ≡ true → y0.reply.status ≡ success → named c v g ≡ Some o → o ≡ id_in y0.reply.body")],
@@ -223,17 +223,17 @@ EVENTS = [
               "dead_refused": "λ j n p y h t m e s. let old = i.dead_refused j n p y h t m e s in let fm = full_more (v.guids x) in grind arith",
               "barred_reply": "λ j n p y h t m e s u. let old = i.barred_reply j n p y h t m e s u in let fm = full_more (v.guids x) in grind arith",
           }),
-    Event("AttachTo", "an open becomes a session's", "at guids", "(x o0 : ℕ)", [("ranked", "0 < c.rank x"), ("there", "v.present x ≡ true")], v="(attach_to v o0 x)",
+    Event("AttachTo", "an open becomes a session's", "session_of_open guids", "(x o0 : ℕ)", [("ranked", "0 < c.rank x"), ("there", "v.present x ≡ true")], v="(attach_to v o0 x)",
           parts={
               "dead_refused": "λ j n p y h t m e s. let old = i.dead_refused j n p y h t m e s in let fm = full_more (v.guids x) in grind arith",
               "barred_reply": "λ j n p y h t m e s u. let old = i.barred_reply j n p y h t m e s u in let fm = full_more (v.guids x) in grind arith",
           }),
-    Event("MakeNew", "a create acts", "standing opened at by_guid guids last a", "(g x o0 : ℕ) (row : OpenRow) (b : ℕ → ℕ)",
+    Event("MakeNew", "a create acts", "standing opened session_of_open by_guid guids last a", "(g x o0 : ℕ) (row : OpenRow) (b : ℕ → ℕ)",
           [("create", "makes_open (c.op g) ≡ true"), ("idle", "a g ≡ 0"), ("counted", "b g ≡ 1"), ("formed", "may_act c g ≡ true"),
            ("above", "o0 ≡ v.last + 1"), ("ranked", "0 < c.rank x"), ("there", "v.present x ≡ true"),
            ("client", "row.client ≡ c.who.guid"), ("guid", "row.guid ≡ Some (guid_at c g)"), ("kind", "row.persistent ≡ outlives (c.op g)"), ("user", "row.user ≡ logon_user c.who.logon"),
            ("alive", "never_acted (c.outcome g) ≡ false"),
-           ("silent", "(j n : ℕ) (y : Received) → slice_get (conns j).down n ≡ Some y → y.token ≡ ForOp g → refuses (c.before g) y.reply.status ≡ false"),
+           ("silent", "(j n : ℕ) (y : Received) → slice_get (conns j).down n ≡ Some y → y.token ≡ ForOp g → refuses (c.unanswered g) y.reply.status ≡ false"),
            ("others", "(h : ℕ) → makes_open (c.op h) ≡ true → h ≢ g → b h ≡ a h")],
           v="(make_new v o0 row x (guid_at c g))", a="b",
           parts={
@@ -254,7 +254,7 @@ EVENTS = [
               "file_of": "λ p o m e. let old = i.file_of p o m e in let ac = i.ok_acted p m e in let same = guid_once c.who.salt p g in grind arith",
               "reply_of": "λ j n p o y h t m e. let old = i.reply_of j n p o y h t m e in let ac = i.ok_reply j n p y h t m e in let same = guid_once c.who.salt p g in grind arith",
           }),
-    Event("ShutIn", "an open leaves by a close", "standing at by_guid closed", "(x o0 : ℕ) (q0 : Option ℕ)",
+    Event("ShutIn", "an open leaves by a close", "standing session_of_open by_guid closed", "(x o0 : ℕ) (q0 : Option ℕ)",
           [("guid", "(v.opened o0).guid ≡ q0"),
            ("settled", "(h : ℕ) → makes_open (c.op h) ≡ true → (v.opened o0).client ≡ c.who.guid → q0 ≡ Some (guid_at c h) → is_unsettled (c.outcome h) ≡ false"),
            ("here", "(j n h : ℕ) (y : Sent) → slice_get (conns j).up n ≡ Some y → y.token ≡ ForOp h → v.present y.message.session ≡ true → y.message.session ≡ x")],
@@ -263,8 +263,8 @@ EVENTS = [
               "unclosed": "λ p m u l s. let old = i.unclosed p m u l s in let q = settled p m in grind arith",
               "acted_kept": "λ j n p y h t m e s. let old = i.acted_kept j n p y h t m e s in let q = here j n p y h t e in grind arith",
           }),
-    Event("ExpireBy", "an open leaves by its deadline", "standing at by_guid marks", "(o0 : ℕ) (q0 : Option ℕ)", [("guid", "(v.opened o0).guid ≡ q0")], v="(expire_by v o0 q0)"),
-    Event("EndOf", "a session ends", "standing by_guid at present closed refused guids", "(x : ℕ)",
+    Event("ExpireBy", "an open leaves by its deadline", "standing session_of_open by_guid expired_guids", "(o0 : ℕ) (q0 : Option ℕ)", [("guid", "(v.opened o0).guid ≡ q0")], v="(expire_by v o0 q0)"),
+    Event("EndOf", "a session ends", "standing by_guid session_of_open present closed refused guids", "(x : ℕ)",
           [("here", "(y : ℕ) → v.present y ≡ true → 0 < c.rank y → y ≡ c.accepted"),
            ("lives", "c.live ≡ true → c.session ≡ c.accepted"),
            ("ranked", "(j n h : ℕ) (y : Sent) → slice_get (conns j).up n ≡ Some y → y.token ≡ ForOp h → 0 < c.rank y.message.session")],
@@ -279,7 +279,7 @@ EVENTS = [
               "dead_refused": "λ j n p y h t. let old = i.dead_refused j n p y h t in let r = ranked j n p y h t in grind arith",
               "barred_reply": "λ j n p y h t. let old = i.barred_reply j n p y h t in let l = lives in grind arith",
           }),
-    Event("Restarted", "the server starts anew", "present by_guid standing opened at closed refused guids marks last up", "(u : Seen)", [("r", "Restarts v u")],
+    Event("Restarted", "the server starts anew", "present by_guid standing opened session_of_open closed refused guids expired_guids last up", "(u : Seen)", [("r", "Restarts v u")],
           v="u", conns="(λ q. server_off (conns q))",
           parts={
               "made": "λ p o h. i.made p o (r.was c.who.guid (guid_at c p) o h)",
@@ -324,9 +324,9 @@ for event in EVENTS:
 BEFORE = {
     "EndOf": """-- an open that isn't attached to the session stays
 goes_not : (c : Client) (v : Seen) (x o : ℕ) → Attached c v → ((y : ℕ) → v.present y ≡ true → 0 < c.rank y → y ≡ c.accepted) → (y : ℕ) → y ≢ x → y ≡ c.accepted → goes_with v x o ≡ false
-goes_not c v x o at here y apart same = by_session (v.at o) refl
+goes_not c v x o at here y apart same = by_session (v.session_of_open o) refl
   where
-    by_session : (z : Option ℕ) → v.at o ≡ z → goes_with v x o ≡ false
+    by_session : (z : Option ℕ) → v.session_of_open o ≡ z → goes_with v x o ≡ false
     by_session None e = grind arith
     by_session (Some z) e = let q = at o z e in let w = here z q.1 q.0 in grind arith
 
@@ -361,8 +361,8 @@ end_kept c v x p y k f d = by_closed (v.closed y (guid_at c p)) refl
     by_closed false e = let w = kept_still c v x p (grind arith) f in grind arith
 
 """,
-    "Restarted": """restart_kept : (c : Client) (v u : Seen) (p : ℕ) → Restarts v u → NamedKind c v → outlives (c.op p) ≡ true → (o : Option ℕ) → named c v p ≡ o → (is_some o || v.marks c.who.guid (guid_at c p)) ≡ true → is_kept c u p ≡ true
-restart_kept c v u p r nk out None e s = let m = r.marks in let w : u.marks c.who.guid (guid_at c p) ≡ v.marks c.who.guid (guid_at c p) = ap (λ f. f c.who.guid (guid_at c p)) m in grind arith
+    "Restarted": """restart_kept : (c : Client) (v u : Seen) (p : ℕ) → Restarts v u → NamedKind c v → outlives (c.op p) ≡ true → (o : Option ℕ) → named c v p ≡ o → (is_some o || v.expired_guids c.who.guid (guid_at c p)) ≡ true → is_kept c u p ≡ true
+restart_kept c v u p r nk out None e s = let m = r.expired_guids in let w : u.expired_guids c.who.guid (guid_at c p) ≡ v.expired_guids c.who.guid (guid_at c p) = ap (λ f. f c.who.guid (guid_at c p)) m in grind arith
 restart_kept c v u p r nk out (Some o) e s = let k = nk p o e in let st = r.stays c.who.guid (guid_at c p) o e (k.0 ∙ out) in grind arith
 
 restart_unclosed : (c : Client) (v : Seen) (a : ℕ → ℕ) (u : Seen) → Restarts v u → Unclosed c v a → NamedKind c v → Unclosed c u a

@@ -18,37 +18,37 @@ PARTS = {
     "user_body": ("c", "q r p", "slot_user op slot_of sent"),
     "in_use": ("c", "p", "sent op outcome slot_user slot_of"),
     "full_free": ("c", "p", "sent op outcome full slot_of"),
-    "attached_low": ("c", "q", "attached number"),
-    "shut_ok": ("c", "p", "op outcome shut"),
-    "shut_made": ("c", "q", "shut outcome taken"),
-    "shut_gone": ("c", "p", "taken op shut sent outcome"),
+    "attached_low": ("c", "q", "attached session_number"),
+    "shut_ok": ("c", "p", "op outcome closed_ok"),
+    "shut_made": ("c", "q", "closed_ok outcome taken"),
+    "shut_gone": ("c", "p", "taken op closed_ok sent outcome"),
     "close_before": ("c", "p q", "sent op outcome"),
     "close_after": ("c", "q p", "sent op outcome"),
     "unsent_gone": ("c", "p", "outcome sent"),
-    "unanswered": ("c conns", "j n p x", "up open before"),
+    "unanswered": ("c conns", "j n p x", "up open unanswered"),
     "ask_up": ("c conns", "j n p x", "up taken op outcome file"),
     "ask_down": ("c conns", "j n p y", "down taken op outcome"),
     "users": ("c conns s", "j n p x", "up op slot_user slot_of present"),
-    "copy_now": ("c conns s", "j n p x", "up op live attached number asking present"),
-    "retried_on": ("c conns s", "j n p x", "up open op live on retried slot_of number present"),
-    "retried_done": ("c conns s", "j n p x", "up open op live outcome retried slot_of number present"),
-    "copy_attached": ("c conns s", "j n p x", "up op file present standing at"),
-    "now_attached": ("c s", "q", "op outcome live attached number session file present standing at"),
-    "opened_reply": ("c conns s", "j n p y", "down op live session present standing at"),
-    "join_reply": ("c conns s", "j n p y", "down op live file session present standing at"),
-    "joined_reply": ("c conns s", "j n p y", "down op live file session attached number present standing"),
+    "copy_now": ("c conns s", "j n p x", "up op live attached session_number asks_attach present"),
+    "retried_on": ("c conns s", "j n p x", "up open op live outstanding_on retried slot_of session_number present"),
+    "retried_done": ("c conns s", "j n p x", "up open op live outcome retried slot_of session_number present"),
+    "copy_attached": ("c conns s", "j n p x", "up op file present standing session_of_open"),
+    "now_attached": ("c s", "q", "op outcome live attached session_number session file present standing session_of_open"),
+    "opened_reply": ("c conns s", "j n p y", "down op live session present standing session_of_open"),
+    "join_reply": ("c conns s", "j n p y", "down op live file session present standing session_of_open"),
+    "joined_reply": ("c conns s", "j n p y", "down op live file session attached session_number present standing"),
     "lost_reply": ("c conns s", "j n p y", "down op file standing"),
-    "kept_says": ("c s a", "p st", "slot_user op slot_of number_of file standing slots a"),
-    "not_kept": ("c s a", "p", "slot_user op slot_of number_of file standing slots a"),
-    "firm_kept": ("c s", "p", "slot_user op slot_of number_of file standing slots outcome full"),
-    "no_user": ("c s", "q r", "outcome op slot_user file standing slots"),
-    "no_slots": ("c s", "q r o", "op outcome by_guid slots"),
+    "kept_says": ("c s a", "p st", "slot_user op slot_of number_of file standing lock_sequences a"),
+    "not_kept": ("c s a", "p", "slot_user op slot_of number_of file standing lock_sequences a"),
+    "firm_kept": ("c s", "p", "slot_user op slot_of number_of file standing lock_sequences outcome full"),
+    "no_user": ("c s", "q r", "outcome op slot_user file standing lock_sequences"),
+    "no_slots": ("c s", "q r o", "op outcome by_guid lock_sequences"),
     "full_dead": ("c conns s", "j n p x", "up op outcome full slot_of present"),
     "ok_reply": ("c conns a", "j n p y", "down op a"),
     "no_reply": ("c conns a", "j n p y", "down op a"),
-    "kept_reply": ("c conns s", "j n p y", "down op file slot_of number_of standing slots"),
-    "first_reply": ("c conns a", "j n p y", "down op before a"),
-    "closed_not": ("c s a", "p", "op sent outcome live attached number session file present standing a"),
+    "kept_reply": ("c conns s", "j n p y", "down op file slot_of number_of standing lock_sequences"),
+    "first_reply": ("c conns a", "j n p y", "down op unanswered a"),
+    "closed_not": ("c s a", "p", "op sent outcome live attached session_number session file present standing a"),
     "kept_files": ("s", "o", "standing opened"),
     "left_full": ("c conns s", "j n p x", "up op live outcome file present standing opened journal"),
     "left_stuck": ("c conns s", "j n p x", "up op live outcome file present standing opened journal files"),
@@ -144,7 +144,7 @@ def more(part, facts, tactic="grind arith", bound="h t"):
 # ---- Submit
 submit = event("Submit", "an operation is taken", "taken op outcome", "(g : ℕ) (op : Op) (out : Outcome)",
       [("next", "g ≡ c.taken + 1"), ("fired", "firm out ≡ false"), ("okay", "is_ok out ≡ false"), ("unknown", "s.by_guid c.who.guid (guid_for c g) ≡ None"),
-       ("gone", "makes_open op ≡ false → c.shut (its_create g op) ≡ true → is_unsettled out ≡ false"), ("never", "a g ≡ 0")],
+       ("gone", "makes_open op ≡ false → c.closed_ok (its_create g op) ≡ true → is_unsettled out ≡ false"), ("never", "a g ≡ 0")],
       c="(record c { taken = g; op = put c.op g op; outcome = put c.outcome g out })",
       parts={
           "slot_index": "λ p s0. let tk = C.taken p s0 in let old = i.slot_index p s0 in grind arith",
@@ -193,17 +193,17 @@ for e in EVENTS:
         for part in ("unanswered", "retried_on", "retried_done"):
             v = PARTS[part][1]
             e.parts[part] = "λ %s h t. let h' : slice_get (conns j).up n ≡ Some x = grind arith in let old = i.%s %s h' t in let b = C.bodies j n p x h' t in let tk = C.taken p b.0 in %slet st1 = C.settled p in grind arith" % (v, part, v, ON_UP)
-event("Readied", "a session is ready", "stage live session number", "(k session tree : ℕ)",
+event("Readied", "a session is ready", "stage live session session_number", "(k session tree : ℕ)",
       [("gone", "(j n : ℕ) (x : Sent) → slice_get (conns j).up n ≡ Some x → is_ops x.token ≡ true → s.present x.message.session ≡ false"),
        ("idle", "(j n : ℕ) (y : Received) → slice_get (conns j).down n ≡ Some y → is_ops y.token ≡ false")],
       c="(begin_session c k session tree)",
       parts={"now_attached": "λ q. let l = i.attached_low q in grind arith", "closed_not": "λ p. let l = i.attached_low (create_at c p) in grind arith"})
 readied = EVENTS[-1]
 for part in OWN_UP:
-    if "number" in PARTS[part][2] or "live" in PARTS[part][2] or "session" in PARTS[part][2]:
+    if "session_number" in PARTS[part][2] or "live" in PARTS[part][2] or "session" in PARTS[part][2]:
         readied.parts[part] = "λ %s h t. let v = gone j n x h (own_ops x p t) in grind arith" % PARTS[part][1]
 for part in DOWN:
-    if set(PARTS[part][2].split()) & {"live", "session", "number"}:
+    if set(PARTS[part][2].split()) & {"live", "session", "session_number"}:
         readied.parts[part] = "λ %s h t. let v = idle j n y h in let o1 = %s y p t in grind arith" % (PARTS[part][1], "own_reply_ops" if part in OWN_DOWN else "ask_reply_ops")
 
 # ---- Push
@@ -221,7 +221,7 @@ begin_lock = event("BeginLock", "a lock takes its slot and goes out first", "sen
       [("new", "c.sent g ≡ false"), ("lock", "locking (c.op g) ≡ true"), ("slot", "in_slots i0 ≡ true"), ("its", "q0 ≡ create_at c g"), ("pending", "is_unsettled (c.outcome g) ≡ true"), ("live", "c.live ≡ true"),
        ("ok", "is_ok (c.outcome q0) ≡ true"), ("made", "makes_open (c.op q0) ≡ true"),
        ("before", "(h : ℕ) → 0 < h → h < g → create_at c h ≡ create_at c g → shuts_open (c.op h) ≡ true → is_unsettled (c.outcome h) ≡ false × is_ok (c.outcome h) ≡ false"),
-       ("unretried", "c.retried q0 i0 ≢ c.number"), ("unfull", "c.full q0 i0 ≡ false"), ("unused", "(h : ℕ) → c.slot_user q0 i0 ≡ Some h → firm (c.outcome h) ≡ true × m0 ≢ c.number_of h")],
+       ("unretried", "c.retried q0 i0 ≢ c.session_number"), ("unfull", "c.full q0 i0 ≡ false"), ("unused", "(h : ℕ) → c.slot_user q0 i0 ≡ Some h → firm (c.outcome h) ≡ true × m0 ≢ c.number_of h")],
       c="(record c { slot_of = put c.slot_of g i0; number_of = put c.number_of g m0; slot_user = put2 c.slot_user q0 i0 (Some g); sent = put c.sent g true })",
       parts={
           "slot_index": "λ p. let old = i.slot_index p in let sl = slot in grind arith",
@@ -237,11 +237,11 @@ begin_lock = event("BeginLock", "a lock takes its slot and goes out first", "sen
           "users": more("users", SENT_UP + "let un = unused p in let fs = firm_settled (c.outcome p) in let rt = i.retried_done j n p x h t in let st1 = C.settled p in let on1 = up_on c conns C.outstanding j n p x h t tk.0 in grind arith", ""),
           "retried_on": more("retried_on", SENT_UP), "retried_done": more("retried_done", SENT_UP), "full_dead": more("full_dead", SENT_UP), "kept_reply": more("kept_reply", SENT_DOWN),
       })
-event("Again", "a slot's lock goes out again", "retried", "(q0 i0 : ℕ)", c="(record c { retried = put2 c.retried q0 i0 c.number })")
-send = event("Send", "an operation goes out itself", "on asking up", "(k g n0 : ℕ) (m0 : Message)",
-      [("ready", "c.ready k ≡ true"), ("none", "c.on g ≡ None"), ("pending", "is_unsettled (c.outcome g) ≡ true"), ("sent", "c.sent g ≡ true"), ("stands", "(conns k).client_open ≡ true"), ("mine", "m0.session ≡ c.session"), ("live", "c.live ≡ true"),
-       ("att", "makes_open (c.op g) ≡ false → c.attached (create_at c g) ≡ c.number"),
-       ("again", "(j n : ℕ) (x : Sent) → slice_get (conns j).up n ≡ Some x → x.token ≡ ForOp g → locking (c.op g) ≡ true → c.retried (create_at c g) (c.slot_of g) ≡ c.number"),
+event("Again", "a slot's lock goes out again", "retried", "(q0 i0 : ℕ)", c="(record c { retried = put2 c.retried q0 i0 c.session_number })")
+send = event("Send", "an operation goes out itself", "outstanding_on asks_attach up", "(k g n0 : ℕ) (m0 : Message)",
+      [("ready", "c.ready k ≡ true"), ("none", "c.outstanding_on g ≡ None"), ("pending", "is_unsettled (c.outcome g) ≡ true"), ("sent", "c.sent g ≡ true"), ("stands", "(conns k).client_open ≡ true"), ("mine", "m0.session ≡ c.session"), ("live", "c.live ≡ true"),
+       ("att", "makes_open (c.op g) ≡ false → c.attached (create_at c g) ≡ c.session_number"),
+       ("again", "(j n : ℕ) (x : Sent) → slice_get (conns j).up n ≡ Some x → x.token ≡ ForOp g → locking (c.op g) ≡ true → c.retried (create_at c g) (c.slot_of g) ≡ c.session_number"),
        ("ok", "makes_open (c.op g) ≡ false → is_ok (c.outcome (create_at c g)) ≡ true × makes_open (c.op (create_at c g)) ≡ true")],
       c="(put_out c k g)", conns="(put conns k (send_up (conns k) (ForOp g) m0 n0))",
       parts={
@@ -251,9 +251,9 @@ send = event("Send", "an operation goes out itself", "on asking up", "(k g n0 : 
           "retried_on": "λ j n p x. let old = i.retried_on j n p x in let ag = again j n x in " + PUSHED,
           "full_dead": "λ j n p x. let old = i.full_dead j n p x in let uf = unsettled_firm (c.outcome p) in " + PUSHED,
       })
-event("Ask", "a DH2C goes out in an operation's place", "on asking up", "(k g n0 : ℕ) (m0 : Message)",
-      [("ready", "c.ready k ≡ true"), ("none", "c.on g ≡ None"), ("above", "0 < g"), ("within", "g ≤ c.taken"), ("kind", "makes_open (c.op g) ≡ false"), ("ok", "is_ok (c.outcome (create_at c g)) ≡ true"), ("mine", "m0.session ≡ c.session"), ("live", "c.live ≡ true"),
-       ("body", "m0.command ≡ reconnect_of (c.op (create_at c g)) (guid_for c (create_at c g)) (open_at c g)"), ("loose", "c.attached (create_at c g) ≢ c.number"), ("stands", "(conns k).client_open ≡ true")],
+event("Ask", "a DH2C goes out in an operation's place", "outstanding_on asks_attach up", "(k g n0 : ℕ) (m0 : Message)",
+      [("ready", "c.ready k ≡ true"), ("none", "c.outstanding_on g ≡ None"), ("above", "0 < g"), ("within", "g ≤ c.taken"), ("kind", "makes_open (c.op g) ≡ false"), ("ok", "is_ok (c.outcome (create_at c g)) ≡ true"), ("mine", "m0.session ≡ c.session"), ("live", "c.live ≡ true"),
+       ("body", "m0.command ≡ reconnect_of (c.op (create_at c g)) (guid_for c (create_at c g)) (open_at c g)"), ("loose", "c.attached (create_at c g) ≢ c.session_number"), ("stands", "(conns k).client_open ≡ true")],
       c="(asked c k g)", conns="(put conns k (send_up (conns k) (ForAttach g) m0 n0))",
       parts={
           "copy_now": "λ j n p x. let old = i.copy_now j n p x in " + PUSHED,
@@ -262,7 +262,7 @@ event("Ask", "a DH2C goes out in an operation's place", "on asking up", "(k g n0
 
 # ---- Take
 opens = event("Opens", "a create that is outstanding names its open", "file attached", "(g id : ℕ)", [("create", "makes_open (c.op g) ≡ true"), ("pending", "is_unsettled (c.outcome g) ≡ true")],
-      c="(record c { file = put c.file g id; attached = put c.attached g c.number })",
+      c="(record c { file = put c.file g id; attached = put c.attached g c.session_number })",
       parts={
           "kept_says": "λ p st e. let old = i.kept_says p st e in let ub = i.user_body _ _ p e in let ok1 = ok_of c C.has_open p ub.3 (lock_kind (c.op p) ub.0) in let os = ok_settled (c.outcome (create_at c p)) ok1 in grind arith",
           "not_kept": "λ p e. let old = i.not_kept p e in let ub = i.user_body _ _ p e in let ok1 = ok_of c C.has_open p ub.3 (lock_kind (c.op p) ub.0) in let os = ok_settled (c.outcome (create_at c p)) ok1 in grind arith",
@@ -283,20 +283,20 @@ for part in DOWN:
             opens.parts[part] = more(part, "let ad = i.ask_down j n p y h t in let os = ok_settled (c.outcome (create_at c p)) ad.3 in ")
 SAME = [("same", "(h : ℕ) → h ≢ g → is_unsettled (c.outcome h) ≡ false → new h ≡ c.outcome h"),
         ("gives", "(h : ℕ) → h ≢ g → is_unsettled (c.outcome h) ≡ true → is_unsettled (new h) ≡ false → is_unsent (new h) ≡ true × c.sent h ≡ false")]
-settle = event("Settle", "a reply settles its operation", "outcome on shut full", "(k g : ℕ) (o0 : Outcome) (new : ℕ → Outcome) (sh : ℕ → Bool) (fu : ℕ → ℕ → Bool) (by0 : ℕ → Option ℕ) (order0 : List ℕ)",
-      [("on", "c.on g ≡ Some k"), ("own", "new g ≡ o0"), ("settled0", "is_unsettled o0 ≡ false"), ("real", "is_unsent o0 ≡ false")] + SAME
+settle = event("Settle", "a reply settles its operation", "outcome outstanding_on closed_ok full", "(k g : ℕ) (o0 : Outcome) (new : ℕ → Outcome) (sh : ℕ → Bool) (fu : ℕ → ℕ → Bool) (by0 : ℕ → Option ℕ) (order0 : List ℕ)",
+      [("on", "c.outstanding_on g ≡ Some k"), ("own", "new g ≡ o0"), ("settled0", "is_unsettled o0 ≡ false"), ("real", "is_unsent o0 ≡ false")] + SAME
       + [("gone", "(p : ℕ) → 0 < p → p ≤ c.taken → makes_open (c.op p) ≡ false → sh (create_at c p) ≡ true → c.sent p ≡ false → is_unsettled (new p) ≡ false"),
          ("shuts", "(h : ℕ) → shuts_open (c.op h) ≡ true → is_ok (new h) ≡ true → sh (create_at c h) ≡ true"),
          ("shut_ok", "(q : ℕ) → sh q ≡ true → is_ok (new q) ≡ true × q ≤ c.taken"),
          ("full_same", "(p : ℕ) → p ≢ g → user_at c p ≡ Some p → fu (create_at c p) (c.slot_of p) ≡ c.full (create_at c p) (c.slot_of p)"),
          ("kept", "firm o0 ≡ true → user_at c g ≡ Some g → fu (create_at c g) (c.slot_of g) ≡ false → s.standing (open_at c g) ≡ true → is_some (kept_of c s g) ≡ true"),
-         ("made", "(r : ℕ) → is_ok o0 ≡ true → makes_open (c.op g) ≡ true → s.standing (c.file g) ≡ true → s.slots (c.file g) r ≡ None"),
-         ("near", "makes_open (c.op g) ≡ true → is_ok o0 ≡ true → c.live ≡ true → s.present c.session ≡ true → s.standing (c.file g) ≡ true → s.at (c.file g) ≡ Some c.session"),
+         ("made", "(r : ℕ) → is_ok o0 ≡ true → makes_open (c.op g) ≡ true → s.standing (c.file g) ≡ true → s.lock_sequences (c.file g) r ≡ None"),
+         ("near", "makes_open (c.op g) ≡ true → is_ok o0 ≡ true → c.live ≡ true → s.present c.session ≡ true → s.standing (c.file g) ≡ true → s.session_of_open (c.file g) ≡ Some c.session"),
          ("dead", "(j n : ℕ) (x : Sent) → slice_get (conns j).up n ≡ Some x → x.token ≡ ForOp g → locking (c.op g) ≡ true → firm o0 ≡ true → s.present x.message.session ≡ true → fu (create_at c g) (c.slot_of g) ≡ false"),
          ("full", "(j n : ℕ) (x : Sent) → slice_get (conns j).up n ≡ Some x → x.token ≡ ForOp g → shuts_open (c.op g) ≡ true → is_ok o0 ≡ false → s.present x.message.session ≡ true → s.standing (open_at c g) ≡ true → (s.opened (open_at c g)).persistent ≡ true → lower_limit < s.journal + 66"),
          ("stuck", "(j n : ℕ) (x : Sent) → slice_get (conns j).up n ≡ Some x → x.token ≡ ForOp g → shuts_open (c.op g) ≡ true → is_ok o0 ≡ false → s.present x.message.session ≡ true → s.standing (open_at c g) ≡ true → (s.opened (open_at c g)).persistent ≡ false → lower_limit < s.journal + 34 × goes_with s (open_at c g) ≡ true"),
          ("acted", "locking (c.op g) ≡ true → is_ok o0 ≡ true → a g ≡ 1"), ("unacted", "locking (c.op g) ≡ true → refused_for_good o0 ≡ true → a g ≡ 0")],
-      c="(record c { outcome = new; on = put c.on g None; by = by0; order = order0; shut = sh; full = fu })",
+      c="(record c { outcome = new; outstanding_on = put c.outstanding_on g None; settled_by = by0; order = order0; closed_ok = sh; full = fu })",
       parts={
           "shut_gone": "λ p l m e f. gone p l m e f", "shut_ok": "λ p. shuts p", "shut_made": "λ q. shut_ok q",
       })
@@ -355,16 +355,16 @@ event("NoSlot", "operations that never went out settle", "outcome", "(g : ℕ) (
           "ok_acted": "λ p. let old = i.ok_acted p in let sm = same p in let so = unsent_ok (new p) in grind arith",
           "refused_not": "λ p. let old = i.refused_not p in let sm = same p in let fr = C.fresh p in grind arith",
       })
-event("Joined", "a DH2C attached its open", "on attached", "(g q0 : ℕ)", [("its", "q0 ≡ create_at c g"),
-      ("at", "makes_open (c.op q0) ≡ true → is_ok (c.outcome q0) ≡ true → c.live ≡ true → s.present c.session ≡ true → s.standing (c.file q0) ≡ true → s.at (c.file q0) ≡ Some c.session"),
-      ("was", "c.live ≡ true → s.present c.session ≡ true → s.standing (c.file q0) ≡ false → c.attached q0 ≡ c.number")],
-      c="(record c { on = put c.on g None; attached = put c.attached q0 c.number })",
+event("Joined", "a DH2C attached its open", "outstanding_on attached", "(g q0 : ℕ)", [("its", "q0 ≡ create_at c g"),
+      ("at", "makes_open (c.op q0) ≡ true → is_ok (c.outcome q0) ≡ true → c.live ≡ true → s.present c.session ≡ true → s.standing (c.file q0) ≡ true → s.session_of_open (c.file q0) ≡ Some c.session"),
+      ("was", "c.live ≡ true → s.present c.session ≡ true → s.standing (c.file q0) ≡ false → c.attached q0 ≡ c.session_number")],
+      c="(record c { outstanding_on = put c.outstanding_on g None; attached = put c.attached q0 c.session_number })",
       parts={"now_attached": "λ q. let old = i.now_attached q in let n1 = at in grind arith", "closed_not": "λ p. let old = i.closed_not p in let w1 = was in grind arith"})
-event("Answered", "an operation is answered and isn't settled", "on", "(g : ℕ)", c="(answered c g)")
+event("Answered", "an operation is answered and isn't settled", "outstanding_on", "(g : ℕ)", c="(answered c g)")
 
 # ---- Cut, the end of the session, Finish
-cut = event("Cut", "a ready channel is cut", "on before open down", "(k : ℕ)", c="(cut_channel c k)", conns="(put conns k (client_off (conns k)))")
-leave = event("Leave", "the session ends", "live on before outcome stage open down", "(new : ℕ → Outcome)",
+cut = event("Cut", "a ready channel is cut", "outstanding_on unanswered open down", "(k : ℕ)", c="(cut_channel c k)", conns="(put conns k (client_off (conns k)))")
+leave = event("Leave", "the session ends", "live outstanding_on unanswered outcome stage open down", "(new : ℕ → Outcome)",
       [("same", "(h : ℕ) → is_unsettled (c.outcome h) ≡ false → new h ≡ c.outcome h"), ("unfirm", "(h : ℕ) → is_unsettled (c.outcome h) ≡ true → firm (new h) ≡ false × is_ok (new h) ≡ false"),
        ("unsent", "(h : ℕ) → is_unsettled (c.outcome h) ≡ true → refused_for_good (new h) ≡ true → c.sent h ≡ false")],
       c="(record (end_session c) { outcome = new })", conns="(λ j. client_off (conns j))")
@@ -405,21 +405,21 @@ for e in (leave, finish):
 
 # ---- the server moves, and no lock is carried out
 OK = "makes_open (c.op q) ≡ true → is_ok (c.outcome q) ≡ true → "
-moves = event("Moves", "the server moves, and carries out no lock", "present standing at slots opened journal files by_guid a", "(s2 : Server) (a2 : ℕ → ℕ)",
+moves = event("Moves", "the server moves, and carries out no lock", "present standing session_of_open lock_sequences opened journal files by_guid a", "(s2 : Server) (a2 : ℕ → ℕ)",
       [("same_a", "(p : ℕ) → locking (c.op p) ≡ true → a2 p ≡ a p"), ("journal", "s.journal ≤ s2.journal"),
        ("stay", "(j n : ℕ) (x : Sent) → slice_get (conns j).up n ≡ Some x → is_ops x.token ≡ true → s2.present x.message.session ≡ true → s.present x.message.session ≡ true"),
        ("stay_now", "c.live ≡ true → s2.present c.session ≡ true → s.present c.session ≡ true"),
        ("stands", "(q : ℕ) → " + OK + "s2.standing (c.file q) ≡ true → s.standing (c.file q) ≡ true"),
-       ("keeps_at", "(o y : ℕ) → s.at o ≡ Some y → s2.standing o ≡ true → s2.present y ≡ true → s2.at o ≡ Some y"),
-       ("slots", "(q r : ℕ) → " + OK + "s2.standing (c.file q) ≡ true → s2.slots (c.file q) r ≡ s.slots (c.file q) r"),
+       ("keeps_at", "(o y : ℕ) → s.session_of_open o ≡ Some y → s2.standing o ≡ true → s2.present y ≡ true → s2.session_of_open o ≡ Some y"),
+       ("slots", "(q r : ℕ) → " + OK + "s2.standing (c.file q) ≡ true → s2.lock_sequences (c.file q) r ≡ s.lock_sequences (c.file q) r"),
        ("opened", "(q : ℕ) → " + OK + "s2.standing (c.file q) ≡ true → (s2.opened (c.file q)).persistent ≡ (s.opened (c.file q)).persistent"),
        ("stuck", "(q : ℕ) → " + OK + "s2.standing (c.file q) ≡ true → (s.opened (c.file q)).persistent ≡ false → goes_with s (c.file q) ≡ true → lower_limit < s.journal + 34 → goes_with s2 (c.file q) ≡ true"),
-       ("unmade", "(q r o : ℕ) → makes_open (c.op q) ≡ true → is_ok (c.outcome q) ≡ false → s2.by_guid c.who.guid (guid_for c q) ≡ Some o → s2.slots o r ≡ None"),
+       ("unmade", "(q r o : ℕ) → makes_open (c.op q) ≡ true → is_ok (c.outcome q) ≡ false → s2.by_guid c.who.guid (guid_for c q) ≡ Some o → s2.lock_sequences o r ≡ None"),
        ("plain", "(q : ℕ) → makes_open (c.op q) ≡ true → 1 ≤ a2 q → piped c.who.share ≡ false"),
        ("keeps", "(o : ℕ) → s2.standing o ≡ true → deletes_on_close (s2.opened o).options ≡ false"),
        ("open_stands", "(j n g : ℕ) (y : Received) → slice_get (conns j).down n ≡ Some y → y.token ≡ ForOp g → makes_open (c.op g) ≡ true → y.reply.status ≡ success → s2.standing (id_in y.reply.body) ≡ true → s.standing (id_in y.reply.body) ≡ true"),
-       ("closed", "(g : ℕ) → locking (c.op g) ≡ true → c.sent g ≡ true → is_unsettled (c.outcome g) ≡ true → c.live ≡ true → c.attached (create_at c g) ≡ c.number → s2.present c.session ≡ true → s.standing (open_at c g) ≡ true → s2.standing (open_at c g) ≡ false → a g ≡ 0"),
-       ("joined", "(j n g : ℕ) (y : Received) → slice_get (conns j).down n ≡ Some y → y.token ≡ ForAttach g → y.reply.status ≡ success → c.live ≡ true → s2.present c.session ≡ true → s.standing (open_at c g) ≡ true → s2.standing (open_at c g) ≡ false → c.attached (create_at c g) ≡ c.number")],
+       ("closed", "(g : ℕ) → locking (c.op g) ≡ true → c.sent g ≡ true → is_unsettled (c.outcome g) ≡ true → c.live ≡ true → c.attached (create_at c g) ≡ c.session_number → s2.present c.session ≡ true → s.standing (open_at c g) ≡ true → s2.standing (open_at c g) ≡ false → a g ≡ 0"),
+       ("joined", "(j n g : ℕ) (y : Received) → slice_get (conns j).down n ≡ Some y → y.token ≡ ForAttach g → y.reply.status ≡ success → c.live ≡ true → s2.present c.session ≡ true → s.standing (open_at c g) ≡ true → s2.standing (open_at c g) ≡ false → c.attached (create_at c g) ≡ c.session_number")],
       s="s2", a="a2")
 ITS = "let ok1 = ok_of c C.has_open p sent m1 in let mk = made_of c C.taken C.creates p sent m1 in "
 UPS = "let b = C.bodies j n p x h t in let sent = b.0 in "
@@ -468,15 +468,15 @@ for part in ("at_most", "ok_acted", "refused_not"):
     moves.parts[part] = "λ p m. let old = i.%s p m in let sa = same_a p m in grind arith" % part
 
 # ---- a slot keeps a lock's answer
-WROTE = "(record s { sequence = sq; ranges = rg; slots = put2 s.slots (open_at c g) (c.slot_of g) (Some (record { number = c.number_of g; status = st0 })); journal = j0 })"
-writes = event("Writes", "a slot keeps a lock's answer", "slots journal files a", "(g st0 j0 : ℕ) (sq : ℕ → ℕ) (rg : ℕ → List Range) (a2 : ℕ → ℕ)",
+WROTE = "(record s { sequence = sq; ranges = rg; lock_sequences = put2 s.lock_sequences (open_at c g) (c.slot_of g) (Some (record { number = c.number_of g; status = st0 })); journal = j0 })"
+writes = event("Writes", "a slot keeps a lock's answer", "lock_sequences journal files a", "(g st0 j0 : ℕ) (sq : ℕ → ℕ) (rg : ℕ → List Range) (a2 : ℕ → ℕ)",
       [("lock", "locking (c.op g) ≡ true"), ("sent", "c.sent g ≡ true"), ("user", "user_at c g ≡ Some g"), ("free", "kept_of c s g ≡ None"), ("stands", "s.standing (open_at c g) ≡ true"), ("unfirm", "firm (c.outcome g) ≡ false"),
        ("journal", "s.journal ≤ j0"), ("others", "(p : ℕ) → locking (c.op p) ≡ true → p ≢ g → a2 p ≡ a p"), ("own", "a2 g ≡ (if st0 == success then 1 else 0)"), ("creates_same", "(q : ℕ) → makes_open (c.op q) ≡ true → a2 q ≡ a q"),
        ("room", "(s.opened (open_at c g)).persistent ≡ true → s.journal + 66 ≤ lower_limit"),
        ("goes_same", "(o : ℕ) → goes_with SERVER o ≡ goes_with s o"),
        ("inj", "(q : ℕ) → " + OK + "s.standing (c.file q) ≡ true → c.file q ≡ open_at c g → q ≡ create_at c g"),
        ("unmade", "(q : ℕ) → makes_open (c.op q) ≡ true → is_ok (c.outcome q) ≡ false → s.by_guid c.who.guid (guid_for c q) ≢ Some (open_at c g)"),
-       ("alone", "c.before g ≡ false → (j n : ℕ) (y : Received) → slice_get (conns j).down n ≡ Some y → y.token ≢ ForOp g")],
+       ("alone", "c.unanswered g ≡ false → (j n : ℕ) (y : Received) → slice_get (conns j).down n ≡ Some y → y.token ≢ ForOp g")],
       s=WROTE, a="a2")
 writes.needs = [(n, ty.replace("SERVER", WROTE)) for n, ty in writes.needs]
 USES2 = "let ub = i.user_body _ _ p e in let sent1 = ub.3 in let m1 = lock_kind (c.op p) ub.0 in let ok1 = ok_of c C.has_open p sent1 m1 in let mk = made_of c C.taken C.creates p sent1 m1 in let ij = inj (create_at c p) mk ok1 in "
@@ -513,21 +513,21 @@ for part in DOWN:
     say.parts[part] = "λ %s. let old = i.%s %s in let m1 = of_%s p in %s" % (v, part, v, part, PUSHED)
 
 BEFORE = {
-    "Writes": """in_use_out : (c : Client) (p : ℕ) → InUse c → Settled c → c.sent p ≡ true → locking (c.op p) ≡ true → (j : ℕ) → c.on p ≡ Some j → user_at c p ≡ Some p
+    "Writes": """in_use_out : (c : Client) (p : ℕ) → InUse c → Settled c → c.sent p ≡ true → locking (c.op p) ≡ true → (j : ℕ) → c.outstanding_on p ≡ Some j → user_at c p ≡ Some p
 in_use_out c p iu st s m j on = let u = iu p s m in let t = st p in let fs = firm_settled (c.outcome p) in grind arith
 
 other_row : (c : Client) (s : Server) (g p : ℕ) (kept : Option Kept) → p ≢ g → user_at c g ≡ Some g → user_at c p ≡ Some p → (c.file (create_at c p) ≡ open_at c g → create_at c p ≡ create_at c g)
-    → put2 s.slots (open_at c g) (c.slot_of g) kept (open_at c p) (c.slot_of p) ≡ s.slots (open_at c p) (c.slot_of p)
+    → put2 s.lock_sequences (open_at c g) (c.slot_of g) kept (open_at c p) (c.slot_of p) ≡ s.lock_sequences (open_at c p) (c.slot_of p)
 other_row c s g p kept d user e ij = grind arith
 
-own_row : (c : Client) (s : Server) (g : ℕ) (kept : Option Kept) → put2 s.slots (open_at c g) (c.slot_of g) kept (open_at c g) (c.slot_of g) ≡ kept
+own_row : (c : Client) (s : Server) (g : ℕ) (kept : Option Kept) → put2 s.lock_sequences (open_at c g) (c.slot_of g) kept (open_at c g) (c.slot_of g) ≡ kept
 own_row c s g kept = grind arith
 
 other_kept : (c : Client) (s : Server) (g p st0 : ℕ) → p ≢ g → user_at c g ≡ Some g → user_at c p ≡ Some p → (c.file (create_at c p) ≡ open_at c g → create_at c p ≡ create_at c g)
-    → kept_at (put2 s.slots (open_at c g) (c.slot_of g) (Some (record { number = c.number_of g; status = st0 })) (open_at c p) (c.slot_of p)) (c.number_of p) ≡ kept_of c s p
+    → kept_at (put2 s.lock_sequences (open_at c g) (c.slot_of g) (Some (record { number = c.number_of g; status = st0 })) (open_at c p) (c.slot_of p)) (c.number_of p) ≡ kept_of c s p
 other_kept c s g p st0 d user e ij = ap (λ k. kept_at k (c.number_of p)) (other_row c s g p (Some (record { number = c.number_of g; status = st0 })) d user e ij)
 
-own_kept : (c : Client) (s : Server) (g st0 : ℕ) → kept_at (put2 s.slots (open_at c g) (c.slot_of g) (Some (record { number = c.number_of g; status = st0 })) (open_at c g) (c.slot_of g)) (c.number_of g) ≡ Some st0
+own_kept : (c : Client) (s : Server) (g st0 : ℕ) → kept_at (put2 s.lock_sequences (open_at c g) (c.slot_of g) (Some (record { number = c.number_of g; status = st0 })) (open_at c g) (c.slot_of g)) (c.number_of g) ≡ Some st0
 own_kept c s g st0 = ap (λ k. kept_at k (c.number_of g)) (own_row c s g (Some (record { number = c.number_of g; status = st0 }))) ∙ kept_same (c.number_of g) st0
 
 says_it : (x y : Option ℕ) (st n : ℕ) → x ≡ y → (y ≡ Some st → n ≡ (if st == success then 1 else 0)) → x ≡ Some st → n ≡ (if st == success then 1 else 0)
@@ -551,16 +551,16 @@ was_firm c g new p sm gv d f = let uf = unsettled_firm (new p) in let us = unsen
 """,
     "BeginLock": """-- the number that it takes isn't one that its slot keeps
 fresh_number : (c : Client) (s : Server) (q0 i0 m0 : ℕ) → ((h : ℕ) → c.slot_user q0 i0 ≡ Some h → firm (c.outcome h) ≡ true × m0 ≢ c.number_of h) → c.full q0 i0 ≡ false → UserBody c → FirmKept c s
-    → (c.slot_user q0 i0 ≡ None → s.standing (c.file q0) ≡ true → s.slots (c.file q0) i0 ≡ None) → (u : Option ℕ) → c.slot_user q0 i0 ≡ u → s.standing (c.file q0) ≡ true → kept_at (s.slots (c.file q0) i0) m0 ≡ None
+    → (c.slot_user q0 i0 ≡ None → s.standing (c.file q0) ≡ true → s.lock_sequences (c.file q0) i0 ≡ None) → (u : Option ℕ) → c.slot_user q0 i0 ≡ u → s.standing (c.file q0) ≡ true → kept_at (s.lock_sequences (c.file q0) i0) m0 ≡ None
 fresh_number c s q0 i0 m0 unused unfull body kept none None e st = ap (λ k. kept_at k m0) (none e st) ∙ kept_none m0
 fresh_number c s q0 i0 m0 unused unfull body kept none (Some h) e st =
     let un = unused h e in let ub = body q0 i0 h e in let k = kept h in
-    kept_other (s.slots (c.file q0) i0) (c.number_of h) m0 (grind arith) un.1
+    kept_other (s.lock_sequences (c.file q0) i0) (c.number_of h) m0 (grind arith) un.1
 
 abbrev Says : Client → Server → (ℕ → ℕ) → ℕ → ℕ → Type 0
 Says c s a g st = user_at c g ≡ Some g → s.standing (open_at c g) ≡ true → kept_of c s g ≡ Some st → a g ≡ (if st == success then 1 else 0)
 
-says_own : (c : Client) (s : Server) (a : ℕ → ℕ) (g q0 i0 m0 st : ℕ) → q0 ≡ create_at c g → (s.standing (c.file q0) ≡ true → kept_at (s.slots (c.file q0) i0) m0 ≡ None) → Says STATE s a g st
+says_own : (c : Client) (s : Server) (a : ℕ → ℕ) (g q0 i0 m0 st : ℕ) → q0 ≡ create_at c g → (s.standing (c.file q0) ≡ true → kept_at (s.lock_sequences (c.file q0) i0) m0 ≡ None) → Says STATE s a g st
 says_own c s a g q0 i0 m0 st its none u stands kept = let n = none in grind arith
 
 says_other : (c : Client) (s : Server) (a : ℕ → ℕ) (g q0 i0 m0 p st : ℕ) → p ≢ g → Says c s a p st → Says STATE s a p st

@@ -15,15 +15,15 @@ TOP = proofs_of("session_law")
 # part: (its type's arguments, the variables that it is quantified by, what it reads)
 PARTS = {
     "live_accepted": ("c", "", "live session accepted rank making"),
-    "session_ranked": ("c", "", "number rank session"),
-    "ranks": ("c", "p", "rank accepts"),
-    "last_rank": ("c", "", "accepts rank accepted"),
+    "session_ranked": ("c", "", "session_number rank session"),
+    "ranks": ("c", "p", "rank accepted_count"),
+    "last_rank": ("c", "", "accepted_count rank accepted"),
     "rank_once": ("c", "p q", "rank"),
     "making": ("c", "p", "stage making"),
     "pending_accepted": ("c", "p", "stage pending accepted rank"),
     "pending_unranked": ("c", "p", "stage rank pending"),
     "sequence_low": ("c", "", "sequence"),
-    "numbered_sessions": ("c", "p q", "attached number retried live"),
+    "numbered_sessions": ("c", "p q", "attached session_number retried live"),
     "current_up": ("c conns", "j n x", "conns live session"),
     "current_down": ("c conns", "j n y", "conns live session"),
     "ranked_up": ("c conns", "j n x", "conns rank"),
@@ -101,7 +101,7 @@ STAGED = {
 }
 
 EVENTS = [
-    Event("Same", "the client's other columns change", "live session number tree sequence rank accepts accepted making stage pending who attached retried", "(d : Client)",
+    Event("Same", "the client's other columns change", "live session session_number tree sequence rank accepted_count accepted making stage pending who attached retried", "(d : Client)",
           [("same", "SameSession c d"), ("noted", "NumberedSessions d")], c="d", parts={"numbered_sessions": "noted"}),
     Event("Moved", "the server takes a step", "server", "(t : Server)", [("moves", "Moves c s t")], s="t",
           parts={
@@ -133,14 +133,14 @@ EVENTS = [
           [NONE, ("from", "makes_session stage ≡ true → c.making ≡ Some k"), ("untold", "stage ≢ SaidSecond false"), ("unasked", "stage ≢ AskedTree")],
           c="(record c { stage = put c.stage k stage })", parts=dict(STAGED, making="λ p. let old = i.making p in let f = from in grind arith")),
     Event("Told", "a dialog is told the new session's id", "stage pending", "(k id : ℕ)",
-          [NONE, ("mine", "c.making ≡ Some k"), ("unranked", "c.rank id ≡ 0"), ("above", "0 < id"), ("given", "id ≤ id_of s.epoch s.begun")],
+          [NONE, ("mine", "c.making ≡ Some k"), ("unranked", "c.rank id ≡ 0"), ("above", "0 < id"), ("given", "id ≤ id_of s.epoch s.session_ids_given")],
           c="(record c { stage = put c.stage k (SaidSecond false); pending = id })",
           parts=dict(STAGED,
                      pending_accepted="λ p. let old = i.pending_accepted p in let m = i.making p in grind arith",
                      pending_unranked="λ p. let old = i.pending_unranked p in let m = i.making p in grind arith",
                      pending_given="λ p. let old = i.pending_given p in let m = i.making p in grind arith",
                      asked_fresh="λ p j n x a. let m = i.making p in grind arith")),
-    Event("Accepted", "a new session is accepted", "stage accepted accepts rank", "(k : ℕ)",
+    Event("Accepted", "a new session is accepted", "stage accepted accepted_count rank", "(k : ℕ)",
           [NONE, ("at", "c.stage k ≡ SaidSecond false"), ("gone", "0 < c.rank c.accepted → s.present c.accepted ≡ false"), ("unmade", "(q : ℕ) → is_new c.pending (s.making q) ≡ false")],
           c="(accepted c k)",
           parts=dict(STAGED,
@@ -171,7 +171,7 @@ EVENTS = [
               "tree_connect_up": "λ j n x. let old = i.tree_connect_up j n x in let q = tree in grind (arith, get-push)",
           }),
     Event("Bound", "a further channel is ready", "stage", "(k : ℕ)", [], c="(bind_channel c k)"),
-    Event("Readied", "a session is ready", "live session number tree sequence stage making", "(k : ℕ) (r : Reply)",
+    Event("Readied", "a session is ready", "live session session_number tree sequence stage making", "(k : ℕ) (r : Reply)",
           [NONE, ("at", "c.stage k ≡ AskedTree"), ("told", "s.present c.accepted ≡ true → is_some (tree_in (s.trees c.accepted) r.tree) ≡ true")], c="(begin_session c k c.pending r.tree)",
           parts={
               "live_accepted": "λ l. let a = i.pending_accepted k at in grind arith",
@@ -198,7 +198,7 @@ EVENTS = [
           }),
     Event("Say", "a reply is on its way", "conns", "(k : ℕ) (y0 : Received)",
           [("ops", "is_ops y0.token ≡ true → c.live ≡ true × y0.reply.session ≡ c.session"),
-           ("first", "is_ops y0.token ≡ false → c.stage k ≡ SaidFirst false → y0.reply.status ≡ more_processing_required → c.rank y0.reply.session ≡ 0 × 0 < y0.reply.session × y0.reply.session ≤ id_of s.epoch s.begun"),
+           ("first", "is_ops y0.token ≡ false → c.stage k ≡ SaidFirst false → y0.reply.status ≡ more_processing_required → c.rank y0.reply.session ≡ 0 × 0 < y0.reply.session × y0.reply.session ≤ id_of s.epoch s.session_ids_given"),
            ("second", "is_ops y0.token ≡ false → c.stage k ≡ SaidSecond false → y0.reply.status ≡ success → (0 < c.rank c.accepted → s.present c.accepted ≡ false) × ((j : ℕ) → is_new c.pending (s.making j) ≡ false)"),
            ("tree", "is_ops y0.token ≡ false → c.stage k ≡ AskedTree → y0.reply.status ≡ success → s.present c.accepted ≡ true → is_some (tree_in (s.trees c.accepted) y0.reply.tree) ≡ true")],
           conns="(put conns k (record (conns k) { down = (conns k).down ++ y0 ∷ [] }))",

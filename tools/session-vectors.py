@@ -364,7 +364,7 @@ def choices(table):
 
 
 def chains(table):
-    table.title("the preauthentication chain (MS-SMB2 3.1.4.4.1)")
+    table.title("the preauthentication chain (MS-SMB2 3.3.5.4, 3.3.5.5)")
     five = [said(f"{count}*{first}") for count, first in ((190, 1), (250, 2), (150, 3), (220, 4), (333, 5))]
     words = ["190*1", "250*2", "150*3", "220*4", "333*5"]
     for count in range(6):

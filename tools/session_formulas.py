@@ -47,7 +47,7 @@ def hmac_md5(key, message):
 
 
 def chain(messages, start=bytes(64)):
-    """The preauthentication hash (MS-SMB2 3.1.4.4.1)."""
+    """The preauthentication hash (MS-SMB2 3.3.5.4, 3.3.5.5)."""
     for message in messages:
         start = hashlib.sha512(start + message).digest()
     return start

@@ -79,7 +79,7 @@ lock_value file index number elements = record {
 abbrev pub class_of : Setting → ℕ
 class_of (SetBasic basic) = 4
 class_of (Rename replace path) = 10
-class_of (SetDelete marked) = 13
+class_of (SetDelete delete_pending) = 13
 class_of (SetAllocation size) = 19
 class_of (SetEnd size) = 20
 
@@ -99,7 +99,7 @@ setting_bytes (Rename replace path) = file_rename_information_spelling (record {
   root_directory = 0;
   name = utf16 path;
 })
-setting_bytes (SetDelete marked) = file_disposition_information_spelling (record { delete_pending = bit_if marked 1 })
+setting_bytes (SetDelete delete_pending) = file_disposition_information_spelling (record { delete_pending = bit_if delete_pending 1 })
 setting_bytes (SetAllocation size) = file_allocation_information_spelling (record { allocation_size = size })
 setting_bytes (SetEnd size) = file_end_of_file_information_spelling (record { end_of_file = size })
 

@@ -48,7 +48,7 @@ standard_of i = record {
   end_of_file = i.size;
   number_of_links = 1;
   delete_pending
-      = bit_if i.is_marked 1;
+      = bit_if i.is_delete_pending 1;
   directory = bit_if i.is_directory 1;
 }
 
@@ -68,7 +68,7 @@ all_of path i access options =
       allocation_size = allocation i.size;
       end_of_file = i.size;
       number_of_links = 1;
-      delete_pending = bit_if i.is_marked 1;
+      delete_pending = bit_if i.is_delete_pending 1;
       directory = bit_if i.is_directory 1;
       index_number = i.file;
       access_flags = access;

@@ -36,7 +36,7 @@ abbrev pub no_times : Basic
 no_times = record { created = 0; accessed = 0; written = 0; changed = 0; attributes = 0 }
 
 abbrev pub of_length : ℕ → Info
-of_length size = record { file = 0; is_directory = false; size = size; is_marked = false; times = no_times }
+of_length size = record { file = 0; is_directory = false; size = size; is_delete_pending = false; times = no_times }
 
 -- ---- CREATE (2.2.14): of its success at the action and the open
 

@@ -33,7 +33,7 @@ pub record IsBasic (b : Basic) : Type 0 where
 abbrev pub IsSetting : Setting → Type 0
 IsSetting (SetBasic basic) = IsBasic basic
 IsSetting (Rename replace path) = IsName path
-IsSetting (SetDelete marked) = Unit {0}
+IsSetting (SetDelete delete_pending) = Unit {0}
 IsSetting (SetAllocation size) = size < 256 ^ 8
 IsSetting (SetEnd size) = size < 256 ^ 8
 

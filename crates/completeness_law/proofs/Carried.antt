@@ -19,7 +19,7 @@ use Rattle.server_law.proofs.Logic.{either, front_of}
 use Rattle.completeness_law.proofs.Events.{put_at, put_off}
 
 abbrev pub Carried : Client → (ℕ → Conn) → Type 0
-Carried c conns = (g k : ℕ) → c.on g ≡ Some k → (conns k).client_open ≡ true → (conns k).server_open ≡ true → 1 ≤ copies g (conns k)
+Carried c conns = (g k : ℕ) → c.outstanding_on g ≡ Some k → (conns k).client_open ≡ true → (conns k).server_open ≡ true → 1 ≤ copies g (conns k)
 
 absent : (b : Bool) (P : Type 0) → b ≡ true → b ≡ false → P
 absent b P e f = absurd (cc)
@@ -31,14 +31,14 @@ abbrev bit : Bool → ℕ
 bit b = if b then 1 else 0
 
 -- one connection changes
-put_carried : (c : Client) (conns : ℕ → Conn) (j : ℕ) (d : Conn) → ((g : ℕ) → c.on g ≡ Some j → d.client_open ≡ true → d.server_open ≡ true → 1 ≤ copies g d) → Carried c conns → Carried c (put conns j d)
+put_carried : (c : Client) (conns : ℕ → Conn) (j : ℕ) (d : Conn) → ((g : ℕ) → c.outstanding_on g ≡ Some j → d.client_open ≡ true → d.server_open ≡ true → 1 ≤ copies g d) → Carried c conns → Carried c (put conns j d)
 put_carried c conns j d here h g k on =
     elim (k == j) as (λ b. k == j ≡ b → (if b then d else conns k).client_open ≡ true → (if b then d else conns k).server_open ≡ true → 1 ≤ copies g (if b then d else conns k)) [
       | true ↦ λ q. here g (on ∙ ap Some (eqb-true k j q))
       | false ↦ λ q. h g k on
     ] refl
 
-on_same : (c d : Client) (conns : ℕ → Conn) → d.on ≡ c.on → Carried c conns → Carried d conns
+on_same : (c d : Client) (conns : ℕ → Conn) → d.outstanding_on ≡ c.outstanding_on → Carried c conns → Carried d conns
 on_same c d conns e h = subst (λ f. (g k : ℕ) → f g ≡ Some k → (conns k).client_open ≡ true → (conns k).server_open ≡ true → 1 ≤ copies g (conns k)) (sym e) h
 
 -- ---- a push
@@ -52,34 +52,34 @@ one_up c t m n g e = let p = count_up-push g c.up (record { token = t; message =
     is_one : (n m : ℕ) → n ≡ m → bit (n == m) ≡ 1
     is_one n m e = grind (arith, nat_tests)
 
-sends : (c d : Client) (conns : ℕ → Conn) (j g0 n : ℕ) (t : Token) (m : Message) → d.on ≡ put c.on g0 (Some j) → op_of t ≡ g0 → Carried c conns → Carried d (put conns j (send_up (conns j) t m n))
+sends : (c d : Client) (conns : ℕ → Conn) (j g0 n : ℕ) (t : Token) (m : Message) → d.outstanding_on ≡ put c.outstanding_on g0 (Some j) → op_of t ≡ g0 → Carried c conns → Carried d (put conns j (send_up (conns j) t m n))
 sends c d conns j g0 n t m on op h g k is =
     elim (k == j) as (λ b. k == j ≡ b → (if b then send_up (conns j) t m n else conns k).client_open ≡ true → (if b then send_up (conns j) t m n else conns k).server_open ≡ true → 1 ≤ copies g (if b then send_up (conns j) t m n else conns k)) [
       | true ↦ λ q o s. elim (g == g0) as (λ b. g == g0 ≡ b → 1 ≤ copies g (send_up (conns j) t m n)) [
         | true ↦ λ e. one_up (conns j) t m n g (op ∙ sym (eqb-true g g0 e))
-        | false ↦ λ e. let ne = eqb-false g g0 e in more_up (conns j) t m n g (h g j (sym (put_off c.on g0 (Some j) g ne) ∙ ap (λ f. f g) (sym on) ∙ is ∙ ap Some (eqb-true k j q)) o s)
+        | false ↦ λ e. let ne = eqb-false g g0 e in more_up (conns j) t m n g (h g j (sym (put_off c.outstanding_on g0 (Some j) g ne) ∙ ap (λ f. f g) (sym on) ∙ is ∙ ap Some (eqb-true k j q)) o s)
       ] refl
       | false ↦ λ q o s. let nk = eqb-false k j q in
           elim (g == g0) as (λ b. g == g0 ≡ b → 1 ≤ copies g (conns k)) [
-            | true ↦ λ e. absurd (nk (same_key (sym (put_at c.on g0 (Some j)) ∙ ap (λ x. put c.on g0 (Some j) x) (sym (eqb-true g g0 e)) ∙ ap (λ f. f g) (sym on) ∙ is)))
-            | false ↦ λ e. h g k (sym (put_off c.on g0 (Some j) g (eqb-false g g0 e)) ∙ ap (λ f. f g) (sym on) ∙ is) o s
+            | true ↦ λ e. absurd (nk (same_key (sym (put_at c.outstanding_on g0 (Some j)) ∙ ap (λ x. put c.outstanding_on g0 (Some j) x) (sym (eqb-true g g0 e)) ∙ ap (λ f. f g) (sym on) ∙ is)))
+            | false ↦ λ e. h g k (sym (put_off c.outstanding_on g0 (Some j) g (eqb-false g g0 e)) ∙ ap (λ f. f g) (sym on) ∙ is) o s
           ] refl
     ] refl
   where
     same_key : {a b : ℕ} → Some a ≡ Some b → b ≡ a
     same_key e = cc
 
-slotless_on : (c : Client) (k : ℕ) (gs : List ℕ) → (settle_no_slots c k gs).on ≡ c.on
+slotless_on : (c : Client) (k : ℕ) (gs : List ℕ) → (settle_no_slots c k gs).outstanding_on ≡ c.outstanding_on
 unfolding settle_no_slots
 slotless_on c k [] = refl
 slotless_on c k (g ∷ gs) =
-    slotless_on (settle_no_slot c k g) k gs ∙ either (λ (d : Client). d.on ≡ c.on) (lacks_slot c k g) (record c { outcome = put c.outcome g (NoSlot (create_for c g)) }) c (λ _. refl) (λ _. refl)
+    slotless_on (settle_no_slot c k g) k gs ∙ either (λ (d : Client). d.outstanding_on ≡ c.outstanding_on) (lacks_slot c k g) (record c { outcome = put c.outcome g (NoSlot (create_for c g)) }) c (λ _. refl) (λ _. refl)
 
-begun_on : (c : Client) (g i : ℕ) → (begun c g i).on ≡ c.on
+begun_on : (c : Client) (g i : ℕ) → (begun c g i).outstanding_on ≡ c.outstanding_on
 begun_on c g i =
-    let P : Client → Type 0 = λ d. d.on ≡ c.on in
+    let P : Client → Type 0 = λ d. d.outstanding_on ≡ c.outstanding_on in
     either P (c.sent g) (again c g) (begin c g i)
-    (λ _. either P (is_lock (c.op g)) (record c { retried = put2 c.retried (create_for c g) (c.slot_of g) c.number }) c (λ _. refl) (λ _. refl))
+    (λ _. either P (is_lock (c.op g)) (record c { retried = put2 c.retried (create_for c g) (c.slot_of g) c.session_number }) c (λ _. refl) (λ _. refl))
     (λ _. either P (is_lock (c.op g)) (record (take_slot c g i) { sent = put c.sent g true }) (record c { sent = put c.sent g true }) (λ _. refl) (λ _. refl))
 
 Here : World → Type 0
@@ -146,26 +146,26 @@ behind_copies c y rest g is n l =
 
 -- what is outstanding but for one operation is carried behind the reply
 behind : (c : Client) (conns : ℕ → Conn) (k g0 : ℕ) (y : Received) (rest : List Received) → (conns k).down ≡ y ∷ rest → op_of y.token ≡ g0 → Carried c conns
-    → (g q : ℕ) → c.on g ≡ Some q → g ≢ g0 → (put conns k (take_front (conns k) rest) q).client_open ≡ true → (put conns k (take_front (conns k) rest) q).server_open ≡ true → 1 ≤ copies g (put conns k (take_front (conns k) rest) q)
+    → (g q : ℕ) → c.outstanding_on g ≡ Some q → g ≢ g0 → (put conns k (take_front (conns k) rest) q).client_open ≡ true → (put conns k (take_front (conns k) rest) q).server_open ≡ true → 1 ≤ copies g (put conns k (take_front (conns k) rest) q)
 behind c conns k g0 y rest is token h g q on n =
     elim (q == k) as (λ b. q == k ≡ b → (if b then take_front (conns k) rest else conns q).client_open ≡ true → (if b then take_front (conns k) rest else conns q).server_open ≡ true → 1 ≤ copies g (if b then take_front (conns k) rest else conns q)) [
       | true ↦ λ e o s. behind_copies (conns k) y rest g is (λ z. n (sym (sym token ∙ z))) (h g k (on ∙ ap Some (eqb-true q k e)) o s)
       | false ↦ λ e. h g q on
     ] refl
 
-settle_on : (c : Client) (g : ℕ) (asking : Bool) (r : Reply) (place : ℕ) (o : Outcome) → (settle c g asking r place o).on ≡ put c.on g None
+settle_on : (c : Client) (g : ℕ) (asking : Bool) (r : Reply) (place : ℕ) (o : Outcome) → (settle c g asking r place o).outstanding_on ≡ put c.outstanding_on g None
 settle_on c g asking r place o =
     let n = noted c g o r.body in let f = noted_full n g asking r.status in let d = settled f g o place in
-    let e : d.on ≡ put c.on g None = ap (λ h. put h g None) (full_on n ∙ noted_on o) in
-    either (λ (x : Client). x.on ≡ put c.on g None) (settles_open (c.op g)) (with_no_opens d (create_for c g)) d (λ _. e) (λ _. e)
+    let e : d.outstanding_on ≡ put c.outstanding_on g None = ap (λ h. put h g None) (full_on n ∙ noted_on o) in
+    either (λ (x : Client). x.outstanding_on ≡ put c.outstanding_on g None) (settles_open (c.op g)) (with_no_opens d (create_for c g)) d (λ _. e) (λ _. e)
   where
-    full_on : (n : Client) → (noted_full n g asking r.status).on ≡ n.on
-    full_on n = either (λ (d : Client). d.on ≡ n.on) (is_lock (n.op g) && (not asking && (r.status == disk_full))) (record n { full = put2 n.full (create_for n g) (n.slot_of g) true }) n (λ _. refl) (λ _. refl)
+    full_on : (n : Client) → (noted_full n g asking r.status).outstanding_on ≡ n.outstanding_on
+    full_on n = either (λ (d : Client). d.outstanding_on ≡ n.outstanding_on) (is_lock (n.op g) && (not asking && (r.status == disk_full))) (record n { full = put2 n.full (create_for n g) (n.slot_of g) true }) n (λ _. refl) (λ _. refl)
 
-    noted_on : (o : Outcome) → (noted c g o r.body).on ≡ c.on
+    noted_on : (o : Outcome) → (noted c g o r.body).outstanding_on ≡ c.outstanding_on
     noted_on (WasOk reply) =
-        either (λ (d : Client). d.on ≡ c.on) (is_create (c.op g)) (record c { file = put c.file g (id_in r.body); attached = put c.attached g c.number }) (if is_close (c.op g) then record c { shut = put c.shut (create_for c g) true } else c) (λ _. refl)
-        (λ _. either (λ (d : Client). d.on ≡ c.on) (is_close (c.op g)) (record c { shut = put c.shut (create_for c g) true }) c (λ _. refl) (λ _. refl))
+        either (λ (d : Client). d.outstanding_on ≡ c.outstanding_on) (is_create (c.op g)) (record c { file = put c.file g (id_in r.body); attached = put c.attached g c.session_number }) (if is_close (c.op g) then record c { closed_ok = put c.closed_ok (create_for c g) true } else c) (λ _. refl)
+        (λ _. either (λ (d : Client). d.outstanding_on ≡ c.outstanding_on) (is_close (c.op g)) (record c { closed_ok = put c.closed_ok (create_for c g) true }) c (λ _. refl) (λ _. refl))
     noted_on Unsettled = refl
     noted_on (WasRefused status) = refl
     noted_on (NoSlot create) = refl
@@ -173,18 +173,18 @@ settle_on c g asking r place o =
     noted_on (Unknown why) = refl
 
 -- what was outstanding for one operation isn't any more
-without_one : (c d : Client) (conns : ℕ → Conn) (g0 : ℕ) → d.on ≡ put c.on g0 None
-    → ((g q : ℕ) → c.on g ≡ Some q → g ≢ g0 → (conns q).client_open ≡ true → (conns q).server_open ≡ true → 1 ≤ copies g (conns q)) → Carried d conns
+without_one : (c d : Client) (conns : ℕ → Conn) (g0 : ℕ) → d.outstanding_on ≡ put c.outstanding_on g0 None
+    → ((g q : ℕ) → c.outstanding_on g ≡ Some q → g ≢ g0 → (conns q).client_open ≡ true → (conns q).server_open ≡ true → 1 ≤ copies g (conns q)) → Carried d conns
 without_one c d conns g0 e h g q on =
     elim (g == g0) as (λ b. g == g0 ≡ b → (conns q).client_open ≡ true → (conns q).server_open ≡ true → 1 ≤ copies g (conns q)) [
-      | true ↦ λ t. none_some (put c.on g0 None g) _ (ap (λ x. put c.on g0 None x) (eqb-true g g0 t) ∙ put_at c.on g0 None) (ap (λ f. f g) (sym e) ∙ on)
-      | false ↦ λ t. let n = eqb-false g g0 t in h g q (sym (put_off c.on g0 None g n) ∙ ap (λ f. f g) (sym e) ∙ on) n
+      | true ↦ λ t. none_some (put c.outstanding_on g0 None g) _ (ap (λ x. put c.outstanding_on g0 None x) (eqb-true g g0 t) ∙ put_at c.outstanding_on g0 None) (ap (λ f. f g) (sym e) ∙ on)
+      | false ↦ λ t. let n = eqb-false g g0 t in h g q (sym (put_off c.outstanding_on g0 None g n) ∙ ap (λ f. f g) (sym e) ∙ on) n
     ] refl
 
 nothing_open : (c : Client) (conns : ℕ → Conn) → Carried (end_session c) (λ q. client_off (conns q))
 nothing_open c conns g q on = none_some None _ refl on
 
-hears : (w : World) (k g : ℕ) (asking : Bool) (r : Reply) (place : ℕ) → ((n q : ℕ) → w.client.on n ≡ Some q → n ≢ g → (w.conns q).client_open ≡ true → (w.conns q).server_open ≡ true → 1 ≤ copies n (w.conns q))
+hears : (w : World) (k g : ℕ) (asking : Bool) (r : Reply) (place : ℕ) → ((n q : ℕ) → w.client.outstanding_on n ≡ Some q → n ≢ g → (w.conns q).client_open ≡ true → (w.conns q).server_open ≡ true → 1 ≤ copies n (w.conns q))
     → is_awaited w.client k g asking ≡ true → Here (op_took w k g asking r place)
 unfolding Here
 hears w k g asking r place h awaited =
@@ -205,11 +205,11 @@ dialog_on w k rest r h Binds = let f = (behind_reply w k rest).conns in ended_we
 dialog_on w k rest r h Readies = let f = (behind_reply w k rest).conns in ended_well Here (behind_reply w k rest) k w.client.pending r.tree (λ live. h) (λ dead newer. h) (put_carried w.client f k _ (λ g on o s. absurd (cc)) h)
 dialog_on w k rest r h (Refuses status) = let f = (behind_reply w k rest).conns in put_carried w.client f k _ (λ g on o s. absurd (cc)) h
 
-awaited_if : (c : Client) (k g : ℕ) (asking : Bool) → c.on g ≡ Some k → c.asking g ≡ asking → is_awaited c k g asking ≡ true
+awaited_if : (c : Client) (k g : ℕ) (asking : Bool) → c.outstanding_on g ≡ Some k → c.asks_attach g ≡ asking → is_awaited c k g asking ≡ true
 awaited_if c k g true on asks = grind arith
 awaited_if c k g false on asks = grind arith
 
-takes_op : (w : World) (a : ℕ → ℕ) (k g0 : ℕ) (asking : Bool) (y : Received) (rest : List Received) → Connections w.client w.conns a → (w.conns k).client_open ≡ true → (w.conns k).down ≡ y ∷ rest → op_of y.token ≡ g0 → w.client.asking g0 ≡ asking → Here w
+takes_op : (w : World) (a : ℕ → ℕ) (k g0 : ℕ) (asking : Bool) (y : Received) (rest : List Received) → Connections w.client w.conns a → (w.conns k).client_open ≡ true → (w.conns k).down ≡ y ∷ rest → op_of y.token ≡ g0 → w.client.asks_attach g0 ≡ asking → Here w
     → Here (op_took (behind_reply w k rest) k g0 asking y.reply y.place)
 unfolding Here
 takes_op w a k g0 asking y rest fit o is token asks h =
@@ -253,7 +253,7 @@ cut_on k j q (Some i) e = (grind arith, λ z. absurd (grind arith))
 
 cut_one : (c : Client) (conns : ℕ → Conn) (k : ℕ) → Carried c conns → Carried (cut_channel c k) (put conns k (client_off (conns k)))
 cut_one c conns k h g q on =
-    let p = cut_on k 0 q (c.on g) on in
+    let p = cut_on k 0 q (c.outstanding_on g) on in
     elim (q == k) as (λ b. q == k ≡ b → (if b then client_off (conns k) else conns q).client_open ≡ true → (if b then client_off (conns k) else conns q).server_open ≡ true → 1 ≤ copies g (if b then client_off (conns k) else conns q)) [
       | true ↦ λ e. absurd (p.1 (eqb-true q k e))
       | false ↦ λ e. h g q p.0
@@ -283,7 +283,7 @@ unfolding Here
 crashes w k true = absorbed_off w k (w.conns k).up
 crashes w k false = no_server w.client w.conns
 
-opens : (w : World) (k : ℕ) (A : Answer) → ((g : ℕ) → w.client.on g ≡ Some k → ⊥) → Here w → Here (opened_by w k A)
+opens : (w : World) (k : ℕ) (A : Answer) → ((g : ℕ) → w.client.outstanding_on g ≡ Some k → ⊥) → Here w → Here (opened_by w k A)
 unfolding Here
 opens w k A none h = put_carried w.client w.conns k _ (λ g on o s. absurd (none g on)) h
 

@@ -53,15 +53,15 @@ slot_there c create i (suc n) j e =
 
 -- ---- credits
 
-pub nothing_paid : (c : Client) (k n : ℕ) → ((g : ℕ) → c.on g ≡ None) → paid_on c k n ≡ 0
+pub nothing_paid : (c : Client) (k n : ℕ) → ((g : ℕ) → c.outstanding_on g ≡ None) → paid_on c k n ≡ 0
 unfolding paid_on
 nothing_paid c k zero f = refl
-nothing_paid c k (suc n) f = let e = nothing_paid c k n f in none_more (c.on (n + 1)) (paid c (n + 1)) (paid_on c k n) (f (n + 1)) e
+nothing_paid c k (suc n) f = let e = nothing_paid c k n f in none_more (c.outstanding_on (n + 1)) (paid c (n + 1)) (paid_on c k n) (f (n + 1)) e
   where
     none_more : (o : Option ℕ) (p r : ℕ) → o ≡ None → r ≡ 0 → (if is_at k o then p else 0) + r ≡ 0
     none_more o p r e z = grind arith
 
-pub full_purse : (c : Client) (k : ℕ) → ((g : ℕ) → c.on g ≡ None) → purse c k ≡ 512
+pub full_purse : (c : Client) (k : ℕ) → ((g : ℕ) → c.outstanding_on g ≡ None) → purse c k ≡ 512
 full_purse c k f = ap (λ n. 512 - n) (nothing_paid c k c.taken f)
 
 affordable : (c : Client) (g credits : ℕ) → charge (weight (c.op g)) ≤ 512 → credits ≡ 512 → nat_le (cost c g) credits ≡ true
@@ -82,7 +82,7 @@ waits_off c g (suc n) l a z lower = let rest = waits_off c g n (omega (arith, l)
 
 pub record Calm (c : Client) (k : ℕ) : Type 0 where
   pub ready : c.ready k ≡ true
-  pub idle : (g : ℕ) → c.on g ≡ None
+  pub idle : (g : ℕ) → c.outstanding_on g ≡ None
   pub creates : (g : ℕ) → 0 < g → g ≤ c.taken → 0 < create_for c g × (is_create (c.op g) ≡ false → create_for c g < g × is_create (c.op (create_for c g)) ≡ true)
   pub create_ok : (g : ℕ) → 0 < g → g ≤ c.taken → is_unsettled (c.outcome g) ≡ true → is_create (c.op g) ≡ false → is_unsettled (c.outcome (create_for c g)) ≡ false → is_ok (c.outcome (create_for c g)) ≡ true
   pub limits : (g : ℕ) → 0 < g → g ≤ c.taken → charge (weight (c.op g)) ≤ 512
@@ -92,7 +92,7 @@ pub may_go : (c : Client) (k g : ℕ) → Calm c k → 0 < g → g ≤ c.taken �
 may_go c k g q low high pending lower =
     let w = waits_off c g g (omega arith) (q.creates g low high).0 q.zeroth lower in
     both (c.ready k) _ q.ready (both (is_taken c g) _ (both (nat_lt 0 g) _ (grind (arith, nat_tests)) (grind (arith, nat_tests))) (both (is_unsettled (c.outcome g)) _ pending
-    (both (is_none (c.on g)) _ (ap is_none (q.idle g)) (both (has_open c g) _ (has (is_create (c.op g)) refl) (ap not w)))))
+    (both (is_none (c.outstanding_on g)) _ (ap is_none (q.idle g)) (both (has_open c g) _ (has (is_create (c.op g)) refl) (ap not w)))))
   where
     has : (b : Bool) → is_create (c.op g) ≡ b → has_open c g ≡ true
     has true e = either_true (is_create (c.op g)) (is_ok (c.outcome (create_for c g))) e

@@ -138,7 +138,7 @@ counted_on w e a fit channels low h =
 pub record Rows (c d : Client) : Type 0 where
   pub op : d.op ≡ c.op
   pub taken : d.taken ≡ c.taken
-  pub number : d.number ≡ c.number
+  pub number : d.session_number ≡ c.session_number
   pub sent : d.sent ≡ c.sent
 
 rows_so : (c d e : Client) → Rows c d → Rows d e → Rows c e
@@ -149,9 +149,9 @@ rows c = record { op = refl; taken = refl; number = refl; sent = refl }
 
 pub rows_noted : (c : Client) (g : ℕ) (o : Outcome) (body : Body) → Rows c (noted c g o body)
 rows_noted c g (WasOk reply) body =
-    either (λ d. Rows c d) (is_create (c.op g)) (record c { file = put c.file g (id_in body); attached = put c.attached g c.number }) (if is_close (c.op g) then record c { shut = put c.shut (create_for c g) true } else c)
+    either (λ d. Rows c d) (is_create (c.op g)) (record c { file = put c.file g (id_in body); attached = put c.attached g c.session_number }) (if is_close (c.op g) then record c { closed_ok = put c.closed_ok (create_for c g) true } else c)
     (λ _. record { op = refl; taken = refl; number = refl; sent = refl })
-    (λ _. either (λ d. Rows c d) (is_close (c.op g)) (record c { shut = put c.shut (create_for c g) true }) c (λ _. record { op = refl; taken = refl; number = refl; sent = refl }) (λ _. rows c))
+    (λ _. either (λ d. Rows c d) (is_close (c.op g)) (record c { closed_ok = put c.closed_ok (create_for c g) true }) c (λ _. record { op = refl; taken = refl; number = refl; sent = refl }) (λ _. rows c))
 rows_noted c g Unsettled body = rows c
 rows_noted c g (WasRefused status) body = rows c
 rows_noted c g (NoSlot create) body = rows c
@@ -172,13 +172,13 @@ rows_settle c g asking r place o =
 pub record Taken (c d : Client) : Type 0 where
   pub op : d.op ≡ c.op
   pub taken : d.taken ≡ c.taken
-  pub number : c.number ≤ d.number
+  pub number : c.session_number ≤ d.session_number
 
 taken_begun : (w c : Client) (k g i : ℕ) → Taken w c → Taken w (outstanding (begun c g i) k g)
 taken_begun w c k g i t =
     let P : Client → Type 0 = λ d. Taken w (outstanding d k g) in
     either P (c.sent g) (again c g) (begin c g i)
-    (λ _. either P (is_lock (c.op g)) (record c { retried = put2 c.retried (create_for c g) (c.slot_of g) c.number }) c (λ _. record { op = t.op; taken = t.taken; number = t.number }) (λ _. record { op = t.op; taken = t.taken; number = t.number }))
+    (λ _. either P (is_lock (c.op g)) (record c { retried = put2 c.retried (create_for c g) (c.slot_of g) c.session_number }) c (λ _. record { op = t.op; taken = t.taken; number = t.number }) (λ _. record { op = t.op; taken = t.taken; number = t.number }))
     (λ _. either P (is_lock (c.op g)) (record (take_slot c g i) { sent = put c.sent g true }) (record c { sent = put c.sent g true }) (λ _. record { op = t.op; taken = t.taken; number = t.number }) (λ _. record { op = t.op; taken = t.taken; number = t.number }))
 
 pub taken_rows : (c d : Client) → Rows c d → Taken c d
@@ -211,8 +211,8 @@ taken_on w e n = client_keeps (Taken w.client) w e (λ g op is m. absurd (submit
     submits : (e : Event) (g : ℕ) (op : Op) → e ≡ Submit g op → is_submit e ≡ false → ⊥
     submits e g op is n = absurd (grind arith)
 
-pub number_on : (w : World) (e : Event) → w.client.number ≤ (happens w e).client.number
-number_on w (Submit g op) = either (λ (d : Client). w.client.number ≤ d.number) (may_take w.client g op) (take_op w.client g op) w.client (λ _. omega arith) (λ _. omega arith)
+pub number_on : (w : World) (e : Event) → w.client.session_number ≤ (happens w e).client.session_number
+number_on w (Submit g op) = either (λ (d : Client). w.client.session_number ≤ d.session_number) (may_take w.client g op) (take_op w.client g op) w.client (λ _. omega arith) (λ _. omega arith)
 number_on w (Open k) = (taken_on w (Open k) refl).number
 number_on w (Push k slotless pick) = (taken_on w (Push k slotless pick) refl).number
 number_on w (Serve k) = (taken_on w (Serve k) refl).number

@@ -21,9 +21,9 @@ pub record Out (c : Client) (w v : World) (k g : ℕ) (asking : Bool) (x : Sent)
   pub client_end : (v.conns k).client_open ≡ (w.conns k).client_open
   pub server_end : (v.conns k).server_open ≡ (w.conns k).server_open
   pub token : x.token ≡ (if asking then ForAttach g else ForOp g)
-  pub on : v.client.on g ≡ Some k
-  pub asks : v.client.asking g ≡ asking
-  pub sequence : asking ≡ false → v.client.seq_of g ≡ v.client.sequence
+  pub outstanding_on : v.client.outstanding_on g ≡ Some k
+  pub asks : v.client.asks_attach g ≡ asking
+  pub sequence : asking ≡ false → v.client.sequence_of g ≡ v.client.sequence
   pub outcome : v.client.outcome ≡ c.outcome
   pub ready : v.client.ready ≡ c.ready
 
@@ -31,7 +31,7 @@ begun_same : (c : Client) (g i : ℕ) → (begun c g i).outcome ≡ c.outcome ×
 begun_same c g i =
     let P : Client → Type 0 = λ d. d.outcome ≡ c.outcome × d.ready ≡ c.ready in
     either P (c.sent g) (again c g) (begin c g i)
-    (λ _. either P (is_lock (c.op g)) (record c { retried = put2 c.retried (create_for c g) (c.slot_of g) c.number }) c (λ _. (refl, refl)) (λ _. (refl, refl)))
+    (λ _. either P (is_lock (c.op g)) (record c { retried = put2 c.retried (create_for c g) (c.slot_of g) c.session_number }) c (λ _. (refl, refl)) (λ _. (refl, refl)))
     (λ _. either P (is_lock (c.op g)) (record (take_slot c g i) { sent = put c.sent g true }) (record c { sent = put c.sent g true }) (λ _. (refl, refl)) (λ _. (refl, refl)))
 
 sent_up : (w : World) (k n : ℕ) (x : Sent) (d : Conn) → d ≡ send_up (w.conns k) x.token x.message n → d.up ≡ (w.conns k).up ++ x ∷ [] × d.down ≡ (w.conns k).down × d.client_open ≡ (w.conns k).client_open × d.server_open ≡ (w.conns k).server_open
@@ -48,9 +48,9 @@ itself_out c w k g i =
         client_end = s.2;
         server_end = s.3;
         token = refl;
-        on = put_at b.on g (Some k);
-        asks = put_at b.asking g false;
-        sequence = λ _. put_at b.seq_of g b.sequence;
+        outstanding_on = put_at b.outstanding_on g (Some k);
+        asks = put_at b.asks_attach g false;
+        sequence = λ _. put_at b.sequence_of g b.sequence;
         outcome = q.0;
         ready = q.1;
       },
@@ -67,8 +67,8 @@ ask_out c w k g =
         client_end = s.2;
         server_end = s.3;
         token = refl;
-        on = put_at c.on g (Some k);
-        asks = put_at c.asking g true;
+        outstanding_on = put_at c.outstanding_on g (Some k);
+        asks = put_at c.asks_attach g true;
         sequence = λ e. absurd (cc);
         outcome = refl;
         ready = refl;
@@ -119,9 +119,9 @@ pub data Comes (c : Client) (g : ℕ) (asking : Bool) (h : Hearing) : Type 0 whe
   ItSettles : (o : Outcome) → h ≡ Settles o → Comes c g asking h
   ItAttaches : asking ≡ true → h ≡ Attaches → Comes c g asking h
 
-not_again : (c : Client) (g : ℕ) (asking : Bool) (status : ℕ) → (asking ≡ false → c.seq_of g ≡ c.sequence) → goes_again c g asking status ≡ false
+not_again : (c : Client) (g : ℕ) (asking : Bool) (status : ℕ) → (asking ≡ false → c.sequence_of g ≡ c.sequence) → goes_again c g asking status ≡ false
 not_again c g true status e = grind arith
-not_again c g false status e = let q = e refl in same (is_change (c.op g)) (status == file_not_available) (c.seq_of g) c.sequence q
+not_again c g false status e = let q = e refl in same (is_change (c.op g)) (status == file_not_available) (c.sequence_of g) c.sequence q
   where
     same : (a b : Bool) (n m : ℕ) → n ≡ m → (true && (a && (b && nat_lt n m))) ≡ false
     same a b n m e = grind (arith, nat_tests)
@@ -139,19 +139,19 @@ refused_settles op asking before status =
     (λ _. either P (may_have_acted op asking status) u _ (λ _. (Unknown (WithStatus status), refl))
     (λ _. either P (refuses_all op status) n u (λ _. (WasRefused status, refl)) (λ _. (Unknown (WithStatus status), refl)))))
 
-pub comes : (c : Client) (g : ℕ) (asking : Bool) (r : Reply) → r.status ≢ user_session_deleted → (asking ≡ false → c.seq_of g ≡ c.sequence) → Comes c g asking (heard c g asking r)
+pub comes : (c : Client) (g : ℕ) (asking : Bool) (r : Reply) → r.status ≢ user_session_deleted → (asking ≡ false → c.sequence_of g ≡ c.sequence) → Comes c g asking (heard c g asking r)
 comes c g asking r n e =
     let P : Hearing → Type 0 = λ h. Comes c g asking h in
     either P (r.status == user_session_deleted) EndsSession _ (λ d. absurd (n (eqb-true r.status user_session_deleted d)))
     (λ _. either P (r.status == success) _ _
     (λ _. either P asking Attaches (ok_or_unknown (value_in (c.op g) r.body)) (λ a. ItAttaches a refl) (λ _. let q = ok_settles (value_in (c.op g) r.body) in ItSettles q.0 q.1))
-    (λ _. either P (goes_again c g asking r.status) GoesAgain (refused (c.op g) asking (c.before g) r.status) (λ again. absurd (off (goes_again c g asking r.status) again (not_again c g asking r.status e)))
-    (λ _. let q = refused_settles (c.op g) asking (c.before g) r.status in ItSettles q.0 q.1)))
+    (λ _. either P (goes_again c g asking r.status) GoesAgain (refused (c.op g) asking (c.unanswered g) r.status) (λ again. absurd (off (goes_again c g asking r.status) again (not_again c g asking r.status e)))
+    (λ _. let q = refused_settles (c.op g) asking (c.unanswered g) r.status in ItSettles q.0 q.1)))
   where
     off : (b : Bool) → b ≡ true → b ≡ false → ⊥
     off b e f = absurd (cc)
 
-pub awaited_now : (c : Client) (k g : ℕ) (asking : Bool) → c.on g ≡ Some k → c.asking g ≡ asking → is_awaited c k g asking ≡ true
+pub awaited_now : (c : Client) (k g : ℕ) (asking : Bool) → c.outstanding_on g ≡ Some k → c.asks_attach g ≡ asking → is_awaited c k g asking ≡ true
 awaited_now c k g true on asks = grind arith
 awaited_now c k g false on asks = grind arith
 

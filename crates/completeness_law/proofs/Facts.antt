@@ -34,7 +34,7 @@ pub record Facts (w : World) : Type 0 where
   pub client_low : (k : ℕ) → (w.conns k).client_open ≡ true → k < 256
   pub server_low : (k : ℕ) → (w.conns k).server_open ≡ true → k < 256
   -- what is outstanding on a channel with two open ends waits there
-  pub carried : (g k : ℕ) → w.client.on g ≡ Some k → (w.conns k).client_open ≡ true → (w.conns k).server_open ≡ true → 1 ≤ copies g (w.conns k)
+  pub carried : (g k : ℕ) → w.client.outstanding_on g ≡ Some k → (w.conns k).client_open ≡ true → (w.conns k).server_open ≡ true → 1 ≤ copies g (w.conns k)
   -- a connection that the server doesn't hold is taken in
   pub accepts : (k : ℕ) → k < 256 → (w.conns k).server_open ≡ false → (step w.server w.moment (Accept k)).reply.status ≡ success
   -- what waits for a create that settled waits for one that is Ok
@@ -53,7 +53,7 @@ pub record Always (K : World → Type 0) : Type 0 where
   pub facts : (w : World) → K w → Facts w
   pub stays : (w : World) (e : Event) (g : ℕ) → K w → is_unsettled (w.client.outcome g) ≡ false → is_unsettled ((happens w e).client.outcome g) ≡ false
   pub taken : (w : World) (e : Event) → is_submit e ≡ false → (happens w e).client.taken ≡ w.client.taken
-  pub number : (w : World) (e : Event) → w.client.number ≤ (happens w e).client.number
+  pub number : (w : World) (e : Event) → w.client.session_number ≤ (happens w e).client.session_number
 
 -- no operation on a ready channel with two open ends hears that its session is gone
 abbrev pub StaysPresent : World → Type 0

@@ -10,7 +10,7 @@ use Rattle.exchange_defs.specs.CheckOpen.{file_of}
 use Rattle.exchange_defs.specs.CheckSetup.{count_channels, previous_of, setup_check, binding_check, session_check, granted_session, second_token, first_token, is_new}
 use Rattle.exchange_defs.specs.Check.{check, owed, formed, command_check, has_session}
 use Rattle.exchange_defs.specs.Effects.{apply, cleared, end_if_named, reach, set_ranges, file_made}
-use Rattle.exchange_defs.specs.Verdict.{Verdict, Refuse, Give, KeepRefusal, Repeat, Attach, Make, TurnDown, Tell, Show, KeepSlot, PutRanges, Alter, Shut, Challenge, ChallengeBinding, Begin, Join, EndSession, AddTree, DropTree}
+use Rattle.exchange_defs.specs.Verdict.{Verdict, Refuse, Give, KeepRefusal, Repeat, Attach, Make, TurnDown, Tell, Show, KeepSlot, PutRanges, Alter, CloseOpen, Challenge, ChallengeBinding, Begin, Join, EndSession, AddTree, DropTree}
 use Rattle.exchange_defs.specs.Step.{step, with_deadlines, expire, without_room, Ruling, TakesIn, TurnsAway, ruling, ruling_without_room, carried_out, take_out, ends_with, last_session, max_connections}
 use Rattle.exchange_defs.specs.Network.{answer_to}
 use Rattle.server_law.proofs.Logic.{either}
@@ -55,14 +55,14 @@ elsewhere m q x r e p i = absurd (let a = p.work i in let b = setup_kind m.comma
 previous_named : (s : Server) (user : List ℕ) (n p : ℕ) → previous_of s user n ≡ Some p → p ≡ n
 previous_named s user n p e = grind arith
 
-on_same : (s t : Server) (q x : ℕ) → Stays s t → s.on q ≡ Some x → t.on q ≡ Some x
-on_same s t q x h e = ap (λ f. f q) h.on ∙ e
+on_same : (s t : Server) (q x : ℕ) → Stays s t → s.session_on q ≡ Some x → t.session_on q ≡ Some x
+on_same s t q x h e = ap (λ f. f q) h.session_on ∙ e
 
-ends_other : (s : Server) (now : ℕ) (previous : Option ℕ) (is_quiet : Bool) (q x : ℕ) → ((p : ℕ) → previous ≡ Some p → x ≢ p) → s.on q ≡ Some x → (end_if_named s now previous is_quiet).on q ≡ Some x
+ends_other : (s : Server) (now : ℕ) (previous : Option ℕ) (is_quiet : Bool) (q x : ℕ) → ((p : ℕ) → previous ≡ Some p → x ≢ p) → s.session_on q ≡ Some x → (end_if_named s now previous is_quiet).session_on q ≡ Some x
 ends_other s now None is_quiet q x n e = e
-ends_other s now (Some p) is_quiet q x n e = clears_other p x (s.on q) e (n p refl)
+ends_other s now (Some p) is_quiet q x n e = clears_other p x (s.session_on q) e (n p refl)
 
-by_effect : (s : Server) (m : Message) (now : ℕ) (v : Verdict) (q x : ℕ) → Facts s m v → Spares m q x → s.on q ≡ Some x → (apply s m now v).server.on q ≡ Some x
+by_effect : (s : Server) (m : Message) (now : ℕ) (v : Verdict) (q x : ℕ) → Facts s m v → Spares m q x → s.session_on q ≡ Some x → (apply s m now v).server.session_on q ≡ Some x
 by_effect s m now (Refuse status) q x f p e = e
 by_effect s m now (Give body) q x f p e = e
 by_effect s m now (KeepRefusal guid status) q x f p e = e
@@ -76,22 +76,22 @@ by_effect s m now (KeepSlot o index number status elements) q x f p e = on_same 
 by_effect s m now (PutRanges o index number ranges elements) q x f p e =
     let a = reach s m o in let b = set_ranges a (file_of s o) ranges in on_same s _ q x (stays_so s a _ (stays_reached s m o) (stays_so a b _ (stays_ranged a (file_of s o) ranges) (stays_kept b o index number success))) e
 by_effect s m now (Alter o change body) q x f p e = on_same s _ q x (stays_so s (reach s m o) _ (stays_reached s m o) (stays_changed (reach s m o) (file_of s o) now change)) e
-by_effect s m now (Shut o body) q x f p e = on_same s _ q x (stays_so s (leave_open s o) _ (stays_left s o) (stays_closed (leave_open s o) m.session (s.opened o).guid)) e
+by_effect s m now (CloseOpen o body) q x f p e = on_same s _ q x (stays_so s (leave_open s o) _ (stays_left s o) (stays_closed (leave_open s o) m.session (s.opened o).guid)) e
 by_effect s m now Challenge q x f p e = e
 by_effect s m now (ChallengeBinding session) q x f p e = e
 by_effect s m now (Begin session user previous r is_quiet) q x f p e =
     let u = end_if_named s now previous is_quiet in
-    other_key u.on m.connection q (Some m.session) x (elsewhere m q x r f.command p)
+    other_key u.session_on m.connection q (Some m.session) x (elsewhere m q x r f.command p)
     (ends_other s now previous is_quiet q x (λ i is h. p.previous (h ∙ previous_named s user r.previous i (sym f.previous_is ∙ is) ∙ sym (setup_previous m.command r f.command))) e)
-by_effect s m now (Join session) q x f p e = other_key s.on m.connection q (Some session) x (elsewhere m q x f.binding.request f.binding.command p) e
+by_effect s m now (Join session) q x f p e = other_key s.session_on m.connection q (Some session) x (elsewhere m q x f.binding.request f.binding.command p) e
 by_effect s m now (EndSession session is_quiet) q x f p e = absurd (p.stays f.command)
 by_effect s m now (AddTree pipes) q x f p e = e
 by_effect s m now DropTree q x f p e = e
 
-step_keeps : (s : Server) (now : ℕ) (m : Message) (q x : ℕ) → Spares m q x → s.on q ≡ Some x → (step s now (Heard m)).server.on q ≡ Some x
-step_keeps s now m q x p e = by_verdict (λ A. A.server.on q ≡ Some x) s now m (λ t v records b f. by_effect t m now v q x (found t m v f) p (on_same s t q x (before_stays s now t b) e))
+step_keeps : (s : Server) (now : ℕ) (m : Message) (q x : ℕ) → Spares m q x → s.session_on q ≡ Some x → (step s now (Heard m)).server.session_on q ≡ Some x
+step_keeps s now m q x p e = by_verdict (λ A. A.server.session_on q ≡ Some x) s now m (λ t v records b f. by_effect t m now v q x (found t m v f) p (on_same s t q x (before_stays s now t b) e))
 
-pub held_on : (s : Server) (now : ℕ) (m : Message) (c : Command) (q x : ℕ) → Spares m q x → s.on q ≡ Some x → (answer_to s now m c).server.on q ≡ Some x
+pub held_on : (s : Server) (now : ℕ) (m : Message) (c : Command) (q x : ℕ) → Spares m q x → s.session_on q ≡ Some x → (answer_to s now m c).server.session_on q ≡ Some x
 held_on s now m (Aside status) q x p e = e
 held_on s now m (Unreadable status) q x p e = step_keeps s now m q x p e
 held_on s now m (Setup request) q x p e = step_keeps s now m q x p e
@@ -134,7 +134,7 @@ says_second s m r Refused = refl
 says_second s m r (Logon user) = says_granted s m r user
 
 says_first : (s : Server) (shows : Shows) → setup_says (first_token s shows) ≡ true
-says_first s Begins = either (λ v. setup_says v ≡ true) (nat_le max_ids s.begun) (Refuse insufficient_resources) Challenge (λ _. refl) (λ _. refl)
+says_first s Begins = either (λ v. setup_says v ≡ true) (nat_le max_ids s.session_ids_given) (Refuse insufficient_resources) Challenge (λ _. refl) (λ _. refl)
 says_first s Bad = refl
 says_first s Refused = refl
 says_first s (Logon user) = refl
@@ -142,7 +142,7 @@ says_first s (Logon user) = refl
 says_session : (s : Server) (m : Message) (r : SetupRequest) → setup_says (session_check s m r) ≡ true
 says_session s m r =
     let P : Verdict → Type 0 = λ v. setup_says v ≡ true in
-    either P (m.session == 0) _ _ (λ _. either P (is_some (s.on m.connection)) _ _ (λ _. refl) (λ _. says_first s r.shows))
+    either P (m.session == 0) _ _ (λ _. either P (is_some (s.session_on m.connection)) _ _ (λ _. refl) (λ _. says_first s r.shows))
     (λ _. either P (s.present m.session) _ _ (λ _. refl) (λ _. either P (is_new m.session (s.making m.connection)) _ _ (λ _. says_second s m r r.shows) (λ _. refl)))
 
 says_setup : (s : Server) (m : Message) (r : SetupRequest) → setup_says (setup_check s m r) ≡ true
@@ -171,17 +171,17 @@ says_full (Begin session user previous r is_quiet) e = refl
 says_full (Join session) e = refl
 says_full _ e = absurd (cc)
 
-enters_by : (s : Server) (m : Message) (now : ℕ) (v : Verdict) → Facts s m v → setup_says v ≡ true → (apply s m now v).reply.status ≡ success → (apply s m now v).server.on m.connection ≡ Some m.session
+enters_by : (s : Server) (m : Message) (now : ℕ) (v : Verdict) → Facts s m v → setup_says v ≡ true → (apply s m now v).reply.status ≡ success → (apply s m now v).server.session_on m.connection ≡ Some m.session
 enters_by s m now (Refuse status) f k e = absurd (grind arith)
 enters_by s m now Challenge f k e = absurd (cc)
 enters_by s m now (ChallengeBinding session) f k e = absurd (cc)
-enters_by s m now (Begin session user previous r is_quiet) f k e = own_key (end_if_named s now previous is_quiet).on m.connection (Some m.session)
-enters_by s m now (Join session) f k e = own_key s.on m.connection (Some session) ∙ ap Some f.binding.session_is
+enters_by s m now (Begin session user previous r is_quiet) f k e = own_key (end_if_named s now previous is_quiet).session_on m.connection (Some m.session)
+enters_by s m now (Join session) f k e = own_key s.session_on m.connection (Some session) ∙ ap Some f.binding.session_is
 enters_by s m now _ f k e = absurd (cc)
 
-pub enters : (s : Server) (now : ℕ) (m : Message) → is_setup m.command ≡ true → m.fault ≡ None → (step s now (Heard m)).reply.status ≡ success → (step s now (Heard m)).server.on m.connection ≡ Some m.session
+pub enters : (s : Server) (now : ℕ) (m : Message) → is_setup m.command ≡ true → m.fault ≡ None → (step s now (Heard m)).reply.status ≡ success → (step s now (Heard m)).server.session_on m.connection ≡ Some m.session
 enters s now m k fault =
-    by_verdict (λ A. A.reply.status ≡ success → A.server.on m.connection ≡ Some m.session) s now m (λ t v records b f. enters_by t m now v (found t m v f) (says t v f))
+    by_verdict (λ A. A.reply.status ≡ success → A.server.session_on m.connection ≡ Some m.session) s now m (λ t v records b f. enters_by t m now v (found t m v f) (says t v f))
   where
     says : (t : Server) (v : Verdict) → Finds t m v → setup_says v ≡ true
     says t v (inl e) = ap setup_says e ∙ says_check t m k fault
@@ -193,15 +193,15 @@ front : (s : Server) (now : ℕ) (e : ServerEvent) (t : Server) (rs : List Recor
 front s now e t rs (inl q) = subst (λ u. Stays s u) (sym q.0) (stays_dated s now)
 front s now e t rs (inr q) = subst (λ u. Stays s u) (sym q.2) (stays_so s (with_deadlines s now) (expire (with_deadlines s now) q.0) (stays_dated s now) (stays_expired (with_deadlines s now) q.0))
 
-pub accept_on : (s : Server) (now k : ℕ) → (step s now (Accept k)).server.on ≡ s.on
-accept_on s now k = by_ruling (λ A. A.server.on ≡ s.on) s now (Accept k) (λ t rs r f rules. by t r rules ∙ (front s now (Accept k) t rs f).on)
+pub accept_on : (s : Server) (now k : ℕ) → (step s now (Accept k)).server.session_on ≡ s.session_on
+accept_on s now k = by_ruling (λ A. A.server.session_on ≡ s.session_on) s now (Accept k) (λ t rs r f rules. by t r rules ∙ (front s now (Accept k) t rs f).session_on)
   where
-    full : (t : Server) → (carried_out t now (ruling_without_room (ruling t (Accept k)))).server.on ≡ t.on
-    full t = either (λ r. (carried_out t now (ruling_without_room r)).server.on ≡ t.on) (nat_le max_connections (length t.connections)) TurnsAway (TakesIn k) (λ _. refl) (λ _. refl)
+    full : (t : Server) → (carried_out t now (ruling_without_room (ruling t (Accept k)))).server.session_on ≡ t.session_on
+    full t = either (λ r. (carried_out t now (ruling_without_room r)).server.session_on ≡ t.session_on) (nat_le max_connections (length t.connections)) TurnsAway (TakesIn k) (λ _. refl) (λ _. refl)
 
-    by : (t : Server) (r : Ruling) → Rules t (Accept k) r → (carried_out t now r).server.on ≡ t.on
-    by t r (inl e) = ap (λ x. (carried_out t now x).server.on) e ∙ either (λ r. (carried_out t now r).server.on ≡ t.on) (nat_le max_connections (length t.connections)) TurnsAway (TakesIn k) (λ _. refl) (λ _. refl)
-    by t r (inr e) = ap (λ x. (carried_out t now x).server.on) e ∙ full t
+    by : (t : Server) (r : Ruling) → Rules t (Accept k) r → (carried_out t now r).server.session_on ≡ t.session_on
+    by t r (inl e) = ap (λ x. (carried_out t now x).server.session_on) e ∙ either (λ r. (carried_out t now r).server.session_on ≡ t.session_on) (nat_le max_connections (length t.connections)) TurnsAway (TakesIn k) (λ _. refl) (λ _. refl)
+    by t r (inr e) = ap (λ x. (carried_out t now x).server.session_on) e ∙ full t
 
 -- ---- a connection that ends
 
@@ -248,12 +248,12 @@ at_least_two on (y ∷ ys) j k x n a b l m =
         by false q l = omega (arith, l)
 
 -- another connection's session isn't the one that ends with this one
-last_other : (s : Server) (k q x : ℕ) → q ≢ k → s.on q ≡ Some x → 1 ≤ tally q s.connections → 1 ≤ tally k s.connections → (p : ℕ) → ends_with s k ≡ Some p → x ≢ p
-last_other s k q x n e l m p is h = by (s.on k) refl is
+last_other : (s : Server) (k q x : ℕ) → q ≢ k → s.session_on q ≡ Some x → 1 ≤ tally q s.connections → 1 ≤ tally k s.connections → (p : ℕ) → ends_with s k ≡ Some p → x ≢ p
+last_other s k q x n e l m p is h = by (s.session_on k) refl is
   where
-    few : (y : ℕ) → s.on k ≡ Some y → (if nat_le (count_channels s.on s.connections y) 1 then Some y else None) ≡ Some p → ⊥
-    few y on = either (λ u. u ≡ Some p → ⊥) (nat_le (count_channels s.on s.connections y) 1) (Some y) None
-        (λ t i. let same : y ≡ x = is_same y p i ∙ sym h in let two = at_least_two s.on s.connections q k x n e (on ∙ ap Some same) l m in few_many (count_channels s.on s.connections x) two (subst (λ z. nat_le (count_channels s.on s.connections z) 1 ≡ true) same t))
+    few : (y : ℕ) → s.session_on k ≡ Some y → (if nat_le (count_channels s.session_on s.connections y) 1 then Some y else None) ≡ Some p → ⊥
+    few y on = either (λ u. u ≡ Some p → ⊥) (nat_le (count_channels s.session_on s.connections y) 1) (Some y) None
+        (λ t i. let same : y ≡ x = is_same y p i ∙ sym h in let two = at_least_two s.session_on s.connections q k x n e (on ∙ ap Some same) l m in few_many (count_channels s.session_on s.connections x) two (subst (λ z. nat_le (count_channels s.session_on s.connections z) 1 ≡ true) same t))
         (λ t i. absurd (cc))
       where
         is_same : (y p : ℕ) → Some y ≡ Some p → y ≡ p
@@ -262,23 +262,23 @@ last_other s k q x n e l m p is h = by (s.on k) refl is
         few_many : (c : ℕ) → 2 ≤ c → nat_le c 1 ≡ true → ⊥
         few_many c a b = absurd (grind (arith, nat_tests))
 
-    by : (u : Option ℕ) → s.on k ≡ u → last_session s k u ≡ Some p → ⊥
+    by : (u : Option ℕ) → s.session_on k ≡ u → last_session s k u ≡ Some p → ⊥
     by None on i = absurd (cc)
     by (Some y) on i = few y on i
 
-out_keeps : (s : Server) (now k q x : ℕ) (is_quiet : Bool) → q ≢ k → 1 ≤ tally q s.connections → 1 ≤ tally k s.connections → s.on q ≡ Some x → (take_out s k now is_quiet).on q ≡ Some x
+out_keeps : (s : Server) (now k q x : ℕ) (is_quiet : Bool) → q ≢ k → 1 ≤ tally q s.connections → 1 ≤ tally k s.connections → s.session_on q ≡ Some x → (take_out s k now is_quiet).session_on q ≡ Some x
 out_keeps s now k q x is_quiet n l m e =
-    other_key (end_if_named s now (ends_with s k) is_quiet).on k q None x n (ends_other s now (ends_with s k) is_quiet q x (last_other s k q x n e l m) e)
+    other_key (end_if_named s now (ends_with s k) is_quiet).session_on k q None x n (ends_other s now (ends_with s k) is_quiet q x (last_other s k q x n e l m) e)
 
 connections_front : (s : Server) (now k : ℕ) (t : Server) (rs : List Record) → Front s now (End k) t rs → t.connections ≡ s.connections
 connections_front s now k t rs (inl q) = ap (λ (u : Server). u.connections) q.0
 connections_front s now k t rs (inr q) = ap (λ (u : Server). u.connections) q.2 ∙ expired_connections (with_deadlines s now) q.0
 
-pub end_keeps : (s : Server) (now k q x : ℕ) → q ≢ k → 1 ≤ tally q s.connections → 1 ≤ tally k s.connections → s.on q ≡ Some x → (step s now (End k)).server.on q ≡ Some x
+pub end_keeps : (s : Server) (now k q x : ℕ) → q ≢ k → 1 ≤ tally q s.connections → 1 ≤ tally k s.connections → s.session_on q ≡ Some x → (step s now (End k)).server.session_on q ≡ Some x
 end_keeps s now k q x n l m e =
-    by_ruling (λ A. A.server.on q ≡ Some x) s now (End k)
+    by_ruling (λ A. A.server.session_on q ≡ Some x) s now (End k)
     (λ t rs r f rules. let c = sym (connections_front s now k t rs f) in by t r rules (subst (λ xs. 1 ≤ tally q xs) c l) (subst (λ xs. 1 ≤ tally k xs) c m) (on_same s t q x (front s now (End k) t rs f) e))
   where
-    by : (t : Server) (r : Ruling) → Rules t (End k) r → 1 ≤ tally q t.connections → 1 ≤ tally k t.connections → t.on q ≡ Some x → (carried_out t now r).server.on q ≡ Some x
-    by t r (inl i) l m e = ap (λ y. (carried_out t now y).server.on q) i ∙ out_keeps t now k q x false n l m e
-    by t r (inr i) l m e = ap (λ y. (carried_out t now y).server.on q) i ∙ out_keeps t now k q x true n l m e
+    by : (t : Server) (r : Ruling) → Rules t (End k) r → 1 ≤ tally q t.connections → 1 ≤ tally k t.connections → t.session_on q ≡ Some x → (carried_out t now r).server.session_on q ≡ Some x
+    by t r (inl i) l m e = ap (λ y. (carried_out t now y).server.session_on q) i ∙ out_keeps t now k q x false n l m e
+    by t r (inr i) l m e = ap (λ y. (carried_out t now y).server.session_on q) i ∙ out_keeps t now k q x true n l m e

@@ -3,18 +3,18 @@ use Rattle.std.proofs.Common.{◌≡◌, ℕ, ◌+◌, ◌==◌, nat_le, nat_lt,
 use Rattle.exchange_defs.specs.Table.{put, put2, is_at}
 use Rattle.exchange_defs.specs.Status.{success}
 use Rattle.exchange_defs.specs.Commands.{CreateRequest, Element, deletes_on_close, all_lock, all_unlock, is_setup}
-use Rattle.exchange_defs.specs.State.{Server, Message, ServerEvent, Accept, Heard, End, Stop, Answer, Entry, Kept, Origin, Record, NewOpen, EpochRecord, VersionRecord, CreateRecord, WriteRecord, EndRecord, BasicRecord, DeleteRecord, RenameRecord, RemoveRecord, LockRecord, ShutRecord, ExpireRecord}
-use Rattle.exchange_defs.specs.Files.{mark_file, remove_file}
+use Rattle.exchange_defs.specs.State.{Server, Message, ServerEvent, Accept, Heard, End, Stop, Answer, Entry, Kept, Origin, Record, NewOpen, EpochRecord, VersionRecord, CreateRecord, WriteRecord, EndRecord, BasicRecord, DeleteRecord, RenameRecord, RemoveRecord, LockRecord, CloseRecord, ExpireRecord}
+use Rattle.exchange_defs.specs.Files.{set_delete_pending, remove_file}
 use Rattle.exchange_defs.specs.Ranges.{RangeAnswer, Stands, Denied, change_ranges}
-use Rattle.exchange_defs.specs.Opens.{drop_open, leave_open, marked_by, without_gone, goes, leave_records, mark_records, shut_records, gone_records}
+use Rattle.exchange_defs.specs.Opens.{drop_open, leave_open, pending_behind, without_gone, goes, leave_records, pending_records, shut_records, gone_records}
 use Rattle.exchange_defs.specs.CheckCreate.{empties}
 use Rattle.exchange_defs.specs.CheckOpen.{is_late, is_slot, file_of}
 use Rattle.exchange_defs.specs.Check.{check, has_session}
 use Rattle.exchange_defs.specs.Effects.{apply, reach, attached, attach, keep_slot, keep_closed, change_file, file_made, end_if_named, end_session, set_ranges, create_records, lock_records, change_records, end_records, leave_all_records, records_if_named, is_persistent, plain_of}
 use Rattle.exchange_defs.specs.Records.{origin_at, origin_of}
-use Rattle.exchange_defs.specs.Verdict.{Verdict, Refuse, Give, KeepRefusal, Repeat, Attach, Make, TurnDown, Tell, Show, KeepSlot, PutRanges, Alter, Shut, Challenge, ChallengeBinding, Begin, Join, EndSession, AddTree, DropTree, Change, PutBytes, PutEnd, PutBasic, PutMark, PutPath, PutNothing}
+use Rattle.exchange_defs.specs.Verdict.{Verdict, Refuse, Give, KeepRefusal, Repeat, Attach, Make, TurnDown, Tell, Show, KeepSlot, PutRanges, Alter, CloseOpen, Challenge, ChallengeBinding, Begin, Join, EndSession, AddTree, DropTree, Change, PutBytes, PutEnd, PutBasic, PutDeletePending, PutPath, PutNothing}
 use Rattle.exchange_defs.specs.Fold.{fold, fold_from, with_record, sweep, restore, created_file, lock_granted, lock_recorded, shut_recorded, nothing_yet, opening_records}
-use Rattle.exchange_defs.specs.Step.{step, with_deadlines, expire, expire_records, add_mark, max_marks, max_connections, Ruling, Says, TakesIn, TurnsAway, TakesOut, TakesAllOut, ruling, ruling_without_room, carried_out, take_out, take_all_out, take_all_records, ends_with}
+use Rattle.exchange_defs.specs.Step.{step, with_deadlines, expire, expire_records, add_expired_guid, max_expired_guids, max_connections, Ruling, Says, TakesIn, TurnsAway, TakesOut, TakesAllOut, ruling, ruling_without_room, carried_out, take_out, take_all_out, take_all_records, ends_with}
 use Rattle.server_law.proofs.Logic.{either}
 use Rattle.server_law.proofs.Doors.{by_ruling, by_verdict, recorded, Front, Rules, Before, Finds}
 use Rattle.session_law.proofs.Heard.{before_stays}
@@ -36,21 +36,21 @@ no_slots f l o h = record { creates = h.creates; slots = λ p i k q. let old = h
 
 slotted : (s : Server) (o index number status : ℕ) → is_other status ≡ true → FairServer s → FairServer (keep_slot s o index number status)
 slotted s o index number status e h =
-    either FairServer (is_slot index) (record s { slots = put2 s.slots o index (Some (record { number = number; status = status })) }) s (λ _. put_slot s.refused s.slots o index number status e h) (λ _. h)
+    either FairServer (is_slot index) (record s { lock_sequences = put2 s.lock_sequences o index (Some (record { number = number; status = status })) }) s (λ _. put_slot s.refused s.lock_sequences o index number status e h) (λ _. h)
 
-marked : (s : Server) (o : ℕ) → FairServer s → FairServer (marked_by s o)
-marked s o h = either FairServer (deletes_on_close (s.opened o).options) (mark_file s (s.opened o).file true) s (λ _. h) (λ _. h)
+pending_set : (s : Server) (o : ℕ) → FairServer s → FairServer (pending_behind s o)
+pending_set s o h = either FairServer (deletes_on_close (s.opened o).options) (set_delete_pending s (s.opened o).file true) s (λ _. h) (λ _. h)
 
 gone : (s : Server) (f : ℕ) → FairServer s → FairServer (without_gone s f)
 gone s f h = either FairServer (goes s f) (remove_file s f) s (λ _. h) (λ _. h)
 
 left : (s : Server) (o : ℕ) → FairServer s → FairServer (leave_open s o)
-left s o h = gone (drop_open (marked_by s o) o) (s.opened o).file (marked s o h)
+left s o h = gone (drop_open (pending_behind s o) o) (s.opened o).file (pending_set s o h)
 
 expired : (s : Server) (o : ℕ) → FairServer s → FairServer (expire s o)
 expired s o h = by (s.opened o).guid
   where
-    by : (g : Option ℕ) → FairServer (add_mark (leave_open s o) (s.opened o).client g)
+    by : (g : Option ℕ) → FairServer (add_expired_guid (leave_open s o) (s.opened o).client g)
     by None = left s o h
     by (Some g) = left s o h
 
@@ -58,7 +58,7 @@ reached : (s : Server) (m : Message) (o : ℕ) → FairServer s → FairServer (
 reached s m o h = either FairServer (is_late s m o) s (record s { sequence = put s.sequence o m.sequence }) (λ _. h) (λ _. h)
 
 joined : (s : Server) (m : Message) (o : ℕ) → FairServer s → FairServer (attached s m o)
-joined s m o h = either FairServer (is_some (s.at o)) s (attach s m o) (λ _. h) (λ _. h)
+joined s m o h = either FairServer (is_some (s.session_of_open o)) s (attach s m o) (λ _. h) (λ _. h)
 
 closed : (s : Server) (session : ℕ) (g : Option ℕ) → FairServer s → FairServer (keep_closed s session g)
 closed s session None h = h
@@ -68,7 +68,7 @@ changed_file : (s : Server) (f now : ℕ) (c : Change) → FairServer s → Fair
 changed_file s f now (PutBytes at bytes) h = h
 changed_file s f now (PutEnd size) h = h
 changed_file s f now (PutBasic basic) h = h
-changed_file s f now (PutMark flag) h = h
+changed_file s f now (PutDeletePending flag) h = h
 changed_file s f now (PutPath replaced path) h = h
 changed_file s f now PutNothing h = h
 
@@ -77,7 +77,7 @@ made s r None now h = h
 made s r (Some f) now h = either FairServer (empties r.disposition) _ s (λ _. h) (λ _. h)
 
 ends : (s : Server) (session now : ℕ) (q : Bool) → FairServer s → FairServer (end_session s session now q)
-ends s session now q h = no_refusals s.refused s.slots session h
+ends s session now q h = no_refusals s.refused s.lock_sequences session h
 
 ended_if : (s : Server) (now : ℕ) (o : Option ℕ) (q : Bool) → FairServer s → FairServer (end_if_named s now o q)
 ended_if s now None q h = h
@@ -86,17 +86,17 @@ ended_if s now (Some session) q h = ends s session now q h
 by_effect : (s : Server) (m : Message) (now : ℕ) (v : Verdict) → keeps_fair v ≡ true → FairServer s → FairServer (apply s m now v).server
 by_effect s m now (Refuse status) e h = h
 by_effect s m now (Give body) e h = h
-by_effect s m now (KeepRefusal guid status) e h = put_refusals s.refused s.slots m.session guid status e h
+by_effect s m now (KeepRefusal guid status) e h = put_refusals s.refused s.lock_sequences m.session guid status e h
 by_effect s m now (Repeat o r) e h = joined s m o h
 by_effect s m now (Attach o r) e h = joined s m o h
-by_effect s m now (Make r found action) e h = let t = file_made s r found now in no_slots t.refused t.slots _ (made s r found now h)
+by_effect s m now (Make r found action) e h = let t = file_made s r found now in no_slots t.refused t.lock_sequences _ (made s r found now h)
 by_effect s m now (TurnDown o status) e h = reached s m o h
 by_effect s m now (Tell o body) e h = reached s m o h
 by_effect s m now (Show o last body) e h = reached s m o h
 by_effect s m now (KeepSlot o index number status elements) e h = slotted (reach s m o) o index number status e (reached s m o h)
 by_effect s m now (PutRanges o index number ranges elements) e h = slotted (set_ranges (reach s m o) (file_of s o) ranges) o index number success refl (reached s m o h)
 by_effect s m now (Alter o change body) e h = changed_file (reach s m o) (file_of s o) now change (reached s m o h)
-by_effect s m now (Shut o body) e h = closed (leave_open s o) m.session (s.opened o).guid (left s o h)
+by_effect s m now (CloseOpen o body) e h = closed (leave_open s o) m.session (s.opened o).guid (left s o h)
 by_effect s m now Challenge e h = h
 by_effect s m now (ChallengeBinding session) e h = h
 by_effect s m now (Begin session user previous r is_quiet) e h = ended_if s now previous is_quiet h
@@ -133,17 +133,17 @@ fair_gone s origin f = either AllFair (goes s f) (RemoveRecord origin f ∷ []) 
 
 fair_shut : (s : Server) (origin : Origin) (o : ℕ) → AllFair (shut_records s origin o)
 unfolding shut_records all_fair is_fair_record AllFair
-fair_shut s origin o = either AllFair (s.opened o).persistent (ShutRecord origin o ∷ []) [] (λ _. refl) (λ _. refl)
+fair_shut s origin o = either AllFair (s.opened o).persistent (CloseRecord origin o ∷ []) [] (λ _. refl) (λ _. refl)
 
-fair_mark : (s : Server) (origin : Origin) (o : ℕ) → AllFair (mark_records s origin o)
-unfolding mark_records all_fair is_fair_record AllFair
-fair_mark s origin o = either AllFair (not (s.opened o).persistent && (deletes_on_close (s.opened o).options && not (s.marked (s.opened o).file))) (DeleteRecord origin (s.opened o).file true ∷ []) [] (λ _. refl) (λ _. refl)
+fair_pending : (s : Server) (origin : Origin) (o : ℕ) → AllFair (pending_records s origin o)
+unfolding pending_records all_fair is_fair_record AllFair
+fair_pending s origin o = either AllFair (not (s.opened o).persistent && (deletes_on_close (s.opened o).options && not (s.delete_pending (s.opened o).file))) (DeleteRecord origin (s.opened o).file true ∷ []) [] (λ _. refl) (λ _. refl)
 
 fair_left : (s : Server) (origin : Origin) (o : ℕ) → AllFair (leave_records s origin o)
 unfolding leave_records AllFair
 fair_left s origin o =
-    let f = (s.opened o).file in let d = drop_open (marked_by s o) o in
-    fair_more (mark_records s origin o) (shut_records s origin o ++ gone_records d origin f) (fair_mark s origin o) (fair_more (shut_records s origin o) (gone_records d origin f) (fair_shut s origin o) (fair_gone d origin f))
+    let f = (s.opened o).file in let d = drop_open (pending_behind s o) o in
+    fair_more (pending_records s origin o) (shut_records s origin o ++ gone_records d origin f) (fair_pending s origin o) (fair_more (shut_records s origin o) (gone_records d origin f) (fair_shut s origin o) (fair_gone d origin f))
 
 fair_all_left : (s : Server) (origin : Origin) (os : List ℕ) → AllFair (leave_all_records s origin os)
 unfolding leave_all_records all_fair AllFair
@@ -162,7 +162,7 @@ fair_named s origin (Some session) q = fair_ended s origin session q
 
 fair_expired : (s : Server) (origin : Origin) (o : ℕ) → AllFair (expire_records s origin o)
 unfolding expire_records all_fair is_fair_record AllFair
-fair_expired s origin o = fair_gone (drop_open (marked_by s o) o) origin (s.opened o).file
+fair_expired s origin o = fair_gone (drop_open (pending_behind s o) o) origin (s.opened o).file
 
 fair_all_out : (s : Server) (ks : List ℕ) (now : ℕ) (q : Bool) → AllFair (take_all_records s ks now q)
 unfolding take_all_records all_fair AllFair
@@ -182,7 +182,7 @@ unfolding change_records all_fair is_fair_record AllFair
 fair_change m f now (PutBytes at bytes) = refl
 fair_change m f now (PutEnd size) = refl
 fair_change m f now (PutBasic basic) = refl
-fair_change m f now (PutMark flag) = refl
+fair_change m f now (PutDeletePending flag) = refl
 fair_change m f now (PutPath replaced path) = refl
 fair_change m f now PutNothing = refl
 
@@ -204,7 +204,7 @@ records_by s m now (Show o last body) e = refl
 records_by s m now (KeepSlot o index number status elements) e = fair_lock s m o index number status elements e
 records_by s m now (PutRanges o index number ranges elements) e = fair_lock s m o index number success elements refl
 records_by s m now (Alter o change body) e = fair_change m (file_of s o) now change
-records_by s m now (Shut o body) e = fair_left s (origin_of m) o
+records_by s m now (CloseOpen o body) e = fair_left s (origin_of m) o
 records_by s m now Challenge e = refl
 records_by s m now (ChallengeBinding session) e = refl
 records_by s m now (Begin session user previous r is_quiet) e = fair_named s (origin_of m) previous is_quiet
@@ -287,7 +287,7 @@ status_by s m now (Show o last body) e = refl
 status_by s m now (KeepSlot o index number status elements) e = e
 status_by s m now (PutRanges o index number ranges elements) e = refl
 status_by s m now (Alter o change body) e = refl
-status_by s m now (Shut o body) e = refl
+status_by s m now (CloseOpen o body) e = refl
 status_by s m now Challenge e = refl
 status_by s m now (ChallengeBinding session) e = refl
 status_by s m now (Begin session user previous r is_quiet) e = refl
@@ -304,7 +304,7 @@ other_status s now m h p n fault here = by_verdict (λ A. is_other A.reply.statu
     server t (inr q) = subst FairServer (sym q.2) (expired (with_deadlines s now) q.0 h)
 
     checked : (t : Server) → Before s now t → is_fair (check t m) ≡ true
-    checked t b = fair_check t m (server t b) p n fault (ap (λ f. is_at m.session (f m.connection)) (before_stays s now t b).on ∙ here)
+    checked t b = fair_check t m (server t b) p n fault (ap (λ f. is_at m.session (f m.connection)) (before_stays s now t b).session_on ∙ here)
 
     found : (t : Server) (v : Verdict) → Before s now t → Finds t m v → is_fair v ≡ true
     found t v b (inl q) = ap is_fair q ∙ checked t b
@@ -319,7 +319,7 @@ swept s (e ∷ es) h = swept (without_gone s e.file) es (gone s e.file h)
 
 restored : (s : Server) (f action : ℕ) (n : Option NewOpen) → FairServer s → FairServer (restore s f action n)
 restored s f action None h = h
-restored s f action (Some n) h = no_slots s.refused s.slots n.id h
+restored s f action (Some n) h = no_slots s.refused s.lock_sequences n.id h
 
 created : (s : Server) (action f : ℕ) (path : List ℕ) (attributes : ℕ) (is_dir : Bool) (time : ℕ) → FairServer s → FairServer (created_file s action f path attributes is_dir time)
 created s action f path attributes is_dir time h = either FairServer (action == 2) _ _ (λ _. h) (λ _. either FairServer (action == 1) s _ (λ _. h) (λ _. h))
@@ -333,9 +333,9 @@ locked s o index number status elements e h =
     either FairServer (not (all_lock elements || all_unlock elements)) s _ (λ _. h)
     (λ _. either FairServer (status == success) (lock_granted s o index number (change_ranges (s.ranges (file_of s o)) o elements)) (keep_slot s o index number status) (λ _. granted s o index number _ h) (λ _. slotted s o index number status e h))
 
-mark_added : (s : Server) (client : ℕ) (g : Option ℕ) → FairServer s → FairServer (add_mark s client g)
-mark_added s client None h = h
-mark_added s client (Some g) h = h
+expired_added : (s : Server) (client : ℕ) (g : Option ℕ) → FairServer s → FairServer (add_expired_guid s client g)
+expired_added s client None h = h
+expired_added s client (Some g) h = h
 
 by_record : (s : Server) (r : Record) → is_fair_record r ≡ true → FairServer s → FairServer (with_record s r)
 unfolding is_fair_record
@@ -350,9 +350,9 @@ by_record s (DeleteRecord origin file flag) e h = either FairServer _ _ s (λ _.
 by_record s (RenameRecord origin file replaced path) e h = either FairServer _ _ s (λ _. h) (λ _. h)
 by_record s (RemoveRecord origin file) e h = either FairServer _ _ s (λ _. h) (λ _. h)
 by_record s (LockRecord origin o index number status elements) e h = either FairServer _ (lock_recorded s o index number status elements) s (λ _. locked s o index number status elements e h) (λ _. h)
-by_record s (ShutRecord origin o) e h = either FairServer (s.standing o) (shut_recorded s o) s (λ _. marked s o h) (λ _. h)
+by_record s (CloseRecord origin o) e h = either FairServer (s.standing o) (shut_recorded s o) s (λ _. pending_set s o h) (λ _. h)
 by_record s (ExpireRecord origin o) e h =
-    either FairServer (s.standing o && nat_lt s.mark_count max_marks) (add_mark (shut_recorded s o) (s.opened o).client (s.opened o).guid) s (λ _. mark_added (shut_recorded s o) (s.opened o).client (s.opened o).guid (marked s o h)) (λ _. h)
+    either FairServer (s.standing o && nat_lt s.expired_count max_expired_guids) (add_expired_guid (shut_recorded s o) (s.opened o).client (s.opened o).guid) s (λ _. expired_added (shut_recorded s o) (s.opened o).client (s.opened o).guid (pending_set s o h)) (λ _. h)
 
 folds : (s : Server) (rs : List Record) → all_fair rs ≡ true → FairServer s → FairServer (fold_from s rs)
 unfolding fold_from all_fair

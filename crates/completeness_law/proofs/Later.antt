@@ -12,7 +12,7 @@ pub record Later (K : World → Type 0) (c d : Course) : Type 0 where
   pub known : K d.world
   pub taken : d.world.client.taken ≡ c.world.client.taken
   pub stays : (g : ℕ) → is_unsettled (c.world.client.outcome g) ≡ false → is_unsettled (d.world.client.outcome g) ≡ false
-  pub number : c.world.client.number ≤ d.world.client.number
+  pub number : c.world.client.session_number ≤ d.world.client.session_number
 
 pub now : (K : World → Type 0) (c : Course) → K c.world → Later K c c
 now K c h = record { known = h; taken = refl; stays = λ g s. s; number = omega arith }

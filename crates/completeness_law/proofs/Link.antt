@@ -18,7 +18,7 @@ use Rattle.completeness_law.proofs.Taking.{rank, Ends, IsCountedOut, Taken, Furt
 pub data LinkEnd (K : World → Type 0) (w v : World) (k : ℕ) : Type 0 where
   NowReady : v.client.ready k ≡ true → v.client.refusals ≡ w.client.refusals → (v.conns k).client_open ≡ true → (v.conns k).up ≡ [] → (v.conns k).down ≡ [] → LinkEnd K w v k
   NowRefused : (v.conns k).client_open ≡ false → length v.client.refusals ≡ length w.client.refusals + 1 → v.client.ready k ≡ false → LinkEnd K w v k
-  OutOfNumbers : (v.conns k).client_open ≡ false → (AllRise K → last_number ≤ v.client.number) → LinkEnd K w v k
+  OutOfNumbers : (v.conns k).client_open ≡ false → (AllRise K → last_number ≤ v.client.session_number) → LinkEnd K w v k
 
 -- ---- one message and its reply
 

@@ -5,11 +5,11 @@ use Rattle.std.proofs.Common.{eqb-true, ◌≡◌, ◌≢◌, ℕ, ◌+◌, ◌�
 use Rattle.exchange_defs.specs.Table.{put, without}
 use Rattle.exchange_defs.specs.Status.{success}
 use Rattle.exchange_defs.specs.Commands.{all_lock, all_unlock}
-use Rattle.exchange_defs.specs.State.{Server, Accept, Answer, Record, Entry, NewOpen, EpochRecord, VersionRecord, CreateRecord, WriteRecord, EndRecord, BasicRecord, DeleteRecord, RenameRecord, RemoveRecord, LockRecord, ShutRecord, ExpireRecord}
+use Rattle.exchange_defs.specs.State.{Server, Accept, Answer, Record, Entry, NewOpen, EpochRecord, VersionRecord, CreateRecord, WriteRecord, EndRecord, BasicRecord, DeleteRecord, RenameRecord, RemoveRecord, LockRecord, CloseRecord, ExpireRecord}
 use Rattle.exchange_defs.specs.Ranges.{RangeAnswer, Stands, Denied}
 use Rattle.exchange_defs.specs.Fold.{fold, fold_from, with_record, sweep, restore, created_file, lock_granted, lock_recorded, shut_recorded, nothing_yet}
-use Rattle.exchange_defs.specs.Opens.{without_gone, marked_by}
-use Rattle.exchange_defs.specs.Step.{step, add_mark, max_marks}
+use Rattle.exchange_defs.specs.Opens.{without_gone, pending_behind}
+use Rattle.exchange_defs.specs.Step.{step, add_expired_guid, max_expired_guids}
 use Rattle.exchange_defs.specs.Client.{Client}
 use Rattle.exchange_defs.specs.State.{Reply}
 use Rattle.exchange_defs.specs.Dialogs.{DialogStep, GoesOn, Accepts, Binds, Readies, Refuses, dialog_step}
@@ -19,7 +19,7 @@ use Rattle.exchange_defs.specs.Network.{World, Event, Submit, Open, Push, Serve,
 use Rattle.server_law.proofs.Logic.{either, front_of, back_of, not_true}
 use Rattle.completeness_law.proofs.Events.{take_server}
 use Rattle.completeness_law.proofs.Carried.{Low}
-use Rattle.completeness_law.proofs.Server.{Same, same_so, marked, gone, slotted, answered, accepted, left_by}
+use Rattle.completeness_law.proofs.Server.{Same, same_so, pending_set, gone, slotted, answered, accepted, left_by}
 
 -- ---- a fold holds no connection
 
@@ -40,7 +40,7 @@ created s action f path attributes is_dir time =
     either (λ t. Same s t) (action == 2) _ _ (λ _. record { connections = refl }) (λ _. either (λ t. Same s t) (action == 1) s _ (λ _. unchanged s) (λ _. record { connections = refl }))
 
 shut : (s : Server) (o : ℕ) → Same s (shut_recorded s o)
-shut s o = same_so s (marked_by s o) (shut_recorded s o) (marked s o) (record { connections = refl })
+shut s o = same_so s (pending_behind s o) (shut_recorded s o) (pending_set s o) (record { connections = refl })
 
 granted : (s : Server) (o index number : ℕ) (a : RangeAnswer) → Same s (lock_granted s o index number a)
 granted s o index number (Denied status) = record { connections = refl }
@@ -50,9 +50,9 @@ locked : (s : Server) (o index number status : ℕ) (elements : _) → Same s (l
 locked s o index number status elements =
     either (λ t. Same s t) (not (all_lock elements || all_unlock elements)) s _ (λ _. unchanged s) (λ _. either (λ t. Same s t) (status == success) _ _ (λ _. granted s o index number _) (λ _. slotted s o index number status))
 
-mark_added : (s : Server) (client : ℕ) (g : Option ℕ) → Same s (add_mark s client g)
-mark_added s client None = record { connections = refl }
-mark_added s client (Some g) = record { connections = refl }
+expired_added : (s : Server) (client : ℕ) (g : Option ℕ) → Same s (add_expired_guid s client g)
+expired_added s client None = record { connections = refl }
+expired_added s client (Some g) = record { connections = refl }
 
 by_record : (s : Server) (r : Record) → (with_record s r).connections ≡ s.connections
 by_record s (EpochRecord number) = either (λ (t : Server). t.connections ≡ s.connections) (number == s.epoch + 1) _ s (λ _. (swept s s.entries).connections) (λ _. refl)
@@ -66,10 +66,10 @@ by_record s (DeleteRecord origin f flag) = either (λ (t : Server). t.connection
 by_record s (RenameRecord origin f replaced path) = either (λ (t : Server). t.connections ≡ s.connections) _ _ s (λ _. refl) (λ _. refl)
 by_record s (RemoveRecord origin f) = either (λ (t : Server). t.connections ≡ s.connections) _ _ s (λ _. refl) (λ _. refl)
 by_record s (LockRecord origin o index number status elements) = either (λ (t : Server). t.connections ≡ s.connections) _ _ s (λ _. (locked s o index number status elements).connections) (λ _. refl)
-by_record s (ShutRecord origin o) = either (λ (t : Server). t.connections ≡ s.connections) (s.standing o) _ s (λ _. (shut s o).connections) (λ _. refl)
+by_record s (CloseRecord origin o) = either (λ (t : Server). t.connections ≡ s.connections) (s.standing o) _ s (λ _. (shut s o).connections) (λ _. refl)
 by_record s (ExpireRecord origin o) =
-    either (λ (t : Server). t.connections ≡ s.connections) (s.standing o && nat_lt s.mark_count max_marks) _ s
-    (λ _. (mark_added (shut_recorded s o) (s.opened o).client (s.opened o).guid).connections ∙ (shut s o).connections) (λ _. refl)
+    either (λ (t : Server). t.connections ≡ s.connections) (s.standing o && nat_lt s.expired_count max_expired_guids) _ s
+    (λ _. (expired_added (shut_recorded s o) (s.opened o).client (s.opened o).guid).connections ∙ (shut s o).connections) (λ _. refl)
 
 folds : (s : Server) (rs : List Record) → (fold_from s rs).connections ≡ s.connections
 unfolding fold_from

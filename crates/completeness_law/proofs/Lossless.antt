@@ -66,7 +66,7 @@ pub record At (places : ℕ) (who : ℕ → ℕ) (settled_by : Option ℕ) (g : 
   pub own : who place ≡ g
 
 abbrev pub Unlost : ℕ → (ℕ → ℕ) → Client → Type 0
-Unlost places who c = (g : ℕ) → c.before g ≡ false × is_told (c.outcome g) ≡ true × (is_firm (c.outcome g) ≡ true → At places who (c.by g) g)
+Unlost places who c = (g : ℕ) → c.unanswered g ≡ false × is_told (c.outcome g) ≡ true × (is_firm (c.outcome g) ≡ true → At places who (c.settled_by g) g)
 
 put_outcome : (f : ℕ → Outcome) (g : ℕ) (o : Outcome) (x : ℕ) → is_told o ≡ true → is_told (f x) ≡ true → is_told (put f g o x) ≡ true
 put_outcome f g o x a b = either (λ r. is_told r ≡ true) (x == g) o (f x) (λ _. a) (λ _. b)
@@ -84,7 +84,7 @@ first_told c g op =
 
 takes_op : (places : ℕ) (who : ℕ → ℕ) (c : Client) (g : ℕ) (op : Op) → Unlost places who c → Unlost places who (take_op c g op)
 takes_op places who c g op h x =
-    let o = outcome_at_first c g op in let t = first_told c g op in ((h x).0, put_outcome c.outcome g o x t.0 (h x).1, put_weak c.outcome g o x (At places who (c.by x) x) t.1 (h x).2)
+    let o = outcome_at_first c g op in let t = first_told c g op in ((h x).0, put_outcome c.outcome g o x t.0 (h x).1, put_weak c.outcome g o x (At places who (c.settled_by x) x) t.1 (h x).2)
 
 slotless : (places : ℕ) (who : ℕ → ℕ) (c : Client) (k : ℕ) (gs : List ℕ) → Unlost places who c → Unlost places who (settle_no_slots c k gs)
 unfolding settle_no_slots
@@ -93,20 +93,20 @@ slotless places who c k (g ∷ gs) h =
     let o = NoSlot (create_for c g) in
     slotless places who (settle_no_slot c k g) k gs
     (either (Unlost places who) (lacks_slot c k g) (record c { outcome = put c.outcome g o }) c
-    (λ _ x. ((h x).0, put_outcome c.outcome g o x refl (h x).1, put_weak c.outcome g o x (At places who (c.by x) x) refl (h x).2)) (λ _. h))
+    (λ _ x. ((h x).0, put_outcome c.outcome g o x refl (h x).1, put_weak c.outcome g o x (At places who (c.settled_by x) x) refl (h x).2)) (λ _. h))
 
 begins : (places : ℕ) (who : ℕ → ℕ) (c : Client) (k g i : ℕ) → Unlost places who c → Unlost places who (outstanding (begun c g i) k g)
 begins places who c k g i h =
     let P : Client → Type 0 = λ d. Unlost places who (outstanding d k g) in
     either P (c.sent g) (again c g) (begin c g i)
-    (λ _. either P (is_lock (c.op g)) (record c { retried = put2 c.retried (create_for c g) (c.slot_of g) c.number }) c (λ _. h) (λ _. h))
+    (λ _. either P (is_lock (c.op g)) (record c { retried = put2 c.retried (create_for c g) (c.slot_of g) c.session_number }) c (λ _. h) (λ _. h))
     (λ _. either P (is_lock (c.op g)) (record (take_slot c g i) { sent = put c.sent g true }) (record c { sent = put c.sent g true }) (λ _. h) (λ _. h))
 
 noted_same : (places : ℕ) (who : ℕ → ℕ) (c : Client) (g : ℕ) (o : Outcome) (body : Body) → Unlost places who c → Unlost places who (noted c g o body)
 noted_same places who c g (WasOk reply) body h =
     let P : Client → Type 0 = Unlost places who in
-    either P (is_create (c.op g)) (record c { file = put c.file g (id_in body); attached = put c.attached g c.number }) (if is_close (c.op g) then record c { shut = put c.shut (create_for c g) true } else c) (λ _. h)
-    (λ _. either P (is_close (c.op g)) (record c { shut = put c.shut (create_for c g) true }) c (λ _. h) (λ _. h))
+    either P (is_create (c.op g)) (record c { file = put c.file g (id_in body); attached = put c.attached g c.session_number }) (if is_close (c.op g) then record c { closed_ok = put c.closed_ok (create_for c g) true } else c) (λ _. h)
+    (λ _. either P (is_close (c.op g)) (record c { closed_ok = put c.closed_ok (create_for c g) true }) c (λ _. h) (λ _. h))
 noted_same places who c g Unsettled body h = h
 noted_same places who c g (WasRefused status) body h = h
 noted_same places who c g (NoSlot create) body h = h
@@ -137,7 +137,7 @@ settled_at : (places : ℕ) (who : ℕ → ℕ) (c : Client) (g place : ℕ) (o 
 settled_at places who c g place o t low own h x = (
   (h x).0,
   put_outcome c.outcome g o x t (h x).1,
-  elim (x == g) as (λ b. x == g ≡ b → is_firm (if b then o else c.outcome x) ≡ true → At places who (if b then Some place else c.by x) x) [
+  elim (x == g) as (λ b. x == g ≡ b → is_firm (if b then o else c.outcome x) ≡ true → At places who (if b then Some place else c.settled_by x) x) [
     | true ↦ λ q e. record { place = place; is = refl; low = low; own = own ∙ sym (eqb-true x g q) }
     | false ↦ λ q e. (h x).2 e
   ] refl,
@@ -164,7 +164,7 @@ refused_told op asking status o e = subst (λ r. is_told r ≡ true) (same e) re
     same : Settles (WasRefused status) ≡ Settles o → WasRefused status ≡ o
     same e = cc
 
-heard_told : (c : Client) (g : ℕ) (asking : Bool) (r : Reply) (o : Outcome) → c.before g ≡ false → heard c g asking r ≡ Settles o → is_told o ≡ true
+heard_told : (c : Client) (g : ℕ) (asking : Bool) (r : Reply) (o : Outcome) → c.unanswered g ≡ false → heard c g asking r ≡ Settles o → is_told o ≡ true
 heard_told c g asking r o b =
     let P : Hearing → Type 0 = λ h. h ≡ Settles o → is_told o ≡ true in
     either P (r.status == user_session_deleted) _ _ (λ _ e. absurd (cc))
@@ -176,7 +176,7 @@ heard_ends c g asking r =
     let P : Hearing → Type 0 = λ h. h ≡ EndsSession → r.status ≡ user_session_deleted in
     either P (r.status == user_session_deleted) _ _ (λ t e. eqb-true r.status user_session_deleted t)
     (λ _. either P (r.status == success) (if asking then Attaches else ok_or_unknown (value_in (c.op g) r.body)) _ (λ _. either P asking Attaches _ (λ _ e. absurd (cc)) (λ _ e. absurd (ok (value_in (c.op g) r.body) e)))
-    (λ _. either P (goes_again c g asking r.status) GoesAgain _ (λ _ e. absurd (cc)) (λ _ e. absurd (no (c.op g) asking (c.before g) r.status e))))
+    (λ _. either P (goes_again c g asking r.status) GoesAgain _ (λ _ e. absurd (cc)) (λ _ e. absurd (no (c.op g) asking (c.unanswered g) r.status e))))
   where
     ok : (u : Option OpReply) → ok_or_unknown u ≡ EndsSession → ⊥
     ok None e = absurd (cc)
@@ -254,7 +254,7 @@ more_at places who n u g h = record { place = h.place; is = h.is; low = above h.
     below l e = absurd (omega (arith, l, e))
 
 more_unlost : (places : ℕ) (who : ℕ → ℕ) (n : ℕ) (c : Client) → Unlost places who c → Unlost (places + 1) (put who places n) c
-more_unlost places who n c h x = ((h x).0, (h x).1, λ e. more_at places who n (c.by x) x ((h x).2 e))
+more_unlost places who n c h x = ((h x).0, (h x).1, λ e. more_at places who n (c.settled_by x) x ((h x).2 e))
 
 more_told : (places : ℕ) (who : ℕ → ℕ) (n : ℕ) (y : Received) → Told places who y → Told (places + 1) (put who places n) y
 more_told places who n y h = (h.0, above h.1, put_off who places n y.place (below h.1) ∙ h.2)
@@ -361,7 +361,7 @@ at_first : (z : Settings) → Here (run [] (start z))
 unfolding run
 at_first z = first z
 
-answered_by : (w : World) (g : ℕ) → At w.log.places w.log.who (w.client.by g) g → Answered w g
+answered_by : (w : World) (g : ℕ) → At w.log.places w.log.who (w.client.settled_by g) g → Answered w g
 answered_by w g h = record { place = h.place; settled = h.is; taken = h.low; own = h.own }
 
 pub nothing_lost : (z : Settings) → ((xs : List Event) → StaysPresent (run xs (start z))) → (es : List Event) → without_losses es ≡ true → (g : ℕ) → is_told ((run es (start z)).client.outcome g) ≡ true × (is_firm ((run es (start z)).client.outcome g) ≡ true → Answered (run es (start z)) g)

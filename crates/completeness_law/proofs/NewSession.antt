@@ -101,7 +101,7 @@ finish_outcome w r g dead low high =
 pub data Found (d : Course) (w : World) : Type 0 where
   HasReady : (d.world.client.channels == 0) ≡ false → Found d w
   GaveUp : (d.world.client.channels == 0) ≡ true → ((g : ℕ) → 0 < g → g ≤ w.client.taken → is_unsettled (d.world.client.outcome g) ≡ false) → Found d w
-  CountedOut : (d.world.client.channels == 0) ≡ true → last_number ≤ d.world.client.number → Found d w
+  CountedOut : (d.world.client.channels == 0) ≡ true → last_number ≤ d.world.client.session_number → Found d w
 
 pub record Sought (K : World → Type 0) (c d : Course) : Type 0 where
   pub later : Later K c d

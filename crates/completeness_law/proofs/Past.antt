@@ -74,10 +74,10 @@ no_rank f n x z r e = absurd (omega (arith, z, subst (λ i. 0 < f i) e r))
 accepts_on : (w : World) (k : ℕ) → Sessions w.client w.conns w.server → w.client.stage k ≡ SaidSecond false → Onward w.client (accepted w.client k)
 accepts_on w k s at =
     record {
-      ranked = λ n r. ranked_on w.client.rank w.client.pending w.client.accepts n r;
+      ranked = λ n r. ranked_on w.client.rank w.client.pending w.client.accepted_count n r;
       past = λ n r p now. no_rank w.client.rank n w.client.pending (s.pending_unranked k at) r;
       fresh = λ now. inr (k, at);
-      last = λ f low. own_rank w.client.rank w.client.pending w.client.accepts;
+      last = λ f low. own_rank w.client.rank w.client.pending w.client.accepted_count;
     }
 
 pub onward : (w : World) (e : Event) → Sessions w.client w.conns w.server → Onward w.client (happens w e).client

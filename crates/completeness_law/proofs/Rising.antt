@@ -16,7 +16,7 @@ use Rattle.session_law.proofs.Table.{keeps_begun, keeps_settle}
 use Rattle.completeness_law.proofs.Client.{client_keeps}
 
 pub record Rising (c : Client) : Type 0 where
-  pub zero_session : c.number ≡ 0 → c.session ≡ 0
+  pub zero_session : c.session_number ≡ 0 → c.session ≡ 0
   pub second : (k : ℕ) → c.stage k ≡ SaidSecond false → c.session < c.pending
   pub asked : (k : ℕ) → c.stage k ≡ AskedTree → c.session < c.pending
 
@@ -24,7 +24,7 @@ pub record Rising (c : Client) : Type 0 where
 abbrev pub ReplyAbove : Client → (ℕ → Conn) → Type 0
 ReplyAbove c conns = (k : ℕ) (y : Received) (rest : List Received) → c.stage k ≡ SaidFirst false → (conns k).down ≡ y ∷ rest → y.token ≡ ForDialog → y.reply.status ≡ more_processing_required → c.session < y.reply.session
 
-rising_same : (c d : Client) → d.number ≡ c.number → d.session ≡ c.session → d.pending ≡ c.pending → d.stage ≡ c.stage → Rising c → Rising d
+rising_same : (c d : Client) → d.session_number ≡ c.session_number → d.session ≡ c.session → d.pending ≡ c.pending → d.stage ≡ c.stage → Rising c → Rising d
 rising_same c d number session pending stage h =
     record {
       zero_session = λ z. session ∙ h.zero_session (sym number ∙ z);
@@ -39,7 +39,7 @@ same_rising : (c d : Client) → SameSession c d → Rising c → Rising d
 same_rising c d s h = rising_same c d s.number s.session s.pending s.stage h
 
 -- one stage changes to one that has told no id
-stage_put : (c d : Client) (k : ℕ) (s : Stage) → d.number ≡ c.number → d.session ≡ c.session → d.pending ≡ c.pending → d.stage ≡ put c.stage k s → (s ≡ SaidSecond false → c.session < c.pending) → (s ≡ AskedTree → c.session < c.pending) → Rising c → Rising d
+stage_put : (c d : Client) (k : ℕ) (s : Stage) → d.session_number ≡ c.session_number → d.session ≡ c.session → d.pending ≡ c.pending → d.stage ≡ put c.stage k s → (s ≡ SaidSecond false → c.session < c.pending) → (s ≡ AskedTree → c.session < c.pending) → Rising c → Rising d
 stage_put c d k s number session pending stage a b h =
     rising_same (record c { stage = put c.stage k s }) d number session pending stage
     (record {
@@ -184,12 +184,12 @@ first_by w e m =
 
 -- ---- the interim reply
 
-pub above_given : (c : Client) (s : Server) → (c.number ≡ 0 → c.session ≡ 0) → (0 < c.number → 0 < c.rank c.session) → ((x : ℕ) → 0 < c.rank x → 0 < x × x ≤ id_of s.epoch s.begun) → c.session < id_of s.epoch (s.begun + 1)
-above_given c s none ranked given = by c.number refl
+pub above_given : (c : Client) (s : Server) → (c.session_number ≡ 0 → c.session ≡ 0) → (0 < c.session_number → 0 < c.rank c.session) → ((x : ℕ) → 0 < c.rank x → 0 < x × x ≤ id_of s.epoch s.session_ids_given) → c.session < id_of s.epoch (s.session_ids_given + 1)
+above_given c s none ranked given = by c.session_number refl
   where
-    by : (n : ℕ) → c.number ≡ n → c.session < id_of s.epoch (s.begun + 1)
+    by : (n : ℕ) → c.session_number ≡ n → c.session < id_of s.epoch (s.session_ids_given + 1)
     by zero e = let z = zero_is e in omega (arith, z)
       where
-        zero_is : c.number ≡ 0 → c.session ≡ 0
+        zero_is : c.session_number ≡ 0 → c.session ≡ 0
         zero_is e = none e
     by (suc n) e = let l = (given c.session (ranked (omega (arith, e)))).1 in omega (arith, l)

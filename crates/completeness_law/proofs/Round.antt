@@ -56,10 +56,10 @@ pub record Exchanged (v d : World) (k g : ℕ) (asking : Bool) : Type 0 where
   pub own : asking ≡ false → is_unsettled (d.client.outcome g) ≡ false
 
 attached_goes : (c : Client) (g : ℕ) → c.live ≡ true → goes_itself (joined c g) g ≡ true
-attached_goes c g l = by (put_at c.attached (create_for c g) c.number)
+attached_goes c g l = by (put_at c.attached (create_for c g) c.session_number)
   where
-    by : put c.attached (create_for c g) c.number (create_for c g) ≡ c.number → goes_itself (joined c g) g ≡ true
-    by e = goes (is_create (c.op g)) c.live (put c.attached (create_for c g) c.number (create_for c g)) c.number l e
+    by : put c.attached (create_for c g) c.session_number (create_for c g) ≡ c.session_number → goes_itself (joined c g) g ≡ true
+    by e = goes (is_create (c.op g)) c.live (put c.attached (create_for c g) c.session_number (create_for c g)) c.session_number l e
       where
         goes : (a b : Bool) (n m : ℕ) → b ≡ true → n ≡ m → (a || (b && (n == m))) ≡ true
         goes a b n m e f = grind arith
@@ -72,7 +72,7 @@ token_took : (b : World) (k g : ℕ) (asking : Bool) (r : Reply) (place : ℕ) �
 token_took b k g true r place = refl
 token_took b k g false r place = refl
 
-ends_by : (s : World) (u : World) (k g : ℕ) (asking : Bool) (r : Reply) (place : ℕ) → s.client.live ≡ true → u ≡ later (op_took (behind_reply s k []) k g asking r place) 1 → s.client.on g ≡ Some k → s.client.asking g ≡ asking
+ends_by : (s : World) (u : World) (k g : ℕ) (asking : Bool) (r : Reply) (place : ℕ) → s.client.live ≡ true → u ≡ later (op_took (behind_reply s k []) k g asking r place) 1 → s.client.outstanding_on g ≡ Some k → s.client.asks_attach g ≡ asking
     → Comes s.client g asking (heard s.client g asking r) → u.conns ≡ put s.conns k (take_front (s.conns k) []) × Ended u g × (asking ≡ false → is_unsettled (u.client.outcome g) ≡ false)
 ends_by s u k g asking r place live is on asks (ItSettles o e) =
     let w = heard_world s u k g asking (Settles o) place r (is ∙ ap (λ v. later v 1) (took_now (behind_reply s k []) k g asking r place (Settles o) (awaited_now s.client k g asking on asks) e refl)) in
@@ -108,13 +108,13 @@ answered v k x client server up down =
       down = ap (λ d. d.down) e ∙ ap (λ ys. ys ++ y ∷ []) down;
     }
 
-exchange_of : (v s : World) (k g : ℕ) (asking : Bool) (x : Sent) → Answered v s k x → v.client.on g ≡ Some k → v.client.asking g ≡ asking → x.token ≡ (if asking then ForAttach g else ForOp g) → s.client.live ≡ true → Elsewhere v.conns s.conns k
+exchange_of : (v s : World) (k g : ℕ) (asking : Bool) (x : Sent) → Answered v s k x → v.client.outstanding_on g ≡ Some k → v.client.asks_attach g ≡ asking → x.token ≡ (if asking then ForAttach g else ForOp g) → s.client.live ≡ true → Elsewhere v.conns s.conns k
     → Comes v.client g asking (heard v.client g asking (answer v x).reply) → Exchanged v (happens s (Take k)) k g asking
 exchange_of v s k g asking x a on asks token live elsewhere coming =
     let y : Received = record { token = x.token; reply = (answer v x).reply; place = v.log.places } in
     let is = took_is s k y [] (both (s.conns k).client_open _ a.client_end (filled_on (s.conns k).down y [] a.down)) a.down
     ∙ ap (λ t. later (took_by (behind_reply s k []) k y.reply y.place t) 1) token ∙ ap (λ u. later u 1) (token_took (behind_reply s k []) k g asking y.reply y.place) in
-    let e = ends_by s (happens s (Take k)) k g asking y.reply y.place live is (ap (λ (c : Client). c.on g) a.client ∙ on) (ap (λ (c : Client). c.asking g) a.client ∙ asks)
+    let e = ends_by s (happens s (Take k)) k g asking y.reply y.place live is (ap (λ (c : Client). c.outstanding_on g) a.client ∙ on) (ap (λ (c : Client). c.asks_attach g) a.client ∙ asks)
     (subst (λ (c : Client). Comes c g asking (heard c g asking y.reply)) (sym a.client) coming) in
     let at = ap (λ f. f k) e.0 ∙ put_at s.conns k (take_front (s.conns k) []) in
     record {
@@ -219,7 +219,7 @@ runs K A R c k g h asking slotless x known i o away same other =
     let ans = answered v.world k x client_end server_end up down in
     let coming = comes v.world.client h asking (answer v.world x).reply (R.present v.world a.known k x [] on client_end server_end up) o.sequence in
     let fs = A.facts s (A.step v.world (Serve k) a.known) in
-    let ex = exchange_of v.world s k h asking x ans o.on o.asks o.token (fs.fit.ready k (ap (λ (e : Client). e.ready k) ans.client ∙ on)).1 (serve_elsewhere v.world k) coming in
+    let ex = exchange_of v.world s k h asking x ans o.outstanding_on o.asks o.token (fs.fit.ready k (ap (λ (e : Client). e.ready k) ans.client ∙ on)).1 (serve_elsewhere v.world k) coming in
     let p = drains_to v k h asking x up server_end ans ex in
     let dl = drain_later K A 64 v k a.known in let t = joined_on K c v d a dl in
     subst (λ (u : Course). RoundEnd K c u k g) (sym (pushed_on c k (some_filled (v.world.conns k).up x (v.world.conns k).down up)))

@@ -118,7 +118,7 @@ left_no_more K c d l =
 pub data After (d : World) (g : ℕ) : Type 0 where
   NowSettled : is_unsettled (d.client.outcome g) ≡ false → After d g
   NowNear : goes_itself d.client g ≡ true → d.client.live ≡ true → After d g
-  NoNumber : last_number ≤ d.client.number → After d g
+  NoNumber : last_number ≤ d.client.session_number → After d g
 
 pub record OneRound (K : World → Type 0) (c d : Course) (g : ℕ) : Type 0 where
   pub later : Later K c d
@@ -164,7 +164,7 @@ bare_round K A c d g l clean none a own =
     same : After d.world g → (each tidy 0 256 d).world.client ≡ d.world.client → After (each tidy 0 256 d).world g
     same (NowSettled x) s = NowSettled (subst (λ (c : Client). is_unsettled (c.outcome g) ≡ false) (sym s) x)
     same (NowNear a b) s = NowNear (subst (λ (c : Client). goes_itself c g ≡ true) (sym s) a) (ap (λ (c : Client). c.live) s ∙ b)
-    same (NoNumber n) s = NoNumber (subst (λ (c : Client). last_number ≤ c.number) (sym s) n)
+    same (NoNumber n) s = NoNumber (subst (λ (c : Client). last_number ≤ c.session_number) (sym s) n)
 
 -- a live session has a ready channel
 not_live : (w : World) → Facts w → (w.client.channels == 0) ≡ true → w.client.live ≡ true → (P : Type 0) → P
@@ -189,7 +189,7 @@ one_round_on K A R c g h rest m =
 
 -- all is settled, or the client has no number for a session
 abbrev pub Done : World → Type 0
-Done w = SettledTo w.client w.client.taken ⊎ (last_number ≤ w.client.number)
+Done w = SettledTo w.client w.client.taken ⊎ (last_number ≤ w.client.session_number)
 
 -- whether the next operation goes itself
 pub data Start (w : World) : Bool → Type 0 where

@@ -180,14 +180,14 @@ pub record Taking (w : World) (a : ℕ → ℕ) (k : ℕ) (y : Received) (rest :
 
 -- another channel, where its columns are the same
 away : (w : World) (k : ℕ) (rest : List Received) (d : Client) → Here w → (q : ℕ) → q ≢ k → d.ready q ≡ w.client.ready q → d.stage q ≡ w.client.stage q → d.session ≡ w.client.session
-    → (Seat (w.client.ready q) (w.client.stage q) (w.conns q) w.client.session w.client.pending (w.server.on q) → Seat (w.client.ready q) (w.client.stage q) (w.conns q) w.client.session d.pending (w.server.on q))
-    → Seat (d.ready q) (d.stage q) ((behind_reply w k rest).conns q) d.session d.pending (w.server.on q)
+    → (Seat (w.client.ready q) (w.client.stage q) (w.conns q) w.client.session w.client.pending (w.server.session_on q) → Seat (w.client.ready q) (w.client.stage q) (w.conns q) w.client.session d.pending (w.server.session_on q))
+    → Seat (d.ready q) (d.stage q) ((behind_reply w k rest).conns q) d.session d.pending (w.server.session_on q)
 unfolding Here
 away w k rest d h q n ready stage session f =
-    subst (λ z. Seat (d.ready q) (d.stage q) z d.session d.pending (w.server.on q)) (sym (put_off w.conns k (take_front (w.conns k) rest) q n))
-    (subst (λ r. Seat r (d.stage q) (w.conns q) d.session d.pending (w.server.on q)) (sym ready)
-    (subst (λ t. Seat (w.client.ready q) t (w.conns q) d.session d.pending (w.server.on q)) (sym stage)
-    (subst (λ x. Seat (w.client.ready q) (w.client.stage q) (w.conns q) x d.pending (w.server.on q)) (sym session) (f (h q)))))
+    subst (λ z. Seat (d.ready q) (d.stage q) z d.session d.pending (w.server.session_on q)) (sym (put_off w.conns k (take_front (w.conns k) rest) q n))
+    (subst (λ r. Seat r (d.stage q) (w.conns q) d.session d.pending (w.server.session_on q)) (sym ready)
+    (subst (λ t. Seat (w.client.ready q) t (w.conns q) d.session d.pending (w.server.session_on q)) (sym stage)
+    (subst (λ x. Seat (w.client.ready q) (w.client.stage q) (w.conns q) x d.pending (w.server.session_on q)) (sym session) (f (h q)))))
 
 -- the connection behind the reply
 behind_conn : (w : World) (k : ℕ) (rest : List Received) → (behind_reply w k rest).conns k ≡ take_front (w.conns k) rest
@@ -204,17 +204,17 @@ unfolding Here
 goes_on w a k y rest s e T =
     let b = behind_reply w k rest in let d = went_on w.client k s y.reply in let p = step_stage (w.client.stage k) s y.reply.status e in let at = behind_conn w k rest in
     one_seat d b.conns k (send_up (b.conns k) ForDialog (dialog_message d k (b.conns k).next_id s) 1) w.server
-    (subst (λ t. Seat (d.ready k) t (send_up (b.conns k) ForDialog (dialog_message d k (b.conns k).next_id s) 1) d.session d.pending (w.server.on k)) (sym (put_at w.client.stage k s))
-    (next_seat d k (b.conns k).next_id s (w.client.ready k) (b.conns k) d.pending (w.server.on k) T.bare.off p.0 (ap (λ (c : Conn). c.down) at ∙ T.bare.none) (ap (λ (c : Conn). c.up) at ∙ T.bare.up)))
+    (subst (λ t. Seat (d.ready k) t (send_up (b.conns k) ForDialog (dialog_message d k (b.conns k).next_id s) 1) d.session d.pending (w.server.session_on k)) (sym (put_at w.client.stage k s))
+    (next_seat d k (b.conns k).next_id s (w.client.ready k) (b.conns k) d.pending (w.server.session_on k) T.bare.off p.0 (ap (λ (c : Conn). c.down) at ∙ T.bare.none) (ap (λ (c : Conn). c.up) at ∙ T.bare.up)))
     (λ q n. away w k rest d T.here q n refl (put_off w.client.stage k s q n) refl (pend q n s p.1))
   where
     pend : (q : ℕ) → q ≢ k → (s : Stage) → (s ≡ SaidSecond false → makes_session (w.client.stage k) ≡ true)
-        → Seat (w.client.ready q) (w.client.stage q) (w.conns q) w.client.session w.client.pending (w.server.on q) → Seat (w.client.ready q) (w.client.stage q) (w.conns q) w.client.session (went_on w.client k s y.reply).pending (w.server.on q)
+        → Seat (w.client.ready q) (w.client.stage q) (w.conns q) w.client.session w.client.pending (w.server.session_on q) → Seat (w.client.ready q) (w.client.stage q) (w.conns q) w.client.session (went_on w.client k s y.reply).pending (w.server.session_on q)
     pend q n Apart m i = i
     pend q n (SaidNegotiate bound) m i = i
     pend q n (SaidFirst bound) m i = i
     pend q n (SaidSecond true) m i = i
-    pend q n (SaidSecond false) m i = other_pending (w.client.ready q) (w.client.stage q) (w.conns q) w.client.session w.client.pending y.reply.session (w.server.on q) (other_makes w k q T.sessions (m refl) n) i
+    pend q n (SaidSecond false) m i = other_pending (w.client.ready q) (w.client.stage q) (w.conns q) w.client.session w.client.pending y.reply.session (w.server.session_on q) (other_makes w k q T.sessions (m refl) n) i
     pend q n AskedTree m i = i
 
 accepts : (w : World) (a : ℕ → ℕ) (k : ℕ) (y : Received) (rest : List Received) → w.client.stage k ≡ SaidSecond false → (y.reply.status == success) ≡ true → Taking w a k y rest → Here (dialog_took (behind_reply w k rest) k y.reply Accepts)
@@ -222,19 +222,19 @@ unfolding Here
 accepts w a k y rest stage status T =
     let b = behind_reply w k rest in let c = w.client in let d = accepted c k in let at = behind_conn w k rest in let m = dialog_message d k (b.conns k).next_id AskedTree in
     one_seat d b.conns k (send_up (b.conns k) ForDialog m 1) w.server
-    (subst (λ t. Seat (d.ready k) t (send_up (b.conns k) ForDialog m 1) d.session d.pending (w.server.on k)) (sym (put_at c.stage k AskedTree))
-    (now_asks (c.ready k) (send_up (b.conns k) ForDialog m 1) c.session c.pending (w.server.on k) T.bare.off
+    (subst (λ t. Seat (d.ready k) t (send_up (b.conns k) ForDialog m 1) d.session d.pending (w.server.session_on k)) (sym (put_at c.stage k AskedTree))
+    (now_asks (c.ready k) (send_up (b.conns k) ForDialog m 1) c.session c.pending (w.server.session_on k) T.bare.off
     (λ o s. (T.here k).held (ap (λ (z : Conn). z.client_open) (sym at) ∙ o) (ap (λ (z : Conn). z.server_open) (sym at) ∙ s) c.pending (second_held (c.ready k) (c.stage k) (w.conns k).down y rest c.session c.pending false T.bare.off stage T.is status))))
     (λ q n. away w k rest d T.here q n refl (put_off c.stage k AskedTree q n) refl (λ i. i))
 
 -- the channel is bound, or the session begins
-becomes : (w : World) (k : ℕ) (rest : List Received) (d : Client) → Here w → d.ready k ≡ true → d.stage k ≡ Apart → ((w.conns k).client_open ≡ true → (w.conns k).server_open ≡ true → w.server.on k ≡ Some d.session)
-    → ((q : ℕ) → q ≢ k → Seat (d.ready q) (d.stage q) (w.conns q) d.session d.pending (w.server.on q)) → Seats d (behind_reply w k rest).conns w.server
+becomes : (w : World) (k : ℕ) (rest : List Received) (d : Client) → Here w → d.ready k ≡ true → d.stage k ≡ Apart → ((w.conns k).client_open ≡ true → (w.conns k).server_open ≡ true → w.server.session_on k ≡ Some d.session)
+    → ((q : ℕ) → q ≢ k → Seat (d.ready q) (d.stage q) (w.conns q) d.session d.pending (w.server.session_on q)) → Seats d (behind_reply w k rest).conns w.server
 unfolding Here
 becomes w k rest d h ready stage on others =
     one_seat d w.conns k (take_front (w.conns k) rest) w.server
-    (subst (λ r. Seat r (d.stage k) (take_front (w.conns k) rest) d.session d.pending (w.server.on k)) (sym ready)
-    (subst (λ t. Seat true t (take_front (w.conns k) rest) d.session d.pending (w.server.on k)) (sym stage) (now_ready (take_front (w.conns k) rest) d.session d.pending (w.server.on k) on)))
+    (subst (λ r. Seat r (d.stage k) (take_front (w.conns k) rest) d.session d.pending (w.server.session_on k)) (sym ready)
+    (subst (λ t. Seat true t (take_front (w.conns k) rest) d.session d.pending (w.server.session_on k)) (sym stage) (now_ready (take_front (w.conns k) rest) d.session d.pending (w.server.session_on k) on)))
     others
 
 left_out : (w : World) (a : ℕ → ℕ) (k : ℕ) (y : Received) (rest : List Received) → Taking w a k y rest → Here (one_cut (with_client (behind_reply w k rest) (leave_dialog w.client k)) k)
@@ -254,7 +254,7 @@ bound_now w a k y rest stage status T =
     let c = w.client in let d = bind_channel c k in
     becomes w k rest d T.here (put_at c.ready k true) (put_at c.stage k Apart)
     (λ o s. (T.here k).held o s c.session (second_held (c.ready k) (c.stage k) (w.conns k).down y rest c.session c.pending true T.bare.off stage T.is status))
-    (λ q n. two_columns c d q (w.conns q) (w.server.on q) (put_off c.ready k true q n) (put_off c.stage k Apart q n) refl refl (T.here q))
+    (λ q n. two_columns c d q (w.conns q) (w.server.session_on q) (put_off c.ready k true q n) (put_off c.stage k Apart q n) refl refl (T.here q))
 
 begun_now : (w : World) (a : ℕ → ℕ) (k : ℕ) (y : Received) (rest : List Received) → w.client.stage k ≡ AskedTree → w.client.live ≡ false → Taking w a k y rest → Here (with_client (behind_reply w k rest) (begin_session w.client k w.client.pending y.reply.tree))
 unfolding Here
@@ -262,8 +262,8 @@ begun_now w a k y rest stage dead T =
     let c = w.client in let d = begin_session c k c.pending y.reply.tree in
     becomes w k rest d T.here (put_at c.ready k true) (put_at c.stage k Apart)
     (λ o s. (T.here k).held o s c.pending (asked_held (c.ready k) (c.stage k) (w.conns k).down c.session c.pending T.bare.off stage))
-    (λ q n. subst (λ r. Seat r (d.stage q) (w.conns q) d.session d.pending (w.server.on q)) (sym (put_off c.ready k true q n)) (subst (λ t. Seat (c.ready q) t (w.conns q) d.session d.pending (w.server.on q)) (sym (put_off c.stage k Apart q n))
-    (idle_seat (c.ready q) (c.stage q) (w.conns q) d.session d.pending (w.server.on q) (not_live (c.ready q) (λ r. live_not (T.fit.ready q r).1)) (other_makes w k q T.sessions (ap makes_session stage) n) (not_live (is_bound (c.stage q)) (λ r. live_not (T.fit.stages q r))))))
+    (λ q n. subst (λ r. Seat r (d.stage q) (w.conns q) d.session d.pending (w.server.session_on q)) (sym (put_off c.ready k true q n)) (subst (λ t. Seat (c.ready q) t (w.conns q) d.session d.pending (w.server.session_on q)) (sym (put_off c.stage k Apart q n))
+    (idle_seat (c.ready q) (c.stage q) (w.conns q) d.session d.pending (w.server.session_on q) (not_live (c.ready q) (λ r. live_not (T.fit.ready q r).1)) (other_makes w k q T.sessions (ap makes_session stage) n) (not_live (is_bound (c.stage q)) (λ r. live_not (T.fit.stages q r))))))
   where
     live_not : w.client.live ≡ true → ⊥
     live_not l = absurd (cc)
@@ -312,7 +312,7 @@ unfolding Here
 cut_columns w k h true true on = λ q. shut_seat _ _ _ _ _ _ refl
 cut_columns w k h true false on =
     let c = w.client in let d = cut_channel c k in
-    one_seat d w.conns k (client_off (w.conns k)) w.server (shut_seat _ _ _ _ _ _ refl) (λ q n. two_columns c d q (w.conns q) (w.server.on q) (put_off c.ready k false q n) refl refl refl (h q))
+    one_seat d w.conns k (client_off (w.conns k)) w.server (shut_seat _ _ _ _ _ _ refl) (λ q n. two_columns c d q (w.conns q) (w.server.session_on q) (put_off c.ready k false q n) refl refl refl (h q))
 cut_columns w k h false e on = absurd (cc)
 
 cuts : (w : World) (k : ℕ) → Here w → Here (changed w (Cut k))
@@ -320,7 +320,7 @@ unfolding Here
 cuts w k h =
     let c = w.client in
     either Here (c.ready k) _ _ (λ on. cut_columns w k h (c.ready k) (ends_at_cut c) on)
-    (λ _. one_seat (leave_dialog c k) w.conns k (client_off (w.conns k)) w.server (shut_seat _ _ _ _ _ _ refl) (λ q n. two_columns c (leave_dialog c k) q (w.conns q) (w.server.on q) refl (put_off c.stage k Apart q n) refl refl (h q)))
+    (λ _. one_seat (leave_dialog c k) w.conns k (client_off (w.conns k)) w.server (shut_seat _ _ _ _ _ _ refl) (λ q n. two_columns c (leave_dialog c k) q (w.conns q) (w.server.session_on q) refl (put_off c.stage k Apart q n) refl refl (h q)))
 
 stands_once : (s : Server) (f : ℕ → Conn) (q : ℕ) → Links s f → (f q).server_open ≡ true → 1 ≤ tally q s.connections
 unfolding bit
@@ -330,8 +330,8 @@ drops : (w : World) (k : ℕ) → Links w.server w.conns → (w.conns k).server_
 unfolding Here
 drops w k links o h =
     let A = step w.server w.moment (End k) in let c = w.client in
-    one_seat c w.conns k (server_off (w.conns k)) A.server (gone_seat (c.ready k) (c.stage k) (server_off (w.conns k)) c.session c.pending (A.server.on k) refl refl)
-    (λ q n. on_seat (c.ready q) (c.stage q) (w.conns q) c.session c.pending (w.server.on q) (A.server.on q) (λ x _ so _ held. end_keeps w.server w.moment k q x n (stands_once w.server w.conns q links so) (stands_once w.server w.conns k links o) held) (h q))
+    one_seat c w.conns k (server_off (w.conns k)) A.server (gone_seat (c.ready k) (c.stage k) (server_off (w.conns k)) c.session c.pending (A.server.session_on k) refl refl)
+    (λ q n. on_seat (c.ready q) (c.stage q) (w.conns q) c.session c.pending (w.server.session_on q) (A.server.session_on q) (λ x _ so _ held. end_keeps w.server w.moment k q x n (stands_once w.server w.conns q links so) (stands_once w.server w.conns k links o) held) (h q))
 
 -- ---- every event
 

@@ -45,7 +45,7 @@ pub record Seat (ready : Bool) (stage : Stage) (conn : Conn) (session pending : 
   pub bound : stage ≡ SaidSecond true → conn.client_open ≡ true → (m : Sent) → conn.up ≡ m ∷ [] → is_setup m.message.command ≡ true × m.message.session ≡ session
 
 abbrev pub Seats : Client → (ℕ → Conn) → Server → Type 0
-Seats c conns s = (q : ℕ) → Seat (c.ready q) (c.stage q) (conns q) c.session c.pending (s.on q)
+Seats c conns s = (q : ℕ) → Seat (c.ready q) (c.stage q) (conns q) c.session c.pending (s.session_on q)
 
 unfoldable pub Here : World → Type 0
 Here w = Seats w.client w.conns w.server
@@ -90,17 +90,17 @@ by_both c d a b = record { ready = a.ready; stage = a.stage; session = b.session
 
 pub same_seats : (c d : Client) (conns : ℕ → Conn) (s : Server) → SameSeat c d → Seats c conns s → Seats d conns s
 same_seats c d conns s e h q =
-    subst (λ r. Seat (r q) (d.stage q) (conns q) d.session d.pending (s.on q)) (sym e.ready)
-    (subst (λ t. Seat (c.ready q) (t q) (conns q) d.session d.pending (s.on q)) (sym e.stage)
-    (subst (λ a. Seat (c.ready q) (c.stage q) (conns q) a d.pending (s.on q)) (sym e.session)
-    (subst (λ b. Seat (c.ready q) (c.stage q) (conns q) c.session b (s.on q)) (sym e.pending) (h q))))
+    subst (λ r. Seat (r q) (d.stage q) (conns q) d.session d.pending (s.session_on q)) (sym e.ready)
+    (subst (λ t. Seat (c.ready q) (t q) (conns q) d.session d.pending (s.session_on q)) (sym e.stage)
+    (subst (λ a. Seat (c.ready q) (c.stage q) (conns q) a d.pending (s.session_on q)) (sym e.session)
+    (subst (λ b. Seat (c.ready q) (c.stage q) (conns q) c.session b (s.session_on q)) (sym e.pending) (h q))))
 
 -- one channel changes, and the others are the same
-pub one_seat : (d : Client) (conns : ℕ → Conn) (k : ℕ) (conn : Conn) (s : Server) → Seat (d.ready k) (d.stage k) conn d.session d.pending (s.on k) → ((q : ℕ) → q ≢ k → Seat (d.ready q) (d.stage q) (conns q) d.session d.pending (s.on q)) → Seats d (put conns k conn) s
+pub one_seat : (d : Client) (conns : ℕ → Conn) (k : ℕ) (conn : Conn) (s : Server) → Seat (d.ready k) (d.stage k) conn d.session d.pending (s.session_on k) → ((q : ℕ) → q ≢ k → Seat (d.ready q) (d.stage q) (conns q) d.session d.pending (s.session_on q)) → Seats d (put conns k conn) s
 one_seat d conns k conn s here there q =
-    at_or_else (λ i. Seat (d.ready i) (d.stage i) (put conns k conn i) d.session d.pending (s.on i)) k q
-    (subst (λ z. Seat (d.ready k) (d.stage k) z d.session d.pending (s.on k)) (sym (put_at conns k conn)) here)
-    (λ n. subst (λ z. Seat (d.ready q) (d.stage q) z d.session d.pending (s.on q)) (sym (put_off conns k conn q n)) (there q n))
+    at_or_else (λ i. Seat (d.ready i) (d.stage i) (put conns k conn i) d.session d.pending (s.session_on i)) k q
+    (subst (λ z. Seat (d.ready k) (d.stage k) z d.session d.pending (s.session_on k)) (sym (put_at conns k conn)) here)
+    (λ n. subst (λ z. Seat (d.ready q) (d.stage q) z d.session d.pending (s.session_on q)) (sym (put_off conns k conn q n)) (there q n))
 
 -- ---- a push
 
@@ -115,8 +115,8 @@ pushes_op w k g i c apart h =
     (λ _. both_ways P (goes_itself c g) _ _ _ _
     (λ _. both_ways P (has_its_slot c g i) _ _ _ _
     (λ _. let d = outstanding (begun c g i) k g in let e = by_both c d (same_begun c k g i) (keeps_begun c k g i).same in let j = same_seats c d w.conns w.server e h in
-    one_seat d w.conns k _ w.server (sent_seat (d.ready k) (d.stage k) (w.conns k) d.session d.pending (w.server.on k) (ForOp g) _ _ (ap (λ f. f k) e.stage ∙ apart) (j k)) (λ q n. j q)) (λ _. h))
-    (λ _. let d = asked c k g in one_seat d w.conns k _ w.server (sent_seat (c.ready k) (c.stage k) (w.conns k) c.session c.pending (w.server.on k) (ForAttach g) _ _ apart (h k)) (λ q n. h q)))
+    one_seat d w.conns k _ w.server (sent_seat (d.ready k) (d.stage k) (w.conns k) d.session d.pending (w.server.session_on k) (ForOp g) _ _ (ap (λ f. f k) e.stage ∙ apart) (j k)) (λ q n. j q)) (λ _. h))
+    (λ _. let d = asked c k g in one_seat d w.conns k _ w.server (sent_seat (c.ready k) (c.stage k) (w.conns k) c.session c.pending (w.server.session_on k) (ForAttach g) _ _ apart (h k)) (λ q n. h q)))
     (λ _. h)
 
 picks : (w : World) (k : ℕ) (c : Client) (pick : Option Pick) → c.stage k ≡ Apart → Seats c w.conns w.server → Here (pushed_by w k (pick_after c k pick) (pick_act c k pick))
@@ -153,10 +153,10 @@ unfolding Here
 opens w k shut channels h =
     let A = step w.server w.moment (Accept k) in let d = open_channel w.client k in
     one_seat d w.conns k (fresh w.client k (A.reply.status == success)) A.server
-    (subst (λ t. Seat (d.ready k) t (fresh w.client k (A.reply.status == success)) d.session d.pending (A.server.on k)) (sym (put_at w.client.stage k (SaidNegotiate w.client.live)))
-    (opened_seat (w.client.ready k) w.client k (A.reply.status == success) w.client.live d.session d.pending (A.server.on k) (closed_off (w.client.ready k) (w.client.stage k) (w.conns k) shut (channels k))))
+    (subst (λ t. Seat (d.ready k) t (fresh w.client k (A.reply.status == success)) d.session d.pending (A.server.session_on k)) (sym (put_at w.client.stage k (SaidNegotiate w.client.live)))
+    (opened_seat (w.client.ready k) w.client k (A.reply.status == success) w.client.live d.session d.pending (A.server.session_on k) (closed_off (w.client.ready k) (w.client.stage k) (w.conns k) shut (channels k))))
     (λ q n. subst (λ f. Seat (d.ready q) (d.stage q) (w.conns q) d.session d.pending (f q)) (sym (accept_on w.server w.moment k))
-    (subst (λ t. Seat (w.client.ready q) t (w.conns q) w.client.session w.client.pending (w.server.on q)) (sym (put_off w.client.stage k (SaidNegotiate w.client.live) q n)) (h q)))
+    (subst (λ t. Seat (w.client.ready q) t (w.conns q) w.client.session w.client.pending (w.server.session_on q)) (sym (put_off w.client.stage k (SaidNegotiate w.client.live) q n)) (h q)))
 
 -- ---- Serve: what the message leaves alone
 
@@ -325,7 +325,7 @@ no_dialog_up w a k x rest fit on is t =
     let f0 = front_up (w.conns k).up x rest is in absurd (none_of_dialog w.conns k (fit.ready k on).2 k 0 x f0 (ap is_ops t) refl)
 
 turns : (w : World) (a : ℕ → ℕ) (k : ℕ) (x : Sent) (rest : List Sent) (place : ℕ) → (w.conns k).up ≡ x ∷ rest → Connections w.client w.conns a → Sessions w.client w.conns w.server → Channels w.client w.conns → IsPast w.client x → Here w
-    → Turns (w.client.ready k) (w.client.stage k) (w.conns k) w.client.session w.client.pending (w.server.on k) ((answer w x).server.on k) (record { token = x.token; reply = (answer w x).reply; place = place })
+    → Turns (w.client.ready k) (w.client.stage k) (w.conns k) w.client.session w.client.pending (w.server.session_on k) ((answer w x).server.session_on k) (record { token = x.token; reply = (answer w x).reply; place = place })
 unfolding Here
 turns w a k x rest place is fit s channels past h =
     let f0 = front_up (w.conns k).up x rest is in let m = x.message in
@@ -337,12 +337,12 @@ turns w a k x rest place is fit s channels past h =
       second = λ bound at o status. by bound at o status;
     }
   where
-    enters_here : is_setup x.message.command ≡ true → (answer w x).reply.status ≡ success → (answer w x).server.on k ≡ Some x.message.session
+    enters_here : is_setup x.message.command ≡ true → (answer w x).reply.status ≡ success → (answer w x).server.session_on k ≡ Some x.message.session
     enters_here kind status =
         let f0 = front_up (w.conns k).up x rest is in let from = s.from_client k 0 x f0 in let e = setup_answer w.server w.moment x.message x.message.command kind in
-        ap (λ (A : Answer). A.server.on k) e ∙ ap (λ i. (step w.server w.moment (Heard x.message)).server.on i) (sym from.1) ∙ enters w.server w.moment x.message kind from.2 (ap (λ (A : Answer). A.reply.status) (sym e) ∙ status)
+        ap (λ (A : Answer). A.server.session_on k) e ∙ ap (λ i. (step w.server w.moment (Heard x.message)).server.session_on i) (sym from.1) ∙ enters w.server w.moment x.message kind from.2 (ap (λ (A : Answer). A.reply.status) (sym e) ∙ status)
 
-    by : (bound : Bool) → w.client.stage k ≡ SaidSecond bound → (w.conns k).client_open ≡ true → (answer w x).reply.status ≡ success → (answer w x).server.on k ≡ Some (if bound then w.client.session else w.client.pending)
+    by : (bound : Bool) → w.client.stage k ≡ SaidSecond bound → (w.conns k).client_open ≡ true → (answer w x).reply.status ≡ success → (answer w x).server.session_on k ≡ Some (if bound then w.client.session else w.client.pending)
     by true at o status =
         let f = front_dialog w k x rest channels is o (second_stage (w.client.stage k) true at) in let b = (h k).bound at o x (is ∙ ap (λ ys. x ∷ ys) f.1) in enters_here b.0 status ∙ ap Some b.1
     by false at o status =
@@ -357,9 +357,9 @@ serves w a k (x ∷ rest) is fit s channels past h =
     let A = answer w x in let c = w.client in let y : Received = record { token = x.token; reply = A.reply; place = w.log.places } in
     let g = put w.conns k (behind_front (w.conns k) rest) in let f0 = front_up (w.conns k).up x rest is in let p = past x f0 in
     one_seat c g k (say_down (g k) y) A.server
-    (subst (λ d. Seat (c.ready k) (c.stage k) (say_down d y) c.session c.pending (A.server.on k)) (sym (put_at w.conns k (behind_front (w.conns k) rest)))
-    (served_seat (c.ready k) (c.stage k) (w.conns k) c.session c.pending (w.server.on k) (A.server.on k) x rest y (channels k) is (h k) (turns w a k x rest w.log.places is fit s channels p h)))
-    (λ q n. subst (λ d. Seat (c.ready q) (c.stage q) d c.session c.pending (A.server.on q)) (sym (put_off w.conns k (behind_front (w.conns k) rest) q n))
-    (on_seat (c.ready q) (c.stage q) (w.conns q) c.session c.pending (w.server.on q) (A.server.on q)
+    (subst (λ d. Seat (c.ready k) (c.stage k) (say_down d y) c.session c.pending (A.server.session_on k)) (sym (put_at w.conns k (behind_front (w.conns k) rest)))
+    (served_seat (c.ready k) (c.stage k) (w.conns k) c.session c.pending (w.server.session_on k) (A.server.session_on k) x rest y (channels k) is (h k) (turns w a k x rest w.log.places is fit s channels p h)))
+    (λ q n. subst (λ d. Seat (c.ready q) (c.stage q) d c.session c.pending (A.server.session_on q)) (sym (put_off w.conns k (behind_front (w.conns k) rest) q n))
+    (on_seat (c.ready q) (c.stage q) (w.conns q) c.session c.pending (w.server.session_on q) (A.server.session_on q)
     (λ z o so e held. held_on w.server w.moment x.message x.message.command q z
     (record { work = λ i. absurd (n (i ∙ (s.from_client k 0 x f0).1)); stays = no_logoff w k x s f0; previous = spares w a x q fit s p z e }) held) (h q)))

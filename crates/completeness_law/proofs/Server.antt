@@ -5,13 +5,13 @@ use Rattle.exchange_defs.specs.Table.{put, without}
 use Rattle.exchange_defs.specs.Status.{success}
 use Rattle.exchange_defs.specs.Commands.{Command, Unreadable, Aside, Setup, Logoff, TreeConnect, TreeDisconnect, Create, Close, Flush, Read, Write, Lock, Ioctl, ListDirectory, QueryFile, QueryVolume, SetInfo, CreateRequest, deletes_on_close}
 use Rattle.exchange_defs.specs.State.{Server, Message, Accept, Heard, End, ServerEvent, Answer, Record}
-use Rattle.exchange_defs.specs.Opens.{drop_open, leave_open, marked_by, without_gone, goes}
-use Rattle.exchange_defs.specs.Files.{mark_file, remove_file}
+use Rattle.exchange_defs.specs.Opens.{drop_open, leave_open, pending_behind, without_gone, goes}
+use Rattle.exchange_defs.specs.Files.{set_delete_pending, remove_file}
 use Rattle.exchange_defs.specs.CheckOpen.{is_late, is_slot, file_of}
-use Rattle.exchange_defs.specs.Verdict.{Verdict, Refuse, Give, KeepRefusal, Repeat, Attach, Make, TurnDown, Tell, Show, KeepSlot, PutRanges, Alter, Shut, Challenge, ChallengeBinding, Begin, Join, EndSession, AddTree, DropTree, Change, PutBytes, PutEnd, PutBasic, PutMark, PutPath, PutNothing}
+use Rattle.exchange_defs.specs.Verdict.{Verdict, Refuse, Give, KeepRefusal, Repeat, Attach, Make, TurnDown, Tell, Show, KeepSlot, PutRanges, Alter, CloseOpen, Challenge, ChallengeBinding, Begin, Join, EndSession, AddTree, DropTree, Change, PutBytes, PutEnd, PutBasic, PutDeletePending, PutPath, PutNothing}
 use Rattle.exchange_defs.specs.Effects.{apply, reach, attached, attach, keep_slot, keep_closed, change_file, file_made, end_if_named, set_ranges}
 use Rattle.exchange_defs.specs.CheckCreate.{empties}
-use Rattle.exchange_defs.specs.Step.{step, with_deadlines, expire, add_mark, ruling, ruling_without_room, carried_out, Ruling, TakesIn, TurnsAway, take_out, ends_with, max_connections}
+use Rattle.exchange_defs.specs.Step.{step, with_deadlines, expire, add_expired_guid, ruling, ruling_without_room, carried_out, Ruling, TakesIn, TurnsAway, take_out, ends_with, max_connections}
 use Rattle.exchange_defs.specs.Network.{answer_to}
 use Rattle.server_law.proofs.Logic.{either}
 use Rattle.server_law.proofs.Doors.{by_ruling, by_verdict, recorded, Front, Rules, Before}
@@ -25,21 +25,21 @@ same_so s t u a b = record { connections = b.connections ∙ a.connections }
 
 -- ---- by effect
 
-pub marked : (s : Server) (o : ℕ) → Same s (marked_by s o)
-marked s o = either (λ t. Same s t) (deletes_on_close (s.opened o).options) (mark_file s (s.opened o).file true) s (λ _. record { connections = refl }) (λ _. record { connections = refl })
+pub pending_set : (s : Server) (o : ℕ) → Same s (pending_behind s o)
+pending_set s o = either (λ t. Same s t) (deletes_on_close (s.opened o).options) (set_delete_pending s (s.opened o).file true) s (λ _. record { connections = refl }) (λ _. record { connections = refl })
 
 pub gone : (s : Server) (f : ℕ) → Same s (without_gone s f)
 gone s f = either (λ t. Same s t) (goes s f) (remove_file s f) s (λ _. record { connections = refl }) (λ _. record { connections = refl })
 
 left : (s : Server) (o : ℕ) → Same s (leave_open s o)
-left s o = same_so s (marked_by s o) (leave_open s o) (marked s o) (same_so (marked_by s o) (drop_open (marked_by s o) o) (leave_open s o) (record { connections = refl }) (gone (drop_open (marked_by s o) o) (s.opened o).file))
+left s o = same_so s (pending_behind s o) (leave_open s o) (pending_set s o) (same_so (pending_behind s o) (drop_open (pending_behind s o) o) (leave_open s o) (record { connections = refl }) (gone (drop_open (pending_behind s o) o) (s.opened o).file))
 
 expired : (s : Server) (o : ℕ) → Same s (expire s o)
-expired s o = same_so s (leave_open s o) (expire s o) (left s o) (mark (leave_open s o) (s.opened o).client (s.opened o).guid)
+expired s o = same_so s (leave_open s o) (expire s o) (left s o) (guid_added (leave_open s o) (s.opened o).client (s.opened o).guid)
   where
-    mark : (t : Server) (client : ℕ) (g : Option ℕ) → Same t (add_mark t client g)
-    mark t client None = record { connections = refl }
-    mark t client (Some g) = record { connections = refl }
+    guid_added : (t : Server) (client : ℕ) (g : Option ℕ) → Same t (add_expired_guid t client g)
+    guid_added t client None = record { connections = refl }
+    guid_added t client (Some g) = record { connections = refl }
 
 pub expired_connections : (s : Server) (o : ℕ) → (expire s o).connections ≡ s.connections
 expired_connections s o = (expired s o).connections
@@ -48,7 +48,7 @@ reached : (s : Server) (m : Message) (o : ℕ) → Same s (reach s m o)
 reached s m o = either (λ t. Same s t) (is_late s m o) s (record s { sequence = put s.sequence o m.sequence }) (λ _. record { connections = refl }) (λ _. record { connections = refl })
 
 joined : (s : Server) (m : Message) (o : ℕ) → Same s (attached s m o)
-joined s m o = either (λ t. Same s t) (is_some (s.at o)) s (attach s m o) (λ _. record { connections = refl }) (λ _. record { connections = refl })
+joined s m o = either (λ t. Same s t) (is_some (s.session_of_open o)) s (attach s m o) (λ _. record { connections = refl }) (λ _. record { connections = refl })
 
 pub slotted : (s : Server) (o index number status : ℕ) → Same s (keep_slot s o index number status)
 slotted s o index number status = either (λ t. Same s t) (is_slot index) _ s (λ _. record { connections = refl }) (λ _. record { connections = refl })
@@ -61,7 +61,7 @@ changed_file : (s : Server) (f now : ℕ) (c : Change) → Same s (change_file s
 changed_file s f now (PutBytes at bytes) = record { connections = refl }
 changed_file s f now (PutEnd size) = record { connections = refl }
 changed_file s f now (PutBasic basic) = record { connections = refl }
-changed_file s f now (PutMark flag) = record { connections = refl }
+changed_file s f now (PutDeletePending flag) = record { connections = refl }
 changed_file s f now (PutPath replaced path) = record { connections = refl }
 changed_file s f now PutNothing = record { connections = refl }
 
@@ -87,7 +87,7 @@ by_effect s m now (KeepSlot o index number status elements) = same_so s (reach s
 by_effect s m now (PutRanges o index number ranges elements) =
     same_so s (reach s m o) _ (reached s m o) (same_so (reach s m o) (set_ranges (reach s m o) (file_of s o) ranges) _ (record { connections = refl }) (slotted (set_ranges (reach s m o) (file_of s o) ranges) o index number success))
 by_effect s m now (Alter o change body) = same_so s (reach s m o) _ (reached s m o) (changed_file (reach s m o) (file_of s o) now change)
-by_effect s m now (Shut o body) = same_so s (leave_open s o) _ (left s o) (closed (leave_open s o) m.session (s.opened o).guid)
+by_effect s m now (CloseOpen o body) = same_so s (leave_open s o) _ (left s o) (closed (leave_open s o) m.session (s.opened o).guid)
 by_effect s m now Challenge = record { connections = refl }
 by_effect s m now (ChallengeBinding session) = record { connections = refl }
 by_effect s m now (Begin session user previous r is_quiet) = same_so s (end_if_named s now previous is_quiet) _ (ended s now previous is_quiet) (record { connections = refl })

@@ -10,7 +10,7 @@ use Rattle.exchange_defs.specs.CheckCreate.{keeps_guid, max_guids, is_counted_ou
 use Rattle.exchange_defs.specs.CheckOpen.{file_of, has_access, is_slot, kept_status, kept_lock, is_repeated, path_change, allocation_change, rename_names, delete_names, write_check, read_check, turn_down_lock, range_check, new_lock_check, slot_check, lock_check, named_change, unless_repeated, size_change, setting_check, set_check, flush_check, close_check, file_query_check, volume_query_check, listing_of, list_check, ioctl_check, free_ioctl_check, is_late}
 use Rattle.exchange_defs.specs.CheckSetup.{tree_in, setup_check, tree_check, binding_check, session_check, granted_session, second_token, first_token, is_new}
 use Rattle.exchange_defs.specs.Check.{check, owed, formed, command_check, with_tree, in_tree, tree_command, on_open, has_session}
-use Rattle.exchange_defs.specs.Verdict.{Verdict, Refuse, Give, KeepRefusal, Repeat, Attach, Make, TurnDown, Tell, Show, KeepSlot, PutRanges, Alter, Shut, Challenge, ChallengeBinding, Begin, Join, EndSession, AddTree, DropTree, Change, PutMark, PutBasic, PutEnd}
+use Rattle.exchange_defs.specs.Verdict.{Verdict, Refuse, Give, KeepRefusal, Repeat, Attach, Make, TurnDown, Tell, Show, KeepSlot, PutRanges, Alter, CloseOpen, Challenge, ChallengeBinding, Begin, Join, EndSession, AddTree, DropTree, Change, PutDeletePending, PutBasic, PutEnd}
 use Rattle.exchange_defs.specs.Step.{without_room}
 use Rattle.server_law.proofs.Logic.{either}
 
@@ -47,7 +47,7 @@ kept_of_fair (Tell o body) e = refl
 kept_of_fair (Show o last body) e = refl
 kept_of_fair (PutRanges o index number ranges elements) e = refl
 kept_of_fair (Alter o change body) e = refl
-kept_of_fair (Shut o body) e = refl
+kept_of_fair (CloseOpen o body) e = refl
 kept_of_fair Challenge e = refl
 kept_of_fair (ChallengeBinding session) e = refl
 kept_of_fair (Begin session user previous r is_quiet) e = refl
@@ -69,7 +69,7 @@ pub record Fair (refusals : ℕ → ℕ → Option ℕ) (locks : ℕ → ℕ →
   pub slots : (o i : ℕ) (k : Kept) → locks o i ≡ Some k → is_other k.status ≡ true
 
 abbrev pub FairServer : Server → Type 0
-FairServer s = Fair s.refused s.slots
+FairServer s = Fair s.refused s.lock_sequences
 
 -- ---- CREATE
 
@@ -104,7 +104,7 @@ fair_guid : (s : Server) (m : Message) (r : CreateRequest) (d : Durable) (u : Op
 fair_guid s m r d (Some o) f = fair_live s m r o
 fair_guid s m r d None f =
     let P : Verdict → Type 0 = λ v. is_fair v ≡ true in
-    either P (s.closed m.session d.guid) _ _ (λ _. refl) (λ _. either P (s.marks m.client d.guid) _ _ (λ _. refl) (λ _. fair_refusal s m r d.guid (s.refused m.session d.guid) f refl))
+    either P (s.closed m.session d.guid) _ _ (λ _. refl) (λ _. either P (s.expired_guids m.client d.guid) _ _ (λ _. refl) (λ _. fair_refusal s m r d.guid (s.refused m.session d.guid) f refl))
 
 fair_durable : (s : Server) (m : Message) (r : CreateRequest) (u : Option Durable) → FairServer s → is_fair (durable_check s m r u) ≡ true
 fair_durable s m r None f = fair_new s m r (find s r.path)
@@ -162,7 +162,7 @@ fair_status number status (Some k) e f = let h = f k refl in grind arith
 
 fair_kept : (s : Server) (o index number status : ℕ) → FairServer s → kept_lock s o index number ≡ Some status → is_other status ≡ true
 fair_kept s o index number status f =
-    either (λ u. u ≡ Some status → is_other status ≡ true) (is_slot index) (kept_status number (s.slots o index)) None (λ _ e. fair_status number status (s.slots o index) e (λ k h. f.slots o index k h)) (λ _ e. absurd (cc))
+    either (λ u. u ≡ Some status → is_other status ≡ true) (is_slot index) (kept_status number (s.lock_sequences o index)) None (λ _ e. fair_status number status (s.lock_sequences o index) e (λ k h. f.slots o index k h)) (λ _ e. absurd (cc))
 
 fair_slot : (s : Server) (o index number : ℕ) (elements : List Element) (u : Option ℕ) → FairServer s → kept_lock s o index number ≡ u → is_fair (slot_check s o index number elements u) ≡ true
 fair_slot s o index number elements None f e = fair_new_lock s o index number elements
@@ -234,8 +234,8 @@ fair_setting s m o (Rename replace path) =
     (λ _. fair_unless s m o change (named_change o change u) (fair_named o change u (fair_rename_names s (file_of s o) replace path))) (λ _. refl)
 fair_setting s m o (SetDelete flag) =
     let u = delete_names s (file_of s o) flag in
-    either (λ v. is_fair v ≡ true) (has_access s o 0x1_0000) (unless_repeated s m o (PutMark flag) (named_change o (PutMark flag) u)) (TurnDown o access_denied)
-    (λ _. fair_unless s m o (PutMark flag) (named_change o (PutMark flag) u) (fair_named o (PutMark flag) u (fair_delete_names s (file_of s o) flag))) (λ _. refl)
+    either (λ v. is_fair v ≡ true) (has_access s o 0x1_0000) (unless_repeated s m o (PutDeletePending flag) (named_change o (PutDeletePending flag) u)) (TurnDown o access_denied)
+    (λ _. fair_unless s m o (PutDeletePending flag) (named_change o (PutDeletePending flag) u) (fair_named o (PutDeletePending flag) u (fair_delete_names s (file_of s o) flag))) (λ _. refl)
 fair_setting s m o (SetAllocation size) = fair_size s m o (allocated size (length (s.content (file_of s o)))) (allocation_change s (file_of s o) size)
 fair_setting s m o (SetEnd size) = fair_size s m o size (PutEnd size)
 
@@ -358,7 +358,7 @@ keeps_second s m r Refused = refl
 keeps_second s m r (Logon user) = keeps_granted s m r user
 
 keeps_first : (s : Server) (shows : Shows) → keeps_fair (first_token s shows) ≡ true
-keeps_first s Begins = either (λ v. keeps_fair v ≡ true) (nat_le max_ids s.begun) (Refuse insufficient_resources) Challenge (λ _. refl) (λ _. refl)
+keeps_first s Begins = either (λ v. keeps_fair v ≡ true) (nat_le max_ids s.session_ids_given) (Refuse insufficient_resources) Challenge (λ _. refl) (λ _. refl)
 keeps_first s Bad = refl
 keeps_first s Refused = refl
 keeps_first s (Logon user) = refl
@@ -366,7 +366,7 @@ keeps_first s (Logon user) = refl
 keeps_session : (s : Server) (m : Message) (r : SetupRequest) → keeps_fair (session_check s m r) ≡ true
 keeps_session s m r =
     let P : Verdict → Type 0 = λ v. keeps_fair v ≡ true in
-    either P (m.session == 0) _ _ (λ _. either P (is_some (s.on m.connection)) _ _ (λ _. refl) (λ _. keeps_first s r.shows))
+    either P (m.session == 0) _ _ (λ _. either P (is_some (s.session_on m.connection)) _ _ (λ _. refl) (λ _. keeps_first s r.shows))
     (λ _. either P (s.present m.session) _ _ (λ _. refl) (λ _. either P (is_new m.session (s.making m.connection)) _ _ (λ _. keeps_second s m r r.shows) (λ _. refl)))
 
 keeps_setup : (s : Server) (m : Message) (r : SetupRequest) → keeps_fair (setup_check s m r) ≡ true
@@ -418,7 +418,7 @@ fair_full (Show o last body) e = refl
 fair_full (KeepSlot o index number status elements) e = refl
 fair_full (PutRanges o index number ranges elements) e = refl
 fair_full (Alter o change body) e = refl
-fair_full (Shut o body) e = refl
+fair_full (CloseOpen o body) e = refl
 fair_full Challenge e = refl
 fair_full (ChallengeBinding session) e = refl
 fair_full (Begin session user previous r is_quiet) e = refl
@@ -440,7 +440,7 @@ keeps_full (Show o last body) e = refl
 keeps_full (KeepSlot o index number status elements) e = refl
 keeps_full (PutRanges o index number ranges elements) e = refl
 keeps_full (Alter o change body) e = refl
-keeps_full (Shut o body) e = refl
+keeps_full (CloseOpen o body) e = refl
 keeps_full Challenge e = refl
 keeps_full (ChallengeBinding session) e = refl
 keeps_full (Begin session user previous r is_quiet) e = refl

@@ -36,7 +36,7 @@ pub data Taken (w v : World) (k : ℕ) : Type 0 where
   Further : (x : Sent) → rank (v.client.stage k) < rank (w.client.stage k) → is_talking (v.client.stage k) ≡ true → v.client.refusals ≡ w.client.refusals → (v.conns k).client_open ≡ true → (v.conns k).up ≡ x ∷ [] → (v.conns k).down ≡ [] → Taken w v k
   IsOver : v.client.ready k ≡ true → v.client.refusals ≡ w.client.refusals → (v.conns k).client_open ≡ true → (v.conns k).up ≡ [] → (v.conns k).down ≡ [] → Taken w v k
   IsRefused : (v.conns k).client_open ≡ false → length v.client.refusals ≡ length w.client.refusals + 1 → v.client.live ≡ w.client.live → Taken w v k
-  IsCountedOut : (v.conns k).client_open ≡ false → w.client.stage k ≡ AskedTree → (w.client.session < w.client.pending → last_number ≤ v.client.number) → Taken w v k
+  IsCountedOut : (v.conns k).client_open ≡ false → w.client.stage k ≡ AskedTree → (w.client.session < w.client.pending → last_number ≤ v.client.session_number) → Taken w v k
 
 length_push : {X : Type 0} (xs : List X) (x : X) → length (xs ++ x ∷ []) ≡ length xs + 1
 length_push [] x = refl
@@ -90,7 +90,7 @@ is_bound_on w k session tree b = IsOver (put_at w.client.ready k true) refl b.st
 is_begun_on : (w : World) (k session tree : ℕ) → Bare w k → Taken w (with_client w (begin_session w.client k session tree)) k
 is_begun_on w k session tree b = IsOver (put_at w.client.ready k true) refl b.stands b.up b.down
 
-ends_well : (w : World) (k session tree : ℕ) → Bare w k → (becomes_ready w.client session ≡ false → w.client.stage k ≡ AskedTree × (w.client.session < w.client.pending → last_number ≤ w.client.number)) → Taken w (dialog_ended w k (IsReady k session tree)) k
+ends_well : (w : World) (k session tree : ℕ) → Bare w k → (becomes_ready w.client session ≡ false → w.client.stage k ≡ AskedTree × (w.client.session < w.client.pending → last_number ≤ w.client.session_number)) → Taken w (dialog_ended w k (IsReady k session tree)) k
 ends_well w k session tree b out =
     both_ways (λ c x. Taken w (with_client (closed_by w k x) c) k) (becomes_ready w.client session) (if w.client.live then bind_channel w.client k else begin_session w.client k session tree) (leave_dialog w.client k) Nothing CloseChannel
     (λ _. either (λ c. Taken w (with_client w c) k) w.client.live (bind_channel w.client k) (begin_session w.client k session tree) (λ _. is_bound_on w k session tree b) (λ _. is_begun_on w k session tree b))
@@ -107,13 +107,13 @@ took_dialog w k r b q (SaidFirst bound) at =
     (λ _. goes_on w k r (SaidSecond bound) b refl (lower_by (SaidSecond bound) (SaidFirst bound) (w.client.stage k) at (omega arith))) (λ _. refused_now w k r r.status)
 took_dialog w k r b q (SaidSecond true) at =
     either (λ d. Taken w (dialog_took w k r d) k) (r.status == success) Binds (Refuses r.status)
-    (λ _. ends_well w k w.client.session w.client.tree b (not_both (becomes_ready w.client w.client.session) _ (binds_live w.client.live w.client.session w.client.number (q.bound at)))) (λ _. refused_now w k r r.status)
+    (λ _. ends_well w k w.client.session w.client.tree b (not_both (becomes_ready w.client w.client.session) _ (binds_live w.client.live w.client.session w.client.session_number (q.bound at)))) (λ _. refused_now w k r r.status)
 took_dialog w k r b q (SaidSecond false) at =
     either (λ d. Taken w (dialog_took w k r d) k) (r.status == success) Accepts (Refuses r.status)
     (λ _. accepts w k r b (lower_by AskedTree (SaidSecond false) (w.client.stage k) at (omega arith))) (λ _. refused_now w k r r.status)
 took_dialog w k r b q AskedTree at =
     either (λ d. Taken w (dialog_took w k r d) k) (r.status == success) Readies (Refuses r.status)
-    (λ _. ends_well w k w.client.pending r.tree b (λ off. (at, λ newer. begins_dead w.client.live w.client.session w.client.number w.client.pending (q.dead at) newer off))) (λ _. refused_now w k r r.status)
+    (λ _. ends_well w k w.client.pending r.tree b (λ off. (at, λ newer. begins_dead w.client.live w.client.session w.client.session_number w.client.pending (q.dead at) newer off))) (λ _. refused_now w k r r.status)
 
 pub filled_on : {X : Type 0} (xs : List X) (x : X) (rest : List X) → xs ≡ x ∷ rest → is_filled xs ≡ true
 unfolding is_filled

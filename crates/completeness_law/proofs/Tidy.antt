@@ -160,10 +160,10 @@ none_carried g c up down l P = absurd (omega (arith, l, none g c up down))
         sum : (a b : ℕ) → a ≡ 0 → b ≡ 0 → a + b ≡ 0
         sum a b e f = omega (arith, e, f)
 
-pub nothing_out : (w : World) → Facts w → ((q : ℕ) → Clean w.conns q) → (g : ℕ) → w.client.on g ≡ None
-nothing_out w F clean g = by (w.client.on g) refl
+pub nothing_out : (w : World) → Facts w → ((q : ℕ) → Clean w.conns q) → (g : ℕ) → w.client.outstanding_on g ≡ None
+nothing_out w F clean g = by (w.client.outstanding_on g) refl
   where
-    by : (o : Option ℕ) → w.client.on g ≡ o → w.client.on g ≡ None
+    by : (o : Option ℕ) → w.client.outstanding_on g ≡ o → w.client.outstanding_on g ≡ None
     by None e = e
     by (Some k) e =
         let r = F.fit.on_ready g k e in let i = idle_of w k F clean r.0 in none_carried g (w.conns k) i.up i.down (F.carried g k e i.client_end i.server_end) _

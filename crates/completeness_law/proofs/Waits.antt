@@ -127,7 +127,7 @@ ok_begun : (w c : Client) (k g i : ℕ) → Ok w c → Ok w (outstanding (begun 
 ok_begun w c k g i j =
     let P : Client → Type 0 = λ d. Ok w (outstanding d k g) in
     either P (c.sent g) (again c g) (begin c g i)
-    (λ _. either P (is_lock (c.op g)) (record c { retried = put2 c.retried (create_for c g) (c.slot_of g) c.number }) c (λ _. ok_same w c _ refl refl refl j) (λ _. ok_same w c _ refl refl refl j))
+    (λ _. either P (is_lock (c.op g)) (record c { retried = put2 c.retried (create_for c g) (c.slot_of g) c.session_number }) c (λ _. ok_same w c _ refl refl refl j) (λ _. ok_same w c _ refl refl refl j))
     (λ _. either P (is_lock (c.op g)) (record (take_slot c g i) { sent = put c.sent g true }) (record c { sent = put c.sent g true }) (λ _. ok_same w c _ refl refl refl j) (λ _. ok_same w c _ refl refl refl j))
 
 -- ---- an operation settles
@@ -210,8 +210,8 @@ not_given_up c d g o kinds h firm b so x low high pending kind shut =
 
 noted_outcome : (c : Client) (g : ℕ) (o : Outcome) (body : Body) → (noted c g o body).outcome ≡ c.outcome
 noted_outcome c g (WasOk reply) body =
-    either (λ (d : Client). d.outcome ≡ c.outcome) (is_create (c.op g)) (record c { file = put c.file g (id_in body); attached = put c.attached g c.number }) (if is_close (c.op g) then record c { shut = put c.shut (create_for c g) true } else c) (λ _. refl)
-    (λ _. either (λ (d : Client). d.outcome ≡ c.outcome) (is_close (c.op g)) (record c { shut = put c.shut (create_for c g) true }) c (λ _. refl) (λ _. refl))
+    either (λ (d : Client). d.outcome ≡ c.outcome) (is_create (c.op g)) (record c { file = put c.file g (id_in body); attached = put c.attached g c.session_number }) (if is_close (c.op g) then record c { closed_ok = put c.closed_ok (create_for c g) true } else c) (λ _. refl)
+    (λ _. either (λ (d : Client). d.outcome ≡ c.outcome) (is_close (c.op g)) (record c { closed_ok = put c.closed_ok (create_for c g) true }) c (λ _. refl) (λ _. refl))
 noted_outcome c g Unsettled body = refl
 noted_outcome c g (WasRefused status) body = refl
 noted_outcome c g (NoSlot create) body = refl
@@ -292,9 +292,9 @@ end_at c x own is_one kind h pending shut = by (is_unsettled (c.outcome y)) refl
     still_open true p u = ap is_unsettled (end_by c (create_for c x) (c.outcome (create_for c x)) true (unsettled_is (c.outcome (create_for c x)) u) (ap (λ n. persists (c.op n)) own ∙ p))
     still_open false p u =
         let e = end_by c x (c.outcome x) false (unsettled_is (c.outcome x) un) p in
-        let q = plain_pending c.number (c.sent x) (is_create (c.op x)) (c.sent (create_for c x)) (create_for c x) (c.outcome (create_for c x)) kind (ap is_unsettled (sym e) ∙ pending) in
+        let q = plain_pending c.session_number (c.sent x) (is_create (c.op x)) (c.sent (create_for c x)) (create_for c x) (c.outcome (create_for c x)) kind (ap is_unsettled (sym e) ∙ pending) in
         ap is_unsettled (end_by c (create_for c x) (c.outcome (create_for c x)) false (unsettled_is (c.outcome (create_for c x)) u) (ap (λ n. persists (c.op n)) own ∙ p))
-        ∙ unsent_create (c.sent (create_for c x)) (is_create (c.op (create_for c x))) c.number (unsent_after_end (create_for c (create_for c x)) (c.sent (create_for c (create_for c x))) (c.outcome (create_for c (create_for c x)))) q.1 is_one
+        ∙ unsent_create (c.sent (create_for c x)) (is_create (c.op (create_for c x))) c.session_number (unsent_after_end (create_for c (create_for c x)) (c.sent (create_for c (create_for c x))) (c.outcome (create_for c (create_for c x)))) q.1 is_one
       where
         unsent_create : (s k : Bool) (n : ℕ) (o : Outcome) → s ≡ false → k ≡ true → is_unsettled (if s then Unknown (SessionLost n) else if k then Unsettled else o) ≡ true
         unsent_create s k n o e f = grind arith
@@ -330,7 +330,7 @@ finish_ok c why = from_rows c (finish c why) refl refl (λ x low high pending ki
 kinds_of : (w : World) (a : ℕ → ℕ) → Connections w.client w.conns a → Kinds w.client
 kinds_of w a fit g low high kind = (creates_known w.client g (fit.creates g low high) low).1 kind
 
-settling_of : (w : World) (a : ℕ → ℕ) (g k : ℕ) → Connections w.client w.conns a → w.client.on g ≡ Some k → Settling w.client g
+settling_of : (w : World) (a : ℕ → ℕ) (g k : ℕ) → Connections w.client w.conns a → w.client.outstanding_on g ≡ Some k → Settling w.client g
 unfolding makes_open its_create
 settling_of w a g k fit on =
     record {
@@ -343,7 +343,7 @@ settling_of w a g k fit on =
 
     by : (b : Bool) → is_unsettled (w.client.outcome g) ≡ b → is_unsettled (w.client.outcome g) ≡ true
     by true e = e
-    by false e = absurd (none_some (w.client.on g) (fit.settled g e) on)
+    by false e = absurd (none_some (w.client.outstanding_on g) (fit.settled g e) on)
 
     or_else : (x y : Bool) → (x || y) ≡ true → x ≡ false → y ≡ true
     or_else x y e f = grind arith

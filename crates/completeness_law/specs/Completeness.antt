@@ -42,7 +42,7 @@ AllSettled c = (g : ℕ) → 0 < g → g ≤ c.taken → is_unsettled (c.outcome
 -- A schedule that ends in settling leaves no operation unsettled, where the client has counted fewer sessions than it can.
 abbrev pub SettleSettles : Type 0
 SettleSettles =
-    (z : Settings) (ls : List Line) → (course_of z (ls ++ Settles ∷ [])).world.client.number < last_number
+    (z : Settings) (ls : List Line) → (course_of z (ls ++ Settles ∷ [])).world.client.session_number < last_number
     → AllSettled (course_of z (ls ++ Settles ∷ [])).world.client
 
 -- ---- runs on which nothing is lost
@@ -72,7 +72,7 @@ is_told _ = true
 -- the place of the operation's message, its own or the request to attach, whose reply settled it, among those that the server took
 pub record Answered (w : World) (g : ℕ) : Type 0 where
   pub place : ℕ
-  pub settled : w.client.by g ≡ Some place
+  pub settled : w.client.settled_by g ≡ Some place
   pub taken : place < w.log.places
   pub own : w.log.who place ≡ g
 

@@ -8,9 +8,9 @@ use Rattle.create_law.proofs.Moves.{goes_with, end_of}
 
 -- an open that isn't attached to the session stays
 goes_not : (c : Client) (v : Seen) (x o : ℕ) → Attached c v → ((y : ℕ) → v.present y ≡ true → 0 < c.rank y → y ≡ c.accepted) → (y : ℕ) → y ≢ x → y ≡ c.accepted → goes_with v x o ≡ false
-goes_not c v x o at here y apart same = by_session (v.at o) refl
+goes_not c v x o at here y apart same = by_session (v.session_of_open o) refl
   where
-    by_session : (z : Option ℕ) → v.at o ≡ z → goes_with v x o ≡ false
+    by_session : (z : Option ℕ) → v.session_of_open o ≡ z → goes_with v x o ≡ false
     by_session None e = grind arith
     by_session (Some z) e = let q = at o z e in let w = here z q.1 q.0 in grind arith
 

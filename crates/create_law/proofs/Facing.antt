@@ -3,9 +3,9 @@ use Rattle.std.proofs.Common.{eqb-true, ◌≡◌, ℕ, ◌<◌, ◌==◌, Bool,
 use Rattle.exchange_defs.specs.Commands.{Command, Create, CreateRequest}
 use Rattle.exchange_defs.specs.State.{Server, Tree, Making}
 use Rattle.exchange_defs.specs.CheckSetup.{tree_in, is_new}
-use Rattle.exchange_defs.specs.Files.{mark_file}
-use Rattle.exchange_defs.specs.Opens.{drop_open, leave_open, marked_by, goes}
-use Rattle.exchange_defs.specs.Step.{expire, add_mark}
+use Rattle.exchange_defs.specs.Files.{set_delete_pending}
+use Rattle.exchange_defs.specs.Opens.{drop_open, leave_open, pending_behind, goes}
+use Rattle.exchange_defs.specs.Step.{expire, add_expired_guid}
 use Rattle.exchange_defs.specs.Client.{Client, guid_for}
 use Rattle.exchange_defs.specs.Network.{Conn, Sent, Token, ForDialog, ForOp, ForAttach}
 use Rattle.exchange_defs.specs.Runs.{is_send_of}
@@ -19,12 +19,12 @@ use Rattle.create_law.proofs.Requests.{asks_create, makes_of}
 pub record Rest : Type 0 where
   pub present : ℕ → Bool
   pub user : ℕ → List ℕ
-  pub on : ℕ → Option ℕ
+  pub session_on : ℕ → Option ℕ
   pub making : ℕ → Option Making
   pub trees : ℕ → List Tree
 
 abbrev pub rest : Server → Rest
-rest s = record { present = s.present; user = s.user; on = s.on; making = s.making; trees = s.trees }
+rest s = record { present = s.present; user = s.user; session_on = s.session_on; making = s.making; trees = s.trees }
 
 pub record Facing (c : Client) (conns : ℕ → Conn) (r : Rest) (k : ℕ) (x0 : Sent) : Type 0 where
   pub front : slice_get (conns k).up 0 ≡ Some x0
@@ -33,27 +33,27 @@ pub record Facing (c : Client) (conns : ℕ → Conn) (r : Rest) (k : ℕ) (x0 :
   pub lives : c.live ≡ true → c.session ≡ c.accepted × 0 < c.rank c.accepted
   pub making : (j x : ℕ) → is_new x (r.making j) ≡ true → c.rank x ≡ 0
   pub users : (x : ℕ) → r.present x ≡ true → r.user x ≡ logon_user c.who.logon
-  pub on_present : (j x : ℕ) → r.on j ≡ Some x → r.present x ≡ true
+  pub on_present : (j x : ℕ) → r.session_on j ≡ Some x → r.present x ≡ true
   pub trees : (j n : ℕ) (x : Sent) → slice_get (conns j).up n ≡ Some x → is_ops x.token ≡ true → r.present x.message.session ≡ true → is_some (tree_in (r.trees x.message.session) x.message.tree) ≡ true
   pub kinds : (x id : ℕ) (b : Bool) → tree_in (r.trees x) id ≡ Some b → has_files c.who.share ≡ not b
 
 -- ---- an expiry
 
-drop_rest : (s : Server) (o : ℕ) (b : Bool) → rest (drop_open (if b then mark_file s (s.opened o).file true else s) o) ≡ rest s
+drop_rest : (s : Server) (o : ℕ) (b : Bool) → rest (drop_open (if b then set_delete_pending s (s.opened o).file true else s) o) ≡ rest s
 drop_rest s o true = refl
 drop_rest s o false = refl
 
 leave_rest : (s : Server) (o : ℕ) (b : Bool) → rest (leave_open s o) ≡ rest s
 leave_rest s o b =
-    let d = drop_open (marked_by s o) o in
+    let d = drop_open (pending_behind s o) o in
     either (λ u. rest u ≡ rest s) (goes d (s.opened o).file) _ _ (λ _. drop_rest s o _) (λ _. drop_rest s o _)
 
-mark_rest : (s : Server) (client : ℕ) (q : Option ℕ) → rest (add_mark s client q) ≡ rest s
-mark_rest s client None = refl
-mark_rest s client (Some g) = refl
+expired_rest : (s : Server) (client : ℕ) (q : Option ℕ) → rest (add_expired_guid s client q) ≡ rest s
+expired_rest s client None = refl
+expired_rest s client (Some g) = refl
 
 pub expire_rest : (s : Server) (o : ℕ) → rest (expire s o) ≡ rest s
-expire_rest s o = mark_rest (leave_open s o) (s.opened o).client (s.opened o).guid ∙ leave_rest s o true
+expire_rest s o = expired_rest (leave_open s o) (s.opened o).client (s.opened o).guid ∙ leave_rest s o true
 
 -- ---- tokens
 

@@ -33,7 +33,7 @@ restarts_of s u f r =
       was = λ p q o e. (was_named s u r p q o e).0;
       named = λ p q o e. r.standing o ∙ (was_named s u r p q o e).1;
       stood = λ o e. let t = stood s u r o e in (t.0, t.2, ap (λ (x : Open). x.persistent) t.2 ∙ t.1);
-      marks = r.marks;
+      expired_guids = r.expired_guids;
       last = ids_above s u r f.given;
     }
 

@@ -59,7 +59,7 @@ make_new_dead_refused : (c : Client) (conns : ℕ → Conn) (v : Seen) (a : ℕ 
 make_new_dead_refused c conns v a g x o0 row b create idle counted formed above ranked there client guid kind user alive i_dead_refused =
     λ j n p y h t m e s. let old = i_dead_refused j n p y h t m e s in let fm = full_more (v.guids x) in grind arith
 
-make_new_no_reply : (c : Client) (conns : ℕ → Conn) (v : Seen) (a : ℕ → ℕ) (g x o0 : ℕ) (row : OpenRow) (b : ℕ → ℕ) → (makes_open (c.op g) ≡ true) → (a g ≡ 0) → (b g ≡ 1) → (may_act c g ≡ true) → (o0 ≡ v.last + 1) → (0 < c.rank x) → (v.present x ≡ true) → (row.client ≡ c.who.guid) → (row.guid ≡ Some (guid_at c g)) → (row.persistent ≡ outlives (c.op g)) → (row.user ≡ logon_user c.who.logon) → (never_acted (c.outcome g) ≡ false) → ((j n : ℕ) (y : Received) → slice_get (conns j).down n ≡ Some y → y.token ≡ ForOp g → refuses (c.before g) y.reply.status ≡ false) → ((h : ℕ) → makes_open (c.op h) ≡ true → h ≢ g → b h ≡ a h) → NoReply c conns a → NoReply c conns b
+make_new_no_reply : (c : Client) (conns : ℕ → Conn) (v : Seen) (a : ℕ → ℕ) (g x o0 : ℕ) (row : OpenRow) (b : ℕ → ℕ) → (makes_open (c.op g) ≡ true) → (a g ≡ 0) → (b g ≡ 1) → (may_act c g ≡ true) → (o0 ≡ v.last + 1) → (0 < c.rank x) → (v.present x ≡ true) → (row.client ≡ c.who.guid) → (row.guid ≡ Some (guid_at c g)) → (row.persistent ≡ outlives (c.op g)) → (row.user ≡ logon_user c.who.logon) → (never_acted (c.outcome g) ≡ false) → ((j n : ℕ) (y : Received) → slice_get (conns j).down n ≡ Some y → y.token ≡ ForOp g → refuses (c.unanswered g) y.reply.status ≡ false) → ((h : ℕ) → makes_open (c.op h) ≡ true → h ≢ g → b h ≡ a h) → NoReply c conns a → NoReply c conns b
 make_new_no_reply c conns v a g x o0 row b create idle counted formed above ranked there client guid kind user alive silent others i_no_reply =
     λ j n p y h t. let old = i_no_reply j n p y h t in let oth = others p in let q = silent j n y h in grind arith
 
@@ -91,7 +91,7 @@ make_new_reply_of : (c : Client) (conns : ℕ → Conn) (v : Seen) (a : ℕ → 
 make_new_reply_of c conns v a g x o0 row b create idle counted formed above ranked there client guid kind user alive i_reply_of i_ok_reply =
     λ j n p o y h t m e. let old = i_reply_of j n p o y h t m e in let ac = i_ok_reply j n p y h t m e in let same = guid_once c.who.salt p g in grind arith
 
-pub make_new_creates : (c : Client) (conns : ℕ → Conn) (v : Seen) (a : ℕ → ℕ) (g x o0 : ℕ) (row : OpenRow) (b : ℕ → ℕ) → (makes_open (c.op g) ≡ true) → (a g ≡ 0) → (b g ≡ 1) → (may_act c g ≡ true) → (o0 ≡ v.last + 1) → (0 < c.rank x) → (v.present x ≡ true) → (row.client ≡ c.who.guid) → (row.guid ≡ Some (guid_at c g)) → (row.persistent ≡ outlives (c.op g)) → (row.user ≡ logon_user c.who.logon) → (never_acted (c.outcome g) ≡ false) → ((j n : ℕ) (y : Received) → slice_get (conns j).down n ≡ Some y → y.token ≡ ForOp g → refuses (c.before g) y.reply.status ≡ false) → ((h : ℕ) → makes_open (c.op h) ≡ true → h ≢ g → b h ≡ a h) → Creates c conns v a → Creates c conns (make_new v o0 row x (guid_at c g)) b
+pub make_new_creates : (c : Client) (conns : ℕ → Conn) (v : Seen) (a : ℕ → ℕ) (g x o0 : ℕ) (row : OpenRow) (b : ℕ → ℕ) → (makes_open (c.op g) ≡ true) → (a g ≡ 0) → (b g ≡ 1) → (may_act c g ≡ true) → (o0 ≡ v.last + 1) → (0 < c.rank x) → (v.present x ≡ true) → (row.client ≡ c.who.guid) → (row.guid ≡ Some (guid_at c g)) → (row.persistent ≡ outlives (c.op g)) → (row.user ≡ logon_user c.who.logon) → (never_acted (c.outcome g) ≡ false) → ((j n : ℕ) (y : Received) → slice_get (conns j).down n ≡ Some y → y.token ≡ ForOp g → refuses (c.unanswered g) y.reply.status ≡ false) → ((h : ℕ) → makes_open (c.op h) ≡ true → h ≢ g → b h ≡ a h) → Creates c conns v a → Creates c conns (make_new v o0 row x (guid_at c g)) b
 make_new_creates c conns v a g x o0 row b create idle counted formed above ranked there client guid kind user alive silent others i =
     record {
       made = make_new_made c conns v a g x o0 row b create idle counted formed above ranked there client guid kind user alive others i.made;

@@ -6,7 +6,7 @@ use Rattle.exchange_defs.specs.State.{Server, Message, Answer, Body}
 use Rattle.exchange_defs.specs.CheckCreate.{keeps_guid, max_guids}
 use Rattle.exchange_defs.specs.CheckOpen.{file_of}
 use Rattle.exchange_defs.specs.Effects.{apply, reach, set_ranges, attached, next_open, open_row, new_file, guid_of, is_persistent, end_if_named, add_session, end_session}
-use Rattle.exchange_defs.specs.Verdict.{Verdict, Refuse, Give, KeepRefusal, Repeat, Attach, Make, TurnDown, Tell, Show, KeepSlot, PutRanges, Alter, Shut, Challenge, ChallengeBinding, Begin, Join, EndSession, AddTree, DropTree, Change}
+use Rattle.exchange_defs.specs.Verdict.{Verdict, Refuse, Give, KeepRefusal, Repeat, Attach, Make, TurnDown, Tell, Show, KeepSlot, PutRanges, Alter, CloseOpen, Challenge, ChallengeBinding, Begin, Join, EndSession, AddTree, DropTree, Change}
 use Rattle.exchange_defs.specs.Operations.{durable_of, is_unsettled, is_ok}
 use Rattle.exchange_defs.specs.Client.{Client, guid_for}
 use Rattle.exchange_defs.specs.Network.{Conn, Sent, Received, Token, ForDialog, ForOp, ForAttach}
@@ -61,8 +61,8 @@ no_create x y r e f = ap r e ∙ f
 attaches : (c : Client) (conns : ℕ → Conn) (a : ℕ → ℕ) (t : Server) (k : ℕ) (x0 : Sent) (r : CreateRequest) (o : ℕ) → Facing c conns (rest t) k x0 → SessionFacts t x0.message → x0.message.command ≡ Create r → Creates c conns (seen t) a
     → Creates c conns (seen (attached t x0.message o)) a
 attaches c conns a t k x0 r o fc on is i =
-    either (λ u. Creates c conns (seen u) a) (is_some (t.at o)) _ _ (λ _. i)
-    (λ _. attach_to_creates c conns (seen t) a x0.message.session o (fc.ranked k 0 x0 fc.front (of_op conns k x0 r i.dialog_up fc.front is)) (fc.on_present x0.message.connection x0.message.session on.on) i)
+    either (λ u. Creates c conns (seen u) a) (is_some (t.session_of_open o)) _ _ (λ _. i)
+    (λ _. attach_to_creates c conns (seen t) a x0.message.session o (fc.ranked k 0 x0 fc.front (of_op conns k x0 r i.dialog_up fc.front is)) (fc.on_present x0.message.connection x0.message.session on.session_on) i)
 
 -- ---- a create that acts
 
@@ -91,7 +91,7 @@ pub record Own (c : Client) (g : ℕ) (t : Server) (m : Message) (r : CreateRequ
   pub formed : may_act c g ≡ true
   pub unnamed : named c (seen t) g ≡ None
   pub unclosed : t.closed m.session (guid_at c g) ≡ false
-  pub unmarked : t.marks c.who.guid (guid_at c g) ≡ false
+  pub not_pending : t.expired_guids c.who.guid (guid_at c g) ≡ false
   pub unrefused : t.refused m.session (guid_at c g) ≡ None
   pub unfull : is_full (t.guids m.session) ≡ false
 
@@ -111,7 +111,7 @@ owns c conns a t k x0 r found action g f front mf kinds tk mk =
           (kinds x0.message.session x0.message.tree false mf.new.create.tree);
       unnamed = subst (λ p. t.by_guid p (guid_at c g) ≡ None) bd.2 (mf.new.no_open d dur);
       unclosed = mf.new.no_closed d dur;
-      unmarked = subst (λ p. t.marks p (guid_at c g) ≡ false) bd.2 (mf.new.no_mark d dur);
+      not_pending = subst (λ p. t.expired_guids p (guid_at c g) ≡ false) bd.2 (mf.new.not_expired d dur);
       unrefused = mf.new.no_refusal d dur;
       unfull = not_full r d (t.guids x0.message.session) dur mf.new.guids;
     }
@@ -119,7 +119,7 @@ owns c conns a t k x0 r found action g f front mf kinds tk mk =
 idle_of : (c : Client) (conns : ℕ → Conn) (a : ℕ → ℕ) (t : Server) (k g : ℕ) (x0 : Sent) (r : CreateRequest) → ActedKept c conns (seen t) a → Own c g t x0.message r → slice_get (conns k).up 0 ≡ Some x0 → x0.token ≡ ForOp g → makes_open (c.op g) ≡ true
     → t.present x0.message.session ≡ true → a g ≡ 0
 idle_of c conns a t k g x0 r kept own front tk mk there =
-    zero_by (a g) (λ l. let q = kept k 0 g x0 front tk mk there l in let e1 = own.unnamed in let e2 = own.unclosed in let e3 = own.unmarked in grind arith)
+    zero_by (a g) (λ l. let q = kept k 0 g x0 front tk mk there l in let e1 = own.unnamed in let e2 = own.unclosed in let e3 = own.not_pending in grind arith)
 
 alive_of : (c : Client) (conns : ℕ → Conn) (t : Server) (k g : ℕ) (x0 : Sent) (r : CreateRequest) → DeadRefused c conns (seen t) → Own c g t x0.message r → slice_get (conns k).up 0 ≡ Some x0 → x0.token ≡ ForOp g → makes_open (c.op g) ≡ true
     → t.present x0.message.session ≡ true → never_acted (c.outcome g) ≡ false
@@ -131,22 +131,22 @@ alive_of c conns t k g x0 r dead own front tk mk there = by_test (never_acted (c
 
 silent_of : (c : Client) (conns : ℕ → Conn) (a : ℕ → ℕ) (t : Server) (k g : ℕ) (x0 : Sent) (r : CreateRequest) → Connections c conns a → Facing c conns (rest t) k x0 → BarredReply c conns (seen t) → Own c g t x0.message r
     → x0.token ≡ ForOp g → makes_open (c.op g) ≡ true → t.present x0.message.session ≡ true → 0 < c.rank x0.message.session
-    → (j n : ℕ) (y : Received) → slice_get (conns j).down n ≡ Some y → y.token ≡ ForOp g → refuses (c.before g) y.reply.status ≡ false
+    → (j n : ℕ) (y : Received) → slice_get (conns j).down n ≡ Some y → y.token ≡ ForOp g → refuses (c.unanswered g) y.reply.status ≡ false
 silent_of c conns a t k g x0 r f fc barred own tk mk there ranked j n y h e =
     let front = fc.front in
     let sent = (f.bodies k 0 g x0 front tk).0 in let above = (f.taken g sent).0 in
     let n2 = own_down_count g (conns j).down n y h e in let u2 = f.outstanding j g in let d2 = f.down_open j in
-    by_before sent above (c.before g) refl
+    by_before sent above (c.unanswered g) refl
   where
-    out_at : 0 < g → c.on g ≡ Some j
+    out_at : 0 < g → c.outstanding_on g ≡ Some j
     out_at above = let n2 = own_down_count g (conns j).down n y h e in let u2 = f.outstanding j g in let d2 = f.down_open j in grind arith
 
-    by_status : c.live ≡ true → c.session ≡ x0.message.session → (b : Bool) → c.before g ≡ true → refuses true y.reply.status ≡ b → refuses true y.reply.status ≡ false
+    by_status : c.live ≡ true → c.session ≡ x0.message.session → (b : Bool) → c.unanswered g ≡ true → refuses true y.reply.status ≡ b → refuses true y.reply.status ≡ false
     by_status live same false bf q = q
     by_status live same true bf q =
         let w = barred j n g y h e mk bf q (grind arith) in let e1 = own.unrefused in let e2 = own.unfull in let e3 = own.formed in grind arith
 
-    by_before : c.sent g ≡ true → 0 < g → (b : Bool) → c.before g ≡ b → refuses b y.reply.status ≡ false
+    by_before : c.sent g ≡ true → 0 < g → (b : Bool) → c.unanswered g ≡ b → refuses b y.reply.status ≡ false
     by_before sent above false bf =
         let fs = f.first k 0 g x0 fc.front tk (once_of c g mk) bf in
         let n1 = own_up_count g (conns k).up 0 x0 fc.front tk in
@@ -175,7 +175,7 @@ makes_it : (c : Client) (conns : ℕ → Conn) (a : ℕ → ℕ) (t : Server) (k
 makes_it c conns a t k x0 now r found action g f fc i mf tk mk =
     let m = x0.message in
     let own = owns c conns a t k x0 r found action g f fc.front mf fc.kinds tk mk in
-    let there = fc.on_present m.connection m.session mf.new.create.session.on in
+    let there = fc.on_present m.connection m.session mf.new.create.session.session_on in
     let ranked = fc.ranked k 0 x0 fc.front (of_op conns k x0 r i.dialog_up fc.front mf.new.create.command) in
     let idle = idle_of c conns a t k g x0 r i.acted_kept own fc.front tk mk there in
     let row = open_row t m r (new_file t found) action in
@@ -234,8 +234,8 @@ begins_it c conns a t k now x0 user previous r quiet fc new i =
 shuts_it : (c : Client) (conns : ℕ → Conn) (a : ℕ → ℕ) (t : Server) (k o now : ℕ) (x0 : Sent) → Connections c conns a → Facing c conns (rest t) k x0 → Creates c conns (seen t) a → (sf : ShutFacts t x0.message o)
     → Creates c conns (shut_in (seen t) o x0.message.session (t.opened o).guid) a
 shuts_it c conns a t k o now x0 f fc i sf =
-    let there = fc.on_present x0.message.connection x0.message.session sf.opened.tree.session.on in
-    let at = i.attached o x0.message.session sf.opened.at in
+    let there = fc.on_present x0.message.connection x0.message.session sf.opened.tree.session.session_on in
+    let at = i.attached o x0.message.session sf.opened.session_of_open in
     let mine = fc.here x0.message.session there at.0 in
     shut_in_creates c conns (seen t) a x0.message.session o (t.opened o).guid refl
     (shut_settled c conns a t k o sf.query x0 f fc i sf.command sf.opened.standing)
@@ -274,7 +274,7 @@ moved c conns a t k x0 now f fc i (PutRanges o index number ranges elements) w =
     (other_send c conns a k x0 f fc.front (not_creating _ _ w.lock.command refl)) i
 moved c conns a t k x0 now f fc i (Alter o change body) w =
     other c conns a x0.token (seen t) _ _ (change_seen (reach t x0.message o) (file_of t o) now change ∙ reach_seen t x0.message o) (other_send c conns a k x0 f fc.front (altered_other c t x0.message o change body w)) i
-moved c conns a t k x0 now f fc i (Shut o body) w =
+moved c conns a t k x0 now f fc i (CloseOpen o body) w =
     other c conns a x0.token _ _ true (shut_seen t o x0.message.session) (other_send c conns a k x0 f fc.front (not_creating _ _ w.command refl)) (shuts_it c conns a t k o now x0 f fc i w)
 moved c conns a t k x0 now f fc i Challenge w = still c conns a x0.token (seen t) _ false refl refl i
 moved c conns a t k x0 now f fc i (ChallengeBinding session) w = still c conns a x0.token (seen t) _ false refl refl i

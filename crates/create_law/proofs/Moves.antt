@@ -12,7 +12,7 @@ refuse_in v x q status = record v { refused = put2 v.refused x q (Some status); 
 
 -- an open becomes this session's
 abbrev pub attach_to : Seen → ℕ → ℕ → Seen
-attach_to v o x = record v { at = put v.at o (Some x); guids = put v.guids x (v.guids x + 1) }
+attach_to v o x = record v { session_of_open = put v.session_of_open o (Some x); guids = put v.guids x (v.guids x + 1) }
 
 -- a new open stands, of this guid
 abbrev pub make_new : Seen → ℕ → Open → ℕ → ℕ → Seen
@@ -20,7 +20,7 @@ make_new v o row x q =
     record v {
       standing = put v.standing o true;
       opened = put v.opened o row;
-      at = put v.at o (Some x);
+      session_of_open = put v.session_of_open o (Some x);
       by_guid = put2 v.by_guid row.client q (Some o);
       guids = put v.guids x (v.guids x + 1);
       last = o;
@@ -28,7 +28,7 @@ make_new v o row x q =
 
 -- an open of this guid leaves
 abbrev pub leave_by : Seen → ℕ → Option ℕ → Seen
-leave_by v o q = record v { standing = put v.standing o false; at = put v.at o None; by_guid = with_guid v.by_guid (v.opened o).client q None }
+leave_by v o q = record v { standing = put v.standing o false; session_of_open = put v.session_of_open o None; by_guid = with_guid v.by_guid (v.opened o).client q None }
 
 abbrev pub closed_by : (ℕ → ℕ → Bool) → ℕ → Option ℕ → ℕ → ℕ → Bool
 closed_by closed x None = closed
@@ -40,11 +40,11 @@ shut_in v o x q = record (leave_by v o q) { closed = closed_by v.closed x q }
 
 -- it leaves by its deadline
 abbrev pub expire_by : Seen → ℕ → Option ℕ → Seen
-expire_by v o q = record (leave_by v o q) { marks = closed_by v.marks (v.opened o).client q }
+expire_by v o q = record (leave_by v o q) { expired_guids = closed_by v.expired_guids (v.opened o).client q }
 
 -- an open that leaves with its session
 abbrev pub goes_with : Seen → ℕ → ℕ → Bool
-goes_with v x o = is_at x (v.at o) && not (v.opened o).persistent
+goes_with v x o = is_at x (v.session_of_open o) && not (v.opened o).persistent
 
 abbrev pub named_still : Seen → ℕ → Option ℕ → Option ℕ
 named_still v x None = None
@@ -56,7 +56,7 @@ end_of v x =
     record v {
       standing = λ o. v.standing o && not (goes_with v x o);
       by_guid = λ p q. named_still v x (v.by_guid p q);
-      at = λ o. cleared x (v.at o);
+      session_of_open = λ o. cleared x (v.session_of_open o);
       present = put v.present x false;
       closed = put v.closed x (λ q. false);
       refused = put v.refused x (λ q. None);

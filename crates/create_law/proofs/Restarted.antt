@@ -6,8 +6,8 @@ use Rattle.exchange_defs.specs.Network.{Conn, server_off}
 use Rattle.exchange_law.proofs.Lists.{get-push}
 use Rattle.create_law.specs.Creates.{Seen, Creates, Restarts, guid_at, named, is_kept, outlives, Made, Named, NamedKind, NamedGiven, Attached, PlainAttached, Unclosed, ActedKept, DeadRefused, BarredReply, RefusedStatus, FileGuid, FileOf, ReplyGuid, ReplyOf, DialogUp, AskUp}
 
-restart_kept : (c : Client) (v u : Seen) (p : ℕ) → Restarts v u → NamedKind c v → outlives (c.op p) ≡ true → (o : Option ℕ) → named c v p ≡ o → (is_some o || v.marks c.who.guid (guid_at c p)) ≡ true → is_kept c u p ≡ true
-restart_kept c v u p r nk out None e s = let m = r.marks in let w : u.marks c.who.guid (guid_at c p) ≡ v.marks c.who.guid (guid_at c p) = ap (λ f. f c.who.guid (guid_at c p)) m in grind arith
+restart_kept : (c : Client) (v u : Seen) (p : ℕ) → Restarts v u → NamedKind c v → outlives (c.op p) ≡ true → (o : Option ℕ) → named c v p ≡ o → (is_some o || v.expired_guids c.who.guid (guid_at c p)) ≡ true → is_kept c u p ≡ true
+restart_kept c v u p r nk out None e s = let m = r.expired_guids in let w : u.expired_guids c.who.guid (guid_at c p) ≡ v.expired_guids c.who.guid (guid_at c p) = ap (λ f. f c.who.guid (guid_at c p)) m in grind arith
 restart_kept c v u p r nk out (Some o) e s = let k = nk p o e in let st = r.stays c.who.guid (guid_at c p) o e (k.0 ∙ out) in grind arith
 
 restart_unclosed : (c : Client) (v : Seen) (a : ℕ → ℕ) (u : Seen) → Restarts v u → Unclosed c v a → NamedKind c v → Unclosed c u a

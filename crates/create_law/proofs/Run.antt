@@ -105,7 +105,7 @@ sent_out c conns v a k g live pending i = send_creates c conns v a k g (charge (
 begun_out : (c : Client) (conns : ℕ → Conn) (v : Seen) (a : ℕ → ℕ) (k g s : ℕ) → c.live ≡ true → is_unsettled (c.outcome g) ≡ true → Creates c conns v a → (b : Bool) → c.sent g ≡ b → Out conns v a k g (if b then again c g else begin c g s)
 begun_out c conns v a k g s live pending i true e =
     either (Out conns v a k g) (is_lock (c.op g)) _ _
-    (λ _. sent_out (record c { retried = put2 c.retried (create_for c g) (c.slot_of g) c.number }) conns v a k g live pending (retried_creates c conns v a (create_for c g) (c.slot_of g) i))
+    (λ _. sent_out (record c { retried = put2 c.retried (create_for c g) (c.slot_of g) c.session_number }) conns v a k g live pending (retried_creates c conns v a (create_for c g) (c.slot_of g) i))
     (λ _. sent_out c conns v a k g live pending i)
 begun_out c conns v a k g s live pending i false e =
     either (Out conns v a k g) (is_lock (c.op g)) _ _
@@ -239,13 +239,13 @@ all_but : (op : Op) → makes_open op ≡ true → (status : ℕ) → refuses_al
 unfolding makes_open
 all_but op e status = grind arith
 
-heard_tells : (c : Client) (g : ℕ) (r : Reply) → makes_open (c.op g) ≡ true → Tells (c.before g) r.status (heard c g false r)
+heard_tells : (c : Client) (g : ℕ) (r : Reply) → makes_open (c.op g) ≡ true → Tells (c.unanswered g) r.status (heard c g false r)
 heard_tells c g r mk =
-    let P : Hearing → Type 0 = λ h. Tells (c.before g) r.status h in
+    let P : Hearing → Type 0 = λ h. Tells (c.unanswered g) r.status h in
     either P (r.status == user_session_deleted) _ _ (λ _. record { refused = λ e. absurd (cc); ok = λ e. absurd (cc) })
-    (λ d. either P (r.status == success) _ _ (λ s. ok_tells (c.before g) r.status s (value_in (c.op g) r.body))
+    (λ d. either P (r.status == success) _ _ (λ s. ok_tells (c.unanswered g) r.status s (value_in (c.op g) r.body))
     (λ s. either P (goes_again c g false r.status) _ _ (λ _. record { refused = λ e. absurd (cc); ok = λ e. absurd (cc) })
-    (λ _. line_tells (c.before g) (was_closed (c.op g) false r.status) (may_have_acted (c.op g) false r.status) (refuses_all (c.op g) r.status) r.status (no_close (c.op g) mk r.status) (may_if (c.op g) mk r.status) (all_but (c.op g) mk r.status) d s)))
+    (λ _. line_tells (c.unanswered g) (was_closed (c.op g) false r.status) (may_have_acted (c.op g) false r.status) (refuses_all (c.op g) r.status) r.status (no_close (c.op g) mk r.status) (may_if (c.op g) mk r.status) (all_but (c.op g) mk r.status) d s)))
 
 -- ---- the reply that settles
 
@@ -301,7 +301,7 @@ noted_may c conns v a g r pending i (WasOk reply) t =
       names = λ p mk ok q. t.names p mk ok q ∙ sym at;
     })
     (λ e. either (λ d. MaySettle d conns v a g (WasOk reply)) (is_close (c.op g)) _ _
-    (λ _. not_create c (record c { shut = put c.shut (create_for c g) true }) conns v a g (WasOk reply) e (shuts_creates c conns v a (create_for c g) i))
+    (λ _. not_create c (record c { closed_ok = put c.closed_ok (create_for c g) true }) conns v a g (WasOk reply) e (shuts_creates c conns v a (create_for c g) i))
     (λ _. not_create c c conns v a g (WasOk reply) e i))
 noted_may c conns v a g r pending i Unsettled t = not_ok c conns v a g r Unsettled refl i t
 noted_may c conns v a g r pending i (WasRefused status) t = not_ok c conns v a g r (WasRefused status) refl i t
@@ -343,11 +343,11 @@ settles c conns v a g asking r place o pending firm i t =
 
 -- ---- what a reply does
 
-unsettled_on : (c : Client) (g k : ℕ) → ((h : ℕ) → is_unsettled (c.outcome h) ≡ false → c.on h ≡ None) → c.on g ≡ Some k → is_unsettled (c.outcome g) ≡ true
+unsettled_on : (c : Client) (g k : ℕ) → ((h : ℕ) → is_unsettled (c.outcome h) ≡ false → c.outstanding_on h ≡ None) → c.outstanding_on g ≡ Some k → is_unsettled (c.outcome g) ≡ true
 unsettled_on c g k f e = elim (is_unsettled (c.outcome g)) as (λ b. is_unsettled (c.outcome g) ≡ b → b ≡ true) [ true ↦ λ q. refl | false ↦ λ q. let h = f g q in absurd (grind arith) ] refl
 
 -- no copy waits where its only one was answered
-none_waits : (c : Client) (conns : ℕ → Conn) (a : ℕ → ℕ) (k g j n : ℕ) (y : Sent) → Connections c conns a → c.on g ≡ Some k → copies g (conns k) ≡ 0 → makes_open (c.op g) ≡ true → c.before g ≡ false → slice_get (conns j).up n ≡ Some y → y.token ≡ ForOp g → true ≡ false
+none_waits : (c : Client) (conns : ℕ → Conn) (a : ℕ → ℕ) (k g j n : ℕ) (y : Sent) → Connections c conns a → c.outstanding_on g ≡ Some k → copies g (conns k) ≡ 0 → makes_open (c.op g) ≡ true → c.unanswered g ≡ false → slice_get (conns j).up n ≡ Some y → y.token ≡ ForOp g → true ≡ false
 none_waits c conns a k g j n y f on none mk b h t =
     let fs = f.first j n g y h t (once_of c g mk) b in
     let bd = f.bodies j n g y h t in let tk = f.taken g bd.0 in
@@ -360,18 +360,18 @@ none_waits c conns a k g j n y f on none mk b h t =
 current_of : (c : Client) (v : Seen) (y : ℕ) → c.live ≡ true → v.present y ≡ true → c.session ≡ y → is_current c v ≡ true
 current_of c v y l p e = grind arith
 
-told : (c : Client) (conns : ℕ → Conn) (v : Seen) (a : ℕ → ℕ) (k g : ℕ) (r : Reply) (o : Outcome) → Connections c conns a → c.on g ≡ Some k → copies g (conns k) ≡ 0 → RankedUp c conns → ((x : ℕ) → v.present x ≡ true → 0 < c.rank x → x ≡ c.accepted) → LiveAccepted c
-    → (makes_open (c.op g) ≡ true → SayFor c v a g r) → (makes_open (c.op g) ≡ true → Tells (c.before g) r.status (Settles o)) → CreateAnswered c conns v a g r o
+told : (c : Client) (conns : ℕ → Conn) (v : Seen) (a : ℕ → ℕ) (k g : ℕ) (r : Reply) (o : Outcome) → Connections c conns a → c.outstanding_on g ≡ Some k → copies g (conns k) ≡ 0 → RankedUp c conns → ((x : ℕ) → v.present x ≡ true → 0 < c.rank x → x ≡ c.accepted) → LiveAccepted c
+    → (makes_open (c.op g) ≡ true → SayFor c v a g r) → (makes_open (c.op g) ≡ true → Tells (c.unanswered g) r.status (Settles o)) → CreateAnswered c conns v a g r o
 told c conns v a k g r o f on none ranked here lives said tells =
     record {
       never = λ mk e. (said mk).never ((tells mk).refused e);
       acted = λ mk e. (said mk).acted ((tells mk).ok e);
-      barred = λ j n y h t mk e p. by_before j n y h t mk e p (c.before g) refl;
+      barred = λ j n y h t mk e p. by_before j n y h t mk e p (c.unanswered g) refl;
       guid = λ mk e. (said mk).guid ((tells mk).ok e);
       names = λ p mk e. (said mk).names p ((tells mk).ok e);
     }
   where
-    by_before : (j n : ℕ) (y : Sent) → slice_get (conns j).up n ≡ Some y → y.token ≡ ForOp g → makes_open (c.op g) ≡ true → never_acted o ≡ true → v.present y.message.session ≡ true → (b : Bool) → c.before g ≡ b → is_barred c v y.message.session g ≡ true
+    by_before : (j n : ℕ) (y : Sent) → slice_get (conns j).up n ≡ Some y → y.token ≡ ForOp g → makes_open (c.op g) ≡ true → never_acted o ≡ true → v.present y.message.session ≡ true → (b : Bool) → c.unanswered g ≡ b → is_barred c v y.message.session g ≡ true
     by_before j n y h t mk e p false b = absurd (let x = none_waits c conns a k g j n y f on none mk b h t in cc)
     by_before j n y h t mk e p true b =
         let rd = f.on_ready g k on in let lv = (f.ready k rd.0).1 in
@@ -379,16 +379,16 @@ told c conns v a k g r o f on none ranked here lives said tells =
         let q : refuses true r.status ≡ true = subst (λ x. refuses x r.status ≡ true) b ((tells mk).refused e) in
         subst (λ x. is_barred c v x g ≡ true) same ((said mk).barred b q (current_of c v y.message.session lv p same))
 
-hears : (w : World) (a : ℕ → ℕ) (k g : ℕ) (asking : Bool) (r : Reply) (place : ℕ) → Connections w.client w.conns a → CreatesHold w a → RankedUp w.client w.conns → PresentAccepted w.client w.server → LiveAccepted w.client → w.client.on g ≡ Some k → w.client.asking g ≡ asking → copies g (w.conns k) ≡ 0
+hears : (w : World) (a : ℕ → ℕ) (k g : ℕ) (asking : Bool) (r : Reply) (place : ℕ) → Connections w.client w.conns a → CreatesHold w a → RankedUp w.client w.conns → PresentAccepted w.client w.server → LiveAccepted w.client → w.client.outstanding_on g ≡ Some k → w.client.asks_attach g ≡ asking → copies g (w.conns k) ≡ 0
     → (asking ≡ false → makes_open (w.client.op g) ≡ true → SayFor w.client (seen w.server) a g r)
-    → (asking ≡ false → acts_once (w.client.op g) ≡ true → r.status ≡ user_session_deleted → w.client.before g ≡ false → a g ≡ 0)
+    → (asking ≡ false → acts_once (w.client.op g) ≡ true → r.status ≡ user_session_deleted → w.client.unanswered g ≡ false → a g ≡ 0)
     → (h : Hearing) → heard w.client g asking r ≡ h → CreatesHold (with_client (closed_by w k (act_heard h)) (hear w.client g asking r place h)) a
 hears w a k g asking r place f i ranked here lives on asks none said gone (Settles o) e =
     let c = w.client in
-    let own : makes_open (c.op g) ≡ true → asking ≡ false = λ mk. own_asks (c.asking g) asking asks (λ q. sym mk ∙ (i.asking_other g q).0) in
+    let own : makes_open (c.op g) ≡ true → asking ≡ false = λ mk. own_asks (c.asks_attach g) asking asks (λ q. sym mk ∙ (i.asking_other g q).0) in
     settles c w.conns (seen w.server) a g asking r place o (unsettled_on c g k f.settled on) (heard_firm c g asking r o e) i
     (told c w.conns (seen w.server) a k g r o f on none ranked here lives (λ mk. said (own mk) mk)
-    (λ mk. subst (λ h. Tells (c.before g) r.status h) (ap (λ b. heard c g b r) (sym (own mk)) ∙ e) (heard_tells c g r mk)))
+    (λ mk. subst (λ h. Tells (c.unanswered g) r.status h) (ap (λ b. heard c g b r) (sym (own mk)) ∙ e) (heard_tells c g r mk)))
   where
     own_asks : (x y : Bool) → x ≡ y → (x ≡ true → true ≡ false) → y ≡ false
     own_asks true y e f = absurd (let q = f refl in cc)
@@ -401,7 +401,7 @@ hears w a k g asking r place f i ranked here lives on asks none said gone EndsSe
 
 took : (w : World) (a : ℕ → ℕ) (k g : ℕ) (asking : Bool) (r : Reply) (place : ℕ) → Connections w.client w.conns a → CreatesHold w a → RankedUp w.client w.conns → PresentAccepted w.client w.server → LiveAccepted w.client → copies g (w.conns k) ≡ 0
     → (asking ≡ false → makes_open (w.client.op g) ≡ true → SayFor w.client (seen w.server) a g r)
-    → (asking ≡ false → acts_once (w.client.op g) ≡ true → r.status ≡ user_session_deleted → w.client.before g ≡ false → a g ≡ 0) → CreatesHold (op_took w k g asking r place) a
+    → (asking ≡ false → acts_once (w.client.op g) ≡ true → r.status ≡ user_session_deleted → w.client.unanswered g ≡ false → a g ≡ 0) → CreatesHold (op_took w k g asking r place) a
 took w a k g asking r place f i ranked here lives none said gone =
     both_ways (λ c x. CreatesHold (with_client (closed_by w k x) c) a) (is_awaited w.client k g asking) (hear w.client g asking r place (heard w.client g asking r)) w.client (act_heard (heard w.client g asking r)) Nothing
     (λ aw. let q = awaited_of w.client k g asking aw in hears w a k g asking r place f i ranked here lives q.0 q.1 none said gone (heard w.client g asking r) refl)

@@ -27,8 +27,8 @@ use Rattle.create_law.proofs.Moved.{counted}
 
 -- what a reply to the create's own message says
 pub record SayFor (c : Client) (v : Seen) (b : ℕ → ℕ) (g : ℕ) (r : Reply) : Type 0 where
-  pub never : refuses (c.before g) r.status ≡ true → b g ≡ 0
-  pub barred : c.before g ≡ true → refuses true r.status ≡ true → is_current c v ≡ true → is_barred c v c.session g ≡ true
+  pub never : refuses (c.unanswered g) r.status ≡ true → b g ≡ 0
+  pub barred : c.unanswered g ≡ true → refuses true r.status ≡ true → is_current c v ≡ true → is_barred c v c.session g ≡ true
   pub acted : r.status ≡ success → 1 ≤ b g
   pub guid : r.status ≡ success → id_in r.body ≤ v.last × (v.standing (id_in r.body) ≡ true → (v.opened (id_in r.body)).client ≡ c.who.guid × (v.opened (id_in r.body)).guid ≡ Some (guid_at c g))
   pub names : (o : ℕ) → r.status ≡ success → named c v g ≡ Some o → o ≡ id_in r.body
@@ -44,7 +44,7 @@ pub record Mine (c : Client) (t : Server) (a : ℕ → ℕ) (g : ℕ) (tk : Toke
   pub durable : r.durable ≡ Some (durable_of (guid_at c g) (outlives (c.op g)))
   pub keeps : deletes_on_close r.options ≡ false
   pub form : is_some (create_form r) ≡ not (keeps_form (c.op g))
-  pub fresh : c.before g ≡ false → a g ≡ 0
+  pub fresh : c.unanswered g ≡ false → a g ≡ 0
   pub mine : is_current c (seen t) ≡ true → t.present m.session ≡ true → c.session ≡ m.session
   pub made : Made c (seen t) a
   pub named_ : Named c (seen t)
@@ -53,7 +53,7 @@ pub record Mine (c : Client) (t : Server) (a : ℕ → ℕ) (g : ℕ) (tk : Toke
   pub formed : FormActed c a
   pub statuses : RefusedStatus (seen t)
   pub kept : t.present m.session ≡ true → 1 ≤ a g → (t.closed m.session (guid_at c g) || is_kept c (seen t) g) ≡ true
-  pub there : t.on m.connection ≡ Some m.session → t.present m.session ≡ true
+  pub there : t.session_on m.connection ≡ Some m.session → t.present m.session ≡ true
   pub users : t.present m.session ≡ true → t.user m.session ≡ logon_user c.who.logon
   pub tree : t.present m.session ≡ true → is_some (tree_in (t.trees m.session) m.tree) ≡ true
   pub files : (b : Bool) → tree_in (t.trees m.session) m.tree ≡ Some b → has_files c.who.share ≡ not b
@@ -71,8 +71,8 @@ same_self (x ∷ xs) = let h = same_self xs in grind arith
 uncounted : (a : ℕ → ℕ) (tk : Token) (g : ℕ) → a g ≡ 0 → counted a tk false g ≡ 0
 uncounted a tk g e = grind arith
 
-refuses_by : (c : Client) (t : Server) (a : ℕ → ℕ) (g : ℕ) (tk : Token) (m : Message) (now status : ℕ) → (status == success) ≡ false → (refuses (c.before g) status ≡ true → a g ≡ 0)
-    → (c.before g ≡ true → refuses true status ≡ true → is_current c (seen t) ≡ true → is_barred c (seen t) c.session g ≡ true) → Says c t a g tk m now (Refuse status)
+refuses_by : (c : Client) (t : Server) (a : ℕ → ℕ) (g : ℕ) (tk : Token) (m : Message) (now status : ℕ) → (status == success) ≡ false → (refuses (c.unanswered g) status ≡ true → a g ≡ 0)
+    → (c.unanswered g ≡ true → refuses true status ≡ true → is_current c (seen t) ≡ true → is_barred c (seen t) c.session g ≡ true) → Says c t a g tk m now (Refuse status)
 refuses_by c t a g tk m now status bad never barred =
     record {
       never = λ e. uncounted a tk g (never e);
@@ -83,24 +83,24 @@ refuses_by c t a g tk m now status bad never barred =
     }
 
 -- a refusal after which a copy may still be answered otherwise
-soft : (c : Client) (t : Server) (a : ℕ → ℕ) (g : ℕ) (tk : Token) (m : Message) (now : ℕ) → (c.before g ≡ false → a g ≡ 0) → Says c t a g tk m now (Refuse duplicate_objectid)
-soft c t a g tk m now fresh = refuses_by c t a g tk m now duplicate_objectid refl (λ e. by_before (c.before g) refl e) (λ e h. absurd (cc))
+soft : (c : Client) (t : Server) (a : ℕ → ℕ) (g : ℕ) (tk : Token) (m : Message) (now : ℕ) → (c.unanswered g ≡ false → a g ≡ 0) → Says c t a g tk m now (Refuse duplicate_objectid)
+soft c t a g tk m now fresh = refuses_by c t a g tk m now duplicate_objectid refl (λ e. by_before (c.unanswered g) refl e) (λ e h. absurd (cc))
   where
-    by_before : (b : Bool) → c.before g ≡ b → refuses b duplicate_objectid ≡ true → a g ≡ 0
+    by_before : (b : Bool) → c.unanswered g ≡ b → refuses b duplicate_objectid ≡ true → a g ≡ 0
     by_before true e h = absurd (cc)
     by_before false e h = fresh e
 
 deleted : (c : Client) (t : Server) (a : ℕ → ℕ) (g : ℕ) (tk : Token) (m : Message) (now : ℕ) → Says c t a g tk m now (Refuse user_session_deleted)
 deleted c t a g tk m now = refuses_by c t a g tk m now user_session_deleted refl (λ e. absurd (cc)) (λ e h. absurd (cc))
 
--- where the guid names nothing, and neither the session nor a mark tells of it, the create didn't act
+-- where the guid names nothing, and neither the session nor an expired guid tells of it, the create didn't act
 pub record Free (c : Client) (t : Server) (g x : ℕ) : Type 0 where
   pub unnamed : named c (seen t) g ≡ None
   pub unclosed : t.closed x (guid_at c g) ≡ false
-  pub unmarked : t.marks c.who.guid (guid_at c g) ≡ false
+  pub not_pending : t.expired_guids c.who.guid (guid_at c g) ≡ false
 
 idle : (c : Client) (t : Server) (a : ℕ → ℕ) (g : ℕ) (tk : Token) (m : Message) (r : CreateRequest) → Mine c t a g tk m r → Free c t g m.session → t.present m.session ≡ true → a g ≡ 0
-idle c t a g tk m r mi fr there = zero_by (a g) (λ l. let q = mi.kept there l in let e1 = fr.unnamed in let e2 = fr.unclosed in let e3 = fr.unmarked in grind arith)
+idle c t a g tk m r mi fr there = zero_by (a g) (λ l. let q = mi.kept there l in let e1 = fr.unnamed in let e2 = fr.unclosed in let e3 = fr.not_pending in grind arith)
 
 ill_formed : (r : CreateRequest) (status : ℕ) → create_form r ≡ Some status → (status == success) ≡ false
 unfolding path_form
@@ -134,9 +134,9 @@ no_name c t a g tk m r now mi off =
 repeats : (c : Client) (t : Server) (a : ℕ → ℕ) (g : ℕ) (tk : Token) (m : Message) (r : CreateRequest) (now o : ℕ) → Mine c t a g tk m r → named c (seen t) g ≡ Some o → Says c t a g tk m now (Repeat o r)
 repeats c t a g tk m r now o mi is =
     let md = mi.made g o is in let nm = mi.named_ g o is in let gv = mi.given g o is in
-    either (λ u. SayFor c (seen u) (counted a tk false) g (apply t m now (Repeat o r)).reply) (is_some (t.at o)) _ _
-    (λ _. record { never = λ e. absurd (let h = never_of (c.before g) e in cc); barred = λ _ e. absurd (cc); acted = λ _. acts md.1; guid = λ _. (gv, λ _. (nm.1, nm.2)); names = λ p _ e. same p e })
-    (λ _. record { never = λ e. absurd (let h = never_of (c.before g) e in cc); barred = λ _ e. absurd (cc); acted = λ _. acts md.1; guid = λ _. (gv, λ _. (nm.1, nm.2)); names = λ p _ e. same p e })
+    either (λ u. SayFor c (seen u) (counted a tk false) g (apply t m now (Repeat o r)).reply) (is_some (t.session_of_open o)) _ _
+    (λ _. record { never = λ e. absurd (let h = never_of (c.unanswered g) e in cc); barred = λ _ e. absurd (cc); acted = λ _. acts md.1; guid = λ _. (gv, λ _. (nm.1, nm.2)); names = λ p _ e. same p e })
+    (λ _. record { never = λ e. absurd (let h = never_of (c.unanswered g) e in cc); barred = λ _ e. absurd (cc); acted = λ _. acts md.1; guid = λ _. (gv, λ _. (nm.1, nm.2)); names = λ p _ e. same p e })
   where
     never_of : (b : Bool) → refuses b success ≡ true → true ≡ false
     never_of b e = cc
@@ -248,8 +248,8 @@ by_live c t a g tk m r now o mi there is =
     let s = soft c t a g tk m now mi.fresh in
     let q = repeats c t a g tk m r now o mi is in
     either P (not m.replay) _ _ (λ _. (s, s))
-    (λ _. either P (is_at m.session (t.at o)) _ _ (λ _. (q, q))
-    (λ _. either P (is_some (t.at o) || not (t.opened o).persistent) _ _ (λ _. (s, s))
+    (λ _. either P (is_at m.session (t.session_of_open o)) _ _ (λ _. (q, q))
+    (λ _. either P (is_some (t.session_of_open o) || not (t.opened o).persistent) _ _ (λ _. (s, s))
     (λ _. either P (same_name (t.opened o).user (t.user m.session)) _ _ (λ _. (q, q))
     (λ e. absurd (let h = stranger ((mi.kind g o is).1 ∙ sym (mi.users there)) e in cc)))))
   where
@@ -263,8 +263,8 @@ by_guid_is c t a g tk m r now mi there None e =
     let P : Verdict → Type 0 = λ v. Both c t a g tk m now v in
     let s = soft c t a g tk m now mi.fresh in
     either P (t.closed m.session (guid_at c g)) _ _ (λ _. (s, s))
-    (λ x. either P (t.marks m.client (guid_at c g)) _ _ (λ _. (s, s))
-    (λ y. by_refusal c t a g tk m r now mi (record { unnamed = e; unclosed = x; unmarked = subst (λ p. t.marks p (guid_at c g) ≡ false) mi.client y }) there (t.refused m.session (guid_at c g)) refl))
+    (λ x. either P (t.expired_guids m.client (guid_at c g)) _ _ (λ _. (s, s))
+    (λ y. by_refusal c t a g tk m r now mi (record { unnamed = e; unclosed = x; not_pending = subst (λ p. t.expired_guids p (guid_at c g) ≡ false) mi.client y }) there (t.refused m.session (guid_at c g)) refl))
 
 by_durable : (c : Client) (t : Server) (a : ℕ → ℕ) (g : ℕ) (tk : Token) (m : Message) (r : CreateRequest) (now : ℕ) → Mine c t a g tk m r → t.present m.session ≡ true → Both c t a g tk m now (durable_check t m r r.durable)
 by_durable c t a g tk m r now mi there =
@@ -295,7 +295,7 @@ pub says : (c : Client) (t : Server) (a : ℕ → ℕ) (g : ℕ) (tk : Token) (m
 says c t a g tk m r now mi =
     let d = deleted c t a g tk m now in
     either (λ v. Both c t a g tk m now v) (is_setup m.command || has_session t m) _ _
-    (λ e. by_owed c t a g tk m r now mi (mi.there (at_of m.session (t.on m.connection) (session_of m.command (has_session t m) mi.command e))))
+    (λ e. by_owed c t a g tk m r now mi (mi.there (at_of m.session (t.session_on m.connection) (session_of m.command (has_session t m) mi.command e))))
     (λ _. (d, d))
   where
     session_of : (x : Command) (b : Bool) → x ≡ Create r → (is_setup x || b) ≡ true → b ≡ true

@@ -3,13 +3,13 @@ use Rattle.std.proofs.Common.{◌≡◌, ℕ, ◌+◌, Bool, true, false, if◌t
 use Rattle.exchange_defs.specs.Table.{put, put2}
 use Rattle.exchange_defs.specs.Commands.{CreateRequest, Durable, deletes_on_close}
 use Rattle.exchange_defs.specs.State.{Server, Message, Open}
-use Rattle.exchange_defs.specs.Files.{mark_file}
-use Rattle.exchange_defs.specs.Opens.{drop_open, leave_open, marked_by, goes, with_guid}
+use Rattle.exchange_defs.specs.Files.{set_delete_pending}
+use Rattle.exchange_defs.specs.Opens.{drop_open, leave_open, pending_behind, goes, with_guid}
 use Rattle.exchange_defs.specs.CheckCreate.{empties}
 use Rattle.exchange_defs.specs.CheckOpen.{is_late, is_slot}
 use Rattle.exchange_defs.specs.Effects.{reach, keep_closed, keep_slot, change_file, make_open, open_row, new_file, next_open, guids_after, guid_of, end_session, guid_staying}
-use Rattle.exchange_defs.specs.Verdict.{Change, PutBytes, PutEnd, PutBasic, PutMark, PutPath, PutNothing}
-use Rattle.exchange_defs.specs.Step.{expire, add_mark}
+use Rattle.exchange_defs.specs.Verdict.{Change, PutBytes, PutEnd, PutBasic, PutDeletePending, PutPath, PutNothing}
+use Rattle.exchange_defs.specs.Step.{expire, add_expired_guid}
 use Rattle.server_law.proofs.Logic.{either}
 use Rattle.create_law.specs.Creates.{Seen, seen}
 use Rattle.create_law.proofs.Moves.{make_new, leave_by, closed_by, shut_in, expire_by, named_still, end_of}
@@ -24,18 +24,18 @@ pub change_seen : (s : Server) (f now : ℕ) (change : Change) → seen (change_
 change_seen s f now (PutBytes at bytes) = refl
 change_seen s f now (PutEnd size) = refl
 change_seen s f now (PutBasic basic) = refl
-change_seen s f now (PutMark flag) = refl
+change_seen s f now (PutDeletePending flag) = refl
 change_seen s f now (PutPath replaced path) = refl
 change_seen s f now PutNothing = refl
 
 -- an open that leaves
-drop_seen : (s : Server) (o : ℕ) (b : Bool) → seen (drop_open (if b then mark_file s (s.opened o).file true else s) o) ≡ leave_by (seen s) o (s.opened o).guid
+drop_seen : (s : Server) (o : ℕ) (b : Bool) → seen (drop_open (if b then set_delete_pending s (s.opened o).file true else s) o) ≡ leave_by (seen s) o (s.opened o).guid
 drop_seen s o true = refl
 drop_seen s o false = refl
 
 pub leave_seen : (s : Server) (o : ℕ) → seen (leave_open s o) ≡ leave_by (seen s) o (s.opened o).guid
 leave_seen s o =
-    let d = drop_open (marked_by s o) o in
+    let d = drop_open (pending_behind s o) o in
     either (λ u. seen u ≡ leave_by (seen s) o (s.opened o).guid) (goes d (s.opened o).file) _ _
     (λ _. drop_seen s o (deletes_on_close (s.opened o).options))
     (λ _. drop_seen s o (deletes_on_close (s.opened o).options))
@@ -47,12 +47,12 @@ closed_seen s x (Some g) = refl
 pub shut_seen : (s : Server) (o x : ℕ) → seen (keep_closed (leave_open s o) x (s.opened o).guid) ≡ shut_in (seen s) o x (s.opened o).guid
 shut_seen s o x = closed_seen (leave_open s o) x (s.opened o).guid ∙ ap {A = Seen} (λ v. record v { closed = closed_by v.closed x (s.opened o).guid }) (leave_seen s o)
 
-mark_seen : (s : Server) (client : ℕ) (q : Option ℕ) → seen (add_mark s client q) ≡ record (seen s) { marks = closed_by (seen s).marks client q }
-mark_seen s client None = refl
-mark_seen s client (Some g) = refl
+expired_seen : (s : Server) (client : ℕ) (q : Option ℕ) → seen (add_expired_guid s client q) ≡ record (seen s) { expired_guids = closed_by (seen s).expired_guids client q }
+expired_seen s client None = refl
+expired_seen s client (Some g) = refl
 
 pub expire_seen : (s : Server) (o : ℕ) → seen (expire s o) ≡ expire_by (seen s) o (s.opened o).guid
-expire_seen s o = mark_seen (leave_open s o) (s.opened o).client (s.opened o).guid ∙ ap {A = Seen} (λ v. record v { marks = closed_by v.marks (s.opened o).client (s.opened o).guid }) (leave_seen s o)
+expire_seen s o = expired_seen (leave_open s o) (s.opened o).client (s.opened o).guid ∙ ap {A = Seen} (λ v. record v { expired_guids = closed_by v.expired_guids (s.opened o).client (s.opened o).guid }) (leave_seen s o)
 
 -- a session that ends
 stays_named : (s : Server) (x : ℕ) (o : Option ℕ) → guid_staying s x o ≡ named_still (seen s) x o
@@ -67,7 +67,7 @@ with_file : (s : Server) (m : Message) (r : CreateRequest) (found : Option ℕ) 
     → seen (make_open s m r found action now) ≡ record (seen s) {
       standing = put s.standing (next_open s) true;
       opened = put s.opened (next_open s) (open_row s m r (new_file s found) action);
-      at = put s.at (next_open s) (Some m.session);
+      session_of_open = put s.session_of_open (next_open s) (Some m.session);
       by_guid = with_guid s.by_guid m.client (guid_of r.durable) (Some (next_open s));
       guids = guids_after s m.session r.durable;
       last = next_open s;
@@ -78,7 +78,7 @@ with_file s m r (Some f) action now = by_kind (empties r.disposition) refl
     by_kind : (b : Bool) → empties r.disposition ≡ b → seen (make_open s m r (Some f) action now) ≡ record (seen s) {
       standing = put s.standing (next_open s) true;
       opened = put s.opened (next_open s) (open_row s m r f action);
-      at = put s.at (next_open s) (Some m.session);
+      session_of_open = put s.session_of_open (next_open s) (Some m.session);
       by_guid = with_guid s.by_guid m.client (guid_of r.durable) (Some (next_open s));
       guids = guids_after s m.session r.durable;
       last = next_open s;
@@ -90,14 +90,14 @@ with_durable : (s : Server) (m : Message) (row : Open) (d : Durable) (u : Option
     → record (seen s) {
       standing = put s.standing (next_open s) true;
       opened = put s.opened (next_open s) row;
-      at = put s.at (next_open s) (Some m.session);
+      session_of_open = put s.session_of_open (next_open s) (Some m.session);
       by_guid = with_guid s.by_guid m.client (guid_of u) (Some (next_open s));
       guids = guids_after s m.session u;
       last = next_open s;
     } ≡ record (seen s) {
       standing = put s.standing (next_open s) true;
       opened = put s.opened (next_open s) row;
-      at = put s.at (next_open s) (Some m.session);
+      session_of_open = put s.session_of_open (next_open s) (Some m.session);
       by_guid = put2 s.by_guid m.client d.guid (Some (next_open s));
       guids = put s.guids m.session (s.guids m.session + 1);
       last = next_open s;

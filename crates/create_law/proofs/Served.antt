@@ -5,7 +5,7 @@ use Rattle.exchange_defs.specs.State.{Server, Message, ServerEvent, Accept, Hear
 use Rattle.exchange_defs.specs.Records.{fits, origin_at}
 use Rattle.exchange_defs.specs.Effects.{apply, end_if_named}
 use Rattle.exchange_defs.specs.Verdict.{Verdict}
-use Rattle.exchange_defs.specs.Step.{step, table, expiring, with_deadlines, due, expire, expire_records, max_marks, max_connections, TakesIn, TurnsAway, ruling, ruling_without_room, carried_out, connection_of, ends_with}
+use Rattle.exchange_defs.specs.Step.{step, table, expiring, with_deadlines, due, expire, expire_records, max_expired_guids, max_connections, TakesIn, TurnsAway, ruling, ruling_without_room, carried_out, connection_of, ends_with}
 use Rattle.exchange_defs.specs.Operations.{durable_of}
 use Rattle.exchange_defs.specs.Client.{Client, guid_for}
 use Rattle.exchange_defs.specs.Network.{Conn, Sent, Token, ForOp, answer_to}
@@ -152,7 +152,7 @@ by_due : (P : Seen → Type 0) (s : Server) (now : ℕ) (e : ServerEvent) → Wa
 by_due P s now e f None q = by_table P s now e f
 by_due P s now e f (Some o) q =
     let d = with_deadlines s now in let t = expire d o in
-    either (λ (A : Answer). P (seen A.server)) (nat_le max_marks d.mark_count) _ _ (λ _. by_table P s now e f)
+    either (λ (A : Answer). P (seen A.server)) (nat_le max_expired_guids d.expired_count) _ _ (λ _. by_table P s now e f)
     (λ _. either (λ (A : Answer). P (seen A.server)) (fits d (expire_records d (origin_at (connection_of e)) o ++ (carried_out t now (ruling t e)).records)) _ _
     (λ _. (f t (inr (o, q, refl))).0)
     (λ _. by_table P s now e f))

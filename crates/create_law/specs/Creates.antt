@@ -22,11 +22,11 @@ pub record Seen : Type 0 where
   pub by_guid : ℕ → ℕ → Option ℕ
   pub standing : ℕ → Bool
   pub opened : ℕ → Open
-  pub at : ℕ → Option ℕ
+  pub session_of_open : ℕ → Option ℕ
   pub closed : ℕ → ℕ → Bool
   pub refused : ℕ → ℕ → Option ℕ
   pub guids : ℕ → ℕ
-  pub marks : ℕ → ℕ → Bool
+  pub expired_guids : ℕ → ℕ → Bool
   pub last : ℕ  -- the last id of an open that was given
 
 abbrev pub seen : Server → Seen
@@ -36,12 +36,12 @@ seen s =
       by_guid = s.by_guid;
       standing = s.standing;
       opened = s.opened;
-      at = s.at;
+      session_of_open = s.session_of_open;
       closed = s.closed;
       refused = s.refused;
       guids = s.guids;
-      marks = s.marks;
-      last = id_of s.epoch s.given;
+      expired_guids = s.expired_guids;
+      last = id_of s.epoch s.open_ids_given;
     }
 
 -- ---- words, closed so that a proof doesn't go through numbers and kinds of operations
@@ -73,7 +73,7 @@ named c v g = v.by_guid c.who.guid (guid_at c g)
 
 -- the open that the create made stands, or it expired
 abbrev pub is_kept : Client → Seen → ℕ → Bool
-is_kept c v g = is_some (named c v g) || v.marks c.who.guid (guid_at c g)
+is_kept c v g = is_some (named c v g) || v.expired_guids c.who.guid (guid_at c g)
 
 -- the client's live session is there
 abbrev pub is_current : Client → Seen → Bool
@@ -121,10 +121,10 @@ NamedGiven c v = (g o : ℕ) → named c v g ≡ Some o → o ≤ v.last
 
 -- an open is attached to sessions alone that the client accepted and that are there
 abbrev pub Attached : Client → Seen → Type 0
-Attached c v = (o x : ℕ) → v.at o ≡ Some x → 0 < c.rank x × v.present x ≡ true
+Attached c v = (o x : ℕ) → v.session_of_open o ≡ Some x → 0 < c.rank x × v.present x ≡ true
 
 abbrev pub PlainAttached : Seen → Type 0
-PlainAttached v = (o : ℕ) → v.standing o ≡ true → (v.opened o).persistent ≡ false → is_some (v.at o) ≡ true
+PlainAttached v = (o : ℕ) → v.standing o ≡ true → (v.opened o).persistent ≡ false → is_some (v.session_of_open o) ≡ true
 
 -- ---- a create that acted doesn't act again
 
@@ -153,10 +153,10 @@ DeadRefused c conns v = (k n g : ℕ) (x : Sent) → slice_get (conns k).up n �
     → is_barred c v x.message.session g ≡ true
 
 abbrev pub NoReply : Client → (ℕ → Conn) → (ℕ → ℕ) → Type 0
-NoReply c conns a = (k n g : ℕ) (y : Received) → slice_get (conns k).down n ≡ Some y → y.token ≡ ForOp g → makes_open (c.op g) ≡ true → refuses (c.before g) y.reply.status ≡ true → a g ≡ 0
+NoReply c conns a = (k n g : ℕ) (y : Received) → slice_get (conns k).down n ≡ Some y → y.token ≡ ForOp g → makes_open (c.op g) ≡ true → refuses (c.unanswered g) y.reply.status ≡ true → a g ≡ 0
 
 abbrev pub BarredReply : Client → (ℕ → Conn) → Seen → Type 0
-BarredReply c conns v = (k n g : ℕ) (y : Received) → slice_get (conns k).down n ≡ Some y → y.token ≡ ForOp g → makes_open (c.op g) ≡ true → c.before g ≡ true → refuses true y.reply.status ≡ true → is_current c v ≡ true
+BarredReply c conns v = (k n g : ℕ) (y : Received) → slice_get (conns k).down n ≡ Some y → y.token ≡ ForOp g → makes_open (c.op g) ≡ true → c.unanswered g ≡ true → refuses true y.reply.status ≡ true → is_current c v ≡ true
     → is_barred c v c.session g ≡ true
 
 -- a kept refusal is one
@@ -193,7 +193,7 @@ PlainDead c = (g : ℕ) → c.live ≡ false → makes_open (c.op g) ≡ true �
 
 -- a create goes out itself alone
 abbrev pub AskingOther : Client → Type 0
-AskingOther c = (g : ℕ) → c.asking g ≡ true → makes_open (c.op g) ≡ false × g ≤ c.taken
+AskingOther c = (g : ℕ) → c.asks_attach g ≡ true → makes_open (c.op g) ≡ false × g ≤ c.taken
 
 abbrev pub DialogUp : (ℕ → Conn) → Type 0
 DialogUp conns = (k n : ℕ) (x : Sent) → slice_get (conns k).up n ≡ Some x → x.token ≡ ForDialog → is_of_dialog x.message.command ≡ true
@@ -230,14 +230,14 @@ pub record Creates (c : Client) (conns : ℕ → Conn) (v : Seen) (a : ℕ → �
 
 -- ---- what a restart leaves of it
 
--- no session, and of the opens the persistent ones, with their guids; marks stay, and later ids are above
+-- no session, and of the opens the persistent ones, with their guids; expired guids stay, and later ids are above
 pub record Restarts (v u : Seen) : Type 0 where
   pub absent : (x : ℕ) → u.present x ≡ false
-  pub apart : (o : ℕ) → u.at o ≡ None
+  pub apart : (o : ℕ) → u.session_of_open o ≡ None
   pub unrefused : (x q : ℕ) → u.refused x q ≡ None
   pub stays : (p q o : ℕ) → v.by_guid p q ≡ Some o → (v.opened o).persistent ≡ true → u.by_guid p q ≡ Some o
   pub was : (p q o : ℕ) → u.by_guid p q ≡ Some o → v.by_guid p q ≡ Some o
   pub named : (p q o : ℕ) → u.by_guid p q ≡ Some o → u.standing o ≡ true
   pub stood : (o : ℕ) → u.standing o ≡ true → v.standing o ≡ true × u.opened o ≡ v.opened o × (u.opened o).persistent ≡ true
-  pub marks : u.marks ≡ v.marks
+  pub expired_guids : u.expired_guids ≡ v.expired_guids
   pub last : v.last ≤ u.last

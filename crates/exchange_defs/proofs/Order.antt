@@ -21,10 +21,10 @@ pub record PlaceFacts (a : Account) (o : ℕ) : Type 0 where
   pub gave_end : (n : ℕ) → a.log.birth o ≤ n → n < a.log.places → is_of a o (a.log.who n) ≡ true → a.log.gave n ≡ Says_end → past_end (a.ops (a.log.who n)) (a.log.bytes o n) ≡ true
   -- where an operation acted first, and where the reply that settled it was made
   pub first_at : (g p : ℕ) → is_of a o g ≡ true → a.log.first g ≡ Some p → a.log.birth o ≤ p × p < a.log.places × a.log.who p ≡ g × a.log.did p ≡ true
-  pub by_at : (g p : ℕ) → is_of a o g ≡ true → a.by g ≡ Some p → a.log.birth o ≤ p × p < a.log.places × a.log.who p ≡ g
-  pub by_ok : (g p : ℕ) (v : ContentReply) → is_of a o g ≡ true → a.by g ≡ Some p → a.settlement g ≡ Settled_ok v → a.log.gave p ≡ Says_ok v
-  pub by_end : (g p : ℕ) → is_of a o g ≡ true → a.by g ≡ Some p → a.settlement g ≡ Settled_end → a.log.gave p ≡ Says_end
-  pub by_some : (g : ℕ) → is_of a o g ≡ true → is_firm (a.settlement g) ≡ true → is_some (a.by g) ≡ true
+  pub by_at : (g p : ℕ) → is_of a o g ≡ true → a.settled_by g ≡ Some p → a.log.birth o ≤ p × p < a.log.places × a.log.who p ≡ g
+  pub by_ok : (g p : ℕ) (v : ContentReply) → is_of a o g ≡ true → a.settled_by g ≡ Some p → a.settlement g ≡ Settled_ok v → a.log.gave p ≡ Says_ok v
+  pub by_end : (g p : ℕ) → is_of a o g ≡ true → a.settled_by g ≡ Some p → a.settlement g ≡ Settled_end → a.log.gave p ≡ Says_end
+  pub by_some : (g : ℕ) → is_of a o g ≡ true → is_firm (a.settlement g) ≡ true → is_some (a.settled_by g) ≡ true
   -- what settled before h was first pushed has its place before that push, and h has its own behind it
   pub prior : (g h p : ℕ) → is_of a o g ≡ true → a.log.prior h g ≡ true → place a g ≡ Some p → p < a.log.since h
   pub since : (h p : ℕ) → is_of a o h ≡ true → place a h ≡ Some p → a.log.since h ≤ p
@@ -47,7 +47,7 @@ unplaced did first by n new old d u h = grind arith
 skipped : (a : Account) (o n : ℕ) → PlaceFacts a o → a.log.birth o ≤ n → n < a.log.places → is_entry a o n ≡ false → a.log.bytes o (n + 1) ≡ a.log.bytes o n
 skipped a o n f b l h =
     elim (is_of a o (a.log.who n)) as (λ t. is_of a o (a.log.who n) ≡ t → a.log.bytes o (n + 1) ≡ a.log.bytes o n) [
-      | true ↦ λ e. unplaced (a.log.did n) (a.log.first (a.log.who n)) (a.by (a.log.who n)) n _ _ (λ d. let x = f.acted n b l e d in x.0) (f.unacted n b l) (rest_false _ _ h e)
+      | true ↦ λ e. unplaced (a.log.did n) (a.log.first (a.log.who n)) (a.settled_by (a.log.who n)) n _ _ (λ d. let x = f.acted n b l e d in x.0) (f.unacted n b l) (rest_false _ _ h e)
       | false ↦ λ e. f.foreign n b l e
     ] refl
   where
@@ -62,10 +62,10 @@ taken_by did ok first by n new old after c d u f b h = grind arith
 taken : (a : Account) (o n : ℕ) → PlaceFacts a o → a.log.birth o ≤ n → n < a.log.places → is_of a o (a.log.who n) ≡ true → place a (a.log.who n) ≡ Some n
     → a.log.bytes o (n + 1) ≡ (if applies a (a.log.who n) then effect (a.ops (a.log.who n)) (a.log.bytes o n) else a.log.bytes o n)
 taken a o n f b l k h =
-    taken_by (a.log.did n) (is_settled_ok (a.settlement (a.log.who n))) (a.log.first (a.log.who n)) (a.by (a.log.who n)) n _ _ _ (λ d. let x = f.acted n b l k d in x.0) (λ d. let x = f.acted n b l k d in x.2) (f.unacted n b l) (λ e. let x = f.first_at (a.log.who n) n k e in x.3)
+    taken_by (a.log.did n) (is_settled_ok (a.settlement (a.log.who n))) (a.log.first (a.log.who n)) (a.settled_by (a.log.who n)) n _ _ _ (λ d. let x = f.acted n b l k d in x.0) (λ d. let x = f.acted n b l k d in x.2) (f.unacted n b l) (λ e. let x = f.first_at (a.log.who n) n k e in x.3)
     (by_settled (a.settlement (a.log.who n)) refl) h
   where
-    by_settled : (s : Settlement) → a.settlement (a.log.who n) ≡ s → is_settled_ok s ≡ true → a.by (a.log.who n) ≡ Some n → a.log.bytes o (n + 1) ≡ effect (a.ops (a.log.who n)) (a.log.bytes o n)
+    by_settled : (s : Settlement) → a.settlement (a.log.who n) ≡ s → is_settled_ok s ≡ true → a.settled_by (a.log.who n) ≡ Some n → a.log.bytes o (n + 1) ≡ effect (a.ops (a.log.who n)) (a.log.bytes o n)
     by_settled Unsettled e t p = absurd (cc)
     by_settled (Settled_ok v) e t p = let x = f.gave n v b l k (f.by_ok (a.log.who n) n v k p e) in x.1
     by_settled Settled_end e t p = absurd (cc)
@@ -97,22 +97,22 @@ fits : (a : Account) (o n : ℕ) → PlaceFacts a o → a.log.birth o ≤ n → 
 fits a o n f b l k p Unsettled e = tt
 fits a o n f b l k p Settled_refused e = tt
 fits a o n f b l k p Settled_unknown e = tt
-fits a o n f b l k p (Settled_ok v) e = ok_at (a.by (a.log.who n)) refl
+fits a o n f b l k p (Settled_ok v) e = ok_at (a.settled_by (a.log.who n)) refl
   where
-    ok_at : (by : Option ℕ) → a.by (a.log.who n) ≡ by → past_end (a.ops (a.log.who n)) (a.log.bytes o n) ≡ false × value (a.ops (a.log.who n)) (a.log.bytes o n) ≡ v
+    ok_at : (by : Option ℕ) → a.settled_by (a.log.who n) ≡ by → past_end (a.ops (a.log.who n)) (a.log.bytes o n) ≡ false × value (a.ops (a.log.who n)) (a.log.bytes o n) ≡ v
     ok_at None h = absurd (let s = f.by_some (a.log.who n) k in grind arith)
     ok_at (Some q) h =
         let x = f.by_at (a.log.who n) q k h in let kq = subst (λ g. is_of a o g ≡ true) (sym x.2) k in let y = f.gave q v x.0 x.1 kq (f.by_ok (a.log.who n) q v k h e) in
         same_reply (a.ops (a.log.who n)) v (a.log.first (a.log.who n)) n q (a.log.bytes o n) (a.log.bytes o q) (subst (λ g. value (a.ops g) (a.log.bytes o q) ≡ v) x.2 y.0) (subst (λ g. past_end (a.ops g) (a.log.bytes o q) ≡ false) x.2 y.2)
-        (acted_change a o n f b l k) (λ r. ap (a.log.bytes o) r) (by_place (a.log.first (a.log.who n)) (a.by (a.log.who n)) n q p h)
-fits a o n f b l k p Settled_end e = end_at (a.by (a.log.who n)) refl
+        (acted_change a o n f b l k) (λ r. ap (a.log.bytes o) r) (by_place (a.log.first (a.log.who n)) (a.settled_by (a.log.who n)) n q p h)
+fits a o n f b l k p Settled_end e = end_at (a.settled_by (a.log.who n)) refl
   where
-    end_at : (by : Option ℕ) → a.by (a.log.who n) ≡ by → past_end (a.ops (a.log.who n)) (a.log.bytes o n) ≡ true
+    end_at : (by : Option ℕ) → a.settled_by (a.log.who n) ≡ by → past_end (a.ops (a.log.who n)) (a.log.bytes o n) ≡ true
     end_at None h = absurd (let s = f.by_some (a.log.who n) k in grind arith)
     end_at (Some q) h =
         let x = f.by_at (a.log.who n) q k h in let kq = subst (λ g. is_of a o g ≡ true) (sym x.2) k in let y = f.gave_end q x.0 x.1 kq (f.by_end (a.log.who n) q k h e) in
         same_end (a.ops (a.log.who n)) (a.log.first (a.log.who n)) n q (a.log.bytes o n) (a.log.bytes o q) (subst (λ g. past_end (a.ops g) (a.log.bytes o q) ≡ true) x.2 y)
-        (acted_change a o n f b l k) (λ r. ap (a.log.bytes o) r) (by_place (a.log.first (a.log.who n)) (a.by (a.log.who n)) n q p h)
+        (acted_change a o n f b l k) (λ r. ap (a.log.bytes o) r) (by_place (a.log.first (a.log.who n)) (a.settled_by (a.log.who n)) n q p h)
 
 replays_from : (a : Account) (o k n : ℕ) → PlaceFacts a o → a.log.birth o ≤ n → n + k ≡ a.log.places → Replays a (order_from a o n k) (a.log.bytes o n) (a.log.bytes o a.log.places)
 unfolding Replays order_from
@@ -168,9 +168,9 @@ within-bounds n k (Some p) e = (p, refl, low p e, high p e)
 
 -- the operation of a place that it has
 place_who : (a : Account) (o g n : ℕ) → PlaceFacts a o → is_of a o g ≡ true → place a g ≡ Some n → a.log.who n ≡ g
-place_who a o g n f k e = who_at (a.log.first g) (a.by g) refl refl e
+place_who a o g n f k e = who_at (a.log.first g) (a.settled_by g) refl refl e
   where
-    who_at : (first by : Option ℕ) → a.log.first g ≡ first → a.by g ≡ by → placed first by ≡ Some n → a.log.who n ≡ g
+    who_at : (first by : Option ℕ) → a.log.first g ≡ first → a.settled_by g ≡ by → placed first by ≡ Some n → a.log.who n ≡ g
     who_at (Some p) by x y e = let z = f.first_at g n k (x ∙ e) in z.2
     who_at None by x y e = let z = f.by_at g n k (y ∙ e) in z.2
 
@@ -264,9 +264,9 @@ entered a o g f e = by_of (is_of a o g) refl
         at_bounds (q, x, y, z) = (q, x, y, (let b = f.birth_le in omega arith))
 
 settled_count : (a : Account) (o g : ℕ) → PlaceFacts a o → is_of a o g ≡ true → is_firm (a.settlement g) ≡ true → within (a.log.birth o) (a.log.places - a.log.birth o) (place a g) ≡ 1
-settled_count a o g f k s = at_some (a.log.first g) (a.by g) refl refl
+settled_count a o g f k s = at_some (a.log.first g) (a.settled_by g) refl refl
   where
-    at_some : (first by : Option ℕ) → a.log.first g ≡ first → a.by g ≡ by → within (a.log.birth o) (a.log.places - a.log.birth o) (placed first by) ≡ 1
+    at_some : (first by : Option ℕ) → a.log.first g ≡ first → a.settled_by g ≡ by → within (a.log.birth o) (a.log.places - a.log.birth o) (placed first by) ≡ 1
     at_some (Some p) by x y = let z = f.first_at g p k x in within-inside _ _ p z.0 (omega arith)
     at_some None (Some p) x y = let z = f.by_at g p k y in within-inside _ _ p z.0 (omega arith)
     at_some None None x y = absurd (let z = f.by_some g k s in grind arith)

@@ -12,7 +12,7 @@ use Rattle.exchange_defs.specs.CheckSetup.{setup_check, tree_check, tree_in}
 
 -- check 1: the id names a live session with a channel on this connection
 abbrev pub has_session : Server → Message → Bool
-has_session s m = is_at m.session (s.on m.connection)
+has_session s m = is_at m.session (s.session_on m.connection)
 
 -- check 5 and then those of the request itself
 abbrev pub on_open : Server → Message → ℕ → Verdict → Verdict

@@ -45,7 +45,7 @@ makes_missing disposition = not ((disposition == 1) || (disposition == 4))
 -- what is there: the status of the first rule that it breaks
 unfoldable pub found_names : Server → CreateRequest → ℕ → Option ℕ
 found_names s r f =
-    if s.marked f then Some delete_pending
+    if s.delete_pending f then Some delete_pending
     else if r.disposition == 2 then Some object_name_collision
     else if asks_directory r && not (is_directory s f) then Some not_a_directory
     else if asks_file r && is_directory s f then Some file_is_a_directory
@@ -82,7 +82,7 @@ makes_file r found = not (is_some found) && makes_missing r.disposition
 
 -- a count whose refusal is kept stands at its limit
 unfoldable pub is_counted_out : Server → CreateRequest → Option ℕ → Bool
-is_counted_out s r found = nat_le max_opens (length s.opens) || ((makes_file r found && nat_le max_files (length s.entries)) || (nat_le max_ids s.given || (makes_file r found && nat_lt last_file s.next_file)))
+is_counted_out s r found = nat_le max_opens (length s.opens) || ((makes_file r found && nat_le max_files (length s.entries)) || (nat_le max_ids s.open_ids_given || (makes_file r found && nat_lt last_file s.next_file)))
 
 abbrev pub action_of : CreateRequest → Option ℕ → ℕ
 action_of r None = 2
@@ -107,8 +107,8 @@ new_check s m r found =
 abbrev pub live_check : Server → Message → CreateRequest → ℕ → Verdict
 live_check s m r o =
     if not m.replay then Refuse duplicate_objectid
-    else if is_at m.session (s.at o) then Repeat o r
-    else if is_some (s.at o) || not (s.opened o).persistent then Refuse duplicate_objectid
+    else if is_at m.session (s.session_of_open o) then Repeat o r
+    else if is_some (s.session_of_open o) || not (s.opened o).persistent then Refuse duplicate_objectid
     else if same_name (s.opened o).user (s.user m.session) then Repeat o r
     else Refuse access_denied
 
@@ -120,7 +120,7 @@ abbrev pub guid_check : Server → Message → CreateRequest → Durable → Opt
 guid_check s m r d (Some o) = live_check s m r o
 guid_check s m r d None =
     if s.closed m.session d.guid then Refuse duplicate_objectid
-    else if s.marks m.client d.guid then Refuse duplicate_objectid
+    else if s.expired_guids m.client d.guid then Refuse duplicate_objectid
     else refusal_check s m r (s.refused m.session d.guid)
 
 abbrev pub has_guid : ℕ → Option ℕ → Bool
@@ -132,7 +132,7 @@ abbrev pub reconnect_check : Server → Message → CreateRequest → Reconnect 
 reconnect_check s m r c =
     if not (s.standing c.file && has_guid c.guid (s.opened c.file).guid) then Refuse object_name_not_found
     else if not (same_name (s.opened c.file).user (s.user m.session)) then Refuse access_denied
-    else if is_some (s.at c.file) && not (is_at m.session (s.at c.file)) then Refuse object_name_not_found
+    else if is_some (s.session_of_open c.file) && not (is_at m.session (s.session_of_open c.file)) then Refuse object_name_not_found
     else Attach c.file r
 
 abbrev pub durable_check : Server → Message → CreateRequest → Option Durable → Verdict

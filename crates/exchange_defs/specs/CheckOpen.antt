@@ -9,7 +9,7 @@ use Rattle.exchange_defs.specs.Files.{root, find, path_of, has_parent, is_direct
 use Rattle.exchange_defs.specs.Ranges.{RangeAnswer, Stands, Denied, change_ranges, may_read, may_write}
 use Rattle.exchange_defs.specs.Opens.{file_has_open}
 use Rattle.exchange_defs.specs.Listing.{all_named, wanted, fitting, one_or_all, last_name, file_info_size, volume_info_size}
-use Rattle.exchange_defs.specs.Verdict.{Verdict, Refuse, Give, TurnDown, Tell, Show, KeepSlot, PutRanges, Alter, Shut, Change, PutBytes, PutEnd, PutBasic, PutMark, PutPath, PutNothing}
+use Rattle.exchange_defs.specs.Verdict.{Verdict, Refuse, Give, TurnDown, Tell, Show, KeepSlot, PutRanges, Alter, CloseOpen, Change, PutBytes, PutEnd, PutBasic, PutDeletePending, PutPath, PutNothing}
 
 -- ---- the channel sequence (3.3.5.2.10): older by the difference modulo 65,536
 
@@ -31,7 +31,7 @@ abbrev pub changes_nothing : Server → ℕ → Change → Bool
 changes_nothing s f (PutBytes at bytes) = same_bytes (written at bytes (s.content f)) (s.content f)
 changes_nothing s f (PutEnd size) = same_bytes (ended size (s.content f)) (s.content f)
 changes_nothing s f (PutBasic basic) = same_basic basic (s.basic f)
-changes_nothing s f (PutMark flag) = if s.marked f then flag else not flag
+changes_nothing s f (PutDeletePending flag) = if s.delete_pending f then flag else not flag
 changes_nothing s f (PutPath replaced path) = not (is_some replaced) && same_bytes path (path_of s f)
 changes_nothing s f PutNothing = true
 
@@ -98,7 +98,7 @@ slot_check s o index number elements None = new_lock_check s o index number elem
 slot_check s o index number elements (Some status) = if status == success then Give Empty else Refuse status
 
 abbrev pub kept_lock : Server → ℕ → ℕ → ℕ → Option ℕ
-kept_lock s o index number = if is_slot index then kept_status number (s.slots o index) else None
+kept_lock s o index number = if is_slot index then kept_status number (s.lock_sequences o index) else None
 
 abbrev pub lock_check : Server → ℕ → ℕ → ℕ → List Element → Verdict
 lock_check s o index number elements = slot_check s o index number elements (kept_lock s o index number)
@@ -159,7 +159,7 @@ setting_check s m o (SetBasic basic) =
     else TurnDown o access_denied
 setting_check s m o (Rename replace path) =
     if has_access s o 0x1_0000 then unless_repeated s m o (path_change s o path) (named_change o (path_change s o path) (rename_names s (file_of s o) replace path)) else TurnDown o access_denied
-setting_check s m o (SetDelete flag) = if has_access s o 0x1_0000 then unless_repeated s m o (PutMark flag) (named_change o (PutMark flag) (delete_names s (file_of s o) flag)) else TurnDown o access_denied
+setting_check s m o (SetDelete flag) = if has_access s o 0x1_0000 then unless_repeated s m o (PutDeletePending flag) (named_change o (PutDeletePending flag) (delete_names s (file_of s o) flag)) else TurnDown o access_denied
 setting_check s m o (SetAllocation size) = size_change s m o (allocated size (length (s.content (file_of s o)))) (allocation_change s (file_of s o) size)
 setting_check s m o (SetEnd size) = size_change s m o size (PutEnd size)
 
@@ -172,7 +172,7 @@ abbrev pub flush_check : Server → ℕ → Verdict
 flush_check s o = if has_access s o 0x2 || has_access s o 0x4 then Tell o Empty else TurnDown o access_denied
 
 abbrev pub close_check : Server → ℕ → Bool → Verdict
-close_check s o query = Shut o (if query then Closed (info_of s (file_of s o)) else Empty)
+close_check s o query = CloseOpen o (if query then Closed (info_of s (file_of s o)) else Empty)
 
 abbrev pub needs_attributes : ℕ → Bool
 needs_attributes class = (class == 4) || ((class == 18) || (class == 34))
@@ -208,7 +208,7 @@ abbrev pub list_check : Server → ℕ → ℕ → Bool → Bool → List ℕ �
 list_check s o class restart single pattern room =
     if not (has_access s o 0x1) then TurnDown o access_denied
     else if not (is_directory s (file_of s o)) then TurnDown o invalid_parameter
-    else list_from s o class single pattern room (begins_at restart (s.listed o))
+    else list_from s o class single pattern room (begins_at restart (s.enumeration_location o))
 
 abbrev pub query_interfaces : ℕ
 query_interfaces = 0x14_01fc

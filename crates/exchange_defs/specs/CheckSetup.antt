@@ -1,4 +1,4 @@
--- The checks of SESSION_SETUP and TREE_CONNECT (MS-SMB2 3.3.5.5, 3.3.5.5.2, 3.3.5.5.3, 3.3.5.7).
+-- The checks of SESSION_SETUP and TREE_CONNECT (MS-SMB2 3.3.5.5, 3.3.5.5.3, 3.3.5.7).
 use Rattle.std.specs.Prelude.{ℕ, ◌+◌, ◌==◌, nat_le, nat_lt, Bool, true, false, not, ◌&&◌, ◌||◌, if◌then◌else◌, List, [], ◌∷◌, length, Option, Some, None, is_some}
 use Rattle.exchange_defs.specs.Table.{is_at}
 use Rattle.exchange_defs.specs.Status.{user_session_deleted, request_not_accepted, invalid_parameter, logon_failure, access_denied, insufficient_resources, bad_network_name}
@@ -44,7 +44,7 @@ previous_of s user previous = if s.present previous && same_name (s.user previou
 
 abbrev pub granted_session : Server → Message → SetupRequest → List ℕ → Verdict
 granted_session s m r user =
-    if s.seals && (r.cipher == 0) then Refuse access_denied
+    if s.encrypts && (r.cipher == 0) then Refuse access_denied
     else if nat_le max_sessions s.sessions then Refuse insufficient_resources
     else Begin m.session user (previous_of s user r.previous) r false
 
@@ -55,14 +55,14 @@ second_token s m r Refused = Refuse logon_failure
 second_token s m r (Logon user) = granted_session s m r user
 
 abbrev pub first_token : Server → Shows → Verdict
-first_token s Begins = if nat_le max_ids s.begun then Refuse insufficient_resources else Challenge
+first_token s Begins = if nat_le max_ids s.session_ids_given then Refuse insufficient_resources else Challenge
 first_token s Bad = Refuse invalid_parameter
 first_token s Refused = Refuse invalid_parameter
 first_token s (Logon user) = Refuse invalid_parameter
 
 abbrev pub session_check : Server → Message → SetupRequest → Verdict
 session_check s m r =
-    if m.session == 0 then (if is_some (s.on m.connection) then Refuse request_not_accepted else first_token s r.shows)
+    if m.session == 0 then (if is_some (s.session_on m.connection) then Refuse request_not_accepted else first_token s r.shows)
     else if s.present m.session then Refuse request_not_accepted
     else if is_new m.session (s.making m.connection) then second_token s m r r.shows
     else Refuse user_session_deleted
@@ -76,8 +76,8 @@ count_channels on (k ∷ ks) session = (if is_at session (on k) then 1 else 0) +
 abbrev pub granted_binding : Server → Message → List ℕ → Verdict
 granted_binding s m user =
     if not (same_name user (s.user m.session)) then Refuse access_denied
-    else if nat_le max_channels (count_channels s.on s.connections m.session) then Refuse insufficient_resources
-    else if nat_le max_numbers (s.drawn m.session) then Refuse insufficient_resources
+    else if nat_le max_channels (count_channels s.session_on s.connections m.session) then Refuse insufficient_resources
+    else if nat_le max_numbers (s.channel_numbers_drawn m.session) then Refuse insufficient_resources
     else Join m.session
 
 abbrev pub second_binding : Server → Message → Shows → Verdict
@@ -100,7 +100,7 @@ live_binding s m r =
     if not r.signed then Refuse invalid_parameter
     else if not (m.client == s.client m.session) then Refuse user_session_deleted
     else if not ((r.cipher == s.cipher m.session) && (r.signing == s.signing m.session)) then Refuse invalid_parameter
-    else if is_some (s.on m.connection) then Refuse request_not_accepted
+    else if is_some (s.session_on m.connection) then Refuse request_not_accepted
     else if not r.verified then Refuse access_denied
     else binding_token s m r
 

@@ -36,19 +36,19 @@ pub record Client : Type 0 where
   pub op : ℕ → Op
   pub sent : ℕ → Bool  -- it went out itself
   pub outcome : ℕ → Outcome
-  pub on : ℕ → Option ℕ  -- the ready channel on which its copy, or a DH2C in its place, is outstanding
-  pub asking : ℕ → Bool  -- what is outstanding is that DH2C
-  pub before : ℕ → Bool  -- a copy is unanswered: its channel was cut before its reply was taken
-  pub seq_of : ℕ → ℕ  -- the sequence of its last copy
+  pub outstanding_on : ℕ → Option ℕ  -- the ready channel on which its copy, or a DH2C in its place, is outstanding
+  pub asks_attach : ℕ → Bool  -- what is outstanding is that DH2C
+  pub unanswered : ℕ → Bool  -- a copy is unanswered: its channel was cut before its reply was taken
+  pub sequence_of : ℕ → ℕ  -- the sequence of its last copy
   pub slot_of : ℕ → ℕ
   pub number_of : ℕ → ℕ
-  pub by : ℕ → Option ℕ  -- the place of the message whose reply settled it
+  pub settled_by : ℕ → Option ℕ  -- the place of the message whose reply settled it
   pub given_up : ℕ → Option ℕ  -- the session that had ended when it was given up
   pub order : List ℕ  -- those that a reply settled, in the order of the replies
   -- opens, by the number of their create
   pub file : ℕ → ℕ  -- the open's id
   pub attached : ℕ → ℕ  -- the number of the session in which it was opened or attached last
-  pub shut : ℕ → Bool  -- a close of it settled Ok
+  pub closed_ok : ℕ → Bool  -- a close of it settled Ok
   -- lock slots, by create and slot from 1 to 64
   pub slot_user : ℕ → ℕ → Option ℕ  -- the last lock or unlock that took it
   pub retried : ℕ → ℕ → ℕ  -- the number of the session in which it was retried last
@@ -56,7 +56,7 @@ pub record Client : Type 0 where
   -- the session
   pub live : Bool
   pub session : ℕ
-  pub number : ℕ  -- sessions count from 1
+  pub session_number : ℕ  -- sessions count from 1
   pub tree : ℕ
   pub sequence : ℕ
   pub ready : ℕ → Bool  -- by channel
@@ -66,7 +66,7 @@ pub record Client : Type 0 where
   pub making : Option ℕ  -- the channel on which a session is in the making
   pub pending : ℕ  -- that session's id, once it is told
   pub accepted : ℕ  -- the last accepted session, which a new one names as its previous one
-  pub accepts : ℕ
+  pub accepted_count : ℕ
   pub rank : ℕ → ℕ  -- by session: the order in which the client accepted it
   pub refusals : List RefusedDialog
 
@@ -89,12 +89,12 @@ may_take c g op = (g == c.taken + 1) && (keeps_limits op && (is_create op || (na
 
 -- its open is attached in this session
 abbrev pub is_attached : Client → ℕ → Bool
-is_attached c create = c.live && (c.attached create == c.number)
+is_attached c create = c.live && (c.attached create == c.session_number)
 
 -- the create won't give an open any more: it settled otherwise than Ok, a close of it settled Ok, or its plain open's session ended
 abbrev pub is_gone_after : Client → ℕ → Outcome → Bool
 is_gone_after c create Unsettled = false
-is_gone_after c create (WasOk reply) = c.shut create || (not (persists (c.op create)) && not (is_attached c create))
+is_gone_after c create (WasOk reply) = c.closed_ok create || (not (persists (c.op create)) && not (is_attached c create))
 is_gone_after c create _ = true
 
 abbrev pub is_gone : Client → ℕ → Bool
@@ -124,7 +124,7 @@ abbrev pub has_open : Client → ℕ → Bool
 has_open c g = is_create (c.op g) || is_ok (c.outcome (create_for c g))
 
 abbrev pub may_push : Client → ℕ → ℕ → Bool
-may_push c k g = c.ready k && (is_taken c g && (is_unsettled (c.outcome g) && (is_none (c.on g) && (has_open c g && not (waits c g g)))))
+may_push c k g = c.ready k && (is_taken c g && (is_unsettled (c.outcome g) && (is_none (c.outstanding_on g) && (has_open c g && not (waits c g g)))))
 
 -- ---- lock slots
 
@@ -135,7 +135,7 @@ is_out_of_use c None = true
 is_out_of_use c (Some h) = is_firm (c.outcome h)
 
 abbrev pub is_free : Client → ℕ → ℕ → Bool
-is_free c create i = (nat_lt 0 i && nat_le i 64) && (is_out_of_use c (c.slot_user create i) && (not (c.retried create i == c.number) && not (c.full create i)))
+is_free c create i = (nat_lt 0 i && nat_le i 64) && (is_out_of_use c (c.slot_user create i) && (not (c.retried create i == c.session_number) && not (c.full create i)))
 
 -- some slot from 1 to n is free
 unfoldable pub has_free : Client → ℕ → ℕ → Bool
@@ -174,20 +174,20 @@ begin c g i = if is_lock (c.op g) then record (take_slot c g i) { sent = put c.s
 
 -- a slot whose lock goes out again isn't used again in this session
 abbrev pub again : Client → ℕ → Client
-again c g = if is_lock (c.op g) then record c { retried = put2 c.retried (create_for c g) (c.slot_of g) c.number } else c
+again c g = if is_lock (c.op g) then record c { retried = put2 c.retried (create_for c g) (c.slot_of g) c.session_number } else c
 
 abbrev pub begun : Client → ℕ → ℕ → Client
 begun c g i = if c.sent g then again c g else begin c g i
 
 abbrev pub outstanding : Client → ℕ → ℕ → Client
-outstanding c k g = record c { on = put c.on g (Some k); asking = put c.asking g false; seq_of = put c.seq_of g c.sequence }
+outstanding c k g = record c { outstanding_on = put c.outstanding_on g (Some k); asks_attach = put c.asks_attach g false; sequence_of = put c.sequence_of g c.sequence }
 
 abbrev pub asked : Client → ℕ → ℕ → Client
-asked c k g = record c { on = put c.on g (Some k); asking = put c.asking g true }
+asked c k g = record c { outstanding_on = put c.outstanding_on g (Some k); asks_attach = put c.asks_attach g true }
 
 -- a create, write or set-info with an unanswered copy has the replay flag
 abbrev pub is_replay : Client → ℕ → Bool
-is_replay c g = c.before g && (is_create (c.op g) || is_change (c.op g))
+is_replay c g = c.unanswered g && (is_create (c.op g) || is_change (c.op g))
 
 abbrev pub message : Client → ℕ → ℕ → Bool → Command → Message
 message c k id replay command = record { connection = k; client = c.who.guid; session = c.session; tree = c.tree; id = id; sequence = c.sequence; replay = replay; fault = None; command = command }
@@ -228,8 +228,8 @@ cut_channel c k =
       sequence = c.sequence + 1;
       ready = put c.ready k false;
       channels = c.channels - 1;
-      on = λ g. on_after_cut k (c.on g);
-      before = λ g. before_after_cut k (c.on g) (c.asking g) (c.before g);
+      outstanding_on = λ g. on_after_cut k (c.outstanding_on g);
+      unanswered = λ g. before_after_cut k (c.outstanding_on g) (c.asks_attach g) (c.unanswered g);
     }
 
 -- the session ends with its last ready channel, or where the sequence can't be raised
@@ -246,7 +246,7 @@ begin_session c k session tree =
     record c {
       live = true;
       session = session;
-      number = c.number + 1;
+      session_number = c.session_number + 1;
       tree = tree;
       sequence = 0;
       ready = put c.ready k true;
@@ -268,7 +268,7 @@ unsent_after_end create create_sent _ = NoOpen create
 
 -- an operation whose open isn't persistent
 abbrev pub plain_after_end : Client → ℕ → ℕ → Outcome
-plain_after_end c g create = if c.sent g then Unknown (SessionLost c.number) else if is_create (c.op g) then Unsettled else unsent_after_end create (c.sent create) (c.outcome create)
+plain_after_end c g create = if c.sent g then Unknown (SessionLost c.session_number) else if is_create (c.op g) then Unsettled else unsent_after_end create (c.sent create) (c.outcome create)
 
 abbrev pub outcome_after_end : Client → ℕ → Outcome → Outcome
 outcome_after_end c g Unsettled = if persists (c.op (create_for c g)) then Unsettled else plain_after_end c g (create_for c g)
@@ -286,8 +286,8 @@ end_session c =
       channels = 0;
       stage = λ k. Apart;
       making = None;
-      on = λ g. None;
-      before = λ g. before_after_end (c.on g) (c.asking g) (c.before g);
+      outstanding_on = λ g. None;
+      unanswered = λ g. before_after_end (c.outstanding_on g) (c.asks_attach g) (c.unanswered g);
       outcome = λ g. outcome_after_end c g (c.outcome g);
       given_up = λ g. given_up_after_end c g (c.outcome g) (c.given_up g);
     }

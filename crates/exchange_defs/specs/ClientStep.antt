@@ -84,7 +84,7 @@ last_number = 0xffff_ffff
 -- a dialog that ended well binds its channel to the live session, or begins a new one while there is a number for it: ids
 -- of sessions rise, so one that isn't above the last one's names a session which has ended
 abbrev pub becomes_ready : Client → ℕ → Bool
-becomes_ready c session = if c.live then session == c.session else nat_lt c.session session && nat_lt c.number last_number
+becomes_ready c session = if c.live then session == c.session else nat_lt c.session session && nat_lt c.session_number last_number
 
 -- else its channel isn't ready, and the connection counts as failed
 abbrev pub ready_after : Client → ℕ → ℕ → ℕ → Client

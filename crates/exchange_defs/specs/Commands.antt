@@ -91,7 +91,7 @@ Basic = basic_value.Basic
 pub data Setting : Type 0 where
   SetBasic : (basic : Basic) → Setting
   Rename : (replace : Bool) (path : List ℕ) → Setting
-  SetDelete : (marked : Bool) → Setting
+  SetDelete : (delete_pending : Bool) → Setting
   SetAllocation : (size : ℕ) → Setting
   SetEnd : (size : ℕ) → Setting
 

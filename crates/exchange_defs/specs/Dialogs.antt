@@ -67,4 +67,4 @@ abbrev pub went_on : Client → ℕ → Stage → Reply → Client
 went_on c k stage r = record c { stage = put c.stage k stage; pending = told_session c stage r }
 
 abbrev pub accepted : Client → ℕ → Client
-accepted c k = record c { stage = put c.stage k AskedTree; accepted = c.pending; accepts = c.accepts + 1; rank = put c.rank c.pending (c.accepts + 1) }
+accepted c k = record c { stage = put c.stage k AskedTree; accepted = c.pending; accepted_count = c.accepted_count + 1; rank = put c.rank c.pending (c.accepted_count + 1) }

@@ -6,12 +6,12 @@ use Rattle.exchange_defs.specs.Status.{success, more_processing_required}
 use Rattle.exchange_defs.specs.Content.{written, ended, same_bytes}
 use Rattle.exchange_defs.specs.Commands.{CreateRequest, Durable, SetupRequest, Basic, Element, asks_directory}
 use Rattle.exchange_defs.specs.State.{no_later, Server, Message, Open, Range, Tree, NewSession, Binding, Body, Empty, Created, SetUp, Connected, Record, NewOpen, Origin, CreateRecord, WriteRecord, EndRecord, BasicRecord, DeleteRecord, RenameRecord, LockRecord, Answer}
-use Rattle.exchange_defs.specs.Files.{make_file, empty_file, set_content, store_basic, mark_file, rename_file, info_of, same_basic, path_of}
+use Rattle.exchange_defs.specs.Files.{make_file, empty_file, set_content, store_basic, set_delete_pending, rename_file, info_of, same_basic, path_of}
 use Rattle.exchange_defs.specs.Opens.{id_of, mapped, add_open, leave_open, leave_records}
 use Rattle.exchange_defs.specs.CheckCreate.{empties}
 use Rattle.exchange_defs.specs.CheckOpen.{is_late, is_slot, file_of}
 use Rattle.exchange_defs.specs.Records.{origin_of}
-use Rattle.exchange_defs.specs.Verdict.{Verdict, Refuse, Give, KeepRefusal, Repeat, Attach, Make, TurnDown, Tell, Show, KeepSlot, PutRanges, Alter, Shut, Challenge, ChallengeBinding, Begin, Join, EndSession, AddTree, DropTree, Change, PutBytes, PutEnd, PutBasic, PutMark, PutPath, PutNothing}
+use Rattle.exchange_defs.specs.Verdict.{Verdict, Refuse, Give, KeepRefusal, Repeat, Attach, Make, TurnDown, Tell, Show, KeepSlot, PutRanges, Alter, CloseOpen, Challenge, ChallengeBinding, Begin, Join, EndSession, AddTree, DropTree, Change, PutBytes, PutEnd, PutBasic, PutDeletePending, PutPath, PutNothing}
 
 -- ---- answers
 
@@ -45,17 +45,17 @@ keep_refusal s session guid status = record s { refused = put2 s.refused session
 abbrev pub attach : Server → Message → ℕ → Server
 attach s m o =
     record s {
-      at = put s.at o (Some m.session);
+      session_of_open = put s.session_of_open o (Some m.session);
       sequence = put s.sequence o m.sequence;
       deadline = put s.deadline o None;
       guids = put s.guids m.session (s.guids m.session + 1);
     }
 
 abbrev pub attached : Server → Message → ℕ → Server
-attached s m o = if is_some (s.at o) then s else attach s m o
+attached s m o = if is_some (s.session_of_open o) then s else attach s m o
 
 abbrev pub attaches : Server → ℕ → Option ℕ
-attaches s o = if is_some (s.at o) then None else Some o
+attaches s o = if is_some (s.session_of_open o) then None else Some o
 
 -- DH2Q's timeout: 0 counts as a minute, more than five as five
 unfoldable pub timeout_of : ℕ → ℕ
@@ -103,7 +103,7 @@ open_row s m r f action =
     }
 
 abbrev pub next_open : Server → ℕ
-next_open s = id_of s.epoch (s.given + 1)
+next_open s = id_of s.epoch (s.open_ids_given + 1)
 
 abbrev pub guids_after : Server → ℕ → Option Durable → ℕ → ℕ
 guids_after s session None = s.guids
@@ -112,7 +112,7 @@ guids_after s session (Some d) = put s.guids session (s.guids session + 1)
 abbrev pub make_open : Server → Message → CreateRequest → Option ℕ → ℕ → ℕ → Server
 make_open s m r found action now =
     record (add_open (file_made s r found now) (next_open s) (open_row s m r (new_file s found) action) (Some m.session) m.sequence) {
-      given = s.given + 1;
+      open_ids_given = s.open_ids_given + 1;
       guids = guids_after s m.session r.durable;
     }
 
@@ -136,7 +136,7 @@ made s m r found action now =
 -- ---- locks
 
 abbrev pub keep_slot : Server → ℕ → ℕ → ℕ → ℕ → Server
-keep_slot s o index number status = if is_slot index then record s { slots = put2 s.slots o index (Some (record { number = number; status = status })) } else s
+keep_slot s o index number status = if is_slot index then record s { lock_sequences = put2 s.lock_sequences o index (Some (record { number = number; status = status })) } else s
 
 abbrev pub set_ranges : Server → ℕ → List Range → Server
 set_ranges s f ranges = record s { ranges = put s.ranges f ranges }
@@ -154,7 +154,7 @@ abbrev pub change_file : Server → ℕ → ℕ → Change → Server
 change_file s f now (PutBytes at bytes) = set_content s f (written at bytes (s.content f)) now
 change_file s f now (PutEnd size) = set_content s f (ended size (s.content f)) now
 change_file s f now (PutBasic basic) = store_basic s f basic
-change_file s f now (PutMark flag) = mark_file s f flag
+change_file s f now (PutDeletePending flag) = set_delete_pending s f flag
 change_file s f now (PutPath replaced path) = rename_file s f replaced path
 change_file s f now PutNothing = s
 
@@ -162,19 +162,19 @@ unfoldable pub change_records : Message → ℕ → ℕ → Change → List Reco
 change_records m f now (PutBytes at bytes) = WriteRecord (origin_of m) f at now bytes ∷ []
 change_records m f now (PutEnd size) = EndRecord (origin_of m) f size now ∷ []
 change_records m f now (PutBasic basic) = BasicRecord (origin_of m) f basic ∷ []
-change_records m f now (PutMark flag) = DeleteRecord (origin_of m) f flag ∷ []
+change_records m f now (PutDeletePending flag) = DeleteRecord (origin_of m) f flag ∷ []
 change_records m f now (PutPath replaced path) = RenameRecord (origin_of m) f (number_or_zero replaced) path ∷ []
 change_records m f now PutNothing = []
 
 unfoldable pub is_touched_at : Basic → ℕ → Bool
 is_touched_at b now = (b.written == now) && (b.changed == now)
 
--- whether bytes, times, attributes, mark or name differ behind it
+-- whether bytes, times, attributes, delete pending or name differ behind it
 abbrev pub change_acts : Server → ℕ → ℕ → Change → Bool
 change_acts s f now (PutBytes at bytes) = not (same_bytes (written at bytes (s.content f)) (s.content f) && is_touched_at (s.basic f) now)
 change_acts s f now (PutEnd size) = not (same_bytes (ended size (s.content f)) (s.content f) && is_touched_at (s.basic f) now)
 change_acts s f now (PutBasic basic) = not (same_basic basic (s.basic f))
-change_acts s f now (PutMark flag) = if s.marked f then not flag else flag
+change_acts s f now (PutDeletePending flag) = if s.delete_pending f then not flag else flag
 change_acts s f now (PutPath replaced path) = is_some replaced || not (same_bytes path (path_of s f))
 change_acts s f now PutNothing = false
 
@@ -188,7 +188,7 @@ keep_closed s session (Some g) = record s { closed = put2 s.closed session g tru
 
 -- an open that isn't persistent leaves with its session
 abbrev pub leaves : Server → ℕ → ℕ → Bool
-leaves s session o = is_at session (s.at o) && not (s.opened o).persistent
+leaves s session o = is_at session (s.session_of_open o) && not (s.opened o).persistent
 
 unfoldable pub plain_in : Server → ℕ → List ℕ → List ℕ
 plain_in s session [] = []
@@ -240,20 +240,20 @@ abbrev pub end_session : Server → ℕ → ℕ → Bool → Server
 end_session s session now is_quiet =
     record s {
       entries = (files_behind s session is_quiet).entries;
-      marked = (files_behind s session is_quiet).marked;
+      delete_pending = (files_behind s session is_quiet).delete_pending;
       ranges = λ f. ranges_staying s session (s.ranges f);
       opens = staying_in s session s.opens;
       standing = λ o. s.standing o && not (leaves s session o);
       by_guid = λ c g. guid_staying s session (s.by_guid c g);
-      at = λ o. cleared session (s.at o);
-      deadline = λ o. dated session now (s.opened o) (s.at o) (s.deadline o);
+      session_of_open = λ o. cleared session (s.session_of_open o);
+      deadline = λ o. dated session now (s.opened o) (s.session_of_open o) (s.deadline o);
       present = put s.present session false;
       sessions = s.sessions - 1;
       trees = put s.trees session [];
       closed = put s.closed session (λ g. false);
       refused = put s.refused session (λ g. None);
       guids = put s.guids session 0;
-      on = λ k. cleared session (s.on k);
+      session_on = λ k. cleared session (s.session_on k);
     }
 
 unfoldable pub end_records : Server → Origin → ℕ → Bool → List Record
@@ -286,23 +286,23 @@ add_session s m user r =
       client = put s.client m.session m.client;
       cipher = put s.cipher m.session r.cipher;
       signing = put s.signing m.session r.signing;
-      drawn = put s.drawn m.session 1;
+      channel_numbers_drawn = put s.channel_numbers_drawn m.session 1;
       trees = put s.trees m.session [];
       next_tree = put s.next_tree m.session 1;
-      on = put s.on m.connection (Some m.session);
+      session_on = put s.session_on m.connection (Some m.session);
       making = put s.making m.connection None;
     }
 
 abbrev pub join_session : Server → Message → ℕ → Server
 join_session s m session =
     record s {
-      drawn = put s.drawn session (s.drawn session + 1);
-      on = put s.on m.connection (Some session);
+      channel_numbers_drawn = put s.channel_numbers_drawn session (s.channel_numbers_drawn session + 1);
+      session_on = put s.session_on m.connection (Some session);
       making = put s.making m.connection None;
     }
 
 abbrev pub next_session : Server → ℕ
-next_session s = id_of s.epoch (s.begun + 1)
+next_session s = id_of s.epoch (s.session_ids_given + 1)
 
 abbrev pub add_tree : Server → ℕ → Bool → Server
 add_tree s session pipes =
@@ -330,7 +330,7 @@ apply s m now (Attach o r) = answer_with (attached s m o) m success (create_repl
 apply s m now (Make r found action) = made s m r found action now
 apply s m now (TurnDown o status) = quiet_on s m o status Empty
 apply s m now (Tell o body) = quiet_on s m o success body
-apply s m now (Show o last body) = answer_with (record (reach s m o) { listed = put s.listed o last }) m success body [] false (reaches s m o)
+apply s m now (Show o last body) = answer_with (record (reach s m o) { enumeration_location = put s.enumeration_location o last }) m success body [] false (reaches s m o)
 apply s m now (KeepSlot o index number status elements) =
     answer_with (keep_slot (reach s m o) o index number status) m status Empty (lock_records s m o index number status elements) false (reaches s m o)
 apply s m now (PutRanges o index number ranges elements) =
@@ -344,10 +344,10 @@ apply s m now (Alter o change body) =
       reached = reaches s m o;
       altered = Some o;
     }
-apply s m now (Shut o body) = answer_with (keep_closed (leave_open s o) m.session (s.opened o).guid) m success body (leave_records s (origin_of m) o) true (reaches s m o)
+apply s m now (CloseOpen o body) = answer_with (keep_closed (leave_open s o) m.session (s.opened o).guid) m success body (leave_records s (origin_of m) o) true (reaches s m o)
 apply s m now Challenge =
     record {
-      server = record s { begun = s.begun + 1; making = put s.making m.connection (Some (NewSession (next_session s))) };
+      server = record s { session_ids_given = s.session_ids_given + 1; making = put s.making m.connection (Some (NewSession (next_session s))) };
       reply = record { status = more_processing_required; session = next_session s; tree = m.tree; body = Empty };
       records = [];
       acted = false;
@@ -356,8 +356,8 @@ apply s m now Challenge =
     }
 apply s m now (ChallengeBinding session) = quiet (record s { making = put s.making m.connection (Some (Binding session)) }) m more_processing_required Empty
 apply s m now (Begin session user previous r is_quiet) =
-    answer_with (add_session (end_if_named s now previous is_quiet) m user r) m success (SetUp s.seals 1) (records_if_named s (origin_of m) previous is_quiet) (acts_if_named s previous) None
-apply s m now (Join session) = quiet (join_session s m session) m success (SetUp s.seals (s.drawn session + 1))
+    answer_with (add_session (end_if_named s now previous is_quiet) m user r) m success (SetUp s.encrypts 1) (records_if_named s (origin_of m) previous is_quiet) (acts_if_named s previous) None
+apply s m now (Join session) = quiet (join_session s m session) m success (SetUp s.encrypts (s.channel_numbers_drawn session + 1))
 apply s m now (EndSession session is_quiet) = answer_with (end_session s session now is_quiet) m success Empty (end_records s (origin_of m) session is_quiet) (end_acts s session) None
 apply s m now (AddTree pipes) =
     record {

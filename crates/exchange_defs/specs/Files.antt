@@ -1,4 +1,4 @@
--- The files of the share: paths, times, delete pending (called marked) and bytes (MS-FSA 2.1.1.3 to 2.1.1.5).
+-- The files of the share: paths, times, delete pending and bytes (MS-FSA 2.1.1.3 to 2.1.1.5).
 use Rattle.std.specs.Prelude.{ℕ, ◌+◌, ◌-◌, ◌==◌, nat_lt, min, Bool, true, false, ◌&&◌, ◌||◌, if◌then◌else◌, List, [], ◌∷◌, ◌++◌, length, Option, Some, None}
 use Rattle.exchange_defs.specs.Table.{put}
 use Rattle.exchange_defs.specs.Texts.{same_name, is_below, parent_of, after_name}
@@ -54,7 +54,7 @@ unfoldable pub is_full_directory : Server → ℕ → Bool
 is_full_directory s f = is_directory s f && has_below s.entries (path_of s f)
 
 unfoldable pub info_of : Server → ℕ → Info
-info_of s f = record { file = f; is_directory = is_directory s f; size = length (s.content f); is_marked = s.marked f; times = s.basic f }
+info_of s f = record { file = f; is_directory = is_directory s f; size = length (s.content f); is_delete_pending = s.delete_pending f; times = s.basic f }
 
 -- ---- room
 
@@ -99,7 +99,7 @@ make_file s path is_dir attributes now =
       entries = s.entries ++ record { file = s.next_file; path = path } ∷ [];
       next_file = s.next_file + 1;
       directory = put s.directory s.next_file is_dir;
-      marked = put s.marked s.next_file false;
+      delete_pending = put s.delete_pending s.next_file false;
       basic = put s.basic s.next_file (times_at now attributes);
       content = put s.content s.next_file [];
       ranges = put s.ranges s.next_file [];
@@ -115,8 +115,8 @@ emptied_basic b attributes now = record b { written = now; changed = now; attrib
 abbrev pub empty_file : Server → ℕ → ℕ → ℕ → Server
 empty_file s f attributes now = record s { content = put s.content f []; basic = put s.basic f (emptied_basic (s.basic f) attributes now) }
 
-abbrev pub mark_file : Server → ℕ → Bool → Server
-mark_file s f flag = record s { marked = put s.marked f flag }
+abbrev pub set_delete_pending : Server → ℕ → Bool → Server
+set_delete_pending s f flag = record s { delete_pending = put s.delete_pending f flag }
 
 abbrev pub store_basic : Server → ℕ → Basic → Server
 store_basic s f b = record s { basic = put s.basic f b }

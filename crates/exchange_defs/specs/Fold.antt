@@ -5,15 +5,15 @@ use Rattle.exchange_defs.specs.Status.{success}
 use Rattle.exchange_defs.specs.Texts.{is_path, is_below}
 use Rattle.exchange_defs.specs.Content.{written, ended, is_empty}
 use Rattle.exchange_defs.specs.Commands.{Basic, Element, all_lock, all_unlock}
-use Rattle.exchange_defs.specs.State.{Server, Address, Entry, Open, Range, Record, NewOpen, EpochRecord, CreateRecord, WriteRecord, EndRecord, BasicRecord, DeleteRecord, RenameRecord, RemoveRecord, LockRecord, ShutRecord, VersionRecord, ExpireRecord}
-use Rattle.exchange_defs.specs.Files.{root, find, path_of, exists, is_directory, has_parent, is_full_directory, passes_room, make_file, set_content, empty_file, mark_file, store_basic, remove_file, rename_file}
+use Rattle.exchange_defs.specs.State.{Server, Address, Entry, Open, Range, Record, NewOpen, EpochRecord, CreateRecord, WriteRecord, EndRecord, BasicRecord, DeleteRecord, RenameRecord, RemoveRecord, LockRecord, CloseRecord, VersionRecord, ExpireRecord}
+use Rattle.exchange_defs.specs.Files.{root, find, path_of, exists, is_directory, has_parent, is_full_directory, passes_room, make_file, set_content, empty_file, set_delete_pending, store_basic, remove_file, rename_file}
 use Rattle.exchange_defs.specs.Ranges.{RangeAnswer, Stands, Denied, change_ranges}
-use Rattle.exchange_defs.specs.Opens.{max_ids, add_open, drop_open, marked_by, file_has_open, without_gone}
+use Rattle.exchange_defs.specs.Opens.{max_ids, add_open, drop_open, pending_behind, file_has_open, without_gone}
 use Rattle.exchange_defs.specs.CheckCreate.{max_opens, max_files, last_file}
 use Rattle.exchange_defs.specs.CheckOpen.{target_of, file_of}
 use Rattle.exchange_defs.specs.Effects.{keep_slot, set_ranges}
 use Rattle.exchange_defs.specs.Records.{entry_bytes}
-use Rattle.exchange_defs.specs.Step.{add_mark, max_marks}
+use Rattle.exchange_defs.specs.Step.{add_expired_guid, max_expired_guids}
 
 abbrev pub no_times : Basic
 no_times = record { created = 0; accessed = 0; written = 0; changed = 0; attributes = 0 }
@@ -33,7 +33,7 @@ nothing_yet =
     record {
       share = [];
       room = full_room;
-      seals = false;
+      encrypts = false;
       address = no_address;
       version = 1;
       epoch = 0;
@@ -41,49 +41,49 @@ nothing_yet =
       entries = [];
       next_file = 1;
       directory = λ f. false;
-      marked = λ f. false;
+      delete_pending = λ f. false;
       basic = λ f. no_times;
       content = λ f. [];
       ranges = λ f. [];
       opens = [];
       standing = λ o. false;
-      given = 0;
+      open_ids_given = 0;
       opened = λ o. no_open;
-      at = λ o. None;
+      session_of_open = λ o. None;
       sequence = λ o. 0;
       deadline = λ o. None;
-      listed = λ o. None;
-      slots = λ o i. None;
+      enumeration_location = λ o. None;
+      lock_sequences = λ o i. None;
       by_guid = λ c g. None;
-      marks = λ c g. false;
-      mark_count = 0;
+      expired_guids = λ c g. false;
+      expired_count = 0;
       present = λ s. false;
       sessions = 0;
-      begun = 0;
+      session_ids_given = 0;
       user = λ s. [];
       client = λ s. 0;
       cipher = λ s. 0;
       signing = λ s. 0;
-      drawn = λ s. 0;
+      channel_numbers_drawn = λ s. 0;
       trees = λ s. [];
       next_tree = λ s. 0;
       closed = λ s g. false;
       refused = λ s g. None;
       guids = λ s. 0;
       connections = [];
-      on = λ k. None;
+      session_on = λ k. None;
       making = λ k. None;
     }
 
 -- ---- each record, and where it changes nothing
 
--- a new epoch removes, in order of their numbers, the marked files that have no open
+-- a new epoch removes, in order of their numbers, the delete pending files that have no open
 unfoldable pub sweep : Server → List Entry → Server
 sweep s [] = s
 sweep s (e ∷ es) = sweep (without_gone s e.file) es
 
 abbrev pub begin_epoch : Server → ℕ → Server
-begin_epoch s number = if number == s.epoch + 1 then record (sweep s s.entries) { epoch = number; given = 0; begun = 0 } else s
+begin_epoch s number = if number == s.epoch + 1 then record (sweep s s.entries) { epoch = number; open_ids_given = 0; session_ids_given = 0 } else s
 
 abbrev pub set_version : Server → ℕ → Server
 set_version s number = if (number == 2) && (s.version == 1) then record s { version = 2 } else s
@@ -94,7 +94,7 @@ may_make s f path = (f == s.next_file) && (is_path path && (not (is_some (find s
 
 -- an id of this epoch that isn't live, a guid that no live open of the client has, and room in the count
 unfoldable pub may_restore : Server → NewOpen → Bool
-may_restore s n = (n.id / 0x1_0000_0000 == s.epoch) && (nat_lt 0 (n.id % 0x1_0000_0000) && (nat_lt s.given max_ids && (not (s.standing n.id) && (not (is_some (s.by_guid n.client n.guid)) && nat_lt (length s.opens) max_opens))))
+may_restore s n = (n.id / 0x1_0000_0000 == s.epoch) && (nat_lt 0 (n.id % 0x1_0000_0000) && (nat_lt s.open_ids_given max_ids && (not (s.standing n.id) && (not (is_some (s.by_guid n.client n.guid)) && nat_lt (length s.opens) max_opens))))
 
 unfoldable pub may_have_open : Server → Option NewOpen → Bool
 may_have_open s None = true
@@ -109,7 +109,7 @@ restored_row n f action =
 
 abbrev pub restore : Server → ℕ → ℕ → Option NewOpen → Server
 restore s f action None = s
-restore s f action (Some n) = record (add_open s n.id (restored_row n f action) None 0) { given = max s.given (n.id % 0x1_0000_0000) }
+restore s f action (Some n) = record (add_open s n.id (restored_row n f action) None 0) { open_ids_given = max s.open_ids_given (n.id % 0x1_0000_0000) }
 
 abbrev pub created_file : Server → ℕ → ℕ → List ℕ → ℕ → Bool → ℕ → Server
 created_file s action f path attributes is_dir time = if action == 2 then make_file s path is_dir attributes time else if action == 1 then s else empty_file s f attributes time
@@ -144,7 +144,7 @@ lock_recorded s o index number status elements =
     else keep_slot s o index number status
 
 abbrev pub shut_recorded : Server → ℕ → Server
-shut_recorded s o = drop_open (marked_by s o) o
+shut_recorded s o = drop_open (pending_behind s o) o
 
 abbrev pub with_record : Server → Record → Server
 with_record s (EpochRecord number) = begin_epoch s number
@@ -154,18 +154,18 @@ with_record s (CreateRecord origin action f path attributes is_dir time opened) 
 with_record s (WriteRecord origin f at time bytes) = if is_file s f && (not (is_empty bytes) && not (passes_room s f (at + length bytes))) then set_content s f (written at bytes (s.content f)) time else s
 with_record s (EndRecord origin f size time) = if is_file s f && not (passes_room s f size) then set_content s f (ended size (s.content f)) time else s
 with_record s (BasicRecord origin f basic) = if exists s f then store_basic s f basic else s
-with_record s (DeleteRecord origin f flag) = if exists s f && not (f == root) then mark_file s f flag else s
+with_record s (DeleteRecord origin f flag) = if exists s f && not (f == root) then set_delete_pending s f flag else s
 with_record s (RenameRecord origin f replaced path) = if may_rename s f replaced path then rename_file s f (target_of f (find s path)) path else s
 with_record s (RemoveRecord origin f) = if may_remove s f then remove_file s f else s
 with_record s (LockRecord origin o index number status elements) = if s.standing o && nat_le index 64 then lock_recorded s o index number status elements else s
-with_record s (ShutRecord origin o) = if s.standing o then shut_recorded s o else s
-with_record s (ExpireRecord origin o) = if s.standing o && nat_lt s.mark_count max_marks then add_mark (shut_recorded s o) (s.opened o).client (s.opened o).guid else s
+with_record s (CloseRecord origin o) = if s.standing o then shut_recorded s o else s
+with_record s (ExpireRecord origin o) = if s.standing o && nat_lt s.expired_count max_expired_guids then add_expired_guid (shut_recorded s o) (s.opened o).client (s.opened o).guid else s
 
 unfoldable pub fold_from : Server → List Record → Server
 fold_from s [] = s
 fold_from s (r ∷ rs) = fold_from (with_record s r) rs
 
--- the fold: version, epoch, files, persistent opens with their ranges, slots and timeouts, and marks
+-- the fold: version, epoch, files, persistent opens with their ranges, slots and timeouts, and expired guids
 abbrev pub fold : List Record → Server
 fold rs = fold_from nothing_yet rs
 
@@ -175,7 +175,7 @@ fold rs = fold_from nothing_yet rs
 pub record Configuration : Type 0 where
   pub share : List ℕ
   pub room : ℕ
-  pub seals : Bool
+  pub encrypts : Bool
   pub address : Address
 
 -- an Epoch record is written, and in a journal of version 1 the Version record too, in the same body
@@ -188,11 +188,11 @@ recovery_records rs = opening_records (fold rs)
 
 -- recovery: nothing but the configuration, the disk's bytes and its records decide where a server stands
 abbrev pub recovered : Configuration → ℕ → List Record → Server
-recovered z bytes rs = record (fold (rs ++ recovery_records rs)) { share = z.share; room = z.room; seals = z.seals; address = z.address; journal = bytes + entry_bytes (recovery_records rs) }
+recovered z bytes rs = record (fold (rs ++ recovery_records rs)) { share = z.share; room = z.room; encrypts = z.encrypts; address = z.address; journal = bytes + entry_bytes (recovery_records rs) }
 
 -- behind a server that ran under the same configuration, on the disk that it left
 abbrev pub configuration_of : Server → Configuration
-configuration_of s = record { share = s.share; room = s.room; seals = s.seals; address = s.address }
+configuration_of s = record { share = s.share; room = s.room; encrypts = s.encrypts; address = s.address }
 
 abbrev pub recovered_from : Server → List Record → Server
 recovered_from s rs = recovered (configuration_of s) s.journal rs
@@ -222,17 +222,17 @@ durable s =
       entries = s.entries;
       next_file = s.next_file;
       directory = s.directory;
-      marked = s.marked;
+      delete_pending = s.delete_pending;
       basic = s.basic;
       content = s.content;
       ranges = λ f. ranges_that_stay s (s.ranges f);
       opens = persistent_in s.opened s.opens;
       standing = λ o. stays s o;
       opened = λ o. if stays s o then s.opened o else no_open;
-      slots = λ o i. if stays s o then s.slots o i else None;
+      lock_sequences = λ o i. if stays s o then s.lock_sequences o i else None;
       by_guid = λ c g. stays_by_guid s (s.by_guid c g);
-      marks = s.marks;
-      mark_count = s.mark_count;
+      expired_guids = s.expired_guids;
+      expired_count = s.expired_count;
     }
 
 -- the journal stands for the state

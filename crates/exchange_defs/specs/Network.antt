@@ -371,24 +371,24 @@ new_client who =
       op = λ g. OpClose 0;
       sent = λ g. false;
       outcome = λ g. Unsettled;
-      on = λ g. None;
-      asking = λ g. false;
-      before = λ g. false;
-      seq_of = λ g. 0;
+      outstanding_on = λ g. None;
+      asks_attach = λ g. false;
+      unanswered = λ g. false;
+      sequence_of = λ g. 0;
       slot_of = λ g. 0;
       number_of = λ g. 0;
-      by = λ g. None;
+      settled_by = λ g. None;
       given_up = λ g. None;
       order = [];
       file = λ c. 0;
       attached = λ c. 0;
-      shut = λ c. false;
+      closed_ok = λ c. false;
       slot_user = λ c i. None;
       retried = λ c i. 0;
       full = λ c i. false;
       live = false;
       session = 0;
-      number = 0;
+      session_number = 0;
       tree = 0;
       sequence = 0;
       ready = λ k. false;
@@ -397,7 +397,7 @@ new_client who =
       making = None;
       pending = 0;
       accepted = 0;
-      accepts = 0;
+      accepted_count = 0;
       rank = λ s. 0;
       refusals = [];
     }
@@ -406,12 +406,12 @@ pub record Settings : Type 0 where
   pub who : Identity
   pub share : List ℕ
   pub room : ℕ
-  pub seals : Bool
+  pub encrypts : Bool
   pub address : Address
 
 -- the server before its first start: an empty journal, and at most the full room
 abbrev pub blank_server : Settings → Server
-blank_server z = record nothing_yet { share = z.share; room = min z.room full_room; seals = z.seals; address = z.address; journal = 9 }
+blank_server z = record nothing_yet { share = z.share; room = min z.room full_room; encrypts = z.encrypts; address = z.address; journal = 9 }
 
 abbrev pub start : Settings → World
 start z =

@@ -2,9 +2,9 @@
 use Rattle.std.specs.Prelude.{ℕ, ◌+◌, ◌*◌, ◌%◌, ◌==◌, Bool, true, false, not, ◌&&◌, ◌||◌, if◌then◌else◌, List, [], ◌∷◌, ◌++◌, Option, Some, None, bit_or}
 use Rattle.exchange_defs.specs.Table.{put, put2, without, placed_in, is_at, is_filled}
 use Rattle.exchange_defs.specs.Commands.{has_bit, deletes_on_close}
-use Rattle.exchange_defs.specs.State.{Server, Open, Record, Origin, DeleteRecord, RemoveRecord, ShutRecord}
+use Rattle.exchange_defs.specs.State.{Server, Open, Record, Origin, DeleteRecord, RemoveRecord, CloseRecord}
 use Rattle.exchange_defs.specs.Ranges.{without_owner}
-use Rattle.exchange_defs.specs.Files.{root, exists, is_full_directory, mark_file, remove_file}
+use Rattle.exchange_defs.specs.Files.{root, exists, is_full_directory, set_delete_pending, remove_file}
 
 -- ids of one epoch are the epoch times 2 ^ 32 and a counter from 1
 abbrev pub id_of : ℕ → ℕ → ℕ
@@ -64,7 +64,7 @@ file_has_open s f = is_filled (opens_of s f)
 
 -- the open stands in this session
 abbrev pub is_of_session : Server → ℕ → ℕ → Bool
-is_of_session s o session = s.standing o && is_at session (s.at o)
+is_of_session s o session = s.standing o && is_at session (s.session_of_open o)
 
 abbrev pub with_guid : (ℕ → ℕ → Option ℕ) → ℕ → Option ℕ → Option ℕ → ℕ → ℕ → Option ℕ
 with_guid by client None o = by
@@ -77,11 +77,11 @@ add_open s o row session sequence =
       opens = placed_in o s.opens;
       standing = put s.standing o true;
       opened = put s.opened o row;
-      at = put s.at o session;
+      session_of_open = put s.session_of_open o session;
       sequence = put s.sequence o sequence;
       deadline = put s.deadline o None;
-      listed = put s.listed o None;
-      slots = put s.slots o (λ i. None);
+      enumeration_location = put s.enumeration_location o None;
+      lock_sequences = put s.lock_sequences o (λ i. None);
       by_guid = with_guid s.by_guid row.client row.guid (Some o);
     }
 
@@ -91,7 +91,7 @@ drop_open s o =
     record s {
       opens = without o s.opens;
       standing = put s.standing o false;
-      at = put s.at o None;
+      session_of_open = put s.session_of_open o None;
       deadline = put s.deadline o None;
       by_guid = with_guid s.by_guid (s.opened o).client (s.opened o).guid None;
       ranges = put s.ranges (s.opened o).file (without_owner o (s.ranges (s.opened o).file));
@@ -99,30 +99,30 @@ drop_open s o =
 
 -- ---- files that go with their last open
 
--- marked, without an open, and no directory in which something stands
+-- delete pending, without an open, and no directory in which something stands
 unfoldable pub goes : Server → ℕ → Bool
-goes s f = s.marked f && (not (f == root) && (exists s f && (not (file_has_open s f) && not (is_full_directory s f))))
+goes s f = s.delete_pending f && (not (f == root) && (exists s f && (not (file_has_open s f) && not (is_full_directory s f))))
 
 abbrev pub without_gone : Server → ℕ → Server
 without_gone s f = if goes s f then remove_file s f else s
 
--- an open that deletes on close marks its file where it leaves
-abbrev pub marked_by : Server → ℕ → Server
-marked_by s o = if deletes_on_close (s.opened o).options then mark_file s (s.opened o).file true else s
+-- an open that deletes on close makes its file delete pending where it leaves
+abbrev pub pending_behind : Server → ℕ → Server
+pending_behind s o = if deletes_on_close (s.opened o).options then set_delete_pending s (s.opened o).file true else s
 
 -- the open leaves, and its file with it where it goes
 abbrev pub leave_open : Server → ℕ → Server
-leave_open s o = without_gone (drop_open (marked_by s o) o) (s.opened o).file
+leave_open s o = without_gone (drop_open (pending_behind s o) o) (s.opened o).file
 
 -- its records: that it left, where it is persistent, and what a fold couldn't tell without it
-unfoldable pub mark_records : Server → Origin → ℕ → List Record
-mark_records s origin o = if not (s.opened o).persistent && (deletes_on_close (s.opened o).options && not (s.marked (s.opened o).file)) then DeleteRecord origin (s.opened o).file true ∷ [] else []
+unfoldable pub pending_records : Server → Origin → ℕ → List Record
+pending_records s origin o = if not (s.opened o).persistent && (deletes_on_close (s.opened o).options && not (s.delete_pending (s.opened o).file)) then DeleteRecord origin (s.opened o).file true ∷ [] else []
 
 unfoldable pub shut_records : Server → Origin → ℕ → List Record
-shut_records s origin o = if (s.opened o).persistent then ShutRecord origin o ∷ [] else []
+shut_records s origin o = if (s.opened o).persistent then CloseRecord origin o ∷ [] else []
 
 unfoldable pub gone_records : Server → Origin → ℕ → List Record
 gone_records s origin f = if goes s f then RemoveRecord origin f ∷ [] else []
 
 unfoldable pub leave_records : Server → Origin → ℕ → List Record
-leave_records s origin o = mark_records s origin o ++ (shut_records s origin o ++ gone_records (drop_open (marked_by s o) o) origin (s.opened o).file)
+leave_records s origin o = pending_records s origin o ++ (shut_records s origin o ++ gone_records (drop_open (pending_behind s o) o) origin (s.opened o).file)

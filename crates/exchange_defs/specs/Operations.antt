@@ -26,8 +26,8 @@ pub data Op : Type 0 where
 pub data OpReply : Type 0 where
   IsDone : OpReply
   Action : (action : ℕ) → OpReply
-  Wrote : (count : ℕ) → OpReply
-  Holds : (bytes : List ℕ) → OpReply
+  IsCount : (count : ℕ) → OpReply
+  IsContent : (bytes : List ℕ) → OpReply
   Length : (size : ℕ) → OpReply
   Names : (names : List (List ℕ)) → OpReply
 
@@ -265,11 +265,11 @@ action_in (Created reply) = Some (Action reply.action)
 action_in _ = None
 
 abbrev pub count_in : Body → Option OpReply
-count_in (Count count) = Some (Wrote count)
+count_in (Count count) = Some (IsCount count)
 count_in _ = None
 
 abbrev pub content_in : Body → Option OpReply
-content_in (Content bytes) = Some (Holds bytes)
+content_in (Content bytes) = Some (IsContent bytes)
 content_in _ = None
 
 abbrev pub length_in : Body → Option OpReply

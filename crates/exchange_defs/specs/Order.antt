@@ -36,7 +36,7 @@ pub record Account : Type 0 where
   pub ops : ℕ → ContentOp  -- by operation: what it asks of the bytes
   pub of : ℕ → ℕ  --   its create
   pub settlement : ℕ → Settlement
-  pub by : ℕ → Option ℕ  --   the place of the message whose reply settled it
+  pub settled_by : ℕ → Option ℕ  --   the place of the message whose reply settled it
   pub log : Log
 
 abbrev pub placed : Option ℕ → Option ℕ → Option ℕ
@@ -45,7 +45,7 @@ placed (Some i) by = Some i
 
 -- where an operation acted first, else where the reply that settled it was made
 abbrev pub place : Account → ℕ → Option ℕ
-place a g = placed (a.log.first g) (a.by g)
+place a g = placed (a.log.first g) (a.settled_by g)
 
 abbrev pub is_at : ℕ → Option ℕ → Bool
 is_at n None = false

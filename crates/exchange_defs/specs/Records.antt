@@ -1,7 +1,7 @@
 -- The journal (this project's): how many bytes a record takes, and what fits below the limit.
 use Rattle.std.specs.Prelude.{ℕ, ◌+◌, ◌-◌, ◌*◌, nat_le, Bool, true, List, [], ◌∷◌, length, Option, Some, None}
 use Rattle.exchange_defs.specs.Texts.{utf16_length}
-use Rattle.exchange_defs.specs.State.{Server, Message, Origin, Record, NewOpen, EpochRecord, CreateRecord, WriteRecord, EndRecord, BasicRecord, DeleteRecord, RenameRecord, RemoveRecord, LockRecord, ShutRecord, VersionRecord, ExpireRecord}
+use Rattle.exchange_defs.specs.State.{Server, Message, Origin, Record, NewOpen, EpochRecord, CreateRecord, WriteRecord, EndRecord, BasicRecord, DeleteRecord, RenameRecord, RemoveRecord, LockRecord, CloseRecord, VersionRecord, ExpireRecord}
 
 abbrev pub origin_of : Message → Origin
 origin_of m = record { session = m.session; connection = m.connection; message = m.id }
@@ -25,11 +25,11 @@ record_size (CreateRecord origin action file path attributes is_dir time opened)
 record_size (WriteRecord origin file at time bytes) = 21 + 8 + 8 + 8 + 4 + length bytes
 record_size (EndRecord origin file size time) = 21 + 8 + 8 + 8
 record_size (BasicRecord origin file basic) = 21 + 8 + 32 + 4
-record_size (DeleteRecord origin file marked) = 21 + 8 + 1
+record_size (DeleteRecord origin file delete_pending) = 21 + 8 + 1
 record_size (RenameRecord origin file replaced path) = 21 + 8 + 8 + text_size path
 record_size (RemoveRecord origin file) = 21 + 8
 record_size (LockRecord origin id index number status elements) = 21 + 8 + 1 + 1 + 4 + 2 + 24 * length elements
-record_size (ShutRecord origin id) = 21 + 8
+record_size (CloseRecord origin id) = 21 + 8
 record_size (VersionRecord number) = 5
 record_size (ExpireRecord origin id) = 21 + 8
 

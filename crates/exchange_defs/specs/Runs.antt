@@ -4,7 +4,7 @@ use Rattle.exchange_defs.specs.Table.{is_at}
 use Rattle.exchange_defs.specs.Status.{end_of_file}
 use Rattle.exchange_defs.specs.Content.{ContentReply, Counted, Gives, Done}
 use Rattle.exchange_defs.specs.Order.{Account, Settlement, Unsettled as NotSettled, Settled_ok, Settled_end, Settled_refused, Settled_unknown}
-use Rattle.exchange_defs.specs.Operations.{Op, OpReply, Wrote, Holds, Outcome, Unsettled, WasOk, WasRefused, NoSlot, NoOpen, is_create, is_lock, is_read, create_of, content_op, share_of, is_ok}
+use Rattle.exchange_defs.specs.Operations.{Op, OpReply, IsCount, IsContent, Outcome, Unsettled, WasOk, WasRefused, NoSlot, NoOpen, is_create, is_lock, is_read, create_of, content_op, share_of, is_ok}
 use Rattle.exchange_defs.specs.Opens.{denies_writers}
 use Rattle.exchange_defs.specs.Network.{World, Event, Serve, Crash, Sent, Token, ForOp, answer, happens, may_serve}
 
@@ -53,8 +53,8 @@ alters w n o = w.log.did n && is_at o (w.trace.altered n)
 -- ---- order: what a run leaves, as far as contents go
 
 abbrev pub content_of : OpReply → ContentReply
-content_of (Wrote count) = Counted count
-content_of (Holds bytes) = Gives bytes
+content_of (IsCount count) = Counted count
+content_of (IsContent bytes) = Gives bytes
 content_of _ = Done
 
 abbrev pub settlement : Op → Outcome → Settlement
@@ -69,7 +69,7 @@ account w =
       ops = λ g. content_op (w.client.op g);
       of = λ g. create_of g (w.client.op g);
       settlement = λ g. settlement (w.client.op g) (w.client.outcome g);
-      by = w.client.by;
+      settled_by = w.client.settled_by;
       log = w.log;
     }
 

@@ -22,12 +22,12 @@ abbrev pub cost : Client → ℕ → ℕ
 cost c g = if goes_itself c g then charge (weight (c.op g)) else 1
 
 abbrev pub paid : Client → ℕ → ℕ
-paid c g = if c.asking g then 1 else charge (weight (c.op g))
+paid c g = if c.asks_attach g then 1 else charge (weight (c.op g))
 
 -- what the operations from 1 to n have outstanding on a channel
 unfoldable pub paid_on : Client → ℕ → ℕ → ℕ
 paid_on c k zero = 0
-paid_on c k (suc n) = (if is_at k (c.on (n + 1)) then paid c (n + 1) else 0) + paid_on c k n
+paid_on c k (suc n) = (if is_at k (c.outstanding_on (n + 1)) then paid c (n + 1) else 0) + paid_on c k n
 
 -- the credits that a ready channel's client holds: each request asks for 512, and its reply gives back what it paid
 abbrev pub purse : Client → ℕ → ℕ

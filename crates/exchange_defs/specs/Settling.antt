@@ -45,7 +45,7 @@ refused op asking unanswered status =
     else Settles (Unknown (WithStatus status))
 
 abbrev pub goes_again : Client → ℕ → Bool → ℕ → Bool
-goes_again c g asking status = not asking && (is_change (c.op g) && ((status == file_not_available) && nat_lt (c.seq_of g) c.sequence))
+goes_again c g asking status = not asking && (is_change (c.op g) && ((status == file_not_available) && nat_lt (c.sequence_of g) c.sequence))
 
 -- a reply to an operation, or to the DH2C in its place
 abbrev pub heard : Client → ℕ → Bool → Reply → Heard
@@ -53,7 +53,7 @@ heard c g asking r =
     if r.status == user_session_deleted then EndsSession
     else if r.status == success then (if asking then Attaches else ok_or_unknown (value_in (c.op g) r.body))
     else if goes_again c g asking r.status then GoesAgain
-    else refused (c.op g) asking (c.before g) r.status
+    else refused (c.op g) asking (c.unanswered g) r.status
 
 -- ---- what it does
 
@@ -75,8 +75,8 @@ with_no_opens c create = record c { outcome = λ g. give_up_on c create g }
 -- a create's success opens in this session, and a close's shuts
 abbrev pub noted_ok : Client → ℕ → Body → Client
 noted_ok c g body =
-    if is_create (c.op g) then record c { file = put c.file g (id_in body); attached = put c.attached g c.number }
-    else if is_close (c.op g) then record c { shut = put c.shut (create_for c g) true }
+    if is_create (c.op g) then record c { file = put c.file g (id_in body); attached = put c.attached g c.session_number }
+    else if is_close (c.op g) then record c { closed_ok = put c.closed_ok (create_for c g) true }
     else c
 
 abbrev pub noted : Client → ℕ → Outcome → Body → Client
@@ -88,7 +88,7 @@ abbrev pub noted_full : Client → ℕ → Bool → ℕ → Client
 noted_full c g asking status = if is_lock (c.op g) && (not asking && (status == disk_full)) then record c { full = put2 c.full (create_for c g) (c.slot_of g) true } else c
 
 abbrev pub settled : Client → ℕ → Outcome → ℕ → Client
-settled c g outcome place = record c { outcome = put c.outcome g outcome; on = put c.on g None; by = put c.by g (Some place); order = c.order ++ g ∷ [] }
+settled c g outcome place = record c { outcome = put c.outcome g outcome; outstanding_on = put c.outstanding_on g None; settled_by = put c.settled_by g (Some place); order = c.order ++ g ∷ [] }
 
 abbrev pub settle : Client → ℕ → Bool → Reply → ℕ → Outcome → Client
 settle c g asking r place outcome =
@@ -96,10 +96,10 @@ settle c g asking r place outcome =
     if settles_open (c.op g) then with_no_opens d (create_for c g) else d
 
 abbrev pub answered : Client → ℕ → Client
-answered c g = record c { on = put c.on g None }
+answered c g = record c { outstanding_on = put c.outstanding_on g None }
 
 abbrev pub joined : Client → ℕ → Client
-joined c g = record c { on = put c.on g None; attached = put c.attached (create_for c g) c.number }
+joined c g = record c { outstanding_on = put c.outstanding_on g None; attached = put c.attached (create_for c g) c.session_number }
 
 abbrev pub hear : Client → ℕ → Bool → Reply → ℕ → Heard → Client
 hear c g asking r place (Settles outcome) = settle c g asking r place outcome
@@ -109,4 +109,4 @@ hear c g asking r place EndsSession = end_session (answered c g)
 
 -- what is outstanding there is this copy, or this DH2C
 abbrev pub is_awaited : Client → ℕ → ℕ → Bool → Bool
-is_awaited c k g asking = is_at k (c.on g) && (if c.asking g then asking else not asking)
+is_awaited c k g asking = is_at k (c.outstanding_on g) && (if c.asks_attach g then asking else not asking)

@@ -62,7 +62,7 @@ pub record Server : Type 0 where
   -- the configuration
   pub share : List ℕ
   pub room : ℕ
-  pub seals : Bool
+  pub encrypts : Bool
   pub address : Address
   -- what bounds ids and the journal
   pub version : ℕ
@@ -72,32 +72,32 @@ pub record Server : Type 0 where
   pub entries : List Entry  -- in ascending order of numbers, without the root
   pub next_file : ℕ
   pub directory : ℕ → Bool
-  pub marked : ℕ → Bool  -- for deletion
+  pub delete_pending : ℕ → Bool  -- for deletion
   pub basic : ℕ → Basic
   pub content : ℕ → List ℕ
   pub ranges : ℕ → List Range
   -- opens, by id
   pub opens : List ℕ  -- those that stand, in ascending order
   pub standing : ℕ → Bool
-  pub given : ℕ  -- how many ids were given in this epoch
+  pub open_ids_given : ℕ  -- how many ids were given in this epoch
   pub opened : ℕ → Open
-  pub at : ℕ → Option ℕ  -- the session to which an open is attached
+  pub session_of_open : ℕ → Option ℕ  -- the session to which an open is attached
   pub sequence : ℕ → ℕ
   pub deadline : ℕ → Option ℕ
-  pub listed : ℕ → Option (List ℕ)  -- the last name that its listing gave
-  pub slots : ℕ → ℕ → Option Kept  -- and by slot, 1 to 64
+  pub enumeration_location : ℕ → Option (List ℕ)  -- the last name that its listing gave
+  pub lock_sequences : ℕ → ℕ → Option Kept  -- and by slot, 1 to 64
   pub by_guid : ℕ → ℕ → Option ℕ  -- by ClientGuid and CreateGuid: the open that stands
-  pub marks : ℕ → ℕ → Bool  -- by the same: an open of it expired
-  pub mark_count : ℕ
+  pub expired_guids : ℕ → ℕ → Bool  -- by the same: an open of it expired
+  pub expired_count : ℕ
   -- sessions, by id
   pub present : ℕ → Bool
   pub sessions : ℕ  -- how many are live
-  pub begun : ℕ  -- how many ids were given in this epoch
+  pub session_ids_given : ℕ  -- how many ids were given in this epoch
   pub user : ℕ → List ℕ
   pub client : ℕ → ℕ
   pub cipher : ℕ → ℕ
   pub signing : ℕ → ℕ
-  pub drawn : ℕ → ℕ  -- channel numbers
+  pub channel_numbers_drawn : ℕ → ℕ  -- channel numbers
   pub trees : ℕ → List Tree
   pub next_tree : ℕ → ℕ
   pub closed : ℕ → ℕ → Bool  -- by session and CreateGuid: an open of it was closed
@@ -105,7 +105,7 @@ pub record Server : Type 0 where
   pub guids : ℕ → ℕ  -- how many CreateGuids the session keeps
   -- connections, by number
   pub connections : List ℕ
-  pub on : ℕ → Option ℕ  -- the live session that has a channel there
+  pub session_on : ℕ → Option ℕ  -- the live session that has a channel there
   pub making : ℕ → Option Making
 
 -- ---- what it hears
@@ -134,7 +134,7 @@ pub record Info : Type 0 where
   pub file : ℕ
   pub is_directory : Bool
   pub size : ℕ
-  pub is_marked : Bool
+  pub is_delete_pending : Bool
   pub times : Basic
 
 pub record CreateReply : Type 0 where
@@ -191,11 +191,11 @@ pub data Record : Type 0 where
   WriteRecord : (origin : Origin) (file at time : ℕ) (bytes : List ℕ) → Record
   EndRecord : (origin : Origin) (file size time : ℕ) → Record
   BasicRecord : (origin : Origin) (file : ℕ) (basic : Basic) → Record
-  DeleteRecord : (origin : Origin) (file : ℕ) (marked : Bool) → Record
+  DeleteRecord : (origin : Origin) (file : ℕ) (delete_pending : Bool) → Record
   RenameRecord : (origin : Origin) (file replaced : ℕ) (path : List ℕ) → Record
   RemoveRecord : (origin : Origin) (file : ℕ) → Record
   LockRecord : (origin : Origin) (id index number status : ℕ) (elements : List Element) → Record
-  ShutRecord : (origin : Origin) (id : ℕ) → Record
+  CloseRecord : (origin : Origin) (id : ℕ) → Record
   VersionRecord : (number : ℕ) → Record
   ExpireRecord : (origin : Origin) (id : ℕ) → Record
 

@@ -4,19 +4,19 @@ use Rattle.std.specs.Prelude.{ℕ, ◌+◌, nat_le, Bool, true, false, not, ◌&
 use Rattle.exchange_defs.specs.Table.{put, put2, without}
 use Rattle.exchange_defs.specs.Status.{success, insufficient_resources, disk_full}
 use Rattle.exchange_defs.specs.State.{Server, Message, ServerEvent, Accept, Heard, End, Stop, Open, Empty, Record, Origin, ExpireRecord, Answer}
-use Rattle.exchange_defs.specs.Opens.{drop_open, leave_open, marked_by, gone_records}
+use Rattle.exchange_defs.specs.Opens.{drop_open, leave_open, pending_behind, gone_records}
 use Rattle.exchange_defs.specs.CheckCreate.{refused_create}
 use Rattle.exchange_defs.specs.CheckSetup.{count_channels}
 use Rattle.exchange_defs.specs.Check.{check}
 use Rattle.exchange_defs.specs.Records.{origin_at, entry_bytes, fits}
 use Rattle.exchange_defs.specs.Effects.{apply, deadline_behind, end_if_named, records_if_named, acts_if_named}
-use Rattle.exchange_defs.specs.Verdict.{Verdict, Refuse, Give, KeepRefusal, Repeat, Attach, Make, TurnDown, Tell, Show, KeepSlot, PutRanges, Alter, Shut, Challenge, ChallengeBinding, Begin, Join, EndSession, AddTree, DropTree}
+use Rattle.exchange_defs.specs.Verdict.{Verdict, Refuse, Give, KeepRefusal, Repeat, Attach, Make, TurnDown, Tell, Show, KeepSlot, PutRanges, Alter, CloseOpen, Challenge, ChallengeBinding, Begin, Join, EndSession, AddTree, DropTree}
 
 abbrev pub max_connections : ℕ
 max_connections = 256
 
-abbrev pub max_marks : ℕ
-max_marks = 65536
+abbrev pub max_expired_guids : ℕ
+max_expired_guids = 65536
 
 -- ---- the ruling on an event: what the checks say of a message, or what becomes of a connection
 
@@ -48,7 +48,7 @@ without_room (Show o last body) = Show o last body
 without_room (KeepSlot o index number status elements) = TurnDown o disk_full
 without_room (PutRanges o index number ranges elements) = TurnDown o disk_full
 without_room (Alter o change body) = TurnDown o disk_full
-without_room (Shut o body) = TurnDown o disk_full
+without_room (CloseOpen o body) = TurnDown o disk_full
 without_room Challenge = Challenge
 without_room (ChallengeBinding session) = ChallengeBinding session
 without_room (Begin session user previous r is_quiet) = Begin session user previous r true
@@ -69,13 +69,13 @@ ruling_without_room (TakesAllOut is_quiet) = TakesAllOut true
 -- the session that has its last channel on this connection
 abbrev pub last_session : Server → ℕ → Option ℕ → Option ℕ
 last_session s k None = None
-last_session s k (Some session) = if nat_le (count_channels s.on s.connections session) 1 then Some session else None
+last_session s k (Some session) = if nat_le (count_channels s.session_on s.connections session) 1 then Some session else None
 
 abbrev pub ends_with : Server → ℕ → Option ℕ
-ends_with s k = last_session s k (s.on k)
+ends_with s k = last_session s k (s.session_on k)
 
 abbrev pub forget_connection : Server → ℕ → Server
-forget_connection s k = record s { connections = without k s.connections; on = put s.on k None; making = put s.making k None }
+forget_connection s k = record s { connections = without k s.connections; session_on = put s.session_on k None; making = put s.making k None }
 
 abbrev pub take_out : Server → ℕ → ℕ → Bool → Server
 take_out s k now is_quiet = forget_connection (end_if_named s now (ends_with s k) is_quiet) k
@@ -122,7 +122,7 @@ abbrev pub first_deadline : ℕ → Bool → Option ℕ → Open → Option ℕ 
 first_deadline now stands at row deadline = if stands && (not (is_some at) && not (is_some deadline)) then Some (deadline_behind now row.timeout) else deadline
 
 abbrev pub with_deadlines : Server → ℕ → Server
-with_deadlines s now = record s { deadline = λ o. first_deadline now (s.standing o) (s.at o) (s.opened o) (s.deadline o) }
+with_deadlines s now = record s { deadline = λ o. first_deadline now (s.standing o) (s.session_of_open o) (s.opened o) (s.deadline o) }
 
 abbrev pub is_past : ℕ → Option ℕ → Bool
 is_past now None = false
@@ -136,16 +136,16 @@ due_in deadline (o ∷ os) now = if is_past now (deadline o) then Some o else du
 abbrev pub due : Server → ℕ → Option ℕ
 due s now = due_in s.deadline s.opens now
 
-abbrev pub add_mark : Server → ℕ → Option ℕ → Server
-add_mark s client None = s
-add_mark s client (Some g) = record s { marks = put2 s.marks client g true; mark_count = s.mark_count + 1 }
+abbrev pub add_expired_guid : Server → ℕ → Option ℕ → Server
+add_expired_guid s client None = s
+add_expired_guid s client (Some g) = record s { expired_guids = put2 s.expired_guids client g true; expired_count = s.expired_count + 1 }
 
--- it leaves, with its file where that goes, and its guid is marked
+-- it leaves, with its file where that goes, and its guids are kept as expired
 abbrev pub expire : Server → ℕ → Server
-expire s o = add_mark (leave_open s o) (s.opened o).client (s.opened o).guid
+expire s o = add_expired_guid (leave_open s o) (s.opened o).client (s.opened o).guid
 
 unfoldable pub expire_records : Server → Origin → ℕ → List Record
-expire_records s origin o = ExpireRecord origin o ∷ gone_records (drop_open (marked_by s o) o) origin (s.opened o).file
+expire_records s origin o = ExpireRecord origin o ∷ gone_records (drop_open (pending_behind s o) o) origin (s.opened o).file
 
 abbrev pub connection_of : ServerEvent → ℕ
 connection_of (Accept k) = k
@@ -160,7 +160,7 @@ behind_expiry s now e front A = if fits s (front ++ A.records) then record A { r
 abbrev pub expiring : Server → ℕ → ServerEvent → Option ℕ → Answer
 expiring s now e None = table s now e
 expiring s now e (Some o) =
-    if nat_le max_marks s.mark_count then table s now e
+    if nat_le max_expired_guids s.expired_count then table s now e
     else behind_expiry s now e (expire_records s (origin_at (connection_of e)) o) (carried_out (expire s o) now (ruling (expire s o) e))
 
 -- ---- the event: its records stand in one body before its reply

@@ -8,7 +8,7 @@ pub data Change : Type 0 where
   PutBytes : (at : ℕ) (bytes : List ℕ) → Change
   PutEnd : (size : ℕ) → Change
   PutBasic : (basic : Basic) → Change
-  PutMark : (marked : Bool) → Change
+  PutDeletePending : (delete_pending : Bool) → Change
   PutPath : (replaced : Option ℕ) (path : List ℕ) → Change
   PutNothing : Change  -- no bytes, or an allocation that cuts nothing
 
@@ -28,7 +28,7 @@ pub data Verdict : Type 0 where
   KeepSlot : (o index number status : ℕ) (elements : List Element) → Verdict
   PutRanges : (o index number : ℕ) (ranges : List Range) (elements : List Element) → Verdict
   Alter : (o : ℕ) (change : Change) (body : Body) → Verdict
-  Shut : (o : ℕ) (body : Body) → Verdict
+  CloseOpen : (o : ℕ) (body : Body) → Verdict
   -- sessions and trees
   Challenge : Verdict  -- a new session id is given
   ChallengeBinding : (session : ℕ) → Verdict

@@ -10,7 +10,8 @@ pub struct Range {
     pub exclusive: bool,
 }
 
-/// What a lock slot keeps: the number of the last request and the status of its answer (MS-SMB2 3.3.5.14).
+/// What one place of Open.LockSequenceArray keeps: the LockSequenceNumber of the last request and the status of its answer
+/// (MS-SMB2 3.3.1.10, 3.3.5.14).
 #[derive(Clone, Copy, Debug, PartialEq, Eq, Drop)]
 pub struct Kept {
     pub number: u8,

@@ -14,7 +14,7 @@ somebody logon = record { guid = 7; salt = 3; logon = logon; share = 100 ∷ [];
 
 -- a share with so much room
 abbrev pub settings : ℕ → Settings
-settings room = record { who = somebody (Logon (117 ∷ [])); share = 100 ∷ []; room = room; seals = true; address = record { ip = 2130706433; port = 445 } }
+settings room = record { who = somebody (Logon (117 ∷ [])); share = 100 ∷ []; room = room; encrypts = true; address = record { ip = 2130706433; port = 445 } }
 
 abbrev pub beginning : ℕ → Course
 beginning room = record { world = start (settings room); events = [] }
@@ -309,7 +309,7 @@ open_before_expiry =
     Links 0 ∷ submit 1 (OpCreate (97 ∷ []) 0x183 0 2 true false) ∷ Pushes 0 ∷ Does (Serve 0) ∷ Does (Take 0) ∷ submit 2 (OpWrite 1 0 (97 ∷ [])) ∷
     Pushes 0 ∷ Does (Serve 0) ∷ Does (Cut 0) ∷ Does (Drop 0) ∷ Does (Wait 59000) ∷ submit 3 (OpCreate (97 ∷ []) 0x183 0 1 false false) ∷ Settles ∷ []
 
--- A create whose reply is lost expires: its retry finds the mark, so it is unknown.
+-- A create whose reply is lost expires: its retry finds its guid expired, so it is unknown.
 abbrev pub expired_create : List Line
 expired_create =
     Links 0 ∷ submit 1 (OpCreate (97 ∷ []) 0x183 0 2 true false) ∷ Pushes 0 ∷ Does (Serve 0) ∷ Does (Cut 0) ∷ Does (Drop 0) ∷ Does (Wait 60001) ∷
@@ -338,7 +338,7 @@ listed_names =
     submit 1 (OpCreate (100 ∷ []) 0x183 0 2 false true) ∷ submit 2 (OpCreate (100 ∷ 92 ∷ 98 ∷ []) 0x183 0 2 false false) ∷
     submit 3 (OpCreate (100 ∷ 92 ∷ 97 ∷ []) 0x183 0 2 false false) ∷ submit 4 (OpList 1) ∷ Settles ∷ []
 
--- A file is renamed, stamped and marked, and goes with its last open.
+-- A file is renamed, stamped and made delete pending, and goes with its last open.
 abbrev pub renamed_and_removed : List Line
 renamed_and_removed =
     submit 1 (OpCreate (97 ∷ []) 0x10183 0 2 false false) ∷ submit 2 (OpWrite 1 0 (97 ∷ 98 ∷ [])) ∷ submit 3 (OpRename 1 (98 ∷ [])) ∷
@@ -491,7 +491,7 @@ listing_asks =
 
 -- the operation has a request on its way
 abbrev pub is_out_behind : List Line → ℕ → Bool
-is_out_behind script g = is_some ((course 1 script (beginning 268435456)).world.client.on g)
+is_out_behind script g = is_some ((course 1 script (beginning 268435456)).world.client.outstanding_on g)
 
 -- the credits that channel 0 holds behind a script
 abbrev pub purse_behind : List Line → ℕ
@@ -503,7 +503,7 @@ moment_behind script = (course 1 script (beginning 268435456)).world.moment
 
 -- the world behind a first link, of a client that has had so many sessions
 abbrev pub counted : ℕ → Course → Course
-counted number c = record c { world = record c.world { client = record c.world.client { number = number } } }
+counted number c = record c { world = record c.world { client = record c.world.client { session_number = number } } }
 
 abbrev pub linked_at : ℕ → World
 linked_at number = (course 1 (Links 0 ∷ []) (counted number (beginning 268435456))).world

@@ -72,7 +72,7 @@ second_open = 4294967298
 
 -- the first file or directory of the share, made at this moment
 abbrev pub made_info : Bool → ℕ → Info
-made_info is_dir now = record { file = 1; is_directory = is_dir; size = 0; is_marked = false; times = record { created = now; accessed = now; written = now; changed = now; attributes = 0 } }
+made_info is_dir now = record { file = 1; is_directory = is_dir; size = 0; is_delete_pending = false; times = record { created = now; accessed = now; written = now; changed = now; attributes = 0 } }
 
 -- ---- a second session, of id 4294967298 with tree 1, on connection 1
 
@@ -95,18 +95,18 @@ abbrev pub reconnect : ℕ → ℕ → Command
 reconnect file guid =
     Create (record { path = 97 ∷ []; access = 0x183; share = 0; attributes = 0; disposition = 1; options = 0x40; durable = None; reconnect = Some (record { file = file; guid = guid }); maximal = false; disk_id = false })
 
--- ---- a server whose journal holds no further record, and one that holds all marks
+-- ---- a server whose journal holds no further record, and one that keeps as many expired guids as it may
 
 abbrev pub with_full_journal : Server → Server
 with_full_journal s = record s { journal = lower_limit }
 
-abbrev pub with_all_marks : Server → Server
-with_all_marks s = record s { mark_count = 65536 }
+abbrev pub with_all_expired_guids : Server → Server
+with_all_expired_guids s = record s { expired_count = 65536 }
 
 -- ---- a server that starts on a disk with these records
 
 abbrev pub on_disk : List Record → Server
-on_disk records = recovered (record { share = 100 ∷ []; room = 268435456; seals = true; address = record { ip = 2130706433; port = 445 } }) 100 records
+on_disk records = recovered (record { share = 100 ∷ []; room = 268435456; encrypts = true; address = record { ip = 2130706433; port = 445 } }) 100 records
 
 abbrev pub epoch_on : List Record → ℕ
 epoch_on records = (on_disk records).epoch
@@ -159,7 +159,7 @@ same_ranges (r ∷ rs) (q ∷ qs) = same_range r q && same_ranges rs qs
 abbrev pub same_file : Server → Server → ℕ → Bool
 same_file s t f =
     same_bytes (s.content f) (t.content f)
-    && (same_basic (s.basic f) (t.basic f) && (same_flag (s.marked f) (t.marked f) && (same_flag (s.directory f) (t.directory f) && same_ranges (s.ranges f) (t.ranges f))))
+    && (same_basic (s.basic f) (t.basic f) && (same_flag (s.delete_pending f) (t.delete_pending f) && (same_flag (s.directory f) (t.directory f) && same_ranges (s.ranges f) (t.ranges f))))
 
 abbrev pub same_files : Server → Server → List Entry → Bool
 same_files s t [] = true
@@ -179,7 +179,7 @@ same_row p q =
 abbrev pub same_kept : Server → Server → ℕ → ℕ → Bool
 same_kept s t o zero = true
 same_kept s t o (suc i) =
-    elim (s.slots o (i + 1)) [ None ↦ elim (t.slots o (i + 1)) [ None ↦ same_kept s t o i | Some k ↦ false ] | Some j ↦ elim (t.slots o (i + 1)) [ None ↦ false | Some k ↦ (j.number == k.number) && ((j.status == k.status) && same_kept s t o i) ] ]
+    elim (s.lock_sequences o (i + 1)) [ None ↦ elim (t.lock_sequences o (i + 1)) [ None ↦ same_kept s t o i | Some k ↦ false ] | Some j ↦ elim (t.lock_sequences o (i + 1)) [ None ↦ false | Some k ↦ (j.number == k.number) && ((j.status == k.status) && same_kept s t o i) ] ]
 
 abbrev pub same_opens : Server → Server → List ℕ → Bool
 same_opens s t [] = true
@@ -191,7 +191,7 @@ same_durable s t =
     && ((s.epoch == t.epoch)
     && ((s.next_file == t.next_file)
     && (same_paths s.entries t.entries
-    && (same_files s t s.entries && (same_bytes s.opens t.opens && (same_opens s t s.opens && (s.mark_count == t.mark_count)))))))
+    && (same_files s t s.entries && (same_bytes s.opens t.opens && (same_opens s t s.opens && (s.expired_count == t.expired_count)))))))
 
 abbrev pub journal_stands : World → Bool
 journal_stands w = same_durable (durable (fold w.records)) (durable w.server)

@@ -1,11 +1,11 @@
 //! Worked examples of the exchange model, computed: scripts of one client and one server, how each operation settles,
 //! the order of each open that denies writers, the files that stay, and what single steps answer.
-#![tactic(auto, unfolding(exchange_defs::specs::CheckCreate::found_names, exchange_defs::specs::CheckCreate::missing_names, exchange_defs::specs::CheckCreate::names_of_found, exchange_defs::specs::CheckCreate::names, exchange_defs::specs::CheckCreate::is_counted_out, exchange_defs::specs::CheckOpen::open_below, exchange_defs::specs::CheckOpen::target_refused, exchange_defs::specs::CheckOpen::rename_names, exchange_defs::specs::CheckOpen::delete_names, exchange_defs::specs::CheckOpen::listing_of, exchange_defs::specs::CheckSetup::count_channels, exchange_defs::specs::Client::waits, exchange_defs::specs::Client::has_free, exchange_defs::specs::Client::settle_no_slots, exchange_defs::specs::Commands::has_bit, exchange_defs::specs::Commands::deletes_on_close, exchange_defs::specs::Commands::path_form, exchange_defs::specs::Content::padded, exchange_defs::specs::Content::is_empty, exchange_defs::specs::Content::written, exchange_defs::specs::Content::ended, exchange_defs::specs::Content::effect, exchange_defs::specs::Content::value, exchange_defs::specs::Content::past_end, exchange_defs::specs::Content::is_change, exchange_defs::specs::Content::touches, exchange_defs::specs::Content::is_listed, exchange_defs::specs::Content::meets, exchange_defs::specs::Content::collides, exchange_defs::specs::Content::same_bytes, exchange_defs::specs::Effects::timeout_of, exchange_defs::specs::Effects::new_open, exchange_defs::specs::Effects::create_records, exchange_defs::specs::Effects::lock_records, exchange_defs::specs::Effects::change_records, exchange_defs::specs::Effects::is_touched_at, exchange_defs::specs::Effects::plain_in, exchange_defs::specs::Effects::leave_all, exchange_defs::specs::Effects::staying_in, exchange_defs::specs::Effects::ranges_staying, exchange_defs::specs::Effects::leave_all_records, exchange_defs::specs::Effects::end_records, exchange_defs::specs::Effects::without_tree, exchange_defs::specs::Files::find_in, exchange_defs::specs::Files::find, exchange_defs::specs::Files::path_in, exchange_defs::specs::Files::path_of, exchange_defs::specs::Files::exists_in, exchange_defs::specs::Files::exists, exchange_defs::specs::Files::is_directory, exchange_defs::specs::Files::is_found_directory, exchange_defs::specs::Files::has_parent, exchange_defs::specs::Files::has_below, exchange_defs::specs::Files::is_full_directory, exchange_defs::specs::Files::info_of, exchange_defs::specs::Files::sizes, exchange_defs::specs::Files::used, exchange_defs::specs::Files::passes_room, exchange_defs::specs::Files::times_at, exchange_defs::specs::Files::touched, exchange_defs::specs::Files::set_time, exchange_defs::specs::Files::set_basic, exchange_defs::specs::Files::emptied_basic, exchange_defs::specs::Files::without_file, exchange_defs::specs::Files::path_behind, exchange_defs::specs::Files::moved_path, exchange_defs::specs::Files::moved_entry, exchange_defs::specs::Files::moved_entries, exchange_defs::specs::Files::without_target, exchange_defs::specs::Files::same_basic, exchange_defs::specs::Files::allocated, exchange_defs::specs::Fold::sweep, exchange_defs::specs::Fold::may_make, exchange_defs::specs::Fold::may_restore, exchange_defs::specs::Fold::may_have_open, exchange_defs::specs::Fold::may_create, exchange_defs::specs::Fold::is_file, exchange_defs::specs::Fold::same_target, exchange_defs::specs::Fold::may_replace, exchange_defs::specs::Fold::may_rename, exchange_defs::specs::Fold::may_remove, exchange_defs::specs::Fold::fold_from, exchange_defs::specs::Fold::persistent_in, exchange_defs::specs::Fold::ranges_that_stay, exchange_defs::specs::Listing::any_tail, exchange_defs::specs::Listing::after_character, exchange_defs::specs::Listing::one_character, exchange_defs::specs::Listing::one_byte, exchange_defs::specs::Listing::matches, exchange_defs::specs::Listing::accepts, exchange_defs::specs::Listing::rank, exchange_defs::specs::Listing::listed_before, exchange_defs::specs::Listing::insert_named, exchange_defs::specs::Listing::children, exchange_defs::specs::Listing::parent_file, exchange_defs::specs::Listing::all_named, exchange_defs::specs::Listing::is_behind, exchange_defs::specs::Listing::wanted, exchange_defs::specs::Listing::entry_part, exchange_defs::specs::Listing::entry_size, exchange_defs::specs::Listing::next_multiple, exchange_defs::specs::Listing::fitting, exchange_defs::specs::Listing::first_of_them, exchange_defs::specs::Listing::one_or_all, exchange_defs::specs::Listing::last_name, exchange_defs::specs::Listing::file_info_size, exchange_defs::specs::Listing::volume_info_size, exchange_defs::specs::Network::run, exchange_defs::specs::Opens::bits_if, exchange_defs::specs::Opens::mapped, exchange_defs::specs::Opens::reads, exchange_defs::specs::Opens::writes, exchange_defs::specs::Opens::deletes, exchange_defs::specs::Opens::is_shared, exchange_defs::specs::Opens::denies_writers, exchange_defs::specs::Opens::opens_in, exchange_defs::specs::Opens::admits, exchange_defs::specs::Opens::file_has_open, exchange_defs::specs::Opens::goes, exchange_defs::specs::Opens::mark_records, exchange_defs::specs::Opens::shut_records, exchange_defs::specs::Opens::gone_records, exchange_defs::specs::Opens::leave_records, exchange_defs::specs::Operations::names_in, exchange_defs::specs::Operations::are_below, exchange_defs::specs::Operations::is_text, exchange_defs::specs::Operations::is_spelled_path, exchange_defs::specs::Texts::is_utf8, exchange_defs::specs::Texts::chars, exchange_defs::specs::Order::order_from, exchange_defs::specs::Order::Replays, exchange_defs::specs::Order::count, exchange_defs::specs::Order::precedes, exchange_defs::specs::Ranges::overlaps, exchange_defs::specs::Ranges::is_denied, exchange_defs::specs::Ranges::any_wraps, exchange_defs::specs::Ranges::count_owned, exchange_defs::specs::Ranges::add_ranges, exchange_defs::specs::Ranges::prepended, exchange_defs::specs::Ranges::take_range, exchange_defs::specs::Ranges::take_ranges, exchange_defs::specs::Ranges::stands_or, exchange_defs::specs::Ranges::lock_ranges, exchange_defs::specs::Ranges::unlock_ranges, exchange_defs::specs::Ranges::change_ranges, exchange_defs::specs::Ranges::without_owner, exchange_defs::specs::Ranges::may_read, exchange_defs::specs::Ranges::may_write, exchange_defs::specs::Records::text_size, exchange_defs::specs::Records::opened_size, exchange_defs::specs::Records::record_size, exchange_defs::specs::Records::records_size, exchange_defs::specs::Records::entry_bytes, exchange_defs::specs::Records::fits, exchange_defs::specs::Runs::acts, exchange_defs::specs::Schedules::least_free, exchange_defs::specs::Schedules::paid_on, exchange_defs::specs::Schedules::choose, exchange_defs::specs::Schedules::went, exchange_defs::specs::Schedules::went_push, exchange_defs::specs::Schedules::both_open, exchange_defs::specs::Schedules::is_linking, exchange_defs::specs::Schedules::linking, exchange_defs::specs::Schedules::link, exchange_defs::specs::Schedules::serve_all, exchange_defs::specs::Schedules::take_all, exchange_defs::specs::Schedules::served_all, exchange_defs::specs::Schedules::taken_all, exchange_defs::specs::Schedules::has_more, exchange_defs::specs::Schedules::drain, exchange_defs::specs::Schedules::is_talking, exchange_defs::specs::Schedules::hangs, exchange_defs::specs::Schedules::is_orphan, exchange_defs::specs::Schedules::went_if, exchange_defs::specs::Schedules::last_refusal, exchange_defs::specs::Schedules::finished_by, exchange_defs::specs::Schedules::finished_after, exchange_defs::specs::Schedules::drain_and_cut, exchange_defs::specs::Schedules::each, exchange_defs::specs::Schedules::drop_orphan, exchange_defs::specs::Schedules::tidy, exchange_defs::specs::Schedules::least, exchange_defs::specs::Schedules::is_apart, exchange_defs::specs::ClientStep::some_unsettled, exchange_defs::specs::Schedules::linked, exchange_defs::specs::Schedules::pushed_round, exchange_defs::specs::Schedules::ready_round, exchange_defs::specs::Schedules::rounds, exchange_defs::specs::Schedules::settle_below, exchange_defs::specs::Schedules::go, exchange_defs::specs::Schedules::course, exchange_defs::specs::Step::take_all_out, exchange_defs::specs::Step::take_all_records, exchange_defs::specs::Step::take_all_acts, exchange_defs::specs::Step::due_in, exchange_defs::specs::Step::expire_records, exchange_defs::specs::Table::is_filled, exchange_defs::specs::Texts::upper, exchange_defs::specs::Texts::same_name, exchange_defs::specs::Texts::name_before, exchange_defs::specs::Texts::units_of, exchange_defs::specs::Texts::utf16_length, exchange_defs::specs::Texts::parent_from, exchange_defs::specs::Texts::parent_of, exchange_defs::specs::Texts::leaf_from, exchange_defs::specs::Texts::leaf_of, exchange_defs::specs::Texts::after_name, exchange_defs::specs::Texts::begins_below, exchange_defs::specs::Texts::is_below, exchange_defs::specs::Texts::is_plain, exchange_defs::specs::Texts::is_component, exchange_defs::specs::Texts::components_from, exchange_defs::specs::Texts::is_path, exchange_defs::specs::Texts::begins_with_backslash))]
+#![tactic(auto, unfolding(exchange_defs::specs::CheckCreate::found_names, exchange_defs::specs::CheckCreate::missing_names, exchange_defs::specs::CheckCreate::names_of_found, exchange_defs::specs::CheckCreate::names, exchange_defs::specs::CheckCreate::is_counted_out, exchange_defs::specs::CheckOpen::open_below, exchange_defs::specs::CheckOpen::target_refused, exchange_defs::specs::CheckOpen::rename_names, exchange_defs::specs::CheckOpen::delete_names, exchange_defs::specs::CheckOpen::listing_of, exchange_defs::specs::CheckSetup::count_channels, exchange_defs::specs::Client::waits, exchange_defs::specs::Client::has_free, exchange_defs::specs::Client::settle_no_slots, exchange_defs::specs::Commands::has_bit, exchange_defs::specs::Commands::deletes_on_close, exchange_defs::specs::Commands::path_form, exchange_defs::specs::Content::padded, exchange_defs::specs::Content::is_empty, exchange_defs::specs::Content::written, exchange_defs::specs::Content::ended, exchange_defs::specs::Content::effect, exchange_defs::specs::Content::value, exchange_defs::specs::Content::past_end, exchange_defs::specs::Content::is_change, exchange_defs::specs::Content::touches, exchange_defs::specs::Content::is_listed, exchange_defs::specs::Content::meets, exchange_defs::specs::Content::collides, exchange_defs::specs::Content::same_bytes, exchange_defs::specs::Effects::timeout_of, exchange_defs::specs::Effects::new_open, exchange_defs::specs::Effects::create_records, exchange_defs::specs::Effects::lock_records, exchange_defs::specs::Effects::change_records, exchange_defs::specs::Effects::is_touched_at, exchange_defs::specs::Effects::plain_in, exchange_defs::specs::Effects::leave_all, exchange_defs::specs::Effects::staying_in, exchange_defs::specs::Effects::ranges_staying, exchange_defs::specs::Effects::leave_all_records, exchange_defs::specs::Effects::end_records, exchange_defs::specs::Effects::without_tree, exchange_defs::specs::Files::find_in, exchange_defs::specs::Files::find, exchange_defs::specs::Files::path_in, exchange_defs::specs::Files::path_of, exchange_defs::specs::Files::exists_in, exchange_defs::specs::Files::exists, exchange_defs::specs::Files::is_directory, exchange_defs::specs::Files::is_found_directory, exchange_defs::specs::Files::has_parent, exchange_defs::specs::Files::has_below, exchange_defs::specs::Files::is_full_directory, exchange_defs::specs::Files::info_of, exchange_defs::specs::Files::sizes, exchange_defs::specs::Files::used, exchange_defs::specs::Files::passes_room, exchange_defs::specs::Files::times_at, exchange_defs::specs::Files::touched, exchange_defs::specs::Files::set_time, exchange_defs::specs::Files::set_basic, exchange_defs::specs::Files::emptied_basic, exchange_defs::specs::Files::without_file, exchange_defs::specs::Files::path_behind, exchange_defs::specs::Files::moved_path, exchange_defs::specs::Files::moved_entry, exchange_defs::specs::Files::moved_entries, exchange_defs::specs::Files::without_target, exchange_defs::specs::Files::same_basic, exchange_defs::specs::Files::allocated, exchange_defs::specs::Fold::sweep, exchange_defs::specs::Fold::may_make, exchange_defs::specs::Fold::may_restore, exchange_defs::specs::Fold::may_have_open, exchange_defs::specs::Fold::may_create, exchange_defs::specs::Fold::is_file, exchange_defs::specs::Fold::same_target, exchange_defs::specs::Fold::may_replace, exchange_defs::specs::Fold::may_rename, exchange_defs::specs::Fold::may_remove, exchange_defs::specs::Fold::fold_from, exchange_defs::specs::Fold::persistent_in, exchange_defs::specs::Fold::ranges_that_stay, exchange_defs::specs::Listing::any_tail, exchange_defs::specs::Listing::after_character, exchange_defs::specs::Listing::one_character, exchange_defs::specs::Listing::one_byte, exchange_defs::specs::Listing::matches, exchange_defs::specs::Listing::accepts, exchange_defs::specs::Listing::rank, exchange_defs::specs::Listing::listed_before, exchange_defs::specs::Listing::insert_named, exchange_defs::specs::Listing::children, exchange_defs::specs::Listing::parent_file, exchange_defs::specs::Listing::all_named, exchange_defs::specs::Listing::is_behind, exchange_defs::specs::Listing::wanted, exchange_defs::specs::Listing::entry_part, exchange_defs::specs::Listing::entry_size, exchange_defs::specs::Listing::next_multiple, exchange_defs::specs::Listing::fitting, exchange_defs::specs::Listing::first_of_them, exchange_defs::specs::Listing::one_or_all, exchange_defs::specs::Listing::last_name, exchange_defs::specs::Listing::file_info_size, exchange_defs::specs::Listing::volume_info_size, exchange_defs::specs::Network::run, exchange_defs::specs::Opens::bits_if, exchange_defs::specs::Opens::mapped, exchange_defs::specs::Opens::reads, exchange_defs::specs::Opens::writes, exchange_defs::specs::Opens::deletes, exchange_defs::specs::Opens::is_shared, exchange_defs::specs::Opens::denies_writers, exchange_defs::specs::Opens::opens_in, exchange_defs::specs::Opens::admits, exchange_defs::specs::Opens::file_has_open, exchange_defs::specs::Opens::goes, exchange_defs::specs::Opens::pending_records, exchange_defs::specs::Opens::shut_records, exchange_defs::specs::Opens::gone_records, exchange_defs::specs::Opens::leave_records, exchange_defs::specs::Operations::names_in, exchange_defs::specs::Operations::are_below, exchange_defs::specs::Operations::is_text, exchange_defs::specs::Operations::is_spelled_path, exchange_defs::specs::Texts::is_utf8, exchange_defs::specs::Texts::chars, exchange_defs::specs::Order::order_from, exchange_defs::specs::Order::Replays, exchange_defs::specs::Order::count, exchange_defs::specs::Order::precedes, exchange_defs::specs::Ranges::overlaps, exchange_defs::specs::Ranges::is_denied, exchange_defs::specs::Ranges::any_wraps, exchange_defs::specs::Ranges::count_owned, exchange_defs::specs::Ranges::add_ranges, exchange_defs::specs::Ranges::prepended, exchange_defs::specs::Ranges::take_range, exchange_defs::specs::Ranges::take_ranges, exchange_defs::specs::Ranges::stands_or, exchange_defs::specs::Ranges::lock_ranges, exchange_defs::specs::Ranges::unlock_ranges, exchange_defs::specs::Ranges::change_ranges, exchange_defs::specs::Ranges::without_owner, exchange_defs::specs::Ranges::may_read, exchange_defs::specs::Ranges::may_write, exchange_defs::specs::Records::text_size, exchange_defs::specs::Records::opened_size, exchange_defs::specs::Records::record_size, exchange_defs::specs::Records::records_size, exchange_defs::specs::Records::entry_bytes, exchange_defs::specs::Records::fits, exchange_defs::specs::Runs::acts, exchange_defs::specs::Schedules::least_free, exchange_defs::specs::Schedules::paid_on, exchange_defs::specs::Schedules::choose, exchange_defs::specs::Schedules::went, exchange_defs::specs::Schedules::went_push, exchange_defs::specs::Schedules::both_open, exchange_defs::specs::Schedules::is_linking, exchange_defs::specs::Schedules::linking, exchange_defs::specs::Schedules::link, exchange_defs::specs::Schedules::serve_all, exchange_defs::specs::Schedules::take_all, exchange_defs::specs::Schedules::served_all, exchange_defs::specs::Schedules::taken_all, exchange_defs::specs::Schedules::has_more, exchange_defs::specs::Schedules::drain, exchange_defs::specs::Schedules::is_talking, exchange_defs::specs::Schedules::hangs, exchange_defs::specs::Schedules::is_orphan, exchange_defs::specs::Schedules::went_if, exchange_defs::specs::Schedules::last_refusal, exchange_defs::specs::Schedules::finished_by, exchange_defs::specs::Schedules::finished_after, exchange_defs::specs::Schedules::drain_and_cut, exchange_defs::specs::Schedules::each, exchange_defs::specs::Schedules::drop_orphan, exchange_defs::specs::Schedules::tidy, exchange_defs::specs::Schedules::least, exchange_defs::specs::Schedules::is_apart, exchange_defs::specs::ClientStep::some_unsettled, exchange_defs::specs::Schedules::linked, exchange_defs::specs::Schedules::pushed_round, exchange_defs::specs::Schedules::ready_round, exchange_defs::specs::Schedules::rounds, exchange_defs::specs::Schedules::settle_below, exchange_defs::specs::Schedules::go, exchange_defs::specs::Schedules::course, exchange_defs::specs::Step::take_all_out, exchange_defs::specs::Step::take_all_records, exchange_defs::specs::Step::take_all_acts, exchange_defs::specs::Step::due_in, exchange_defs::specs::Step::expire_records, exchange_defs::specs::Table::is_filled, exchange_defs::specs::Texts::upper, exchange_defs::specs::Texts::same_name, exchange_defs::specs::Texts::name_before, exchange_defs::specs::Texts::units_of, exchange_defs::specs::Texts::utf16_length, exchange_defs::specs::Texts::parent_from, exchange_defs::specs::Texts::parent_of, exchange_defs::specs::Texts::leaf_from, exchange_defs::specs::Texts::leaf_of, exchange_defs::specs::Texts::after_name, exchange_defs::specs::Texts::begins_below, exchange_defs::specs::Texts::is_below, exchange_defs::specs::Texts::is_plain, exchange_defs::specs::Texts::is_component, exchange_defs::specs::Texts::components_from, exchange_defs::specs::Texts::is_path, exchange_defs::specs::Texts::begins_with_backslash))]
 
 ghost use Rattle.std.specs.Prelude.{◌≡◌, ℕ, List, [], ◌∷◌, true, false};
-ghost use Rattle.exchange_defs.specs.Operations.{Unsettled, NoSession, HadStatus, OpCreate, OpWrite, OpTime, OpRename, OpRemove, WasOk, WasRefused, NoSlot, NoOpen, Unknown, SessionLost, WithStatus, IsDone, Action, Wrote, Holds, Length, Names};
+ghost use Rattle.exchange_defs.specs.Operations.{Unsettled, NoSession, HadStatus, OpCreate, OpWrite, OpTime, OpRename, OpRemove, WasOk, WasRefused, NoSlot, NoOpen, Unknown, SessionLost, WithStatus, IsDone, Action, IsCount, IsContent, Length, Names};
 ghost use Rattle.std.specs.Prelude.{Some, None};
-ghost use Rattle.exchange_defs.specs.State.{Accept, Heard, End, SetUp, Connected, VolumeInfo, FileInfo, Listing, Interfaces, DeleteRecord, RemoveRecord, ShutRecord, ExpireRecord, VersionRecord, EpochRecord};
+ghost use Rattle.exchange_defs.specs.State.{Accept, Heard, End, SetUp, Connected, VolumeInfo, FileInfo, Listing, Interfaces, DeleteRecord, RemoveRecord, CloseRecord, ExpireRecord, VersionRecord, EpochRecord};
 ghost use Rattle.exchange_defs.specs.Commands.{Begins, Close, Ioctl, ListDirectory, Lock, Logon, QueryFile, QueryVolume, Read, TreeConnect, Write, no_file, path_form, SetInfo, SetEnd, SetDelete};
 ghost use Rattle.exchange_defs.specs.CheckOpen.{is_stale, query_interfaces};
 ghost use Rattle.exchange_defs.specs.CheckSetup.{pipes_name};
@@ -15,7 +15,7 @@ ghost use Rattle.exchange_defs.specs.Effects.{next_open, deadline_behind};
 ghost use Rattle.exchange_defs.specs.Fold.{recovered_from, recovery_records, with_record};
 ghost use Rattle.exchange_defs.specs.Schedules.{course, Does, Links, Pushes, Settles as SettlesAll};
 ghost use Rattle.exchange_defs.specs.Network.{Cut, Drop, Open, Restart, Wait, Finish, start};
-ghost use Rattle.exchange_examples.specs.Servers.{one_session, session, from_client, ask, after_all, status_after, body_after, records_after, files_after, binding, binding_logon, setup, in_second, second_id, make, by_guid, lock_of, made_info, first_open, second_open, with_full_journal, with_all_marks, second_session, ask_second, reconnect, journal_stands, again, on_pipes, with_next_tree, on_disk, epoch_on, version_on, first_version_disk};
+ghost use Rattle.exchange_examples.specs.Servers.{one_session, session, from_client, ask, after_all, status_after, body_after, records_after, files_after, binding, binding_logon, setup, in_second, second_id, make, by_guid, lock_of, made_info, first_open, second_open, with_full_journal, with_all_expired_guids, second_session, ask_second, reconnect, journal_stands, again, on_pipes, with_next_tree, on_disk, epoch_on, version_on, first_version_disk};
 ghost use Rattle.exchange_examples.specs.Laws.{laws_hold};
 ghost use Rattle.exchange_examples.specs.Scripts.{beginning, settings, stranger, worn_out, submit, settled_in, script_ends, note, acted_on, id_told, retried_create, retried_create_until_note, kept_refusal, kept_refusal_until_note, replaced_session, replaced_session_until_note, room_counted_once, room_counted_once_until_note, held_back_write, held_back_write_until_note, held_back_write_until_last, restart_persistent, crash_lost, crash_kept, restart_plain, all_slots_retried, shared_readers, denied_writer, delayed_reconnect, delayed_reconnect_until_note, delayed_reconnect_until_last, expired_open, open_before_expiry, expired_create, first_steps, end_of_file, gaps_are_zeros, listed_names, renamed_and_removed, denied_remover, retry_after_act, retried_close, held_back_end, held_back_end_until_note, refusal_adopts, refusal_adopts_until_note, restart_keeps_locks, restart_keeps_refused_locks, attached_again, plain_open_lost, later_write_waits, retried_overwrite, retried_overwrite_until_note, slot_not_used_again, slot_not_used_again_until_note, retried_rename, retried_rename_until_note, given_up_slots, files_by_bytes, repeated_behind_a_lock, repeated_on_a_directory, moment_behind, linked_at, taken_of, listings_unheard, listings_heard, listing_asks, is_out_behind, purse_behind};
 
@@ -39,7 +39,7 @@ pub fn kept_refusal_example()
 
 /// A new session replaces the old one, and a copy of the old one that waits is script_ends so.
 pub fn replaced_session_example()
-    ensures script_ends { script_ends 2 268435456 replaced_session ≡ record { settled = WasOk (Action 2) ∷ WasOk (Wrote 3) ∷ []; printed = (2 ∷ []) ∷ []; stored = record { path = (97 ∷ []); bytes = (111 ∷ 108 ∷ 100 ∷ []) } ∷ [] } }
+    ensures script_ends { script_ends 2 268435456 replaced_session ≡ record { settled = WasOk (Action 2) ∷ WasOk (IsCount 3) ∷ []; printed = (2 ∷ []) ∷ []; stored = record { path = (97 ∷ []); bytes = (111 ∷ 108 ∷ 100 ∷ []) } ∷ [] } }
     ensures note { note 2 268435456 replaced_session_until_note 0 ≡ record { status = 0xc0000203; acted = false } }
     ensures acts_1 { acted_on 2 268435456 replaced_session 1 ≡ 1 }
     ensures acts_2 { acted_on 2 268435456 replaced_session 2 ≡ 1 }
@@ -47,7 +47,7 @@ pub fn replaced_session_example()
 
 /// A write that fills the room is retried: its bytes are not counted twice, and the next write finds no room.
 pub fn room_counted_once_example()
-    ensures script_ends { script_ends 2 4 room_counted_once ≡ record { settled = WasOk (Action 2) ∷ WasOk (Wrote 4) ∷ WasRefused 0xc000007f ∷ []; printed = (2 ∷ 3 ∷ []) ∷ []; stored = record { path = (97 ∷ []); bytes = (97 ∷ 98 ∷ 99 ∷ 100 ∷ []) } ∷ [] } }
+    ensures script_ends { script_ends 2 4 room_counted_once ≡ record { settled = WasOk (Action 2) ∷ WasOk (IsCount 4) ∷ WasRefused 0xc000007f ∷ []; printed = (2 ∷ 3 ∷ []) ∷ []; stored = record { path = (97 ∷ []); bytes = (97 ∷ 98 ∷ 99 ∷ 100 ∷ []) } ∷ [] } }
     ensures note { note 2 4 room_counted_once_until_note 1 ≡ record { status = 0x00000000; acted = false } }
     ensures acts_2 { acted_on 2 4 room_counted_once 2 ≡ 1 }
     ensures acts_3 { acted_on 2 4 room_counted_once 3 ≡ 0 }
@@ -55,7 +55,7 @@ pub fn room_counted_once_example()
 
 /// A write under an older sequence is held back and goes out again; the delayed copy of the other is held back too.
 pub fn held_back_write_example()
-    ensures script_ends { script_ends 3 268435456 held_back_write ≡ record { settled = WasOk (Action 2) ∷ WasOk (Wrote 1) ∷ WasOk (Wrote 1) ∷ []; printed = (2 ∷ 3 ∷ []) ∷ []; stored = record { path = (97 ∷ []); bytes = (97 ∷ 98 ∷ []) } ∷ [] } }
+    ensures script_ends { script_ends 3 268435456 held_back_write ≡ record { settled = WasOk (Action 2) ∷ WasOk (IsCount 1) ∷ WasOk (IsCount 1) ∷ []; printed = (2 ∷ 3 ∷ []) ∷ []; stored = record { path = (97 ∷ []); bytes = (97 ∷ 98 ∷ []) } ∷ [] } }
     ensures note_1 { note 3 268435456 held_back_write_until_note 2 ≡ record { status = 0xc0000467; acted = false } }
     ensures note_2 { note 3 268435456 held_back_write_until_last 0 ≡ record { status = 0xc0000467; acted = false } }
     ensures acts_2 { acted_on 3 268435456 held_back_write 2 ≡ 1 }
@@ -106,7 +106,7 @@ pub fn denied_writer_example()
 
 /// A delayed request to attach an open lowers no sequence, and an older write behind it is held back.
 pub fn delayed_reconnect_example()
-    ensures script_ends { script_ends 3 268435456 delayed_reconnect ≡ record { settled = WasOk (Action 2) ∷ WasOk (Wrote 1) ∷ WasOk (Wrote 1) ∷ []; printed = (2 ∷ 3 ∷ []) ∷ []; stored = record { path = (97 ∷ []); bytes = (98 ∷ []) } ∷ [] } }
+    ensures script_ends { script_ends 3 268435456 delayed_reconnect ≡ record { settled = WasOk (Action 2) ∷ WasOk (IsCount 1) ∷ WasOk (IsCount 1) ∷ []; printed = (2 ∷ 3 ∷ []) ∷ []; stored = record { path = (97 ∷ []); bytes = (98 ∷ []) } ∷ [] } }
     ensures note_1 { note 3 268435456 delayed_reconnect_until_note 0 ≡ record { status = 0x00000000; acted = false } }
     ensures note_2 { note 3 268435456 delayed_reconnect_until_last 1 ≡ record { status = 0xc0000467; acted = false } }
     ensures acts_1 { acted_on 3 268435456 delayed_reconnect 1 ≡ 1 }
@@ -124,12 +124,12 @@ pub fn expired_open_example()
 
 /// Before its deadline the open stands, is attached again, and denies the other create.
 pub fn open_before_expiry_example()
-    ensures script_ends { script_ends 1 268435456 open_before_expiry ≡ record { settled = WasOk (Action 2) ∷ WasOk (Wrote 1) ∷ WasRefused 0xc0000043 ∷ []; printed = (2 ∷ []) ∷ []; stored = record { path = (97 ∷ []); bytes = (97 ∷ []) } ∷ [] } }
+    ensures script_ends { script_ends 1 268435456 open_before_expiry ≡ record { settled = WasOk (Action 2) ∷ WasOk (IsCount 1) ∷ WasRefused 0xc0000043 ∷ []; printed = (2 ∷ []) ∷ []; stored = record { path = (97 ∷ []); bytes = (97 ∷ []) } ∷ [] } }
     ensures acts_2 { acted_on 1 268435456 open_before_expiry 2 ≡ 1 }
     ensures acts_3 { acted_on 1 268435456 open_before_expiry 3 ≡ 0 }
 {}
 
-/// A create whose reply is lost expires: its retry finds the mark, so it is unknown.
+/// A create whose reply is lost expires: its retry finds its guid expired, so it is unknown.
 pub fn expired_create_example()
     ensures script_ends { script_ends 1 268435456 expired_create ≡ record { settled = Unknown (WithStatus 0xc000022a) ∷ []; printed = []; stored = record { path = (97 ∷ []); bytes = [] } ∷ [] } }
     ensures acts_1 { acted_on 1 268435456 expired_create 1 ≡ 1 }
@@ -137,17 +137,17 @@ pub fn expired_create_example()
 
 /// One connection creates, writes, reads and closes.
 pub fn first_steps_example()
-    ensures { script_ends 1 268435456 first_steps ≡ record { settled = WasOk (Action 2) ∷ WasOk (Wrote 5) ∷ WasOk (Holds (104 ∷ 101 ∷ 108 ∷ 108 ∷ 111 ∷ [])) ∷ WasOk IsDone ∷ []; printed = (2 ∷ 3 ∷ []) ∷ []; stored = record { path = (97 ∷ 46 ∷ 116 ∷ 120 ∷ 116 ∷ []); bytes = (104 ∷ 101 ∷ 108 ∷ 108 ∷ 111 ∷ []) } ∷ [] } }
+    ensures { script_ends 1 268435456 first_steps ≡ record { settled = WasOk (Action 2) ∷ WasOk (IsCount 5) ∷ WasOk (IsContent (104 ∷ 101 ∷ 108 ∷ 108 ∷ 111 ∷ [])) ∷ WasOk IsDone ∷ []; printed = (2 ∷ 3 ∷ []) ∷ []; stored = record { path = (97 ∷ 46 ∷ 116 ∷ 120 ∷ 116 ∷ []); bytes = (104 ∷ 101 ∷ 108 ∷ 108 ∷ 111 ∷ []) } ∷ [] } }
 {}
 
 /// A read of no bytes at the end is a success, and one of a byte is END_OF_FILE.
 pub fn end_of_file_example()
-    ensures { script_ends 1 268435456 end_of_file ≡ record { settled = WasOk (Action 2) ∷ WasOk (Wrote 2) ∷ WasOk (Holds []) ∷ WasRefused 0xc0000011 ∷ []; printed = (2 ∷ 3 ∷ 4 ∷ []) ∷ []; stored = record { path = (97 ∷ []); bytes = (97 ∷ 98 ∷ []) } ∷ [] } }
+    ensures { script_ends 1 268435456 end_of_file ≡ record { settled = WasOk (Action 2) ∷ WasOk (IsCount 2) ∷ WasOk (IsContent []) ∷ WasRefused 0xc0000011 ∷ []; printed = (2 ∷ 3 ∷ 4 ∷ []) ∷ []; stored = record { path = (97 ∷ []); bytes = (97 ∷ 98 ∷ []) } ∷ [] } }
 {}
 
 /// A write behind the end fills the gap with zeros.
 pub fn gaps_are_zeros_example()
-    ensures { script_ends 1 268435456 gaps_are_zeros ≡ record { settled = WasOk (Action 2) ∷ WasOk (Wrote 1) ∷ WasOk (Wrote 1) ∷ []; printed = (2 ∷ 3 ∷ []) ∷ []; stored = record { path = (97 ∷ []); bytes = (0 ∷ 0 ∷ 0 ∷ 122 ∷ 123 ∷ []) } ∷ [] } }
+    ensures { script_ends 1 268435456 gaps_are_zeros ≡ record { settled = WasOk (Action 2) ∷ WasOk (IsCount 1) ∷ WasOk (IsCount 1) ∷ []; printed = (2 ∷ 3 ∷ []) ∷ []; stored = record { path = (97 ∷ []); bytes = (0 ∷ 0 ∷ 0 ∷ 122 ∷ 123 ∷ []) } ∷ [] } }
 {}
 
 /// A directory lists its names in order; files of one path each.
@@ -155,9 +155,9 @@ pub fn listed_names_example()
     ensures { script_ends 1 268435456 listed_names ≡ record { settled = WasOk (Action 2) ∷ WasOk (Action 2) ∷ WasOk (Action 2) ∷ WasOk (Names ((97 ∷ []) ∷ (98 ∷ []) ∷ [])) ∷ []; printed = [] ∷ [] ∷ [] ∷ []; stored = record { path = (100 ∷ 92 ∷ 97 ∷ []); bytes = [] } ∷ record { path = (100 ∷ 92 ∷ 98 ∷ []); bytes = [] } ∷ [] } }
 {}
 
-/// A file is renamed, stamped and marked, and goes with its last open.
+/// A file is renamed, stamped and made delete pending, and goes with its last open.
 pub fn renamed_and_removed_example()
-    ensures { script_ends 1 268435456 renamed_and_removed ≡ record { settled = WasOk (Action 2) ∷ WasOk (Wrote 2) ∷ WasOk IsDone ∷ WasOk (Length 2) ∷ WasOk IsDone ∷ WasOk IsDone ∷ WasOk IsDone ∷ []; printed = (2 ∷ []) ∷ []; stored = [] } }
+    ensures { script_ends 1 268435456 renamed_and_removed ≡ record { settled = WasOk (Action 2) ∷ WasOk (IsCount 2) ∷ WasOk IsDone ∷ WasOk (Length 2) ∷ WasOk IsDone ∷ WasOk IsDone ∷ WasOk IsDone ∷ []; printed = (2 ∷ []) ∷ []; stored = [] } }
 {}
 
 /// An open that shares nothing keeps out who would delete.
@@ -207,7 +207,7 @@ pub fn restart_keeps_refused_locks_example()
 
 /// An open that is attached again has no deadline any more.
 pub fn attached_again_example()
-    ensures script_ends { script_ends 1 268435456 attached_again ≡ record { settled = WasOk (Action 2) ∷ WasOk (Wrote 1) ∷ WasOk (Wrote 1) ∷ []; printed = (2 ∷ 3 ∷ []) ∷ []; stored = record { path = (97 ∷ []); bytes = (98 ∷ []) } ∷ [] } }
+    ensures script_ends { script_ends 1 268435456 attached_again ≡ record { settled = WasOk (Action 2) ∷ WasOk (IsCount 1) ∷ WasOk (IsCount 1) ∷ []; printed = (2 ∷ 3 ∷ []) ∷ []; stored = record { path = (97 ∷ []); bytes = (98 ∷ []) } ∷ [] } }
     ensures acts_2 { acted_on 1 268435456 attached_again 2 ≡ 1 }
     ensures acts_3 { acted_on 1 268435456 attached_again 3 ≡ 1 }
 {}
@@ -220,14 +220,14 @@ pub fn plain_open_lost_example()
 
 /// A write waits for a lower one that overlaps it as long as that is unsettled, though no copy of it is outstanding.
 pub fn later_write_waits_example()
-    ensures script_ends { script_ends 3 268435456 later_write_waits ≡ record { settled = WasOk (Action 2) ∷ WasOk (Wrote 1) ∷ WasOk (Wrote 1) ∷ []; printed = (2 ∷ 3 ∷ []) ∷ []; stored = record { path = (97 ∷ []); bytes = (98 ∷ []) } ∷ [] } }
+    ensures script_ends { script_ends 3 268435456 later_write_waits ≡ record { settled = WasOk (Action 2) ∷ WasOk (IsCount 1) ∷ WasOk (IsCount 1) ∷ []; printed = (2 ∷ 3 ∷ []) ∷ []; stored = record { path = (97 ∷ []); bytes = (98 ∷ []) } ∷ [] } }
     ensures acts_2 { acted_on 3 268435456 later_write_waits 2 ≡ 1 }
     ensures acts_3 { acted_on 3 268435456 later_write_waits 3 ≡ 1 }
 {}
 
 /// A retried write that did not act before is carried out, though it lies within the file.
 pub fn retried_overwrite_example()
-    ensures script_ends { script_ends 2 268435456 retried_overwrite ≡ record { settled = WasOk (Action 2) ∷ WasOk (Wrote 2) ∷ WasOk (Wrote 1) ∷ []; printed = (2 ∷ 3 ∷ []) ∷ []; stored = record { path = (97 ∷ []); bytes = (98 ∷ 97 ∷ []) } ∷ [] } }
+    ensures script_ends { script_ends 2 268435456 retried_overwrite ≡ record { settled = WasOk (Action 2) ∷ WasOk (IsCount 2) ∷ WasOk (IsCount 1) ∷ []; printed = (2 ∷ 3 ∷ []) ∷ []; stored = record { path = (97 ∷ []); bytes = (98 ∷ 97 ∷ []) } ∷ [] } }
     ensures note { note 2 268435456 retried_overwrite_until_note 0 ≡ record { status = 0xc0000467; acted = false } }
     ensures acts_2 { acted_on 2 268435456 retried_overwrite 2 ≡ 1 }
     ensures acts_3 { acted_on 2 268435456 retried_overwrite 3 ≡ 1 }
@@ -265,7 +265,7 @@ pub fn files_by_bytes_example()
 
 /// A write acted and is unheard, a shared lock comes over its range, and its second copy is script_ends that it is done.
 pub fn repeated_behind_a_lock_example()
-    ensures script_ends { script_ends 2 268435456 repeated_behind_a_lock ≡ record { settled = WasOk (Action 2) ∷ WasOk (Wrote 1) ∷ WasOk IsDone ∷ []; printed = (2 ∷ []) ∷ []; stored = record { path = (97 ∷ []); bytes = (97 ∷ []) } ∷ [] } }
+    ensures script_ends { script_ends 2 268435456 repeated_behind_a_lock ≡ record { settled = WasOk (Action 2) ∷ WasOk (IsCount 1) ∷ WasOk IsDone ∷ []; printed = (2 ∷ []) ∷ []; stored = record { path = (97 ∷ []); bytes = (97 ∷ []) } ∷ [] } }
     ensures acts_2 { acted_on 2 268435456 repeated_behind_a_lock 2 ≡ 1 }
 {}
 
@@ -281,8 +281,8 @@ pub fn repeated_on_a_directory_example()
 pub fn repeated_without_access_example()
     ensures end { status_after one_session (ask (make 0x81 7 2 0x40 None) ∷ []) (again (SetInfo first_open (SetEnd 0))) ≡ 0xc000_0022 }
     ensures write { status_after one_session (ask (make 0x81 7 2 0x40 None) ∷ []) (again (Write first_open 0 [] 0)) ≡ 0xc000_0022 }
-    ensures mark { status_after one_session (ask (make 0x81 7 2 0x40 None) ∷ []) (again (SetInfo first_open (SetDelete false))) ≡ 0xc000_0022 }
-    ensures script_ends { status_after one_session (ask (make 0x183 7 2 0x40 None) ∷ []) (again (SetInfo first_open (SetEnd 0))) ≡ 0x0000_0000 }
+    ensures delete_pending { status_after one_session (ask (make 0x81 7 2 0x40 None) ∷ []) (again (SetInfo first_open (SetDelete false))) ≡ 0xc000_0022 }
+    ensures with_access { status_after one_session (ask (make 0x183 7 2 0x40 None) ∷ []) (again (SetInfo first_open (SetEnd 0))) ≡ 0x0000_0000 }
 {}
 
 /// On the pipes' share each CREATE is OBJECT_NAME_NOT_FOUND, whatever it carries, and nothing is kept or counted of it.
@@ -344,7 +344,7 @@ pub fn emptying_asks_for_writing_example()
     ensures superseded { status_after one_session (ask (make 0x81 1 2 0x40 None) ∷ []) (ask (make 0x81 1 0 0x40 None)) ≡ 0xc0000043 }
 {}
 
-/// An open that deletes on close marks its file where it leaves, and the file goes with its last open.
+/// An open that deletes on close makes its file delete pending where it leaves, and the file goes with its last open.
 pub fn delete_on_close_example()
     ensures pending { status_after one_session (ask (make 0x10183 7 2 0x1040 None) ∷ ask (make 0x10081 7 1 0x40 None) ∷ ask (Close first_open false) ∷ []) (ask (make 0x81 7 1 0x40 None)) ≡ 0xc0000056 }
     ensures stays { files_after one_session (ask (make 0x10183 7 2 0x1040 None) ∷ ask (make 0x10081 7 1 0x40 None) ∷ ask (Close first_open false) ∷ []) ≡ 1 }
@@ -352,11 +352,11 @@ pub fn delete_on_close_example()
     ensures access { status_after one_session [] (ask (make 0x183 7 2 0x1040 None)) ≡ 0xc0000022 }
 {}
 
-/// A plain close owes the mark and the removal, and one that leaves nothing owes no record.
+/// A plain close owes the flag and the removal, and one that leaves nothing owes no record.
 pub fn records_of_a_close_example()
-    ensures marked { records_after one_session (ask (make 0x10183 7 2 0x1040 None) ∷ []) (ask (Close first_open false)) ≡ DeleteRecord (record { session = session; connection = 0; message = 9 }) 1 true ∷ RemoveRecord (record { session = session; connection = 0; message = 9 }) 1 ∷ [] }
+    ensures delete_pending { records_after one_session (ask (make 0x10183 7 2 0x1040 None) ∷ []) (ask (Close first_open false)) ≡ DeleteRecord (record { session = session; connection = 0; message = 9 }) 1 true ∷ RemoveRecord (record { session = session; connection = 0; message = 9 }) 1 ∷ [] }
     ensures plain { records_after one_session (ask (make 0x183 7 2 0x40 None) ∷ []) (ask (Close first_open false)) ≡ [] }
-    ensures persistent { records_after one_session (ask (make 0x183 7 2 0x40 (by_guid 5 true)) ∷ []) (ask (Close first_open false)) ≡ ShutRecord (record { session = session; connection = 0; message = 9 }) first_open ∷ [] }
+    ensures persistent { records_after one_session (ask (make 0x183 7 2 0x40 (by_guid 5 true)) ∷ []) (ask (Close first_open false)) ≡ CloseRecord (record { session = session; connection = 0; message = 9 }) first_open ∷ [] }
 {}
 
 /// A lock is refused beside an overlapping range, of the same open too; a range of no bytes overlaps nothing; an unlock takes one equal range.
@@ -382,18 +382,18 @@ pub fn full_journal_example()
     ensures goes { files_after one_session (ask (make 0x10183 7 2 0x1040 None) ∷ End 0 ∷ []) ≡ 0 }
 {}
 
-/// A persistent open without a session leaves at the first event from its deadline on, unless all marks are had.
+/// A persistent open without a session leaves at the first event from its deadline on, unless as many guids are kept as there may be.
 pub fn expiry_at_its_deadline_example()
     ensures before { records_after (after_all one_session 0 (ask (make 0x183 7 2 0x40 (by_guid 5 true)) ∷ End 0 ∷ [])) [] (Accept 3) ≡ [] }
     ensures at_the_deadline { (step (after_all one_session 0 (ask (make 0x183 7 2 0x40 (by_guid 5 true)) ∷ End 0 ∷ [])) 600000001 (Accept 3)).records ≡ ExpireRecord (record { session = 0; connection = 3; message = 0 }) first_open ∷ [] }
     ensures one_before { (step (after_all one_session 0 (ask (make 0x183 7 2 0x40 (by_guid 5 true)) ∷ End 0 ∷ [])) 600000000 (Accept 3)).records ≡ [] }
-    ensures all_marks { (step (with_all_marks (after_all one_session 0 (ask (make 0x183 7 2 0x40 (by_guid 5 true)) ∷ End 0 ∷ []))) 600000001 (Accept 3)).records ≡ [] }
+    ensures all_expired_guids { (step (with_all_expired_guids (after_all one_session 0 (ask (make 0x183 7 2 0x40 (by_guid 5 true)) ∷ End 0 ∷ []))) 600000001 (Accept 3)).records ≡ [] }
 {}
 
-/// In a fold too no open expires where all marks are had.
-pub fn marks_in_the_fold_example()
-    ensures all_marks { (with_record (with_all_marks (after_all one_session 0 (ask (make 0x183 7 2 0x40 (by_guid 5 true)) ∷ []))) (ExpireRecord (record { session = 0; connection = 3; message = 0 }) first_open)).mark_count ≡ 65536 }
-    ensures stands { (with_record (with_all_marks (after_all one_session 0 (ask (make 0x183 7 2 0x40 (by_guid 5 true)) ∷ []))) (ExpireRecord (record { session = 0; connection = 3; message = 0 }) first_open)).opens ≡ first_open ∷ [] }
+/// In a fold too no open expires where as many guids are kept as there may be.
+pub fn expired_guids_in_the_fold_example()
+    ensures all_expired_guids { (with_record (with_all_expired_guids (after_all one_session 0 (ask (make 0x183 7 2 0x40 (by_guid 5 true)) ∷ []))) (ExpireRecord (record { session = 0; connection = 3; message = 0 }) first_open)).expired_count ≡ 65536 }
+    ensures stands { (with_record (with_all_expired_guids (after_all one_session 0 (ask (make 0x183 7 2 0x40 (by_guid 5 true)) ∷ []))) (ExpireRecord (record { session = 0; connection = 3; message = 0 }) first_open)).opens ≡ first_open ∷ [] }
     ensures leaves { (with_record (after_all one_session 0 (ask (make 0x183 7 2 0x40 (by_guid 5 true)) ∷ [])) (ExpireRecord (record { session = 0; connection = 3; message = 0 }) first_open)).opens ≡ [] }
 {}
 

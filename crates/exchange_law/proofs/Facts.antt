@@ -3,7 +3,7 @@ use Rattle.std.proofs.Common.{◌≡◌, ℕ, false, refl}
 use Rattle.exchange_defs.specs.Status.{user_session_deleted}
 use Rattle.exchange_defs.specs.Commands.{Command, Aside, Unreadable, Setup, Logoff, TreeConnect, TreeDisconnect, Create, Close, Flush, Read, Write, Lock, Ioctl, ListDirectory, QueryFile, QueryVolume, SetInfo}
 use Rattle.exchange_defs.specs.State.{Server, Message, Heard, Answer}
-use Rattle.exchange_defs.specs.Verdict.{Verdict, Refuse, Give, KeepRefusal, Repeat, Attach, Make, TurnDown, Tell, Show, KeepSlot, PutRanges, Alter, Shut, Challenge, ChallengeBinding, Begin, Join, EndSession, AddTree, DropTree}
+use Rattle.exchange_defs.specs.Verdict.{Verdict, Refuse, Give, KeepRefusal, Repeat, Attach, Make, TurnDown, Tell, Show, KeepSlot, PutRanges, Alter, CloseOpen, Challenge, ChallengeBinding, Begin, Join, EndSession, AddTree, DropTree}
 use Rattle.exchange_defs.specs.Effects.{apply}
 use Rattle.exchange_defs.specs.Step.{step}
 use Rattle.exchange_defs.specs.Network.{answer_to}
@@ -26,7 +26,7 @@ deleted_by s m now (Show o last body) = λ e. refl
 deleted_by s m now (KeepSlot o index number status elements) = λ e. refl
 deleted_by s m now (PutRanges o index number ranges elements) = λ e. absurd (cc)
 deleted_by s m now (Alter o change body) = λ e. absurd (cc)
-deleted_by s m now (Shut o body) = λ e. absurd (cc)
+deleted_by s m now (CloseOpen o body) = λ e. absurd (cc)
 deleted_by s m now Challenge = λ e. refl
 deleted_by s m now (ChallengeBinding session) = λ e. refl
 deleted_by s m now (Begin session user previous r is_quiet) = λ e. absurd (cc)

@@ -6,7 +6,7 @@ use Rattle.exchange_defs.specs.Network.{Conn}
 use Rattle.exchange_law.specs.Connections.{Connections, Once, Outstanding, OwnUp, AttachUp, OwnDown, AttachDown, DownOpen, OnReady, Ready, Stages, Settled, Taken, TakenOn, Creates, Lower, HasOpen, AskedOpen, Fresh, Bodies, First, Unsent, SentReplies, Deleted}
 use Rattle.exchange_law.proofs.Lists.{get-push, count_up-push, count_down-push}
 
-finished_off : (c : Client) (conns : ℕ → Conn) → c.live ≡ false → OnReady c → Ready c conns → (p : ℕ) (o : Option ℕ) → c.on p ≡ o → c.on p ≡ None
+finished_off : (c : Client) (conns : ℕ → Conn) → c.live ≡ false → OnReady c → Ready c conns → (p : ℕ) (o : Option ℕ) → c.outstanding_on p ≡ o → c.outstanding_on p ≡ None
 finished_off c conns dead r l p None e = e
 finished_off c conns dead r l p (Some k) e = let on = r p k e in let live = l k on.0 in absurd (grind arith)
 
@@ -52,7 +52,7 @@ finished_stages c conns a why dead i_stages =
 
 finished_settled : (c : Client) (conns : ℕ → Conn) (a : ℕ → ℕ) (why : Why) → (c.live ≡ false) → Settled c → OnReady c → Ready c conns → Settled (finish c why)
 finished_settled c conns a why dead i_settled i_on_ready i_ready =
-    λ p h. finished_off c conns dead i_on_ready i_ready p (c.on p) refl
+    λ p h. finished_off c conns dead i_on_ready i_ready p (c.outstanding_on p) refl
 
 finished_taken : (c : Client) (conns : ℕ → Conn) (a : ℕ → ℕ) (why : Why) → (c.live ≡ false) → Taken c → Taken (finish c why)
 finished_taken c conns a why dead i_taken =

@@ -46,7 +46,7 @@ outcomes_stages : (c : Client) (conns : ℕ → Conn) (a : ℕ → ℕ) (new : �
 outcomes_stages c conns a new i_stages =
     λ j. let old = i_stages j in grind arith
 
-outcomes_settled : (c : Client) (conns : ℕ → Conn) (a : ℕ → ℕ) (new : ℕ → Outcome) → ((h : ℕ) → is_unsettled (new h) ≡ false → c.on h ≡ None) → Settled c → Settled (record c { outcome = new })
+outcomes_settled : (c : Client) (conns : ℕ → Conn) (a : ℕ → ℕ) (new : ℕ → Outcome) → ((h : ℕ) → is_unsettled (new h) ≡ false → c.outstanding_on h ≡ None) → Settled c → Settled (record c { outcome = new })
 outcomes_settled c conns a new still i_settled =
     still
 
@@ -86,7 +86,7 @@ outcomes_first : (c : Client) (conns : ℕ → Conn) (a : ℕ → ℕ) (new : �
 outcomes_first c conns a new i_first =
     λ j n p x. let old = i_first j n p x in grind (arith, get-push)
 
-outcomes_unsent : (c : Client) (conns : ℕ → Conn) (a : ℕ → ℕ) (new : ℕ → Outcome) → ((h : ℕ) → is_unsettled (c.outcome h) ≡ false → new h ≡ c.outcome h) → ((h : ℕ) → is_unsettled (new h) ≡ false → c.on h ≡ None) → Unsent c a → Unsent (record c { outcome = new }) a
+outcomes_unsent : (c : Client) (conns : ℕ → Conn) (a : ℕ → ℕ) (new : ℕ → Outcome) → ((h : ℕ) → is_unsettled (c.outcome h) ≡ false → new h ≡ c.outcome h) → ((h : ℕ) → is_unsettled (new h) ≡ false → c.outstanding_on h ≡ None) → Unsent c a → Unsent (record c { outcome = new }) a
 outcomes_unsent c conns a new same still i_unsent =
     λ p. let old = i_unsent p in let s = same p in let u = still p in grind arith
 
@@ -98,7 +98,7 @@ outcomes_deleted : (c : Client) (conns : ℕ → Conn) (a : ℕ → ℕ) (new : 
 outcomes_deleted c conns a new i_deleted =
     λ j n p y. let old = i_deleted j n p y in grind (arith, get-push)
 
-pub outcomes_keeps : (c : Client) (conns : ℕ → Conn) (a : ℕ → ℕ) (new : ℕ → Outcome) → ((h : ℕ) → is_unsettled (c.outcome h) ≡ false → new h ≡ c.outcome h) → ((h : ℕ) → is_unsettled (new h) ≡ false → c.on h ≡ None) → Connections c conns a → Connections (record c { outcome = new }) conns a
+pub outcomes_keeps : (c : Client) (conns : ℕ → Conn) (a : ℕ → ℕ) (new : ℕ → Outcome) → ((h : ℕ) → is_unsettled (c.outcome h) ≡ false → new h ≡ c.outcome h) → ((h : ℕ) → is_unsettled (new h) ≡ false → c.outstanding_on h ≡ None) → Connections c conns a → Connections (record c { outcome = new }) conns a
 outcomes_keeps c conns a new same still i =
     record {
       once = outcomes_once c conns a new i.once;

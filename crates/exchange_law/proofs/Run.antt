@@ -76,7 +76,7 @@ pub record MayPush (c : Client) (k g : ℕ) : Type 0 where
   pub above : 0 < g
   pub within : g ≤ c.taken
   pub pending : is_unsettled (c.outcome g) ≡ true
-  pub none : c.on g ≡ None
+  pub none : c.outstanding_on g ≡ None
   pub has_open : opens c g ≡ true
 
 pub opens_of : (c : Client) (g : ℕ) → (is_create (c.op g) || is_ok (c.outcome (create_of g (c.op g)))) ≡ true → opens c g ≡ true
@@ -87,8 +87,8 @@ pub all_of : (r l h u n o w : Bool) → (r && ((l && h) && (u && (n && (o && not
 all_of r l h u n o w e = (grind arith, grind arith, grind arith, grind arith, grind arith, grind arith, grind arith)
 
 pub parts_of : (c : Client) (k g : ℕ) → may_push c k g ≡ true
-    → c.ready k ≡ true × nat_lt 0 g ≡ true × nat_le g c.taken ≡ true × is_unsettled (c.outcome g) ≡ true × is_none (c.on g) ≡ true × (is_create (c.op g) || is_ok (c.outcome (create_of g (c.op g)))) ≡ true × waits c g g ≡ false
-parts_of c k g may = all_of (c.ready k) (nat_lt 0 g) (nat_le g c.taken) (is_unsettled (c.outcome g)) (is_none (c.on g)) (is_create (c.op g) || is_ok (c.outcome (create_of g (c.op g)))) (waits c g g) may
+    → c.ready k ≡ true × nat_lt 0 g ≡ true × nat_le g c.taken ≡ true × is_unsettled (c.outcome g) ≡ true × is_none (c.outstanding_on g) ≡ true × (is_create (c.op g) || is_ok (c.outcome (create_of g (c.op g)))) ≡ true × waits c g g ≡ false
+parts_of c k g may = all_of (c.ready k) (nat_lt 0 g) (nat_le g c.taken) (is_unsettled (c.outcome g)) (is_none (c.outstanding_on g)) (is_create (c.op g) || is_ok (c.outcome (create_of g (c.op g)))) (waits c g g) may
 
 pub above_of : (g : ℕ) → nat_lt 0 g ≡ true → 0 < g
 above_of g e = grind (arith, nat_tests)
@@ -104,7 +104,7 @@ found c k g may =
       above = above_of g p.1;
       within = within_of g c.taken p.2;
       pending = p.3;
-      none = none_of (c.on g) p.4;
+      none = none_of (c.outstanding_on g) p.4;
       has_open = opens_of c g p.5;
     }
 
@@ -114,7 +114,7 @@ free_of c k g may = (parts_of c k g may).6
 pub slotless_same : (c : Client) (g : ℕ) (out : Outcome) → is_unsettled (c.outcome g) ≡ true → (h : ℕ) → is_unsettled (c.outcome h) ≡ false → put c.outcome g out h ≡ c.outcome h
 slotless_same c g out pending h s = grind arith
 
-pub slotless_still : (c : Client) (g : ℕ) (out : Outcome) → c.on g ≡ None → ((h : ℕ) → is_unsettled (c.outcome h) ≡ false → c.on h ≡ None) → (h : ℕ) → is_unsettled (put c.outcome g out h) ≡ false → c.on h ≡ None
+pub slotless_still : (c : Client) (g : ℕ) (out : Outcome) → c.outstanding_on g ≡ None → ((h : ℕ) → is_unsettled (c.outcome h) ≡ false → c.outstanding_on h ≡ None) → (h : ℕ) → is_unsettled (put c.outcome g out h) ≡ false → c.outstanding_on h ≡ None
 slotless_still c g out none st h u = let s = st h in grind arith
 
 pub no_slot : (c : Client) (conns : ℕ → Conn) (a : ℕ → ℕ) (k g : ℕ) → Connections c conns a → Connections (settle_no_slot c k g) conns a
@@ -199,7 +199,7 @@ own_body c k id g = refl
 abbrev pub Lowest : Client → ℕ → Type 0
 Lowest c g = (n : ℕ) → 0 < n → n < g → create_at c n ≡ create_at c g → (shuts_open (c.op g) || shuts_open (c.op n)) ≡ true → is_unsettled (c.outcome n) ≡ false
 
-pub idle_of : (c : Client) (a : ℕ → ℕ) (g : ℕ) → Unsent c a → c.on g ≡ None → is_unsettled (c.outcome g) ≡ true → acts_once (c.op g) ≡ true → c.before g ≡ false → a g ≡ 0
+pub idle_of : (c : Client) (a : ℕ → ℕ) (g : ℕ) → Unsent c a → c.outstanding_on g ≡ None → is_unsettled (c.outcome g) ≡ true → acts_once (c.op g) ≡ true → c.unanswered g ≡ false → a g ≡ 0
 idle_of c a g u none pending o b = let q = u g o b in grind arith
 
 abbrev pub Out : (ℕ → Conn) → (ℕ → ℕ) → ℕ → ℕ → Client → Type 0
@@ -217,7 +217,7 @@ put_own f g = grind arith
 pub begun_out : (c : Client) (conns : ℕ → Conn) (a : ℕ → ℕ) (k g s : ℕ) → Connections c conns a → MayPush c k g → Lowest c g → (b : Bool) → c.sent g ≡ b → Out conns a k g (if b then again c g else begin c g s)
 begun_out c conns a k g s i may low true e =
     either (Out conns a k g) (is_lock (c.op g)) _ _
-    (λ _. sent_out (record c { retried = put2 c.retried (create_for c g) (c.slot_of g) c.number }) conns a k g (retried_keeps c conns a (create_for c g) (c.slot_of g) i)
+    (λ _. sent_out (record c { retried = put2 c.retried (create_for c g) (c.slot_of g) c.session_number }) conns a k g (retried_keeps c conns a (create_for c g) (c.slot_of g) i)
     (record { ready = may.ready; above = may.above; within = may.within; pending = may.pending; none = may.none; has_open = may.has_open }) e low)
     (λ _. sent_out c conns a k g i may e low)
 begun_out c conns a k g s i may low false e =
@@ -238,7 +238,7 @@ pub ended_well : (P : World → Type 0) (w : World) (k session tree : ℕ) → (
     → P (dialog_ended w k (IsReady k session tree))
 ended_well P w k session tree binds begins fails =
     both_ways (λ c x. P (with_client (closed_by w k x) c)) (becomes_ready w.client session) (if w.client.live then bind_channel w.client k else begin_session w.client k session tree) (leave_dialog w.client k) Nothing CloseChannel
-    (λ b. either (λ c. P (with_client w c)) w.client.live (bind_channel w.client k) (begin_session w.client k session tree) binds (λ l. begins l (newer_id w.client.live w.client.session w.client.number session l b)))
+    (λ b. either (λ c. P (with_client w c)) w.client.live (bind_channel w.client k) (begin_session w.client k session tree) binds (λ l. begins l (newer_id w.client.live w.client.session w.client.session_number session l b)))
     (λ _. fails)
   where
     newer_id : (live : Bool) (old number session : ℕ) → live ≡ false → (if live then session == old else nat_lt old session && nat_lt number last_number) ≡ true → old < session
@@ -372,16 +372,16 @@ pub line_firm : (b1 b2 b3 asking : Bool) (x y : Hearing) (o : Outcome) → settl
 line_firm b1 b2 b3 asking x y o e f h = grind arith
 
 pub heard_again : (c : Client) (g : ℕ) (asking : Bool) (r : Reply) → heard c g asking r ≡ GoesAgain → goes_again c g asking r.status ≡ true
-heard_again c g asking r h = line_again (r.status == user_session_deleted) (r.status == success) (goes_again c g asking r.status) asking (ok_or_unknown (value_in (c.op g) r.body)) (refused (c.op g) asking (c.before g) r.status) (ok_firm (value_in (c.op g) r.body)) (refused_firm (c.op g) asking (c.before g) r.status) h
+heard_again c g asking r h = line_again (r.status == user_session_deleted) (r.status == success) (goes_again c g asking r.status) asking (ok_or_unknown (value_in (c.op g) r.body)) (refused (c.op g) asking (c.unanswered g) r.status) (ok_firm (value_in (c.op g) r.body)) (refused_firm (c.op g) asking (c.unanswered g) r.status) h
 
 pub heard_attaches : (c : Client) (g : ℕ) (asking : Bool) (r : Reply) → heard c g asking r ≡ Attaches → asking ≡ true
-heard_attaches c g asking r h = line_attaches (r.status == user_session_deleted) (r.status == success) (goes_again c g asking r.status) asking (ok_or_unknown (value_in (c.op g) r.body)) (refused (c.op g) asking (c.before g) r.status) (ok_firm (value_in (c.op g) r.body)) (refused_firm (c.op g) asking (c.before g) r.status) h
+heard_attaches c g asking r h = line_attaches (r.status == user_session_deleted) (r.status == success) (goes_again c g asking r.status) asking (ok_or_unknown (value_in (c.op g) r.body)) (refused (c.op g) asking (c.unanswered g) r.status) (ok_firm (value_in (c.op g) r.body)) (refused_firm (c.op g) asking (c.unanswered g) r.status) h
 
 pub heard_ends : (c : Client) (g : ℕ) (asking : Bool) (r : Reply) → heard c g asking r ≡ EndsSession → r.status ≡ user_session_deleted
-heard_ends c g asking r h = eqb-true r.status user_session_deleted (line_ends (r.status == user_session_deleted) (r.status == success) (goes_again c g asking r.status) asking (ok_or_unknown (value_in (c.op g) r.body)) (refused (c.op g) asking (c.before g) r.status) (ok_firm (value_in (c.op g) r.body)) (refused_firm (c.op g) asking (c.before g) r.status) h)
+heard_ends c g asking r h = eqb-true r.status user_session_deleted (line_ends (r.status == user_session_deleted) (r.status == success) (goes_again c g asking r.status) asking (ok_or_unknown (value_in (c.op g) r.body)) (refused (c.op g) asking (c.unanswered g) r.status) (ok_firm (value_in (c.op g) r.body)) (refused_firm (c.op g) asking (c.unanswered g) r.status) h)
 
 pub heard_firm : (c : Client) (g : ℕ) (asking : Bool) (r : Reply) (o : Outcome) → heard c g asking r ≡ Settles o → is_unsettled o ≡ false
-heard_firm c g asking r o h = line_firm (r.status == user_session_deleted) (r.status == success) (goes_again c g asking r.status) asking (ok_or_unknown (value_in (c.op g) r.body)) (refused (c.op g) asking (c.before g) r.status) o (ok_firm (value_in (c.op g) r.body)) (refused_firm (c.op g) asking (c.before g) r.status) h
+heard_firm c g asking r o h = line_firm (r.status == user_session_deleted) (r.status == success) (goes_again c g asking r.status) asking (ok_or_unknown (value_in (c.op g) r.body)) (refused (c.op g) asking (c.unanswered g) r.status) o (ok_firm (value_in (c.op g) r.body)) (refused_firm (c.op g) asking (c.unanswered g) r.status) h
 
 -- a create, lock or unlock doesn't go out again by a reply
 pub once_again : (c : Client) (g : ℕ) (asking : Bool) (status : ℕ) → goes_again c g asking status ≡ true → acts_once (c.op g) ≡ true → (n : ℕ) → n ≡ 0
@@ -399,25 +399,25 @@ is_create_of op e = e
 
 pub record Noted (c d : Client) (conns : ℕ → Conn) (a : ℕ → ℕ) : Type 0 where
   pub keeps : Connections d conns a
-  pub on : d.on ≡ c.on
+  pub outstanding_on : d.outstanding_on ≡ c.outstanding_on
   pub op : d.op ≡ c.op
 
-pub noted_keeps : (c : Client) (conns : ℕ → Conn) (a : ℕ → ℕ) (g : ℕ) (body : Body) → Connections c conns a → is_some (c.on g) ≡ true → (o : Outcome) → Noted c (noted c g o body) conns a
+pub noted_keeps : (c : Client) (conns : ℕ → Conn) (a : ℕ → ℕ) (g : ℕ) (body : Body) → Connections c conns a → is_some (c.outstanding_on g) ≡ true → (o : Outcome) → Noted c (noted c g o body) conns a
 noted_keeps c conns a g body i out (WasOk reply) =
     let P : Client → Type 0 = λ d. Noted c d conns a in
     either P (is_create (c.op g)) _ _
-    (λ e. record { keeps = opens_keeps c conns a g (id_in body) (is_create_of (c.op g) e) out i; on = refl; op = refl })
-    (λ _. either P (is_close (c.op g)) _ _ (λ _. record { keeps = shuts_keeps c conns a (create_for c g) i; on = refl; op = refl }) (λ _. record { keeps = i; on = refl; op = refl }))
-noted_keeps c conns a g body i out Unsettled = record { keeps = i; on = refl; op = refl }
-noted_keeps c conns a g body i out (WasRefused status) = record { keeps = i; on = refl; op = refl }
-noted_keeps c conns a g body i out (NoSlot create) = record { keeps = i; on = refl; op = refl }
-noted_keeps c conns a g body i out (NoOpen create) = record { keeps = i; on = refl; op = refl }
-noted_keeps c conns a g body i out (Unknown why) = record { keeps = i; on = refl; op = refl }
+    (λ e. record { keeps = opens_keeps c conns a g (id_in body) (is_create_of (c.op g) e) out i; outstanding_on = refl; op = refl })
+    (λ _. either P (is_close (c.op g)) _ _ (λ _. record { keeps = shuts_keeps c conns a (create_for c g) i; outstanding_on = refl; op = refl }) (λ _. record { keeps = i; outstanding_on = refl; op = refl }))
+noted_keeps c conns a g body i out Unsettled = record { keeps = i; outstanding_on = refl; op = refl }
+noted_keeps c conns a g body i out (WasRefused status) = record { keeps = i; outstanding_on = refl; op = refl }
+noted_keeps c conns a g body i out (NoSlot create) = record { keeps = i; outstanding_on = refl; op = refl }
+noted_keeps c conns a g body i out (NoOpen create) = record { keeps = i; outstanding_on = refl; op = refl }
+noted_keeps c conns a g body i out (Unknown why) = record { keeps = i; outstanding_on = refl; op = refl }
 
 pub full_keeps : (c d : Client) (conns : ℕ → Conn) (a : ℕ → ℕ) (g : ℕ) (asking : Bool) (status : ℕ) → Noted c d conns a → Noted c (noted_full d g asking status) conns a
 full_keeps c d conns a g asking status n =
     either (λ e. Noted c e conns a) (is_lock (d.op g) && (not asking && (status == disk_full))) _ _
-    (λ _. record { keeps = fills_keeps d conns a (create_for d g) (d.slot_of g) n.keeps; on = n.on; op = n.op }) (λ _. n)
+    (λ _. record { keeps = fills_keeps d conns a (create_for d g) (d.slot_of g) n.keeps; outstanding_on = n.outstanding_on; op = n.op }) (λ _. n)
 
 pub without_same : (names sent gone : Bool) (create : ℕ) (o : Outcome) → is_unsettled o ≡ false → without_open names sent gone create o ≡ o
 without_same names sent gone create Unsettled e = absurd (cc)
@@ -437,18 +437,18 @@ without_new names sent gone create (Unknown why) e f = absurd (cc)
 
 -- where a create is settling, or a close, nothing else of the open is outstanding
 abbrev pub Clear : Client → ℕ → ℕ → Type 0
-Clear c g h = makes_open (c.op h) ≡ false → create_at c h ≡ create_at c g → h ≢ g → c.on h ≡ None
+Clear c g h = makes_open (c.op h) ≡ false → create_at c h ≡ create_at c g → h ≢ g → c.outstanding_on h ≡ None
 
-pub off_of : (c : Client) (h : ℕ) → (o : Option ℕ) → c.on h ≡ o → (is_some (c.on h) ≡ true → c.on h ≡ None) → c.on h ≡ None
+pub off_of : (c : Client) (h : ℕ) → (o : Option ℕ) → c.outstanding_on h ≡ o → (is_some (c.outstanding_on h) ≡ true → c.outstanding_on h ≡ None) → c.outstanding_on h ≡ None
 off_of c h None e f = e
 off_of c h (Some j) e f = f (grind arith)
 
 pub made_by : (op : Op) (o : Outcome) → (makes_open op || is_ok o) ≡ true → makes_open op ≡ false → is_unsettled o ≡ false
 made_by op o e f = ok_is_settled o (makes_one op o e f)
 
-pub clear_create : (c : Client) (conns : ℕ → Conn) (a : ℕ → ℕ) (k g h : ℕ) → Connections c conns a → c.on g ≡ Some k → makes_open (c.op g) ≡ true → Clear c g h
+pub clear_create : (c : Client) (conns : ℕ → Conn) (a : ℕ → ℕ) (k g h : ℕ) → Connections c conns a → c.outstanding_on g ≡ Some k → makes_open (c.op g) ≡ true → Clear c g h
 clear_create c conns a k g h i on create other same apart =
-    off_of c h (c.on h) refl (λ s.
+    off_of c h (c.outstanding_on h) refl (λ s.
     let own = own_create g (c.op g) create in let ok = made_by (c.op h) (c.outcome (create_at c h)) (i.asked_open h s) other in
     let ok2 : is_unsettled (c.outcome g) ≡ false = subst (λ x. is_unsettled (c.outcome x) ≡ false) (same ∙ own) ok in let off = i.settled g ok2 in absurd (grind arith))
 
@@ -461,12 +461,12 @@ either_shuts a b e = grind arith
 pub either_shuts2 : (a b : Bool) → b ≡ true → (a || b) ≡ true
 either_shuts2 a b e = grind arith
 
-pub clear_close : (c : Client) (conns : ℕ → Conn) (a : ℕ → ℕ) (k g h : ℕ) → Connections c conns a → c.on g ≡ Some k → shuts_open (c.op g) ≡ true → Clear c g h
+pub clear_close : (c : Client) (conns : ℕ → Conn) (a : ℕ → ℕ) (k g h : ℕ) → Connections c conns a → c.outstanding_on g ≡ Some k → shuts_open (c.op g) ≡ true → Clear c g h
 clear_close c conns a k g h i on shuts other same apart =
-    off_of c h (c.on h) refl (λ s.
-    elim (nat_lt h g) as (λ b. nat_lt h g ≡ b → c.on h ≡ None) [
-      | true ↦ λ l. i.settled h (i.lower g h (some_of (c.on g) k on) (i.taken_on h s).0 (low h g l) same (either_shuts (shuts_open (c.op g)) (shuts_open (c.op h)) shuts))
-      | false ↦ λ l. let off = i.settled g (i.lower h g s (i.taken_on g (some_of (c.on g) k on)).0 (high h g l apart) (sym same) (either_shuts2 (shuts_open (c.op h)) (shuts_open (c.op g)) shuts)) in absurd (grind arith)
+    off_of c h (c.outstanding_on h) refl (λ s.
+    elim (nat_lt h g) as (λ b. nat_lt h g ≡ b → c.outstanding_on h ≡ None) [
+      | true ↦ λ l. i.settled h (i.lower g h (some_of (c.outstanding_on g) k on) (i.taken_on h s).0 (low h g l) same (either_shuts (shuts_open (c.op g)) (shuts_open (c.op h)) shuts))
+      | false ↦ λ l. let off = i.settled g (i.lower h g s (i.taken_on g (some_of (c.outstanding_on g) k on)).0 (high h g l apart) (sym same) (either_shuts2 (shuts_open (c.op h)) (shuts_open (c.op g)) shuts)) in absurd (grind arith)
     ] refl)
   where
     low : (h g : ℕ) → nat_lt h g ≡ true → h < g
@@ -490,7 +490,7 @@ pub kinds_of : (op : Op) → (is_create op || is_close op) ≡ true → makes_op
 unfolding makes_open shuts_open
 kinds_of op e f = grind arith
 
-pub clear_at : (c : Client) (conns : ℕ → Conn) (a : ℕ → ℕ) (k g h : ℕ) → Connections c conns a → c.on g ≡ Some k → settles_open (c.op g) ≡ true → Clear c g h
+pub clear_at : (c : Client) (conns : ℕ → Conn) (a : ℕ → ℕ) (k g h : ℕ) → Connections c conns a → c.outstanding_on g ≡ Some k → settles_open (c.op g) ≡ true → Clear c g h
 clear_at c conns a k g h i on may =
     elim (makes_open (c.op g)) as (λ b. makes_open (c.op g) ≡ b → Clear c g h) [
       | true ↦ λ m. clear_create c conns a k g h i on m
@@ -503,21 +503,21 @@ put_none f g h e = grind arith
 pub put_off : (f : ℕ → Option ℕ) (g h : ℕ) → h ≢ g → f h ≡ None → put f g None h ≡ None
 put_off f g h d e = grind arith
 
-pub gives_up_still : (c : Client) (conns : ℕ → Conn) (a : ℕ → ℕ) (k g place create : ℕ) (o : Outcome) → Connections c conns a → Connections (settled c g o place) conns a → c.on g ≡ Some k → settles_open (c.op g) ≡ true
-    → create ≡ create_at c g → (h : ℕ) → is_unsettled (give_up_on (settled c g o place) create h) ≡ false → (settled c g o place).on h ≡ None
+pub gives_up_still : (c : Client) (conns : ℕ → Conn) (a : ℕ → ℕ) (k g place create : ℕ) (o : Outcome) → Connections c conns a → Connections (settled c g o place) conns a → c.outstanding_on g ≡ Some k → settles_open (c.op g) ≡ true
+    → create ≡ create_at c g → (h : ℕ) → is_unsettled (give_up_on (settled c g o place) create h) ≡ false → (settled c g o place).outstanding_on h ≡ None
 gives_up_still c conns a k g place create o i j on may own h u =
-    elim (is_unsettled ((settled c g o place).outcome h)) as (λ b. is_unsettled ((settled c g o place).outcome h) ≡ b → put c.on g None h ≡ None) [
+    elim (is_unsettled ((settled c g o place).outcome h)) as (λ b. is_unsettled ((settled c g o place).outcome h) ≡ b → put c.outstanding_on g None h ≡ None) [
       | false ↦ λ s. j.settled h s
       | true ↦ λ s.
           let n = without_new ((create_for c h == create) && not (is_create (c.op h))) (c.sent h) (is_gone_after (settled c g o place) create ((settled c g o place).outcome create)) create ((settled c g o place).outcome h) s u in
           let names = names_of c create h n in
-          elim (h == g) as (λ b. h == g ≡ b → put c.on g None h ≡ None) [
-            | true ↦ λ q. put_none c.on g h (eqb-true h g q)
-            | false ↦ λ q. let d1 = eqb-false h g q in put_off c.on g h d1 (clear_at c conns a k g h i on may names.1 (names.0 ∙ own) d1)
+          elim (h == g) as (λ b. h == g ≡ b → put c.outstanding_on g None h ≡ None) [
+            | true ↦ λ q. put_none c.outstanding_on g h (eqb-true h g q)
+            | false ↦ λ q. let d1 = eqb-false h g q in put_off c.outstanding_on g h d1 (clear_at c conns a k g h i on may names.1 (names.0 ∙ own) d1)
           ] refl
     ] refl
 
-pub gives_up : (c : Client) (conns : ℕ → Conn) (a : ℕ → ℕ) (k g place create : ℕ) (o : Outcome) → Connections c conns a → Connections (settled c g o place) conns a → c.on g ≡ Some k → settles_open (c.op g) ≡ true
+pub gives_up : (c : Client) (conns : ℕ → Conn) (a : ℕ → ℕ) (k g place create : ℕ) (o : Outcome) → Connections c conns a → Connections (settled c g o place) conns a → c.outstanding_on g ≡ Some k → settles_open (c.op g) ≡ true
     → create ≡ create_at c g → Connections (with_no_opens (settled c g o place) create) conns a
 gives_up c conns a k g place create o i j on may own =
     let d = settled c g o place in
@@ -525,16 +525,16 @@ gives_up c conns a k g place create o i j on may own =
     (λ h. without_same ((create_for c h == create) && not (is_create (c.op h))) (c.sent h) (is_gone_after d create (d.outcome create)) create (d.outcome h))
     (gives_up_still c conns a k g place create o i j on may own) j
 
-pub settles : (c : Client) (conns : ℕ → Conn) (a : ℕ → ℕ) (k g : ℕ) (asking : Bool) (r : Reply) (place : ℕ) (o : Outcome) → Connections c conns a → c.on g ≡ Some k → copies g (conns k) ≡ 0 → is_unsettled o ≡ false
+pub settles : (c : Client) (conns : ℕ → Conn) (a : ℕ → ℕ) (k g : ℕ) (asking : Bool) (r : Reply) (place : ℕ) (o : Outcome) → Connections c conns a → c.outstanding_on g ≡ Some k → copies g (conns k) ≡ 0 → is_unsettled o ≡ false
     → Connections (settle c g asking r place o) conns a
 settles c conns a k g asking r place o i on none firm =
-    let n = full_keeps c (noted c g o r.body) conns a g asking r.status (noted_keeps c conns a g r.body i (some_of (c.on g) k on) o) in
+    let n = full_keeps c (noted c g o r.body) conns a g asking r.status (noted_keeps c conns a g r.body i (some_of (c.outstanding_on g) k on) o) in
     by_noted c (noted_full (noted c g o r.body) g asking r.status) conns a k g place o on none firm n
   where
-    by_noted : (c d : Client) (conns : ℕ → Conn) (a : ℕ → ℕ) (k g place : ℕ) (o : Outcome) → c.on g ≡ Some k → copies g (conns k) ≡ 0 → is_unsettled o ≡ false → Noted c d conns a
+    by_noted : (c d : Client) (conns : ℕ → Conn) (a : ℕ → ℕ) (k g place : ℕ) (o : Outcome) → c.outstanding_on g ≡ Some k → copies g (conns k) ≡ 0 → is_unsettled o ≡ false → Noted c d conns a
         → Connections (if settles_open (c.op g) then with_no_opens (settled d g o place) (create_for c g) else settled d g o place) conns a
     by_noted c d conns a k g place o on none firm n =
-        let on2 : d.on g ≡ Some k = ap (λ f. f g) n.on ∙ on in
+        let on2 : d.outstanding_on g ≡ Some k = ap (λ f. f g) n.outstanding_on ∙ on in
         let j = settle_keeps d conns a k g place o on2 none firm n.keeps in
         either (λ e. Connections e conns a) (settles_open (c.op g)) (with_no_opens (settled d g o place) (create_for c g)) (settled d g o place)
         (λ may. gives_up d conns a k g place (create_for c g) o n.keeps j on2 (ap (λ f. settles_open (f g)) n.op ∙ may) (own_for c g ∙ ap (λ f. its_create g (f g)) (sym n.op)))
@@ -542,8 +542,8 @@ settles c conns a k g asking r place o i on none firm =
 
 -- ---- what a reply does
 
-pub awaited_of : (c : Client) (k g : ℕ) (asking : Bool) → is_awaited c k g asking ≡ true → c.on g ≡ Some k × c.asking g ≡ asking
-awaited_of c k g asking e = (at_of k (c.on g) (front_of (is_at k (c.on g)) _ e), same_of (c.asking g) asking (back_of (is_at k (c.on g)) _ e))
+pub awaited_of : (c : Client) (k g : ℕ) (asking : Bool) → is_awaited c k g asking ≡ true → c.outstanding_on g ≡ Some k × c.asks_attach g ≡ asking
+awaited_of c k g asking e = (at_of k (c.outstanding_on g) (front_of (is_at k (c.outstanding_on g)) _ e), same_of (c.asks_attach g) asking (back_of (is_at k (c.outstanding_on g)) _ e))
   where
     same_of : (x y : Bool) → (if x then y else not y) ≡ true → x ≡ y
     same_of x y e = grind arith
@@ -551,19 +551,19 @@ awaited_of c k g asking e = (at_of k (c.on g) (front_of (is_at k (c.on g)) _ e),
 pub unclear : (b c : Bool) (P : Type 0) → b ≡ c → b ≡ true → c ≡ false → P
 unclear b c P e f g = absurd (grind arith)
 
-pub hears : (w : World) (a : ℕ → ℕ) (k g : ℕ) (asking : Bool) (r : Reply) (place : ℕ) → ConnectionsHold w a → w.client.on g ≡ Some k → w.client.asking g ≡ asking → copies g (w.conns k) ≡ 0
-    → (asking ≡ false → acts_once (w.client.op g) ≡ true → r.status ≡ user_session_deleted → w.client.before g ≡ false → a g ≡ 0)
+pub hears : (w : World) (a : ℕ → ℕ) (k g : ℕ) (asking : Bool) (r : Reply) (place : ℕ) → ConnectionsHold w a → w.client.outstanding_on g ≡ Some k → w.client.asks_attach g ≡ asking → copies g (w.conns k) ≡ 0
+    → (asking ≡ false → acts_once (w.client.op g) ≡ true → r.status ≡ user_session_deleted → w.client.unanswered g ≡ false → a g ≡ 0)
     → (h : Hearing) → heard w.client g asking r ≡ h → ConnectionsHold (with_client (closed_by w k (act_heard h)) (hear w.client g asking r place h)) a
 hears w a k g asking r place i on asks none gone (Settles o) e = settles w.client w.conns a k g asking r place o i on none (heard_firm w.client g asking r o e)
 hears w a k g asking r place i on asks none gone GoesAgain e =
     answered_keeps w.client w.conns a k g on none (λ o b k. once_again w.client g asking r.status (heard_again w.client g asking r e) o (a g)) i
 hears w a k g asking r place i on asks none gone Attaches e =
-    joined_keeps w.client w.conns a k g on none (λ o b q. unclear asking (w.client.asking g) (a g ≡ 0) (sym asks) (heard_attaches w.client g asking r e) q) i
+    joined_keeps w.client w.conns a k g on none (λ o b q. unclear asking (w.client.asks_attach g) (a g ≡ 0) (sym asks) (heard_attaches w.client g asking r e) q) i
 hears w a k g asking r place i on asks none gone EndsSession e =
     leave_keeps (answered w.client g) w.conns a (answered_keeps w.client w.conns a k g on none (λ o b q. gone (sym asks ∙ q) o (heard_ends w.client g asking r e) b) i)
 
 pub took : (w : World) (a : ℕ → ℕ) (k g : ℕ) (asking : Bool) (r : Reply) (place : ℕ) → ConnectionsHold w a → copies g (w.conns k) ≡ 0
-    → (asking ≡ false → acts_once (w.client.op g) ≡ true → r.status ≡ user_session_deleted → w.client.before g ≡ false → a g ≡ 0) → ConnectionsHold (op_took w k g asking r place) a
+    → (asking ≡ false → acts_once (w.client.op g) ≡ true → r.status ≡ user_session_deleted → w.client.unanswered g ≡ false → a g ≡ 0) → ConnectionsHold (op_took w k g asking r place) a
 took w a k g asking r place i none gone =
     both_ways (λ c x. ConnectionsHold (with_client (closed_by w k x) c) a) (is_awaited w.client k g asking) (hear w.client g asking r place (heard w.client g asking r)) w.client (act_heard (heard w.client g asking r)) Nothing
     (λ aw. let q = awaited_of w.client k g asking aw in hears w a k g asking r place i q.0 q.1 none gone (heard w.client g asking r) refl)

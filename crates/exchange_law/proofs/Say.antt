@@ -11,7 +11,7 @@ say_once : (c : Client) (conns : ℕ → Conn) (a : ℕ → ℕ) (k : ℕ) (y0 :
 say_once c conns a k y0 stands none i_once =
     grind (arith, count_up-push, count_down-push)
 
-say_outstanding : (c : Client) (conns : ℕ → Conn) (a : ℕ → ℕ) (k : ℕ) (y0 : Received) → ((conns k).client_open ≡ true) → (copies (op_of y0.token) (conns k) ≡ 0) → (0 < op_of y0.token → c.on (op_of y0.token) ≡ Some k) → Outstanding c conns → Outstanding c (put conns k (record (conns k) { down = (conns k).down ++ y0 ∷ [] }))
+say_outstanding : (c : Client) (conns : ℕ → Conn) (a : ℕ → ℕ) (k : ℕ) (y0 : Received) → ((conns k).client_open ≡ true) → (copies (op_of y0.token) (conns k) ≡ 0) → (0 < op_of y0.token → c.outstanding_on (op_of y0.token) ≡ Some k) → Outstanding c conns → Outstanding c (put conns k (record (conns k) { down = (conns k).down ++ y0 ∷ [] }))
 say_outstanding c conns a k y0 stands none on i_outstanding =
     let old = i_outstanding in let o = on in grind (arith, count_up-push, count_down-push)
 
@@ -23,11 +23,11 @@ say_attach_up : (c : Client) (conns : ℕ → Conn) (a : ℕ → ℕ) (k : ℕ) 
 say_attach_up c conns a k y0 stands none i_attach_up =
     λ j n p x. let old = i_attach_up j n p x in grind (arith, get-push)
 
-say_own_down : (c : Client) (conns : ℕ → Conn) (a : ℕ → ℕ) (k : ℕ) (y0 : Received) → ((conns k).client_open ≡ true) → (copies (op_of y0.token) (conns k) ≡ 0) → ((g : ℕ) → y0.token ≡ ForOp g → c.asking g ≡ false) → OwnDown c conns → OwnDown c (put conns k (record (conns k) { down = (conns k).down ++ y0 ∷ [] }))
+say_own_down : (c : Client) (conns : ℕ → Conn) (a : ℕ → ℕ) (k : ℕ) (y0 : Received) → ((conns k).client_open ≡ true) → (copies (op_of y0.token) (conns k) ≡ 0) → ((g : ℕ) → y0.token ≡ ForOp g → c.asks_attach g ≡ false) → OwnDown c conns → OwnDown c (put conns k (record (conns k) { down = (conns k).down ++ y0 ∷ [] }))
 say_own_down c conns a k y0 stands none own i_own_down =
     λ j n p y h. let old = i_own_down j n p y in let m = own p in grind (arith, get-push)
 
-say_attach_down : (c : Client) (conns : ℕ → Conn) (a : ℕ → ℕ) (k : ℕ) (y0 : Received) → ((conns k).client_open ≡ true) → (copies (op_of y0.token) (conns k) ≡ 0) → ((g : ℕ) → y0.token ≡ ForAttach g → c.asking g ≡ true) → AttachDown c conns → AttachDown c (put conns k (record (conns k) { down = (conns k).down ++ y0 ∷ [] }))
+say_attach_down : (c : Client) (conns : ℕ → Conn) (a : ℕ → ℕ) (k : ℕ) (y0 : Received) → ((conns k).client_open ≡ true) → (copies (op_of y0.token) (conns k) ≡ 0) → ((g : ℕ) → y0.token ≡ ForAttach g → c.asks_attach g ≡ true) → AttachDown c conns → AttachDown c (put conns k (record (conns k) { down = (conns k).down ++ y0 ∷ [] }))
 say_attach_down c conns a k y0 stands none attach i_attach_down =
     λ j n p y h. let old = i_attach_down j n p y in let m = attach p in grind (arith, get-push)
 
@@ -95,11 +95,11 @@ say_sent_replies : (c : Client) (conns : ℕ → Conn) (a : ℕ → ℕ) (k : �
 say_sent_replies c conns a k y0 stands none sent i_sent_replies =
     λ j n p y. let old = i_sent_replies j n p y in let m = sent p in grind (arith, get-push)
 
-say_deleted : (c : Client) (conns : ℕ → Conn) (a : ℕ → ℕ) (k : ℕ) (y0 : Received) → ((conns k).client_open ≡ true) → (copies (op_of y0.token) (conns k) ≡ 0) → ((g : ℕ) → y0.token ≡ ForOp g → acts_once (c.op g) ≡ true → y0.reply.status ≡ user_session_deleted → c.before g ≡ false → a g ≡ 0) → Deleted c conns a → Deleted c (put conns k (record (conns k) { down = (conns k).down ++ y0 ∷ [] })) a
+say_deleted : (c : Client) (conns : ℕ → Conn) (a : ℕ → ℕ) (k : ℕ) (y0 : Received) → ((conns k).client_open ≡ true) → (copies (op_of y0.token) (conns k) ≡ 0) → ((g : ℕ) → y0.token ≡ ForOp g → acts_once (c.op g) ≡ true → y0.reply.status ≡ user_session_deleted → c.unanswered g ≡ false → a g ≡ 0) → Deleted c conns a → Deleted c (put conns k (record (conns k) { down = (conns k).down ++ y0 ∷ [] })) a
 say_deleted c conns a k y0 stands none deleted i_deleted =
     λ j n p y. let old = i_deleted j n p y in let m = deleted p in grind (arith, get-push)
 
-pub say_keeps : (c : Client) (conns : ℕ → Conn) (a : ℕ → ℕ) (k : ℕ) (y0 : Received) → ((conns k).client_open ≡ true) → (copies (op_of y0.token) (conns k) ≡ 0) → (0 < op_of y0.token → c.on (op_of y0.token) ≡ Some k) → ((g : ℕ) → y0.token ≡ ForOp g → c.asking g ≡ false) → ((g : ℕ) → y0.token ≡ ForAttach g → c.asking g ≡ true) → (op_of y0.token ≡ 0 → c.ready k ≡ false) → ((g : ℕ) → y0.token ≡ ForOp g → c.sent g ≡ true) → ((g : ℕ) → y0.token ≡ ForOp g → acts_once (c.op g) ≡ true → y0.reply.status ≡ user_session_deleted → c.before g ≡ false → a g ≡ 0) → Connections c conns a → Connections c (put conns k (record (conns k) { down = (conns k).down ++ y0 ∷ [] })) a
+pub say_keeps : (c : Client) (conns : ℕ → Conn) (a : ℕ → ℕ) (k : ℕ) (y0 : Received) → ((conns k).client_open ≡ true) → (copies (op_of y0.token) (conns k) ≡ 0) → (0 < op_of y0.token → c.outstanding_on (op_of y0.token) ≡ Some k) → ((g : ℕ) → y0.token ≡ ForOp g → c.asks_attach g ≡ false) → ((g : ℕ) → y0.token ≡ ForAttach g → c.asks_attach g ≡ true) → (op_of y0.token ≡ 0 → c.ready k ≡ false) → ((g : ℕ) → y0.token ≡ ForOp g → c.sent g ≡ true) → ((g : ℕ) → y0.token ≡ ForOp g → acts_once (c.op g) ≡ true → y0.reply.status ≡ user_session_deleted → c.unanswered g ≡ false → a g ≡ 0) → Connections c conns a → Connections c (put conns k (record (conns k) { down = (conns k).down ++ y0 ∷ [] })) a
 say_keeps c conns a k y0 stands none on own attach dialog sent deleted i =
     record {
       once = say_once c conns a k y0 stands none i.once;

@@ -136,7 +136,7 @@ end_beyond : (c : Client) (h : ℕ) (o : Outcome) → Beyond c → Taken c → i
 end_beyond c h o b taken f u =
     let zeroth : create_for c h ≡ 0 = ap (create_of h) (b h f).1 in
     subst (λ x. outcome_after_end c h x ≡ Unsettled) (sym u)
-    (unsent_by (create_for c h) (persists (c.op (create_for c h))) (c.sent h) (is_create (c.op h)) (c.sent (create_for c h)) (Unknown (SessionLost c.number)) (c.outcome (create_for c h)) (not_sent c h taken f)
+    (unsent_by (create_for c h) (persists (c.op (create_for c h))) (c.sent h) (is_create (c.op h)) (c.sent (create_for c h)) (Unknown (SessionLost c.session_number)) (c.outcome (create_for c h)) (not_sent c h taken f)
     (ap c.sent zeroth ∙ not_sent c 0 taken refl) (ap c.outcome zeroth ∙ (b 0 refl).0))
 
 kept_end : (c : Client) → Taken c → Kept c (end_session c)
@@ -219,7 +219,7 @@ kept_heard c g asking r place taken w GoesAgain = kept_same c
 kept_heard c g asking r place taken w Attaches = kept_same c
 kept_heard c g asking r place taken w EndsSession = kept_end (answered c g) taken
 
-not_settled : (c : Client) (g k : ℕ) → AllSettledOff c → c.on g ≡ Some k → (b : Bool) → is_unsettled (c.outcome g) ≡ b → is_unsettled (c.outcome g) ≡ true
+not_settled : (c : Client) (g k : ℕ) → AllSettledOff c → c.outstanding_on g ≡ Some k → (b : Bool) → is_unsettled (c.outcome g) ≡ b → is_unsettled (c.outcome g) ≡ true
 not_settled c g k off on true e = e
 not_settled c g k off on false e = let none = off g e in absurd (grind arith)
 
@@ -235,7 +235,7 @@ pub record Fits (c : Client) : Type 0 where
   pub taken_on : TakenOn c
   pub creates : Creates c
 
-awaits : (c : Client) (g k : ℕ) → Fits c → c.on g ≡ Some k → Awaits c g
+awaits : (c : Client) (g k : ℕ) → Fits c → c.outstanding_on g ≡ Some k → Awaits c g
 awaits c g k i on =
     let l = i.taken_on g (ap is_some on) in
     record { number = taken_of g c.taken l.0 l.1; pending = not_settled c g k i.settled on (is_unsettled (c.outcome g)) refl; create = own_create g (c.op g) l.0 (λ m. (i.creates g l.0 l.1 m).0) }

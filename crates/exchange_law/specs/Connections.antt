@@ -23,7 +23,7 @@ copies g c = count_up g c.up + count_down g c.down
 
 -- no copy of the operation itself is outstanding
 abbrev pub no_copy_out : Client → ℕ → Bool
-no_copy_out c g = if c.asking g then true else not (is_some (c.on g))
+no_copy_out c g = if c.asks_attach g then true else not (is_some (c.outstanding_on g))
 
 -- ---- words on operations, closed so that a proof doesn't go through the kinds of operations
 
@@ -64,27 +64,27 @@ Once conns = (k g : ℕ) → copies g (conns k) ≤ 1
 
 -- what an open connection carries of an operation is outstanding there
 abbrev pub Outstanding : Client → (ℕ → Conn) → Type 0
-Outstanding c conns = (k g : ℕ) → (conns k).client_open ≡ true → 1 ≤ copies g (conns k) → 0 < g → c.on g ≡ Some k
+Outstanding c conns = (k g : ℕ) → (conns k).client_open ≡ true → 1 ≤ copies g (conns k) → 0 < g → c.outstanding_on g ≡ Some k
 
 -- and it is the operation itself, or the DH2C in its place, as the client noted
 abbrev pub OwnUp : Client → (ℕ → Conn) → Type 0
-OwnUp c conns = (k n g : ℕ) (x : Sent) → slice_get (conns k).up n ≡ Some x → (conns k).client_open ≡ true → x.token ≡ ForOp g → c.asking g ≡ false
+OwnUp c conns = (k n g : ℕ) (x : Sent) → slice_get (conns k).up n ≡ Some x → (conns k).client_open ≡ true → x.token ≡ ForOp g → c.asks_attach g ≡ false
 
 abbrev pub AttachUp : Client → (ℕ → Conn) → Type 0
-AttachUp c conns = (k n g : ℕ) (x : Sent) → slice_get (conns k).up n ≡ Some x → (conns k).client_open ≡ true → x.token ≡ ForAttach g → c.asking g ≡ true
+AttachUp c conns = (k n g : ℕ) (x : Sent) → slice_get (conns k).up n ≡ Some x → (conns k).client_open ≡ true → x.token ≡ ForAttach g → c.asks_attach g ≡ true
 
 abbrev pub OwnDown : Client → (ℕ → Conn) → Type 0
-OwnDown c conns = (k n g : ℕ) (y : Received) → slice_get (conns k).down n ≡ Some y → (conns k).client_open ≡ true → y.token ≡ ForOp g → c.asking g ≡ false
+OwnDown c conns = (k n g : ℕ) (y : Received) → slice_get (conns k).down n ≡ Some y → (conns k).client_open ≡ true → y.token ≡ ForOp g → c.asks_attach g ≡ false
 
 abbrev pub AttachDown : Client → (ℕ → Conn) → Type 0
-AttachDown c conns = (k n g : ℕ) (y : Received) → slice_get (conns k).down n ≡ Some y → (conns k).client_open ≡ true → y.token ≡ ForAttach g → c.asking g ≡ true
+AttachDown c conns = (k n g : ℕ) (y : Received) → slice_get (conns k).down n ≡ Some y → (conns k).client_open ≡ true → y.token ≡ ForAttach g → c.asks_attach g ≡ true
 
 -- replies wait on open connections alone
 abbrev pub DownOpen : (ℕ → Conn) → Type 0
 DownOpen conns = (k : ℕ) → (conns k).client_open ≡ false → (conns k).down ≡ []
 
 abbrev pub OnReady : Client → Type 0
-OnReady c = (g k : ℕ) → c.on g ≡ Some k → c.ready k ≡ true × 0 < g
+OnReady c = (g k : ℕ) → c.outstanding_on g ≡ Some k → c.ready k ≡ true × 0 < g
 
 abbrev pub Ready : Client → (ℕ → Conn) → Type 0
 Ready c conns = (k : ℕ) → c.ready k ≡ true → (conns k).client_open ≡ true × c.live ≡ true × copies 0 (conns k) ≡ 0
@@ -93,31 +93,31 @@ abbrev pub Stages : Client → Type 0
 Stages c = (k : ℕ) → is_bound (c.stage k) ≡ true → c.live ≡ true
 
 abbrev pub Settled : Client → Type 0
-Settled c = (g : ℕ) → is_unsettled (c.outcome g) ≡ false → c.on g ≡ None
+Settled c = (g : ℕ) → is_unsettled (c.outcome g) ≡ false → c.outstanding_on g ≡ None
 
 -- operations are taken in the order of their numbers from 1, each behind its create
 abbrev pub Taken : Client → Type 0
 Taken c = (g : ℕ) → c.sent g ≡ true → 0 < g × g ≤ c.taken
 
 abbrev pub TakenOn : Client → Type 0
-TakenOn c = (g : ℕ) → is_some (c.on g) ≡ true → 0 < g × g ≤ c.taken
+TakenOn c = (g : ℕ) → is_some (c.outstanding_on g) ≡ true → 0 < g × g ≤ c.taken
 
 abbrev pub Creates : Client → Type 0
 Creates c = (g : ℕ) → 0 < g → g ≤ c.taken → makes_open (c.op g) ≡ false → 0 < create_at c g × create_at c g < g × makes_open (c.op (create_at c g)) ≡ true
 
 -- a close waits for the lower operations of its open, and the higher ones wait for it
 abbrev pub Lower : Client → Type 0
-Lower c = (h n : ℕ) → is_some (c.on h) ≡ true → 0 < n → n < h → create_at c n ≡ create_at c h → (shuts_open (c.op h) || shuts_open (c.op n)) ≡ true → is_unsettled (c.outcome n) ≡ false
+Lower c = (h n : ℕ) → is_some (c.outstanding_on h) ≡ true → 0 < n → n < h → create_at c n ≡ create_at c h → (shuts_open (c.op h) || shuts_open (c.op n)) ≡ true → is_unsettled (c.outcome n) ≡ false
 
 -- what went out has an open, and what didn't has no copy
 abbrev pub HasOpen : Client → Type 0
 HasOpen c = (g : ℕ) → c.sent g ≡ true → opens c g ≡ true
 
 abbrev pub AskedOpen : Client → Type 0
-AskedOpen c = (g : ℕ) → is_some (c.on g) ≡ true → opens c g ≡ true
+AskedOpen c = (g : ℕ) → is_some (c.outstanding_on g) ≡ true → opens c g ≡ true
 
 abbrev pub Fresh : Client → (ℕ → ℕ) → Type 0
-Fresh c a = (g : ℕ) → c.sent g ≡ false → c.before g ≡ false × a g ≡ 0 × no_copy_out c g ≡ true
+Fresh c a = (g : ℕ) → c.sent g ≡ false → c.unanswered g ≡ false × a g ≡ 0 × no_copy_out c g ≡ true
 
 -- a copy is its operation's request
 abbrev pub Bodies : Client → (ℕ → Conn) → Type 0
@@ -126,17 +126,17 @@ Bodies c conns = (k n g : ℕ) (x : Sent) → slice_get (conns k).up n ≡ Some 
 
 -- a create, lock or unlock without an unanswered copy, of which a copy waits, hasn't acted
 abbrev pub First : Client → (ℕ → Conn) → (ℕ → ℕ) → Type 0
-First c conns a = (k n g : ℕ) (x : Sent) → slice_get (conns k).up n ≡ Some x → x.token ≡ ForOp g → acts_once (c.op g) ≡ true → c.before g ≡ false → (conns k).client_open ≡ true × a g ≡ 0
+First c conns a = (k n g : ℕ) (x : Sent) → slice_get (conns k).up n ≡ Some x → x.token ≡ ForOp g → acts_once (c.op g) ≡ true → c.unanswered g ≡ false → (conns k).client_open ≡ true × a g ≡ 0
 
 abbrev pub Unsent : Client → (ℕ → ℕ) → Type 0
-Unsent c a = (g : ℕ) → acts_once (c.op g) ≡ true → c.before g ≡ false → no_copy_out c g ≡ true → is_unsettled (c.outcome g) ≡ true → a g ≡ 0
+Unsent c a = (g : ℕ) → acts_once (c.op g) ≡ true → c.unanswered g ≡ false → no_copy_out c g ≡ true → is_unsettled (c.outcome g) ≡ true → a g ≡ 0
 
 abbrev pub SentReplies : Client → (ℕ → Conn) → Type 0
 SentReplies c conns = (k n g : ℕ) (y : Received) → slice_get (conns k).down n ≡ Some y → y.token ≡ ForOp g → c.sent g ≡ true
 
 -- a copy whose session was gone didn't act
 abbrev pub Deleted : Client → (ℕ → Conn) → (ℕ → ℕ) → Type 0
-Deleted c conns a = (k n g : ℕ) (y : Received) → slice_get (conns k).down n ≡ Some y → y.token ≡ ForOp g → acts_once (c.op g) ≡ true → y.reply.status ≡ user_session_deleted → c.before g ≡ false → a g ≡ 0
+Deleted c conns a = (k n g : ℕ) (y : Received) → slice_get (conns k).down n ≡ Some y → y.token ≡ ForOp g → acts_once (c.op g) ≡ true → y.reply.status ≡ user_session_deleted → c.unanswered g ≡ false → a g ≡ 0
 
 pub record Connections (c : Client) (conns : ℕ → Conn) (a : ℕ → ℕ) : Type 0 where
   pub once : Once conns

@@ -20,18 +20,18 @@ or_true false b e = e
 pub zero : (f : ℕ) → (f == 0) ≡ true → f ≡ 0
 zero f e = grind arith
 
-same_info : (a b : model.Info) → a.file ≡ b.file → a.is_directory ≡ b.is_directory → a.size ≡ b.size → a.is_marked ≡ b.is_marked → a.times ≡ b.times → a ≡ b
-same_info a b p q r s t = λ i. record { file = p i; is_directory = q i; size = r i; is_marked = s i; times = t i }
+same_info : (a b : model.Info) → a.file ≡ b.file → a.is_directory ≡ b.is_directory → a.size ≡ b.size → a.is_delete_pending ≡ b.is_delete_pending → a.times ≡ b.times → a ≡ b
+same_info a b p q r s t = λ i. record { file = p i; is_directory = q i; size = r i; is_delete_pending = s i; times = t i }
 
 pub found_info : (s : model.Server) (f : ℕ) (r : Row) (i : Info) → RowFound (Some r) s f → InfoIs i f r → model_info i ≡ info_of s f
 unfolding info_of is_directory
 found_info s f r i h is = by (f == 0) refl h
   where
-    by : (b : Bool) → (f == 0) ≡ b → RowOrRoot b (Some r) s f → model_info i ≡ record { file = f; is_directory = (f == 0) || s.directory f; size = length (s.content f); is_marked = s.marked f; times = s.basic f }
+    by : (b : Bool) → (f == 0) ≡ b → RowOrRoot b (Some r) s f → model_info i ≡ record { file = f; is_directory = (f == 0) || s.directory f; size = length (s.content f); is_delete_pending = s.delete_pending f; times = s.basic f }
     by true e h = let z = zero f e in
-        same_info _ _ is.file_is (is.directory_is ∙ (sym h.1.directory_is ∙ ap (λ b. b || s.directory f) (sym e))) (is.length_is (s.content 0) h.1.content_is ∙ ap (λ g. length (s.content g)) (sym z)) (is.marked_is ∙ (sym h.1.marked_is ∙ ap (λ g. s.marked g) (sym z))) (is.basic_is ∙ (sym h.1.basic_is ∙ ap (λ g. s.basic g) (sym z)))
+        same_info _ _ is.file_is (is.directory_is ∙ (sym h.1.directory_is ∙ ap (λ b. b || s.directory f) (sym e))) (is.length_is (s.content 0) h.1.content_is ∙ ap (λ g. length (s.content g)) (sym z)) (is.marked_is ∙ (sym h.1.delete_pending_is ∙ ap (λ g. s.delete_pending g) (sym z))) (is.basic_is ∙ (sym h.1.basic_is ∙ ap (λ g. s.basic g) (sym z)))
     by false e h =
-        same_info _ _ is.file_is (is.directory_is ∙ (sym h.1.directory_is ∙ ap (λ b. b || s.directory f) (sym e))) (is.length_is (s.content f) h.1.content_is) (is.marked_is ∙ sym h.1.marked_is) (is.basic_is ∙ sym h.1.basic_is)
+        same_info _ _ is.file_is (is.directory_is ∙ (sym h.1.directory_is ∙ ap (λ b. b || s.directory f) (sym e))) (is.length_is (s.content f) h.1.content_is) (is.marked_is ∙ sym h.1.delete_pending_is) (is.basic_is ∙ sym h.1.basic_is)
 
 pub none_found : (o : Option (List ℕ)) → o ≡ None → is_some o ≡ true → false ≡ true
 none_found None a b = b

@@ -1,4 +1,4 @@
-//! The files of a share by number and by path: names, kinds, times, marks for deletion and bytes. The root is 0.
+//! The files of a share by number and by path: names, kinds, times, delete pending and bytes. The root is 0.
 //!
 //! Rows stand by number in a hash map, and paths in upper case in an ordered map. A call that needs memory takes it
 //! first, so that what it does then can't fail.

@@ -70,7 +70,7 @@ fn new_row(
         key,
         below,
         directory,
-        marked: false,
+        delete_pending: false,
         basic: times_at(now, attributes),
         bytes: Extents::new(alloc),
     })

@@ -13,6 +13,7 @@ pub struct Info {
     pub file: u64,
     pub directory: bool,
     pub length: u64,
+    /// Delete pending (MS-FSA 2.1.1.5).
     pub marked: bool,
     pub basic: Basic,
 }
@@ -25,7 +26,7 @@ pub struct Row {
     pub key: String,
     pub below: String,
     pub directory: bool,
-    pub marked: bool,
+    pub delete_pending: bool,
     pub basic: Basic,
     pub bytes: Extents,
 }
@@ -52,7 +53,7 @@ pub fn info_of(file: u64, row: &Row) -> Info
         file,
         directory: row.directory,
         length: row.bytes.len(),
-        marked: row.marked,
+        marked: row.delete_pending,
         basic: row.basic,
     }
 }

@@ -1,7 +1,7 @@
 ghost use Rattle.std.specs.Prelude.{◌≡◌, ℕ, ◌==◌, true, [], length, Option, Some, if◌then◌else◌, nat_eq, option_map, option_copied};
 ghost use Rattle.std.specs.HashMap.{get, hash_map_len};
 ghost use Rattle.exchange_defs.specs.State.{Server};
-ghost use Rattle.exchange_defs.specs.Files.{exists, info_of, path_of, store_basic, mark_file, used};
+ghost use Rattle.exchange_defs.specs.Files.{exists, info_of, path_of, store_basic, set_delete_pending, used};
 ghost use Rattle.file_table.specs.Shown.{ShowsFiles, RowFound, model_info, Begins};
 ghost use Rattle.file_table.specs.declared.row.Row.{Row};
 
@@ -33,13 +33,13 @@ fn put_basic(rows: &mut HashMap<u64, Row>, file: u64, basic: Basic)
     }
 }
 
-fn put_mark(rows: &mut HashMap<u64, Row>, file: u64, marked: bool)
+fn put_delete_pending(rows: &mut HashMap<u64, Row>, file: u64, delete_pending: bool)
     ensures rows { (q : ℕ) → get nat_eq rows.new q
-        ≡ (if q == file then option_map (λ (r : Row). record r { marked = marked }) (get nat_eq rows.old q) else get nat_eq rows.old q) }
+        ≡ (if q == file then option_map (λ (r : Row). record r { delete_pending = delete_pending }) (get nat_eq rows.old q) else get nat_eq rows.old q) }
     ensures count { hash_map_len rows.new ≡ hash_map_len rows.old }
 {
     if let Some(row) = rows.get_mut(&file) {
-        row.marked = marked;
+        row.delete_pending = delete_pending;
     }
 }
 
@@ -56,7 +56,7 @@ impl FileTable {
                 key: String::new(alloc),
                 below: String::new(alloc),
                 directory: true,
-                marked: false,
+                delete_pending: false,
                 basic: times_at(0, 0),
                 bytes: Extents::new(alloc),
             },
@@ -106,14 +106,14 @@ impl FileTable {
         put_basic(&mut self.rows, file, basic);
     }
 
-    /// Sets or clears the mark for deletion.
+    /// Makes a file delete pending (DeletePending of FileDispositionInformation, MS-FSCC 2.4.11), or takes that back.
     pub fn mark(&mut self, file: u64, deleted: bool)
-        ensures { (s : Server) → ShowsFiles self.old s → ShowsFiles self.new (mark_file s file deleted) }
+        ensures { (s : Server) → ShowsFiles self.old s → ShowsFiles self.new (set_delete_pending s file deleted) }
     {
         if file == 0 {
-            self.root.marked = deleted;
+            self.root.delete_pending = deleted;
         }
-        put_mark(&mut self.rows, file, deleted);
+        put_delete_pending(&mut self.rows, file, deleted);
     }
 
     /// The sum of the files' lengths.

@@ -22,12 +22,12 @@ use Rattle.exchange_defs.specs.CheckSetup.{pipes_name}
 
 -- ---- 1
 
-by_rank : (c : Client) (x : Sent) → 0 < c.rank x.message.session → c.rank x.message.session ≤ c.accepts → (0 < c.accepts → c.rank c.accepted ≡ c.accepts) → RankOnce c → c.session ≡ c.accepted → (x.message.session ≡ c.session → x.message.sequence ≤ c.sequence) → NotNewer c x
+by_rank : (c : Client) (x : Sent) → 0 < c.rank x.message.session → c.rank x.message.session ≤ c.accepted_count → (0 < c.accepted_count → c.rank c.accepted ≡ c.accepted_count) → RankOnce c → c.session ≡ c.accepted → (x.message.session ≡ c.session → x.message.sequence ≤ c.sequence) → NotNewer c x
 by_rank c x r le last once cur seq =
-    let top : c.rank c.accepted ≡ c.accepts = last (omega (arith, r, le)) in
-    elim (c.rank x.message.session == c.accepts) as (λ b. c.rank x.message.session == c.accepts ≡ b → NotNewer c x) [
-      | true ↦ λ e. let s : x.message.session ≡ c.session = once x.message.session c.accepted r (eqb-true (c.rank x.message.session) c.accepts e ∙ sym top) ∙ sym cur in SameSession s (seq s)
-      | false ↦ λ e. let ne = eqb-false (c.rank x.message.session) c.accepts e in let rank : c.rank c.session ≡ c.accepts = ap c.rank cur ∙ top in OlderSession (omega (arith, le, ne, rank))
+    let top : c.rank c.accepted ≡ c.accepted_count = last (omega (arith, r, le)) in
+    elim (c.rank x.message.session == c.accepted_count) as (λ b. c.rank x.message.session == c.accepted_count ≡ b → NotNewer c x) [
+      | true ↦ λ e. let s : x.message.session ≡ c.session = once x.message.session c.accepted r (eqb-true (c.rank x.message.session) c.accepted_count e ∙ sym top) ∙ sym cur in SameSession s (seq s)
+      | false ↦ λ e. let ne = eqb-false (c.rank x.message.session) c.accepted_count e in let rank : c.rank c.session ≡ c.accepted_count = ap c.rank cur ∙ top in OlderSession (omega (arith, le, ne, rank))
     ] refl
 
 pub copies_own : (w : World) (a : ℕ → ℕ) → Connections w.client w.conns a → Sessions w.client w.conns w.server → CopiesAreOwn w
@@ -53,10 +53,10 @@ names_one : (P : Type 0) (o : Option ℕ) → is_some o ≡ true → ((p : ℕ) 
 names_one P None e f = absurd (cc)
 names_one P (Some p) e f = f p refl
 
-told_by : (c : Client) (s : Server) (session g : ℕ) → ((o : ℕ) → s.by_guid c.who.guid (guid_for c g) ≡ Some o → s.standing o ≡ true) → (s.closed session (guid_for c g) || (is_some (s.by_guid c.who.guid (guid_for c g)) || s.marks c.who.guid (guid_for c g))) ≡ true
+told_by : (c : Client) (s : Server) (session g : ℕ) → ((o : ℕ) → s.by_guid c.who.guid (guid_for c g) ≡ Some o → s.standing o ≡ true) → (s.closed session (guid_for c g) || (is_some (s.by_guid c.who.guid (guid_for c g)) || s.expired_guids c.who.guid (guid_for c g))) ≡ true
     → ToldByGuid c s session g
 told_by c s session g stands e =
-    one_of (ToldByGuid c s session g) (s.closed session (guid_for c g)) (is_some (s.by_guid c.who.guid (guid_for c g))) (s.marks c.who.guid (guid_for c g)) e
+    one_of (ToldByGuid c s session g) (s.closed session (guid_for c g)) (is_some (s.by_guid c.who.guid (guid_for c g))) (s.expired_guids c.who.guid (guid_for c g)) e
     (λ z. KeptClosed z)
     (λ z. names_one (ToldByGuid c s session g) (s.by_guid c.who.guid (guid_for c g)) z (λ o q. NamesOpen o q (stands o q)))
     (λ z. Marked z)
@@ -97,14 +97,14 @@ creates_kept w a cn cr k n g x l mk =
 -- ---- 4
 
 lock_slot : (w : World) (a : ℕ → ℕ) (g : ℕ) → Locks w.client w.conns w.server a → user_at w.client g ≡ Some g → w.server.standing (open_of w.client g) ≡ true
-    → (kept : Option ℕ) → kept_status (w.client.number_of g) (w.server.slots (open_of w.client g) (w.client.slot_of g)) ≡ kept → LockHolds w a g
+    → (kept : Option ℕ) → kept_status (w.client.number_of g) (w.server.lock_sequences (open_of w.client g) (w.client.slot_of g)) ≡ kept → LockHolds w a g
 unfolding its_create kept_at
 lock_slot w a g i u st (Some status) e = SlotTells status e (i.kept_says g status u st e)
 lock_slot w a g i u st None e = LockToCome e (i.not_kept g u st e)
 
 lock_open : (w : World) (a : ℕ → ℕ) (g : ℕ) → Locks w.client w.conns w.server a → user_at w.client g ≡ Some g → (b : Bool) → w.server.standing (open_of w.client g) ≡ b → LockHolds w a g
 lock_open w a g i u false e = OpenLeft e
-lock_open w a g i u true e = lock_slot w a g i u e (kept_status (w.client.number_of g) (w.server.slots (open_of w.client g) (w.client.slot_of g))) refl
+lock_open w a g i u true e = lock_slot w a g i u e (kept_status (w.client.number_of g) (w.server.lock_sequences (open_of w.client g) (w.client.slot_of g))) refl
 
 pub locks_kept : (w : World) (a : ℕ → ℕ) → Locks w.client w.conns w.server a → LocksAreKept w a
 unfolding its_create locking

@@ -45,16 +45,16 @@ two_opens at o p y e f same = absurd (grind arith)
 of_session : (stands : Bool) (at : Option ℕ) (y : ℕ) → stands ≡ true → at ≡ Some y → (stands && is_at y at) ≡ true
 of_session stands at y e f = grind arith
 
-still_there : (s : Server) (now : ℕ) (t : Server) → Before s now t → Fits s → (o y : ℕ) → s.at o ≡ Some y → is_of_session t o y ≡ true
-still_there s now t (inl e) f o y at = subst (λ u. is_of_session u o y ≡ true) (sym e) (of_session (s.standing o) (s.at o) y (f.attached o y at).0 at)
+still_there : (s : Server) (now : ℕ) (t : Server) → Before s now t → Fits s → (o y : ℕ) → s.session_of_open o ≡ Some y → is_of_session t o y ≡ true
+still_there s now t (inl e) f o y at = subst (λ u. is_of_session u o y ≡ true) (sym e) (of_session (s.standing o) (s.session_of_open o) y (f.attached o y at).0 at)
 still_there s now t (inr q) f o y at =
     let d = with_deadlines s now in
-    let apart : o ≢ q.0 = two_opens s.at o q.0 y at (apart_due d now q.0 (deadlines_keeps s now f) q.1) in
+    let apart : o ≢ q.0 = two_opens s.session_of_open o q.0 y at (apart_due d now q.0 (deadlines_keeps s now f) q.1) in
     let v = expire_view d q.0 in
     subst (λ u. is_of_session u o y ≡ true) (sym q.2)
-    (of_session ((expire d q.0).standing o) ((expire d q.0).at o) y
+    (of_session ((expire d q.0).standing o) ((expire d q.0).session_of_open o) y
     (ap (λ (z : View). z.standing o) v ∙ (put_other s.standing q.0 false o apart ∙ (f.attached o y at).0))
-    (ap (λ (z : View). z.at o) v ∙ (put_other s.at q.0 None o apart ∙ at)))
+    (ap (λ (z : View). z.session_of_open o) v ∙ (put_other s.session_of_open q.0 None o apart ∙ at)))
 
 -- ---- the checks, to that of the sequence
 
@@ -95,7 +95,7 @@ late_form : (s t : Server) (x : Sent) (op : ContentOp) (o : ℕ) → x.message.c
 late_form s t x op o is c h (Some status) e = By status (BreaksForm e)
 late_form s t x op o is c h None e = subst (λ z. Turned s x (command_check t x.message z)) (sym is) (late_command s t x op o c h)
 
-late_check : (s t : Server) (x : Sent) (op : ContentOp) (o : ℕ) → x.message.command ≡ asks op o → x.message.fault ≡ None → is_change op ≡ true → t.on ≡ s.on → is_some (tree_in (t.trees x.message.session) x.message.tree) ≡ true
+late_check : (s t : Server) (x : Sent) (op : ContentOp) (o : ℕ) → x.message.command ≡ asks op o → x.message.fault ≡ None → is_change op ≡ true → t.session_on ≡ s.session_on → is_some (tree_in (t.trees x.message.session) x.message.tree) ≡ true
     → is_of_session t o x.message.session ≡ true → is_late t x.message o ≡ true → Turned s x (check t x.message)
 late_check s t x op o is fault c same tree on late =
     either (Turned s x) (is_setup x.message.command || has_session t x.message) _ _
@@ -115,13 +115,13 @@ TurnedBy s x A = A.acted ≡ false × OlderStatus s x A.reply.status
 turned_answer : (s t : Server) (x : Sent) (now : ℕ) (records : List Record) (v : Verdict) → Turned s x v → TurnedBy s x (recorded (apply t x.message now v) records)
 turned_answer s t x now records _ (By status h) = (refl, h)
 
-late_step : (s : Server) (now : ℕ) (x : Sent) (op : ContentOp) (o : ℕ) → Fits s → x.message.command ≡ asks op o → x.message.fault ≡ None → is_change op ≡ true → is_some (tree_in (s.trees x.message.session) x.message.tree) ≡ true → s.at o ≡ Some x.message.session
+late_step : (s : Server) (now : ℕ) (x : Sent) (op : ContentOp) (o : ℕ) → Fits s → x.message.command ≡ asks op o → x.message.fault ≡ None → is_change op ≡ true → is_some (tree_in (s.trees x.message.session) x.message.tree) ≡ true → s.session_of_open o ≡ Some x.message.session
     → is_late s x.message o ≡ true → TurnedBy s x (step s now (Heard x.message))
 late_step s now x op o f is fault c tree at late =
     by_verdict (TurnedBy s x) s now x.message
     (λ t v records b h. let k = before_stays s now t b in let sq : t.sequence o ≡ s.sequence o = ap (λ g. g o) (earlier s now t b).sequence in
     turned_answer s t x now records v (turned_found s t x v
-    (late_check s t x op o is fault c k.on (ap (λ g. is_some (tree_in (g x.message.session) x.message.tree)) k.trees ∙ tree) (still_there s now t b f o x.message.session at) (same_late s t x.message o sq ∙ late)) h))
+    (late_check s t x op o is fault c k.session_on (ap (λ g. is_some (tree_in (g x.message.session) x.message.tree)) k.trees ∙ tree) (still_there s now t b f o x.message.session at) (same_late s t x.message o sq ∙ late)) h))
   where
     same_late : (s t : Server) (m : Message) (o : ℕ) → t.sequence o ≡ s.sequence o → is_late t m o ≡ is_late s m o
     same_late s t m o e = rw e refl
@@ -159,7 +159,7 @@ some_same x y e = grind arith
 -- a session that is gone was accepted before the one that is there
 older_session : (w : World) → Sessions w.client w.conns w.server → (x y : ℕ) → w.server.present x ≡ false → 0 < w.client.rank x → w.server.present y ≡ true → 0 < w.client.rank y → w.client.rank x < w.client.rank y
 older_session w ss x y gone rx there ry =
-    let last = ss.last_rank (let le = ss.ranks y in omega (arith, le, ry)) in let top : w.client.rank y ≡ w.client.accepts = ap w.client.rank (ss.present_accepted y there ry) ∙ last in let le = ss.ranks x in
+    let last = ss.last_rank (let le = ss.ranks y in omega (arith, le, ry)) in let top : w.client.rank y ≡ w.client.accepted_count = ap w.client.rank (ss.present_accepted y there ry) ∙ last in let le = ss.ranks x in
     elim (w.client.rank x == w.client.rank y) as (λ b. w.client.rank x == w.client.rank y ≡ b → w.client.rank x < w.client.rank y) [
       | true ↦ λ e. absurd (clash (w.server.present x) (ap w.server.present (ss.rank_once x y rx (eqb-true (w.client.rank x) (w.client.rank y) e)) ∙ there) gone)
       | false ↦ λ e. let ne = eqb-false (w.client.rank x) (w.client.rank y) e in omega (arith, le, ne, top)
@@ -172,10 +172,10 @@ opens_newest w a ss cr nw i o lt r st =
       apart = λ none. by_apart none (w.server.present (w.trace.session i)) refl;
     }
   where
-    by_present : (y : ℕ) → w.server.at o ≡ Some y → (b : Bool) → w.server.present (w.trace.session i) ≡ b → ReachedBefore w i o y
+    by_present : (y : ℕ) → w.server.session_of_open o ≡ Some y → (b : Bool) → w.server.present (w.trace.session i) ≡ b → ReachedBefore w i o y
     by_present y at true e = let h = nw.held i o lt r st e in InSameSession (some_same (w.trace.session i) y (sym h.0 ∙ at)) h.1
     by_present y at false e = let h = cr.attached o y at in InOlderSession (older_session w ss (w.trace.session i) y e (nw.ranked i o lt r) h.1 h.0)
 
-    by_apart : w.server.at o ≡ None → (b : Bool) → w.server.present (w.trace.session i) ≡ b → w.server.present (w.trace.session i) ≡ false
+    by_apart : w.server.session_of_open o ≡ None → (b : Bool) → w.server.present (w.trace.session i) ≡ b → w.server.present (w.trace.session i) ≡ false
     by_apart none false e = e
     by_apart none true e = absurd (let h = (nw.held i o lt r st e).0 in grind arith)

@@ -42,7 +42,7 @@ pub record OwnCopy (c : Client) (g : ℕ) (x : Sent) : Type 0 where
   -- its guid, or its open, slot and number
   pub request : x.message.command ≡ request_of (c.op g) (guid_for c g) (open_of c g) (c.slot_of g) (c.number_of g)
   pub client : x.message.client ≡ c.who.guid
-  pub accepted : 0 < c.rank x.message.session × c.rank x.message.session ≤ c.accepts
+  pub accepted : 0 < c.rank x.message.session × c.rank x.message.session ≤ c.accepted_count
   pub not_newer : c.live ≡ true → NotNewer c x
 
 abbrev pub CopiesAreOwn : World → Type 0
@@ -67,7 +67,7 @@ GoneIsDeleted w = (k n : ℕ) (x : Sent) → slice_get (w.conns k).up n ≡ Some
 pub data ToldByGuid (c : Client) (s : Server) (session g : ℕ) : Type 0 where
   NamesOpen : (o : ℕ) → s.by_guid c.who.guid (guid_for c g) ≡ Some o → s.standing o ≡ true → ToldByGuid c s session g
   KeptClosed : s.closed session (guid_for c g) ≡ true → ToldByGuid c s session g
-  Marked : s.marks c.who.guid (guid_for c g) ≡ true → ToldByGuid c s session g
+  Marked : s.expired_guids c.who.guid (guid_for c g) ≡ true → ToldByGuid c s session g
 
 -- why no copy of it acts in this session
 pub data RefusedAgain (c : Client) (s : Server) (x : Sent) (g : ℕ) : Type 0 where
@@ -89,8 +89,8 @@ CreatesAreKept w a = (k n g : ℕ) (x : Sent) → LiveCopy w k n g x → is_crea
 
 pub data LockHolds (w : World) (a : ℕ → ℕ) (g : ℕ) : Type 0 where
   OpenLeft : w.server.standing (open_of w.client g) ≡ false → LockHolds w a g
-  SlotTells : (status : ℕ) → kept_status (w.client.number_of g) (w.server.slots (open_of w.client g) (w.client.slot_of g)) ≡ Some status → a g ≡ (if status == success then 1 else 0) → LockHolds w a g
-  LockToCome : kept_status (w.client.number_of g) (w.server.slots (open_of w.client g) (w.client.slot_of g)) ≡ None → a g ≡ 0 → LockHolds w a g
+  SlotTells : (status : ℕ) → kept_status (w.client.number_of g) (w.server.lock_sequences (open_of w.client g) (w.client.slot_of g)) ≡ Some status → a g ≡ (if status == success then 1 else 0) → LockHolds w a g
+  LockToCome : kept_status (w.client.number_of g) (w.server.lock_sequences (open_of w.client g) (w.client.slot_of g)) ≡ None → a g ≡ 0 → LockHolds w a g
 
 pub record LockCopy (w : World) (a : ℕ → ℕ) (g : ℕ) : Type 0 where
   -- the last that took the slot: no newer number stands there
@@ -130,7 +130,7 @@ pub record OlderRefused (w : World) (x : Sent) : Type 0 where
 
 abbrev pub OlderIsRefused : World → Type 0
 OlderIsRefused w =
-    (k n g : ℕ) (x : Sent) → LiveCopy w k n g x → is_change (content_op (w.client.op g)) ≡ true → w.server.standing (open_of w.client g) ≡ true → w.server.at (open_of w.client g) ≡ Some x.message.session
+    (k n g : ℕ) (x : Sent) → LiveCopy w k n g x → is_change (content_op (w.client.op g)) ≡ true → w.server.standing (open_of w.client g) ≡ true → w.server.session_of_open (open_of w.client g) ≡ Some x.message.session
     → x.message.sequence < w.server.sequence (open_of w.client g) → OlderRefused w x
 
 -- the pair that reached an open at place i, against that of the open in its session y
@@ -140,8 +140,8 @@ pub data ReachedBefore (w : World) (i o y : ℕ) : Type 0 where
 
 -- where the open is attached in no session, the session of the pair is gone
 pub record OpenIsNewest (w : World) (i o : ℕ) : Type 0 where
-  pub attached : (y : ℕ) → w.server.at o ≡ Some y → ReachedBefore w i o y
-  pub apart : w.server.at o ≡ None → w.server.present (w.trace.session i) ≡ false
+  pub attached : (y : ℕ) → w.server.session_of_open o ≡ Some y → ReachedBefore w i o y
+  pub apart : w.server.session_of_open o ≡ None → w.server.present (w.trace.session i) ≡ false
 
 abbrev pub OpensAreNewest : World → Type 0
 OpensAreNewest w = (i o : ℕ) → i < w.log.places → w.trace.reached i ≡ Some o → w.server.standing o ≡ true → OpenIsNewest w i o

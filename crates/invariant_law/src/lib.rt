@@ -18,7 +18,7 @@ ghost use Rattle.invariant_law.specs.Parts.{CopiesAreOwn, GoneIsDeleted, Creates
 /// 2. `gone`: where a session is gone from the server, a copy or a DH2C of it is answered USER_SESSION_DELETED and
 ///    doesn't act.
 /// 3. `creates`: a create with a live copy acted once, and its guid names an open that stands, or is kept as closed in the
-///    copy's session, or is marked; or it didn't act, and every copy is refused in that session; or it hasn't acted, and
+///    copy's session, or its guid has expired; or it didn't act, and every copy is refused in that session; or it hasn't acted, and
 ///    isn't settled as Refused, NoOpen or NoSlot.
 /// 4. `locks`: a lock or unlock with a live copy is the last that took its slot; and its open has left, or its slot keeps
 ///    for its number the status on which it acted or didn't, or the slot keeps none for it and it hasn't acted.

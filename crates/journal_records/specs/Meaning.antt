@@ -30,7 +30,7 @@ record_of (SetDelete origin file marked) = model.DeleteRecord origin file marked
 record_of (Rename origin file replaced path) = model.RenameRecord origin file replaced path
 record_of (Remove origin file) = model.RemoveRecord origin file
 record_of (Lock origin id index number status elements) = model.LockRecord origin id index number status (elements_in (length elements / 24) elements)
-record_of (Shut origin id) = model.ShutRecord origin id
+record_of (Shut origin id) = model.CloseRecord origin id
 record_of (Version number) = model.VersionRecord number
 record_of (Expire origin id) = model.ExpireRecord origin id
 

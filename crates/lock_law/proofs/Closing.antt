@@ -15,7 +15,7 @@ use Rattle.exchange_defs.specs.Operations.{Op, is_unsettled, is_ok}
 use Rattle.exchange_defs.specs.Client.{Client, guid_for}
 use Rattle.exchange_defs.specs.Network.{Conn, Sent, Received, ForOp}
 use Rattle.exchange_defs.specs.Runs.{is_send_of}
-use Rattle.exchange_defs.specs.Verdict.{Verdict, TurnDown, Shut}
+use Rattle.exchange_defs.specs.Verdict.{Verdict, TurnDown, CloseOpen}
 use Rattle.exchange_law.specs.Connections.{makes_open, shuts_open, create_at, its_request}
 use Rattle.server_law.proofs.Logic.{either}
 use Rattle.server_law.proofs.Doors.{recorded}
@@ -137,7 +137,7 @@ shut_idle c conns d t a k h g x0 front w same room p m s0 un lv st its =
         let r = stuck_fits d t front (origin_of x0.message) (open_at c h) pe (w.serving.locks.kept_files (open_at c h) st) ls.1 room in
         absurd (let x = no_room t.journal d.journal same ls.0 r in cc)
 
-left_standing : (t : Server) (m : Message) (o : ℕ) → (apply t m 0 (Shut o Empty)).server.standing o ≡ false
+left_standing : (t : Server) (m : Message) (o : ℕ) → (apply t m 0 (CloseOpen o Empty)).server.standing o ≡ false
 left_standing t m o = ap (λ z. z.standing o) (shut_view t o m.session) ∙ put_same t.standing o
   where
     put_same : (f : ℕ → Bool) (o : ℕ) → put f o false o ≡ false
@@ -166,7 +166,7 @@ close_fits c conns d t a k h x0 now front v w same is room (Shuts on st) =
           (λ j n g y e1 e2 ok lv pr sg cl gone. let so = closes_same m.command o1 (open_at c g) w.command cl in
           let ad = w.serving.locks.ask_down j n g y e1 e2 in let cr = w.serving.links.creates g ad.0 ad.1 ad.2 in
           let its = same_file c conns t a w.serving.creates (create_at c h) (create_at c g) w.made w.ok cr.2 ad.3 st so in
-          subst (λ z. c.attached z ≡ c.number) its (w.serving.locks.copy_now k 0 h x0 w.serving.front w.token (close_kind (c.op h) w.shuts) p lv).0),
+          subst (λ z. c.attached z ≡ c.session_number) its (w.serving.locks.copy_now k 0 h x0 w.serving.front w.token (close_kind (c.op h) w.shuts) p lv).0),
       λ o place. say_close c _ _ h _ w.token w.shuts (record {
         done = λ s. left_standing t m o1;
         full = λ n1 n2 sd. absurd (let x = clash _ (left_standing t m o1) sd in cc);
@@ -186,8 +186,8 @@ reached_stuck : (d : Server) (m : Message) (o n : ℕ) → ((d.opened o).persist
     → lower_limit < (reach d m o).journal + n + 34 × goes_with (record (reach d m o) { journal = (reach d m o).journal + n }) o ≡ true
 reached_stuck d m o n f pe =
     either (λ u. (u.opened o).persistent ≡ false → lower_limit < u.journal + n + 34 × goes_with (record u { journal = u.journal + n }) o ≡ true) (is_late d m o) d (record d { sequence = put d.sequence o m.sequence })
-    (λ _ e. (more d.journal (f e).1, goes_same d d.sequence d.ranges d.slots (d.journal + n) o ∙ (f e).0))
-    (λ _ e. (more d.journal (f e).1, goes_same d (put d.sequence o m.sequence) d.ranges d.slots (d.journal + n) o ∙ (f e).0)) pe
+    (λ _ e. (more d.journal (f e).1, goes_same d d.sequence d.ranges d.lock_sequences (d.journal + n) o ∙ (f e).0))
+    (λ _ e. (more d.journal (f e).1, goes_same d (put d.sequence o m.sequence) d.ranges d.lock_sequences (d.journal + n) o ∙ (f e).0)) pe
   where
     more : (j : ℕ) → lower_limit < j + 34 → lower_limit < j + n + 34
     more j l = omega (arith, l)

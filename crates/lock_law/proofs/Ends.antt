@@ -4,7 +4,7 @@ use Rattle.exchange_defs.specs.State.{Server, ServerEvent, Accept, End, Answer, 
 use Rattle.exchange_defs.specs.CheckSetup.{is_new}
 use Rattle.exchange_defs.specs.Records.{lower_limit, fits, entry_bytes, origin_at}
 use Rattle.exchange_defs.specs.Effects.{end_if_named, records_if_named, end_records}
-use Rattle.exchange_defs.specs.Step.{step, table, expiring, written_down, with_deadlines, due, expire, expire_records, behind_expiry, max_marks, max_connections, ruling, ruling_without_room, carried_out, connection_of, Ruling, TakesIn, TurnsAway, TakesOut, ends_with, forget_connection, take_out}
+use Rattle.exchange_defs.specs.Step.{step, table, expiring, written_down, with_deadlines, due, expire, expire_records, behind_expiry, max_expired_guids, max_connections, ruling, ruling_without_room, carried_out, connection_of, Ruling, TakesIn, TurnsAway, TakesOut, ends_with, forget_connection, take_out}
 use Rattle.exchange_defs.specs.Client.{Client}
 use Rattle.exchange_defs.specs.Network.{Conn}
 use Rattle.exchange_law.specs.Connections.{Connections}
@@ -36,7 +36,7 @@ by_due : (P : Answer → Type 0) (s : Server) (now : ℕ) (e : ServerEvent) → 
 by_due P s now e f g None h = by_table P s now e f g
 by_due P s now e f g (Some o) h =
     let d = with_deadlines s now in let t = expire d o in
-    either (λ A. P (written_down A)) (nat_le max_marks d.mark_count) (table d now e) (behind_expiry d now e (expire_records d (origin_at (connection_of e)) o) (carried_out t now (ruling t e))) (λ _. by_table P s now e f g)
+    either (λ A. P (written_down A)) (nat_le max_expired_guids d.expired_count) (table d now e) (behind_expiry d now e (expire_records d (origin_at (connection_of e)) o) (carried_out t now (ruling t e))) (λ _. by_table P s now e f g)
     (λ _. either (λ A. P (written_down A)) (fits d (expire_records d (origin_at (connection_of e)) o ++ (carried_out t now (ruling t e)).records)) (record (carried_out t now (ruling t e)) { records = expire_records d (origin_at (connection_of e)) o ++ (carried_out t now (ruling t e)).records }) (table d now e)
     (λ r. f t (expire_records d (origin_at (connection_of e)) o) (inr (o, h, refl)) (λ l. absurd (no_room d (connection_of e) o (carried_out t now (ruling t e)).records r l)) r)
     (λ _. by_table P s now e f g))
@@ -54,7 +54,7 @@ moved : (c : Client) (conns : ℕ → Conn) (t u : Server) (a : ℕ → ℕ) (rs
 unfolding no_closes
 moved c conns t u a rs l C q st k i =
     quiet_keeps c conns t a (record u { journal = u.journal + entry_bytes rs }) a 0 no_closes l C (λ p m. refl) (grows (λ x. is_new x (t.making 0)) no_closes (view t) (view u) (entry_bytes rs) q)
-    (λ big. let x = st big in record { entries = x.entries; marked = x.marked; directory = x.directory; others = x.others }) i.made_plain k
+    (λ big. let x = st big in record { entries = x.entries; delete_pending = x.delete_pending; directory = x.directory; others = x.others }) i.made_plain k
     (λ g m s0 un lv p sd e off. absurd (cc)) (λ j n g y h e ok lv p sd x off. absurd (cc)) i
 
 -- ---- a connection is accepted
@@ -88,7 +88,7 @@ ended_locks : (c : Client) (conns : ℕ → Conn) (t : Server) (a : ℕ → ℕ)
     → Locks c conns (recorded (carried_out t now (TakesOut k quiet)) rs).server a
 ended_locks c conns t a k now quiet rs bare l C i =
     moved c conns t (take_out t k now quiet) a rs l C (ended_quiet t k now (ends_with t k) quiet)
-    (λ big. let x = named_steady t (origin_at k) now (ends_with t k) quiet (bare big) in record { entries = x.entries; marked = x.marked; directory = x.directory; others = x.others })
+    (λ big. let x = named_steady t (origin_at k) now (ends_with t k) quiet (bare big) in record { entries = x.entries; delete_pending = x.delete_pending; directory = x.directory; others = x.others })
     (end_kept t now (ends_with t k) quiet i.kept_files) i
 
 quiet_none : (t : Server) (k : ℕ) (named : Option ℕ) → records_if_named t (origin_at k) named true ≡ []

@@ -4,11 +4,11 @@ use Rattle.exchange_defs.specs.Table.{put}
 use Rattle.exchange_defs.specs.Status.{success}
 use Rattle.exchange_defs.specs.Commands.{deletes_on_close}
 use Rattle.exchange_defs.specs.State.{Server}
-use Rattle.exchange_defs.specs.Files.{mark_file}
-use Rattle.exchange_defs.specs.Opens.{drop_open, leave_open, marked_by, goes}
+use Rattle.exchange_defs.specs.Files.{set_delete_pending}
+use Rattle.exchange_defs.specs.Opens.{drop_open, leave_open, pending_behind, goes}
 use Rattle.exchange_defs.specs.CheckSetup.{is_new}
 use Rattle.exchange_defs.specs.Records.{lower_limit}
-use Rattle.exchange_defs.specs.Step.{with_deadlines, due, due_in, is_past, expire, add_mark}
+use Rattle.exchange_defs.specs.Step.{with_deadlines, due, due_in, is_past, expire, add_expired_guid}
 use Rattle.exchange_defs.specs.Operations.{is_unsettled, is_ok, id_in}
 use Rattle.exchange_defs.specs.Client.{Client, guid_for}
 use Rattle.exchange_defs.specs.Network.{Conn, Received, ForOp, ForAttach}
@@ -32,7 +32,7 @@ pub record Lower (c : Client) (conns : ℕ → Conn) (s : Server) : Type 0 where
   pub ranked_up : RankedUp c conns
   pub unranked : (j x : ℕ) → is_new x (s.making j) ≡ true → c.rank x ≡ 0
   pub lives : c.live ≡ true → 0 < c.rank c.session
-  pub attached : (o y : ℕ) → s.at o ≡ Some y → o ≤ (view s).last × s.present y ≡ true
+  pub attached : (o y : ℕ) → s.session_of_open o ≡ Some y → o ≤ (view s).last × s.present y ≡ true
   pub named_given : (q o : ℕ) → s.by_guid c.who.guid (guid_for c q) ≡ Some o → o ≤ (view s).last
   pub fits : Fits s
 
@@ -50,15 +50,15 @@ pub quiet_keeps : (c : Client) (conns : ℕ → Conn) (t : Server) (a : ℕ → 
     → Lower c conns t → Connections c conns a → ((p : ℕ) → locking (c.op p) ≡ true → a2 p ≡ a p) → Quiet (λ x. is_new x (t.making k)) closes (view t) (view u)
     → (lower_limit < t.journal + 34 → Steady t u) → ((q : ℕ) → makes_open (c.op q) ≡ true → 1 ≤ a2 q → piped c.who.share ≡ false) → ((o : ℕ) → u.standing o ≡ true → deletes_on_close (u.opened o).options ≡ false)
     → ((g : ℕ) → locking (c.op g) ≡ true → c.sent g ≡ true → is_unsettled (c.outcome g) ≡ true → c.live ≡ true → u.present c.session ≡ true → t.standing (open_at c g) ≡ true → closes (open_at c g) ≡ true → u.standing (open_at c g) ≡ false → a g ≡ 0)
-    → ((j n g : ℕ) (y : Received) → slice_get (conns j).down n ≡ Some y → y.token ≡ ForAttach g → y.reply.status ≡ success → c.live ≡ true → u.present c.session ≡ true → t.standing (open_at c g) ≡ true → closes (open_at c g) ≡ true → u.standing (open_at c g) ≡ false → c.attached (create_at c g) ≡ c.number)
+    → ((j n g : ℕ) (y : Received) → slice_get (conns j).down n ≡ Some y → y.token ≡ ForAttach g → y.reply.status ≡ success → c.live ≡ true → u.present c.session ≡ true → t.standing (open_at c g) ≡ true → closes (open_at c g) ≡ true → u.standing (open_at c g) ≡ false → c.attached (create_at c g) ≡ c.session_number)
     → Locks c conns t a → Locks c conns u a2
 quiet_keeps c conns t a u a2 k closes l C same_a q steady plain keeps shut joined i =
     moves_keeps c conns t a u a2 same_a q.journal
     (λ j n x h o p. stay x.message.session (l.ranked_up j n x h o) p)
     stay_now
     (λ p m ok st. q.standing (c.file p) (l.given p m ok) st)
-    (λ o y at st p. q.at o y (l.attached o y at).0 at st p)
-    (λ p r m ok st. q.slots (c.file p) r (l.given p m ok))
+    (λ o y at st p. q.session_of_open o y (l.attached o y at).0 at st p)
+    (λ p r m ok st. q.lock_sequences (c.file p) r (l.given p m ok))
     (λ p m ok st. ap (λ z. z.persistent) (q.opened (c.file p) (l.given p m ok)))
     (λ p m ok st pl g big. goes_on t u (c.file p) (steady big) (q.opened (c.file p) (l.given p m ok)) (i.kept_files (c.file p) (q.standing (c.file p) (l.given p m ok) st)) g)
     (λ p r o m ok e. unmade p r o m ok e)
@@ -74,26 +74,26 @@ quiet_keeps c conns t a u a2 k closes l C same_a q steady plain keeps shut joine
     stay_now : c.live ≡ true → u.present c.session ≡ true → t.present c.session ≡ true
     stay_now lv p = stay c.session (l.lives lv) p
 
-    unmade : (p r o : ℕ) → makes_open (c.op p) ≡ true → is_ok (c.outcome p) ≡ false → u.by_guid c.who.guid (guid_for c p) ≡ Some o → u.slots o r ≡ None
+    unmade : (p r o : ℕ) → makes_open (c.op p) ≡ true → is_ok (c.outcome p) ≡ false → u.by_guid c.who.guid (guid_for c p) ≡ Some o → u.lock_sequences o r ≡ None
     unmade p r o m ok e = of_named (q.named c.who.guid (guid_for c p) o r e)
       where
-        of_named : (t.by_guid c.who.guid (guid_for c p) ≡ Some o) ⊎ (u.slots o r ≡ None) → u.slots o r ≡ None
-        of_named (inl old) = q.slots o r (l.named_given p o old) ∙ i.no_slots p r o m ok old
+        of_named : (t.by_guid c.who.guid (guid_for c p) ≡ Some o) ⊎ (u.lock_sequences o r ≡ None) → u.lock_sequences o r ≡ None
+        of_named (inl old) = q.lock_sequences o r (l.named_given p o old) ∙ i.no_slots p r o m ok old
         of_named (inr new) = new
 
     -- an open of the client's session stays, but where the message closes it
-    still : (o : ℕ) → u.present c.session ≡ true → t.standing o ≡ true → t.at o ≡ Some c.session → u.standing o ≡ false → closes o ≡ true
+    still : (o : ℕ) → u.present c.session ≡ true → t.standing o ≡ true → t.session_of_open o ≡ Some c.session → u.standing o ≡ false → closes o ≡ true
     still o p st at off = elim (closes o) as (λ b. closes o ≡ b → closes o ≡ true) [
       | true ↦ λ e. e
       | false ↦ λ e. let x = q.lasts o c.session e st at p in absurd (grind arith)
     ] refl
 
-    closed_not : (g : ℕ) → locking (c.op g) ≡ true → c.sent g ≡ true → is_unsettled (c.outcome g) ≡ true → c.live ≡ true → c.attached (create_at c g) ≡ c.number → u.present c.session ≡ true → t.standing (open_at c g) ≡ true → u.standing (open_at c g) ≡ false → a g ≡ 0
+    closed_not : (g : ℕ) → locking (c.op g) ≡ true → c.sent g ≡ true → is_unsettled (c.outcome g) ≡ true → c.live ≡ true → c.attached (create_at c g) ≡ c.session_number → u.present c.session ≡ true → t.standing (open_at c g) ≡ true → u.standing (open_at c g) ≡ false → a g ≡ 0
     closed_not g m s0 un lv at1 p st off =
         let lk = lock_kind (c.op g) m in let ok = ok_of c C.has_open g s0 lk in let mk = made_of c C.taken C.creates g s0 lk in
         shut g m s0 un lv p st (still (open_at c g) p st (i.now_attached (create_at c g) mk ok lv at1 (stay_now lv p) st) off) off
 
-    joined_now : (j n g : ℕ) (y : Received) → slice_get (conns j).down n ≡ Some y → y.token ≡ ForAttach g → y.reply.status ≡ success → c.live ≡ true → u.present c.session ≡ true → t.standing (open_at c g) ≡ true → u.standing (open_at c g) ≡ false → c.attached (create_at c g) ≡ c.number
+    joined_now : (j n g : ℕ) (y : Received) → slice_get (conns j).down n ≡ Some y → y.token ≡ ForAttach g → y.reply.status ≡ success → c.live ≡ true → u.present c.session ≡ true → t.standing (open_at c g) ≡ true → u.standing (open_at c g) ≡ false → c.attached (create_at c g) ≡ c.session_number
     joined_now j n g y h e ok lv p st off = joined j n g y h e ok lv p st (still (open_at c g) p st (i.join_reply j n g y h e ok lv (stay_now lv p) st) off) off
 
 -- ---- an expiry in front
@@ -110,27 +110,27 @@ past_due deadline (p ∷ os) now o e = elim (is_past now (deadline p)) as (λ b.
     of_past None h = absurd (cc)
     of_past (Some d) h = refl
 
-pub apart_due : (s : Server) (now o : ℕ) → Fits s → due s now ≡ Some o → s.at o ≡ None
+pub apart_due : (s : Server) (now o : ℕ) → Fits s → due s now ≡ Some o → s.session_of_open o ≡ None
 apart_due s now o f e = of_deadline (s.deadline o) refl (past_due s.deadline s.opens now o e)
   where
-    of_deadline : (d : Option ℕ) → s.deadline o ≡ d → is_some d ≡ true → s.at o ≡ None
+    of_deadline : (d : Option ℕ) → s.deadline o ≡ d → is_some d ≡ true → s.session_of_open o ≡ None
     of_deadline None h x = absurd (cc)
     of_deadline (Some d) h x = f.deadlines o d h
 
-drop_making : (s : Server) (o : ℕ) (b : Bool) → (drop_open (if b then mark_file s (s.opened o).file true else s) o).making ≡ s.making
+drop_making : (s : Server) (o : ℕ) (b : Bool) → (drop_open (if b then set_delete_pending s (s.opened o).file true else s) o).making ≡ s.making
 drop_making s o true = refl
 drop_making s o false = refl
 
 leave_making : (s : Server) (o : ℕ) → (leave_open s o).making ≡ s.making
 leave_making s o =
-    either (λ (u : Server). u.making ≡ s.making) (goes (drop_open (marked_by s o) o) (s.opened o).file) _ _ (λ _. drop_making s o (deletes_on_close (s.opened o).options)) (λ _. drop_making s o (deletes_on_close (s.opened o).options))
+    either (λ (u : Server). u.making ≡ s.making) (goes (drop_open (pending_behind s o) o) (s.opened o).file) _ _ (λ _. drop_making s o (deletes_on_close (s.opened o).options)) (λ _. drop_making s o (deletes_on_close (s.opened o).options))
 
-mark_making : (s : Server) (client : ℕ) (q : Option ℕ) → (add_mark s client q).making ≡ s.making
-mark_making s client None = refl
-mark_making s client (Some g) = refl
+expired_making : (s : Server) (client : ℕ) (q : Option ℕ) → (add_expired_guid s client q).making ≡ s.making
+expired_making s client None = refl
+expired_making s client (Some g) = refl
 
 expire_making : (s : Server) (o : ℕ) → (expire s o).making ≡ s.making
-expire_making s o = mark_making (leave_open s o) (s.opened o).client (s.opened o).guid ∙ leave_making s o
+expire_making s o = expired_making (leave_open s o) (s.opened o).client (s.opened o).guid ∙ leave_making s o
 
 none_of : ℕ → Bool
 none_of o = false
@@ -156,7 +156,7 @@ expire_keeps c conns s a now o e full l C i =
         ranked_up = l.ranked_up;
         unranked = λ j x h. l.unranked j x (subst (λ z. is_new x (z j) ≡ true) (expire_making s o) h);
         lives = l.lives;
-        attached = λ p y h. let old = l.attached p y (still_at p y (subst (λ z. z.at p ≡ Some y) v h)) in (subst (λ z. p ≤ z.last) (sym v) old.0, subst (λ z. z.present y ≡ true) (sym v) old.1);
+        attached = λ p y h. let old = l.attached p y (still_at p y (subst (λ z. z.session_of_open p ≡ Some y) v h)) in (subst (λ z. p ≤ z.last) (sym v) old.0, subst (λ z. z.present y ≡ true) (sym v) old.1);
         named_given = λ q p h. subst (λ z. p ≤ z.last) (sym v) (l.named_given q p (still_named s.by_guid (s.opened o).client (s.opened o).guid c.who.guid (guid_for c q) p (subst (λ z. z.by_guid c.who.guid (guid_for c q) ≡ Some p) v h)));
         fits = f;
       },
@@ -168,10 +168,10 @@ expire_keeps c conns s a now o e full l C i =
           (λ g m s0 u lv p st e2 off. absurd (cc)) (λ j n g y h t ok lv p st x off. absurd (cc)) i,
     )
   where
-    still_at : (p y : ℕ) → put s.at o None p ≡ Some y → s.at p ≡ Some y
+    still_at : (p y : ℕ) → put s.session_of_open o None p ≡ Some y → s.session_of_open p ≡ Some y
     still_at p y h = grind arith
 
-    unattached : (p y : ℕ) → s.at p ≡ Some y → s.at o ≡ None → p ≢ o
+    unattached : (p y : ℕ) → s.session_of_open p ≡ Some y → s.session_of_open o ≡ None → p ≢ o
     unattached p y h n = λ same. absurd (grind arith)
 
 pub before_keeps : (c : Client) (conns : ℕ → Conn) (s : Server) (a : ℕ → ℕ) (now : ℕ) (t : Server) → Before s now t → (lower_limit < s.journal + 34 → t ≡ with_deadlines s now) → Lower c conns s → Connections c conns a → Locks c conns s a → Behind c conns a t

@@ -85,15 +85,15 @@ all_not op status e l = eqb-false status disk_full (by_op op status e l)
     by_op : (op : Op) (status : ℕ) → refuses_all op status ≡ true → is_lock op ≡ true → (status == disk_full) ≡ false
     by_op op status e l = grind arith
 
-pub heard_tells : (c : Client) (g : ℕ) (asking : Bool) (r : Reply) → Tells (c.op g) asking (c.before g) r.status (heard c g asking r)
+pub heard_tells : (c : Client) (g : ℕ) (asking : Bool) (r : Reply) → Tells (c.op g) asking (c.unanswered g) r.status (heard c g asking r)
 heard_tells c g asking r =
-    let P : Hearing → Type 0 = λ h. Tells (c.op g) asking (c.before g) r.status h in
-    either P (r.status == user_session_deleted) _ _ (λ _. unsettled_tells (c.op g) asking (c.before g) r.status EndsSession refl)
+    let P : Hearing → Type 0 = λ h. Tells (c.op g) asking (c.unanswered g) r.status h in
+    either P (r.status == user_session_deleted) _ _ (λ _. unsettled_tells (c.op g) asking (c.unanswered g) r.status EndsSession refl)
     (λ d. either P (r.status == success) _ _ (λ s. by_asking asking s)
-    (λ s. either P (goes_again c g asking r.status) _ _ (λ _. unsettled_tells (c.op g) asking (c.before g) r.status GoesAgain refl)
-    (λ _. line_tells (c.op g) asking (c.before g) (was_closed (c.op g) asking r.status) (may_have_acted (c.op g) asking r.status) (refuses_all (c.op g) r.status) r.status
+    (λ s. either P (goes_again c g asking r.status) _ _ (λ _. unsettled_tells (c.op g) asking (c.unanswered g) r.status GoesAgain refl)
+    (λ _. line_tells (c.op g) asking (c.unanswered g) (was_closed (c.op g) asking r.status) (may_have_acted (c.op g) asking r.status) (refuses_all (c.op g) r.status) r.status
     (closed_if (c.op g) asking r.status) (not_closed (c.op g) asking r.status) (may_not (c.op g) asking r.status) (all_not (c.op g) r.status) (eqb-false r.status user_session_deleted d) (eqb-false r.status success s))))
   where
-    by_asking : (b : Bool) → (r.status == success) ≡ true → Tells (c.op g) b (c.before g) r.status (if b then Attaches else ok_or_unknown (value_in (c.op g) r.body))
-    by_asking true s = unsettled_tells (c.op g) true (c.before g) r.status Attaches refl
-    by_asking false s = ok_tells (c.op g) (c.before g) r.status (eqb-true r.status success s) (value_in (c.op g) r.body)
+    by_asking : (b : Bool) → (r.status == success) ≡ true → Tells (c.op g) b (c.unanswered g) r.status (if b then Attaches else ok_or_unknown (value_in (c.op g) r.body))
+    by_asking true s = unsettled_tells (c.op g) true (c.unanswered g) r.status Attaches refl
+    by_asking false s = ok_tells (c.op g) (c.unanswered g) r.status (eqb-true r.status success s) (value_in (c.op g) r.body)

@@ -4,7 +4,7 @@ use Rattle.exchange_defs.specs.Table.{put, put2, is_at}
 use Rattle.exchange_defs.specs.Status.{success, user_session_deleted, disk_full}
 use Rattle.exchange_defs.specs.Commands.{Command, Lock, Element, lock_form, deletes_on_close}
 use Rattle.exchange_defs.specs.State.{Server, Message, Record, LockRecord, Kept, Range}
-use Rattle.exchange_defs.specs.Files.{mark_file, exists, is_full_directory, is_directory, path_of}
+use Rattle.exchange_defs.specs.Files.{set_delete_pending, exists, is_full_directory, is_directory, path_of}
 use Rattle.exchange_defs.specs.Opens.{goes, drop_open, file_has_open, is_of_session}
 use Rattle.exchange_defs.specs.CheckOpen.{is_late, is_slot, file_of}
 use Rattle.exchange_defs.specs.Check.{check}
@@ -99,17 +99,17 @@ unmade_at c conns t a cr q r no1 mr or1 st = λ e.
 
 -- ---- what doesn't look at slots
 
-pub goes_same : (t : Server) (sq : ℕ → ℕ) (rg : ℕ → List Range) (sl : ℕ → ℕ → Option Kept) (j0 o : ℕ) → goes_with (record t { sequence = sq; ranges = rg; slots = sl; journal = j0 }) o ≡ goes_with t o
+pub goes_same : (t : Server) (sq : ℕ → ℕ) (rg : ℕ → List Range) (sl : ℕ → ℕ → Option Kept) (j0 o : ℕ) → goes_with (record t { sequence = sq; ranges = rg; lock_sequences = sl; journal = j0 }) o ≡ goes_with t o
 unfolding goes_with goes exists file_has_open is_full_directory is_directory path_of
 goes_same t sq rg sl j0 o = by_kind (deletes_on_close (t.opened o).options)
   where
-    by_kind : (b : Bool) → goes (drop_open (if b then mark_file (record t { sequence = sq; ranges = rg; slots = sl; journal = j0 }) (t.opened o).file true else record t { sequence = sq; ranges = rg; slots = sl; journal = j0 }) o) (t.opened o).file ≡ goes (drop_open (if b then mark_file t (t.opened o).file true else t) o) (t.opened o).file
+    by_kind : (b : Bool) → goes (drop_open (if b then set_delete_pending (record t { sequence = sq; ranges = rg; lock_sequences = sl; journal = j0 }) (t.opened o).file true else record t { sequence = sq; ranges = rg; lock_sequences = sl; journal = j0 }) o) (t.opened o).file ≡ goes (drop_open (if b then set_delete_pending t (t.opened o).file true else t) o) (t.opened o).file
     by_kind true = refl
     by_kind false = refl
 
 -- ---- the slot keeps its answer
 
-no_reply_beside : (c : Client) (conns : ℕ → Conn) (a : ℕ → ℕ) (k g : ℕ) (x0 : Sent) → Connections c conns a → slice_get (conns k).up 0 ≡ Some x0 → x0.token ≡ ForOp g → locking (c.op g) ≡ true → c.before g ≡ false → (j n : ℕ) (y : Received) → slice_get (conns j).down n ≡ Some y → y.token ≢ ForOp g
+no_reply_beside : (c : Client) (conns : ℕ → Conn) (a : ℕ → ℕ) (k g : ℕ) (x0 : Sent) → Connections c conns a → slice_get (conns k).up 0 ≡ Some x0 → x0.token ≡ ForOp g → locking (c.op g) ≡ true → c.unanswered g ≡ false → (j n : ℕ) (y : Received) → slice_get (conns j).down n ≡ Some y → y.token ≢ ForOp g
 no_reply_beside c conns a k g x0 C front tk lk bf j n y h = λ e.
     let fs = C.first k 0 g x0 front tk (lock_once (c.op g) lk) bf in
     let bd = C.bodies k 0 g x0 front tk in let tn = C.taken g bd.0 in
@@ -139,7 +139,7 @@ own_count a g st0 acted z e = grind arith
 
 pub lock_written : (c : Client) (conns : ℕ → Conn) (t : Server) (a : ℕ → ℕ) (k g st0 j0 : ℕ) (x0 : Sent) (sq : ℕ → ℕ) (rg : ℕ → List Range) (acted : Bool) → Serving c conns t a k x0 → x0.token ≡ ForOp g → locking (c.op g) ≡ true
     → t.present x0.message.session ≡ true → t.standing (open_at c g) ≡ true → kept_of c t g ≡ None → t.journal ≤ j0 → ((t.opened (open_at c g)).persistent ≡ true → t.journal + 66 ≤ lower_limit) → acted ≡ (st0 == success)
-    → Locks c conns (record t { sequence = sq; ranges = rg; slots = put2 t.slots (open_at c g) (c.slot_of g) (Some (record { number = c.number_of g; status = st0 })); journal = j0 }) (counted a (ForOp g) acted)
+    → Locks c conns (record t { sequence = sq; ranges = rg; lock_sequences = put2 t.lock_sequences (open_at c g) (c.slot_of g) (Some (record { number = c.number_of g; status = st0 })); journal = j0 }) (counted a (ForOp g) acted)
 lock_written c conns t a k g st0 j0 x0 sq rg acted w tk lk p st free grown room act =
     let C = w.links in let i = w.locks in
     let bd = C.bodies k 0 g x0 w.front tk in
@@ -156,16 +156,16 @@ lock_written c conns t a k g st0 j0 x0 sq rg acted w tk lk p st free grown room 
     (λ bf j n y h. no_reply_beside c conns a k g x0 C w.front tk lk bf j n y h) C i
 
 -- in the words of the effects
-slot_written : (t : Server) (m : Message) (P : Server → Type 0) (o i n st0 : ℕ) → is_slot i ≡ true → ((sq : ℕ → ℕ) → P (record t { sequence = sq; slots = put2 t.slots o i (Some (record { number = n; status = st0 })) })) → P (keep_slot (reach t m o) o i n st0)
+slot_written : (t : Server) (m : Message) (P : Server → Type 0) (o i n st0 : ℕ) → is_slot i ≡ true → ((sq : ℕ → ℕ) → P (record t { sequence = sq; lock_sequences = put2 t.lock_sequences o i (Some (record { number = n; status = st0 })) })) → P (keep_slot (reach t m o) o i n st0)
 slot_written t m P o i n st0 slot f =
     either P (is_slot i) _ _
-    (λ _. either (λ u. P (record u { slots = put2 u.slots o i (Some (record { number = n; status = st0 })) })) (is_late t m o) t (record t { sequence = put t.sequence o m.sequence }) (λ _. f t.sequence) (λ _. f (put t.sequence o m.sequence)))
+    (λ _. either (λ u. P (record u { lock_sequences = put2 u.lock_sequences o i (Some (record { number = n; status = st0 })) })) (is_late t m o) t (record t { sequence = put t.sequence o m.sequence }) (λ _. f t.sequence) (λ _. f (put t.sequence o m.sequence)))
     (λ off. absurd (grind arith))
 
-ranges_written : (t : Server) (m : Message) (P : Server → Type 0) (o i n f0 : ℕ) (ranges : List Range) → is_slot i ≡ true → ((sq : ℕ → ℕ) → P (record t { sequence = sq; ranges = put t.ranges f0 ranges; slots = put2 t.slots o i (Some (record { number = n; status = success })) })) → P (keep_slot (set_ranges (reach t m o) f0 ranges) o i n success)
+ranges_written : (t : Server) (m : Message) (P : Server → Type 0) (o i n f0 : ℕ) (ranges : List Range) → is_slot i ≡ true → ((sq : ℕ → ℕ) → P (record t { sequence = sq; ranges = put t.ranges f0 ranges; lock_sequences = put2 t.lock_sequences o i (Some (record { number = n; status = success })) })) → P (keep_slot (set_ranges (reach t m o) f0 ranges) o i n success)
 ranges_written t m P o i n f0 ranges slot f =
     either P (is_slot i) _ _
-    (λ _. either (λ u. P (record u { ranges = put u.ranges f0 ranges; slots = put2 u.slots o i (Some (record { number = n; status = success })) })) (is_late t m o) t (record t { sequence = put t.sequence o m.sequence }) (λ _. f t.sequence) (λ _. f (put t.sequence o m.sequence)))
+    (λ _. either (λ u. P (record u { ranges = put u.ranges f0 ranges; lock_sequences = put2 u.lock_sequences o i (Some (record { number = n; status = success })) })) (is_late t m o) t (record t { sequence = put t.sequence o m.sequence }) (λ _. f t.sequence) (λ _. f (put t.sequence o m.sequence)))
     (λ off. absurd (grind arith))
 
 -- ---- what is said of its reply
@@ -174,7 +174,7 @@ pub record Says (c : Client) (u : Server) (b : ℕ → ℕ) (g status : ℕ) : T
   pub ok : status ≡ success → b g ≡ 1
   pub no : status ≢ success → status ≢ user_session_deleted → status ≢ disk_full → b g ≡ 0
   pub kept : status ≢ user_session_deleted → status ≢ disk_full → u.standing (open_at c g) ≡ true → is_some (kept_of c u g) ≡ true
-  pub first : status ≢ success → c.before g ≡ false → b g ≡ 0
+  pub first : status ≢ success → c.unanswered g ≡ false → b g ≡ 0
 
 pub same_op : (g h : ℕ) (t : Token) → t ≡ ForOp g → t ≡ ForOp h → g ≡ h
 same_op g h t e f = grind arith
@@ -194,7 +194,7 @@ say_lock c u b g y0 tk lk s =
       of_ok_reply = λ h e m st. subst (λ z. b z ≡ 1) (same_op g h y0.token tk e) (s.ok st);
       of_no_reply = λ h e m n1 n2 n4. subst (λ z. b z ≡ 0) (same_op g h y0.token tk e) (s.no n1 n2 n4);
       of_kept_reply = λ h e m n2 n4. subst (λ z. u.standing (open_at c z) ≡ true → is_some (kept_of c u z) ≡ true) (same_op g h y0.token tk e) (s.kept n2 n4);
-      of_first_reply = λ h e m n1. subst (λ z. c.before z ≡ false → b z ≡ 0) (same_op g h y0.token tk e) (s.first n1);
+      of_first_reply = λ h e m n1. subst (λ z. c.unanswered z ≡ false → b z ≡ 0) (same_op g h y0.token tk e) (s.first n1);
       of_close_done = λ h e m. absurd (let x = clash (shuts_open (c.op h)) (subst (λ z. shuts_open (c.op z) ≡ false) (same_op g h y0.token tk e) open1) m in cc);
       of_close_full = λ h e m. absurd (let x = clash (shuts_open (c.op h)) (subst (λ z. shuts_open (c.op z) ≡ false) (same_op g h y0.token tk e) open1) m in cc);
       of_close_stuck = λ h e m. absurd (let x = clash (shuts_open (c.op h)) (subst (λ z. shuts_open (c.op z) ≡ false) (same_op g h y0.token tk e) open1) m in cc);
@@ -221,7 +221,7 @@ copy_of c conns t a k g x0 w tk lk =
       slot = is_slot_of (c.slot_of g) (w.locks.slot_index g bd.0 lk);
     }
 
-present_of : (c : Client) (conns : ℕ → Conn) (t : Server) (a : ℕ → ℕ) (k g : ℕ) (x0 : Sent) → Copy c conns t a k g x0 → t.on x0.message.connection ≡ Some x0.message.session → t.present x0.message.session ≡ true
+present_of : (c : Client) (conns : ℕ → Conn) (t : Server) (a : ℕ → ℕ) (k g : ℕ) (x0 : Sent) → Copy c conns t a k g x0 → t.session_on x0.message.connection ≡ Some x0.message.session → t.present x0.message.session ≡ true
 present_of c conns t a k g x0 w on = w.serving.low.fits.on_present x0.message.connection x0.message.session on
 
 -- a verdict that changes nothing
@@ -234,7 +234,7 @@ quiet_lock c conns t a k g x0 now v rs w is off bare quiet =
     (λ h m s0 u lv p st cl off2. let n = no_close x0.message.command (open_at c g) (c.slot_of g) (c.number_of g) (open_at c h) (elements_in (c.op g)) w.command in absurd (grind arith))
     (λ j n h y e1 e2 ok lv p st cl off2. let n1 = no_close x0.message.command (open_at c g) (c.slot_of g) (c.number_of g) (open_at c h) (elements_in (c.op g)) w.command in absurd (grind arith))
 
-sole_idle : (c : Client) (conns : ℕ → Conn) (t : Server) (a : ℕ → ℕ) (k g : ℕ) (x0 : Sent) → Copy c conns t a k g x0 → c.before g ≡ false → a g ≡ 0
+sole_idle : (c : Client) (conns : ℕ → Conn) (t : Server) (a : ℕ → ℕ) (k g : ℕ) (x0 : Sent) → Copy c conns t a k g x0 → c.unanswered g ≡ false → a g ≡ 0
 sole_idle c conns t a k g x0 w bf = (w.serving.links.first k 0 g x0 w.serving.front w.token (lock_once (c.op g) w.lock) bf).1
 
 count_same : (a : ℕ → ℕ) (tk : Token) (g n : ℕ) → a g ≡ n → counted a tk false g ≡ n
@@ -250,11 +250,11 @@ both_hold b u x e f h = let t : (b && is_at x u) ≡ true = rw (e, f) (same_numb
 away_gone : (c : Client) (conns : ℕ → Conn) (t : Server) (a : ℕ → ℕ) (k g : ℕ) (x0 : Sent) → Copy c conns t a k g x0 → t.present x0.message.session ≡ true → is_of_session t (open_at c g) x0.message.session ≡ false → t.standing (open_at c g) ≡ false
 away_gone c conns t a k g x0 w p off =
     elim (t.standing (open_at c g)) as (λ b. t.standing (open_at c g) ≡ b → t.standing (open_at c g) ≡ false) [
-      | true ↦ λ st. let at1 = w.serving.locks.copy_attached k 0 g x0 w.serving.front w.token (lock_kind (c.op g) w.lock) p st in absurd (let x = both_hold (t.standing (open_at c g)) (t.at (open_at c g)) x0.message.session st at1 off in cc)
+      | true ↦ λ st. let at1 = w.serving.locks.copy_attached k 0 g x0 w.serving.front w.token (lock_kind (c.op g) w.lock) p st in absurd (let x = both_hold (t.standing (open_at c g)) (t.session_of_open (open_at c g)) x0.message.session st at1 off in cc)
       | false ↦ λ st. st
     ] refl
 
-unsettled_on : (c : Client) (g k : ℕ) → ((h : ℕ) → is_unsettled (c.outcome h) ≡ false → c.on h ≡ None) → c.on g ≡ Some k → is_unsettled (c.outcome g) ≡ true
+unsettled_on : (c : Client) (g k : ℕ) → ((h : ℕ) → is_unsettled (c.outcome h) ≡ false → c.outstanding_on h ≡ None) → c.outstanding_on g ≡ Some k → is_unsettled (c.outcome g) ≡ true
 unsettled_on c g k f e = elim (is_unsettled (c.outcome g)) as (λ b. is_unsettled (c.outcome g) ≡ b → is_unsettled (c.outcome g) ≡ true) [ true ↦ λ q. q | false ↦ λ q. let h = f g q in absurd (grind arith) ] refl
 
 away_idle : (c : Client) (conns : ℕ → Conn) (t : Server) (a : ℕ → ℕ) (k g : ℕ) (x0 : Sent) → Copy c conns t a k g x0 → t.present x0.message.session ≡ true → t.standing (open_at c g) ≡ false → (conns k).client_open ≡ true → a g ≡ 0
@@ -337,7 +337,7 @@ lock_fits c conns d t a k g x0 now front v w same is room (Refused status on st 
       λ o place. say_lock c _ _ g _ w.token w.lock (record {
         ok = λ s. absurd (let x = is_it status bad s in cc);
         no = λ n1 n2 n4. subst (λ z. counted a z false g ≡ 0) (sym w.token) idle;
-        kept = λ n2 n4 st2. slot_written t m (λ u. is_some (kept_at (u.slots o1 (c.slot_of g)) (c.number_of g)) ≡ true) o1 (c.slot_of g) (c.number_of g) status w.slot (λ sq. kept_put t.slots o1 (c.slot_of g) (c.number_of g) status);
+        kept = λ n2 n4 st2. slot_written t m (λ u. is_some (kept_at (u.lock_sequences o1 (c.slot_of g)) (c.number_of g)) ≡ true) o1 (c.slot_of g) (c.number_of g) status w.slot (λ sq. kept_put t.lock_sequences o1 (c.slot_of g) (c.number_of g) status);
         first = λ n1 bf. subst (λ z. counted a z false g ≡ 0) (sym w.token) idle;
       }),
     )
@@ -346,7 +346,7 @@ lock_fits c conns d t a k g x0 now front v w same is room (Refused status on st 
     is_it st e f = grind arith
 
     journal_of : (c : Client) (conns : ℕ → Conn) (t : Server) (m : Message) (o1 st1 : ℕ) (front rs : List Record) (b : ℕ → ℕ) → is_slot (c.slot_of g) ≡ true
-        → ((sq : ℕ → ℕ) → Locks c conns (record t { sequence = sq; ranges = t.ranges; slots = put2 t.slots o1 (c.slot_of g) (Some (record { number = c.number_of g; status = st1 })); journal = t.journal + entry_bytes (front ++ rs) }) b)
+        → ((sq : ℕ → ℕ) → Locks c conns (record t { sequence = sq; ranges = t.ranges; lock_sequences = put2 t.lock_sequences o1 (c.slot_of g) (Some (record { number = c.number_of g; status = st1 })); journal = t.journal + entry_bytes (front ++ rs) }) b)
         → Locks c conns (record (keep_slot (reach t m o1) o1 (c.slot_of g) (c.number_of g) st1) { journal = (keep_slot (reach t m o1) o1 (c.slot_of g) (c.number_of g) st1).journal + entry_bytes (front ++ rs) }) b
     journal_of c conns t m o1 st1 front rs b slot f = slot_written t m (λ u. Locks c conns (record u { journal = u.journal + entry_bytes (front ++ rs) }) b) o1 (c.slot_of g) (c.number_of g) st1 slot f
 lock_fits c conns d t a k g x0 now front v w same is room (Granted ranges on st free) =
@@ -361,13 +361,13 @@ lock_fits c conns d t a k g x0 now front v w same is room (Granted ranges on st 
       λ o place. say_lock c _ _ g _ w.token w.lock (record {
         ok = λ s. subst (λ z. counted a z true g ≡ 1) (sym w.token) one;
         no = λ n1. absurd (n1 refl);
-        kept = λ n2 n4 st2. ranges_written t m (λ u. is_some (kept_at (u.slots o1 (c.slot_of g)) (c.number_of g)) ≡ true) o1 (c.slot_of g) (c.number_of g) (file_of t o1) ranges w.slot (λ sq. kept_put t.slots o1 (c.slot_of g) (c.number_of g) success);
+        kept = λ n2 n4 st2. ranges_written t m (λ u. is_some (kept_at (u.lock_sequences o1 (c.slot_of g)) (c.number_of g)) ≡ true) o1 (c.slot_of g) (c.number_of g) (file_of t o1) ranges w.slot (λ sq. kept_put t.lock_sequences o1 (c.slot_of g) (c.number_of g) success);
         first = λ n1. absurd (n1 refl);
       }),
     )
   where
     journal_of : (c : Client) (conns : ℕ → Conn) (t : Server) (m : Message) (o1 f0 : ℕ) (ranges : List Range) (front rs : List Record) (b : ℕ → ℕ) → is_slot (c.slot_of g) ≡ true
-        → ((sq : ℕ → ℕ) → Locks c conns (record t { sequence = sq; ranges = put t.ranges f0 ranges; slots = put2 t.slots o1 (c.slot_of g) (Some (record { number = c.number_of g; status = success })); journal = t.journal + entry_bytes (front ++ rs) }) b)
+        → ((sq : ℕ → ℕ) → Locks c conns (record t { sequence = sq; ranges = put t.ranges f0 ranges; lock_sequences = put2 t.lock_sequences o1 (c.slot_of g) (Some (record { number = c.number_of g; status = success })); journal = t.journal + entry_bytes (front ++ rs) }) b)
         → Locks c conns (record (keep_slot (set_ranges (reach t m o1) f0 ranges) o1 (c.slot_of g) (c.number_of g) success) { journal = (keep_slot (set_ranges (reach t m o1) f0 ranges) o1 (c.slot_of g) (c.number_of g) success).journal + entry_bytes (front ++ rs) }) b
     journal_of c conns t m o1 f0 ranges front rs b slot f = ranges_written t m (λ u. Locks c conns (record u { journal = u.journal + entry_bytes (front ++ rs) }) b) o1 (c.slot_of g) (c.number_of g) f0 ranges slot f
 

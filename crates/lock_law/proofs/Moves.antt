@@ -28,23 +28,23 @@ moves_retried_done : (c : Client) (conns : ℕ → Conn) (s : Server) (a : ℕ �
 moves_retried_done c conns s a s2 a2 journal stay i_retried_done =
     λ j n p x h t m. let old = i_retried_done j n p x h t m in let sy = stay j n x h (own_ops x p t) in grind arith
 
-moves_copy_attached : (c : Client) (conns : ℕ → Conn) (s : Server) (a : ℕ → ℕ) (s2 : Server) (a2 : ℕ → ℕ) → (s.journal ≤ s2.journal) → ((j n : ℕ) (x : Sent) → slice_get (conns j).up n ≡ Some x → is_ops x.token ≡ true → s2.present x.message.session ≡ true → s.present x.message.session ≡ true) → ((q : ℕ) → makes_open (c.op q) ≡ true → is_ok (c.outcome q) ≡ true → s2.standing (c.file q) ≡ true → s.standing (c.file q) ≡ true) → ((o y : ℕ) → s.at o ≡ Some y → s2.standing o ≡ true → s2.present y ≡ true → s2.at o ≡ Some y) → Bodies c conns → Creates c → HasOpen c → Taken c → CopyAttached c conns s → CopyAttached c conns s2
+moves_copy_attached : (c : Client) (conns : ℕ → Conn) (s : Server) (a : ℕ → ℕ) (s2 : Server) (a2 : ℕ → ℕ) → (s.journal ≤ s2.journal) → ((j n : ℕ) (x : Sent) → slice_get (conns j).up n ≡ Some x → is_ops x.token ≡ true → s2.present x.message.session ≡ true → s.present x.message.session ≡ true) → ((q : ℕ) → makes_open (c.op q) ≡ true → is_ok (c.outcome q) ≡ true → s2.standing (c.file q) ≡ true → s.standing (c.file q) ≡ true) → ((o y : ℕ) → s.session_of_open o ≡ Some y → s2.standing o ≡ true → s2.present y ≡ true → s2.session_of_open o ≡ Some y) → Bodies c conns → Creates c → HasOpen c → Taken c → CopyAttached c conns s → CopyAttached c conns s2
 moves_copy_attached c conns s a s2 a2 journal stay stands keeps_at C_bodies C_creates C_has_open C_taken i_copy_attached =
     λ j n p x h t m. let old = i_copy_attached j n p x h t m in let b = C_bodies j n p x h t in let sent = b.0 in let m1 = m in let ok1 = ok_of c C_has_open p sent m1 in let mk = made_of c C_taken C_creates p sent m1 in let sy = stay j n x h (own_ops x p t) in let sd = stands (create_at c p) mk ok1 in let ka = keeps_at (open_at c p) x.message.session in grind arith
 
-moves_now_attached : (c : Client) (conns : ℕ → Conn) (s : Server) (a : ℕ → ℕ) (s2 : Server) (a2 : ℕ → ℕ) → (s.journal ≤ s2.journal) → (c.live ≡ true → s2.present c.session ≡ true → s.present c.session ≡ true) → ((q : ℕ) → makes_open (c.op q) ≡ true → is_ok (c.outcome q) ≡ true → s2.standing (c.file q) ≡ true → s.standing (c.file q) ≡ true) → ((o y : ℕ) → s.at o ≡ Some y → s2.standing o ≡ true → s2.present y ≡ true → s2.at o ≡ Some y) → NowAttached c s → NowAttached c s2
+moves_now_attached : (c : Client) (conns : ℕ → Conn) (s : Server) (a : ℕ → ℕ) (s2 : Server) (a2 : ℕ → ℕ) → (s.journal ≤ s2.journal) → (c.live ≡ true → s2.present c.session ≡ true → s.present c.session ≡ true) → ((q : ℕ) → makes_open (c.op q) ≡ true → is_ok (c.outcome q) ≡ true → s2.standing (c.file q) ≡ true → s.standing (c.file q) ≡ true) → ((o y : ℕ) → s.session_of_open o ≡ Some y → s2.standing o ≡ true → s2.present y ≡ true → s2.session_of_open o ≡ Some y) → NowAttached c s → NowAttached c s2
 moves_now_attached c conns s a s2 a2 journal stay_now stands keeps_at i_now_attached =
     λ q m ok1. let old = i_now_attached q m ok1 in let sn = stay_now in let sd = stands q m ok1 in let ka = keeps_at (c.file q) c.session in grind arith
 
-moves_opened_reply : (c : Client) (conns : ℕ → Conn) (s : Server) (a : ℕ → ℕ) (s2 : Server) (a2 : ℕ → ℕ) → (s.journal ≤ s2.journal) → (c.live ≡ true → s2.present c.session ≡ true → s.present c.session ≡ true) → ((o y : ℕ) → s.at o ≡ Some y → s2.standing o ≡ true → s2.present y ≡ true → s2.at o ≡ Some y) → ((j n g : ℕ) (y : Received) → slice_get (conns j).down n ≡ Some y → y.token ≡ ForOp g → makes_open (c.op g) ≡ true → y.reply.status ≡ success → s2.standing (id_in y.reply.body) ≡ true → s.standing (id_in y.reply.body) ≡ true) → OpenedReply c conns s → OpenedReply c conns s2
+moves_opened_reply : (c : Client) (conns : ℕ → Conn) (s : Server) (a : ℕ → ℕ) (s2 : Server) (a2 : ℕ → ℕ) → (s.journal ≤ s2.journal) → (c.live ≡ true → s2.present c.session ≡ true → s.present c.session ≡ true) → ((o y : ℕ) → s.session_of_open o ≡ Some y → s2.standing o ≡ true → s2.present y ≡ true → s2.session_of_open o ≡ Some y) → ((j n g : ℕ) (y : Received) → slice_get (conns j).down n ≡ Some y → y.token ≡ ForOp g → makes_open (c.op g) ≡ true → y.reply.status ≡ success → s2.standing (id_in y.reply.body) ≡ true → s.standing (id_in y.reply.body) ≡ true) → OpenedReply c conns s → OpenedReply c conns s2
 moves_opened_reply c conns s a s2 a2 journal stay_now keeps_at open_stands i_opened_reply =
     λ j n p y h t m e. let old = i_opened_reply j n p y h t m e in let os = open_stands j n p y h t m e in let sn = stay_now in let ka = keeps_at (id_in y.reply.body) c.session in grind arith
 
-moves_join_reply : (c : Client) (conns : ℕ → Conn) (s : Server) (a : ℕ → ℕ) (s2 : Server) (a2 : ℕ → ℕ) → (s.journal ≤ s2.journal) → (c.live ≡ true → s2.present c.session ≡ true → s.present c.session ≡ true) → ((q : ℕ) → makes_open (c.op q) ≡ true → is_ok (c.outcome q) ≡ true → s2.standing (c.file q) ≡ true → s.standing (c.file q) ≡ true) → ((o y : ℕ) → s.at o ≡ Some y → s2.standing o ≡ true → s2.present y ≡ true → s2.at o ≡ Some y) → Creates c → JoinReply c conns s → AskDown c conns → JoinReply c conns s2
+moves_join_reply : (c : Client) (conns : ℕ → Conn) (s : Server) (a : ℕ → ℕ) (s2 : Server) (a2 : ℕ → ℕ) → (s.journal ≤ s2.journal) → (c.live ≡ true → s2.present c.session ≡ true → s.present c.session ≡ true) → ((q : ℕ) → makes_open (c.op q) ≡ true → is_ok (c.outcome q) ≡ true → s2.standing (c.file q) ≡ true → s.standing (c.file q) ≡ true) → ((o y : ℕ) → s.session_of_open o ≡ Some y → s2.standing o ≡ true → s2.present y ≡ true → s2.session_of_open o ≡ Some y) → Creates c → JoinReply c conns s → AskDown c conns → JoinReply c conns s2
 moves_join_reply c conns s a s2 a2 journal stay_now stands keeps_at C_creates i_join_reply i_ask_down =
     λ j n p y h t. let old = i_join_reply j n p y h t in let ad = i_ask_down j n p y h t in let cr = C_creates p ad.0 ad.1 ad.2 in let sd = stands (create_at c p) cr.2 ad.3 in let sn = stay_now in let ka = keeps_at (open_at c p) c.session in grind arith
 
-moves_joined_reply : (c : Client) (conns : ℕ → Conn) (s : Server) (a : ℕ → ℕ) (s2 : Server) (a2 : ℕ → ℕ) → (s.journal ≤ s2.journal) → (c.live ≡ true → s2.present c.session ≡ true → s.present c.session ≡ true) → ((j n g : ℕ) (y : Received) → slice_get (conns j).down n ≡ Some y → y.token ≡ ForAttach g → y.reply.status ≡ success → c.live ≡ true → s2.present c.session ≡ true → s.standing (open_at c g) ≡ true → s2.standing (open_at c g) ≡ false → c.attached (create_at c g) ≡ c.number) → JoinedReply c conns s → JoinedReply c conns s2
+moves_joined_reply : (c : Client) (conns : ℕ → Conn) (s : Server) (a : ℕ → ℕ) (s2 : Server) (a2 : ℕ → ℕ) → (s.journal ≤ s2.journal) → (c.live ≡ true → s2.present c.session ≡ true → s.present c.session ≡ true) → ((j n g : ℕ) (y : Received) → slice_get (conns j).down n ≡ Some y → y.token ≡ ForAttach g → y.reply.status ≡ success → c.live ≡ true → s2.present c.session ≡ true → s.standing (open_at c g) ≡ true → s2.standing (open_at c g) ≡ false → c.attached (create_at c g) ≡ c.session_number) → JoinedReply c conns s → JoinedReply c conns s2
 moves_joined_reply c conns s a s2 a2 journal stay_now joined i_joined_reply =
     λ j n p y h t e. let old = i_joined_reply j n p y h t e in let jn = joined j n p y h t e in let sn = stay_now in grind arith
 
@@ -52,23 +52,23 @@ moves_lost_reply : (c : Client) (conns : ℕ → Conn) (s : Server) (a : ℕ →
 moves_lost_reply c conns s a s2 a2 journal stands C_creates i_lost_reply i_ask_down =
     λ j n p y h t. let old = i_lost_reply j n p y h t in let ad = i_ask_down j n p y h t in let cr = C_creates p ad.0 ad.1 ad.2 in let sd = stands (create_at c p) cr.2 ad.3 in grind arith
 
-moves_kept_says : (c : Client) (conns : ℕ → Conn) (s : Server) (a : ℕ → ℕ) (s2 : Server) (a2 : ℕ → ℕ) → ((p : ℕ) → locking (c.op p) ≡ true → a2 p ≡ a p) → (s.journal ≤ s2.journal) → ((q : ℕ) → makes_open (c.op q) ≡ true → is_ok (c.outcome q) ≡ true → s2.standing (c.file q) ≡ true → s.standing (c.file q) ≡ true) → ((q r : ℕ) → makes_open (c.op q) ≡ true → is_ok (c.outcome q) ≡ true → s2.standing (c.file q) ≡ true → s2.slots (c.file q) r ≡ s.slots (c.file q) r) → Creates c → HasOpen c → Taken c → KeptSays c s a → UserBody c → KeptSays c s2 a2
+moves_kept_says : (c : Client) (conns : ℕ → Conn) (s : Server) (a : ℕ → ℕ) (s2 : Server) (a2 : ℕ → ℕ) → ((p : ℕ) → locking (c.op p) ≡ true → a2 p ≡ a p) → (s.journal ≤ s2.journal) → ((q : ℕ) → makes_open (c.op q) ≡ true → is_ok (c.outcome q) ≡ true → s2.standing (c.file q) ≡ true → s.standing (c.file q) ≡ true) → ((q r : ℕ) → makes_open (c.op q) ≡ true → is_ok (c.outcome q) ≡ true → s2.standing (c.file q) ≡ true → s2.lock_sequences (c.file q) r ≡ s.lock_sequences (c.file q) r) → Creates c → HasOpen c → Taken c → KeptSays c s a → UserBody c → KeptSays c s2 a2
 moves_kept_says c conns s a s2 a2 same_a journal stands slots C_creates C_has_open C_taken i_kept_says i_user_body =
     λ p st e f. let old = i_kept_says p st e in let ub = i_user_body _ _ p e in let sent = ub.3 in let m1 = lock_kind (c.op p) ub.0 in let ok1 = ok_of c C_has_open p sent m1 in let mk = made_of c C_taken C_creates p sent m1 in let sd = stands (create_at c p) mk ok1 in let sl = slots (create_at c p) (c.slot_of p) mk ok1 in let sa = same_a p ub.0 in grind arith
 
-moves_not_kept : (c : Client) (conns : ℕ → Conn) (s : Server) (a : ℕ → ℕ) (s2 : Server) (a2 : ℕ → ℕ) → ((p : ℕ) → locking (c.op p) ≡ true → a2 p ≡ a p) → (s.journal ≤ s2.journal) → ((q : ℕ) → makes_open (c.op q) ≡ true → is_ok (c.outcome q) ≡ true → s2.standing (c.file q) ≡ true → s.standing (c.file q) ≡ true) → ((q r : ℕ) → makes_open (c.op q) ≡ true → is_ok (c.outcome q) ≡ true → s2.standing (c.file q) ≡ true → s2.slots (c.file q) r ≡ s.slots (c.file q) r) → Creates c → HasOpen c → Taken c → NotKept c s a → UserBody c → NotKept c s2 a2
+moves_not_kept : (c : Client) (conns : ℕ → Conn) (s : Server) (a : ℕ → ℕ) (s2 : Server) (a2 : ℕ → ℕ) → ((p : ℕ) → locking (c.op p) ≡ true → a2 p ≡ a p) → (s.journal ≤ s2.journal) → ((q : ℕ) → makes_open (c.op q) ≡ true → is_ok (c.outcome q) ≡ true → s2.standing (c.file q) ≡ true → s.standing (c.file q) ≡ true) → ((q r : ℕ) → makes_open (c.op q) ≡ true → is_ok (c.outcome q) ≡ true → s2.standing (c.file q) ≡ true → s2.lock_sequences (c.file q) r ≡ s.lock_sequences (c.file q) r) → Creates c → HasOpen c → Taken c → NotKept c s a → UserBody c → NotKept c s2 a2
 moves_not_kept c conns s a s2 a2 same_a journal stands slots C_creates C_has_open C_taken i_not_kept i_user_body =
     λ p e f. let old = i_not_kept p e in let ub = i_user_body _ _ p e in let sent = ub.3 in let m1 = lock_kind (c.op p) ub.0 in let ok1 = ok_of c C_has_open p sent m1 in let mk = made_of c C_taken C_creates p sent m1 in let sd = stands (create_at c p) mk ok1 in let sl = slots (create_at c p) (c.slot_of p) mk ok1 in let sa = same_a p ub.0 in grind arith
 
-moves_firm_kept : (c : Client) (conns : ℕ → Conn) (s : Server) (a : ℕ → ℕ) (s2 : Server) (a2 : ℕ → ℕ) → (s.journal ≤ s2.journal) → ((q : ℕ) → makes_open (c.op q) ≡ true → is_ok (c.outcome q) ≡ true → s2.standing (c.file q) ≡ true → s.standing (c.file q) ≡ true) → ((q r : ℕ) → makes_open (c.op q) ≡ true → is_ok (c.outcome q) ≡ true → s2.standing (c.file q) ≡ true → s2.slots (c.file q) r ≡ s.slots (c.file q) r) → Creates c → HasOpen c → Taken c → FirmKept c s → UserBody c → FirmKept c s2
+moves_firm_kept : (c : Client) (conns : ℕ → Conn) (s : Server) (a : ℕ → ℕ) (s2 : Server) (a2 : ℕ → ℕ) → (s.journal ≤ s2.journal) → ((q : ℕ) → makes_open (c.op q) ≡ true → is_ok (c.outcome q) ≡ true → s2.standing (c.file q) ≡ true → s.standing (c.file q) ≡ true) → ((q r : ℕ) → makes_open (c.op q) ≡ true → is_ok (c.outcome q) ≡ true → s2.standing (c.file q) ≡ true → s2.lock_sequences (c.file q) r ≡ s.lock_sequences (c.file q) r) → Creates c → HasOpen c → Taken c → FirmKept c s → UserBody c → FirmKept c s2
 moves_firm_kept c conns s a s2 a2 journal stands slots C_creates C_has_open C_taken i_firm_kept i_user_body =
     λ p e. let old = i_firm_kept p e in let ub = i_user_body _ _ p e in let sent = ub.3 in let m1 = lock_kind (c.op p) ub.0 in let ok1 = ok_of c C_has_open p sent m1 in let mk = made_of c C_taken C_creates p sent m1 in let sd = stands (create_at c p) mk ok1 in let sl = slots (create_at c p) (c.slot_of p) mk ok1 in grind arith
 
-moves_no_user : (c : Client) (conns : ℕ → Conn) (s : Server) (a : ℕ → ℕ) (s2 : Server) (a2 : ℕ → ℕ) → (s.journal ≤ s2.journal) → ((q : ℕ) → makes_open (c.op q) ≡ true → is_ok (c.outcome q) ≡ true → s2.standing (c.file q) ≡ true → s.standing (c.file q) ≡ true) → ((q r : ℕ) → makes_open (c.op q) ≡ true → is_ok (c.outcome q) ≡ true → s2.standing (c.file q) ≡ true → s2.slots (c.file q) r ≡ s.slots (c.file q) r) → NoUser c s → NoUser c s2
+moves_no_user : (c : Client) (conns : ℕ → Conn) (s : Server) (a : ℕ → ℕ) (s2 : Server) (a2 : ℕ → ℕ) → (s.journal ≤ s2.journal) → ((q : ℕ) → makes_open (c.op q) ≡ true → is_ok (c.outcome q) ≡ true → s2.standing (c.file q) ≡ true → s.standing (c.file q) ≡ true) → ((q r : ℕ) → makes_open (c.op q) ≡ true → is_ok (c.outcome q) ≡ true → s2.standing (c.file q) ≡ true → s2.lock_sequences (c.file q) r ≡ s.lock_sequences (c.file q) r) → NoUser c s → NoUser c s2
 moves_no_user c conns s a s2 a2 journal stands slots i_no_user =
     λ q r ok1 mk. let old = i_no_user q r ok1 mk in let sd = stands q mk ok1 in let sl = slots q r mk ok1 in grind arith
 
-moves_no_slots : (c : Client) (conns : ℕ → Conn) (s : Server) (a : ℕ → ℕ) (s2 : Server) (a2 : ℕ → ℕ) → (s.journal ≤ s2.journal) → ((q r o : ℕ) → makes_open (c.op q) ≡ true → is_ok (c.outcome q) ≡ false → s2.by_guid c.who.guid (guid_for c q) ≡ Some o → s2.slots o r ≡ None) → NoSlots c s → NoSlots c s2
+moves_no_slots : (c : Client) (conns : ℕ → Conn) (s : Server) (a : ℕ → ℕ) (s2 : Server) (a2 : ℕ → ℕ) → (s.journal ≤ s2.journal) → ((q r o : ℕ) → makes_open (c.op q) ≡ true → is_ok (c.outcome q) ≡ false → s2.by_guid c.who.guid (guid_for c q) ≡ Some o → s2.lock_sequences o r ≡ None) → NoSlots c s → NoSlots c s2
 moves_no_slots c conns s a s2 a2 journal unmade i_no_slots =
     λ q r o m ok1 e. unmade q r o m ok1 e
 
@@ -84,7 +84,7 @@ moves_no_reply : (c : Client) (conns : ℕ → Conn) (s : Server) (a : ℕ → �
 moves_no_reply c conns s a s2 a2 same_a journal i_no_reply =
     λ j n p y h t m. let old = i_no_reply j n p y h t m in let sa = same_a p m in grind arith
 
-moves_kept_reply : (c : Client) (conns : ℕ → Conn) (s : Server) (a : ℕ → ℕ) (s2 : Server) (a2 : ℕ → ℕ) → (s.journal ≤ s2.journal) → ((q : ℕ) → makes_open (c.op q) ≡ true → is_ok (c.outcome q) ≡ true → s2.standing (c.file q) ≡ true → s.standing (c.file q) ≡ true) → ((q r : ℕ) → makes_open (c.op q) ≡ true → is_ok (c.outcome q) ≡ true → s2.standing (c.file q) ≡ true → s2.slots (c.file q) r ≡ s.slots (c.file q) r) → Creates c → HasOpen c → SentReplies c conns → Taken c → KeptReply c conns s → KeptReply c conns s2
+moves_kept_reply : (c : Client) (conns : ℕ → Conn) (s : Server) (a : ℕ → ℕ) (s2 : Server) (a2 : ℕ → ℕ) → (s.journal ≤ s2.journal) → ((q : ℕ) → makes_open (c.op q) ≡ true → is_ok (c.outcome q) ≡ true → s2.standing (c.file q) ≡ true → s.standing (c.file q) ≡ true) → ((q r : ℕ) → makes_open (c.op q) ≡ true → is_ok (c.outcome q) ≡ true → s2.standing (c.file q) ≡ true → s2.lock_sequences (c.file q) r ≡ s.lock_sequences (c.file q) r) → Creates c → HasOpen c → SentReplies c conns → Taken c → KeptReply c conns s → KeptReply c conns s2
 moves_kept_reply c conns s a s2 a2 journal stands slots C_creates C_has_open C_sent_replies C_taken i_kept_reply =
     λ j n p y h t m. let old = i_kept_reply j n p y h t m in let sent = C_sent_replies j n p y h t in let m1 = lock_kind (c.op p) m in let ok1 = ok_of c C_has_open p sent m1 in let mk = made_of c C_taken C_creates p sent m1 in let sd = stands (create_at c p) mk ok1 in let sl = slots (create_at c p) (c.slot_of p) mk ok1 in grind arith
 
@@ -92,7 +92,7 @@ moves_first_reply : (c : Client) (conns : ℕ → Conn) (s : Server) (a : ℕ �
 moves_first_reply c conns s a s2 a2 same_a journal i_first_reply =
     λ j n p y h t m. let old = i_first_reply j n p y h t m in let sa = same_a p m in grind arith
 
-moves_closed_not : (c : Client) (conns : ℕ → Conn) (s : Server) (a : ℕ → ℕ) (s2 : Server) (a2 : ℕ → ℕ) → ((p : ℕ) → locking (c.op p) ≡ true → a2 p ≡ a p) → (s.journal ≤ s2.journal) → (c.live ≡ true → s2.present c.session ≡ true → s.present c.session ≡ true) → ((g : ℕ) → locking (c.op g) ≡ true → c.sent g ≡ true → is_unsettled (c.outcome g) ≡ true → c.live ≡ true → c.attached (create_at c g) ≡ c.number → s2.present c.session ≡ true → s.standing (open_at c g) ≡ true → s2.standing (open_at c g) ≡ false → a g ≡ 0) → ClosedNot c s a → ClosedNot c s2 a2
+moves_closed_not : (c : Client) (conns : ℕ → Conn) (s : Server) (a : ℕ → ℕ) (s2 : Server) (a2 : ℕ → ℕ) → ((p : ℕ) → locking (c.op p) ≡ true → a2 p ≡ a p) → (s.journal ≤ s2.journal) → (c.live ≡ true → s2.present c.session ≡ true → s.present c.session ≡ true) → ((g : ℕ) → locking (c.op g) ≡ true → c.sent g ≡ true → is_unsettled (c.outcome g) ≡ true → c.live ≡ true → c.attached (create_at c g) ≡ c.session_number → s2.present c.session ≡ true → s.standing (open_at c g) ≡ true → s2.standing (open_at c g) ≡ false → a g ≡ 0) → ClosedNot c s a → ClosedNot c s2 a2
 moves_closed_not c conns s a s2 a2 same_a journal stay_now closed i_closed_not =
     λ p m s0 u l at1. let old = i_closed_not p m s0 u l at1 in let cl = closed p m s0 u l at1 in let sn = stay_now in let sa = same_a p m in grind arith
 
@@ -140,7 +140,7 @@ moves_refused_not : (c : Client) (conns : ℕ → Conn) (s : Server) (a : ℕ �
 moves_refused_not c conns s a s2 a2 same_a journal i_refused_not =
     λ p m. let old = i_refused_not p m in let sa = same_a p m in grind arith
 
-pub moves_keeps : (c : Client) (conns : ℕ → Conn) (s : Server) (a : ℕ → ℕ) (s2 : Server) (a2 : ℕ → ℕ) → ((p : ℕ) → locking (c.op p) ≡ true → a2 p ≡ a p) → (s.journal ≤ s2.journal) → ((j n : ℕ) (x : Sent) → slice_get (conns j).up n ≡ Some x → is_ops x.token ≡ true → s2.present x.message.session ≡ true → s.present x.message.session ≡ true) → (c.live ≡ true → s2.present c.session ≡ true → s.present c.session ≡ true) → ((q : ℕ) → makes_open (c.op q) ≡ true → is_ok (c.outcome q) ≡ true → s2.standing (c.file q) ≡ true → s.standing (c.file q) ≡ true) → ((o y : ℕ) → s.at o ≡ Some y → s2.standing o ≡ true → s2.present y ≡ true → s2.at o ≡ Some y) → ((q r : ℕ) → makes_open (c.op q) ≡ true → is_ok (c.outcome q) ≡ true → s2.standing (c.file q) ≡ true → s2.slots (c.file q) r ≡ s.slots (c.file q) r) → ((q : ℕ) → makes_open (c.op q) ≡ true → is_ok (c.outcome q) ≡ true → s2.standing (c.file q) ≡ true → (s2.opened (c.file q)).persistent ≡ (s.opened (c.file q)).persistent) → ((q : ℕ) → makes_open (c.op q) ≡ true → is_ok (c.outcome q) ≡ true → s2.standing (c.file q) ≡ true → (s.opened (c.file q)).persistent ≡ false → goes_with s (c.file q) ≡ true → lower_limit < s.journal + 34 → goes_with s2 (c.file q) ≡ true) → ((q r o : ℕ) → makes_open (c.op q) ≡ true → is_ok (c.outcome q) ≡ false → s2.by_guid c.who.guid (guid_for c q) ≡ Some o → s2.slots o r ≡ None) → ((q : ℕ) → makes_open (c.op q) ≡ true → 1 ≤ a2 q → piped c.who.share ≡ false) → ((o : ℕ) → s2.standing o ≡ true → deletes_on_close (s2.opened o).options ≡ false) → ((j n g : ℕ) (y : Received) → slice_get (conns j).down n ≡ Some y → y.token ≡ ForOp g → makes_open (c.op g) ≡ true → y.reply.status ≡ success → s2.standing (id_in y.reply.body) ≡ true → s.standing (id_in y.reply.body) ≡ true) → ((g : ℕ) → locking (c.op g) ≡ true → c.sent g ≡ true → is_unsettled (c.outcome g) ≡ true → c.live ≡ true → c.attached (create_at c g) ≡ c.number → s2.present c.session ≡ true → s.standing (open_at c g) ≡ true → s2.standing (open_at c g) ≡ false → a g ≡ 0) → ((j n g : ℕ) (y : Received) → slice_get (conns j).down n ≡ Some y → y.token ≡ ForAttach g → y.reply.status ≡ success → c.live ≡ true → s2.present c.session ≡ true → s.standing (open_at c g) ≡ true → s2.standing (open_at c g) ≡ false → c.attached (create_at c g) ≡ c.number) → Connections c conns a → Locks c conns s a → Locks c conns s2 a2
+pub moves_keeps : (c : Client) (conns : ℕ → Conn) (s : Server) (a : ℕ → ℕ) (s2 : Server) (a2 : ℕ → ℕ) → ((p : ℕ) → locking (c.op p) ≡ true → a2 p ≡ a p) → (s.journal ≤ s2.journal) → ((j n : ℕ) (x : Sent) → slice_get (conns j).up n ≡ Some x → is_ops x.token ≡ true → s2.present x.message.session ≡ true → s.present x.message.session ≡ true) → (c.live ≡ true → s2.present c.session ≡ true → s.present c.session ≡ true) → ((q : ℕ) → makes_open (c.op q) ≡ true → is_ok (c.outcome q) ≡ true → s2.standing (c.file q) ≡ true → s.standing (c.file q) ≡ true) → ((o y : ℕ) → s.session_of_open o ≡ Some y → s2.standing o ≡ true → s2.present y ≡ true → s2.session_of_open o ≡ Some y) → ((q r : ℕ) → makes_open (c.op q) ≡ true → is_ok (c.outcome q) ≡ true → s2.standing (c.file q) ≡ true → s2.lock_sequences (c.file q) r ≡ s.lock_sequences (c.file q) r) → ((q : ℕ) → makes_open (c.op q) ≡ true → is_ok (c.outcome q) ≡ true → s2.standing (c.file q) ≡ true → (s2.opened (c.file q)).persistent ≡ (s.opened (c.file q)).persistent) → ((q : ℕ) → makes_open (c.op q) ≡ true → is_ok (c.outcome q) ≡ true → s2.standing (c.file q) ≡ true → (s.opened (c.file q)).persistent ≡ false → goes_with s (c.file q) ≡ true → lower_limit < s.journal + 34 → goes_with s2 (c.file q) ≡ true) → ((q r o : ℕ) → makes_open (c.op q) ≡ true → is_ok (c.outcome q) ≡ false → s2.by_guid c.who.guid (guid_for c q) ≡ Some o → s2.lock_sequences o r ≡ None) → ((q : ℕ) → makes_open (c.op q) ≡ true → 1 ≤ a2 q → piped c.who.share ≡ false) → ((o : ℕ) → s2.standing o ≡ true → deletes_on_close (s2.opened o).options ≡ false) → ((j n g : ℕ) (y : Received) → slice_get (conns j).down n ≡ Some y → y.token ≡ ForOp g → makes_open (c.op g) ≡ true → y.reply.status ≡ success → s2.standing (id_in y.reply.body) ≡ true → s.standing (id_in y.reply.body) ≡ true) → ((g : ℕ) → locking (c.op g) ≡ true → c.sent g ≡ true → is_unsettled (c.outcome g) ≡ true → c.live ≡ true → c.attached (create_at c g) ≡ c.session_number → s2.present c.session ≡ true → s.standing (open_at c g) ≡ true → s2.standing (open_at c g) ≡ false → a g ≡ 0) → ((j n g : ℕ) (y : Received) → slice_get (conns j).down n ≡ Some y → y.token ≡ ForAttach g → y.reply.status ≡ success → c.live ≡ true → s2.present c.session ≡ true → s.standing (open_at c g) ≡ true → s2.standing (open_at c g) ≡ false → c.attached (create_at c g) ≡ c.session_number) → Connections c conns a → Locks c conns s a → Locks c conns s2 a2
 moves_keeps c conns s a s2 a2 same_a journal stay stay_now stands keeps_at slots opened stuck unmade plain keeps open_stands closed joined C i =
     record {
       slot_index = i.slot_index;

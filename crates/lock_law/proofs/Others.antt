@@ -16,7 +16,7 @@ use Rattle.exchange_defs.specs.Operations.{Op, OpCreate, OpWrite, OpRead, OpEnd,
 use Rattle.exchange_defs.specs.Client.{Client, guid_for}
 use Rattle.exchange_defs.specs.Network.{Conn, Sent, Received, Token, ForDialog, ForOp, ForAttach}
 use Rattle.exchange_defs.specs.Runs.{is_send_of}
-use Rattle.exchange_defs.specs.Verdict.{Verdict, Refuse, Give, KeepRefusal, Repeat, Attach, Make, TurnDown, Tell, Show, KeepSlot, PutRanges, Alter, Shut, Challenge, ChallengeBinding, Begin, Join, EndSession, AddTree, DropTree}
+use Rattle.exchange_defs.specs.Verdict.{Verdict, Refuse, Give, KeepRefusal, Repeat, Attach, Make, TurnDown, Tell, Show, KeepSlot, PutRanges, Alter, CloseOpen, Challenge, ChallengeBinding, Begin, Join, EndSession, AddTree, DropTree}
 use Rattle.exchange_law.specs.Connections.{makes_open, shuts_open, create_at, its_request}
 use Rattle.server_law.proofs.Logic.{either, at_of, front_of}
 use Rattle.server_law.proofs.Doors.{recorded}
@@ -53,7 +53,7 @@ slots_of t m (TurnDown o status) f no1 = refl
 slots_of t m (Tell o body) f no1 = refl
 slots_of t m (Show o last body) f no1 = refl
 slots_of t m (Alter o change body) f no1 = refl
-slots_of t m (Shut o body) f no1 = refl
+slots_of t m (CloseOpen o body) f no1 = refl
 slots_of t m Challenge f no1 = refl
 slots_of t m (ChallengeBinding session) f no1 = refl
 slots_of t m (Begin session user previous r is_quiet) f no1 = refl
@@ -166,18 +166,18 @@ create_unshut : (op : Op) → makes_open op ≡ true → shuts_open op ≡ false
 unfolding makes_open shuts_open
 create_unshut op e = grind arith
 
-attached_to : (t : Server) (m : Message) (o : ℕ) → (t.at o ≡ None) ⊎ (t.at o ≡ Some m.session) → (attached t m o).at o ≡ Some m.session
+attached_to : (t : Server) (m : Message) (o : ℕ) → (t.session_of_open o ≡ None) ⊎ (t.session_of_open o ≡ Some m.session) → (attached t m o).session_of_open o ≡ Some m.session
 attached_to t m o w =
-    either {X = Server} (λ u. u.at o ≡ Some m.session) (is_some (t.at o)) (t) (attach t m o) (λ s. of_some w s) (λ _. put_same t.at o (Some m.session))
+    either {X = Server} (λ u. u.session_of_open o ≡ Some m.session) (is_some (t.session_of_open o)) (t) (attach t m o) (λ s. of_some w s) (λ _. put_same t.session_of_open o (Some m.session))
   where
-    of_some : (t.at o ≡ None) ⊎ (t.at o ≡ Some m.session) → is_some (t.at o) ≡ true → t.at o ≡ Some m.session
+    of_some : (t.session_of_open o ≡ None) ⊎ (t.session_of_open o ≡ Some m.session) → is_some (t.session_of_open o) ≡ true → t.session_of_open o ≡ Some m.session
     of_some (inl n) s = absurd (grind arith)
     of_some (inr y) s = y
 
     put_same : (f : ℕ → Option ℕ) (o : ℕ) (x : Option ℕ) → put f o x o ≡ x
     put_same f o x = grind arith
 
-whose_of : (t : Server) (m : Message) (o : ℕ) (P Q : Type 0) → (t.at o ≡ Some m.session) ⊎ (t.at o ≡ None × P × Q) → (t.at o ≡ None) ⊎ (t.at o ≡ Some m.session)
+whose_of : (t : Server) (m : Message) (o : ℕ) (P Q : Type 0) → (t.session_of_open o ≡ Some m.session) ⊎ (t.session_of_open o ≡ None × P × Q) → (t.session_of_open o ≡ None) ⊎ (t.session_of_open o ≡ Some m.session)
 whose_of t m o P Q (inl y) = inr y
 whose_of t m o P Q (inr n) = inl n.0
 
@@ -198,7 +198,7 @@ says_room (Show o last body) e = absurd (cc)
 says_room (KeepSlot o i n status es) e = absurd (cc)
 says_room (PutRanges o i n ranges es) e = absurd (cc)
 says_room (Alter o change body) e = absurd (cc)
-says_room (Shut o body) e = absurd (cc)
+says_room (CloseOpen o body) e = absurd (cc)
 says_room Challenge e = absurd (cc)
 says_room (ChallengeBinding session) e = absurd (cc)
 says_room (Begin session user previous r is_quiet) e = absurd (cc)
@@ -209,7 +209,7 @@ says_room DropTree e = absurd (cc)
 
 -- a success gives an open that is the session's
 abbrev Gives : Server → Message → ℕ → Verdict → Type 0
-Gives t m now v = (apply t m now v).reply.status ≡ success → (apply t m now v).server.at (id_in (apply t m now v).reply.body) ≡ Some m.session
+Gives t m now v = (apply t m now v).reply.status ≡ success → (apply t m now v).server.session_of_open (id_in (apply t m now v).reply.body) ≡ Some m.session
 
 no_success : (status : ℕ) (P : Type 0) → (status == success) ≡ false → status ≡ success → P
 no_success status P e f = absurd (grind arith)
@@ -219,7 +219,7 @@ gives_by t m now (Refuse status) f e = λ s. no_success status _ (grind arith) s
 gives_by t m now (KeepRefusal guid status) f e = λ s. no_success status _ f.refused s
 gives_by t m now (Repeat o r) f e = λ s. attached_to t m o (whose_of t m o _ _ f.whose)
 gives_by t m now (Attach o r) f e = λ s. attached_to t m o f.whose
-gives_by t m now (Make r found1 action) f e = λ s. ap (λ z. z.at (next_open t)) (make_view t m r found1 action now) ∙ put_same t.at (next_open t) (Some m.session)
+gives_by t m now (Make r found1 action) f e = λ s. ap (λ z. z.session_of_open (next_open t)) (make_view t m r found1 action now) ∙ put_same t.session_of_open (next_open t) (Some m.session)
   where
     put_same : (g : ℕ → Option ℕ) (o : ℕ) (x : Option ℕ) → put g o x o ≡ x
     put_same g o x = grind arith
@@ -230,7 +230,7 @@ gives_by t m now (Show o last body) f e = absurd (cc)
 gives_by t m now (KeepSlot o i n status es) f e = absurd (cc)
 gives_by t m now (PutRanges o i n ranges es) f e = absurd (cc)
 gives_by t m now (Alter o change body) f e = absurd (cc)
-gives_by t m now (Shut o body) f e = absurd (cc)
+gives_by t m now (CloseOpen o body) f e = absurd (cc)
 gives_by t m now Challenge f e = absurd (cc)
 gives_by t m now (ChallengeBinding session) f e = absurd (cc)
 gives_by t m now (Begin session user previous r is_quiet) f e = absurd (cc)
@@ -269,7 +269,7 @@ plain_create c conns t a k x0 now (Show o last body) w f e q m l = absurd (cc)
 plain_create c conns t a k x0 now (KeepSlot o i n status es) w f e q m l = absurd (cc)
 plain_create c conns t a k x0 now (PutRanges o i n ranges es) w f e q m l = absurd (cc)
 plain_create c conns t a k x0 now (Alter o change body) w f e q m l = absurd (cc)
-plain_create c conns t a k x0 now (Shut o body) w f e q m l = absurd (cc)
+plain_create c conns t a k x0 now (CloseOpen o body) w f e q m l = absurd (cc)
 plain_create c conns t a k x0 now Challenge w f e q m l = absurd (cc)
 plain_create c conns t a k x0 now (ChallengeBinding session) w f e q m l = absurd (cc)
 plain_create c conns t a k x0 now (Begin session user previous r is_quiet) w f e q m l = absurd (cc)
@@ -368,11 +368,11 @@ has_it g u e = rw e (same_number g)
 
 -- what a DH2C's reply comes to
 pub record Asked (c : Client) (t : Server) (m : Message) (now g : ℕ) (v : Verdict) : Type 0 where
-  pub ok : (apply t m now v).reply.status ≡ success → (apply t m now v).server.at (open_at c g) ≡ Some m.session × (apply t m now v).server.standing (open_at c g) ≡ true
+  pub ok : (apply t m now v).reply.status ≡ success → (apply t m now v).server.session_of_open (open_at c g) ≡ Some m.session × (apply t m now v).server.standing (open_at c g) ≡ true
   pub lost : (apply t m now v).reply.status ≢ success → (apply t m now v).reply.status ≢ user_session_deleted → (apply t m now v).reply.status ≡ object_name_not_found × (apply t m now v).server.standing (open_at c g) ≡ false
 
 attached_stands : (t : Server) (m : Message) (o : ℕ) → (attached t m o).standing ≡ t.standing
-attached_stands t m o = either {X = Server} (λ u. u.standing ≡ t.standing) (is_some (t.at o)) t (attach t m o) (λ _. refl) (λ _. refl)
+attached_stands t m o = either {X = Server} (λ u. u.standing ≡ t.standing) (is_some (t.session_of_open o)) t (attach t m o) (λ _. refl) (λ _. refl)
 
 free_of : (u : Option ℕ) (x : ℕ) → (is_some u && not (is_at x u)) ≡ false → (u ≡ None) ⊎ (u ≡ Some x)
 free_of None x e = inl refl
@@ -403,7 +403,7 @@ asked_by c conns t a k x0 now g r v w tk mk ok (Other on st e) =
     record { ok = λ s. absurd (cc); lost = λ n d. absurd (grind arith) }
 asked_by c conns t a k x0 now g r v w tk mk ok (Held on e) =
     let p = w.low.fits.on_present x0.message.connection x0.message.session on in
-    let h = other_at (t.at (open_at c g)) x0.message.session e in
+    let h = other_at (t.session_of_open (open_at c g)) x0.message.session e in
     let at1 = w.creates.attached (open_at c g) h.0 h.1.0 in
     let one = w.here h.0 at1.1 at1.0 in
     let two = w.here x0.message.session p (w.low.ranked_up k 0 x0 w.front (ap is_ops tk)) in
@@ -412,7 +412,7 @@ asked_by c conns t a k x0 now g r v w tk mk ok (Held on e) =
     differ : (x y : ℕ) → (x == y) ≡ false → x ≡ y → ⊥
     differ x y e f = eqb-false x y e f
 asked_by c conns t a k x0 now g r v w tk mk ok (Attached on st e) =
-    record { ok = λ s. (attached_to t x0.message (open_at c g) (free_of (t.at (open_at c g)) x0.message.session e), ap (λ z. z (open_at c g)) (attached_stands t x0.message (open_at c g)) ∙ st); lost = λ n d. absurd (n refl) }
+    record { ok = λ s. (attached_to t x0.message (open_at c g) (free_of (t.session_of_open (open_at c g)) x0.message.session e), ap (λ z. z (open_at c g)) (attached_stands t x0.message (open_at c g)) ∙ st); lost = λ n d. absurd (n refl) }
 
 not_own : (g h : ℕ) (t : Token) → t ≡ ForAttach g → t ≡ ForOp h → true ≡ false
 not_own g h t e f = absurd (grind arith)
@@ -435,7 +435,7 @@ serves_ask c conns t a k x0 now v rs g w q tk =
           record {
             of_ask_down = λ h e. subst (λ z. 0 < z × z ≤ c.taken × makes_open (c.op z) ≡ false × is_ok (c.outcome (create_at c z)) ≡ true) (same_ask g h x0.token tk e) (ad.0, ad.1, ad.2, ad.3);
             of_opened_reply = λ h e. absurd (let x = not_own g h x0.token tk e in cc);
-            of_join_reply = λ h e st lv p sd. subst (λ z. (apply t x0.message now v).server.at (open_at c z) ≡ Some c.session) (same_ask g h x0.token tk e) ((says.ok st).0 ∙ ap (λ z. Some z) cur.1);
+            of_join_reply = λ h e st lv p sd. subst (λ z. (apply t x0.message now v).server.session_of_open (open_at c z) ≡ Some c.session) (same_ask g h x0.token tk e) ((says.ok st).0 ∙ ap (λ z. Some z) cur.1);
             of_joined_reply = λ h e st lv p off. let sd = subst (λ z. (apply t x0.message now v).server.standing (open_at c z) ≡ true) (same_ask g h x0.token tk e) (says.ok st).1 in absurd (let x = clash _ off sd in cc);
             of_lost_reply = λ h e n d. subst (λ z. (apply t x0.message now v).reply.status ≡ object_name_not_found × (apply t x0.message now v).server.standing (open_at c z) ≡ false) (same_ask g h x0.token tk e) (says.lost n d);
             of_ok_reply = λ h e. absurd (let x = not_own g h x0.token tk e in cc);

@@ -88,7 +88,7 @@ lower_closes c conns s a k g i may unsent low h l m its sh =
     by_kind true e true f =
         let cr = i.0.creates h l within (close_kind (c.op h) sh) in let own = own_create g (c.op g) e in absurd (let x = not_self cr.1 m (its ∙ own) in cc)
     by_kind false e true f =
-        let st : c.shut (create_at c g) ≡ true = subst (λ z. c.shut z ≡ true) its (i.1.shut_ok h sh f) in
+        let st : c.closed_ok (create_at c g) ≡ true = subst (λ z. c.closed_ok z ≡ true) its (i.1.shut_ok h sh f) in
         absurd (let x = no_two (is_unsettled (c.outcome g)) may.pending (i.1.shut_gone g may.above may.within e st unsent) in cc)
 
 -- ---- it goes out
@@ -96,11 +96,11 @@ lower_closes c conns s a k g i may unsent low h l m its sh =
 next_differs : (n : ℕ) → (n + 1) % 16 ≢ n
 next_differs n = λ e. absurd (grind (arith, nat_tests, e))
 
-slot_of_free : (c : Client) (q i : ℕ) → is_free c q i ≡ true → in_slots i ≡ true × is_out_of_use c (c.slot_user q i) ≡ true × c.retried q i ≢ c.number × c.full q i ≡ false
+slot_of_free : (c : Client) (q i : ℕ) → is_free c q i ≡ true → in_slots i ≡ true × is_out_of_use c (c.slot_user q i) ≡ true × c.retried q i ≢ c.session_number × c.full q i ≡ false
 unfolding in_slots
 slot_of_free c q i e =
-    let p = parts4 (nat_lt 0 i) (nat_le i 64) (is_out_of_use c (c.slot_user q i)) (c.retried q i == c.number) (c.full q i) e in
-    (within i p.0 p.1, p.2, eqb-false (c.retried q i) c.number p.3, p.4)
+    let p = parts4 (nat_lt 0 i) (nat_le i 64) (is_out_of_use c (c.slot_user q i)) (c.retried q i == c.session_number) (c.full q i) e in
+    (within i p.0 p.1, p.2, eqb-false (c.retried q i) c.session_number p.3, p.4)
   where
     parts4 : (x y u r f : Bool) → ((x && y) && (u && (not r && not f))) ≡ true → x ≡ true × y ≡ true × u ≡ true × r ≡ false × f ≡ false
     parts4 x y u r f e = (grind arith, grind arith, grind arith, grind arith, grind arith)
@@ -124,11 +124,11 @@ pub record Goes (c : Client) (conns : ℕ → Conn) (k g : ℕ) : Type 0 where
   pub may : MayPush c k g
   pub live : c.live ≡ true
   pub stands : (conns k).client_open ≡ true
-  pub att : makes_open (c.op g) ≡ false → c.attached (create_at c g) ≡ c.number
+  pub att : makes_open (c.op g) ≡ false → c.attached (create_at c g) ≡ c.session_number
   pub ok : makes_open (c.op g) ≡ false → is_ok (c.outcome (create_at c g)) ≡ true × makes_open (c.op (create_at c g)) ≡ true
 
 sent_out : (c : Client) (conns : ℕ → Conn) (s : Server) (a : ℕ → ℕ) (k g : ℕ) → Both c conns s a → Goes c conns k g → c.sent g ≡ true
-    → ((j n : ℕ) (x : Sent) → slice_get (conns j).up n ≡ Some x → x.token ≡ ForOp g → locking (c.op g) ≡ true → c.retried (create_at c g) (c.slot_of g) ≡ c.number) → Out conns s a k g c
+    → ((j n : ℕ) (x : Sent) → slice_get (conns j).up n ≡ Some x → x.token ≡ ForOp g → locking (c.op g) ≡ true → c.retried (create_at c g) (c.slot_of g) ≡ c.session_number) → Out conns s a k g c
 sent_out c conns s a k g i go sent again1 = send_keeps c conns s a k g (charge (weight (c.op g))) (own_message c k (conns k).next_id g) go.may.ready go.may.none go.may.pending sent go.stands refl go.live go.att again1 go.ok i.1
 
 put_two : (f : ℕ → ℕ → ℕ) (q i n : ℕ) → put2 f q i n q i ≡ n
@@ -148,10 +148,10 @@ same_goes c conns k g sent slot_of number_of user retried o = record { may = sam
 
 begun_out : (c : Client) (conns : ℕ → Conn) (s : Server) (a : ℕ → ℕ) (k g n : ℕ) → Both c conns s a → Goes c conns k g → Lowest c g → has_its_slot c g n ≡ true → (b : Bool) → c.sent g ≡ b → Out conns s a k g (if b then again c g else begin c g n)
 begun_out c conns s a k g n i go low slot true e =
-    either (Out conns s a k g) (is_lock (c.op g)) (record c { retried = put2 c.retried (create_for c g) (c.slot_of g) c.number }) c
-    (λ _. sent_out (record c { retried = put2 c.retried (create_for c g) (c.slot_of g) c.number }) conns s a k g
+    either (Out conns s a k g) (is_lock (c.op g)) (record c { retried = put2 c.retried (create_for c g) (c.slot_of g) c.session_number }) c
+    (λ _. sent_out (record c { retried = put2 c.retried (create_for c g) (c.slot_of g) c.session_number }) conns s a k g
     (retried_keeps c conns a (create_for c g) (c.slot_of g) i.0, again_keeps c conns s a (create_for c g) (c.slot_of g) i.1) (same_goes c conns k g c.sent c.slot_of c.number_of c.slot_user _ go) e
-    (λ j m x h t l. subst (λ z. put2 c.retried (create_for c g) (c.slot_of g) c.number z (c.slot_of g) ≡ c.number) (own_for c g) (put_two c.retried (create_for c g) (c.slot_of g) c.number)))
+    (λ j m x h t l. subst (λ z. put2 c.retried (create_for c g) (c.slot_of g) c.session_number z (c.slot_of g) ≡ c.session_number) (own_for c g) (put_two c.retried (create_for c g) (c.slot_of g) c.session_number)))
     (λ off. sent_out c conns s a k g i go e (λ j m x h t l. absurd (let y = no_two (locking (c.op g)) l (sym (is_locking (c.op g)) ∙ off) in cc)))
 begun_out c conns s a k g n i go low slot false e =
     let may = go.may in let before = lower_closes c conns s a k g i may e low in
@@ -180,13 +180,13 @@ begun_out c conns s a k g n i go low slot false e =
 
 -- ---- a push
 
-itself_att : (c : Client) (g : ℕ) → goes_itself c g ≡ true → makes_open (c.op g) ≡ false → c.attached (create_at c g) ≡ c.number
+itself_att : (c : Client) (g : ℕ) → goes_itself c g ≡ true → makes_open (c.op g) ≡ false → c.attached (create_at c g) ≡ c.session_number
 unfolding makes_open its_create
-itself_att c g e m = eqb-true (c.attached (create_for c g)) c.number (back_of c.live (c.attached (create_for c g) == c.number) (other_on (is_create (c.op g)) (is_attached c (create_for c g)) e m))
+itself_att c g e m = eqb-true (c.attached (create_for c g)) c.session_number (back_of c.live (c.attached (create_for c g) == c.session_number) (other_on (is_create (c.op g)) (is_attached c (create_for c g)) e m))
 
-not_itself : (c : Client) (g : ℕ) → goes_itself c g ≡ false → c.live ≡ true → makes_open (c.op g) ≡ false × c.attached (create_at c g) ≢ c.number
+not_itself : (c : Client) (g : ℕ) → goes_itself c g ≡ false → c.live ≡ true → makes_open (c.op g) ≡ false × c.attached (create_at c g) ≢ c.session_number
 unfolding makes_open its_create
-not_itself c g e l = let p = both_off (is_create (c.op g)) c.live (c.attached (create_for c g) == c.number) e l in (p.0, eqb-false (c.attached (create_for c g)) c.number p.1)
+not_itself c g e l = let p = both_off (is_create (c.op g)) c.live (c.attached (create_for c g) == c.session_number) e l in (p.0, eqb-false (c.attached (create_for c g)) c.session_number p.1)
   where
     both_off : (x y z : Bool) → (x || (y && z)) ≡ false → y ≡ true → x ≡ false × z ≡ false
     both_off x y z e l = (grind arith, grind arith)
@@ -213,7 +213,7 @@ put_some : (f : ℕ → Option ℕ) (g k : ℕ) → is_some (put f g (Some k) g)
 put_some f g k = grind arith
 
 lowest_of : (d : Client) (k g : ℕ) → Lower (outstanding d k g) → LowestIn d.op d.outcome g
-lowest_of d k g low n l m its sh = low g n (put_some d.on g k) l m its sh
+lowest_of d k g low n l m its sh = low g n (put_some d.outstanding_on g k) l m its sh
 
 lowest_before : (c d : Client) (g : ℕ) → d.op ≡ c.op → d.outcome ≡ c.outcome → LowestIn d.op d.outcome g → Lowest c g
 lowest_before c d g e f low = subst (λ z. LowestIn c.op z g) f (subst (λ z. LowestIn z d.outcome g) e low)

@@ -3,13 +3,13 @@ use Rattle.std.proofs.lemmas.Bool.Decides.{nat_tests}
 use Rattle.std.proofs.Common.{◌≡◌, inl, inr, ℕ, ◌+◌, ◌≤◌, ◌<◌, nat_le, Bool, true, false, if◌then◌else◌, List, [], ◌∷◌, ◌++◌, length, refl, arith, subst, Option, Some, None}
 use Rattle.exchange_defs.specs.Table.{is_filled}
 use Rattle.exchange_defs.specs.Commands.{Element, deletes_on_close}
-use Rattle.exchange_defs.specs.State.{Server, Message, Heard, Record, Origin, Answer, EpochRecord, RemoveRecord, LockRecord, ShutRecord, VersionRecord, ExpireRecord}
-use Rattle.exchange_defs.specs.Opens.{goes, drop_open, marked_by, leave_records, mark_records, shut_records, gone_records}
+use Rattle.exchange_defs.specs.State.{Server, Message, Heard, Record, Origin, Answer, EpochRecord, RemoveRecord, LockRecord, CloseRecord, VersionRecord, ExpireRecord}
+use Rattle.exchange_defs.specs.Opens.{goes, drop_open, pending_behind, leave_records, pending_records, shut_records, gone_records}
 use Rattle.exchange_defs.specs.Verdict.{Verdict}
 use Rattle.exchange_defs.specs.Check.{check}
 use Rattle.exchange_defs.specs.Records.{entry_bytes, records_size, record_size, text_size, opened_size, fits, origin_at, lower_limit}
 use Rattle.exchange_defs.specs.Effects.{apply}
-use Rattle.exchange_defs.specs.Step.{step, table, expiring, written_down, with_deadlines, due, expire, expire_records, behind_expiry, without_room, max_marks}
+use Rattle.exchange_defs.specs.Step.{step, table, expiring, written_down, with_deadlines, due, expire, expire_records, behind_expiry, without_room, max_expired_guids}
 use Rattle.server_law.proofs.Logic.{either}
 use Rattle.server_law.proofs.Doors.{recorded, Before}
 use Rattle.lock_law.specs.Locks.{goes_with}
@@ -75,15 +75,15 @@ unfolding fits is_filled
 unfit s [] e = absurd (cc)
 unfit s (r ∷ rs) e = (grind (arith, nat_tests), refl)
 
-no_mark : (s : Server) (origin : Origin) (o : ℕ) → (s.opened o).persistent ≡ true → mark_records s origin o ≡ []
-unfolding mark_records
-no_mark s origin o p = grind arith
+not_expired : (s : Server) (origin : Origin) (o : ℕ) → (s.opened o).persistent ≡ true → pending_records s origin o ≡ []
+unfolding pending_records
+not_expired s origin o p = grind arith
 
-two_at_most : (s : Server) (origin : Origin) (o : ℕ) (a : List Record) → a ≡ [] → entry_bytes (a ++ (shut_records s origin o ++ gone_records (drop_open (marked_by s o) o) origin (s.opened o).file)) ≤ 63
+two_at_most : (s : Server) (origin : Origin) (o : ℕ) (a : List Record) → a ≡ [] → entry_bytes (a ++ (shut_records s origin o ++ gone_records (drop_open (pending_behind s o) o) origin (s.opened o).file)) ≤ 63
 unfolding shut_records gone_records entry_bytes records_size record_size
-two_at_most s origin o a e = by_goes (s.opened o).persistent (goes (drop_open (marked_by s o) o) (s.opened o).file) a e
+two_at_most s origin o a e = by_goes (s.opened o).persistent (goes (drop_open (pending_behind s o) o) (s.opened o).file) a e
   where
-    by_goes : (p q : Bool) (a : List Record) → a ≡ [] → entry_bytes (a ++ ((if p then ShutRecord origin o ∷ [] else []) ++ (if q then RemoveRecord origin (s.opened o).file ∷ [] else []))) ≤ 63
+    by_goes : (p q : Bool) (a : List Record) → a ≡ [] → entry_bytes (a ++ ((if p then CloseRecord origin o ∷ [] else []) ++ (if q then RemoveRecord origin (s.opened o).file ∷ [] else []))) ≤ 63
     by_goes true true [] e = omega arith
     by_goes true false [] e = omega arith
     by_goes false true [] e = omega arith
@@ -93,11 +93,11 @@ two_at_most s origin o a e = by_goes (s.opened o).persistent (goes (drop_open (m
 pub full_persistent : (s : Server) (origin : Origin) (o : ℕ) → (s.opened o).persistent ≡ true → fits s (leave_records s origin o) ≡ false → lower_limit < s.journal + 66
 unfolding leave_records
 full_persistent s origin o p e =
-    let u = unfit s (leave_records s origin o) e in let t = two_at_most s origin o (mark_records s origin o) (no_mark s origin o p) in omega (arith, u.0, t)
+    let u = unfit s (leave_records s origin o) e in let t = two_at_most s origin o (pending_records s origin o) (not_expired s origin o p) in omega (arith, u.0, t)
 
 -- of a plain open, and one that doesn't delete on close, the removal of its file is all
 plain_records : (s : Server) (origin : Origin) (o : ℕ) → (s.opened o).persistent ≡ false → deletes_on_close (s.opened o).options ≡ false → leave_records s origin o ≡ (if goes_with s o then RemoveRecord origin (s.opened o).file ∷ [] else [])
-unfolding leave_records mark_records shut_records gone_records goes_with
+unfolding leave_records pending_records shut_records gone_records goes_with
 plain_records s origin o p d = grind arith
 
 gone_only : (s : Server) (origin : Origin) (f : ℕ) (b : Bool) → fits s (if b then RemoveRecord origin f ∷ [] else []) ≡ false → b ≡ true × lower_limit < s.journal + 34
@@ -122,7 +122,7 @@ stuck_fits s t front origin o p d g e = gone_fits s front origin (t.opened o).fi
 pub no_room : (d : Server) (k o : ℕ) (rs : List Record) → fits d (expire_records d (origin_at k) o ++ rs) ≡ true → lower_limit < d.journal + 34 → ⊥
 unfolding expire_records is_big
 no_room d k o rs e l =
-    let f = room_for d [] (gone_records (drop_open (marked_by d o) o) (origin_at k) (d.opened o).file ++ rs) (ExpireRecord (origin_at k) o) refl e in absurd (omega (arith, f, l))
+    let f = room_for d [] (gone_records (drop_open (pending_behind d o) o) (origin_at k) (d.opened o).file ++ rs) (ExpireRecord (origin_at k) o) refl e in absurd (omega (arith, f, l))
 
 abbrev pub Fitting : Server → ℕ → Message → (Answer → Type 0) → Type 0
 Fitting s now m P = (t : Server) (v : Verdict) (front : List Record) → Before s now t → (lower_limit < s.journal + 34 → t ≡ with_deadlines s now) → v ≡ check t m → fits (with_deadlines s now) (front ++ (apply t m now v).records) ≡ true → P (recorded (apply t m now v) (front ++ (apply t m now v).records))
@@ -142,7 +142,7 @@ by_due : (P : Answer → Type 0) (s : Server) (now : ℕ) (m : Message) → Fitt
 by_due P s now m f g None e = by_table P s now m f g
 by_due P s now m f g (Some o) e =
     let d = with_deadlines s now in let t = expire d o in
-    either (λ A. P (written_down A)) (nat_le max_marks d.mark_count) (table d now (Heard m)) (behind_expiry d now (Heard m) (expire_records d (origin_at m.connection) o) (apply t m now (check t m))) (λ _. by_table P s now m f g)
+    either (λ A. P (written_down A)) (nat_le max_expired_guids d.expired_count) (table d now (Heard m)) (behind_expiry d now (Heard m) (expire_records d (origin_at m.connection) o) (apply t m now (check t m))) (λ _. by_table P s now m f g)
     (λ _. either (λ A. P (written_down A)) (fits d (expire_records d (origin_at m.connection) o ++ (apply t m now (check t m)).records)) (record (apply t m now (check t m)) { records = expire_records d (origin_at m.connection) o ++ (apply t m now (check t m)).records }) (table d now (Heard m))
     (λ r. f t (check t m) (expire_records d (origin_at m.connection) o) (inr (o, e, refl)) (λ l. absurd (no_room d m.connection o _ r l)) refl r)
     (λ _. by_table P s now m f g))

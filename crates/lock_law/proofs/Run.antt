@@ -83,7 +83,7 @@ first_quiet c g op =
     let P : Outcome → Type 0 = λ o. firm o ≡ false × is_ok o ≡ false in
     either P (is_create op) _ _ (λ _. (refl, refl)) (λ _. either P (is_gone c (create_of g op)) _ _ (λ _. (refl, refl)) (λ _. (refl, refl)))
 
-gone_shut : (c : Client) (q : ℕ) (o : Outcome) → is_ok o ≡ true → c.shut q ≡ true → is_gone_after c q o ≡ true
+gone_shut : (c : Client) (q : ℕ) (o : Outcome) → is_ok o ≡ true → c.closed_ok q ≡ true → is_gone_after c q o ≡ true
 gone_shut c q (WasOk reply) e f = grind arith
 gone_shut c q Unsettled e f = absurd (cc)
 gone_shut c q (WasRefused status) e f = refl
@@ -91,7 +91,7 @@ gone_shut c q (NoSlot n) e f = refl
 gone_shut c q (NoOpen n) e f = refl
 gone_shut c q (Unknown why) e f = refl
 
-first_gone : (c : Client) (g : ℕ) (op : Op) → ((q : ℕ) → c.shut q ≡ true → is_ok (c.outcome q) ≡ true) → makes_open op ≡ false → c.shut (its_create g op) ≡ true → is_unsettled (outcome_at_first c g op) ≡ false
+first_gone : (c : Client) (g : ℕ) (op : Op) → ((q : ℕ) → c.closed_ok q ≡ true → is_ok (c.outcome q) ≡ true) → makes_open op ≡ false → c.closed_ok (its_create g op) ≡ true → is_unsettled (outcome_at_first c g op) ≡ false
 unfolding makes_open its_create
 first_gone c g op made m sh =
     let P : Outcome → Type 0 = λ o. is_unsettled o ≡ false in
@@ -152,10 +152,10 @@ anew_locks c conns s u a C grown r i =
     (λ l p. no_two (u.present c.session) _ p (r.bare.absent c.session))
     (λ q m ok st. (stood s u r (c.file q) st).0)
     (λ o y at st p. no_two (u.present y) _ p (r.bare.absent y))
-    (λ q n m ok st. r.slots (c.file q) n (sym (r.standing (c.file q)) ∙ st))
+    (λ q n m ok st. r.lock_sequences (c.file q) n (sym (r.standing (c.file q)) ∙ st))
     (λ q m ok st. ap (λ (z : OpenRow). z.persistent) (stood s u r (c.file q) st).2)
     (λ q m ok st pl g big. no_two (s.opened (c.file q)).persistent _ (stood s u r (c.file q) st).1 pl)
-    (λ q n o m ok e. let wn = was_named s u r c.who.guid (guid_for c q) o e in r.slots o n wn.1 ∙ i.no_slots q n o m ok wn.0)
+    (λ q n o m ok e. let wn = was_named s u r c.who.guid (guid_for c q) o e in r.lock_sequences o n wn.1 ∙ i.no_slots q n o m ok wn.0)
     i.made_plain
     (λ o st. let t = stood s u r o st in subst (λ (z : OpenRow). deletes_on_close z.options ≡ false) (sym t.2) (i.kept_files o t.0))
     (λ j n g y h t m e st. (stood s u r (id_in y.reply.body) st).0)
@@ -200,7 +200,7 @@ unsent_ended c h create b (Unknown why) e = ((refl, refl), λ _. e)
 plain_ended : (c : Client) (h create : ℕ) → Ended c h (plain_after_end c h create)
 unfolding firm refused_for_good
 plain_ended c h create =
-    either (λ o. Ended c h o) (c.sent h) (Unknown (SessionLost c.number)) _ (λ _. ((refl, refl), λ x. absurd (cc)))
+    either (λ o. Ended c h o) (c.sent h) (Unknown (SessionLost c.session_number)) _ (λ _. ((refl, refl), λ x. absurd (cc)))
     (λ e. either (λ o. Ended c h o) (is_create (c.op h)) Unsettled _ (λ _. ((refl, refl), λ x. absurd (cc))) (λ _. unsent_ended c h create (c.sent create) (c.outcome create) e))
 
 end_gives : (c : Client) (h : ℕ) (o : Outcome) → is_unsettled o ≡ true → Ended c h (outcome_after_end c h o)
@@ -231,9 +231,9 @@ attaches_by c g asking r = by_line
         by_value None = λ f. absurd (cc)
         by_value (Some reply) = λ f. absurd (cc)
 
-    by_refused : Is (refused (c.op g) asking (c.before g) r.status)
+    by_refused : Is (refused (c.op g) asking (c.unanswered g) r.status)
     by_refused =
-        either Is (not (c.before g)) _ _ (λ _ f. absurd (cc)) (λ _. either Is (was_closed (c.op g) asking r.status) _ _ (λ _ f. absurd (cc))
+        either Is (not (c.unanswered g)) _ _ (λ _ f. absurd (cc)) (λ _. either Is (was_closed (c.op g) asking r.status) _ _ (λ _ f. absurd (cc))
         (λ _. either Is (may_have_acted (c.op g) asking r.status) _ _ (λ _ f. absurd (cc)) (λ _. either Is (refuses_all (c.op g) r.status) _ _ (λ _ f. absurd (cc)) (λ _ f. absurd (cc)))))
 
     by_line : Is (heard c g asking r)
@@ -241,23 +241,23 @@ attaches_by c g asking r = by_line
         either Is (r.status == user_session_deleted) _ _ (λ _ f. absurd (cc))
         (λ _. either Is (r.status == success) _ _ (λ s. by_ok asking refl s) (λ _. either Is (goes_again c g asking r.status) _ _ (λ _ f. absurd (cc)) (λ _. by_refused)))
 
-hears : (w : World) (a : ℕ → ℕ) (k g : ℕ) (asking : Bool) (y : Received) → Taken w.client w.conns w.server a k g asking y → (asking ≡ false → acts_once (w.client.op g) ≡ true → y.reply.status ≡ user_session_deleted → w.client.before g ≡ false → a g ≡ 0)
+hears : (w : World) (a : ℕ → ℕ) (k g : ℕ) (asking : Bool) (y : Received) → Taken w.client w.conns w.server a k g asking y → (asking ≡ false → acts_once (w.client.op g) ≡ true → y.reply.status ≡ user_session_deleted → w.client.unanswered g ≡ false → a g ≡ 0)
     → (h : Hearing) → heard w.client g asking y.reply ≡ h → LocksHold (with_client (closed_by w k (act_heard h)) (hear w.client g asking y.reply y.place h)) a
 hears w a k g asking y t gone (Settles o) e =
     let firm0 = heard_firm w.client g asking y.reply o e in
-    settles w.client w.conns w.server a k g asking y.reply y.place o (says_of w.client w.conns w.server a k g asking y o t (subst (λ h. Tells (w.client.op g) asking (w.client.before g) y.reply.status h) e (heard_tells w.client g asking y.reply)) firm0)
+    settles w.client w.conns w.server a k g asking y.reply y.place o (says_of w.client w.conns w.server a k g asking y o t (subst (λ h. Tells (w.client.op g) asking (w.client.unanswered g) y.reply.status h) e (heard_tells w.client g asking y.reply)) firm0)
 hears w a k g asking y t gone GoesAgain e = answered_keeps w.client w.conns w.server a g t.locks
 hears w a k g asking y t gone Attaches e =
     let at = attaches_by w.client g asking y.reply e in
     let tk = t.ask at.0 in
     joined_keeps w.client w.conns w.server a g (create_for w.client g) (own_for w.client g)
-    (λ m ok lv p st. subst (λ z. w.server.standing (w.client.file z) ≡ true → w.server.at (w.client.file z) ≡ Some w.client.session) (sym (own_for w.client g)) (λ sd. t.said.of_join_reply g tk at.1 lv p sd) st)
-    (λ lv p st. subst (λ z. w.server.standing (w.client.file z) ≡ false → w.client.attached z ≡ w.client.number) (sym (own_for w.client g)) (λ sd. t.said.of_joined_reply g tk at.1 lv p sd) st) t.locks
+    (λ m ok lv p st. subst (λ z. w.server.standing (w.client.file z) ≡ true → w.server.session_of_open (w.client.file z) ≡ Some w.client.session) (sym (own_for w.client g)) (λ sd. t.said.of_join_reply g tk at.1 lv p sd) st)
+    (λ lv p st. subst (λ z. w.server.standing (w.client.file z) ≡ false → w.client.attached z ≡ w.client.session_number) (sym (own_for w.client g)) (λ sd. t.said.of_joined_reply g tk at.1 lv p sd) st) t.locks
 hears w a k g asking y t gone EndsSession e =
     leaves (answered w.client g) w.conns w.server a
-    (exchange_answered_keeps w.client w.conns a k g t.on t.none (λ o b q. gone (sym t.asks ∙ q) o (heard_ends w.client g asking y.reply e) b) t.links) (answered_keeps w.client w.conns w.server a g t.locks)
+    (exchange_answered_keeps w.client w.conns a k g t.outstanding_on t.none (λ o b q. gone (sym t.asks ∙ q) o (heard_ends w.client g asking y.reply e) b) t.links) (answered_keeps w.client w.conns w.server a g t.locks)
 
-took : (w : World) (a : ℕ → ℕ) (k g : ℕ) (asking : Bool) (y : Received) → (w.client.on g ≡ Some k → w.client.asking g ≡ asking → Taken w.client w.conns w.server a k g asking y) → (asking ≡ false → acts_once (w.client.op g) ≡ true → y.reply.status ≡ user_session_deleted → w.client.before g ≡ false → a g ≡ 0) → LocksHold w a
+took : (w : World) (a : ℕ → ℕ) (k g : ℕ) (asking : Bool) (y : Received) → (w.client.outstanding_on g ≡ Some k → w.client.asks_attach g ≡ asking → Taken w.client w.conns w.server a k g asking y) → (asking ≡ false → acts_once (w.client.op g) ≡ true → y.reply.status ≡ user_session_deleted → w.client.unanswered g ≡ false → a g ≡ 0) → LocksHold w a
     → LocksHold (op_took w k g asking y.reply y.place) a
 took w a k g asking y t gone i =
     both_ways (λ c x. LocksHold (with_client (closed_by w k x) c) a) (is_awaited w.client k g asking) (hear w.client g asking y.reply y.place (heard w.client g asking y.reply)) w.client (act_heard (heard w.client g asking y.reply)) Nothing
@@ -323,7 +323,7 @@ dialogs w a k rest y is b C apart i (Refuses status) e = dialog_refused_keeps w.
 
 -- ---- a reply that is taken
 
-unsettled_on : (c : Client) (g k : ℕ) → ((h : ℕ) → is_unsettled (c.outcome h) ≡ false → c.on h ≡ None) → c.on g ≡ Some k → is_unsettled (c.outcome g) ≡ true
+unsettled_on : (c : Client) (g k : ℕ) → ((h : ℕ) → is_unsettled (c.outcome h) ≡ false → c.outstanding_on h ≡ None) → c.outstanding_on g ≡ Some k → is_unsettled (c.outcome g) ≡ true
 unsettled_on c g k f e = elim (is_unsettled (c.outcome g)) as (λ b. is_unsettled (c.outcome g) ≡ b → is_unsettled (c.outcome g) ≡ true) [ true ↦ λ q. q | false ↦ λ q. let h = f g q in absurd (grind arith) ] refl
 
 said_of : (c : Client) (conns : ℕ → Conn) (s : Server) (a : ℕ → ℕ) (k : ℕ) (y : Received) → Locks c conns s a → slice_get (conns k).down 0 ≡ Some y → MaySay c s a y
@@ -367,7 +367,7 @@ takes_by w a k y rest is b i (ForOp g) e =
     record {
       links = exchange_behind_keeps w.client w.conns a k y rest is C;
       locks = behind_keeps w.client w.conns w.server a k y rest is i;
-      on = on;
+      outstanding_on = on;
       asks = asks;
       none = subst (λ z. copies z (put w.conns k (take_front (w.conns k) rest) k) ≡ 0) (ap op_of e) (front_reply_gone w.conns k y rest is (C.once k (op_of y.token)));
       live = (C.ready k rd.0).1;
@@ -385,7 +385,7 @@ takes_by w a k y rest is b i (ForAttach g) e =
     record {
       links = exchange_behind_keeps w.client w.conns a k y rest is C;
       locks = behind_keeps w.client w.conns w.server a k y rest is i;
-      on = on;
+      outstanding_on = on;
       asks = asks;
       none = subst (λ z. copies z (put w.conns k (take_front (w.conns k) rest) k) ≡ 0) (ap op_of e) (front_reply_gone w.conns k y rest is (C.once k (op_of y.token)));
       live = (C.ready k rd.0).1;

@@ -14,14 +14,14 @@ use Rattle.lock_law.specs.Locks.{Locks, locking, open_at, kept_of, goes_with, Un
 -- what is to be known of the reply
 pub record MaySay (c : Client) (s : Server) (a : ℕ → ℕ) (y0 : Received) : Type 0 where
   pub of_ask_down : (g : ℕ) → y0.token ≡ ForAttach g → 0 < g × g ≤ c.taken × makes_open (c.op g) ≡ false × is_ok (c.outcome (create_at c g)) ≡ true
-  pub of_opened_reply : (g : ℕ) → y0.token ≡ ForOp g → makes_open (c.op g) ≡ true → y0.reply.status ≡ success → c.live ≡ true → s.present c.session ≡ true → s.standing (id_in y0.reply.body) ≡ true → s.at (id_in y0.reply.body) ≡ Some c.session
-  pub of_join_reply : (g : ℕ) → y0.token ≡ ForAttach g → y0.reply.status ≡ success → c.live ≡ true → s.present c.session ≡ true → s.standing (open_at c g) ≡ true → s.at (open_at c g) ≡ Some c.session
-  pub of_joined_reply : (g : ℕ) → y0.token ≡ ForAttach g → y0.reply.status ≡ success → c.live ≡ true → s.present c.session ≡ true → s.standing (open_at c g) ≡ false → c.attached (create_at c g) ≡ c.number
+  pub of_opened_reply : (g : ℕ) → y0.token ≡ ForOp g → makes_open (c.op g) ≡ true → y0.reply.status ≡ success → c.live ≡ true → s.present c.session ≡ true → s.standing (id_in y0.reply.body) ≡ true → s.session_of_open (id_in y0.reply.body) ≡ Some c.session
+  pub of_join_reply : (g : ℕ) → y0.token ≡ ForAttach g → y0.reply.status ≡ success → c.live ≡ true → s.present c.session ≡ true → s.standing (open_at c g) ≡ true → s.session_of_open (open_at c g) ≡ Some c.session
+  pub of_joined_reply : (g : ℕ) → y0.token ≡ ForAttach g → y0.reply.status ≡ success → c.live ≡ true → s.present c.session ≡ true → s.standing (open_at c g) ≡ false → c.attached (create_at c g) ≡ c.session_number
   pub of_lost_reply : (g : ℕ) → y0.token ≡ ForAttach g → y0.reply.status ≢ success → y0.reply.status ≢ user_session_deleted → y0.reply.status ≡ object_name_not_found × s.standing (open_at c g) ≡ false
   pub of_ok_reply : (g : ℕ) → y0.token ≡ ForOp g → locking (c.op g) ≡ true → y0.reply.status ≡ success → a g ≡ 1
   pub of_no_reply : (g : ℕ) → y0.token ≡ ForOp g → locking (c.op g) ≡ true → y0.reply.status ≢ success → y0.reply.status ≢ user_session_deleted → y0.reply.status ≢ disk_full → a g ≡ 0
   pub of_kept_reply : (g : ℕ) → y0.token ≡ ForOp g → locking (c.op g) ≡ true → y0.reply.status ≢ user_session_deleted → y0.reply.status ≢ disk_full → s.standing (open_at c g) ≡ true → is_some (kept_of c s g) ≡ true
-  pub of_first_reply : (g : ℕ) → y0.token ≡ ForOp g → locking (c.op g) ≡ true → y0.reply.status ≢ success → c.before g ≡ false → a g ≡ 0
+  pub of_first_reply : (g : ℕ) → y0.token ≡ ForOp g → locking (c.op g) ≡ true → y0.reply.status ≢ success → c.unanswered g ≡ false → a g ≡ 0
   pub of_close_done : (h : ℕ) → y0.token ≡ ForOp h → shuts_open (c.op h) ≡ true → y0.reply.status ≡ success → s.standing (open_at c h) ≡ false
   pub of_close_full : (h : ℕ) → y0.token ≡ ForOp h → shuts_open (c.op h) ≡ true → y0.reply.status ≢ user_session_deleted → y0.reply.status ≢ file_closed → s.standing (open_at c h) ≡ true → (s.opened (open_at c h)).persistent ≡ true → lower_limit < s.journal + 66
   pub of_close_stuck : (h : ℕ) → y0.token ≡ ForOp h → shuts_open (c.op h) ≡ true → y0.reply.status ≢ user_session_deleted → y0.reply.status ≢ file_closed → s.standing (open_at c h) ≡ true → (s.opened (open_at c h)).persistent ≡ false → lower_limit < s.journal + 34 × goes_with s (open_at c h) ≡ true
@@ -58,15 +58,15 @@ say_copy_attached : (c : Client) (conns : ℕ → Conn) (s : Server) (a : ℕ �
 say_copy_attached c conns s a k y0 i_copy_attached =
     λ j n p x. let old = i_copy_attached j n p x in grind arith
 
-say_opened_reply : (c : Client) (conns : ℕ → Conn) (s : Server) (a : ℕ → ℕ) (k : ℕ) (y0 : Received) → ((g : ℕ) → y0.token ≡ ForOp g → makes_open (c.op g) ≡ true → y0.reply.status ≡ success → c.live ≡ true → s.present c.session ≡ true → s.standing (id_in y0.reply.body) ≡ true → s.at (id_in y0.reply.body) ≡ Some c.session) → OpenedReply c conns s → OpenedReply c (put conns k (record (conns k) { down = (conns k).down ++ y0 ∷ [] })) s
+say_opened_reply : (c : Client) (conns : ℕ → Conn) (s : Server) (a : ℕ → ℕ) (k : ℕ) (y0 : Received) → ((g : ℕ) → y0.token ≡ ForOp g → makes_open (c.op g) ≡ true → y0.reply.status ≡ success → c.live ≡ true → s.present c.session ≡ true → s.standing (id_in y0.reply.body) ≡ true → s.session_of_open (id_in y0.reply.body) ≡ Some c.session) → OpenedReply c conns s → OpenedReply c (put conns k (record (conns k) { down = (conns k).down ++ y0 ∷ [] })) s
 say_opened_reply c conns s a k y0 of_opened_reply i_opened_reply =
     λ j n p y. let old = i_opened_reply j n p y in let m1 = of_opened_reply p in grind (arith, get-push)
 
-say_join_reply : (c : Client) (conns : ℕ → Conn) (s : Server) (a : ℕ → ℕ) (k : ℕ) (y0 : Received) → ((g : ℕ) → y0.token ≡ ForAttach g → y0.reply.status ≡ success → c.live ≡ true → s.present c.session ≡ true → s.standing (open_at c g) ≡ true → s.at (open_at c g) ≡ Some c.session) → JoinReply c conns s → JoinReply c (put conns k (record (conns k) { down = (conns k).down ++ y0 ∷ [] })) s
+say_join_reply : (c : Client) (conns : ℕ → Conn) (s : Server) (a : ℕ → ℕ) (k : ℕ) (y0 : Received) → ((g : ℕ) → y0.token ≡ ForAttach g → y0.reply.status ≡ success → c.live ≡ true → s.present c.session ≡ true → s.standing (open_at c g) ≡ true → s.session_of_open (open_at c g) ≡ Some c.session) → JoinReply c conns s → JoinReply c (put conns k (record (conns k) { down = (conns k).down ++ y0 ∷ [] })) s
 say_join_reply c conns s a k y0 of_join_reply i_join_reply =
     λ j n p y. let old = i_join_reply j n p y in let m1 = of_join_reply p in grind (arith, get-push)
 
-say_joined_reply : (c : Client) (conns : ℕ → Conn) (s : Server) (a : ℕ → ℕ) (k : ℕ) (y0 : Received) → ((g : ℕ) → y0.token ≡ ForAttach g → y0.reply.status ≡ success → c.live ≡ true → s.present c.session ≡ true → s.standing (open_at c g) ≡ false → c.attached (create_at c g) ≡ c.number) → JoinedReply c conns s → JoinedReply c (put conns k (record (conns k) { down = (conns k).down ++ y0 ∷ [] })) s
+say_joined_reply : (c : Client) (conns : ℕ → Conn) (s : Server) (a : ℕ → ℕ) (k : ℕ) (y0 : Received) → ((g : ℕ) → y0.token ≡ ForAttach g → y0.reply.status ≡ success → c.live ≡ true → s.present c.session ≡ true → s.standing (open_at c g) ≡ false → c.attached (create_at c g) ≡ c.session_number) → JoinedReply c conns s → JoinedReply c (put conns k (record (conns k) { down = (conns k).down ++ y0 ∷ [] })) s
 say_joined_reply c conns s a k y0 of_joined_reply i_joined_reply =
     λ j n p y. let old = i_joined_reply j n p y in let m1 = of_joined_reply p in grind (arith, get-push)
 
@@ -90,7 +90,7 @@ say_kept_reply : (c : Client) (conns : ℕ → Conn) (s : Server) (a : ℕ → �
 say_kept_reply c conns s a k y0 of_kept_reply i_kept_reply =
     λ j n p y. let old = i_kept_reply j n p y in let m1 = of_kept_reply p in grind (arith, get-push)
 
-say_first_reply : (c : Client) (conns : ℕ → Conn) (s : Server) (a : ℕ → ℕ) (k : ℕ) (y0 : Received) → ((g : ℕ) → y0.token ≡ ForOp g → locking (c.op g) ≡ true → y0.reply.status ≢ success → c.before g ≡ false → a g ≡ 0) → FirstReply c conns a → FirstReply c (put conns k (record (conns k) { down = (conns k).down ++ y0 ∷ [] })) a
+say_first_reply : (c : Client) (conns : ℕ → Conn) (s : Server) (a : ℕ → ℕ) (k : ℕ) (y0 : Received) → ((g : ℕ) → y0.token ≡ ForOp g → locking (c.op g) ≡ true → y0.reply.status ≢ success → c.unanswered g ≡ false → a g ≡ 0) → FirstReply c conns a → FirstReply c (put conns k (record (conns k) { down = (conns k).down ++ y0 ∷ [] })) a
 say_first_reply c conns s a k y0 of_first_reply i_first_reply =
     λ j n p y. let old = i_first_reply j n p y in let m1 = of_first_reply p in grind (arith, get-push)
 
@@ -118,7 +118,7 @@ say_close_stuck : (c : Client) (conns : ℕ → Conn) (s : Server) (a : ℕ → 
 say_close_stuck c conns s a k y0 of_close_stuck i_close_stuck =
     λ j n p y. let old = i_close_stuck j n p y in let m1 = of_close_stuck p in grind (arith, get-push)
 
-pub say_keeps : (c : Client) (conns : ℕ → Conn) (s : Server) (a : ℕ → ℕ) (k : ℕ) (y0 : Received) → ((g : ℕ) → y0.token ≡ ForAttach g → 0 < g × g ≤ c.taken × makes_open (c.op g) ≡ false × is_ok (c.outcome (create_at c g)) ≡ true) → ((g : ℕ) → y0.token ≡ ForOp g → makes_open (c.op g) ≡ true → y0.reply.status ≡ success → c.live ≡ true → s.present c.session ≡ true → s.standing (id_in y0.reply.body) ≡ true → s.at (id_in y0.reply.body) ≡ Some c.session) → ((g : ℕ) → y0.token ≡ ForAttach g → y0.reply.status ≡ success → c.live ≡ true → s.present c.session ≡ true → s.standing (open_at c g) ≡ true → s.at (open_at c g) ≡ Some c.session) → ((g : ℕ) → y0.token ≡ ForAttach g → y0.reply.status ≡ success → c.live ≡ true → s.present c.session ≡ true → s.standing (open_at c g) ≡ false → c.attached (create_at c g) ≡ c.number) → ((g : ℕ) → y0.token ≡ ForAttach g → y0.reply.status ≢ success → y0.reply.status ≢ user_session_deleted → y0.reply.status ≡ object_name_not_found × s.standing (open_at c g) ≡ false) → ((g : ℕ) → y0.token ≡ ForOp g → locking (c.op g) ≡ true → y0.reply.status ≡ success → a g ≡ 1) → ((g : ℕ) → y0.token ≡ ForOp g → locking (c.op g) ≡ true → y0.reply.status ≢ success → y0.reply.status ≢ user_session_deleted → y0.reply.status ≢ disk_full → a g ≡ 0) → ((g : ℕ) → y0.token ≡ ForOp g → locking (c.op g) ≡ true → y0.reply.status ≢ user_session_deleted → y0.reply.status ≢ disk_full → s.standing (open_at c g) ≡ true → is_some (kept_of c s g) ≡ true) → ((g : ℕ) → y0.token ≡ ForOp g → locking (c.op g) ≡ true → y0.reply.status ≢ success → c.before g ≡ false → a g ≡ 0) → ((h : ℕ) → y0.token ≡ ForOp h → shuts_open (c.op h) ≡ true → y0.reply.status ≡ success → s.standing (open_at c h) ≡ false) → ((h : ℕ) → y0.token ≡ ForOp h → shuts_open (c.op h) ≡ true → y0.reply.status ≢ user_session_deleted → y0.reply.status ≢ file_closed → s.standing (open_at c h) ≡ true → (s.opened (open_at c h)).persistent ≡ true → lower_limit < s.journal + 66) → ((h : ℕ) → y0.token ≡ ForOp h → shuts_open (c.op h) ≡ true → y0.reply.status ≢ user_session_deleted → y0.reply.status ≢ file_closed → s.standing (open_at c h) ≡ true → (s.opened (open_at c h)).persistent ≡ false → lower_limit < s.journal + 34 × goes_with s (open_at c h) ≡ true) → Locks c conns s a → Locks c (put conns k (record (conns k) { down = (conns k).down ++ y0 ∷ [] })) s a
+pub say_keeps : (c : Client) (conns : ℕ → Conn) (s : Server) (a : ℕ → ℕ) (k : ℕ) (y0 : Received) → ((g : ℕ) → y0.token ≡ ForAttach g → 0 < g × g ≤ c.taken × makes_open (c.op g) ≡ false × is_ok (c.outcome (create_at c g)) ≡ true) → ((g : ℕ) → y0.token ≡ ForOp g → makes_open (c.op g) ≡ true → y0.reply.status ≡ success → c.live ≡ true → s.present c.session ≡ true → s.standing (id_in y0.reply.body) ≡ true → s.session_of_open (id_in y0.reply.body) ≡ Some c.session) → ((g : ℕ) → y0.token ≡ ForAttach g → y0.reply.status ≡ success → c.live ≡ true → s.present c.session ≡ true → s.standing (open_at c g) ≡ true → s.session_of_open (open_at c g) ≡ Some c.session) → ((g : ℕ) → y0.token ≡ ForAttach g → y0.reply.status ≡ success → c.live ≡ true → s.present c.session ≡ true → s.standing (open_at c g) ≡ false → c.attached (create_at c g) ≡ c.session_number) → ((g : ℕ) → y0.token ≡ ForAttach g → y0.reply.status ≢ success → y0.reply.status ≢ user_session_deleted → y0.reply.status ≡ object_name_not_found × s.standing (open_at c g) ≡ false) → ((g : ℕ) → y0.token ≡ ForOp g → locking (c.op g) ≡ true → y0.reply.status ≡ success → a g ≡ 1) → ((g : ℕ) → y0.token ≡ ForOp g → locking (c.op g) ≡ true → y0.reply.status ≢ success → y0.reply.status ≢ user_session_deleted → y0.reply.status ≢ disk_full → a g ≡ 0) → ((g : ℕ) → y0.token ≡ ForOp g → locking (c.op g) ≡ true → y0.reply.status ≢ user_session_deleted → y0.reply.status ≢ disk_full → s.standing (open_at c g) ≡ true → is_some (kept_of c s g) ≡ true) → ((g : ℕ) → y0.token ≡ ForOp g → locking (c.op g) ≡ true → y0.reply.status ≢ success → c.unanswered g ≡ false → a g ≡ 0) → ((h : ℕ) → y0.token ≡ ForOp h → shuts_open (c.op h) ≡ true → y0.reply.status ≡ success → s.standing (open_at c h) ≡ false) → ((h : ℕ) → y0.token ≡ ForOp h → shuts_open (c.op h) ≡ true → y0.reply.status ≢ user_session_deleted → y0.reply.status ≢ file_closed → s.standing (open_at c h) ≡ true → (s.opened (open_at c h)).persistent ≡ true → lower_limit < s.journal + 66) → ((h : ℕ) → y0.token ≡ ForOp h → shuts_open (c.op h) ≡ true → y0.reply.status ≢ user_session_deleted → y0.reply.status ≢ file_closed → s.standing (open_at c h) ≡ true → (s.opened (open_at c h)).persistent ≡ false → lower_limit < s.journal + 34 × goes_with s (open_at c h) ≡ true) → Locks c conns s a → Locks c (put conns k (record (conns k) { down = (conns k).down ++ y0 ∷ [] })) s a
 say_keeps c conns s a k y0 of_ask_down of_opened_reply of_join_reply of_joined_reply of_lost_reply of_ok_reply of_no_reply of_kept_reply of_first_reply of_close_done of_close_full of_close_stuck i =
     record {
       slot_index = i.slot_index;

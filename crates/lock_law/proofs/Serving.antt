@@ -12,7 +12,7 @@ use Rattle.exchange_defs.specs.Operations.{is_unsettled}
 use Rattle.exchange_defs.specs.Client.{Client, guid_for}
 use Rattle.exchange_defs.specs.Network.{Conn, Sent, Received, Token, ForOp, ForAttach}
 use Rattle.exchange_defs.specs.Runs.{is_send_of}
-use Rattle.exchange_defs.specs.Verdict.{Verdict, Refuse, Give, KeepRefusal, Repeat, Attach, Make, TurnDown, Tell, Show, KeepSlot, PutRanges, Alter, Shut, Challenge, ChallengeBinding, Begin, Join, EndSession, AddTree, DropTree}
+use Rattle.exchange_defs.specs.Verdict.{Verdict, Refuse, Give, KeepRefusal, Repeat, Attach, Make, TurnDown, Tell, Show, KeepSlot, PutRanges, Alter, CloseOpen, Challenge, ChallengeBinding, Begin, Join, EndSession, AddTree, DropTree}
 use Rattle.exchange_law.specs.Connections.{Connections, makes_open, create_at}
 use Rattle.server_law.proofs.Doors.{recorded}
 use Rattle.server_law.proofs.Found.{Facts}
@@ -86,7 +86,7 @@ bare_full d m now (Show o last body) = refl
 bare_full d m now (KeepSlot o index number status elements) = refl
 bare_full d m now (PutRanges o index number ranges elements) = refl
 bare_full d m now (Alter o change body) = refl
-bare_full d m now (Shut o body) = refl
+bare_full d m now (CloseOpen o body) = refl
 bare_full d m now Challenge = refl
 bare_full d m now (ChallengeBinding session) = refl
 bare_full d m now (Begin session user None r is_quiet) = refl
@@ -117,7 +117,7 @@ new_kept c conns t a k x0 (Show o last body) w f = tt
 new_kept c conns t a k x0 (KeepSlot o index number status elements) w f = tt
 new_kept c conns t a k x0 (PutRanges o index number ranges elements) w f = tt
 new_kept c conns t a k x0 (Alter o change body) w f = tt
-new_kept c conns t a k x0 (Shut o body) w f = tt
+new_kept c conns t a k x0 (CloseOpen o body) w f = tt
 new_kept c conns t a k x0 Challenge w f = tt
 new_kept c conns t a k x0 (ChallengeBinding session) w f = tt
 new_kept c conns t a k x0 (Begin session user previous r is_quiet) w f = tt
@@ -139,12 +139,12 @@ of_unmade c g p e f = elim (g == p) as (λ b. g == p ≡ b → (g == p) ≡ fals
 -- ---- a verdict that isn't a lock's
 
 steady_recorded : (t u : Server) (n : ℕ) → Steady t u → Steady t (record u { journal = n })
-steady_recorded t u n s = record { entries = s.entries; marked = s.marked; directory = s.directory; others = s.others }
+steady_recorded t u n s = record { entries = s.entries; delete_pending = s.delete_pending; directory = s.directory; others = s.others }
 
 pub quiet_serve : (c : Client) (conns : ℕ → Conn) (t : Server) (a : ℕ → ℕ) (k : ℕ) (x0 : Sent) (now : ℕ) (v : Verdict) (rs : List Record) (a2 : ℕ → ℕ)
     → Serving c conns t a k x0 → Facts t x0.message v → is_slot_verdict v ≡ false → (lower_limit < t.journal + 34 → (apply t x0.message now v).records ≡ []) → ((q : ℕ) → makes_open (c.op q) ≡ true → 1 ≤ a2 q → piped c.who.share ≡ false) → ((p : ℕ) → locking (c.op p) ≡ true → a2 p ≡ a p)
     → ((g : ℕ) → locking (c.op g) ≡ true → c.sent g ≡ true → is_unsettled (c.outcome g) ≡ true → c.live ≡ true → (apply t x0.message now v).server.present c.session ≡ true → t.standing (open_at c g) ≡ true → closes_in x0.message.command (open_at c g) ≡ true → (apply t x0.message now v).server.standing (open_at c g) ≡ false → a g ≡ 0)
-    → ((j n g : ℕ) (y : Received) → slice_get (conns j).down n ≡ Some y → y.token ≡ ForAttach g → y.reply.status ≡ success → c.live ≡ true → (apply t x0.message now v).server.present c.session ≡ true → t.standing (open_at c g) ≡ true → closes_in x0.message.command (open_at c g) ≡ true → (apply t x0.message now v).server.standing (open_at c g) ≡ false → c.attached (create_at c g) ≡ c.number)
+    → ((j n g : ℕ) (y : Received) → slice_get (conns j).down n ≡ Some y → y.token ≡ ForAttach g → y.reply.status ≡ success → c.live ≡ true → (apply t x0.message now v).server.present c.session ≡ true → t.standing (open_at c g) ≡ true → closes_in x0.message.command (open_at c g) ≡ true → (apply t x0.message now v).server.standing (open_at c g) ≡ false → c.attached (create_at c g) ≡ c.session_number)
     → Locks c conns (recorded (apply t x0.message now v) rs).server a2
 quiet_serve c conns t a k x0 now v rs a2 w f off bare plain same_a shut joined =
     let m = x0.message in let A = apply t m now v in

@@ -20,8 +20,8 @@ use Rattle.lock_law.proofs.Settle.{settle_keeps}
 pub record OperationSettles (d : Client) (conns : ℕ → Conn) (s : Server) (a : ℕ → ℕ) (g : ℕ) (o : Outcome) (fu : ℕ → ℕ → Bool) : Type 0 where
   pub full_same : (p : ℕ) → p ≢ g → user_at d p ≡ Some p → fu (create_at d p) (d.slot_of p) ≡ d.full (create_at d p) (d.slot_of p)
   pub kept : firm o ≡ true → user_at d g ≡ Some g → fu (create_at d g) (d.slot_of g) ≡ false → s.standing (open_at d g) ≡ true → is_some (kept_of d s g) ≡ true
-  pub made : (r : ℕ) → is_ok o ≡ true → makes_open (d.op g) ≡ true → s.standing (d.file g) ≡ true → s.slots (d.file g) r ≡ None
-  pub near : makes_open (d.op g) ≡ true → is_ok o ≡ true → d.live ≡ true → s.present d.session ≡ true → s.standing (d.file g) ≡ true → s.at (d.file g) ≡ Some d.session
+  pub made : (r : ℕ) → is_ok o ≡ true → makes_open (d.op g) ≡ true → s.standing (d.file g) ≡ true → s.lock_sequences (d.file g) r ≡ None
+  pub near : makes_open (d.op g) ≡ true → is_ok o ≡ true → d.live ≡ true → s.present d.session ≡ true → s.standing (d.file g) ≡ true → s.session_of_open (d.file g) ≡ Some d.session
   pub dead : (j n : ℕ) (x : Sent) → slice_get (conns j).up n ≡ Some x → x.token ≡ ForOp g → locking (d.op g) ≡ true → firm o ≡ true → s.present x.message.session ≡ true → fu (create_at d g) (d.slot_of g) ≡ false
   pub full : (j n : ℕ) (x : Sent) → slice_get (conns j).up n ≡ Some x → x.token ≡ ForOp g → shuts_open (d.op g) ≡ true → is_ok o ≡ false → s.present x.message.session ≡ true → s.standing (open_at d g) ≡ true → (s.opened (open_at d g)).persistent ≡ true → lower_limit < s.journal + 66
   pub stuck : (j n : ℕ) (x : Sent) → slice_get (conns j).up n ≡ Some x → x.token ≡ ForOp g → shuts_open (d.op g) ≡ true → is_ok o ≡ false → s.present x.message.session ≡ true → s.standing (open_at d g) ≡ true → (s.opened (open_at d g)).persistent ≡ false → lower_limit < s.journal + 34 × goes_with s (open_at d g) ≡ true
@@ -32,14 +32,14 @@ pub record OperationSettles (d : Client) (conns : ℕ → Conn) (s : Server) (a 
 pub record Ready (d : Client) (conns : ℕ → Conn) (s : Server) (a : ℕ → ℕ) (k g : ℕ) (o : Outcome) (fu : ℕ → ℕ → Bool) : Type 0 where
   pub links : Connections d conns a
   pub locks : Locks d conns s a
-  pub on : d.on g ≡ Some k
+  pub outstanding_on : d.outstanding_on g ≡ Some k
   pub pending : is_unsettled (d.outcome g) ≡ true
   pub firm : is_unsettled o ≡ false
   pub real : is_unsent o ≡ false
   pub told : OperationSettles d conns s a g o fu
 
 abbrev pub done_at : Client → ℕ → Outcome → (ℕ → Bool) → (ℕ → ℕ → Bool) → ℕ → Client
-done_at d g o sh fu place = record d { outcome = put d.outcome g o; on = put d.on g None; by = put d.by g (Some place); order = d.order ++ g ∷ []; shut = sh; full = fu }
+done_at d g o sh fu place = record d { outcome = put d.outcome g o; outstanding_on = put d.outstanding_on g None; settled_by = put d.settled_by g (Some place); order = d.order ++ g ∷ []; closed_ok = sh; full = fu }
 
 put_own : (f : ℕ → Outcome) (g : ℕ) (o : Outcome) → put f g o g ≡ o
 put_own f g o = grind arith
@@ -60,12 +60,12 @@ below : (n g m : ℕ) → n < g → g ≤ m → n ≤ m
 below n g m l e = omega (arith, l, e)
 
 abbrev Shuts : Client → ℕ → Outcome → (ℕ → Bool) → Type 0
-Shuts d g o sh = (q : ℕ) → sh q ≡ true → (d.shut q ≡ true) ⊎ (q ≡ create_at d g × is_ok o ≡ true × shuts_open (d.op g) ≡ true)
+Shuts d g o sh = (q : ℕ) → sh q ≡ true → (d.closed_ok q ≡ true) ⊎ (q ≡ create_at d g × is_ok o ≡ true × shuts_open (d.op g) ≡ true)
 
 -- one that neither makes nor shuts
-leaf1 : (d : Client) (conns : ℕ → Conn) (s : Server) (a : ℕ → ℕ) (k g : ℕ) (o : Outcome) (fu : ℕ → ℕ → Bool) (place : ℕ) → Ready d conns s a k g o fu → shuts_open (d.op g) ≡ false → Locks (done_at d g o d.shut fu place) conns s a
+leaf1 : (d : Client) (conns : ℕ → Conn) (s : Server) (a : ℕ → ℕ) (k g : ℕ) (o : Outcome) (fu : ℕ → ℕ → Bool) (place : ℕ) → Ready d conns s a k g o fu → shuts_open (d.op g) ≡ false → Locks (done_at d g o d.closed_ok fu place) conns s a
 leaf1 d conns s a k g o fu place r off =
-    settle_keeps d conns s a k g o (put d.outcome g o) d.shut fu (put d.by g (Some place)) (d.order ++ g ∷ []) r.on (put_own d.outcome g o) r.firm r.real
+    settle_keeps d conns s a k g o (put d.outcome g o) d.closed_ok fu (put d.settled_by g (Some place)) (d.order ++ g ∷ []) r.outstanding_on (put_own d.outcome g o) r.firm r.real
     (λ h x e. put_other d.outcome g h o x)
     (λ h x e f. still (is_unsettled (d.outcome h)) _ e (sym (ap is_unsettled (put_other d.outcome g h o x)) ∙ f))
     (λ p l m e f u. split_at (λ z. is_unsettled (put d.outcome g o z) ≡ false) g p (λ x. ap is_unsettled (put_other d.outcome g p o x) ∙ r.locks.shut_gone p l m e f u) (ap is_unsettled (put_own d.outcome g o) ∙ r.firm))
@@ -73,8 +73,8 @@ leaf1 d conns s a k g o fu place r off =
     (λ q e. let sm = r.locks.shut_made q e in (split_at (λ z. is_ok (d.outcome z) ≡ true → is_ok (put d.outcome g o z) ≡ true) g q (λ x f. ap is_ok (put_other d.outcome g q o x) ∙ f) (λ f. still (is_ok (d.outcome g)) _ f (unsettled_ok (d.outcome g) r.pending)) sm.0, sm.1))
     r.told.full_same r.told.kept r.told.made r.told.near r.told.dead r.told.full r.told.stuck r.told.acted r.told.unacted r.links r.locks
   where
-    shut_before : (h : ℕ) → shuts_open (d.op h) ≡ true → is_ok (put d.outcome g o h) ≡ true → d.shut (create_at d h) ≡ true
-    shut_before h sh ok = split_at (λ z. shuts_open (d.op z) ≡ true → is_ok (put d.outcome g o z) ≡ true → d.shut (create_at d z) ≡ true) g h (λ x e f. r.locks.shut_ok h e (sym (ap is_ok (put_other d.outcome g h o x)) ∙ f)) (λ e f. still (shuts_open (d.op g)) _ e off) sh ok
+    shut_before : (h : ℕ) → shuts_open (d.op h) ≡ true → is_ok (put d.outcome g o h) ≡ true → d.closed_ok (create_at d h) ≡ true
+    shut_before h sh ok = split_at (λ z. shuts_open (d.op z) ≡ true → is_ok (put d.outcome g o z) ≡ true → d.closed_ok (create_at d z) ≡ true) g h (λ x e f. r.locks.shut_ok h e (sym (ap is_ok (put_other d.outcome g h o x)) ∙ f)) (λ e f. still (shuts_open (d.op g)) _ e off) sh ok
 
 without_new : (names sent gone : Bool) (create : ℕ) (o : Outcome) → is_unsettled o ≡ true → is_unsettled (without_open names sent gone create o) ≡ false → is_unsent (without_open names sent gone create o) ≡ true × sent ≡ false
 unfolding is_unsent
@@ -93,7 +93,7 @@ without_gone names sent gone create (NoSlot n) e f g = refl
 without_gone names sent gone create (NoOpen n) e f g = refl
 without_gone names sent gone create (Unknown why) e f g = refl
 
-gone_ok : (c : Client) (q : ℕ) (o : Outcome) → is_ok o ≡ true → c.shut q ≡ true → is_gone_after c q o ≡ true
+gone_ok : (c : Client) (q : ℕ) (o : Outcome) → is_ok o ≡ true → c.closed_ok q ≡ true → is_gone_after c q o ≡ true
 gone_ok c q (WasOk reply) e f = grind arith
 gone_ok c q Unsettled e f = absurd (cc)
 gone_ok c q (WasRefused status) e f = refl
@@ -116,10 +116,10 @@ named_in n q b e f = rw (e, f) (same q)
     same q = grind arith
 
 -- one that makes or shuts an open: what never went out and has none any more settles with it
-leaf2 : (d : Client) (conns : ℕ → Conn) (s : Server) (a : ℕ → ℕ) (k g : ℕ) (o : Outcome) (sh : ℕ → Bool) (fu : ℕ → ℕ → Bool) (place : ℕ) → Ready d conns s a k g o fu → Shuts d g o sh → ((q : ℕ) → d.shut q ≡ true → sh q ≡ true) → (shuts_open (d.op g) ≡ true → is_ok o ≡ true → sh (create_at d g) ≡ true)
+leaf2 : (d : Client) (conns : ℕ → Conn) (s : Server) (a : ℕ → ℕ) (k g : ℕ) (o : Outcome) (sh : ℕ → Bool) (fu : ℕ → ℕ → Bool) (place : ℕ) → Ready d conns s a k g o fu → Shuts d g o sh → ((q : ℕ) → d.closed_ok q ≡ true → sh q ≡ true) → (shuts_open (d.op g) ≡ true → is_ok o ≡ true → sh (create_at d g) ≡ true)
     → (shuts_open (d.op g) ≡ true → is_ok (d.outcome (create_at d g)) ≡ true × create_at d g ≢ g) → Locks (with_no_opens (done_at d g o sh fu place) (create_for d g)) conns s a
 leaf2 d conns s a k g o sh fu place r shuts more own open1 =
-    settle_keeps d conns s a k g o (give_up_on D q) sh fu (put d.by g (Some place)) (d.order ++ g ∷ []) r.on (kept_new g (ap is_unsettled (put_own d.outcome g o) ∙ r.firm) ∙ put_own d.outcome g o) r.firm r.real
+    settle_keeps d conns s a k g o (give_up_on D q) sh fu (put d.settled_by g (Some place)) (d.order ++ g ∷ []) r.outstanding_on (kept_new g (ap is_unsettled (put_own d.outcome g o) ∙ r.firm) ∙ put_own d.outcome g o) r.firm r.real
     (λ h x e. kept_new h (ap is_unsettled (put_other d.outcome g h o x) ∙ e) ∙ put_other d.outcome g h o x)
     (λ h x e f. let u : is_unsettled (D.outcome h) ≡ true = ap is_unsettled (put_other d.outcome g h o x) ∙ e in without_new (names h) (d.sent h) gone q (D.outcome h) u f)
     (λ p l m e f u. gone_with p l m e f u)
@@ -151,7 +151,7 @@ leaf2 d conns s a k g o sh fu place r shuts more own open1 =
     gone_with : (p : ℕ) → 0 < p → p ≤ d.taken → makes_open (d.op p) ≡ false → sh (create_at d p) ≡ true → d.sent p ≡ false → is_unsettled (give_up_on D q p) ≡ false
     gone_with p l m e f u = by_shut (shuts (create_at d p) f)
       where
-        by_shut : (d.shut (create_at d p) ≡ true) ⊎ (create_at d p ≡ create_at d g × is_ok o ≡ true × shuts_open (d.op g) ≡ true) → is_unsettled (give_up_on D q p) ≡ false
+        by_shut : (d.closed_ok (create_at d p) ≡ true) ⊎ (create_at d p ≡ create_at d g × is_ok o ≡ true × shuts_open (d.op g) ≡ true) → is_unsettled (give_up_on D q p) ≡ false
         by_shut (inl old) = settled_new p (was_settled p (r.locks.shut_gone p l m e old u))
         by_shut (inr new) =
             let op = open1 new.2 in
@@ -166,11 +166,11 @@ leaf2 d conns s a k g o sh fu place r shuts more own open1 =
     not_g : (x : ℕ) → is_ok (d.outcome x) ≡ true → x ≢ g
     not_g x e = λ f. no_both (is_ok (d.outcome x)) e (ap (λ z. is_ok (d.outcome z)) f ∙ unsettled_ok (d.outcome g) r.pending)
 
-    shut_ok_new : (x : ℕ) → (d.shut x ≡ true) ⊎ (x ≡ create_at d g × is_ok o ≡ true × shuts_open (d.op g) ≡ true) → is_ok (give_up_on D q x) ≡ true × x ≤ d.taken
+    shut_ok_new : (x : ℕ) → (d.closed_ok x ≡ true) ⊎ (x ≡ create_at d g × is_ok o ≡ true × shuts_open (d.op g) ≡ true) → is_ok (give_up_on D q x) ≡ true × x ≤ d.taken
     shut_ok_new x (inl old) = let sm = r.locks.shut_made x old in (ok_new x (not_g x sm.0) sm.0, sm.1)
     shut_ok_new x (inr new) =
         let op = open1 new.2 in
-        let tn = r.links.taken_on g (some_on (d.on g) k r.on) in
+        let tn = r.links.taken_on g (some_on (d.outstanding_on g) k r.outstanding_on) in
         let cr = r.links.creates g tn.0 tn.1 (close_kind (d.op g) new.2) in
         (subst (λ z. is_ok (give_up_on D q z) ≡ true) (sym new.0) (ok_new (create_at d g) op.1 op.0), subst (λ z. z ≤ d.taken) (sym new.0) (below (create_at d g) g d.taken cr.1 tn.1))
 
@@ -214,7 +214,7 @@ abbrev pub filled : Client → ℕ → Bool → ℕ → ℕ → ℕ → Bool
 filled c g asking status = if is_lock (c.op g) && (not asking && (status == disk_full)) then put2 c.full (create_for c g) (c.slot_of g) true else c.full
 
 abbrev pub opened : Client → ℕ → ℕ → Client
-opened c g id = record c { file = put c.file g id; attached = put c.attached g c.number }
+opened c g id = record c { file = put c.file g id; attached = put c.attached g c.session_number }
 
 -- what the reply says, in the table before it and in the one that names its open
 pub record Says (c : Client) (conns : ℕ → Conn) (s : Server) (a : ℕ → ℕ) (k g : ℕ) (asking : Bool) (r : Reply) (o : Outcome) : Type 0 where
@@ -253,7 +253,7 @@ settles c conns s a k g asking r place o y = by_outcome o y
     plainly o y quiet unmade =
         full_column (λ x. Locks (if settles_open (c.op g) then with_no_opens (settled x g o place) (create_for c g) else settled x g o place) conns s a) c g asking r.status
         (either (λ x. Locks x conns s a) (settles_open (c.op g)) _ _
-        (λ _. leaf2 c conns s a k g o c.shut (filled c g asking r.status) place (y.plain unmade) (λ q e. inl e) (λ q e. e) (λ e f. still (is_ok o) _ f (quiet e)) y.closes)
+        (λ _. leaf2 c conns s a k g o c.closed_ok (filled c g asking r.status) place (y.plain unmade) (λ q e. inl e) (λ q e. e) (λ e f. still (is_ok o) _ f (quiet e)) y.closes)
         (λ off. leaf1 c conns s a k g o (filled c g asking r.status) place (y.plain unmade) (sym (kind_close (c.op g)) ∙ back_off (is_create (c.op g)) (is_close (c.op g)) off)))
 
     by_outcome : (o : Outcome) → Says c conns s a k g asking r o → Locks (settle c g asking r place o) conns s a
@@ -263,25 +263,25 @@ settles c conns s a k g asking r place o y = by_outcome o y
     by_outcome (NoOpen create) y = plainly (NoOpen create) y (λ e. refl) (λ e. refl)
     by_outcome (Unknown why) y = plainly (Unknown why) y (λ e. refl) (λ e. refl)
     by_outcome (WasOk reply) y =
-        either (λ x. Locks (if settles_open (c.op g) then with_no_opens (settled (noted_full x g asking r.status) g (WasOk reply) place) (create_for c g) else settled (noted_full x g asking r.status) g (WasOk reply) place) conns s a) (is_create (c.op g)) (opened c g (id_in r.body)) (if is_close (c.op g) then record c { shut = put c.shut (create_for c g) true } else c)
+        either (λ x. Locks (if settles_open (c.op g) then with_no_opens (settled (noted_full x g asking r.status) g (WasOk reply) place) (create_for c g) else settled (noted_full x g asking r.status) g (WasOk reply) place) conns s a) (is_create (c.op g)) (opened c g (id_in r.body)) (if is_close (c.op g) then record c { closed_ok = put c.closed_ok (create_for c g) true } else c)
         (λ cr. let mk = kind_create (c.op g) cr in
         full_column (λ x. Locks (if settles_open (c.op g) then with_no_opens (settled x g (WasOk reply) place) (create_for c g) else settled x g (WasOk reply) place) conns s a) (opened c g (id_in r.body)) g asking r.status
-        (either (λ x. Locks x conns s a) (settles_open (c.op g)) (with_no_opens (done_at (opened c g (id_in r.body)) g (WasOk reply) c.shut (filled c g asking r.status) place) (create_for c g)) (done_at (opened c g (id_in r.body)) g (WasOk reply) c.shut (filled c g asking r.status) place)
-        (λ _. leaf2 (opened c g (id_in r.body)) conns s a k g (WasOk reply) c.shut (filled c g asking r.status) place (y.names_open mk refl) (λ q e. inl e) (λ q e. e) (λ e. still (shuts_open (c.op g)) _ e (create_unshut (c.op g) mk)) (λ e. still (shuts_open (c.op g)) _ e (create_unshut (c.op g) mk)))
+        (either (λ x. Locks x conns s a) (settles_open (c.op g)) (with_no_opens (done_at (opened c g (id_in r.body)) g (WasOk reply) c.closed_ok (filled c g asking r.status) place) (create_for c g)) (done_at (opened c g (id_in r.body)) g (WasOk reply) c.closed_ok (filled c g asking r.status) place)
+        (λ _. leaf2 (opened c g (id_in r.body)) conns s a k g (WasOk reply) c.closed_ok (filled c g asking r.status) place (y.names_open mk refl) (λ q e. inl e) (λ q e. e) (λ e. still (shuts_open (c.op g)) _ e (create_unshut (c.op g) mk)) (λ e. still (shuts_open (c.op g)) _ e (create_unshut (c.op g) mk)))
         (λ off. leaf1 (opened c g (id_in r.body)) conns s a k g (WasOk reply) (filled c g asking r.status) place (y.names_open mk refl) (create_unshut (c.op g) mk))))
-        (λ ncr. either (λ x. Locks (if settles_open (c.op g) then with_no_opens (settled (noted_full x g asking r.status) g (WasOk reply) place) (create_for c g) else settled (noted_full x g asking r.status) g (WasOk reply) place) conns s a) (is_close (c.op g)) (record c { shut = put c.shut (create_for c g) true }) c
+        (λ ncr. either (λ x. Locks (if settles_open (c.op g) then with_no_opens (settled (noted_full x g asking r.status) g (WasOk reply) place) (create_for c g) else settled (noted_full x g asking r.status) g (WasOk reply) place) conns s a) (is_close (c.op g)) (record c { closed_ok = put c.closed_ok (create_for c g) true }) c
         (λ cl. let sh : shuts_open (c.op g) ≡ true = sym (kind_close (c.op g)) ∙ cl in
-        full_column (λ x. Locks (if settles_open (c.op g) then with_no_opens (settled x g (WasOk reply) place) (create_for c g) else settled x g (WasOk reply) place) conns s a) (record c { shut = put c.shut (create_for c g) true }) g asking r.status
-        (either (λ x. Locks x conns s a) (settles_open (c.op g)) (with_no_opens (done_at c g (WasOk reply) (put c.shut (create_for c g) true) (filled c g asking r.status) place) (create_for c g)) (done_at c g (WasOk reply) (put c.shut (create_for c g) true) (filled c g asking r.status) place)
-        (λ _. leaf2 c conns s a k g (WasOk reply) (put c.shut (create_for c g) true) (filled c g asking r.status) place (y.plain (λ e. still (shuts_open (c.op g)) _ sh (create_unshut (c.op g) e)))
-        (λ q e. shut_new q sh (put_shut c.shut (create_for c g) q e)) (λ q e. put_more c.shut (create_for c g) q e)
-        (λ e f. subst (λ z. put c.shut (create_for c g) true z ≡ true) (own_for c g) (put_here c.shut (create_for c g))) y.closes)
+        full_column (λ x. Locks (if settles_open (c.op g) then with_no_opens (settled x g (WasOk reply) place) (create_for c g) else settled x g (WasOk reply) place) conns s a) (record c { closed_ok = put c.closed_ok (create_for c g) true }) g asking r.status
+        (either (λ x. Locks x conns s a) (settles_open (c.op g)) (with_no_opens (done_at c g (WasOk reply) (put c.closed_ok (create_for c g) true) (filled c g asking r.status) place) (create_for c g)) (done_at c g (WasOk reply) (put c.closed_ok (create_for c g) true) (filled c g asking r.status) place)
+        (λ _. leaf2 c conns s a k g (WasOk reply) (put c.closed_ok (create_for c g) true) (filled c g asking r.status) place (y.plain (λ e. still (shuts_open (c.op g)) _ sh (create_unshut (c.op g) e)))
+        (λ q e. shut_new q sh (put_shut c.closed_ok (create_for c g) q e)) (λ q e. put_more c.closed_ok (create_for c g) q e)
+        (λ e f. subst (λ z. put c.closed_ok (create_for c g) true z ≡ true) (own_for c g) (put_here c.closed_ok (create_for c g))) y.closes)
         (λ off. still (settles_open (c.op g)) _ (either_on (is_create (c.op g)) (is_close (c.op g)) cl) off)))
         (λ ncl. plainly (WasOk reply) y (λ e. still (is_close (c.op g)) _ (kind_close (c.op g) ∙ e) ncl) (λ e. still (makes_open (c.op g)) _ e (sym (kind_made (c.op g)) ∙ ncr))))
       where
         either_on : (x y : Bool) → y ≡ true → (x || y) ≡ true
         either_on x y e = grind arith
 
-        shut_new : (q : ℕ) → shuts_open (c.op g) ≡ true → (c.shut q ≡ true) ⊎ (q ≡ create_for c g) → (c.shut q ≡ true) ⊎ (q ≡ create_at c g × is_ok (WasOk reply) ≡ true × shuts_open (c.op g) ≡ true)
+        shut_new : (q : ℕ) → shuts_open (c.op g) ≡ true → (c.closed_ok q ≡ true) ⊎ (q ≡ create_for c g) → (c.closed_ok q ≡ true) ⊎ (q ≡ create_at c g × is_ok (WasOk reply) ≡ true × shuts_open (c.op g) ≡ true)
         shut_new q sh (inl e) = inl e
         shut_new q sh (inr e) = inr (e ∙ own_for c g, refl, sh)

@@ -5,11 +5,11 @@ use Rattle.exchange_defs.specs.Table.{has, is_filled, without}
 use Rattle.exchange_defs.specs.Commands.{CreateRequest, deletes_on_close, Element}
 use Rattle.exchange_defs.specs.State.{Server, Message, Open, Record, Origin, Entry}
 use Rattle.exchange_defs.specs.Files.{root, exists, exists_in, is_directory, is_full_directory, has_below, path_of, path_in}
-use Rattle.exchange_defs.specs.Opens.{goes, drop_open, leave_open, marked_by, file_has_open, opens_in, leave_records, mark_records, shut_records, gone_records}
+use Rattle.exchange_defs.specs.Opens.{goes, drop_open, leave_open, pending_behind, file_has_open, opens_in, leave_records, pending_records, shut_records, gone_records}
 use Rattle.exchange_defs.specs.CheckOpen.{file_of}
 use Rattle.exchange_defs.specs.Records.{fits, lower_limit, origin_of}
 use Rattle.exchange_defs.specs.Effects.{apply, change_records, create_records, lock_records, leave_all_records, end_records, records_if_named, plain_of}
-use Rattle.exchange_defs.specs.Verdict.{Verdict, Refuse, Give, KeepRefusal, Repeat, Attach, Make, TurnDown, Tell, Show, KeepSlot, PutRanges, Alter, Shut, Challenge, ChallengeBinding, Begin, Join, EndSession, AddTree, DropTree, Change, PutBytes, PutEnd, PutBasic, PutMark, PutPath, PutNothing}
+use Rattle.exchange_defs.specs.Verdict.{Verdict, Refuse, Give, KeepRefusal, Repeat, Attach, Make, TurnDown, Tell, Show, KeepSlot, PutRanges, Alter, CloseOpen, Challenge, ChallengeBinding, Begin, Join, EndSession, AddTree, DropTree, Change, PutBytes, PutEnd, PutBasic, PutDeletePending, PutPath, PutNothing}
 use Rattle.server_law.proofs.Logic.{either}
 use Rattle.server_law.proofs.Lists.{has-without, none-open}
 use Rattle.lock_law.specs.Locks.{goes_with}
@@ -44,13 +44,13 @@ unfolding change_records heads is_big
 heads_change m f now (PutBytes at bytes) = refl
 heads_change m f now (PutEnd size) = refl
 heads_change m f now (PutBasic basic) = refl
-heads_change m f now (PutMark flag) = refl
+heads_change m f now (PutDeletePending flag) = refl
 heads_change m f now (PutPath replaced path) = refl
 heads_change m f now PutNothing = refl
 
-heads_mark : (s : Server) (origin : Origin) (o : ℕ) → heads (mark_records s origin o) ≡ true
-unfolding mark_records heads is_big
-heads_mark s origin o = grind arith
+heads_pending : (s : Server) (origin : Origin) (o : ℕ) → heads (pending_records s origin o) ≡ true
+unfolding pending_records heads is_big
+heads_pending s origin o = grind arith
 
 heads_shut : (s : Server) (origin : Origin) (o : ℕ) → heads (shut_records s origin o) ≡ true
 unfolding shut_records heads is_big
@@ -62,7 +62,7 @@ heads_gone s origin f = grind arith
 
 pub heads_leave : (s : Server) (origin : Origin) (o : ℕ) → heads (leave_records s origin o) ≡ true
 unfolding leave_records
-heads_leave s origin o = heads_more (mark_records s origin o) _ (heads_mark s origin o) (heads_more (shut_records s origin o) _ (heads_shut s origin o) (heads_gone (drop_open (marked_by s o) o) origin (s.opened o).file))
+heads_leave s origin o = heads_more (pending_records s origin o) _ (heads_pending s origin o) (heads_more (shut_records s origin o) _ (heads_shut s origin o) (heads_gone (drop_open (pending_behind s o) o) origin (s.opened o).file))
 
 heads_all : (s : Server) (origin : Origin) (os : List ℕ) → heads (leave_all_records s origin os) ≡ true
 unfolding leave_all_records heads
@@ -93,7 +93,7 @@ heads_apply t m now (Show o last body) = refl
 heads_apply t m now (KeepSlot o index number status elements) = heads_lock t m o index number status elements
 heads_apply t m now (PutRanges o index number ranges elements) = heads_lock t m o index number 0 elements
 heads_apply t m now (Alter o change body) = heads_change m (file_of t o) now change
-heads_apply t m now (Shut o body) = heads_leave t (origin_of m) o
+heads_apply t m now (CloseOpen o body) = heads_leave t (origin_of m) o
 heads_apply t m now Challenge = refl
 heads_apply t m now (ChallengeBinding session) = refl
 heads_apply t m now (Begin session user previous r is_quiet) = heads_named t (origin_of m) previous is_quiet
@@ -102,19 +102,19 @@ heads_apply t m now (EndSession session is_quiet) = heads_end t (origin_of m) se
 heads_apply t m now (AddTree pipes) = refl
 heads_apply t m now DropTree = refl
 
--- ---- files as they were, and no open more but of an unmarked file
+-- ---- files as they were, and no open more but of a file that isn't delete pending
 
 pub record Steady (t u : Server) : Type 0 where
   pub entries : u.entries ≡ t.entries
-  pub marked : (f : ℕ) → u.marked f ≡ t.marked f
+  pub delete_pending : (f : ℕ) → u.delete_pending f ≡ t.delete_pending f
   pub directory : (f : ℕ) → u.directory f ≡ t.directory f
-  pub others : (p f : ℕ) → has p u.opens ≡ true → (u.opened p).file ≡ f → t.marked f ≡ true → has p t.opens ≡ true × (t.opened p).file ≡ f
+  pub others : (p f : ℕ) → has p u.opens ≡ true → (u.opened p).file ≡ f → t.delete_pending f ≡ true → has p t.opens ≡ true × (t.opened p).file ≡ f
 
-pub steady_same : (t u : Server) → u.entries ≡ t.entries → u.marked ≡ t.marked → u.directory ≡ t.directory → u.opens ≡ t.opens → u.opened ≡ t.opened → Steady t u
+pub steady_same : (t u : Server) → u.entries ≡ t.entries → u.delete_pending ≡ t.delete_pending → u.directory ≡ t.directory → u.opens ≡ t.opens → u.opened ≡ t.opened → Steady t u
 steady_same t u e m d o p =
     record {
       entries = e;
-      marked = λ f. ap (λ z. z f) m;
+      delete_pending = λ f. ap (λ z. z f) m;
       directory = λ f. ap (λ z. z f) d;
       others = λ q f h k l. (subst (λ z. has q z ≡ true) o h, subst (λ z. (z q).file ≡ f) p k);
     }
@@ -123,20 +123,20 @@ pub steady_on : (t u v : Server) → Steady t u → Steady u v → Steady t v
 steady_on t u v a b =
     record {
       entries = b.entries ∙ a.entries;
-      marked = λ f. b.marked f ∙ a.marked f;
+      delete_pending = λ f. b.delete_pending f ∙ a.delete_pending f;
       directory = λ f. b.directory f ∙ a.directory f;
-      others = λ q f h k l. let x = b.others q f h k (a.marked f ∙ l) in a.others q f x.0 x.1 l;
+      others = λ q f h k l. let x = b.others q f h k (a.delete_pending f ∙ l) in a.others q f x.0 x.1 l;
     }
 
 -- ---- an open whose file would go with it
 
 abbrev goes_by : (ℕ → Bool) → List Entry → (ℕ → Bool) → (ℕ → Open) → List ℕ → ℕ → ℕ → Bool
-goes_by marked entries directory opened opens o f =
-    marked f && (not (f == root) && (((f == root) || exists_in entries f) && (not (is_filled (opens_in opened (without o opens) f)) && not (((f == root) || directory f) && has_below entries (path_in entries f)))))
+goes_by delete_pending entries directory opened opens o f =
+    delete_pending f && (not (f == root) && (((f == root) || exists_in entries f) && (not (is_filled (opens_in opened (without o opens) f)) && not (((f == root) || directory f) && has_below entries (path_in entries f)))))
 
-goes_is : (s : Server) (o : ℕ) → deletes_on_close (s.opened o).options ≡ false → goes_with s o ≡ goes_by s.marked s.entries s.directory s.opened s.opens o (s.opened o).file
+goes_is : (s : Server) (o : ℕ) → deletes_on_close (s.opened o).options ≡ false → goes_with s o ≡ goes_by s.delete_pending s.entries s.directory s.opened s.opens o (s.opened o).file
 unfolding goes_with goes exists file_has_open is_full_directory is_directory path_of
-goes_is s o d = either (λ z. goes (drop_open z o) (s.opened o).file ≡ goes_by s.marked s.entries s.directory s.opened s.opens o (s.opened o).file) (deletes_on_close (s.opened o).options) _ _ (λ e. absurd (grind arith)) (λ _. refl)
+goes_is s o d = either (λ z. goes (drop_open z o) (s.opened o).file ≡ goes_by s.delete_pending s.entries s.directory s.opened s.opens o (s.opened o).file) (deletes_on_close (s.opened o).options) _ _ (λ e. absurd (grind arith)) (λ _. refl)
 
 none_filled : (opened : ℕ → Open) (os : List ℕ) (f : ℕ) → ((p : ℕ) → has p os ≡ true → ((opened p).file == f) ≡ false) → is_filled (opens_in opened os f) ≡ false
 unfolding opens_in is_filled
@@ -156,7 +156,7 @@ not_file x f no1 = elim (x == f) as (λ b. x == f ≡ b → (x == f) ≡ false) 
   | false ↦ λ e. e
 ] refl
 
-lone : (t u : Server) (o : ℕ) → Steady t u → (u.opened o).file ≡ (t.opened o).file → t.marked (t.opened o).file ≡ true → is_filled (opens_in t.opened (without o t.opens) (t.opened o).file) ≡ false
+lone : (t u : Server) (o : ℕ) → Steady t u → (u.opened o).file ≡ (t.opened o).file → t.delete_pending (t.opened o).file ≡ true → is_filled (opens_in t.opened (without o t.opens) (t.opened o).file) ≡ false
     → is_filled (opens_in u.opened (without o u.opens) (t.opened o).file) ≡ false
 lone t u o st row mk none =
     none_filled u.opened (without o u.opens) (t.opened o).file (λ p h.
@@ -172,11 +172,11 @@ lone t u o st row mk none =
 pub goes_on : (t u : Server) (o : ℕ) → Steady t u → u.opened o ≡ t.opened o → deletes_on_close (t.opened o).options ≡ false → goes_with t o ≡ true → goes_with u o ≡ true
 goes_on t u o st row d g =
     let f = (t.opened o).file in
-    let gt : goes_by t.marked t.entries t.directory t.opened t.opens o f ≡ true = sym (goes_is t o d) ∙ g in
-    let p5 = parts5 (t.marked f) (not (f == root)) ((f == root) || exists_in t.entries f) (is_filled (opens_in t.opened (without o t.opens) f)) (not (((f == root) || t.directory f) && has_below t.entries (path_in t.entries f))) gt in
+    let gt : goes_by t.delete_pending t.entries t.directory t.opened t.opens o f ≡ true = sym (goes_is t o d) ∙ g in
+    let p5 = parts5 (t.delete_pending f) (not (f == root)) ((f == root) || exists_in t.entries f) (is_filled (opens_in t.opened (without o t.opens) f)) (not (((f == root) || t.directory f) && has_below t.entries (path_in t.entries f))) gt in
     let rowf : (u.opened o).file ≡ f = ap (λ r. r.file) row in
     let du : deletes_on_close (u.opened o).options ≡ false = subst (λ r. deletes_on_close r.options ≡ false) (sym row) d in
-    goes_is u o du ∙ subst (λ z. goes_by u.marked u.entries u.directory u.opened u.opens o z ≡ true) (sym rowf)
-    (all5 (u.marked f) (not (f == root)) ((f == root) || exists_in u.entries f) (is_filled (opens_in u.opened (without o u.opens) f)) (not (((f == root) || u.directory f) && has_below u.entries (path_in u.entries f)))
-    (st.marked f ∙ p5.0) p5.1 (subst (λ z. ((f == root) || exists_in z f) ≡ true) (sym st.entries) p5.2) (lone t u o st rowf p5.0 p5.3)
+    goes_is u o du ∙ subst (λ z. goes_by u.delete_pending u.entries u.directory u.opened u.opens o z ≡ true) (sym rowf)
+    (all5 (u.delete_pending f) (not (f == root)) ((f == root) || exists_in u.entries f) (is_filled (opens_in u.opened (without o u.opens) f)) (not (((f == root) || u.directory f) && has_below u.entries (path_in u.entries f)))
+    (st.delete_pending f ∙ p5.0) p5.1 (subst (λ z. ((f == root) || exists_in z f) ≡ true) (sym st.entries) p5.2) (lone t u o st rowf p5.0 p5.3)
     (subst (λ z. not (((f == root) || u.directory f) && has_below z (path_in z f)) ≡ true) (sym st.entries) (subst (λ z. not (((f == root) || z) && has_below t.entries (path_in t.entries f)) ≡ true) (sym (st.directory f)) p5.4)))

@@ -32,7 +32,7 @@ submit_shut_made : (c : Client) (conns : ℕ → Conn) (s : Server) (a : ℕ →
 submit_shut_made c conns s a g op out next fired okay unknown never i_shut_made =
     λ q. let old = i_shut_made q in grind arith
 
-submit_shut_gone : (c : Client) (conns : ℕ → Conn) (s : Server) (a : ℕ → ℕ) (g : ℕ) (op : Op) (out : Outcome) → (g ≡ c.taken + 1) → (firm out ≡ false) → (is_ok out ≡ false) → (s.by_guid c.who.guid (guid_for c g) ≡ None) → (makes_open op ≡ false → c.shut (its_create g op) ≡ true → is_unsettled out ≡ false) → (a g ≡ 0) → ShutGone c → ShutGone (record c { taken = g; op = put c.op g op; outcome = put c.outcome g out })
+submit_shut_gone : (c : Client) (conns : ℕ → Conn) (s : Server) (a : ℕ → ℕ) (g : ℕ) (op : Op) (out : Outcome) → (g ≡ c.taken + 1) → (firm out ≡ false) → (is_ok out ≡ false) → (s.by_guid c.who.guid (guid_for c g) ≡ None) → (makes_open op ≡ false → c.closed_ok (its_create g op) ≡ true → is_unsettled out ≡ false) → (a g ≡ 0) → ShutGone c → ShutGone (record c { taken = g; op = put c.op g op; outcome = put c.outcome g out })
 submit_shut_gone c conns s a g op out next fired okay unknown gone never i_shut_gone =
     λ p l m. let old = i_shut_gone p l in let g1 = gone in grind arith
 
@@ -180,7 +180,7 @@ submit_refused_not : (c : Client) (conns : ℕ → Conn) (s : Server) (a : ℕ �
 submit_refused_not c conns s a g op out next fired okay unknown never i_refused_not =
     λ p. let old = i_refused_not p in grind arith
 
-pub submit_keeps : (c : Client) (conns : ℕ → Conn) (s : Server) (a : ℕ → ℕ) (g : ℕ) (op : Op) (out : Outcome) → (g ≡ c.taken + 1) → (firm out ≡ false) → (is_ok out ≡ false) → (s.by_guid c.who.guid (guid_for c g) ≡ None) → (makes_open op ≡ false → c.shut (its_create g op) ≡ true → is_unsettled out ≡ false) → (a g ≡ 0) → Connections c conns a → Locks c conns s a → Locks (record c { taken = g; op = put c.op g op; outcome = put c.outcome g out }) conns s a
+pub submit_keeps : (c : Client) (conns : ℕ → Conn) (s : Server) (a : ℕ → ℕ) (g : ℕ) (op : Op) (out : Outcome) → (g ≡ c.taken + 1) → (firm out ≡ false) → (is_ok out ≡ false) → (s.by_guid c.who.guid (guid_for c g) ≡ None) → (makes_open op ≡ false → c.closed_ok (its_create g op) ≡ true → is_unsettled out ≡ false) → (a g ≡ 0) → Connections c conns a → Locks c conns s a → Locks (record c { taken = g; op = put c.op g op; outcome = put c.outcome g out }) conns s a
 submit_keeps c conns s a g op out next fired okay unknown gone never C i =
     record {
       slot_index = submit_slot_index c conns s a g op out next fired okay unknown never C.taken i.slot_index;

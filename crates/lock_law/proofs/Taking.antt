@@ -22,8 +22,8 @@ use Rattle.server_law.proofs.Logic.{other_on, other_off}
 pub record Taken (c : Client) (conns : ℕ → Conn) (s : Server) (a : ℕ → ℕ) (k g : ℕ) (asking : Bool) (y : Received) : Type 0 where
   pub links : Connections c conns a
   pub locks : Locks c conns s a
-  pub on : c.on g ≡ Some k
-  pub asks : c.asking g ≡ asking
+  pub outstanding_on : c.outstanding_on g ≡ Some k
+  pub asks : c.asks_attach g ≡ asking
   pub none : copies g (conns k) ≡ 0
   pub live : c.live ≡ true
   pub pending : is_unsettled (c.outcome g) ≡ true
@@ -49,12 +49,12 @@ create_unclosed op e = kind_close op ∙ create_unshut op e
 
 -- ---- copies of what a sole reply answers
 
-none_waits : (c : Client) (conns : ℕ → Conn) (s : Server) (a : ℕ → ℕ) (k g : ℕ) (asking : Bool) (y : Received) → Taken c conns s a k g asking y → c.before g ≡ false → (j n : ℕ) (x : Sent) → slice_get (conns j).up n ≡ Some x → x.token ≡ ForOp g → true ≡ false
+none_waits : (c : Client) (conns : ℕ → Conn) (s : Server) (a : ℕ → ℕ) (k g : ℕ) (asking : Bool) (y : Received) → Taken c conns s a k g asking y → c.unanswered g ≡ false → (j n : ℕ) (x : Sent) → slice_get (conns j).up n ≡ Some x → x.token ≡ ForOp g → true ≡ false
 none_waits c conns s a k g asking y w bf j n x h t =
     let C = w.links in let bd = C.bodies j n g x h t in let tk = C.taken g bd.0 in
     let op = w.locks.unanswered j n g x h t bf in
     let on1 = up_on c conns C.outstanding j n g x h t tk.0 op in
-    let same : j ≡ k = some_same j k (sym on1 ∙ w.on) in
+    let same : j ≡ k = some_same j k (sym on1 ∙ w.outstanding_on) in
     let one = more_up (conns j) g n x h t in
     let zero1 : copies g (conns j) ≡ 0 = subst (λ z. copies g (conns z) ≡ 0) (sym same) w.none in absurd (omega (arith, one, zero1))
   where
@@ -123,7 +123,7 @@ is_it st n e = rw e (same_number n)
 isnt : (st n : ℕ) → st ≢ n → (st == n) ≡ false
 isnt st n d = elim (st == n) as (λ b. st == n ≡ b → (st == n) ≡ false) [ true ↦ λ e. absurd (d (eqb-true st n e)) | false ↦ λ e. e ] refl
 
-plain_told : (c : Client) (conns : ℕ → Conn) (s : Server) (a : ℕ → ℕ) (k g : ℕ) (asking : Bool) (y : Received) (o : Outcome) → Taken c conns s a k g asking y → Tells (c.op g) asking (c.before g) y.reply.status (Settles o) → is_unsettled o ≡ false → (makes_open (c.op g) ≡ true → is_ok o ≡ false) → OperationSettles c conns s a g o (filled c g asking y.reply.status)
+plain_told : (c : Client) (conns : ℕ → Conn) (s : Server) (a : ℕ → ℕ) (k g : ℕ) (asking : Bool) (y : Received) (o : Outcome) → Taken c conns s a k g asking y → Tells (c.op g) asking (c.unanswered g) y.reply.status (Settles o) → is_unsettled o ≡ false → (makes_open (c.op g) ≡ true → is_ok o ≡ false) → OperationSettles c conns s a g o (filled c g asking y.reply.status)
 plain_told c conns s a k g asking y o w tells settled0 unmade =
     record {
       full_same = same_full c conns s a k g asking y w;
@@ -157,7 +157,7 @@ plain_told c conns s a k g asking y o w tells settled0 unmade =
         by_how (inr rf) = refused_own asking refl ub rf st fu
 
     dead : (j n : ℕ) (x : Sent) → slice_get (conns j).up n ≡ Some x → x.token ≡ ForOp g → locking (c.op g) ≡ true → firm o ≡ true → s.present x.message.session ≡ true → filled c g asking y.reply.status (create_at c g) (c.slot_of g) ≡ false
-    dead j n x h t l f p = by_before (c.before g) refl (firm_how o f)
+    dead j n x h t l f p = by_before (c.unanswered g) refl (firm_how o f)
       where
         sent : c.sent g ≡ true
         sent = (w.links.bodies j n g x h t).0
@@ -165,27 +165,27 @@ plain_told c conns s a k g asking y o w tells settled0 unmade =
         free : y.reply.status ≢ disk_full → filled c g asking y.reply.status (create_at c g) (c.slot_of g) ≡ false
         free d = ap (λ z. z (create_at c g) (c.slot_of g)) (filled_same c g asking y.reply.status _ refl (test_off (is_lock (c.op g)) asking (y.reply.status == disk_full) (isnt y.reply.status disk_full d))) ∙ w.locks.full_free g sent l w.pending
 
-        by_before : (b : Bool) → c.before g ≡ b → (is_ok o ≡ true) ⊎ (refused_for_good o ≡ true) → filled c g asking y.reply.status (create_at c g) (c.slot_of g) ≡ false
+        by_before : (b : Bool) → c.unanswered g ≡ b → (is_ok o ≡ true) ⊎ (refused_for_good o ≡ true) → filled c g asking y.reply.status (create_at c g) (c.slot_of g) ≡ false
         by_before false e how = absurd (let z = none_waits c conns s a k g asking y w e j n x h t in cc)
         by_before true e (inl ok) = free (differ y.reply.status (tells.ok ok (lock_unclosed (c.op g) l)).1)
         by_before true e (inr rf) = free (tells.refused_all rf e l).1
 
     closing : (j n : ℕ) (x : Sent) {P : Type 0} → slice_get (conns j).up n ≡ Some x → x.token ≡ ForOp g → shuts_open (c.op g) ≡ true → is_ok o ≡ false → s.present x.message.session ≡ true → (y.token ≡ ForOp g → y.reply.status ≢ user_session_deleted → y.reply.status ≢ file_closed → P) → P
-    closing j n x {P} h t sh no1 p f = by_both asking refl (c.before g) refl w
+    closing j n x {P} h t sh no1 p f = by_both asking refl (c.unanswered g) refl w
       where
-        by_both : (b : Bool) → asking ≡ b → (q : Bool) → c.before g ≡ q → Taken c conns s a k g asking y → P
+        by_both : (b : Bool) → asking ≡ b → (q : Bool) → c.unanswered g ≡ q → Taken c conns s a k g asking y → P
         by_both true e q e2 w2 = absurd (let z = asks_none c conns s a k g y (subst (λ z. Taken c conns s a k g z y) e w2) (close_kind (c.op g) sh) j n x h t p in cc)
         by_both false e false e2 w2 = absurd (let z = none_waits c conns s a k g asking y w e2 j n x h t in cc)
         by_both false e true e2 w2 = let r = tells.close (kind_close (c.op g) ∙ sh) e e2 settled0 no1 in f (w.own e).0 r.0 r.1
 
     unacted : locking (c.op g) ≡ true → refused_for_good o ≡ true → a g ≡ 0
-    unacted l rf = by_both asking refl (c.before g) refl
+    unacted l rf = by_both asking refl (c.unanswered g) refl
       where
         r : y.reply.status ≢ success × y.reply.status ≢ user_session_deleted
         r = tells.refuses rf
 
-        by_both : (b : Bool) → asking ≡ b → (q : Bool) → c.before g ≡ q → a g ≡ 0
-        by_both true e false e2 = w.links.unsent g (lock_once (c.op g) l) e2 (ap (λ z. if z then true else not (is_some (c.on g))) (w.asks ∙ e)) w.pending
+        by_both : (b : Bool) → asking ≡ b → (q : Bool) → c.unanswered g ≡ q → a g ≡ 0
+        by_both true e false e2 = w.links.unsent g (lock_once (c.op g) l) e2 (ap (λ z. if z then true else not (is_some (c.outstanding_on g))) (w.asks ∙ e)) w.pending
         by_both true e true e2 =
             let t = (tells.refused_all rf e2 l).0 in let lost = w.said.of_lost_reply g (w.ask e) r.0 r.1 in
             still (y.reply.status == object_name_not_found) _ (is_it y.reply.status object_name_not_found lost.0) (other_off asking (y.reply.status == object_name_not_found) t e)
@@ -199,7 +199,7 @@ create_no_lock : (op : Op) → makes_open op ≡ true → locking op ≡ false
 unfolding makes_open locking
 create_no_lock op e = grind arith
 
-open_told : (c : Client) (conns : ℕ → Conn) (s : Server) (a : ℕ → ℕ) (k g : ℕ) (asking : Bool) (y : Received) (o : Outcome) → Taken c conns s a k g asking y → Tells (c.op g) asking (c.before g) y.reply.status (Settles o) → makes_open (c.op g) ≡ true → is_ok o ≡ true
+open_told : (c : Client) (conns : ℕ → Conn) (s : Server) (a : ℕ → ℕ) (k g : ℕ) (asking : Bool) (y : Received) (o : Outcome) → Taken c conns s a k g asking y → Tells (c.op g) asking (c.unanswered g) y.reply.status (Settles o) → makes_open (c.op g) ≡ true → is_ok o ≡ true
     → OperationSettles (opened c g (id_in y.reply.body)) conns s a g o (filled c g asking y.reply.status)
 open_told c conns s a k g asking y o w tells mk ok =
     let t = tells.ok ok (create_unclosed (c.op g) mk) in
@@ -208,8 +208,8 @@ open_told c conns s a k g asking y o w tells mk ok =
     record {
       full_same = λ p d u. ap (λ f. f (create_at c p) (c.slot_of p)) (filled_same c g asking y.reply.status _ refl (test_unlocked (is_lock (c.op g)) asking (y.reply.status == disk_full) (kind_lock (c.op g) ∙ unlocked)));
       kept = λ f u. still (locking (c.op g)) _ ((w.locks.user_body (create_at c g) (c.slot_of g) g u).0) unlocked;
-      made = λ r ok2 mk2 st. subst (λ z. s.slots z r ≡ None) (sym at1) (w.locks.no_slots g r id mk (unsettled_ok (c.outcome g) w.pending) (w.guid t.0 mk t.1 (subst (λ z. s.standing z ≡ true) at1 st)));
-      near = λ mk2 ok2 lv p st. subst (λ z. s.at z ≡ Some c.session) (sym at1) (w.said.of_opened_reply g (w.own t.0).0 mk t.1 lv p (subst (λ z. s.standing z ≡ true) at1 st));
+      made = λ r ok2 mk2 st. subst (λ z. s.lock_sequences z r ≡ None) (sym at1) (w.locks.no_slots g r id mk (unsettled_ok (c.outcome g) w.pending) (w.guid t.0 mk t.1 (subst (λ z. s.standing z ≡ true) at1 st)));
+      near = λ mk2 ok2 lv p st. subst (λ z. s.session_of_open z ≡ Some c.session) (sym at1) (w.said.of_opened_reply g (w.own t.0).0 mk t.1 lv p (subst (λ z. s.standing z ≡ true) at1 st));
       dead = λ j n x h tk l. still (locking (c.op g)) _ l unlocked;
       full = λ j n x h tk sh. still (shuts_open (c.op g)) _ sh (create_unshut (c.op g) mk);
       stuck = λ j n x h tk sh. still (shuts_open (c.op g)) _ sh (create_unshut (c.op g) mk);
@@ -226,21 +226,21 @@ some_on u k e = rw e refl
 close_own : (c : Client) (conns : ℕ → Conn) (s : Server) (a : ℕ → ℕ) (k g : ℕ) (asking : Bool) (y : Received) → Taken c conns s a k g asking y → shuts_open (c.op g) ≡ true → is_ok (c.outcome (create_at c g)) ≡ true × create_at c g ≢ g
 close_own c conns s a k g asking y w sh =
     let C = w.links in let kind = close_kind (c.op g) sh in
-    let tn = C.taken_on g (some_on (c.on g) k w.on) in let cr = C.creates g tn.0 tn.1 kind in
-    let op = C.asked_open g (some_on (c.on g) k w.on) in
+    let tn = C.taken_on g (some_on (c.outstanding_on g) k w.outstanding_on) in let cr = C.creates g tn.0 tn.1 kind in
+    let op = C.asked_open g (some_on (c.outstanding_on g) k w.outstanding_on) in
     (other_on (makes_open (c.op g)) (is_ok (c.outcome (create_at c g))) op kind, λ e. absurd (less (create_at c g) g cr.1 e))
   where
     less : (n m : ℕ) → n < m → n ≡ m → ⊥
     less n m l e = absurd (omega (arith, l, e))
 
-pub says_of : (c : Client) (conns : ℕ → Conn) (s : Server) (a : ℕ → ℕ) (k g : ℕ) (asking : Bool) (y : Received) (o : Outcome) → Taken c conns s a k g asking y → Tells (c.op g) asking (c.before g) y.reply.status (Settles o) → is_unsettled o ≡ false → Says c conns s a k g asking y.reply o
+pub says_of : (c : Client) (conns : ℕ → Conn) (s : Server) (a : ℕ → ℕ) (k g : ℕ) (asking : Bool) (y : Received) (o : Outcome) → Taken c conns s a k g asking y → Tells (c.op g) asking (c.unanswered g) y.reply.status (Settles o) → is_unsettled o ≡ false → Says c conns s a k g asking y.reply o
 says_of c conns s a k g asking y o w tells firm0 =
     record {
-      plain = λ unmade. record { links = w.links; locks = w.locks; on = w.on; pending = w.pending; firm = firm0; real = tells.real; told = plain_told c conns s a k g asking y o w tells firm0 unmade };
+      plain = λ unmade. record { links = w.links; locks = w.locks; outstanding_on = w.outstanding_on; pending = w.pending; firm = firm0; real = tells.real; told = plain_told c conns s a k g asking y o w tells firm0 unmade };
       names_open = λ mk ok. record {
-        links = exchange_opens_keeps c conns a g (id_in y.reply.body) mk (some_on (c.on g) k w.on) w.links;
+        links = exchange_opens_keeps c conns a g (id_in y.reply.body) mk (some_on (c.outstanding_on g) k w.outstanding_on) w.links;
         locks = opens_keeps c conns s a g (id_in y.reply.body) mk w.pending w.links w.locks;
-        on = w.on;
+        outstanding_on = w.outstanding_on;
         pending = w.pending;
         firm = firm0;
         real = tells.real;

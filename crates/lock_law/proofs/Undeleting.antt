@@ -5,7 +5,7 @@ use Rattle.exchange_defs.specs.Commands.{deletes_on_close}
 use Rattle.exchange_defs.specs.State.{Server, Message, Open}
 use Rattle.exchange_defs.specs.CheckOpen.{is_slot, file_of}
 use Rattle.exchange_defs.specs.Effects.{apply, reach, attached, keep_slot, set_ranges, open_row, new_file, next_open, end_if_named}
-use Rattle.exchange_defs.specs.Verdict.{Verdict, Refuse, Give, KeepRefusal, Repeat, Attach, Make, TurnDown, Tell, Show, KeepSlot, PutRanges, Alter, Shut, Challenge, ChallengeBinding, Begin, Join, EndSession, AddTree, DropTree}
+use Rattle.exchange_defs.specs.Verdict.{Verdict, Refuse, Give, KeepRefusal, Repeat, Attach, Make, TurnDown, Tell, Show, KeepSlot, PutRanges, Alter, CloseOpen, Challenge, ChallengeBinding, Begin, Join, EndSession, AddTree, DropTree}
 use Rattle.server_law.proofs.Logic.{either}
 use Rattle.lock_law.proofs.Views.{View, view, reach_view, change_view, shut_view, make_view}
 use Rattle.lock_law.proofs.Verdicts.{show_view}
@@ -21,7 +21,7 @@ same_view : (v u : View) → u ≡ v → NoDelete v → NoDelete u
 same_view v u e k = subst (λ z. NoDelete z) (sym e) k
 
 attached_kept : (t : Server) (m : Message) (o : ℕ) → NoDelete (view t) → NoDelete (view (attached t m o))
-attached_kept t m o k = either (λ u. NoDelete (view u)) (is_some (t.at o)) _ _ (λ _. k) (λ _. k)
+attached_kept t m o k = either (λ u. NoDelete (view u)) (is_some (t.session_of_open o)) _ _ (λ _. k) (λ _. k)
 
 slot_kept : (s : Server) (o index number status : ℕ) → NoDelete (view s) → NoDelete (view (keep_slot s o index number status))
 slot_kept s o index number status k = either (λ u. NoDelete (view u)) (is_slot index) _ _ (λ _. k) (λ _. k)
@@ -49,7 +49,7 @@ undeleting t m now (Show o last body) n k = same_view (view t) _ (show_view t m 
 undeleting t m now (KeepSlot o index number status elements) n k = slot_kept (reach t m o) o index number status (same_view (view t) _ (reach_view t m o) k)
 undeleting t m now (PutRanges o index number ranges elements) n k = slot_kept (set_ranges (reach t m o) (file_of t o) ranges) o index number 0 (same_view (view t) _ (reach_view t m o) k)
 undeleting t m now (Alter o change body) n k = same_view (view t) _ (change_view (reach t m o) (file_of t o) now change ∙ reach_view t m o) k
-undeleting t m now (Shut o body) n k = subst (λ z. NoDelete z) (sym (shut_view t o m.session)) (left_kept (view t) o k)
+undeleting t m now (CloseOpen o body) n k = subst (λ z. NoDelete z) (sym (shut_view t o m.session)) (left_kept (view t) o k)
 undeleting t m now Challenge n k = k
 undeleting t m now (ChallengeBinding session) n k = k
 undeleting t m now (Begin session user previous r is_quiet) n k = end_kept t now previous is_quiet k

@@ -7,7 +7,7 @@ use Rattle.exchange_defs.specs.Opens.{id_of, leave_open, with_guid}
 use Rattle.exchange_defs.specs.CheckSetup.{is_new}
 use Rattle.exchange_defs.specs.CheckOpen.{is_late, file_of}
 use Rattle.exchange_defs.specs.Effects.{apply, reach, attached, keep_closed, make_open, open_row, new_file, next_open, guid_of, guid_staying, leaves, cleared}
-use Rattle.exchange_defs.specs.Verdict.{Verdict, Refuse, Give, KeepRefusal, Repeat, Attach, Make, TurnDown, Tell, Show, KeepSlot, PutRanges, Alter, Shut, Challenge, ChallengeBinding, Begin, Join, EndSession, AddTree, DropTree}
+use Rattle.exchange_defs.specs.Verdict.{Verdict, Refuse, Give, KeepRefusal, Repeat, Attach, Make, TurnDown, Tell, Show, KeepSlot, PutRanges, Alter, CloseOpen, Challenge, ChallengeBinding, Begin, Join, EndSession, AddTree, DropTree}
 use Rattle.server_law.proofs.Logic.{either, none_of}
 use Rattle.server_law.proofs.Found.{Facts}
 use Rattle.lock_law.proofs.Views.{View, view, Quiet, stays, same, attaches, makes, leaves_by, ended_view, begins_one, reach_view, change_view, without_guid, shut_view, still_named, newly_named, end_quiet, make_view, its_session, staying_named}
@@ -25,8 +25,8 @@ QuietBy t m u = Quiet (news t m) (closes_in m.command) (view t) (view u)
 
 attach_quiet : (t : Server) (m : Message) (o : ℕ) → QuietBy t m (attached t m o)
 attach_quiet t m o =
-    either (λ u. QuietBy t m u) (is_some (t.at o)) _ _ (λ _. stays (news t m) (closes_in m.command) (view t))
-    (λ e. attaches (news t m) (closes_in m.command) (view t) o m.session (none_of (t.at o) e))
+    either (λ u. QuietBy t m u) (is_some (t.session_of_open o)) _ _ (λ _. stays (news t m) (closes_in m.command) (view t))
+    (λ e. attaches (news t m) (closes_in m.command) (view t) o m.session (none_of (t.session_of_open o) e))
 
 above : (epoch given : ℕ) → id_of epoch given < id_of epoch (given + 1)
 above epoch given = omega arith
@@ -35,7 +35,7 @@ made_quiet : (t : Server) (m : Message) (r : CreateRequest) (found : Option ℕ)
 made_quiet t m r found action now =
     subst (λ z. Quiet (news t m) (closes_in m.command) (view t) z) (sym (make_view t m r found action now))
     (makes (news t m) (closes_in m.command) (view t) (next_open t) m.session (open_row t m r (new_file t found) action) (with_guid t.by_guid m.client (guid_of r.durable) (Some (next_open t)))
-    (above t.epoch t.given) (newly_named t.by_guid m.client (next_open t) (guid_of r.durable)))
+    (above t.epoch t.open_ids_given) (newly_named t.by_guid m.client (next_open t) (guid_of r.durable)))
 
 closes_it : (c : Command) (o : ℕ) (query : Bool) (p : ℕ) → c ≡ Close o query → closes_in c p ≡ false → p ≢ o
 unfolding closes_in
@@ -47,14 +47,14 @@ shut_quiet t m o query e =
     (leaves_by (news t m) (closes_in m.command) (view t) o (without_guid t o) (λ p y c at. closes_it m.command o query p e c) (λ c g p h. still_named t.by_guid (t.opened o).client (t.opened o).guid c g p h))
 
 -- a session begins, and the one before it ends
-begins_over : (begins closes : ℕ → Bool) (v : View) (x0 p0 : ℕ) (gone : ℕ → Bool) (by : ℕ → ℕ → Option ℕ) → begins x0 ≡ true → ((o : ℕ) → gone o ≡ true → v.at o ≡ Some p0) → ((c g o : ℕ) → by c g ≡ Some o → v.by_guid c g ≡ Some o) → ((o y : ℕ) → v.at o ≡ Some y → y ≢ x0)
+begins_over : (begins closes : ℕ → Bool) (v : View) (x0 p0 : ℕ) (gone : ℕ → Bool) (by : ℕ → ℕ → Option ℕ) → begins x0 ≡ true → ((o : ℕ) → gone o ≡ true → v.session_of_open o ≡ Some p0) → ((c g o : ℕ) → by c g ≡ Some o → v.by_guid c g ≡ Some o) → ((o y : ℕ) → v.session_of_open o ≡ Some y → y ≢ x0)
     → Quiet begins closes v (record (ended_view v p0 gone by) { present = put (put v.present p0 false) x0 true })
 begins_over begins closes v x0 p0 gone by may its old absent =
     record {
       present = λ x h n. grind arith;
       standing = λ o l h. grind arith;
-      at = λ o y l h st p. kept_at_it o y (absent o y h) (v.at o) h p;
-      slots = λ o i l. refl;
+      session_of_open = λ o y l h st p. kept_at_it o y (absent o y h) (v.session_of_open o) h p;
+      lock_sequences = λ o i l. refl;
       opened = λ o l. refl;
       named = λ c g o i h. inl (old c g o h);
       lasts = λ o y c st h p. let i1 = its o in let d = apart y p (absent o y h) in grind arith;
@@ -73,14 +73,14 @@ is_new_of u x e = rw e (same_self x)
     same_self : (x : ℕ) → (x == x) ≡ true
     same_self x = grind arith
 
-begin_quiet : (t : Server) (m : Message) (now : ℕ) (session : ℕ) (user : List ℕ) (previous : Option ℕ) (r : SetupRequest) (is_quiet : Bool) → t.making m.connection ≡ Some (NewSession m.session) → ((o y : ℕ) → t.at o ≡ Some y → y ≢ m.session)
+begin_quiet : (t : Server) (m : Message) (now : ℕ) (session : ℕ) (user : List ℕ) (previous : Option ℕ) (r : SetupRequest) (is_quiet : Bool) → t.making m.connection ≡ Some (NewSession m.session) → ((o y : ℕ) → t.session_of_open o ≡ Some y → y ≢ m.session)
     → QuietBy t m (apply t m now (Begin session user previous r is_quiet)).server
 begin_quiet t m now session user None r is_quiet making absent = begins_one (news t m) (closes_in m.command) (view t) m.session (is_new_of (t.making m.connection) m.session making)
 begin_quiet t m now session user (Some p) r is_quiet making absent =
     begins_over (news t m) (closes_in m.command) (view t) m.session p (λ o. leaves t p o) (λ c g. guid_staying t p (t.by_guid c g)) (is_new_of (t.making m.connection) m.session making) (its_session t p) (λ c g o e. staying_named t p (t.by_guid c g) o e) absent
 
-pub show_view : (s : Server) (m : Message) (o : ℕ) (last : Option (List ℕ)) → view (record (reach s m o) { listed = put s.listed o last }) ≡ view s
-show_view s m o last = either (λ u. view (record u { listed = put s.listed o last }) ≡ view s) (is_late s m o) _ _ (λ _. refl) (λ _. refl)
+pub show_view : (s : Server) (m : Message) (o : ℕ) (last : Option (List ℕ)) → view (record (reach s m o) { enumeration_location = put s.enumeration_location o last }) ≡ view s
+show_view s m o last = either (λ u. view (record u { enumeration_location = put s.enumeration_location o last }) ≡ view s) (is_late s m o) _ _ (λ _. refl) (λ _. refl)
 
 absent_of : (present : ℕ → Bool) (at : ℕ → Option ℕ) (x : ℕ) → ((o y : ℕ) → at o ≡ Some y → present y ≡ true) → present x ≡ false → (o y : ℕ) → at o ≡ Some y → y ≢ x
 absent_of present at x there off o y e = λ same. let p = there o y e in absurd (grind arith)
@@ -91,7 +91,7 @@ is_slot_verdict (KeepSlot o index number status elements) = true
 is_slot_verdict (PutRanges o index number ranges elements) = true
 is_slot_verdict _ = false
 
-pub verdict_quiet : (t : Server) (m : Message) (now : ℕ) (v : Verdict) → ((o y : ℕ) → t.at o ≡ Some y → t.present y ≡ true) → Facts t m v → is_slot_verdict v ≡ false → QuietBy t m (apply t m now v).server
+pub verdict_quiet : (t : Server) (m : Message) (now : ℕ) (v : Verdict) → ((o y : ℕ) → t.session_of_open o ≡ Some y → t.present y ≡ true) → Facts t m v → is_slot_verdict v ≡ false → QuietBy t m (apply t m now v).server
 verdict_quiet t m now (Refuse status) there f off = stays (news t m) (closes_in m.command) (view t)
 verdict_quiet t m now (Give body) there f off = stays (news t m) (closes_in m.command) (view t)
 verdict_quiet t m now (KeepRefusal guid status) there f off = stays (news t m) (closes_in m.command) (view t)
@@ -104,10 +104,10 @@ verdict_quiet t m now (Show o last body) there f off = same (news t m) (closes_i
 verdict_quiet t m now (KeepSlot o index number status elements) there f off = absurd (cc)
 verdict_quiet t m now (PutRanges o index number ranges elements) there f off = absurd (cc)
 verdict_quiet t m now (Alter o change body) there f off = same (news t m) (closes_in m.command) (view t) _ (change_view (reach t m o) (file_of t o) now change ∙ reach_view t m o)
-verdict_quiet t m now (Shut o body) there f off = shut_quiet t m o f.query f.command
+verdict_quiet t m now (CloseOpen o body) there f off = shut_quiet t m o f.query f.command
 verdict_quiet t m now Challenge there f off = same (news t m) (closes_in m.command) (view t) _ refl
 verdict_quiet t m now (ChallengeBinding session) there f off = same (news t m) (closes_in m.command) (view t) _ refl
-verdict_quiet t m now (Begin session user previous r is_quiet) there f off = begin_quiet t m now session user previous r is_quiet f.making (absent_of t.present t.at m.session there f.absent)
+verdict_quiet t m now (Begin session user previous r is_quiet) there f off = begin_quiet t m now session user previous r is_quiet f.making (absent_of t.present t.session_of_open m.session there f.absent)
 verdict_quiet t m now (Join session) there f off = same (news t m) (closes_in m.command) (view t) _ refl
 verdict_quiet t m now (EndSession session is_quiet) there f off = end_quiet (news t m) (closes_in m.command) t session now is_quiet
 verdict_quiet t m now (AddTree pipes) there f off = same (news t m) (closes_in m.command) (view t) _ refl

@@ -114,13 +114,13 @@ pub down_is_open : (conns : ℕ → Conn) → DownOpen conns → (j n : ℕ) (y 
 down_is_open conns d j n y h = let e = d j in grind arith
 
 -- the copy on an open connection is outstanding there
-pub up_on : (c : Client) (conns : ℕ → Conn) → Outstanding c conns → (j n g : ℕ) (x : Sent) → slice_get (conns j).up n ≡ Some x → x.token ≡ ForOp g → 0 < g → (conns j).client_open ≡ true → c.on g ≡ Some j
+pub up_on : (c : Client) (conns : ℕ → Conn) → Outstanding c conns → (j n g : ℕ) (x : Sent) → slice_get (conns j).up n ≡ Some x → x.token ≡ ForOp g → 0 < g → (conns j).client_open ≡ true → c.outstanding_on g ≡ Some j
 up_on c conns o j n g x h t pos op = o j g op (more_up (conns j) g n x h t) pos
 
-pub down_on : (c : Client) (conns : ℕ → Conn) → Outstanding c conns → DownOpen conns → (j n g : ℕ) (y : Received) → slice_get (conns j).down n ≡ Some y → y.token ≡ ForOp g → 0 < g → c.on g ≡ Some j
+pub down_on : (c : Client) (conns : ℕ → Conn) → Outstanding c conns → DownOpen conns → (j n g : ℕ) (y : Received) → slice_get (conns j).down n ≡ Some y → y.token ≡ ForOp g → 0 < g → c.outstanding_on g ≡ Some j
 down_on c conns o d j n g y h t pos = o j g (down_is_open conns d j n y h) (more_down (conns j) g n y h t) pos
 
-pub ask_on : (c : Client) (conns : ℕ → Conn) → Outstanding c conns → DownOpen conns → (j n g : ℕ) (y : Received) → slice_get (conns j).down n ≡ Some y → y.token ≡ ForAttach g → 0 < g → c.on g ≡ Some j
+pub ask_on : (c : Client) (conns : ℕ → Conn) → Outstanding c conns → DownOpen conns → (j n g : ℕ) (y : Received) → slice_get (conns j).down n ≡ Some y → y.token ≡ ForAttach g → 0 < g → c.outstanding_on g ≡ Some j
 ask_on c conns o d j n g y h t pos = o j g (down_is_open conns d j n y h) (more_asks (conns j) g n y h t) pos
 
 -- the create of what went out settled Ok

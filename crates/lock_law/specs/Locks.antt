@@ -5,7 +5,7 @@ use Rattle.exchange_defs.specs.Status.{success, user_session_deleted, file_close
 use Rattle.exchange_defs.specs.Texts.{same_name}
 use Rattle.exchange_defs.specs.Commands.{deletes_on_close}
 use Rattle.exchange_defs.specs.State.{Server, Kept}
-use Rattle.exchange_defs.specs.Opens.{goes, drop_open, marked_by}
+use Rattle.exchange_defs.specs.Opens.{goes, drop_open, pending_behind}
 use Rattle.exchange_defs.specs.CheckSetup.{pipes_name}
 use Rattle.exchange_defs.specs.CheckOpen.{is_slot, kept_status}
 use Rattle.exchange_defs.specs.Records.{lower_limit}
@@ -47,7 +47,7 @@ abbrev pub open_at : Client → ℕ → ℕ
 open_at c g = c.file (create_at c g)
 
 abbrev pub kept_of : Client → Server → ℕ → Option ℕ
-kept_of c s g = kept_at (s.slots (open_at c g) (c.slot_of g)) (c.number_of g)
+kept_of c s g = kept_at (s.lock_sequences (open_at c g) (c.slot_of g)) (c.number_of g)
 
 -- ---- the client's table
 
@@ -67,17 +67,17 @@ abbrev pub FullFree : Client → Type 0
 FullFree c = (g : ℕ) → c.sent g ≡ true → locking (c.op g) ≡ true → is_unsettled (c.outcome g) ≡ true → c.full (create_at c g) (c.slot_of g) ≡ false
 
 abbrev pub AttachedLow : Client → Type 0
-AttachedLow c = (q : ℕ) → c.attached q ≤ c.number
+AttachedLow c = (q : ℕ) → c.attached q ≤ c.session_number
 
 -- behind a close that settled Ok nothing of its open goes out any more
 abbrev pub ShutOk : Client → Type 0
-ShutOk c = (h : ℕ) → shuts_open (c.op h) ≡ true → is_ok (c.outcome h) ≡ true → c.shut (create_at c h) ≡ true
+ShutOk c = (h : ℕ) → shuts_open (c.op h) ≡ true → is_ok (c.outcome h) ≡ true → c.closed_ok (create_at c h) ≡ true
 
 abbrev pub ShutMade : Client → Type 0
-ShutMade c = (q : ℕ) → c.shut q ≡ true → is_ok (c.outcome q) ≡ true × q ≤ c.taken
+ShutMade c = (q : ℕ) → c.closed_ok q ≡ true → is_ok (c.outcome q) ≡ true × q ≤ c.taken
 
 abbrev pub ShutGone : Client → Type 0
-ShutGone c = (g : ℕ) → 0 < g → g ≤ c.taken → makes_open (c.op g) ≡ false → c.shut (create_at c g) ≡ true → c.sent g ≡ false → is_unsettled (c.outcome g) ≡ false
+ShutGone c = (g : ℕ) → 0 < g → g ≤ c.taken → makes_open (c.op g) ≡ false → c.closed_ok (create_at c g) ≡ true → c.sent g ≡ false → is_unsettled (c.outcome g) ≡ false
 
 -- what went out waited for the lower closes of its open, and none of them had settled Ok
 abbrev pub CloseBefore : Client → Type 0
@@ -94,7 +94,7 @@ UnsentGone c = (g : ℕ) → is_unsent (c.outcome g) ≡ true → c.sent g ≡ f
 
 -- one without an unanswered copy waits on an open connection alone
 abbrev pub Unanswered : Client → (ℕ → Conn) → Type 0
-Unanswered c conns = (k n g : ℕ) (x : Sent) → slice_get (conns k).up n ≡ Some x → x.token ≡ ForOp g → c.before g ≡ false → (conns k).client_open ≡ true
+Unanswered c conns = (k n g : ℕ) (x : Sent) → slice_get (conns k).up n ≡ Some x → x.token ≡ ForOp g → c.unanswered g ≡ false → (conns k).client_open ≡ true
 
 -- a DH2C in an operation's place is of its create, which settled Ok
 abbrev pub AskUp : Client → (ℕ → Conn) → Type 0
@@ -110,31 +110,31 @@ Users c conns s = (k n g : ℕ) (x : Sent) → slice_get (conns k).up n ≡ Some
 
 -- the operation was sent with its open attached in the session, so nothing else goes out in its place
 abbrev pub CopyNow : Client → (ℕ → Conn) → Server → Type 0
-CopyNow c conns s = (k n g : ℕ) (x : Sent) → slice_get (conns k).up n ≡ Some x → x.token ≡ ForOp g → makes_open (c.op g) ≡ false → s.present x.message.session ≡ true → c.live ≡ true → c.attached (create_at c g) ≡ c.number × c.asking g ≡ false
+CopyNow c conns s = (k n g : ℕ) (x : Sent) → slice_get (conns k).up n ≡ Some x → x.token ≡ ForOp g → makes_open (c.op g) ≡ false → s.present x.message.session ≡ true → c.live ≡ true → c.attached (create_at c g) ≡ c.session_number × c.asks_attach g ≡ false
 
 -- one that waits on a closed connection was retried, where it is outstanding again, or settled
 abbrev pub RetriedOn : Client → (ℕ → Conn) → Server → Type 0
-RetriedOn c conns s = (k n g : ℕ) (x : Sent) → slice_get (conns k).up n ≡ Some x → x.token ≡ ForOp g → locking (c.op g) ≡ true → s.present x.message.session ≡ true → c.live ≡ true → (conns k).client_open ≡ false → is_some (c.on g) ≡ true → c.retried (create_at c g) (c.slot_of g) ≡ c.number
+RetriedOn c conns s = (k n g : ℕ) (x : Sent) → slice_get (conns k).up n ≡ Some x → x.token ≡ ForOp g → locking (c.op g) ≡ true → s.present x.message.session ≡ true → c.live ≡ true → (conns k).client_open ≡ false → is_some (c.outstanding_on g) ≡ true → c.retried (create_at c g) (c.slot_of g) ≡ c.session_number
 
 abbrev pub RetriedDone : Client → (ℕ → Conn) → Server → Type 0
-RetriedDone c conns s = (k n g : ℕ) (x : Sent) → slice_get (conns k).up n ≡ Some x → x.token ≡ ForOp g → locking (c.op g) ≡ true → s.present x.message.session ≡ true → c.live ≡ true → (conns k).client_open ≡ false → is_unsettled (c.outcome g) ≡ false → c.retried (create_at c g) (c.slot_of g) ≡ c.number
+RetriedDone c conns s = (k n g : ℕ) (x : Sent) → slice_get (conns k).up n ≡ Some x → x.token ≡ ForOp g → locking (c.op g) ≡ true → s.present x.message.session ≡ true → c.live ≡ true → (conns k).client_open ≡ false → is_unsettled (c.outcome g) ≡ false → c.retried (create_at c g) (c.slot_of g) ≡ c.session_number
 
 -- its open, while it stands, is attached to the copy's session
 abbrev pub CopyAttached : Client → (ℕ → Conn) → Server → Type 0
-CopyAttached c conns s = (k n g : ℕ) (x : Sent) → slice_get (conns k).up n ≡ Some x → x.token ≡ ForOp g → makes_open (c.op g) ≡ false → s.present x.message.session ≡ true → s.standing (open_at c g) ≡ true → s.at (open_at c g) ≡ Some x.message.session
+CopyAttached c conns s = (k n g : ℕ) (x : Sent) → slice_get (conns k).up n ≡ Some x → x.token ≡ ForOp g → makes_open (c.op g) ≡ false → s.present x.message.session ≡ true → s.standing (open_at c g) ≡ true → s.session_of_open (open_at c g) ≡ Some x.message.session
 
 abbrev pub NowAttached : Client → Server → Type 0
-NowAttached c s = (q : ℕ) → makes_open (c.op q) ≡ true → is_ok (c.outcome q) ≡ true → c.live ≡ true → c.attached q ≡ c.number → s.present c.session ≡ true → s.standing (c.file q) ≡ true → s.at (c.file q) ≡ Some c.session
+NowAttached c s = (q : ℕ) → makes_open (c.op q) ≡ true → is_ok (c.outcome q) ≡ true → c.live ≡ true → c.attached q ≡ c.session_number → s.present c.session ≡ true → s.standing (c.file q) ≡ true → s.session_of_open (c.file q) ≡ Some c.session
 
 -- the reply that opened, or attached
 abbrev pub OpenedReply : Client → (ℕ → Conn) → Server → Type 0
-OpenedReply c conns s = (k n g : ℕ) (y : Received) → slice_get (conns k).down n ≡ Some y → y.token ≡ ForOp g → makes_open (c.op g) ≡ true → y.reply.status ≡ success → c.live ≡ true → s.present c.session ≡ true → s.standing (id_in y.reply.body) ≡ true → s.at (id_in y.reply.body) ≡ Some c.session
+OpenedReply c conns s = (k n g : ℕ) (y : Received) → slice_get (conns k).down n ≡ Some y → y.token ≡ ForOp g → makes_open (c.op g) ≡ true → y.reply.status ≡ success → c.live ≡ true → s.present c.session ≡ true → s.standing (id_in y.reply.body) ≡ true → s.session_of_open (id_in y.reply.body) ≡ Some c.session
 
 abbrev pub JoinReply : Client → (ℕ → Conn) → Server → Type 0
-JoinReply c conns s = (k n g : ℕ) (y : Received) → slice_get (conns k).down n ≡ Some y → y.token ≡ ForAttach g → y.reply.status ≡ success → c.live ≡ true → s.present c.session ≡ true → s.standing (open_at c g) ≡ true → s.at (open_at c g) ≡ Some c.session
+JoinReply c conns s = (k n g : ℕ) (y : Received) → slice_get (conns k).down n ≡ Some y → y.token ≡ ForAttach g → y.reply.status ≡ success → c.live ≡ true → s.present c.session ≡ true → s.standing (open_at c g) ≡ true → s.session_of_open (open_at c g) ≡ Some c.session
 
 abbrev pub JoinedReply : Client → (ℕ → Conn) → Server → Type 0
-JoinedReply c conns s = (k n g : ℕ) (y : Received) → slice_get (conns k).down n ≡ Some y → y.token ≡ ForAttach g → y.reply.status ≡ success → c.live ≡ true → s.present c.session ≡ true → s.standing (open_at c g) ≡ false → c.attached (create_at c g) ≡ c.number
+JoinedReply c conns s = (k n g : ℕ) (y : Received) → slice_get (conns k).down n ≡ Some y → y.token ≡ ForAttach g → y.reply.status ≡ success → c.live ≡ true → s.present c.session ≡ true → s.standing (open_at c g) ≡ false → c.attached (create_at c g) ≡ c.session_number
 
 -- an open that can't be attached is gone
 abbrev pub LostReply : Client → (ℕ → Conn) → Server → Type 0
@@ -154,10 +154,10 @@ FirmKept c s = (g : ℕ) → user_at c g ≡ Some g → firm (c.outcome g) ≡ t
 
 -- a slot that nobody took keeps nothing, nor does any of an open whose create isn't settled
 abbrev pub NoUser : Client → Server → Type 0
-NoUser c s = (q i : ℕ) → is_ok (c.outcome q) ≡ true → makes_open (c.op q) ≡ true → c.slot_user q i ≡ None → s.standing (c.file q) ≡ true → s.slots (c.file q) i ≡ None
+NoUser c s = (q i : ℕ) → is_ok (c.outcome q) ≡ true → makes_open (c.op q) ≡ true → c.slot_user q i ≡ None → s.standing (c.file q) ≡ true → s.lock_sequences (c.file q) i ≡ None
 
 abbrev pub NoSlots : Client → Server → Type 0
-NoSlots c s = (q i o : ℕ) → makes_open (c.op q) ≡ true → is_ok (c.outcome q) ≡ false → s.by_guid c.who.guid (guid_for c q) ≡ Some o → s.slots o i ≡ None
+NoSlots c s = (q i o : ℕ) → makes_open (c.op q) ≡ true → is_ok (c.outcome q) ≡ false → s.by_guid c.who.guid (guid_for c q) ≡ Some o → s.lock_sequences o i ≡ None
 
 -- a slot's copies are gone where the lock settled on a full disk
 abbrev pub FullDead : Client → (ℕ → Conn) → Server → Type 0
@@ -177,19 +177,19 @@ KeptReply c conns s = (k n g : ℕ) (y : Received) → slice_get (conns k).down 
 
 -- the refusal of a sole copy
 abbrev pub FirstReply : Client → (ℕ → Conn) → (ℕ → ℕ) → Type 0
-FirstReply c conns a = (k n g : ℕ) (y : Received) → slice_get (conns k).down n ≡ Some y → y.token ≡ ForOp g → locking (c.op g) ≡ true → y.reply.status ≢ success → c.before g ≡ false → a g ≡ 0
+FirstReply c conns a = (k n g : ℕ) (y : Received) → slice_get (conns k).down n ≡ Some y → y.token ≡ ForOp g → locking (c.op g) ≡ true → y.reply.status ≢ success → c.unanswered g ≡ false → a g ≡ 0
 
 -- ---- closes
 
 -- an open that was closed in the session in which it was attached: a lock of it that isn't settled never acted
 abbrev pub ClosedNot : Client → Server → (ℕ → ℕ) → Type 0
-ClosedNot c s a = (g : ℕ) → locking (c.op g) ≡ true → c.sent g ≡ true → is_unsettled (c.outcome g) ≡ true → c.live ≡ true → c.attached (create_at c g) ≡ c.number → s.present c.session ≡ true → s.standing (open_at c g) ≡ false → a g ≡ 0
+ClosedNot c s a = (g : ℕ) → locking (c.op g) ≡ true → c.sent g ≡ true → is_unsettled (c.outcome g) ≡ true → c.live ≡ true → c.attached (create_at c g) ≡ c.session_number → s.present c.session ≡ true → s.standing (open_at c g) ≡ false → a g ≡ 0
 
 -- Where a close was refused on a full disk: a record of a lock takes 66 bytes of the journal, one of a persistent open
 -- that leaves with its file 63, and no record takes less than 34. An open that owes no record where it locks, a plain
--- one, can't be closed there, since it is the last one of a file that is marked for deletion.
+-- one, can't be closed there, since it is the last one of a file that is delete pending.
 unfoldable pub goes_with : Server → ℕ → Bool
-goes_with s o = goes (drop_open (marked_by s o) o) (s.opened o).file
+goes_with s o = goes (drop_open (pending_behind s o) o) (s.opened o).file
 
 -- no open deletes its file on close
 abbrev pub KeptFiles : Server → Type 0

@@ -7,7 +7,7 @@ use Rattle.exchange_defs.specs.Opens.{max_ids}
 use Rattle.exchange_defs.specs.CheckSetup.{is_new, is_binding, session_check, second_token, first_token, granted_session, binding_check, live_binding, second_binding, first_binding, granted_binding, tree_check, max_sessions, max_channels, max_numbers, count_channels, pipes_name, no_tree_left}
 use Rattle.exchange_defs.specs.Check.{has_session, command_check, formed, owed, check}
 use Rattle.exchange_defs.specs.Effects.{apply}
-use Rattle.exchange_defs.specs.Verdict.{Verdict, Refuse, Give, KeepRefusal, Repeat, Attach, Make, TurnDown, Tell, Show, KeepSlot, PutRanges, Alter, Shut, Challenge, ChallengeBinding, Begin, Join, EndSession, AddTree, DropTree}
+use Rattle.exchange_defs.specs.Verdict.{Verdict, Refuse, Give, KeepRefusal, Repeat, Attach, Make, TurnDown, Tell, Show, KeepSlot, PutRanges, Alter, CloseOpen, Challenge, ChallengeBinding, Begin, Join, EndSession, AddTree, DropTree}
 use Rattle.exchange_defs.specs.Step.{step, without_room}
 use Rattle.exchange_defs.specs.Network.{answer_to}
 use Rattle.server_law.proofs.Doors.{by_verdict, Finds}
@@ -28,7 +28,7 @@ record Calm (v : Verdict) : Type 0 where
   calm : is_calm v ≡ true
 
 granted_calm : (s : Server) (m : Message) (r : SetupRequest) (user : List ℕ) → Calm (granted_session s m r user)
-granted_calm s m r user = either Calm (s.seals && (r.cipher == 0)) _ _ (λ _. record { calm = refl }) (λ _. either Calm (nat_le max_sessions s.sessions) _ _ (λ _. record { calm = refl }) (λ _. record { calm = refl }))
+granted_calm s m r user = either Calm (s.encrypts && (r.cipher == 0)) _ _ (λ _. record { calm = refl }) (λ _. either Calm (nat_le max_sessions s.sessions) _ _ (λ _. record { calm = refl }) (λ _. record { calm = refl }))
 
 second_calm : (s : Server) (m : Message) (r : SetupRequest) (t : Shows) → Calm (second_token s m r t)
 second_calm s m r Begins = record { calm = refl }
@@ -37,20 +37,20 @@ second_calm s m r Refused = record { calm = refl }
 second_calm s m r (Logon user) = granted_calm s m r user
 
 first_calm : (s : Server) (t : Shows) → Calm (first_token s t)
-first_calm s Begins = either Calm (nat_le max_ids s.begun) _ _ (λ _. record { calm = refl }) (λ _. record { calm = refl })
+first_calm s Begins = either Calm (nat_le max_ids s.session_ids_given) _ _ (λ _. record { calm = refl }) (λ _. record { calm = refl })
 first_calm s Bad = record { calm = refl }
 first_calm s Refused = record { calm = refl }
 first_calm s (Logon user) = record { calm = refl }
 
 session_calm : (s : Server) (m : Message) (r : SetupRequest) → Calm (session_check s m r)
 session_calm s m r =
-    either Calm (m.session == 0) _ _ (λ _. either Calm (is_some (s.on m.connection)) _ _ (λ _. record { calm = refl }) (λ _. first_calm s r.shows))
+    either Calm (m.session == 0) _ _ (λ _. either Calm (is_some (s.session_on m.connection)) _ _ (λ _. record { calm = refl }) (λ _. first_calm s r.shows))
     (λ _. either Calm (s.present m.session) _ _ (λ _. record { calm = refl }) (λ _. either Calm (is_new m.session (s.making m.connection)) _ _ (λ _. second_calm s m r r.shows) (λ _. record { calm = refl })))
 
 bound_calm : (s : Server) (m : Message) (user : List ℕ) → Calm (granted_binding s m user)
 bound_calm s m user =
     either Calm (not (same_name user (s.user m.session))) _ _ (λ _. record { calm = refl })
-    (λ _. either Calm (nat_le max_channels (count_channels s.on s.connections m.session)) _ _ (λ _. record { calm = refl }) (λ _. either Calm (nat_le max_numbers (s.drawn m.session)) _ _ (λ _. record { calm = refl }) (λ _. record { calm = refl })))
+    (λ _. either Calm (nat_le max_channels (count_channels s.session_on s.connections m.session)) _ _ (λ _. record { calm = refl }) (λ _. either Calm (nat_le max_numbers (s.channel_numbers_drawn m.session)) _ _ (λ _. record { calm = refl }) (λ _. record { calm = refl })))
 
 second_binding_calm : (s : Server) (m : Message) (t : Shows) → Calm (second_binding s m t)
 second_binding_calm s m Begins = record { calm = refl }
@@ -68,7 +68,7 @@ live_binding_calm : (s : Server) (m : Message) (r : SetupRequest) → Calm (live
 live_binding_calm s m r =
     either Calm (not r.signed) _ _ (λ _. record { calm = refl })
     (λ _. either Calm (not (m.client == s.client m.session)) _ _ (λ _. record { calm = refl }) (λ _. either Calm (not ((r.cipher == s.cipher m.session) && (r.signing == s.signing m.session))) _ _ (λ _. record { calm = refl })
-    (λ _. either Calm (is_some (s.on m.connection)) _ _ (λ _. record { calm = refl }) (λ _. either Calm (not r.verified) _ _ (λ _. record { calm = refl })
+    (λ _. either Calm (is_some (s.session_on m.connection)) _ _ (λ _. record { calm = refl }) (λ _. either Calm (not r.verified) _ _ (λ _. record { calm = refl })
     (λ _. either Calm (is_binding m.session (s.making m.connection)) _ _ (λ _. second_binding_calm s m r.shows) (λ _. first_binding_calm m r.shows))))))
 
 binding_calm : (s : Server) (m : Message) (r : SetupRequest) → Calm (binding_check s m r)
@@ -125,7 +125,7 @@ calm_without_room (Show o last body) h = absurd (cc)
 calm_without_room (KeepSlot o index number status elements) h = absurd (cc)
 calm_without_room (PutRanges o index number ranges elements) h = absurd (cc)
 calm_without_room (Alter o change body) h = absurd (cc)
-calm_without_room (Shut o body) h = absurd (cc)
+calm_without_room (CloseOpen o body) h = absurd (cc)
 calm_without_room Challenge h = record { calm = refl }
 calm_without_room (ChallengeBinding session) h = record { calm = refl }
 calm_without_room (Begin session user previous r is_quiet) h = record { calm = refl }
@@ -152,7 +152,7 @@ calm_aloof s m now (Show o last body) h = absurd (cc)
 calm_aloof s m now (KeepSlot o index number status elements) h = absurd (cc)
 calm_aloof s m now (PutRanges o index number ranges elements) h = absurd (cc)
 calm_aloof s m now (Alter o change body) h = absurd (cc)
-calm_aloof s m now (Shut o body) h = absurd (cc)
+calm_aloof s m now (CloseOpen o body) h = absurd (cc)
 calm_aloof s m now Challenge h = record { reached = refl; altered = refl }
 calm_aloof s m now (ChallengeBinding session) h = record { reached = refl; altered = refl }
 calm_aloof s m now (Begin session user previous r is_quiet) h = record { reached = refl; altered = refl }

@@ -82,7 +82,7 @@ taking w a k x0 rest is l most i =
         ids = pf.ids;
         row = λ o le st. pf.row o le;
       };
-      at = pf.at;
+      session_of_open = pf.session_of_open;
       reached = pf.reached;
       ops = λ o e. by_kind (is_ops x0.token) refl o e;
       changing = changing s w.moment m m.command l.fits l.low low_front;
@@ -124,7 +124,7 @@ taking w a k x0 rest is l most i =
     pf = facts w.server w.moment x0.message x0.message.command (given_of w.server x0.message l.fits l.low low_front)
 
     session_there : has_session w.server x0.message ≡ true → w.server.present x0.message.session ≡ true
-    session_there z = l.fits.on_present x0.message.connection x0.message.session (at_of x0.message.session (w.server.on x0.message.connection) z)
+    session_there z = l.fits.on_present x0.message.connection x0.message.session (at_of x0.message.session (w.server.session_on x0.message.connection) z)
 
     by_kind : (b : Bool) → is_ops x0.token ≡ b → (o : ℕ) → (answer w x0).reached ≡ Some o → is_ops x0.token ≡ true
     by_kind true e o r = e
@@ -228,7 +228,7 @@ said w a k x0 rest is opn l t i =
     live_of e = (l.ss.current_up k 0 x0 f0 e opn).0
 
     there : has_session w.server x0.message ≡ true → w.server.present x0.message.session ≡ true
-    there z = l.fits.on_present x0.message.connection x0.message.session (at_of x0.message.session (w.server.on x0.message.connection) z)
+    there z = l.fits.on_present x0.message.connection x0.message.session (at_of x0.message.session (w.server.session_on x0.message.connection) z)
 
     told : (p : ℕ) → x0.token ≡ ForOp p → makes_open (w.client.op p) ≡ true → (answer w x0).reply.status ≡ success
         → ((answer w x0).acted ≡ true × (answer w x0).reached ≡ Some (id_in (answer w x0).reply.body)) ⊎ (w.server.by_guid w.client.who.guid (guid_for w.client p) ≡ Some (id_in (answer w x0).reply.body))
@@ -255,7 +255,7 @@ said w a k x0 rest is opn l t i =
     refused_off p tk bad del sa =
         let o = ok_create p tk in let fg = l.cr.file_guid (create_at w.client p) o.0 o.1 in let st = t.steps.stands (file_at w.client p) fg.0 sa in
         let us = (l.ss.open_users (file_at w.client p) st).0 in
-        own_session (w.server.at (file_at w.client p)) x0.message.session
+        own_session (w.server.session_of_open (file_at w.client p)) x0.message.session
         ((asked_by p tk).refused bad del sa (guid_test (guid_for w.client (create_at w.client p)) _ ((fg.1 st).1 ∙ ap Some (sym (same_guid w.client (create_at w.client p)))))
         (λ z. subst (λ u. same_name (w.server.opened (file_at w.client p)).user u ≡ true) (us ∙ sym (l.ss.session_users x0.message.session (there z))) (name_self (w.server.opened (file_at w.client p)).user)))
         (λ y e. let at = l.cr.attached (file_at w.client p) y e in l.ss.present_accepted y at.1 at.0 ∙ (sym (l.ss.live_accepted (live_of (attach_of x0.token p tk))).0 ∙ sym (here (attach_of x0.token p tk))))

@@ -42,7 +42,7 @@ line_settles b1 b2 b3 asking x y o e = (grind arith, grind arith, grind arith)
 
 settles_by : (c : Client) (g : ℕ) (asking : Bool) (r : Reply) (o : Outcome) → heard c g asking r ≡ Settles o
     → (r.status == user_session_deleted) ≡ false × (asking ≡ true → (r.status == success) ≡ false) × ((r.status == success) ≡ false → goes_again c g asking r.status ≡ false)
-settles_by c g asking r o e = line_settles (r.status == user_session_deleted) (r.status == success) (goes_again c g asking r.status) asking (ok_or_unknown (value_in (c.op g) r.body)) (refused (c.op g) asking (c.before g) r.status) o e
+settles_by c g asking r o e = line_settles (r.status == user_session_deleted) (r.status == success) (goes_again c g asking r.status) asking (ok_or_unknown (value_in (c.op g) r.body)) (refused (c.op g) asking (c.unanswered g) r.status) o e
 
 -- what settles as Ok or Refused, line by line
 ok_line : (b1 b2 b3 asking : Bool) (x y : Heard) (o : Outcome) → line b1 b2 b3 asking x y ≡ Settles o → (b2 ≡ true × asking ≡ false × x ≡ Settles o) ⊎ (y ≡ Settles o)
@@ -85,18 +85,18 @@ ok_value (Some r) o e = let z = ok_outcome _ o e in (λ k. (r, (refl, sym z)), �
 -- it settles as Ok by a success of its own copy, but for a close that an unanswered copy did
 ok_by : (c : Client) (g : ℕ) (asking : Bool) (r : Reply) (o : Outcome) → heard c g asking r ≡ Settles o → is_ok o ≡ true → is_close (c.op g) ≡ false
     → r.status ≡ success × asking ≡ false × (v : OpReply) × (value_in (c.op g) r.body ≡ Some v × o ≡ WasOk v)
-ok_by c g asking r o e k n = by_line (ok_line (r.status == user_session_deleted) (r.status == success) (goes_again c g asking r.status) asking (ok_or_unknown (value_in (c.op g) r.body)) (refused (c.op g) asking (c.before g) r.status) o e)
+ok_by c g asking r o e k n = by_line (ok_line (r.status == user_session_deleted) (r.status == success) (goes_again c g asking r.status) asking (ok_or_unknown (value_in (c.op g) r.body)) (refused (c.op g) asking (c.unanswered g) r.status) o e)
   where
-    by_line : ((r.status == success) ≡ true × asking ≡ false × ok_or_unknown (value_in (c.op g) r.body) ≡ Settles o) ⊎ (refused (c.op g) asking (c.before g) r.status ≡ Settles o) → r.status ≡ success × asking ≡ false × (v : OpReply) × (value_in (c.op g) r.body ≡ Some v × o ≡ WasOk v)
+    by_line : ((r.status == success) ≡ true × asking ≡ false × ok_or_unknown (value_in (c.op g) r.body) ≡ Settles o) ⊎ (refused (c.op g) asking (c.unanswered g) r.status ≡ Settles o) → r.status ≡ success × asking ≡ false × (v : OpReply) × (value_in (c.op g) r.body ≡ Some v × o ≡ WasOk v)
     by_line (inl z) = let q = (ok_value (value_in (c.op g) r.body) o z.2).0 k in (eqb-true r.status success z.0, z.1, q.0, q.1)
-    by_line (inr z) = absurd (let y = (plain (c.op g) asking (c.before g) r.status o z).0 k in grind arith)
+    by_line (inr z) = absurd (let y = (plain (c.op g) asking (c.unanswered g) r.status o z).0 k in grind arith)
 
 refused_by : (c : Client) (g : ℕ) (asking : Bool) (r : Reply) (n : ℕ) → heard c g asking r ≡ Settles (WasRefused n) → n ≡ r.status
-refused_by c g asking r n e = by_line (ok_line (r.status == user_session_deleted) (r.status == success) (goes_again c g asking r.status) asking (ok_or_unknown (value_in (c.op g) r.body)) (refused (c.op g) asking (c.before g) r.status) (WasRefused n) e)
+refused_by c g asking r n e = by_line (ok_line (r.status == user_session_deleted) (r.status == success) (goes_again c g asking r.status) asking (ok_or_unknown (value_in (c.op g) r.body)) (refused (c.op g) asking (c.unanswered g) r.status) (WasRefused n) e)
   where
-    by_line : ((r.status == success) ≡ true × asking ≡ false × ok_or_unknown (value_in (c.op g) r.body) ≡ Settles (WasRefused n)) ⊎ (refused (c.op g) asking (c.before g) r.status ≡ Settles (WasRefused n)) → n ≡ r.status
+    by_line : ((r.status == success) ≡ true × asking ≡ false × ok_or_unknown (value_in (c.op g) r.body) ≡ Settles (WasRefused n)) ⊎ (refused (c.op g) asking (c.unanswered g) r.status ≡ Settles (WasRefused n)) → n ≡ r.status
     by_line (inl z) = absurd ((ok_value (value_in (c.op g) r.body) (WasRefused n) z.2).1 n refl)
-    by_line (inr z) = (plain (c.op g) asking (c.before g) r.status (WasRefused n) z).1 n refl
+    by_line (inr z) = (plain (c.op g) asking (c.unanswered g) r.status (WasRefused n) z).1 n refl
 
 -- ---- what a success says of the bytes
 
@@ -128,8 +128,8 @@ value_said (OpClose create) body v ls e = absurd (cc)
 -- ---- what is known of a reply that is taken, its connection being behind it
 
 pub record ReplyTaken (c : Client) (conns : ℕ → Conn) (s : Server) (t : Trace) (l : Log) (k g : ℕ) (asking : Bool) (r : Reply) (place : ℕ) : Type 0 where
-  pub on : c.on g ≡ Some k
-  pub asks : c.asking g ≡ asking
+  pub outstanding_on : c.outstanding_on g ≡ Some k
+  pub asks : c.asks_attach g ≡ asking
   pub none : copies g (conns k) ≡ 0
   pub above : 0 < g
   pub stands : (conns k).client_open ≡ true
@@ -138,11 +138,11 @@ pub record ReplyTaken (c : Client) (conns : ℕ → Conn) (s : Server) (t : Trac
   pub since : l.since g ≤ place
   pub own : asking ≡ false → l.gave place ≡ said (ForOp g) r
   pub present : (j n : ℕ) (x : Sent) → slice_get (conns j).up n ≡ Some x → is_ops x.token ≡ true → s.present x.message.session ≡ true → x.message.session ≡ c.session
-  pub not_done : asking ≡ false → edits (c.op g) ≡ true → (r.status == success) ≡ false → c.before g ≡ false → l.first g ≡ None
+  pub not_done : asking ≡ false → edits (c.op g) ≡ true → (r.status == success) ≡ false → c.unanswered g ≡ false → l.first g ≡ None
   pub create_reply : asking ≡ false → makes_open (c.op g) ≡ true → r.status ≡ success → Pair s c.session 0 (id_in r.body) × id_in r.body ≤ last_id s × t.open_of g ≡ Some (id_in r.body)
-  pub reached : asking ≡ false → edits (c.op g) ≡ true → formed (c.op g) ≡ true → is_final r.status ≡ true → Pair s c.session (c.seq_of g) (file_at c g) × file_at c g ≤ last_id s
+  pub reached : asking ≡ false → edits (c.op g) ≡ true → formed (c.op g) ≡ true → is_final r.status ≡ true → Pair s c.session (c.sequence_of g) (file_at c g) × file_at c g ≤ last_id s
   pub closed : asking ≡ false → edits (c.op g) ≡ true → r.status ≡ file_closed → s.standing (file_at c g) ≡ false × file_at c g ≤ last_id s
-  pub stale : asking ≡ false → edits (c.op g) ≡ true → r.status ≡ file_not_available → c.seq_of g < c.sequence
+  pub stale : asking ≡ false → edits (c.op g) ≡ true → r.status ≡ file_not_available → c.sequence_of g < c.sequence
   pub attach_reply : asking ≡ true → r.status ≡ success → Pair s c.session 0 (file_at c g) × file_at c g ≤ last_id s
   pub attach_refused : asking ≡ true → edits (c.op g) ≡ true → (r.status == success) ≡ false → (r.status == user_session_deleted) ≡ false → s.standing (file_at c g) ≡ false × file_at c g ≤ last_id s
   pub attach_status : asking ≡ true → (r.status == end_of_file) ≡ false
@@ -189,21 +189,21 @@ dead c conns s t l a k g asking r place o cn i d he j n x h e ed fm sd pr le = b
             let up1 = own_up_count g (conns j).up n x h e in let one : 1 ≤ copies g (conns j) = omega (arith, up1) in let at = cn.outstanding j g e2 one d.above in let z = d.none in
             absurd (same_conn at z one)
           where
-            same_conn : c.on g ≡ Some j → copies g (conns k) ≡ 0 → 1 ≤ copies g (conns j) → ⊥
-            same_conn at z one = let q = d.on in absurd (let jk : j ≡ k = grind arith in let one2 = subst (λ q. 1 ≤ copies g (conns q)) jk one in omega (arith, one2, z))
+            same_conn : c.outstanding_on g ≡ Some j → copies g (conns k) ≡ 0 → 1 ≤ copies g (conns j) → ⊥
+            same_conn at z one = let q = d.outstanding_on in absurd (let jk : j ≡ k = grind arith in let one2 = subst (λ q. 1 ≤ copies g (conns q)) jk one in omega (arith, one2, z))
 
     here : x.message.session ≡ c.session
     here = d.present j n x h (ops_of x.token g e) pr
 
-    older : c.asking g ≡ false → x.message.sequence < c.seq_of g
-    older own = i.older j n k g x h e ed own d.on (other_conn conns j k shut d.stands) here
+    older : c.asks_attach g ≡ false → x.message.sequence < c.sequence_of g
+    older own = i.older j n k g x h e ed own d.outstanding_on (other_conn conns j k shut d.stands) here
 
     by_asking : (b : Bool) → asking ≡ b → ⊥
     by_asking true q = clash (s.standing (file_at c g)) sd (d.attach_refused q ed (st.1 q) st.0).0
     by_asking false q =
         by_status (r.status == file_closed) ⊥ (λ y. clash (s.standing (file_at c g)) sd (d.closed q ed (eqb-true r.status file_closed y)).0)
         (λ nc. by_status (r.status == file_not_available) ⊥
-        (λ y. clash (goes_again c g asking r.status) (again_of (c.op g) asking r.status (c.seq_of g) c.sequence q (changes_edit (c.op g) ed) y (d.stale q ed (eqb-true r.status file_not_available y))) (st.2 (stale_other r.status y)))
+        (λ y. clash (goes_again c g asking r.status) (again_of (c.op g) asking r.status (c.sequence_of g) c.sequence q (changes_edit (c.op g) ed) y (d.stale q ed (eqb-true r.status file_not_available y))) (st.2 (stale_other r.status y)))
         (λ nf. let p = d.reached q ed fm (final_of r.status st.0 nc nf) in let z = (p.0 sd (subst (λ y. s.present y ≡ true) here pr)).1 in let w = older (d.asks ∙ q) in absurd (omega (arith, z, w, le))))
       where
         stale_other : (status : ℕ) → (status == file_not_available) ≡ true → (status == success) ≡ false
@@ -211,7 +211,7 @@ dead c conns s t l a k g asking r place o cn i d he j n x h e ed fm sd pr le = b
 
 -- ---- what the client notes of the reply that settles
 
-pub record Marked (c d : Client) (conns : ℕ → Conn) (s : Server) (t : Trace) (l : Log) (a : ℕ → ℕ) (g : ℕ) (o : Outcome) : Type 0 where
+pub record NotesReply (c d : Client) (conns : ℕ → Conn) (s : Server) (t : Trace) (l : Log) (a : ℕ → ℕ) (g : ℕ) (o : Outcome) : Type 0 where
   pub holds : Contents d conns s t l a
   pub op : d.op ≡ c.op
   pub outcome : d.outcome ≡ c.outcome
@@ -241,14 +241,14 @@ not_own c conns a g p cn u sp ed e =
     clash (is_unsettled (c.outcome g)) u (subst (λ q. is_unsettled (c.outcome q) ≡ false) e (ok_is_settled (c.outcome (create_at c p)) (makes_one (c.op p) (c.outcome (create_at c p)) (cn.has_open p sp) (edits_other (c.op p) ed))))
 
 -- an operation whose create is this one waits for no DH2C
-not_asked : (c : Client) (conns : ℕ → Conn) (a : ℕ → ℕ) (g p : ℕ) → is_unsettled (c.outcome g) ≡ true → c.asking g ≡ false → (makes_open (c.op p) || is_ok (c.outcome (create_at c p))) ≡ true → c.asking p ≡ true → create_at c p ≢ g
+not_asked : (c : Client) (conns : ℕ → Conn) (a : ℕ → ℕ) (g p : ℕ) → is_unsettled (c.outcome g) ≡ true → c.asks_attach g ≡ false → (makes_open (c.op p) || is_ok (c.outcome (create_at c p))) ≡ true → c.asks_attach p ≡ true → create_at c p ≢ g
 not_asked c conns a g p u own_g op ap2 e = by_test (makes_open (c.op p)) refl
   where
     own : makes_open (c.op p) ≡ true → create_at c p ≡ p
     own mk = own_create p (c.op p) mk
 
     by_test : (b : Bool) → makes_open (c.op p) ≡ b → ⊥
-    by_test true mk = clash (c.asking g) (subst (λ q. c.asking q ≡ true) (sym (own mk) ∙ e) ap2) own_g
+    by_test true mk = clash (c.asks_attach g) (subst (λ q. c.asks_attach q ≡ true) (sym (own mk) ∙ e) ap2) own_g
     by_test false mk = clash (is_unsettled (c.outcome g)) u (subst (λ q. is_unsettled (c.outcome q) ≡ false) e (ok_is_settled (c.outcome (create_at c p)) (makes_one (c.op p) (c.outcome (create_at c p)) op mk)))
 
 not_asked_up : (c : Client) (conns : ℕ → Conn) (a : ℕ → ℕ) (g p : ℕ) → is_unsettled (c.outcome g) ≡ true → (makes_open (c.op p) || is_ok (c.outcome (create_at c p))) ≡ true → makes_open (c.op p) ≡ false → create_at c p ≢ g
@@ -265,7 +265,7 @@ open_down c conns a cn j n y h = by_test (conns j).client_open refl
     by_test false e = absurd (none_in n y (subst (λ ys. slice_get ys n ≡ Some y) (cn.down_open j e) h))
 
 opened_create : (c : Client) (conns : ℕ → Conn) (s : Server) (t : Trace) (l : Log) (a : ℕ → ℕ) (k g : ℕ) (asking : Bool) (r : Reply) (place : ℕ) → Connections c conns a → Contents c conns s t l a → ReplyTaken c conns s t l k g asking r place
-    → is_unsettled (c.outcome g) ≡ true → asking ≡ false → (Pair s c.session 0 (id_in r.body) × id_in r.body ≤ last_id s) → Contents (record c { file = put c.file g (id_in r.body); attached = put c.attached g c.number }) conns s t l a
+    → is_unsettled (c.outcome g) ≡ true → asking ≡ false → (Pair s c.session 0 (id_in r.body) × id_in r.body ≤ last_id s) → Contents (record c { file = put c.file g (id_in r.body); attached = put c.attached g c.session_number }) conns s t l a
 opened_create c conns s t l a k g asking r place cn i d u own_g pair =
     opens_keeps c conns s t l a g (id_in r.body) u pair
     (λ j n p x h e. not_asked_up c conns a g p u (subst (λ q. (makes_open (c.op q) || is_ok (c.outcome (create_at c q))) ≡ true) (ap op_of e) (i.opens_up j n x h (attach_of x.token p e))) (i.asked_as j n p x h e).0)
@@ -273,20 +273,20 @@ opened_create c conns s t l a k g asking r place cn i d u own_g pair =
     (λ j n p y h e ed. not_own c conns a g p cn u (cn.sent_replies j n p y h e) ed)
     (λ j n p y h e. let o = open_down c conns a cn j n y h in let one = attach_down_count p (conns j).down n y h e in
     let at = cn.outstanding j p o (more j p one) (subst (λ q. 0 < q) (ap op_of e) (i.token_down j n y h (attach_of y.token p e)).0) in
-    not_asked c conns a g p u (d.asks ∙ own_g) (cn.asked_open p (some_of (c.on p) j at)) (cn.attach_down j n p y h o e))
+    not_asked c conns a g p u (d.asks ∙ own_g) (cn.asked_open p (some_of (c.outstanding_on p) j at)) (cn.attach_down j n p y h o e))
     (λ p ed f. not_own c conns a g p cn u (sent_of (c.sent p) (l.first p) (λ z. (i.fresh_first p z).0) f) ed)
     i
   where
     more : (j p : ℕ) → 1 ≤ count_down p (conns j).down → 1 ≤ copies p (conns j)
     more j p one = omega (arith, one)
 
-same_marked : (c : Client) (conns : ℕ → Conn) (s : Server) (t : Trace) (l : Log) (a : ℕ → ℕ) (g : ℕ) (o : Outcome) → is_ok o ≡ false → Contents c conns s t l a → Marked c c conns s t l a g o
-same_marked c conns s t l a g o n i = record { holds = i; op = refl; outcome = refl; file = λ _. refl; made = λ mk ok. absurd (clash (is_ok o) ok n) }
+same_noted : (c : Client) (conns : ℕ → Conn) (s : Server) (t : Trace) (l : Log) (a : ℕ → ℕ) (g : ℕ) (o : Outcome) → is_ok o ≡ false → Contents c conns s t l a → NotesReply c c conns s t l a g o
+same_noted c conns s t l a g o n i = record { holds = i; op = refl; outcome = refl; file = λ _. refl; made = λ mk ok. absurd (clash (is_ok o) ok n) }
 
-marks : (c : Client) (conns : ℕ → Conn) (s : Server) (t : Trace) (l : Log) (a : ℕ → ℕ) (k g : ℕ) (asking : Bool) (r : Reply) (place : ℕ) → Connections c conns a → Contents c conns s t l a → ReplyTaken c conns s t l k g asking r place
-    → is_unsettled (c.outcome g) ≡ true → (o : Outcome) → heard c g asking r ≡ Settles o → Marked c (noted c g o r.body) conns s t l a g o
-marks c conns s t l a k g asking r place cn i d u (WasOk v) he =
-    let P : Client → Type 0 = λ e. Marked c e conns s t l a g (WasOk v) in
+notes : (c : Client) (conns : ℕ → Conn) (s : Server) (t : Trace) (l : Log) (a : ℕ → ℕ) (k g : ℕ) (asking : Bool) (r : Reply) (place : ℕ) → Connections c conns a → Contents c conns s t l a → ReplyTaken c conns s t l k g asking r place
+    → is_unsettled (c.outcome g) ≡ true → (o : Outcome) → heard c g asking r ≡ Settles o → NotesReply c (noted c g o r.body) conns s t l a g o
+notes c conns s t l a k g asking r place cn i d u (WasOk v) he =
+    let P : Client → Type 0 = λ e. NotesReply c e conns s t l a g (WasOk v) in
     either P (is_create (c.op g)) _ _
     (λ cr. let b = ok_by c g asking r (WasOk v) he refl (create_closes (c.op g) cr) in let q = d.create_reply b.1 (create_makes (c.op g) cr) b.0 in
     record {
@@ -299,15 +299,15 @@ marks c conns s t l a k g asking r place cn i d u (WasOk v) he =
     (λ cr. either P (is_close (c.op g)) _ _
     (λ _. record { holds = shuts_keeps c conns s t l a (create_for c g) i; op = refl; outcome = refl; file = λ _. refl; made = λ mk ok. absurd (other_makes (c.op g) cr mk) })
     (λ _. record { holds = i; op = refl; outcome = refl; file = λ _. refl; made = λ mk ok. absurd (other_makes (c.op g) cr mk) }))
-marks c conns s t l a k g asking r place cn i d u Unsettled he = same_marked c conns s t l a g Unsettled refl i
-marks c conns s t l a k g asking r place cn i d u (WasRefused status) he = same_marked c conns s t l a g (WasRefused status) refl i
-marks c conns s t l a k g asking r place cn i d u (NoSlot create) he = same_marked c conns s t l a g (NoSlot create) refl i
-marks c conns s t l a k g asking r place cn i d u (NoOpen create) he = same_marked c conns s t l a g (NoOpen create) refl i
-marks c conns s t l a k g asking r place cn i d u (Unknown why) he = same_marked c conns s t l a g (Unknown why) refl i
+notes c conns s t l a k g asking r place cn i d u Unsettled he = same_noted c conns s t l a g Unsettled refl i
+notes c conns s t l a k g asking r place cn i d u (WasRefused status) he = same_noted c conns s t l a g (WasRefused status) refl i
+notes c conns s t l a k g asking r place cn i d u (NoSlot create) he = same_noted c conns s t l a g (NoSlot create) refl i
+notes c conns s t l a k g asking r place cn i d u (NoOpen create) he = same_noted c conns s t l a g (NoOpen create) refl i
+notes c conns s t l a k g asking r place cn i d u (Unknown why) he = same_noted c conns s t l a g (Unknown why) refl i
 
-marks_full : (c d : Client) (conns : ℕ → Conn) (s : Server) (t : Trace) (l : Log) (a : ℕ → ℕ) (g : ℕ) (o : Outcome) (asking : Bool) (status : ℕ) → Marked c d conns s t l a g o → Marked c (noted_full d g asking status) conns s t l a g o
-marks_full c d conns s t l a g o asking status m =
-    either (λ e. Marked c e conns s t l a g o) (is_lock (d.op g) && (not asking && (status == disk_full))) _ _
+notes_full : (c d : Client) (conns : ℕ → Conn) (s : Server) (t : Trace) (l : Log) (a : ℕ → ℕ) (g : ℕ) (o : Outcome) (asking : Bool) (status : ℕ) → NotesReply c d conns s t l a g o → NotesReply c (noted_full d g asking status) conns s t l a g o
+notes_full c d conns s t l a g o asking status m =
+    either (λ e. NotesReply c e conns s t l a g o) (is_lock (d.op g) && (not asking && (status == disk_full))) _ _
     (λ _. record { holds = fills_keeps d conns s t l a (create_for d g) (d.slot_of g) m.holds; op = m.op; outcome = m.outcome; file = m.file; made = m.made }) (λ _. m)
 
 -- ---- what the reply said, by how the operation settles
@@ -418,12 +418,12 @@ settles : (c : Client) (conns : ℕ → Conn) (s : Server) (t : Trace) (l : Log)
     → is_unsettled (c.outcome g) ≡ true → heard c g asking r ≡ Settles o → Contents (settle c g asking r place o) conns s t l a
 settles c conns s t l a k g asking r place o cn i d u he =
     let firm = heard_firm c g asking r o he in
-    let n = full_connections c (noted c g o r.body) conns a g asking r.status (noted_connections c conns a g r.body cn (some_of (c.on g) k d.on) o) in
-    let m = marks_full c (noted c g o r.body) conns s t l a g o asking r.status (marks c conns s t l a k g asking r place cn i d u o he) in
-    by_marked (noted_full (noted c g o r.body) g asking r.status) n m firm
+    let n = full_connections c (noted c g o r.body) conns a g asking r.status (noted_connections c conns a g r.body cn (some_of (c.outstanding_on g) k d.outstanding_on) o) in
+    let m = notes_full c (noted c g o r.body) conns s t l a g o asking r.status (notes c conns s t l a k g asking r place cn i d u o he) in
+    by_notes (noted_full (noted c g o r.body) g asking r.status) n m firm
   where
-    by_marked : (e : Client) → Noted c e conns a → Marked c e conns s t l a g o → is_unsettled o ≡ false → Contents (if settles_open (c.op g) then with_no_opens (settled e g o place) (create_for c g) else settled e g o place) conns s t l a
-    by_marked e n m firm =
+    by_notes : (e : Client) → Noted c e conns a → NotesReply c e conns s t l a g o → is_unsettled o ≡ false → Contents (if settles_open (c.op g) then with_no_opens (settled e g o place) (create_for c g) else settled e g o place) conns s t l a
+    by_notes e n m firm =
         let opg : e.op g ≡ c.op g = ap (λ f. f g) m.op in
         let h : Contents (settled e g o place) conns s t l a =
         settle_keeps e conns s t l a g place o (ap (λ f. is_unsettled (f g)) m.outcome ∙ u) d.above firm d.within d.who d.since
@@ -435,12 +435,12 @@ settles c conns s t l a k g asking r place o cn i d u he =
         dead c conns s t l a k g asking r place o cn i d he j q x hx tk ed2 (subst (λ p. formed p ≡ true) opg fm) (subst (λ f. s.standing f ≡ true) fl sd) pr (subst (λ f. s.sequence f ≤ x.message.sequence) fl le))
         m.holds in
         either (λ e. Contents e conns s t l a) (settles_open (c.op g)) (with_no_opens (settled e g o place) (create_for c g)) (settled e g o place)
-        (λ _. no_opens (settled e g o place) conns s t l a (create_for c g) (settle_connections e conns a k g place o (ap (λ f. f g) n.on ∙ d.on) d.none firm n.keeps).bodies h)
+        (λ _. no_opens (settled e g o place) conns s t l a (create_for c g) (settle_connections e conns a k g place o (ap (λ f. f g) n.outstanding_on ∙ d.outstanding_on) d.none firm n.keeps).bodies h)
         (λ _. h)
 
 -- ---- what is outstanding on an open connection
 
-pub out_of : (c : Client) (conns : ℕ → Conn) (a : ℕ → ℕ) → Connections c conns a → TokenUp c conns → (j n p : ℕ) (x : Sent) → slice_get (conns j).up n ≡ Some x → x.token ≡ ForOp p → (conns j).client_open ≡ true → c.on p ≡ Some j × c.asking p ≡ false
+pub out_of : (c : Client) (conns : ℕ → Conn) (a : ℕ → ℕ) → Connections c conns a → TokenUp c conns → (j n p : ℕ) (x : Sent) → slice_get (conns j).up n ≡ Some x → x.token ≡ ForOp p → (conns j).client_open ≡ true → c.outstanding_on p ≡ Some j × c.asks_attach p ≡ false
 out_of c conns a cn tu j n p x h e o =
     (cn.outstanding j p o (let z = own_up_count p (conns j).up n x h e in omega (arith, z)) (subst (λ q. 0 < q) (ap op_of e) (tu j n x h (ops_of x.token p e)).0), cn.own_up j n p x h o e)
 
@@ -478,8 +478,8 @@ no_attach_refused op asking unanswered status =
 
 attaches_by : (c : Client) (g : ℕ) (asking : Bool) (r : Reply) → heard c g asking r ≡ Attaches → r.status ≡ success
 attaches_by c g asking r e =
-    eqb-true r.status success (attach_line (r.status == user_session_deleted) (r.status == success) (goes_again c g asking r.status) asking (ok_or_unknown (value_in (c.op g) r.body)) (refused (c.op g) asking (c.before g) r.status)
-    (λ o. no_attach_ok (value_in (c.op g) r.body) o) (λ o z f. no_attach_refused (c.op g) asking (c.before g) r.status (sym z ∙ f)) e)
+    eqb-true r.status success (attach_line (r.status == user_session_deleted) (r.status == success) (goes_again c g asking r.status) asking (ok_or_unknown (value_in (c.op g) r.body)) (refused (c.op g) asking (c.unanswered g) r.status)
+    (λ o. no_attach_ok (value_in (c.op g) r.body) o) (λ o z f. no_attach_refused (c.op g) asking (c.unanswered g) r.status (sym z ∙ f)) e)
 
 -- ---- what a reply does
 
@@ -502,19 +502,19 @@ hears w a k g asking r place cn i d u EndsSession e =
     leave_keeps (answered w.client g) w.conns w.server w.trace w.log a (mine i.token_up) (λ j n p x h z. (cn.bodies j n p x h z).0)
     (answered_keeps w.client w.conns w.server w.trace w.log a g (λ ed b own. d.not_done (sym d.asks ∙ own) ed (deleted_other r.status st) b) i)
   where
-    mine : TokenUp w.client w.conns → (j n p : ℕ) (x : Sent) → slice_get (w.conns j).up n ≡ Some x → x.token ≡ ForOp p → (w.conns j).client_open ≡ true → put w.client.on g None p ≡ Some j × w.client.asking p ≡ false
+    mine : TokenUp w.client w.conns → (j n p : ℕ) (x : Sent) → slice_get (w.conns j).up n ≡ Some x → x.token ≡ ForOp p → (w.conns j).client_open ≡ true → put w.client.outstanding_on g None p ≡ Some j × w.client.asks_attach p ≡ false
     mine tu j n p x h z o =
         let q = out_of w.client w.conns a cn tu j n p x h z o in
-        (off_other w.client.on g p (Some j) (λ pg. gone_here (subst (λ r. w.client.on r ≡ Some j) pg q.0) (subst (λ r. 1 ≤ copies r (w.conns j)) pg (more j p (own_up_count p (w.conns j).up n x h z)))) q.0, q.1)
+        (off_other w.client.outstanding_on g p (Some j) (λ pg. gone_here (subst (λ r. w.client.outstanding_on r ≡ Some j) pg q.0) (subst (λ r. 1 ≤ copies r (w.conns j)) pg (more j p (own_up_count p (w.conns j).up n x h z)))) q.0, q.1)
       where
         more : (j p : ℕ) → 1 ≤ count_up p (w.conns j).up → 1 ≤ copies p (w.conns j)
         more j p one = omega (arith, one)
 
-        gone_here : w.client.on g ≡ Some j → 1 ≤ copies g (w.conns j) → ⊥
-        gone_here at one = let q = d.on in let z = d.none in let jk : j ≡ k = same_some (w.client.on g) j k at q in let one2 = subst (λ v. 1 ≤ copies g (w.conns v)) jk one in omega (arith, one2, z)
+        gone_here : w.client.outstanding_on g ≡ Some j → 1 ≤ copies g (w.conns j) → ⊥
+        gone_here at one = let q = d.outstanding_on in let z = d.none in let jk : j ≡ k = same_some (w.client.outstanding_on g) j k at q in let one2 = subst (λ v. 1 ≤ copies g (w.conns v)) jk one in omega (arith, one2, z)
 
 pub took : (w : World) (a : ℕ → ℕ) (k g : ℕ) (asking : Bool) (r : Reply) (place : ℕ) → Connections w.client w.conns a → Contents w.client w.conns w.server w.trace w.log a
-    → (w.client.on g ≡ Some k → w.client.asking g ≡ asking → ReplyTaken w.client w.conns w.server w.trace w.log k g asking r place)
+    → (w.client.outstanding_on g ≡ Some k → w.client.asks_attach g ≡ asking → ReplyTaken w.client w.conns w.server w.trace w.log k g asking r place)
     → ContentsHold (op_took w k g asking r place) a
 took w a k g asking r place cn i told =
     both_ways (λ c x. ContentsHold (with_client (closed_by w k x) c) a) (is_awaited w.client k g asking) (hear w.client g asking r place (heard w.client g asking r)) w.client
@@ -522,7 +522,7 @@ took w a k g asking r place cn i told =
     (λ aw. let q = awaited_of w.client k g asking aw in hears w a k g asking r place cn i (told q.0 q.1) (pending q.0) (heard w.client g asking r) refl)
     (λ _. i)
   where
-    pending : w.client.on g ≡ Some k → is_unsettled (w.client.outcome g) ≡ true
+    pending : w.client.outstanding_on g ≡ Some k → is_unsettled (w.client.outcome g) ≡ true
     pending at = by_test (is_unsettled (w.client.outcome g)) refl
       where
         no_some : (o : Option ℕ) → o ≡ None → o ≡ Some k → ⊥
@@ -530,4 +530,4 @@ took w a k g asking r place cn i told =
 
         by_test : (b : Bool) → is_unsettled (w.client.outcome g) ≡ b → is_unsettled (w.client.outcome g) ≡ true
         by_test true e = e
-        by_test false e = absurd (no_some (w.client.on g) (cn.settled g e) at)
+        by_test false e = absurd (no_some (w.client.outstanding_on g) (cn.settled g e) at)

@@ -63,22 +63,22 @@ place_facts w a q i iso =
       by_ok = λ g p v o e s. let k = of_open w q g o in i.by_ok g p v k.1 e s;
       by_end = λ g p o e s. i.by_end g p e s;
       by_some = λ g o s. i.by_some g (firm_of (w.client.op g) (w.client.outcome g) s);
-      prior = λ g h p o e pl. by_first g h p (of_open w q g o) z.0 e (w.log.first g) (w.client.by g) refl refl pl;
-      since = λ h p o pl. since_by h p (w.log.first h) (w.client.by h) refl refl pl;
+      prior = λ g h p o e pl. by_first g h p (of_open w q g o) z.0 e (w.log.first g) (w.client.settled_by g) refl refl pl;
+      since = λ h p o pl. since_by h p (w.log.first h) (w.client.settled_by h) refl refl pl;
     }
   where
     since_birth : (g p : ℕ) → create_at w.client g ≡ q × lists (w.client.op g) ≡ true → p < w.log.places → w.log.who p ≡ g → 0 < g → w.log.birth q ≤ p
     since_birth g p k l e m =
         subst (λ r. w.log.birth r ≤ p) (ap (create_at w.client) e ∙ k.0) (i.born p l (subst (λ h. 0 < h) (sym e) m) (listed_other _ (ap (λ h. lists (w.client.op h)) e ∙ k.1)))
 
-    by_first : (g h p : ℕ) → create_at w.client g ≡ q × lists (w.client.op g) ≡ true → isolating (w.client.op q) ≡ true → w.log.prior h g ≡ true → (first by : Option ℕ) → w.log.first g ≡ first → w.client.by g ≡ by → placed first by ≡ Some p → p < w.log.since h
+    by_first : (g h p : ℕ) → create_at w.client g ≡ q × lists (w.client.op g) ≡ true → isolating (w.client.op q) ≡ true → w.log.prior h g ≡ true → (first by : Option ℕ) → w.log.first g ≡ first → w.client.settled_by g ≡ by → placed first by ≡ Some p → p < w.log.since h
     by_first g h p k iq e (Some n) by f b pl =
         let x = i.first_at g n f in
         let y = i.acted n x.0 x.3 (ap (λ r. lists (w.client.op r)) x.1 ∙ k.1) (ap (λ r. isolating (w.client.op (create_at w.client r))) x.1 ∙ (ap (λ r. isolating (w.client.op r)) k.0 ∙ iq)) in
         i.prior_first h g p (ap (λ r. edits (w.client.op r)) (sym x.1) ∙ y.1) e (f ∙ pl)
     by_first g h p k iq e None by f b pl = i.prior_by h g p e (b ∙ pl)
 
-    since_by : (h p : ℕ) → (first by : Option ℕ) → w.log.first h ≡ first → w.client.by h ≡ by → placed first by ≡ Some p → w.log.since h ≤ p
+    since_by : (h p : ℕ) → (first by : Option ℕ) → w.log.first h ≡ first → w.client.settled_by h ≡ by → placed first by ≡ Some p → w.log.since h ≤ p
     since_by h p (Some n) by f b pl = i.since_first h p (f ∙ pl)
     since_by h p None by f b pl = i.since_by h p (b ∙ pl)
 

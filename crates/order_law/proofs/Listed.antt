@@ -11,7 +11,7 @@ use Rattle.exchange_defs.specs.State.{Server, Message, Body, Empty, Count}
 use Rattle.exchange_defs.specs.Files.{is_directory, passes_room}
 use Rattle.exchange_defs.specs.Ranges.{may_read, may_write}
 use Rattle.exchange_defs.specs.Opens.{is_of_session}
-use Rattle.exchange_defs.specs.Verdict.{Verdict, Refuse, Give, KeepRefusal, Repeat, Attach, Make, TurnDown, Tell, Show, KeepSlot, PutRanges, Alter, Shut, Challenge, ChallengeBinding, Begin, Join, EndSession, AddTree, DropTree, Change, PutBytes, PutEnd, PutNothing}
+use Rattle.exchange_defs.specs.Verdict.{Verdict, Refuse, Give, KeepRefusal, Repeat, Attach, Make, TurnDown, Tell, Show, KeepSlot, PutRanges, Alter, CloseOpen, Challenge, ChallengeBinding, Begin, Join, EndSession, AddTree, DropTree, Change, PutBytes, PutEnd, PutNothing}
 use Rattle.exchange_defs.specs.CheckCreate.{has_guid, reconnect_check, reconnect_or_create}
 use Rattle.exchange_defs.specs.CheckOpen.{is_late, file_of, has_access, changes_nothing, bytes_change, write_check, read_check, there, set_check, is_repeated}
 use Rattle.exchange_defs.specs.CheckSetup.{tree_in}
@@ -277,7 +277,7 @@ listed_without_room s m op o (Make r found action) h = absurd (h.is)
 listed_without_room s m op o (Show p last body) h = absurd (h.is)
 listed_without_room s m op o (KeepSlot p index number status elements) h = absurd (h.is)
 listed_without_room s m op o (PutRanges p index number ranges elements) h = absurd (h.is)
-listed_without_room s m op o (Shut p body) h = absurd (h.is)
+listed_without_room s m op o (CloseOpen p body) h = absurd (h.is)
 listed_without_room s m op o Challenge h = absurd (h.is)
 listed_without_room s m op o (ChallengeBinding session) h = absurd (h.is)
 listed_without_room s m op o (Begin session user previous r is_quiet) h = absurd (h.is)
@@ -292,11 +292,11 @@ pub record AttachRefused (s : Server) (m : Message) (c : Reconnect) (status : �
   pub ok : (status == success) ≡ false
   pub end : (status == end_of_file) ≡ false
   pub gone : (status == user_session_deleted) ≡ false → form m.command ≡ None → s.standing c.file ≡ true → has_guid c.guid (s.opened c.file).guid ≡ true → (has_session s m ≡ true → same_name (s.opened c.file).user (s.user m.session) ≡ true)
-      → (is_some (s.at c.file) && not (is_at m.session (s.at c.file))) ≡ true
+      → (is_some (s.session_of_open c.file) && not (is_at m.session (s.session_of_open c.file))) ≡ true
 
 abbrev pub AskedBy : Server → Message → Reconnect → Verdict → Type 0
 AskedBy s m c (Refuse status) = AttachRefused s m c status
-AskedBy s m c (Attach p r) = p ≡ c.file × (is_some (s.at c.file) && not (is_at m.session (s.at c.file))) ≡ false
+AskedBy s m c (Attach p r) = p ≡ c.file × (is_some (s.session_of_open c.file) && not (is_at m.session (s.session_of_open c.file))) ≡ false
 AskedBy s m c _ = ⊥
 
 pub record Asked (s : Server) (m : Message) (c : Reconnect) (v : Verdict) : Type 0 where
@@ -312,7 +312,7 @@ asked_open : (s : Server) (m : Message) (r : CreateRequest) (c : Reconnect) → 
 asked_open s m r c hs =
     either (Asked s m c) (not (s.standing c.file && has_guid c.guid (s.opened c.file).guid)) _ _ (λ e. record { is = record { ok = refl; end = refl; gone = λ u f st gd us. absurd (no_test (s.standing c.file) (has_guid c.guid (s.opened c.file).guid) e st gd) } })
     (λ _. either (Asked s m c) (not (same_name (s.opened c.file).user (s.user m.session))) _ _ (λ e. record { is = record { ok = refl; end = refl; gone = λ u f st gd us. absurd (no_name (same_name (s.opened c.file).user (s.user m.session)) e (us hs)) } })
-    (λ _. either (Asked s m c) (is_some (s.at c.file) && not (is_at m.session (s.at c.file))) _ _ (λ e. record { is = record { ok = refl; end = refl; gone = λ u f st gd us. e } })
+    (λ _. either (Asked s m c) (is_some (s.session_of_open c.file) && not (is_at m.session (s.session_of_open c.file))) _ _ (λ e. record { is = record { ok = refl; end = refl; gone = λ u f st gd us. e } })
     (λ e. record { is = (refl, e) })))
 
 asked_tree : (s : Server) (m : Message) (r : CreateRequest) (c : Reconnect) → has_session s m ≡ true → m.command ≡ Create r → r.reconnect ≡ Some c → (t : Option Bool) → is_some t ≡ true → (t ≡ Some true → s.standing c.file ≡ true → ⊥) → Asked s m c (in_tree s m t)
@@ -345,7 +345,7 @@ asked_without_room s m c (Make r found action) h = absurd (h.is)
 asked_without_room s m c (Show p last body) h = absurd (h.is)
 asked_without_room s m c (KeepSlot p index number status elements) h = absurd (h.is)
 asked_without_room s m c (PutRanges p index number ranges elements) h = absurd (h.is)
-asked_without_room s m c (Shut p body) h = absurd (h.is)
+asked_without_room s m c (CloseOpen p body) h = absurd (h.is)
 asked_without_room s m c Challenge h = absurd (h.is)
 asked_without_room s m c (ChallengeBinding session) h = absurd (h.is)
 asked_without_room s m c (Begin session user previous r is_quiet) h = absurd (h.is)

@@ -13,7 +13,7 @@ use Rattle.exchange_defs.specs.CheckSetup.{tree_in}
 use Rattle.exchange_defs.specs.Check.{has_session, tree_command, in_tree, command_check, formed, owed, check}
 use Rattle.exchange_defs.specs.Effects.{apply, reach, attached, file_made, make_open, next_open, guid_of, set_ranges}
 use Rattle.exchange_defs.specs.CheckOpen.{file_of}
-use Rattle.exchange_defs.specs.Verdict.{Verdict, Refuse, Give, KeepRefusal, Repeat, Attach, Make, TurnDown, Tell, Show, KeepSlot, PutRanges, Alter, Shut, Challenge, ChallengeBinding, Begin, Join, EndSession, AddTree, DropTree}
+use Rattle.exchange_defs.specs.Verdict.{Verdict, Refuse, Give, KeepRefusal, Repeat, Attach, Make, TurnDown, Tell, Show, KeepSlot, PutRanges, Alter, CloseOpen, Challenge, ChallengeBinding, Begin, Join, EndSession, AddTree, DropTree}
 use Rattle.exchange_defs.specs.Step.{step, without_room}
 use Rattle.exchange_defs.specs.Network.{answer_to}
 use Rattle.server_law.proofs.Doors.{by_verdict, recorded, Finds}
@@ -56,8 +56,8 @@ new_creation s m r f =
 
 live_creation : (s : Server) (m : Message) (r : CreateRequest) (o : ℕ) → Creation (live_check s m r o)
 live_creation s m r o =
-    either Creation (not m.replay) _ _ (λ _. record { is = refl }) (λ _. either Creation (is_at m.session (s.at o)) _ _ (λ _. record { is = refl })
-    (λ _. either Creation (is_some (s.at o) || not (s.opened o).persistent) _ _ (λ _. record { is = refl }) (λ _. either Creation (same_name (s.opened o).user (s.user m.session)) _ _ (λ _. record { is = refl }) (λ _. record { is = refl }))))
+    either Creation (not m.replay) _ _ (λ _. record { is = refl }) (λ _. either Creation (is_at m.session (s.session_of_open o)) _ _ (λ _. record { is = refl })
+    (λ _. either Creation (is_some (s.session_of_open o) || not (s.opened o).persistent) _ _ (λ _. record { is = refl }) (λ _. either Creation (same_name (s.opened o).user (s.user m.session)) _ _ (λ _. record { is = refl }) (λ _. record { is = refl }))))
 
 refusal_creation : (s : Server) (m : Message) (r : CreateRequest) (k : Option ℕ) → Creation (refusal_check s m r k)
 refusal_creation s m r (Some status) = record { is = refl }
@@ -66,12 +66,12 @@ refusal_creation s m r None = new_creation s m r (find s r.path)
 guid_creation : (s : Server) (m : Message) (r : CreateRequest) (d : Durable) (o : Option ℕ) → Creation (guid_check s m r d o)
 guid_creation s m r d (Some o) = live_creation s m r o
 guid_creation s m r d None =
-    either Creation (s.closed m.session d.guid) _ _ (λ _. record { is = refl }) (λ _. either Creation (s.marks m.client d.guid) _ _ (λ _. record { is = refl }) (λ _. refusal_creation s m r (s.refused m.session d.guid)))
+    either Creation (s.closed m.session d.guid) _ _ (λ _. record { is = refl }) (λ _. either Creation (s.expired_guids m.client d.guid) _ _ (λ _. record { is = refl }) (λ _. refusal_creation s m r (s.refused m.session d.guid)))
 
 reconnect_creation : (s : Server) (m : Message) (r : CreateRequest) (c : Reconnect) → Creation (reconnect_check s m r c)
 reconnect_creation s m r c =
     either Creation (not (s.standing c.file && has_guid c.guid (s.opened c.file).guid)) _ _ (λ _. record { is = refl }) (λ _. either Creation (not (same_name (s.opened c.file).user (s.user m.session))) _ _ (λ _. record { is = refl })
-    (λ _. either Creation (is_some (s.at c.file) && not (is_at m.session (s.at c.file))) _ _ (λ _. record { is = refl }) (λ _. record { is = refl })))
+    (λ _. either Creation (is_some (s.session_of_open c.file) && not (is_at m.session (s.session_of_open c.file))) _ _ (λ _. record { is = refl }) (λ _. record { is = refl })))
 
 durable_creation : (s : Server) (m : Message) (r : CreateRequest) (d : Option Durable) → Creation (durable_check s m r d)
 durable_creation s m r None = new_creation s m r (find s r.path)
@@ -109,7 +109,7 @@ creation_without_room (Show o last body) h = absurd (cc)
 creation_without_room (KeepSlot o index number status elements) h = absurd (cc)
 creation_without_room (PutRanges o index number ranges elements) h = absurd (cc)
 creation_without_room (Alter o change body) h = absurd (cc)
-creation_without_room (Shut o body) h = absurd (cc)
+creation_without_room (CloseOpen o body) h = absurd (cc)
 creation_without_room Challenge h = absurd (cc)
 creation_without_room (ChallengeBinding session) h = absurd (cc)
 creation_without_room (Begin session user previous r is_quiet) h = absurd (cc)
@@ -146,7 +146,7 @@ pub record Making (s : Server) (m : Message) (A : Answer) : Type 0 where
   pub guid : (p q o : ℕ) → A.server.by_guid p q ≡ Some o → (s.by_guid p q ≡ Some o) ⊎ (creates m.command ≡ true × A.acted ≡ true × A.reached ≡ Some o × p ≡ m.client × asks_guid m.command ≡ Some q)
   pub new : (o : ℕ) → A.server.standing o ≡ true → (s.standing o ≡ true) ⊎ (creates m.command ≡ true × A.acted ≡ true × A.reached ≡ Some o)
   pub row : (o : ℕ) → creates m.command ≡ true → A.acted ≡ true → A.reached ≡ Some o
-      → (A.server.opened o).guid ≡ asks_guid m.command × (A.server.opened o).client ≡ m.client × (A.server.opened o).share ≡ asks_share m.command × id_of s.epoch s.given < o
+      → (A.server.opened o).guid ≡ asks_guid m.command × (A.server.opened o).client ≡ m.client × (A.server.opened o).share ≡ asks_share m.command × id_of s.epoch s.open_ids_given < o
   pub acts : creates m.command ≡ true → A.acted ≡ true → is_some A.reached ≡ true
   pub fresh : creates m.command ≡ true → A.acted ≡ true → attaches m.command ≡ false
   pub pair : creates m.command ≡ true → Pair A.server m.session 0 (id_in A.reply.body)
@@ -202,11 +202,11 @@ other_made s m A v n f h = none_made s m A h (λ c. absurd (let z = f c in grind
 no_zero : (s t : Server) (x : ℕ) → ((o : ℕ) → s.standing o ≡ true → 0 < o) → Less s t → Pair t x 0 0
 no_zero s t x above h st pr = absurd (let l = above 0 (h.stands 0 st) in omega (arith, l))
 
-not_other : (s : Server) (m : Message) (o : ℕ) → (s.at o ≡ Some m.session) ⊎ (s.at o ≡ None) → (is_some (s.at o) && not (is_at m.session (s.at o))) ≡ false
+not_other : (s : Server) (m : Message) (o : ℕ) → (s.session_of_open o ≡ Some m.session) ⊎ (s.session_of_open o ≡ None) → (is_some (s.session_of_open o) && not (is_at m.session (s.session_of_open o))) ≡ false
 not_other s m o (inl e) = grind arith
 not_other s m o (inr e) = grind arith
 
-attached_pair : (s : Server) (m : Message) (o : ℕ) → (s.at o ≡ Some m.session) ⊎ (s.at o ≡ None) → Pair (attached s m o) m.session 0 o
+attached_pair : (s : Server) (m : Message) (o : ℕ) → (s.session_of_open o ≡ Some m.session) ⊎ (s.session_of_open o ≡ None) → Pair (attached s m o) m.session 0 o
 attached_pair s m o h st pr = (joined s m o (not_other s m o h), omega arith)
 
 make_making : (s : Server) (m : Message) (r : CreateRequest) (found : Option ℕ) (action now : ℕ) → m.command ≡ Create r → r.reconnect ≡ None → Making s m (apply s m now (Make r found action))
@@ -258,11 +258,11 @@ make_making s m r found action now e nr =
     row_share : (o : ℕ) → Some (next_open s) ≡ Some o → ((make_open s m r found action now).opened o).share ≡ r.share
     row_share o h = let z : next_open s ≡ o = some_same (next_open s) o h in grind arith
 
-    above : (o : ℕ) → Some (next_open s) ≡ Some o → id_of s.epoch s.given < o
+    above : (o : ℕ) → Some (next_open s) ≡ Some o → id_of s.epoch s.open_ids_given < o
     above o h = let z = some_same (next_open s) o h in omega (arith, z)
 
-    own_at : (make_open s m r found action now).at (next_open s) ≡ Some m.session
-    own_at = put_here u.at (next_open s) (Some m.session)
+    own_at : (make_open s m r found action now).session_of_open (next_open s) ≡ Some m.session
+    own_at = put_here u.session_of_open (next_open s) (Some m.session)
       where
         put_here : (g : ℕ → Option ℕ) (k : ℕ) (v : Option ℕ) → put g k v k ≡ v
         put_here g k v = grind arith
@@ -272,12 +272,12 @@ verdict_making s m now g above (Refuse status) h f = none_made s m _ (less_same 
 verdict_making s m now g above (KeepRefusal guid status) h f = let l = less_same s (apply s m now (KeepRefusal guid status)).server refl refl in none_made s m _ l (λ c. refl) (λ c. no_zero s _ m.session above l)
 verdict_making s m now g above (Repeat o r) h f = none_made s m _ (less_of s _ (attached_moves s m o g.sequence)) (λ c. refl) (λ c. attached_pair s m o (whose h.whose))
   where
-    whose : (s.at o ≡ Some m.session) ⊎ (s.at o ≡ None × (s.opened o).persistent ≡ true × same_name (s.opened o).user (s.user m.session) ≡ true) → (s.at o ≡ Some m.session) ⊎ (s.at o ≡ None)
+    whose : (s.session_of_open o ≡ Some m.session) ⊎ (s.session_of_open o ≡ None × (s.opened o).persistent ≡ true × same_name (s.opened o).user (s.user m.session) ≡ true) → (s.session_of_open o ≡ Some m.session) ⊎ (s.session_of_open o ≡ None)
     whose (inl e) = inl e
     whose (inr e) = inr e.0
 verdict_making s m now g above (Attach o r) h f = none_made s m _ (less_of s _ (attached_moves s m o g.sequence)) (λ c. refl) (λ c. attached_pair s m o (whose h.whose))
   where
-    whose : (s.at o ≡ None) ⊎ (s.at o ≡ Some m.session) → (s.at o ≡ Some m.session) ⊎ (s.at o ≡ None)
+    whose : (s.session_of_open o ≡ None) ⊎ (s.session_of_open o ≡ Some m.session) → (s.session_of_open o ≡ Some m.session) ⊎ (s.session_of_open o ≡ None)
     whose (inl e) = inr e
     whose (inr e) = inl e
 verdict_making s m now g above (Make r found action) h f = make_making s m r found action now h.new.create.command h.new.new
@@ -288,7 +288,7 @@ verdict_making s m now g above (Show o last body) h f = other_made s m _ (Show o
 verdict_making s m now g above (KeepSlot o index number status elements) h f = other_made s m _ (KeepSlot o index number status elements) refl f (less_on s (reach s m o) _ (less_of s _ (reach_moves s m o g.low g.sequence)) (let a = slot_alike (reach s m o) o index number status in less_same (reach s m o) _ a.by_guid a.standing))
 verdict_making s m now g above (PutRanges o index number ranges elements) h f = other_made s m _ (PutRanges o index number ranges elements) refl f (less_on s (reach s m o) _ (less_of s _ (reach_moves s m o g.low g.sequence)) (let a = slot_alike (set_ranges (reach s m o) (file_of s o) ranges) o index number 0 in less_same (reach s m o) _ a.by_guid a.standing))
 verdict_making s m now g above (Alter o change body) h f = other_made s m _ (Alter o change body) refl f (less_on s (reach s m o) _ (less_of s _ (reach_moves s m o g.low g.sequence)) (let a = change_alike (reach s m o) (file_of s o) now change in less_same (reach s m o) _ a.by_guid a.standing))
-verdict_making s m now g above (Shut o body) h f = other_made s m _ (Shut o body) refl f (less_of s _ (shut_moves s o m.session (s.opened o).guid))
+verdict_making s m now g above (CloseOpen o body) h f = other_made s m _ (CloseOpen o body) refl f (less_of s _ (shut_moves s o m.session (s.opened o).guid))
 verdict_making s m now g above Challenge h f = other_made s m _ Challenge refl f (less_same s _ refl refl)
 verdict_making s m now g above (ChallengeBinding session) h f = other_made s m _ (ChallengeBinding session) refl f (less_same s _ refl refl)
 verdict_making s m now g above (Begin session user previous r is_quiet) h f = other_made s m _ (Begin session user previous r is_quiet) refl f (let e = end_named_moves s now previous is_quiet in record { guid = e.guid; stands = e.stands })
@@ -304,7 +304,7 @@ making_before s t m A k f =
     record {
       guid = λ p q o e. by_guid p q o (f.guid p q o e);
       new = λ o e. by_new o (f.new o e);
-      row = λ o c a r. let h = f.row o c a r in let x = k.moves.epoch in let y = k.moves.given in let l = h.3 in (h.0, h.1, h.2, up s.epoch s.given t.epoch t.given o x y l);
+      row = λ o c a r. let h = f.row o c a r in let x = k.moves.epoch in let y = k.moves.given in let l = h.3 in (h.0, h.1, h.2, up s.epoch s.open_ids_given t.epoch t.open_ids_given o x y l);
       acts = f.acts;
       fresh = f.fresh;
       pair = f.pair;

@@ -14,7 +14,7 @@ pub record Steps (rank : ℕ → ℕ) (s u : Server) : Type 0 where
 -- where no message comes, no open is attached, made or written to either
 pub record Moves (rank : ℕ → ℕ) (s u : Server) : Type 0 where
   pub steps : Steps rank s u
-  pub at : (o x : ℕ) → u.at o ≡ Some x → s.at o ≡ Some x × u.sequence o ≤ s.sequence o
+  pub session_of_open : (o x : ℕ) → u.session_of_open o ≡ Some x → s.session_of_open o ≡ Some x × u.sequence o ≤ s.sequence o
   pub given : (o : ℕ) → u.standing o ≡ true → o ≤ last_id s
   pub content : u.content ≡ s.content
   pub guid : (p g o : ℕ) → u.by_guid p g ≡ Some o → s.by_guid p g ≡ Some o

@@ -36,21 +36,21 @@ record Alike (w v : World) : Type 0 where
   rank : v.client.rank ≡ w.client.rank
 
 ids : World → ℕ
-ids w = id_of w.server.epoch w.server.given
+ids w = id_of w.server.epoch w.server.open_ids_given
 
 -- what the server does between two places
 record Goes (w v : World) : Type 0 where
-  pair : (x q o : ℕ) → 0 < w.client.rank x → o ≤ id_of w.server.epoch w.server.given → Pair w.server x q o → Pair v.server x q o
-  ids_up : id_of w.server.epoch w.server.given ≤ id_of v.server.epoch v.server.given
+  pair : (x q o : ℕ) → 0 < w.client.rank x → o ≤ id_of w.server.epoch w.server.open_ids_given → Pair w.server x q o → Pair v.server x q o
+  ids_up : id_of w.server.epoch w.server.open_ids_given ≤ id_of v.server.epoch v.server.open_ids_given
   low : LowSequences v.server
 
 goes_same : (w v : World) → v.server ≡ w.server → LowSequences w.server → Goes w v
 goes_same w v e low =
-    record { pair = λ x q o r l p. subst (λ s. Pair s x q o) (sym e) p; ids_up = subst (λ (s : Server). id_of w.server.epoch w.server.given ≤ id_of s.epoch s.given) (sym e) (omega arith); low = subst LowSequences (sym e) low }
+    record { pair = λ x q o r l p. subst (λ s. Pair s x q o) (sym e) p; ids_up = subst (λ (s : Server). id_of w.server.epoch w.server.open_ids_given ≤ id_of s.epoch s.open_ids_given) (sym e) (omega arith); low = subst LowSequences (sym e) low }
 
 goes_moves : (w v : World) → Moves w.server v.server → LowSequences w.server → Goes w v
 goes_moves w v m low =
-    record { pair = λ x q o r l p. m.pair x q o p; ids_up = let a = m.epoch in let b = m.given in same_id w.server.epoch w.server.given v.server.epoch v.server.given a b; low = m.low low }
+    record { pair = λ x q o r l p. m.pair x q o p; ids_up = let a = m.epoch in let b = m.given in same_id w.server.epoch w.server.open_ids_given v.server.epoch v.server.open_ids_given a b; low = m.low low }
   where
     same_id : (a b c d : ℕ) → c ≡ a → d ≡ b → id_of a b ≤ id_of c d
     same_id a b c d e f = omega (arith, e, f)
@@ -61,7 +61,7 @@ kept w v a g n =
     record {
       ranked = λ i o l h. let old = n.ranked i o in grind arith;
       ranked_change = λ i o l h. let old = n.ranked_change i o in grind arith;
-      reached_given = λ i o l h. let old : o ≤ id_of w.server.epoch w.server.given = n.reached_given i o (subst (λ p. i < p) pl l) (ap (λ t. t.reached i) (sym tr) ∙ h) in let up = g.ids_up in omega (arith, old, up);
+      reached_given = λ i o l h. let old : o ≤ id_of w.server.epoch w.server.open_ids_given = n.reached_given i o (subst (λ p. i < p) pl l) (ap (λ t. t.reached i) (sym tr) ∙ h) in let up = g.ids_up in omega (arith, old, up);
       held = λ i o l h.
           let l' : i < w.log.places = subst (λ p. i < p) pl l in let h' : w.trace.reached i ≡ Some o = ap (λ t. t.reached i) (sym tr) ∙ h in
           subst (λ t. Pair v.server (t.session i) (t.sequence i) o) (sym tr) (g.pair (w.trace.session i) (w.trace.sequence i) o (n.ranked i o l' h') (n.reached_given i o l' h') (n.held i o l' h'));
@@ -112,8 +112,8 @@ in_order : (w : World) (m : Message) (A : Answer) → Below w → Newest w → F
 in_order w m A b n f i o l a h =
     let c = f.facts.altered o a in let r = f.ranked_change o a in let rx = n.ranked i o l h in
     let here : m.session ≡ w.client.accepted = b.present_accepted m.session c.0 r in
-    let some : 0 < w.client.accepts = (let z = b.ranks m.session in omega (arith, z, r)) in
-    let last : w.client.rank m.session ≡ w.client.accepts = ap w.client.rank here ∙ b.last_rank some in
+    let some : 0 < w.client.accepted_count = (let z = b.ranks m.session in omega (arith, z, r)) in
+    let last : w.client.rank m.session ≡ w.client.accepted_count = ap w.client.rank here ∙ b.last_rank some in
     let le = b.ranks (w.trace.session i) in
     not_newer (w.client.rank (w.trace.session i)) (w.client.rank m.session) (w.trace.sequence i) m.sequence (omega (arith, last, le))
     (λ e. let z : w.trace.session i ≡ m.session = b.rank_once (w.trace.session i) m.session rx e in
@@ -129,7 +129,7 @@ absorb_newest w k x rest A b n f low =
       ranked_change = λ i o l. split (λ j. v.trace.altered j ≡ Some o → 0 < w.client.rank (v.trace.session j)) N i l
           (λ lt h. subst (λ s. 0 < w.client.rank s) (sym (put_old w.trace.session N m.session i lt)) (n.ranked_change i o lt (sym (put_old w.trace.altered N A.altered i lt) ∙ h)))
           (λ h. subst (λ s. 0 < w.client.rank s) (sym (put_new w.trace.session N m.session)) (f.ranked_change o (sym (put_new w.trace.altered N A.altered) ∙ h)));
-      reached_given = λ i o l. split (λ j. v.trace.reached j ≡ Some o → o ≤ id_of A.server.epoch A.server.given) N i l
+      reached_given = λ i o l. split (λ j. v.trace.reached j ≡ Some o → o ≤ id_of A.server.epoch A.server.open_ids_given) N i l
           (λ lt h. let old = n.reached_given i o lt (sym (put_old w.trace.reached N A.reached i lt) ∙ h) in let up = f.facts.ids in omega (arith, old, up))
           (λ h. (f.facts.reached o (sym (put_new w.trace.reached N A.reached) ∙ h)).0);
       held = λ i o l. split (λ j. v.trace.reached j ≡ Some o → Pair A.server (v.trace.session j) (v.trace.sequence j) o) N i l
@@ -340,7 +340,7 @@ ended_newest w k session tree n =
 
 dialog_newest : (w : World) (k : ℕ) (r : Reply) → PendingUnranked w.client → Newest w → (d : DialogStep) → dialog_step (w.client.stage k) r.status ≡ d → Newest (dialog_took w k r d)
 dialog_newest w k r p n (GoesOn stage) e = kept_server w _ (record { places = refl; did = refl; trace = refl; rank = refl }) refl n
-dialog_newest w k r p n Accepts e = accepted_newest w _ (w.client.accepts + 1) (p k (accepts_of (w.client.stage k) r.status e)) refl refl refl refl n
+dialog_newest w k r p n Accepts e = accepted_newest w _ (w.client.accepted_count + 1) (p k (accepts_of (w.client.stage k) r.status e)) refl refl refl refl n
 dialog_newest w k r p n Binds e = ended_newest w k w.client.session w.client.tree n
 dialog_newest w k r p n Readies e = ended_newest w k w.client.pending r.tree n
 dialog_newest w k r p n (Refuses status) e = kept_server w _ (record { places = refl; did = refl; trace = refl; rank = refl }) refl n

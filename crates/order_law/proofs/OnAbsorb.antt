@@ -42,7 +42,7 @@ apart_of : (conns : ℕ → Conn) (k : ℕ) (x0 : Sent) (rest : List Sent) (j n 
 apart_of conns k x0 rest j n g x once is t h u e = no_twin conns k x0 rest n g x once is t (subst (λ i. slice_get (Front conns k rest i).up n ≡ Some x) e h) u
 
 -- the front is outstanding where it is on an open connection
-front_on : (c : Client) (conns : ℕ → Conn) (k : ℕ) (x0 : Sent) (rest : List Sent) (g : ℕ) → ConnOutstanding c conns → (conns k).up ≡ x0 ∷ rest → x0.token ≡ ForOp g → (conns k).client_open ≡ true → 0 < g → c.on g ≡ Some k
+front_on : (c : Client) (conns : ℕ → Conn) (k : ℕ) (x0 : Sent) (rest : List Sent) (g : ℕ) → ConnOutstanding c conns → (conns k).up ≡ x0 ∷ rest → x0.token ≡ ForOp g → (conns k).client_open ≡ true → 0 < g → c.outstanding_on g ≡ Some k
 front_on c conns k x0 rest g out is t o l = out k g o (more (own_up_count g (conns k).up 0 x0 (front_up (conns k).up x0 rest is) t)) l
   where
     more : 1 ≤ count_up g (conns k).up → 1 ≤ copies g (conns k)
@@ -133,7 +133,7 @@ same_create c s t p q o row e f st = same_guid c p q (some_same _ _ (sym (row p 
 
 record Acts (c : Client) (s : Server) (x0 : Sent) (A : Answer) (g : ℕ) : Type 0 where
   stands : s.standing (file_at c g) ≡ true
-  at : s.at (file_at c g) ≡ Some x0.message.session
+  session_of_open : s.session_of_open (file_at c g) ≡ Some x0.message.session
   there : s.present x0.message.session ≡ true
   newest : s.sequence (file_at c g) ≤ x0.message.sequence
   edit : edits (c.op g) ≡ true
@@ -146,7 +146,7 @@ record Acts (c : Client) (s : Server) (x0 : Sent) (A : Answer) (g : ℕ) : Type 
 acts_of : (c : Client) (s : Server) (t : Trace) (x0 : Sent) (A : Answer) (g : ℕ) → Taking c s t x0 A → x0.token ≡ ForOp g → lists (c.op g) ≡ true → A.acted ≡ true → Acts c s x0 A g
 acts_of c s t x0 A g w tk ls ac =
     let f = w.listed g tk ls in let a = f.acts ac in let d = f.done (is_test A.reply.status success a.4) in
-    record { stands = a.0; at = a.1; there = w.attached (file_at c g) x0.message.session a.1; newest = a.2; edit = edits_of (c.op g) a.3; well = w.well_formed g tk a.6; ok = a.4; reached = a.5; still = d.1; bytes = d.3 }
+    record { stands = a.0; session_of_open = a.1; there = w.attached (file_at c g) x0.message.session a.1; newest = a.2; edit = edits_of (c.op g) a.3; well = w.well_formed g tk a.6; ok = a.4; reached = a.5; still = d.1; bytes = d.3 }
   where
     is_test : (n m : ℕ) → n ≡ m → (n == m) ≡ true
     is_test n m e = grind arith
@@ -298,7 +298,7 @@ absorb_attach_reply c conns s t l a k x0 rest A w current i_attach_reply =
 
 absorb_reached : (c : Client) (conns : ℕ → Conn) (s : Server) (t : Trace) (l : Log) (a : ℕ → ℕ) (k : ℕ) (x0 : Sent) (rest : List Sent) (A : Answer) → (Taking c s t x0 A) → ((j n : ℕ) (y : Received) → slice_get (conns j).down n ≡ Some y → is_ops y.token ≡ true → 0 < c.rank c.session) → Reached c conns s → Reached c (Front conns k rest) A.server
 absorb_reached c conns s t l a k x0 rest A w current i_reached =
-    λ j n p y h e ed fm fin. let h' = was_down conns k rest j n y h in let old = i_reached j n p y h' e ed fm fin in let z = old.1 in let up = w.steps.ids in (w.steps.pair c.session (c.seq_of p) (file_at c p) (current j n y h' (ops_of y.token p e)) old.1 old.0, omega (arith, z, up))
+    λ j n p y h e ed fm fin. let h' = was_down conns k rest j n y h in let old = i_reached j n p y h' e ed fm fin in let z = old.1 in let up = w.steps.ids in (w.steps.pair c.session (c.sequence_of p) (file_at c p) (current j n y h' (ops_of y.token p e)) old.1 old.0, omega (arith, z, up))
 
 absorb_closed_reply : (c : Client) (conns : ℕ → Conn) (s : Server) (t : Trace) (l : Log) (a : ℕ → ℕ) (k : ℕ) (x0 : Sent) (rest : List Sent) (A : Answer) → (Taking c s t x0 A) → ClosedReply c conns s → ClosedReply c (Front conns k rest) A.server
 absorb_closed_reply c conns s t l a k x0 rest A w i_closed_reply =
@@ -314,17 +314,17 @@ absorb_stale_reply c conns s t l a k x0 rest A i_stale_reply =
 
 absorb_session_seq : (c : Client) (conns : ℕ → Conn) (s : Server) (t : Trace) (l : Log) (a : ℕ → ℕ) (k : ℕ) (x0 : Sent) (rest : List Sent) (A : Answer) → (Taking c s t x0 A) → SessionSeq c s → SessionSeq c A.server
 absorb_session_seq c conns s t l a k x0 rest A w i_session_seq =
-    λ o lv at. by_side o lv (w.at o c.session at)
+    λ o lv at. by_side o lv (w.session_of_open o c.session at)
   where
-    by_side : (o : ℕ) → c.live ≡ true → (s.at o ≡ Some c.session × A.server.sequence o ≤ s.sequence o) ⊎ (A.reached ≡ Some o × c.session ≡ x0.message.session × A.server.sequence o ≤ x0.message.sequence) → A.server.sequence o ≤ c.sequence
+    by_side : (o : ℕ) → c.live ≡ true → (s.session_of_open o ≡ Some c.session × A.server.sequence o ≤ s.sequence o) ⊎ (A.reached ≡ Some o × c.session ≡ x0.message.session × A.server.sequence o ≤ x0.message.sequence) → A.server.sequence o ≤ c.sequence
     by_side o lv (inl e) = let old = i_session_seq o lv e.0 in let z = e.1 in omega (arith, old, z)
     by_side o lv (inr e) = let up = w.upto lv (sym e.1) in let z = e.2 in omega (arith, up, z)
 
 absorb_pending_at : (c : Client) (conns : ℕ → Conn) (s : Server) (t : Trace) (l : Log) (a : ℕ → ℕ) (k : ℕ) (x0 : Sent) (rest : List Sent) (A : Answer) → (Taking c s t x0 A) → PendingAt c s → PendingAt c A.server
 absorb_pending_at c conns s t l a k x0 rest A w i_pending_at =
-    λ o j sg e. by_side o j sg (w.at o c.pending e)
+    λ o j sg e. by_side o j sg (w.session_of_open o c.pending e)
   where
-    by_side : (o j : ℕ) → c.stage j ≡ AskedTree → (s.at o ≡ Some c.pending × A.server.sequence o ≤ s.sequence o) ⊎ (A.reached ≡ Some o × c.pending ≡ x0.message.session × A.server.sequence o ≤ x0.message.sequence) → ⊥
+    by_side : (o j : ℕ) → c.stage j ≡ AskedTree → (s.session_of_open o ≡ Some c.pending × A.server.sequence o ≤ s.sequence o) ⊎ (A.reached ≡ Some o × c.pending ≡ x0.message.session × A.server.sequence o ≤ x0.message.sequence) → ⊥
     by_side o j sg (inl e) = i_pending_at o j sg e.0
     by_side o j sg (inr e) = w.fresh (w.ops o e.0) j sg (sym e.1)
 
@@ -339,11 +339,11 @@ absorb_live_replay c conns s t l a k x0 rest A is w once ranked i_live_replay i_
     by_first j n p x h e ed sd pr le b.0 b.1 ((cp.0 b.0 b.1).0) o.0 o.1 (λ z. i_live_replay j o.0 p x o.1 e ed b.0 b.1 b.2 z) (first_was c t l x0 A p f.0 f.1)
   where
     by_first : (j n p : ℕ) (x : Sent) → slice_get (Front conns k rest j).up n ≡ Some x → x.token ≡ ForOp p → edits (c.op p) ≡ true → A.server.standing (file_at c p) ≡ true → A.server.present x.message.session ≡ true → A.server.sequence (file_at c p) ≤ x.message.sequence
-        → s.standing (file_at c p) ≡ true → s.present x.message.session ≡ true → s.at (file_at c p) ≡ Some x.message.session → (m : ℕ) → slice_get (conns j).up m ≡ Some x → (is_some (l.first p) ≡ true → x.message.replay ≡ true)
+        → s.standing (file_at c p) ≡ true → s.present x.message.session ≡ true → s.session_of_open (file_at c p) ≡ Some x.message.session → (m : ℕ) → slice_get (conns j).up m ≡ Some x → (is_some (l.first p) ≡ true → x.message.replay ≡ true)
         → {v : ℕ} → (l.first p ≡ Some v) ⊎ (x0.token ≡ ForOp p × A.acted ≡ true × v ≡ l.places) → x.message.replay ≡ true
     by_first j n p x h e ed sd pr le st there at m hm old (inl z) = old (ap is_some z)
     by_first j n p x h e ed sd pr le st there at m hm old (inr z) =
-        let a = acts_of c s t x0 A p w z.0 (lists_of (c.op p) ed) z.1 in let same : x.message.session ≡ x0.message.session = some_same _ _ (sym at ∙ a.at) in
+        let a = acts_of c s t x0 A p w z.0 (lists_of (c.op p) ed) z.1 in let same : x.message.session ≡ x0.message.session = some_same _ _ (sym at ∙ a.session_of_open) in
         not_false x.message.replay (λ r.
         let less = i_no_replay j m k 0 p x x0 hm (front_up (conns k).up x0 rest is) e z.0 ed (apart_of conns k x0 rest j n p x once is z.0 h e) same r in
         let pair = ((w.reached (file_at c p) a.reached).1 sd (subst (λ y. A.server.present y ≡ true) same pr)).1 in absurd (omega (arith, less, pair, le)))

@@ -24,7 +24,7 @@ cut_asked_as : (c : Client) (conns : ℕ → Conn) (s : Server) (t : Trace) (l :
 cut_asked_as c conns s t l a k i_asked_as =
     λ j n p x. let old = i_asked_as j n p x in grind (arith, get-push)
 
-cut_first_up : (c : Client) (conns : ℕ → Conn) (s : Server) (t : Trace) (l : Log) (a : ℕ → ℕ) (k : ℕ) → ((n p : ℕ) (x : Sent) → slice_get (conns k).up n ≡ Some x → x.token ≡ ForOp p → (conns k).client_open ≡ true → c.on p ≡ Some k × c.asking p ≡ false) → FirstUp c conns l → FirstUp (cut_channel c k) (put conns k (client_off (conns k))) l
+cut_first_up : (c : Client) (conns : ℕ → Conn) (s : Server) (t : Trace) (l : Log) (a : ℕ → ℕ) (k : ℕ) → ((n p : ℕ) (x : Sent) → slice_get (conns k).up n ≡ Some x → x.token ≡ ForOp p → (conns k).client_open ≡ true → c.outstanding_on p ≡ Some k × c.asks_attach p ≡ false) → FirstUp c conns l → FirstUp (cut_channel c k) (put conns k (client_off (conns k))) l
 cut_first_up c conns s t l a k mine i_first_up =
     λ j n p x h e ed b. let h' : slice_get (conns j).up n ≡ Some x = grind arith in let my = mine n p x in let old = i_first_up j n p x h' e ed in grind arith
 
@@ -104,7 +104,7 @@ cut_since_reply : (c : Client) (conns : ℕ → Conn) (s : Server) (t : Trace) (
 cut_since_reply c conns s t l a k i_since_reply =
     λ j n y. let old = i_since_reply j n y in grind (arith, get-push)
 
-pub cut_keeps : (c : Client) (conns : ℕ → Conn) (s : Server) (t : Trace) (l : Log) (a : ℕ → ℕ) (k : ℕ) → ((n p : ℕ) (x : Sent) → slice_get (conns k).up n ≡ Some x → x.token ≡ ForOp p → (conns k).client_open ≡ true → c.on p ≡ Some k × c.asking p ≡ false) → ((j n : ℕ) (x : Sent) → slice_get (conns j).up n ≡ Some x → x.message.session ≡ c.session → c.live ≡ true → x.message.sequence ≤ c.sequence) → Contents c conns s t l a → Contents (cut_channel c k) (put conns k (client_off (conns k))) s t l a
+pub cut_keeps : (c : Client) (conns : ℕ → Conn) (s : Server) (t : Trace) (l : Log) (a : ℕ → ℕ) (k : ℕ) → ((n p : ℕ) (x : Sent) → slice_get (conns k).up n ≡ Some x → x.token ≡ ForOp p → (conns k).client_open ≡ true → c.outstanding_on p ≡ Some k × c.asks_attach p ≡ false) → ((j n : ℕ) (x : Sent) → slice_get (conns j).up n ≡ Some x → x.message.session ≡ c.session → c.live ≡ true → x.message.sequence ≤ c.sequence) → Contents c conns s t l a → Contents (cut_channel c k) (put conns k (client_off (conns k))) s t l a
 cut_keeps c conns s t l a k mine upto i =
     record {
       token_up = cut_token_up c conns s t l a k i.token_up;

@@ -48,7 +48,7 @@ leave_pairwise : (c : Client) (conns : ℕ → Conn) (s : Server) (t : Trace) (l
 leave_pairwise c conns s t l a i_pairwise =
     λ p q lt st e1 e2 cr u1 u2. i_pairwise p q lt st e1 e2 cr (left_was c p (c.outcome p) (c.given_up p) u1) (left_was c q (c.outcome q) (c.given_up q) u2)
 
-leave_first_up : (c : Client) (conns : ℕ → Conn) (s : Server) (t : Trace) (l : Log) (a : ℕ → ℕ) → ((j n p : ℕ) (x : Sent) → slice_get (conns j).up n ≡ Some x → x.token ≡ ForOp p → (conns j).client_open ≡ true → c.on p ≡ Some j × c.asking p ≡ false) → FirstUp c conns l → FirstUp (end_session c) (λ q. client_off (conns q)) l
+leave_first_up : (c : Client) (conns : ℕ → Conn) (s : Server) (t : Trace) (l : Log) (a : ℕ → ℕ) → ((j n p : ℕ) (x : Sent) → slice_get (conns j).up n ≡ Some x → x.token ≡ ForOp p → (conns j).client_open ≡ true → c.outstanding_on p ≡ Some j × c.asks_attach p ≡ false) → FirstUp c conns l → FirstUp (end_session c) (λ q. client_off (conns q)) l
 leave_first_up c conns s t l a mine i_first_up =
     λ j n p x h e ed b. let h' : slice_get (conns j).up n ≡ Some x = grind arith in let my = mine j n p x in let old = i_first_up j n p x h' e ed in grind arith
 
@@ -168,7 +168,7 @@ leave_prior : (c : Client) (conns : ℕ → Conn) (s : Server) (t : Trace) (l : 
 leave_prior c conns s t l a i_prior =
     λ p q. let old = i_prior p q in grind arith
 
-pub leave_keeps : (c : Client) (conns : ℕ → Conn) (s : Server) (t : Trace) (l : Log) (a : ℕ → ℕ) → ((j n p : ℕ) (x : Sent) → slice_get (conns j).up n ≡ Some x → x.token ≡ ForOp p → (conns j).client_open ≡ true → c.on p ≡ Some j × c.asking p ≡ false) → ((j n p : ℕ) (x : Sent) → slice_get (conns j).up n ≡ Some x → x.token ≡ ForOp p → c.sent p ≡ true) → Contents c conns s t l a → Contents (end_session c) (λ q. client_off (conns q)) s t l a
+pub leave_keeps : (c : Client) (conns : ℕ → Conn) (s : Server) (t : Trace) (l : Log) (a : ℕ → ℕ) → ((j n p : ℕ) (x : Sent) → slice_get (conns j).up n ≡ Some x → x.token ≡ ForOp p → (conns j).client_open ≡ true → c.outstanding_on p ≡ Some j × c.asks_attach p ≡ false) → ((j n p : ℕ) (x : Sent) → slice_get (conns j).up n ≡ Some x → x.token ≡ ForOp p → c.sent p ≡ true) → Contents c conns s t l a → Contents (end_session c) (λ q. client_off (conns q)) s t l a
 leave_keeps c conns s t l a mine gone i =
     record {
       token_up = leave_token_up c conns s t l a i.token_up;

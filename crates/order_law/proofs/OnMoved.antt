@@ -28,7 +28,7 @@ moved_attach_reply c conns s t l a u go current i_attach_reply =
 
 moved_reached : (c : Client) (conns : ℕ → Conn) (s : Server) (t : Trace) (l : Log) (a : ℕ → ℕ) (u : Server) → (Moves c.rank s u) → ((j n : ℕ) (y : Received) → slice_get (conns j).down n ≡ Some y → is_ops y.token ≡ true → 0 < c.rank c.session) → Reached c conns s → Reached c conns u
 moved_reached c conns s t l a u go current i_reached =
-    λ j n p y h e ed fm fin. let old = i_reached j n p y h e ed fm fin in let z = old.1 in let up = go.steps.ids in (go.steps.pair c.session (c.seq_of p) (file_at c p) (current j n y h (ops_of y.token p e)) old.1 old.0, omega (arith, z, up))
+    λ j n p y h e ed fm fin. let old = i_reached j n p y h e ed fm fin in let z = old.1 in let up = go.steps.ids in (go.steps.pair c.session (c.sequence_of p) (file_at c p) (current j n y h (ops_of y.token p e)) old.1 old.0, omega (arith, z, up))
 
 moved_closed_reply : (c : Client) (conns : ℕ → Conn) (s : Server) (t : Trace) (l : Log) (a : ℕ → ℕ) (u : Server) → (Moves c.rank s u) → ClosedReply c conns s → ClosedReply c conns u
 moved_closed_reply c conns s t l a u go i_closed_reply =
@@ -40,11 +40,11 @@ moved_attach_refused c conns s t l a u go i_attach_refused =
 
 moved_session_seq : (c : Client) (conns : ℕ → Conn) (s : Server) (t : Trace) (l : Log) (a : ℕ → ℕ) (u : Server) → (Moves c.rank s u) → SessionSeq c s → SessionSeq c u
 moved_session_seq c conns s t l a u go i_session_seq =
-    λ o lv at. let m = go.at o c.session at in let old = i_session_seq o lv m.0 in let z = m.1 in omega (arith, old, z)
+    λ o lv at. let m = go.session_of_open o c.session at in let old = i_session_seq o lv m.0 in let z = m.1 in omega (arith, old, z)
 
 moved_pending_at : (c : Client) (conns : ℕ → Conn) (s : Server) (t : Trace) (l : Log) (a : ℕ → ℕ) (u : Server) → (Moves c.rank s u) → PendingAt c s → PendingAt c u
 moved_pending_at c conns s t l a u go i_pending_at =
-    λ o j sg e. i_pending_at o j sg (go.at o c.pending e).0
+    λ o j sg e. i_pending_at o j sg (go.session_of_open o c.pending e).0
 
 moved_live_unsettled : (c : Client) (conns : ℕ → Conn) (s : Server) (t : Trace) (l : Log) (a : ℕ → ℕ) (u : Server) → (Moves c.rank s u) → ((j n : ℕ) (x : Sent) → slice_get (conns j).up n ≡ Some x → is_ops x.token ≡ true → 0 < c.rank x.message.session) → LiveUnsettled c conns s → CopyPair c conns s → LiveUnsettled c conns u
 moved_live_unsettled c conns s t l a u go ranked i_live_unsettled i_copy_pair =

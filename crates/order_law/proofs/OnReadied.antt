@@ -37,7 +37,7 @@ readied_older : (c : Client) (conns : ℕ → Conn) (s : Server) (t : Trace) (l 
 readied_older c conns s t l a k r asked ranked gone i_older =
     λ j n i p x h e ed as_ on ne se. absurd ((gone j n x h (ops_of x.token p e)).0 se)
 
-readied_now_pair : (c : Client) (conns : ℕ → Conn) (s : Server) (t : Trace) (l : Log) (a : ℕ → ℕ) (k : ℕ) (r : Reply) → (c.stage k ≡ AskedTree) → (0 < c.rank c.pending) → ((q : ℕ) → c.attached q ≤ c.number) → NowPair c s → NowPair (begin_session c k c.pending r.tree) s
+readied_now_pair : (c : Client) (conns : ℕ → Conn) (s : Server) (t : Trace) (l : Log) (a : ℕ → ℕ) (k : ℕ) (r : Reply) → (c.stage k ≡ AskedTree) → (0 < c.rank c.pending) → ((q : ℕ) → c.attached q ≤ c.session_number) → NowPair c s → NowPair (begin_session c k c.pending r.tree) s
 readied_now_pair c conns s t l a k r asked ranked numbered i_now_pair =
     λ q at lv. absurd (let n = numbered q in omega (arith, n, at))
 
@@ -73,7 +73,7 @@ readied_shows : (c : Client) (conns : ℕ → Conn) (s : Server) (t : Trace) (l 
 readied_shows c conns s t l a k r asked ranked i_shows i_lost_asked =
     λ p ed iso sd pe so. i_shows p ed iso sd (begun_was (c.outcome p) (c.given_up p) c.pending (is_at c.session (c.given_up p)) (λ gu. i_lost_asked p k c.pending asked gu refl) pe) so
 
-pub readied_keeps : (c : Client) (conns : ℕ → Conn) (s : Server) (t : Trace) (l : Log) (a : ℕ → ℕ) (k : ℕ) (r : Reply) → (c.stage k ≡ AskedTree) → (0 < c.rank c.pending) → ((j : ℕ) → j ≢ k → c.stage j ≢ AskedTree) → ((q : ℕ) → c.attached q ≤ c.number) → ((j n : ℕ) (y : Received) → slice_get (conns j).down n ≡ Some y → is_ops y.token ≡ false) → ((j n : ℕ) (x : Sent) → slice_get (conns j).up n ≡ Some x → is_ops x.token ≡ true → x.message.session ≢ c.pending × s.present x.message.session ≡ false) → Contents c conns s t l a → Contents (begin_session c k c.pending r.tree) conns s t l a
+pub readied_keeps : (c : Client) (conns : ℕ → Conn) (s : Server) (t : Trace) (l : Log) (a : ℕ → ℕ) (k : ℕ) (r : Reply) → (c.stage k ≡ AskedTree) → (0 < c.rank c.pending) → ((j : ℕ) → j ≢ k → c.stage j ≢ AskedTree) → ((q : ℕ) → c.attached q ≤ c.session_number) → ((j n : ℕ) (y : Received) → slice_get (conns j).down n ≡ Some y → is_ops y.token ≡ false) → ((j n : ℕ) (x : Sent) → slice_get (conns j).up n ≡ Some x → is_ops x.token ≡ true → x.message.session ≢ c.pending × s.present x.message.session ≡ false) → Contents c conns s t l a → Contents (begin_session c k c.pending r.tree) conns s t l a
 readied_keeps c conns s t l a k r asked ranked alone numbered none gone i =
     record {
       token_up = i.token_up;

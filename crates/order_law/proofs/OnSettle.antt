@@ -57,11 +57,11 @@ settle_by c conns s t l a g place out pending above firm within who since i_by =
 
 settle_by_ok : (c : Client) (conns : ℕ → Conn) (s : Server) (t : Trace) (l : Log) (a : ℕ → ℕ) (g place : ℕ) (out : Outcome) → (is_unsettled (c.outcome g) ≡ true) → (0 < g) → (is_unsettled out ≡ false) → (place < l.places) → (l.who place ≡ g) → (l.since g ≤ place) → ((v : ContentReply) → lists (c.op g) ≡ true → settlement (c.op g) out ≡ Settled_ok v → l.gave place ≡ Says_ok v) → ByOk c l → ByOk (settled_by c g out place) l
 settle_by_ok c conns s t l a g place out pending above firm within who since ok i_by_ok =
-    λ p n v ls b st. elim (p == g) as (λ r. p == g ≡ r → l.gave n ≡ Says_ok v) [ true ↦ λ z. let pg : p ≡ g = eqb-true p g z in let np : place ≡ n = grind arith in subst (λ r. l.gave r ≡ Says_ok v) np (ok v (subst (λ r. lists (c.op r) ≡ true) pg ls) (grind arith)) | false ↦ λ z. let ne = eqb-false _ _ z in let a1 = put_other c.outcome g out p ne in let a2 = put_other c.by g (Some place) p ne in i_by_ok p n v ls (sym a2 ∙ b) (subst (λ o. settlement (c.op p) o ≡ Settled_ok v) a1 st) ] refl
+    λ p n v ls b st. elim (p == g) as (λ r. p == g ≡ r → l.gave n ≡ Says_ok v) [ true ↦ λ z. let pg : p ≡ g = eqb-true p g z in let np : place ≡ n = grind arith in subst (λ r. l.gave r ≡ Says_ok v) np (ok v (subst (λ r. lists (c.op r) ≡ true) pg ls) (grind arith)) | false ↦ λ z. let ne = eqb-false _ _ z in let a1 = put_other c.outcome g out p ne in let a2 = put_other c.settled_by g (Some place) p ne in i_by_ok p n v ls (sym a2 ∙ b) (subst (λ o. settlement (c.op p) o ≡ Settled_ok v) a1 st) ] refl
 
 settle_by_end : (c : Client) (conns : ℕ → Conn) (s : Server) (t : Trace) (l : Log) (a : ℕ → ℕ) (g place : ℕ) (out : Outcome) → (is_unsettled (c.outcome g) ≡ true) → (0 < g) → (is_unsettled out ≡ false) → (place < l.places) → (l.who place ≡ g) → (l.since g ≤ place) → (settlement (c.op g) out ≡ Settled_end → l.gave place ≡ Says_end) → ByEnd c l → ByEnd (settled_by c g out place) l
 settle_by_end c conns s t l a g place out pending above firm within who since end i_by_end =
-    λ p n b st. elim (p == g) as (λ r. p == g ≡ r → l.gave n ≡ Says_end) [ true ↦ λ z. let pg : p ≡ g = eqb-true p g z in let np : place ≡ n = grind arith in let st' : settlement (c.op g) out ≡ Settled_end = subst (λ o. settlement (c.op g) o ≡ Settled_end) (put_self c.outcome g out) (subst (λ r. settlement (c.op r) (put c.outcome g out r) ≡ Settled_end) pg st) in subst (λ r. l.gave r ≡ Says_end) np (end st') | false ↦ λ z. let ne = eqb-false _ _ z in let a1 = put_other c.outcome g out p ne in let a2 = put_other c.by g (Some place) p ne in i_by_end p n (sym a2 ∙ b) (subst (λ o. settlement (c.op p) o ≡ Settled_end) a1 st) ] refl
+    λ p n b st. elim (p == g) as (λ r. p == g ≡ r → l.gave n ≡ Says_end) [ true ↦ λ z. let pg : p ≡ g = eqb-true p g z in let np : place ≡ n = grind arith in let st' : settlement (c.op g) out ≡ Settled_end = subst (λ o. settlement (c.op g) o ≡ Settled_end) (put_self c.outcome g out) (subst (λ r. settlement (c.op r) (put c.outcome g out r) ≡ Settled_end) pg st) in subst (λ r. l.gave r ≡ Says_end) np (end st') | false ↦ λ z. let ne = eqb-false _ _ z in let a1 = put_other c.outcome g out p ne in let a2 = put_other c.settled_by g (Some place) p ne in i_by_end p n (sym a2 ∙ b) (subst (λ o. settlement (c.op p) o ≡ Settled_end) a1 st) ] refl
 
 settle_by_some : (c : Client) (conns : ℕ → Conn) (s : Server) (t : Trace) (l : Log) (a : ℕ → ℕ) (g place : ℕ) (out : Outcome) → (is_unsettled (c.outcome g) ≡ true) → (0 < g) → (is_unsettled out ≡ false) → (place < l.places) → (l.who place ≡ g) → (l.since g ≤ place) → BySome c → BySome (settled_by c g out place)
 settle_by_some c conns s t l a g place out pending above firm within who since i_by_some =

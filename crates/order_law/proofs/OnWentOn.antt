@@ -18,7 +18,7 @@ went_on_session_asked c conns s t l a k stage r other alone i_session_asked =
 
 went_on_pending_at : (c : Client) (conns : ℕ → Conn) (s : Server) (t : Trace) (l : Log) (a : ℕ → ℕ) (k : ℕ) (stage : Stage) (r : Reply) → (stage ≢ AskedTree) → ((j : ℕ) → j ≢ k → c.stage j ≡ AskedTree → told_session c stage r ≡ c.pending) → PendingAt c s → PendingAt (went_on c k stage r) s
 went_on_pending_at c conns s t l a k stage r other alone i_pending_at =
-    λ o j sg. let u = unput c.stage k stage j AskedTree other sg in let al = alone j u.0 u.1 in subst (λ r. s.at o ≢ Some r) (sym al) (i_pending_at o j u.1)
+    λ o j sg. let u = unput c.stage k stage j AskedTree other sg in let al = alone j u.0 u.1 in subst (λ r. s.session_of_open o ≢ Some r) (sym al) (i_pending_at o j u.1)
 
 pub went_on_keeps : (c : Client) (conns : ℕ → Conn) (s : Server) (t : Trace) (l : Log) (a : ℕ → ℕ) (k : ℕ) (stage : Stage) (r : Reply) → (stage ≢ AskedTree) → ((j : ℕ) → j ≢ k → c.stage j ≡ AskedTree → told_session c stage r ≡ c.pending) → Contents c conns s t l a → Contents (went_on c k stage r) conns s t l a
 went_on_keeps c conns s t l a k stage r other alone i =

@@ -5,14 +5,14 @@ use Rattle.std.proofs.Common.{◌≡◌, ◌≢◌, ℕ, ◌≤◌, nat_lt, Bool
 use Rattle.exchange_defs.specs.Table.{put}
 use Rattle.exchange_defs.specs.Commands.{CreateRequest, SetupRequest, deletes_on_close}
 use Rattle.exchange_defs.specs.State.{Server, Message, Making}
-use Rattle.exchange_defs.specs.Files.{mark_file, remove_file}
-use Rattle.exchange_defs.specs.Opens.{drop_open, marked_by, leave_open, without_gone, goes, with_guid}
+use Rattle.exchange_defs.specs.Files.{set_delete_pending, remove_file}
+use Rattle.exchange_defs.specs.Opens.{drop_open, pending_behind, leave_open, without_gone, goes, with_guid}
 use Rattle.exchange_defs.specs.CheckCreate.{empties}
 use Rattle.exchange_defs.specs.CheckOpen.{is_stale, is_late, is_slot}
 use Rattle.exchange_defs.specs.CheckSetup.{is_new}
 use Rattle.exchange_defs.specs.Effects.{reach, attach, attached, keep_slot, keep_closed, file_made, change_file, end_session, end_if_named, add_session, leaves, cleared, guid_staying}
-use Rattle.exchange_defs.specs.Verdict.{Change, PutBytes, PutEnd, PutBasic, PutMark, PutPath, PutNothing}
-use Rattle.exchange_defs.specs.Step.{with_deadlines, expire, add_mark, take_out, forget_connection, ends_with}
+use Rattle.exchange_defs.specs.Verdict.{Change, PutBytes, PutEnd, PutBasic, PutDeletePending, PutPath, PutNothing}
+use Rattle.exchange_defs.specs.Step.{with_deadlines, expire, add_expired_guid, take_out, forget_connection, ends_with}
 use Rattle.server_law.proofs.Logic.{either, front_of, none_of}
 use Rattle.order_law.specs.Newest.{Pair, LowSequences}
 
@@ -20,23 +20,23 @@ use Rattle.order_law.specs.Newest.{Pair, LowSequences}
 pub record Alike (s t : Server) : Type 0 where
   pub standing : t.standing ≡ s.standing
   pub present : t.present ≡ s.present
-  pub at : t.at ≡ s.at
+  pub session_of_open : t.session_of_open ≡ s.session_of_open
   pub sequence : t.sequence ≡ s.sequence
   pub epoch : t.epoch ≡ s.epoch
-  pub given : t.given ≡ s.given
+  pub open_ids_given : t.open_ids_given ≡ s.open_ids_given
   pub making : t.making ≡ s.making
   pub by_guid : t.by_guid ≡ s.by_guid
   pub opened : t.opened ≡ s.opened
 
 pub same : (s : Server) → Alike s s
-same s = record { standing = refl; present = refl; at = refl; sequence = refl; epoch = refl; given = refl; making = refl; by_guid = refl; opened = refl }
+same s = record { standing = refl; present = refl; session_of_open = refl; sequence = refl; epoch = refl; open_ids_given = refl; making = refl; by_guid = refl; opened = refl }
 
 -- from one state to the next each pair is kept, ids only grow, and sequences stay low
 pub record Moves (s t : Server) : Type 0 where
   pub pair : (session sequence o : ℕ) → Pair s session sequence o → Pair t session sequence o
   pub stands : (o : ℕ) → t.standing o ≡ true → s.standing o ≡ true
   pub epoch : t.epoch ≡ s.epoch
-  pub given : t.given ≡ s.given
+  pub given : t.open_ids_given ≡ s.open_ids_given
   pub low : LowSequences s → LowSequences t
   pub making : (x k : ℕ) → is_new x (s.making k) ≡ false → is_new x (t.making k) ≡ false
   pub guid : (c g o : ℕ) → t.by_guid c g ≡ Some o → s.by_guid c g ≡ Some o
@@ -45,12 +45,12 @@ pub record Moves (s t : Server) : Type 0 where
 
 pub moves_alike : (s t : Server) → Alike s t → Moves s t
 moves_alike s t a =
-    let st = a.standing in let pr = a.present in let at = a.at in let sq = a.sequence in let mk = a.making in let bg = a.by_guid in
+    let st = a.standing in let pr = a.present in let at = a.session_of_open in let sq = a.sequence in let mk = a.making in let bg = a.by_guid in
     record {
       pair = λ x q o p. grind arith;
       stands = λ o. grind arith;
       epoch = a.epoch;
-      given = a.given;
+      given = a.open_ids_given;
       low = λ l o. let old = l o in grind arith;
       making = λ x k. grind arith;
       guid = λ c g o. grind arith;
@@ -91,27 +91,27 @@ drop_moves s o =
       row = refl;
     }
 
-pub marked_alike : (s : Server) (o : ℕ) → Alike s (marked_by s o)
-marked_alike s o = either (Alike s) (deletes_on_close (s.opened o).options) (mark_file s (s.opened o).file true) s (λ _. record { standing = refl; present = refl; at = refl; sequence = refl; epoch = refl; given = refl; making = refl; by_guid = refl; opened = refl }) (λ _. same s)
+pub pending_alike : (s : Server) (o : ℕ) → Alike s (pending_behind s o)
+pending_alike s o = either (Alike s) (deletes_on_close (s.opened o).options) (set_delete_pending s (s.opened o).file true) s (λ _. record { standing = refl; present = refl; session_of_open = refl; sequence = refl; epoch = refl; open_ids_given = refl; making = refl; by_guid = refl; opened = refl }) (λ _. same s)
 
 pub gone_alike : (s : Server) (f : ℕ) → Alike s (without_gone s f)
-gone_alike s f = either (Alike s) (goes s f) (remove_file s f) s (λ _. record { standing = refl; present = refl; at = refl; sequence = refl; epoch = refl; given = refl; making = refl; by_guid = refl; opened = refl }) (λ _. same s)
+gone_alike s f = either (Alike s) (goes s f) (remove_file s f) s (λ _. record { standing = refl; present = refl; session_of_open = refl; sequence = refl; epoch = refl; open_ids_given = refl; making = refl; by_guid = refl; opened = refl }) (λ _. same s)
 
 pub leave_moves : (s : Server) (o : ℕ) → Moves s (leave_open s o)
 leave_moves s o =
-    moves_on s (marked_by s o) (leave_open s o) (moves_alike s (marked_by s o) (marked_alike s o))
-    (moves_on (marked_by s o) (drop_open (marked_by s o) o) (leave_open s o) (drop_moves (marked_by s o) o) (moves_alike _ _ (gone_alike (drop_open (marked_by s o) o) (s.opened o).file)))
+    moves_on s (pending_behind s o) (leave_open s o) (moves_alike s (pending_behind s o) (pending_alike s o))
+    (moves_on (pending_behind s o) (drop_open (pending_behind s o) o) (leave_open s o) (drop_moves (pending_behind s o) o) (moves_alike _ _ (gone_alike (drop_open (pending_behind s o) o) (s.opened o).file)))
 
-pub mark_alike : (s : Server) (client : ℕ) (guid : Option ℕ) → Alike s (add_mark s client guid)
-mark_alike s client None = same s
-mark_alike s client (Some g) = record { standing = refl; present = refl; at = refl; sequence = refl; epoch = refl; given = refl; making = refl; by_guid = refl; opened = refl }
+pub expired_alike : (s : Server) (client : ℕ) (guid : Option ℕ) → Alike s (add_expired_guid s client guid)
+expired_alike s client None = same s
+expired_alike s client (Some g) = record { standing = refl; present = refl; session_of_open = refl; sequence = refl; epoch = refl; open_ids_given = refl; making = refl; by_guid = refl; opened = refl }
 
 pub expire_moves : (s : Server) (o : ℕ) → Moves s (expire s o)
-expire_moves s o = moves_on s (leave_open s o) (expire s o) (leave_moves s o) (moves_alike _ _ (mark_alike (leave_open s o) (s.opened o).client (s.opened o).guid))
+expire_moves s o = moves_on s (leave_open s o) (expire s o) (leave_moves s o) (moves_alike _ _ (expired_alike (leave_open s o) (s.opened o).client (s.opened o).guid))
 
 closed_alike : (s : Server) (session : ℕ) (guid : Option ℕ) → Alike s (keep_closed s session guid)
 closed_alike s session None = same s
-closed_alike s session (Some g) = record { standing = refl; present = refl; at = refl; sequence = refl; epoch = refl; given = refl; making = refl; by_guid = refl; opened = refl }
+closed_alike s session (Some g) = record { standing = refl; present = refl; session_of_open = refl; sequence = refl; epoch = refl; open_ids_given = refl; making = refl; by_guid = refl; opened = refl }
 
 pub shut_moves : (s : Server) (o session : ℕ) (guid : Option ℕ) → Moves s (keep_closed (leave_open s o) session guid)
 shut_moves s o session guid = moves_on s (leave_open s o) _ (leave_moves s o) (moves_alike _ _ (closed_alike (leave_open s o) session guid))
@@ -148,14 +148,14 @@ reach_moves s m o low l =
       row = refl;
     })
 
-attach_pair : (s : Server) (m : Message) (p : ℕ) → s.at p ≡ None → (x q o : ℕ) → Pair s x q o → Pair (attach s m p) x q o
+attach_pair : (s : Server) (m : Message) (p : ℕ) → s.session_of_open p ≡ None → (x q o : ℕ) → Pair s x q o → Pair (attach s m p) x q o
 attach_pair s m p e x q o h = λ st pr. let old = h st pr in (grind arith, grind arith)
 
 pub attached_moves : (s : Server) (m : Message) (o : ℕ) → m.sequence ≤ 32767 → Moves s (attached s m o)
 attached_moves s m o l =
-    either (Moves s) (is_some (s.at o)) s (attach s m o) (λ _. moves_alike s s (same s))
+    either (Moves s) (is_some (s.session_of_open o)) s (attach s m o) (λ _. moves_alike s s (same s))
     (λ e. record {
-      pair = attach_pair s m o (none_of (s.at o) e);
+      pair = attach_pair s m o (none_of (s.session_of_open o) e);
       stands = λ p h. h;
       epoch = refl;
       given = refl;
@@ -169,24 +169,24 @@ attached_moves s m o l =
 -- ---- what touches no pair
 
 pub slot_alike : (s : Server) (o index number status : ℕ) → Alike s (keep_slot s o index number status)
-slot_alike s o index number status = either (Alike s) (is_slot index) _ _ (λ _. record { standing = refl; present = refl; at = refl; sequence = refl; epoch = refl; given = refl; making = refl; by_guid = refl; opened = refl }) (λ _. same s)
+slot_alike s o index number status = either (Alike s) (is_slot index) _ _ (λ _. record { standing = refl; present = refl; session_of_open = refl; sequence = refl; epoch = refl; open_ids_given = refl; making = refl; by_guid = refl; opened = refl }) (λ _. same s)
 
 pub change_alike : (s : Server) (f now : ℕ) (change : Change) → Alike s (change_file s f now change)
-change_alike s f now (PutBytes at bytes) = record { standing = refl; present = refl; at = refl; sequence = refl; epoch = refl; given = refl; making = refl; by_guid = refl; opened = refl }
-change_alike s f now (PutEnd size) = record { standing = refl; present = refl; at = refl; sequence = refl; epoch = refl; given = refl; making = refl; by_guid = refl; opened = refl }
-change_alike s f now (PutBasic basic) = record { standing = refl; present = refl; at = refl; sequence = refl; epoch = refl; given = refl; making = refl; by_guid = refl; opened = refl }
-change_alike s f now (PutMark flag) = record { standing = refl; present = refl; at = refl; sequence = refl; epoch = refl; given = refl; making = refl; by_guid = refl; opened = refl }
-change_alike s f now (PutPath replaced path) = record { standing = refl; present = refl; at = refl; sequence = refl; epoch = refl; given = refl; making = refl; by_guid = refl; opened = refl }
+change_alike s f now (PutBytes at bytes) = record { standing = refl; present = refl; session_of_open = refl; sequence = refl; epoch = refl; open_ids_given = refl; making = refl; by_guid = refl; opened = refl }
+change_alike s f now (PutEnd size) = record { standing = refl; present = refl; session_of_open = refl; sequence = refl; epoch = refl; open_ids_given = refl; making = refl; by_guid = refl; opened = refl }
+change_alike s f now (PutBasic basic) = record { standing = refl; present = refl; session_of_open = refl; sequence = refl; epoch = refl; open_ids_given = refl; making = refl; by_guid = refl; opened = refl }
+change_alike s f now (PutDeletePending flag) = record { standing = refl; present = refl; session_of_open = refl; sequence = refl; epoch = refl; open_ids_given = refl; making = refl; by_guid = refl; opened = refl }
+change_alike s f now (PutPath replaced path) = record { standing = refl; present = refl; session_of_open = refl; sequence = refl; epoch = refl; open_ids_given = refl; making = refl; by_guid = refl; opened = refl }
 change_alike s f now PutNothing = same s
 
 pub file_alike : (s : Server) (r : CreateRequest) (found : Option ℕ) (now : ℕ) → Alike s (file_made s r found now)
-file_alike s r None now = record { standing = refl; present = refl; at = refl; sequence = refl; epoch = refl; given = refl; making = refl; by_guid = refl; opened = refl }
-file_alike s r (Some f) now = either (Alike s) (empties r.disposition) _ _ (λ _. record { standing = refl; present = refl; at = refl; sequence = refl; epoch = refl; given = refl; making = refl; by_guid = refl; opened = refl }) (λ _. same s)
+file_alike s r None now = record { standing = refl; present = refl; session_of_open = refl; sequence = refl; epoch = refl; open_ids_given = refl; making = refl; by_guid = refl; opened = refl }
+file_alike s r (Some f) now = either (Alike s) (empties r.disposition) _ _ (λ _. record { standing = refl; present = refl; session_of_open = refl; sequence = refl; epoch = refl; open_ids_given = refl; making = refl; by_guid = refl; opened = refl }) (λ _. same s)
 
 -- ---- sessions
 
 ended_pair : (s : Server) (session now : ℕ) (is_quiet : Bool) (x q o : ℕ) → Pair s x q o → Pair (end_session s session now is_quiet) x q o
-ended_pair s session now is_quiet x q o h = λ st pr. let a = ended_stands st in let b = ended_present pr in let old = h a b.1 in (cleared_other (s.at o) old.0 b.0, old.1)
+ended_pair s session now is_quiet x q o h = λ st pr. let a = ended_stands st in let b = ended_present pr in let old = h a b.1 in (cleared_other (s.session_of_open o) old.0 b.0, old.1)
   where
     ended_stands : (s.standing o && not (leaves s session o)) ≡ true → s.standing o ≡ true
     ended_stands e = grind arith
@@ -240,13 +240,13 @@ take_out_moves s k now is_quiet =
     forgotten f k x j h = grind arith
 
 pub deadlines_moves : (s : Server) (now : ℕ) → Moves s (with_deadlines s now)
-deadlines_moves s now = moves_alike s (with_deadlines s now) (record { standing = refl; present = refl; at = refl; sequence = refl; epoch = refl; given = refl; making = refl; by_guid = refl; opened = refl })
+deadlines_moves s now = moves_alike s (with_deadlines s now) (record { standing = refl; present = refl; session_of_open = refl; sequence = refl; epoch = refl; open_ids_given = refl; making = refl; by_guid = refl; opened = refl })
 
 -- it has left
 pub shut_left : (s : Server) (o session : ℕ) (guid : Option ℕ) → (keep_closed (leave_open s o) session guid).standing o ≡ false
 shut_left s o session guid =
-    let a = closed_alike (leave_open s o) session guid in let b = gone_alike (drop_open (marked_by s o) o) (s.opened o).file in
-    ap (λ f. f o) a.standing ∙ (ap (λ f. f o) b.standing ∙ put_self (marked_by s o).standing o)
+    let a = closed_alike (leave_open s o) session guid in let b = gone_alike (drop_open (pending_behind s o) o) (s.opened o).file in
+    ap (λ f. f o) a.standing ∙ (ap (λ f. f o) b.standing ∙ put_self (pending_behind s o).standing o)
   where
     put_self : (f : ℕ → Bool) (p : ℕ) → put f p false p ≡ false
     put_self f p = grind arith
@@ -254,21 +254,21 @@ shut_left s o session guid =
 -- ---- where no message comes to an open: no open is attached and no sequence rises
 
 pub record Still (s t : Server) : Type 0 where
-  pub at : (o x : ℕ) → t.at o ≡ Some x → s.at o ≡ Some x
+  pub session_of_open : (o x : ℕ) → t.session_of_open o ≡ Some x → s.session_of_open o ≡ Some x
   pub sequence : (o : ℕ) → t.sequence o ≤ s.sequence o
 
 pub still_same : (s : Server) → Still s s
-still_same s = record { at = λ o x e. e; sequence = λ o. omega arith }
+still_same s = record { session_of_open = λ o x e. e; sequence = λ o. omega arith }
 
 pub still_on : (s t u : Server) → Still s t → Still t u → Still s u
-still_on s t u a b = record { at = λ o x e. a.at o x (b.at o x e); sequence = λ o. let l = a.sequence o in let m = b.sequence o in omega (arith, l, m) }
+still_on s t u a b = record { session_of_open = λ o x e. a.session_of_open o x (b.session_of_open o x e); sequence = λ o. let l = a.sequence o in let m = b.sequence o in omega (arith, l, m) }
 
 -- the columns are the same
-pub still_alike : (s t : Server) → t.at ≡ s.at → t.sequence ≡ s.sequence → Still s t
-still_alike s t a q = record { at = λ o x e. ap (λ f. f o) (sym a) ∙ e; sequence = λ o. let l = ap (λ f. f o) q in omega (arith, l) }
+pub still_alike : (s t : Server) → t.session_of_open ≡ s.session_of_open → t.sequence ≡ s.sequence → Still s t
+still_alike s t a q = record { session_of_open = λ o x e. ap (λ f. f o) (sym a) ∙ e; sequence = λ o. let l = ap (λ f. f o) q in omega (arith, l) }
 
 still_drop : (s : Server) (o : ℕ) → Still s (drop_open s o)
-still_drop s o = record { at = λ p x e. dropped s.at o p x e; sequence = λ p. omega arith }
+still_drop s o = record { session_of_open = λ p x e. dropped s.session_of_open o p x e; sequence = λ p. omega arith }
   where
     dropped : (f : ℕ → Option ℕ) (o p x : ℕ) → put f o None p ≡ Some x → f p ≡ Some x
     dropped f o p x e = grind arith
@@ -276,27 +276,27 @@ still_drop s o = record { at = λ p x e. dropped s.at o p x e; sequence = λ p. 
 still_gone : (s : Server) (f : ℕ) → Still s (without_gone s f)
 still_gone s f = either (Still s) (goes s f) (remove_file s f) s (λ _. still_alike s _ refl refl) (λ _. still_same s)
 
-still_marked : (s : Server) (o : ℕ) → Still s (marked_by s o)
-still_marked s o = either (Still s) (deletes_on_close (s.opened o).options) (mark_file s (s.opened o).file true) s (λ _. still_alike s _ refl refl) (λ _. still_same s)
+still_pending : (s : Server) (o : ℕ) → Still s (pending_behind s o)
+still_pending s o = either (Still s) (deletes_on_close (s.opened o).options) (set_delete_pending s (s.opened o).file true) s (λ _. still_alike s _ refl refl) (λ _. still_same s)
 
 pub still_leave : (s : Server) (o : ℕ) → Still s (leave_open s o)
 still_leave s o =
-    still_on s (marked_by s o) (leave_open s o) (still_marked s o)
-    (still_on (marked_by s o) (drop_open (marked_by s o) o) (leave_open s o) (still_drop (marked_by s o) o) (still_gone (drop_open (marked_by s o) o) (s.opened o).file))
+    still_on s (pending_behind s o) (leave_open s o) (still_pending s o)
+    (still_on (pending_behind s o) (drop_open (pending_behind s o) o) (leave_open s o) (still_drop (pending_behind s o) o) (still_gone (drop_open (pending_behind s o) o) (s.opened o).file))
 
-still_mark : (s : Server) (client : ℕ) (guid : Option ℕ) → Still s (add_mark s client guid)
-still_mark s client None = still_same s
-still_mark s client (Some g) = still_alike s _ refl refl
+still_expired : (s : Server) (client : ℕ) (guid : Option ℕ) → Still s (add_expired_guid s client guid)
+still_expired s client None = still_same s
+still_expired s client (Some g) = still_alike s _ refl refl
 
 pub still_expire : (s : Server) (o : ℕ) → Still s (expire s o)
-still_expire s o = still_on s (leave_open s o) (expire s o) (still_leave s o) (still_mark (leave_open s o) (s.opened o).client (s.opened o).guid)
+still_expire s o = still_on s (leave_open s o) (expire s o) (still_leave s o) (still_expired (leave_open s o) (s.opened o).client (s.opened o).guid)
 
 pub still_shut : (s : Server) (o session : ℕ) (guid : Option ℕ) → Still s (keep_closed (leave_open s o) session guid)
 still_shut s o session None = still_leave s o
 still_shut s o session (Some g) = still_on s (leave_open s o) _ (still_leave s o) (still_alike (leave_open s o) _ refl refl)
 
 pub still_end : (s : Server) (session now : ℕ) (is_quiet : Bool) → Still s (end_session s session now is_quiet)
-still_end s session now is_quiet = record { at = λ o x e. uncleared session (s.at o) x e; sequence = λ o. omega arith }
+still_end s session now is_quiet = record { session_of_open = λ o x e. uncleared session (s.session_of_open o) x e; sequence = λ o. omega arith }
   where
     uncleared : (session : ℕ) (a : Option ℕ) (x : ℕ) → cleared session a ≡ Some x → a ≡ Some x
     uncleared session a x e = grind arith
@@ -315,17 +315,17 @@ still_deadlines s now = still_alike s _ refl refl
 
 pub content_leave : (s : Server) (o : ℕ) → (leave_open s o).content ≡ s.content
 content_leave s o =
-    gone (drop_open (marked_by s o) o) (s.opened o).file ∙ either (λ (t : Server). t.content ≡ s.content) (deletes_on_close (s.opened o).options) (mark_file s (s.opened o).file true) s (λ _. refl) (λ _. refl)
+    gone (drop_open (pending_behind s o) o) (s.opened o).file ∙ either (λ (t : Server). t.content ≡ s.content) (deletes_on_close (s.opened o).options) (set_delete_pending s (s.opened o).file true) s (λ _. refl) (λ _. refl)
   where
     gone : (s : Server) (f : ℕ) → (without_gone s f).content ≡ s.content
     gone s f = either (λ (t : Server). t.content ≡ s.content) (goes s f) (remove_file s f) s (λ _. refl) (λ _. refl)
 
 pub content_expire : (s : Server) (o : ℕ) → (expire s o).content ≡ s.content
-content_expire s o = marked (leave_open s o) (s.opened o).client (s.opened o).guid ∙ content_leave s o
+content_expire s o = guid_added (leave_open s o) (s.opened o).client (s.opened o).guid ∙ content_leave s o
   where
-    marked : (s : Server) (client : ℕ) (guid : Option ℕ) → (add_mark s client guid).content ≡ s.content
-    marked s client None = refl
-    marked s client (Some g) = refl
+    guid_added : (s : Server) (client : ℕ) (guid : Option ℕ) → (add_expired_guid s client guid).content ≡ s.content
+    guid_added s client None = refl
+    guid_added s client (Some g) = refl
 
 pub content_shut : (s : Server) (o session : ℕ) (guid : Option ℕ) → (keep_closed (leave_open s o) session guid).content ≡ s.content
 content_shut s o session None = content_leave s o
@@ -342,4 +342,4 @@ pub content_reach : (s : Server) (m : Message) (o : ℕ) → (reach s m o).conte
 content_reach s m o = either (λ (t : Server). t.content ≡ s.content) (is_late s m o) s (record s { sequence = put s.sequence o m.sequence }) (λ _. refl) (λ _. refl)
 
 pub content_attached : (s : Server) (m : Message) (o : ℕ) → (attached s m o).content ≡ s.content
-content_attached s m o = either (λ (t : Server). t.content ≡ s.content) (is_some (s.at o)) s (attach s m o) (λ _. refl) (λ _. refl)
+content_attached s m o = either (λ (t : Server). t.content ≡ s.content) (is_some (s.session_of_open o)) s (attach s m o) (λ _. refl) (λ _. refl)

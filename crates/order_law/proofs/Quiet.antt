@@ -3,7 +3,7 @@ use Rattle.std.proofs.Common.{◌≡◌, ℕ, ◌≤◌, nat_le, true, ◌++◌,
 use Rattle.exchange_defs.specs.State.{Server, Accept, End, ServerEvent, Answer}
 use Rattle.exchange_defs.specs.Records.{fits, origin_at}
 use Rattle.exchange_defs.specs.Opens.{id_of}
-use Rattle.exchange_defs.specs.Step.{step, table, carried_out, expiring, with_deadlines, due, expire, expire_records, connection_of, ruling, ruling_without_room, Ruling, Says, TakesIn, TurnsAway, TakesOut, TakesAllOut, max_connections, max_marks, ends_with}
+use Rattle.exchange_defs.specs.Step.{step, table, carried_out, expiring, with_deadlines, due, expire, expire_records, connection_of, ruling, ruling_without_room, Ruling, Says, TakesIn, TurnsAway, TakesOut, TakesAllOut, max_connections, max_expired_guids, ends_with}
 use Rattle.server_law.proofs.Logic.{either}
 use Rattle.server_law.specs.Fits.{Fits}
 use Rattle.recovery_law.specs.Restarted.{Restarted}
@@ -30,7 +30,7 @@ calm_expire s o = record { goes = expire_moves s o; still = still_expire s o; co
 calm_out : (s : Server) (now : ℕ) (r : Ruling) → is_connections r ≡ true → Calmly s (carried_out s now r).server
 calm_out s now (Says m v) e = absurd (cc)
 calm_out s now (TakesIn k) e =
-    record { goes = moves_alike s _ (record { standing = refl; present = refl; at = refl; sequence = refl; epoch = refl; given = refl; making = refl; by_guid = refl; opened = refl }); still = still_alike s _ refl refl; content = refl }
+    record { goes = moves_alike s _ (record { standing = refl; present = refl; session_of_open = refl; sequence = refl; epoch = refl; open_ids_given = refl; making = refl; by_guid = refl; opened = refl }); still = still_alike s _ refl refl; content = refl }
 calm_out s now TurnsAway e = calm_same s
 calm_out s now (TakesOut k is_quiet) e = record { goes = take_out_moves s k now is_quiet; still = still_take_out s k now is_quiet; content = content_end_named s now (ends_with s k) is_quiet }
 calm_out s now (TakesAllOut is_quiet) e = absurd (cc)
@@ -42,7 +42,7 @@ calm_table s now e c =
 calm_expiring : (s : Server) (now : ℕ) (e : ServerEvent) → ((t : Server) → is_connections (ruling t e) ≡ true) → (u : Option ℕ) → Calmly s (expiring s now e u).server
 calm_expiring s now e c None = calm_table s now e (c s)
 calm_expiring s now e c (Some o) =
-    either (λ (A : Answer). Calmly s A.server) (nat_le max_marks s.mark_count) _ _ (λ _. calm_table s now e (c s))
+    either (λ (A : Answer). Calmly s A.server) (nat_le max_expired_guids s.expired_count) _ _ (λ _. calm_table s now e (c s))
     (λ _. either (λ (A : Answer). Calmly s A.server) (fits s (expire_records s (origin_at (connection_of e)) o ++ (carried_out (expire s o) now (ruling (expire s o) e)).records)) _ _
     (λ _. calm_on s (expire s o) _ (calm_expire s o) (calm_out (expire s o) now (ruling (expire s o) e) (c (expire s o))))
     (λ _. calm_table s now e (c s)))
@@ -51,7 +51,7 @@ calm_event : (s : Server) (now : ℕ) (e : ServerEvent) → ((t : Server) → is
 calm_event s now e c =
     let d = with_deadlines s now in let A = expiring d now e (due d now) in let f = calm_expiring d now e c (due d now) in
     calm_on s d _ (record { goes = deadlines_moves s now; still = still_deadlines s now; content = refl }) (calm_on d A.server _ f
-    (record { goes = moves_alike A.server _ (record { standing = refl; present = refl; at = refl; sequence = refl; epoch = refl; given = refl; making = refl; by_guid = refl; opened = refl }); still = still_alike A.server _ refl refl; content = refl }))
+    (record { goes = moves_alike A.server _ (record { standing = refl; present = refl; session_of_open = refl; sequence = refl; epoch = refl; open_ids_given = refl; making = refl; by_guid = refl; opened = refl }); still = still_alike A.server _ refl refl; content = refl }))
 
 pub calm_accept : (s : Server) (now k : ℕ) → Calmly s (step s now (Accept k)).server
 calm_accept s now k = calm_event s now (Accept k) (λ t. either (λ r. is_connections r ≡ true) (nat_le max_connections (length t.connections)) TurnsAway (TakesIn k) (λ _. refl) (λ _. refl))
@@ -68,10 +68,10 @@ calm_moves rank s u given c =
         pair = λ x q o r l p. c.goes.pair x q o p;
         stands = λ o l st. c.goes.stands o st;
         present = λ x r p. c.goes.there x p;
-        ids = same_ids s.epoch s.given u.epoch u.given c.goes.epoch c.goes.given;
+        ids = same_ids s.epoch s.open_ids_given u.epoch u.open_ids_given c.goes.epoch c.goes.given;
         row = λ o l st. ap (λ f. f o) c.goes.row;
       };
-      at = λ o x e. (c.still.at o x e, c.still.sequence o);
+      session_of_open = λ o x e. (c.still.session_of_open o x e, c.still.sequence o);
       given = λ o st. given o (c.goes.stands o st);
       content = c.content;
       guid = c.goes.guid;
@@ -90,7 +90,7 @@ anew_moves rank s u f r =
         ids = ids_above s u r f.given;
         row = λ o l st. (stood s u r o st).2;
       };
-      at = λ o x e. absurd (let z = r.bare.apart o in grind arith);
+      session_of_open = λ o x e. absurd (let z = r.bare.apart o in grind arith);
       given = λ o st. (f.open_ids o (stood s u r o st).0).1;
       content = r.content;
       guid = λ p g o e. (was_named s u r p g o e).0;

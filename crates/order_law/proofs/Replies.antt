@@ -37,10 +37,10 @@ up_there f k rest j n x h = subst (λ xs. slice_get xs n ≡ Some x) (up_at f k 
 -- ---- what is known of the front that the client takes
 
 told : (w : World) (a : ℕ → ℕ) (k g : ℕ) (y : Received) (rest : List Received) (asking : Bool) → (w.conns k).down ≡ y ∷ rest → (w.conns k).client_open ≡ true → Lower w a → ContentsHold w a → (t : Token) → t ≡ (if asking then ForAttach g else ForOp g) → y.token ≡ t
-    → w.client.on g ≡ Some k → w.client.asking g ≡ asking → ReplyTaken w.client (put w.conns k (take_front (w.conns k) rest)) w.server w.trace w.log k g asking y.reply y.place
+    → w.client.outstanding_on g ≡ Some k → w.client.asks_attach g ≡ asking → ReplyTaken w.client (put w.conns k (take_front (w.conns k) rest)) w.server w.trace w.log k g asking y.reply y.place
 told w a k g y rest asking is opn l i t shape tok on asks =
     record {
-      on = on;
+      outstanding_on = on;
       asks = asks;
       none = subst (λ q. copies q (put w.conns k (take_front (w.conns k) rest) k) ≡ 0) named (front_reply_gone w.conns k y rest is (l.cn.once k (op_of y.token)));
       above = subst (λ q. 0 < q) named (i.token_down k 0 y f0 ops).0;

@@ -7,15 +7,15 @@ use Rattle.exchange_defs.specs.Status.{success, user_session_deleted, file_close
 use Rattle.exchange_defs.specs.Content.{ContentOp, Write as Writes, Read as Reads, SetEnd as Ends, Still, is_change, effect, value, past_end, written, ended}
 use Rattle.exchange_defs.specs.Commands.{Create, CreateRequest, Reconnect, form, deletes_on_close}
 use Rattle.exchange_defs.specs.State.{Server, Message, Heard, Record, Answer, Body}
-use Rattle.exchange_defs.specs.Files.{mark_file, remove_file}
-use Rattle.exchange_defs.specs.Opens.{is_of_session, leave_open, drop_open, marked_by, without_gone, goes}
+use Rattle.exchange_defs.specs.Files.{set_delete_pending, remove_file}
+use Rattle.exchange_defs.specs.Opens.{is_of_session, leave_open, drop_open, pending_behind, without_gone, goes}
 use Rattle.exchange_defs.specs.CheckCreate.{has_guid}
 use Rattle.exchange_defs.specs.CheckOpen.{is_late, file_of}
 use Rattle.exchange_defs.specs.CheckSetup.{tree_in}
 use Rattle.exchange_defs.specs.Check.{check, has_session}
 use Rattle.exchange_defs.specs.Effects.{apply, reach, reaches, change_file, attached, attach}
-use Rattle.exchange_defs.specs.Verdict.{Verdict, Refuse, Give, KeepRefusal, Repeat, Attach, Make, TurnDown, Tell, Show, KeepSlot, PutRanges, Alter, Shut, Challenge, ChallengeBinding, Begin, Join, EndSession, AddTree, DropTree, Change, PutBytes, PutEnd, PutBasic, PutMark, PutPath, PutNothing}
-use Rattle.exchange_defs.specs.Step.{step, with_deadlines, expire, add_mark}
+use Rattle.exchange_defs.specs.Verdict.{Verdict, Refuse, Give, KeepRefusal, Repeat, Attach, Make, TurnDown, Tell, Show, KeepSlot, PutRanges, Alter, CloseOpen, Challenge, ChallengeBinding, Begin, Join, EndSession, AddTree, DropTree, Change, PutBytes, PutEnd, PutBasic, PutDeletePending, PutPath, PutNothing}
+use Rattle.exchange_defs.specs.Step.{step, with_deadlines, expire, add_expired_guid}
 use Rattle.exchange_defs.specs.Network.{content_reply, answer_to}
 use Rattle.server_law.proofs.Doors.{by_verdict, recorded, Before, Finds}
 use Rattle.server_law.proofs.Logic.{either}
@@ -27,19 +27,19 @@ use Rattle.order_law.proofs.Listed.{asks, is_asked, changed_by, Listed, ListedBy
 
 -- what the answer to a read, a write or an end of the open o says, of the state before
 pub record ListedFacts (s : Server) (m : Message) (op : ContentOp) (o : ℕ) (A : Answer) : Type 0 where
-  pub acts : A.acted ≡ true → s.standing o ≡ true × s.at o ≡ Some m.session × s.sequence o ≤ m.sequence × is_change op ≡ true × A.reply.status ≡ success × A.reached ≡ Some o × form m.command ≡ None
+  pub acts : A.acted ≡ true → s.standing o ≡ true × s.session_of_open o ≡ Some m.session × s.sequence o ≤ m.sequence × is_change op ≡ true × A.reply.status ≡ success × A.reached ≡ Some o × form m.command ≡ None
   pub again : A.acted ≡ true → m.replay ≡ true → effect op (s.content (s.opened o).file) ≢ s.content (s.opened o).file
   pub done : (A.reply.status == success) ≡ true → s.standing o ≡ true × A.server.standing o ≡ true × value op (s.content (s.opened o).file) ≡ content_reply A.reply.body × A.server.content (s.opened o).file ≡ effect op (s.content (s.opened o).file)
       × past_end op (s.content (s.opened o).file) ≡ false
   pub ended : (A.reply.status == end_of_file) ≡ true → s.standing o ≡ true × past_end op (s.content (s.opened o).file) ≡ true
   pub reached : is_change op ≡ true → form m.command ≡ None → is_final A.reply.status ≡ true → A.reached ≡ Some o
-  pub closed : (A.reply.status == file_closed) ≡ true → has_session s m ≡ true × (A.server.standing o ≡ true → s.at o ≡ Some m.session → ⊥)
-  pub stale : (A.reply.status == file_not_available) ≡ true → s.at o ≡ Some m.session × m.sequence < s.sequence o
+  pub closed : (A.reply.status == file_closed) ≡ true → has_session s m ≡ true × (A.server.standing o ≡ true → s.session_of_open o ≡ Some m.session → ⊥)
+  pub stale : (A.reply.status == file_not_available) ≡ true → s.session_of_open o ≡ Some m.session × m.sequence < s.sequence o
 
-on_open : (s : Server) (o x : ℕ) → is_of_session s o x ≡ true → s.standing o ≡ true × s.at o ≡ Some x
+on_open : (s : Server) (o x : ℕ) → is_of_session s o x ≡ true → s.standing o ≡ true × s.session_of_open o ≡ Some x
 on_open s o x e = (grind arith, grind arith)
 
-is_open : (s : Server) (o x : ℕ) → s.standing o ≡ true → s.at o ≡ Some x → is_of_session s o x ≡ false → ⊥
+is_open : (s : Server) (o x : ℕ) → s.standing o ≡ true → s.session_of_open o ≡ Some x → is_of_session s o x ≡ false → ⊥
 is_open s o x st at e = absurd (grind arith)
 
 off : (a b : Bool) → a ≡ true → a ≡ false → b ≡ true
@@ -64,7 +64,7 @@ content_changed s f now (PutEnd size) = put_here s.content f (ended size (s.cont
     put_here : (g : ℕ → List ℕ) (f : ℕ) (v : List ℕ) → put g f v f ≡ v
     put_here g f v = grind arith
 content_changed s f now (PutBasic basic) = refl
-content_changed s f now (PutMark flag) = refl
+content_changed s f now (PutDeletePending flag) = refl
 content_changed s f now (PutPath replaced path) = refl
 content_changed s f now PutNothing = refl
 
@@ -72,7 +72,7 @@ standing_changed : (s : Server) (f now : ℕ) (change : Change) → (change_file
 standing_changed s f now (PutBytes at bytes) = refl
 standing_changed s f now (PutEnd size) = refl
 standing_changed s f now (PutBasic basic) = refl
-standing_changed s f now (PutMark flag) = refl
+standing_changed s f now (PutDeletePending flag) = refl
 standing_changed s f now (PutPath replaced path) = refl
 standing_changed s f now PutNothing = refl
 
@@ -150,7 +150,7 @@ listed_facts_at s m op o now low l (Make r found action) h = absurd (h.is)
 listed_facts_at s m op o now low l (Show p last body) h = absurd (h.is)
 listed_facts_at s m op o now low l (KeepSlot p index number status elements) h = absurd (h.is)
 listed_facts_at s m op o now low l (PutRanges p index number ranges elements) h = absurd (h.is)
-listed_facts_at s m op o now low l (Shut p body) h = absurd (h.is)
+listed_facts_at s m op o now low l (CloseOpen p body) h = absurd (h.is)
 listed_facts_at s m op o now low l Challenge h = absurd (h.is)
 listed_facts_at s m op o now low l (ChallengeBinding session) h = absurd (h.is)
 listed_facts_at s m op o now low l (Begin session user previous r is_quiet) h = absurd (h.is)
@@ -160,19 +160,19 @@ listed_facts_at s m op o now low l (AddTree pipes) h = absurd (h.is)
 listed_facts_at s m op o now low l DropTree h = absurd (h.is)
 
 -- behind an expiry, of the state before it
-listed_before : (s t : Server) (m : Message) (op : ContentOp) (o : ℕ) (A : Answer) → Earlier s t → t.on ≡ s.on → (A.server.standing o ≡ true → t.standing o ≡ true) → ListedFacts t m op o A → ListedFacts s m op o A
+listed_before : (s t : Server) (m : Message) (op : ContentOp) (o : ℕ) (A : Answer) → Earlier s t → t.session_on ≡ s.session_on → (A.server.standing o ≡ true → t.standing o ≡ true) → ListedFacts t m op o A → ListedFacts s m op o A
 listed_before s t m op o A k on back f =
     let row : (t.opened o).file ≡ (s.opened o).file = ap (λ g. (g o).file) k.moves.row in
     let same : t.content (t.opened o).file ≡ s.content (s.opened o).file = ap (λ g. g (t.opened o).file) k.content ∙ ap s.content row in
     let sq : t.sequence o ≡ s.sequence o = ap (λ g. g o) k.sequence in
     record {
-      acts = λ a. let h = f.acts a in (k.moves.stands o h.0, k.at o m.session h.1, subst (λ n. n ≤ m.sequence) sq h.2, h.3, h.4, h.5, h.6);
+      acts = λ a. let h = f.acts a in (k.moves.stands o h.0, k.session_of_open o m.session h.1, subst (λ n. n ≤ m.sequence) sq h.2, h.3, h.4, h.5, h.6);
       again = λ a r. subst (λ c. effect op c ≢ c) same (f.again a r);
       done = λ e. let h = f.done e in (k.moves.stands o h.0, h.1, subst (λ c. value op c ≡ content_reply A.reply.body) same h.2, subst (λ g. A.server.content g ≡ effect op (s.content (s.opened o).file)) row (subst (λ c. A.server.content (t.opened o).file ≡ effect op c) same h.3), subst (λ c. past_end op c ≡ false) same h.4);
       ended = λ e. let h = f.ended e in (k.moves.stands o h.0, subst (λ c. past_end op c ≡ true) same h.1);
       reached = f.reached;
       closed = λ e. let z = f.closed e in (ap (λ g. is_at m.session (g m.connection)) (sym on) ∙ z.0, λ st at. z.1 st (k.at_on o (back st) ∙ at));
-      stale = λ e. let h = f.stale e in (k.at o m.session h.0, subst (λ n. m.sequence < n) sq h.1);
+      stale = λ e. let h = f.stale e in (k.session_of_open o m.session h.0, subst (λ n. m.sequence < n) sq h.1);
     }
 
 listed_standing : (s : Server) (m : Message) (op : ContentOp) (o now : ℕ) → (v : Verdict) → Listed s m op o v → (apply s m now v).server.standing ≡ s.standing
@@ -188,7 +188,7 @@ listed_standing s m op o now (Make r found action) h = absurd (h.is)
 listed_standing s m op o now (Show p last body) h = absurd (h.is)
 listed_standing s m op o now (KeepSlot p index number status elements) h = absurd (h.is)
 listed_standing s m op o now (PutRanges p index number ranges elements) h = absurd (h.is)
-listed_standing s m op o now (Shut p body) h = absurd (h.is)
+listed_standing s m op o now (CloseOpen p body) h = absurd (h.is)
 listed_standing s m op o now Challenge h = absurd (h.is)
 listed_standing s m op o now (ChallengeBinding session) h = absurd (h.is)
 listed_standing s m op o now (Begin session user previous r is_quiet) h = absurd (h.is)
@@ -209,18 +209,18 @@ before_low : (s t : Server) → Earlier s t → LowSequences s → LowSequences 
 before_low s t k low = k.moves.low low
 
 leave_trees : (s : Server) (o : ℕ) → (leave_open s o).trees ≡ s.trees × (leave_open s o).user ≡ s.user
-leave_trees s o = let g = gone_trees (drop_open (marked_by s o) o) (s.opened o).file in let k = marked_trees s o in (g.0 ∙ k.0, g.1 ∙ k.1)
+leave_trees s o = let g = gone_trees (drop_open (pending_behind s o) o) (s.opened o).file in let k = pending_trees s o in (g.0 ∙ k.0, g.1 ∙ k.1)
   where
     gone_trees : (s : Server) (f : ℕ) → (without_gone s f).trees ≡ s.trees × (without_gone s f).user ≡ s.user
     gone_trees s f = either (λ (t : Server). t.trees ≡ s.trees × t.user ≡ s.user) (goes s f) (remove_file s f) s (λ _. (refl, refl)) (λ _. (refl, refl))
 
-    marked_trees : (s : Server) (o : ℕ) → (marked_by s o).trees ≡ s.trees × (marked_by s o).user ≡ s.user
-    marked_trees s o = either (λ (t : Server). t.trees ≡ s.trees × t.user ≡ s.user) (deletes_on_close (s.opened o).options) (mark_file s (s.opened o).file true) s (λ _. (refl, refl)) (λ _. (refl, refl))
+    pending_trees : (s : Server) (o : ℕ) → (pending_behind s o).trees ≡ s.trees × (pending_behind s o).user ≡ s.user
+    pending_trees s o = either (λ (t : Server). t.trees ≡ s.trees × t.user ≡ s.user) (deletes_on_close (s.opened o).options) (set_delete_pending s (s.opened o).file true) s (λ _. (refl, refl)) (λ _. (refl, refl))
 
 expire_trees : (s : Server) (o : ℕ) → (expire s o).trees ≡ s.trees × (expire s o).user ≡ s.user
 expire_trees s o = by_guid (s.opened o).guid
   where
-    by_guid : (g : Option ℕ) → (add_mark (leave_open s o) (s.opened o).client g).trees ≡ s.trees × (add_mark (leave_open s o) (s.opened o).client g).user ≡ s.user
+    by_guid : (g : Option ℕ) → (add_expired_guid (leave_open s o) (s.opened o).client g).trees ≡ s.trees × (add_expired_guid (leave_open s o) (s.opened o).client g).user ≡ s.user
     by_guid None = leave_trees s o
     by_guid (Some g) = leave_trees s o
 
@@ -232,19 +232,19 @@ before_user : (s : Server) (now : ℕ) (t : Server) → Before s now t → t.use
 before_user s now t (inl e) = ap (λ (u : Server). u.user) e
 before_user s now t (inr (o, d, e)) = ap (λ (u : Server). u.user) e ∙ (expire_trees (with_deadlines s now) o).1
 
-leave_at_on : (s : Server) (o : ℕ) → (leave_open s o).on ≡ s.on
-leave_at_on s o = gone (drop_open (marked_by s o) o) (s.opened o).file ∙ either (λ (t : Server). t.on ≡ s.on) (deletes_on_close (s.opened o).options) (mark_file s (s.opened o).file true) s (λ _. refl) (λ _. refl)
+leave_at_on : (s : Server) (o : ℕ) → (leave_open s o).session_on ≡ s.session_on
+leave_at_on s o = gone (drop_open (pending_behind s o) o) (s.opened o).file ∙ either (λ (t : Server). t.session_on ≡ s.session_on) (deletes_on_close (s.opened o).options) (set_delete_pending s (s.opened o).file true) s (λ _. refl) (λ _. refl)
   where
-    gone : (s : Server) (f : ℕ) → (without_gone s f).on ≡ s.on
-    gone s f = either (λ (t : Server). t.on ≡ s.on) (goes s f) (remove_file s f) s (λ _. refl) (λ _. refl)
+    gone : (s : Server) (f : ℕ) → (without_gone s f).session_on ≡ s.session_on
+    gone s f = either (λ (t : Server). t.session_on ≡ s.session_on) (goes s f) (remove_file s f) s (λ _. refl) (λ _. refl)
 
-before_on : (s : Server) (now : ℕ) (t : Server) → Before s now t → t.on ≡ s.on
-before_on s now t (inl e) = ap (λ (u : Server). u.on) e
-before_on s now t (inr (o, q, e)) = ap (λ (u : Server). u.on) e ∙ marked (leave_open (with_deadlines s now) o) (s.opened o).client (s.opened o).guid ∙ leave_at_on (with_deadlines s now) o
+before_on : (s : Server) (now : ℕ) (t : Server) → Before s now t → t.session_on ≡ s.session_on
+before_on s now t (inl e) = ap (λ (u : Server). u.session_on) e
+before_on s now t (inr (o, q, e)) = ap (λ (u : Server). u.session_on) e ∙ guid_added (leave_open (with_deadlines s now) o) (s.opened o).client (s.opened o).guid ∙ leave_at_on (with_deadlines s now) o
   where
-    marked : (s : Server) (client : ℕ) (guid : Option ℕ) → (add_mark s client guid).on ≡ s.on
-    marked s client None = refl
-    marked s client (Some g) = refl
+    guid_added : (s : Server) (client : ℕ) (guid : Option ℕ) → (add_expired_guid s client guid).session_on ≡ s.session_on
+    guid_added s client None = refl
+    guid_added s client (Some g) = refl
 
 listed_step : (s : Server) (now : ℕ) (m : Message) (op : ContentOp) (o : ℕ) → is_asked op ≡ true → m.command ≡ asks op o → m.fault ≡ None → (has_session s m ≡ true → is_some (tree_in (s.trees m.session) m.tree) ≡ true) → LowSequences s → m.sequence ≤ 32767
     → ListedFacts s m op o (step s now (Heard m))
@@ -268,17 +268,17 @@ listed_facts s now m op o a e f t low l =
 -- ---- a request to attach an open
 
 pub record AskedFacts (s : Server) (m : Message) (c : Reconnect) (A : Answer) : Type 0 where
-  pub attached : (A.reply.status == success) ≡ true → A.server.at c.file ≡ Some m.session
+  pub attached : (A.reply.status == success) ≡ true → A.server.session_of_open c.file ≡ Some m.session
   pub refused : (A.reply.status == success) ≡ false → (A.reply.status == user_session_deleted) ≡ false → A.server.standing c.file ≡ true → has_guid c.guid (s.opened c.file).guid ≡ true → (has_session s m ≡ true → same_name (s.opened c.file).user (s.user m.session) ≡ true)
-      → (is_some (s.at c.file) && not (is_at m.session (s.at c.file))) ≡ true
+      → (is_some (s.session_of_open c.file) && not (is_at m.session (s.session_of_open c.file))) ≡ true
   pub end : (A.reply.status == end_of_file) ≡ false
   pub idle : A.acted ≡ false
 
-pub joined : (s : Server) (m : Message) (o : ℕ) → (is_some (s.at o) && not (is_at m.session (s.at o))) ≡ false → (attached s m o).at o ≡ Some m.session
+pub joined : (s : Server) (m : Message) (o : ℕ) → (is_some (s.session_of_open o) && not (is_at m.session (s.session_of_open o))) ≡ false → (attached s m o).session_of_open o ≡ Some m.session
 joined s m o e =
-    elim (is_some (s.at o)) as (λ b. is_some (s.at o) ≡ b → (attached s m o).at o ≡ Some m.session) [
-      | true ↦ λ z. ap (λ (t : Server). t.at o) (if_on (is_some (s.at o)) s (attach s m o) z) ∙ own (s.at o) z e
-      | false ↦ λ z. ap (λ (t : Server). t.at o) (if_off (is_some (s.at o)) s (attach s m o) z) ∙ put_here s.at o (Some m.session)
+    elim (is_some (s.session_of_open o)) as (λ b. is_some (s.session_of_open o) ≡ b → (attached s m o).session_of_open o ≡ Some m.session) [
+      | true ↦ λ z. ap (λ (t : Server). t.session_of_open o) (if_on (is_some (s.session_of_open o)) s (attach s m o) z) ∙ own (s.session_of_open o) z e
+      | false ↦ λ z. ap (λ (t : Server). t.session_of_open o) (if_off (is_some (s.session_of_open o)) s (attach s m o) z) ∙ put_here s.session_of_open o (Some m.session)
     ] refl
   where
     if_on : (b : Bool) (x y : Server) → b ≡ true → (if b then x else y) ≡ x
@@ -297,7 +297,7 @@ asked_facts_at : (s : Server) (m : Message) (c : Reconnect) (now : ℕ) → form
 asked_facts_at s m c now f (Refuse status) h =
     record { attached = λ e. absurd (let z = h.is.ok in grind arith); refused = λ a b st gd us. h.is.gone b f st gd us; end = h.is.end; idle = refl }
 asked_facts_at s m c now f (Attach p r) h =
-    record { attached = λ e. subst (λ q. (attached s m q).at c.file ≡ Some m.session) (sym h.is.0) (joined s m c.file h.is.1); refused = λ a. absurd (cc); end = refl; idle = refl }
+    record { attached = λ e. subst (λ q. (attached s m q).session_of_open c.file ≡ Some m.session) (sym h.is.0) (joined s m c.file h.is.1); refused = λ a. absurd (cc); end = refl; idle = refl }
 asked_facts_at s m c now f (Give body) h = absurd (h.is)
 asked_facts_at s m c now f (KeepRefusal guid status) h = absurd (h.is)
 asked_facts_at s m c now f (Repeat p r) h = absurd (h.is)
@@ -305,7 +305,7 @@ asked_facts_at s m c now f (Make r found action) h = absurd (h.is)
 asked_facts_at s m c now f (Show p last body) h = absurd (h.is)
 asked_facts_at s m c now f (KeepSlot p index number status elements) h = absurd (h.is)
 asked_facts_at s m c now f (PutRanges p index number ranges elements) h = absurd (h.is)
-asked_facts_at s m c now f (Shut p body) h = absurd (h.is)
+asked_facts_at s m c now f (CloseOpen p body) h = absurd (h.is)
 asked_facts_at s m c now f Challenge h = absurd (h.is)
 asked_facts_at s m c now f (ChallengeBinding session) h = absurd (h.is)
 asked_facts_at s m c now f (Begin session user previous r is_quiet) h = absurd (h.is)
@@ -319,7 +319,7 @@ asked_facts_at s m c now f (Alter p change body) h = absurd (h.is)
 
 asked_standing : (s : Server) (m : Message) (c : Reconnect) (now : ℕ) → (v : Verdict) → Asked s m c v → (apply s m now v).server.standing ≡ s.standing
 asked_standing s m c now (Refuse status) h = refl
-asked_standing s m c now (Attach p r) h = either (λ (t : Server). t.standing ≡ s.standing) (is_some (s.at p)) s (attach s m p) (λ _. refl) (λ _. refl)
+asked_standing s m c now (Attach p r) h = either (λ (t : Server). t.standing ≡ s.standing) (is_some (s.session_of_open p)) s (attach s m p) (λ _. refl) (λ _. refl)
 asked_standing s m c now (Give body) h = absurd (h.is)
 asked_standing s m c now (KeepRefusal guid status) h = absurd (h.is)
 asked_standing s m c now (Repeat p r) h = absurd (h.is)
@@ -327,7 +327,7 @@ asked_standing s m c now (Make r found action) h = absurd (h.is)
 asked_standing s m c now (Show p last body) h = absurd (h.is)
 asked_standing s m c now (KeepSlot p index number status elements) h = absurd (h.is)
 asked_standing s m c now (PutRanges p index number ranges elements) h = absurd (h.is)
-asked_standing s m c now (Shut p body) h = absurd (h.is)
+asked_standing s m c now (CloseOpen p body) h = absurd (h.is)
 asked_standing s m c now Challenge h = absurd (h.is)
 asked_standing s m c now (ChallengeBinding session) h = absurd (h.is)
 asked_standing s m c now (Begin session user previous r is_quiet) h = absurd (h.is)
@@ -339,7 +339,7 @@ asked_standing s m c now (TurnDown p status) h = absurd (h.is)
 asked_standing s m c now (Tell p body) h = absurd (h.is)
 asked_standing s m c now (Alter p change body) h = absurd (h.is)
 
-asked_before : (s t : Server) (m : Message) (c : Reconnect) (A : Answer) → Earlier s t → t.user ≡ s.user → t.on ≡ s.on → A.server.standing ≡ t.standing → AskedFacts t m c A → AskedFacts s m c A
+asked_before : (s t : Server) (m : Message) (c : Reconnect) (A : Answer) → Earlier s t → t.user ≡ s.user → t.session_on ≡ s.session_on → A.server.standing ≡ t.standing → AskedFacts t m c A → AskedFacts s m c A
 asked_before s t m c A k us onn back f =
     let row : (t.opened c.file).guid ≡ (s.opened c.file).guid = ap (λ g. (g c.file).guid) k.moves.row in let who : (t.opened c.file).user ≡ (s.opened c.file).user = ap (λ g. (g c.file).user) k.moves.row in
     record {

@@ -7,7 +7,7 @@ use Rattle.exchange_defs.specs.State.{Server, Message, Body, Empty, Named}
 use Rattle.exchange_defs.specs.Ranges.{RangeAnswer, Stands, Denied}
 use Rattle.exchange_defs.specs.Opens.{is_of_session}
 use Rattle.exchange_defs.specs.Files.{find}
-use Rattle.exchange_defs.specs.Verdict.{Verdict, Refuse, Give, KeepRefusal, Repeat, Attach, Make, TurnDown, Tell, Show, KeepSlot, PutRanges, Alter, Shut, Challenge, ChallengeBinding, Begin, Join, EndSession, AddTree, DropTree, Change, PutBasic, PutMark, PutEnd}
+use Rattle.exchange_defs.specs.Verdict.{Verdict, Refuse, Give, KeepRefusal, Repeat, Attach, Make, TurnDown, Tell, Show, KeepSlot, PutRanges, Alter, CloseOpen, Challenge, ChallengeBinding, Begin, Join, EndSession, AddTree, DropTree, Change, PutBasic, PutDeletePending, PutEnd}
 use Rattle.exchange_defs.specs.CheckCreate.{refused_by, after_names, new_check, live_check, refusal_check, guid_check, reconnect_check, durable_check, reconnect_or_create}
 use Rattle.exchange_defs.specs.CheckOpen.{is_late, write_check, read_check, turn_down_lock, range_check, slot_check, named_change, size_change, setting_check, set_check, listing_of, ioctl_check, free_ioctl_check, is_repeated, unless_repeated, path_change, bytes_change}
 use Rattle.exchange_defs.specs.CheckSetup.{is_new, session_check, second_token, first_token, granted_session, setup_check, binding_check, live_binding, binding_token, second_binding, first_binding, tree_check, tree_in, no_tree_left}
@@ -40,7 +40,7 @@ SoundBy s m (Show o last body) = is_of_session s o m.session ≡ true
 SoundBy s m (KeepSlot o index number status elements) = is_of_session s o m.session ≡ true
 SoundBy s m (PutRanges o index number ranges elements) = is_of_session s o m.session ≡ true
 SoundBy s m (Alter o change body) = (is_of_session s o m.session ≡ true) × (is_late s m o ≡ false)
-SoundBy s m (Shut o body) = is_of_session s o m.session ≡ true
+SoundBy s m (CloseOpen o body) = is_of_session s o m.session ≡ true
 SoundBy s m Challenge = Unit {0}
 SoundBy s m (ChallengeBinding session) = Unit {0}
 SoundBy s m (Begin session user previous request is_quiet) = (is_new m.session (s.making m.connection) ≡ true) × (session ≡ m.session)
@@ -68,7 +68,7 @@ new_sound s m r found =
 
 live_sound : (s : Server) (m : Message) (r : CreateRequest) (guid o : ℕ) → s.by_guid m.client guid ≡ Some o → Sound s m (live_check s m r o)
 live_sound s m r guid o e =
-    either (Sound s m) (not m.replay) _ _ (λ _. record { is = tt }) (λ _. either (Sound s m) (is_at m.session (s.at o)) _ _ (λ _. record { is = (guid, e) }) (λ _. either (Sound s m) (is_some (s.at o) || not (s.opened o).persistent) _ _ (λ _. record { is = tt }) (λ _. either (Sound s m) (same_name (s.opened o).user (s.user m.session)) _ _ (λ _. record { is = (guid, e) }) (λ _. record { is = tt }))))
+    either (Sound s m) (not m.replay) _ _ (λ _. record { is = tt }) (λ _. either (Sound s m) (is_at m.session (s.session_of_open o)) _ _ (λ _. record { is = (guid, e) }) (λ _. either (Sound s m) (is_some (s.session_of_open o) || not (s.opened o).persistent) _ _ (λ _. record { is = tt }) (λ _. either (Sound s m) (same_name (s.opened o).user (s.user m.session)) _ _ (λ _. record { is = (guid, e) }) (λ _. record { is = tt }))))
 
 refusal_sound : (s : Server) (m : Message) (r : CreateRequest) (kept : Option ℕ) → Sound s m (refusal_check s m r kept)
 refusal_sound s m r (Some status) = record { is = tt }
@@ -76,11 +76,11 @@ refusal_sound s m r None = new_sound s m r (find s r.path)
 
 guid_sound : (s : Server) (m : Message) (r : CreateRequest) (d : Durable) (o : Option ℕ) → s.by_guid m.client d.guid ≡ o → Sound s m (guid_check s m r d o)
 guid_sound s m r d (Some o) e = live_sound s m r d.guid o e
-guid_sound s m r d None e = either (Sound s m) (s.closed m.session d.guid) _ _ (λ _. record { is = tt }) (λ _. either (Sound s m) (s.marks m.client d.guid) _ _ (λ _. record { is = tt }) (λ _. refusal_sound s m r _))
+guid_sound s m r d None e = either (Sound s m) (s.closed m.session d.guid) _ _ (λ _. record { is = tt }) (λ _. either (Sound s m) (s.expired_guids m.client d.guid) _ _ (λ _. record { is = tt }) (λ _. refusal_sound s m r _))
 
 reconnect_sound : (s : Server) (m : Message) (r : CreateRequest) (c : Reconnect) → Sound s m (reconnect_check s m r c)
 reconnect_sound s m r c =
-    either (Sound s m) (not (s.standing c.file && has_guid c.guid (s.opened c.file).guid)) _ _ (λ _. record { is = tt }) (λ e. either (Sound s m) (not (same_name (s.opened c.file).user (s.user m.session))) _ _ (λ _. record { is = tt }) (λ _. either (Sound s m) (is_some (s.at c.file) && not (is_at m.session (s.at c.file))) _ _ (λ _. record { is = tt }) (λ _. record { is = front_of _ _ (not_false _ e) })))
+    either (Sound s m) (not (s.standing c.file && has_guid c.guid (s.opened c.file).guid)) _ _ (λ _. record { is = tt }) (λ e. either (Sound s m) (not (same_name (s.opened c.file).user (s.user m.session))) _ _ (λ _. record { is = tt }) (λ _. either (Sound s m) (is_some (s.session_of_open c.file) && not (is_at m.session (s.session_of_open c.file))) _ _ (λ _. record { is = tt }) (λ _. record { is = front_of _ _ (not_false _ e) })))
 
 durable_sound : (s : Server) (m : Message) (r : CreateRequest) (d : Option Durable) → Sound s m (durable_check s m r d)
 durable_sound s m r None = new_sound s m r (find s r.path)
@@ -141,7 +141,7 @@ setting_sound s m o (Rename replace path) on t =
     either (Sound s m) (has_access s o 0x1_0000) _ _
     (λ _. unrepeated s m o (path_change s o path) _ on (named_sound s m o (path_change s o path) (rename_names s (file_of s o) replace path) on t)) (λ _. record { is = on })
 setting_sound s m o (SetDelete flag) on t =
-    either (Sound s m) (has_access s o 0x1_0000) _ _ (λ _. unrepeated s m o (PutMark flag) _ on (named_sound s m o (PutMark flag) (delete_names s (file_of s o) flag) on t)) (λ _. record { is = on })
+    either (Sound s m) (has_access s o 0x1_0000) _ _ (λ _. unrepeated s m o (PutDeletePending flag) _ on (named_sound s m o (PutDeletePending flag) (delete_names s (file_of s o) flag) on t)) (λ _. record { is = on })
 setting_sound s m o (SetAllocation size) on t = size_sound s m o (allocated size (length (s.content (file_of s o)))) (allocation_change s (file_of s o) size) on t
 setting_sound s m o (SetEnd size) on t = size_sound s m o size (PutEnd size) on t
 
@@ -187,7 +187,7 @@ in_tree_sound s m (Some pipes) = tree_sound s m pipes m.command
 -- ---- SESSION_SETUP
 
 granted_sound : (s : Server) (m : Message) (r : SetupRequest) (user : List ℕ) → is_new m.session (s.making m.connection) ≡ true → Sound s m (granted_session s m r user)
-granted_sound s m r user e = either (Sound s m) (s.seals && (r.cipher == 0)) _ _ (λ _. record { is = tt }) (λ _. either (Sound s m) (nat_le max_sessions s.sessions) _ _ (λ _. record { is = tt }) (λ _. record { is = (e, refl) }))
+granted_sound s m r user e = either (Sound s m) (s.encrypts && (r.cipher == 0)) _ _ (λ _. record { is = tt }) (λ _. either (Sound s m) (nat_le max_sessions s.sessions) _ _ (λ _. record { is = tt }) (λ _. record { is = (e, refl) }))
 
 second_sound : (s : Server) (m : Message) (r : SetupRequest) (t : Shows) → is_new m.session (s.making m.connection) ≡ true → Sound s m (second_token s m r t)
 second_sound s m r Begins e = record { is = tt }
@@ -196,21 +196,21 @@ second_sound s m r Refused e = record { is = tt }
 second_sound s m r (Logon user) e = granted_sound s m r user e
 
 first_sound : (s : Server) (m : Message) (t : Shows) → Sound s m (first_token s t)
-first_sound s m Begins = either (Sound s m) (nat_le max_ids s.begun) _ _ (λ _. record { is = tt }) (λ _. record { is = tt })
+first_sound s m Begins = either (Sound s m) (nat_le max_ids s.session_ids_given) _ _ (λ _. record { is = tt }) (λ _. record { is = tt })
 first_sound s m Bad = record { is = tt }
 first_sound s m Refused = record { is = tt }
 first_sound s m (Logon user) = record { is = tt }
 
 session_sound : (s : Server) (m : Message) (r : SetupRequest) → Sound s m (session_check s m r)
 session_sound s m r =
-    either (Sound s m) (m.session == 0) _ _ (λ _. either (Sound s m) (is_some (s.on m.connection)) _ _ (λ _. record { is = tt }) (λ _. first_sound s m r.shows))
+    either (Sound s m) (m.session == 0) _ _ (λ _. either (Sound s m) (is_some (s.session_on m.connection)) _ _ (λ _. record { is = tt }) (λ _. first_sound s m r.shows))
     (λ _. either (Sound s m) (s.present m.session) _ _ (λ _. record { is = tt }) (λ _. either (Sound s m) (is_new m.session (s.making m.connection)) _ _ (λ e. second_sound s m r r.shows e) (λ _. record { is = tt })))
 
 second_binding_sound : (s : Server) (m : Message) (t : Shows) → Sound s m (second_binding s m t)
 second_binding_sound s m Begins = record { is = tt }
 second_binding_sound s m Bad = record { is = tt }
 second_binding_sound s m Refused = record { is = tt }
-second_binding_sound s m (Logon user) = either (Sound s m) (not (same_name user (s.user m.session))) _ _ (λ _. record { is = tt }) (λ _. either (Sound s m) (nat_le max_channels (count_channels s.on s.connections m.session)) _ _ (λ _. record { is = tt }) (λ _. either (Sound s m) (nat_le max_numbers (s.drawn m.session)) _ _ (λ _. record { is = tt }) (λ _. record { is = tt })))
+second_binding_sound s m (Logon user) = either (Sound s m) (not (same_name user (s.user m.session))) _ _ (λ _. record { is = tt }) (λ _. either (Sound s m) (nat_le max_channels (count_channels s.session_on s.connections m.session)) _ _ (λ _. record { is = tt }) (λ _. either (Sound s m) (nat_le max_numbers (s.channel_numbers_drawn m.session)) _ _ (λ _. record { is = tt }) (λ _. record { is = tt })))
 
 first_binding_sound : (s : Server) (m : Message) (t : Shows) → Sound s m (first_binding m t)
 first_binding_sound s m Begins = record { is = tt }
@@ -224,7 +224,7 @@ binding_token_sound s m r = either (Sound s m) (is_binding m.session (s.making m
 live_binding_sound : (s : Server) (m : Message) (r : SetupRequest) → Sound s m (live_binding s m r)
 live_binding_sound s m r =
     either (Sound s m) (not r.signed) _ _ (λ _. record { is = tt })
-    (λ _. either (Sound s m) (not (m.client == s.client m.session)) _ _ (λ _. record { is = tt }) (λ _. either (Sound s m) (not ((r.cipher == s.cipher m.session) && (r.signing == s.signing m.session))) _ _ (λ _. record { is = tt }) (λ _. either (Sound s m) (is_some (s.on m.connection)) _ _ (λ _. record { is = tt }) (λ _. either (Sound s m) (not r.verified) _ _ (λ _. record { is = tt }) (λ _. binding_token_sound s m r)))))
+    (λ _. either (Sound s m) (not (m.client == s.client m.session)) _ _ (λ _. record { is = tt }) (λ _. either (Sound s m) (not ((r.cipher == s.cipher m.session) && (r.signing == s.signing m.session))) _ _ (λ _. record { is = tt }) (λ _. either (Sound s m) (is_some (s.session_on m.connection)) _ _ (λ _. record { is = tt }) (λ _. either (Sound s m) (not r.verified) _ _ (λ _. record { is = tt }) (λ _. binding_token_sound s m r)))))
 
 binding_sound : (s : Server) (m : Message) (r : SetupRequest) → Sound s m (binding_check s m r)
 binding_sound s m r = either (Sound s m) (s.present m.session) _ _ (λ _. live_binding_sound s m r) (λ _. either (Sound s m) (not (is_new m.session (s.making m.connection))) _ _ (λ _. record { is = tt }) (λ _. either (Sound s m) (not r.signed) _ _ (λ _. record { is = tt }) (λ _. record { is = tt })))
@@ -284,7 +284,7 @@ sound_without_room s m (Show o last body) h = record { is = h.is }
 sound_without_room s m (KeepSlot o index number status elements) h = record { is = h.is }
 sound_without_room s m (PutRanges o index number ranges elements) h = record { is = h.is }
 sound_without_room s m (Alter o change body) h = record { is = h.is.0 }
-sound_without_room s m (Shut o body) h = record { is = h.is }
+sound_without_room s m (CloseOpen o body) h = record { is = h.is }
 sound_without_room s m Challenge h = record { is = tt }
 sound_without_room s m (ChallengeBinding session) h = record { is = tt }
 sound_without_room s m (Begin session user previous r is_quiet) h = record { is = h.is }

@@ -80,7 +80,7 @@ more_up : (conns : ℕ → Conn) (j n g : ℕ) (x : Sent) → slice_get (conns j
 more_up conns j n g x h e = let z = own_up_count g (conns j).up n x h e in omega (arith, z)
 
 -- a copy on an open connection is outstanding there
-pub out_there : (w : World) (a : ℕ → ℕ) → Lower w a → ContentsHold w a → (j n p : ℕ) (x : Sent) → slice_get (w.conns j).up n ≡ Some x → x.token ≡ ForOp p → (w.conns j).client_open ≡ true → w.client.on p ≡ Some j × w.client.asking p ≡ false
+pub out_there : (w : World) (a : ℕ → ℕ) → Lower w a → ContentsHold w a → (j n p : ℕ) (x : Sent) → slice_get (w.conns j).up n ≡ Some x → x.token ≡ ForOp p → (w.conns j).client_open ≡ true → w.client.outstanding_on p ≡ Some j × w.client.asks_attach p ≡ false
 out_there w a l i j n p x h e o =
     (l.cn.outstanding j p o (more_up w.conns j n p x h e) (subst (λ g. 0 < g) (ap op_of e) (i.token_up j n x h (ops_of x.token p e)).0), l.cn.own_up j n p x h o e)
 
@@ -193,15 +193,15 @@ no_some : (o : Option ℕ) (k : ℕ) → o ≡ None → o ≡ Some k → ⊥
 no_some o k e f = absurd (grind arith)
 
 -- nothing of what isn't outstanding waits as a reply, nor on an open connection
-quiet_down : (w : World) (a : ℕ → ℕ) → Lower w a → ContentsHold w a → (g : ℕ) → 0 < g → w.client.on g ≡ None → (j n : ℕ) (y : Received) → slice_get (w.conns j).down n ≡ Some y → op_of y.token ≢ g
+quiet_down : (w : World) (a : ℕ → ℕ) → Lower w a → ContentsHold w a → (g : ℕ) → 0 < g → w.client.outstanding_on g ≡ None → (j n : ℕ) (y : Received) → slice_get (w.conns j).down n ≡ Some y → op_of y.token ≢ g
 quiet_down w a l i g ab none j n y h e =
-    no_some (w.client.on g) j none (l.cn.outstanding j g (open_of_down w a l j n y h) (let c = counted_down g (w.conns j).down n y h e in omega (arith, c)) ab)
+    no_some (w.client.outstanding_on g) j none (l.cn.outstanding j g (open_of_down w a l j n y h) (let c = counted_down g (w.conns j).down n y h e in omega (arith, c)) ab)
 
-off_up : (w : World) (a : ℕ → ℕ) → Lower w a → ContentsHold w a → (g : ℕ) → w.client.on g ≡ None → (j n : ℕ) (x : Sent) → slice_get (w.conns j).up n ≡ Some x → x.token ≡ ForOp g → (w.conns j).client_open ≡ false
+off_up : (w : World) (a : ℕ → ℕ) → Lower w a → ContentsHold w a → (g : ℕ) → w.client.outstanding_on g ≡ None → (j n : ℕ) (x : Sent) → slice_get (w.conns j).up n ≡ Some x → x.token ≡ ForOp g → (w.conns j).client_open ≡ false
 off_up w a l i g none j n x h e = by_test (w.conns j).client_open refl
   where
     by_test : (b : Bool) → (w.conns j).client_open ≡ b → (w.conns j).client_open ≡ false
-    by_test true o = absurd (no_some (w.client.on g) j none (out_there w a l i j n g x h e o).0)
+    by_test true o = absurd (no_some (w.client.outstanding_on g) j none (out_there w a l i j n g x h e o).0)
     by_test false o = o
 
 -- it goes out from this table, which differs in outcomes, slots and what went out alone
@@ -209,7 +209,7 @@ record Goes (w : World) (a : ℕ → ℕ) (c : Client) (l : Log) (k g : ℕ) : T
   holds : Contents c w.conns w.server w.trace l a
   file : c.file ≡ w.client.file
   op : c.op ≡ w.client.op
-  on : c.on ≡ w.client.on
+  outstanding_on : c.outstanding_on ≡ w.client.outstanding_on
   may : MayPush c k g
   live : c.live ≡ true
   itself : goes_itself c g ≡ true
@@ -218,15 +218,15 @@ sends : (w : World) (a : ℕ → ℕ) (c : Client) (l : Log) (k g n0 : ℕ) (m :
     → Contents (outstanding c k g) (put w.conns k (send_up (w.conns k) (ForOp g) m n0)) w.server w.trace l a
 unfolding its_create
 sends w a c l k g n0 m lw i0 stands q ms mq mr =
-    let none : w.client.on g ≡ None = ap (λ f. f g) (sym q.on) ∙ q.may.none in
+    let none : w.client.outstanding_on g ≡ None = ap (λ f. f g) (sym q.outstanding_on) ∙ q.may.none in
     send_keeps c w.conns w.server w.trace l a k g n0 m stands q.may.none q.may.above q.may.within q.may.pending q.live ms mq q.may.has_open
-    (λ ed. mr ∙ replays_by (c.op g) (c.before g) ed)
+    (λ ed. mr ∙ replays_by (c.op g) (c.unanswered g) ed)
     (λ ed. q.holds.now_pair (create_for c g) (eqb-true _ _ (back_of c.live _ (itself_of (c.op g) _ ed q.itself))) q.live)
     (λ j n y h e. quiet_down w a lw i0 g q.may.above none j n y h (ap op_of e))
     (λ j n x h e. off_up w a lw i0 g none j n x h e)
-    (λ ed b. q.holds.unacted g ed b (none_out (c.asking g) (c.on g) q.may.none) q.may.pending) q.holds
+    (λ ed b. q.holds.unacted g ed b (none_out (c.asks_attach g) (c.outstanding_on g) q.may.none) q.may.pending) q.holds
 
-starts : (w : World) (a : ℕ → ℕ) (c : Client) (k g : ℕ) → Lower w a → ContentsHold w a → Slotless w a c → may_push c k g ≡ true → w.client.live ≡ true → c.live ≡ true → c.on ≡ w.client.on → c.sent g ≡ false
+starts : (w : World) (a : ℕ → ℕ) (c : Client) (k g : ℕ) → Lower w a → ContentsHold w a → Slotless w a c → may_push c k g ≡ true → w.client.live ≡ true → c.live ≡ true → c.outstanding_on ≡ w.client.outstanding_on → c.sent g ≡ false
     → Contents (record c { sent = put c.sent g true }) w.conns w.server w.trace (record w.log { since = put w.log.since g w.log.places; prior = put w.log.prior g (λ q. is_firm (w.client.outcome q)) }) a
 starts w a c k g l i0 i may live lc on new =
     let m = found c k g may in
@@ -251,12 +251,12 @@ starts w a c k g l i0 i may live lc on new =
 record Beside (w : World) (c : Client) : Type 0 where
   file : c.file ≡ w.client.file
   op : c.op ≡ w.client.op
-  on : c.on ≡ w.client.on
+  outstanding_on : c.outstanding_on ≡ w.client.outstanding_on
   sent : c.sent ≡ w.client.sent
   live : c.live ≡ w.client.live
 
 beside_of : (w : World) (c : Client) → c ≡ Only w.client c.outcome → Beside w c
-beside_of w c e = record { file = ap (λ (d : Client). d.file) e; op = ap (λ (d : Client). d.op) e; on = ap (λ (d : Client). d.on) e; sent = ap (λ (d : Client). d.sent) e; live = ap (λ (d : Client). d.live) e }
+beside_of w c e = record { file = ap (λ (d : Client). d.file) e; op = ap (λ (d : Client). d.op) e; outstanding_on = ap (λ (d : Client). d.outstanding_on) e; sent = ap (λ (d : Client). d.sent) e; live = ap (λ (d : Client). d.live) e }
 
 old_log : (w : World) (g : ℕ) → w.client.sent g ≡ true → first_push w g ≡ w.log
 old_log w g e = rw e refl
@@ -272,19 +272,19 @@ goes_out : (w : World) (a : ℕ → ℕ) (c : Client) (k g s : ℕ) → Lower w 
 goes_out w a c k g s l i0 i may itself stands live true e =
     let y = beside_of w c i.is in let m = found c k g may in
     subst (λ lg. Out w a k g lg (again c g)) (sym (old_log w g (ap (λ f. f g) (sym y.sent) ∙ e)))
-    (either (Out w a k g w.log) (is_lock (c.op g)) (record c { retried = put2 c.retried (create_for c g) (c.slot_of g) c.number }) c
-    (λ _. sends w a (record c { retried = put2 c.retried (create_for c g) (c.slot_of g) c.number }) w.log k g _ _ l i0 stands
-    (record { holds = retried_keeps c w.conns w.server w.trace w.log a (create_for c g) (c.slot_of g) i.holds; file = y.file; op = y.op; on = y.on; may = record { ready = m.ready; above = m.above; within = m.within; pending = m.pending; none = m.none; has_open = m.has_open }; live = y.live ∙ live; itself = itself }) refl refl refl)
-    (λ _. sends w a c w.log k g _ _ l i0 stands (record { holds = i.holds; file = y.file; op = y.op; on = y.on; may = m; live = y.live ∙ live; itself = itself }) refl refl refl))
+    (either (Out w a k g w.log) (is_lock (c.op g)) (record c { retried = put2 c.retried (create_for c g) (c.slot_of g) c.session_number }) c
+    (λ _. sends w a (record c { retried = put2 c.retried (create_for c g) (c.slot_of g) c.session_number }) w.log k g _ _ l i0 stands
+    (record { holds = retried_keeps c w.conns w.server w.trace w.log a (create_for c g) (c.slot_of g) i.holds; file = y.file; op = y.op; outstanding_on = y.outstanding_on; may = record { ready = m.ready; above = m.above; within = m.within; pending = m.pending; none = m.none; has_open = m.has_open }; live = y.live ∙ live; itself = itself }) refl refl refl)
+    (λ _. sends w a c w.log k g _ _ l i0 stands (record { holds = i.holds; file = y.file; op = y.op; outstanding_on = y.outstanding_on; may = m; live = y.live ∙ live; itself = itself }) refl refl refl))
 goes_out w a c k g s l i0 i may itself stands live false e =
-    let y = beside_of w c i.is in let m = found c k g may in let h = starts w a c k g l i0 i may live (y.live ∙ live) y.on e in
+    let y = beside_of w c i.is in let m = found c k g may in let h = starts w a c k g l i0 i may live (y.live ∙ live) y.outstanding_on e in
     let lg : Log = record w.log { since = put w.log.since g w.log.places; prior = put w.log.prior g (λ q. is_firm (w.client.outcome q)) } in
     subst (λ lg. Out w a k g lg (begin c g s)) (sym (new_log w g (ap (λ f. f g) (sym y.sent) ∙ e)))
     (either (Out w a k g lg) (is_lock (c.op g)) (record (take_slot c g s) { sent = put c.sent g true }) (record c { sent = put c.sent g true })
     (λ _. sends w a (record (take_slot c g s) { sent = put c.sent g true }) lg k g _ _ l i0 stands
-    (record { holds = take_slot_keeps (record c { sent = put c.sent g true }) w.conns w.server w.trace lg a g s h; file = y.file; op = y.op; on = y.on; may = record { ready = m.ready; above = m.above; within = m.within; pending = m.pending; none = m.none; has_open = m.has_open }; live = y.live ∙ live; itself = itself }) refl refl refl)
+    (record { holds = take_slot_keeps (record c { sent = put c.sent g true }) w.conns w.server w.trace lg a g s h; file = y.file; op = y.op; outstanding_on = y.outstanding_on; may = record { ready = m.ready; above = m.above; within = m.within; pending = m.pending; none = m.none; has_open = m.has_open }; live = y.live ∙ live; itself = itself }) refl refl refl)
     (λ _. sends w a (record c { sent = put c.sent g true }) lg k g _ _ l i0 stands
-    (record { holds = h; file = y.file; op = y.op; on = y.on; may = record { ready = m.ready; above = m.above; within = m.within; pending = m.pending; none = m.none; has_open = m.has_open }; live = y.live ∙ live; itself = itself }) refl refl refl))
+    (record { holds = h; file = y.file; op = y.op; outstanding_on = y.outstanding_on; may = record { ready = m.ready; above = m.above; within = m.within; pending = m.pending; none = m.none; has_open = m.has_open }; live = y.live ∙ live; itself = itself }) refl refl refl))
 
 no_create : (op : Op) (x : Bool) → (is_create op || x) ≡ false → makes_open op ≡ false
 unfolding makes_open

@@ -49,13 +49,13 @@ new_acts a x A h = if is_send_of h x.token && A.acted then a h + 1 else a h
 
 pub record Taking (c : Client) (s : Server) (t : Trace) (x0 : Sent) (A : Answer) : Type 0 where
   pub steps : Steps c.rank s A.server
-  pub at : (o y : ℕ) → A.server.at o ≡ Some y → (s.at o ≡ Some y × A.server.sequence o ≤ s.sequence o) ⊎ (A.reached ≡ Some o × y ≡ x0.message.session × A.server.sequence o ≤ x0.message.sequence)
+  pub session_of_open : (o y : ℕ) → A.server.session_of_open o ≡ Some y → (s.session_of_open o ≡ Some y × A.server.sequence o ≤ s.sequence o) ⊎ (A.reached ≡ Some o × y ≡ x0.message.session × A.server.sequence o ≤ x0.message.sequence)
   pub reached : (o : ℕ) → A.reached ≡ Some o → o ≤ last_id A.server × Pair A.server x0.message.session x0.message.sequence o
   pub ops : (o : ℕ) → A.reached ≡ Some o → is_ops x0.token ≡ true
   pub changing : Changing s x0.message A
   pub making : Making s x0.message A
   pub given : (o : ℕ) → s.standing o ≡ true → o ≤ last_id s
-  pub attached : (o y : ℕ) → s.at o ≡ Some y → s.present y ≡ true
+  pub attached : (o y : ℕ) → s.session_of_open o ≡ Some y → s.present y ≡ true
   -- a read, a write or an end, by its own message
   pub listed : (g : ℕ) → x0.token ≡ ForOp g → lists (c.op g) ≡ true → ListedFacts s x0.message (content_op (c.op g)) (file_at c g) A
   pub well_formed : (g : ℕ) → x0.token ≡ ForOp g → form x0.message.command ≡ None → formed (c.op g) ≡ true

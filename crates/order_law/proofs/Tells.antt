@@ -5,15 +5,15 @@ use Rattle.exchange_defs.specs.Texts.{same_name}
 use Rattle.exchange_defs.specs.Status.{success}
 use Rattle.exchange_defs.specs.Commands.{Create, CreateRequest, Durable, deletes_on_close, form, create_form, path_form, is_setup}
 use Rattle.exchange_defs.specs.State.{Server, Message, Heard, Answer}
-use Rattle.exchange_defs.specs.Files.{find, mark_file, remove_file}
-use Rattle.exchange_defs.specs.Opens.{deletes, mapped, leave_open, drop_open, marked_by, without_gone, goes}
+use Rattle.exchange_defs.specs.Files.{find, set_delete_pending, remove_file}
+use Rattle.exchange_defs.specs.Opens.{deletes, mapped, leave_open, drop_open, pending_behind, without_gone, goes}
 use Rattle.exchange_defs.specs.Operations.{id_in}
 use Rattle.exchange_defs.specs.CheckCreate.{shares, keeps_guid, max_guids, is_counted_out, refused_by, after_names, names, new_check, live_check, refusal_check, guid_check, durable_check, reconnect_or_create}
 use Rattle.exchange_defs.specs.CheckSetup.{tree_in}
 use Rattle.exchange_defs.specs.Check.{has_session, in_tree, tree_command, command_check, formed, owed, check}
 use Rattle.exchange_defs.specs.Effects.{apply}
-use Rattle.exchange_defs.specs.Verdict.{Verdict, Refuse, Give, KeepRefusal, Repeat, Attach, Make, TurnDown, Tell, Show, KeepSlot, PutRanges, Alter, Shut, Challenge, ChallengeBinding, Begin, Join, EndSession, AddTree, DropTree}
-use Rattle.exchange_defs.specs.Step.{step, without_room, with_deadlines, add_mark}
+use Rattle.exchange_defs.specs.Verdict.{Verdict, Refuse, Give, KeepRefusal, Repeat, Attach, Make, TurnDown, Tell, Show, KeepSlot, PutRanges, Alter, CloseOpen, Challenge, ChallengeBinding, Begin, Join, EndSession, AddTree, DropTree}
+use Rattle.exchange_defs.specs.Step.{step, without_room, with_deadlines, add_expired_guid}
 use Rattle.exchange_defs.specs.Network.{answer_to}
 use Rattle.server_law.proofs.Doors.{by_verdict, Before, Finds}
 use Rattle.server_law.proofs.Logic.{either}
@@ -50,8 +50,8 @@ new_sure s m d r f k =
 
 live_sure : (s : Server) (m : Message) (d : Durable) (r : CreateRequest) (o : ℕ) → s.by_guid m.client d.guid ≡ Some o → Sure s m d (live_check s m r o)
 live_sure s m d r o e =
-    either (Sure s m d) (not m.replay) _ _ (λ _. record { is = refl }) (λ _. either (Sure s m d) (is_at m.session (s.at o)) _ _ (λ _. record { is = e })
-    (λ _. either (Sure s m d) (is_some (s.at o) || not (s.opened o).persistent) _ _ (λ _. record { is = refl }) (λ _. either (Sure s m d) (same_name (s.opened o).user (s.user m.session)) _ _ (λ _. record { is = e }) (λ _. record { is = refl }))))
+    either (Sure s m d) (not m.replay) _ _ (λ _. record { is = refl }) (λ _. either (Sure s m d) (is_at m.session (s.session_of_open o)) _ _ (λ _. record { is = e })
+    (λ _. either (Sure s m d) (is_some (s.session_of_open o) || not (s.opened o).persistent) _ _ (λ _. record { is = refl }) (λ _. either (Sure s m d) (same_name (s.opened o).user (s.user m.session)) _ _ (λ _. record { is = e }) (λ _. record { is = refl }))))
 
 refusal_sure : (s : Server) (m : Message) (d : Durable) (r : CreateRequest) (k : Option ℕ) → r.durable ≡ Some d → ((status : ℕ) → k ≡ Some status → (status == success) ≡ false) → Sure s m d (refusal_check s m r k)
 refusal_sure s m d r (Some status) k f = record { is = f status refl }
@@ -60,7 +60,7 @@ refusal_sure s m d r None k f = new_sure s m d r (find s r.path) k
 guid_sure : (s : Server) (m : Message) (d : Durable) (r : CreateRequest) (o : Option ℕ) → r.durable ≡ Some d → Unkept s m → s.by_guid m.client d.guid ≡ o → Sure s m d (guid_check s m r d o)
 guid_sure s m d r (Some o) k u e = live_sure s m d r o e
 guid_sure s m d r None k u e =
-    either (Sure s m d) (s.closed m.session d.guid) _ _ (λ _. record { is = refl }) (λ _. either (Sure s m d) (s.marks m.client d.guid) _ _ (λ _. record { is = refl }) (λ _. refusal_sure s m d r (s.refused m.session d.guid) k (u d.guid)))
+    either (Sure s m d) (s.closed m.session d.guid) _ _ (λ _. record { is = refl }) (λ _. either (Sure s m d) (s.expired_guids m.client d.guid) _ _ (λ _. record { is = refl }) (λ _. refusal_sure s m d r (s.refused m.session d.guid) k (u d.guid)))
 
 tree_sure : (s : Server) (m : Message) (d : Durable) (r : CreateRequest) → m.command ≡ Create r → r.reconnect ≡ None → r.durable ≡ Some d → Unkept s m → (t : Option Bool) → Sure s m d (in_tree s m t)
 tree_sure s m d r e n k u None = record { is = refl }
@@ -94,7 +94,7 @@ sure_without_room s m d (Show o last body) h k = absurd (h.is)
 sure_without_room s m d (KeepSlot o index number status elements) h k = absurd (h.is)
 sure_without_room s m d (PutRanges o index number ranges elements) h k = absurd (h.is)
 sure_without_room s m d (Alter o change body) h k = absurd (h.is)
-sure_without_room s m d (Shut o body) h k = absurd (h.is)
+sure_without_room s m d (CloseOpen o body) h k = absurd (h.is)
 sure_without_room s m d Challenge h k = absurd (h.is)
 sure_without_room s m d (ChallengeBinding session) h k = absurd (h.is)
 sure_without_room s m d (Begin session user previous r1 is_quiet) h k = absurd (h.is)
@@ -120,7 +120,7 @@ tells_at s m d now (Show o last body) h f = absurd (h.is)
 tells_at s m d now (KeepSlot o index number status elements) h f = absurd (h.is)
 tells_at s m d now (PutRanges o index number ranges elements) h f = absurd (h.is)
 tells_at s m d now (Alter o change body) h f = absurd (h.is)
-tells_at s m d now (Shut o body) h f = absurd (h.is)
+tells_at s m d now (CloseOpen o body) h f = absurd (h.is)
 tells_at s m d now Challenge h f = absurd (h.is)
 tells_at s m d now (ChallengeBinding session) h f = absurd (h.is)
 tells_at s m d now (Begin session user previous r1 is_quiet) h f = absurd (h.is)
@@ -130,18 +130,18 @@ tells_at s m d now (AddTree pipes) h f = absurd (h.is)
 tells_at s m d now DropTree h f = absurd (h.is)
 
 leave_refused : (s : Server) (o : ℕ) → (leave_open s o).refused ≡ s.refused
-leave_refused s o = gone (drop_open (marked_by s o) o) (s.opened o).file ∙ either (λ (t : Server). t.refused ≡ s.refused) (deletes_on_close (s.opened o).options) (mark_file s (s.opened o).file true) s (λ _. refl) (λ _. refl)
+leave_refused s o = gone (drop_open (pending_behind s o) o) (s.opened o).file ∙ either (λ (t : Server). t.refused ≡ s.refused) (deletes_on_close (s.opened o).options) (set_delete_pending s (s.opened o).file true) s (λ _. refl) (λ _. refl)
   where
     gone : (s : Server) (f : ℕ) → (without_gone s f).refused ≡ s.refused
     gone s f = either (λ (t : Server). t.refused ≡ s.refused) (goes s f) (remove_file s f) s (λ _. refl) (λ _. refl)
 
 before_refused : (s : Server) (now : ℕ) (t : Server) → Before s now t → t.refused ≡ s.refused
 before_refused s now t (inl e) = ap (λ (u : Server). u.refused) e
-before_refused s now t (inr (o, q, e)) = ap (λ (u : Server). u.refused) e ∙ marked (leave_open (with_deadlines s now) o) (s.opened o).client (s.opened o).guid ∙ leave_refused (with_deadlines s now) o
+before_refused s now t (inr (o, q, e)) = ap (λ (u : Server). u.refused) e ∙ guid_added (leave_open (with_deadlines s now) o) (s.opened o).client (s.opened o).guid ∙ leave_refused (with_deadlines s now) o
   where
-    marked : (s : Server) (client : ℕ) (guid : Option ℕ) → (add_mark s client guid).refused ≡ s.refused
-    marked s client None = refl
-    marked s client (Some g) = refl
+    guid_added : (s : Server) (client : ℕ) (guid : Option ℕ) → (add_expired_guid s client guid).refused ≡ s.refused
+    guid_added s client None = refl
+    guid_added s client (Some g) = refl
 
 found_sure : (t : Server) (m : Message) (d : Durable) (r : CreateRequest) (v : Verdict) → m.command ≡ Create r → r.durable ≡ Some d → Sure t m d (check t m) → Finds t m v → Sure t m d v
 found_sure t m d r v e k c (inl q) = subst (Sure t m d) (sym q) c

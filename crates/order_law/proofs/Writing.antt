@@ -11,7 +11,7 @@ use Rattle.exchange_defs.specs.Opens.{id_of, denies_writers, writes, mapped}
 use Rattle.exchange_defs.specs.CheckCreate.{empties, shares}
 use Rattle.exchange_defs.specs.CheckOpen.{file_of, has_access}
 use Rattle.exchange_defs.specs.Effects.{apply, reach, change_file, change_acts, file_made, make_open, next_open, new_file, open_row, is_touched_at, set_ranges}
-use Rattle.exchange_defs.specs.Verdict.{Verdict, Refuse, Give, KeepRefusal, Repeat, Attach, Make, TurnDown, Tell, Show, KeepSlot, PutRanges, Alter, Shut, Challenge, ChallengeBinding, Begin, Join, EndSession, AddTree, DropTree, Change, PutBytes, PutEnd, PutBasic, PutMark, PutPath, PutNothing}
+use Rattle.exchange_defs.specs.Verdict.{Verdict, Refuse, Give, KeepRefusal, Repeat, Attach, Make, TurnDown, Tell, Show, KeepSlot, PutRanges, Alter, CloseOpen, Challenge, ChallengeBinding, Begin, Join, EndSession, AddTree, DropTree, Change, PutBytes, PutEnd, PutBasic, PutDeletePending, PutPath, PutNothing}
 use Rattle.exchange_defs.specs.Step.{step}
 use Rattle.exchange_defs.specs.Network.{answer_to}
 use Rattle.server_law.proofs.Doors.{by_verdict, recorded, Before}
@@ -51,7 +51,7 @@ pub record Changing (s : Server) (m : Message) (A : Answer) : Type 0 where
 pub record Kept (s : Server) : Type 0 where
   pub listed : (o : ℕ) → has o s.opens ≡ s.standing o
   pub fresh : (o : ℕ) → s.standing o ≡ true → (s.opened o).file ≢ s.next_file
-  pub ids : (o : ℕ) → s.standing o ≡ true → o ≤ id_of s.epoch s.given
+  pub ids : (o : ℕ) → s.standing o ≡ true → o ≤ id_of s.epoch s.open_ids_given
 
 -- no open is made, and rows stay
 denied_kept : (s t : Server) → ((o : ℕ) → t.standing o ≡ true → s.standing o ≡ true) → t.opened ≡ s.opened → Denied s → Denied t
@@ -90,7 +90,7 @@ other_file s f g now (PutEnd size) n = put_apart s.content f (ended size (s.cont
     put_apart : (h : ℕ → List ℕ) (k : ℕ) (v : List ℕ) (q : ℕ) → q ≢ k → put h k v q ≡ h q
     put_apart h k v q n = grind arith
 other_file s f g now (PutBasic basic) n = refl
-other_file s f g now (PutMark flag) n = refl
+other_file s f g now (PutDeletePending flag) n = refl
 other_file s f g now (PutPath replaced path) n = refl
 other_file s f g now PutNothing n = refl
 
@@ -111,7 +111,7 @@ own_file s t f now (PutEnd size) c a = put_here t.content f (ended size (t.conte
     first_of : (x y : Bool) → not (x && y) ≡ false → x ≡ true
     first_of x y e = grind arith
 own_file s t f now (PutBasic basic) c a = ap (λ g. g f) c
-own_file s t f now (PutMark flag) c a = ap (λ g. g f) c
+own_file s t f now (PutDeletePending flag) c a = ap (λ g. g f) c
 own_file s t f now (PutPath replaced path) c a = ap (λ g. g f) c
 own_file s t f now PutNothing c a = ap (λ g. g f) c
 
@@ -125,7 +125,7 @@ unfolding alters_bytes
 unaltered s t f now (PutBytes at bytes) c a = absurd (cc)
 unaltered s t f now (PutEnd size) c a = absurd (cc)
 unaltered s t f now (PutBasic basic) c a = ap (λ g. g f) c
-unaltered s t f now (PutMark flag) c a = ap (λ g. g f) c
+unaltered s t f now (PutDeletePending flag) c a = ap (λ g. g f) c
 unaltered s t f now (PutPath replaced path) c a = ap (λ g. g f) c
 unaltered s t f now PutNothing c a = ap (λ g. g f) c
 
@@ -265,7 +265,7 @@ verdict_changing s m now k g (Show o last body) h = quiet_changing s m _ (rows_o
 verdict_changing s m now k g (KeepSlot o index number status elements) h = quiet_changing s m _ (rows_on s (reach s m o) _ (rows_of s _ (reach_moves s m o g.low g.sequence)) (let a = slot_alike (reach s m o) o index number status in rows_same (reach s m o) _ a.opened a.standing)) (content_slot (reach s m o) o index number status ∙ content_reach s m o)
 verdict_changing s m now k g (PutRanges o index number ranges elements) h = quiet_changing s m _ (rows_on s (reach s m o) _ (rows_of s _ (reach_moves s m o g.low g.sequence)) (let a = slot_alike (set_ranges (reach s m o) (file_of s o) ranges) o index number 0 in rows_same (reach s m o) _ a.opened a.standing)) (content_slot (set_ranges (reach s m o) (file_of s o) ranges) o index number 0 ∙ content_reach s m o)
 verdict_changing s m now k g (Alter o change body) h = alter_changing s m o now change body h (rows_on s (reach s m o) _ (rows_of s _ (reach_moves s m o g.low g.sequence)) (let a = change_alike (reach s m o) (file_of s o) now change in rows_same (reach s m o) _ a.opened a.standing))
-verdict_changing s m now k g (Shut o body) h = quiet_changing s m _ (rows_of s _ (shut_moves s o m.session (s.opened o).guid)) (content_shut s o m.session (s.opened o).guid)
+verdict_changing s m now k g (CloseOpen o body) h = quiet_changing s m _ (rows_of s _ (shut_moves s o m.session (s.opened o).guid)) (content_shut s o m.session (s.opened o).guid)
 verdict_changing s m now k g Challenge h = quiet_changing s m _ (record { opened = refl; stands = λ o h. h }) refl
 verdict_changing s m now k g (ChallengeBinding session) h = quiet_changing s m _ (record { opened = refl; stands = λ o h. h }) refl
 verdict_changing s m now k g (Begin session user previous r is_quiet) h = quiet_changing s m _ (let e = end_named_moves s now previous is_quiet in record { opened = e.row; stands = e.stands }) (content_end_named s now previous is_quiet)
@@ -331,8 +331,8 @@ changing_step s now m f low l =
     let pf = verdict_facts t m now g v (found_sound t m v h) in
     changing_recorded s m _ records (changing_before s t m _ k (λ o st sa. pf.stands o (same_ids s t k o (f.open_ids o st).1) sa) (verdict_changing t m now (kept_of t ft) g v (found t m v h))))
   where
-    same_ids : (s t : Server) → Earlier s t → (o : ℕ) → o ≤ id_of s.epoch s.given → o ≤ id_of t.epoch t.given
-    same_ids s t k o l = let a = k.moves.epoch in let b = k.moves.given in same s.epoch s.given t.epoch t.given o a b l
+    same_ids : (s t : Server) → Earlier s t → (o : ℕ) → o ≤ id_of s.epoch s.open_ids_given → o ≤ id_of t.epoch t.open_ids_given
+    same_ids s t k o l = let a = k.moves.epoch in let b = k.moves.given in same s.epoch s.open_ids_given t.epoch t.open_ids_given o a b l
       where
         same : (e g e2 g2 o : ℕ) → e2 ≡ e → g2 ≡ g → o ≤ id_of e g → o ≤ id_of e2 g2
         same e g e2 g2 o a b l = omega (arith, a, b, l)

@@ -55,7 +55,7 @@ pends c g = if is_unsettled (c.outcome g) then true else is_at c.session (c.give
 
 -- the last id that was given
 abbrev pub last_id : Server → ℕ
-last_id s = id_of s.epoch s.given
+last_id s = id_of s.epoch s.open_ids_given
 
 -- a reply behind which the edit's sequence reached its open
 abbrev pub is_final : ℕ → Bool
@@ -104,26 +104,26 @@ Pairwise c = (g h : ℕ) → g < h → c.sent h ≡ true → edits (c.op g) ≡ 
 
 -- one without an unanswered copy hasn't acted while its copy waits, nor where none does
 abbrev pub FirstUp : Client → (ℕ → Conn) → Log → Type 0
-FirstUp c conns l = (k n g : ℕ) (x : Sent) → slice_get (conns k).up n ≡ Some x → x.token ≡ ForOp g → edits (c.op g) ≡ true → c.before g ≡ false → (conns k).client_open ≡ true × l.first g ≡ None
+FirstUp c conns l = (k n g : ℕ) (x : Sent) → slice_get (conns k).up n ≡ Some x → x.token ≡ ForOp g → edits (c.op g) ≡ true → c.unanswered g ≡ false → (conns k).client_open ≡ true × l.first g ≡ None
 
 abbrev pub Unacted : Client → Log → Type 0
-Unacted c l = (g : ℕ) → edits (c.op g) ≡ true → c.before g ≡ false → no_copy_out c g ≡ true → is_unsettled (c.outcome g) ≡ true → l.first g ≡ None
+Unacted c l = (g : ℕ) → edits (c.op g) ≡ true → c.unanswered g ≡ false → no_copy_out c g ≡ true → is_unsettled (c.outcome g) ≡ true → l.first g ≡ None
 
 abbrev pub FreshFirst : Client → Log → Type 0
 FreshFirst c l = (g : ℕ) → c.sent g ≡ false → l.first g ≡ None × l.since g ≡ 0
 
 abbrev pub NotDone : Client → (ℕ → Conn) → Log → Type 0
-NotDone c conns l = (k n g : ℕ) (y : Received) → slice_get (conns k).down n ≡ Some y → y.token ≡ ForOp g → edits (c.op g) ≡ true → (y.reply.status == success) ≡ false → c.before g ≡ false → l.first g ≡ None
+NotDone c conns l = (k n g : ℕ) (y : Received) → slice_get (conns k).down n ≡ Some y → y.token ≡ ForOp g → edits (c.op g) ≡ true → (y.reply.status == success) ≡ false → c.unanswered g ≡ false → l.first g ≡ None
 
 -- sequences: a copy that was cut is older than the session's, one that is outstanding has its operation's last
 abbrev pub CutSeq : Client → (ℕ → Conn) → Type 0
 CutSeq c conns = (k n g : ℕ) (x : Sent) → slice_get (conns k).up n ≡ Some x → x.token ≡ ForOp g → edits (c.op g) ≡ true → (conns k).client_open ≡ false → c.live ≡ true → x.message.session ≡ c.session → x.message.sequence < c.sequence
 
 abbrev pub OpenSeq : Client → (ℕ → Conn) → Type 0
-OpenSeq c conns = (k n g : ℕ) (x : Sent) → slice_get (conns k).up n ≡ Some x → x.token ≡ ForOp g → edits (c.op g) ≡ true → (conns k).client_open ≡ true → x.message.sequence ≡ c.seq_of g
+OpenSeq c conns = (k n g : ℕ) (x : Sent) → slice_get (conns k).up n ≡ Some x → x.token ≡ ForOp g → edits (c.op g) ≡ true → (conns k).client_open ≡ true → x.message.sequence ≡ c.sequence_of g
 
 abbrev pub Older : Client → (ℕ → Conn) → Type 0
-Older c conns = (k n j g : ℕ) (x : Sent) → slice_get (conns k).up n ≡ Some x → x.token ≡ ForOp g → edits (c.op g) ≡ true → c.asking g ≡ false → c.on g ≡ Some j → k ≢ j → x.message.session ≡ c.session → x.message.sequence < c.seq_of g
+Older c conns = (k n j g : ℕ) (x : Sent) → slice_get (conns k).up n ≡ Some x → x.token ≡ ForOp g → edits (c.op g) ≡ true → c.asks_attach g ≡ false → c.outstanding_on g ≡ Some j → k ≢ j → x.message.session ≡ c.session → x.message.sequence < c.sequence_of g
 
 -- of two copies the one without the replay flag is the older
 abbrev pub NoReplay : Client → (ℕ → Conn) → Type 0
@@ -137,7 +137,7 @@ abbrev pub CopyPair : Client → (ℕ → Conn) → Server → Type 0
 CopyPair c conns s = (k n g : ℕ) (x : Sent) → slice_get (conns k).up n ≡ Some x → x.token ≡ ForOp g → edits (c.op g) ≡ true → Pair s x.message.session 0 (file_at c g) × file_at c g ≤ last_id s
 
 abbrev pub NowPair : Client → Server → Type 0
-NowPair c s = (q : ℕ) → c.attached q ≡ c.number → c.live ≡ true → Pair s c.session 0 (c.file q) × c.file q ≤ last_id s
+NowPair c s = (q : ℕ) → c.attached q ≡ c.session_number → c.live ≡ true → Pair s c.session 0 (c.file q) × c.file q ≤ last_id s
 
 abbrev pub CreateReply : Client → (ℕ → Conn) → Server → Trace → Type 0
 CreateReply c conns s t = (k n g : ℕ) (y : Received) → slice_get (conns k).down n ≡ Some y → y.token ≡ ForOp g → makes_open (c.op g) ≡ true → y.reply.status ≡ success
@@ -148,7 +148,7 @@ AttachReply c conns s = (k n g : ℕ) (y : Received) → slice_get (conns k).dow
 
 abbrev pub Reached : Client → (ℕ → Conn) → Server → Type 0
 Reached c conns s = (k n g : ℕ) (y : Received) → slice_get (conns k).down n ≡ Some y → y.token ≡ ForOp g → edits (c.op g) ≡ true → formed (c.op g) ≡ true → is_final y.reply.status ≡ true
-    → Pair s c.session (c.seq_of g) (file_at c g) × file_at c g ≤ last_id s
+    → Pair s c.session (c.sequence_of g) (file_at c g) × file_at c g ≤ last_id s
 
 abbrev pub ClosedReply : Client → (ℕ → Conn) → Server → Type 0
 ClosedReply c conns s = (k n g : ℕ) (y : Received) → slice_get (conns k).down n ≡ Some y → y.token ≡ ForOp g → edits (c.op g) ≡ true → y.reply.status ≡ file_closed → s.standing (file_at c g) ≡ false × file_at c g ≤ last_id s
@@ -158,13 +158,13 @@ AttachRefused c conns s = (k n g : ℕ) (y : Received) → slice_get (conns k).d
     → s.standing (file_at c g) ≡ false × file_at c g ≤ last_id s
 
 abbrev pub StaleReply : Client → (ℕ → Conn) → Type 0
-StaleReply c conns = (k n g : ℕ) (y : Received) → slice_get (conns k).down n ≡ Some y → y.token ≡ ForOp g → edits (c.op g) ≡ true → y.reply.status ≡ file_not_available → c.seq_of g < c.sequence
+StaleReply c conns = (k n g : ℕ) (y : Received) → slice_get (conns k).down n ≡ Some y → y.token ≡ ForOp g → edits (c.op g) ≡ true → y.reply.status ≡ file_not_available → c.sequence_of g < c.sequence
 
 abbrev pub SessionSeq : Client → Server → Type 0
-SessionSeq c s = (o : ℕ) → c.live ≡ true → s.at o ≡ Some c.session → s.sequence o ≤ c.sequence
+SessionSeq c s = (o : ℕ) → c.live ≡ true → s.session_of_open o ≡ Some c.session → s.sequence o ≤ c.sequence
 
 abbrev pub PendingAt : Client → Server → Type 0
-PendingAt c s = (o k : ℕ) → c.stage k ≡ AskedTree → s.at o ≢ Some c.pending
+PendingAt c s = (o k : ℕ) → c.stage k ≡ AskedTree → s.session_of_open o ≢ Some c.pending
 
 -- a copy that the server would still take: its open stands, its session is there, and it isn't older than the open's sequence
 abbrev pub LiveUnsettled : Client → (ℕ → Conn) → Server → Type 0
@@ -239,16 +239,16 @@ FirstAt l = (g n : ℕ) → l.first g ≡ Some n → n < l.places × l.who n ≡
 
 -- the reply that settled an operation, and those that wait, by the places of their messages
 abbrev pub By : Client → Log → Type 0
-By c l = (g n : ℕ) → c.by g ≡ Some n → n < l.places × l.who n ≡ g × 0 < g × is_unsettled (c.outcome g) ≡ false
+By c l = (g n : ℕ) → c.settled_by g ≡ Some n → n < l.places × l.who n ≡ g × 0 < g × is_unsettled (c.outcome g) ≡ false
 
 abbrev pub ByOk : Client → Log → Type 0
-ByOk c l = (g n : ℕ) (v : ContentReply) → lists (c.op g) ≡ true → c.by g ≡ Some n → settlement (c.op g) (c.outcome g) ≡ Settled_ok v → l.gave n ≡ Says_ok v
+ByOk c l = (g n : ℕ) (v : ContentReply) → lists (c.op g) ≡ true → c.settled_by g ≡ Some n → settlement (c.op g) (c.outcome g) ≡ Settled_ok v → l.gave n ≡ Says_ok v
 
 abbrev pub ByEnd : Client → Log → Type 0
-ByEnd c l = (g n : ℕ) → c.by g ≡ Some n → settlement (c.op g) (c.outcome g) ≡ Settled_end → l.gave n ≡ Says_end
+ByEnd c l = (g n : ℕ) → c.settled_by g ≡ Some n → settlement (c.op g) (c.outcome g) ≡ Settled_end → l.gave n ≡ Says_end
 
 abbrev pub BySome : Client → Type 0
-BySome c = (g : ℕ) → is_firm (c.outcome g) ≡ true → is_some (c.by g) ≡ true
+BySome c = (g : ℕ) → is_firm (c.outcome g) ≡ true → is_some (c.settled_by g) ≡ true
 
 abbrev pub Replies : (ℕ → Conn) → Log → Type 0
 Replies conns l = (k n : ℕ) (y : Received) → slice_get (conns k).down n ≡ Some y → y.place < l.places × l.who y.place ≡ op_of y.token × l.gave y.place ≡ said y.token y.reply
@@ -265,7 +265,7 @@ abbrev pub SinceReply : (ℕ → Conn) → Log → Type 0
 SinceReply conns l = (k n : ℕ) (y : Received) → slice_get (conns k).down n ≡ Some y → l.since (op_of y.token) ≤ y.place
 
 abbrev pub SinceBy : Client → Log → Type 0
-SinceBy c l = (g n : ℕ) → c.by g ≡ Some n → l.since g ≤ n
+SinceBy c l = (g n : ℕ) → c.settled_by g ≡ Some n → l.since g ≤ n
 
 abbrev pub SinceFirst : Log → Type 0
 SinceFirst l = (g n : ℕ) → l.first g ≡ Some n → l.since g ≤ n
@@ -274,7 +274,7 @@ abbrev pub Prior : Client → Log → Type 0
 Prior c l = (h g : ℕ) → l.prior h g ≡ true → c.sent h ≡ true × is_firm (c.outcome g) ≡ true
 
 abbrev pub PriorBy : Client → Log → Type 0
-PriorBy c l = (h g p : ℕ) → l.prior h g ≡ true → c.by g ≡ Some p → p < l.since h
+PriorBy c l = (h g p : ℕ) → l.prior h g ≡ true → c.settled_by g ≡ Some p → p < l.since h
 
 abbrev pub PriorFirst : Client → Log → Type 0
 PriorFirst c l = (h g p : ℕ) → edits (c.op g) ≡ true → l.prior h g ≡ true → l.first g ≡ Some p → p < l.since h

@@ -10,7 +10,7 @@ use Rattle.session_law.specs.Sessions.{Ranks, LastRank, RankOnce, PendingUnranke
 
 -- while the open stands and the session is there, the open is attached in it, at this sequence or a newer one
 abbrev pub Pair : Server → ℕ → ℕ → ℕ → Type 0
-Pair s session sequence o = s.standing o ≡ true → s.present session ≡ true → s.at o ≡ Some session × sequence ≤ s.sequence o
+Pair s session sequence o = s.standing o ≡ true → s.present session ≡ true → s.session_of_open o ≡ Some session × sequence ≤ s.sequence o
 
 -- a pair that reached an open is of a session that the client accepted, and the open's id was given
 abbrev pub Ranked : World → Type 0
@@ -20,7 +20,7 @@ abbrev pub RankedChange : World → Type 0
 RankedChange w = (i o : ℕ) → i < w.log.places → w.trace.altered i ≡ Some o → 0 < w.client.rank (w.trace.session i)
 
 abbrev pub ReachedGiven : World → Type 0
-ReachedGiven w = (i o : ℕ) → i < w.log.places → w.trace.reached i ≡ Some o → o ≤ id_of w.server.epoch w.server.given
+ReachedGiven w = (i o : ℕ) → i < w.log.places → w.trace.reached i ≡ Some o → o ≤ id_of w.server.epoch w.server.open_ids_given
 
 -- no pair that reached an open is newer than the open's own
 abbrev pub Held : World → Type 0

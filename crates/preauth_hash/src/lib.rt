@@ -1,4 +1,4 @@
-//! The preauthentication integrity hash: a chain of SHA-512 over whole messages (MS-SMB2 3.1.4.4.1).
+//! The preauthentication integrity hash: a chain of SHA-512 over whole messages (MS-SMB2 3.3.5.4, 3.3.5.5).
 #![tactic(auto)]
 
 ghost use Rattle.std.specs.Prelude.{◌≡◌, ℕ, List, [], ◌∷◌, ◌++◌};

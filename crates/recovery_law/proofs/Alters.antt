@@ -6,10 +6,10 @@ use Rattle.exchange_defs.specs.Content.{written, ended, is_empty}
 use Rattle.exchange_defs.specs.Commands.{Basic, Setting, SetBasic, Rename, SetDelete, SetAllocation, SetEnd}
 use Rattle.exchange_defs.specs.State.{Server, Message, Origin, WriteRecord, EndRecord, BasicRecord, DeleteRecord, RenameRecord, Body}
 use Rattle.exchange_defs.specs.Table.{number_or_zero}
-use Rattle.exchange_defs.specs.Files.{root, find, path_of, exists, is_directory, has_parent, passes_room, set_content, store_basic, mark_file, rename_file, allocated}
+use Rattle.exchange_defs.specs.Files.{root, find, path_of, exists, is_directory, has_parent, passes_room, set_content, store_basic, set_delete_pending, rename_file, allocated}
 use Rattle.exchange_defs.specs.Opens.{file_has_open}
 use Rattle.exchange_defs.specs.CheckOpen.{file_of, target_of, target_refused, delete_names}
-use Rattle.exchange_defs.specs.Verdict.{Change, PutBytes, PutEnd, PutBasic, PutMark, PutPath, PutNothing}
+use Rattle.exchange_defs.specs.Verdict.{Change, PutBytes, PutEnd, PutBasic, PutDeletePending, PutPath, PutNothing}
 use Rattle.exchange_defs.specs.Records.{origin_of}
 use Rattle.exchange_defs.specs.Effects.{change_file, change_records}
 use Rattle.exchange_defs.specs.Fold.{with_record, fold_from, is_file, may_rename, may_replace, same_target}
@@ -18,7 +18,7 @@ use Rattle.server_law.proofs.Found.{AlterFacts, WriteFacts, SettingFacts, settin
 use Rattle.recovery_law.specs.Recovers.{Files, Mirrors}
 use Rattle.recovery_law.proofs.Lists.{ext}
 use Rattle.recovery_law.proofs.Guards.{same_exists, same_directory, same_find, same_parent, same_path, has_room, none_open}
-use Rattle.recovery_law.proofs.Files.{stores_basic, sets_content, marks_file, renames_file}
+use Rattle.recovery_law.proofs.Files.{stores_basic, sets_content, sets_pending, renames_file}
 
 -- what the checks found of a change, as the record's guard asks for it
 pub record NameFacts (s : Server) (f : ℕ) (path : List ℕ) : Type 0 where
@@ -32,7 +32,7 @@ abbrev pub Allows : Server → ℕ → Change → Type 0
 Allows s f (PutBytes at bytes) = is_directory s f ≡ false × is_empty bytes ≡ false × passes_room s f (at + length bytes) ≡ false
 Allows s f (PutEnd size) = is_directory s f ≡ false × passes_room s f size ≡ false
 Allows s f (PutBasic basic) = Unit {0}
-Allows s f (PutMark flag) = flag ≡ true → (f == root) ≡ false
+Allows s f (PutDeletePending flag) = flag ≡ true → (f == root) ≡ false
 Allows s f (PutPath replaced path) = replaced ≡ target_of f (find s path) × NameFacts s f path
 Allows s f PutNothing = Unit {0}
 
@@ -66,19 +66,19 @@ set_end d s origin f size now there ok h =
 set_basic : (d s : Server) (origin : Origin) (f : ℕ) (basic : Basic) → exists s f ≡ true → Mirrors d s → Mirrors (with_record d (BasicRecord origin f basic)) (store_basic s f basic)
 set_basic d s origin f basic there h = rw (same_exists d s h.0.entries f ∙ there) (stores_basic d s f basic h)
 
--- the root is never marked, so that unmarking it changes nothing
-unmarks_root : (d s : Server) (f : ℕ) → f ≡ root → s.marked root ≡ false → Mirrors d s → Mirrors d (mark_file s f false)
-unmarks_root d s f e m h =
-    (record { entries = h.0.entries; next_file = h.0.next_file; directory = h.0.directory; marked = h.0.marked ∙ ext s.marked _ (same_mark s.marked f (ap s.marked e ∙ m)); basic = h.0.basic; content = h.0.content }, h.1, h.2)
+-- the root is never delete pending, so that clearing the flag changes nothing
+clears_root : (d s : Server) (f : ℕ) → f ≡ root → s.delete_pending root ≡ false → Mirrors d s → Mirrors d (set_delete_pending s f false)
+clears_root d s f e m h =
+    (record { entries = h.0.entries; next_file = h.0.next_file; directory = h.0.directory; delete_pending = h.0.delete_pending ∙ ext s.delete_pending _ (same_pending s.delete_pending f (ap s.delete_pending e ∙ m)); basic = h.0.basic; content = h.0.content }, h.1, h.2)
   where
-    same_mark : (marked : ℕ → Bool) (f : ℕ) → marked f ≡ false → (q : ℕ) → marked q ≡ (if q == f then false else marked q)
-    same_mark marked f e q = grind arith
+    same_pending : (delete_pending : ℕ → Bool) (f : ℕ) → delete_pending f ≡ false → (q : ℕ) → delete_pending q ≡ (if q == f then false else delete_pending q)
+    same_pending delete_pending f e q = grind arith
 
-mark_by : (d s : Server) (origin : Origin) (f : ℕ) (flag b : Bool) → (f == root) ≡ b → exists s f ≡ true → (flag ≡ true → b ≡ false) → s.marked root ≡ false → Mirrors d s
-    → Mirrors (with_record d (DeleteRecord origin f flag)) (mark_file s f flag)
-mark_by d s origin f flag false e there ok m h = rw (file_by (exists d f) (f == root) (same_exists d s h.0.entries f ∙ there) e) (marks_file d s f flag h)
-mark_by d s origin f true true e there ok m h = absurd (cc (ok refl))
-mark_by d s origin f false true e there ok m h = rw (off (exists d f) (f == root) e) (unmarks_root d s f (eqb-true f root e) m h)
+set_pending_by : (d s : Server) (origin : Origin) (f : ℕ) (flag b : Bool) → (f == root) ≡ b → exists s f ≡ true → (flag ≡ true → b ≡ false) → s.delete_pending root ≡ false → Mirrors d s
+    → Mirrors (with_record d (DeleteRecord origin f flag)) (set_delete_pending s f flag)
+set_pending_by d s origin f flag false e there ok m h = rw (file_by (exists d f) (f == root) (same_exists d s h.0.entries f ∙ there) e) (sets_pending d s f flag h)
+set_pending_by d s origin f true true e there ok m h = absurd (cc (ok refl))
+set_pending_by d s origin f false true e there ok m h = rw (off (exists d f) (f == root) e) (clears_root d s f (eqb-true f root e) m h)
   where
     off : (x y : Bool) → y ≡ true → (x && not y) ≡ false
     off x y e = grind arith
@@ -119,15 +119,15 @@ renamed d s origin f path there ok l h =
     let step : with_record d (RenameRecord origin f (number_or_zero target) path) ≡ rename_file d f (target_of f (find d path)) path = rw test refl in
     subst (λ x. Mirrors x (rename_file s f target path)) (sym step) (subst (λ x. Mirrors (rename_file d f x path) (rename_file s f target path)) (sym same) (renames_file d s f target path h))
 
-pub changes : (d s : Server) (m : Message) (f now : ℕ) (c : Change) → exists s f ≡ true → Allows s f c → s.marked root ≡ false → Listed s → Mirrors d s → Mirrors (fold_from d (change_records m f now c)) (change_file s f now c)
+pub changes : (d s : Server) (m : Message) (f now : ℕ) (c : Change) → exists s f ≡ true → Allows s f c → s.delete_pending root ≡ false → Listed s → Mirrors d s → Mirrors (fold_from d (change_records m f now c)) (change_file s f now c)
 unfolding change_records fold_from
-changes d s m f now (PutBytes at bytes) there ok mark l h = wrote d s (origin_of m) f at now bytes there ok h
-changes d s m f now (PutEnd size) there ok mark l h = set_end d s (origin_of m) f size now there ok h
-changes d s m f now (PutBasic basic) there ok mark l h = set_basic d s (origin_of m) f basic there h
-changes d s m f now (PutMark flag) there ok mark l h = mark_by d s (origin_of m) f flag (f == root) refl there ok mark h
-changes d s m f now (PutPath replaced path) there ok mark l h =
+changes d s m f now (PutBytes at bytes) there ok other l h = wrote d s (origin_of m) f at now bytes there ok h
+changes d s m f now (PutEnd size) there ok other l h = set_end d s (origin_of m) f size now there ok h
+changes d s m f now (PutBasic basic) there ok other l h = set_basic d s (origin_of m) f basic there h
+changes d s m f now (PutDeletePending flag) there ok other l h = set_pending_by d s (origin_of m) f flag (f == root) refl there ok other h
+changes d s m f now (PutPath replaced path) there ok other l h =
     subst (λ x. Mirrors (with_record d (RenameRecord (origin_of m) f (number_or_zero x) path)) (rename_file s f x path)) (sym ok.0) (renamed d s (origin_of m) f path there ok.1 l h)
-changes d s m f now PutNothing there ok mark l h = h
+changes d s m f now PutNothing there ok other l h = h
 
 -- ---- from what the checks found
 
@@ -139,14 +139,14 @@ end_allowed : (s : Server) (f size : ℕ) (b : Bool) → is_directory s f ≡ fa
 end_allowed s f size true plain room = (plain, room refl)
 end_allowed s f size false plain room = tt
 
-mark_names : (s : Server) (f : ℕ) (flag : Bool) → delete_names s f flag ≡ None → flag ≡ true → (f == root) ≡ false
+pending_names : (s : Server) (f : ℕ) (flag : Bool) → delete_names s f flag ≡ None → flag ≡ true → (f == root) ≡ false
 unfolding delete_names
-mark_names s f true e q = by (f == root) _ e
+pending_names s f true e q = by (f == root) _ e
   where
     by : (b : Bool) (x : Option ℕ) → (if b then Some 3221225506 else x) ≡ None → b ≡ false
     by true x e = absurd (cc)
     by false x e = refl
-mark_names s f false e q = absurd (cc)
+pending_names s f false e q = absurd (cc)
 
 cut_size : (size old : ℕ) → nat_lt size old ≡ true → allocated size old ≡ size
 unfolding allocated
@@ -155,7 +155,7 @@ cut_size size old e = let l : size < old = grind (arith, nat_tests) in omega ari
 setting_allowed : (s : Server) (o : ℕ) (setting : Setting) → SettingSays s o setting → Allows s (file_of s o) (setting_change s o setting)
 setting_allowed s o (SetBasic basic) says = tt
 setting_allowed s o (Rename replace path) says = (refl, record { is_text = says.is_text; no_root = says.no_root; not_below = says.not_below; parent = says.parent; target = says.target })
-setting_allowed s o (SetDelete flag) says = mark_names s (file_of s o) flag says.names
+setting_allowed s o (SetDelete flag) says = pending_names s (file_of s o) flag says.names
 setting_allowed s o (SetAllocation size) says =
     let f = file_of s o in let old = length (s.content f) in
     end_allowed s f size (nat_lt size old) says.file (λ e. ap (passes_room s f) (sym (cut_size size old e)) ∙ says.room)

@@ -49,7 +49,7 @@ mirrors_itself d s l h =
       opens = h.opens ∙ sym (same_opens d s l h);
       standing = λ o. h.standing o ∙ sym (same_stays d s h o);
       opened = λ o e. refl;
-      slots = λ o i e. refl;
+      lock_sequences = λ o i e. refl;
       by_guid = λ c g. h.by_guid c g ∙ sym (guid_twice p (s.by_guid c g)) ∙ sym (ap (kept_guid p) (h.by_guid c g)) ∙ sym (ap (λ t. kept_guid t (d.by_guid c g)) same);
       ranges = λ f. h.ranges f ∙ sym (kept_twice p (s.ranges f)) ∙ sym (ap (kept_ranges p) (h.ranges f)) ∙ sym (ap (λ t. kept_ranges t (d.ranges f)) same);
     }
@@ -72,7 +72,7 @@ same_durable d s l h =
     let opens = same_opens d s l h.1 in
     let standing = ext (λ o. stays d o) (λ o. stays s o) each in
     let opened = ext (λ o. if stays d o then d.opened o else no_open) (λ o. if stays s o then s.opened o else no_open) (λ o. row_same (stays d o) (stays s o) (d.opened o) (s.opened o) (each o) (h.1.opened o)) in
-    let slots = ext2 (λ o i. if stays d o then d.slots o i else None) (λ o i. if stays s o then s.slots o i else None) (λ o i. slot_same (stays d o) (stays s o) (d.slots o i) (s.slots o i) (each o) (h.1.slots o i)) in
+    let slots = ext2 (λ o i. if stays d o then d.lock_sequences o i else None) (λ o i. if stays s o then s.lock_sequences o i else None) (λ o i. slot_same (stays d o) (stays s o) (d.lock_sequences o i) (s.lock_sequences o i) (each o) (h.1.lock_sequences o i)) in
     let by_guid = ext2 (λ c g. stays_by_guid d (d.by_guid c g)) (λ c g. stays_by_guid s (s.by_guid c g)) (λ c g. guid_stays d (d.by_guid c g) ∙ sym (own.by_guid c g) ∙ h.1.by_guid c g ∙ sym (guid_stays s (s.by_guid c g))) in
     λ t. record nothing_yet {
       version = h.2.version t;
@@ -80,17 +80,17 @@ same_durable d s l h =
       entries = h.0.entries t;
       next_file = h.0.next_file t;
       directory = h.0.directory t;
-      marked = h.0.marked t;
+      delete_pending = h.0.delete_pending t;
       basic = h.0.basic t;
       content = h.0.content t;
       ranges = ranges t;
       opens = opens t;
       standing = standing t;
       opened = opened t;
-      slots = slots t;
+      lock_sequences = slots t;
       by_guid = by_guid t;
-      marks = h.2.marks t;
-      mark_count = h.2.mark_count t;
+      expired_guids = h.2.expired_guids t;
+      expired_count = h.2.expired_count t;
     }
 
 -- ---- restart
@@ -106,7 +106,7 @@ own_swept d (e ∷ es) h = own_swept (without_gone d e.file) es (either (λ x. O
 
 own_epoch : (d : Server) (number : ℕ) → Own d → Own (begin_epoch d number)
 own_epoch d number h =
-    either (λ x. Own x) (number == d.epoch + 1) (record (sweep d d.entries) { epoch = number; given = 0; begun = 0 }) d (λ _. own_swept d d.entries h) (λ _. h)
+    either (λ x. Own x) (number == d.epoch + 1) (record (sweep d d.entries) { epoch = number; open_ids_given = 0; session_ids_given = 0 }) d (λ _. own_swept d d.entries h) (λ _. h)
 
 own_version : (d : Server) (number : ℕ) → Own d → Own (set_version d number)
 own_version d number h = either (λ x. Own x) ((number == 2) && (d.version == 1)) (record d { version = 2 }) d (λ _. h) (λ _. h)
@@ -118,11 +118,11 @@ own_recovered d s h =
     (λ _. own_epoch (set_version d 2) (s.epoch + 1) (own_version d 2 h))
     (λ _. own_epoch d (s.epoch + 1) h)
 
-configured : (d s : Server) (journal : ℕ) → Own d → s.room ≤ full_room → Mirrors d (record d { share = s.share; room = s.room; seals = s.seals; address = s.address; journal = journal })
+configured : (d s : Server) (journal : ℕ) → Own d → s.room ≤ full_room → Mirrors d (record d { share = s.share; room = s.room; encrypts = s.encrypts; address = s.address; journal = journal })
 configured d s journal h fits = (
-  record { entries = refl; next_file = refl; directory = refl; marked = refl; basic = refl; content = refl },
+  record { entries = refl; next_file = refl; directory = refl; delete_pending = refl; basic = refl; content = refl },
   h.0,
-  record { version = refl; epoch = refl; given = omega arith; full = h.1; room = fits; marks = refl; mark_count = refl },
+  record { version = refl; epoch = refl; open_ids_given = omega arith; full = h.1; room = fits; expired_guids = refl; expired_count = refl },
 )
 
 pub restarts : (s : Server) (rs : List Record) → Listed s → Recovers rs s → Recovers (rs ++ recovery_records rs) (recovered_from s rs)

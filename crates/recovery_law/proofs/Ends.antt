@@ -4,8 +4,8 @@ use Rattle.std.proofs.lemmas.Bool.Decides.{nat_tests}
 use Rattle.exchange_defs.specs.Table.{put, has, without, is_at, is_filled}
 use Rattle.exchange_defs.specs.Commands.{deletes_on_close}
 use Rattle.exchange_defs.specs.State.{Server, Open, Origin, Entry, DeleteRecord, RemoveRecord}
-use Rattle.exchange_defs.specs.Files.{exists, exists_in, mark_file, remove_file, without_file}
-use Rattle.exchange_defs.specs.Opens.{opens_in, file_has_open, drop_open, goes, without_gone, marked_by, leave_open, mark_records, shut_records, gone_records, leave_records}
+use Rattle.exchange_defs.specs.Files.{exists, exists_in, set_delete_pending, remove_file, without_file}
+use Rattle.exchange_defs.specs.Opens.{opens_in, file_has_open, drop_open, goes, without_gone, pending_behind, leave_open, pending_records, shut_records, gone_records, leave_records}
 use Rattle.exchange_defs.specs.Effects.{leaves, plain_in, plain_of, leave_all, leave_all_records, guid_staying, ranges_staying, end_session, end_records, end_if_named, records_if_named}
 use Rattle.exchange_defs.specs.Fold.{fold_from}
 use Rattle.server_law.specs.Fits.{Listed, OpenFiles, Ascending, is_ascending}
@@ -13,7 +13,7 @@ use Rattle.recovery_law.specs.Recovers.{staying, kept_ranges, kept_guid, FilesAg
 use Rattle.recovery_law.proofs.Lists.{ext, has_without, has_file, at_head, in_tail, persistent_staying, has_persistent}
 use Rattle.recovery_law.proofs.Ranges.{kept_ranges_staying}
 use Rattle.recovery_law.proofs.Files.{put_same_bool}
-use Rattle.recovery_law.proofs.Leaves.{marked_if, fold_append, removable, removed, may_mark, marked_record, plain_records, records_apart}
+use Rattle.recovery_law.proofs.Leaves.{pending_if, fold_append, removable, removed, may_set_pending, pending_record, plain_records, records_apart}
 use Rattle.server_law.proofs.Logic.{back_of, both}
 
 -- ---- the session's opens, each once
@@ -96,7 +96,7 @@ plain_distinct s session (x ∷ xs) h =
 -- ---- along the way: the fold's files are those of the state on the way, its opens those of the state at the start
 
 pub record Chain (s0 d s : Server) : Type 0 where
-  pub files : FilesAgree d.entries s.entries d.next_file s0.next_file d.directory s0.directory d.marked s.marked d.basic s0.basic d.content s0.content
+  pub files : FilesAgree d.entries s.entries d.next_file s0.next_file d.directory s0.directory d.delete_pending s.delete_pending d.basic s0.basic d.content s0.content
   pub opens : Opens d s0
   pub counts : Counts d s0
   pub directory : s.directory ≡ s0.directory
@@ -122,13 +122,13 @@ chain_none : (s0 d s : Server) (f : ℕ) → Chain s0 d s → file_has_open s f 
 unfolding file_has_open
 chain_none s0 d s f h none = none_within d.opened s.opened d.opens s.opens f (λ p e. let t = h.subset p e in (t.0, t.1)) none
 
--- the file is marked
-chain_marks : (s0 d s : Server) (origin : Origin) (o f : ℕ) (b c : Bool) → s.marked f ≡ c → exists s f ≡ true → (b ≡ true → f ≢ 0) → Chain s0 d s
-    → Chain s0 (fold_from d (if b && not c then DeleteRecord origin f true ∷ [] else [])) (marked_if s f b)
+-- the file is delete pending from here on
+chain_pending : (s0 d s : Server) (origin : Origin) (o f : ℕ) (b c : Bool) → s.delete_pending f ≡ c → exists s f ≡ true → (b ≡ true → f ≢ 0) → Chain s0 d s
+    → Chain s0 (fold_from d (if b && not c then DeleteRecord origin f true ∷ [] else [])) (pending_if s f b)
 unfolding fold_from exists
-chain_marks s0 d s origin o f true true m there n h =
+chain_pending s0 d s origin o f true true m there n h =
     record {
-      files = record { entries = h.files.entries; next_file = h.files.next_file; directory = h.files.directory; marked = h.files.marked ∙ ext s.marked (put s.marked f true) (put_same_bool s.marked f m); basic = h.files.basic; content = h.files.content };
+      files = record { entries = h.files.entries; next_file = h.files.next_file; directory = h.files.directory; delete_pending = h.files.delete_pending ∙ ext s.delete_pending (put s.delete_pending f true) (put_same_bool s.delete_pending f m); basic = h.files.basic; content = h.files.content };
       opens = h.opens;
       counts = h.counts;
       directory = h.directory;
@@ -136,10 +136,10 @@ chain_marks s0 d s origin o f true true m there n h =
       there = h.there;
       not_root = h.not_root;
     }
-chain_marks s0 d s origin o f true false m there n h =
-    subst (λ x. Chain s0 x (mark_file s f true)) (sym (marked_record d origin f true (may_mark d s f h.files.entries there (n refl))))
+chain_pending s0 d s origin o f true false m there n h =
+    subst (λ x. Chain s0 x (set_delete_pending s f true)) (sym (pending_record d origin f true (may_set_pending d s f h.files.entries there (n refl))))
     (record {
-      files = record { entries = h.files.entries; next_file = h.files.next_file; directory = h.files.directory; marked = ap (λ x. put x f true) h.files.marked; basic = h.files.basic; content = h.files.content };
+      files = record { entries = h.files.entries; next_file = h.files.next_file; directory = h.files.directory; delete_pending = ap (λ x. put x f true) h.files.delete_pending; basic = h.files.basic; content = h.files.content };
       opens = h.opens;
       counts = h.counts;
       directory = h.directory;
@@ -147,7 +147,7 @@ chain_marks s0 d s origin o f true false m there n h =
       there = h.there;
       not_root = h.not_root;
     })
-chain_marks s0 d s origin o f false c m there n h = h
+chain_pending s0 d s origin o f false c m there n h = h
 
 still_has : (p o : ℕ) (os : List ℕ) → p ≢ o → has p os ≡ true → has p (without o os) ≡ true
 still_has p o os n e = let cut = has_without o p os in grind arith
@@ -198,7 +198,7 @@ chain_gone s0 d s origin f h =
       | true ↦ λ g.
           subst (λ x. Chain s0 x (remove_file s f)) (sym (removed d origin f (removable d s f h.files.entries (h.files.directory ∙ sym h.directory) (chain_none s0 d s f h) g)))
           (record {
-            files = record { entries = ap (without_file f) h.files.entries; next_file = h.files.next_file; directory = h.files.directory; marked = h.files.marked; basic = h.files.basic; content = h.files.content };
+            files = record { entries = ap (without_file f) h.files.entries; next_file = h.files.next_file; directory = h.files.directory; delete_pending = h.files.delete_pending; basic = h.files.basic; content = h.files.content };
             opens = h.opens;
             counts = h.counts;
             directory = h.directory;
@@ -215,28 +215,28 @@ gone_opens s f = elim (goes s f) as (λ b. (if b then remove_file s f else s).op
 gone_rows : (s : Server) (f : ℕ) → (without_gone s f).opened ≡ s.opened
 gone_rows s f = elim (goes s f) as (λ b. (if b then remove_file s f else s).opened ≡ s.opened) [ true ↦ refl | false ↦ refl ]
 
-marked_opens : (s : Server) (f : ℕ) (b : Bool) → (marked_if s f b).opens ≡ s.opens
-marked_opens s f true = refl
-marked_opens s f false = refl
+pending_opens : (s : Server) (f : ℕ) (b : Bool) → (pending_if s f b).opens ≡ s.opens
+pending_opens s f true = refl
+pending_opens s f false = refl
 
-marked_rows : (s : Server) (f : ℕ) (b : Bool) → (marked_if s f b).opened ≡ s.opened
-marked_rows s f true = refl
-marked_rows s f false = refl
+pending_rows : (s : Server) (f : ℕ) (b : Bool) → (pending_if s f b).opened ≡ s.opened
+pending_rows s f true = refl
+pending_rows s f false = refl
 
 pub leave_opens : (s : Server) (o : ℕ) → (leave_open s o).opens ≡ without o s.opens
-leave_opens s o = gone_opens (drop_open (marked_by s o) o) (s.opened o).file ∙ ap (without o) (marked_opens s (s.opened o).file (deletes_on_close (s.opened o).options))
+leave_opens s o = gone_opens (drop_open (pending_behind s o) o) (s.opened o).file ∙ ap (without o) (pending_opens s (s.opened o).file (deletes_on_close (s.opened o).options))
 
 pub leave_rows : (s : Server) (o : ℕ) → (leave_open s o).opened ≡ s.opened
-leave_rows s o = gone_rows (drop_open (marked_by s o) o) (s.opened o).file ∙ marked_rows s (s.opened o).file (deletes_on_close (s.opened o).options)
+leave_rows s o = gone_rows (drop_open (pending_behind s o) o) (s.opened o).file ∙ pending_rows s (s.opened o).file (deletes_on_close (s.opened o).options)
 
 chain_leaves : (s0 d s : Server) (origin : Origin) (o : ℕ) → has o s.opens ≡ true → (s.opened o).persistent ≡ false → Chain s0 d s → Chain s0 (fold_from d (leave_records s origin o)) (leave_open s o)
 unfolding leave_records
 chain_leaves s0 d s origin o in_it plain h =
-    let f = (s.opened o).file in let b = deletes_on_close (s.opened o).options in let behind = drop_open (marked_by s o) o in let gone = gone_records behind origin f in
-    let first = if b && not (s.marked f) then DeleteRecord origin f true ∷ [] else [] in
-    let marks = chain_marks s0 d s origin o f b (s.marked f) refl (h.there o in_it) (h.not_root o in_it) h in
-    let drops = chain_drops s0 (fold_from d first) (marked_if s f b) o (ap (λ (rows : ℕ → Open). (rows o).persistent) (marked_rows s f b) ∙ plain) marks in
-    let all = records_apart (mark_records s origin o) (shut_records s origin o) gone ∙ ap (λ rs. rs ++ gone) (plain_records d s origin o plain) in
+    let f = (s.opened o).file in let b = deletes_on_close (s.opened o).options in let behind = drop_open (pending_behind s o) o in let gone = gone_records behind origin f in
+    let first = if b && not (s.delete_pending f) then DeleteRecord origin f true ∷ [] else [] in
+    let pended = chain_pending s0 d s origin o f b (s.delete_pending f) refl (h.there o in_it) (h.not_root o in_it) h in
+    let drops = chain_drops s0 (fold_from d first) (pending_if s f b) o (ap (λ (rows : ℕ → Open). (rows o).persistent) (pending_rows s f b) ∙ plain) pended in
+    let all = records_apart (pending_records s origin o) (shut_records s origin o) gone ∙ ap (λ rs. rs ++ gone) (plain_records d s origin o plain) in
     subst (λ x. Chain s0 x (leave_open s o)) (sym (ap (fold_from d) all ∙ fold_append d first gone)) (chain_gone s0 (fold_from d first) behind origin f drops)
 
 first_apart : (o p : ℕ) (os : List ℕ) → distinct (o ∷ os) ≡ true → has p os ≡ true → p ≢ o
@@ -266,7 +266,7 @@ chain_all s0 d s origin (o ∷ os) apart each h =
 -- ---- the end
 
 plain_of_facts : (s : Server) (session : ℕ) (p : ℕ) → has p (plain_of s session) ≡ true → has p s.opens ≡ true × (s.opened p).persistent ≡ false
-plain_of_facts s session p e = let t = plain_facts s session s.opens p e in (t.0, back (is_at session (s.at p)) (s.opened p).persistent t.1)
+plain_of_facts s session p e = let t = plain_facts s session s.opens p e in (t.0, back (is_at session (s.session_of_open p)) (s.opened p).persistent t.1)
   where
     back : (a b : Bool) → (a && not b) ≡ true → b ≡ false
     back a b q = grind arith
@@ -304,7 +304,7 @@ kept_staying s p session None h = refl
 kept_staying s p session (Some o) h = let here = h o in grind arith
 
 leaves_plain : (s : Server) (session o : ℕ) → leaves s session o ≡ true → staying s.standing s.opened o ≡ false
-leaves_plain s session o e = by (is_at session (s.at o)) (s.opened o).persistent (s.standing o) e
+leaves_plain s session o e = by (is_at session (s.session_of_open o)) (s.opened o).persistent (s.standing o) e
   where
     by : (a b c : Bool) → (a && not b) ≡ true → (c && b) ≡ false
     by a b c q = grind arith
@@ -312,13 +312,13 @@ leaves_plain s session o e = by (is_at session (s.at o)) (s.opened o).persistent
 ended_opens : (d s : Server) (session now : ℕ) (is_quiet : Bool) → Opens d s → Opens d (end_session s session now is_quiet)
 ended_opens d s session now is_quiet h =
     let p = staying s.standing s.opened in let q = staying (λ o. s.standing o && not (leaves s session o)) s.opened in
-    let each = λ (o : ℕ). end_stays (s.standing o) (s.opened o).persistent (is_at session (s.at o)) in
+    let each = λ (o : ℕ). end_stays (s.standing o) (s.opened o).persistent (is_at session (s.session_of_open o)) in
     let same = ext q p each in
     record {
       opens = h.opens ∙ sym (persistent_staying s session s.opens);
       standing = λ o. h.standing o ∙ sym (each o);
       opened = λ o e. h.opened o (sym (each o) ∙ e);
-      slots = λ o i e. h.slots o i (sym (each o) ∙ e);
+      lock_sequences = λ o i e. h.lock_sequences o i (sym (each o) ∙ e);
       by_guid = subst (λ (t : ℕ → Bool). (c g : ℕ) → d.by_guid c g ≡ kept_guid t (guid_staying s session (s.by_guid c g))) (sym same)
           (λ c g. h.by_guid c g ∙ sym (kept_staying s p session (s.by_guid c g) (leaves_plain s session)));
       ranges = subst (λ (t : ℕ → Bool). (f : ℕ) → d.ranges f ≡ kept_ranges t (ranges_staying s session (s.ranges f))) (sym same)

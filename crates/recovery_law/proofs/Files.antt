@@ -3,13 +3,13 @@ use Rattle.std.proofs.Common.{◌≡◌, ℕ, ◌+◌, Bool, true, false, List, 
 use Rattle.exchange_defs.specs.Table.{put}
 use Rattle.exchange_defs.specs.Commands.{Basic}
 use Rattle.exchange_defs.specs.State.{Server, Entry, Range}
-use Rattle.exchange_defs.specs.Files.{path_of, path_in, times_at, touched, emptied_basic, make_file, set_content, empty_file, mark_file, store_basic, without_file, remove_file, moved_entries, without_target, rename_file}
+use Rattle.exchange_defs.specs.Files.{path_of, path_in, times_at, touched, emptied_basic, make_file, set_content, empty_file, set_delete_pending, store_basic, without_file, remove_file, moved_entries, without_target, rename_file}
 use Rattle.recovery_law.specs.Recovers.{staying, kept_ranges, Mirrors}
 use Rattle.recovery_law.proofs.Lists.{ext}
 
 pub stores_basic : (d s : Server) (f : ℕ) (b : Basic) → Mirrors d s → Mirrors (store_basic d f b) (store_basic s f b)
 stores_basic d s f b h =
-    (record { entries = h.0.entries; next_file = h.0.next_file; directory = h.0.directory; marked = h.0.marked; basic = ap (λ x. put x f b) h.0.basic; content = h.0.content }, h.1, h.2)
+    (record { entries = h.0.entries; next_file = h.0.next_file; directory = h.0.directory; delete_pending = h.0.delete_pending; basic = ap (λ x. put x f b) h.0.basic; content = h.0.content }, h.1, h.2)
 
 pub sets_content : (d s : Server) (f : ℕ) (change : List ℕ → List ℕ) (now : ℕ) → Mirrors d s → Mirrors (set_content d f (change (d.content f)) now) (set_content s f (change (s.content f)) now)
 sets_content d s f change now h = (
@@ -17,7 +17,7 @@ sets_content d s f change now h = (
     entries = h.0.entries;
     next_file = h.0.next_file;
     directory = h.0.directory;
-    marked = h.0.marked;
+    delete_pending = h.0.delete_pending;
     basic = ap (λ (x : ℕ → Basic). put x f (touched (x f) now)) h.0.basic;
     content = ap (λ (x : ℕ → List ℕ). put x f (change (x f))) h.0.content;
   },
@@ -31,7 +31,7 @@ empties_file d s f attributes now h = (
     entries = h.0.entries;
     next_file = h.0.next_file;
     directory = h.0.directory;
-    marked = h.0.marked;
+    delete_pending = h.0.delete_pending;
     basic = ap (λ (x : ℕ → Basic). put x f (emptied_basic (x f) attributes now)) h.0.basic;
     content = ap (λ (x : ℕ → List ℕ). put x f []) h.0.content;
   },
@@ -39,26 +39,26 @@ empties_file d s f attributes now h = (
   h.2,
 )
 
-pub marks_file : (d s : Server) (f : ℕ) (flag : Bool) → Mirrors d s → Mirrors (mark_file d f flag) (mark_file s f flag)
-marks_file d s f flag h =
-    (record { entries = h.0.entries; next_file = h.0.next_file; directory = h.0.directory; marked = ap (λ x. put x f flag) h.0.marked; basic = h.0.basic; content = h.0.content }, h.1, h.2)
+pub sets_pending : (d s : Server) (f : ℕ) (flag : Bool) → Mirrors d s → Mirrors (set_delete_pending d f flag) (set_delete_pending s f flag)
+sets_pending d s f flag h =
+    (record { entries = h.0.entries; next_file = h.0.next_file; directory = h.0.directory; delete_pending = ap (λ x. put x f flag) h.0.delete_pending; basic = h.0.basic; content = h.0.content }, h.1, h.2)
 
 pub put_same_bool : (f : ℕ → Bool) (k : ℕ) → f k ≡ true → (q : ℕ) → f q ≡ put f k true q
 put_same_bool f k h q = grind arith
 
--- a file that is marked already
-pub marks_again : (d s : Server) (f : ℕ) → s.marked f ≡ true → Mirrors d s → Mirrors d (mark_file s f true)
-marks_again d s f m h =
-    (record { entries = h.0.entries; next_file = h.0.next_file; directory = h.0.directory; marked = h.0.marked ∙ ext s.marked (put s.marked f true) (put_same_bool s.marked f m); basic = h.0.basic; content = h.0.content }, h.1, h.2)
+-- a file that is delete pending already
+pub pending_again : (d s : Server) (f : ℕ) → s.delete_pending f ≡ true → Mirrors d s → Mirrors d (set_delete_pending s f true)
+pending_again d s f m h =
+    (record { entries = h.0.entries; next_file = h.0.next_file; directory = h.0.directory; delete_pending = h.0.delete_pending ∙ ext s.delete_pending (put s.delete_pending f true) (put_same_bool s.delete_pending f m); basic = h.0.basic; content = h.0.content }, h.1, h.2)
 
 pub removes_file : (d s : Server) (f : ℕ) → Mirrors d s → Mirrors (remove_file d f) (remove_file s f)
 removes_file d s f h =
-    (record { entries = ap (without_file f) h.0.entries; next_file = h.0.next_file; directory = h.0.directory; marked = h.0.marked; basic = h.0.basic; content = h.0.content }, h.1, h.2)
+    (record { entries = ap (without_file f) h.0.entries; next_file = h.0.next_file; directory = h.0.directory; delete_pending = h.0.delete_pending; basic = h.0.basic; content = h.0.content }, h.1, h.2)
 
 pub renames_file : (d s : Server) (f : ℕ) (replaced : Option ℕ) (path : List ℕ) → Mirrors d s → Mirrors (rename_file d f replaced path) (rename_file s f replaced path)
 unfolding path_of
 renames_file d s f replaced path h =
-    (record { entries = ap (λ es. moved_entries (path_in es f) path (without_target replaced es)) h.0.entries; next_file = h.0.next_file; directory = h.0.directory; marked = h.0.marked; basic = h.0.basic; content = h.0.content }, h.1, h.2)
+    (record { entries = ap (λ es. moved_entries (path_in es f) path (without_target replaced es)) h.0.entries; next_file = h.0.next_file; directory = h.0.directory; delete_pending = h.0.delete_pending; basic = h.0.basic; content = h.0.content }, h.1, h.2)
 
 abbrev entry : ℕ → List ℕ → Entry
 entry f path = record { file = f; path = path }
@@ -75,7 +75,7 @@ makes_file d s path is_dir attributes now h =
         entries = λ t. h.0.entries t ++ entry (n t) path ∷ [];
         next_file = λ t. n t + 1;
         directory = λ t. put (h.0.directory t) (n t) is_dir;
-        marked = λ t. put (h.0.marked t) (n t) false;
+        delete_pending = λ t. put (h.0.delete_pending t) (n t) false;
         basic = λ t. put (h.0.basic t) (n t) (times_at now attributes);
         content = λ t. put (h.0.content t) (n t) [];
       },
@@ -83,7 +83,7 @@ makes_file d s path is_dir attributes now h =
         opens = h.1.opens;
         standing = h.1.standing;
         opened = h.1.opened;
-        slots = h.1.slots;
+        lock_sequences = h.1.lock_sequences;
         by_guid = h.1.by_guid;
         ranges = new_ranges (staying s.standing s.opened) d.ranges s.ranges d.next_file s.next_file n h.1.ranges;
       },

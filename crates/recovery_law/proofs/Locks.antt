@@ -30,7 +30,7 @@ keeps_slot_plain d s o index number status plain h =
         opens = h.1.opens;
         standing = h.1.standing;
         opened = h.1.opened;
-        slots = slots_plain (staying s.standing s.opened) d.slots s.slots o index (Some (record { number = number; status = status })) plain h.1.slots;
+        lock_sequences = slots_plain (staying s.standing s.opened) d.lock_sequences s.lock_sequences o index (Some (record { number = number; status = status })) plain h.1.lock_sequences;
         by_guid = h.1.by_guid;
         ranges = h.1.ranges;
       },
@@ -46,7 +46,7 @@ keeps_slot_at d s o index number status h true e =
         opens = h.1.opens;
         standing = h.1.standing;
         opened = h.1.opened;
-        slots = slots_both (staying s.standing s.opened) d.slots s.slots o index (Some (record { number = number; status = status })) h.1.slots;
+        lock_sequences = slots_both (staying s.standing s.opened) d.lock_sequences s.lock_sequences o index (Some (record { number = number; status = status })) h.1.lock_sequences;
         by_guid = h.1.by_guid;
         ranges = h.1.ranges;
       },
@@ -72,7 +72,7 @@ sets_ranges_plain d s o es out plain stands h = (
     opens = h.1.opens;
     standing = h.1.standing;
     opened = h.1.opened;
-    slots = h.1.slots;
+    lock_sequences = h.1.lock_sequences;
     by_guid = h.1.by_guid;
     ranges = ranges_plain (staying s.standing s.opened) d.ranges s.ranges (file_of s o) out (changed_plain (staying s.standing s.opened) o es (s.ranges (file_of s o)) out plain stands) h.1.ranges;
   },
@@ -86,7 +86,7 @@ sets_ranges d s f out h = (
     opens = h.1.opens;
     standing = h.1.standing;
     opened = h.1.opened;
-    slots = h.1.slots;
+    lock_sequences = h.1.lock_sequences;
     by_guid = h.1.by_guid;
     ranges = ranges_both (staying s.standing s.opened) d.ranges s.ranges f out h.1.ranges;
   },

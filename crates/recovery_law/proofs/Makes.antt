@@ -89,8 +89,8 @@ next_above epoch given = omega arith
 
 pub next_id : (s : Server) → Listed s → GuidOpen s → RangeOwners s → OpenIds s → NewId s (next_open s)
 next_id s listed guids owners ids =
-    let up = next_above s.epoch s.given in
-    let new = not_standing (s.standing (next_open s)) (next_open s) (id_of s.epoch s.given) (ids (next_open s)) up in
+    let up = next_above s.epoch s.open_ids_given in
+    let new = not_standing (s.standing (next_open s)) (next_open s) (id_of s.epoch s.open_ids_given) (ids (next_open s)) up in
     record {
       new = new;
       absent = listed (next_open s) ∙ new;
@@ -117,34 +117,34 @@ new_id_made s o r (Some f) now i = new_id_if s o f r.attributes now (empties r.d
 -- ---- the open
 
 opens_persistent : (d s : Server) (o : ℕ) (row : Open) (session : Option ℕ) (sequence fold_given given : ℕ) (guids : ℕ → ℕ) → row.persistent ≡ true → NewId s o → fold_given ≤ given → Mirrors d s
-    → Mirrors (record (add_open d o row None 0) { given = fold_given }) (record (add_open s o row session sequence) { given = given; guids = guids })
+    → Mirrors (record (add_open d o row None 0) { open_ids_given = fold_given }) (record (add_open s o row session sequence) { open_ids_given = given; guids = guids })
 opens_persistent d s o row session sequence fold_given given guids kept i few h = (
   h.0,
   adds_persistent d s o row session sequence i.new kept i.above i.guids i.owners h.1,
   record {
     version = h.2.version;
     epoch = h.2.epoch;
-    given = few;
+    open_ids_given = few;
     full = h.2.full;
     room = h.2.room;
-    marks = h.2.marks;
-    mark_count = h.2.mark_count;
+    expired_guids = h.2.expired_guids;
+    expired_count = h.2.expired_count;
   },
 )
 
-opens_plain : (d s : Server) (o : ℕ) (row : Open) (session : Option ℕ) (sequence given : ℕ) (guids : ℕ → ℕ) → row.persistent ≡ false → NewId s o → ((g : ℕ) → row.guid ≡ Some g → s.by_guid row.client g ≡ None) → d.given ≤ given → Mirrors d s
-    → Mirrors d (record (add_open s o row session sequence) { given = given; guids = guids })
+opens_plain : (d s : Server) (o : ℕ) (row : Open) (session : Option ℕ) (sequence given : ℕ) (guids : ℕ → ℕ) → row.persistent ≡ false → NewId s o → ((g : ℕ) → row.guid ≡ Some g → s.by_guid row.client g ≡ None) → d.open_ids_given ≤ given → Mirrors d s
+    → Mirrors d (record (add_open s o row session sequence) { open_ids_given = given; guids = guids })
 opens_plain d s o row session sequence given guids plain i free few h = (
   h.0,
   adds_plain d s o row session sequence i.new i.absent plain free h.1,
   record {
     version = h.2.version;
     epoch = h.2.epoch;
-    given = few;
+    open_ids_given = few;
     full = h.2.full;
     room = h.2.room;
-    marks = h.2.marks;
-    mark_count = h.2.mark_count;
+    expired_guids = h.2.expired_guids;
+    expired_count = h.2.expired_count;
   },
 )
 
@@ -203,12 +203,12 @@ pub restores : (d s : Server) (m : Message) (r : CreateRequest) (found : Option 
     → may_restore d (row_kept s m r r.durable) ≡ true
 unfolding may_restore
 restores d s m r found action facts i h kept =
-    let lim = facts.given in let few = h.2.given in let parts = id_parts s.epoch (s.given + 1) (omega arith) in let o = next_open s in
+    let lim = facts.given in let few = h.2.open_ids_given in let parts = id_parts s.epoch (s.open_ids_given + 1) (omega arith) in let o = next_open s in
     let room = length_persistent s.opened s.opens in let most = facts.opens in
-    all_of (o / 0x1_0000_0000 == d.epoch) (nat_lt 0 (o % 0x1_0000_0000)) (nat_lt d.given max_ids) (not (d.standing o)) (not (is_some (d.by_guid m.client (number_or_zero (guid_of r.durable))))) (nat_lt (length d.opens) max_opens)
+    all_of (o / 0x1_0000_0000 == d.epoch) (nat_lt 0 (o % 0x1_0000_0000)) (nat_lt d.open_ids_given max_ids) (not (d.standing o)) (not (is_some (d.by_guid m.client (number_or_zero (guid_of r.durable))))) (nat_lt (length d.opens) max_opens)
     (same_test (o / 0x1_0000_0000) d.epoch (parts.0 ∙ sym h.2.epoch))
     (less 0 (o % 0x1_0000_0000) (rw (parts.1) (omega arith)))
-    (less d.given max_ids (omega arith))
+    (less d.open_ids_given max_ids (omega arith))
     (ap not (h.1.standing o) ∙ not_stays (s.standing o) (s.opened o).persistent i.new)
     (none_found _ (h.1.by_guid m.client (number_or_zero (guid_of r.durable)) ∙ kept_none (staying s.standing s.opened) _ (guid_free s m r.durable facts.new.no_open kept)))
     (less (length d.opens) max_opens (subst (λ (os : List ℕ). length os < max_opens) (sym h.1.opens) (omega arith)))
@@ -226,11 +226,11 @@ and_off : {X : Type 0} (x : Bool) (a b : X) → (if x && false then a else b) �
 and_off true a b = refl
 and_off false a b = refl
 
-given_if : (s : Server) (f attributes now : ℕ) (b : Bool) → (if b then empty_file s f attributes now else s).given ≡ s.given
+given_if : (s : Server) (f attributes now : ℕ) (b : Bool) → (if b then empty_file s f attributes now else s).open_ids_given ≡ s.open_ids_given
 given_if s f attributes now true = refl
 given_if s f attributes now false = refl
 
-given_made : (s : Server) (r : CreateRequest) (found : Option ℕ) (now : ℕ) → (file_made s r found now).given ≡ s.given
+given_made : (s : Server) (r : CreateRequest) (found : Option ℕ) (now : ℕ) → (file_made s r found now).open_ids_given ≡ s.open_ids_given
 given_made s r None now = refl
 given_made s r (Some f) now = given_if s f r.attributes now (empties r.disposition)
 
@@ -269,13 +269,13 @@ persistent_at d s m r found action now facts i h kept =
     let a = action_of r found in let f = new_file s found in let o = next_open s in let c = file_created d s r found now in let u = file_made s r found now in let n = row_kept s m r r.durable in
     let both_files = creates_file d s r found now h in
     let lim = facts.given in
-    let parts = id_parts s.epoch (s.given + 1) (omega arith) in
+    let parts = id_parts s.epoch (s.open_ids_given + 1) (omega arith) in
     let e = create_record d (origin_of m) a f r.path r.attributes (asks_directory r) now (Some n) (creates d s m r found action facts h.0) (restores d s m r found action facts i h kept) in
     subst (λ rs. Mirrors (fold_from d rs) (make_open s m r found a now)) (sym (kept_create s m r found a now kept))
     (subst (λ x. Mirrors x (make_open s m r found a now)) (sym e)
-    (subst (λ row. Mirrors (record (add_open c o row None 0) { given = max c.given (o % 0x1_0000_0000) }) (make_open s m r found a now)) (sym (same_row s m r f a kept))
-    (opens_persistent c u o (open_row s m r f a) (Some m.session) m.sequence (max c.given (o % 0x1_0000_0000)) (s.given + 1) (guids_after s m.session r.durable) kept (new_id_made s o r found now i)
-    (given_more c.given s.given (o % 0x1_0000_0000) (few_of c.given s.given u.given both_files.2.given (given_made s r found now)) parts.1) both_files)))
+    (subst (λ row. Mirrors (record (add_open c o row None 0) { open_ids_given = max c.open_ids_given (o % 0x1_0000_0000) }) (make_open s m r found a now)) (sym (same_row s m r f a kept))
+    (opens_persistent c u o (open_row s m r f a) (Some m.session) m.sequence (max c.open_ids_given (o % 0x1_0000_0000)) (s.open_ids_given + 1) (guids_after s m.session r.durable) kept (new_id_made s o r found now i)
+    (given_more c.open_ids_given s.open_ids_given (o % 0x1_0000_0000) (few_of c.open_ids_given s.open_ids_given u.open_ids_given both_files.2.open_ids_given (given_made s r found now)) parts.1) both_files)))
 
 pub makes_persistent : (d s : Server) (m : Message) (r : CreateRequest) (found : Option ℕ) (action now : ℕ) → MakeFacts s m r found action → NewId s (next_open s) → Mirrors d s → is_persistent r.durable ≡ true
     → Mirrors (fold_from d (create_records s m r found action now)) (make_open s m r found action now)
@@ -299,9 +299,9 @@ plain_at : (d s : Server) (m : Message) (r : CreateRequest) (found : Option ℕ)
 plain_at d s m r found action now facts i h plain =
     let a = action_of r found in let f = new_file s found in let o = next_open s in let c = file_created d s r found now in let u = file_made s r found now in
     let both_files = creates_file d s r found now h in
-    let few = few_of c.given s.given u.given both_files.2.given (given_made s r found now) in
+    let few = few_of c.open_ids_given s.open_ids_given u.open_ids_given both_files.2.open_ids_given (given_made s r found now) in
     subst (λ x. Mirrors x (make_open s m r found a now)) (sym (ap (fold_from d) (plain_create s m r found a now plain) ∙ plain_file d s m r found action now (a == 1) facts h.0 refl))
-    (opens_plain c u o (open_row s m r f a) (Some m.session) m.sequence (s.given + 1) (guids_after s m.session r.durable) plain (new_id_made s o r found now i)
+    (opens_plain c u o (open_row s m r f a) (Some m.session) m.sequence (s.open_ids_given + 1) (guids_after s m.session r.durable) plain (new_id_made s o r found now i)
     (subst (λ (by : ℕ → ℕ → Option ℕ). (g : ℕ) → guid_of r.durable ≡ Some g → by m.client g ≡ None) (sym (guids_made s r found now)) (guid_of_row s.by_guid m.client r.durable facts.new.no_open))
     (omega arith) both_files)
 

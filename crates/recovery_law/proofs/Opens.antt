@@ -45,7 +45,7 @@ adds_plain d s o row session sequence new absent plain free h =
       opens = h.opens ∙ sym (persistent_placed_plain s.opened o row s.opens plain absent);
       standing = λ p. h.standing p ∙ sym (plain_stays s.standing s.opened o row new plain p);
       opened = plain_row s.standing s.opened d.opened o row new plain h.opened;
-      slots = plain_slots s.standing s.opened d.slots s.slots o row (λ i. None) new plain h.slots;
+      lock_sequences = plain_slots s.standing s.opened d.lock_sequences s.lock_sequences o row (λ i. None) new plain h.lock_sequences;
       by_guid = subst (λ (t : ℕ → Bool). (c g : ℕ) → d.by_guid c g ≡ kept_guid t (with_guid s.by_guid row.client row.guid (Some o) c g)) (sym same)
           (plain_guid (staying s.standing s.opened) d.by_guid s.by_guid o row.client row.guid (not_staying s.standing s.opened o new) free h.by_guid);
       ranges = subst (λ (t : ℕ → Bool). (f : ℕ) → d.ranges f ≡ kept_ranges t (s.ranges f)) (sym same) h.ranges;
@@ -95,7 +95,7 @@ adds_persistent d s o row session sequence new kept above guids owners h =
       opens = ap (placed_in o) h.opens ∙ sym (persistent_placed s.opened o row s.opens kept above);
       standing = more_stays d.standing s.standing s.opened o row kept h.standing;
       opened = more_row s.standing s.opened d.opened o row h.opened;
-      slots = more_slots s.standing s.opened d.slots s.slots o row (λ i. None) h.slots;
+      lock_sequences = more_slots s.standing s.opened d.lock_sequences s.lock_sequences o row (λ i. None) h.lock_sequences;
       by_guid = more_guid q d.by_guid s.by_guid o row.client row.guid (stays_here s.standing s.opened o row kept)
           (λ c g. h.by_guid c g ∙ sym (kept_guid_same p q (s.by_guid c g) (λ x e. stays_apart s.standing s.opened o row x (apart_of s.standing o x new (guids c g x e)))));
       ranges = λ f. h.ranges f ∙ sym (kept_same p q (s.ranges f) (λ n r e. stays_apart s.standing s.opened o row r.owner (apart_of s.standing o r.owner new (owners f n r e))));
@@ -126,7 +126,7 @@ drops_plain d s o plain own h =
       opens = h.opens ∙ sym (without_plain s.opened o s.opens plain);
       standing = λ x. h.standing x ∙ sym (gone_plain_stays s.standing s.opened o plain x);
       opened = λ x e. h.opened x (sym (gone_plain_stays s.standing s.opened o plain x) ∙ e);
-      slots = λ x i e. h.slots x i (sym (gone_plain_stays s.standing s.opened o plain x) ∙ e);
+      lock_sequences = λ x i e. h.lock_sequences x i (sym (gone_plain_stays s.standing s.opened o plain x) ∙ e);
       by_guid = subst (λ (t : ℕ → Bool). (c g : ℕ) → d.by_guid c g ≡ kept_guid t (with_guid s.by_guid (s.opened o).client (s.opened o).guid None c g)) (sym same)
           (gone_plain_guid p d.by_guid s.by_guid o (s.opened o).client (s.opened o).guid (plain_not s.standing s.opened o plain) own h.by_guid);
       ranges = subst (λ (t : ℕ → Bool). (f : ℕ) → d.ranges f ≡ kept_ranges t (put s.ranges (s.opened o).file (without_owner o (s.ranges (s.opened o).file)) f)) (sym same)
@@ -182,7 +182,7 @@ drops_persistent d s o kept guids owners h =
       opens = ap (without o) h.opens ∙ sym (persistent_without s.opened o s.opens);
       standing = gone_stays d.standing s.standing s.opened o h.standing;
       opened = λ x e. h.opened x (gone_still s.standing s.opened o x e);
-      slots = λ x i e. h.slots x i (gone_still s.standing s.opened o x e);
+      lock_sequences = λ x i e. h.lock_sequences x i (gone_still s.standing s.opened o x e);
       by_guid = subst (λ (r : Open). (c g : ℕ) → with_guid d.by_guid r.client r.guid None c g ≡ kept_guid q (with_guid s.by_guid (s.opened o).client (s.opened o).guid None c g)) (sym row)
           (gone_guid p q d.by_guid s.by_guid o (s.opened o).client (s.opened o).guid (gone_apart s.standing s.opened o) guids h.by_guid);
       ranges = subst (λ (r : Open). (k : ℕ) → put d.ranges r.file (without_owner o (d.ranges r.file)) k ≡ kept_ranges q (put s.ranges (s.opened o).file (without_owner o (s.ranges (s.opened o).file)) k)) (sym row)

@@ -4,13 +4,13 @@ use Rattle.exchange_defs.specs.Table.{put, put2, has, is_filled}
 use Rattle.exchange_defs.specs.Status.{success}
 use Rattle.exchange_defs.specs.Content.{written, ended, is_empty}
 use Rattle.exchange_defs.specs.Commands.{Element, all_lock, all_unlock, deletes_on_close}
-use Rattle.exchange_defs.specs.State.{Server, Open, Entry, Range, Kept, Record, NewOpen, EpochRecord, CreateRecord, WriteRecord, EndRecord, BasicRecord, DeleteRecord, RenameRecord, RemoveRecord, LockRecord, ShutRecord, VersionRecord, ExpireRecord}
-use Rattle.exchange_defs.specs.Files.{root, find, exists, exists_in, path_in, make_file, empty_file, set_content, store_basic, mark_file, remove_file, rename_file, passes_room}
+use Rattle.exchange_defs.specs.State.{Server, Open, Entry, Range, Kept, Record, NewOpen, EpochRecord, CreateRecord, WriteRecord, EndRecord, BasicRecord, DeleteRecord, RenameRecord, RemoveRecord, LockRecord, CloseRecord, VersionRecord, ExpireRecord}
+use Rattle.exchange_defs.specs.Files.{root, find, exists, exists_in, path_in, make_file, empty_file, set_content, store_basic, set_delete_pending, remove_file, rename_file, passes_room}
 use Rattle.exchange_defs.specs.Ranges.{RangeAnswer, Stands, Denied, change_ranges}
-use Rattle.exchange_defs.specs.Opens.{id_of, max_ids, opens_in, file_has_open, drop_open, marked_by, goes, without_gone}
+use Rattle.exchange_defs.specs.Opens.{id_of, max_ids, opens_in, file_has_open, drop_open, pending_behind, goes, without_gone}
 use Rattle.exchange_defs.specs.CheckOpen.{target_of, file_of, is_slot}
 use Rattle.exchange_defs.specs.Effects.{keep_slot, set_ranges}
-use Rattle.exchange_defs.specs.Step.{add_mark, max_marks}
+use Rattle.exchange_defs.specs.Step.{add_expired_guid, max_expired_guids}
 use Rattle.exchange_defs.specs.Fold.{nothing_yet, with_record, fold_from, fold, sweep, begin_epoch, set_version, may_create, may_have_open, restore, created_file, is_file, may_rename, may_remove, lock_granted, lock_recorded, shut_recorded, recovery_records, recovered_from, opening_records}
 use Rattle.server_law.proofs.Logic.{either, both}
 use Rattle.recovery_law.specs.Recovers.{staying, kept_guid, Files, Opens, Recovers}
@@ -31,7 +31,7 @@ bare_swept s [] h = h
 bare_swept s (e ∷ es) h = bare_swept (without_gone s e.file) es (either (λ x. Bare x) (goes s e.file) (remove_file s e.file) s (λ _. h) (λ _. h))
 
 bare_epoch : (s : Server) (number : ℕ) → Bare s → Bare (begin_epoch s number)
-bare_epoch s number h = either (λ x. Bare x) (number == s.epoch + 1) (record (sweep s s.entries) { epoch = number; given = 0; begun = 0 }) s (λ _. bare_swept s s.entries h) (λ _. h)
+bare_epoch s number h = either (λ x. Bare x) (number == s.epoch + 1) (record (sweep s s.entries) { epoch = number; open_ids_given = 0; session_ids_given = 0 }) s (λ _. bare_swept s s.entries h) (λ _. h)
 
 bare_file : (s : Server) (action f : ℕ) (path : List ℕ) (attributes : ℕ) (is_dir : Bool) (time : ℕ) → Bare s → Bare (created_file s action f path attributes is_dir time)
 bare_file s action f path attributes is_dir time h =
@@ -42,10 +42,10 @@ bare_opened : (s : Server) (f action : ℕ) (opened : Option NewOpen) → Bare s
 bare_opened s f action None h = h
 bare_opened s f action (Some n) h =
     record {
-      apart = none_put s.at n.id None h.apart;
+      apart = none_put s.session_of_open n.id None h.apart;
       unreached = none_put s.sequence n.id 0 h.unreached;
       undated = none_put s.deadline n.id None h.undated;
-      unlisted = none_put s.listed n.id None h.unlisted;
+      unlisted = none_put s.enumeration_location n.id None h.unlisted;
       absent = h.absent;
       no_count = h.no_count;
       no_trees = h.no_trees;
@@ -60,7 +60,7 @@ bare_opened s f action (Some n) h =
 bare_dropped : (s : Server) (o : ℕ) → Bare s → Bare (drop_open s o)
 bare_dropped s o h =
     record {
-      apart = none_put s.at o None h.apart;
+      apart = none_put s.session_of_open o None h.apart;
       unreached = h.unreached;
       undated = none_put s.deadline o None h.undated;
       unlisted = h.unlisted;
@@ -76,14 +76,14 @@ bare_dropped s o h =
     }
 
 bare_shut : (s : Server) (o : ℕ) → Bare s → Bare (shut_recorded s o)
-bare_shut s o h = bare_dropped (marked_by s o) o (either (λ x. Bare x) (deletes_on_close (s.opened o).options) (mark_file s (s.opened o).file true) s (λ _. h) (λ _. h))
+bare_shut s o h = bare_dropped (pending_behind s o) o (either (λ x. Bare x) (deletes_on_close (s.opened o).options) (set_delete_pending s (s.opened o).file true) s (λ _. h) (λ _. h))
 
-bare_marked : (s : Server) (client : ℕ) (guid : Option ℕ) → Bare s → Bare (add_mark s client guid)
-bare_marked s client None h = h
-bare_marked s client (Some g) h = h
+bare_expired : (s : Server) (client : ℕ) (guid : Option ℕ) → Bare s → Bare (add_expired_guid s client guid)
+bare_expired s client None h = h
+bare_expired s client (Some g) h = h
 
 bare_slot : (s : Server) (o index number status : ℕ) → Bare s → Bare (keep_slot s o index number status)
-bare_slot s o index number status h = either (λ x. Bare x) (is_slot index) (record s { slots = put2 s.slots o index (Some (record { number = number; status = status })) }) s (λ _. h) (λ _. h)
+bare_slot s o index number status h = either (λ x. Bare x) (is_slot index) (record s { lock_sequences = put2 s.lock_sequences o index (Some (record { number = number; status = status })) }) s (λ _. h) (λ _. h)
 
 bare_granted : (s : Server) (o index number : ℕ) (x : RangeAnswer) → Bare s → Bare (lock_granted s o index number x)
 bare_granted s o index number (Denied status) h = h
@@ -105,14 +105,14 @@ bare_record s (WriteRecord origin f at time bytes) h =
     either (λ x. Bare x) (is_file s f && (not (is_empty bytes) && not (passes_room s f (at + length bytes)))) (set_content s f (written at bytes (s.content f)) time) s (λ _. h) (λ _. h)
 bare_record s (EndRecord origin f size time) h = either (λ x. Bare x) (is_file s f && not (passes_room s f size)) (set_content s f (ended size (s.content f)) time) s (λ _. h) (λ _. h)
 bare_record s (BasicRecord origin f basic) h = either (λ x. Bare x) (exists s f) (store_basic s f basic) s (λ _. h) (λ _. h)
-bare_record s (DeleteRecord origin f flag) h = either (λ x. Bare x) (exists s f && not (f == root)) (mark_file s f flag) s (λ _. h) (λ _. h)
+bare_record s (DeleteRecord origin f flag) h = either (λ x. Bare x) (exists s f && not (f == root)) (set_delete_pending s f flag) s (λ _. h) (λ _. h)
 bare_record s (RenameRecord origin f replaced path) h = either (λ x. Bare x) (may_rename s f replaced path) (rename_file s f (target_of f (find s path)) path) s (λ _. h) (λ _. h)
 bare_record s (RemoveRecord origin f) h = either (λ x. Bare x) (may_remove s f) (remove_file s f) s (λ _. h) (λ _. h)
 bare_record s (LockRecord origin o index number status es) h = either (λ x. Bare x) (s.standing o && nat_le index 64) (lock_recorded s o index number status es) s (λ _. bare_locked s o index number status es h) (λ _. h)
-bare_record s (ShutRecord origin o) h = either (λ x. Bare x) (s.standing o) (shut_recorded s o) s (λ _. bare_shut s o h) (λ _. h)
+bare_record s (CloseRecord origin o) h = either (λ x. Bare x) (s.standing o) (shut_recorded s o) s (λ _. bare_shut s o h) (λ _. h)
 bare_record s (ExpireRecord origin o) h =
-    either (λ x. Bare x) (s.standing o && nat_lt s.mark_count max_marks) (add_mark (shut_recorded s o) (s.opened o).client (s.opened o).guid) s
-    (λ _. bare_marked (shut_recorded s o) (s.opened o).client (s.opened o).guid (bare_shut s o h)) (λ _. h)
+    either (λ x. Bare x) (s.standing o && nat_lt s.expired_count max_expired_guids) (add_expired_guid (shut_recorded s o) (s.opened o).client (s.opened o).guid) s
+    (λ _. bare_expired (shut_recorded s o) (s.opened o).client (s.opened o).guid (bare_shut s o h)) (λ _. h)
 
 bare_from : (s : Server) (rs : List Record) → Bare s → Bare (fold_from s rs)
 unfolding fold_from
@@ -143,16 +143,16 @@ pub record Carried (s u : Server) : Type 0 where
   pub opens : u.opens ≡ s.opens
   pub standing : u.standing ≡ s.standing
   pub opened : u.opened ≡ s.opened
-  pub slots : u.slots ≡ s.slots
+  pub lock_sequences : u.lock_sequences ≡ s.lock_sequences
   pub by_guid : u.by_guid ≡ s.by_guid
   pub ranges : u.ranges ≡ s.ranges
   pub next_file : u.next_file ≡ s.next_file
   pub directory : u.directory ≡ s.directory
-  pub marked : u.marked ≡ s.marked
+  pub delete_pending : u.delete_pending ≡ s.delete_pending
   pub basic : u.basic ≡ s.basic
   pub content : u.content ≡ s.content
-  pub marks : u.marks ≡ s.marks
-  pub mark_count : u.mark_count ≡ s.mark_count
+  pub expired_guids : u.expired_guids ≡ s.expired_guids
+  pub expired_count : u.expired_count ≡ s.expired_count
 
 carried_gone : (s u : Server) (f : ℕ) → Carried s u → Carried s (without_gone u f)
 carried_gone s u f h =
@@ -161,16 +161,16 @@ carried_gone s u f h =
       opens = h.opens;
       standing = h.standing;
       opened = h.opened;
-      slots = h.slots;
+      lock_sequences = h.lock_sequences;
       by_guid = h.by_guid;
       ranges = h.ranges;
       next_file = h.next_file;
       directory = h.directory;
-      marked = h.marked;
+      delete_pending = h.delete_pending;
       basic = h.basic;
       content = h.content;
-      marks = h.marks;
-      mark_count = h.mark_count;
+      expired_guids = h.expired_guids;
+      expired_count = h.expired_count;
     })
     (λ _. h)
 
@@ -183,8 +183,8 @@ carried_swept s u (e ∷ es) h = carried_swept s (without_gone u e.file) es (car
 pub record NextEpoch (s u : Server) (number : ℕ) : Type 0 where
   pub carried : Carried s u
   pub epoch : u.epoch ≡ number
-  pub given : u.given ≡ 0
-  pub begun : u.begun ≡ 0
+  pub open_ids_given : u.open_ids_given ≡ 0
+  pub session_ids_given : u.session_ids_given ≡ 0
 
 same_test : (n m : ℕ) → n ≡ m → (n == m) ≡ true
 same_test n m e = grind arith
@@ -192,32 +192,32 @@ same_test n m e = grind arith
 epoch_begins : (s u : Server) (number : ℕ) → number ≡ u.epoch + 1 → Carried s u → NextEpoch s (begin_epoch u number) number
 epoch_begins s u number e h =
     let c = carried_swept s u u.entries h in
-    let step : begin_epoch u number ≡ record (sweep u u.entries) { epoch = number; given = 0; begun = 0 } = rw (same_test number (u.epoch + 1) e) refl in
+    let step : begin_epoch u number ≡ record (sweep u u.entries) { epoch = number; open_ids_given = 0; session_ids_given = 0 } = rw (same_test number (u.epoch + 1) e) refl in
     subst (λ x. NextEpoch s x number) (sym step)
     (record {
       carried = record {
         opens = c.opens;
         standing = c.standing;
         opened = c.opened;
-        slots = c.slots;
+        lock_sequences = c.lock_sequences;
         by_guid = c.by_guid;
         ranges = c.ranges;
         next_file = c.next_file;
         directory = c.directory;
-        marked = c.marked;
+        delete_pending = c.delete_pending;
         basic = c.basic;
         content = c.content;
-        marks = c.marks;
-        mark_count = c.mark_count;
+        expired_guids = c.expired_guids;
+        expired_count = c.expired_count;
       };
       epoch = refl;
-      given = refl;
-      begun = refl;
+      open_ids_given = refl;
+      session_ids_given = refl;
     })
 
 carries_itself : (s : Server) → Carried s s
 carries_itself s =
-    record { opens = refl; standing = refl; opened = refl; slots = refl; by_guid = refl; ranges = refl; next_file = refl; directory = refl; marked = refl; basic = refl; content = refl; marks = refl; mark_count = refl }
+    record { opens = refl; standing = refl; opened = refl; lock_sequences = refl; by_guid = refl; ranges = refl; next_file = refl; directory = refl; delete_pending = refl; basic = refl; content = refl; expired_guids = refl; expired_count = refl }
 
 -- the version alone is raised
 pub record Raised (s u : Server) : Type 0 where
@@ -228,7 +228,7 @@ version_raised : (s : Server) (number : ℕ) → Raised s (set_version s number)
 version_raised s number =
     either (λ x. Raised s x) ((number == 2) && (s.version == 1)) (record s { version = 2 }) s
     (λ _. record {
-      carried = record { opens = refl; standing = refl; opened = refl; slots = refl; by_guid = refl; ranges = refl; next_file = refl; directory = refl; marked = refl; basic = refl; content = refl; marks = refl; mark_count = refl };
+      carried = record { opens = refl; standing = refl; opened = refl; lock_sequences = refl; by_guid = refl; ranges = refl; next_file = refl; directory = refl; delete_pending = refl; basic = refl; content = refl; expired_guids = refl; expired_count = refl };
       epoch = refl;
     })
     (λ _. record { carried = carries_itself s; epoch = refl })
@@ -252,21 +252,21 @@ restarted s rs h =
     let c = all.carried in let b = bare_fold (rs ++ recovery_records rs) in
     record {
       epoch = all.epoch;
-      given = all.given;
-      begun = all.begun;
+      open_ids_given = all.open_ids_given;
+      session_ids_given = all.session_ids_given;
       opens = c.opens ∙ h.1.opens;
       standing = λ o. ap (λ (x : ℕ → Bool). x o) c.standing ∙ h.1.standing o;
       opened = λ o e. ap (λ (x : ℕ → Open). x o) c.opened ∙ h.1.opened o e;
-      slots = λ o i e. ap (λ (x : ℕ → ℕ → Option Kept). x o i) c.slots ∙ h.1.slots o i e;
+      lock_sequences = λ o i e. ap (λ (x : ℕ → ℕ → Option Kept). x o i) c.lock_sequences ∙ h.1.lock_sequences o i e;
       by_guid = λ p g. ap (λ (x : ℕ → ℕ → Option ℕ). x p g) c.by_guid ∙ h.1.by_guid p g;
       ranges = λ f. ap (λ (x : ℕ → List Range). x f) c.ranges ∙ h.1.ranges f;
       next_file = c.next_file ∙ h.0.next_file;
       directory = c.directory ∙ h.0.directory;
-      marked = c.marked ∙ h.0.marked;
+      delete_pending = c.delete_pending ∙ h.0.delete_pending;
       basic = c.basic ∙ h.0.basic;
       content = c.content ∙ h.0.content;
-      marks = c.marks ∙ h.2.marks;
-      mark_count = c.mark_count ∙ h.2.mark_count;
+      expired_guids = c.expired_guids ∙ h.2.expired_guids;
+      expired_count = c.expired_count ∙ h.2.expired_count;
       bare = b;
     }
 
@@ -282,8 +282,8 @@ open_there d s o l h stays =
     let there = ap (has o) h.opens ∙ has_persistent s.opened o s.opens ∙ both (has o s.opens) (s.opened o).persistent (l o ∙ t.0) t.1 in
     subst (λ (r : Open). is_filled (opens_in d.opened d.opens r.file) ≡ true) (h.opened o stays) (has_file d.opened o d.opens there)
 
-stays_unmarked : (m o : Bool) → m ≡ false → (m && not o) ≡ false
-stays_unmarked m o e = grind arith
+stays_not_pending : (m o : Bool) → m ≡ false → (m && not o) ≡ false
+stays_not_pending m o e = grind arith
 
 stays_opened : (m o : Bool) → o ≡ true → (m && not o) ≡ false
 stays_opened m o e = grind arith
@@ -292,15 +292,15 @@ left_from : (d s : Server) → Listed s → Files d s → Opens d s → EntriesL
 left_from d s l f h =
     record {
       were = λ g e. let t = left_behind d d g e in (ap (λ es. exists_in es g) (sym f.entries) ∙ t.0, t.1 ∙ ap (λ es. path_in es g) f.entries);
-      unmarked = λ g m. held_behind d d g (stays_unmarked (d.marked g) (file_has_open d g) (ap (λ (x : ℕ → Bool). x g) f.marked ∙ m)) ∙ ap (λ es. exists_in es g) f.entries;
+      not_pending = λ g m. held_behind d d g (stays_not_pending (d.delete_pending g) (file_has_open d g) (ap (λ (x : ℕ → Bool). x g) f.delete_pending ∙ m)) ∙ ap (λ es. exists_in es g) f.entries;
       held = λ o stays. let g = (s.opened o).file in
-          held_behind d d g (stays_opened (d.marked g) (file_has_open d g) (open_there d s o l h stays)) ∙ ap (λ es. exists_in es g) f.entries;
+          held_behind d d g (stays_opened (d.delete_pending g) (file_has_open d g) (open_there d s o l h stays)) ∙ ap (λ es. exists_in es g) f.entries;
     }
 
 pub entries_left : (s : Server) (rs : List Record) → Listed s → Recovers rs s → EntriesLeft s (recovered_from s rs)
 entries_left s rs l h =
     let t = subst (λ (x : Server). EntriesLeft s x) (sym (fold_append nothing_yet rs (recovery_records rs))) (left_from (fold rs) s l h.0 h.1) in
-    record { were = t.were; unmarked = t.unmarked; held = t.held }
+    record { were = t.were; not_pending = t.not_pending; held = t.held }
 
 -- ---- what the laws above ask of it
 
@@ -330,8 +330,8 @@ stood s u r o e =
     let stays = sym (r.standing o) ∙ e in let t = both_of (s.standing o) (s.opened o).persistent stays in (t.0, t.1, r.opened o stays)
 
 -- ids go on above those that were given
-pub ids_above : (s u : Server) → Restarted s u → s.given ≤ max_ids → id_of s.epoch s.given ≤ id_of u.epoch u.given
-ids_above s u r few = let e = r.epoch in let g = r.given in omega arith
+pub ids_above : (s u : Server) → Restarted s u → s.open_ids_given ≤ max_ids → id_of s.epoch s.open_ids_given ≤ id_of u.epoch u.open_ids_given
+ids_above s u r few = let e = r.epoch in let g = r.open_ids_given in omega arith
 
-pub sessions_above : (s u : Server) → Restarted s u → s.begun ≤ max_ids → id_of s.epoch s.begun ≤ id_of u.epoch u.begun
-sessions_above s u r few = let e = r.epoch in let g = r.begun in omega arith
+pub sessions_above : (s u : Server) → Restarted s u → s.session_ids_given ≤ max_ids → id_of s.epoch s.session_ids_given ≤ id_of u.epoch u.session_ids_given
+sessions_above s u r few = let e = r.epoch in let g = r.session_ids_given in omega arith

@@ -6,7 +6,7 @@ use Rattle.exchange_defs.specs.State.{Server, Message, ServerEvent, Accept, Hear
 use Rattle.exchange_defs.specs.Files.{exists}
 use Rattle.exchange_defs.specs.Check.{check}
 use Rattle.exchange_defs.specs.Records.{fits, origin_at}
-use Rattle.exchange_defs.specs.Step.{Ruling, Says, TakesIn, TurnsAway, TakesOut, TakesAllOut, ruling, ruling_without_room, without_room, max_connections, carried_out, table, expiring, behind_expiry, step, with_deadlines, first_deadline, is_past, due_in, due, expire, expire_records, connection_of, max_marks, ends_with}
+use Rattle.exchange_defs.specs.Step.{Ruling, Says, TakesIn, TurnsAway, TakesOut, TakesAllOut, ruling, ruling_without_room, without_room, max_connections, carried_out, table, expiring, behind_expiry, step, with_deadlines, first_deadline, is_past, due_in, due, expire, expire_records, connection_of, max_expired_guids, ends_with}
 use Rattle.exchange_defs.specs.Fold.{fold_from}
 use Rattle.server_law.specs.Fits.{PlainAttached, Deadlines, Listed}
 use Rattle.server_law.proofs.Logic.{either}
@@ -80,7 +80,7 @@ found_due deadline (x ∷ xs) now o e =
     some_same : (a b : ℕ) → Some a ≡ Some b → a ≡ b
     some_same a b q = cc
 
-few : (n : ℕ) → nat_le max_marks n ≡ false → nat_lt n max_marks ≡ true
+few : (n : ℕ) → nat_le max_expired_guids n ≡ false → nat_lt n max_expired_guids ≡ true
 few n e = grind (arith, nat_tests)
 
 expiring_good : (d s : Server) (now : ℕ) (e : ServerEvent) → Runs e → Needs s → ((o : ℕ) → due s now ≡ Some o → Due s o) → ((o : ℕ) → due s now ≡ Some o → Needs (expire s o)) → Mirrors d s
@@ -88,12 +88,12 @@ expiring_good : (d s : Server) (now : ℕ) (e : ServerEvent) → Runs e → Need
 expiring_good d s now e ok n dues behind h None q = tables d s now e ok n h
 expiring_good d s now e ok n dues behind h (Some o) q =
     let t = expire s o in let front = expire_records s (origin_at (connection_of e)) o in let A = carried_out t now (ruling t e) in let is_due = dues o q in
-    either (Good d) (nat_le max_marks s.mark_count) (table s now e) (behind_expiry s now e front A)
+    either (Good d) (nat_le max_expired_guids s.expired_count) (table s now e) (behind_expiry s now e front A)
     (λ _. tables d s now e ok n h)
     (λ room. either (Good d) (fits s (front ++ A.records)) (record A { records = front ++ A.records }) (table s now e)
     (λ _. subst (λ x. Mirrors x A.server) (sym (fold_append d front A.records))
     (carried (fold_from d front) t now (ruling t e) (rules t e ok) (behind o q)
-    (expires_recorded d s (origin_at (connection_of e)) o (leaver s o n is_due.stands) is_due.persistent (few s.mark_count room) n.listed h)))
+    (expires_recorded d s (origin_at (connection_of e)) o (leaver s o n is_due.stands) is_due.persistent (few s.expired_count room) n.listed h)))
     (λ _. tables d s now e ok n h))
 
 -- ---- the whole step
@@ -109,7 +109,7 @@ needs_dated s now n = record {
   range_owners = n.range_owners;
   open_files = n.open_files;
   not_root = n.not_root;
-  root_unmarked = n.root_unmarked;
+  root_stays = n.root_stays;
 }
 
 by_deadline : (now : ℕ) (stands : Bool) (at : Option ℕ) (row : Open) (deadline : Option ℕ) → ((d : ℕ) → deadline ≡ Some d → at ≡ None) → is_past now (first_deadline now stands at row deadline) ≡ true → at ≡ None
@@ -119,8 +119,8 @@ by_deadline now false (Some x) row None h e = absurd (cc)
 by_deadline now true (Some x) row (Some d) h e = h d refl
 by_deadline now false (Some x) row (Some d) h e = h d refl
 
-no_session : (s : Server) (now o : ℕ) → Deadlines s → is_past now ((with_deadlines s now).deadline o) ≡ true → s.at o ≡ None
-no_session s now o deadlines e = by_deadline now (s.standing o) (s.at o) (s.opened o) (s.deadline o) (λ d. deadlines o d) e
+no_session : (s : Server) (now o : ℕ) → Deadlines s → is_past now ((with_deadlines s now).deadline o) ≡ true → s.session_of_open o ≡ None
+no_session s now o deadlines e = by_deadline now (s.standing o) (s.session_of_open o) (s.opened o) (s.deadline o) (λ d. deadlines o d) e
 
 kept_by : (persistent : Bool) (at : Option ℕ) → at ≡ None → (persistent ≡ false → is_some at ≡ true) → persistent ≡ true
 kept_by true at e h = refl
@@ -131,7 +131,7 @@ due_is s now o listed deadlines plain e =
     let t = found_due (with_deadlines s now).deadline s.opens now o e in
     let stands = sym (listed o) ∙ t.0 in
     let none = no_session s now o deadlines t.1 in
-    record { stands = stands; persistent = kept_by (s.opened o).persistent (s.at o) none (plain o stands) }
+    record { stands = stands; persistent = kept_by (s.opened o).persistent (s.session_of_open o) none (plain o stands) }
 
 pub steps : (d s : Server) (now : ℕ) (e : ServerEvent) → Runs e → Needs s → Deadlines s → PlainAttached s → ((o : ℕ) → due (with_deadlines s now) now ≡ Some o → Needs (expire (with_deadlines s now) o)) → Mirrors d s → Good d (step s now e)
 steps d s now e ok n deadlines plain behind h =

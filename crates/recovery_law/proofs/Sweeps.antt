@@ -1,4 +1,4 @@
--- Of the files a new epoch takes those alone that are marked and have no open.
+-- Of the files a new epoch takes those alone that are delete pending and have no open.
 use Rattle.std.proofs.Common.{◌≡◌, ◌≢◌, ℕ, ◌+◌, ◌==◌, Bool, true, false, not, ◌&&◌, List, [], ◌∷◌, refl, arith, sym, subst, ◌∙◌}
 use Rattle.exchange_defs.specs.State.{Server, Entry, VersionRecord, EpochRecord}
 use Rattle.exchange_defs.specs.Files.{root, exists, exists_in, path_in, is_full_directory, remove_file, without_file}
@@ -40,7 +40,7 @@ left_swept s u [] h = h
 left_swept s u (e ∷ es) h = left_swept s (without_gone u e.file) es (left_gone s u e.file h)
 
 left_epoch : (s u : Server) (number : ℕ) → Left s u → Left s (begin_epoch u number)
-left_epoch s u number h = either (λ x. Left s x) (number == u.epoch + 1) (record (sweep u u.entries) { epoch = number; given = 0; begun = 0 }) u (λ _. left_swept s u u.entries h) (λ _. h)
+left_epoch s u number h = either (λ x. Left s x) (number == u.epoch + 1) (record (sweep u u.entries) { epoch = number; open_ids_given = 0; session_ids_given = 0 }) u (λ _. left_swept s u u.entries h) (λ _. h)
 
 left_version : (s u : Server) (number : ℕ) → Left s u → Left s (set_version u number)
 left_version s u number h = either (λ x. Left s x) ((number == 2) && (u.version == 1)) (record u { version = 2 }) u (λ _. h) (λ _. h)
@@ -53,9 +53,9 @@ left_behind d s =
     (λ _. left_epoch d (set_version d 2) (s.epoch + 1) (left_version d d 2 all))
     (λ _. left_epoch d d (s.epoch + 1) all)
 
--- a file that is unmarked, or has an open, stays
+-- a file that isn't delete pending, or has an open, stays
 abbrev pub Stays : Server → ℕ → Type 0
-Stays s g = (s.marked g && not (file_has_open s g)) ≡ false
+Stays s g = (s.delete_pending g && not (file_has_open s g)) ≡ false
 
 -- it stays there as it was
 pub record Held (s u : Server) (g : ℕ) : Type 0 where
@@ -67,7 +67,7 @@ goes_not m r e o u h = grind arith
 
 never_goes : (s : Server) (g : ℕ) → Stays s g → goes s g ≡ false
 unfolding goes
-never_goes s g h = goes_not (s.marked g) (g == root) (exists s g) (file_has_open s g) (is_full_directory s g) h
+never_goes s g h = goes_not (s.delete_pending g) (g == root) (exists s g) (file_has_open s g) (is_full_directory s g) h
 
 clash : (b : Bool) → b ≡ false → b ≡ true → ⊥
 clash b e f = cc
@@ -88,7 +88,7 @@ held_epoch : (s u : Server) (number g : ℕ) → Held s u g → Held s (begin_ep
 unfolding file_has_open
 held_epoch s u number g h =
     let t = held_swept s u u.entries g h in
-    either (λ x. Held s x g) (number == u.epoch + 1) (record (sweep u u.entries) { epoch = number; given = 0; begun = 0 }) u (λ _. record { there = t.there; still = t.still }) (λ _. h)
+    either (λ x. Held s x g) (number == u.epoch + 1) (record (sweep u u.entries) { epoch = number; open_ids_given = 0; session_ids_given = 0 }) u (λ _. record { there = t.there; still = t.still }) (λ _. h)
 
 held_version : (s u : Server) (number g : ℕ) → Held s u g → Held s (set_version u number) g
 unfolding file_has_open

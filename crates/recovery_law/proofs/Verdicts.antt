@@ -10,7 +10,7 @@ use Rattle.exchange_defs.specs.Opens.{leave_open, leave_records}
 use Rattle.exchange_defs.specs.Ranges.{Stands, change_ranges}
 use Rattle.exchange_defs.specs.CheckOpen.{is_late, file_of}
 use Rattle.exchange_defs.specs.Records.{origin_of}
-use Rattle.exchange_defs.specs.Verdict.{Verdict, Refuse, Give, KeepRefusal, Repeat, Attach, Make, TurnDown, Tell, Show, KeepSlot, PutRanges, Alter, Shut, Challenge, ChallengeBinding, Begin, Join, EndSession, AddTree, DropTree, Change, PutBytes, PutEnd, PutBasic, PutMark, PutPath, PutNothing}
+use Rattle.exchange_defs.specs.Verdict.{Verdict, Refuse, Give, KeepRefusal, Repeat, Attach, Make, TurnDown, Tell, Show, KeepSlot, PutRanges, Alter, CloseOpen, Challenge, ChallengeBinding, Begin, Join, EndSession, AddTree, DropTree, Change, PutBytes, PutEnd, PutBasic, PutDeletePending, PutPath, PutNothing}
 use Rattle.exchange_defs.specs.Effects.{apply, reach, attach, attached, keep_slot, set_ranges, lock_records, change_file, change_records, keep_closed}
 use Rattle.exchange_defs.specs.Fold.{fold_from}
 use Rattle.server_law.specs.Fits.{Listed, Ascending, GuidOpen, OpenGuid, OpenIds, RangeOwners, OpenFiles}
@@ -33,7 +33,7 @@ pub record Needs (s : Server) : Type 0 where
   pub range_owners : RangeOwners s
   pub open_files : OpenFiles s
   pub not_root : (o : ℕ) → s.standing o ≡ true → deletes_on_close (s.opened o).options ≡ true → (s.opened o).file ≢ 0
-  pub root_unmarked : s.marked root ≡ false
+  pub root_stays : s.delete_pending root ≡ false
 
 pub ender : (s : Server) → Needs s → Ender s
 ender s n = record { listed = n.listed; ascending = n.ascending; files = n.open_files; not_root = n.not_root }
@@ -61,9 +61,9 @@ reached : (d s : Server) (m : Message) (o : ℕ) → Mirrors d s → Mirrors (fo
 reached d s m o h = either (λ x. Mirrors (fold_from d []) x) (is_late s m o) s (record s { sequence = put s.sequence o m.sequence }) (λ _. nothing_owed d s h) (λ _. nothing_owed d s h)
 
 attaches : (d s : Server) (m : Message) (o : ℕ) → Mirrors d s → Mirrors (fold_from d []) (attached s m o)
-attaches d s m o h = either (λ x. Mirrors (fold_from d []) x) (is_some (s.at o)) s (attach s m o) (λ _. nothing_owed d s h) (λ _. nothing_owed d s h)
+attaches d s m o h = either (λ x. Mirrors (fold_from d []) x) (is_some (s.session_of_open o)) s (attach s m o) (λ _. nothing_owed d s h) (λ _. nothing_owed d s h)
 
-shows : (d s : Server) (m : Message) (o : ℕ) (last : Option (List ℕ)) → Mirrors d s → Mirrors (fold_from d []) (record (reach s m o) { listed = put s.listed o last })
+shows : (d s : Server) (m : Message) (o : ℕ) (last : Option (List ℕ)) → Mirrors d s → Mirrors (fold_from d []) (record (reach s m o) { enumeration_location = put s.enumeration_location o last })
 shows d s m o last h = reached d s m o h
 
 -- ---- locks
@@ -104,7 +104,7 @@ unfolding path_of
 sequence_aside e s q f now (PutBytes at bytes) h = h
 sequence_aside e s q f now (PutEnd size) h = h
 sequence_aside e s q f now (PutBasic basic) h = h
-sequence_aside e s q f now (PutMark flag) h = h
+sequence_aside e s q f now (PutDeletePending flag) h = h
 sequence_aside e s q f now (PutPath replaced path) h = h
 sequence_aside e s q f now PutNothing h = h
 
@@ -112,7 +112,7 @@ alters : (d s : Server) (m : Message) (o now : ℕ) (c : Change) (body : Body) �
     → Mirrors (fold_from d (change_records m (file_of s o) now c)) (change_file (reach s m o) (file_of s o) now c)
 alters d s m o now c body facts n h =
     let f = file_of s o in
-    let done = changes d s m f now c (n.open_files o facts.opened.standing) (allowed s m o c body facts) n.root_unmarked n.listed h in
+    let done = changes d s m f now c (n.open_files o facts.opened.standing) (allowed s m o c body facts) n.root_stays n.listed h in
     either (λ x. Mirrors (fold_from d (change_records m f now c)) (change_file x f now c)) (is_late s m o) s (record s { sequence = put s.sequence o m.sequence })
     (λ _. done)
     (λ _. sequence_aside (fold_from d (change_records m f now c)) s (put s.sequence o m.sequence) f now c done)
@@ -140,7 +140,7 @@ good d s m now (KeepSlot o index number status elements) f n h =
 good d s m now (PutRanges o index number ranges elements) f n h =
     puts d s m o index number ranges elements f.lock.opened.standing (lock_kind s m o index number elements f.lock) f.granted h
 good d s m now (Alter o change body) f n h = alters d s m o now change body f n h
-good d s m now (Shut o body) f n h =
+good d s m now (CloseOpen o body) f n h =
     closed_aside (fold_from d (leave_records s (origin_of m) o)) (leave_open s o) m.session (s.opened o).guid (leaves_recorded d s (origin_of m) o (leaver s o n f.opened.standing) n.listed h)
 good d s m now Challenge f n h = nothing_owed d s h
 good d s m now (ChallengeBinding session) f n h = nothing_owed d s h

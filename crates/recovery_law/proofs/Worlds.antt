@@ -29,7 +29,7 @@ needs s i =
       range_owners = i.range_owners;
       open_files = i.open_files;
       not_root = λ o _. i.not_root o;
-      root_unmarked = i.root_unmarked;
+      root_stays = i.root_stays;
     }
 
 -- ---- the server's step
@@ -174,9 +174,9 @@ always (e ∷ es) w f h = always es (happens w e) (fine_next w e f) (keeps w e (
 blank_mirrors : (z : Settings) → Recovers [] (blank_server z)
 unfolding fold_from persistent_in kept_ranges
 blank_mirrors z = (
-  record { entries = refl; next_file = refl; directory = refl; marked = refl; basic = refl; content = refl },
-  record { opens = refl; standing = λ o. refl; opened = λ o e. refl; slots = λ o i e. refl; by_guid = λ c g. refl; ranges = λ f. refl },
-  record { version = refl; epoch = refl; given = omega arith; full = refl; room = omega arith; marks = refl; mark_count = refl },
+  record { entries = refl; next_file = refl; directory = refl; delete_pending = refl; basic = refl; content = refl },
+  record { opens = refl; standing = λ o. refl; opened = λ o e. refl; lock_sequences = λ o i e. refl; by_guid = λ c g. refl; ranges = λ f. refl },
+  record { version = refl; epoch = refl; open_ids_given = omega arith; full = refl; room = omega arith; expired_guids = refl; expired_count = refl },
 )
 
 pub begins : (z : Settings) → Kept (start z)

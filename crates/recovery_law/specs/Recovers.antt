@@ -19,11 +19,11 @@ kept_ranges p [] = []
 kept_ranges p (r ∷ rs) = if p r.owner then r ∷ kept_ranges p rs else kept_ranges p rs
 
 -- the files, all of them
-pub record FilesAgree (fold_entries its_entries : List Entry) (fold_next its_next : ℕ) (fold_directory its_directory fold_marked its_marked : ℕ → Bool) (fold_basic its_basic : ℕ → Basic) (fold_content its_content : ℕ → List ℕ) : Type 0 where
+pub record FilesAgree (fold_entries its_entries : List Entry) (fold_next its_next : ℕ) (fold_directory its_directory fold_pending its_pending : ℕ → Bool) (fold_basic its_basic : ℕ → Basic) (fold_content its_content : ℕ → List ℕ) : Type 0 where
   pub entries : fold_entries ≡ its_entries
   pub next_file : fold_next ≡ its_next
   pub directory : fold_directory ≡ its_directory
-  pub marked : fold_marked ≡ its_marked
+  pub delete_pending : fold_pending ≡ its_pending
   pub basic : fold_basic ≡ its_basic
   pub content : fold_content ≡ its_content
 
@@ -32,28 +32,28 @@ pub record OpensAgree (fold_opens its_opens : List ℕ) (fold_standing its_stand
   pub opens : fold_opens ≡ persistent_in its_opened its_opens
   pub standing : (o : ℕ) → fold_standing o ≡ staying its_standing its_opened o
   pub opened : (o : ℕ) → staying its_standing its_opened o ≡ true → fold_opened o ≡ its_opened o
-  pub slots : (o i : ℕ) → staying its_standing its_opened o ≡ true → fold_slots o i ≡ its_slots o i
+  pub lock_sequences : (o i : ℕ) → staying its_standing its_opened o ≡ true → fold_slots o i ≡ its_slots o i
   pub by_guid : (c g : ℕ) → fold_guids c g ≡ kept_guid (staying its_standing its_opened) (its_guids c g)
   pub ranges : (f : ℕ) → fold_ranges f ≡ kept_ranges (staying its_standing its_opened) (its_ranges f)
 
 -- the numbers; the fold gives no more ids than the server gave, and its room is the whole
-pub record CountsAgree (fold_version its_version fold_epoch its_epoch fold_given its_given fold_room its_room : ℕ) (fold_marks its_marks : ℕ → ℕ → Bool) (fold_count its_count : ℕ) : Type 0 where
+pub record CountsAgree (fold_version its_version fold_epoch its_epoch fold_given its_given fold_room its_room : ℕ) (fold_expired its_expired : ℕ → ℕ → Bool) (fold_count its_count : ℕ) : Type 0 where
   pub version : fold_version ≡ its_version
   pub epoch : fold_epoch ≡ its_epoch
-  pub given : fold_given ≤ its_given
+  pub open_ids_given : fold_given ≤ its_given
   pub full : fold_room ≡ full_room
   pub room : its_room ≤ full_room
-  pub marks : fold_marks ≡ its_marks
-  pub mark_count : fold_count ≡ its_count
+  pub expired_guids : fold_expired ≡ its_expired
+  pub expired_count : fold_count ≡ its_count
 
 abbrev pub Files : Server → Server → Type 0
-Files d s = FilesAgree d.entries s.entries d.next_file s.next_file d.directory s.directory d.marked s.marked d.basic s.basic d.content s.content
+Files d s = FilesAgree d.entries s.entries d.next_file s.next_file d.directory s.directory d.delete_pending s.delete_pending d.basic s.basic d.content s.content
 
 abbrev pub Opens : Server → Server → Type 0
-Opens d s = OpensAgree d.opens s.opens d.standing s.standing d.opened s.opened d.slots s.slots d.by_guid s.by_guid d.ranges s.ranges
+Opens d s = OpensAgree d.opens s.opens d.standing s.standing d.opened s.opened d.lock_sequences s.lock_sequences d.by_guid s.by_guid d.ranges s.ranges
 
 abbrev pub Counts : Server → Server → Type 0
-Counts d s = CountsAgree d.version s.version d.epoch s.epoch d.given s.given d.room s.room d.marks s.marks d.mark_count s.mark_count
+Counts d s = CountsAgree d.version s.version d.epoch s.epoch d.open_ids_given s.open_ids_given d.room s.room d.expired_guids s.expired_guids d.expired_count s.expired_count
 
 -- the first state, a fold's, stands for the second
 abbrev pub Mirrors : Server → Server → Type 0

@@ -22,30 +22,30 @@ pub record NoSessions (at : ℕ → Option ℕ) (sequence : ℕ → ℕ) (deadli
   pub unmade : (k : ℕ) → making k ≡ None
 
 abbrev pub Bare : Server → Type 0
-Bare s = NoSessions s.at s.sequence s.deadline s.listed s.present s.sessions s.trees s.closed s.refused s.guids s.connections s.on s.making
+Bare s = NoSessions s.session_of_open s.sequence s.deadline s.enumeration_location s.present s.sessions s.trees s.closed s.refused s.guids s.connections s.session_on s.making
 
 -- u stands where s stood before the restart
 pub record Restarted (s u : Server) : Type 0 where
   pub epoch : u.epoch ≡ s.epoch + 1
-  pub given : u.given ≡ 0
-  pub begun : u.begun ≡ 0
+  pub open_ids_given : u.open_ids_given ≡ 0
+  pub session_ids_given : u.session_ids_given ≡ 0
   pub opens : u.opens ≡ persistent_in s.opened s.opens
   pub standing : (o : ℕ) → u.standing o ≡ staying s.standing s.opened o
   pub opened : (o : ℕ) → staying s.standing s.opened o ≡ true → u.opened o ≡ s.opened o
-  pub slots : (o i : ℕ) → staying s.standing s.opened o ≡ true → u.slots o i ≡ s.slots o i
+  pub lock_sequences : (o i : ℕ) → staying s.standing s.opened o ≡ true → u.lock_sequences o i ≡ s.lock_sequences o i
   pub by_guid : (c g : ℕ) → u.by_guid c g ≡ kept_guid (staying s.standing s.opened) (s.by_guid c g)
   pub ranges : (f : ℕ) → u.ranges f ≡ kept_ranges (staying s.standing s.opened) (s.ranges f)
   pub next_file : u.next_file ≡ s.next_file
   pub directory : u.directory ≡ s.directory
-  pub marked : u.marked ≡ s.marked
+  pub delete_pending : u.delete_pending ≡ s.delete_pending
   pub basic : u.basic ≡ s.basic
   pub content : u.content ≡ s.content
-  pub marks : u.marks ≡ s.marks
-  pub mark_count : u.mark_count ≡ s.mark_count
+  pub expired_guids : u.expired_guids ≡ s.expired_guids
+  pub expired_count : u.expired_count ≡ s.expired_count
   pub bare : Bare u
 
--- and of the entries: what is there was there, at the same path; an unmarked file is there, and that of an open that stays
+-- and of the entries: what is there was there, at the same path; a file that isn't delete pending is there, and that of an open that stays
 pub record EntriesLeft (s u : Server) : Type 0 where
   pub were : (f : ℕ) → exists_in u.entries f ≡ true → exists_in s.entries f ≡ true × path_in u.entries f ≡ path_in s.entries f
-  pub unmarked : (f : ℕ) → s.marked f ≡ false → exists_in u.entries f ≡ exists_in s.entries f
+  pub not_pending : (f : ℕ) → s.delete_pending f ≡ false → exists_in u.entries f ≡ exists_in s.entries f
   pub held : (o : ℕ) → staying s.standing s.opened o ≡ true → exists_in u.entries (s.opened o).file ≡ exists_in s.entries (s.opened o).file

@@ -6,20 +6,20 @@ use Rattle.exchange_defs.specs.Status.{success}
 use Rattle.exchange_defs.specs.Content.{written, ended, is_empty}
 use Rattle.exchange_defs.specs.Commands.{CreateRequest, Durable, SetupRequest, Element, Setting, SetBasic, Rename, SetDelete, SetAllocation, SetEnd, asks_directory, deletes_on_close}
 use Rattle.exchange_defs.specs.State.{Server, Message, Range, Body, NewSession}
-use Rattle.exchange_defs.specs.Files.{root, find, exists, make_file, empty_file, set_content, store_basic, mark_file, touched, emptied_basic, is_directory}
+use Rattle.exchange_defs.specs.Files.{root, find, exists, make_file, empty_file, set_content, store_basic, set_delete_pending, touched, emptied_basic, is_directory}
 use Rattle.exchange_defs.specs.Ranges.{change_ranges, Stands}
 use Rattle.exchange_defs.specs.Opens.{id_of, max_ids, add_open, drop_open, leave_open, without_gone, file_has_open, goes}
 use Rattle.exchange_defs.specs.CheckCreate.{empties}
 use Rattle.exchange_defs.specs.CheckOpen.{is_late, is_slot, file_of, bytes_change, target_of, target_refused, delete_names}
-use Rattle.exchange_defs.specs.Verdict.{Verdict, Refuse, Give, KeepRefusal, Repeat, Attach, Make, TurnDown, Tell, Show, KeepSlot, PutRanges, Alter, Shut, Challenge, ChallengeBinding, Begin, Join, EndSession, AddTree, DropTree, Change, PutBytes, PutEnd, PutBasic, PutMark, PutPath, PutNothing}
+use Rattle.exchange_defs.specs.Verdict.{Verdict, Refuse, Give, KeepRefusal, Repeat, Attach, Make, TurnDown, Tell, Show, KeepSlot, PutRanges, Alter, CloseOpen, Challenge, ChallengeBinding, Begin, Join, EndSession, AddTree, DropTree, Change, PutBytes, PutEnd, PutBasic, PutDeletePending, PutPath, PutNothing}
 use Rattle.exchange_defs.specs.Effects.{apply, reach, attached, guid_of, is_persistent, open_row, next_open, guids_after, make_open, keep_slot, set_ranges, change_file, keep_closed, end_session, end_if_named, add_session}
-use Rattle.exchange_defs.specs.Step.{due, expire, add_mark}
+use Rattle.exchange_defs.specs.Step.{due, expire, add_expired_guid}
 use Rattle.server_law.specs.Fits.{Fits, OpenIds, RangeOwners, Listed}
 use Rattle.server_law.proofs.Logic.{either, back_off}
 use Rattle.server_law.proofs.Lists.{exists-pushed, change_ranges-beside, due-has}
 use Rattle.server_law.proofs.Found.{SessionFacts, MakeFacts, RangesFacts, AlterFacts, WriteFacts, SettingFacts, SettingSays, setting_change, Facts}
 use Rattle.server_law.proofs.AddOpen.{add_open_keeps}
-use Rattle.server_law.proofs.FileEffects.{make_file_keeps, mark_file_keeps, rename_file_keeps, set_ranges_keeps}
+use Rattle.server_law.proofs.FileEffects.{make_file_keeps, set_delete_pending_keeps, rename_file_keeps, set_ranges_keeps}
 use Rattle.server_law.proofs.SessionEffects.{attach_keeps, keep_refusal_keeps, close_guid_keeps, challenge_keeps, bind_keeps, add_session_keeps, join_session_keeps, add_tree_keeps, drop_tree_keeps, unread_keeps}
 use Rattle.server_law.proofs.Leaving.{leave_open_keeps, unopened_of}
 use Rattle.server_law.proofs.EndSession.{end_session_keeps}
@@ -27,39 +27,39 @@ use Rattle.server_law.proofs.EndSession.{end_session_keeps}
 -- ---- columns that nothing here reads
 
 pub sequence_keeps : (s : Server) (sequence : ℕ → ℕ) → Fits s → Fits (record s { sequence = sequence })
-sequence_keeps s sequence i = unread_keeps s sequence s.slots s.listed s.content s.basic s.connections s.marks s.mark_count s.version s.journal i
+sequence_keeps s sequence i = unread_keeps s sequence s.lock_sequences s.enumeration_location s.content s.basic s.connections s.expired_guids s.expired_count s.version s.journal i
 
-pub listed_keeps : (s : Server) (listed : ℕ → Option (List ℕ)) → Fits s → Fits (record s { listed = listed })
-listed_keeps s listed i = unread_keeps s s.sequence s.slots listed s.content s.basic s.connections s.marks s.mark_count s.version s.journal i
+pub listed_keeps : (s : Server) (listed : ℕ → Option (List ℕ)) → Fits s → Fits (record s { enumeration_location = listed })
+listed_keeps s listed i = unread_keeps s s.sequence s.lock_sequences listed s.content s.basic s.connections s.expired_guids s.expired_count s.version s.journal i
 
 pub connections_keeps : (s : Server) (connections : List ℕ) → Fits s → Fits (record s { connections = connections })
-connections_keeps s connections i = unread_keeps s s.sequence s.slots s.listed s.content s.basic connections s.marks s.mark_count s.version s.journal i
+connections_keeps s connections i = unread_keeps s s.sequence s.lock_sequences s.enumeration_location s.content s.basic connections s.expired_guids s.expired_count s.version s.journal i
 
 pub version_keeps : (s : Server) (version : ℕ) → Fits s → Fits (record s { version = version })
-version_keeps s version i = unread_keeps s s.sequence s.slots s.listed s.content s.basic s.connections s.marks s.mark_count version s.journal i
+version_keeps s version i = unread_keeps s s.sequence s.lock_sequences s.enumeration_location s.content s.basic s.connections s.expired_guids s.expired_count version s.journal i
 
 pub journal_keeps : (s : Server) (journal : ℕ) → Fits s → Fits (record s { journal = journal })
-journal_keeps s journal i = unread_keeps s s.sequence s.slots s.listed s.content s.basic s.connections s.marks s.mark_count s.version journal i
+journal_keeps s journal i = unread_keeps s s.sequence s.lock_sequences s.enumeration_location s.content s.basic s.connections s.expired_guids s.expired_count s.version journal i
 
 pub set_content_keeps : (s : Server) (f : ℕ) (bytes : List ℕ) (now : ℕ) → Fits s → Fits (set_content s f bytes now)
-set_content_keeps s f bytes now i = unread_keeps s s.sequence s.slots s.listed (put s.content f bytes) (put s.basic f (touched (s.basic f) now)) s.connections s.marks s.mark_count s.version s.journal i
+set_content_keeps s f bytes now i = unread_keeps s s.sequence s.lock_sequences s.enumeration_location (put s.content f bytes) (put s.basic f (touched (s.basic f) now)) s.connections s.expired_guids s.expired_count s.version s.journal i
 
 pub empty_file_keeps : (s : Server) (f attributes now : ℕ) → Fits s → Fits (empty_file s f attributes now)
 empty_file_keeps s f attributes now i =
-    unread_keeps s s.sequence s.slots s.listed (put s.content f []) (put s.basic f (emptied_basic (s.basic f) attributes now)) s.connections s.marks s.mark_count s.version s.journal i
+    unread_keeps s s.sequence s.lock_sequences s.enumeration_location (put s.content f []) (put s.basic f (emptied_basic (s.basic f) attributes now)) s.connections s.expired_guids s.expired_count s.version s.journal i
 
 pub store_basic_keeps : (s : Server) (f : ℕ) (basic : Rattle.exchange_defs.specs.Commands.Basic) → Fits s → Fits (store_basic s f basic)
-store_basic_keeps s f basic i = unread_keeps s s.sequence s.slots s.listed s.content (put s.basic f basic) s.connections s.marks s.mark_count s.version s.journal i
+store_basic_keeps s f basic i = unread_keeps s s.sequence s.lock_sequences s.enumeration_location s.content (put s.basic f basic) s.connections s.expired_guids s.expired_count s.version s.journal i
 
 pub keep_slot_keeps : (s : Server) (o index number status : ℕ) → Fits s → Fits (keep_slot s o index number status)
 keep_slot_keeps s o index number status i =
     either (λ t. Fits t) (is_slot index) _ _
-    (λ _. unread_keeps s s.sequence (Rattle.exchange_defs.specs.Table.put2 s.slots o index (Some (record { number = number; status = status }))) s.listed s.content s.basic s.connections s.marks s.mark_count s.version s.journal i) (λ _. i)
+    (λ _. unread_keeps s s.sequence (Rattle.exchange_defs.specs.Table.put2 s.lock_sequences o index (Some (record { number = number; status = status }))) s.enumeration_location s.content s.basic s.connections s.expired_guids s.expired_count s.version s.journal i) (λ _. i)
 
-pub add_mark_keeps : (s : Server) (client : ℕ) (guid : Option ℕ) → Fits s → Fits (add_mark s client guid)
-add_mark_keeps s client None i = i
-add_mark_keeps s client (Some g) i =
-    unread_keeps s s.sequence s.slots s.listed s.content s.basic s.connections (Rattle.exchange_defs.specs.Table.put2 s.marks client g true) (s.mark_count + 1) s.version s.journal i
+pub add_expired_guid_keeps : (s : Server) (client : ℕ) (guid : Option ℕ) → Fits s → Fits (add_expired_guid s client guid)
+add_expired_guid_keeps s client None i = i
+add_expired_guid_keeps s client (Some g) i =
+    unread_keeps s s.sequence s.lock_sequences s.enumeration_location s.content s.basic s.connections (Rattle.exchange_defs.specs.Table.put2 s.expired_guids client g true) (s.expired_count + 1) s.version s.journal i
 
 pub reach_keeps : (s : Server) (m : Message) (o : ℕ) → Fits s → Fits (reach s m o)
 reach_keeps s m o i = either (λ t. Fits t) (is_late s m o) _ _ (λ _. i) (λ _. sequence_keeps s (put s.sequence o m.sequence) i)
@@ -68,10 +68,10 @@ reach_keeps s m o i = either (λ t. Fits t) (is_late s m o) _ _ (λ _. i) (λ _.
 
 -- the session of a request is there
 pub there : (s : Server) (m : Message) → Fits s → SessionFacts s m → s.present m.session ≡ true
-there s m i f = i.on_present m.connection m.session f.on
+there s m i f = i.on_present m.connection m.session f.session_on
 
 attached_keeps : (s : Server) (m : Message) (o : ℕ) → s.standing o ≡ true → s.present m.session ≡ true → Fits s → Fits (attached s m o)
-attached_keeps s m o stands present i = either (λ t. Fits t) (is_some (s.at o)) _ _ (λ _. i) (λ _. attach_keeps s m o stands present i)
+attached_keeps s m o stands present i = either (λ t. Fits t) (is_some (s.session_of_open o)) _ _ (λ _. i) (λ _. attach_keeps s m o stands present i)
 
 fresh_open : (s : Server) (b : Bool) → s.standing (next_open s) ≡ b → OpenIds s → b ≡ false
 fresh_open s true e ids = let h = ids (next_open s) e in absurd (omega arith)
@@ -81,9 +81,9 @@ fresh_open s false e ids = refl
 record Ready (s : Server) (m : Message) (r : CreateRequest) : Type 0 where
   pub free : s.standing (next_open s) ≡ false
   pub above : 0 < next_open s
-  pub id : next_open s ≤ id_of s.epoch (s.given + 1)
-  pub more : s.given ≤ s.given + 1
-  pub most : s.given + 1 ≤ max_ids
+  pub id : next_open s ≤ id_of s.epoch (s.open_ids_given + 1)
+  pub more : s.open_ids_given ≤ s.open_ids_given + 1
+  pub most : s.open_ids_given + 1 ≤ max_ids
   pub session : (x : ℕ) → Some m.session ≡ Some x → s.present x ≡ true
   pub plain : is_persistent r.durable ≡ false → is_some (Some m.session) ≡ true
   pub guid : (g : ℕ) → guid_of r.durable ≡ Some g → s.by_guid m.client g ≡ None
@@ -128,14 +128,14 @@ not_root_number n l = omega (arith, l)
 make_found : (s : Server) (m : Message) (r : CreateRequest) (f action now : ℕ) → Fits s → Ready s m r → exists s f ≡ true → (deletes_on_close r.options ≡ true → f ≢ root) → Fits (make_open s m r (Some f) action now)
 unfolding exists
 make_found s m r f action now i a file off =
-    either (λ u. Fits (record (add_open u (next_open s) (open_row s m r f action) (Some m.session) m.sequence) { given = s.given + 1; guids = guids_after s m.session r.durable })) (empties r.disposition) _ _
-    (λ _. add_open_keeps (empty_file s f r.attributes now) (next_open s) (open_row s m r f action) (Some m.session) m.sequence (s.given + 1) (guids_after s m.session r.durable) a.free a.above a.id a.more a.most a.session a.plain a.guid a.named file off a.kept
+    either (λ u. Fits (record (add_open u (next_open s) (open_row s m r f action) (Some m.session) m.sequence) { open_ids_given = s.open_ids_given + 1; guids = guids_after s m.session r.durable })) (empties r.disposition) _ _
+    (λ _. add_open_keeps (empty_file s f r.attributes now) (next_open s) (open_row s m r f action) (Some m.session) m.sequence (s.open_ids_given + 1) (guids_after s m.session r.durable) a.free a.above a.id a.more a.most a.session a.plain a.guid a.named file off a.kept
     (empty_file_keeps s f r.attributes now i))
-    (λ _. add_open_keeps s (next_open s) (open_row s m r f action) (Some m.session) m.sequence (s.given + 1) (guids_after s m.session r.durable) a.free a.above a.id a.more a.most a.session a.plain a.guid a.named file off a.kept i)
+    (λ _. add_open_keeps s (next_open s) (open_row s m r f action) (Some m.session) m.sequence (s.open_ids_given + 1) (guids_after s m.session r.durable) a.free a.above a.id a.more a.most a.session a.plain a.guid a.named file off a.kept i)
 
 make_missing : (s : Server) (m : Message) (r : CreateRequest) (action now : ℕ) → Fits s → Ready s m r → Fits (make_open s m r None action now)
 make_missing s m r action now i a =
-    add_open_keeps (make_file s r.path (asks_directory r) r.attributes now) (next_open s) (open_row s m r s.next_file action) (Some m.session) m.sequence (s.given + 1) (guids_after s m.session r.durable)
+    add_open_keeps (make_file s r.path (asks_directory r) r.attributes now) (next_open s) (open_row s m r s.next_file action) (Some m.session) m.sequence (s.open_ids_given + 1) (guids_after s m.session r.durable)
     a.free a.above a.id a.more a.most a.session a.plain a.guid a.named (made_there s r now) (λ _. not_root_number s.next_file i.next_file) a.kept
     (make_file_keeps s r.path (asks_directory r) r.attributes now i)
 
@@ -167,9 +167,9 @@ put_ranges_keeps s m o index number ranges elements i f =
 
 -- ---- WRITE and SET_INFO
 
--- the root isn't marked, and a rename goes over no open file
+-- the root isn't delete pending, and a rename goes over no open file
 abbrev pub IsFine : Server → ℕ → Change → Type 0
-IsFine s f (PutMark flag) = flag ≡ true → f ≢ root
+IsFine s f (PutDeletePending flag) = flag ≡ true → f ≢ root
 IsFine s f (PutPath replaced path) = (t p : ℕ) → replaced ≡ Some t → s.standing p ≡ true → ((s.opened p).file == t) ≡ false
 IsFine s f (PutBytes at bytes) = Unit {0}
 IsFine s f (PutEnd size) = Unit {0}
@@ -180,13 +180,13 @@ pub change_keeps : (s : Server) (f now : ℕ) (change : Change) → IsFine s f c
 change_keeps s f now (PutBytes at bytes) fine i = set_content_keeps s f (written at bytes (s.content f)) now i
 change_keeps s f now (PutEnd size) fine i = set_content_keeps s f (ended size (s.content f)) now i
 change_keeps s f now (PutBasic basic) fine i = store_basic_keeps s f basic i
-change_keeps s f now (PutMark flag) fine i = mark_file_keeps s f flag fine i
+change_keeps s f now (PutDeletePending flag) fine i = set_delete_pending_keeps s f flag fine i
 change_keeps s f now (PutPath replaced path) fine i = rename_file_keeps s f replaced path fine i
 change_keeps s f now PutNothing fine i = i
 
-mark_fine : (s : Server) (f : ℕ) (flag : Bool) → delete_names s f flag ≡ None → flag ≡ true → f ≢ root
+pending_fine : (s : Server) (f : ℕ) (flag : Bool) → delete_names s f flag ≡ None → flag ≡ true → f ≢ root
 unfolding delete_names
-mark_fine s f flag e h = grind arith
+pending_fine s f flag e h = grind arith
 
 pub target_unopened : (s : Server) (target : Option ℕ) → target_refused s target ≡ false → Listed s → (t p : ℕ) → target ≡ Some t → s.standing p ≡ true → ((s.opened p).file == t) ≡ false
 unfolding target_refused
@@ -199,7 +199,7 @@ bytes_fine s f at bytes = either (λ c. IsFine s f c) (is_empty bytes) _ _ (λ _
 setting_fine : (s : Server) (o : ℕ) (setting : Setting) → Listed s → SettingSays s o setting → IsFine s (file_of s o) (setting_change s o setting)
 setting_fine s o (SetBasic basic) l f = tt
 setting_fine s o (Rename replace path) l f = target_unopened s (target_of (file_of s o) (find s path)) f.target l
-setting_fine s o (SetDelete flag) l f = mark_fine s (file_of s o) flag f.names
+setting_fine s o (SetDelete flag) l f = pending_fine s (file_of s o) flag f.names
 setting_fine s o (SetAllocation size) l f = either (λ c. IsFine s (file_of s o) c) (nat_lt size (length (s.content (file_of s o)))) _ _ (λ _. tt) (λ _. tt)
 setting_fine s o (SetEnd size) l f = tt
 
@@ -211,7 +211,7 @@ same_fine : (s : Server) (sequence : ℕ → ℕ) (f : ℕ) (change : Change) �
 same_fine s sequence f (PutBytes at bytes) h = h
 same_fine s sequence f (PutEnd size) h = h
 same_fine s sequence f (PutBasic basic) h = h
-same_fine s sequence f (PutMark flag) h = h
+same_fine s sequence f (PutDeletePending flag) h = h
 same_fine s sequence f (PutPath replaced path) h = h
 same_fine s sequence f PutNothing h = h
 
@@ -230,14 +230,14 @@ gone_present s f = either (λ (t : Server). t.present ≡ s.present) (goes s f) 
 pub left_present : (s : Server) (o : ℕ) → (leave_open s o).present ≡ s.present
 left_present s o =
     either (λ (t : Server). (without_gone (drop_open t o) (s.opened o).file).present ≡ s.present) (deletes_on_close (s.opened o).options) _ _
-    (λ _. gone_present (drop_open (mark_file s (s.opened o).file true) o) (s.opened o).file) (λ _. gone_present (drop_open s o) (s.opened o).file)
+    (λ _. gone_present (drop_open (set_delete_pending s (s.opened o).file true) o) (s.opened o).file) (λ _. gone_present (drop_open s o) (s.opened o).file)
 
 shut_keeps : (s : Server) (session o : ℕ) (guid : Option ℕ) → s.standing o ≡ true → s.present session ≡ true → Fits s → Fits (keep_closed (leave_open s o) session guid)
 shut_keeps s session o None stands present i = leave_open_keeps s o stands i
 shut_keeps s session o (Some g) stands present i = close_guid_keeps (leave_open s o) session g (subst (λ p. p session ≡ true) (sym (left_present s o)) present) (leave_open_keeps s o stands i)
 
 pub expire_keeps : (s : Server) (o : ℕ) → s.standing o ≡ true → Fits s → Fits (expire s o)
-expire_keeps s o stands i = add_mark_keeps (leave_open s o) (s.opened o).client (s.opened o).guid (leave_open_keeps s o stands i)
+expire_keeps s o stands i = add_expired_guid_keeps (leave_open s o) (s.opened o).client (s.opened o).guid (leave_open_keeps s o stands i)
 
 pub due_stands : (s : Server) (now o : ℕ) → due s now ≡ Some o → Listed s → s.standing o ≡ true
 due_stands s now o e l = sym (l o) ∙ due-has s.deadline s.opens now o e
@@ -270,11 +270,11 @@ applied_keeps s m now (Attach o r) i f = attached_keeps s m o f.standing (there 
 applied_keeps s m now (Make r found action) i f = make_keeps s m r found action now i f
 applied_keeps s m now (TurnDown o status) i f = reach_keeps s m o i
 applied_keeps s m now (Tell o body) i f = reach_keeps s m o i
-applied_keeps s m now (Show o last body) i f = listed_keeps (reach s m o) (put s.listed o last) (reach_keeps s m o i)
+applied_keeps s m now (Show o last body) i f = listed_keeps (reach s m o) (put s.enumeration_location o last) (reach_keeps s m o i)
 applied_keeps s m now (KeepSlot o index number status elements) i f = keep_slot_keeps (reach s m o) o index number status (reach_keeps s m o i)
 applied_keeps s m now (PutRanges o index number ranges elements) i f = put_ranges_keeps s m o index number ranges elements i f
 applied_keeps s m now (Alter o change body) i f = alter_keeps s m o now change body i f
-applied_keeps s m now (Shut o body) i f = shut_keeps s m.session o (s.opened o).guid f.opened.standing (there s m i f.opened.tree.session) i
+applied_keeps s m now (CloseOpen o body) i f = shut_keeps s m.session o (s.opened o).guid f.opened.standing (there s m i f.opened.tree.session) i
 applied_keeps s m now Challenge i f = challenge_keeps s m.connection f.off f.begun i
 applied_keeps s m now (ChallengeBinding session) i f = bind_keeps s m.connection session f.off i
 applied_keeps s m now (Begin session user previous r is_quiet) i f = begin_keeps s m now user previous r is_quiet f.absent f.making i

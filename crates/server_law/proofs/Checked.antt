@@ -15,7 +15,7 @@ use Rattle.exchange_defs.specs.CheckOpen.{is_late, file_of, has_access, is_slot,
 use Rattle.exchange_defs.specs.CheckSetup.{tree_in, is_new, is_binding, granted_session, second_token, first_token, session_check, granted_binding, second_binding, first_binding, binding_check, setup_check, tree_check, max_sessions, max_channels, max_numbers, pipes_name, count_channels, no_tree_left}
 use Rattle.exchange_defs.specs.Check.{check, owed, formed, command_check, with_tree, in_tree, tree_command, on_open, has_session}
 use Rattle.exchange_defs.specs.Listing.{wanted, fitting, one_or_all, all_named, file_info_size, volume_info_size}
-use Rattle.exchange_defs.specs.Verdict.{Verdict, Refuse, Give, KeepRefusal, Repeat, Attach, Make, TurnDown, Tell, Show, KeepSlot, PutRanges, Alter, Shut, Challenge, ChallengeBinding, Begin, Join, EndSession, AddTree, DropTree, Change, PutEnd, PutMark}
+use Rattle.exchange_defs.specs.Verdict.{Verdict, Refuse, Give, KeepRefusal, Repeat, Attach, Make, TurnDown, Tell, Show, KeepSlot, PutRanges, Alter, CloseOpen, Challenge, ChallengeBinding, Begin, Join, EndSession, AddTree, DropTree, Change, PutEnd, PutDeletePending}
 use Rattle.exchange_defs.specs.Step.{without_room}
 use Rattle.server_law.proofs.Logic.{either, front_of, back_of, front_off, back_off, other_on, not_false, none_of, at_of}
 use Rattle.server_law.proofs.Found.{SessionFacts, TreeFacts, OpenFacts, CreateFacts, NewFacts, KeepFacts, ThereFacts, MissingFacts, MakeFacts, RepeatFacts, AttachFacts, LockFacts, SlotFacts, RangesFacts, setting_change, WriteFacts, SizeFacts, PathFacts, SettingSays, SettingFacts, AlterFacts, ShutFacts, BindingFacts, BeginFacts, Facts}
@@ -43,7 +43,7 @@ names_refuse s r (Some f) status e = grind arith
 
 there_facts : (s : Server) (r : CreateRequest) (f : ℕ) → find s r.path ≡ Some f → found_names s r f ≡ None → ThereFacts s r f
 unfolding found_names
-there_facts s r f is e = record { there = found_exists s r.path f is; unmarked = grind arith; emptied = grind arith; no_root = grind arith }
+there_facts s r f is e = record { there = found_exists s r.path f is; not_pending = grind arith; emptied = grind arith; no_root = grind arith }
 
 names_of_there : (s : Server) (r : CreateRequest) (f : ℕ) → names s r (Some f) ≡ None → found_names s r f ≡ None
 unfolding names names_of_found
@@ -57,7 +57,7 @@ opens_left : (s : Server) (r : CreateRequest) (found : Option ℕ) → is_counte
 unfolding is_counted_out
 opens_left s r found e = grind (arith, nat_tests)
 
-ids_left : (s : Server) (r : CreateRequest) (found : Option ℕ) → is_counted_out s r found ≡ false → s.given < max_ids
+ids_left : (s : Server) (r : CreateRequest) (found : Option ℕ) → is_counted_out s r found ≡ false → s.open_ids_given < max_ids
 unfolding is_counted_out
 ids_left s r found e = grind (arith, nat_tests)
 
@@ -117,7 +117,7 @@ names_facts s m r found n is k None e =
 pub record FreeGuid (s : Server) (m : Message) (r : CreateRequest) : Type 0 where
   pub no_open : (d : Durable) → r.durable ≡ Some d → s.by_guid m.client d.guid ≡ None
   pub no_closed : (d : Durable) → r.durable ≡ Some d → s.closed m.session d.guid ≡ false
-  pub no_mark : (d : Durable) → r.durable ≡ Some d → s.marks m.client d.guid ≡ false
+  pub not_expired : (d : Durable) → r.durable ≡ Some d → s.expired_guids m.client d.guid ≡ false
   pub no_refusal : (d : Durable) → r.durable ≡ Some d → s.refused m.session d.guid ≡ None
 
 new_facts : (s : Server) (m : Message) (r : CreateRequest) (found : Option ℕ) → CreateFacts s m r false → r.reconnect ≡ None → FreeGuid s m r → found ≡ find s r.path
@@ -125,7 +125,7 @@ new_facts : (s : Server) (m : Message) (r : CreateRequest) (found : Option ℕ) 
 new_facts s m r found c new free is =
     either (λ v. Facts s m v) (deletes_on_close r.options && not (deletes (mapped r.access))) _ _ (λ _. tt)
     (λ d. either (λ v. Facts s m v) (keeps_guid r && nat_le max_guids (s.guids m.session)) _ _ (λ _. tt)
-    (λ g. let n : NewFacts s m r false = record { create = c; new = new; no_open = free.no_open; no_closed = free.no_closed; no_mark = free.no_mark; no_refusal = free.no_refusal; may_delete = d; guids = g } in
+    (λ g. let n : NewFacts s m r false = record { create = c; new = new; no_open = free.no_open; no_closed = free.no_closed; not_expired = free.not_expired; no_refusal = free.no_refusal; may_delete = d; guids = g } in
     either (λ v. Facts s m v) (is_counted_out s r found) _ _
     (λ _. turned_down s m r false insufficient_resources n refl)
     (λ k. names_facts s m r found n is k (names s r found) refl)))
@@ -136,28 +136,28 @@ same_durable : (s : Server) (r : CreateRequest) (d e : Durable) → r.durable �
 same_durable s r d e h k = grind arith
 
 repeat_facts : (s : Server) (m : Message) (r : CreateRequest) (d : Durable) (o : ℕ) → CreateFacts s m r false → r.reconnect ≡ None → r.durable ≡ Some d → s.by_guid m.client d.guid ≡ Some o
-    → m.replay ≡ true → (s.at o ≡ Some m.session) ⊎ (s.at o ≡ None × (s.opened o).persistent ≡ true × same_name (s.opened o).user (s.user m.session) ≡ true) → RepeatFacts s m o r
+    → m.replay ≡ true → (s.session_of_open o ≡ Some m.session) ⊎ (s.session_of_open o ≡ None × (s.opened o).persistent ≡ true × same_name (s.opened o).user (s.user m.session) ≡ true) → RepeatFacts s m o r
 repeat_facts s m r d o c new kept named replay whose = record { durable = d; pipes = false; create = c; new = new; kept = kept; named = named; replay = replay; whose = whose }
 
 live_facts : (s : Server) (m : Message) (r : CreateRequest) (d : Durable) (o : ℕ) → CreateFacts s m r false → r.reconnect ≡ None → r.durable ≡ Some d → s.by_guid m.client d.guid ≡ Some o
     → Facts s m (live_check s m r o)
 live_facts s m r d o c new kept named =
     either (λ v. Facts s m v) (not m.replay) _ _ (λ _. tt)
-    (λ p. either (λ v. Facts s m v) (is_at m.session (s.at o)) _ _ (λ a. repeat_facts s m r d o c new kept named (not_false m.replay p) (inl (at_of m.session (s.at o) a)))
-    (λ _. either (λ v. Facts s m v) (is_some (s.at o) || not (s.opened o).persistent) _ _ (λ _. tt)
+    (λ p. either (λ v. Facts s m v) (is_at m.session (s.session_of_open o)) _ _ (λ a. repeat_facts s m r d o c new kept named (not_false m.replay p) (inl (at_of m.session (s.session_of_open o) a)))
+    (λ _. either (λ v. Facts s m v) (is_some (s.session_of_open o) || not (s.opened o).persistent) _ _ (λ _. tt)
     (λ a. either (λ v. Facts s m v) (same_name (s.opened o).user (s.user m.session)) _ _
-    (λ u. repeat_facts s m r d o c new kept named (not_false m.replay p) (inr (none_of (s.at o) (front_off (is_some (s.at o)) _ a), not_false (s.opened o).persistent (back_off (is_some (s.at o)) _ a), u)))
+    (λ u. repeat_facts s m r d o c new kept named (not_false m.replay p) (inr (none_of (s.session_of_open o) (front_off (is_some (s.session_of_open o)) _ a), not_false (s.opened o).persistent (back_off (is_some (s.session_of_open o)) _ a), u)))
     (λ _. tt))))
 
 refusal_facts : (s : Server) (m : Message) (r : CreateRequest) (d : Durable) → CreateFacts s m r false → r.reconnect ≡ None → r.durable ≡ Some d
-    → s.by_guid m.client d.guid ≡ None → s.closed m.session d.guid ≡ false → s.marks m.client d.guid ≡ false → (u : Option ℕ) → s.refused m.session d.guid ≡ u → Facts s m (refusal_check s m r u)
-refusal_facts s m r d c new kept none unclosed unmarked (Some status) e = tt
-refusal_facts s m r d c new kept none unclosed unmarked None e =
+    → s.by_guid m.client d.guid ≡ None → s.closed m.session d.guid ≡ false → s.expired_guids m.client d.guid ≡ false → (u : Option ℕ) → s.refused m.session d.guid ≡ u → Facts s m (refusal_check s m r u)
+refusal_facts s m r d c new kept none unclosed unexpired (Some status) e = tt
+refusal_facts s m r d c new kept none unclosed unexpired None e =
     new_facts s m r (find s r.path) c new
     (record {
       no_open = λ x k. subst (λ y. s.by_guid m.client y.guid ≡ None) (same_durable s r d x kept k) none;
       no_closed = λ x k. subst (λ y. s.closed m.session y.guid ≡ false) (same_durable s r d x kept k) unclosed;
-      no_mark = λ x k. subst (λ y. s.marks m.client y.guid ≡ false) (same_durable s r d x kept k) unmarked;
+      not_expired = λ x k. subst (λ y. s.expired_guids m.client y.guid ≡ false) (same_durable s r d x kept k) unexpired;
       no_refusal = λ x k. subst (λ y. s.refused m.session y.guid ≡ None) (same_durable s r d x kept k) e;
     })
     refl
@@ -167,11 +167,11 @@ guid_facts : (s : Server) (m : Message) (r : CreateRequest) (d : Durable) → Cr
 guid_facts s m r d c new kept (Some o) e = live_facts s m r d o c new kept e
 guid_facts s m r d c new kept None e =
     either (λ v. Facts s m v) (s.closed m.session d.guid) _ _ (λ _. tt)
-    (λ x. either (λ v. Facts s m v) (s.marks m.client d.guid) _ _ (λ _. tt)
+    (λ x. either (λ v. Facts s m v) (s.expired_guids m.client d.guid) _ _ (λ _. tt)
     (λ y. refusal_facts s m r d c new kept e x y (s.refused m.session d.guid) refl))
 
 plain_guid : (s : Server) (m : Message) (r : CreateRequest) → r.durable ≡ None → FreeGuid s m r
-plain_guid s m r e = record { no_open = λ d k. absurd (cc); no_closed = λ d k. absurd (cc); no_mark = λ d k. absurd (cc); no_refusal = λ d k. absurd (cc) }
+plain_guid s m r e = record { no_open = λ d k. absurd (cc); no_closed = λ d k. absurd (cc); not_expired = λ d k. absurd (cc); no_refusal = λ d k. absurd (cc) }
 
 durable_facts : (s : Server) (m : Message) (r : CreateRequest) → CreateFacts s m r false → r.reconnect ≡ None → (u : Option Durable) → r.durable ≡ u → Facts s m (durable_check s m r u)
 durable_facts s m r c new None e = new_facts s m r (find s r.path) c new (plain_guid s m r e) refl
@@ -187,7 +187,7 @@ reconnect_facts : (s : Server) (m : Message) (r : CreateRequest) (c : Reconnect)
 reconnect_facts s m r c f asked =
     either (λ v. Facts s m v) (not (s.standing c.file && has_guid c.guid (s.opened c.file).guid)) _ _ (λ _. tt)
     (λ a. either (λ v. Facts s m v) (not (same_name (s.opened c.file).user (s.user m.session))) _ _ (λ _. tt)
-    (λ u. either (λ v. Facts s m v) (is_some (s.at c.file) && not (is_at m.session (s.at c.file))) _ _ (λ _. tt)
+    (λ u. either (λ v. Facts s m v) (is_some (s.session_of_open c.file) && not (is_at m.session (s.session_of_open c.file))) _ _ (λ _. tt)
     (λ w. let b = not_false (s.standing c.file && has_guid c.guid (s.opened c.file).guid) a in
     record {
       reconnect = c;
@@ -197,7 +197,7 @@ reconnect_facts s m r c f asked =
       standing = front_of (s.standing c.file) _ b;
       guid = back_of (s.standing c.file) _ b;
       user = not_false _ u;
-      whose = whose_of s m.session (s.at c.file) w;
+      whose = whose_of s m.session (s.session_of_open c.file) w;
     })))
 
 create_facts : (s : Server) (m : Message) (r : CreateRequest) → CreateFacts s m r false → (u : Option Reconnect) → r.reconnect ≡ u → Facts s m (reconnect_or_create s m r u)
@@ -248,8 +248,8 @@ new_lock_facts s m o index number elements l =
     either (λ v. Facts s m v) (is_directory s (file_of s o)) _ _ (λ _. slot_or_down s m o index number elements invalid_device_request l refl)
     (λ d. range_facts s m o index number elements l d (change_ranges (s.ranges (file_of s o)) o elements) refl)
 
-unkept : (s : Server) (o index number : ℕ) → kept_lock s o index number ≡ None → is_slot index ≡ true → kept_status number (s.slots o index) ≡ None
-unkept s o index number e i = subst (λ b. (if b then kept_status number (s.slots o index) else None) ≡ None) i e
+unkept : (s : Server) (o index number : ℕ) → kept_lock s o index number ≡ None → is_slot index ≡ true → kept_status number (s.lock_sequences o index) ≡ None
+unkept s o index number e i = subst (λ b. (if b then kept_status number (s.lock_sequences o index) else None) ≡ None) i e
 
 slot_facts : (s : Server) (m : Message) (o index number : ℕ) (elements : List Element) → OpenFacts s m o → m.command ≡ Lock o index number elements
     → (u : Option ℕ) → kept_lock s o index number ≡ u → Facts s m (slot_check s o index number elements u)
@@ -352,8 +352,8 @@ setting_facts s m o (Rename replace path) f late c =
     (λ _. f)
 setting_facts s m o (SetDelete flag) f late c =
     either (λ v. Facts s m v) (has_access s o 0x1_0000) _ _
-    (λ a. unrepeated s m o (PutMark flag) _ f
-    (λ fresh. named_facts s m o (PutMark flag) f late fresh (delete_names s (file_of s o) flag) (λ e. setting_of s m o (SetDelete flag) c (record { access = a; names = e }))))
+    (λ a. unrepeated s m o (PutDeletePending flag) _ f
+    (λ fresh. named_facts s m o (PutDeletePending flag) f late fresh (delete_names s (file_of s o) flag) (λ e. setting_of s m o (SetDelete flag) c (record { access = a; names = e }))))
     (λ _. f)
 setting_facts s m o (SetAllocation size) f late c =
     size_facts s m o (allocated size (length (s.content (file_of s o)))) (allocation_change s (file_of s o) size) f late (λ h. setting_of s m o (SetAllocation size) c h)
@@ -393,8 +393,8 @@ list_facts : (s : Server) (m : Message) (o class : ℕ) (restart single : Bool) 
 list_facts s m o class restart single pattern room f =
     either (λ v. Facts s m v) (not (has_access s o 0x1)) _ _ (λ _. f)
     (λ _. either (λ v. Facts s m v) (not (is_directory s (file_of s o))) _ _ (λ _. f)
-    (λ _. let all = wanted (begins_at restart (s.listed o)) pattern (all_named s (file_of s o)) in
-    listing_facts s m o class (begins_at restart (s.listed o)) all (one_or_all single (fitting class room 0 all)) f))
+    (λ _. let all = wanted (begins_at restart (s.enumeration_location o)) pattern (all_named s (file_of s o)) in
+    listing_facts s m o class (begins_at restart (s.enumeration_location o)) all (one_or_all single (fitting class room 0 all)) f))
 
 ioctl_facts : (s : Server) (m : Message) (o code room : ℕ) → OpenFacts s m o → Facts s m (ioctl_check s m o code room)
 ioctl_facts s m o code room f =
@@ -409,7 +409,7 @@ free_ioctl_facts s m code room f = either (λ v. Facts s m v) (ioctl_status code
 granted_facts : (s : Server) (m : Message) (r : SetupRequest) (user : List ℕ) → m.command ≡ Setup r → r.shows ≡ Logon user → s.present m.session ≡ false → s.making m.connection ≡ Some (NewSession m.session)
     → Facts s m (granted_session s m r user)
 granted_facts s m r user c shows absent making =
-    either (λ v. Facts s m v) (s.seals && (r.cipher == 0)) _ _ (λ _. tt)
+    either (λ v. Facts s m v) (s.encrypts && (r.cipher == 0)) _ _ (λ _. tt)
     (λ _. either (λ v. Facts s m v) (nat_le max_sessions s.sessions) _ _ (λ _. tt)
     (λ _. record { command = c; shows = shows; session_is = refl; absent = absent; making = making; previous_is = refl }))
 
@@ -423,9 +423,9 @@ second_facts s m r c absent making (Logon user) e = granted_facts s m r user c e
 below_of : (a b : ℕ) → nat_le b a ≡ false → a < b
 below_of a b e = grind (arith, nat_tests)
 
-first_facts : (s : Server) (m : Message) (r : SetupRequest) → m.command ≡ Setup r → m.session ≡ 0 → s.on m.connection ≡ None → (h : Shows) → Facts s m (first_token s h)
+first_facts : (s : Server) (m : Message) (r : SetupRequest) → m.command ≡ Setup r → m.session ≡ 0 → s.session_on m.connection ≡ None → (h : Shows) → Facts s m (first_token s h)
 first_facts s m r c new off Begins =
-    either (λ v. Facts s m v) (nat_le max_ids s.begun) _ _ (λ _. tt) (λ b. record { request = r; command = c; new = new; off = off; begun = below_of s.begun max_ids b })
+    either (λ v. Facts s m v) (nat_le max_ids s.session_ids_given) _ _ (λ _. tt) (λ b. record { request = r; command = c; new = new; off = off; begun = below_of s.session_ids_given max_ids b })
 first_facts s m r c new off Bad = tt
 first_facts s m r c new off Refused = tt
 first_facts s m r c new off (Logon user) = tt
@@ -438,15 +438,15 @@ new_of x (Some (Binding y)) e = absurd (cc)
 session_facts : (s : Server) (m : Message) (r : SetupRequest) → m.command ≡ Setup r → Facts s m (session_check s m r)
 session_facts s m r c =
     either (λ v. Facts s m v) (m.session == 0) _ _
-    (λ z. either (λ v. Facts s m v) (is_some (s.on m.connection)) _ _ (λ _. tt) (λ o. first_facts s m r c (eqb-true m.session 0 z) (none_of _ o) r.shows))
+    (λ z. either (λ v. Facts s m v) (is_some (s.session_on m.connection)) _ _ (λ _. tt) (λ o. first_facts s m r c (eqb-true m.session 0 z) (none_of _ o) r.shows))
     (λ _. either (λ v. Facts s m v) (s.present m.session) _ _ (λ _. tt)
     (λ a. either (λ v. Facts s m v) (is_new m.session (s.making m.connection)) _ _ (λ n. second_facts s m r c a (new_of m.session (s.making m.connection) n) r.shows refl) (λ _. tt)))
 
 join_facts : (s : Server) (m : Message) (user : List ℕ) → BindingFacts s m m.session → is_binding m.session (s.making m.connection) ≡ true → Facts s m (granted_binding s m user)
 join_facts s m user b i =
     either (λ v. Facts s m v) (not (same_name user (s.user m.session))) _ _ (λ _. tt)
-    (λ _. either (λ v. Facts s m v) (nat_le max_channels (count_channels s.on s.connections m.session)) _ _ (λ _. tt)
-    (λ _. either (λ v. Facts s m v) (nat_le max_numbers (s.drawn m.session)) _ _ (λ _. tt)
+    (λ _. either (λ v. Facts s m v) (nat_le max_channels (count_channels s.session_on s.connections m.session)) _ _ (λ _. tt)
+    (λ _. either (λ v. Facts s m v) (nat_le max_numbers (s.channel_numbers_drawn m.session)) _ _ (λ _. tt)
     (λ _. record { binding = b; making = i })))
 
 second_binding_facts : (s : Server) (m : Message) → BindingFacts s m m.session → is_binding m.session (s.making m.connection) ≡ true → (h : Shows) → Facts s m (second_binding s m h)
@@ -467,7 +467,7 @@ binding_facts s m r c k =
     (λ p. either (λ v. Facts s m v) (not r.signed) _ _ (λ _. tt)
     (λ _. either (λ v. Facts s m v) (not (m.client == s.client m.session)) _ _ (λ _. tt)
     (λ n. either (λ v. Facts s m v) (not ((r.cipher == s.cipher m.session) && (r.signing == s.signing m.session))) _ _ (λ _. tt)
-    (λ _. either (λ v. Facts s m v) (is_some (s.on m.connection)) _ _ (λ _. tt)
+    (λ _. either (λ v. Facts s m v) (is_some (s.session_on m.connection)) _ _ (λ _. tt)
     (λ o. either (λ v. Facts s m v) (not r.verified) _ _ (λ _. tt)
     (λ _. let b : BindingFacts s m m.session = record { request = r; command = c; session_is = refl; binding = k; client = not_false _ n; off = none_of _ o; present = p } in
     either (λ v. Facts s m v) (is_binding m.session (s.making m.connection)) _ _ (λ i. second_binding_facts s m b i r.shows) (λ _. first_binding_facts s m b r.shows)))))))
@@ -488,7 +488,7 @@ tree_facts s m share f c =
 on_open_facts : (s : Server) (m : Message) (o : ℕ) (v : Verdict) → TreeFacts s m → (OpenFacts s m o → Facts s m v) → Facts s m (on_open s m o v)
 on_open_facts s m o v t f =
     either (λ v. Facts s m v) (is_of_session s o m.session) _ _
-    (λ h. f (record { tree = t; standing = front_of (s.standing o) _ h; at = at_of m.session (s.at o) (back_of (s.standing o) _ h) }))
+    (λ h. f (record { tree = t; standing = front_of (s.standing o) _ h; session_of_open = at_of m.session (s.session_of_open o) (back_of (s.standing o) _ h) }))
     (λ _. tt)
 
 some_of : {X : Type 0} (u : Option X) (x : X) → u ≡ Some x → is_some u ≡ true
@@ -523,7 +523,7 @@ with_tree_facts s m f = in_tree_facts s m f (tree_in (s.trees m.session) m.tree)
 
 -- where the session is there but for a SESSION_SETUP
 live : (s : Server) (m : Message) (c : Command) → (is_setup m.command || has_session s m) ≡ true → m.command ≡ c → is_setup c ≡ false → m.fault ≡ None → form m.command ≡ None → SessionFacts s m
-live s m c h e k fault formed = record { on = at_of m.session (s.on m.connection) (other_on (is_setup m.command) _ h (ap is_setup e ∙ k)); fault = fault; formed = formed }
+live s m c h e k fault formed = record { session_on = at_of m.session (s.session_on m.connection) (other_on (is_setup m.command) _ h (ap is_setup e ∙ k)); fault = fault; formed = formed }
 
 commanded : (s : Server) (m : Message) → (is_setup m.command || has_session s m) ≡ true → m.fault ≡ None → form m.command ≡ None → (c : Command) → m.command ≡ c → Facts s m (command_check s m c)
 commanded s m h f k (Unreadable status) e = tt
@@ -570,7 +570,7 @@ lesser s m (Show o last body) f = f
 lesser s m (KeepSlot o index number status elements) f = f.lock.opened
 lesser s m (PutRanges o index number ranges elements) f = f.lock.opened
 lesser s m (Alter o change body) f = f.opened
-lesser s m (Shut o body) f = f.opened
+lesser s m (CloseOpen o body) f = f.opened
 lesser s m Challenge f = f
 lesser s m (ChallengeBinding session) f = f
 lesser s m (Begin session user previous r is_quiet) f = f
@@ -615,7 +615,7 @@ ranges_facts s m o index number ranges elements e = subst (λ u. Facts s m u) e 
 pub alter_facts_of : (s : Server) (m : Message) (o : ℕ) (change : Change) (body : Body) → check s m ≡ Alter o change body → AlterFacts s m o change body
 alter_facts_of s m o change body e = subst (λ u. Facts s m u) e (checked s m)
 
-pub shut_facts : (s : Server) (m : Message) (o : ℕ) (body : Body) → check s m ≡ Shut o body → ShutFacts s m o
+pub shut_facts : (s : Server) (m : Message) (o : ℕ) (body : Body) → check s m ≡ CloseOpen o body → ShutFacts s m o
 shut_facts s m o body e = subst (λ u. Facts s m u) e (checked s m)
 
 pub begin_facts : (s : Server) (m : Message) (session : ℕ) (user : List ℕ) (previous : Option ℕ) (r : SetupRequest) (is_quiet : Bool) → check s m ≡ Begin session user previous r is_quiet → BeginFacts s m session user previous r

@@ -6,7 +6,7 @@ use Rattle.exchange_defs.specs.Verdict.{Verdict}
 use Rattle.exchange_defs.specs.Check.{check}
 use Rattle.exchange_defs.specs.Records.{entry_bytes, fits, origin_at}
 use Rattle.exchange_defs.specs.Effects.{apply}
-use Rattle.exchange_defs.specs.Step.{step, table, behind_expiry, expiring, written_down, with_deadlines, due, expire, expire_records, without_room, max_marks, Ruling, ruling, ruling_without_room, carried_out, connection_of}
+use Rattle.exchange_defs.specs.Step.{step, table, behind_expiry, expiring, written_down, with_deadlines, due, expire, expire_records, without_room, max_expired_guids, Ruling, ruling, ruling_without_room, carried_out, connection_of}
 use Rattle.server_law.proofs.Logic.{either}
 
 -- an answer whose records are these, written down
@@ -37,7 +37,7 @@ by_due P s now e f None q = by_table P s now e f
 by_due P s now e f (Some o) q =
     let d = with_deadlines s now in let t = expire d o in
     let A = carried_out t now (ruling t e) in let front = expire_records d (origin_at (connection_of e)) o in
-    either (λ B. P (written_down B)) (nat_le max_marks d.mark_count) (table d now e) (behind_expiry d now e front A) (λ _. by_table P s now e f)
+    either (λ B. P (written_down B)) (nat_le max_expired_guids d.expired_count) (table d now e) (behind_expiry d now e front A) (λ _. by_table P s now e f)
     (λ _. either (λ B. P (written_down B)) (fits d (front ++ A.records)) (record A { records = front ++ A.records }) (table d now e)
     (λ _. f t (expire_records d (origin_at (connection_of e)) o) (ruling t e) (inr (o, q, refl, refl)) (inl refl))
     (λ _. by_table P s now e f))

@@ -3,7 +3,7 @@ use Rattle.std.proofs.Common.{◌≡◌, ℕ, ◌<◌, ◌==◌, Bool, true, fal
 use Rattle.exchange_defs.specs.State.{Server, Open}
 use Rattle.exchange_defs.specs.Files.{root, exists, exists_in}
 use Rattle.exchange_defs.specs.Effects.{leaves, end_session, files_behind, guid_staying, cleared, dated}
-use Rattle.server_law.specs.Fits.{Fits, Attached, PlainAttached, GuidOpen, OpenGuid, PersistentGuid, Deadlines, Listed, Ascending, OpenIds, SessionIds, MakingIds, OnPresent, OnMade, NoTrees, NoClosed, NoRefused, NoGuids, NextTree, TreeIds, RangeOwners, NotRoot, RootUnmarked, OpenFiles, FileNumbers}
+use Rattle.server_law.specs.Fits.{Fits, Attached, PlainAttached, GuidOpen, OpenGuid, PersistentGuid, Deadlines, Listed, Ascending, OpenIds, SessionIds, MakingIds, OnPresent, OnMade, NoTrees, NoClosed, NoRefused, NoGuids, NextTree, TreeIds, RangeOwners, NotRoot, RootStays, OpenFiles, FileNumbers}
 use Rattle.server_law.proofs.Logic.{front_of, back_of, not_true}
 use Rattle.server_law.proofs.Lists.{has-staying, ascending-staying, ranges_staying-from}
 use Rattle.exchange_defs.specs.Effects.{plain_of}
@@ -65,7 +65,7 @@ end_session_persistent_guid s session now is_quiet i_persistent_guid =
 end_session_deadlines : (s : Server) (session : ℕ) (now : ℕ) (is_quiet : Bool) → Deadlines s → Deadlines (end_session s session now is_quiet)
 unfolding exists
 end_session_deadlines s session now is_quiet i_deadlines =
-    λ p d. dated_end session now (s.opened p) (s.at p) (s.deadline p) d (i_deadlines p)
+    λ p d. dated_end session now (s.opened p) (s.session_of_open p) (s.deadline p) d (i_deadlines p)
 
 end_session_listed : (s : Server) (session : ℕ) (now : ℕ) (is_quiet : Bool) → Listed s → Listed (end_session s session now is_quiet)
 unfolding exists
@@ -137,20 +137,20 @@ unfolding exists
 end_session_range_owners s session now is_quiet i_range_owners =
     λ y n r h. let f = ranges_staying-from s session (s.ranges y) n r h in let was = i_range_owners y f.1.0 r f.1.1 in let stays = f.0 in grind arith
 
-end_session_root_unmarked : (s : Server) (session : ℕ) (now : ℕ) (is_quiet : Bool) → RootUnmarked s → OpenFiles s → Listed s → FileNumbers s → NotRoot s → RootUnmarked (end_session s session now is_quiet)
+end_session_root_stays : (s : Server) (session : ℕ) (now : ℕ) (is_quiet : Bool) → RootStays s → OpenFiles s → Listed s → FileNumbers s → NotRoot s → RootStays (end_session s session now is_quiet)
 unfolding exists
-end_session_root_unmarked s session now is_quiet i_root_unmarked i_open_files i_listed i_file_numbers i_not_root =
-    (files_left s session is_quiet i_listed i_open_files i_file_numbers i_not_root i_root_unmarked).unmarked
+end_session_root_stays s session now is_quiet i_root_stays i_open_files i_listed i_file_numbers i_not_root =
+    (files_left s session is_quiet i_listed i_open_files i_file_numbers i_not_root i_root_stays).not_pending
 
-end_session_open_files : (s : Server) (session : ℕ) (now : ℕ) (is_quiet : Bool) → OpenFiles s → Listed s → FileNumbers s → NotRoot s → RootUnmarked s → OpenFiles (end_session s session now is_quiet)
+end_session_open_files : (s : Server) (session : ℕ) (now : ℕ) (is_quiet : Bool) → OpenFiles s → Listed s → FileNumbers s → NotRoot s → RootStays s → OpenFiles (end_session s session now is_quiet)
 unfolding exists
-end_session_open_files s session now is_quiet i_open_files i_listed i_file_numbers i_not_root i_root_unmarked =
-    λ p st. ended_files s session is_quiet p (files_left s session is_quiet i_listed i_open_files i_file_numbers i_not_root i_root_unmarked) st
+end_session_open_files s session now is_quiet i_open_files i_listed i_file_numbers i_not_root i_root_stays =
+    λ p st. ended_files s session is_quiet p (files_left s session is_quiet i_listed i_open_files i_file_numbers i_not_root i_root_stays) st
 
-end_session_file_numbers : (s : Server) (session : ℕ) (now : ℕ) (is_quiet : Bool) → FileNumbers s → OpenFiles s → Listed s → NotRoot s → RootUnmarked s → FileNumbers (end_session s session now is_quiet)
+end_session_file_numbers : (s : Server) (session : ℕ) (now : ℕ) (is_quiet : Bool) → FileNumbers s → OpenFiles s → Listed s → NotRoot s → RootStays s → FileNumbers (end_session s session now is_quiet)
 unfolding exists
-end_session_file_numbers s session now is_quiet i_file_numbers i_open_files i_listed i_not_root i_root_unmarked =
-    λ y h. ended_numbers s session is_quiet y (files_left s session is_quiet i_listed i_open_files i_file_numbers i_not_root i_root_unmarked) h
+end_session_file_numbers s session now is_quiet i_file_numbers i_open_files i_listed i_not_root i_root_stays =
+    λ y h. ended_numbers s session is_quiet y (files_left s session is_quiet i_listed i_open_files i_file_numbers i_not_root i_root_stays) h
 
 -- a session ends: its plain opens leave, and what it kept is forgotten
 pub end_session_keeps : (s : Server) (session : ℕ) (now : ℕ) (is_quiet : Bool) → Fits s → Fits (end_session s session now is_quiet)
@@ -181,9 +181,9 @@ end_session_keeps s session now is_quiet i =
       tree_ids = end_session_tree_ids s session now is_quiet i.tree_ids;
       range_owners = end_session_range_owners s session now is_quiet i.range_owners;
       not_root = i.not_root;
-      root_unmarked = end_session_root_unmarked s session now is_quiet i.root_unmarked i.open_files i.listed i.file_numbers i.not_root;
-      open_files = end_session_open_files s session now is_quiet i.open_files i.listed i.file_numbers i.not_root i.root_unmarked;
+      root_stays = end_session_root_stays s session now is_quiet i.root_stays i.open_files i.listed i.file_numbers i.not_root;
+      open_files = end_session_open_files s session now is_quiet i.open_files i.listed i.file_numbers i.not_root i.root_stays;
       next_file = i.next_file;
-      file_numbers = end_session_file_numbers s session now is_quiet i.file_numbers i.open_files i.listed i.not_root i.root_unmarked;
+      file_numbers = end_session_file_numbers s session now is_quiet i.file_numbers i.open_files i.listed i.not_root i.root_stays;
       room = i.room;
     }

@@ -1,10 +1,10 @@
--- Written by tools/law_server.py. A file is made, with the next number; a file is marked or unmarked, and not the root; a file goes that no open has; a file has another path, and what no open has goes for it; a file's ranges are others, of opens that stand at it.
+-- Written by tools/law_server.py. A file is made, with the next number; a file becomes delete pending or no longer is, and not the root; a file goes that no open has; a file has another path, and what no open has goes for it; a file's ranges are others, of opens that stand at it.
 use Rattle.std.proofs.Common.{◌≡◌, ◌≢◌, ℕ, ◌==◌, Bool, true, false, ◌||◌, List, refl, arith, sym, ◌∙◌, Option, Some, None, slice_get}
 use Rattle.std.proofs.lemmas.Bool.Decides.{nat_tests}
 use Rattle.exchange_defs.specs.State.{Server, Range, Entry}
-use Rattle.exchange_defs.specs.Files.{root, exists, exists_in, make_file, mark_file, remove_file, rename_file, without_target, moved_entries, path_of}
+use Rattle.exchange_defs.specs.Files.{root, exists, exists_in, make_file, set_delete_pending, remove_file, rename_file, without_target, moved_entries, path_of}
 use Rattle.exchange_defs.specs.Effects.{set_ranges}
-use Rattle.server_law.specs.Fits.{Fits, RangeOwners, RootUnmarked, OpenFiles, NextFile, FileNumbers}
+use Rattle.server_law.specs.Fits.{Fits, RangeOwners, RootStays, OpenFiles, NextFile, FileNumbers}
 use Rattle.server_law.proofs.Lists.{exists-pushed, exists-without, exists-moved}
 
 make_file_range_owners : (s : Server) (path : List ℕ) (is_dir : Bool) (attributes : ℕ) (now : ℕ) → RangeOwners s → RangeOwners (make_file s path is_dir attributes now)
@@ -12,9 +12,9 @@ unfolding exists
 make_file_range_owners s path is_dir attributes now i_range_owners =
     λ y n r. let old = i_range_owners y n r in grind arith
 
-make_file_root_unmarked : (s : Server) (path : List ℕ) (is_dir : Bool) (attributes : ℕ) (now : ℕ) → RootUnmarked s → RootUnmarked (make_file s path is_dir attributes now)
+make_file_root_stays : (s : Server) (path : List ℕ) (is_dir : Bool) (attributes : ℕ) (now : ℕ) → RootStays s → RootStays (make_file s path is_dir attributes now)
 unfolding exists
-make_file_root_unmarked s path is_dir attributes now i_root_unmarked =
+make_file_root_stays s path is_dir attributes now i_root_stays =
     grind arith
 
 make_file_open_files : (s : Server) (path : List ℕ) (is_dir : Bool) (attributes : ℕ) (now : ℕ) → OpenFiles s → OpenFiles (make_file s path is_dir attributes now)
@@ -61,22 +61,22 @@ make_file_keeps s path is_dir attributes now i =
       tree_ids = i.tree_ids;
       range_owners = make_file_range_owners s path is_dir attributes now i.range_owners;
       not_root = i.not_root;
-      root_unmarked = make_file_root_unmarked s path is_dir attributes now i.root_unmarked;
+      root_stays = make_file_root_stays s path is_dir attributes now i.root_stays;
       open_files = make_file_open_files s path is_dir attributes now i.open_files;
       next_file = make_file_next_file s path is_dir attributes now i.next_file;
       file_numbers = make_file_file_numbers s path is_dir attributes now i.file_numbers i.next_file;
       room = i.room;
     }
 
-mark_file_root_unmarked : (s : Server) (f : ℕ) (flag : Bool) → (flag ≡ true → f ≢ root) → RootUnmarked s → RootUnmarked (mark_file s f flag)
+set_delete_pending_root_stays : (s : Server) (f : ℕ) (flag : Bool) → (flag ≡ true → f ≢ root) → RootStays s → RootStays (set_delete_pending s f flag)
 unfolding exists
-mark_file_root_unmarked s f flag other i_root_unmarked =
+set_delete_pending_root_stays s f flag other i_root_stays =
     grind arith
 
--- a file is marked or unmarked, and not the root
-pub mark_file_keeps : (s : Server) (f : ℕ) (flag : Bool) → (flag ≡ true → f ≢ root) → Fits s → Fits (mark_file s f flag)
+-- a file becomes delete pending or no longer is, and not the root
+pub set_delete_pending_keeps : (s : Server) (f : ℕ) (flag : Bool) → (flag ≡ true → f ≢ root) → Fits s → Fits (set_delete_pending s f flag)
 unfolding exists
-mark_file_keeps s f flag other i =
+set_delete_pending_keeps s f flag other i =
     record {
       attached = i.attached;
       plain_attached = i.plain_attached;
@@ -102,7 +102,7 @@ mark_file_keeps s f flag other i =
       tree_ids = i.tree_ids;
       range_owners = i.range_owners;
       not_root = i.not_root;
-      root_unmarked = mark_file_root_unmarked s f flag other i.root_unmarked;
+      root_stays = set_delete_pending_root_stays s f flag other i.root_stays;
       open_files = i.open_files;
       next_file = i.next_file;
       file_numbers = i.file_numbers;
@@ -148,7 +148,7 @@ remove_file_keeps s f unopened i =
       tree_ids = i.tree_ids;
       range_owners = i.range_owners;
       not_root = i.not_root;
-      root_unmarked = i.root_unmarked;
+      root_stays = i.root_stays;
       open_files = remove_file_open_files s f unopened i.open_files;
       next_file = i.next_file;
       file_numbers = remove_file_file_numbers s f unopened i.file_numbers;
@@ -212,7 +212,7 @@ rename_file_keeps s f replaced to unopened i =
       tree_ids = i.tree_ids;
       range_owners = i.range_owners;
       not_root = i.not_root;
-      root_unmarked = i.root_unmarked;
+      root_stays = i.root_stays;
       open_files = rename_file_open_files s f replaced to unopened i.open_files;
       next_file = i.next_file;
       file_numbers = rename_file_file_numbers s f replaced to unopened i.file_numbers;
@@ -253,7 +253,7 @@ set_ranges_keeps s f ranges own i =
       tree_ids = i.tree_ids;
       range_owners = set_ranges_range_owners s f ranges own i.range_owners;
       not_root = i.not_root;
-      root_unmarked = i.root_unmarked;
+      root_stays = i.root_stays;
       open_files = i.open_files;
       next_file = i.next_file;
       file_numbers = i.file_numbers;

@@ -6,23 +6,23 @@ use Rattle.exchange_defs.specs.Status.{success}
 use Rattle.exchange_defs.specs.Texts.{is_path, is_below}
 use Rattle.exchange_defs.specs.Content.{written, ended, is_empty}
 use Rattle.exchange_defs.specs.Commands.{Element, all_lock, all_unlock, deletes_on_close}
-use Rattle.exchange_defs.specs.State.{Server, Entry, Record, NewOpen, EpochRecord, CreateRecord, WriteRecord, EndRecord, BasicRecord, DeleteRecord, RenameRecord, RemoveRecord, LockRecord, ShutRecord, VersionRecord, ExpireRecord}
-use Rattle.exchange_defs.specs.Files.{root, find, path_of, exists, exists_in, is_directory, has_parent, passes_room, make_file, empty_file, mark_file}
+use Rattle.exchange_defs.specs.State.{Server, Entry, Record, NewOpen, EpochRecord, CreateRecord, WriteRecord, EndRecord, BasicRecord, DeleteRecord, RenameRecord, RemoveRecord, LockRecord, CloseRecord, VersionRecord, ExpireRecord}
+use Rattle.exchange_defs.specs.Files.{root, find, path_of, exists, exists_in, is_directory, has_parent, passes_room, make_file, empty_file, set_delete_pending}
 use Rattle.exchange_defs.specs.Ranges.{RangeAnswer, Stands, Denied, change_ranges}
 use Rattle.exchange_defs.specs.Opens.{id_of, max_ids, drop_open, file_has_open, without_gone, goes}
 use Rattle.exchange_defs.specs.CheckOpen.{target_of, file_of}
 use Rattle.exchange_defs.specs.Records.{entry_bytes}
-use Rattle.exchange_defs.specs.Step.{max_marks}
+use Rattle.exchange_defs.specs.Step.{max_expired_guids}
 use Rattle.exchange_defs.specs.Fold.{nothing_yet, full_room, sweep, begin_epoch, may_make, may_restore, may_have_open, may_create, restored_row, restore, created_file, is_file, same_target, may_replace, may_rename, may_remove, lock_granted, lock_recorded, shut_recorded, with_record, fold_from, fold, recovery_records, recovered_from, opening_records}
 use Rattle.server_law.specs.Fits.{Fits, Listed, is_sound, all_sound, keeps_root}
 use Rattle.server_law.proofs.Logic.{either, front_of, back_of, both, not_true, none_of}
 use Rattle.server_law.proofs.Lists.{exists-pushed}
 use Rattle.server_law.proofs.AddOpen.{add_open_keeps}
 use Rattle.server_law.proofs.DropOpen.{drop_open_keeps}
-use Rattle.server_law.proofs.FileEffects.{make_file_keeps, mark_file_keeps, remove_file_keeps, rename_file_keeps}
+use Rattle.server_law.proofs.FileEffects.{make_file_keeps, set_delete_pending_keeps, remove_file_keeps, rename_file_keeps}
 use Rattle.server_law.proofs.SessionEffects.{epoch_keeps, configured_keeps}
 use Rattle.server_law.proofs.Leaving.{gone_keeps, unopened_of}
-use Rattle.server_law.proofs.Applied.{version_keeps, set_content_keeps, empty_file_keeps, store_basic_keeps, keep_slot_keeps, add_mark_keeps, ranges_keeps}
+use Rattle.server_law.proofs.Applied.{version_keeps, set_content_keeps, empty_file_keeps, store_basic_keeps, keep_slot_keeps, add_expired_guid_keeps, ranges_keeps}
 
 -- ---- lists of records
 
@@ -74,7 +74,7 @@ record Free (s : Server) (n : NewOpen) : Type 0 where
 free_of : (s : Server) (n : NewOpen) → may_restore s n ≡ true → Free s n
 unfolding may_restore
 free_of s n h =
-    let a = back_of (n.id / 0x1_0000_0000 == s.epoch) _ h in let b = back_of (nat_lt 0 (n.id % 0x1_0000_0000)) _ a in let c = back_of (nat_lt s.given max_ids) _ b in let d = back_of (not (s.standing n.id)) _ c in
+    let a = back_of (n.id / 0x1_0000_0000 == s.epoch) _ h in let b = back_of (nat_lt 0 (n.id % 0x1_0000_0000)) _ a in let c = back_of (nat_lt s.open_ids_given max_ids) _ b in let d = back_of (not (s.standing n.id)) _ c in
     record {
       epoch = front_of (n.id / 0x1_0000_0000 == s.epoch) _ h;
       counter = front_of (nat_lt 0 (n.id % 0x1_0000_0000)) _ a;
@@ -103,7 +103,7 @@ off_root f options h d = let e : (f == root) ≡ false = grind arith in eqb-fals
 
 restored_on : (u : Server) (f action : ℕ) (n : NewOpen) → Free u n → exists u f ≡ true → keeps_root f (Some n) ≡ true → Fits u → Fits (restore u f action (Some n))
 restored_on u f action n a file sound i =
-    add_open_keeps u n.id (restored_row n f action) None 0 (max u.given (n.id % 0x1_0000_0000)) u.guids a.standing (id_above n.id a.counter) (id_within n.id u.epoch u.given a.epoch) (given_more u.given (n.id % 0x1_0000_0000)) (given_most u.given n.id i.given)
+    add_open_keeps u n.id (restored_row n f action) None 0 (max u.open_ids_given (n.id % 0x1_0000_0000)) u.guids a.standing (id_above n.id a.counter) (id_within n.id u.epoch u.open_ids_given a.epoch) (given_more u.open_ids_given (n.id % 0x1_0000_0000)) (given_most u.open_ids_given n.id i.given)
     (λ x e. absurd (cc)) (λ e. absurd (cc)) (own_guid u n a.guid) (λ _. refl) file (off_root f n.options sound) i.no_guids i
 
 restored_keeps : (s u : Server) (f action : ℕ) (opened : Option NewOpen) → may_have_open s opened ≡ true → u.standing ≡ s.standing → u.by_guid ≡ s.by_guid → u.epoch ≡ s.epoch → exists u f ≡ true → keeps_root f opened ≡ true → Fits u → Fits (restore u f action opened)
@@ -170,7 +170,7 @@ locked_keeps s o index number status elements stands i =
 pub shut_recorded_keeps : (s : Server) (o : ℕ) → s.standing o ≡ true → Fits s → Fits (shut_recorded s o)
 shut_recorded_keeps s o stands i =
     either (λ t. Fits (drop_open t o)) (deletes_on_close (s.opened o).options) _ _
-    (λ d. drop_open_keeps (mark_file s (s.opened o).file true) o stands (mark_file_keeps s (s.opened o).file true (λ _. i.not_root o d) i)) (λ _. drop_open_keeps s o stands i)
+    (λ d. drop_open_keeps (set_delete_pending s (s.opened o).file true) o stands (set_delete_pending_keeps s (s.opened o).file true (λ _. i.not_root o d) i)) (λ _. drop_open_keeps s o stands i)
 
 deleted_off : (f : ℕ) (there : Bool) → (there && not (f == root)) ≡ true → f ≢ root
 deleted_off f there h = eqb-false f root (not_true (f == root) (back_of there (not (f == root)) h))
@@ -185,17 +185,17 @@ recorded_keeps s (WriteRecord origin f at time bytes) sound i =
     either (λ t. Fits t) (is_file s f && (not (is_empty bytes) && not (passes_room s f (at + length bytes)))) _ _ (λ _. set_content_keeps s f (written at bytes (s.content f)) time i) (λ _. i)
 recorded_keeps s (EndRecord origin f size time) sound i = either (λ t. Fits t) (is_file s f && not (passes_room s f size)) _ _ (λ _. set_content_keeps s f (ended size (s.content f)) time i) (λ _. i)
 recorded_keeps s (BasicRecord origin f basic) sound i = either (λ t. Fits t) (exists s f) _ _ (λ _. store_basic_keeps s f basic i) (λ _. i)
-recorded_keeps s (DeleteRecord origin f flag) sound i = either (λ t. Fits t) (exists s f && not (f == root)) _ _ (λ h. mark_file_keeps s f flag (λ _. deleted_off f (exists s f) h) i) (λ _. i)
+recorded_keeps s (DeleteRecord origin f flag) sound i = either (λ t. Fits t) (exists s f && not (f == root)) _ _ (λ h. set_delete_pending_keeps s f flag (λ _. deleted_off f (exists s f) h) i) (λ _. i)
 recorded_keeps s (RenameRecord origin f replaced path) sound i =
     either (λ t. Fits t) (may_rename s f replaced path) _ _
     (λ h. rename_file_keeps s f (target_of f (find s path)) path (replaced_unopened s (target_of f (find s path)) (replaces s f replaced path h) i.listed) i) (λ _. i)
 recorded_keeps s (RemoveRecord origin f) sound i = either (λ t. Fits t) (may_remove s f) _ _ (λ h. remove_file_keeps s f (unopened_of s f (removes s f h) i.listed) i) (λ _. i)
 recorded_keeps s (LockRecord origin o index number status elements) sound i =
     either (λ t. Fits t) (s.standing o && nat_le index 64) _ _ (λ h. locked_keeps s o index number status elements (front_of (s.standing o) _ h) i) (λ _. i)
-recorded_keeps s (ShutRecord origin o) sound i = either (λ t. Fits t) (s.standing o) _ _ (λ h. shut_recorded_keeps s o h i) (λ _. i)
+recorded_keeps s (CloseRecord origin o) sound i = either (λ t. Fits t) (s.standing o) _ _ (λ h. shut_recorded_keeps s o h i) (λ _. i)
 recorded_keeps s (ExpireRecord origin o) sound i =
-    either (λ t. Fits t) (s.standing o && nat_lt s.mark_count max_marks) _ _
-    (λ h. add_mark_keeps (shut_recorded s o) (s.opened o).client (s.opened o).guid (shut_recorded_keeps s o (front_of (s.standing o) _ h) i)) (λ _. i)
+    either (λ t. Fits t) (s.standing o && nat_lt s.expired_count max_expired_guids) _ _
+    (λ h. add_expired_guid_keeps (shut_recorded s o) (s.opened o).client (s.opened o).guid (shut_recorded_keeps s o (front_of (s.standing o) _ h) i)) (λ _. i)
 
 pub folded_keeps : (s : Server) (rs : List Record) → all_sound rs ≡ true → Fits s → Fits (fold_from s rs)
 unfolding all_sound fold_from
@@ -236,7 +236,7 @@ nothing_fits =
       tree_ids = λ x n t h. absurd (cc);
       range_owners = λ y n r h. absurd (cc);
       not_root = λ p h. absurd (let e = no_options in cc);
-      root_unmarked = refl;
+      root_stays = refl;
       open_files = λ p st. absurd (cc);
       next_file = omega arith;
       file_numbers = λ y h. absurd (cc);
@@ -250,5 +250,5 @@ sound_recovery s = either (λ rs. all_sound rs ≡ true) (s.version == 1) _ _ (�
 -- a server that stands at the fold of its records, under a configuration with no more than the full room
 pub recovered_fits : (s : Server) (rs : List Record) → s.room ≤ full_room → all_sound rs ≡ true → Fits (recovered_from s rs)
 recovered_fits s rs small sound =
-    configured_keeps (fold (rs ++ recovery_records rs)) s.share s.room s.seals s.address (s.journal + entry_bytes (recovery_records rs)) small
+    configured_keeps (fold (rs ++ recovery_records rs)) s.share s.room s.encrypts s.address (s.journal + entry_bytes (recovery_records rs)) small
     (folded_keeps nothing_yet (rs ++ recovery_records rs) (sound_more rs (recovery_records rs) sound (sound_recovery (fold rs))) nothing_fits)

@@ -11,11 +11,11 @@ use Rattle.exchange_defs.specs.Opens.{deletes, mapped, max_ids}
 use Rattle.exchange_defs.specs.CheckCreate.{keeps_guid, max_guids, max_opens, max_files, last_file, action_of, shares, makes_missing, empties, has_guid}
 use Rattle.exchange_defs.specs.CheckOpen.{is_late, file_of, has_access, is_slot, kept_status, bytes_change, allocation_change, target_of, target_refused, delete_names, open_below, is_repeated}
 use Rattle.exchange_defs.specs.CheckSetup.{tree_in, is_binding, previous_of}
-use Rattle.exchange_defs.specs.Verdict.{Verdict, Refuse, Give, KeepRefusal, Repeat, Attach, Make, TurnDown, Tell, Show, KeepSlot, PutRanges, Alter, Shut, Challenge, ChallengeBinding, Begin, Join, EndSession, AddTree, DropTree, Change, PutEnd, PutBasic, PutMark, PutPath}
+use Rattle.exchange_defs.specs.Verdict.{Verdict, Refuse, Give, KeepRefusal, Repeat, Attach, Make, TurnDown, Tell, Show, KeepSlot, PutRanges, Alter, CloseOpen, Challenge, ChallengeBinding, Begin, Join, EndSession, AddTree, DropTree, Change, PutEnd, PutBasic, PutDeletePending, PutPath}
 
 -- a request of a live session on its own connection, signed as owed and well formed
 pub record SessionFacts (s : Server) (m : Message) : Type 0 where
-  pub on : s.on m.connection ≡ Some m.session
+  pub session_on : s.session_on m.connection ≡ Some m.session
   pub fault : m.fault ≡ None
   pub formed : form m.command ≡ None
 
@@ -27,7 +27,7 @@ pub record TreeFacts (s : Server) (m : Message) : Type 0 where
 pub record OpenFacts (s : Server) (m : Message) (o : ℕ) : Type 0 where
   pub tree : TreeFacts s m
   pub standing : s.standing o ≡ true
-  pub at : s.at o ≡ Some m.session
+  pub session_of_open : s.session_of_open o ≡ Some m.session
 
 -- ---- CREATE
 
@@ -42,7 +42,7 @@ pub record NewFacts (s : Server) (m : Message) (r : CreateRequest) (pipes : Bool
   pub new : r.reconnect ≡ None
   pub no_open : (d : Durable) → r.durable ≡ Some d → s.by_guid m.client d.guid ≡ None
   pub no_closed : (d : Durable) → r.durable ≡ Some d → s.closed m.session d.guid ≡ false
-  pub no_mark : (d : Durable) → r.durable ≡ Some d → s.marks m.client d.guid ≡ false
+  pub not_expired : (d : Durable) → r.durable ≡ Some d → s.expired_guids m.client d.guid ≡ false
   pub no_refusal : (d : Durable) → r.durable ≡ Some d → s.refused m.session d.guid ≡ None
   pub may_delete : (deletes_on_close r.options && not (deletes (mapped r.access))) ≡ false
   pub guids : (keeps_guid r && nat_le max_guids (s.guids m.session)) ≡ false
@@ -56,10 +56,10 @@ pub record KeepFacts (s : Server) (m : Message) (guid status : ℕ) : Type 0 whe
   pub guid_is : durable.guid ≡ guid
   pub refused : (status == success) ≡ false
 
--- what it found is there, isn't marked, and is no directory where it is emptied
+-- what it found is there, isn't delete pending, and is no directory where it is emptied
 pub record ThereFacts (s : Server) (r : CreateRequest) (f : ℕ) : Type 0 where
   pub there : exists s f ≡ true
-  pub unmarked : s.marked f ≡ false
+  pub not_pending : s.delete_pending f ≡ false
   pub emptied : empties r.disposition ≡ true → is_directory s f ≡ false
   pub no_root : deletes_on_close r.options ≡ true → (f == root) ≡ false
 
@@ -78,7 +78,7 @@ pub record MakeFacts (s : Server) (m : Message) (r : CreateRequest) (found : Opt
   pub path : is_path r.path ≡ true
   pub disposition : r.disposition ≤ 5
   pub opens : length s.opens < max_opens
-  pub given : s.given < max_ids
+  pub given : s.open_ids_given < max_ids
   pub there : (f : ℕ) → found ≡ Some f → ThereFacts s r f
   pub missing : found ≡ None → MissingFacts s r
 
@@ -91,7 +91,7 @@ pub record RepeatFacts (s : Server) (m : Message) (o : ℕ) (r : CreateRequest) 
   pub kept : r.durable ≡ Some durable
   pub named : s.by_guid m.client durable.guid ≡ Some o
   pub replay : m.replay ≡ true
-  pub whose : (s.at o ≡ Some m.session) ⊎ (s.at o ≡ None × (s.opened o).persistent ≡ true × same_name (s.opened o).user (s.user m.session) ≡ true)
+  pub whose : (s.session_of_open o ≡ Some m.session) ⊎ (s.session_of_open o ≡ None × (s.opened o).persistent ≡ true × same_name (s.opened o).user (s.user m.session) ≡ true)
 
 pub record AttachFacts (s : Server) (m : Message) (o : ℕ) (r : CreateRequest) : Type 0 where
   pub reconnect : Reconnect
@@ -101,14 +101,14 @@ pub record AttachFacts (s : Server) (m : Message) (o : ℕ) (r : CreateRequest) 
   pub standing : s.standing o ≡ true
   pub guid : has_guid reconnect.guid (s.opened o).guid ≡ true
   pub user : same_name (s.opened o).user (s.user m.session) ≡ true
-  pub whose : (s.at o ≡ None) ⊎ (s.at o ≡ Some m.session)
+  pub whose : (s.session_of_open o ≡ None) ⊎ (s.session_of_open o ≡ Some m.session)
 
 -- ---- LOCK
 
 pub record LockFacts (s : Server) (m : Message) (o index number : ℕ) (elements : List Element) : Type 0 where
   pub opened : OpenFacts s m o
   pub command : m.command ≡ Lock o index number elements
-  pub unkept : is_slot index ≡ true → kept_status number (s.slots o index) ≡ None
+  pub unkept : is_slot index ≡ true → kept_status number (s.lock_sequences o index) ≡ None
 
 pub record SlotFacts (s : Server) (m : Message) (o index number status : ℕ) (elements : List Element) : Type 0 where
   pub lock : LockFacts s m o index number elements
@@ -126,7 +126,7 @@ pub record RangesFacts (s : Server) (m : Message) (o index number : ℕ) (ranges
 abbrev pub setting_change : Server → ℕ → Setting → Change
 setting_change s o (SetBasic basic) = PutBasic (set_basic (s.basic (file_of s o)) basic)
 setting_change s o (Rename replace path) = PutPath (target_of (file_of s o) (find s path)) path
-setting_change s o (SetDelete flag) = PutMark flag
+setting_change s o (SetDelete flag) = PutDeletePending flag
 setting_change s o (SetAllocation size) = allocation_change s (file_of s o) size
 setting_change s o (SetEnd size) = PutEnd size
 
@@ -193,8 +193,8 @@ pub record ChallengeFacts (s : Server) (m : Message) : Type 0 where
   pub request : SetupRequest
   pub command : m.command ≡ Setup request
   pub new : m.session ≡ 0
-  pub off : s.on m.connection ≡ None
-  pub begun : s.begun < max_ids
+  pub off : s.session_on m.connection ≡ None
+  pub begun : s.session_ids_given < max_ids
 
 pub record BindingFacts (s : Server) (m : Message) (session : ℕ) : Type 0 where
   pub request : SetupRequest
@@ -202,7 +202,7 @@ pub record BindingFacts (s : Server) (m : Message) (session : ℕ) : Type 0 wher
   pub session_is : session ≡ m.session
   pub binding : request.binding ≡ true
   pub client : (m.client == s.client m.session) ≡ true
-  pub off : s.on m.connection ≡ None
+  pub off : s.session_on m.connection ≡ None
   pub present : s.present m.session ≡ true
 
 -- a session begins where its id is in the making on this connection
@@ -247,7 +247,7 @@ Facts s m (Show o last body) = OpenFacts s m o
 Facts s m (KeepSlot o index number status elements) = SlotFacts s m o index number status elements
 Facts s m (PutRanges o index number ranges elements) = RangesFacts s m o index number ranges elements
 Facts s m (Alter o change body) = AlterFacts s m o change body
-Facts s m (Shut o body) = ShutFacts s m o
+Facts s m (CloseOpen o body) = ShutFacts s m o
 Facts s m Challenge = ChallengeFacts s m
 Facts s m (ChallengeBinding session) = BindingFacts s m session
 Facts s m (Begin session user previous r is_quiet) = BeginFacts s m session user previous r

@@ -60,7 +60,7 @@ attach_keeps s m o stands there i =
       tree_ids = i.tree_ids;
       range_owners = i.range_owners;
       not_root = i.not_root;
-      root_unmarked = i.root_unmarked;
+      root_stays = i.root_stays;
       open_files = i.open_files;
       next_file = i.next_file;
       file_numbers = i.file_numbers;
@@ -106,7 +106,7 @@ keep_refusal_keeps s session guid status there i =
       tree_ids = i.tree_ids;
       range_owners = i.range_owners;
       not_root = i.not_root;
-      root_unmarked = i.root_unmarked;
+      root_stays = i.root_stays;
       open_files = i.open_files;
       next_file = i.next_file;
       file_numbers = i.file_numbers;
@@ -147,40 +147,40 @@ close_guid_keeps s session guid there i =
       tree_ids = i.tree_ids;
       range_owners = i.range_owners;
       not_root = i.not_root;
-      root_unmarked = i.root_unmarked;
+      root_stays = i.root_stays;
       open_files = i.open_files;
       next_file = i.next_file;
       file_numbers = i.file_numbers;
       room = i.room;
     }
 
-challenge_begun : (s : Server) (line : ℕ) → (s.on line ≡ None) → (s.begun < max_ids) → Begun s → Begun (record s { begun = s.begun + 1; making = put s.making line (Some (NewSession (next_session s))) })
+challenge_begun : (s : Server) (line : ℕ) → (s.session_on line ≡ None) → (s.session_ids_given < max_ids) → Begun s → Begun (record s { session_ids_given = s.session_ids_given + 1; making = put s.making line (Some (NewSession (next_session s))) })
 unfolding exists
 challenge_begun s line off left i_begun =
     grind arith
 
-challenge_session_ids : (s : Server) (line : ℕ) → (s.on line ≡ None) → (s.begun < max_ids) → SessionIds s → SessionIds (record s { begun = s.begun + 1; making = put s.making line (Some (NewSession (next_session s))) })
+challenge_session_ids : (s : Server) (line : ℕ) → (s.session_on line ≡ None) → (s.session_ids_given < max_ids) → SessionIds s → SessionIds (record s { session_ids_given = s.session_ids_given + 1; making = put s.making line (Some (NewSession (next_session s))) })
 unfolding exists
 challenge_session_ids s line off left i_session_ids =
     λ x. let old = i_session_ids x in grind arith
 
-challenge_making_ids : (s : Server) (line : ℕ) → (s.on line ≡ None) → (s.begun < max_ids) → MakingIds s → SessionIds s → MakingIds (record s { begun = s.begun + 1; making = put s.making line (Some (NewSession (next_session s))) })
+challenge_making_ids : (s : Server) (line : ℕ) → (s.session_on line ≡ None) → (s.session_ids_given < max_ids) → MakingIds s → SessionIds s → MakingIds (record s { session_ids_given = s.session_ids_given + 1; making = put s.making line (Some (NewSession (next_session s))) })
 unfolding exists
 challenge_making_ids s line off left i_making_ids i_session_ids =
     λ k x. let old = i_making_ids k x in grind arith
 
-challenge_making_once : (s : Server) (line : ℕ) → (s.on line ≡ None) → (s.begun < max_ids) → MakingOnce s → MakingIds s → MakingOnce (record s { begun = s.begun + 1; making = put s.making line (Some (NewSession (next_session s))) })
+challenge_making_once : (s : Server) (line : ℕ) → (s.session_on line ≡ None) → (s.session_ids_given < max_ids) → MakingOnce s → MakingIds s → MakingOnce (record s { session_ids_given = s.session_ids_given + 1; making = put s.making line (Some (NewSession (next_session s))) })
 unfolding exists
 challenge_making_once s line off left i_making_once i_making_ids =
     λ j k x. let old = i_making_once j k x in let a = i_making_ids j x in let b = i_making_ids k x in grind arith
 
-challenge_on_made : (s : Server) (line : ℕ) → (s.on line ≡ None) → (s.begun < max_ids) → OnMade s → OnMade (record s { begun = s.begun + 1; making = put s.making line (Some (NewSession (next_session s))) })
+challenge_on_made : (s : Server) (line : ℕ) → (s.session_on line ≡ None) → (s.session_ids_given < max_ids) → OnMade s → OnMade (record s { session_ids_given = s.session_ids_given + 1; making = put s.making line (Some (NewSession (next_session s))) })
 unfolding exists
 challenge_on_made s line off left i_on_made =
     λ k x. let old = i_on_made k x in grind arith
 
 -- a session is in the making, with the next id
-pub challenge_keeps : (s : Server) (line : ℕ) → (s.on line ≡ None) → (s.begun < max_ids) → Fits s → Fits (record s { begun = s.begun + 1; making = put s.making line (Some (NewSession (next_session s))) })
+pub challenge_keeps : (s : Server) (line : ℕ) → (s.session_on line ≡ None) → (s.session_ids_given < max_ids) → Fits s → Fits (record s { session_ids_given = s.session_ids_given + 1; making = put s.making line (Some (NewSession (next_session s))) })
 unfolding exists
 challenge_keeps s line off left i =
     record {
@@ -208,30 +208,30 @@ challenge_keeps s line off left i =
       tree_ids = i.tree_ids;
       range_owners = i.range_owners;
       not_root = i.not_root;
-      root_unmarked = i.root_unmarked;
+      root_stays = i.root_stays;
       open_files = i.open_files;
       next_file = i.next_file;
       file_numbers = i.file_numbers;
       room = i.room;
     }
 
-bind_making_ids : (s : Server) (line : ℕ) (session : ℕ) → (s.on line ≡ None) → MakingIds s → MakingIds (record s { making = put s.making line (Some (Binding session)) })
+bind_making_ids : (s : Server) (line : ℕ) (session : ℕ) → (s.session_on line ≡ None) → MakingIds s → MakingIds (record s { making = put s.making line (Some (Binding session)) })
 unfolding exists
 bind_making_ids s line session off i_making_ids =
     λ k x. let old = i_making_ids k x in grind arith
 
-bind_making_once : (s : Server) (line : ℕ) (session : ℕ) → (s.on line ≡ None) → MakingOnce s → MakingOnce (record s { making = put s.making line (Some (Binding session)) })
+bind_making_once : (s : Server) (line : ℕ) (session : ℕ) → (s.session_on line ≡ None) → MakingOnce s → MakingOnce (record s { making = put s.making line (Some (Binding session)) })
 unfolding exists
 bind_making_once s line session off i_making_once =
     λ j k x. let old = i_making_once j k x in grind arith
 
-bind_on_made : (s : Server) (line : ℕ) (session : ℕ) → (s.on line ≡ None) → OnMade s → OnMade (record s { making = put s.making line (Some (Binding session)) })
+bind_on_made : (s : Server) (line : ℕ) (session : ℕ) → (s.session_on line ≡ None) → OnMade s → OnMade (record s { making = put s.making line (Some (Binding session)) })
 unfolding exists
 bind_on_made s line session off i_on_made =
     λ k x. let old = i_on_made k x in grind arith
 
 -- a binding is in the making
-pub bind_keeps : (s : Server) (line : ℕ) (session : ℕ) → (s.on line ≡ None) → Fits s → Fits (record s { making = put s.making line (Some (Binding session)) })
+pub bind_keeps : (s : Server) (line : ℕ) (session : ℕ) → (s.session_on line ≡ None) → Fits s → Fits (record s { making = put s.making line (Some (Binding session)) })
 unfolding exists
 bind_keeps s line session off i =
     record {
@@ -259,7 +259,7 @@ bind_keeps s line session off i =
       tree_ids = i.tree_ids;
       range_owners = i.range_owners;
       not_root = i.not_root;
-      root_unmarked = i.root_unmarked;
+      root_stays = i.root_stays;
       open_files = i.open_files;
       next_file = i.next_file;
       file_numbers = i.file_numbers;
@@ -355,7 +355,7 @@ add_session_keeps s m user r absent new i =
       tree_ids = add_session_tree_ids s m user r absent new i.tree_ids;
       range_owners = i.range_owners;
       not_root = i.not_root;
-      root_unmarked = i.root_unmarked;
+      root_stays = i.root_stays;
       open_files = i.open_files;
       next_file = i.next_file;
       file_numbers = i.file_numbers;
@@ -411,7 +411,7 @@ join_session_keeps s m session there i =
       tree_ids = i.tree_ids;
       range_owners = i.range_owners;
       not_root = i.not_root;
-      root_unmarked = i.root_unmarked;
+      root_stays = i.root_stays;
       open_files = i.open_files;
       next_file = i.next_file;
       file_numbers = i.file_numbers;
@@ -470,7 +470,7 @@ add_tree_keeps s session pipes there i =
       tree_ids = add_tree_tree_ids s session pipes there i.tree_ids i.next_tree;
       range_owners = i.range_owners;
       not_root = i.not_root;
-      root_unmarked = i.root_unmarked;
+      root_stays = i.root_stays;
       open_files = i.open_files;
       next_file = i.next_file;
       file_numbers = i.file_numbers;
@@ -524,7 +524,7 @@ drop_tree_keeps s session id i =
       tree_ids = drop_tree_tree_ids s session id i.tree_ids;
       range_owners = i.range_owners;
       not_root = i.not_root;
-      root_unmarked = i.root_unmarked;
+      root_stays = i.root_stays;
       open_files = i.open_files;
       next_file = i.next_file;
       file_numbers = i.file_numbers;
@@ -580,7 +580,7 @@ forget_keeps s line i =
       tree_ids = i.tree_ids;
       range_owners = i.range_owners;
       not_root = i.not_root;
-      root_unmarked = i.root_unmarked;
+      root_stays = i.root_stays;
       open_files = i.open_files;
       next_file = i.next_file;
       file_numbers = i.file_numbers;
@@ -595,7 +595,7 @@ dated_first now false (Some x) row deadline d old h = old d h
 deadlines_deadlines : (s : Server) (now : ℕ) → Deadlines s → Deadlines (with_deadlines s now)
 unfolding exists
 deadlines_deadlines s now i_deadlines =
-    λ p d. dated_first now (s.standing p) (s.at p) (s.opened p) (s.deadline p) d (i_deadlines p)
+    λ p d. dated_first now (s.standing p) (s.session_of_open p) (s.opened p) (s.deadline p) d (i_deadlines p)
 
 -- an open without a session gets its deadline
 pub deadlines_keeps : (s : Server) (now : ℕ) → Fits s → Fits (with_deadlines s now)
@@ -626,40 +626,40 @@ deadlines_keeps s now i =
       tree_ids = i.tree_ids;
       range_owners = i.range_owners;
       not_root = i.not_root;
-      root_unmarked = i.root_unmarked;
+      root_stays = i.root_stays;
       open_files = i.open_files;
       next_file = i.next_file;
       file_numbers = i.file_numbers;
       room = i.room;
     }
 
-epoch_open_ids : (s : Server) (number : ℕ) → (number ≡ s.epoch + 1) → OpenIds s → Given s → OpenIds (record s { epoch = number; given = 0; begun = 0 })
+epoch_open_ids : (s : Server) (number : ℕ) → (number ≡ s.epoch + 1) → OpenIds s → Given s → OpenIds (record s { epoch = number; open_ids_given = 0; session_ids_given = 0 })
 unfolding exists
 epoch_open_ids s number next i_open_ids i_given =
     λ p. let old = i_open_ids p in grind arith
 
-epoch_given : (s : Server) (number : ℕ) → (number ≡ s.epoch + 1) → Given s → Given (record s { epoch = number; given = 0; begun = 0 })
+epoch_given : (s : Server) (number : ℕ) → (number ≡ s.epoch + 1) → Given s → Given (record s { epoch = number; open_ids_given = 0; session_ids_given = 0 })
 unfolding exists
 epoch_given s number next i_given =
     grind arith
 
-epoch_begun : (s : Server) (number : ℕ) → (number ≡ s.epoch + 1) → Begun s → Begun (record s { epoch = number; given = 0; begun = 0 })
+epoch_begun : (s : Server) (number : ℕ) → (number ≡ s.epoch + 1) → Begun s → Begun (record s { epoch = number; open_ids_given = 0; session_ids_given = 0 })
 unfolding exists
 epoch_begun s number next i_begun =
     grind arith
 
-epoch_session_ids : (s : Server) (number : ℕ) → (number ≡ s.epoch + 1) → SessionIds s → Begun s → SessionIds (record s { epoch = number; given = 0; begun = 0 })
+epoch_session_ids : (s : Server) (number : ℕ) → (number ≡ s.epoch + 1) → SessionIds s → Begun s → SessionIds (record s { epoch = number; open_ids_given = 0; session_ids_given = 0 })
 unfolding exists
 epoch_session_ids s number next i_session_ids i_begun =
     λ x. let old = i_session_ids x in grind arith
 
-epoch_making_ids : (s : Server) (number : ℕ) → (number ≡ s.epoch + 1) → MakingIds s → Begun s → MakingIds (record s { epoch = number; given = 0; begun = 0 })
+epoch_making_ids : (s : Server) (number : ℕ) → (number ≡ s.epoch + 1) → MakingIds s → Begun s → MakingIds (record s { epoch = number; open_ids_given = 0; session_ids_given = 0 })
 unfolding exists
 epoch_making_ids s number next i_making_ids i_begun =
     λ k x. let old = i_making_ids k x in grind arith
 
 -- a new epoch begins, in which no id was given
-pub epoch_keeps : (s : Server) (number : ℕ) → (number ≡ s.epoch + 1) → Fits s → Fits (record s { epoch = number; given = 0; begun = 0 })
+pub epoch_keeps : (s : Server) (number : ℕ) → (number ≡ s.epoch + 1) → Fits s → Fits (record s { epoch = number; open_ids_given = 0; session_ids_given = 0 })
 unfolding exists
 epoch_keeps s number next i =
     record {
@@ -687,20 +687,20 @@ epoch_keeps s number next i =
       tree_ids = i.tree_ids;
       range_owners = i.range_owners;
       not_root = i.not_root;
-      root_unmarked = i.root_unmarked;
+      root_stays = i.root_stays;
       open_files = i.open_files;
       next_file = i.next_file;
       file_numbers = i.file_numbers;
       room = i.room;
     }
 
-configured_room : (s : Server) (share : List ℕ) (room : ℕ) (seals : Bool) (address : Address) (journal : ℕ) → (room ≤ full_room) → Room s → Room (record s { share = share; room = room; seals = seals; address = address; journal = journal })
+configured_room : (s : Server) (share : List ℕ) (room : ℕ) (seals : Bool) (address : Address) (journal : ℕ) → (room ≤ full_room) → Room s → Room (record s { share = share; room = room; encrypts = seals; address = address; journal = journal })
 unfolding exists
 configured_room s share room seals address journal small i_room =
     small
 
 -- the configuration is another
-pub configured_keeps : (s : Server) (share : List ℕ) (room : ℕ) (seals : Bool) (address : Address) (journal : ℕ) → (room ≤ full_room) → Fits s → Fits (record s { share = share; room = room; seals = seals; address = address; journal = journal })
+pub configured_keeps : (s : Server) (share : List ℕ) (room : ℕ) (seals : Bool) (address : Address) (journal : ℕ) → (room ≤ full_room) → Fits s → Fits (record s { share = share; room = room; encrypts = seals; address = address; journal = journal })
 unfolding exists
 configured_keeps s share room seals address journal small i =
     record {
@@ -728,7 +728,7 @@ configured_keeps s share room seals address journal small i =
       tree_ids = i.tree_ids;
       range_owners = i.range_owners;
       not_root = i.not_root;
-      root_unmarked = i.root_unmarked;
+      root_stays = i.root_stays;
       open_files = i.open_files;
       next_file = i.next_file;
       file_numbers = i.file_numbers;
@@ -736,9 +736,9 @@ configured_keeps s share room seals address journal small i =
     }
 
 -- what nothing here reads is other
-pub unread_keeps : (s : Server) (sequence : ℕ → ℕ) (slots : ℕ → ℕ → Option Kept) (listed : ℕ → Option (List ℕ)) (content : ℕ → List ℕ) (basic : ℕ → Basic) (connections : List ℕ) (marks : ℕ → ℕ → Bool) (mark_count : ℕ) (version : ℕ) (journal : ℕ) → Fits s → Fits (record s { sequence = sequence; slots = slots; listed = listed; content = content; basic = basic; connections = connections; marks = marks; mark_count = mark_count; version = version; journal = journal })
+pub unread_keeps : (s : Server) (sequence : ℕ → ℕ) (slots : ℕ → ℕ → Option Kept) (listed : ℕ → Option (List ℕ)) (content : ℕ → List ℕ) (basic : ℕ → Basic) (connections : List ℕ) (expired_guids : ℕ → ℕ → Bool) (expired_count : ℕ) (version : ℕ) (journal : ℕ) → Fits s → Fits (record s { sequence = sequence; lock_sequences = slots; enumeration_location = listed; content = content; basic = basic; connections = connections; expired_guids = expired_guids; expired_count = expired_count; version = version; journal = journal })
 unfolding exists
-unread_keeps s sequence slots listed content basic connections marks mark_count version journal i =
+unread_keeps s sequence slots listed content basic connections expired_guids expired_count version journal i =
     record {
       attached = i.attached;
       plain_attached = i.plain_attached;
@@ -764,7 +764,7 @@ unread_keeps s sequence slots listed content basic connections marks mark_count 
       tree_ids = i.tree_ids;
       range_owners = i.range_owners;
       not_root = i.not_root;
-      root_unmarked = i.root_unmarked;
+      root_stays = i.root_stays;
       open_files = i.open_files;
       next_file = i.next_file;
       file_numbers = i.file_numbers;

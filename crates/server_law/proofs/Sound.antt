@@ -3,9 +3,9 @@ use Rattle.std.proofs.Common.{◌≡◌, ◌≢◌, ℕ, ◌+◌, ◌==◌, Bool
 use Rattle.exchange_defs.specs.Commands.{CreateRequest, Durable, Element, deletes_on_close}
 use Rattle.exchange_defs.specs.State.{Server, Message, Origin}
 use Rattle.exchange_defs.specs.Files.{root}
-use Rattle.exchange_defs.specs.Opens.{mark_records, shut_records, gone_records, leave_records, leave_open, drop_open, marked_by, goes}
+use Rattle.exchange_defs.specs.Opens.{pending_records, shut_records, gone_records, leave_records, leave_open, drop_open, pending_behind, goes}
 use Rattle.exchange_defs.specs.Records.{origin_of}
-use Rattle.exchange_defs.specs.Verdict.{Verdict, Refuse, Give, KeepRefusal, Repeat, Attach, Make, TurnDown, Tell, Show, KeepSlot, PutRanges, Alter, Shut, Challenge, ChallengeBinding, Begin, Join, EndSession, AddTree, DropTree, Change, PutBytes, PutEnd, PutBasic, PutMark, PutPath, PutNothing}
+use Rattle.exchange_defs.specs.Verdict.{Verdict, Refuse, Give, KeepRefusal, Repeat, Attach, Make, TurnDown, Tell, Show, KeepSlot, PutRanges, Alter, CloseOpen, Challenge, ChallengeBinding, Begin, Join, EndSession, AddTree, DropTree, Change, PutBytes, PutEnd, PutBasic, PutDeletePending, PutPath, PutNothing}
 use Rattle.exchange_defs.specs.Effects.{apply, new_file, new_open, create_records, is_persistent, lock_records, change_records, plain_of, leave_all_records, end_records, records_if_named}
 use Rattle.exchange_defs.specs.Step.{expire_records, ends_with, take_out, take_all_records}
 use Rattle.server_law.specs.Fits.{Fits, all_sound, keeps_root}
@@ -20,11 +20,11 @@ unfolding gone_records
 sound_gone s origin f = either (λ rs. all_sound rs ≡ true) (goes s f) _ _ (λ _. sound_one _ refl) (λ _. sound_none)
 
 sound_leave : (s : Server) (origin : Origin) (o : ℕ) → all_sound (leave_records s origin o) ≡ true
-unfolding leave_records mark_records shut_records
+unfolding leave_records pending_records shut_records
 sound_leave s origin o =
-    sound_more _ _ (either (λ rs. all_sound rs ≡ true) (not (s.opened o).persistent && (deletes_on_close (s.opened o).options && not (s.marked (s.opened o).file))) _ _ (λ _. sound_one _ refl) (λ _. sound_none))
+    sound_more _ _ (either (λ rs. all_sound rs ≡ true) (not (s.opened o).persistent && (deletes_on_close (s.opened o).options && not (s.delete_pending (s.opened o).file))) _ _ (λ _. sound_one _ refl) (λ _. sound_none))
     (sound_more _ _ (either (λ rs. all_sound rs ≡ true) (s.opened o).persistent _ _ (λ _. sound_one _ refl) (λ _. sound_none))
-    (sound_gone (drop_open (marked_by s o) o) origin (s.opened o).file))
+    (sound_gone (drop_open (pending_behind s o) o) origin (s.opened o).file))
 
 sound_leave_all : (s : Server) (origin : Origin) (os : List ℕ) → all_sound (leave_all_records s origin os) ≡ true
 unfolding leave_all_records
@@ -42,7 +42,7 @@ sound_named s origin (Some session) is_quiet = sound_end s origin session is_qui
 
 pub sound_expiry : (s : Server) (origin : Origin) (o : ℕ) → all_sound (expire_records s origin o) ≡ true
 unfolding expire_records all_sound
-sound_expiry s origin o = sound_gone (drop_open (marked_by s o) o) origin (s.opened o).file
+sound_expiry s origin o = sound_gone (drop_open (pending_behind s o) o) origin (s.opened o).file
 
 pub sound_take_all : (s : Server) (ks : List ℕ) (now : ℕ) (is_quiet : Bool) → all_sound (take_all_records s ks now is_quiet) ≡ true
 unfolding take_all_records
@@ -77,7 +77,7 @@ unfolding change_records
 sound_change m f now (PutBytes at bytes) = sound_one _ refl
 sound_change m f now (PutEnd size) = sound_one _ refl
 sound_change m f now (PutBasic basic) = sound_one _ refl
-sound_change m f now (PutMark flag) = sound_one _ refl
+sound_change m f now (PutDeletePending flag) = sound_one _ refl
 sound_change m f now (PutPath replaced path) = sound_one _ refl
 sound_change m f now PutNothing = sound_none
 
@@ -94,7 +94,7 @@ applied_sound s m now (Show o last body) i f = sound_none
 applied_sound s m now (KeepSlot o index number status elements) i f = sound_lock s m o index number status elements
 applied_sound s m now (PutRanges o index number ranges elements) i f = sound_lock s m o index number _ elements
 applied_sound s m now (Alter o change body) i f = sound_change m (s.opened o).file now change
-applied_sound s m now (Shut o body) i f = sound_leave s (origin_of m) o
+applied_sound s m now (CloseOpen o body) i f = sound_leave s (origin_of m) o
 applied_sound s m now Challenge i f = sound_none
 applied_sound s m now (ChallengeBinding session) i f = sound_none
 applied_sound s m now (Begin session user previous r is_quiet) i f = sound_named s (origin_of m) previous is_quiet

@@ -11,11 +11,11 @@ use Rattle.exchange_defs.specs.Fold.{full_room}
 
 -- an open that is attached stands, and its session is there
 abbrev pub Attached : Server → Type 0
-Attached s = (o x : ℕ) → s.at o ≡ Some x → s.standing o ≡ true × s.present x ≡ true
+Attached s = (o x : ℕ) → s.session_of_open o ≡ Some x → s.standing o ≡ true × s.present x ≡ true
 
 -- a plain open that stands has a session
 abbrev pub PlainAttached : Server → Type 0
-PlainAttached s = (o : ℕ) → s.standing o ≡ true → (s.opened o).persistent ≡ false → is_some (s.at o) ≡ true
+PlainAttached s = (o : ℕ) → s.standing o ≡ true → (s.opened o).persistent ≡ false → is_some (s.session_of_open o) ≡ true
 
 -- a guid names exactly the open that stands with it
 abbrev pub GuidOpen : Server → Type 0
@@ -30,7 +30,7 @@ PersistentGuid s = (o : ℕ) → s.standing o ≡ true → (s.opened o).persiste
 
 -- an open without a session alone has a deadline
 abbrev pub Deadlines : Server → Type 0
-Deadlines s = (o d : ℕ) → s.deadline o ≡ Some d → s.at o ≡ None
+Deadlines s = (o d : ℕ) → s.deadline o ≡ Some d → s.session_of_open o ≡ None
 
 -- the list of opens is the table of those that stand, in ascending order
 abbrev pub Listed : Server → Type 0
@@ -47,31 +47,31 @@ Ascending s = is_ascending s.opens ≡ true
 -- ---- ids
 
 abbrev pub OpenIds : Server → Type 0
-OpenIds s = (o : ℕ) → s.standing o ≡ true → 0 < o × o ≤ id_of s.epoch s.given
+OpenIds s = (o : ℕ) → s.standing o ≡ true → 0 < o × o ≤ id_of s.epoch s.open_ids_given
 
 abbrev pub Given : Server → Type 0
-Given s = s.given ≤ max_ids
+Given s = s.open_ids_given ≤ max_ids
 
 abbrev pub Begun : Server → Type 0
-Begun s = s.begun ≤ max_ids
+Begun s = s.session_ids_given ≤ max_ids
 
 abbrev pub SessionIds : Server → Type 0
-SessionIds s = (x : ℕ) → s.present x ≡ true → 0 < x × x ≤ id_of s.epoch s.begun
+SessionIds s = (x : ℕ) → s.present x ≡ true → 0 < x × x ≤ id_of s.epoch s.session_ids_given
 
 -- a session in the making has an id of its own, and isn't there yet
 abbrev pub MakingIds : Server → Type 0
-MakingIds s = (k x : ℕ) → s.making k ≡ Some (NewSession x) → 0 < x × x ≤ id_of s.epoch s.begun × s.present x ≡ false
+MakingIds s = (k x : ℕ) → s.making k ≡ Some (NewSession x) → 0 < x × x ≤ id_of s.epoch s.session_ids_given × s.present x ≡ false
 
 abbrev pub MakingOnce : Server → Type 0
 MakingOnce s = (j k x : ℕ) → s.making j ≡ Some (NewSession x) → s.making k ≡ Some (NewSession x) → j ≡ k
 
 -- a connection's live session is there
 abbrev pub OnPresent : Server → Type 0
-OnPresent s = (k x : ℕ) → s.on k ≡ Some x → s.present x ≡ true
+OnPresent s = (k x : ℕ) → s.session_on k ≡ Some x → s.present x ≡ true
 
 -- where a session is live nothing is in the making
 abbrev pub OnMade : Server → Type 0
-OnMade s = (k x : ℕ) → s.on k ≡ Some x → s.making k ≡ None
+OnMade s = (k x : ℕ) → s.session_on k ≡ Some x → s.making k ≡ None
 
 -- ---- what a session keeps
 
@@ -105,8 +105,8 @@ RangeOwners s = (f n : ℕ) (r : Range) → slice_get (s.ranges f) n ≡ Some r 
 abbrev pub NotRoot : Server → Type 0
 NotRoot s = (o : ℕ) → deletes_on_close (s.opened o).options ≡ true → (s.opened o).file ≢ root
 
-abbrev pub RootUnmarked : Server → Type 0
-RootUnmarked s = s.marked root ≡ false
+abbrev pub RootStays : Server → Type 0
+RootStays s = s.delete_pending root ≡ false
 
 -- the file of an open is there
 abbrev pub OpenFiles : Server → Type 0
@@ -146,7 +146,7 @@ pub record Fits (s : Server) : Type 0 where
   pub tree_ids : TreeIds s
   pub range_owners : RangeOwners s
   pub not_root : NotRoot s
-  pub root_unmarked : RootUnmarked s
+  pub root_stays : RootStays s
   pub open_files : OpenFiles s
   pub next_file : NextFile s
   pub file_numbers : FileNumbers s

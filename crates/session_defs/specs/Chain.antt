@@ -1,4 +1,4 @@
--- The preauthentication integrity hash: a chain of SHA-512 over whole messages, each from its header on (MS-SMB2 3.1.4.4.1).
+-- The preauthentication integrity hash: a chain of SHA-512 over whole messages, each from its header on (MS-SMB2 3.3.5.4, 3.3.5.5).
 use Rattle.std.specs.Prelude.{◌≡◌, ℕ, ◌≢◌, List, [], ◌∷◌, ◌++◌, replicate, Some, slice_get}
 use Rattle.sha2.specs.Sha512.{sha512}
 

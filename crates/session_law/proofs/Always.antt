@@ -72,8 +72,8 @@ begins z =
 bounds_of : (s : Server) → Fits s → Bounds s
 bounds_of s f = record { on_present = f.on_present; making_once = f.making_once; begun = f.begun }
 
-behind : (z : Settings) (es : List Event) (k : ℕ) → (happens (run es (start z)) (Serve k)).server.begun ≤ max_ids
-behind z es k = subst (λ w. w.server.begun ≤ max_ids) (run_more es (Serve k) (start z)) (fitting z (es ++ Serve k ∷ [])).begun
+behind : (z : Settings) (es : List Event) (k : ℕ) → (happens (run es (start z)) (Serve k)).server.session_ids_given ≤ max_ids
+behind z es k = subst (λ w. w.server.session_ids_given ≤ max_ids) (run_more es (Serve k) (start z)) (fitting z (es ++ Serve k ∷ [])).begun
 
 pub holds : (z : Settings) (es : List Event) → SessionsHold (run es (start z))
 holds z es =

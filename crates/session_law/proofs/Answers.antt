@@ -10,7 +10,7 @@ use Rattle.exchange_defs.specs.CheckSetup.{is_new, tree_in, previous_of}
 use Rattle.exchange_defs.specs.Opens.{leave_open}
 use Rattle.exchange_defs.specs.CheckOpen.{file_of}
 use Rattle.exchange_defs.specs.Effects.{apply, next_session, next_open, reach, set_ranges, file_made, end_if_named, open_row, new_file}
-use Rattle.exchange_defs.specs.Verdict.{Verdict, Refuse, Give, KeepRefusal, Repeat, Attach, Make, TurnDown, Tell, Show, KeepSlot, PutRanges, Alter, Shut, Challenge, ChallengeBinding, Begin, Join, EndSession, AddTree, DropTree}
+use Rattle.exchange_defs.specs.Verdict.{Verdict, Refuse, Give, KeepRefusal, Repeat, Attach, Make, TurnDown, Tell, Show, KeepSlot, PutRanges, Alter, CloseOpen, Challenge, ChallengeBinding, Begin, Join, EndSession, AddTree, DropTree}
 use Rattle.server_law.proofs.Doors.{recorded}
 use Rattle.session_law.specs.Sessions.{is_new_setup, is_tree_connect, is_logon, logon_user, logs_on, user_in, previous_in}
 use Rattle.session_law.proofs.Checks.{Found, Begun, asks}
@@ -33,8 +33,8 @@ pub record Facts (s : Server) (m : Message) (A : Answer) : Type 0 where
   pub enters : begins ≡ true → Enters s m A
   pub making : (k y : ℕ) → is_new y (A.server.making k) ≡ true → (challenges ≡ true → y ≢ next_session s) → is_new y (s.making k) ≡ true
   pub epoch : A.server.epoch ≡ s.epoch
-  pub counted : challenges ≡ true → A.server.begun ≡ s.begun + 1 × A.reply.session ≡ next_session s × is_new_setup m.command ≡ true
-  pub uncounted : challenges ≡ false → A.server.begun ≡ s.begun × A.reply.session ≡ m.session
+  pub counted : challenges ≡ true → A.server.session_ids_given ≡ s.session_ids_given + 1 × A.reply.session ≡ next_session s × is_new_setup m.command ≡ true
+  pub uncounted : challenges ≡ false → A.server.session_ids_given ≡ s.session_ids_given × A.reply.session ≡ m.session
   pub once : begins ≡ true → challenges ≡ false
   pub welcome : A.reply.status ≡ success → is_new_setup m.command ≡ true → m.fault ≡ None → begins ≡ true
   pub interim : A.reply.status ≡ more_processing_required → is_new_setup m.command ≡ true → m.fault ≡ None → challenges ≡ true
@@ -42,7 +42,7 @@ pub record Facts (s : Server) (m : Message) (A : Answer) : Type 0 where
   pub connected : A.reply.status ≡ success → is_tree_connect m.command ≡ true → m.fault ≡ None → is_some (tree_in (A.server.trees m.session) A.reply.tree) ≡ true
   pub opens : (o : ℕ) → A.server.standing o ≡ true → (makes ≡ true → o ≢ next_open s) → s.standing o ≡ true
   pub rows : (o : ℕ) → (makes ≡ true → o ≢ next_open s) → A.server.opened o ≡ s.opened o
-  pub maker : makes ≡ true → (A.server.opened (next_open s)).user ≡ s.user m.session × (A.server.opened (next_open s)).client ≡ m.client × s.on m.connection ≡ Some m.session
+  pub maker : makes ≡ true → (A.server.opened (next_open s)).user ≡ s.user m.session × (A.server.opened (next_open s)).client ≡ m.client × s.session_on m.connection ≡ Some m.session
 
 -- ---- answers that leave sessions alone
 
@@ -73,7 +73,7 @@ quiet_facts s m A q own d =
       making = λ k y e n. ap (λ f. is_new y (f k)) (sym q.making) ∙ e;
       epoch = q.epoch;
       counted = λ e. absurd (cc);
-      uncounted = λ e. (q.begun, own);
+      uncounted = λ e. (q.session_ids_given, own);
       once = λ e. absurd (cc);
       welcome = λ e n f. not_it A.reply.status success (d (asks_setup m.command n) f).0 e _;
       interim = λ e n f. not_it A.reply.status more_processing_required (d (asks_setup m.command n) f).1 e _;
@@ -87,7 +87,7 @@ quiet_facts s m A q own d =
 -- the journal grows
 stays_written : (s t : Server) (j : ℕ) → Stays s t → Stays s (record t { journal = j })
 stays_written s t j q =
-    record { present = q.present; user = q.user; trees = q.trees; next_tree = q.next_tree; epoch = q.epoch; given = q.given; begun = q.begun; making = q.making; on = q.on; opened = q.opened; standing = q.standing }
+    record { present = q.present; user = q.user; trees = q.trees; next_tree = q.next_tree; epoch = q.epoch; open_ids_given = q.open_ids_given; session_ids_given = q.session_ids_given; making = q.making; session_on = q.session_on; opened = q.opened; standing = q.standing }
 
 pub untold : (b : Bool) → b ≡ false → b ≡ true → (P : Type 0) → P
 untold b e f P = absurd (cc)
@@ -141,7 +141,7 @@ none_elsewhere f k j y e = grind arith
 -- an answer that makes no session, gives no id and makes no open
 silent_facts : (s : Server) (m : Message) (A : Answer) → asks m.command ≡ false
     → ((x : ℕ) → A.server.present x ≡ true → s.present x ≡ true) → A.server.user ≡ s.user → ((k y : ℕ) → is_new y (A.server.making k) ≡ true → is_new y (s.making k) ≡ true)
-    → A.server.epoch ≡ s.epoch → A.server.begun ≡ s.begun → A.reply.session ≡ m.session
+    → A.server.epoch ≡ s.epoch → A.server.session_ids_given ≡ s.session_ids_given → A.reply.session ≡ m.session
     → ((x id : ℕ) → A.server.present x ≡ true → m.command ≢ TreeDisconnect → is_some (tree_in (s.trees x) id) ≡ true → is_some (tree_in (A.server.trees x) id) ≡ true)
     → ((o : ℕ) → A.server.standing o ≡ true → s.standing o ≡ true) → A.server.opened ≡ s.opened → Facts s m A
 silent_facts s m A quiet present user making epoch begun own trees standing opened =
@@ -249,7 +249,7 @@ pub record Ends (s u : Server) (previous : Option ℕ) : Type 0 where
   pub user : u.user ≡ s.user
   pub making : u.making ≡ s.making
   pub epoch : u.epoch ≡ s.epoch
-  pub begun : u.begun ≡ s.begun
+  pub session_ids_given : u.session_ids_given ≡ s.session_ids_given
   pub trees : (x id : ℕ) → u.present x ≡ true → is_some (tree_in (s.trees x) id) ≡ true → is_some (tree_in (u.trees x) id) ≡ true
   pub standing : (o : ℕ) → u.standing o ≡ true → s.standing o ≡ true
   pub opened : u.opened ≡ s.opened
@@ -260,14 +260,14 @@ off_itself f y x e = grind arith
 
 pub ends : (s : Server) (now : ℕ) (is_quiet : Bool) (previous : Option ℕ) → Ends s (end_if_named s now previous is_quiet) previous
 ends s now is_quiet None =
-    record { present = λ x p. p; user = refl; making = refl; epoch = refl; begun = refl; trees = λ x id p h. h; standing = λ o e. e; opened = refl; gone = λ x e. absurd (cc) }
+    record { present = λ x p. p; user = refl; making = refl; epoch = refl; session_ids_given = refl; trees = λ x id p h. h; standing = λ o e. e; opened = refl; gone = λ x e. absurd (cc) }
 ends s now is_quiet (Some session) =
     record {
       present = λ x p. put_off s.present session x p;
       user = refl;
       making = refl;
       epoch = refl;
-      begun = refl;
+      session_ids_given = refl;
       trees = λ x id p h. off_trees s.present s.trees session x id p h;
       standing = λ o e. fewer (s.standing o) _ e;
       opened = refl;
@@ -340,7 +340,7 @@ began s m now session user previous r is_quiet records b =
       making = λ k y e n. ap (λ f. is_new y (f k)) (sym q.making) ∙ none_elsewhere u.making m.connection k y e;
       epoch = q.epoch;
       counted = λ e. absurd (cc);
-      uncounted = λ e. (q.begun, refl);
+      uncounted = λ e. (q.session_ids_given, refl);
       once = λ e. refl;
       welcome = λ e n f. refl;
       interim = λ e n f. not_more _ e;
@@ -360,7 +360,7 @@ row_elsewhere f y x row d = grind arith
 row_itself : (f : ℕ → Open) (y : ℕ) (row : Open) → put f y row y ≡ row
 row_itself f y row = grind arith
 
-made_open : (s : Server) (m : Message) (now : ℕ) (r : CreateRequest) (found : Option ℕ) (action : ℕ) (records : List Record) → asks m.command ≡ false → s.on m.connection ≡ Some m.session
+made_open : (s : Server) (m : Message) (now : ℕ) (r : CreateRequest) (found : Option ℕ) (action : ℕ) (records : List Record) → asks m.command ≡ false → s.session_on m.connection ≡ Some m.session
     → Facts s m (recorded (apply s m now (Make r found action)) records)
 made_open s m now r found action records quiet on =
     let u = file_made s r found now in let q = stays_made s r found now in let row = open_row s m r (new_file s found) action in
@@ -374,7 +374,7 @@ made_open s m now r found action records quiet on =
       making = λ k y e n. ap (λ f. is_new y (f k)) (sym q.making) ∙ e;
       epoch = q.epoch;
       counted = λ e. absurd (cc);
-      uncounted = λ e. (q.begun, refl);
+      uncounted = λ e. (q.session_ids_given, refl);
       once = λ e. absurd (cc);
       welcome = λ e n f. untold (asks m.command) quiet (asks_setup m.command n) _;
       interim = λ e n f. untold (asks m.command) quiet (asks_setup m.command n) _;
@@ -406,8 +406,8 @@ by_verdicts s m now records (PutRanges o index number ranges elements) f =
     (stays_so s a _ (stays_reached s m o) (stays_so a b _ (stays_ranged a (file_of s o) ranges) (stays_kept b o index number success))) refl f.0
 by_verdicts s m now records (Alter o change body) f =
     quiet_by s m (apply s m now (Alter o change body)) records (stays_so s (reach s m o) _ (stays_reached s m o) (stays_changed (reach s m o) (file_of s o) now change)) refl f.0
-by_verdicts s m now records (Shut o body) f =
-    quiet_by s m (apply s m now (Shut o body)) records (stays_so s (leave_open s o) _ (stays_left s o) (stays_closed (leave_open s o) m.session (s.opened o).guid)) refl f.0
+by_verdicts s m now records (CloseOpen o body) f =
+    quiet_by s m (apply s m now (CloseOpen o body)) records (stays_so s (leave_open s o) _ (stays_left s o) (stays_closed (leave_open s o) m.session (s.opened o).guid)) refl f.0
 by_verdicts s m now records Challenge f = challenged s m now records f
 by_verdicts s m now records (ChallengeBinding session) f = challenged_binding s m now session records f
 by_verdicts s m now records (Begin session user previous r is_quiet) f = began s m now session user previous r is_quiet records f

@@ -53,7 +53,7 @@ pub same_begun : (c : Client) (k g i : ℕ) → SameChannels c (outstanding (beg
 same_begun c k g i =
     let P : Client → Type 0 = λ d. SameChannels c (outstanding d k g) in
     either P (c.sent g) (again c g) (begin c g i)
-    (λ _. either P (is_lock (c.op g)) (record c { retried = put2 c.retried (create_for c g) (c.slot_of g) c.number }) c (λ _. record { ready = refl; stage = refl; making = refl; channels = refl; live = refl }) (λ _. record { ready = refl; stage = refl; making = refl; channels = refl; live = refl }))
+    (λ _. either P (is_lock (c.op g)) (record c { retried = put2 c.retried (create_for c g) (c.slot_of g) c.session_number }) c (λ _. record { ready = refl; stage = refl; making = refl; channels = refl; live = refl }) (λ _. record { ready = refl; stage = refl; making = refl; channels = refl; live = refl }))
     (λ _. either P (is_lock (c.op g)) (record (take_slot c g i) { sent = put c.sent g true }) (record c { sent = put c.sent g true }) (λ _. record { ready = refl; stage = refl; making = refl; channels = refl; live = refl }) (λ _. record { ready = refl; stage = refl; making = refl; channels = refl; live = refl }))
 
 same_asked : (c : Client) (k g : ℕ) → SameChannels c (asked c k g)
@@ -61,9 +61,9 @@ same_asked c k g = record { ready = refl; stage = refl; making = refl; channels 
 
 same_noted : (c : Client) (g : ℕ) (o : Outcome) (body : Body) → SameChannels c (noted c g o body)
 same_noted c g (WasOk reply) body =
-    either (λ d. SameChannels c d) (is_create (c.op g)) (record c { file = put c.file g (id_in body); attached = put c.attached g c.number }) (if is_close (c.op g) then record c { shut = put c.shut (create_for c g) true } else c)
+    either (λ d. SameChannels c d) (is_create (c.op g)) (record c { file = put c.file g (id_in body); attached = put c.attached g c.session_number }) (if is_close (c.op g) then record c { closed_ok = put c.closed_ok (create_for c g) true } else c)
     (λ _. record { ready = refl; stage = refl; making = refl; channels = refl; live = refl })
-    (λ _. either (λ d. SameChannels c d) (is_close (c.op g)) (record c { shut = put c.shut (create_for c g) true }) c (λ _. record { ready = refl; stage = refl; making = refl; channels = refl; live = refl }) (λ _. itself c))
+    (λ _. either (λ d. SameChannels c d) (is_close (c.op g)) (record c { closed_ok = put c.closed_ok (create_for c g) true }) c (λ _. record { ready = refl; stage = refl; making = refl; channels = refl; live = refl }) (λ _. itself c))
 same_noted c g Unsettled body = itself c
 same_noted c g (WasRefused status) body = itself c
 same_noted c g (NoSlot create) body = itself c

@@ -5,7 +5,7 @@ use Rattle.exchange_defs.specs.Texts.{same_name}
 use Rattle.exchange_defs.specs.Commands.{Command, Unreadable, Aside, Setup, Logoff, TreeConnect, TreeDisconnect, Create, Close, Flush, Read, Write, Lock, Ioctl, ListDirectory, QueryFile, QueryVolume, SetInfo, Element, SetupRequest, CreateRequest, Durable, Shows, Begins, Bad, Refused, Logon, Setting, form, is_setup, no_file}
 use Rattle.exchange_defs.specs.State.{Server, Message, Named}
 use Rattle.exchange_defs.specs.Opens.{max_ids}
-use Rattle.exchange_defs.specs.Verdict.{Verdict, Refuse, Give, KeepRefusal, Repeat, Attach, Make, TurnDown, Tell, Show, KeepSlot, PutRanges, Alter, Shut, Challenge, ChallengeBinding, Begin, Join, EndSession, AddTree, DropTree}
+use Rattle.exchange_defs.specs.Verdict.{Verdict, Refuse, Give, KeepRefusal, Repeat, Attach, Make, TurnDown, Tell, Show, KeepSlot, PutRanges, Alter, CloseOpen, Challenge, ChallengeBinding, Begin, Join, EndSession, AddTree, DropTree}
 use Rattle.exchange_defs.specs.CheckCreate.{create_check, refused_by}
 use Rattle.exchange_defs.specs.CheckOpen.{close_check, flush_check, read_check, write_check, lock_check, ioctl_check, free_ioctl_check, list_check, file_query_check, volume_query_check, set_check, listing_of}
 use Rattle.exchange_defs.specs.CheckSetup.{session_check, binding_check, second_token, first_token, granted_session, previous_of, setup_check, tree_check, tree_in, is_new, max_sessions, pipes_name, no_tree_left}
@@ -30,7 +30,7 @@ pub record Begun (s : Server) (m : Message) (session : ℕ) (user : List ℕ) (p
   pub before : previous ≡ previous_of s user r.previous
 
 abbrev pub OnFile : Server → Message → Type 0
-OnFile s m = asks m.command ≡ false × s.on m.connection ≡ Some m.session
+OnFile s m = asks m.command ≡ false × s.session_on m.connection ≡ Some m.session
 
 abbrev pub Found : Server → Message → Verdict → Type 0
 Found s m (Refuse status) = asks m.command ≡ true → m.fault ≡ None → (status == success) ≡ false × (status == more_processing_required) ≡ false
@@ -45,7 +45,7 @@ Found s m (Show o last body) = OnFile s m
 Found s m (KeepSlot o index number status elements) = OnFile s m
 Found s m (PutRanges o index number ranges elements) = OnFile s m
 Found s m (Alter o change body) = OnFile s m
-Found s m (Shut o body) = OnFile s m
+Found s m (CloseOpen o body) = OnFile s m
 Found s m Challenge = is_new_setup m.command ≡ true
 Found s m (ChallengeBinding session) = asks m.command ≡ false
 Found s m (Begin session user previous r is_quiet) = Begun s m session user previous r
@@ -62,7 +62,7 @@ Asked m r = m.command ≡ Setup r × r.binding ≡ false
 granted : (s : Server) (m : Message) (r : SetupRequest) (user : List ℕ) → Asked m r → s.present m.session ≡ false → is_new m.session (s.making m.connection) ≡ true → r.shows ≡ Logon user → Found s m (granted_session s m r user)
 granted s m r user q apart made shows =
     let P : Verdict → Type 0 = λ v. Found s m v in
-    either P (s.seals && (r.cipher == 0)) _ _ (λ _ a f. (refl, refl))
+    either P (s.encrypts && (r.cipher == 0)) _ _ (λ _ a f. (refl, refl))
     (λ _. either P (nat_le max_sessions s.sessions) _ _ (λ _ a f. (refl, refl))
     (λ _. record { command = q.0; unbound = q.1; own = refl; logon = ap is_logon shows; its_user = ap logon_user (sym shows); made = made; apart = apart; before = refl }))
 
@@ -77,7 +77,7 @@ unfolding is_new_setup
 asks_new m r q = ap is_new_setup q.0 ∙ ap not q.1
 
 first : (s : Server) (m : Message) (r : SetupRequest) → Asked m r → (shows : Shows) → Found s m (first_token s shows)
-first s m r q Begins = either (λ v. Found s m v) (nat_le max_ids s.begun) (Refuse insufficient_resources) Challenge (λ _ a f. (refl, refl)) (λ _. asks_new m r q)
+first s m r q Begins = either (λ v. Found s m v) (nat_le max_ids s.session_ids_given) (Refuse insufficient_resources) Challenge (λ _ a f. (refl, refl)) (λ _. asks_new m r q)
 first s m r q Bad = λ a f. (refl, refl)
 first s m r q Refused = λ a f. (refl, refl)
 first s m r q (Logon user) = λ a f. (refl, refl)
@@ -85,7 +85,7 @@ first s m r q (Logon user) = λ a f. (refl, refl)
 new_session : (s : Server) (m : Message) (r : SetupRequest) → Asked m r → Found s m (session_check s m r)
 new_session s m r q =
     let P : Verdict → Type 0 = λ v. Found s m v in
-    either P (m.session == 0) _ _ (λ _. either P (is_some (s.on m.connection)) _ _ (λ _ a f. (refl, refl)) (λ _. first s m r q r.shows))
+    either P (m.session == 0) _ _ (λ _. either P (is_some (s.session_on m.connection)) _ _ (λ _ a f. (refl, refl)) (λ _. first s m r q r.shows))
     (λ _. either P (s.present m.session) _ _ (λ _ a f. (refl, refl))
     (λ apart. either P (is_new m.session (s.making m.connection)) _ _ (λ made. second s m r q apart made r.shows refl) (λ _ a f. (refl, refl))))
 
@@ -147,10 +147,10 @@ on_file (Show o last body) = true
 on_file (KeepSlot o index number status elements) = true
 on_file (PutRanges o index number ranges elements) = true
 on_file (Alter o change body) = true
-on_file (Shut o body) = true
+on_file (CloseOpen o body) = true
 on_file _ = false
 
-by_file : (s : Server) (m : Message) → asks m.command ≡ false → s.on m.connection ≡ Some m.session → (v : Verdict) → on_file v ≡ true → Found s m v
+by_file : (s : Server) (m : Message) → asks m.command ≡ false → s.session_on m.connection ≡ Some m.session → (v : Verdict) → on_file v ≡ true → Found s m v
 by_file s m n o (Refuse status) b = λ a f. untold (asks m.command) n a _
 by_file s m n o (Give body) b = (n, o)
 by_file s m n o (KeepRefusal guid status) b = (n, o)
@@ -163,7 +163,7 @@ by_file s m n o (Show i last body) b = (n, o)
 by_file s m n o (KeepSlot i index number status elements) b = (n, o)
 by_file s m n o (PutRanges i index number ranges elements) b = (n, o)
 by_file s m n o (Alter i change body) b = (n, o)
-by_file s m n o (Shut i body) b = (n, o)
+by_file s m n o (CloseOpen i body) b = (n, o)
 by_file s m n o _ b = absurd (cc)
 
 file_create : (s : Server) (m : Message) (r : CreateRequest) (pipes : Bool) → on_file (create_check s m r pipes) ≡ true
@@ -247,7 +247,7 @@ file_in_tree : (s : Server) (m : Message) (pipes : Option Bool) → plain m.comm
 file_in_tree s m None p = refl
 file_in_tree s m (Some pipes) p = file_tree s m pipes m.command p
 
-with_a_tree : (s : Server) (m : Message) → plain m.command ≡ true → s.on m.connection ≡ Some m.session → Found s m (with_tree s m)
+with_a_tree : (s : Server) (m : Message) → plain m.command ≡ true → s.session_on m.connection ≡ Some m.session → Found s m (with_tree s m)
 with_a_tree s m p o = by_file s m (plain_asks m.command p) o (with_tree s m) (file_in_tree s m (tree_in (s.trees m.session) m.tree) p)
 
 not_asks : (m : Message) (c : Command) → asks c ≡ false → m.command ≡ c → (n : Bool) → n ≡ asks m.command → n ≡ false
@@ -265,7 +265,7 @@ refuse_plain : (s : Server) (m : Message) (c : Command) (status : ℕ) → plain
 refuse_plain s m c status p e = λ a f. untold (asks m.command) (ap asks e ∙ plain_asks c p) a _
 
 -- the command, where its session is there or it is a SESSION_SETUP
-of_command : (s : Server) (m : Message) → (is_setup m.command ≡ false → s.on m.connection ≡ Some m.session) → (c : Command) → m.command ≡ c → Found s m (command_check s m c)
+of_command : (s : Server) (m : Message) → (is_setup m.command ≡ false → s.session_on m.connection ≡ Some m.session) → (c : Command) → m.command ≡ c → Found s m (command_check s m c)
 of_command s m o (Unreadable status) e = refuse_plain s m (Unreadable status) status refl e
 of_command s m o (Setup request) e = setups s m request e
 of_command s m o Logoff e = log_off m e
@@ -294,18 +294,18 @@ setup_form _ status a e = absurd (cc)
 refuse_form : (s : Server) (m : Message) (status : ℕ) → form m.command ≡ Some status → Found s m (Refuse status)
 refuse_form s m status e = λ a f. subst (λ x. (x == success) ≡ false × (x == more_processing_required) ≡ false) (sym (setup_form m.command status a e)) (refl, refl)
 
-of_form : (s : Server) (m : Message) → (is_setup m.command ≡ false → s.on m.connection ≡ Some m.session) → (o : Option ℕ) → form m.command ≡ o → Found s m (formed s m o)
+of_form : (s : Server) (m : Message) → (is_setup m.command ≡ false → s.session_on m.connection ≡ Some m.session) → (o : Option ℕ) → form m.command ≡ o → Found s m (formed s m o)
 of_form s m o (Some status) e = refuse_form s m status e
 of_form s m o None e = of_command s m o m.command refl
 
-of_fault : (s : Server) (m : Message) → (is_setup m.command ≡ false → s.on m.connection ≡ Some m.session) → (o : Option ℕ) → m.fault ≡ o → Found s m (owed s m o)
+of_fault : (s : Server) (m : Message) → (is_setup m.command ≡ false → s.session_on m.connection ≡ Some m.session) → (o : Option ℕ) → m.fault ≡ o → Found s m (owed s m o)
 of_fault s m o (Some status) e = λ a f. absurd (cc)
 of_fault s m o None e = of_form s m o (form m.command) refl
 
 pub found : (s : Server) (m : Message) → Found s m (check s m)
 found s m =
     either (λ v. Found s m v) (is_setup m.command || has_session s m) (owed s m m.fault) (Refuse user_session_deleted)
-    (λ e. of_fault s m (λ n. at_of m.session (s.on m.connection) (other_on (is_setup m.command) (has_session s m) e n)) m.fault refl)
+    (λ e. of_fault s m (λ n. at_of m.session (s.session_on m.connection) (other_on (is_setup m.command) (has_session s m) e n)) m.fault refl)
     (λ _ a f. (refl, refl))
 
 -- ---- where the records don't fit
@@ -327,7 +327,7 @@ found_full s m (Show o last body) f = f
 found_full s m (KeepSlot o index number status elements) f = f
 found_full s m (PutRanges o index number ranges elements) f = f
 found_full s m (Alter o change body) f = f
-found_full s m (Shut o body) f = f
+found_full s m (CloseOpen o body) f = f
 found_full s m Challenge f = f
 found_full s m (ChallengeBinding session) f = f
 found_full s m (Begin session user previous r is_quiet) f = f

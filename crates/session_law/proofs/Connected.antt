@@ -5,7 +5,7 @@ use Rattle.exchange_defs.specs.CheckSetup.{is_new, tree_in}
 use Rattle.exchange_defs.specs.Opens.{id_of, max_ids}
 use Rattle.exchange_defs.specs.Effects.{end_if_named}
 use Rattle.exchange_defs.specs.Records.{fits, origin_at}
-use Rattle.exchange_defs.specs.Step.{step, table, expiring, with_deadlines, due, expire, expire_records, connection_of, max_marks, Ruling, TakesIn, TurnsAway, TakesOut, ruling, ruling_without_room, carried_out, ends_with, take_out}
+use Rattle.exchange_defs.specs.Step.{step, table, expiring, with_deadlines, due, expire, expire_records, connection_of, max_expired_guids, Ruling, TakesIn, TurnsAway, TakesOut, ruling, ruling_without_room, carried_out, ends_with, take_out}
 use Rattle.exchange_defs.specs.Fold.{fold, recovered_from, recovery_records}
 use Rattle.exchange_defs.specs.Client.{Client}
 use Rattle.server_law.proofs.Doors.{Before}
@@ -24,7 +24,7 @@ pub record Falls (s u : Server) : Type 0 where
   pub user : u.user ≡ s.user
   pub making : (k y : ℕ) → is_new y (u.making k) ≡ true → is_new y (s.making k) ≡ true
   pub epoch : u.epoch ≡ s.epoch
-  pub begun : u.begun ≡ s.begun
+  pub session_ids_given : u.session_ids_given ≡ s.session_ids_given
   pub trees : (x id : ℕ) → u.present x ≡ true → is_some (tree_in (s.trees x) id) ≡ true → is_some (tree_in (u.trees x) id) ≡ true
   pub standing : (o : ℕ) → u.standing o ≡ true → s.standing o ≡ true
   pub opened : u.opened ≡ s.opened
@@ -36,7 +36,7 @@ falls_stays s t u q f =
       user = f.user ∙ q.user;
       making = λ k y e. ap (λ g. is_new y (g k)) (sym q.making) ∙ f.making k y e;
       epoch = f.epoch ∙ q.epoch;
-      begun = f.begun ∙ q.begun;
+      session_ids_given = f.session_ids_given ∙ q.session_ids_given;
       trees = λ x id p h. f.trees x id p (ap (λ g. is_some (tree_in (g x) id)) q.trees ∙ h);
       standing = λ o e. q.standing o (f.standing o e);
       opened = f.opened ∙ q.opened;
@@ -44,7 +44,7 @@ falls_stays s t u q f =
 
 falls_written : (s u : Server) (j : ℕ) → Falls s u → Falls s (record u { journal = j })
 falls_written s u j f =
-    record { present = f.present; user = f.user; making = f.making; epoch = f.epoch; begun = f.begun; trees = f.trees; standing = f.standing; opened = f.opened }
+    record { present = f.present; user = f.user; making = f.making; epoch = f.epoch; session_ids_given = f.session_ids_given; trees = f.trees; standing = f.standing; opened = f.opened }
 
 falls_out : (s : Server) (now k : ℕ) (is_quiet : Bool) → Falls s (take_out s k now is_quiet)
 falls_out s now k is_quiet =
@@ -54,15 +54,15 @@ falls_out s now k is_quiet =
       user = q.user;
       making = λ j y e. ap (λ g. is_new y (g j)) (sym q.making) ∙ none_elsewhere u.making k j y e;
       epoch = q.epoch;
-      begun = q.begun;
+      session_ids_given = q.session_ids_given;
       trees = q.trees;
       standing = q.standing;
       opened = q.opened;
     }
 
 falls_rule : (s : Server) (now : ℕ) (r : Ruling) → connects r ≡ true → Falls s (carried_out s now r).server
-falls_rule s now (TakesIn k) c = record { present = λ x p. p; user = refl; making = λ k y e. e; epoch = refl; begun = refl; trees = λ x id p h. h; standing = λ o e. e; opened = refl }
-falls_rule s now TurnsAway c = record { present = λ x p. p; user = refl; making = λ k y e. e; epoch = refl; begun = refl; trees = λ x id p h. h; standing = λ o e. e; opened = refl }
+falls_rule s now (TakesIn k) c = record { present = λ x p. p; user = refl; making = λ k y e. e; epoch = refl; session_ids_given = refl; trees = λ x id p h. h; standing = λ o e. e; opened = refl }
+falls_rule s now TurnsAway c = record { present = λ x p. p; user = refl; making = λ k y e. e; epoch = refl; session_ids_given = refl; trees = λ x id p h. h; standing = λ o e. e; opened = refl }
 falls_rule s now (TakesOut k is_quiet) c = falls_out s now k is_quiet
 falls_rule s now _ c = absurd (cc)
 
@@ -79,7 +79,7 @@ falls_expiring : (s : Server) (now : ℕ) (e : ServerEvent) → AllFall s now e 
 falls_expiring s now e f None is = falls_table s now e f
 falls_expiring s now e f (Some o) is =
     let d = with_deadlines s now in let t = expire d o in let front = expire_records d (origin_at (connection_of e)) o in let A = carried_out t now (ruling t e) in let P : Answer → Type 0 = λ B. Falls s B.server in
-    either P (nat_le max_marks d.mark_count) (table d now e) _ (λ _. falls_table s now e f)
+    either P (nat_le max_expired_guids d.expired_count) (table d now e) _ (λ _. falls_table s now e f)
     (λ _. either P (fits d (front ++ A.records)) (record A { records = front ++ A.records }) (table d now e) (λ _. f t (ruling t e) (inr (o, is, refl)) (inl refl)) (λ _. falls_table s now e f))
 
 falls_step : (s : Server) (now : ℕ) (e : ServerEvent) → ((t : Server) → connects (ruling t e) ≡ true) → Falls s (step s now e).server
@@ -106,7 +106,7 @@ moves_falls c s u f unranked users opens =
       opens = λ o h. subst (λ g. (g o).user ≡ logon_user c.who.logon × (g o).client ≡ c.who.guid) (sym f.opened) (opens o (f.standing o h));
       making = λ k y l e. f.making k y e;
       unranked = λ k y e. unranked k y (f.making k y e);
-      ids = same_given s.epoch u.epoch s.begun u.begun f.epoch f.begun;
+      ids = same_given s.epoch u.epoch s.session_ids_given u.session_ids_given f.epoch f.session_ids_given;
       trees = λ x id r p h. f.trees x id p h;
     }
 
@@ -121,7 +121,7 @@ never b e f P = absurd (cc)
 none_made : (k y : ℕ) (f : ℕ → Option Making) → f k ≡ None → is_new y (f k) ≡ true → (P : Type 0) → P
 none_made k y f e h P = absurd (grind arith)
 
-pub moves_restart : (c : Client) (s : Server) (rs : List Record) → s.begun ≤ max_ids → Folds c.who.guid (logon_user c.who.logon) s.epoch (fold rs) → Moves c s (recovered_from s rs)
+pub moves_restart : (c : Client) (s : Server) (rs : List Record) → s.session_ids_given ≤ max_ids → Folds c.who.guid (logon_user c.who.logon) s.epoch (fold rs) → Moves c s (recovered_from s rs)
 moves_restart c s rs l f =
     let a = anew c.who.guid (logon_user c.who.logon) s rs f in let d = fold (rs ++ recovery_records rs) in
     record {
@@ -130,6 +130,6 @@ moves_restart c s rs l f =
       opens = a.folds.opens;
       making = λ k y m e. none_made k y d.making (a.folds.making k) e _;
       unranked = λ k y e. none_made k y d.making (a.folds.making k) e _;
-      ids = later_ids s.epoch d.epoch s.begun d.begun l a.folds.epoch a.begun;
+      ids = later_ids s.epoch d.epoch s.session_ids_given d.session_ids_given l a.folds.epoch a.session_ids_given;
       trees = λ x id r p h. never (d.present x) (a.folds.present x) p _;
     }

@@ -99,7 +99,7 @@ bound_tree = λ e. absurd (cc)
 
 -- what is known of the reply
 pub record Tells (w : World) (k : ℕ) (r : Reply) : Type 0 where
-  pub first : w.client.stage k ≡ SaidFirst false → r.status ≡ more_processing_required → w.client.rank r.session ≡ 0 × 0 < r.session × r.session ≤ id_of w.server.epoch w.server.begun
+  pub first : w.client.stage k ≡ SaidFirst false → r.status ≡ more_processing_required → w.client.rank r.session ≡ 0 × 0 < r.session × r.session ≤ id_of w.server.epoch w.server.session_ids_given
   pub second : w.client.stage k ≡ SaidSecond false → r.status ≡ success → (0 < w.client.rank w.client.accepted → w.server.present w.client.accepted ≡ false) × ((j : ℕ) → is_new w.client.pending (w.server.making j) ≡ false)
   pub tree : w.client.stage k ≡ AskedTree → r.status ≡ success → w.server.present w.client.accepted ≡ true → is_some (tree_in (w.server.trees w.client.accepted) r.tree) ≡ true
 

@@ -64,7 +64,7 @@ grows_ended w k session tree =
 
 grows_dialog : (w : World) (k : ℕ) (r : Reply) (d : DialogStep) → Grows w.client (dialog_took w k r d).client
 grows_dialog w k r (GoesOn s) = record { who = refl; ranked = λ x r. r }
-grows_dialog w k r Accepts = record { who = refl; ranked = ranked_on w.client.rank w.client.pending w.client.accepts }
+grows_dialog w k r Accepts = record { who = refl; ranked = ranked_on w.client.rank w.client.pending w.client.accepted_count }
 grows_dialog w k r Binds = grows_ended w k w.client.session w.client.tree
 grows_dialog w k r Readies = grows_ended w k w.client.pending r.tree
 grows_dialog w k r (Refuses status) = record { who = refl; ranked = λ x r. r }
@@ -132,7 +132,7 @@ signed_of c k id (SaidSecond true) e = (refl, refl)
 signed_of c k id (SaidSecond false) e = absurd (cc)
 signed_of c k id AskedTree e = absurd (cc)
 
-live_ranked : (c : Client) → (0 < c.number → 0 < c.rank c.session) → (c.live ≡ true → 0 < c.number) → c.live ≡ true → 0 < c.rank c.session
+live_ranked : (c : Client) → (0 < c.session_number → 0 < c.rank c.session) → (c.live ≡ true → 0 < c.session_number) → c.live ≡ true → 0 < c.rank c.session
 live_ranked c a b l = a (b l)
 
 signed_news : (w : World) (d : Client) → ((x : ℕ) → 0 < w.client.rank x → 0 < d.rank x) → ((k : ℕ) → is_bound (w.client.stage k) ≡ true → w.client.live ≡ true) → (w.client.live ≡ true → 0 < w.client.rank w.client.session) → News (Signed d) w

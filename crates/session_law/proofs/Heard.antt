@@ -34,8 +34,8 @@ elsewhere b x y z e n h = λ i. n h (i ∙ e)
 
 seen_facts : (s t : Server) (m : Message) (A : Answer) → Stays s t → Facts t m A → Facts s m A
 seen_facts s t m A q f =
-    let ns = same_id t.epoch s.epoch t.begun s.begun q.epoch q.begun in
-    let no = same_id t.epoch s.epoch t.given s.given q.epoch q.given in
+    let ns = same_id t.epoch s.epoch t.session_ids_given s.session_ids_given q.epoch q.session_ids_given in
+    let no = same_id t.epoch s.epoch t.open_ids_given s.open_ids_given q.epoch q.open_ids_given in
     record {
       begins = f.begins;
       challenges = f.challenges;
@@ -43,19 +43,19 @@ seen_facts s t m A q f =
       present = λ x p n. ap (λ g. g x) (sym q.present) ∙ f.present x p n;
       users = λ x p n. f.users x p n ∙ ap (λ g. g x) q.user;
       enters = λ e. seen_enters s t m A q (f.enters e);
-      making = λ k y e n. ap (λ g. is_new y (g k)) (sym q.making) ∙ f.making k y e (elsewhere f.challenges y (id_of t.epoch (t.begun + 1)) (id_of s.epoch (s.begun + 1)) ns n);
+      making = λ k y e n. ap (λ g. is_new y (g k)) (sym q.making) ∙ f.making k y e (elsewhere f.challenges y (id_of t.epoch (t.session_ids_given + 1)) (id_of s.epoch (s.session_ids_given + 1)) ns n);
       epoch = f.epoch ∙ q.epoch;
-      counted = λ e. let c = f.counted e in (c.0 ∙ ap (λ n. n + 1) q.begun, c.1 ∙ ns, c.2);
-      uncounted = λ e. let c = f.uncounted e in (c.0 ∙ q.begun, c.1);
+      counted = λ e. let c = f.counted e in (c.0 ∙ ap (λ n. n + 1) q.session_ids_given, c.1 ∙ ns, c.2);
+      uncounted = λ e. let c = f.uncounted e in (c.0 ∙ q.session_ids_given, c.1);
       once = f.once;
       welcome = f.welcome;
       interim = f.interim;
       trees = λ x id p a n h. f.trees x id (ap (λ g. g x) q.present ∙ p) a n (ap (λ g. is_some (tree_in (g x) id)) q.trees ∙ h);
       connected = f.connected;
-      opens = λ o e n. q.standing o (f.opens o e (elsewhere f.makes o (id_of t.epoch (t.given + 1)) (id_of s.epoch (s.given + 1)) no n));
-      rows = λ o n. f.rows o (elsewhere f.makes o (id_of t.epoch (t.given + 1)) (id_of s.epoch (s.given + 1)) no n) ∙ ap (λ g. g o) q.opened;
+      opens = λ o e n. q.standing o (f.opens o e (elsewhere f.makes o (id_of t.epoch (t.open_ids_given + 1)) (id_of s.epoch (s.open_ids_given + 1)) no n));
+      rows = λ o n. f.rows o (elsewhere f.makes o (id_of t.epoch (t.open_ids_given + 1)) (id_of s.epoch (s.open_ids_given + 1)) no n) ∙ ap (λ g. g o) q.opened;
       maker = λ e. let w = f.maker e in
-          (subst (λ i. (A.server.opened i).user ≡ s.user m.session) no (w.0 ∙ ap (λ g. g m.session) q.user), subst (λ i. (A.server.opened i).client ≡ m.client) no w.1, ap (λ g. g m.connection) (sym q.on) ∙ w.2);
+          (subst (λ i. (A.server.opened i).user ≡ s.user m.session) no (w.0 ∙ ap (λ g. g m.session) q.user), subst (λ i. (A.server.opened i).client ≡ m.client) no w.1, ap (λ g. g m.connection) (sym q.session_on) ∙ w.2);
     }
 
 pub before_stays : (s : Server) (now : ℕ) (t : Server) → Before s now t → Stays s t

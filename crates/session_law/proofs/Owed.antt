@@ -1,15 +1,15 @@
 -- The records that a step owes: none begins an epoch, and each open in them is this client's.
 use Rattle.std.proofs.Common.{◌≡◌, ℕ, ◌==◌, nat_le, Bool, true, false, not, ◌&&◌, List, [], ◌∷◌, ◌++◌, ◌⊎◌, inl, inr, refl, sym, subst, ◌∙◌, ap, Option, Some, None, length}
 use Rattle.exchange_defs.specs.Commands.{Command, CreateRequest, Durable, Element, Unreadable, Aside, Setup, Logoff, TreeConnect, TreeDisconnect, Create, Close, Flush, Read, Write, Lock, Ioctl, ListDirectory, QueryFile, QueryVolume, SetInfo, deletes_on_close}
-use Rattle.exchange_defs.specs.State.{Server, Message, ServerEvent, Accept, Heard, End, Origin, Answer, DeleteRecord, ShutRecord, RemoveRecord}
-use Rattle.exchange_defs.specs.Opens.{leave_open, leave_records, mark_records, shut_records, gone_records, goes, drop_open, marked_by}
+use Rattle.exchange_defs.specs.State.{Server, Message, ServerEvent, Accept, Heard, End, Origin, Answer, DeleteRecord, CloseRecord, RemoveRecord}
+use Rattle.exchange_defs.specs.Opens.{leave_open, leave_records, pending_records, shut_records, gone_records, goes, drop_open, pending_behind}
 use Rattle.exchange_defs.specs.Check.{check}
 use Rattle.exchange_defs.specs.CheckOpen.{file_of}
 use Rattle.exchange_defs.specs.Status.{success}
 use Rattle.exchange_defs.specs.Effects.{apply, create_records, new_open, lock_records, change_records, end_records, leave_all_records, records_if_named, is_persistent, plain_of}
 use Rattle.exchange_defs.specs.Records.{origin_at, origin_of, fits}
-use Rattle.exchange_defs.specs.Verdict.{Verdict, Refuse, Give, KeepRefusal, Repeat, Attach, Make, TurnDown, Tell, Show, KeepSlot, PutRanges, Alter, Shut, Challenge, ChallengeBinding, Begin, Join, EndSession, AddTree, DropTree, Change, PutBytes, PutEnd, PutBasic, PutMark, PutPath, PutNothing}
-use Rattle.exchange_defs.specs.Step.{step, table, expiring, with_deadlines, due, expire, expire_records, connection_of, max_marks, max_connections, Ruling, Says, TakesIn, TurnsAway, TakesOut, TakesAllOut, ruling, ruling_without_room, without_room, carried_out, ends_with}
+use Rattle.exchange_defs.specs.Verdict.{Verdict, Refuse, Give, KeepRefusal, Repeat, Attach, Make, TurnDown, Tell, Show, KeepSlot, PutRanges, Alter, CloseOpen, Challenge, ChallengeBinding, Begin, Join, EndSession, AddTree, DropTree, Change, PutBytes, PutEnd, PutBasic, PutDeletePending, PutPath, PutNothing}
+use Rattle.exchange_defs.specs.Step.{step, table, expiring, with_deadlines, due, expire, expire_records, connection_of, max_expired_guids, max_connections, Ruling, Says, TakesIn, TurnsAway, TakesOut, TakesAllOut, ruling, ruling_without_room, without_room, carried_out, ends_with}
 use Rattle.exchange_defs.specs.Network.{answer_to}
 use Rattle.server_law.proofs.Doors.{Before}
 use Rattle.server_law.proofs.Logic.{either}
@@ -25,19 +25,19 @@ clean_gone guid user s origin f = either (λ rs. Clean guid user rs) (goes s f) 
 
 clean_shut : (guid : ℕ) (user : List ℕ) (s : Server) (origin : Origin) (o : ℕ) → Clean guid user (shut_records s origin o)
 unfolding shut_records Clean
-clean_shut guid user s origin o = either (λ rs. Clean guid user rs) (s.opened o).persistent (ShutRecord origin o ∷ []) [] (λ _. (tt, tt)) (λ _. tt)
+clean_shut guid user s origin o = either (λ rs. Clean guid user rs) (s.opened o).persistent (CloseRecord origin o ∷ []) [] (λ _. (tt, tt)) (λ _. tt)
 
-clean_mark : (guid : ℕ) (user : List ℕ) (s : Server) (origin : Origin) (o : ℕ) → Clean guid user (mark_records s origin o)
-unfolding mark_records Clean
-clean_mark guid user s origin o =
-    either (λ rs. Clean guid user rs) (not (s.opened o).persistent && (deletes_on_close (s.opened o).options && not (s.marked (s.opened o).file))) (DeleteRecord origin (s.opened o).file true ∷ []) [] (λ _. (tt, tt)) (λ _. tt)
+clean_pending : (guid : ℕ) (user : List ℕ) (s : Server) (origin : Origin) (o : ℕ) → Clean guid user (pending_records s origin o)
+unfolding pending_records Clean
+clean_pending guid user s origin o =
+    either (λ rs. Clean guid user rs) (not (s.opened o).persistent && (deletes_on_close (s.opened o).options && not (s.delete_pending (s.opened o).file))) (DeleteRecord origin (s.opened o).file true ∷ []) [] (λ _. (tt, tt)) (λ _. tt)
 
 clean_left : (guid : ℕ) (user : List ℕ) (s : Server) (origin : Origin) (o : ℕ) → Clean guid user (leave_records s origin o)
 unfolding leave_records
 clean_left guid user s origin o =
-    clean_more guid user (mark_records s origin o) (shut_records s origin o ++ gone_records (drop_open (marked_by s o) o) origin (s.opened o).file) (clean_mark guid user s origin o)
-    (clean_more guid user (shut_records s origin o) (gone_records (drop_open (marked_by s o) o) origin (s.opened o).file) (clean_shut guid user s origin o)
-    (clean_gone guid user (drop_open (marked_by s o) o) origin (s.opened o).file))
+    clean_more guid user (pending_records s origin o) (shut_records s origin o ++ gone_records (drop_open (pending_behind s o) o) origin (s.opened o).file) (clean_pending guid user s origin o)
+    (clean_more guid user (shut_records s origin o) (gone_records (drop_open (pending_behind s o) o) origin (s.opened o).file) (clean_shut guid user s origin o)
+    (clean_gone guid user (drop_open (pending_behind s o) o) origin (s.opened o).file))
 
 clean_all_left : (guid : ℕ) (user : List ℕ) (s : Server) (origin : Origin) (os : List ℕ) → Clean guid user (leave_all_records s origin os)
 unfolding leave_all_records Clean
@@ -57,7 +57,7 @@ clean_named guid user s origin (Some session) is_quiet = clean_ended guid user s
 
 clean_expired : (guid : ℕ) (user : List ℕ) (s : Server) (origin : Origin) (o : ℕ) → Clean guid user (expire_records s origin o)
 unfolding expire_records Clean
-clean_expired guid user s origin o = (tt, clean_gone guid user (drop_open (marked_by s o) o) origin (s.opened o).file)
+clean_expired guid user s origin o = (tt, clean_gone guid user (drop_open (pending_behind s o) o) origin (s.opened o).file)
 
 -- ---- by verdict
 
@@ -70,7 +70,7 @@ unfolding change_records Clean
 clean_change guid user m f now (PutBytes at bytes) = (tt, tt)
 clean_change guid user m f now (PutEnd size) = (tt, tt)
 clean_change guid user m f now (PutBasic basic) = (tt, tt)
-clean_change guid user m f now (PutMark flag) = (tt, tt)
+clean_change guid user m f now (PutDeletePending flag) = (tt, tt)
 clean_change guid user m f now (PutPath replaced path) = (tt, tt)
 clean_change guid user m f now PutNothing = tt
 
@@ -103,7 +103,7 @@ by_verdict guid user s m now (Show o last body) own = tt
 by_verdict guid user s m now (KeepSlot o index number status elements) own = clean_lock guid user s m o index number status elements
 by_verdict guid user s m now (PutRanges o index number ranges elements) own = clean_lock guid user s m o index number success elements
 by_verdict guid user s m now (Alter o change body) own = clean_change guid user m (file_of s o) now change
-by_verdict guid user s m now (Shut o body) own = clean_left guid user s (origin_of m) o
+by_verdict guid user s m now (CloseOpen o body) own = clean_left guid user s (origin_of m) o
 by_verdict guid user s m now Challenge own = tt
 by_verdict guid user s m now (ChallengeBinding session) own = tt
 by_verdict guid user s m now (Begin session its previous r is_quiet) own = clean_named guid user s (origin_of m) previous is_quiet
@@ -130,7 +130,7 @@ clean_expiring : (guid : ℕ) (user : List ℕ) (s : Server) (now : ℕ) (e : Se
 clean_expiring guid user s now e f None is = clean_table guid user s now e f
 clean_expiring guid user s now e f (Some o) is =
     let d = with_deadlines s now in let t = expire d o in let front = expire_records d (origin_at (connection_of e)) o in let A = carried_out t now (ruling t e) in let P : Answer → Type 0 = λ B. Clean guid user B.records in
-    either P (nat_le max_marks d.mark_count) (table d now e) _ (λ _. clean_table guid user s now e f)
+    either P (nat_le max_expired_guids d.expired_count) (table d now e) _ (λ _. clean_table guid user s now e f)
     (λ _. either P (fits d (front ++ A.records)) (record A { records = front ++ A.records }) (table d now e)
     (λ _. clean_more guid user front A.records (clean_expired guid user d (origin_at (connection_of e)) o) (f t (ruling t e) (inr (o, is, refl)) (inl refl)))
     (λ _. clean_table guid user s now e f))
@@ -139,11 +139,11 @@ pub clean_step : (guid : ℕ) (user : List ℕ) (s : Server) (now : ℕ) (e : Se
 clean_step guid user s now e f = clean_expiring guid user s now e f (due (with_deadlines s now) now) refl
 
 -- a message
-clean_heard : (guid : ℕ) (user : List ℕ) (s : Server) (now : ℕ) (m : Message) → m.client ≡ guid → (s.on m.connection ≡ Some m.session → s.user m.session ≡ user) → Clean guid user (step s now (Heard m)).records
+clean_heard : (guid : ℕ) (user : List ℕ) (s : Server) (now : ℕ) (m : Message) → m.client ≡ guid → (s.session_on m.connection ≡ Some m.session → s.user m.session ≡ user) → Clean guid user (step s now (Heard m)).records
 clean_heard guid user s now m a b = clean_step guid user s now (Heard m) all
   where
-    at_t : (t : Server) → Before s now t → t.on m.connection ≡ Some m.session → t.user m.session ≡ user
-    at_t t q on = let st = before_stays s now t q in ap (λ f. f m.session) st.user ∙ b (ap (λ f. f m.connection) (sym st.on) ∙ on)
+    at_t : (t : Server) → Before s now t → t.session_on m.connection ≡ Some m.session → t.user m.session ≡ user
+    at_t t q on = let st = before_stays s now t q in ap (λ f. f m.session) st.user ∙ b (ap (λ f. f m.connection) (sym st.session_on) ∙ on)
 
     own : (t : Server) (v : Verdict) → Before s now t → Found t m v → is_make v ≡ true → m.client ≡ guid × t.user m.session ≡ user
     own t (Make r place action) q f e = (a, at_t t q f.1)
@@ -153,7 +153,7 @@ clean_heard guid user s now m a b = clean_step guid user s now (Heard m) all
     all t r q (inl e) = subst (λ x. Clean guid user (carried_out t now x).records) (sym e) (by_verdict guid user t m now (check t m) (own t (check t m) q (found t m)))
     all t r q (inr e) = subst (λ x. Clean guid user (carried_out t now x).records) (sym e) (by_verdict guid user t m now (without_room (check t m)) (own t (without_room (check t m)) q (found_full t m (check t m) (found t m))))
 
-pub clean_answer : (guid : ℕ) (user : List ℕ) (s : Server) (now : ℕ) (m : Message) → m.client ≡ guid → (s.on m.connection ≡ Some m.session → s.user m.session ≡ user) → (c : Command) → Clean guid user (answer_to s now m c).records
+pub clean_answer : (guid : ℕ) (user : List ℕ) (s : Server) (now : ℕ) (m : Message) → m.client ≡ guid → (s.session_on m.connection ≡ Some m.session → s.user m.session ≡ user) → (c : Command) → Clean guid user (answer_to s now m c).records
 unfolding Clean
 clean_answer guid user s now m a b (Aside status) = tt
 clean_answer guid user s now m a b (Unreadable status) = clean_heard guid user s now m a b

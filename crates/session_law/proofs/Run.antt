@@ -74,7 +74,7 @@ submits w g op h =
     either (λ d. SessionsHold (with_client w d)) (may_take w.client g op) _ _
     (λ _. record {
       sits = same_keeps w.client w.conns w.server (record w.client { taken = g; op = put w.client.op g op; outcome = put w.client.outcome g (outcome_at_first w.client g op) })
-          (record { who = refl; live = refl; session = refl; number = refl; tree = refl; sequence = refl; stage = refl; making = refl; pending = refl; accepted = refl; accepts = refl; rank = refl }) h.sits.numbered_sessions h.sits;
+          (record { who = refl; live = refl; session = refl; number = refl; tree = refl; sequence = refl; stage = refl; making = refl; pending = refl; accepted = refl; accepted_count = refl; rank = refl }) h.sits.numbered_sessions h.sits;
       stored = h.stored;
     })
     (λ _. h)
@@ -223,7 +223,7 @@ absorbs w k bounds h (x ∷ rest) is = absorbs_front w k x rest is bounds h
 renumbered : (guid : ℕ) (user : List ℕ) (number : ℕ) (d : Server) → Folds guid user number d → Folds guid user d.epoch d
 renumbered guid user number d f = record { epoch = refl; present = f.present; making = f.making; opens = f.opens }
 
-restarts : (w : World) → w.server.begun ≤ max_ids → SessionsHold w → SessionsHold (restarted w)
+restarts : (w : World) → w.server.session_ids_given ≤ max_ids → SessionsHold w → SessionsHold (restarted w)
 restarts w low h =
     let guid = w.client.who.guid in let user = logon_user w.client.who.logon in let a = anew guid user w.server w.records h.stored in
     record {
@@ -236,14 +236,14 @@ same_server : (w : World) (k : ℕ) (xs : List Sent) → (serve_front w k xs).se
 same_server w k [] = refl
 same_server w k (x ∷ rest) = refl
 
-served_low : (w : World) (k : ℕ) → may_serve w k ≡ true → (happens w (Serve k)).server.begun ≤ max_ids → (absorb_front w k (w.conns k).up).server.begun ≤ max_ids
-served_low w k m l = subst (λ s. s.begun ≤ max_ids) (same_server w k (w.conns k).up) (one_side (may_serve w k) (later (serve_front w k (w.conns k).up) 1) w m l)
+served_low : (w : World) (k : ℕ) → may_serve w k ≡ true → (happens w (Serve k)).server.session_ids_given ≤ max_ids → (absorb_front w k (w.conns k).up).server.session_ids_given ≤ max_ids
+served_low w k m l = subst (λ s. s.session_ids_given ≤ max_ids) (same_server w k (w.conns k).up) (one_side (may_serve w k) (later (serve_front w k (w.conns k).up) 1) w m l)
   where
-    one_side : (b : Bool) (x y : World) → b ≡ true → (if b then x else y).server.begun ≤ max_ids → x.server.begun ≤ max_ids
+    one_side : (b : Bool) (x y : World) → b ≡ true → (if b then x else y).server.session_ids_given ≤ max_ids → x.server.session_ids_given ≤ max_ids
     one_side true x y e l = l
     one_side false x y e l = absurd (cc)
 
-crashes : (w : World) (k : ℕ) (kept : Bool) → Bounds w.server → (may_serve w k ≡ true → (absorb_front w k (w.conns k).up).server.begun ≤ max_ids) → may_serve w k ≡ true → SessionsHold w
+crashes : (w : World) (k : ℕ) (kept : Bool) → Bounds w.server → (may_serve w k ≡ true → (absorb_front w k (w.conns k).up).server.session_ids_given ≤ max_ids) → may_serve w k ≡ true → SessionsHold w
     → SessionsHold (if kept then restarted (absorb_front w k (w.conns k).up) else restarted w)
 crashes w k true bounds low m h = restarts (absorb_front w k (w.conns k).up) (low m) (absorbs w k bounds h (w.conns k).up refl)
 crashes w k false bounds low m h = restarts w bounds.begun h
@@ -321,7 +321,7 @@ finishes : (w : World) (refusal : Refusal) → SessionsHold w → SessionsHold (
 finishes w refusal i =
     record {
       sits = same_keeps w.client w.conns w.server (finish w.client (NoSession refusal))
-          (record { who = refl; live = refl; session = refl; number = refl; tree = refl; sequence = refl; stage = refl; making = refl; pending = refl; accepted = refl; accepts = refl; rank = refl }) i.sits.numbered_sessions i.sits;
+          (record { who = refl; live = refl; session = refl; number = refl; tree = refl; sequence = refl; stage = refl; making = refl; pending = refl; accepted = refl; accepted_count = refl; rank = refl }) i.sits.numbered_sessions i.sits;
       stored = i.stored;
     }
 
@@ -335,7 +335,7 @@ served_open w k bounds i false = i
 later_holds : (w : World) (n : ℕ) → SessionsHold w → SessionsHold (later w n)
 later_holds w n h = record { sits = h.sits; stored = h.stored }
 
-pub keeps : (w : World) (e : Event) → Once w.conns → Ready w.client w.conns → Bounds w.server → ((k : ℕ) → (happens w (Serve k)).server.begun ≤ max_ids) → SessionsHold w → SessionsHold (happens w e)
+pub keeps : (w : World) (e : Event) → Once w.conns → Ready w.client w.conns → Bounds w.server → ((k : ℕ) → (happens w (Serve k)).server.session_ids_given ≤ max_ids) → SessionsHold w → SessionsHold (happens w e)
 keeps w (Submit g op) once ready bounds low i = later_holds (changed w (Submit g op)) 1 (submits w g op i)
 keeps w (Open k) once ready bounds low i = either SessionsHold (may_open w k) _ _ (λ m. later_holds (changed w (Open k)) 1 (opens w k i (free_of w k m))) (λ _. i)
 keeps w (Push k slotless pick) once ready bounds low i =

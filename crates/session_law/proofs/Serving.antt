@@ -101,15 +101,15 @@ unranked_of : (c : Client) (s : Server) (m : Message) (A : Answer) → Facts s m
 unranked_of c s m A f unranked given k y h =
     elim (y == next_session s) as (λ q. y == next_session s ≡ q → c.rank y ≡ 0) [
       | true ↦ λ q. let is = eqb-true y (next_session s) q in
-          subst (λ i. c.rank i ≡ 0) (sym is) (zero_rank (c.rank (next_session s)) (id_of s.epoch s.begun) (next_session s) (given (next_session s)) (next_above s.epoch s.begun))
+          subst (λ i. c.rank i ≡ 0) (sym is) (zero_rank (c.rank (next_session s)) (id_of s.epoch s.session_ids_given) (next_session s) (given (next_session s)) (next_above s.epoch s.session_ids_given))
       | false ↦ λ q. unranked k y (f.making k y h (λ _. eqb-false y (next_session s) q))
     ] refl
 
-ids_of : (s : Server) (m : Message) (A : Answer) → Facts s m A → id_of s.epoch s.begun ≤ id_of A.server.epoch A.server.begun
+ids_of : (s : Server) (m : Message) (A : Answer) → Facts s m A → id_of s.epoch s.session_ids_given ≤ id_of A.server.epoch A.server.session_ids_given
 ids_of s m A f =
-    elim f.challenges as (λ b. f.challenges ≡ b → id_of s.epoch s.begun ≤ id_of A.server.epoch A.server.begun) [
-      | true ↦ λ b. more_given s.epoch A.server.epoch s.begun A.server.begun f.epoch (f.counted b).0
-      | false ↦ λ b. same_given s.epoch A.server.epoch s.begun A.server.begun f.epoch (f.uncounted b).0
+    elim f.challenges as (λ b. f.challenges ≡ b → id_of s.epoch s.session_ids_given ≤ id_of A.server.epoch A.server.session_ids_given) [
+      | true ↦ λ b. more_given s.epoch A.server.epoch s.session_ids_given A.server.session_ids_given f.epoch (f.counted b).0
+      | false ↦ λ b. same_given s.epoch A.server.epoch s.session_ids_given A.server.session_ids_given f.epoch (f.uncounted b).0
     ] refl
 
 back_of : (c : Client) (s : Server) (m : Message) (A : Answer) → Facts s m A → MakingUnranked c s → (x : ℕ) → 0 < c.rank x → A.server.present x ≡ true → s.present x ≡ true
@@ -122,7 +122,7 @@ moves_of c s m A f unranked given users opens on client keeps logon =
       present = back_of c s m A f unranked;
       users = users_of c s m A f users logon;
       opens = opens_of c s m A f users opens client on;
-      making = λ k y l h. f.making k y h (λ _. not_next s.epoch s.begun y l);
+      making = λ k y l h. f.making k y h (λ _. not_next s.epoch s.session_ids_given y l);
       unranked = unranked_of c s m A f unranked given;
       ids = ids_of s m A f;
       trees = λ x id r p h. f.trees x id (back_of c s m A f unranked x r p) p keeps h;
@@ -144,12 +144,12 @@ within e d n b a c = omega (arith, a, c)
 
 pub reply_first : (c : Client) (conns : ℕ → Conn) (s : Server) (k : ℕ) (x : Sent) (A : Answer) → Facts s x.message A → slice_get (conns k).up 0 ≡ Some x → (conns k).client_open ≡ true → FirstUp c conns → FromClient c conns → RankedGiven c s
     → is_ops x.token ≡ false → c.stage k ≡ SaidFirst false → A.reply.status ≡ more_processing_required
-    → c.rank A.reply.session ≡ 0 × 0 < A.reply.session × A.reply.session ≤ id_of A.server.epoch A.server.begun
+    → c.rank A.reply.session ≡ 0 × 0 < A.reply.session × A.reply.session ≤ id_of A.server.epoch A.server.session_ids_given
 reply_first c conns s k x A f h stands first who given dialog stage status =
     let n = f.counted (f.interim status (first k 0 x h stands dialog stage) (who k 0 x h).2) in (
-      ap c.rank n.1 ∙ zero_rank (c.rank (next_session s)) (id_of s.epoch s.begun) (next_session s) (given (next_session s)) (next_above s.epoch s.begun),
-      subst (λ i. 0 < i) (sym n.1) (above_zero s.epoch s.begun),
-      subst (λ i. i ≤ id_of A.server.epoch A.server.begun) (sym n.1) (within s.epoch A.server.epoch s.begun A.server.begun f.epoch n.0),
+      ap c.rank n.1 ∙ zero_rank (c.rank (next_session s)) (id_of s.epoch s.session_ids_given) (next_session s) (given (next_session s)) (next_above s.epoch s.session_ids_given),
+      subst (λ i. 0 < i) (sym n.1) (above_zero s.epoch s.session_ids_given),
+      subst (λ i. i ≤ id_of A.server.epoch A.server.session_ids_given) (sym n.1) (within s.epoch A.server.epoch s.session_ids_given A.server.session_ids_given f.epoch n.0),
     )
 
 pub reply_second : (c : Client) (conns : ℕ → Conn) (s : Server) (k : ℕ) (x : Sent) (A : Answer) → Facts s x.message A → slice_get (conns k).up 0 ≡ Some x → (conns k).client_open ≡ true → SecondUp c conns → FromClient c conns → LogonUp c conns

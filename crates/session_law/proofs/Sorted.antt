@@ -11,7 +11,7 @@ use Rattle.exchange_defs.specs.CheckCreate.{refused_by}
 use Rattle.exchange_defs.specs.CheckOpen.{file_of}
 use Rattle.exchange_defs.specs.CheckSetup.{tree_in, tree_check, pipes_name, no_tree_left}
 use Rattle.exchange_defs.specs.Effects.{apply, reach, set_ranges, end_session, end_if_named, file_made, without_tree, leaves}
-use Rattle.exchange_defs.specs.Verdict.{Verdict, Refuse, Give, KeepRefusal, Repeat, Attach, Make, TurnDown, Tell, Show, KeepSlot, PutRanges, Alter, Shut, Challenge, ChallengeBinding, Begin, Join, EndSession, AddTree, DropTree}
+use Rattle.exchange_defs.specs.Verdict.{Verdict, Refuse, Give, KeepRefusal, Repeat, Attach, Make, TurnDown, Tell, Show, KeepSlot, PutRanges, Alter, CloseOpen, Challenge, ChallengeBinding, Begin, Join, EndSession, AddTree, DropTree}
 use Rattle.exchange_defs.specs.Step.{step, without_room, Ruling, TakesIn, TurnsAway, TakesOut, ruling, carried_out, ends_with}
 use Rattle.exchange_defs.specs.Network.{answer_to, untouched}
 use Rattle.server_law.proofs.Doors.{by_verdict, Finds}
@@ -92,7 +92,7 @@ added_full (Show o last body) = refl
 added_full (KeepSlot o index number status elements) = refl
 added_full (PutRanges o index number ranges elements) = refl
 added_full (Alter o change body) = refl
-added_full (Shut o body) = refl
+added_full (CloseOpen o body) = refl
 added_full Challenge = refl
 added_full (ChallengeBinding session) = refl
 added_full (Begin session user previous r is_quiet) = refl
@@ -112,7 +112,7 @@ has_it x o b e = grind arith
 
 asks_tree : (s : Server) (m : Message) (share : List ℕ) → SessionFacts s m → m.command ≡ TreeConnect share → check s m ≡ tree_check s m share
 asks_tree s m share f command =
-    ap (λ b. if b then owed s m m.fault else Refuse user_session_deleted) (has_it m.session (s.on m.connection) (is_setup m.command) f.on)
+    ap (λ b. if b then owed s m m.fault else Refuse user_session_deleted) (has_it m.session (s.session_on m.connection) (is_setup m.command) f.session_on)
     ∙ ap (λ o. owed s m o) f.fault
     ∙ ap (λ o. formed s m o) f.formed
     ∙ ap (λ c. command_check s m c) command
@@ -187,8 +187,8 @@ sorted_by kind s m now (PutRanges o index number ranges elements) f g i =
     sorted_stays kind b (apply s m now (PutRanges o index number ranges elements)).server (stays_kept b o index number _) (sorted_stays kind s a (stays_reached s m o) i)
 sorted_by kind s m now (Alter o change body) f g i =
     let a = reach s m o in sorted_stays kind a (apply s m now (Alter o change body)).server (stays_changed a (file_of s o) now change) (sorted_stays kind s a (stays_reached s m o) i)
-sorted_by kind s m now (Shut o body) f g i =
-    let a = leave_open s o in sorted_stays kind a (apply s m now (Shut o body)).server (stays_closed a m.session (s.opened o).guid) (sorted_stays kind s a (stays_left s o) i)
+sorted_by kind s m now (CloseOpen o body) f g i =
+    let a = leave_open s o in sorted_stays kind a (apply s m now (CloseOpen o body)).server (stays_closed a m.session (s.opened o).guid) (sorted_stays kind s a (stays_left s o) i)
 sorted_by kind s m now Challenge f g i = i
 sorted_by kind s m now (ChallengeBinding session) f g i = i
 sorted_by kind s m now (Begin session user previous r is_quiet) f g i = sorted_begun kind s m now session user previous r is_quiet i

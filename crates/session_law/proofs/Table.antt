@@ -28,7 +28,7 @@ same_so c d e a b =
       making = b.making ∙ a.making;
       pending = b.pending ∙ a.pending;
       accepted = b.accepted ∙ a.accepted;
-      accepts = b.accepts ∙ a.accepts;
+      accepted_count = b.accepted_count ∙ a.accepted_count;
       rank = b.rank ∙ a.rank;
     }
 
@@ -36,7 +36,7 @@ pub keeps_so : (c d e : Client) → Keeps c d → Keeps d e → Keeps c e
 keeps_so c d e a b = record { same = same_so c d e a.same b.same; numbers = λ n. b.numbers (a.numbers n) }
 
 pub unchanged : (c : Client) → SameSession c c
-unchanged c = record { who = refl; live = refl; session = refl; number = refl; tree = refl; sequence = refl; stage = refl; making = refl; pending = refl; accepted = refl; accepts = refl; rank = refl }
+unchanged c = record { who = refl; live = refl; session = refl; number = refl; tree = refl; sequence = refl; stage = refl; making = refl; pending = refl; accepted = refl; accepted_count = refl; rank = refl }
 
 pub keeps_itself : (c : Client) → Keeps c c
 keeps_itself c = record { same = unchanged c; numbers = λ n. n }
@@ -46,7 +46,7 @@ keeps_itself c = record { same = unchanged c; numbers = λ n. n }
 pub keeps_outcomes : (c : Client) (new : ℕ → Outcome) → Keeps c (record c { outcome = new })
 keeps_outcomes c new =
     record {
-      same = record { who = refl; live = refl; session = refl; number = refl; tree = refl; sequence = refl; stage = refl; making = refl; pending = refl; accepted = refl; accepts = refl; rank = refl };
+      same = record { who = refl; live = refl; session = refl; number = refl; tree = refl; sequence = refl; stage = refl; making = refl; pending = refl; accepted = refl; accepted_count = refl; rank = refl };
       numbers = λ n. n;
     }
 
@@ -60,14 +60,14 @@ keeps_no_slots c k (g ∷ gs) = let d = settle_no_slot c k g in keeps_so c d (se
 
 -- ---- what goes out
 
-retried_numbers : (c : Client) (create slot : ℕ) → NumberedSessions c → NumberedSessions (record c { retried = put2 c.retried create slot c.number })
+retried_numbers : (c : Client) (create slot : ℕ) → NumberedSessions c → NumberedSessions (record c { retried = put2 c.retried create slot c.session_number })
 retried_numbers c create slot n p q = let old = n p q in (old.0, grind arith, old.2)
 
 keeps_again : (c : Client) (g : ℕ) → Keeps c (again c g)
 keeps_again c g =
-    either (λ d. Keeps c d) (is_lock (c.op g)) (record c { retried = put2 c.retried (create_for c g) (c.slot_of g) c.number }) c
+    either (λ d. Keeps c d) (is_lock (c.op g)) (record c { retried = put2 c.retried (create_for c g) (c.slot_of g) c.session_number }) c
     (λ _. record {
-      same = record { who = refl; live = refl; session = refl; number = refl; tree = refl; sequence = refl; stage = refl; making = refl; pending = refl; accepted = refl; accepts = refl; rank = refl };
+      same = record { who = refl; live = refl; session = refl; number = refl; tree = refl; sequence = refl; stage = refl; making = refl; pending = refl; accepted = refl; accepted_count = refl; rank = refl };
       numbers = retried_numbers c (create_for c g) (c.slot_of g);
     })
     (λ _. keeps_itself c)
@@ -76,18 +76,18 @@ keeps_begin : (c : Client) (g i : ℕ) → Keeps c (begin c g i)
 keeps_begin c g i =
     either (λ d. Keeps c d) (is_lock (c.op g)) (record (take_slot c g i) { sent = put c.sent g true }) (record c { sent = put c.sent g true })
     (λ _. record {
-      same = record { who = refl; live = refl; session = refl; number = refl; tree = refl; sequence = refl; stage = refl; making = refl; pending = refl; accepted = refl; accepts = refl; rank = refl };
+      same = record { who = refl; live = refl; session = refl; number = refl; tree = refl; sequence = refl; stage = refl; making = refl; pending = refl; accepted = refl; accepted_count = refl; rank = refl };
       numbers = λ n. n;
     })
     (λ _. record {
-      same = record { who = refl; live = refl; session = refl; number = refl; tree = refl; sequence = refl; stage = refl; making = refl; pending = refl; accepted = refl; accepts = refl; rank = refl };
+      same = record { who = refl; live = refl; session = refl; number = refl; tree = refl; sequence = refl; stage = refl; making = refl; pending = refl; accepted = refl; accepted_count = refl; rank = refl };
       numbers = λ n. n;
     })
 
 keeps_outstanding : (c : Client) (k g : ℕ) → Keeps c (outstanding c k g)
 keeps_outstanding c k g =
     record {
-      same = record { who = refl; live = refl; session = refl; number = refl; tree = refl; sequence = refl; stage = refl; making = refl; pending = refl; accepted = refl; accepts = refl; rank = refl };
+      same = record { who = refl; live = refl; session = refl; number = refl; tree = refl; sequence = refl; stage = refl; making = refl; pending = refl; accepted = refl; accepted_count = refl; rank = refl };
       numbers = λ n. n;
     }
 
@@ -99,7 +99,7 @@ keeps_begun c k g i =
 pub keeps_asked : (c : Client) (k g : ℕ) → Keeps c (asked c k g)
 keeps_asked c k g =
     record {
-      same = record { who = refl; live = refl; session = refl; number = refl; tree = refl; sequence = refl; stage = refl; making = refl; pending = refl; accepted = refl; accepts = refl; rank = refl };
+      same = record { who = refl; live = refl; session = refl; number = refl; tree = refl; sequence = refl; stage = refl; making = refl; pending = refl; accepted = refl; accepted_count = refl; rank = refl };
       numbers = λ n. n;
     }
 
@@ -108,31 +108,31 @@ keeps_asked c k g =
 pub keeps_answered : (c : Client) (g : ℕ) → Keeps c (answered c g)
 keeps_answered c g =
     record {
-      same = record { who = refl; live = refl; session = refl; number = refl; tree = refl; sequence = refl; stage = refl; making = refl; pending = refl; accepted = refl; accepts = refl; rank = refl };
+      same = record { who = refl; live = refl; session = refl; number = refl; tree = refl; sequence = refl; stage = refl; making = refl; pending = refl; accepted = refl; accepted_count = refl; rank = refl };
       numbers = λ n. n;
     }
 
-attached_numbers : (c : Client) (create : ℕ) → NumberedSessions c → (p q : ℕ) → put c.attached create c.number p ≤ c.number × c.retried p q ≤ c.number × (c.live ≡ true → 0 < c.number)
+attached_numbers : (c : Client) (create : ℕ) → NumberedSessions c → (p q : ℕ) → put c.attached create c.session_number p ≤ c.session_number × c.retried p q ≤ c.session_number × (c.live ≡ true → 0 < c.session_number)
 attached_numbers c create n p q = let old = n p q in (grind arith, old.1, old.2)
 
 pub keeps_joined : (c : Client) (g : ℕ) → Keeps c (joined c g)
 keeps_joined c g =
     record {
-      same = record { who = refl; live = refl; session = refl; number = refl; tree = refl; sequence = refl; stage = refl; making = refl; pending = refl; accepted = refl; accepts = refl; rank = refl };
+      same = record { who = refl; live = refl; session = refl; number = refl; tree = refl; sequence = refl; stage = refl; making = refl; pending = refl; accepted = refl; accepted_count = refl; rank = refl };
       numbers = attached_numbers c (create_for c g);
     }
 
 keeps_noted : (c : Client) (g : ℕ) (o : Outcome) (body : Body) → Keeps c (noted c g o body)
 keeps_noted c g (WasOk reply) body =
     let P : Client → Type 0 = λ d. Keeps c d in
-    either P (is_create (c.op g)) (record c { file = put c.file g (id_in body); attached = put c.attached g c.number }) _
+    either P (is_create (c.op g)) (record c { file = put c.file g (id_in body); attached = put c.attached g c.session_number }) _
     (λ _. record {
-      same = record { who = refl; live = refl; session = refl; number = refl; tree = refl; sequence = refl; stage = refl; making = refl; pending = refl; accepted = refl; accepts = refl; rank = refl };
+      same = record { who = refl; live = refl; session = refl; number = refl; tree = refl; sequence = refl; stage = refl; making = refl; pending = refl; accepted = refl; accepted_count = refl; rank = refl };
       numbers = attached_numbers c g;
     })
-    (λ _. either P (is_close (c.op g)) (record c { shut = put c.shut (create_for c g) true }) c
+    (λ _. either P (is_close (c.op g)) (record c { closed_ok = put c.closed_ok (create_for c g) true }) c
     (λ _. record {
-      same = record { who = refl; live = refl; session = refl; number = refl; tree = refl; sequence = refl; stage = refl; making = refl; pending = refl; accepted = refl; accepts = refl; rank = refl };
+      same = record { who = refl; live = refl; session = refl; number = refl; tree = refl; sequence = refl; stage = refl; making = refl; pending = refl; accepted = refl; accepted_count = refl; rank = refl };
       numbers = λ n. n;
     })
     (λ _. keeps_itself c))
@@ -146,7 +146,7 @@ keeps_full : (c : Client) (g : ℕ) (asking : Bool) (status : ℕ) → Keeps c (
 keeps_full c g asking status =
     either (λ d. Keeps c d) (is_lock (c.op g) && (not asking && (status == disk_full))) (record c { full = put2 c.full (create_for c g) (c.slot_of g) true }) c
     (λ _. record {
-      same = record { who = refl; live = refl; session = refl; number = refl; tree = refl; sequence = refl; stage = refl; making = refl; pending = refl; accepted = refl; accepts = refl; rank = refl };
+      same = record { who = refl; live = refl; session = refl; number = refl; tree = refl; sequence = refl; stage = refl; making = refl; pending = refl; accepted = refl; accepted_count = refl; rank = refl };
       numbers = λ n. n;
     })
     (λ _. keeps_itself c)
@@ -154,7 +154,7 @@ keeps_full c g asking status =
 keeps_settled : (c : Client) (g : ℕ) (o : Outcome) (place : ℕ) → Keeps c (settled c g o place)
 keeps_settled c g o place =
     record {
-      same = record { who = refl; live = refl; session = refl; number = refl; tree = refl; sequence = refl; stage = refl; making = refl; pending = refl; accepted = refl; accepts = refl; rank = refl };
+      same = record { who = refl; live = refl; session = refl; number = refl; tree = refl; sequence = refl; stage = refl; making = refl; pending = refl; accepted = refl; accepted_count = refl; rank = refl };
       numbers = λ n. n;
     }
 

@@ -14,14 +14,14 @@ pub record SameSession (c d : Client) : Type 0 where
   pub who : d.who ≡ c.who
   pub live : d.live ≡ c.live
   pub session : d.session ≡ c.session
-  pub number : d.number ≡ c.number
+  pub number : d.session_number ≡ c.session_number
   pub tree : d.tree ≡ c.tree
   pub sequence : d.sequence ≡ c.sequence
   pub stage : d.stage ≡ c.stage
   pub making : d.making ≡ c.making
   pub pending : d.pending ≡ c.pending
   pub accepted : d.accepted ≡ c.accepted
-  pub accepts : d.accepts ≡ c.accepts
+  pub accepted_count : d.accepted_count ≡ c.accepted_count
   pub rank : d.rank ≡ c.rank
 
 -- what a step of the server does to sessions, as far as this client goes
@@ -29,9 +29,9 @@ pub record Moves (c : Client) (s t : Server) : Type 0 where
   pub present : (x : ℕ) → 0 < c.rank x → t.present x ≡ true → s.present x ≡ true
   pub users : SessionUsers c t
   pub opens : OpenUsers c t
-  pub making : (k y : ℕ) → y ≤ id_of s.epoch s.begun → is_new y (t.making k) ≡ true → is_new y (s.making k) ≡ true
+  pub making : (k y : ℕ) → y ≤ id_of s.epoch s.session_ids_given → is_new y (t.making k) ≡ true → is_new y (s.making k) ≡ true
   pub unranked : MakingUnranked c t
-  pub ids : id_of s.epoch s.begun ≤ id_of t.epoch t.begun
+  pub ids : id_of s.epoch s.session_ids_given ≤ id_of t.epoch t.session_ids_given
   pub trees : (x id : ℕ) → 0 < c.rank x → t.present x ≡ true → is_some (tree_in (s.trees x) id) ≡ true → is_some (tree_in (t.trees x) id) ≡ true
 
 -- a dialog's message or reply is counted

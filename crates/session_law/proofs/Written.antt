@@ -5,16 +5,16 @@ use Rattle.exchange_defs.specs.Table.{put}
 use Rattle.exchange_defs.specs.Status.{success}
 use Rattle.exchange_defs.specs.Content.{written, ended, is_empty}
 use Rattle.exchange_defs.specs.Commands.{Element, all_lock, all_unlock}
-use Rattle.exchange_defs.specs.State.{Server, Entry, Open, Record, NewOpen, EpochRecord, CreateRecord, WriteRecord, EndRecord, BasicRecord, DeleteRecord, RenameRecord, RemoveRecord, LockRecord, ShutRecord, VersionRecord, ExpireRecord}
-use Rattle.exchange_defs.specs.Files.{root, find, exists, passes_room, make_file, set_content, empty_file, mark_file, store_basic, remove_file, rename_file}
+use Rattle.exchange_defs.specs.State.{Server, Entry, Open, Record, NewOpen, EpochRecord, CreateRecord, WriteRecord, EndRecord, BasicRecord, DeleteRecord, RenameRecord, RemoveRecord, LockRecord, CloseRecord, VersionRecord, ExpireRecord}
+use Rattle.exchange_defs.specs.Files.{root, find, exists, passes_room, make_file, set_content, empty_file, set_delete_pending, store_basic, remove_file, rename_file}
 use Rattle.exchange_defs.specs.Ranges.{RangeAnswer, Stands, Denied, change_ranges}
-use Rattle.exchange_defs.specs.Opens.{marked_by, without_gone}
+use Rattle.exchange_defs.specs.Opens.{pending_behind, without_gone}
 use Rattle.exchange_defs.specs.CheckOpen.{target_of, file_of}
 use Rattle.exchange_defs.specs.Effects.{keep_slot, set_ranges}
-use Rattle.exchange_defs.specs.Step.{add_mark, max_marks}
+use Rattle.exchange_defs.specs.Step.{add_expired_guid, max_expired_guids}
 use Rattle.exchange_defs.specs.Fold.{fold, fold_from, with_record, nothing_yet, begin_epoch, set_version, sweep, may_create, may_have_open, restore, restored_row, created_file, is_file, may_rename, may_remove, lock_recorded, lock_granted, shut_recorded, recovery_records, opening_records}
 use Rattle.server_law.proofs.Logic.{either}
-use Rattle.session_law.proofs.Columns.{Stays, stays_same, stays_so, stays_marked, stays_dropped, stays_gone, stays_kept, stays_ranged, stays_noted}
+use Rattle.session_law.proofs.Columns.{Stays, stays_same, stays_so, stays_pending, stays_dropped, stays_gone, stays_kept, stays_ranged, stays_noted}
 
 -- ---- records that a step owes: no epoch begins, and an open is this client's
 
@@ -56,19 +56,19 @@ fold_stays guid user epoch d t q f =
 stays_version : (d : Server) (number : ℕ) → Stays d (set_version d number)
 stays_version d number =
     either (λ t. Stays d t) ((number == 2) && (d.version == 1)) (record d { version = 2 }) d
-    (λ _. record { present = refl; user = refl; trees = refl; next_tree = refl; epoch = refl; given = refl; begun = refl; making = refl; on = refl; opened = refl; standing = λ q e. e })
+    (λ _. record { present = refl; user = refl; trees = refl; next_tree = refl; epoch = refl; open_ids_given = refl; session_ids_given = refl; making = refl; session_on = refl; opened = refl; standing = λ q e. e })
     (λ _. stays_same d)
 
 stays_created : (d : Server) (action f : ℕ) (path : List ℕ) (attributes : ℕ) (is_dir : Bool) (time : ℕ) → Stays d (created_file d action f path attributes is_dir time)
 stays_created d action f path attributes is_dir time =
     let P : Server → Type 0 = λ t. Stays d t in
     either P (action == 2) (make_file d path is_dir attributes time) _
-    (λ _. record { present = refl; user = refl; trees = refl; next_tree = refl; epoch = refl; given = refl; begun = refl; making = refl; on = refl; opened = refl; standing = λ q e. e })
+    (λ _. record { present = refl; user = refl; trees = refl; next_tree = refl; epoch = refl; open_ids_given = refl; session_ids_given = refl; making = refl; session_on = refl; opened = refl; standing = λ q e. e })
     (λ _. either P (action == 1) d (empty_file d f attributes time) (λ _. stays_same d)
-    (λ _. record { present = refl; user = refl; trees = refl; next_tree = refl; epoch = refl; given = refl; begun = refl; making = refl; on = refl; opened = refl; standing = λ q e. e }))
+    (λ _. record { present = refl; user = refl; trees = refl; next_tree = refl; epoch = refl; open_ids_given = refl; session_ids_given = refl; making = refl; session_on = refl; opened = refl; standing = λ q e. e }))
 
 stays_shut : (d : Server) (o : ℕ) → Stays d (shut_recorded d o)
-stays_shut d o = stays_so d (marked_by d o) (shut_recorded d o) (stays_marked d o) (stays_dropped (marked_by d o) o)
+stays_shut d o = stays_so d (pending_behind d o) (shut_recorded d o) (stays_pending d o) (stays_dropped (pending_behind d o) o)
 
 stays_granted : (d : Server) (o index number : ℕ) (r : RangeAnswer) → Stays d (lock_granted d o index number r)
 stays_granted d o index number (Denied status) = stays_same d
@@ -105,27 +105,27 @@ one_record guid user epoch d (CreateRecord origin action file path attributes is
     (λ _. restored guid user epoch t file action opened own (fold_stays guid user epoch d t (stays_created d action file path attributes is_dir time) f)) (λ _. f)
 one_record guid user epoch d (WriteRecord origin file at time bytes) own f =
     simply guid user epoch d (set_content d file (written at bytes (d.content file)) time) (is_file d file && (not (is_empty bytes) && not (passes_room d file (at + length bytes))))
-    (record { present = refl; user = refl; trees = refl; next_tree = refl; epoch = refl; given = refl; begun = refl; making = refl; on = refl; opened = refl; standing = λ q e. e }) f
+    (record { present = refl; user = refl; trees = refl; next_tree = refl; epoch = refl; open_ids_given = refl; session_ids_given = refl; making = refl; session_on = refl; opened = refl; standing = λ q e. e }) f
 one_record guid user epoch d (EndRecord origin file size time) own f =
     simply guid user epoch d (set_content d file (ended size (d.content file)) time) (is_file d file && not (passes_room d file size))
-    (record { present = refl; user = refl; trees = refl; next_tree = refl; epoch = refl; given = refl; begun = refl; making = refl; on = refl; opened = refl; standing = λ q e. e }) f
+    (record { present = refl; user = refl; trees = refl; next_tree = refl; epoch = refl; open_ids_given = refl; session_ids_given = refl; making = refl; session_on = refl; opened = refl; standing = λ q e. e }) f
 one_record guid user epoch d (BasicRecord origin file basic) own f =
     simply guid user epoch d (store_basic d file basic) (exists d file)
-    (record { present = refl; user = refl; trees = refl; next_tree = refl; epoch = refl; given = refl; begun = refl; making = refl; on = refl; opened = refl; standing = λ q e. e }) f
+    (record { present = refl; user = refl; trees = refl; next_tree = refl; epoch = refl; open_ids_given = refl; session_ids_given = refl; making = refl; session_on = refl; opened = refl; standing = λ q e. e }) f
 one_record guid user epoch d (DeleteRecord origin file flag) own f =
-    simply guid user epoch d (mark_file d file flag) (exists d file && not (file == root))
-    (record { present = refl; user = refl; trees = refl; next_tree = refl; epoch = refl; given = refl; begun = refl; making = refl; on = refl; opened = refl; standing = λ q e. e }) f
+    simply guid user epoch d (set_delete_pending d file flag) (exists d file && not (file == root))
+    (record { present = refl; user = refl; trees = refl; next_tree = refl; epoch = refl; open_ids_given = refl; session_ids_given = refl; making = refl; session_on = refl; opened = refl; standing = λ q e. e }) f
 one_record guid user epoch d (RenameRecord origin file replaced path) own f =
     simply guid user epoch d (rename_file d file (target_of file (find d path)) path) (may_rename d file replaced path)
-    (record { present = refl; user = refl; trees = refl; next_tree = refl; epoch = refl; given = refl; begun = refl; making = refl; on = refl; opened = refl; standing = λ q e. e }) f
+    (record { present = refl; user = refl; trees = refl; next_tree = refl; epoch = refl; open_ids_given = refl; session_ids_given = refl; making = refl; session_on = refl; opened = refl; standing = λ q e. e }) f
 one_record guid user epoch d (RemoveRecord origin file) own f =
     simply guid user epoch d (remove_file d file) (may_remove d file)
-    (record { present = refl; user = refl; trees = refl; next_tree = refl; epoch = refl; given = refl; begun = refl; making = refl; on = refl; opened = refl; standing = λ q e. e }) f
+    (record { present = refl; user = refl; trees = refl; next_tree = refl; epoch = refl; open_ids_given = refl; session_ids_given = refl; making = refl; session_on = refl; opened = refl; standing = λ q e. e }) f
 one_record guid user epoch d (LockRecord origin o index number status elements) own f =
     simply guid user epoch d (lock_recorded d o index number status elements) (d.standing o && nat_le index 64) (stays_locked d o index number status elements) f
-one_record guid user epoch d (ShutRecord origin o) own f = simply guid user epoch d (shut_recorded d o) (d.standing o) (stays_shut d o) f
+one_record guid user epoch d (CloseRecord origin o) own f = simply guid user epoch d (shut_recorded d o) (d.standing o) (stays_shut d o) f
 one_record guid user epoch d (ExpireRecord origin o) own f =
-    simply guid user epoch d (add_mark (shut_recorded d o) (d.opened o).client (d.opened o).guid) (d.standing o && nat_lt d.mark_count max_marks)
+    simply guid user epoch d (add_expired_guid (shut_recorded d o) (d.opened o).client (d.opened o).guid) (d.standing o && nat_lt d.expired_count max_expired_guids)
     (stays_so d (shut_recorded d o) _ (stays_shut d o) (stays_noted (shut_recorded d o) (d.opened o).client (d.opened o).guid)) f
 
 all_records : (guid : ℕ) (user : List ℕ) (epoch : ℕ) (d : Server) (rs : List Record) → Clean guid user rs → Folds guid user epoch d → Folds guid user epoch (fold_from d rs)
@@ -152,12 +152,12 @@ stays_swept d (e ∷ es) = stays_so d (without_gone d e.file) (sweep (without_go
 -- a fold in a new epoch
 pub record Anew (guid : ℕ) (user : List ℕ) (number : ℕ) (d : Server) : Type 0 where
   pub folds : Folds guid user number d
-  pub begun : d.begun ≡ 0
+  pub session_ids_given : d.session_ids_given ≡ 0
 
 begins_anew : (guid : ℕ) (user : List ℕ) (epoch : ℕ) (d : Server) → Folds guid user epoch d → Anew guid user (epoch + 1) (begin_epoch d (epoch + 1))
 begins_anew guid user epoch d f =
-    either (λ t. Anew guid user (epoch + 1) t) (epoch + 1 == d.epoch + 1) (record (sweep d d.entries) { epoch = epoch + 1; given = 0; begun = 0 }) d
-    (λ _. let q = fold_stays guid user epoch d (sweep d d.entries) (stays_swept d d.entries) f in record { folds = record { epoch = refl; present = q.present; making = q.making; opens = q.opens }; begun = refl })
+    either (λ t. Anew guid user (epoch + 1) t) (epoch + 1 == d.epoch + 1) (record (sweep d d.entries) { epoch = epoch + 1; open_ids_given = 0; session_ids_given = 0 }) d
+    (λ _. let q = fold_stays guid user epoch d (sweep d d.entries) (stays_swept d d.entries) f in record { folds = record { epoch = refl; present = q.present; making = q.making; opens = q.opens }; session_ids_given = refl })
     (λ n. absurd (no_other epoch d.epoch f.epoch n))
   where
     no_other : (a b : ℕ) → b ≡ a → (a + 1 == b + 1) ≡ false → ⊥

@@ -84,14 +84,14 @@ LiveAccepted c = c.live ≡ true → c.session ≡ c.accepted × 0 < c.rank c.ac
 
 -- the session that was live last was accepted
 abbrev pub SessionRanked : Client → Type 0
-SessionRanked c = 0 < c.number → 0 < c.rank c.session
+SessionRanked c = 0 < c.session_number → 0 < c.rank c.session
 
 -- ranks count the accepts, the last accepted session has the last one, and no two have one
 abbrev pub Ranks : Client → Type 0
-Ranks c = (x : ℕ) → c.rank x ≤ c.accepts
+Ranks c = (x : ℕ) → c.rank x ≤ c.accepted_count
 
 abbrev pub LastRank : Client → Type 0
-LastRank c = 0 < c.accepts → c.rank c.accepted ≡ c.accepts
+LastRank c = 0 < c.accepted_count → c.rank c.accepted ≡ c.accepted_count
 
 abbrev pub RankOnce : Client → Type 0
 RankOnce c = (x y : ℕ) → 0 < c.rank x → c.rank x ≡ c.rank y → x ≡ y
@@ -112,7 +112,7 @@ SequenceLow c = c.sequence ≤ 32767
 
 -- what is noted by a session's number is of a session that was
 abbrev pub NumberedSessions : Client → Type 0
-NumberedSessions c = (create slot : ℕ) → c.attached create ≤ c.number × c.retried create slot ≤ c.number × (c.live ≡ true → 0 < c.number)
+NumberedSessions c = (create slot : ℕ) → c.attached create ≤ c.session_number × c.retried create slot ≤ c.session_number × (c.live ≡ true → 0 < c.session_number)
 
 -- ---- what waits
 
@@ -170,7 +170,7 @@ PresentAccepted c s = (x : ℕ) → s.present x ≡ true → 0 < c.rank x → x 
 
 -- each session that the client accepted has an id that was given, and none of them is in the making
 abbrev pub RankedGiven : Client → Server → Type 0
-RankedGiven c s = (x : ℕ) → 0 < c.rank x → 0 < x × x ≤ id_of s.epoch s.begun
+RankedGiven c s = (x : ℕ) → 0 < c.rank x → 0 < x × x ≤ id_of s.epoch s.session_ids_given
 
 abbrev pub MakingUnranked : Client → Server → Type 0
 MakingUnranked c s = (k x : ℕ) → is_new x (s.making k) ≡ true → c.rank x ≡ 0
@@ -183,12 +183,12 @@ abbrev pub OpenUsers : Client → Server → Type 0
 OpenUsers c s = (o : ℕ) → s.standing o ≡ true → (s.opened o).user ≡ logon_user c.who.logon × (s.opened o).client ≡ c.who.guid
 
 abbrev pub PendingGiven : Client → Server → Type 0
-PendingGiven c s = (k : ℕ) → c.stage k ≡ SaidSecond false → 0 < c.pending × c.pending ≤ id_of s.epoch s.begun
+PendingGiven c s = (k : ℕ) → c.stage k ≡ SaidSecond false → 0 < c.pending × c.pending ≤ id_of s.epoch s.session_ids_given
 
 -- the interim response tells an id that was never accepted
 abbrev pub FirstReply : Client → (ℕ → Conn) → Server → Type 0
 FirstReply c conns s = (k n : ℕ) (y : Received) → slice_get (conns k).down n ≡ Some y → is_ops y.token ≡ false → c.stage k ≡ SaidFirst false → y.reply.status ≡ more_processing_required
-    → c.rank y.reply.session ≡ 0 × 0 < y.reply.session × y.reply.session ≤ id_of s.epoch s.begun
+    → c.rank y.reply.session ≡ 0 × 0 < y.reply.session × y.reply.session ≤ id_of s.epoch s.session_ids_given
 
 -- the new session's success waits: the accepted one before it is gone, and no connection makes the new one any more
 abbrev pub SecondReply : Client → (ℕ → Conn) → Server → Type 0

@@ -12,7 +12,7 @@ account_of s =
       ops = λ g. asked (command_of (kind_at s.taken g));
       of = λ g. 0;
       settlement = settlement_at s.settled;
-      by = s.by;
+      settled_by = s.by;
       log = s.log;
     }
 

@@ -33,7 +33,7 @@ fits i is = let size : i.size < 256 ^ 8 = omega (arith, is.size) in (
     (
       omega
           arith,
-      (bit_small i.is_marked, (bit_small i.is_directory, tt)),
+      (bit_small i.is_delete_pending, (bit_small i.is_directory, tt)),
     ),
   ),
 )

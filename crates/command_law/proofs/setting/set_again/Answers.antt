@@ -24,7 +24,7 @@ use Rattle.command_law.proofs.setting.set_again.Goals as goal
 class_small : (s : Setting) → class_of s < 256 ^ 1
 class_small (SetBasic basic) = omega arith
 class_small (Rename replace path) = omega arith
-class_small (SetDelete marked) = omega arith
+class_small (SetDelete delete_pending) = omega arith
 class_small (SetAllocation size) = omega arith
 class_small (SetEnd size) = omega arith
 
@@ -32,7 +32,7 @@ class_known : (s : Setting) → is_set_class 1 (class_of s) ≡ true
 unfolding is_set_class
 class_known (SetBasic basic) = refl
 class_known (Rename replace path) = refl
-class_known (SetDelete marked) = refl
+class_known (SetDelete delete_pending) = refl
 class_known (SetAllocation size) = refl
 class_known (SetEnd size) = refl
 
@@ -41,10 +41,10 @@ unfolding bit_if
 bit_small true = omega arith
 bit_small false = omega arith
 
-marked_again : (b : Bool) → not (bit_if b 1 == 0) ≡ b
+flag_again : (b : Bool) → not (bit_if b 1 == 0) ≡ b
 unfolding bit_if
-marked_again true = refl
-marked_again false = refl
+flag_again true = refl
+flag_again false = refl
 
 abbrev rename_value : Bool → List ℕ → FileClasses.FileRenameInformationValue
 rename_value replace path = record { replace_if_exists = bit_if replace 1; root_directory = 0; name = utf16 path }
@@ -68,10 +68,10 @@ bytes_few (Rename replace path) is = omega (
   length-with_fields
       (FileClasses.file_rename_information_whole (rename_value replace path)) [] (rename_fits replace path is),
 )
-bytes_few (SetDelete marked) is = omega (
+bytes_few (SetDelete delete_pending) is = omega (
   arith,
   length-with_fields (FileClasses.file_disposition_information_table
-      (record { delete_pending = bit_if marked 1 })) [] (bit_small marked, tt),
+      (record { delete_pending = bit_if delete_pending 1 })) [] (bit_small delete_pending, tt),
 )
 bytes_few (SetAllocation size) is = omega (
   arith,
@@ -144,20 +144,20 @@ returns c = λ header rest file setting len small is.
         FileClasses.file_rename_information_in (λ (v : FileClasses.FileRenameInformationValue). rename_of file v
         (text_in v.name)) (setting_bytes (Rename replace path)) (rename_value replace path) row
         ∙ ap (rename_of file (rename_value replace path)) (text_again path is.utf8)
-        ∙ ap (λ (b : Bool). SetInfo file (Rename b path)) (marked_again replace)
-    by_class (SetDelete marked) file is =
+        ∙ ap (λ (b : Bool). SetInfo file (Rename b path)) (flag_again replace)
+    by_class (SetDelete delete_pending) file is =
         let law = c.file_disposition_information_law.ensures in
-        let v : FileDispositionInformation = record { delete_pending = bit_if marked 1 } in
+        let v : FileDispositionInformation = record { delete_pending = bit_if delete_pending 1 } in
         let row = alone FileClasses.SpellsFileDispositionInformation FileClasses.file_disposition_information_fault
         FileClasses.file_disposition_information_in FileClasses.IsWritableFileDispositionInformation
         FileClasses.file_disposition_information_spelling law.one law.whole law.given law.again v (
-          bit_small marked,
+          bit_small delete_pending,
           tt,
         ) in
         read_as FileClasses.SpellsFileDispositionInformation FileClasses.file_disposition_information_fault
         FileClasses.file_disposition_information_in (λ (v : FileDispositionInformation). SetInfo file (SetDelete
-        (not (v.delete_pending == 0)))) (setting_bytes (SetDelete marked)) v row
-        ∙ ap (λ (b : Bool). SetInfo file (SetDelete b)) (marked_again marked)
+        (not (v.delete_pending == 0)))) (setting_bytes (SetDelete delete_pending)) v row
+        ∙ ap (λ (b : Bool). SetInfo file (SetDelete b)) (flag_again delete_pending)
     by_class (SetAllocation size) file is =
         let law = c.file_allocation_information_law.ensures in
         let v : FileAllocationInformation = record { allocation_size = size } in

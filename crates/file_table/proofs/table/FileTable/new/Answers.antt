@@ -20,7 +20,7 @@ returns c = λ s b. record {
       key_is = rw c.new-3.ensures c.new-4.ensures.bytes;
       below_is = λ n d. absurd (let e = never_long _ c.new-3.ensures n in cc);
       directory_is = refl;
-      marked_is = b.marked;
+      delete_pending_is = b.delete_pending;
       basic_is = b.basic ∙ sym c.times_at.ensures;
       content_is = rw b.content c.new-6.ensures.empty;
     };
