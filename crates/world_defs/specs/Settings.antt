@@ -65,4 +65,4 @@ identity_of z = record {
 
 -- the settings of the model of values
 abbrev pub values_of : WorldSettings → Settings
-values_of z = record { who = identity_of z; share = z.share; room = z.room; seals = z.encrypts; address = z.address }
+values_of z = record { who = identity_of z; share = z.share; room = z.room; encrypts = z.encrypts; address = z.address }
