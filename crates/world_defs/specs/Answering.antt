@@ -193,9 +193,17 @@ pub record Behind : Type 0 where
   pub server_end : ServerEnd
   pub endings : List Ending
 
+abbrev pub first_text : List (List ℕ) → List ℕ
+first_text [] = []
+first_text (t ∷ ts) = t
+
+abbrev pub later_texts : List (List ℕ) → List (List ℕ)
+later_texts [] = []
+later_texts (t ∷ ts) = ts
+
 -- one reply after the other, each with its text
 unfoldable pub told_each : Bool → ServerEnd → List Said → List (List ℕ) → Behind
-told_each sealed f (r ∷ rs) (t ∷ ts) =
-    let later = told_each sealed (server_end_behind f r t) rs ts in
-    record { server_end = later.server_end; endings = ending_by sealed f r t r.progress ++ later.endings }
-told_each sealed f _ _ = record { server_end = f; endings = [] }
+told_each sealed f [] texts = record { server_end = f; endings = [] }
+told_each sealed f (r ∷ rs) texts =
+    let later = told_each sealed (server_end_behind f r (first_text texts)) rs (later_texts texts) in
+    record { server_end = later.server_end; endings = ending_by sealed f r (first_text texts) r.progress ++ later.endings }

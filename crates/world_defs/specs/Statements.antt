@@ -79,10 +79,9 @@ abbrev pub NoncesToClientOnce : World → Type 0
 NoncesToClientOnce w =
     (i j : ℕ) (a b : Seal) → slice_get w.sealings i ≡ Some a → slice_get w.sealings j ≡ Some b → IsToClient a → IsOneNonce a b → i ≡ j
 
--- both ways without tampering, and to the client over every run
-pub record Nonces : Type 0 where
-  pub plain : (z : WorldSettings) (events : List Event) → NoncesOnce (plain_run z events)
-  pub to_client : (z : WorldSettings) (events : List ByteEvent) → NoncesToClientOnce (bytes_run z events (bytes_start z))
+-- to the client over every run, tampered with or not
+abbrev pub NoncesToClient : Type 0
+NoncesToClient = (z : WorldSettings) (events : List ByteEvent) → NoncesToClientOnce (bytes_run z events (bytes_start z))
 
 -- ---- in step: without tampering the values are those of a run of the model of values
 

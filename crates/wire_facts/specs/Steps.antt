@@ -1,0 +1,59 @@
+-- What is said of runs without tampering, given the facts on bytes.
+use Rattle.std.specs.Prelude.{◌≡◌, ℕ, ◌+◌, ◌<◌, true, false, List, [], ◌∷◌, Option, Some}
+use Rattle.exchange_defs.specs.State.{Reply}
+use Rattle.exchange_defs.specs.Client.{Stage, Apart}
+use Rattle.exchange_defs.specs.Network.{Event, Restart, Crash, Received, Token, ForDialog, ForOp, ForAttach}
+use Rattle.command_defs.specs.ReplyOf.{reply_of}
+use Rattle.command_law.specs.Fitting.{IsHeardAlike}
+use Rattle.world_defs.specs.Settings.{WorldSettings}
+use Rattle.world_defs.specs.Messages.{Heard}
+use Rattle.world_defs.specs.Ends.{ClientEnd}
+use Rattle.world_defs.specs.Dialog.{line_response, dialog_response}
+use Rattle.world_defs.specs.World.{World, command_asked}
+use Rattle.world_defs.specs.Statements.{plain_run, IsInStep, RequestsAreHeard, NoncesOnce}
+use Rattle.wire_facts.specs.Lawful.{IsLawful}
+
+-- ---- the front of what comes down is heard as the reply that the server's step gave
+
+pub record IsSameReply (x : Heard) (r : Reply) : Type 0 where
+  pub status : x.header.status ≡ r.status
+  pub session : x.header.session ≡ r.session
+  pub tree : x.header.tree ≡ r.tree
+
+abbrev pub IsHeardFor : World → Heard → Reply → Token → Type 0
+IsHeardFor w x r ForDialog = Unit {0}
+IsHeardFor w x r (ForOp g) =
+    IsHeardAlike (w.values.client.op g) (reply_of (command_asked w.values.client g false) x.header x.bytes).body r.body
+IsHeardFor w x r (ForAttach g) = Unit {0}
+
+pub record IsHeardReply (w : World) (n : ClientEnd) (y : Received) (x : Heard) : Type 0 where
+  pub awaited : n.awaited x.header.message ≡ Some y.token
+  pub same : IsSameReply x y.reply
+  pub body : IsHeardFor w x y.reply y.token
+
+abbrev pub response_at : ClientEnd → Stage → List ℕ → Option Heard
+response_at n Apart frame = line_response n frame
+response_at n stage frame = dialog_response n stage frame
+
+abbrev pub RepliesAreHeard : World → Type 0
+RepliesAreHeard w =
+    (k : ℕ) (b : List ℕ) (bs : List (List ℕ)) (y : Received) (ys : List Received) →
+    (w.values.conns k).client_open ≡ true → (w.wires k).down ≡ b ∷ bs → (w.values.conns k).down ≡ y ∷ ys →
+    (x : Heard) × (response_at (w.wires k).client_end (w.wires k).client_end.stage b ≡ Some x) × IsHeardReply w (w.wires k).client_end y x
+
+-- ---- over every run without tampering, of fewer restarts than a journal has room for
+
+unfoldable pub restarts_in : List Event → ℕ
+restarts_in [] = 0
+restarts_in (Restart ∷ es) = 1 + restarts_in es
+restarts_in (Crash k kept ∷ es) = 1 + restarts_in es
+restarts_in (e ∷ es) = restarts_in es
+
+pub record Steps (z : WorldSettings) (events : List Event) : Type 0 where
+  pub in_step : IsInStep z events
+  pub requests : RequestsAreHeard z (plain_run z events)
+  pub replies : RepliesAreHeard (plain_run z events)
+  pub nonces : NoncesOnce (plain_run z events)
+
+abbrev pub StepLaw : Type 0
+StepLaw = (z : WorldSettings) → IsLawful z → (events : List Event) → restarts_in events < 4194304 → Steps z events
