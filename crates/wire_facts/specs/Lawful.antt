@@ -51,7 +51,8 @@ pub record AreCiphersLawful : Type 0 where
 -- ---- headers
 
 pub record AreHeadersLawful : Type 0 where
-  pub alone : (h : Header) (body m : List ℕ) → IsWritableHeader h → h.next ≡ 0 → IsMessage h body m → messages_in m ≡ Some (heard_as h m ∷ [])
+  pub alone : (h : Header) (body m : List ℕ) → IsWritableHeader h → h.next ≡ 0 → IsMessage h body m →
+      messages_in m ≡ Some (heard_as h m ∷ [])
   pub heard : (h : Header) (body m : List ℕ) → IsWritableHeader h → IsMessage h body m → response_in (Some m) ≡ Some (heard_as h m)
   pub plain : (h : Header) (body m : List ℕ) → IsMessage h body m → begins_sealed m ≡ false
   pub size : (h : Header) (body m : List ℕ) → IsWritableHeader h → IsMessage h body m → length m ≡ 64 + length body
@@ -68,7 +69,8 @@ pub record AreCommandsLawful : Type 0 where
       keeps_limits op ≡ true → is_create op ≡ true → guid < 256 ^ 16 → file < 256 ^ 8 →
       command_of t (header_as h m) m ≡ Some (reconnect_of op guid file)
   pub reply : (h : Header) (m token : List ℕ) (op : Op) (guid file slot number : ℕ) (r : Reply) →
-      IsMessage h (reply_body token (request_of op guid file slot number) r) m → h.status ≡ r.status → r.status ≡ success → IsAnswer op r.body →
+      IsMessage h (reply_body token (request_of op guid file slot number) r) m → h.status ≡ r.status →
+      r.status ≡ success → IsAnswer op r.body →
       IsHeardAlike op (reply_of (request_of op 0 0 0 0) (header_as h m) m).body r.body
   pub refused : (c : Command) (h : Header) (m : List ℕ) → (h.status ≡ success → ⊥) → (reply_of c (header_as h m) m).body ≡ Empty
 
@@ -79,8 +81,8 @@ pub record AreDialogsLawful (z : WorldSettings) : Type 0 where
   pub greeting : (salt : List ℕ) (m : Message) → length salt ≡ 32 → IsSent m 1 →
       (negotiate_status (greeting_text z.client salt m) ≡ success) × (negotiated (greeting_text z.client salt m) ≡ chosen_of z.client)
       × (client_told (greeting_text z.client salt m) ≡ number_of z.client.guid)
-  pub greeted : (salt answer_salt : List ℕ) (m : Message) (now : ℕ) (h : Header) (r : List ℕ) → length salt ≡ 32 → length answer_salt ≡ 32 → IsSent m 1 →
-      now < 256 ^ 8 → IsMessage h (negotiate_response_body z.server.guid answer_salt now (greeting_text z.client salt m)) r →
+  pub greeted : (salt answer_salt : List ℕ) (m : Message) (now : ℕ) (h : Header) (r : List ℕ) →
+      length salt ≡ 32 → length answer_salt ≡ 32 → IsSent m 1 → now < 256 ^ 8 → IsMessage h (negotiate_response_body z.server.guid answer_salt now (greeting_text z.client salt m)) r →
       (has_contexts r ≡ true) × (choice_fault z.client r ≡ None) × (is_hint (negotiate_response_in r).security ≡ true)
       × ((chosen_told r).cipher ≡ (chosen_of z.client).cipher) × ((chosen_told r).signing ≡ (chosen_of z.client).signing)
   -- SESSION_SETUP, both ways
@@ -123,7 +125,8 @@ pub record IsAnswered (z : WorldSettings) (n : ClientEnd) (p : Option Pending) (
 pub record AreTokensLawful (z : WorldSettings) : Type 0 where
   pub first : (b : Begun) × (begun_by first_token ≡ Some b)
   pub short : length first_token < 256 ^ 2
-  pub challenge : (fresh : List ℕ) (now : ℕ) → length fresh ≡ 8 → now < 256 ^ 8 → length (challenge_of (pending_by first_token fresh now)) < 256 ^ 2
+  pub challenge : (fresh : List ℕ) (now : ℕ) → length fresh ≡ 8 → now < 256 ^ 8 →
+      length (challenge_of (pending_by first_token fresh now)) < 256 ^ 2
   pub answer : (n : ClientEnd) (fresh : List ℕ) (now : ℕ) → HasLogon n → length fresh ≡ 8 → now < 256 ^ 8 →
       (token : List ℕ) × (answer_of z.client n (challenge_of (pending_by first_token fresh now)) ≡ Some token)
       × IsAnswered z n (pending_by first_token fresh now) token
