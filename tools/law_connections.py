@@ -178,7 +178,7 @@ EVENTS = [
           [("ready", "c.ready k ≡ true"), ("none", "c.outstanding_on g ≡ None"), ("above", "0 < g"), ("within", "g ≤ c.taken"), ("pending", "is_unsettled (c.outcome g) ≡ true"), ("may", "opens c g ≡ true"),
            ("lower", "(n : ℕ) → 0 < n → n < g → create_at c n ≡ create_at c g → (shuts_open (c.op g) || shuts_open (c.op n)) ≡ true → is_unsettled (c.outcome n) ≡ false"),
            ("sent", "c.sent g ≡ true"), ("body", "m.command ≡ its_request (c.op g) (guid_for c g) (c.file (create_at c g)) (c.slot_of g) (c.number_of g)"),
-           ("who", "m.client ≡ c.who.guid"), ("fault", "m.fault ≡ None"), ("idle", "acts_once (c.op g) ≡ true → c.unanswered g ≡ false → a g ≡ 0")],
+           ("who", "m.client_guid ≡ c.who.guid"), ("fault", "m.fault ≡ None"), ("idle", "acts_once (c.op g) ≡ true → c.unanswered g ≡ false → a g ≡ 0")],
           c="(put_out c k g)", conns="(put conns k (send_up (conns k) (ForOp g) m n0))"),
     Event("Ask", "a DH2C goes out in an operation's place", "(k g n0 : ℕ) (m : Message)", [("ready", "c.ready k ≡ true"), ("none", "c.outstanding_on g ≡ None"), ("above", "0 < g"), ("within", "g ≤ c.taken"), ("pending", "is_unsettled (c.outcome g) ≡ true"), ("may", "opens c g ≡ true"),
            ("lower", "(n : ℕ) → 0 < n → n < g → create_at c n ≡ create_at c g → (shuts_open (c.op g) || shuts_open (c.op n)) ≡ true → is_unsettled (c.outcome n) ≡ false")],

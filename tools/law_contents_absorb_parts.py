@@ -97,11 +97,11 @@ PARTS = {
             (
                 "ranked",
                 "(j n : ℕ) (x : Sent) → slice_get (conns j).up n ≡ Some x → is_ops x.token ≡ true → 0 < c.rank "
-                "x.message.session",
+                "x.message.session_id",
             ),
         ],
         """λ j n p x h e ed. let o = waited conns k x0 rest j n x is h in let old = i.copy_pair j o.0 p x o.1 e ed in let z
-      = old.1 in let up = w.steps.ids in (w.steps.pair x.message.session 0 (file_at c p) (ranked j o.0 x o.1 (ops_of
+      = old.1 in let up = w.steps.ids in (w.steps.pair x.message.session_id 0 (file_at c p) (ranked j o.0 x o.1 (ops_of
       x.token p e)) old.1 old.0, omega (arith, z, up))""",
     ),
     "now_pair": (
@@ -186,7 +186,7 @@ PARTS = {
         """λ o lv at. by_side o lv (w.session_of_open o c.session at)
       where
       by_side : (o : ℕ) → c.live ≡ true → (s.session_of_open o ≡ Some c.session × A.server.sequence o ≤ s.sequence o) ⊎ (A.reached ≡
-      Some o × c.session ≡ x0.message.session × A.server.sequence o ≤ x0.message.sequence) → A.server.sequence o ≤
+      Some o × c.session ≡ x0.message.session_id × A.server.sequence o ≤ x0.message.channel_sequence) → A.server.sequence o ≤
       c.sequence
       by_side o lv (inl e) = let old = i_session_seq o lv e.0 in let z = e.1 in omega (arith, old, z)
       by_side o lv (inr e) = let up = w.upto lv (sym e.1) in let z = e.2 in omega (arith, up, z)""",
@@ -198,7 +198,7 @@ PARTS = {
         """λ o j sg e. by_side o j sg (w.session_of_open o c.pending e)
       where
       by_side : (o j : ℕ) → c.stage j ≡ AskedTree → (s.session_of_open o ≡ Some c.pending × A.server.sequence o ≤ s.sequence o) ⊎
-      (A.reached ≡ Some o × c.pending ≡ x0.message.session × A.server.sequence o ≤ x0.message.sequence) → ⊥
+      (A.reached ≡ Some o × c.pending ≡ x0.message.session_id × A.server.sequence o ≤ x0.message.channel_sequence) → ⊥
       by_side o j sg (inl e) = i_pending_at o j sg e.0
       by_side o j sg (inr e) = w.fresh (w.ops o e.0) j sg (sym e.1)""",
     ),
@@ -209,11 +209,11 @@ PARTS = {
             (
                 "ranked",
                 "(j n : ℕ) (x : Sent) → slice_get (conns j).up n ≡ Some x → is_ops x.token ≡ true → 0 < c.rank "
-                "x.message.session",
+                "x.message.session_id",
             ),
         ],
         """λ j n p x h e ed fm sd pr le. let o = waited conns k x0 rest j n x is h in let cp = i.copy_pair j o.0 p x o.1 e
-      ed in let b = live_back c.rank s A.server x.message.session x.message.sequence (file_at c p) w.steps (ranked j
+      ed in let b = live_back c.rank s A.server x.message.session_id x.message.channel_sequence (file_at c p) w.steps (ranked j
       o.0 x o.1 (ops_of x.token p e)) cp.1 cp.0 sd pr le in i.live_unsettled j o.0 p x o.1 e ed fm b.0 b.1 b.2""",
     ),
     "denied": (
@@ -269,7 +269,7 @@ PARTS = {
         """λ q o e. by_side q o (w.making.guid c.who.guid (guid_for c q) o e)
       where
       by_side : (q o : ℕ) → (s.by_guid c.who.guid (guid_for c q) ≡ Some o) ⊎ (creates x0.message.command ≡ true ×
-      A.acted ≡ true × A.reached ≡ Some o × c.who.guid ≡ x0.message.client × asks_guid x0.message.command ≡ Some
+      A.acted ≡ true × A.reached ≡ Some o × c.who.guid ≡ x0.message.client_guid × asks_guid x0.message.command ≡ Some
       (guid_for c q)) → (new_trace c t l x0 A).open_of q ≡ Some o
       by_side q o (inl e) = open_kept c t l x0 A q o w.remade (i_named_open q o e)
       by_side q o (inr e) = own q o (w.creator e.0 e.1) e.1 e.2 e.4
@@ -300,11 +300,11 @@ PARTS = {
         """λ q o e st. by_side q o st (open_was c t l x0 A q o e)
       where
       by_side : (q o : ℕ) → A.server.standing o ≡ true → (t.open_of q ≡ Some o) ⊎ (makes c x0.token A ≡ true × q ≡
-      op_of x0.token × A.reached ≡ Some o) → (A.server.opened o).guid ≡ Some (guid_for c q) × (A.server.opened
-      o).client ≡ c.who.guid × (A.server.opened o).share ≡ share_of (c.op q)
+      op_of x0.token × A.reached ≡ Some o) → (A.server.opened o).create_guid ≡ Some (guid_for c q) × (A.server.opened
+      o).client_guid ≡ c.who.guid × (A.server.opened o).share ≡ share_of (c.op q)
       by_side q o st (inl e) =
       let g = (i_open_given q o e).0 in let row = w.steps.row o g st in
-      subst (λ r. r.guid ≡ Some (guid_for c q) × r.client ≡ c.who.guid × r.share ≡ share_of (c.op q)) (sym row)
+      subst (λ r. r.create_guid ≡ Some (guid_for c q) × r.client_guid ≡ c.who.guid × r.share ≡ share_of (c.op q)) (sym row)
       (i_open_row q o e (w.steps.stands o g st))
       by_side q o st (inr e) = own q o (w.makes_create e.0) (made_own c x0.token A e.0).1 e.1 e.2 (w.creator
       (w.makes_create e.0) (made_own c x0.token A e.0).1)
@@ -312,11 +312,11 @@ PARTS = {
       own : (q o : ℕ) → creates x0.message.command ≡ true → A.acted ≡ true → q ≡ op_of x0.token → A.reached ≡ Some o →
       ((g : ℕ) × ((x0.token ≡ ForOp g) × (makes_open (c.op g) ≡ true) × (asks_guid x0.message.command ≡ Some (guid_for
       c g)) × (asks_share x0.message.command ≡ share_of (c.op g))))
-      → (A.server.opened o).guid ≡ Some (guid_for c q) × (A.server.opened o).client ≡ c.who.guid × (A.server.opened
+      → (A.server.opened o).create_guid ≡ Some (guid_for c q) × (A.server.opened o).client_guid ≡ c.who.guid × (A.server.opened
       o).share ≡ share_of (c.op q)
       own q o cr ac z r (g, f) =
       let row = w.making.row o cr ac r in let gq : g ≡ q = ap op_of (sym f.0) ∙ sym z in
-      (subst (λ p. (A.server.opened o).guid ≡ Some (guid_for c p)) gq (row.0 ∙ f.2), row.1 ∙ w.client, subst (λ p.
+      (subst (λ p. (A.server.opened o).create_guid ≡ Some (guid_for c p)) gq (row.0 ∙ f.2), row.1 ∙ w.client, subst (λ p.
       (A.server.opened o).share ≡ share_of (c.op p)) gq (row.2 ∙ f.3))""",
     ),
     "bytes": (
@@ -413,27 +413,27 @@ PARTS = {
             (
                 "ranked",
                 "(j n : ℕ) (x : Sent) → slice_get (conns j).up n ≡ Some x → is_ops x.token ≡ true → 0 < c.rank "
-                "x.message.session",
+                "x.message.session_id",
             ),
         ],
         """λ j n p x h e ed sd pr le so. let o = waited conns k x0 rest j n x is h in let cp = i.copy_pair j o.0 p x o.1 e
       ed in
-      let b = live_back c.rank s A.server x.message.session x.message.sequence (file_at c p) w.steps (ranked j o.0 x
+      let b = live_back c.rank s A.server x.message.session_id x.message.channel_sequence (file_at c p) w.steps (ranked j o.0 x
       o.1 (ops_of x.token p e)) cp.1 cp.0 sd pr le in let f = some_of ((new_log c t l x0 A).first p) so in
       by_first j n p x h e ed sd pr le b.0 b.1 ((cp.0 b.0 b.1).0) o.0 o.1 (λ z. i.live_replay j o.0 p x o.1 e ed b.0
       b.1 b.2 z) (first_was c t l x0 A p f.0 f.1)
       where
       by_first : (j n p : ℕ) (x : Sent) → slice_get (Front conns k rest j).up n ≡ Some x → x.token ≡ ForOp p → edits
-      (c.op p) ≡ true → A.server.standing (file_at c p) ≡ true → A.server.present x.message.session ≡ true →
-      A.server.sequence (file_at c p) ≤ x.message.sequence
-      → s.standing (file_at c p) ≡ true → s.present x.message.session ≡ true → s.session_of_open (file_at c p) ≡ Some
-      x.message.session → (m : ℕ) → slice_get (conns j).up m ≡ Some x → (is_some (l.first p) ≡ true → x.message.replay
+      (c.op p) ≡ true → A.server.standing (file_at c p) ≡ true → A.server.present x.message.session_id ≡ true →
+      A.server.sequence (file_at c p) ≤ x.message.channel_sequence
+      → s.standing (file_at c p) ≡ true → s.present x.message.session_id ≡ true → s.session_of_open (file_at c p) ≡ Some
+      x.message.session_id → (m : ℕ) → slice_get (conns j).up m ≡ Some x → (is_some (l.first p) ≡ true → x.message.replay
       ≡ true)
       → {v : ℕ} → (l.first p ≡ Some v) ⊎ (x0.token ≡ ForOp p × A.acted ≡ true × v ≡ l.places) → x.message.replay ≡ true
       by_first j n p x h e ed sd pr le st there at m hm old (inl z) = old (ap is_some z)
       by_first j n p x h e ed sd pr le st there at m hm old (inr z) =
-      let a = acts_of c s t x0 A p w z.0 (lists_of (c.op p) ed) z.1 in let same : x.message.session ≡
-      x0.message.session = some_same _ _ (sym at ∙ a.session_of_open) in
+      let a = acts_of c s t x0 A p w z.0 (lists_of (c.op p) ed) z.1 in let same : x.message.session_id ≡
+      x0.message.session_id = some_same _ _ (sym at ∙ a.session_of_open) in
       not_false x.message.replay (λ r.
       let less = i_no_replay j m k 0 p x x0 hm (front_up (conns k).up x0 rest is) e z.0 ed (apart_of conns k x0 rest j
       n p x once is z.0 h e) same r in

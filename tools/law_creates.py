@@ -182,8 +182,8 @@ EVENTS = [
     Event("Settle", "a reply settles its operation", "outcome", "(g place : ℕ) (outcome : Outcome)",
           [("never", "makes_open (c.op g) ≡ true → never_acted outcome ≡ true → a g ≡ 0"),
            ("acted", "makes_open (c.op g) ≡ true → is_ok outcome ≡ true → 1 ≤ a g"),
-           ("barred", "(j n : ℕ) (y : Sent) → slice_get (conns j).up n ≡ Some y → y.token ≡ ForOp g → makes_open (c.op g) ≡ true → never_acted outcome ≡ true → v.present y.message.session ≡ true → is_barred c v y.message.session g ≡ true"),
-           ("guid", "makes_open (c.op g) ≡ true → is_ok outcome ≡ true → c.file g ≤ v.last × (v.standing (c.file g) ≡ true → (v.opened (c.file g)).client ≡ c.who.guid × (v.opened (c.file g)).guid ≡ Some (guid_at c g))"),
+           ("barred", "(j n : ℕ) (y : Sent) → slice_get (conns j).up n ≡ Some y → y.token ≡ ForOp g → makes_open (c.op g) ≡ true → never_acted outcome ≡ true → v.present y.message.session_id ≡ true → is_barred c v y.message.session_id g ≡ true"),
+           ("guid", "makes_open (c.op g) ≡ true → is_ok outcome ≡ true → c.file g ≤ v.last × (v.standing (c.file g) ≡ true → (v.opened (c.file g)).client_guid ≡ c.who.guid × (v.opened (c.file g)).create_guid ≡ Some (guid_at c g))"),
            ("names", "(o : ℕ) → makes_open (c.op g) ≡ true → is_ok outcome ≡ true → named c v g ≡ Some o → o ≡ c.file g"),
            ("firm", "is_unsettled outcome ≡ false")],
           c="(settled_by c g outcome place)",
@@ -195,7 +195,7 @@ EVENTS = [
               "file_of": "λ p o. let old = i.file_of p o in let q = names o in grind arith",
           }),
     Event("Send", "an operation goes out itself", "up asks_attach", "(k g n0 : ℕ) (m : Message)",
-          [("pending", "is_unsettled (c.outcome g) ≡ true"), ("lives", "c.live ≡ true"), ("session", "m.session ≡ c.session")],
+          [("pending", "is_unsettled (c.outcome g) ≡ true"), ("lives", "c.live ≡ true"), ("session", "m.session_id ≡ c.session")],
           c="(put_out c k g)", conns="(put conns k (send_up (conns k) (ForOp g) m n0))",
           parts={
               "acted_kept": "λ j n p y. let old = i.acted_kept j n p y in let un = i.unclosed g in grind (arith, get-push)",
@@ -207,7 +207,7 @@ EVENTS = [
           [("never", "(g : ℕ) → y0.token ≡ ForOp g → makes_open (c.op g) ≡ true → refuses (c.unanswered g) y0.reply.status ≡ true → a g ≡ 0"),
            ("barred", "(g : ℕ) → y0.token ≡ ForOp g → makes_open (c.op g) ≡ true → c.unanswered g ≡ true → refuses true y0.reply.status ≡ true → is_current c v ≡ true → is_barred c v c.session g ≡ true"),
            ("acted", "(g : ℕ) → y0.token ≡ ForOp g → makes_open (c.op g) ≡ true → y0.reply.status ≡ success → 1 ≤ a g"),
-           ("guid", "(g : ℕ) → y0.token ≡ ForOp g → makes_open (c.op g) ≡ true → y0.reply.status ≡ success → id_in y0.reply.body ≤ v.last × (v.standing (id_in y0.reply.body) ≡ true → (v.opened (id_in y0.reply.body)).client ≡ c.who.guid × (v.opened (id_in y0.reply.body)).guid ≡ Some (guid_at c g))"),
+           ("guid", "(g : ℕ) → y0.token ≡ ForOp g → makes_open (c.op g) ≡ true → y0.reply.status ≡ success → id_in y0.reply.body ≤ v.last × (v.standing (id_in y0.reply.body) ≡ true → (v.opened (id_in y0.reply.body)).client_guid ≡ c.who.guid × (v.opened (id_in y0.reply.body)).create_guid ≡ Some (guid_at c g))"),
            ("names", "(g o : ℕ) → y0.token ≡ ForOp g → makes_open (c.op g) ≡ true → y0.reply.status ≡ success → named c v g ≡ Some o → o ≡ id_in y0.reply.body")],
           conns="(put conns k (record (conns k) { down = (conns k).down ++ y0 ∷ [] }))",
           parts={
@@ -231,7 +231,7 @@ EVENTS = [
     Event("MakeNew", "a create acts", "standing opened session_of_open by_guid guids last a", "(g x o0 : ℕ) (row : OpenRow) (b : ℕ → ℕ)",
           [("create", "makes_open (c.op g) ≡ true"), ("idle", "a g ≡ 0"), ("counted", "b g ≡ 1"), ("formed", "may_act c g ≡ true"),
            ("above", "o0 ≡ v.last + 1"), ("ranked", "0 < c.rank x"), ("there", "v.present x ≡ true"),
-           ("client", "row.client ≡ c.who.guid"), ("guid", "row.guid ≡ Some (guid_at c g)"), ("kind", "row.persistent ≡ outlives (c.op g)"), ("user", "row.user ≡ logon_user c.who.logon"),
+           ("client", "row.client_guid ≡ c.who.guid"), ("guid", "row.create_guid ≡ Some (guid_at c g)"), ("kind", "row.persistent ≡ outlives (c.op g)"), ("user", "row.user ≡ logon_user c.who.logon"),
            ("alive", "never_acted (c.outcome g) ≡ false"),
            ("silent", "(j n : ℕ) (y : Received) → slice_get (conns j).down n ≡ Some y → y.token ≡ ForOp g → refuses (c.unanswered g) y.reply.status ≡ false"),
            ("others", "(h : ℕ) → makes_open (c.op h) ≡ true → h ≢ g → b h ≡ a h")],
@@ -255,23 +255,23 @@ EVENTS = [
               "reply_of": "λ j n p o y h t m e. let old = i.reply_of j n p o y h t m e in let ac = i.ok_reply j n p y h t m e in let same = guid_once c.who.salt p g in grind arith",
           }),
     Event("ShutIn", "an open leaves by a close", "standing session_of_open by_guid closed", "(x o0 : ℕ) (q0 : Option ℕ)",
-          [("guid", "(v.opened o0).guid ≡ q0"),
-           ("settled", "(h : ℕ) → makes_open (c.op h) ≡ true → (v.opened o0).client ≡ c.who.guid → q0 ≡ Some (guid_at c h) → is_unsettled (c.outcome h) ≡ false"),
-           ("here", "(j n h : ℕ) (y : Sent) → slice_get (conns j).up n ≡ Some y → y.token ≡ ForOp h → v.present y.message.session ≡ true → y.message.session ≡ x")],
+          [("guid", "(v.opened o0).create_guid ≡ q0"),
+           ("settled", "(h : ℕ) → makes_open (c.op h) ≡ true → (v.opened o0).client_guid ≡ c.who.guid → q0 ≡ Some (guid_at c h) → is_unsettled (c.outcome h) ≡ false"),
+           ("here", "(j n h : ℕ) (y : Sent) → slice_get (conns j).up n ≡ Some y → y.token ≡ ForOp h → v.present y.message.session_id ≡ true → y.message.session_id ≡ x")],
           v="(shut_in v o0 x q0)",
           parts={
               "unclosed": "λ p m u l s. let old = i.unclosed p m u l s in let q = settled p m in grind arith",
               "acted_kept": "λ j n p y h t m e s. let old = i.acted_kept j n p y h t m e s in let q = here j n p y h t e in grind arith",
           }),
-    Event("ExpireBy", "an open leaves by its deadline", "standing session_of_open by_guid expired_guids", "(o0 : ℕ) (q0 : Option ℕ)", [("guid", "(v.opened o0).guid ≡ q0")], v="(expire_by v o0 q0)"),
+    Event("ExpireBy", "an open leaves by its deadline", "standing session_of_open by_guid expired_guids", "(o0 : ℕ) (q0 : Option ℕ)", [("guid", "(v.opened o0).create_guid ≡ q0")], v="(expire_by v o0 q0)"),
     Event("EndOf", "a session ends", "standing by_guid session_of_open present closed refused guids", "(x : ℕ)",
           [("here", "(y : ℕ) → v.present y ≡ true → 0 < c.rank y → y ≡ c.accepted"),
            ("lives", "c.live ≡ true → c.session ≡ c.accepted"),
-           ("ranked", "(j n h : ℕ) (y : Sent) → slice_get (conns j).up n ≡ Some y → y.token ≡ ForOp h → 0 < c.rank y.message.session")],
+           ("ranked", "(j n h : ℕ) (y : Sent) → slice_get (conns j).up n ≡ Some y → y.token ≡ ForOp h → 0 < c.rank y.message.session_id")],
           v="(end_of v x)"),
     Event("BeginOf", "a session begins", "present", "(x : ℕ)",
           [("new", "c.rank x ≡ 0"), ("lives", "c.live ≡ true → 0 < c.rank c.session"),
-           ("ranked", "(j n h : ℕ) (y : Sent) → slice_get (conns j).up n ≡ Some y → y.token ≡ ForOp h → 0 < c.rank y.message.session")],
+           ("ranked", "(j n h : ℕ) (y : Sent) → slice_get (conns j).up n ≡ Some y → y.token ≡ ForOp h → 0 < c.rank y.message.session_id")],
           v="(begin_of v x)",
           parts={
               "unclosed": "λ p. let old = i.unclosed p in let l = lives in grind arith",
@@ -317,7 +317,7 @@ for event in EVENTS:
             event.parts[part] = "λ %s. let old = i.%s %s in let s = same p in grind arith" % (variables, part, variables)
     if event.name == "EndOf":
         event.parts["unclosed"] = "λ p m u l s. kept_still c v x p (i.unclosed p m u l (still_before c v x p s)) (λ o e. by_kind c v x p o (i.named_kind p o e).0 s (λ n t. goes_not c v x o i.attached here c.session n (lives t)))"
-        event.parts["acted_kept"] = "λ j n p y h t m e s. end_kept c v x p y.message.session (i.acted_kept j n p y h t m (there_before v x y.message.session e) s) (λ o q. goes_not c v x o i.attached here y.message.session (apart_from v x y.message.session e) (here y.message.session (there_before v x y.message.session e) (ranked j n p y h t))) (apart_from v x y.message.session e)"
+        event.parts["acted_kept"] = "λ j n p y h t m e s. end_kept c v x p y.message.session_id (i.acted_kept j n p y h t m (there_before v x y.message.session_id e) s) (λ o q. goes_not c v x o i.attached here y.message.session_id (apart_from v x y.message.session_id e) (here y.message.session_id (there_before v x y.message.session_id e) (ranked j n p y h t))) (apart_from v x y.message.session_id e)"
     if event.name == "Restarted":
         event.parts["unclosed"] = "λ p m s l t. restart_unclosed c v a u r i.unclosed i.named_kind p m s l t"
 

@@ -194,7 +194,7 @@ for e in EVENTS:
             v = PARTS[part][1]
             e.parts[part] = "λ %s h t. let h' : slice_get (conns j).up n ≡ Some x = grind arith in let old = i.%s %s h' t in let b = C.bodies j n p x h' t in let tk = C.taken p b.0 in %slet st1 = C.settled p in grind arith" % (v, part, v, ON_UP)
 event("Readied", "a session is ready", "stage live session session_number", "(k session tree : ℕ)",
-      [("gone", "(j n : ℕ) (x : Sent) → slice_get (conns j).up n ≡ Some x → is_ops x.token ≡ true → s.present x.message.session ≡ false"),
+      [("gone", "(j n : ℕ) (x : Sent) → slice_get (conns j).up n ≡ Some x → is_ops x.token ≡ true → s.present x.message.session_id ≡ false"),
        ("idle", "(j n : ℕ) (y : Received) → slice_get (conns j).down n ≡ Some y → is_ops y.token ≡ false")],
       c="(begin_session c k session tree)",
       parts={"now_attached": "λ q. let l = i.attached_low q in grind arith", "closed_not": "λ p. let l = i.attached_low (create_at c p) in grind arith"})
@@ -239,7 +239,7 @@ begin_lock = event("BeginLock", "a lock takes its slot and goes out first", "sen
       })
 event("Again", "a slot's lock goes out again", "retried", "(q0 i0 : ℕ)", c="(record c { retried = put2 c.retried q0 i0 c.session_number })")
 send = event("Send", "an operation goes out itself", "outstanding_on asks_attach up", "(k g n0 : ℕ) (m0 : Message)",
-      [("ready", "c.ready k ≡ true"), ("none", "c.outstanding_on g ≡ None"), ("pending", "is_unsettled (c.outcome g) ≡ true"), ("sent", "c.sent g ≡ true"), ("stands", "(conns k).client_open ≡ true"), ("mine", "m0.session ≡ c.session"), ("live", "c.live ≡ true"),
+      [("ready", "c.ready k ≡ true"), ("none", "c.outstanding_on g ≡ None"), ("pending", "is_unsettled (c.outcome g) ≡ true"), ("sent", "c.sent g ≡ true"), ("stands", "(conns k).client_open ≡ true"), ("mine", "m0.session_id ≡ c.session"), ("live", "c.live ≡ true"),
        ("att", "makes_open (c.op g) ≡ false → c.attached (create_at c g) ≡ c.session_number"),
        ("again", "(j n : ℕ) (x : Sent) → slice_get (conns j).up n ≡ Some x → x.token ≡ ForOp g → locking (c.op g) ≡ true → c.retried (create_at c g) (c.slot_of g) ≡ c.session_number"),
        ("ok", "makes_open (c.op g) ≡ false → is_ok (c.outcome (create_at c g)) ≡ true × makes_open (c.op (create_at c g)) ≡ true")],
@@ -252,7 +252,7 @@ send = event("Send", "an operation goes out itself", "outstanding_on asks_attach
           "full_dead": "λ j n p x. let old = i.full_dead j n p x in let uf = unsettled_firm (c.outcome p) in " + PUSHED,
       })
 event("Ask", "a DH2C goes out in an operation's place", "outstanding_on asks_attach up", "(k g n0 : ℕ) (m0 : Message)",
-      [("ready", "c.ready k ≡ true"), ("none", "c.outstanding_on g ≡ None"), ("above", "0 < g"), ("within", "g ≤ c.taken"), ("kind", "makes_open (c.op g) ≡ false"), ("ok", "is_ok (c.outcome (create_at c g)) ≡ true"), ("mine", "m0.session ≡ c.session"), ("live", "c.live ≡ true"),
+      [("ready", "c.ready k ≡ true"), ("none", "c.outstanding_on g ≡ None"), ("above", "0 < g"), ("within", "g ≤ c.taken"), ("kind", "makes_open (c.op g) ≡ false"), ("ok", "is_ok (c.outcome (create_at c g)) ≡ true"), ("mine", "m0.session_id ≡ c.session"), ("live", "c.live ≡ true"),
        ("body", "m0.command ≡ reconnect_of (c.op (create_at c g)) (guid_for c (create_at c g)) (open_at c g)"), ("loose", "c.attached (create_at c g) ≢ c.session_number"), ("stands", "(conns k).client_open ≡ true")],
       c="(asked c k g)", conns="(put conns k (send_up (conns k) (ForAttach g) m0 n0))",
       parts={
@@ -292,9 +292,9 @@ settle = event("Settle", "a reply settles its operation", "outcome outstanding_o
          ("kept", "firm o0 ≡ true → user_at c g ≡ Some g → fu (create_at c g) (c.slot_of g) ≡ false → s.standing (open_at c g) ≡ true → is_some (kept_of c s g) ≡ true"),
          ("made", "(r : ℕ) → is_ok o0 ≡ true → makes_open (c.op g) ≡ true → s.standing (c.file g) ≡ true → s.lock_sequences (c.file g) r ≡ None"),
          ("near", "makes_open (c.op g) ≡ true → is_ok o0 ≡ true → c.live ≡ true → s.present c.session ≡ true → s.standing (c.file g) ≡ true → s.session_of_open (c.file g) ≡ Some c.session"),
-         ("dead", "(j n : ℕ) (x : Sent) → slice_get (conns j).up n ≡ Some x → x.token ≡ ForOp g → locking (c.op g) ≡ true → firm o0 ≡ true → s.present x.message.session ≡ true → fu (create_at c g) (c.slot_of g) ≡ false"),
-         ("full", "(j n : ℕ) (x : Sent) → slice_get (conns j).up n ≡ Some x → x.token ≡ ForOp g → shuts_open (c.op g) ≡ true → is_ok o0 ≡ false → s.present x.message.session ≡ true → s.standing (open_at c g) ≡ true → (s.opened (open_at c g)).persistent ≡ true → lower_limit < s.journal + 66"),
-         ("stuck", "(j n : ℕ) (x : Sent) → slice_get (conns j).up n ≡ Some x → x.token ≡ ForOp g → shuts_open (c.op g) ≡ true → is_ok o0 ≡ false → s.present x.message.session ≡ true → s.standing (open_at c g) ≡ true → (s.opened (open_at c g)).persistent ≡ false → lower_limit < s.journal + 34 × goes_with s (open_at c g) ≡ true"),
+         ("dead", "(j n : ℕ) (x : Sent) → slice_get (conns j).up n ≡ Some x → x.token ≡ ForOp g → locking (c.op g) ≡ true → firm o0 ≡ true → s.present x.message.session_id ≡ true → fu (create_at c g) (c.slot_of g) ≡ false"),
+         ("full", "(j n : ℕ) (x : Sent) → slice_get (conns j).up n ≡ Some x → x.token ≡ ForOp g → shuts_open (c.op g) ≡ true → is_ok o0 ≡ false → s.present x.message.session_id ≡ true → s.standing (open_at c g) ≡ true → (s.opened (open_at c g)).persistent ≡ true → lower_limit < s.journal + 66"),
+         ("stuck", "(j n : ℕ) (x : Sent) → slice_get (conns j).up n ≡ Some x → x.token ≡ ForOp g → shuts_open (c.op g) ≡ true → is_ok o0 ≡ false → s.present x.message.session_id ≡ true → s.standing (open_at c g) ≡ true → (s.opened (open_at c g)).persistent ≡ false → lower_limit < s.journal + 34 × goes_with s (open_at c g) ≡ true"),
          ("acted", "locking (c.op g) ≡ true → is_ok o0 ≡ true → a g ≡ 1"), ("unacted", "locking (c.op g) ≡ true → refused_for_good o0 ≡ true → a g ≡ 0")],
       c="(record c { outcome = new; outstanding_on = put c.outstanding_on g None; settled_by = by0; order = order0; closed_ok = sh; full = fu })",
       parts={
@@ -407,7 +407,7 @@ for e in (leave, finish):
 OK = "makes_open (c.op q) ≡ true → is_ok (c.outcome q) ≡ true → "
 moves = event("Moves", "the server moves, and carries out no lock", "present standing session_of_open lock_sequences opened journal files by_guid a", "(s2 : Server) (a2 : ℕ → ℕ)",
       [("same_a", "(p : ℕ) → locking (c.op p) ≡ true → a2 p ≡ a p"), ("journal", "s.journal ≤ s2.journal"),
-       ("stay", "(j n : ℕ) (x : Sent) → slice_get (conns j).up n ≡ Some x → is_ops x.token ≡ true → s2.present x.message.session ≡ true → s.present x.message.session ≡ true"),
+       ("stay", "(j n : ℕ) (x : Sent) → slice_get (conns j).up n ≡ Some x → is_ops x.token ≡ true → s2.present x.message.session_id ≡ true → s.present x.message.session_id ≡ true"),
        ("stay_now", "c.live ≡ true → s2.present c.session ≡ true → s.present c.session ≡ true"),
        ("stands", "(q : ℕ) → " + OK + "s2.standing (c.file q) ≡ true → s.standing (c.file q) ≡ true"),
        ("keeps_at", "(o y : ℕ) → s.session_of_open o ≡ Some y → s2.standing o ≡ true → s2.present y ≡ true → s2.session_of_open o ≡ Some y"),
@@ -438,7 +438,7 @@ PLAIN1 = "let m1 = m in "
 for part in ("users", "retried_on", "retried_done", "full_dead"):
     moves.parts[part] = "λ %s h t m. let old = i.%s %s h t m in %sgrind arith" % (PARTS[part][1], part, PARTS[part][1], OPS)
 moves.parts["copy_now"] = "λ j n p x h t m. let old = i.copy_now j n p x h t m in " + OPS + "grind arith"
-moves.parts["copy_attached"] = copy_term("copy_attached", PLAIN1 + ITS + OPS + "let sd = stands (create_at c p) mk ok1 in let ka = keeps_at (open_at c p) x.message.session in ")
+moves.parts["copy_attached"] = copy_term("copy_attached", PLAIN1 + ITS + OPS + "let sd = stands (create_at c p) mk ok1 in let ka = keeps_at (open_at c p) x.message.session_id in ")
 moves.parts["left_full"] = copy_term("left_full", CLOSE1 + ITS + OPS + "let sd = stands (create_at c p) mk ok1 in let op1 = opened (create_at c p) mk ok1 in ")
 moves.parts["left_stuck"] = copy_term("left_stuck", CLOSE1 + ITS + OPS + "let sd = stands (create_at c p) mk ok1 in let op1 = opened (create_at c p) mk ok1 in let sk = stuck (create_at c p) mk ok1 in ")
 moves.parts["left_idle"] = "λ j n p q x h t m. let old = i.left_idle j n p q x h t m in " + UPS + CLOSE1 + ITS + OPS + "let sd = stands (create_at c p) mk ok1 in let op1 = opened (create_at c p) mk ok1 in let sa = same_a q in grind arith"

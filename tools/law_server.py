@@ -94,13 +94,13 @@ EFFECTS = [
     Effect('AddOpen', 'add_open', 'a new open stands, with an id that no open has', [('o', 'ℕ'), ('row', 'Open'), ('session', 'Option ℕ'), ('sequence', 'ℕ'), ('n', 'ℕ'), ('gs', 'ℕ → ℕ')],
            [('free', 's.standing o ≡ false'), ('above', '0 < o'), ('id', 'o ≤ id_of s.epoch n'), ('more', 's.open_ids_given ≤ n'), ('most', 'n ≤ max_ids'),
             ('sess', '(x : ℕ) → session ≡ Some x → s.present x ≡ true'), ('plain', 'row.persistent ≡ false → is_some session ≡ true'),
-            ('guid', '(g : ℕ) → row.guid ≡ Some g → s.by_guid row.client g ≡ None'), ('pguid', 'row.persistent ≡ true → is_some row.guid ≡ true'),
+            ('guid', '(g : ℕ) → row.create_guid ≡ Some g → s.by_guid row.client_guid g ≡ None'), ('pguid', 'row.persistent ≡ true → is_some row.create_guid ≡ true'),
             ('file', 'exists s row.file ≡ true'), ('off_root', 'deletes_on_close row.options ≡ true → row.file ≢ root'), ('kept', '(x : ℕ) → s.present x ≡ false → gs x ≡ 0')],
            'record (add_open s o row session sequence) { open_ids_given = n; guids = gs }',
            'opens standing opened session_of_open deadline by_guid open_ids_given guids',
            {'attached': '+let new = sess x in ',
-            'guid_open': 'λ c g p. added_guid s o row c g p free i_guid_open row.guid refl',
-            'open_guid': 'λ p g. added_open s o row p g free guid i_open_guid row.guid refl',
+            'guid_open': 'λ c g p. added_guid s o row c g p free i_guid_open row.create_guid refl',
+            'open_guid': 'λ p g. added_open s o row p g free guid i_open_guid row.create_guid refl',
             'listed': 'λ p. let old = i_listed p in has-placed p o s.opens ∙ (grind arith)',
             'ascending': 'ascending-placed o s.opens i_ascending (i_listed o ∙ free)',
             'no_guids': 'kept',
@@ -108,33 +108,33 @@ EFFECTS = [
            {'ascending': ['ascending', 'listed'], 'range_owners': ['range_owners']},
            '''
 -- the table of guids with the new open's, as its guid is
-added_guid : (s : Server) (o : ℕ) (row : Open) (c g p : ℕ) → s.standing o ≡ false → GuidOpen s → (u : Option ℕ) → row.guid ≡ u → with_guid s.by_guid row.client u (Some o) c g ≡ Some p
-    → put s.standing o true p ≡ true × (put s.opened o row p).client ≡ c × (put s.opened o row p).guid ≡ Some g
+added_guid : (s : Server) (o : ℕ) (row : Open) (c g p : ℕ) → s.standing o ≡ false → GuidOpen s → (u : Option ℕ) → row.create_guid ≡ u → with_guid s.by_guid row.client_guid u (Some o) c g ≡ Some p
+    → put s.standing o true p ≡ true × (put s.opened o row p).client_guid ≡ c × (put s.opened o row p).create_guid ≡ Some g
 added_guid s o row c g p free old None e = let was = old c g p in grind arith
 added_guid s o row c g p free old (Some h) e = let was = old c g p in grind arith
 
-added_open : (s : Server) (o : ℕ) (row : Open) (p g : ℕ) → s.standing o ≡ false → ((x : ℕ) → row.guid ≡ Some x → s.by_guid row.client x ≡ None) → OpenGuid s → (u : Option ℕ) → row.guid ≡ u
-    → put s.standing o true p ≡ true → (put s.opened o row p).guid ≡ Some g → with_guid s.by_guid row.client u (Some o) (put s.opened o row p).client g ≡ Some p
+added_open : (s : Server) (o : ℕ) (row : Open) (p g : ℕ) → s.standing o ≡ false → ((x : ℕ) → row.create_guid ≡ Some x → s.by_guid row.client_guid x ≡ None) → OpenGuid s → (u : Option ℕ) → row.create_guid ≡ u
+    → put s.standing o true p ≡ true → (put s.opened o row p).create_guid ≡ Some g → with_guid s.by_guid row.client_guid u (Some o) (put s.opened o row p).client_guid g ≡ Some p
 added_open s o row p g free guid old None e = let was = old p g in grind arith
 added_open s o row p g free guid old (Some h) e = let was = old p g in let new = guid h e in grind arith
 '''),
     Effect('DropOpen', 'drop_open', 'an open leaves, with its ranges and its guid', [('o', 'ℕ')], [('stands', 's.standing o ≡ true')],
            'drop_open s o', 'opens standing session_of_open deadline by_guid ranges',
-           {'guid_open': 'λ c g p. dropped_guid s o c g p i_guid_open (s.opened o).guid refl',
-            'open_guid': 'λ p g. dropped_open s o p g stands i_open_guid (s.opened o).guid refl',
+           {'guid_open': 'λ c g p. dropped_guid s o c g p i_guid_open (s.opened o).create_guid refl',
+            'open_guid': 'λ p g. dropped_open s o p g stands i_open_guid (s.opened o).create_guid refl',
             'listed': 'λ p. let old = i_listed p in has-without p o s.opens ∙ (grind arith)',
             'ascending': 'ascending-without o s.opens i_ascending',
             'range_owners': 'λ y n r. dropped_range s o y n r i_range_owners (y == (s.opened o).file) refl',
             },
            {'guid_open': ['guid_open']},
            """
-dropped_guid : (s : Server) (o c g p : ℕ) → GuidOpen s → (u : Option ℕ) → (s.opened o).guid ≡ u → with_guid s.by_guid (s.opened o).client u None c g ≡ Some p
-    → put s.standing o false p ≡ true × (s.opened p).client ≡ c × (s.opened p).guid ≡ Some g
+dropped_guid : (s : Server) (o c g p : ℕ) → GuidOpen s → (u : Option ℕ) → (s.opened o).create_guid ≡ u → with_guid s.by_guid (s.opened o).client_guid u None c g ≡ Some p
+    → put s.standing o false p ≡ true × (s.opened p).client_guid ≡ c × (s.opened p).create_guid ≡ Some g
 dropped_guid s o c g p old None e = let was = old c g p in grind arith
 dropped_guid s o c g p old (Some h) e = let was = old c g p in grind arith
 
-dropped_open : (s : Server) (o p g : ℕ) → s.standing o ≡ true → OpenGuid s → (u : Option ℕ) → (s.opened o).guid ≡ u → put s.standing o false p ≡ true → (s.opened p).guid ≡ Some g
-    → with_guid s.by_guid (s.opened o).client u None (s.opened p).client g ≡ Some p
+dropped_open : (s : Server) (o p g : ℕ) → s.standing o ≡ true → OpenGuid s → (u : Option ℕ) → (s.opened o).create_guid ≡ u → put s.standing o false p ≡ true → (s.opened p).create_guid ≡ Some g
+    → with_guid s.by_guid (s.opened o).client_guid u None (s.opened p).client_guid g ≡ Some p
 dropped_open s o p g stands old None e = let was = old p g in grind arith
 dropped_open s o p g stands old (Some h) e = let was = old p g in let own = old o h stands e in grind arith
 
@@ -182,7 +182,7 @@ renamed_there s old to y replaced other h =
            [('own', '(n : ℕ) (r : Range) → slice_get ranges n ≡ Some r → s.standing r.owner ≡ true × (s.opened r.owner).file ≡ f')],
            'set_ranges s f ranges', 'ranges',
            {'range_owners': 'λ y n r. let old = i_range_owners y n r in let new = own n r in grind arith'}),
-    Effect('SessionEffects', 'attach', "an open that stands becomes a session's", [('m', 'Message'), ('o', 'ℕ')], [('stands', 's.standing o ≡ true'), ('there', 's.present m.session ≡ true')],
+    Effect('SessionEffects', 'attach', "an open that stands becomes a session's", [('m', 'Message'), ('o', 'ℕ')], [('stands', 's.standing o ≡ true'), ('there', 's.present m.session_id ≡ true')],
            'attach s m o', 'session_of_open deadline guids'),
     Effect('SessionEffects', 'keep_refusal', 'a session keeps a refusal', [('session', 'ℕ'), ('guid', 'ℕ'), ('status', 'ℕ')], [('there', 's.present session ≡ true')],
            'keep_refusal s session guid status', 'refused guids'),
@@ -196,7 +196,7 @@ renamed_there s old to y replaced other h =
     Effect('SessionEffects', 'bind', 'a binding is in the making', [('line', 'ℕ'), ('session', 'ℕ')], [('off', 's.session_on line ≡ None')],
            'record s { making = put s.making line (Some (Binding session)) }', 'making'),
     Effect('SessionEffects', 'add_session', 'a session begins that was in the making', [('m', 'Message'), ('user', 'List ℕ'), ('r', 'SetupRequest')],
-           [('absent', 's.present m.session ≡ false'), ('new', 's.making m.connection ≡ Some (NewSession m.session)')],
+           [('absent', 's.present m.session_id ≡ false'), ('new', 's.making m.connection ≡ Some (NewSession m.session_id)')],
            'add_session s m user r', 'present trees next_tree session_on making',
            {},
            {'session_ids': ['session_ids', 'making_ids'], 'making_ids': ['making_ids', 'making_once']}),
@@ -261,12 +261,12 @@ dated_first now false (Some x) row deadline d old h = old d h
             'root_stays': ['root_stays', 'open_files', 'listed', 'file_numbers', 'not_root']},
            """
 ended_guid : (s : Server) (session c g p : ℕ) → GuidOpen s → (u : Option ℕ) → s.by_guid c g ≡ u → guid_staying s session u ≡ Some p
-    → (s.standing p && not (leaves s session p)) ≡ true × (s.opened p).client ≡ c × (s.opened p).guid ≡ Some g
+    → (s.standing p && not (leaves s session p)) ≡ true × (s.opened p).client_guid ≡ c × (s.opened p).create_guid ≡ Some g
 ended_guid s session c g p old None e h = absurd (cc)
 ended_guid s session c g p old (Some q) e h = let was = old c g q e in grind arith
 
-ended_named : (s : Server) (session p g : ℕ) → (s.standing p ≡ true → (s.opened p).guid ≡ Some g → s.by_guid (s.opened p).client g ≡ Some p)
-    → (s.standing p && not (leaves s session p)) ≡ true → (s.opened p).guid ≡ Some g → guid_staying s session (s.by_guid (s.opened p).client g) ≡ Some p
+ended_named : (s : Server) (session p g : ℕ) → (s.standing p ≡ true → (s.opened p).create_guid ≡ Some g → s.by_guid (s.opened p).client_guid g ≡ Some p)
+    → (s.standing p && not (leaves s session p)) ≡ true → (s.opened p).create_guid ≡ Some g → guid_staying s session (s.by_guid (s.opened p).client_guid g) ≡ Some p
 ended_named s session p g old st h =
     let e = old (front_of (s.standing p) (not (leaves s session p)) st) h in let out = not_true (leaves s session p) (back_of (s.standing p) (not (leaves s session p)) st) in rw e (stays_named s session p out)
   where

@@ -256,12 +256,12 @@ command_of t h m = if h.command == 12 then None else Some (named_command h.comma
 abbrev pub heard_as : Told → Header → Command → Message
 heard_as t h c = record {
   connection = t.connection;
-  client = t.client;
-  session = h.session;
-  tree = h.tree;
-  id =
+  client_guid = t.client;
+  session_id = h.session;
+  tree_id = h.tree;
+  message_id =
       h.message;
-  sequence = h.status % 65536;
+  channel_sequence = h.status % 65536;
   replay = has_bit h.flags 0x2000_0000;
   fault = t.fault;
   command = c;

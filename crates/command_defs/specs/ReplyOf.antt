@@ -115,8 +115,8 @@ or_other (Some body) = body
 unfoldable pub reply_of : Command → Header → List ℕ → Reply
 reply_of c h m = record {
   status = h.status;
-  session = h.session;
-  tree = h.tree;
+  session_id = h.session;
+  tree_id = h.tree;
   body = if h.status == success then
       or_other (body_in c m) else Empty;
 }

@@ -44,7 +44,7 @@ a_create = record {
 }
 
 abbrev pub replied : ℕ → Body → Reply
-replied status body = record { status = status; session = 0; tree = 0; body = body }
+replied status body = record { status = status; session_id = 0; tree_id = 0; body = body }
 
 abbrev pub nothing : Info
 nothing = record {

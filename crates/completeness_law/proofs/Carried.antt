@@ -202,7 +202,7 @@ unfolding Here
 dialog_on w k rest r h (GoesOn s) = let f = (behind_reply w k rest).conns in put_carried w.client f k _ (λ g on o s. more_up (f k) ForDialog _ 1 g (h g k on o s)) h
 dialog_on w k rest r h Accepts = let f = (behind_reply w k rest).conns in put_carried w.client f k _ (λ g on o s. more_up (f k) ForDialog _ 1 g (h g k on o s)) h
 dialog_on w k rest r h Binds = let f = (behind_reply w k rest).conns in ended_well Here (behind_reply w k rest) k w.client.session w.client.tree (λ live. h) (λ dead newer. h) (put_carried w.client f k _ (λ g on o s. absurd (cc)) h)
-dialog_on w k rest r h Readies = let f = (behind_reply w k rest).conns in ended_well Here (behind_reply w k rest) k w.client.pending r.tree (λ live. h) (λ dead newer. h) (put_carried w.client f k _ (λ g on o s. absurd (cc)) h)
+dialog_on w k rest r h Readies = let f = (behind_reply w k rest).conns in ended_well Here (behind_reply w k rest) k w.client.pending r.tree_id (λ live. h) (λ dead newer. h) (put_carried w.client f k _ (λ g on o s. absurd (cc)) h)
 dialog_on w k rest r h (Refuses status) = let f = (behind_reply w k rest).conns in put_carried w.client f k _ (λ g on o s. absurd (cc)) h
 
 awaited_if : (c : Client) (k g : ℕ) (asking : Bool) → c.outstanding_on g ≡ Some k → c.asks_attach g ≡ asking → is_awaited c k g asking ≡ true

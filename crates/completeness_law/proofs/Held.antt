@@ -76,12 +76,12 @@ by_effect s m now (KeepSlot o index number status elements) q x f p e = on_same 
 by_effect s m now (PutRanges o index number ranges elements) q x f p e =
     let a = reach s m o in let b = set_ranges a (file_of s o) ranges in on_same s _ q x (stays_so s a _ (stays_reached s m o) (stays_so a b _ (stays_ranged a (file_of s o) ranges) (stays_kept b o index number success))) e
 by_effect s m now (Alter o change body) q x f p e = on_same s _ q x (stays_so s (reach s m o) _ (stays_reached s m o) (stays_changed (reach s m o) (file_of s o) now change)) e
-by_effect s m now (CloseOpen o body) q x f p e = on_same s _ q x (stays_so s (leave_open s o) _ (stays_left s o) (stays_closed (leave_open s o) m.session (s.opened o).guid)) e
+by_effect s m now (CloseOpen o body) q x f p e = on_same s _ q x (stays_so s (leave_open s o) _ (stays_left s o) (stays_closed (leave_open s o) m.session_id (s.opened o).create_guid)) e
 by_effect s m now Challenge q x f p e = e
 by_effect s m now (ChallengeBinding session) q x f p e = e
 by_effect s m now (Begin session user previous r is_quiet) q x f p e =
     let u = end_if_named s now previous is_quiet in
-    other_key u.session_on m.connection q (Some m.session) x (elsewhere m q x r f.command p)
+    other_key u.session_on m.connection q (Some m.session_id) x (elsewhere m q x r f.command p)
     (ends_other s now previous is_quiet q x (λ i is h. p.previous (h ∙ previous_named s user r.previous i (sym f.previous_is ∙ is) ∙ sym (setup_previous m.command r f.command))) e)
 by_effect s m now (Join session) q x f p e = other_key s.session_on m.connection q (Some session) x (elsewhere m q x f.binding.request f.binding.command p) e
 by_effect s m now (EndSession session is_quiet) q x f p e = absurd (p.stays f.command)
@@ -142,8 +142,8 @@ says_first s (Logon user) = refl
 says_session : (s : Server) (m : Message) (r : SetupRequest) → setup_says (session_check s m r) ≡ true
 says_session s m r =
     let P : Verdict → Type 0 = λ v. setup_says v ≡ true in
-    either P (m.session == 0) _ _ (λ _. either P (is_some (s.session_on m.connection)) _ _ (λ _. refl) (λ _. says_first s r.shows))
-    (λ _. either P (s.present m.session) _ _ (λ _. refl) (λ _. either P (is_new m.session (s.making m.connection)) _ _ (λ _. says_second s m r r.shows) (λ _. refl)))
+    either P (m.session_id == 0) _ _ (λ _. either P (is_some (s.session_on m.connection)) _ _ (λ _. refl) (λ _. says_first s r.shows))
+    (λ _. either P (s.present m.session_id) _ _ (λ _. refl) (λ _. either P (is_new m.session_id (s.making m.connection)) _ _ (λ _. says_second s m r r.shows) (λ _. refl)))
 
 says_setup : (s : Server) (m : Message) (r : SetupRequest) → setup_says (setup_check s m r) ≡ true
 says_setup s m r = either (λ v. setup_says v ≡ true) r.binding (binding_check s m r) (session_check s m r) (λ _. says_binding s m r) (λ _. says_session s m r)
@@ -171,17 +171,17 @@ says_full (Begin session user previous r is_quiet) e = refl
 says_full (Join session) e = refl
 says_full _ e = absurd (cc)
 
-enters_by : (s : Server) (m : Message) (now : ℕ) (v : Verdict) → Facts s m v → setup_says v ≡ true → (apply s m now v).reply.status ≡ success → (apply s m now v).server.session_on m.connection ≡ Some m.session
+enters_by : (s : Server) (m : Message) (now : ℕ) (v : Verdict) → Facts s m v → setup_says v ≡ true → (apply s m now v).reply.status ≡ success → (apply s m now v).server.session_on m.connection ≡ Some m.session_id
 enters_by s m now (Refuse status) f k e = absurd (grind arith)
 enters_by s m now Challenge f k e = absurd (cc)
 enters_by s m now (ChallengeBinding session) f k e = absurd (cc)
-enters_by s m now (Begin session user previous r is_quiet) f k e = own_key (end_if_named s now previous is_quiet).session_on m.connection (Some m.session)
+enters_by s m now (Begin session user previous r is_quiet) f k e = own_key (end_if_named s now previous is_quiet).session_on m.connection (Some m.session_id)
 enters_by s m now (Join session) f k e = own_key s.session_on m.connection (Some session) ∙ ap Some f.binding.session_is
 enters_by s m now _ f k e = absurd (cc)
 
-pub enters : (s : Server) (now : ℕ) (m : Message) → is_setup m.command ≡ true → m.fault ≡ None → (step s now (Heard m)).reply.status ≡ success → (step s now (Heard m)).server.session_on m.connection ≡ Some m.session
+pub enters : (s : Server) (now : ℕ) (m : Message) → is_setup m.command ≡ true → m.fault ≡ None → (step s now (Heard m)).reply.status ≡ success → (step s now (Heard m)).server.session_on m.connection ≡ Some m.session_id
 enters s now m k fault =
-    by_verdict (λ A. A.reply.status ≡ success → A.server.session_on m.connection ≡ Some m.session) s now m (λ t v records b f. enters_by t m now v (found t m v f) (says t v f))
+    by_verdict (λ A. A.reply.status ≡ success → A.server.session_on m.connection ≡ Some m.session_id) s now m (λ t v records b f. enters_by t m now v (found t m v f) (says t v f))
   where
     says : (t : Server) (v : Verdict) → Finds t m v → setup_says v ≡ true
     says t v (inl e) = ap setup_says e ∙ says_check t m k fault

@@ -48,14 +48,14 @@ left : (s : Server) (o : ℕ) → FairServer s → FairServer (leave_open s o)
 left s o h = gone (drop_open (pending_behind s o) o) (s.opened o).file (pending_set s o h)
 
 expired : (s : Server) (o : ℕ) → FairServer s → FairServer (expire s o)
-expired s o h = by (s.opened o).guid
+expired s o h = by (s.opened o).create_guid
   where
-    by : (g : Option ℕ) → FairServer (add_expired_guid (leave_open s o) (s.opened o).client g)
+    by : (g : Option ℕ) → FairServer (add_expired_guid (leave_open s o) (s.opened o).client_guid g)
     by None = left s o h
     by (Some g) = left s o h
 
 reached : (s : Server) (m : Message) (o : ℕ) → FairServer s → FairServer (reach s m o)
-reached s m o h = either FairServer (is_late s m o) s (record s { sequence = put s.sequence o m.sequence }) (λ _. h) (λ _. h)
+reached s m o h = either FairServer (is_late s m o) s (record s { sequence = put s.sequence o m.channel_sequence }) (λ _. h) (λ _. h)
 
 joined : (s : Server) (m : Message) (o : ℕ) → FairServer s → FairServer (attached s m o)
 joined s m o h = either FairServer (is_some (s.session_of_open o)) s (attach s m o) (λ _. h) (λ _. h)
@@ -86,7 +86,7 @@ ended_if s now (Some session) q h = ends s session now q h
 by_effect : (s : Server) (m : Message) (now : ℕ) (v : Verdict) → keeps_fair v ≡ true → FairServer s → FairServer (apply s m now v).server
 by_effect s m now (Refuse status) e h = h
 by_effect s m now (Give body) e h = h
-by_effect s m now (KeepRefusal guid status) e h = put_refusals s.refused s.lock_sequences m.session guid status e h
+by_effect s m now (KeepRefusal guid status) e h = put_refusals s.refused s.lock_sequences m.session_id guid status e h
 by_effect s m now (Repeat o r) e h = joined s m o h
 by_effect s m now (Attach o r) e h = joined s m o h
 by_effect s m now (Make r found action) e h = let t = file_made s r found now in no_slots t.refused t.lock_sequences _ (made s r found now h)
@@ -96,7 +96,7 @@ by_effect s m now (Show o last body) e h = reached s m o h
 by_effect s m now (KeepSlot o index number status elements) e h = slotted (reach s m o) o index number status e (reached s m o h)
 by_effect s m now (PutRanges o index number ranges elements) e h = slotted (set_ranges (reach s m o) (file_of s o) ranges) o index number success refl (reached s m o h)
 by_effect s m now (Alter o change body) e h = changed_file (reach s m o) (file_of s o) now change (reached s m o h)
-by_effect s m now (CloseOpen o body) e h = closed (leave_open s o) m.session (s.opened o).guid (left s o h)
+by_effect s m now (CloseOpen o body) e h = closed (leave_open s o) m.session_id (s.opened o).create_guid (left s o h)
 by_effect s m now Challenge e h = h
 by_effect s m now (ChallengeBinding session) e h = h
 by_effect s m now (Begin session user previous r is_quiet) e h = ended_if s now previous is_quiet h
@@ -304,7 +304,7 @@ other_status s now m h p n fault here = by_verdict (λ A. is_other A.reply.statu
     server t (inr q) = subst FairServer (sym q.2) (expired (with_deadlines s now) q.0 h)
 
     checked : (t : Server) → Before s now t → is_fair (check t m) ≡ true
-    checked t b = fair_check t m (server t b) p n fault (ap (λ f. is_at m.session (f m.connection)) (before_stays s now t b).session_on ∙ here)
+    checked t b = fair_check t m (server t b) p n fault (ap (λ f. is_at m.session_id (f m.connection)) (before_stays s now t b).session_on ∙ here)
 
     found : (t : Server) (v : Verdict) → Before s now t → Finds t m v → is_fair v ≡ true
     found t v b (inl q) = ap is_fair q ∙ checked t b
@@ -352,7 +352,7 @@ by_record s (RemoveRecord origin file) e h = either FairServer _ _ s (λ _. h) (
 by_record s (LockRecord origin o index number status elements) e h = either FairServer _ (lock_recorded s o index number status elements) s (λ _. locked s o index number status elements e h) (λ _. h)
 by_record s (CloseRecord origin o) e h = either FairServer (s.standing o) (shut_recorded s o) s (λ _. pending_set s o h) (λ _. h)
 by_record s (ExpireRecord origin o) e h =
-    either FairServer (s.standing o && nat_lt s.expired_count max_expired_guids) (add_expired_guid (shut_recorded s o) (s.opened o).client (s.opened o).guid) s (λ _. expired_added (shut_recorded s o) (s.opened o).client (s.opened o).guid (pending_set s o h)) (λ _. h)
+    either FairServer (s.standing o && nat_lt s.expired_count max_expired_guids) (add_expired_guid (shut_recorded s o) (s.opened o).client_guid (s.opened o).create_guid) s (λ _. expired_added (shut_recorded s o) (s.opened o).client_guid (s.opened o).create_guid (pending_set s o h)) (λ _. h)
 
 folds : (s : Server) (rs : List Record) → all_fair rs ≡ true → FairServer s → FairServer (fold_from s rs)
 unfolding fold_from all_fair

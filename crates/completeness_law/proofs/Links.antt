@@ -69,7 +69,7 @@ by_record s (LockRecord origin o index number status elements) = either (λ (t :
 by_record s (CloseRecord origin o) = either (λ (t : Server). t.connections ≡ s.connections) (s.standing o) _ s (λ _. (shut s o).connections) (λ _. refl)
 by_record s (ExpireRecord origin o) =
     either (λ (t : Server). t.connections ≡ s.connections) (s.standing o && nat_lt s.expired_count max_expired_guids) _ s
-    (λ _. (expired_added (shut_recorded s o) (s.opened o).client (s.opened o).guid).connections ∙ (shut s o).connections) (λ _. refl)
+    (λ _. (expired_added (shut_recorded s o) (s.opened o).client_guid (s.opened o).create_guid).connections ∙ (shut s o).connections) (λ _. refl)
 
 folds : (s : Server) (rs : List Record) → (fold_from s rs).connections ≡ s.connections
 unfolding fold_from

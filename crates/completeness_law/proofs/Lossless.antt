@@ -304,7 +304,7 @@ dialogs : (w : World) (k : ℕ) (r : Reply) (d : DialogStep) → Here w → Here
 dialogs w k r (GoesOn s) i = record { client = i.client; told = sent_told w.log.places w.log.who w.conns k 1 ForDialog _ i.told }
 dialogs w k r Accepts i = record { client = i.client; told = sent_told w.log.places w.log.who w.conns k 1 ForDialog _ i.told }
 dialogs w k r Binds i = ended w k w.client.session w.client.tree i
-dialogs w k r Readies i = ended w k w.client.pending r.tree i
+dialogs w k r Readies i = ended w k w.client.pending r.tree_id i
 dialogs w k r (Refuses status) i = record { client = i.client; told = shut_told w.log.places w.log.who w.conns k i.told }
 
 takes : (w : World) (k : ℕ) (ys : List Received) → (w.conns k).down ≡ ys → Here w → Here (take_reply w k ys)

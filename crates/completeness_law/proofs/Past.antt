@@ -283,7 +283,7 @@ dialogs : (w : World) (k : ℕ) (r : Reply) → AllUp PlainOp w.conns → (d : D
 dialogs w k r i (GoesOn s) = sent_up w.conns k 1 ForDialog _ (λ o. absurd (cc)) i
 dialogs w k r i Accepts = sent_up w.conns k 1 ForDialog _ (λ o. absurd (cc)) i
 dialogs w k r i Binds = ended_up w k w.client.session w.client.tree i
-dialogs w k r i Readies = ended_up w k w.client.pending r.tree i
+dialogs w k r i Readies = ended_up w k w.client.pending r.tree_id i
 dialogs w k r i (Refuses status) = lost_up PlainOp w.conns k (client_off (w.conns k)) (inl refl) i
 
 takes : (w : World) (k : ℕ) → AllUp PlainOp w.conns → (ys : List Received) → AllUp PlainOp (take_reply w k ys).conns

@@ -96,7 +96,7 @@ dialogs : (w : World) (k : ℕ) (r : Reply) (d : DialogStep) → FairWorld w →
 dialogs w k r (GoesOn s) h = h
 dialogs w k r Accepts h = h
 dialogs w k r Binds h = closes w k (act w.client (IsReady k w.client.session w.client.tree)) h
-dialogs w k r Readies h = closes w k (act w.client (IsReady k w.client.pending r.tree)) h
+dialogs w k r Readies h = closes w k (act w.client (IsReady k w.client.pending r.tree_id)) h
 dialogs w k r (Refuses status) h = h
 
 takes : (w : World) (k : ℕ) (ys : List Received) → FairWorld w → FairWorld (take_reply w k ys)
@@ -162,5 +162,5 @@ finds w a fit s seats plain fair k x rest ready o so is =
     let ops = ops_token x.token (no_dialog_up w a k x rest fit ready is) in let from = s.from_client k 0 x f0 in
     let p = plain k 0 x f0 ops in let n = (work_kind m.command (s.work_up k 0 x f0 ops)).0 in
     let held = (seats k).held o so w.client.session (if_on (w.client.ready k) (Some w.client.session) (dialog_seat (w.client.stage k) (w.conns k).down w.client.session w.client.pending) ready) in
-    let here : has_session w.server m ≡ true = ap (λ i. is_at m.session (w.server.session_on i)) from.1 ∙ ap (is_at m.session) held ∙ same_test m.session w.client.session (s.current_up k 0 x f0 ops o).1 in
+    let here : has_session w.server m ≡ true = ap (λ i. is_at m.session_id (w.server.session_on i)) from.1 ∙ ap (is_at m.session_id) held ∙ same_test m.session_id w.client.session (s.current_up k 0 x f0 ops o).1 in
     other_answer w.server w.moment m m.command refl fair p n here (not_deleted (step w.server w.moment (Heard m)).reply.status (other_status w.server w.moment m fair p n from.2 here))

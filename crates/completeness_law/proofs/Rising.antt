@@ -22,7 +22,7 @@ pub record Rising (c : Client) : Type 0 where
 
 -- the interim reply that waits tells such an id
 abbrev pub ReplyAbove : Client → (ℕ → Conn) → Type 0
-ReplyAbove c conns = (k : ℕ) (y : Received) (rest : List Received) → c.stage k ≡ SaidFirst false → (conns k).down ≡ y ∷ rest → y.token ≡ ForDialog → y.reply.status ≡ more_processing_required → c.session < y.reply.session
+ReplyAbove c conns = (k : ℕ) (y : Received) (rest : List Received) → c.stage k ≡ SaidFirst false → (conns k).down ≡ y ∷ rest → y.token ≡ ForDialog → y.reply.status ≡ more_processing_required → c.session < y.reply.session_id
 
 rising_same : (c d : Client) → d.session_number ≡ c.session_number → d.session ≡ c.session → d.pending ≡ c.pending → d.stage ≡ c.stage → Rising c → Rising d
 rising_same c d number session pending stage h =
@@ -79,12 +79,12 @@ one_making c j k m a b = same (sym (m j a) ∙ m k b)
     same : Some j ≡ Some k → j ≡ k
     same e = cc
 
-told : (c : Client) (k : ℕ) (y : Received) → Making c → c.stage k ≡ SaidFirst false → c.session < y.reply.session → Rising c → Rising (went_on c k (SaidSecond false) y.reply)
+told : (c : Client) (k : ℕ) (y : Received) → Making c → c.stage k ≡ SaidFirst false → c.session < y.reply.session_id → Rising c → Rising (went_on c k (SaidSecond false) y.reply)
 told c k y m at above h =
     record {
       zero_session = h.zero_session;
       second = λ q e. above;
-      asked = λ q. elim (q == k) as (λ t. q == k ≡ t → (if t then SaidSecond false else c.stage q) ≡ AskedTree → c.session < y.reply.session) [ true ↦ λ e f. absurd (cc) | false ↦ λ e f. above ] refl;
+      asked = λ q. elim (q == k) as (λ t. q == k ≡ t → (if t then SaidSecond false else c.stage q) ≡ AskedTree → c.session < y.reply.session_id) [ true ↦ λ e f. absurd (cc) | false ↦ λ e f. above ] refl;
     }
 
 goes_on : (w : World) (k : ℕ) (s : Stage) (y : Received) (rest : List Received) → Making w.client → ReplyAbove w.client w.conns → (w.conns k).down ≡ y ∷ rest → y.token ≡ ForDialog → dialog_step (w.client.stage k) y.reply.status ≡ GoesOn s → Rising w.client → Rising (went_on w.client k s y.reply)

@@ -106,7 +106,7 @@ one_up ys y m e f = first (sym (ap (λ zs. zs ++ y ∷ []) e) ∙ f)
     first : y ∷ [] ≡ m ∷ [] → y ≡ m
     first e = cc
 
-second_message : (c : Client) (k id : ℕ) (s : Stage) → s ≡ SaidSecond true → is_setup (dialog_message c k id s).command ≡ true × (dialog_message c k id s).session ≡ c.session
+second_message : (c : Client) (k id : ℕ) (s : Stage) → s ≡ SaidSecond true → is_setup (dialog_message c k id s).command ≡ true × (dialog_message c k id s).session_id ≡ c.session
 second_message c k id Apart e = absurd (cc)
 second_message c k id (SaidNegotiate b) e = absurd (cc)
 second_message c k id (SaidFirst b) e = absurd (cc)
@@ -119,7 +119,7 @@ next_seat c k id s r conn b on off n down up =
     record {
       held = λ o i x e. absurd (no_seat r s conn.down c.session b x off n down e);
       bound = λ e o m is. let q = second_message c k id s e in
-          let same = one_up conn.up (record { token = ForDialog; message = dialog_message c k id s }) m up is in (ap (λ (z : Sent). is_setup z.message.command) (sym same) ∙ q.0, ap (λ (z : Sent). z.message.session) (sym same) ∙ q.1);
+          let same = one_up conn.up (record { token = ForDialog; message = dialog_message c k id s }) m up is in (ap (λ (z : Sent). is_setup z.message.command) (sym same) ∙ q.0, ap (λ (z : Sent). z.message.session_id) (sym same) ∙ q.1);
     }
 
 -- the pending session counts in the dialogs of new ones alone
@@ -214,7 +214,7 @@ goes_on w a k y rest s e T =
     pend q n (SaidNegotiate bound) m i = i
     pend q n (SaidFirst bound) m i = i
     pend q n (SaidSecond true) m i = i
-    pend q n (SaidSecond false) m i = other_pending (w.client.ready q) (w.client.stage q) (w.conns q) w.client.session w.client.pending y.reply.session (w.server.session_on q) (other_makes w k q T.sessions (m refl) n) i
+    pend q n (SaidSecond false) m i = other_pending (w.client.ready q) (w.client.stage q) (w.conns q) w.client.session w.client.pending y.reply.session_id (w.server.session_on q) (other_makes w k q T.sessions (m refl) n) i
     pend q n AskedTree m i = i
 
 accepts : (w : World) (a : ℕ → ℕ) (k : ℕ) (y : Received) (rest : List Received) → w.client.stage k ≡ SaidSecond false → (y.reply.status == success) ≡ true → Taking w a k y rest → Here (dialog_took (behind_reply w k rest) k y.reply Accepts)
@@ -256,10 +256,10 @@ bound_now w a k y rest stage status T =
     (λ o s. (T.here k).held o s c.session (second_held (c.ready k) (c.stage k) (w.conns k).down y rest c.session c.pending true T.bare.off stage T.is status))
     (λ q n. two_columns c d q (w.conns q) (w.server.session_on q) (put_off c.ready k true q n) (put_off c.stage k Apart q n) refl refl (T.here q))
 
-begun_now : (w : World) (a : ℕ → ℕ) (k : ℕ) (y : Received) (rest : List Received) → w.client.stage k ≡ AskedTree → w.client.live ≡ false → Taking w a k y rest → Here (with_client (behind_reply w k rest) (begin_session w.client k w.client.pending y.reply.tree))
+begun_now : (w : World) (a : ℕ → ℕ) (k : ℕ) (y : Received) (rest : List Received) → w.client.stage k ≡ AskedTree → w.client.live ≡ false → Taking w a k y rest → Here (with_client (behind_reply w k rest) (begin_session w.client k w.client.pending y.reply.tree_id))
 unfolding Here
 begun_now w a k y rest stage dead T =
-    let c = w.client in let d = begin_session c k c.pending y.reply.tree in
+    let c = w.client in let d = begin_session c k c.pending y.reply.tree_id in
     becomes w k rest d T.here (put_at c.ready k true) (put_at c.stage k Apart)
     (λ o s. (T.here k).held o s c.pending (asked_held (c.ready k) (c.stage k) (w.conns k).down c.session c.pending T.bare.off stage))
     (λ q n. subst (λ r. Seat r (d.stage q) (w.conns q) d.session d.pending (w.server.session_on q)) (sym (put_off c.ready k true q n)) (subst (λ t. Seat (c.ready q) t (w.conns q) d.session d.pending (w.server.session_on q)) (sym (put_off c.stage k Apart q n))
@@ -287,7 +287,7 @@ took_dialog w a k y rest T (SaidSecond false) at =
     either (λ d. Here (dialog_took (behind_reply w k rest) k y.reply d)) (y.reply.status == success) Accepts (Refuses y.reply.status) (λ e. accepts w a k y rest at e T) (λ _. refused w a k y rest y.reply.status T)
 took_dialog w a k y rest T AskedTree at =
     either (λ d. Here (dialog_took (behind_reply w k rest) k y.reply d)) (y.reply.status == success) Readies (Refuses y.reply.status)
-    (λ e. ended_well Here (behind_reply w k rest) k w.client.pending y.reply.tree (λ live. absurd (no_maker w.client.making k (T.sessions.live_accepted live).2 (T.sessions.making k (ap makes_session at)))) (λ dead _. begun_now w a k y rest at dead T) (left_out w a k y rest T))
+    (λ e. ended_well Here (behind_reply w k rest) k w.client.pending y.reply.tree_id (λ live. absurd (no_maker w.client.making k (T.sessions.live_accepted live).2 (T.sessions.making k (ap makes_session at)))) (λ dead _. begun_now w a k y rest at dead T) (left_out w a k y rest T))
     (λ _. refused w a k y rest y.reply.status T)
 
 takes : (w : World) (a : ℕ → ℕ) (k : ℕ) → Connections w.client w.conns a → Sessions w.client w.conns w.server → Channels w.client w.conns → Here w → (ys : List Received) → (w.conns k).down ≡ ys → Here (take_reply w k ys)

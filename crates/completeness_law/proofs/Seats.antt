@@ -42,7 +42,7 @@ seat ready stage ys session pending = if ready then Some session else dialog_sea
 -- a further channel's second SESSION_SETUP, where it waits, is one of the live session
 pub record Seat (ready : Bool) (stage : Stage) (conn : Conn) (session pending : ℕ) (on : Option ℕ) : Type 0 where
   pub held : conn.client_open ≡ true → conn.server_open ≡ true → (x : ℕ) → seat ready stage conn.down session pending ≡ Some x → on ≡ Some x
-  pub bound : stage ≡ SaidSecond true → conn.client_open ≡ true → (m : Sent) → conn.up ≡ m ∷ [] → is_setup m.message.command ≡ true × m.message.session ≡ session
+  pub bound : stage ≡ SaidSecond true → conn.client_open ≡ true → (m : Sent) → conn.up ≡ m ∷ [] → is_setup m.message.command ≡ true × m.message.session_id ≡ session
 
 abbrev pub Seats : Client → (ℕ → Conn) → Server → Type 0
 Seats c conns s = (q : ℕ) → Seat (c.ready q) (c.stage q) (conns q) c.session c.pending (s.session_on q)
@@ -337,7 +337,7 @@ turns w a k x rest place is fit s channels past h =
       second = λ bound at o status. by bound at o status;
     }
   where
-    enters_here : is_setup x.message.command ≡ true → (answer w x).reply.status ≡ success → (answer w x).server.session_on k ≡ Some x.message.session
+    enters_here : is_setup x.message.command ≡ true → (answer w x).reply.status ≡ success → (answer w x).server.session_on k ≡ Some x.message.session_id
     enters_here kind status =
         let f0 = front_up (w.conns k).up x rest is in let from = s.from_client k 0 x f0 in let e = setup_answer w.server w.moment x.message x.message.command kind in
         ap (λ (A : Answer). A.server.session_on k) e ∙ ap (λ i. (step w.server w.moment (Heard x.message)).server.session_on i) (sym from.1) ∙ enters w.server w.moment x.message kind from.2 (ap (λ (A : Answer). A.reply.status) (sym e) ∙ status)

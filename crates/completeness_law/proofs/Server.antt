@@ -35,7 +35,7 @@ left : (s : Server) (o : ℕ) → Same s (leave_open s o)
 left s o = same_so s (pending_behind s o) (leave_open s o) (pending_set s o) (same_so (pending_behind s o) (drop_open (pending_behind s o) o) (leave_open s o) (record { connections = refl }) (gone (drop_open (pending_behind s o) o) (s.opened o).file))
 
 expired : (s : Server) (o : ℕ) → Same s (expire s o)
-expired s o = same_so s (leave_open s o) (expire s o) (left s o) (guid_added (leave_open s o) (s.opened o).client (s.opened o).guid)
+expired s o = same_so s (leave_open s o) (expire s o) (left s o) (guid_added (leave_open s o) (s.opened o).client_guid (s.opened o).create_guid)
   where
     guid_added : (t : Server) (client : ℕ) (g : Option ℕ) → Same t (add_expired_guid t client g)
     guid_added t client None = record { connections = refl }
@@ -45,7 +45,7 @@ pub expired_connections : (s : Server) (o : ℕ) → (expire s o).connections �
 expired_connections s o = (expired s o).connections
 
 reached : (s : Server) (m : Message) (o : ℕ) → Same s (reach s m o)
-reached s m o = either (λ t. Same s t) (is_late s m o) s (record s { sequence = put s.sequence o m.sequence }) (λ _. record { connections = refl }) (λ _. record { connections = refl })
+reached s m o = either (λ t. Same s t) (is_late s m o) s (record s { sequence = put s.sequence o m.channel_sequence }) (λ _. record { connections = refl }) (λ _. record { connections = refl })
 
 joined : (s : Server) (m : Message) (o : ℕ) → Same s (attached s m o)
 joined s m o = either (λ t. Same s t) (is_some (s.session_of_open o)) s (attach s m o) (λ _. record { connections = refl }) (λ _. record { connections = refl })
@@ -87,7 +87,7 @@ by_effect s m now (KeepSlot o index number status elements) = same_so s (reach s
 by_effect s m now (PutRanges o index number ranges elements) =
     same_so s (reach s m o) _ (reached s m o) (same_so (reach s m o) (set_ranges (reach s m o) (file_of s o) ranges) _ (record { connections = refl }) (slotted (set_ranges (reach s m o) (file_of s o) ranges) o index number success))
 by_effect s m now (Alter o change body) = same_so s (reach s m o) _ (reached s m o) (changed_file (reach s m o) (file_of s o) now change)
-by_effect s m now (CloseOpen o body) = same_so s (leave_open s o) _ (left s o) (closed (leave_open s o) m.session (s.opened o).guid)
+by_effect s m now (CloseOpen o body) = same_so s (leave_open s o) _ (left s o) (closed (leave_open s o) m.session_id (s.opened o).create_guid)
 by_effect s m now Challenge = record { connections = refl }
 by_effect s m now (ChallengeBinding session) = record { connections = refl }
 by_effect s m now (Begin session user previous r is_quiet) = same_so s (end_if_named s now previous is_quiet) _ (ended s now previous is_quiet) (record { connections = refl })

@@ -90,25 +90,25 @@ fair_new : (s : Server) (m : Message) (r : CreateRequest) (found : Option ℕ) �
 fair_new s m r found =
     let P : Verdict → Type 0 = λ v. is_fair v ≡ true in
     either P (deletes_on_close r.options && not (deletes (mapped r.access))) _ _ (λ _. refl)
-    (λ _. either P (keeps_guid r && nat_le max_guids (s.guids m.session)) _ _ (λ _. refl)
+    (λ _. either P (keeps_guid r && nat_le max_guids (s.guids m.session_id)) _ _ (λ _. refl)
     (λ _. either P (is_counted_out s r found) _ _ (λ _. fair_refused r.durable insufficient_resources refl) (λ _. fair_after s r found (names s r found) refl)))
 
 fair_live : (s : Server) (m : Message) (r : CreateRequest) (o : ℕ) → is_fair (live_check s m r o) ≡ true
 fair_live s m r o = grind arith
 
-fair_refusal : (s : Server) (m : Message) (r : CreateRequest) (g : ℕ) (u : Option ℕ) → FairServer s → s.refused m.session g ≡ u → is_fair (refusal_check s m r u) ≡ true
-fair_refusal s m r g (Some status) f e = f.creates m.session g status e
+fair_refusal : (s : Server) (m : Message) (r : CreateRequest) (g : ℕ) (u : Option ℕ) → FairServer s → s.refused m.session_id g ≡ u → is_fair (refusal_check s m r u) ≡ true
+fair_refusal s m r g (Some status) f e = f.creates m.session_id g status e
 fair_refusal s m r g None f e = fair_new s m r (find s r.path)
 
 fair_guid : (s : Server) (m : Message) (r : CreateRequest) (d : Durable) (u : Option ℕ) → FairServer s → is_fair (guid_check s m r d u) ≡ true
 fair_guid s m r d (Some o) f = fair_live s m r o
 fair_guid s m r d None f =
     let P : Verdict → Type 0 = λ v. is_fair v ≡ true in
-    either P (s.closed m.session d.guid) _ _ (λ _. refl) (λ _. either P (s.expired_guids m.client d.guid) _ _ (λ _. refl) (λ _. fair_refusal s m r d.guid (s.refused m.session d.guid) f refl))
+    either P (s.closed m.session_id d.guid) _ _ (λ _. refl) (λ _. either P (s.expired_guids m.client_guid d.guid) _ _ (λ _. refl) (λ _. fair_refusal s m r d.guid (s.refused m.session_id d.guid) f refl))
 
 fair_durable : (s : Server) (m : Message) (r : CreateRequest) (u : Option Durable) → FairServer s → is_fair (durable_check s m r u) ≡ true
 fair_durable s m r None f = fair_new s m r (find s r.path)
-fair_durable s m r (Some d) f = fair_guid s m r d (s.by_guid m.client d.guid) f
+fair_durable s m r (Some d) f = fair_guid s m r d (s.by_guid m.client_guid d.guid) f
 
 fair_reconnect : (s : Server) (m : Message) (r : CreateRequest) (c : Reconnect) → is_fair (reconnect_check s m r c) ≡ true
 fair_reconnect s m r c = grind arith
@@ -273,7 +273,7 @@ fair_in_tree s m None f p = refl
 fair_in_tree s m (Some pipes) f p = fair_tree s m pipes m.command f p
 
 fair_with_tree : (s : Server) (m : Message) → FairServer s → is_plain m.command ≡ true → is_fair (with_tree s m) ≡ true
-fair_with_tree s m f p = fair_in_tree s m (tree_in (s.trees m.session) m.tree) f p
+fair_with_tree s m f p = fair_in_tree s m (tree_in (s.trees m.session_id) m.tree_id) f p
 
 fair_connect : (s : Server) (m : Message) (share : List ℕ) → is_fair (tree_check s m share) ≡ true
 fair_connect s m share = grind arith
@@ -366,8 +366,8 @@ keeps_first s (Logon user) = refl
 keeps_session : (s : Server) (m : Message) (r : SetupRequest) → keeps_fair (session_check s m r) ≡ true
 keeps_session s m r =
     let P : Verdict → Type 0 = λ v. keeps_fair v ≡ true in
-    either P (m.session == 0) _ _ (λ _. either P (is_some (s.session_on m.connection)) _ _ (λ _. refl) (λ _. keeps_first s r.shows))
-    (λ _. either P (s.present m.session) _ _ (λ _. refl) (λ _. either P (is_new m.session (s.making m.connection)) _ _ (λ _. keeps_second s m r r.shows) (λ _. refl)))
+    either P (m.session_id == 0) _ _ (λ _. either P (is_some (s.session_on m.connection)) _ _ (λ _. refl) (λ _. keeps_first s r.shows))
+    (λ _. either P (s.present m.session_id) _ _ (λ _. refl) (λ _. either P (is_new m.session_id (s.making m.connection)) _ _ (λ _. keeps_second s m r r.shows) (λ _. refl)))
 
 keeps_setup : (s : Server) (m : Message) (r : SetupRequest) → keeps_fair (setup_check s m r) ≡ true
 keeps_setup s m r = either (λ v. keeps_fair v ≡ true) r.binding (binding_check s m r) (session_check s m r) (λ _. keeps_binding s m r) (λ _. keeps_session s m r)

@@ -113,7 +113,7 @@ took_dialog w k r b q (SaidSecond false) at =
     (λ _. accepts w k r b (lower_by AskedTree (SaidSecond false) (w.client.stage k) at (omega arith))) (λ _. refused_now w k r r.status)
 took_dialog w k r b q AskedTree at =
     either (λ d. Taken w (dialog_took w k r d) k) (r.status == success) Readies (Refuses r.status)
-    (λ _. ends_well w k w.client.pending r.tree b (λ off. (at, λ newer. begins_dead w.client.live w.client.session w.client.session_number w.client.pending (q.dead at) newer off))) (λ _. refused_now w k r r.status)
+    (λ _. ends_well w k w.client.pending r.tree_id b (λ off. (at, λ newer. begins_dead w.client.live w.client.session w.client.session_number w.client.pending (q.dead at) newer off))) (λ _. refused_now w k r r.status)
 
 pub filled_on : {X : Type 0} (xs : List X) (x : X) (rest : List X) → xs ≡ x ∷ rest → is_filled xs ≡ true
 unfolding is_filled

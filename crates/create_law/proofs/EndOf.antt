@@ -72,9 +72,9 @@ end_of_unclosed : (c : Client) (conns : ℕ → Conn) (v : Seen) (a : ℕ → �
 end_of_unclosed c conns v a x here lives i_unclosed i_attached i_named_kind =
     λ p m u l s. kept_still c v x p (i_unclosed p m u l (still_before c v x p s)) (λ o e. by_kind c v x p o (i_named_kind p o e).0 s (λ n t. goes_not c v x o i_attached here c.session n (lives t)))
 
-end_of_acted_kept : (c : Client) (conns : ℕ → Conn) (v : Seen) (a : ℕ → ℕ) (x : ℕ) → ((y : ℕ) → v.present y ≡ true → 0 < c.rank y → y ≡ c.accepted) → ((j n h : ℕ) (y : Sent) → slice_get (conns j).up n ≡ Some y → y.token ≡ ForOp h → 0 < c.rank y.message.session) → ActedKept c conns v a → Attached c v → ActedKept c conns (end_of v x) a
+end_of_acted_kept : (c : Client) (conns : ℕ → Conn) (v : Seen) (a : ℕ → ℕ) (x : ℕ) → ((y : ℕ) → v.present y ≡ true → 0 < c.rank y → y ≡ c.accepted) → ((j n h : ℕ) (y : Sent) → slice_get (conns j).up n ≡ Some y → y.token ≡ ForOp h → 0 < c.rank y.message.session_id) → ActedKept c conns v a → Attached c v → ActedKept c conns (end_of v x) a
 end_of_acted_kept c conns v a x here ranked i_acted_kept i_attached =
-    λ j n p y h t m e s. end_kept c v x p y.message.session (i_acted_kept j n p y h t m (there_before v x y.message.session e) s) (λ o q. goes_not c v x o i_attached here y.message.session (apart_from v x y.message.session e) (here y.message.session (there_before v x y.message.session e) (ranked j n p y h t))) (apart_from v x y.message.session e)
+    λ j n p y h t m e s. end_kept c v x p y.message.session_id (i_acted_kept j n p y h t m (there_before v x y.message.session_id e) s) (λ o q. goes_not c v x o i_attached here y.message.session_id (apart_from v x y.message.session_id e) (here y.message.session_id (there_before v x y.message.session_id e) (ranked j n p y h t))) (apart_from v x y.message.session_id e)
 
 end_of_dead_refused : (c : Client) (conns : ℕ → Conn) (v : Seen) (a : ℕ → ℕ) (x : ℕ) → DeadRefused c conns v → DeadRefused c conns (end_of v x)
 end_of_dead_refused c conns v a x i_dead_refused =
@@ -104,7 +104,7 @@ end_of_reply_of : (c : Client) (conns : ℕ → Conn) (v : Seen) (a : ℕ → �
 end_of_reply_of c conns v a x i_reply_of =
     λ j n p o y. let old = i_reply_of j n p o y in grind (arith, get-push)
 
-pub end_of_creates : (c : Client) (conns : ℕ → Conn) (v : Seen) (a : ℕ → ℕ) (x : ℕ) → ((y : ℕ) → v.present y ≡ true → 0 < c.rank y → y ≡ c.accepted) → (c.live ≡ true → c.session ≡ c.accepted) → ((j n h : ℕ) (y : Sent) → slice_get (conns j).up n ≡ Some y → y.token ≡ ForOp h → 0 < c.rank y.message.session) → Creates c conns v a → Creates c conns (end_of v x) a
+pub end_of_creates : (c : Client) (conns : ℕ → Conn) (v : Seen) (a : ℕ → ℕ) (x : ℕ) → ((y : ℕ) → v.present y ≡ true → 0 < c.rank y → y ≡ c.accepted) → (c.live ≡ true → c.session ≡ c.accepted) → ((j n h : ℕ) (y : Sent) → slice_get (conns j).up n ≡ Some y → y.token ≡ ForOp h → 0 < c.rank y.message.session_id) → Creates c conns v a → Creates c conns (end_of v x) a
 end_of_creates c conns v a x here lives ranked i =
     record {
       made = end_of_made c conns v a x i.made;

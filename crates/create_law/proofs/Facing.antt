@@ -34,7 +34,7 @@ pub record Facing (c : Client) (conns : ℕ → Conn) (r : Rest) (k : ℕ) (x0 :
   pub making : (j x : ℕ) → is_new x (r.making j) ≡ true → c.rank x ≡ 0
   pub users : (x : ℕ) → r.present x ≡ true → r.user x ≡ logon_user c.who.logon
   pub on_present : (j x : ℕ) → r.session_on j ≡ Some x → r.present x ≡ true
-  pub trees : (j n : ℕ) (x : Sent) → slice_get (conns j).up n ≡ Some x → is_ops x.token ≡ true → r.present x.message.session ≡ true → is_some (tree_in (r.trees x.message.session) x.message.tree) ≡ true
+  pub trees : (j n : ℕ) (x : Sent) → slice_get (conns j).up n ≡ Some x → is_ops x.token ≡ true → r.present x.message.session_id ≡ true → is_some (tree_in (r.trees x.message.session_id) x.message.tree_id) ≡ true
   pub kinds : (x id : ℕ) (b : Bool) → tree_in (r.trees x) id ≡ Some b → has_files c.who.share ≡ not b
 
 -- ---- an expiry
@@ -53,7 +53,7 @@ expired_rest s client None = refl
 expired_rest s client (Some g) = refl
 
 pub expire_rest : (s : Server) (o : ℕ) → rest (expire s o) ≡ rest s
-expire_rest s o = expired_rest (leave_open s o) (s.opened o).client (s.opened o).guid ∙ leave_rest s o true
+expire_rest s o = expired_rest (leave_open s o) (s.opened o).client_guid (s.opened o).create_guid ∙ leave_rest s o true
 
 -- ---- tokens
 

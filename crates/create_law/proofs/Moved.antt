@@ -62,7 +62,7 @@ attaches : (c : Client) (conns : ℕ → Conn) (a : ℕ → ℕ) (t : Server) (k
     → Creates c conns (seen (attached t x0.message o)) a
 attaches c conns a t k x0 r o fc on is i =
     either (λ u. Creates c conns (seen u) a) (is_some (t.session_of_open o)) _ _ (λ _. i)
-    (λ _. attach_to_creates c conns (seen t) a x0.message.session o (fc.ranked k 0 x0 fc.front (of_op conns k x0 r i.dialog_up fc.front is)) (fc.on_present x0.message.connection x0.message.session on.session_on) i)
+    (λ _. attach_to_creates c conns (seen t) a x0.message.session_id o (fc.ranked k 0 x0 fc.front (of_op conns k x0 r i.dialog_up fc.front is)) (fc.on_present x0.message.connection x0.message.session_id on.session_on) i)
 
 -- ---- a create that acts
 
@@ -86,14 +86,14 @@ keeps_by b n e f = grind arith
 
 -- what the message of a create is, where the checks let it make its open
 pub record Own (c : Client) (g : ℕ) (t : Server) (m : Message) (r : CreateRequest) : Type 0 where
-  pub client : m.client ≡ c.who.guid
+  pub client : m.client_guid ≡ c.who.guid
   pub durable : r.durable ≡ Some (durable_of (guid_at c g) (outlives (c.op g)))
   pub formed : may_act c g ≡ true
   pub unnamed : named c (seen t) g ≡ None
-  pub unclosed : t.closed m.session (guid_at c g) ≡ false
+  pub unclosed : t.closed m.session_id (guid_at c g) ≡ false
   pub not_pending : t.expired_guids c.who.guid (guid_at c g) ≡ false
-  pub unrefused : t.refused m.session (guid_at c g) ≡ None
-  pub unfull : is_full (t.guids m.session) ≡ false
+  pub unrefused : t.refused m.session_id (guid_at c g) ≡ None
+  pub unfull : is_full (t.guids m.session_id) ≡ false
 
 owns : (c : Client) (conns : ℕ → Conn) (a : ℕ → ℕ) (t : Server) (k : ℕ) (x0 : Sent) (r : CreateRequest) (found : Option ℕ) (action g : ℕ) → Connections c conns a → slice_get (conns k).up 0 ≡ Some x0 → MakeFacts t x0.message r found action
     → ((x id : ℕ) (b : Bool) → tree_in (t.trees x) id ≡ Some b → has_files c.who.share ≡ not b) → x0.token ≡ ForOp g → makes_open (c.op g) ≡ true → Own c g t x0.message r
@@ -108,21 +108,21 @@ owns c conns a t k x0 r found action g f front mf kinds tk mk =
       client = bd.2;
       durable = dur;
       formed = both (keeps_form (c.op g)) (has_files c.who.share) (keeps_by (keeps_form (c.op g)) (is_some (create_form (create_asked (c.op g) (guid_for c g)))) (asks_form (c.op g) (guid_for c g) mk) (subst (λ q. is_some (create_form q) ≡ false) same (formed_of x0.message.command r mf.new.create.command mf.new.create.session.formed)))
-          (kinds x0.message.session x0.message.tree false mf.new.create.tree);
+          (kinds x0.message.session_id x0.message.tree_id false mf.new.create.tree);
       unnamed = subst (λ p. t.by_guid p (guid_at c g) ≡ None) bd.2 (mf.new.no_open d dur);
       unclosed = mf.new.no_closed d dur;
       not_pending = subst (λ p. t.expired_guids p (guid_at c g) ≡ false) bd.2 (mf.new.not_expired d dur);
       unrefused = mf.new.no_refusal d dur;
-      unfull = not_full r d (t.guids x0.message.session) dur mf.new.guids;
+      unfull = not_full r d (t.guids x0.message.session_id) dur mf.new.guids;
     }
 
 idle_of : (c : Client) (conns : ℕ → Conn) (a : ℕ → ℕ) (t : Server) (k g : ℕ) (x0 : Sent) (r : CreateRequest) → ActedKept c conns (seen t) a → Own c g t x0.message r → slice_get (conns k).up 0 ≡ Some x0 → x0.token ≡ ForOp g → makes_open (c.op g) ≡ true
-    → t.present x0.message.session ≡ true → a g ≡ 0
+    → t.present x0.message.session_id ≡ true → a g ≡ 0
 idle_of c conns a t k g x0 r kept own front tk mk there =
     zero_by (a g) (λ l. let q = kept k 0 g x0 front tk mk there l in let e1 = own.unnamed in let e2 = own.unclosed in let e3 = own.not_pending in grind arith)
 
 alive_of : (c : Client) (conns : ℕ → Conn) (t : Server) (k g : ℕ) (x0 : Sent) (r : CreateRequest) → DeadRefused c conns (seen t) → Own c g t x0.message r → slice_get (conns k).up 0 ≡ Some x0 → x0.token ≡ ForOp g → makes_open (c.op g) ≡ true
-    → t.present x0.message.session ≡ true → never_acted (c.outcome g) ≡ false
+    → t.present x0.message.session_id ≡ true → never_acted (c.outcome g) ≡ false
 alive_of c conns t k g x0 r dead own front tk mk there = by_test (never_acted (c.outcome g)) refl
   where
     by_test : (b : Bool) → never_acted (c.outcome g) ≡ b → never_acted (c.outcome g) ≡ false
@@ -130,7 +130,7 @@ alive_of c conns t k g x0 r dead own front tk mk there = by_test (never_acted (c
     by_test true e = let q = dead k 0 g x0 front tk mk e there in let e1 = own.unrefused in let e2 = own.unfull in let e3 = own.formed in grind arith
 
 silent_of : (c : Client) (conns : ℕ → Conn) (a : ℕ → ℕ) (t : Server) (k g : ℕ) (x0 : Sent) (r : CreateRequest) → Connections c conns a → Facing c conns (rest t) k x0 → BarredReply c conns (seen t) → Own c g t x0.message r
-    → x0.token ≡ ForOp g → makes_open (c.op g) ≡ true → t.present x0.message.session ≡ true → 0 < c.rank x0.message.session
+    → x0.token ≡ ForOp g → makes_open (c.op g) ≡ true → t.present x0.message.session_id ≡ true → 0 < c.rank x0.message.session_id
     → (j n : ℕ) (y : Received) → slice_get (conns j).down n ≡ Some y → y.token ≡ ForOp g → refuses (c.unanswered g) y.reply.status ≡ false
 silent_of c conns a t k g x0 r f fc barred own tk mk there ranked j n y h e =
     let front = fc.front in
@@ -141,7 +141,7 @@ silent_of c conns a t k g x0 r f fc barred own tk mk there ranked j n y h e =
     out_at : 0 < g → c.outstanding_on g ≡ Some j
     out_at above = let n2 = own_down_count g (conns j).down n y h e in let u2 = f.outstanding j g in let d2 = f.down_open j in grind arith
 
-    by_status : c.live ≡ true → c.session ≡ x0.message.session → (b : Bool) → c.unanswered g ≡ true → refuses true y.reply.status ≡ b → refuses true y.reply.status ≡ false
+    by_status : c.live ≡ true → c.session ≡ x0.message.session_id → (b : Bool) → c.unanswered g ≡ true → refuses true y.reply.status ≡ b → refuses true y.reply.status ≡ false
     by_status live same false bf q = q
     by_status live same true bf q =
         let w = barred j n g y h e mk bf q (grind arith) in let e1 = own.unrefused in let e2 = own.unfull in let e3 = own.formed in grind arith
@@ -159,7 +159,7 @@ silent_of c conns a t k g x0 r f fc barred own tk mk there ranked j n y h e =
     by_before sent above true bf =
         let u2 = out_at above in let rd = f.on_ready g j u2 in let lv = (f.ready j rd.0).1 in
         let ls = fc.lives lv in
-        by_status lv (ls.0 ∙ sym (fc.here x0.message.session there ranked)) (refuses true y.reply.status) bf refl
+        by_status lv (ls.0 ∙ sym (fc.here x0.message.session_id there ranked)) (refuses true y.reply.status) bf refl
 
 next_above : (s : Server) → next_open s ≡ (seen s).last + 1
 next_above s = omega arith
@@ -175,20 +175,20 @@ makes_it : (c : Client) (conns : ℕ → Conn) (a : ℕ → ℕ) (t : Server) (k
 makes_it c conns a t k x0 now r found action g f fc i mf tk mk =
     let m = x0.message in
     let own = owns c conns a t k x0 r found action g f fc.front mf fc.kinds tk mk in
-    let there = fc.on_present m.connection m.session mf.new.create.session.session_on in
+    let there = fc.on_present m.connection m.session_id mf.new.create.session.session_on in
     let ranked = fc.ranked k 0 x0 fc.front (of_op conns k x0 r i.dialog_up fc.front mf.new.create.command) in
     let idle = idle_of c conns a t k g x0 r i.acted_kept own fc.front tk mk there in
     let row = open_row t m r (new_file t found) action in
     let b : ℕ → ℕ = counted a x0.token true in
     subst (λ v. Creates c conns v b) (sym (make_seen t m r found action now (durable_of (guid_at c g) (outlives (c.op g))) own.durable))
-    (make_new_creates c conns (seen t) a g m.session (next_open t) row b mk idle (one_more a x0.token g tk idle) own.formed (next_above t) ranked there own.client (ap guid_of own.durable) (ap is_persistent own.durable) (fc.users m.session there)
+    (make_new_creates c conns (seen t) a g m.session_id (next_open t) row b mk idle (one_more a x0.token g tk idle) own.formed (next_above t) ranked there own.client (ap guid_of own.durable) (ap is_persistent own.durable) (fc.users m.session_id there)
     (alive_of c conns t k g x0 r i.dead_refused own fc.front tk mk there) (silent_of c conns a t k g x0 r f fc i.barred_reply own tk mk there ranked) (λ h _ d. same_others a x0.token g h tk d) i)
 
 -- ---- an open that is closed
 
 -- the create of the open that a close names is settled
 shut_settled : (c : Client) (conns : ℕ → Conn) (a : ℕ → ℕ) (t : Server) (k o : ℕ) (query : Bool) (x0 : Sent) → Connections c conns a → Facing c conns (rest t) k x0 → Creates c conns (seen t) a → x0.message.command ≡ Close o query → t.standing o ≡ true
-    → (h : ℕ) → makes_open (c.op h) ≡ true → (t.opened o).client ≡ c.who.guid → (t.opened o).guid ≡ Some (guid_at c h) → is_unsettled (c.outcome h) ≡ false
+    → (h : ℕ) → makes_open (c.op h) ≡ true → (t.opened o).client_guid ≡ c.who.guid → (t.opened o).create_guid ≡ Some (guid_at c h) → is_unsettled (c.outcome h) ≡ false
 shut_settled c conns a t k o query x0 f fc i is stands h mk client guid = by_token x0.token refl
   where
     ok_settled : (q : ℕ) → q ≡ h → is_ok (c.outcome q) ≡ true → is_unsettled (c.outcome h) ≡ false
@@ -208,7 +208,7 @@ shut_settled c conns a t k o query x0 f fc i is stands h mk client guid = by_tok
         let fg = i.file_guid q qk ok in
         let st : t.standing (c.file q) ≡ true = subst (λ p. t.standing p ≡ true) sh.1 stands in
         let gq = (fg.1 st).1 in
-        let gh : (t.opened (c.file q)).guid ≡ Some (guid_at c h) = subst (λ p. (t.opened p).guid ≡ Some (guid_at c h)) sh.1 guid in
+        let gh : (t.opened (c.file q)).create_guid ≡ Some (guid_at c h) = subst (λ p. (t.opened p).create_guid ≡ Some (guid_at c h)) sh.1 guid in
         let same : guid_at c q ≡ guid_at c h = grind arith in
         ok_settled q (guid_once c.who.salt q h same) ok
 
@@ -223,23 +223,23 @@ named_ends : (c : Client) (conns : ℕ → Conn) (a : ℕ → ℕ) (t : Server) 
 named_ends c conns a t k now x0 quiet fc i None = i
 named_ends c conns a t k now x0 quiet fc i (Some x) = ends_it c conns a t k x now x0 quiet fc i
 
-begins_it : (c : Client) (conns : ℕ → Conn) (a : ℕ → ℕ) (t : Server) (k now : ℕ) (x0 : Sent) (user : List ℕ) (previous : Option ℕ) (r : SetupRequest) (quiet : Bool) → Facing c conns (rest t) k x0 → c.rank x0.message.session ≡ 0 → Creates c conns (seen t) a
+begins_it : (c : Client) (conns : ℕ → Conn) (a : ℕ → ℕ) (t : Server) (k now : ℕ) (x0 : Sent) (user : List ℕ) (previous : Option ℕ) (r : SetupRequest) (quiet : Bool) → Facing c conns (rest t) k x0 → c.rank x0.message.session_id ≡ 0 → Creates c conns (seen t) a
     → Creates c conns (seen (add_session (end_if_named t now previous quiet) x0.message user r)) a
 begins_it c conns a t k now x0 user previous r quiet fc new i =
-    begin_of_creates c conns (seen (end_if_named t now previous quiet)) a x0.message.session new (λ l. subst (λ y. 0 < c.rank y) (sym (fc.lives l).0) (fc.lives l).1) (λ j n h y w e. fc.ranked j n y w (ap is_ops e))
+    begin_of_creates c conns (seen (end_if_named t now previous quiet)) a x0.message.session_id new (λ l. subst (λ y. 0 < c.rank y) (sym (fc.lives l).0) (fc.lives l).1) (λ j n h y w e. fc.ranked j n y w (ap is_ops e))
     (named_ends c conns a t k now x0 quiet fc i previous)
 
 -- ---- by verdict
 
 shuts_it : (c : Client) (conns : ℕ → Conn) (a : ℕ → ℕ) (t : Server) (k o now : ℕ) (x0 : Sent) → Connections c conns a → Facing c conns (rest t) k x0 → Creates c conns (seen t) a → (sf : ShutFacts t x0.message o)
-    → Creates c conns (shut_in (seen t) o x0.message.session (t.opened o).guid) a
+    → Creates c conns (shut_in (seen t) o x0.message.session_id (t.opened o).create_guid) a
 shuts_it c conns a t k o now x0 f fc i sf =
-    let there = fc.on_present x0.message.connection x0.message.session sf.opened.tree.session.session_on in
-    let at = i.attached o x0.message.session sf.opened.session_of_open in
-    let mine = fc.here x0.message.session there at.0 in
-    shut_in_creates c conns (seen t) a x0.message.session o (t.opened o).guid refl
+    let there = fc.on_present x0.message.connection x0.message.session_id sf.opened.tree.session.session_on in
+    let at = i.attached o x0.message.session_id sf.opened.session_of_open in
+    let mine = fc.here x0.message.session_id there at.0 in
+    shut_in_creates c conns (seen t) a x0.message.session_id o (t.opened o).create_guid refl
     (shut_settled c conns a t k o sf.query x0 f fc i sf.command sf.opened.standing)
-    (λ j n h y w e p. fc.here y.message.session p (fc.ranked j n y w (ap is_ops e)) ∙ sym mine) i
+    (λ j n h y w e p. fc.here y.message.session_id p (fc.ranked j n y w (ap is_ops e)) ∙ sym mine) i
 
 not_creating : (x y : Command) → x ≡ y → is_creating y ≡ false → is_creating x ≡ false
 not_creating x y e f = ap is_creating e ∙ f
@@ -256,7 +256,7 @@ pub moved : (c : Client) (conns : ℕ → Conn) (a : ℕ → ℕ) (t : Server) (
 moved c conns a t k x0 now f fc i (Refuse status) w = still c conns a x0.token (seen t) _ false refl refl i
 moved c conns a t k x0 now f fc i (Give body) w = still c conns a x0.token (seen t) _ false refl refl i
 moved c conns a t k x0 now f fc i (KeepRefusal guid status) w =
-    still c conns a x0.token _ _ false refl refl (refuse_in_creates c conns (seen t) a x0.message.session guid status w.refused i)
+    still c conns a x0.token _ _ false refl refl (refuse_in_creates c conns (seen t) a x0.message.session_id guid status w.refused i)
 moved c conns a t k x0 now f fc i (Repeat o r) w =
     still c conns a x0.token _ _ false refl refl (attaches c conns a t k x0 r o fc w.create.session w.create.command i)
 moved c conns a t k x0 now f fc i (Attach o r) w =
@@ -275,12 +275,12 @@ moved c conns a t k x0 now f fc i (PutRanges o index number ranges elements) w =
 moved c conns a t k x0 now f fc i (Alter o change body) w =
     other c conns a x0.token (seen t) _ _ (change_seen (reach t x0.message o) (file_of t o) now change ∙ reach_seen t x0.message o) (other_send c conns a k x0 f fc.front (altered_other c t x0.message o change body w)) i
 moved c conns a t k x0 now f fc i (CloseOpen o body) w =
-    other c conns a x0.token _ _ true (shut_seen t o x0.message.session) (other_send c conns a k x0 f fc.front (not_creating _ _ w.command refl)) (shuts_it c conns a t k o now x0 f fc i w)
+    other c conns a x0.token _ _ true (shut_seen t o x0.message.session_id) (other_send c conns a k x0 f fc.front (not_creating _ _ w.command refl)) (shuts_it c conns a t k o now x0 f fc i w)
 moved c conns a t k x0 now f fc i Challenge w = still c conns a x0.token (seen t) _ false refl refl i
 moved c conns a t k x0 now f fc i (ChallengeBinding session) w = still c conns a x0.token (seen t) _ false refl refl i
 moved c conns a t k x0 now f fc i (Begin session user previous r is_quiet) w =
     other c conns a x0.token _ _ _ refl (other_send c conns a k x0 f fc.front (not_creating _ _ w.command refl))
-    (begins_it c conns a t k now x0 user previous r is_quiet fc (fc.making x0.message.connection x0.message.session (grind arith)) i)
+    (begins_it c conns a t k now x0 user previous r is_quiet fc (fc.making x0.message.connection x0.message.session_id (grind arith)) i)
 moved c conns a t k x0 now f fc i (Join session) w = still c conns a x0.token (seen t) _ false refl refl i
 moved c conns a t k x0 now f fc i (EndSession session is_quiet) w =
     other c conns a x0.token _ _ _ refl (other_send c conns a k x0 f fc.front (not_creating _ _ w.command refl)) (ends_it c conns a t k session now x0 is_quiet fc i)

@@ -21,14 +21,14 @@ make_new v o row x q =
       standing = put v.standing o true;
       opened = put v.opened o row;
       session_of_open = put v.session_of_open o (Some x);
-      by_guid = put2 v.by_guid row.client q (Some o);
+      by_guid = put2 v.by_guid row.client_guid q (Some o);
       guids = put v.guids x (v.guids x + 1);
       last = o;
     }
 
 -- an open of this guid leaves
 abbrev pub leave_by : Seen → ℕ → Option ℕ → Seen
-leave_by v o q = record v { standing = put v.standing o false; session_of_open = put v.session_of_open o None; by_guid = with_guid v.by_guid (v.opened o).client q None }
+leave_by v o q = record v { standing = put v.standing o false; session_of_open = put v.session_of_open o None; by_guid = with_guid v.by_guid (v.opened o).client_guid q None }
 
 abbrev pub closed_by : (ℕ → ℕ → Bool) → ℕ → Option ℕ → ℕ → ℕ → Bool
 closed_by closed x None = closed
@@ -40,7 +40,7 @@ shut_in v o x q = record (leave_by v o q) { closed = closed_by v.closed x q }
 
 -- it leaves by its deadline
 abbrev pub expire_by : Seen → ℕ → Option ℕ → Seen
-expire_by v o q = record (leave_by v o q) { expired_guids = closed_by v.expired_guids (v.opened o).client q }
+expire_by v o q = record (leave_by v o q) { expired_guids = closed_by v.expired_guids (v.opened o).client_guid q }
 
 -- an open that leaves with its session
 abbrev pub goes_with : Seen → ℕ → ℕ → Bool

@@ -254,16 +254,16 @@ pub record MaySettle (d : Client) (conns : ℕ → Conn) (v : Seen) (a : ℕ →
   pub creates : Creates d conns v a
   pub never : makes_open (d.op g) ≡ true → never_acted o ≡ true → a g ≡ 0
   pub acted : makes_open (d.op g) ≡ true → is_ok o ≡ true → 1 ≤ a g
-  pub barred : (j n : ℕ) (y : Sent) → slice_get (conns j).up n ≡ Some y → y.token ≡ ForOp g → makes_open (d.op g) ≡ true → never_acted o ≡ true → v.present y.message.session ≡ true → is_barred d v y.message.session g ≡ true
-  pub guid : makes_open (d.op g) ≡ true → is_ok o ≡ true → d.file g ≤ v.last × (v.standing (d.file g) ≡ true → (v.opened (d.file g)).client ≡ d.who.guid × (v.opened (d.file g)).guid ≡ Some (guid_at d g))
+  pub barred : (j n : ℕ) (y : Sent) → slice_get (conns j).up n ≡ Some y → y.token ≡ ForOp g → makes_open (d.op g) ≡ true → never_acted o ≡ true → v.present y.message.session_id ≡ true → is_barred d v y.message.session_id g ≡ true
+  pub guid : makes_open (d.op g) ≡ true → is_ok o ≡ true → d.file g ≤ v.last × (v.standing (d.file g) ≡ true → (v.opened (d.file g)).client_guid ≡ d.who.guid × (v.opened (d.file g)).create_guid ≡ Some (guid_at d g))
   pub names : (p : ℕ) → makes_open (d.op g) ≡ true → is_ok o ≡ true → named d v g ≡ Some p → p ≡ d.file g
 
 -- what is known of a create whose own reply settles it
 pub record CreateAnswered (c : Client) (conns : ℕ → Conn) (v : Seen) (a : ℕ → ℕ) (g : ℕ) (r : Reply) (o : Outcome) : Type 0 where
   pub never : makes_open (c.op g) ≡ true → never_acted o ≡ true → a g ≡ 0
   pub acted : makes_open (c.op g) ≡ true → is_ok o ≡ true → 1 ≤ a g
-  pub barred : (j n : ℕ) (y : Sent) → slice_get (conns j).up n ≡ Some y → y.token ≡ ForOp g → makes_open (c.op g) ≡ true → never_acted o ≡ true → v.present y.message.session ≡ true → is_barred c v y.message.session g ≡ true
-  pub guid : makes_open (c.op g) ≡ true → is_ok o ≡ true → id_in r.body ≤ v.last × (v.standing (id_in r.body) ≡ true → (v.opened (id_in r.body)).client ≡ c.who.guid × (v.opened (id_in r.body)).guid ≡ Some (guid_at c g))
+  pub barred : (j n : ℕ) (y : Sent) → slice_get (conns j).up n ≡ Some y → y.token ≡ ForOp g → makes_open (c.op g) ≡ true → never_acted o ≡ true → v.present y.message.session_id ≡ true → is_barred c v y.message.session_id g ≡ true
+  pub guid : makes_open (c.op g) ≡ true → is_ok o ≡ true → id_in r.body ≤ v.last × (v.standing (id_in r.body) ≡ true → (v.opened (id_in r.body)).client_guid ≡ c.who.guid × (v.opened (id_in r.body)).create_guid ≡ Some (guid_at c g))
   pub names : (p : ℕ) → makes_open (c.op g) ≡ true → is_ok o ≡ true → named c v g ≡ Some p → p ≡ id_in r.body
 
 create_makes : (op : Op) → makes_open op ≡ true → is_create op ≡ false → true ≡ false
@@ -297,7 +297,7 @@ noted_may c conns v a g r pending i (WasOk reply) t =
       never = t.never;
       acted = t.acted;
       barred = t.barred;
-      guid = λ mk ok. subst (λ n. n ≤ v.last × (v.standing n ≡ true → (v.opened n).client ≡ c.who.guid × (v.opened n).guid ≡ Some (guid_at c g))) (sym at) (t.guid mk ok);
+      guid = λ mk ok. subst (λ n. n ≤ v.last × (v.standing n ≡ true → (v.opened n).client_guid ≡ c.who.guid × (v.opened n).create_guid ≡ Some (guid_at c g))) (sym at) (t.guid mk ok);
       names = λ p mk ok q. t.names p mk ok q ∙ sym at;
     })
     (λ e. either (λ d. MaySettle d conns v a g (WasOk reply)) (is_close (c.op g)) _ _
@@ -371,13 +371,13 @@ told c conns v a k g r o f on none ranked here lives said tells =
       names = λ p mk e. (said mk).names p ((tells mk).ok e);
     }
   where
-    by_before : (j n : ℕ) (y : Sent) → slice_get (conns j).up n ≡ Some y → y.token ≡ ForOp g → makes_open (c.op g) ≡ true → never_acted o ≡ true → v.present y.message.session ≡ true → (b : Bool) → c.unanswered g ≡ b → is_barred c v y.message.session g ≡ true
+    by_before : (j n : ℕ) (y : Sent) → slice_get (conns j).up n ≡ Some y → y.token ≡ ForOp g → makes_open (c.op g) ≡ true → never_acted o ≡ true → v.present y.message.session_id ≡ true → (b : Bool) → c.unanswered g ≡ b → is_barred c v y.message.session_id g ≡ true
     by_before j n y h t mk e p false b = absurd (let x = none_waits c conns a k g j n y f on none mk b h t in cc)
     by_before j n y h t mk e p true b =
         let rd = f.on_ready g k on in let lv = (f.ready k rd.0).1 in
-        let same : c.session ≡ y.message.session = (lives lv).0 ∙ sym (here y.message.session p (ranked j n y h (ap is_ops t))) in
+        let same : c.session ≡ y.message.session_id = (lives lv).0 ∙ sym (here y.message.session_id p (ranked j n y h (ap is_ops t))) in
         let q : refuses true r.status ≡ true = subst (λ x. refuses x r.status ≡ true) b ((tells mk).refused e) in
-        subst (λ x. is_barred c v x g ≡ true) same ((said mk).barred b q (current_of c v y.message.session lv p same))
+        subst (λ x. is_barred c v x g ≡ true) same ((said mk).barred b q (current_of c v y.message.session_id lv p same))
 
 hears : (w : World) (a : ℕ → ℕ) (k g : ℕ) (asking : Bool) (r : Reply) (place : ℕ) → Connections w.client w.conns a → CreatesHold w a → RankedUp w.client w.conns → PresentAccepted w.client w.server → LiveAccepted w.client → w.client.outstanding_on g ≡ Some k → w.client.asks_attach g ≡ asking → copies g (w.conns k) ≡ 0
     → (asking ≡ false → makes_open (w.client.op g) ≡ true → SayFor w.client (seen w.server) a g r)
@@ -428,7 +428,7 @@ dialogs w a k r f i (GoesOn stage) e =
 dialogs w a k r f i Accepts e =
     dialog_sent_creates (accepted w.client k) w.conns (seen w.server) a k 1 (dialog_message (accepted w.client k) k (w.conns k).next_id AskedTree) refl (accepted_creates w.client w.conns (seen w.server) a k i)
 dialogs w a k r f i Binds e = ends_dialog w a k w.client.session w.client.tree f i
-dialogs w a k r f i Readies e = ends_dialog w a k w.client.pending r.tree f i
+dialogs w a k r f i Readies e = ends_dialog w a k w.client.pending r.tree_id f i
 dialogs w a k r f i (Refuses status) e = dialog_refused_creates w.client w.conns (seen w.server) a k status i
 
 -- ---- a reply that is taken

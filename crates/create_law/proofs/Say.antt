@@ -29,7 +29,7 @@ say_ok_reply : (c : Client) (conns : ℕ → Conn) (v : Seen) (a : ℕ → ℕ) 
 say_ok_reply c conns v a k y0 acted i_ok_reply =
     λ j n p y. let old = i_ok_reply j n p y in let q = acted p in grind (arith, get-push)
 
-say_reply_guid : (c : Client) (conns : ℕ → Conn) (v : Seen) (a : ℕ → ℕ) (k : ℕ) (y0 : Received) → ((g : ℕ) → y0.token ≡ ForOp g → makes_open (c.op g) ≡ true → y0.reply.status ≡ success → id_in y0.reply.body ≤ v.last × (v.standing (id_in y0.reply.body) ≡ true → (v.opened (id_in y0.reply.body)).client ≡ c.who.guid × (v.opened (id_in y0.reply.body)).guid ≡ Some (guid_at c g))) → ReplyGuid c conns v → ReplyGuid c (put conns k (record (conns k) { down = (conns k).down ++ y0 ∷ [] })) v
+say_reply_guid : (c : Client) (conns : ℕ → Conn) (v : Seen) (a : ℕ → ℕ) (k : ℕ) (y0 : Received) → ((g : ℕ) → y0.token ≡ ForOp g → makes_open (c.op g) ≡ true → y0.reply.status ≡ success → id_in y0.reply.body ≤ v.last × (v.standing (id_in y0.reply.body) ≡ true → (v.opened (id_in y0.reply.body)).client_guid ≡ c.who.guid × (v.opened (id_in y0.reply.body)).create_guid ≡ Some (guid_at c g))) → ReplyGuid c conns v → ReplyGuid c (put conns k (record (conns k) { down = (conns k).down ++ y0 ∷ [] })) v
 say_reply_guid c conns v a k y0 guid i_reply_guid =
     λ j n p y. let old = i_reply_guid j n p y in let q = guid p in grind (arith, get-push)
 
@@ -45,7 +45,7 @@ say_ask_up : (c : Client) (conns : ℕ → Conn) (v : Seen) (a : ℕ → ℕ) (k
 say_ask_up c conns v a k y0 i_ask_up =
     λ j n p y. let old = i_ask_up j n p y in grind (arith, get-push)
 
-pub say_creates : (c : Client) (conns : ℕ → Conn) (v : Seen) (a : ℕ → ℕ) (k : ℕ) (y0 : Received) → ((g : ℕ) → y0.token ≡ ForOp g → makes_open (c.op g) ≡ true → refuses (c.unanswered g) y0.reply.status ≡ true → a g ≡ 0) → ((g : ℕ) → y0.token ≡ ForOp g → makes_open (c.op g) ≡ true → c.unanswered g ≡ true → refuses true y0.reply.status ≡ true → is_current c v ≡ true → is_barred c v c.session g ≡ true) → ((g : ℕ) → y0.token ≡ ForOp g → makes_open (c.op g) ≡ true → y0.reply.status ≡ success → 1 ≤ a g) → ((g : ℕ) → y0.token ≡ ForOp g → makes_open (c.op g) ≡ true → y0.reply.status ≡ success → id_in y0.reply.body ≤ v.last × (v.standing (id_in y0.reply.body) ≡ true → (v.opened (id_in y0.reply.body)).client ≡ c.who.guid × (v.opened (id_in y0.reply.body)).guid ≡ Some (guid_at c g))) → ((g o : ℕ) → y0.token ≡ ForOp g → makes_open (c.op g) ≡ true → y0.reply.status ≡ success → named c v g ≡ Some o → o ≡ id_in y0.reply.body) → Creates c conns v a → Creates c (put conns k (record (conns k) { down = (conns k).down ++ y0 ∷ [] })) v a
+pub say_creates : (c : Client) (conns : ℕ → Conn) (v : Seen) (a : ℕ → ℕ) (k : ℕ) (y0 : Received) → ((g : ℕ) → y0.token ≡ ForOp g → makes_open (c.op g) ≡ true → refuses (c.unanswered g) y0.reply.status ≡ true → a g ≡ 0) → ((g : ℕ) → y0.token ≡ ForOp g → makes_open (c.op g) ≡ true → c.unanswered g ≡ true → refuses true y0.reply.status ≡ true → is_current c v ≡ true → is_barred c v c.session g ≡ true) → ((g : ℕ) → y0.token ≡ ForOp g → makes_open (c.op g) ≡ true → y0.reply.status ≡ success → 1 ≤ a g) → ((g : ℕ) → y0.token ≡ ForOp g → makes_open (c.op g) ≡ true → y0.reply.status ≡ success → id_in y0.reply.body ≤ v.last × (v.standing (id_in y0.reply.body) ≡ true → (v.opened (id_in y0.reply.body)).client_guid ≡ c.who.guid × (v.opened (id_in y0.reply.body)).create_guid ≡ Some (guid_at c g))) → ((g o : ℕ) → y0.token ≡ ForOp g → makes_open (c.op g) ≡ true → y0.reply.status ≡ success → named c v g ≡ Some o → o ≡ id_in y0.reply.body) → Creates c conns v a → Creates c (put conns k (record (conns k) { down = (conns k).down ++ y0 ∷ [] })) v a
 say_creates c conns v a k y0 never barred acted guid names i =
     record {
       made = i.made;

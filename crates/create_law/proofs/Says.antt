@@ -30,14 +30,14 @@ pub record SayFor (c : Client) (v : Seen) (b : ℕ → ℕ) (g : ℕ) (r : Reply
   pub never : refuses (c.unanswered g) r.status ≡ true → b g ≡ 0
   pub barred : c.unanswered g ≡ true → refuses true r.status ≡ true → is_current c v ≡ true → is_barred c v c.session g ≡ true
   pub acted : r.status ≡ success → 1 ≤ b g
-  pub guid : r.status ≡ success → id_in r.body ≤ v.last × (v.standing (id_in r.body) ≡ true → (v.opened (id_in r.body)).client ≡ c.who.guid × (v.opened (id_in r.body)).guid ≡ Some (guid_at c g))
+  pub guid : r.status ≡ success → id_in r.body ≤ v.last × (v.standing (id_in r.body) ≡ true → (v.opened (id_in r.body)).client_guid ≡ c.who.guid × (v.opened (id_in r.body)).create_guid ≡ Some (guid_at c g))
   pub names : (o : ℕ) → r.status ≡ success → named c v g ≡ Some o → o ≡ id_in r.body
 
 -- the message of a create, and what is known where the server takes it
 pub record Mine (c : Client) (t : Server) (a : ℕ → ℕ) (g : ℕ) (tk : Token) (m : Message) (r : CreateRequest) : Type 0 where
   pub token : tk ≡ ForOp g
   pub create : makes_open (c.op g) ≡ true
-  pub client : m.client ≡ c.who.guid
+  pub client : m.client_guid ≡ c.who.guid
   pub fault : m.fault ≡ None
   pub command : m.command ≡ Create r
   pub new : r.reconnect ≡ None
@@ -45,18 +45,18 @@ pub record Mine (c : Client) (t : Server) (a : ℕ → ℕ) (g : ℕ) (tk : Toke
   pub keeps : deletes_on_close r.options ≡ false
   pub form : is_some (create_form r) ≡ not (keeps_form (c.op g))
   pub fresh : c.unanswered g ≡ false → a g ≡ 0
-  pub mine : is_current c (seen t) ≡ true → t.present m.session ≡ true → c.session ≡ m.session
+  pub mine : is_current c (seen t) ≡ true → t.present m.session_id ≡ true → c.session ≡ m.session_id
   pub made : Made c (seen t) a
   pub named_ : Named c (seen t)
   pub given : NamedGiven c (seen t)
   pub kind : NamedKind c (seen t)
   pub formed : FormActed c a
   pub statuses : RefusedStatus (seen t)
-  pub kept : t.present m.session ≡ true → 1 ≤ a g → (t.closed m.session (guid_at c g) || is_kept c (seen t) g) ≡ true
-  pub there : t.session_on m.connection ≡ Some m.session → t.present m.session ≡ true
-  pub users : t.present m.session ≡ true → t.user m.session ≡ logon_user c.who.logon
-  pub tree : t.present m.session ≡ true → is_some (tree_in (t.trees m.session) m.tree) ≡ true
-  pub files : (b : Bool) → tree_in (t.trees m.session) m.tree ≡ Some b → has_files c.who.share ≡ not b
+  pub kept : t.present m.session_id ≡ true → 1 ≤ a g → (t.closed m.session_id (guid_at c g) || is_kept c (seen t) g) ≡ true
+  pub there : t.session_on m.connection ≡ Some m.session_id → t.present m.session_id ≡ true
+  pub users : t.present m.session_id ≡ true → t.user m.session_id ≡ logon_user c.who.logon
+  pub tree : t.present m.session_id ≡ true → is_some (tree_in (t.trees m.session_id) m.tree_id) ≡ true
+  pub files : (b : Bool) → tree_in (t.trees m.session_id) m.tree_id ≡ Some b → has_files c.who.share ≡ not b
 
 abbrev Says : Client → Server → (ℕ → ℕ) → ℕ → Token → Message → ℕ → Verdict → Type 0
 Says c t a g tk m now v = SayFor c (seen (apply t m now v).server) (counted a tk (apply t m now v).acted) g (apply t m now v).reply
@@ -99,7 +99,7 @@ pub record Free (c : Client) (t : Server) (g x : ℕ) : Type 0 where
   pub unclosed : t.closed x (guid_at c g) ≡ false
   pub not_pending : t.expired_guids c.who.guid (guid_at c g) ≡ false
 
-idle : (c : Client) (t : Server) (a : ℕ → ℕ) (g : ℕ) (tk : Token) (m : Message) (r : CreateRequest) → Mine c t a g tk m r → Free c t g m.session → t.present m.session ≡ true → a g ≡ 0
+idle : (c : Client) (t : Server) (a : ℕ → ℕ) (g : ℕ) (tk : Token) (m : Message) (r : CreateRequest) → Mine c t a g tk m r → Free c t g m.session_id → t.present m.session_id ≡ true → a g ≡ 0
 idle c t a g tk m r mi fr there = zero_by (a g) (λ l. let q = mi.kept there l in let e1 = fr.unnamed in let e2 = fr.unclosed in let e3 = fr.not_pending in grind arith)
 
 ill_formed : (r : CreateRequest) (status : ℕ) → create_form r ≡ Some status → (status == success) ≡ false
@@ -149,7 +149,7 @@ repeats c t a g tk m r now o mi is =
 
 -- ---- a new one
 
-keeps_it : (c : Client) (t : Server) (a : ℕ → ℕ) (g : ℕ) (tk : Token) (m : Message) (r : CreateRequest) (now status : ℕ) → Mine c t a g tk m r → Free c t g m.session → t.present m.session ≡ true → (status == success) ≡ false
+keeps_it : (c : Client) (t : Server) (a : ℕ → ℕ) (g : ℕ) (tk : Token) (m : Message) (r : CreateRequest) (now status : ℕ) → Mine c t a g tk m r → Free c t g m.session_id → t.present m.session_id ≡ true → (status == success) ≡ false
     → Says c t a g tk m now (KeepRefusal (guid_at c g) status)
 keeps_it c t a g tk m r now status mi fr there bad =
     record {
@@ -160,7 +160,7 @@ keeps_it c t a g tk m r now status mi fr there bad =
       names = λ o e. absurd (grind arith);
     }
 
-turned : (c : Client) (t : Server) (a : ℕ → ℕ) (g : ℕ) (tk : Token) (m : Message) (r : CreateRequest) (now status : ℕ) → Mine c t a g tk m r → Free c t g m.session → t.present m.session ≡ true → (status == success) ≡ false
+turned : (c : Client) (t : Server) (a : ℕ → ℕ) (g : ℕ) (tk : Token) (m : Message) (r : CreateRequest) (now status : ℕ) → Mine c t a g tk m r → Free c t g m.session_id → t.present m.session_id ≡ true → (status == success) ≡ false
     → (u : Option Durable) → u ≡ Some (durable_of (guid_at c g) (outlives (c.op g))) → Says c t a g tk m now (refused_by u status)
 turned c t a g tk m r now status mi fr there bad u e =
     subst (λ w. Says c t a g tk m now (refused_by w status)) (sym e) (keeps_it c t a g tk m r now status mi fr there bad)
@@ -183,13 +183,13 @@ makes_it c t a g tk m r now found action mi =
     same_le : (n : ℕ) → n ≤ n
     same_le n = omega arith
 
-    row_client : (n : ℕ) → ((make_new (seen t) n (open_row t m r (new_file t found) action) m.session (guid_at c g)).opened n).client ≡ c.who.guid
+    row_client : (n : ℕ) → ((make_new (seen t) n (open_row t m r (new_file t found) action) m.session_id (guid_at c g)).opened n).client_guid ≡ c.who.guid
     row_client n = let e = mi.client in grind arith
 
-    row_guid : (n : ℕ) → ((make_new (seen t) n (open_row t m r (new_file t found) action) m.session (guid_at c g)).opened n).guid ≡ Some (guid_at c g)
+    row_guid : (n : ℕ) → ((make_new (seen t) n (open_row t m r (new_file t found) action) m.session_id (guid_at c g)).opened n).create_guid ≡ Some (guid_at c g)
     row_guid n = let e : guid_of r.durable ≡ Some (guid_at c g) = ap guid_of mi.durable in grind arith
 
-    newest : (o n : ℕ) → m.client ≡ c.who.guid → named c (make_new (seen t) n (open_row t m r (new_file t found) action) m.session (guid_at c g)) g ≡ Some o → o ≡ n
+    newest : (o n : ℕ) → m.client_guid ≡ c.who.guid → named c (make_new (seen t) n (open_row t m r (new_file t found) action) m.session_id (guid_at c g)) g ≡ Some o → o ≡ n
     newest o n client e = grind arith
 
 -- ---- the checks of a create, in their order; each answer too where the records don't fit
@@ -202,11 +202,11 @@ unfolding names names_of_found found_names missing_names
 names_refuse s r None status e = grind arith
 names_refuse s r (Some f) status e = grind arith
 
-both_turned : (c : Client) (t : Server) (a : ℕ → ℕ) (g : ℕ) (tk : Token) (m : Message) (r : CreateRequest) (now status : ℕ) → Mine c t a g tk m r → Free c t g m.session → t.present m.session ≡ true → (status == success) ≡ false → Both c t a g tk m now (refused_create r status)
+both_turned : (c : Client) (t : Server) (a : ℕ → ℕ) (g : ℕ) (tk : Token) (m : Message) (r : CreateRequest) (now status : ℕ) → Mine c t a g tk m r → Free c t g m.session_id → t.present m.session_id ≡ true → (status == success) ≡ false → Both c t a g tk m now (refused_create r status)
 both_turned c t a g tk m r now status mi fr there bad =
     subst (λ w. Both c t a g tk m now (refused_by w status)) (sym mi.durable) (keeps_it c t a g tk m r now status mi fr there bad, keeps_it c t a g tk m r now status mi fr there bad)
 
-by_names : (c : Client) (t : Server) (a : ℕ → ℕ) (g : ℕ) (tk : Token) (m : Message) (r : CreateRequest) (now : ℕ) (found : Option ℕ) → Mine c t a g tk m r → Free c t g m.session → t.present m.session ≡ true
+by_names : (c : Client) (t : Server) (a : ℕ → ℕ) (g : ℕ) (tk : Token) (m : Message) (r : CreateRequest) (now : ℕ) (found : Option ℕ) → Mine c t a g tk m r → Free c t g m.session_id → t.present m.session_id ≡ true
     → (u : Option ℕ) → names t r found ≡ u → Both c t a g tk m now (after_names t r found u)
 by_names c t a g tk m r now found mi fr there (Some status) e = both_turned c t a g tk m r now status mi fr there (names_refuse t r found status e)
 by_names c t a g tk m r now found mi fr there None e =
@@ -221,14 +221,14 @@ full_of : (r : CreateRequest) (n : ℕ) → (keeps_guid r && nat_le max_guids n)
 unfolding is_full
 full_of r n e = grind arith
 
-by_new : (c : Client) (t : Server) (a : ℕ → ℕ) (g : ℕ) (tk : Token) (m : Message) (r : CreateRequest) (now : ℕ) (found : Option ℕ) → Mine c t a g tk m r → Free c t g m.session → t.present m.session ≡ true
+by_new : (c : Client) (t : Server) (a : ℕ → ℕ) (g : ℕ) (tk : Token) (m : Message) (r : CreateRequest) (now : ℕ) (found : Option ℕ) → Mine c t a g tk m r → Free c t g m.session_id → t.present m.session_id ≡ true
     → Both c t a g tk m now (new_check t m r found)
 by_new c t a g tk m r now found mi fr there =
     either (λ v. Both c t a g tk m now v) (deletes_on_close r.options && not (deletes (mapped r.access))) _ _
     (λ e. absurd (let h = no_delete (deletes_on_close r.options) _ mi.keeps e in cc))
-    (λ _. either (λ v. Both c t a g tk m now v) (keeps_guid r && nat_le max_guids (t.guids m.session)) _ _
+    (λ _. either (λ v. Both c t a g tk m now v) (keeps_guid r && nat_le max_guids (t.guids m.session_id)) _ _
     (λ e. let q : Says c t a g tk m now (Refuse insufficient_resources) = refuses_by c t a g tk m now insufficient_resources refl (λ _. idle c t a g tk m r mi fr there)
-    (λ _ _ cur. full_barred _ (is_full (t.guids c.session)) _ (subst (λ x. is_full (t.guids x) ≡ true) (sym (mi.mine cur there)) (full_of r (t.guids m.session) e))) in (q, q))
+    (λ _ _ cur. full_barred _ (is_full (t.guids c.session)) _ (subst (λ x. is_full (t.guids x) ≡ true) (sym (mi.mine cur there)) (full_of r (t.guids m.session_id) e))) in (q, q))
     (λ _. either (λ v. Both c t a g tk m now v) (is_counted_out t r found) _ _
     (λ _. both_turned c t a g tk m r now insufficient_resources mi fr there refl)
     (λ _. by_names c t a g tk m r now found mi fr there (names t r found) refl)))
@@ -236,57 +236,57 @@ by_new c t a g tk m r now found mi fr there =
     no_delete : (x y : Bool) → x ≡ false → (x && y) ≡ true → true ≡ false
     no_delete x y e f = grind arith
 
-by_refusal : (c : Client) (t : Server) (a : ℕ → ℕ) (g : ℕ) (tk : Token) (m : Message) (r : CreateRequest) (now : ℕ) → Mine c t a g tk m r → Free c t g m.session → t.present m.session ≡ true
-    → (u : Option ℕ) → t.refused m.session (guid_at c g) ≡ u → Both c t a g tk m now (refusal_check t m r u)
+by_refusal : (c : Client) (t : Server) (a : ℕ → ℕ) (g : ℕ) (tk : Token) (m : Message) (r : CreateRequest) (now : ℕ) → Mine c t a g tk m r → Free c t g m.session_id → t.present m.session_id ≡ true
+    → (u : Option ℕ) → t.refused m.session_id (guid_at c g) ≡ u → Both c t a g tk m now (refusal_check t m r u)
 by_refusal c t a g tk m r now mi fr there (Some status) e =
-    let q : Says c t a g tk m now (Refuse status) = refuses_by c t a g tk m now status (mi.statuses m.session (guid_at c g) status e) (λ _. idle c t a g tk m r mi fr there) (λ _ _ cur. let same = mi.mine cur there in grind arith) in (q, q)
+    let q : Says c t a g tk m now (Refuse status) = refuses_by c t a g tk m now status (mi.statuses m.session_id (guid_at c g) status e) (λ _. idle c t a g tk m r mi fr there) (λ _ _ cur. let same = mi.mine cur there in grind arith) in (q, q)
 by_refusal c t a g tk m r now mi fr there None e = by_new c t a g tk m r now (find t r.path) mi fr there
 
-by_live : (c : Client) (t : Server) (a : ℕ → ℕ) (g : ℕ) (tk : Token) (m : Message) (r : CreateRequest) (now o : ℕ) → Mine c t a g tk m r → t.present m.session ≡ true → named c (seen t) g ≡ Some o → Both c t a g tk m now (live_check t m r o)
+by_live : (c : Client) (t : Server) (a : ℕ → ℕ) (g : ℕ) (tk : Token) (m : Message) (r : CreateRequest) (now o : ℕ) → Mine c t a g tk m r → t.present m.session_id ≡ true → named c (seen t) g ≡ Some o → Both c t a g tk m now (live_check t m r o)
 by_live c t a g tk m r now o mi there is =
     let P : Verdict → Type 0 = λ v. Both c t a g tk m now v in
     let s = soft c t a g tk m now mi.fresh in
     let q = repeats c t a g tk m r now o mi is in
     either P (not m.replay) _ _ (λ _. (s, s))
-    (λ _. either P (is_at m.session (t.session_of_open o)) _ _ (λ _. (q, q))
+    (λ _. either P (is_at m.session_id (t.session_of_open o)) _ _ (λ _. (q, q))
     (λ _. either P (is_some (t.session_of_open o) || not (t.opened o).persistent) _ _ (λ _. (s, s))
-    (λ _. either P (same_name (t.opened o).user (t.user m.session)) _ _ (λ _. (q, q))
+    (λ _. either P (same_name (t.opened o).user (t.user m.session_id)) _ _ (λ _. (q, q))
     (λ e. absurd (let h = stranger ((mi.kind g o is).1 ∙ sym (mi.users there)) e in cc)))))
   where
-    stranger : (t.opened o).user ≡ t.user m.session → same_name (t.opened o).user (t.user m.session) ≡ false → true ≡ false
-    stranger same e = sym (subst (λ x. same_name x (t.user m.session) ≡ true) (sym same) (same_self (t.user m.session))) ∙ e
+    stranger : (t.opened o).user ≡ t.user m.session_id → same_name (t.opened o).user (t.user m.session_id) ≡ false → true ≡ false
+    stranger same e = sym (subst (λ x. same_name x (t.user m.session_id) ≡ true) (sym same) (same_self (t.user m.session_id))) ∙ e
 
-by_guid_is : (c : Client) (t : Server) (a : ℕ → ℕ) (g : ℕ) (tk : Token) (m : Message) (r : CreateRequest) (now : ℕ) → Mine c t a g tk m r → t.present m.session ≡ true
+by_guid_is : (c : Client) (t : Server) (a : ℕ → ℕ) (g : ℕ) (tk : Token) (m : Message) (r : CreateRequest) (now : ℕ) → Mine c t a g tk m r → t.present m.session_id ≡ true
     → (u : Option ℕ) → named c (seen t) g ≡ u → Both c t a g tk m now (guid_check t m r (durable_of (guid_at c g) (outlives (c.op g))) u)
 by_guid_is c t a g tk m r now mi there (Some o) e = by_live c t a g tk m r now o mi there e
 by_guid_is c t a g tk m r now mi there None e =
     let P : Verdict → Type 0 = λ v. Both c t a g tk m now v in
     let s = soft c t a g tk m now mi.fresh in
-    either P (t.closed m.session (guid_at c g)) _ _ (λ _. (s, s))
-    (λ x. either P (t.expired_guids m.client (guid_at c g)) _ _ (λ _. (s, s))
-    (λ y. by_refusal c t a g tk m r now mi (record { unnamed = e; unclosed = x; not_pending = subst (λ p. t.expired_guids p (guid_at c g) ≡ false) mi.client y }) there (t.refused m.session (guid_at c g)) refl))
+    either P (t.closed m.session_id (guid_at c g)) _ _ (λ _. (s, s))
+    (λ x. either P (t.expired_guids m.client_guid (guid_at c g)) _ _ (λ _. (s, s))
+    (λ y. by_refusal c t a g tk m r now mi (record { unnamed = e; unclosed = x; not_pending = subst (λ p. t.expired_guids p (guid_at c g) ≡ false) mi.client y }) there (t.refused m.session_id (guid_at c g)) refl))
 
-by_durable : (c : Client) (t : Server) (a : ℕ → ℕ) (g : ℕ) (tk : Token) (m : Message) (r : CreateRequest) (now : ℕ) → Mine c t a g tk m r → t.present m.session ≡ true → Both c t a g tk m now (durable_check t m r r.durable)
+by_durable : (c : Client) (t : Server) (a : ℕ → ℕ) (g : ℕ) (tk : Token) (m : Message) (r : CreateRequest) (now : ℕ) → Mine c t a g tk m r → t.present m.session_id ≡ true → Both c t a g tk m now (durable_check t m r r.durable)
 by_durable c t a g tk m r now mi there =
     subst (λ u. Both c t a g tk m now (durable_check t m r u)) (sym mi.durable)
     (subst (λ u. Both c t a g tk m now (guid_check t m r (durable_of (guid_at c g) (outlives (c.op g))) u)) (ap (λ p. t.by_guid p (guid_at c g)) (sym mi.client)) (by_guid_is c t a g tk m r now mi there (named c (seen t) g) refl))
 
-by_share : (c : Client) (t : Server) (a : ℕ → ℕ) (g : ℕ) (tk : Token) (m : Message) (r : CreateRequest) (now : ℕ) → Mine c t a g tk m r → t.present m.session ≡ true → (b : Bool) → has_files c.who.share ≡ not b → Both c t a g tk m now (create_check t m r b)
+by_share : (c : Client) (t : Server) (a : ℕ → ℕ) (g : ℕ) (tk : Token) (m : Message) (r : CreateRequest) (now : ℕ) → Mine c t a g tk m r → t.present m.session_id ≡ true → (b : Bool) → has_files c.who.share ≡ not b → Both c t a g tk m now (create_check t m r b)
 by_share c t a g tk m r now mi there true off = let q = no_name c t a g tk m r now mi off in (q, q)
 by_share c t a g tk m r now mi there false on = subst (λ x. Both c t a g tk m now (reconnect_or_create t m r x)) (sym mi.new) (by_durable c t a g tk m r now mi there)
 
-by_tree : (c : Client) (t : Server) (a : ℕ → ℕ) (g : ℕ) (tk : Token) (m : Message) (r : CreateRequest) (now : ℕ) → Mine c t a g tk m r → t.present m.session ≡ true → (u : Option Bool) → tree_in (t.trees m.session) m.tree ≡ u → Both c t a g tk m now (in_tree t m u)
+by_tree : (c : Client) (t : Server) (a : ℕ → ℕ) (g : ℕ) (tk : Token) (m : Message) (r : CreateRequest) (now : ℕ) → Mine c t a g tk m r → t.present m.session_id ≡ true → (u : Option Bool) → tree_in (t.trees m.session_id) m.tree_id ≡ u → Both c t a g tk m now (in_tree t m u)
 by_tree c t a g tk m r now mi there None e = absurd (let h = mi.tree there in grind arith)
 by_tree c t a g tk m r now mi there (Some pipes) e =
     subst (λ x. Both c t a g tk m now (tree_command t m pipes x)) (sym mi.command)
     (by_share c t a g tk m r now mi there pipes (mi.files pipes e))
 
-by_form : (c : Client) (t : Server) (a : ℕ → ℕ) (g : ℕ) (tk : Token) (m : Message) (r : CreateRequest) (now : ℕ) → Mine c t a g tk m r → t.present m.session ≡ true → (u : Option ℕ) → create_form r ≡ u → Both c t a g tk m now (formed t m u)
+by_form : (c : Client) (t : Server) (a : ℕ → ℕ) (g : ℕ) (tk : Token) (m : Message) (r : CreateRequest) (now : ℕ) → Mine c t a g tk m r → t.present m.session_id ≡ true → (u : Option ℕ) → create_form r ≡ u → Both c t a g tk m now (formed t m u)
 by_form c t a g tk m r now mi there (Some status) e = let q = formless c t a g tk m r now status mi e in (q, q)
 by_form c t a g tk m r now mi there None e =
-    subst (λ x. Both c t a g tk m now (command_check t m x)) (sym mi.command) (by_tree c t a g tk m r now mi there (tree_in (t.trees m.session) m.tree) refl)
+    subst (λ x. Both c t a g tk m now (command_check t m x)) (sym mi.command) (by_tree c t a g tk m r now mi there (tree_in (t.trees m.session_id) m.tree_id) refl)
 
-by_owed : (c : Client) (t : Server) (a : ℕ → ℕ) (g : ℕ) (tk : Token) (m : Message) (r : CreateRequest) (now : ℕ) → Mine c t a g tk m r → t.present m.session ≡ true → Both c t a g tk m now (owed t m m.fault)
+by_owed : (c : Client) (t : Server) (a : ℕ → ℕ) (g : ℕ) (tk : Token) (m : Message) (r : CreateRequest) (now : ℕ) → Mine c t a g tk m r → t.present m.session_id ≡ true → Both c t a g tk m now (owed t m m.fault)
 by_owed c t a g tk m r now mi there =
     subst (λ u. Both c t a g tk m now (owed t m u)) (sym mi.fault)
     (subst (λ x. Both c t a g tk m now (formed t m (form x))) (sym mi.command) (by_form c t a g tk m r now mi there (create_form r) refl))
@@ -295,7 +295,7 @@ pub says : (c : Client) (t : Server) (a : ℕ → ℕ) (g : ℕ) (tk : Token) (m
 says c t a g tk m r now mi =
     let d = deleted c t a g tk m now in
     either (λ v. Both c t a g tk m now v) (is_setup m.command || has_session t m) _ _
-    (λ e. by_owed c t a g tk m r now mi (mi.there (at_of m.session (t.session_on m.connection) (session_of m.command (has_session t m) mi.command e))))
+    (λ e. by_owed c t a g tk m r now mi (mi.there (at_of m.session_id (t.session_on m.connection) (session_of m.command (has_session t m) mi.command e))))
     (λ _. (d, d))
   where
     session_of : (x : Command) (b : Bool) → x ≡ Create r → (is_setup x || b) ≡ true → b ≡ true

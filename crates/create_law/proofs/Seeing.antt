@@ -29,14 +29,14 @@ change_seen s f now (PutPath replaced path) = refl
 change_seen s f now PutNothing = refl
 
 -- an open that leaves
-drop_seen : (s : Server) (o : ℕ) (b : Bool) → seen (drop_open (if b then set_delete_pending s (s.opened o).file true else s) o) ≡ leave_by (seen s) o (s.opened o).guid
+drop_seen : (s : Server) (o : ℕ) (b : Bool) → seen (drop_open (if b then set_delete_pending s (s.opened o).file true else s) o) ≡ leave_by (seen s) o (s.opened o).create_guid
 drop_seen s o true = refl
 drop_seen s o false = refl
 
-pub leave_seen : (s : Server) (o : ℕ) → seen (leave_open s o) ≡ leave_by (seen s) o (s.opened o).guid
+pub leave_seen : (s : Server) (o : ℕ) → seen (leave_open s o) ≡ leave_by (seen s) o (s.opened o).create_guid
 leave_seen s o =
     let d = drop_open (pending_behind s o) o in
-    either (λ u. seen u ≡ leave_by (seen s) o (s.opened o).guid) (goes d (s.opened o).file) _ _
+    either (λ u. seen u ≡ leave_by (seen s) o (s.opened o).create_guid) (goes d (s.opened o).file) _ _
     (λ _. drop_seen s o (deletes_on_close (s.opened o).options))
     (λ _. drop_seen s o (deletes_on_close (s.opened o).options))
 
@@ -44,15 +44,15 @@ closed_seen : (s : Server) (x : ℕ) (q : Option ℕ) → seen (keep_closed s x 
 closed_seen s x None = refl
 closed_seen s x (Some g) = refl
 
-pub shut_seen : (s : Server) (o x : ℕ) → seen (keep_closed (leave_open s o) x (s.opened o).guid) ≡ shut_in (seen s) o x (s.opened o).guid
-shut_seen s o x = closed_seen (leave_open s o) x (s.opened o).guid ∙ ap {A = Seen} (λ v. record v { closed = closed_by v.closed x (s.opened o).guid }) (leave_seen s o)
+pub shut_seen : (s : Server) (o x : ℕ) → seen (keep_closed (leave_open s o) x (s.opened o).create_guid) ≡ shut_in (seen s) o x (s.opened o).create_guid
+shut_seen s o x = closed_seen (leave_open s o) x (s.opened o).create_guid ∙ ap {A = Seen} (λ v. record v { closed = closed_by v.closed x (s.opened o).create_guid }) (leave_seen s o)
 
 expired_seen : (s : Server) (client : ℕ) (q : Option ℕ) → seen (add_expired_guid s client q) ≡ record (seen s) { expired_guids = closed_by (seen s).expired_guids client q }
 expired_seen s client None = refl
 expired_seen s client (Some g) = refl
 
-pub expire_seen : (s : Server) (o : ℕ) → seen (expire s o) ≡ expire_by (seen s) o (s.opened o).guid
-expire_seen s o = expired_seen (leave_open s o) (s.opened o).client (s.opened o).guid ∙ ap {A = Seen} (λ v. record v { expired_guids = closed_by v.expired_guids (s.opened o).client (s.opened o).guid }) (leave_seen s o)
+pub expire_seen : (s : Server) (o : ℕ) → seen (expire s o) ≡ expire_by (seen s) o (s.opened o).create_guid
+expire_seen s o = expired_seen (leave_open s o) (s.opened o).client_guid (s.opened o).create_guid ∙ ap {A = Seen} (λ v. record v { expired_guids = closed_by v.expired_guids (s.opened o).client_guid (s.opened o).create_guid }) (leave_seen s o)
 
 -- a session that ends
 stays_named : (s : Server) (x : ℕ) (o : Option ℕ) → guid_staying s x o ≡ named_still (seen s) x o
@@ -67,9 +67,9 @@ with_file : (s : Server) (m : Message) (r : CreateRequest) (found : Option ℕ) 
     → seen (make_open s m r found action now) ≡ record (seen s) {
       standing = put s.standing (next_open s) true;
       opened = put s.opened (next_open s) (open_row s m r (new_file s found) action);
-      session_of_open = put s.session_of_open (next_open s) (Some m.session);
-      by_guid = with_guid s.by_guid m.client (guid_of r.durable) (Some (next_open s));
-      guids = guids_after s m.session r.durable;
+      session_of_open = put s.session_of_open (next_open s) (Some m.session_id);
+      by_guid = with_guid s.by_guid m.client_guid (guid_of r.durable) (Some (next_open s));
+      guids = guids_after s m.session_id r.durable;
       last = next_open s;
     }
 with_file s m r None action now = refl
@@ -78,9 +78,9 @@ with_file s m r (Some f) action now = by_kind (empties r.disposition) refl
     by_kind : (b : Bool) → empties r.disposition ≡ b → seen (make_open s m r (Some f) action now) ≡ record (seen s) {
       standing = put s.standing (next_open s) true;
       opened = put s.opened (next_open s) (open_row s m r f action);
-      session_of_open = put s.session_of_open (next_open s) (Some m.session);
-      by_guid = with_guid s.by_guid m.client (guid_of r.durable) (Some (next_open s));
-      guids = guids_after s m.session r.durable;
+      session_of_open = put s.session_of_open (next_open s) (Some m.session_id);
+      by_guid = with_guid s.by_guid m.client_guid (guid_of r.durable) (Some (next_open s));
+      guids = guids_after s m.session_id r.durable;
       last = next_open s;
     }
     by_kind true e = rw e refl
@@ -90,20 +90,20 @@ with_durable : (s : Server) (m : Message) (row : Open) (d : Durable) (u : Option
     → record (seen s) {
       standing = put s.standing (next_open s) true;
       opened = put s.opened (next_open s) row;
-      session_of_open = put s.session_of_open (next_open s) (Some m.session);
-      by_guid = with_guid s.by_guid m.client (guid_of u) (Some (next_open s));
-      guids = guids_after s m.session u;
+      session_of_open = put s.session_of_open (next_open s) (Some m.session_id);
+      by_guid = with_guid s.by_guid m.client_guid (guid_of u) (Some (next_open s));
+      guids = guids_after s m.session_id u;
       last = next_open s;
     } ≡ record (seen s) {
       standing = put s.standing (next_open s) true;
       opened = put s.opened (next_open s) row;
-      session_of_open = put s.session_of_open (next_open s) (Some m.session);
-      by_guid = put2 s.by_guid m.client d.guid (Some (next_open s));
-      guids = put s.guids m.session (s.guids m.session + 1);
+      session_of_open = put s.session_of_open (next_open s) (Some m.session_id);
+      by_guid = put2 s.by_guid m.client_guid d.guid (Some (next_open s));
+      guids = put s.guids m.session_id (s.guids m.session_id + 1);
       last = next_open s;
     }
 with_durable s m row d u e = rw e refl
 
 pub make_seen : (s : Server) (m : Message) (r : CreateRequest) (found : Option ℕ) (action now : ℕ) (d : Durable) → r.durable ≡ Some d
-    → seen (make_open s m r found action now) ≡ make_new (seen s) (next_open s) (open_row s m r (new_file s found) action) m.session d.guid
+    → seen (make_open s m r found action now) ≡ make_new (seen s) (next_open s) (open_row s m r (new_file s found) action) m.session_id d.guid
 make_seen s m r found action now d e = with_file s m r found action now ∙ with_durable s m (open_row s m r (new_file s found) action) d r.durable e

@@ -5,7 +5,7 @@ use Rattle.exchange_defs.specs.State.{Server, Message, ServerEvent, Accept, Hear
 use Rattle.exchange_defs.specs.Records.{fits, origin_at}
 use Rattle.exchange_defs.specs.Effects.{apply, end_if_named}
 use Rattle.exchange_defs.specs.Verdict.{Verdict}
-use Rattle.exchange_defs.specs.Step.{step, table, expiring, with_deadlines, due, expire, expire_records, max_expired_guids, max_connections, TakesIn, TurnsAway, ruling, ruling_without_room, carried_out, connection_of, ends_with}
+use Rattle.exchange_defs.specs.Step.{step, event_answer, expiring, with_deadlines, due, expire, expire_records, max_expired_guids, max_connections, TakesIn, TurnsAway, ruling, ruling_without_room, carried_out, connection_of, ends_with}
 use Rattle.exchange_defs.specs.Operations.{durable_of}
 use Rattle.exchange_defs.specs.Client.{Client, guid_for}
 use Rattle.exchange_defs.specs.Network.{Conn, Sent, Token, ForOp, answer_to}
@@ -54,7 +54,7 @@ creates_before : (c : Client) (conns : ℕ → Conn) (a : ℕ → ℕ) (s : Serv
 creates_before c conns a s now t i (inl e) = subst (λ u. Creates c conns (seen u) a) (sym e) i
 creates_before c conns a s now t i (inr x) =
     let d = with_deadlines s now in
-    subst (λ u. Creates c conns (seen u) a) (sym x.2) (subst (λ v. Creates c conns v a) (sym (expire_seen d x.0)) (expire_by_creates c conns (seen d) a x.0 (d.opened x.0).guid refl i))
+    subst (λ u. Creates c conns (seen u) a) (sym x.2) (subst (λ v. Creates c conns v a) (sym (expire_seen d x.0)) (expire_by_creates c conns (seen d) a x.0 (d.opened x.0).create_guid refl i))
 
 rest_before : (s : Server) (now : ℕ) (t : Server) → Before s now t → rest t ≡ rest s
 rest_before s now t (inl e) = ap rest e
@@ -82,7 +82,7 @@ mine_of c conns a t k g x0 f fc i tk mk =
       keeps = asks_to_keep (c.op g) (guid_for c g) mk;
       form = asks_form (c.op g) (guid_for c g) mk;
       fresh = λ b. (f.first k 0 g x0 fc.front tk (once_of c g mk) b).1;
-      mine = λ cur there. (fc.lives (front_of c.live _ cur)).0 ∙ sym (fc.here x0.message.session there ranked);
+      mine = λ cur there. (fc.lives (front_of c.live _ cur)).0 ∙ sym (fc.here x0.message.session_id there ranked);
       made = i.made;
       named_ = i.named;
       given = i.named_given;
@@ -90,10 +90,10 @@ mine_of c conns a t k g x0 f fc i tk mk =
       formed = i.form_acted;
       statuses = i.refused_status;
       kept = λ there l. i.acted_kept k 0 g x0 fc.front tk mk there l;
-      there = λ on. fc.on_present x0.message.connection x0.message.session on;
-      users = λ there. fc.users x0.message.session there;
+      there = λ on. fc.on_present x0.message.connection x0.message.session_id on;
+      users = λ there. fc.users x0.message.session_id there;
       tree = λ there. fc.trees k 0 x0 fc.front ops there;
-      files = λ b e. fc.kinds x0.message.session x0.message.tree b e;
+      files = λ b e. fc.kinds x0.message.session_id x0.message.tree_id b e;
     }
 
 says_found : (c : Client) (a : ℕ → ℕ) (t : Server) (g : ℕ) (tk : Token) (m : Message) (r : CreateRequest) (now : ℕ) (v : Verdict) → Mine c t a g tk m r → Finds t m v → SayFor c (seen (apply t m now v).server) (counted a tk (apply t m now v).acted) g (apply t m now v).reply
@@ -143,7 +143,7 @@ answered c conns a s now k x0 f fc i (SetInfo file setting) e = stepped c conns 
 abbrev Way : Server → ℕ → ServerEvent → (Seen → Type 0) → Type 0
 Way s now e P = (t : Server) → Before s now t → P (seen (carried_out t now (ruling t e)).server) × P (seen (carried_out t now (ruling_without_room (ruling t e))).server)
 
-by_table : (P : Seen → Type 0) (s : Server) (now : ℕ) (e : ServerEvent) → Way s now e P → P (seen (table (with_deadlines s now) now e).server)
+by_table : (P : Seen → Type 0) (s : Server) (now : ℕ) (e : ServerEvent) → Way s now e P → P (seen (event_answer (with_deadlines s now) now e).server)
 by_table P s now e f =
     let d = with_deadlines s now in
     either (λ (A : Answer). P (seen A.server)) (fits d (carried_out d now (ruling d e)).records) _ _ (λ _. (f d (inl refl)).0) (λ _. (f d (inl refl)).1)

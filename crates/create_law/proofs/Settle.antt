@@ -16,7 +16,7 @@ settle_refused_not : (c : Client) (conns : ℕ → Conn) (v : Seen) (a : ℕ →
 settle_refused_not c conns v a g place outcome never firm i_refused_not =
     λ p. let old = i_refused_not p in let q = never in grind arith
 
-settle_dead_refused : (c : Client) (conns : ℕ → Conn) (v : Seen) (a : ℕ → ℕ) (g place : ℕ) (outcome : Outcome) → ((j n : ℕ) (y : Sent) → slice_get (conns j).up n ≡ Some y → y.token ≡ ForOp g → makes_open (c.op g) ≡ true → never_acted outcome ≡ true → v.present y.message.session ≡ true → is_barred c v y.message.session g ≡ true) → (is_unsettled outcome ≡ false) → DeadRefused c conns v → DeadRefused (settled_by c g outcome place) conns v
+settle_dead_refused : (c : Client) (conns : ℕ → Conn) (v : Seen) (a : ℕ → ℕ) (g place : ℕ) (outcome : Outcome) → ((j n : ℕ) (y : Sent) → slice_get (conns j).up n ≡ Some y → y.token ≡ ForOp g → makes_open (c.op g) ≡ true → never_acted outcome ≡ true → v.present y.message.session_id ≡ true → is_barred c v y.message.session_id g ≡ true) → (is_unsettled outcome ≡ false) → DeadRefused c conns v → DeadRefused (settled_by c g outcome place) conns v
 settle_dead_refused c conns v a g place outcome barred firm i_dead_refused =
     λ j n p y h t. let old = i_dead_refused j n p y h t in let q = barred j n y h in grind arith
 
@@ -24,7 +24,7 @@ settle_ok_acted : (c : Client) (conns : ℕ → Conn) (v : Seen) (a : ℕ → �
 settle_ok_acted c conns v a g place outcome acted firm i_ok_acted =
     λ p. let old = i_ok_acted p in let q = acted in grind arith
 
-settle_file_guid : (c : Client) (conns : ℕ → Conn) (v : Seen) (a : ℕ → ℕ) (g place : ℕ) (outcome : Outcome) → (makes_open (c.op g) ≡ true → is_ok outcome ≡ true → c.file g ≤ v.last × (v.standing (c.file g) ≡ true → (v.opened (c.file g)).client ≡ c.who.guid × (v.opened (c.file g)).guid ≡ Some (guid_at c g))) → (is_unsettled outcome ≡ false) → FileGuid c v → FileGuid (settled_by c g outcome place) v
+settle_file_guid : (c : Client) (conns : ℕ → Conn) (v : Seen) (a : ℕ → ℕ) (g place : ℕ) (outcome : Outcome) → (makes_open (c.op g) ≡ true → is_ok outcome ≡ true → c.file g ≤ v.last × (v.standing (c.file g) ≡ true → (v.opened (c.file g)).client_guid ≡ c.who.guid × (v.opened (c.file g)).create_guid ≡ Some (guid_at c g))) → (is_unsettled outcome ≡ false) → FileGuid c v → FileGuid (settled_by c g outcome place) v
 settle_file_guid c conns v a g place outcome guid firm i_file_guid =
     λ p. let old = i_file_guid p in let q = guid in grind arith
 
@@ -36,7 +36,7 @@ settle_plain_dead : (c : Client) (conns : ℕ → Conn) (v : Seen) (a : ℕ → 
 settle_plain_dead c conns v a g place outcome firm i_plain_dead =
     λ p. let old = i_plain_dead p in grind arith
 
-pub settle_creates : (c : Client) (conns : ℕ → Conn) (v : Seen) (a : ℕ → ℕ) (g place : ℕ) (outcome : Outcome) → (makes_open (c.op g) ≡ true → never_acted outcome ≡ true → a g ≡ 0) → (makes_open (c.op g) ≡ true → is_ok outcome ≡ true → 1 ≤ a g) → ((j n : ℕ) (y : Sent) → slice_get (conns j).up n ≡ Some y → y.token ≡ ForOp g → makes_open (c.op g) ≡ true → never_acted outcome ≡ true → v.present y.message.session ≡ true → is_barred c v y.message.session g ≡ true) → (makes_open (c.op g) ≡ true → is_ok outcome ≡ true → c.file g ≤ v.last × (v.standing (c.file g) ≡ true → (v.opened (c.file g)).client ≡ c.who.guid × (v.opened (c.file g)).guid ≡ Some (guid_at c g))) → ((o : ℕ) → makes_open (c.op g) ≡ true → is_ok outcome ≡ true → named c v g ≡ Some o → o ≡ c.file g) → (is_unsettled outcome ≡ false) → Creates c conns v a → Creates (settled_by c g outcome place) conns v a
+pub settle_creates : (c : Client) (conns : ℕ → Conn) (v : Seen) (a : ℕ → ℕ) (g place : ℕ) (outcome : Outcome) → (makes_open (c.op g) ≡ true → never_acted outcome ≡ true → a g ≡ 0) → (makes_open (c.op g) ≡ true → is_ok outcome ≡ true → 1 ≤ a g) → ((j n : ℕ) (y : Sent) → slice_get (conns j).up n ≡ Some y → y.token ≡ ForOp g → makes_open (c.op g) ≡ true → never_acted outcome ≡ true → v.present y.message.session_id ≡ true → is_barred c v y.message.session_id g ≡ true) → (makes_open (c.op g) ≡ true → is_ok outcome ≡ true → c.file g ≤ v.last × (v.standing (c.file g) ≡ true → (v.opened (c.file g)).client_guid ≡ c.who.guid × (v.opened (c.file g)).create_guid ≡ Some (guid_at c g))) → ((o : ℕ) → makes_open (c.op g) ≡ true → is_ok outcome ≡ true → named c v g ≡ Some o → o ≡ c.file g) → (is_unsettled outcome ≡ false) → Creates c conns v a → Creates (settled_by c g outcome place) conns v a
 settle_creates c conns v a g place outcome never acted barred guid names firm i =
     record {
       made = i.made;

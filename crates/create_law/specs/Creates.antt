@@ -111,7 +111,7 @@ Made c v a = (g o : ℕ) → named c v g ≡ Some o → makes_open (c.op g) ≡ 
 
 -- one that stands, with that guid, of the kind that the create asked for
 abbrev pub Named : Client → Seen → Type 0
-Named c v = (g o : ℕ) → named c v g ≡ Some o → v.standing o ≡ true × (v.opened o).client ≡ c.who.guid × (v.opened o).guid ≡ Some (guid_at c g)
+Named c v = (g o : ℕ) → named c v g ≡ Some o → v.standing o ≡ true × (v.opened o).client_guid ≡ c.who.guid × (v.opened o).create_guid ≡ Some (guid_at c g)
 
 abbrev pub NamedKind : Client → Seen → Type 0
 NamedKind c v = (g o : ℕ) → named c v g ≡ Some o → (v.opened o).persistent ≡ outlives (c.op g) × (v.opened o).user ≡ logon_user c.who.logon
@@ -134,8 +134,8 @@ Unclosed c v a = (g : ℕ) → makes_open (c.op g) ≡ true → is_unsettled (c.
 
 -- where a copy waits whose session is there, that session keeps what tells that the create acted
 abbrev pub ActedKept : Client → (ℕ → Conn) → Seen → (ℕ → ℕ) → Type 0
-ActedKept c conns v a = (k n g : ℕ) (x : Sent) → slice_get (conns k).up n ≡ Some x → x.token ≡ ForOp g → makes_open (c.op g) ≡ true → v.present x.message.session ≡ true → 1 ≤ a g
-    → (v.closed x.message.session (guid_at c g) || is_kept c v g) ≡ true
+ActedKept c conns v a = (k n g : ℕ) (x : Sent) → slice_get (conns k).up n ≡ Some x → x.token ≡ ForOp g → makes_open (c.op g) ≡ true → v.present x.message.session_id ≡ true → 1 ≤ a g
+    → (v.closed x.message.session_id (guid_at c g) || is_kept c v g) ≡ true
 
 abbrev pub AtMost : Client → (ℕ → ℕ) → Type 0
 AtMost c a = (g : ℕ) → makes_open (c.op g) ≡ true → a g ≤ 1
@@ -149,8 +149,8 @@ abbrev pub RefusedNot : Client → (ℕ → ℕ) → Type 0
 RefusedNot c a = (g : ℕ) → makes_open (c.op g) ≡ true → never_acted (c.outcome g) ≡ true → a g ≡ 0
 
 abbrev pub DeadRefused : Client → (ℕ → Conn) → Seen → Type 0
-DeadRefused c conns v = (k n g : ℕ) (x : Sent) → slice_get (conns k).up n ≡ Some x → x.token ≡ ForOp g → makes_open (c.op g) ≡ true → never_acted (c.outcome g) ≡ true → v.present x.message.session ≡ true
-    → is_barred c v x.message.session g ≡ true
+DeadRefused c conns v = (k n g : ℕ) (x : Sent) → slice_get (conns k).up n ≡ Some x → x.token ≡ ForOp g → makes_open (c.op g) ≡ true → never_acted (c.outcome g) ≡ true → v.present x.message.session_id ≡ true
+    → is_barred c v x.message.session_id g ≡ true
 
 abbrev pub NoReply : Client → (ℕ → Conn) → (ℕ → ℕ) → Type 0
 NoReply c conns a = (k n g : ℕ) (y : Received) → slice_get (conns k).down n ≡ Some y → y.token ≡ ForOp g → makes_open (c.op g) ≡ true → refuses (c.unanswered g) y.reply.status ≡ true → a g ≡ 0
@@ -173,14 +173,14 @@ OkReply c conns a = (k n g : ℕ) (y : Received) → slice_get (conns k).down n 
 
 -- the open that a success names was given, has the create's guid while it stands, and is the one that the guid names
 abbrev pub FileGuid : Client → Seen → Type 0
-FileGuid c v = (g : ℕ) → makes_open (c.op g) ≡ true → is_ok (c.outcome g) ≡ true → c.file g ≤ v.last × (v.standing (c.file g) ≡ true → (v.opened (c.file g)).client ≡ c.who.guid × (v.opened (c.file g)).guid ≡ Some (guid_at c g))
+FileGuid c v = (g : ℕ) → makes_open (c.op g) ≡ true → is_ok (c.outcome g) ≡ true → c.file g ≤ v.last × (v.standing (c.file g) ≡ true → (v.opened (c.file g)).client_guid ≡ c.who.guid × (v.opened (c.file g)).create_guid ≡ Some (guid_at c g))
 
 abbrev pub FileOf : Client → Seen → Type 0
 FileOf c v = (g o : ℕ) → makes_open (c.op g) ≡ true → is_ok (c.outcome g) ≡ true → named c v g ≡ Some o → o ≡ c.file g
 
 abbrev pub ReplyGuid : Client → (ℕ → Conn) → Seen → Type 0
 ReplyGuid c conns v = (k n g : ℕ) (y : Received) → slice_get (conns k).down n ≡ Some y → y.token ≡ ForOp g → makes_open (c.op g) ≡ true → y.reply.status ≡ success
-    → id_in y.reply.body ≤ v.last × (v.standing (id_in y.reply.body) ≡ true → (v.opened (id_in y.reply.body)).client ≡ c.who.guid × (v.opened (id_in y.reply.body)).guid ≡ Some (guid_at c g))
+    → id_in y.reply.body ≤ v.last × (v.standing (id_in y.reply.body) ≡ true → (v.opened (id_in y.reply.body)).client_guid ≡ c.who.guid × (v.opened (id_in y.reply.body)).create_guid ≡ Some (guid_at c g))
 
 abbrev pub ReplyOf : Client → (ℕ → Conn) → Seen → Type 0
 ReplyOf c conns v = (k n g o : ℕ) (y : Received) → slice_get (conns k).down n ≡ Some y → y.token ≡ ForOp g → makes_open (c.op g) ≡ true → y.reply.status ≡ success → named c v g ≡ Some o → o ≡ id_in y.reply.body

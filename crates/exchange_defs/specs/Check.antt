@@ -12,11 +12,11 @@ use Rattle.exchange_defs.specs.CheckSetup.{setup_check, tree_check, tree_in}
 
 -- check 1: the id names a live session with a channel on this connection
 abbrev pub has_session : Server → Message → Bool
-has_session s m = is_at m.session (s.session_on m.connection)
+has_session s m = is_at m.session_id (s.session_on m.connection)
 
 -- check 5 and then those of the request itself
 abbrev pub on_open : Server → Message → ℕ → Verdict → Verdict
-on_open s m o v = if is_of_session s o m.session then v else Refuse file_closed
+on_open s m o v = if is_of_session s o m.session_id then v else Refuse file_closed
 
 -- behind check 4, with whether the tree is that of the pipes
 abbrev pub tree_command : Server → Message → Bool → Command → Verdict
@@ -41,13 +41,13 @@ in_tree s m None = Refuse network_name_deleted
 in_tree s m (Some pipes) = tree_command s m pipes m.command
 
 abbrev pub with_tree : Server → Message → Verdict
-with_tree s m = in_tree s m (tree_in (s.trees m.session) m.tree)
+with_tree s m = in_tree s m (tree_in (s.trees m.session_id) m.tree_id)
 
 -- NEGOTIATE and ECHO are no event and don't come here; SESSION_SETUP comes before a session is there
 abbrev pub command_check : Server → Message → Command → Verdict
 command_check s m (Unreadable status) = Refuse status
 command_check s m (Setup request) = setup_check s m request
-command_check s m Logoff = EndSession m.session false
+command_check s m Logoff = EndSession m.session_id false
 command_check s m (TreeConnect share) = tree_check s m share
 command_check s m (Aside status) = Refuse status
 command_check s m _ = with_tree s m

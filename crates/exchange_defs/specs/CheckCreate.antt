@@ -96,7 +96,7 @@ after_names s r found None = if shares s r found then Make r found (action_of r 
 abbrev pub new_check : Server → Message → CreateRequest → Option ℕ → Verdict
 new_check s m r found =
     if deletes_on_close r.options && not (deletes (mapped r.access)) then Refuse access_denied
-    else if keeps_guid r && nat_le max_guids (s.guids m.session) then Refuse insufficient_resources
+    else if keeps_guid r && nat_le max_guids (s.guids m.session_id) then Refuse insufficient_resources
     else if is_counted_out s r found then refused_create r insufficient_resources
     else after_names s r found (names s r found)
 
@@ -107,9 +107,9 @@ new_check s m r found =
 abbrev pub live_check : Server → Message → CreateRequest → ℕ → Verdict
 live_check s m r o =
     if not m.replay then Refuse duplicate_objectid
-    else if is_at m.session (s.session_of_open o) then Repeat o r
+    else if is_at m.session_id (s.session_of_open o) then Repeat o r
     else if is_some (s.session_of_open o) || not (s.opened o).persistent then Refuse duplicate_objectid
-    else if same_name (s.opened o).user (s.user m.session) then Repeat o r
+    else if same_name (s.opened o).user (s.user m.session_id) then Repeat o r
     else Refuse access_denied
 
 abbrev pub refusal_check : Server → Message → CreateRequest → Option ℕ → Verdict
@@ -119,9 +119,9 @@ refusal_check s m r None = new_check s m r (find s r.path)
 abbrev pub guid_check : Server → Message → CreateRequest → Durable → Option ℕ → Verdict
 guid_check s m r d (Some o) = live_check s m r o
 guid_check s m r d None =
-    if s.closed m.session d.guid then Refuse duplicate_objectid
-    else if s.expired_guids m.client d.guid then Refuse duplicate_objectid
-    else refusal_check s m r (s.refused m.session d.guid)
+    if s.closed m.session_id d.guid then Refuse duplicate_objectid
+    else if s.expired_guids m.client_guid d.guid then Refuse duplicate_objectid
+    else refusal_check s m r (s.refused m.session_id d.guid)
 
 abbrev pub has_guid : ℕ → Option ℕ → Bool
 has_guid g None = false
@@ -130,14 +130,14 @@ has_guid g (Some h) = h == g
 -- an open of that id and guid: attached where its session is gone or this one
 abbrev pub reconnect_check : Server → Message → CreateRequest → Reconnect → Verdict
 reconnect_check s m r c =
-    if not (s.standing c.file && has_guid c.guid (s.opened c.file).guid) then Refuse object_name_not_found
-    else if not (same_name (s.opened c.file).user (s.user m.session)) then Refuse access_denied
-    else if is_some (s.session_of_open c.file) && not (is_at m.session (s.session_of_open c.file)) then Refuse object_name_not_found
+    if not (s.standing c.file && has_guid c.guid (s.opened c.file).create_guid) then Refuse object_name_not_found
+    else if not (same_name (s.opened c.file).user (s.user m.session_id)) then Refuse access_denied
+    else if is_some (s.session_of_open c.file) && not (is_at m.session_id (s.session_of_open c.file)) then Refuse object_name_not_found
     else Attach c.file r
 
 abbrev pub durable_check : Server → Message → CreateRequest → Option Durable → Verdict
 durable_check s m r None = new_check s m r (find s r.path)
-durable_check s m r (Some d) = guid_check s m r d (s.by_guid m.client d.guid)
+durable_check s m r (Some d) = guid_check s m r d (s.by_guid m.client_guid d.guid)
 
 abbrev pub reconnect_or_create : Server → Message → CreateRequest → Option Reconnect → Verdict
 reconnect_or_create s m r (Some c) = reconnect_check s m r c

@@ -17,7 +17,7 @@ abbrev pub is_stale : ℕ → ℕ → Bool
 is_stale n kept = nat_le 32768 ((n + 65536 - kept) % 65536)
 
 abbrev pub is_late : Server → Message → ℕ → Bool
-is_late s m o = is_stale m.sequence (s.sequence o)
+is_late s m o = is_stale m.channel_sequence (s.sequence o)
 
 abbrev pub file_of : Server → ℕ → ℕ
 file_of s o = (s.opened o).file

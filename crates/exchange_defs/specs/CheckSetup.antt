@@ -46,7 +46,7 @@ abbrev pub granted_session : Server → Message → SetupRequest → List ℕ �
 granted_session s m r user =
     if s.encrypts && (r.cipher == 0) then Refuse access_denied
     else if nat_le max_sessions s.sessions then Refuse insufficient_resources
-    else Begin m.session user (previous_of s user r.previous) r false
+    else Begin m.session_id user (previous_of s user r.previous) r false
 
 abbrev pub second_token : Server → Message → SetupRequest → Shows → Verdict
 second_token s m r Begins = Refuse invalid_parameter
@@ -62,9 +62,9 @@ first_token s (Logon user) = Refuse invalid_parameter
 
 abbrev pub session_check : Server → Message → SetupRequest → Verdict
 session_check s m r =
-    if m.session == 0 then (if is_some (s.session_on m.connection) then Refuse request_not_accepted else first_token s r.shows)
-    else if s.present m.session then Refuse request_not_accepted
-    else if is_new m.session (s.making m.connection) then second_token s m r r.shows
+    if m.session_id == 0 then (if is_some (s.session_on m.connection) then Refuse request_not_accepted else first_token s r.shows)
+    else if s.present m.session_id then Refuse request_not_accepted
+    else if is_new m.session_id (s.making m.connection) then second_token s m r r.shows
     else Refuse user_session_deleted
 
 -- ---- a further channel
@@ -75,39 +75,39 @@ count_channels on (k ∷ ks) session = (if is_at session (on k) then 1 else 0) +
 
 abbrev pub granted_binding : Server → Message → List ℕ → Verdict
 granted_binding s m user =
-    if not (same_name user (s.user m.session)) then Refuse access_denied
-    else if nat_le max_channels (count_channels s.session_on s.connections m.session) then Refuse insufficient_resources
-    else if nat_le max_numbers (s.channel_numbers_drawn m.session) then Refuse insufficient_resources
-    else Join m.session
+    if not (same_name user (s.user m.session_id)) then Refuse access_denied
+    else if nat_le max_channels (count_channels s.session_on s.connections m.session_id) then Refuse insufficient_resources
+    else if nat_le max_numbers (s.channel_numbers_drawn m.session_id) then Refuse insufficient_resources
+    else Join m.session_id
 
 abbrev pub second_binding : Server → Message → Shows → Verdict
-second_binding s m Begins = ChallengeBinding m.session
+second_binding s m Begins = ChallengeBinding m.session_id
 second_binding s m Bad = Refuse invalid_parameter
 second_binding s m Refused = Refuse logon_failure
 second_binding s m (Logon user) = granted_binding s m user
 
 abbrev pub first_binding : Message → Shows → Verdict
-first_binding m Begins = ChallengeBinding m.session
+first_binding m Begins = ChallengeBinding m.session_id
 first_binding m Bad = Refuse invalid_parameter
 first_binding m Refused = Refuse invalid_parameter
 first_binding m (Logon user) = Refuse invalid_parameter
 
 abbrev pub binding_token : Server → Message → SetupRequest → Verdict
-binding_token s m r = if is_binding m.session (s.making m.connection) then second_binding s m r.shows else first_binding m r.shows
+binding_token s m r = if is_binding m.session_id (s.making m.connection) then second_binding s m r.shows else first_binding m r.shows
 
 abbrev pub live_binding : Server → Message → SetupRequest → Verdict
 live_binding s m r =
     if not r.signed then Refuse invalid_parameter
-    else if not (m.client == s.client m.session) then Refuse user_session_deleted
-    else if not ((r.cipher == s.cipher m.session) && (r.signing == s.signing m.session)) then Refuse invalid_parameter
+    else if not (m.client_guid == s.client m.session_id) then Refuse user_session_deleted
+    else if not ((r.cipher == s.cipher m.session_id) && (r.signing == s.signing m.session_id)) then Refuse invalid_parameter
     else if is_some (s.session_on m.connection) then Refuse request_not_accepted
     else if not r.verified then Refuse access_denied
     else binding_token s m r
 
 abbrev pub binding_check : Server → Message → SetupRequest → Verdict
 binding_check s m r =
-    if s.present m.session then live_binding s m r
-    else if not (is_new m.session (s.making m.connection)) then Refuse user_session_deleted
+    if s.present m.session_id then live_binding s m r
+    else if not (is_new m.session_id (s.making m.connection)) then Refuse user_session_deleted
     else if not r.signed then Refuse invalid_parameter
     else Refuse request_not_accepted
 
@@ -126,7 +126,7 @@ no_tree_left s session = nat_le max_trees (length (s.trees session)) || nat_lt l
 
 abbrev pub tree_check : Server → Message → List ℕ → Verdict
 tree_check s m share =
-    if no_tree_left s m.session then Refuse insufficient_resources
+    if no_tree_left s m.session_id then Refuse insufficient_resources
     else if same_name share pipes_name then AddTree true
     else if same_name share s.share then AddTree false
     else Refuse bad_network_name

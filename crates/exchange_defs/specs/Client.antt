@@ -36,12 +36,12 @@ pub record Client : Type 0 where
   pub op : ℕ → Op
   pub sent : ℕ → Bool  -- it went out itself
   pub outcome : ℕ → Outcome
-  pub outstanding_on : ℕ → Option ℕ  -- the ready channel on which its copy, or a DH2C in its place, is outstanding
+  pub outstanding_on : ℕ → Option ℕ  -- the ready channel that has its copy, or a DH2C in its place, in OutstandingRequests
   pub asks_attach : ℕ → Bool  -- what is outstanding is that DH2C
   pub unanswered : ℕ → Bool  -- a copy is unanswered: its channel was cut before its reply was taken
-  pub sequence_of : ℕ → ℕ  -- the sequence of its last copy
-  pub slot_of : ℕ → ℕ
-  pub number_of : ℕ → ℕ
+  pub sequence_of : ℕ → ℕ  -- the ChannelSequence of its last copy
+  pub slot_of : ℕ → ℕ  -- LockSequenceIndex
+  pub number_of : ℕ → ℕ  -- LockSequenceNumber
   pub settled_by : ℕ → Option ℕ  -- the place of the message whose reply settled it
   pub given_up : ℕ → Option ℕ  -- the session that had ended when it was given up
   pub order : List ℕ  -- those that a reply settled, in the order of the replies
@@ -55,10 +55,10 @@ pub record Client : Type 0 where
   pub full : ℕ → ℕ → Bool  -- it met DISK_FULL
   -- the session
   pub live : Bool
-  pub session : ℕ
-  pub session_number : ℕ  -- sessions count from 1
-  pub tree : ℕ
-  pub sequence : ℕ
+  pub session : ℕ  -- SessionId
+  pub session_number : ℕ  -- the client counts its sessions from 1
+  pub tree : ℕ  -- TreeConnectId
+  pub sequence : ℕ  -- ChannelSequence
   pub ready : ℕ → Bool  -- by channel
   pub channels : ℕ  -- how many are ready
   -- dialogs
@@ -66,7 +66,7 @@ pub record Client : Type 0 where
   pub making : Option ℕ  -- the channel on which a session is in the making
   pub pending : ℕ  -- that session's id, once it is told
   pub accepted : ℕ  -- the last accepted session, which a new one names as its previous one
-  pub accepted_count : ℕ
+  pub accepted_count : ℕ  -- how many were
   pub rank : ℕ → ℕ  -- by session: the order in which the client accepted it
   pub refusals : List RefusedDialog
 
@@ -190,7 +190,7 @@ abbrev pub is_replay : Client → ℕ → Bool
 is_replay c g = c.unanswered g && (is_create (c.op g) || is_change (c.op g))
 
 abbrev pub message : Client → ℕ → ℕ → Bool → Command → Message
-message c k id replay command = record { connection = k; client = c.who.guid; session = c.session; tree = c.tree; id = id; sequence = c.sequence; replay = replay; fault = None; command = command }
+message c k id replay command = record { connection = k; client_guid = c.who.guid; session_id = c.session; tree_id = c.tree; message_id = id; channel_sequence = c.sequence; replay = replay; fault = None; command = command }
 
 abbrev pub own_message : Client → ℕ → ℕ → ℕ → Message
 own_message c k id g = message c k id (is_replay c g) (request_of (c.op g) (guid_for c g) (c.file (create_for c g)) (c.slot_of g) (c.number_of g))

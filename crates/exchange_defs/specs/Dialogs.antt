@@ -50,7 +50,7 @@ stage_command c AskedTree = TreeConnect c.who.share
 
 abbrev pub dialog_message : Client → ℕ → ℕ → Stage → Message
 dialog_message c k id stage =
-    record { connection = k; client = c.who.guid; session = stage_session c stage; tree = 0; id = id; sequence = 0; replay = false; fault = None; command = stage_command c stage }
+    record { connection = k; client_guid = c.who.guid; session_id = stage_session c stage; tree_id = 0; message_id = id; channel_sequence = 0; replay = false; fault = None; command = stage_command c stage }
 
 -- ---- its steps; what its end does is the client's own step (`ClientStep.client_after`)
 
@@ -60,7 +60,7 @@ open_channel c k = record c { stage = put c.stage k (SaidNegotiate c.live); maki
 
 -- the interim response tells the new session's id
 abbrev pub told_session : Client → Stage → Reply → ℕ
-told_session c (SaidSecond false) r = r.session
+told_session c (SaidSecond false) r = r.session_id
 told_session c _ r = c.pending
 
 abbrev pub went_on : Client → ℕ → Stage → Reply → Client

@@ -17,7 +17,7 @@ use Rattle.exchange_defs.specs.Verdict.{Verdict, Refuse, Give, KeepRefusal, Repe
 
 abbrev pub answer_with : Server → Message → ℕ → Body → List Record → Bool → Option ℕ → Answer
 answer_with s m status body records acted reached =
-    record { server = s; reply = record { status = status; session = m.session; tree = m.tree; body = body }; records = records; acted = acted; reached = reached; altered = None }
+    record { server = s; reply = record { status = status; session_id = m.session_id; tree_id = m.tree_id; body = body }; records = records; acted = acted; reached = reached; altered = None }
 
 -- no record is owed, and nothing in the files, the set of opens and the ranges changed
 abbrev pub quiet : Server → Message → ℕ → Body → Answer
@@ -26,7 +26,7 @@ quiet s m status body = answer_with s m status body [] false None
 -- ---- the sequence of an open: a newer one is adopted
 
 abbrev pub reach : Server → Message → ℕ → Server
-reach s m o = if is_late s m o then s else record s { sequence = put s.sequence o m.sequence }
+reach s m o = if is_late s m o then s else record s { sequence = put s.sequence o m.channel_sequence }
 
 -- the open that the sequence reached
 abbrev pub reaches : Server → Message → ℕ → Option ℕ
@@ -45,10 +45,10 @@ keep_refusal s session guid status = record s { refused = put2 s.refused session
 abbrev pub attach : Server → Message → ℕ → Server
 attach s m o =
     record s {
-      session_of_open = put s.session_of_open o (Some m.session);
-      sequence = put s.sequence o m.sequence;
+      session_of_open = put s.session_of_open o (Some m.session_id);
+      sequence = put s.sequence o m.channel_sequence;
       deadline = put s.deadline o None;
-      guids = put s.guids m.session (s.guids m.session + 1);
+      guids = put s.guids m.session_id (s.guids m.session_id + 1);
     }
 
 abbrev pub attached : Server → Message → ℕ → Server
@@ -96,9 +96,9 @@ open_row s m r f action =
       options = r.options;
       action = action;
       persistent = is_persistent r.durable;
-      client = m.client;
-      guid = guid_of r.durable;
-      user = s.user m.session;
+      client_guid = m.client_guid;
+      create_guid = guid_of r.durable;
+      user = s.user m.session_id;
       timeout = timeout_asked r.durable;
     }
 
@@ -111,16 +111,16 @@ guids_after s session (Some d) = put s.guids session (s.guids session + 1)
 
 abbrev pub make_open : Server → Message → CreateRequest → Option ℕ → ℕ → ℕ → Server
 make_open s m r found action now =
-    record (add_open (file_made s r found now) (next_open s) (open_row s m r (new_file s found) action) (Some m.session) m.sequence) {
+    record (add_open (file_made s r found now) (next_open s) (open_row s m r (new_file s found) action) (Some m.session_id) m.channel_sequence) {
       open_ids_given = s.open_ids_given + 1;
-      guids = guids_after s m.session r.durable;
+      guids = guids_after s m.session_id r.durable;
     }
 
 unfoldable pub new_open : Server → Message → CreateRequest → Option Durable → Option NewOpen
 new_open s m r None = None
 new_open s m r (Some d) =
     if d.persistent
-    then Some (record { id = next_open s; client = m.client; guid = d.guid; user = s.user m.session; access = mapped r.access; share = r.share; options = r.options; timeout = timeout_of d.timeout })
+    then Some (record { id = next_open s; client_guid = m.client_guid; create_guid = d.guid; user = s.user m.session_id; access = mapped r.access; share = r.share; options = r.options; timeout = timeout_of d.timeout })
     else None
 
 -- a plain open of what is there owes no record
@@ -280,16 +280,16 @@ acts_if_named s (Some session) = end_acts s session
 abbrev pub add_session : Server → Message → List ℕ → SetupRequest → Server
 add_session s m user r =
     record s {
-      present = put s.present m.session true;
+      present = put s.present m.session_id true;
       sessions = s.sessions + 1;
-      user = put s.user m.session user;
-      client = put s.client m.session m.client;
-      cipher = put s.cipher m.session r.cipher;
-      signing = put s.signing m.session r.signing;
-      channel_numbers_drawn = put s.channel_numbers_drawn m.session 1;
-      trees = put s.trees m.session [];
-      next_tree = put s.next_tree m.session 1;
-      session_on = put s.session_on m.connection (Some m.session);
+      user = put s.user m.session_id user;
+      client = put s.client m.session_id m.client_guid;
+      cipher = put s.cipher m.session_id r.cipher;
+      signing = put s.signing m.session_id r.signing;
+      channel_numbers_drawn = put s.channel_numbers_drawn m.session_id 1;
+      trees = put s.trees m.session_id [];
+      next_tree = put s.next_tree m.session_id 1;
+      session_on = put s.session_on m.connection (Some m.session_id);
       making = put s.making m.connection None;
     }
 
@@ -324,7 +324,7 @@ without_tree id (t ∷ ts) = if t.id == id then without_tree id ts else t ∷ wi
 abbrev pub apply : Server → Message → ℕ → Verdict → Answer
 apply s m now (Refuse status) = quiet s m status Empty
 apply s m now (Give body) = quiet s m success body
-apply s m now (KeepRefusal guid status) = quiet (keep_refusal s m.session guid status) m status Empty
+apply s m now (KeepRefusal guid status) = quiet (keep_refusal s m.session_id guid status) m status Empty
 apply s m now (Repeat o r) = answer_with (attached s m o) m success (create_reply s o r (s.opened o).action) [] false (attaches s o)
 apply s m now (Attach o r) = answer_with (attached s m o) m success (create_reply s o r 1) [] false (attaches s o)
 apply s m now (Make r found action) = made s m r found action now
@@ -338,17 +338,17 @@ apply s m now (PutRanges o index number ranges elements) =
 apply s m now (Alter o change body) =
     record {
       server = change_file (reach s m o) (file_of s o) now change;
-      reply = record { status = success; session = m.session; tree = m.tree; body = body };
+      reply = record { status = success; session_id = m.session_id; tree_id = m.tree_id; body = body };
       records = change_records m (file_of s o) now change;
       acted = change_acts s (file_of s o) now change;
       reached = reaches s m o;
       altered = Some o;
     }
-apply s m now (CloseOpen o body) = answer_with (keep_closed (leave_open s o) m.session (s.opened o).guid) m success body (leave_records s (origin_of m) o) true (reaches s m o)
+apply s m now (CloseOpen o body) = answer_with (keep_closed (leave_open s o) m.session_id (s.opened o).create_guid) m success body (leave_records s (origin_of m) o) true (reaches s m o)
 apply s m now Challenge =
     record {
       server = record s { session_ids_given = s.session_ids_given + 1; making = put s.making m.connection (Some (NewSession (next_session s))) };
-      reply = record { status = more_processing_required; session = next_session s; tree = m.tree; body = Empty };
+      reply = record { status = more_processing_required; session_id = next_session s; tree_id = m.tree_id; body = Empty };
       records = [];
       acted = false;
       reached = None;
@@ -361,11 +361,11 @@ apply s m now (Join session) = quiet (join_session s m session) m success (SetUp
 apply s m now (EndSession session is_quiet) = answer_with (end_session s session now is_quiet) m success Empty (end_records s (origin_of m) session is_quiet) (end_acts s session) None
 apply s m now (AddTree pipes) =
     record {
-      server = add_tree s m.session pipes;
-      reply = record { status = success; session = m.session; tree = s.next_tree m.session; body = connected pipes };
+      server = add_tree s m.session_id pipes;
+      reply = record { status = success; session_id = m.session_id; tree_id = s.next_tree m.session_id; body = connected pipes };
       records = [];
       acted = false;
       reached = None;
       altered = None;
     }
-apply s m now DropTree = quiet (record s { trees = put s.trees m.session (without_tree m.tree (s.trees m.session)) }) m success Empty
+apply s m now DropTree = quiet (record s { trees = put s.trees m.session_id (without_tree m.tree_id (s.trees m.session_id)) }) m success Empty

@@ -22,7 +22,7 @@ abbrev pub no_address : Address
 no_address = record { ip = 0; port = 0 }
 
 abbrev pub no_open : Open
-no_open = record { file = 0; access = 0; share = 0; options = 0; action = 0; persistent = false; client = 0; guid = None; user = []; timeout = 0 }
+no_open = record { file = 0; access = 0; share = 0; options = 0; action = 0; persistent = false; client_guid = 0; create_guid = None; user = []; timeout = 0 }
 
 abbrev pub full_room : ℕ
 full_room = 268435456
@@ -94,7 +94,7 @@ may_make s f path = (f == s.next_file) && (is_path path && (not (is_some (find s
 
 -- an id of this epoch that isn't live, a guid that no live open of the client has, and room in the count
 unfoldable pub may_restore : Server → NewOpen → Bool
-may_restore s n = (n.id / 0x1_0000_0000 == s.epoch) && (nat_lt 0 (n.id % 0x1_0000_0000) && (nat_lt s.open_ids_given max_ids && (not (s.standing n.id) && (not (is_some (s.by_guid n.client n.guid)) && nat_lt (length s.opens) max_opens))))
+may_restore s n = (n.id / 0x1_0000_0000 == s.epoch) && (nat_lt 0 (n.id % 0x1_0000_0000) && (nat_lt s.open_ids_given max_ids && (not (s.standing n.id) && (not (is_some (s.by_guid n.client_guid n.create_guid)) && nat_lt (length s.opens) max_opens))))
 
 unfoldable pub may_have_open : Server → Option NewOpen → Bool
 may_have_open s None = true
@@ -105,7 +105,7 @@ may_create s action f path = if action == 2 then may_make s f path else if actio
 
 abbrev pub restored_row : NewOpen → ℕ → ℕ → Open
 restored_row n f action =
-    record { file = f; access = n.access; share = n.share; options = n.options; action = action; persistent = true; client = n.client; guid = Some n.guid; user = n.user; timeout = n.timeout }
+    record { file = f; access = n.access; share = n.share; options = n.options; action = action; persistent = true; client_guid = n.client_guid; create_guid = Some n.create_guid; user = n.user; timeout = n.timeout }
 
 abbrev pub restore : Server → ℕ → ℕ → Option NewOpen → Server
 restore s f action None = s
@@ -159,7 +159,7 @@ with_record s (RenameRecord origin f replaced path) = if may_rename s f replaced
 with_record s (RemoveRecord origin f) = if may_remove s f then remove_file s f else s
 with_record s (LockRecord origin o index number status elements) = if s.standing o && nat_le index 64 then lock_recorded s o index number status elements else s
 with_record s (CloseRecord origin o) = if s.standing o then shut_recorded s o else s
-with_record s (ExpireRecord origin o) = if s.standing o && nat_lt s.expired_count max_expired_guids then add_expired_guid (shut_recorded s o) (s.opened o).client (s.opened o).guid else s
+with_record s (ExpireRecord origin o) = if s.standing o && nat_lt s.expired_count max_expired_guids then add_expired_guid (shut_recorded s o) (s.opened o).client_guid (s.opened o).create_guid else s
 
 unfoldable pub fold_from : Server → List Record → Server
 fold_from s [] = s

@@ -130,7 +130,7 @@ pushed w k slotless pick = pushed_by w k (client_after w.client (Pushes k slotle
 
 -- NEGOTIATE and ECHO touch no shared state
 abbrev pub untouched : Server → Message → ℕ → Answer
-untouched s m status = record { server = s; reply = record { status = status; session = m.session; tree = m.tree; body = Empty }; records = []; acted = false; reached = None; altered = None }
+untouched s m status = record { server = s; reply = record { status = status; session_id = m.session_id; tree_id = m.tree_id; body = Empty }; records = []; acted = false; reached = None; altered = None }
 
 abbrev pub answer_to : Server → ℕ → Message → Command → Answer
 answer_to s now m (Aside status) = untouched s m status
@@ -172,8 +172,8 @@ traced w x A =
       open_of = if makes w.client x.token A then put w.trace.open_of (op_of x.token) A.reached else w.trace.open_of;
       reached = put w.trace.reached w.log.places A.reached;
       altered = put w.trace.altered w.log.places A.altered;
-      session = put w.trace.session w.log.places x.message.session;
-      sequence = put w.trace.sequence w.log.places x.message.sequence;
+      session = put w.trace.session w.log.places x.message.session_id;
+      sequence = put w.trace.sequence w.log.places x.message.channel_sequence;
     }
 
 -- a create's bytes behind a step: those of its file while its open stands, and else as they were
@@ -255,7 +255,7 @@ abbrev pub dialog_took : World → ℕ → Reply → DialogStep → World
 dialog_took w k r (GoesOn stage) = dialog_sent (with_client w (went_on w.client k stage r)) k stage
 dialog_took w k r Accepts = dialog_sent (with_client w (accepted w.client k)) k AskedTree
 dialog_took w k r Binds = dialog_ended w k (IsReady k w.client.session w.client.tree)
-dialog_took w k r Readies = dialog_ended w k (IsReady k w.client.pending r.tree)
+dialog_took w k r Readies = dialog_ended w k (IsReady k w.client.pending r.tree_id)
 dialog_took w k r (Refuses status) = dialog_ended w k (IsRefused k (HadStatus status))
 
 abbrev pub op_took : World → ℕ → ℕ → Bool → Reply → ℕ → World

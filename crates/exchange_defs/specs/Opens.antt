@@ -82,7 +82,7 @@ add_open s o row session sequence =
       deadline = put s.deadline o None;
       enumeration_location = put s.enumeration_location o None;
       lock_sequences = put s.lock_sequences o (λ i. None);
-      by_guid = with_guid s.by_guid row.client row.guid (Some o);
+      by_guid = with_guid s.by_guid row.client_guid row.create_guid (Some o);
     }
 
 -- the open leaves, with its ranges; its guid names no open
@@ -93,7 +93,7 @@ drop_open s o =
       standing = put s.standing o false;
       session_of_open = put s.session_of_open o None;
       deadline = put s.deadline o None;
-      by_guid = with_guid s.by_guid (s.opened o).client (s.opened o).guid None;
+      by_guid = with_guid s.by_guid (s.opened o).client_guid (s.opened o).create_guid None;
       ranges = put s.ranges (s.opened o).file (without_owner o (s.ranges (s.opened o).file));
     }
 

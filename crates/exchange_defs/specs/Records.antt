@@ -4,7 +4,7 @@ use Rattle.exchange_defs.specs.Texts.{utf16_length}
 use Rattle.exchange_defs.specs.State.{Server, Message, Origin, Record, NewOpen, EpochRecord, CreateRecord, WriteRecord, EndRecord, BasicRecord, DeleteRecord, RenameRecord, RemoveRecord, LockRecord, CloseRecord, VersionRecord, ExpireRecord}
 
 abbrev pub origin_of : Message → Origin
-origin_of m = record { session = m.session; connection = m.connection; message = m.id }
+origin_of m = record { session = m.session_id; connection = m.connection; message = m.message_id }
 
 -- where no message caused it
 abbrev pub origin_at : ℕ → Origin

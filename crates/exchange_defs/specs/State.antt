@@ -25,21 +25,21 @@ pub record Entry : Type 0 where
 -- what an open is made with and never changes (MS-SMB2 3.3.1.10)
 pub record Open : Type 0 where
   pub file : ℕ
-  pub access : ℕ  -- mapped
-  pub share : ℕ  -- read 1, write 2, delete 4
-  pub options : ℕ
-  pub action : ℕ  -- superseded 0, opened 1, created 2, overwritten 3
-  pub persistent : Bool
-  pub client : ℕ  -- the ClientGuid
-  pub guid : Option ℕ  -- the CreateGuid
-  pub user : List ℕ
-  pub timeout : ℕ  -- in milliseconds
+  pub access : ℕ  -- GrantedAccess, without generic bits
+  pub share : ℕ  -- ShareAccess: read 1, write 2, delete 4
+  pub options : ℕ  -- CreateOptions
+  pub action : ℕ  -- CreateAction: superseded 0, opened 1, created 2, overwritten 3
+  pub persistent : Bool  -- IsPersistent
+  pub client_guid : ℕ  -- ClientGuid
+  pub create_guid : Option ℕ  -- CreateGuid
+  pub user : List ℕ  -- DurableOwner
+  pub timeout : ℕ  -- DurableOpenTimeout, in milliseconds
 
 -- a range that an open locks
 abbrev pub Range : Type 0
 Range = range_value.Range
 
--- what a lock slot keeps: the number of the last request and its answer
+-- one place of Open.LockSequenceArray, called a slot: the number of the last request and its answer
 abbrev pub Kept : Type 0
 Kept = kept_value.Kept
 
@@ -61,8 +61,8 @@ pub record Address : Type 0 where
 pub record Server : Type 0 where
   -- the configuration
   pub share : List ℕ
-  pub room : ℕ
-  pub encrypts : Bool
+  pub room : ℕ  -- how many bytes all files may hold
+  pub encrypts : Bool  -- EncryptData (3.3.1.5): messages of a session are sealed
   pub address : Address
   -- what bounds ids and the journal
   pub version : ℕ
@@ -72,52 +72,53 @@ pub record Server : Type 0 where
   pub entries : List Entry  -- in ascending order of numbers, without the root
   pub next_file : ℕ
   pub directory : ℕ → Bool
-  pub delete_pending : ℕ → Bool  -- for deletion
+  pub delete_pending : ℕ → Bool  -- it goes with its last open
   pub basic : ℕ → Basic
   pub content : ℕ → List ℕ
   pub ranges : ℕ → List Range
-  -- opens, by id
-  pub opens : List ℕ  -- those that stand, in ascending order
+  -- opens, by id (3.3.1.10)
+  pub opens : List ℕ  -- those that stand in GlobalOpenTable, in ascending order
   pub standing : ℕ → Bool
   pub open_ids_given : ℕ  -- how many ids were given in this epoch
   pub opened : ℕ → Open
-  pub session_of_open : ℕ → Option ℕ  -- the session to which an open is attached
-  pub sequence : ℕ → ℕ
-  pub deadline : ℕ → Option ℕ
-  pub enumeration_location : ℕ → Option (List ℕ)  -- the last name that its listing gave
-  pub lock_sequences : ℕ → ℕ → Option Kept  -- and by slot, 1 to 64
+  pub session_of_open : ℕ → Option ℕ  -- Open.Session: the one to which it is attached
+  pub sequence : ℕ → ℕ  -- Open.ChannelSequence
+  pub deadline : ℕ → Option ℕ  -- the moment at which Open.DurableOpenScavengerTimeout has passed
+  pub enumeration_location : ℕ → Option (List ℕ)  -- Open.EnumerationLocation: the last name that its listing gave
+  pub lock_sequences : ℕ → ℕ → Option Kept  -- Open.LockSequenceArray, by LockSequenceIndex 1 to 64
   pub by_guid : ℕ → ℕ → Option ℕ  -- by ClientGuid and CreateGuid: the open that stands
-  pub expired_guids : ℕ → ℕ → Bool  -- by the same: an open of it expired
-  pub expired_count : ℕ
-  -- sessions, by id
+  pub expired_guids : ℕ → ℕ → Bool  -- by the same: an open of them expired
+  pub expired_count : ℕ  -- how many did
+  -- sessions, by id (3.3.1.8)
   pub present : ℕ → Bool
   pub sessions : ℕ  -- how many are live
   pub session_ids_given : ℕ  -- how many ids were given in this epoch
   pub user : ℕ → List ℕ
-  pub client : ℕ → ℕ
-  pub cipher : ℕ → ℕ
-  pub signing : ℕ → ℕ
-  pub channel_numbers_drawn : ℕ → ℕ  -- channel numbers
-  pub trees : ℕ → List Tree
+  pub client : ℕ → ℕ  -- the ClientGuid of its connections
+  pub cipher : ℕ → ℕ  -- their CipherId
+  pub signing : ℕ → ℕ  -- their SigningAlgorithmId
+  pub channel_numbers_drawn : ℕ → ℕ  -- how many of its channels were numbered
+  pub trees : ℕ → List Tree  -- TreeConnectTable
   pub next_tree : ℕ → ℕ
   pub closed : ℕ → ℕ → Bool  -- by session and CreateGuid: an open of it was closed
   pub refused : ℕ → ℕ → Option ℕ  -- by the same: its create was refused
   pub guids : ℕ → ℕ  -- how many CreateGuids the session keeps
   -- connections, by number
   pub connections : List ℕ
-  pub session_on : ℕ → Option ℕ  -- the live session that has a channel there
+  pub session_on : ℕ → Option ℕ  -- the live session that has it in its ChannelList
   pub making : ℕ → Option Making
 
 -- ---- what it hears
 
--- a checked message (MS-SMB2 2.2.1.2): fault is the ACCESS_DENIED of a request that isn't signed or sealed as owed
+-- a checked message by the fields of its header (MS-SMB2 2.2.1.2): MessageId, TreeId, SessionId and ChannelSequence; fault is the
+-- ACCESS_DENIED of a request that isn't signed or sealed as owed
 pub record Message : Type 0 where
   pub connection : ℕ
-  pub client : ℕ
-  pub session : ℕ
-  pub tree : ℕ
-  pub id : ℕ
-  pub sequence : ℕ
+  pub client_guid : ℕ
+  pub session_id : ℕ
+  pub tree_id : ℕ
+  pub message_id : ℕ
+  pub channel_sequence : ℕ
   pub replay : Bool
   pub fault : Option ℕ
   pub command : Command
@@ -166,8 +167,8 @@ pub data Body : Type 0 where
 -- a status with the ids that the response's header names
 pub record Reply : Type 0 where
   pub status : ℕ
-  pub session : ℕ
-  pub tree : ℕ
+  pub session_id : ℕ
+  pub tree_id : ℕ
   pub body : Body
 
 -- ---- journal records
@@ -177,8 +178,8 @@ Origin = origin_value.Origin
 
 pub record NewOpen : Type 0 where
   pub id : ℕ
-  pub client : ℕ
-  pub guid : ℕ
+  pub client_guid : ℕ
+  pub create_guid : ℕ
   pub user : List ℕ
   pub access : ℕ
   pub share : ℕ

@@ -18,14 +18,14 @@ max_connections = 256
 abbrev pub max_expired_guids : ℕ
 max_expired_guids = 65536
 
--- ---- the ruling on an event: what the checks say of a message, or what becomes of a connection
+-- ---- the ruling on an event, before anything changes: the verdict on a message, or what becomes of a connection
 
 pub data Ruling : Type 0 where
   Says : (message : Message) (verdict : Verdict) → Ruling
-  TakesIn : (connection : ℕ) → Ruling
-  TurnsAway : Ruling
-  TakesOut : (connection : ℕ) (quiet : Bool) → Ruling
-  TakesAllOut : (quiet : Bool) → Ruling
+  TakesIn : (connection : ℕ) → Ruling  -- the connection is accepted (3.3.5.1)
+  TurnsAway : Ruling  -- it isn't, since there are 256
+  TakesOut : (connection : ℕ) (quiet : Bool) → Ruling  -- it is lost (3.3.7.1); quiet: no record fits, so files stay as they are
+  TakesAllOut : (quiet : Bool) → Ruling  -- the server stops: all are
 
 abbrev pub ruling : Server → ServerEvent → Ruling
 ruling s (Heard m) = Says m (check s m)
@@ -92,28 +92,28 @@ unfoldable pub take_all_acts : Server → List ℕ → ℕ → Bool → Bool
 take_all_acts s [] now is_quiet = false
 take_all_acts s (k ∷ ks) now is_quiet = acts_if_named s (ends_with s k) || take_all_acts (take_out s k now is_quiet) ks now is_quiet
 
--- ---- the table's answer
+-- ---- the answer to an event, apart from the expiry in front of it
 
--- an answer of no message, so with neither ids nor a body: to an Accept, an End and a Stop
-abbrev pub told : Server → ℕ → List Record → Bool → Answer
-told s status records acted =
-    record { server = s; reply = record { status = status; session = 0; tree = 0; body = Empty }; records = records; acted = acted; reached = None; altered = None }
+-- the answer to a connection's event (Accept, End, Stop): it goes into no message, so it has neither ids nor a body
+abbrev pub connection_answer : Server → ℕ → List Record → Bool → Answer
+connection_answer s status records acted =
+    record { server = s; reply = record { status = status; session_id = 0; tree_id = 0; body = Empty }; records = records; acted = acted; reached = None; altered = None }
 
--- what a ruling does: the state behind it, its reply and the records that it owes
+-- the ruling carried out: the state behind it, the reply, and the records that the journal owes for it
 abbrev pub carried_out : Server → ℕ → Ruling → Answer
 carried_out s now (Says m v) = apply s m now v
-carried_out s now (TakesIn k) = told (record s { connections = s.connections ++ k ∷ [] }) success [] false
-carried_out s now TurnsAway = told s insufficient_resources [] false
-carried_out s now (TakesOut k is_quiet) = told (take_out s k now is_quiet) success (records_if_named s (origin_at k) (ends_with s k) is_quiet) (acts_if_named s (ends_with s k))
-carried_out s now (TakesAllOut is_quiet) = told (take_all_out s s.connections now is_quiet) success (take_all_records s s.connections now is_quiet) (take_all_acts s s.connections now is_quiet)
+carried_out s now (TakesIn k) = connection_answer (record s { connections = s.connections ++ k ∷ [] }) success [] false
+carried_out s now TurnsAway = connection_answer s insufficient_resources [] false
+carried_out s now (TakesOut k is_quiet) = connection_answer (take_out s k now is_quiet) success (records_if_named s (origin_at k) (ends_with s k) is_quiet) (acts_if_named s (ends_with s k))
+carried_out s now (TakesAllOut is_quiet) = connection_answer (take_all_out s s.connections now is_quiet) success (take_all_records s s.connections now is_quiet) (take_all_acts s s.connections now is_quiet)
 
--- an answer that stands where its records fit
+-- that answer where its records fit the journal, else what the ruling without room does
 abbrev pub where_it_fits : Server → ℕ → Ruling → Answer → Answer
 where_it_fits s now r A = if fits s A.records then A else carried_out s now (ruling_without_room r)
 
--- the answer of MS-SMB2 3.3.5 to an event, without the expiry in front of it
-abbrev pub table : Server → ℕ → ServerEvent → Answer
-table s now e = where_it_fits s now (ruling s e) (carried_out s now (ruling s e))
+-- what MS-SMB2 3.3.5 says of the event: it is ruled on and carried out
+abbrev pub event_answer : Server → ℕ → ServerEvent → Answer
+event_answer s now e = where_it_fits s now (ruling s e) (carried_out s now (ruling s e))
 
 -- ---- expiry
 
@@ -142,7 +142,7 @@ add_expired_guid s client (Some g) = record s { expired_guids = put2 s.expired_g
 
 -- it leaves, with its file where that goes, and its guids are kept as expired
 abbrev pub expire : Server → ℕ → Server
-expire s o = add_expired_guid (leave_open s o) (s.opened o).client (s.opened o).guid
+expire s o = add_expired_guid (leave_open s o) (s.opened o).client_guid (s.opened o).create_guid
 
 unfoldable pub expire_records : Server → Origin → ℕ → List Record
 expire_records s origin o = ExpireRecord origin o ∷ gone_records (drop_open (pending_behind s o) o) origin (s.opened o).file
@@ -155,15 +155,17 @@ connection_of Stop = 0
 
 -- the event's own answer behind the expiry, in one body with the expiry's records, where both fit; else none expires
 abbrev pub behind_expiry : Server → ℕ → ServerEvent → List Record → Answer → Answer
-behind_expiry s now e front A = if fits s (front ++ A.records) then record A { records = front ++ A.records } else table s now e
+behind_expiry s now e front A = if fits s (front ++ A.records) then record A { records = front ++ A.records } else event_answer s now e
 
 abbrev pub expiring : Server → ℕ → ServerEvent → Option ℕ → Answer
-expiring s now e None = table s now e
+expiring s now e None = event_answer s now e
 expiring s now e (Some o) =
-    if nat_le max_expired_guids s.expired_count then table s now e
+    if nat_le max_expired_guids s.expired_count then event_answer s now e
     else behind_expiry s now e (expire_records s (origin_at (connection_of e)) o) (carried_out (expire s o) now (ruling (expire s o) e))
 
--- ---- the event: its records stand in one body before its reply
+-- ---- the step
+
+-- all records of the event are on the disk, as one body, before its reply goes out
 
 abbrev pub written_down : Answer → Answer
 written_down A = record A { server = record A.server { journal = A.server.journal + entry_bytes A.records } }

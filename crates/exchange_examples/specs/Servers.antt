@@ -20,7 +20,7 @@ abbrev pub one_session : Server
 one_session = (course 1 (Links 0 ∷ []) (beginning 268435456)).world.server
 
 abbrev pub from_client : ℕ → ℕ → ℕ → ℕ → Bool → Command → Message
-from_client k client id sequence replay command = record { connection = k; client = client; session = session; tree = 1; id = id; sequence = sequence; replay = replay; fault = None; command = command }
+from_client k client id sequence replay command = record { connection = k; client_guid = client; session_id = session; tree_id = 1; message_id = id; channel_sequence = sequence; replay = replay; fault = None; command = command }
 
 abbrev pub ask : Command → ServerEvent
 ask command = Heard (from_client 0 7 9 0 false command)
@@ -83,7 +83,7 @@ abbrev pub setup : Shows → Command
 setup shows = Setup (record { readable = true; binding = false; signed = false; verified = false; previous = 0; cipher = 2; signing = 1; shows = shows })
 
 abbrev pub in_second : ℕ → ℕ → Bool → Command → ServerEvent
-in_second id tree replay command = Heard (record { connection = 1; client = 7; session = id; tree = tree; id = 9; sequence = 0; replay = replay; fault = None; command = command })
+in_second id tree replay command = Heard (record { connection = 1; client_guid = 7; session_id = id; tree_id = tree; message_id = 9; channel_sequence = 0; replay = replay; fault = None; command = command })
 
 abbrev pub second_session : Server
 second_session = after_all one_session 50 (Accept 1 ∷ in_second 0 0 false (setup Begins) ∷ in_second second_id 0 false (setup (Logon (117 ∷ []))) ∷ in_second second_id 0 false (TreeConnect (100 ∷ [])) ∷ [])
@@ -120,7 +120,7 @@ its_origin = record { session = session; connection = 0; message = 5 }
 -- a journal of version 1 in which a persistent open made a file, and wrote to it
 abbrev pub first_version_disk : List Record
 first_version_disk =
-    EpochRecord 1 ∷ CreateRecord its_origin 2 1 (97 ∷ []) 0 false 50 (Some (record { id = first_open; client = 7; guid = 5; user = 117 ∷ []; access = 0x183; share = 0; options = 0x40; timeout = 60000 })) ∷
+    EpochRecord 1 ∷ CreateRecord its_origin 2 1 (97 ∷ []) 0 false 50 (Some (record { id = first_open; client_guid = 7; create_guid = 5; user = 117 ∷ []; access = 0x183; share = 0; options = 0x40; timeout = 60000 })) ∷
     WriteRecord its_origin 1 0 60 (104 ∷ 105 ∷ []) ∷ []
 
 -- the same with the replay flag, and on the session's second tree
@@ -128,7 +128,7 @@ abbrev pub again : Command → ServerEvent
 again command = Heard (from_client 0 7 9 0 true command)
 
 abbrev pub on_pipes : Command → ServerEvent
-on_pipes command = Heard (record (from_client 0 7 9 0 false command) { tree = 2 })
+on_pipes command = Heard (record (from_client 0 7 9 0 false command) { tree_id = 2 })
 
 -- ---- a server that has given a session's tree ids below this one
 
@@ -174,7 +174,7 @@ same_option (Some m) (Some n) = m == n
 abbrev pub same_row : Open → Open → Bool
 same_row p q =
     (p.file == q.file)
-    && ((p.access == q.access) && ((p.share == q.share) && ((p.options == q.options) && ((p.action == q.action) && ((p.client == q.client) && (same_option p.guid q.guid && (same_bytes p.user q.user && (p.timeout == q.timeout))))))))
+    && ((p.access == q.access) && ((p.share == q.share) && ((p.options == q.options) && ((p.action == q.action) && ((p.client_guid == q.client_guid) && (same_option p.create_guid q.create_guid && (same_bytes p.user q.user && (p.timeout == q.timeout))))))))
 
 abbrev pub same_kept : Server → Server → ℕ → ℕ → Bool
 same_kept s t o zero = true

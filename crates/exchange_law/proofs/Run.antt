@@ -591,7 +591,7 @@ dialogs w a k r i none apart stands (GoesOn stage) e =
 dialogs w a k r i none apart stands Accepts e =
     dialog_sent_keeps (accepted w.client k) w.conns a k 1 (dialog_message (accepted w.client k) k (w.conns k).next_id AskedTree) none apart (accepted_keeps w.client w.conns a k i)
 dialogs w a k r i none apart stands Binds e = readies w a k w.client.session w.client.tree i none apart stands
-dialogs w a k r i none apart stands Readies e = readies w a k w.client.pending r.tree i none apart stands
+dialogs w a k r i none apart stands Readies e = readies w a k w.client.pending r.tree_id i none apart stands
 dialogs w a k r i none apart stands (Refuses status) e = dialog_refused_keeps w.client w.conns a k status apart i
 
 -- ---- a reply that is taken

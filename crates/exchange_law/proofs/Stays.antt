@@ -264,7 +264,7 @@ dialog_stays : (w : World) (k : ℕ) (r : Reply) (d : DialogStep) → Stay w (di
 dialog_stays w k r (GoesOn stage) = kept_same w.client
 dialog_stays w k r Accepts = kept_same w.client
 dialog_stays w k r Binds = ended_stays w k w.client.session w.client.tree
-dialog_stays w k r Readies = ended_stays w k w.client.pending r.tree
+dialog_stays w k r Readies = ended_stays w k w.client.pending r.tree_id
 dialog_stays w k r (Refuses status) = kept_same w.client
 
 took_stays : (w : World) (k : ℕ) (r : Reply) (place : ℕ) → Fits w.client → (t : Token) → Stay w (took_by w k r place t)

@@ -122,7 +122,7 @@ Fresh c a = (g : ℕ) → c.sent g ≡ false → c.unanswered g ≡ false × a g
 -- a copy is its operation's request
 abbrev pub Bodies : Client → (ℕ → Conn) → Type 0
 Bodies c conns = (k n g : ℕ) (x : Sent) → slice_get (conns k).up n ≡ Some x → x.token ≡ ForOp g
-    → c.sent g ≡ true × x.message.command ≡ its_request (c.op g) (guid_for c g) (c.file (create_at c g)) (c.slot_of g) (c.number_of g) × x.message.client ≡ c.who.guid × x.message.fault ≡ None
+    → c.sent g ≡ true × x.message.command ≡ its_request (c.op g) (guid_for c g) (c.file (create_at c g)) (c.slot_of g) (c.number_of g) × x.message.client_guid ≡ c.who.guid × x.message.fault ≡ None
 
 -- a create, lock or unlock without an unanswered copy, of which a copy waits, hasn't acted
 abbrev pub First : Client → (ℕ → Conn) → (ℕ → ℕ) → Type 0

@@ -22,12 +22,12 @@ use Rattle.exchange_defs.specs.CheckSetup.{pipes_name}
 
 -- ---- 1
 
-by_rank : (c : Client) (x : Sent) → 0 < c.rank x.message.session → c.rank x.message.session ≤ c.accepted_count → (0 < c.accepted_count → c.rank c.accepted ≡ c.accepted_count) → RankOnce c → c.session ≡ c.accepted → (x.message.session ≡ c.session → x.message.sequence ≤ c.sequence) → NotNewer c x
+by_rank : (c : Client) (x : Sent) → 0 < c.rank x.message.session_id → c.rank x.message.session_id ≤ c.accepted_count → (0 < c.accepted_count → c.rank c.accepted ≡ c.accepted_count) → RankOnce c → c.session ≡ c.accepted → (x.message.session_id ≡ c.session → x.message.channel_sequence ≤ c.sequence) → NotNewer c x
 by_rank c x r le last once cur seq =
     let top : c.rank c.accepted ≡ c.accepted_count = last (omega (arith, r, le)) in
-    elim (c.rank x.message.session == c.accepted_count) as (λ b. c.rank x.message.session == c.accepted_count ≡ b → NotNewer c x) [
-      | true ↦ λ e. let s : x.message.session ≡ c.session = once x.message.session c.accepted r (eqb-true (c.rank x.message.session) c.accepted_count e ∙ sym top) ∙ sym cur in SameSession s (seq s)
-      | false ↦ λ e. let ne = eqb-false (c.rank x.message.session) c.accepted_count e in let rank : c.rank c.session ≡ c.accepted_count = ap c.rank cur ∙ top in OlderSession (omega (arith, le, ne, rank))
+    elim (c.rank x.message.session_id == c.accepted_count) as (λ b. c.rank x.message.session_id == c.accepted_count ≡ b → NotNewer c x) [
+      | true ↦ λ e. let s : x.message.session_id ≡ c.session = once x.message.session_id c.accepted r (eqb-true (c.rank x.message.session_id) c.accepted_count e ∙ sym top) ∙ sym cur in SameSession s (seq s)
+      | false ↦ λ e. let ne = eqb-false (c.rank x.message.session_id) c.accepted_count e in let rank : c.rank c.session ≡ c.accepted_count = ap c.rank cur ∙ top in OlderSession (omega (arith, le, ne, rank))
     ] refl
 
 pub copies_own : (w : World) (a : ℕ → ℕ) → Connections w.client w.conns a → Sessions w.client w.conns w.server → CopiesAreOwn w
@@ -38,8 +38,8 @@ copies_own w a cn ss k n g x h tk =
       sent = b.0;
       request = b.1;
       client = b.2;
-      accepted = (r, ss.ranks x.message.session);
-      not_newer = λ live. by_rank w.client x r (ss.ranks x.message.session) ss.last_rank ss.rank_once (ss.live_accepted live).0 ((ss.sequences_up k n x h).1 live);
+      accepted = (r, ss.ranks x.message.session_id);
+      not_newer = λ live. by_rank w.client x r (ss.ranks x.message.session_id) ss.last_rank ss.rank_once (ss.live_accepted live).0 ((ss.sequences_up k n x h).1 live);
     }
 
 -- ---- 3
@@ -61,10 +61,10 @@ told_by c s session g stands e =
     (λ z. names_one (ToldByGuid c s session g) (s.by_guid c.who.guid (guid_for c g)) z (λ o q. NamesOpen o q (stands o q)))
     (λ z. Marked z)
 
-refused_by : (c : Client) (s : Server) (x : Sent) (g : ℕ) → form x.message.command ≡ form (request_of (c.op g) 0 0 0 0) → is_barred c (seen s) x.message.session g ≡ true → RefusedAgain c s x g
+refused_by : (c : Client) (s : Server) (x : Sent) (g : ℕ) → form x.message.command ≡ form (request_of (c.op g) 0 0 0 0) → is_barred c (seen s) x.message.session_id g ≡ true → RefusedAgain c s x g
 unfolding own_guid is_full keeps_form has_files
 refused_by c s x g same e =
-    one_of (RefusedAgain c s x g) (is_some (s.refused x.message.session (guid_for c g))) (nat_le max_guids (s.guids x.message.session))
+    one_of (RefusedAgain c s x g) (is_some (s.refused x.message.session_id (guid_for c g))) (nat_le max_guids (s.guids x.message.session_id))
     (not (not (is_some (form (request_of (c.op g) 0 0 0 0))) && not (same_name c.who.share pipes_name))) e
     (λ z. KeptRefusal z) (λ z. GuidsFull z) (λ z. by_form (is_some (form (request_of (c.op g) 0 0 0 0))) (same_name c.who.share pipes_name) refl refl z)
   where
@@ -77,7 +77,7 @@ create_acted : (w : World) (a : ℕ → ℕ) (k n g : ℕ) (x : Sent) → Create
 unfolding makes_open own_guid
 create_acted w a k n g x cr l mk acted =
     let most = cr.at_most g mk in
-    CreateActed (omega (arith, most, acted)) (told_by w.client w.server x.message.session g (λ o e. (cr.named g o e).0) (cr.acted_kept k n g x l.waits l.own mk l.live acted))
+    CreateActed (omega (arith, most, acted)) (told_by w.client w.server x.message.session_id g (λ o e. (cr.named g o e).0) (cr.acted_kept k n g x l.waits l.own mk l.live acted))
 
 create_idle : (w : World) (a : ℕ → ℕ) (k n g : ℕ) (x : Sent) → Connections w.client w.conns a → Creates w.client w.conns (seen w.server) a → LiveCopy w k n g x → is_create (w.client.op g) ≡ true → a g ≡ 0
     → (b : Bool) → never_acted (w.client.outcome g) ≡ b → CreateHolds w a x g

@@ -59,9 +59,9 @@ answer_step s now m (SetInfo file setting) e = refl
 pub both_off : (x y : Bool) → x ≡ false → y ≡ false → (x || y) ≡ true → ⊥
 both_off x y e f h = absurd (grind arith)
 
-no_channel : (s : Server) (m : Message) → OnPresent s → s.present m.session ≡ false → (b : Bool) → has_session s m ≡ b → has_session s m ≡ false
+no_channel : (s : Server) (m : Message) → OnPresent s → s.present m.session_id ≡ false → (b : Bool) → has_session s m ≡ b → has_session s m ≡ false
 no_channel s m on gone false e = e
-no_channel s m on gone true e = absurd (let p = on m.connection m.session (at_of m.session (s.session_on m.connection) e) in grind arith)
+no_channel s m on gone true e = absurd (let p = on m.connection m.session_id (at_of m.session_id (s.session_on m.connection) e) in grind arith)
 
 gone_check : (s : Server) (m : Message) → is_setup m.command ≡ false → has_session s m ≡ false → check s m ≡ Refuse user_session_deleted
 gone_check s m e f = either (λ v. v ≡ Refuse user_session_deleted) (is_setup m.command || has_session s m) _ _ (λ h. absurd (both_off (is_setup m.command) (has_session s m) e f h)) (λ _. refl)
@@ -76,7 +76,7 @@ gone_answer t m now v records e = subst (λ u. SessionDeleted (recorded (apply t
 gone_step : (s : Server) (now : ℕ) (m : Message) → is_setup m.command ≡ false → has_session s m ≡ false → SessionDeleted (step s now (Heard m))
 gone_step s now m e f =
     by_verdict (λ A. SessionDeleted A) s now m
-    (λ t v records b h. let on = (before_stays s now t b).session_on in gone_answer t m now v records (gone_found t m v (gone_check t m e (ap (λ g. is_at m.session (g m.connection)) on ∙ f)) h))
+    (λ t v records b h. let on = (before_stays s now t b).session_on in gone_answer t m now v records (gone_found t m v (gone_check t m e (ap (λ g. is_at m.session_id (g m.connection)) on ∙ f)) h))
 
 -- ---- 2
 

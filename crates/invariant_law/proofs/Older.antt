@@ -65,42 +65,42 @@ data Turned (s : Server) (x : Sent) : Verdict → Type 0 where
 clash : (b : Bool) → b ≡ true → b ≡ false → ⊥
 clash b e f = absurd (grind arith)
 
-late_open : (s t : Server) (x : Sent) (op : ContentOp) (o : ℕ) (pipes : Bool) → is_change op ≡ true → is_of_session t o x.message.session ≡ true → is_late t x.message o ≡ true → Turned s x (tree_command t x.message pipes (asks op o))
+late_open : (s t : Server) (x : Sent) (op : ContentOp) (o : ℕ) (pipes : Bool) → is_change op ≡ true → is_of_session t o x.message.session_id ≡ true → is_late t x.message o ≡ true → Turned s x (tree_command t x.message pipes (asks op o))
 unfolding is_change
 late_open s t x (Writes at bytes) o pipes c on late =
-    either (Turned s x) (is_of_session t o x.message.session) _ _
+    either (Turned s x) (is_of_session t o x.message.session_id) _ _
     (λ _. either (Turned s x) (is_late t x.message o) _ _ (λ _. By file_not_available (NotAvailable refl)) (λ e. absurd (clash _ late e)))
     (λ e. absurd (clash _ on e))
 late_open s t x (Ends size) o pipes c on late =
-    either (Turned s x) (is_of_session t o x.message.session) _ _
+    either (Turned s x) (is_of_session t o x.message.session_id) _ _
     (λ _. either (Turned s x) (is_late t x.message o) _ _ (λ _. By file_not_available (NotAvailable refl)) (λ e. absurd (clash _ late e)))
     (λ e. absurd (clash _ on e))
 late_open s t x (Reads at size) o pipes c on late = absurd (cc)
 late_open s t x Still o pipes c on late = absurd (cc)
 
-late_tree : (s t : Server) (x : Sent) (op : ContentOp) (o : ℕ) → x.message.command ≡ asks op o → is_change op ≡ true → is_of_session t o x.message.session ≡ true → is_late t x.message o ≡ true
+late_tree : (s t : Server) (x : Sent) (op : ContentOp) (o : ℕ) → x.message.command ≡ asks op o → is_change op ≡ true → is_of_session t o x.message.session_id ≡ true → is_late t x.message o ≡ true
     → (u : Option Bool) → is_some u ≡ true → Turned s x (in_tree t x.message u)
 late_tree s t x op o is c on late None e = absurd (cc)
 late_tree s t x op o is c on late (Some pipes) e = subst (λ z. Turned s x (tree_command t x.message pipes z)) (sym is) (late_open s t x op o pipes c on late)
 
-late_command : (s t : Server) (x : Sent) (op : ContentOp) (o : ℕ) → is_change op ≡ true → Turned s x (in_tree t x.message (tree_in (t.trees x.message.session) x.message.tree)) → Turned s x (command_check t x.message (asks op o))
+late_command : (s t : Server) (x : Sent) (op : ContentOp) (o : ℕ) → is_change op ≡ true → Turned s x (in_tree t x.message (tree_in (t.trees x.message.session_id) x.message.tree_id)) → Turned s x (command_check t x.message (asks op o))
 unfolding is_change
 late_command s t x (Writes at bytes) o c h = h
 late_command s t x (Ends size) o c h = h
 late_command s t x (Reads at size) o c h = absurd (cc)
 late_command s t x Still o c h = absurd (cc)
 
-late_form : (s t : Server) (x : Sent) (op : ContentOp) (o : ℕ) → x.message.command ≡ asks op o → is_change op ≡ true → Turned s x (in_tree t x.message (tree_in (t.trees x.message.session) x.message.tree))
+late_form : (s t : Server) (x : Sent) (op : ContentOp) (o : ℕ) → x.message.command ≡ asks op o → is_change op ≡ true → Turned s x (in_tree t x.message (tree_in (t.trees x.message.session_id) x.message.tree_id))
     → (f : Option ℕ) → form x.message.command ≡ f → Turned s x (formed t x.message f)
 late_form s t x op o is c h (Some status) e = By status (BreaksForm e)
 late_form s t x op o is c h None e = subst (λ z. Turned s x (command_check t x.message z)) (sym is) (late_command s t x op o c h)
 
-late_check : (s t : Server) (x : Sent) (op : ContentOp) (o : ℕ) → x.message.command ≡ asks op o → x.message.fault ≡ None → is_change op ≡ true → t.session_on ≡ s.session_on → is_some (tree_in (t.trees x.message.session) x.message.tree) ≡ true
-    → is_of_session t o x.message.session ≡ true → is_late t x.message o ≡ true → Turned s x (check t x.message)
+late_check : (s t : Server) (x : Sent) (op : ContentOp) (o : ℕ) → x.message.command ≡ asks op o → x.message.fault ≡ None → is_change op ≡ true → t.session_on ≡ s.session_on → is_some (tree_in (t.trees x.message.session_id) x.message.tree_id) ≡ true
+    → is_of_session t o x.message.session_id ≡ true → is_late t x.message o ≡ true → Turned s x (check t x.message)
 late_check s t x op o is fault c same tree on late =
     either (Turned s x) (is_setup x.message.command || has_session t x.message) _ _
-    (λ _. subst (λ u. Turned s x (owed t x.message u)) (sym fault) (late_form s t x op o is c (late_tree s t x op o is c on late (tree_in (t.trees x.message.session) x.message.tree) tree) (form x.message.command) refl))
-    (λ e. By user_session_deleted (NoChannel (ap (λ g. is_at x.message.session (g x.message.connection)) (sym same) ∙ back_off (is_setup x.message.command) (has_session t x.message) e) refl))
+    (λ _. subst (λ u. Turned s x (owed t x.message u)) (sym fault) (late_form s t x op o is c (late_tree s t x op o is c on late (tree_in (t.trees x.message.session_id) x.message.tree_id) tree) (form x.message.command) refl))
+    (λ e. By user_session_deleted (NoChannel (ap (λ g. is_at x.message.session_id (g x.message.connection)) (sym same) ∙ back_off (is_setup x.message.command) (has_session t x.message) e) refl))
 
 without_turned : (s : Server) (x : Sent) (v : Verdict) → Turned s x v → Turned s x (without_room v)
 without_turned s x _ (By status h) = By status h
@@ -115,13 +115,13 @@ TurnedBy s x A = A.acted ≡ false × OlderStatus s x A.reply.status
 turned_answer : (s t : Server) (x : Sent) (now : ℕ) (records : List Record) (v : Verdict) → Turned s x v → TurnedBy s x (recorded (apply t x.message now v) records)
 turned_answer s t x now records _ (By status h) = (refl, h)
 
-late_step : (s : Server) (now : ℕ) (x : Sent) (op : ContentOp) (o : ℕ) → Fits s → x.message.command ≡ asks op o → x.message.fault ≡ None → is_change op ≡ true → is_some (tree_in (s.trees x.message.session) x.message.tree) ≡ true → s.session_of_open o ≡ Some x.message.session
+late_step : (s : Server) (now : ℕ) (x : Sent) (op : ContentOp) (o : ℕ) → Fits s → x.message.command ≡ asks op o → x.message.fault ≡ None → is_change op ≡ true → is_some (tree_in (s.trees x.message.session_id) x.message.tree_id) ≡ true → s.session_of_open o ≡ Some x.message.session_id
     → is_late s x.message o ≡ true → TurnedBy s x (step s now (Heard x.message))
 late_step s now x op o f is fault c tree at late =
     by_verdict (TurnedBy s x) s now x.message
     (λ t v records b h. let k = before_stays s now t b in let sq : t.sequence o ≡ s.sequence o = ap (λ g. g o) (earlier s now t b).sequence in
     turned_answer s t x now records v (turned_found s t x v
-    (late_check s t x op o is fault c k.session_on (ap (λ g. is_some (tree_in (g x.message.session) x.message.tree)) k.trees ∙ tree) (still_there s now t b f o x.message.session at) (same_late s t x.message o sq ∙ late)) h))
+    (late_check s t x op o is fault c k.session_on (ap (λ g. is_some (tree_in (g x.message.session_id) x.message.tree_id)) k.trees ∙ tree) (still_there s now t b f o x.message.session_id at) (same_late s t x.message o sq ∙ late)) h))
   where
     same_late : (s t : Server) (m : Message) (o : ℕ) → t.sequence o ≡ s.sequence o → is_late t m o ≡ is_late s m o
     same_late s t m o e = rw e refl
@@ -136,8 +136,8 @@ lists_of : (op : Op) → is_change (content_op op) ≡ true → lists op ≡ tru
 unfolding lists
 lists_of op e = changes_list (content_op op) e
 
-late_of : (s : Server) (m : Message) (o : ℕ) → m.sequence ≤ 32767 → s.sequence o ≤ 32767 → m.sequence < s.sequence o → is_late s m o ≡ true
-late_of s m o l low less = stale_less m.sequence (s.sequence o) l low ∙ test m.sequence (s.sequence o) less
+late_of : (s : Server) (m : Message) (o : ℕ) → m.channel_sequence ≤ 32767 → s.sequence o ≤ 32767 → m.channel_sequence < s.sequence o → is_late s m o ≡ true
+late_of s m o l low less = stale_less m.channel_sequence (s.sequence o) l low ∙ test m.channel_sequence (s.sequence o) less
   where
     test : (a b : ℕ) → a < b → nat_lt a b ≡ true
     test a b e = grind (arith, nat_tests)

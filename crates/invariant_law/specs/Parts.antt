@@ -28,21 +28,21 @@ open_of c g = c.file (create_for c g)
 pub record LiveCopy (w : World) (k n g : ℕ) (x : Sent) : Type 0 where
   pub waits : slice_get (w.conns k).up n ≡ Some x
   pub own : x.token ≡ ForOp g
-  pub live : w.server.present x.message.session ≡ true
+  pub live : w.server.present x.message.session_id ≡ true
 
 -- ---- 1. Each copy is its operation's own request, and its pair of session and sequence is no newer than the client's.
 
 -- not newer, by the order in which the client accepted the sessions and then by the sequence
 pub data NotNewer (c : Client) (x : Sent) : Type 0 where
-  OlderSession : c.rank x.message.session < c.rank c.session → NotNewer c x
-  SameSession : x.message.session ≡ c.session → x.message.sequence ≤ c.sequence → NotNewer c x
+  OlderSession : c.rank x.message.session_id < c.rank c.session → NotNewer c x
+  SameSession : x.message.session_id ≡ c.session → x.message.channel_sequence ≤ c.sequence → NotNewer c x
 
 pub record OwnCopy (c : Client) (g : ℕ) (x : Sent) : Type 0 where
   pub sent : c.sent g ≡ true
   -- its guid, or its open, slot and number
   pub request : x.message.command ≡ request_of (c.op g) (guid_for c g) (open_of c g) (c.slot_of g) (c.number_of g)
-  pub client : x.message.client ≡ c.who.guid
-  pub accepted : 0 < c.rank x.message.session × c.rank x.message.session ≤ c.accepted_count
+  pub client : x.message.client_guid ≡ c.who.guid
+  pub accepted : 0 < c.rank x.message.session_id × c.rank x.message.session_id ≤ c.accepted_count
   pub not_newer : c.live ≡ true → NotNewer c x
 
 abbrev pub CopiesAreOwn : World → Type 0
@@ -58,7 +58,7 @@ pub record SessionDeleted (A : Answer) : Type 0 where
   pub altered : A.altered ≡ None
 
 abbrev pub GoneIsDeleted : World → Type 0
-GoneIsDeleted w = (k n : ℕ) (x : Sent) → slice_get (w.conns k).up n ≡ Some x → is_ops x.token ≡ true → w.server.present x.message.session ≡ false → SessionDeleted (answer w x)
+GoneIsDeleted w = (k n : ℕ) (x : Sent) → slice_get (w.conns k).up n ≡ Some x → is_ops x.token ≡ true → w.server.present x.message.session_id ≡ false → SessionDeleted (answer w x)
 
 -- ---- 3. For a create with a live copy, the server tells by its guid that it acted, or refuses it for good, or it hasn't
 -- acted and isn't settled as refused.
@@ -71,13 +71,13 @@ pub data ToldByGuid (c : Client) (s : Server) (session g : ℕ) : Type 0 where
 
 -- why no copy of it acts in this session
 pub data RefusedAgain (c : Client) (s : Server) (x : Sent) (g : ℕ) : Type 0 where
-  KeptRefusal : is_some (s.refused x.message.session (guid_for c g)) ≡ true → RefusedAgain c s x g
+  KeptRefusal : is_some (s.refused x.message.session_id (guid_for c g)) ≡ true → RefusedAgain c s x g
   BadForm : is_some (form x.message.command) ≡ true → RefusedAgain c s x g
-  GuidsFull : nat_le max_guids (s.guids x.message.session) ≡ true → RefusedAgain c s x g
+  GuidsFull : nat_le max_guids (s.guids x.message.session_id) ≡ true → RefusedAgain c s x g
   OnPipes : same_name c.who.share pipes_name ≡ true → RefusedAgain c s x g
 
 pub data CreateHolds (w : World) (a : ℕ → ℕ) (x : Sent) (g : ℕ) : Type 0 where
-  CreateActed : a g ≡ 1 → ToldByGuid w.client w.server x.message.session g → CreateHolds w a x g
+  CreateActed : a g ≡ 1 → ToldByGuid w.client w.server x.message.session_id g → CreateHolds w a x g
   CreateRefused : a g ≡ 0 → RefusedAgain w.client w.server x g → CreateHolds w a x g
   CreateToCome : a g ≡ 0 → never_acted (w.client.outcome g) ≡ false → CreateHolds w a x g
 
@@ -130,8 +130,8 @@ pub record OlderRefused (w : World) (x : Sent) : Type 0 where
 
 abbrev pub OlderIsRefused : World → Type 0
 OlderIsRefused w =
-    (k n g : ℕ) (x : Sent) → LiveCopy w k n g x → is_change (content_op (w.client.op g)) ≡ true → w.server.standing (open_of w.client g) ≡ true → w.server.session_of_open (open_of w.client g) ≡ Some x.message.session
-    → x.message.sequence < w.server.sequence (open_of w.client g) → OlderRefused w x
+    (k n g : ℕ) (x : Sent) → LiveCopy w k n g x → is_change (content_op (w.client.op g)) ≡ true → w.server.standing (open_of w.client g) ≡ true → w.server.session_of_open (open_of w.client g) ≡ Some x.message.session_id
+    → x.message.channel_sequence < w.server.sequence (open_of w.client g) → OlderRefused w x
 
 -- the pair that reached an open at place i, against that of the open in its session y
 pub data ReachedBefore (w : World) (i o y : ℕ) : Type 0 where

@@ -14,7 +14,7 @@ elements_in (suc count) bytes = record { at = number 8 bytes 0; length = number 
 
 -- a GUID is the number that its bytes spell
 abbrev pub new_open : NewOpen → model.NewOpen
-new_open n = record { id = n.id; client = number_of n.client; guid = number_of n.guid; user = n.user; access = n.access; share = n.share; options = n.options; timeout = n.timeout }
+new_open n = record { id = n.id; client_guid = number_of n.client; create_guid = number_of n.guid; user = n.user; access = n.access; share = n.share; options = n.options; timeout = n.timeout }
 
 abbrev pub opened : Option NewOpen → Option model.NewOpen
 opened None = None

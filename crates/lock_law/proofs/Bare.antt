@@ -185,7 +185,7 @@ bare_steady t m now (KeepSlot o index number status elements) f e = slot_steady 
 bare_steady t m now (PutRanges o index number ranges elements) f e =
     let st = reach_steady t m o in slot_steady t (set_ranges (reach t m o) (file_of t o) ranges) o index number 0 (record { entries = st.entries; delete_pending = st.delete_pending; directory = st.directory; others = st.others })
 bare_steady t m now (Alter o change body) f e = change_steady t (reach t m o) m (file_of t o) now change (reach_steady t m o) e
-bare_steady t m now (CloseOpen o body) f e = closed_steady t (leave_open t o) m.session (t.opened o).guid (leave_steady t (origin_of m) o e)
+bare_steady t m now (CloseOpen o body) f e = closed_steady t (leave_open t o) m.session_id (t.opened o).create_guid (leave_steady t (origin_of m) o e)
 bare_steady t m now Challenge f e = steady_same t _ refl refl refl refl refl
 bare_steady t m now (ChallengeBinding session) f e = steady_same t _ refl refl refl refl refl
 bare_steady t m now (Begin session user previous r is_quiet) f e =

@@ -111,7 +111,7 @@ settled_not : (b : Bool) → b ≡ true → b ≡ false → true ≡ false
 settled_not b e f = sym e ∙ f
 
 -- a lock that is unsettled where the open is closed never acted
-shut_idle : (c : Client) (conns : ℕ → Conn) (d t : Server) (a : ℕ → ℕ) (k h g : ℕ) (x0 : Sent) (front : List Record) → Copy c conns t a k h x0 → t.journal ≡ d.journal → fits d (front ++ leave_records t (origin_of x0.message) (open_at c h)) ≡ true → t.present x0.message.session ≡ true
+shut_idle : (c : Client) (conns : ℕ → Conn) (d t : Server) (a : ℕ → ℕ) (k h g : ℕ) (x0 : Sent) (front : List Record) → Copy c conns t a k h x0 → t.journal ≡ d.journal → fits d (front ++ leave_records t (origin_of x0.message) (open_at c h)) ≡ true → t.present x0.message.session_id ≡ true
     → locking (c.op g) ≡ true → c.sent g ≡ true → is_unsettled (c.outcome g) ≡ true → c.live ≡ true → t.standing (open_at c h) ≡ true → create_at c h ≡ create_at c g → a g ≡ 0
 shut_idle c conns d t a k h g x0 front w same room p m s0 un lv st its =
     let i = w.serving.locks in let C = w.serving.links in
@@ -138,7 +138,7 @@ shut_idle c conns d t a k h g x0 front w same room p m s0 un lv st its =
         absurd (let x = no_room t.journal d.journal same ls.0 r in cc)
 
 left_standing : (t : Server) (m : Message) (o : ℕ) → (apply t m 0 (CloseOpen o Empty)).server.standing o ≡ false
-left_standing t m o = ap (λ z. z.standing o) (shut_view t o m.session) ∙ put_same t.standing o
+left_standing t m o = ap (λ z. z.standing o) (shut_view t o m.session_id) ∙ put_same t.standing o
   where
     put_same : (f : ℕ → Bool) (o : ℕ) → put f o false o ≡ false
     put_same f o = grind arith
@@ -150,14 +150,14 @@ close_fits c conns d t a k h x0 now front v w same is room Deleted2 = (
   λ o place. say_close c _ _ h _ w.token w.shuts (record { done = λ s. absurd (cc); full = λ n1. absurd (n1 refl); stuck = λ n1. absurd (n1 refl) }),
 )
 close_fits c conns d t a k h x0 now front v w same is room (NoTree2 on e) =
-    let p = w.serving.low.fits.on_present x0.message.connection x0.message.session on in let tr = w.serving.trees (ap is_ops w.token) p in absurd (grind arith)
+    let p = w.serving.low.fits.on_present x0.message.connection x0.message.session_id on in let tr = w.serving.trees (ap is_ops w.token) p in absurd (grind arith)
 close_fits c conns d t a k h x0 now front v w same is room Away2 = (
   quiet_close c conns t a k h x0 now v _ w (inl is) refl refl refl,
   λ o place. say_close c _ _ h _ w.token w.shuts (record { done = λ s. absurd (cc); full = λ n1 n2. absurd (n2 refl); stuck = λ n1 n2. absurd (n2 refl) }),
 )
 close_fits c conns d t a k h x0 now front v w same is room (Shuts on st) =
     let m = x0.message in let o1 = open_at c h in let A = apply t m now v in
-    let p = w.serving.low.fits.on_present m.connection m.session on in
+    let p = w.serving.low.fits.on_present m.connection m.session_id on in
     let big_bare : lower_limit < t.journal + 34 → A.records ≡ [] = λ big. bare_of d front A.records (heads_apply t m now v) room (subst (λ z. lower_limit < z + 34) same big) in (
       quiet_serve c conns t a k x0 now v (front ++ A.records) (counted a x0.token A.acted) w.serving (found t m v (inl is)) refl big_bare (plain_other c conns t a k x0 A.acted w.serving (λ p mq. ap (is_send_of p) w.token ∙ of_unmade c h p (close_kind (c.op h) w.shuts) mq)) (counts c conns t a k h x0 A.acted w)
           (λ g mg s0 u lv pr sg cl gone. let so = closes_same m.command o1 (open_at c g) w.command cl in let kind = lock_kind (c.op g) mg in
@@ -177,7 +177,7 @@ close_fits c conns d t a k h x0 now front v w same is room (Shuts on st) =
 -- ---- where its records don't fit
 
 reached_full : (d : Server) (m : Message) (o n : ℕ) → ((d.opened o).persistent ≡ true → lower_limit < d.journal + 66) → ((reach d m o).opened o).persistent ≡ true → lower_limit < (reach d m o).journal + n + 66
-reached_full d m o n f pe = either (λ u. (u.opened o).persistent ≡ true → lower_limit < u.journal + n + 66) (is_late d m o) d (record d { sequence = put d.sequence o m.sequence }) (λ _ e. more d.journal (f e)) (λ _ e. more d.journal (f e)) pe
+reached_full d m o n f pe = either (λ u. (u.opened o).persistent ≡ true → lower_limit < u.journal + n + 66) (is_late d m o) d (record d { sequence = put d.sequence o m.channel_sequence }) (λ _ e. more d.journal (f e)) (λ _ e. more d.journal (f e)) pe
   where
     more : (j : ℕ) → lower_limit < j + 66 → lower_limit < j + n + 66
     more j l = omega (arith, l)
@@ -185,9 +185,9 @@ reached_full d m o n f pe = either (λ u. (u.opened o).persistent ≡ true → l
 reached_stuck : (d : Server) (m : Message) (o n : ℕ) → ((d.opened o).persistent ≡ false → goes_with d o ≡ true × lower_limit < d.journal + 34) → ((reach d m o).opened o).persistent ≡ false
     → lower_limit < (reach d m o).journal + n + 34 × goes_with (record (reach d m o) { journal = (reach d m o).journal + n }) o ≡ true
 reached_stuck d m o n f pe =
-    either (λ u. (u.opened o).persistent ≡ false → lower_limit < u.journal + n + 34 × goes_with (record u { journal = u.journal + n }) o ≡ true) (is_late d m o) d (record d { sequence = put d.sequence o m.sequence })
+    either (λ u. (u.opened o).persistent ≡ false → lower_limit < u.journal + n + 34 × goes_with (record u { journal = u.journal + n }) o ≡ true) (is_late d m o) d (record d { sequence = put d.sequence o m.channel_sequence })
     (λ _ e. (more d.journal (f e).1, goes_same d d.sequence d.ranges d.lock_sequences (d.journal + n) o ∙ (f e).0))
-    (λ _ e. (more d.journal (f e).1, goes_same d (put d.sequence o m.sequence) d.ranges d.lock_sequences (d.journal + n) o ∙ (f e).0)) pe
+    (λ _ e. (more d.journal (f e).1, goes_same d (put d.sequence o m.channel_sequence) d.ranges d.lock_sequences (d.journal + n) o ∙ (f e).0)) pe
   where
     more : (j : ℕ) → lower_limit < j + 34 → lower_limit < j + n + 34
     more j l = omega (arith, l)

@@ -4,7 +4,7 @@ use Rattle.exchange_defs.specs.State.{Server, ServerEvent, Accept, End, Answer, 
 use Rattle.exchange_defs.specs.CheckSetup.{is_new}
 use Rattle.exchange_defs.specs.Records.{lower_limit, fits, entry_bytes, origin_at}
 use Rattle.exchange_defs.specs.Effects.{end_if_named, records_if_named, end_records}
-use Rattle.exchange_defs.specs.Step.{step, table, expiring, written_down, with_deadlines, due, expire, expire_records, behind_expiry, max_expired_guids, max_connections, ruling, ruling_without_room, carried_out, connection_of, Ruling, TakesIn, TurnsAway, TakesOut, ends_with, forget_connection, take_out}
+use Rattle.exchange_defs.specs.Step.{step, event_answer, expiring, written_down, with_deadlines, due, expire, expire_records, behind_expiry, max_expired_guids, max_connections, ruling, ruling_without_room, carried_out, connection_of, Ruling, TakesIn, TurnsAway, TakesOut, ends_with, forget_connection, take_out}
 use Rattle.exchange_defs.specs.Client.{Client}
 use Rattle.exchange_defs.specs.Network.{Conn}
 use Rattle.exchange_law.specs.Connections.{Connections}
@@ -27,7 +27,7 @@ Fitting s now e P = (t : Server) (front : List Record) → Before s now t → (l
 abbrev Full : Server → ℕ → ServerEvent → (Answer → Type 0) → Type 0
 Full s now e P = P (recorded (carried_out (with_deadlines s now) now (ruling_without_room (ruling (with_deadlines s now) e))) (carried_out (with_deadlines s now) now (ruling_without_room (ruling (with_deadlines s now) e))).records)
 
-by_table : (P : Answer → Type 0) (s : Server) (now : ℕ) (e : ServerEvent) → Fitting s now e P → Full s now e P → P (written_down (table (with_deadlines s now) now e))
+by_table : (P : Answer → Type 0) (s : Server) (now : ℕ) (e : ServerEvent) → Fitting s now e P → Full s now e P → P (written_down (event_answer (with_deadlines s now) now e))
 by_table P s now e f g =
     let d = with_deadlines s now in
     either (λ A. P (written_down A)) (fits d (carried_out d now (ruling d e)).records) (carried_out d now (ruling d e)) (carried_out d now (ruling_without_room (ruling d e))) (λ r. f d [] (inl refl) (λ _. refl) r) (λ _. g)
@@ -36,8 +36,8 @@ by_due : (P : Answer → Type 0) (s : Server) (now : ℕ) (e : ServerEvent) → 
 by_due P s now e f g None h = by_table P s now e f g
 by_due P s now e f g (Some o) h =
     let d = with_deadlines s now in let t = expire d o in
-    either (λ A. P (written_down A)) (nat_le max_expired_guids d.expired_count) (table d now e) (behind_expiry d now e (expire_records d (origin_at (connection_of e)) o) (carried_out t now (ruling t e))) (λ _. by_table P s now e f g)
-    (λ _. either (λ A. P (written_down A)) (fits d (expire_records d (origin_at (connection_of e)) o ++ (carried_out t now (ruling t e)).records)) (record (carried_out t now (ruling t e)) { records = expire_records d (origin_at (connection_of e)) o ++ (carried_out t now (ruling t e)).records }) (table d now e)
+    either (λ A. P (written_down A)) (nat_le max_expired_guids d.expired_count) (event_answer d now e) (behind_expiry d now e (expire_records d (origin_at (connection_of e)) o) (carried_out t now (ruling t e))) (λ _. by_table P s now e f g)
+    (λ _. either (λ A. P (written_down A)) (fits d (expire_records d (origin_at (connection_of e)) o ++ (carried_out t now (ruling t e)).records)) (record (carried_out t now (ruling t e)) { records = expire_records d (origin_at (connection_of e)) o ++ (carried_out t now (ruling t e)).records }) (event_answer d now e)
     (λ r. f t (expire_records d (origin_at (connection_of e)) o) (inr (o, h, refl)) (λ l. absurd (no_room d (connection_of e) o (carried_out t now (ruling t e)).records r l)) r)
     (λ _. by_table P s now e f g))
 

@@ -54,7 +54,7 @@ pub quiet_keeps : (c : Client) (conns : ℕ → Conn) (t : Server) (a : ℕ → 
     → Locks c conns t a → Locks c conns u a2
 quiet_keeps c conns t a u a2 k closes l C same_a q steady plain keeps shut joined i =
     moves_keeps c conns t a u a2 same_a q.journal
-    (λ j n x h o p. stay x.message.session (l.ranked_up j n x h o) p)
+    (λ j n x h o p. stay x.message.session_id (l.ranked_up j n x h o) p)
     stay_now
     (λ p m ok st. q.standing (c.file p) (l.given p m ok) st)
     (λ o y at st p. q.session_of_open o y (l.attached o y at).0 at st p)
@@ -130,7 +130,7 @@ expired_making s client None = refl
 expired_making s client (Some g) = refl
 
 expire_making : (s : Server) (o : ℕ) → (expire s o).making ≡ s.making
-expire_making s o = expired_making (leave_open s o) (s.opened o).client (s.opened o).guid ∙ leave_making s o
+expire_making s o = expired_making (leave_open s o) (s.opened o).client_guid (s.opened o).create_guid ∙ leave_making s o
 
 none_of : ℕ → Bool
 none_of o = false
@@ -157,11 +157,11 @@ expire_keeps c conns s a now o e full l C i =
         unranked = λ j x h. l.unranked j x (subst (λ z. is_new x (z j) ≡ true) (expire_making s o) h);
         lives = l.lives;
         attached = λ p y h. let old = l.attached p y (still_at p y (subst (λ z. z.session_of_open p ≡ Some y) v h)) in (subst (λ z. p ≤ z.last) (sym v) old.0, subst (λ z. z.present y ≡ true) (sym v) old.1);
-        named_given = λ q p h. subst (λ z. p ≤ z.last) (sym v) (l.named_given q p (still_named s.by_guid (s.opened o).client (s.opened o).guid c.who.guid (guid_for c q) p (subst (λ z. z.by_guid c.who.guid (guid_for c q) ≡ Some p) v h)));
+        named_given = λ q p h. subst (λ z. p ≤ z.last) (sym v) (l.named_given q p (still_named s.by_guid (s.opened o).client_guid (s.opened o).create_guid c.who.guid (guid_for c q) p (subst (λ z. z.by_guid c.who.guid (guid_for c q) ≡ Some p) v h)));
         fits = f;
       },
       quiet_keeps c conns s a (expire s o) a 0 none_of l C (λ p m. refl)
-          (subst (λ z. Quiet (λ x. is_new x (s.making 0)) none_of (view s) z) (sym v) (leaves_by (λ x. is_new x (s.making 0)) none_of (view s) o (without_guid s o) (λ p y n at. unattached p y at apart) (λ d g p h. still_named s.by_guid (s.opened o).client (s.opened o).guid d g p h)))
+          (subst (λ z. Quiet (λ x. is_new x (s.making 0)) none_of (view s) z) (sym v) (leaves_by (λ x. is_new x (s.making 0)) none_of (view s) o (without_guid s o) (λ p y n at. unattached p y at apart) (λ d g p h. still_named s.by_guid (s.opened o).client_guid (s.opened o).create_guid d g p h)))
           (λ big. subst (λ z. Steady s z) (sym (full big)) (steady_same s s refl refl refl refl refl))
           i.made_plain
           (λ p st. let row : (expire s o).opened ≡ s.opened = ap (λ z. z.opened) v in let st2 : put s.standing o false p ≡ true = subst (λ z. z.standing p ≡ true) v st in subst (λ z. deletes_on_close (z p).options ≡ false) (sym row) (i.kept_files p (grind arith)))

@@ -85,7 +85,7 @@ same_file c conns t a cr q r mq oq mr or1 st e =
     let one = ((cr.file_guid q mq oq).1 st).1 in
     let st2 : t.standing (c.file r) ≡ true = subst (λ z. t.standing z ≡ true) e st in
     let two = ((cr.file_guid r mr or1).1 st2).1 in
-    let both : Some (guid_at c q) ≡ Some (guid_at c r) = sym one ∙ (ap (λ z. (t.opened z).guid) e ∙ two) in
+    let both : Some (guid_at c q) ≡ Some (guid_at c r) = sym one ∙ (ap (λ z. (t.opened z).create_guid) e ∙ two) in
     guid_once c.who.salt q r (grind arith)
 
 unmade_at : (c : Client) (conns : ℕ → Conn) (t : Server) (a : ℕ → ℕ) → Creates c conns (seen t) a → (q r : ℕ) → is_ok (c.outcome q) ≡ false → makes_open (c.op r) ≡ true → is_ok (c.outcome r) ≡ true
@@ -120,7 +120,7 @@ no_reply_beside c conns a k g x0 C front tk lk bf j n y h = λ e.
     let u = own_up_count g (conns k).up 0 x0 front tk in let d = own_down_count g (conns k).down n y h2 e in let o = C.once k g in
     absurd (omega (arith, u, d, o))
 
-unfirm_of : (c : Client) (conns : ℕ → Conn) (t : Server) (a : ℕ → ℕ) (k g : ℕ) (x0 : Sent) → Locks c conns t a → slice_get (conns k).up 0 ≡ Some x0 → x0.token ≡ ForOp g → locking (c.op g) ≡ true → t.present x0.message.session ≡ true
+unfirm_of : (c : Client) (conns : ℕ → Conn) (t : Server) (a : ℕ → ℕ) (k g : ℕ) (x0 : Sent) → Locks c conns t a → slice_get (conns k).up 0 ≡ Some x0 → x0.token ≡ ForOp g → locking (c.op g) ≡ true → t.present x0.message.session_id ≡ true
     → user_at c g ≡ Some g → t.standing (open_at c g) ≡ true → kept_of c t g ≡ None → firm (c.outcome g) ≡ false
 unfirm_of c conns t a k g x0 i front tk lk p user st free =
     elim (firm (c.outcome g)) as (λ b. firm (c.outcome g) ≡ b → firm (c.outcome g) ≡ false) [
@@ -138,7 +138,7 @@ own_count : (a : ℕ → ℕ) (g st0 : ℕ) (acted : Bool) → a g ≡ 0 → act
 own_count a g st0 acted z e = grind arith
 
 pub lock_written : (c : Client) (conns : ℕ → Conn) (t : Server) (a : ℕ → ℕ) (k g st0 j0 : ℕ) (x0 : Sent) (sq : ℕ → ℕ) (rg : ℕ → List Range) (acted : Bool) → Serving c conns t a k x0 → x0.token ≡ ForOp g → locking (c.op g) ≡ true
-    → t.present x0.message.session ≡ true → t.standing (open_at c g) ≡ true → kept_of c t g ≡ None → t.journal ≤ j0 → ((t.opened (open_at c g)).persistent ≡ true → t.journal + 66 ≤ lower_limit) → acted ≡ (st0 == success)
+    → t.present x0.message.session_id ≡ true → t.standing (open_at c g) ≡ true → kept_of c t g ≡ None → t.journal ≤ j0 → ((t.opened (open_at c g)).persistent ≡ true → t.journal + 66 ≤ lower_limit) → acted ≡ (st0 == success)
     → Locks c conns (record t { sequence = sq; ranges = rg; lock_sequences = put2 t.lock_sequences (open_at c g) (c.slot_of g) (Some (record { number = c.number_of g; status = st0 })); journal = j0 }) (counted a (ForOp g) acted)
 lock_written c conns t a k g st0 j0 x0 sq rg acted w tk lk p st free grown room act =
     let C = w.links in let i = w.locks in
@@ -159,13 +159,13 @@ lock_written c conns t a k g st0 j0 x0 sq rg acted w tk lk p st free grown room 
 slot_written : (t : Server) (m : Message) (P : Server → Type 0) (o i n st0 : ℕ) → is_slot i ≡ true → ((sq : ℕ → ℕ) → P (record t { sequence = sq; lock_sequences = put2 t.lock_sequences o i (Some (record { number = n; status = st0 })) })) → P (keep_slot (reach t m o) o i n st0)
 slot_written t m P o i n st0 slot f =
     either P (is_slot i) _ _
-    (λ _. either (λ u. P (record u { lock_sequences = put2 u.lock_sequences o i (Some (record { number = n; status = st0 })) })) (is_late t m o) t (record t { sequence = put t.sequence o m.sequence }) (λ _. f t.sequence) (λ _. f (put t.sequence o m.sequence)))
+    (λ _. either (λ u. P (record u { lock_sequences = put2 u.lock_sequences o i (Some (record { number = n; status = st0 })) })) (is_late t m o) t (record t { sequence = put t.sequence o m.channel_sequence }) (λ _. f t.sequence) (λ _. f (put t.sequence o m.channel_sequence)))
     (λ off. absurd (grind arith))
 
 ranges_written : (t : Server) (m : Message) (P : Server → Type 0) (o i n f0 : ℕ) (ranges : List Range) → is_slot i ≡ true → ((sq : ℕ → ℕ) → P (record t { sequence = sq; ranges = put t.ranges f0 ranges; lock_sequences = put2 t.lock_sequences o i (Some (record { number = n; status = success })) })) → P (keep_slot (set_ranges (reach t m o) f0 ranges) o i n success)
 ranges_written t m P o i n f0 ranges slot f =
     either P (is_slot i) _ _
-    (λ _. either (λ u. P (record u { ranges = put u.ranges f0 ranges; lock_sequences = put2 u.lock_sequences o i (Some (record { number = n; status = success })) })) (is_late t m o) t (record t { sequence = put t.sequence o m.sequence }) (λ _. f t.sequence) (λ _. f (put t.sequence o m.sequence)))
+    (λ _. either (λ u. P (record u { ranges = put u.ranges f0 ranges; lock_sequences = put2 u.lock_sequences o i (Some (record { number = n; status = success })) })) (is_late t m o) t (record t { sequence = put t.sequence o m.channel_sequence }) (λ _. f t.sequence) (λ _. f (put t.sequence o m.channel_sequence)))
     (λ off. absurd (grind arith))
 
 -- ---- what is said of its reply
@@ -221,8 +221,8 @@ copy_of c conns t a k g x0 w tk lk =
       slot = is_slot_of (c.slot_of g) (w.locks.slot_index g bd.0 lk);
     }
 
-present_of : (c : Client) (conns : ℕ → Conn) (t : Server) (a : ℕ → ℕ) (k g : ℕ) (x0 : Sent) → Copy c conns t a k g x0 → t.session_on x0.message.connection ≡ Some x0.message.session → t.present x0.message.session ≡ true
-present_of c conns t a k g x0 w on = w.serving.low.fits.on_present x0.message.connection x0.message.session on
+present_of : (c : Client) (conns : ℕ → Conn) (t : Server) (a : ℕ → ℕ) (k g : ℕ) (x0 : Sent) → Copy c conns t a k g x0 → t.session_on x0.message.connection ≡ Some x0.message.session_id → t.present x0.message.session_id ≡ true
+present_of c conns t a k g x0 w on = w.serving.low.fits.on_present x0.message.connection x0.message.session_id on
 
 -- a verdict that changes nothing
 quiet_lock : (c : Client) (conns : ℕ → Conn) (t : Server) (a : ℕ → ℕ) (k g : ℕ) (x0 : Sent) (now : ℕ) (v : Verdict) (rs : List Record) → Copy c conns t a k g x0 → (v ≡ check t x0.message) ⊎ (v ≡ without_room (check t x0.message)) → is_slot_verdict v ≡ false
@@ -247,17 +247,17 @@ both_hold : (b : Bool) (u : Option ℕ) (x : ℕ) → b ≡ true → u ≡ Some 
 both_hold b u x e f h = let t : (b && is_at x u) ≡ true = rw (e, f) (same_number x) in sym t ∙ h
 
 -- the open of a copy that isn't attached to its session is gone
-away_gone : (c : Client) (conns : ℕ → Conn) (t : Server) (a : ℕ → ℕ) (k g : ℕ) (x0 : Sent) → Copy c conns t a k g x0 → t.present x0.message.session ≡ true → is_of_session t (open_at c g) x0.message.session ≡ false → t.standing (open_at c g) ≡ false
+away_gone : (c : Client) (conns : ℕ → Conn) (t : Server) (a : ℕ → ℕ) (k g : ℕ) (x0 : Sent) → Copy c conns t a k g x0 → t.present x0.message.session_id ≡ true → is_of_session t (open_at c g) x0.message.session_id ≡ false → t.standing (open_at c g) ≡ false
 away_gone c conns t a k g x0 w p off =
     elim (t.standing (open_at c g)) as (λ b. t.standing (open_at c g) ≡ b → t.standing (open_at c g) ≡ false) [
-      | true ↦ λ st. let at1 = w.serving.locks.copy_attached k 0 g x0 w.serving.front w.token (lock_kind (c.op g) w.lock) p st in absurd (let x = both_hold (t.standing (open_at c g)) (t.session_of_open (open_at c g)) x0.message.session st at1 off in cc)
+      | true ↦ λ st. let at1 = w.serving.locks.copy_attached k 0 g x0 w.serving.front w.token (lock_kind (c.op g) w.lock) p st in absurd (let x = both_hold (t.standing (open_at c g)) (t.session_of_open (open_at c g)) x0.message.session_id st at1 off in cc)
       | false ↦ λ st. st
     ] refl
 
 unsettled_on : (c : Client) (g k : ℕ) → ((h : ℕ) → is_unsettled (c.outcome h) ≡ false → c.outstanding_on h ≡ None) → c.outstanding_on g ≡ Some k → is_unsettled (c.outcome g) ≡ true
 unsettled_on c g k f e = elim (is_unsettled (c.outcome g)) as (λ b. is_unsettled (c.outcome g) ≡ b → is_unsettled (c.outcome g) ≡ true) [ true ↦ λ q. q | false ↦ λ q. let h = f g q in absurd (grind arith) ] refl
 
-away_idle : (c : Client) (conns : ℕ → Conn) (t : Server) (a : ℕ → ℕ) (k g : ℕ) (x0 : Sent) → Copy c conns t a k g x0 → t.present x0.message.session ≡ true → t.standing (open_at c g) ≡ false → (conns k).client_open ≡ true → a g ≡ 0
+away_idle : (c : Client) (conns : ℕ → Conn) (t : Server) (a : ℕ → ℕ) (k g : ℕ) (x0 : Sent) → Copy c conns t a k g x0 → t.present x0.message.session_id ≡ true → t.standing (open_at c g) ≡ false → (conns k).client_open ≡ true → a g ≡ 0
 away_idle c conns t a k g x0 w p off o =
     let C = w.serving.links in let i = w.serving.locks in
     let cur = w.serving.current (ap is_ops w.token) o in

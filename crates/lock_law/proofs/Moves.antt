@@ -12,25 +12,25 @@ use Rattle.session_law.specs.Sessions.{is_ops}
 use Rattle.lock_law.specs.Locks.{Locks, locking, open_at, goes_with, piped, UserBody, AskDown, Users, CopyNow, RetriedOn, RetriedDone, CopyAttached, NowAttached, OpenedReply, JoinReply, JoinedReply, LostReply, KeptSays, NotKept, FirmKept, NoUser, NoSlots, FullDead, OkReply, NoReply, KeptReply, FirstReply, ClosedNot, KeptFiles, LeftFull, LeftStuck, LeftIdle, CloseDone, CloseFull, CloseStuck, MadePlain, AtMost, OkActed, RefusedNot}
 use Rattle.lock_law.proofs.Words.{lock_kind, close_kind, ok_of, made_of, own_ops}
 
-moves_users : (c : Client) (conns : ℕ → Conn) (s : Server) (a : ℕ → ℕ) (s2 : Server) (a2 : ℕ → ℕ) → (s.journal ≤ s2.journal) → ((j n : ℕ) (x : Sent) → slice_get (conns j).up n ≡ Some x → is_ops x.token ≡ true → s2.present x.message.session ≡ true → s.present x.message.session ≡ true) → Users c conns s → Users c conns s2
+moves_users : (c : Client) (conns : ℕ → Conn) (s : Server) (a : ℕ → ℕ) (s2 : Server) (a2 : ℕ → ℕ) → (s.journal ≤ s2.journal) → ((j n : ℕ) (x : Sent) → slice_get (conns j).up n ≡ Some x → is_ops x.token ≡ true → s2.present x.message.session_id ≡ true → s.present x.message.session_id ≡ true) → Users c conns s → Users c conns s2
 moves_users c conns s a s2 a2 journal stay i_users =
     λ j n p x h t m. let old = i_users j n p x h t m in let sy = stay j n x h (own_ops x p t) in grind arith
 
-moves_copy_now : (c : Client) (conns : ℕ → Conn) (s : Server) (a : ℕ → ℕ) (s2 : Server) (a2 : ℕ → ℕ) → (s.journal ≤ s2.journal) → ((j n : ℕ) (x : Sent) → slice_get (conns j).up n ≡ Some x → is_ops x.token ≡ true → s2.present x.message.session ≡ true → s.present x.message.session ≡ true) → CopyNow c conns s → CopyNow c conns s2
+moves_copy_now : (c : Client) (conns : ℕ → Conn) (s : Server) (a : ℕ → ℕ) (s2 : Server) (a2 : ℕ → ℕ) → (s.journal ≤ s2.journal) → ((j n : ℕ) (x : Sent) → slice_get (conns j).up n ≡ Some x → is_ops x.token ≡ true → s2.present x.message.session_id ≡ true → s.present x.message.session_id ≡ true) → CopyNow c conns s → CopyNow c conns s2
 moves_copy_now c conns s a s2 a2 journal stay i_copy_now =
     λ j n p x h t m. let old = i_copy_now j n p x h t m in let sy = stay j n x h (own_ops x p t) in grind arith
 
-moves_retried_on : (c : Client) (conns : ℕ → Conn) (s : Server) (a : ℕ → ℕ) (s2 : Server) (a2 : ℕ → ℕ) → (s.journal ≤ s2.journal) → ((j n : ℕ) (x : Sent) → slice_get (conns j).up n ≡ Some x → is_ops x.token ≡ true → s2.present x.message.session ≡ true → s.present x.message.session ≡ true) → RetriedOn c conns s → RetriedOn c conns s2
+moves_retried_on : (c : Client) (conns : ℕ → Conn) (s : Server) (a : ℕ → ℕ) (s2 : Server) (a2 : ℕ → ℕ) → (s.journal ≤ s2.journal) → ((j n : ℕ) (x : Sent) → slice_get (conns j).up n ≡ Some x → is_ops x.token ≡ true → s2.present x.message.session_id ≡ true → s.present x.message.session_id ≡ true) → RetriedOn c conns s → RetriedOn c conns s2
 moves_retried_on c conns s a s2 a2 journal stay i_retried_on =
     λ j n p x h t m. let old = i_retried_on j n p x h t m in let sy = stay j n x h (own_ops x p t) in grind arith
 
-moves_retried_done : (c : Client) (conns : ℕ → Conn) (s : Server) (a : ℕ → ℕ) (s2 : Server) (a2 : ℕ → ℕ) → (s.journal ≤ s2.journal) → ((j n : ℕ) (x : Sent) → slice_get (conns j).up n ≡ Some x → is_ops x.token ≡ true → s2.present x.message.session ≡ true → s.present x.message.session ≡ true) → RetriedDone c conns s → RetriedDone c conns s2
+moves_retried_done : (c : Client) (conns : ℕ → Conn) (s : Server) (a : ℕ → ℕ) (s2 : Server) (a2 : ℕ → ℕ) → (s.journal ≤ s2.journal) → ((j n : ℕ) (x : Sent) → slice_get (conns j).up n ≡ Some x → is_ops x.token ≡ true → s2.present x.message.session_id ≡ true → s.present x.message.session_id ≡ true) → RetriedDone c conns s → RetriedDone c conns s2
 moves_retried_done c conns s a s2 a2 journal stay i_retried_done =
     λ j n p x h t m. let old = i_retried_done j n p x h t m in let sy = stay j n x h (own_ops x p t) in grind arith
 
-moves_copy_attached : (c : Client) (conns : ℕ → Conn) (s : Server) (a : ℕ → ℕ) (s2 : Server) (a2 : ℕ → ℕ) → (s.journal ≤ s2.journal) → ((j n : ℕ) (x : Sent) → slice_get (conns j).up n ≡ Some x → is_ops x.token ≡ true → s2.present x.message.session ≡ true → s.present x.message.session ≡ true) → ((q : ℕ) → makes_open (c.op q) ≡ true → is_ok (c.outcome q) ≡ true → s2.standing (c.file q) ≡ true → s.standing (c.file q) ≡ true) → ((o y : ℕ) → s.session_of_open o ≡ Some y → s2.standing o ≡ true → s2.present y ≡ true → s2.session_of_open o ≡ Some y) → Bodies c conns → Creates c → HasOpen c → Taken c → CopyAttached c conns s → CopyAttached c conns s2
+moves_copy_attached : (c : Client) (conns : ℕ → Conn) (s : Server) (a : ℕ → ℕ) (s2 : Server) (a2 : ℕ → ℕ) → (s.journal ≤ s2.journal) → ((j n : ℕ) (x : Sent) → slice_get (conns j).up n ≡ Some x → is_ops x.token ≡ true → s2.present x.message.session_id ≡ true → s.present x.message.session_id ≡ true) → ((q : ℕ) → makes_open (c.op q) ≡ true → is_ok (c.outcome q) ≡ true → s2.standing (c.file q) ≡ true → s.standing (c.file q) ≡ true) → ((o y : ℕ) → s.session_of_open o ≡ Some y → s2.standing o ≡ true → s2.present y ≡ true → s2.session_of_open o ≡ Some y) → Bodies c conns → Creates c → HasOpen c → Taken c → CopyAttached c conns s → CopyAttached c conns s2
 moves_copy_attached c conns s a s2 a2 journal stay stands keeps_at C_bodies C_creates C_has_open C_taken i_copy_attached =
-    λ j n p x h t m. let old = i_copy_attached j n p x h t m in let b = C_bodies j n p x h t in let sent = b.0 in let m1 = m in let ok1 = ok_of c C_has_open p sent m1 in let mk = made_of c C_taken C_creates p sent m1 in let sy = stay j n x h (own_ops x p t) in let sd = stands (create_at c p) mk ok1 in let ka = keeps_at (open_at c p) x.message.session in grind arith
+    λ j n p x h t m. let old = i_copy_attached j n p x h t m in let b = C_bodies j n p x h t in let sent = b.0 in let m1 = m in let ok1 = ok_of c C_has_open p sent m1 in let mk = made_of c C_taken C_creates p sent m1 in let sy = stay j n x h (own_ops x p t) in let sd = stands (create_at c p) mk ok1 in let ka = keeps_at (open_at c p) x.message.session_id in grind arith
 
 moves_now_attached : (c : Client) (conns : ℕ → Conn) (s : Server) (a : ℕ → ℕ) (s2 : Server) (a2 : ℕ → ℕ) → (s.journal ≤ s2.journal) → (c.live ≡ true → s2.present c.session ≡ true → s.present c.session ≡ true) → ((q : ℕ) → makes_open (c.op q) ≡ true → is_ok (c.outcome q) ≡ true → s2.standing (c.file q) ≡ true → s.standing (c.file q) ≡ true) → ((o y : ℕ) → s.session_of_open o ≡ Some y → s2.standing o ≡ true → s2.present y ≡ true → s2.session_of_open o ≡ Some y) → NowAttached c s → NowAttached c s2
 moves_now_attached c conns s a s2 a2 journal stay_now stands keeps_at i_now_attached =
@@ -72,7 +72,7 @@ moves_no_slots : (c : Client) (conns : ℕ → Conn) (s : Server) (a : ℕ → �
 moves_no_slots c conns s a s2 a2 journal unmade i_no_slots =
     λ q r o m ok1 e. unmade q r o m ok1 e
 
-moves_full_dead : (c : Client) (conns : ℕ → Conn) (s : Server) (a : ℕ → ℕ) (s2 : Server) (a2 : ℕ → ℕ) → (s.journal ≤ s2.journal) → ((j n : ℕ) (x : Sent) → slice_get (conns j).up n ≡ Some x → is_ops x.token ≡ true → s2.present x.message.session ≡ true → s.present x.message.session ≡ true) → FullDead c conns s → FullDead c conns s2
+moves_full_dead : (c : Client) (conns : ℕ → Conn) (s : Server) (a : ℕ → ℕ) (s2 : Server) (a2 : ℕ → ℕ) → (s.journal ≤ s2.journal) → ((j n : ℕ) (x : Sent) → slice_get (conns j).up n ≡ Some x → is_ops x.token ≡ true → s2.present x.message.session_id ≡ true → s.present x.message.session_id ≡ true) → FullDead c conns s → FullDead c conns s2
 moves_full_dead c conns s a s2 a2 journal stay i_full_dead =
     λ j n p x h t m. let old = i_full_dead j n p x h t m in let sy = stay j n x h (own_ops x p t) in grind arith
 
@@ -100,15 +100,15 @@ moves_kept_files : (c : Client) (conns : ℕ → Conn) (s : Server) (a : ℕ →
 moves_kept_files c conns s a s2 a2 journal keeps i_kept_files =
     λ o e. keeps o e
 
-moves_left_full : (c : Client) (conns : ℕ → Conn) (s : Server) (a : ℕ → ℕ) (s2 : Server) (a2 : ℕ → ℕ) → (s.journal ≤ s2.journal) → ((j n : ℕ) (x : Sent) → slice_get (conns j).up n ≡ Some x → is_ops x.token ≡ true → s2.present x.message.session ≡ true → s.present x.message.session ≡ true) → ((q : ℕ) → makes_open (c.op q) ≡ true → is_ok (c.outcome q) ≡ true → s2.standing (c.file q) ≡ true → s.standing (c.file q) ≡ true) → ((q : ℕ) → makes_open (c.op q) ≡ true → is_ok (c.outcome q) ≡ true → s2.standing (c.file q) ≡ true → (s2.opened (c.file q)).persistent ≡ (s.opened (c.file q)).persistent) → Bodies c conns → Creates c → HasOpen c → Taken c → LeftFull c conns s → LeftFull c conns s2
+moves_left_full : (c : Client) (conns : ℕ → Conn) (s : Server) (a : ℕ → ℕ) (s2 : Server) (a2 : ℕ → ℕ) → (s.journal ≤ s2.journal) → ((j n : ℕ) (x : Sent) → slice_get (conns j).up n ≡ Some x → is_ops x.token ≡ true → s2.present x.message.session_id ≡ true → s.present x.message.session_id ≡ true) → ((q : ℕ) → makes_open (c.op q) ≡ true → is_ok (c.outcome q) ≡ true → s2.standing (c.file q) ≡ true → s.standing (c.file q) ≡ true) → ((q : ℕ) → makes_open (c.op q) ≡ true → is_ok (c.outcome q) ≡ true → s2.standing (c.file q) ≡ true → (s2.opened (c.file q)).persistent ≡ (s.opened (c.file q)).persistent) → Bodies c conns → Creates c → HasOpen c → Taken c → LeftFull c conns s → LeftFull c conns s2
 moves_left_full c conns s a s2 a2 journal stay stands opened C_bodies C_creates C_has_open C_taken i_left_full =
     λ j n p x h t m. let old = i_left_full j n p x h t m in let b = C_bodies j n p x h t in let sent = b.0 in let m1 = close_kind (c.op p) m in let ok1 = ok_of c C_has_open p sent m1 in let mk = made_of c C_taken C_creates p sent m1 in let sy = stay j n x h (own_ops x p t) in let sd = stands (create_at c p) mk ok1 in let op1 = opened (create_at c p) mk ok1 in grind arith
 
-moves_left_stuck : (c : Client) (conns : ℕ → Conn) (s : Server) (a : ℕ → ℕ) (s2 : Server) (a2 : ℕ → ℕ) → (s.journal ≤ s2.journal) → ((j n : ℕ) (x : Sent) → slice_get (conns j).up n ≡ Some x → is_ops x.token ≡ true → s2.present x.message.session ≡ true → s.present x.message.session ≡ true) → ((q : ℕ) → makes_open (c.op q) ≡ true → is_ok (c.outcome q) ≡ true → s2.standing (c.file q) ≡ true → s.standing (c.file q) ≡ true) → ((q : ℕ) → makes_open (c.op q) ≡ true → is_ok (c.outcome q) ≡ true → s2.standing (c.file q) ≡ true → (s2.opened (c.file q)).persistent ≡ (s.opened (c.file q)).persistent) → ((q : ℕ) → makes_open (c.op q) ≡ true → is_ok (c.outcome q) ≡ true → s2.standing (c.file q) ≡ true → (s.opened (c.file q)).persistent ≡ false → goes_with s (c.file q) ≡ true → lower_limit < s.journal + 34 → goes_with s2 (c.file q) ≡ true) → Bodies c conns → Creates c → HasOpen c → Taken c → LeftStuck c conns s → LeftStuck c conns s2
+moves_left_stuck : (c : Client) (conns : ℕ → Conn) (s : Server) (a : ℕ → ℕ) (s2 : Server) (a2 : ℕ → ℕ) → (s.journal ≤ s2.journal) → ((j n : ℕ) (x : Sent) → slice_get (conns j).up n ≡ Some x → is_ops x.token ≡ true → s2.present x.message.session_id ≡ true → s.present x.message.session_id ≡ true) → ((q : ℕ) → makes_open (c.op q) ≡ true → is_ok (c.outcome q) ≡ true → s2.standing (c.file q) ≡ true → s.standing (c.file q) ≡ true) → ((q : ℕ) → makes_open (c.op q) ≡ true → is_ok (c.outcome q) ≡ true → s2.standing (c.file q) ≡ true → (s2.opened (c.file q)).persistent ≡ (s.opened (c.file q)).persistent) → ((q : ℕ) → makes_open (c.op q) ≡ true → is_ok (c.outcome q) ≡ true → s2.standing (c.file q) ≡ true → (s.opened (c.file q)).persistent ≡ false → goes_with s (c.file q) ≡ true → lower_limit < s.journal + 34 → goes_with s2 (c.file q) ≡ true) → Bodies c conns → Creates c → HasOpen c → Taken c → LeftStuck c conns s → LeftStuck c conns s2
 moves_left_stuck c conns s a s2 a2 journal stay stands opened stuck C_bodies C_creates C_has_open C_taken i_left_stuck =
     λ j n p x h t m. let old = i_left_stuck j n p x h t m in let b = C_bodies j n p x h t in let sent = b.0 in let m1 = close_kind (c.op p) m in let ok1 = ok_of c C_has_open p sent m1 in let mk = made_of c C_taken C_creates p sent m1 in let sy = stay j n x h (own_ops x p t) in let sd = stands (create_at c p) mk ok1 in let op1 = opened (create_at c p) mk ok1 in let sk = stuck (create_at c p) mk ok1 in grind arith
 
-moves_left_idle : (c : Client) (conns : ℕ → Conn) (s : Server) (a : ℕ → ℕ) (s2 : Server) (a2 : ℕ → ℕ) → ((p : ℕ) → locking (c.op p) ≡ true → a2 p ≡ a p) → (s.journal ≤ s2.journal) → ((j n : ℕ) (x : Sent) → slice_get (conns j).up n ≡ Some x → is_ops x.token ≡ true → s2.present x.message.session ≡ true → s.present x.message.session ≡ true) → ((q : ℕ) → makes_open (c.op q) ≡ true → is_ok (c.outcome q) ≡ true → s2.standing (c.file q) ≡ true → s.standing (c.file q) ≡ true) → ((q : ℕ) → makes_open (c.op q) ≡ true → is_ok (c.outcome q) ≡ true → s2.standing (c.file q) ≡ true → (s2.opened (c.file q)).persistent ≡ (s.opened (c.file q)).persistent) → Bodies c conns → Creates c → HasOpen c → Taken c → LeftIdle c conns s a → LeftIdle c conns s2 a2
+moves_left_idle : (c : Client) (conns : ℕ → Conn) (s : Server) (a : ℕ → ℕ) (s2 : Server) (a2 : ℕ → ℕ) → ((p : ℕ) → locking (c.op p) ≡ true → a2 p ≡ a p) → (s.journal ≤ s2.journal) → ((j n : ℕ) (x : Sent) → slice_get (conns j).up n ≡ Some x → is_ops x.token ≡ true → s2.present x.message.session_id ≡ true → s.present x.message.session_id ≡ true) → ((q : ℕ) → makes_open (c.op q) ≡ true → is_ok (c.outcome q) ≡ true → s2.standing (c.file q) ≡ true → s.standing (c.file q) ≡ true) → ((q : ℕ) → makes_open (c.op q) ≡ true → is_ok (c.outcome q) ≡ true → s2.standing (c.file q) ≡ true → (s2.opened (c.file q)).persistent ≡ (s.opened (c.file q)).persistent) → Bodies c conns → Creates c → HasOpen c → Taken c → LeftIdle c conns s a → LeftIdle c conns s2 a2
 moves_left_idle c conns s a s2 a2 same_a journal stay stands opened C_bodies C_creates C_has_open C_taken i_left_idle =
     λ j n p q x h t m. let old = i_left_idle j n p q x h t m in let b = C_bodies j n p x h t in let sent = b.0 in let m1 = close_kind (c.op p) m in let ok1 = ok_of c C_has_open p sent m1 in let mk = made_of c C_taken C_creates p sent m1 in let sy = stay j n x h (own_ops x p t) in let sd = stands (create_at c p) mk ok1 in let op1 = opened (create_at c p) mk ok1 in let sa = same_a q in grind arith
 
@@ -140,7 +140,7 @@ moves_refused_not : (c : Client) (conns : ℕ → Conn) (s : Server) (a : ℕ �
 moves_refused_not c conns s a s2 a2 same_a journal i_refused_not =
     λ p m. let old = i_refused_not p m in let sa = same_a p m in grind arith
 
-pub moves_keeps : (c : Client) (conns : ℕ → Conn) (s : Server) (a : ℕ → ℕ) (s2 : Server) (a2 : ℕ → ℕ) → ((p : ℕ) → locking (c.op p) ≡ true → a2 p ≡ a p) → (s.journal ≤ s2.journal) → ((j n : ℕ) (x : Sent) → slice_get (conns j).up n ≡ Some x → is_ops x.token ≡ true → s2.present x.message.session ≡ true → s.present x.message.session ≡ true) → (c.live ≡ true → s2.present c.session ≡ true → s.present c.session ≡ true) → ((q : ℕ) → makes_open (c.op q) ≡ true → is_ok (c.outcome q) ≡ true → s2.standing (c.file q) ≡ true → s.standing (c.file q) ≡ true) → ((o y : ℕ) → s.session_of_open o ≡ Some y → s2.standing o ≡ true → s2.present y ≡ true → s2.session_of_open o ≡ Some y) → ((q r : ℕ) → makes_open (c.op q) ≡ true → is_ok (c.outcome q) ≡ true → s2.standing (c.file q) ≡ true → s2.lock_sequences (c.file q) r ≡ s.lock_sequences (c.file q) r) → ((q : ℕ) → makes_open (c.op q) ≡ true → is_ok (c.outcome q) ≡ true → s2.standing (c.file q) ≡ true → (s2.opened (c.file q)).persistent ≡ (s.opened (c.file q)).persistent) → ((q : ℕ) → makes_open (c.op q) ≡ true → is_ok (c.outcome q) ≡ true → s2.standing (c.file q) ≡ true → (s.opened (c.file q)).persistent ≡ false → goes_with s (c.file q) ≡ true → lower_limit < s.journal + 34 → goes_with s2 (c.file q) ≡ true) → ((q r o : ℕ) → makes_open (c.op q) ≡ true → is_ok (c.outcome q) ≡ false → s2.by_guid c.who.guid (guid_for c q) ≡ Some o → s2.lock_sequences o r ≡ None) → ((q : ℕ) → makes_open (c.op q) ≡ true → 1 ≤ a2 q → piped c.who.share ≡ false) → ((o : ℕ) → s2.standing o ≡ true → deletes_on_close (s2.opened o).options ≡ false) → ((j n g : ℕ) (y : Received) → slice_get (conns j).down n ≡ Some y → y.token ≡ ForOp g → makes_open (c.op g) ≡ true → y.reply.status ≡ success → s2.standing (id_in y.reply.body) ≡ true → s.standing (id_in y.reply.body) ≡ true) → ((g : ℕ) → locking (c.op g) ≡ true → c.sent g ≡ true → is_unsettled (c.outcome g) ≡ true → c.live ≡ true → c.attached (create_at c g) ≡ c.session_number → s2.present c.session ≡ true → s.standing (open_at c g) ≡ true → s2.standing (open_at c g) ≡ false → a g ≡ 0) → ((j n g : ℕ) (y : Received) → slice_get (conns j).down n ≡ Some y → y.token ≡ ForAttach g → y.reply.status ≡ success → c.live ≡ true → s2.present c.session ≡ true → s.standing (open_at c g) ≡ true → s2.standing (open_at c g) ≡ false → c.attached (create_at c g) ≡ c.session_number) → Connections c conns a → Locks c conns s a → Locks c conns s2 a2
+pub moves_keeps : (c : Client) (conns : ℕ → Conn) (s : Server) (a : ℕ → ℕ) (s2 : Server) (a2 : ℕ → ℕ) → ((p : ℕ) → locking (c.op p) ≡ true → a2 p ≡ a p) → (s.journal ≤ s2.journal) → ((j n : ℕ) (x : Sent) → slice_get (conns j).up n ≡ Some x → is_ops x.token ≡ true → s2.present x.message.session_id ≡ true → s.present x.message.session_id ≡ true) → (c.live ≡ true → s2.present c.session ≡ true → s.present c.session ≡ true) → ((q : ℕ) → makes_open (c.op q) ≡ true → is_ok (c.outcome q) ≡ true → s2.standing (c.file q) ≡ true → s.standing (c.file q) ≡ true) → ((o y : ℕ) → s.session_of_open o ≡ Some y → s2.standing o ≡ true → s2.present y ≡ true → s2.session_of_open o ≡ Some y) → ((q r : ℕ) → makes_open (c.op q) ≡ true → is_ok (c.outcome q) ≡ true → s2.standing (c.file q) ≡ true → s2.lock_sequences (c.file q) r ≡ s.lock_sequences (c.file q) r) → ((q : ℕ) → makes_open (c.op q) ≡ true → is_ok (c.outcome q) ≡ true → s2.standing (c.file q) ≡ true → (s2.opened (c.file q)).persistent ≡ (s.opened (c.file q)).persistent) → ((q : ℕ) → makes_open (c.op q) ≡ true → is_ok (c.outcome q) ≡ true → s2.standing (c.file q) ≡ true → (s.opened (c.file q)).persistent ≡ false → goes_with s (c.file q) ≡ true → lower_limit < s.journal + 34 → goes_with s2 (c.file q) ≡ true) → ((q r o : ℕ) → makes_open (c.op q) ≡ true → is_ok (c.outcome q) ≡ false → s2.by_guid c.who.guid (guid_for c q) ≡ Some o → s2.lock_sequences o r ≡ None) → ((q : ℕ) → makes_open (c.op q) ≡ true → 1 ≤ a2 q → piped c.who.share ≡ false) → ((o : ℕ) → s2.standing o ≡ true → deletes_on_close (s2.opened o).options ≡ false) → ((j n g : ℕ) (y : Received) → slice_get (conns j).down n ≡ Some y → y.token ≡ ForOp g → makes_open (c.op g) ≡ true → y.reply.status ≡ success → s2.standing (id_in y.reply.body) ≡ true → s.standing (id_in y.reply.body) ≡ true) → ((g : ℕ) → locking (c.op g) ≡ true → c.sent g ≡ true → is_unsettled (c.outcome g) ≡ true → c.live ≡ true → c.attached (create_at c g) ≡ c.session_number → s2.present c.session ≡ true → s.standing (open_at c g) ≡ true → s2.standing (open_at c g) ≡ false → a g ≡ 0) → ((j n g : ℕ) (y : Received) → slice_get (conns j).down n ≡ Some y → y.token ≡ ForAttach g → y.reply.status ≡ success → c.live ≡ true → s2.present c.session ≡ true → s.standing (open_at c g) ≡ true → s2.standing (open_at c g) ≡ false → c.attached (create_at c g) ≡ c.session_number) → Connections c conns a → Locks c conns s a → Locks c conns s2 a2
 moves_keeps c conns s a s2 a2 same_a journal stay stay_now stands keeps_at slots opened stuck unmade plain keeps open_stands closed joined C i =
     record {
       slot_index = i.slot_index;

@@ -166,18 +166,18 @@ create_unshut : (op : Op) → makes_open op ≡ true → shuts_open op ≡ false
 unfolding makes_open shuts_open
 create_unshut op e = grind arith
 
-attached_to : (t : Server) (m : Message) (o : ℕ) → (t.session_of_open o ≡ None) ⊎ (t.session_of_open o ≡ Some m.session) → (attached t m o).session_of_open o ≡ Some m.session
+attached_to : (t : Server) (m : Message) (o : ℕ) → (t.session_of_open o ≡ None) ⊎ (t.session_of_open o ≡ Some m.session_id) → (attached t m o).session_of_open o ≡ Some m.session_id
 attached_to t m o w =
-    either {X = Server} (λ u. u.session_of_open o ≡ Some m.session) (is_some (t.session_of_open o)) (t) (attach t m o) (λ s. of_some w s) (λ _. put_same t.session_of_open o (Some m.session))
+    either {X = Server} (λ u. u.session_of_open o ≡ Some m.session_id) (is_some (t.session_of_open o)) (t) (attach t m o) (λ s. of_some w s) (λ _. put_same t.session_of_open o (Some m.session_id))
   where
-    of_some : (t.session_of_open o ≡ None) ⊎ (t.session_of_open o ≡ Some m.session) → is_some (t.session_of_open o) ≡ true → t.session_of_open o ≡ Some m.session
+    of_some : (t.session_of_open o ≡ None) ⊎ (t.session_of_open o ≡ Some m.session_id) → is_some (t.session_of_open o) ≡ true → t.session_of_open o ≡ Some m.session_id
     of_some (inl n) s = absurd (grind arith)
     of_some (inr y) s = y
 
     put_same : (f : ℕ → Option ℕ) (o : ℕ) (x : Option ℕ) → put f o x o ≡ x
     put_same f o x = grind arith
 
-whose_of : (t : Server) (m : Message) (o : ℕ) (P Q : Type 0) → (t.session_of_open o ≡ Some m.session) ⊎ (t.session_of_open o ≡ None × P × Q) → (t.session_of_open o ≡ None) ⊎ (t.session_of_open o ≡ Some m.session)
+whose_of : (t : Server) (m : Message) (o : ℕ) (P Q : Type 0) → (t.session_of_open o ≡ Some m.session_id) ⊎ (t.session_of_open o ≡ None × P × Q) → (t.session_of_open o ≡ None) ⊎ (t.session_of_open o ≡ Some m.session_id)
 whose_of t m o P Q (inl y) = inr y
 whose_of t m o P Q (inr n) = inl n.0
 
@@ -209,7 +209,7 @@ says_room DropTree e = absurd (cc)
 
 -- a success gives an open that is the session's
 abbrev Gives : Server → Message → ℕ → Verdict → Type 0
-Gives t m now v = (apply t m now v).reply.status ≡ success → (apply t m now v).server.session_of_open (id_in (apply t m now v).reply.body) ≡ Some m.session
+Gives t m now v = (apply t m now v).reply.status ≡ success → (apply t m now v).server.session_of_open (id_in (apply t m now v).reply.body) ≡ Some m.session_id
 
 no_success : (status : ℕ) (P : Type 0) → (status == success) ≡ false → status ≡ success → P
 no_success status P e f = absurd (grind arith)
@@ -219,7 +219,7 @@ gives_by t m now (Refuse status) f e = λ s. no_success status _ (grind arith) s
 gives_by t m now (KeepRefusal guid status) f e = λ s. no_success status _ f.refused s
 gives_by t m now (Repeat o r) f e = λ s. attached_to t m o (whose_of t m o _ _ f.whose)
 gives_by t m now (Attach o r) f e = λ s. attached_to t m o f.whose
-gives_by t m now (Make r found1 action) f e = λ s. ap (λ z. z.session_of_open (next_open t)) (make_view t m r found1 action now) ∙ put_same t.session_of_open (next_open t) (Some m.session)
+gives_by t m now (Make r found1 action) f e = λ s. ap (λ z. z.session_of_open (next_open t)) (make_view t m r found1 action now) ∙ put_same t.session_of_open (next_open t) (Some m.session_id)
   where
     put_same : (g : ℕ → Option ℕ) (o : ℕ) (x : Option ℕ) → put g o x o ≡ x
     put_same g o x = grind arith
@@ -257,7 +257,7 @@ still_count : (a : ℕ → ℕ) (tk : Token) (p n : ℕ) (acted : Bool) → acte
 still_count a tk p n acted e l = subst (λ z. 1 ≤ z) (not_acted a tk acted p e) l
 
 plain_create : (c : Client) (conns : ℕ → Conn) (t : Server) (a : ℕ → ℕ) (k : ℕ) (x0 : Sent) (now : ℕ) (v : Verdict) → Serving c conns t a k x0 → Facts t x0.message v → create_says v ≡ true → (q : ℕ) → makes_open (c.op q) ≡ true → 1 ≤ counted a x0.token (apply t x0.message now v).acted q → piped c.who.share ≡ false
-plain_create c conns t a k x0 now (Make r found1 action) w f e q m l = plain_tree c t x0.message.session x0.message.tree w.kinds f.new.create.tree
+plain_create c conns t a k x0 now (Make r found1 action) w f e q m l = plain_tree c t x0.message.session_id x0.message.tree_id w.kinds f.new.create.tree
 plain_create c conns t a k x0 now (Refuse status) w f e q m l = w.locks.made_plain q m (still_count a x0.token q 0 false refl l)
 plain_create c conns t a k x0 now (KeepRefusal guid status) w f e q m l = w.locks.made_plain q m (still_count a x0.token q 0 false refl l)
 plain_create c conns t a k x0 now (Repeat o r) w f e q m l = w.locks.made_plain q m (still_count a x0.token q 0 false refl l)
@@ -368,7 +368,7 @@ has_it g u e = rw e (same_number g)
 
 -- what a DH2C's reply comes to
 pub record Asked (c : Client) (t : Server) (m : Message) (now g : ℕ) (v : Verdict) : Type 0 where
-  pub ok : (apply t m now v).reply.status ≡ success → (apply t m now v).server.session_of_open (open_at c g) ≡ Some m.session × (apply t m now v).server.standing (open_at c g) ≡ true
+  pub ok : (apply t m now v).reply.status ≡ success → (apply t m now v).server.session_of_open (open_at c g) ≡ Some m.session_id × (apply t m now v).server.standing (open_at c g) ≡ true
   pub lost : (apply t m now v).reply.status ≢ success → (apply t m now v).reply.status ≢ user_session_deleted → (apply t m now v).reply.status ≡ object_name_not_found × (apply t m now v).server.standing (open_at c g) ≡ false
 
 attached_stands : (t : Server) (m : Message) (o : ℕ) → (attached t m o).standing ≡ t.standing
@@ -385,34 +385,34 @@ other_at (Some y) x e = (y, (refl, grind arith))
 asked_by : (c : Client) (conns : ℕ → Conn) (t : Server) (a : ℕ → ℕ) (k : ℕ) (x0 : Sent) (now g : ℕ) (r : CreateRequest) (v : Verdict) → Serving c conns t a k x0 → x0.token ≡ ForAttach g → makes_open (c.op (create_at c g)) ≡ true → is_ok (c.outcome (create_at c g)) ≡ true
     → AskSees t x0.message r (record { file = open_at c g; guid = guid_for c (create_at c g) }) v → Asked c t x0.message now g v
 asked_by c conns t a k x0 now g r v w tk mk ok Deleted3 = record { ok = λ s. absurd (cc); lost = λ n d. absurd (d refl) }
-asked_by c conns t a k x0 now g r v w tk mk ok (NoTree3 on e) = let p = w.low.fits.on_present x0.message.connection x0.message.session on in let tr = w.trees (ap is_ops tk) p in record { ok = λ s. absurd (cc); lost = λ n d. absurd (grind arith) }
+asked_by c conns t a k x0 now g r v w tk mk ok (NoTree3 on e) = let p = w.low.fits.on_present x0.message.connection x0.message.session_id on in let tr = w.trees (ap is_ops tk) p in record { ok = λ s. absurd (cc); lost = λ n d. absurd (grind arith) }
 asked_by c conns t a k x0 now g r v w tk mk ok (Gone on e) =
     let fg = w.creates.file_guid (create_at c g) mk ok in
-    record { ok = λ s. absurd (cc); lost = λ n d. (refl, not_both (t.standing (open_at c g)) (has_guid (guid_for c (create_at c g)) (t.opened (open_at c g)).guid) e (λ st. has_it (guid_for c (create_at c g)) (t.opened (open_at c g)).guid ((fg.1 st).1 ∙ ap (λ z. Some z) (sym (same_guid c (create_at c g)))))) }
+    record { ok = λ s. absurd (cc); lost = λ n d. (refl, not_both (t.standing (open_at c g)) (has_guid (guid_for c (create_at c g)) (t.opened (open_at c g)).create_guid) e (λ st. has_it (guid_for c (create_at c g)) (t.opened (open_at c g)).create_guid ((fg.1 st).1 ∙ ap (λ z. Some z) (sym (same_guid c (create_at c g)))))) }
   where
     not_both : (x y : Bool) → (x && y) ≡ false → (x ≡ true → y ≡ true) → x ≡ false
     not_both true y e f = sym (f refl) ∙ e
     not_both false y e f = refl
 asked_by c conns t a k x0 now g r v w tk mk ok (Other on st e) =
     let fg = w.creates.file_guid (create_at c g) mk ok in let both = fg.1 st in
-    let p = w.low.fits.on_present x0.message.connection x0.message.session on in
+    let p = w.low.fits.on_present x0.message.connection x0.message.session_id on in
     let nm : named c (seen t) (create_at c g) ≡ Some (open_at c g) = subst (λ z. t.by_guid z (guid_at c (create_at c g)) ≡ Some (open_at c g)) both.0 (w.low.fits.open_guid (open_at c g) (guid_at c (create_at c g)) st both.1) in
     let user = (w.creates.named_kind (create_at c g) (open_at c g) nm).1 in
-    let mine = w.users x0.message.session p in
-    let same : same_name (t.opened (open_at c g)).user (t.user x0.message.session) ≡ true = subst (λ z. same_name z (t.user x0.message.session) ≡ true) (sym user) (subst (λ z. same_name (logon_user c.who.logon) z ≡ true) (sym mine) (same_self (logon_user c.who.logon))) in
+    let mine = w.users x0.message.session_id p in
+    let same : same_name (t.opened (open_at c g)).user (t.user x0.message.session_id) ≡ true = subst (λ z. same_name z (t.user x0.message.session_id) ≡ true) (sym user) (subst (λ z. same_name (logon_user c.who.logon) z ≡ true) (sym mine) (same_self (logon_user c.who.logon))) in
     record { ok = λ s. absurd (cc); lost = λ n d. absurd (grind arith) }
 asked_by c conns t a k x0 now g r v w tk mk ok (Held on e) =
-    let p = w.low.fits.on_present x0.message.connection x0.message.session on in
-    let h = other_at (t.session_of_open (open_at c g)) x0.message.session e in
+    let p = w.low.fits.on_present x0.message.connection x0.message.session_id on in
+    let h = other_at (t.session_of_open (open_at c g)) x0.message.session_id e in
     let at1 = w.creates.attached (open_at c g) h.0 h.1.0 in
     let one = w.here h.0 at1.1 at1.0 in
-    let two = w.here x0.message.session p (w.low.ranked_up k 0 x0 w.front (ap is_ops tk)) in
-    record { ok = λ s. absurd (cc); lost = λ n d. absurd (differ h.0 x0.message.session h.1.1 (one ∙ sym two)) }
+    let two = w.here x0.message.session_id p (w.low.ranked_up k 0 x0 w.front (ap is_ops tk)) in
+    record { ok = λ s. absurd (cc); lost = λ n d. absurd (differ h.0 x0.message.session_id h.1.1 (one ∙ sym two)) }
   where
     differ : (x y : ℕ) → (x == y) ≡ false → x ≡ y → ⊥
     differ x y e f = eqb-false x y e f
 asked_by c conns t a k x0 now g r v w tk mk ok (Attached on st e) =
-    record { ok = λ s. (attached_to t x0.message (open_at c g) (free_of (t.session_of_open (open_at c g)) x0.message.session e), ap (λ z. z (open_at c g)) (attached_stands t x0.message (open_at c g)) ∙ st); lost = λ n d. absurd (n refl) }
+    record { ok = λ s. (attached_to t x0.message (open_at c g) (free_of (t.session_of_open (open_at c g)) x0.message.session_id e), ap (λ z. z (open_at c g)) (attached_stands t x0.message (open_at c g)) ∙ st); lost = λ n d. absurd (n refl) }
 
 not_own : (g h : ℕ) (t : Token) → t ≡ ForAttach g → t ≡ ForOp h → true ≡ false
 not_own g h t e f = absurd (grind arith)
@@ -428,7 +428,7 @@ serves_ask c conns t a k x0 now v rs g w q tk =
     let r = asked_again op guid file in
     let is : x0.message.command ≡ Create r = ad.4 ∙ ask_request op guid file cr.2 in
     let fm = ask_form op guid file cr.2 (front_of (keeps_form op) _ (w.creates.form_acted (create_at c g) cr.2 (w.creates.ok_acted (create_at c g) cr.2 ad.3))) in
-    let sees = ask_of t x0.message r (record { file = file; guid = guid }) v q.0 (ask_sees t x0.message r (record { file = file; guid = guid }) w.fault is (ask_reconnect op guid file cr.2) fm (λ pipes e. tree_plain c t x0.message.session x0.message.tree pipes w.kinds e (w.locks.made_plain (create_at c g) cr.2 (w.creates.ok_acted (create_at c g) cr.2 ad.3)))) in
+    let sees = ask_of t x0.message r (record { file = file; guid = guid }) v q.0 (ask_sees t x0.message r (record { file = file; guid = guid }) w.fault is (ask_reconnect op guid file cr.2) fm (λ pipes e. tree_plain c t x0.message.session_id x0.message.tree_id pipes w.kinds e (w.locks.made_plain (create_at c g) cr.2 (w.creates.ok_acted (create_at c g) cr.2 ad.3)))) in
     let says = asked_by c conns t a k x0 now g r v w tk cr.2 ad.3 sees in (
       other_keeps c conns t a k x0 now v rs w q (ap is_other ad.4 ∙ ask_other op guid file) (λ p f. ap (is_send_of p) tk) (plain_other c conns t a k x0 _ w (λ p f. ap (is_send_of p) tk)),
       λ o place. let cur = w.current (ap is_ops tk) o in

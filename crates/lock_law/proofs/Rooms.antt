@@ -9,7 +9,7 @@ use Rattle.exchange_defs.specs.Verdict.{Verdict}
 use Rattle.exchange_defs.specs.Check.{check}
 use Rattle.exchange_defs.specs.Records.{entry_bytes, records_size, record_size, text_size, opened_size, fits, origin_at, lower_limit}
 use Rattle.exchange_defs.specs.Effects.{apply}
-use Rattle.exchange_defs.specs.Step.{step, table, expiring, written_down, with_deadlines, due, expire, expire_records, behind_expiry, without_room, max_expired_guids}
+use Rattle.exchange_defs.specs.Step.{step, event_answer, expiring, written_down, with_deadlines, due, expire, expire_records, behind_expiry, without_room, max_expired_guids}
 use Rattle.server_law.proofs.Logic.{either}
 use Rattle.server_law.proofs.Doors.{recorded, Before}
 use Rattle.lock_law.specs.Locks.{goes_with}
@@ -130,7 +130,7 @@ Fitting s now m P = (t : Server) (v : Verdict) (front : List Record) → Before 
 abbrev pub Full : Server → ℕ → Message → (Answer → Type 0) → Type 0
 Full s now m P = let d = with_deadlines s now in (v : Verdict) → v ≡ without_room (check d m) → fits d (apply d m now (check d m)).records ≡ false → P (recorded (apply d m now v) (apply d m now v).records)
 
-by_table : (P : Answer → Type 0) (s : Server) (now : ℕ) (m : Message) → Fitting s now m P → Full s now m P → P (written_down (table (with_deadlines s now) now (Heard m)))
+by_table : (P : Answer → Type 0) (s : Server) (now : ℕ) (m : Message) → Fitting s now m P → Full s now m P → P (written_down (event_answer (with_deadlines s now) now (Heard m)))
 by_table P s now m f g =
     let d = with_deadlines s now in
     either (λ A. P (written_down A)) (fits d (apply d m now (check d m)).records) (apply d m now (check d m)) (apply d m now (without_room (check d m)))
@@ -142,8 +142,8 @@ by_due : (P : Answer → Type 0) (s : Server) (now : ℕ) (m : Message) → Fitt
 by_due P s now m f g None e = by_table P s now m f g
 by_due P s now m f g (Some o) e =
     let d = with_deadlines s now in let t = expire d o in
-    either (λ A. P (written_down A)) (nat_le max_expired_guids d.expired_count) (table d now (Heard m)) (behind_expiry d now (Heard m) (expire_records d (origin_at m.connection) o) (apply t m now (check t m))) (λ _. by_table P s now m f g)
-    (λ _. either (λ A. P (written_down A)) (fits d (expire_records d (origin_at m.connection) o ++ (apply t m now (check t m)).records)) (record (apply t m now (check t m)) { records = expire_records d (origin_at m.connection) o ++ (apply t m now (check t m)).records }) (table d now (Heard m))
+    either (λ A. P (written_down A)) (nat_le max_expired_guids d.expired_count) (event_answer d now (Heard m)) (behind_expiry d now (Heard m) (expire_records d (origin_at m.connection) o) (apply t m now (check t m))) (λ _. by_table P s now m f g)
+    (λ _. either (λ A. P (written_down A)) (fits d (expire_records d (origin_at m.connection) o ++ (apply t m now (check t m)).records)) (record (apply t m now (check t m)) { records = expire_records d (origin_at m.connection) o ++ (apply t m now (check t m)).records }) (event_answer d now (Heard m))
     (λ r. f t (check t m) (expire_records d (origin_at m.connection) o) (inr (o, e, refl)) (λ l. absurd (no_room d m.connection o _ r l)) refl r)
     (λ _. by_table P s now m f g))
 

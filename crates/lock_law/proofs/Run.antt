@@ -148,7 +148,7 @@ more_journal n m = omega arith
 anew_locks : (c : Client) (conns : ℕ → Conn) (s u : Server) (a : ℕ → ℕ) → Connections c conns a → s.journal ≤ u.journal → Restarted s u → Locks c conns s a → Locks c conns u a
 anew_locks c conns s u a C grown r i =
     moves_keeps c conns s a u a (λ p m. refl) grown
-    (λ j n x h o p. no_two (u.present x.message.session) _ p (r.bare.absent x.message.session))
+    (λ j n x h o p. no_two (u.present x.message.session_id) _ p (r.bare.absent x.message.session_id))
     (λ l p. no_two (u.present c.session) _ p (r.bare.absent c.session))
     (λ q m ok st. (stood s u r (c.file q) st).0)
     (λ o y at st p. no_two (u.present y) _ p (r.bare.absent y))
@@ -285,9 +285,9 @@ dead_of c conns s k ss e =
 up_behind : (conns : ℕ → Conn) (k : ℕ) (rest : List Received) (j n : ℕ) (x : Sent) → slice_get (put conns k (take_front (conns k) rest) j).up n ≡ Some x → slice_get (conns j).up n ≡ Some x
 up_behind conns k rest j n x h = grind arith
 
-absent_up : (c : Client) (conns : ℕ → Conn) (s : Server) (k : ℕ) → Sessions c conns s → c.stage k ≡ AskedTree → (j n : ℕ) (x : Sent) → slice_get (conns j).up n ≡ Some x → is_ops x.token ≡ true → s.present x.message.session ≡ false
-absent_up c conns s k ss e j n x h o = elim (s.present x.message.session) as (λ b. s.present x.message.session ≡ b → s.present x.message.session ≡ false) [
-  | true ↦ λ p. absurd (ss.asked_fresh k j n x e h o (ss.present_accepted x.message.session p (ss.ranked_up j n x h o) ∙ sym (ss.pending_accepted k e).0))
+absent_up : (c : Client) (conns : ℕ → Conn) (s : Server) (k : ℕ) → Sessions c conns s → c.stage k ≡ AskedTree → (j n : ℕ) (x : Sent) → slice_get (conns j).up n ≡ Some x → is_ops x.token ≡ true → s.present x.message.session_id ≡ false
+absent_up c conns s k ss e j n x h o = elim (s.present x.message.session_id) as (λ b. s.present x.message.session_id ≡ b → s.present x.message.session_id ≡ false) [
+  | true ↦ λ p. absurd (ss.asked_fresh k j n x e h o (ss.present_accepted x.message.session_id p (ss.ranked_up j n x h o) ∙ sym (ss.pending_accepted k e).0))
   | false ↦ λ p. p
 ] refl
 
@@ -314,8 +314,8 @@ dialogs w a k rest y is b C apart i Binds e =
 dialogs w a k rest y is b C apart i Readies e =
     let st = readies_stage (w.client.stage k) y.reply.status e in
     let f : ℕ → Conn = put w.conns k (take_front (w.conns k) rest) in
-    ended_well (λ v. LocksHold v a) (behind_reply w k rest) k w.client.pending y.reply.tree (λ _. bound_keeps w.client f w.server a k i)
-    (λ _ _. readied_keeps w.client f w.server a k w.client.pending y.reply.tree
+    ended_well (λ v. LocksHold v a) (behind_reply w k rest) k w.client.pending y.reply.tree_id (λ _. bound_keeps w.client f w.server a k i)
+    (λ _ _. readied_keeps w.client f w.server a k w.client.pending y.reply.tree_id
     (λ j n x h o. absent_up w.client w.conns w.server k b.under.sessions st j n x (up_behind w.conns k rest j n x h) o)
     (λ j n z h. let v = waited_down w.conns k y rest j n z is h in idle_down w.client w.conns w.server a k b.under.links b.under.sessions st j v.0 z v.1) i)
     (dialog_off_keeps w.client f w.server a k apart C i)

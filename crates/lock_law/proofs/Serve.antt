@@ -60,7 +60,7 @@ creates_before : (c : Client) (conns : ℕ → Conn) (a : ℕ → ℕ) (s : Serv
 creates_before c conns a s now t i (inl e) = subst (λ u. Creates c conns (seen u) a) (sym e) i
 creates_before c conns a s now t i (inr x) =
     let d = with_deadlines s now in
-    subst (λ u. Creates c conns (seen u) a) (sym x.2) (subst (λ v. Creates c conns v a) (sym (expire_seen d x.0)) (expire_by_creates c conns (seen d) a x.0 (d.opened x.0).guid refl i))
+    subst (λ u. Creates c conns (seen u) a) (sym x.2) (subst (λ v. Creates c conns v a) (sym (expire_seen d x.0)) (expire_by_creates c conns (seen d) a x.0 (d.opened x.0).create_guid refl i))
 
 rest_before : (s : Server) (now : ℕ) (t : Server) → Before s now t → rest t ≡ rest s
 rest_before s now t (inl e) = ap rest e
@@ -86,7 +86,7 @@ serving_at c conns s a k x0 now t u i front b full =
       lives = λ l. let y = u.sessions.live_accepted l in (y.0, y.1);
       current = λ o p. u.sessions.current_up k 0 x0 front o p;
       users = λ y p. subst (λ (z : Rest). z.present y ≡ true → z.user y ≡ logon_user c.who.logon) (sym r) (u.sessions.session_users y) p;
-      trees = λ o. subst (λ (z : Rest). z.present x0.message.session ≡ true → is_some (tree_in (z.trees x0.message.session) x0.message.tree) ≡ true) (sym r) (u.sessions.tree_up k 0 x0 front o);
+      trees = λ o. subst (λ (z : Rest). z.present x0.message.session_id ≡ true → is_some (tree_in (z.trees x0.message.session_id) x0.message.tree_id) ≡ true) (sym r) (u.sessions.tree_up k 0 x0 front o);
       kinds = subst (λ (z : Rest). (y n : ℕ) (p : Bool) → tree_in (z.trees y) n ≡ Some p → p ≡ same_name c.who.share pipes_name) (sym r) u.kinds;
       dialog = λ o. (u.sessions.dialog_up k 0 x0 front o).1;
       work = λ o. u.sessions.work_up k 0 x0 front o;

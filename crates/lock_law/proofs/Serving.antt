@@ -43,9 +43,9 @@ pub record Serving (c : Client) (conns : ℕ → Conn) (t : Server) (a : ℕ →
   pub fault : x0.message.fault ≡ None
   pub here : (x : ℕ) → t.present x ≡ true → 0 < c.rank x → x ≡ c.accepted
   pub lives : c.live ≡ true → c.session ≡ c.accepted × 0 < c.rank c.accepted
-  pub current : is_ops x0.token ≡ true → (conns k).client_open ≡ true → c.live ≡ true × x0.message.session ≡ c.session
+  pub current : is_ops x0.token ≡ true → (conns k).client_open ≡ true → c.live ≡ true × x0.message.session_id ≡ c.session
   pub users : (x : ℕ) → t.present x ≡ true → t.user x ≡ logon_user c.who.logon
-  pub trees : is_ops x0.token ≡ true → t.present x0.message.session ≡ true → is_some (tree_in (t.trees x0.message.session) x0.message.tree) ≡ true
+  pub trees : is_ops x0.token ≡ true → t.present x0.message.session_id ≡ true → is_some (tree_in (t.trees x0.message.session_id) x0.message.tree_id) ≡ true
   pub kinds : TreeKinds c t
   pub work : is_ops x0.token ≡ true → is_work x0.message.command ≡ true
   pub dialog : is_ops x0.token ≡ false → is_dialog x0.message.command ≡ true

@@ -79,7 +79,7 @@ settle_no_slots : (c : Client) (conns : ℕ → Conn) (s : Server) (a : ℕ → 
 settle_no_slots c conns s a k g o0 new sh fu by0 order0 on own settled0 real same C_settled i_no_slots =
     λ q r o m. let old = i_no_slots q r o m in let sm = same q in let os = ok_settled (c.outcome q) in let pend = C_settled g in grind arith
 
-settle_full_dead : (c : Client) (conns : ℕ → Conn) (s : Server) (a : ℕ → ℕ) (k g : ℕ) (o0 : Outcome) (new : ℕ → Outcome) (sh : ℕ → Bool) (fu : ℕ → ℕ → Bool) (by0 : ℕ → Option ℕ) (order0 : List ℕ) → (c.outstanding_on g ≡ Some k) → (new g ≡ o0) → (is_unsettled o0 ≡ false) → (is_unsent o0 ≡ false) → ((h : ℕ) → h ≢ g → is_unsettled (c.outcome h) ≡ false → new h ≡ c.outcome h) → ((h : ℕ) → h ≢ g → is_unsettled (c.outcome h) ≡ true → is_unsettled (new h) ≡ false → is_unsent (new h) ≡ true × c.sent h ≡ false) → ((p : ℕ) → p ≢ g → user_at c p ≡ Some p → fu (create_at c p) (c.slot_of p) ≡ c.full (create_at c p) (c.slot_of p)) → ((j n : ℕ) (x : Sent) → slice_get (conns j).up n ≡ Some x → x.token ≡ ForOp g → locking (c.op g) ≡ true → firm o0 ≡ true → s.present x.message.session ≡ true → fu (create_at c g) (c.slot_of g) ≡ false) → FullDead c conns s → Users c conns s → FullDead (record c { outcome = new; outstanding_on = put c.outstanding_on g None; settled_by = by0; order = order0; closed_ok = sh; full = fu }) conns s
+settle_full_dead : (c : Client) (conns : ℕ → Conn) (s : Server) (a : ℕ → ℕ) (k g : ℕ) (o0 : Outcome) (new : ℕ → Outcome) (sh : ℕ → Bool) (fu : ℕ → ℕ → Bool) (by0 : ℕ → Option ℕ) (order0 : List ℕ) → (c.outstanding_on g ≡ Some k) → (new g ≡ o0) → (is_unsettled o0 ≡ false) → (is_unsent o0 ≡ false) → ((h : ℕ) → h ≢ g → is_unsettled (c.outcome h) ≡ false → new h ≡ c.outcome h) → ((h : ℕ) → h ≢ g → is_unsettled (c.outcome h) ≡ true → is_unsettled (new h) ≡ false → is_unsent (new h) ≡ true × c.sent h ≡ false) → ((p : ℕ) → p ≢ g → user_at c p ≡ Some p → fu (create_at c p) (c.slot_of p) ≡ c.full (create_at c p) (c.slot_of p)) → ((j n : ℕ) (x : Sent) → slice_get (conns j).up n ≡ Some x → x.token ≡ ForOp g → locking (c.op g) ≡ true → firm o0 ≡ true → s.present x.message.session_id ≡ true → fu (create_at c g) (c.slot_of g) ≡ false) → FullDead c conns s → Users c conns s → FullDead (record c { outcome = new; outstanding_on = put c.outstanding_on g None; settled_by = by0; order = order0; closed_ok = sh; full = fu }) conns s
 settle_full_dead c conns s a k g o0 new sh fu by0 order0 on own settled0 real same gives full_same dead i_full_dead i_users =
     λ j n p x h t l. let old = i_full_dead j n p x h t l in let dd = dead j n x in let us = i_users j n p x h t l in let fs = full_same p in let wf = was_firm c g new p (same p) (gives p) in grind arith
 
@@ -87,11 +87,11 @@ settle_closed_not : (c : Client) (conns : ℕ → Conn) (s : Server) (a : ℕ �
 settle_closed_not c conns s a k g o0 new sh fu by0 order0 on own settled0 real same i_closed_not =
     λ p. let old = i_closed_not p in let sm = same p in grind arith
 
-settle_left_full : (c : Client) (conns : ℕ → Conn) (s : Server) (a : ℕ → ℕ) (k g : ℕ) (o0 : Outcome) (new : ℕ → Outcome) (sh : ℕ → Bool) (fu : ℕ → ℕ → Bool) (by0 : ℕ → Option ℕ) (order0 : List ℕ) → (c.outstanding_on g ≡ Some k) → (new g ≡ o0) → (is_unsettled o0 ≡ false) → (is_unsent o0 ≡ false) → ((h : ℕ) → h ≢ g → is_unsettled (c.outcome h) ≡ false → new h ≡ c.outcome h) → ((h : ℕ) → h ≢ g → is_unsettled (c.outcome h) ≡ true → is_unsettled (new h) ≡ false → is_unsent (new h) ≡ true × c.sent h ≡ false) → ((j n : ℕ) (x : Sent) → slice_get (conns j).up n ≡ Some x → x.token ≡ ForOp g → shuts_open (c.op g) ≡ true → is_ok o0 ≡ false → s.present x.message.session ≡ true → s.standing (open_at c g) ≡ true → (s.opened (open_at c g)).persistent ≡ true → lower_limit < s.journal + 66) → Bodies c conns → LeftFull c conns s → LeftFull (record c { outcome = new; outstanding_on = put c.outstanding_on g None; settled_by = by0; order = order0; closed_ok = sh; full = fu }) conns s
+settle_left_full : (c : Client) (conns : ℕ → Conn) (s : Server) (a : ℕ → ℕ) (k g : ℕ) (o0 : Outcome) (new : ℕ → Outcome) (sh : ℕ → Bool) (fu : ℕ → ℕ → Bool) (by0 : ℕ → Option ℕ) (order0 : List ℕ) → (c.outstanding_on g ≡ Some k) → (new g ≡ o0) → (is_unsettled o0 ≡ false) → (is_unsent o0 ≡ false) → ((h : ℕ) → h ≢ g → is_unsettled (c.outcome h) ≡ false → new h ≡ c.outcome h) → ((h : ℕ) → h ≢ g → is_unsettled (c.outcome h) ≡ true → is_unsettled (new h) ≡ false → is_unsent (new h) ≡ true × c.sent h ≡ false) → ((j n : ℕ) (x : Sent) → slice_get (conns j).up n ≡ Some x → x.token ≡ ForOp g → shuts_open (c.op g) ≡ true → is_ok o0 ≡ false → s.present x.message.session_id ≡ true → s.standing (open_at c g) ≡ true → (s.opened (open_at c g)).persistent ≡ true → lower_limit < s.journal + 66) → Bodies c conns → LeftFull c conns s → LeftFull (record c { outcome = new; outstanding_on = put c.outstanding_on g None; settled_by = by0; order = order0; closed_ok = sh; full = fu }) conns s
 settle_left_full c conns s a k g o0 new sh fu by0 order0 on own settled0 real same gives full C_bodies i_left_full =
     λ j n p x h t. let old = i_left_full j n p x h t in let b = C_bodies j n p x h t in let nd = full j n x in let sm = same p in let gv = gives p in grind arith
 
-settle_left_stuck : (c : Client) (conns : ℕ → Conn) (s : Server) (a : ℕ → ℕ) (k g : ℕ) (o0 : Outcome) (new : ℕ → Outcome) (sh : ℕ → Bool) (fu : ℕ → ℕ → Bool) (by0 : ℕ → Option ℕ) (order0 : List ℕ) → (c.outstanding_on g ≡ Some k) → (new g ≡ o0) → (is_unsettled o0 ≡ false) → (is_unsent o0 ≡ false) → ((h : ℕ) → h ≢ g → is_unsettled (c.outcome h) ≡ false → new h ≡ c.outcome h) → ((h : ℕ) → h ≢ g → is_unsettled (c.outcome h) ≡ true → is_unsettled (new h) ≡ false → is_unsent (new h) ≡ true × c.sent h ≡ false) → ((j n : ℕ) (x : Sent) → slice_get (conns j).up n ≡ Some x → x.token ≡ ForOp g → shuts_open (c.op g) ≡ true → is_ok o0 ≡ false → s.present x.message.session ≡ true → s.standing (open_at c g) ≡ true → (s.opened (open_at c g)).persistent ≡ false → lower_limit < s.journal + 34 × goes_with s (open_at c g) ≡ true) → Bodies c conns → LeftStuck c conns s → LeftStuck (record c { outcome = new; outstanding_on = put c.outstanding_on g None; settled_by = by0; order = order0; closed_ok = sh; full = fu }) conns s
+settle_left_stuck : (c : Client) (conns : ℕ → Conn) (s : Server) (a : ℕ → ℕ) (k g : ℕ) (o0 : Outcome) (new : ℕ → Outcome) (sh : ℕ → Bool) (fu : ℕ → ℕ → Bool) (by0 : ℕ → Option ℕ) (order0 : List ℕ) → (c.outstanding_on g ≡ Some k) → (new g ≡ o0) → (is_unsettled o0 ≡ false) → (is_unsent o0 ≡ false) → ((h : ℕ) → h ≢ g → is_unsettled (c.outcome h) ≡ false → new h ≡ c.outcome h) → ((h : ℕ) → h ≢ g → is_unsettled (c.outcome h) ≡ true → is_unsettled (new h) ≡ false → is_unsent (new h) ≡ true × c.sent h ≡ false) → ((j n : ℕ) (x : Sent) → slice_get (conns j).up n ≡ Some x → x.token ≡ ForOp g → shuts_open (c.op g) ≡ true → is_ok o0 ≡ false → s.present x.message.session_id ≡ true → s.standing (open_at c g) ≡ true → (s.opened (open_at c g)).persistent ≡ false → lower_limit < s.journal + 34 × goes_with s (open_at c g) ≡ true) → Bodies c conns → LeftStuck c conns s → LeftStuck (record c { outcome = new; outstanding_on = put c.outstanding_on g None; settled_by = by0; order = order0; closed_ok = sh; full = fu }) conns s
 settle_left_stuck c conns s a k g o0 new sh fu by0 order0 on own settled0 real same gives stuck C_bodies i_left_stuck =
     λ j n p x h t. let old = i_left_stuck j n p x h t in let b = C_bodies j n p x h t in let nd = stuck j n x in let sm = same p in let gv = gives p in grind arith
 
@@ -107,7 +107,7 @@ settle_refused_not : (c : Client) (conns : ℕ → Conn) (s : Server) (a : ℕ �
 settle_refused_not c conns s a k g o0 new sh fu by0 order0 on own settled0 real same gives unacted C_fresh i_refused_not =
     λ p. let old = i_refused_not p in let ac = unacted in let fr = C_fresh p in let ur = unsettled_refused (new p) in let sm = same p in let gv = gives p in grind arith
 
-pub settle_keeps : (c : Client) (conns : ℕ → Conn) (s : Server) (a : ℕ → ℕ) (k g : ℕ) (o0 : Outcome) (new : ℕ → Outcome) (sh : ℕ → Bool) (fu : ℕ → ℕ → Bool) (by0 : ℕ → Option ℕ) (order0 : List ℕ) → (c.outstanding_on g ≡ Some k) → (new g ≡ o0) → (is_unsettled o0 ≡ false) → (is_unsent o0 ≡ false) → ((h : ℕ) → h ≢ g → is_unsettled (c.outcome h) ≡ false → new h ≡ c.outcome h) → ((h : ℕ) → h ≢ g → is_unsettled (c.outcome h) ≡ true → is_unsettled (new h) ≡ false → is_unsent (new h) ≡ true × c.sent h ≡ false) → ((p : ℕ) → 0 < p → p ≤ c.taken → makes_open (c.op p) ≡ false → sh (create_at c p) ≡ true → c.sent p ≡ false → is_unsettled (new p) ≡ false) → ((h : ℕ) → shuts_open (c.op h) ≡ true → is_ok (new h) ≡ true → sh (create_at c h) ≡ true) → ((q : ℕ) → sh q ≡ true → is_ok (new q) ≡ true × q ≤ c.taken) → ((p : ℕ) → p ≢ g → user_at c p ≡ Some p → fu (create_at c p) (c.slot_of p) ≡ c.full (create_at c p) (c.slot_of p)) → (firm o0 ≡ true → user_at c g ≡ Some g → fu (create_at c g) (c.slot_of g) ≡ false → s.standing (open_at c g) ≡ true → is_some (kept_of c s g) ≡ true) → ((r : ℕ) → is_ok o0 ≡ true → makes_open (c.op g) ≡ true → s.standing (c.file g) ≡ true → s.lock_sequences (c.file g) r ≡ None) → (makes_open (c.op g) ≡ true → is_ok o0 ≡ true → c.live ≡ true → s.present c.session ≡ true → s.standing (c.file g) ≡ true → s.session_of_open (c.file g) ≡ Some c.session) → ((j n : ℕ) (x : Sent) → slice_get (conns j).up n ≡ Some x → x.token ≡ ForOp g → locking (c.op g) ≡ true → firm o0 ≡ true → s.present x.message.session ≡ true → fu (create_at c g) (c.slot_of g) ≡ false) → ((j n : ℕ) (x : Sent) → slice_get (conns j).up n ≡ Some x → x.token ≡ ForOp g → shuts_open (c.op g) ≡ true → is_ok o0 ≡ false → s.present x.message.session ≡ true → s.standing (open_at c g) ≡ true → (s.opened (open_at c g)).persistent ≡ true → lower_limit < s.journal + 66) → ((j n : ℕ) (x : Sent) → slice_get (conns j).up n ≡ Some x → x.token ≡ ForOp g → shuts_open (c.op g) ≡ true → is_ok o0 ≡ false → s.present x.message.session ≡ true → s.standing (open_at c g) ≡ true → (s.opened (open_at c g)).persistent ≡ false → lower_limit < s.journal + 34 × goes_with s (open_at c g) ≡ true) → (locking (c.op g) ≡ true → is_ok o0 ≡ true → a g ≡ 1) → (locking (c.op g) ≡ true → refused_for_good o0 ≡ true → a g ≡ 0) → Connections c conns a → Locks c conns s a → Locks (record c { outcome = new; outstanding_on = put c.outstanding_on g None; settled_by = by0; order = order0; closed_ok = sh; full = fu }) conns s a
+pub settle_keeps : (c : Client) (conns : ℕ → Conn) (s : Server) (a : ℕ → ℕ) (k g : ℕ) (o0 : Outcome) (new : ℕ → Outcome) (sh : ℕ → Bool) (fu : ℕ → ℕ → Bool) (by0 : ℕ → Option ℕ) (order0 : List ℕ) → (c.outstanding_on g ≡ Some k) → (new g ≡ o0) → (is_unsettled o0 ≡ false) → (is_unsent o0 ≡ false) → ((h : ℕ) → h ≢ g → is_unsettled (c.outcome h) ≡ false → new h ≡ c.outcome h) → ((h : ℕ) → h ≢ g → is_unsettled (c.outcome h) ≡ true → is_unsettled (new h) ≡ false → is_unsent (new h) ≡ true × c.sent h ≡ false) → ((p : ℕ) → 0 < p → p ≤ c.taken → makes_open (c.op p) ≡ false → sh (create_at c p) ≡ true → c.sent p ≡ false → is_unsettled (new p) ≡ false) → ((h : ℕ) → shuts_open (c.op h) ≡ true → is_ok (new h) ≡ true → sh (create_at c h) ≡ true) → ((q : ℕ) → sh q ≡ true → is_ok (new q) ≡ true × q ≤ c.taken) → ((p : ℕ) → p ≢ g → user_at c p ≡ Some p → fu (create_at c p) (c.slot_of p) ≡ c.full (create_at c p) (c.slot_of p)) → (firm o0 ≡ true → user_at c g ≡ Some g → fu (create_at c g) (c.slot_of g) ≡ false → s.standing (open_at c g) ≡ true → is_some (kept_of c s g) ≡ true) → ((r : ℕ) → is_ok o0 ≡ true → makes_open (c.op g) ≡ true → s.standing (c.file g) ≡ true → s.lock_sequences (c.file g) r ≡ None) → (makes_open (c.op g) ≡ true → is_ok o0 ≡ true → c.live ≡ true → s.present c.session ≡ true → s.standing (c.file g) ≡ true → s.session_of_open (c.file g) ≡ Some c.session) → ((j n : ℕ) (x : Sent) → slice_get (conns j).up n ≡ Some x → x.token ≡ ForOp g → locking (c.op g) ≡ true → firm o0 ≡ true → s.present x.message.session_id ≡ true → fu (create_at c g) (c.slot_of g) ≡ false) → ((j n : ℕ) (x : Sent) → slice_get (conns j).up n ≡ Some x → x.token ≡ ForOp g → shuts_open (c.op g) ≡ true → is_ok o0 ≡ false → s.present x.message.session_id ≡ true → s.standing (open_at c g) ≡ true → (s.opened (open_at c g)).persistent ≡ true → lower_limit < s.journal + 66) → ((j n : ℕ) (x : Sent) → slice_get (conns j).up n ≡ Some x → x.token ≡ ForOp g → shuts_open (c.op g) ≡ true → is_ok o0 ≡ false → s.present x.message.session_id ≡ true → s.standing (open_at c g) ≡ true → (s.opened (open_at c g)).persistent ≡ false → lower_limit < s.journal + 34 × goes_with s (open_at c g) ≡ true) → (locking (c.op g) ≡ true → is_ok o0 ≡ true → a g ≡ 1) → (locking (c.op g) ≡ true → refused_for_good o0 ≡ true → a g ≡ 0) → Connections c conns a → Locks c conns s a → Locks (record c { outcome = new; outstanding_on = put c.outstanding_on g None; settled_by = by0; order = order0; closed_ok = sh; full = fu }) conns s a
 settle_keeps c conns s a k g o0 new sh fu by0 order0 on own settled0 real same gives gone shuts shut_ok full_same kept made near dead full stuck acted unacted C i =
     record {
       slot_index = i.slot_index;

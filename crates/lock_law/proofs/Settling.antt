@@ -22,9 +22,9 @@ pub record OperationSettles (d : Client) (conns : ℕ → Conn) (s : Server) (a 
   pub kept : firm o ≡ true → user_at d g ≡ Some g → fu (create_at d g) (d.slot_of g) ≡ false → s.standing (open_at d g) ≡ true → is_some (kept_of d s g) ≡ true
   pub made : (r : ℕ) → is_ok o ≡ true → makes_open (d.op g) ≡ true → s.standing (d.file g) ≡ true → s.lock_sequences (d.file g) r ≡ None
   pub near : makes_open (d.op g) ≡ true → is_ok o ≡ true → d.live ≡ true → s.present d.session ≡ true → s.standing (d.file g) ≡ true → s.session_of_open (d.file g) ≡ Some d.session
-  pub dead : (j n : ℕ) (x : Sent) → slice_get (conns j).up n ≡ Some x → x.token ≡ ForOp g → locking (d.op g) ≡ true → firm o ≡ true → s.present x.message.session ≡ true → fu (create_at d g) (d.slot_of g) ≡ false
-  pub full : (j n : ℕ) (x : Sent) → slice_get (conns j).up n ≡ Some x → x.token ≡ ForOp g → shuts_open (d.op g) ≡ true → is_ok o ≡ false → s.present x.message.session ≡ true → s.standing (open_at d g) ≡ true → (s.opened (open_at d g)).persistent ≡ true → lower_limit < s.journal + 66
-  pub stuck : (j n : ℕ) (x : Sent) → slice_get (conns j).up n ≡ Some x → x.token ≡ ForOp g → shuts_open (d.op g) ≡ true → is_ok o ≡ false → s.present x.message.session ≡ true → s.standing (open_at d g) ≡ true → (s.opened (open_at d g)).persistent ≡ false → lower_limit < s.journal + 34 × goes_with s (open_at d g) ≡ true
+  pub dead : (j n : ℕ) (x : Sent) → slice_get (conns j).up n ≡ Some x → x.token ≡ ForOp g → locking (d.op g) ≡ true → firm o ≡ true → s.present x.message.session_id ≡ true → fu (create_at d g) (d.slot_of g) ≡ false
+  pub full : (j n : ℕ) (x : Sent) → slice_get (conns j).up n ≡ Some x → x.token ≡ ForOp g → shuts_open (d.op g) ≡ true → is_ok o ≡ false → s.present x.message.session_id ≡ true → s.standing (open_at d g) ≡ true → (s.opened (open_at d g)).persistent ≡ true → lower_limit < s.journal + 66
+  pub stuck : (j n : ℕ) (x : Sent) → slice_get (conns j).up n ≡ Some x → x.token ≡ ForOp g → shuts_open (d.op g) ≡ true → is_ok o ≡ false → s.present x.message.session_id ≡ true → s.standing (open_at d g) ≡ true → (s.opened (open_at d g)).persistent ≡ false → lower_limit < s.journal + 34 × goes_with s (open_at d g) ≡ true
   pub acted : locking (d.op g) ≡ true → is_ok o ≡ true → a g ≡ 1
   pub unacted : locking (d.op g) ≡ true → refused_for_good o ≡ true → a g ≡ 0
 

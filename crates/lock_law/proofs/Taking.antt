@@ -61,7 +61,7 @@ none_waits c conns s a k g asking y w bf j n x h t =
     some_same : (j k : ℕ) → Some j ≡ Some k → j ≡ k
     some_same j k e = grind arith
 
-asks_none : (c : Client) (conns : ℕ → Conn) (s : Server) (a : ℕ → ℕ) (k g : ℕ) (y : Received) → Taken c conns s a k g true y → makes_open (c.op g) ≡ false → (j n : ℕ) (x : Sent) → slice_get (conns j).up n ≡ Some x → x.token ≡ ForOp g → s.present x.message.session ≡ true → true ≡ false
+asks_none : (c : Client) (conns : ℕ → Conn) (s : Server) (a : ℕ → ℕ) (k g : ℕ) (y : Received) → Taken c conns s a k g true y → makes_open (c.op g) ≡ false → (j n : ℕ) (x : Sent) → slice_get (conns j).up n ≡ Some x → x.token ≡ ForOp g → s.present x.message.session_id ≡ true → true ≡ false
 asks_none c conns s a k g y w kind j n x h t p = sym w.asks ∙ (w.locks.copy_now j n g x h t kind p w.live).1
 
 -- ---- the full disk
@@ -156,7 +156,7 @@ plain_told c conns s a k g asking y o w tells settled0 unmade =
         by_how (inl ok) = let t = tells.ok ok (lock_unclosed (c.op g) ub) in w.said.of_kept_reply g (w.own t.0).0 ub (differ2 y.reply.status t.1) (differ y.reply.status t.1) st
         by_how (inr rf) = refused_own asking refl ub rf st fu
 
-    dead : (j n : ℕ) (x : Sent) → slice_get (conns j).up n ≡ Some x → x.token ≡ ForOp g → locking (c.op g) ≡ true → firm o ≡ true → s.present x.message.session ≡ true → filled c g asking y.reply.status (create_at c g) (c.slot_of g) ≡ false
+    dead : (j n : ℕ) (x : Sent) → slice_get (conns j).up n ≡ Some x → x.token ≡ ForOp g → locking (c.op g) ≡ true → firm o ≡ true → s.present x.message.session_id ≡ true → filled c g asking y.reply.status (create_at c g) (c.slot_of g) ≡ false
     dead j n x h t l f p = by_before (c.unanswered g) refl (firm_how o f)
       where
         sent : c.sent g ≡ true
@@ -170,7 +170,7 @@ plain_told c conns s a k g asking y o w tells settled0 unmade =
         by_before true e (inl ok) = free (differ y.reply.status (tells.ok ok (lock_unclosed (c.op g) l)).1)
         by_before true e (inr rf) = free (tells.refused_all rf e l).1
 
-    closing : (j n : ℕ) (x : Sent) {P : Type 0} → slice_get (conns j).up n ≡ Some x → x.token ≡ ForOp g → shuts_open (c.op g) ≡ true → is_ok o ≡ false → s.present x.message.session ≡ true → (y.token ≡ ForOp g → y.reply.status ≢ user_session_deleted → y.reply.status ≢ file_closed → P) → P
+    closing : (j n : ℕ) (x : Sent) {P : Type 0} → slice_get (conns j).up n ≡ Some x → x.token ≡ ForOp g → shuts_open (c.op g) ≡ true → is_ok o ≡ false → s.present x.message.session_id ≡ true → (y.token ≡ ForOp g → y.reply.status ≢ user_session_deleted → y.reply.status ≢ file_closed → P) → P
     closing j n x {P} h t sh no1 p f = by_both asking refl (c.unanswered g) refl w
       where
         by_both : (b : Bool) → asking ≡ b → (q : Bool) → c.unanswered g ≡ q → Taken c conns s a k g asking y → P

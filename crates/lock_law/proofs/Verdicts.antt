@@ -26,7 +26,7 @@ QuietBy t m u = Quiet (news t m) (closes_in m.command) (view t) (view u)
 attach_quiet : (t : Server) (m : Message) (o : ℕ) → QuietBy t m (attached t m o)
 attach_quiet t m o =
     either (λ u. QuietBy t m u) (is_some (t.session_of_open o)) _ _ (λ _. stays (news t m) (closes_in m.command) (view t))
-    (λ e. attaches (news t m) (closes_in m.command) (view t) o m.session (none_of (t.session_of_open o) e))
+    (λ e. attaches (news t m) (closes_in m.command) (view t) o m.session_id (none_of (t.session_of_open o) e))
 
 above : (epoch given : ℕ) → id_of epoch given < id_of epoch (given + 1)
 above epoch given = omega arith
@@ -34,17 +34,17 @@ above epoch given = omega arith
 made_quiet : (t : Server) (m : Message) (r : CreateRequest) (found : Option ℕ) (action now : ℕ) → QuietBy t m (make_open t m r found action now)
 made_quiet t m r found action now =
     subst (λ z. Quiet (news t m) (closes_in m.command) (view t) z) (sym (make_view t m r found action now))
-    (makes (news t m) (closes_in m.command) (view t) (next_open t) m.session (open_row t m r (new_file t found) action) (with_guid t.by_guid m.client (guid_of r.durable) (Some (next_open t)))
-    (above t.epoch t.open_ids_given) (newly_named t.by_guid m.client (next_open t) (guid_of r.durable)))
+    (makes (news t m) (closes_in m.command) (view t) (next_open t) m.session_id (open_row t m r (new_file t found) action) (with_guid t.by_guid m.client_guid (guid_of r.durable) (Some (next_open t)))
+    (above t.epoch t.open_ids_given) (newly_named t.by_guid m.client_guid (next_open t) (guid_of r.durable)))
 
 closes_it : (c : Command) (o : ℕ) (query : Bool) (p : ℕ) → c ≡ Close o query → closes_in c p ≡ false → p ≢ o
 unfolding closes_in
 closes_it c o query p e h = λ same. let t : closes_in (Close o query) p ≡ false = subst (λ z. closes_in z p ≡ false) e h in absurd (grind arith)
 
-shut_quiet : (t : Server) (m : Message) (o : ℕ) (query : Bool) → m.command ≡ Close o query → QuietBy t m (keep_closed (leave_open t o) m.session (t.opened o).guid)
+shut_quiet : (t : Server) (m : Message) (o : ℕ) (query : Bool) → m.command ≡ Close o query → QuietBy t m (keep_closed (leave_open t o) m.session_id (t.opened o).create_guid)
 shut_quiet t m o query e =
-    subst (λ z. Quiet (news t m) (closes_in m.command) (view t) z) (sym (shut_view t o m.session))
-    (leaves_by (news t m) (closes_in m.command) (view t) o (without_guid t o) (λ p y c at. closes_it m.command o query p e c) (λ c g p h. still_named t.by_guid (t.opened o).client (t.opened o).guid c g p h))
+    subst (λ z. Quiet (news t m) (closes_in m.command) (view t) z) (sym (shut_view t o m.session_id))
+    (leaves_by (news t m) (closes_in m.command) (view t) o (without_guid t o) (λ p y c at. closes_it m.command o query p e c) (λ c g p h. still_named t.by_guid (t.opened o).client_guid (t.opened o).create_guid c g p h))
 
 -- a session begins, and the one before it ends
 begins_over : (begins closes : ℕ → Bool) (v : View) (x0 p0 : ℕ) (gone : ℕ → Bool) (by : ℕ → ℕ → Option ℕ) → begins x0 ≡ true → ((o : ℕ) → gone o ≡ true → v.session_of_open o ≡ Some p0) → ((c g o : ℕ) → by c g ≡ Some o → v.by_guid c g ≡ Some o) → ((o y : ℕ) → v.session_of_open o ≡ Some y → y ≢ x0)
@@ -73,11 +73,11 @@ is_new_of u x e = rw e (same_self x)
     same_self : (x : ℕ) → (x == x) ≡ true
     same_self x = grind arith
 
-begin_quiet : (t : Server) (m : Message) (now : ℕ) (session : ℕ) (user : List ℕ) (previous : Option ℕ) (r : SetupRequest) (is_quiet : Bool) → t.making m.connection ≡ Some (NewSession m.session) → ((o y : ℕ) → t.session_of_open o ≡ Some y → y ≢ m.session)
+begin_quiet : (t : Server) (m : Message) (now : ℕ) (session : ℕ) (user : List ℕ) (previous : Option ℕ) (r : SetupRequest) (is_quiet : Bool) → t.making m.connection ≡ Some (NewSession m.session_id) → ((o y : ℕ) → t.session_of_open o ≡ Some y → y ≢ m.session_id)
     → QuietBy t m (apply t m now (Begin session user previous r is_quiet)).server
-begin_quiet t m now session user None r is_quiet making absent = begins_one (news t m) (closes_in m.command) (view t) m.session (is_new_of (t.making m.connection) m.session making)
+begin_quiet t m now session user None r is_quiet making absent = begins_one (news t m) (closes_in m.command) (view t) m.session_id (is_new_of (t.making m.connection) m.session_id making)
 begin_quiet t m now session user (Some p) r is_quiet making absent =
-    begins_over (news t m) (closes_in m.command) (view t) m.session p (λ o. leaves t p o) (λ c g. guid_staying t p (t.by_guid c g)) (is_new_of (t.making m.connection) m.session making) (its_session t p) (λ c g o e. staying_named t p (t.by_guid c g) o e) absent
+    begins_over (news t m) (closes_in m.command) (view t) m.session_id p (λ o. leaves t p o) (λ c g. guid_staying t p (t.by_guid c g)) (is_new_of (t.making m.connection) m.session_id making) (its_session t p) (λ c g o e. staying_named t p (t.by_guid c g) o e) absent
 
 pub show_view : (s : Server) (m : Message) (o : ℕ) (last : Option (List ℕ)) → view (record (reach s m o) { enumeration_location = put s.enumeration_location o last }) ≡ view s
 show_view s m o last = either (λ u. view (record u { enumeration_location = put s.enumeration_location o last }) ≡ view s) (is_late s m o) _ _ (λ _. refl) (λ _. refl)
@@ -107,7 +107,7 @@ verdict_quiet t m now (Alter o change body) there f off = same (news t m) (close
 verdict_quiet t m now (CloseOpen o body) there f off = shut_quiet t m o f.query f.command
 verdict_quiet t m now Challenge there f off = same (news t m) (closes_in m.command) (view t) _ refl
 verdict_quiet t m now (ChallengeBinding session) there f off = same (news t m) (closes_in m.command) (view t) _ refl
-verdict_quiet t m now (Begin session user previous r is_quiet) there f off = begin_quiet t m now session user previous r is_quiet f.making (absent_of t.present t.session_of_open m.session there f.absent)
+verdict_quiet t m now (Begin session user previous r is_quiet) there f off = begin_quiet t m now session user previous r is_quiet f.making (absent_of t.present t.session_of_open m.session_id there f.absent)
 verdict_quiet t m now (Join session) there f off = same (news t m) (closes_in m.command) (view t) _ refl
 verdict_quiet t m now (EndSession session is_quiet) there f off = end_quiet (news t m) (closes_in m.command) t session now is_quiet
 verdict_quiet t m now (AddTree pipes) there f off = same (news t m) (closes_in m.command) (view t) _ refl

@@ -166,7 +166,7 @@ change_view s f now (PutPath replaced path) = refl
 change_view s f now PutNothing = refl
 
 abbrev pub without_guid : Server → ℕ → ℕ → ℕ → Option ℕ
-without_guid s o = with_guid s.by_guid (s.opened o).client (s.opened o).guid None
+without_guid s o = with_guid s.by_guid (s.opened o).client_guid (s.opened o).create_guid None
 
 drop_view : (s : Server) (o : ℕ) (b : Bool) → view (drop_open (if b then set_delete_pending s (s.opened o).file true else s) o) ≡ left_view (view s) o (without_guid s o)
 drop_view s o true = refl
@@ -183,15 +183,15 @@ closed_view : (s : Server) (x : ℕ) (q : Option ℕ) → view (keep_closed s x 
 closed_view s x None = refl
 closed_view s x (Some g) = refl
 
-pub shut_view : (s : Server) (o x : ℕ) → view (keep_closed (leave_open s o) x (s.opened o).guid) ≡ left_view (view s) o (without_guid s o)
-shut_view s o x = closed_view (leave_open s o) x (s.opened o).guid ∙ leave_view s o
+pub shut_view : (s : Server) (o x : ℕ) → view (keep_closed (leave_open s o) x (s.opened o).create_guid) ≡ left_view (view s) o (without_guid s o)
+shut_view s o x = closed_view (leave_open s o) x (s.opened o).create_guid ∙ leave_view s o
 
 expired_view : (s : Server) (client : ℕ) (q : Option ℕ) → view (add_expired_guid s client q) ≡ view s
 expired_view s client None = refl
 expired_view s client (Some g) = refl
 
 pub expire_view : (s : Server) (o : ℕ) → view (expire s o) ≡ left_view (view s) o (without_guid s o)
-expire_view s o = expired_view (leave_open s o) (s.opened o).client (s.opened o).guid ∙ leave_view s o
+expire_view s o = expired_view (leave_open s o) (s.opened o).client_guid (s.opened o).create_guid ∙ leave_view s o
 
 pub still_named : (by : ℕ → ℕ → Option ℕ) (client : ℕ) (u : Option ℕ) (c g o : ℕ) → with_guid by client u None c g ≡ Some o → by c g ≡ Some o
 still_named by client None c g o e = e
@@ -219,10 +219,10 @@ pub end_quiet : (begins closes : ℕ → Bool) (s : Server) (x now : ℕ) (quiet
 end_quiet begins closes s x now quiet = ends begins closes (view s) x (λ o. leaves s x o) (λ c g. guid_staying s x (s.by_guid c g)) (its_session s x) (λ c g o e. staying_named s x (s.by_guid c g) o e)
 
 pub make_view : (s : Server) (m : Message) (r : CreateRequest) (found : Option ℕ) (action now : ℕ)
-    → view (make_open s m r found action now) ≡ made_view (view s) (next_open s) (open_row s m r (new_file s found) action) m.session (with_guid s.by_guid m.client (guid_of r.durable) (Some (next_open s)))
+    → view (make_open s m r found action now) ≡ made_view (view s) (next_open s) (open_row s m r (new_file s found) action) m.session_id (with_guid s.by_guid m.client_guid (guid_of r.durable) (Some (next_open s)))
 make_view s m r None action now = refl
 make_view s m r (Some f) action now = by_kind (empties r.disposition) refl
   where
-    by_kind : (b : Bool) → empties r.disposition ≡ b → view (make_open s m r (Some f) action now) ≡ made_view (view s) (next_open s) (open_row s m r f action) m.session (with_guid s.by_guid m.client (guid_of r.durable) (Some (next_open s)))
+    by_kind : (b : Bool) → empties r.disposition ≡ b → view (make_open s m r (Some f) action now) ≡ made_view (view s) (next_open s) (open_row s m r f action) m.session_id (with_guid s.by_guid m.client_guid (guid_of r.durable) (Some (next_open s)))
     by_kind true e = rw e refl
     by_kind false e = rw e refl

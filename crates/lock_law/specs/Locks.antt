@@ -106,22 +106,22 @@ AskDown c conns = (k n g : ℕ) (y : Received) → slice_get (conns k).down n �
 
 -- while a copy of a lock waits whose session is there, its slot is its own
 abbrev pub Users : Client → (ℕ → Conn) → Server → Type 0
-Users c conns s = (k n g : ℕ) (x : Sent) → slice_get (conns k).up n ≡ Some x → x.token ≡ ForOp g → locking (c.op g) ≡ true → s.present x.message.session ≡ true → user_at c g ≡ Some g
+Users c conns s = (k n g : ℕ) (x : Sent) → slice_get (conns k).up n ≡ Some x → x.token ≡ ForOp g → locking (c.op g) ≡ true → s.present x.message.session_id ≡ true → user_at c g ≡ Some g
 
 -- the operation was sent with its open attached in the session, so nothing else goes out in its place
 abbrev pub CopyNow : Client → (ℕ → Conn) → Server → Type 0
-CopyNow c conns s = (k n g : ℕ) (x : Sent) → slice_get (conns k).up n ≡ Some x → x.token ≡ ForOp g → makes_open (c.op g) ≡ false → s.present x.message.session ≡ true → c.live ≡ true → c.attached (create_at c g) ≡ c.session_number × c.asks_attach g ≡ false
+CopyNow c conns s = (k n g : ℕ) (x : Sent) → slice_get (conns k).up n ≡ Some x → x.token ≡ ForOp g → makes_open (c.op g) ≡ false → s.present x.message.session_id ≡ true → c.live ≡ true → c.attached (create_at c g) ≡ c.session_number × c.asks_attach g ≡ false
 
 -- one that waits on a closed connection was retried, where it is outstanding again, or settled
 abbrev pub RetriedOn : Client → (ℕ → Conn) → Server → Type 0
-RetriedOn c conns s = (k n g : ℕ) (x : Sent) → slice_get (conns k).up n ≡ Some x → x.token ≡ ForOp g → locking (c.op g) ≡ true → s.present x.message.session ≡ true → c.live ≡ true → (conns k).client_open ≡ false → is_some (c.outstanding_on g) ≡ true → c.retried (create_at c g) (c.slot_of g) ≡ c.session_number
+RetriedOn c conns s = (k n g : ℕ) (x : Sent) → slice_get (conns k).up n ≡ Some x → x.token ≡ ForOp g → locking (c.op g) ≡ true → s.present x.message.session_id ≡ true → c.live ≡ true → (conns k).client_open ≡ false → is_some (c.outstanding_on g) ≡ true → c.retried (create_at c g) (c.slot_of g) ≡ c.session_number
 
 abbrev pub RetriedDone : Client → (ℕ → Conn) → Server → Type 0
-RetriedDone c conns s = (k n g : ℕ) (x : Sent) → slice_get (conns k).up n ≡ Some x → x.token ≡ ForOp g → locking (c.op g) ≡ true → s.present x.message.session ≡ true → c.live ≡ true → (conns k).client_open ≡ false → is_unsettled (c.outcome g) ≡ false → c.retried (create_at c g) (c.slot_of g) ≡ c.session_number
+RetriedDone c conns s = (k n g : ℕ) (x : Sent) → slice_get (conns k).up n ≡ Some x → x.token ≡ ForOp g → locking (c.op g) ≡ true → s.present x.message.session_id ≡ true → c.live ≡ true → (conns k).client_open ≡ false → is_unsettled (c.outcome g) ≡ false → c.retried (create_at c g) (c.slot_of g) ≡ c.session_number
 
 -- its open, while it stands, is attached to the copy's session
 abbrev pub CopyAttached : Client → (ℕ → Conn) → Server → Type 0
-CopyAttached c conns s = (k n g : ℕ) (x : Sent) → slice_get (conns k).up n ≡ Some x → x.token ≡ ForOp g → makes_open (c.op g) ≡ false → s.present x.message.session ≡ true → s.standing (open_at c g) ≡ true → s.session_of_open (open_at c g) ≡ Some x.message.session
+CopyAttached c conns s = (k n g : ℕ) (x : Sent) → slice_get (conns k).up n ≡ Some x → x.token ≡ ForOp g → makes_open (c.op g) ≡ false → s.present x.message.session_id ≡ true → s.standing (open_at c g) ≡ true → s.session_of_open (open_at c g) ≡ Some x.message.session_id
 
 abbrev pub NowAttached : Client → Server → Type 0
 NowAttached c s = (q : ℕ) → makes_open (c.op q) ≡ true → is_ok (c.outcome q) ≡ true → c.live ≡ true → c.attached q ≡ c.session_number → s.present c.session ≡ true → s.standing (c.file q) ≡ true → s.session_of_open (c.file q) ≡ Some c.session
@@ -161,7 +161,7 @@ NoSlots c s = (q i o : ℕ) → makes_open (c.op q) ≡ true → is_ok (c.outcom
 
 -- a slot's copies are gone where the lock settled on a full disk
 abbrev pub FullDead : Client → (ℕ → Conn) → Server → Type 0
-FullDead c conns s = (k n g : ℕ) (x : Sent) → slice_get (conns k).up n ≡ Some x → x.token ≡ ForOp g → locking (c.op g) ≡ true → s.present x.message.session ≡ true → firm (c.outcome g) ≡ true → c.full (create_at c g) (c.slot_of g) ≡ false
+FullDead c conns s = (k n g : ℕ) (x : Sent) → slice_get (conns k).up n ≡ Some x → x.token ≡ ForOp g → locking (c.op g) ≡ true → s.present x.message.session_id ≡ true → firm (c.outcome g) ≡ true → c.full (create_at c g) (c.slot_of g) ≡ false
 
 -- ---- replies that wait
 
@@ -197,14 +197,14 @@ KeptFiles s = (o : ℕ) → s.standing o ≡ true → deletes_on_close (s.opened
 
 -- a copy of a close that was given up waits: it was refused on a full disk
 abbrev pub LeftFull : Client → (ℕ → Conn) → Server → Type 0
-LeftFull c conns s = (k n h : ℕ) (x : Sent) → slice_get (conns k).up n ≡ Some x → x.token ≡ ForOp h → shuts_open (c.op h) ≡ true → s.present x.message.session ≡ true → c.live ≡ true → is_unsettled (c.outcome h) ≡ false → is_ok (c.outcome h) ≡ false → s.standing (open_at c h) ≡ true → (s.opened (open_at c h)).persistent ≡ true → lower_limit < s.journal + 66
+LeftFull c conns s = (k n h : ℕ) (x : Sent) → slice_get (conns k).up n ≡ Some x → x.token ≡ ForOp h → shuts_open (c.op h) ≡ true → s.present x.message.session_id ≡ true → c.live ≡ true → is_unsettled (c.outcome h) ≡ false → is_ok (c.outcome h) ≡ false → s.standing (open_at c h) ≡ true → (s.opened (open_at c h)).persistent ≡ true → lower_limit < s.journal + 66
 
 abbrev pub LeftStuck : Client → (ℕ → Conn) → Server → Type 0
-LeftStuck c conns s = (k n h : ℕ) (x : Sent) → slice_get (conns k).up n ≡ Some x → x.token ≡ ForOp h → shuts_open (c.op h) ≡ true → s.present x.message.session ≡ true → c.live ≡ true → is_unsettled (c.outcome h) ≡ false → is_ok (c.outcome h) ≡ false → s.standing (open_at c h) ≡ true → (s.opened (open_at c h)).persistent ≡ false → lower_limit < s.journal + 34 × goes_with s (open_at c h) ≡ true
+LeftStuck c conns s = (k n h : ℕ) (x : Sent) → slice_get (conns k).up n ≡ Some x → x.token ≡ ForOp h → shuts_open (c.op h) ≡ true → s.present x.message.session_id ≡ true → c.live ≡ true → is_unsettled (c.outcome h) ≡ false → is_ok (c.outcome h) ≡ false → s.standing (open_at c h) ≡ true → (s.opened (open_at c h)).persistent ≡ false → lower_limit < s.journal + 34 × goes_with s (open_at c h) ≡ true
 
 -- and no lock behind it has acted, where each owes a record
 abbrev pub LeftIdle : Client → (ℕ → Conn) → Server → (ℕ → ℕ) → Type 0
-LeftIdle c conns s a = (k n h g : ℕ) (x : Sent) → slice_get (conns k).up n ≡ Some x → x.token ≡ ForOp h → shuts_open (c.op h) ≡ true → s.present x.message.session ≡ true → c.live ≡ true → is_unsettled (c.outcome h) ≡ false → is_ok (c.outcome h) ≡ false → s.standing (open_at c h) ≡ true
+LeftIdle c conns s a = (k n h g : ℕ) (x : Sent) → slice_get (conns k).up n ≡ Some x → x.token ≡ ForOp h → shuts_open (c.op h) ≡ true → s.present x.message.session_id ≡ true → c.live ≡ true → is_unsettled (c.outcome h) ≡ false → is_ok (c.outcome h) ≡ false → s.standing (open_at c h) ≡ true
     → (s.opened (open_at c h)).persistent ≡ true → locking (c.op g) ≡ true → create_at c g ≡ create_at c h → h < g → a g ≡ 0
 
 abbrev pub CloseDone : Client → (ℕ → Conn) → Server → Type 0

@@ -25,15 +25,15 @@ pub record Facts (s : Server) (m : Message) (A : Answer) : Type 0 where
   pub stands : (o : ℕ) → o ≤ id_of s.epoch s.open_ids_given → A.server.standing o ≡ true → s.standing o ≡ true
   pub there : (x : ℕ) → is_new x (s.making m.connection) ≡ false → A.server.present x ≡ true → s.present x ≡ true
   pub row : (o : ℕ) → o ≤ id_of s.epoch s.open_ids_given → A.server.opened o ≡ s.opened o
-  pub session_of_open : (o x : ℕ) → A.server.session_of_open o ≡ Some x → (s.session_of_open o ≡ Some x × A.server.sequence o ≤ s.sequence o) ⊎ (A.reached ≡ Some o × x ≡ m.session × A.server.sequence o ≤ m.sequence)
-  pub reached : (o : ℕ) → A.reached ≡ Some o → o ≤ id_of A.server.epoch A.server.open_ids_given × Pair A.server m.session m.sequence o
+  pub session_of_open : (o x : ℕ) → A.server.session_of_open o ≡ Some x → (s.session_of_open o ≡ Some x × A.server.sequence o ≤ s.sequence o) ⊎ (A.reached ≡ Some o × x ≡ m.session_id × A.server.sequence o ≤ m.channel_sequence)
+  pub reached : (o : ℕ) → A.reached ≡ Some o → o ≤ id_of A.server.epoch A.server.open_ids_given × Pair A.server m.session_id m.channel_sequence o
   -- a change is of the open's own session, and no older than any pair of it
-  pub altered : (o : ℕ) → A.altered ≡ Some o → (s.present m.session ≡ true) × ((x q : ℕ) → Pair s x q o → s.present x ≡ true → (x ≡ m.session) × (q ≤ m.sequence))
+  pub altered : (o : ℕ) → A.altered ≡ Some o → (s.present m.session_id ≡ true) × ((x q : ℕ) → Pair s x q o → s.present x ≡ true → (x ≡ m.session_id) × (q ≤ m.channel_sequence))
 
 -- what the facts need of the state and the message
 pub record Given (s : Server) (m : Message) : Type 0 where
   pub low : LowSequences s
-  pub sequence : m.sequence ≤ 32767
+  pub sequence : m.channel_sequence ≤ 32767
   pub attached : (o x : ℕ) → s.session_of_open o ≡ Some x → s.present x ≡ true
   pub named : (c g o : ℕ) → s.by_guid c g ≡ Some o → o ≤ id_of s.epoch s.open_ids_given
   pub ids : (o : ℕ) → s.standing o ≡ true → o ≤ id_of s.epoch s.open_ids_given
@@ -60,25 +60,25 @@ on_open : (s : Server) (o x : ℕ) → is_of_session s o x ≡ true → s.standi
 on_open s o x e = (grind arith, grind arith)
 
 -- the message's own pair is one of the open, behind its sequence
-own_pair : (s : Server) (m : Message) (o : ℕ) → Given s m → is_of_session s o m.session ≡ true → (p : ℕ) → reaches s m o ≡ Some p → p ≤ id_of s.epoch s.open_ids_given × Pair (reach s m o) m.session m.sequence p
+own_pair : (s : Server) (m : Message) (o : ℕ) → Given s m → is_of_session s o m.session_id ≡ true → (p : ℕ) → reaches s m o ≡ Some p → p ≤ id_of s.epoch s.open_ids_given × Pair (reach s m o) m.session_id m.channel_sequence p
 own_pair s m o g on p e =
-    elim (is_late s m o) as (λ b. is_late s m o ≡ b → p ≤ id_of s.epoch s.open_ids_given × Pair (reach s m o) m.session m.sequence p) [
+    elim (is_late s m o) as (λ b. is_late s m o ≡ b → p ≤ id_of s.epoch s.open_ids_given × Pair (reach s m o) m.session_id m.channel_sequence p) [
       | true ↦ λ l. absurd (grind arith)
-      | false ↦ λ l. let h = on_open s o m.session on in let i = g.ids o h.0 in (grind arith, λ st pr. (grind arith, grind arith))
+      | false ↦ λ l. let h = on_open s o m.session_id on in let i = g.ids o h.0 in (grind arith, λ st pr. (grind arith, grind arith))
     ] refl
 
 other_id : (o n : ℕ) → o ≤ n → o ≢ n + 1
 other_id o n l e = absurd (omega (arith, l, e))
 
 -- the open whose sequence rises is the message's
-at_reached : (s : Server) (m : Message) (o : ℕ) (A : Answer) → Given s m → is_of_session s o m.session ≡ true → Still (reach s m o) A.server → A.reached ≡ reaches s m o
-    → (p x : ℕ) → A.server.session_of_open p ≡ Some x → (s.session_of_open p ≡ Some x × A.server.sequence p ≤ s.sequence p) ⊎ (A.reached ≡ Some p × x ≡ m.session × A.server.sequence p ≤ m.sequence)
+at_reached : (s : Server) (m : Message) (o : ℕ) (A : Answer) → Given s m → is_of_session s o m.session_id ≡ true → Still (reach s m o) A.server → A.reached ≡ reaches s m o
+    → (p x : ℕ) → A.server.session_of_open p ≡ Some x → (s.session_of_open p ≡ Some x × A.server.sequence p ≤ s.sequence p) ⊎ (A.reached ≡ Some p × x ≡ m.session_id × A.server.sequence p ≤ m.channel_sequence)
 at_reached s m o A g on still r p x e =
     let at : s.session_of_open p ≡ Some x = same_at (still.session_of_open p x e) in let up = still.sequence p in
-    elim (is_late s m o) as (λ b. is_late s m o ≡ b → (s.session_of_open p ≡ Some x × A.server.sequence p ≤ s.sequence p) ⊎ (A.reached ≡ Some p × x ≡ m.session × A.server.sequence p ≤ m.sequence)) [
+    elim (is_late s m o) as (λ b. is_late s m o ≡ b → (s.session_of_open p ≡ Some x × A.server.sequence p ≤ s.sequence p) ⊎ (A.reached ≡ Some p × x ≡ m.session_id × A.server.sequence p ≤ m.channel_sequence)) [
       | true ↦ λ l. inl (at, grind arith)
-      | false ↦ λ l. elim (p == o) as (λ b. p == o ≡ b → (s.session_of_open p ≡ Some x × A.server.sequence p ≤ s.sequence p) ⊎ (A.reached ≡ Some p × x ≡ m.session × A.server.sequence p ≤ m.sequence)) [
-        | true ↦ λ z. let q : p ≡ o = eqb-true p o z in let own = (on_open s o m.session on).1 in inr (grind arith, some_same x m.session (sym at ∙ (ap s.session_of_open q ∙ own)), grind arith)
+      | false ↦ λ l. elim (p == o) as (λ b. p == o ≡ b → (s.session_of_open p ≡ Some x × A.server.sequence p ≤ s.sequence p) ⊎ (A.reached ≡ Some p × x ≡ m.session_id × A.server.sequence p ≤ m.channel_sequence)) [
+        | true ↦ λ z. let q : p ≡ o = eqb-true p o z in let own = (on_open s o m.session_id on).1 in inr (grind arith, some_same x m.session_id (sym at ∙ (ap s.session_of_open q ∙ own)), grind arith)
         | false ↦ λ z. let q : p ≢ o = eqb-false p o z in inl (at, grind arith)
       ] refl
     ] refl
@@ -89,18 +89,18 @@ at_reached s m o A g on still r p x e =
     some_same : (x y : ℕ) → Some x ≡ Some y → x ≡ y
     some_same x y h = grind arith
 
-at_attached : (s : Server) (m : Message) (o p x : ℕ) (r : Option ℕ) → r ≡ attaches s o → (attached s m o).session_of_open p ≡ Some x → (s.session_of_open p ≡ Some x × (attached s m o).sequence p ≤ s.sequence p) ⊎ (r ≡ Some p × x ≡ m.session × (attached s m o).sequence p ≤ m.sequence)
+at_attached : (s : Server) (m : Message) (o p x : ℕ) (r : Option ℕ) → r ≡ attaches s o → (attached s m o).session_of_open p ≡ Some x → (s.session_of_open p ≡ Some x × (attached s m o).sequence p ≤ s.sequence p) ⊎ (r ≡ Some p × x ≡ m.session_id × (attached s m o).sequence p ≤ m.channel_sequence)
 at_attached s m o p x r a e =
-    elim (is_some (s.session_of_open o)) as (λ b. is_some (s.session_of_open o) ≡ b → (s.session_of_open p ≡ Some x × (attached s m o).sequence p ≤ s.sequence p) ⊎ (r ≡ Some p × x ≡ m.session × (attached s m o).sequence p ≤ m.sequence)) [
+    elim (is_some (s.session_of_open o)) as (λ b. is_some (s.session_of_open o) ≡ b → (s.session_of_open p ≡ Some x × (attached s m o).sequence p ≤ s.sequence p) ⊎ (r ≡ Some p × x ≡ m.session_id × (attached s m o).sequence p ≤ m.channel_sequence)) [
       | true ↦ λ l. inl (grind arith, grind arith)
-      | false ↦ λ l. elim (p == o) as (λ b. p == o ≡ b → (s.session_of_open p ≡ Some x × (attached s m o).sequence p ≤ s.sequence p) ⊎ (r ≡ Some p × x ≡ m.session × (attached s m o).sequence p ≤ m.sequence)) [
+      | false ↦ λ l. elim (p == o) as (λ b. p == o ≡ b → (s.session_of_open p ≡ Some x × (attached s m o).sequence p ≤ s.sequence p) ⊎ (r ≡ Some p × x ≡ m.session_id × (attached s m o).sequence p ≤ m.channel_sequence)) [
         | true ↦ λ z. let q : p ≡ o = eqb-true p o z in inr (grind arith, grind arith, grind arith)
         | false ↦ λ z. let q : p ≢ o = eqb-false p o z in inl (grind arith, grind arith)
       ] refl
     ] refl
 
 -- the sequence came to its open
-reached_facts : (s : Server) (m : Message) (o : ℕ) (A : Answer) → Given s m → is_of_session s o m.session ≡ true → Moves (reach s m o) A.server → Still (reach s m o) A.server → A.reached ≡ reaches s m o → A.altered ≡ None → Facts s m A
+reached_facts : (s : Server) (m : Message) (o : ℕ) (A : Answer) → Given s m → is_of_session s o m.session_id ≡ true → Moves (reach s m o) A.server → Still (reach s m o) A.server → A.reached ≡ reaches s m o → A.altered ≡ None → Facts s m A
 reached_facts s m o A g on h still r a =
     let k = moves_on s (reach s m o) A.server (reach_moves s m o g.low g.sequence) h in
     record {
@@ -111,14 +111,14 @@ reached_facts s m o A g on h still r a =
       there = λ x n h. k.there x h;
       row = λ o l. ap (λ f. f o) k.row;
       session_of_open = λ p x e. at_reached s m o A g on still r p x e;
-      reached = λ p e. let own = own_pair s m o g on p (sym r ∙ e) in (let i = own.0 in let j = same_ids s A.server k in omega (arith, i, j), h.pair m.session m.sequence p own.1);
+      reached = λ p e. let own = own_pair s m o g on p (sym r ∙ e) in (let i = own.0 in let j = same_ids s A.server k in omega (arith, i, j), h.pair m.session_id m.channel_sequence p own.1);
       altered = λ p e. absurd (let f = a in grind arith);
     }
 
-alter_facts : (s : Server) (m : Message) (o : ℕ) (A : Answer) → Given s m → is_of_session s o m.session ≡ true → is_late s m o ≡ false → Moves (reach s m o) A.server → Still (reach s m o) A.server → A.reached ≡ reaches s m o → A.altered ≡ Some o → Facts s m A
+alter_facts : (s : Server) (m : Message) (o : ℕ) (A : Answer) → Given s m → is_of_session s o m.session_id ≡ true → is_late s m o ≡ false → Moves (reach s m o) A.server → Still (reach s m o) A.server → A.reached ≡ reaches s m o → A.altered ≡ Some o → Facts s m A
 alter_facts s m o A g on late h still r a =
     let k = moves_on s (reach s m o) A.server (reach_moves s m o g.low g.sequence) h in
-    let at = on_open s o m.session on in let t = in_time s m o g.low g.sequence late in
+    let at = on_open s o m.session_id on in let t = in_time s m o g.low g.sequence late in
     record {
       pair = λ x q p n l f. k.pair x q p f;
       ids = let e = same_ids s A.server k in omega (arith, e);
@@ -127,11 +127,11 @@ alter_facts s m o A g on late h still r a =
       there = λ x n h. k.there x h;
       row = λ o l. ap (λ f. f o) k.row;
       session_of_open = λ p x e. at_reached s m o A g on still r p x e;
-      reached = λ p e. let own = own_pair s m o g on p (sym r ∙ e) in (let i = own.0 in let j = same_ids s A.server k in omega (arith, i, j), h.pair m.session m.sequence p own.1);
+      reached = λ p e. let own = own_pair s m o g on p (sym r ∙ e) in (let i = own.0 in let j = same_ids s A.server k in omega (arith, i, j), h.pair m.session_id m.channel_sequence p own.1);
       altered = λ p e. let z : p ≡ o = some_same p o (sym e ∙ a) in (
-        g.attached o m.session at.1,
+        g.attached o m.session_id at.1,
         λ x q f pr. let old = f (subst (λ p. s.standing p ≡ true) (sym z) at.0) pr in
-            (some_same x m.session (sym (subst (λ p. s.session_of_open p ≡ Some x) z old.0) ∙ at.1), let l : q ≤ s.sequence o = subst (λ p. q ≤ s.sequence p) z old.1 in omega (arith, l, t)),
+            (some_same x m.session_id (sym (subst (λ p. s.session_of_open p ≡ Some x) z old.0) ∙ at.1), let l : q ≤ s.sequence o = subst (λ p. q ≤ s.sequence p) z old.1 in omega (arith, l, t)),
       );
     }
   where
@@ -149,14 +149,14 @@ attach_facts s m o A g i h r a =
       stands = λ o l h. k.stands o h;
       there = λ x n h. k.there x h;
       row = λ o l. ap (λ f. f o) k.row;
-      session_of_open = λ p x e. subst (λ t. t.session_of_open p ≡ Some x → (s.session_of_open p ≡ Some x × t.sequence p ≤ s.sequence p) ⊎ (A.reached ≡ Some p × x ≡ m.session × t.sequence p ≤ m.sequence)) (sym h) (at_attached s m o p x A.reached r) e;
-      reached = λ p e. subst (λ t. p ≤ id_of t.epoch t.open_ids_given × Pair t m.session m.sequence p) (sym h) (own s m o p i (sym r ∙ e));
+      session_of_open = λ p x e. subst (λ t. t.session_of_open p ≡ Some x → (s.session_of_open p ≡ Some x × t.sequence p ≤ s.sequence p) ⊎ (A.reached ≡ Some p × x ≡ m.session_id × t.sequence p ≤ m.channel_sequence)) (sym h) (at_attached s m o p x A.reached r) e;
+      reached = λ p e. subst (λ t. p ≤ id_of t.epoch t.open_ids_given × Pair t m.session_id m.channel_sequence p) (sym h) (own s m o p i (sym r ∙ e));
       altered = λ p e. absurd (let f = a in grind arith);
     }
   where
-    own : (s : Server) (m : Message) (o p : ℕ) → o ≤ id_of s.epoch s.open_ids_given → attaches s o ≡ Some p → p ≤ id_of (attached s m o).epoch (attached s m o).open_ids_given × Pair (attached s m o) m.session m.sequence p
+    own : (s : Server) (m : Message) (o p : ℕ) → o ≤ id_of s.epoch s.open_ids_given → attaches s o ≡ Some p → p ≤ id_of (attached s m o).epoch (attached s m o).open_ids_given × Pair (attached s m o) m.session_id m.channel_sequence p
     own s m o p i e =
-        elim (is_some (s.session_of_open o)) as (λ b. is_some (s.session_of_open o) ≡ b → p ≤ id_of (attached s m o).epoch (attached s m o).open_ids_given × Pair (attached s m o) m.session m.sequence p) [
+        elim (is_some (s.session_of_open o)) as (λ b. is_some (s.session_of_open o) ≡ b → p ≤ id_of (attached s m o).epoch (attached s m o).open_ids_given × Pair (attached s m o) m.session_id m.channel_sequence p) [
           | true ↦ λ l. absurd (grind arith)
           | false ↦ λ l. (grind arith, λ st pr. (grind arith, grind arith))
         ] refl
@@ -172,7 +172,7 @@ make_facts s m r found action now A g h e a =
       there = λ x n f. made_there x (subst (λ t. t.present x ≡ true) h f);
       row = λ o l. ap (λ t. t.opened o) h ∙ made_row o l;
       session_of_open = λ o x f. made_at o x (subst (λ t. t.session_of_open o ≡ Some x) h f);
-      reached = λ p f. subst (λ t. p ≤ id_of t.epoch t.open_ids_given × Pair t m.session m.sequence p) (sym h) (made_own p (sym e ∙ f));
+      reached = λ p f. subst (λ t. p ≤ id_of t.epoch t.open_ids_given × Pair t m.session_id m.channel_sequence p) (sym h) (made_own p (sym e ∙ f));
       altered = λ p f. absurd (let b = a in grind arith);
     }
   where
@@ -188,22 +188,22 @@ make_facts s m r found action now A g h e a =
     made_row : (o : ℕ) → o ≤ id_of s.epoch s.open_ids_given → (make_open s m r found action now).opened o ≡ s.opened o
     made_row o l = let al = file_alike s r found now in let op = al.opened in grind arith
 
-    made_at : (o x : ℕ) → (make_open s m r found action now).session_of_open o ≡ Some x → (s.session_of_open o ≡ Some x × A.server.sequence o ≤ s.sequence o) ⊎ (A.reached ≡ Some o × x ≡ m.session × A.server.sequence o ≤ m.sequence)
+    made_at : (o x : ℕ) → (make_open s m r found action now).session_of_open o ≡ Some x → (s.session_of_open o ≡ Some x × A.server.sequence o ≤ s.sequence o) ⊎ (A.reached ≡ Some o × x ≡ m.session_id × A.server.sequence o ≤ m.channel_sequence)
     made_at o x f =
         let al = file_alike s r found now in let at = al.session_of_open in let sq = al.sequence in
-        elim (o == next_open s) as (λ b. o == next_open s ≡ b → (s.session_of_open o ≡ Some x × A.server.sequence o ≤ s.sequence o) ⊎ (A.reached ≡ Some o × x ≡ m.session × A.server.sequence o ≤ m.sequence)) [
-          | true ↦ λ z. let on : o ≡ next_open s = eqb-true o (next_open s) z in inr (e ∙ ap Some (sym on), grind arith, subst (λ t. t.sequence o ≤ m.sequence) (sym h) (grind arith))
+        elim (o == next_open s) as (λ b. o == next_open s ≡ b → (s.session_of_open o ≡ Some x × A.server.sequence o ≤ s.sequence o) ⊎ (A.reached ≡ Some o × x ≡ m.session_id × A.server.sequence o ≤ m.channel_sequence)) [
+          | true ↦ λ z. let on : o ≡ next_open s = eqb-true o (next_open s) z in inr (e ∙ ap Some (sym on), grind arith, subst (λ t. t.sequence o ≤ m.channel_sequence) (sym h) (grind arith))
           | false ↦ λ z. let on : o ≢ next_open s = eqb-false o (next_open s) z in inl (grind arith, subst (λ t. t.sequence o ≤ s.sequence o) (sym h) (grind arith))
         ] refl
 
     made_low : LowSequences (make_open s m r found action now)
     made_low = λ o. let al = file_alike s r found now in let sq = al.sequence in let old = g.low o in let l = g.sequence in grind arith
 
-    made_own : (p : ℕ) → Some (next_open s) ≡ Some p → p ≤ id_of (make_open s m r found action now).epoch (make_open s m r found action now).open_ids_given × Pair (make_open s m r found action now) m.session m.sequence p
+    made_own : (p : ℕ) → Some (next_open s) ≡ Some p → p ≤ id_of (make_open s m r found action now).epoch (make_open s m r found action now).open_ids_given × Pair (make_open s m r found action now) m.session_id m.channel_sequence p
     made_own p e = let al = file_alike s r found now in let ep = al.epoch in (grind arith, λ t q. (grind arith, grind arith))
 
 -- a new session, of which no pair is; the one that it names as its previous one ends before
-begin_facts : (s t : Server) (m : Message) (user : List ℕ) (r : SetupRequest) (A : Answer) → Given s m → Moves s t → Still s t → is_new m.session (s.making m.connection) ≡ true → A.server ≡ add_session t m user r → A.reached ≡ None → A.altered ≡ None → Facts s m A
+begin_facts : (s t : Server) (m : Message) (user : List ℕ) (r : SetupRequest) (A : Answer) → Given s m → Moves s t → Still s t → is_new m.session_id (s.making m.connection) ≡ true → A.server ≡ add_session t m user r → A.reached ≡ None → A.altered ≡ None → Facts s m A
 begin_facts s t m user r A g k still new h e a =
     record {
       pair = λ x q o n l f. subst (λ u. Pair u x q o) (sym h) (begun_pair t m user r x q o (λ z. apart x z n) (k.pair x q o f));
@@ -217,14 +217,14 @@ begin_facts s t m user r A g k still new h e a =
       altered = λ o f. absurd (let b = a in grind arith);
     }
   where
-    apart : (x : ℕ) → x ≡ m.session → is_new x (s.making m.connection) ≡ false → ⊥
+    apart : (x : ℕ) → x ≡ m.session_id → is_new x (s.making m.connection) ≡ false → ⊥
     apart x z n = absurd (let w = subst (λ y. is_new y (s.making m.connection) ≡ false) z n in grind arith)
 
-    other_there : (x : ℕ) → is_new x (s.making m.connection) ≡ false → put t.present m.session true x ≡ true → t.present x ≡ true
+    other_there : (x : ℕ) → is_new x (s.making m.connection) ≡ false → put t.present m.session_id true x ≡ true → t.present x ≡ true
     other_there x n e =
-        elim (x == m.session) as (λ b. x == m.session ≡ b → t.present x ≡ true) [
-          | true ↦ λ z. absurd (apart x (eqb-true x m.session z) n)
-          | false ↦ λ z. let ne : x ≢ m.session = eqb-false x m.session z in grind arith
+        elim (x == m.session_id) as (λ b. x == m.session_id ≡ b → t.present x ≡ true) [
+          | true ↦ λ z. absurd (apart x (eqb-true x m.session_id z) n)
+          | false ↦ λ z. let ne : x ≢ m.session_id = eqb-false x m.session_id z in grind arith
         ] refl
 
 alike_facts : (s : Server) (m : Message) (A : Answer) → Given s m → Alike s A.server → A.reached ≡ None → A.altered ≡ None → Facts s m A
@@ -246,9 +246,9 @@ making_moves s t st pr at sq ep gi op m A g h r a =
     }
 
 -- an open leaves, with the sequence that reached it
-shut_facts : (s : Server) (m : Message) (o : ℕ) (A : Answer) → Given s m → is_of_session s o m.session ≡ true → A.server ≡ keep_closed (leave_open s o) m.session (s.opened o).guid → A.reached ≡ reaches s m o → A.altered ≡ None → Facts s m A
+shut_facts : (s : Server) (m : Message) (o : ℕ) (A : Answer) → Given s m → is_of_session s o m.session_id ≡ true → A.server ≡ keep_closed (leave_open s o) m.session_id (s.opened o).create_guid → A.reached ≡ reaches s m o → A.altered ≡ None → Facts s m A
 shut_facts s m o A g on h r a =
-    let k : Moves s A.server = subst (λ t. Moves s t) (sym h) (shut_moves s o m.session (s.opened o).guid) in
+    let k : Moves s A.server = subst (λ t. Moves s t) (sym h) (shut_moves s o m.session_id (s.opened o).create_guid) in
     record {
       pair = λ x q p n l f. k.pair x q p f;
       ids = let e = same_ids s A.server k in omega (arith, e);
@@ -256,9 +256,9 @@ shut_facts s m o A g on h r a =
       stands = λ o l h. k.stands o h;
       there = λ x n h. k.there x h;
       row = λ o l. ap (λ f. f o) k.row;
-      session_of_open = λ p x e. let still = still_shut s o m.session (s.opened o).guid in inl (subst (λ t. t.session_of_open p ≡ Some x → s.session_of_open p ≡ Some x) (sym h) (still.session_of_open p x) e, subst (λ t. t.sequence p ≤ s.sequence p) (sym h) (still.sequence p));
+      session_of_open = λ p x e. let still = still_shut s o m.session_id (s.opened o).create_guid in inl (subst (λ t. t.session_of_open p ≡ Some x → s.session_of_open p ≡ Some x) (sym h) (still.session_of_open p x) e, subst (λ t. t.sequence p ≤ s.sequence p) (sym h) (still.sequence p));
       reached = λ p e. let own = own_pair s m o g on p (sym r ∙ e) in let i = own.0 in let j = same_ids s A.server k in
-          (omega (arith, i, j), λ st pr. absurd (let z = its_open p (sym r ∙ e) in let f = shut_left s o m.session (s.opened o).guid in let w = ap (λ t. t.standing o) h in grind arith));
+          (omega (arith, i, j), λ st pr. absurd (let z = its_open p (sym r ∙ e) in let f = shut_left s o m.session_id (s.opened o).create_guid in let w = ap (λ t. t.standing o) h in grind arith));
       altered = λ p e. absurd (let f = a in grind arith);
     }
   where
@@ -269,7 +269,7 @@ pub verdict_facts : (s : Server) (m : Message) (now : ℕ) → Given s m → (v 
 verdict_facts s m now g (Refuse status) h = alike_facts s m _ g (same s) refl refl
 verdict_facts s m now g (Give body) h = alike_facts s m _ g (same s) refl refl
 verdict_facts s m now g (KeepRefusal guid status) h = alike_facts s m _ g (record { standing = refl; present = refl; session_of_open = refl; sequence = refl; epoch = refl; open_ids_given = refl; making = refl; by_guid = refl; opened = refl }) refl refl
-verdict_facts s m now g (Repeat o r) h = attach_facts s m o _ g (g.named m.client h.is.0 o h.is.1) refl refl refl
+verdict_facts s m now g (Repeat o r) h = attach_facts s m o _ g (g.named m.client_guid h.is.0 o h.is.1) refl refl refl
 verdict_facts s m now g (Attach o r) h = attach_facts s m o _ g (g.ids o h.is) refl refl refl
 verdict_facts s m now g (Make r found action) h = make_facts s m r found action now _ g refl refl refl
 verdict_facts s m now g (TurnDown o status) h = reached_facts s m o _ g h.is (moves_alike _ _ (same (reach s m o))) (still_same (reach s m o)) refl refl
@@ -327,7 +327,7 @@ leave_on s p o h =
 pub earlier : (s : Server) (now : ℕ) (t : Server) → Before s now t → Earlier s t
 earlier s now t (inl e) = subst (Earlier s) (sym e) (record { moves = deadlines_moves s now; still = still_deadlines s now; present = refl; session_of_open = λ o x h. h; content = refl; sequence = refl; at_on = λ o h. refl })
 earlier s now t (inr (o, due, e)) =
-    let d = with_deadlines s now in let l = leave_open d o in let m = expired_alike l (d.opened o).client (d.opened o).guid in
+    let d = with_deadlines s now in let l = leave_open d o in let m = expired_alike l (d.opened o).client_guid (d.opened o).create_guid in
     subst (Earlier s) (sym e) (record {
       moves = moves_on s d (expire d o) (deadlines_moves s now) (expire_moves d o);
       still = still_on s d (expire d o) (still_deadlines s now) (still_expire d o);
@@ -361,11 +361,11 @@ facts_before s t m A k f =
       row = λ o l. f.row o (omega (arith, l, e)) ∙ ap (λ g. g o) k.moves.row;
       session_of_open = λ o x h. by_before o x (f.session_of_open o x h);
       reached = f.reached;
-      altered = λ o h. let r = f.altered o h in (ap (λ g. g m.session) (sym k.present) ∙ r.0, λ x q p pr. r.1 x q (k.moves.pair x q o p) (ap (λ g. g x) k.present ∙ pr));
+      altered = λ o h. let r = f.altered o h in (ap (λ g. g m.session_id) (sym k.present) ∙ r.0, λ x q p pr. r.1 x q (k.moves.pair x q o p) (ap (λ g. g x) k.present ∙ pr));
     }
   where
-    by_before : (o x : ℕ) → (t.session_of_open o ≡ Some x × A.server.sequence o ≤ t.sequence o) ⊎ (A.reached ≡ Some o × x ≡ m.session × A.server.sequence o ≤ m.sequence)
-        → (s.session_of_open o ≡ Some x × A.server.sequence o ≤ s.sequence o) ⊎ (A.reached ≡ Some o × x ≡ m.session × A.server.sequence o ≤ m.sequence)
+    by_before : (o x : ℕ) → (t.session_of_open o ≡ Some x × A.server.sequence o ≤ t.sequence o) ⊎ (A.reached ≡ Some o × x ≡ m.session_id × A.server.sequence o ≤ m.channel_sequence)
+        → (s.session_of_open o ≡ Some x × A.server.sequence o ≤ s.sequence o) ⊎ (A.reached ≡ Some o × x ≡ m.session_id × A.server.sequence o ≤ m.channel_sequence)
     by_before o x (inl h) = inl (k.still.session_of_open o x h.0, let a = h.1 in let b = k.still.sequence o in omega (arith, a, b))
     by_before o x (inr h) = inr h
 

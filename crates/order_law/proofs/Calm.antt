@@ -44,13 +44,13 @@ first_calm s (Logon user) = record { calm = refl }
 
 session_calm : (s : Server) (m : Message) (r : SetupRequest) → Calm (session_check s m r)
 session_calm s m r =
-    either Calm (m.session == 0) _ _ (λ _. either Calm (is_some (s.session_on m.connection)) _ _ (λ _. record { calm = refl }) (λ _. first_calm s r.shows))
-    (λ _. either Calm (s.present m.session) _ _ (λ _. record { calm = refl }) (λ _. either Calm (is_new m.session (s.making m.connection)) _ _ (λ _. second_calm s m r r.shows) (λ _. record { calm = refl })))
+    either Calm (m.session_id == 0) _ _ (λ _. either Calm (is_some (s.session_on m.connection)) _ _ (λ _. record { calm = refl }) (λ _. first_calm s r.shows))
+    (λ _. either Calm (s.present m.session_id) _ _ (λ _. record { calm = refl }) (λ _. either Calm (is_new m.session_id (s.making m.connection)) _ _ (λ _. second_calm s m r r.shows) (λ _. record { calm = refl })))
 
 bound_calm : (s : Server) (m : Message) (user : List ℕ) → Calm (granted_binding s m user)
 bound_calm s m user =
-    either Calm (not (same_name user (s.user m.session))) _ _ (λ _. record { calm = refl })
-    (λ _. either Calm (nat_le max_channels (count_channels s.session_on s.connections m.session)) _ _ (λ _. record { calm = refl }) (λ _. either Calm (nat_le max_numbers (s.channel_numbers_drawn m.session)) _ _ (λ _. record { calm = refl }) (λ _. record { calm = refl })))
+    either Calm (not (same_name user (s.user m.session_id))) _ _ (λ _. record { calm = refl })
+    (λ _. either Calm (nat_le max_channels (count_channels s.session_on s.connections m.session_id)) _ _ (λ _. record { calm = refl }) (λ _. either Calm (nat_le max_numbers (s.channel_numbers_drawn m.session_id)) _ _ (λ _. record { calm = refl }) (λ _. record { calm = refl })))
 
 second_binding_calm : (s : Server) (m : Message) (t : Shows) → Calm (second_binding s m t)
 second_binding_calm s m Begins = record { calm = refl }
@@ -67,18 +67,18 @@ first_binding_calm m (Logon user) = record { calm = refl }
 live_binding_calm : (s : Server) (m : Message) (r : SetupRequest) → Calm (live_binding s m r)
 live_binding_calm s m r =
     either Calm (not r.signed) _ _ (λ _. record { calm = refl })
-    (λ _. either Calm (not (m.client == s.client m.session)) _ _ (λ _. record { calm = refl }) (λ _. either Calm (not ((r.cipher == s.cipher m.session) && (r.signing == s.signing m.session))) _ _ (λ _. record { calm = refl })
+    (λ _. either Calm (not (m.client_guid == s.client m.session_id)) _ _ (λ _. record { calm = refl }) (λ _. either Calm (not ((r.cipher == s.cipher m.session_id) && (r.signing == s.signing m.session_id))) _ _ (λ _. record { calm = refl })
     (λ _. either Calm (is_some (s.session_on m.connection)) _ _ (λ _. record { calm = refl }) (λ _. either Calm (not r.verified) _ _ (λ _. record { calm = refl })
-    (λ _. either Calm (is_binding m.session (s.making m.connection)) _ _ (λ _. second_binding_calm s m r.shows) (λ _. first_binding_calm m r.shows))))))
+    (λ _. either Calm (is_binding m.session_id (s.making m.connection)) _ _ (λ _. second_binding_calm s m r.shows) (λ _. first_binding_calm m r.shows))))))
 
 binding_calm : (s : Server) (m : Message) (r : SetupRequest) → Calm (binding_check s m r)
 binding_calm s m r =
-    either Calm (s.present m.session) _ _ (λ _. live_binding_calm s m r)
-    (λ _. either Calm (not (is_new m.session (s.making m.connection))) _ _ (λ _. record { calm = refl }) (λ _. either Calm (not r.signed) _ _ (λ _. record { calm = refl }) (λ _. record { calm = refl })))
+    either Calm (s.present m.session_id) _ _ (λ _. live_binding_calm s m r)
+    (λ _. either Calm (not (is_new m.session_id (s.making m.connection))) _ _ (λ _. record { calm = refl }) (λ _. either Calm (not r.signed) _ _ (λ _. record { calm = refl }) (λ _. record { calm = refl })))
 
 tree_calm : (s : Server) (m : Message) (share : List ℕ) → Calm (tree_check s m share)
 tree_calm s m share =
-    either Calm (no_tree_left s m.session) _ _ (λ _. record { calm = refl })
+    either Calm (no_tree_left s m.session_id) _ _ (λ _. record { calm = refl })
     (λ _. either Calm (same_name share pipes_name) _ _ (λ _. record { calm = refl }) (λ _. either Calm (same_name share s.share) _ _ (λ _. record { calm = refl }) (λ _. record { calm = refl })))
 
 command_calm : (s : Server) (m : Message) (c : Command) → is_dialog c ≡ true → Calm (command_check s m c)

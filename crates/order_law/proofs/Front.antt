@@ -117,14 +117,14 @@ taking w a k x0 rest is l most i =
     f0 : slice_get (w.conns k).up 0 ≡ Some x0
     f0 = front_up (w.conns k).up x0 rest is
 
-    low_front : x0.message.sequence ≤ 32767
+    low_front : x0.message.channel_sequence ≤ 32767
     low_front = (l.ss.sequences_up k 0 x0 f0).0
 
     pf : Facts w.server x0.message (answer w x0)
     pf = facts w.server w.moment x0.message x0.message.command (given_of w.server x0.message l.fits l.low low_front)
 
-    session_there : has_session w.server x0.message ≡ true → w.server.present x0.message.session ≡ true
-    session_there z = l.fits.on_present x0.message.connection x0.message.session (at_of x0.message.session (w.server.session_on x0.message.connection) z)
+    session_there : has_session w.server x0.message ≡ true → w.server.present x0.message.session_id ≡ true
+    session_there z = l.fits.on_present x0.message.connection x0.message.session_id (at_of x0.message.session_id (w.server.session_on x0.message.connection) z)
 
     by_kind : (b : Bool) → is_ops x0.token ≡ b → (o : ℕ) → (answer w x0).reached ≡ Some o → is_ops x0.token ≡ true
     by_kind true e o r = e
@@ -157,10 +157,10 @@ pub record Said (w : World) (a : ℕ → ℕ) (k : ℕ) (x0 : Sent) (A : Answer)
       → (A.acted ≡ true × A.reached ≡ Some (id_in A.reply.body)) ⊎ (w.server.by_guid w.client.who.guid (guid_for w.client p) ≡ Some (id_in A.reply.body))
   pub create_pair : (p : ℕ) → x0.token ≡ ForOp p → makes_open (w.client.op p) ≡ true → Pair A.server w.client.session 0 (id_in A.reply.body)
   pub attach_reply : (p : ℕ) → x0.token ≡ ForAttach p → A.reply.status ≡ success → Pair A.server w.client.session 0 (file_at w.client p)
-  pub reached : (p : ℕ) → x0.token ≡ ForOp p → edits (w.client.op p) ≡ true → formed (w.client.op p) ≡ true → is_final A.reply.status ≡ true → Pair A.server w.client.session x0.message.sequence (file_at w.client p)
+  pub reached : (p : ℕ) → x0.token ≡ ForOp p → edits (w.client.op p) ≡ true → formed (w.client.op p) ≡ true → is_final A.reply.status ≡ true → Pair A.server w.client.session x0.message.channel_sequence (file_at w.client p)
   pub closed : (p : ℕ) → x0.token ≡ ForOp p → edits (w.client.op p) ≡ true → A.reply.status ≡ file_closed → A.server.standing (file_at w.client p) ≡ false
   pub refused : (p : ℕ) → x0.token ≡ ForAttach p → (A.reply.status == success) ≡ false → (A.reply.status == user_session_deleted) ≡ false → A.server.standing (file_at w.client p) ≡ false
-  pub stale : (p : ℕ) → x0.token ≡ ForOp p → edits (w.client.op p) ≡ true → A.reply.status ≡ file_not_available → x0.message.sequence < w.client.sequence
+  pub stale : (p : ℕ) → x0.token ≡ ForOp p → edits (w.client.op p) ≡ true → A.reply.status ≡ file_not_available → x0.message.channel_sequence < w.client.sequence
   pub attach_status : (p : ℕ) → x0.token ≡ ForAttach p → (A.reply.status == end_of_file) ≡ false
 
 name_self : (xs : List ℕ) → same_name xs xs ≡ true
@@ -202,7 +202,7 @@ said w a k x0 rest is opn l t i =
       create_pair = λ p tk mk. subst (λ x. Pair A.server x 0 (id_in A.reply.body)) (here (ops_of x0.token p tk)) (t.making.pair (ap creates (l.cn.bodies k 0 p x0 f0 tk).1 ∙ makes_creates (c.op p) _ _ _ _ mk));
       attach_reply = λ p tk ok. subst (λ x. Pair A.server x 0 (file_at c p)) (here (attach_of x0.token p tk)) (λ st pr. ((asked_by p tk).attached (is_test A.reply.status success ok), omega arith));
       reached = λ p tk ed fm fin. let f = t.listed p tk (lists_edit (c.op p) ed) in
-          subst (λ x. Pair A.server x x0.message.sequence (file_at c p)) (here (ops_of x0.token p tk))
+          subst (λ x. Pair A.server x x0.message.channel_sequence (file_at c p)) (here (ops_of x0.token p tk))
           (t.reached (file_at c p) (f.reached (change_edit (c.op p) ed) (ap form (l.cn.bodies k 0 p x0 f0 tk).1 ∙ formed_none (c.op p) _ _ _ _ fm) fin)).1;
       closed = λ p tk ed st. let f = (t.listed p tk (lists_edit (c.op p) ed)).closed (is_test A.reply.status file_closed st) in let cp = i.copy_pair k 0 p x0 f0 tk ed in
           not_standing (A.server.standing (file_at c p)) (λ sa. f.1 sa (cp.0 (t.steps.stands (file_at c p) cp.1 sa) (there f.0)).0);
@@ -221,20 +221,20 @@ said w a k x0 rest is opn l t i =
     f0 : slice_get (w.conns k).up 0 ≡ Some x0
     f0 = front_up (w.conns k).up x0 rest is
 
-    here : is_ops x0.token ≡ true → x0.message.session ≡ w.client.session
+    here : is_ops x0.token ≡ true → x0.message.session_id ≡ w.client.session
     here e = (l.ss.current_up k 0 x0 f0 e opn).1
 
     live_of : is_ops x0.token ≡ true → w.client.live ≡ true
     live_of e = (l.ss.current_up k 0 x0 f0 e opn).0
 
-    there : has_session w.server x0.message ≡ true → w.server.present x0.message.session ≡ true
-    there z = l.fits.on_present x0.message.connection x0.message.session (at_of x0.message.session (w.server.session_on x0.message.connection) z)
+    there : has_session w.server x0.message ≡ true → w.server.present x0.message.session_id ≡ true
+    there z = l.fits.on_present x0.message.connection x0.message.session_id (at_of x0.message.session_id (w.server.session_on x0.message.connection) z)
 
     told : (p : ℕ) → x0.token ≡ ForOp p → makes_open (w.client.op p) ≡ true → (answer w x0).reply.status ≡ success
         → ((answer w x0).acted ≡ true × (answer w x0).reached ≡ Some (id_in (answer w x0).reply.body)) ⊎ (w.server.by_guid w.client.who.guid (guid_for w.client p) ≡ Some (id_in (answer w x0).reply.body))
     told p tk mk ok =
         let b = l.cn.bodies k 0 p x0 f0 tk in let q = create_asks (w.client.op p) (guid_for w.client p) (w.client.file (create_at w.client p)) (w.client.slot_of p) (w.client.number_of p) mk in
-        let z = tells w.server w.moment x0.message (durable_of (guid_for w.client p) (persists (w.client.op p))) q.0 (b.1 ∙ q.1.0) q.1.1 q.1.2 b.3 (λ y status e. l.cr.refused_status x0.message.session y status e) in
+        let z = tells w.server w.moment x0.message (durable_of (guid_for w.client p) (persists (w.client.op p))) q.0 (b.1 ∙ q.1.0) q.1.1 q.1.2 b.3 (λ y status e. l.cr.refused_status x0.message.session_id y status e) in
         subst (λ u. ((answer w x0).acted ≡ true × (answer w x0).reached ≡ Some (id_in (answer w x0).reply.body)) ⊎ (w.server.by_guid u (guid_for w.client p) ≡ Some (id_in (answer w x0).reply.body))) b.2 (z.tells (is_test (answer w x0).reply.status success ok))
 
     ok_create : (p : ℕ) → x0.token ≡ ForAttach p → makes_open (w.client.op (create_at w.client p)) ≡ true × is_ok (w.client.outcome (create_at w.client p)) ≡ true
@@ -248,14 +248,14 @@ said w a k x0 rest is opn l t i =
         let s = i.asked_as k 0 p x0 f0 tk in let o = ok_create p tk in let r = ask_reads (w.client.op (create_at w.client p)) (guid_for w.client (create_at w.client p)) (file_at w.client p) o.0 in
         let kf = front_of (keeps_form (w.client.op (create_at w.client p))) _ (l.cr.form_acted (create_at w.client p) o.0 (l.cr.ok_acted (create_at w.client p) o.0 o.1)) in
         asked_facts w.server w.moment x0.message r.0 (record { file = file_at w.client p; guid = guid_for w.client (create_at w.client p) }) (s.1 ∙ r.1.0) r.1.1 (l.ss.from_client k 0 x0 f0).2
-        (λ z. l.ss.tree_up k 0 x0 f0 (attach_of x0.token p tk) (there z)) (λ z st. absurd (let n = l.disk x0.message.session x0.message.tree (file_at w.client p) z in grind arith))
+        (λ z. l.ss.tree_up k 0 x0 f0 (attach_of x0.token p tk) (there z)) (λ z st. absurd (let n = l.disk x0.message.session_id x0.message.tree_id (file_at w.client p) z in grind arith))
         (ap form s.1 ∙ ask_form (w.client.op (create_at w.client p)) (guid_for w.client (create_at w.client p)) (file_at w.client p) o.0 kf)
 
     refused_off : (p : ℕ) → x0.token ≡ ForAttach p → ((answer w x0).reply.status == success) ≡ false → ((answer w x0).reply.status == user_session_deleted) ≡ false → (answer w x0).server.standing (file_at w.client p) ≡ true → ⊥
     refused_off p tk bad del sa =
         let o = ok_create p tk in let fg = l.cr.file_guid (create_at w.client p) o.0 o.1 in let st = t.steps.stands (file_at w.client p) fg.0 sa in
         let us = (l.ss.open_users (file_at w.client p) st).0 in
-        own_session (w.server.session_of_open (file_at w.client p)) x0.message.session
+        own_session (w.server.session_of_open (file_at w.client p)) x0.message.session_id
         ((asked_by p tk).refused bad del sa (guid_test (guid_for w.client (create_at w.client p)) _ ((fg.1 st).1 ∙ ap Some (sym (same_guid w.client (create_at w.client p)))))
-        (λ z. subst (λ u. same_name (w.server.opened (file_at w.client p)).user u ≡ true) (us ∙ sym (l.ss.session_users x0.message.session (there z))) (name_self (w.server.opened (file_at w.client p)).user)))
+        (λ z. subst (λ u. same_name (w.server.opened (file_at w.client p)).user u ≡ true) (us ∙ sym (l.ss.session_users x0.message.session_id (there z))) (name_self (w.server.opened (file_at w.client p)).user)))
         (λ y e. let at = l.cr.attached (file_at w.client p) y e in l.ss.present_accepted y at.1 at.0 ∙ (sym (l.ss.live_accepted (live_of (attach_of x0.token p tk))).0 ∙ sym (here (attach_of x0.token p tk))))

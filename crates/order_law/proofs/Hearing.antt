@@ -137,7 +137,7 @@ pub record ReplyTaken (c : Client) (conns : ℕ → Conn) (s : Server) (t : Trac
   pub who : l.who place ≡ g
   pub since : l.since g ≤ place
   pub own : asking ≡ false → l.gave place ≡ said (ForOp g) r
-  pub present : (j n : ℕ) (x : Sent) → slice_get (conns j).up n ≡ Some x → is_ops x.token ≡ true → s.present x.message.session ≡ true → x.message.session ≡ c.session
+  pub present : (j n : ℕ) (x : Sent) → slice_get (conns j).up n ≡ Some x → is_ops x.token ≡ true → s.present x.message.session_id ≡ true → x.message.session_id ≡ c.session
   pub not_done : asking ≡ false → edits (c.op g) ≡ true → (r.status == success) ≡ false → c.unanswered g ≡ false → l.first g ≡ None
   pub create_reply : asking ≡ false → makes_open (c.op g) ≡ true → r.status ≡ success → Pair s c.session 0 (id_in r.body) × id_in r.body ≤ last_id s × t.open_of g ≡ Some (id_in r.body)
   pub reached : asking ≡ false → edits (c.op g) ≡ true → formed (c.op g) ≡ true → is_final r.status ≡ true → Pair s c.session (c.sequence_of g) (file_at c g) × file_at c g ≤ last_id s
@@ -173,8 +173,8 @@ other_conn : (f : ℕ → Conn) (j k : ℕ) → (f j).client_open ≡ false → 
 other_conn f j k e o = grind arith
 
 dead : (c : Client) (conns : ℕ → Conn) (s : Server) (t : Trace) (l : Log) (a : ℕ → ℕ) (k g : ℕ) (asking : Bool) (r : Reply) (place : ℕ) (o : Outcome) → Connections c conns a → Contents c conns s t l a → ReplyTaken c conns s t l k g asking r place
-    → heard c g asking r ≡ Settles o → (j n : ℕ) (x : Sent) → slice_get (conns j).up n ≡ Some x → x.token ≡ ForOp g → edits (c.op g) ≡ true → formed (c.op g) ≡ true → s.standing (file_at c g) ≡ true → s.present x.message.session ≡ true
-    → s.sequence (file_at c g) ≤ x.message.sequence → ⊥
+    → heard c g asking r ≡ Settles o → (j n : ℕ) (x : Sent) → slice_get (conns j).up n ≡ Some x → x.token ≡ ForOp g → edits (c.op g) ≡ true → formed (c.op g) ≡ true → s.standing (file_at c g) ≡ true → s.present x.message.session_id ≡ true
+    → s.sequence (file_at c g) ≤ x.message.channel_sequence → ⊥
 dead c conns s t l a k g asking r place o cn i d he j n x h e ed fm sd pr le = by_asking asking refl
   where
     st : (r.status == user_session_deleted) ≡ false × (asking ≡ true → (r.status == success) ≡ false) × ((r.status == success) ≡ false → goes_again c g asking r.status ≡ false)
@@ -192,10 +192,10 @@ dead c conns s t l a k g asking r place o cn i d he j n x h e ed fm sd pr le = b
             same_conn : c.outstanding_on g ≡ Some j → copies g (conns k) ≡ 0 → 1 ≤ copies g (conns j) → ⊥
             same_conn at z one = let q = d.outstanding_on in absurd (let jk : j ≡ k = grind arith in let one2 = subst (λ q. 1 ≤ copies g (conns q)) jk one in omega (arith, one2, z))
 
-    here : x.message.session ≡ c.session
+    here : x.message.session_id ≡ c.session
     here = d.present j n x h (ops_of x.token g e) pr
 
-    older : c.asks_attach g ≡ false → x.message.sequence < c.sequence_of g
+    older : c.asks_attach g ≡ false → x.message.channel_sequence < c.sequence_of g
     older own = i.older j n k g x h e ed own d.outstanding_on (other_conn conns j k shut d.stands) here
 
     by_asking : (b : Bool) → asking ≡ b → ⊥
@@ -432,7 +432,7 @@ settles c conns s t l a k g asking r place o cn i d u he =
         (λ mk ok. m.made (subst (λ p. makes_open p ≡ true) opg mk) ok)
         (λ j q x hx tk ed fm sd pr le. let ed2 : edits (c.op g) ≡ true = subst (λ p. edits p ≡ true) opg ed in
         let fl : file_at e g ≡ file_at c g = ap (λ f. f (its_create g (e.op g))) (m.file ed2) ∙ ap (λ p. c.file (its_create g p)) opg in
-        dead c conns s t l a k g asking r place o cn i d he j q x hx tk ed2 (subst (λ p. formed p ≡ true) opg fm) (subst (λ f. s.standing f ≡ true) fl sd) pr (subst (λ f. s.sequence f ≤ x.message.sequence) fl le))
+        dead c conns s t l a k g asking r place o cn i d he j q x hx tk ed2 (subst (λ p. formed p ≡ true) opg fm) (subst (λ f. s.standing f ≡ true) fl sd) pr (subst (λ f. s.sequence f ≤ x.message.channel_sequence) fl le))
         m.holds in
         either (λ e. Contents e conns s t l a) (settles_open (c.op g)) (with_no_opens (settled e g o place) (create_for c g)) (settled e g o place)
         (λ _. no_opens (settled e g o place) conns s t l a (create_for c g) (settle_connections e conns a k g place o (ap (λ f. f g) n.outstanding_on ∙ d.outstanding_on) d.none firm n.keeps).bodies h)

@@ -35,7 +35,7 @@ changed_by (PutEnd size) c = ended size c
 changed_by _ c = c
 
 abbrev pub On : Server → Message → ℕ → Type 0
-On s m o = is_of_session s o m.session ≡ true
+On s m o = is_of_session s o m.session_id ≡ true
 
 abbrev bytes_of : Server → ℕ → List ℕ
 bytes_of s o = s.content (file_of s o)
@@ -44,8 +44,8 @@ pub record Refused (s : Server) (m : Message) (op : ContentOp) (o status : ℕ) 
   pub ok : (status == success) ≡ false
   pub end : (status == end_of_file) ≡ false
   pub final : form m.command ≡ None → is_final status ≡ false
-  pub closed : (status == file_closed) ≡ true → is_of_session s o m.session ≡ false × has_session s m ≡ true
-  pub stale : (status == file_not_available) ≡ true → is_of_session s o m.session ≡ true × is_late s m o ≡ true
+  pub closed : (status == file_closed) ≡ true → is_of_session s o m.session_id ≡ false × has_session s m ≡ true
+  pub stale : (status == file_not_available) ≡ true → is_of_session s o m.session_id ≡ true × is_late s m o ≡ true
 
 pub record Turned (s : Server) (m : Message) (op : ContentOp) (o p status : ℕ) : Type 0 where
   pub its : p ≡ o
@@ -201,7 +201,7 @@ listed_read s m o at n on =
 
 -- ---- whatever comes before an open is looked at
 
-not_open : (s : Server) (m : Message) (op : ContentOp) (o : ℕ) → has_session s m ≡ true → is_of_session s o m.session ≡ false → Listed s m op o (Refuse file_closed)
+not_open : (s : Server) (m : Message) (op : ContentOp) (o : ℕ) → has_session s m ≡ true → is_of_session s o m.session_id ≡ false → Listed s m op o (Refuse file_closed)
 not_open s m op o hs off = record { is = record { ok = refl; end = refl; final = λ f. refl; closed = λ e. (off, hs); stale = λ e. absurd (cc) } }
 
 -- one of a form that isn't kept
@@ -227,9 +227,9 @@ is_asked (Ends n) = true
 is_asked Still = false
 
 listed_open : (s : Server) (m : Message) (pipes : Bool) (op : ContentOp) (o : ℕ) → has_session s m ≡ true → form m.command ≡ None → is_asked op ≡ true → Listed s m op o (tree_command s m pipes (asks op o))
-listed_open s m pipes (Writes at bytes) o hs fm a = either (Listed s m (Writes at bytes) o) (is_of_session s o m.session) _ _ (λ on. listed_write s m o at bytes fm on) (λ off. not_open s m (Writes at bytes) o hs off)
-listed_open s m pipes (Reads at n) o hs fm a = either (Listed s m (Reads at n) o) (is_of_session s o m.session) _ _ (λ on. listed_read s m o at n on) (λ off. not_open s m (Reads at n) o hs off)
-listed_open s m pipes (Ends n) o hs fm a = either (Listed s m (Ends n) o) (is_of_session s o m.session) _ _ (λ on. listed_end s m o n fm on) (λ off. not_open s m (Ends n) o hs off)
+listed_open s m pipes (Writes at bytes) o hs fm a = either (Listed s m (Writes at bytes) o) (is_of_session s o m.session_id) _ _ (λ on. listed_write s m o at bytes fm on) (λ off. not_open s m (Writes at bytes) o hs off)
+listed_open s m pipes (Reads at n) o hs fm a = either (Listed s m (Reads at n) o) (is_of_session s o m.session_id) _ _ (λ on. listed_read s m o at n on) (λ off. not_open s m (Reads at n) o hs off)
+listed_open s m pipes (Ends n) o hs fm a = either (Listed s m (Ends n) o) (is_of_session s o m.session_id) _ _ (λ on. listed_end s m o n fm on) (λ off. not_open s m (Ends n) o hs off)
 listed_open s m pipes Still o hs fm a = absurd (cc)
 
 listed_tree : (s : Server) (m : Message) (op : ContentOp) (o : ℕ) → has_session s m ≡ true → form m.command ≡ None → is_asked op ≡ true → m.command ≡ asks op o → (t : Option Bool) → is_some t ≡ true → Listed s m op o (in_tree s m t)
@@ -242,9 +242,9 @@ command_tree s m (Reads at n) o a = refl
 command_tree s m (Ends n) o a = refl
 command_tree s m Still o a = refl
 
-listed_command : (s : Server) (m : Message) (op : ContentOp) (o : ℕ) → has_session s m ≡ true → is_asked op ≡ true → m.command ≡ asks op o → is_some (tree_in (s.trees m.session) m.tree) ≡ true → (f : Option ℕ) → form m.command ≡ f → Listed s m op o (formed s m f)
+listed_command : (s : Server) (m : Message) (op : ContentOp) (o : ℕ) → has_session s m ≡ true → is_asked op ≡ true → m.command ≡ asks op o → is_some (tree_in (s.trees m.session_id) m.tree_id) ≡ true → (f : Option ℕ) → form m.command ≡ f → Listed s m op o (formed s m f)
 listed_command s m op o hs a e t (Some status) f = bad_form s m op o status f (ap form e)
-listed_command s m op o hs a e t None f = subst (λ c. Listed s m op o (command_check s m c)) (sym e) (subst (Listed s m op o) (sym (command_tree s m op o a)) (listed_tree s m op o hs f a e (tree_in (s.trees m.session) m.tree) t))
+listed_command s m op o hs a e t None f = subst (λ c. Listed s m op o (command_check s m c)) (sym e) (subst (Listed s m op o) (sym (command_tree s m op o a)) (listed_tree s m op o hs f a e (tree_in (s.trees m.session_id) m.tree_id) t))
 
 gone_session : (s : Server) (m : Message) (op : ContentOp) (o : ℕ) → Listed s m op o (Refuse user_session_deleted)
 gone_session s m op o = record { is = record { ok = refl; end = refl; final = λ f. refl; closed = λ e. absurd (cc); stale = λ e. absurd (cc) } }
@@ -258,7 +258,7 @@ no_setup Still o = refl
 session_of : (a b : Bool) → a ≡ false → (a || b) ≡ true → b ≡ true
 session_of a b e f = grind arith
 
-pub listed : (s : Server) (m : Message) (op : ContentOp) (o : ℕ) → is_asked op ≡ true → m.command ≡ asks op o → m.fault ≡ None → (has_session s m ≡ true → is_some (tree_in (s.trees m.session) m.tree) ≡ true) → Listed s m op o (check s m)
+pub listed : (s : Server) (m : Message) (op : ContentOp) (o : ℕ) → is_asked op ≡ true → m.command ≡ asks op o → m.fault ≡ None → (has_session s m ≡ true → is_some (tree_in (s.trees m.session_id) m.tree_id) ≡ true) → Listed s m op o (check s m)
 listed s m op o a e f t =
     either (Listed s m op o) (is_setup m.command || has_session s m) _ _
     (λ z. subst (λ x. Listed s m op o (owed s m x)) (sym f) (let hs = session_of (is_setup m.command) (has_session s m) (ap is_setup e ∙ no_setup op o) z in listed_command s m op o hs a e (t hs) (form m.command) refl)) (λ _. gone_session s m op o)
@@ -291,12 +291,12 @@ listed_without_room s m op o DropTree h = absurd (h.is)
 pub record AttachRefused (s : Server) (m : Message) (c : Reconnect) (status : ℕ) : Type 0 where
   pub ok : (status == success) ≡ false
   pub end : (status == end_of_file) ≡ false
-  pub gone : (status == user_session_deleted) ≡ false → form m.command ≡ None → s.standing c.file ≡ true → has_guid c.guid (s.opened c.file).guid ≡ true → (has_session s m ≡ true → same_name (s.opened c.file).user (s.user m.session) ≡ true)
-      → (is_some (s.session_of_open c.file) && not (is_at m.session (s.session_of_open c.file))) ≡ true
+  pub gone : (status == user_session_deleted) ≡ false → form m.command ≡ None → s.standing c.file ≡ true → has_guid c.guid (s.opened c.file).create_guid ≡ true → (has_session s m ≡ true → same_name (s.opened c.file).user (s.user m.session_id) ≡ true)
+      → (is_some (s.session_of_open c.file) && not (is_at m.session_id (s.session_of_open c.file))) ≡ true
 
 abbrev pub AskedBy : Server → Message → Reconnect → Verdict → Type 0
 AskedBy s m c (Refuse status) = AttachRefused s m c status
-AskedBy s m c (Attach p r) = p ≡ c.file × (is_some (s.session_of_open c.file) && not (is_at m.session (s.session_of_open c.file))) ≡ false
+AskedBy s m c (Attach p r) = p ≡ c.file × (is_some (s.session_of_open c.file) && not (is_at m.session_id (s.session_of_open c.file))) ≡ false
 AskedBy s m c _ = ⊥
 
 pub record Asked (s : Server) (m : Message) (c : Reconnect) (v : Verdict) : Type 0 where
@@ -310,9 +310,9 @@ no_test a b e f g = absurd (grind arith)
 
 asked_open : (s : Server) (m : Message) (r : CreateRequest) (c : Reconnect) → has_session s m ≡ true → Asked s m c (reconnect_check s m r c)
 asked_open s m r c hs =
-    either (Asked s m c) (not (s.standing c.file && has_guid c.guid (s.opened c.file).guid)) _ _ (λ e. record { is = record { ok = refl; end = refl; gone = λ u f st gd us. absurd (no_test (s.standing c.file) (has_guid c.guid (s.opened c.file).guid) e st gd) } })
-    (λ _. either (Asked s m c) (not (same_name (s.opened c.file).user (s.user m.session))) _ _ (λ e. record { is = record { ok = refl; end = refl; gone = λ u f st gd us. absurd (no_name (same_name (s.opened c.file).user (s.user m.session)) e (us hs)) } })
-    (λ _. either (Asked s m c) (is_some (s.session_of_open c.file) && not (is_at m.session (s.session_of_open c.file))) _ _ (λ e. record { is = record { ok = refl; end = refl; gone = λ u f st gd us. e } })
+    either (Asked s m c) (not (s.standing c.file && has_guid c.guid (s.opened c.file).create_guid)) _ _ (λ e. record { is = record { ok = refl; end = refl; gone = λ u f st gd us. absurd (no_test (s.standing c.file) (has_guid c.guid (s.opened c.file).create_guid) e st gd) } })
+    (λ _. either (Asked s m c) (not (same_name (s.opened c.file).user (s.user m.session_id))) _ _ (λ e. record { is = record { ok = refl; end = refl; gone = λ u f st gd us. absurd (no_name (same_name (s.opened c.file).user (s.user m.session_id)) e (us hs)) } })
+    (λ _. either (Asked s m c) (is_some (s.session_of_open c.file) && not (is_at m.session_id (s.session_of_open c.file))) _ _ (λ e. record { is = record { ok = refl; end = refl; gone = λ u f st gd us. e } })
     (λ e. record { is = (refl, e) })))
 
 asked_tree : (s : Server) (m : Message) (r : CreateRequest) (c : Reconnect) → has_session s m ≡ true → m.command ≡ Create r → r.reconnect ≡ Some c → (t : Option Bool) → is_some t ≡ true → (t ≡ Some true → s.standing c.file ≡ true → ⊥) → Asked s m c (in_tree s m t)
@@ -321,13 +321,13 @@ asked_tree s m r c hs e k (Some true) t d =
     subst (λ x. Asked s m c (tree_command s m true x)) (sym e) (record { is = record { ok = refl; end = refl; gone = λ u f st gd us. absurd (d refl st) } })
 asked_tree s m r c hs e k (Some false) t d = subst (λ x. Asked s m c (tree_command s m false x)) (sym e) (subst (λ x. Asked s m c (reconnect_or_create s m r x)) (sym k) (asked_open s m r c hs))
 
-asked_form : (s : Server) (m : Message) (r : CreateRequest) (c : Reconnect) → has_session s m ≡ true → m.command ≡ Create r → r.reconnect ≡ Some c → is_some (tree_in (s.trees m.session) m.tree) ≡ true → (tree_in (s.trees m.session) m.tree ≡ Some true → s.standing c.file ≡ true → ⊥)
+asked_form : (s : Server) (m : Message) (r : CreateRequest) (c : Reconnect) → has_session s m ≡ true → m.command ≡ Create r → r.reconnect ≡ Some c → is_some (tree_in (s.trees m.session_id) m.tree_id) ≡ true → (tree_in (s.trees m.session_id) m.tree_id ≡ Some true → s.standing c.file ≡ true → ⊥)
     → form m.command ≡ None → (f : Option ℕ) → form m.command ≡ f → Asked s m c (formed s m f)
 asked_form s m r c hs e k t d n (Some status) f = absurd (grind arith)
-asked_form s m r c hs e k t d n None f = subst (λ x. Asked s m c (command_check s m x)) (sym e) (asked_tree s m r c hs e k (tree_in (s.trees m.session) m.tree) t d)
+asked_form s m r c hs e k t d n None f = subst (λ x. Asked s m c (command_check s m x)) (sym e) (asked_tree s m r c hs e k (tree_in (s.trees m.session_id) m.tree_id) t d)
 
-pub asked : (s : Server) (m : Message) (r : CreateRequest) (c : Reconnect) → m.command ≡ Create r → r.reconnect ≡ Some c → m.fault ≡ None → (has_session s m ≡ true → is_some (tree_in (s.trees m.session) m.tree) ≡ true)
-    → (tree_in (s.trees m.session) m.tree ≡ Some true → s.standing c.file ≡ true → ⊥) → form m.command ≡ None → Asked s m c (check s m)
+pub asked : (s : Server) (m : Message) (r : CreateRequest) (c : Reconnect) → m.command ≡ Create r → r.reconnect ≡ Some c → m.fault ≡ None → (has_session s m ≡ true → is_some (tree_in (s.trees m.session_id) m.tree_id) ≡ true)
+    → (tree_in (s.trees m.session_id) m.tree_id ≡ Some true → s.standing c.file ≡ true → ⊥) → form m.command ≡ None → Asked s m c (check s m)
 asked s m r c e k f t d n =
     either (Asked s m c) (is_setup m.command || has_session s m) _ _
     (λ z. subst (λ x. Asked s m c (owed s m x)) (sym f) (let hs = session_of (is_setup m.command) (has_session s m) (ap is_setup e) z in asked_form s m r c hs e k (t hs) d n (form m.command) refl)) (λ _. record { is = record { ok = refl; end = refl; gone = λ u. absurd (cc) } })

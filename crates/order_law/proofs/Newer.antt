@@ -90,8 +90,8 @@ put_old f n v i l = let d : i ≢ n = omega arith in grind arith
 -- the front's message: it is an operation's where an open is reached
 record Front (w : World) (m : Message) (A : Answer) : Type 0 where
   facts : Facts w.server m A
-  ranked : (o : ℕ) → A.reached ≡ Some o → 0 < w.client.rank m.session
-  ranked_change : (o : ℕ) → A.altered ≡ Some o → 0 < w.client.rank m.session
+  ranked : (o : ℕ) → A.reached ≡ Some o → 0 < w.client.rank m.session_id
+  ranked_change : (o : ℕ) → A.altered ≡ Some o → 0 < w.client.rank m.session_id
 
 new_pair : (w : World) (x : ℕ) (k : ℕ) → MakingUnranked w.client w.server → 0 < w.client.rank x → is_new x (w.server.making k) ≡ false
 new_pair w x k u r = by_test (is_new x (w.server.making k)) refl
@@ -108,35 +108,35 @@ not_newer rx rm q s l f = elim (rm == rx) as (λ b. rm == rx ≡ b → (nat_lt r
 ] refl
 
 in_order : (w : World) (m : Message) (A : Answer) → Below w → Newest w → Front w m A → (i o : ℕ) → i < w.log.places → A.altered ≡ Some o → w.trace.reached i ≡ Some o
-    → (nat_lt (w.client.rank m.session) (w.client.rank (w.trace.session i)) || ((w.client.rank m.session == w.client.rank (w.trace.session i)) && nat_lt m.sequence (w.trace.sequence i))) ≡ false
+    → (nat_lt (w.client.rank m.session_id) (w.client.rank (w.trace.session i)) || ((w.client.rank m.session_id == w.client.rank (w.trace.session i)) && nat_lt m.channel_sequence (w.trace.sequence i))) ≡ false
 in_order w m A b n f i o l a h =
     let c = f.facts.altered o a in let r = f.ranked_change o a in let rx = n.ranked i o l h in
-    let here : m.session ≡ w.client.accepted = b.present_accepted m.session c.0 r in
-    let some : 0 < w.client.accepted_count = (let z = b.ranks m.session in omega (arith, z, r)) in
-    let last : w.client.rank m.session ≡ w.client.accepted_count = ap w.client.rank here ∙ b.last_rank some in
+    let here : m.session_id ≡ w.client.accepted = b.present_accepted m.session_id c.0 r in
+    let some : 0 < w.client.accepted_count = (let z = b.ranks m.session_id in omega (arith, z, r)) in
+    let last : w.client.rank m.session_id ≡ w.client.accepted_count = ap w.client.rank here ∙ b.last_rank some in
     let le = b.ranks (w.trace.session i) in
-    not_newer (w.client.rank (w.trace.session i)) (w.client.rank m.session) (w.trace.sequence i) m.sequence (omega (arith, last, le))
-    (λ e. let z : w.trace.session i ≡ m.session = b.rank_once (w.trace.session i) m.session rx e in
+    not_newer (w.client.rank (w.trace.session i)) (w.client.rank m.session_id) (w.trace.sequence i) m.channel_sequence (omega (arith, last, le))
+    (λ e. let z : w.trace.session i ≡ m.session_id = b.rank_once (w.trace.session i) m.session_id rx e in
     (c.1 (w.trace.session i) (w.trace.sequence i) (n.held i o l h) (ap w.server.present z ∙ c.0)).1)
 
-absorb_newest : (w : World) (k : ℕ) (x : Sent) (rest : List Sent) (A : Answer) → Below w → Newest w → Front w x.message A → x.message.sequence ≤ 32767 → Newest (absorbed w k x rest A)
+absorb_newest : (w : World) (k : ℕ) (x : Sent) (rest : List Sent) (A : Answer) → Below w → Newest w → Front w x.message A → x.message.channel_sequence ≤ 32767 → Newest (absorbed w k x rest A)
 absorb_newest w k x rest A b n f low =
     let m = x.message in let N = w.log.places in let v = absorbed w k x rest A in
     record {
       ranked = λ i o l. split (λ j. v.trace.reached j ≡ Some o → 0 < w.client.rank (v.trace.session j)) N i l
-          (λ lt h. subst (λ s. 0 < w.client.rank s) (sym (put_old w.trace.session N m.session i lt)) (n.ranked i o lt (sym (put_old w.trace.reached N A.reached i lt) ∙ h)))
-          (λ h. subst (λ s. 0 < w.client.rank s) (sym (put_new w.trace.session N m.session)) (f.ranked o (sym (put_new w.trace.reached N A.reached) ∙ h)));
+          (λ lt h. subst (λ s. 0 < w.client.rank s) (sym (put_old w.trace.session N m.session_id i lt)) (n.ranked i o lt (sym (put_old w.trace.reached N A.reached i lt) ∙ h)))
+          (λ h. subst (λ s. 0 < w.client.rank s) (sym (put_new w.trace.session N m.session_id)) (f.ranked o (sym (put_new w.trace.reached N A.reached) ∙ h)));
       ranked_change = λ i o l. split (λ j. v.trace.altered j ≡ Some o → 0 < w.client.rank (v.trace.session j)) N i l
-          (λ lt h. subst (λ s. 0 < w.client.rank s) (sym (put_old w.trace.session N m.session i lt)) (n.ranked_change i o lt (sym (put_old w.trace.altered N A.altered i lt) ∙ h)))
-          (λ h. subst (λ s. 0 < w.client.rank s) (sym (put_new w.trace.session N m.session)) (f.ranked_change o (sym (put_new w.trace.altered N A.altered) ∙ h)));
+          (λ lt h. subst (λ s. 0 < w.client.rank s) (sym (put_old w.trace.session N m.session_id i lt)) (n.ranked_change i o lt (sym (put_old w.trace.altered N A.altered i lt) ∙ h)))
+          (λ h. subst (λ s. 0 < w.client.rank s) (sym (put_new w.trace.session N m.session_id)) (f.ranked_change o (sym (put_new w.trace.altered N A.altered) ∙ h)));
       reached_given = λ i o l. split (λ j. v.trace.reached j ≡ Some o → o ≤ id_of A.server.epoch A.server.open_ids_given) N i l
           (λ lt h. let old = n.reached_given i o lt (sym (put_old w.trace.reached N A.reached i lt) ∙ h) in let up = f.facts.ids in omega (arith, old, up))
           (λ h. (f.facts.reached o (sym (put_new w.trace.reached N A.reached) ∙ h)).0);
       held = λ i o l. split (λ j. v.trace.reached j ≡ Some o → Pair A.server (v.trace.session j) (v.trace.sequence j) o) N i l
           (λ lt h. let h' = sym (put_old w.trace.reached N A.reached i lt) ∙ h in
-          subst (λ s. Pair A.server s (v.trace.sequence i) o) (sym (put_old w.trace.session N m.session i lt)) (subst (λ q. Pair A.server (w.trace.session i) q o) (sym (put_old w.trace.sequence N m.sequence i lt))
+          subst (λ s. Pair A.server s (v.trace.sequence i) o) (sym (put_old w.trace.session N m.session_id i lt)) (subst (λ q. Pair A.server (w.trace.session i) q o) (sym (put_old w.trace.sequence N m.channel_sequence i lt))
           (f.facts.pair (w.trace.session i) (w.trace.sequence i) o (new_pair w (w.trace.session i) m.connection b.making_unranked (n.ranked i o lt h')) (n.reached_given i o lt h') (n.held i o lt h'))))
-          (λ h. subst (λ s. Pair A.server s (v.trace.sequence N) o) (sym (put_new w.trace.session N m.session)) (subst (λ q. Pair A.server m.session q o) (sym (put_new w.trace.sequence N m.sequence))
+          (λ h. subst (λ s. Pair A.server s (v.trace.sequence N) o) (sym (put_new w.trace.session N m.session_id)) (subst (λ q. Pair A.server m.session_id q o) (sym (put_new w.trace.sequence N m.channel_sequence))
           (f.facts.reached o (sym (put_new w.trace.reached N A.reached) ∙ h)).1));
       low_sequences = f.facts.low;
       ordered = λ p i o l lt. split (λ j. i < j → alters v j o ≡ true → v.trace.reached i ≡ Some o → is_newer v i j ≡ false) N p l
@@ -151,7 +151,7 @@ absorb_newest w k x rest A b n f low =
     old_order p i o lp li d h =
         let N = w.log.places in let m = x.message in let l : i < N = omega arith in
         let e1 = put_old w.log.did N (is_own x.token && A.acted) p lp in let e2 = put_old w.trace.altered N A.altered p lp in let e3 = put_old w.trace.reached N A.reached i l in
-        let e4 = put_old w.trace.session N m.session p lp in let e5 = put_old w.trace.session N m.session i l in let e6 = put_old w.trace.sequence N m.sequence p lp in let e7 = put_old w.trace.sequence N m.sequence i l in
+        let e4 = put_old w.trace.session N m.session_id p lp in let e5 = put_old w.trace.session N m.session_id i l in let e6 = put_old w.trace.sequence N m.channel_sequence p lp in let e7 = put_old w.trace.sequence N m.channel_sequence i l in
         let old = n.ordered p i o lp li (ap (λ a. w.log.did p && is_at o a) (sym e2) ∙ (ap (λ b. b && is_at o (put w.trace.altered N A.altered p)) (sym e1) ∙ d)) (sym e3 ∙ h) in
         rw (e4, e5, e6, e7) old
 
@@ -159,7 +159,7 @@ absorb_newest w k x rest A b n f low =
     new_order i o li d h =
         let N = w.log.places in let m = x.message in
         let e2 = put_new w.trace.altered N A.altered in let e3 = put_old w.trace.reached N A.reached i li in
-        let e4 = put_new w.trace.session N m.session in let e5 = put_old w.trace.session N m.session i li in let e6 = put_new w.trace.sequence N m.sequence in let e7 = put_old w.trace.sequence N m.sequence i li in
+        let e4 = put_new w.trace.session N m.session_id in let e5 = put_old w.trace.session N m.session_id i li in let e6 = put_new w.trace.sequence N m.channel_sequence in let e7 = put_old w.trace.sequence N m.channel_sequence i li in
         let old = in_order w m A b n f i o li (sym e2 ∙ is_there (put w.log.did N (is_own x.token && A.acted) N) o (put w.trace.altered N A.altered N) d) (sym e3 ∙ h) in
         rw (e4, e5, e6, e7) old
 
@@ -184,7 +184,7 @@ front_at w k x h b n =
       ranked_change = λ o e. by_kind (is_ops x.token) refl (answer w x).altered o e (λ d. let a = aloof w.server w.moment x.message x.message.command d in a.altered);
     }
   where
-    by_kind : (t : Bool) → is_ops x.token ≡ t → (a : Option ℕ) (o : ℕ) → a ≡ Some o → (is_dialog x.message.command ≡ true → a ≡ None) → 0 < w.client.rank x.message.session
+    by_kind : (t : Bool) → is_ops x.token ≡ t → (a : Option ℕ) (o : ℕ) → a ≡ Some o → (is_dialog x.message.command ≡ true → a ≡ None) → 0 < w.client.rank x.message.session_id
     by_kind true e a o s f = b.ranked_up k 0 x h e
     by_kind false e a o s f = absurd (let z = f (b.dialog_up k 0 x h e).1 in grind arith)
 
@@ -342,7 +342,7 @@ dialog_newest : (w : World) (k : ℕ) (r : Reply) → PendingUnranked w.client �
 dialog_newest w k r p n (GoesOn stage) e = kept_server w _ (record { places = refl; did = refl; trace = refl; rank = refl }) refl n
 dialog_newest w k r p n Accepts e = accepted_newest w _ (w.client.accepted_count + 1) (p k (accepts_of (w.client.stage k) r.status e)) refl refl refl refl n
 dialog_newest w k r p n Binds e = ended_newest w k w.client.session w.client.tree n
-dialog_newest w k r p n Readies e = ended_newest w k w.client.pending r.tree n
+dialog_newest w k r p n Readies e = ended_newest w k w.client.pending r.tree_id n
 dialog_newest w k r p n (Refuses status) e = kept_server w _ (record { places = refl; did = refl; trace = refl; rank = refl }) refl n
 
 took_newest : (w : World) (k : ℕ) (r : Reply) (place : ℕ) → PendingUnranked w.client → Newest w → (t : Token) → Newest (took_by w k r place t)

@@ -133,9 +133,9 @@ same_create c s t p q o row e f st = same_guid c p q (some_same _ _ (sym (row p 
 
 record Acts (c : Client) (s : Server) (x0 : Sent) (A : Answer) (g : ℕ) : Type 0 where
   stands : s.standing (file_at c g) ≡ true
-  session_of_open : s.session_of_open (file_at c g) ≡ Some x0.message.session
-  there : s.present x0.message.session ≡ true
-  newest : s.sequence (file_at c g) ≤ x0.message.sequence
+  session_of_open : s.session_of_open (file_at c g) ≡ Some x0.message.session_id
+  there : s.present x0.message.session_id ≡ true
+  newest : s.sequence (file_at c g) ≤ x0.message.channel_sequence
   edit : edits (c.op g) ≡ true
   well : formed (c.op g) ≡ true
   ok : A.reply.status ≡ success
@@ -146,7 +146,7 @@ record Acts (c : Client) (s : Server) (x0 : Sent) (A : Answer) (g : ℕ) : Type 
 acts_of : (c : Client) (s : Server) (t : Trace) (x0 : Sent) (A : Answer) (g : ℕ) → Taking c s t x0 A → x0.token ≡ ForOp g → lists (c.op g) ≡ true → A.acted ≡ true → Acts c s x0 A g
 acts_of c s t x0 A g w tk ls ac =
     let f = w.listed g tk ls in let a = f.acts ac in let d = f.done (is_test A.reply.status success a.4) in
-    record { stands = a.0; session_of_open = a.1; there = w.attached (file_at c g) x0.message.session a.1; newest = a.2; edit = edits_of (c.op g) a.3; well = w.well_formed g tk a.6; ok = a.4; reached = a.5; still = d.1; bytes = d.3 }
+    record { stands = a.0; session_of_open = a.1; there = w.attached (file_at c g) x0.message.session_id a.1; newest = a.2; edit = edits_of (c.op g) a.3; well = w.well_formed g tk a.6; ok = a.4; reached = a.5; still = d.1; bytes = d.3 }
   where
     is_test : (n m : ℕ) → n ≡ m → (n == m) ≡ true
     is_test n m e = grind arith
@@ -280,9 +280,9 @@ absorb_no_replay : (c : Client) (conns : ℕ → Conn) (s : Server) (t : Trace) 
 absorb_no_replay c conns s t l a k x0 rest A is i_no_replay =
     λ j n m q p u x h h2. let o = waited conns k x0 rest j n u is h in let o2 = waited conns k x0 rest m q x is h2 in i_no_replay j o.0 m o2.0 p u x o.1 o2.1
 
-absorb_copy_pair : (c : Client) (conns : ℕ → Conn) (s : Server) (t : Trace) (l : Log) (a : ℕ → ℕ) (k : ℕ) (x0 : Sent) (rest : List Sent) (A : Answer) → ((conns k).up ≡ x0 ∷ rest) → (Taking c s t x0 A) → ((j n : ℕ) (x : Sent) → slice_get (conns j).up n ≡ Some x → is_ops x.token ≡ true → 0 < c.rank x.message.session) → CopyPair c conns s → CopyPair c (Front conns k rest) A.server
+absorb_copy_pair : (c : Client) (conns : ℕ → Conn) (s : Server) (t : Trace) (l : Log) (a : ℕ → ℕ) (k : ℕ) (x0 : Sent) (rest : List Sent) (A : Answer) → ((conns k).up ≡ x0 ∷ rest) → (Taking c s t x0 A) → ((j n : ℕ) (x : Sent) → slice_get (conns j).up n ≡ Some x → is_ops x.token ≡ true → 0 < c.rank x.message.session_id) → CopyPair c conns s → CopyPair c (Front conns k rest) A.server
 absorb_copy_pair c conns s t l a k x0 rest A is w ranked i_copy_pair =
-    λ j n p x h e ed. let o = waited conns k x0 rest j n x is h in let old = i_copy_pair j o.0 p x o.1 e ed in let z = old.1 in let up = w.steps.ids in (w.steps.pair x.message.session 0 (file_at c p) (ranked j o.0 x o.1 (ops_of x.token p e)) old.1 old.0, omega (arith, z, up))
+    λ j n p x h e ed. let o = waited conns k x0 rest j n x is h in let old = i_copy_pair j o.0 p x o.1 e ed in let z = old.1 in let up = w.steps.ids in (w.steps.pair x.message.session_id 0 (file_at c p) (ranked j o.0 x o.1 (ops_of x.token p e)) old.1 old.0, omega (arith, z, up))
 
 absorb_now_pair : (c : Client) (conns : ℕ → Conn) (s : Server) (t : Trace) (l : Log) (a : ℕ → ℕ) (k : ℕ) (x0 : Sent) (rest : List Sent) (A : Answer) → (Taking c s t x0 A) → (c.live ≡ true → 0 < c.rank c.session) → NowPair c s → NowPair c A.server
 absorb_now_pair c conns s t l a k x0 rest A w alive i_now_pair =
@@ -316,7 +316,7 @@ absorb_session_seq : (c : Client) (conns : ℕ → Conn) (s : Server) (t : Trace
 absorb_session_seq c conns s t l a k x0 rest A w i_session_seq =
     λ o lv at. by_side o lv (w.session_of_open o c.session at)
   where
-    by_side : (o : ℕ) → c.live ≡ true → (s.session_of_open o ≡ Some c.session × A.server.sequence o ≤ s.sequence o) ⊎ (A.reached ≡ Some o × c.session ≡ x0.message.session × A.server.sequence o ≤ x0.message.sequence) → A.server.sequence o ≤ c.sequence
+    by_side : (o : ℕ) → c.live ≡ true → (s.session_of_open o ≡ Some c.session × A.server.sequence o ≤ s.sequence o) ⊎ (A.reached ≡ Some o × c.session ≡ x0.message.session_id × A.server.sequence o ≤ x0.message.channel_sequence) → A.server.sequence o ≤ c.sequence
     by_side o lv (inl e) = let old = i_session_seq o lv e.0 in let z = e.1 in omega (arith, old, z)
     by_side o lv (inr e) = let up = w.upto lv (sym e.1) in let z = e.2 in omega (arith, up, z)
 
@@ -324,26 +324,26 @@ absorb_pending_at : (c : Client) (conns : ℕ → Conn) (s : Server) (t : Trace)
 absorb_pending_at c conns s t l a k x0 rest A w i_pending_at =
     λ o j sg e. by_side o j sg (w.session_of_open o c.pending e)
   where
-    by_side : (o j : ℕ) → c.stage j ≡ AskedTree → (s.session_of_open o ≡ Some c.pending × A.server.sequence o ≤ s.sequence o) ⊎ (A.reached ≡ Some o × c.pending ≡ x0.message.session × A.server.sequence o ≤ x0.message.sequence) → ⊥
+    by_side : (o j : ℕ) → c.stage j ≡ AskedTree → (s.session_of_open o ≡ Some c.pending × A.server.sequence o ≤ s.sequence o) ⊎ (A.reached ≡ Some o × c.pending ≡ x0.message.session_id × A.server.sequence o ≤ x0.message.channel_sequence) → ⊥
     by_side o j sg (inl e) = i_pending_at o j sg e.0
     by_side o j sg (inr e) = w.fresh (w.ops o e.0) j sg (sym e.1)
 
-absorb_live_unsettled : (c : Client) (conns : ℕ → Conn) (s : Server) (t : Trace) (l : Log) (a : ℕ → ℕ) (k : ℕ) (x0 : Sent) (rest : List Sent) (A : Answer) → ((conns k).up ≡ x0 ∷ rest) → (Taking c s t x0 A) → ((j n : ℕ) (x : Sent) → slice_get (conns j).up n ≡ Some x → is_ops x.token ≡ true → 0 < c.rank x.message.session) → LiveUnsettled c conns s → CopyPair c conns s → LiveUnsettled c (Front conns k rest) A.server
+absorb_live_unsettled : (c : Client) (conns : ℕ → Conn) (s : Server) (t : Trace) (l : Log) (a : ℕ → ℕ) (k : ℕ) (x0 : Sent) (rest : List Sent) (A : Answer) → ((conns k).up ≡ x0 ∷ rest) → (Taking c s t x0 A) → ((j n : ℕ) (x : Sent) → slice_get (conns j).up n ≡ Some x → is_ops x.token ≡ true → 0 < c.rank x.message.session_id) → LiveUnsettled c conns s → CopyPair c conns s → LiveUnsettled c (Front conns k rest) A.server
 absorb_live_unsettled c conns s t l a k x0 rest A is w ranked i_live_unsettled i_copy_pair =
-    λ j n p x h e ed fm sd pr le. let o = waited conns k x0 rest j n x is h in let cp = i_copy_pair j o.0 p x o.1 e ed in let b = live_back c.rank s A.server x.message.session x.message.sequence (file_at c p) w.steps (ranked j o.0 x o.1 (ops_of x.token p e)) cp.1 cp.0 sd pr le in i_live_unsettled j o.0 p x o.1 e ed fm b.0 b.1 b.2
+    λ j n p x h e ed fm sd pr le. let o = waited conns k x0 rest j n x is h in let cp = i_copy_pair j o.0 p x o.1 e ed in let b = live_back c.rank s A.server x.message.session_id x.message.channel_sequence (file_at c p) w.steps (ranked j o.0 x o.1 (ops_of x.token p e)) cp.1 cp.0 sd pr le in i_live_unsettled j o.0 p x o.1 e ed fm b.0 b.1 b.2
 
-absorb_live_replay : (c : Client) (conns : ℕ → Conn) (s : Server) (t : Trace) (l : Log) (a : ℕ → ℕ) (k : ℕ) (x0 : Sent) (rest : List Sent) (A : Answer) → ((conns k).up ≡ x0 ∷ rest) → (Taking c s t x0 A) → (Once conns) → ((j n : ℕ) (x : Sent) → slice_get (conns j).up n ≡ Some x → is_ops x.token ≡ true → 0 < c.rank x.message.session) → LiveReplay c conns s l → CopyPair c conns s → NoReplay c conns → LiveReplay c (Front conns k rest) A.server (new_log c t l x0 A)
+absorb_live_replay : (c : Client) (conns : ℕ → Conn) (s : Server) (t : Trace) (l : Log) (a : ℕ → ℕ) (k : ℕ) (x0 : Sent) (rest : List Sent) (A : Answer) → ((conns k).up ≡ x0 ∷ rest) → (Taking c s t x0 A) → (Once conns) → ((j n : ℕ) (x : Sent) → slice_get (conns j).up n ≡ Some x → is_ops x.token ≡ true → 0 < c.rank x.message.session_id) → LiveReplay c conns s l → CopyPair c conns s → NoReplay c conns → LiveReplay c (Front conns k rest) A.server (new_log c t l x0 A)
 absorb_live_replay c conns s t l a k x0 rest A is w once ranked i_live_replay i_copy_pair i_no_replay =
     λ j n p x h e ed sd pr le so. let o = waited conns k x0 rest j n x is h in let cp = i_copy_pair j o.0 p x o.1 e ed in
-    let b = live_back c.rank s A.server x.message.session x.message.sequence (file_at c p) w.steps (ranked j o.0 x o.1 (ops_of x.token p e)) cp.1 cp.0 sd pr le in let f = some_of ((new_log c t l x0 A).first p) so in
+    let b = live_back c.rank s A.server x.message.session_id x.message.channel_sequence (file_at c p) w.steps (ranked j o.0 x o.1 (ops_of x.token p e)) cp.1 cp.0 sd pr le in let f = some_of ((new_log c t l x0 A).first p) so in
     by_first j n p x h e ed sd pr le b.0 b.1 ((cp.0 b.0 b.1).0) o.0 o.1 (λ z. i_live_replay j o.0 p x o.1 e ed b.0 b.1 b.2 z) (first_was c t l x0 A p f.0 f.1)
   where
-    by_first : (j n p : ℕ) (x : Sent) → slice_get (Front conns k rest j).up n ≡ Some x → x.token ≡ ForOp p → edits (c.op p) ≡ true → A.server.standing (file_at c p) ≡ true → A.server.present x.message.session ≡ true → A.server.sequence (file_at c p) ≤ x.message.sequence
-        → s.standing (file_at c p) ≡ true → s.present x.message.session ≡ true → s.session_of_open (file_at c p) ≡ Some x.message.session → (m : ℕ) → slice_get (conns j).up m ≡ Some x → (is_some (l.first p) ≡ true → x.message.replay ≡ true)
+    by_first : (j n p : ℕ) (x : Sent) → slice_get (Front conns k rest j).up n ≡ Some x → x.token ≡ ForOp p → edits (c.op p) ≡ true → A.server.standing (file_at c p) ≡ true → A.server.present x.message.session_id ≡ true → A.server.sequence (file_at c p) ≤ x.message.channel_sequence
+        → s.standing (file_at c p) ≡ true → s.present x.message.session_id ≡ true → s.session_of_open (file_at c p) ≡ Some x.message.session_id → (m : ℕ) → slice_get (conns j).up m ≡ Some x → (is_some (l.first p) ≡ true → x.message.replay ≡ true)
         → {v : ℕ} → (l.first p ≡ Some v) ⊎ (x0.token ≡ ForOp p × A.acted ≡ true × v ≡ l.places) → x.message.replay ≡ true
     by_first j n p x h e ed sd pr le st there at m hm old (inl z) = old (ap is_some z)
     by_first j n p x h e ed sd pr le st there at m hm old (inr z) =
-        let a = acts_of c s t x0 A p w z.0 (lists_of (c.op p) ed) z.1 in let same : x.message.session ≡ x0.message.session = some_same _ _ (sym at ∙ a.session_of_open) in
+        let a = acts_of c s t x0 A p w z.0 (lists_of (c.op p) ed) z.1 in let same : x.message.session_id ≡ x0.message.session_id = some_same _ _ (sym at ∙ a.session_of_open) in
         not_false x.message.replay (λ r.
         let less = i_no_replay j m k 0 p x x0 hm (front_up (conns k).up x0 rest is) e z.0 ed (apart_of conns k x0 rest j n p x once is z.0 h e) same r in
         let pair = ((w.reached (file_at c p) a.reached).1 sd (subst (λ y. A.server.present y ≡ true) same pr)).1 in absurd (omega (arith, less, pair, le)))
@@ -415,7 +415,7 @@ absorb_named_open : (c : Client) (conns : ℕ → Conn) (s : Server) (t : Trace)
 absorb_named_open c conns s t l a k x0 rest A w i_named_open =
     λ q o e. by_side q o (w.making.guid c.who.guid (guid_for c q) o e)
   where
-    by_side : (q o : ℕ) → (s.by_guid c.who.guid (guid_for c q) ≡ Some o) ⊎ (creates x0.message.command ≡ true × A.acted ≡ true × A.reached ≡ Some o × c.who.guid ≡ x0.message.client × asks_guid x0.message.command ≡ Some (guid_for c q)) → (new_trace c t l x0 A).open_of q ≡ Some o
+    by_side : (q o : ℕ) → (s.by_guid c.who.guid (guid_for c q) ≡ Some o) ⊎ (creates x0.message.command ≡ true × A.acted ≡ true × A.reached ≡ Some o × c.who.guid ≡ x0.message.client_guid × asks_guid x0.message.command ≡ Some (guid_for c q)) → (new_trace c t l x0 A).open_of q ≡ Some o
     by_side q o (inl e) = open_kept c t l x0 A q o w.remade (i_named_open q o e)
     by_side q o (inr e) = own q o (w.creator e.0 e.1) e.1 e.2 e.4
       where
@@ -448,17 +448,17 @@ absorb_open_row : (c : Client) (conns : ℕ → Conn) (s : Server) (t : Trace) (
 absorb_open_row c conns s t l a k x0 rest A w i_open_row i_open_given =
     λ q o e st. by_side q o st (open_was c t l x0 A q o e)
   where
-    by_side : (q o : ℕ) → A.server.standing o ≡ true → (t.open_of q ≡ Some o) ⊎ (makes c x0.token A ≡ true × q ≡ op_of x0.token × A.reached ≡ Some o) → (A.server.opened o).guid ≡ Some (guid_for c q) × (A.server.opened o).client ≡ c.who.guid × (A.server.opened o).share ≡ share_of (c.op q)
+    by_side : (q o : ℕ) → A.server.standing o ≡ true → (t.open_of q ≡ Some o) ⊎ (makes c x0.token A ≡ true × q ≡ op_of x0.token × A.reached ≡ Some o) → (A.server.opened o).create_guid ≡ Some (guid_for c q) × (A.server.opened o).client_guid ≡ c.who.guid × (A.server.opened o).share ≡ share_of (c.op q)
     by_side q o st (inl e) =
         let g = (i_open_given q o e).0 in let row = w.steps.row o g st in
-        subst (λ r. r.guid ≡ Some (guid_for c q) × r.client ≡ c.who.guid × r.share ≡ share_of (c.op q)) (sym row) (i_open_row q o e (w.steps.stands o g st))
+        subst (λ r. r.create_guid ≡ Some (guid_for c q) × r.client_guid ≡ c.who.guid × r.share ≡ share_of (c.op q)) (sym row) (i_open_row q o e (w.steps.stands o g st))
     by_side q o st (inr e) = own q o (w.makes_create e.0) (made_own c x0.token A e.0).1 e.1 e.2 (w.creator (w.makes_create e.0) (made_own c x0.token A e.0).1)
       where
         own : (q o : ℕ) → creates x0.message.command ≡ true → A.acted ≡ true → q ≡ op_of x0.token → A.reached ≡ Some o → ((g : ℕ) × ((x0.token ≡ ForOp g) × (makes_open (c.op g) ≡ true) × (asks_guid x0.message.command ≡ Some (guid_for c g)) × (asks_share x0.message.command ≡ share_of (c.op g))))
-            → (A.server.opened o).guid ≡ Some (guid_for c q) × (A.server.opened o).client ≡ c.who.guid × (A.server.opened o).share ≡ share_of (c.op q)
+            → (A.server.opened o).create_guid ≡ Some (guid_for c q) × (A.server.opened o).client_guid ≡ c.who.guid × (A.server.opened o).share ≡ share_of (c.op q)
         own q o cr ac z r (g, f) =
             let row = w.making.row o cr ac r in let gq : g ≡ q = ap op_of (sym f.0) ∙ sym z in
-            (subst (λ p. (A.server.opened o).guid ≡ Some (guid_for c p)) gq (row.0 ∙ f.2), row.1 ∙ w.client, subst (λ p. (A.server.opened o).share ≡ share_of (c.op p)) gq (row.2 ∙ f.3))
+            (subst (λ p. (A.server.opened o).create_guid ≡ Some (guid_for c p)) gq (row.0 ∙ f.2), row.1 ∙ w.client, subst (λ p. (A.server.opened o).share ≡ share_of (c.op p)) gq (row.2 ∙ f.3))
 
 absorb_open_acted : (c : Client) (conns : ℕ → Conn) (s : Server) (t : Trace) (l : Log) (a : ℕ → ℕ) (k : ℕ) (x0 : Sent) (rest : List Sent) (A : Answer) → OpenActed t a → OpenActed (new_trace c t l x0 A) (new_acts a x0 A)
 absorb_open_acted c conns s t l a k x0 rest A i_open_acted =
@@ -662,7 +662,7 @@ absorb_prior_first c conns s t l a k x0 rest A is w i_prior_first i_live_unsettl
         let a = acts_of c s t x0 A g w z.0 (lists_of (c.op g) ed) z.1 in
         absurd (settled_off (c.outcome g) (c.given_up g) c.session (i_prior h g pr).1 (i_lost_unknown g c.session) (acting_pends c conns s k x0 rest A g i_live_unsettled is z.0 a))
 
-pub absorb_keeps : (c : Client) (conns : ℕ → Conn) (s : Server) (t : Trace) (l : Log) (a : ℕ → ℕ) (k : ℕ) (x0 : Sent) (rest : List Sent) (A : Answer) → ((conns k).up ≡ x0 ∷ rest) → (Once conns) → (ConnOutstanding c conns) → (OwnUp c conns) → (Bodies c conns) → (DownOpen conns) → (Taking c s t x0 A) → ((j n : ℕ) (x : Sent) → slice_get (conns j).up n ≡ Some x → is_ops x.token ≡ true → 0 < c.rank x.message.session) → (c.live ≡ true → 0 < c.rank c.session) → ((j n : ℕ) (y : Received) → slice_get (conns j).down n ≡ Some y → is_ops y.token ≡ true → 0 < c.rank c.session) → ((g : ℕ) → c.sent g ≡ true → makes_open (c.op g) ≡ false → (makes_open (c.op g) || is_ok (c.outcome (create_at c g))) ≡ true × makes_open (c.op (create_at c g)) ≡ true) → ((g : ℕ) → x0.token ≡ ForOp g → lists (c.op g) ≡ true → (makes_open (c.op g) || is_ok (c.outcome (create_at c g))) ≡ true × makes_open (c.op (create_at c g)) ≡ true) → ((g : ℕ) → 0 < g → g ≤ c.taken → makes_open (c.op g) ≡ false → makes_open (c.op (create_at c g)) ≡ true) → Contents c conns s t l a → Contents c (Front conns k rest) A.server (new_trace c t l x0 A) (new_log c t l x0 A) (new_acts a x0 A)
+pub absorb_keeps : (c : Client) (conns : ℕ → Conn) (s : Server) (t : Trace) (l : Log) (a : ℕ → ℕ) (k : ℕ) (x0 : Sent) (rest : List Sent) (A : Answer) → ((conns k).up ≡ x0 ∷ rest) → (Once conns) → (ConnOutstanding c conns) → (OwnUp c conns) → (Bodies c conns) → (DownOpen conns) → (Taking c s t x0 A) → ((j n : ℕ) (x : Sent) → slice_get (conns j).up n ≡ Some x → is_ops x.token ≡ true → 0 < c.rank x.message.session_id) → (c.live ≡ true → 0 < c.rank c.session) → ((j n : ℕ) (y : Received) → slice_get (conns j).down n ≡ Some y → is_ops y.token ≡ true → 0 < c.rank c.session) → ((g : ℕ) → c.sent g ≡ true → makes_open (c.op g) ≡ false → (makes_open (c.op g) || is_ok (c.outcome (create_at c g))) ≡ true × makes_open (c.op (create_at c g)) ≡ true) → ((g : ℕ) → x0.token ≡ ForOp g → lists (c.op g) ≡ true → (makes_open (c.op g) || is_ok (c.outcome (create_at c g))) ≡ true × makes_open (c.op (create_at c g)) ≡ true) → ((g : ℕ) → 0 < g → g ≤ c.taken → makes_open (c.op g) ≡ false → makes_open (c.op (create_at c g)) ≡ true) → Contents c conns s t l a → Contents c (Front conns k rest) A.server (new_trace c t l x0 A) (new_log c t l x0 A) (new_acts a x0 A)
 absorb_keeps c conns s t l a k x0 rest A is once out own bodies dopen w ranked alive current sent_opens opens creates_of i =
     record {
       token_up = absorb_token_up c conns s t l a k x0 rest A is i.token_up;

@@ -36,7 +36,7 @@ cut_not_done : (c : Client) (conns : ℕ → Conn) (s : Server) (t : Trace) (l :
 cut_not_done c conns s t l a k i_not_done =
     λ j n p y. let old = i_not_done j n p y in grind (arith, get-push)
 
-cut_cut_seq : (c : Client) (conns : ℕ → Conn) (s : Server) (t : Trace) (l : Log) (a : ℕ → ℕ) (k : ℕ) → ((j n : ℕ) (x : Sent) → slice_get (conns j).up n ≡ Some x → x.message.session ≡ c.session → c.live ≡ true → x.message.sequence ≤ c.sequence) → CutSeq c conns → CutSeq (cut_channel c k) (put conns k (client_off (conns k)))
+cut_cut_seq : (c : Client) (conns : ℕ → Conn) (s : Server) (t : Trace) (l : Log) (a : ℕ → ℕ) (k : ℕ) → ((j n : ℕ) (x : Sent) → slice_get (conns j).up n ≡ Some x → x.message.session_id ≡ c.session → c.live ≡ true → x.message.channel_sequence ≤ c.sequence) → CutSeq c conns → CutSeq (cut_channel c k) (put conns k (client_off (conns k)))
 cut_cut_seq c conns s t l a k upto i_cut_seq =
     λ j n p x h e ed op lv se. let h' : slice_get (conns j).up n ≡ Some x = grind arith in let old = i_cut_seq j n p x h' e ed in let most = upto j n x h' se lv in grind arith
 
@@ -104,7 +104,7 @@ cut_since_reply : (c : Client) (conns : ℕ → Conn) (s : Server) (t : Trace) (
 cut_since_reply c conns s t l a k i_since_reply =
     λ j n y. let old = i_since_reply j n y in grind (arith, get-push)
 
-pub cut_keeps : (c : Client) (conns : ℕ → Conn) (s : Server) (t : Trace) (l : Log) (a : ℕ → ℕ) (k : ℕ) → ((n p : ℕ) (x : Sent) → slice_get (conns k).up n ≡ Some x → x.token ≡ ForOp p → (conns k).client_open ≡ true → c.outstanding_on p ≡ Some k × c.asks_attach p ≡ false) → ((j n : ℕ) (x : Sent) → slice_get (conns j).up n ≡ Some x → x.message.session ≡ c.session → c.live ≡ true → x.message.sequence ≤ c.sequence) → Contents c conns s t l a → Contents (cut_channel c k) (put conns k (client_off (conns k))) s t l a
+pub cut_keeps : (c : Client) (conns : ℕ → Conn) (s : Server) (t : Trace) (l : Log) (a : ℕ → ℕ) (k : ℕ) → ((n p : ℕ) (x : Sent) → slice_get (conns k).up n ≡ Some x → x.token ≡ ForOp p → (conns k).client_open ≡ true → c.outstanding_on p ≡ Some k × c.asks_attach p ≡ false) → ((j n : ℕ) (x : Sent) → slice_get (conns j).up n ≡ Some x → x.message.session_id ≡ c.session → c.live ≡ true → x.message.channel_sequence ≤ c.sequence) → Contents c conns s t l a → Contents (cut_channel c k) (put conns k (client_off (conns k))) s t l a
 cut_keeps c conns s t l a k mine upto i =
     record {
       token_up = cut_token_up c conns s t l a k i.token_up;

@@ -10,9 +10,9 @@ use Rattle.order_law.specs.Contents.{Contents, bytes_after, file_at, CopyPair, N
 use Rattle.order_law.proofs.Moved.{Moves, live_back}
 use Rattle.order_law.proofs.Words.{ops_of, attach_of, still_gone}
 
-moved_copy_pair : (c : Client) (conns : ℕ → Conn) (s : Server) (t : Trace) (l : Log) (a : ℕ → ℕ) (u : Server) → (Moves c.rank s u) → ((j n : ℕ) (x : Sent) → slice_get (conns j).up n ≡ Some x → is_ops x.token ≡ true → 0 < c.rank x.message.session) → CopyPair c conns s → CopyPair c conns u
+moved_copy_pair : (c : Client) (conns : ℕ → Conn) (s : Server) (t : Trace) (l : Log) (a : ℕ → ℕ) (u : Server) → (Moves c.rank s u) → ((j n : ℕ) (x : Sent) → slice_get (conns j).up n ≡ Some x → is_ops x.token ≡ true → 0 < c.rank x.message.session_id) → CopyPair c conns s → CopyPair c conns u
 moved_copy_pair c conns s t l a u go ranked i_copy_pair =
-    λ j n p x h e ed. let old = i_copy_pair j n p x h e ed in let z = old.1 in let up = go.steps.ids in (go.steps.pair x.message.session 0 (file_at c p) (ranked j n x h (ops_of x.token p e)) old.1 old.0, omega (arith, z, up))
+    λ j n p x h e ed. let old = i_copy_pair j n p x h e ed in let z = old.1 in let up = go.steps.ids in (go.steps.pair x.message.session_id 0 (file_at c p) (ranked j n x h (ops_of x.token p e)) old.1 old.0, omega (arith, z, up))
 
 moved_now_pair : (c : Client) (conns : ℕ → Conn) (s : Server) (t : Trace) (l : Log) (a : ℕ → ℕ) (u : Server) → (Moves c.rank s u) → (c.live ≡ true → 0 < c.rank c.session) → NowPair c s → NowPair c u
 moved_now_pair c conns s t l a u go alive i_now_pair =
@@ -46,13 +46,13 @@ moved_pending_at : (c : Client) (conns : ℕ → Conn) (s : Server) (t : Trace) 
 moved_pending_at c conns s t l a u go i_pending_at =
     λ o j sg e. i_pending_at o j sg (go.session_of_open o c.pending e).0
 
-moved_live_unsettled : (c : Client) (conns : ℕ → Conn) (s : Server) (t : Trace) (l : Log) (a : ℕ → ℕ) (u : Server) → (Moves c.rank s u) → ((j n : ℕ) (x : Sent) → slice_get (conns j).up n ≡ Some x → is_ops x.token ≡ true → 0 < c.rank x.message.session) → LiveUnsettled c conns s → CopyPair c conns s → LiveUnsettled c conns u
+moved_live_unsettled : (c : Client) (conns : ℕ → Conn) (s : Server) (t : Trace) (l : Log) (a : ℕ → ℕ) (u : Server) → (Moves c.rank s u) → ((j n : ℕ) (x : Sent) → slice_get (conns j).up n ≡ Some x → is_ops x.token ≡ true → 0 < c.rank x.message.session_id) → LiveUnsettled c conns s → CopyPair c conns s → LiveUnsettled c conns u
 moved_live_unsettled c conns s t l a u go ranked i_live_unsettled i_copy_pair =
-    λ j n p x h e ed fm sd pr le. let r = ranked j n x h (ops_of x.token p e) in let cp = i_copy_pair j n p x h e ed in let b = live_back c.rank s u x.message.session x.message.sequence (file_at c p) go.steps r cp.1 cp.0 sd pr le in i_live_unsettled j n p x h e ed fm b.0 b.1 b.2
+    λ j n p x h e ed fm sd pr le. let r = ranked j n x h (ops_of x.token p e) in let cp = i_copy_pair j n p x h e ed in let b = live_back c.rank s u x.message.session_id x.message.channel_sequence (file_at c p) go.steps r cp.1 cp.0 sd pr le in i_live_unsettled j n p x h e ed fm b.0 b.1 b.2
 
-moved_live_replay : (c : Client) (conns : ℕ → Conn) (s : Server) (t : Trace) (l : Log) (a : ℕ → ℕ) (u : Server) → (Moves c.rank s u) → ((j n : ℕ) (x : Sent) → slice_get (conns j).up n ≡ Some x → is_ops x.token ≡ true → 0 < c.rank x.message.session) → LiveReplay c conns s l → CopyPair c conns s → LiveReplay c conns u l
+moved_live_replay : (c : Client) (conns : ℕ → Conn) (s : Server) (t : Trace) (l : Log) (a : ℕ → ℕ) (u : Server) → (Moves c.rank s u) → ((j n : ℕ) (x : Sent) → slice_get (conns j).up n ≡ Some x → is_ops x.token ≡ true → 0 < c.rank x.message.session_id) → LiveReplay c conns s l → CopyPair c conns s → LiveReplay c conns u l
 moved_live_replay c conns s t l a u go ranked i_live_replay i_copy_pair =
-    λ j n p x h e ed sd pr le. let r = ranked j n x h (ops_of x.token p e) in let cp = i_copy_pair j n p x h e ed in let b = live_back c.rank s u x.message.session x.message.sequence (file_at c p) go.steps r cp.1 cp.0 sd pr le in i_live_replay j n p x h e ed b.0 b.1 b.2
+    λ j n p x h e ed sd pr le. let r = ranked j n x h (ops_of x.token p e) in let cp = i_copy_pair j n p x h e ed in let b = live_back c.rank s u x.message.session_id x.message.channel_sequence (file_at c p) go.steps r cp.1 cp.0 sd pr le in i_live_replay j n p x h e ed b.0 b.1 b.2
 
 moved_shows : (c : Client) (conns : ℕ → Conn) (s : Server) (t : Trace) (l : Log) (a : ℕ → ℕ) (u : Server) → (Moves c.rank s u) → Shows c s l → Shows c u l
 moved_shows c conns s t l a u go i_shows =
@@ -72,13 +72,13 @@ moved_open_given c conns s t l a u go i_open_given =
 
 moved_open_row : (c : Client) (conns : ℕ → Conn) (s : Server) (t : Trace) (l : Log) (a : ℕ → ℕ) (u : Server) → (Moves c.rank s u) → OpenRow c s t → OpenGiven c s t → OpenRow c u t
 moved_open_row c conns s t l a u go i_open_row i_open_given =
-    λ q o e st. let g = i_open_given q o e in let row = go.steps.row o g.0 st in let old = i_open_row q o e (go.steps.stands o g.0 st) in subst (λ r. r.guid ≡ Some (guid_for c q) × r.client ≡ c.who.guid × r.share ≡ share_of (c.op q)) (sym row) old
+    λ q o e st. let g = i_open_given q o e in let row = go.steps.row o g.0 st in let old = i_open_row q o e (go.steps.stands o g.0 st) in subst (λ r. r.create_guid ≡ Some (guid_for c q) × r.client_guid ≡ c.who.guid × r.share ≡ share_of (c.op q)) (sym row) old
 
 moved_bytes : (c : Client) (conns : ℕ → Conn) (s : Server) (t : Trace) (l : Log) (a : ℕ → ℕ) (u : Server) → (Moves c.rank s u) → Bytes s t l → Bytes u t l
 moved_bytes c conns s t l a u go i_bytes =
     λ q o e st. let g = go.given o st in let row = go.steps.row o g st in i_bytes q o e (go.steps.stands o g st) ∙ (ap (λ r. s.content r.file) (sym row) ∙ ap (λ f. f (u.opened o).file) (sym go.content))
 
-pub moved_keeps : (c : Client) (conns : ℕ → Conn) (s : Server) (t : Trace) (l : Log) (a : ℕ → ℕ) (u : Server) → (Moves c.rank s u) → ((j n : ℕ) (x : Sent) → slice_get (conns j).up n ≡ Some x → is_ops x.token ≡ true → 0 < c.rank x.message.session) → ((j n : ℕ) (y : Received) → slice_get (conns j).down n ≡ Some y → is_ops y.token ≡ true → 0 < c.rank c.session) → (c.live ≡ true → 0 < c.rank c.session) → Contents c conns s t l a → Contents c conns u t l a
+pub moved_keeps : (c : Client) (conns : ℕ → Conn) (s : Server) (t : Trace) (l : Log) (a : ℕ → ℕ) (u : Server) → (Moves c.rank s u) → ((j n : ℕ) (x : Sent) → slice_get (conns j).up n ≡ Some x → is_ops x.token ≡ true → 0 < c.rank x.message.session_id) → ((j n : ℕ) (y : Received) → slice_get (conns j).down n ≡ Some y → is_ops y.token ≡ true → 0 < c.rank c.session) → (c.live ≡ true → 0 < c.rank c.session) → Contents c conns s t l a → Contents c conns u t l a
 moved_keeps c conns s t l a u go ranked current alive i =
     record {
       token_up = i.token_up;

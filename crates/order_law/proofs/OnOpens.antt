@@ -18,7 +18,7 @@ opens_asked_as c conns s t l a g id pending asked_up i_asked_as =
 
 opens_copy_pair : (c : Client) (conns : ℕ → Conn) (s : Server) (t : Trace) (l : Log) (a : ℕ → ℕ) (g id : ℕ) → (is_unsettled (c.outcome g) ≡ true) → ((j n p : ℕ) (x : Sent) → slice_get (conns j).up n ≡ Some x → x.token ≡ ForOp p → edits (c.op p) ≡ true → create_at c p ≢ g) → CopyPair c conns s → CopyPair (record c { file = put c.file g id; attached = put c.attached g c.session_number }) conns s
 opens_copy_pair c conns s t l a g id pending mine_up i_copy_pair =
-    λ j n p x h e ed. subst (λ f. Pair s x.message.session 0 f × f ≤ last_id s) (sym (put_other c.file g id (create_at c p) (mine_up j n p x h e ed))) (i_copy_pair j n p x h e ed)
+    λ j n p x h e ed. subst (λ f. Pair s x.message.session_id 0 f × f ≤ last_id s) (sym (put_other c.file g id (create_at c p) (mine_up j n p x h e ed))) (i_copy_pair j n p x h e ed)
 
 opens_now_pair : (c : Client) (conns : ℕ → Conn) (s : Server) (t : Trace) (l : Log) (a : ℕ → ℕ) (g id : ℕ) → (is_unsettled (c.outcome g) ≡ true) → (Pair s c.session 0 id × id ≤ last_id s) → NowPair c s → NowPair (record c { file = put c.file g id; attached = put c.attached g c.session_number }) s
 opens_now_pair c conns s t l a g id pending pair i_now_pair =
@@ -42,11 +42,11 @@ opens_attach_refused c conns s t l a g id pending mine_ask i_attach_refused =
 
 opens_live_unsettled : (c : Client) (conns : ℕ → Conn) (s : Server) (t : Trace) (l : Log) (a : ℕ → ℕ) (g id : ℕ) → (is_unsettled (c.outcome g) ≡ true) → ((j n p : ℕ) (x : Sent) → slice_get (conns j).up n ≡ Some x → x.token ≡ ForOp p → edits (c.op p) ≡ true → create_at c p ≢ g) → LiveUnsettled c conns s → LiveUnsettled (record c { file = put c.file g id; attached = put c.attached g c.session_number }) conns s
 opens_live_unsettled c conns s t l a g id pending mine_up i_live_unsettled =
-    λ j n p x h e ed. let ne = put_other c.file g id (create_at c p) (mine_up j n p x h e ed) in subst (λ f. formed (c.op p) ≡ true → s.standing f ≡ true → s.present x.message.session ≡ true → s.sequence f ≤ x.message.sequence → pends c p ≡ true) (sym ne) (i_live_unsettled j n p x h e ed)
+    λ j n p x h e ed. let ne = put_other c.file g id (create_at c p) (mine_up j n p x h e ed) in subst (λ f. formed (c.op p) ≡ true → s.standing f ≡ true → s.present x.message.session_id ≡ true → s.sequence f ≤ x.message.channel_sequence → pends c p ≡ true) (sym ne) (i_live_unsettled j n p x h e ed)
 
 opens_live_replay : (c : Client) (conns : ℕ → Conn) (s : Server) (t : Trace) (l : Log) (a : ℕ → ℕ) (g id : ℕ) → (is_unsettled (c.outcome g) ≡ true) → ((j n p : ℕ) (x : Sent) → slice_get (conns j).up n ≡ Some x → x.token ≡ ForOp p → edits (c.op p) ≡ true → create_at c p ≢ g) → LiveReplay c conns s l → LiveReplay (record c { file = put c.file g id; attached = put c.attached g c.session_number }) conns s l
 opens_live_replay c conns s t l a g id pending mine_up i_live_replay =
-    λ j n p x h e ed. let ne = put_other c.file g id (create_at c p) (mine_up j n p x h e ed) in subst (λ f. s.standing f ≡ true → s.present x.message.session ≡ true → s.sequence f ≤ x.message.sequence → is_some (l.first p) ≡ true → x.message.replay ≡ true) (sym ne) (i_live_replay j n p x h e ed)
+    λ j n p x h e ed. let ne = put_other c.file g id (create_at c p) (mine_up j n p x h e ed) in subst (λ f. s.standing f ≡ true → s.present x.message.session_id ≡ true → s.sequence f ≤ x.message.channel_sequence → is_some (l.first p) ≡ true → x.message.replay ≡ true) (sym ne) (i_live_replay j n p x h e ed)
 
 opens_shows : (c : Client) (conns : ℕ → Conn) (s : Server) (t : Trace) (l : Log) (a : ℕ → ℕ) (g id : ℕ) → (is_unsettled (c.outcome g) ≡ true) → ((p : ℕ) → edits (c.op p) ≡ true → is_some (l.first p) ≡ true → create_at c p ≢ g) → Shows c s l → Shows (record c { file = put c.file g id; attached = put c.attached g c.session_number }) s l
 opens_shows c conns s t l a g id pending acted i_shows =

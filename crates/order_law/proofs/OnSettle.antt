@@ -35,9 +35,9 @@ settle_older : (c : Client) (conns : ℕ → Conn) (s : Server) (t : Trace) (l :
 settle_older c conns s t l a g place out pending above firm within who since i_older =
     λ j n i p x. let old = i_older j n i p x in grind (arith, get-push)
 
-settle_live_unsettled : (c : Client) (conns : ℕ → Conn) (s : Server) (t : Trace) (l : Log) (a : ℕ → ℕ) (g place : ℕ) (out : Outcome) → (is_unsettled (c.outcome g) ≡ true) → (0 < g) → (is_unsettled out ≡ false) → (place < l.places) → (l.who place ≡ g) → (l.since g ≤ place) → ((j n : ℕ) (x : Sent) → slice_get (conns j).up n ≡ Some x → x.token ≡ ForOp g → edits (c.op g) ≡ true → formed (c.op g) ≡ true → s.standing (file_at c g) ≡ true → s.present x.message.session ≡ true → s.sequence (file_at c g) ≤ x.message.sequence → ⊥) → LiveUnsettled c conns s → LiveUnsettled (settled_by c g out place) conns s
+settle_live_unsettled : (c : Client) (conns : ℕ → Conn) (s : Server) (t : Trace) (l : Log) (a : ℕ → ℕ) (g place : ℕ) (out : Outcome) → (is_unsettled (c.outcome g) ≡ true) → (0 < g) → (is_unsettled out ≡ false) → (place < l.places) → (l.who place ≡ g) → (l.since g ≤ place) → ((j n : ℕ) (x : Sent) → slice_get (conns j).up n ≡ Some x → x.token ≡ ForOp g → edits (c.op g) ≡ true → formed (c.op g) ≡ true → s.standing (file_at c g) ≡ true → s.present x.message.session_id ≡ true → s.sequence (file_at c g) ≤ x.message.channel_sequence → ⊥) → LiveUnsettled c conns s → LiveUnsettled (settled_by c g out place) conns s
 settle_live_unsettled c conns s t l a g place out pending above firm within who since dead i_live_unsettled =
-    λ j n p x h e ed fm sd pr le. elim (p == g) as (λ b. p == g ≡ b → may_act (put c.outcome g out p) (is_at c.session (c.given_up p)) ≡ true) [ true ↦ λ z. absurd (subst (λ r. x.token ≡ ForOp r → edits (c.op r) ≡ true → formed (c.op r) ≡ true → s.standing (file_at c r) ≡ true → s.present x.message.session ≡ true → s.sequence (file_at c r) ≤ x.message.sequence → ⊥) (sym (eqb-true _ _ z)) (dead j n x h) e ed fm sd pr le) | false ↦ λ z. subst (λ o. may_act o (is_at c.session (c.given_up p)) ≡ true) (sym (put_other c.outcome g out p (eqb-false _ _ z))) (i_live_unsettled j n p x h e ed fm sd pr le) ] refl
+    λ j n p x h e ed fm sd pr le. elim (p == g) as (λ b. p == g ≡ b → may_act (put c.outcome g out p) (is_at c.session (c.given_up p)) ≡ true) [ true ↦ λ z. absurd (subst (λ r. x.token ≡ ForOp r → edits (c.op r) ≡ true → formed (c.op r) ≡ true → s.standing (file_at c r) ≡ true → s.present x.message.session_id ≡ true → s.sequence (file_at c r) ≤ x.message.channel_sequence → ⊥) (sym (eqb-true _ _ z)) (dead j n x h) e ed fm sd pr le) | false ↦ λ z. subst (λ o. may_act o (is_at c.session (c.given_up p)) ≡ true) (sym (put_other c.outcome g out p (eqb-false _ _ z))) (i_live_unsettled j n p x h e ed fm sd pr le) ] refl
 
 settle_shows : (c : Client) (conns : ℕ → Conn) (s : Server) (t : Trace) (l : Log) (a : ℕ → ℕ) (g place : ℕ) (out : Outcome) → (is_unsettled (c.outcome g) ≡ true) → (0 < g) → (is_unsettled out ≡ false) → (place < l.places) → (l.who place ≡ g) → (l.since g ≤ place) → Shows c s l → Shows (settled_by c g out place) s l
 settle_shows c conns s t l a g place out pending above firm within who since i_shows =
@@ -79,7 +79,7 @@ settle_prior_by : (c : Client) (conns : ℕ → Conn) (s : Server) (t : Trace) (
 settle_prior_by c conns s t l a g place out pending above firm within who since i_prior_by i_prior =
     λ p q n pr b. let old = i_prior_by p q n pr in let f = i_prior p q pr in let fs = firm_settled (c.outcome q) f.1 in grind arith
 
-pub settle_keeps : (c : Client) (conns : ℕ → Conn) (s : Server) (t : Trace) (l : Log) (a : ℕ → ℕ) (g place : ℕ) (out : Outcome) → (is_unsettled (c.outcome g) ≡ true) → (0 < g) → (is_unsettled out ≡ false) → (place < l.places) → (l.who place ≡ g) → (l.since g ≤ place) → ((v : ContentReply) → lists (c.op g) ≡ true → settlement (c.op g) out ≡ Settled_ok v → l.gave place ≡ Says_ok v) → (settlement (c.op g) out ≡ Settled_end → l.gave place ≡ Says_end) → (makes_open (c.op g) ≡ true → is_ok out ≡ true → t.open_of g ≡ Some (c.file g)) → ((j n : ℕ) (x : Sent) → slice_get (conns j).up n ≡ Some x → x.token ≡ ForOp g → edits (c.op g) ≡ true → formed (c.op g) ≡ true → s.standing (file_at c g) ≡ true → s.present x.message.session ≡ true → s.sequence (file_at c g) ≤ x.message.sequence → ⊥) → Contents c conns s t l a → Contents (settled_by c g out place) conns s t l a
+pub settle_keeps : (c : Client) (conns : ℕ → Conn) (s : Server) (t : Trace) (l : Log) (a : ℕ → ℕ) (g place : ℕ) (out : Outcome) → (is_unsettled (c.outcome g) ≡ true) → (0 < g) → (is_unsettled out ≡ false) → (place < l.places) → (l.who place ≡ g) → (l.since g ≤ place) → ((v : ContentReply) → lists (c.op g) ≡ true → settlement (c.op g) out ≡ Settled_ok v → l.gave place ≡ Says_ok v) → (settlement (c.op g) out ≡ Settled_end → l.gave place ≡ Says_end) → (makes_open (c.op g) ≡ true → is_ok out ≡ true → t.open_of g ≡ Some (c.file g)) → ((j n : ℕ) (x : Sent) → slice_get (conns j).up n ≡ Some x → x.token ≡ ForOp g → edits (c.op g) ≡ true → formed (c.op g) ≡ true → s.standing (file_at c g) ≡ true → s.present x.message.session_id ≡ true → s.sequence (file_at c g) ≤ x.message.channel_sequence → ⊥) → Contents c conns s t l a → Contents (settled_by c g out place) conns s t l a
 settle_keeps c conns s t l a g place out pending above firm within who since ok end made dead i =
     record {
       token_up = i.token_up;

@@ -6,7 +6,7 @@ use Rattle.exchange_defs.specs.Opens.{id_of, max_ids, without_gone, drop_open, p
 use Rattle.exchange_defs.specs.Ranges.{RangeAnswer, Stands, Denied, change_ranges}
 use Rattle.exchange_defs.specs.Effects.{set_ranges}
 use Rattle.exchange_defs.specs.CheckOpen.{file_of}
-use Rattle.exchange_defs.specs.Step.{step, table, carried_out, expiring, with_deadlines, due, expire, expire_records, connection_of, ruling, ruling_without_room, Ruling, Says, TakesIn, TurnsAway, TakesOut, TakesAllOut, max_connections, max_expired_guids}
+use Rattle.exchange_defs.specs.Step.{step, event_answer, carried_out, expiring, with_deadlines, due, expire, expire_records, connection_of, ruling, ruling_without_room, Ruling, Says, TakesIn, TurnsAway, TakesOut, TakesAllOut, max_connections, max_expired_guids}
 use Rattle.exchange_defs.specs.Fold.{fold, fold_from, with_record, begin_epoch, sweep, set_version, restore, created_file, lock_granted, shut_recorded, recovered_from, recovery_records, nothing_yet, may_create, may_have_open, is_file, may_rename, may_remove, opening_records}
 use Rattle.exchange_defs.specs.Status.{success}
 use Rattle.exchange_defs.specs.Content.{is_empty}
@@ -38,7 +38,7 @@ out_moves s now TurnsAway e = moves_alike s s (same s)
 out_moves s now (TakesOut k is_quiet) e = take_out_moves s k now is_quiet
 out_moves s now (TakesAllOut is_quiet) e = absurd (cc)
 
-table_moves : (s : Server) (now : ℕ) (e : ServerEvent) → is_connections (ruling s e) ≡ true → Moves s (table s now e).server
+table_moves : (s : Server) (now : ℕ) (e : ServerEvent) → is_connections (ruling s e) ≡ true → Moves s (event_answer s now e).server
 table_moves s now e c =
     either (λ (A : Answer). Moves s A.server) (fits s (carried_out s now (ruling s e)).records) _ _ (λ _. out_moves s now (ruling s e) c) (λ _. out_moves s now (ruling_without_room (ruling s e)) (without_room_too (ruling s e) c))
 
@@ -119,7 +119,7 @@ blank_record s (LockRecord origin o index number status elements) b =
     (λ _. b)
 blank_record s (CloseRecord origin o) b = either Blank (s.standing o) _ _ (λ _. blank_shut s o b) (λ _. b)
 blank_record s (ExpireRecord origin o) b =
-    either Blank (s.standing o && nat_lt s.expired_count max_expired_guids) _ _ (λ _. blank_alike (shut_recorded s o) _ (expired_alike (shut_recorded s o) (s.opened o).client (s.opened o).guid) (blank_shut s o b)) (λ _. b)
+    either Blank (s.standing o && nat_lt s.expired_count max_expired_guids) _ _ (λ _. blank_alike (shut_recorded s o) _ (expired_alike (shut_recorded s o) (s.opened o).client_guid (s.opened o).create_guid) (blank_shut s o b)) (λ _. b)
 
 blank_fold : (rs : List Record) (s : Server) → Blank s → Blank (fold_from s rs)
 unfolding fold_from

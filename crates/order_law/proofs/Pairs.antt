@@ -86,7 +86,7 @@ drop_moves s o =
       given = refl;
       low = λ l. l;
       making = λ x k h. h;
-      guid = λ c g p h. guid_dropped s.by_guid (s.opened o).client (s.opened o).guid c g p h;
+      guid = λ c g p h. guid_dropped s.by_guid (s.opened o).client_guid (s.opened o).create_guid c g p h;
       there = λ x h. h;
       row = refl;
     }
@@ -107,7 +107,7 @@ expired_alike s client None = same s
 expired_alike s client (Some g) = record { standing = refl; present = refl; session_of_open = refl; sequence = refl; epoch = refl; open_ids_given = refl; making = refl; by_guid = refl; opened = refl }
 
 pub expire_moves : (s : Server) (o : ℕ) → Moves s (expire s o)
-expire_moves s o = moves_on s (leave_open s o) (expire s o) (leave_moves s o) (moves_alike _ _ (expired_alike (leave_open s o) (s.opened o).client (s.opened o).guid))
+expire_moves s o = moves_on s (leave_open s o) (expire s o) (leave_moves s o) (moves_alike _ _ (expired_alike (leave_open s o) (s.opened o).client_guid (s.opened o).create_guid))
 
 closed_alike : (s : Server) (session : ℕ) (guid : Option ℕ) → Alike s (keep_closed s session guid)
 closed_alike s session None = same s
@@ -130,18 +130,18 @@ reached_low s n p l low = λ o. let old = low o in grind arith
 not_less : (a b : ℕ) (t : Bool) → t ≡ nat_lt a b → t ≡ false → b ≤ a
 not_less a b t e f = grind (arith, nat_tests)
 
-pub in_time : (s : Server) (m : Message) (o : ℕ) → LowSequences s → m.sequence ≤ 32767 → is_late s m o ≡ false → s.sequence o ≤ m.sequence
-in_time s m o low l e = not_less m.sequence (s.sequence o) (is_late s m o) (stale_less m.sequence (s.sequence o) l (low o)) e
+pub in_time : (s : Server) (m : Message) (o : ℕ) → LowSequences s → m.channel_sequence ≤ 32767 → is_late s m o ≡ false → s.sequence o ≤ m.channel_sequence
+in_time s m o low l e = not_less m.channel_sequence (s.sequence o) (is_late s m o) (stale_less m.channel_sequence (s.sequence o) l (low o)) e
 
-pub reach_moves : (s : Server) (m : Message) (o : ℕ) → LowSequences s → m.sequence ≤ 32767 → Moves s (reach s m o)
+pub reach_moves : (s : Server) (m : Message) (o : ℕ) → LowSequences s → m.channel_sequence ≤ 32767 → Moves s (reach s m o)
 reach_moves s m o low l =
-    either (Moves s) (is_late s m o) s (record s { sequence = put s.sequence o m.sequence }) (λ _. moves_alike s s (same s))
+    either (Moves s) (is_late s m o) s (record s { sequence = put s.sequence o m.channel_sequence }) (λ _. moves_alike s s (same s))
     (λ e. record {
-      pair = reached_pair s m.sequence o (in_time s m o low l e);
+      pair = reached_pair s m.channel_sequence o (in_time s m o low l e);
       stands = λ p h. h;
       epoch = refl;
       given = refl;
-      low = reached_low s m.sequence o l;
+      low = reached_low s m.channel_sequence o l;
       making = λ x k h. h;
       guid = λ c g p h. h;
       there = λ x h. h;
@@ -151,7 +151,7 @@ reach_moves s m o low l =
 attach_pair : (s : Server) (m : Message) (p : ℕ) → s.session_of_open p ≡ None → (x q o : ℕ) → Pair s x q o → Pair (attach s m p) x q o
 attach_pair s m p e x q o h = λ st pr. let old = h st pr in (grind arith, grind arith)
 
-pub attached_moves : (s : Server) (m : Message) (o : ℕ) → m.sequence ≤ 32767 → Moves s (attached s m o)
+pub attached_moves : (s : Server) (m : Message) (o : ℕ) → m.channel_sequence ≤ 32767 → Moves s (attached s m o)
 attached_moves s m o l =
     either (Moves s) (is_some (s.session_of_open o)) s (attach s m o) (λ _. moves_alike s s (same s))
     (λ e. record {
@@ -223,10 +223,10 @@ end_named_moves s now None is_quiet = moves_alike s s (same s)
 end_named_moves s now (Some session) is_quiet = end_moves s session now is_quiet
 
 -- a new session, of which no pair is
-pub begun_pair : (s : Server) (m : Message) (user : List ℕ) (r : SetupRequest) (x q o : ℕ) → x ≢ m.session → Pair s x q o → Pair (add_session s m user r) x q o
+pub begun_pair : (s : Server) (m : Message) (user : List ℕ) (r : SetupRequest) (x q o : ℕ) → x ≢ m.session_id → Pair s x q o → Pair (add_session s m user r) x q o
 begun_pair s m user r x q o n h = λ st pr. h st (other_present pr)
   where
-    other_present : put s.present m.session true x ≡ true → s.present x ≡ true
+    other_present : put s.present m.session_id true x ≡ true → s.present x ≡ true
     other_present e = grind arith
 
 -- a connection ends
@@ -289,7 +289,7 @@ still_expired s client None = still_same s
 still_expired s client (Some g) = still_alike s _ refl refl
 
 pub still_expire : (s : Server) (o : ℕ) → Still s (expire s o)
-still_expire s o = still_on s (leave_open s o) (expire s o) (still_leave s o) (still_expired (leave_open s o) (s.opened o).client (s.opened o).guid)
+still_expire s o = still_on s (leave_open s o) (expire s o) (still_leave s o) (still_expired (leave_open s o) (s.opened o).client_guid (s.opened o).create_guid)
 
 pub still_shut : (s : Server) (o session : ℕ) (guid : Option ℕ) → Still s (keep_closed (leave_open s o) session guid)
 still_shut s o session None = still_leave s o
@@ -321,7 +321,7 @@ content_leave s o =
     gone s f = either (λ (t : Server). t.content ≡ s.content) (goes s f) (remove_file s f) s (λ _. refl) (λ _. refl)
 
 pub content_expire : (s : Server) (o : ℕ) → (expire s o).content ≡ s.content
-content_expire s o = guid_added (leave_open s o) (s.opened o).client (s.opened o).guid ∙ content_leave s o
+content_expire s o = guid_added (leave_open s o) (s.opened o).client_guid (s.opened o).create_guid ∙ content_leave s o
   where
     guid_added : (s : Server) (client : ℕ) (guid : Option ℕ) → (add_expired_guid s client guid).content ≡ s.content
     guid_added s client None = refl
@@ -339,7 +339,7 @@ pub content_slot : (s : Server) (o index number status : ℕ) → (keep_slot s o
 content_slot s o index number status = either (λ (t : Server). t.content ≡ s.content) (is_slot index) _ _ (λ _. refl) (λ _. refl)
 
 pub content_reach : (s : Server) (m : Message) (o : ℕ) → (reach s m o).content ≡ s.content
-content_reach s m o = either (λ (t : Server). t.content ≡ s.content) (is_late s m o) s (record s { sequence = put s.sequence o m.sequence }) (λ _. refl) (λ _. refl)
+content_reach s m o = either (λ (t : Server). t.content ≡ s.content) (is_late s m o) s (record s { sequence = put s.sequence o m.channel_sequence }) (λ _. refl) (λ _. refl)
 
 pub content_attached : (s : Server) (m : Message) (o : ℕ) → (attached s m o).content ≡ s.content
 content_attached s m o = either (λ (t : Server). t.content ≡ s.content) (is_some (s.session_of_open o)) s (attach s m o) (λ _. refl) (λ _. refl)

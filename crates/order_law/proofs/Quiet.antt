@@ -3,7 +3,7 @@ use Rattle.std.proofs.Common.{◌≡◌, ℕ, ◌≤◌, nat_le, true, ◌++◌,
 use Rattle.exchange_defs.specs.State.{Server, Accept, End, ServerEvent, Answer}
 use Rattle.exchange_defs.specs.Records.{fits, origin_at}
 use Rattle.exchange_defs.specs.Opens.{id_of}
-use Rattle.exchange_defs.specs.Step.{step, table, carried_out, expiring, with_deadlines, due, expire, expire_records, connection_of, ruling, ruling_without_room, Ruling, Says, TakesIn, TurnsAway, TakesOut, TakesAllOut, max_connections, max_expired_guids, ends_with}
+use Rattle.exchange_defs.specs.Step.{step, event_answer, carried_out, expiring, with_deadlines, due, expire, expire_records, connection_of, ruling, ruling_without_room, Ruling, Says, TakesIn, TurnsAway, TakesOut, TakesAllOut, max_connections, max_expired_guids, ends_with}
 use Rattle.server_law.proofs.Logic.{either}
 use Rattle.server_law.specs.Fits.{Fits}
 use Rattle.recovery_law.specs.Restarted.{Restarted}
@@ -35,7 +35,7 @@ calm_out s now TurnsAway e = calm_same s
 calm_out s now (TakesOut k is_quiet) e = record { goes = take_out_moves s k now is_quiet; still = still_take_out s k now is_quiet; content = content_end_named s now (ends_with s k) is_quiet }
 calm_out s now (TakesAllOut is_quiet) e = absurd (cc)
 
-calm_table : (s : Server) (now : ℕ) (e : ServerEvent) → is_connections (ruling s e) ≡ true → Calmly s (table s now e).server
+calm_table : (s : Server) (now : ℕ) (e : ServerEvent) → is_connections (ruling s e) ≡ true → Calmly s (event_answer s now e).server
 calm_table s now e c =
     either (λ (A : Answer). Calmly s A.server) (fits s (carried_out s now (ruling s e)).records) _ _ (λ _. calm_out s now (ruling s e) c) (λ _. calm_out s now (ruling_without_room (ruling s e)) (without_room_too (ruling s e) c))
 

@@ -49,7 +49,7 @@ told w a k g y rest asking is opn l i t shape tok on asks =
       who = (i.replies k 0 y f0).1 ∙ named;
       since = subst (λ q. w.log.since q ≤ y.place) named (i.since_reply k 0 y f0);
       own = λ z. (i.replies k 0 y f0).2 ∙ ap (λ t. said t y.reply) (own z);
-      present = λ j n x h e pr. l.ss.present_accepted x.message.session pr (l.ss.ranked_up j n x (up_there w.conns k rest j n x h) e) ∙ sym (l.ss.live_accepted (l.ss.current_down k 0 y f0 ops opn).0).0;
+      present = λ j n x h e pr. l.ss.present_accepted x.message.session_id pr (l.ss.ranked_up j n x (up_there w.conns k rest j n x h) e) ∙ sym (l.ss.live_accepted (l.ss.current_down k 0 y f0 ops opn).0).0;
       not_done = λ z ed bad b. i.not_done k 0 g y f0 (own z) ed bad b;
       create_reply = λ z mk ok. i.create_reply k 0 g y f0 (own z) mk ok;
       reached = λ z ed fm fin. i.reached k 0 g y f0 (own z) ed fm fin;
@@ -170,12 +170,12 @@ dialogs w a k y rest is opn tok l i0 i Binds e =
     (λ dead newer. absurd (omega (arith, newer))) (dialog_fails w a k y rest is opn tok l i0 i)
 dialogs w a k y rest is opn tok l i0 i Readies e =
     let st = readies_stage (w.client.stage k) y.reply.status e in let p = l.ss.pending_accepted k st in
-    ended_well (λ v. ContentsHold v a) (behind_reply w k rest) k w.client.pending y.reply.tree (λ _. bound_keeps w.client (put w.conns k (take_front (w.conns k) rest)) w.server w.trace w.log a k i)
+    ended_well (λ v. ContentsHold v a) (behind_reply w k rest) k w.client.pending y.reply.tree_id (λ _. bound_keeps w.client (put w.conns k (take_front (w.conns k) rest)) w.server w.trace w.log a k i)
     (λ _ _. readied_keeps w.client (put w.conns k (take_front (w.conns k) rest)) w.server w.trace w.log a k y.reply st (subst (λ x. 0 < w.client.rank x) (sym p.0) p.1) (λ j n z. alone w a j k l n (asks_makes (w.client.stage k) st) z)
     (λ q. (l.ss.numbered_sessions q 0).0)
     (λ j n u h. let o = waited_down w.conns k y rest j n u is h in by_ops st j o.0 u o.1 (is_ops u.token) refl)
     (λ j n x h ops. let h2 = up_there w.conns k rest j n x h in let fr = l.ss.asked_fresh k j n x st h2 ops in
-    (fr, by_test (w.server.present x.message.session) x.message.session (λ pr. fr (l.ss.present_accepted x.message.session pr (l.ss.ranked_up j n x h2 ops) ∙ sym p.0)) refl))
+    (fr, by_test (w.server.present x.message.session_id) x.message.session_id (λ pr. fr (l.ss.present_accepted x.message.session_id pr (l.ss.ranked_up j n x h2 ops) ∙ sym p.0)) refl))
     i)
     (dialog_fails w a k y rest is opn tok l i0 i)
   where

@@ -31,7 +31,7 @@ use Rattle.order_law.proofs.OnAllDropped.{all_dropped_keeps}
 
 -- ---- what is known of sessions and opens in a world that a run leads to
 
-pub ranked_of : (w : World) (a : ℕ → ℕ) → Lower w a → (j n : ℕ) (x : Sent) → slice_get (w.conns j).up n ≡ Some x → is_ops x.token ≡ true → 0 < w.client.rank x.message.session
+pub ranked_of : (w : World) (a : ℕ → ℕ) → Lower w a → (j n : ℕ) (x : Sent) → slice_get (w.conns j).up n ≡ Some x → is_ops x.token ≡ true → 0 < w.client.rank x.message.session_id
 ranked_of w a l j n x h e = l.ss.ranked_up j n x h e
 
 pub alive_of : (w : World) (a : ℕ → ℕ) → Lower w a → w.client.live ≡ true → 0 < w.client.rank w.client.session
@@ -144,7 +144,7 @@ drops w a k l i =
     dropped_keeps w.client w.conns A.server w.trace w.log a k (moves w a A.server l (calm_moves w.client.rank w.server A.server (λ o st. (l.fits.open_ids o st).1) (calm_end w.server w.moment k)) i)
 
 -- a restart, from any world of which this is known
-pub restarts : (w : World) (a : ℕ → ℕ) → Fits w.server → Restarted w.server (recovered_from w.server w.records) → ((j n : ℕ) (x : Sent) → slice_get (w.conns j).up n ≡ Some x → is_ops x.token ≡ true → 0 < w.client.rank x.message.session)
+pub restarts : (w : World) (a : ℕ → ℕ) → Fits w.server → Restarted w.server (recovered_from w.server w.records) → ((j n : ℕ) (x : Sent) → slice_get (w.conns j).up n ≡ Some x → is_ops x.token ≡ true → 0 < w.client.rank x.message.session_id)
     → ((j n : ℕ) (y : Received) → slice_get (w.conns j).down n ≡ Some y → is_ops y.token ≡ true → 0 < w.client.rank w.client.session) → (w.client.live ≡ true → 0 < w.client.rank w.client.session) → ContentsHold w a → ContentsHold (restarted w) a
 restarts w a f r ranked current alive i =
     all_dropped_keeps w.client w.conns (recovered_from w.server w.records) w.trace w.log a (moved_keeps w.client w.conns w.server w.trace w.log a (recovered_from w.server w.records) (anew_moves w.client.rank w.server (recovered_from w.server w.records) f r) ranked current alive i)

@@ -31,19 +31,19 @@ abbrev pub SoundBy : Server → Message → Verdict → Type 0
 SoundBy s m (Refuse status) = Unit {0}
 SoundBy s m (Give body) = Unit {0}
 SoundBy s m (KeepRefusal guid status) = Unit {0}
-SoundBy s m (Repeat o r) = (guid : ℕ) × (s.by_guid m.client guid ≡ Some o)
+SoundBy s m (Repeat o r) = (guid : ℕ) × (s.by_guid m.client_guid guid ≡ Some o)
 SoundBy s m (Attach o r) = s.standing o ≡ true
 SoundBy s m (Make r found action) = Unit {0}
-SoundBy s m (TurnDown o status) = is_of_session s o m.session ≡ true
-SoundBy s m (Tell o body) = is_of_session s o m.session ≡ true
-SoundBy s m (Show o last body) = is_of_session s o m.session ≡ true
-SoundBy s m (KeepSlot o index number status elements) = is_of_session s o m.session ≡ true
-SoundBy s m (PutRanges o index number ranges elements) = is_of_session s o m.session ≡ true
-SoundBy s m (Alter o change body) = (is_of_session s o m.session ≡ true) × (is_late s m o ≡ false)
-SoundBy s m (CloseOpen o body) = is_of_session s o m.session ≡ true
+SoundBy s m (TurnDown o status) = is_of_session s o m.session_id ≡ true
+SoundBy s m (Tell o body) = is_of_session s o m.session_id ≡ true
+SoundBy s m (Show o last body) = is_of_session s o m.session_id ≡ true
+SoundBy s m (KeepSlot o index number status elements) = is_of_session s o m.session_id ≡ true
+SoundBy s m (PutRanges o index number ranges elements) = is_of_session s o m.session_id ≡ true
+SoundBy s m (Alter o change body) = (is_of_session s o m.session_id ≡ true) × (is_late s m o ≡ false)
+SoundBy s m (CloseOpen o body) = is_of_session s o m.session_id ≡ true
 SoundBy s m Challenge = Unit {0}
 SoundBy s m (ChallengeBinding session) = Unit {0}
-SoundBy s m (Begin session user previous request is_quiet) = (is_new m.session (s.making m.connection) ≡ true) × (session ≡ m.session)
+SoundBy s m (Begin session user previous request is_quiet) = (is_new m.session_id (s.making m.connection) ≡ true) × (session ≡ m.session_id)
 SoundBy s m (Join session) = Unit {0}
 SoundBy s m (EndSession session is_quiet) = Unit {0}
 SoundBy s m (AddTree pipes) = Unit {0}
@@ -64,23 +64,23 @@ names_sound s m r found None = either (Sound s m) (shares s r found) _ _ (λ _. 
 
 new_sound : (s : Server) (m : Message) (r : CreateRequest) (found : Option ℕ) → Sound s m (new_check s m r found)
 new_sound s m r found =
-    either (Sound s m) (deletes_on_close r.options && not (deletes (mapped r.access))) _ _ (λ _. record { is = tt }) (λ _. either (Sound s m) (keeps_guid r && nat_le max_guids (s.guids m.session)) _ _ (λ _. record { is = tt }) (λ _. either (Sound s m) (is_counted_out s r found) _ _ (λ _. refused_by_sound s m r.durable _) (λ _. names_sound s m r found _)))
+    either (Sound s m) (deletes_on_close r.options && not (deletes (mapped r.access))) _ _ (λ _. record { is = tt }) (λ _. either (Sound s m) (keeps_guid r && nat_le max_guids (s.guids m.session_id)) _ _ (λ _. record { is = tt }) (λ _. either (Sound s m) (is_counted_out s r found) _ _ (λ _. refused_by_sound s m r.durable _) (λ _. names_sound s m r found _)))
 
-live_sound : (s : Server) (m : Message) (r : CreateRequest) (guid o : ℕ) → s.by_guid m.client guid ≡ Some o → Sound s m (live_check s m r o)
+live_sound : (s : Server) (m : Message) (r : CreateRequest) (guid o : ℕ) → s.by_guid m.client_guid guid ≡ Some o → Sound s m (live_check s m r o)
 live_sound s m r guid o e =
-    either (Sound s m) (not m.replay) _ _ (λ _. record { is = tt }) (λ _. either (Sound s m) (is_at m.session (s.session_of_open o)) _ _ (λ _. record { is = (guid, e) }) (λ _. either (Sound s m) (is_some (s.session_of_open o) || not (s.opened o).persistent) _ _ (λ _. record { is = tt }) (λ _. either (Sound s m) (same_name (s.opened o).user (s.user m.session)) _ _ (λ _. record { is = (guid, e) }) (λ _. record { is = tt }))))
+    either (Sound s m) (not m.replay) _ _ (λ _. record { is = tt }) (λ _. either (Sound s m) (is_at m.session_id (s.session_of_open o)) _ _ (λ _. record { is = (guid, e) }) (λ _. either (Sound s m) (is_some (s.session_of_open o) || not (s.opened o).persistent) _ _ (λ _. record { is = tt }) (λ _. either (Sound s m) (same_name (s.opened o).user (s.user m.session_id)) _ _ (λ _. record { is = (guid, e) }) (λ _. record { is = tt }))))
 
 refusal_sound : (s : Server) (m : Message) (r : CreateRequest) (kept : Option ℕ) → Sound s m (refusal_check s m r kept)
 refusal_sound s m r (Some status) = record { is = tt }
 refusal_sound s m r None = new_sound s m r (find s r.path)
 
-guid_sound : (s : Server) (m : Message) (r : CreateRequest) (d : Durable) (o : Option ℕ) → s.by_guid m.client d.guid ≡ o → Sound s m (guid_check s m r d o)
+guid_sound : (s : Server) (m : Message) (r : CreateRequest) (d : Durable) (o : Option ℕ) → s.by_guid m.client_guid d.guid ≡ o → Sound s m (guid_check s m r d o)
 guid_sound s m r d (Some o) e = live_sound s m r d.guid o e
-guid_sound s m r d None e = either (Sound s m) (s.closed m.session d.guid) _ _ (λ _. record { is = tt }) (λ _. either (Sound s m) (s.expired_guids m.client d.guid) _ _ (λ _. record { is = tt }) (λ _. refusal_sound s m r _))
+guid_sound s m r d None e = either (Sound s m) (s.closed m.session_id d.guid) _ _ (λ _. record { is = tt }) (λ _. either (Sound s m) (s.expired_guids m.client_guid d.guid) _ _ (λ _. record { is = tt }) (λ _. refusal_sound s m r _))
 
 reconnect_sound : (s : Server) (m : Message) (r : CreateRequest) (c : Reconnect) → Sound s m (reconnect_check s m r c)
 reconnect_sound s m r c =
-    either (Sound s m) (not (s.standing c.file && has_guid c.guid (s.opened c.file).guid)) _ _ (λ _. record { is = tt }) (λ e. either (Sound s m) (not (same_name (s.opened c.file).user (s.user m.session))) _ _ (λ _. record { is = tt }) (λ _. either (Sound s m) (is_some (s.session_of_open c.file) && not (is_at m.session (s.session_of_open c.file))) _ _ (λ _. record { is = tt }) (λ _. record { is = front_of _ _ (not_false _ e) })))
+    either (Sound s m) (not (s.standing c.file && has_guid c.guid (s.opened c.file).create_guid)) _ _ (λ _. record { is = tt }) (λ e. either (Sound s m) (not (same_name (s.opened c.file).user (s.user m.session_id))) _ _ (λ _. record { is = tt }) (λ _. either (Sound s m) (is_some (s.session_of_open c.file) && not (is_at m.session_id (s.session_of_open c.file))) _ _ (λ _. record { is = tt }) (λ _. record { is = front_of _ _ (not_false _ e) })))
 
 durable_sound : (s : Server) (m : Message) (r : CreateRequest) (d : Option Durable) → Sound s m (durable_check s m r d)
 durable_sound s m r None = new_sound s m r (find s r.path)
@@ -93,10 +93,10 @@ create_sound s m r None = durable_sound s m r r.durable
 -- ---- requests on an open
 
 abbrev On : Server → Message → ℕ → Type 0
-On s m o = is_of_session s o m.session ≡ true
+On s m o = is_of_session s o m.session_id ≡ true
 
 open_sound : (s : Server) (m : Message) (o : ℕ) (v : Verdict) → (On s m o → Sound s m v) → Sound s m (on_open s m o v)
-open_sound s m o v f = either (Sound s m) (is_of_session s o m.session) _ _ f (λ _. record { is = tt })
+open_sound s m o v f = either (Sound s m) (is_of_session s o m.session_id) _ _ f (λ _. record { is = tt })
 
 alter_sound : (s : Server) (m : Message) (o : ℕ) (change : Change) (body : Body) → On s m o → is_late s m o ≡ false → Sound s m (Alter o change body)
 alter_sound s m o change body on t = record { is = (on, t) }
@@ -186,10 +186,10 @@ in_tree_sound s m (Some pipes) = tree_sound s m pipes m.command
 
 -- ---- SESSION_SETUP
 
-granted_sound : (s : Server) (m : Message) (r : SetupRequest) (user : List ℕ) → is_new m.session (s.making m.connection) ≡ true → Sound s m (granted_session s m r user)
+granted_sound : (s : Server) (m : Message) (r : SetupRequest) (user : List ℕ) → is_new m.session_id (s.making m.connection) ≡ true → Sound s m (granted_session s m r user)
 granted_sound s m r user e = either (Sound s m) (s.encrypts && (r.cipher == 0)) _ _ (λ _. record { is = tt }) (λ _. either (Sound s m) (nat_le max_sessions s.sessions) _ _ (λ _. record { is = tt }) (λ _. record { is = (e, refl) }))
 
-second_sound : (s : Server) (m : Message) (r : SetupRequest) (t : Shows) → is_new m.session (s.making m.connection) ≡ true → Sound s m (second_token s m r t)
+second_sound : (s : Server) (m : Message) (r : SetupRequest) (t : Shows) → is_new m.session_id (s.making m.connection) ≡ true → Sound s m (second_token s m r t)
 second_sound s m r Begins e = record { is = tt }
 second_sound s m r Bad e = record { is = tt }
 second_sound s m r Refused e = record { is = tt }
@@ -203,14 +203,14 @@ first_sound s m (Logon user) = record { is = tt }
 
 session_sound : (s : Server) (m : Message) (r : SetupRequest) → Sound s m (session_check s m r)
 session_sound s m r =
-    either (Sound s m) (m.session == 0) _ _ (λ _. either (Sound s m) (is_some (s.session_on m.connection)) _ _ (λ _. record { is = tt }) (λ _. first_sound s m r.shows))
-    (λ _. either (Sound s m) (s.present m.session) _ _ (λ _. record { is = tt }) (λ _. either (Sound s m) (is_new m.session (s.making m.connection)) _ _ (λ e. second_sound s m r r.shows e) (λ _. record { is = tt })))
+    either (Sound s m) (m.session_id == 0) _ _ (λ _. either (Sound s m) (is_some (s.session_on m.connection)) _ _ (λ _. record { is = tt }) (λ _. first_sound s m r.shows))
+    (λ _. either (Sound s m) (s.present m.session_id) _ _ (λ _. record { is = tt }) (λ _. either (Sound s m) (is_new m.session_id (s.making m.connection)) _ _ (λ e. second_sound s m r r.shows e) (λ _. record { is = tt })))
 
 second_binding_sound : (s : Server) (m : Message) (t : Shows) → Sound s m (second_binding s m t)
 second_binding_sound s m Begins = record { is = tt }
 second_binding_sound s m Bad = record { is = tt }
 second_binding_sound s m Refused = record { is = tt }
-second_binding_sound s m (Logon user) = either (Sound s m) (not (same_name user (s.user m.session))) _ _ (λ _. record { is = tt }) (λ _. either (Sound s m) (nat_le max_channels (count_channels s.session_on s.connections m.session)) _ _ (λ _. record { is = tt }) (λ _. either (Sound s m) (nat_le max_numbers (s.channel_numbers_drawn m.session)) _ _ (λ _. record { is = tt }) (λ _. record { is = tt })))
+second_binding_sound s m (Logon user) = either (Sound s m) (not (same_name user (s.user m.session_id))) _ _ (λ _. record { is = tt }) (λ _. either (Sound s m) (nat_le max_channels (count_channels s.session_on s.connections m.session_id)) _ _ (λ _. record { is = tt }) (λ _. either (Sound s m) (nat_le max_numbers (s.channel_numbers_drawn m.session_id)) _ _ (λ _. record { is = tt }) (λ _. record { is = tt })))
 
 first_binding_sound : (s : Server) (m : Message) (t : Shows) → Sound s m (first_binding m t)
 first_binding_sound s m Begins = record { is = tt }
@@ -219,15 +219,15 @@ first_binding_sound s m Refused = record { is = tt }
 first_binding_sound s m (Logon user) = record { is = tt }
 
 binding_token_sound : (s : Server) (m : Message) (r : SetupRequest) → Sound s m (binding_token s m r)
-binding_token_sound s m r = either (Sound s m) (is_binding m.session (s.making m.connection)) _ _ (λ _. second_binding_sound s m r.shows) (λ _. first_binding_sound s m r.shows)
+binding_token_sound s m r = either (Sound s m) (is_binding m.session_id (s.making m.connection)) _ _ (λ _. second_binding_sound s m r.shows) (λ _. first_binding_sound s m r.shows)
 
 live_binding_sound : (s : Server) (m : Message) (r : SetupRequest) → Sound s m (live_binding s m r)
 live_binding_sound s m r =
     either (Sound s m) (not r.signed) _ _ (λ _. record { is = tt })
-    (λ _. either (Sound s m) (not (m.client == s.client m.session)) _ _ (λ _. record { is = tt }) (λ _. either (Sound s m) (not ((r.cipher == s.cipher m.session) && (r.signing == s.signing m.session))) _ _ (λ _. record { is = tt }) (λ _. either (Sound s m) (is_some (s.session_on m.connection)) _ _ (λ _. record { is = tt }) (λ _. either (Sound s m) (not r.verified) _ _ (λ _. record { is = tt }) (λ _. binding_token_sound s m r)))))
+    (λ _. either (Sound s m) (not (m.client_guid == s.client m.session_id)) _ _ (λ _. record { is = tt }) (λ _. either (Sound s m) (not ((r.cipher == s.cipher m.session_id) && (r.signing == s.signing m.session_id))) _ _ (λ _. record { is = tt }) (λ _. either (Sound s m) (is_some (s.session_on m.connection)) _ _ (λ _. record { is = tt }) (λ _. either (Sound s m) (not r.verified) _ _ (λ _. record { is = tt }) (λ _. binding_token_sound s m r)))))
 
 binding_sound : (s : Server) (m : Message) (r : SetupRequest) → Sound s m (binding_check s m r)
-binding_sound s m r = either (Sound s m) (s.present m.session) _ _ (λ _. live_binding_sound s m r) (λ _. either (Sound s m) (not (is_new m.session (s.making m.connection))) _ _ (λ _. record { is = tt }) (λ _. either (Sound s m) (not r.signed) _ _ (λ _. record { is = tt }) (λ _. record { is = tt })))
+binding_sound s m r = either (Sound s m) (s.present m.session_id) _ _ (λ _. live_binding_sound s m r) (λ _. either (Sound s m) (not (is_new m.session_id (s.making m.connection))) _ _ (λ _. record { is = tt }) (λ _. either (Sound s m) (not r.signed) _ _ (λ _. record { is = tt }) (λ _. record { is = tt })))
 
 setup_sound : (s : Server) (m : Message) (r : SetupRequest) → Sound s m (setup_check s m r)
 setup_sound s m r = either (Sound s m) (r.binding) _ _ (λ _. binding_sound s m r) (λ _. session_sound s m r)
@@ -235,10 +235,10 @@ setup_sound s m r = either (Sound s m) (r.binding) _ _ (λ _. binding_sound s m 
 -- ---- the whole
 
 tree_connect_sound : (s : Server) (m : Message) (share : List ℕ) → Sound s m (tree_check s m share)
-tree_connect_sound s m share = either (Sound s m) (no_tree_left s m.session) _ _ (λ _. record { is = tt }) (λ _. either (Sound s m) (same_name share pipes_name) _ _ (λ _. record { is = tt }) (λ _. either (Sound s m) (same_name share s.share) _ _ (λ _. record { is = tt }) (λ _. record { is = tt })))
+tree_connect_sound s m share = either (Sound s m) (no_tree_left s m.session_id) _ _ (λ _. record { is = tt }) (λ _. either (Sound s m) (same_name share pipes_name) _ _ (λ _. record { is = tt }) (λ _. either (Sound s m) (same_name share s.share) _ _ (λ _. record { is = tt }) (λ _. record { is = tt })))
 
 with_tree_sound : (s : Server) (m : Message) → Sound s m (with_tree s m)
-with_tree_sound s m = in_tree_sound s m (tree_in (s.trees m.session) m.tree)
+with_tree_sound s m = in_tree_sound s m (tree_in (s.trees m.session_id) m.tree_id)
 
 command_sound : (s : Server) (m : Message) (c : Command) → Sound s m (command_check s m c)
 command_sound s m (Unreadable status) = record { is = tt }

@@ -214,7 +214,7 @@ record Goes (w : World) (a : ℕ → ℕ) (c : Client) (l : Log) (k g : ℕ) : T
   live : c.live ≡ true
   itself : goes_itself c g ≡ true
 
-sends : (w : World) (a : ℕ → ℕ) (c : Client) (l : Log) (k g n0 : ℕ) (m : Message) → Lower w a → ContentsHold w a → (w.conns k).client_open ≡ true → Goes w a c l k g → m.session ≡ c.session → m.sequence ≡ c.sequence → m.replay ≡ is_replay c g
+sends : (w : World) (a : ℕ → ℕ) (c : Client) (l : Log) (k g n0 : ℕ) (m : Message) → Lower w a → ContentsHold w a → (w.conns k).client_open ≡ true → Goes w a c l k g → m.session_id ≡ c.session → m.channel_sequence ≡ c.sequence → m.replay ≡ is_replay c g
     → Contents (outstanding c k g) (put w.conns k (send_up (w.conns k) (ForOp g) m n0)) w.server w.trace l a
 unfolding its_create
 sends w a c l k g n0 m lw i0 stands q ms mq mr =

@@ -26,8 +26,8 @@ new_trace c t l x A =
       open_of = if makes c x.token A then put t.open_of (op_of x.token) A.reached else t.open_of;
       reached = put t.reached l.places A.reached;
       altered = put t.altered l.places A.altered;
-      session = put t.session l.places x.message.session;
-      sequence = put t.sequence l.places x.message.sequence;
+      session = put t.session l.places x.message.session_id;
+      sequence = put t.sequence l.places x.message.channel_sequence;
     }
 
 abbrev pub new_log : Client → Trace → Log → Sent → Answer → Log
@@ -49,8 +49,8 @@ new_acts a x A h = if is_send_of h x.token && A.acted then a h + 1 else a h
 
 pub record Taking (c : Client) (s : Server) (t : Trace) (x0 : Sent) (A : Answer) : Type 0 where
   pub steps : Steps c.rank s A.server
-  pub session_of_open : (o y : ℕ) → A.server.session_of_open o ≡ Some y → (s.session_of_open o ≡ Some y × A.server.sequence o ≤ s.sequence o) ⊎ (A.reached ≡ Some o × y ≡ x0.message.session × A.server.sequence o ≤ x0.message.sequence)
-  pub reached : (o : ℕ) → A.reached ≡ Some o → o ≤ last_id A.server × Pair A.server x0.message.session x0.message.sequence o
+  pub session_of_open : (o y : ℕ) → A.server.session_of_open o ≡ Some y → (s.session_of_open o ≡ Some y × A.server.sequence o ≤ s.sequence o) ⊎ (A.reached ≡ Some o × y ≡ x0.message.session_id × A.server.sequence o ≤ x0.message.channel_sequence)
+  pub reached : (o : ℕ) → A.reached ≡ Some o → o ≤ last_id A.server × Pair A.server x0.message.session_id x0.message.channel_sequence o
   pub ops : (o : ℕ) → A.reached ≡ Some o → is_ops x0.token ≡ true
   pub changing : Changing s x0.message A
   pub making : Making s x0.message A
@@ -64,11 +64,11 @@ pub record Taking (c : Client) (s : Server) (t : Trace) (x0 : Sent) (A : Answer)
   -- what makes an open is a create, by its own message
   pub creator : creates x0.message.command ≡ true → A.acted ≡ true → (g : ℕ) × ((x0.token ≡ ForOp g) × (makes_open (c.op g) ≡ true) × (asks_guid x0.message.command ≡ Some (guid_for c g)) × (asks_share x0.message.command ≡ share_of (c.op g)))
   pub makes_create : makes c x0.token A ≡ true → creates x0.message.command ≡ true
-  pub client : x0.message.client ≡ c.who.guid
+  pub client : x0.message.client_guid ≡ c.who.guid
   pub remade : makes c x0.token A ≡ true → t.open_of (op_of x0.token) ≡ None
-  pub ranked : is_ops x0.token ≡ true → 0 < c.rank x0.message.session
-  pub fresh : is_ops x0.token ≡ true → (j : ℕ) → c.stage j ≡ AskedTree → x0.message.session ≢ c.pending
-  pub upto : c.live ≡ true → x0.message.session ≡ c.session → x0.message.sequence ≤ c.sequence
+  pub ranked : is_ops x0.token ≡ true → 0 < c.rank x0.message.session_id
+  pub fresh : is_ops x0.token ≡ true → (j : ℕ) → c.stage j ≡ AskedTree → x0.message.session_id ≢ c.pending
+  pub upto : c.live ≡ true → x0.message.session_id ≡ c.session → x0.message.channel_sequence ≤ c.sequence
   -- the open of a create that settled Ok
   pub files : (q : ℕ) → makes_open (c.op q) ≡ true → is_ok (c.outcome q) ≡ true → c.file q ≤ last_id s
 

@@ -24,7 +24,7 @@ use Rattle.order_law.proofs.Answers.{Earlier, earlier}
 abbrev SureBy : Server → Message → Durable → Verdict → Type 0
 SureBy s m d (Refuse status) = (status == success) ≡ false
 SureBy s m d (KeepRefusal guid status) = Unit {0}
-SureBy s m d (Repeat o r) = s.by_guid m.client d.guid ≡ Some o
+SureBy s m d (Repeat o r) = s.by_guid m.client_guid d.guid ≡ Some o
 SureBy s m d (Make r found action) = Unit {0}
 SureBy s m d _ = ⊥
 
@@ -33,7 +33,7 @@ record Sure (s : Server) (m : Message) (d : Durable) (v : Verdict) : Type 0 wher
 
 -- no refusal that is kept is a success
 abbrev pub Unkept : Server → Message → Type 0
-Unkept s m = (q status : ℕ) → s.refused m.session q ≡ Some status → (status == success) ≡ false
+Unkept s m = (q status : ℕ) → s.refused m.session_id q ≡ Some status → (status == success) ≡ false
 
 refused_sure : (s : Server) (m : Message) (d : Durable) (e : Option Durable) (status : ℕ) → e ≡ Some d → Sure s m d (refused_by e status)
 refused_sure s m d None status k = absurd (cc)
@@ -46,28 +46,28 @@ names_sure s m d r f None k = either (Sure s m d) (shares s r f) _ _ (λ _. reco
 new_sure : (s : Server) (m : Message) (d : Durable) (r : CreateRequest) (f : Option ℕ) → r.durable ≡ Some d → Sure s m d (new_check s m r f)
 new_sure s m d r f k =
     either (Sure s m d) (deletes_on_close r.options && not (deletes (mapped r.access))) _ _ (λ _. record { is = refl })
-    (λ _. either (Sure s m d) (keeps_guid r && nat_le max_guids (s.guids m.session)) _ _ (λ _. record { is = refl }) (λ _. either (Sure s m d) (is_counted_out s r f) _ _ (λ _. refused_sure s m d r.durable _ k) (λ _. names_sure s m d r f (names s r f) k)))
+    (λ _. either (Sure s m d) (keeps_guid r && nat_le max_guids (s.guids m.session_id)) _ _ (λ _. record { is = refl }) (λ _. either (Sure s m d) (is_counted_out s r f) _ _ (λ _. refused_sure s m d r.durable _ k) (λ _. names_sure s m d r f (names s r f) k)))
 
-live_sure : (s : Server) (m : Message) (d : Durable) (r : CreateRequest) (o : ℕ) → s.by_guid m.client d.guid ≡ Some o → Sure s m d (live_check s m r o)
+live_sure : (s : Server) (m : Message) (d : Durable) (r : CreateRequest) (o : ℕ) → s.by_guid m.client_guid d.guid ≡ Some o → Sure s m d (live_check s m r o)
 live_sure s m d r o e =
-    either (Sure s m d) (not m.replay) _ _ (λ _. record { is = refl }) (λ _. either (Sure s m d) (is_at m.session (s.session_of_open o)) _ _ (λ _. record { is = e })
-    (λ _. either (Sure s m d) (is_some (s.session_of_open o) || not (s.opened o).persistent) _ _ (λ _. record { is = refl }) (λ _. either (Sure s m d) (same_name (s.opened o).user (s.user m.session)) _ _ (λ _. record { is = e }) (λ _. record { is = refl }))))
+    either (Sure s m d) (not m.replay) _ _ (λ _. record { is = refl }) (λ _. either (Sure s m d) (is_at m.session_id (s.session_of_open o)) _ _ (λ _. record { is = e })
+    (λ _. either (Sure s m d) (is_some (s.session_of_open o) || not (s.opened o).persistent) _ _ (λ _. record { is = refl }) (λ _. either (Sure s m d) (same_name (s.opened o).user (s.user m.session_id)) _ _ (λ _. record { is = e }) (λ _. record { is = refl }))))
 
 refusal_sure : (s : Server) (m : Message) (d : Durable) (r : CreateRequest) (k : Option ℕ) → r.durable ≡ Some d → ((status : ℕ) → k ≡ Some status → (status == success) ≡ false) → Sure s m d (refusal_check s m r k)
 refusal_sure s m d r (Some status) k f = record { is = f status refl }
 refusal_sure s m d r None k f = new_sure s m d r (find s r.path) k
 
-guid_sure : (s : Server) (m : Message) (d : Durable) (r : CreateRequest) (o : Option ℕ) → r.durable ≡ Some d → Unkept s m → s.by_guid m.client d.guid ≡ o → Sure s m d (guid_check s m r d o)
+guid_sure : (s : Server) (m : Message) (d : Durable) (r : CreateRequest) (o : Option ℕ) → r.durable ≡ Some d → Unkept s m → s.by_guid m.client_guid d.guid ≡ o → Sure s m d (guid_check s m r d o)
 guid_sure s m d r (Some o) k u e = live_sure s m d r o e
 guid_sure s m d r None k u e =
-    either (Sure s m d) (s.closed m.session d.guid) _ _ (λ _. record { is = refl }) (λ _. either (Sure s m d) (s.expired_guids m.client d.guid) _ _ (λ _. record { is = refl }) (λ _. refusal_sure s m d r (s.refused m.session d.guid) k (u d.guid)))
+    either (Sure s m d) (s.closed m.session_id d.guid) _ _ (λ _. record { is = refl }) (λ _. either (Sure s m d) (s.expired_guids m.client_guid d.guid) _ _ (λ _. record { is = refl }) (λ _. refusal_sure s m d r (s.refused m.session_id d.guid) k (u d.guid)))
 
 tree_sure : (s : Server) (m : Message) (d : Durable) (r : CreateRequest) → m.command ≡ Create r → r.reconnect ≡ None → r.durable ≡ Some d → Unkept s m → (t : Option Bool) → Sure s m d (in_tree s m t)
 tree_sure s m d r e n k u None = record { is = refl }
 tree_sure s m d r e n k u (Some true) = subst (λ c. Sure s m d (tree_command s m true c)) (sym e) (record { is = refl })
 tree_sure s m d r e n k u (Some false) =
     subst (λ c. Sure s m d (tree_command s m false c)) (sym e) (subst (λ x. Sure s m d (reconnect_or_create s m r x)) (sym n)
-    (subst (λ x. Sure s m d (durable_check s m r x)) (sym k) (guid_sure s m d r (s.by_guid m.client d.guid) k u refl)))
+    (subst (λ x. Sure s m d (durable_check s m r x)) (sym k) (guid_sure s m d r (s.by_guid m.client_guid d.guid) k u refl)))
 
 ill_formed : (r : CreateRequest) (status : ℕ) → create_form r ≡ Some status → (status == success) ≡ false
 unfolding path_form
@@ -75,7 +75,7 @@ ill_formed r status e = grind arith
 
 formed_sure : (s : Server) (m : Message) (d : Durable) (r : CreateRequest) → m.command ≡ Create r → r.reconnect ≡ None → r.durable ≡ Some d → Unkept s m → (f : Option ℕ) → form m.command ≡ f → Sure s m d (formed s m f)
 formed_sure s m d r e n k u (Some status) f = record { is = ill_formed r status (ap form (sym e) ∙ f) }
-formed_sure s m d r e n k u None f = subst (λ c. Sure s m d (command_check s m c)) (sym e) (tree_sure s m d r e n k u (tree_in (s.trees m.session) m.tree))
+formed_sure s m d r e n k u None f = subst (λ c. Sure s m d (command_check s m c)) (sym e) (tree_sure s m d r e n k u (tree_in (s.trees m.session_id) m.tree_id))
 
 check_sure : (s : Server) (m : Message) (d : Durable) (r : CreateRequest) → m.command ≡ Create r → r.reconnect ≡ None → r.durable ≡ Some d → m.fault ≡ None → Unkept s m → Sure s m d (check s m)
 check_sure s m d r e n k f u =
@@ -105,7 +105,7 @@ sure_without_room s m d DropTree h k = absurd (h.is)
 
 -- a success tells the open that was made, or the one that the guid names
 pub record Tells (s : Server) (m : Message) (d : Durable) (A : Answer) : Type 0 where
-  pub tells : (A.reply.status == success) ≡ true → (A.acted ≡ true × A.reached ≡ Some (id_in A.reply.body)) ⊎ (s.by_guid m.client d.guid ≡ Some (id_in A.reply.body))
+  pub tells : (A.reply.status == success) ≡ true → (A.acted ≡ true × A.reached ≡ Some (id_in A.reply.body)) ⊎ (s.by_guid m.client_guid d.guid ≡ Some (id_in A.reply.body))
 
 tells_at : (s : Server) (m : Message) (d : Durable) (now : ℕ) (v : Verdict) → Sure s m d v → Found s m v → Tells s m d (apply s m now v)
 tells_at s m d now (Refuse status) h f = record { tells = λ e. absurd (let z = h.is in grind arith) }
@@ -137,7 +137,7 @@ leave_refused s o = gone (drop_open (pending_behind s o) o) (s.opened o).file �
 
 before_refused : (s : Server) (now : ℕ) (t : Server) → Before s now t → t.refused ≡ s.refused
 before_refused s now t (inl e) = ap (λ (u : Server). u.refused) e
-before_refused s now t (inr (o, q, e)) = ap (λ (u : Server). u.refused) e ∙ guid_added (leave_open (with_deadlines s now) o) (s.opened o).client (s.opened o).guid ∙ leave_refused (with_deadlines s now) o
+before_refused s now t (inr (o, q, e)) = ap (λ (u : Server). u.refused) e ∙ guid_added (leave_open (with_deadlines s now) o) (s.opened o).client_guid (s.opened o).create_guid ∙ leave_refused (with_deadlines s now) o
   where
     guid_added : (s : Server) (client : ℕ) (guid : Option ℕ) → (add_expired_guid s client guid).refused ≡ s.refused
     guid_added s client None = refl
@@ -156,13 +156,13 @@ found_sure t m d r v e k c (inr q) = subst (Sure t m d) (sym q) (sure_without_ro
 tells_step : (s : Server) (now : ℕ) (m : Message) (d : Durable) (r : CreateRequest) → m.command ≡ Create r → r.reconnect ≡ None → r.durable ≡ Some d → m.fault ≡ None → Unkept s m → Tells s m d (step s now (Heard m))
 tells_step s now m d r e n k f u =
     by_verdict (Tells s m d) s now m
-    (λ t v records b h. let q = earlier s now t b in let c = check_sure t m d r e n k f (λ x status z. u x status (ap (λ g. g m.session x) (sym (before_refused s now t b)) ∙ z)) in
+    (λ t v records b h. let q = earlier s now t b in let c = check_sure t m d r e n k f (λ x status z. u x status (ap (λ g. g m.session_id x) (sym (before_refused s now t b)) ∙ z)) in
     let a = tells_at t m d now v (found_sure t m d r v e k c h) (found t m v h) in record { tells = λ z. by_side t q v (a.tells z) })
   where
-    by_side : (t : Server) → Earlier s t → (v : Verdict) → ((apply t m now v).acted ≡ true × (apply t m now v).reached ≡ Some (id_in (apply t m now v).reply.body)) ⊎ (t.by_guid m.client d.guid ≡ Some (id_in (apply t m now v).reply.body))
-        → ((apply t m now v).acted ≡ true × (apply t m now v).reached ≡ Some (id_in (apply t m now v).reply.body)) ⊎ (s.by_guid m.client d.guid ≡ Some (id_in (apply t m now v).reply.body))
+    by_side : (t : Server) → Earlier s t → (v : Verdict) → ((apply t m now v).acted ≡ true × (apply t m now v).reached ≡ Some (id_in (apply t m now v).reply.body)) ⊎ (t.by_guid m.client_guid d.guid ≡ Some (id_in (apply t m now v).reply.body))
+        → ((apply t m now v).acted ≡ true × (apply t m now v).reached ≡ Some (id_in (apply t m now v).reply.body)) ⊎ (s.by_guid m.client_guid d.guid ≡ Some (id_in (apply t m now v).reply.body))
     by_side t q v (inl z) = inl z
-    by_side t q v (inr z) = inr (q.moves.guid m.client d.guid (id_in (apply t m now v).reply.body) z)
+    by_side t q v (inr z) = inr (q.moves.guid m.client_guid d.guid (id_in (apply t m now v).reply.body) z)
 
 pub tells : (s : Server) (now : ℕ) (m : Message) (d : Durable) (r : CreateRequest) → m.command ≡ Create r → r.reconnect ≡ None → r.durable ≡ Some d → m.fault ≡ None → Unkept s m → Tells s m d (answer_to s now m m.command)
 tells s now m d r e n k f u = subst (λ c. Tells s m d (answer_to s now m c)) (sym e) (tells_step s now m d r e n k f u)

@@ -265,7 +265,7 @@ verdict_changing s m now k g (Show o last body) h = quiet_changing s m _ (rows_o
 verdict_changing s m now k g (KeepSlot o index number status elements) h = quiet_changing s m _ (rows_on s (reach s m o) _ (rows_of s _ (reach_moves s m o g.low g.sequence)) (let a = slot_alike (reach s m o) o index number status in rows_same (reach s m o) _ a.opened a.standing)) (content_slot (reach s m o) o index number status ∙ content_reach s m o)
 verdict_changing s m now k g (PutRanges o index number ranges elements) h = quiet_changing s m _ (rows_on s (reach s m o) _ (rows_of s _ (reach_moves s m o g.low g.sequence)) (let a = slot_alike (set_ranges (reach s m o) (file_of s o) ranges) o index number 0 in rows_same (reach s m o) _ a.opened a.standing)) (content_slot (set_ranges (reach s m o) (file_of s o) ranges) o index number 0 ∙ content_reach s m o)
 verdict_changing s m now k g (Alter o change body) h = alter_changing s m o now change body h (rows_on s (reach s m o) _ (rows_of s _ (reach_moves s m o g.low g.sequence)) (let a = change_alike (reach s m o) (file_of s o) now change in rows_same (reach s m o) _ a.opened a.standing))
-verdict_changing s m now k g (CloseOpen o body) h = quiet_changing s m _ (rows_of s _ (shut_moves s o m.session (s.opened o).guid)) (content_shut s o m.session (s.opened o).guid)
+verdict_changing s m now k g (CloseOpen o body) h = quiet_changing s m _ (rows_of s _ (shut_moves s o m.session_id (s.opened o).create_guid)) (content_shut s o m.session_id (s.opened o).create_guid)
 verdict_changing s m now k g Challenge h = quiet_changing s m _ (record { opened = refl; stands = λ o h. h }) refl
 verdict_changing s m now k g (ChallengeBinding session) h = quiet_changing s m _ (record { opened = refl; stands = λ o h. h }) refl
 verdict_changing s m now k g (Begin session user previous r is_quiet) h = quiet_changing s m _ (let e = end_named_moves s now previous is_quiet in record { opened = e.row; stands = e.stands }) (content_end_named s now previous is_quiet)
@@ -320,11 +320,11 @@ pub kept_of : (s : Server) → Fits s → Kept s
 kept_of s f =
     record { listed = f.listed; fresh = λ o st. other_number s (s.opened o).file (f.open_files o st) f.next_file (λ e. (f.file_numbers (s.opened o).file e).1); ids = λ o st. (f.open_ids o st).1 }
 
-pub given_of : (s : Server) (m : Message) → Fits s → LowSequences s → m.sequence ≤ 32767 → Given s m
+pub given_of : (s : Server) (m : Message) → Fits s → LowSequences s → m.channel_sequence ≤ 32767 → Given s m
 given_of s m f low l =
     record { low = low; sequence = l; attached = λ o x e. (f.attached o x e).1; named = λ c g o e. (f.open_ids o (f.guid_open c g o e).0).1; ids = λ o e. (f.open_ids o e).1 }
 
-changing_step : (s : Server) (now : ℕ) (m : Message) → Fits s → LowSequences s → m.sequence ≤ 32767 → Changing s m (step s now (Heard m))
+changing_step : (s : Server) (now : ℕ) (m : Message) → Fits s → LowSequences s → m.channel_sequence ≤ 32767 → Changing s m (step s now (Heard m))
 changing_step s now m f low l =
     by_verdict (Changing s m) s now m
     (λ t v records b h. let k = earlier s now t b in let ft = fits_before s now m t b f in let g = given_behind s t m (given_of s m f low l) k in
@@ -337,7 +337,7 @@ changing_step s now m f low l =
         same : (e g e2 g2 o : ℕ) → e2 ≡ e → g2 ≡ g → o ≤ id_of e g → o ≤ id_of e2 g2
         same e g e2 g2 o a b l = omega (arith, a, b, l)
 
-pub changing : (s : Server) (now : ℕ) (m : Message) (c : Command) → Fits s → LowSequences s → m.sequence ≤ 32767 → Changing s m (answer_to s now m c)
+pub changing : (s : Server) (now : ℕ) (m : Message) (c : Command) → Fits s → LowSequences s → m.channel_sequence ≤ 32767 → Changing s m (answer_to s now m c)
 changing s now m (Aside status) f low l = quiet_changing s m _ (rows_same s s refl refl) refl
 changing s now m (Unreadable status) f low l = changing_step s now m f low l
 changing s now m (Setup request) f low l = changing_step s now m f low l

@@ -117,24 +117,24 @@ NotDone c conns l = (k n g : ℕ) (y : Received) → slice_get (conns k).down n 
 
 -- sequences: a copy that was cut is older than the session's, one that is outstanding has its operation's last
 abbrev pub CutSeq : Client → (ℕ → Conn) → Type 0
-CutSeq c conns = (k n g : ℕ) (x : Sent) → slice_get (conns k).up n ≡ Some x → x.token ≡ ForOp g → edits (c.op g) ≡ true → (conns k).client_open ≡ false → c.live ≡ true → x.message.session ≡ c.session → x.message.sequence < c.sequence
+CutSeq c conns = (k n g : ℕ) (x : Sent) → slice_get (conns k).up n ≡ Some x → x.token ≡ ForOp g → edits (c.op g) ≡ true → (conns k).client_open ≡ false → c.live ≡ true → x.message.session_id ≡ c.session → x.message.channel_sequence < c.sequence
 
 abbrev pub OpenSeq : Client → (ℕ → Conn) → Type 0
-OpenSeq c conns = (k n g : ℕ) (x : Sent) → slice_get (conns k).up n ≡ Some x → x.token ≡ ForOp g → edits (c.op g) ≡ true → (conns k).client_open ≡ true → x.message.sequence ≡ c.sequence_of g
+OpenSeq c conns = (k n g : ℕ) (x : Sent) → slice_get (conns k).up n ≡ Some x → x.token ≡ ForOp g → edits (c.op g) ≡ true → (conns k).client_open ≡ true → x.message.channel_sequence ≡ c.sequence_of g
 
 abbrev pub Older : Client → (ℕ → Conn) → Type 0
-Older c conns = (k n j g : ℕ) (x : Sent) → slice_get (conns k).up n ≡ Some x → x.token ≡ ForOp g → edits (c.op g) ≡ true → c.asks_attach g ≡ false → c.outstanding_on g ≡ Some j → k ≢ j → x.message.session ≡ c.session → x.message.sequence < c.sequence_of g
+Older c conns = (k n j g : ℕ) (x : Sent) → slice_get (conns k).up n ≡ Some x → x.token ≡ ForOp g → edits (c.op g) ≡ true → c.asks_attach g ≡ false → c.outstanding_on g ≡ Some j → k ≢ j → x.message.session_id ≡ c.session → x.message.channel_sequence < c.sequence_of g
 
 -- of two copies the one without the replay flag is the older
 abbrev pub NoReplay : Client → (ℕ → Conn) → Type 0
 NoReplay c conns = (j n k p g : ℕ) (m x : Sent) → slice_get (conns j).up n ≡ Some m → slice_get (conns k).up p ≡ Some x → m.token ≡ ForOp g → x.token ≡ ForOp g → edits (c.op g) ≡ true → j ≢ k
-    → m.message.session ≡ x.message.session → m.message.replay ≡ false → m.message.sequence < x.message.sequence
+    → m.message.session_id ≡ x.message.session_id → m.message.replay ≡ false → m.message.channel_sequence < x.message.channel_sequence
 
 -- ---- opens and sessions
 
 -- an edit goes out only where its open is attached in its session
 abbrev pub CopyPair : Client → (ℕ → Conn) → Server → Type 0
-CopyPair c conns s = (k n g : ℕ) (x : Sent) → slice_get (conns k).up n ≡ Some x → x.token ≡ ForOp g → edits (c.op g) ≡ true → Pair s x.message.session 0 (file_at c g) × file_at c g ≤ last_id s
+CopyPair c conns s = (k n g : ℕ) (x : Sent) → slice_get (conns k).up n ≡ Some x → x.token ≡ ForOp g → edits (c.op g) ≡ true → Pair s x.message.session_id 0 (file_at c g) × file_at c g ≤ last_id s
 
 abbrev pub NowPair : Client → Server → Type 0
 NowPair c s = (q : ℕ) → c.attached q ≡ c.session_number → c.live ≡ true → Pair s c.session 0 (c.file q) × c.file q ≤ last_id s
@@ -168,12 +168,12 @@ PendingAt c s = (o k : ℕ) → c.stage k ≡ AskedTree → s.session_of_open o 
 
 -- a copy that the server would still take: its open stands, its session is there, and it isn't older than the open's sequence
 abbrev pub LiveUnsettled : Client → (ℕ → Conn) → Server → Type 0
-LiveUnsettled c conns s = (k n g : ℕ) (x : Sent) → slice_get (conns k).up n ≡ Some x → x.token ≡ ForOp g → edits (c.op g) ≡ true → formed (c.op g) ≡ true → s.standing (file_at c g) ≡ true → s.present x.message.session ≡ true
-    → s.sequence (file_at c g) ≤ x.message.sequence → pends c g ≡ true
+LiveUnsettled c conns s = (k n g : ℕ) (x : Sent) → slice_get (conns k).up n ≡ Some x → x.token ≡ ForOp g → edits (c.op g) ≡ true → formed (c.op g) ≡ true → s.standing (file_at c g) ≡ true → s.present x.message.session_id ≡ true
+    → s.sequence (file_at c g) ≤ x.message.channel_sequence → pends c g ≡ true
 
 abbrev pub LiveReplay : Client → (ℕ → Conn) → Server → Log → Type 0
-LiveReplay c conns s l = (k n g : ℕ) (x : Sent) → slice_get (conns k).up n ≡ Some x → x.token ≡ ForOp g → edits (c.op g) ≡ true → s.standing (file_at c g) ≡ true → s.present x.message.session ≡ true
-    → s.sequence (file_at c g) ≤ x.message.sequence → is_some (l.first g) ≡ true → x.message.replay ≡ true
+LiveReplay c conns s l = (k n g : ℕ) (x : Sent) → slice_get (conns k).up n ≡ Some x → x.token ≡ ForOp g → edits (c.op g) ≡ true → s.standing (file_at c g) ≡ true → s.present x.message.session_id ≡ true
+    → s.sequence (file_at c g) ≤ x.message.channel_sequence → is_some (l.first g) ≡ true → x.message.replay ≡ true
 
 -- an edit that acted and may act again still shows in the bytes, under an open that denies writers
 abbrev pub Shows : Client → Server → Log → Type 0
@@ -196,7 +196,7 @@ abbrev pub OpenGiven : Client → Server → Trace → Type 0
 OpenGiven c s t = (q o : ℕ) → t.open_of q ≡ Some o → o ≤ last_id s × makes_open (c.op q) ≡ true × c.sent q ≡ true
 
 abbrev pub OpenRow : Client → Server → Trace → Type 0
-OpenRow c s t = (q o : ℕ) → t.open_of q ≡ Some o → s.standing o ≡ true → (s.opened o).guid ≡ Some (guid_for c q) × (s.opened o).client ≡ c.who.guid × (s.opened o).share ≡ share_of (c.op q)
+OpenRow c s t = (q o : ℕ) → t.open_of q ≡ Some o → s.standing o ≡ true → (s.opened o).create_guid ≡ Some (guid_for c q) × (s.opened o).client_guid ≡ c.who.guid × (s.opened o).share ≡ share_of (c.op q)
 
 abbrev pub OpenActed : Trace → (ℕ → ℕ) → Type 0
 OpenActed t a = (q o : ℕ) → t.open_of q ≡ Some o → 1 ≤ a q

@@ -48,8 +48,8 @@ gone_recorded d s origin f h l =
 
 pub record Leaver (s : Server) (o : ℕ) : Type 0 where
   pub stands : s.standing o ≡ true
-  pub own : (g : ℕ) → (s.opened o).guid ≡ Some g → s.by_guid (s.opened o).client g ≡ Some o
-  pub guids : (c g : ℕ) → s.by_guid c g ≡ Some o → c ≡ (s.opened o).client × (s.opened o).guid ≡ Some g
+  pub own : (g : ℕ) → (s.opened o).create_guid ≡ Some g → s.by_guid (s.opened o).client_guid g ≡ Some o
+  pub guids : (c g : ℕ) → s.by_guid c g ≡ Some o → c ≡ (s.opened o).client_guid × (s.opened o).create_guid ≡ Some g
   pub ranges : (k n : ℕ) (r : Range) → slice_get (s.ranges k) n ≡ Some r → r.owner ≡ o → k ≡ (s.opened o).file
   pub there : exists s (s.opened o).file ≡ true
   pub not_root : deletes_on_close (s.opened o).options ≡ true → (s.opened o).file ≢ 0
@@ -166,7 +166,7 @@ gone_expired d s origin f client (Some g) h l =
       | false ↦ λ q. h2
     ] refl
 
-expire_record : (d : Server) (origin : Origin) (o : ℕ) → d.standing o ≡ true → nat_lt d.expired_count max_expired_guids ≡ true → with_record d (ExpireRecord origin o) ≡ add_expired_guid (shut_recorded d o) (d.opened o).client (d.opened o).guid
+expire_record : (d : Server) (origin : Origin) (o : ℕ) → d.standing o ≡ true → nat_lt d.expired_count max_expired_guids ≡ true → with_record d (ExpireRecord origin o) ≡ add_expired_guid (shut_recorded d o) (d.opened o).client_guid (d.opened o).create_guid
 expire_record d origin o stands few = rw (stands, few) refl
 
 pub expires_recorded : (d s : Server) (origin : Origin) (o : ℕ) → Leaver s o → (s.opened o).persistent ≡ true → nat_lt s.expired_count max_expired_guids ≡ true → Listed s → Mirrors d s
@@ -175,7 +175,7 @@ unfolding expire_records fold_from
 expires_recorded d s origin o leaver kept few l h =
     let stays = stays_if s o leaver.stands kept in let behind = drop_open (pending_behind s o) o in
     let row = h.1.opened o stays in
-    let first = expire_record d origin o (h.1.standing o ∙ stays) (ap (λ n. nat_lt n max_expired_guids) h.2.expired_count ∙ few) ∙ ap (λ (r : Open). add_expired_guid (shut_recorded d o) r.client r.guid) row in
+    let first = expire_record d origin o (h.1.standing o ∙ stays) (ap (λ n. nat_lt n max_expired_guids) h.2.expired_count ∙ few) ∙ ap (λ (r : Open). add_expired_guid (shut_recorded d o) r.client_guid r.create_guid) row in
     subst (λ x. Mirrors (fold_from x (gone_records behind origin (s.opened o).file)) (expire s o)) (sym first)
-    (gone_expired (shut_recorded d o) behind origin (s.opened o).file (s.opened o).client (s.opened o).guid (shuts d s o leaver stays h)
+    (gone_expired (shut_recorded d o) behind origin (s.opened o).file (s.opened o).client_guid (s.opened o).create_guid (shuts d s o leaver stays h)
     (listed_after s o (s.opened o).file (deletes_on_close (s.opened o).options) l))

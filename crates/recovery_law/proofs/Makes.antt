@@ -132,7 +132,7 @@ opens_persistent d s o row session sequence fold_given given guids kept i few h 
   },
 )
 
-opens_plain : (d s : Server) (o : ℕ) (row : Open) (session : Option ℕ) (sequence given : ℕ) (guids : ℕ → ℕ) → row.persistent ≡ false → NewId s o → ((g : ℕ) → row.guid ≡ Some g → s.by_guid row.client g ≡ None) → d.open_ids_given ≤ given → Mirrors d s
+opens_plain : (d s : Server) (o : ℕ) (row : Open) (session : Option ℕ) (sequence given : ℕ) (guids : ℕ → ℕ) → row.persistent ≡ false → NewId s o → ((g : ℕ) → row.create_guid ≡ Some g → s.by_guid row.client_guid g ≡ None) → d.open_ids_given ≤ given → Mirrors d s
     → Mirrors d (record (add_open s o row session sequence) { open_ids_given = given; guids = guids })
 opens_plain d s o row session sequence given guids plain i free few h = (
   h.0,
@@ -152,7 +152,7 @@ opens_plain d s o row session sequence given guids plain i free few h = (
 
 abbrev row_kept : Server → Message → CreateRequest → Option Durable → NewOpen
 row_kept s m r asked =
-    record { id = next_open s; client = m.client; guid = number_or_zero (guid_of asked); user = s.user m.session; access = mapped r.access; share = r.share; options = r.options; timeout = timeout_asked asked }
+    record { id = next_open s; client_guid = m.client_guid; create_guid = number_or_zero (guid_of asked); user = s.user m.session_id; access = mapped r.access; share = r.share; options = r.options; timeout = timeout_asked asked }
 
 new_open_is : (s : Server) (m : Message) (r : CreateRequest) (asked : Option Durable) → is_persistent asked ≡ true → new_open s m r asked ≡ Some (row_kept s m r asked)
 unfolding new_open
@@ -178,9 +178,9 @@ same_row s m r f action e =
       options = r.options;
       action = action;
       persistent = sym e t;
-      client = m.client;
-      guid = g t;
-      user = s.user m.session;
+      client_guid = m.client_guid;
+      create_guid = g t;
+      user = s.user m.session_id;
       timeout = timeout_asked r.durable;
     }
 
@@ -189,7 +189,7 @@ same_row s m r f action e =
 id_parts : (epoch counter : ℕ) → counter ≤ max_ids → id_of epoch counter / 0x1_0000_0000 ≡ epoch × id_of epoch counter % 0x1_0000_0000 ≡ counter
 id_parts epoch counter l = (omega arith, omega arith)
 
-guid_free : (s : Server) (m : Message) (asked : Option Durable) → ((x : Durable) → asked ≡ Some x → s.by_guid m.client x.guid ≡ None) → is_persistent asked ≡ true → s.by_guid m.client (number_or_zero (guid_of asked)) ≡ None
+guid_free : (s : Server) (m : Message) (asked : Option Durable) → ((x : Durable) → asked ≡ Some x → s.by_guid m.client_guid x.guid ≡ None) → is_persistent asked ≡ true → s.by_guid m.client_guid (number_or_zero (guid_of asked)) ≡ None
 guid_free s m None h e = absurd (cc)
 guid_free s m (Some x) h e = h x refl
 
@@ -205,12 +205,12 @@ unfolding may_restore
 restores d s m r found action facts i h kept =
     let lim = facts.given in let few = h.2.open_ids_given in let parts = id_parts s.epoch (s.open_ids_given + 1) (omega arith) in let o = next_open s in
     let room = length_persistent s.opened s.opens in let most = facts.opens in
-    all_of (o / 0x1_0000_0000 == d.epoch) (nat_lt 0 (o % 0x1_0000_0000)) (nat_lt d.open_ids_given max_ids) (not (d.standing o)) (not (is_some (d.by_guid m.client (number_or_zero (guid_of r.durable))))) (nat_lt (length d.opens) max_opens)
+    all_of (o / 0x1_0000_0000 == d.epoch) (nat_lt 0 (o % 0x1_0000_0000)) (nat_lt d.open_ids_given max_ids) (not (d.standing o)) (not (is_some (d.by_guid m.client_guid (number_or_zero (guid_of r.durable))))) (nat_lt (length d.opens) max_opens)
     (same_test (o / 0x1_0000_0000) d.epoch (parts.0 ∙ sym h.2.epoch))
     (less 0 (o % 0x1_0000_0000) (rw (parts.1) (omega arith)))
     (less d.open_ids_given max_ids (omega arith))
     (ap not (h.1.standing o) ∙ not_stays (s.standing o) (s.opened o).persistent i.new)
-    (none_found _ (h.1.by_guid m.client (number_or_zero (guid_of r.durable)) ∙ kept_none (staying s.standing s.opened) _ (guid_free s m r.durable facts.new.no_open kept)))
+    (none_found _ (h.1.by_guid m.client_guid (number_or_zero (guid_of r.durable)) ∙ kept_none (staying s.standing s.opened) _ (guid_free s m r.durable facts.new.no_open kept)))
     (less (length d.opens) max_opens (subst (λ (os : List ℕ). length os < max_opens) (sym h.1.opens) (omega arith)))
 
 -- ---- both
@@ -274,7 +274,7 @@ persistent_at d s m r found action now facts i h kept =
     subst (λ rs. Mirrors (fold_from d rs) (make_open s m r found a now)) (sym (kept_create s m r found a now kept))
     (subst (λ x. Mirrors x (make_open s m r found a now)) (sym e)
     (subst (λ row. Mirrors (record (add_open c o row None 0) { open_ids_given = max c.open_ids_given (o % 0x1_0000_0000) }) (make_open s m r found a now)) (sym (same_row s m r f a kept))
-    (opens_persistent c u o (open_row s m r f a) (Some m.session) m.sequence (max c.open_ids_given (o % 0x1_0000_0000)) (s.open_ids_given + 1) (guids_after s m.session r.durable) kept (new_id_made s o r found now i)
+    (opens_persistent c u o (open_row s m r f a) (Some m.session_id) m.channel_sequence (max c.open_ids_given (o % 0x1_0000_0000)) (s.open_ids_given + 1) (guids_after s m.session_id r.durable) kept (new_id_made s o r found now i)
     (given_more c.open_ids_given s.open_ids_given (o % 0x1_0000_0000) (few_of c.open_ids_given s.open_ids_given u.open_ids_given both_files.2.open_ids_given (given_made s r found now)) parts.1) both_files)))
 
 pub makes_persistent : (d s : Server) (m : Message) (r : CreateRequest) (found : Option ℕ) (action now : ℕ) → MakeFacts s m r found action → NewId s (next_open s) → Mirrors d s → is_persistent r.durable ≡ true
@@ -301,8 +301,8 @@ plain_at d s m r found action now facts i h plain =
     let both_files = creates_file d s r found now h in
     let few = few_of c.open_ids_given s.open_ids_given u.open_ids_given both_files.2.open_ids_given (given_made s r found now) in
     subst (λ x. Mirrors x (make_open s m r found a now)) (sym (ap (fold_from d) (plain_create s m r found a now plain) ∙ plain_file d s m r found action now (a == 1) facts h.0 refl))
-    (opens_plain c u o (open_row s m r f a) (Some m.session) m.sequence (s.open_ids_given + 1) (guids_after s m.session r.durable) plain (new_id_made s o r found now i)
-    (subst (λ (by : ℕ → ℕ → Option ℕ). (g : ℕ) → guid_of r.durable ≡ Some g → by m.client g ≡ None) (sym (guids_made s r found now)) (guid_of_row s.by_guid m.client r.durable facts.new.no_open))
+    (opens_plain c u o (open_row s m r f a) (Some m.session_id) m.channel_sequence (s.open_ids_given + 1) (guids_after s m.session_id r.durable) plain (new_id_made s o r found now i)
+    (subst (λ (by : ℕ → ℕ → Option ℕ). (g : ℕ) → guid_of r.durable ≡ Some g → by m.client_guid g ≡ None) (sym (guids_made s r found now)) (guid_of_row s.by_guid m.client_guid r.durable facts.new.no_open))
     (omega arith) both_files)
 
 pub makes_plain : (d s : Server) (m : Message) (r : CreateRequest) (found : Option ℕ) (action now : ℕ) → MakeFacts s m r found action → NewId s (next_open s) → Mirrors d s → is_persistent r.durable ≡ false

@@ -38,7 +38,7 @@ not_staying : (standing : ℕ → Bool) (opened : ℕ → Open) (o : ℕ) → st
 not_staying standing opened o h = grind arith
 
 pub adds_plain : (d s : Server) (o : ℕ) (row : Open) (session : Option ℕ) (sequence : ℕ) → s.standing o ≡ false → has o s.opens ≡ false → row.persistent ≡ false
-    → ((g : ℕ) → row.guid ≡ Some g → s.by_guid row.client g ≡ None) → Opens d s → Opens d (add_open s o row session sequence)
+    → ((g : ℕ) → row.create_guid ≡ Some g → s.by_guid row.client_guid g ≡ None) → Opens d s → Opens d (add_open s o row session sequence)
 adds_plain d s o row session sequence new absent plain free h =
     let same = ext (staying_with s o row) (staying s.standing s.opened) (plain_stays s.standing s.opened o row new plain) in
     record {
@@ -46,8 +46,8 @@ adds_plain d s o row session sequence new absent plain free h =
       standing = λ p. h.standing p ∙ sym (plain_stays s.standing s.opened o row new plain p);
       opened = plain_row s.standing s.opened d.opened o row new plain h.opened;
       lock_sequences = plain_slots s.standing s.opened d.lock_sequences s.lock_sequences o row (λ i. None) new plain h.lock_sequences;
-      by_guid = subst (λ (t : ℕ → Bool). (c g : ℕ) → d.by_guid c g ≡ kept_guid t (with_guid s.by_guid row.client row.guid (Some o) c g)) (sym same)
-          (plain_guid (staying s.standing s.opened) d.by_guid s.by_guid o row.client row.guid (not_staying s.standing s.opened o new) free h.by_guid);
+      by_guid = subst (λ (t : ℕ → Bool). (c g : ℕ) → d.by_guid c g ≡ kept_guid t (with_guid s.by_guid row.client_guid row.create_guid (Some o) c g)) (sym same)
+          (plain_guid (staying s.standing s.opened) d.by_guid s.by_guid o row.client_guid row.create_guid (not_staying s.standing s.opened o new) free h.by_guid);
       ranges = subst (λ (t : ℕ → Bool). (f : ℕ) → d.ranges f ≡ kept_ranges t (s.ranges f)) (sym same) h.ranges;
     }
 
@@ -96,7 +96,7 @@ adds_persistent d s o row session sequence new kept above guids owners h =
       standing = more_stays d.standing s.standing s.opened o row kept h.standing;
       opened = more_row s.standing s.opened d.opened o row h.opened;
       lock_sequences = more_slots s.standing s.opened d.lock_sequences s.lock_sequences o row (λ i. None) h.lock_sequences;
-      by_guid = more_guid q d.by_guid s.by_guid o row.client row.guid (stays_here s.standing s.opened o row kept)
+      by_guid = more_guid q d.by_guid s.by_guid o row.client_guid row.create_guid (stays_here s.standing s.opened o row kept)
           (λ c g. h.by_guid c g ∙ sym (kept_guid_same p q (s.by_guid c g) (λ x e. stays_apart s.standing s.opened o row x (apart_of s.standing o x new (guids c g x e)))));
       ranges = λ f. h.ranges f ∙ sym (kept_same p q (s.ranges f) (λ n r e. stays_apart s.standing s.opened o row r.owner (apart_of s.standing o r.owner new (owners f n r e))));
     }
@@ -118,7 +118,7 @@ gone_plain_ranges p drs rs o f plain h q =
 plain_not : (standing : ℕ → Bool) (opened : ℕ → Open) (o : ℕ) → (opened o).persistent ≡ false → staying standing opened o ≡ false
 plain_not standing opened o plain = grind arith
 
-pub drops_plain : (d s : Server) (o : ℕ) → (s.opened o).persistent ≡ false → ((g : ℕ) → (s.opened o).guid ≡ Some g → s.by_guid (s.opened o).client g ≡ Some o) → Opens d s → Opens d (drop_open s o)
+pub drops_plain : (d s : Server) (o : ℕ) → (s.opened o).persistent ≡ false → ((g : ℕ) → (s.opened o).create_guid ≡ Some g → s.by_guid (s.opened o).client_guid g ≡ Some o) → Opens d s → Opens d (drop_open s o)
 drops_plain d s o plain own h =
     let same = ext (staying (put s.standing o false) s.opened) (staying s.standing s.opened) (gone_plain_stays s.standing s.opened o plain) in
     let p = staying s.standing s.opened in
@@ -127,8 +127,8 @@ drops_plain d s o plain own h =
       standing = λ x. h.standing x ∙ sym (gone_plain_stays s.standing s.opened o plain x);
       opened = λ x e. h.opened x (sym (gone_plain_stays s.standing s.opened o plain x) ∙ e);
       lock_sequences = λ x i e. h.lock_sequences x i (sym (gone_plain_stays s.standing s.opened o plain x) ∙ e);
-      by_guid = subst (λ (t : ℕ → Bool). (c g : ℕ) → d.by_guid c g ≡ kept_guid t (with_guid s.by_guid (s.opened o).client (s.opened o).guid None c g)) (sym same)
-          (gone_plain_guid p d.by_guid s.by_guid o (s.opened o).client (s.opened o).guid (plain_not s.standing s.opened o plain) own h.by_guid);
+      by_guid = subst (λ (t : ℕ → Bool). (c g : ℕ) → d.by_guid c g ≡ kept_guid t (with_guid s.by_guid (s.opened o).client_guid (s.opened o).create_guid None c g)) (sym same)
+          (gone_plain_guid p d.by_guid s.by_guid o (s.opened o).client_guid (s.opened o).create_guid (plain_not s.standing s.opened o plain) own h.by_guid);
       ranges = subst (λ (t : ℕ → Bool). (f : ℕ) → d.ranges f ≡ kept_ranges t (put s.ranges (s.opened o).file (without_owner o (s.ranges (s.opened o).file)) f)) (sym same)
           (gone_plain_ranges p d.ranges s.ranges o (s.opened o).file (plain_not s.standing s.opened o plain) h.ranges);
     }
@@ -173,7 +173,7 @@ gone_ranges p q drs rs o f apart own h k = elim (k == f) as (λ b. k == f ≡ b 
 ] refl
 
 pub drops_persistent : (d s : Server) (o : ℕ) → staying s.standing s.opened o ≡ true
-    → ((c g : ℕ) → s.by_guid c g ≡ Some o → c ≡ (s.opened o).client × (s.opened o).guid ≡ Some g)
+    → ((c g : ℕ) → s.by_guid c g ≡ Some o → c ≡ (s.opened o).client_guid × (s.opened o).create_guid ≡ Some g)
     → ((k n : ℕ) (r : Range) → slice_get (s.ranges k) n ≡ Some r → r.owner ≡ o → k ≡ (s.opened o).file)
     → Opens d s → Opens (drop_open d o) (drop_open s o)
 drops_persistent d s o kept guids owners h =
@@ -183,8 +183,8 @@ drops_persistent d s o kept guids owners h =
       standing = gone_stays d.standing s.standing s.opened o h.standing;
       opened = λ x e. h.opened x (gone_still s.standing s.opened o x e);
       lock_sequences = λ x i e. h.lock_sequences x i (gone_still s.standing s.opened o x e);
-      by_guid = subst (λ (r : Open). (c g : ℕ) → with_guid d.by_guid r.client r.guid None c g ≡ kept_guid q (with_guid s.by_guid (s.opened o).client (s.opened o).guid None c g)) (sym row)
-          (gone_guid p q d.by_guid s.by_guid o (s.opened o).client (s.opened o).guid (gone_apart s.standing s.opened o) guids h.by_guid);
+      by_guid = subst (λ (r : Open). (c g : ℕ) → with_guid d.by_guid r.client_guid r.create_guid None c g ≡ kept_guid q (with_guid s.by_guid (s.opened o).client_guid (s.opened o).create_guid None c g)) (sym row)
+          (gone_guid p q d.by_guid s.by_guid o (s.opened o).client_guid (s.opened o).create_guid (gone_apart s.standing s.opened o) guids h.by_guid);
       ranges = subst (λ (r : Open). (k : ℕ) → put d.ranges r.file (without_owner o (d.ranges r.file)) k ≡ kept_ranges q (put s.ranges (s.opened o).file (without_owner o (s.ranges (s.opened o).file)) k)) (sym row)
           (gone_ranges p q d.ranges s.ranges o (s.opened o).file (gone_apart s.standing s.opened o) owners h.ranges);
     }

@@ -111,8 +111,8 @@ bare_record s (RemoveRecord origin f) h = either (λ x. Bare x) (may_remove s f)
 bare_record s (LockRecord origin o index number status es) h = either (λ x. Bare x) (s.standing o && nat_le index 64) (lock_recorded s o index number status es) s (λ _. bare_locked s o index number status es h) (λ _. h)
 bare_record s (CloseRecord origin o) h = either (λ x. Bare x) (s.standing o) (shut_recorded s o) s (λ _. bare_shut s o h) (λ _. h)
 bare_record s (ExpireRecord origin o) h =
-    either (λ x. Bare x) (s.standing o && nat_lt s.expired_count max_expired_guids) (add_expired_guid (shut_recorded s o) (s.opened o).client (s.opened o).guid) s
-    (λ _. bare_expired (shut_recorded s o) (s.opened o).client (s.opened o).guid (bare_shut s o h)) (λ _. h)
+    either (λ x. Bare x) (s.standing o && nat_lt s.expired_count max_expired_guids) (add_expired_guid (shut_recorded s o) (s.opened o).client_guid (s.opened o).create_guid) s
+    (λ _. bare_expired (shut_recorded s o) (s.opened o).client_guid (s.opened o).create_guid (bare_shut s o h)) (λ _. h)
 
 bare_from : (s : Server) (rs : List Record) → Bare s → Bare (fold_from s rs)
 unfolding fold_from

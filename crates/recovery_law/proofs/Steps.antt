@@ -6,7 +6,7 @@ use Rattle.exchange_defs.specs.State.{Server, Message, ServerEvent, Accept, Hear
 use Rattle.exchange_defs.specs.Files.{exists}
 use Rattle.exchange_defs.specs.Check.{check}
 use Rattle.exchange_defs.specs.Records.{fits, origin_at}
-use Rattle.exchange_defs.specs.Step.{Ruling, Says, TakesIn, TurnsAway, TakesOut, TakesAllOut, ruling, ruling_without_room, without_room, max_connections, carried_out, table, expiring, behind_expiry, step, with_deadlines, first_deadline, is_past, due_in, due, expire, expire_records, connection_of, max_expired_guids, ends_with}
+use Rattle.exchange_defs.specs.Step.{Ruling, Says, TakesIn, TurnsAway, TakesOut, TakesAllOut, ruling, ruling_without_room, without_room, max_connections, carried_out, event_answer, expiring, behind_expiry, step, with_deadlines, first_deadline, is_past, due_in, due, expire, expire_records, connection_of, max_expired_guids, ends_with}
 use Rattle.exchange_defs.specs.Fold.{fold_from}
 use Rattle.server_law.specs.Fits.{PlainAttached, Deadlines, Listed}
 use Rattle.server_law.proofs.Logic.{either}
@@ -54,7 +54,7 @@ rules_without_room s (Heard m) ok = inr refl
 rules_without_room s (End k) ok = tt
 rules_without_room s Rattle.exchange_defs.specs.State.Stop ok = absurd ok
 
-tables : (d s : Server) (now : ℕ) (e : ServerEvent) → Runs e → Needs s → Mirrors d s → Good d (table s now e)
+tables : (d s : Server) (now : ℕ) (e : ServerEvent) → Runs e → Needs s → Mirrors d s → Good d (event_answer s now e)
 tables d s now e ok n h =
     either (Good d) (fits s (carried_out s now (ruling s e)).records) (carried_out s now (ruling s e)) (carried_out s now (ruling_without_room (ruling s e)))
     (λ _. carried d s now (ruling s e) (rules s e ok) n h)
@@ -88,9 +88,9 @@ expiring_good : (d s : Server) (now : ℕ) (e : ServerEvent) → Runs e → Need
 expiring_good d s now e ok n dues behind h None q = tables d s now e ok n h
 expiring_good d s now e ok n dues behind h (Some o) q =
     let t = expire s o in let front = expire_records s (origin_at (connection_of e)) o in let A = carried_out t now (ruling t e) in let is_due = dues o q in
-    either (Good d) (nat_le max_expired_guids s.expired_count) (table s now e) (behind_expiry s now e front A)
+    either (Good d) (nat_le max_expired_guids s.expired_count) (event_answer s now e) (behind_expiry s now e front A)
     (λ _. tables d s now e ok n h)
-    (λ room. either (Good d) (fits s (front ++ A.records)) (record A { records = front ++ A.records }) (table s now e)
+    (λ room. either (Good d) (fits s (front ++ A.records)) (record A { records = front ++ A.records }) (event_answer s now e)
     (λ _. subst (λ x. Mirrors x A.server) (sym (fold_append d front A.records))
     (carried (fold_from d front) t now (ruling t e) (rules t e ok) (behind o q)
     (expires_recorded d s (origin_at (connection_of e)) o (leaver s o n is_due.stands) is_due.persistent (few s.expired_count room) n.listed h)))

@@ -58,7 +58,7 @@ unfolding fold_from
 nothing_owed d s h = h
 
 reached : (d s : Server) (m : Message) (o : ℕ) → Mirrors d s → Mirrors (fold_from d []) (reach s m o)
-reached d s m o h = either (λ x. Mirrors (fold_from d []) x) (is_late s m o) s (record s { sequence = put s.sequence o m.sequence }) (λ _. nothing_owed d s h) (λ _. nothing_owed d s h)
+reached d s m o h = either (λ x. Mirrors (fold_from d []) x) (is_late s m o) s (record s { sequence = put s.sequence o m.channel_sequence }) (λ _. nothing_owed d s h) (λ _. nothing_owed d s h)
 
 attaches : (d s : Server) (m : Message) (o : ℕ) → Mirrors d s → Mirrors (fold_from d []) (attached s m o)
 attaches d s m o h = either (λ x. Mirrors (fold_from d []) x) (is_some (s.session_of_open o)) s (attach s m o) (λ _. nothing_owed d s h) (λ _. nothing_owed d s h)
@@ -83,7 +83,7 @@ keeps : (d s : Server) (m : Message) (o index number status : ℕ) (es : List El
     → Mirrors (fold_from d (lock_records s m o index number status es)) (keep_slot (reach s m o) o index number status)
 unfolding lock_records
 keeps d s m o index number status es stands kind denied h =
-    let t = record s { sequence = put s.sequence o m.sequence } in
+    let t = record s { sequence = put s.sequence o m.channel_sequence } in
     either (λ x. Mirrors (fold_from d (lock_records s m o index number status es)) (keep_slot x o index number status)) (is_late s m o) s t
     (λ _. slot_kept d s m o index number status es stands kind denied h)
     (λ _. slot_kept d t m o index number status es stands kind denied h)
@@ -92,7 +92,7 @@ puts : (d s : Server) (m : Message) (o index number : ℕ) (out : List Range) (e
     → Mirrors (fold_from d (lock_records s m o index number success es)) (keep_slot (set_ranges (reach s m o) (file_of s o) out) o index number success)
 unfolding lock_records
 puts d s m o index number out es stands kind grants h =
-    let t = record s { sequence = put s.sequence o m.sequence } in
+    let t = record s { sequence = put s.sequence o m.channel_sequence } in
     either (λ x. Mirrors (fold_from d (lock_records s m o index number success es)) (keep_slot (set_ranges x (file_of s o) out) o index number success)) (is_late s m o) s t
     (λ _. ranges_put d s m o index number out es stands kind grants h)
     (λ _. ranges_put d t m o index number out es stands kind grants h)
@@ -113,9 +113,9 @@ alters : (d s : Server) (m : Message) (o now : ℕ) (c : Change) (body : Body) �
 alters d s m o now c body facts n h =
     let f = file_of s o in
     let done = changes d s m f now c (n.open_files o facts.opened.standing) (allowed s m o c body facts) n.root_stays n.listed h in
-    either (λ x. Mirrors (fold_from d (change_records m f now c)) (change_file x f now c)) (is_late s m o) s (record s { sequence = put s.sequence o m.sequence })
+    either (λ x. Mirrors (fold_from d (change_records m f now c)) (change_file x f now c)) (is_late s m o) s (record s { sequence = put s.sequence o m.channel_sequence })
     (λ _. done)
-    (λ _. sequence_aside (fold_from d (change_records m f now c)) s (put s.sequence o m.sequence) f now c done)
+    (λ _. sequence_aside (fold_from d (change_records m f now c)) s (put s.sequence o m.channel_sequence) f now c done)
 
 -- ---- close
 
@@ -141,7 +141,7 @@ good d s m now (PutRanges o index number ranges elements) f n h =
     puts d s m o index number ranges elements f.lock.opened.standing (lock_kind s m o index number elements f.lock) f.granted h
 good d s m now (Alter o change body) f n h = alters d s m o now change body f n h
 good d s m now (CloseOpen o body) f n h =
-    closed_aside (fold_from d (leave_records s (origin_of m) o)) (leave_open s o) m.session (s.opened o).guid (leaves_recorded d s (origin_of m) o (leaver s o n f.opened.standing) n.listed h)
+    closed_aside (fold_from d (leave_records s (origin_of m) o)) (leave_open s o) m.session_id (s.opened o).create_guid (leaves_recorded d s (origin_of m) o (leaver s o n f.opened.standing) n.listed h)
 good d s m now Challenge f n h = nothing_owed d s h
 good d s m now (ChallengeBinding session) f n h = nothing_owed d s h
 good d s m now (Begin session user previous r is_quiet) f n h = ends_if_named d s (origin_of m) previous now is_quiet (ender s n) h

@@ -107,7 +107,7 @@ dialogs : (w : World) (k : ℕ) (r : Reply) (x : DialogStep) → Kept w → Kept
 dialogs w k r (GoesOn stage) h = h
 dialogs w k r Accepts h = h
 dialogs w k r Binds h = closes w k (act w.client (IsReady k w.client.session w.client.tree)) h
-dialogs w k r Readies h = closes w k (act w.client (IsReady k w.client.pending r.tree)) h
+dialogs w k r Readies h = closes w k (act w.client (IsReady k w.client.pending r.tree_id)) h
 dialogs w k r (Refuses status) h = h
 
 tokens : (w : World) (k : ℕ) (r : Reply) (place : ℕ) (t : Token) → Kept w → Kept (took_by w k r place t)

@@ -62,15 +62,15 @@ add_expired_guid_keeps s client (Some g) i =
     unread_keeps s s.sequence s.lock_sequences s.enumeration_location s.content s.basic s.connections (Rattle.exchange_defs.specs.Table.put2 s.expired_guids client g true) (s.expired_count + 1) s.version s.journal i
 
 pub reach_keeps : (s : Server) (m : Message) (o : ℕ) → Fits s → Fits (reach s m o)
-reach_keeps s m o i = either (λ t. Fits t) (is_late s m o) _ _ (λ _. i) (λ _. sequence_keeps s (put s.sequence o m.sequence) i)
+reach_keeps s m o i = either (λ t. Fits t) (is_late s m o) _ _ (λ _. i) (λ _. sequence_keeps s (put s.sequence o m.channel_sequence) i)
 
 -- ---- CREATE
 
 -- the session of a request is there
-pub there : (s : Server) (m : Message) → Fits s → SessionFacts s m → s.present m.session ≡ true
-there s m i f = i.on_present m.connection m.session f.session_on
+pub there : (s : Server) (m : Message) → Fits s → SessionFacts s m → s.present m.session_id ≡ true
+there s m i f = i.on_present m.connection m.session_id f.session_on
 
-attached_keeps : (s : Server) (m : Message) (o : ℕ) → s.standing o ≡ true → s.present m.session ≡ true → Fits s → Fits (attached s m o)
+attached_keeps : (s : Server) (m : Message) (o : ℕ) → s.standing o ≡ true → s.present m.session_id ≡ true → Fits s → Fits (attached s m o)
 attached_keeps s m o stands present i = either (λ t. Fits t) (is_some (s.session_of_open o)) _ _ (λ _. i) (λ _. attach_keeps s m o stands present i)
 
 fresh_open : (s : Server) (b : Bool) → s.standing (next_open s) ≡ b → OpenIds s → b ≡ false
@@ -84,13 +84,13 @@ record Ready (s : Server) (m : Message) (r : CreateRequest) : Type 0 where
   pub id : next_open s ≤ id_of s.epoch (s.open_ids_given + 1)
   pub more : s.open_ids_given ≤ s.open_ids_given + 1
   pub most : s.open_ids_given + 1 ≤ max_ids
-  pub session : (x : ℕ) → Some m.session ≡ Some x → s.present x ≡ true
-  pub plain : is_persistent r.durable ≡ false → is_some (Some m.session) ≡ true
-  pub guid : (g : ℕ) → guid_of r.durable ≡ Some g → s.by_guid m.client g ≡ None
+  pub session : (x : ℕ) → Some m.session_id ≡ Some x → s.present x ≡ true
+  pub plain : is_persistent r.durable ≡ false → is_some (Some m.session_id) ≡ true
+  pub guid : (g : ℕ) → guid_of r.durable ≡ Some g → s.by_guid m.client_guid g ≡ None
   pub named : is_persistent r.durable ≡ true → is_some (guid_of r.durable) ≡ true
-  pub kept : (x : ℕ) → s.present x ≡ false → guids_after s m.session r.durable x ≡ 0
+  pub kept : (x : ℕ) → s.present x ≡ false → guids_after s m.session_id r.durable x ≡ 0
 
-guid_free : (s : Server) (m : Message) (r : CreateRequest) → ((d : Durable) → r.durable ≡ Some d → s.by_guid m.client d.guid ≡ None) → (u : Option Durable) → r.durable ≡ u → (g : ℕ) → guid_of u ≡ Some g → s.by_guid m.client g ≡ None
+guid_free : (s : Server) (m : Message) (r : CreateRequest) → ((d : Durable) → r.durable ≡ Some d → s.by_guid m.client_guid d.guid ≡ None) → (u : Option Durable) → r.durable ≡ u → (g : ℕ) → guid_of u ≡ Some g → s.by_guid m.client_guid g ≡ None
 guid_free s m r f None e g h = absurd (cc)
 guid_free s m r f (Some d) e g h = let free = f d e in grind arith
 
@@ -115,7 +115,7 @@ ready s m r found action i f =
       plain = λ _. refl;
       guid = guid_free s m r f.new.no_open r.durable refl;
       named = persistent_named r.durable;
-      kept = guids_kept s m.session r.durable present i.no_guids;
+      kept = guids_kept s m.session_id r.durable present i.no_guids;
     }
 
 made_there : (s : Server) (r : CreateRequest) (now : ℕ) → exists (make_file s r.path (asks_directory r) r.attributes now) s.next_file ≡ true
@@ -128,14 +128,14 @@ not_root_number n l = omega (arith, l)
 make_found : (s : Server) (m : Message) (r : CreateRequest) (f action now : ℕ) → Fits s → Ready s m r → exists s f ≡ true → (deletes_on_close r.options ≡ true → f ≢ root) → Fits (make_open s m r (Some f) action now)
 unfolding exists
 make_found s m r f action now i a file off =
-    either (λ u. Fits (record (add_open u (next_open s) (open_row s m r f action) (Some m.session) m.sequence) { open_ids_given = s.open_ids_given + 1; guids = guids_after s m.session r.durable })) (empties r.disposition) _ _
-    (λ _. add_open_keeps (empty_file s f r.attributes now) (next_open s) (open_row s m r f action) (Some m.session) m.sequence (s.open_ids_given + 1) (guids_after s m.session r.durable) a.free a.above a.id a.more a.most a.session a.plain a.guid a.named file off a.kept
+    either (λ u. Fits (record (add_open u (next_open s) (open_row s m r f action) (Some m.session_id) m.channel_sequence) { open_ids_given = s.open_ids_given + 1; guids = guids_after s m.session_id r.durable })) (empties r.disposition) _ _
+    (λ _. add_open_keeps (empty_file s f r.attributes now) (next_open s) (open_row s m r f action) (Some m.session_id) m.channel_sequence (s.open_ids_given + 1) (guids_after s m.session_id r.durable) a.free a.above a.id a.more a.most a.session a.plain a.guid a.named file off a.kept
     (empty_file_keeps s f r.attributes now i))
-    (λ _. add_open_keeps s (next_open s) (open_row s m r f action) (Some m.session) m.sequence (s.open_ids_given + 1) (guids_after s m.session r.durable) a.free a.above a.id a.more a.most a.session a.plain a.guid a.named file off a.kept i)
+    (λ _. add_open_keeps s (next_open s) (open_row s m r f action) (Some m.session_id) m.channel_sequence (s.open_ids_given + 1) (guids_after s m.session_id r.durable) a.free a.above a.id a.more a.most a.session a.plain a.guid a.named file off a.kept i)
 
 make_missing : (s : Server) (m : Message) (r : CreateRequest) (action now : ℕ) → Fits s → Ready s m r → Fits (make_open s m r None action now)
 make_missing s m r action now i a =
-    add_open_keeps (make_file s r.path (asks_directory r) r.attributes now) (next_open s) (open_row s m r s.next_file action) (Some m.session) m.sequence (s.open_ids_given + 1) (guids_after s m.session r.durable)
+    add_open_keeps (make_file s r.path (asks_directory r) r.attributes now) (next_open s) (open_row s m r s.next_file action) (Some m.session_id) m.channel_sequence (s.open_ids_given + 1) (guids_after s m.session_id r.durable)
     a.free a.above a.id a.more a.most a.session a.plain a.guid a.named (made_there s r now) (λ _. not_root_number s.next_file i.next_file) a.kept
     (make_file_keeps s r.path (asks_directory r) r.attributes now i)
 
@@ -163,7 +163,7 @@ put_ranges_keeps : (s : Server) (m : Message) (o index number : ℕ) (ranges : L
 put_ranges_keeps s m o index number ranges elements i f =
     either (λ t. Fits (keep_slot (set_ranges t (file_of s o) ranges) o index number success)) (is_late s m o) _ _
     (λ _. ranges_keeps s o index number elements ranges f.lock.opened.standing f.granted i)
-    (λ _. ranges_keeps (record s { sequence = put s.sequence o m.sequence }) o index number elements ranges f.lock.opened.standing f.granted (sequence_keeps s (put s.sequence o m.sequence) i))
+    (λ _. ranges_keeps (record s { sequence = put s.sequence o m.channel_sequence }) o index number elements ranges f.lock.opened.standing f.granted (sequence_keeps s (put s.sequence o m.channel_sequence) i))
 
 -- ---- WRITE and SET_INFO
 
@@ -220,7 +220,7 @@ alter_keeps s m o now change body i f =
     let fine = fine_of s m o change body i.listed f.asked in
     either (λ t. Fits (change_file t (file_of s o) now change)) (is_late s m o) _ _
     (λ _. change_keeps s (file_of s o) now change fine i)
-    (λ _. change_keeps (record s { sequence = put s.sequence o m.sequence }) (file_of s o) now change (same_fine s (put s.sequence o m.sequence) (file_of s o) change fine) (sequence_keeps s (put s.sequence o m.sequence) i))
+    (λ _. change_keeps (record s { sequence = put s.sequence o m.channel_sequence }) (file_of s o) now change (same_fine s (put s.sequence o m.channel_sequence) (file_of s o) change fine) (sequence_keeps s (put s.sequence o m.channel_sequence) i))
 
 -- ---- CLOSE and expiry
 
@@ -237,7 +237,7 @@ shut_keeps s session o None stands present i = leave_open_keeps s o stands i
 shut_keeps s session o (Some g) stands present i = close_guid_keeps (leave_open s o) session g (subst (λ p. p session ≡ true) (sym (left_present s o)) present) (leave_open_keeps s o stands i)
 
 pub expire_keeps : (s : Server) (o : ℕ) → s.standing o ≡ true → Fits s → Fits (expire s o)
-expire_keeps s o stands i = add_expired_guid_keeps (leave_open s o) (s.opened o).client (s.opened o).guid (leave_open_keeps s o stands i)
+expire_keeps s o stands i = add_expired_guid_keeps (leave_open s o) (s.opened o).client_guid (s.opened o).create_guid (leave_open_keeps s o stands i)
 
 pub due_stands : (s : Server) (now o : ℕ) → due s now ≡ Some o → Listed s → s.standing o ≡ true
 due_stands s now o e l = sym (l o) ∙ due-has s.deadline s.opens now o e
@@ -254,18 +254,18 @@ end_if_named_keeps s now (Some session) is_quiet i = end_session_keeps s session
 still_absent : (s : Server) (x y : ℕ) → s.present y ≡ false → put s.present x false y ≡ false
 still_absent s x y e = grind arith
 
-begin_keeps : (s : Server) (m : Message) (now : ℕ) (user : List ℕ) (previous : Option ℕ) (r : SetupRequest) (is_quiet : Bool) → s.present m.session ≡ false → s.making m.connection ≡ Some (NewSession m.session) → Fits s
+begin_keeps : (s : Server) (m : Message) (now : ℕ) (user : List ℕ) (previous : Option ℕ) (r : SetupRequest) (is_quiet : Bool) → s.present m.session_id ≡ false → s.making m.connection ≡ Some (NewSession m.session_id) → Fits s
     → Fits (add_session (end_if_named s now previous is_quiet) m user r)
 begin_keeps s m now user None r is_quiet absent making i = add_session_keeps s m user r absent making i
-begin_keeps s m now user (Some x) r is_quiet absent making i = add_session_keeps (end_session s x now is_quiet) m user r (still_absent s x m.session absent) making (end_session_keeps s x now is_quiet i)
+begin_keeps s m now user (Some x) r is_quiet absent making i = add_session_keeps (end_session s x now is_quiet) m user r (still_absent s x m.session_id absent) making (end_session_keeps s x now is_quiet i)
 
 -- ---- by verdict
 
 pub applied_keeps : (s : Server) (m : Message) (now : ℕ) (v : Verdict) → Fits s → Facts s m v → Fits (apply s m now v).server
 applied_keeps s m now (Refuse status) i f = i
 applied_keeps s m now (Give body) i f = i
-applied_keeps s m now (KeepRefusal guid status) i f = keep_refusal_keeps s m.session guid status (there s m i f.new.create.session) i
-applied_keeps s m now (Repeat o r) i f = attached_keeps s m o (i.guid_open m.client f.durable.guid o f.named).0 (there s m i f.create.session) i
+applied_keeps s m now (KeepRefusal guid status) i f = keep_refusal_keeps s m.session_id guid status (there s m i f.new.create.session) i
+applied_keeps s m now (Repeat o r) i f = attached_keeps s m o (i.guid_open m.client_guid f.durable.guid o f.named).0 (there s m i f.create.session) i
 applied_keeps s m now (Attach o r) i f = attached_keeps s m o f.standing (there s m i f.create.session) i
 applied_keeps s m now (Make r found action) i f = make_keeps s m r found action now i f
 applied_keeps s m now (TurnDown o status) i f = reach_keeps s m o i
@@ -274,11 +274,11 @@ applied_keeps s m now (Show o last body) i f = listed_keeps (reach s m o) (put s
 applied_keeps s m now (KeepSlot o index number status elements) i f = keep_slot_keeps (reach s m o) o index number status (reach_keeps s m o i)
 applied_keeps s m now (PutRanges o index number ranges elements) i f = put_ranges_keeps s m o index number ranges elements i f
 applied_keeps s m now (Alter o change body) i f = alter_keeps s m o now change body i f
-applied_keeps s m now (CloseOpen o body) i f = shut_keeps s m.session o (s.opened o).guid f.opened.standing (there s m i f.opened.tree.session) i
+applied_keeps s m now (CloseOpen o body) i f = shut_keeps s m.session_id o (s.opened o).create_guid f.opened.standing (there s m i f.opened.tree.session) i
 applied_keeps s m now Challenge i f = challenge_keeps s m.connection f.off f.begun i
 applied_keeps s m now (ChallengeBinding session) i f = bind_keeps s m.connection session f.off i
 applied_keeps s m now (Begin session user previous r is_quiet) i f = begin_keeps s m now user previous r is_quiet f.absent f.making i
 applied_keeps s m now (Join session) i f = join_session_keeps s m session (subst (λ x. s.present x ≡ true) (sym f.binding.session_is) f.binding.present) i
 applied_keeps s m now (EndSession session is_quiet) i f = end_session_keeps s session now is_quiet i
-applied_keeps s m now (AddTree pipes) i f = add_tree_keeps s m.session pipes (there s m i f.session) i
-applied_keeps s m now DropTree i f = drop_tree_keeps s m.session m.tree i
+applied_keeps s m now (AddTree pipes) i f = add_tree_keeps s m.session_id pipes (there s m i f.session) i
+applied_keeps s m now DropTree i f = drop_tree_keeps s m.session_id m.tree_id i

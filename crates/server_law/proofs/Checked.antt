@@ -115,16 +115,16 @@ names_facts s m r found n is k None e =
 
 -- a guid that names nothing
 pub record FreeGuid (s : Server) (m : Message) (r : CreateRequest) : Type 0 where
-  pub no_open : (d : Durable) → r.durable ≡ Some d → s.by_guid m.client d.guid ≡ None
-  pub no_closed : (d : Durable) → r.durable ≡ Some d → s.closed m.session d.guid ≡ false
-  pub not_expired : (d : Durable) → r.durable ≡ Some d → s.expired_guids m.client d.guid ≡ false
-  pub no_refusal : (d : Durable) → r.durable ≡ Some d → s.refused m.session d.guid ≡ None
+  pub no_open : (d : Durable) → r.durable ≡ Some d → s.by_guid m.client_guid d.guid ≡ None
+  pub no_closed : (d : Durable) → r.durable ≡ Some d → s.closed m.session_id d.guid ≡ false
+  pub not_expired : (d : Durable) → r.durable ≡ Some d → s.expired_guids m.client_guid d.guid ≡ false
+  pub no_refusal : (d : Durable) → r.durable ≡ Some d → s.refused m.session_id d.guid ≡ None
 
 new_facts : (s : Server) (m : Message) (r : CreateRequest) (found : Option ℕ) → CreateFacts s m r false → r.reconnect ≡ None → FreeGuid s m r → found ≡ find s r.path
     → Facts s m (new_check s m r found)
 new_facts s m r found c new free is =
     either (λ v. Facts s m v) (deletes_on_close r.options && not (deletes (mapped r.access))) _ _ (λ _. tt)
-    (λ d. either (λ v. Facts s m v) (keeps_guid r && nat_le max_guids (s.guids m.session)) _ _ (λ _. tt)
+    (λ d. either (λ v. Facts s m v) (keeps_guid r && nat_le max_guids (s.guids m.session_id)) _ _ (λ _. tt)
     (λ g. let n : NewFacts s m r false = record { create = c; new = new; no_open = free.no_open; no_closed = free.no_closed; not_expired = free.not_expired; no_refusal = free.no_refusal; may_delete = d; guids = g } in
     either (λ v. Facts s m v) (is_counted_out s r found) _ _
     (λ _. turned_down s m r false insufficient_resources n refl)
@@ -135,47 +135,47 @@ new_facts s m r found c new free is =
 same_durable : (s : Server) (r : CreateRequest) (d e : Durable) → r.durable ≡ Some d → r.durable ≡ Some e → d ≡ e
 same_durable s r d e h k = grind arith
 
-repeat_facts : (s : Server) (m : Message) (r : CreateRequest) (d : Durable) (o : ℕ) → CreateFacts s m r false → r.reconnect ≡ None → r.durable ≡ Some d → s.by_guid m.client d.guid ≡ Some o
-    → m.replay ≡ true → (s.session_of_open o ≡ Some m.session) ⊎ (s.session_of_open o ≡ None × (s.opened o).persistent ≡ true × same_name (s.opened o).user (s.user m.session) ≡ true) → RepeatFacts s m o r
+repeat_facts : (s : Server) (m : Message) (r : CreateRequest) (d : Durable) (o : ℕ) → CreateFacts s m r false → r.reconnect ≡ None → r.durable ≡ Some d → s.by_guid m.client_guid d.guid ≡ Some o
+    → m.replay ≡ true → (s.session_of_open o ≡ Some m.session_id) ⊎ (s.session_of_open o ≡ None × (s.opened o).persistent ≡ true × same_name (s.opened o).user (s.user m.session_id) ≡ true) → RepeatFacts s m o r
 repeat_facts s m r d o c new kept named replay whose = record { durable = d; pipes = false; create = c; new = new; kept = kept; named = named; replay = replay; whose = whose }
 
-live_facts : (s : Server) (m : Message) (r : CreateRequest) (d : Durable) (o : ℕ) → CreateFacts s m r false → r.reconnect ≡ None → r.durable ≡ Some d → s.by_guid m.client d.guid ≡ Some o
+live_facts : (s : Server) (m : Message) (r : CreateRequest) (d : Durable) (o : ℕ) → CreateFacts s m r false → r.reconnect ≡ None → r.durable ≡ Some d → s.by_guid m.client_guid d.guid ≡ Some o
     → Facts s m (live_check s m r o)
 live_facts s m r d o c new kept named =
     either (λ v. Facts s m v) (not m.replay) _ _ (λ _. tt)
-    (λ p. either (λ v. Facts s m v) (is_at m.session (s.session_of_open o)) _ _ (λ a. repeat_facts s m r d o c new kept named (not_false m.replay p) (inl (at_of m.session (s.session_of_open o) a)))
+    (λ p. either (λ v. Facts s m v) (is_at m.session_id (s.session_of_open o)) _ _ (λ a. repeat_facts s m r d o c new kept named (not_false m.replay p) (inl (at_of m.session_id (s.session_of_open o) a)))
     (λ _. either (λ v. Facts s m v) (is_some (s.session_of_open o) || not (s.opened o).persistent) _ _ (λ _. tt)
-    (λ a. either (λ v. Facts s m v) (same_name (s.opened o).user (s.user m.session)) _ _
+    (λ a. either (λ v. Facts s m v) (same_name (s.opened o).user (s.user m.session_id)) _ _
     (λ u. repeat_facts s m r d o c new kept named (not_false m.replay p) (inr (none_of (s.session_of_open o) (front_off (is_some (s.session_of_open o)) _ a), not_false (s.opened o).persistent (back_off (is_some (s.session_of_open o)) _ a), u)))
     (λ _. tt))))
 
 refusal_facts : (s : Server) (m : Message) (r : CreateRequest) (d : Durable) → CreateFacts s m r false → r.reconnect ≡ None → r.durable ≡ Some d
-    → s.by_guid m.client d.guid ≡ None → s.closed m.session d.guid ≡ false → s.expired_guids m.client d.guid ≡ false → (u : Option ℕ) → s.refused m.session d.guid ≡ u → Facts s m (refusal_check s m r u)
+    → s.by_guid m.client_guid d.guid ≡ None → s.closed m.session_id d.guid ≡ false → s.expired_guids m.client_guid d.guid ≡ false → (u : Option ℕ) → s.refused m.session_id d.guid ≡ u → Facts s m (refusal_check s m r u)
 refusal_facts s m r d c new kept none unclosed unexpired (Some status) e = tt
 refusal_facts s m r d c new kept none unclosed unexpired None e =
     new_facts s m r (find s r.path) c new
     (record {
-      no_open = λ x k. subst (λ y. s.by_guid m.client y.guid ≡ None) (same_durable s r d x kept k) none;
-      no_closed = λ x k. subst (λ y. s.closed m.session y.guid ≡ false) (same_durable s r d x kept k) unclosed;
-      not_expired = λ x k. subst (λ y. s.expired_guids m.client y.guid ≡ false) (same_durable s r d x kept k) unexpired;
-      no_refusal = λ x k. subst (λ y. s.refused m.session y.guid ≡ None) (same_durable s r d x kept k) e;
+      no_open = λ x k. subst (λ y. s.by_guid m.client_guid y.guid ≡ None) (same_durable s r d x kept k) none;
+      no_closed = λ x k. subst (λ y. s.closed m.session_id y.guid ≡ false) (same_durable s r d x kept k) unclosed;
+      not_expired = λ x k. subst (λ y. s.expired_guids m.client_guid y.guid ≡ false) (same_durable s r d x kept k) unexpired;
+      no_refusal = λ x k. subst (λ y. s.refused m.session_id y.guid ≡ None) (same_durable s r d x kept k) e;
     })
     refl
 
-guid_facts : (s : Server) (m : Message) (r : CreateRequest) (d : Durable) → CreateFacts s m r false → r.reconnect ≡ None → r.durable ≡ Some d → (u : Option ℕ) → s.by_guid m.client d.guid ≡ u
+guid_facts : (s : Server) (m : Message) (r : CreateRequest) (d : Durable) → CreateFacts s m r false → r.reconnect ≡ None → r.durable ≡ Some d → (u : Option ℕ) → s.by_guid m.client_guid d.guid ≡ u
     → Facts s m (guid_check s m r d u)
 guid_facts s m r d c new kept (Some o) e = live_facts s m r d o c new kept e
 guid_facts s m r d c new kept None e =
-    either (λ v. Facts s m v) (s.closed m.session d.guid) _ _ (λ _. tt)
-    (λ x. either (λ v. Facts s m v) (s.expired_guids m.client d.guid) _ _ (λ _. tt)
-    (λ y. refusal_facts s m r d c new kept e x y (s.refused m.session d.guid) refl))
+    either (λ v. Facts s m v) (s.closed m.session_id d.guid) _ _ (λ _. tt)
+    (λ x. either (λ v. Facts s m v) (s.expired_guids m.client_guid d.guid) _ _ (λ _. tt)
+    (λ y. refusal_facts s m r d c new kept e x y (s.refused m.session_id d.guid) refl))
 
 plain_guid : (s : Server) (m : Message) (r : CreateRequest) → r.durable ≡ None → FreeGuid s m r
 plain_guid s m r e = record { no_open = λ d k. absurd (cc); no_closed = λ d k. absurd (cc); not_expired = λ d k. absurd (cc); no_refusal = λ d k. absurd (cc) }
 
 durable_facts : (s : Server) (m : Message) (r : CreateRequest) → CreateFacts s m r false → r.reconnect ≡ None → (u : Option Durable) → r.durable ≡ u → Facts s m (durable_check s m r u)
 durable_facts s m r c new None e = new_facts s m r (find s r.path) c new (plain_guid s m r e) refl
-durable_facts s m r c new (Some d) e = guid_facts s m r d c new e (s.by_guid m.client d.guid) refl
+durable_facts s m r c new (Some d) e = guid_facts s m r d c new e (s.by_guid m.client_guid d.guid) refl
 
 -- ---- CREATE: an open that is attached
 
@@ -185,10 +185,10 @@ whose_of s x (Some y) e = inr (at_of x (Some y) (not_false (y == x) e))
 
 reconnect_facts : (s : Server) (m : Message) (r : CreateRequest) (c : Reconnect) → CreateFacts s m r false → r.reconnect ≡ Some c → Facts s m (reconnect_check s m r c)
 reconnect_facts s m r c f asked =
-    either (λ v. Facts s m v) (not (s.standing c.file && has_guid c.guid (s.opened c.file).guid)) _ _ (λ _. tt)
-    (λ a. either (λ v. Facts s m v) (not (same_name (s.opened c.file).user (s.user m.session))) _ _ (λ _. tt)
-    (λ u. either (λ v. Facts s m v) (is_some (s.session_of_open c.file) && not (is_at m.session (s.session_of_open c.file))) _ _ (λ _. tt)
-    (λ w. let b = not_false (s.standing c.file && has_guid c.guid (s.opened c.file).guid) a in
+    either (λ v. Facts s m v) (not (s.standing c.file && has_guid c.guid (s.opened c.file).create_guid)) _ _ (λ _. tt)
+    (λ a. either (λ v. Facts s m v) (not (same_name (s.opened c.file).user (s.user m.session_id))) _ _ (λ _. tt)
+    (λ u. either (λ v. Facts s m v) (is_some (s.session_of_open c.file) && not (is_at m.session_id (s.session_of_open c.file))) _ _ (λ _. tt)
+    (λ w. let b = not_false (s.standing c.file && has_guid c.guid (s.opened c.file).create_guid) a in
     record {
       reconnect = c;
       create = f;
@@ -197,7 +197,7 @@ reconnect_facts s m r c f asked =
       standing = front_of (s.standing c.file) _ b;
       guid = back_of (s.standing c.file) _ b;
       user = not_false _ u;
-      whose = whose_of s m.session (s.session_of_open c.file) w;
+      whose = whose_of s m.session_id (s.session_of_open c.file) w;
     })))
 
 create_facts : (s : Server) (m : Message) (r : CreateRequest) → CreateFacts s m r false → (u : Option Reconnect) → r.reconnect ≡ u → Facts s m (reconnect_or_create s m r u)
@@ -406,14 +406,14 @@ free_ioctl_facts s m code room f = either (λ v. Facts s m v) (ioctl_status code
 
 -- ---- SESSION_SETUP
 
-granted_facts : (s : Server) (m : Message) (r : SetupRequest) (user : List ℕ) → m.command ≡ Setup r → r.shows ≡ Logon user → s.present m.session ≡ false → s.making m.connection ≡ Some (NewSession m.session)
+granted_facts : (s : Server) (m : Message) (r : SetupRequest) (user : List ℕ) → m.command ≡ Setup r → r.shows ≡ Logon user → s.present m.session_id ≡ false → s.making m.connection ≡ Some (NewSession m.session_id)
     → Facts s m (granted_session s m r user)
 granted_facts s m r user c shows absent making =
     either (λ v. Facts s m v) (s.encrypts && (r.cipher == 0)) _ _ (λ _. tt)
     (λ _. either (λ v. Facts s m v) (nat_le max_sessions s.sessions) _ _ (λ _. tt)
     (λ _. record { command = c; shows = shows; session_is = refl; absent = absent; making = making; previous_is = refl }))
 
-second_facts : (s : Server) (m : Message) (r : SetupRequest) → m.command ≡ Setup r → s.present m.session ≡ false → s.making m.connection ≡ Some (NewSession m.session)
+second_facts : (s : Server) (m : Message) (r : SetupRequest) → m.command ≡ Setup r → s.present m.session_id ≡ false → s.making m.connection ≡ Some (NewSession m.session_id)
     → (h : Shows) → r.shows ≡ h → Facts s m (second_token s m r h)
 second_facts s m r c absent making Begins e = tt
 second_facts s m r c absent making Bad e = tt
@@ -423,7 +423,7 @@ second_facts s m r c absent making (Logon user) e = granted_facts s m r user c e
 below_of : (a b : ℕ) → nat_le b a ≡ false → a < b
 below_of a b e = grind (arith, nat_tests)
 
-first_facts : (s : Server) (m : Message) (r : SetupRequest) → m.command ≡ Setup r → m.session ≡ 0 → s.session_on m.connection ≡ None → (h : Shows) → Facts s m (first_token s h)
+first_facts : (s : Server) (m : Message) (r : SetupRequest) → m.command ≡ Setup r → m.session_id ≡ 0 → s.session_on m.connection ≡ None → (h : Shows) → Facts s m (first_token s h)
 first_facts s m r c new off Begins =
     either (λ v. Facts s m v) (nat_le max_ids s.session_ids_given) _ _ (λ _. tt) (λ b. record { request = r; command = c; new = new; off = off; begun = below_of s.session_ids_given max_ids b })
 first_facts s m r c new off Bad = tt
@@ -437,25 +437,25 @@ new_of x (Some (Binding y)) e = absurd (cc)
 
 session_facts : (s : Server) (m : Message) (r : SetupRequest) → m.command ≡ Setup r → Facts s m (session_check s m r)
 session_facts s m r c =
-    either (λ v. Facts s m v) (m.session == 0) _ _
-    (λ z. either (λ v. Facts s m v) (is_some (s.session_on m.connection)) _ _ (λ _. tt) (λ o. first_facts s m r c (eqb-true m.session 0 z) (none_of _ o) r.shows))
-    (λ _. either (λ v. Facts s m v) (s.present m.session) _ _ (λ _. tt)
-    (λ a. either (λ v. Facts s m v) (is_new m.session (s.making m.connection)) _ _ (λ n. second_facts s m r c a (new_of m.session (s.making m.connection) n) r.shows refl) (λ _. tt)))
+    either (λ v. Facts s m v) (m.session_id == 0) _ _
+    (λ z. either (λ v. Facts s m v) (is_some (s.session_on m.connection)) _ _ (λ _. tt) (λ o. first_facts s m r c (eqb-true m.session_id 0 z) (none_of _ o) r.shows))
+    (λ _. either (λ v. Facts s m v) (s.present m.session_id) _ _ (λ _. tt)
+    (λ a. either (λ v. Facts s m v) (is_new m.session_id (s.making m.connection)) _ _ (λ n. second_facts s m r c a (new_of m.session_id (s.making m.connection) n) r.shows refl) (λ _. tt)))
 
-join_facts : (s : Server) (m : Message) (user : List ℕ) → BindingFacts s m m.session → is_binding m.session (s.making m.connection) ≡ true → Facts s m (granted_binding s m user)
+join_facts : (s : Server) (m : Message) (user : List ℕ) → BindingFacts s m m.session_id → is_binding m.session_id (s.making m.connection) ≡ true → Facts s m (granted_binding s m user)
 join_facts s m user b i =
-    either (λ v. Facts s m v) (not (same_name user (s.user m.session))) _ _ (λ _. tt)
-    (λ _. either (λ v. Facts s m v) (nat_le max_channels (count_channels s.session_on s.connections m.session)) _ _ (λ _. tt)
-    (λ _. either (λ v. Facts s m v) (nat_le max_numbers (s.channel_numbers_drawn m.session)) _ _ (λ _. tt)
+    either (λ v. Facts s m v) (not (same_name user (s.user m.session_id))) _ _ (λ _. tt)
+    (λ _. either (λ v. Facts s m v) (nat_le max_channels (count_channels s.session_on s.connections m.session_id)) _ _ (λ _. tt)
+    (λ _. either (λ v. Facts s m v) (nat_le max_numbers (s.channel_numbers_drawn m.session_id)) _ _ (λ _. tt)
     (λ _. record { binding = b; making = i })))
 
-second_binding_facts : (s : Server) (m : Message) → BindingFacts s m m.session → is_binding m.session (s.making m.connection) ≡ true → (h : Shows) → Facts s m (second_binding s m h)
+second_binding_facts : (s : Server) (m : Message) → BindingFacts s m m.session_id → is_binding m.session_id (s.making m.connection) ≡ true → (h : Shows) → Facts s m (second_binding s m h)
 second_binding_facts s m b i Begins = b
 second_binding_facts s m b i Bad = tt
 second_binding_facts s m b i Refused = tt
 second_binding_facts s m b i (Logon user) = join_facts s m user b i
 
-first_binding_facts : (s : Server) (m : Message) → BindingFacts s m m.session → (h : Shows) → Facts s m (first_binding m h)
+first_binding_facts : (s : Server) (m : Message) → BindingFacts s m m.session_id → (h : Shows) → Facts s m (first_binding m h)
 first_binding_facts s m b Begins = b
 first_binding_facts s m b Bad = tt
 first_binding_facts s m b Refused = tt
@@ -463,15 +463,15 @@ first_binding_facts s m b (Logon user) = tt
 
 binding_facts : (s : Server) (m : Message) (r : SetupRequest) → m.command ≡ Setup r → r.binding ≡ true → Facts s m (binding_check s m r)
 binding_facts s m r c k =
-    either (λ v. Facts s m v) (s.present m.session) _ _
+    either (λ v. Facts s m v) (s.present m.session_id) _ _
     (λ p. either (λ v. Facts s m v) (not r.signed) _ _ (λ _. tt)
-    (λ _. either (λ v. Facts s m v) (not (m.client == s.client m.session)) _ _ (λ _. tt)
-    (λ n. either (λ v. Facts s m v) (not ((r.cipher == s.cipher m.session) && (r.signing == s.signing m.session))) _ _ (λ _. tt)
+    (λ _. either (λ v. Facts s m v) (not (m.client_guid == s.client m.session_id)) _ _ (λ _. tt)
+    (λ n. either (λ v. Facts s m v) (not ((r.cipher == s.cipher m.session_id) && (r.signing == s.signing m.session_id))) _ _ (λ _. tt)
     (λ _. either (λ v. Facts s m v) (is_some (s.session_on m.connection)) _ _ (λ _. tt)
     (λ o. either (λ v. Facts s m v) (not r.verified) _ _ (λ _. tt)
-    (λ _. let b : BindingFacts s m m.session = record { request = r; command = c; session_is = refl; binding = k; client = not_false _ n; off = none_of _ o; present = p } in
-    either (λ v. Facts s m v) (is_binding m.session (s.making m.connection)) _ _ (λ i. second_binding_facts s m b i r.shows) (λ _. first_binding_facts s m b r.shows)))))))
-    (λ _. either (λ v. Facts s m v) (not (is_new m.session (s.making m.connection))) _ _ (λ _. tt)
+    (λ _. let b : BindingFacts s m m.session_id = record { request = r; command = c; session_is = refl; binding = k; client = not_false _ n; off = none_of _ o; present = p } in
+    either (λ v. Facts s m v) (is_binding m.session_id (s.making m.connection)) _ _ (λ i. second_binding_facts s m b i r.shows) (λ _. first_binding_facts s m b r.shows)))))))
+    (λ _. either (λ v. Facts s m v) (not (is_new m.session_id (s.making m.connection))) _ _ (λ _. tt)
     (λ _. either (λ v. Facts s m v) (not r.signed) _ _ (λ _. tt) (λ _. tt)))
 
 setup_facts : (s : Server) (m : Message) (r : SetupRequest) → m.command ≡ Setup r → Facts s m (setup_check s m r)
@@ -479,7 +479,7 @@ setup_facts s m r c = either (λ v. Facts s m v) r.binding _ _ (λ k. binding_fa
 
 tree_facts : (s : Server) (m : Message) (share : List ℕ) → SessionFacts s m → m.command ≡ TreeConnect share → Facts s m (tree_check s m share)
 tree_facts s m share f c =
-    either (λ v. Facts s m v) (no_tree_left s m.session) _ _ (λ _. tt)
+    either (λ v. Facts s m v) (no_tree_left s m.session_id) _ _ (λ _. tt)
     (λ _. either (λ v. Facts s m v) (same_name share pipes_name) _ _ (λ _. record { session = f; share = share; command = c })
     (λ _. either (λ v. Facts s m v) (same_name share s.share) _ _ (λ _. record { session = f; share = share; command = c }) (λ _. tt)))
 
@@ -487,14 +487,14 @@ tree_facts s m share f c =
 
 on_open_facts : (s : Server) (m : Message) (o : ℕ) (v : Verdict) → TreeFacts s m → (OpenFacts s m o → Facts s m v) → Facts s m (on_open s m o v)
 on_open_facts s m o v t f =
-    either (λ v. Facts s m v) (is_of_session s o m.session) _ _
-    (λ h. f (record { tree = t; standing = front_of (s.standing o) _ h; session_of_open = at_of m.session (s.session_of_open o) (back_of (s.standing o) _ h) }))
+    either (λ v. Facts s m v) (is_of_session s o m.session_id) _ _
+    (λ h. f (record { tree = t; standing = front_of (s.standing o) _ h; session_of_open = at_of m.session_id (s.session_of_open o) (back_of (s.standing o) _ h) }))
     (λ _. tt)
 
 some_of : {X : Type 0} (u : Option X) (x : X) → u ≡ Some x → is_some u ≡ true
 some_of u x e = rw e refl
 
-command_facts : (s : Server) (m : Message) (pipes : Bool) → SessionFacts s m → tree_in (s.trees m.session) m.tree ≡ Some pipes → (c : Command) → m.command ≡ c → Facts s m (tree_command s m pipes c)
+command_facts : (s : Server) (m : Message) (pipes : Bool) → SessionFacts s m → tree_in (s.trees m.session_id) m.tree_id ≡ Some pipes → (c : Command) → m.command ≡ c → Facts s m (tree_command s m pipes c)
 command_facts s m pipes f t (Unreadable status) e = tt
 command_facts s m pipes f t (Aside status) e = tt
 command_facts s m pipes f t (Setup r) e = tt
@@ -514,16 +514,16 @@ command_facts s m pipes f t (QueryFile o class room) e = on_open_facts s m o _ (
 command_facts s m pipes f t (QueryVolume o class room) e = on_open_facts s m o _ (record { session = f; tree = some_of _ pipes t }) (λ x. volume_query_facts s m o class room x)
 command_facts s m pipes f t (SetInfo o setting) e = on_open_facts s m o _ (record { session = f; tree = some_of _ pipes t }) (λ x. set_facts s m o setting x e)
 
-in_tree_facts : (s : Server) (m : Message) → SessionFacts s m → (u : Option Bool) → tree_in (s.trees m.session) m.tree ≡ u → Facts s m (in_tree s m u)
+in_tree_facts : (s : Server) (m : Message) → SessionFacts s m → (u : Option Bool) → tree_in (s.trees m.session_id) m.tree_id ≡ u → Facts s m (in_tree s m u)
 in_tree_facts s m f None e = tt
 in_tree_facts s m f (Some pipes) e = command_facts s m pipes f e m.command refl
 
 with_tree_facts : (s : Server) (m : Message) → SessionFacts s m → Facts s m (with_tree s m)
-with_tree_facts s m f = in_tree_facts s m f (tree_in (s.trees m.session) m.tree) refl
+with_tree_facts s m f = in_tree_facts s m f (tree_in (s.trees m.session_id) m.tree_id) refl
 
 -- where the session is there but for a SESSION_SETUP
 live : (s : Server) (m : Message) (c : Command) → (is_setup m.command || has_session s m) ≡ true → m.command ≡ c → is_setup c ≡ false → m.fault ≡ None → form m.command ≡ None → SessionFacts s m
-live s m c h e k fault formed = record { session_on = at_of m.session (s.session_on m.connection) (other_on (is_setup m.command) _ h (ap is_setup e ∙ k)); fault = fault; formed = formed }
+live s m c h e k fault formed = record { session_on = at_of m.session_id (s.session_on m.connection) (other_on (is_setup m.command) _ h (ap is_setup e ∙ k)); fault = fault; formed = formed }
 
 commanded : (s : Server) (m : Message) → (is_setup m.command || has_session s m) ≡ true → m.fault ≡ None → form m.command ≡ None → (c : Command) → m.command ≡ c → Facts s m (command_check s m c)
 commanded s m h f k (Unreadable status) e = tt

@@ -6,7 +6,7 @@ use Rattle.exchange_defs.specs.Verdict.{Verdict}
 use Rattle.exchange_defs.specs.Check.{check}
 use Rattle.exchange_defs.specs.Records.{entry_bytes, fits, origin_at}
 use Rattle.exchange_defs.specs.Effects.{apply}
-use Rattle.exchange_defs.specs.Step.{step, table, behind_expiry, expiring, written_down, with_deadlines, due, expire, expire_records, without_room, max_expired_guids, Ruling, ruling, ruling_without_room, carried_out, connection_of}
+use Rattle.exchange_defs.specs.Step.{step, event_answer, behind_expiry, expiring, written_down, with_deadlines, due, expire, expire_records, without_room, max_expired_guids, Ruling, ruling, ruling_without_room, carried_out, connection_of}
 use Rattle.server_law.proofs.Logic.{either}
 
 -- an answer whose records are these, written down
@@ -25,7 +25,7 @@ Rules t e r = (r ≡ ruling t e) ⊎ (r ≡ ruling_without_room (ruling t e))
 abbrev pub Path : Server → ℕ → ServerEvent → (Answer → Type 0) → Type 0
 Path s now e P = (t : Server) (front : List Record) (r : Ruling) → Front s now e t front → Rules t e r → P (recorded (carried_out t now r) (front ++ (carried_out t now r).records))
 
-by_table : (P : Answer → Type 0) (s : Server) (now : ℕ) (e : ServerEvent) → Path s now e P → P (written_down (table (with_deadlines s now) now e))
+by_table : (P : Answer → Type 0) (s : Server) (now : ℕ) (e : ServerEvent) → Path s now e P → P (written_down (event_answer (with_deadlines s now) now e))
 by_table P s now e f =
     let d = with_deadlines s now in
     either (λ A. P (written_down A)) (fits d (carried_out d now (ruling d e)).records) _ _
@@ -37,8 +37,8 @@ by_due P s now e f None q = by_table P s now e f
 by_due P s now e f (Some o) q =
     let d = with_deadlines s now in let t = expire d o in
     let A = carried_out t now (ruling t e) in let front = expire_records d (origin_at (connection_of e)) o in
-    either (λ B. P (written_down B)) (nat_le max_expired_guids d.expired_count) (table d now e) (behind_expiry d now e front A) (λ _. by_table P s now e f)
-    (λ _. either (λ B. P (written_down B)) (fits d (front ++ A.records)) (record A { records = front ++ A.records }) (table d now e)
+    either (λ B. P (written_down B)) (nat_le max_expired_guids d.expired_count) (event_answer d now e) (behind_expiry d now e front A) (λ _. by_table P s now e f)
+    (λ _. either (λ B. P (written_down B)) (fits d (front ++ A.records)) (record A { records = front ++ A.records }) (event_answer d now e)
     (λ _. f t (expire_records d (origin_at (connection_of e)) o) (ruling t e) (inr (o, q, refl, refl)) (inl refl))
     (λ _. by_table P s now e f))
 

@@ -8,13 +8,13 @@ use Rattle.exchange_defs.specs.Ranges.{without_owner}
 use Rattle.server_law.specs.Fits.{Fits, Attached, PlainAttached, GuidOpen, OpenGuid, PersistentGuid, Deadlines, Listed, Ascending, OpenIds, RangeOwners, OpenFiles}
 use Rattle.server_law.proofs.Lists.{has-without, ascending-without, without_owner-from}
 
-dropped_guid : (s : Server) (o c g p : ℕ) → GuidOpen s → (u : Option ℕ) → (s.opened o).guid ≡ u → with_guid s.by_guid (s.opened o).client u None c g ≡ Some p
-    → put s.standing o false p ≡ true × (s.opened p).client ≡ c × (s.opened p).guid ≡ Some g
+dropped_guid : (s : Server) (o c g p : ℕ) → GuidOpen s → (u : Option ℕ) → (s.opened o).create_guid ≡ u → with_guid s.by_guid (s.opened o).client_guid u None c g ≡ Some p
+    → put s.standing o false p ≡ true × (s.opened p).client_guid ≡ c × (s.opened p).create_guid ≡ Some g
 dropped_guid s o c g p old None e = let was = old c g p in grind arith
 dropped_guid s o c g p old (Some h) e = let was = old c g p in grind arith
 
-dropped_open : (s : Server) (o p g : ℕ) → s.standing o ≡ true → OpenGuid s → (u : Option ℕ) → (s.opened o).guid ≡ u → put s.standing o false p ≡ true → (s.opened p).guid ≡ Some g
-    → with_guid s.by_guid (s.opened o).client u None (s.opened p).client g ≡ Some p
+dropped_open : (s : Server) (o p g : ℕ) → s.standing o ≡ true → OpenGuid s → (u : Option ℕ) → (s.opened o).create_guid ≡ u → put s.standing o false p ≡ true → (s.opened p).create_guid ≡ Some g
+    → with_guid s.by_guid (s.opened o).client_guid u None (s.opened p).client_guid g ≡ Some p
 dropped_open s o p g stands old None e = let was = old p g in grind arith
 dropped_open s o p g stands old (Some h) e = let was = old p g in let own = old o h stands e in grind arith
 
@@ -36,12 +36,12 @@ drop_open_plain_attached s o stands i_plain_attached =
 drop_open_guid_open : (s : Server) (o : ℕ) → (s.standing o ≡ true) → GuidOpen s → GuidOpen (drop_open s o)
 unfolding exists
 drop_open_guid_open s o stands i_guid_open =
-    λ c g p. dropped_guid s o c g p i_guid_open (s.opened o).guid refl
+    λ c g p. dropped_guid s o c g p i_guid_open (s.opened o).create_guid refl
 
 drop_open_open_guid : (s : Server) (o : ℕ) → (s.standing o ≡ true) → OpenGuid s → OpenGuid (drop_open s o)
 unfolding exists
 drop_open_open_guid s o stands i_open_guid =
-    λ p g. dropped_open s o p g stands i_open_guid (s.opened o).guid refl
+    λ p g. dropped_open s o p g stands i_open_guid (s.opened o).create_guid refl
 
 drop_open_persistent_guid : (s : Server) (o : ℕ) → (s.standing o ≡ true) → PersistentGuid s → PersistentGuid (drop_open s o)
 unfolding exists

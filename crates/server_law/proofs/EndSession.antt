@@ -10,12 +10,12 @@ use Rattle.exchange_defs.specs.Effects.{plain_of}
 use Rattle.server_law.proofs.Leaving.{AllLeft, files_left, not_plain}
 
 ended_guid : (s : Server) (session c g p : ℕ) → GuidOpen s → (u : Option ℕ) → s.by_guid c g ≡ u → guid_staying s session u ≡ Some p
-    → (s.standing p && not (leaves s session p)) ≡ true × (s.opened p).client ≡ c × (s.opened p).guid ≡ Some g
+    → (s.standing p && not (leaves s session p)) ≡ true × (s.opened p).client_guid ≡ c × (s.opened p).create_guid ≡ Some g
 ended_guid s session c g p old None e h = absurd (cc)
 ended_guid s session c g p old (Some q) e h = let was = old c g q e in grind arith
 
-ended_named : (s : Server) (session p g : ℕ) → (s.standing p ≡ true → (s.opened p).guid ≡ Some g → s.by_guid (s.opened p).client g ≡ Some p)
-    → (s.standing p && not (leaves s session p)) ≡ true → (s.opened p).guid ≡ Some g → guid_staying s session (s.by_guid (s.opened p).client g) ≡ Some p
+ended_named : (s : Server) (session p g : ℕ) → (s.standing p ≡ true → (s.opened p).create_guid ≡ Some g → s.by_guid (s.opened p).client_guid g ≡ Some p)
+    → (s.standing p && not (leaves s session p)) ≡ true → (s.opened p).create_guid ≡ Some g → guid_staying s session (s.by_guid (s.opened p).client_guid g) ≡ Some p
 ended_named s session p g old st h =
     let e = old (front_of (s.standing p) (not (leaves s session p)) st) h in let out = not_true (leaves s session p) (back_of (s.standing p) (not (leaves s session p)) st) in rw e (stays_named s session p out)
   where

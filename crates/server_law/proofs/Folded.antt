@@ -69,7 +69,7 @@ record Free (s : Server) (n : NewOpen) : Type 0 where
   pub epoch : (n.id / 0x1_0000_0000 == s.epoch) ≡ true
   pub counter : nat_lt 0 (n.id % 0x1_0000_0000) ≡ true
   pub standing : s.standing n.id ≡ false
-  pub guid : s.by_guid n.client n.guid ≡ None
+  pub guid : s.by_guid n.client_guid n.create_guid ≡ None
 
 free_of : (s : Server) (n : NewOpen) → may_restore s n ≡ true → Free s n
 unfolding may_restore
@@ -79,7 +79,7 @@ free_of s n h =
       epoch = front_of (n.id / 0x1_0000_0000 == s.epoch) _ h;
       counter = front_of (nat_lt 0 (n.id % 0x1_0000_0000)) _ a;
       standing = not_true (s.standing n.id) (front_of (not (s.standing n.id)) _ c);
-      guid = none_of (s.by_guid n.client n.guid) (not_true (is_some (s.by_guid n.client n.guid)) (front_of (not (is_some (s.by_guid n.client n.guid))) _ d));
+      guid = none_of (s.by_guid n.client_guid n.create_guid) (not_true (is_some (s.by_guid n.client_guid n.create_guid)) (front_of (not (is_some (s.by_guid n.client_guid n.create_guid))) _ d));
     }
 
 id_above : (id : ℕ) → nat_lt 0 (id % 0x1_0000_0000) ≡ true → 0 < id
@@ -95,7 +95,7 @@ given_most : (given id : ℕ) → given ≤ max_ids → max given (id % 0x1_0000
 given_most given id h = omega (arith, h)
 
 -- the new open's own guid
-own_guid : (s : Server) (n : NewOpen) → s.by_guid n.client n.guid ≡ None → (g : ℕ) → Some n.guid ≡ Some g → s.by_guid n.client g ≡ None
+own_guid : (s : Server) (n : NewOpen) → s.by_guid n.client_guid n.create_guid ≡ None → (g : ℕ) → Some n.create_guid ≡ Some g → s.by_guid n.client_guid g ≡ None
 own_guid s n free g e = grind arith
 
 off_root : (f options : ℕ) → not (deletes_on_close options && (f == root)) ≡ true → deletes_on_close options ≡ true → f ≢ root
@@ -116,7 +116,7 @@ restored_keeps s u f action (Some n) may st by ep file sound i =
       epoch = subst (λ e. (n.id / 0x1_0000_0000 == e) ≡ true) (sym ep) a.epoch;
       counter = a.counter;
       standing = subst (λ t. t n.id ≡ false) (sym st) a.standing;
-      guid = subst (λ t. t n.client n.guid ≡ None) (sym by) a.guid;
+      guid = subst (λ t. t n.client_guid n.create_guid ≡ None) (sym by) a.guid;
     })
     file sound i
 
@@ -195,7 +195,7 @@ recorded_keeps s (LockRecord origin o index number status elements) sound i =
 recorded_keeps s (CloseRecord origin o) sound i = either (λ t. Fits t) (s.standing o) _ _ (λ h. shut_recorded_keeps s o h i) (λ _. i)
 recorded_keeps s (ExpireRecord origin o) sound i =
     either (λ t. Fits t) (s.standing o && nat_lt s.expired_count max_expired_guids) _ _
-    (λ h. add_expired_guid_keeps (shut_recorded s o) (s.opened o).client (s.opened o).guid (shut_recorded_keeps s o (front_of (s.standing o) _ h) i)) (λ _. i)
+    (λ h. add_expired_guid_keeps (shut_recorded s o) (s.opened o).client_guid (s.opened o).create_guid (shut_recorded_keeps s o (front_of (s.standing o) _ h) i)) (λ _. i)
 
 pub folded_keeps : (s : Server) (rs : List Record) → all_sound rs ≡ true → Fits s → Fits (fold_from s rs)
 unfolding all_sound fold_from

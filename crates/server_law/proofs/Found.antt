@@ -15,37 +15,37 @@ use Rattle.exchange_defs.specs.Verdict.{Verdict, Refuse, Give, KeepRefusal, Repe
 
 -- a request of a live session on its own connection, signed as owed and well formed
 pub record SessionFacts (s : Server) (m : Message) : Type 0 where
-  pub session_on : s.session_on m.connection ≡ Some m.session
+  pub session_on : s.session_on m.connection ≡ Some m.session_id
   pub fault : m.fault ≡ None
   pub formed : form m.command ≡ None
 
 pub record TreeFacts (s : Server) (m : Message) : Type 0 where
   pub session : SessionFacts s m
-  pub tree : is_some (tree_in (s.trees m.session) m.tree) ≡ true
+  pub tree : is_some (tree_in (s.trees m.session_id) m.tree_id) ≡ true
 
 -- its open stands in its session
 pub record OpenFacts (s : Server) (m : Message) (o : ℕ) : Type 0 where
   pub tree : TreeFacts s m
   pub standing : s.standing o ≡ true
-  pub session_of_open : s.session_of_open o ≡ Some m.session
+  pub session_of_open : s.session_of_open o ≡ Some m.session_id
 
 -- ---- CREATE
 
 pub record CreateFacts (s : Server) (m : Message) (r : CreateRequest) (pipes : Bool) : Type 0 where
   pub session : SessionFacts s m
-  pub tree : tree_in (s.trees m.session) m.tree ≡ Some pipes
+  pub tree : tree_in (s.trees m.session_id) m.tree_id ≡ Some pipes
   pub command : m.command ≡ Create r
 
 -- a create that is new: its guid, if it has one, names nothing
 pub record NewFacts (s : Server) (m : Message) (r : CreateRequest) (pipes : Bool) : Type 0 where
   pub create : CreateFacts s m r pipes
   pub new : r.reconnect ≡ None
-  pub no_open : (d : Durable) → r.durable ≡ Some d → s.by_guid m.client d.guid ≡ None
-  pub no_closed : (d : Durable) → r.durable ≡ Some d → s.closed m.session d.guid ≡ false
-  pub not_expired : (d : Durable) → r.durable ≡ Some d → s.expired_guids m.client d.guid ≡ false
-  pub no_refusal : (d : Durable) → r.durable ≡ Some d → s.refused m.session d.guid ≡ None
+  pub no_open : (d : Durable) → r.durable ≡ Some d → s.by_guid m.client_guid d.guid ≡ None
+  pub no_closed : (d : Durable) → r.durable ≡ Some d → s.closed m.session_id d.guid ≡ false
+  pub not_expired : (d : Durable) → r.durable ≡ Some d → s.expired_guids m.client_guid d.guid ≡ false
+  pub no_refusal : (d : Durable) → r.durable ≡ Some d → s.refused m.session_id d.guid ≡ None
   pub may_delete : (deletes_on_close r.options && not (deletes (mapped r.access))) ≡ false
-  pub guids : (keeps_guid r && nat_le max_guids (s.guids m.session)) ≡ false
+  pub guids : (keeps_guid r && nat_le max_guids (s.guids m.session_id)) ≡ false
 
 pub record KeepFacts (s : Server) (m : Message) (guid status : ℕ) : Type 0 where
   pub request : CreateRequest
@@ -89,9 +89,9 @@ pub record RepeatFacts (s : Server) (m : Message) (o : ℕ) (r : CreateRequest) 
   pub create : CreateFacts s m r pipes
   pub new : r.reconnect ≡ None
   pub kept : r.durable ≡ Some durable
-  pub named : s.by_guid m.client durable.guid ≡ Some o
+  pub named : s.by_guid m.client_guid durable.guid ≡ Some o
   pub replay : m.replay ≡ true
-  pub whose : (s.session_of_open o ≡ Some m.session) ⊎ (s.session_of_open o ≡ None × (s.opened o).persistent ≡ true × same_name (s.opened o).user (s.user m.session) ≡ true)
+  pub whose : (s.session_of_open o ≡ Some m.session_id) ⊎ (s.session_of_open o ≡ None × (s.opened o).persistent ≡ true × same_name (s.opened o).user (s.user m.session_id) ≡ true)
 
 pub record AttachFacts (s : Server) (m : Message) (o : ℕ) (r : CreateRequest) : Type 0 where
   pub reconnect : Reconnect
@@ -99,9 +99,9 @@ pub record AttachFacts (s : Server) (m : Message) (o : ℕ) (r : CreateRequest) 
   pub asked : r.reconnect ≡ Some reconnect
   pub file : reconnect.file ≡ o
   pub standing : s.standing o ≡ true
-  pub guid : has_guid reconnect.guid (s.opened o).guid ≡ true
-  pub user : same_name (s.opened o).user (s.user m.session) ≡ true
-  pub whose : (s.session_of_open o ≡ None) ⊎ (s.session_of_open o ≡ Some m.session)
+  pub guid : has_guid reconnect.guid (s.opened o).create_guid ≡ true
+  pub user : same_name (s.opened o).user (s.user m.session_id) ≡ true
+  pub whose : (s.session_of_open o ≡ None) ⊎ (s.session_of_open o ≡ Some m.session_id)
 
 -- ---- LOCK
 
@@ -192,35 +192,35 @@ pub record ShutFacts (s : Server) (m : Message) (o : ℕ) : Type 0 where
 pub record ChallengeFacts (s : Server) (m : Message) : Type 0 where
   pub request : SetupRequest
   pub command : m.command ≡ Setup request
-  pub new : m.session ≡ 0
+  pub new : m.session_id ≡ 0
   pub off : s.session_on m.connection ≡ None
   pub begun : s.session_ids_given < max_ids
 
 pub record BindingFacts (s : Server) (m : Message) (session : ℕ) : Type 0 where
   pub request : SetupRequest
   pub command : m.command ≡ Setup request
-  pub session_is : session ≡ m.session
+  pub session_is : session ≡ m.session_id
   pub binding : request.binding ≡ true
-  pub client : (m.client == s.client m.session) ≡ true
+  pub client : (m.client_guid == s.client m.session_id) ≡ true
   pub off : s.session_on m.connection ≡ None
-  pub present : s.present m.session ≡ true
+  pub present : s.present m.session_id ≡ true
 
 -- a session begins where its id is in the making on this connection
 pub record BeginFacts (s : Server) (m : Message) (session : ℕ) (user : List ℕ) (previous : Option ℕ) (r : SetupRequest) : Type 0 where
   pub command : m.command ≡ Setup r
   pub shows : r.shows ≡ Logon user
-  pub session_is : session ≡ m.session
-  pub absent : s.present m.session ≡ false
-  pub making : s.making m.connection ≡ Some (NewSession m.session)
+  pub session_is : session ≡ m.session_id
+  pub absent : s.present m.session_id ≡ false
+  pub making : s.making m.connection ≡ Some (NewSession m.session_id)
   pub previous_is : previous ≡ previous_of s user r.previous
 
 pub record JoinFacts (s : Server) (m : Message) (session : ℕ) : Type 0 where
   pub binding : BindingFacts s m session
-  pub making : is_binding m.session (s.making m.connection) ≡ true
+  pub making : is_binding m.session_id (s.making m.connection) ≡ true
 
 pub record EndFacts (s : Server) (m : Message) (session : ℕ) : Type 0 where
   pub at : SessionFacts s m
-  pub session_is : session ≡ m.session
+  pub session_is : session ≡ m.session_id
   pub command : m.command ≡ Logoff
 
 pub record AddTreeFacts (s : Server) (m : Message) (pipes : Bool) : Type 0 where

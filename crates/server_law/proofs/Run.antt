@@ -88,7 +88,7 @@ dialogs : (w : World) (k : ℕ) (r : Reply) (step : DialogStep) → ServerFits w
 dialogs w k r (GoesOn stage) i = i
 dialogs w k r Accepts i = i
 dialogs w k r Binds i = closes w k (act w.client (IsReady k w.client.session w.client.tree)) i
-dialogs w k r Readies i = closes w k (act w.client (IsReady k w.client.pending r.tree)) i
+dialogs w k r Readies i = closes w k (act w.client (IsReady k w.client.pending r.tree_id)) i
 dialogs w k r (Refuses status) i = i
 
 takes_by : (w : World) (k : ℕ) (r : Reply) (place : ℕ) (token : Token) → ServerFits w → ServerFits (took_by w k r place token)

@@ -11,28 +11,28 @@ use Rattle.exchange_defs.specs.Step.{first_deadline, with_deadlines, forget_conn
 use Rattle.server_law.specs.Fits.{Fits, Attached, PlainAttached, Deadlines, OpenIds, Given, Begun, SessionIds, MakingIds, MakingOnce, OnPresent, OnMade, NoTrees, NoClosed, NoRefused, NoGuids, NextTree, TreeIds, Room}
 use Rattle.server_law.proofs.Lists.{pushed-from, without_tree-from}
 
-attach_attached : (s : Server) (m : Message) (o : ℕ) → (s.standing o ≡ true) → (s.present m.session ≡ true) → Attached s → Attached (attach s m o)
+attach_attached : (s : Server) (m : Message) (o : ℕ) → (s.standing o ≡ true) → (s.present m.session_id ≡ true) → Attached s → Attached (attach s m o)
 unfolding exists
 attach_attached s m o stands there i_attached =
     λ p x. let old = i_attached p x in grind arith
 
-attach_plain_attached : (s : Server) (m : Message) (o : ℕ) → (s.standing o ≡ true) → (s.present m.session ≡ true) → PlainAttached s → PlainAttached (attach s m o)
+attach_plain_attached : (s : Server) (m : Message) (o : ℕ) → (s.standing o ≡ true) → (s.present m.session_id ≡ true) → PlainAttached s → PlainAttached (attach s m o)
 unfolding exists
 attach_plain_attached s m o stands there i_plain_attached =
     λ p. let old = i_plain_attached p in grind arith
 
-attach_deadlines : (s : Server) (m : Message) (o : ℕ) → (s.standing o ≡ true) → (s.present m.session ≡ true) → Deadlines s → Deadlines (attach s m o)
+attach_deadlines : (s : Server) (m : Message) (o : ℕ) → (s.standing o ≡ true) → (s.present m.session_id ≡ true) → Deadlines s → Deadlines (attach s m o)
 unfolding exists
 attach_deadlines s m o stands there i_deadlines =
     λ p d. let old = i_deadlines p d in grind arith
 
-attach_no_guids : (s : Server) (m : Message) (o : ℕ) → (s.standing o ≡ true) → (s.present m.session ≡ true) → NoGuids s → NoGuids (attach s m o)
+attach_no_guids : (s : Server) (m : Message) (o : ℕ) → (s.standing o ≡ true) → (s.present m.session_id ≡ true) → NoGuids s → NoGuids (attach s m o)
 unfolding exists
 attach_no_guids s m o stands there i_no_guids =
     λ x. let old = i_no_guids x in grind arith
 
 -- an open that stands becomes a session's
-pub attach_keeps : (s : Server) (m : Message) (o : ℕ) → (s.standing o ≡ true) → (s.present m.session ≡ true) → Fits s → Fits (attach s m o)
+pub attach_keeps : (s : Server) (m : Message) (o : ℕ) → (s.standing o ≡ true) → (s.present m.session_id ≡ true) → Fits s → Fits (attach s m o)
 unfolding exists
 attach_keeps s m o stands there i =
     record {
@@ -266,68 +266,68 @@ bind_keeps s line session off i =
       room = i.room;
     }
 
-add_session_attached : (s : Server) (m : Message) (user : List ℕ) (r : SetupRequest) → (s.present m.session ≡ false) → (s.making m.connection ≡ Some (NewSession m.session)) → Attached s → Attached (add_session s m user r)
+add_session_attached : (s : Server) (m : Message) (user : List ℕ) (r : SetupRequest) → (s.present m.session_id ≡ false) → (s.making m.connection ≡ Some (NewSession m.session_id)) → Attached s → Attached (add_session s m user r)
 unfolding exists
 add_session_attached s m user r absent new i_attached =
     λ p x. let old = i_attached p x in grind arith
 
-add_session_session_ids : (s : Server) (m : Message) (user : List ℕ) (r : SetupRequest) → (s.present m.session ≡ false) → (s.making m.connection ≡ Some (NewSession m.session)) → SessionIds s → MakingIds s → SessionIds (add_session s m user r)
+add_session_session_ids : (s : Server) (m : Message) (user : List ℕ) (r : SetupRequest) → (s.present m.session_id ≡ false) → (s.making m.connection ≡ Some (NewSession m.session_id)) → SessionIds s → MakingIds s → SessionIds (add_session s m user r)
 unfolding exists
 add_session_session_ids s m user r absent new i_session_ids i_making_ids =
     λ x. let old = i_session_ids x in grind arith
 
-add_session_making_ids : (s : Server) (m : Message) (user : List ℕ) (r : SetupRequest) → (s.present m.session ≡ false) → (s.making m.connection ≡ Some (NewSession m.session)) → MakingIds s → MakingOnce s → MakingIds (add_session s m user r)
+add_session_making_ids : (s : Server) (m : Message) (user : List ℕ) (r : SetupRequest) → (s.present m.session_id ≡ false) → (s.making m.connection ≡ Some (NewSession m.session_id)) → MakingIds s → MakingOnce s → MakingIds (add_session s m user r)
 unfolding exists
 add_session_making_ids s m user r absent new i_making_ids i_making_once =
     λ k x. let old = i_making_ids k x in grind arith
 
-add_session_making_once : (s : Server) (m : Message) (user : List ℕ) (r : SetupRequest) → (s.present m.session ≡ false) → (s.making m.connection ≡ Some (NewSession m.session)) → MakingOnce s → MakingOnce (add_session s m user r)
+add_session_making_once : (s : Server) (m : Message) (user : List ℕ) (r : SetupRequest) → (s.present m.session_id ≡ false) → (s.making m.connection ≡ Some (NewSession m.session_id)) → MakingOnce s → MakingOnce (add_session s m user r)
 unfolding exists
 add_session_making_once s m user r absent new i_making_once =
     λ j k x. let old = i_making_once j k x in grind arith
 
-add_session_on_present : (s : Server) (m : Message) (user : List ℕ) (r : SetupRequest) → (s.present m.session ≡ false) → (s.making m.connection ≡ Some (NewSession m.session)) → OnPresent s → OnPresent (add_session s m user r)
+add_session_on_present : (s : Server) (m : Message) (user : List ℕ) (r : SetupRequest) → (s.present m.session_id ≡ false) → (s.making m.connection ≡ Some (NewSession m.session_id)) → OnPresent s → OnPresent (add_session s m user r)
 unfolding exists
 add_session_on_present s m user r absent new i_on_present =
     λ k x. let old = i_on_present k x in grind arith
 
-add_session_on_made : (s : Server) (m : Message) (user : List ℕ) (r : SetupRequest) → (s.present m.session ≡ false) → (s.making m.connection ≡ Some (NewSession m.session)) → OnMade s → OnMade (add_session s m user r)
+add_session_on_made : (s : Server) (m : Message) (user : List ℕ) (r : SetupRequest) → (s.present m.session_id ≡ false) → (s.making m.connection ≡ Some (NewSession m.session_id)) → OnMade s → OnMade (add_session s m user r)
 unfolding exists
 add_session_on_made s m user r absent new i_on_made =
     λ k x. let old = i_on_made k x in grind arith
 
-add_session_no_trees : (s : Server) (m : Message) (user : List ℕ) (r : SetupRequest) → (s.present m.session ≡ false) → (s.making m.connection ≡ Some (NewSession m.session)) → NoTrees s → NoTrees (add_session s m user r)
+add_session_no_trees : (s : Server) (m : Message) (user : List ℕ) (r : SetupRequest) → (s.present m.session_id ≡ false) → (s.making m.connection ≡ Some (NewSession m.session_id)) → NoTrees s → NoTrees (add_session s m user r)
 unfolding exists
 add_session_no_trees s m user r absent new i_no_trees =
     λ x. let old = i_no_trees x in grind arith
 
-add_session_no_closed : (s : Server) (m : Message) (user : List ℕ) (r : SetupRequest) → (s.present m.session ≡ false) → (s.making m.connection ≡ Some (NewSession m.session)) → NoClosed s → NoClosed (add_session s m user r)
+add_session_no_closed : (s : Server) (m : Message) (user : List ℕ) (r : SetupRequest) → (s.present m.session_id ≡ false) → (s.making m.connection ≡ Some (NewSession m.session_id)) → NoClosed s → NoClosed (add_session s m user r)
 unfolding exists
 add_session_no_closed s m user r absent new i_no_closed =
     λ x g. let old = i_no_closed x g in grind arith
 
-add_session_no_refused : (s : Server) (m : Message) (user : List ℕ) (r : SetupRequest) → (s.present m.session ≡ false) → (s.making m.connection ≡ Some (NewSession m.session)) → NoRefused s → NoRefused (add_session s m user r)
+add_session_no_refused : (s : Server) (m : Message) (user : List ℕ) (r : SetupRequest) → (s.present m.session_id ≡ false) → (s.making m.connection ≡ Some (NewSession m.session_id)) → NoRefused s → NoRefused (add_session s m user r)
 unfolding exists
 add_session_no_refused s m user r absent new i_no_refused =
     λ x g. let old = i_no_refused x g in grind arith
 
-add_session_no_guids : (s : Server) (m : Message) (user : List ℕ) (r : SetupRequest) → (s.present m.session ≡ false) → (s.making m.connection ≡ Some (NewSession m.session)) → NoGuids s → NoGuids (add_session s m user r)
+add_session_no_guids : (s : Server) (m : Message) (user : List ℕ) (r : SetupRequest) → (s.present m.session_id ≡ false) → (s.making m.connection ≡ Some (NewSession m.session_id)) → NoGuids s → NoGuids (add_session s m user r)
 unfolding exists
 add_session_no_guids s m user r absent new i_no_guids =
     λ x. let old = i_no_guids x in grind arith
 
-add_session_next_tree : (s : Server) (m : Message) (user : List ℕ) (r : SetupRequest) → (s.present m.session ≡ false) → (s.making m.connection ≡ Some (NewSession m.session)) → NextTree s → NextTree (add_session s m user r)
+add_session_next_tree : (s : Server) (m : Message) (user : List ℕ) (r : SetupRequest) → (s.present m.session_id ≡ false) → (s.making m.connection ≡ Some (NewSession m.session_id)) → NextTree s → NextTree (add_session s m user r)
 unfolding exists
 add_session_next_tree s m user r absent new i_next_tree =
     λ x. let old = i_next_tree x in grind arith
 
-add_session_tree_ids : (s : Server) (m : Message) (user : List ℕ) (r : SetupRequest) → (s.present m.session ≡ false) → (s.making m.connection ≡ Some (NewSession m.session)) → TreeIds s → TreeIds (add_session s m user r)
+add_session_tree_ids : (s : Server) (m : Message) (user : List ℕ) (r : SetupRequest) → (s.present m.session_id ≡ false) → (s.making m.connection ≡ Some (NewSession m.session_id)) → TreeIds s → TreeIds (add_session s m user r)
 unfolding exists
 add_session_tree_ids s m user r absent new i_tree_ids =
     λ x n t. let old = i_tree_ids x n t in grind arith
 
 -- a session begins that was in the making
-pub add_session_keeps : (s : Server) (m : Message) (user : List ℕ) (r : SetupRequest) → (s.present m.session ≡ false) → (s.making m.connection ≡ Some (NewSession m.session)) → Fits s → Fits (add_session s m user r)
+pub add_session_keeps : (s : Server) (m : Message) (user : List ℕ) (r : SetupRequest) → (s.present m.session_id ≡ false) → (s.making m.connection ≡ Some (NewSession m.session_id)) → Fits s → Fits (add_session s m user r)
 unfolding exists
 add_session_keeps s m user r absent new i =
     record {

@@ -19,14 +19,14 @@ PlainAttached s = (o : ℕ) → s.standing o ≡ true → (s.opened o).persisten
 
 -- a guid names exactly the open that stands with it
 abbrev pub GuidOpen : Server → Type 0
-GuidOpen s = (c g o : ℕ) → s.by_guid c g ≡ Some o → s.standing o ≡ true × (s.opened o).client ≡ c × (s.opened o).guid ≡ Some g
+GuidOpen s = (c g o : ℕ) → s.by_guid c g ≡ Some o → s.standing o ≡ true × (s.opened o).client_guid ≡ c × (s.opened o).create_guid ≡ Some g
 
 abbrev pub OpenGuid : Server → Type 0
-OpenGuid s = (o g : ℕ) → s.standing o ≡ true → (s.opened o).guid ≡ Some g → s.by_guid (s.opened o).client g ≡ Some o
+OpenGuid s = (o g : ℕ) → s.standing o ≡ true → (s.opened o).create_guid ≡ Some g → s.by_guid (s.opened o).client_guid g ≡ Some o
 
 -- an open that outlives its session has a guid
 abbrev pub PersistentGuid : Server → Type 0
-PersistentGuid s = (o : ℕ) → s.standing o ≡ true → (s.opened o).persistent ≡ true → is_some (s.opened o).guid ≡ true
+PersistentGuid s = (o : ℕ) → s.standing o ≡ true → (s.opened o).persistent ≡ true → is_some (s.opened o).create_guid ≡ true
 
 -- an open without a session alone has a deadline
 abbrev pub Deadlines : Server → Type 0

@@ -22,7 +22,7 @@ not_made y s k e h P = absurd (grind arith)
 begins_new : (z : Settings) → Anew z.who.guid (logon_user z.who.logon) 1 (fold (recovery_records []))
 begins_new z = anew z.who.guid (logon_user z.who.logon) (blank_server z) [] (folds_nothing z.who.guid (logon_user z.who.logon))
 
-sits_at_first : (z : Settings) (s : Server) → ((x : ℕ) → s.present x ≡ false) → ((k : ℕ) → s.making k ≡ None) → ((o : ℕ) → s.standing o ≡ true → (s.opened o).user ≡ logon_user z.who.logon × (s.opened o).client ≡ z.who.guid)
+sits_at_first : (z : Settings) (s : Server) → ((x : ℕ) → s.present x ≡ false) → ((k : ℕ) → s.making k ≡ None) → ((o : ℕ) → s.standing o ≡ true → (s.opened o).user ≡ logon_user z.who.logon × (s.opened o).client_guid ≡ z.who.guid)
     → Sessions (new_client z.who) (λ k. no_conn) s
 sits_at_first z s present making opens =
     record {

@@ -19,30 +19,30 @@ use Rattle.session_law.proofs.Columns.{Stays, stays_same, stays_so, stays_reache
 -- a session begins
 pub record Enters (s : Server) (m : Message) (A : Answer) : Type 0 where
   pub logs : logs_on m.command ≡ true
-  pub user : A.server.user m.session ≡ user_in m.command
-  pub made : is_new m.session (s.making m.connection) ≡ true
+  pub user : A.server.user m.session_id ≡ user_in m.command
+  pub made : is_new m.session_id (s.making m.connection) ≡ true
   pub gone : s.present (previous_in m.command) ≡ true → same_name (s.user (previous_in m.command)) (user_in m.command) ≡ true → A.server.present (previous_in m.command) ≡ false
-  pub unmade : (j : ℕ) → is_new m.session (A.server.making j) ≡ true → is_new m.session (s.making j) ≡ true × j ≢ m.connection
+  pub unmade : (j : ℕ) → is_new m.session_id (A.server.making j) ≡ true → is_new m.session_id (s.making j) ≡ true × j ≢ m.connection
 
 pub record Facts (s : Server) (m : Message) (A : Answer) : Type 0 where
   pub begins : Bool
   pub challenges : Bool
   pub makes : Bool
-  pub present : (x : ℕ) → A.server.present x ≡ true → (begins ≡ true → x ≢ m.session) → s.present x ≡ true
-  pub users : (x : ℕ) → A.server.present x ≡ true → (begins ≡ true → x ≢ m.session) → A.server.user x ≡ s.user x
+  pub present : (x : ℕ) → A.server.present x ≡ true → (begins ≡ true → x ≢ m.session_id) → s.present x ≡ true
+  pub users : (x : ℕ) → A.server.present x ≡ true → (begins ≡ true → x ≢ m.session_id) → A.server.user x ≡ s.user x
   pub enters : begins ≡ true → Enters s m A
   pub making : (k y : ℕ) → is_new y (A.server.making k) ≡ true → (challenges ≡ true → y ≢ next_session s) → is_new y (s.making k) ≡ true
   pub epoch : A.server.epoch ≡ s.epoch
-  pub counted : challenges ≡ true → A.server.session_ids_given ≡ s.session_ids_given + 1 × A.reply.session ≡ next_session s × is_new_setup m.command ≡ true
-  pub uncounted : challenges ≡ false → A.server.session_ids_given ≡ s.session_ids_given × A.reply.session ≡ m.session
+  pub counted : challenges ≡ true → A.server.session_ids_given ≡ s.session_ids_given + 1 × A.reply.session_id ≡ next_session s × is_new_setup m.command ≡ true
+  pub uncounted : challenges ≡ false → A.server.session_ids_given ≡ s.session_ids_given × A.reply.session_id ≡ m.session_id
   pub once : begins ≡ true → challenges ≡ false
   pub welcome : A.reply.status ≡ success → is_new_setup m.command ≡ true → m.fault ≡ None → begins ≡ true
   pub interim : A.reply.status ≡ more_processing_required → is_new_setup m.command ≡ true → m.fault ≡ None → challenges ≡ true
   pub trees : (x id : ℕ) → s.present x ≡ true → A.server.present x ≡ true → m.command ≢ TreeDisconnect → is_some (tree_in (s.trees x) id) ≡ true → is_some (tree_in (A.server.trees x) id) ≡ true
-  pub connected : A.reply.status ≡ success → is_tree_connect m.command ≡ true → m.fault ≡ None → is_some (tree_in (A.server.trees m.session) A.reply.tree) ≡ true
+  pub connected : A.reply.status ≡ success → is_tree_connect m.command ≡ true → m.fault ≡ None → is_some (tree_in (A.server.trees m.session_id) A.reply.tree_id) ≡ true
   pub opens : (o : ℕ) → A.server.standing o ≡ true → (makes ≡ true → o ≢ next_open s) → s.standing o ≡ true
   pub rows : (o : ℕ) → (makes ≡ true → o ≢ next_open s) → A.server.opened o ≡ s.opened o
-  pub maker : makes ≡ true → (A.server.opened (next_open s)).user ≡ s.user m.session × (A.server.opened (next_open s)).client ≡ m.client × s.session_on m.connection ≡ Some m.session
+  pub maker : makes ≡ true → (A.server.opened (next_open s)).user ≡ s.user m.session_id × (A.server.opened (next_open s)).client_guid ≡ m.client_guid × s.session_on m.connection ≡ Some m.session_id
 
 -- ---- answers that leave sessions alone
 
@@ -61,7 +61,7 @@ not_it status wanted n e P = absurd (eqb-false status wanted n e)
 abbrev Declines : Message → Answer → Type 0
 Declines m A = asks m.command ≡ true → m.fault ≡ None → (A.reply.status == success) ≡ false × (A.reply.status == more_processing_required) ≡ false
 
-pub quiet_facts : (s : Server) (m : Message) (A : Answer) → Stays s A.server → A.reply.session ≡ m.session → Declines m A → Facts s m A
+pub quiet_facts : (s : Server) (m : Message) (A : Answer) → Stays s A.server → A.reply.session_id ≡ m.session_id → Declines m A → Facts s m A
 quiet_facts s m A q own d =
     record {
       begins = false;
@@ -92,7 +92,7 @@ stays_written s t j q =
 pub untold : (b : Bool) → b ≡ false → b ≡ true → (P : Type 0) → P
 untold b e f P = absurd (cc)
 
-quiet_by : (s : Server) (m : Message) (B : Answer) (records : List Record) → Stays s B.server → B.reply.session ≡ m.session → asks m.command ≡ false → Facts s m (recorded B records)
+quiet_by : (s : Server) (m : Message) (B : Answer) (records : List Record) → Stays s B.server → B.reply.session_id ≡ m.session_id → asks m.command ≡ false → Facts s m (recorded B records)
 quiet_by s m B records q own n = quiet_facts s m (recorded B records) (stays_written s B.server _ q) own (λ a f. untold (asks m.command) n a _)
 
 -- ---- a session is asked for: its id is given
@@ -141,7 +141,7 @@ none_elsewhere f k j y e = grind arith
 -- an answer that makes no session, gives no id and makes no open
 silent_facts : (s : Server) (m : Message) (A : Answer) → asks m.command ≡ false
     → ((x : ℕ) → A.server.present x ≡ true → s.present x ≡ true) → A.server.user ≡ s.user → ((k y : ℕ) → is_new y (A.server.making k) ≡ true → is_new y (s.making k) ≡ true)
-    → A.server.epoch ≡ s.epoch → A.server.session_ids_given ≡ s.session_ids_given → A.reply.session ≡ m.session
+    → A.server.epoch ≡ s.epoch → A.server.session_ids_given ≡ s.session_ids_given → A.reply.session_id ≡ m.session_id
     → ((x id : ℕ) → A.server.present x ≡ true → m.command ≢ TreeDisconnect → is_some (tree_in (s.trees x) id) ≡ true → is_some (tree_in (A.server.trees x) id) ≡ true)
     → ((o : ℕ) → A.server.standing o ≡ true → s.standing o ≡ true) → A.server.opened ≡ s.opened → Facts s m A
 silent_facts s m A quiet present user making epoch begun own trees standing opened =
@@ -234,8 +234,8 @@ added_tree s m now pipes records is =
       once = λ e. absurd (cc);
       welcome = λ e n f. new_not_tree m.command n is _;
       interim = λ e n f. new_not_tree m.command n is _;
-      trees = λ x id p r n h. put_trees s.trees m.session x _ id (λ g. more_trees (s.trees m.session) (record { id = s.next_tree m.session; pipes = pipes }) id g) h;
-      connected = λ e n f. put_own s.trees m.session _ (s.next_tree m.session) (last_tree (s.trees m.session) (record { id = s.next_tree m.session; pipes = pipes }));
+      trees = λ x id p r n h. put_trees s.trees m.session_id x _ id (λ g. more_trees (s.trees m.session_id) (record { id = s.next_tree m.session_id; pipes = pipes }) id g) h;
+      connected = λ e n f. put_own s.trees m.session_id _ (s.next_tree m.session_id) (last_tree (s.trees m.session_id) (record { id = s.next_tree m.session_id; pipes = pipes }));
       opens = λ o e n. e;
       rows = λ o n. refl;
       maker = λ e. absurd (cc);
@@ -303,20 +303,20 @@ named : (s : Server) (user : List ℕ) (p : ℕ) → s.present p ≡ true → sa
 named s user p a b = grind arith
 
 entered : (s u : Server) (m : Message) (session : ℕ) (user : List ℕ) (previous : Option ℕ) (r : SetupRequest) (A : Answer) → Begun s m session user previous r → Ends s u previous
-    → A.server.user ≡ put u.user m.session user → A.server.present ≡ put u.present m.session true → A.server.making ≡ put u.making m.connection None → Enters s m A
+    → A.server.user ≡ put u.user m.session_id user → A.server.present ≡ put u.present m.session_id true → A.server.making ≡ put u.making m.connection None → Enters s m A
 entered s u m session user previous r A b q users present making =
     let w = setup_words m.command r b.command in
     record {
       logs = w.0 ∙ b.logon;
-      user = ap (λ f. f m.session) users ∙ user_itself u.user m.session user ∙ b.its_user ∙ sym w.1;
+      user = ap (λ f. f m.session_id) users ∙ user_itself u.user m.session_id user ∙ b.its_user ∙ sym w.1;
       made = b.made;
       gone = λ p n.
-          let d = apart_of s.present (previous_in m.command) m.session p b.apart in
+          let d = apart_of s.present (previous_in m.command) m.session_id p b.apart in
           let is : previous ≡ Some (previous_in m.command) = b.before ∙ ap (λ z. previous_of s user z) (sym w.2) ∙ named s user (previous_in m.command) p (ap (λ z. same_name (s.user (previous_in m.command)) z) (b.its_user ∙ sym w.1) ∙ n) in
-          ap (λ f. f (previous_in m.command)) present ∙ off_elsewhere u.present m.session (previous_in m.command) d (q.gone (previous_in m.command) is);
+          ap (λ f. f (previous_in m.command)) present ∙ off_elsewhere u.present m.session_id (previous_in m.command) d (q.gone (previous_in m.command) is);
       unmade = λ j e.
-          let e2 : is_new m.session (put u.making m.connection None j) ≡ true = ap (λ f. is_new m.session (f j)) (sym making) ∙ e in
-          (ap (λ f. is_new m.session (f j)) (sym q.making) ∙ none_elsewhere u.making m.connection j m.session e2, unmade_there u.making m.connection j m.session e2);
+          let e2 : is_new m.session_id (put u.making m.connection None j) ≡ true = ap (λ f. is_new m.session_id (f j)) (sym making) ∙ e in
+          (ap (λ f. is_new m.session_id (f j)) (sym q.making) ∙ none_elsewhere u.making m.connection j m.session_id e2, unmade_there u.making m.connection j m.session_id e2);
     }
 
 new_of : (m : Message) (r : SetupRequest) → m.command ≡ Setup r → r.binding ≡ false → is_new_setup m.command ≡ true
@@ -334,8 +334,8 @@ began s m now session user previous r is_quiet records b =
       begins = true;
       challenges = false;
       makes = false;
-      present = λ x p n. q.present x (on_elsewhere u.present m.session x p (n refl));
-      users = λ x p n. user_elsewhere u.user m.session x user (n refl) ∙ ap (λ f. f x) q.user;
+      present = λ x p n. q.present x (on_elsewhere u.present m.session_id x p (n refl));
+      users = λ x p n. user_elsewhere u.user m.session_id x user (n refl) ∙ ap (λ f. f x) q.user;
       enters = λ e. entered s u m session user previous r (recorded (apply s m now (Begin session user previous r is_quiet)) records) b q refl refl refl;
       making = λ k y e n. ap (λ f. is_new y (f k)) (sym q.making) ∙ none_elsewhere u.making m.connection k y e;
       epoch = q.epoch;
@@ -345,7 +345,7 @@ began s m now session user previous r is_quiet records b =
       welcome = λ e n f. refl;
       interim = λ e n f. not_more _ e;
       trees = λ x id p a n h.
-          let d = apart_of s.present x m.session p b.apart in trees_elsewhere u.trees m.session x id d (q.trees x id (on_elsewhere u.present m.session x a d) h);
+          let d = apart_of s.present x m.session_id p b.apart in trees_elsewhere u.trees m.session_id x id d (q.trees x id (on_elsewhere u.present m.session_id x a d) h);
       connected = λ e n f. new_not_tree m.command new n _;
       opens = λ o e n. q.standing o e;
       rows = λ o n. ap (λ f. f o) q.opened;
@@ -360,7 +360,7 @@ row_elsewhere f y x row d = grind arith
 row_itself : (f : ℕ → Open) (y : ℕ) (row : Open) → put f y row y ≡ row
 row_itself f y row = grind arith
 
-made_open : (s : Server) (m : Message) (now : ℕ) (r : CreateRequest) (found : Option ℕ) (action : ℕ) (records : List Record) → asks m.command ≡ false → s.session_on m.connection ≡ Some m.session
+made_open : (s : Server) (m : Message) (now : ℕ) (r : CreateRequest) (found : Option ℕ) (action : ℕ) (records : List Record) → asks m.command ≡ false → s.session_on m.connection ≡ Some m.session_id
     → Facts s m (recorded (apply s m now (Make r found action)) records)
 made_open s m now r found action records quiet on =
     let u = file_made s r found now in let q = stays_made s r found now in let row = open_row s m r (new_file s found) action in
@@ -383,7 +383,7 @@ made_open s m now r found action records quiet on =
       opens = λ o e n. q.standing o (on_elsewhere u.standing (next_open s) o e (n refl));
       rows = λ o n. row_elsewhere u.opened (next_open s) o row (n refl) ∙ ap (λ f. f o) q.opened;
       maker = λ e.
-          let i = row_itself u.opened (next_open s) row in (ap (λ (x : Open). x.user) i, ap (λ (x : Open). x.client) i, on);
+          let i = row_itself u.opened (next_open s) row in (ap (λ (x : Open). x.user) i, ap (λ (x : Open). x.client_guid) i, on);
     }
 
 -- ---- every verdict
@@ -391,7 +391,7 @@ made_open s m now r found action records quiet on =
 pub by_verdicts : (s : Server) (m : Message) (now : ℕ) (records : List Record) (v : Verdict) → Found s m v → Facts s m (recorded (apply s m now v) records)
 by_verdicts s m now records (Refuse status) f = quiet_facts s m (recorded (apply s m now (Refuse status)) records) (stays_written s s _ (stays_same s)) refl f
 by_verdicts s m now records (Give body) f = quiet_by s m (apply s m now (Give body)) records (stays_same s) refl f.0
-by_verdicts s m now records (KeepRefusal guid status) f = quiet_by s m (apply s m now (KeepRefusal guid status)) records (stays_refused s m.session guid status) refl f.0
+by_verdicts s m now records (KeepRefusal guid status) f = quiet_by s m (apply s m now (KeepRefusal guid status)) records (stays_refused s m.session_id guid status) refl f.0
 by_verdicts s m now records (Repeat o r) f = quiet_by s m (apply s m now (Repeat o r)) records (stays_attached s m o) refl f.0
 by_verdicts s m now records (Attach o r) f = quiet_by s m (apply s m now (Attach o r)) records (stays_attached s m o) refl f.0
 by_verdicts s m now records (Make r found action) f = made_open s m now r found action records f.0 f.1
@@ -407,7 +407,7 @@ by_verdicts s m now records (PutRanges o index number ranges elements) f =
 by_verdicts s m now records (Alter o change body) f =
     quiet_by s m (apply s m now (Alter o change body)) records (stays_so s (reach s m o) _ (stays_reached s m o) (stays_changed (reach s m o) (file_of s o) now change)) refl f.0
 by_verdicts s m now records (CloseOpen o body) f =
-    quiet_by s m (apply s m now (CloseOpen o body)) records (stays_so s (leave_open s o) _ (stays_left s o) (stays_closed (leave_open s o) m.session (s.opened o).guid)) refl f.0
+    quiet_by s m (apply s m now (CloseOpen o body)) records (stays_so s (leave_open s o) _ (stays_left s o) (stays_closed (leave_open s o) m.session_id (s.opened o).create_guid)) refl f.0
 by_verdicts s m now records Challenge f = challenged s m now records f
 by_verdicts s m now records (ChallengeBinding session) f = challenged_binding s m now session records f
 by_verdicts s m now records (Begin session user previous r is_quiet) f = began s m now session user previous r is_quiet records f

@@ -380,8 +380,8 @@ took_dialog w k r i mine alone h (SaidSecond false) at =
     (λ _. talks_on w.client (accepted w.client k) w.conns k 1 AskedTree _ i refl refl refl refl (λ m. mine k (ap makes_session at)) (λ _. refl) h) (λ _. refuses w k r r.status i h)
 took_dialog w k r i mine alone h AskedTree at =
     either (λ d. Holds (dialog_took w k r d).client (dialog_took w k r d).conns) (r.status == success) Readies (Refuses r.status)
-    (λ _. ended_well (λ v. Holds v.client v.conns) w k w.client.pending r.tree (λ live. binds w k (alone live) i h)
-    (λ _ _. is_over w.client (begin_session w.client k w.client.pending r.tree) w.conns k i refl refl (λ q e. absurd (cc)) h) (fails w k i h))
+    (λ _. ended_well (λ v. Holds v.client v.conns) w k w.client.pending r.tree_id (λ live. binds w k (alone live) i h)
+    (λ _ _. is_over w.client (begin_session w.client k w.client.pending r.tree_id) w.conns k i refl refl (λ q e. absurd (cc)) h) (fails w k i h))
     (λ _. refuses w k r r.status i h)
 
 -- the reply is the one that waits alone

@@ -22,15 +22,15 @@ asks c = is_new_setup c || is_tree_connect c
 pub record Begun (s : Server) (m : Message) (session : ℕ) (user : List ℕ) (previous : Option ℕ) (r : SetupRequest) : Type 0 where
   pub command : m.command ≡ Setup r
   pub unbound : r.binding ≡ false
-  pub own : session ≡ m.session
+  pub own : session ≡ m.session_id
   pub logon : is_logon r.shows ≡ true
   pub its_user : user ≡ logon_user r.shows
-  pub made : is_new m.session (s.making m.connection) ≡ true
-  pub apart : s.present m.session ≡ false
+  pub made : is_new m.session_id (s.making m.connection) ≡ true
+  pub apart : s.present m.session_id ≡ false
   pub before : previous ≡ previous_of s user r.previous
 
 abbrev pub OnFile : Server → Message → Type 0
-OnFile s m = asks m.command ≡ false × s.session_on m.connection ≡ Some m.session
+OnFile s m = asks m.command ≡ false × s.session_on m.connection ≡ Some m.session_id
 
 abbrev pub Found : Server → Message → Verdict → Type 0
 Found s m (Refuse status) = asks m.command ≡ true → m.fault ≡ None → (status == success) ≡ false × (status == more_processing_required) ≡ false
@@ -59,14 +59,14 @@ Found s m DropTree = m.command ≡ TreeDisconnect
 abbrev Asked : Message → SetupRequest → Type 0
 Asked m r = m.command ≡ Setup r × r.binding ≡ false
 
-granted : (s : Server) (m : Message) (r : SetupRequest) (user : List ℕ) → Asked m r → s.present m.session ≡ false → is_new m.session (s.making m.connection) ≡ true → r.shows ≡ Logon user → Found s m (granted_session s m r user)
+granted : (s : Server) (m : Message) (r : SetupRequest) (user : List ℕ) → Asked m r → s.present m.session_id ≡ false → is_new m.session_id (s.making m.connection) ≡ true → r.shows ≡ Logon user → Found s m (granted_session s m r user)
 granted s m r user q apart made shows =
     let P : Verdict → Type 0 = λ v. Found s m v in
     either P (s.encrypts && (r.cipher == 0)) _ _ (λ _ a f. (refl, refl))
     (λ _. either P (nat_le max_sessions s.sessions) _ _ (λ _ a f. (refl, refl))
     (λ _. record { command = q.0; unbound = q.1; own = refl; logon = ap is_logon shows; its_user = ap logon_user (sym shows); made = made; apart = apart; before = refl }))
 
-second : (s : Server) (m : Message) (r : SetupRequest) → Asked m r → s.present m.session ≡ false → is_new m.session (s.making m.connection) ≡ true → (shows : Shows) → r.shows ≡ shows → Found s m (second_token s m r shows)
+second : (s : Server) (m : Message) (r : SetupRequest) → Asked m r → s.present m.session_id ≡ false → is_new m.session_id (s.making m.connection) ≡ true → (shows : Shows) → r.shows ≡ shows → Found s m (second_token s m r shows)
 second s m r q apart made Begins e = λ a f. (refl, refl)
 second s m r q apart made Bad e = λ a f. (refl, refl)
 second s m r q apart made Refused e = λ a f. (refl, refl)
@@ -85,9 +85,9 @@ first s m r q (Logon user) = λ a f. (refl, refl)
 new_session : (s : Server) (m : Message) (r : SetupRequest) → Asked m r → Found s m (session_check s m r)
 new_session s m r q =
     let P : Verdict → Type 0 = λ v. Found s m v in
-    either P (m.session == 0) _ _ (λ _. either P (is_some (s.session_on m.connection)) _ _ (λ _ a f. (refl, refl)) (λ _. first s m r q r.shows))
-    (λ _. either P (s.present m.session) _ _ (λ _ a f. (refl, refl))
-    (λ apart. either P (is_new m.session (s.making m.connection)) _ _ (λ made. second s m r q apart made r.shows refl) (λ _ a f. (refl, refl))))
+    either P (m.session_id == 0) _ _ (λ _. either P (is_some (s.session_on m.connection)) _ _ (λ _ a f. (refl, refl)) (λ _. first s m r q r.shows))
+    (λ _. either P (s.present m.session_id) _ _ (λ _ a f. (refl, refl))
+    (λ apart. either P (is_new m.session_id (s.making m.connection)) _ _ (λ made. second s m r q apart made r.shows refl) (λ _ a f. (refl, refl))))
 
 -- ---- a further channel
 
@@ -128,7 +128,7 @@ asks_tree m share e = ap is_tree_connect e
 trees : (s : Server) (m : Message) (share : List ℕ) → m.command ≡ TreeConnect share → Found s m (tree_check s m share)
 trees s m share e =
     let P : Verdict → Type 0 = λ v. Found s m v in
-    either P (no_tree_left s m.session) _ _ (λ _ a f. (refl, refl))
+    either P (no_tree_left s m.session_id) _ _ (λ _ a f. (refl, refl))
     (λ _. either P (same_name share pipes_name) _ _ (λ _. asks_tree m share e)
     (λ _. either P (same_name share s.share) _ _ (λ _. asks_tree m share e) (λ _ a f. (refl, refl))))
 
@@ -150,7 +150,7 @@ on_file (Alter o change body) = true
 on_file (CloseOpen o body) = true
 on_file _ = false
 
-by_file : (s : Server) (m : Message) → asks m.command ≡ false → s.session_on m.connection ≡ Some m.session → (v : Verdict) → on_file v ≡ true → Found s m v
+by_file : (s : Server) (m : Message) → asks m.command ≡ false → s.session_on m.connection ≡ Some m.session_id → (v : Verdict) → on_file v ≡ true → Found s m v
 by_file s m n o (Refuse status) b = λ a f. untold (asks m.command) n a _
 by_file s m n o (Give body) b = (n, o)
 by_file s m n o (KeepRefusal guid status) b = (n, o)
@@ -247,8 +247,8 @@ file_in_tree : (s : Server) (m : Message) (pipes : Option Bool) → plain m.comm
 file_in_tree s m None p = refl
 file_in_tree s m (Some pipes) p = file_tree s m pipes m.command p
 
-with_a_tree : (s : Server) (m : Message) → plain m.command ≡ true → s.session_on m.connection ≡ Some m.session → Found s m (with_tree s m)
-with_a_tree s m p o = by_file s m (plain_asks m.command p) o (with_tree s m) (file_in_tree s m (tree_in (s.trees m.session) m.tree) p)
+with_a_tree : (s : Server) (m : Message) → plain m.command ≡ true → s.session_on m.connection ≡ Some m.session_id → Found s m (with_tree s m)
+with_a_tree s m p o = by_file s m (plain_asks m.command p) o (with_tree s m) (file_in_tree s m (tree_in (s.trees m.session_id) m.tree_id) p)
 
 not_asks : (m : Message) (c : Command) → asks c ≡ false → m.command ≡ c → (n : Bool) → n ≡ asks m.command → n ≡ false
 not_asks m c a e n i = i ∙ ap asks e ∙ a
@@ -265,13 +265,13 @@ refuse_plain : (s : Server) (m : Message) (c : Command) (status : ℕ) → plain
 refuse_plain s m c status p e = λ a f. untold (asks m.command) (ap asks e ∙ plain_asks c p) a _
 
 -- the command, where its session is there or it is a SESSION_SETUP
-of_command : (s : Server) (m : Message) → (is_setup m.command ≡ false → s.session_on m.connection ≡ Some m.session) → (c : Command) → m.command ≡ c → Found s m (command_check s m c)
+of_command : (s : Server) (m : Message) → (is_setup m.command ≡ false → s.session_on m.connection ≡ Some m.session_id) → (c : Command) → m.command ≡ c → Found s m (command_check s m c)
 of_command s m o (Unreadable status) e = refuse_plain s m (Unreadable status) status refl e
 of_command s m o (Setup request) e = setups s m request e
 of_command s m o Logoff e = log_off m e
 of_command s m o (TreeConnect share) e = trees s m share e
 of_command s m o (Aside status) e = refuse_plain s m (Aside status) status refl e
-of_command s m o TreeDisconnect e = drops s m (tree_in (s.trees m.session) m.tree) e
+of_command s m o TreeDisconnect e = drops s m (tree_in (s.trees m.session_id) m.tree_id) e
 of_command s m o (Create request) e = with_a_tree s m (ap plain e) (o (ap is_setup e))
 of_command s m o (Close file query) e = with_a_tree s m (ap plain e) (o (ap is_setup e))
 of_command s m o (Flush file) e = with_a_tree s m (ap plain e) (o (ap is_setup e))
@@ -294,18 +294,18 @@ setup_form _ status a e = absurd (cc)
 refuse_form : (s : Server) (m : Message) (status : ℕ) → form m.command ≡ Some status → Found s m (Refuse status)
 refuse_form s m status e = λ a f. subst (λ x. (x == success) ≡ false × (x == more_processing_required) ≡ false) (sym (setup_form m.command status a e)) (refl, refl)
 
-of_form : (s : Server) (m : Message) → (is_setup m.command ≡ false → s.session_on m.connection ≡ Some m.session) → (o : Option ℕ) → form m.command ≡ o → Found s m (formed s m o)
+of_form : (s : Server) (m : Message) → (is_setup m.command ≡ false → s.session_on m.connection ≡ Some m.session_id) → (o : Option ℕ) → form m.command ≡ o → Found s m (formed s m o)
 of_form s m o (Some status) e = refuse_form s m status e
 of_form s m o None e = of_command s m o m.command refl
 
-of_fault : (s : Server) (m : Message) → (is_setup m.command ≡ false → s.session_on m.connection ≡ Some m.session) → (o : Option ℕ) → m.fault ≡ o → Found s m (owed s m o)
+of_fault : (s : Server) (m : Message) → (is_setup m.command ≡ false → s.session_on m.connection ≡ Some m.session_id) → (o : Option ℕ) → m.fault ≡ o → Found s m (owed s m o)
 of_fault s m o (Some status) e = λ a f. absurd (cc)
 of_fault s m o None e = of_form s m o (form m.command) refl
 
 pub found : (s : Server) (m : Message) → Found s m (check s m)
 found s m =
     either (λ v. Found s m v) (is_setup m.command || has_session s m) (owed s m m.fault) (Refuse user_session_deleted)
-    (λ e. of_fault s m (λ n. at_of m.session (s.session_on m.connection) (other_on (is_setup m.command) (has_session s m) e n)) m.fault refl)
+    (λ e. of_fault s m (λ n. at_of m.session_id (s.session_on m.connection) (other_on (is_setup m.command) (has_session s m) e n)) m.fault refl)
     (λ _ a f. (refl, refl))
 
 -- ---- where the records don't fit

@@ -71,7 +71,7 @@ stays_left s o =
 
 pub stays_reached : (s : Server) (m : Message) (o : ℕ) → Stays s (reach s m o)
 stays_reached s m o =
-    either (λ t. Stays s t) (is_late s m o) s (record s { sequence = put s.sequence o m.sequence }) (λ _. stays_same s)
+    either (λ t. Stays s t) (is_late s m o) s (record s { sequence = put s.sequence o m.channel_sequence }) (λ _. stays_same s)
     (λ _. record { present = refl; user = refl; trees = refl; next_tree = refl; epoch = refl; open_ids_given = refl; session_ids_given = refl; making = refl; session_on = refl; opened = refl; standing = λ q e. e })
 
 pub stays_attached : (s : Server) (m : Message) (o : ℕ) → Stays s (attached s m o)
@@ -112,7 +112,7 @@ stays_noted s client None = stays_same s
 stays_noted s client (Some g) = record { present = refl; user = refl; trees = refl; next_tree = refl; epoch = refl; open_ids_given = refl; session_ids_given = refl; making = refl; session_on = refl; opened = refl; standing = λ q e. e }
 
 pub stays_expired : (s : Server) (o : ℕ) → Stays s (expire s o)
-stays_expired s o = stays_so s (leave_open s o) (expire s o) (stays_left s o) (stays_noted (leave_open s o) (s.opened o).client (s.opened o).guid)
+stays_expired s o = stays_so s (leave_open s o) (expire s o) (stays_left s o) (stays_noted (leave_open s o) (s.opened o).client_guid (s.opened o).create_guid)
 
 pub stays_dated : (s : Server) (now : ℕ) → Stays s (with_deadlines s now)
 stays_dated s now = record { present = refl; user = refl; trees = refl; next_tree = refl; epoch = refl; open_ids_given = refl; session_ids_given = refl; making = refl; session_on = refl; opened = refl; standing = λ q e. e }

@@ -5,7 +5,7 @@ use Rattle.exchange_defs.specs.CheckSetup.{is_new, tree_in}
 use Rattle.exchange_defs.specs.Opens.{id_of, max_ids}
 use Rattle.exchange_defs.specs.Effects.{end_if_named}
 use Rattle.exchange_defs.specs.Records.{fits, origin_at}
-use Rattle.exchange_defs.specs.Step.{step, table, expiring, with_deadlines, due, expire, expire_records, connection_of, max_expired_guids, Ruling, TakesIn, TurnsAway, TakesOut, ruling, ruling_without_room, carried_out, ends_with, take_out}
+use Rattle.exchange_defs.specs.Step.{step, event_answer, expiring, with_deadlines, due, expire, expire_records, connection_of, max_expired_guids, Ruling, TakesIn, TurnsAway, TakesOut, ruling, ruling_without_room, carried_out, ends_with, take_out}
 use Rattle.exchange_defs.specs.Fold.{fold, recovered_from, recovery_records}
 use Rattle.exchange_defs.specs.Client.{Client}
 use Rattle.server_law.proofs.Doors.{Before}
@@ -69,7 +69,7 @@ falls_rule s now _ c = absurd (cc)
 abbrev AllFall : Server → ℕ → ServerEvent → Type 0
 AllFall s now e = (t : Server) (r : Ruling) → Before s now t → Rules t e r → Falls s (carried_out t now r).server
 
-falls_table : (s : Server) (now : ℕ) (e : ServerEvent) → AllFall s now e → Falls s (table (with_deadlines s now) now e).server
+falls_table : (s : Server) (now : ℕ) (e : ServerEvent) → AllFall s now e → Falls s (event_answer (with_deadlines s now) now e).server
 falls_table s now e f =
     let d = with_deadlines s now in
     either (λ (A : Answer). Falls s A.server) (fits d (carried_out d now (ruling d e)).records) (carried_out d now (ruling d e)) (carried_out d now (ruling_without_room (ruling d e)))
@@ -79,8 +79,8 @@ falls_expiring : (s : Server) (now : ℕ) (e : ServerEvent) → AllFall s now e 
 falls_expiring s now e f None is = falls_table s now e f
 falls_expiring s now e f (Some o) is =
     let d = with_deadlines s now in let t = expire d o in let front = expire_records d (origin_at (connection_of e)) o in let A = carried_out t now (ruling t e) in let P : Answer → Type 0 = λ B. Falls s B.server in
-    either P (nat_le max_expired_guids d.expired_count) (table d now e) _ (λ _. falls_table s now e f)
-    (λ _. either P (fits d (front ++ A.records)) (record A { records = front ++ A.records }) (table d now e) (λ _. f t (ruling t e) (inr (o, is, refl)) (inl refl)) (λ _. falls_table s now e f))
+    either P (nat_le max_expired_guids d.expired_count) (event_answer d now e) _ (λ _. falls_table s now e f)
+    (λ _. either P (fits d (front ++ A.records)) (record A { records = front ++ A.records }) (event_answer d now e) (λ _. f t (ruling t e) (inr (o, is, refl)) (inl refl)) (λ _. falls_table s now e f))
 
 falls_step : (s : Server) (now : ℕ) (e : ServerEvent) → ((t : Server) → connects (ruling t e) ≡ true) → Falls s (step s now e).server
 falls_step s now e c =
@@ -103,7 +103,7 @@ moves_falls c s u f unranked users opens =
     record {
       present = λ x r p. f.present x p;
       users = λ x p. ap (λ g. g x) f.user ∙ users x (f.present x p);
-      opens = λ o h. subst (λ g. (g o).user ≡ logon_user c.who.logon × (g o).client ≡ c.who.guid) (sym f.opened) (opens o (f.standing o h));
+      opens = λ o h. subst (λ g. (g o).user ≡ logon_user c.who.logon × (g o).client_guid ≡ c.who.guid) (sym f.opened) (opens o (f.standing o h));
       making = λ k y l e. f.making k y e;
       unranked = λ k y e. unranked k y (f.making k y e);
       ids = same_given s.epoch u.epoch s.session_ids_given u.session_ids_given f.epoch f.session_ids_given;

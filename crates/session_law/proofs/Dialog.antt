@@ -44,13 +44,13 @@ unfolding is_new_setup
 first_command c stage e = ap (λ t. is_new_setup (stage_command c t)) e
 
 second_command : (c : Client) (k id : ℕ) (stage : Stage) → stage ≡ SaidSecond false
-    → is_new_setup (stage_command c stage) ≡ true × previous_in (stage_command c stage) ≡ c.accepted × (dialog_message c k id stage).session ≡ c.pending
+    → is_new_setup (stage_command c stage) ≡ true × previous_in (stage_command c stage) ≡ c.accepted × (dialog_message c k id stage).session_id ≡ c.pending
 unfolding is_new_setup previous_in
-second_command c k id stage e = (ap (λ t. is_new_setup (stage_command c t)) e, ap (λ t. previous_in (stage_command c t)) e, ap (λ t. (dialog_message c k id t).session) e)
+second_command c k id stage e = (ap (λ t. is_new_setup (stage_command c t)) e, ap (λ t. previous_in (stage_command c t)) e, ap (λ t. (dialog_message c k id t).session_id) e)
 
-tree_command : (c : Client) (k id : ℕ) (stage : Stage) → stage ≡ AskedTree → is_tree_connect (stage_command c stage) ≡ true × (dialog_message c k id stage).session ≡ c.pending
+tree_command : (c : Client) (k id : ℕ) (stage : Stage) → stage ≡ AskedTree → is_tree_connect (stage_command c stage) ≡ true × (dialog_message c k id stage).session_id ≡ c.pending
 unfolding is_tree_connect
-tree_command c k id stage e = (ap (λ t. is_tree_connect (stage_command c t)) e, ap (λ t. (dialog_message c k id t).session) e)
+tree_command c k id stage e = (ap (λ t. is_tree_connect (stage_command c t)) e, ap (λ t. (dialog_message c k id t).session_id) e)
 
 sends : (c : Client) (conns : ℕ → Conn) (s : Server) (k id : ℕ) (stage : Stage) → c.stage k ≡ stage → copies 0 (conns k) ≡ 0 → Sessions c conns s → Sessions c (put conns k (send_up (conns k) ForDialog (dialog_message c k id stage) 1)) s
 sends c conns s k id stage at none i =
@@ -99,9 +99,9 @@ bound_tree = λ e. absurd (cc)
 
 -- what is known of the reply
 pub record Tells (w : World) (k : ℕ) (r : Reply) : Type 0 where
-  pub first : w.client.stage k ≡ SaidFirst false → r.status ≡ more_processing_required → w.client.rank r.session ≡ 0 × 0 < r.session × r.session ≤ id_of w.server.epoch w.server.session_ids_given
+  pub first : w.client.stage k ≡ SaidFirst false → r.status ≡ more_processing_required → w.client.rank r.session_id ≡ 0 × 0 < r.session_id × r.session_id ≤ id_of w.server.epoch w.server.session_ids_given
   pub second : w.client.stage k ≡ SaidSecond false → r.status ≡ success → (0 < w.client.rank w.client.accepted → w.server.present w.client.accepted ≡ false) × ((j : ℕ) → is_new w.client.pending (w.server.making j) ≡ false)
-  pub tree : w.client.stage k ≡ AskedTree → r.status ≡ success → w.server.present w.client.accepted ≡ true → is_some (tree_in (w.server.trees w.client.accepted) r.tree) ≡ true
+  pub tree : w.client.stage k ≡ AskedTree → r.status ≡ success → w.server.present w.client.accepted ≡ true → is_some (tree_in (w.server.trees w.client.accepted) r.tree_id) ≡ true
 
 pub took_dialog : (w : World) (k : ℕ) (r : Reply) → copies 0 (w.conns k) ≡ 0 → Tells w k r → SessionsFit w → (t : Stage) → w.client.stage k ≡ t → SessionsFit (dialog_took w k r (dialog_step t r.status))
 took_dialog w k r none tells i Apart at = turned_down w k r r.status i
@@ -112,11 +112,11 @@ took_dialog w k r none tells i (SaidFirst true) at =
     either (λ d. SessionsFit (dialog_took w k r d)) (r.status == more_processing_required) (GoesOn (SaidSecond true)) (Refuses r.status)
     (λ _. went w k (SaidSecond true) none (λ m. absurd (cc)) bound_second bound_tree i) (λ _. turned_down w k r r.status i)
 took_dialog w k r none tells i (SaidFirst false) at =
-    let c = record w.client { stage = put w.client.stage k (SaidSecond false); pending = r.session } in
+    let c = record w.client { stage = put w.client.stage k (SaidSecond false); pending = r.session_id } in
     either (λ d. SessionsFit (dialog_took w k r d)) (r.status == more_processing_required) (GoesOn (SaidSecond false)) (Refuses r.status)
     (λ e. let u = tells.first at (eqb-true r.status more_processing_required e) in
     sends c w.conns w.server k (w.conns k).next_id (SaidSecond false) (put_stage w.client.stage k (SaidSecond false)) none
-    (told_keeps w.client w.conns w.server k r.session none (i.making k (ap makes_session at)) u.0 u.1 u.2 i))
+    (told_keeps w.client w.conns w.server k r.session_id none (i.making k (ap makes_session at)) u.0 u.1 u.2 i))
     (λ _. turned_down w k r r.status i)
 took_dialog w k r none tells i (SaidSecond true) at =
     either (λ d. SessionsFit (dialog_took w k r d)) (r.status == success) Binds (Refuses r.status)
@@ -129,6 +129,6 @@ took_dialog w k r none tells i (SaidSecond false) at =
     (λ _. turned_down w k r r.status i)
 took_dialog w k r none tells i AskedTree at =
     either (λ d. SessionsFit (dialog_took w k r d)) (r.status == success) Readies (Refuses r.status)
-    (λ e. ended_well SessionsFit w k w.client.pending r.tree (λ live. absurd (not_making w.client.making k (i.live_accepted live).2 (i.making k (ap makes_session at))))
+    (λ e. ended_well SessionsFit w k w.client.pending r.tree_id (λ live. absurd (not_making w.client.making k (i.live_accepted live).2 (i.making k (ap makes_session at))))
     (λ dead newer. readied_keeps w.client w.conns w.server k r none at (tells.tree at (eqb-true r.status success e)) i) (failed w k i))
     (λ _. turned_down w k r r.status i)

@@ -66,7 +66,7 @@ grows_dialog : (w : World) (k : ℕ) (r : Reply) (d : DialogStep) → Grows w.cl
 grows_dialog w k r (GoesOn s) = record { who = refl; ranked = λ x r. r }
 grows_dialog w k r Accepts = record { who = refl; ranked = ranked_on w.client.rank w.client.pending w.client.accepted_count }
 grows_dialog w k r Binds = grows_ended w k w.client.session w.client.tree
-grows_dialog w k r Readies = grows_ended w k w.client.pending r.tree
+grows_dialog w k r Readies = grows_ended w k w.client.pending r.tree_id
 grows_dialog w k r (Refuses status) = record { who = refl; ranked = λ x r. r }
 
 grows_take : (w : World) (k : ℕ) (ys : List Received) → Grows w.client (take_reply w k ys).client
@@ -115,14 +115,14 @@ grows w (Finish refusal) = either (λ (v : World). Grows w.client v.client) (not
 -- ---- signed messages
 
 abbrev Signed : Client → Sent → Type 0
-Signed d x = is_signed x.message.command ≡ true → 0 < d.rank x.message.session
+Signed d x = is_signed x.message.command ≡ true → 0 < d.rank x.message.session_id
 
 work_unsigned : (c : Command) → is_work c ≡ true → is_signed c ≡ true → (P : Type 0) → P
 unfolding is_work is_signed
 work_unsigned c a b P = absurd (grind arith)
 
 -- a dialog's message that is signed is of the client's session, which is live
-signed_of : (c : Client) (k id : ℕ) (s : Stage) → is_signed (stage_command c s) ≡ true → is_bound s ≡ true × (dialog_message c k id s).session ≡ c.session
+signed_of : (c : Client) (k id : ℕ) (s : Stage) → is_signed (stage_command c s) ≡ true → is_bound s ≡ true × (dialog_message c k id s).session_id ≡ c.session
 unfolding is_signed
 signed_of c k id Apart e = absurd (cc)
 signed_of c k id (SaidNegotiate b) e = absurd (cc)
@@ -168,7 +168,7 @@ more z w a e c s h =
     record {
       here = keeps w e c.ready s.making (λ l. (s.live_accepted l).2) h.here;
       who = g.who ∙ h.who;
-      signed = still_all_up (Signed d) w e (signed_news w d g.ranked c.stages (live_ranked w.client s.session_ranked (λ l. (s.numbered_sessions 0 0).2 l))) (λ k n x i q. g.ranked x.message.session (h.signed k n x i q));
+      signed = still_all_up (Signed d) w e (signed_news w d g.ranked c.stages (live_ranked w.client s.session_ranked (λ l. (s.numbered_sessions 0 0).2 l))) (λ k n x i q. g.ranked x.message.session_id (h.signed k n x i q));
     }
 
 pub known : (z : Settings) (es : List Event) → Known z (run es (start z))

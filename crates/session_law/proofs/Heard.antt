@@ -21,9 +21,9 @@ seen_enters s t m A q e =
     record {
       logs = e.logs;
       user = e.user;
-      made = ap (λ f. is_new m.session (f m.connection)) (sym q.making) ∙ e.made;
+      made = ap (λ f. is_new m.session_id (f m.connection)) (sym q.making) ∙ e.made;
       gone = λ p n. e.gone (ap (λ f. f (previous_in m.command)) q.present ∙ p) (ap (λ f. same_name (f (previous_in m.command)) (user_in m.command)) q.user ∙ n);
-      unmade = λ j h. let u = e.unmade j h in (ap (λ f. is_new m.session (f j)) (sym q.making) ∙ u.0, u.1);
+      unmade = λ j h. let u = e.unmade j h in (ap (λ f. is_new m.session_id (f j)) (sym q.making) ∙ u.0, u.1);
     }
 
 same_id : (e1 e2 n1 n2 : ℕ) → e1 ≡ e2 → n1 ≡ n2 → id_of e1 (n1 + 1) ≡ id_of e2 (n2 + 1)
@@ -55,7 +55,7 @@ seen_facts s t m A q f =
       opens = λ o e n. q.standing o (f.opens o e (elsewhere f.makes o (id_of t.epoch (t.open_ids_given + 1)) (id_of s.epoch (s.open_ids_given + 1)) no n));
       rows = λ o n. f.rows o (elsewhere f.makes o (id_of t.epoch (t.open_ids_given + 1)) (id_of s.epoch (s.open_ids_given + 1)) no n) ∙ ap (λ g. g o) q.opened;
       maker = λ e. let w = f.maker e in
-          (subst (λ i. (A.server.opened i).user ≡ s.user m.session) no (w.0 ∙ ap (λ g. g m.session) q.user), subst (λ i. (A.server.opened i).client ≡ m.client) no w.1, ap (λ g. g m.connection) (sym q.session_on) ∙ w.2);
+          (subst (λ i. (A.server.opened i).user ≡ s.user m.session_id) no (w.0 ∙ ap (λ g. g m.session_id) q.user), subst (λ i. (A.server.opened i).client_guid ≡ m.client_guid) no w.1, ap (λ g. g m.connection) (sym q.session_on) ∙ w.2);
     }
 
 pub before_stays : (s : Server) (now : ℕ) (t : Server) → Before s now t → Stays s t

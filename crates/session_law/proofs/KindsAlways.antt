@@ -246,7 +246,7 @@ takes_dialog : (share : List ℕ) (w : World) (k : ℕ) (r : Reply) (d : DialogS
 takes_dialog share w k r (GoesOn stage) h = sends_dialog share (with_client w (went_on w.client k stage r)) k stage (becomes share w (went_on w.client k stage r) refl h)
 takes_dialog share w k r Accepts h = sends_dialog share (with_client w (accepted w.client k)) k AskedTree (becomes share w (accepted w.client k) refl h)
 takes_dialog share w k r Binds h = ends_dialog share w k w.client.session w.client.tree h
-takes_dialog share w k r Readies h = ends_dialog share w k w.client.pending r.tree h
+takes_dialog share w k r Readies h = ends_dialog share w k w.client.pending r.tree_id h
 takes_dialog share w k r (Refuses status) h = cuts_one share _ k (becomes share w _ refl h)
 
 hears : (share : List ℕ) (w : World) (k g : ℕ) (asking : Bool) (r : Reply) (place : ℕ) → KindsHold share w → (h : Hearing) → KindsHold share (with_client (closed_by w k (act_heard h)) (hear w.client g asking r place h))

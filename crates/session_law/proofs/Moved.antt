@@ -40,7 +40,7 @@ moved_second_reply c conns s t moves i_second_reply i_pending_given =
 
 moved_tree_up : (c : Client) (conns : ℕ → Conn) (s : Server) (t : Server) → (Moves c s t) → TreeUp conns s → RankedUp c conns → TreeUp conns t
 moved_tree_up c conns s t moves i_tree_up i_ranked_up =
-    λ j n x h o l. let old = i_tree_up j n x h o in let r = i_ranked_up j n x h o in let q = moves.present x.message.session in let tr = moves.trees x.message.session x.message.tree in grind arith
+    λ j n x h o l. let old = i_tree_up j n x h o in let r = i_ranked_up j n x h o in let q = moves.present x.message.session_id in let tr = moves.trees x.message.session_id x.message.tree_id in grind arith
 
 moved_tree_live : (c : Client) (conns : ℕ → Conn) (s : Server) (t : Server) → (Moves c s t) → TreeLive c s → LiveAccepted c → TreeLive c t
 moved_tree_live c conns s t moves i_tree_live i_live_accepted =
@@ -48,7 +48,7 @@ moved_tree_live c conns s t moves i_tree_live i_live_accepted =
 
 moved_tree_reply : (c : Client) (conns : ℕ → Conn) (s : Server) (t : Server) → (Moves c s t) → TreeReply c conns s → PendingAccepted c → TreeReply c conns t
 moved_tree_reply c conns s t moves i_tree_reply i_pending_accepted =
-    λ j n y h o st u. let old = i_tree_reply j n y h o st u in let r = i_pending_accepted j st in let q = moves.present c.accepted in let tr = moves.trees c.accepted y.reply.tree in grind arith
+    λ j n y h o st u. let old = i_tree_reply j n y h o st u in let r = i_pending_accepted j st in let q = moves.present c.accepted in let tr = moves.trees c.accepted y.reply.tree_id in grind arith
 
 pub moved_keeps : (c : Client) (conns : ℕ → Conn) (s : Server) (t : Server) → (Moves c s t) → Sessions c conns s → Sessions c conns t
 moved_keeps c conns s t moves i =

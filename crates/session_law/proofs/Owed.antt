@@ -9,7 +9,7 @@ use Rattle.exchange_defs.specs.Status.{success}
 use Rattle.exchange_defs.specs.Effects.{apply, create_records, new_open, lock_records, change_records, end_records, leave_all_records, records_if_named, is_persistent, plain_of}
 use Rattle.exchange_defs.specs.Records.{origin_at, origin_of, fits}
 use Rattle.exchange_defs.specs.Verdict.{Verdict, Refuse, Give, KeepRefusal, Repeat, Attach, Make, TurnDown, Tell, Show, KeepSlot, PutRanges, Alter, CloseOpen, Challenge, ChallengeBinding, Begin, Join, EndSession, AddTree, DropTree, Change, PutBytes, PutEnd, PutBasic, PutDeletePending, PutPath, PutNothing}
-use Rattle.exchange_defs.specs.Step.{step, table, expiring, with_deadlines, due, expire, expire_records, connection_of, max_expired_guids, max_connections, Ruling, Says, TakesIn, TurnsAway, TakesOut, TakesAllOut, ruling, ruling_without_room, without_room, carried_out, ends_with}
+use Rattle.exchange_defs.specs.Step.{step, event_answer, expiring, with_deadlines, due, expire, expire_records, connection_of, max_expired_guids, max_connections, Ruling, Says, TakesIn, TurnsAway, TakesOut, TakesAllOut, ruling, ruling_without_room, without_room, carried_out, ends_with}
 use Rattle.exchange_defs.specs.Network.{answer_to}
 use Rattle.server_law.proofs.Doors.{Before}
 use Rattle.server_law.proofs.Logic.{either}
@@ -74,12 +74,12 @@ clean_change guid user m f now (PutDeletePending flag) = (tt, tt)
 clean_change guid user m f now (PutPath replaced path) = (tt, tt)
 clean_change guid user m f now PutNothing = tt
 
-own_new : (guid : ℕ) (user : List ℕ) (s : Server) (m : Message) (r : CreateRequest) (o : Option Durable) → m.client ≡ guid → s.user m.session ≡ user → OwnOpen guid user (new_open s m r o)
+own_new : (guid : ℕ) (user : List ℕ) (s : Server) (m : Message) (r : CreateRequest) (o : Option Durable) → m.client_guid ≡ guid → s.user m.session_id ≡ user → OwnOpen guid user (new_open s m r o)
 unfolding new_open
 own_new guid user s m r None a b = tt
 own_new guid user s m r (Some d) a b = either (λ n. OwnOpen guid user n) d.persistent (Some _) None (λ _. (a, b)) (λ _. tt)
 
-clean_create : (guid : ℕ) (user : List ℕ) (s : Server) (m : Message) (r : CreateRequest) (found : Option ℕ) (action now : ℕ) → m.client ≡ guid → s.user m.session ≡ user → Clean guid user (create_records s m r found action now)
+clean_create : (guid : ℕ) (user : List ℕ) (s : Server) (m : Message) (r : CreateRequest) (found : Option ℕ) (action now : ℕ) → m.client_guid ≡ guid → s.user m.session_id ≡ user → Clean guid user (create_records s m r found action now)
 unfolding create_records Clean
 clean_create guid user s m r found action now a b =
     either (λ rs. Clean guid user rs) ((action == 1) && not (is_persistent r.durable)) [] _ (λ _. tt) (λ _. (own_new guid user s m r r.durable a b, tt))
@@ -89,7 +89,7 @@ is_make (Make r place action) = true
 is_make _ = false
 
 -- whose the message is matters where it makes an open
-pub by_verdict : (guid : ℕ) (user : List ℕ) (s : Server) (m : Message) (now : ℕ) (v : Verdict) → (is_make v ≡ true → m.client ≡ guid × s.user m.session ≡ user) → Clean guid user (apply s m now v).records
+pub by_verdict : (guid : ℕ) (user : List ℕ) (s : Server) (m : Message) (now : ℕ) (v : Verdict) → (is_make v ≡ true → m.client_guid ≡ guid × s.user m.session_id ≡ user) → Clean guid user (apply s m now v).records
 unfolding Clean
 by_verdict guid user s m now (Refuse status) own = tt
 by_verdict guid user s m now (Give body) own = tt
@@ -120,7 +120,7 @@ Rules t e r = (r ≡ ruling t e) ⊎ (r ≡ ruling_without_room (ruling t e))
 abbrev pub AllClean : ℕ → List ℕ → Server → ℕ → ServerEvent → Type 0
 AllClean guid user s now e = (t : Server) (r : Ruling) → Before s now t → Rules t e r → Clean guid user (carried_out t now r).records
 
-clean_table : (guid : ℕ) (user : List ℕ) (s : Server) (now : ℕ) (e : ServerEvent) → AllClean guid user s now e → Clean guid user (table (with_deadlines s now) now e).records
+clean_table : (guid : ℕ) (user : List ℕ) (s : Server) (now : ℕ) (e : ServerEvent) → AllClean guid user s now e → Clean guid user (event_answer (with_deadlines s now) now e).records
 clean_table guid user s now e f =
     let d = with_deadlines s now in
     either (λ (A : Answer). Clean guid user A.records) (fits d (carried_out d now (ruling d e)).records) (carried_out d now (ruling d e)) (carried_out d now (ruling_without_room (ruling d e)))
@@ -130,8 +130,8 @@ clean_expiring : (guid : ℕ) (user : List ℕ) (s : Server) (now : ℕ) (e : Se
 clean_expiring guid user s now e f None is = clean_table guid user s now e f
 clean_expiring guid user s now e f (Some o) is =
     let d = with_deadlines s now in let t = expire d o in let front = expire_records d (origin_at (connection_of e)) o in let A = carried_out t now (ruling t e) in let P : Answer → Type 0 = λ B. Clean guid user B.records in
-    either P (nat_le max_expired_guids d.expired_count) (table d now e) _ (λ _. clean_table guid user s now e f)
-    (λ _. either P (fits d (front ++ A.records)) (record A { records = front ++ A.records }) (table d now e)
+    either P (nat_le max_expired_guids d.expired_count) (event_answer d now e) _ (λ _. clean_table guid user s now e f)
+    (λ _. either P (fits d (front ++ A.records)) (record A { records = front ++ A.records }) (event_answer d now e)
     (λ _. clean_more guid user front A.records (clean_expired guid user d (origin_at (connection_of e)) o) (f t (ruling t e) (inr (o, is, refl)) (inl refl)))
     (λ _. clean_table guid user s now e f))
 
@@ -139,13 +139,13 @@ pub clean_step : (guid : ℕ) (user : List ℕ) (s : Server) (now : ℕ) (e : Se
 clean_step guid user s now e f = clean_expiring guid user s now e f (due (with_deadlines s now) now) refl
 
 -- a message
-clean_heard : (guid : ℕ) (user : List ℕ) (s : Server) (now : ℕ) (m : Message) → m.client ≡ guid → (s.session_on m.connection ≡ Some m.session → s.user m.session ≡ user) → Clean guid user (step s now (Heard m)).records
+clean_heard : (guid : ℕ) (user : List ℕ) (s : Server) (now : ℕ) (m : Message) → m.client_guid ≡ guid → (s.session_on m.connection ≡ Some m.session_id → s.user m.session_id ≡ user) → Clean guid user (step s now (Heard m)).records
 clean_heard guid user s now m a b = clean_step guid user s now (Heard m) all
   where
-    at_t : (t : Server) → Before s now t → t.session_on m.connection ≡ Some m.session → t.user m.session ≡ user
-    at_t t q on = let st = before_stays s now t q in ap (λ f. f m.session) st.user ∙ b (ap (λ f. f m.connection) (sym st.session_on) ∙ on)
+    at_t : (t : Server) → Before s now t → t.session_on m.connection ≡ Some m.session_id → t.user m.session_id ≡ user
+    at_t t q on = let st = before_stays s now t q in ap (λ f. f m.session_id) st.user ∙ b (ap (λ f. f m.connection) (sym st.session_on) ∙ on)
 
-    own : (t : Server) (v : Verdict) → Before s now t → Found t m v → is_make v ≡ true → m.client ≡ guid × t.user m.session ≡ user
+    own : (t : Server) (v : Verdict) → Before s now t → Found t m v → is_make v ≡ true → m.client_guid ≡ guid × t.user m.session_id ≡ user
     own t (Make r place action) q f e = (a, at_t t q f.1)
     own t _ q f e = absurd (cc)
 
@@ -153,7 +153,7 @@ clean_heard guid user s now m a b = clean_step guid user s now (Heard m) all
     all t r q (inl e) = subst (λ x. Clean guid user (carried_out t now x).records) (sym e) (by_verdict guid user t m now (check t m) (own t (check t m) q (found t m)))
     all t r q (inr e) = subst (λ x. Clean guid user (carried_out t now x).records) (sym e) (by_verdict guid user t m now (without_room (check t m)) (own t (without_room (check t m)) q (found_full t m (check t m) (found t m))))
 
-pub clean_answer : (guid : ℕ) (user : List ℕ) (s : Server) (now : ℕ) (m : Message) → m.client ≡ guid → (s.session_on m.connection ≡ Some m.session → s.user m.session ≡ user) → (c : Command) → Clean guid user (answer_to s now m c).records
+pub clean_answer : (guid : ℕ) (user : List ℕ) (s : Server) (now : ℕ) (m : Message) → m.client_guid ≡ guid → (s.session_on m.connection ≡ Some m.session_id → s.user m.session_id ≡ user) → (c : Command) → Clean guid user (answer_to s now m c).records
 unfolding Clean
 clean_answer guid user s now m a b (Aside status) = tt
 clean_answer guid user s now m a b (Unreadable status) = clean_heard guid user s now m a b

@@ -17,7 +17,7 @@ bare_heard g s now m none = clean_step g [] s now (Heard m) all
     bare : (t : Server) (v : Verdict) → Before s now t → Finds t m v → Clean g [] (apply t m now v).records
     bare t v q h = by_verdict g [] t m now v (λ e. makes_none (is_make v) (none t v q h) e)
       where
-        makes_none : (b : Bool) → b ≡ false → b ≡ true → m.client ≡ g × t.user m.session ≡ []
+        makes_none : (b : Bool) → b ≡ false → b ≡ true → m.client_guid ≡ g × t.user m.session_id ≡ []
         makes_none b e f = absurd (cc)
 
     all : AllClean g [] s now (Heard m)
@@ -42,4 +42,4 @@ two_clients n a b P = absurd (cc)
 -- no open stands in such a fold: its client would be two at once
 pub bare_opens : (kind : Bool) (epoch : ℕ) (rs : List Record) → Bare kind epoch rs → (o : ℕ) → (fold rs).standing o ≡ true → kind ≡ false
 bare_opens false epoch rs b o h = refl
-bare_opens true epoch rs b o h = two_clients ((fold rs).opened o).client ((b refl 0).opens o h).1 ((b refl 1).opens o h).1 _
+bare_opens true epoch rs b o h = two_clients ((fold rs).opened o).client_guid ((b refl 0).opens o h).1 ((b refl 1).opens o h).1 _

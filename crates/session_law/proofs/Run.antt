@@ -188,7 +188,7 @@ stored_front w k x rest is bounds h =
     let i = h.sits in let f0 = front_up (w.conns k).up x rest is in let f = answer_facts w x in let guid = w.client.who.guid in let user = logon_user w.client.who.logon in
     subst (λ n. Folds guid user n (fold (w.records ++ (answer w x).records))) (sym f.epoch)
     (folds_more guid user w.server.epoch w.records (answer w x).records
-    (clean_answer guid user w.server w.moment x.message (i.from_client k 0 x f0).0 (λ on. i.session_users x.message.session (bounds.on_present x.message.connection x.message.session on)) x.message.command) h.stored)
+    (clean_answer guid user w.server w.moment x.message (i.from_client k 0 x f0).0 (λ on. i.session_users x.message.session_id (bounds.on_present x.message.connection x.message.session_id on)) x.message.command) h.stored)
 
 absorbs_front : (w : World) (k : ℕ) (x : Sent) (rest : List Sent) → (w.conns k).up ≡ x ∷ rest → Bounds w.server → SessionsHold w → SessionsHold (absorbed w k x rest (answer w x))
 absorbs_front w k x rest is bounds h =
@@ -285,7 +285,7 @@ takes_by w k y rest is once i ForDialog e =
     step_stored w k r s (GoesOn stage) i = record { sits = i; stored = s }
     step_stored w k r s Accepts i = record { sits = i; stored = s }
     step_stored w k r s Binds i = record { sits = i; stored = end_stored w k w.client.session w.client.tree s }
-    step_stored w k r s Readies i = record { sits = i; stored = end_stored w k w.client.pending r.tree s }
+    step_stored w k r s Readies i = record { sits = i; stored = end_stored w k w.client.pending r.tree_id s }
     step_stored w k r s (Refuses status) i = record { sits = i; stored = s }
 
     dialog_stored : (w : World) (k : ℕ) (r : Reply) → Stored w → SessionsFit (dialog_took w k r (dialog_step (w.client.stage k) r.status)) → SessionsHold (dialog_took w k r (dialog_step (w.client.stage k) r.status))

@@ -14,7 +14,7 @@ say_current_up : (c : Client) (conns : ℕ → Conn) (s : Server) (k : ℕ) (y0 
 say_current_up c conns s k y0 i_current_up =
     λ j n x. let old = i_current_up j n x in grind (arith, get-push)
 
-say_current_down : (c : Client) (conns : ℕ → Conn) (s : Server) (k : ℕ) (y0 : Received) → (is_ops y0.token ≡ true → c.live ≡ true × y0.reply.session ≡ c.session) → CurrentDown c conns → CurrentDown c (put conns k (record (conns k) { down = (conns k).down ++ y0 ∷ [] }))
+say_current_down : (c : Client) (conns : ℕ → Conn) (s : Server) (k : ℕ) (y0 : Received) → (is_ops y0.token ≡ true → c.live ≡ true × y0.reply.session_id ≡ c.session) → CurrentDown c conns → CurrentDown c (put conns k (record (conns k) { down = (conns k).down ++ y0 ∷ [] }))
 say_current_down c conns s k y0 ops i_current_down =
     λ j n y. let old = i_current_down j n y in let q = ops in grind (arith, get-push)
 
@@ -58,7 +58,7 @@ say_asked_fresh : (c : Client) (conns : ℕ → Conn) (s : Server) (k : ℕ) (y0
 say_asked_fresh c conns s k y0 i_asked_fresh =
     λ p j n x. let old = i_asked_fresh p j n x in grind (arith, get-push)
 
-say_first_reply : (c : Client) (conns : ℕ → Conn) (s : Server) (k : ℕ) (y0 : Received) → (is_ops y0.token ≡ false → c.stage k ≡ SaidFirst false → y0.reply.status ≡ more_processing_required → c.rank y0.reply.session ≡ 0 × 0 < y0.reply.session × y0.reply.session ≤ id_of s.epoch s.session_ids_given) → FirstReply c conns s → FirstReply c (put conns k (record (conns k) { down = (conns k).down ++ y0 ∷ [] })) s
+say_first_reply : (c : Client) (conns : ℕ → Conn) (s : Server) (k : ℕ) (y0 : Received) → (is_ops y0.token ≡ false → c.stage k ≡ SaidFirst false → y0.reply.status ≡ more_processing_required → c.rank y0.reply.session_id ≡ 0 × 0 < y0.reply.session_id × y0.reply.session_id ≤ id_of s.epoch s.session_ids_given) → FirstReply c conns s → FirstReply c (put conns k (record (conns k) { down = (conns k).down ++ y0 ∷ [] })) s
 say_first_reply c conns s k y0 first i_first_reply =
     λ j n y. let old = i_first_reply j n y in let q = first in grind (arith, get-push)
 
@@ -70,11 +70,11 @@ say_tree_up : (c : Client) (conns : ℕ → Conn) (s : Server) (k : ℕ) (y0 : R
 say_tree_up c conns s k y0 i_tree_up =
     λ j n x. let old = i_tree_up j n x in grind (arith, get-push)
 
-say_tree_reply : (c : Client) (conns : ℕ → Conn) (s : Server) (k : ℕ) (y0 : Received) → (is_ops y0.token ≡ false → c.stage k ≡ AskedTree → y0.reply.status ≡ success → s.present c.accepted ≡ true → is_some (tree_in (s.trees c.accepted) y0.reply.tree) ≡ true) → TreeReply c conns s → TreeReply c (put conns k (record (conns k) { down = (conns k).down ++ y0 ∷ [] })) s
+say_tree_reply : (c : Client) (conns : ℕ → Conn) (s : Server) (k : ℕ) (y0 : Received) → (is_ops y0.token ≡ false → c.stage k ≡ AskedTree → y0.reply.status ≡ success → s.present c.accepted ≡ true → is_some (tree_in (s.trees c.accepted) y0.reply.tree_id) ≡ true) → TreeReply c conns s → TreeReply c (put conns k (record (conns k) { down = (conns k).down ++ y0 ∷ [] })) s
 say_tree_reply c conns s k y0 tree i_tree_reply =
     λ j n y. let old = i_tree_reply j n y in let q = tree in grind (arith, get-push)
 
-pub say_keeps : (c : Client) (conns : ℕ → Conn) (s : Server) (k : ℕ) (y0 : Received) → (is_ops y0.token ≡ true → c.live ≡ true × y0.reply.session ≡ c.session) → (is_ops y0.token ≡ false → c.stage k ≡ SaidFirst false → y0.reply.status ≡ more_processing_required → c.rank y0.reply.session ≡ 0 × 0 < y0.reply.session × y0.reply.session ≤ id_of s.epoch s.session_ids_given) → (is_ops y0.token ≡ false → c.stage k ≡ SaidSecond false → y0.reply.status ≡ success → (0 < c.rank c.accepted → s.present c.accepted ≡ false) × ((j : ℕ) → is_new c.pending (s.making j) ≡ false)) → (is_ops y0.token ≡ false → c.stage k ≡ AskedTree → y0.reply.status ≡ success → s.present c.accepted ≡ true → is_some (tree_in (s.trees c.accepted) y0.reply.tree) ≡ true) → Sessions c conns s → Sessions c (put conns k (record (conns k) { down = (conns k).down ++ y0 ∷ [] })) s
+pub say_keeps : (c : Client) (conns : ℕ → Conn) (s : Server) (k : ℕ) (y0 : Received) → (is_ops y0.token ≡ true → c.live ≡ true × y0.reply.session_id ≡ c.session) → (is_ops y0.token ≡ false → c.stage k ≡ SaidFirst false → y0.reply.status ≡ more_processing_required → c.rank y0.reply.session_id ≡ 0 × 0 < y0.reply.session_id × y0.reply.session_id ≤ id_of s.epoch s.session_ids_given) → (is_ops y0.token ≡ false → c.stage k ≡ SaidSecond false → y0.reply.status ≡ success → (0 < c.rank c.accepted → s.present c.accepted ≡ false) × ((j : ℕ) → is_new c.pending (s.making j) ≡ false)) → (is_ops y0.token ≡ false → c.stage k ≡ AskedTree → y0.reply.status ≡ success → s.present c.accepted ≡ true → is_some (tree_in (s.trees c.accepted) y0.reply.tree_id) ≡ true) → Sessions c conns s → Sessions c (put conns k (record (conns k) { down = (conns k).down ++ y0 ∷ [] })) s
 say_keeps c conns s k y0 ops first second tree i =
     record {
       live_accepted = i.live_accepted;

@@ -70,31 +70,31 @@ dialog_keeps c w = λ e. absurd (grind arith)
 
 -- ---- the server's step
 
-opens_of : (c : Client) (s : Server) (m : Message) (A : Answer) → Facts s m A → SessionUsers c s → OpenUsers c s → m.client ≡ c.who.guid → OnPresent s → OpenUsers c A.server
+opens_of : (c : Client) (s : Server) (m : Message) (A : Answer) → Facts s m A → SessionUsers c s → OpenUsers c s → m.client_guid ≡ c.who.guid → OnPresent s → OpenUsers c A.server
 opens_of c s m A f users opens client on o h =
-    elim f.makes as (λ b. f.makes ≡ b → (A.server.opened o).user ≡ logon_user c.who.logon × (A.server.opened o).client ≡ c.who.guid) [
+    elim f.makes as (λ b. f.makes ≡ b → (A.server.opened o).user ≡ logon_user c.who.logon × (A.server.opened o).client_guid ≡ c.who.guid) [
       | false ↦ λ b. of_old (λ e. none_true f.makes b e _)
-      | true ↦ λ b. elim (o == next_open s) as (λ q. o == next_open s ≡ q → (A.server.opened o).user ≡ logon_user c.who.logon × (A.server.opened o).client ≡ c.who.guid) [
+      | true ↦ λ b. elim (o == next_open s) as (λ q. o == next_open s ≡ q → (A.server.opened o).user ≡ logon_user c.who.logon × (A.server.opened o).client_guid ≡ c.who.guid) [
         | true ↦ λ q. let is = eqb-true o (next_open s) q in let w = f.maker b in
-            subst (λ i. (A.server.opened i).user ≡ logon_user c.who.logon × (A.server.opened i).client ≡ c.who.guid) (sym is) (w.0 ∙ users m.session (on m.connection m.session w.2), w.1 ∙ client)
+            subst (λ i. (A.server.opened i).user ≡ logon_user c.who.logon × (A.server.opened i).client_guid ≡ c.who.guid) (sym is) (w.0 ∙ users m.session_id (on m.connection m.session_id w.2), w.1 ∙ client)
         | false ↦ λ q. of_old (λ _. eqb-false o (next_open s) q)
       ] refl
     ] refl
   where
-    of_old : (f.makes ≡ true → o ≢ next_open s) → (A.server.opened o).user ≡ logon_user c.who.logon × (A.server.opened o).client ≡ c.who.guid
-    of_old n = subst (λ r. r.user ≡ logon_user c.who.logon × r.client ≡ c.who.guid) (sym (f.rows o n)) (opens o (f.opens o h n))
+    of_old : (f.makes ≡ true → o ≢ next_open s) → (A.server.opened o).user ≡ logon_user c.who.logon × (A.server.opened o).client_guid ≡ c.who.guid
+    of_old n = subst (λ r. r.user ≡ logon_user c.who.logon × r.client_guid ≡ c.who.guid) (sym (f.rows o n)) (opens o (f.opens o h n))
 
 users_of : (c : Client) (s : Server) (m : Message) (A : Answer) → Facts s m A → SessionUsers c s → (logs_on m.command ≡ true → user_in m.command ≡ logon_user c.who.logon) → SessionUsers c A.server
 users_of c s m A f users logon x h =
     elim f.begins as (λ b. f.begins ≡ b → A.server.user x ≡ logon_user c.who.logon) [
       | false ↦ λ b. of_old (λ e. none_true f.begins b e _)
-      | true ↦ λ b. elim (x == m.session) as (λ q. x == m.session ≡ q → A.server.user x ≡ logon_user c.who.logon) [
-        | true ↦ λ q. let is = eqb-true x m.session q in let w = f.enters b in ap (λ i. A.server.user i) is ∙ w.user ∙ logon w.logs
-        | false ↦ λ q. of_old (λ _. eqb-false x m.session q)
+      | true ↦ λ b. elim (x == m.session_id) as (λ q. x == m.session_id ≡ q → A.server.user x ≡ logon_user c.who.logon) [
+        | true ↦ λ q. let is = eqb-true x m.session_id q in let w = f.enters b in ap (λ i. A.server.user i) is ∙ w.user ∙ logon w.logs
+        | false ↦ λ q. of_old (λ _. eqb-false x m.session_id q)
       ] refl
     ] refl
   where
-    of_old : (f.begins ≡ true → x ≢ m.session) → A.server.user x ≡ logon_user c.who.logon
+    of_old : (f.begins ≡ true → x ≢ m.session_id) → A.server.user x ≡ logon_user c.who.logon
     of_old n = f.users x h n ∙ users x (f.present x h n)
 
 unranked_of : (c : Client) (s : Server) (m : Message) (A : Answer) → Facts s m A → MakingUnranked c s → RankedGiven c s → MakingUnranked c A.server
@@ -113,10 +113,10 @@ ids_of s m A f =
     ] refl
 
 back_of : (c : Client) (s : Server) (m : Message) (A : Answer) → Facts s m A → MakingUnranked c s → (x : ℕ) → 0 < c.rank x → A.server.present x ≡ true → s.present x ≡ true
-back_of c s m A f unranked x r p = f.present x p (λ b. ranked_other c.rank x m.session r (unranked m.connection m.session (f.enters b).made))
+back_of c s m A f unranked x r p = f.present x p (λ b. ranked_other c.rank x m.session_id r (unranked m.connection m.session_id (f.enters b).made))
 
 pub moves_of : (c : Client) (s : Server) (m : Message) (A : Answer) → Facts s m A → MakingUnranked c s → RankedGiven c s → SessionUsers c s → OpenUsers c s → OnPresent s
-    → m.client ≡ c.who.guid → m.command ≢ TreeDisconnect → (logs_on m.command ≡ true → user_in m.command ≡ logon_user c.who.logon) → Moves c s A.server
+    → m.client_guid ≡ c.who.guid → m.command ≢ TreeDisconnect → (logs_on m.command ≡ true → user_in m.command ≡ logon_user c.who.logon) → Moves c s A.server
 moves_of c s m A f unranked given users opens on client keeps logon =
     record {
       present = back_of c s m A f unranked;
@@ -131,7 +131,7 @@ moves_of c s m A f unranked given users opens on client keeps logon =
 -- ---- the reply
 
 pub reply_current : (c : Client) (conns : ℕ → Conn) (s : Server) (k : ℕ) (x : Sent) (A : Answer) → Facts s x.message A → slice_get (conns k).up 0 ≡ Some x → (conns k).client_open ≡ true → CurrentUp c conns → WorkUp conns
-    → is_ops x.token ≡ true → c.live ≡ true × A.reply.session ≡ c.session
+    → is_ops x.token ≡ true → c.live ≡ true × A.reply.session_id ≡ c.session
 reply_current c conns s k x A f h stands current work ops =
     let now = current k 0 x h ops stands in
     (now.0, (f.uncounted (refuted f.challenges (λ e. work_not_new x.message.command (work k 0 x h ops) (f.counted e).2 _))).1 ∙ now.1)
@@ -144,7 +144,7 @@ within e d n b a c = omega (arith, a, c)
 
 pub reply_first : (c : Client) (conns : ℕ → Conn) (s : Server) (k : ℕ) (x : Sent) (A : Answer) → Facts s x.message A → slice_get (conns k).up 0 ≡ Some x → (conns k).client_open ≡ true → FirstUp c conns → FromClient c conns → RankedGiven c s
     → is_ops x.token ≡ false → c.stage k ≡ SaidFirst false → A.reply.status ≡ more_processing_required
-    → c.rank A.reply.session ≡ 0 × 0 < A.reply.session × A.reply.session ≤ id_of A.server.epoch A.server.session_ids_given
+    → c.rank A.reply.session_id ≡ 0 × 0 < A.reply.session_id × A.reply.session_id ≤ id_of A.server.epoch A.server.session_ids_given
 reply_first c conns s k x A f h stands first who given dialog stage status =
     let n = f.counted (f.interim status (first k 0 x h stands dialog stage) (who k 0 x h).2) in (
       ap c.rank n.1 ∙ zero_rank (c.rank (next_session s)) (id_of s.epoch s.session_ids_given) (next_session s) (given (next_session s)) (next_above s.epoch s.session_ids_given),
@@ -164,11 +164,11 @@ reply_second c conns s k x A f h stands second who logon unranked users once dia
           subst (λ i. A.server.present i ≡ false) u.1 (w.gone (subst (λ i. s.present i ≡ true) (sym u.1) old) (subst (λ i. same_name (s.user i) (user_in m.command) ≡ true) (sym u.1) same))),
       λ j. refuted (is_new c.pending (A.server.making j)) (λ n.
           let q = w.unmade j (subst (λ i. is_new i (A.server.making j) ≡ true) (sym u.2) n) in
-          absurd (q.1 (once j m.connection m.session (making_of m.session (s.making j) q.0) (making_of m.session (s.making m.connection) w.made)))),
+          absurd (q.1 (once j m.connection m.session_id (making_of m.session_id (s.making j) q.0) (making_of m.session_id (s.making m.connection) w.made)))),
     )
 
 pub reply_tree : (c : Client) (conns : ℕ → Conn) (s : Server) (k : ℕ) (x : Sent) (A : Answer) → Facts s x.message A → slice_get (conns k).up 0 ≡ Some x → (conns k).client_open ≡ true → TreeConnectUp c conns → FromClient c conns → PendingAccepted c
-    → is_ops x.token ≡ false → c.stage k ≡ AskedTree → A.reply.status ≡ success → is_some (tree_in (A.server.trees c.accepted) A.reply.tree) ≡ true
+    → is_ops x.token ≡ false → c.stage k ≡ AskedTree → A.reply.status ≡ success → is_some (tree_in (A.server.trees c.accepted) A.reply.tree_id) ≡ true
 reply_tree c conns s k x A f h stands tree who pending dialog stage status =
     let u = tree k 0 x h stands dialog stage in
-    subst (λ i. is_some (tree_in (A.server.trees i) A.reply.tree) ≡ true) (u.1 ∙ (pending k stage).0) (f.connected status u.0 (who k 0 x h).2)
+    subst (λ i. is_some (tree_in (A.server.trees i) A.reply.tree_id) ≡ true) (u.1 ∙ (pending k stage).0) (f.connected status u.0 (who k 0 x h).2)

@@ -112,7 +112,7 @@ has_it x o b e = grind arith
 
 asks_tree : (s : Server) (m : Message) (share : List ℕ) → SessionFacts s m → m.command ≡ TreeConnect share → check s m ≡ tree_check s m share
 asks_tree s m share f command =
-    ap (λ b. if b then owed s m m.fault else Refuse user_session_deleted) (has_it m.session (s.session_on m.connection) (is_setup m.command) f.session_on)
+    ap (λ b. if b then owed s m m.fault else Refuse user_session_deleted) (has_it m.session_id (s.session_on m.connection) (is_setup m.command) f.session_on)
     ∙ ap (λ o. owed s m o) f.fault
     ∙ ap (λ o. formed s m o) f.formed
     ∙ ap (λ c. command_check s m c) command
@@ -120,7 +120,7 @@ asks_tree s m share f command =
 added_here : (s : Server) (m : Message) (v : Verdict) (b : Bool) → Facts s m v → check s m ≡ v → added v ≡ Some b → (share : List ℕ) × m.command ≡ TreeConnect share × b ≡ same_name share pipes_name
 added_here s m (AddTree pipes) b f e is =
     let t = sym (asks_tree s m f.share f.session f.command) ∙ e in
-    (f.share, f.command, same_option pipes b is ∙ added_by (no_tree_left s m.session) (same_name f.share pipes_name) (same_name f.share s.share) pipes t)
+    (f.share, f.command, same_option pipes b is ∙ added_by (no_tree_left s m.session_id) (same_name f.share pipes_name) (same_name f.share s.share) pipes t)
   where
     same_option : (p q : Bool) → Some p ≡ Some q → q ≡ p
     same_option p q e = grind arith
@@ -152,22 +152,22 @@ sorted_made kind s m now r found action plain i = ((sorted_stays kind s (file_ma
 
 sorted_begun : (kind : Bool) (s : Server) (m : Message) (now session : ℕ) (user : List ℕ) (previous : Option ℕ) (r : SetupRequest) (is_quiet : Bool) → Sorted kind s → Sorted kind (apply s m now (Begin session user previous r is_quiet)).server
 sorted_begun kind s m now session user previous r is_quiet i =
-    let u = end_if_named s now previous is_quiet in let j = sorted_named kind s now previous is_quiet i in (put_kind kind u.trees m.session [] (no_trees kind) j.0, j.1)
+    let u = end_if_named s now previous is_quiet in let j = sorted_named kind s now previous is_quiet i in (put_kind kind u.trees m.session_id [] (no_trees kind) j.0, j.1)
 
 sorted_added : (kind : Bool) (s : Server) (m : Message) (now : ℕ) (pipes : Bool) → pipes ≡ kind → Sorted kind s → Sorted kind (apply s m now (AddTree pipes)).server
 sorted_added kind s m now pipes is i =
-    let t : Tree = record { id = s.next_tree m.session; pipes = pipes } in
-    (put_kind kind s.trees m.session (s.trees m.session ++ t ∷ []) (λ id b. added_tree kind (s.trees m.session) t id b is (i.0 m.session id b)) i.0, i.1)
+    let t : Tree = record { id = s.next_tree m.session_id; pipes = pipes } in
+    (put_kind kind s.trees m.session_id (s.trees m.session_id ++ t ∷ []) (λ id b. added_tree kind (s.trees m.session_id) t id b is (i.0 m.session_id id b)) i.0, i.1)
 
 sorted_dropped : (kind : Bool) (s : Server) (m : Message) (now : ℕ) → Sorted kind s → Sorted kind (apply s m now DropTree).server
 sorted_dropped kind s m now i =
-    (put_kind kind s.trees m.session (without_tree m.tree (s.trees m.session)) (λ id b h. i.0 m.session id b (dropped_tree m.tree (s.trees m.session) id b h)) i.0, i.1)
+    (put_kind kind s.trees m.session_id (without_tree m.tree_id (s.trees m.session_id)) (λ id b h. i.0 m.session_id id b (dropped_tree m.tree_id (s.trees m.session_id) id b h)) i.0, i.1)
 
 -- ---- by verdict
 
 -- what is made was asked for in a tree that isn't that of the pipes
 made_plain : (kind : Bool) (s : Server) (m : Message) (v : Verdict) → Facts s m v → Sorted kind s → is_make v ≡ true → kind ≡ false
-made_plain kind s m (Make r found action) f i e = sym (i.0 m.session m.tree false f.new.create.tree)
+made_plain kind s m (Make r found action) f i e = sym (i.0 m.session_id m.tree_id false f.new.create.tree)
 made_plain kind s m _ f i e = absurd (cc)
 
 sorted_by : (kind : Bool) (s : Server) (m : Message) (now : ℕ) (v : Verdict) → (is_make v ≡ true → kind ≡ false) → ((b : Bool) → added v ≡ Some b → b ≡ kind) → Sorted kind s → Sorted kind (apply s m now v).server
@@ -188,7 +188,7 @@ sorted_by kind s m now (PutRanges o index number ranges elements) f g i =
 sorted_by kind s m now (Alter o change body) f g i =
     let a = reach s m o in sorted_stays kind a (apply s m now (Alter o change body)).server (stays_changed a (file_of s o) now change) (sorted_stays kind s a (stays_reached s m o) i)
 sorted_by kind s m now (CloseOpen o body) f g i =
-    let a = leave_open s o in sorted_stays kind a (apply s m now (CloseOpen o body)).server (stays_closed a m.session (s.opened o).guid) (sorted_stays kind s a (stays_left s o) i)
+    let a = leave_open s o in sorted_stays kind a (apply s m now (CloseOpen o body)).server (stays_closed a m.session_id (s.opened o).create_guid) (sorted_stays kind s a (stays_left s o) i)
 sorted_by kind s m now Challenge f g i = i
 sorted_by kind s m now (ChallengeBinding session) f g i = i
 sorted_by kind s m now (Begin session user previous r is_quiet) f g i = sorted_begun kind s m now session user previous r is_quiet i

@@ -121,7 +121,7 @@ dialogs : (P : Sent → Type 0) (w : World) (k : ℕ) (r : Reply) → News P w �
 dialogs P w k r new i (GoesOn s) e = sent_up P w.conns k 1 ForDialog _ (new.next k (w.conns k).next_id r s e) i
 dialogs P w k r new i Accepts e = sent_up P w.conns k 1 ForDialog _ (new.tree k (w.conns k).next_id) i
 dialogs P w k r new i Binds e = ended_up P w k w.client.session w.client.tree i
-dialogs P w k r new i Readies e = ended_up P w k w.client.pending r.tree i
+dialogs P w k r new i Readies e = ended_up P w k w.client.pending r.tree_id i
 dialogs P w k r new i (Refuses status) e = lost_up P w.conns k (client_off (w.conns k)) (inl refl) i
 
 news_behind : (P : Sent → Type 0) (w : World) (k : ℕ) (rest : List Received) → News P w → News P (behind_reply w k rest)

@@ -20,7 +20,7 @@ use Rattle.session_law.proofs.Columns.{Stays, stays_same, stays_so, stays_pendin
 
 abbrev pub OwnOpen : ℕ → List ℕ → Option NewOpen → Type 0
 OwnOpen guid user None = Unit {0}
-OwnOpen guid user (Some n) = n.client ≡ guid × n.user ≡ user
+OwnOpen guid user (Some n) = n.client_guid ≡ guid × n.user ≡ user
 
 abbrev pub OwnRecord : ℕ → List ℕ → Record → Type 0
 OwnRecord guid user (EpochRecord number) = ⊥
@@ -42,7 +42,7 @@ pub record Folds (guid : ℕ) (user : List ℕ) (number : ℕ) (d : Server) : Ty
   pub epoch : d.epoch ≡ number
   pub present : (x : ℕ) → d.present x ≡ false
   pub making : (k : ℕ) → d.making k ≡ None
-  pub opens : (o : ℕ) → d.standing o ≡ true → (d.opened o).user ≡ user × (d.opened o).client ≡ guid
+  pub opens : (o : ℕ) → d.standing o ≡ true → (d.opened o).user ≡ user × (d.opened o).client_guid ≡ guid
 
 fold_stays : (guid : ℕ) (user : List ℕ) (epoch : ℕ) (d t : Server) → Stays d t → Folds guid user epoch d → Folds guid user epoch t
 fold_stays guid user epoch d t q f =
@@ -50,7 +50,7 @@ fold_stays guid user epoch d t q f =
       epoch = q.epoch ∙ f.epoch;
       present = λ x. ap (λ g. g x) q.present ∙ f.present x;
       making = λ k. ap (λ g. g k) q.making ∙ f.making k;
-      opens = λ o h. subst (λ g. (g o).user ≡ user × (g o).client ≡ guid) (sym q.opened) (f.opens o (q.standing o h));
+      opens = λ o h. subst (λ g. (g o).user ≡ user × (g o).client_guid ≡ guid) (sym q.opened) (f.opens o (q.standing o h));
     }
 
 stays_version : (d : Server) (number : ℕ) → Stays d (set_version d number)
@@ -83,8 +83,8 @@ stays_locked d o index number status elements =
     (λ _. stays_granted d o index number (change_ranges (d.ranges (file_of d o)) o elements)) (λ _. stays_kept d o index number status))
 
 -- an open that a record restores
-restored_open : (standing : ℕ → Bool) (opened : ℕ → Open) (i : ℕ) (row : Open) (guid : ℕ) (user : List ℕ) → ((o : ℕ) → standing o ≡ true → (opened o).user ≡ user × (opened o).client ≡ guid) → row.user ≡ user → row.client ≡ guid
-    → (o : ℕ) → put standing i true o ≡ true → (put opened i row o).user ≡ user × (put opened i row o).client ≡ guid
+restored_open : (standing : ℕ → Bool) (opened : ℕ → Open) (i : ℕ) (row : Open) (guid : ℕ) (user : List ℕ) → ((o : ℕ) → standing o ≡ true → (opened o).user ≡ user × (opened o).client_guid ≡ guid) → row.user ≡ user → row.client_guid ≡ guid
+    → (o : ℕ) → put standing i true o ≡ true → (put opened i row o).user ≡ user × (put opened i row o).client_guid ≡ guid
 restored_open standing opened i row guid user f a b o h = let old = f o in (grind arith, grind arith)
 
 restored : (guid : ℕ) (user : List ℕ) (epoch : ℕ) (d : Server) (f action : ℕ) (opened : Option NewOpen) → OwnOpen guid user opened → Folds guid user epoch d → Folds guid user epoch (restore d f action opened)
@@ -125,8 +125,8 @@ one_record guid user epoch d (LockRecord origin o index number status elements) 
     simply guid user epoch d (lock_recorded d o index number status elements) (d.standing o && nat_le index 64) (stays_locked d o index number status elements) f
 one_record guid user epoch d (CloseRecord origin o) own f = simply guid user epoch d (shut_recorded d o) (d.standing o) (stays_shut d o) f
 one_record guid user epoch d (ExpireRecord origin o) own f =
-    simply guid user epoch d (add_expired_guid (shut_recorded d o) (d.opened o).client (d.opened o).guid) (d.standing o && nat_lt d.expired_count max_expired_guids)
-    (stays_so d (shut_recorded d o) _ (stays_shut d o) (stays_noted (shut_recorded d o) (d.opened o).client (d.opened o).guid)) f
+    simply guid user epoch d (add_expired_guid (shut_recorded d o) (d.opened o).client_guid (d.opened o).create_guid) (d.standing o && nat_lt d.expired_count max_expired_guids)
+    (stays_so d (shut_recorded d o) _ (stays_shut d o) (stays_noted (shut_recorded d o) (d.opened o).client_guid (d.opened o).create_guid)) f
 
 all_records : (guid : ℕ) (user : List ℕ) (epoch : ℕ) (d : Server) (rs : List Record) → Clean guid user rs → Folds guid user epoch d → Folds guid user epoch (fold_from d rs)
 unfolding fold_from Clean

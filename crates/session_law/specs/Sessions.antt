@@ -118,28 +118,28 @@ NumberedSessions c = (create slot : ℕ) → c.attached create ≤ c.session_num
 
 -- a message or a reply of an operation on an open connection is of the live session
 abbrev pub CurrentUp : Client → (ℕ → Conn) → Type 0
-CurrentUp c conns = (k n : ℕ) (x : Sent) → slice_get (conns k).up n ≡ Some x → is_ops x.token ≡ true → (conns k).client_open ≡ true → c.live ≡ true × x.message.session ≡ c.session
+CurrentUp c conns = (k n : ℕ) (x : Sent) → slice_get (conns k).up n ≡ Some x → is_ops x.token ≡ true → (conns k).client_open ≡ true → c.live ≡ true × x.message.session_id ≡ c.session
 
 abbrev pub CurrentDown : Client → (ℕ → Conn) → Type 0
-CurrentDown c conns = (k n : ℕ) (y : Received) → slice_get (conns k).down n ≡ Some y → is_ops y.token ≡ true → (conns k).client_open ≡ true → c.live ≡ true × y.reply.session ≡ c.session
+CurrentDown c conns = (k n : ℕ) (y : Received) → slice_get (conns k).down n ≡ Some y → is_ops y.token ≡ true → (conns k).client_open ≡ true → c.live ≡ true × y.reply.session_id ≡ c.session
 
 -- each message of an operation is of a session that was accepted, and each is this client's
 abbrev pub RankedUp : Client → (ℕ → Conn) → Type 0
-RankedUp c conns = (k n : ℕ) (x : Sent) → slice_get (conns k).up n ≡ Some x → is_ops x.token ≡ true → 0 < c.rank x.message.session
+RankedUp c conns = (k n : ℕ) (x : Sent) → slice_get (conns k).up n ≡ Some x → is_ops x.token ≡ true → 0 < c.rank x.message.session_id
 
 abbrev pub FromClient : Client → (ℕ → Conn) → Type 0
-FromClient c conns = (k n : ℕ) (x : Sent) → slice_get (conns k).up n ≡ Some x → x.message.client ≡ c.who.guid × x.message.connection ≡ k × x.message.fault ≡ None
+FromClient c conns = (k n : ℕ) (x : Sent) → slice_get (conns k).up n ≡ Some x → x.message.client_guid ≡ c.who.guid × x.message.connection ≡ k × x.message.fault ≡ None
 
 -- sequences are below 32,768, and those of the live session at most the client's
 abbrev pub SequencesUp : Client → (ℕ → Conn) → Type 0
-SequencesUp c conns = (k n : ℕ) (x : Sent) → slice_get (conns k).up n ≡ Some x → x.message.sequence ≤ 32767 × (c.live ≡ true → x.message.session ≡ c.session → x.message.sequence ≤ c.sequence)
+SequencesUp c conns = (k n : ℕ) (x : Sent) → slice_get (conns k).up n ≡ Some x → x.message.channel_sequence ≤ 32767 × (c.live ≡ true → x.message.session_id ≡ c.session → x.message.channel_sequence ≤ c.sequence)
 
 -- an operation's command leaves sessions and trees alone
 abbrev pub WorkUp : (ℕ → Conn) → Type 0
 WorkUp conns = (k n : ℕ) (x : Sent) → slice_get (conns k).up n ≡ Some x → is_ops x.token ≡ true → is_work x.message.command ≡ true
 
 abbrev pub DialogUp : (ℕ → Conn) → Type 0
-DialogUp conns = (k n : ℕ) (x : Sent) → slice_get (conns k).up n ≡ Some x → is_ops x.token ≡ false → x.message.sequence ≡ 0 × is_dialog x.message.command ≡ true
+DialogUp conns = (k n : ℕ) (x : Sent) → slice_get (conns k).up n ≡ Some x → is_ops x.token ≡ false → x.message.channel_sequence ≡ 0 × is_dialog x.message.command ≡ true
 
 -- whoever logs on is the client's user
 abbrev pub LogonUp : Client → (ℕ → Conn) → Type 0
@@ -152,15 +152,15 @@ FirstUp c conns = (k n : ℕ) (x : Sent) → slice_get (conns k).up n ≡ Some x
 -- its second one names the last accepted session as its previous one
 abbrev pub SecondUp : Client → (ℕ → Conn) → Type 0
 SecondUp c conns = (k n : ℕ) (x : Sent) → slice_get (conns k).up n ≡ Some x → (conns k).client_open ≡ true → is_ops x.token ≡ false → c.stage k ≡ SaidSecond false
-    → is_new_setup x.message.command ≡ true × previous_in x.message.command ≡ c.accepted × x.message.session ≡ c.pending
+    → is_new_setup x.message.command ≡ true × previous_in x.message.command ≡ c.accepted × x.message.session_id ≡ c.pending
 
 abbrev pub TreeConnectUp : Client → (ℕ → Conn) → Type 0
 TreeConnectUp c conns = (k n : ℕ) (x : Sent) → slice_get (conns k).up n ≡ Some x → (conns k).client_open ≡ true → is_ops x.token ≡ false → c.stage k ≡ AskedTree
-    → is_tree_connect x.message.command ≡ true × x.message.session ≡ c.pending
+    → is_tree_connect x.message.command ≡ true × x.message.session_id ≡ c.pending
 
 -- an accepted session that isn't ready yet has no operation's message
 abbrev pub AskedFresh : Client → (ℕ → Conn) → Type 0
-AskedFresh c conns = (j k n : ℕ) (x : Sent) → c.stage j ≡ AskedTree → slice_get (conns k).up n ≡ Some x → is_ops x.token ≡ true → x.message.session ≢ c.pending
+AskedFresh c conns = (j k n : ℕ) (x : Sent) → c.stage j ≡ AskedTree → slice_get (conns k).up n ≡ Some x → is_ops x.token ≡ true → x.message.session_id ≢ c.pending
 
 -- ---- the server's sessions
 
@@ -180,7 +180,7 @@ abbrev pub SessionUsers : Client → Server → Type 0
 SessionUsers c s = (x : ℕ) → s.present x ≡ true → s.user x ≡ logon_user c.who.logon
 
 abbrev pub OpenUsers : Client → Server → Type 0
-OpenUsers c s = (o : ℕ) → s.standing o ≡ true → (s.opened o).user ≡ logon_user c.who.logon × (s.opened o).client ≡ c.who.guid
+OpenUsers c s = (o : ℕ) → s.standing o ≡ true → (s.opened o).user ≡ logon_user c.who.logon × (s.opened o).client_guid ≡ c.who.guid
 
 abbrev pub PendingGiven : Client → Server → Type 0
 PendingGiven c s = (k : ℕ) → c.stage k ≡ SaidSecond false → 0 < c.pending × c.pending ≤ id_of s.epoch s.session_ids_given
@@ -188,7 +188,7 @@ PendingGiven c s = (k : ℕ) → c.stage k ≡ SaidSecond false → 0 < c.pendin
 -- the interim response tells an id that was never accepted
 abbrev pub FirstReply : Client → (ℕ → Conn) → Server → Type 0
 FirstReply c conns s = (k n : ℕ) (y : Received) → slice_get (conns k).down n ≡ Some y → is_ops y.token ≡ false → c.stage k ≡ SaidFirst false → y.reply.status ≡ more_processing_required
-    → c.rank y.reply.session ≡ 0 × 0 < y.reply.session × y.reply.session ≤ id_of s.epoch s.session_ids_given
+    → c.rank y.reply.session_id ≡ 0 × 0 < y.reply.session_id × y.reply.session_id ≤ id_of s.epoch s.session_ids_given
 
 -- the new session's success waits: the accepted one before it is gone, and no connection makes the new one any more
 abbrev pub SecondReply : Client → (ℕ → Conn) → Server → Type 0
@@ -199,14 +199,14 @@ SecondReply c conns s = (k n : ℕ) (y : Received) → slice_get (conns k).down 
 
 -- the tree that an operation's message names is there while its session is
 abbrev pub TreeUp : (ℕ → Conn) → Server → Type 0
-TreeUp conns s = (k n : ℕ) (x : Sent) → slice_get (conns k).up n ≡ Some x → is_ops x.token ≡ true → s.present x.message.session ≡ true → is_some (tree_in (s.trees x.message.session) x.message.tree) ≡ true
+TreeUp conns s = (k n : ℕ) (x : Sent) → slice_get (conns k).up n ≡ Some x → is_ops x.token ≡ true → s.present x.message.session_id ≡ true → is_some (tree_in (s.trees x.message.session_id) x.message.tree_id) ≡ true
 
 abbrev pub TreeLive : Client → Server → Type 0
 TreeLive c s = c.live ≡ true → s.present c.session ≡ true → is_some (tree_in (s.trees c.session) c.tree) ≡ true
 
 abbrev pub TreeReply : Client → (ℕ → Conn) → Server → Type 0
 TreeReply c conns s = (k n : ℕ) (y : Received) → slice_get (conns k).down n ≡ Some y → is_ops y.token ≡ false → c.stage k ≡ AskedTree → y.reply.status ≡ success
-    → s.present c.accepted ≡ true → is_some (tree_in (s.trees c.accepted) y.reply.tree) ≡ true
+    → s.present c.accepted ≡ true → is_some (tree_in (s.trees c.accepted) y.reply.tree_id) ≡ true
 
 pub record Sessions (c : Client) (conns : ℕ → Conn) (s : Server) : Type 0 where
   pub live_accepted : LiveAccepted c

@@ -68,10 +68,10 @@ pub record IsFitting (z : WorldSettings) : Type 0 where
 
 pub record IsSent (m : Message) (charge : ℕ) : Type 0 where
   pub charge_fits : charge < 256 ^ 2
-  pub sequence : m.sequence < 256 ^ 2
-  pub id : m.id < 256 ^ 8
-  pub tree : m.tree < 256 ^ 4
-  pub session : m.session < 256 ^ 8
+  pub channel_sequence : m.channel_sequence < 256 ^ 2
+  pub message_id : m.message_id < 256 ^ 8
+  pub tree_id : m.tree_id < 256 ^ 4
+  pub session_id : m.session_id < 256 ^ 8
 
 -- ---- bytes are a message of this header and this body, signed or not
 

@@ -17,8 +17,8 @@ use Rattle.wire_facts.specs.Lawful.{IsLawful}
 
 pub record IsSameReply (x : Heard) (r : Reply) : Type 0 where
   pub status : x.header.status ≡ r.status
-  pub session : x.header.session ≡ r.session
-  pub tree : x.header.tree ≡ r.tree
+  pub session : x.header.session ≡ r.session_id
+  pub tree : x.header.tree ≡ r.tree_id
 
 abbrev pub IsHeardFor : World → Heard → Reply → Token → Type 0
 IsHeardFor w x r ForDialog = Unit {0}
