@@ -66,15 +66,16 @@ outside_of w h = if is_cancel h then None else outside w.held h.message (counted
 abbrev pub window_behind : HeldIds → Header → HeldIds
 window_behind w h = if is_cancel h then w else after_take h.message h.charge w
 
-abbrev pub end_by_id : Option ℕ → Option ConnEnd → Option ConnEnd
-end_by_id (Some id) further = Some (OutsideWindow id)
-end_by_id None further = further
+abbrev pub end_by_id : Option ℕ → Option ConnEnd
+end_by_id None = None
+end_by_id (Some id) = Some (OutsideWindow id)
 
 -- NEGOTIATE comes first and once: until one is answered with success no other message is taken, and behind one no second
 abbrev pub turn_end : ServerEnd → Header → Option ConnEnd
 turn_end f h =
     if not (is_some f.greeting) && not (is_negotiate h) then Some BadFrame
-    else end_by_id (outside_of f.window h) (if is_negotiate h && f.asked then Some SecondNegotiate else None)
+    else if is_negotiate h && f.asked then Some SecondNegotiate
+    else end_by_id (outside_of f.window h)
 
 abbrev pub behind_turn : ServerEnd → Header → ServerEnd
 behind_turn f h = record f { window = window_behind f.window h; asked = is_negotiate h || f.asked }
