@@ -84,7 +84,7 @@ abbrev pub said_to : ServerSettings → ℕ → ℕ → List ℕ → ServerEnd �
 said_to z k now fresh f L w c command r =
     let p = progress command r in
     record {
-      header = reply_header c r.status r.session r.tree (granted c.header.credits w);
+      header = reply_header c r.status r.session_id r.tree_id (granted c.header.credits w);
       body = said_body z.guid f.salt now c (answer_token_by z.users (L.pending k) (token_in c.bytes) fresh now p) command r;
       signer = signer_of z.users L k f c p;
       request = c;

@@ -55,7 +55,7 @@ file_behind c _ = file_named c.header.command c.bytes
 
 -- behind a message that was answered, NEGOTIATE and ECHO too
 abbrev pub carried_behind : Checked → Reply → Carry
-carried_behind c r = record { status = r.status; session = r.session; tree = r.tree; file = file_behind c r.body }
+carried_behind c r = record { status = r.status; session = r.session_id; tree = r.tree_id; file = file_behind c r.body }
 
 -- behind a CANCEL, of this status
 abbrev pub carried_past : Checked → ℕ → Carry

@@ -25,14 +25,14 @@ use Rattle.world_defs.specs.Answering.{Seal}
 abbrev pub request_header : Message → ℕ → ℕ → Bool → Header
 request_header m charge command is_signed = record {
   charge = charge;
-  status = m.sequence;
+  status = m.channel_sequence;
   command = command;
   credits = 512;
   flags = bit_if is_signed 8 + bit_if m.replay 0x2000_0000;
   next = 0;
-  message = m.id;
-  tree = m.tree;
-  session = m.session;
+  message = m.message_id;
+  tree = m.tree_id;
+  session = m.session_id;
   signature = unsigned_field;
 }
 

@@ -154,7 +154,7 @@ values_took v k token xs None = record v { conns = put v.conns k (behind_front (
 values_took v k token xs (Some t) = absorbed v k (record { token = token; message = t.message }) xs t.answer
 
 abbrev pub last_reply : Option Taken → Reply
-last_reply None = record { status = success; session = 0; tree = 0; body = Empty }
+last_reply None = record { status = success; session_id = 0; tree_id = 0; body = Empty }
 last_reply (Some t) = t.answer.reply
 
 -- a reply goes down for each frame of the answer
@@ -326,7 +326,7 @@ dialog_wires z w k stage x Binds =
     closed_wires (channel_bound w k x) k (act w.values.client (IsReady k w.values.client.session w.values.client.tree))
 dialog_wires z w k stage x Readies =
     closed_wires (with_client_end w k (record (paid_in (w.wires k).client_end x.header) { stage = Apart })) k
-    (act w.values.client (IsReady k w.values.client.pending (dialog_reply w stage x).tree))
+    (act w.values.client (IsReady k w.values.client.pending (dialog_reply w stage x).tree_id))
 dialog_wires z w k stage x (Refuses status) = closed_wires w k (act w.values.client (IsRefused k (HadStatus status)))
 
 abbrev pub dialog_passed : WorldSettings → World → ℕ → Stage → Heard → Option Refusal → World
