@@ -100,15 +100,15 @@ pub counted_on : (w : World) (e : Event) (a : ℕ → ℕ) → Connections w.cli
 counted_on w e a fit channels low h =
     client_keeps Counted w e (λ g op is m. record { counted = h.counted; live = h.live }) (record {
       opens = λ k. record { counted = h.counted; live = h.live };
-      slotless = λ c k g l i. record { counted = i.counted; live = i.live };
-      begins_op = λ c k g i m j. counted_same c (outstanding (begun c g i) k g) (same_begun c k g i) j;
-      asks = λ c k g m i. record { counted = i.counted; live = i.live };
-      settles = λ k g asking r place o on firm. counted_same w.client (settle w.client g asking r place o) (same_settle w.client g asking r place o) h;
+      slotless = λ c k g l _ i. record { counted = i.counted; live = i.live };
+      begins_op = λ c k g i m _ j. counted_same c (outstanding (begun c g i) k g) (same_begun c k g i) j;
+      asks = λ c k g m _ i. record { counted = i.counted; live = i.live };
+      settles = λ k g asking r place o on firm t. counted_same w.client (settle w.client g asking r place o) (same_settle w.client g asking r place o) h;
       answers = λ g. record { counted = h.counted; live = h.live };
       joins = λ k g on. record { counted = h.counted; live = h.live };
-      ends = λ g. record { counted = sym (count_none (λ k. false) 256 (λ j. refl)); live = λ l. absurd (cc) };
-      cut_ends = λ k on. record { counted = sym (count_none (λ k. false) 256 (λ j. refl)); live = λ l. absurd (cc) };
-      cuts = λ k on more. let c = count_off w.client.ready k 256 (low k (fit.ready k on).0) on in
+      ends = λ g _. record { counted = sym (count_none (λ k. false) 256 (λ j. refl)); live = λ l. absurd (cc) };
+      cut_ends = λ k on _. record { counted = sym (count_none (λ k. false) 256 (λ j. refl)); live = λ l. absurd (cc) };
+      cuts = λ k on more _. let c = count_off w.client.ready k 256 (low k (fit.ready k on).0) on in
           record { counted = one_less w.client.channels (count_on w.client.ready 256) (count_on (put w.client.ready k false) 256) h.counted c; live = λ l. not_last w.client.channels (w.client.sequence == last_sequence) (h.live l) more };
       goes = λ k te s y rest is token d. record { counted = h.counted; live = h.live };
       accepts = λ k r d. record { counted = h.counted; live = h.live };
@@ -117,7 +117,7 @@ counted_on w e a fit channels low h =
       begins = λ k tree at o dead. let c = count_put w.client.ready k 256 (low k o) (unready dead k) in
           record { counted = sym (c ∙ ap (λ n. n + 1) (count_none w.client.ready 256 (unready dead))); live = λ l. omega arith };
       leaves = λ k rs. record { counted = h.counted; live = h.live };
-      finishes = λ why. record { counted = h.counted; live = h.live };
+      finishes = λ why _. record { counted = h.counted; live = h.live };
     }) h
   where
     one_less : (n m l : ℕ) → n ≡ m → l + 1 ≡ m → n - 1 ≡ l
@@ -188,21 +188,21 @@ taken_small : (w : World) (e : Event) → Small (Taken w.client) w e
 taken_small w e =
     record {
       opens = λ k. record { op = refl; taken = refl; number = omega arith };
-      slotless = λ c k g l i. record { op = i.op; taken = i.taken; number = i.number };
-      begins_op = λ c k g i m j. taken_begun w.client c k g i j;
-      asks = λ c k g m i. record { op = i.op; taken = i.taken; number = i.number };
-      settles = λ k g asking r place o on firm. taken_rows w.client _ (rows_settle w.client g asking r place o);
+      slotless = λ c k g l _ i. record { op = i.op; taken = i.taken; number = i.number };
+      begins_op = λ c k g i m _ j. taken_begun w.client c k g i j;
+      asks = λ c k g m _ i. record { op = i.op; taken = i.taken; number = i.number };
+      settles = λ k g asking r place o on firm t. taken_rows w.client _ (rows_settle w.client g asking r place o);
       answers = λ g. record { op = refl; taken = refl; number = omega arith };
       joins = λ k g on. record { op = refl; taken = refl; number = omega arith };
-      ends = λ g. record { op = refl; taken = refl; number = omega arith };
-      cut_ends = λ k on. record { op = refl; taken = refl; number = omega arith };
-      cuts = λ k on more. record { op = refl; taken = refl; number = omega arith };
+      ends = λ g _. record { op = refl; taken = refl; number = omega arith };
+      cut_ends = λ k on _. record { op = refl; taken = refl; number = omega arith };
+      cuts = λ k on more _. record { op = refl; taken = refl; number = omega arith };
       goes = λ k te s y rest is token d. record { op = refl; taken = refl; number = omega arith };
       accepts = λ k r d. record { op = refl; taken = refl; number = omega arith };
       binds = λ k talks o live. record { op = refl; taken = refl; number = omega arith };
       begins = λ k tree at o dead. record { op = refl; taken = refl; number = omega arith };
       leaves = λ k rs. record { op = refl; taken = refl; number = omega arith };
-      finishes = λ why. record { op = refl; taken = refl; number = omega arith };
+      finishes = λ why _. record { op = refl; taken = refl; number = omega arith };
     }
 
 pub taken_on : (w : World) (e : Event) → is_submit e ≡ false → Taken w.client (happens w e).client

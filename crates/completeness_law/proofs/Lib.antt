@@ -30,3 +30,4 @@ pub mod Held
 pub mod Seats
 pub mod Seated
 pub mod Past
+pub mod Replies

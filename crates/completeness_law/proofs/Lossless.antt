@@ -171,7 +171,7 @@ heard_told c g asking r o b =
     (λ _. either P (r.status == success) (if asking then Attaches else ok_or_unknown (value_in (c.op g) r.body)) _ (λ _. either P asking Attaches _ (λ _ e. absurd (cc)) (λ _ e. ok_told (value_in (c.op g) r.body) o e))
     (λ _. either P (goes_again c g asking r.status) GoesAgain _ (λ _ e. absurd (cc)) (λ _ e. refused_told (c.op g) asking r.status o (ap (λ x. refused (c.op g) asking x r.status) (sym b) ∙ e))))
 
-heard_ends : (c : Client) (g : ℕ) (asking : Bool) (r : Reply) → heard c g asking r ≡ EndsSession → r.status ≡ user_session_deleted
+pub heard_ends : (c : Client) (g : ℕ) (asking : Bool) (r : Reply) → heard c g asking r ≡ EndsSession → r.status ≡ user_session_deleted
 heard_ends c g asking r =
     let P : Hearing → Type 0 = λ h. h ≡ EndsSession → r.status ≡ user_session_deleted in
     either P (r.status == user_session_deleted) _ _ (λ t e. eqb-true r.status user_session_deleted t)
@@ -360,6 +360,10 @@ first z = record { client = λ g. (refl, refl, λ e. absurd (cc)); told = λ k n
 at_first : (z : Settings) → Here (run [] (start z))
 unfolding run
 at_first z = first z
+
+-- what is known of each run on which nothing is lost
+pub unlost_at : (z : Settings) → ((xs : List Event) → StaysPresent (run xs (start z))) → (es : List Event) → without_losses es ≡ true → Here (run es (start z))
+unlost_at z present es l = along z es [] present l (at_first z)
 
 answered_by : (w : World) (g : ℕ) → At w.log.places w.log.who (w.client.settled_by g) g → Answered w g
 answered_by w g h = record { place = h.place; settled = h.is; taken = h.low; own = h.own }

@@ -85,21 +85,21 @@ onward w e s =
     let c = w.client in let i = itself c in
     client_keeps (Onward c) w e (λ g op is may. onward_by c c _ refl refl (λ x. x) i) (record {
       opens = λ k. onward_by c c (open_channel c k) refl refl (current_put c (open_channel c k) k (SaidNegotiate c.live) refl refl (λ x. absurd (cc))) i;
-      slotless = λ d k g l j. onward_by c d _ refl refl (λ x. x) j;
-      begins_op = λ d k g n may j. let t = (keeps_begun d k g n).same in onward_by c d (outstanding (begun d g n) k g) t.rank t.accepted (current_same d (outstanding (begun d g n) k g) t.live t.stage) j;
-      asks = λ d k g may j. onward_by c d _ refl refl (λ x. x) j;
-      settles = λ k g asking rr place o on firm. let t = (keeps_settle c g asking rr place o).same in onward_by c c (settle c g asking rr place o) t.rank t.accepted (current_same c (settle c g asking rr place o) t.live t.stage) i;
+      slotless = λ d k g l _ j. onward_by c d _ refl refl (λ x. x) j;
+      begins_op = λ d k g n may _ j. let t = (keeps_begun d k g n).same in onward_by c d (outstanding (begun d g n) k g) t.rank t.accepted (current_same d (outstanding (begun d g n) k g) t.live t.stage) j;
+      asks = λ d k g may _ j. onward_by c d _ refl refl (λ x. x) j;
+      settles = λ k g asking rr place o on firm _. let t = (keeps_settle c g asking rr place o).same in onward_by c c (settle c g asking rr place o) t.rank t.accepted (current_same c (settle c g asking rr place o) t.live t.stage) i;
       answers = λ g. onward_by c c _ refl refl (λ x. x) i;
       joins = λ k g on. onward_by c c _ refl refl (λ x. x) i;
-      ends = λ g. onward_by c c (end_session (answered c g)) refl refl (ended_not c (end_session (answered c g)) refl (λ k. refl)) i;
-      cut_ends = λ k on. onward_by c c (end_session c) refl refl (ended_not c (end_session c) refl (λ k. refl)) i;
-      cuts = λ k on more. onward_by c c _ refl refl (λ x. x) i;
+      ends = λ g _. onward_by c c (end_session (answered c g)) refl refl (ended_not c (end_session (answered c g)) refl (λ k. refl)) i;
+      cut_ends = λ k on _. onward_by c c (end_session c) refl refl (ended_not c (end_session c) refl (λ k. refl)) i;
+      cuts = λ k on more _. onward_by c c _ refl refl (λ x. x) i;
       goes = λ k te t y rest is token d. onward_by c c (went_on c k t y.reply) refl refl (current_put c (went_on c k t y.reply) k t refl refl (λ x. no_asked (c.stage k) y.reply.status (d ∙ ap GoesOn x))) i;
       accepts = λ k rr d. accepts_on w k s (accept_from (c.stage k) rr.status d);
       binds = λ k talks o live. onward_by c c (bind_channel c k) refl refl (current_put c (bind_channel c k) k Apart refl refl (λ x. absurd (cc))) i;
       begins = λ k tree at o dead. onward_by c c (begin_session c k c.pending tree) refl refl (begun_from c k (begin_session c k c.pending tree) at) i;
       leaves = λ k rs. onward_by c c (record (leave_dialog c k) { refusals = rs }) refl refl (current_put c (record (leave_dialog c k) { refusals = rs }) k Apart refl refl (λ x. absurd (cc))) i;
-      finishes = λ why. onward_by c c _ refl refl (λ x. x) i;
+      finishes = λ why _. onward_by c c _ refl refl (λ x. x) i;
     }) i
 
 -- ---- what is sent

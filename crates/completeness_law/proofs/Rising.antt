@@ -100,21 +100,21 @@ rising_on w e m r h =
     let c = w.client in
     client_keeps Rising w e (λ g op is may. rising_same c _ refl refl refl refl h) (record {
       opens = λ k. stage_put c _ k (SaidNegotiate c.live) refl refl refl refl (λ x. absurd (cc)) (λ x. absurd (cc)) h;
-      slotless = λ d k g l i. rising_same d _ refl refl refl refl i;
-      begins_op = λ d k g i may j. same_rising d (outstanding (begun d g i) k g) (keeps_begun d k g i).same j;
-      asks = λ d k g may i. rising_same d _ refl refl refl refl i;
-      settles = λ k g asking rr place o on firm. same_rising c (settle c g asking rr place o) (keeps_settle c g asking rr place o).same h;
+      slotless = λ d k g l _ i. rising_same d _ refl refl refl refl i;
+      begins_op = λ d k g i may _ j. same_rising d (outstanding (begun d g i) k g) (keeps_begun d k g i).same j;
+      asks = λ d k g may _ i. rising_same d _ refl refl refl refl i;
+      settles = λ k g asking rr place o on firm t. same_rising c (settle c g asking rr place o) (keeps_settle c g asking rr place o).same h;
       answers = λ g. rising_same c _ refl refl refl refl h;
       joins = λ k g on. rising_same c _ refl refl refl refl h;
-      ends = λ g. record { zero_session = h.zero_session; second = λ k x. absurd (cc); asked = λ k x. absurd (cc) };
-      cut_ends = λ k on. record { zero_session = h.zero_session; second = λ k x. absurd (cc); asked = λ k x. absurd (cc) };
-      cuts = λ k on more. rising_same c _ refl refl refl refl h;
+      ends = λ g _. record { zero_session = h.zero_session; second = λ k x. absurd (cc); asked = λ k x. absurd (cc) };
+      cut_ends = λ k on _. record { zero_session = h.zero_session; second = λ k x. absurd (cc); asked = λ k x. absurd (cc) };
+      cuts = λ k on more _. rising_same c _ refl refl refl refl h;
       goes = λ k te s y rest is token d. goes_on w k s y rest m r is token d h;
       accepts = λ k rr d. let f = accept_from (c.stage k) rr.status d in stage_put c _ k AskedTree refl refl refl refl (λ x. absurd (cc)) (λ x. h.second k f) h;
       binds = λ k talks o live. stage_put c _ k Apart refl refl refl refl (λ x. absurd (cc)) (λ x. absurd (cc)) h;
       begins = λ k tree at o dead. begins_at k tree at;
       leaves = λ k rs. stage_put c _ k Apart refl refl refl refl (λ x. absurd (cc)) (λ x. absurd (cc)) h;
-      finishes = λ why. rising_same c _ refl refl refl refl h;
+      finishes = λ why _. rising_same c _ refl refl refl refl h;
     }) h
   where
     begins_at : (k tree : ℕ) → w.client.stage k ≡ AskedTree → Rising (begin_session w.client k w.client.pending tree)
@@ -160,15 +160,15 @@ first_by w e m =
     let c = w.client in let i : FirstBy w e c = record { first = λ k at. (inl at, refl) } in
     client_keeps (FirstBy w e) w e (λ g op is may. first_same w e c _ refl refl i) (record {
       opens = λ k. first_put w e _ k (SaidNegotiate c.live) refl refl (λ x. absurd (cc));
-      slotless = λ d k g l j. first_same w e d _ refl refl j;
-      begins_op = λ d k g n may j. let s = (keeps_begun d k g n).same in first_same w e d (outstanding (begun d g n) k g) s.stage s.session j;
-      asks = λ d k g may j. first_same w e d _ refl refl j;
-      settles = λ k g asking rr place o on firm. let s = (keeps_settle c g asking rr place o).same in first_same w e c (settle c g asking rr place o) s.stage s.session i;
+      slotless = λ d k g l _ j. first_same w e d _ refl refl j;
+      begins_op = λ d k g n may _ j. let s = (keeps_begun d k g n).same in first_same w e d (outstanding (begun d g n) k g) s.stage s.session j;
+      asks = λ d k g may _ j. first_same w e d _ refl refl j;
+      settles = λ k g asking rr place o on firm t. let s = (keeps_settle c g asking rr place o).same in first_same w e c (settle c g asking rr place o) s.stage s.session i;
       answers = λ g. first_same w e c _ refl refl i;
       joins = λ k g on. first_same w e c _ refl refl i;
-      ends = λ g. record { first = λ k at. absurd (cc) };
-      cut_ends = λ k on. record { first = λ q at. absurd (cc) };
-      cuts = λ k on more. first_same w e c _ refl refl i;
+      ends = λ g _. record { first = λ k at. absurd (cc) };
+      cut_ends = λ k on _. record { first = λ q at. absurd (cc) };
+      cuts = λ k on more _. first_same w e c _ refl refl i;
       goes = λ k te s y rest is token d. first_goes w e k s y.reply te;
       accepts = λ k rr d. first_put w e _ k AskedTree refl refl (λ x. absurd (cc));
       binds = λ k talks o live. first_put w e _ k Apart refl refl (λ x. absurd (cc));
@@ -179,7 +179,7 @@ first_by w e m =
         ] refl;
       };
       leaves = λ k rs. first_put w e _ k Apart refl refl (λ x. absurd (cc));
-      finishes = λ why. first_same w e c _ refl refl i;
+      finishes = λ why _. first_same w e c _ refl refl i;
     }) i
 
 -- ---- the interim reply

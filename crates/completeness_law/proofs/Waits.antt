@@ -353,21 +353,21 @@ waits_small w e a fit h =
     let c = w.client in let i : Ok c c = record { op = refl; taken = refl; ok = h } in let k = kinds_of w a fit in
     record {
       opens = λ q. ok_same c c _ refl refl refl i;
-      slotless = λ d q g l j. slotless_ok c d q g k l j;
-      begins_op = λ d q g s m j. ok_begun c d q g s j;
-      asks = λ d q g m j. ok_same c d _ refl refl refl j;
-      settles = λ q g asking r place o on firm. settles_ok c g asking r place o k (settling_of w a g q fit on) firm h;
+      slotless = λ d q g l _ j. slotless_ok c d q g k l j;
+      begins_op = λ d q g s m _ j. ok_begun c d q g s j;
+      asks = λ d q g m _ j. ok_same c d _ refl refl refl j;
+      settles = λ q g asking r place o on firm t. settles_ok c g asking r place o k (settling_of w a g q fit on) firm h;
       answers = λ g. ok_same c c _ refl refl refl i;
       joins = λ q g on. ok_same c c _ refl refl refl i;
-      ends = λ g. ok_same c (end_session c) (end_session (answered c g)) refl refl refl (ends_ok c k h);
-      cut_ends = λ q on. ends_ok c k h;
-      cuts = λ q on more. ok_same c c _ refl refl refl i;
+      ends = λ g _. ok_same c (end_session c) (end_session (answered c g)) refl refl refl (ends_ok c k h);
+      cut_ends = λ q on _. ends_ok c k h;
+      cuts = λ q on more _. ok_same c c _ refl refl refl i;
       goes = λ q te s y rest is token d. ok_same c c _ refl refl refl i;
       accepts = λ q r d. ok_same c c _ refl refl refl i;
       binds = λ q talks o live. ok_same c c _ refl refl refl i;
       begins = λ q tree at o dead. ok_same c c _ refl refl refl i;
       leaves = λ q rs. ok_same c c _ refl refl refl i;
-      finishes = λ why. finish_ok c why;
+      finishes = λ why _. finish_ok c why;
     }
 
 pub waits_on : (w : World) (e : Event) (a : ℕ → ℕ) → Connections w.client w.conns a → CreateOk w.client → CreateOk (happens w e).client

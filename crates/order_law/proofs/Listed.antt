@@ -122,7 +122,7 @@ unfolding effect
 write_after s o at bytes true e = sym (written-empty at bytes (bytes_of s o) e)
 write_after s o at bytes false e = refl
 
-write_nothing : (s : Server) (o at : ℕ) (bytes : List ℕ) (b : Bool) → is_empty bytes ≡ b → changes_nothing s (file_of s o) (if b then PutNothing else PutBytes at bytes) ≡ same_bytes (effect (Writes at bytes) (bytes_of s o)) (bytes_of s o)
+pub write_nothing : (s : Server) (o at : ℕ) (bytes : List ℕ) (b : Bool) → is_empty bytes ≡ b → changes_nothing s (file_of s o) (if b then PutNothing else PutBytes at bytes) ≡ same_bytes (effect (Writes at bytes) (bytes_of s o)) (bytes_of s o)
 unfolding effect
 write_nothing s o at bytes true e = sym (subst (λ c. same_bytes c (bytes_of s o) ≡ true) (sym (written-empty at bytes (bytes_of s o) e)) (same_bytes-refl (bytes_of s o)))
 write_nothing s o at bytes false e = refl

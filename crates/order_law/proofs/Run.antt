@@ -193,21 +193,27 @@ no_pipes : (b v : Bool) → (b ≡ true → v ≡ false) → v ≡ true → b �
 no_pipes true v f e = absurd (let z = f refl in grind arith)
 no_pipes false v f e = refl
 
-known : (z : Settings) (es : List Event) → Known (run es (start z)) (acts es (start z))
-known z es =
+-- what the layers below say of every run
+pub lower : (z : Settings) (es : List Event) → Lower (run es (start z)) (acts es (start z))
+lower z es =
     let w : World = run es (start z) in
     let f = fitting z es in
     record {
-      lower = record {
-        cn = connections z es;
-        fits = f;
-        ss = sessions z es;
-        cr = creates z es;
-        beyond = beyond z es;
-        low = (newest z (below z) es).low_sequences;
-        anew = (anew_at w f (recovers z (fitting z) es)).1;
-        disk = λ y id o e. no_pipes (w.server.standing o) (same_name w.client.who.share pipes_name) (open_kind z es o) (sym (kinds z es y id true e));
-      };
+      cn = connections z es;
+      fits = f;
+      ss = sessions z es;
+      cr = creates z es;
+      beyond = beyond z es;
+      low = (newest z (below z) es).low_sequences;
+      anew = (anew_at w f (recovers z (fitting z) es)).1;
+      disk = λ y id o e. no_pipes (w.server.standing o) (same_name w.client.who.share pipes_name) (open_kind z es o) (sym (kinds z es y id true e));
+    }
+
+known : (z : Settings) (es : List Event) → Known (run es (start z)) (acts es (start z))
+known z es =
+    let w : World = run es (start z) in
+    record {
+      lower = lower z es;
       most = λ k may. at_most_behind w (acts es (start z)) k may (one_event_on (λ (v : World) b. AtMost v.client b) z (λ ds. (creates z ds).at_most) es (Serve k));
       anew_kept = λ k may.
           anew_behind w k (w.conns k).up (subst Anew (served_as w k may)

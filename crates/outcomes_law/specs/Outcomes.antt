@@ -1,0 +1,52 @@
+-- What settles an operation: on every run, and on one without losses.
+use Rattle.std.specs.Prelude.{◌≡◌, ◌≢◌, ℕ, Bool, true, false, if◌then◌else◌, List, ◌∷◌, ◌++◌, Option, Some, is_some, slice_get}
+use Rattle.exchange_defs.specs.Status.{success}
+use Rattle.exchange_defs.specs.State.{Reply}
+use Rattle.exchange_defs.specs.Operations.{Op, OpReply, Outcome, WasOk, WasRefused, Unknown, is_firm, value_in}
+use Rattle.exchange_defs.specs.Network.{World, Event, Serve, Sent, Received, ForOp, ForAttach, Settings, run, start, answer, may_serve}
+use Rattle.completeness_law.specs.Completeness.{without_losses}
+
+-- ---- a success reads
+
+-- A success that waits for an operation's own message has a body that reads as the operation's, so the client never meets
+-- one that doesn't.
+abbrev pub SuccessReads : Type 0
+SuccessReads =
+    (z : Settings) (events : List Event) (k n g : ℕ) (y : Received) → slice_get ((run events (start z)).conns k).down n ≡ Some y → y.token ≡ ForOp g → y.reply.status ≡ success
+    → is_some (value_in ((run events (start z)).client.op g) y.reply.body) ≡ true
+
+-- ---- runs on which nothing is lost
+
+-- what a reply settles an operation as, to its own message or to the DH2C in its place: Ok with what it replied, or Refused
+-- with its status
+pub data SettledAs (op : Op) (own : Bool) (r : Reply) : Outcome → Type 0 where
+  AsOk : (reply : OpReply) → own ≡ true → r.status ≡ success → value_in op r.body ≡ Some reply → SettledAs op own r (WasOk reply)
+  AsRefused : r.status ≢ success → SettledAs op own r (WasRefused r.status)
+
+-- The event at which the server answered the message of the operation whose reply settled it: the front of a channel, by the
+-- server's step in the world before that event.
+pub record Answered (z : Settings) (events : List Event) (g : ℕ) (op : Op) (settled_by : Option ℕ) (outcome : Outcome) : Type 0 where
+  pub before : List Event
+  pub after : List Event
+  pub channel : ℕ
+  pub is : events ≡ before ++ Serve channel ∷ after
+  pub front : Sent
+  pub rest : List Sent
+  pub waits : ((run before (start z)).conns channel).up ≡ front ∷ rest
+  pub own : Bool
+  pub token : front.token ≡ (if own then ForOp g else ForAttach g)
+  pub place : settled_by ≡ Some (run before (start z)).log.places
+  pub settled : SettledAs op own (answer (run before (start z)) front).reply outcome
+
+-- an outcome that tells what became of the operation
+abbrev pub is_known : Outcome → Bool
+is_known (Unknown why) = false
+is_known _ = true
+
+-- On a run without cuts, drops, restarts, crashes and refused logons no outcome is unknown, and each operation that is Ok or
+-- Refused has the reply of the server's step to a message of its own.
+abbrev pub AllAnswered : Type 0
+AllAnswered =
+    (z : Settings) (events : List Event) → without_losses events ≡ true → (g : ℕ)
+    → is_known ((run events (start z)).client.outcome g) ≡ true
+    × (is_firm ((run events (start z)).client.outcome g) ≡ true → Answered z events g ((run events (start z)).client.op g) ((run events (start z)).client.settled_by g) ((run events (start z)).client.outcome g))

@@ -1,0 +1,4 @@
+pub mod Busy
+pub mod Heard
+pub mod Serving
+pub mod Law
