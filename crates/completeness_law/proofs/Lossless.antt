@@ -7,7 +7,7 @@ use Rattle.exchange_defs.specs.Status.{success, user_session_deleted, disk_full}
 use Rattle.exchange_defs.specs.Order.{Log}
 use Rattle.exchange_defs.specs.State.{Reply, Message, Accept, Body}
 use Rattle.exchange_defs.specs.Step.{step}
-use Rattle.exchange_defs.specs.Operations.{Op, OpReply, Outcome, Unsettled, WasOk, WasRefused, NoSlot, NoOpen, Unknown, is_create, is_lock, is_close, is_firm, create_of, id_in, value_in}
+use Rattle.exchange_defs.specs.Operations.{Op, OpReply, Outcome, Unsettled, WasOk, WasRefused, NoSlot, NoOpen, Unknown, Why, WithStatus, is_create, is_lock, is_close, is_firm, create_of, id_in, value_in}
 use Rattle.exchange_defs.specs.Client.{Client, Stage, create_for, may_take, take_op, is_gone, is_gone_after, outcome_at_first, may_push, goes_itself, has_its_slot, lacks_slot, settle_no_slot, settle_no_slots, begin, again, begun, take_slot, outstanding}
 use Rattle.exchange_defs.specs.Settling.{Heard as Hearing, Settles, GoesAgain, Attaches, EndsSession, heard, hear, is_awaited, settle, settled, noted, noted_full, settles_open, with_no_opens, without_open, ok_or_unknown, refused, goes_again}
 use Rattle.exchange_defs.specs.Dialogs.{DialogStep, GoesOn, Accepts, Binds, Readies, Refuses, dialog_step}
@@ -20,7 +20,7 @@ use Rattle.server_law.proofs.Logic.{either, front_of, back_of}
 use Rattle.session_law.specs.Sessions.{is_ops}
 use Rattle.session_law.specs.Dialogs.{MessageAlone, ReplyAlone, IsLost, Channel, IsClosed, IsReady, IsInDialog, Channels}
 use Rattle.session_law.proofs.DialogFacts.{dialogs as dialogs_known}
-use Rattle.completeness_law.specs.Completeness.{loses_nothing, without_losses, is_told, Answered}
+use Rattle.completeness_law.specs.Completeness.{loses_nothing, without_losses}
 use Rattle.completeness_law.proofs.Facts.{StaysPresent}
 use Rattle.completeness_law.proofs.Events.{put_at, put_off}
 
@@ -64,6 +64,15 @@ pub record At (places : ℕ) (who : ℕ → ℕ) (settled_by : Option ℕ) (g : 
   pub is : settled_by ≡ Some place
   pub low : place < places
   pub own : who place ≡ g
+
+-- not unknown, but for a success whose body doesn't read as the operation's, of which this layer doesn't know that none comes
+abbrev pub is_unread : Why → Bool
+is_unread (WithStatus status) = status == success
+is_unread _ = false
+
+abbrev pub is_told : Outcome → Bool
+is_told (Unknown why) = is_unread why
+is_told _ = true
 
 abbrev pub Unlost : ℕ → (ℕ → ℕ) → Client → Type 0
 Unlost places who c = (g : ℕ) → c.unanswered g ≡ false × is_told (c.outcome g) ≡ true × (is_firm (c.outcome g) ≡ true → At places who (c.settled_by g) g)
@@ -364,9 +373,3 @@ at_first z = first z
 -- what is known of each run on which nothing is lost
 pub unlost_at : (z : Settings) → ((xs : List Event) → StaysPresent (run xs (start z))) → (es : List Event) → without_losses es ≡ true → Here (run es (start z))
 unlost_at z present es l = along z es [] present l (at_first z)
-
-answered_by : (w : World) (g : ℕ) → At w.log.places w.log.who (w.client.settled_by g) g → Answered w g
-answered_by w g h = record { place = h.place; settled = h.is; taken = h.low; own = h.own }
-
-pub nothing_lost : (z : Settings) → ((xs : List Event) → StaysPresent (run xs (start z))) → (es : List Event) → without_losses es ≡ true → (g : ℕ) → is_told ((run es (start z)).client.outcome g) ≡ true × (is_firm ((run es (start z)).client.outcome g) ≡ true → Answered (run es (start z)) g)
-nothing_lost z present es l g = let w = run es (start z) in let h = (along z es [] present l (at_first z)).client g in (h.1, λ e. answered_by w g (h.2 e))

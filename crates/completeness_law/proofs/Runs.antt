@@ -9,7 +9,7 @@ use Rattle.exchange_law.proofs.Stays.{settled_stays, beyond}
 use Rattle.session_law.specs.Dialogs.{Channels}
 use Rattle.session_law.proofs.DialogFacts.{dialogs}
 use Rattle.session_law.proofs.Always.{sessions}
-use Rattle.completeness_law.specs.Completeness.{begun, course_of, DrainSuffices, LinkSuffices, AllSettled, FindsSession, SettleSettles, NothingLost}
+use Rattle.completeness_law.specs.Completeness.{begun, course_of, DrainSuffices, LinkSuffices, AllSettled, FindsSession, SettleSettles}
 use Rattle.completeness_law.proofs.Facts.{Facts, Rises, Always}
 use Rattle.completeness_law.proofs.Columns.{count_none, Counted, counted_on, taken_on, number_on, Limits, limits_on}
 use Rattle.completeness_law.proofs.Waits.{CreateOk, waits_on}
@@ -22,7 +22,6 @@ use Rattle.completeness_law.proofs.Seats.{Seats, IsPast, shut_seat}
 use Rattle.completeness_law.proofs.Seated.{seats_on}
 use Rattle.completeness_law.proofs.Past.{PlainOp, onward, past_on, plain_on}
 use Rattle.completeness_law.proofs.Present.{FairWorld, fair_first, fair_on, finds}
-use Rattle.completeness_law.proofs.Lossless.{nothing_lost}
 use Rattle.session_law.proofs.Waiting.{AllUp}
 use Rattle.completeness_law.proofs.Drain.{drains_all}
 use Rattle.completeness_law.proofs.Link.{links_all}
@@ -155,9 +154,6 @@ held z es =
 
 pub session_found : (z : Settings) (es : List Event) → FindsSession (run es (start z))
 session_found z es = let h = held z es in finds (run es (start z)) _ (connections z es) (sessions z es) h.seats h.plain h.fair.0
-
-pub nothing_unknown : NothingLost
-nothing_unknown z es l g = nothing_lost z (session_found z) es l g
 
 -- ---- scripts
 

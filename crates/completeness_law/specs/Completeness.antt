@@ -1,7 +1,7 @@
 -- What is said of schedules that end in settling, over all 256 channels.
-use Rattle.std.specs.Prelude.{◌≡◌, ◌≢◌, ℕ, ◌≤◌, ◌<◌, ◌==◌, Bool, true, false, ◌&&◌, List, [], ◌∷◌, ◌++◌, Some}
-use Rattle.exchange_defs.specs.Status.{success, user_session_deleted}
-use Rattle.exchange_defs.specs.Operations.{Outcome, Unknown, Why, WithStatus, is_unsettled, is_firm}
+use Rattle.std.specs.Prelude.{◌≡◌, ◌≢◌, ℕ, ◌≤◌, ◌<◌, Bool, true, false, ◌&&◌, List, [], ◌∷◌, ◌++◌}
+use Rattle.exchange_defs.specs.Status.{user_session_deleted}
+use Rattle.exchange_defs.specs.Operations.{is_unsettled}
 use Rattle.exchange_defs.specs.Client.{Client}
 use Rattle.exchange_defs.specs.ClientStep.{last_number}
 use Rattle.exchange_defs.specs.Schedules.{Course, Line, Settles, course, drain, link, has_more, is_linking}
@@ -47,7 +47,9 @@ SettleSettles =
 
 -- ---- runs on which nothing is lost
 
--- no connection is cut or dropped, the server doesn't stop, and nothing is given up for a logon that is refused
+-- No connection is cut or dropped, the server doesn't stop, and nothing is given up for a logon that is refused. A script
+-- without such events may yet end otherwise: `settle` gives all up where the logon is refused, as `refused_logon_example` in
+-- exchange_examples computes, so the events here are those of the whole course. What such a run leaves says `outcomes_law`.
 abbrev pub loses_nothing : Event → Bool
 loses_nothing (Cut k) = false
 loses_nothing (Drop k) = false
@@ -59,28 +61,3 @@ loses_nothing _ = true
 unfoldable pub without_losses : List Event → Bool
 without_losses [] = true
 without_losses (e ∷ es) = loses_nothing e && without_losses es
-
--- unknown for the one reason that is left there: a success whose body doesn't read as the operation's
-abbrev pub is_unread : Why → Bool
-is_unread (WithStatus status) = status == success
-is_unread _ = false
-
-abbrev pub is_told : Outcome → Bool
-is_told (Unknown why) = is_unread why
-is_told _ = true
-
--- the place of the operation's message, its own or the request to attach, whose reply settled it, among those that the server took
-pub record Answered (w : World) (g : ℕ) : Type 0 where
-  pub place : ℕ
-  pub settled : w.client.settled_by g ≡ Some place
-  pub taken : place < w.log.places
-  pub own : w.log.who place ≡ g
-
--- Then no operation's outcome is unknown for the loss of its session, for a refused dialog, or for a status that an unanswered
--- copy leaves open; and what is Ok or Refused was settled by the reply to a message of its own. A script without such events
--- may yet end otherwise: `settle` gives all up where the logon is refused, as `refused_logon_example` in exchange_examples
--- computes, so the events here are those of the whole course.
-abbrev pub NothingLost : Type 0
-NothingLost =
-    (z : Settings) (events : List Event) → without_losses events ≡ true → (g : ℕ)
-    → is_told ((run events (start z)).client.outcome g) ≡ true × (is_firm ((run events (start z)).client.outcome g) ≡ true → Answered (run events (start z)) g)

@@ -4,7 +4,7 @@
 //! Each law is a public function with an empty body; its contract is the statement, which stands in `specs`.
 #![tactic(auto)]
 
-ghost use Rattle.completeness_law.specs.Completeness.{DrainSuffices, LinkSuffices, SessionFound, SettleSettles, NothingLost};
+ghost use Rattle.completeness_law.specs.Completeness.{DrainSuffices, LinkSuffices, SessionFound, SettleSettles};
 
 /// The bounds of the two inner loops never cut them short: behind draining a channel, wherever a schedule has led, an end
 /// of it is closed or nothing waits there; and behind linking one, an end of it is closed or it is ready.
@@ -24,12 +24,4 @@ pub fn session_found_law()
 /// settling would go on for ever.
 pub fn settle_law()
     ensures settles { SettleSettles }
-{}
-
-/// On a run on which no connection is cut or dropped, the server doesn't stop and nothing is given up for a refused logon,
-/// each operation is unsettled, or settled as Ok, as Refused, or for want of a slot or an open; and where it is Ok or
-/// Refused, by the reply to a message of its own that the server took. The one outcome beside these that the law leaves
-/// room for is a success whose body doesn't read as the operation's.
-pub fn nothing_lost_law()
-    ensures told { NothingLost }
 {}

@@ -1,13 +1,19 @@
 -- On a run without losses what settled as Ok or Refused has the reply of the server's step.
 use Rattle.std.proofs.lemmas.List.{append_assoc}
-use Rattle.std.proofs.Common.{◌≡◌, ◌≢◌, ℕ, ◌+◌, ◌≤◌, ◌<◌, ◌==◌, Bool, true, false, not, ◌&&◌, if◌then◌else◌, List, [], ◌∷◌, ◌++◌, ◌⊎◌, inl, inr, refl, arith, sym, subst, ◌∙◌, ap, eqb-true, Option, Some, None, is_some, slice_get}
+use Rattle.std.proofs.Common.{◌≡◌, ◌≢◌, ℕ, ◌==◌, Bool, true, false, not, ◌&&◌, if◌then◌else◌, List, [], ◌∷◌, ◌++◌, refl}
+use Rattle.std.proofs.Common.{arith, sym, subst, ◌∙◌, ap, eqb-true, Option, Some, None, is_some, slice_get}
 use Rattle.exchange_defs.specs.Table.{put, put2}
 use Rattle.exchange_defs.specs.Status.{success, user_session_deleted, disk_full}
 use Rattle.exchange_defs.specs.State.{Reply, Body}
-use Rattle.exchange_defs.specs.Operations.{Op, OpReply, Outcome, Unsettled, WasOk, WasRefused, NoSlot, NoOpen, Unknown, is_create, is_lock, is_close, is_firm, create_of, id_in, value_in}
-use Rattle.exchange_defs.specs.Client.{Client, create_for, may_take, take_op, is_gone, is_gone_after, outcome_at_first, begun, begin, again, take_slot, outstanding}
-use Rattle.exchange_defs.specs.Settling.{Heard as Hearing, Settles, GoesAgain, Attaches, EndsSession, heard, settle, settled, noted, noted_full, settles_open, with_no_opens, without_open, ok_or_unknown, refused, goes_again}
-use Rattle.exchange_defs.specs.Network.{World, Event, Submit, Open, Push, Serve, Take, Cut, Drop, Restart, Crash, Wait, Finish, Sent, Received, Token, ForOp, ForAttach, Settings, run, start, happens, later}
+use Rattle.exchange_defs.specs.Operations.{Op, OpReply, Outcome, Unsettled, WasOk, WasRefused, NoSlot, NoOpen, Unknown}
+use Rattle.exchange_defs.specs.Operations.{is_create, is_lock, is_close, is_firm, create_of, id_in, value_in}
+use Rattle.exchange_defs.specs.Client.{Client, create_for, may_take, take_op, is_gone, is_gone_after, outcome_at_first}
+use Rattle.exchange_defs.specs.Client.{begun, begin, again, take_slot, outstanding}
+use Rattle.exchange_defs.specs.Settling.{Heard as Hearing, Settles, GoesAgain, Attaches, heard, settle, settled, noted}
+use Rattle.exchange_defs.specs.Settling.{noted_full, settles_open, with_no_opens, without_open, ok_or_unknown, refused}
+use Rattle.exchange_defs.specs.Settling.{goes_again}
+use Rattle.exchange_defs.specs.Network.{World, Event, Submit, Open, Push, Serve, Take, Cut, Drop, Restart, Crash, Wait}
+use Rattle.exchange_defs.specs.Network.{Finish, Received, ForOp, ForAttach, Settings, run, start, happens}
 use Rattle.exchange_law.proofs.Lists.{front_down}
 use Rattle.exchange_law.proofs.Reached.{run_more}
 use Rattle.server_law.proofs.Logic.{either, front_of, back_of}
@@ -15,7 +21,6 @@ use Rattle.session_law.specs.Sessions.{is_ops}
 use Rattle.completeness_law.specs.Completeness.{loses_nothing, without_losses}
 use Rattle.completeness_law.proofs.Client.{Took, Ending, Finishing, Small, Takes, client_keeps}
 use Rattle.completeness_law.proofs.Columns.{taken_on}
-use Rattle.completeness_law.proofs.Facts.{is_submit}
 use Rattle.completeness_law.proofs.Lossless.{Here, unlost_at, heard_ends}
 use Rattle.completeness_law.proofs.Runs.{session_found}
 use Rattle.outcomes_law.specs.Outcomes.{Answered, SettledAs, AsOk, AsRefused, AllAnswered, is_known}
@@ -32,19 +37,24 @@ same_settled x y e = cc
 other_status : (n m : ℕ) → (n == m) ≡ false → n ≢ m
 other_status n m e f = absurd (grind arith)
 
-by_value : (op : Op) (r : Reply) (o : Outcome) (u : Option OpReply) → value_in op r.body ≡ u → r.status ≡ success → ok_or_unknown u ≡ Settles o → is_firm o ≡ true → SettledAs op true r o
+by_value : (op : Op) (r : Reply) (o : Outcome) (u : Option OpReply) → value_in op r.body ≡ u → r.status ≡ success
+    → ok_or_unknown u ≡ Settles o → is_firm o ≡ true → SettledAs op true r o
 by_value op r o (Some reply) v s e f = subst (SettledAs op true r) (same_settled (WasOk reply) o e) (AsOk reply refl s v)
 by_value op r o None v s e f = absent (is_firm o) _ f (subst (λ x. is_firm x ≡ false) (same_settled _ o e) refl)
 
-settles_as : (c : Client) (g : ℕ) (asking : Bool) (r : Reply) (o : Outcome) → c.unanswered g ≡ false → heard c g asking r ≡ Settles o → is_firm o ≡ true → SettledAs (c.op g) (not asking) r o
+settles_as : (c : Client) (g : ℕ) (asking : Bool) (r : Reply) (o : Outcome) → c.unanswered g ≡ false
+    → heard c g asking r ≡ Settles o → is_firm o ≡ true → SettledAs (c.op g) (not asking) r o
 settles_as c g asking r o b =
     let P : Hearing → Type 0 = λ h. h ≡ Settles o → is_firm o ≡ true → SettledAs (c.op g) (not asking) r o in
     either P (r.status == user_session_deleted) _ _ (λ _ e f. absurd (cc))
     (λ _. either P (r.status == success) (if asking then Attaches else ok_or_unknown (value_in (c.op g) r.body)) _
     (λ s. either P asking Attaches _ (λ _ e f. absurd (cc))
-    (λ own e f. subst (λ q. SettledAs (c.op g) q r o) (ap not (sym own)) (by_value (c.op g) r o (value_in (c.op g) r.body) refl (eqb-true r.status success s) e f)))
+    (λ own e f. subst (λ q. SettledAs (c.op g) q r o) (ap not (sym own))
+    (by_value (c.op g) r o (value_in (c.op g) r.body) refl (eqb-true r.status success s) e f)))
     (λ s. either P (goes_again c g asking r.status) GoesAgain _ (λ _ e f. absurd (cc))
-    (λ _ e f. subst (SettledAs (c.op g) (not asking) r) (same_settled (WasRefused r.status) o (ap (λ x. refused (c.op g) asking x r.status) (sym b) ∙ e)) (AsRefused (other_status r.status success s)))))
+    (λ _ e f. subst (SettledAs (c.op g) (not asking) r)
+    (same_settled (WasRefused r.status) o (ap (λ x. refused (c.op g) asking x r.status) (sym b) ∙ e))
+    (AsRefused (other_status r.status success s)))))
 
 -- ---- what settling leaves of an operation that is Ok or Refused behind it
 
@@ -64,9 +74,17 @@ alike c = record { outcome = refl; settled_by = refl }
 noted_alike : (c : Client) (g : ℕ) (o : Outcome) (body : Body) → Alike c (noted c g o body)
 noted_alike c g (WasOk reply) body =
     let P : Client → Type 0 = Alike c in
-    either P (is_create (c.op g)) (record c { file = put c.file g (id_in body); attached = put c.attached g c.session_number }) (if is_close (c.op g) then record c { closed_ok = put c.closed_ok (create_for c g) true } else c)
+    either P (is_create (c.op g)) (record c {
+      file = put c.file g (id_in body);
+      attached = put c.attached g c.session_number;
+    }) (if is_close (c.op g) then record c {
+      closed_ok = put c.closed_ok (create_for c g) true;
+    } else c)
     (λ _. record { outcome = refl; settled_by = refl })
-    (λ _. either P (is_close (c.op g)) (record c { closed_ok = put c.closed_ok (create_for c g) true }) c (λ _. record { outcome = refl; settled_by = refl }) (λ _. alike c))
+    (λ _. either P (is_close (c.op g)) (record c { closed_ok = put c.closed_ok (create_for c g) true }) c (λ _. record {
+      outcome = refl;
+      settled_by = refl;
+    }) (λ _. alike c))
 noted_alike c g Unsettled body = alike c
 noted_alike c g (WasRefused status) body = alike c
 noted_alike c g (NoSlot create) body = alike c
@@ -75,31 +93,42 @@ noted_alike c g (Unknown why) body = alike c
 
 full_alike : (c : Client) (g : ℕ) (asking : Bool) (status : ℕ) → Alike c (noted_full c g asking status)
 full_alike c g asking status =
-    either (λ (d : Client). Alike c d) (is_lock (c.op g) && (not asking && (status == disk_full))) (record c { full = put2 c.full (create_for c g) (c.slot_of g) true }) c (λ _. record { outcome = refl; settled_by = refl }) (λ _. alike c)
+    either (λ (d : Client). Alike c d) (is_lock (c.op g) && (not asking && (status == disk_full))) (record c {
+      full = put2 c.full (create_for c g) (c.slot_of g) true;
+    }) c (λ _. record { outcome = refl; settled_by = refl })
+    (λ _. alike c)
 
-settled_left : (c d : Client) (g place : ℕ) (o : Outcome) (h : ℕ) → Alike c d → is_firm ((settled d g o place).outcome h) ≡ true → Left c g place o h ((settled d g o place).outcome h) ((settled d g o place).settled_by h)
+settled_left : (c d : Client) (g place : ℕ) (o : Outcome) (h : ℕ) → Alike c d
+    → is_firm ((settled d g o place).outcome h) ≡ true → Left c g place o h ((settled d g o place).outcome h)
+    ((settled d g o place).settled_by h)
 settled_left c d g place o h a f =
-    elim (h == g) as (λ b. h == g ≡ b → is_firm (if b then o else d.outcome h) ≡ true → Left c g place o h (if b then o else d.outcome h) (if b then Some place else d.settled_by h)) [
+    elim (h == g) as (λ b. h == g ≡ b → is_firm (if b then o else d.outcome h) ≡ true
+    → Left c g place o h (if b then o else d.outcome h) (if b then Some place else d.settled_by h)) [
       | true ↦ λ e q. Now (eqb-true h g e) refl refl
       | false ↦ λ e q. Stays (ap (λ u. is_firm (u h)) (sym a.outcome) ∙ q) (ap (λ u. u h) a.outcome) (ap (λ u. u h) a.settled_by)
     ] refl f
 
 -- one that is Ok or Refused isn't given up
 firm_given : (a b c : Bool) (create : ℕ) (o : Outcome) → is_firm (without_open a b c create o) ≡ true → without_open a b c create o ≡ o
-firm_given a b c create Unsettled = either (λ r. is_firm r ≡ true → r ≡ Unsettled) (a && (not b && c)) (NoOpen create) Unsettled (λ _ e. absurd (cc)) (λ _ e. refl)
+firm_given a b c create Unsettled = either (λ r. is_firm r ≡ true → r ≡ Unsettled) (a && (not b && c)) (NoOpen create)
+    Unsettled (λ _ e. absurd (cc)) (λ _ e. refl)
 firm_given a b c create (WasOk reply) = λ e. refl
 firm_given a b c create (WasRefused status) = λ e. refl
 firm_given a b c create (NoSlot n) = λ e. refl
 firm_given a b c create (NoOpen n) = λ e. refl
 firm_given a b c create (Unknown why) = λ e. refl
 
-settle_left : (c : Client) (g : ℕ) (asking : Bool) (r : Reply) (place : ℕ) (o : Outcome) (h : ℕ) → is_firm ((settle c g asking r place o).outcome h) ≡ true → Left c g place o h ((settle c g asking r place o).outcome h) ((settle c g asking r place o).settled_by h)
+settle_left : (c : Client) (g : ℕ) (asking : Bool) (r : Reply) (place : ℕ) (o : Outcome) (h : ℕ)
+    → is_firm ((settle c g asking r place o).outcome h) ≡ true
+    → Left c g place o h ((settle c g asking r place o).outcome h) ((settle c g asking r place o).settled_by h)
 settle_left c g asking r place o h =
     let n = noted c g o r.body in let f = noted_full n g asking r.status in let d = settled f g o place in
     let a = noted_alike c g o r.body in let b = full_alike n g asking r.status in
     let all : Alike c f = record { outcome = b.outcome ∙ a.outcome; settled_by = b.settled_by ∙ a.settled_by } in
-    either (λ (e : Client). is_firm (e.outcome h) ≡ true → Left c g place o h (e.outcome h) (e.settled_by h)) (settles_open (c.op g)) (with_no_opens d (create_for c g)) d
-    (λ _ q. let names = (create_for d h == create_for c g) && not (is_create (d.op h)) in let gone = is_gone_after d (create_for c g) (d.outcome (create_for c g)) in
+    either (λ (e : Client). is_firm (e.outcome h) ≡ true → Left c g place o h (e.outcome h) (e.settled_by h))
+    (settles_open (c.op g)) (with_no_opens d (create_for c g)) d
+    (λ _ q. let names = (create_for d h == create_for c g) && not (is_create (d.op h)) in let gone = is_gone_after d
+    (create_for c g) (d.outcome (create_for c g)) in
     let same = firm_given names (d.sent h) gone (create_for c g) (d.outcome h) q in
     subst (λ u. Left c g place o h u (d.settled_by h)) (sym same) (settled_left c f g place o h all (ap is_firm (sym same) ∙ q)))
     (λ _ q. settled_left c f g place o h all q)
@@ -107,9 +136,11 @@ settle_left c g asking r place o h =
 -- ---- along one event
 
 record Along (z : Settings) (es : List Event) (e : Event) (d : Client) : Type 0 where
-  found : (g : ℕ) → is_firm (d.outcome g) ≡ true → Answered z (es ++ e ∷ []) g ((run es (start z)).client.op g) (d.settled_by g) (d.outcome g)
+  found : (g : ℕ) → is_firm (d.outcome g) ≡ true → Answered z (es ++ e ∷ []) g ((run es (start z)).client.op g)
+      (d.settled_by g) (d.outcome g)
 
-later_answered : (z : Settings) (es : List Event) (e : Event) (g : ℕ) (op : Op) (settled_by : Option ℕ) (o : Outcome) → Answered z es g op settled_by o → Answered z (es ++ e ∷ []) g op settled_by o
+later_answered : (z : Settings) (es : List Event) (e : Event) (g : ℕ) (op : Op) (settled_by : Option ℕ) (o : Outcome)
+    → Answered z es g op settled_by o → Answered z (es ++ e ∷ []) g op settled_by o
 later_answered z es e g op settled_by o h =
     record {
       before = h.before;
@@ -125,27 +156,41 @@ later_answered z es e g op settled_by o h =
       settled = h.settled;
     }
 
-same_columns : (z : Settings) (es : List Event) (e : Event) (c d : Client) → d.outcome ≡ c.outcome → d.settled_by ≡ c.settled_by → Along z es e c → Along z es e d
+same_columns : (z : Settings) (es : List Event) (e : Event) (c d : Client) → d.outcome ≡ c.outcome → d.settled_by
+    ≡ c.settled_by → Along z es e c → Along z es e d
 same_columns z es e c d o b h =
     record {
-      found = λ g f. subst (λ u. Answered z (es ++ e ∷ []) g ((run es (start z)).client.op g) (u g) (d.outcome g)) (sym b) (subst (λ u. is_firm (u g) ≡ true → Answered z (es ++ e ∷ []) g ((run es (start z)).client.op g) (c.settled_by g) (u g)) (sym o) (h.found g) f);
+      found = λ g f. subst (λ u. Answered z (es ++ e ∷ []) g ((run es (start z)).client.op g) (u g) (d.outcome g))
+          (sym b) (subst (λ u. is_firm (u g) ≡ true → Answered z (es ++ e ∷ []) g ((run es (start z)).client.op g)
+          (c.settled_by g) (u g)) (sym o) (h.found g) f);
     }
 
-put_weak : (z : Settings) (es : List Event) (e : Event) (c : Client) (h : ℕ) (o : Outcome) → is_firm o ≡ false → Along z es e c → (g : ℕ) → is_firm (put c.outcome h o g) ≡ true → Answered z (es ++ e ∷ []) g ((run es (start z)).client.op g) (c.settled_by g) (put c.outcome h o g)
+put_weak : (z : Settings) (es : List Event) (e : Event) (c : Client) (h : ℕ) (o : Outcome) → is_firm o ≡ false
+    → Along z es e c → (g : ℕ) → is_firm (put c.outcome h o g) ≡ true → Answered z (es ++ e ∷ []) g
+    ((run es (start z)).client.op g) (c.settled_by g) (put c.outcome h o g)
 put_weak z es e c h o n i g f =
-    either (λ u. is_firm u ≡ true → Answered z (es ++ e ∷ []) g ((run es (start z)).client.op g) (c.settled_by g) u) (g == h) o (c.outcome g) (λ _ q. absent (is_firm o) _ q n) (λ _ q. i.found g q) f
+    either (λ u. is_firm u ≡ true → Answered z (es ++ e ∷ []) g ((run es (start z)).client.op g) (c.settled_by g) u)
+    (g == h) o (c.outcome g) (λ _ q. absent (is_firm o) _ q n) (λ _ q. i.found g q) f
 
 first_weak : (c : Client) (g : ℕ) (op : Op) → is_firm (outcome_at_first c g op) ≡ false
 first_weak c g op =
     let P : Outcome → Type 0 = λ r. is_firm r ≡ false in
-    either P (is_create op) Unsettled _ (λ _. refl) (λ _. either P (is_gone c (create_of g op)) (NoOpen (create_of g op)) Unsettled (λ _. refl) (λ _. refl))
+    either P (is_create op) Unsettled _ (λ _. refl) (λ _. either P (is_gone c (create_of g op))
+    (NoOpen (create_of g op)) Unsettled (λ _. refl) (λ _. refl))
 
-begun_along : (z : Settings) (es : List Event) (e : Event) (c : Client) (k g i : ℕ) → Along z es e c → Along z es e (outstanding (begun c g i) k g)
+begun_along : (z : Settings) (es : List Event) (e : Event) (c : Client) (k g i : ℕ) → Along z es e c
+    → Along z es e (outstanding (begun c g i) k g)
 begun_along z es e c k g i h =
     let P : Client → Type 0 = λ d. Along z es e (outstanding d k g) in
     either P (c.sent g) (again c g) (begin c g i)
-    (λ _. either P (is_lock (c.op g)) (record c { retried = put2 c.retried (create_for c g) (c.slot_of g) c.session_number }) c (λ _. same_columns z es e c _ refl refl h) (λ _. same_columns z es e c _ refl refl h))
-    (λ _. either P (is_lock (c.op g)) (record (take_slot c g i) { sent = put c.sent g true }) (record c { sent = put c.sent g true }) (λ _. same_columns z es e c _ refl refl h) (λ _. same_columns z es e c _ refl refl h))
+    (λ _. either P (is_lock (c.op g)) (record c {
+      retried = put2 c.retried (create_for c g) (c.slot_of g) c.session_number;
+    }) c
+    (λ _. same_columns z es e c _ refl refl h) (λ _. same_columns z es e c _ refl refl h))
+    (λ _. either P (is_lock (c.op g)) (record (take_slot c g i) { sent = put c.sent g true }) (record c {
+      sent = put c.sent g true;
+    }) (λ _. same_columns z es e c _ refl refl h)
+    (λ _. same_columns z es e c _ refl refl h))
 
 -- what is known at the world before the event
 record Known (z : Settings) (es : List Event) (e : Event) : Type 0 where
@@ -161,7 +206,9 @@ own_token : (asking : Bool) (g : ℕ) → (if asking then ForAttach g else ForOp
 own_token true g = refl
 own_token false g = refl
 
-settles_along : (z : Settings) (es : List Event) (e : Event) (k g : ℕ) (asking : Bool) (r : Reply) (place : ℕ) (o : Outcome) → Known z es e → Took (run es (start z)) e k g asking r place o → Along z es e (run es (start z)).client
+settles_along : (z : Settings) (es : List Event) (e : Event) (k g : ℕ) (asking : Bool) (r : Reply) (place : ℕ)
+    (o : Outcome) → Known z es e → Took (run es (start z)) e k g asking r place o
+    → Along z es e (run es (start z)).client
     → Along z es e (settle (run es (start z)).client g asking r place o)
 settles_along z es e k g asking r place o f t h =
     record { found = λ p q. by p _ _ (settle_left c g asking r place o p q) (subst (λ u. is_firm u ≡ true) refl q) }
@@ -172,8 +219,11 @@ settles_along z es e k g asking r place o f t h =
     m : Made z es t.reply
     m = f.made k 0 t.reply (front_down ((run es (start z)).conns k).down t.reply t.rest t.is)
 
-    by : (p : ℕ) (outcome : Outcome) (settled_by : Option ℕ) → Left c g place o p outcome settled_by → is_firm outcome ≡ true → Answered z (es ++ e ∷ []) p (c.op p) settled_by outcome
-    by p outcome settled_by (Stays was same place_same) q = subst (λ u. Answered z (es ++ e ∷ []) p (c.op p) u outcome) (sym place_same) (subst (λ u. Answered z (es ++ e ∷ []) p (c.op p) (c.settled_by p) u) (sym same) (h.found p was))
+    by : (p : ℕ) (outcome : Outcome) (settled_by : Option ℕ) → Left c g place o p outcome settled_by → is_firm outcome
+        ≡ true → Answered z (es ++ e ∷ []) p (c.op p) settled_by outcome
+    by p outcome settled_by (Stays was same place_same) q = subst (λ u. Answered z (es ++ e ∷ []) p (c.op p) u outcome)
+        (sym place_same) (subst (λ u. Answered z (es ++ e ∷ []) p (c.op p) (c.settled_by p) u) (sym same)
+        (h.found p was))
     by p outcome settled_by (Now pg same placed) q =
         subst (λ i. Answered z (es ++ e ∷ []) i (c.op i) settled_by outcome) (sym pg)
         (subst (λ u. Answered z (es ++ e ∷ []) g (c.op g) settled_by u) (sym same)
@@ -190,7 +240,8 @@ settles_along z es e k g asking r place o f t h =
           own = not asking;
           token = sym m.token ∙ (t.token ∙ own_token asking g);
           place = ap Some (sym t.at ∙ m.place);
-          settled = subst (λ u. SettledAs (c.op g) (not asking) u o) (sym t.says ∙ m.reply) (settles_as c g asking r o (f.here.client g).0 t.heard_as (ap is_firm (sym same) ∙ q));
+          settled = subst (λ u. SettledAs (c.op g) (not asking) u o) (sym t.says ∙ m.reply)
+              (settles_as c g asking r o (f.here.client g).0 t.heard_as (ap is_firm (sym same) ∙ q));
         }))))
 
 no_cut : (k : ℕ) (e : Event) (P : Type 0) → loses_nothing e ≡ true → e ≡ Cut k → P
@@ -202,9 +253,11 @@ no_finish e P l f = absent (loses_nothing e) P l (ap loses_nothing f.is)
 no_end : (z : Settings) (es : List Event) (e : Event) (g : ℕ) (P : Type 0) → Known z es e → Ending (run es (start z)) e g → P
 no_end z es e g P f d =
     let w = run es (start z) in
-    absurd ((f.here.told d.channel 0 d.reply (front_down (w.conns d.channel).down d.reply d.rest d.is)).0 (ap is_ops d.token ∙ op_token d.asking g) (heard_ends w.client g d.asking d.reply.reply d.heard_as))
+    absurd ((f.here.told d.channel 0 d.reply (front_down (w.conns d.channel).down d.reply d.rest d.is)).0
+    (ap is_ops d.token ∙ op_token d.asking g) (heard_ends w.client g d.asking d.reply.reply d.heard_as))
 
-along_small : (z : Settings) (es : List Event) (e : Event) → Known z es e → Along z es e (run es (start z)).client → Small (Along z es e) (run es (start z)) e
+along_small : (z : Settings) (es : List Event) (e : Event) → Known z es e → Along z es e (run es (start z)).client
+    → Small (Along z es e) (run es (start z)) e
 along_small z es e f h =
     let c = (run es (start z)).client in
     record {
@@ -226,8 +279,11 @@ along_small z es e f h =
       finishes = λ why d. no_finish e _ f.kept d;
     }
 
-takes_along : (z : Settings) (es : List Event) (e : Event) → Along z es e (run es (start z)).client → Takes (Along z es e) (run es (start z)) e
-takes_along z es e h g op is m = let c = (run es (start z)).client in record { found = put_weak z es e c g (outcome_at_first c g op) (first_weak c g op) h }
+takes_along : (z : Settings) (es : List Event) (e : Event) → Along z es e (run es (start z)).client
+    → Takes (Along z es e) (run es (start z)) e
+takes_along z es e h g op is m = let c = (run es (start z)).client in record {
+  found = put_weak z es e c g (outcome_at_first c g op) (first_weak c g op) h;
+}
 
 -- ---- the operations are the same ones
 
@@ -239,7 +295,8 @@ taken_same c g op p f =
     ] f
 
 same_op : (w : World) (e : Event) (g : ℕ) → is_firm ((happens w e).client.outcome g) ≡ true → (happens w e).client.op g ≡ w.client.op g
-same_op w (Submit p op) g = either (λ (c : Client). is_firm (c.outcome g) ≡ true → c.op g ≡ w.client.op g) (may_take w.client p op) (take_op w.client p op) w.client (λ _ f. taken_same w.client p op g f) (λ _ f. refl)
+same_op w (Submit p op) g = either (λ (c : Client). is_firm (c.outcome g) ≡ true → c.op g ≡ w.client.op g)
+    (may_take w.client p op) (take_op w.client p op) w.client (λ _ f. taken_same w.client p op g f) (λ _ f. refl)
 same_op w (Open k) g = λ f. ap (λ u. u g) (taken_on w (Open k) refl).op
 same_op w (Push k slotless pick) g = λ f. ap (λ u. u g) (taken_on w (Push k slotless pick) refl).op
 same_op w (Serve k) g = λ f. ap (λ u. u g) (taken_on w (Serve k) refl).op
@@ -256,22 +313,31 @@ same_op w (Finish refusal) g = λ f. ap (λ u. u g) (taken_on w (Finish refusal)
 kept_front : (es : List Event) (e : Event) → without_losses (es ++ e ∷ []) ≡ true → without_losses es ≡ true × loses_nothing e ≡ true
 unfolding without_losses
 kept_front [] e l = (refl, front_of (loses_nothing e) true l)
-kept_front (x ∷ xs) e l = let h = kept_front xs e (back_of (loses_nothing x) _ l) in (both (loses_nothing x) (without_losses xs) (front_of (loses_nothing x) _ l) h.0, h.1)
+kept_front (x ∷ xs) e l = let h = kept_front xs e (back_of (loses_nothing x) _ l) in
+    (both (loses_nothing x) (without_losses xs) (front_of (loses_nothing x) _ l) h.0, h.1)
   where
     both : (a b : Bool) → a ≡ true → b ≡ true → (a && b) ≡ true
     both a b e f = grind arith
 
 abbrev AnsweredAll : Settings → List Event → Type 0
-AnsweredAll z es = without_losses es ≡ true → (g : ℕ) → is_firm ((run es (start z)).client.outcome g) ≡ true → Answered z es g ((run es (start z)).client.op g) ((run es (start z)).client.settled_by g) ((run es (start z)).client.outcome g)
+AnsweredAll z es = without_losses es ≡ true → (g : ℕ) → is_firm ((run es (start z)).client.outcome g) ≡ true
+    → Answered z es g ((run es (start z)).client.op g) ((run es (start z)).client.settled_by g)
+    ((run es (start z)).client.outcome g)
 
 one_more : (z : Settings) (es : List Event) (e : Event) → AnsweredAll z es → AnsweredAll z (es ++ e ∷ [])
 one_more z es e i l g f =
     let w = run es (start z) in let k = kept_front es e l in
-    let base : Along z es e w.client = record { found = λ p q. later_answered z es e p (w.client.op p) (w.client.settled_by p) (w.client.outcome p) (i k.0 p q) } in
+    let base : Along z es e w.client = record {
+      found = λ p q. later_answered z es e p (w.client.op p) (w.client.settled_by p) (w.client.outcome p)
+          (i k.0 p q);
+    } in
     let known : Known z es e = record { here = unlost_at z (session_found z) es k.0; made = made z es; kept = k.1 } in
-    let behind : Along z es e (happens w e).client = client_keeps (Along z es e) w e (takes_along z es e base) (along_small z es e known base) base in
-    subst (λ (v : World). is_firm (v.client.outcome g) ≡ true → Answered z (es ++ e ∷ []) g (v.client.op g) (v.client.settled_by g) (v.client.outcome g)) (sym (run_more es e (start z)))
-    (λ q. subst (λ op. Answered z (es ++ e ∷ []) g op ((happens w e).client.settled_by g) ((happens w e).client.outcome g)) (sym (same_op w e g q)) (behind.found g q)) f
+    let behind : Along z es e (happens w e).client = client_keeps (Along z es e) w e (takes_along z es e base)
+    (along_small z es e known base) base in
+    subst (λ (v : World). is_firm (v.client.outcome g) ≡ true → Answered z (es ++ e ∷ []) g (v.client.op g)
+    (v.client.settled_by g) (v.client.outcome g)) (sym (run_more es e (start z)))
+    (λ q. subst (λ op. Answered z (es ++ e ∷ []) g op ((happens w e).client.settled_by g)
+    ((happens w e).client.outcome g)) (sym (same_op w e g q)) (behind.found g q)) f
 
 none_answered : (z : Settings) → AnsweredAll z []
 unfolding run
@@ -294,14 +360,20 @@ same_clear c d o h = record { clear = λ g. subst (λ u. is_known (u g) ≡ true
 first_clear : (c : Client) (g : ℕ) (op : Op) → is_known (outcome_at_first c g op) ≡ true
 first_clear c g op =
     let P : Outcome → Type 0 = λ r. is_known r ≡ true in
-    either P (is_create op) Unsettled _ (λ _. refl) (λ _. either P (is_gone c (create_of g op)) (NoOpen (create_of g op)) Unsettled (λ _. refl) (λ _. refl))
+    either P (is_create op) Unsettled _ (λ _. refl) (λ _. either P (is_gone c (create_of g op))
+    (NoOpen (create_of g op)) Unsettled (λ _. refl) (λ _. refl))
 
 begun_clear : (c : Client) (k g i : ℕ) → Clear c → Clear (outstanding (begun c g i) k g)
 begun_clear c k g i h =
     let P : Client → Type 0 = λ d. Clear (outstanding d k g) in
     either P (c.sent g) (again c g) (begin c g i)
-    (λ _. either P (is_lock (c.op g)) (record c { retried = put2 c.retried (create_for c g) (c.slot_of g) c.session_number }) c (λ _. same_clear c _ refl h) (λ _. same_clear c _ refl h))
-    (λ _. either P (is_lock (c.op g)) (record (take_slot c g i) { sent = put c.sent g true }) (record c { sent = put c.sent g true }) (λ _. same_clear c _ refl h) (λ _. same_clear c _ refl h))
+    (λ _. either P (is_lock (c.op g)) (record c {
+      retried = put2 c.retried (create_for c g) (c.slot_of g) c.session_number;
+    }) c (λ _. same_clear c _ refl h)
+    (λ _. same_clear c _ refl h))
+    (λ _. either P (is_lock (c.op g)) (record (take_slot c g i) { sent = put c.sent g true }) (record c {
+      sent = put c.sent g true;
+    }) (λ _. same_clear c _ refl h) (λ _. same_clear c _ refl h))
 
 given_clear : (a b c : Bool) (create : ℕ) (o : Outcome) → is_known o ≡ true → is_known (without_open a b c create o) ≡ true
 given_clear a b c create Unsettled h = either (λ r. is_known r ≡ true) (a && (not b && c)) (NoOpen create) Unsettled (λ _. refl) (λ _. refl)
@@ -311,37 +383,50 @@ given_clear a b c create (NoSlot n) h = h
 given_clear a b c create (NoOpen n) h = h
 given_clear a b c create (Unknown why) h = h
 
-settle_clear : (c : Client) (g : ℕ) (asking : Bool) (r : Reply) (place : ℕ) (o : Outcome) → is_known o ≡ true → Clear c → Clear (settle c g asking r place o)
+settle_clear : (c : Client) (g : ℕ) (asking : Bool) (r : Reply) (place : ℕ) (o : Outcome) → is_known o ≡ true → Clear c
+    → Clear (settle c g asking r place o)
 settle_clear c g asking r place o n h =
     let m = noted c g o r.body in let f = noted_full m g asking r.status in let d = settled f g o place in
     let same : f.outcome ≡ c.outcome = (full_alike m g asking r.status).outcome ∙ (noted_alike c g o r.body).outcome in
     let i : Clear d = record { clear = put_clear f g o n (same_clear c f same h) } in
     either Clear (settles_open (c.op g)) (with_no_opens d (create_for c g)) d
-    (λ _. record { clear = λ x. given_clear ((create_for d x == create_for c g) && not (is_create (d.op x))) (d.sent x) (is_gone_after d (create_for c g) (d.outcome (create_for c g))) (create_for c g) (d.outcome x) (i.clear x) }) (λ _. i)
+    (λ _. record {
+      clear = λ x. given_clear ((create_for d x == create_for c g) && not (is_create (d.op x))) (d.sent x)
+          (is_gone_after d (create_for c g) (d.outcome (create_for c g))) (create_for c g) (d.outcome x) (i.clear x);
+    })
+    (λ _. i)
 
 read_clear : (o : Outcome) (u : Option OpReply) → is_some u ≡ true → ok_or_unknown u ≡ Settles o → is_known o ≡ true
 read_clear o (Some reply) s e = subst (λ x. is_known x ≡ true) (same_settled (WasOk reply) o e) refl
 read_clear o None s e = absurd (cc)
 
 -- what a reply comes to, where a success reads and no copy is unanswered
-heard_clear : (c : Client) (g : ℕ) (asking : Bool) (r : Reply) (o : Outcome) → c.unanswered g ≡ false → (asking ≡ false → r.status ≡ success → is_some (value_in (c.op g) r.body) ≡ true) → heard c g asking r ≡ Settles o → is_known o ≡ true
+heard_clear : (c : Client) (g : ℕ) (asking : Bool) (r : Reply) (o : Outcome) → c.unanswered g ≡ false
+    → (asking ≡ false → r.status ≡ success → is_some (value_in (c.op g) r.body) ≡ true) → heard c g asking r ≡ Settles o
+    → is_known o ≡ true
 heard_clear c g asking r o b reads =
     let P : Hearing → Type 0 = λ h. h ≡ Settles o → is_known o ≡ true in
     either P (r.status == user_session_deleted) _ _ (λ _ e. absurd (cc))
     (λ _. either P (r.status == success) (if asking then Attaches else ok_or_unknown (value_in (c.op g) r.body)) _
-    (λ s. either P asking Attaches _ (λ _ e. absurd (cc)) (λ own e. read_clear o (value_in (c.op g) r.body) (reads own (eqb-true r.status success s)) e))
+    (λ s. either P asking Attaches _ (λ _ e. absurd (cc)) (λ own e. read_clear o (value_in (c.op g) r.body)
+    (reads own (eqb-true r.status success s)) e))
     (λ s. either P (goes_again c g asking r.status) GoesAgain _ (λ _ e. absurd (cc))
-    (λ _ e. subst (λ x. is_known x ≡ true) (same_settled (WasRefused r.status) o (ap (λ x. refused (c.op g) asking x r.status) (sym b) ∙ e)) refl)))
+    (λ _ e. subst (λ x. is_known x ≡ true)
+    (same_settled (WasRefused r.status) o (ap (λ x. refused (c.op g) asking x r.status) (sym b) ∙ e)) refl)))
 
-settles_clear : (z : Settings) (es : List Event) (e : Event) (k g : ℕ) (asking : Bool) (r : Reply) (place : ℕ) (o : Outcome) → Known z es e → Took (run es (start z)) e k g asking r place o → Clear (run es (start z)).client → Clear (settle (run es (start z)).client g asking r place o)
+settles_clear : (z : Settings) (es : List Event) (e : Event) (k g : ℕ) (asking : Bool) (r : Reply) (place : ℕ)
+    (o : Outcome) → Known z es e → Took (run es (start z)) e k g asking r place o → Clear (run es (start z)).client
+    → Clear (settle (run es (start z)).client g asking r place o)
 settles_clear z es e k g asking r place o f t h =
     let w = run es (start z) in
     settle_clear w.client g asking r place o
     (heard_clear w.client g asking r o (f.here.client g).0
     (λ own s. subst (λ q. is_some (value_in (w.client.op g) q.body) ≡ true) t.says
-    (reading z es k 0 t.reply (front_down (w.conns k).down t.reply t.rest t.is) g (t.token ∙ ap (λ b. if b then ForAttach g else ForOp g) own) (ap (λ q. q.status) t.says ∙ s))) t.heard_as) h
+    (reading z es k 0 t.reply (front_down (w.conns k).down t.reply t.rest t.is) g
+    (t.token ∙ ap (λ b. if b then ForAttach g else ForOp g) own) (ap (λ q. q.status) t.says ∙ s))) t.heard_as) h
 
-clear_small : (z : Settings) (es : List Event) (e : Event) → Known z es e → Clear (run es (start z)).client → Small Clear (run es (start z)) e
+clear_small : (z : Settings) (es : List Event) (e : Event) → Known z es e → Clear (run es (start z)).client
+    → Small Clear (run es (start z)) e
 clear_small z es e f h =
     let c = (run es (start z)).client in
     record {
@@ -371,7 +456,10 @@ one_clear z es e i l =
     let w = run es (start z) in let k = kept_front es e l in let h = i k.0 in
     let known : Known z es e = record { here = unlost_at z (session_found z) es k.0; made = made z es; kept = k.1 } in
     subst (λ (v : World). Clear v.client) (sym (run_more es e (start z)))
-    (client_keeps Clear w e (λ g op is m. record { clear = put_clear w.client g (outcome_at_first w.client g op) (first_clear w.client g op) h }) (clear_small z es e known h) h)
+    (client_keeps Clear w e (λ g op is m. record {
+      clear = put_clear w.client g (outcome_at_first w.client g op) (first_clear w.client g op) h;
+    })
+    (clear_small z es e known h) h)
 
 none_clear : (z : Settings) → ClearAll z []
 unfolding run

@@ -1,12 +1,12 @@
 -- On every run a success that waits reads as its operation's, and each reply that waits was made at some Serve.
 use Rattle.std.proofs.lemmas.List.{append-nil, append_assoc}
-use Rattle.std.proofs.Common.{◌≡◌, ◌≢◌, ℕ, ◌+◌, ◌≤◌, ◌<◌, ◌==◌, Bool, true, false, not, List, [], ◌∷◌, ◌++◌, refl, arith, sym, subst, ◌∙◌, ap, eqb-true, Option, Some, None, is_some, slice_get}
-use Rattle.exchange_defs.specs.Table.{put}
+use Rattle.std.proofs.Common.{◌≡◌, ◌≢◌, ℕ, ◌+◌, ◌≤◌, ◌==◌, true, false, not, List, [], ◌∷◌, ◌++◌, refl, arith, sym}
+use Rattle.std.proofs.Common.{subst, ◌∙◌, ap, eqb-true}
 use Rattle.exchange_defs.specs.Status.{success}
-use Rattle.exchange_defs.specs.Commands.{Command}
-use Rattle.exchange_defs.specs.Operations.{Op, Outcome, value_in, request_of}
+use Rattle.exchange_defs.specs.Operations.{Op, request_of}
 use Rattle.exchange_defs.specs.Client.{Client, guid_for, may_take, take_op}
-use Rattle.exchange_defs.specs.Network.{World, Event, Submit, Open, Push, Serve, Take, Cut, Drop, Restart, Crash, Wait, Finish, Sent, Received, ForOp, Settings, run, start, happens, later, answer}
+use Rattle.exchange_defs.specs.Network.{World, Event, Submit, Open, Push, Serve, Take, Cut, Drop, Restart, Crash, Wait}
+use Rattle.exchange_defs.specs.Network.{Finish, Sent, Received, ForOp, Settings, run, start, happens, later, answer}
 use Rattle.exchange_law.specs.Connections.{Connections, create_at, its_request}
 use Rattle.exchange_law.proofs.Lists.{front_up}
 use Rattle.exchange_law.proofs.Run.{connections}
@@ -23,7 +23,8 @@ use Rattle.outcomes_law.proofs.Reading.{reads, own_reads}
 
 -- ---- induction at the end of a list of events, for what speaks of the list too
 
-along : (P : List Event → Type 0) → ((es : List Event) (e : Event) → P es → P (es ++ e ∷ [])) → (before es : List Event) → P before → P (before ++ es)
+along : (P : List Event → Type 0) → ((es : List Event) (e : Event) → P es → P (es ++ e ∷ [])) → (before es : List Event)
+    → P before → P (before ++ es)
 along P step before [] p = subst P (sym (append-nil before)) p
 along P step before (e ∷ es) p = subst P (append_assoc before (e ∷ []) es) (along P step (before ++ e ∷ []) es (step before e p))
 
@@ -42,29 +43,38 @@ its_is : (op : Op) (guid file slot number : ℕ) → its_request op guid file sl
 unfolding its_request
 its_is op guid file slot number = refl
 
-new_reads : (w : World) (a : ℕ → ℕ) → Connections w.client w.conns a → RefusedStatus (seen w.server) → (k : ℕ) (x : Sent) (rest : List Sent) → (w.conns k).up ≡ x ∷ rest
+new_reads : (w : World) (a : ℕ → ℕ) → Connections w.client w.conns a → RefusedStatus (seen w.server)
+    → (k : ℕ) (x : Sent) (rest : List Sent) → (w.conns k).up ≡ x ∷ rest
     → ReadsAll w.client.op (record { token = x.token; reply = (answer w x).reply; place = w.log.places })
 new_reads w a cn kept k x rest is g t q =
     let b = cn.bodies k 0 g x (front_up (w.conns k).up x rest is) t in
-    own_reads (w.client.op g) (guid_for w.client g) (w.client.file (create_at w.client g)) (w.client.slot_of g) (w.client.number_of g) w.server w.moment x.message
+    own_reads (w.client.op g) (guid_for w.client g) (w.client.file (create_at w.client g)) (w.client.slot_of g)
+    (w.client.number_of g) w.server w.moment x.message
     (λ y h status e. ap not (kept y h status e)) (b.1 ∙ its_is (w.client.op g) _ _ _ _) b.3 q
 
-reads_other : (w : World) (a : ℕ → ℕ) (e : Event) → is_submit e ≡ false → Connections w.client w.conns a → RefusedStatus (seen w.server) → Reading w → Reading (happens w e)
+reads_other : (w : World) (a : ℕ → ℕ) (e : Event) → is_submit e ≡ false → Connections w.client w.conns a
+    → RefusedStatus (seen w.server) → Reading w → Reading (happens w e)
 reads_other w a e n cn kept h =
-    subst (λ ops. AllDown (ReadsAll ops) (happens w e).conns) (sym (taken_on w e n).op) (still_all_down (ReadsAll w.client.op) w e (λ k x rest s is o. new_reads w a cn kept k x rest is) h)
+    subst (λ ops. AllDown (ReadsAll ops) (happens w e).conns) (sym (taken_on w e n).op)
+    (still_all_down (ReadsAll w.client.op) w e (λ k x rest s is o. new_reads w a cn kept k x rest is) h)
 
 below_new : (p g taken : ℕ) → p ≤ taken → g ≡ taken + 1 → p ≢ g
 below_new p g taken l n z = absurd (omega (arith, l, n, z))
 
-reads_submit : (w : World) (a : ℕ → ℕ) (g : ℕ) (op : Op) → may_take w.client g op ≡ true → Connections w.client w.conns a → Reading w → AllDown (ReadsAll (take_op w.client g op).op) w.conns
+reads_submit : (w : World) (a : ℕ → ℕ) (g : ℕ) (op : Op) → may_take w.client g op ≡ true → Connections w.client w.conns
+    a → Reading w → AllDown (ReadsAll (take_op w.client g op).op) w.conns
 reads_submit w a g op m cn h k n y at p t q =
     let low = cn.taken p (cn.sent_replies k n p y at t) in
-    let same = put_off w.client.op g op p (below_new p g w.client.taken low.1 (eqb-true g (w.client.taken + 1) (front_of (g == w.client.taken + 1) _ m))) in
+    let same = put_off w.client.op g op p
+    (below_new p g w.client.taken low.1 (eqb-true g (w.client.taken + 1) (front_of (g == w.client.taken + 1) _ m)))
+    in
     subst (λ o. reads o y.reply.body ≡ true) (sym same) (h k n y at p t q)
 
-reads_on : (w : World) (a : ℕ → ℕ) (e : Event) → Connections w.client w.conns a → RefusedStatus (seen w.server) → Reading w → Reading (happens w e)
+reads_on : (w : World) (a : ℕ → ℕ) (e : Event) → Connections w.client w.conns a → RefusedStatus (seen w.server)
+    → Reading w → Reading (happens w e)
 reads_on w a (Submit g op) cn kept h =
-    either (λ (c : Client). Reading (later (record w { client = c }) 1)) (may_take w.client g op) (take_op w.client g op) w.client (λ m. reads_submit w a g op m cn h) (λ _. h)
+    either (λ (c : Client). Reading (later (record w { client = c }) 1)) (may_take w.client g op)
+    (take_op w.client g op) w.client (λ m. reads_submit w a g op m cn h) (λ _. h)
 reads_on w a (Open k) cn kept h = reads_other w a (Open k) refl cn kept h
 reads_on w a (Push k slotless pick) cn kept h = reads_other w a (Push k slotless pick) refl cn kept h
 reads_on w a (Serve k) cn kept h = reads_other w a (Serve k) refl cn kept h
@@ -77,7 +87,8 @@ reads_on w a (Wait n) cn kept h = reads_other w a (Wait n) refl cn kept h
 reads_on w a (Finish refusal) cn kept h = reads_other w a (Finish refusal) refl cn kept h
 
 pub reading : (z : Settings) (es : List Event) → Reading (run es (start z))
-reading z es = on_every_run (λ w a. Reading w) z (λ k n y at. absurd (cc)) (λ xs e h. reads_on (run xs (start z)) _ e (connections z xs) (creates z xs).refused_status h) es
+reading z es = on_every_run (λ w a. Reading w) z (λ k n y at. absurd (cc)) (λ xs e h. reads_on (run xs (start z)) _ e
+    (connections z xs) (creates z xs).refused_status h) es
 
 pub success_reads : SuccessReads
 success_reads z es k n g y at t q = reading z es k n y at g t q
@@ -124,5 +135,16 @@ made z =
     (λ es e h. let w = run es (start z) in
     subst (λ (v : World). AllDown (Made z (es ++ e ∷ [])) v.conns) (sym (run_more es e (start z)))
     (still_all_down (Made z (es ++ e ∷ [])) w e
-    (λ k x rest s is o. record { before = es; after = []; channel = k; is = ap (λ v. es ++ v ∷ []) s; front = x; rest = rest; waits = is; token = refl; reply = refl; place = refl })
+    (λ k x rest s is o. record {
+      before = es;
+      after = [];
+      channel = k;
+      is = ap (λ v. es ++ v ∷ []) s;
+      front = x;
+      rest = rest;
+      waits = is;
+      token = refl;
+      reply = refl;
+      place = refl;
+    })
     (λ k n y at. made_later z es e y (h k n y at))))

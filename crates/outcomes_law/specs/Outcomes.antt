@@ -3,7 +3,7 @@ use Rattle.std.specs.Prelude.{◌≡◌, ◌≢◌, ℕ, Bool, true, false, if�
 use Rattle.exchange_defs.specs.Status.{success}
 use Rattle.exchange_defs.specs.State.{Reply}
 use Rattle.exchange_defs.specs.Operations.{Op, OpReply, Outcome, WasOk, WasRefused, Unknown, is_firm, value_in}
-use Rattle.exchange_defs.specs.Network.{World, Event, Serve, Sent, Received, ForOp, ForAttach, Settings, run, start, answer, may_serve}
+use Rattle.exchange_defs.specs.Network.{Event, Serve, Sent, Received, ForOp, ForAttach, Settings, run, start, answer}
 use Rattle.completeness_law.specs.Completeness.{without_losses}
 
 -- ---- a success reads
@@ -12,7 +12,8 @@ use Rattle.completeness_law.specs.Completeness.{without_losses}
 -- one that doesn't.
 abbrev pub SuccessReads : Type 0
 SuccessReads =
-    (z : Settings) (events : List Event) (k n g : ℕ) (y : Received) → slice_get ((run events (start z)).conns k).down n ≡ Some y → y.token ≡ ForOp g → y.reply.status ≡ success
+    (z : Settings) (events : List Event) (k n g : ℕ) (y : Received) → slice_get ((run events (start z)).conns k).down n
+    ≡ Some y → y.token ≡ ForOp g → y.reply.status ≡ success
     → is_some (value_in ((run events (start z)).client.op g) y.reply.body) ≡ true
 
 -- ---- runs on which nothing is lost
@@ -49,4 +50,6 @@ abbrev pub AllAnswered : Type 0
 AllAnswered =
     (z : Settings) (events : List Event) → without_losses events ≡ true → (g : ℕ)
     → is_known ((run events (start z)).client.outcome g) ≡ true
-    × (is_firm ((run events (start z)).client.outcome g) ≡ true → Answered z events g ((run events (start z)).client.op g) ((run events (start z)).client.settled_by g) ((run events (start z)).client.outcome g))
+    × (is_firm ((run events (start z)).client.outcome g) ≡ true
+    → Answered z events g ((run events (start z)).client.op g) ((run events (start z)).client.settled_by g)
+    ((run events (start z)).client.outcome g))

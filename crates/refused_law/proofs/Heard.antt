@@ -54,7 +54,9 @@ begun_was : (w : World) (e : Event) (c : Client) (k g i : ℕ) → Was w e c →
 begun_was w e c k g i h =
     let P : Client → Type 0 = λ d. Was w e (outstanding d k g) in
     either P (c.sent g) (again c g) (begin c g i)
-    (λ _. either P (is_lock (c.op g)) (record c { retried = put2 c.retried (create_for c g) (c.slot_of g) c.session_number }) c (λ _. h) (λ _. h))
+    (λ _. either P (is_lock (c.op g)) (record c {
+      retried = put2 c.retried (create_for c g) (c.slot_of g) c.session_number;
+    }) c (λ _. h) (λ _. h))
     (λ _. either P (is_lock (c.op g)) (record (take_slot c g i) { sent = put c.sent g true }) (record c {
       sent = put c.sent g true;
     }) (λ _. h) (λ _. h))

@@ -26,7 +26,7 @@ use Rattle.lock_law.specs.Locks.{Locks}
 use Rattle.lock_law.proofs.Law.{locks}
 use Rattle.order_law.specs.Contents.{edits, isolating}
 use Rattle.order_law.proofs.Taking.{new_log, first_none, first_kept, first_new}
-use Rattle.order_law.proofs.Front.{Lower, Holds}
+use Rattle.order_law.proofs.Front.{Lower, ContentsHold}
 use Rattle.order_law.proofs.Run.{lower, contents}
 use Rattle.order_law.proofs.Words.{ops_of, put_other}
 use Rattle.order_law.proofs.Table.{below_taken}
@@ -45,7 +45,7 @@ clash b e f = absurd (grind arith)
 -- what is known of a world of a run
 record Known (w : World) (a : ℕ → ℕ) : Type 0 where
   lower : Lower w a
-  holds : Holds w a
+  holds : ContentsHold w a
   locks : Locks w.client w.conns w.server a
 
 -- ---- the places behind an event
@@ -181,7 +181,8 @@ by_reply w a e g status f h gd b = by_kind b.asking refl (w.client.unanswered g)
         (copy z).1
 
     by_kind : (asking : Bool) → b.asking ≡ asking → (before : Bool) → w.client.unanswered g ≡ before → w.log.first g ≡ None
-    by_kind true k false z = f.holds.unacted g gd.edit z (out (w.client.asks_attach g) (w.client.outstanding_on g) (b.took.asks ∙ k)) pending
+    by_kind true k false z = f.holds.unacted g gd.edit z (out (w.client.asks_attach g) (w.client.outstanding_on g)
+        (b.took.asks ∙ k)) pending
     by_kind true k true z = absurd (asked_off k z)
     by_kind false k false z = f.holds.not_done b.channel 0 g b.took.reply f0
         (b.took.token ∙ ap (λ c. if c then ForAttach g else ForOp g) k) gd.edit (ap (λ n. n == success) same_status

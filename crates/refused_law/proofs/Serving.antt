@@ -18,7 +18,7 @@ use Rattle.order_law.proofs.Words.{ops_of}
 use Rattle.order_law.proofs.Requests.{asks_of, well_formed}
 use Rattle.order_law.proofs.Listed.{asks}
 use Rattle.order_law.proofs.Served.{ListedFacts, listed_facts}
-use Rattle.order_law.proofs.Front.{Lower, Holds}
+use Rattle.order_law.proofs.Front.{Lower, ContentsHold}
 use Rattle.order_law.proofs.Server.{open_of_down}
 use Rattle.refused_law.specs.Refusals.{Guarded, refuses_writes}
 use Rattle.refused_law.proofs.Busy.{Spared, busy_answer}
@@ -59,11 +59,11 @@ record Front (w : World) (a : ℕ → ℕ) (k g : ℕ) (x : Sent) : Type 0 where
   waits : slice_get (w.conns k).up 0 ≡ Some x
   own : x.token ≡ ForOp g
   lower : Lower w a
-  holds : Holds w a
+  holds : ContentsHold w a
   edit : edits (w.client.op g) ≡ true
 
 the_front : (w : World) (a : ℕ → ℕ) (k g : ℕ) (x : Sent) (rest : List Sent) → (w.conns k).up ≡ x ∷ rest → Lower w a
-    → Holds w a → x.token ≡ ForOp g → edits (w.client.op g) ≡ true → Front w a k g x
+    → ContentsHold w a → x.token ≡ ForOp g → edits (w.client.op g) ≡ true → Front w a k g x
 the_front w a k g x rest is l i own ed = record { waits = front_up (w.conns k).up x rest is; own = own; lower = l; holds = i; edit = ed }
 
 its_form : (w : World) (a : ℕ → ℕ) (k g : ℕ) (x : Sent) → Front w a k g x → form x.message.command ≡ None → formed (w.client.op g) ≡ true
@@ -91,7 +91,7 @@ still_pends w a k g x f fm st at le = f.holds.live_unsettled k 0 g x f.waits f.o
 -- ---- a write that is refused hasn't acted
 
 pub refused_unacted : (w : World) (a : ℕ → ℕ) (k g : ℕ) (x : Sent) (rest : List Sent) → (w.conns k).up ≡ x ∷ rest
-    → Lower w a → Holds w a → x.token ≡ ForOp g → Guarded w.client.op g → is_write (w.client.op g) ≡ true
+    → Lower w a → ContentsHold w a → x.token ≡ ForOp g → Guarded w.client.op g → is_write (w.client.op g) ≡ true
     → refuses_writes (answer w x).reply.status ≡ true
     → w.log.first g ≡ None
 refused_unacted w a k g x rest is l i own gd wr bad = by_bytes (writes_bytes (w.client.op g) wr)
@@ -127,7 +127,7 @@ two_copies : (n m : ℕ) → 1 ≤ n → 1 ≤ m → n + m ≤ 1 → ⊥
 two_copies n m a b c = absurd (omega (arith, a, b, c))
 
 pub no_act_behind : (w : World) (a : ℕ → ℕ) (k g : ℕ) (x : Sent) (rest : List Sent) → (w.conns k).up ≡ x ∷ rest
-    → Lower w a → Holds w a → x.token ≡ ForOp g → edits (w.client.op g) ≡ true
+    → Lower w a → ContentsHold w a → x.token ≡ ForOp g → edits (w.client.op g) ≡ true
     → (j n : ℕ) (y : Received) → slice_get (w.conns j).down n ≡ Some y → y.token ≡ ForOp g
     → refuses_writes y.reply.status ≡ true → (answer w x).acted ≡ true → ⊥
 no_act_behind w a k g x rest is l i own ed j n y h yt bad ac =
@@ -150,7 +150,7 @@ no_act_behind w a k g x rest is l i own ed j n y h yt bad ac =
 -- ---- nor one that settled
 
 pub no_act_settled : (w : World) (a : ℕ → ℕ) (k g status : ℕ) (x : Sent) (rest : List Sent) → (w.conns k).up ≡ x ∷ rest
-    → Lower w a → Holds w a → x.token ≡ ForOp g → edits (w.client.op g) ≡ true → w.client.outcome g ≡ WasRefused status
+    → Lower w a → ContentsHold w a → x.token ≡ ForOp g → edits (w.client.op g) ≡ true → w.client.outcome g ≡ WasRefused status
     → (answer w x).acted ≡ true → ⊥
 no_act_settled w a k g status x rest is l i own ed r ac =
     let f = the_front w a k g x rest is l i own ed in let d = (its_facts w a k g x f).acts ac in
@@ -165,6 +165,6 @@ no_act_settled w a k g status x rest is l i own ed r ac =
 
 -- one that acts succeeds
 pub acts_well : (w : World) (a : ℕ → ℕ) (k g : ℕ) (x : Sent) (rest : List Sent) → (w.conns k).up ≡ x ∷ rest → Lower w a
-    → Holds w a → x.token ≡ ForOp g → edits (w.client.op g) ≡ true → (answer w x).acted ≡ true
+    → ContentsHold w a → x.token ≡ ForOp g → edits (w.client.op g) ≡ true → (answer w x).acted ≡ true
     → (answer w x).reply.status ≡ success
 acts_well w a k g x rest is l i own ed ac = ((its_facts w a k g x (the_front w a k g x rest is l i own ed)).acts ac).4
