@@ -61,9 +61,10 @@ pub record Ending (w : World) (e : Event) (g : ℕ) : Type 0 where
   pub heard_as : heard w.client g asking reply.reply ≡ EndsSession
 
 -- no session is to be had
-pub record Finishing (e : Event) : Type 0 where
+pub record Finishing (e : Event) (why : Why) : Type 0 where
   pub refusal : Refusal
   pub is : e ≡ Finish refusal
+  pub because : why ≡ NoSession refusal
 
 -- the small steps; behind a push the client may be another one that P holds of
 pub record Small (P : Client → Type 0) (w : World) (e : Event) : Type 0 where
@@ -88,7 +89,7 @@ pub record Small (P : Client → Type 0) (w : World) (e : Event) : Type 0 where
   pub begins : (k tree : ℕ) → w.client.stage k ≡ AskedTree → (w.conns k).client_open ≡ true → w.client.live ≡ false
       → P (begin_session w.client k w.client.pending tree)
   pub leaves : (k : ℕ) (rs : List RefusedDialog) → P (record (leave_dialog w.client k) { refusals = rs })
-  pub finishes : (why : Why) → Finishing e → P (finish w.client why)
+  pub finishes : (why : Why) → Finishing e why → P (finish w.client why)
 
 slotless_one : (P : Client → Type 0) (w : World) (ev : Event) → Small P w ev → (c : Client) (k g : ℕ)
     → Slotless w ev c k g → P c → P (settle_no_slot c k g)
@@ -266,4 +267,4 @@ client_keeps P w (Crash k kept) t s h = either (λ (v : World). P v.client) (may
     (λ _. subst P (sym (crash_client w k kept)) h) (λ _. h)
 client_keeps P w (Wait n) t s h = h
 client_keeps P w (Finish refusal) t s h = either (λ (v : World). P v.client) (not w.client.live) _ _
-    (λ _. s.finishes (NoSession refusal) (record { refusal = refusal; is = refl })) (λ _. h)
+    (λ _. s.finishes (NoSession refusal) (record { refusal = refusal; is = refl; because = refl })) (λ _. h)

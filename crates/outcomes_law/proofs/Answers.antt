@@ -7,6 +7,7 @@ use Rattle.exchange_defs.specs.Status.{success, user_session_deleted, disk_full}
 use Rattle.exchange_defs.specs.State.{Reply, Body}
 use Rattle.exchange_defs.specs.Operations.{Op, OpReply, Outcome, Unsettled, WasOk, WasRefused, NoSlot, NoOpen, Unknown}
 use Rattle.exchange_defs.specs.Operations.{is_create, is_lock, is_close, is_firm, create_of, id_in, value_in}
+use Rattle.exchange_defs.specs.Operations.{Why}
 use Rattle.exchange_defs.specs.Client.{Client, create_for, may_take, take_op, is_gone, is_gone_after, outcome_at_first}
 use Rattle.exchange_defs.specs.Client.{begun, begin, again, take_slot, outstanding}
 use Rattle.exchange_defs.specs.Settling.{Heard as Hearing, Settles, GoesAgain, Attaches, heard, settle, settled, noted}
@@ -31,7 +32,7 @@ absent b P e f = absurd (cc)
 
 -- ---- what a reply settles as, where no copy is unanswered
 
-same_settled : (x y : Outcome) → Settles x ≡ Settles y → x ≡ y
+pub same_settled : (x y : Outcome) → Settles x ≡ Settles y → x ≡ y
 same_settled x y e = cc
 
 other_status : (n m : ℕ) → (n == m) ≡ false → n ≢ m
@@ -64,14 +65,14 @@ data Left (c : Client) (g place : ℕ) (o : Outcome) (h : ℕ) (outcome : Outcom
   Now : h ≡ g → outcome ≡ o → settled_by ≡ Some place → Left c g place o h outcome settled_by
 
 -- columns that noting leaves alone
-record Alike (c d : Client) : Type 0 where
-  outcome : d.outcome ≡ c.outcome
-  settled_by : d.settled_by ≡ c.settled_by
+pub record Alike (c d : Client) : Type 0 where
+  pub outcome : d.outcome ≡ c.outcome
+  pub settled_by : d.settled_by ≡ c.settled_by
 
 alike : (c : Client) → Alike c c
 alike c = record { outcome = refl; settled_by = refl }
 
-noted_alike : (c : Client) (g : ℕ) (o : Outcome) (body : Body) → Alike c (noted c g o body)
+pub noted_alike : (c : Client) (g : ℕ) (o : Outcome) (body : Body) → Alike c (noted c g o body)
 noted_alike c g (WasOk reply) body =
     let P : Client → Type 0 = Alike c in
     either P (is_create (c.op g)) (record c {
@@ -91,7 +92,7 @@ noted_alike c g (NoSlot create) body = alike c
 noted_alike c g (NoOpen create) body = alike c
 noted_alike c g (Unknown why) body = alike c
 
-full_alike : (c : Client) (g : ℕ) (asking : Bool) (status : ℕ) → Alike c (noted_full c g asking status)
+pub full_alike : (c : Client) (g : ℕ) (asking : Bool) (status : ℕ) → Alike c (noted_full c g asking status)
 full_alike c g asking status =
     either (λ (d : Client). Alike c d) (is_lock (c.op g) && (not asking && (status == disk_full))) (record c {
       full = put2 c.full (create_for c g) (c.slot_of g) true;
@@ -247,8 +248,8 @@ settles_along z es e k g asking r place o f t h =
 no_cut : (k : ℕ) (e : Event) (P : Type 0) → loses_nothing e ≡ true → e ≡ Cut k → P
 no_cut k e P l is = absent (loses_nothing e) P l (ap loses_nothing is)
 
-no_finish : (e : Event) (P : Type 0) → loses_nothing e ≡ true → Finishing e → P
-no_finish e P l f = absent (loses_nothing e) P l (ap loses_nothing f.is)
+no_finish : (e : Event) (why : Why) (P : Type 0) → loses_nothing e ≡ true → Finishing e why → P
+no_finish e why P l f = absent (loses_nothing e) P l (ap loses_nothing f.is)
 
 no_end : (z : Settings) (es : List Event) (e : Event) (g : ℕ) (P : Type 0) → Known z es e → Ending (run es (start z)) e g → P
 no_end z es e g P f d =
@@ -276,7 +277,7 @@ along_small z es e f h =
       binds = λ k talks o live. same_columns z es e c _ refl refl h;
       begins = λ k tree at o dead. same_columns z es e c _ refl refl h;
       leaves = λ k rs. same_columns z es e c _ refl refl h;
-      finishes = λ why d. no_finish e _ f.kept d;
+      finishes = λ why d. no_finish e why _ f.kept d;
     }
 
 takes_along : (z : Settings) (es : List Event) (e : Event) → Along z es e (run es (start z)).client
@@ -445,7 +446,7 @@ clear_small z es e f h =
       binds = λ k talks o live. same_clear c _ refl h;
       begins = λ k tree at o dead. same_clear c _ refl h;
       leaves = λ k rs. same_clear c _ refl h;
-      finishes = λ why d. no_finish e _ f.kept d;
+      finishes = λ why d. no_finish e why _ f.kept d;
     }
 
 abbrev ClearAll : Settings → List Event → Type 0

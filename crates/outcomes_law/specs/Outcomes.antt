@@ -1,9 +1,11 @@
 -- What settles an operation: on every run, and on one without losses.
-use Rattle.std.specs.Prelude.{◌≡◌, ◌≢◌, ℕ, Bool, true, false, if◌then◌else◌, List, ◌∷◌, ◌++◌, Option, Some, is_some, slice_get}
+use Rattle.std.specs.Prelude.{◌≡◌, ◌≢◌, ℕ, Bool, true, false, if◌then◌else◌, List, [], ◌∷◌, ◌++◌, Option, Some, is_some, slice_get}
 use Rattle.exchange_defs.specs.Status.{success}
 use Rattle.exchange_defs.specs.State.{Reply}
-use Rattle.exchange_defs.specs.Operations.{Op, OpReply, Outcome, WasOk, WasRefused, Unknown, is_firm, value_in}
-use Rattle.exchange_defs.specs.Network.{Event, Serve, Sent, Received, ForOp, ForAttach, Settings, run, start, answer}
+use Rattle.exchange_defs.specs.Operations.{Op, OpReply, Outcome, WasOk, WasRefused, NoSlot, NoOpen, Unknown, WithStatus, is_firm, value_in}
+use Rattle.exchange_defs.specs.Client.{create_for, is_gone, lacks_slot, settle_no_slots}
+use Rattle.exchange_defs.specs.ClientStep.{Pick}
+use Rattle.exchange_defs.specs.Network.{Event, Push, Serve, Sent, Received, ForOp, ForAttach, Settings, run, start, answer}
 use Rattle.completeness_law.specs.Completeness.{without_losses}
 
 -- ---- a success reads
@@ -15,6 +17,43 @@ SuccessReads =
     (z : Settings) (events : List Event) (k n g : ℕ) (y : Received) → slice_get ((run events (start z)).conns k).down n
     ≡ Some y → y.token ≡ ForOp g → y.reply.status ≡ success
     → is_some (value_in ((run events (start z)).client.op g) y.reply.body) ≡ true
+
+-- and no outcome is unknown by a success
+abbrev pub NeverUnread : Type 0
+NeverUnread = (z : Settings) (events : List Event) (g : ℕ) → (run events (start z)).client.outcome g ≢ Unknown (WithStatus success)
+
+-- ---- why an operation has no slot or no open
+
+-- The push at which a lock or unlock settled for want of a slot: behind those before it in the push's list it could go out
+-- itself, it never had, and no slot of its open was free.
+pub record LacksSlot (z : Settings) (events : List Event) (g create : ℕ) : Type 0 where
+  pub before : List Event
+  pub after : List Event
+  pub channel : ℕ
+  pub front : List ℕ
+  pub rest : List ℕ
+  pub pick : Option Pick
+  pub is : events ≡ before ++ Push channel (front ++ g ∷ rest) pick ∷ after
+  pub named : create ≡ create_for (run before (start z)).client g
+  pub lacks : lacks_slot (settle_no_slots (run before (start z)).client channel front) channel g ≡ true
+
+-- The event behind which an operation has no open: it never went out, and its create gives no open any more, since it settled
+-- otherwise than Ok, or a close of it settled Ok, or its plain open's session ended.
+pub record LacksOpen (z : Settings) (events : List Event) (g create : ℕ) : Type 0 where
+  pub before : List Event
+  pub after : List Event
+  pub event : Event
+  pub is : events ≡ before ++ event ∷ after
+  pub named : create ≡ create_for (run (before ++ event ∷ []) (start z)).client g
+  pub unsent : (run (before ++ event ∷ []) (start z)).client.sent g ≡ false
+  pub gone : is_gone (run (before ++ event ∷ []) (start z)).client create ≡ true
+
+-- on every run each NoSlot and each NoOpen has its cause
+abbrev pub CausesTold : Type 0
+CausesTold =
+    (z : Settings) (events : List Event) (g create : ℕ)
+    → ((run events (start z)).client.outcome g ≡ NoSlot create → LacksSlot z events g create)
+    × ((run events (start z)).client.outcome g ≡ NoOpen create → LacksOpen z events g create)
 
 -- ---- runs on which nothing is lost
 

@@ -3,12 +3,21 @@
 //! Each law is a public function with an empty body; its contract is the statement, which stands in `specs`.
 #![tactic(auto)]
 
-ghost use Rattle.outcomes_law.specs.Outcomes.{SuccessReads, AllAnswered};
+ghost use Rattle.outcomes_law.specs.Outcomes.{SuccessReads, NeverUnread, CausesTold, AllAnswered};
 
 /// On every run, a success that waits for an operation's own message reads as the operation's: its body is the one that
-/// the operation is answered with. So the outcome "unknown by a success" never comes.
+/// the operation is answered with (`reads`). And no outcome is unknown by a success (`unread`).
 pub fn reads_law()
     ensures reads { SuccessReads }
+    ensures unread { NeverUnread }
+{}
+
+/// On every run each operation without a slot or an open has its cause. NoSlot came at a push: behind those before it in the
+/// push's list the lock or unlock could go out, it never had, and no slot of its open was free. NoOpen came at an event
+/// behind which the operation hadn't gone out and its create gave no open any more: it had settled otherwise than Ok, or a
+/// close of it had settled Ok, or its plain open's session had ended.
+pub fn causes_law()
+    ensures causes { CausesTold }
 {}
 
 /// On a run on which no connection is cut or dropped, the server doesn't stop and nothing is given up for a refused logon,
