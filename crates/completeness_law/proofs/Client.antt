@@ -195,8 +195,8 @@ dialogs P w ev s k te y rest is token o (SaidSecond false) at =
     ∙ ap (λ b. if b then Accepts else Refuses y.reply.status) e)) (λ _. s.leaves k _)
 dialogs P w ev s k te y rest is token o AskedTree at =
     either (λ d. P (dialog_took (behind_reply w k rest) k y.reply d).client) (y.reply.status == success) Readies (Refuses y.reply.status)
-    (λ e. ended_well (λ (v : World). P v.client) (behind_reply w k rest) k w.client.pending y.reply.tree
-    (λ live. s.binds k (λ z. asked_not z at) o live) (λ dead newer. s.begins k y.reply.tree at o dead)
+    (λ e. ended_well (λ (v : World). P v.client) (behind_reply w k rest) k w.client.pending y.reply.tree_id
+    (λ live. s.binds k (λ z. asked_not z at) o live) (λ dead newer. s.begins k y.reply.tree_id at o dead)
     (s.leaves k w.client.refusals)) (λ _. s.leaves k _)
 
 takes : (P : Client → Type 0) (w : World) (ev : Event) → Small P w ev → (k : ℕ) → ev ≡ Take k → (w.conns k).client_open

@@ -90,7 +90,7 @@ made_new : (op : Op) (s : Server) (m : Message) (r : CreateRequest) (found : Opt
 made_new op s m r found c =
     let P : Verdict → Type 0 = λ v. tells op v ≡ true in
     either P (deletes_on_close r.options && not (deletes (mapped r.access))) _ _ (λ _. refl)
-    (λ _. either P (keeps_guid r && nat_le max_guids (s.guids m.session)) _ _ (λ _. refl)
+    (λ _. either P (keeps_guid r && nat_le max_guids (s.guids m.session_id)) _ _ (λ _. refl)
     (λ _. either P (is_counted_out s r found) _ _ (λ _. made_refused op r.durable insufficient_resources refl)
     (λ _. made_after op s r found (names s r found) refl c)))
 
@@ -98,8 +98,8 @@ made_live : (op : Op) (s : Server) (m : Message) (r : CreateRequest) (o : ℕ) �
 made_live op s m r o c = grind arith
 
 made_refusal : (op : Op) (s : Server) (m : Message) (r : CreateRequest) (g : ℕ) (u : Option ℕ) → KeepsRefusals s
-    → s.refused m.session g ≡ u → Made op (refusal_check s m r u)
-made_refusal op s m r g (Some status) f e c = f m.session g status e
+    → s.refused m.session_id g ≡ u → Made op (refusal_check s m r u)
+made_refusal op s m r g (Some status) f e c = f m.session_id g status e
 made_refusal op s m r g None f e c = made_new op s m r (find s r.path) c
 
 made_guid : (op : Op) (s : Server) (m : Message) (r : CreateRequest) (d : Durable) (u : Option ℕ) → KeepsRefusals s
@@ -107,13 +107,13 @@ made_guid : (op : Op) (s : Server) (m : Message) (r : CreateRequest) (d : Durabl
 made_guid op s m r d (Some o) f c = made_live op s m r o c
 made_guid op s m r d None f c =
     let P : Verdict → Type 0 = λ v. tells op v ≡ true in
-    either P (s.closed m.session d.guid) _ _ (λ _. refl) (λ _. either P (s.expired_guids m.client d.guid) _ _
-    (λ _. refl) (λ _. made_refusal op s m r d.guid (s.refused m.session d.guid) f refl c))
+    either P (s.closed m.session_id d.guid) _ _ (λ _. refl) (λ _. either P (s.expired_guids m.client_guid d.guid) _ _
+    (λ _. refl) (λ _. made_refusal op s m r d.guid (s.refused m.session_id d.guid) f refl c))
 
 made_durable : (op : Op) (s : Server) (m : Message) (r : CreateRequest) (u : Option Durable) → KeepsRefusals s
     → Made op (durable_check s m r u)
 made_durable op s m r None f c = made_new op s m r (find s r.path) c
-made_durable op s m r (Some d) f c = made_guid op s m r d (s.by_guid m.client d.guid) f c
+made_durable op s m r (Some d) f c = made_guid op s m r d (s.by_guid m.client_guid d.guid) f c
 
 made_reconnect : (op : Op) (s : Server) (m : Message) (r : CreateRequest) (c : Reconnect) → Made op (reconnect_check s m r c)
 made_reconnect op s m r c k = grind arith
@@ -340,7 +340,7 @@ form_tells op guid file slot number s m f e (Some status) q = form_refuses op gu
 form_tells op guid file slot number s m f e None q =
     subst (λ c. tells op (command_check s m c) ≡ true) (sym e)
     (subst (λ v. tells op v ≡ true) (sym (needs_tree op guid file slot number s m))
-    (tree_tells op guid file slot number s m f e (tree_in (s.trees m.session) m.tree)))
+    (tree_tells op guid file slot number s m f e (tree_in (s.trees m.session_id) m.tree_id)))
 
 check_tells : (op : Op) (guid file slot number : ℕ) (s : Server) (m : Message) → KeepsRefusals s → m.command
     ≡ request_of op guid file slot number → m.fault ≡ None → tells op (check s m) ≡ true

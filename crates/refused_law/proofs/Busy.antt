@@ -30,7 +30,7 @@ use Rattle.refused_law.specs.Refusals.{refuses_writes}
 -- the checks came to the change, and as a replay it would change bytes
 record Fresh (s : Server) (m : Message) (o at : ℕ) (bytes : List ℕ) : Type 0 where
   form : form m.command ≡ None
-  on : is_of_session s o m.session ≡ true
+  on : is_of_session s o m.session_id ≡ true
   late : is_late s m o ≡ false
   new : m.replay ≡ true → effect (Writes at bytes) (s.content (file_of s o)) ≢ s.content (file_of s o)
 
@@ -44,7 +44,7 @@ BusyBy s m o at bytes _ = ⊥
 record Busy (s : Server) (m : Message) (o at : ℕ) (bytes : List ℕ) (v : Verdict) : Type 0 where
   is : BusyBy s m o at bytes v
 
-fresh : (s : Server) (m : Message) (o at : ℕ) (bytes : List ℕ) → form m.command ≡ None → is_of_session s o m.session
+fresh : (s : Server) (m : Message) (o at : ℕ) (bytes : List ℕ) → form m.command ≡ None → is_of_session s o m.session_id
     ≡ true → is_late s m o ≡ false → is_repeated s m o (bytes_change at bytes) ≡ false → Fresh s m o at bytes
 fresh s m o at bytes fm on late e =
     record {
@@ -60,7 +60,7 @@ fresh s m o at bytes fm on late e =
         (same_bytes-refl (s.content (file_of s o))) in grind arith)
 
 busy_write : (s : Server) (m : Message) (o at : ℕ) (bytes : List ℕ) → form m.command ≡ None
-    → is_of_session s o m.session ≡ true → Busy s m o at bytes (write_check s m o at bytes)
+    → is_of_session s o m.session_id ≡ true → Busy s m o at bytes (write_check s m o at bytes)
 busy_write s m o at bytes fm on =
     either (Busy s m o at bytes) (is_late s m o) _ _ (λ _. record { is = refl })
     (λ l. either (Busy s m o at bytes) (not (has_access s o 0x2)) _ _ (λ _. record { is = λ e. absurd (cc) })
@@ -87,13 +87,13 @@ busy_tree : (s : Server) (m : Message) (o at : ℕ) (bytes : List ℕ) → m.com
 busy_tree s m o at bytes e fm None = record { is = refl }
 busy_tree s m o at bytes e fm (Some pipes) =
     subst (λ c. Busy s m o at bytes (tree_command s m pipes c)) (sym e)
-    (either (Busy s m o at bytes) (is_of_session s o m.session) _ _ (λ on. busy_write s m o at bytes fm on) (λ _. record { is = refl }))
+    (either (Busy s m o at bytes) (is_of_session s o m.session_id) _ _ (λ on. busy_write s m o at bytes fm on) (λ _. record { is = refl }))
 
 busy_form : (s : Server) (m : Message) (o at : ℕ) (bytes : List ℕ) → m.command ≡ Write o at bytes 0 → (f : Option ℕ)
     → form m.command ≡ f → Busy s m o at bytes (formed s m f)
 busy_form s m o at bytes e (Some status) f = record { is = bad_form o at bytes status (ap form (sym e) ∙ f) }
 busy_form s m o at bytes e None f = subst (λ c. Busy s m o at bytes (command_check s m c)) (sym e)
-    (busy_tree s m o at bytes e f (tree_in (s.trees m.session) m.tree))
+    (busy_tree s m o at bytes e f (tree_in (s.trees m.session_id) m.tree_id))
 
 busy : (s : Server) (m : Message) (o at : ℕ) (bytes : List ℕ) → m.command ≡ Write o at bytes 0 → m.fault ≡ None
     → Busy s m o at bytes (check s m)
@@ -131,16 +131,16 @@ without_busy s m o at bytes DropTree h = absurd (h.is)
 pub record Spared (s : Server) (m : Message) (o begin : ℕ) (bytes : List ℕ) : Type 0 where
   pub form : form m.command ≡ None
   pub standing : s.standing o ≡ true
-  pub at : s.session_of_open o ≡ Some m.session
-  pub newest : s.sequence o ≤ m.sequence
+  pub at : s.session_of_open o ≡ Some m.session_id
+  pub newest : s.sequence o ≤ m.channel_sequence
   pub new : m.replay ≡ true → effect (Writes begin bytes) (s.content (s.opened o).file) ≢ s.content (s.opened o).file
 
 on_open : (s : Server) (o x : ℕ) → is_of_session s o x ≡ true → s.standing o ≡ true × s.session_of_open o ≡ Some x
 on_open s o x e = (grind arith, grind arith)
 
-spared : (s : Server) (m : Message) (o begin : ℕ) (bytes : List ℕ) → LowSequences s → m.sequence ≤ 32767
+spared : (s : Server) (m : Message) (o begin : ℕ) (bytes : List ℕ) → LowSequences s → m.channel_sequence ≤ 32767
     → Fresh s m o begin bytes → Spared s m o begin bytes
-spared s m o begin bytes low l h = let on = on_open s o m.session h.on in record {
+spared s m o begin bytes low l h = let on = on_open s o m.session_id h.on in record {
   form = h.form;
   standing = on.0;
   at = on.1;
@@ -151,7 +151,7 @@ spared s m o begin bytes low l h = let on = on_open s o m.session h.on in record
 no : (b : Bool) → b ≡ true → b ≡ false → ⊥
 no b e f = absurd (grind arith)
 
-answer_spared : (s : Server) (m : Message) (o begin now : ℕ) (bytes : List ℕ) → LowSequences s → m.sequence ≤ 32767
+answer_spared : (s : Server) (m : Message) (o begin now : ℕ) (bytes : List ℕ) → LowSequences s → m.channel_sequence ≤ 32767
     → (v : Verdict) → Busy s m o begin bytes v → refuses_writes (apply s m now v).reply.status ≡ true
     → Spared s m o begin bytes
 answer_spared s m o begin now bytes low l (Refuse status) h e = absurd (no _ e h.is)
@@ -184,8 +184,8 @@ before_spared s t m o begin bytes k f =
     record {
       form = f.form;
       standing = k.moves.stands o f.standing;
-      at = k.session_of_open o m.session f.at;
-      newest = subst (λ n. n ≤ m.sequence) (ap (λ g. g o) k.sequence) f.newest;
+      at = k.session_of_open o m.session_id f.at;
+      newest = subst (λ n. n ≤ m.channel_sequence) (ap (λ g. g o) k.sequence) f.newest;
       new = λ r. subst (λ c. effect (Writes begin bytes) c ≢ c) same (f.new r);
     }
 
@@ -197,7 +197,7 @@ found_busy t m o begin bytes v l (inr e) = subst (Busy t m o begin bytes) (sym e
 abbrev IfRefused : Server → Message → ℕ → ℕ → List ℕ → Answer → Type 0
 IfRefused s m o begin bytes A = refuses_writes A.reply.status ≡ true → Spared s m o begin bytes
 
-step_spared : (s : Server) (now : ℕ) (m : Message) (o begin : ℕ) (bytes : List ℕ) → LowSequences s → m.sequence ≤ 32767
+step_spared : (s : Server) (now : ℕ) (m : Message) (o begin : ℕ) (bytes : List ℕ) → LowSequences s → m.channel_sequence ≤ 32767
     → m.command ≡ Write o begin bytes 0 → m.fault ≡ None → IfRefused s m o begin bytes (step s now (Heard m))
 step_spared s now m o begin bytes low l e f =
     by_verdict (IfRefused s m o begin bytes) s now m
@@ -206,7 +206,7 @@ step_spared s now m o begin bytes low l e f =
     (found_busy t m o begin bytes v (busy t m o begin bytes e f) h) r))
 
 pub busy_answer : (s : Server) (now : ℕ) (m : Message) (o begin : ℕ) (bytes : List ℕ) → LowSequences s
-    → m.sequence ≤ 32767 → m.command ≡ Write o begin bytes 0 → m.fault ≡ None → IfRefused s m o begin bytes
+    → m.channel_sequence ≤ 32767 → m.command ≡ Write o begin bytes 0 → m.fault ≡ None → IfRefused s m o begin bytes
     (answer_to s now m m.command)
 busy_answer s now m o begin bytes low l e f = subst (λ c. IfRefused s m o begin bytes (answer_to s now m c)) (sym e)
     (step_spared s now m o begin bytes low l e f)

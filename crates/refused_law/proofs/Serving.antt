@@ -78,15 +78,15 @@ its_facts w a k g x f =
     let q = asks_of (w.client.op g) (guid_for w.client g) (w.client.file (create_at w.client g)) (w.client.slot_of g)
     (w.client.number_of g) (lists_of (w.client.op g) f.edit) in
     listed_facts w.server w.moment x.message (content_op (w.client.op g)) (file_at w.client g) q.1 (b.1 ∙ q.0) b.3
-    (λ z. l.ss.tree_up k 0 x f.waits (ops_of x.token g f.own) (l.fits.on_present x.message.connection x.message.session
-    (at_of x.message.session (w.server.session_on x.message.connection) z))) l.low (l.ss.sequences_up k 0 x f.waits).0
+    (λ z. l.ss.tree_up k 0 x f.waits (ops_of x.token g f.own) (l.fits.on_present x.message.connection x.message.session_id
+    (at_of x.message.session_id (w.server.session_on x.message.connection) z))) l.low (l.ss.sequences_up k 0 x f.waits).0
 
 -- the server would take it, so it may act still
 still_pends : (w : World) (a : ℕ → ℕ) (k g : ℕ) (x : Sent) → Front w a k g x → form x.message.command ≡ None
-    → w.server.standing (file_at w.client g) ≡ true → w.server.session_of_open (file_at w.client g) ≡ Some x.message.session
-    → w.server.sequence (file_at w.client g) ≤ x.message.sequence → pends w.client g ≡ true
+    → w.server.standing (file_at w.client g) ≡ true → w.server.session_of_open (file_at w.client g) ≡ Some x.message.session_id
+    → w.server.sequence (file_at w.client g) ≤ x.message.channel_sequence → pends w.client g ≡ true
 still_pends w a k g x f fm st at le = f.holds.live_unsettled k 0 g x f.waits f.own f.edit (its_form w a k g x f fm) st
-    (f.lower.fits.attached (file_at w.client g) x.message.session at).1 le
+    (f.lower.fits.attached (file_at w.client g) x.message.session_id at).1 le
 
 -- ---- a write that is refused hasn't acted
 
@@ -112,7 +112,7 @@ refused_unacted w a k g x rest is l i own gd wr bad = by_bytes (writes_bytes (w.
         by_spared begin bytes e h =
             none_of (w.log.first g)
             (λ so. h.new (i.live_replay k 0 g x f.waits own gd.edit h.standing
-            (l.fits.attached (file_at w.client g) x.message.session h.at).1 h.newest so)
+            (l.fits.attached (file_at w.client g) x.message.session_id h.at).1 h.newest so)
             (subst (λ c. effect c (w.server.content (w.server.opened (file_at w.client g)).file)
             ≡ w.server.content (w.server.opened (file_at w.client g)).file) e
             (sym (after_is (w.client.op g) _) ∙ i.shows g gd.edit gd.denies h.standing
@@ -135,9 +135,9 @@ no_act_behind w a k g x rest is l i own ed j n y h yt bad ac =
     let o = open_of_down w a l j n y h in let one = own_down_count g (w.conns j).down n y h yt in
     let above = subst (λ q. 0 < q) (ap op_of yt) (i.token_down j n y h (ops_of y.token g yt)).0 in
     let on = l.cn.outstanding j g o (omega (arith, one)) above in
-    let pr = (l.fits.attached (file_at w.client g) x.message.session d.1).1 in
+    let pr = (l.fits.attached (file_at w.client g) x.message.session_id d.1).1 in
     let live = l.ss.live_accepted (l.ss.current_down j n y h (ops_of y.token g yt) o).0 in
-    let here : x.message.session ≡ w.client.session = l.ss.present_accepted x.message.session pr
+    let here : x.message.session_id ≡ w.client.session = l.ss.present_accepted x.message.session_id pr
     (l.ss.ranked_up k 0 x f.waits (ops_of x.token g own)) ∙ sym live.0 in
     let older = i.older k 0 j g x f.waits own ed (l.cn.own_down j n g y h o yt) on
     (λ e. two_copies (count_up g (w.conns k).up) (count_down g (w.conns k).down)
