@@ -7,6 +7,7 @@ use Rattle.exchange_defs.specs.ClientStep.{last_number}
 use Rattle.exchange_defs.specs.Schedules.{Course, Line, Settles, course, drain, link, has_more, is_linking}
 use Rattle.exchange_defs.specs.Network.{World, Event, Cut, Drop, Restart, Crash, Finish, Sent, Settings, run, start, answer}
 
+-- the course before the first line
 abbrev pub begun : Settings → Course
 begun z = record { world = start z; events = [] }
 
@@ -30,6 +31,7 @@ LinkSuffices = (z : Settings) (ls : List Line) (k : ℕ) → is_linking (link (c
 abbrev pub FindsSession : World → Type 0
 FindsSession w = (k : ℕ) (x : Sent) (rest : List Sent) → w.client.ready k ≡ true → (w.conns k).client_open ≡ true → (w.conns k).server_open ≡ true → (w.conns k).up ≡ x ∷ rest → (answer w x).reply.status ≢ user_session_deleted
 
+-- in every world that a run leads to
 abbrev pub SessionFound : Type 0
 SessionFound = (z : Settings) (events : List Event) → FindsSession (run events (start z))
 
@@ -58,6 +60,7 @@ loses_nothing (Crash k kept) = false
 loses_nothing (Finish refusal) = false
 loses_nothing _ = true
 
+-- none of the events loses anything
 unfoldable pub without_losses : List Event → Bool
 without_losses [] = true
 without_losses (e ∷ es) = loses_nothing e && without_losses es

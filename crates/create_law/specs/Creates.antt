@@ -17,6 +17,7 @@ use Rattle.session_law.specs.Sessions.{logon_user}
 
 -- ---- what the server keeps of creates
 
+-- the columns of the server that creates speak of
 pub record Seen : Type 0 where
   pub present : ℕ → Bool
   pub by_guid : ℕ → ℕ → Option ℕ
@@ -29,6 +30,7 @@ pub record Seen : Type 0 where
   pub expired_guids : ℕ → ℕ → Bool
   pub last : ℕ  -- the last id of an open that was given
 
+-- those of a server
 abbrev pub seen : Server → Seen
 seen s =
     record {
@@ -50,6 +52,7 @@ seen s =
 unfoldable pub own_guid : ℕ → ℕ → ℕ
 own_guid salt g = salt * 0x1_0000_0000_0000_0000 + g
 
+-- it asks for a persistent open
 unfoldable pub outlives : Op → Bool
 outlives op = persists op
 
@@ -61,9 +64,11 @@ keeps_form op = not (is_some (form (request_of op 0 0 0 0)))
 unfoldable pub has_files : List ℕ → Bool
 has_files share = not (same_name share pipes_name)
 
+-- the session keeps as many CreateGuids as it may
 unfoldable pub is_full : ℕ → Bool
 is_full count = nat_le max_guids count
 
+-- the CreateGuid of the operation of this number
 abbrev pub guid_at : Client → ℕ → ℕ
 guid_at c g = own_guid c.who.salt g
 
@@ -98,6 +103,7 @@ is_of_dialog (TreeConnect share) = true
 is_of_dialog (Aside status) = true
 is_of_dialog _ = false
 
+-- a DH2C, or what stands in for one
 abbrev pub is_of_ask : Command → Bool
 is_of_ask (Create request) = is_some request.reconnect
 is_of_ask (Aside status) = true
@@ -113,9 +119,11 @@ Made c v a = (g o : ℕ) → named c v g ≡ Some o → makes_open (c.op g) ≡ 
 abbrev pub Named : Client → Seen → Type 0
 Named c v = (g o : ℕ) → named c v g ≡ Some o → v.standing o ≡ true × (v.opened o).client_guid ≡ c.who.guid × (v.opened o).create_guid ≡ Some (guid_at c g)
 
+-- and it is this client's user's
 abbrev pub NamedKind : Client → Seen → Type 0
 NamedKind c v = (g o : ℕ) → named c v g ≡ Some o → (v.opened o).persistent ≡ outlives (c.op g) × (v.opened o).user ≡ logon_user c.who.logon
 
+-- and its id was given
 abbrev pub NamedGiven : Client → Seen → Type 0
 NamedGiven c v = (g o : ℕ) → named c v g ≡ Some o → o ≤ v.last
 
@@ -123,6 +131,7 @@ NamedGiven c v = (g o : ℕ) → named c v g ≡ Some o → o ≤ v.last
 abbrev pub Attached : Client → Seen → Type 0
 Attached c v = (o x : ℕ) → v.session_of_open o ≡ Some x → 0 < c.rank x × v.present x ≡ true
 
+-- a plain open always has a session
 abbrev pub PlainAttached : Seen → Type 0
 PlainAttached v = (o : ℕ) → v.standing o ≡ true → (v.opened o).persistent ≡ false → is_some (v.session_of_open o) ≡ true
 
@@ -137,24 +146,30 @@ abbrev pub ActedKept : Client → (ℕ → Conn) → Seen → (ℕ → ℕ) → 
 ActedKept c conns v a = (k n g : ℕ) (x : Sent) → slice_get (conns k).up n ≡ Some x → x.token ≡ ForOp g → makes_open (c.op g) ≡ true → v.present x.message.session_id ≡ true → 1 ≤ a g
     → (v.closed x.message.session_id (guid_at c g) || is_kept c v g) ≡ true
 
+-- a create acts at most once
 abbrev pub AtMost : Client → (ℕ → ℕ) → Type 0
 AtMost c a = (g : ℕ) → makes_open (c.op g) ≡ true → a g ≤ 1
 
+-- one that acted keeps the form rules, on a share with files
 abbrev pub FormActed : Client → (ℕ → ℕ) → Type 0
 FormActed c a = (g : ℕ) → makes_open (c.op g) ≡ true → 1 ≤ a g → may_act c g ≡ true
 
 -- ---- one that was refused doesn't act
 
+-- a create that settled without acting (Refused, NoSlot, NoOpen) never acted
 abbrev pub RefusedNot : Client → (ℕ → ℕ) → Type 0
 RefusedNot c a = (g : ℕ) → makes_open (c.op g) ≡ true → never_acted (c.outcome g) ≡ true → a g ≡ 0
 
+-- and a copy of it whose session is there won't act in that session either
 abbrev pub DeadRefused : Client → (ℕ → Conn) → Seen → Type 0
 DeadRefused c conns v = (k n g : ℕ) (x : Sent) → slice_get (conns k).up n ≡ Some x → x.token ≡ ForOp g → makes_open (c.op g) ≡ true → never_acted (c.outcome g) ≡ true → v.present x.message.session_id ≡ true
     → is_barred c v x.message.session_id g ≡ true
 
+-- a reply that will refuse a create is to one that never acted
 abbrev pub NoReply : Client → (ℕ → Conn) → (ℕ → ℕ) → Type 0
 NoReply c conns a = (k n g : ℕ) (y : Received) → slice_get (conns k).down n ≡ Some y → y.token ≡ ForOp g → makes_open (c.op g) ≡ true → refuses (c.unanswered g) y.reply.status ≡ true → a g ≡ 0
 
+-- and where a copy is unanswered, none acts in the live session
 abbrev pub BarredReply : Client → (ℕ → Conn) → Seen → Type 0
 BarredReply c conns v = (k n g : ℕ) (y : Received) → slice_get (conns k).down n ≡ Some y → y.token ≡ ForOp g → makes_open (c.op g) ≡ true → c.unanswered g ≡ true → refuses true y.reply.status ≡ true → is_current c v ≡ true
     → is_barred c v c.session g ≡ true
@@ -165,9 +180,11 @@ RefusedStatus v = (x q status : ℕ) → v.refused x q ≡ Some status → (stat
 
 -- ---- one that succeeded acted, and names the open that it made
 
+-- a create that settled Ok acted
 abbrev pub OkActed : Client → (ℕ → ℕ) → Type 0
 OkActed c a = (g : ℕ) → makes_open (c.op g) ≡ true → is_ok (c.outcome g) ≡ true → 1 ≤ a g
 
+-- and so did one whose success is on its way
 abbrev pub OkReply : Client → (ℕ → Conn) → (ℕ → ℕ) → Type 0
 OkReply c conns a = (k n g : ℕ) (y : Received) → slice_get (conns k).down n ≡ Some y → y.token ≡ ForOp g → makes_open (c.op g) ≡ true → y.reply.status ≡ success → 1 ≤ a g
 
@@ -175,13 +192,16 @@ OkReply c conns a = (k n g : ℕ) (y : Received) → slice_get (conns k).down n 
 abbrev pub FileGuid : Client → Seen → Type 0
 FileGuid c v = (g : ℕ) → makes_open (c.op g) ≡ true → is_ok (c.outcome g) ≡ true → c.file g ≤ v.last × (v.standing (c.file g) ≡ true → (v.opened (c.file g)).client_guid ≡ c.who.guid × (v.opened (c.file g)).create_guid ≡ Some (guid_at c g))
 
+-- what its guid names is the open that its success named
 abbrev pub FileOf : Client → Seen → Type 0
 FileOf c v = (g o : ℕ) → makes_open (c.op g) ≡ true → is_ok (c.outcome g) ≡ true → named c v g ≡ Some o → o ≡ c.file g
 
+-- the same of a success that is on its way: the open that it names
 abbrev pub ReplyGuid : Client → (ℕ → Conn) → Seen → Type 0
 ReplyGuid c conns v = (k n g : ℕ) (y : Received) → slice_get (conns k).down n ≡ Some y → y.token ≡ ForOp g → makes_open (c.op g) ≡ true → y.reply.status ≡ success
     → id_in y.reply.body ≤ v.last × (v.standing (id_in y.reply.body) ≡ true → (v.opened (id_in y.reply.body)).client_guid ≡ c.who.guid × (v.opened (id_in y.reply.body)).create_guid ≡ Some (guid_at c g))
 
+-- and what the create's guid names is that open
 abbrev pub ReplyOf : Client → (ℕ → Conn) → Seen → Type 0
 ReplyOf c conns v = (k n g o : ℕ) (y : Received) → slice_get (conns k).down n ≡ Some y → y.token ≡ ForOp g → makes_open (c.op g) ≡ true → y.reply.status ≡ success → named c v g ≡ Some o → o ≡ id_in y.reply.body
 
@@ -195,9 +215,11 @@ PlainDead c = (g : ℕ) → c.live ≡ false → makes_open (c.op g) ≡ true �
 abbrev pub AskingOther : Client → Type 0
 AskingOther c = (g : ℕ) → c.asks_attach g ≡ true → makes_open (c.op g) ≡ false × g ≤ c.taken
 
+-- a dialog's message is a dialog's command
 abbrev pub DialogUp : (ℕ → Conn) → Type 0
 DialogUp conns = (k n : ℕ) (x : Sent) → slice_get (conns k).up n ≡ Some x → x.token ≡ ForDialog → is_of_dialog x.message.command ≡ true
 
+-- what goes out in an operation's place is a DH2C
 abbrev pub AskUp : (ℕ → Conn) → Type 0
 AskUp conns = (k n g : ℕ) (x : Sent) → slice_get (conns k).up n ≡ Some x → x.token ≡ ForAttach g → is_of_ask x.message.command ≡ true
 

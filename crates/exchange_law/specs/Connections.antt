@@ -10,14 +10,17 @@ use Rattle.exchange_defs.specs.Runs.{is_once}
 
 -- ---- how many messages and replies of an operation a connection carries; those of its dialog count under 0
 
+-- on their way to the server
 abbrev pub count_up : ℕ → List Sent → ℕ
 count_up g [] = 0
 count_up g (x ∷ xs) = (if op_of x.token == g then 1 else 0) + count_up g xs
 
+-- on their way to the client
 abbrev pub count_down : ℕ → List Received → ℕ
 count_down g [] = 0
 count_down g (y ∷ ys) = (if op_of y.token == g then 1 else 0) + count_down g ys
 
+-- both
 abbrev pub copies : ℕ → Conn → ℕ
 copies g c = count_up g c.up + count_down g c.down
 
@@ -27,24 +30,31 @@ no_copy_out c g = if c.asks_attach g then true else not (is_some (c.outstanding_
 
 -- ---- words on operations, closed so that a proof doesn't go through the kinds of operations
 
+-- a CREATE
 unfoldable pub makes_open : Op → Bool
 makes_open op = is_create op
 
+-- a CLOSE
 unfoldable pub shuts_open : Op → Bool
 shuts_open op = is_close op
 
+-- a create, lock or unlock, of which the statement of once speaks
 unfoldable pub acts_once : Op → Bool
 acts_once op = is_once op
 
+-- the create whose open it names; a create names its own
 unfoldable pub its_create : ℕ → Op → ℕ
 its_create g op = create_of g op
 
+-- the request that is sent for it
 unfoldable pub its_request : Op → ℕ → ℕ → ℕ → ℕ → Command
 its_request op guid file slot number = request_of op guid file slot number
 
+-- the create of the operation of this number
 abbrev pub create_at : Client → ℕ → ℕ
 create_at c g = its_create g (c.op g)
 
+-- it is a create, or its create settled Ok, so that there is an open to name
 abbrev pub opens : Client → ℕ → Bool
 opens c g = makes_open (c.op g) || is_ok (c.outcome (create_at c g))
 
@@ -70,12 +80,15 @@ Outstanding c conns = (k g : ℕ) → (conns k).client_open ≡ true → 1 ≤ c
 abbrev pub OwnUp : Client → (ℕ → Conn) → Type 0
 OwnUp c conns = (k n g : ℕ) (x : Sent) → slice_get (conns k).up n ≡ Some x → (conns k).client_open ≡ true → x.token ≡ ForOp g → c.asks_attach g ≡ false
 
+-- on the way up a DH2C
 abbrev pub AttachUp : Client → (ℕ → Conn) → Type 0
 AttachUp c conns = (k n g : ℕ) (x : Sent) → slice_get (conns k).up n ≡ Some x → (conns k).client_open ≡ true → x.token ≡ ForAttach g → c.asks_attach g ≡ true
 
+-- on the way down a reply to the operation itself
 abbrev pub OwnDown : Client → (ℕ → Conn) → Type 0
 OwnDown c conns = (k n g : ℕ) (y : Received) → slice_get (conns k).down n ≡ Some y → (conns k).client_open ≡ true → y.token ≡ ForOp g → c.asks_attach g ≡ false
 
+-- on the way down a reply to a DH2C
 abbrev pub AttachDown : Client → (ℕ → Conn) → Type 0
 AttachDown c conns = (k n g : ℕ) (y : Received) → slice_get (conns k).down n ≡ Some y → (conns k).client_open ≡ true → y.token ≡ ForAttach g → c.asks_attach g ≡ true
 
@@ -83,15 +96,19 @@ AttachDown c conns = (k n g : ℕ) (y : Received) → slice_get (conns k).down n
 abbrev pub DownOpen : (ℕ → Conn) → Type 0
 DownOpen conns = (k : ℕ) → (conns k).client_open ≡ false → (conns k).down ≡ []
 
+-- what is outstanding is so on a ready channel
 abbrev pub OnReady : Client → Type 0
 OnReady c = (g k : ℕ) → c.outstanding_on g ≡ Some k → c.ready k ≡ true × 0 < g
 
+-- a ready channel is open, of the live session, and carries nothing of a dialog
 abbrev pub Ready : Client → (ℕ → Conn) → Type 0
 Ready c conns = (k : ℕ) → c.ready k ≡ true → (conns k).client_open ≡ true × c.live ≡ true × copies 0 (conns k) ≡ 0
 
+-- a further channel is bound only to a live session
 abbrev pub Stages : Client → Type 0
 Stages c = (k : ℕ) → is_bound (c.stage k) ≡ true → c.live ≡ true
 
+-- what is settled isn't outstanding
 abbrev pub Settled : Client → Type 0
 Settled c = (g : ℕ) → is_unsettled (c.outcome g) ≡ false → c.outstanding_on g ≡ None
 
@@ -99,9 +116,11 @@ Settled c = (g : ℕ) → is_unsettled (c.outcome g) ≡ false → c.outstanding
 abbrev pub Taken : Client → Type 0
 Taken c = (g : ℕ) → c.sent g ≡ true → 0 < g × g ≤ c.taken
 
+-- and so is what is outstanding
 abbrev pub TakenOn : Client → Type 0
 TakenOn c = (g : ℕ) → is_some (c.outstanding_on g) ≡ true → 0 < g × g ≤ c.taken
 
+-- the create that an operation names is a create, and has a lower number
 abbrev pub Creates : Client → Type 0
 Creates c = (g : ℕ) → 0 < g → g ≤ c.taken → makes_open (c.op g) ≡ false → 0 < create_at c g × create_at c g < g × makes_open (c.op (create_at c g)) ≡ true
 
@@ -113,9 +132,11 @@ Lower c = (h n : ℕ) → is_some (c.outstanding_on h) ≡ true → 0 < n → n 
 abbrev pub HasOpen : Client → Type 0
 HasOpen c = (g : ℕ) → c.sent g ≡ true → opens c g ≡ true
 
+-- and so has what is outstanding
 abbrev pub AskedOpen : Client → Type 0
 AskedOpen c = (g : ℕ) → is_some (c.outstanding_on g) ≡ true → opens c g ≡ true
 
+-- what never went out has no unanswered copy, hasn't acted and isn't outstanding but by a DH2C
 abbrev pub Fresh : Client → (ℕ → ℕ) → Type 0
 Fresh c a = (g : ℕ) → c.sent g ≡ false → c.unanswered g ≡ false × a g ≡ 0 × no_copy_out c g ≡ true
 
@@ -128,9 +149,11 @@ Bodies c conns = (k n g : ℕ) (x : Sent) → slice_get (conns k).up n ≡ Some 
 abbrev pub First : Client → (ℕ → Conn) → (ℕ → ℕ) → Type 0
 First c conns a = (k n g : ℕ) (x : Sent) → slice_get (conns k).up n ≡ Some x → x.token ≡ ForOp g → acts_once (c.op g) ≡ true → c.unanswered g ≡ false → (conns k).client_open ≡ true × a g ≡ 0
 
+-- nor has one that is unsettled, without an unanswered copy and without a copy outstanding
 abbrev pub Unsent : Client → (ℕ → ℕ) → Type 0
 Unsent c a = (g : ℕ) → acts_once (c.op g) ≡ true → c.unanswered g ≡ false → no_copy_out c g ≡ true → is_unsettled (c.outcome g) ≡ true → a g ≡ 0
 
+-- a reply to an operation is to one that went out
 abbrev pub SentReplies : Client → (ℕ → Conn) → Type 0
 SentReplies c conns = (k n g : ℕ) (y : Received) → slice_get (conns k).down n ≡ Some y → y.token ≡ ForOp g → c.sent g ≡ true
 

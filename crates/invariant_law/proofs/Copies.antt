@@ -16,7 +16,7 @@ use Rattle.create_law.specs.Creates.{Creates, seen, own_guid, is_full, keeps_for
 use Rattle.lock_law.specs.Locks.{Locks, locking, kept_at, user_at}
 use Rattle.order_law.proofs.Requests.{form_same}
 use Rattle.order_law.proofs.Words.{ops_of}
-use Rattle.invariant_law.specs.Parts.{open_of, LiveCopy, NotNewer, OlderSession, SameSession, CopiesAreOwn, ToldByGuid, NamesOpen, KeptClosed, Marked, RefusedAgain, KeptRefusal, BadForm, GuidsFull, CreateHolds, CreateActed, CreateRefused, CreateToCome, CreatesAreKept, LockHolds, OpenLeft, SlotTells, LockToCome, LocksAreKept, OnPipes}
+use Rattle.invariant_law.specs.Parts.{open_of, LiveCopy, NotNewer, OlderSession, SameSession, CopiesAreOwn, ToldByGuid, NamesOpen, KeptClosed, HasExpired, RefusedAgain, KeptRefusal, BadForm, GuidsFull, CreateHolds, CreateActed, CreateRefused, CreateToCome, CreatesAreKept, LockHolds, OpenLeft, SlotTells, LockToCome, LocksAreKept, OnPipes}
 use Rattle.exchange_defs.specs.Texts.{same_name}
 use Rattle.exchange_defs.specs.CheckSetup.{pipes_name}
 
@@ -59,7 +59,7 @@ told_by c s session g stands e =
     one_of (ToldByGuid c s session g) (s.closed session (guid_for c g)) (is_some (s.by_guid c.who.guid (guid_for c g))) (s.expired_guids c.who.guid (guid_for c g)) e
     (λ z. KeptClosed z)
     (λ z. names_one (ToldByGuid c s session g) (s.by_guid c.who.guid (guid_for c g)) z (λ o q. NamesOpen o q (stands o q)))
-    (λ z. Marked z)
+    (λ z. HasExpired z)
 
 refused_by : (c : Client) (s : Server) (x : Sent) (g : ℕ) → form x.message.command ≡ form (request_of (c.op g) 0 0 0 0) → is_barred c (seen s) x.message.session_id g ≡ true → RefusedAgain c s x g
 unfolding own_guid is_full keeps_form has_files

@@ -25,6 +25,7 @@ use Rattle.exchange_defs.specs.CheckSetup.{pipes_name}
 abbrev pub open_of : Client → ℕ → ℕ
 open_of c g = c.file (create_for c g)
 
+-- message n on connection k is a copy of operation g, of a session that is there
 pub record LiveCopy (w : World) (k n g : ℕ) (x : Sent) : Type 0 where
   pub waits : slice_get (w.conns k).up n ≡ Some x
   pub own : x.token ≡ ForOp g
@@ -37,6 +38,7 @@ pub data NotNewer (c : Client) (x : Sent) : Type 0 where
   OlderSession : c.rank x.message.session_id < c.rank c.session → NotNewer c x
   SameSession : x.message.session_id ≡ c.session → x.message.channel_sequence ≤ c.sequence → NotNewer c x
 
+-- what a copy of the operation has
 pub record OwnCopy (c : Client) (g : ℕ) (x : Sent) : Type 0 where
   pub sent : c.sent g ≡ true
   -- its guid, or its open, slot and number
@@ -45,18 +47,21 @@ pub record OwnCopy (c : Client) (g : ℕ) (x : Sent) : Type 0 where
   pub accepted : 0 < c.rank x.message.session_id × c.rank x.message.session_id ≤ c.accepted_count
   pub not_newer : c.live ≡ true → NotNewer c x
 
+-- the first sentence
 abbrev pub CopiesAreOwn : World → Type 0
 CopiesAreOwn w = (k n g : ℕ) (x : Sent) → slice_get (w.conns k).up n ≡ Some x → x.token ≡ ForOp g → OwnCopy w.client g x
 
 -- ---- 2. Where a session is gone from the server, what waits of it is answered USER_SESSION_DELETED, and doesn't act: a
 -- copy, or a DH2C in an operation's place.
 
+-- the answer is USER_SESSION_DELETED, and nothing acts
 pub record SessionDeleted (A : Answer) : Type 0 where
   pub status : A.reply.status ≡ user_session_deleted
   pub acted : A.acted ≡ false
   pub reached : A.reached ≡ None
   pub altered : A.altered ≡ None
 
+-- the second
 abbrev pub GoneIsDeleted : World → Type 0
 GoneIsDeleted w = (k n : ℕ) (x : Sent) → slice_get (w.conns k).up n ≡ Some x → is_ops x.token ≡ true → w.server.present x.message.session_id ≡ false → SessionDeleted (answer w x)
 
@@ -67,7 +72,7 @@ GoneIsDeleted w = (k n : ℕ) (x : Sent) → slice_get (w.conns k).up n ≡ Some
 pub data ToldByGuid (c : Client) (s : Server) (session g : ℕ) : Type 0 where
   NamesOpen : (o : ℕ) → s.by_guid c.who.guid (guid_for c g) ≡ Some o → s.standing o ≡ true → ToldByGuid c s session g
   KeptClosed : s.closed session (guid_for c g) ≡ true → ToldByGuid c s session g
-  Marked : s.expired_guids c.who.guid (guid_for c g) ≡ true → ToldByGuid c s session g
+  HasExpired : s.expired_guids c.who.guid (guid_for c g) ≡ true → ToldByGuid c s session g
 
 -- why no copy of it acts in this session
 pub data RefusedAgain (c : Client) (s : Server) (x : Sent) (g : ℕ) : Type 0 where
@@ -76,27 +81,32 @@ pub data RefusedAgain (c : Client) (s : Server) (x : Sent) (g : ℕ) : Type 0 wh
   GuidsFull : nat_le max_guids (s.guids x.message.session_id) ≡ true → RefusedAgain c s x g
   OnPipes : same_name c.who.share pipes_name ≡ true → RefusedAgain c s x g
 
+-- the three cases of a create with a live copy
 pub data CreateHolds (w : World) (a : ℕ → ℕ) (x : Sent) (g : ℕ) : Type 0 where
   CreateActed : a g ≡ 1 → ToldByGuid w.client w.server x.message.session_id g → CreateHolds w a x g
   CreateRefused : a g ≡ 0 → RefusedAgain w.client w.server x g → CreateHolds w a x g
   CreateToCome : a g ≡ 0 → never_acted (w.client.outcome g) ≡ false → CreateHolds w a x g
 
+-- the third
 abbrev pub CreatesAreKept : World → (ℕ → ℕ) → Type 0
 CreatesAreKept w a = (k n g : ℕ) (x : Sent) → LiveCopy w k n g x → is_create (w.client.op g) ≡ true → CreateHolds w a x g
 
 -- ---- 4. For a lock or unlock with a live copy, its slot is its own, and while its open stands the slot tells whether it
 -- acted.
 
+-- the three cases of a lock or unlock with a live copy
 pub data LockHolds (w : World) (a : ℕ → ℕ) (g : ℕ) : Type 0 where
   OpenLeft : w.server.standing (open_of w.client g) ≡ false → LockHolds w a g
   SlotTells : (status : ℕ) → kept_status (w.client.number_of g) (w.server.lock_sequences (open_of w.client g) (w.client.slot_of g)) ≡ Some status → a g ≡ (if status == success then 1 else 0) → LockHolds w a g
   LockToCome : kept_status (w.client.number_of g) (w.server.lock_sequences (open_of w.client g) (w.client.slot_of g)) ≡ None → a g ≡ 0 → LockHolds w a g
 
+-- what holds where a lock or unlock has a live copy
 pub record LockCopy (w : World) (a : ℕ → ℕ) (g : ℕ) : Type 0 where
   -- the last that took the slot: no newer number stands there
   pub user : w.client.slot_user (create_for w.client g) (w.client.slot_of g) ≡ Some g
   pub holds : LockHolds w a g
 
+-- the fourth
 abbrev pub LocksAreKept : World → (ℕ → ℕ) → Type 0
 LocksAreKept w a = (k n g : ℕ) (x : Sent) → LiveCopy w k n g x → is_lock (w.client.op g) ≡ true → LockCopy w a g
 
@@ -104,11 +114,13 @@ LocksAreKept w a = (k n g : ℕ) (x : Sent) → LiveCopy w k n g x → is_lock (
 -- collides with it, and where it acted, the file's bytes show it. It may still act while it is unsettled, or where it was
 -- given up with the session that was live last.
 
+-- what holds of such a write or end
 pub record EditHolds (w : World) (g : ℕ) : Type 0 where
   pub apart : (h : ℕ) → h ≢ g → w.client.sent h ≡ true → is_change (content_op (w.client.op h)) ≡ true → create_for w.client h ≡ create_for w.client g → pends w.client h ≡ true → collides (content_op (w.client.op g)) (content_op (w.client.op h)) ≡ false
   pub shown : is_some (w.log.first g) ≡ true
       → effect (content_op (w.client.op g)) (w.server.content (w.server.opened (open_of w.client g)).file) ≡ w.server.content (w.server.opened (open_of w.client g)).file
 
+-- the fifth
 abbrev pub EditsAreShown : World → Type 0
 EditsAreShown w =
     (g : ℕ) → is_change (content_op (w.client.op g)) ≡ true → w.client.sent g ≡ true → pends w.client g ≡ true
@@ -124,10 +136,12 @@ pub data OlderStatus (s : Server) (x : Sent) (status : ℕ) : Type 0 where
   BreaksForm : form x.message.command ≡ Some status → OlderStatus s x status
   NotAvailable : status ≡ file_not_available → OlderStatus s x status
 
+-- it is refused, and nothing acts
 pub record OlderRefused (w : World) (x : Sent) : Type 0 where
   pub acted : (answer w x).acted ≡ false
   pub status : OlderStatus w.server x (answer w x).reply.status
 
+-- the first half of the sixth
 abbrev pub OlderIsRefused : World → Type 0
 OlderIsRefused w =
     (k n g : ℕ) (x : Sent) → LiveCopy w k n g x → is_change (content_op (w.client.op g)) ≡ true → w.server.standing (open_of w.client g) ≡ true → w.server.session_of_open (open_of w.client g) ≡ Some x.message.session_id
@@ -143,9 +157,11 @@ pub record OpenIsNewest (w : World) (i o : ℕ) : Type 0 where
   pub attached : (y : ℕ) → w.server.session_of_open o ≡ Some y → ReachedBefore w i o y
   pub apart : w.server.session_of_open o ≡ None → w.server.present (w.trace.session i) ≡ false
 
+-- the second half
 abbrev pub OpensAreNewest : World → Type 0
 OpensAreNewest w = (i o : ℕ) → i < w.log.places → w.trace.reached i ≡ Some o → w.server.standing o ≡ true → OpenIsNewest w i o
 
+-- the sixth
 pub record NoneIsNewer (w : World) : Type 0 where
   pub older : OlderIsRefused w
   pub newest : OpensAreNewest w

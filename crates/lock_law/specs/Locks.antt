@@ -17,6 +17,7 @@ use Rattle.exchange_law.specs.Connections.{makes_open, shuts_open, create_at}
 
 -- ---- words, closed so that a proof doesn't go through the kinds of operations
 
+-- a lock or an unlock
 unfoldable pub locking : Op → Bool
 locking op = is_lock op
 
@@ -24,6 +25,7 @@ locking op = is_lock op
 unfoldable pub kept_at : Option Kept → ℕ → Option ℕ
 kept_at kept number = kept_status number kept
 
+-- it settled as Ok or Refused, by a reply
 unfoldable pub firm : Outcome → Bool
 firm o = is_firm o
 
@@ -33,9 +35,11 @@ is_unsent (NoSlot create) = true
 is_unsent (NoOpen create) = true
 is_unsent _ = false
 
+-- it settled without acting (Refused, NoSlot, NoOpen)
 unfoldable pub refused_for_good : Outcome → Bool
 refused_for_good o = never_acted o
 
+-- the index names a slot, 1 to 64
 unfoldable pub in_slots : ℕ → Bool
 in_slots i = is_slot i
 
@@ -51,6 +55,7 @@ kept_of c s g = kept_at (s.lock_sequences (open_at c g) (c.slot_of g)) (c.number
 
 -- ---- the client's table
 
+-- a lock goes out with a slot
 abbrev pub SlotIndex : Client → Type 0
 SlotIndex c = (g : ℕ) → c.sent g ≡ true → locking (c.op g) ≡ true → in_slots (c.slot_of g) ≡ true
 
@@ -66,6 +71,7 @@ InUse c = (g : ℕ) → c.sent g ≡ true → locking (c.op g) ≡ true → firm
 abbrev pub FullFree : Client → Type 0
 FullFree c = (g : ℕ) → c.sent g ≡ true → locking (c.op g) ≡ true → is_unsettled (c.outcome g) ≡ true → c.full (create_at c g) (c.slot_of g) ≡ false
 
+-- an open was attached in a session that was
 abbrev pub AttachedLow : Client → Type 0
 AttachedLow c = (q : ℕ) → c.attached q ≤ c.session_number
 
@@ -73,9 +79,11 @@ AttachedLow c = (q : ℕ) → c.attached q ≤ c.session_number
 abbrev pub ShutOk : Client → Type 0
 ShutOk c = (h : ℕ) → shuts_open (c.op h) ≡ true → is_ok (c.outcome h) ≡ true → c.closed_ok (create_at c h) ≡ true
 
+-- what a close shut was an open
 abbrev pub ShutMade : Client → Type 0
 ShutMade c = (q : ℕ) → c.closed_ok q ≡ true → is_ok (c.outcome q) ≡ true × q ≤ c.taken
 
+-- what hasn't gone out by then settles as NoOpen
 abbrev pub ShutGone : Client → Type 0
 ShutGone c = (g : ℕ) → 0 < g → g ≤ c.taken → makes_open (c.op g) ≡ false → c.closed_ok (create_at c g) ≡ true → c.sent g ≡ false → is_unsettled (c.outcome g) ≡ false
 
@@ -87,6 +95,7 @@ CloseBefore c = (g h : ℕ) → c.sent g ≡ true → makes_open (c.op g) ≡ fa
 abbrev pub CloseAfter : Client → Type 0
 CloseAfter c = (h g : ℕ) → c.sent h ≡ true → shuts_open (c.op h) ≡ true → 0 < g → g < h → create_at c g ≡ create_at c h → makes_open (c.op g) ≡ false → is_unsettled (c.outcome g) ≡ false
 
+-- what settled as NoSlot or NoOpen never went out
 abbrev pub UnsentGone : Client → Type 0
 UnsentGone c = (g : ℕ) → is_unsent (c.outcome g) ≡ true → c.sent g ≡ false
 
@@ -101,6 +110,7 @@ abbrev pub AskUp : Client → (ℕ → Conn) → Type 0
 AskUp c conns = (k n g : ℕ) (x : Sent) → slice_get (conns k).up n ≡ Some x → x.token ≡ ForAttach g
     → 0 < g × g ≤ c.taken × makes_open (c.op g) ≡ false × is_ok (c.outcome (create_at c g)) ≡ true × x.message.command ≡ reconnect_of (c.op (create_at c g)) (guid_for c (create_at c g)) (open_at c g)
 
+-- and so is the reply to it
 abbrev pub AskDown : Client → (ℕ → Conn) → Type 0
 AskDown c conns = (k n g : ℕ) (y : Received) → slice_get (conns k).down n ≡ Some y → y.token ≡ ForAttach g → 0 < g × g ≤ c.taken × makes_open (c.op g) ≡ false × is_ok (c.outcome (create_at c g)) ≡ true
 
@@ -116,6 +126,7 @@ CopyNow c conns s = (k n g : ℕ) (x : Sent) → slice_get (conns k).up n ≡ So
 abbrev pub RetriedOn : Client → (ℕ → Conn) → Server → Type 0
 RetriedOn c conns s = (k n g : ℕ) (x : Sent) → slice_get (conns k).up n ≡ Some x → x.token ≡ ForOp g → locking (c.op g) ≡ true → s.present x.message.session_id ≡ true → c.live ≡ true → (conns k).client_open ≡ false → is_some (c.outstanding_on g) ≡ true → c.retried (create_at c g) (c.slot_of g) ≡ c.session_number
 
+-- the same where it is settled
 abbrev pub RetriedDone : Client → (ℕ → Conn) → Server → Type 0
 RetriedDone c conns s = (k n g : ℕ) (x : Sent) → slice_get (conns k).up n ≡ Some x → x.token ≡ ForOp g → locking (c.op g) ≡ true → s.present x.message.session_id ≡ true → c.live ≡ true → (conns k).client_open ≡ false → is_unsettled (c.outcome g) ≡ false → c.retried (create_at c g) (c.slot_of g) ≡ c.session_number
 
@@ -123,6 +134,7 @@ RetriedDone c conns s = (k n g : ℕ) (x : Sent) → slice_get (conns k).up n �
 abbrev pub CopyAttached : Client → (ℕ → Conn) → Server → Type 0
 CopyAttached c conns s = (k n g : ℕ) (x : Sent) → slice_get (conns k).up n ≡ Some x → x.token ≡ ForOp g → makes_open (c.op g) ≡ false → s.present x.message.session_id ≡ true → s.standing (open_at c g) ≡ true → s.session_of_open (open_at c g) ≡ Some x.message.session_id
 
+-- and so is the open of a create that settled Ok, where the client holds it for attached in the live session
 abbrev pub NowAttached : Client → Server → Type 0
 NowAttached c s = (q : ℕ) → makes_open (c.op q) ≡ true → is_ok (c.outcome q) ≡ true → c.live ≡ true → c.attached q ≡ c.session_number → s.present c.session ≡ true → s.standing (c.file q) ≡ true → s.session_of_open (c.file q) ≡ Some c.session
 
@@ -130,9 +142,11 @@ NowAttached c s = (q : ℕ) → makes_open (c.op q) ≡ true → is_ok (c.outcom
 abbrev pub OpenedReply : Client → (ℕ → Conn) → Server → Type 0
 OpenedReply c conns s = (k n g : ℕ) (y : Received) → slice_get (conns k).down n ≡ Some y → y.token ≡ ForOp g → makes_open (c.op g) ≡ true → y.reply.status ≡ success → c.live ≡ true → s.present c.session ≡ true → s.standing (id_in y.reply.body) ≡ true → s.session_of_open (id_in y.reply.body) ≡ Some c.session
 
+-- of a DH2C
 abbrev pub JoinReply : Client → (ℕ → Conn) → Server → Type 0
 JoinReply c conns s = (k n g : ℕ) (y : Received) → slice_get (conns k).down n ≡ Some y → y.token ≡ ForAttach g → y.reply.status ≡ success → c.live ≡ true → s.present c.session ≡ true → s.standing (open_at c g) ≡ true → s.session_of_open (open_at c g) ≡ Some c.session
 
+-- where the open is gone again, the client holds it for attached already
 abbrev pub JoinedReply : Client → (ℕ → Conn) → Server → Type 0
 JoinedReply c conns s = (k n g : ℕ) (y : Received) → slice_get (conns k).down n ≡ Some y → y.token ≡ ForAttach g → y.reply.status ≡ success → c.live ≡ true → s.present c.session ≡ true → s.standing (open_at c g) ≡ false → c.attached (create_at c g) ≡ c.session_number
 
@@ -142,9 +156,11 @@ LostReply c conns s = (k n g : ℕ) (y : Received) → slice_get (conns k).down 
 
 -- ---- slots: what the slot of its last user keeps for it says whether it acted
 
+-- the status that it keeps says whether the lock acted
 abbrev pub KeptSays : Client → Server → (ℕ → ℕ) → Type 0
 KeptSays c s a = (g status : ℕ) → user_at c g ≡ Some g → s.standing (open_at c g) ≡ true → kept_of c s g ≡ Some status → a g ≡ (if status == success then 1 else 0)
 
+-- where it keeps none, it never acted
 abbrev pub NotKept : Client → Server → (ℕ → ℕ) → Type 0
 NotKept c s a = (g : ℕ) → user_at c g ≡ Some g → s.standing (open_at c g) ≡ true → kept_of c s g ≡ None → a g ≡ 0
 
@@ -156,6 +172,7 @@ FirmKept c s = (g : ℕ) → user_at c g ≡ Some g → firm (c.outcome g) ≡ t
 abbrev pub NoUser : Client → Server → Type 0
 NoUser c s = (q i : ℕ) → is_ok (c.outcome q) ≡ true → makes_open (c.op q) ≡ true → c.slot_user q i ≡ None → s.standing (c.file q) ≡ true → s.lock_sequences (c.file q) i ≡ None
 
+-- here of the open whose create isn't settled as Ok
 abbrev pub NoSlots : Client → Server → Type 0
 NoSlots c s = (q i o : ℕ) → makes_open (c.op q) ≡ true → is_ok (c.outcome q) ≡ false → s.by_guid c.who.guid (guid_for c q) ≡ Some o → s.lock_sequences o i ≡ None
 
@@ -165,6 +182,7 @@ FullDead c conns s = (k n g : ℕ) (x : Sent) → slice_get (conns k).up n ≡ S
 
 -- ---- replies that wait
 
+-- a success is of a lock that acted once
 abbrev pub OkReply : Client → (ℕ → Conn) → (ℕ → ℕ) → Type 0
 OkReply c conns a = (k n g : ℕ) (y : Received) → slice_get (conns k).down n ≡ Some y → y.token ≡ ForOp g → locking (c.op g) ≡ true → y.reply.status ≡ success → a g ≡ 1
 
@@ -172,6 +190,7 @@ OkReply c conns a = (k n g : ℕ) (y : Received) → slice_get (conns k).down n 
 abbrev pub NoReply : Client → (ℕ → Conn) → (ℕ → ℕ) → Type 0
 NoReply c conns a = (k n g : ℕ) (y : Received) → slice_get (conns k).down n ≡ Some y → y.token ≡ ForOp g → locking (c.op g) ≡ true → y.reply.status ≢ success → y.reply.status ≢ user_session_deleted → y.reply.status ≢ disk_full → a g ≡ 0
 
+-- what a reply told the slot keeps, while the open stands
 abbrev pub KeptReply : Client → (ℕ → Conn) → Server → Type 0
 KeptReply c conns s = (k n g : ℕ) (y : Received) → slice_get (conns k).down n ≡ Some y → y.token ≡ ForOp g → locking (c.op g) ≡ true → y.reply.status ≢ user_session_deleted → y.reply.status ≢ disk_full → s.standing (open_at c g) ≡ true → is_some (kept_of c s g) ≡ true
 
@@ -199,6 +218,7 @@ KeptFiles s = (o : ℕ) → s.standing o ≡ true → deletes_on_close (s.opened
 abbrev pub LeftFull : Client → (ℕ → Conn) → Server → Type 0
 LeftFull c conns s = (k n h : ℕ) (x : Sent) → slice_get (conns k).up n ≡ Some x → x.token ≡ ForOp h → shuts_open (c.op h) ≡ true → s.present x.message.session_id ≡ true → c.live ≡ true → is_unsettled (c.outcome h) ≡ false → is_ok (c.outcome h) ≡ false → s.standing (open_at c h) ≡ true → (s.opened (open_at c h)).persistent ≡ true → lower_limit < s.journal + 66
 
+-- the same of a plain open, which goes with its file
 abbrev pub LeftStuck : Client → (ℕ → Conn) → Server → Type 0
 LeftStuck c conns s = (k n h : ℕ) (x : Sent) → slice_get (conns k).up n ≡ Some x → x.token ≡ ForOp h → shuts_open (c.op h) ≡ true → s.present x.message.session_id ≡ true → c.live ≡ true → is_unsettled (c.outcome h) ≡ false → is_ok (c.outcome h) ≡ false → s.standing (open_at c h) ≡ true → (s.opened (open_at c h)).persistent ≡ false → lower_limit < s.journal + 34 × goes_with s (open_at c h) ≡ true
 
@@ -207,31 +227,39 @@ abbrev pub LeftIdle : Client → (ℕ → Conn) → Server → (ℕ → ℕ) →
 LeftIdle c conns s a = (k n h g : ℕ) (x : Sent) → slice_get (conns k).up n ≡ Some x → x.token ≡ ForOp h → shuts_open (c.op h) ≡ true → s.present x.message.session_id ≡ true → c.live ≡ true → is_unsettled (c.outcome h) ≡ false → is_ok (c.outcome h) ≡ false → s.standing (open_at c h) ≡ true
     → (s.opened (open_at c h)).persistent ≡ true → locking (c.op g) ≡ true → create_at c g ≡ create_at c h → h < g → a g ≡ 0
 
+-- a close's success tells that the open is gone
 abbrev pub CloseDone : Client → (ℕ → Conn) → Server → Type 0
 CloseDone c conns s = (k n h : ℕ) (y : Received) → slice_get (conns k).down n ≡ Some y → y.token ≡ ForOp h → shuts_open (c.op h) ≡ true → y.reply.status ≡ success → s.standing (open_at c h) ≡ false
 
+-- a refused close whose persistent open stands met a full disk
 abbrev pub CloseFull : Client → (ℕ → Conn) → Server → Type 0
 CloseFull c conns s = (k n h : ℕ) (y : Received) → slice_get (conns k).down n ≡ Some y → y.token ≡ ForOp h → shuts_open (c.op h) ≡ true → y.reply.status ≢ user_session_deleted → y.reply.status ≢ file_closed → s.standing (open_at c h) ≡ true → (s.opened (open_at c h)).persistent ≡ true → lower_limit < s.journal + 66
 
+-- and so did that of a plain one
 abbrev pub CloseStuck : Client → (ℕ → Conn) → Server → Type 0
 CloseStuck c conns s = (k n h : ℕ) (y : Received) → slice_get (conns k).down n ≡ Some y → y.token ≡ ForOp h → shuts_open (c.op h) ≡ true → y.reply.status ≢ user_session_deleted → y.reply.status ≢ file_closed → s.standing (open_at c h) ≡ true → (s.opened (open_at c h)).persistent ≡ false → lower_limit < s.journal + 34 × goes_with s (open_at c h) ≡ true
 
 -- ---- where a create acted, the client's share isn't that of the pipes
 
+-- the share is that of the pipes
 unfoldable pub piped : List ℕ → Bool
 piped share = same_name share pipes_name
 
+-- there no create acts
 abbrev pub MadePlain : Client → (ℕ → ℕ) → Type 0
 MadePlain c a = (q : ℕ) → makes_open (c.op q) ≡ true → 1 ≤ a q → piped c.who.share ≡ false
 
 -- ---- what is to be shown
 
+-- a lock or unlock acts at most once
 abbrev pub AtMost : Client → (ℕ → ℕ) → Type 0
 AtMost c a = (g : ℕ) → locking (c.op g) ≡ true → a g ≤ 1
 
+-- exactly once where it settled Ok
 abbrev pub OkActed : Client → (ℕ → ℕ) → Type 0
 OkActed c a = (g : ℕ) → locking (c.op g) ≡ true → is_ok (c.outcome g) ≡ true → a g ≡ 1
 
+-- never where it settled as Refused, NoSlot or NoOpen
 abbrev pub RefusedNot : Client → (ℕ → ℕ) → Type 0
 RefusedNot c a = (g : ℕ) → locking (c.op g) ≡ true → refused_for_good (c.outcome g) ≡ true → a g ≡ 0
 

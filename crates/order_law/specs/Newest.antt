@@ -16,9 +16,11 @@ Pair s session sequence o = s.standing o ≡ true → s.present session ≡ true
 abbrev pub Ranked : World → Type 0
 Ranked w = (i o : ℕ) → i < w.log.places → w.trace.reached i ≡ Some o → 0 < w.client.rank (w.trace.session i)
 
+-- a change was made in a session that the client accepted
 abbrev pub RankedChange : World → Type 0
 RankedChange w = (i o : ℕ) → i < w.log.places → w.trace.altered i ≡ Some o → 0 < w.client.rank (w.trace.session i)
 
+-- an open that was reached has an id that was given
 abbrev pub ReachedGiven : World → Type 0
 ReachedGiven w = (i o : ℕ) → i < w.log.places → w.trace.reached i ≡ Some o → o ≤ id_of w.server.epoch w.server.open_ids_given
 
@@ -30,6 +32,7 @@ Held w = (i o : ℕ) → i < w.log.places → w.trace.reached i ≡ Some o → P
 abbrev pub LowSequences : Server → Type 0
 LowSequences s = (o : ℕ) → s.sequence o ≤ 32767
 
+-- the six parts
 pub record Newest (w : World) : Type 0 where
   pub ranked : Ranked w
   pub ranked_change : RankedChange w
@@ -55,5 +58,6 @@ pub record Below (w : World) : Type 0 where
   pub making_unranked : MakingUnranked w.client w.server
   pub recorded : (fold w.records).epoch ≡ w.server.epoch
 
+-- in every world that a run leads to
 abbrev pub BelowAll : Settings → Type 0
 BelowAll z = (es : List Event) → Below (run es (start z))

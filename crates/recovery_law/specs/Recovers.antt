@@ -46,12 +46,15 @@ pub record CountsAgree (fold_version its_version fold_epoch its_epoch fold_given
   pub expired_guids : fold_expired ≡ its_expired
   pub expired_count : fold_count ≡ its_count
 
+-- the columns of files, of the fold d and of the server s
 abbrev pub Files : Server → Server → Type 0
 Files d s = FilesAgree d.entries s.entries d.next_file s.next_file d.directory s.directory d.delete_pending s.delete_pending d.basic s.basic d.content s.content
 
+-- those of opens
 abbrev pub Opens : Server → Server → Type 0
 Opens d s = OpensAgree d.opens s.opens d.standing s.standing d.opened s.opened d.lock_sequences s.lock_sequences d.by_guid s.by_guid d.ranges s.ranges
 
+-- those of counts
 abbrev pub Counts : Server → Server → Type 0
 Counts d s = CountsAgree d.version s.version d.epoch s.epoch d.open_ids_given s.open_ids_given d.room s.room d.expired_guids s.expired_guids d.expired_count s.expired_count
 
@@ -59,5 +62,6 @@ Counts d s = CountsAgree d.version s.version d.epoch s.epoch d.open_ids_given s.
 abbrev pub Mirrors : Server → Server → Type 0
 Mirrors d s = Files d s × Opens d s × Counts d s
 
+-- the fold of the records agrees with the server
 abbrev pub Recovers : List Record → Server → Type 0
 Recovers rs s = Mirrors (fold rs) s

@@ -21,6 +21,7 @@ pub record NoSessions (at : ℕ → Option ℕ) (sequence : ℕ → ℕ) (deadli
   pub off : (k : ℕ) → on k ≡ None
   pub unmade : (k : ℕ) → making k ≡ None
 
+-- a server without sessions, trees and connections
 abbrev pub Bare : Server → Type 0
 Bare s = NoSessions s.session_of_open s.sequence s.deadline s.enumeration_location s.present s.sessions s.trees s.closed s.refused s.guids s.connections s.session_on s.making
 

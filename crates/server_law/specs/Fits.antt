@@ -21,6 +21,7 @@ PlainAttached s = (o : ℕ) → s.standing o ≡ true → (s.opened o).persisten
 abbrev pub GuidOpen : Server → Type 0
 GuidOpen s = (c g o : ℕ) → s.by_guid c g ≡ Some o → s.standing o ≡ true × (s.opened o).client_guid ≡ c × (s.opened o).create_guid ≡ Some g
 
+-- and the other way round: the guid of an open that stands names it
 abbrev pub OpenGuid : Server → Type 0
 OpenGuid s = (o g : ℕ) → s.standing o ≡ true → (s.opened o).create_guid ≡ Some g → s.by_guid (s.opened o).client_guid g ≡ Some o
 
@@ -36,25 +37,31 @@ Deadlines s = (o d : ℕ) → s.deadline o ≡ Some d → s.session_of_open o �
 abbrev pub Listed : Server → Type 0
 Listed s = (o : ℕ) → has o s.opens ≡ s.standing o
 
+-- each is above the one before it
 unfoldable pub is_ascending : List ℕ → Bool
 is_ascending [] = true
 is_ascending (o ∷ []) = true
 is_ascending (o ∷ p ∷ os) = nat_lt o p && is_ascending (p ∷ os)
 
+-- GlobalOpenTable is kept in the order of the ids
 abbrev pub Ascending : Server → Type 0
 Ascending s = is_ascending s.opens ≡ true
 
 -- ---- ids
 
+-- an open that stands has an id of this epoch or an earlier one, at most the last that was given
 abbrev pub OpenIds : Server → Type 0
 OpenIds s = (o : ℕ) → s.standing o ≡ true → 0 < o × o ≤ id_of s.epoch s.open_ids_given
 
+-- ids of opens are given as long as their counter has 32 bits
 abbrev pub Given : Server → Type 0
 Given s = s.open_ids_given ≤ max_ids
 
+-- and so are ids of sessions
 abbrev pub Begun : Server → Type 0
 Begun s = s.session_ids_given ≤ max_ids
 
+-- a session that is there has an id that was given
 abbrev pub SessionIds : Server → Type 0
 SessionIds s = (x : ℕ) → s.present x ≡ true → 0 < x × x ≤ id_of s.epoch s.session_ids_given
 
@@ -62,6 +69,7 @@ SessionIds s = (x : ℕ) → s.present x ≡ true → 0 < x × x ≤ id_of s.epo
 abbrev pub MakingIds : Server → Type 0
 MakingIds s = (k x : ℕ) → s.making k ≡ Some (NewSession x) → 0 < x × x ≤ id_of s.epoch s.session_ids_given × s.present x ≡ false
 
+-- no session is in the making on two connections
 abbrev pub MakingOnce : Server → Type 0
 MakingOnce s = (j k x : ℕ) → s.making j ≡ Some (NewSession x) → s.making k ≡ Some (NewSession x) → j ≡ k
 
@@ -79,15 +87,19 @@ OnMade s = (k x : ℕ) → s.session_on k ≡ Some x → s.making k ≡ None
 abbrev pub NoTrees : Server → Type 0
 NoTrees s = (x : ℕ) → s.present x ≡ false → s.trees x ≡ []
 
+-- nor guids of closed opens
 abbrev pub NoClosed : Server → Type 0
 NoClosed s = (x g : ℕ) → s.present x ≡ false → s.closed x g ≡ false
 
+-- nor refusals of creates
 abbrev pub NoRefused : Server → Type 0
 NoRefused s = (x g : ℕ) → s.present x ≡ false → s.refused x g ≡ None
 
+-- nor a count of guids
 abbrev pub NoGuids : Server → Type 0
 NoGuids s = (x : ℕ) → s.present x ≡ false → s.guids x ≡ 0
 
+-- ids of trees count from 1
 abbrev pub NextTree : Server → Type 0
 NextTree s = (x : ℕ) → s.present x ≡ true → 0 < s.next_tree x
 
@@ -105,6 +117,7 @@ RangeOwners s = (f n : ℕ) (r : Range) → slice_get (s.ranges f) n ≡ Some r 
 abbrev pub NotRoot : Server → Type 0
 NotRoot s = (o : ℕ) → deletes_on_close (s.opened o).options ≡ true → (s.opened o).file ≢ root
 
+-- the root is never delete pending
 abbrev pub RootStays : Server → Type 0
 RootStays s = s.delete_pending root ≡ false
 
@@ -112,12 +125,15 @@ RootStays s = s.delete_pending root ≡ false
 abbrev pub OpenFiles : Server → Type 0
 OpenFiles s = (o : ℕ) → s.standing o ≡ true → exists s (s.opened o).file ≡ true
 
+-- files count from 1, and 0 is the root
 abbrev pub NextFile : Server → Type 0
 NextFile s = 0 < s.next_file
 
+-- a file that is there has a number that was given
 abbrev pub FileNumbers : Server → Type 0
 FileNumbers s = (f : ℕ) → exists_in s.entries f ≡ true → 0 < f × f < s.next_file
 
+-- no server has more room than the fold
 abbrev pub Room : Server → Type 0
 Room s = s.room ≤ full_room
 

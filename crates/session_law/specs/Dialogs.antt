@@ -20,6 +20,7 @@ pub data Channel (ready : Bool) (stage : Stage) (conn : Conn) : Type 0 where
   IsReady : ready ≡ true → stage ≡ Apart → conn.client_open ≡ true → Channel ready stage conn
   IsInDialog : ready ≡ false → is_talking stage ≡ true → conn.client_open ≡ true → Awaits conn → Channel ready stage conn
 
+-- of every channel
 abbrev pub Channels : Client → (ℕ → Conn) → Type 0
 Channels c conns = (k : ℕ) → Channel (c.ready k) (c.stage k) (conns k)
 
@@ -27,6 +28,7 @@ Channels c conns = (k : ℕ) → Channel (c.ready k) (c.stage k) (conns k)
 abbrev pub MakingTalks : Client → Type 0
 MakingTalks c = (k : ℕ) → c.making ≡ Some k → makes_session (c.stage k) ≡ true
 
+-- a SESSION_SETUP that carries a signature
 unfoldable pub is_signed : Command → Bool
 is_signed (Setup request) = request.signed
 is_signed _ = false

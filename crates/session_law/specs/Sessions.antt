@@ -31,6 +31,7 @@ logon_user Bad = []
 logon_user Refused = []
 logon_user (Logon user) = user
 
+-- the token shows a logon
 abbrev pub is_logon : Shows → Bool
 is_logon Begins = false
 is_logon Bad = false
@@ -59,6 +60,7 @@ unfoldable pub is_new_setup : Command → Bool
 is_new_setup (Setup request) = not request.binding
 is_new_setup _ = false
 
+-- a TREE_CONNECT
 unfoldable pub is_tree_connect : Command → Bool
 is_tree_connect (TreeConnect share) = true
 is_tree_connect _ = false
@@ -68,10 +70,12 @@ unfoldable pub logs_on : Command → Bool
 logs_on (Setup request) = is_logon request.shows
 logs_on _ = false
 
+-- the user that a SESSION_SETUP logs on
 unfoldable pub user_in : Command → List ℕ
 user_in (Setup request) = logon_user request.shows
 user_in _ = []
 
+-- its PreviousSessionId
 unfoldable pub previous_in : Command → ℕ
 previous_in (Setup request) = request.previous
 previous_in _ = 0
@@ -90,9 +94,11 @@ SessionRanked c = 0 < c.session_number → 0 < c.rank c.session
 abbrev pub Ranks : Client → Type 0
 Ranks c = (x : ℕ) → c.rank x ≤ c.accepted_count
 
+-- the last accepted session has the last rank
 abbrev pub LastRank : Client → Type 0
 LastRank c = 0 < c.accepted_count → c.rank c.accepted ≡ c.accepted_count
 
+-- no two sessions have one rank
 abbrev pub RankOnce : Client → Type 0
 RankOnce c = (x y : ℕ) → 0 < c.rank x → c.rank x ≡ c.rank y → x ≡ y
 
@@ -100,6 +106,7 @@ RankOnce c = (x y : ℕ) → 0 < c.rank x → c.rank x ≡ c.rank y → x ≡ y
 abbrev pub Making : Client → Type 0
 Making c = (k : ℕ) → makes_session (c.stage k) ≡ true → c.making ≡ Some k
 
+-- while TREE_CONNECT is asked, the session that the dialog makes is the last accepted one
 abbrev pub PendingAccepted : Client → Type 0
 PendingAccepted c = (k : ℕ) → c.stage k ≡ AskedTree → c.pending ≡ c.accepted × 0 < c.rank c.accepted
 
@@ -107,6 +114,7 @@ PendingAccepted c = (k : ℕ) → c.stage k ≡ AskedTree → c.pending ≡ c.ac
 abbrev pub PendingUnranked : Client → Type 0
 PendingUnranked c = (k : ℕ) → c.stage k ≡ SaidSecond false → c.rank c.pending ≡ 0
 
+-- the client ends a session at the sequence 32,767
 abbrev pub SequenceLow : Client → Type 0
 SequenceLow c = c.sequence ≤ 32767
 
@@ -120,6 +128,7 @@ NumberedSessions c = (create slot : ℕ) → c.attached create ≤ c.session_num
 abbrev pub CurrentUp : Client → (ℕ → Conn) → Type 0
 CurrentUp c conns = (k n : ℕ) (x : Sent) → slice_get (conns k).up n ≡ Some x → is_ops x.token ≡ true → (conns k).client_open ≡ true → c.live ≡ true × x.message.session_id ≡ c.session
 
+-- and so is a reply
 abbrev pub CurrentDown : Client → (ℕ → Conn) → Type 0
 CurrentDown c conns = (k n : ℕ) (y : Received) → slice_get (conns k).down n ≡ Some y → is_ops y.token ≡ true → (conns k).client_open ≡ true → c.live ≡ true × y.reply.session_id ≡ c.session
 
@@ -127,6 +136,7 @@ CurrentDown c conns = (k n : ℕ) (y : Received) → slice_get (conns k).down n 
 abbrev pub RankedUp : Client → (ℕ → Conn) → Type 0
 RankedUp c conns = (k n : ℕ) (x : Sent) → slice_get (conns k).up n ≡ Some x → is_ops x.token ≡ true → 0 < c.rank x.message.session_id
 
+-- each message has the client's ClientGuid and its connection's number, and is signed and sealed as owed
 abbrev pub FromClient : Client → (ℕ → Conn) → Type 0
 FromClient c conns = (k n : ℕ) (x : Sent) → slice_get (conns k).up n ≡ Some x → x.message.client_guid ≡ c.who.guid × x.message.connection ≡ k × x.message.fault ≡ None
 
@@ -138,6 +148,7 @@ SequencesUp c conns = (k n : ℕ) (x : Sent) → slice_get (conns k).up n ≡ So
 abbrev pub WorkUp : (ℕ → Conn) → Type 0
 WorkUp conns = (k n : ℕ) (x : Sent) → slice_get (conns k).up n ≡ Some x → is_ops x.token ≡ true → is_work x.message.command ≡ true
 
+-- and a dialog's message is a dialog's command, of the sequence 0
 abbrev pub DialogUp : (ℕ → Conn) → Type 0
 DialogUp conns = (k n : ℕ) (x : Sent) → slice_get (conns k).up n ≡ Some x → is_ops x.token ≡ false → x.message.channel_sequence ≡ 0 × is_dialog x.message.command ≡ true
 
@@ -154,6 +165,7 @@ abbrev pub SecondUp : Client → (ℕ → Conn) → Type 0
 SecondUp c conns = (k n : ℕ) (x : Sent) → slice_get (conns k).up n ≡ Some x → (conns k).client_open ≡ true → is_ops x.token ≡ false → c.stage k ≡ SaidSecond false
     → is_new_setup x.message.command ≡ true × previous_in x.message.command ≡ c.accepted × x.message.session_id ≡ c.pending
 
+-- then a TREE_CONNECT in the session that it makes
 abbrev pub TreeConnectUp : Client → (ℕ → Conn) → Type 0
 TreeConnectUp c conns = (k n : ℕ) (x : Sent) → slice_get (conns k).up n ≡ Some x → (conns k).client_open ≡ true → is_ops x.token ≡ false → c.stage k ≡ AskedTree
     → is_tree_connect x.message.command ≡ true × x.message.session_id ≡ c.pending
@@ -172,6 +184,7 @@ PresentAccepted c s = (x : ℕ) → s.present x ≡ true → 0 < c.rank x → x 
 abbrev pub RankedGiven : Client → Server → Type 0
 RankedGiven c s = (x : ℕ) → 0 < c.rank x → 0 < x × x ≤ id_of s.epoch s.session_ids_given
 
+-- a session in the making was never accepted
 abbrev pub MakingUnranked : Client → Server → Type 0
 MakingUnranked c s = (k x : ℕ) → is_new x (s.making k) ≡ true → c.rank x ≡ 0
 
@@ -179,9 +192,11 @@ MakingUnranked c s = (k x : ℕ) → is_new x (s.making k) ≡ true → c.rank x
 abbrev pub SessionUsers : Client → Server → Type 0
 SessionUsers c s = (x : ℕ) → s.present x ≡ true → s.user x ≡ logon_user c.who.logon
 
+-- and of its ClientGuid
 abbrev pub OpenUsers : Client → Server → Type 0
 OpenUsers c s = (o : ℕ) → s.standing o ≡ true → (s.opened o).user ≡ logon_user c.who.logon × (s.opened o).client_guid ≡ c.who.guid
 
+-- the session that a dialog makes has an id that was given
 abbrev pub PendingGiven : Client → Server → Type 0
 PendingGiven c s = (k : ℕ) → c.stage k ≡ SaidSecond false → 0 < c.pending × c.pending ≤ id_of s.epoch s.session_ids_given
 
@@ -201,9 +216,11 @@ SecondReply c conns s = (k n : ℕ) (y : Received) → slice_get (conns k).down 
 abbrev pub TreeUp : (ℕ → Conn) → Server → Type 0
 TreeUp conns s = (k n : ℕ) (x : Sent) → slice_get (conns k).up n ≡ Some x → is_ops x.token ≡ true → s.present x.message.session_id ≡ true → is_some (tree_in (s.trees x.message.session_id) x.message.tree_id) ≡ true
 
+-- so is the client's tree while its session is
 abbrev pub TreeLive : Client → Server → Type 0
 TreeLive c s = c.live ≡ true → s.present c.session ≡ true → is_some (tree_in (s.trees c.session) c.tree) ≡ true
 
+-- and the tree that a TREE_CONNECT's success tells
 abbrev pub TreeReply : Client → (ℕ → Conn) → Server → Type 0
 TreeReply c conns s = (k n : ℕ) (y : Received) → slice_get (conns k).down n ≡ Some y → is_ops y.token ≡ false → c.stage k ≡ AskedTree → y.reply.status ≡ success
     → s.present c.accepted ≡ true → is_some (tree_in (s.trees c.accepted) y.reply.tree_id) ≡ true
