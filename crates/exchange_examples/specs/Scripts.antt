@@ -1,5 +1,5 @@
 -- Scripts of the worked examples, and what is script_ends of the worlds that they come to.
-use Rattle.std.specs.Prelude.{ℕ, zero, suc, ◌+◌, Bool, true, false, if◌then◌else◌, List, [], ◌∷◌, Some, is_some, ◌==◌, nat_lt}
+use Rattle.std.specs.Prelude.{ℕ, zero, suc, ◌+◌, Bool, true, false, if◌then◌else◌, List, [], ◌∷◌, ◌++◌, Some, is_some, ◌==◌, nat_lt}
 use Rattle.exchange_defs.specs.Order.{order_of}
 use Rattle.exchange_defs.specs.Operations.{HadStatus, Op, OpCreate, OpWrite, OpRead, OpEnd, OpTime, OpRename, OpRemove, OpLock, OpUnlock, OpStat, OpList, OpClose, Outcome}
 use Rattle.exchange_defs.specs.Client.{Identity, last_sequence}
@@ -528,3 +528,8 @@ repeated_on_a_directory op =
 -- Two files whose names stand in another order by bytes than by upper case.
 abbrev pub files_by_bytes : List Line
 files_by_bytes = submit 1 (OpCreate (97 ∷ []) 0x183 0 2 false false) ∷ submit 2 (OpCreate (66 ∷ []) 0x183 0 2 false false) ∷ Settles ∷ []
+
+-- Channels are linked in turn, of which a session has thirty-two.
+abbrev pub links_to : ℕ → List Line
+links_to zero = []
+links_to (suc n) = links_to n ++ Links n ∷ []
