@@ -1,11 +1,11 @@
 -- What is said of schedules that end in settling, over all 256 channels.
-use Rattle.std.specs.Prelude.{◌≡◌, ◌≢◌, ℕ, ◌≤◌, ◌<◌, Bool, true, false, ◌&&◌, List, [], ◌∷◌, ◌++◌}
+use Rattle.std.specs.Prelude.{◌≡◌, ◌≢◌, ℕ, ◌≤◌, ◌<◌, Bool, true, false, not, ◌&&◌, List, [], ◌∷◌, ◌++◌}
 use Rattle.exchange_defs.specs.Status.{user_session_deleted}
 use Rattle.exchange_defs.specs.Operations.{is_unsettled}
 use Rattle.exchange_defs.specs.Client.{Client}
-use Rattle.exchange_defs.specs.ClientStep.{last_number}
+use Rattle.exchange_defs.specs.ClientStep.{last_number, some_unsettled}
 use Rattle.exchange_defs.specs.Schedules.{Course, Line, Settles, course, drain, link, has_more, is_linking}
-use Rattle.exchange_defs.specs.Network.{World, Event, Cut, Drop, Restart, Crash, Finish, Sent, Settings, run, start, answer}
+use Rattle.exchange_defs.specs.Network.{World, Event, Cut, Finish, Sent, Settings, happens, run, start, answer}
 
 -- the course before the first line
 abbrev pub begun : Settings → Course
@@ -29,7 +29,8 @@ LinkSuffices = (z : Settings) (ls : List Line) (k : ℕ) → is_linking (link (c
 
 -- On a ready channel both of whose ends are open, the server finds the session of what it takes.
 abbrev pub FindsSession : World → Type 0
-FindsSession w = (k : ℕ) (x : Sent) (rest : List Sent) → w.client.ready k ≡ true → (w.conns k).client_open ≡ true → (w.conns k).server_open ≡ true → (w.conns k).up ≡ x ∷ rest → (answer w x).reply.status ≢ user_session_deleted
+FindsSession w = (k : ℕ) (x : Sent) (rest : List Sent) → w.client.ready k ≡ true → (w.conns k).client_open ≡ true
+    → (w.conns k).server_open ≡ true → (w.conns k).up ≡ x ∷ rest → (answer w x).reply.status ≢ user_session_deleted
 
 -- in every world that a run leads to
 abbrev pub SessionFound : Type 0
@@ -47,20 +48,18 @@ SettleSettles =
     (z : Settings) (ls : List Line) → (course_of z (ls ++ Settles ∷ [])).world.client.session_number < last_number
     → AllSettled (course_of z (ls ++ Settles ∷ [])).world.client
 
--- ---- runs on which nothing is lost
+-- ---- runs on which the client loses nothing
 
--- No connection is cut or dropped, the server doesn't stop, and nothing is given up for a logon that is refused. A script
--- without such events may yet end otherwise: `settle` gives all up where the logon is refused, as `refused_logon_example` in
--- exchange_examples computes, so the events here are those of the whole course. What such a run leaves says `outcomes_law`.
-abbrev pub loses_nothing : Event → Bool
-loses_nothing (Cut k) = false
-loses_nothing (Drop k) = false
-loses_nothing Restart = false
-loses_nothing (Crash k kept) = false
-loses_nothing (Finish refusal) = false
-loses_nothing _ = true
+-- While an operation is unsettled the client cuts no ready channel, and gives nothing up for a logon that is refused. What the
+-- server loses, by a drop, a restart or a crash, the client learns of at a cut alone. A script without such lines may yet have
+-- such events: `settle` cuts what hangs, and gives all up where the logon is refused, as `refused_logon_example` in
+-- exchange_examples computes; so the events here are those of the whole course. What such a run leaves says `outcomes_law`.
+abbrev pub loses_nothing : World → Event → Bool
+loses_nothing w (Cut k) = not (w.client.ready k && some_unsettled w.client w.client.taken)
+loses_nothing w (Finish refusal) = not (some_unsettled w.client w.client.taken)
+loses_nothing w _ = true
 
--- none of the events loses anything
-unfoldable pub without_losses : List Event → Bool
-without_losses [] = true
-without_losses (e ∷ es) = loses_nothing e && without_losses es
+-- none of the events loses anything, each in the world that it comes to
+unfoldable pub without_losses : List Event → World → Bool
+without_losses [] w = true
+without_losses (e ∷ es) w = loses_nothing w e && without_losses es (happens w e)

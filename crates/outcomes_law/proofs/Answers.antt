@@ -22,7 +22,13 @@ use Rattle.session_law.specs.Sessions.{is_ops}
 use Rattle.completeness_law.specs.Completeness.{loses_nothing, without_losses}
 use Rattle.completeness_law.proofs.Client.{Took, Ending, Finishing, Small, Takes, client_keeps}
 use Rattle.completeness_law.proofs.Columns.{taken_on}
-use Rattle.completeness_law.proofs.Lossless.{Here, unlost_at, heard_ends}
+use Rattle.completeness_law.proofs.Lossless.{Here, Rest, rest_of, settled_same, unlost_at, heard_ends}
+use Rattle.exchange_law.proofs.Run.{connections}
+use Rattle.order_law.proofs.Words.{left_firm}
+use Rattle.exchange_defs.specs.Operations.{is_unsettled, persists, SessionLost}
+use Rattle.exchange_defs.specs.ClientStep.{some_unsettled}
+use Rattle.exchange_defs.specs.Client.{is_taken, end_session, outcome_after_end, plain_after_end, unsent_after_end}
+use Rattle.exchange_defs.specs.Client.{finish, outcome_after_finish}
 use Rattle.completeness_law.proofs.Runs.{session_found}
 use Rattle.outcomes_law.specs.Outcomes.{Answered, SettledAs, AsOk, AsRefused, AllAnswered, is_known}
 use Rattle.outcomes_law.proofs.Waiting.{every, Made, made, reading}
@@ -197,7 +203,8 @@ begun_along z es e c k g i h =
 record Known (z : Settings) (es : List Event) (e : Event) : Type 0 where
   here : Here (run es (start z))
   made : (k n : ℕ) (y : Received) → slice_get ((run es (start z)).conns k).down n ≡ Some y → Made z es y
-  kept : loses_nothing e ≡ true
+  kept : loses_nothing (run es (start z)) e ≡ true
+  rest : some_unsettled (run es (start z)).client (run es (start z)).client.taken ≡ false → Rest (run es (start z)).client
 
 op_token : (asking : Bool) (g : ℕ) → is_ops (if asking then ForAttach g else ForOp g) ≡ true
 op_token true g = refl
@@ -245,11 +252,64 @@ settles_along z es e k g asking r place o f t h =
               (settles_as c g asking r o (f.here.client g).0 t.heard_as (ap is_firm (sym same) ∙ q));
         }))))
 
-no_cut : (k : ℕ) (e : Event) (P : Type 0) → loses_nothing e ≡ true → e ≡ Cut k → P
-no_cut k e P l is = absent (loses_nothing e) P l (ap loses_nothing is)
+-- where the client loses something, nothing is unsettled
+quiet_cut : (z : Settings) (es : List Event) (e : Event) (k : ℕ) → Known z es e → (run es (start z)).client.ready k
+    ≡ true → e ≡ Cut k → Rest (run es (start z)).client
+quiet_cut z es e k f on is = f.rest (off (run es (start z)) on (subst (λ v. loses_nothing (run es (start z)) v ≡ true) is f.kept))
+  where
+    off : (w : World) → w.client.ready k ≡ true → loses_nothing w (Cut k) ≡ true → some_unsettled w.client w.client.taken ≡ false
+    off w on l = both (w.client.ready k) (some_unsettled w.client w.client.taken) on l
+      where
+        both : (a b : Bool) → a ≡ true → not (a && b) ≡ true → b ≡ false
+        both a b e f = grind arith
 
-no_finish : (e : Event) (why : Why) (P : Type 0) → loses_nothing e ≡ true → Finishing e why → P
-no_finish e why P l f = absent (loses_nothing e) P l (ap loses_nothing f.is)
+quiet_finish : (z : Settings) (es : List Event) (e : Event) (why : Why) → Known z es e → Finishing e why → Rest (run es (start z)).client
+quiet_finish z es e why f d = f.rest (off (run es (start z)) (subst (λ v. loses_nothing (run es (start z)) v ≡ true) d.is f.kept))
+  where
+    off : (w : World) → loses_nothing w (Finish d.refusal) ≡ true → some_unsettled w.client w.client.taken ≡ false
+    off w l = both (some_unsettled w.client w.client.taken) l
+      where
+        both : (b : Bool) → not b ≡ true → b ≡ false
+        both b f = grind arith
+
+-- what is Ok or Refused behind the session's end, or where all is given up, was so
+ended_firm : (c : Client) (g : ℕ) (o : Outcome) → is_firm (outcome_after_end c g o) ≡ true → outcome_after_end c g o ≡ o
+ended_firm c g Unsettled f = absent (is_firm Unsettled) _ ((left_firm c g Unsettled).0 f) refl
+ended_firm c g (WasOk reply) f = refl
+ended_firm c g (WasRefused status) f = refl
+ended_firm c g (NoSlot n) f = refl
+ended_firm c g (NoOpen n) f = refl
+ended_firm c g (Unknown why) f = refl
+
+finished_firm : (why : Why) (o : Outcome) → is_firm (outcome_after_finish why o) ≡ true → outcome_after_finish why o ≡ o
+finished_firm why Unsettled f = absurd (cc)
+finished_firm why (WasOk reply) f = refl
+finished_firm why (WasRefused status) f = refl
+finished_firm why (NoSlot n) f = refl
+finished_firm why (NoOpen n) f = refl
+finished_firm why (Unknown u) f = refl
+
+ended_along : (z : Settings) (es : List Event) (e : Event) → Along z es e (run es (start z)).client
+    → Along z es e (end_session (run es (start z)).client)
+ended_along z es e h =
+    let c = (run es (start z)).client in
+    record {
+      found = λ g f. let same = ended_firm c g (c.outcome g) f in
+          subst (λ u. Answered z (es ++ e ∷ []) g (c.op g) (c.settled_by g) u) (sym same)
+          (h.found g (ap is_firm (sym same) ∙ f));
+    }
+
+finished_along : (z : Settings) (es : List Event) (e : Event) (why : Why) → Along z es e (run es (start z)).client
+    → Along z es e (finish (run es (start z)).client why)
+finished_along z es e why h =
+    let c = (run es (start z)).client in
+    record {
+      found = λ g. either (λ u. is_firm u ≡ true → Answered z (es ++ e ∷ []) g (c.op g) (c.settled_by g) u)
+          (is_taken c g) (outcome_after_finish why (c.outcome g)) (c.outcome g)
+          (λ _ f. let same = finished_firm why (c.outcome g) f in
+          subst (λ u. Answered z (es ++ e ∷ []) g (c.op g) (c.settled_by g) u) (sym same)
+          (h.found g (ap is_firm (sym same) ∙ f))) (λ _ f. h.found g f);
+    }
 
 no_end : (z : Settings) (es : List Event) (e : Event) (g : ℕ) (P : Type 0) → Known z es e → Ending (run es (start z)) e g → P
 no_end z es e g P f d =
@@ -270,14 +330,14 @@ along_small z es e f h =
       answers = λ g. same_columns z es e c _ refl refl h;
       joins = λ k g on. same_columns z es e c _ refl refl h;
       ends = λ g d. no_end z es e g _ f d;
-      cut_ends = λ k on is. no_cut k e _ f.kept is;
-      cuts = λ k on more is. no_cut k e _ f.kept is;
+      cut_ends = λ k on is. ended_along z es e h;
+      cuts = λ k on more is. same_columns z es e c _ refl refl h;
       goes = λ k te s y rest is token d. same_columns z es e c _ refl refl h;
       accepts = λ k r d. same_columns z es e c _ refl refl h;
       binds = λ k talks o live. same_columns z es e c _ refl refl h;
       begins = λ k tree at o dead. same_columns z es e c _ refl refl h;
       leaves = λ k rs. same_columns z es e c _ refl refl h;
-      finishes = λ why d. no_finish e why _ f.kept d;
+      finishes = λ why d. finished_along z es e why h;
     }
 
 takes_along : (z : Settings) (es : List Event) (e : Event) → Along z es e (run es (start z)).client
@@ -311,28 +371,34 @@ same_op w (Finish refusal) g = λ f. ap (λ u. u g) (taken_on w (Finish refusal)
 
 -- ---- every run without losses
 
-kept_front : (es : List Event) (e : Event) → without_losses (es ++ e ∷ []) ≡ true → without_losses es ≡ true × loses_nothing e ≡ true
-unfolding without_losses
-kept_front [] e l = (refl, front_of (loses_nothing e) true l)
-kept_front (x ∷ xs) e l = let h = kept_front xs e (back_of (loses_nothing x) _ l) in
-    (both (loses_nothing x) (without_losses xs) (front_of (loses_nothing x) _ l) h.0, h.1)
+kept_front : (es : List Event) (e : Event) (w : World) → without_losses (es ++ e ∷ []) w ≡ true → without_losses es w
+    ≡ true × loses_nothing (run es w) e ≡ true
+unfolding without_losses run
+kept_front [] e w l = (refl, front_of (loses_nothing w e) true l)
+kept_front (x ∷ xs) e w l = let h = kept_front xs e (happens w x) (back_of (loses_nothing w x) _ l) in
+    (both (loses_nothing w x) (without_losses xs (happens w x)) (front_of (loses_nothing w x) _ l) h.0, h.1)
   where
     both : (a b : Bool) → a ≡ true → b ≡ true → (a && b) ≡ true
     both a b e f = grind arith
 
 abbrev AnsweredAll : Settings → List Event → Type 0
-AnsweredAll z es = without_losses es ≡ true → (g : ℕ) → is_firm ((run es (start z)).client.outcome g) ≡ true
+AnsweredAll z es = without_losses es (start z) ≡ true → (g : ℕ) → is_firm ((run es (start z)).client.outcome g) ≡ true
     → Answered z es g ((run es (start z)).client.op g) ((run es (start z)).client.settled_by g)
     ((run es (start z)).client.outcome g)
 
 one_more : (z : Settings) (es : List Event) (e : Event) → AnsweredAll z es → AnsweredAll z (es ++ e ∷ [])
 one_more z es e i l g f =
-    let w = run es (start z) in let k = kept_front es e l in
+    let w = run es (start z) in let k = kept_front es e (start z) l in
     let base : Along z es e w.client = record {
       found = λ p q. later_answered z es e p (w.client.op p) (w.client.settled_by p) (w.client.outcome p)
           (i k.0 p q);
     } in
-    let known : Known z es e = record { here = unlost_at z (session_found z) es k.0; made = made z es; kept = k.1 } in
+    let known : Known z es e = record {
+      here = unlost_at z (session_found z) es k.0;
+      made = made z es;
+      kept = k.1;
+      rest = rest_of w _ (connections z es);
+    } in
     let behind : Along z es e (happens w e).client = client_keeps (Along z es e) w e (takes_along z es e base)
     (along_small z es e known base) base in
     subst (λ (v : World). is_firm (v.client.outcome g) ≡ true → Answered z (es ++ e ∷ []) g (v.client.op g)
@@ -426,6 +492,54 @@ settles_clear z es e k g asking r place o f t h =
     (reading z es k 0 t.reply (front_down (w.conns k).down t.reply t.rest t.is) g
     (t.token ∙ ap (λ b. if b then ForAttach g else ForOp g) own) (ap (λ q. q.status) t.says ∙ s))) t.heard_as) h
 
+-- an operation that never went out has a known outcome behind the session's end
+unsent_clear : (c : Client) (g : ℕ) (o : Outcome) → c.sent g ≡ false → is_known o ≡ true → is_known (outcome_after_end c g o) ≡ true
+unsent_clear c g Unsettled s t =
+    let P : Outcome → Type 0 = λ r. is_known r ≡ true in
+    either P (persists (c.op (create_for c g))) Unsettled (plain_after_end c g (create_for c g)) (λ _. refl)
+    (λ _. either P (c.sent g) (Unknown (SessionLost c.session_number)) (if is_create (c.op g) then Unsettled else
+    unsent_after_end (create_for c g) (c.sent (create_for c g)) (c.outcome (create_for c g)))
+    (λ y. absent (c.sent g) _ y s)
+    (λ _. either P (is_create (c.op g)) Unsettled (unsent_after_end (create_for c g) (c.sent (create_for c g))
+    (c.outcome (create_for c g))) (λ _. refl) (λ _. lost (c.outcome (create_for c g)))))
+  where
+    lost : (o : Outcome) → is_known (unsent_after_end (create_for c g) (c.sent (create_for c g)) o) ≡ true
+    lost Unsettled = either (λ r. is_known r ≡ true) (c.sent (create_for c g)) (NoOpen (create_for c g)) Unsettled (λ _. refl) (λ _. refl)
+    lost (WasOk reply) = refl
+    lost (WasRefused status) = refl
+    lost (NoSlot n) = refl
+    lost (NoOpen n) = refl
+    lost (Unknown why) = refl
+unsent_clear c g (WasOk reply) s t = t
+unsent_clear c g (WasRefused status) s t = t
+unsent_clear c g (NoSlot n) s t = t
+unsent_clear c g (NoOpen n) s t = t
+unsent_clear c g (Unknown why) s t = t
+
+-- where nothing is unsettled, the session's end and giving up leave no outcome unknown
+ended_clear : (c : Client) → Rest c → Clear c → Clear (end_session c)
+ended_clear c r h = record { clear = λ g. by g (is_unsettled (c.outcome g)) refl }
+  where
+    by : (g : ℕ) (b : Bool) → is_unsettled (c.outcome g) ≡ b → is_known (outcome_after_end c g (c.outcome g)) ≡ true
+    by g true e = unsent_clear c g (c.outcome g) (r.unsent g e) (h.clear g)
+    by g false e = subst (λ o. is_known o ≡ true) (sym (settled_same c g (c.outcome g) e)) (h.clear g)
+
+finished_clear : (c : Client) (why : Why) → Rest c → Clear c → Clear (finish c why)
+finished_clear c why r h =
+    record {
+      clear = λ g. either (λ u. is_known u ≡ true) (is_taken c g) (outcome_after_finish why (c.outcome g))
+          (c.outcome g) (λ t. subst (λ o. is_known o ≡ true) (sym (same (c.outcome g) (r.settled g t))) (h.clear g))
+          (λ _. h.clear g);
+    }
+  where
+    same : (o : Outcome) → is_unsettled o ≡ false → outcome_after_finish why o ≡ o
+    same Unsettled e = absurd (cc)
+    same (WasOk reply) e = refl
+    same (WasRefused status) e = refl
+    same (NoSlot n) e = refl
+    same (NoOpen n) e = refl
+    same (Unknown y) e = refl
+
 clear_small : (z : Settings) (es : List Event) (e : Event) → Known z es e → Clear (run es (start z)).client
     → Small Clear (run es (start z)) e
 clear_small z es e f h =
@@ -439,23 +553,28 @@ clear_small z es e f h =
       answers = λ g. same_clear c _ refl h;
       joins = λ k g on. same_clear c _ refl h;
       ends = λ g d. no_end z es e g _ f d;
-      cut_ends = λ k on is. no_cut k e _ f.kept is;
-      cuts = λ k on more is. no_cut k e _ f.kept is;
+      cut_ends = λ k on is. ended_clear c (quiet_cut z es e k f on is) h;
+      cuts = λ k on more is. same_clear c _ refl h;
       goes = λ k te s y rest is token d. same_clear c _ refl h;
       accepts = λ k r d. same_clear c _ refl h;
       binds = λ k talks o live. same_clear c _ refl h;
       begins = λ k tree at o dead. same_clear c _ refl h;
       leaves = λ k rs. same_clear c _ refl h;
-      finishes = λ why d. no_finish e why _ f.kept d;
+      finishes = λ why d. finished_clear c why (quiet_finish z es e why f d) h;
     }
 
 abbrev ClearAll : Settings → List Event → Type 0
-ClearAll z es = without_losses es ≡ true → Clear (run es (start z)).client
+ClearAll z es = without_losses es (start z) ≡ true → Clear (run es (start z)).client
 
 one_clear : (z : Settings) (es : List Event) (e : Event) → ClearAll z es → ClearAll z (es ++ e ∷ [])
 one_clear z es e i l =
-    let w = run es (start z) in let k = kept_front es e l in let h = i k.0 in
-    let known : Known z es e = record { here = unlost_at z (session_found z) es k.0; made = made z es; kept = k.1 } in
+    let w = run es (start z) in let k = kept_front es e (start z) l in let h = i k.0 in
+    let known : Known z es e = record {
+      here = unlost_at z (session_found z) es k.0;
+      made = made z es;
+      kept = k.1;
+      rest = rest_of w _ (connections z es);
+    } in
     subst (λ (v : World). Clear v.client) (sym (run_more es e (start z)))
     (client_keeps Clear w e (λ g op is m. record {
       clear = put_clear w.client g (outcome_at_first w.client g op) (first_clear w.client g op) h;

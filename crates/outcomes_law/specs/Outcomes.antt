@@ -55,7 +55,7 @@ CausesTold =
     → ((run events (start z)).client.outcome g ≡ NoSlot create → LacksSlot z events g create)
     × ((run events (start z)).client.outcome g ≡ NoOpen create → LacksOpen z events g create)
 
--- ---- runs on which nothing is lost
+-- ---- runs on which the client loses nothing
 
 -- what a reply settles an operation as, to its own message or to the DH2C in its place: Ok with what it replied, or Refused
 -- with its status
@@ -83,11 +83,11 @@ abbrev pub is_known : Outcome → Bool
 is_known (Unknown why) = false
 is_known _ = true
 
--- On a run without cuts, drops, restarts, crashes and refused logons no outcome is unknown, and each operation that is Ok or
--- Refused has the reply of the server's step to a message of its own.
+-- On a run on which the client loses nothing no outcome is unknown, and each operation that is Ok or Refused has the reply of
+-- the server's step to a message of its own.
 abbrev pub AllAnswered : Type 0
 AllAnswered =
-    (z : Settings) (events : List Event) → without_losses events ≡ true → (g : ℕ)
+    (z : Settings) (events : List Event) → without_losses events (start z) ≡ true → (g : ℕ)
     → is_known ((run events (start z)).client.outcome g) ≡ true
     × (is_firm ((run events (start z)).client.outcome g) ≡ true
     → Answered z events g ((run events (start z)).client.op g) ((run events (start z)).client.settled_by g)

@@ -20,10 +20,11 @@ pub fn causes_law()
     ensures causes { CausesTold }
 {}
 
-/// On a run on which no connection is cut or dropped, the server doesn't stop and nothing is given up for a refused logon,
-/// no operation's outcome is unknown. Each is unsettled, or without a slot or an open, or Ok or Refused; and then there is
-/// the event at which the server took a message of its own, or the DH2C in its place, and the reply of the server's step
-/// there is what it settled with: Ok with what that success replied, or Refused with that status.
+/// On a run on which the client cuts no ready channel and gives nothing up for a refused logon while an operation is
+/// unsettled, no operation's outcome is unknown; drops, restarts and crashes may be among the events. Each operation is
+/// unsettled, or without a slot or an open, or Ok or Refused; and then there is the event at which the server took a message
+/// of its own, or the DH2C in its place, and the reply of the server's step there is what it settled with: Ok with what that
+/// success replied, or Refused with that status.
 pub fn lossless_law()
     ensures answered { AllAnswered }
 {}
