@@ -53,11 +53,18 @@ def refusal(text, crate):
     return refuses + ": " + (", ".join(failing(text)) or "no lemma named")
 
 
+def pattern(text):
+    """What a text looks like where lines are broken in it: any white space for a space, and a last mark in a record."""
+    escaped = re.sub(r"(?:\\ |\\\n|\s)+", r"\\s+", re.escape(text))
+    return re.compile(escaped.replace(r"\s+\}", r";?\s+\}"))
+
+
 def misplaced(change, top):
     """Each text of the change that doesn't stand once, by how often it stands."""
     found = []
     for edit in change["edits"]:
-        times = open(os.path.join(top, edit["file"]), encoding="utf-8").read().count(edit["old"])
+        with open(os.path.join(top, edit["file"]), encoding="utf-8") as file:
+            times = len(pattern(edit["old"]).findall(file.read()))
         if times != 1:
             found.append("BAD: a text stands %d times in %s" % (times, edit["file"]))
     return found
@@ -136,7 +143,7 @@ def apply_edits(copy, edits):
         path = os.path.join(copy, edit["file"])
         text = open(path, encoding="utf-8").read()
         originals.setdefault(path, text)
-        open(path, "w", encoding="utf-8").write(text.replace(edit["old"], edit["new"]))
+        open(path, "w", encoding="utf-8").write(pattern(edit["old"]).sub(lambda found: edit["new"], text))
     return originals
 
 

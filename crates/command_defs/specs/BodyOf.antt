@@ -20,8 +20,12 @@ use Rattle.wire_defs.specs.Lock.{LockRequestValue, lock_request_spelling, lock_e
 use Rattle.wire_defs.specs.QueryDirectory.{QueryDirectoryRequestValue, query_directory_request_spelling}
 use Rattle.wire_defs.specs.QueryInfo.{QueryInfoRequestValue, query_info_request_spelling}
 use Rattle.wire_defs.specs.SetInfo.{SetInfoRequestValue, set_info_request_spelling}
-use Rattle.wire_defs.specs.FileClasses.{file_basic_information_spelling, file_rename_information_spelling, file_disposition_information_spelling, file_allocation_information_spelling, file_end_of_file_information_spelling}
-use Rattle.exchange_defs.specs.Commands.{Command, TreeConnect, Create, Close, Flush, Read, Write, Lock, ListDirectory, QueryFile, SetInfo, Setting, SetBasic, Rename, SetDelete, SetAllocation, SetEnd, CreateRequest, Durable, Reconnect, Element, Basic}
+use Rattle.wire_defs.specs.FileClasses.{file_basic_information_spelling, file_rename_information_spelling}
+use Rattle.wire_defs.specs.FileClasses.{file_disposition_information_spelling, file_allocation_information_spelling}
+use Rattle.wire_defs.specs.FileClasses.{file_end_of_file_information_spelling}
+use Rattle.exchange_defs.specs.Commands.{Command, TreeConnect, Create, Close, Flush, Read, Write, Lock, ListDirectory}
+use Rattle.exchange_defs.specs.Commands.{QueryFile, SetInfo, Setting, SetBasic, Rename, SetDelete, SetAllocation}
+use Rattle.exchange_defs.specs.Commands.{SetEnd, CreateRequest, Durable, Reconnect, Element, Basic}
 use Rattle.command_defs.specs.Ids.{file_id, guid_id}
 use Rattle.command_defs.specs.Tables.{bit_if}
 

@@ -1,5 +1,6 @@
 -- The command of a request by its bytes, and the message that the server hears (MS-SMB2 2.2.1, 3.3.5.2).
-use Rattle.std.specs.Prelude.{ℕ, zero, suc, ◌/◌, ◌%◌, ◌==◌, Bool, not, ◌||◌, if◌then◌else◌, List, [], ◌∷◌, length, drop, Option, Some, None, is_some, is_none, option_map}
+use Rattle.std.specs.Prelude.{ℕ, zero, suc, ◌/◌, ◌%◌, ◌==◌, Bool, not, ◌||◌, if◌then◌else◌, List, [], ◌∷◌, length, drop}
+use Rattle.std.specs.Prelude.{Option, Some, None, is_some, is_none, option_map}
 use Rattle.wire_defs.specs.Places.{number}
 use Rattle.wire_defs.specs.declared.header.Header.{Header}
 use Rattle.wire_defs.specs.declared.error.MessageError.{MessageError}
@@ -21,11 +22,19 @@ use Rattle.wire_defs.specs.Ioctl.{ioctl_request_in, ioctl_request_fault}
 use Rattle.wire_defs.specs.QueryDirectory.{QueryDirectoryRequestValue, query_directory_request_in, query_directory_request_fault}
 use Rattle.wire_defs.specs.QueryInfo.{QueryInfoRequestValue, query_info_request_in, query_info_request_fault}
 use Rattle.wire_defs.specs.SetInfo.{SetInfoRequestValue, set_info_request_in, set_info_request_fault}
-use Rattle.wire_defs.specs.FileClasses.{file_basic_information_in, file_basic_information_fault, FileRenameInformationValue, file_rename_information_in, file_rename_information_fault, file_disposition_information_in, file_disposition_information_fault, file_allocation_information_in, file_allocation_information_fault, file_end_of_file_information_in, file_end_of_file_information_fault}
+use Rattle.wire_defs.specs.FileClasses.{file_basic_information_in, file_basic_information_fault}
+use Rattle.wire_defs.specs.FileClasses.{FileRenameInformationValue, file_rename_information_in}
+use Rattle.wire_defs.specs.FileClasses.{file_rename_information_fault, file_disposition_information_in}
+use Rattle.wire_defs.specs.FileClasses.{file_disposition_information_fault, file_allocation_information_in}
+use Rattle.wire_defs.specs.FileClasses.{file_allocation_information_fault, file_end_of_file_information_in}
+use Rattle.wire_defs.specs.FileClasses.{file_end_of_file_information_fault}
 use Rattle.wire_defs.specs.declared.class.FileBasicInformation.{FileBasicInformation}
 use Rattle.exchange_defs.specs.Status.{success, invalid_parameter, invalid_info_class, object_name_invalid, not_supported}
 use Rattle.exchange_defs.specs.Texts.{leaf_of}
-use Rattle.exchange_defs.specs.Commands.{Command, Unreadable, Aside, Setup, Logoff, TreeConnect, TreeDisconnect, Create, Close, Flush, Read, Write, Lock, Ioctl, ListDirectory, QueryFile, QueryVolume, SetInfo, SetBasic, Rename, SetDelete, SetAllocation, SetEnd, Shows, Element, Basic, Durable, Reconnect, has_bit}
+use Rattle.exchange_defs.specs.Commands.{Command, Unreadable, Aside, Setup, Logoff, TreeConnect, TreeDisconnect, Create}
+use Rattle.exchange_defs.specs.Commands.{Close, Flush, Read, Write, Lock, Ioctl, ListDirectory, QueryFile, QueryVolume}
+use Rattle.exchange_defs.specs.Commands.{SetInfo, SetBasic, Rename, SetDelete, SetAllocation, SetEnd, Shows, Element}
+use Rattle.exchange_defs.specs.Commands.{Basic, Durable, Reconnect, has_bit}
 use Rattle.exchange_defs.specs.State.{Message}
 use Rattle.command_defs.specs.Ids.{file_of, guid_of}
 use Rattle.command_defs.specs.Text.{text_in}

@@ -10,8 +10,13 @@ use Rattle.wire_defs.specs.declared.class.NetworkInterface.{NetworkInterface}
 use Rattle.wire_defs.specs.declared.directory_class.DirectoryClass.{DirectoryClass}
 use Rattle.wire_defs.specs.declared.directory_class.DirectoryClass.TheVariants as class
 use Rattle.wire_defs.specs.Utf16.{utf16}
-use Rattle.wire_defs.specs.FileClasses.{file_basic_information_spelling, file_standard_information_spelling, file_internal_information_spelling, FileAllInformationValue, file_all_information_spelling, file_network_open_information_spelling}
-use Rattle.wire_defs.specs.VolumeClasses.{FileFsVolumeInformationValue, file_fs_volume_information_spelling, file_fs_size_information_spelling, file_fs_device_information_spelling, FileFsAttributeInformationValue, file_fs_attribute_information_spelling, file_fs_full_size_information_spelling}
+use Rattle.wire_defs.specs.FileClasses.{file_basic_information_spelling, file_standard_information_spelling}
+use Rattle.wire_defs.specs.FileClasses.{file_internal_information_spelling, FileAllInformationValue}
+use Rattle.wire_defs.specs.FileClasses.{file_all_information_spelling, file_network_open_information_spelling}
+use Rattle.wire_defs.specs.VolumeClasses.{FileFsVolumeInformationValue, file_fs_volume_information_spelling}
+use Rattle.wire_defs.specs.VolumeClasses.{file_fs_size_information_spelling, file_fs_device_information_spelling}
+use Rattle.wire_defs.specs.VolumeClasses.{FileFsAttributeInformationValue, file_fs_attribute_information_spelling}
+use Rattle.wire_defs.specs.VolumeClasses.{file_fs_full_size_information_spelling}
 use Rattle.wire_defs.specs.Directory.{DirectoryEntryValue, listing_spelling}
 use Rattle.wire_defs.specs.Interfaces.{network_interface_spelling}
 use Rattle.exchange_defs.specs.Commands.{has_bit}

@@ -23,8 +23,11 @@ use Rattle.wire_defs.specs.QueryDirectory.{query_directory_response_spelling}
 use Rattle.wire_defs.specs.QueryInfo.{query_info_response_spelling}
 use Rattle.wire_defs.specs.SetInfo.{set_info_response_spelling}
 use Rattle.exchange_defs.specs.Status.{success, more_processing_required}
-use Rattle.exchange_defs.specs.Commands.{Command, Aside, Setup, Logoff, TreeConnect, TreeDisconnect, Create, Close, Flush, Read, Write, Lock, Ioctl, ListDirectory, QueryFile, QueryVolume, SetInfo, is_setup}
-use Rattle.exchange_defs.specs.State.{Info, CreateReply, Address, Body, Empty, Created, Closed, Content, Count, Interfaces, Listing, FileInfo, VolumeInfo, SetUp, Connected, Reply}
+use Rattle.exchange_defs.specs.Commands.{Command, Aside, Setup, Logoff, TreeConnect, TreeDisconnect, Create, Close}
+use Rattle.exchange_defs.specs.Commands.{Flush, Read, Write, Lock, Ioctl, ListDirectory, QueryFile, QueryVolume}
+use Rattle.exchange_defs.specs.Commands.{SetInfo, is_setup}
+use Rattle.exchange_defs.specs.State.{Info, CreateReply, Address, Body, Empty, Created, Closed, Content, Count}
+use Rattle.exchange_defs.specs.State.{Interfaces, Listing, FileInfo, VolumeInfo, SetUp, Connected, Reply}
 use Rattle.command_defs.specs.Ids.{file_id}
 use Rattle.command_defs.specs.Tables.{bit_if}
 use Rattle.command_defs.specs.Infos.{allocation, attributes_of, file_bytes, volume_bytes, listing_bytes, interface_bytes}

@@ -18,8 +18,10 @@ use Rattle.wire_defs.specs.SetInfo.{set_info_response_fault}
 use Rattle.wire_defs.specs.FileClasses.{file_standard_information_in, file_standard_information_fault}
 use Rattle.wire_defs.specs.Directory.{DirectoryEntryValue, directory_entry_in, first_entry_fault}
 use Rattle.exchange_defs.specs.Status.{success}
-use Rattle.exchange_defs.specs.Commands.{Command, Setup, Logoff, TreeConnect, TreeDisconnect, Create, Close, Flush, Read, Write, Lock, ListDirectory, QueryFile, SetInfo, Basic, has_bit}
-use Rattle.exchange_defs.specs.State.{Info, CreateReply, Named, Body, Empty, Created, Content, Count, Interfaces, Listing, FileInfo, SetUp, Connected, Reply}
+use Rattle.exchange_defs.specs.Commands.{Command, Setup, Logoff, TreeConnect, TreeDisconnect, Create, Close, Flush}
+use Rattle.exchange_defs.specs.Commands.{Read, Write, Lock, ListDirectory, QueryFile, SetInfo, Basic, has_bit}
+use Rattle.exchange_defs.specs.State.{Info, CreateReply, Named, Body, Empty, Created, Content, Count, Interfaces}
+use Rattle.exchange_defs.specs.State.{Listing, FileInfo, SetUp, Connected, Reply}
 use Rattle.command_defs.specs.Ids.{file_of}
 use Rattle.command_defs.specs.Text.{text_in}
 use Rattle.command_defs.specs.Items.{items_in}

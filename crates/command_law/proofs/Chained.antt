@@ -1,12 +1,17 @@
 -- The contexts of a CREATE and of its response take few bytes.
-use Rattle.std.proofs.Common.{ℕ, ◌+◌, ◌*◌, ◌≤◌, Bool, true, false, List, [], ◌∷◌, ◌++◌, length, Option, Some, None, refl, arith, length-append}
+use Rattle.std.proofs.Common.{ℕ, ◌+◌, ◌*◌, ◌≤◌, Bool, true, false, List, [], ◌∷◌, ◌++◌, length, Option, Some, None}
+use Rattle.std.proofs.Common.{refl, arith, length-append}
 use Rattle.std.specs.Prelude.{◌==◌, if◌then◌else◌}
 use Rattle.wire_defs.specs.Places.{le, gap_to_8}
 use Rattle.wire_defs.proofs.Numbers.{length-le}
 use Rattle.wire_defs.specs.Table.{AreWritable}
 use Rattle.wire_defs.specs.Aligned.{told, aligned_gap}
 use Rattle.wire_defs.specs.Chain.{chain_spelling}
-use Rattle.wire_defs.specs.CreateContexts.{CreateContext, request_due, reply_due, dh2q_told, mxac_told, qfid_told, told_contexts, IsWritableReplyContexts, reply_contexts_spelling, context_whole, context_spelling, context_size, asked, dh2q_asked, dh2c_asked, asked_contexts, mxac, qfid, IsWritableCreateContexts, create_contexts_spelling}
+use Rattle.wire_defs.specs.CreateContexts.{CreateContext, request_due, reply_due, dh2q_told, mxac_told, qfid_told}
+use Rattle.wire_defs.specs.CreateContexts.{told_contexts, IsWritableReplyContexts, reply_contexts_spelling}
+use Rattle.wire_defs.specs.CreateContexts.{context_whole, context_spelling, context_size, asked, dh2q_asked, dh2c_asked}
+use Rattle.wire_defs.specs.CreateContexts.{asked_contexts, mxac, qfid, IsWritableCreateContexts}
+use Rattle.wire_defs.specs.CreateContexts.{create_contexts_spelling}
 use Rattle.wire_defs.specs.declared.context.CreateContexts.{CreateContexts}
 use Rattle.wire_defs.specs.declared.context.Dh2q.{Dh2q}
 use Rattle.wire_defs.specs.declared.context.Dh2c.{Dh2c}

@@ -1,11 +1,13 @@
 -- The items of a chain read back.
-use Rattle.std.proofs.Common.{◌≡◌, ℕ, zero, suc, ◌≤◌, Bool, true, false, List, [], ◌∷◌, length, drop, take, Option, Some, None, refl, sym, ap, ◌∙◌, arith, length-drop}
+use Rattle.std.proofs.Common.{◌≡◌, ℕ, zero, suc, ◌≤◌, Bool, true, false, List, [], ◌∷◌, length, drop, take, Option}
+use Rattle.std.proofs.Common.{Some, None, refl, sym, ap, ◌∙◌, arith, length-drop}
 use Rattle.std.specs.Prelude.{◌==◌, if◌then◌else◌, is_some, option_map}
 use Rattle.std.proofs.lemmas.Grind.{common_steps}
 use Rattle.std.proofs.lemmas.List.{length-take}
 use Rattle.wire_defs.specs.Places.{number}
 use Rattle.wire_defs.specs.Chain.{is_badly_linked, piece, IsChain, IsChainOf}
-use Rattle.wire_defs.specs.CreateContexts.{CreateContext, IsContext, context_in, first_fault, request_due, request_contexts, SpellsCreateContexts}
+use Rattle.wire_defs.specs.CreateContexts.{CreateContext, IsContext, context_in, first_fault, request_due}
+use Rattle.wire_defs.specs.CreateContexts.{request_contexts, SpellsCreateContexts}
 use Rattle.wire_defs.specs.declared.context.CreateContexts.{CreateContexts}
 use Rattle.info_law.proofs.OneContext.{same_context, whole_context, given_context, whole_first}
 use Rattle.command_defs.specs.Items.{first_items, items_in}

@@ -1,7 +1,8 @@
 -- What can be written: numbers within their fields, and texts.
 use Rattle.std.specs.Prelude.{◌≡◌, ℕ, ◌+◌, ◌^◌, ◌<◌, ◌==◌, List, [], ◌∷◌, length, false, Option, Some, None, IsUtf8}
 use Rattle.wire_defs.specs.Utf16.{utf16}
-use Rattle.exchange_defs.specs.Commands.{Element, Basic, Setting, SetBasic, Rename, SetDelete, SetAllocation, SetEnd, Durable, Reconnect, CreateRequest}
+use Rattle.exchange_defs.specs.Commands.{Element, Basic, Setting, SetBasic, Rename, SetDelete, SetAllocation, SetEnd}
+use Rattle.exchange_defs.specs.Commands.{Durable, Reconnect, CreateRequest}
 use Rattle.exchange_defs.specs.State.{Info, CreateReply, Named, Body, Empty, Created, Content, Count, Listing, FileInfo}
 use Rattle.exchange_defs.specs.Operations.{Op, OpCreate, OpWrite, OpRead, OpStat, OpList, value_in, id_in}
 use Rattle.command_defs.specs.Infos.{listing_bytes}

@@ -2,7 +2,8 @@ ghost use Rattle.std.specs.Prelude.{◌≡◌, ◌^◌, ◌<◌, ◌++◌, ℕ, 
 ghost use Rattle.wire_defs.specs.declared.header.Header.{Header};
 ghost use Rattle.exchange_defs.specs.Status.{success};
 ghost use Rattle.exchange_defs.specs.Operations.{Op, request_of};
-ghost use Rattle.exchange_defs.specs.Commands.{Setting, Element, CreateRequest, Create, Close, Flush, Read, Write, Lock, ListDirectory, QueryFile, SetInfo};
+ghost use Rattle.exchange_defs.specs.Commands.{Setting, Element, CreateRequest, Create, Close, Flush, Read, Write, Lock};
+ghost use Rattle.exchange_defs.specs.Commands.{ListDirectory, QueryFile, SetInfo};
 ghost use Rattle.exchange_defs.specs.State.{Info, Named, CreateReply, Reply, Empty, Content, Count, Created, FileInfo, Listing};
 ghost use Rattle.command_defs.specs.Infos.{listing_bytes};
 ghost use Rattle.command_defs.specs.ReplyBody.{reply_body, success_body};

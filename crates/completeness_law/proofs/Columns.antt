@@ -1,7 +1,8 @@
 -- The client's columns: how many channels are ready, that its sessions' numbers rise, and what it took.
 use Rattle.std.proofs.lemmas.Bool.{eqb-false}
 use Rattle.std.proofs.lemmas.Bool.Decides.{nat_tests}
-use Rattle.std.proofs.Common.{eqb-true, ◌≡◌, ◌≢◌, ℕ, ◌+◌, ◌-◌, ◌/◌, ◌≤◌, ◌<◌, ◌==◌, Bool, true, false, not, ◌&&◌, ◌||◌, if◌then◌else◌, refl, arith, sym, subst, ◌∙◌, ap, zero, suc}
+use Rattle.std.proofs.Common.{eqb-true, ◌≡◌, ◌≢◌, ℕ, ◌+◌, ◌-◌, ◌/◌, ◌≤◌, ◌<◌, ◌==◌, Bool, true, false, not, ◌&&◌, ◌||◌}
+use Rattle.std.proofs.Common.{if◌then◌else◌, refl, arith, sym, subst, ◌∙◌, ap, zero, suc}
 use Rattle.exchange_defs.specs.Table.{put}
 use Rattle.exchange_defs.specs.State.{Reply}
 use Rattle.exchange_defs.specs.Operations.{Op, OpWrite, OpRead, is_create, keeps_limits, weight, charge}
@@ -26,7 +27,8 @@ use Rattle.completeness_law.proofs.Facts.{count_on, is_submit}
 same_count : (f g : ℕ → Bool) (n : ℕ) → ((j : ℕ) → j < n → f j ≡ g j) → count_on f n ≡ count_on g n
 unfolding count_on
 same_count f g zero h = refl
-same_count f g (suc n) h = let i = same_count f g n (λ j l. h j (omega (arith, l))) in let e = h n (omega arith) in sum (f n) (g n) (count_on f n) (count_on g n) e i
+same_count f g (suc n) h = let i = same_count f g n (λ j l. h j (omega (arith, l))) in let e = h n (omega arith) in
+    sum (f n) (g n) (count_on f n) (count_on g n) e i
   where
     sum : (a b : Bool) (x y : ℕ) → a ≡ b → x ≡ y → (if a then 1 else 0) + x ≡ (if b then 1 else 0) + y
     sum a b x y e i = grind arith
@@ -38,9 +40,11 @@ count_put f k (suc n) l e =
     let again = λ (h : k < n). count_put f k n h e in
     elim (k == n) as (λ b. k == n ≡ b → count_on (put f k true) (suc n) ≡ count_on f (suc n) + 1) [
       | true ↦ λ q. let is = eqb-true k n q in
-          here (put f k true n) (f n) (count_on (put f k true) n) (count_on f n) (ap (λ x. put f k true x) (sym is) ∙ put_at f k true) (ap f (sym is) ∙ e)
+          here (put f k true n) (f n) (count_on (put f k true) n) (count_on f n) (ap (λ x. put f k true x) (sym is)
+          ∙ put_at f k true) (ap f (sym is) ∙ e)
           (same_count (put f k true) f n (λ j h. put_off f k true j (λ z. lower j h (z ∙ is))))
-      | false ↦ λ q. let d = eqb-false k n q in there (put f k true n) (f n) (count_on (put f k true) n) (count_on f n) (put_off f k true n (λ z. d (sym z))) (again (omega (arith, d, l)))
+      | false ↦ λ q. let d = eqb-false k n q in there (put f k true n) (f n) (count_on (put f k true) n) (count_on f n)
+          (put_off f k true n (λ z. d (sym z))) (again (omega (arith, d, l)))
     ] refl
   where
     lower : (j : ℕ) → j < n → j ≡ n → ⊥
@@ -63,7 +67,8 @@ count_off f k n l e =
     again : (j : ℕ) → put (put f k false) k true j ≡ f j
     again j =
         elim (j == k) as (λ b. j == k ≡ b → put (put f k false) k true j ≡ f j) [
-          | true ↦ λ q. let is = eqb-true j k q in ap (λ x. put (put f k false) k true x) is ∙ put_at (put f k false) k true ∙ sym (ap f is ∙ e)
+          | true ↦ λ q. let is = eqb-true j k q in ap (λ x. put (put f k false) k true x) is ∙ put_at (put f k false) k
+              true ∙ sym (ap f is ∙ e)
           | false ↦ λ q. let d = eqb-false j k q in put_off (put f k false) k true j d ∙ put_off f k false j d
         ] refl
 
@@ -96,23 +101,30 @@ off_in_dialog r s c n (IsClosed off apart shut none) = off
 off_in_dialog r s c n (IsReady on apart stands) = absurd (n apart)
 off_in_dialog r s c n (IsInDialog off talks stands waits) = off
 
-pub counted_on : (w : World) (e : Event) (a : ℕ → ℕ) → Connections w.client w.conns a → Channels w.client w.conns → ((k : ℕ) → (w.conns k).client_open ≡ true → k < 256) → Counted w.client → Counted (happens w e).client
+pub counted_on : (w : World) (e : Event) (a : ℕ → ℕ) → Connections w.client w.conns a → Channels w.client w.conns
+    → ((k : ℕ) → (w.conns k).client_open ≡ true → k < 256) → Counted w.client → Counted (happens w e).client
 counted_on w e a fit channels low h =
     client_keeps Counted w e (λ g op is m. record { counted = h.counted; live = h.live }) (record {
       opens = λ k. record { counted = h.counted; live = h.live };
       slotless = λ c k g l _ i. record { counted = i.counted; live = i.live };
       begins_op = λ c k g i m _ j. counted_same c (outstanding (begun c g i) k g) (same_begun c k g i) j;
       asks = λ c k g m _ i. record { counted = i.counted; live = i.live };
-      settles = λ k g asking r place o on firm t. counted_same w.client (settle w.client g asking r place o) (same_settle w.client g asking r place o) h;
+      settles = λ k g asking r place o on firm t. counted_same w.client (settle w.client g asking r place o)
+          (same_settle w.client g asking r place o) h;
       answers = λ g. record { counted = h.counted; live = h.live };
       joins = λ k g on. record { counted = h.counted; live = h.live };
       ends = λ g _. record { counted = sym (count_none (λ k. false) 256 (λ j. refl)); live = λ l. absurd (cc) };
       cut_ends = λ k on _. record { counted = sym (count_none (λ k. false) 256 (λ j. refl)); live = λ l. absurd (cc) };
       cuts = λ k on more _. let c = count_off w.client.ready k 256 (low k (fit.ready k on).0) on in
-          record { counted = one_less w.client.channels (count_on w.client.ready 256) (count_on (put w.client.ready k false) 256) h.counted c; live = λ l. not_last w.client.channels (w.client.sequence == last_sequence) (h.live l) more };
+          record {
+            counted = one_less w.client.channels (count_on w.client.ready 256)
+                (count_on (put w.client.ready k false) 256) h.counted c;
+            live = λ l. not_last w.client.channels (w.client.sequence == last_sequence) (h.live l) more;
+          };
       goes = λ k te s y rest is token d. record { counted = h.counted; live = h.live };
       accepts = λ k r d. record { counted = h.counted; live = h.live };
-      binds = λ k talks o live. let c = count_put w.client.ready k 256 (low k o) (off_in_dialog (w.client.ready k) (w.client.stage k) (w.conns k) talks (channels k)) in
+      binds = λ k talks o live. let c = count_put w.client.ready k 256 (low k o)
+          (off_in_dialog (w.client.ready k) (w.client.stage k) (w.conns k) talks (channels k)) in
           record { counted = ap (λ n. n + 1) h.counted ∙ sym c; live = λ l. omega arith };
       begins = λ k tree at o dead. let c = count_put w.client.ready k 256 (low k o) (unready dead k) in
           record { counted = sym (c ∙ ap (λ n. n + 1) (count_none w.client.ready 256 (unready dead))); live = λ l. omega arith };
@@ -149,9 +161,15 @@ rows c = record { op = refl; taken = refl; number = refl; sent = refl }
 
 pub rows_noted : (c : Client) (g : ℕ) (o : Outcome) (body : Body) → Rows c (noted c g o body)
 rows_noted c g (WasOk reply) body =
-    either (λ d. Rows c d) (is_create (c.op g)) (record c { file = put c.file g (id_in body); attached = put c.attached g c.session_number }) (if is_close (c.op g) then record c { closed_ok = put c.closed_ok (create_for c g) true } else c)
+    either (λ d. Rows c d) (is_create (c.op g)) (record c {
+      file = put c.file g (id_in body);
+      attached = put c.attached g c.session_number;
+    }) (if is_close (c.op g) then record c {
+      closed_ok = put c.closed_ok (create_for c g) true;
+    } else c)
     (λ _. record { op = refl; taken = refl; number = refl; sent = refl })
-    (λ _. either (λ d. Rows c d) (is_close (c.op g)) (record c { closed_ok = put c.closed_ok (create_for c g) true }) c (λ _. record { op = refl; taken = refl; number = refl; sent = refl }) (λ _. rows c))
+    (λ _. either (λ d. Rows c d) (is_close (c.op g)) (record c { closed_ok = put c.closed_ok (create_for c g) true }) c
+    (λ _. record { op = refl; taken = refl; number = refl; sent = refl }) (λ _. rows c))
 rows_noted c g Unsettled body = rows c
 rows_noted c g (WasRefused status) body = rows c
 rows_noted c g (NoSlot create) body = rows c
@@ -160,13 +178,31 @@ rows_noted c g (Unknown why) body = rows c
 
 pub rows_full : (c : Client) (g : ℕ) (asking : Bool) (status : ℕ) → Rows c (noted_full c g asking status)
 rows_full c g asking status =
-    either (λ d. Rows c d) (is_lock (c.op g) && (not asking && (status == disk_full))) (record c { full = put2 c.full (create_for c g) (c.slot_of g) true }) c (λ _. record { op = refl; taken = refl; number = refl; sent = refl }) (λ _. rows c)
+    either (λ d. Rows c d) (is_lock (c.op g) && (not asking && (status == disk_full))) (record c {
+      full = put2 c.full (create_for c g) (c.slot_of g) true;
+    }) c (λ _. record {
+      op = refl;
+      taken = refl;
+      number = refl;
+      sent = refl;
+    }) (λ _. rows c)
 
 pub rows_settle : (c : Client) (g : ℕ) (asking : Bool) (r : Reply) (place : ℕ) (o : Outcome) → Rows c (settle c g asking r place o)
 rows_settle c g asking r place o =
     let n = noted c g o r.body in let f = noted_full n g asking r.status in let d = settled f g o place in
-    let s : Rows c d = rows_so c n d (rows_noted c g o r.body) (rows_so n f d (rows_full n g asking r.status) (record { op = refl; taken = refl; number = refl; sent = refl })) in
-    either (λ e. Rows c e) (settles_open (c.op g)) (with_no_opens d (create_for c g)) d (λ _. rows_so c d (with_no_opens d (create_for c g)) s (record { op = refl; taken = refl; number = refl; sent = refl })) (λ _. s)
+    let s : Rows c d = rows_so c n d (rows_noted c g o r.body) (rows_so n f d (rows_full n g asking r.status) (record {
+      op = refl;
+      taken = refl;
+      number = refl;
+      sent = refl;
+    })) in
+    either (λ e. Rows c e) (settles_open (c.op g)) (with_no_opens d (create_for c g)) d
+    (λ _. rows_so c d (with_no_opens d (create_for c g)) s (record {
+      op = refl;
+      taken = refl;
+      number = refl;
+      sent = refl;
+    })) (λ _. s)
 
 -- the rows but for what went out
 pub record Taken (c d : Client) : Type 0 where
@@ -178,8 +214,20 @@ taken_begun : (w c : Client) (k g i : ℕ) → Taken w c → Taken w (outstandin
 taken_begun w c k g i t =
     let P : Client → Type 0 = λ d. Taken w (outstanding d k g) in
     either P (c.sent g) (again c g) (begin c g i)
-    (λ _. either P (is_lock (c.op g)) (record c { retried = put2 c.retried (create_for c g) (c.slot_of g) c.session_number }) c (λ _. record { op = t.op; taken = t.taken; number = t.number }) (λ _. record { op = t.op; taken = t.taken; number = t.number }))
-    (λ _. either P (is_lock (c.op g)) (record (take_slot c g i) { sent = put c.sent g true }) (record c { sent = put c.sent g true }) (λ _. record { op = t.op; taken = t.taken; number = t.number }) (λ _. record { op = t.op; taken = t.taken; number = t.number }))
+    (λ _. either P (is_lock (c.op g)) (record c {
+      retried = put2 c.retried (create_for c g) (c.slot_of g) c.session_number;
+    }) c (λ _. record {
+      op = t.op;
+      taken = t.taken;
+      number = t.number;
+    }) (λ _. record { op = t.op; taken = t.taken; number = t.number }))
+    (λ _. either P (is_lock (c.op g)) (record (take_slot c g i) { sent = put c.sent g true }) (record c {
+      sent = put c.sent g true;
+    }) (λ _. record { op = t.op; taken = t.taken; number = t.number }) (λ _. record {
+      op = t.op;
+      taken = t.taken;
+      number = t.number;
+    }))
 
 pub taken_rows : (c d : Client) → Rows c d → Taken c d
 taken_rows c d r = record { op = r.op; taken = r.taken; number = omega (arith, r.number) }
@@ -206,13 +254,15 @@ taken_small w e =
     }
 
 pub taken_on : (w : World) (e : Event) → is_submit e ≡ false → Taken w.client (happens w e).client
-taken_on w e n = client_keeps (Taken w.client) w e (λ g op is m. absurd (submits e g op is n)) (taken_small w e) (record { op = refl; taken = refl; number = omega arith })
+taken_on w e n = client_keeps (Taken w.client) w e (λ g op is m. absurd (submits e g op is n)) (taken_small w e)
+    (record { op = refl; taken = refl; number = omega arith })
   where
     submits : (e : Event) (g : ℕ) (op : Op) → e ≡ Submit g op → is_submit e ≡ false → ⊥
     submits e g op is n = absurd (grind arith)
 
 pub number_on : (w : World) (e : Event) → w.client.session_number ≤ (happens w e).client.session_number
-number_on w (Submit g op) = either (λ (d : Client). w.client.session_number ≤ d.session_number) (may_take w.client g op) (take_op w.client g op) w.client (λ _. omega arith) (λ _. omega arith)
+number_on w (Submit g op) = either (λ (d : Client). w.client.session_number ≤ d.session_number) (may_take w.client g op)
+    (take_op w.client g op) w.client (λ _. omega arith) (λ _. omega arith)
 number_on w (Open k) = (taken_on w (Open k) refl).number
 number_on w (Push k slotless pick) = (taken_on w (Push k slotless pick) refl).number
 number_on w (Serve k) = (taken_on w (Serve k) refl).number
@@ -241,14 +291,16 @@ limits_take : (c : Client) (g : ℕ) (op : Op) → may_take c g op ≡ true → 
 limits_take c g op m h x low high =
     elim (x == g) as (λ b. x == g ≡ b → charge (weight (if b then op else c.op x)) ≤ 512) [
       | true ↦ λ q. charge_low (weight op) (weight_low op (front_of (keeps_limits op) _ (back_of (g == c.taken + 1) _ m)))
-      | false ↦ λ q. let d = eqb-false x g q in let e = eqb-true g (c.taken + 1) (front_of (g == c.taken + 1) _ m) in h x low (omega (arith, d, e, high))
+      | false ↦ λ q. let d = eqb-false x g q in let e = eqb-true g (c.taken + 1) (front_of (g == c.taken + 1) _ m) in
+          h x low (omega (arith, d, e, high))
     ] refl
 
 limits_by : (c d : Client) → Taken c d → Limits c → Limits d
 limits_by c d t h g low high = subst (λ f. charge (weight (f g)) ≤ 512) (sym t.op) (h g low (subst (λ n. g ≤ n) t.taken high))
 
 pub limits_on : (w : World) (e : Event) → Limits w.client → Limits (happens w e).client
-limits_on w (Submit g op) h = either Limits (may_take w.client g op) (take_op w.client g op) w.client (λ m. limits_take w.client g op m h) (λ _. h)
+limits_on w (Submit g op) h = either Limits (may_take w.client g op) (take_op w.client g op) w.client
+    (λ m. limits_take w.client g op m h) (λ _. h)
 limits_on w (Open k) h = limits_by w.client _ (taken_on w (Open k) refl) h
 limits_on w (Push k slotless pick) h = limits_by w.client _ (taken_on w (Push k slotless pick) refl) h
 limits_on w (Serve k) h = limits_by w.client _ (taken_on w (Serve k) refl) h

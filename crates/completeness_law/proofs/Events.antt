@@ -6,7 +6,11 @@ use Rattle.exchange_defs.specs.Operations.{Refusal}
 use Rattle.exchange_defs.specs.Client.{Client}
 use Rattle.exchange_defs.specs.Dialogs.{DialogStep, GoesOn, Accepts, Binds, Readies, Refuses, dialog_step}
 use Rattle.exchange_defs.specs.ClientStep.{Pick, Act, Nothing, CloseChannel, CloseChannels, Sends, Asks, AllSettled}
-use Rattle.exchange_defs.specs.Network.{take_front, World, Open, Push, Serve, Take, Cut, Drop, Finish, Conn, Sent, Received, Token, ForDialog, ForOp, ForAttach, happens, changed, later, may_open, may_serve, may_take_reply, client_off, say_down, behind_front, pushed_by, answer, serve_front, take_reply, took_by, dialog_took, closed_by, cut_by, behind_reply}
+use Rattle.exchange_defs.specs.Network.{take_front, World, Open, Push, Serve, Take, Cut, Drop, Finish, Conn, Sent}
+use Rattle.exchange_defs.specs.Network.{Received, Token, ForDialog, ForOp, ForAttach, happens, changed, later, may_open}
+use Rattle.exchange_defs.specs.Network.{may_serve, may_take_reply, client_off, say_down, behind_front, pushed_by}
+use Rattle.exchange_defs.specs.Network.{answer, serve_front, take_reply, took_by, dialog_took, closed_by, cut_by}
+use Rattle.exchange_defs.specs.Network.{behind_reply}
 use Rattle.server_law.proofs.Logic.{either}
 
 pub if_on : {X : Type 0} (b : Bool) (x y : X) → b ≡ true → (if b then x else y) ≡ x
@@ -47,30 +51,45 @@ cut_elsewhere f k = record { server = λ q n. refl; same = λ q n o. absurd (cc)
 
 -- ---- Serve and Take, where they can be met
 
-pub served_is : (w : World) (k : ℕ) (x : Sent) (rest : List Sent) → may_serve w k ≡ true → (w.conns k).up ≡ x ∷ rest → happens w (Serve k) ≡ later (serve_front w k (x ∷ rest)) 1
-served_is w k x rest may is = if_on (may_serve w k) (later (serve_front w k (w.conns k).up) 1) w may ∙ ap (λ xs. later (serve_front w k xs) 1) is
+pub served_is : (w : World) (k : ℕ) (x : Sent) (rest : List Sent) → may_serve w k ≡ true → (w.conns k).up ≡ x ∷ rest
+    → happens w (Serve k) ≡ later (serve_front w k (x ∷ rest)) 1
+served_is w k x rest may is = if_on (may_serve w k) (later (serve_front w k (w.conns k).up) 1) w may
+    ∙ ap (λ xs. later (serve_front w k xs) 1) is
 
-pub took_is : (w : World) (k : ℕ) (y : Received) (rest : List Received) → may_take_reply w k ≡ true → (w.conns k).down ≡ y ∷ rest → happens w (Take k) ≡ later (take_reply w k (y ∷ rest)) 1
-took_is w k y rest may is = if_on (may_take_reply w k) (later (take_reply w k (w.conns k).down) 1) w may ∙ ap (λ ys. later (take_reply w k ys) 1) is
+pub took_is : (w : World) (k : ℕ) (y : Received) (rest : List Received) → may_take_reply w k ≡ true → (w.conns k).down
+    ≡ y ∷ rest → happens w (Take k) ≡ later (take_reply w k (y ∷ rest)) 1
+took_is w k y rest may is = if_on (may_take_reply w k) (later (take_reply w k (w.conns k).down) 1) w may
+    ∙ ap (λ ys. later (take_reply w k ys) 1) is
 
 -- the front is taken and its reply is on its way
 pub record Served (w v : World) (k : ℕ) (x : Sent) (rest : List Sent) : Type 0 where
   pub client : v.client ≡ w.client
-  pub here : v.conns k ≡ say_down (behind_front (w.conns k) rest) (record { token = x.token; reply = (answer w x).reply; place = w.log.places })
+  pub here : v.conns k ≡ say_down (behind_front (w.conns k) rest) (record {
+    token = x.token;
+    reply = (answer w x).reply;
+    place = w.log.places;
+  })
 
-pub serves : (w : World) (k : ℕ) (x : Sent) (rest : List Sent) → may_serve w k ≡ true → (w.conns k).up ≡ x ∷ rest → Served w (happens w (Serve k)) k x rest
+pub serves : (w : World) (k : ℕ) (x : Sent) (rest : List Sent) → may_serve w k ≡ true → (w.conns k).up ≡ x ∷ rest
+    → Served w (happens w (Serve k)) k x rest
 serves w k x rest may is =
-    let e = served_is w k x rest may is in let y : Received = record { token = x.token; reply = (answer w x).reply; place = w.log.places } in let g = put w.conns k (behind_front (w.conns k) rest) in
+    let e = served_is w k x rest may is in let y : Received = record {
+      token = x.token;
+      reply = (answer w x).reply;
+      place = w.log.places;
+    } in let g = put w.conns k (behind_front (w.conns k) rest) in
     record {
       client = ap (λ v. v.client) e;
-      here = ap (λ v. v.conns k) e ∙ put_at g k (say_down (g k) y) ∙ ap (λ d. say_down d y) (put_at w.conns k (behind_front (w.conns k) rest));
+      here = ap (λ v. v.conns k) e ∙ put_at g k (say_down (g k) y) ∙ ap (λ d. say_down d y)
+          (put_at w.conns k (behind_front (w.conns k) rest));
     }
 
 -- ---- what each event leaves of the other connections
 
 serve_list : (w : World) (k : ℕ) (xs : List Sent) → Elsewhere w.conns (serve_front w k xs).conns k
 serve_list w k [] = untouched w.conns k
-serve_list w k (x ∷ rest) = let g = put w.conns k (behind_front (w.conns k) rest) in so w.conns g (put g k _) k (put_elsewhere w.conns k _) (put_elsewhere g k _)
+serve_list w k (x ∷ rest) = let g = put w.conns k (behind_front (w.conns k) rest) in so w.conns g (put g k _) k
+    (put_elsewhere w.conns k _) (put_elsewhere g k _)
 
 act_elsewhere : (w : World) (k : ℕ) (x : Act) → Elsewhere w.conns (closed_by w k x).conns k
 act_elsewhere w k Nothing = untouched w.conns k
@@ -112,7 +131,8 @@ push_elsewhere w k c CloseChannel = untouched w.conns k
 push_elsewhere w k c CloseChannels = untouched w.conns k
 push_elsewhere w k c AllSettled = untouched w.conns k
 
-possible : (w : World) (k n : ℕ) (b : Bool) (v : World) → Elsewhere w.conns v.conns k → Elsewhere w.conns (if b then later v n else w).conns k
+possible : (w : World) (k n : ℕ) (b : Bool) (v : World) → Elsewhere w.conns v.conns k
+    → Elsewhere w.conns (if b then later v n else w).conns k
 possible w k n true v e = e
 possible w k n false v e = untouched w.conns k
 
@@ -125,11 +145,13 @@ take_elsewhere w k = possible w k 1 (may_take_reply w k) (changed w (Take k)) (t
 pub open_elsewhere : (w : World) (k : ℕ) → Elsewhere w.conns (happens w (Open k)).conns k
 open_elsewhere w k = possible w k 1 (may_open w k) (changed w (Open k)) (put_elsewhere w.conns k _)
 
-pub pushed_elsewhere : (w : World) (k : ℕ) (slotless : List ℕ) (pick : Option Pick) → Elsewhere w.conns (happens w (Push k slotless pick)).conns k
+pub pushed_elsewhere : (w : World) (k : ℕ) (slotless : List ℕ) (pick : Option Pick)
+    → Elsewhere w.conns (happens w (Push k slotless pick)).conns k
 pushed_elsewhere w k slotless pick = possible w k 1 (w.client.ready k) (changed w (Push k slotless pick)) (push_elsewhere w k _ _)
 
 cut_changed : (w : World) (k : ℕ) → Elsewhere w.conns (changed w (Cut k)).conns k
-cut_changed w k = either (λ (v : World). Elsewhere w.conns v.conns k) (w.client.ready k) _ _ (λ _. cut_act_elsewhere w k _) (λ _. put_elsewhere w.conns k _)
+cut_changed w k = either (λ (v : World). Elsewhere w.conns v.conns k) (w.client.ready k) _ _
+    (λ _. cut_act_elsewhere w k _) (λ _. put_elsewhere w.conns k _)
 
 pub cut_away : (w : World) (k : ℕ) → Elsewhere w.conns (happens w (Cut k)).conns k
 cut_away w k = possible w k 1 (w.conns k).client_open (changed w (Cut k)) (cut_changed w k)
@@ -153,7 +175,8 @@ act_server w k q CloseChannel = put_server w.conns k _ q refl
 act_server w k q CloseChannels = refl
 act_server w k q AllSettled = refl
 
-dialog_server : (w : World) (k : ℕ) (r : Reply) (q : ℕ) (d : DialogStep) → ((dialog_took w k r d).conns q).server_open ≡ (w.conns q).server_open
+dialog_server : (w : World) (k : ℕ) (r : Reply) (q : ℕ) (d : DialogStep) → ((dialog_took w k r d).conns q).server_open
+    ≡ (w.conns q).server_open
 dialog_server w k r q (GoesOn s) = put_server w.conns k _ q refl
 dialog_server w k r q Accepts = put_server w.conns k _ q refl
 dialog_server w k r q Binds = act_server w k q _
@@ -164,10 +187,12 @@ list_server : (w : World) (k q : ℕ) (ys : List Received) → ((take_reply w k 
 list_server w k q [] = refl
 list_server w k q (y ∷ rest) = by y.token ∙ put_server w.conns k (take_front (w.conns k) rest) q refl
   where
-    by : (t : Token) → ((took_by (behind_reply w k rest) k y.reply y.place t).conns q).server_open ≡ ((behind_reply w k rest).conns q).server_open
+    by : (t : Token) → ((took_by (behind_reply w k rest) k y.reply y.place t).conns q).server_open
+        ≡ ((behind_reply w k rest).conns q).server_open
     by ForDialog = dialog_server (behind_reply w k rest) k y.reply q (dialog_step (w.client.stage k) y.reply.status)
     by (ForOp g) = act_server (behind_reply w k rest) k q _
     by (ForAttach g) = act_server (behind_reply w k rest) k q _
 
 pub take_server : (w : World) (k q : ℕ) → ((happens w (Take k)).conns q).server_open ≡ (w.conns q).server_open
-take_server w k q = either (λ (v : World). (v.conns q).server_open ≡ (w.conns q).server_open) (may_take_reply w k) (later (changed w (Take k)) 1) w (λ _. list_server w k q (w.conns k).down) (λ _. refl)
+take_server w k q = either (λ (v : World). (v.conns q).server_open ≡ (w.conns q).server_open) (may_take_reply w k)
+    (later (changed w (Take k)) 1) w (λ _. list_server w k q (w.conns k).down) (λ _. refl)

@@ -34,11 +34,14 @@ pub record Facts (w : World) : Type 0 where
   pub client_low : (k : ℕ) → (w.conns k).client_open ≡ true → k < 256
   pub server_low : (k : ℕ) → (w.conns k).server_open ≡ true → k < 256
   -- what is outstanding on a channel with two open ends waits there
-  pub carried : (g k : ℕ) → w.client.outstanding_on g ≡ Some k → (w.conns k).client_open ≡ true → (w.conns k).server_open ≡ true → 1 ≤ copies g (w.conns k)
+  pub carried : (g k : ℕ) → w.client.outstanding_on g ≡ Some k → (w.conns k).client_open ≡ true
+      → (w.conns k).server_open ≡ true → 1 ≤ copies g (w.conns k)
   -- a connection that the server doesn't hold is taken in
   pub accepts : (k : ℕ) → k < 256 → (w.conns k).server_open ≡ false → (step w.server w.moment (Accept k)).reply.status ≡ success
   -- what waits for a create that settled waits for one that is Ok
-  pub create_ok : (g : ℕ) → 0 < g → g ≤ w.client.taken → is_unsettled (w.client.outcome g) ≡ true → is_create (w.client.op g) ≡ false → is_unsettled (w.client.outcome (create_for w.client g)) ≡ false → is_ok (w.client.outcome (create_for w.client g)) ≡ true
+  pub create_ok : (g : ℕ) → 0 < g → g ≤ w.client.taken → is_unsettled (w.client.outcome g) ≡ true
+      → is_create (w.client.op g) ≡ false → is_unsettled (w.client.outcome (create_for w.client g)) ≡ false
+      → is_ok (w.client.outcome (create_for w.client g)) ≡ true
   pub limits : (g : ℕ) → 0 < g → g ≤ w.client.taken → charge (weight (w.client.op g)) ≤ 512
   pub beyond : w.client.op 0 ≡ OpClose 0
 
@@ -51,13 +54,15 @@ is_submit _ = false
 pub record Always (K : World → Type 0) : Type 0 where
   pub step : (w : World) (e : Event) → K w → K (happens w e)
   pub facts : (w : World) → K w → Facts w
-  pub stays : (w : World) (e : Event) (g : ℕ) → K w → is_unsettled (w.client.outcome g) ≡ false → is_unsettled ((happens w e).client.outcome g) ≡ false
+  pub stays : (w : World) (e : Event) (g : ℕ) → K w → is_unsettled (w.client.outcome g) ≡ false
+      → is_unsettled ((happens w e).client.outcome g) ≡ false
   pub taken : (w : World) (e : Event) → is_submit e ≡ false → (happens w e).client.taken ≡ w.client.taken
   pub number : (w : World) (e : Event) → w.client.session_number ≤ (happens w e).client.session_number
 
 -- no operation on a ready channel with two open ends hears that its session is gone
 abbrev pub StaysPresent : World → Type 0
-StaysPresent w = (k : ℕ) (x : Sent) (rest : List Sent) → w.client.ready k ≡ true → (w.conns k).client_open ≡ true → (w.conns k).server_open ≡ true → (w.conns k).up ≡ x ∷ rest → (answer w x).reply.status ≢ user_session_deleted
+StaysPresent w = (k : ℕ) (x : Sent) (rest : List Sent) → w.client.ready k ≡ true → (w.conns k).client_open ≡ true
+    → (w.conns k).server_open ≡ true → (w.conns k).up ≡ x ∷ rest → (answer w x).reply.status ≢ user_session_deleted
 
 -- the session that waits for its tree has an id above that of the one before it
 abbrev pub Rises : World → Type 0

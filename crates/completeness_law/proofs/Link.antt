@@ -11,13 +11,16 @@ use Rattle.session_law.specs.Dialogs.{Awaits, MessageAlone, ReplyAlone, IsLost, 
 use Rattle.completeness_law.proofs.Equations.{by_test, linking_on, linking_off}
 use Rattle.completeness_law.proofs.Events.{Elsewhere, untouched, so, serve_elsewhere, take_elsewhere, take_server, if_off}
 use Rattle.completeness_law.proofs.Facts.{Always, AllRise, ends_of}
-use Rattle.completeness_law.proofs.Taking.{rank, Ends, IsCountedOut, Taken, Further, IsOver, IsRefused, serves_front, takes_dialog, filled_on}
+use Rattle.completeness_law.proofs.Taking.{rank, Ends, IsCountedOut, Taken, Further, IsOver, IsRefused, serves_front}
+use Rattle.completeness_law.proofs.Taking.{takes_dialog, filled_on}
 
 -- how a dialog ended: the channel is ready and nothing waits there, or it was refused and the client's end closed, or the
 -- client has no number for the session
 pub data LinkEnd (K : World → Type 0) (w v : World) (k : ℕ) : Type 0 where
-  NowReady : v.client.ready k ≡ true → v.client.refusals ≡ w.client.refusals → (v.conns k).client_open ≡ true → (v.conns k).up ≡ [] → (v.conns k).down ≡ [] → LinkEnd K w v k
-  NowRefused : (v.conns k).client_open ≡ false → length v.client.refusals ≡ length w.client.refusals + 1 → v.client.ready k ≡ false → LinkEnd K w v k
+  NowReady : v.client.ready k ≡ true → v.client.refusals ≡ w.client.refusals → (v.conns k).client_open ≡ true
+      → (v.conns k).up ≡ [] → (v.conns k).down ≡ [] → LinkEnd K w v k
+  NowRefused : (v.conns k).client_open ≡ false → length v.client.refusals ≡ length w.client.refusals + 1
+      → v.client.ready k ≡ false → LinkEnd K w v k
   OutOfNumbers : (v.conns k).client_open ≡ false → (AllRise K → last_number ≤ v.client.session_number) → LinkEnd K w v k
 
 -- ---- one message and its reply
@@ -27,7 +30,8 @@ pub record Step (K : World → Type 0) (w v : World) (k : ℕ) : Type 0 where
   pub server : (v.conns k).server_open ≡ (w.conns k).server_open
   pub elsewhere : Elsewhere w.conns v.conns k
 
-both_steps : (K : World → Type 0) → Always K → (w : World) (k : ℕ) → K w → (((happens w (Serve k)).conns k).server_open ≡ (w.conns k).server_open) → Step K w (happens (happens w (Serve k)) (Take k)) k
+both_steps : (K : World → Type 0) → Always K → (w : World) (k : ℕ) → K w → (((happens w (Serve k)).conns k).server_open
+    ≡ (w.conns k).server_open) → Step K w (happens (happens w (Serve k)) (Take k)) k
 both_steps K A w k h s =
     let v = happens w (Serve k) in
     record {
@@ -43,21 +47,29 @@ nothing_up : (w : World) (k : ℕ) → (w.conns k).up ≡ [] → may_serve w k �
 unfolding is_filled
 nothing_up w k e = grind arith
 
-pub server_keeps : (w : World) (k : ℕ) → (x : Sent) (rest : List Sent) → (w.conns k).up ≡ x ∷ rest → (w.conns k).server_open ≡ true → may_serve w k ≡ true
+pub server_keeps : (w : World) (k : ℕ) → (x : Sent) (rest : List Sent) → (w.conns k).up ≡ x ∷ rest
+    → (w.conns k).server_open ≡ true → may_serve w k ≡ true
 server_keeps w k x rest is o = both (w.conns k).server_open _ o (filled_on (w.conns k).up x rest is)
 
 same_taken : (w v u : World) (k : ℕ) → v.client ≡ w.client → Taken v u k → Taken w u k
-same_taken w v u k e (Further x lower talks refusals stands up down) = Further x (subst (λ (c : Client). rank (u.client.stage k) < rank (c.stage k)) e lower) talks (refusals ∙ ap (λ (c : Client). c.refusals) e) stands up down
+same_taken w v u k e (Further x lower talks refusals stands up down) =
+    Further x (subst (λ (c : Client). rank (u.client.stage k) < rank (c.stage k)) e lower) talks
+    (refusals ∙ ap (λ (c : Client). c.refusals) e) stands up down
 same_taken w v u k e (IsOver ready refusals stands up down) = IsOver ready (refusals ∙ ap (λ (c : Client). c.refusals) e) stands up down
-same_taken w v u k e (IsRefused shut refusals live) = IsRefused shut (refusals ∙ ap (λ (c : Client). length c.refusals + 1) e) (live ∙ ap (λ (c : Client). c.live) e)
-same_taken w v u k e (IsCountedOut shut at out) = IsCountedOut shut (ap (λ (c : Client). c.stage k) (sym e) ∙ at) (λ l. out (subst (λ (c : Client). c.session < c.pending) (sym e) l))
+same_taken w v u k e (IsRefused shut refusals live) =
+    IsRefused shut (refusals ∙ ap (λ (c : Client). length c.refusals + 1) e) (live ∙ ap (λ (c : Client). c.live) e)
+same_taken w v u k e (IsCountedOut shut at out) = IsCountedOut shut (ap (λ (c : Client). c.stage k) (sym e) ∙ at)
+    (λ l. out (subst (λ (c : Client). c.session < c.pending) (sym e) l))
 
-reply_there : (w v : World) (k : ℕ) → v.client ≡ w.client → (v.conns k).client_open ≡ true → (v.conns k).up ≡ [] → (v.conns k).server_open ≡ true → v.client.ready k ≡ false → Ends v.client k → Channel (v.client.ready k) (v.client.stage k) (v.conns k)
+reply_there : (w v : World) (k : ℕ) → v.client ≡ w.client → (v.conns k).client_open ≡ true → (v.conns k).up ≡ []
+    → (v.conns k).server_open ≡ true → v.client.ready k ≡ false → Ends v.client k → Channel (v.client.ready k)
+    (v.client.stage k) (v.conns k)
     → Taken w (happens v (Take k)) k
 reply_there w v k same stands up server off ends (IsClosed o apart shut none) = absurd (grind arith)
 reply_there w v k same stands up server off ends (IsReady on apart o) = absurd (grind arith)
 reply_there w v k same stands up server off ends (IsInDialog o talks s (MessageAlone x one none token)) = absurd (grind arith)
-reply_there w v k same stands up server off ends (IsInDialog o talks s (ReplyAlone y none one token)) = same_taken w v (happens v (Take k)) k same (takes_dialog v k y stands up one token ends)
+reply_there w v k same stands up server off ends (IsInDialog o talks s (ReplyAlone y none one token)) =
+    same_taken w v (happens v (Take k)) k same (takes_dialog v k y stands up one token ends)
 reply_there w v k same stands up server off ends (IsInDialog o talks s (IsLost gone none empty)) = absurd (grind arith)
 
 pub record OneStep (K : World → Type 0) (w v : World) (k : ℕ) : Type 0 where
@@ -65,12 +77,16 @@ pub record OneStep (K : World → Type 0) (w v : World) (k : ℕ) : Type 0 where
   pub taken : Taken w v k
 
 -- a dialog whose two ends are open comes one message further
-pub one_step : (K : World → Type 0) → Always K → (w : World) (k : ℕ) → K w → (w.conns k).server_open ≡ true → (w.conns k).client_open ≡ true → w.client.ready k ≡ false → Awaits (w.conns k) → OneStep K w (happens (happens w (Serve k)) (Take k)) k
+pub one_step : (K : World → Type 0) → Always K → (w : World) (k : ℕ) → K w → (w.conns k).server_open ≡ true
+    → (w.conns k).client_open ≡ true → w.client.ready k ≡ false → Awaits (w.conns k)
+    → OneStep K w (happens (happens w (Serve k)) (Take k)) k
 one_step K A w k h server stands off (MessageAlone x one none token) =
     let f = serves_front w k x [] (server_keeps w k x [] one server) one in let v = happens w (Serve k) in
     record {
       step = both_steps K A w k h f.server;
-      taken = reply_there w v k f.client (f.client_end ∙ stands) f.up (f.server ∙ server) (ap (λ (c : Client). c.ready k) f.client ∙ off) (ends_of v k (A.facts v (A.step w (Serve k) h))) ((A.facts v (A.step w (Serve k) h)).channels k);
+      taken = reply_there w v k f.client (f.client_end ∙ stands) f.up (f.server ∙ server)
+          (ap (λ (c : Client). c.ready k) f.client ∙ off) (ends_of v k (A.facts v (A.step w (Serve k) h)))
+          ((A.facts v (A.step w (Serve k) h)).channels k);
     }
 one_step K A w k h server stands off (ReplyAlone y none one token) =
     let e = unserved w k (nothing_up w k none) in
@@ -94,11 +110,13 @@ unfolding linking
 stays_linked zero c k e = refl
 stays_linked (suc n) c k e = linking_off n c k e
 
-both_ends : (w : World) (k : ℕ) → is_linking w k ≡ true → (w.conns k).client_open ≡ true × (w.conns k).server_open ≡ true × w.client.ready k ≡ false
+both_ends : (w : World) (k : ℕ) → is_linking w k ≡ true → (w.conns k).client_open ≡ true × (w.conns k).server_open
+    ≡ true × w.client.ready k ≡ false
 unfolding is_linking both_open
 both_ends w k e = (grind arith, grind arith, grind arith)
 
-pub goes_on : (w : World) (k : ℕ) → (w.conns k).client_open ≡ true → (w.conns k).server_open ≡ true → w.client.ready k ≡ false → is_linking w k ≡ true
+pub goes_on : (w : World) (k : ℕ) → (w.conns k).client_open ≡ true → (w.conns k).server_open ≡ true → w.client.ready k
+    ≡ false → is_linking w k ≡ true
 unfolding is_linking both_open
 goes_on w k a b c = grind arith
 
@@ -140,13 +158,20 @@ not_ready r s c talks (IsClosed o apart e none) = o
 not_ready r s c talks (IsReady on apart o) = absurd (grind arith)
 not_ready r s c talks (IsInDialog o t u waits) = o
 
-loops : (K : World → Type 0) → Always K → (n : ℕ) (c v d : Course) (k : ℕ) → K c.world → rank (c.world.client.stage k) ≤ suc n → (c.world.conns k).server_open ≡ true → OneStep K c.world v.world k
+loops : (K : World → Type 0) → Always K → (n : ℕ) (c v d : Course) (k : ℕ) → K c.world → rank (c.world.client.stage k)
+    ≤ suc n → (c.world.conns k).server_open ≡ true → OneStep K c.world v.world k
     → (rank (v.world.client.stage k) ≤ n → Linked K v d k) → (is_linking v.world k ≡ false → d ≡ v) → Linked K c d k
 loops K A n c v d k known low server s again stops = by s.taken
   where
     ended : is_linking v.world k ≡ false → LinkEnd K c.world v.world k → Linked K c d k
     ended off e =
-        subst (λ (u : Course). Linked K c u k) (sym (stops off)) (record { known = s.step.known; server = s.step.server; elsewhere = s.step.elsewhere; done = off; ends = λ _. e })
+        subst (λ (u : Course). Linked K c u k) (sym (stops off)) (record {
+          known = s.step.known;
+          server = s.step.server;
+          elsewhere = s.step.elsewhere;
+          done = off;
+          ends = λ _. e;
+        })
 
     by : Taken c.world v.world k → Linked K c d k
     by (Further x lower talks refusals stands up down) =
@@ -156,23 +181,32 @@ loops K A n c v d k known low server s again stops = by s.taken
           server = i.server ∙ s.step.server;
           elsewhere = so c.world.conns v.world.conns d.world.conns k s.step.elsewhere i.elsewhere;
           done = i.done;
-          ends = λ _. further K c.world v.world d.world k refusals (i.ends (goes_on v.world k stands (s.step.server ∙ server) (not_ready (v.world.client.ready k) (v.world.client.stage k) (v.world.conns k) talks ((A.facts v.world s.step.known).channels k))));
+          ends = λ _. further K c.world v.world d.world k refusals
+              (i.ends (goes_on v.world k stands (s.step.server ∙ server)
+              (not_ready (v.world.client.ready k) (v.world.client.stage k) (v.world.conns k) talks
+              ((A.facts v.world s.step.known).channels k))));
         }
     by (IsOver ready refusals stands up down) = ended (ready_stops v.world k ready) (NowReady ready refusals stands up down)
     by (IsRefused shut refusals live) =
-        ended (shut_stops v.world k shut) (NowRefused shut refusals (off_shut (v.world.client.ready k) (v.world.client.stage k) (v.world.conns k) shut ((A.facts v.world s.step.known).channels k)))
+        ended (shut_stops v.world k shut)
+        (NowRefused shut refusals (off_shut (v.world.client.ready k) (v.world.client.stage k) (v.world.conns k) shut
+        ((A.facts v.world s.step.known).channels k)))
     by (IsCountedOut shut at out) = ended (shut_stops v.world k shut) (OutOfNumbers shut (λ rise. out (rise c.world known k at)))
 
 -- as many rounds as the dialog has messages to send
-pub links : (K : World → Type 0) → Always K → (n : ℕ) (c : Course) (k : ℕ) → K c.world → rank (c.world.client.stage k) ≤ n → Linked K c (linking n c k) k
+pub links : (K : World → Type 0) → Always K → (n : ℕ) (c : Course) (k : ℕ) → K c.world → rank (c.world.client.stage k)
+    ≤ n → Linked K c (linking n c k) k
 unfolding linking went
 links K A zero c k h low =
     record {
       known = h;
       server = refl;
       elsewhere = untouched c.world.conns k;
-      done = never (is_linking c.world k) (λ e. let b = both_ends c.world k e in not_talking (c.world.client.ready k) (c.world.client.stage k) (c.world.conns k) b.2 b.0 low ((A.facts c.world h).channels k) (is_linking c.world k ≡ false));
-      ends = λ e. let b = both_ends c.world k e in not_talking (c.world.client.ready k) (c.world.client.stage k) (c.world.conns k) b.2 b.0 low ((A.facts c.world h).channels k) _;
+      done = never (is_linking c.world k) (λ e. let b = both_ends c.world k e in not_talking (c.world.client.ready k)
+          (c.world.client.stage k) (c.world.conns k) b.2 b.0 low ((A.facts c.world h).channels k) (is_linking c.world k
+          ≡ false));
+      ends = λ e. let b = both_ends c.world k e in not_talking (c.world.client.ready k) (c.world.client.stage k)
+          (c.world.conns k) b.2 b.0 low ((A.facts c.world h).channels k) _;
     }
   where
     never : (b : Bool) → (b ≡ true → b ≡ false) → b ≡ false
@@ -183,7 +217,8 @@ links K A (suc n) c k h low =
     let again = λ (i : K v.world) (l : rank (v.world.client.stage k) ≤ n). links K A n v k i l in
     by_test (λ d. Linked K c d k) (is_linking c.world k) (linking (suc n) c k) (linking n v k) c (linking_on n c k) (linking_off n c k)
     (λ on. let b = both_ends c.world k on in
-    let s = one_step K A c.world k h b.1 b.0 b.2 (awaits_of (c.world.client.ready k) (c.world.client.stage k) (c.world.conns k) b.2 b.0 ((A.facts c.world h).channels k)) in
+    let s = one_step K A c.world k h b.1 b.0 b.2 (awaits_of (c.world.client.ready k) (c.world.client.stage k)
+    (c.world.conns k) b.2 b.0 ((A.facts c.world h).channels k)) in
     loops K A n c v (linking n v k) k h low b.1 s (again s.step.known) (stays_linked n v k))
     (λ off. record { known = h; server = refl; elsewhere = untouched c.world.conns k; done = off; ends = λ on. absurd (cc) })
 

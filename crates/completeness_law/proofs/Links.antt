@@ -1,21 +1,30 @@
 -- On every run the server's connections are those whose ends it holds, each once.
 use Rattle.std.proofs.lemmas.Bool.{eqb-false}
 use Rattle.std.proofs.lemmas.Bool.Decides.{nat_tests}
-use Rattle.std.proofs.Common.{eqb-true, ◌≡◌, ◌≢◌, ℕ, ◌+◌, ◌≤◌, ◌<◌, ◌==◌, nat_lt, Bool, true, false, not, ◌&&◌, ◌||◌, if◌then◌else◌, List, [], ◌∷◌, ◌++◌, length, refl, arith, sym, subst, ◌∙◌, ap, Option, Some, None, zero, suc}
+use Rattle.std.proofs.Common.{eqb-true, ◌≡◌, ◌≢◌, ℕ, ◌+◌, ◌≤◌, ◌<◌, ◌==◌, nat_lt, Bool, true, false, not, ◌&&◌, ◌||◌}
+use Rattle.std.proofs.Common.{if◌then◌else◌, List, [], ◌∷◌, ◌++◌, length, refl, arith, sym, subst, ◌∙◌, ap, Option}
+use Rattle.std.proofs.Common.{Some, None, zero, suc}
 use Rattle.exchange_defs.specs.Table.{put, without}
 use Rattle.exchange_defs.specs.Status.{success}
 use Rattle.exchange_defs.specs.Commands.{all_lock, all_unlock}
-use Rattle.exchange_defs.specs.State.{Server, Accept, Answer, Record, Entry, NewOpen, EpochRecord, VersionRecord, CreateRecord, WriteRecord, EndRecord, BasicRecord, DeleteRecord, RenameRecord, RemoveRecord, LockRecord, CloseRecord, ExpireRecord}
+use Rattle.exchange_defs.specs.State.{Server, Accept, Answer, Record, Entry, NewOpen, EpochRecord, VersionRecord}
+use Rattle.exchange_defs.specs.State.{CreateRecord, WriteRecord, EndRecord, BasicRecord, DeleteRecord, RenameRecord}
+use Rattle.exchange_defs.specs.State.{RemoveRecord, LockRecord, CloseRecord, ExpireRecord}
 use Rattle.exchange_defs.specs.Ranges.{RangeAnswer, Stands, Denied}
-use Rattle.exchange_defs.specs.Fold.{fold, fold_from, with_record, sweep, restore, created_file, lock_granted, lock_recorded, shut_recorded, nothing_yet}
+use Rattle.exchange_defs.specs.Fold.{fold, fold_from, with_record, sweep, restore, created_file, lock_granted}
+use Rattle.exchange_defs.specs.Fold.{lock_recorded, shut_recorded, nothing_yet}
 use Rattle.exchange_defs.specs.Opens.{without_gone, pending_behind}
 use Rattle.exchange_defs.specs.Step.{step, add_expired_guid, max_expired_guids}
 use Rattle.exchange_defs.specs.Client.{Client}
 use Rattle.exchange_defs.specs.State.{Reply}
 use Rattle.exchange_defs.specs.Dialogs.{DialogStep, GoesOn, Accepts, Binds, Readies, Refuses, dialog_step}
-use Rattle.exchange_defs.specs.Network.{Token, ForDialog, ForOp, ForAttach, may_take_reply, closed_by, take_reply, took_by, dialog_took, behind_reply, max_channel}
+use Rattle.exchange_defs.specs.Network.{Token, ForDialog, ForOp, ForAttach, may_take_reply, closed_by, take_reply}
+use Rattle.exchange_defs.specs.Network.{took_by, dialog_took, behind_reply, max_channel}
 use Rattle.exchange_defs.specs.ClientStep.{client_after, act, Pushes, Act, Nothing, Sends, Asks, CloseChannel, CloseChannels, AllSettled}
-use Rattle.exchange_defs.specs.Network.{World, Event, Submit, Open, Push, Serve, Take, Cut, Drop, Restart, Crash, Wait, Finish, Conn, Sent, Received, happens, changed, later, may_open, may_serve, fresh, opened_by, server_off, client_off, say_down, behind_front, pushed_by, answer, serve_front, absorb_front, cut_by, restarted}
+use Rattle.exchange_defs.specs.Network.{World, Event, Submit, Open, Push, Serve, Take, Cut, Drop, Restart, Crash, Wait}
+use Rattle.exchange_defs.specs.Network.{Finish, Conn, Sent, Received, happens, changed, later, may_open, may_serve}
+use Rattle.exchange_defs.specs.Network.{fresh, opened_by, server_off, client_off, say_down, behind_front, pushed_by}
+use Rattle.exchange_defs.specs.Network.{answer, serve_front, absorb_front, cut_by, restarted}
 use Rattle.server_law.proofs.Logic.{either, front_of, back_of, not_true}
 use Rattle.completeness_law.proofs.Events.{take_server}
 use Rattle.completeness_law.proofs.Carried.{Low}
@@ -26,7 +35,8 @@ use Rattle.completeness_law.proofs.Server.{Same, same_so, pending_set, gone, slo
 swept : (s : Server) (es : List Entry) → Same s (sweep s es)
 unfolding sweep
 swept s [] = record { connections = refl }
-swept s (e ∷ es) = let i = swept (without_gone s e.file) es in same_so s (without_gone s e.file) (sweep (without_gone s e.file) es) (gone s e.file) i
+swept s (e ∷ es) = let i = swept (without_gone s e.file) es in same_so s (without_gone s e.file)
+    (sweep (without_gone s e.file) es) (gone s e.file) i
 
 unchanged : (s : Server) → Same s s
 unchanged s = record { connections = refl }
@@ -35,41 +45,54 @@ restored : (s : Server) (f action : ℕ) (n : Option NewOpen) → Same s (restor
 restored s f action None = record { connections = refl }
 restored s f action (Some n) = record { connections = refl }
 
-created : (s : Server) (action f : ℕ) (path : List ℕ) (attributes : ℕ) (is_dir : Bool) (time : ℕ) → Same s (created_file s action f path attributes is_dir time)
+created : (s : Server) (action f : ℕ) (path : List ℕ) (attributes : ℕ) (is_dir : Bool) (time : ℕ)
+    → Same s (created_file s action f path attributes is_dir time)
 created s action f path attributes is_dir time =
-    either (λ t. Same s t) (action == 2) _ _ (λ _. record { connections = refl }) (λ _. either (λ t. Same s t) (action == 1) s _ (λ _. unchanged s) (λ _. record { connections = refl }))
+    either (λ t. Same s t) (action == 2) _ _ (λ _. record { connections = refl })
+    (λ _. either (λ t. Same s t) (action == 1) s _ (λ _. unchanged s) (λ _. record { connections = refl }))
 
 shut : (s : Server) (o : ℕ) → Same s (shut_recorded s o)
 shut s o = same_so s (pending_behind s o) (shut_recorded s o) (pending_set s o) (record { connections = refl })
 
 granted : (s : Server) (o index number : ℕ) (a : RangeAnswer) → Same s (lock_granted s o index number a)
 granted s o index number (Denied status) = record { connections = refl }
-granted s o index number (Stands ranges) = same_so s _ (lock_granted s o index number (Stands ranges)) (record { connections = refl }) (slotted _ o index number success)
+granted s o index number (Stands ranges) = same_so s _ (lock_granted s o index number (Stands ranges)) (record {
+  connections = refl;
+}) (slotted _ o index number success)
 
 locked : (s : Server) (o index number status : ℕ) (elements : _) → Same s (lock_recorded s o index number status elements)
 locked s o index number status elements =
-    either (λ t. Same s t) (not (all_lock elements || all_unlock elements)) s _ (λ _. unchanged s) (λ _. either (λ t. Same s t) (status == success) _ _ (λ _. granted s o index number _) (λ _. slotted s o index number status))
+    either (λ t. Same s t) (not (all_lock elements || all_unlock elements)) s _ (λ _. unchanged s)
+    (λ _. either (λ t. Same s t) (status == success) _ _ (λ _. granted s o index number _)
+    (λ _. slotted s o index number status))
 
 expired_added : (s : Server) (client : ℕ) (g : Option ℕ) → Same s (add_expired_guid s client g)
 expired_added s client None = record { connections = refl }
 expired_added s client (Some g) = record { connections = refl }
 
 by_record : (s : Server) (r : Record) → (with_record s r).connections ≡ s.connections
-by_record s (EpochRecord number) = either (λ (t : Server). t.connections ≡ s.connections) (number == s.epoch + 1) _ s (λ _. (swept s s.entries).connections) (λ _. refl)
-by_record s (VersionRecord number) = either (λ (t : Server). t.connections ≡ s.connections) ((number == 2) && (s.version == 1)) _ s (λ _. refl) (λ _. refl)
+by_record s (EpochRecord number) = either (λ (t : Server). t.connections ≡ s.connections) (number == s.epoch + 1) _ s
+    (λ _. (swept s s.entries).connections) (λ _. refl)
+by_record s (VersionRecord number) = either (λ (t : Server). t.connections ≡ s.connections)
+    ((number == 2) && (s.version == 1)) _ s (λ _. refl) (λ _. refl)
 by_record s (CreateRecord origin action f path attributes is_dir time opened) =
-    either (λ (t : Server). t.connections ≡ s.connections) _ _ s (λ _. (restored (created_file s action f path attributes is_dir time) f action opened).connections ∙ (created s action f path attributes is_dir time).connections) (λ _. refl)
+    either (λ (t : Server). t.connections ≡ s.connections) _ _ s
+    (λ _. (restored (created_file s action f path attributes is_dir time) f action opened).connections
+    ∙ (created s action f path attributes is_dir time).connections) (λ _. refl)
 by_record s (WriteRecord origin f at time bytes) = either (λ (t : Server). t.connections ≡ s.connections) _ _ s (λ _. refl) (λ _. refl)
 by_record s (EndRecord origin f size time) = either (λ (t : Server). t.connections ≡ s.connections) _ _ s (λ _. refl) (λ _. refl)
 by_record s (BasicRecord origin f basic) = either (λ (t : Server). t.connections ≡ s.connections) _ _ s (λ _. refl) (λ _. refl)
 by_record s (DeleteRecord origin f flag) = either (λ (t : Server). t.connections ≡ s.connections) _ _ s (λ _. refl) (λ _. refl)
 by_record s (RenameRecord origin f replaced path) = either (λ (t : Server). t.connections ≡ s.connections) _ _ s (λ _. refl) (λ _. refl)
 by_record s (RemoveRecord origin f) = either (λ (t : Server). t.connections ≡ s.connections) _ _ s (λ _. refl) (λ _. refl)
-by_record s (LockRecord origin o index number status elements) = either (λ (t : Server). t.connections ≡ s.connections) _ _ s (λ _. (locked s o index number status elements).connections) (λ _. refl)
-by_record s (CloseRecord origin o) = either (λ (t : Server). t.connections ≡ s.connections) (s.standing o) _ s (λ _. (shut s o).connections) (λ _. refl)
+by_record s (LockRecord origin o index number status elements) = either (λ (t : Server). t.connections ≡ s.connections)
+    _ _ s (λ _. (locked s o index number status elements).connections) (λ _. refl)
+by_record s (CloseRecord origin o) = either (λ (t : Server). t.connections ≡ s.connections) (s.standing o) _ s
+    (λ _. (shut s o).connections) (λ _. refl)
 by_record s (ExpireRecord origin o) =
     either (λ (t : Server). t.connections ≡ s.connections) (s.standing o && nat_lt s.expired_count max_expired_guids) _ s
-    (λ _. (expired_added (shut_recorded s o) (s.opened o).client_guid (s.opened o).create_guid).connections ∙ (shut s o).connections) (λ _. refl)
+    (λ _. (expired_added (shut_recorded s o) (s.opened o).client_guid (s.opened o).create_guid).connections
+    ∙ (shut s o).connections) (λ _. refl)
 
 folds : (s : Server) (rs : List Record) → (fold_from s rs).connections ≡ s.connections
 unfolding fold_from
@@ -151,7 +174,8 @@ sum_length : (xs : List ℕ) (n : ℕ) → ((k : ℕ) → 1 ≤ tally k xs → k
 unfolding tally
 sum_length [] n h = sum_nothing n
 sum_length (x ∷ xs) n h =
-    let i = sum_length xs n (λ k l. h k (omega (arith, l))) in let a = sum_more (λ k. bit (x == k)) (λ k. tally k xs) n in let b = sum_one n x (h x (itself_there x (tally x xs))) in
+    let i = sum_length xs n (λ k l. h k (omega (arith, l))) in let a = sum_more (λ k. bit (x == k)) (λ k. tally k xs) n
+    in let b = sum_one n x (h x (itself_there x (tally x xs))) in
     total (sum (λ k. bit (x == k) + tally k xs) n) (sum (λ k. bit (x == k)) n) (sum (λ k. tally k xs) n) (length xs) a b i
   where
     total : (s a b n : ℕ) → s ≡ a + b → a ≡ 1 → b ≡ n → s ≡ suc n
@@ -197,21 +221,29 @@ pub room_for : (s : Server) (f : ℕ → Conn) (k : ℕ) → Links s f → Low f
 unfolding bit
 room_for s f k h low l off =
     let n = sum_length s.connections 256 (λ q m. low.server q (bit_on (f q).server_open (subst (λ x. 1 ≤ x) (h q) m))) in
-    let b = sum_below (λ q. tally q s.connections) 256 k (λ q. subst (λ x. x ≤ 1) (sym (h q)) (bit_low (f q).server_open)) l (h k ∙ ap bit off) in omega (arith, n, b)
+    let b = sum_below (λ q. tally q s.connections) 256 k
+    (λ q. subst (λ x. x ≤ 1) (sym (h q)) (bit_low (f q).server_open)) l (h k ∙ ap bit off) in omega (arith, n, b)
 
 -- ---- every event
 
-links_same : (s t : Server) (f g : ℕ → Conn) → t.connections ≡ s.connections → ((q : ℕ) → (g q).server_open ≡ (f q).server_open) → Links s f → Links t g
+links_same : (s t : Server) (f g : ℕ → Conn) → t.connections ≡ s.connections
+    → ((q : ℕ) → (g q).server_open ≡ (f q).server_open) → Links s f → Links t g
 links_same s t f g e same h q = ap (λ xs. tally q xs) e ∙ h q ∙ ap bit (sym (same q))
 
 put_server : (f : ℕ → Conn) (k : ℕ) (d : Conn) → d.server_open ≡ (f k).server_open → (q : ℕ) → (put f k d q).server_open ≡ (f q).server_open
 put_server f k d e q = grind arith
 
-opens_link : (w : World) (k : ℕ) (A : Answer) → Links w.server w.conns → (w.conns k).server_open ≡ false → A.reply.status ≡ success → A.server.connections ≡ w.server.connections ++ k ∷ [] → Links (opened_by w k A).server (opened_by w k A).conns
+opens_link : (w : World) (k : ℕ) (A : Answer) → Links w.server w.conns → (w.conns k).server_open ≡ false
+    → A.reply.status ≡ success → A.server.connections ≡ w.server.connections ++ k ∷ [] → Links (opened_by w k A).server
+    (opened_by w k A).conns
 unfolding bit
 opens_link w k A h off status e q =
-    ap (λ xs. tally q xs) e ∙ tally_push q w.server.connections k ∙ elim (q == k) as (λ b. q == k ≡ b → tally q w.server.connections + bit (k == q) ≡ bit (if b then fresh w.client k (A.reply.status == success) else w.conns q).server_open) [
-      | true ↦ λ t. here (tally q w.server.connections) (A.reply.status == success) (k == q) (h q ∙ ap (λ n. bit (w.conns n).server_open) (eqb-true q k t) ∙ ap bit off) (is A.reply.status status) (other q k (eqb-true q k t))
+    ap (λ xs. tally q xs) e ∙ tally_push q w.server.connections k
+    ∙ elim (q == k) as (λ b. q == k ≡ b → tally q w.server.connections + bit (k == q)
+    ≡ bit (if b then fresh w.client k (A.reply.status == success) else w.conns q).server_open) [
+      | true ↦ λ t. here (tally q w.server.connections) (A.reply.status == success) (k == q)
+          (h q ∙ ap (λ n. bit (w.conns n).server_open) (eqb-true q k t) ∙ ap bit off) (is A.reply.status status)
+          (other q k (eqb-true q k t))
       | false ↦ λ t. there (tally q w.server.connections) (k == q) (bit (w.conns q).server_open) (h q) (apart q k (eqb-false q k t))
     ] refl
   where
@@ -237,12 +269,17 @@ opens_link w k A h off status e q =
 served_link : (w : World) (k : ℕ) (xs : List Sent) → Links w.server w.conns → Links (serve_front w k xs).server (serve_front w k xs).conns
 served_link w k [] h = h
 served_link w k (x ∷ rest) h =
-    let f = put w.conns k (behind_front (w.conns k) rest) in let y : Received = record { token = x.token; reply = (answer w x).reply; place = w.log.places } in
+    let f = put w.conns k (behind_front (w.conns k) rest) in let y : Received = record {
+      token = x.token;
+      reply = (answer w x).reply;
+      place = w.log.places;
+    } in
     links_same w.server (answer w x).server w.conns (put f k (say_down (f k) y)) (answered w.server w.moment x.message x.message.command)
     (λ q. put_server f k (say_down (f k) y) (said (f k) y) q ∙ put_server w.conns k (behind_front (w.conns k) rest) refl q) h
   where
     said : (c : Conn) (y : Received) → (say_down c y).server_open ≡ c.server_open
-    said c y = either (λ (d : Conn). d.server_open ≡ c.server_open) c.client_open (record c { down = c.down ++ y ∷ [] }) c (λ _. refl) (λ _. refl)
+    said c y = either (λ (d : Conn). d.server_open ≡ c.server_open) c.client_open (record c { down = c.down ++ y ∷ [] })
+        c (λ _. refl) (λ _. refl)
 
 pushed_server : (w : World) (k : ℕ) (c : Client) (x : Act) (q : ℕ) → ((pushed_by w k c x).conns q).server_open ≡ (w.conns q).server_open
 pushed_server w k c Nothing q = refl
@@ -272,7 +309,9 @@ dropped_link : (w : World) (k : ℕ) → Links w.server w.conns → Links (chang
 unfolding bit
 dropped_link w k h q =
     ap (λ xs. tally q xs) (left_by w.server w.moment k) ∙ tally_without q k w.server.connections
-    ∙ elim (q == k) as (λ b. q == k ≡ b → (if b then 0 else tally q w.server.connections) ≡ bit (if b then server_off (w.conns k) else w.conns q).server_open) [ true ↦ λ t. refl | false ↦ λ t. h q ] refl
+    ∙ elim (q == k) as (λ b. q == k ≡ b → (if b then 0 else tally q w.server.connections)
+    ≡ bit (if b then server_off (w.conns k) else w.conns q).server_open) [ true ↦ λ t. refl | false ↦ λ t. h q ]
+    refl
 
 nothing_linked : (rs : List Record) (f : ℕ → Conn) → Links (fold rs) (λ q. server_off (f q))
 unfolding bit tally
@@ -288,7 +327,8 @@ crashed_off w k true = absorbed_off w k (w.conns k).up
 crashed_off w k false = absorbed_off w k []
 
 take_same : (w : World) (k : ℕ) → (happens w (Take k)).server ≡ w.server
-take_same w k = either (λ (v : World). v.server ≡ w.server) (may_take_reply w k) (later (changed w (Take k)) 1) w (λ _. list_same w k (w.conns k).down) (λ _. refl)
+take_same w k = either (λ (v : World). v.server ≡ w.server) (may_take_reply w k) (later (changed w (Take k)) 1) w
+    (λ _. list_same w k (w.conns k).down) (λ _. refl)
   where
     act_same : (w : World) (k : ℕ) (x : Act) → (closed_by w k x).server ≡ w.server
     act_same w k Nothing = refl
@@ -326,24 +366,34 @@ Linked : World → Type 0
 Linked w = Links w.server w.conns
 
 off_of : (w : World) (k : ℕ) → may_open w k ≡ true → k < 256 × (w.conns k).server_open ≡ false
-off_of w k m = (grind (arith, nat_tests), not_true (w.conns k).server_open (front_of (not (w.conns k).server_open) _ (back_of (not (w.conns k).client_open) _ (back_of (nat_lt k max_channel) _ m))))
+off_of w k m = (
+  grind (arith, nat_tests),
+  not_true (w.conns k).server_open (front_of (not (w.conns k).server_open) _
+      (back_of (not (w.conns k).client_open) _ (back_of (nat_lt k max_channel) _ m))),
+)
 
 pub links_on : (w : World) (e : Event) → Low w.conns → Links w.server w.conns → Links (happens w e).server (happens w e).conns
 unfolding Linked
 links_on w (Submit g op) low h = h
 links_on w (Open k) low h =
     either Linked (may_open w k) (later (changed w (Open k)) 1) w
-    (λ m. let o = off_of w k m in let a = accepted w.server w.moment k (room_for w.server w.conns k h low o.0 o.1) in opens_link w k (step w.server w.moment (Accept k)) h o.1 a.status a.connections) (λ _. h)
+    (λ m. let o = off_of w k m in let a = accepted w.server w.moment k (room_for w.server w.conns k h low o.0 o.1) in
+    opens_link w k (step w.server w.moment (Accept k)) h o.1 a.status a.connections) (λ _. h)
 links_on w (Push k slotless pick) low h =
     either Linked (w.client.ready k) (later (changed w (Push k slotless pick)) 1) w
     (λ _. let c = client_after w.client (Pushes k slotless pick) in let x = act w.client (Pushes k slotless pick) in
-    links_same w.server (pushed_by w k c x).server w.conns (pushed_by w k c x).conns (ap (λ (s : Server). s.connections) (pushed_same w k c x)) (pushed_server w k c x) h) (λ _. h)
-links_on w (Serve k) low h = either Linked (may_serve w k) (later (serve_front w k (w.conns k).up) 1) w (λ _. served_link w k (w.conns k).up h) (λ _. h)
-links_on w (Take k) low h = links_same w.server (happens w (Take k)).server w.conns (happens w (Take k)).conns (ap (λ (s : Server). s.connections) (take_same w k)) (take_server w k) h
+    links_same w.server (pushed_by w k c x).server w.conns (pushed_by w k c x).conns
+    (ap (λ (s : Server). s.connections) (pushed_same w k c x)) (pushed_server w k c x) h) (λ _. h)
+links_on w (Serve k) low h = either Linked (may_serve w k) (later (serve_front w k (w.conns k).up) 1) w
+    (λ _. served_link w k (w.conns k).up h) (λ _. h)
+links_on w (Take k) low h = links_same w.server (happens w (Take k)).server w.conns (happens w (Take k)).conns
+    (ap (λ (s : Server). s.connections) (take_same w k)) (take_server w k) h
 links_on w (Cut k) low h =
     either Linked (w.conns k).client_open (later (changed w (Cut k)) 1) w
-    (λ _. either Linked (w.client.ready k) _ _ (λ _. links_same w.server (cut_by w k _).server w.conns (cut_by w k _).conns (ap (λ (s : Server). s.connections) (cut_same w k _)) (λ q. cut_server w k q _) h)
-    (λ _. links_same w.server w.server w.conns (put w.conns k (client_off (w.conns k))) refl (λ q. put_server w.conns k (client_off (w.conns k)) refl q) h)) (λ _. h)
+    (λ _. either Linked (w.client.ready k) _ _ (λ _. links_same w.server (cut_by w k _).server w.conns
+    (cut_by w k _).conns (ap (λ (s : Server). s.connections) (cut_same w k _)) (λ q. cut_server w k q _) h)
+    (λ _. links_same w.server w.server w.conns (put w.conns k (client_off (w.conns k))) refl
+    (λ q. put_server w.conns k (client_off (w.conns k)) refl q) h)) (λ _. h)
 links_on w (Drop k) low h = either Linked (w.conns k).server_open (later (changed w (Drop k)) 1) w (λ _. dropped_link w k h) (λ _. h)
 links_on w Restart low h = absorbed_off w 0 []
 links_on w (Crash k kept) low h = either Linked (may_serve w k) (later (changed w (Crash k kept)) 1) w (λ _. crashed_off w k kept) (λ _. h)

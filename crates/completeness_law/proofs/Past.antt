@@ -1,17 +1,28 @@
 -- Each message that waits names as its previous session one that is past; and no operation's message carries the status
 -- USER_SESSION_DELETED.
-use Rattle.std.proofs.Common.{◌≡◌, ◌≢◌, ℕ, ◌+◌, ◌<◌, ◌==◌, Bool, true, false, not, ◌&&◌, if◌then◌else◌, List, [], ◌∷◌, ◌++◌, ◌⊎◌, inl, inr, refl, arith, sym, subst, ◌∙◌, ap, Option, Some, None, slice_get}
+use Rattle.std.proofs.Common.{◌≡◌, ◌≢◌, ℕ, ◌+◌, ◌<◌, ◌==◌, Bool, true, false, not, ◌&&◌, if◌then◌else◌, List, [], ◌∷◌}
+use Rattle.std.proofs.Common.{◌++◌, ◌⊎◌, inl, inr, refl, arith, sym, subst, ◌∙◌, ap, Option, Some, None, slice_get}
 use Rattle.exchange_defs.specs.Table.{put}
 use Rattle.exchange_defs.specs.Status.{success}
 use Rattle.exchange_defs.specs.Commands.{Command}
 use Rattle.exchange_defs.specs.State.{Reply, Message, Accept}
 use Rattle.exchange_defs.specs.Step.{step}
-use Rattle.exchange_defs.specs.Operations.{Op, OpCreate, OpWrite, OpRead, OpEnd, OpTime, OpRename, OpRemove, OpLock, OpUnlock, OpFlush, OpStat, OpList, OpClose, request_of, reconnect_of}
-use Rattle.exchange_defs.specs.Client.{Client, Stage, Apart, SaidNegotiate, SaidFirst, SaidSecond, AskedTree, create_for, guid_for, may_push, goes_itself, has_its_slot, settle_no_slots, begun, outstanding, asked, own_message, ask_message, ends_at_cut, end_session, bind_channel, begin_session, leave_dialog}
+use Rattle.exchange_defs.specs.Operations.{Op, OpCreate, OpWrite, OpRead, OpEnd, OpTime, OpRename, OpRemove, OpLock}
+use Rattle.exchange_defs.specs.Operations.{OpUnlock, OpFlush, OpStat, OpList, OpClose, request_of, reconnect_of}
+use Rattle.exchange_defs.specs.Client.{Client, Stage, Apart, SaidNegotiate, SaidFirst, SaidSecond, AskedTree}
+use Rattle.exchange_defs.specs.Client.{create_for, guid_for, may_push, goes_itself, has_its_slot, settle_no_slots}
+use Rattle.exchange_defs.specs.Client.{begun, outstanding, asked, own_message, ask_message, ends_at_cut, end_session}
+use Rattle.exchange_defs.specs.Client.{bind_channel, begin_session, leave_dialog}
 use Rattle.exchange_defs.specs.Settling.{Heard as Hearing, Settles, GoesAgain, Attaches, EndsSession, heard, settle, is_awaited, answered}
-use Rattle.exchange_defs.specs.Dialogs.{DialogStep, GoesOn, Accepts, Binds, Readies, Refuses, dialog_step, dialog_message, open_channel, went_on, accepted}
+use Rattle.exchange_defs.specs.Dialogs.{DialogStep, GoesOn, Accepts, Binds, Readies, Refuses, dialog_step}
+use Rattle.exchange_defs.specs.Dialogs.{dialog_message, open_channel, went_on, accepted}
 use Rattle.exchange_defs.specs.ClientStep.{Pick, Act, Nothing, CloseChannels, pick_after, pick_act, act_heard, some_unsettled, IsReady}
-use Rattle.exchange_defs.specs.Network.{World, Event, Submit, Open, Push, Serve, Take, Cut, Drop, Restart, Crash, Wait, Finish, Conn, Sent, Received, Token, ForDialog, ForOp, ForAttach, happens, changed, later, may_open, may_serve, may_take_reply, fresh, server_off, client_off, send_up, say_down, behind_front, take_front, pushed_by, answer, serve_front, absorb_front, take_reply, took_by, dialog_took, op_took, closed_by, cut_by, behind_reply, restarted, dialog_ended}
+use Rattle.exchange_defs.specs.Network.{World, Event, Submit, Open, Push, Serve, Take, Cut, Drop, Restart, Crash, Wait}
+use Rattle.exchange_defs.specs.Network.{Finish, Conn, Sent, Received, Token, ForDialog, ForOp, ForAttach, happens}
+use Rattle.exchange_defs.specs.Network.{changed, later, may_open, may_serve, may_take_reply, fresh, server_off}
+use Rattle.exchange_defs.specs.Network.{client_off, send_up, say_down, behind_front, take_front, pushed_by, answer}
+use Rattle.exchange_defs.specs.Network.{serve_front, absorb_front, take_reply, took_by, dialog_took, op_took, closed_by}
+use Rattle.exchange_defs.specs.Network.{cut_by, behind_reply, restarted, dialog_ended}
 use Rattle.exchange_law.proofs.Lists.{get-push, waited}
 use Rattle.exchange_law.proofs.Run.{both_ways, ended_well}
 use Rattle.server_law.proofs.Logic.{either}
@@ -40,7 +51,8 @@ onward_by c d e rank accepted f o =
       ranked = λ n r. subst (λ g. 0 < g n) (sym rank) (o.ranked n r);
       past = λ n r p now. subst (λ x. n ≢ x) (sym accepted) (o.past n r p (f now));
       fresh = λ now. o.fresh (f now);
-      last = λ g low. subst (λ h. 0 < h e.accepted) (sym rank) (subst (λ x. 0 < d.rank x) (sym accepted) (o.last g (subst (λ x. 0 < x) accepted low)));
+      last = λ g low. subst (λ h. 0 < h e.accepted) (sym rank) (subst (λ x. 0 < d.rank x) (sym accepted)
+          (o.last g (subst (λ x. 0 < x) accepted low)));
     }
 
 current_same : (c d : Client) → d.live ≡ c.live → d.stage ≡ c.stage → Current d → Current c
@@ -71,7 +83,8 @@ own_rank f p n = grind arith
 no_rank : (f : ℕ → ℕ) (n x : ℕ) → f x ≡ 0 → 0 < f n → n ≢ x
 no_rank f n x z r e = absurd (omega (arith, z, subst (λ i. 0 < f i) e r))
 
-accepts_on : (w : World) (k : ℕ) → Sessions w.client w.conns w.server → w.client.stage k ≡ SaidSecond false → Onward w.client (accepted w.client k)
+accepts_on : (w : World) (k : ℕ) → Sessions w.client w.conns w.server → w.client.stage k ≡ SaidSecond false
+    → Onward w.client (accepted w.client k)
 accepts_on w k s at =
     record {
       ranked = λ n r. ranked_on w.client.rank w.client.pending w.client.accepted_count n r;
@@ -84,21 +97,30 @@ pub onward : (w : World) (e : Event) → Sessions w.client w.conns w.server → 
 onward w e s =
     let c = w.client in let i = itself c in
     client_keeps (Onward c) w e (λ g op is may. onward_by c c _ refl refl (λ x. x) i) (record {
-      opens = λ k. onward_by c c (open_channel c k) refl refl (current_put c (open_channel c k) k (SaidNegotiate c.live) refl refl (λ x. absurd (cc))) i;
+      opens = λ k. onward_by c c (open_channel c k) refl refl (current_put c (open_channel c k) k (SaidNegotiate c.live)
+          refl refl (λ x. absurd (cc))) i;
       slotless = λ d k g l _ j. onward_by c d _ refl refl (λ x. x) j;
-      begins_op = λ d k g n may _ j. let t = (keeps_begun d k g n).same in onward_by c d (outstanding (begun d g n) k g) t.rank t.accepted (current_same d (outstanding (begun d g n) k g) t.live t.stage) j;
+      begins_op = λ d k g n may _ j. let t = (keeps_begun d k g n).same in onward_by c d (outstanding (begun d g n) k g)
+          t.rank t.accepted (current_same d (outstanding (begun d g n) k g) t.live t.stage) j;
       asks = λ d k g may _ j. onward_by c d _ refl refl (λ x. x) j;
-      settles = λ k g asking rr place o on firm _. let t = (keeps_settle c g asking rr place o).same in onward_by c c (settle c g asking rr place o) t.rank t.accepted (current_same c (settle c g asking rr place o) t.live t.stage) i;
+      settles = λ k g asking rr place o on firm _. let t = (keeps_settle c g asking rr place o).same in
+          onward_by c c (settle c g asking rr place o) t.rank t.accepted (current_same c (settle c g asking rr place o)
+          t.live t.stage) i;
       answers = λ g. onward_by c c _ refl refl (λ x. x) i;
       joins = λ k g on. onward_by c c _ refl refl (λ x. x) i;
       ends = λ g _. onward_by c c (end_session (answered c g)) refl refl (ended_not c (end_session (answered c g)) refl (λ k. refl)) i;
       cut_ends = λ k on _. onward_by c c (end_session c) refl refl (ended_not c (end_session c) refl (λ k. refl)) i;
       cuts = λ k on more _. onward_by c c _ refl refl (λ x. x) i;
-      goes = λ k te t y rest is token d. onward_by c c (went_on c k t y.reply) refl refl (current_put c (went_on c k t y.reply) k t refl refl (λ x. no_asked (c.stage k) y.reply.status (d ∙ ap GoesOn x))) i;
+      goes = λ k te t y rest is token d. onward_by c c (went_on c k t y.reply) refl refl
+          (current_put c (went_on c k t y.reply) k t refl refl (λ x. no_asked (c.stage k) y.reply.status
+          (d ∙ ap GoesOn x))) i;
       accepts = λ k rr d. accepts_on w k s (accept_from (c.stage k) rr.status d);
-      binds = λ k talks o live. onward_by c c (bind_channel c k) refl refl (current_put c (bind_channel c k) k Apart refl refl (λ x. absurd (cc))) i;
-      begins = λ k tree at o dead. onward_by c c (begin_session c k c.pending tree) refl refl (begun_from c k (begin_session c k c.pending tree) at) i;
-      leaves = λ k rs. onward_by c c (record (leave_dialog c k) { refusals = rs }) refl refl (current_put c (record (leave_dialog c k) { refusals = rs }) k Apart refl refl (λ x. absurd (cc))) i;
+      binds = λ k talks o live. onward_by c c (bind_channel c k) refl refl (current_put c (bind_channel c k) k Apart
+          refl refl (λ x. absurd (cc))) i;
+      begins = λ k tree at o dead. onward_by c c (begin_session c k c.pending tree) refl refl
+          (begun_from c k (begin_session c k c.pending tree) at) i;
+      leaves = λ k rs. onward_by c c (record (leave_dialog c k) { refusals = rs }) refl refl
+          (current_put c (record (leave_dialog c k) { refusals = rs }) k Apart refl refl (λ x. absurd (cc))) i;
       finishes = λ why _. onward_by c c _ refl refl (λ x. x) i;
     }) i
 
@@ -127,7 +149,9 @@ one_maker : (m : Option ℕ) (j k : ℕ) → m ≡ Some j → m ≡ Some k → j
 one_maker m j k e f = cc
 
 -- while a new session's dialog begins none is live, and none asks for its tree or its accept
-not_now : (w : World) (d : Client) (k : ℕ) → Sessions w.client w.conns w.server → Onward w.client d → makes_session (w.client.stage k) ≡ true → w.client.stage k ≢ AskedTree → w.client.stage k ≢ SaidSecond false → Current d → ⊥
+not_now : (w : World) (d : Client) (k : ℕ) → Sessions w.client w.conns w.server → Onward w.client d
+    → makes_session (w.client.stage k) ≡ true → w.client.stage k ≢ AskedTree → w.client.stage k ≢ SaidSecond false
+    → Current d → ⊥
 not_now w d k s o makes a b now = by (o.fresh now)
   where
     same : (j : ℕ) → makes_session (w.client.stage j) ≡ true → j ≡ k
@@ -144,7 +168,8 @@ negotiates t e = (ap makes_session e, λ f. absurd (let i = sym e ∙ f in cc), 
 begins_first : (t : Stage) → t ≡ SaidFirst false → makes_session t ≡ true × t ≢ AskedTree × t ≢ SaidSecond false
 begins_first t e = (ap makes_session e, λ f. absurd (let i = sym e ∙ f in cc), λ f. absurd (let i = sym e ∙ f in cc))
 
-past_news : (w : World) (d : Client) → Sessions w.client w.conns w.server → (0 < w.client.accepted → 0 < w.client.rank w.client.accepted) → Onward w.client d → News (IsPast d) w
+past_news : (w : World) (d : Client) → Sessions w.client w.conns w.server
+    → (0 < w.client.accepted → 0 < w.client.rank w.client.accepted) → Onward w.client d → News (IsPast d) w
 unfolding previous_in
 past_news w d s last o =
     record {
@@ -154,10 +179,15 @@ past_news w d s last o =
       tree = λ k id low. none_named _ refl low;
     }
   where
-    named : (k : ℕ) → makes_session (w.client.stage k) ≡ true × w.client.stage k ≢ AskedTree × w.client.stage k ≢ SaidSecond false → 0 < w.client.accepted → 0 < d.rank w.client.accepted × (Current d → w.client.accepted ≢ d.accepted)
+    named : (k : ℕ) → makes_session (w.client.stage k) ≡ true × w.client.stage k ≢ AskedTree
+        × w.client.stage k ≢ SaidSecond false → 0 < w.client.accepted → 0 < d.rank w.client.accepted
+        × (Current d → w.client.accepted ≢ d.accepted)
     named k p low = (o.ranked w.client.accepted (last low), λ now. absurd (not_now w d k s o p.0 p.1 p.2 now))
 
-    next : (k id : ℕ) (r : Reply) (t : Stage) → dialog_step (w.client.stage k) r.status ≡ GoesOn t → IsPast d (record { token = ForDialog; message = dialog_message (went_on w.client k t r) k id t })
+    next : (k id : ℕ) (r : Reply) (t : Stage) → dialog_step (w.client.stage k) r.status ≡ GoesOn t → IsPast d (record {
+      token = ForDialog;
+      message = dialog_message (went_on w.client k t r) k id t;
+    })
     next k id r Apart e low = none_named _ refl low
     next k id r (SaidNegotiate b) e low = none_named _ refl low
     next k id r (SaidFirst true) e low = none_named _ refl low
@@ -166,10 +196,13 @@ past_news w d s last o =
     next k id r (SaidSecond false) e low = named k (begins_first (w.client.stage k) (second_from (w.client.stage k) r.status e).0) low
     next k id r AskedTree e low = none_named _ refl low
 
-pub past_on : (w : World) (e : Event) → Sessions w.client w.conns w.server → (0 < w.client.accepted → 0 < w.client.rank w.client.accepted) → AllUp (IsPast w.client) w.conns → AllUp (IsPast (happens w e).client) (happens w e).conns
+pub past_on : (w : World) (e : Event) → Sessions w.client w.conns w.server
+    → (0 < w.client.accepted → 0 < w.client.rank w.client.accepted) → AllUp (IsPast w.client) w.conns
+    → AllUp (IsPast (happens w e).client) (happens w e).conns
 past_on w e s last h =
     let d = (happens w e).client in let o = onward w e s in
-    still_all_up (IsPast d) w e (past_news w d s last o) (λ k n x is low. let p = h k n x is low in (o.ranked (previous_in x.message.command) p.0, o.past (previous_in x.message.command) p.0 p.1))
+    still_all_up (IsPast d) w e (past_news w d s last o) (λ k n x is low. let p = h k n x is low in
+    (o.ranked (previous_in x.message.command) p.0, o.past (previous_in x.message.command) p.0 p.1))
 
 -- ---- an operation's message carries no such status
 
@@ -208,7 +241,8 @@ ask_plain (OpStat create) guid file = refl
 ask_plain (OpList create) guid file = refl
 ask_plain (OpClose create) guid file = refl
 
-one_of : (xs : List Sent) (y : Sent) (n : ℕ) (x : Sent) → slice_get (xs ++ y ∷ []) n ≡ Some x → ((m : ℕ) → slice_get xs m ≡ Some x → PlainOp x) → PlainOp y → PlainOp x
+one_of : (xs : List Sent) (y : Sent) (n : ℕ) (x : Sent) → slice_get (xs ++ y ∷ []) n ≡ Some x
+    → ((m : ℕ) → slice_get xs m ≡ Some x → PlainOp x) → PlainOp y → PlainOp x
 one_of xs y n x h old new = by (get-push xs y n).1
   where
     same : (y x : Sent) → Some y ≡ Some x → y ≡ x
@@ -218,7 +252,8 @@ one_of xs y n x h old new = by (get-push xs y n).1
     by (inl e) = old n (sym e ∙ h)
     by (inr e) = subst PlainOp (same y x (sym e ∙ h)) new
 
-sent_up : (conns : ℕ → Conn) (k n0 : ℕ) (t : Token) (m : Message) → PlainOp (record { token = t; message = m }) → AllUp PlainOp conns → AllUp PlainOp (put conns k (send_up (conns k) t m n0))
+sent_up : (conns : ℕ → Conn) (k n0 : ℕ) (t : Token) (m : Message) → PlainOp (record { token = t; message = m })
+    → AllUp PlainOp conns → AllUp PlainOp (put conns k (send_up (conns k) t m n0))
 sent_up conns k n0 t m new i j n x h =
     elim (j == k) as (λ b. slice_get (if b then send_up (conns k) t m n0 else conns j).up n ≡ Some x → PlainOp x) [
       | true ↦ λ g. one_of (conns k).up (record { token = t; message = m }) n x g (λ p. i k p x) new
@@ -227,35 +262,48 @@ sent_up conns k n0 t m new i j n x h =
 
 opened_up : (c : Client) (conns : ℕ → Conn) (k : ℕ) (served : Bool) → AllUp PlainOp conns → AllUp PlainOp (put conns k (fresh c k served))
 opened_up c conns k served i j n x h =
-    elim (j == k) as (λ b. slice_get (if b then fresh c k served else conns j).up n ≡ Some x → PlainOp x) [ true ↦ λ g. by served n g | false ↦ λ g. i j n x g ] h
+    elim (j == k) as (λ b. slice_get (if b then fresh c k served else conns j).up n ≡ Some x → PlainOp x)
+    [ true ↦ λ g. by served n g | false ↦ λ g. i j n x g ] h
   where
-    by : (b : Bool) (n : ℕ) → slice_get (if b then record { token = ForDialog; message = dialog_message c k 0 (SaidNegotiate c.live) } ∷ [] else []) n ≡ Some x → PlainOp x
-    by true n g = one_of [] (record { token = ForDialog; message = dialog_message c k 0 (SaidNegotiate c.live) }) n x g (λ m e. absurd (grind arith)) (λ o. absurd (cc))
+    by : (b : Bool) (n : ℕ) → slice_get (if b then record {
+      token = ForDialog;
+      message = dialog_message c k 0 (SaidNegotiate c.live);
+    } ∷ [] else []) n ≡ Some x → PlainOp x
+    by true n g = one_of [] (record { token = ForDialog; message = dialog_message c k 0 (SaidNegotiate c.live) }) n x g
+        (λ m e. absurd (grind arith)) (λ o. absurd (cc))
     by false n g = absurd (grind arith)
 
-sends_op : (w : World) (k g s : ℕ) (c : Client) → AllUp PlainOp w.conns → AllUp PlainOp (pushed_by w k (pick_after c k (Some (record { op = g; slot = s }))) (pick_act c k (Some (record { op = g; slot = s })))).conns
+sends_op : (w : World) (k g s : ℕ) (c : Client) → AllUp PlainOp w.conns
+    → AllUp PlainOp (pushed_by w k (pick_after c k (Some (record { op = g; slot = s })))
+    (pick_act c k (Some (record { op = g; slot = s })))).conns
 sends_op w k g s c i =
     let Q : Client → Act → Type 0 = λ d x. AllUp PlainOp (pushed_by w k d x).conns in
     both_ways Q (may_push c k g) _ _ _ _
     (λ _. both_ways Q (goes_itself c g) _ _ _ _
     (λ _. both_ways Q (has_its_slot c g s) _ _ _ _
-    (λ _. let d = outstanding (begun c g s) k g in sent_up w.conns k _ (ForOp g) (own_message d k (w.conns k).next_id g) (λ _. own_plain (d.op g) (guid_for d g) (d.file (create_for d g)) (d.slot_of g) (d.number_of g)) i) (λ _. i))
-    (λ _. let d = asked c k g in sent_up w.conns k _ (ForAttach g) (ask_message d k (w.conns k).next_id g) (λ _. ask_plain (d.op (create_for d g)) (guid_for d (create_for d g)) (d.file (create_for d g))) i))
+    (λ _. let d = outstanding (begun c g s) k g in sent_up w.conns k _ (ForOp g) (own_message d k (w.conns k).next_id g)
+    (λ _. own_plain (d.op g) (guid_for d g) (d.file (create_for d g)) (d.slot_of g) (d.number_of g)) i) (λ _. i))
+    (λ _. let d = asked c k g in sent_up w.conns k _ (ForAttach g) (ask_message d k (w.conns k).next_id g)
+    (λ _. ask_plain (d.op (create_for d g)) (guid_for d (create_for d g)) (d.file (create_for d g))) i))
     (λ _. i)
 
-picks : (w : World) (k : ℕ) (c : Client) (pick : Option Pick) → AllUp PlainOp w.conns → AllUp PlainOp (pushed_by w k (pick_after c k pick) (pick_act c k pick)).conns
+picks : (w : World) (k : ℕ) (c : Client) (pick : Option Pick) → AllUp PlainOp w.conns
+    → AllUp PlainOp (pushed_by w k (pick_after c k pick) (pick_act c k pick)).conns
 picks w k c None i = either (λ x. AllUp PlainOp (pushed_by w k c x).conns) (some_unsettled c c.taken) _ _ (λ _. i) (λ _. i)
 picks w k c (Some p) i = sends_op w k p.op p.slot c i
 
-pushes : (w : World) (k : ℕ) (slotless : List ℕ) (pick : Option Pick) → AllUp PlainOp w.conns → AllUp PlainOp (changed w (Push k slotless pick)).conns
+pushes : (w : World) (k : ℕ) (slotless : List ℕ) (pick : Option Pick) → AllUp PlainOp w.conns
+    → AllUp PlainOp (changed w (Push k slotless pick)).conns
 pushes w k slotless pick i =
-    both_ways (λ d x. AllUp PlainOp (pushed_by w k d x).conns) (w.client.ready k) _ _ _ _ (λ _. picks w k (settle_no_slots w.client k slotless) pick i)
+    both_ways (λ d x. AllUp PlainOp (pushed_by w k d x).conns) (w.client.ready k) _ _ _ _
+    (λ _. picks w k (settle_no_slots w.client k slotless) pick i)
     (λ off. either (λ x. AllUp PlainOp (pushed_by w k w.client x).conns) (some_unsettled w.client w.client.taken) _ _ (λ _. i) (λ _. i))
 
 say_same : (c : Conn) (y : Received) → (say_down c y).up ≡ c.up
 say_same c y = either (λ d. d.up ≡ c.up) c.client_open (record c { down = c.down ++ y ∷ [] }) c (λ _. refl) (λ _. refl)
 
-behind_up : (conns : ℕ → Conn) (k : ℕ) (x0 : Sent) (rest : List Sent) → (conns k).up ≡ x0 ∷ rest → AllUp PlainOp conns → AllUp PlainOp (put conns k (behind_front (conns k) rest))
+behind_up : (conns : ℕ → Conn) (k : ℕ) (x0 : Sent) (rest : List Sent) → (conns k).up ≡ x0 ∷ rest → AllUp PlainOp conns
+    → AllUp PlainOp (put conns k (behind_front (conns k) rest))
 behind_up conns k x0 rest is i j n x h = let o = waited conns k x0 rest j n x is h in i j o.0 x o.1
 
 all_lost : (conns : ℕ → Conn) → AllUp PlainOp (λ q. server_off (conns q))
@@ -265,10 +313,14 @@ serves : (w : World) (k : ℕ) → AllUp PlainOp w.conns → (xs : List Sent) �
 serves w k i [] is = i
 serves w k i (x ∷ rest) is =
     let g = put w.conns k (behind_front (w.conns k) rest) in
-    lost_up PlainOp g k (say_down (g k) (record { token = x.token; reply = (answer w x).reply; place = w.log.places })) (inl (say_same (g k) _)) (behind_up w.conns k x rest is i)
+    lost_up PlainOp g k (say_down (g k) (record { token = x.token; reply = (answer w x).reply; place = w.log.places }))
+    (inl (say_same (g k) _)) (behind_up w.conns k x rest is i)
 
-hears : (w : World) (k g : ℕ) (asking : Bool) (r : Reply) (place : ℕ) → AllUp PlainOp w.conns → AllUp PlainOp (op_took w k g asking r place).conns
-hears w k g asking r place i = either (λ (x : Act). AllUp PlainOp (closed_by w k x).conns) (is_awaited w.client k g asking) (act_heard (heard w.client g asking r)) Nothing (λ _. by (heard w.client g asking r)) (λ _. i)
+hears : (w : World) (k g : ℕ) (asking : Bool) (r : Reply) (place : ℕ) → AllUp PlainOp w.conns
+    → AllUp PlainOp (op_took w k g asking r place).conns
+hears w k g asking r place i = either (λ (x : Act). AllUp PlainOp (closed_by w k x).conns)
+    (is_awaited w.client k g asking) (act_heard (heard w.client g asking r)) Nothing
+    (λ _. by (heard w.client g asking r)) (λ _. i)
   where
     by : (h : Hearing) → AllUp PlainOp (closed_by w k (act_heard h)).conns
     by (Settles o) = i
@@ -277,7 +329,8 @@ hears w k g asking r place i = either (λ (x : Act). AllUp PlainOp (closed_by w 
     by EndsSession = i
 
 ended_up : (w : World) (k session tree : ℕ) → AllUp PlainOp w.conns → AllUp PlainOp (dialog_ended w k (IsReady k session tree)).conns
-ended_up w k session tree i = ended_well (λ v. AllUp PlainOp v.conns) w k session tree (λ _. i) (λ _ _. i) (lost_up PlainOp w.conns k (client_off (w.conns k)) (inl refl) i)
+ended_up w k session tree i = ended_well (λ v. AllUp PlainOp v.conns) w k session tree (λ _. i) (λ _ _. i)
+    (lost_up PlainOp w.conns k (client_off (w.conns k)) (inl refl) i)
 
 dialogs : (w : World) (k : ℕ) (r : Reply) → AllUp PlainOp w.conns → (d : DialogStep) → AllUp PlainOp (dialog_took w k r d).conns
 dialogs w k r i (GoesOn s) = sent_up w.conns k 1 ForDialog _ (λ o. absurd (cc)) i
@@ -301,7 +354,8 @@ takes w k i (y ∷ rest) = by y.token
 cuts : (w : World) (k : ℕ) → AllUp PlainOp w.conns → AllUp PlainOp (changed w (Cut k)).conns
 cuts w k i =
     either (λ (v : World). AllUp PlainOp v.conns) (w.client.ready k) _ _
-    (λ _. either (λ (x : Act). AllUp PlainOp (cut_by w k x).conns) (w.client.ready k && ends_at_cut w.client) CloseChannels Nothing (λ _. i) (λ _. lost_up PlainOp w.conns k (client_off (w.conns k)) (inl refl) i))
+    (λ _. either (λ (x : Act). AllUp PlainOp (cut_by w k x).conns) (w.client.ready k && ends_at_cut w.client)
+    CloseChannels Nothing (λ _. i) (λ _. lost_up PlainOp w.conns k (client_off (w.conns k)) (inl refl) i))
     (λ _. lost_up PlainOp w.conns k (client_off (w.conns k)) (inl refl) i)
 
 absorbs_lost : (w : World) (k : ℕ) (xs : List Sent) → AllUp PlainOp (restarted (absorb_front w k xs)).conns
@@ -314,12 +368,16 @@ crashes w k false = all_lost w.conns
 
 pub plain_on : (w : World) (e : Event) → AllUp PlainOp w.conns → AllUp PlainOp (happens w e).conns
 plain_on w (Submit g op) i = i
-plain_on w (Open k) i = either (λ (v : World). AllUp PlainOp v.conns) (may_open w k) _ _ (λ _. opened_up w.client w.conns k ((step w.server w.moment (Accept k)).reply.status == success) i) (λ _. i)
-plain_on w (Push k slotless pick) i = either (λ (v : World). AllUp PlainOp v.conns) (w.client.ready k) _ _ (λ _. pushes w k slotless pick i) (λ _. i)
-plain_on w (Serve k) i = either (λ (v : World). AllUp PlainOp v.conns) (may_serve w k) (later (serve_front w k (w.conns k).up) 1) w (λ _. serves w k i (w.conns k).up refl) (λ _. i)
+plain_on w (Open k) i = either (λ (v : World). AllUp PlainOp v.conns) (may_open w k) _ _
+    (λ _. opened_up w.client w.conns k ((step w.server w.moment (Accept k)).reply.status == success) i) (λ _. i)
+plain_on w (Push k slotless pick) i = either (λ (v : World). AllUp PlainOp v.conns) (w.client.ready k) _ _
+    (λ _. pushes w k slotless pick i) (λ _. i)
+plain_on w (Serve k) i = either (λ (v : World). AllUp PlainOp v.conns) (may_serve w k)
+    (later (serve_front w k (w.conns k).up) 1) w (λ _. serves w k i (w.conns k).up refl) (λ _. i)
 plain_on w (Take k) i = either (λ (v : World). AllUp PlainOp v.conns) (may_take_reply w k) _ _ (λ _. takes w k i (w.conns k).down) (λ _. i)
 plain_on w (Cut k) i = either (λ (v : World). AllUp PlainOp v.conns) (w.conns k).client_open _ _ (λ _. cuts w k i) (λ _. i)
-plain_on w (Drop k) i = either (λ (v : World). AllUp PlainOp v.conns) (w.conns k).server_open _ _ (λ _. lost_up PlainOp w.conns k (server_off (w.conns k)) (inr refl) i) (λ _. i)
+plain_on w (Drop k) i = either (λ (v : World). AllUp PlainOp v.conns) (w.conns k).server_open _ _
+    (λ _. lost_up PlainOp w.conns k (server_off (w.conns k)) (inr refl) i) (λ _. i)
 plain_on w Restart i = all_lost w.conns
 plain_on w (Crash k kept) i = either (λ (v : World). AllUp PlainOp v.conns) (may_serve w k) _ _ (λ _. crashes w k kept) (λ _. i)
 plain_on w (Wait n) i = i

@@ -3,15 +3,22 @@ use Rattle.std.proofs.lemmas.Bool.Decides.{nat_tests}
 use Rattle.std.proofs.Common.{◌≡◌, ◌≢◌, ℕ, ◌==◌, Bool, true, false, not, List, [], ◌∷◌, ◌++◌, refl, arith, sym, subst, ◌∙◌, ap, Some}
 use Rattle.exchange_defs.specs.Table.{is_at}
 use Rattle.exchange_defs.specs.Status.{user_session_deleted}
-use Rattle.exchange_defs.specs.Commands.{Command, Unreadable, Aside, Setup, Logoff, TreeConnect, TreeDisconnect, Create, Close, Flush, Read, Write, Lock, Ioctl, ListDirectory, QueryFile, QueryVolume, SetInfo, is_setup}
+use Rattle.exchange_defs.specs.Commands.{Command, Unreadable, Aside, Setup, Logoff, TreeConnect, TreeDisconnect, Create}
+use Rattle.exchange_defs.specs.Commands.{Close, Flush, Read, Write, Lock, Ioctl, ListDirectory, QueryFile, QueryVolume}
+use Rattle.exchange_defs.specs.Commands.{SetInfo, is_setup}
 use Rattle.exchange_defs.specs.State.{Server, Message, Accept, Heard, End, Reply, Answer}
 use Rattle.exchange_defs.specs.Check.{has_session}
 use Rattle.exchange_defs.specs.Step.{step}
 use Rattle.exchange_defs.specs.Fold.{fold, recovery_records}
 use Rattle.exchange_defs.specs.Client.{Client}
-use Rattle.exchange_defs.specs.ClientStep.{Act, Nothing, Sends, Asks, CloseChannel, CloseChannels, AllSettled, client_after, act, Pushes, IsCut, IsReady}
+use Rattle.exchange_defs.specs.ClientStep.{Act, Nothing, Sends, Asks, CloseChannel, CloseChannels, AllSettled}
+use Rattle.exchange_defs.specs.ClientStep.{client_after, act, Pushes, IsCut, IsReady}
 use Rattle.exchange_defs.specs.Dialogs.{DialogStep, GoesOn, Accepts, Binds, Readies, Refuses, dialog_step}
-use Rattle.exchange_defs.specs.Network.{World, Event, Submit, Open, Push, Serve, Take, Cut, Drop, Restart, Crash, Wait, Finish, Sent, Received, Token, ForDialog, ForOp, ForAttach, happens, changed, later, may_open, may_serve, may_take_reply, pushed_by, answer, answer_to, serve_front, absorb_front, take_reply, took_by, dialog_took, closed_by, cut_by, behind_reply, restarted, Settings, start}
+use Rattle.exchange_defs.specs.Network.{World, Event, Submit, Open, Push, Serve, Take, Cut, Drop, Restart, Crash, Wait}
+use Rattle.exchange_defs.specs.Network.{Finish, Sent, Received, Token, ForDialog, ForOp, ForAttach, happens, changed}
+use Rattle.exchange_defs.specs.Network.{later, may_open, may_serve, may_take_reply, pushed_by, answer, answer_to}
+use Rattle.exchange_defs.specs.Network.{serve_front, absorb_front, take_reply, took_by, dialog_took, closed_by, cut_by}
+use Rattle.exchange_defs.specs.Network.{behind_reply, restarted, Settings, start}
 use Rattle.exchange_law.specs.Connections.{Connections}
 use Rattle.exchange_law.proofs.Lists.{front_up}
 use Rattle.server_law.proofs.Logic.{either}
@@ -84,7 +91,8 @@ absorbs w k [] h = h
 absorbs w k (x ∷ rest) h = with_fair w (answer w x) h (answers w.server w.moment x.message x.message.command h.0)
 
 restarts : (w : World) → FairWorld w → FairWorld (restarted w)
-restarts w h = let f = fair_more w.records (recovery_records w.records) h.1 (fair_opening (fold w.records)) in (fair_fold (w.records ++ recovery_records w.records) f, f)
+restarts w h = let f = fair_more w.records (recovery_records w.records) h.1 (fair_opening (fold w.records)) in
+    (fair_fold (w.records ++ recovery_records w.records) f, f)
 
 crashes : (w : World) (k : ℕ) (kept : Bool) → FairWorld w → FairWorld (changed w (Crash k kept))
 crashes w k true h = restarts (absorb_front w k (w.conns k).up) (absorbs w k (w.conns k).up h)
@@ -113,12 +121,17 @@ cuts w k h = either FairWorld (w.client.ready k) _ _ (λ _. cuts_by w k (act w.c
 
 pub fair_on : (w : World) (e : Event) → FairWorld w → FairWorld (happens w e)
 fair_on w (Submit g op) h = h
-fair_on w (Open k) h = either FairWorld (may_open w k) (later (changed w (Open k)) 1) w (λ _. with_fair w (step w.server w.moment (Accept k)) h (fair_step w.server w.moment (Accept k) h.0)) (λ _. h)
-fair_on w (Push k slotless pick) h = either FairWorld (w.client.ready k) (later (changed w (Push k slotless pick)) 1) w (λ _. pushes_by w k (client_after w.client (Pushes k slotless pick)) (act w.client (Pushes k slotless pick)) h) (λ _. h)
-fair_on w (Serve k) h = either FairWorld (may_serve w k) (later (serve_front w k (w.conns k).up) 1) w (λ _. serves w k (w.conns k).up h) (λ _. h)
+fair_on w (Open k) h = either FairWorld (may_open w k) (later (changed w (Open k)) 1) w
+    (λ _. with_fair w (step w.server w.moment (Accept k)) h (fair_step w.server w.moment (Accept k) h.0)) (λ _. h)
+fair_on w (Push k slotless pick) h = either FairWorld (w.client.ready k) (later (changed w (Push k slotless pick)) 1) w
+    (λ _. pushes_by w k (client_after w.client (Pushes k slotless pick)) (act w.client (Pushes k slotless pick)) h)
+    (λ _. h)
+fair_on w (Serve k) h = either FairWorld (may_serve w k) (later (serve_front w k (w.conns k).up) 1) w
+    (λ _. serves w k (w.conns k).up h) (λ _. h)
 fair_on w (Take k) h = either FairWorld (may_take_reply w k) (later (changed w (Take k)) 1) w (λ _. takes w k (w.conns k).down h) (λ _. h)
 fair_on w (Cut k) h = either FairWorld (w.conns k).client_open (later (changed w (Cut k)) 1) w (λ _. cuts w k h) (λ _. h)
-fair_on w (Drop k) h = either FairWorld (w.conns k).server_open (later (changed w (Drop k)) 1) w (λ _. with_fair w (step w.server w.moment (End k)) h (fair_step w.server w.moment (End k) h.0)) (λ _. h)
+fair_on w (Drop k) h = either FairWorld (w.conns k).server_open (later (changed w (Drop k)) 1) w
+    (λ _. with_fair w (step w.server w.moment (End k)) h (fair_step w.server w.moment (End k) h.0)) (λ _. h)
 fair_on w Restart h = restarts w h
 fair_on w (Crash k kept) h = either FairWorld (may_serve w k) (later (changed w (Crash k kept)) 1) w (λ _. crashes w k kept h) (λ _. h)
 fair_on w (Wait n) h = h
@@ -129,10 +142,13 @@ fair_first z = let f = fair_opening (fold []) in (fair_fold (recovery_records []
 
 -- ---- what an operation's message is told on a ready channel
 
-other_answer : (s : Server) (now : ℕ) (m : Message) (c : Command) → m.command ≡ c → FairServer s → is_plain m.command ≡ true → is_setup m.command ≡ false → has_session s m ≡ true → (step s now (Heard m)).reply.status ≢ user_session_deleted
+other_answer : (s : Server) (now : ℕ) (m : Message) (c : Command) → m.command ≡ c → FairServer s → is_plain m.command
+    ≡ true → is_setup m.command ≡ false → has_session s m ≡ true → (step s now (Heard m)).reply.status ≢
+    user_session_deleted
     → (answer_to s now m c).reply.status ≢ user_session_deleted
 unfolding is_plain
-other_answer s now m (Aside status) e h p n here f = λ g. absurd (let q = subst (λ i. not (i == user_session_deleted) ≡ true) g (ap is_plain (sym e) ∙ p) in cc)
+other_answer s now m (Aside status) e h p n here f = λ g.
+    absurd (let q = subst (λ i. not (i == user_session_deleted) ≡ true) g (ap is_plain (sym e) ∙ p) in cc)
 other_answer s now m (Unreadable status) e h p n here f = f
 other_answer s now m (Setup request) e h p n here f = f
 other_answer s now m Logoff e h p n here f = f
@@ -156,11 +172,16 @@ not_deleted n e f = absurd (let q = subst (λ i. not (i == user_session_deleted)
 same_test : (a b : ℕ) → a ≡ b → (b == a) ≡ true
 same_test a b e = grind (arith, nat_tests)
 
-pub finds : (w : World) (a : ℕ → ℕ) → Connections w.client w.conns a → Sessions w.client w.conns w.server → Seats w.client w.conns w.server → AllUp PlainOp w.conns → FairServer w.server → StaysPresent w
+pub finds : (w : World) (a : ℕ → ℕ) → Connections w.client w.conns a → Sessions w.client w.conns w.server
+    → Seats w.client w.conns w.server → AllUp PlainOp w.conns → FairServer w.server → StaysPresent w
 finds w a fit s seats plain fair k x rest ready o so is =
     let f0 = front_up (w.conns k).up x rest is in let m = x.message in
     let ops = ops_token x.token (no_dialog_up w a k x rest fit ready is) in let from = s.from_client k 0 x f0 in
     let p = plain k 0 x f0 ops in let n = (work_kind m.command (s.work_up k 0 x f0 ops)).0 in
-    let held = (seats k).held o so w.client.session (if_on (w.client.ready k) (Some w.client.session) (dialog_seat (w.client.stage k) (w.conns k).down w.client.session w.client.pending) ready) in
-    let here : has_session w.server m ≡ true = ap (λ i. is_at m.session_id (w.server.session_on i)) from.1 ∙ ap (is_at m.session_id) held ∙ same_test m.session_id w.client.session (s.current_up k 0 x f0 ops o).1 in
-    other_answer w.server w.moment m m.command refl fair p n here (not_deleted (step w.server w.moment (Heard m)).reply.status (other_status w.server w.moment m fair p n from.2 here))
+    let held = (seats k).held o so w.client.session (if_on (w.client.ready k) (Some w.client.session)
+    (dialog_seat (w.client.stage k) (w.conns k).down w.client.session w.client.pending) ready) in
+    let here : has_session w.server m ≡ true = ap (λ i. is_at m.session_id (w.server.session_on i)) from.1
+    ∙ ap (is_at m.session_id) held ∙ same_test m.session_id w.client.session (s.current_up k 0 x f0 ops o).1 in
+    other_answer w.server w.moment m m.command refl fair p n here
+    (not_deleted (step w.server w.moment (Heard m)).reply.status (other_status w.server w.moment m fair p n from.2
+    here))

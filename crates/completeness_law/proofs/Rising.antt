@@ -1,10 +1,12 @@
 -- The session that waits for its tree has an id above that of the one before it.
 use Rattle.std.proofs.lemmas.Bool.{eqb-false}
-use Rattle.std.proofs.Common.{eqb-true, ◌≡◌, ◌≢◌, ℕ, ◌+◌, ◌≤◌, ◌<◌, ◌==◌, Bool, true, false, if◌then◌else◌, List, ◌∷◌, ◌⊎◌, inl, inr, zero, suc, refl, arith, sym, ◌∙◌, ap, Some}
+use Rattle.std.proofs.Common.{eqb-true, ◌≡◌, ◌≢◌, ℕ, ◌+◌, ◌≤◌, ◌<◌, ◌==◌, Bool, true, false, if◌then◌else◌, List, ◌∷◌}
+use Rattle.std.proofs.Common.{◌⊎◌, inl, inr, zero, suc, refl, arith, sym, ◌∙◌, ap, Some}
 use Rattle.exchange_defs.specs.Table.{put}
 use Rattle.exchange_defs.specs.Status.{more_processing_required}
 use Rattle.exchange_defs.specs.State.{Reply}
-use Rattle.exchange_defs.specs.Client.{Client, Stage, Apart, SaidNegotiate, SaidFirst, SaidSecond, AskedTree, begun, outstanding, begin_session}
+use Rattle.exchange_defs.specs.Client.{Client, Stage, Apart, SaidNegotiate, SaidFirst, SaidSecond, AskedTree, begun}
+use Rattle.exchange_defs.specs.Client.{outstanding, begin_session}
 use Rattle.exchange_defs.specs.Settling.{settle}
 use Rattle.exchange_defs.specs.Dialogs.{GoesOn, Accepts, dialog_step, went_on}
 use Rattle.exchange_defs.specs.Opens.{id_of}
@@ -22,9 +24,11 @@ pub record Rising (c : Client) : Type 0 where
 
 -- the interim reply that waits tells such an id
 abbrev pub ReplyAbove : Client → (ℕ → Conn) → Type 0
-ReplyAbove c conns = (k : ℕ) (y : Received) (rest : List Received) → c.stage k ≡ SaidFirst false → (conns k).down ≡ y ∷ rest → y.token ≡ ForDialog → y.reply.status ≡ more_processing_required → c.session < y.reply.session_id
+ReplyAbove c conns = (k : ℕ) (y : Received) (rest : List Received) → c.stage k ≡ SaidFirst false → (conns k).down
+    ≡ y ∷ rest → y.token ≡ ForDialog → y.reply.status ≡ more_processing_required → c.session < y.reply.session_id
 
-rising_same : (c d : Client) → d.session_number ≡ c.session_number → d.session ≡ c.session → d.pending ≡ c.pending → d.stage ≡ c.stage → Rising c → Rising d
+rising_same : (c d : Client) → d.session_number ≡ c.session_number → d.session ≡ c.session → d.pending ≡ c.pending
+    → d.stage ≡ c.stage → Rising c → Rising d
 rising_same c d number session pending stage h =
     record {
       zero_session = λ z. session ∙ h.zero_session (sym number ∙ z);
@@ -39,16 +43,21 @@ same_rising : (c d : Client) → SameSession c d → Rising c → Rising d
 same_rising c d s h = rising_same c d s.number s.session s.pending s.stage h
 
 -- one stage changes to one that has told no id
-stage_put : (c d : Client) (k : ℕ) (s : Stage) → d.session_number ≡ c.session_number → d.session ≡ c.session → d.pending ≡ c.pending → d.stage ≡ put c.stage k s → (s ≡ SaidSecond false → c.session < c.pending) → (s ≡ AskedTree → c.session < c.pending) → Rising c → Rising d
+stage_put : (c d : Client) (k : ℕ) (s : Stage) → d.session_number ≡ c.session_number → d.session ≡ c.session → d.pending
+    ≡ c.pending → d.stage ≡ put c.stage k s → (s ≡ SaidSecond false → c.session < c.pending)
+    → (s ≡ AskedTree → c.session < c.pending) → Rising c → Rising d
 stage_put c d k s number session pending stage a b h =
     rising_same (record c { stage = put c.stage k s }) d number session pending stage
     (record {
       zero_session = h.zero_session;
-      second = λ q. elim (q == k) as (λ t. q == k ≡ t → (if t then s else c.stage q) ≡ SaidSecond false → c.session < c.pending) [ true ↦ λ e f. a f | false ↦ λ e f. h.second q f ] refl;
-      asked = λ q. elim (q == k) as (λ t. q == k ≡ t → (if t then s else c.stage q) ≡ AskedTree → c.session < c.pending) [ true ↦ λ e f. b f | false ↦ λ e f. h.asked q f ] refl;
+      second = λ q. elim (q == k) as (λ t. q == k ≡ t → (if t then s else c.stage q) ≡ SaidSecond false
+          → c.session < c.pending) [ true ↦ λ e f. a f | false ↦ λ e f. h.second q f ] refl;
+      asked = λ q. elim (q == k) as (λ t. q == k ≡ t → (if t then s else c.stage q) ≡ AskedTree → c.session < c.pending)
+          [ true ↦ λ e f. b f | false ↦ λ e f. h.asked q f ] refl;
     })
 
-pub second_from : (t : Stage) (status : ℕ) → dialog_step t status ≡ GoesOn (SaidSecond false) → t ≡ SaidFirst false × status ≡ more_processing_required
+pub second_from : (t : Stage) (status : ℕ) → dialog_step t status ≡ GoesOn (SaidSecond false) → t ≡ SaidFirst false
+    × status ≡ more_processing_required
 second_from Apart status e = absurd (cc)
 second_from (SaidNegotiate b) status e = absurd (grind arith)
 second_from (SaidFirst true) status e = absurd (grind arith)
@@ -79,20 +88,28 @@ one_making c j k m a b = same (sym (m j a) ∙ m k b)
     same : Some j ≡ Some k → j ≡ k
     same e = cc
 
-told : (c : Client) (k : ℕ) (y : Received) → Making c → c.stage k ≡ SaidFirst false → c.session < y.reply.session_id → Rising c → Rising (went_on c k (SaidSecond false) y.reply)
+told : (c : Client) (k : ℕ) (y : Received) → Making c → c.stage k ≡ SaidFirst false → c.session < y.reply.session_id
+    → Rising c → Rising (went_on c k (SaidSecond false) y.reply)
 told c k y m at above h =
     record {
       zero_session = h.zero_session;
       second = λ q e. above;
-      asked = λ q. elim (q == k) as (λ t. q == k ≡ t → (if t then SaidSecond false else c.stage q) ≡ AskedTree → c.session < y.reply.session_id) [ true ↦ λ e f. absurd (cc) | false ↦ λ e f. above ] refl;
+      asked = λ q. elim (q == k) as (λ t. q == k ≡ t → (if t then SaidSecond false else c.stage q) ≡ AskedTree
+          → c.session < y.reply.session_id) [ true ↦ λ e f. absurd (cc) | false ↦ λ e f. above ] refl;
     }
 
-goes_on : (w : World) (k : ℕ) (s : Stage) (y : Received) (rest : List Received) → Making w.client → ReplyAbove w.client w.conns → (w.conns k).down ≡ y ∷ rest → y.token ≡ ForDialog → dialog_step (w.client.stage k) y.reply.status ≡ GoesOn s → Rising w.client → Rising (went_on w.client k s y.reply)
+goes_on : (w : World) (k : ℕ) (s : Stage) (y : Received) (rest : List Received) → Making w.client
+    → ReplyAbove w.client w.conns → (w.conns k).down ≡ y ∷ rest → y.token ≡ ForDialog → dialog_step (w.client.stage k)
+    y.reply.status ≡ GoesOn s → Rising w.client → Rising (went_on w.client k s y.reply)
 goes_on w k Apart y rest m r is token d h = stage_put w.client _ k Apart refl refl refl refl (λ e. absurd (cc)) (λ e. absurd (cc)) h
-goes_on w k (SaidNegotiate b) y rest m r is token d h = stage_put w.client _ k (SaidNegotiate b) refl refl refl refl (λ e. absurd (cc)) (λ e. absurd (cc)) h
-goes_on w k (SaidFirst b) y rest m r is token d h = stage_put w.client _ k (SaidFirst b) refl refl refl refl (λ e. absurd (cc)) (λ e. absurd (cc)) h
-goes_on w k (SaidSecond true) y rest m r is token d h = stage_put w.client _ k (SaidSecond true) refl refl refl refl (λ e. absurd (cc)) (λ e. absurd (cc)) h
-goes_on w k (SaidSecond false) y rest m r is token d h = let f = second_from (w.client.stage k) y.reply.status d in told w.client k y m f.0 (r k y rest f.0 is token f.1) h
+goes_on w k (SaidNegotiate b) y rest m r is token d h = stage_put w.client _ k (SaidNegotiate b) refl refl refl refl
+    (λ e. absurd (cc)) (λ e. absurd (cc)) h
+goes_on w k (SaidFirst b) y rest m r is token d h = stage_put w.client _ k (SaidFirst b) refl refl refl refl
+    (λ e. absurd (cc)) (λ e. absurd (cc)) h
+goes_on w k (SaidSecond true) y rest m r is token d h = stage_put w.client _ k (SaidSecond true) refl refl refl refl
+    (λ e. absurd (cc)) (λ e. absurd (cc)) h
+goes_on w k (SaidSecond false) y rest m r is token d h = let f = second_from (w.client.stage k) y.reply.status d in
+    told w.client k y m f.0 (r k y rest f.0 is token f.1) h
 goes_on w k AskedTree y rest m r is token d h = absurd (no_asked (w.client.stage k) y.reply.status d)
 
 pub rising_on : (w : World) (e : Event) → Making w.client → ReplyAbove w.client w.conns → Rising w.client → Rising (happens w e).client
@@ -110,7 +127,8 @@ rising_on w e m r h =
       cut_ends = λ k on _. record { zero_session = h.zero_session; second = λ k x. absurd (cc); asked = λ k x. absurd (cc) };
       cuts = λ k on more _. rising_same c _ refl refl refl refl h;
       goes = λ k te s y rest is token d. goes_on w k s y rest m r is token d h;
-      accepts = λ k rr d. let f = accept_from (c.stage k) rr.status d in stage_put c _ k AskedTree refl refl refl refl (λ x. absurd (cc)) (λ x. h.second k f) h;
+      accepts = λ k rr d. let f = accept_from (c.stage k) rr.status d in stage_put c _ k AskedTree refl refl refl refl
+          (λ x. absurd (cc)) (λ x. h.second k f) h;
       binds = λ k talks o live. stage_put c _ k Apart refl refl refl refl (λ x. absurd (cc)) (λ x. absurd (cc)) h;
       begins = λ k tree at o dead. begins_at k tree at;
       leaves = λ k rs. stage_put c _ k Apart refl refl refl refl (λ x. absurd (cc)) (λ x. absurd (cc)) h;
@@ -121,14 +139,16 @@ rising_on w e m r h =
     begins_at k tree at =
         record {
           zero_session = λ z. absurd (omega (arith, z));
-          second = λ q. elim (q == k) as (λ t. q == k ≡ t → (if t then Apart else w.client.stage q) ≡ SaidSecond false → w.client.pending < w.client.pending) [
-            | true ↦ λ e f. absurd (cc)
-            | false ↦ λ e f. absurd (eqb-false q k e (one_making w.client q k m (ap makes_session f) (ap makes_session at)))
-          ] refl;
-          asked = λ q. elim (q == k) as (λ t. q == k ≡ t → (if t then Apart else w.client.stage q) ≡ AskedTree → w.client.pending < w.client.pending) [
-            | true ↦ λ e f. absurd (cc)
-            | false ↦ λ e f. absurd (eqb-false q k e (one_making w.client q k m (ap makes_session f) (ap makes_session at)))
-          ] refl;
+          second = λ q. elim (q == k) as (λ t. q == k ≡ t → (if t then Apart else w.client.stage q) ≡ SaidSecond false
+              → w.client.pending < w.client.pending) [
+                | true ↦ λ e f. absurd (cc)
+                | false ↦ λ e f. absurd (eqb-false q k e (one_making w.client q k m (ap makes_session f) (ap makes_session at)))
+              ] refl;
+          asked = λ q. elim (q == k) as (λ t. q == k ≡ t → (if t then Apart else w.client.stage q) ≡ AskedTree
+              → w.client.pending < w.client.pending) [
+                | true ↦ λ e f. absurd (cc)
+                | false ↦ λ e f. absurd (eqb-false q k e (one_making w.client q k m (ap makes_session f) (ap makes_session at)))
+              ] refl;
         }
 
 -- ---- a dialog comes to its first SESSION_SETUP by a Take alone
@@ -139,7 +159,8 @@ pub record FirstBy (w : World) (e : Event) (d : Client) : Type 0 where
 first_same : (w : World) (e : Event) (c d : Client) → d.stage ≡ c.stage → d.session ≡ c.session → FirstBy w e c → FirstBy w e d
 first_same w e c d stage session h = record { first = λ k at. let i = h.first k (ap (λ f. f k) (sym stage) ∙ at) in (i.0, session ∙ i.1) }
 
-first_put : (w : World) (e : Event) (d : Client) (k : ℕ) (s : Stage) → d.stage ≡ put w.client.stage k s → d.session ≡ w.client.session → s ≢ SaidFirst false → FirstBy w e d
+first_put : (w : World) (e : Event) (d : Client) (k : ℕ) (s : Stage) → d.stage ≡ put w.client.stage k s → d.session
+    ≡ w.client.session → s ≢ SaidFirst false → FirstBy w e d
 first_put w e d k s stage session n = record { first = λ q at. (inl (by q (q == k) refl (ap (λ f. f q) (sym stage) ∙ at)), session) }
   where
     by : (q : ℕ) (t : Bool) → q == k ≡ t → (if t then s else w.client.stage q) ≡ SaidFirst false → w.client.stage q ≡ SaidFirst false
@@ -149,10 +170,11 @@ first_put w e d k s stage session n = record { first = λ q at. (inl (by q (q ==
 first_goes : (w : World) (e : Event) (k : ℕ) (s : Stage) (r : Reply) → e ≡ Take k → FirstBy w e (went_on w.client k s r)
 first_goes w e k s r te =
     record {
-      first = λ q. elim (q == k) as (λ t. q == k ≡ t → (if t then s else w.client.stage q) ≡ SaidFirst false → ((w.client.stage q ≡ SaidFirst false) ⊎ (e ≡ Take q)) × w.client.session ≡ w.client.session) [
-        | true ↦ λ x f. (inr (te ∙ ap Take (sym (eqb-true q k x))), refl)
-        | false ↦ λ x f. (inl f, refl)
-      ] refl;
+      first = λ q. elim (q == k) as (λ t. q == k ≡ t → (if t then s else w.client.stage q) ≡ SaidFirst false
+          → ((w.client.stage q ≡ SaidFirst false) ⊎ (e ≡ Take q)) × w.client.session ≡ w.client.session) [
+            | true ↦ λ x f. (inr (te ∙ ap Take (sym (eqb-true q k x))), refl)
+            | false ↦ λ x f. (inl f, refl)
+          ] refl;
     }
 
 pub first_by : (w : World) (e : Event) → Making w.client → FirstBy w e (happens w e).client
@@ -161,9 +183,11 @@ first_by w e m =
     client_keeps (FirstBy w e) w e (λ g op is may. first_same w e c _ refl refl i) (record {
       opens = λ k. first_put w e _ k (SaidNegotiate c.live) refl refl (λ x. absurd (cc));
       slotless = λ d k g l _ j. first_same w e d _ refl refl j;
-      begins_op = λ d k g n may _ j. let s = (keeps_begun d k g n).same in first_same w e d (outstanding (begun d g n) k g) s.stage s.session j;
+      begins_op = λ d k g n may _ j. let s = (keeps_begun d k g n).same in
+          first_same w e d (outstanding (begun d g n) k g) s.stage s.session j;
       asks = λ d k g may _ j. first_same w e d _ refl refl j;
-      settles = λ k g asking rr place o on firm t. let s = (keeps_settle c g asking rr place o).same in first_same w e c (settle c g asking rr place o) s.stage s.session i;
+      settles = λ k g asking rr place o on firm t. let s = (keeps_settle c g asking rr place o).same in
+          first_same w e c (settle c g asking rr place o) s.stage s.session i;
       answers = λ g. first_same w e c _ refl refl i;
       joins = λ k g on. first_same w e c _ refl refl i;
       ends = λ g _. record { first = λ k at. absurd (cc) };
@@ -173,10 +197,11 @@ first_by w e m =
       accepts = λ k rr d. first_put w e _ k AskedTree refl refl (λ x. absurd (cc));
       binds = λ k talks o live. first_put w e _ k Apart refl refl (λ x. absurd (cc));
       begins = λ k tree at o dead. record {
-        first = λ q. elim (q == k) as (λ t. q == k ≡ t → (if t then Apart else c.stage q) ≡ SaidFirst false → ((c.stage q ≡ SaidFirst false) ⊎ (e ≡ Take q)) × c.pending ≡ c.session) [
-          | true ↦ λ x f. absurd (cc)
-          | false ↦ λ x f. absurd (eqb-false q k x (one_making c q k m (ap makes_session f) (ap makes_session at)))
-        ] refl;
+        first = λ q. elim (q == k) as (λ t. q == k ≡ t → (if t then Apart else c.stage q) ≡ SaidFirst false
+            → ((c.stage q ≡ SaidFirst false) ⊎ (e ≡ Take q)) × c.pending ≡ c.session) [
+              | true ↦ λ x f. absurd (cc)
+              | false ↦ λ x f. absurd (eqb-false q k x (one_making c q k m (ap makes_session f) (ap makes_session at)))
+            ] refl;
       };
       leaves = λ k rs. first_put w e _ k Apart refl refl (λ x. absurd (cc));
       finishes = λ why _. first_same w e c _ refl refl i;
@@ -184,7 +209,10 @@ first_by w e m =
 
 -- ---- the interim reply
 
-pub above_given : (c : Client) (s : Server) → (c.session_number ≡ 0 → c.session ≡ 0) → (0 < c.session_number → 0 < c.rank c.session) → ((x : ℕ) → 0 < c.rank x → 0 < x × x ≤ id_of s.epoch s.session_ids_given) → c.session < id_of s.epoch (s.session_ids_given + 1)
+pub above_given : (c : Client) (s : Server) → (c.session_number ≡ 0 → c.session ≡ 0)
+    → (0 < c.session_number → 0 < c.rank c.session)
+    → ((x : ℕ) → 0 < c.rank x → 0 < x × x ≤ id_of s.epoch s.session_ids_given) → c.session < id_of s.epoch
+    (s.session_ids_given + 1)
 above_given c s none ranked given = by c.session_number refl
   where
     by : (n : ℕ) → c.session_number ≡ n → c.session < id_of s.epoch (s.session_ids_given + 1)

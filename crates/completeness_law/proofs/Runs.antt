@@ -94,7 +94,14 @@ pub record RisesAt (w : World) : Type 0 where
   pub reply : ReplyAbove w.client w.conns
 
 rises_first : (z : Settings) → RisesAt (start z)
-rises_first z = record { rising = record { zero_session = λ e. refl; second = λ k e. absurd (cc); asked = λ k e. absurd (cc) }; reply = λ k y rest at. absurd (cc) }
+rises_first z = record {
+  rising = record {
+    zero_session = λ e. refl;
+    second = λ k e. absurd (cc);
+    asked = λ k e. absurd (cc);
+  };
+  reply = λ k y rest at. absurd (cc);
+}
 
 rises_known : (z : Settings) (es : List Event) → RisesAt (run es (start z))
 rises_known z es =
@@ -102,21 +109,25 @@ rises_known z es =
     (λ xs e h. let w = run xs (start z) in let s = sessions z xs in
     record {
       rising = rising_on w e s.making h.reply h.rising;
-      reply = reply_on w e (facts_at z xs) s (subst (λ (v : World). Channels v.client v.conns) (run_more xs e (start z)) (dialogs z (xs ++ e ∷ [])).channels) h.rising h.reply;
+      reply = reply_on w e (facts_at z xs) s (subst (λ (v : World). Channels v.client v.conns) (run_more xs e (start z))
+          (dialogs z (xs ++ e ∷ [])).channels) h.rising h.reply;
     }) es
 
 rises_always : (z : Settings) (es : List Event) → Rises (run es (start z))
 rises_always z es = (rises_known z es).rising.asked
 
-still : (z : Settings) (es : List Event) (e : Event) (g : ℕ) → is_unsettled ((run es (start z)).client.outcome g) ≡ false → is_unsettled ((happens (run es (start z)) e).client.outcome g) ≡ false
-still z es e g s = ap (λ (w : World). is_unsettled (w.client.outcome g)) (sym (run_more es e (start z))) ∙ ap is_unsettled (settled_stays z es (e ∷ []) g s) ∙ s
+still : (z : Settings) (es : List Event) (e : Event) (g : ℕ) → is_unsettled ((run es (start z)).client.outcome g)
+    ≡ false → is_unsettled ((happens (run es (start z)) e).client.outcome g) ≡ false
+still z es e g s = ap (λ (w : World). is_unsettled (w.client.outcome g)) (sym (run_more es e (start z)))
+    ∙ ap is_unsettled (settled_stays z es (e ∷ []) g s) ∙ s
 
 always : (z : Settings) → Always (OfRun z)
 always z =
     record {
       step = λ w e h. record { events = h.events ++ e ∷ []; is = run_more h.events e (start z) ∙ ap (λ v. happens v e) h.is };
       facts = λ w h. subst Facts h.is (facts_at z h.events);
-      stays = λ w e g h. subst (λ (v : World). is_unsettled (v.client.outcome g) ≡ false → is_unsettled ((happens v e).client.outcome g) ≡ false) h.is (still z h.events e g);
+      stays = λ w e g h. subst (λ (v : World). is_unsettled (v.client.outcome g) ≡ false
+          → is_unsettled ((happens v e).client.outcome g) ≡ false) h.is (still z h.events e g);
       taken = λ w e n. (taken_on w e n).taken;
       number = number_on;
     }
@@ -188,12 +199,16 @@ drain_suffices z ls k = (drains_all (OfRun z) (always z) (course_of z ls) k (cou
 pub link_suffices : LinkSuffices
 unfolding link
 link_suffices z ls k =
-    let c = course_of z ls in let v = went c (Open k) in (links_all (OfRun z) (always z) v k (went_of z c (Open k) (courses z ls (begun z) (at_first z)))).done
+    let c = course_of z ls in let v = went c (Open k) in
+    (links_all (OfRun z) (always z) v k (went_of z c (Open k) (courses z ls (begun z) (at_first z)))).done
 
 pub settle_settles : SettleSettles
 settle_settles z ls few =
     let c = course_of z ls in let h = courses z ls (begun z) (at_first z) in let e = at_end ls (begun z) in
-    by (subst (λ (d : Course). Done d.world) (sym e) (settles (OfRun z) (always z) (record { present = λ w o. subst FindsSession o.is (session_found z o.events); rise = λ w o. subst Rises o.is (rises_always z o.events) }) c h))
+    by (subst (λ (d : Course). Done d.world) (sym e) (settles (OfRun z) (always z) (record {
+      present = λ w o. subst FindsSession o.is (session_found z o.events);
+      rise = λ w o. subst Rises o.is (rises_always z o.events);
+    }) c h))
   where
     by : Done (course_of z (ls ++ Settles ∷ [])).world → AllSettled (course_of z (ls ++ Settles ∷ [])).world.client
     by (inl s) = s

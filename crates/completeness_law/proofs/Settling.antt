@@ -25,10 +25,13 @@ first_steps K A c =
       keeps = λ d k l. joined_on K c d (drain_and_cut d k) l (first_part K A d k l.known).later;
       makes = λ d k l. (first_part K A d k l.known).clean;
       stays = λ d k q l i.
-          let f = first_part K A d k l.known in at_or_else (λ x. Clean d.world.conns x → Clean (drain_and_cut d k).world.conns x) k q (λ _. f.clean) (λ n. clean_else d.world.conns (drain_and_cut d k).world.conns k q f.elsewhere n) i;
+          let f = first_part K A d k l.known in
+          at_or_else (λ x. Clean d.world.conns x → Clean (drain_and_cut d k).world.conns x) k q (λ _. f.clean)
+          (λ n. clean_else d.world.conns (drain_and_cut d k).world.conns k q f.elsewhere n) i;
     }
 
-all_clean : (K : World → Type 0) → Always K → (c d : Course) → EachOf (Later K c) (λ q e. Clean e.world.conns q) c d 0 256 → (q : ℕ) → Clean d.world.conns q
+all_clean : (K : World → Type 0) → Always K → (c d : Course) → EachOf (Later K c) (λ q e. Clean e.world.conns q) c d 0
+    256 → (q : ℕ) → Clean d.world.conns q
 all_clean K A c d e q =
     let F = A.facts d.world e.keeps.known in
     elim (nat_lt q 256) as (λ b. nat_lt q 256 ≡ b → Clean d.world.conns q) [
@@ -44,9 +47,12 @@ pub settles : (K : World → Type 0) → Always K → AllPresent K → (c : Cour
 unfolding go settle_below
 settles K A R c h =
     let first = each_of (Later K c) (λ q e. Clean e.world.conns q) drain_and_cut (first_steps K A c) 0 256 c (now K c h) in
-    let d = each drain_and_cut 0 256 c in let t = all_dropped K A d first.keeps.known (all_clean K A c d first) in let e = each drop_orphan 0 256 d in
+    let d = each drain_and_cut 0 256 c in let t = all_dropped K A d first.keeps.known (all_clean K A c d first) in
+    let e = each drop_orphan 0 256 d in
     let m = most (λ i. is_unsettled (e.world.client.outcome (i + 1))) e.world.client.taken in
-    rounds_end K A R (8 * (c.world.client.taken + 256 + 1)) e false t.later.known t.rested Far (enough (left e.world.client e.world.client.taken) e.world.client.taken c.world.client.taken m (t.later.taken ∙ first.keeps.taken))
+    rounds_end K A R (8 * (c.world.client.taken + 256 + 1)) e false t.later.known t.rested Far
+    (enough (left e.world.client e.world.client.taken) e.world.client.taken c.world.client.taken m
+    (t.later.taken ∙ first.keeps.taken))
   where
     enough : (l n m : ℕ) → l ≤ n → n ≡ m → 2 * l + 1 ≤ 8 * (m + 256 + 1)
     enough l n m a b = omega (arith, a, b)
@@ -55,5 +61,7 @@ pub settle_later : (K : World → Type 0) → Always K → (c : Course) (fuel : 
 unfolding settle_below
 settle_later K A c fuel h =
     let first = each_of (Later K c) (λ q e. Clean e.world.conns q) drain_and_cut (first_steps K A c) 0 256 c (now K c h) in
-    let d = each drain_and_cut 0 256 c in let t = all_dropped K A d first.keeps.known (all_clean K A c d first) in let e = each drop_orphan 0 256 d in
-    joined_on K c d (rounds 256 fuel e) first.keeps (joined_on K d e (rounds 256 fuel e) t.later (rounds_later K A 256 fuel e t.later.known))
+    let d = each drain_and_cut 0 256 c in let t = all_dropped K A d first.keeps.known (all_clean K A c d first) in
+    let e = each drop_orphan 0 256 d in
+    joined_on K c d (rounds 256 fuel e) first.keeps (joined_on K d e (rounds 256 fuel e) t.later
+    (rounds_later K A 256 fuel e t.later.known))

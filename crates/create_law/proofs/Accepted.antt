@@ -9,7 +9,8 @@ accepted_attached : (c : Client) (conns : ℕ → Conn) (v : Seen) (a : ℕ → 
 accepted_attached c conns v a k i_attached =
     λ o z. let old = i_attached o z in grind arith
 
-pub accepted_creates : (c : Client) (conns : ℕ → Conn) (v : Seen) (a : ℕ → ℕ) (k : ℕ) → Creates c conns v a → Creates (accepted c k) conns v a
+pub accepted_creates : (c : Client) (conns : ℕ → Conn) (v : Seen) (a : ℕ → ℕ) (k : ℕ) → Creates c conns v a
+    → Creates (accepted c k) conns v a
 accepted_creates c conns v a k i =
     record {
       made = i.made;

@@ -5,7 +5,8 @@ use Rattle.exchange_defs.specs.Settling.{answered}
 use Rattle.exchange_defs.specs.Network.{Conn}
 use Rattle.create_law.specs.Creates.{Seen, Creates}
 
-pub answered_creates : (c : Client) (conns : ℕ → Conn) (v : Seen) (a : ℕ → ℕ) (g : ℕ) → Creates c conns v a → Creates (answered c g) conns v a
+pub answered_creates : (c : Client) (conns : ℕ → Conn) (v : Seen) (a : ℕ → ℕ) (g : ℕ) → Creates c conns v a
+    → Creates (answered c g) conns v a
 answered_creates c conns v a g i =
     record {
       made = i.made;

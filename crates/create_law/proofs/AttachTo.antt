@@ -6,23 +6,28 @@ use Rattle.create_law.specs.Creates.{Seen, Creates, Attached, PlainAttached, Dea
 use Rattle.create_law.proofs.Words.{full_more}
 use Rattle.create_law.proofs.Moves.{attach_to}
 
-attach_to_attached : (c : Client) (conns : ℕ → Conn) (v : Seen) (a : ℕ → ℕ) (x o0 : ℕ) → (0 < c.rank x) → (v.present x ≡ true) → Attached c v → Attached c (attach_to v o0 x)
+attach_to_attached : (c : Client) (conns : ℕ → Conn) (v : Seen) (a : ℕ → ℕ) (x o0 : ℕ) → (0 < c.rank x)
+    → (v.present x ≡ true) → Attached c v → Attached c (attach_to v o0 x)
 attach_to_attached c conns v a x o0 ranked there i_attached =
     λ o z. let old = i_attached o z in grind arith
 
-attach_to_plain_attached : (c : Client) (conns : ℕ → Conn) (v : Seen) (a : ℕ → ℕ) (x o0 : ℕ) → (0 < c.rank x) → (v.present x ≡ true) → PlainAttached v → PlainAttached (attach_to v o0 x)
+attach_to_plain_attached : (c : Client) (conns : ℕ → Conn) (v : Seen) (a : ℕ → ℕ) (x o0 : ℕ) → (0 < c.rank x)
+    → (v.present x ≡ true) → PlainAttached v → PlainAttached (attach_to v o0 x)
 attach_to_plain_attached c conns v a x o0 ranked there i_plain_attached =
     λ o. let old = i_plain_attached o in grind arith
 
-attach_to_dead_refused : (c : Client) (conns : ℕ → Conn) (v : Seen) (a : ℕ → ℕ) (x o0 : ℕ) → (0 < c.rank x) → (v.present x ≡ true) → DeadRefused c conns v → DeadRefused c conns (attach_to v o0 x)
+attach_to_dead_refused : (c : Client) (conns : ℕ → Conn) (v : Seen) (a : ℕ → ℕ) (x o0 : ℕ) → (0 < c.rank x)
+    → (v.present x ≡ true) → DeadRefused c conns v → DeadRefused c conns (attach_to v o0 x)
 attach_to_dead_refused c conns v a x o0 ranked there i_dead_refused =
     λ j n p y h t m e s. let old = i_dead_refused j n p y h t m e s in let fm = full_more (v.guids x) in grind arith
 
-attach_to_barred_reply : (c : Client) (conns : ℕ → Conn) (v : Seen) (a : ℕ → ℕ) (x o0 : ℕ) → (0 < c.rank x) → (v.present x ≡ true) → BarredReply c conns v → BarredReply c conns (attach_to v o0 x)
+attach_to_barred_reply : (c : Client) (conns : ℕ → Conn) (v : Seen) (a : ℕ → ℕ) (x o0 : ℕ) → (0 < c.rank x)
+    → (v.present x ≡ true) → BarredReply c conns v → BarredReply c conns (attach_to v o0 x)
 attach_to_barred_reply c conns v a x o0 ranked there i_barred_reply =
     λ j n p y h t m e s u. let old = i_barred_reply j n p y h t m e s u in let fm = full_more (v.guids x) in grind arith
 
-pub attach_to_creates : (c : Client) (conns : ℕ → Conn) (v : Seen) (a : ℕ → ℕ) (x o0 : ℕ) → (0 < c.rank x) → (v.present x ≡ true) → Creates c conns v a → Creates c conns (attach_to v o0 x) a
+pub attach_to_creates : (c : Client) (conns : ℕ → Conn) (v : Seen) (a : ℕ → ℕ) (x o0 : ℕ) → (0 < c.rank x)
+    → (v.present x ≡ true) → Creates c conns v a → Creates c conns (attach_to v o0 x) a
 attach_to_creates c conns v a x o0 ranked there i =
     record {
       made = i.made;

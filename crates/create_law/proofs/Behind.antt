@@ -4,45 +4,61 @@ use Rattle.exchange_defs.specs.Table.{put}
 use Rattle.exchange_defs.specs.Client.{Client}
 use Rattle.exchange_defs.specs.Network.{Conn, Received, take_front}
 use Rattle.exchange_law.proofs.Lists.{get-push, waited_down}
-use Rattle.create_law.specs.Creates.{Seen, Creates, ActedKept, DeadRefused, NoReply, BarredReply, OkReply, ReplyGuid, ReplyOf, DialogUp, AskUp}
+use Rattle.create_law.specs.Creates.{Seen, Creates, ActedKept, DeadRefused, NoReply, BarredReply, OkReply, ReplyGuid}
+use Rattle.create_law.specs.Creates.{ReplyOf, DialogUp, AskUp}
 
-behind_acted_kept : (c : Client) (conns : ℕ → Conn) (v : Seen) (a : ℕ → ℕ) (k : ℕ) (y0 : Received) (rest : List Received) → ((conns k).down ≡ y0 ∷ rest) → ActedKept c conns v a → ActedKept c (put conns k (take_front (conns k) rest)) v a
+behind_acted_kept : (c : Client) (conns : ℕ → Conn) (v : Seen) (a : ℕ → ℕ) (k : ℕ) (y0 : Received)
+    (rest : List Received) → ((conns k).down ≡ y0 ∷ rest) → ActedKept c conns v a
+    → ActedKept c (put conns k (take_front (conns k) rest)) v a
 behind_acted_kept c conns v a k y0 rest is i_acted_kept =
     λ j n p y. let old = i_acted_kept j n p y in grind (arith, get-push)
 
-behind_dead_refused : (c : Client) (conns : ℕ → Conn) (v : Seen) (a : ℕ → ℕ) (k : ℕ) (y0 : Received) (rest : List Received) → ((conns k).down ≡ y0 ∷ rest) → DeadRefused c conns v → DeadRefused c (put conns k (take_front (conns k) rest)) v
+behind_dead_refused : (c : Client) (conns : ℕ → Conn) (v : Seen) (a : ℕ → ℕ) (k : ℕ) (y0 : Received)
+    (rest : List Received) → ((conns k).down ≡ y0 ∷ rest) → DeadRefused c conns v
+    → DeadRefused c (put conns k (take_front (conns k) rest)) v
 behind_dead_refused c conns v a k y0 rest is i_dead_refused =
     λ j n p y. let old = i_dead_refused j n p y in grind (arith, get-push)
 
-behind_no_reply : (c : Client) (conns : ℕ → Conn) (v : Seen) (a : ℕ → ℕ) (k : ℕ) (y0 : Received) (rest : List Received) → ((conns k).down ≡ y0 ∷ rest) → NoReply c conns a → NoReply c (put conns k (take_front (conns k) rest)) a
+behind_no_reply : (c : Client) (conns : ℕ → Conn) (v : Seen) (a : ℕ → ℕ) (k : ℕ) (y0 : Received) (rest : List Received)
+    → ((conns k).down ≡ y0 ∷ rest) → NoReply c conns a → NoReply c (put conns k (take_front (conns k) rest)) a
 behind_no_reply c conns v a k y0 rest is i_no_reply =
     λ j n p y h. let o9 = waited_down conns k y0 rest j n y is h in i_no_reply j o9.0 p y o9.1
 
-behind_barred_reply : (c : Client) (conns : ℕ → Conn) (v : Seen) (a : ℕ → ℕ) (k : ℕ) (y0 : Received) (rest : List Received) → ((conns k).down ≡ y0 ∷ rest) → BarredReply c conns v → BarredReply c (put conns k (take_front (conns k) rest)) v
+behind_barred_reply : (c : Client) (conns : ℕ → Conn) (v : Seen) (a : ℕ → ℕ) (k : ℕ) (y0 : Received)
+    (rest : List Received) → ((conns k).down ≡ y0 ∷ rest) → BarredReply c conns v
+    → BarredReply c (put conns k (take_front (conns k) rest)) v
 behind_barred_reply c conns v a k y0 rest is i_barred_reply =
     λ j n p y h. let o9 = waited_down conns k y0 rest j n y is h in i_barred_reply j o9.0 p y o9.1
 
-behind_ok_reply : (c : Client) (conns : ℕ → Conn) (v : Seen) (a : ℕ → ℕ) (k : ℕ) (y0 : Received) (rest : List Received) → ((conns k).down ≡ y0 ∷ rest) → OkReply c conns a → OkReply c (put conns k (take_front (conns k) rest)) a
+behind_ok_reply : (c : Client) (conns : ℕ → Conn) (v : Seen) (a : ℕ → ℕ) (k : ℕ) (y0 : Received) (rest : List Received)
+    → ((conns k).down ≡ y0 ∷ rest) → OkReply c conns a → OkReply c (put conns k (take_front (conns k) rest)) a
 behind_ok_reply c conns v a k y0 rest is i_ok_reply =
     λ j n p y h. let o9 = waited_down conns k y0 rest j n y is h in i_ok_reply j o9.0 p y o9.1
 
-behind_reply_guid : (c : Client) (conns : ℕ → Conn) (v : Seen) (a : ℕ → ℕ) (k : ℕ) (y0 : Received) (rest : List Received) → ((conns k).down ≡ y0 ∷ rest) → ReplyGuid c conns v → ReplyGuid c (put conns k (take_front (conns k) rest)) v
+behind_reply_guid : (c : Client) (conns : ℕ → Conn) (v : Seen) (a : ℕ → ℕ) (k : ℕ) (y0 : Received)
+    (rest : List Received) → ((conns k).down ≡ y0 ∷ rest) → ReplyGuid c conns v
+    → ReplyGuid c (put conns k (take_front (conns k) rest)) v
 behind_reply_guid c conns v a k y0 rest is i_reply_guid =
     λ j n p y h. let o9 = waited_down conns k y0 rest j n y is h in i_reply_guid j o9.0 p y o9.1
 
-behind_reply_of : (c : Client) (conns : ℕ → Conn) (v : Seen) (a : ℕ → ℕ) (k : ℕ) (y0 : Received) (rest : List Received) → ((conns k).down ≡ y0 ∷ rest) → ReplyOf c conns v → ReplyOf c (put conns k (take_front (conns k) rest)) v
+behind_reply_of : (c : Client) (conns : ℕ → Conn) (v : Seen) (a : ℕ → ℕ) (k : ℕ) (y0 : Received) (rest : List Received)
+    → ((conns k).down ≡ y0 ∷ rest) → ReplyOf c conns v → ReplyOf c (put conns k (take_front (conns k) rest)) v
 behind_reply_of c conns v a k y0 rest is i_reply_of =
     λ j n p o y h. let o9 = waited_down conns k y0 rest j n y is h in i_reply_of j o9.0 p o y o9.1
 
-behind_dialog_up : (c : Client) (conns : ℕ → Conn) (v : Seen) (a : ℕ → ℕ) (k : ℕ) (y0 : Received) (rest : List Received) → ((conns k).down ≡ y0 ∷ rest) → DialogUp conns → DialogUp (put conns k (take_front (conns k) rest))
+behind_dialog_up : (c : Client) (conns : ℕ → Conn) (v : Seen) (a : ℕ → ℕ) (k : ℕ) (y0 : Received) (rest : List Received)
+    → ((conns k).down ≡ y0 ∷ rest) → DialogUp conns → DialogUp (put conns k (take_front (conns k) rest))
 behind_dialog_up c conns v a k y0 rest is i_dialog_up =
     λ j n y. let old = i_dialog_up j n y in grind (arith, get-push)
 
-behind_ask_up : (c : Client) (conns : ℕ → Conn) (v : Seen) (a : ℕ → ℕ) (k : ℕ) (y0 : Received) (rest : List Received) → ((conns k).down ≡ y0 ∷ rest) → AskUp conns → AskUp (put conns k (take_front (conns k) rest))
+behind_ask_up : (c : Client) (conns : ℕ → Conn) (v : Seen) (a : ℕ → ℕ) (k : ℕ) (y0 : Received) (rest : List Received)
+    → ((conns k).down ≡ y0 ∷ rest) → AskUp conns → AskUp (put conns k (take_front (conns k) rest))
 behind_ask_up c conns v a k y0 rest is i_ask_up =
     λ j n p y. let old = i_ask_up j n p y in grind (arith, get-push)
 
-pub behind_creates : (c : Client) (conns : ℕ → Conn) (v : Seen) (a : ℕ → ℕ) (k : ℕ) (y0 : Received) (rest : List Received) → ((conns k).down ≡ y0 ∷ rest) → Creates c conns v a → Creates c (put conns k (take_front (conns k) rest)) v a
+pub behind_creates : (c : Client) (conns : ℕ → Conn) (v : Seen) (a : ℕ → ℕ) (k : ℕ) (y0 : Received)
+    (rest : List Received) → ((conns k).down ≡ y0 ∷ rest) → Creates c conns v a
+    → Creates c (put conns k (take_front (conns k) rest)) v a
 behind_creates c conns v a k y0 rest is i =
     record {
       made = i.made;

@@ -4,7 +4,8 @@ use Rattle.exchange_defs.specs.Client.{Client, bind_channel}
 use Rattle.exchange_defs.specs.Network.{Conn}
 use Rattle.create_law.specs.Creates.{Seen, Creates}
 
-pub bound_creates : (c : Client) (conns : ℕ → Conn) (v : Seen) (a : ℕ → ℕ) (k : ℕ) → Creates c conns v a → Creates (bind_channel c k) conns v a
+pub bound_creates : (c : Client) (conns : ℕ → Conn) (v : Seen) (a : ℕ → ℕ) (k : ℕ) → Creates c conns v a
+    → Creates (bind_channel c k) conns v a
 bound_creates c conns v a k i =
     record {
       made = i.made;

@@ -5,45 +5,61 @@ use Rattle.exchange_defs.specs.State.{Message}
 use Rattle.exchange_defs.specs.Client.{Client}
 use Rattle.exchange_defs.specs.Network.{Conn, ForDialog, send_up}
 use Rattle.exchange_law.proofs.Lists.{get-push}
-use Rattle.create_law.specs.Creates.{Seen, Creates, is_of_dialog, ActedKept, DeadRefused, NoReply, BarredReply, OkReply, ReplyGuid, ReplyOf, DialogUp, AskUp}
+use Rattle.create_law.specs.Creates.{Seen, Creates, is_of_dialog, ActedKept, DeadRefused, NoReply, BarredReply, OkReply}
+use Rattle.create_law.specs.Creates.{ReplyGuid, ReplyOf, DialogUp, AskUp}
 
-dialog_sent_acted_kept : (c : Client) (conns : ℕ → Conn) (v : Seen) (a : ℕ → ℕ) (k n0 : ℕ) (m : Message) → (is_of_dialog m.command ≡ true) → ActedKept c conns v a → ActedKept c (put conns k (send_up (conns k) ForDialog m n0)) v a
+dialog_sent_acted_kept : (c : Client) (conns : ℕ → Conn) (v : Seen) (a : ℕ → ℕ) (k n0 : ℕ) (m : Message)
+    → (is_of_dialog m.command ≡ true) → ActedKept c conns v a
+    → ActedKept c (put conns k (send_up (conns k) ForDialog m n0)) v a
 dialog_sent_acted_kept c conns v a k n0 m says i_acted_kept =
     λ j n p y. let old = i_acted_kept j n p y in grind (arith, get-push)
 
-dialog_sent_dead_refused : (c : Client) (conns : ℕ → Conn) (v : Seen) (a : ℕ → ℕ) (k n0 : ℕ) (m : Message) → (is_of_dialog m.command ≡ true) → DeadRefused c conns v → DeadRefused c (put conns k (send_up (conns k) ForDialog m n0)) v
+dialog_sent_dead_refused : (c : Client) (conns : ℕ → Conn) (v : Seen) (a : ℕ → ℕ) (k n0 : ℕ) (m : Message)
+    → (is_of_dialog m.command ≡ true) → DeadRefused c conns v
+    → DeadRefused c (put conns k (send_up (conns k) ForDialog m n0)) v
 dialog_sent_dead_refused c conns v a k n0 m says i_dead_refused =
     λ j n p y. let old = i_dead_refused j n p y in grind (arith, get-push)
 
-dialog_sent_no_reply : (c : Client) (conns : ℕ → Conn) (v : Seen) (a : ℕ → ℕ) (k n0 : ℕ) (m : Message) → (is_of_dialog m.command ≡ true) → NoReply c conns a → NoReply c (put conns k (send_up (conns k) ForDialog m n0)) a
+dialog_sent_no_reply : (c : Client) (conns : ℕ → Conn) (v : Seen) (a : ℕ → ℕ) (k n0 : ℕ) (m : Message)
+    → (is_of_dialog m.command ≡ true) → NoReply c conns a → NoReply c (put conns k (send_up (conns k) ForDialog m n0)) a
 dialog_sent_no_reply c conns v a k n0 m says i_no_reply =
     λ j n p y. let old = i_no_reply j n p y in grind (arith, get-push)
 
-dialog_sent_barred_reply : (c : Client) (conns : ℕ → Conn) (v : Seen) (a : ℕ → ℕ) (k n0 : ℕ) (m : Message) → (is_of_dialog m.command ≡ true) → BarredReply c conns v → BarredReply c (put conns k (send_up (conns k) ForDialog m n0)) v
+dialog_sent_barred_reply : (c : Client) (conns : ℕ → Conn) (v : Seen) (a : ℕ → ℕ) (k n0 : ℕ) (m : Message)
+    → (is_of_dialog m.command ≡ true) → BarredReply c conns v
+    → BarredReply c (put conns k (send_up (conns k) ForDialog m n0)) v
 dialog_sent_barred_reply c conns v a k n0 m says i_barred_reply =
     λ j n p y. let old = i_barred_reply j n p y in grind (arith, get-push)
 
-dialog_sent_ok_reply : (c : Client) (conns : ℕ → Conn) (v : Seen) (a : ℕ → ℕ) (k n0 : ℕ) (m : Message) → (is_of_dialog m.command ≡ true) → OkReply c conns a → OkReply c (put conns k (send_up (conns k) ForDialog m n0)) a
+dialog_sent_ok_reply : (c : Client) (conns : ℕ → Conn) (v : Seen) (a : ℕ → ℕ) (k n0 : ℕ) (m : Message)
+    → (is_of_dialog m.command ≡ true) → OkReply c conns a → OkReply c (put conns k (send_up (conns k) ForDialog m n0)) a
 dialog_sent_ok_reply c conns v a k n0 m says i_ok_reply =
     λ j n p y. let old = i_ok_reply j n p y in grind (arith, get-push)
 
-dialog_sent_reply_guid : (c : Client) (conns : ℕ → Conn) (v : Seen) (a : ℕ → ℕ) (k n0 : ℕ) (m : Message) → (is_of_dialog m.command ≡ true) → ReplyGuid c conns v → ReplyGuid c (put conns k (send_up (conns k) ForDialog m n0)) v
+dialog_sent_reply_guid : (c : Client) (conns : ℕ → Conn) (v : Seen) (a : ℕ → ℕ) (k n0 : ℕ) (m : Message)
+    → (is_of_dialog m.command ≡ true) → ReplyGuid c conns v
+    → ReplyGuid c (put conns k (send_up (conns k) ForDialog m n0)) v
 dialog_sent_reply_guid c conns v a k n0 m says i_reply_guid =
     λ j n p y. let old = i_reply_guid j n p y in grind (arith, get-push)
 
-dialog_sent_reply_of : (c : Client) (conns : ℕ → Conn) (v : Seen) (a : ℕ → ℕ) (k n0 : ℕ) (m : Message) → (is_of_dialog m.command ≡ true) → ReplyOf c conns v → ReplyOf c (put conns k (send_up (conns k) ForDialog m n0)) v
+dialog_sent_reply_of : (c : Client) (conns : ℕ → Conn) (v : Seen) (a : ℕ → ℕ) (k n0 : ℕ) (m : Message)
+    → (is_of_dialog m.command ≡ true) → ReplyOf c conns v → ReplyOf c (put conns k (send_up (conns k) ForDialog m n0)) v
 dialog_sent_reply_of c conns v a k n0 m says i_reply_of =
     λ j n p o y. let old = i_reply_of j n p o y in grind (arith, get-push)
 
-dialog_sent_dialog_up : (c : Client) (conns : ℕ → Conn) (v : Seen) (a : ℕ → ℕ) (k n0 : ℕ) (m : Message) → (is_of_dialog m.command ≡ true) → DialogUp conns → DialogUp (put conns k (send_up (conns k) ForDialog m n0))
+dialog_sent_dialog_up : (c : Client) (conns : ℕ → Conn) (v : Seen) (a : ℕ → ℕ) (k n0 : ℕ) (m : Message)
+    → (is_of_dialog m.command ≡ true) → DialogUp conns → DialogUp (put conns k (send_up (conns k) ForDialog m n0))
 dialog_sent_dialog_up c conns v a k n0 m says i_dialog_up =
     λ j n y. let old = i_dialog_up j n y in grind (arith, get-push)
 
-dialog_sent_ask_up : (c : Client) (conns : ℕ → Conn) (v : Seen) (a : ℕ → ℕ) (k n0 : ℕ) (m : Message) → (is_of_dialog m.command ≡ true) → AskUp conns → AskUp (put conns k (send_up (conns k) ForDialog m n0))
+dialog_sent_ask_up : (c : Client) (conns : ℕ → Conn) (v : Seen) (a : ℕ → ℕ) (k n0 : ℕ) (m : Message)
+    → (is_of_dialog m.command ≡ true) → AskUp conns → AskUp (put conns k (send_up (conns k) ForDialog m n0))
 dialog_sent_ask_up c conns v a k n0 m says i_ask_up =
     λ j n p y. let old = i_ask_up j n p y in grind (arith, get-push)
 
-pub dialog_sent_creates : (c : Client) (conns : ℕ → Conn) (v : Seen) (a : ℕ → ℕ) (k n0 : ℕ) (m : Message) → (is_of_dialog m.command ≡ true) → Creates c conns v a → Creates c (put conns k (send_up (conns k) ForDialog m n0)) v a
+pub dialog_sent_creates : (c : Client) (conns : ℕ → Conn) (v : Seen) (a : ℕ → ℕ) (k n0 : ℕ) (m : Message)
+    → (is_of_dialog m.command ≡ true) → Creates c conns v a → Creates c (put conns k (send_up (conns k) ForDialog m n0))
+    v a
 dialog_sent_creates c conns v a k n0 m says i =
     record {
       made = i.made;

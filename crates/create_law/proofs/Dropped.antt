@@ -4,37 +4,46 @@ use Rattle.exchange_defs.specs.Table.{put}
 use Rattle.exchange_defs.specs.Client.{Client}
 use Rattle.exchange_defs.specs.Network.{Conn, server_off}
 use Rattle.exchange_law.proofs.Lists.{get-push}
-use Rattle.create_law.specs.Creates.{Seen, Creates, ActedKept, DeadRefused, NoReply, BarredReply, OkReply, ReplyGuid, ReplyOf, DialogUp, AskUp}
+use Rattle.create_law.specs.Creates.{Seen, Creates, ActedKept, DeadRefused, NoReply, BarredReply, OkReply, ReplyGuid}
+use Rattle.create_law.specs.Creates.{ReplyOf, DialogUp, AskUp}
 
-dropped_acted_kept : (c : Client) (conns : ℕ → Conn) (v : Seen) (a : ℕ → ℕ) (k : ℕ) → ActedKept c conns v a → ActedKept c (put conns k (server_off (conns k))) v a
+dropped_acted_kept : (c : Client) (conns : ℕ → Conn) (v : Seen) (a : ℕ → ℕ) (k : ℕ) → ActedKept c conns v a
+    → ActedKept c (put conns k (server_off (conns k))) v a
 dropped_acted_kept c conns v a k i_acted_kept =
     λ j n p y. let old = i_acted_kept j n p y in grind (arith, get-push)
 
-dropped_dead_refused : (c : Client) (conns : ℕ → Conn) (v : Seen) (a : ℕ → ℕ) (k : ℕ) → DeadRefused c conns v → DeadRefused c (put conns k (server_off (conns k))) v
+dropped_dead_refused : (c : Client) (conns : ℕ → Conn) (v : Seen) (a : ℕ → ℕ) (k : ℕ) → DeadRefused c conns v
+    → DeadRefused c (put conns k (server_off (conns k))) v
 dropped_dead_refused c conns v a k i_dead_refused =
     λ j n p y. let old = i_dead_refused j n p y in grind (arith, get-push)
 
-dropped_no_reply : (c : Client) (conns : ℕ → Conn) (v : Seen) (a : ℕ → ℕ) (k : ℕ) → NoReply c conns a → NoReply c (put conns k (server_off (conns k))) a
+dropped_no_reply : (c : Client) (conns : ℕ → Conn) (v : Seen) (a : ℕ → ℕ) (k : ℕ) → NoReply c conns a
+    → NoReply c (put conns k (server_off (conns k))) a
 dropped_no_reply c conns v a k i_no_reply =
     λ j n p y. let old = i_no_reply j n p y in grind (arith, get-push)
 
-dropped_barred_reply : (c : Client) (conns : ℕ → Conn) (v : Seen) (a : ℕ → ℕ) (k : ℕ) → BarredReply c conns v → BarredReply c (put conns k (server_off (conns k))) v
+dropped_barred_reply : (c : Client) (conns : ℕ → Conn) (v : Seen) (a : ℕ → ℕ) (k : ℕ) → BarredReply c conns v
+    → BarredReply c (put conns k (server_off (conns k))) v
 dropped_barred_reply c conns v a k i_barred_reply =
     λ j n p y. let old = i_barred_reply j n p y in grind (arith, get-push)
 
-dropped_ok_reply : (c : Client) (conns : ℕ → Conn) (v : Seen) (a : ℕ → ℕ) (k : ℕ) → OkReply c conns a → OkReply c (put conns k (server_off (conns k))) a
+dropped_ok_reply : (c : Client) (conns : ℕ → Conn) (v : Seen) (a : ℕ → ℕ) (k : ℕ) → OkReply c conns a
+    → OkReply c (put conns k (server_off (conns k))) a
 dropped_ok_reply c conns v a k i_ok_reply =
     λ j n p y. let old = i_ok_reply j n p y in grind (arith, get-push)
 
-dropped_reply_guid : (c : Client) (conns : ℕ → Conn) (v : Seen) (a : ℕ → ℕ) (k : ℕ) → ReplyGuid c conns v → ReplyGuid c (put conns k (server_off (conns k))) v
+dropped_reply_guid : (c : Client) (conns : ℕ → Conn) (v : Seen) (a : ℕ → ℕ) (k : ℕ) → ReplyGuid c conns v
+    → ReplyGuid c (put conns k (server_off (conns k))) v
 dropped_reply_guid c conns v a k i_reply_guid =
     λ j n p y. let old = i_reply_guid j n p y in grind (arith, get-push)
 
-dropped_reply_of : (c : Client) (conns : ℕ → Conn) (v : Seen) (a : ℕ → ℕ) (k : ℕ) → ReplyOf c conns v → ReplyOf c (put conns k (server_off (conns k))) v
+dropped_reply_of : (c : Client) (conns : ℕ → Conn) (v : Seen) (a : ℕ → ℕ) (k : ℕ) → ReplyOf c conns v
+    → ReplyOf c (put conns k (server_off (conns k))) v
 dropped_reply_of c conns v a k i_reply_of =
     λ j n p o y. let old = i_reply_of j n p o y in grind (arith, get-push)
 
-dropped_dialog_up : (c : Client) (conns : ℕ → Conn) (v : Seen) (a : ℕ → ℕ) (k : ℕ) → DialogUp conns → DialogUp (put conns k (server_off (conns k)))
+dropped_dialog_up : (c : Client) (conns : ℕ → Conn) (v : Seen) (a : ℕ → ℕ) (k : ℕ) → DialogUp conns
+    → DialogUp (put conns k (server_off (conns k)))
 dropped_dialog_up c conns v a k i_dialog_up =
     λ j n y. let old = i_dialog_up j n y in grind (arith, get-push)
 
@@ -42,7 +51,8 @@ dropped_ask_up : (c : Client) (conns : ℕ → Conn) (v : Seen) (a : ℕ → ℕ
 dropped_ask_up c conns v a k i_ask_up =
     λ j n p y. let old = i_ask_up j n p y in grind (arith, get-push)
 
-pub dropped_creates : (c : Client) (conns : ℕ → Conn) (v : Seen) (a : ℕ → ℕ) (k : ℕ) → Creates c conns v a → Creates c (put conns k (server_off (conns k))) v a
+pub dropped_creates : (c : Client) (conns : ℕ → Conn) (v : Seen) (a : ℕ → ℕ) (k : ℕ) → Creates c conns v a
+    → Creates c (put conns k (server_off (conns k))) v a
 dropped_creates c conns v a k i =
     record {
       made = i.made;

@@ -3,58 +3,72 @@ use Rattle.std.proofs.Common.{◌≡◌, ℕ, arith, Option}
 use Rattle.exchange_defs.specs.Client.{Client}
 use Rattle.exchange_defs.specs.Network.{Conn}
 use Rattle.exchange_law.proofs.Lists.{get-push}
-use Rattle.create_law.specs.Creates.{Seen, Creates, Made, Named, NamedKind, NamedGiven, Attached, PlainAttached, Unclosed, ActedKept, FileGuid, FileOf, ReplyGuid, ReplyOf}
+use Rattle.create_law.specs.Creates.{Seen, Creates, Made, Named, NamedKind, NamedGiven, Attached, PlainAttached}
+use Rattle.create_law.specs.Creates.{Unclosed, ActedKept, FileGuid, FileOf, ReplyGuid, ReplyOf}
 use Rattle.create_law.proofs.Moves.{expire_by}
 
-expire_by_made : (c : Client) (conns : ℕ → Conn) (v : Seen) (a : ℕ → ℕ) (o0 : ℕ) (q0 : Option ℕ) → ((v.opened o0).create_guid ≡ q0) → Made c v a → Made c (expire_by v o0 q0) a
+expire_by_made : (c : Client) (conns : ℕ → Conn) (v : Seen) (a : ℕ → ℕ) (o0 : ℕ) (q0 : Option ℕ)
+    → ((v.opened o0).create_guid ≡ q0) → Made c v a → Made c (expire_by v o0 q0) a
 expire_by_made c conns v a o0 q0 guid i_made =
     λ p o. let old = i_made p o in grind arith
 
-expire_by_named : (c : Client) (conns : ℕ → Conn) (v : Seen) (a : ℕ → ℕ) (o0 : ℕ) (q0 : Option ℕ) → ((v.opened o0).create_guid ≡ q0) → Named c v → Named c (expire_by v o0 q0)
+expire_by_named : (c : Client) (conns : ℕ → Conn) (v : Seen) (a : ℕ → ℕ) (o0 : ℕ) (q0 : Option ℕ)
+    → ((v.opened o0).create_guid ≡ q0) → Named c v → Named c (expire_by v o0 q0)
 expire_by_named c conns v a o0 q0 guid i_named =
     λ p o. let old = i_named p o in grind arith
 
-expire_by_named_kind : (c : Client) (conns : ℕ → Conn) (v : Seen) (a : ℕ → ℕ) (o0 : ℕ) (q0 : Option ℕ) → ((v.opened o0).create_guid ≡ q0) → NamedKind c v → NamedKind c (expire_by v o0 q0)
+expire_by_named_kind : (c : Client) (conns : ℕ → Conn) (v : Seen) (a : ℕ → ℕ) (o0 : ℕ) (q0 : Option ℕ)
+    → ((v.opened o0).create_guid ≡ q0) → NamedKind c v → NamedKind c (expire_by v o0 q0)
 expire_by_named_kind c conns v a o0 q0 guid i_named_kind =
     λ p o. let old = i_named_kind p o in grind arith
 
-expire_by_named_given : (c : Client) (conns : ℕ → Conn) (v : Seen) (a : ℕ → ℕ) (o0 : ℕ) (q0 : Option ℕ) → ((v.opened o0).create_guid ≡ q0) → NamedGiven c v → NamedGiven c (expire_by v o0 q0)
+expire_by_named_given : (c : Client) (conns : ℕ → Conn) (v : Seen) (a : ℕ → ℕ) (o0 : ℕ) (q0 : Option ℕ)
+    → ((v.opened o0).create_guid ≡ q0) → NamedGiven c v → NamedGiven c (expire_by v o0 q0)
 expire_by_named_given c conns v a o0 q0 guid i_named_given =
     λ p o. let old = i_named_given p o in grind arith
 
-expire_by_attached : (c : Client) (conns : ℕ → Conn) (v : Seen) (a : ℕ → ℕ) (o0 : ℕ) (q0 : Option ℕ) → ((v.opened o0).create_guid ≡ q0) → Attached c v → Attached c (expire_by v o0 q0)
+expire_by_attached : (c : Client) (conns : ℕ → Conn) (v : Seen) (a : ℕ → ℕ) (o0 : ℕ) (q0 : Option ℕ)
+    → ((v.opened o0).create_guid ≡ q0) → Attached c v → Attached c (expire_by v o0 q0)
 expire_by_attached c conns v a o0 q0 guid i_attached =
     λ o z. let old = i_attached o z in grind arith
 
-expire_by_plain_attached : (c : Client) (conns : ℕ → Conn) (v : Seen) (a : ℕ → ℕ) (o0 : ℕ) (q0 : Option ℕ) → ((v.opened o0).create_guid ≡ q0) → PlainAttached v → PlainAttached (expire_by v o0 q0)
+expire_by_plain_attached : (c : Client) (conns : ℕ → Conn) (v : Seen) (a : ℕ → ℕ) (o0 : ℕ) (q0 : Option ℕ)
+    → ((v.opened o0).create_guid ≡ q0) → PlainAttached v → PlainAttached (expire_by v o0 q0)
 expire_by_plain_attached c conns v a o0 q0 guid i_plain_attached =
     λ o. let old = i_plain_attached o in grind arith
 
-expire_by_unclosed : (c : Client) (conns : ℕ → Conn) (v : Seen) (a : ℕ → ℕ) (o0 : ℕ) (q0 : Option ℕ) → ((v.opened o0).create_guid ≡ q0) → Unclosed c v a → Unclosed c (expire_by v o0 q0) a
+expire_by_unclosed : (c : Client) (conns : ℕ → Conn) (v : Seen) (a : ℕ → ℕ) (o0 : ℕ) (q0 : Option ℕ)
+    → ((v.opened o0).create_guid ≡ q0) → Unclosed c v a → Unclosed c (expire_by v o0 q0) a
 expire_by_unclosed c conns v a o0 q0 guid i_unclosed =
     λ p. let old = i_unclosed p in grind arith
 
-expire_by_acted_kept : (c : Client) (conns : ℕ → Conn) (v : Seen) (a : ℕ → ℕ) (o0 : ℕ) (q0 : Option ℕ) → ((v.opened o0).create_guid ≡ q0) → ActedKept c conns v a → ActedKept c conns (expire_by v o0 q0) a
+expire_by_acted_kept : (c : Client) (conns : ℕ → Conn) (v : Seen) (a : ℕ → ℕ) (o0 : ℕ) (q0 : Option ℕ)
+    → ((v.opened o0).create_guid ≡ q0) → ActedKept c conns v a → ActedKept c conns (expire_by v o0 q0) a
 expire_by_acted_kept c conns v a o0 q0 guid i_acted_kept =
     λ j n p y. let old = i_acted_kept j n p y in grind (arith, get-push)
 
-expire_by_file_guid : (c : Client) (conns : ℕ → Conn) (v : Seen) (a : ℕ → ℕ) (o0 : ℕ) (q0 : Option ℕ) → ((v.opened o0).create_guid ≡ q0) → FileGuid c v → FileGuid c (expire_by v o0 q0)
+expire_by_file_guid : (c : Client) (conns : ℕ → Conn) (v : Seen) (a : ℕ → ℕ) (o0 : ℕ) (q0 : Option ℕ)
+    → ((v.opened o0).create_guid ≡ q0) → FileGuid c v → FileGuid c (expire_by v o0 q0)
 expire_by_file_guid c conns v a o0 q0 guid i_file_guid =
     λ p. let old = i_file_guid p in grind arith
 
-expire_by_file_of : (c : Client) (conns : ℕ → Conn) (v : Seen) (a : ℕ → ℕ) (o0 : ℕ) (q0 : Option ℕ) → ((v.opened o0).create_guid ≡ q0) → FileOf c v → FileOf c (expire_by v o0 q0)
+expire_by_file_of : (c : Client) (conns : ℕ → Conn) (v : Seen) (a : ℕ → ℕ) (o0 : ℕ) (q0 : Option ℕ)
+    → ((v.opened o0).create_guid ≡ q0) → FileOf c v → FileOf c (expire_by v o0 q0)
 expire_by_file_of c conns v a o0 q0 guid i_file_of =
     λ p o. let old = i_file_of p o in grind arith
 
-expire_by_reply_guid : (c : Client) (conns : ℕ → Conn) (v : Seen) (a : ℕ → ℕ) (o0 : ℕ) (q0 : Option ℕ) → ((v.opened o0).create_guid ≡ q0) → ReplyGuid c conns v → ReplyGuid c conns (expire_by v o0 q0)
+expire_by_reply_guid : (c : Client) (conns : ℕ → Conn) (v : Seen) (a : ℕ → ℕ) (o0 : ℕ) (q0 : Option ℕ)
+    → ((v.opened o0).create_guid ≡ q0) → ReplyGuid c conns v → ReplyGuid c conns (expire_by v o0 q0)
 expire_by_reply_guid c conns v a o0 q0 guid i_reply_guid =
     λ j n p y. let old = i_reply_guid j n p y in grind (arith, get-push)
 
-expire_by_reply_of : (c : Client) (conns : ℕ → Conn) (v : Seen) (a : ℕ → ℕ) (o0 : ℕ) (q0 : Option ℕ) → ((v.opened o0).create_guid ≡ q0) → ReplyOf c conns v → ReplyOf c conns (expire_by v o0 q0)
+expire_by_reply_of : (c : Client) (conns : ℕ → Conn) (v : Seen) (a : ℕ → ℕ) (o0 : ℕ) (q0 : Option ℕ)
+    → ((v.opened o0).create_guid ≡ q0) → ReplyOf c conns v → ReplyOf c conns (expire_by v o0 q0)
 expire_by_reply_of c conns v a o0 q0 guid i_reply_of =
     λ j n p o y. let old = i_reply_of j n p o y in grind (arith, get-push)
 
-pub expire_by_creates : (c : Client) (conns : ℕ → Conn) (v : Seen) (a : ℕ → ℕ) (o0 : ℕ) (q0 : Option ℕ) → ((v.opened o0).create_guid ≡ q0) → Creates c conns v a → Creates c conns (expire_by v o0 q0) a
+pub expire_by_creates : (c : Client) (conns : ℕ → Conn) (v : Seen) (a : ℕ → ℕ) (o0 : ℕ) (q0 : Option ℕ)
+    → ((v.opened o0).create_guid ≡ q0) → Creates c conns v a → Creates c conns (expire_by v o0 q0) a
 expire_by_creates c conns v a o0 q0 guid i =
     record {
       made = expire_by_made c conns v a o0 q0 guid i.made;

@@ -1,5 +1,6 @@
 -- What is known where the server takes a message: of the client, of what waits, and of the columns that an expiry leaves.
-use Rattle.std.proofs.Common.{eqb-true, ◌≡◌, ℕ, ◌<◌, ◌==◌, Bool, true, false, if◌then◌else◌, List, Option, Some, None, slice_get, is_some, refl, arith, sym, ◌∙◌, subst, not}
+use Rattle.std.proofs.Common.{eqb-true, ◌≡◌, ℕ, ◌<◌, ◌==◌, Bool, true, false, if◌then◌else◌, List, Option, Some, None}
+use Rattle.std.proofs.Common.{slice_get, is_some, refl, arith, sym, ◌∙◌, subst, not}
 use Rattle.exchange_defs.specs.Commands.{Command, Create, CreateRequest}
 use Rattle.exchange_defs.specs.State.{Server, Tree, Making}
 use Rattle.exchange_defs.specs.CheckSetup.{tree_in, is_new}
@@ -34,7 +35,9 @@ pub record Facing (c : Client) (conns : ℕ → Conn) (r : Rest) (k : ℕ) (x0 :
   pub making : (j x : ℕ) → is_new x (r.making j) ≡ true → c.rank x ≡ 0
   pub users : (x : ℕ) → r.present x ≡ true → r.user x ≡ logon_user c.who.logon
   pub on_present : (j x : ℕ) → r.session_on j ≡ Some x → r.present x ≡ true
-  pub trees : (j n : ℕ) (x : Sent) → slice_get (conns j).up n ≡ Some x → is_ops x.token ≡ true → r.present x.message.session_id ≡ true → is_some (tree_in (r.trees x.message.session_id) x.message.tree_id) ≡ true
+  pub trees : (j n : ℕ) (x : Sent) → slice_get (conns j).up n ≡ Some x → is_ops x.token ≡ true
+      → r.present x.message.session_id ≡ true → is_some (tree_in (r.trees x.message.session_id) x.message.tree_id)
+      ≡ true
   pub kinds : (x id : ℕ) (b : Bool) → tree_in (r.trees x) id ≡ Some b → has_files c.who.share ≡ not b
 
 -- ---- an expiry
@@ -68,7 +71,8 @@ same_send : (g h : ℕ) → (g ≡ h → Bool → true ≡ false) → (g == h) �
 same_send g h f = elim (g == h) as (λ b. g == h ≡ b → (g == h) ≡ false) [ true ↦ λ e. e ∙ f (eqb-true g h e) true | false ↦ λ e. e ] refl
 
 -- a message that doesn't create is no create's own
-pub other_send : (c : Client) (conns : ℕ → Conn) (a : ℕ → ℕ) (k : ℕ) (x0 : Sent) → Connections c conns a → slice_get (conns k).up 0 ≡ Some x0 → is_creating x0.message.command ≡ false
+pub other_send : (c : Client) (conns : ℕ → Conn) (a : ℕ → ℕ) (k : ℕ) (x0 : Sent) → Connections c conns a
+    → slice_get (conns k).up 0 ≡ Some x0 → is_creating x0.message.command ≡ false
     → (h : ℕ) → makes_open (c.op h) ≡ true → is_send_of h x0.token ≡ false
 other_send c conns a k x0 f front off h mk = by_token x0.token refl
   where
@@ -78,20 +82,25 @@ other_send c conns a k x0 f front off h mk = by_token x0.token refl
     by_token (ForOp g) e =
         same_send g h (λ same _. let bd = f.bodies k 0 g x0 front e in
         let mk2 : makes_open (c.op g) ≡ true = subst (λ q. makes_open (c.op q) ≡ true) (sym same) mk in
-        sym (creating x0.message.command _ _ bd.1 (asks_create (c.op g) (guid_for c g) (c.file (create_at c g)) (c.slot_of g) (c.number_of g) mk2)) ∙ off)
+        sym (creating x0.message.command _ _ bd.1 (asks_create (c.op g) (guid_for c g) (c.file (create_at c g))
+        (c.slot_of g) (c.number_of g) mk2)) ∙ off)
 
 -- a message that creates, and asks for no open that stands, is a create's own
-pub own_create : (c : Client) (conns : ℕ → Conn) (a : ℕ → ℕ) (k : ℕ) (x0 : Sent) (r : CreateRequest) (P : Type 0) → Connections c conns a → DialogUp conns → AskUp conns → slice_get (conns k).up 0 ≡ Some x0
+pub own_create : (c : Client) (conns : ℕ → Conn) (a : ℕ → ℕ) (k : ℕ) (x0 : Sent) (r : CreateRequest) (P : Type 0)
+    → Connections c conns a → DialogUp conns → AskUp conns → slice_get (conns k).up 0 ≡ Some x0
     → x0.message.command ≡ Create r → r.reconnect ≡ None → ((g : ℕ) → x0.token ≡ ForOp g → makes_open (c.op g) ≡ true → P) → P
 own_create c conns a k x0 r P f dialog ask front is new go = by_token x0.token refl
   where
     by_token : (tk : Token) → x0.token ≡ tk → P
     by_token ForDialog e = let d = dialog k 0 x0 front e in absurd (grind arith)
     by_token (ForAttach g) e = let d = ask k 0 g x0 front e in absurd (grind arith)
-    by_token (ForOp g) e = let bd = f.bodies k 0 g x0 front e in go g e (makes_of (c.op g) (guid_for c g) (c.file (create_at c g)) (c.slot_of g) (c.number_of g) r (sym bd.1 ∙ is))
+    by_token (ForOp g) e = let bd = f.bodies k 0 g x0 front e in
+        go g e (makes_of (c.op g) (guid_for c g) (c.file (create_at c g)) (c.slot_of g) (c.number_of g) r
+        (sym bd.1 ∙ is))
 
 -- a message that creates is of an operation
-pub of_op : (conns : ℕ → Conn) (k : ℕ) (x0 : Sent) (r : CreateRequest) → DialogUp conns → slice_get (conns k).up 0 ≡ Some x0 → x0.message.command ≡ Create r → is_ops x0.token ≡ true
+pub of_op : (conns : ℕ → Conn) (k : ℕ) (x0 : Sent) (r : CreateRequest) → DialogUp conns → slice_get (conns k).up 0
+    ≡ Some x0 → x0.message.command ≡ Create r → is_ops x0.token ≡ true
 of_op conns k x0 r dialog front is = by_token x0.token refl
   where
     by_token : (tk : Token) → x0.token ≡ tk → is_ops tk ≡ true

@@ -5,7 +5,8 @@ use Rattle.exchange_defs.specs.Client.{Client}
 use Rattle.exchange_defs.specs.Network.{Conn}
 use Rattle.create_law.specs.Creates.{Seen, Creates}
 
-pub fills_creates : (c : Client) (conns : ℕ → Conn) (v : Seen) (a : ℕ → ℕ) (create slot : ℕ) → Creates c conns v a → Creates (record c { full = put2 c.full create slot true }) conns v a
+pub fills_creates : (c : Client) (conns : ℕ → Conn) (v : Seen) (a : ℕ → ℕ) (create slot : ℕ) → Creates c conns v a
+    → Creates (record c { full = put2 c.full create slot true }) conns v a
 fills_creates c conns v a create slot i =
     record {
       made = i.made;

@@ -14,7 +14,8 @@ finished_refused_not : (c : Client) (conns : ℕ → Conn) (v : Seen) (a : ℕ �
 finished_refused_not c conns v a why i_refused_not =
     λ p. let old = i_refused_not p in grind arith
 
-finished_dead_refused : (c : Client) (conns : ℕ → Conn) (v : Seen) (a : ℕ → ℕ) (why : Why) → DeadRefused c conns v → DeadRefused (finish c why) conns v
+finished_dead_refused : (c : Client) (conns : ℕ → Conn) (v : Seen) (a : ℕ → ℕ) (why : Why) → DeadRefused c conns v
+    → DeadRefused (finish c why) conns v
 finished_dead_refused c conns v a why i_dead_refused =
     λ j n p y. let old = i_dead_refused j n p y in grind (arith, get-push)
 
@@ -34,7 +35,8 @@ finished_plain_dead : (c : Client) (conns : ℕ → Conn) (v : Seen) (a : ℕ �
 finished_plain_dead c conns v a why i_plain_dead =
     λ p. let old = i_plain_dead p in grind arith
 
-pub finished_creates : (c : Client) (conns : ℕ → Conn) (v : Seen) (a : ℕ → ℕ) (why : Why) → Creates c conns v a → Creates (finish c why) conns v a
+pub finished_creates : (c : Client) (conns : ℕ → Conn) (v : Seen) (a : ℕ → ℕ) (why : Why) → Creates c conns v a
+    → Creates (finish c why) conns v a
 finished_creates c conns v a why i =
     record {
       made = i.made;

@@ -3,7 +3,8 @@ use Rattle.std.proofs.Common.{◌≡◌, ℕ, ◌≤◌, true, false, List, [], 
 use Rattle.exchange_defs.specs.State.{Server, Open}
 use Rattle.exchange_defs.specs.Fold.{fold_from, sweep, recovered_from}
 use Rattle.exchange_defs.specs.Operations.{Op, Outcome, is_create, is_ok, is_unsettled}
-use Rattle.exchange_defs.specs.Network.{World, Event, Serve, Sent, Settings, happens, run, start, later, may_serve, serve_front, absorb_front}
+use Rattle.exchange_defs.specs.Network.{World, Event, Serve, Sent, Settings, happens, run, start, later, may_serve}
+use Rattle.exchange_defs.specs.Network.{serve_front, absorb_front}
 use Rattle.exchange_defs.specs.Runs.{acts, never_acted}
 use Rattle.exchange_law.specs.Connections.{makes_open}
 use Rattle.exchange_law.proofs.Run.{connections}
@@ -45,7 +46,8 @@ anew_behind : (w : World) (k : ℕ) (xs : List Sent) → StartsAnew (serve_front
 anew_behind w k [] h = h
 anew_behind w k (x ∷ rest) h = h
 
-anew_kept : (w : World) (k : ℕ) → may_serve w k ≡ true → Fits (happens w (Serve k)).server → Recovers (happens w (Serve k)).records (happens w (Serve k)).server → StartsAnew (absorb_front w k (w.conns k).up)
+anew_kept : (w : World) (k : ℕ) → may_serve w k ≡ true → Fits (happens w (Serve k)).server
+    → Recovers (happens w (Serve k)).records (happens w (Serve k)).server → StartsAnew (absorb_front w k (w.conns k).up)
 anew_kept w k may f r =
     let e : happens w (Serve k) ≡ later (serve_front w k (w.conns k).up) 1 = rw may refl in
     anew_behind w k (w.conns k).up (subst StartsAnew e (anew_at (happens w (Serve k)) f r))
@@ -59,7 +61,16 @@ known z es =
     let f = fitting z es in
     record {
       fit = connections z es;
-      below = record { ranked = s.ranked_up; here = s.present_accepted; lives = s.live_accepted; making = s.making_unranked; users = s.session_users; on_present = f.on_present; trees = s.tree_up; kinds = kinds z es };
+      below = record {
+        ranked = s.ranked_up;
+        here = s.present_accepted;
+        lives = s.live_accepted;
+        making = s.making_unranked;
+        users = s.session_users;
+        on_present = f.on_present;
+        trees = s.tree_up;
+        kinds = kinds z es;
+      };
       anew = anew_at w f (recovers z (fitting z) es);
       anew_kept = λ k may. anew_kept w k may
           (one_event_on (λ (v : World) a. Fits v.server) z (fitting z) es (Serve k))
@@ -112,13 +123,16 @@ at_most_of z es g e = (creates z es).at_most g (of_create _ e)
 one_of : (n : ℕ) → n ≤ 1 → 1 ≤ n → n ≡ 1
 one_of n l m = omega (arith, l, m)
 
-pub acknowledged_of : (z : Settings) → (es : List Event) (g : ℕ) → is_create ((run es (start z)).client.op g) ≡ true → is_ok ((run es (start z)).client.outcome g) ≡ true → acts es (start z) g ≡ 1
+pub acknowledged_of : (z : Settings) → (es : List Event) (g : ℕ) → is_create ((run es (start z)).client.op g) ≡ true
+    → is_ok ((run es (start z)).client.outcome g) ≡ true → acts es (start z) g ≡ 1
 acknowledged_of z es g e ok = one_of (acts es (start z) g) (at_most_of z es g e) ((creates z es).ok_acted g (of_create _ e) ok)
 
 never_settled : (o : Outcome) → never_acted o ≡ true → is_unsettled o ≡ false
 never_settled o e = grind arith
 
-pub never_of : (z : Settings) → (es more : List Event) (g : ℕ) → is_create ((run es (start z)).client.op g) ≡ true → never_acted ((run es (start z)).client.outcome g) ≡ true → acts (es ++ more) (start z) g ≡ 0
+pub never_of : (z : Settings) → (es more : List Event) (g : ℕ) → is_create ((run es (start z)).client.op g) ≡ true
+    → never_acted ((run es (start z)).client.outcome g) ≡ true → acts (es ++ more) (start z) g ≡ 0
 never_of z es more g e never =
     let s = never_settled ((run es (start z)).client.outcome g) never in
-    (creates z (es ++ more)).refused_not g (of_create _ (ap is_create (settled_op z es more g s) ∙ e)) (ap never_acted (settled_stays z es more g s) ∙ never)
+    (creates z (es ++ more)).refused_not g (of_create _ (ap is_create (settled_op z es more g s) ∙ e))
+    (ap never_acted (settled_stays z es more g s) ∙ never)

@@ -28,7 +28,11 @@ make_new v o row x q =
 
 -- an open of this guid leaves
 abbrev pub leave_by : Seen → ℕ → Option ℕ → Seen
-leave_by v o q = record v { standing = put v.standing o false; session_of_open = put v.session_of_open o None; by_guid = with_guid v.by_guid (v.opened o).client_guid q None }
+leave_by v o q = record v {
+  standing = put v.standing o false;
+  session_of_open = put v.session_of_open o None;
+  by_guid = with_guid v.by_guid (v.opened o).client_guid q None;
+}
 
 abbrev pub closed_by : (ℕ → ℕ → Bool) → ℕ → Option ℕ → ℕ → ℕ → Bool
 closed_by closed x None = closed

@@ -5,45 +5,56 @@ use Rattle.exchange_defs.specs.Client.{Client}
 use Rattle.exchange_defs.specs.Dialogs.{open_channel}
 use Rattle.exchange_defs.specs.Network.{Conn, fresh as fresh_conn}
 use Rattle.exchange_law.proofs.Lists.{get-push}
-use Rattle.create_law.specs.Creates.{Seen, Creates, ActedKept, DeadRefused, NoReply, BarredReply, OkReply, ReplyGuid, ReplyOf, DialogUp, AskUp}
+use Rattle.create_law.specs.Creates.{Seen, Creates, ActedKept, DeadRefused, NoReply, BarredReply, OkReply, ReplyGuid}
+use Rattle.create_law.specs.Creates.{ReplyOf, DialogUp, AskUp}
 
-opened_acted_kept : (c : Client) (conns : ℕ → Conn) (v : Seen) (a : ℕ → ℕ) (k : ℕ) (served : Bool) → ActedKept c conns v a → ActedKept (open_channel c k) (put conns k (fresh_conn c k served)) v a
+opened_acted_kept : (c : Client) (conns : ℕ → Conn) (v : Seen) (a : ℕ → ℕ) (k : ℕ) (served : Bool)
+    → ActedKept c conns v a → ActedKept (open_channel c k) (put conns k (fresh_conn c k served)) v a
 opened_acted_kept c conns v a k served i_acted_kept =
     λ j n p y. let old = i_acted_kept j n p y in grind (arith, get-push)
 
-opened_dead_refused : (c : Client) (conns : ℕ → Conn) (v : Seen) (a : ℕ → ℕ) (k : ℕ) (served : Bool) → DeadRefused c conns v → DeadRefused (open_channel c k) (put conns k (fresh_conn c k served)) v
+opened_dead_refused : (c : Client) (conns : ℕ → Conn) (v : Seen) (a : ℕ → ℕ) (k : ℕ) (served : Bool)
+    → DeadRefused c conns v → DeadRefused (open_channel c k) (put conns k (fresh_conn c k served)) v
 opened_dead_refused c conns v a k served i_dead_refused =
     λ j n p y. let old = i_dead_refused j n p y in grind (arith, get-push)
 
-opened_no_reply : (c : Client) (conns : ℕ → Conn) (v : Seen) (a : ℕ → ℕ) (k : ℕ) (served : Bool) → NoReply c conns a → NoReply (open_channel c k) (put conns k (fresh_conn c k served)) a
+opened_no_reply : (c : Client) (conns : ℕ → Conn) (v : Seen) (a : ℕ → ℕ) (k : ℕ) (served : Bool) → NoReply c conns a
+    → NoReply (open_channel c k) (put conns k (fresh_conn c k served)) a
 opened_no_reply c conns v a k served i_no_reply =
     λ j n p y. let old = i_no_reply j n p y in grind (arith, get-push)
 
-opened_barred_reply : (c : Client) (conns : ℕ → Conn) (v : Seen) (a : ℕ → ℕ) (k : ℕ) (served : Bool) → BarredReply c conns v → BarredReply (open_channel c k) (put conns k (fresh_conn c k served)) v
+opened_barred_reply : (c : Client) (conns : ℕ → Conn) (v : Seen) (a : ℕ → ℕ) (k : ℕ) (served : Bool)
+    → BarredReply c conns v → BarredReply (open_channel c k) (put conns k (fresh_conn c k served)) v
 opened_barred_reply c conns v a k served i_barred_reply =
     λ j n p y. let old = i_barred_reply j n p y in grind (arith, get-push)
 
-opened_ok_reply : (c : Client) (conns : ℕ → Conn) (v : Seen) (a : ℕ → ℕ) (k : ℕ) (served : Bool) → OkReply c conns a → OkReply (open_channel c k) (put conns k (fresh_conn c k served)) a
+opened_ok_reply : (c : Client) (conns : ℕ → Conn) (v : Seen) (a : ℕ → ℕ) (k : ℕ) (served : Bool) → OkReply c conns a
+    → OkReply (open_channel c k) (put conns k (fresh_conn c k served)) a
 opened_ok_reply c conns v a k served i_ok_reply =
     λ j n p y. let old = i_ok_reply j n p y in grind (arith, get-push)
 
-opened_reply_guid : (c : Client) (conns : ℕ → Conn) (v : Seen) (a : ℕ → ℕ) (k : ℕ) (served : Bool) → ReplyGuid c conns v → ReplyGuid (open_channel c k) (put conns k (fresh_conn c k served)) v
+opened_reply_guid : (c : Client) (conns : ℕ → Conn) (v : Seen) (a : ℕ → ℕ) (k : ℕ) (served : Bool) → ReplyGuid c conns v
+    → ReplyGuid (open_channel c k) (put conns k (fresh_conn c k served)) v
 opened_reply_guid c conns v a k served i_reply_guid =
     λ j n p y. let old = i_reply_guid j n p y in grind (arith, get-push)
 
-opened_reply_of : (c : Client) (conns : ℕ → Conn) (v : Seen) (a : ℕ → ℕ) (k : ℕ) (served : Bool) → ReplyOf c conns v → ReplyOf (open_channel c k) (put conns k (fresh_conn c k served)) v
+opened_reply_of : (c : Client) (conns : ℕ → Conn) (v : Seen) (a : ℕ → ℕ) (k : ℕ) (served : Bool) → ReplyOf c conns v
+    → ReplyOf (open_channel c k) (put conns k (fresh_conn c k served)) v
 opened_reply_of c conns v a k served i_reply_of =
     λ j n p o y. let old = i_reply_of j n p o y in grind (arith, get-push)
 
-opened_dialog_up : (c : Client) (conns : ℕ → Conn) (v : Seen) (a : ℕ → ℕ) (k : ℕ) (served : Bool) → DialogUp conns → DialogUp (put conns k (fresh_conn c k served))
+opened_dialog_up : (c : Client) (conns : ℕ → Conn) (v : Seen) (a : ℕ → ℕ) (k : ℕ) (served : Bool) → DialogUp conns
+    → DialogUp (put conns k (fresh_conn c k served))
 opened_dialog_up c conns v a k served i_dialog_up =
     λ j n y. let old = i_dialog_up j n y in grind (arith, get-push)
 
-opened_ask_up : (c : Client) (conns : ℕ → Conn) (v : Seen) (a : ℕ → ℕ) (k : ℕ) (served : Bool) → AskUp conns → AskUp (put conns k (fresh_conn c k served))
+opened_ask_up : (c : Client) (conns : ℕ → Conn) (v : Seen) (a : ℕ → ℕ) (k : ℕ) (served : Bool) → AskUp conns
+    → AskUp (put conns k (fresh_conn c k served))
 opened_ask_up c conns v a k served i_ask_up =
     λ j n p y. let old = i_ask_up j n p y in grind (arith, get-push)
 
-pub opened_creates : (c : Client) (conns : ℕ → Conn) (v : Seen) (a : ℕ → ℕ) (k : ℕ) (served : Bool) → Creates c conns v a → Creates (open_channel c k) (put conns k (fresh_conn c k served)) v a
+pub opened_creates : (c : Client) (conns : ℕ → Conn) (v : Seen) (a : ℕ → ℕ) (k : ℕ) (served : Bool)
+    → Creates c conns v a → Creates (open_channel c k) (put conns k (fresh_conn c k served)) v a
 opened_creates c conns v a k served i =
     record {
       made = i.made;

@@ -6,15 +6,24 @@ use Rattle.exchange_defs.specs.Client.{Client}
 use Rattle.exchange_defs.specs.Network.{Conn}
 use Rattle.create_law.specs.Creates.{Seen, Creates, FileGuid, FileOf}
 
-opens_file_guid : (c : Client) (conns : ℕ → Conn) (v : Seen) (a : ℕ → ℕ) (g id : ℕ) → (is_unsettled (c.outcome g) ≡ true) → FileGuid c v → FileGuid (record c { file = put c.file g id; attached = put c.attached g c.session_number }) v
+opens_file_guid : (c : Client) (conns : ℕ → Conn) (v : Seen) (a : ℕ → ℕ) (g id : ℕ)
+    → (is_unsettled (c.outcome g) ≡ true) → FileGuid c v → FileGuid (record c {
+      file = put c.file g id;
+      attached = put c.attached g c.session_number;
+    }) v
 opens_file_guid c conns v a g id pending i_file_guid =
     λ p. let old = i_file_guid p in grind arith
 
-opens_file_of : (c : Client) (conns : ℕ → Conn) (v : Seen) (a : ℕ → ℕ) (g id : ℕ) → (is_unsettled (c.outcome g) ≡ true) → FileOf c v → FileOf (record c { file = put c.file g id; attached = put c.attached g c.session_number }) v
+opens_file_of : (c : Client) (conns : ℕ → Conn) (v : Seen) (a : ℕ → ℕ) (g id : ℕ) → (is_unsettled (c.outcome g) ≡ true)
+    → FileOf c v → FileOf (record c { file = put c.file g id; attached = put c.attached g c.session_number }) v
 opens_file_of c conns v a g id pending i_file_of =
     λ p o. let old = i_file_of p o in grind arith
 
-pub opens_creates : (c : Client) (conns : ℕ → Conn) (v : Seen) (a : ℕ → ℕ) (g id : ℕ) → (is_unsettled (c.outcome g) ≡ true) → Creates c conns v a → Creates (record c { file = put c.file g id; attached = put c.attached g c.session_number }) conns v a
+pub opens_creates : (c : Client) (conns : ℕ → Conn) (v : Seen) (a : ℕ → ℕ) (g id : ℕ)
+    → (is_unsettled (c.outcome g) ≡ true) → Creates c conns v a → Creates (record c {
+      file = put c.file g id;
+      attached = put c.attached g c.session_number;
+    }) conns v a
 opens_creates c conns v a g id pending i =
     record {
       made = i.made;

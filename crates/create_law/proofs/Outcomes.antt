@@ -6,35 +6,56 @@ use Rattle.exchange_defs.specs.Network.{Conn}
 use Rattle.exchange_law.specs.Connections.{makes_open}
 use Rattle.create_law.specs.Creates.{Seen, Creates, Unclosed, RefusedNot, DeadRefused, OkActed, FileGuid, FileOf, PlainDead}
 
-outcomes_unclosed : (c : Client) (conns : ℕ → Conn) (v : Seen) (a : ℕ → ℕ) (new : ℕ → Outcome) → ((h : ℕ) → makes_open (c.op h) ≡ true → new h ≡ c.outcome h) → Unclosed c v a → Unclosed (record c { outcome = new }) v a
+outcomes_unclosed : (c : Client) (conns : ℕ → Conn) (v : Seen) (a : ℕ → ℕ) (new : ℕ → Outcome)
+    → ((h : ℕ) → makes_open (c.op h) ≡ true → new h ≡ c.outcome h) → Unclosed c v a → Unclosed (record c {
+      outcome = new;
+    }) v a
 outcomes_unclosed c conns v a new same i_unclosed =
     λ p. let old = i_unclosed p in let s = same p in grind arith
 
-outcomes_refused_not : (c : Client) (conns : ℕ → Conn) (v : Seen) (a : ℕ → ℕ) (new : ℕ → Outcome) → ((h : ℕ) → makes_open (c.op h) ≡ true → new h ≡ c.outcome h) → RefusedNot c a → RefusedNot (record c { outcome = new }) a
+outcomes_refused_not : (c : Client) (conns : ℕ → Conn) (v : Seen) (a : ℕ → ℕ) (new : ℕ → Outcome)
+    → ((h : ℕ) → makes_open (c.op h) ≡ true → new h ≡ c.outcome h) → RefusedNot c a → RefusedNot (record c {
+      outcome = new;
+    }) a
 outcomes_refused_not c conns v a new same i_refused_not =
     λ p. let old = i_refused_not p in let s = same p in grind arith
 
-outcomes_dead_refused : (c : Client) (conns : ℕ → Conn) (v : Seen) (a : ℕ → ℕ) (new : ℕ → Outcome) → ((h : ℕ) → makes_open (c.op h) ≡ true → new h ≡ c.outcome h) → DeadRefused c conns v → DeadRefused (record c { outcome = new }) conns v
+outcomes_dead_refused : (c : Client) (conns : ℕ → Conn) (v : Seen) (a : ℕ → ℕ) (new : ℕ → Outcome)
+    → ((h : ℕ) → makes_open (c.op h) ≡ true → new h ≡ c.outcome h) → DeadRefused c conns v → DeadRefused (record c {
+      outcome = new;
+    }) conns v
 outcomes_dead_refused c conns v a new same i_dead_refused =
     λ j n p y. let old = i_dead_refused j n p y in let s = same p in grind arith
 
-outcomes_ok_acted : (c : Client) (conns : ℕ → Conn) (v : Seen) (a : ℕ → ℕ) (new : ℕ → Outcome) → ((h : ℕ) → makes_open (c.op h) ≡ true → new h ≡ c.outcome h) → OkActed c a → OkActed (record c { outcome = new }) a
+outcomes_ok_acted : (c : Client) (conns : ℕ → Conn) (v : Seen) (a : ℕ → ℕ) (new : ℕ → Outcome)
+    → ((h : ℕ) → makes_open (c.op h) ≡ true → new h ≡ c.outcome h) → OkActed c a → OkActed (record c { outcome = new })
+    a
 outcomes_ok_acted c conns v a new same i_ok_acted =
     λ p. let old = i_ok_acted p in let s = same p in grind arith
 
-outcomes_file_guid : (c : Client) (conns : ℕ → Conn) (v : Seen) (a : ℕ → ℕ) (new : ℕ → Outcome) → ((h : ℕ) → makes_open (c.op h) ≡ true → new h ≡ c.outcome h) → FileGuid c v → FileGuid (record c { outcome = new }) v
+outcomes_file_guid : (c : Client) (conns : ℕ → Conn) (v : Seen) (a : ℕ → ℕ) (new : ℕ → Outcome)
+    → ((h : ℕ) → makes_open (c.op h) ≡ true → new h ≡ c.outcome h) → FileGuid c v → FileGuid (record c {
+      outcome = new;
+    }) v
 outcomes_file_guid c conns v a new same i_file_guid =
     λ p. let old = i_file_guid p in let s = same p in grind arith
 
-outcomes_file_of : (c : Client) (conns : ℕ → Conn) (v : Seen) (a : ℕ → ℕ) (new : ℕ → Outcome) → ((h : ℕ) → makes_open (c.op h) ≡ true → new h ≡ c.outcome h) → FileOf c v → FileOf (record c { outcome = new }) v
+outcomes_file_of : (c : Client) (conns : ℕ → Conn) (v : Seen) (a : ℕ → ℕ) (new : ℕ → Outcome)
+    → ((h : ℕ) → makes_open (c.op h) ≡ true → new h ≡ c.outcome h) → FileOf c v → FileOf (record c { outcome = new }) v
 outcomes_file_of c conns v a new same i_file_of =
     λ p o. let old = i_file_of p o in let s = same p in grind arith
 
-outcomes_plain_dead : (c : Client) (conns : ℕ → Conn) (v : Seen) (a : ℕ → ℕ) (new : ℕ → Outcome) → ((h : ℕ) → makes_open (c.op h) ≡ true → new h ≡ c.outcome h) → PlainDead c → PlainDead (record c { outcome = new })
+outcomes_plain_dead : (c : Client) (conns : ℕ → Conn) (v : Seen) (a : ℕ → ℕ) (new : ℕ → Outcome)
+    → ((h : ℕ) → makes_open (c.op h) ≡ true → new h ≡ c.outcome h) → PlainDead c → PlainDead (record c {
+      outcome = new;
+    })
 outcomes_plain_dead c conns v a new same i_plain_dead =
     λ p. let old = i_plain_dead p in let s = same p in grind arith
 
-pub outcomes_creates : (c : Client) (conns : ℕ → Conn) (v : Seen) (a : ℕ → ℕ) (new : ℕ → Outcome) → ((h : ℕ) → makes_open (c.op h) ≡ true → new h ≡ c.outcome h) → Creates c conns v a → Creates (record c { outcome = new }) conns v a
+pub outcomes_creates : (c : Client) (conns : ℕ → Conn) (v : Seen) (a : ℕ → ℕ) (new : ℕ → Outcome)
+    → ((h : ℕ) → makes_open (c.op h) ≡ true → new h ≡ c.outcome h) → Creates c conns v a → Creates (record c {
+      outcome = new;
+    }) conns v a
 outcomes_creates c conns v a new same i =
     record {
       made = i.made;

@@ -6,19 +6,26 @@ use Rattle.exchange_law.specs.Connections.{Connections, Outstanding, DownOpen, O
 use Rattle.exchange_law.proofs.Lists.{own_down_count}
 use Rattle.create_law.specs.Creates.{Seen, Creates, Unclosed, BarredReply, PlainDead}
 
-readied_unclosed : (c : Client) (conns : ℕ → Conn) (v : Seen) (a : ℕ → ℕ) (k session tree : ℕ) → (c.live ≡ false) → Unclosed c v a → PlainDead c → Fresh c a → Unclosed (begin_session c k session tree) v a
+readied_unclosed : (c : Client) (conns : ℕ → Conn) (v : Seen) (a : ℕ → ℕ) (k session tree : ℕ) → (c.live ≡ false)
+    → Unclosed c v a → PlainDead c → Fresh c a → Unclosed (begin_session c k session tree) v a
 readied_unclosed c conns v a k session tree dead i_unclosed i_plain_dead f_fresh =
     λ p. let old = i_unclosed p in let pd = i_plain_dead p in let fr = f_fresh p in grind arith
 
-readied_barred_reply : (c : Client) (conns : ℕ → Conn) (v : Seen) (a : ℕ → ℕ) (k session tree : ℕ) → (c.live ≡ false) → BarredReply c conns v → DownOpen conns → OnReady c → Outstanding c conns → Ready c conns → SentReplies c conns → Taken c → BarredReply (begin_session c k session tree) conns v
+readied_barred_reply : (c : Client) (conns : ℕ → Conn) (v : Seen) (a : ℕ → ℕ) (k session tree : ℕ) → (c.live ≡ false)
+    → BarredReply c conns v → DownOpen conns → OnReady c → Outstanding c conns → Ready c conns → SentReplies c conns
+    → Taken c → BarredReply (begin_session c k session tree) conns v
 readied_barred_reply c conns v a k session tree dead i_barred_reply f_down_open f_on_ready f_outstanding f_ready f_sent_replies f_taken =
-    λ j n p y h t. let h' = h in let n1 = own_down_count p (conns j).down n y h' t in let u = f_outstanding j p in let d = f_down_open j in let sr = f_sent_replies j n p y h' t in let tk = f_taken p sr in let on = f_on_ready p j in let rd = f_ready j in grind arith
+    λ j n p y h t. let h' = h in let n1 = own_down_count p (conns j).down n y h' t in let u = f_outstanding j p in
+    let d = f_down_open j in let sr = f_sent_replies j n p y h' t in let tk = f_taken p sr in let on =
+    f_on_ready p j in let rd = f_ready j in grind arith
 
-readied_plain_dead : (c : Client) (conns : ℕ → Conn) (v : Seen) (a : ℕ → ℕ) (k session tree : ℕ) → (c.live ≡ false) → PlainDead c → PlainDead (begin_session c k session tree)
+readied_plain_dead : (c : Client) (conns : ℕ → Conn) (v : Seen) (a : ℕ → ℕ) (k session tree : ℕ) → (c.live ≡ false)
+    → PlainDead c → PlainDead (begin_session c k session tree)
 readied_plain_dead c conns v a k session tree dead i_plain_dead =
     λ p. let old = i_plain_dead p in grind arith
 
-pub readied_creates : (c : Client) (conns : ℕ → Conn) (v : Seen) (a : ℕ → ℕ) (k session tree : ℕ) → (c.live ≡ false) → Connections c conns a → Creates c conns v a → Creates (begin_session c k session tree) conns v a
+pub readied_creates : (c : Client) (conns : ℕ → Conn) (v : Seen) (a : ℕ → ℕ) (k session tree : ℕ) → (c.live ≡ false)
+    → Connections c conns a → Creates c conns v a → Creates (begin_session c k session tree) conns v a
 readied_creates c conns v a k session tree dead f i =
     record {
       made = i.made;
@@ -34,7 +41,8 @@ readied_creates c conns v a k session tree dead f i =
       refused_not = i.refused_not;
       dead_refused = i.dead_refused;
       no_reply = i.no_reply;
-      barred_reply = readied_barred_reply c conns v a k session tree dead i.barred_reply f.down_open f.on_ready f.outstanding f.ready f.sent_replies f.taken;
+      barred_reply = readied_barred_reply c conns v a k session tree dead i.barred_reply f.down_open f.on_ready
+          f.outstanding f.ready f.sent_replies f.taken;
       refused_status = i.refused_status;
       ok_acted = i.ok_acted;
       ok_reply = i.ok_reply;

@@ -7,19 +7,23 @@ use Rattle.create_law.specs.Creates.{Seen, Creates, DeadRefused, BarredReply, Re
 use Rattle.create_law.proofs.Words.{full_more}
 use Rattle.create_law.proofs.Moves.{refuse_in}
 
-refuse_in_dead_refused : (c : Client) (conns : ℕ → Conn) (v : Seen) (a : ℕ → ℕ) (x q0 status : ℕ) → ((status == success) ≡ false) → DeadRefused c conns v → DeadRefused c conns (refuse_in v x q0 status)
+refuse_in_dead_refused : (c : Client) (conns : ℕ → Conn) (v : Seen) (a : ℕ → ℕ) (x q0 status : ℕ)
+    → ((status == success) ≡ false) → DeadRefused c conns v → DeadRefused c conns (refuse_in v x q0 status)
 refuse_in_dead_refused c conns v a x q0 status bad i_dead_refused =
     λ j n p y h t m e s. let old = i_dead_refused j n p y h t m e s in let fm = full_more (v.guids x) in grind arith
 
-refuse_in_barred_reply : (c : Client) (conns : ℕ → Conn) (v : Seen) (a : ℕ → ℕ) (x q0 status : ℕ) → ((status == success) ≡ false) → BarredReply c conns v → BarredReply c conns (refuse_in v x q0 status)
+refuse_in_barred_reply : (c : Client) (conns : ℕ → Conn) (v : Seen) (a : ℕ → ℕ) (x q0 status : ℕ)
+    → ((status == success) ≡ false) → BarredReply c conns v → BarredReply c conns (refuse_in v x q0 status)
 refuse_in_barred_reply c conns v a x q0 status bad i_barred_reply =
     λ j n p y h t m e s u. let old = i_barred_reply j n p y h t m e s u in let fm = full_more (v.guids x) in grind arith
 
-refuse_in_refused_status : (c : Client) (conns : ℕ → Conn) (v : Seen) (a : ℕ → ℕ) (x q0 status : ℕ) → ((status == success) ≡ false) → RefusedStatus v → RefusedStatus (refuse_in v x q0 status)
+refuse_in_refused_status : (c : Client) (conns : ℕ → Conn) (v : Seen) (a : ℕ → ℕ) (x q0 status : ℕ)
+    → ((status == success) ≡ false) → RefusedStatus v → RefusedStatus (refuse_in v x q0 status)
 refuse_in_refused_status c conns v a x q0 status bad i_refused_status =
     λ z q t. let old = i_refused_status z q t in grind arith
 
-pub refuse_in_creates : (c : Client) (conns : ℕ → Conn) (v : Seen) (a : ℕ → ℕ) (x q0 status : ℕ) → ((status == success) ≡ false) → Creates c conns v a → Creates c conns (refuse_in v x q0 status) a
+pub refuse_in_creates : (c : Client) (conns : ℕ → Conn) (v : Seen) (a : ℕ → ℕ) (x q0 status : ℕ)
+    → ((status == success) ≡ false) → Creates c conns v a → Creates c conns (refuse_in v x q0 status) a
 refuse_in_creates c conns v a x q0 status bad i =
     record {
       made = i.made;

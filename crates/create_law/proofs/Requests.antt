@@ -1,17 +1,21 @@
 -- What the request of an operation is, read back from the command.
 use Rattle.std.proofs.Common.{◌≡◌, ℕ, Bool, true, false, not, [], Some, None, is_some, refl, arith}
 use Rattle.exchange_defs.specs.Commands.{Create, Close, CreateRequest, deletes_on_close, create_form, has_bit}
-use Rattle.exchange_defs.specs.Operations.{Op, OpCreate, OpWrite, OpRead, OpEnd, OpTime, OpRename, OpRemove, OpLock, OpUnlock, OpFlush, OpStat, OpList, OpClose, create_request, durable_of, options_of}
+use Rattle.exchange_defs.specs.Operations.{Op, OpCreate, OpWrite, OpRead, OpEnd, OpTime, OpRename, OpRemove, OpLock}
+use Rattle.exchange_defs.specs.Operations.{OpUnlock, OpFlush, OpStat, OpList, OpClose, create_request, durable_of}
+use Rattle.exchange_defs.specs.Operations.{options_of}
 use Rattle.exchange_defs.specs.Client.{Client, guid_for}
 use Rattle.exchange_law.specs.Connections.{makes_open, its_request}
 use Rattle.create_law.specs.Creates.{own_guid, outlives, keeps_form, guid_at}
 
 -- the request of a create of this guid
 unfoldable pub create_asked : Op → ℕ → CreateRequest
-create_asked (OpCreate path access share disposition persist directory) guid = create_request path access share disposition directory (Some (durable_of guid persist)) None
+create_asked (OpCreate path access share disposition persist directory) guid = create_request path access share
+    disposition directory (Some (durable_of guid persist)) None
 create_asked _ guid = create_request [] 0 0 0 false None None
 
-pub asks_create : (op : Op) (guid file slot number : ℕ) → makes_open op ≡ true → its_request op guid file slot number ≡ Create (create_asked op guid)
+pub asks_create : (op : Op) (guid file slot number : ℕ) → makes_open op ≡ true → its_request op guid file slot number
+    ≡ Create (create_asked op guid)
 unfolding makes_open its_request create_asked
 asks_create op guid file slot number e = grind arith
 
@@ -46,7 +50,9 @@ asks_to_keep (OpClose create) guid e = absurd (cc)
 
 pub asks_form : (op : Op) (guid : ℕ) → makes_open op ≡ true → is_some (create_form (create_asked op guid)) ≡ not (keeps_form op)
 unfolding makes_open create_asked keeps_form
-asks_form (OpCreate path access share disposition persist directory) guid e = twice (is_some (create_form (create_request path access share disposition directory (Some (durable_of guid persist)) None)))
+asks_form (OpCreate path access share disposition persist directory) guid e =
+    twice (is_some (create_form (create_request path access share disposition directory (Some (durable_of guid persist))
+    None)))
   where
     twice : (b : Bool) → b ≡ not (not b)
     twice true = refl
@@ -65,11 +71,13 @@ asks_form (OpList create) guid e = absurd (cc)
 asks_form (OpClose create) guid e = absurd (cc)
 
 -- a request that creates is a create's, and one that closes a close's, of this open
-pub makes_of : (op : Op) (guid file slot number : ℕ) (r : CreateRequest) → its_request op guid file slot number ≡ Create r → makes_open op ≡ true
+pub makes_of : (op : Op) (guid file slot number : ℕ) (r : CreateRequest) → its_request op guid file slot number
+    ≡ Create r → makes_open op ≡ true
 unfolding makes_open its_request
 makes_of op guid file slot number r e = grind arith
 
-pub shuts_of : (op : Op) (guid file slot number o : ℕ) (query : Bool) → its_request op guid file slot number ≡ Close o query → makes_open op ≡ false × o ≡ file
+pub shuts_of : (op : Op) (guid file slot number o : ℕ) (query : Bool) → its_request op guid file slot number
+    ≡ Close o query → makes_open op ≡ false × o ≡ file
 unfolding makes_open its_request
 shuts_of op guid file slot number o query e = (grind arith, grind arith)
 

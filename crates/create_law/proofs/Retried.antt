@@ -5,7 +5,8 @@ use Rattle.exchange_defs.specs.Client.{Client}
 use Rattle.exchange_defs.specs.Network.{Conn}
 use Rattle.create_law.specs.Creates.{Seen, Creates}
 
-pub retried_creates : (c : Client) (conns : ℕ → Conn) (v : Seen) (a : ℕ → ℕ) (create slot : ℕ) → Creates c conns v a → Creates (record c { retried = put2 c.retried create slot c.session_number }) conns v a
+pub retried_creates : (c : Client) (conns : ℕ → Conn) (v : Seen) (a : ℕ → ℕ) (create slot : ℕ) → Creates c conns v a
+    → Creates (record c { retried = put2 c.retried create slot c.session_number }) conns v a
 retried_creates c conns v a create slot i =
     record {
       made = i.made;

@@ -7,7 +7,8 @@ use Rattle.exchange_defs.specs.Files.{set_delete_pending}
 use Rattle.exchange_defs.specs.Opens.{drop_open, leave_open, pending_behind, goes, with_guid}
 use Rattle.exchange_defs.specs.CheckCreate.{empties}
 use Rattle.exchange_defs.specs.CheckOpen.{is_late, is_slot}
-use Rattle.exchange_defs.specs.Effects.{reach, keep_closed, keep_slot, change_file, make_open, open_row, new_file, next_open, guids_after, guid_of, end_session, guid_staying}
+use Rattle.exchange_defs.specs.Effects.{reach, keep_closed, keep_slot, change_file, make_open, open_row, new_file}
+use Rattle.exchange_defs.specs.Effects.{next_open, guids_after, guid_of, end_session, guid_staying}
 use Rattle.exchange_defs.specs.Verdict.{Change, PutBytes, PutEnd, PutBasic, PutDeletePending, PutPath, PutNothing}
 use Rattle.exchange_defs.specs.Step.{expire, add_expired_guid}
 use Rattle.server_law.proofs.Logic.{either}
@@ -29,7 +30,9 @@ change_seen s f now (PutPath replaced path) = refl
 change_seen s f now PutNothing = refl
 
 -- an open that leaves
-drop_seen : (s : Server) (o : ℕ) (b : Bool) → seen (drop_open (if b then set_delete_pending s (s.opened o).file true else s) o) ≡ leave_by (seen s) o (s.opened o).create_guid
+drop_seen : (s : Server) (o : ℕ) (b : Bool)
+    → seen (drop_open (if b then set_delete_pending s (s.opened o).file true else s) o)
+    ≡ leave_by (seen s) o (s.opened o).create_guid
 drop_seen s o true = refl
 drop_seen s o false = refl
 
@@ -44,15 +47,23 @@ closed_seen : (s : Server) (x : ℕ) (q : Option ℕ) → seen (keep_closed s x 
 closed_seen s x None = refl
 closed_seen s x (Some g) = refl
 
-pub shut_seen : (s : Server) (o x : ℕ) → seen (keep_closed (leave_open s o) x (s.opened o).create_guid) ≡ shut_in (seen s) o x (s.opened o).create_guid
-shut_seen s o x = closed_seen (leave_open s o) x (s.opened o).create_guid ∙ ap {A = Seen} (λ v. record v { closed = closed_by v.closed x (s.opened o).create_guid }) (leave_seen s o)
+pub shut_seen : (s : Server) (o x : ℕ) → seen (keep_closed (leave_open s o) x (s.opened o).create_guid)
+    ≡ shut_in (seen s) o x (s.opened o).create_guid
+shut_seen s o x = closed_seen (leave_open s o) x (s.opened o).create_guid ∙ ap {A = Seen} (λ v. record v {
+  closed = closed_by v.closed x (s.opened o).create_guid;
+}) (leave_seen s o)
 
-expired_seen : (s : Server) (client : ℕ) (q : Option ℕ) → seen (add_expired_guid s client q) ≡ record (seen s) { expired_guids = closed_by (seen s).expired_guids client q }
+expired_seen : (s : Server) (client : ℕ) (q : Option ℕ) → seen (add_expired_guid s client q) ≡ record (seen s) {
+  expired_guids = closed_by (seen s).expired_guids client q;
+}
 expired_seen s client None = refl
 expired_seen s client (Some g) = refl
 
 pub expire_seen : (s : Server) (o : ℕ) → seen (expire s o) ≡ expire_by (seen s) o (s.opened o).create_guid
-expire_seen s o = expired_seen (leave_open s o) (s.opened o).client_guid (s.opened o).create_guid ∙ ap {A = Seen} (λ v. record v { expired_guids = closed_by v.expired_guids (s.opened o).client_guid (s.opened o).create_guid }) (leave_seen s o)
+expire_seen s o = expired_seen (leave_open s o) (s.opened o).client_guid (s.opened o).create_guid
+    ∙ ap {A = Seen} (λ v. record v {
+      expired_guids = closed_by v.expired_guids (s.opened o).client_guid (s.opened o).create_guid;
+    }) (leave_seen s o)
 
 -- a session that ends
 stays_named : (s : Server) (x : ℕ) (o : Option ℕ) → guid_staying s x o ≡ named_still (seen s) x o
@@ -105,5 +116,7 @@ with_durable : (s : Server) (m : Message) (row : Open) (d : Durable) (u : Option
 with_durable s m row d u e = rw e refl
 
 pub make_seen : (s : Server) (m : Message) (r : CreateRequest) (found : Option ℕ) (action now : ℕ) (d : Durable) → r.durable ≡ Some d
-    → seen (make_open s m r found action now) ≡ make_new (seen s) (next_open s) (open_row s m r (new_file s found) action) m.session_id d.guid
-make_seen s m r found action now d e = with_file s m r found action now ∙ with_durable s m (open_row s m r (new_file s found) action) d r.durable e
+    → seen (make_open s m r found action now) ≡ make_new (seen s) (next_open s)
+    (open_row s m r (new_file s found) action) m.session_id d.guid
+make_seen s m r found action now d e = with_file s m r found action now
+    ∙ with_durable s m (open_row s m r (new_file s found) action) d r.durable e

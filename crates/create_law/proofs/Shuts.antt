@@ -5,7 +5,8 @@ use Rattle.exchange_defs.specs.Client.{Client}
 use Rattle.exchange_defs.specs.Network.{Conn}
 use Rattle.create_law.specs.Creates.{Seen, Creates}
 
-pub shuts_creates : (c : Client) (conns : ℕ → Conn) (v : Seen) (a : ℕ → ℕ) (create : ℕ) → Creates c conns v a → Creates (record c { closed_ok = put c.closed_ok create true }) conns v a
+pub shuts_creates : (c : Client) (conns : ℕ → Conn) (v : Seen) (a : ℕ → ℕ) (create : ℕ) → Creates c conns v a
+    → Creates (record c { closed_ok = put c.closed_ok create true }) conns v a
 shuts_creates c conns v a create i =
     record {
       made = i.made;

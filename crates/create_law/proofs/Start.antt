@@ -5,11 +5,13 @@ use Rattle.exchange_defs.specs.Client.{Client}
 use Rattle.exchange_defs.specs.Network.{Conn}
 use Rattle.create_law.specs.Creates.{Seen, Creates, PlainDead}
 
-start_plain_dead : (c : Client) (conns : ℕ → Conn) (v : Seen) (a : ℕ → ℕ) (g : ℕ) → (c.live ≡ true) → PlainDead c → PlainDead (record c { sent = put c.sent g true })
+start_plain_dead : (c : Client) (conns : ℕ → Conn) (v : Seen) (a : ℕ → ℕ) (g : ℕ) → (c.live ≡ true) → PlainDead c
+    → PlainDead (record c { sent = put c.sent g true })
 start_plain_dead c conns v a g lives i_plain_dead =
     λ p. let old = i_plain_dead p in grind arith
 
-pub start_creates : (c : Client) (conns : ℕ → Conn) (v : Seen) (a : ℕ → ℕ) (g : ℕ) → (c.live ≡ true) → Creates c conns v a → Creates (record c { sent = put c.sent g true }) conns v a
+pub start_creates : (c : Client) (conns : ℕ → Conn) (v : Seen) (a : ℕ → ℕ) (g : ℕ) → (c.live ≡ true)
+    → Creates c conns v a → Creates (record c { sent = put c.sent g true }) conns v a
 start_creates c conns v a g lives i =
     record {
       made = i.made;

@@ -5,81 +5,175 @@ use Rattle.exchange_defs.specs.Operations.{Op, Outcome, Unsettled}
 use Rattle.exchange_defs.specs.Client.{Client}
 use Rattle.exchange_defs.specs.Network.{Conn}
 use Rattle.exchange_law.specs.Connections.{Connections, makes_open, Taken, Fresh, Bodies, SentReplies}
-use Rattle.create_law.specs.Creates.{Seen, Creates, Made, NamedKind, Unclosed, ActedKept, AtMost, FormActed, RefusedNot, DeadRefused, NoReply, BarredReply, OkActed, OkReply, FileGuid, FileOf, ReplyGuid, ReplyOf, PlainDead, AskingOther}
+use Rattle.create_law.specs.Creates.{Seen, Creates, Made, NamedKind, Unclosed, ActedKept, AtMost, FormActed, RefusedNot}
+use Rattle.create_law.specs.Creates.{DeadRefused, NoReply, BarredReply, OkActed, OkReply, FileGuid, FileOf, ReplyGuid}
+use Rattle.create_law.specs.Creates.{ReplyOf, PlainDead, AskingOther}
 
-submit_made : (c : Client) (conns : ℕ → Conn) (v : Seen) (a : ℕ → ℕ) (g : ℕ) (op : Op) (out : Outcome) → (g ≡ c.taken + 1) → Made c v a → Fresh c a → Taken c → Made (record c { taken = g; op = put c.op g op; outcome = put c.outcome g out }) v a
+submit_made : (c : Client) (conns : ℕ → Conn) (v : Seen) (a : ℕ → ℕ) (g : ℕ) (op : Op) (out : Outcome)
+    → (g ≡ c.taken + 1) → Made c v a → Fresh c a → Taken c → Made (record c {
+      taken = g;
+      op = put c.op g op;
+      outcome = put c.outcome g out;
+    }) v a
 submit_made c conns v a g op out next i_made f_fresh f_taken =
     λ p o h. let old = i_made p o h in let fr = f_fresh p in let tk = f_taken p in grind arith
 
-submit_named_kind : (c : Client) (conns : ℕ → Conn) (v : Seen) (a : ℕ → ℕ) (g : ℕ) (op : Op) (out : Outcome) → (g ≡ c.taken + 1) → NamedKind c v → Made c v a → Fresh c a → Taken c → NamedKind (record c { taken = g; op = put c.op g op; outcome = put c.outcome g out }) v
+submit_named_kind : (c : Client) (conns : ℕ → Conn) (v : Seen) (a : ℕ → ℕ) (g : ℕ) (op : Op) (out : Outcome)
+    → (g ≡ c.taken + 1) → NamedKind c v → Made c v a → Fresh c a → Taken c → NamedKind (record c {
+      taken = g;
+      op = put c.op g op;
+      outcome = put c.outcome g out;
+    }) v
 submit_named_kind c conns v a g op out next i_named_kind i_made f_fresh f_taken =
     λ p o h. let old = i_named_kind p o h in let md = i_made p o h in let fr = f_fresh p in let tk = f_taken p in grind arith
 
-submit_unclosed : (c : Client) (conns : ℕ → Conn) (v : Seen) (a : ℕ → ℕ) (g : ℕ) (op : Op) (out : Outcome) → (g ≡ c.taken + 1) → Unclosed c v a → Fresh c a → Taken c → Unclosed (record c { taken = g; op = put c.op g op; outcome = put c.outcome g out }) v a
+submit_unclosed : (c : Client) (conns : ℕ → Conn) (v : Seen) (a : ℕ → ℕ) (g : ℕ) (op : Op) (out : Outcome)
+    → (g ≡ c.taken + 1) → Unclosed c v a → Fresh c a → Taken c → Unclosed (record c {
+      taken = g;
+      op = put c.op g op;
+      outcome = put c.outcome g out;
+    }) v a
 submit_unclosed c conns v a g op out next i_unclosed f_fresh f_taken =
     λ p. let old = i_unclosed p in let fr = f_fresh p in let tk = f_taken p in grind arith
 
-submit_acted_kept : (c : Client) (conns : ℕ → Conn) (v : Seen) (a : ℕ → ℕ) (g : ℕ) (op : Op) (out : Outcome) → (g ≡ c.taken + 1) → ActedKept c conns v a → Bodies c conns → Taken c → ActedKept (record c { taken = g; op = put c.op g op; outcome = put c.outcome g out }) conns v a
+submit_acted_kept : (c : Client) (conns : ℕ → Conn) (v : Seen) (a : ℕ → ℕ) (g : ℕ) (op : Op) (out : Outcome)
+    → (g ≡ c.taken + 1) → ActedKept c conns v a → Bodies c conns → Taken c → ActedKept (record c {
+      taken = g;
+      op = put c.op g op;
+      outcome = put c.outcome g out;
+    }) conns v a
 submit_acted_kept c conns v a g op out next i_acted_kept f_bodies f_taken =
     λ j n p y h t. let old = i_acted_kept j n p y h t in let b9 = f_bodies j n p y h t in let tk = f_taken p b9.0 in grind arith
 
-submit_at_most : (c : Client) (conns : ℕ → Conn) (v : Seen) (a : ℕ → ℕ) (g : ℕ) (op : Op) (out : Outcome) → (g ≡ c.taken + 1) → AtMost c a → Fresh c a → Taken c → AtMost (record c { taken = g; op = put c.op g op; outcome = put c.outcome g out }) a
+submit_at_most : (c : Client) (conns : ℕ → Conn) (v : Seen) (a : ℕ → ℕ) (g : ℕ) (op : Op) (out : Outcome)
+    → (g ≡ c.taken + 1) → AtMost c a → Fresh c a → Taken c → AtMost (record c {
+      taken = g;
+      op = put c.op g op;
+      outcome = put c.outcome g out;
+    }) a
 submit_at_most c conns v a g op out next i_at_most f_fresh f_taken =
     λ p. let old = i_at_most p in let fr = f_fresh p in let tk = f_taken p in grind arith
 
-submit_form_acted : (c : Client) (conns : ℕ → Conn) (v : Seen) (a : ℕ → ℕ) (g : ℕ) (op : Op) (out : Outcome) → (g ≡ c.taken + 1) → FormActed c a → Fresh c a → Taken c → FormActed (record c { taken = g; op = put c.op g op; outcome = put c.outcome g out }) a
+submit_form_acted : (c : Client) (conns : ℕ → Conn) (v : Seen) (a : ℕ → ℕ) (g : ℕ) (op : Op) (out : Outcome)
+    → (g ≡ c.taken + 1) → FormActed c a → Fresh c a → Taken c → FormActed (record c {
+      taken = g;
+      op = put c.op g op;
+      outcome = put c.outcome g out;
+    }) a
 submit_form_acted c conns v a g op out next i_form_acted f_fresh f_taken =
     λ p. let old = i_form_acted p in let fr = f_fresh p in let tk = f_taken p in grind arith
 
-submit_refused_not : (c : Client) (conns : ℕ → Conn) (v : Seen) (a : ℕ → ℕ) (g : ℕ) (op : Op) (out : Outcome) → (g ≡ c.taken + 1) → (makes_open op ≡ true → out ≡ Unsettled) → RefusedNot c a → RefusedNot (record c { taken = g; op = put c.op g op; outcome = put c.outcome g out }) a
+submit_refused_not : (c : Client) (conns : ℕ → Conn) (v : Seen) (a : ℕ → ℕ) (g : ℕ) (op : Op) (out : Outcome)
+    → (g ≡ c.taken + 1) → (makes_open op ≡ true → out ≡ Unsettled) → RefusedNot c a → RefusedNot (record c {
+      taken = g;
+      op = put c.op g op;
+      outcome = put c.outcome g out;
+    }) a
 submit_refused_not c conns v a g op out next new i_refused_not =
     λ p. let old = i_refused_not p in let nw = new in grind arith
 
-submit_dead_refused : (c : Client) (conns : ℕ → Conn) (v : Seen) (a : ℕ → ℕ) (g : ℕ) (op : Op) (out : Outcome) → (g ≡ c.taken + 1) → DeadRefused c conns v → Bodies c conns → Taken c → DeadRefused (record c { taken = g; op = put c.op g op; outcome = put c.outcome g out }) conns v
+submit_dead_refused : (c : Client) (conns : ℕ → Conn) (v : Seen) (a : ℕ → ℕ) (g : ℕ) (op : Op) (out : Outcome)
+    → (g ≡ c.taken + 1) → DeadRefused c conns v → Bodies c conns → Taken c → DeadRefused (record c {
+      taken = g;
+      op = put c.op g op;
+      outcome = put c.outcome g out;
+    }) conns v
 submit_dead_refused c conns v a g op out next i_dead_refused f_bodies f_taken =
     λ j n p y h t. let old = i_dead_refused j n p y h t in let b9 = f_bodies j n p y h t in let tk = f_taken p b9.0 in grind arith
 
-submit_no_reply : (c : Client) (conns : ℕ → Conn) (v : Seen) (a : ℕ → ℕ) (g : ℕ) (op : Op) (out : Outcome) → (g ≡ c.taken + 1) → NoReply c conns a → SentReplies c conns → Taken c → NoReply (record c { taken = g; op = put c.op g op; outcome = put c.outcome g out }) conns a
+submit_no_reply : (c : Client) (conns : ℕ → Conn) (v : Seen) (a : ℕ → ℕ) (g : ℕ) (op : Op) (out : Outcome)
+    → (g ≡ c.taken + 1) → NoReply c conns a → SentReplies c conns → Taken c → NoReply (record c {
+      taken = g;
+      op = put c.op g op;
+      outcome = put c.outcome g out;
+    }) conns a
 submit_no_reply c conns v a g op out next i_no_reply f_sent_replies f_taken =
     λ j n p y h t. let old = i_no_reply j n p y h t in let b9 = f_sent_replies j n p y h t in let tk = f_taken p b9 in grind arith
 
-submit_barred_reply : (c : Client) (conns : ℕ → Conn) (v : Seen) (a : ℕ → ℕ) (g : ℕ) (op : Op) (out : Outcome) → (g ≡ c.taken + 1) → BarredReply c conns v → SentReplies c conns → Taken c → BarredReply (record c { taken = g; op = put c.op g op; outcome = put c.outcome g out }) conns v
+submit_barred_reply : (c : Client) (conns : ℕ → Conn) (v : Seen) (a : ℕ → ℕ) (g : ℕ) (op : Op) (out : Outcome)
+    → (g ≡ c.taken + 1) → BarredReply c conns v → SentReplies c conns → Taken c → BarredReply (record c {
+      taken = g;
+      op = put c.op g op;
+      outcome = put c.outcome g out;
+    }) conns v
 submit_barred_reply c conns v a g op out next i_barred_reply f_sent_replies f_taken =
     λ j n p y h t. let old = i_barred_reply j n p y h t in let b9 = f_sent_replies j n p y h t in let tk = f_taken p b9 in grind arith
 
-submit_ok_acted : (c : Client) (conns : ℕ → Conn) (v : Seen) (a : ℕ → ℕ) (g : ℕ) (op : Op) (out : Outcome) → (g ≡ c.taken + 1) → (makes_open op ≡ true → out ≡ Unsettled) → OkActed c a → OkActed (record c { taken = g; op = put c.op g op; outcome = put c.outcome g out }) a
+submit_ok_acted : (c : Client) (conns : ℕ → Conn) (v : Seen) (a : ℕ → ℕ) (g : ℕ) (op : Op) (out : Outcome)
+    → (g ≡ c.taken + 1) → (makes_open op ≡ true → out ≡ Unsettled) → OkActed c a → OkActed (record c {
+      taken = g;
+      op = put c.op g op;
+      outcome = put c.outcome g out;
+    }) a
 submit_ok_acted c conns v a g op out next new i_ok_acted =
     λ p. let old = i_ok_acted p in let nw = new in grind arith
 
-submit_ok_reply : (c : Client) (conns : ℕ → Conn) (v : Seen) (a : ℕ → ℕ) (g : ℕ) (op : Op) (out : Outcome) → (g ≡ c.taken + 1) → OkReply c conns a → SentReplies c conns → Taken c → OkReply (record c { taken = g; op = put c.op g op; outcome = put c.outcome g out }) conns a
+submit_ok_reply : (c : Client) (conns : ℕ → Conn) (v : Seen) (a : ℕ → ℕ) (g : ℕ) (op : Op) (out : Outcome)
+    → (g ≡ c.taken + 1) → OkReply c conns a → SentReplies c conns → Taken c → OkReply (record c {
+      taken = g;
+      op = put c.op g op;
+      outcome = put c.outcome g out;
+    }) conns a
 submit_ok_reply c conns v a g op out next i_ok_reply f_sent_replies f_taken =
     λ j n p y h t. let old = i_ok_reply j n p y h t in let b9 = f_sent_replies j n p y h t in let tk = f_taken p b9 in grind arith
 
-submit_file_guid : (c : Client) (conns : ℕ → Conn) (v : Seen) (a : ℕ → ℕ) (g : ℕ) (op : Op) (out : Outcome) → (g ≡ c.taken + 1) → (makes_open op ≡ true → out ≡ Unsettled) → FileGuid c v → FileGuid (record c { taken = g; op = put c.op g op; outcome = put c.outcome g out }) v
+submit_file_guid : (c : Client) (conns : ℕ → Conn) (v : Seen) (a : ℕ → ℕ) (g : ℕ) (op : Op) (out : Outcome)
+    → (g ≡ c.taken + 1) → (makes_open op ≡ true → out ≡ Unsettled) → FileGuid c v → FileGuid (record c {
+      taken = g;
+      op = put c.op g op;
+      outcome = put c.outcome g out;
+    }) v
 submit_file_guid c conns v a g op out next new i_file_guid =
     λ p. let old = i_file_guid p in let nw = new in grind arith
 
-submit_file_of : (c : Client) (conns : ℕ → Conn) (v : Seen) (a : ℕ → ℕ) (g : ℕ) (op : Op) (out : Outcome) → (g ≡ c.taken + 1) → (makes_open op ≡ true → out ≡ Unsettled) → FileOf c v → FileOf (record c { taken = g; op = put c.op g op; outcome = put c.outcome g out }) v
+submit_file_of : (c : Client) (conns : ℕ → Conn) (v : Seen) (a : ℕ → ℕ) (g : ℕ) (op : Op) (out : Outcome)
+    → (g ≡ c.taken + 1) → (makes_open op ≡ true → out ≡ Unsettled) → FileOf c v → FileOf (record c {
+      taken = g;
+      op = put c.op g op;
+      outcome = put c.outcome g out;
+    }) v
 submit_file_of c conns v a g op out next new i_file_of =
     λ p o. let old = i_file_of p o in let nw = new in grind arith
 
-submit_reply_guid : (c : Client) (conns : ℕ → Conn) (v : Seen) (a : ℕ → ℕ) (g : ℕ) (op : Op) (out : Outcome) → (g ≡ c.taken + 1) → ReplyGuid c conns v → SentReplies c conns → Taken c → ReplyGuid (record c { taken = g; op = put c.op g op; outcome = put c.outcome g out }) conns v
+submit_reply_guid : (c : Client) (conns : ℕ → Conn) (v : Seen) (a : ℕ → ℕ) (g : ℕ) (op : Op) (out : Outcome)
+    → (g ≡ c.taken + 1) → ReplyGuid c conns v → SentReplies c conns → Taken c → ReplyGuid (record c {
+      taken = g;
+      op = put c.op g op;
+      outcome = put c.outcome g out;
+    }) conns v
 submit_reply_guid c conns v a g op out next i_reply_guid f_sent_replies f_taken =
     λ j n p y h t. let old = i_reply_guid j n p y h t in let b9 = f_sent_replies j n p y h t in let tk = f_taken p b9 in grind arith
 
-submit_reply_of : (c : Client) (conns : ℕ → Conn) (v : Seen) (a : ℕ → ℕ) (g : ℕ) (op : Op) (out : Outcome) → (g ≡ c.taken + 1) → ReplyOf c conns v → SentReplies c conns → Taken c → ReplyOf (record c { taken = g; op = put c.op g op; outcome = put c.outcome g out }) conns v
+submit_reply_of : (c : Client) (conns : ℕ → Conn) (v : Seen) (a : ℕ → ℕ) (g : ℕ) (op : Op) (out : Outcome)
+    → (g ≡ c.taken + 1) → ReplyOf c conns v → SentReplies c conns → Taken c → ReplyOf (record c {
+      taken = g;
+      op = put c.op g op;
+      outcome = put c.outcome g out;
+    }) conns v
 submit_reply_of c conns v a g op out next i_reply_of f_sent_replies f_taken =
     λ j n p o y h t. let old = i_reply_of j n p o y h t in let b9 = f_sent_replies j n p y h t in let tk = f_taken p b9 in grind arith
 
-submit_plain_dead : (c : Client) (conns : ℕ → Conn) (v : Seen) (a : ℕ → ℕ) (g : ℕ) (op : Op) (out : Outcome) → (g ≡ c.taken + 1) → PlainDead c → Taken c → PlainDead (record c { taken = g; op = put c.op g op; outcome = put c.outcome g out })
+submit_plain_dead : (c : Client) (conns : ℕ → Conn) (v : Seen) (a : ℕ → ℕ) (g : ℕ) (op : Op) (out : Outcome)
+    → (g ≡ c.taken + 1) → PlainDead c → Taken c → PlainDead (record c {
+      taken = g;
+      op = put c.op g op;
+      outcome = put c.outcome g out;
+    })
 submit_plain_dead c conns v a g op out next i_plain_dead f_taken =
     λ p. let old = i_plain_dead p in let tk = f_taken p in grind arith
 
-submit_asking_other : (c : Client) (conns : ℕ → Conn) (v : Seen) (a : ℕ → ℕ) (g : ℕ) (op : Op) (out : Outcome) → (g ≡ c.taken + 1) → AskingOther c → AskingOther (record c { taken = g; op = put c.op g op; outcome = put c.outcome g out })
+submit_asking_other : (c : Client) (conns : ℕ → Conn) (v : Seen) (a : ℕ → ℕ) (g : ℕ) (op : Op) (out : Outcome)
+    → (g ≡ c.taken + 1) → AskingOther c → AskingOther (record c {
+      taken = g;
+      op = put c.op g op;
+      outcome = put c.outcome g out;
+    })
 submit_asking_other c conns v a g op out next i_asking_other =
     λ p. let old = i_asking_other p in grind arith
 
-pub submit_creates : (c : Client) (conns : ℕ → Conn) (v : Seen) (a : ℕ → ℕ) (g : ℕ) (op : Op) (out : Outcome) → (g ≡ c.taken + 1) → (makes_open op ≡ true → out ≡ Unsettled) → Connections c conns a → Creates c conns v a → Creates (record c { taken = g; op = put c.op g op; outcome = put c.outcome g out }) conns v a
+pub submit_creates : (c : Client) (conns : ℕ → Conn) (v : Seen) (a : ℕ → ℕ) (g : ℕ) (op : Op) (out : Outcome)
+    → (g ≡ c.taken + 1) → (makes_open op ≡ true → out ≡ Unsettled) → Connections c conns a → Creates c conns v a
+    → Creates (record c { taken = g; op = put c.op g op; outcome = put c.outcome g out }) conns v a
 submit_creates c conns v a g op out next new f i =
     record {
       made = submit_made c conns v a g op out next i.made f.fresh f.taken;

@@ -4,7 +4,8 @@ use Rattle.exchange_defs.specs.Client.{Client, take_slot}
 use Rattle.exchange_defs.specs.Network.{Conn}
 use Rattle.create_law.specs.Creates.{Seen, Creates}
 
-pub take_slot_creates : (c : Client) (conns : ℕ → Conn) (v : Seen) (a : ℕ → ℕ) (g s : ℕ) → Creates c conns v a → Creates (take_slot c g s) conns v a
+pub take_slot_creates : (c : Client) (conns : ℕ → Conn) (v : Seen) (a : ℕ → ℕ) (g s : ℕ) → Creates c conns v a
+    → Creates (take_slot c g s) conns v a
 take_slot_creates c conns v a g s i =
     record {
       made = i.made;

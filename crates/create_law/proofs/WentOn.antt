@@ -6,7 +6,8 @@ use Rattle.exchange_defs.specs.Dialogs.{went_on}
 use Rattle.exchange_defs.specs.Network.{Conn}
 use Rattle.create_law.specs.Creates.{Seen, Creates}
 
-pub went_on_creates : (c : Client) (conns : ℕ → Conn) (v : Seen) (a : ℕ → ℕ) (k : ℕ) (stage : Stage) (r : Reply) → Creates c conns v a → Creates (went_on c k stage r) conns v a
+pub went_on_creates : (c : Client) (conns : ℕ → Conn) (v : Seen) (a : ℕ → ℕ) (k : ℕ) (stage : Stage) (r : Reply)
+    → Creates c conns v a → Creates (went_on c k stage r) conns v a
 went_on_creates c conns v a k stage r i =
     record {
       made = i.made;

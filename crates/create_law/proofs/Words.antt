@@ -1,7 +1,8 @@
 -- What the closed words say where a proof needs it.
 use Rattle.std.proofs.lemmas.Bool.Decides.{nat_tests}
 use Rattle.std.proofs.Common.{◌≡◌, ℕ, ◌+◌, ◌≤◌, Bool, true, false, if◌then◌else◌, refl, zero, suc, arith, sym, ◌∙◌, ap}
-use Rattle.exchange_defs.specs.Operations.{Op, Outcome, Unsettled, WasOk, WasRefused, NoSlot, NoOpen, Unknown, is_unsettled, is_ok, is_create, create_of, persists}
+use Rattle.exchange_defs.specs.Operations.{Op, Outcome, Unsettled, WasOk, WasRefused, NoSlot, NoOpen, Unknown}
+use Rattle.exchange_defs.specs.Operations.{is_unsettled, is_ok, is_create, create_of, persists}
 use Rattle.exchange_defs.specs.Client.{Client, create_for, outcome_after_end, plain_after_end}
 use Rattle.exchange_defs.specs.Runs.{never_acted}
 use Rattle.exchange_law.specs.Connections.{makes_open}
@@ -28,7 +29,8 @@ pub record AfterEnd (c : Client) (g : ℕ) (old new : Outcome) : Type 0 where
   pub still : is_unsettled new ≡ true → is_unsettled old ≡ true
   pub lasts : is_unsettled new ≡ true → c.sent g ≡ true → outlives (c.op g) ≡ true
 
-plain_end : (c : Client) (g create : ℕ) → is_create (c.op g) ≡ true → persists (c.op g) ≡ false → AfterEnd c g Unsettled (plain_after_end c g create)
+plain_end : (c : Client) (g create : ℕ) → is_create (c.op g) ≡ true → persists (c.op g) ≡ false → AfterEnd c g Unsettled
+    (plain_after_end c g create)
 unfolding outlives
 plain_end c g create make plain = by_sent (c.sent g) refl
   where
@@ -36,12 +38,19 @@ plain_end c g create make plain = by_sent (c.sent g) refl
     by_sent true e = record { never = grind arith; ok = grind arith; still = grind arith; lasts = grind arith }
     by_sent false e = record { never = grind arith; ok = grind arith; still = grind arith; lasts = grind arith }
 
-unsettled_end : (c : Client) (g create : ℕ) → is_create (c.op g) ≡ true → create ≡ g → (b : Bool) → persists (c.op create) ≡ b → AfterEnd c g Unsettled (if b then Unsettled else plain_after_end c g create)
+unsettled_end : (c : Client) (g create : ℕ) → is_create (c.op g) ≡ true → create ≡ g → (b : Bool)
+    → persists (c.op create) ≡ b → AfterEnd c g Unsettled (if b then Unsettled else plain_after_end c g create)
 unfolding outlives
-unsettled_end c g create make own true e = record { never = refl; ok = refl; still = λ x. x; lasts = λ x y. (ap (λ h. persists (c.op h)) (sym own) ∙ e) }
+unsettled_end c g create make own true e = record {
+  never = refl;
+  ok = refl;
+  still = λ x. x;
+  lasts = λ x y. (ap (λ h. persists (c.op h)) (sym own) ∙ e);
+}
 unsettled_end c g create make own false e = plain_end c g create make (ap (λ h. persists (c.op h)) (sym own) ∙ e)
 
-by_outcome : (c : Client) (g : ℕ) → is_create (c.op g) ≡ true → create_for c g ≡ g → (o : Outcome) → AfterEnd c g o (outcome_after_end c g o)
+by_outcome : (c : Client) (g : ℕ) → is_create (c.op g) ≡ true → create_for c g ≡ g → (o : Outcome)
+    → AfterEnd c g o (outcome_after_end c g o)
 by_outcome c g make own Unsettled = unsettled_end c g (create_for c g) make own (persists (c.op (create_for c g))) refl
 by_outcome c g make own (WasOk reply) = record { never = refl; ok = refl; still = λ x. x; lasts = λ x. absurd (cc) }
 by_outcome c g make own (WasRefused status) = record { never = refl; ok = refl; still = λ x. x; lasts = λ x. absurd (cc) }

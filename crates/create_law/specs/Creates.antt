@@ -1,6 +1,7 @@
 -- What holds of the creates in every world that a run leads to, where each operation acted a g times: between the client's
 -- table, what waits, and what the server keeps of opens, their guids and refusals.
-use Rattle.std.specs.Prelude.{◌≡◌, ℕ, ◌+◌, ◌*◌, ◌≤◌, ◌<◌, ◌==◌, nat_le, Bool, true, false, not, ◌&&◌, ◌||◌, List, Option, Some, None, is_some, slice_get}
+use Rattle.std.specs.Prelude.{◌≡◌, ℕ, ◌+◌, ◌*◌, ◌≤◌, ◌<◌, ◌==◌, nat_le, Bool, true, false, not, ◌&&◌, ◌||◌, List}
+use Rattle.std.specs.Prelude.{Option, Some, None, is_some, slice_get}
 use Rattle.exchange_defs.specs.Status.{success, user_session_deleted, duplicate_objectid, no_memory}
 use Rattle.exchange_defs.specs.Commands.{Command, Aside, Setup, TreeConnect, Create, form}
 use Rattle.exchange_defs.specs.State.{Server, Open}
@@ -94,7 +95,9 @@ is_barred c v x g = is_some (v.refused x (guid_at c g)) || (is_full (v.guids x) 
 
 -- a status that settles a create as refused, by whether a copy of it is unanswered
 abbrev pub refuses : Bool → ℕ → Bool
-refuses unanswered status = not (status == success) && (not (status == user_session_deleted) && not (unanswered && ((status == duplicate_objectid) || (status == no_memory))))
+refuses unanswered status = not (status == success)
+    && (not (status == user_session_deleted)
+    && not (unanswered && ((status == duplicate_objectid) || (status == no_memory))))
 
 -- what a dialog says, and what goes out in an operation's place
 abbrev pub is_of_dialog : Command → Bool
@@ -117,7 +120,8 @@ Made c v a = (g o : ℕ) → named c v g ≡ Some o → makes_open (c.op g) ≡ 
 
 -- one that stands, with that guid, of the kind that the create asked for
 abbrev pub Named : Client → Seen → Type 0
-Named c v = (g o : ℕ) → named c v g ≡ Some o → v.standing o ≡ true × (v.opened o).client_guid ≡ c.who.guid × (v.opened o).create_guid ≡ Some (guid_at c g)
+Named c v = (g o : ℕ) → named c v g ≡ Some o → v.standing o ≡ true × (v.opened o).client_guid ≡ c.who.guid
+    × (v.opened o).create_guid ≡ Some (guid_at c g)
 
 -- and it is this client's user's
 abbrev pub NamedKind : Client → Seen → Type 0
@@ -139,11 +143,13 @@ PlainAttached v = (o : ℕ) → v.standing o ≡ true → (v.opened o).persisten
 
 -- of an unsettled create that acted the open stands, or it expired; of a plain one while its session is there
 abbrev pub Unclosed : Client → Seen → (ℕ → ℕ) → Type 0
-Unclosed c v a = (g : ℕ) → makes_open (c.op g) ≡ true → is_unsettled (c.outcome g) ≡ true → 1 ≤ a g → (outlives (c.op g) || is_current c v) ≡ true → is_kept c v g ≡ true
+Unclosed c v a = (g : ℕ) → makes_open (c.op g) ≡ true → is_unsettled (c.outcome g) ≡ true → 1 ≤ a g
+    → (outlives (c.op g) || is_current c v) ≡ true → is_kept c v g ≡ true
 
 -- where a copy waits whose session is there, that session keeps what tells that the create acted
 abbrev pub ActedKept : Client → (ℕ → Conn) → Seen → (ℕ → ℕ) → Type 0
-ActedKept c conns v a = (k n g : ℕ) (x : Sent) → slice_get (conns k).up n ≡ Some x → x.token ≡ ForOp g → makes_open (c.op g) ≡ true → v.present x.message.session_id ≡ true → 1 ≤ a g
+ActedKept c conns v a = (k n g : ℕ) (x : Sent) → slice_get (conns k).up n ≡ Some x → x.token ≡ ForOp g
+    → makes_open (c.op g) ≡ true → v.present x.message.session_id ≡ true → 1 ≤ a g
     → (v.closed x.message.session_id (guid_at c g) || is_kept c v g) ≡ true
 
 -- a create acts at most once
@@ -162,16 +168,19 @@ RefusedNot c a = (g : ℕ) → makes_open (c.op g) ≡ true → never_acted (c.o
 
 -- and a copy of it whose session is there won't act in that session either
 abbrev pub DeadRefused : Client → (ℕ → Conn) → Seen → Type 0
-DeadRefused c conns v = (k n g : ℕ) (x : Sent) → slice_get (conns k).up n ≡ Some x → x.token ≡ ForOp g → makes_open (c.op g) ≡ true → never_acted (c.outcome g) ≡ true → v.present x.message.session_id ≡ true
+DeadRefused c conns v = (k n g : ℕ) (x : Sent) → slice_get (conns k).up n ≡ Some x → x.token ≡ ForOp g
+    → makes_open (c.op g) ≡ true → never_acted (c.outcome g) ≡ true → v.present x.message.session_id ≡ true
     → is_barred c v x.message.session_id g ≡ true
 
 -- a reply that will refuse a create is to one that never acted
 abbrev pub NoReply : Client → (ℕ → Conn) → (ℕ → ℕ) → Type 0
-NoReply c conns a = (k n g : ℕ) (y : Received) → slice_get (conns k).down n ≡ Some y → y.token ≡ ForOp g → makes_open (c.op g) ≡ true → refuses (c.unanswered g) y.reply.status ≡ true → a g ≡ 0
+NoReply c conns a = (k n g : ℕ) (y : Received) → slice_get (conns k).down n ≡ Some y → y.token ≡ ForOp g
+    → makes_open (c.op g) ≡ true → refuses (c.unanswered g) y.reply.status ≡ true → a g ≡ 0
 
 -- and where a copy is unanswered, none acts in the live session
 abbrev pub BarredReply : Client → (ℕ → Conn) → Seen → Type 0
-BarredReply c conns v = (k n g : ℕ) (y : Received) → slice_get (conns k).down n ≡ Some y → y.token ≡ ForOp g → makes_open (c.op g) ≡ true → c.unanswered g ≡ true → refuses true y.reply.status ≡ true → is_current c v ≡ true
+BarredReply c conns v = (k n g : ℕ) (y : Received) → slice_get (conns k).down n ≡ Some y → y.token ≡ ForOp g
+    → makes_open (c.op g) ≡ true → c.unanswered g ≡ true → refuses true y.reply.status ≡ true → is_current c v ≡ true
     → is_barred c v c.session g ≡ true
 
 -- a kept refusal is one
@@ -186,11 +195,14 @@ OkActed c a = (g : ℕ) → makes_open (c.op g) ≡ true → is_ok (c.outcome g)
 
 -- and so did one whose success is on its way
 abbrev pub OkReply : Client → (ℕ → Conn) → (ℕ → ℕ) → Type 0
-OkReply c conns a = (k n g : ℕ) (y : Received) → slice_get (conns k).down n ≡ Some y → y.token ≡ ForOp g → makes_open (c.op g) ≡ true → y.reply.status ≡ success → 1 ≤ a g
+OkReply c conns a = (k n g : ℕ) (y : Received) → slice_get (conns k).down n ≡ Some y → y.token ≡ ForOp g
+    → makes_open (c.op g) ≡ true → y.reply.status ≡ success → 1 ≤ a g
 
 -- the open that a success names was given, has the create's guid while it stands, and is the one that the guid names
 abbrev pub FileGuid : Client → Seen → Type 0
-FileGuid c v = (g : ℕ) → makes_open (c.op g) ≡ true → is_ok (c.outcome g) ≡ true → c.file g ≤ v.last × (v.standing (c.file g) ≡ true → (v.opened (c.file g)).client_guid ≡ c.who.guid × (v.opened (c.file g)).create_guid ≡ Some (guid_at c g))
+FileGuid c v = (g : ℕ) → makes_open (c.op g) ≡ true → is_ok (c.outcome g) ≡ true → c.file g ≤ v.last
+    × (v.standing (c.file g) ≡ true → (v.opened (c.file g)).client_guid ≡ c.who.guid × (v.opened (c.file g)).create_guid
+    ≡ Some (guid_at c g))
 
 -- what its guid names is the open that its success named
 abbrev pub FileOf : Client → Seen → Type 0
@@ -198,18 +210,23 @@ FileOf c v = (g o : ℕ) → makes_open (c.op g) ≡ true → is_ok (c.outcome g
 
 -- the same of a success that is on its way: the open that it names
 abbrev pub ReplyGuid : Client → (ℕ → Conn) → Seen → Type 0
-ReplyGuid c conns v = (k n g : ℕ) (y : Received) → slice_get (conns k).down n ≡ Some y → y.token ≡ ForOp g → makes_open (c.op g) ≡ true → y.reply.status ≡ success
-    → id_in y.reply.body ≤ v.last × (v.standing (id_in y.reply.body) ≡ true → (v.opened (id_in y.reply.body)).client_guid ≡ c.who.guid × (v.opened (id_in y.reply.body)).create_guid ≡ Some (guid_at c g))
+ReplyGuid c conns v = (k n g : ℕ) (y : Received) → slice_get (conns k).down n ≡ Some y → y.token ≡ ForOp g
+    → makes_open (c.op g) ≡ true → y.reply.status ≡ success
+    → id_in y.reply.body ≤ v.last × (v.standing (id_in y.reply.body) ≡ true
+    → (v.opened (id_in y.reply.body)).client_guid ≡ c.who.guid × (v.opened (id_in y.reply.body)).create_guid
+    ≡ Some (guid_at c g))
 
 -- and what the create's guid names is that open
 abbrev pub ReplyOf : Client → (ℕ → Conn) → Seen → Type 0
-ReplyOf c conns v = (k n g o : ℕ) (y : Received) → slice_get (conns k).down n ≡ Some y → y.token ≡ ForOp g → makes_open (c.op g) ≡ true → y.reply.status ≡ success → named c v g ≡ Some o → o ≡ id_in y.reply.body
+ReplyOf c conns v = (k n g o : ℕ) (y : Received) → slice_get (conns k).down n ≡ Some y → y.token ≡ ForOp g
+    → makes_open (c.op g) ≡ true → y.reply.status ≡ success → named c v g ≡ Some o → o ≡ id_in y.reply.body
 
 -- ---- of the client and what waits alone
 
 -- a plain create that went out settles with its session
 abbrev pub PlainDead : Client → Type 0
-PlainDead c = (g : ℕ) → c.live ≡ false → makes_open (c.op g) ≡ true → outlives (c.op g) ≡ false → c.sent g ≡ true → is_unsettled (c.outcome g) ≡ false
+PlainDead c = (g : ℕ) → c.live ≡ false → makes_open (c.op g) ≡ true → outlives (c.op g) ≡ false → c.sent g ≡ true
+    → is_unsettled (c.outcome g) ≡ false
 
 -- a create goes out itself alone
 abbrev pub AskingOther : Client → Type 0

@@ -1,9 +1,11 @@
 -- The content machine's laws: twice is once, and apart keeps what shows.
-use Rattle.std.proofs.Common.{◌≡◌, ◌⊎◌, ℕ, ◌+◌, ◌-◌, ◌≤◌, max, Bool, true, false, not, arith, nat_lt, if◌then◌else◌, List, [], ◌∷◌, ◌++◌, refl, length, get_or, take, drop, ap}
+use Rattle.std.proofs.Common.{◌≡◌, ◌⊎◌, ℕ, ◌+◌, ◌-◌, ◌≤◌, max, Bool, true, false, not, arith, nat_lt, if◌then◌else◌}
+use Rattle.std.proofs.Common.{List, [], ◌∷◌, ◌++◌, refl, length, get_or, take, drop, ap}
 use Rattle.std.proofs.lemmas.Bool.Decides.{nat_tests}
 use Rattle.std.proofs.lemmas.List.{places}
 use Rattle.std.proofs.lemmas.Grind.{same_number_lists}
-use Rattle.exchange_defs.specs.Content.{ContentOp, Write, SetEnd, Read, Still, padded, is_empty, written, ended, effect, value, past_end, is_change, touches, meets, collides, same_bytes}
+use Rattle.exchange_defs.specs.Content.{ContentOp, Write, SetEnd, Read, Still, padded, is_empty, written, ended, effect}
+use Rattle.exchange_defs.specs.Content.{value, past_end, is_change, touches, meets, collides, same_bytes}
 
 empty-length : (d : List ℕ) → is_empty d ≡ true → length d ≡ 0
 unfolding is_empty
@@ -28,7 +30,8 @@ unfolding padded
 length-written p d c e = rw (written-full p d c e) (let l = full-length d e in grind (arith, places))
 
 pub get_or-written : (p : ℕ) (d c : List ℕ) (k : ℕ) → is_empty d ≡ false
-    → get_or (written p d c) k 0 ≡ (if nat_lt k p then get_or c k 0 else (if nat_lt k (p + length d) then get_or d (k - p) 0 else get_or c k 0))
+    → get_or (written p d c) k 0
+    ≡ (if nat_lt k p then get_or c k 0 else (if nat_lt k (p + length d) then get_or d (k - p) 0 else get_or c k 0))
 unfolding padded
 get_or-written p d c k e = rw (written-full p d c e) (grind (arith, places, nat_tests))
 
@@ -41,12 +44,14 @@ unfolding ended padded
 get_or-ended n c k = grind (arith, places, nat_tests)
 
 ended-twice : (n : ℕ) (c : List ℕ) → ended n (ended n c) ≡ ended n c
-ended-twice n c = same_number_lists (ended n (ended n c)) (ended n c) (grind (arith, length-ended)) (λ k l. let g = get_or-ended n (ended n c) k in let h = length-ended n (ended n c) in grind (arith, nat_tests))
+ended-twice n c = same_number_lists (ended n (ended n c)) (ended n c) (grind (arith, length-ended))
+    (λ k l. let g = get_or-ended n (ended n c) k in let h = length-ended n (ended n c) in grind (arith, nat_tests))
 
 written-twice : (p : ℕ) (d c : List ℕ) (b : Bool) → is_empty d ≡ b → written p d (written p d c) ≡ written p d c
 written-twice p d c true e = written-empty p d (written p d c) e
 written-twice p d c false e =
-    same_number_lists (written p d (written p d c)) (written p d c) (let l = length-written p d c e in let r = length-written p d (written p d c) e in grind arith)
+    same_number_lists (written p d (written p d c)) (written p d c) (let l = length-written p d c e in
+    let r = length-written p d (written p d c) e in grind arith)
     (λ k l. let g = get_or-written p d c k e in let h = get_or-written p d (written p d c) k e in grind (arith, nat_tests))
 
 -- an operation that is done again changes nothing
@@ -57,20 +62,25 @@ effect-twice (SetEnd n) c = ended-twice n c
 effect-twice (Read p n) c = refl
 effect-twice Still c = refl
 
-written-kept : (p q : ℕ) (d e c : List ℕ) → is_empty d ≡ false → is_empty e ≡ false → (p + length d ≤ q) ⊎ (q + length e ≤ p) → written p d c ≡ c → written p d (written q e c) ≡ written q e c
+written-kept : (p q : ℕ) (d e c : List ℕ) → is_empty d ≡ false → is_empty e ≡ false → (p + length d ≤ q)
+    ⊎ (q + length e ≤ p) → written p d c ≡ c → written p d (written q e c) ≡ written q e c
 written-kept p q d e c f g apart same =
     same_number_lists (written p d (written q e c)) (written q e c)
-    (let l = length-written p d (written q e c) f in let r = length-written q e c g in let s = length-written p d c f in let t = ap length same in grind arith)
-    (λ k l. let a = get_or-written p d (written q e c) k f in let b = get_or-written q e c k g in let o = get_or-written p d c k f in let t = ap (λ v. get_or v k 0) same in grind (arith, nat_tests))
+    (let l = length-written p d (written q e c) f in let r = length-written q e c g in let s = length-written p d c f in
+    let t = ap length same in grind arith)
+    (λ k l. let a = get_or-written p d (written q e c) k f in let b = get_or-written q e c k g in
+    let o = get_or-written p d c k f in let t = ap (λ v. get_or v k 0) same in grind (arith, nat_tests))
 
 apart : (p n q m : ℕ) → 1 ≤ n → 1 ≤ m → meets p n q m ≡ false → (p + n ≤ q) ⊎ (q + m ≤ p)
 unfolding meets
 apart p n q m a b h = grind (arith, nat_tests)
 
-writes-kept : (p q : ℕ) (d e c : List ℕ) (x y : Bool) → is_empty d ≡ x → is_empty e ≡ y → meets p (length d) q (length e) ≡ false → written p d c ≡ c → written p d (written q e c) ≡ written q e c
+writes-kept : (p q : ℕ) (d e c : List ℕ) (x y : Bool) → is_empty d ≡ x → is_empty e ≡ y
+    → meets p (length d) q (length e) ≡ false → written p d c ≡ c → written p d (written q e c) ≡ written q e c
 writes-kept p q d e c true y f g h same = written-empty p d (written q e c) f
 writes-kept p q d e c false true f g h same = rw (written-empty q e c g) same
-writes-kept p q d e c false false f g h same = written-kept p q d e c f g (apart p (length d) q (length e) (full-length d f) (full-length e g) h) same
+writes-kept p q d e c false false f g h same = written-kept p q d e c f g
+    (apart p (length d) q (length e) (full-length d f) (full-length e g) h) same
 
 -- what shows in the bytes still shows after a change that doesn't collide with it
 pub effect-kept : (a b : ContentOp) (c : List ℕ) → collides a b ≡ false → effect a c ≡ c → effect a (effect b c) ≡ effect b c

@@ -2,12 +2,15 @@
 use Rattle.std.specs.Prelude.{ℕ, ◌==◌, Bool, false, ◌||◌, if◌then◌else◌, Option, Some, None}
 use Rattle.exchange_defs.specs.Table.{is_at}
 use Rattle.exchange_defs.specs.Status.{user_session_deleted, network_name_deleted, file_closed, not_supported}
-use Rattle.exchange_defs.specs.Commands.{Command, Unreadable, Aside, Setup, Logoff, TreeConnect, TreeDisconnect, Create, Close, Flush, Read, Write, Lock, Ioctl, ListDirectory, QueryFile, QueryVolume, SetInfo, form, is_setup, no_file}
+use Rattle.exchange_defs.specs.Commands.{Command, Unreadable, Aside, Setup, Logoff, TreeConnect, TreeDisconnect, Create}
+use Rattle.exchange_defs.specs.Commands.{Close, Flush, Read, Write, Lock, Ioctl, ListDirectory, QueryFile, QueryVolume}
+use Rattle.exchange_defs.specs.Commands.{SetInfo, form, is_setup, no_file}
 use Rattle.exchange_defs.specs.State.{Server, Message}
 use Rattle.exchange_defs.specs.Opens.{is_of_session}
 use Rattle.exchange_defs.specs.Verdict.{Verdict, Refuse, EndSession, DropTree}
 use Rattle.exchange_defs.specs.CheckCreate.{create_check}
-use Rattle.exchange_defs.specs.CheckOpen.{close_check, flush_check, read_check, write_check, lock_check, ioctl_check, free_ioctl_check, list_check, file_query_check, volume_query_check, set_check}
+use Rattle.exchange_defs.specs.CheckOpen.{close_check, flush_check, read_check, write_check, lock_check, ioctl_check}
+use Rattle.exchange_defs.specs.CheckOpen.{free_ioctl_check, list_check, file_query_check, volume_query_check, set_check}
 use Rattle.exchange_defs.specs.CheckSetup.{setup_check, tree_check, tree_in}
 
 -- check 1: the id names a live session with a channel on this connection
@@ -28,8 +31,10 @@ tree_command s m pipes (Flush o) = on_open s m o (flush_check s o)
 tree_command s m pipes (Read o at size minimum channel) = on_open s m o (read_check s o at size minimum)
 tree_command s m pipes (Write o at bytes channel) = on_open s m o (write_check s m o at bytes)
 tree_command s m pipes (Lock o index number elements) = on_open s m o (lock_check s o index number elements)
-tree_command s m pipes (Ioctl o code room) = if o == no_file then free_ioctl_check s code room else on_open s m o (ioctl_check s m o code room)
-tree_command s m pipes (ListDirectory o class restart single pattern room) = on_open s m o (list_check s o class restart single pattern room)
+tree_command s m pipes (Ioctl o code room) = if o == no_file then free_ioctl_check s code room else on_open s m o
+    (ioctl_check s m o code room)
+tree_command s m pipes (ListDirectory o class restart single pattern room) =
+    on_open s m o (list_check s o class restart single pattern room)
 tree_command s m pipes (QueryFile o class room) = on_open s m o (file_query_check s o class room)
 tree_command s m pipes (QueryVolume o class room) = on_open s m o (volume_query_check s o class room)
 tree_command s m pipes (SetInfo o setting) = on_open s m o (set_check s m o setting)

@@ -1,7 +1,11 @@
 -- The checks of CREATE (MS-SMB2 3.3.5.9, 3.3.5.9.10, 3.3.5.9.12; MS-FSA 2.1.5.1).
-use Rattle.std.specs.Prelude.{ℕ, ◌==◌, nat_le, Bool, true, false, not, ◌&&◌, ◌||◌, if◌then◌else◌, length, Option, Some, None, bit_or, is_some, nat_lt}
+use Rattle.std.specs.Prelude.{ℕ, ◌==◌, nat_le, Bool, true, false, not, ◌&&◌, ◌||◌, if◌then◌else◌, length, Option, Some}
+use Rattle.std.specs.Prelude.{None, bit_or, is_some, nat_lt}
 use Rattle.exchange_defs.specs.Table.{is_at}
-use Rattle.exchange_defs.specs.Status.{invalid_parameter, access_denied, object_path_not_found, delete_pending, object_name_not_found, object_name_collision, not_a_directory, file_is_a_directory, sharing_violation, insufficient_resources, duplicate_objectid}
+use Rattle.exchange_defs.specs.Status.{invalid_parameter, access_denied, object_path_not_found, delete_pending}
+use Rattle.exchange_defs.specs.Status.{object_name_not_found, object_name_collision, not_a_directory}
+use Rattle.exchange_defs.specs.Status.{file_is_a_directory, sharing_violation, insufficient_resources}
+use Rattle.exchange_defs.specs.Status.{duplicate_objectid}
 use Rattle.exchange_defs.specs.Texts.{same_name}
 use Rattle.exchange_defs.specs.Commands.{CreateRequest, Durable, Reconnect, asks_directory, asks_file, deletes_on_close}
 use Rattle.exchange_defs.specs.State.{Server, Message}
@@ -82,7 +86,9 @@ makes_file r found = not (is_some found) && makes_missing r.disposition
 
 -- a count whose refusal is kept stands at its limit
 unfoldable pub is_counted_out : Server → CreateRequest → Option ℕ → Bool
-is_counted_out s r found = nat_le max_opens (length s.opens) || ((makes_file r found && nat_le max_files (length s.entries)) || (nat_le max_ids s.open_ids_given || (makes_file r found && nat_lt last_file s.next_file)))
+is_counted_out s r found = nat_le max_opens (length s.opens)
+    || ((makes_file r found && nat_le max_files (length s.entries))
+    || (nat_le max_ids s.open_ids_given || (makes_file r found && nat_lt last_file s.next_file)))
 
 abbrev pub action_of : CreateRequest → Option ℕ → ℕ
 action_of r None = 2

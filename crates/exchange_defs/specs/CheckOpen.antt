@@ -1,15 +1,23 @@
 -- The checks of the requests that name an open (MS-SMB2 3.3.5.10 to 3.3.5.21).
-use Rattle.std.specs.Prelude.{ℕ, ◌+◌, ◌-◌, ◌%◌, ◌==◌, nat_lt, nat_le, min, Bool, true, false, not, ◌&&◌, ◌||◌, if◌then◌else◌, List, [], ◌∷◌, length, take, drop, Option, Some, None, is_some}
-use Rattle.exchange_defs.specs.Status.{success, file_not_available, access_denied, invalid_device_request, invalid_parameter, info_length_mismatch, end_of_file, file_lock_conflict, disk_full, no_such_file, no_more_files, directory_not_empty, object_path_not_found, object_name_collision, fs_driver_required}
+use Rattle.std.specs.Prelude.{ℕ, ◌+◌, ◌-◌, ◌%◌, ◌==◌, nat_lt, nat_le, min, Bool, true, false, not, ◌&&◌, ◌||◌}
+use Rattle.std.specs.Prelude.{if◌then◌else◌, List, [], ◌∷◌, length, take, drop, Option, Some, None, is_some}
+use Rattle.exchange_defs.specs.Status.{success, file_not_available, access_denied, invalid_device_request}
+use Rattle.exchange_defs.specs.Status.{invalid_parameter, info_length_mismatch, end_of_file, file_lock_conflict}
+use Rattle.exchange_defs.specs.Status.{disk_full, no_such_file, no_more_files, directory_not_empty}
+use Rattle.exchange_defs.specs.Status.{object_path_not_found, object_name_collision, fs_driver_required}
 use Rattle.exchange_defs.specs.Texts.{is_below}
 use Rattle.exchange_defs.specs.Content.{written, ended, same_bytes, is_empty}
 use Rattle.exchange_defs.specs.Commands.{has_bit, Setting, SetBasic, Rename, SetDelete, SetAllocation, SetEnd, Element}
-use Rattle.exchange_defs.specs.State.{Server, Message, Kept, Entry, Empty, Content, Count, Closed, Listing, FileInfo, VolumeInfo, Interfaces, Named}
-use Rattle.exchange_defs.specs.Files.{root, find, path_of, has_parent, is_directory, is_full_directory, info_of, used, passes_room, allocated, set_basic, same_basic}
+use Rattle.exchange_defs.specs.State.{Server, Message, Kept, Entry, Empty, Content, Count, Closed, Listing, FileInfo}
+use Rattle.exchange_defs.specs.State.{VolumeInfo, Interfaces, Named}
+use Rattle.exchange_defs.specs.Files.{root, find, path_of, has_parent, is_directory, is_full_directory, info_of, used}
+use Rattle.exchange_defs.specs.Files.{passes_room, allocated, set_basic, same_basic}
 use Rattle.exchange_defs.specs.Ranges.{RangeAnswer, Stands, Denied, change_ranges, may_read, may_write}
 use Rattle.exchange_defs.specs.Opens.{file_has_open}
 use Rattle.exchange_defs.specs.Listing.{all_named, wanted, fitting, one_or_all, last_name, file_info_size, volume_info_size}
-use Rattle.exchange_defs.specs.Verdict.{Verdict, Refuse, Give, TurnDown, Tell, Show, KeepSlot, PutRanges, Alter, CloseOpen, Change, PutBytes, PutEnd, PutBasic, PutDeletePending, PutPath, PutNothing}
+use Rattle.exchange_defs.specs.Verdict.{Verdict, Refuse, Give, TurnDown, Tell, Show, KeepSlot, PutRanges, Alter}
+use Rattle.exchange_defs.specs.Verdict.{CloseOpen, Change, PutBytes, PutEnd, PutBasic, PutDeletePending, PutPath}
+use Rattle.exchange_defs.specs.Verdict.{PutNothing}
 
 -- ---- the channel sequence (3.3.5.2.10): older by the difference modulo 65,536
 
@@ -130,7 +138,8 @@ rename_names s f replace path =
     else None
 
 unfoldable pub delete_names : Server → ℕ → Bool → Option ℕ
-delete_names s f flag = if not flag then None else if f == root then Some access_denied else if is_full_directory s f then Some directory_not_empty else None
+delete_names s f flag = if not flag then None else if f == root then Some access_denied else if is_full_directory s f
+    then Some directory_not_empty else None
 
 abbrev pub named_change : ℕ → Change → Option ℕ → Verdict
 named_change o change (Some status) = TurnDown o status
@@ -155,12 +164,17 @@ path_change s o path = PutPath (target_of (file_of s o) (find s path)) path
 
 abbrev pub setting_check : Server → Message → ℕ → Setting → Verdict
 setting_check s m o (SetBasic basic) =
-    if has_access s o 0x100 then unless_repeated s m o (PutBasic (set_basic (s.basic (file_of s o)) basic)) (Alter o (PutBasic (set_basic (s.basic (file_of s o)) basic)) Empty)
+    if has_access s o 0x100 then unless_repeated s m o (PutBasic (set_basic (s.basic (file_of s o)) basic))
+    (Alter o (PutBasic (set_basic (s.basic (file_of s o)) basic)) Empty)
     else TurnDown o access_denied
 setting_check s m o (Rename replace path) =
-    if has_access s o 0x1_0000 then unless_repeated s m o (path_change s o path) (named_change o (path_change s o path) (rename_names s (file_of s o) replace path)) else TurnDown o access_denied
-setting_check s m o (SetDelete flag) = if has_access s o 0x1_0000 then unless_repeated s m o (PutDeletePending flag) (named_change o (PutDeletePending flag) (delete_names s (file_of s o) flag)) else TurnDown o access_denied
-setting_check s m o (SetAllocation size) = size_change s m o (allocated size (length (s.content (file_of s o)))) (allocation_change s (file_of s o) size)
+    if has_access s o 0x1_0000 then unless_repeated s m o (path_change s o path)
+    (named_change o (path_change s o path) (rename_names s (file_of s o) replace path)) else TurnDown o
+    access_denied
+setting_check s m o (SetDelete flag) = if has_access s o 0x1_0000 then unless_repeated s m o (PutDeletePending flag)
+    (named_change o (PutDeletePending flag) (delete_names s (file_of s o) flag)) else TurnDown o access_denied
+setting_check s m o (SetAllocation size) = size_change s m o (allocated size (length (s.content (file_of s o))))
+    (allocation_change s (file_of s o) size)
 setting_check s m o (SetEnd size) = size_change s m o size (PutEnd size)
 
 abbrev pub set_check : Server → Message → ℕ → Setting → Verdict
@@ -184,7 +198,8 @@ file_query_check s o class room =
     else Tell o (FileInfo class (path_of s (file_of s o)) (info_of s (file_of s o)) (s.opened o).access (s.opened o).options)
 
 abbrev pub volume_query_check : Server → ℕ → ℕ → ℕ → Verdict
-volume_query_check s o class room = if nat_lt room (volume_info_size class) then TurnDown o info_length_mismatch else Tell o (VolumeInfo class s.room (used s))
+volume_query_check s o class room = if nat_lt room (volume_info_size class) then TurnDown o info_length_mismatch else
+    Tell o (VolumeInfo class s.room (used s))
 
 -- a listing goes on behind the last name, or begins anew
 abbrev pub begins_at : Bool → Option (List ℕ) → Option (List ℕ)
@@ -218,7 +233,8 @@ get_referrals = 0x6_0194
 
 -- the status of an IOCTL (3.3.5.15), 0 where it tells the interfaces
 abbrev pub ioctl_status : ℕ → ℕ → ℕ
-ioctl_status code room = if code == query_interfaces then (if nat_lt room 152 then info_length_mismatch else success) else if code == get_referrals then fs_driver_required else invalid_device_request
+ioctl_status code room = if code == query_interfaces then (if nat_lt room 152 then info_length_mismatch else success)
+    else if code == get_referrals then fs_driver_required else invalid_device_request
 
 abbrev pub ioctl_check : Server → Message → ℕ → ℕ → ℕ → Verdict
 ioctl_check s m o code room =

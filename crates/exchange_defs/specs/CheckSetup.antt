@@ -1,7 +1,9 @@
 -- The checks of SESSION_SETUP and TREE_CONNECT (MS-SMB2 3.3.5.5, 3.3.5.5.3, 3.3.5.7).
-use Rattle.std.specs.Prelude.{ℕ, ◌+◌, ◌==◌, nat_le, nat_lt, Bool, true, false, not, ◌&&◌, ◌||◌, if◌then◌else◌, List, [], ◌∷◌, length, Option, Some, None, is_some}
+use Rattle.std.specs.Prelude.{ℕ, ◌+◌, ◌==◌, nat_le, nat_lt, Bool, true, false, not, ◌&&◌, ◌||◌, if◌then◌else◌, List, []}
+use Rattle.std.specs.Prelude.{◌∷◌, length, Option, Some, None, is_some}
 use Rattle.exchange_defs.specs.Table.{is_at}
-use Rattle.exchange_defs.specs.Status.{user_session_deleted, request_not_accepted, invalid_parameter, logon_failure, access_denied, insufficient_resources, bad_network_name}
+use Rattle.exchange_defs.specs.Status.{user_session_deleted, request_not_accepted, invalid_parameter, logon_failure}
+use Rattle.exchange_defs.specs.Status.{access_denied, insufficient_resources, bad_network_name}
 use Rattle.exchange_defs.specs.Texts.{same_name}
 use Rattle.exchange_defs.specs.Commands.{SetupRequest, Shows, Begins, Bad, Refused, Logon}
 use Rattle.exchange_defs.specs.State.{Server, Message, Making, NewSession, Binding, Tree}

@@ -1,10 +1,13 @@
 -- The client's session, channels and outstanding requests (MS-SMB2 3.2.1.2 to 3.2.1.7) and its rules: what may go out, and what
 -- a lost connection (3.2.7.1), called a cut, or the end of its session does.
-use Rattle.std.specs.Prelude.{ℕ, zero, suc, ◌+◌, ◌-◌, ◌*◌, ◌%◌, ◌==◌, nat_le, nat_lt, Bool, true, false, not, ◌&&◌, ◌||◌, if◌then◌else◌, List, [], ◌∷◌, ◌++◌, Option, Some, None, is_none}
+use Rattle.std.specs.Prelude.{ℕ, zero, suc, ◌+◌, ◌-◌, ◌*◌, ◌%◌, ◌==◌, nat_le, nat_lt, Bool, true, false, not, ◌&&◌}
+use Rattle.std.specs.Prelude.{◌||◌, if◌then◌else◌, List, [], ◌∷◌, ◌++◌, Option, Some, None, is_none}
 use Rattle.exchange_defs.specs.Table.{put, put2}
 use Rattle.exchange_defs.specs.Commands.{Command, Shows}
 use Rattle.exchange_defs.specs.State.{Message}
-use Rattle.exchange_defs.specs.Operations.{Op, Outcome, Unsettled, WasOk, NoSlot, NoOpen, Unknown, Why, SessionLost, Refusal, is_unsettled, is_ok, is_firm, is_create, is_lock, is_change, create_of, persists, keeps_limits, holds_up, request_of, reconnect_of}
+use Rattle.exchange_defs.specs.Operations.{Op, Outcome, Unsettled, WasOk, NoSlot, NoOpen, Unknown, Why, SessionLost}
+use Rattle.exchange_defs.specs.Operations.{Refusal, is_unsettled, is_ok, is_firm, is_create, is_lock, is_change}
+use Rattle.exchange_defs.specs.Operations.{create_of, persists, keeps_limits, holds_up, request_of, reconnect_of}
 
 -- ---- state
 
@@ -85,7 +88,9 @@ create_for c g = create_of g (c.op g)
 
 -- the number is the next one, and the create is that of a create taken before
 abbrev pub may_take : Client → ℕ → Op → Bool
-may_take c g op = (g == c.taken + 1) && (keeps_limits op && (is_create op || (nat_lt 0 (create_of g op) && (nat_lt (create_of g op) g && is_create (c.op (create_of g op))))))
+may_take c g op = (g == c.taken + 1)
+    && (keeps_limits op &&
+    (is_create op || (nat_lt 0 (create_of g op) && (nat_lt (create_of g op) g && is_create (c.op (create_of g op))))))
 
 -- its open is attached in this session
 abbrev pub is_attached : Client → ℕ → Bool
@@ -124,7 +129,9 @@ abbrev pub has_open : Client → ℕ → Bool
 has_open c g = is_create (c.op g) || is_ok (c.outcome (create_for c g))
 
 abbrev pub may_push : Client → ℕ → ℕ → Bool
-may_push c k g = c.ready k && (is_taken c g && (is_unsettled (c.outcome g) && (is_none (c.outstanding_on g) && (has_open c g && not (waits c g g)))))
+may_push c k g = c.ready k
+    && (is_taken c g && (is_unsettled (c.outcome g)
+    && (is_none (c.outstanding_on g) && (has_open c g && not (waits c g g)))))
 
 -- ---- lock slots
 
@@ -135,7 +142,8 @@ is_out_of_use c None = true
 is_out_of_use c (Some h) = is_firm (c.outcome h)
 
 abbrev pub is_free : Client → ℕ → ℕ → Bool
-is_free c create i = (nat_lt 0 i && nat_le i 64) && (is_out_of_use c (c.slot_user create i) && (not (c.retried create i == c.session_number) && not (c.full create i)))
+is_free c create i = (nat_lt 0 i && nat_le i 64) && (is_out_of_use c (c.slot_user create i)
+    && (not (c.retried create i == c.session_number) && not (c.full create i)))
 
 -- some slot from 1 to n is free
 unfoldable pub has_free : Client → ℕ → ℕ → Bool
@@ -180,7 +188,11 @@ abbrev pub begun : Client → ℕ → ℕ → Client
 begun c g i = if c.sent g then again c g else begin c g i
 
 abbrev pub outstanding : Client → ℕ → ℕ → Client
-outstanding c k g = record c { outstanding_on = put c.outstanding_on g (Some k); asks_attach = put c.asks_attach g false; sequence_of = put c.sequence_of g c.sequence }
+outstanding c k g = record c {
+  outstanding_on = put c.outstanding_on g (Some k);
+  asks_attach = put c.asks_attach g false;
+  sequence_of = put c.sequence_of g c.sequence;
+}
 
 abbrev pub asked : Client → ℕ → ℕ → Client
 asked c k g = record c { outstanding_on = put c.outstanding_on g (Some k); asks_attach = put c.asks_attach g true }
@@ -190,10 +202,21 @@ abbrev pub is_replay : Client → ℕ → Bool
 is_replay c g = c.unanswered g && (is_create (c.op g) || is_change (c.op g))
 
 abbrev pub message : Client → ℕ → ℕ → Bool → Command → Message
-message c k id replay command = record { connection = k; client_guid = c.who.guid; session_id = c.session; tree_id = c.tree; message_id = id; channel_sequence = c.sequence; replay = replay; fault = None; command = command }
+message c k id replay command = record {
+  connection = k;
+  client_guid = c.who.guid;
+  session_id = c.session;
+  tree_id = c.tree;
+  message_id = id;
+  channel_sequence = c.sequence;
+  replay = replay;
+  fault = None;
+  command = command;
+}
 
 abbrev pub own_message : Client → ℕ → ℕ → ℕ → Message
-own_message c k id g = message c k id (is_replay c g) (request_of (c.op g) (guid_for c g) (c.file (create_for c g)) (c.slot_of g) (c.number_of g))
+own_message c k id g = message c k id (is_replay c g) (request_of (c.op g) (guid_for c g) (c.file (create_for c g))
+    (c.slot_of g) (c.number_of g))
 
 -- DH2C, in the operation's place
 abbrev pub ask_message : Client → ℕ → ℕ → ℕ → Message
@@ -268,7 +291,8 @@ unsent_after_end create create_sent _ = NoOpen create
 
 -- an operation whose open isn't persistent
 abbrev pub plain_after_end : Client → ℕ → ℕ → Outcome
-plain_after_end c g create = if c.sent g then Unknown (SessionLost c.session_number) else if is_create (c.op g) then Unsettled else unsent_after_end create (c.sent create) (c.outcome create)
+plain_after_end c g create = if c.sent g then Unknown (SessionLost c.session_number) else if is_create (c.op g) then
+    Unsettled else unsent_after_end create (c.sent create) (c.outcome create)
 
 abbrev pub outcome_after_end : Client → ℕ → Outcome → Outcome
 outcome_after_end c g Unsettled = if persists (c.op (create_for c g)) then Unsettled else plain_after_end c g (create_for c g)

@@ -3,7 +3,9 @@
 use Rattle.std.specs.Prelude.{ℕ, zero, suc, ◌+◌, ◌==◌, nat_lt, Bool, true, false, ◌&&◌, if◌then◌else◌, List, Option, Some, None}
 use Rattle.exchange_defs.specs.State.{Reply}
 use Rattle.exchange_defs.specs.Operations.{Op, Why, Refusal, is_unsettled}
-use Rattle.exchange_defs.specs.Client.{Client, has_its_slot, may_take, take_op, may_push, goes_itself, begun, outstanding, asked, settle_no_slots, cut_channel, ends_at_cut, end_session, bind_channel, begin_session, leave_dialog, note_refusal, finish}
+use Rattle.exchange_defs.specs.Client.{Client, has_its_slot, may_take, take_op, may_push, goes_itself, begun}
+use Rattle.exchange_defs.specs.Client.{outstanding, asked, settle_no_slots, cut_channel, ends_at_cut, end_session}
+use Rattle.exchange_defs.specs.Client.{bind_channel, begin_session, leave_dialog, note_refusal, finish}
 use Rattle.exchange_defs.specs.Settling.{Heard, EndsSession, heard, hear, is_awaited}
 
 -- which operation a push sends, and the slot of a lock that goes out first
@@ -54,7 +56,8 @@ pick_act c k (Some p) = op_act c k p.op p.slot
 
 -- on a channel whose session has ended there is nothing to send, and something unsettled asks for a new session
 abbrev pub push_act : Client → ℕ → List ℕ → Option Pick → Act
-push_act c k slotless pick = if c.ready k then pick_act (settle_no_slots c k slotless) k pick else if some_unsettled c c.taken then CloseChannels else AllSettled
+push_act c k slotless pick = if c.ready k then pick_act (settle_no_slots c k slotless) k pick else if some_unsettled c
+    c.taken then CloseChannels else AllSettled
 
 abbrev pub push_after : Client → ℕ → List ℕ → Option Pick → Client
 push_after c k slotless pick = if c.ready k then pick_after (settle_no_slots c k slotless) k pick else c
@@ -88,7 +91,8 @@ becomes_ready c session = if c.live then session == c.session else nat_lt c.sess
 
 -- else its channel isn't ready, and the connection counts as failed
 abbrev pub ready_after : Client → ℕ → ℕ → ℕ → Client
-ready_after c k session tree = if becomes_ready c session then (if c.live then bind_channel c k else begin_session c k session tree) else leave_dialog c k
+ready_after c k session tree = if becomes_ready c session then (if c.live then bind_channel c k else begin_session c k
+    session tree) else leave_dialog c k
 
 abbrev pub ready_act : Client → ℕ → Act
 ready_act c session = if becomes_ready c session then Nothing else CloseChannel

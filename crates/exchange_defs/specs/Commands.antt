@@ -1,5 +1,6 @@
 -- Requests as values (MS-SMB2 2.2): what a command asks, whoever sent it.
-use Rattle.std.specs.Prelude.{ℕ, ◌+◌, ◌/◌, ◌%◌, ◌==◌, nat_lt, Bool, true, false, not, ◌&&◌, ◌||◌, if◌then◌else◌, List, [], ◌∷◌, length, Option, Some, None}
+use Rattle.std.specs.Prelude.{ℕ, ◌+◌, ◌/◌, ◌%◌, ◌==◌, nat_lt, Bool, true, false, not, ◌&&◌, ◌||◌, if◌then◌else◌, List}
+use Rattle.std.specs.Prelude.{[], ◌∷◌, length, Option, Some, None}
 use Rattle.exchange_defs.specs.Status.{invalid_parameter, object_name_invalid}
 use Rattle.exchange_defs.specs.declared.values.Basic as basic_value
 use Rattle.exchange_defs.specs.declared.values.Element as element_value
@@ -129,11 +130,13 @@ unfoldable pub path_form : List ℕ → Option ℕ
 path_form path = if begins_with_backslash path then Some invalid_parameter else if is_path path then None else Some object_name_invalid
 
 abbrev pub create_form : CreateRequest → Option ℕ
-create_form r = if nat_lt 5 r.disposition then Some invalid_parameter else if asks_directory r && asks_file r then Some invalid_parameter else path_form r.path
+create_form r = if nat_lt 5 r.disposition then Some invalid_parameter else if asks_directory r
+    && asks_file r then Some invalid_parameter else path_form r.path
 
 -- at most 1,048,576 bytes, no RDMA channel, an end below 2 ^ 63 (3.3.5.12, 3.3.5.13)
 abbrev pub transfer_form : ℕ → ℕ → ℕ → Option ℕ
-transfer_form at size channel = if nat_lt 1048576 size then Some invalid_parameter else if not (channel == 0) then Some invalid_parameter else if nat_lt (at + size) 0x8000_0000_0000_0000 then None else Some invalid_parameter
+transfer_form at size channel = if nat_lt 1048576 size then Some invalid_parameter else if not (channel == 0) then Some
+    invalid_parameter else if nat_lt (at + size) 0x8000_0000_0000_0000 then None else Some invalid_parameter
 
 abbrev pub lock_form : List Element → Option ℕ
 lock_form [] = Some invalid_parameter

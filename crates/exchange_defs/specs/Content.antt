@@ -1,6 +1,7 @@
 -- A file's data as one list of bytes, what an operation does to it and what it replies, called the content machine
 -- (MS-FSA 2.1.5.3 reading, 2.1.5.4 writing, 2.1.5.15.4 setting the end).
-use Rattle.std.specs.Prelude.{ℕ, ◌+◌, ◌-◌, ◌==◌, nat_lt, max, min, Bool, true, false, not, ◌&&◌, if◌then◌else◌, List, [], ◌∷◌, ◌++◌, length, take, drop, replicate}
+use Rattle.std.specs.Prelude.{ℕ, ◌+◌, ◌-◌, ◌==◌, nat_lt, max, min, Bool, true, false, not, ◌&&◌, if◌then◌else◌, List}
+use Rattle.std.specs.Prelude.{[], ◌∷◌, ◌++◌, length, take, drop, replicate}
 
 -- What an operation asks of the bytes. An operation that neither reads nor changes them is Still.
 pub data ContentOp : Type 0 where

@@ -29,7 +29,16 @@ dialog_step AskedTree status = expected Readies success status
 
 abbrev pub setup_of : Client → Bool → Shows → Command
 setup_of c bound shows =
-    Setup (record { readable = true; binding = bound; signed = bound; verified = bound; previous = if bound then 0 else c.accepted; cipher = c.who.cipher; signing = c.who.signing; shows = shows })
+    Setup (record {
+      readable = true;
+      binding = bound;
+      signed = bound;
+      verified = bound;
+      previous = if bound then 0 else c.accepted;
+      cipher = c.who.cipher;
+      signing = c.who.signing;
+      shows = shows;
+    })
 
 abbrev pub session_of : Client → Bool → ℕ → ℕ
 session_of c bound id = if bound then c.session else id
@@ -50,7 +59,17 @@ stage_command c AskedTree = TreeConnect c.who.share
 
 abbrev pub dialog_message : Client → ℕ → ℕ → Stage → Message
 dialog_message c k id stage =
-    record { connection = k; client_guid = c.who.guid; session_id = stage_session c stage; tree_id = 0; message_id = id; channel_sequence = 0; replay = false; fault = None; command = stage_command c stage }
+    record {
+      connection = k;
+      client_guid = c.who.guid;
+      session_id = stage_session c stage;
+      tree_id = 0;
+      message_id = id;
+      channel_sequence = 0;
+      replay = false;
+      fault = None;
+      command = stage_command c stage;
+    }
 
 -- ---- its steps; what its end does is the client's own step (`ClientStep.client_after`)
 
@@ -67,4 +86,9 @@ abbrev pub went_on : Client → ℕ → Stage → Reply → Client
 went_on c k stage r = record c { stage = put c.stage k stage; pending = told_session c stage r }
 
 abbrev pub accepted : Client → ℕ → Client
-accepted c k = record c { stage = put c.stage k AskedTree; accepted = c.pending; accepted_count = c.accepted_count + 1; rank = put c.rank c.pending (c.accepted_count + 1) }
+accepted c k = record c {
+  stage = put c.stage k AskedTree;
+  accepted = c.pending;
+  accepted_count = c.accepted_count + 1;
+  rank = put c.rank c.pending (c.accepted_count + 1);
+}

@@ -1,23 +1,42 @@
 -- What a request does to the server's tables (MS-SMB2 3.3.5) by its verdict: the state behind it, the reply, the records owed
 -- and whether it acted.
-use Rattle.std.specs.Prelude.{ℕ, ◌+◌, ◌-◌, ◌*◌, ◌==◌, nat_lt, Bool, true, false, not, ◌&&◌, ◌||◌, if◌then◌else◌, List, [], ◌∷◌, ◌++◌, Option, Some, None, is_some}
+use Rattle.std.specs.Prelude.{ℕ, ◌+◌, ◌-◌, ◌*◌, ◌==◌, nat_lt, Bool, true, false, not, ◌&&◌, ◌||◌, if◌then◌else◌, List}
+use Rattle.std.specs.Prelude.{[], ◌∷◌, ◌++◌, Option, Some, None, is_some}
 use Rattle.exchange_defs.specs.Table.{put, put2, is_at, is_filled, number_or_zero}
 use Rattle.exchange_defs.specs.Status.{success, more_processing_required}
 use Rattle.exchange_defs.specs.Content.{written, ended, same_bytes}
 use Rattle.exchange_defs.specs.Commands.{CreateRequest, Durable, SetupRequest, Basic, Element, asks_directory}
-use Rattle.exchange_defs.specs.State.{no_later, Server, Message, Open, Range, Tree, NewSession, Binding, Body, Empty, Created, SetUp, Connected, Record, NewOpen, Origin, CreateRecord, WriteRecord, EndRecord, BasicRecord, DeleteRecord, RenameRecord, LockRecord, Answer}
-use Rattle.exchange_defs.specs.Files.{make_file, empty_file, set_content, store_basic, set_delete_pending, rename_file, info_of, same_basic, path_of}
+use Rattle.exchange_defs.specs.State.{no_later, Server, Message, Open, Range, Tree, NewSession, Binding, Body, Empty}
+use Rattle.exchange_defs.specs.State.{Created, SetUp, Connected, Record, NewOpen, Origin, CreateRecord, WriteRecord}
+use Rattle.exchange_defs.specs.State.{EndRecord, BasicRecord, DeleteRecord, RenameRecord, LockRecord, Answer}
+use Rattle.exchange_defs.specs.Files.{make_file, empty_file, set_content, store_basic, set_delete_pending, rename_file}
+use Rattle.exchange_defs.specs.Files.{info_of, same_basic, path_of}
 use Rattle.exchange_defs.specs.Opens.{id_of, mapped, add_open, leave_open, leave_records}
 use Rattle.exchange_defs.specs.CheckCreate.{empties}
 use Rattle.exchange_defs.specs.CheckOpen.{is_late, is_slot, file_of}
 use Rattle.exchange_defs.specs.Records.{origin_of}
-use Rattle.exchange_defs.specs.Verdict.{Verdict, Refuse, Give, KeepRefusal, Repeat, Attach, Make, TurnDown, Tell, Show, KeepSlot, PutRanges, Alter, CloseOpen, Challenge, ChallengeBinding, Begin, Join, EndSession, AddTree, DropTree, Change, PutBytes, PutEnd, PutBasic, PutDeletePending, PutPath, PutNothing}
+use Rattle.exchange_defs.specs.Verdict.{Verdict, Refuse, Give, KeepRefusal, Repeat, Attach, Make, TurnDown, Tell, Show}
+use Rattle.exchange_defs.specs.Verdict.{KeepSlot, PutRanges, Alter, CloseOpen, Challenge, ChallengeBinding, Begin, Join}
+use Rattle.exchange_defs.specs.Verdict.{EndSession, AddTree, DropTree, Change, PutBytes, PutEnd, PutBasic}
+use Rattle.exchange_defs.specs.Verdict.{PutDeletePending, PutPath, PutNothing}
 
 -- ---- answers
 
 abbrev pub answer_with : Server → Message → ℕ → Body → List Record → Bool → Option ℕ → Answer
 answer_with s m status body records acted reached =
-    record { server = s; reply = record { status = status; session_id = m.session_id; tree_id = m.tree_id; body = body }; records = records; acted = acted; reached = reached; altered = None }
+    record {
+      server = s;
+      reply = record {
+        status = status;
+        session_id = m.session_id;
+        tree_id = m.tree_id;
+        body = body;
+      };
+      records = records;
+      acted = acted;
+      reached = reached;
+      altered = None;
+    }
 
 -- no record is owed, and nothing in the files, the set of opens and the ranges changed
 abbrev pub quiet : Server → Message → ℕ → Body → Answer
@@ -39,7 +58,10 @@ quiet_on s m o status body = answer_with (reach s m o) m status body [] false (r
 -- ---- creates
 
 abbrev pub keep_refusal : Server → ℕ → ℕ → ℕ → Server
-keep_refusal s session guid status = record s { refused = put2 s.refused session guid (Some status); guids = put s.guids session (s.guids session + 1) }
+keep_refusal s session guid status = record s {
+  refused = put2 s.refused session guid (Some status);
+  guids = put s.guids session (s.guids session + 1);
+}
 
 -- an open without a session becomes this session's, with the request's sequence
 abbrev pub attach : Server → Message → ℕ → Server
@@ -65,7 +87,14 @@ abbrev pub told_timeout : Server → ℕ → CreateRequest → Option ℕ
 told_timeout s o r = if (s.opened o).persistent && is_some r.durable then Some (s.opened o).timeout else None
 
 abbrev pub create_reply : Server → ℕ → CreateRequest → ℕ → Body
-create_reply s o r action = Created (record { id = o; action = action; info = info_of s (s.opened o).file; timeout = told_timeout s o r; maximal = r.maximal; disk_id = r.disk_id })
+create_reply s o r action = Created (record {
+  id = o;
+  action = action;
+  info = info_of s (s.opened o).file;
+  timeout = told_timeout s o r;
+  maximal = r.maximal;
+  disk_id = r.disk_id;
+})
 
 abbrev pub guid_of : Option Durable → Option ℕ
 guid_of None = None
@@ -111,7 +140,8 @@ guids_after s session (Some d) = put s.guids session (s.guids session + 1)
 
 abbrev pub make_open : Server → Message → CreateRequest → Option ℕ → ℕ → ℕ → Server
 make_open s m r found action now =
-    record (add_open (file_made s r found now) (next_open s) (open_row s m r (new_file s found) action) (Some m.session_id) m.channel_sequence) {
+    record (add_open (file_made s r found now) (next_open s) (open_row s m r (new_file s found) action)
+    (Some m.session_id) m.channel_sequence) {
       open_ids_given = s.open_ids_given + 1;
       guids = guids_after s m.session_id r.durable;
     }
@@ -120,7 +150,16 @@ unfoldable pub new_open : Server → Message → CreateRequest → Option Durabl
 new_open s m r None = None
 new_open s m r (Some d) =
     if d.persistent
-    then Some (record { id = next_open s; client_guid = m.client_guid; create_guid = d.guid; user = s.user m.session_id; access = mapped r.access; share = r.share; options = r.options; timeout = timeout_of d.timeout })
+    then Some (record {
+      id = next_open s;
+      client_guid = m.client_guid;
+      create_guid = d.guid;
+      user = s.user m.session_id;
+      access = mapped r.access;
+      share = r.share;
+      options = r.options;
+      timeout = timeout_of d.timeout;
+    })
     else None
 
 -- a plain open of what is there owes no record
@@ -131,12 +170,15 @@ create_records s m r found action now =
 
 abbrev pub made : Server → Message → CreateRequest → Option ℕ → ℕ → ℕ → Answer
 made s m r found action now =
-    let t = make_open s m r found action now in answer_with t m success (create_reply t (next_open s) r action) (create_records s m r found action now) true (Some (next_open s))
+    let t = make_open s m r found action now in answer_with t m success (create_reply t (next_open s) r action)
+    (create_records s m r found action now) true (Some (next_open s))
 
 -- ---- locks
 
 abbrev pub keep_slot : Server → ℕ → ℕ → ℕ → ℕ → Server
-keep_slot s o index number status = if is_slot index then record s { lock_sequences = put2 s.lock_sequences o index (Some (record { number = number; status = status })) } else s
+keep_slot s o index number status = if is_slot index then record s {
+  lock_sequences = put2 s.lock_sequences o index (Some (record { number = number; status = status }));
+} else s
 
 abbrev pub set_ranges : Server → ℕ → List Range → Server
 set_ranges s f ranges = record s { ranges = put s.ranges f ranges }
@@ -146,7 +188,8 @@ abbrev pub recorded_index : ℕ → ℕ
 recorded_index index = if is_slot index then index else 0
 
 unfoldable pub lock_records : Server → Message → ℕ → ℕ → ℕ → ℕ → List Element → List Record
-lock_records s m o index number status elements = if (s.opened o).persistent then LockRecord (origin_of m) o (recorded_index index) number status elements ∷ [] else []
+lock_records s m o index number status elements = if (s.opened o).persistent then LockRecord (origin_of m) o
+    (recorded_index index) number status elements ∷ [] else []
 
 -- ---- writes and set-infos
 
@@ -233,7 +276,8 @@ deadline_behind now timeout = no_later (now + 10000 * timeout)
 
 -- an open that stays without its session gets its deadline
 abbrev pub dated : ℕ → ℕ → Open → Option ℕ → Option ℕ → Option ℕ
-dated session now row at deadline = if is_at session at then (if row.persistent then Some (deadline_behind now row.timeout) else None) else deadline
+dated session now row at deadline = if is_at session at then
+    (if row.persistent then Some (deadline_behind now row.timeout) else None) else deadline
 
 -- its plain opens leave, its persistent ones stay without a session, and what it kept is forgotten
 abbrev pub end_session : Server → ℕ → ℕ → Bool → Server
@@ -330,11 +374,15 @@ apply s m now (Attach o r) = answer_with (attached s m o) m success (create_repl
 apply s m now (Make r found action) = made s m r found action now
 apply s m now (TurnDown o status) = quiet_on s m o status Empty
 apply s m now (Tell o body) = quiet_on s m o success body
-apply s m now (Show o last body) = answer_with (record (reach s m o) { enumeration_location = put s.enumeration_location o last }) m success body [] false (reaches s m o)
+apply s m now (Show o last body) = answer_with (record (reach s m o) {
+  enumeration_location = put s.enumeration_location o last;
+}) m success body [] false (reaches s m o)
 apply s m now (KeepSlot o index number status elements) =
-    answer_with (keep_slot (reach s m o) o index number status) m status Empty (lock_records s m o index number status elements) false (reaches s m o)
+    answer_with (keep_slot (reach s m o) o index number status) m status Empty
+    (lock_records s m o index number status elements) false (reaches s m o)
 apply s m now (PutRanges o index number ranges elements) =
-    answer_with (keep_slot (set_ranges (reach s m o) (file_of s o) ranges) o index number success) m success Empty (lock_records s m o index number success elements) true (reaches s m o)
+    answer_with (keep_slot (set_ranges (reach s m o) (file_of s o) ranges) o index number success) m success Empty
+    (lock_records s m o index number success elements) true (reaches s m o)
 apply s m now (Alter o change body) =
     record {
       server = change_file (reach s m o) (file_of s o) now change;
@@ -344,21 +392,29 @@ apply s m now (Alter o change body) =
       reached = reaches s m o;
       altered = Some o;
     }
-apply s m now (CloseOpen o body) = answer_with (keep_closed (leave_open s o) m.session_id (s.opened o).create_guid) m success body (leave_records s (origin_of m) o) true (reaches s m o)
+apply s m now (CloseOpen o body) = answer_with (keep_closed (leave_open s o) m.session_id (s.opened o).create_guid) m
+    success body (leave_records s (origin_of m) o) true (reaches s m o)
 apply s m now Challenge =
     record {
-      server = record s { session_ids_given = s.session_ids_given + 1; making = put s.making m.connection (Some (NewSession (next_session s))) };
+      server = record s {
+        session_ids_given = s.session_ids_given + 1;
+        making = put s.making m.connection (Some (NewSession (next_session s)));
+      };
       reply = record { status = more_processing_required; session_id = next_session s; tree_id = m.tree_id; body = Empty };
       records = [];
       acted = false;
       reached = None;
       altered = None;
     }
-apply s m now (ChallengeBinding session) = quiet (record s { making = put s.making m.connection (Some (Binding session)) }) m more_processing_required Empty
+apply s m now (ChallengeBinding session) = quiet (record s {
+  making = put s.making m.connection (Some (Binding session));
+}) m more_processing_required Empty
 apply s m now (Begin session user previous r is_quiet) =
-    answer_with (add_session (end_if_named s now previous is_quiet) m user r) m success (SetUp s.encrypts 1) (records_if_named s (origin_of m) previous is_quiet) (acts_if_named s previous) None
+    answer_with (add_session (end_if_named s now previous is_quiet) m user r) m success (SetUp s.encrypts 1)
+    (records_if_named s (origin_of m) previous is_quiet) (acts_if_named s previous) None
 apply s m now (Join session) = quiet (join_session s m session) m success (SetUp s.encrypts (s.channel_numbers_drawn session + 1))
-apply s m now (EndSession session is_quiet) = answer_with (end_session s session now is_quiet) m success Empty (end_records s (origin_of m) session is_quiet) (end_acts s session) None
+apply s m now (EndSession session is_quiet) = answer_with (end_session s session now is_quiet) m success Empty
+    (end_records s (origin_of m) session is_quiet) (end_acts s session) None
 apply s m now (AddTree pipes) =
     record {
       server = add_tree s m.session_id pipes;
@@ -368,4 +424,6 @@ apply s m now (AddTree pipes) =
       reached = None;
       altered = None;
     }
-apply s m now DropTree = quiet (record s { trees = put s.trees m.session_id (without_tree m.tree_id (s.trees m.session_id)) }) m success Empty
+apply s m now DropTree = quiet (record s {
+  trees = put s.trees m.session_id (without_tree m.tree_id (s.trees m.session_id));
+}) m success Empty

@@ -1,5 +1,6 @@
 -- The files of the share: paths, times, delete pending and bytes (MS-FSA 2.1.1.3 to 2.1.1.5).
-use Rattle.std.specs.Prelude.{ℕ, ◌+◌, ◌-◌, ◌==◌, nat_lt, min, Bool, true, false, ◌&&◌, ◌||◌, if◌then◌else◌, List, [], ◌∷◌, ◌++◌, length, Option, Some, None}
+use Rattle.std.specs.Prelude.{ℕ, ◌+◌, ◌-◌, ◌==◌, nat_lt, min, Bool, true, false, ◌&&◌, ◌||◌, if◌then◌else◌, List, []}
+use Rattle.std.specs.Prelude.{◌∷◌, ◌++◌, length, Option, Some, None}
 use Rattle.exchange_defs.specs.Table.{put}
 use Rattle.exchange_defs.specs.Texts.{same_name, is_below, parent_of, after_name}
 use Rattle.exchange_defs.specs.Commands.{Basic}
@@ -54,7 +55,13 @@ unfoldable pub is_full_directory : Server → ℕ → Bool
 is_full_directory s f = is_directory s f && has_below s.entries (path_of s f)
 
 unfoldable pub info_of : Server → ℕ → Info
-info_of s f = record { file = f; is_directory = is_directory s f; size = length (s.content f); is_delete_pending = s.delete_pending f; times = s.basic f }
+info_of s f = record {
+  file = f;
+  is_directory = is_directory s f;
+  size = length (s.content f);
+  is_delete_pending = s.delete_pending f;
+  times = s.basic f;
+}
 
 -- ---- room
 
@@ -154,7 +161,9 @@ rename_file s f replaced to = record s { entries = moved_entries (path_of s f) t
 -- ---- whether a change changes anything
 
 unfoldable pub same_basic : Basic → Basic → Bool
-same_basic a b = (a.created == b.created) && ((a.accessed == b.accessed) && ((a.written == b.written) && ((a.changed == b.changed) && (a.attributes == b.attributes))))
+same_basic a b = (a.created == b.created)
+    && ((a.accessed == b.accessed)
+    && ((a.written == b.written) && ((a.changed == b.changed) && (a.attributes == b.attributes))))
 
 -- the size that an allocation leaves: it may cut the file and never extends it (MS-FSA 2.1.5.15.1)
 unfoldable pub allocated : ℕ → ℕ → ℕ

@@ -1,12 +1,17 @@
 -- What the journal's records stand for (this project's): a state folded from them, and the part of a state that outlives a
 -- restart, of opens the persistent ones (MS-SMB2 3.3.1.10, Open.IsPersistent).
-use Rattle.std.specs.Prelude.{◌≡◌, ℕ, ◌+◌, ◌/◌, ◌%◌, ◌==◌, nat_lt, nat_le, max, Bool, true, false, not, ◌&&◌, ◌||◌, if◌then◌else◌, List, [], ◌∷◌, ◌++◌, length, Option, Some, None, is_some}
+use Rattle.std.specs.Prelude.{◌≡◌, ℕ, ◌+◌, ◌/◌, ◌%◌, ◌==◌, nat_lt, nat_le, max, Bool, true, false, not, ◌&&◌, ◌||◌}
+use Rattle.std.specs.Prelude.{if◌then◌else◌, List, [], ◌∷◌, ◌++◌, length, Option, Some, None, is_some}
 use Rattle.exchange_defs.specs.Status.{success}
 use Rattle.exchange_defs.specs.Texts.{is_path, is_below}
 use Rattle.exchange_defs.specs.Content.{written, ended, is_empty}
 use Rattle.exchange_defs.specs.Commands.{Basic, Element, all_lock, all_unlock}
-use Rattle.exchange_defs.specs.State.{Server, Address, Entry, Open, Range, Record, NewOpen, EpochRecord, CreateRecord, WriteRecord, EndRecord, BasicRecord, DeleteRecord, RenameRecord, RemoveRecord, LockRecord, CloseRecord, VersionRecord, ExpireRecord}
-use Rattle.exchange_defs.specs.Files.{root, find, path_of, exists, is_directory, has_parent, is_full_directory, passes_room, make_file, set_content, empty_file, set_delete_pending, store_basic, remove_file, rename_file}
+use Rattle.exchange_defs.specs.State.{Server, Address, Entry, Open, Range, Record, NewOpen, EpochRecord, CreateRecord}
+use Rattle.exchange_defs.specs.State.{WriteRecord, EndRecord, BasicRecord, DeleteRecord, RenameRecord, RemoveRecord}
+use Rattle.exchange_defs.specs.State.{LockRecord, CloseRecord, VersionRecord, ExpireRecord}
+use Rattle.exchange_defs.specs.Files.{root, find, path_of, exists, is_directory, has_parent, is_full_directory}
+use Rattle.exchange_defs.specs.Files.{passes_room, make_file, set_content, empty_file, set_delete_pending, store_basic}
+use Rattle.exchange_defs.specs.Files.{remove_file, rename_file}
 use Rattle.exchange_defs.specs.Ranges.{RangeAnswer, Stands, Denied, change_ranges}
 use Rattle.exchange_defs.specs.Opens.{max_ids, add_open, drop_open, pending_behind, file_has_open, without_gone}
 use Rattle.exchange_defs.specs.CheckCreate.{max_opens, max_files, last_file}
@@ -22,7 +27,18 @@ abbrev pub no_address : Address
 no_address = record { ip = 0; port = 0 }
 
 abbrev pub no_open : Open
-no_open = record { file = 0; access = 0; share = 0; options = 0; action = 0; persistent = false; client_guid = 0; create_guid = None; user = []; timeout = 0 }
+no_open = record {
+  file = 0;
+  access = 0;
+  share = 0;
+  options = 0;
+  action = 0;
+  persistent = false;
+  client_guid = 0;
+  create_guid = None;
+  user = [];
+  timeout = 0;
+}
 
 abbrev pub full_room : ℕ
 full_room = 268435456
@@ -83,36 +99,61 @@ sweep s [] = s
 sweep s (e ∷ es) = sweep (without_gone s e.file) es
 
 abbrev pub begin_epoch : Server → ℕ → Server
-begin_epoch s number = if number == s.epoch + 1 then record (sweep s s.entries) { epoch = number; open_ids_given = 0; session_ids_given = 0 } else s
+begin_epoch s number = if number == s.epoch + 1 then record (sweep s s.entries) {
+  epoch = number;
+  open_ids_given = 0;
+  session_ids_given = 0;
+} else s
 
 abbrev pub set_version : Server → ℕ → Server
 set_version s number = if (number == 2) && (s.version == 1) then record s { version = 2 } else s
 
 -- the next number, a free path in a directory, and room in the count
 unfoldable pub may_make : Server → ℕ → List ℕ → Bool
-may_make s f path = (f == s.next_file) && (is_path path && (not (is_some (find s path)) && (has_parent s path && (nat_lt (length s.entries) max_files && nat_le s.next_file last_file))))
+may_make s f path = (f == s.next_file)
+    && (is_path path && (not (is_some (find s path))
+    && (has_parent s path && (nat_lt (length s.entries) max_files && nat_le s.next_file last_file))))
 
 -- an id of this epoch that isn't live, a guid that no live open of the client has, and room in the count
 unfoldable pub may_restore : Server → NewOpen → Bool
-may_restore s n = (n.id / 0x1_0000_0000 == s.epoch) && (nat_lt 0 (n.id % 0x1_0000_0000) && (nat_lt s.open_ids_given max_ids && (not (s.standing n.id) && (not (is_some (s.by_guid n.client_guid n.create_guid)) && nat_lt (length s.opens) max_opens))))
+may_restore s n = (n.id / 0x1_0000_0000 == s.epoch)
+    && (nat_lt 0 (n.id % 0x1_0000_0000)
+    && (nat_lt s.open_ids_given max_ids
+    && (not (s.standing n.id) && (not (is_some (s.by_guid n.client_guid n.create_guid)) && nat_lt (length s.opens)
+    max_opens))))
 
 unfoldable pub may_have_open : Server → Option NewOpen → Bool
 may_have_open s None = true
 may_have_open s (Some n) = may_restore s n
 
 unfoldable pub may_create : Server → ℕ → ℕ → List ℕ → Bool
-may_create s action f path = if action == 2 then may_make s f path else if action == 1 then exists s f else if nat_lt action 4 then exists s f && not (is_directory s f) else false
+may_create s action f path = if action == 2 then may_make s f path else if action == 1 then exists s f else if nat_lt
+    action 4 then exists s f && not (is_directory s f) else false
 
 abbrev pub restored_row : NewOpen → ℕ → ℕ → Open
 restored_row n f action =
-    record { file = f; access = n.access; share = n.share; options = n.options; action = action; persistent = true; client_guid = n.client_guid; create_guid = Some n.create_guid; user = n.user; timeout = n.timeout }
+    record {
+      file = f;
+      access = n.access;
+      share = n.share;
+      options = n.options;
+      action = action;
+      persistent = true;
+      client_guid = n.client_guid;
+      create_guid = Some n.create_guid;
+      user = n.user;
+      timeout = n.timeout;
+    }
 
 abbrev pub restore : Server → ℕ → ℕ → Option NewOpen → Server
 restore s f action None = s
-restore s f action (Some n) = record (add_open s n.id (restored_row n f action) None 0) { open_ids_given = max s.open_ids_given (n.id % 0x1_0000_0000) }
+restore s f action (Some n) = record (add_open s n.id (restored_row n f action) None 0) {
+  open_ids_given = max s.open_ids_given (n.id % 0x1_0000_0000);
+}
 
 abbrev pub created_file : Server → ℕ → ℕ → List ℕ → ℕ → Bool → ℕ → Server
-created_file s action f path attributes is_dir time = if action == 2 then make_file s path is_dir attributes time else if action == 1 then s else empty_file s f attributes time
+created_file s action f path attributes is_dir time = if action == 2 then make_file s path is_dir attributes time else
+    if action == 1 then s else empty_file s f attributes time
 
 -- where the file is there and no directory
 unfoldable pub is_file : Server → ℕ → Bool
@@ -128,7 +169,9 @@ may_replace s (Some t) = not (is_directory s t) && not (file_has_open s t)
 
 unfoldable pub may_rename : Server → ℕ → ℕ → List ℕ → Bool
 may_rename s f replaced path =
-    exists s f && (not (f == root) && (is_path path && (has_parent s path && (not (is_directory s f && is_below (path_of s f) path) && (same_target (target_of f (find s path)) replaced && may_replace s (target_of f (find s path)))))))
+    exists s f && (not (f == root)
+    && (is_path path && (has_parent s path && (not (is_directory s f && is_below (path_of s f) path)
+    && (same_target (target_of f (find s path)) replaced && may_replace s (target_of f (find s path)))))))
 
 unfoldable pub may_remove : Server → ℕ → Bool
 may_remove s f = exists s f && (not (f == root) && (not (file_has_open s f) && not (is_full_directory s f)))
@@ -150,16 +193,23 @@ abbrev pub with_record : Server → Record → Server
 with_record s (EpochRecord number) = begin_epoch s number
 with_record s (VersionRecord number) = set_version s number
 with_record s (CreateRecord origin action f path attributes is_dir time opened) =
-    if may_create s action f path && may_have_open s opened then restore (created_file s action f path attributes is_dir time) f action opened else s
-with_record s (WriteRecord origin f at time bytes) = if is_file s f && (not (is_empty bytes) && not (passes_room s f (at + length bytes))) then set_content s f (written at bytes (s.content f)) time else s
-with_record s (EndRecord origin f size time) = if is_file s f && not (passes_room s f size) then set_content s f (ended size (s.content f)) time else s
+    if may_create s action f path && may_have_open s opened then restore (created_file s action f path attributes is_dir
+    time) f action opened else s
+with_record s (WriteRecord origin f at time bytes) = if is_file s f
+    && (not (is_empty bytes) && not (passes_room s f (at + length bytes))) then set_content s f
+    (written at bytes (s.content f)) time else s
+with_record s (EndRecord origin f size time) = if is_file s f && not (passes_room s f size) then set_content s f
+    (ended size (s.content f)) time else s
 with_record s (BasicRecord origin f basic) = if exists s f then store_basic s f basic else s
 with_record s (DeleteRecord origin f flag) = if exists s f && not (f == root) then set_delete_pending s f flag else s
-with_record s (RenameRecord origin f replaced path) = if may_rename s f replaced path then rename_file s f (target_of f (find s path)) path else s
+with_record s (RenameRecord origin f replaced path) = if may_rename s f replaced path then rename_file s f
+    (target_of f (find s path)) path else s
 with_record s (RemoveRecord origin f) = if may_remove s f then remove_file s f else s
-with_record s (LockRecord origin o index number status elements) = if s.standing o && nat_le index 64 then lock_recorded s o index number status elements else s
+with_record s (LockRecord origin o index number status elements) = if s.standing o && nat_le index 64 then lock_recorded
+    s o index number status elements else s
 with_record s (CloseRecord origin o) = if s.standing o then shut_recorded s o else s
-with_record s (ExpireRecord origin o) = if s.standing o && nat_lt s.expired_count max_expired_guids then add_expired_guid (shut_recorded s o) (s.opened o).client_guid (s.opened o).create_guid else s
+with_record s (ExpireRecord origin o) = if s.standing o && nat_lt s.expired_count max_expired_guids then
+    add_expired_guid (shut_recorded s o) (s.opened o).client_guid (s.opened o).create_guid else s
 
 unfoldable pub fold_from : Server → List Record → Server
 fold_from s [] = s
@@ -188,7 +238,13 @@ recovery_records rs = opening_records (fold rs)
 
 -- recovery: nothing but the configuration, the disk's bytes and its records decide where a server stands
 abbrev pub recovered : Configuration → ℕ → List Record → Server
-recovered z bytes rs = record (fold (rs ++ recovery_records rs)) { share = z.share; room = z.room; encrypts = z.encrypts; address = z.address; journal = bytes + entry_bytes (recovery_records rs) }
+recovered z bytes rs = record (fold (rs ++ recovery_records rs)) {
+  share = z.share;
+  room = z.room;
+  encrypts = z.encrypts;
+  address = z.address;
+  journal = bytes + entry_bytes (recovery_records rs);
+}
 
 -- behind a server that ran under the same configuration, on the disk that it left
 abbrev pub configuration_of : Server → Configuration

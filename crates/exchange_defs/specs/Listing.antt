@@ -1,5 +1,6 @@
 -- What QUERY_DIRECTORY gives (MS-SMB2 3.3.5.18, MS-FSA 2.1.4.4 and 2.1.5.6.3).
-use Rattle.std.specs.Prelude.{ℕ, ◌+◌, ◌*◌, ◌/◌, ◌==◌, nat_lt, nat_le, Bool, true, false, ◌&&◌, ◌||◌, if◌then◌else◌, List, [], ◌∷◌, Option, Some, None}
+use Rattle.std.specs.Prelude.{ℕ, ◌+◌, ◌*◌, ◌/◌, ◌==◌, nat_lt, nat_le, Bool, true, false, ◌&&◌, ◌||◌, if◌then◌else◌}
+use Rattle.std.specs.Prelude.{List, [], ◌∷◌, Option, Some, None}
 use Rattle.exchange_defs.specs.Content.{same_bytes}
 use Rattle.exchange_defs.specs.Texts.{upper, same_name, name_before, utf16_length, parent_of, leaf_of}
 use Rattle.exchange_defs.specs.State.{Server, Entry, Named}
@@ -27,7 +28,8 @@ one_byte p accepts (c ∷ cs) = (upper p == upper c) && accepts cs
 unfoldable pub matches : List ℕ → List ℕ → Bool
 matches [] [] = true
 matches [] (c ∷ cs) = false
-matches (p ∷ ps) name = if p == 42 then any_tail (matches ps) name else if p == 63 then one_character (matches ps) name else one_byte p (matches ps) name
+matches (p ∷ ps) name = if p == 42 then any_tail (matches ps) name else if p == 63 then one_character (matches ps) name
+    else one_byte p (matches ps) name
 
 -- an empty pattern counts as `*`
 unfoldable pub accepts : List ℕ → List ℕ → Bool
@@ -49,7 +51,10 @@ insert_named n (m ∷ ms) = if listed_before n.name m.name then n ∷ m ∷ ms e
 -- the entries of a directory, in their order
 unfoldable pub children : Server → List Entry → List ℕ → List Named
 children s [] path = []
-children s (e ∷ es) path = if same_name (parent_of e.path) path then insert_named (record { name = leaf_of e.path; info = info_of s e.file }) (children s es path) else children s es path
+children s (e ∷ es) path = if same_name (parent_of e.path) path then insert_named (record {
+  name = leaf_of e.path;
+  info = info_of s e.file;
+}) (children s es path) else children s es path
 
 unfoldable pub parent_file : Option ℕ → ℕ
 parent_file None = root
@@ -57,7 +62,10 @@ parent_file (Some f) = f
 
 unfoldable pub all_named : Server → ℕ → List Named
 all_named s f =
-    record { name = 46 ∷ []; info = info_of s f } ∷ record { name = 46 ∷ 46 ∷ []; info = info_of s (parent_file (find s (parent_of (path_of s f)))) } ∷ children s s.entries (path_of s f)
+    record { name = 46 ∷ []; info = info_of s f } ∷ record {
+      name = 46 ∷ 46 ∷ [];
+      info = info_of s (parent_file (find s (parent_of (path_of s f))));
+    } ∷ children s s.entries (path_of s f)
 
 unfoldable pub is_behind : Option (List ℕ) → List ℕ → Bool
 is_behind None name = true
@@ -66,12 +74,14 @@ is_behind (Some last) name = listed_before last name
 -- those behind the last name that the pattern accepts
 unfoldable pub wanted : Option (List ℕ) → List ℕ → List Named → List Named
 wanted last pattern [] = []
-wanted last pattern (n ∷ ns) = if is_behind last n.name && accepts pattern n.name then n ∷ wanted last pattern ns else wanted last pattern ns
+wanted last pattern (n ∷ ns) = if is_behind last n.name && accepts pattern n.name then n ∷ wanted last pattern ns else
+    wanted last pattern ns
 
 -- ---- what fits (MS-FSCC 2.4): an entry's fixed part by its class, then its name in UTF-16; entries begin at multiples of 8
 
 unfoldable pub entry_part : ℕ → ℕ
-entry_part class = if class == 1 then 64 else if class == 2 then 68 else if class == 3 then 94 else if class == 12 then 12 else if class == 37 then 104 else 80
+entry_part class = if class == 1 then 64 else if class == 2 then 68 else if class == 3 then 94 else if class == 12 then
+    12 else if class == 37 then 104 else 80
 
 unfoldable pub entry_size : ℕ → Named → ℕ
 entry_size class n = entry_part class + 2 * utf16_length n.name
@@ -81,7 +91,8 @@ next_multiple n = ((n + 7) / 8) * 8
 
 unfoldable pub fitting : ℕ → ℕ → ℕ → List Named → List Named
 fitting class room at [] = []
-fitting class room at (n ∷ ns) = if nat_le (next_multiple at + entry_size class n) room then n ∷ fitting class room (next_multiple at + entry_size class n) ns else []
+fitting class room at (n ∷ ns) = if nat_le (next_multiple at + entry_size class n) room then n ∷ fitting class room
+    (next_multiple at + entry_size class n) ns else []
 
 unfoldable pub first_of_them : List Named → List Named
 first_of_them [] = []
@@ -98,7 +109,8 @@ last_name last (n ∷ ns) = last_name (Some n.name) ns
 -- ---- QUERY_INFO: the bytes of an answer by its class (MS-FSCC 2.4 and 2.5)
 
 unfoldable pub file_info_size : ℕ → List ℕ → ℕ
-file_info_size class path = if class == 4 then 40 else if class == 5 then 24 else if class == 6 then 8 else if class == 34 then 56 else 100 + 2 * (utf16_length path + 1)
+file_info_size class path = if class == 4 then 40 else if class == 5 then 24 else if class == 6 then 8 else if class ==
+    34 then 56 else 100 + 2 * (utf16_length path + 1)
 
 -- the volume has no label, and its file system is named NTFS
 unfoldable pub volume_info_size : ℕ → ℕ

@@ -1,17 +1,21 @@
 -- Connections between one client and one server, which lose what they hold (MS-SMB2 3.2.7.1, 3.3.7.1): the events of a world.
-use Rattle.std.specs.Prelude.{ℕ, ◌+◌, ◌*◌, ◌==◌, nat_lt, Bool, true, false, not, ◌&&◌, if◌then◌else◌, List, [], ◌∷◌, ◌++◌, Option, Some, None, is_some, min}
+use Rattle.std.specs.Prelude.{ℕ, ◌+◌, ◌*◌, ◌==◌, nat_lt, Bool, true, false, not, ◌&&◌, if◌then◌else◌, List, [], ◌∷◌}
+use Rattle.std.specs.Prelude.{◌++◌, Option, Some, None, is_some, min}
 use Rattle.exchange_defs.specs.Table.{put, is_filled}
 use Rattle.exchange_defs.specs.Status.{success, end_of_file}
 use Rattle.exchange_defs.specs.Content.{ContentReply, Counted, Gives, Done}
 use Rattle.exchange_defs.specs.Order.{Log, Said, Says_ok, Says_end, Says_other}
 use Rattle.exchange_defs.specs.Commands.{Command, Aside}
-use Rattle.exchange_defs.specs.State.{no_later, Server, Address, Message, Accept, Heard, End, Reply, Body, Empty, Content, Count, Record, Answer}
+use Rattle.exchange_defs.specs.State.{no_later, Server, Address, Message, Accept, Heard, End, Reply, Body, Empty}
+use Rattle.exchange_defs.specs.State.{Content, Count, Record, Answer}
 use Rattle.exchange_defs.specs.Step.{step}
 use Rattle.exchange_defs.specs.Fold.{recovered_from, recovery_records, nothing_yet, full_room}
 use Rattle.exchange_defs.specs.Operations.{Op, OpClose, Unsettled, NoSession, Refusal, HadStatus, is_create, is_firm, weight, charge}
 use Rattle.exchange_defs.specs.Client.{Client, Identity, Stage, Apart, AskedTree, SaidNegotiate, own_message, ask_message, leave_dialog}
-use Rattle.exchange_defs.specs.ClientStep.{Pick, ClientEvent, TakesOp, Pushes, Hears, IsCut, IsReady, IsRefused, Finishes, Act, Sends, Asks, CloseChannel, CloseChannels, client_after, act}
-use Rattle.exchange_defs.specs.Dialogs.{DialogStep, GoesOn, Accepts, Binds, Readies, Refuses, dialog_step, dialog_message, open_channel, went_on, accepted}
+use Rattle.exchange_defs.specs.ClientStep.{Pick, ClientEvent, TakesOp, Pushes, Hears, IsCut, IsReady, IsRefused}
+use Rattle.exchange_defs.specs.ClientStep.{Finishes, Act, Sends, Asks, CloseChannel, CloseChannels, client_after, act}
+use Rattle.exchange_defs.specs.Dialogs.{DialogStep, GoesOn, Accepts, Binds, Readies, Refuses, dialog_step}
+use Rattle.exchange_defs.specs.Dialogs.{dialog_message, open_channel, went_on, accepted}
 
 -- ---- connections
 
@@ -78,10 +82,22 @@ abbrev pub with_answer : World → Answer → World
 with_answer w A = record w { server = A.server; records = w.records ++ A.records }
 
 abbrev pub fresh : Client → ℕ → Bool → Conn
-fresh c k served = record { client_open = true; server_open = served; up = if served then record { token = ForDialog; message = dialog_message c k 0 (SaidNegotiate c.live) } ∷ [] else []; down = []; next_id = 1 }
+fresh c k served = record {
+  client_open = true;
+  server_open = served;
+  up = if served then record {
+    token = ForDialog;
+    message = dialog_message c k 0 (SaidNegotiate c.live);
+  } ∷ [] else [];
+  down = [];
+  next_id = 1;
+}
 
 abbrev pub opened_by : World → ℕ → Answer → World
-opened_by w k A = record (with_answer w A) { client = open_channel w.client k; conns = put w.conns k (fresh w.client k (A.reply.status == success)) }
+opened_by w k A = record (with_answer w A) {
+  client = open_channel w.client k;
+  conns = put w.conns k (fresh w.client k (A.reply.status == success));
+}
 
 abbrev pub opened : World → ℕ → World
 opened w k = opened_by w k (step w.server w.moment (Accept k))
@@ -99,7 +115,10 @@ send_up c token m n = record c { up = c.up ++ record { token = token; message = 
 
 -- an operation goes out first: what had settled as Ok or Refused by then is remembered
 abbrev pub first_push : World → ℕ → Log
-first_push w g = if w.client.sent g then w.log else record w.log { since = put w.log.since g w.log.places; prior = put w.log.prior g (λ a. is_firm (w.client.outcome a)) }
+first_push w g = if w.client.sent g then w.log else record w.log {
+  since = put w.log.since g w.log.places;
+  prior = put w.log.prior g (λ a. is_firm (w.client.outcome a));
+}
 
 -- the operation itself goes up, from the client behind the step
 abbrev pub transmitted : World → ℕ → ℕ → Client → World
@@ -130,7 +149,19 @@ pushed w k slotless pick = pushed_by w k (client_after w.client (Pushes k slotle
 
 -- NEGOTIATE and ECHO touch no shared state
 abbrev pub untouched : Server → Message → ℕ → Answer
-untouched s m status = record { server = s; reply = record { status = status; session_id = m.session_id; tree_id = m.tree_id; body = Empty }; records = []; acted = false; reached = None; altered = None }
+untouched s m status = record {
+  server = s;
+  reply = record {
+    status = status;
+    session_id = m.session_id;
+    tree_id = m.tree_id;
+    body = Empty;
+  };
+  records = [];
+  acted = false;
+  reached = None;
+  altered = None;
+}
 
 abbrev pub answer_to : Server → ℕ → Message → Command → Answer
 answer_to s now m (Aside status) = untouched s m status
@@ -190,7 +221,8 @@ logged w x A t =
       did = put w.log.did w.log.places (is_own x.token && A.acted);
       bytes = λ c. put (w.log.bytes c) (w.log.places + 1) (bytes_behind A.server (t.open_of c) (w.log.bytes c w.log.places));
       birth = if makes w.client x.token A then put w.log.birth (op_of x.token) (w.log.places + 1) else w.log.birth;
-      first = if is_own x.token && A.acted then put w.log.first (op_of x.token) (first_noted (w.log.first (op_of x.token)) w.log.places) else w.log.first;
+      first = if is_own x.token && A.acted then put w.log.first (op_of x.token)
+          (first_noted (w.log.first (op_of x.token)) w.log.places) else w.log.first;
     }
 
 abbrev pub behind_front : Conn → List Sent → Conn
@@ -214,7 +246,11 @@ replied w k y = record w { conns = put w.conns k (say_down (w.conns k) y) }
 
 abbrev pub serve_front : World → ℕ → List Sent → World
 serve_front w k [] = w
-serve_front w k (x ∷ rest) = let A = answer w x in replied (absorbed w k x rest A) k (record { token = x.token; reply = A.reply; place = w.log.places })
+serve_front w k (x ∷ rest) = let A = answer w x in replied (absorbed w k x rest A) k (record {
+  token = x.token;
+  reply = A.reply;
+  place = w.log.places;
+})
 
 abbrev pub served : World → ℕ → World
 served w k = serve_front w k (w.conns k).up
@@ -239,7 +275,9 @@ behind_reply w k rest = record w { conns = put w.conns k (take_front (w.conns k)
 
 -- the next message of a dialog goes out
 abbrev pub dialog_sent : World → ℕ → Stage → World
-dialog_sent w k stage = record w { conns = put w.conns k (send_up (w.conns k) ForDialog (dialog_message w.client k (w.conns k).next_id stage) 1) }
+dialog_sent w k stage = record w {
+  conns = put w.conns k (send_up (w.conns k) ForDialog (dialog_message w.client k (w.conns k).next_id stage) 1);
+}
 
 -- a client that is told so closes its end of this connection, or of every one
 abbrev pub closed_by : World → ℕ → Act → World
@@ -259,7 +297,8 @@ dialog_took w k r Readies = dialog_ended w k (IsReady k w.client.pending r.tree_
 dialog_took w k r (Refuses status) = dialog_ended w k (IsRefused k (HadStatus status))
 
 abbrev pub op_took : World → ℕ → ℕ → Bool → Reply → ℕ → World
-op_took w k g asking r place = with_client (closed_by w k (act w.client (Hears k g asking r place))) (client_after w.client (Hears k g asking r place))
+op_took w k g asking r place = with_client (closed_by w k (act w.client (Hears k g asking r place)))
+    (client_after w.client (Hears k g asking r place))
 
 abbrev pub took_by : World → ℕ → Reply → ℕ → Token → World
 took_by w k r place ForDialog = dialog_took w k r (dialog_step (w.client.stage k) r.status)
@@ -411,7 +450,13 @@ pub record Settings : Type 0 where
 
 -- the server before its first start: an empty journal, and at most the full room
 abbrev pub blank_server : Settings → Server
-blank_server z = record nothing_yet { share = z.share; room = min z.room full_room; encrypts = z.encrypts; address = z.address; journal = 9 }
+blank_server z = record nothing_yet {
+  share = z.share;
+  room = min z.room full_room;
+  encrypts = z.encrypts;
+  address = z.address;
+  journal = 9;
+}
 
 abbrev pub start : Settings → World
 start z =
@@ -421,6 +466,16 @@ start z =
       records = recovery_records [];
       moment = 0;
       conns = λ k. no_conn;
-      log = record { places = 0; who = λ n. 0; gave = λ n. Says_other; did = λ n. false; bytes = λ c n. []; birth = λ c. 0; first = λ g. None; since = λ g. 0; prior = λ h a. false };
+      log = record {
+        places = 0;
+        who = λ n. 0;
+        gave = λ n. Says_other;
+        did = λ n. false;
+        bytes = λ c n. [];
+        birth = λ c. 0;
+        first = λ g. None;
+        since = λ g. 0;
+        prior = λ h a. false;
+      };
       trace = record { open_of = λ c. None; reached = λ n. None; altered = λ n. None; session = λ n. 0; sequence = λ n. 0 };
     }

@@ -1,5 +1,6 @@
 -- Opens: access, sharing, ids, and what leaves the table with one (MS-SMB2 3.3.1.10, MS-FSA 2.1.5.1.2.2 and 2.1.5.5).
-use Rattle.std.specs.Prelude.{ℕ, ◌+◌, ◌*◌, ◌%◌, ◌==◌, Bool, true, false, not, ◌&&◌, ◌||◌, if◌then◌else◌, List, [], ◌∷◌, ◌++◌, Option, Some, None, bit_or}
+use Rattle.std.specs.Prelude.{ℕ, ◌+◌, ◌*◌, ◌%◌, ◌==◌, Bool, true, false, not, ◌&&◌, ◌||◌, if◌then◌else◌, List, [], ◌∷◌}
+use Rattle.std.specs.Prelude.{◌++◌, Option, Some, None, bit_or}
 use Rattle.exchange_defs.specs.Table.{put, put2, without, placed_in, is_at, is_filled}
 use Rattle.exchange_defs.specs.Commands.{has_bit, deletes_on_close}
 use Rattle.exchange_defs.specs.State.{Server, Open, Record, Origin, DeleteRecord, RemoveRecord, CloseRecord}
@@ -23,7 +24,9 @@ bits_if false bits = 0
 unfoldable pub mapped : ℕ → ℕ
 mapped a =
     bit_or (a % 0x200_0000)
-    (bit_or (bits_if (has_bit a 0x8000_0000) 0x12_0089) (bit_or (bits_if (has_bit a 0x4000_0000) 0x12_0116) (bit_or (bits_if (has_bit a 0x2000_0000) 0x12_00a0) (bits_if (has_bit a 0x1000_0000 || has_bit a 0x200_0000) 0x1f_01ff))))
+    (bit_or (bits_if (has_bit a 0x8000_0000) 0x12_0089) (bit_or (bits_if (has_bit a 0x4000_0000) 0x12_0116)
+    (bit_or (bits_if (has_bit a 0x2000_0000) 0x12_00a0) (bits_if (has_bit a 0x1000_0000 || has_bit a 0x200_0000)
+    0x1f_01ff))))
 
 unfoldable pub reads : ℕ → Bool
 reads access = has_bit access 0x1 || has_bit access 0x20
@@ -38,7 +41,8 @@ deletes access = has_bit access 0x1_0000
 
 -- each way of access is among those shared
 unfoldable pub is_shared : ℕ → ℕ → Bool
-is_shared access share = (not (reads access) || has_bit share 0x1) && ((not (writes access) || has_bit share 0x2) && (not (deletes access) || has_bit share 0x4))
+is_shared access share = (not (reads access) || has_bit share 0x1) && ((not (writes access) || has_bit share 0x2)
+    && (not (deletes access) || has_bit share 0x4))
 
 -- the share access lacks writing
 unfoldable pub denies_writers : ℕ → Bool
@@ -55,7 +59,8 @@ opens_of s f = opens_in s.opened s.opens f
 -- in both directions, whether or not the other's session is gone
 unfoldable pub admits : (ℕ → Open) → List ℕ → ℕ → ℕ → Bool
 admits opened [] access share = true
-admits opened (o ∷ os) access share = is_shared access (opened o).share && (is_shared (opened o).access share && admits opened os access share)
+admits opened (o ∷ os) access share = is_shared access (opened o).share
+    && (is_shared (opened o).access share && admits opened os access share)
 
 unfoldable pub file_has_open : Server → ℕ → Bool
 file_has_open s f = is_filled (opens_of s f)
@@ -116,7 +121,8 @@ leave_open s o = without_gone (drop_open (pending_behind s o) o) (s.opened o).fi
 
 -- its records: that it left, where it is persistent, and what a fold couldn't tell without it
 unfoldable pub pending_records : Server → Origin → ℕ → List Record
-pending_records s origin o = if not (s.opened o).persistent && (deletes_on_close (s.opened o).options && not (s.delete_pending (s.opened o).file)) then DeleteRecord origin (s.opened o).file true ∷ [] else []
+pending_records s origin o = if not (s.opened o).persistent && (deletes_on_close (s.opened o).options
+    && not (s.delete_pending (s.opened o).file)) then DeleteRecord origin (s.opened o).file true ∷ [] else []
 
 unfoldable pub shut_records : Server → Origin → ℕ → List Record
 shut_records s origin o = if (s.opened o).persistent then CloseRecord origin o ∷ [] else []
@@ -125,4 +131,5 @@ unfoldable pub gone_records : Server → Origin → ℕ → List Record
 gone_records s origin f = if goes s f then RemoveRecord origin f ∷ [] else []
 
 unfoldable pub leave_records : Server → Origin → ℕ → List Record
-leave_records s origin o = pending_records s origin o ++ (shut_records s origin o ++ gone_records (drop_open (pending_behind s o) o) origin (s.opened o).file)
+leave_records s origin o = pending_records s origin o
+    ++ (shut_records s origin o ++ gone_records (drop_open (pending_behind s o) o) origin (s.opened o).file)

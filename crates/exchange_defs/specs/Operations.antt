@@ -1,9 +1,12 @@
 -- The operations of a script, what they send and how they settle.
-use Rattle.std.specs.Prelude.{ℕ, ◌+◌, ◌-◌, ◌/◌, ◌==◌, nat_le, nat_lt, Bool, true, false, not, ◌&&◌, ◌||◌, if◌then◌else◌, List, [], ◌∷◌, length, Option, Some, None}
+use Rattle.std.specs.Prelude.{ℕ, ◌+◌, ◌-◌, ◌/◌, ◌==◌, nat_le, nat_lt, Bool, true, false, not, ◌&&◌, ◌||◌, if◌then◌else◌}
+use Rattle.std.specs.Prelude.{List, [], ◌∷◌, length, Option, Some, None}
 use Rattle.exchange_defs.specs.Status.{success}
 use Rattle.exchange_defs.specs.Texts.{is_utf8, utf16_length}
 use Rattle.exchange_defs.specs.Content.{ContentOp, Still, Write as Writes, Read as Reads, SetEnd as Ends, meets, same_bytes}
-use Rattle.exchange_defs.specs.Commands.{Command, Create as CreateCommand, Write as WriteCommand, Read as ReadCommand, Close, Flush, Lock, ListDirectory, QueryFile, SetInfo, Aside, Basic, Element, SetBasic, Rename, SetDelete, SetEnd, CreateRequest, Durable, Reconnect}
+use Rattle.exchange_defs.specs.Commands.{Command, Create as CreateCommand, Write as WriteCommand, Read as ReadCommand}
+use Rattle.exchange_defs.specs.Commands.{Close, Flush, Lock, ListDirectory, QueryFile, SetInfo, Aside, Basic, Element}
+use Rattle.exchange_defs.specs.Commands.{SetBasic, Rename, SetDelete, SetEnd, CreateRequest, Durable, Reconnect}
 use Rattle.exchange_defs.specs.State.{Body, Created, Content, Count, Listing, FileInfo, Empty, Named}
 
 -- ---- operations, by their numbers from 1; create is the number of an earlier one
@@ -145,7 +148,8 @@ is_spelled_path path = is_text path && nat_le (utf16_length path) 1024
 
 -- and no more bytes than a script's line gives
 abbrev pub keeps_limits : Op → Bool
-keeps_limits (OpCreate path access share disposition persist directory) = is_spelled_path path && (fits_32 access && (fits_32 share && fits_32 disposition))
+keeps_limits (OpCreate path access share disposition persist directory) = is_spelled_path path
+    && (fits_32 access && (fits_32 share && fits_32 disposition))
 keeps_limits (OpWrite create at bytes) = fits_64 at && (are_below 256 bytes && nat_le (length bytes) 1048577)
 keeps_limits (OpRead create at size) = fits_64 at && nat_le size 1048577
 keeps_limits (OpEnd create size) = fits_64 size
@@ -205,7 +209,18 @@ options_of directory = if directory then 0x1 else 0x40
 
 abbrev pub create_request : List ℕ → ℕ → ℕ → ℕ → Bool → Option Durable → Option Reconnect → CreateRequest
 create_request path access share disposition directory durable reconnect =
-    record { path = path; access = access; share = share; attributes = 0; disposition = disposition; options = options_of directory; durable = durable; reconnect = reconnect; maximal = false; disk_id = false }
+    record {
+      path = path;
+      access = access;
+      share = share;
+      attributes = 0;
+      disposition = disposition;
+      options = options_of directory;
+      durable = durable;
+      reconnect = reconnect;
+      maximal = false;
+      disk_id = false;
+    }
 
 abbrev pub durable_of : ℕ → Bool → Durable
 durable_of guid persist = record { timeout = 0; persistent = persist; guid = guid }
@@ -222,7 +237,8 @@ element at n flags = record { at = at; length = n; flags = flags } ∷ []
 
 -- the request of an operation, by its guid, its open's id, its slot and the slot's number
 abbrev pub request_of : Op → ℕ → ℕ → ℕ → ℕ → Command
-request_of (OpCreate path access share disposition persist directory) guid file slot number = CreateCommand (create_request path access share disposition directory (Some (durable_of guid persist)) None)
+request_of (OpCreate path access share disposition persist directory) guid file slot number =
+    CreateCommand (create_request path access share disposition directory (Some (durable_of guid persist)) None)
 request_of (OpWrite create at bytes) guid file slot number = WriteCommand file at bytes 0
 request_of (OpRead create at size) guid file slot number = ReadCommand file at size 0 0
 request_of (OpEnd create size) guid file slot number = SetInfo file (SetEnd size)

@@ -2,7 +2,8 @@
 --
 -- Each message that the server took has a place, counted from 0. An operation's place is that of its first message that
 -- acted, else that of the message whose reply settled it. The order of an open lists its operations by their places.
-use Rattle.std.specs.Prelude.{◌≡◌, ℕ, zero, suc, ◌+◌, ◌-◌, ◌==◌, ◌≤◌, nat_lt, Bool, true, false, ◌&&◌, if◌then◌else◌, List, [], ◌∷◌, Option, Some, None, is_some}
+use Rattle.std.specs.Prelude.{◌≡◌, ℕ, zero, suc, ◌+◌, ◌-◌, ◌==◌, ◌≤◌, nat_lt, Bool, true, false, ◌&&◌, if◌then◌else◌}
+use Rattle.std.specs.Prelude.{List, [], ◌∷◌, Option, Some, None, is_some}
 use Rattle.exchange_defs.specs.Content.{ContentOp, ContentReply, effect, value, past_end, is_listed}
 
 -- What the reply to a message said of the bytes.
@@ -25,7 +26,8 @@ pub record Log : Type 0 where
   pub who : ℕ → ℕ  -- by place: the operation of the message
   pub gave : ℕ → Said  --   what its reply said, sent or not
   pub did : ℕ → Bool  --   whether it acted
-  pub bytes : ℕ → ℕ → List ℕ  -- by create and place: the bytes of its open's file before that place, as they were when the open left the table
+  -- by create and place: the bytes of its open's file before that place, as they were when the open left the table
+  pub bytes : ℕ → ℕ → List ℕ
   pub birth : ℕ → ℕ  -- by create: the next place when it acted
   pub first : ℕ → Option ℕ  -- by operation: the place where it acted first
   pub since : ℕ → ℕ  --   the next place when it was first pushed

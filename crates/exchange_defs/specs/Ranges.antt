@@ -1,5 +1,6 @@
 -- Byte ranges that are locked (MS-FSA 2.1.4.10, MS-SMB2 3.3.5.14).
-use Rattle.std.specs.Prelude.{ℕ, ◌+◌, ◌==◌, nat_lt, Bool, true, false, not, ◌&&◌, ◌||◌, if◌then◌else◌, List, [], ◌∷◌, ◌++◌, length, Option, Some, None}
+use Rattle.std.specs.Prelude.{ℕ, ◌+◌, ◌==◌, nat_lt, Bool, true, false, not, ◌&&◌, ◌||◌, if◌then◌else◌, List, [], ◌∷◌}
+use Rattle.std.specs.Prelude.{◌++◌, length, Option, Some, None}
 use Rattle.exchange_defs.specs.Content.{meets}
 use Rattle.exchange_defs.specs.Commands.{Element, is_exclusive, all_lock}
 use Rattle.exchange_defs.specs.State.{Range}
@@ -68,7 +69,8 @@ stands_or status None = Denied status
 stands_or status (Some rs) = Stands rs
 
 unfoldable pub lock_ranges : List Range → ℕ → List Range → RangeAnswer
-lock_ranges rs o ws = if nat_lt max_ranges (count_owned o rs + length ws) then Denied insufficient_resources else if any_wraps ws then Denied invalid_lock_range else stands_or lock_not_granted (add_ranges rs ws)
+lock_ranges rs o ws = if nat_lt max_ranges (count_owned o rs + length ws) then Denied insufficient_resources else
+    if any_wraps ws then Denied invalid_lock_range else stands_or lock_not_granted (add_ranges rs ws)
 
 unfoldable pub unlock_ranges : List Range → List Range → RangeAnswer
 unlock_ranges rs ws = if any_wraps ws then Denied invalid_lock_range else stands_or range_not_locked (take_ranges (Some rs) ws)

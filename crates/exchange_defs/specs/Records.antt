@@ -1,7 +1,9 @@
 -- The journal (this project's): how many bytes a record takes, and what fits below the limit.
 use Rattle.std.specs.Prelude.{ℕ, ◌+◌, ◌-◌, ◌*◌, nat_le, Bool, true, List, [], ◌∷◌, length, Option, Some, None}
 use Rattle.exchange_defs.specs.Texts.{utf16_length}
-use Rattle.exchange_defs.specs.State.{Server, Message, Origin, Record, NewOpen, EpochRecord, CreateRecord, WriteRecord, EndRecord, BasicRecord, DeleteRecord, RenameRecord, RemoveRecord, LockRecord, CloseRecord, VersionRecord, ExpireRecord}
+use Rattle.exchange_defs.specs.State.{Server, Message, Origin, Record, NewOpen, EpochRecord, CreateRecord, WriteRecord}
+use Rattle.exchange_defs.specs.State.{EndRecord, BasicRecord, DeleteRecord, RenameRecord, RemoveRecord, LockRecord}
+use Rattle.exchange_defs.specs.State.{CloseRecord, VersionRecord, ExpireRecord}
 
 abbrev pub origin_of : Message → Origin
 origin_of m = record { session = m.session_id; connection = m.connection; message = m.message_id }
@@ -21,7 +23,8 @@ opened_size (Some n) = 1 + 8 + 16 + 16 + text_size n.user + 4 + 4 + 4 + 4
 -- a kind of 1 byte, then an origin of 20 where there is one, then the fields
 unfoldable pub record_size : Record → ℕ
 record_size (EpochRecord number) = 5
-record_size (CreateRecord origin action file path attributes is_dir time opened) = 21 + 4 + 8 + text_size path + 4 + 1 + 8 + opened_size opened
+record_size (CreateRecord origin action file path attributes is_dir time opened) = 21 + 4 + 8 + text_size path + 4 + 1
+    + 8 + opened_size opened
 record_size (WriteRecord origin file at time bytes) = 21 + 8 + 8 + 8 + 4 + length bytes
 record_size (EndRecord origin file size time) = 21 + 8 + 8 + 8
 record_size (BasicRecord origin file basic) = 21 + 8 + 32 + 4

@@ -3,8 +3,11 @@ use Rattle.std.specs.Prelude.{ℕ, ◌+◌, ◌==◌, nat_lt, Bool, true, false,
 use Rattle.exchange_defs.specs.Table.{is_at}
 use Rattle.exchange_defs.specs.Status.{end_of_file}
 use Rattle.exchange_defs.specs.Content.{ContentReply, Counted, Gives, Done}
-use Rattle.exchange_defs.specs.Order.{Account, Settlement, Unsettled as NotSettled, Settled_ok, Settled_end, Settled_refused, Settled_unknown}
-use Rattle.exchange_defs.specs.Operations.{Op, OpReply, IsCount, IsContent, Outcome, Unsettled, WasOk, WasRefused, NoSlot, NoOpen, is_create, is_lock, is_read, create_of, content_op, share_of, is_ok}
+use Rattle.exchange_defs.specs.Order.{Account, Settlement, Unsettled as NotSettled, Settled_ok, Settled_end}
+use Rattle.exchange_defs.specs.Order.{Settled_refused, Settled_unknown}
+use Rattle.exchange_defs.specs.Operations.{Op, OpReply, IsCount, IsContent, Outcome, Unsettled, WasOk, WasRefused}
+use Rattle.exchange_defs.specs.Operations.{NoSlot, NoOpen, is_create, is_lock, is_read, create_of, content_op, share_of}
+use Rattle.exchange_defs.specs.Operations.{is_ok}
 use Rattle.exchange_defs.specs.Opens.{denies_writers}
 use Rattle.exchange_defs.specs.Network.{World, Event, Serve, Crash, Sent, Token, ForOp, answer, happens, may_serve}
 

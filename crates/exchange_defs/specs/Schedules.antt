@@ -1,9 +1,11 @@
 -- The program's own choices, as lists of events: which operation a push sends, how a channel is linked, how a run is settled.
 -- The laws speak of every list of events, so nothing here is a premise of them.
-use Rattle.std.specs.Prelude.{ℕ, zero, suc, ◌+◌, ◌-◌, ◌*◌, ◌==◌, nat_le, Bool, true, false, not, ◌&&◌, ◌||◌, if◌then◌else◌, List, [], ◌∷◌, ◌++◌, length, Option, Some, None}
+use Rattle.std.specs.Prelude.{ℕ, zero, suc, ◌+◌, ◌-◌, ◌*◌, ◌==◌, nat_le, Bool, true, false, not, ◌&&◌, ◌||◌}
+use Rattle.std.specs.Prelude.{if◌then◌else◌, List, [], ◌∷◌, ◌++◌, length, Option, Some, None}
 use Rattle.exchange_defs.specs.Table.{is_at, is_filled}
 use Rattle.exchange_defs.specs.Operations.{Refusal, weight, charge}
-use Rattle.exchange_defs.specs.Client.{Client, Stage, Apart, RefusedDialog, create_for, may_push, goes_itself, needs_slot, is_free, settle_no_slot}
+use Rattle.exchange_defs.specs.Client.{Client, Stage, Apart, RefusedDialog, create_for, may_push, goes_itself}
+use Rattle.exchange_defs.specs.Client.{needs_slot, is_free, settle_no_slot}
 use Rattle.exchange_defs.specs.ClientStep.{Pick, some_unsettled}
 use Rattle.exchange_defs.specs.Network.{World, Conn, Event, Open, Push, Serve, Take, Cut, Drop, Finish, happens, may_serve, may_take_reply}
 
@@ -136,7 +138,8 @@ finished_by (Some refusal) c = went c (Finish refusal)
 -- where the dialog of a new session was refused on the way from one course to the other, all is given up
 unfoldable pub finished_after : Bool → Course → Course → Course
 finished_after is_new c d =
-    elim (is_new && not (length c.world.client.refusals == length d.world.client.refusals)) [ true ↦ finished_by (last_refusal d.world.client.refusals) d | false ↦ d ]
+    elim (is_new && not (length c.world.client.refusals == length d.world.client.refusals))
+    [ true ↦ finished_by (last_refusal d.world.client.refusals) d | false ↦ d ]
 
 unfoldable pub drain_and_cut : Course → ℕ → Course
 drain_and_cut c k = let d = finished_after (is_at k c.world.client.making) c (drain 64 c k) in went_if (hangs d.world k) d (Cut k)
@@ -166,14 +169,19 @@ linked n c = elim (c.world.client.channels == 0) [ false ↦ c | true ↦ finish
 
 unfoldable pub pushed_round : Course → ℕ → Course
 pushed_round c k =
-    let d = went_push c k in elim (is_filled (d.world.conns k).up || is_filled (d.world.conns k).down) [ true ↦ drain 64 d k | false ↦ went d (Cut k) ]
+    let d = went_push c k in elim (is_filled (d.world.conns k).up || is_filled (d.world.conns k).down)
+    [ true ↦ drain 64 d k | false ↦ went d (Cut k) ]
 
 unfoldable pub ready_round : ℕ → Course → Course
 ready_round n c = elim (c.world.client.channels == 0) [ true ↦ c | false ↦ pushed_round c (least c.world.client.ready 0 n) ]
 
 unfoldable pub rounds : ℕ → ℕ → Course → Course
 rounds n zero c = c
-rounds n (suc fuel) c = elim (some_unsettled c.world.client c.world.client.taken) [ false ↦ c | true ↦ rounds n fuel (each tidy 0 n (ready_round n (linked n c))) ]
+rounds n (suc fuel) c = elim (some_unsettled c.world.client c.world.client.taken) [
+  | false ↦ c
+  | true ↦
+      rounds n fuel (each tidy 0 n (ready_round n (linked n c)))
+]
 
 -- over the channels below n, in at most so many rounds
 unfoldable pub settle_below : ℕ → ℕ → Course → Course
@@ -191,7 +199,8 @@ unfoldable pub go : ℕ → Course → Line → Course
 go n c (Does e) = went c e
 go n c (Pushes k) = went_push c k
 go n c (Links k) = link c k
-go n c Settles = settle_below n (8 * (c.world.client.taken + n + 1)) c  -- an operation takes a few rounds, and each other one cuts a channel
+-- an operation takes a few rounds, and each other one cuts a channel
+go n c Settles = settle_below n (8 * (c.world.client.taken + n + 1)) c
 
 -- the course of a script over the channels below n
 unfoldable pub course : ℕ → List Line → Course → Course

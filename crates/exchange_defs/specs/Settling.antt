@@ -1,9 +1,13 @@
 -- What a response (MS-SMB2 3.2.5) does to the operation that it answers: the settling table.
 use Rattle.std.specs.Prelude.{ℕ, ◌==◌, nat_lt, Bool, true, not, ◌&&◌, ◌||◌, if◌then◌else◌, [], ◌∷◌, ◌++◌, Option, Some, None}
 use Rattle.exchange_defs.specs.Table.{put, put2, is_at}
-use Rattle.exchange_defs.specs.Status.{success, user_session_deleted, file_not_available, file_closed, object_name_not_found, duplicate_objectid, no_memory, disk_full, file_lock_conflict}
+use Rattle.exchange_defs.specs.Status.{success, user_session_deleted, file_not_available, file_closed}
+use Rattle.exchange_defs.specs.Status.{object_name_not_found, duplicate_objectid, no_memory, disk_full}
+use Rattle.exchange_defs.specs.Status.{file_lock_conflict}
 use Rattle.exchange_defs.specs.State.{Reply, Body}
-use Rattle.exchange_defs.specs.Operations.{Op, OpReply, Outcome, Unsettled, WasOk, WasRefused, NoOpen, Unknown, WithStatus, is_create, is_lock, is_close, is_write, is_change, value_in, id_in, IsDone}
+use Rattle.exchange_defs.specs.Operations.{Op, OpReply, Outcome, Unsettled, WasOk, WasRefused, NoOpen, Unknown}
+use Rattle.exchange_defs.specs.Operations.{WithStatus, is_create, is_lock, is_close, is_write, is_change, value_in}
+use Rattle.exchange_defs.specs.Operations.{id_in, IsDone}
 use Rattle.exchange_defs.specs.Client.{Client, create_for, is_gone_after, end_session}
 
 -- what hearing a reply comes to
@@ -33,7 +37,8 @@ was_closed op asking status = is_close op && ((not asking && (status == file_clo
 
 -- the open, or a create's guid, may have expired
 abbrev pub may_have_acted : Op → Bool → ℕ → Bool
-may_have_acted op asking status = (not asking && (is_create op && (status == duplicate_objectid))) || (asking && (status == object_name_not_found))
+may_have_acted op asking status = (not asking && (is_create op && (status == duplicate_objectid)))
+    || (asking && (status == object_name_not_found))
 
 -- another status than success, where the operation may go out again no more
 abbrev pub refused : Op → Bool → Bool → ℕ → Heard
@@ -64,7 +69,8 @@ without_open names sent gone create r = r
 
 -- the outcomes behind the settling of this create, or of a close of it
 abbrev pub give_up_on : Client → ℕ → ℕ → Outcome
-give_up_on c create g = let gone = is_gone_after c create (c.outcome create) in without_open ((create_for c g == create) && not (is_create (c.op g))) (c.sent g) gone create (c.outcome g)
+give_up_on c create g = let gone = is_gone_after c create (c.outcome create) in
+    without_open ((create_for c g == create) && not (is_create (c.op g))) (c.sent g) gone create (c.outcome g)
 
 abbrev pub settles_open : Op → Bool
 settles_open op = is_create op || is_close op
@@ -85,10 +91,17 @@ noted c g _ body = c
 
 -- a lock that met DISK_FULL, whose slot is used no more
 abbrev pub noted_full : Client → ℕ → Bool → ℕ → Client
-noted_full c g asking status = if is_lock (c.op g) && (not asking && (status == disk_full)) then record c { full = put2 c.full (create_for c g) (c.slot_of g) true } else c
+noted_full c g asking status = if is_lock (c.op g) && (not asking && (status == disk_full)) then record c {
+  full = put2 c.full (create_for c g) (c.slot_of g) true;
+} else c
 
 abbrev pub settled : Client → ℕ → Outcome → ℕ → Client
-settled c g outcome place = record c { outcome = put c.outcome g outcome; outstanding_on = put c.outstanding_on g None; settled_by = put c.settled_by g (Some place); order = c.order ++ g ∷ [] }
+settled c g outcome place = record c {
+  outcome = put c.outcome g outcome;
+  outstanding_on = put c.outstanding_on g None;
+  settled_by = put c.settled_by g (Some place);
+  order = c.order ++ g ∷ [];
+}
 
 abbrev pub settle : Client → ℕ → Bool → Reply → ℕ → Outcome → Client
 settle c g asking r place outcome =

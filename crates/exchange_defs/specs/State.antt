@@ -158,7 +158,8 @@ pub data Body : Type 0 where
   Count : (count : ℕ) → Body
   Interfaces : (address : Address) → Body
   Listing : (class : ℕ) (entries : List Named) → Body
-  FileInfo : (class : ℕ) (path : List ℕ) (info : Info) (access options : ℕ) → Body  -- access and options are the open's, which class 18 tells (MS-FSCC 2.4.2)
+  -- access and options are the open's, which class 18 tells (MS-FSCC 2.4.2)
+  FileInfo : (class : ℕ) (path : List ℕ) (info : Info) (access options : ℕ) → Body
   VolumeInfo : (class room used : ℕ) → Body  -- the sizes that it tells are those of the room and of what is used
   -- a SESSION_SETUP's success tells ENCRYPT_DATA where the session seals; the number drawn for its channel isn't on the wire
   SetUp : (sealed : Bool) (channel : ℕ) → Body
@@ -188,7 +189,8 @@ pub record NewOpen : Type 0 where
 
 pub data Record : Type 0 where
   EpochRecord : (number : ℕ) → Record
-  CreateRecord : (origin : Origin) (action file : ℕ) (path : List ℕ) (attributes : ℕ) (directory : Bool) (time : ℕ) (opened : Option NewOpen) → Record
+  CreateRecord : (origin : Origin) (action file : ℕ) (path : List ℕ) (attributes : ℕ) (directory : Bool) (time : ℕ)
+      (opened : Option NewOpen) → Record
   WriteRecord : (origin : Origin) (file at time : ℕ) (bytes : List ℕ) → Record
   EndRecord : (origin : Origin) (file size time : ℕ) → Record
   BasicRecord : (origin : Origin) (file : ℕ) (basic : Basic) → Record

@@ -11,9 +11,11 @@ pub record Once (events : List Event) (w : World) : Type 0 where
   -- each create, lock and unlock acts at most once
   pub at_most : (g : ℕ) → is_once ((run events w).client.op g) ≡ true → acts events w g ≤ 1
   -- exactly once where it settled Ok
-  pub acknowledged : (g : ℕ) → is_once ((run events w).client.op g) ≡ true → is_ok ((run events w).client.outcome g) ≡ true → acts events w g ≡ 1
+  pub acknowledged : (g : ℕ) → is_once ((run events w).client.op g) ≡ true → is_ok ((run events w).client.outcome g)
+      ≡ true → acts events w g ≡ 1
   -- never where it settled Refused, NoSlot or NoOpen, and not later either
-  pub never : (g : ℕ) (more : List Event) → is_once ((run events w).client.op g) ≡ true → never_acted ((run events w).client.outcome g) ≡ true → acts (events ++ more) w g ≡ 0
+  pub never : (g : ℕ) (more : List Event) → is_once ((run events w).client.op g) ≡ true
+      → never_acted ((run events w).client.outcome g) ≡ true → acts (events ++ more) w g ≡ 0
 
 -- newer: where a write or set-info acts on an open, no pair that reached it before is newer than the message's
 abbrev pub NeverAfterNewer : World → Type 0
@@ -22,11 +24,13 @@ NeverAfterNewer w = (n i o : ℕ) → n < w.log.places → i < n → alters w n 
 -- one connection's: the order of each create that settled Ok and denies writers is legal, from the bytes behind the event in
 -- which it acted to its bytes now, or before the step by which its open left
 abbrev pub OneConnections : World → Type 0
-OneConnections w = (c : ℕ) → isolates w c ≡ true → Legal (account w) c (order_of (account w) c) (bytes_at_birth (account w) c) (bytes_at_last (account w) c)
+OneConnections w = (c : ℕ) → isolates w c ≡ true → Legal (account w) c (order_of (account w) c)
+    (bytes_at_birth (account w) c) (bytes_at_last (account w) c)
 
 -- its bytes now are its file's, while its open stands
 abbrev pub BytesNow : World → Type 0
-BytesNow w = (c o : ℕ) → isolates w c ≡ true → stands_open w c o ≡ true → bytes_at_last (account w) c ≡ w.server.content (w.server.opened o).file
+BytesNow w = (c o : ℕ) → isolates w c ≡ true → stands_open w c o ≡ true → bytes_at_last (account w) c
+    ≡ w.server.content (w.server.opened o).file
 
 abbrev pub ExactlyOnce : Type 0
 ExactlyOnce = (z : Settings) (events : List Event) → Once events (start z)
@@ -39,4 +43,6 @@ OneConnection = (z : Settings) (events : List Event) → OneConnections (run eve
 
 -- once settled it stays, whatever number it has
 abbrev pub SettledStays : Type 0
-SettledStays = (z : Settings) (events more : List Event) (g : ℕ) → is_unsettled ((run events (start z)).client.outcome g) ≡ false → (run (events ++ more) (start z)).client.outcome g ≡ (run events (start z)).client.outcome g
+SettledStays = (z : Settings) (events more : List Event) (g : ℕ)
+    → is_unsettled ((run events (start z)).client.outcome g) ≡ false → (run (events ++ more) (start z)).client.outcome g
+    ≡ (run events (start z)).client.outcome g

@@ -1,16 +1,20 @@
 -- One event of the server: a connection made or lost (MS-SMB2 3.3.5.1, 3.3.7.1) or a request (3.3.5.2); in front of it an open
 -- that expires (3.3.6.2), behind it what the journal holds.
-use Rattle.std.specs.Prelude.{ℕ, ◌+◌, nat_le, Bool, true, false, not, ◌&&◌, ◌||◌, if◌then◌else◌, List, [], ◌∷◌, ◌++◌, length, Option, Some, None, is_some}
+use Rattle.std.specs.Prelude.{ℕ, ◌+◌, nat_le, Bool, true, false, not, ◌&&◌, ◌||◌, if◌then◌else◌, List, [], ◌∷◌, ◌++◌}
+use Rattle.std.specs.Prelude.{length, Option, Some, None, is_some}
 use Rattle.exchange_defs.specs.Table.{put, put2, without}
 use Rattle.exchange_defs.specs.Status.{success, insufficient_resources, disk_full}
-use Rattle.exchange_defs.specs.State.{Server, Message, ServerEvent, Accept, Heard, End, Stop, Open, Empty, Record, Origin, ExpireRecord, Answer}
+use Rattle.exchange_defs.specs.State.{Server, Message, ServerEvent, Accept, Heard, End, Stop, Open, Empty, Record}
+use Rattle.exchange_defs.specs.State.{Origin, ExpireRecord, Answer}
 use Rattle.exchange_defs.specs.Opens.{drop_open, leave_open, pending_behind, gone_records}
 use Rattle.exchange_defs.specs.CheckCreate.{refused_create}
 use Rattle.exchange_defs.specs.CheckSetup.{count_channels}
 use Rattle.exchange_defs.specs.Check.{check}
 use Rattle.exchange_defs.specs.Records.{origin_at, entry_bytes, fits}
 use Rattle.exchange_defs.specs.Effects.{apply, deadline_behind, end_if_named, records_if_named, acts_if_named}
-use Rattle.exchange_defs.specs.Verdict.{Verdict, Refuse, Give, KeepRefusal, Repeat, Attach, Make, TurnDown, Tell, Show, KeepSlot, PutRanges, Alter, CloseOpen, Challenge, ChallengeBinding, Begin, Join, EndSession, AddTree, DropTree}
+use Rattle.exchange_defs.specs.Verdict.{Verdict, Refuse, Give, KeepRefusal, Repeat, Attach, Make, TurnDown, Tell, Show}
+use Rattle.exchange_defs.specs.Verdict.{KeepSlot, PutRanges, Alter, CloseOpen, Challenge, ChallengeBinding, Begin, Join}
+use Rattle.exchange_defs.specs.Verdict.{EndSession, AddTree, DropTree}
 
 abbrev pub max_connections : ℕ
 max_connections = 256
@@ -75,7 +79,11 @@ abbrev pub ends_with : Server → ℕ → Option ℕ
 ends_with s k = last_session s k (s.session_on k)
 
 abbrev pub forget_connection : Server → ℕ → Server
-forget_connection s k = record s { connections = without k s.connections; session_on = put s.session_on k None; making = put s.making k None }
+forget_connection s k = record s {
+  connections = without k s.connections;
+  session_on = put s.session_on k None;
+  making = put s.making k None;
+}
 
 abbrev pub take_out : Server → ℕ → ℕ → Bool → Server
 take_out s k now is_quiet = forget_connection (end_if_named s now (ends_with s k) is_quiet) k
@@ -86,7 +94,8 @@ take_all_out s (k ∷ ks) now is_quiet = take_all_out (take_out s k now is_quiet
 
 unfoldable pub take_all_records : Server → List ℕ → ℕ → Bool → List Record
 take_all_records s [] now is_quiet = []
-take_all_records s (k ∷ ks) now is_quiet = records_if_named s (origin_at 0) (ends_with s k) is_quiet ++ take_all_records (take_out s k now is_quiet) ks now is_quiet
+take_all_records s (k ∷ ks) now is_quiet = records_if_named s (origin_at 0) (ends_with s k) is_quiet
+    ++ take_all_records (take_out s k now is_quiet) ks now is_quiet
 
 unfoldable pub take_all_acts : Server → List ℕ → ℕ → Bool → Bool
 take_all_acts s [] now is_quiet = false
@@ -97,15 +106,24 @@ take_all_acts s (k ∷ ks) now is_quiet = acts_if_named s (ends_with s k) || tak
 -- the answer to a connection's event (Accept, End, Stop): it goes into no message, so it has neither ids nor a body
 abbrev pub connection_answer : Server → ℕ → List Record → Bool → Answer
 connection_answer s status records acted =
-    record { server = s; reply = record { status = status; session_id = 0; tree_id = 0; body = Empty }; records = records; acted = acted; reached = None; altered = None }
+    record {
+      server = s;
+      reply = record { status = status; session_id = 0; tree_id = 0; body = Empty };
+      records = records;
+      acted = acted;
+      reached = None;
+      altered = None;
+    }
 
 -- the ruling carried out: the state behind it, the reply, and the records that the journal owes for it
 abbrev pub carried_out : Server → ℕ → Ruling → Answer
 carried_out s now (Says m v) = apply s m now v
 carried_out s now (TakesIn k) = connection_answer (record s { connections = s.connections ++ k ∷ [] }) success [] false
 carried_out s now TurnsAway = connection_answer s insufficient_resources [] false
-carried_out s now (TakesOut k is_quiet) = connection_answer (take_out s k now is_quiet) success (records_if_named s (origin_at k) (ends_with s k) is_quiet) (acts_if_named s (ends_with s k))
-carried_out s now (TakesAllOut is_quiet) = connection_answer (take_all_out s s.connections now is_quiet) success (take_all_records s s.connections now is_quiet) (take_all_acts s s.connections now is_quiet)
+carried_out s now (TakesOut k is_quiet) = connection_answer (take_out s k now is_quiet) success
+    (records_if_named s (origin_at k) (ends_with s k) is_quiet) (acts_if_named s (ends_with s k))
+carried_out s now (TakesAllOut is_quiet) = connection_answer (take_all_out s s.connections now is_quiet) success
+    (take_all_records s s.connections now is_quiet) (take_all_acts s s.connections now is_quiet)
 
 -- that answer where its records fit the journal, else what the ruling without room does
 abbrev pub where_it_fits : Server → ℕ → Ruling → Answer → Answer
@@ -119,7 +137,8 @@ event_answer s now e = where_it_fits s now (ruling s e) (carried_out s now (ruli
 
 -- an open that recovery found gets its deadline at the first event
 abbrev pub first_deadline : ℕ → Bool → Option ℕ → Open → Option ℕ → Option ℕ
-first_deadline now stands at row deadline = if stands && (not (is_some at) && not (is_some deadline)) then Some (deadline_behind now row.timeout) else deadline
+first_deadline now stands at row deadline = if stands && (not (is_some at) && not (is_some deadline)) then Some
+    (deadline_behind now row.timeout) else deadline
 
 abbrev pub with_deadlines : Server → ℕ → Server
 with_deadlines s now = record s { deadline = λ o. first_deadline now (s.standing o) (s.session_of_open o) (s.opened o) (s.deadline o) }

@@ -1,5 +1,6 @@
 -- Texts as lists of their UTF-8 bytes, and paths (MS-FSCC 2.1.5, MS-SMB2 2.2.13).
-use Rattle.std.specs.Prelude.{ℕ, ◌-◌, ◌==◌, nat_le, nat_lt, Bool, true, false, not, ◌&&◌, ◌||◌, if◌then◌else◌, List, [], ◌∷◌, ◌++◌, sum_by, Option, Some, None}
+use Rattle.std.specs.Prelude.{ℕ, ◌-◌, ◌==◌, nat_le, nat_lt, Bool, true, false, not, ◌&&◌, ◌||◌, if◌then◌else◌, List, []}
+use Rattle.std.specs.Prelude.{◌∷◌, ◌++◌, sum_by, Option, Some, None}
 pub use Rattle.std.specs.Str.{is_utf8, chars}
 use Rattle.exchange_defs.specs.Content.{same_bytes}
 
@@ -62,7 +63,9 @@ is_below (d ∷ ds) path = begins_below (after_name (d ∷ ds) path)
 
 -- no control character and none of " * / : < > ? |
 unfoldable pub is_plain : ℕ → Bool
-is_plain c = nat_le 32 c && not ((c == 34) || ((c == 42) || ((c == 47) || ((c == 58) || ((c == 60) || ((c == 62) || ((c == 63) || (c == 124))))))))
+is_plain c = nat_le 32 c
+    && not ((c == 34) || ((c == 42)
+    || ((c == 47) || ((c == 58) || ((c == 60) || ((c == 62) || ((c == 63) || (c == 124))))))))
 
 -- a component: not empty, not `.` and not `..`
 unfoldable pub is_component : List ℕ → Bool
@@ -70,7 +73,8 @@ is_component name = not (same_bytes name []) && (not (same_bytes name (46 ∷ []
 
 unfoldable pub components_from : List ℕ → List ℕ → Bool
 components_from name [] = is_component name
-components_from name (c ∷ cs) = if c == 92 then is_component name && components_from [] cs else is_plain c && components_from (name ++ c ∷ []) cs
+components_from name (c ∷ cs) = if c == 92 then is_component name && components_from [] cs else is_plain c
+    && components_from (name ++ c ∷ []) cs
 
 -- a path of the share: at most 1,024 UTF-16 units in components divided by `\`; the empty path is the root
 unfoldable pub is_path : List ℕ → Bool

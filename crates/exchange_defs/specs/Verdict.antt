@@ -26,7 +26,8 @@ pub data Verdict : Type 0 where
   Tell : (o : ℕ) (body : Body) → Verdict  -- SUCCESS, and nothing else changes
   Show : (o : ℕ) (last : Option (List ℕ)) (body : Body) → Verdict  -- a listing that goes on behind this name
   KeepSlot : (o index number status : ℕ) (elements : List Element) → Verdict  -- a LOCK fails, and its slot keeps the status
-  PutRanges : (o index number : ℕ) (ranges : List Range) (elements : List Element) → Verdict  -- a LOCK succeeds: these are the file's ranges
+  -- a LOCK succeeds: these are the file's ranges
+  PutRanges : (o index number : ℕ) (ranges : List Range) (elements : List Element) → Verdict
   Alter : (o : ℕ) (change : Change) (body : Body) → Verdict  -- a WRITE or SET_INFO succeeds
   CloseOpen : (o : ℕ) (body : Body) → Verdict
   -- sessions and trees

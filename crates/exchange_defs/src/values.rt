@@ -5,6 +5,7 @@
 pub struct Range {
     /// The id of the open.
     pub owner: u64,
+    /// The offset of its first byte, and how many bytes it has.
     pub at: u64,
     pub length: u64,
     pub exclusive: bool,
@@ -21,6 +22,7 @@ pub struct Kept {
 /// One element of a LOCK request (MS-SMB2 2.2.26.1).
 #[derive(Clone, Copy, Debug, PartialEq, Eq, Drop)]
 pub struct Element {
+    /// The offset of its first byte, and how many bytes it has.
     pub at: u64,
     pub length: u64,
     /// Shared 1, exclusive 2, unlock 4, at once 0x10.

@@ -2,7 +2,8 @@
 use Rattle.std.specs.Prelude.{ℕ, zero, suc, ◌+◌, ◌==◌, nat_le, Bool, true, false, not, ◌&&◌, ◌||◌, if◌then◌else◌, List, [], ◌∷◌, Some, None}
 use Rattle.exchange_defs.specs.Table.{is_at}
 use Rattle.exchange_defs.specs.Content.{ContentOp, ContentReply, Counted, Gives, Done, effect, value, past_end, same_bytes, is_listed}
-use Rattle.exchange_defs.specs.Order.{Account, Settlement, Settled_ok, Settled_end, applies, count, precedes, is_firm, order_of, bytes_at_birth, bytes_at_last}
+use Rattle.exchange_defs.specs.Order.{Account, Settlement, Settled_ok, Settled_end, applies, count, precedes, is_firm}
+use Rattle.exchange_defs.specs.Order.{order_of, bytes_at_birth, bytes_at_last}
 use Rattle.exchange_defs.specs.Operations.{is_ok}
 use Rattle.exchange_defs.specs.Network.{World, Event, start}
 use Rattle.exchange_defs.specs.Runs.{acts, is_once, never_acted, is_newer, account, isolates, stands_open}
@@ -59,7 +60,8 @@ replays a [] c end = same_bytes c end
 replays a (g ∷ gs) c end = fits (a.ops g) c (a.settlement g) && replays a gs (if applies a g then effect (a.ops g) c else c) end
 
 abbrev pub stands_once : Account → ℕ → List ℕ → ℕ → Bool
-stands_once a c order g = nat_le (count g order) 1 && (not ((a.of g == c) && (is_listed (a.ops g) && is_firm (a.settlement g))) || (count g order == 1))
+stands_once a c order g = nat_le (count g order) 1
+    && (not ((a.of g == c) && (is_listed (a.ops g) && is_firm (a.settlement g))) || (count g order == 1))
 
 abbrev pub stands_before : Account → List ℕ → ℕ → ℕ → Bool
 stands_before a order h g = not (a.log.prior h g && ((count g order == 1) && (count h order == 1))) || precedes g h order
@@ -70,13 +72,19 @@ is_legal a c taken order =
     && (all_to (stands_once a c order) taken && all_to (λ h. all_to (stands_before a order h) taken) taken)
 
 abbrev pub is_bytes_now : World → ℕ → Bool
-is_bytes_now w c = elim (w.trace.open_of c) [ None ↦ true | Some o ↦ not (stands_open w c o) || same_bytes (bytes_at_last (account w) c) (w.server.content (w.server.opened o).file) ]
+is_bytes_now w c = elim (w.trace.open_of c) [
+  | None ↦ true
+  | Some o ↦ not (stands_open w c o)
+      || same_bytes (bytes_at_last (account w) c) (w.server.content (w.server.opened o).file)
+]
 
 abbrev pub is_ordered_run : World → Bool
-is_ordered_run w = all_to (λ c. not (isolates w c) || (is_legal (account w) c w.client.taken (order_of (account w) c) && is_bytes_now w c)) w.client.taken
+is_ordered_run w = all_to (λ c. not (isolates w c) || (is_legal (account w) c w.client.taken (order_of (account w) c)
+    && is_bytes_now w c)) w.client.taken
 
 -- ---- all three, of a script's run
 
 abbrev pub laws_hold : ℕ → ℕ → List Line → Bool
 laws_hold n room script =
-    let c = course n script (beginning room) in is_once_run c.events (start (settings room)) c.world && (is_newer_run c.world && is_ordered_run c.world)
+    let c = course n script (beginning room) in is_once_run c.events (start (settings room)) c.world
+    && (is_newer_run c.world && is_ordered_run c.world)

@@ -1,11 +1,13 @@
 -- Scripts of the worked examples, and what is script_ends of the worlds that they come to.
 use Rattle.std.specs.Prelude.{ℕ, zero, suc, ◌+◌, Bool, true, false, if◌then◌else◌, List, [], ◌∷◌, ◌++◌, Some, is_some, ◌==◌, nat_lt}
 use Rattle.exchange_defs.specs.Order.{order_of}
-use Rattle.exchange_defs.specs.Operations.{HadStatus, Op, OpCreate, OpWrite, OpRead, OpEnd, OpTime, OpRename, OpRemove, OpLock, OpUnlock, OpStat, OpList, OpClose, Outcome}
+use Rattle.exchange_defs.specs.Operations.{HadStatus, Op, OpCreate, OpWrite, OpRead, OpEnd, OpTime, OpRename, OpRemove}
+use Rattle.exchange_defs.specs.Operations.{OpLock, OpUnlock, OpStat, OpList, OpClose, Outcome}
 use Rattle.exchange_defs.specs.Client.{Identity, last_sequence}
 use Rattle.exchange_defs.specs.Commands.{Shows, Refused, Logon}
 use Rattle.exchange_defs.specs.State.{Server, Entry}
-use Rattle.exchange_defs.specs.Network.{Settings, World, Submit, Push, Serve, Take, Cut, Drop, Restart, Crash, Wait, Finish, Sent, answer, start}
+use Rattle.exchange_defs.specs.Network.{Settings, World, Submit, Push, Serve, Take, Cut, Drop, Restart, Crash, Wait}
+use Rattle.exchange_defs.specs.Network.{Finish, Sent, answer, start}
 use Rattle.exchange_defs.specs.Runs.{account, isolates, acts}
 use Rattle.exchange_defs.specs.Schedules.{Course, Line, Does, Pushes, Links, Settles, course, purse}
 
@@ -14,7 +16,13 @@ somebody logon = record { guid = 7; salt = 3; logon = logon; share = 100 ∷ [];
 
 -- a share with so much room
 abbrev pub settings : ℕ → Settings
-settings room = record { who = somebody (Logon (117 ∷ [])); share = 100 ∷ []; room = room; encrypts = true; address = record { ip = 2130706433; port = 445 } }
+settings room = record {
+  who = somebody (Logon (117 ∷ []));
+  share = 100 ∷ [];
+  room = room;
+  encrypts = true;
+  address = record { ip = 2130706433; port = 445 };
+}
 
 abbrev pub beginning : ℕ → Course
 beginning room = record { world = start (settings room); events = [] }
@@ -67,7 +75,10 @@ place_line l (m ∷ ms) = if bytes_before l.path m.path then l ∷ m ∷ ms else
 
 abbrev pub lines_from : Server → List Entry → List FileLine
 lines_from s [] = []
-lines_from s (e ∷ es) = if s.directory e.file then lines_from s es else place_line (record { path = e.path; bytes = s.content e.file }) (lines_from s es)
+lines_from s (e ∷ es) = if s.directory e.file then lines_from s es else place_line (record {
+  path = e.path;
+  bytes = s.content e.file;
+}) (lines_from s es)
 
 -- the files, directories left out
 abbrev pub files : World → List FileLine
@@ -110,25 +121,29 @@ id_told n room script c = (course n script (beginning room)).world.client.file c
 -- A create is retried on a second channel, its open is closed, and the delayed first copy finds its guid: it acts once.
 abbrev pub retried_create : List Line
 retried_create =
-    Links 0 ∷ Links 1 ∷ submit 1 (OpCreate (97 ∷ []) 0x183 0 3 false false) ∷ Pushes 0 ∷ Does (Cut 0) ∷ Pushes 1 ∷ Does (Serve 1) ∷ Does (Take 1) ∷
+    Links 0 ∷ Links 1 ∷ submit 1 (OpCreate (97 ∷ []) 0x183 0 3 false false) ∷ Pushes 0 ∷ Does (Cut 0) ∷ Pushes 1 ∷ Does
+    (Serve 1) ∷ Does (Take 1) ∷
     submit 2 (OpClose 1) ∷ Pushes 1 ∷ Does (Serve 1) ∷ Does (Take 1) ∷ Does (Serve 0) ∷ []
 
 abbrev pub retried_create_until_note : List Line
 retried_create_until_note =
-    Links 0 ∷ Links 1 ∷ submit 1 (OpCreate (97 ∷ []) 0x183 0 3 false false) ∷ Pushes 0 ∷ Does (Cut 0) ∷ Pushes 1 ∷ Does (Serve 1) ∷ Does (Take 1) ∷
+    Links 0 ∷ Links 1 ∷ submit 1 (OpCreate (97 ∷ []) 0x183 0 3 false false) ∷ Pushes 0 ∷ Does (Cut 0) ∷ Pushes 1 ∷ Does
+    (Serve 1) ∷ Does (Take 1) ∷
     submit 2 (OpClose 1) ∷ Pushes 1 ∷ Does (Serve 1) ∷ Does (Take 1) ∷ []
 
 -- A lock is refused, the range becomes free, and the delayed first copy is refused again by its slot.
 abbrev pub kept_refusal : List Line
 kept_refusal =
-    Links 0 ∷ Links 1 ∷ submit 1 (OpCreate (97 ∷ []) 0x183 3 2 false false) ∷ submit 2 (OpCreate (97 ∷ []) 0x183 3 1 false false) ∷ Pushes 0 ∷
+    Links 0 ∷ Links 1 ∷ submit 1 (OpCreate (97 ∷ []) 0x183 3 2 false false) ∷ submit 2
+    (OpCreate (97 ∷ []) 0x183 3 1 false false) ∷ Pushes 0 ∷
     Does (Serve 0) ∷ Does (Take 0) ∷ Pushes 0 ∷ Does (Serve 0) ∷ Does (Take 0) ∷ submit 3 (OpLock 2 0 10 true) ∷ Pushes 1 ∷ Does (Serve 1) ∷
     Does (Take 1) ∷ submit 4 (OpLock 1 0 10 true) ∷ Pushes 0 ∷ Does (Cut 0) ∷ Pushes 1 ∷ Does (Serve 1) ∷ Does (Take 1) ∷
     submit 5 (OpUnlock 2 0 10) ∷ Pushes 1 ∷ Does (Serve 1) ∷ Does (Take 1) ∷ Does (Serve 0) ∷ submit 6 (OpLock 2 0 10 true) ∷ Settles ∷ []
 
 abbrev pub kept_refusal_until_note : List Line
 kept_refusal_until_note =
-    Links 0 ∷ Links 1 ∷ submit 1 (OpCreate (97 ∷ []) 0x183 3 2 false false) ∷ submit 2 (OpCreate (97 ∷ []) 0x183 3 1 false false) ∷ Pushes 0 ∷
+    Links 0 ∷ Links 1 ∷ submit 1 (OpCreate (97 ∷ []) 0x183 3 2 false false) ∷ submit 2
+    (OpCreate (97 ∷ []) 0x183 3 1 false false) ∷ Pushes 0 ∷
     Does (Serve 0) ∷ Does (Take 0) ∷ Pushes 0 ∷ Does (Serve 0) ∷ Does (Take 0) ∷ submit 3 (OpLock 2 0 10 true) ∷ Pushes 1 ∷ Does (Serve 1) ∷
     Does (Take 1) ∷ submit 4 (OpLock 1 0 10 true) ∷ Pushes 0 ∷ Does (Cut 0) ∷ Pushes 1 ∷ Does (Serve 1) ∷ Does (Take 1) ∷
     submit 5 (OpUnlock 2 0 10) ∷ Pushes 1 ∷ Does (Serve 1) ∷ Does (Take 1) ∷ []
@@ -148,7 +163,8 @@ replaced_session_until_note =
 abbrev pub room_counted_once : List Line
 room_counted_once =
     Links 0 ∷ Links 1 ∷ submit 1 (OpCreate (97 ∷ []) 0x183 0 2 false false) ∷ Pushes 0 ∷ Does (Serve 0) ∷ Does (Take 0) ∷
-    submit 2 (OpWrite 1 0 (97 ∷ 98 ∷ 99 ∷ 100 ∷ [])) ∷ Pushes 0 ∷ Does (Serve 0) ∷ Does (Cut 0) ∷ Pushes 1 ∷ Does (Serve 1) ∷ Does (Take 1) ∷
+    submit 2 (OpWrite 1 0 (97 ∷ 98 ∷ 99 ∷ 100 ∷ [])) ∷ Pushes 0 ∷ Does (Serve 0) ∷ Does (Cut 0) ∷ Pushes 1 ∷ Does
+    (Serve 1) ∷ Does (Take 1) ∷
     submit 3 (OpWrite 1 4 (101 ∷ [])) ∷ Settles ∷ []
 
 abbrev pub room_counted_once_until_note : List Line
@@ -273,46 +289,61 @@ shared_readers =
 -- A writer is refused beside an open that shares no writing, and what hangs on it has no open.
 abbrev pub denied_writer : List Line
 denied_writer =
-    submit 1 (OpCreate (97 ∷ []) 0x81 1 2 false false) ∷ submit 2 (OpCreate (97 ∷ []) 0x102 1 1 false false) ∷ submit 3 (OpWrite 2 0 (97 ∷ [])) ∷
+    submit 1 (OpCreate (97 ∷ []) 0x81 1 2 false false) ∷ submit 2 (OpCreate (97 ∷ []) 0x102 1 1 false false) ∷ submit 3
+    (OpWrite 2 0 (97 ∷ [])) ∷
     Settles ∷ []
 
 -- A delayed request to attach an open lowers no sequence, and an older write behind it is held back.
 abbrev pub delayed_reconnect : List Line
 delayed_reconnect =
-    Links 0 ∷ submit 1 (OpCreate (97 ∷ []) 0x183 0 2 true false) ∷ Pushes 0 ∷ Does (Serve 0) ∷ Does (Take 0) ∷ Does (Cut 0) ∷ Does (Drop 0) ∷
-    Links 0 ∷ Links 1 ∷ Links 2 ∷ submit 2 (OpWrite 1 0 (97 ∷ [])) ∷ Pushes 0 ∷ Does (Cut 0) ∷ Pushes 1 ∷ Does (Serve 1) ∷ Does (Take 1) ∷ Pushes 1 ∷
-    Does (Cut 1) ∷ Pushes 2 ∷ Does (Serve 2) ∷ Does (Take 2) ∷ submit 3 (OpWrite 1 0 (98 ∷ [])) ∷ Pushes 2 ∷ Does (Serve 2) ∷ Does (Take 2) ∷
+    Links 0 ∷ submit 1 (OpCreate (97 ∷ []) 0x183 0 2 true false) ∷ Pushes 0 ∷ Does (Serve 0) ∷ Does (Take 0) ∷ Does
+    (Cut 0) ∷ Does (Drop 0) ∷
+    Links 0 ∷ Links 1 ∷ Links 2 ∷ submit 2 (OpWrite 1 0 (97 ∷ [])) ∷ Pushes 0 ∷ Does (Cut 0) ∷ Pushes 1 ∷ Does (Serve 1)
+    ∷ Does (Take 1) ∷ Pushes 1 ∷
+    Does (Cut 1) ∷ Pushes 2 ∷ Does (Serve 2) ∷ Does (Take 2) ∷ submit 3 (OpWrite 1 0 (98 ∷ [])) ∷ Pushes 2 ∷ Does
+    (Serve 2) ∷ Does (Take 2) ∷
     Does (Serve 0) ∷ Does (Serve 1) ∷ []
 
 abbrev pub delayed_reconnect_until_note : List Line
 delayed_reconnect_until_note =
-    Links 0 ∷ submit 1 (OpCreate (97 ∷ []) 0x183 0 2 true false) ∷ Pushes 0 ∷ Does (Serve 0) ∷ Does (Take 0) ∷ Does (Cut 0) ∷ Does (Drop 0) ∷
-    Links 0 ∷ Links 1 ∷ Links 2 ∷ submit 2 (OpWrite 1 0 (97 ∷ [])) ∷ Pushes 0 ∷ Does (Cut 0) ∷ Pushes 1 ∷ Does (Serve 1) ∷ Does (Take 1) ∷ Pushes 1 ∷
-    Does (Cut 1) ∷ Pushes 2 ∷ Does (Serve 2) ∷ Does (Take 2) ∷ submit 3 (OpWrite 1 0 (98 ∷ [])) ∷ Pushes 2 ∷ Does (Serve 2) ∷ Does (Take 2) ∷ []
+    Links 0 ∷ submit 1 (OpCreate (97 ∷ []) 0x183 0 2 true false) ∷ Pushes 0 ∷ Does (Serve 0) ∷ Does (Take 0) ∷ Does
+    (Cut 0) ∷ Does (Drop 0) ∷
+    Links 0 ∷ Links 1 ∷ Links 2 ∷ submit 2 (OpWrite 1 0 (97 ∷ [])) ∷ Pushes 0 ∷ Does (Cut 0) ∷ Pushes 1 ∷ Does (Serve 1)
+    ∷ Does (Take 1) ∷ Pushes 1 ∷
+    Does (Cut 1) ∷ Pushes 2 ∷ Does (Serve 2) ∷ Does (Take 2) ∷ submit 3 (OpWrite 1 0 (98 ∷ [])) ∷ Pushes 2 ∷ Does
+    (Serve 2) ∷ Does (Take 2) ∷ []
 
 abbrev pub delayed_reconnect_until_last : List Line
 delayed_reconnect_until_last =
-    Links 0 ∷ submit 1 (OpCreate (97 ∷ []) 0x183 0 2 true false) ∷ Pushes 0 ∷ Does (Serve 0) ∷ Does (Take 0) ∷ Does (Cut 0) ∷ Does (Drop 0) ∷
-    Links 0 ∷ Links 1 ∷ Links 2 ∷ submit 2 (OpWrite 1 0 (97 ∷ [])) ∷ Pushes 0 ∷ Does (Cut 0) ∷ Pushes 1 ∷ Does (Serve 1) ∷ Does (Take 1) ∷ Pushes 1 ∷
-    Does (Cut 1) ∷ Pushes 2 ∷ Does (Serve 2) ∷ Does (Take 2) ∷ submit 3 (OpWrite 1 0 (98 ∷ [])) ∷ Pushes 2 ∷ Does (Serve 2) ∷ Does (Take 2) ∷
+    Links 0 ∷ submit 1 (OpCreate (97 ∷ []) 0x183 0 2 true false) ∷ Pushes 0 ∷ Does (Serve 0) ∷ Does (Take 0) ∷ Does
+    (Cut 0) ∷ Does (Drop 0) ∷
+    Links 0 ∷ Links 1 ∷ Links 2 ∷ submit 2 (OpWrite 1 0 (97 ∷ [])) ∷ Pushes 0 ∷ Does (Cut 0) ∷ Pushes 1 ∷ Does (Serve 1)
+    ∷ Does (Take 1) ∷ Pushes 1 ∷
+    Does (Cut 1) ∷ Pushes 2 ∷ Does (Serve 2) ∷ Does (Take 2) ∷ submit 3 (OpWrite 1 0 (98 ∷ [])) ∷ Pushes 2 ∷ Does
+    (Serve 2) ∷ Does (Take 2) ∷
     Does (Serve 0) ∷ []
 
 -- A persistent open without a session expires: a write that may have acted is unknown, and the file can be opened anew.
 abbrev pub expired_open : List Line
 expired_open =
-    Links 0 ∷ submit 1 (OpCreate (97 ∷ []) 0x183 0 2 true false) ∷ Pushes 0 ∷ Does (Serve 0) ∷ Does (Take 0) ∷ submit 2 (OpWrite 1 0 (97 ∷ [])) ∷
-    Pushes 0 ∷ Does (Serve 0) ∷ Does (Cut 0) ∷ Does (Drop 0) ∷ Does (Wait 60001) ∷ submit 3 (OpCreate (97 ∷ []) 0x183 0 1 false false) ∷ Settles ∷ []
+    Links 0 ∷ submit 1 (OpCreate (97 ∷ []) 0x183 0 2 true false) ∷ Pushes 0 ∷ Does (Serve 0) ∷ Does (Take 0) ∷ submit 2
+    (OpWrite 1 0 (97 ∷ [])) ∷
+    Pushes 0 ∷ Does (Serve 0) ∷ Does (Cut 0) ∷ Does (Drop 0) ∷ Does (Wait 60001) ∷ submit 3
+    (OpCreate (97 ∷ []) 0x183 0 1 false false) ∷ Settles ∷ []
 
 -- Before its deadline the open stands, is attached again, and denies the other create.
 abbrev pub open_before_expiry : List Line
 open_before_expiry =
-    Links 0 ∷ submit 1 (OpCreate (97 ∷ []) 0x183 0 2 true false) ∷ Pushes 0 ∷ Does (Serve 0) ∷ Does (Take 0) ∷ submit 2 (OpWrite 1 0 (97 ∷ [])) ∷
-    Pushes 0 ∷ Does (Serve 0) ∷ Does (Cut 0) ∷ Does (Drop 0) ∷ Does (Wait 59000) ∷ submit 3 (OpCreate (97 ∷ []) 0x183 0 1 false false) ∷ Settles ∷ []
+    Links 0 ∷ submit 1 (OpCreate (97 ∷ []) 0x183 0 2 true false) ∷ Pushes 0 ∷ Does (Serve 0) ∷ Does (Take 0) ∷ submit 2
+    (OpWrite 1 0 (97 ∷ [])) ∷
+    Pushes 0 ∷ Does (Serve 0) ∷ Does (Cut 0) ∷ Does (Drop 0) ∷ Does (Wait 59000) ∷ submit 3
+    (OpCreate (97 ∷ []) 0x183 0 1 false false) ∷ Settles ∷ []
 
 -- A create whose reply is lost expires: its retry finds its guid expired, so it is unknown.
 abbrev pub expired_create : List Line
 expired_create =
-    Links 0 ∷ submit 1 (OpCreate (97 ∷ []) 0x183 0 2 true false) ∷ Pushes 0 ∷ Does (Serve 0) ∷ Does (Cut 0) ∷ Does (Drop 0) ∷ Does (Wait 60001) ∷
+    Links 0 ∷ submit 1 (OpCreate (97 ∷ []) 0x183 0 2 true false) ∷ Pushes 0 ∷ Does (Serve 0) ∷ Does (Cut 0) ∷ Does
+    (Drop 0) ∷ Does (Wait 60001) ∷
     Settles ∷ []
 
 -- One connection creates, writes, reads and closes.
@@ -324,13 +355,15 @@ first_steps =
 -- A read of no bytes at the end is a success, and one of a byte is END_OF_FILE.
 abbrev pub end_of_file : List Line
 end_of_file =
-    submit 1 (OpCreate (97 ∷ []) 0x183 0 2 false false) ∷ submit 2 (OpWrite 1 0 (97 ∷ 98 ∷ [])) ∷ submit 3 (OpRead 1 2 0) ∷ submit 4 (OpRead 1 2 1) ∷
+    submit 1 (OpCreate (97 ∷ []) 0x183 0 2 false false) ∷ submit 2 (OpWrite 1 0 (97 ∷ 98 ∷ [])) ∷ submit 3
+    (OpRead 1 2 0) ∷ submit 4 (OpRead 1 2 1) ∷
     Settles ∷ []
 
 -- A write behind the end fills the gap with zeros.
 abbrev pub gaps_are_zeros : List Line
 gaps_are_zeros =
-    submit 1 (OpCreate (97 ∷ []) 0x183 0 2 false false) ∷ submit 2 (OpWrite 1 3 (122 ∷ [])) ∷ submit 3 (OpWrite 1 4 (123 ∷ [])) ∷ Settles ∷ []
+    submit 1 (OpCreate (97 ∷ []) 0x183 0 2 false false) ∷ submit 2 (OpWrite 1 3 (122 ∷ [])) ∷ submit 3
+    (OpWrite 1 4 (123 ∷ [])) ∷ Settles ∷ []
 
 -- A directory lists its names in order; files of one path each.
 abbrev pub listed_names : List Line
@@ -353,32 +386,38 @@ denied_remover =
 -- A create acted and its reply is lost with its channel: the retry is given the same answer.
 abbrev pub retry_after_act : List Line
 retry_after_act =
-    Links 0 ∷ Links 1 ∷ submit 1 (OpCreate (97 ∷ []) 0x183 0 2 false false) ∷ Pushes 0 ∷ Does (Serve 0) ∷ Does (Cut 0) ∷ Pushes 1 ∷ Does (Serve 1) ∷
+    Links 0 ∷ Links 1 ∷ submit 1 (OpCreate (97 ∷ []) 0x183 0 2 false false) ∷ Pushes 0 ∷ Does (Serve 0) ∷ Does (Cut 0) ∷
+    Pushes 1 ∷ Does (Serve 1) ∷
     Does (Take 1) ∷ []
 
 -- A close acted and its reply is lost: the retry finds no open, and the close is Ok.
 abbrev pub retried_close : List Line
 retried_close =
-    Links 0 ∷ Links 1 ∷ submit 1 (OpCreate (97 ∷ []) 0x183 0 2 false false) ∷ Pushes 0 ∷ Does (Serve 0) ∷ Does (Take 0) ∷ submit 2 (OpClose 1) ∷
+    Links 0 ∷ Links 1 ∷ submit 1 (OpCreate (97 ∷ []) 0x183 0 2 false false) ∷ Pushes 0 ∷ Does (Serve 0) ∷ Does (Take 0)
+    ∷ submit 2 (OpClose 1) ∷
     Pushes 0 ∷ Does (Serve 0) ∷ Does (Cut 0) ∷ Pushes 1 ∷ Does (Serve 1) ∷ Does (Take 1) ∷ []
 
 -- A delayed end is held back, as a write is.
 abbrev pub held_back_end : List Line
 held_back_end =
-    Links 0 ∷ Links 1 ∷ submit 1 (OpCreate (97 ∷ []) 0x183 0 2 false false) ∷ Pushes 0 ∷ Does (Serve 0) ∷ Does (Take 0) ∷ submit 2 (OpEnd 1 5) ∷
+    Links 0 ∷ Links 1 ∷ submit 1 (OpCreate (97 ∷ []) 0x183 0 2 false false) ∷ Pushes 0 ∷ Does (Serve 0) ∷ Does (Take 0)
+    ∷ submit 2 (OpEnd 1 5) ∷
     Pushes 0 ∷ Does (Cut 0) ∷ Pushes 1 ∷ Does (Serve 1) ∷ Does (Take 1) ∷ submit 3 (OpEnd 1 3) ∷ Pushes 1 ∷ Does (Serve 1) ∷ Does (Take 1) ∷
     Does (Serve 0) ∷ []
 
 abbrev pub held_back_end_until_note : List Line
 held_back_end_until_note =
-    Links 0 ∷ Links 1 ∷ submit 1 (OpCreate (97 ∷ []) 0x183 0 2 false false) ∷ Pushes 0 ∷ Does (Serve 0) ∷ Does (Take 0) ∷ submit 2 (OpEnd 1 5) ∷
-    Pushes 0 ∷ Does (Cut 0) ∷ Pushes 1 ∷ Does (Serve 1) ∷ Does (Take 1) ∷ submit 3 (OpEnd 1 3) ∷ Pushes 1 ∷ Does (Serve 1) ∷ Does (Take 1) ∷ []
+    Links 0 ∷ Links 1 ∷ submit 1 (OpCreate (97 ∷ []) 0x183 0 2 false false) ∷ Pushes 0 ∷ Does (Serve 0) ∷ Does (Take 0)
+    ∷ submit 2 (OpEnd 1 5) ∷
+    Pushes 0 ∷ Does (Cut 0) ∷ Pushes 1 ∷ Does (Serve 1) ∷ Does (Take 1) ∷ submit 3 (OpEnd 1 3) ∷ Pushes 1 ∷ Does
+    (Serve 1) ∷ Does (Take 1) ∷ []
 
 -- A write that finds no room adopts its sequence all the same, so its delayed copy is held back.
 abbrev pub refusal_adopts : List Line
 refusal_adopts =
     Links 0 ∷ Links 1 ∷ submit 1 (OpCreate (97 ∷ []) 0x183 0 2 false false) ∷ Pushes 0 ∷ Does (Serve 0) ∷ Does (Take 0) ∷
-    submit 2 (OpWrite 1 0 (97 ∷ 98 ∷ 99 ∷ 100 ∷ 101 ∷ [])) ∷ Pushes 0 ∷ Does (Cut 0) ∷ Pushes 1 ∷ Does (Serve 1) ∷ Does (Take 1) ∷ Does (Serve 0) ∷ []
+    submit 2 (OpWrite 1 0 (97 ∷ 98 ∷ 99 ∷ 100 ∷ 101 ∷ [])) ∷ Pushes 0 ∷ Does (Cut 0) ∷ Pushes 1 ∷ Does (Serve 1) ∷ Does
+    (Take 1) ∷ Does (Serve 0) ∷ []
 
 abbrev pub refusal_adopts_until_note : List Line
 refusal_adopts_until_note =
@@ -388,60 +427,70 @@ refusal_adopts_until_note =
 -- A lock acted and its reply is lost with the server: the retry is answered by its slot.
 abbrev pub restart_keeps_locks : List Line
 restart_keeps_locks =
-    Links 0 ∷ submit 1 (OpCreate (97 ∷ []) 0x183 0 2 true false) ∷ Pushes 0 ∷ Does (Serve 0) ∷ Does (Take 0) ∷ submit 2 (OpLock 1 0 10 true) ∷
+    Links 0 ∷ submit 1 (OpCreate (97 ∷ []) 0x183 0 2 true false) ∷ Pushes 0 ∷ Does (Serve 0) ∷ Does (Take 0) ∷ submit 2
+    (OpLock 1 0 10 true) ∷
     Pushes 0 ∷ Does (Serve 0) ∷ Does Restart ∷ Does (Cut 0) ∷ Settles ∷ []
 
 -- A lock of a persistent open is refused, and a restart keeps that.
 abbrev pub restart_keeps_refused_locks : List Line
 restart_keeps_refused_locks =
-    Links 0 ∷ submit 1 (OpCreate (97 ∷ []) 0x183 3 2 true false) ∷ submit 2 (OpCreate (97 ∷ []) 0x183 3 1 true false) ∷ Pushes 0 ∷ Does (Serve 0) ∷
+    Links 0 ∷ submit 1 (OpCreate (97 ∷ []) 0x183 3 2 true false) ∷ submit 2 (OpCreate (97 ∷ []) 0x183 3 1 true false) ∷
+    Pushes 0 ∷ Does (Serve 0) ∷
     Does (Take 0) ∷ Pushes 0 ∷ Does (Serve 0) ∷ Does (Take 0) ∷ submit 3 (OpLock 1 0 10 true) ∷ submit 4 (OpLock 2 5 10 false) ∷ Pushes 0 ∷
     Does (Serve 0) ∷ Does (Take 0) ∷ Pushes 0 ∷ Does (Serve 0) ∷ Does Restart ∷ Does (Cut 0) ∷ Settles ∷ []
 
 -- An open that is attached again has no deadline any more.
 abbrev pub attached_again : List Line
 attached_again =
-    Links 0 ∷ submit 1 (OpCreate (97 ∷ []) 0x183 0 2 true false) ∷ Pushes 0 ∷ Does (Serve 0) ∷ Does (Take 0) ∷ Does (Cut 0) ∷ Does (Drop 0) ∷
+    Links 0 ∷ submit 1 (OpCreate (97 ∷ []) 0x183 0 2 true false) ∷ Pushes 0 ∷ Does (Serve 0) ∷ Does (Take 0) ∷ Does
+    (Cut 0) ∷ Does (Drop 0) ∷
     Does (Wait 59000) ∷ submit 2 (OpWrite 1 0 (97 ∷ [])) ∷ Settles ∷ Does (Wait 59000) ∷ submit 3 (OpWrite 1 0 (98 ∷ [])) ∷ Settles ∷ []
 
 -- A plain open is lost with its session, and what comes later has no open.
 abbrev pub plain_open_lost : List Line
 plain_open_lost =
-    Links 0 ∷ submit 1 (OpCreate (97 ∷ []) 0x183 0 2 false false) ∷ Pushes 0 ∷ Does (Serve 0) ∷ Does (Take 0) ∷ submit 2 (OpWrite 1 0 (97 ∷ [])) ∷
+    Links 0 ∷ submit 1 (OpCreate (97 ∷ []) 0x183 0 2 false false) ∷ Pushes 0 ∷ Does (Serve 0) ∷ Does (Take 0) ∷ submit 2
+    (OpWrite 1 0 (97 ∷ [])) ∷
     Pushes 0 ∷ Does (Cut 0) ∷ submit 3 (OpWrite 1 0 (98 ∷ [])) ∷ submit 4 (OpClose 1) ∷ []
 
 -- A write waits for a lower one that overlaps it as long as that is unsettled, though no copy of it is outstanding.
 abbrev pub later_write_waits : List Line
 later_write_waits =
     Links 0 ∷ Links 1 ∷ Links 2 ∷ submit 1 (OpCreate (97 ∷ []) 0x183 0 2 false false) ∷ Pushes 0 ∷ Does (Serve 0) ∷ Does (Take 0) ∷
-    submit 2 (OpWrite 1 0 (97 ∷ [])) ∷ submit 3 (OpWrite 1 0 (98 ∷ [])) ∷ Does (Push 1 [] (Some (record { op = 2; slot = 0 }))) ∷ Does (Cut 1) ∷
-    Does (Push 2 [] (Some (record { op = 3; slot = 0 }))) ∷ Does (Serve 1) ∷ Does (Serve 2) ∷ Does (Push 2 [] (Some (record { op = 2; slot = 0 }))) ∷
+    submit 2 (OpWrite 1 0 (97 ∷ [])) ∷ submit 3 (OpWrite 1 0 (98 ∷ [])) ∷ Does
+    (Push 1 [] (Some (record { op = 2; slot = 0 }))) ∷ Does (Cut 1) ∷
+    Does (Push 2 [] (Some (record { op = 3; slot = 0 }))) ∷ Does (Serve 1) ∷ Does (Serve 2) ∷ Does
+    (Push 2 [] (Some (record { op = 2; slot = 0 }))) ∷
     Does (Serve 2) ∷ Settles ∷ []
 
 -- A retried write that did not act before is carried out, though it lies within the file.
 abbrev pub retried_overwrite : List Line
 retried_overwrite =
     Links 0 ∷ Links 1 ∷ submit 1 (OpCreate (97 ∷ []) 0x183 0 2 false false) ∷ Pushes 0 ∷ Does (Serve 0) ∷ Does (Take 0) ∷
-    submit 2 (OpWrite 1 0 (97 ∷ 97 ∷ [])) ∷ Pushes 0 ∷ Does (Serve 0) ∷ Does (Take 0) ∷ submit 3 (OpWrite 1 0 (98 ∷ [])) ∷ Pushes 0 ∷ Does (Cut 0) ∷
+    submit 2 (OpWrite 1 0 (97 ∷ 97 ∷ [])) ∷ Pushes 0 ∷ Does (Serve 0) ∷ Does (Take 0) ∷ submit 3 (OpWrite 1 0 (98 ∷ []))
+    ∷ Pushes 0 ∷ Does (Cut 0) ∷
     Pushes 1 ∷ Does (Serve 1) ∷ Does (Take 1) ∷ Does (Serve 0) ∷ []
 
 abbrev pub retried_overwrite_until_note : List Line
 retried_overwrite_until_note =
     Links 0 ∷ Links 1 ∷ submit 1 (OpCreate (97 ∷ []) 0x183 0 2 false false) ∷ Pushes 0 ∷ Does (Serve 0) ∷ Does (Take 0) ∷
-    submit 2 (OpWrite 1 0 (97 ∷ 97 ∷ [])) ∷ Pushes 0 ∷ Does (Serve 0) ∷ Does (Take 0) ∷ submit 3 (OpWrite 1 0 (98 ∷ [])) ∷ Pushes 0 ∷ Does (Cut 0) ∷
+    submit 2 (OpWrite 1 0 (97 ∷ 97 ∷ [])) ∷ Pushes 0 ∷ Does (Serve 0) ∷ Does (Take 0) ∷ submit 3 (OpWrite 1 0 (98 ∷ []))
+    ∷ Pushes 0 ∷ Does (Cut 0) ∷
     Pushes 1 ∷ Does (Serve 1) ∷ Does (Take 1) ∷ []
 
 -- A slot whose lock was retried is used no more in the session, so the delayed copy of that lock is answered by it.
 abbrev pub slot_not_used_again : List Line
 slot_not_used_again =
     Links 0 ∷ Links 1 ∷ submit 1 (OpCreate (97 ∷ []) 0x183 0 2 false false) ∷ Pushes 0 ∷ Does (Serve 0) ∷ Does (Take 0) ∷
-    submit 2 (OpLock 1 0 10 true) ∷ Pushes 0 ∷ Does (Cut 0) ∷ Pushes 1 ∷ Does (Serve 1) ∷ Does (Take 1) ∷ submit 3 (OpUnlock 1 0 10) ∷ Pushes 1 ∷
+    submit 2 (OpLock 1 0 10 true) ∷ Pushes 0 ∷ Does (Cut 0) ∷ Pushes 1 ∷ Does (Serve 1) ∷ Does (Take 1) ∷ submit 3
+    (OpUnlock 1 0 10) ∷ Pushes 1 ∷
     Does (Serve 1) ∷ Does (Take 1) ∷ Does (Serve 0) ∷ []
 
 abbrev pub slot_not_used_again_until_note : List Line
 slot_not_used_again_until_note =
     Links 0 ∷ Links 1 ∷ submit 1 (OpCreate (97 ∷ []) 0x183 0 2 false false) ∷ Pushes 0 ∷ Does (Serve 0) ∷ Does (Take 0) ∷
-    submit 2 (OpLock 1 0 10 true) ∷ Pushes 0 ∷ Does (Cut 0) ∷ Pushes 1 ∷ Does (Serve 1) ∷ Does (Take 1) ∷ submit 3 (OpUnlock 1 0 10) ∷ Pushes 1 ∷
+    submit 2 (OpLock 1 0 10 true) ∷ Pushes 0 ∷ Does (Cut 0) ∷ Pushes 1 ∷ Does (Serve 1) ∷ Does (Take 1) ∷ submit 3
+    (OpUnlock 1 0 10) ∷ Pushes 1 ∷
     Does (Serve 1) ∷ Does (Take 1) ∷ []
 
 -- A rename acted and its reply is lost: the retry finds the file under that very name, and is Ok.
@@ -459,14 +508,16 @@ retried_rename_until_note =
 abbrev pub locks_given_up : ℕ → ℕ → List Line → List Line
 locks_given_up g zero rest = rest
 locks_given_up g (suc n) rest =
-    submit g (OpLock 1 g 1 true) ∷ Pushes 0 ∷ Does (Serve 0) ∷ Does (Take 0) ∷ Pushes 0 ∷ Does (Cut 0) ∷ Does (Drop 0) ∷ Does (Finish (HadStatus 1)) ∷ Links 0 ∷
+    submit g (OpLock 1 g 1 true) ∷ Pushes 0 ∷ Does (Serve 0) ∷ Does (Take 0) ∷ Pushes 0 ∷ Does (Cut 0) ∷ Does (Drop 0) ∷
+    Does (Finish (HadStatus 1)) ∷ Links 0 ∷
     locks_given_up (g + 1) n rest
 
 -- The numbers of a slot run modulo 16, and the server keeps that of the last lock that it heard of: were the slot of a lock
 -- that was given up used again, the sixteenth lock behind that one would have its number, and be Ok without an act.
 abbrev pub given_up_slots : List Line
 given_up_slots =
-    Links 0 ∷ submit 1 (OpCreate (97 ∷ []) 0x183 0 2 true false) ∷ Pushes 0 ∷ Does (Serve 0) ∷ Does (Take 0) ∷ submit 2 (OpLock 1 0 1 true) ∷
+    Links 0 ∷ submit 1 (OpCreate (97 ∷ []) 0x183 0 2 true false) ∷ Pushes 0 ∷ Does (Serve 0) ∷ Does (Take 0) ∷ submit 2
+    (OpLock 1 0 1 true) ∷
     Pushes 0 ∷ Does (Serve 0) ∷ Does (Take 0) ∷ Does (Cut 0) ∷ Does (Drop 0) ∷ Links 0 ∷
     locks_given_up 3 15
     (submit 18 (OpLock 1 18 1 true) ∷ Pushes 0 ∷ Does (Serve 0) ∷ Does (Take 0) ∷ Pushes 0 ∷ Does (Serve 0) ∷ Does (Take 0) ∷ [])
@@ -481,12 +532,14 @@ abbrev pub listings_unheard : List Line
 listings_unheard = Links 0 ∷ submit 1 (OpCreate [] 0x81 3 1 false true) ∷ Pushes 0 ∷ Does (Serve 0) ∷ Does (Take 0) ∷ listings 2 33 []
 
 abbrev pub listings_heard : List Line
-listings_heard = Links 0 ∷ submit 1 (OpCreate [] 0x81 3 1 false true) ∷ Pushes 0 ∷ Does (Serve 0) ∷ Does (Take 0) ∷ listings 2 33 (Does (Serve 0) ∷ Does (Take 0) ∷ Pushes 0 ∷ [])
+listings_heard = Links 0 ∷ submit 1 (OpCreate [] 0x81 3 1 false true) ∷ Pushes 0 ∷ Does (Serve 0) ∷ Does (Take 0) ∷
+    listings 2 33 (Does (Serve 0) ∷ Does (Take 0) ∷ Pushes 0 ∷ [])
 
 -- In a new session a request to attach goes out in a listing's place, and pays 1.
 abbrev pub listing_asks : List Line
 listing_asks =
-    Links 0 ∷ submit 1 (OpCreate [] 0x81 3 1 true true) ∷ Pushes 0 ∷ Does (Serve 0) ∷ Does (Take 0) ∷ Does (Cut 0) ∷ Does (Drop 0) ∷ Links 0 ∷
+    Links 0 ∷ submit 1 (OpCreate [] 0x81 3 1 true true) ∷ Pushes 0 ∷ Does (Serve 0) ∷ Does (Take 0) ∷ Does (Cut 0) ∷
+    Does (Drop 0) ∷ Links 0 ∷
     submit 2 (OpList 1) ∷ Pushes 0 ∷ []
 
 -- the operation has a request on its way
@@ -516,7 +569,8 @@ taken_of op = (course 1 (submit 1 (OpCreate (97 ∷ []) 0x183 0 2 false false) �
 abbrev pub repeated_behind_a_lock : List Line
 repeated_behind_a_lock =
     Links 0 ∷ Links 1 ∷ submit 1 (OpCreate (97 ∷ []) 0x183 0 2 false false) ∷ Pushes 0 ∷ Does (Serve 0) ∷ Does (Take 0) ∷
-    submit 2 (OpWrite 1 0 (97 ∷ [])) ∷ submit 3 (OpLock 1 0 10 false) ∷ Pushes 0 ∷ Does (Serve 0) ∷ Pushes 1 ∷ Does (Serve 1) ∷ Does (Take 1) ∷
+    submit 2 (OpWrite 1 0 (97 ∷ [])) ∷ submit 3 (OpLock 1 0 10 false) ∷ Pushes 0 ∷ Does (Serve 0) ∷ Pushes 1 ∷ Does
+    (Serve 1) ∷ Does (Take 1) ∷
     Does (Cut 0) ∷ Pushes 1 ∷ Does (Serve 1) ∷ Does (Take 1) ∷ []
 
 -- A change of a directory is served and unheard, and then its second copy is taken.

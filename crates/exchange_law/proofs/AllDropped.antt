@@ -2,7 +2,9 @@
 use Rattle.std.proofs.Common.{ℕ, arith}
 use Rattle.exchange_defs.specs.Client.{Client}
 use Rattle.exchange_defs.specs.Network.{Conn, server_off}
-use Rattle.exchange_law.specs.Connections.{Connections, Once, Outstanding, OwnUp, AttachUp, OwnDown, AttachDown, DownOpen, OnReady, Ready, Stages, Settled, Taken, TakenOn, Creates, Lower, HasOpen, AskedOpen, Fresh, Bodies, First, Unsent, SentReplies, Deleted}
+use Rattle.exchange_law.specs.Connections.{Connections, Once, Outstanding, OwnUp, AttachUp, OwnDown, AttachDown}
+use Rattle.exchange_law.specs.Connections.{DownOpen, OnReady, Ready, Stages, Settled, Taken, TakenOn, Creates, Lower}
+use Rattle.exchange_law.specs.Connections.{HasOpen, AskedOpen, Fresh, Bodies, First, Unsent, SentReplies, Deleted}
 use Rattle.exchange_law.proofs.Lists.{get-push, count_up-push, count_down-push}
 
 all_dropped_once : (c : Client) (conns : ℕ → Conn) (a : ℕ → ℕ) → Once conns → Once (λ q. server_off (conns q))

@@ -3,30 +3,37 @@ use Rattle.std.proofs.Common.{◌≡◌, ℕ, arith, Some, slice_get}
 use Rattle.exchange_defs.specs.Table.{put}
 use Rattle.exchange_defs.specs.Client.{Client, cut_channel}
 use Rattle.exchange_defs.specs.Network.{Conn, client_off}
-use Rattle.exchange_law.specs.Connections.{Connections, Once, Outstanding, OwnUp, AttachUp, OwnDown, AttachDown, DownOpen, OnReady, Ready, Stages, Settled, Taken, TakenOn, Creates, Lower, HasOpen, AskedOpen, Fresh, Bodies, First, Unsent, SentReplies, Deleted}
+use Rattle.exchange_law.specs.Connections.{Connections, Once, Outstanding, OwnUp, AttachUp, OwnDown, AttachDown}
+use Rattle.exchange_law.specs.Connections.{DownOpen, OnReady, Ready, Stages, Settled, Taken, TakenOn, Creates, Lower}
+use Rattle.exchange_law.specs.Connections.{HasOpen, AskedOpen, Fresh, Bodies, First, Unsent, SentReplies, Deleted}
 use Rattle.exchange_law.proofs.Lists.{get-push, count_up-push, count_down-push, own_up_count}
 
 cut_once : (c : Client) (conns : ℕ → Conn) (a : ℕ → ℕ) (k : ℕ) → Once conns → Once (put conns k (client_off (conns k)))
 cut_once c conns a k i_once =
     grind (arith, count_up-push, count_down-push)
 
-cut_outstanding : (c : Client) (conns : ℕ → Conn) (a : ℕ → ℕ) (k : ℕ) → Outstanding c conns → Outstanding (cut_channel c k) (put conns k (client_off (conns k)))
+cut_outstanding : (c : Client) (conns : ℕ → Conn) (a : ℕ → ℕ) (k : ℕ) → Outstanding c conns
+    → Outstanding (cut_channel c k) (put conns k (client_off (conns k)))
 cut_outstanding c conns a k i_outstanding =
     grind (arith, count_up-push, count_down-push)
 
-cut_own_up : (c : Client) (conns : ℕ → Conn) (a : ℕ → ℕ) (k : ℕ) → OwnUp c conns → OwnUp (cut_channel c k) (put conns k (client_off (conns k)))
+cut_own_up : (c : Client) (conns : ℕ → Conn) (a : ℕ → ℕ) (k : ℕ) → OwnUp c conns → OwnUp (cut_channel c k)
+    (put conns k (client_off (conns k)))
 cut_own_up c conns a k i_own_up =
     λ j n p x. let old = i_own_up j n p x in grind (arith, get-push)
 
-cut_attach_up : (c : Client) (conns : ℕ → Conn) (a : ℕ → ℕ) (k : ℕ) → AttachUp c conns → AttachUp (cut_channel c k) (put conns k (client_off (conns k)))
+cut_attach_up : (c : Client) (conns : ℕ → Conn) (a : ℕ → ℕ) (k : ℕ) → AttachUp c conns → AttachUp (cut_channel c k)
+    (put conns k (client_off (conns k)))
 cut_attach_up c conns a k i_attach_up =
     λ j n p x. let old = i_attach_up j n p x in grind (arith, get-push)
 
-cut_own_down : (c : Client) (conns : ℕ → Conn) (a : ℕ → ℕ) (k : ℕ) → OwnDown c conns → OwnDown (cut_channel c k) (put conns k (client_off (conns k)))
+cut_own_down : (c : Client) (conns : ℕ → Conn) (a : ℕ → ℕ) (k : ℕ) → OwnDown c conns → OwnDown (cut_channel c k)
+    (put conns k (client_off (conns k)))
 cut_own_down c conns a k i_own_down =
     λ j n p y. let old = i_own_down j n p y in grind (arith, get-push)
 
-cut_attach_down : (c : Client) (conns : ℕ → Conn) (a : ℕ → ℕ) (k : ℕ) → AttachDown c conns → AttachDown (cut_channel c k) (put conns k (client_off (conns k)))
+cut_attach_down : (c : Client) (conns : ℕ → Conn) (a : ℕ → ℕ) (k : ℕ) → AttachDown c conns
+    → AttachDown (cut_channel c k) (put conns k (client_off (conns k)))
 cut_attach_down c conns a k i_attach_down =
     λ j n p y. let old = i_attach_down j n p y in grind (arith, get-push)
 
@@ -38,7 +45,8 @@ cut_on_ready : (c : Client) (conns : ℕ → Conn) (a : ℕ → ℕ) (k : ℕ) �
 cut_on_ready c conns a k i_on_ready =
     λ p j. let old = i_on_ready p j in grind arith
 
-cut_ready : (c : Client) (conns : ℕ → Conn) (a : ℕ → ℕ) (k : ℕ) → Ready c conns → Ready (cut_channel c k) (put conns k (client_off (conns k)))
+cut_ready : (c : Client) (conns : ℕ → Conn) (a : ℕ → ℕ) (k : ℕ) → Ready c conns → Ready (cut_channel c k)
+    (put conns k (client_off (conns k)))
 cut_ready c conns a k i_ready =
     λ j. let old = i_ready j in grind (arith, count_up-push, count_down-push)
 
@@ -78,27 +86,34 @@ cut_fresh : (c : Client) (conns : ℕ → Conn) (a : ℕ → ℕ) (k : ℕ) → 
 cut_fresh c conns a k i_fresh =
     λ p. let old = i_fresh p in grind arith
 
-cut_bodies : (c : Client) (conns : ℕ → Conn) (a : ℕ → ℕ) (k : ℕ) → Bodies c conns → Bodies (cut_channel c k) (put conns k (client_off (conns k)))
+cut_bodies : (c : Client) (conns : ℕ → Conn) (a : ℕ → ℕ) (k : ℕ) → Bodies c conns → Bodies (cut_channel c k)
+    (put conns k (client_off (conns k)))
 cut_bodies c conns a k i_bodies =
     λ j n p x. let old = i_bodies j n p x in grind (arith, get-push)
 
-cut_first : (c : Client) (conns : ℕ → Conn) (a : ℕ → ℕ) (k : ℕ) → First c conns a → Bodies c conns → Outstanding c conns → OwnUp c conns → Taken c → First (cut_channel c k) (put conns k (client_off (conns k))) a
+cut_first : (c : Client) (conns : ℕ → Conn) (a : ℕ → ℕ) (k : ℕ) → First c conns a → Bodies c conns → Outstanding c conns
+    → OwnUp c conns → Taken c → First (cut_channel c k) (put conns k (client_off (conns k))) a
 cut_first c conns a k i_first i_bodies i_outstanding i_own_up i_taken =
-    λ j n p x h t ao b. let h' : slice_get (conns j).up n ≡ Some x = grind arith in let n1 = own_up_count p (conns j).up n x h' t in let u = i_outstanding j p in let kind = i_own_up j n p x h' in let bd = i_bodies j n p x h' t in let tk = i_taken p in let old = i_first j n p x h' t in grind arith
+    λ j n p x h t ao b. let h' : slice_get (conns j).up n ≡ Some x = grind arith in let n1 = own_up_count p (conns j).up
+    n x h' t in let u = i_outstanding j p in let kind = i_own_up j n p x h' in let bd = i_bodies j n p x h' t in
+    let tk = i_taken p in let old = i_first j n p x h' t in grind arith
 
 cut_unsent : (c : Client) (conns : ℕ → Conn) (a : ℕ → ℕ) (k : ℕ) → Unsent c a → Unsent (cut_channel c k) a
 cut_unsent c conns a k i_unsent =
     λ p. let old = i_unsent p in grind arith
 
-cut_sent_replies : (c : Client) (conns : ℕ → Conn) (a : ℕ → ℕ) (k : ℕ) → SentReplies c conns → SentReplies (cut_channel c k) (put conns k (client_off (conns k)))
+cut_sent_replies : (c : Client) (conns : ℕ → Conn) (a : ℕ → ℕ) (k : ℕ) → SentReplies c conns
+    → SentReplies (cut_channel c k) (put conns k (client_off (conns k)))
 cut_sent_replies c conns a k i_sent_replies =
     λ j n p y. let old = i_sent_replies j n p y in grind (arith, get-push)
 
-cut_deleted : (c : Client) (conns : ℕ → Conn) (a : ℕ → ℕ) (k : ℕ) → Deleted c conns a → Deleted (cut_channel c k) (put conns k (client_off (conns k))) a
+cut_deleted : (c : Client) (conns : ℕ → Conn) (a : ℕ → ℕ) (k : ℕ) → Deleted c conns a → Deleted (cut_channel c k)
+    (put conns k (client_off (conns k))) a
 cut_deleted c conns a k i_deleted =
     λ j n p y. let old = i_deleted j n p y in grind (arith, get-push)
 
-pub cut_keeps : (c : Client) (conns : ℕ → Conn) (a : ℕ → ℕ) (k : ℕ) → Connections c conns a → Connections (cut_channel c k) (put conns k (client_off (conns k))) a
+pub cut_keeps : (c : Client) (conns : ℕ → Conn) (a : ℕ → ℕ) (k : ℕ) → Connections c conns a
+    → Connections (cut_channel c k) (put conns k (client_off (conns k))) a
 cut_keeps c conns a k i =
     record {
       once = cut_once c conns a k i.once;

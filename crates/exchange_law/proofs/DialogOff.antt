@@ -3,34 +3,43 @@ use Rattle.std.proofs.Common.{◌≡◌, ℕ, false, arith, Some, slice_get}
 use Rattle.exchange_defs.specs.Table.{put}
 use Rattle.exchange_defs.specs.Client.{Client, leave_dialog}
 use Rattle.exchange_defs.specs.Network.{Conn, client_off}
-use Rattle.exchange_law.specs.Connections.{Connections, Once, Outstanding, OwnUp, AttachUp, OwnDown, AttachDown, DownOpen, OnReady, Ready, Stages, Settled, Taken, TakenOn, Creates, Lower, HasOpen, AskedOpen, Fresh, Bodies, First, Unsent, SentReplies, Deleted}
+use Rattle.exchange_law.specs.Connections.{Connections, Once, Outstanding, OwnUp, AttachUp, OwnDown, AttachDown}
+use Rattle.exchange_law.specs.Connections.{DownOpen, OnReady, Ready, Stages, Settled, Taken, TakenOn, Creates, Lower}
+use Rattle.exchange_law.specs.Connections.{HasOpen, AskedOpen, Fresh, Bodies, First, Unsent, SentReplies, Deleted}
 use Rattle.exchange_law.proofs.Lists.{get-push, count_up-push, count_down-push, own_up_count}
 
-dialog_off_once : (c : Client) (conns : ℕ → Conn) (a : ℕ → ℕ) (k : ℕ) → (c.ready k ≡ false) → Once conns → Once (put conns k (client_off (conns k)))
+dialog_off_once : (c : Client) (conns : ℕ → Conn) (a : ℕ → ℕ) (k : ℕ) → (c.ready k ≡ false) → Once conns
+    → Once (put conns k (client_off (conns k)))
 dialog_off_once c conns a k apart i_once =
     grind (arith, count_up-push, count_down-push)
 
-dialog_off_outstanding : (c : Client) (conns : ℕ → Conn) (a : ℕ → ℕ) (k : ℕ) → (c.ready k ≡ false) → Outstanding c conns → Outstanding (leave_dialog c k) (put conns k (client_off (conns k)))
+dialog_off_outstanding : (c : Client) (conns : ℕ → Conn) (a : ℕ → ℕ) (k : ℕ) → (c.ready k ≡ false) → Outstanding c conns
+    → Outstanding (leave_dialog c k) (put conns k (client_off (conns k)))
 dialog_off_outstanding c conns a k apart i_outstanding =
     grind (arith, count_up-push, count_down-push)
 
-dialog_off_own_up : (c : Client) (conns : ℕ → Conn) (a : ℕ → ℕ) (k : ℕ) → (c.ready k ≡ false) → OwnUp c conns → OwnUp (leave_dialog c k) (put conns k (client_off (conns k)))
+dialog_off_own_up : (c : Client) (conns : ℕ → Conn) (a : ℕ → ℕ) (k : ℕ) → (c.ready k ≡ false) → OwnUp c conns
+    → OwnUp (leave_dialog c k) (put conns k (client_off (conns k)))
 dialog_off_own_up c conns a k apart i_own_up =
     λ j n p x. let old = i_own_up j n p x in grind (arith, get-push)
 
-dialog_off_attach_up : (c : Client) (conns : ℕ → Conn) (a : ℕ → ℕ) (k : ℕ) → (c.ready k ≡ false) → AttachUp c conns → AttachUp (leave_dialog c k) (put conns k (client_off (conns k)))
+dialog_off_attach_up : (c : Client) (conns : ℕ → Conn) (a : ℕ → ℕ) (k : ℕ) → (c.ready k ≡ false) → AttachUp c conns
+    → AttachUp (leave_dialog c k) (put conns k (client_off (conns k)))
 dialog_off_attach_up c conns a k apart i_attach_up =
     λ j n p x. let old = i_attach_up j n p x in grind (arith, get-push)
 
-dialog_off_own_down : (c : Client) (conns : ℕ → Conn) (a : ℕ → ℕ) (k : ℕ) → (c.ready k ≡ false) → OwnDown c conns → OwnDown (leave_dialog c k) (put conns k (client_off (conns k)))
+dialog_off_own_down : (c : Client) (conns : ℕ → Conn) (a : ℕ → ℕ) (k : ℕ) → (c.ready k ≡ false) → OwnDown c conns
+    → OwnDown (leave_dialog c k) (put conns k (client_off (conns k)))
 dialog_off_own_down c conns a k apart i_own_down =
     λ j n p y. let old = i_own_down j n p y in grind (arith, get-push)
 
-dialog_off_attach_down : (c : Client) (conns : ℕ → Conn) (a : ℕ → ℕ) (k : ℕ) → (c.ready k ≡ false) → AttachDown c conns → AttachDown (leave_dialog c k) (put conns k (client_off (conns k)))
+dialog_off_attach_down : (c : Client) (conns : ℕ → Conn) (a : ℕ → ℕ) (k : ℕ) → (c.ready k ≡ false) → AttachDown c conns
+    → AttachDown (leave_dialog c k) (put conns k (client_off (conns k)))
 dialog_off_attach_down c conns a k apart i_attach_down =
     λ j n p y. let old = i_attach_down j n p y in grind (arith, get-push)
 
-dialog_off_down_open : (c : Client) (conns : ℕ → Conn) (a : ℕ → ℕ) (k : ℕ) → (c.ready k ≡ false) → DownOpen conns → DownOpen (put conns k (client_off (conns k)))
+dialog_off_down_open : (c : Client) (conns : ℕ → Conn) (a : ℕ → ℕ) (k : ℕ) → (c.ready k ≡ false) → DownOpen conns
+    → DownOpen (put conns k (client_off (conns k)))
 dialog_off_down_open c conns a k apart i_down_open =
     λ j. let old = i_down_open j in grind (arith, get-push)
 
@@ -38,7 +47,8 @@ dialog_off_on_ready : (c : Client) (conns : ℕ → Conn) (a : ℕ → ℕ) (k :
 dialog_off_on_ready c conns a k apart i_on_ready =
     λ p j. let old = i_on_ready p j in grind arith
 
-dialog_off_ready : (c : Client) (conns : ℕ → Conn) (a : ℕ → ℕ) (k : ℕ) → (c.ready k ≡ false) → Ready c conns → Ready (leave_dialog c k) (put conns k (client_off (conns k)))
+dialog_off_ready : (c : Client) (conns : ℕ → Conn) (a : ℕ → ℕ) (k : ℕ) → (c.ready k ≡ false) → Ready c conns
+    → Ready (leave_dialog c k) (put conns k (client_off (conns k)))
 dialog_off_ready c conns a k apart i_ready =
     λ j. let old = i_ready j in grind (arith, count_up-push, count_down-push)
 
@@ -70,7 +80,8 @@ dialog_off_has_open : (c : Client) (conns : ℕ → Conn) (a : ℕ → ℕ) (k :
 dialog_off_has_open c conns a k apart i_has_open =
     λ p. let old = i_has_open p in grind arith
 
-dialog_off_asked_open : (c : Client) (conns : ℕ → Conn) (a : ℕ → ℕ) (k : ℕ) → (c.ready k ≡ false) → AskedOpen c → AskedOpen (leave_dialog c k)
+dialog_off_asked_open : (c : Client) (conns : ℕ → Conn) (a : ℕ → ℕ) (k : ℕ) → (c.ready k ≡ false) → AskedOpen c
+    → AskedOpen (leave_dialog c k)
 dialog_off_asked_open c conns a k apart i_asked_open =
     λ p. let old = i_asked_open p in grind arith
 
@@ -78,27 +89,35 @@ dialog_off_fresh : (c : Client) (conns : ℕ → Conn) (a : ℕ → ℕ) (k : �
 dialog_off_fresh c conns a k apart i_fresh =
     λ p. let old = i_fresh p in grind arith
 
-dialog_off_bodies : (c : Client) (conns : ℕ → Conn) (a : ℕ → ℕ) (k : ℕ) → (c.ready k ≡ false) → Bodies c conns → Bodies (leave_dialog c k) (put conns k (client_off (conns k)))
+dialog_off_bodies : (c : Client) (conns : ℕ → Conn) (a : ℕ → ℕ) (k : ℕ) → (c.ready k ≡ false) → Bodies c conns
+    → Bodies (leave_dialog c k) (put conns k (client_off (conns k)))
 dialog_off_bodies c conns a k apart i_bodies =
     λ j n p x. let old = i_bodies j n p x in grind (arith, get-push)
 
-dialog_off_first : (c : Client) (conns : ℕ → Conn) (a : ℕ → ℕ) (k : ℕ) → (c.ready k ≡ false) → First c conns a → Bodies c conns → OnReady c → Outstanding c conns → OwnUp c conns → Taken c → First (leave_dialog c k) (put conns k (client_off (conns k))) a
+dialog_off_first : (c : Client) (conns : ℕ → Conn) (a : ℕ → ℕ) (k : ℕ) → (c.ready k ≡ false) → First c conns a
+    → Bodies c conns → OnReady c → Outstanding c conns → OwnUp c conns → Taken c → First (leave_dialog c k)
+    (put conns k (client_off (conns k))) a
 dialog_off_first c conns a k apart i_first i_bodies i_on_ready i_outstanding i_own_up i_taken =
-    λ j n p x h t ao b. let h' : slice_get (conns j).up n ≡ Some x = grind arith in let n1 = own_up_count p (conns j).up n x h' t in let u = i_outstanding j p in let kind = i_own_up j n p x h' in let bd = i_bodies j n p x h' t in let tk = i_taken p in let old = i_first j n p x h' t ao b in let r = i_on_ready p k in grind arith
+    λ j n p x h t ao b. let h' : slice_get (conns j).up n ≡ Some x = grind arith in let n1 = own_up_count p (conns j).up
+    n x h' t in let u = i_outstanding j p in let kind = i_own_up j n p x h' in let bd = i_bodies j n p x h' t in
+    let tk = i_taken p in let old = i_first j n p x h' t ao b in let r = i_on_ready p k in grind arith
 
 dialog_off_unsent : (c : Client) (conns : ℕ → Conn) (a : ℕ → ℕ) (k : ℕ) → (c.ready k ≡ false) → Unsent c a → Unsent (leave_dialog c k) a
 dialog_off_unsent c conns a k apart i_unsent =
     λ p. let old = i_unsent p in grind arith
 
-dialog_off_sent_replies : (c : Client) (conns : ℕ → Conn) (a : ℕ → ℕ) (k : ℕ) → (c.ready k ≡ false) → SentReplies c conns → SentReplies (leave_dialog c k) (put conns k (client_off (conns k)))
+dialog_off_sent_replies : (c : Client) (conns : ℕ → Conn) (a : ℕ → ℕ) (k : ℕ) → (c.ready k ≡ false)
+    → SentReplies c conns → SentReplies (leave_dialog c k) (put conns k (client_off (conns k)))
 dialog_off_sent_replies c conns a k apart i_sent_replies =
     λ j n p y. let old = i_sent_replies j n p y in grind (arith, get-push)
 
-dialog_off_deleted : (c : Client) (conns : ℕ → Conn) (a : ℕ → ℕ) (k : ℕ) → (c.ready k ≡ false) → Deleted c conns a → Deleted (leave_dialog c k) (put conns k (client_off (conns k))) a
+dialog_off_deleted : (c : Client) (conns : ℕ → Conn) (a : ℕ → ℕ) (k : ℕ) → (c.ready k ≡ false) → Deleted c conns a
+    → Deleted (leave_dialog c k) (put conns k (client_off (conns k))) a
 dialog_off_deleted c conns a k apart i_deleted =
     λ j n p y. let old = i_deleted j n p y in grind (arith, get-push)
 
-pub dialog_off_keeps : (c : Client) (conns : ℕ → Conn) (a : ℕ → ℕ) (k : ℕ) → (c.ready k ≡ false) → Connections c conns a → Connections (leave_dialog c k) (put conns k (client_off (conns k))) a
+pub dialog_off_keeps : (c : Client) (conns : ℕ → Conn) (a : ℕ → ℕ) (k : ℕ) → (c.ready k ≡ false) → Connections c conns a
+    → Connections (leave_dialog c k) (put conns k (client_off (conns k))) a
 dialog_off_keeps c conns a k apart i =
     record {
       once = dialog_off_once c conns a k apart i.once;

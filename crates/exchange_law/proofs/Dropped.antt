@@ -3,14 +3,17 @@ use Rattle.std.proofs.Common.{ℕ, arith}
 use Rattle.exchange_defs.specs.Table.{put}
 use Rattle.exchange_defs.specs.Client.{Client}
 use Rattle.exchange_defs.specs.Network.{Conn, server_off}
-use Rattle.exchange_law.specs.Connections.{Connections, Once, Outstanding, OwnUp, AttachUp, OwnDown, AttachDown, DownOpen, OnReady, Ready, Stages, Settled, Taken, TakenOn, Creates, Lower, HasOpen, AskedOpen, Fresh, Bodies, First, Unsent, SentReplies, Deleted}
+use Rattle.exchange_law.specs.Connections.{Connections, Once, Outstanding, OwnUp, AttachUp, OwnDown, AttachDown}
+use Rattle.exchange_law.specs.Connections.{DownOpen, OnReady, Ready, Stages, Settled, Taken, TakenOn, Creates, Lower}
+use Rattle.exchange_law.specs.Connections.{HasOpen, AskedOpen, Fresh, Bodies, First, Unsent, SentReplies, Deleted}
 use Rattle.exchange_law.proofs.Lists.{get-push, count_up-push, count_down-push}
 
 dropped_once : (c : Client) (conns : ℕ → Conn) (a : ℕ → ℕ) (k : ℕ) → Once conns → Once (put conns k (server_off (conns k)))
 dropped_once c conns a k i_once =
     grind (arith, count_up-push, count_down-push)
 
-dropped_outstanding : (c : Client) (conns : ℕ → Conn) (a : ℕ → ℕ) (k : ℕ) → Outstanding c conns → Outstanding c (put conns k (server_off (conns k)))
+dropped_outstanding : (c : Client) (conns : ℕ → Conn) (a : ℕ → ℕ) (k : ℕ) → Outstanding c conns
+    → Outstanding c (put conns k (server_off (conns k)))
 dropped_outstanding c conns a k i_outstanding =
     grind (arith, count_up-push, count_down-push)
 
@@ -26,7 +29,8 @@ dropped_own_down : (c : Client) (conns : ℕ → Conn) (a : ℕ → ℕ) (k : �
 dropped_own_down c conns a k i_own_down =
     λ j n p y. let old = i_own_down j n p y in grind (arith, get-push)
 
-dropped_attach_down : (c : Client) (conns : ℕ → Conn) (a : ℕ → ℕ) (k : ℕ) → AttachDown c conns → AttachDown c (put conns k (server_off (conns k)))
+dropped_attach_down : (c : Client) (conns : ℕ → Conn) (a : ℕ → ℕ) (k : ℕ) → AttachDown c conns
+    → AttachDown c (put conns k (server_off (conns k)))
 dropped_attach_down c conns a k i_attach_down =
     λ j n p y. let old = i_attach_down j n p y in grind (arith, get-push)
 
@@ -90,7 +94,8 @@ dropped_unsent : (c : Client) (conns : ℕ → Conn) (a : ℕ → ℕ) (k : ℕ)
 dropped_unsent c conns a k i_unsent =
     λ p. let old = i_unsent p in grind arith
 
-dropped_sent_replies : (c : Client) (conns : ℕ → Conn) (a : ℕ → ℕ) (k : ℕ) → SentReplies c conns → SentReplies c (put conns k (server_off (conns k)))
+dropped_sent_replies : (c : Client) (conns : ℕ → Conn) (a : ℕ → ℕ) (k : ℕ) → SentReplies c conns
+    → SentReplies c (put conns k (server_off (conns k)))
 dropped_sent_replies c conns a k i_sent_replies =
     λ j n p y. let old = i_sent_replies j n p y in grind (arith, get-push)
 
@@ -98,7 +103,8 @@ dropped_deleted : (c : Client) (conns : ℕ → Conn) (a : ℕ → ℕ) (k : ℕ
 dropped_deleted c conns a k i_deleted =
     λ j n p y. let old = i_deleted j n p y in grind (arith, get-push)
 
-pub dropped_keeps : (c : Client) (conns : ℕ → Conn) (a : ℕ → ℕ) (k : ℕ) → Connections c conns a → Connections c (put conns k (server_off (conns k))) a
+pub dropped_keeps : (c : Client) (conns : ℕ → Conn) (a : ℕ → ℕ) (k : ℕ) → Connections c conns a
+    → Connections c (put conns k (server_off (conns k))) a
 dropped_keeps c conns a k i =
     record {
       once = dropped_once c conns a k i.once;

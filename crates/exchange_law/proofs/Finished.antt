@@ -3,10 +3,13 @@ use Rattle.std.proofs.Common.{◌≡◌, ℕ, false, refl, arith, Option, Some, 
 use Rattle.exchange_defs.specs.Operations.{Why}
 use Rattle.exchange_defs.specs.Client.{Client, finish}
 use Rattle.exchange_defs.specs.Network.{Conn}
-use Rattle.exchange_law.specs.Connections.{Connections, Once, Outstanding, OwnUp, AttachUp, OwnDown, AttachDown, DownOpen, OnReady, Ready, Stages, Settled, Taken, TakenOn, Creates, Lower, HasOpen, AskedOpen, Fresh, Bodies, First, Unsent, SentReplies, Deleted}
+use Rattle.exchange_law.specs.Connections.{Connections, Once, Outstanding, OwnUp, AttachUp, OwnDown, AttachDown}
+use Rattle.exchange_law.specs.Connections.{DownOpen, OnReady, Ready, Stages, Settled, Taken, TakenOn, Creates, Lower}
+use Rattle.exchange_law.specs.Connections.{HasOpen, AskedOpen, Fresh, Bodies, First, Unsent, SentReplies, Deleted}
 use Rattle.exchange_law.proofs.Lists.{get-push, count_up-push, count_down-push}
 
-finished_off : (c : Client) (conns : ℕ → Conn) → c.live ≡ false → OnReady c → Ready c conns → (p : ℕ) (o : Option ℕ) → c.outstanding_on p ≡ o → c.outstanding_on p ≡ None
+finished_off : (c : Client) (conns : ℕ → Conn) → c.live ≡ false → OnReady c → Ready c conns → (p : ℕ) (o : Option ℕ)
+    → c.outstanding_on p ≡ o → c.outstanding_on p ≡ None
 finished_off c conns dead r l p None e = e
 finished_off c conns dead r l p (Some k) e = let on = r p k e in let live = l k on.0 in absurd (grind arith)
 
@@ -14,7 +17,8 @@ finished_once : (c : Client) (conns : ℕ → Conn) (a : ℕ → ℕ) (why : Why
 finished_once c conns a why dead i_once =
     grind (arith, count_up-push, count_down-push)
 
-finished_outstanding : (c : Client) (conns : ℕ → Conn) (a : ℕ → ℕ) (why : Why) → (c.live ≡ false) → Outstanding c conns → Outstanding (finish c why) conns
+finished_outstanding : (c : Client) (conns : ℕ → Conn) (a : ℕ → ℕ) (why : Why) → (c.live ≡ false) → Outstanding c conns
+    → Outstanding (finish c why) conns
 finished_outstanding c conns a why dead i_outstanding =
     grind (arith, count_up-push, count_down-push)
 
@@ -22,15 +26,18 @@ finished_own_up : (c : Client) (conns : ℕ → Conn) (a : ℕ → ℕ) (why : W
 finished_own_up c conns a why dead i_own_up =
     λ j n p x. let old = i_own_up j n p x in grind (arith, get-push)
 
-finished_attach_up : (c : Client) (conns : ℕ → Conn) (a : ℕ → ℕ) (why : Why) → (c.live ≡ false) → AttachUp c conns → AttachUp (finish c why) conns
+finished_attach_up : (c : Client) (conns : ℕ → Conn) (a : ℕ → ℕ) (why : Why) → (c.live ≡ false) → AttachUp c conns
+    → AttachUp (finish c why) conns
 finished_attach_up c conns a why dead i_attach_up =
     λ j n p x. let old = i_attach_up j n p x in grind (arith, get-push)
 
-finished_own_down : (c : Client) (conns : ℕ → Conn) (a : ℕ → ℕ) (why : Why) → (c.live ≡ false) → OwnDown c conns → OwnDown (finish c why) conns
+finished_own_down : (c : Client) (conns : ℕ → Conn) (a : ℕ → ℕ) (why : Why) → (c.live ≡ false) → OwnDown c conns
+    → OwnDown (finish c why) conns
 finished_own_down c conns a why dead i_own_down =
     λ j n p y. let old = i_own_down j n p y in grind (arith, get-push)
 
-finished_attach_down : (c : Client) (conns : ℕ → Conn) (a : ℕ → ℕ) (why : Why) → (c.live ≡ false) → AttachDown c conns → AttachDown (finish c why) conns
+finished_attach_down : (c : Client) (conns : ℕ → Conn) (a : ℕ → ℕ) (why : Why) → (c.live ≡ false) → AttachDown c conns
+    → AttachDown (finish c why) conns
 finished_attach_down c conns a why dead i_attach_down =
     λ j n p y. let old = i_attach_down j n p y in grind (arith, get-push)
 
@@ -50,7 +57,8 @@ finished_stages : (c : Client) (conns : ℕ → Conn) (a : ℕ → ℕ) (why : W
 finished_stages c conns a why dead i_stages =
     λ j. let old = i_stages j in grind arith
 
-finished_settled : (c : Client) (conns : ℕ → Conn) (a : ℕ → ℕ) (why : Why) → (c.live ≡ false) → Settled c → OnReady c → Ready c conns → Settled (finish c why)
+finished_settled : (c : Client) (conns : ℕ → Conn) (a : ℕ → ℕ) (why : Why) → (c.live ≡ false) → Settled c → OnReady c
+    → Ready c conns → Settled (finish c why)
 finished_settled c conns a why dead i_settled i_on_ready i_ready =
     λ p h. finished_off c conns dead i_on_ready i_ready p (c.outstanding_on p) refl
 
@@ -94,15 +102,18 @@ finished_unsent : (c : Client) (conns : ℕ → Conn) (a : ℕ → ℕ) (why : W
 finished_unsent c conns a why dead i_unsent =
     λ p. let old = i_unsent p in grind arith
 
-finished_sent_replies : (c : Client) (conns : ℕ → Conn) (a : ℕ → ℕ) (why : Why) → (c.live ≡ false) → SentReplies c conns → SentReplies (finish c why) conns
+finished_sent_replies : (c : Client) (conns : ℕ → Conn) (a : ℕ → ℕ) (why : Why) → (c.live ≡ false) → SentReplies c conns
+    → SentReplies (finish c why) conns
 finished_sent_replies c conns a why dead i_sent_replies =
     λ j n p y. let old = i_sent_replies j n p y in grind (arith, get-push)
 
-finished_deleted : (c : Client) (conns : ℕ → Conn) (a : ℕ → ℕ) (why : Why) → (c.live ≡ false) → Deleted c conns a → Deleted (finish c why) conns a
+finished_deleted : (c : Client) (conns : ℕ → Conn) (a : ℕ → ℕ) (why : Why) → (c.live ≡ false) → Deleted c conns a
+    → Deleted (finish c why) conns a
 finished_deleted c conns a why dead i_deleted =
     λ j n p y. let old = i_deleted j n p y in grind (arith, get-push)
 
-pub finished_keeps : (c : Client) (conns : ℕ → Conn) (a : ℕ → ℕ) (why : Why) → (c.live ≡ false) → Connections c conns a → Connections (finish c why) conns a
+pub finished_keeps : (c : Client) (conns : ℕ → Conn) (a : ℕ → ℕ) (why : Why) → (c.live ≡ false) → Connections c conns a
+    → Connections (finish c why) conns a
 finished_keeps c conns a why dead i =
     record {
       once = finished_once c conns a why dead i.once;

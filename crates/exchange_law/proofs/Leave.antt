@@ -2,14 +2,17 @@
 use Rattle.std.proofs.Common.{◌≡◌, ℕ, arith, Some, slice_get}
 use Rattle.exchange_defs.specs.Client.{Client, end_session}
 use Rattle.exchange_defs.specs.Network.{Conn, client_off}
-use Rattle.exchange_law.specs.Connections.{Connections, Once, Outstanding, OwnUp, AttachUp, OwnDown, AttachDown, DownOpen, OnReady, Ready, Stages, Settled, Taken, TakenOn, Creates, Lower, HasOpen, AskedOpen, Fresh, Bodies, First, Unsent, SentReplies, Deleted}
+use Rattle.exchange_law.specs.Connections.{Connections, Once, Outstanding, OwnUp, AttachUp, OwnDown, AttachDown}
+use Rattle.exchange_law.specs.Connections.{DownOpen, OnReady, Ready, Stages, Settled, Taken, TakenOn, Creates, Lower}
+use Rattle.exchange_law.specs.Connections.{HasOpen, AskedOpen, Fresh, Bodies, First, Unsent, SentReplies, Deleted}
 use Rattle.exchange_law.proofs.Lists.{get-push, count_up-push, count_down-push, own_up_count}
 
 leave_once : (c : Client) (conns : ℕ → Conn) (a : ℕ → ℕ) → Once conns → Once (λ q. client_off (conns q))
 leave_once c conns a i_once =
     grind (arith, count_up-push, count_down-push)
 
-leave_outstanding : (c : Client) (conns : ℕ → Conn) (a : ℕ → ℕ) → Outstanding c conns → Outstanding (end_session c) (λ q. client_off (conns q))
+leave_outstanding : (c : Client) (conns : ℕ → Conn) (a : ℕ → ℕ) → Outstanding c conns → Outstanding (end_session c)
+    (λ q. client_off (conns q))
 leave_outstanding c conns a i_outstanding =
     grind (arith, count_up-push, count_down-push)
 
@@ -25,7 +28,8 @@ leave_own_down : (c : Client) (conns : ℕ → Conn) (a : ℕ → ℕ) → OwnDo
 leave_own_down c conns a i_own_down =
     λ j n p y. let old = i_own_down j n p y in grind (arith, get-push)
 
-leave_attach_down : (c : Client) (conns : ℕ → Conn) (a : ℕ → ℕ) → AttachDown c conns → AttachDown (end_session c) (λ q. client_off (conns q))
+leave_attach_down : (c : Client) (conns : ℕ → Conn) (a : ℕ → ℕ) → AttachDown c conns → AttachDown (end_session c)
+    (λ q. client_off (conns q))
 leave_attach_down c conns a i_attach_down =
     λ j n p y. let old = i_attach_down j n p y in grind (arith, get-push)
 
@@ -81,15 +85,19 @@ leave_bodies : (c : Client) (conns : ℕ → Conn) (a : ℕ → ℕ) → Bodies 
 leave_bodies c conns a i_bodies =
     λ j n p x. let old = i_bodies j n p x in grind (arith, get-push)
 
-leave_first : (c : Client) (conns : ℕ → Conn) (a : ℕ → ℕ) → First c conns a → Bodies c conns → Outstanding c conns → OwnUp c conns → Taken c → First (end_session c) (λ q. client_off (conns q)) a
+leave_first : (c : Client) (conns : ℕ → Conn) (a : ℕ → ℕ) → First c conns a → Bodies c conns → Outstanding c conns
+    → OwnUp c conns → Taken c → First (end_session c) (λ q. client_off (conns q)) a
 leave_first c conns a i_first i_bodies i_outstanding i_own_up i_taken =
-    λ j n p x h t ao b. let h' : slice_get (conns j).up n ≡ Some x = grind arith in let n1 = own_up_count p (conns j).up n x h' t in let u = i_outstanding j p in let kind = i_own_up j n p x h' in let bd = i_bodies j n p x h' t in let tk = i_taken p in let old = i_first j n p x h' t in grind arith
+    λ j n p x h t ao b. let h' : slice_get (conns j).up n ≡ Some x = grind arith in let n1 = own_up_count p (conns j).up
+    n x h' t in let u = i_outstanding j p in let kind = i_own_up j n p x h' in let bd = i_bodies j n p x h' t in
+    let tk = i_taken p in let old = i_first j n p x h' t in grind arith
 
 leave_unsent : (c : Client) (conns : ℕ → Conn) (a : ℕ → ℕ) → Unsent c a → Unsent (end_session c) a
 leave_unsent c conns a i_unsent =
     λ p. let old = i_unsent p in grind arith
 
-leave_sent_replies : (c : Client) (conns : ℕ → Conn) (a : ℕ → ℕ) → SentReplies c conns → SentReplies (end_session c) (λ q. client_off (conns q))
+leave_sent_replies : (c : Client) (conns : ℕ → Conn) (a : ℕ → ℕ) → SentReplies c conns → SentReplies (end_session c)
+    (λ q. client_off (conns q))
 leave_sent_replies c conns a i_sent_replies =
     λ j n p y. let old = i_sent_replies j n p y in grind (arith, get-push)
 
@@ -97,7 +105,8 @@ leave_deleted : (c : Client) (conns : ℕ → Conn) (a : ℕ → ℕ) → Delete
 leave_deleted c conns a i_deleted =
     λ j n p y. let old = i_deleted j n p y in grind (arith, get-push)
 
-pub leave_keeps : (c : Client) (conns : ℕ → Conn) (a : ℕ → ℕ) → Connections c conns a → Connections (end_session c) (λ q. client_off (conns q)) a
+pub leave_keeps : (c : Client) (conns : ℕ → Conn) (a : ℕ → ℕ) → Connections c conns a → Connections (end_session c)
+    (λ q. client_off (conns q)) a
 leave_keeps c conns a i =
     record {
       once = leave_once c conns a i.once;

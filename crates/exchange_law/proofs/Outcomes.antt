@@ -3,14 +3,18 @@ use Rattle.std.proofs.Common.{◌≡◌, ℕ, false, arith, None}
 use Rattle.exchange_defs.specs.Operations.{Outcome, is_unsettled}
 use Rattle.exchange_defs.specs.Client.{Client}
 use Rattle.exchange_defs.specs.Network.{Conn}
-use Rattle.exchange_law.specs.Connections.{Connections, create_at, Once, Outstanding, OwnUp, AttachUp, OwnDown, AttachDown, DownOpen, OnReady, Ready, Stages, Settled, Taken, TakenOn, Creates, Lower, HasOpen, AskedOpen, Fresh, Bodies, First, Unsent, SentReplies, Deleted}
+use Rattle.exchange_law.specs.Connections.{Connections, create_at, Once, Outstanding, OwnUp, AttachUp, OwnDown}
+use Rattle.exchange_law.specs.Connections.{AttachDown, DownOpen, OnReady, Ready, Stages, Settled, Taken, TakenOn}
+use Rattle.exchange_law.specs.Connections.{Creates, Lower, HasOpen, AskedOpen, Fresh, Bodies, First, Unsent}
+use Rattle.exchange_law.specs.Connections.{SentReplies, Deleted}
 use Rattle.exchange_law.proofs.Lists.{get-push, count_up-push, count_down-push}
 
 outcomes_once : (c : Client) (conns : ℕ → Conn) (a : ℕ → ℕ) (new : ℕ → Outcome) → Once conns → Once conns
 outcomes_once c conns a new i_once =
     grind (arith, count_up-push, count_down-push)
 
-outcomes_outstanding : (c : Client) (conns : ℕ → Conn) (a : ℕ → ℕ) (new : ℕ → Outcome) → Outstanding c conns → Outstanding (record c { outcome = new }) conns
+outcomes_outstanding : (c : Client) (conns : ℕ → Conn) (a : ℕ → ℕ) (new : ℕ → Outcome) → Outstanding c conns
+    → Outstanding (record c { outcome = new }) conns
 outcomes_outstanding c conns a new i_outstanding =
     grind (arith, count_up-push, count_down-push)
 
@@ -18,15 +22,18 @@ outcomes_own_up : (c : Client) (conns : ℕ → Conn) (a : ℕ → ℕ) (new : �
 outcomes_own_up c conns a new i_own_up =
     λ j n p x. let old = i_own_up j n p x in grind (arith, get-push)
 
-outcomes_attach_up : (c : Client) (conns : ℕ → Conn) (a : ℕ → ℕ) (new : ℕ → Outcome) → AttachUp c conns → AttachUp (record c { outcome = new }) conns
+outcomes_attach_up : (c : Client) (conns : ℕ → Conn) (a : ℕ → ℕ) (new : ℕ → Outcome) → AttachUp c conns
+    → AttachUp (record c { outcome = new }) conns
 outcomes_attach_up c conns a new i_attach_up =
     λ j n p x. let old = i_attach_up j n p x in grind (arith, get-push)
 
-outcomes_own_down : (c : Client) (conns : ℕ → Conn) (a : ℕ → ℕ) (new : ℕ → Outcome) → OwnDown c conns → OwnDown (record c { outcome = new }) conns
+outcomes_own_down : (c : Client) (conns : ℕ → Conn) (a : ℕ → ℕ) (new : ℕ → Outcome) → OwnDown c conns
+    → OwnDown (record c { outcome = new }) conns
 outcomes_own_down c conns a new i_own_down =
     λ j n p y. let old = i_own_down j n p y in grind (arith, get-push)
 
-outcomes_attach_down : (c : Client) (conns : ℕ → Conn) (a : ℕ → ℕ) (new : ℕ → Outcome) → AttachDown c conns → AttachDown (record c { outcome = new }) conns
+outcomes_attach_down : (c : Client) (conns : ℕ → Conn) (a : ℕ → ℕ) (new : ℕ → Outcome) → AttachDown c conns
+    → AttachDown (record c { outcome = new }) conns
 outcomes_attach_down c conns a new i_attach_down =
     λ j n p y. let old = i_attach_down j n p y in grind (arith, get-push)
 
@@ -46,7 +53,10 @@ outcomes_stages : (c : Client) (conns : ℕ → Conn) (a : ℕ → ℕ) (new : �
 outcomes_stages c conns a new i_stages =
     λ j. let old = i_stages j in grind arith
 
-outcomes_settled : (c : Client) (conns : ℕ → Conn) (a : ℕ → ℕ) (new : ℕ → Outcome) → ((h : ℕ) → is_unsettled (new h) ≡ false → c.outstanding_on h ≡ None) → Settled c → Settled (record c { outcome = new })
+outcomes_settled : (c : Client) (conns : ℕ → Conn) (a : ℕ → ℕ) (new : ℕ → Outcome)
+    → ((h : ℕ) → is_unsettled (new h) ≡ false → c.outstanding_on h ≡ None) → Settled c → Settled (record c {
+      outcome = new;
+    })
 outcomes_settled c conns a new still i_settled =
     still
 
@@ -62,15 +72,24 @@ outcomes_creates : (c : Client) (conns : ℕ → Conn) (a : ℕ → ℕ) (new : 
 outcomes_creates c conns a new i_creates =
     λ p. let old = i_creates p in grind arith
 
-outcomes_lower : (c : Client) (conns : ℕ → Conn) (a : ℕ → ℕ) (new : ℕ → Outcome) → ((h : ℕ) → is_unsettled (c.outcome h) ≡ false → new h ≡ c.outcome h) → Lower c → Lower (record c { outcome = new })
+outcomes_lower : (c : Client) (conns : ℕ → Conn) (a : ℕ → ℕ) (new : ℕ → Outcome)
+    → ((h : ℕ) → is_unsettled (c.outcome h) ≡ false → new h ≡ c.outcome h) → Lower c → Lower (record c {
+      outcome = new;
+    })
 outcomes_lower c conns a new same i_lower =
     λ p q s l m e h. let old = i_lower p q s l m e h in let st = same q old in grind arith
 
-outcomes_has_open : (c : Client) (conns : ℕ → Conn) (a : ℕ → ℕ) (new : ℕ → Outcome) → ((h : ℕ) → is_unsettled (c.outcome h) ≡ false → new h ≡ c.outcome h) → HasOpen c → HasOpen (record c { outcome = new })
+outcomes_has_open : (c : Client) (conns : ℕ → Conn) (a : ℕ → ℕ) (new : ℕ → Outcome)
+    → ((h : ℕ) → is_unsettled (c.outcome h) ≡ false → new h ≡ c.outcome h) → HasOpen c → HasOpen (record c {
+      outcome = new;
+    })
 outcomes_has_open c conns a new same i_has_open =
     λ p. let old = i_has_open p in let s = same (create_at c p) in grind arith
 
-outcomes_asked_open : (c : Client) (conns : ℕ → Conn) (a : ℕ → ℕ) (new : ℕ → Outcome) → ((h : ℕ) → is_unsettled (c.outcome h) ≡ false → new h ≡ c.outcome h) → AskedOpen c → AskedOpen (record c { outcome = new })
+outcomes_asked_open : (c : Client) (conns : ℕ → Conn) (a : ℕ → ℕ) (new : ℕ → Outcome)
+    → ((h : ℕ) → is_unsettled (c.outcome h) ≡ false → new h ≡ c.outcome h) → AskedOpen c → AskedOpen (record c {
+      outcome = new;
+    })
 outcomes_asked_open c conns a new same i_asked_open =
     λ p. let old = i_asked_open p in let s = same (create_at c p) in grind arith
 
@@ -78,27 +97,37 @@ outcomes_fresh : (c : Client) (conns : ℕ → Conn) (a : ℕ → ℕ) (new : �
 outcomes_fresh c conns a new i_fresh =
     λ p. let old = i_fresh p in grind arith
 
-outcomes_bodies : (c : Client) (conns : ℕ → Conn) (a : ℕ → ℕ) (new : ℕ → Outcome) → Bodies c conns → Bodies (record c { outcome = new }) conns
+outcomes_bodies : (c : Client) (conns : ℕ → Conn) (a : ℕ → ℕ) (new : ℕ → Outcome) → Bodies c conns → Bodies (record c {
+  outcome = new;
+}) conns
 outcomes_bodies c conns a new i_bodies =
     λ j n p x. let old = i_bodies j n p x in grind (arith, get-push)
 
-outcomes_first : (c : Client) (conns : ℕ → Conn) (a : ℕ → ℕ) (new : ℕ → Outcome) → First c conns a → First (record c { outcome = new }) conns a
+outcomes_first : (c : Client) (conns : ℕ → Conn) (a : ℕ → ℕ) (new : ℕ → Outcome) → First c conns a → First (record c {
+  outcome = new;
+}) conns a
 outcomes_first c conns a new i_first =
     λ j n p x. let old = i_first j n p x in grind (arith, get-push)
 
-outcomes_unsent : (c : Client) (conns : ℕ → Conn) (a : ℕ → ℕ) (new : ℕ → Outcome) → ((h : ℕ) → is_unsettled (c.outcome h) ≡ false → new h ≡ c.outcome h) → ((h : ℕ) → is_unsettled (new h) ≡ false → c.outstanding_on h ≡ None) → Unsent c a → Unsent (record c { outcome = new }) a
+outcomes_unsent : (c : Client) (conns : ℕ → Conn) (a : ℕ → ℕ) (new : ℕ → Outcome)
+    → ((h : ℕ) → is_unsettled (c.outcome h) ≡ false → new h ≡ c.outcome h) → ((h : ℕ) → is_unsettled (new h) ≡ false
+    → c.outstanding_on h ≡ None) → Unsent c a → Unsent (record c { outcome = new }) a
 outcomes_unsent c conns a new same still i_unsent =
     λ p. let old = i_unsent p in let s = same p in let u = still p in grind arith
 
-outcomes_sent_replies : (c : Client) (conns : ℕ → Conn) (a : ℕ → ℕ) (new : ℕ → Outcome) → SentReplies c conns → SentReplies (record c { outcome = new }) conns
+outcomes_sent_replies : (c : Client) (conns : ℕ → Conn) (a : ℕ → ℕ) (new : ℕ → Outcome) → SentReplies c conns
+    → SentReplies (record c { outcome = new }) conns
 outcomes_sent_replies c conns a new i_sent_replies =
     λ j n p y. let old = i_sent_replies j n p y in grind (arith, get-push)
 
-outcomes_deleted : (c : Client) (conns : ℕ → Conn) (a : ℕ → ℕ) (new : ℕ → Outcome) → Deleted c conns a → Deleted (record c { outcome = new }) conns a
+outcomes_deleted : (c : Client) (conns : ℕ → Conn) (a : ℕ → ℕ) (new : ℕ → Outcome) → Deleted c conns a
+    → Deleted (record c { outcome = new }) conns a
 outcomes_deleted c conns a new i_deleted =
     λ j n p y. let old = i_deleted j n p y in grind (arith, get-push)
 
-pub outcomes_keeps : (c : Client) (conns : ℕ → Conn) (a : ℕ → ℕ) (new : ℕ → Outcome) → ((h : ℕ) → is_unsettled (c.outcome h) ≡ false → new h ≡ c.outcome h) → ((h : ℕ) → is_unsettled (new h) ≡ false → c.outstanding_on h ≡ None) → Connections c conns a → Connections (record c { outcome = new }) conns a
+pub outcomes_keeps : (c : Client) (conns : ℕ → Conn) (a : ℕ → ℕ) (new : ℕ → Outcome)
+    → ((h : ℕ) → is_unsettled (c.outcome h) ≡ false → new h ≡ c.outcome h) → ((h : ℕ) → is_unsettled (new h) ≡ false
+    → c.outstanding_on h ≡ None) → Connections c conns a → Connections (record c { outcome = new }) conns a
 outcomes_keeps c conns a new same still i =
     record {
       once = outcomes_once c conns a new i.once;

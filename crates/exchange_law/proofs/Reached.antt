@@ -25,7 +25,8 @@ acts_more es e w = λ t g. more es e w g t
   where
     more : (es : List Event) (e : Event) (w : World) (g : ℕ) → acts (es ++ e ∷ []) w g ≡ after (run es w) e (acts es w) g
     more [] e w g = one_at_end (acts_now w e g)
-    more (x ∷ es) e w g = carried (acts_now (run es (happens w x)) e g) (if acts_now w x g then 1 else 0) (acts es (happens w x) g) (acts (es ++ e ∷ []) (happens w x) g) (more es e (happens w x) g)
+    more (x ∷ es) e w g = carried (acts_now (run es (happens w x)) e g) (if acts_now w x g then 1 else 0)
+        (acts es (happens w x) g) (acts (es ++ e ∷ []) (happens w x) g) (more es e (happens w x) g)
 
 -- the world and the counts behind a run from the start
 abbrev pub At : (World → (ℕ → ℕ) → Type 0) → Settings → List Event → Type 0
@@ -34,12 +35,15 @@ At P z es = P (run es (start z)) (acts es (start z))
 abbrev pub Step : (World → (ℕ → ℕ) → Type 0) → Settings → Type 0
 Step P z = (es : List Event) (e : Event) → At P z es → P (happens (run es (start z)) e) (after (run es (start z)) e (acts es (start z)))
 
-one_further : (P : World → (ℕ → ℕ) → Type 0) (z : Settings) (es : List Event) (e : Event) → P (happens (run es (start z)) e) (after (run es (start z)) e (acts es (start z))) → At P z (es ++ e ∷ [])
-one_further P z es e p = subst (λ w. P w (acts (es ++ e ∷ []) (start z))) (sym (run_more es e (start z))) (subst (λ a. P (happens (run es (start z)) e) a) (sym (acts_more es e (start z))) p)
+one_further : (P : World → (ℕ → ℕ) → Type 0) (z : Settings) (es : List Event) (e : Event)
+    → P (happens (run es (start z)) e) (after (run es (start z)) e (acts es (start z))) → At P z (es ++ e ∷ [])
+one_further P z es e p = subst (λ w. P w (acts (es ++ e ∷ []) (start z))) (sym (run_more es e (start z)))
+    (subst (λ a. P (happens (run es (start z)) e) a) (sym (acts_more es e (start z))) p)
 
 from_there : (P : World → (ℕ → ℕ) → Type 0) (z : Settings) → Step P z → (before es : List Event) → At P z before → At P z (before ++ es)
 from_there P z step before [] p = subst (λ xs. At P z xs) (sym (append-nil before)) p
-from_there P z step before (e ∷ es) p = subst (λ xs. At P z xs) (append_assoc before (e ∷ []) es) (from_there P z step (before ++ e ∷ []) es (one_further P z before e (step before e p)))
+from_there P z step before (e ∷ es) p = subst (λ xs. At P z xs) (append_assoc before (e ∷ []) es)
+    (from_there P z step (before ++ e ∷ []) es (one_further P z before e (step before e p)))
 
 at_start : (P : World → (ℕ → ℕ) → Type 0) (z : Settings) → P (start z) (λ g. 0) → At P z []
 unfolding run acts
@@ -50,5 +54,8 @@ pub on_every_run : (P : World → (ℕ → ℕ) → Type 0) (z : Settings) → P
 on_every_run P z first step es = from_there P z step [] es (at_start P z first)
 
 -- what holds of every run holds of one with one more event
-pub one_event_on : (P : World → (ℕ → ℕ) → Type 0) (z : Settings) → ((es : List Event) → At P z es) → (es : List Event) (e : Event) → P (happens (run es (start z)) e) (after (run es (start z)) e (acts es (start z)))
-one_event_on P z always es e = subst (λ w. P w (after (run es (start z)) e (acts es (start z)))) (run_more es e (start z)) (subst (λ a. P (run (es ++ e ∷ []) (start z)) a) (acts_more es e (start z)) (always (es ++ e ∷ [])))
+pub one_event_on : (P : World → (ℕ → ℕ) → Type 0) (z : Settings) → ((es : List Event) → At P z es)
+    → (es : List Event) (e : Event) → P (happens (run es (start z)) e) (after (run es (start z)) e (acts es (start z)))
+one_event_on P z always es e = subst (λ w. P w (after (run es (start z)) e (acts es (start z))))
+    (run_more es e (start z)) (subst (λ a. P (run (es ++ e ∷ []) (start z)) a) (acts_more es e (start z))
+    (always (es ++ e ∷ [])))

@@ -2,30 +2,37 @@
 use Rattle.std.proofs.Common.{◌≡◌, ℕ, false, arith}
 use Rattle.exchange_defs.specs.Client.{Client, take_slot}
 use Rattle.exchange_defs.specs.Network.{Conn}
-use Rattle.exchange_law.specs.Connections.{Connections, Once, Outstanding, OwnUp, AttachUp, OwnDown, AttachDown, DownOpen, OnReady, Ready, Stages, Settled, Taken, TakenOn, Creates, Lower, HasOpen, AskedOpen, Fresh, Bodies, First, Unsent, SentReplies, Deleted}
+use Rattle.exchange_law.specs.Connections.{Connections, Once, Outstanding, OwnUp, AttachUp, OwnDown, AttachDown}
+use Rattle.exchange_law.specs.Connections.{DownOpen, OnReady, Ready, Stages, Settled, Taken, TakenOn, Creates, Lower}
+use Rattle.exchange_law.specs.Connections.{HasOpen, AskedOpen, Fresh, Bodies, First, Unsent, SentReplies, Deleted}
 use Rattle.exchange_law.proofs.Lists.{get-push, count_up-push, count_down-push}
 
 take_slot_once : (c : Client) (conns : ℕ → Conn) (a : ℕ → ℕ) (g s : ℕ) → (c.sent g ≡ false) → Once conns → Once conns
 take_slot_once c conns a g s new i_once =
     grind (arith, count_up-push, count_down-push)
 
-take_slot_outstanding : (c : Client) (conns : ℕ → Conn) (a : ℕ → ℕ) (g s : ℕ) → (c.sent g ≡ false) → Outstanding c conns → Outstanding (take_slot c g s) conns
+take_slot_outstanding : (c : Client) (conns : ℕ → Conn) (a : ℕ → ℕ) (g s : ℕ) → (c.sent g ≡ false) → Outstanding c conns
+    → Outstanding (take_slot c g s) conns
 take_slot_outstanding c conns a g s new i_outstanding =
     grind (arith, count_up-push, count_down-push)
 
-take_slot_own_up : (c : Client) (conns : ℕ → Conn) (a : ℕ → ℕ) (g s : ℕ) → (c.sent g ≡ false) → OwnUp c conns → OwnUp (take_slot c g s) conns
+take_slot_own_up : (c : Client) (conns : ℕ → Conn) (a : ℕ → ℕ) (g s : ℕ) → (c.sent g ≡ false) → OwnUp c conns
+    → OwnUp (take_slot c g s) conns
 take_slot_own_up c conns a g s new i_own_up =
     λ j n p x. let old = i_own_up j n p x in grind (arith, get-push)
 
-take_slot_attach_up : (c : Client) (conns : ℕ → Conn) (a : ℕ → ℕ) (g s : ℕ) → (c.sent g ≡ false) → AttachUp c conns → AttachUp (take_slot c g s) conns
+take_slot_attach_up : (c : Client) (conns : ℕ → Conn) (a : ℕ → ℕ) (g s : ℕ) → (c.sent g ≡ false) → AttachUp c conns
+    → AttachUp (take_slot c g s) conns
 take_slot_attach_up c conns a g s new i_attach_up =
     λ j n p x. let old = i_attach_up j n p x in grind (arith, get-push)
 
-take_slot_own_down : (c : Client) (conns : ℕ → Conn) (a : ℕ → ℕ) (g s : ℕ) → (c.sent g ≡ false) → OwnDown c conns → OwnDown (take_slot c g s) conns
+take_slot_own_down : (c : Client) (conns : ℕ → Conn) (a : ℕ → ℕ) (g s : ℕ) → (c.sent g ≡ false) → OwnDown c conns
+    → OwnDown (take_slot c g s) conns
 take_slot_own_down c conns a g s new i_own_down =
     λ j n p y. let old = i_own_down j n p y in grind (arith, get-push)
 
-take_slot_attach_down : (c : Client) (conns : ℕ → Conn) (a : ℕ → ℕ) (g s : ℕ) → (c.sent g ≡ false) → AttachDown c conns → AttachDown (take_slot c g s) conns
+take_slot_attach_down : (c : Client) (conns : ℕ → Conn) (a : ℕ → ℕ) (g s : ℕ) → (c.sent g ≡ false) → AttachDown c conns
+    → AttachDown (take_slot c g s) conns
 take_slot_attach_down c conns a g s new i_attach_down =
     λ j n p y. let old = i_attach_down j n p y in grind (arith, get-push)
 
@@ -69,7 +76,8 @@ take_slot_has_open : (c : Client) (conns : ℕ → Conn) (a : ℕ → ℕ) (g s 
 take_slot_has_open c conns a g s new i_has_open =
     λ p. let old = i_has_open p in grind arith
 
-take_slot_asked_open : (c : Client) (conns : ℕ → Conn) (a : ℕ → ℕ) (g s : ℕ) → (c.sent g ≡ false) → AskedOpen c → AskedOpen (take_slot c g s)
+take_slot_asked_open : (c : Client) (conns : ℕ → Conn) (a : ℕ → ℕ) (g s : ℕ) → (c.sent g ≡ false) → AskedOpen c
+    → AskedOpen (take_slot c g s)
 take_slot_asked_open c conns a g s new i_asked_open =
     λ p. let old = i_asked_open p in grind arith
 
@@ -77,11 +85,13 @@ take_slot_fresh : (c : Client) (conns : ℕ → Conn) (a : ℕ → ℕ) (g s : �
 take_slot_fresh c conns a g s new i_fresh =
     λ p. let old = i_fresh p in grind arith
 
-take_slot_bodies : (c : Client) (conns : ℕ → Conn) (a : ℕ → ℕ) (g s : ℕ) → (c.sent g ≡ false) → Bodies c conns → Bodies (take_slot c g s) conns
+take_slot_bodies : (c : Client) (conns : ℕ → Conn) (a : ℕ → ℕ) (g s : ℕ) → (c.sent g ≡ false) → Bodies c conns
+    → Bodies (take_slot c g s) conns
 take_slot_bodies c conns a g s new i_bodies =
     λ j n p x. let old = i_bodies j n p x in grind (arith, get-push)
 
-take_slot_first : (c : Client) (conns : ℕ → Conn) (a : ℕ → ℕ) (g s : ℕ) → (c.sent g ≡ false) → First c conns a → First (take_slot c g s) conns a
+take_slot_first : (c : Client) (conns : ℕ → Conn) (a : ℕ → ℕ) (g s : ℕ) → (c.sent g ≡ false) → First c conns a
+    → First (take_slot c g s) conns a
 take_slot_first c conns a g s new i_first =
     λ j n p x. let old = i_first j n p x in grind (arith, get-push)
 
@@ -89,15 +99,18 @@ take_slot_unsent : (c : Client) (conns : ℕ → Conn) (a : ℕ → ℕ) (g s : 
 take_slot_unsent c conns a g s new i_unsent =
     λ p. let old = i_unsent p in grind arith
 
-take_slot_sent_replies : (c : Client) (conns : ℕ → Conn) (a : ℕ → ℕ) (g s : ℕ) → (c.sent g ≡ false) → SentReplies c conns → SentReplies (take_slot c g s) conns
+take_slot_sent_replies : (c : Client) (conns : ℕ → Conn) (a : ℕ → ℕ) (g s : ℕ) → (c.sent g ≡ false)
+    → SentReplies c conns → SentReplies (take_slot c g s) conns
 take_slot_sent_replies c conns a g s new i_sent_replies =
     λ j n p y. let old = i_sent_replies j n p y in grind (arith, get-push)
 
-take_slot_deleted : (c : Client) (conns : ℕ → Conn) (a : ℕ → ℕ) (g s : ℕ) → (c.sent g ≡ false) → Deleted c conns a → Deleted (take_slot c g s) conns a
+take_slot_deleted : (c : Client) (conns : ℕ → Conn) (a : ℕ → ℕ) (g s : ℕ) → (c.sent g ≡ false) → Deleted c conns a
+    → Deleted (take_slot c g s) conns a
 take_slot_deleted c conns a g s new i_deleted =
     λ j n p y. let old = i_deleted j n p y in grind (arith, get-push)
 
-pub take_slot_keeps : (c : Client) (conns : ℕ → Conn) (a : ℕ → ℕ) (g s : ℕ) → (c.sent g ≡ false) → Connections c conns a → Connections (take_slot c g s) conns a
+pub take_slot_keeps : (c : Client) (conns : ℕ → Conn) (a : ℕ → ℕ) (g s : ℕ) → (c.sent g ≡ false) → Connections c conns a
+    → Connections (take_slot c g s) conns a
 take_slot_keeps c conns a g s new i =
     record {
       once = take_slot_once c conns a g s new i.once;

@@ -17,11 +17,15 @@ more_of : (g h : ℕ) → h ≢ g → nat_lt g h ≡ false → h < g
 more_of g h n e = grind (arith, nat_tests)
 
 -- of two the higher one waited for the lower
-apart_by : (w : World) (a : ℕ → ℕ) (g h : ℕ) → Contents w.client w.conns w.server w.trace w.log a → h ≢ g → w.client.sent g ≡ true → w.client.sent h ≡ true → is_change (content_op (w.client.op g)) ≡ true → is_change (content_op (w.client.op h)) ≡ true
-    → create_for w.client h ≡ create_for w.client g → pends w.client g ≡ true → pends w.client h ≡ true → (b : Bool) → nat_lt g h ≡ b → collides (content_op (w.client.op g)) (content_op (w.client.op h)) ≡ false
+apart_by : (w : World) (a : ℕ → ℕ) (g h : ℕ) → Contents w.client w.conns w.server w.trace w.log a → h ≢ g
+    → w.client.sent g ≡ true → w.client.sent h ≡ true → is_change (content_op (w.client.op g)) ≡ true
+    → is_change (content_op (w.client.op h)) ≡ true
+    → create_for w.client h ≡ create_for w.client g → pends w.client g ≡ true → pends w.client h ≡ true → (b : Bool)
+    → nat_lt g h ≡ b → collides (content_op (w.client.op g)) (content_op (w.client.op h)) ≡ false
 unfolding edits clashes its_create
 apart_by w a g h i n sg sh eg eh same pg ph true e = i.pairwise g h (less_of g h e) sh eg eh (sym same) pg ph
-apart_by w a g h i n sg sh eg eh same pg ph false e = collides_comm (content_op (w.client.op g)) (content_op (w.client.op h)) ∙ i.pairwise h g (more_of g h n e) sg eh eg same ph pg
+apart_by w a g h i n sg sh eg eh same pg ph false e = collides_comm (content_op (w.client.op g))
+    (content_op (w.client.op h)) ∙ i.pairwise h g (more_of g h n e) sg eh eg same ph pg
 
 pub edits_shown : (w : World) (a : ℕ → ℕ) → Contents w.client w.conns w.server w.trace w.log a → EditsAreShown w
 unfolding edits isolating bytes_after its_create

@@ -34,6 +34,7 @@ edits_always z es = edits_shown (run es (start z)) (acts es (start z)) (contents
 pub newest_always : (z : Settings) (es : List Event) → NoneIsNewer (run es (start z))
 newest_always z es =
     record {
-      older = older_refused (run es (start z)) (acts es (start z)) (connections z es) (sessions z es) (fitting z es) (newest z (below z) es);
+      older = older_refused (run es (start z)) (acts es (start z)) (connections z es) (sessions z es) (fitting z es)
+          (newest z (below z) es);
       newest = opens_newest (run es (start z)) (acts es (start z)) (sessions z es) (creates z es) (newest z (below z) es);
     }

@@ -63,7 +63,8 @@ pub record SessionDeleted (A : Answer) : Type 0 where
 
 -- the second
 abbrev pub GoneIsDeleted : World → Type 0
-GoneIsDeleted w = (k n : ℕ) (x : Sent) → slice_get (w.conns k).up n ≡ Some x → is_ops x.token ≡ true → w.server.present x.message.session_id ≡ false → SessionDeleted (answer w x)
+GoneIsDeleted w = (k n : ℕ) (x : Sent) → slice_get (w.conns k).up n ≡ Some x → is_ops x.token ≡ true
+    → w.server.present x.message.session_id ≡ false → SessionDeleted (answer w x)
 
 -- ---- 3. For a create with a live copy, the server tells by its guid that it acted, or refuses it for good, or it hasn't
 -- acted and isn't settled as refused.
@@ -97,8 +98,10 @@ CreatesAreKept w a = (k n g : ℕ) (x : Sent) → LiveCopy w k n g x → is_crea
 -- the three cases of a lock or unlock with a live copy
 pub data LockHolds (w : World) (a : ℕ → ℕ) (g : ℕ) : Type 0 where
   OpenLeft : w.server.standing (open_of w.client g) ≡ false → LockHolds w a g
-  SlotTells : (status : ℕ) → kept_status (w.client.number_of g) (w.server.lock_sequences (open_of w.client g) (w.client.slot_of g)) ≡ Some status → a g ≡ (if status == success then 1 else 0) → LockHolds w a g
-  LockToCome : kept_status (w.client.number_of g) (w.server.lock_sequences (open_of w.client g) (w.client.slot_of g)) ≡ None → a g ≡ 0 → LockHolds w a g
+  SlotTells : (status : ℕ) → kept_status (w.client.number_of g) (w.server.lock_sequences (open_of w.client g)
+      (w.client.slot_of g)) ≡ Some status → a g ≡ (if status == success then 1 else 0) → LockHolds w a g
+  LockToCome : kept_status (w.client.number_of g) (w.server.lock_sequences (open_of w.client g) (w.client.slot_of g))
+      ≡ None → a g ≡ 0 → LockHolds w a g
 
 -- what holds where a lock or unlock has a live copy
 pub record LockCopy (w : World) (a : ℕ → ℕ) (g : ℕ) : Type 0 where
@@ -116,15 +119,20 @@ LocksAreKept w a = (k n g : ℕ) (x : Sent) → LiveCopy w k n g x → is_lock (
 
 -- what holds of such a write or end
 pub record EditHolds (w : World) (g : ℕ) : Type 0 where
-  pub apart : (h : ℕ) → h ≢ g → w.client.sent h ≡ true → is_change (content_op (w.client.op h)) ≡ true → create_for w.client h ≡ create_for w.client g → pends w.client h ≡ true → collides (content_op (w.client.op g)) (content_op (w.client.op h)) ≡ false
+  pub apart : (h : ℕ) → h ≢ g → w.client.sent h ≡ true → is_change (content_op (w.client.op h)) ≡ true
+      → create_for w.client h ≡ create_for w.client g → pends w.client h ≡ true → collides (content_op (w.client.op g))
+      (content_op (w.client.op h)) ≡ false
   pub shown : is_some (w.log.first g) ≡ true
-      → effect (content_op (w.client.op g)) (w.server.content (w.server.opened (open_of w.client g)).file) ≡ w.server.content (w.server.opened (open_of w.client g)).file
+      → effect (content_op (w.client.op g)) (w.server.content (w.server.opened (open_of w.client g)).file)
+      ≡ w.server.content (w.server.opened (open_of w.client g)).file
 
 -- the fifth
 abbrev pub EditsAreShown : World → Type 0
 EditsAreShown w =
     (g : ℕ) → is_change (content_op (w.client.op g)) ≡ true → w.client.sent g ≡ true → pends w.client g ≡ true
-    → (is_create (w.client.op (create_for w.client g)) && denies_writers (share_of (w.client.op (create_for w.client g)))) ≡ true → w.server.standing (open_of w.client g) ≡ true → EditHolds w g
+    → (is_create (w.client.op (create_for w.client g))
+    && denies_writers (share_of (w.client.op (create_for w.client g)))) ≡ true
+    → w.server.standing (open_of w.client g) ≡ true → EditHolds w g
 
 -- ---- 6. A live copy of a write or end whose sequence is older than that of its open, attached in the copy's session, is
 -- refused without acting; and no pair that reached an open that stands is newer than the open's own.
@@ -144,7 +152,9 @@ pub record OlderRefused (w : World) (x : Sent) : Type 0 where
 -- the first half of the sixth
 abbrev pub OlderIsRefused : World → Type 0
 OlderIsRefused w =
-    (k n g : ℕ) (x : Sent) → LiveCopy w k n g x → is_change (content_op (w.client.op g)) ≡ true → w.server.standing (open_of w.client g) ≡ true → w.server.session_of_open (open_of w.client g) ≡ Some x.message.session_id
+    (k n g : ℕ) (x : Sent) → LiveCopy w k n g x → is_change (content_op (w.client.op g)) ≡ true
+    → w.server.standing (open_of w.client g) ≡ true → w.server.session_of_open (open_of w.client g)
+    ≡ Some x.message.session_id
     → x.message.channel_sequence < w.server.sequence (open_of w.client g) → OlderRefused w x
 
 -- the pair that reached an open at place i, against that of the open in its session y

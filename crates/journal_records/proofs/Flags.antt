@@ -11,11 +11,13 @@ pub no_flag : (byte : ℕ) → (byte ≡ 0 → ⊥) → (byte ≡ 1 → ⊥) →
 no_flag byte zero one false e = zero (sym e)
 no_flag byte zero one true e = one (sym e)
 
-no_text : (units : List ℕ) (e : TextError) → BreaksUtf16 units e → (e ≡ errors.Memory → ⊥) → (text : List ℕ) → IsUtf8 text → utf16 text ≡ units → ⊥
+no_text : (units : List ℕ) (e : TextError) → BreaksUtf16 units e → (e ≡ errors.Memory → ⊥) → (text : List ℕ)
+    → IsUtf8 text → utf16 text ≡ units → ⊥
 no_text units e broken other text is same = text_holds text e is (subst (λ (l : List ℕ). BreaksUtf16 l e) (sym same) broken) other
 
 pub odd_text : (units : List ℕ) (n : ℕ) → BreaksUtf16 units (errors.OddLength n) → (text : List ℕ) → IsUtf8 text → utf16 text ≡ units → ⊥
 odd_text units n broken = no_text units (errors.OddLength n) broken (λ e. absurd cc)
 
-pub lone_text : (units : List ℕ) (at : ℕ) → BreaksUtf16 units (errors.LoneSurrogate at) → (text : List ℕ) → IsUtf8 text → utf16 text ≡ units → ⊥
+pub lone_text : (units : List ℕ) (at : ℕ) → BreaksUtf16 units (errors.LoneSurrogate at) → (text : List ℕ) → IsUtf8 text
+    → utf16 text ≡ units → ⊥
 lone_text units at broken = no_text units (errors.LoneSurrogate at) broken (λ e. absurd cc)

@@ -1,5 +1,7 @@
 -- What is written is as long as the model reckons.
-use Rattle.std.proofs.Common.{◌≡◌, ℕ, zero, suc, ◌+◌, ◌-◌, ◌*◌, ◌/◌, ◌%◌, ◌<◌, ◌≤◌, Bool, List, [], ◌∷◌, ◌++◌, length, drop, fold, sum_by, flat_map, Option, Some, None, chars, IsUtf8, inl, inr, refl, sym, ap, ◌∙◌, arith, length-append}
+use Rattle.std.proofs.Common.{◌≡◌, ℕ, zero, suc, ◌+◌, ◌-◌, ◌*◌, ◌/◌, ◌%◌, ◌<◌, ◌≤◌, Bool, List, [], ◌∷◌, ◌++◌, length}
+use Rattle.std.proofs.Common.{drop, fold, sum_by, flat_map, Option, Some, None, chars, IsUtf8, inl, inr, refl, sym, ap}
+use Rattle.std.proofs.Common.{◌∙◌, arith, length-append}
 use Rattle.std.proofs.lemmas.List.Elements.{All-head, All-tail}
 use Rattle.std.proofs.lemmas.Bool.{cases_lt}
 use Rattle.std.proofs.lemmas.Grind.{common_steps}
@@ -13,11 +15,13 @@ use Rattle.wire_defs.proofs.Numbers.{length-le}
 use Rattle.exchange_defs.specs.Commands.{Element}
 use Rattle.exchange_defs.specs.Texts.{units_of, utf16_length}
 use Rattle.exchange_defs.specs.Records.{text_size, opened_size, record_size, records_size}
-use Rattle.journal_records.specs.Grammar.{behind, record_table, opened_table, IsKept, OpenIsKept, IsWritableRecord, AreWritableRecords, record_spelling, records_spelling}
+use Rattle.journal_records.specs.Grammar.{behind, record_table, opened_table, IsKept, OpenIsKept, IsWritableRecord}
+use Rattle.journal_records.specs.Grammar.{AreWritableRecords, record_spelling, records_spelling}
 use Rattle.journal_records.specs.Meaning.{elements_in, opened, record_of, records_of}
 use Rattle.journal_records.specs.declared.value.NewOpen.{NewOpen}
 use Rattle.journal_records.specs.declared.value.Record.{Record}
-use Rattle.journal_records.specs.declared.value.Record.TheVariants.{Epoch, Create, Write, SetEnd, SetBasic, SetDelete, Rename, Remove, Lock, Shut, Version, Expire}
+use Rattle.journal_records.specs.declared.value.Record.TheVariants.{Epoch, Create, Write, SetEnd, SetBasic, SetDelete}
+use Rattle.journal_records.specs.declared.value.Record.TheVariants.{Rename, Remove, Lock, Shut, Version, Expire}
 use Rattle.journal_records.proofs.Again.{length_written}
 
 counted : (xs : List ℕ) (n : ℕ) → fold (λ (a x : ℕ). a + units_of x) n xs ≡ n + fold (λ (a x : ℕ). a + units_of x) 0 xs
@@ -52,7 +56,13 @@ plain c small = let e : wide_units c ≡ le 2 c = grind (arith, common_steps) in
 pair : (c : ℕ) → 0x10000 ≤ c → length (wide_units c) ≡ 4
 pair c big =
     let e : wide_units c ≡ le 2 (0xd800 + (c - 0x10000) / 0x400) ++ le 2 (0xdc00 + (c - 0x10000) % 0x400) = grind (arith, common_steps) in
-    ap length e ∙ omega (arith, length-append (le 2 (0xd800 + (c - 0x10000) / 0x400)) (le 2 (0xdc00 + (c - 0x10000) % 0x400)), length-le 2 (0xd800 + (c - 0x10000) / 0x400), length-le 2 (0xdc00 + (c - 0x10000) % 0x400))
+    ap length e ∙ omega (
+      arith,
+      length-append (le 2 (0xd800 + (c - 0x10000) / 0x400))
+          (le 2 (0xdc00 + (c - 0x10000) % 0x400)),
+      length-le 2 (0xd800 + (c - 0x10000) / 0x400),
+      length-le 2 (0xdc00 + (c - 0x10000) % 0x400),
+    )
 
 encoded_1 : (c : ℕ) → c < 128 → encode c ≡ c ∷ []
 unfolding encode
@@ -75,10 +85,19 @@ unfolding utf16_length
 one_character c = elim (cases_lt c 128) [
   | inl small ↦ rw (encoded_1 c small) (omega (arith, plain c (omega arith), one c small))
   | inr first ↦ elim (cases_lt c 2048) [
-    | inl small ↦ rw (encoded_2 c first small) (omega (arith, plain c (omega arith), lead (192 + c / 64) (omega arith) (omega arith), later c))
+    | inl small ↦ rw (encoded_2 c first small)
+        (omega (arith, plain c (omega arith), lead (192 + c / 64) (omega arith) (omega arith), later c))
     | inr second ↦ elim (cases_lt c 65536) [
-      | inl small ↦ rw (encoded_3 c second small) (omega (arith, plain c small, lead (224 + c / 4096) (omega arith) (omega arith), later (c / 64), later c))
-      | inr third ↦ rw (encoded_4 c third) (omega (arith, pair c third, lead_of_four (240 + c / 262144) (omega arith), later (c / 4096), later (c / 64), later c))
+      | inl small ↦ rw (encoded_3 c second small)
+          (omega (arith, plain c small, lead (224 + c / 4096) (omega arith) (omega arith), later (c / 64), later c))
+      | inr third ↦ rw (encoded_4 c third) (omega (
+        arith,
+        pair c third,
+        lead_of_four (240 + c / 262144) (omega arith),
+        later (c / 4096),
+        later (c / 64),
+        later c,
+      ))
     ]
   ]
 ]
@@ -89,7 +108,12 @@ none_counted = refl
 
 characters : (cs : List ℕ) → length (utf16_of cs) ≡ 2 * utf16_length (encode_utf8_all cs)
 characters [] = omega (arith, none_counted)
-characters (c ∷ cs) = length-append (wide_units c) (utf16_of cs) ∙ omega (arith, one_character c, characters cs, counted-append (encode_utf8 c) (encode_utf8_all cs))
+characters (c ∷ cs) = length-append (wide_units c) (utf16_of cs) ∙ omega (
+  arith,
+  one_character c,
+  characters cs,
+  counted-append (encode_utf8 c) (encode_utf8_all cs),
+)
 
 pub text_length : (text : List ℕ) → IsUtf8 text → length (utf16 text) ≡ 2 * utf16_length text
 unfolding utf16
@@ -108,7 +132,8 @@ opened_behind (Some n) at kept = omega (arith, text_length n.user kept.0)
 size_behind : (r : Record) → IsKept 2 r → behind 0 (record_table 2 r) ≡ record_size (record_of r)
 unfolding record_size text_size
 size_behind (Epoch told_number) kept = omega arith
-size_behind (Create origin action file path attributes directory time made) kept = opened_behind made (35 + length (utf16 path) + 4 + 1 + 8) kept.1 ∙ omega (arith, text_length path kept.0)
+size_behind (Create origin action file path attributes directory time made) kept = opened_behind made
+    (35 + length (utf16 path) + 4 + 1 + 8) kept.1 ∙ omega (arith, text_length path kept.0)
 size_behind (Write origin file at time bytes) kept = omega arith
 size_behind (SetEnd origin file size time) kept = omega arith
 size_behind (SetBasic origin file basic) kept = omega arith
@@ -125,5 +150,6 @@ unfolding records_size
 written_size [] fit = refl
 written_size (r ∷ rs) fit =
     let first : IsWritableRecord r = All-head IsWritableRecord r rs fit in
-    let here : length (record_spelling r) ≡ record_size (record_of r) = length_written (record_table 2 r) [] first.fits ∙ size_behind r first.kept in
+    let here : length (record_spelling r) ≡ record_size (record_of r) = length_written (record_table 2 r) [] first.fits
+    ∙ size_behind r first.kept in
     omega (arith, length-append (record_spelling r) (records_spelling rs), here, written_size rs (All-tail IsWritableRecord r rs fit))

@@ -27,16 +27,31 @@ bytes_behind w k at m = ap (λ (l : List ℕ). take w l) (drop-drop at k m)
 same_bytes : (w k at there : ℕ) (m : List ℕ) → there ≡ k + at → bytes_at w m there ≡ bytes_at w (drop k m) at
 same_bytes w k at there m e = ap (λ (p : ℕ). bytes_at w m p) e ∙ sym (bytes_behind w k at m)
 
-pub stands_behind : (m : List ℕ) (k at there : ℕ) (fs : List Field) → k ≤ length m → there ≡ k + at → Stands (drop k m) at fs → Stands m there fs
+pub stands_behind : (m : List ℕ) (k at there : ℕ) (fs : List Field) → k ≤ length m → there ≡ k + at
+    → Stands (drop k m) at fs → Stands m there fs
 stands_behind m k at there [] inside e s = omega (arith, length-drop k m, s)
-stands_behind m k at there (Num w n ∷ fs) inside e s = (ap number_of (same_bytes w k at there m e) ∙ s.0, stands_behind m k (at + w) (there + w) fs inside (omega arith) s.1)
-stands_behind m k at there (Raw w b ∷ fs) inside e s = (same_bytes w k at there m e ∙ s.0, stands_behind m k (at + w) (there + w) fs inside (omega arith) s.1)
+stands_behind m k at there (Num w n ∷ fs) inside e s = (
+  ap number_of (same_bytes w k at there m e) ∙ s.0,
+  stands_behind m k (at + w) (there + w) fs inside (omega arith) s.1,
+)
+stands_behind m k at there (Raw w b ∷ fs) inside e s = (
+  same_bytes w k at there m e ∙ s.0,
+  stands_behind m k (at + w)
+      (there + w) fs inside (omega arith) s.1,
+)
 stands_behind m k at there (Any w ∷ fs) inside e s = stands_behind m k (at + w) (there + w) fs inside (omega arith) s
 
-pub stands_ahead : (m : List ℕ) (k at there : ℕ) (fs : List Field) → k ≤ length m → there ≡ k + at → Stands m there fs → Stands (drop k m) at fs
+pub stands_ahead : (m : List ℕ) (k at there : ℕ) (fs : List Field) → k ≤ length m → there ≡ k + at → Stands m there fs
+    → Stands (drop k m) at fs
 stands_ahead m k at there [] inside e s = omega (arith, length-drop k m, s)
-stands_ahead m k at there (Num w n ∷ fs) inside e s = (ap number_of (sym (same_bytes w k at there m e)) ∙ s.0, stands_ahead m k (at + w) (there + w) fs inside (omega arith) s.1)
-stands_ahead m k at there (Raw w b ∷ fs) inside e s = (sym (same_bytes w k at there m e) ∙ s.0, stands_ahead m k (at + w) (there + w) fs inside (omega arith) s.1)
+stands_ahead m k at there (Num w n ∷ fs) inside e s = (
+  ap number_of (sym (same_bytes w k at there m e)) ∙ s.0,
+  stands_ahead m k (at + w) (there + w) fs inside (omega arith) s.1,
+)
+stands_ahead m k at there (Raw w b ∷ fs) inside e s = (
+  sym (same_bytes w k at there m e) ∙ s.0,
+  stands_ahead m k (at + w) (there + w) fs inside (omega arith) s.1,
+)
 stands_ahead m k at there (Any w ∷ fs) inside e s = stands_ahead m k (at + w) (there + w) fs inside (omega arith) s
 
 pub behind_front : (k at there : ℕ) (fs : List Field) → there ≡ k + at → behind there fs ≡ k + behind at fs
@@ -55,11 +70,16 @@ pub end_behind : (v k : ℕ) (r : Record) (end : ℕ) → end ≡ behind 0 (reco
 end_behind v k r end e = ap (λ (n : ℕ). k + n) e ∙ sym (behind_front k 0 k (record_table v r) (omega arith))
 
 -- one record more
-pub one_more : (v : ℕ) (m : List ℕ) (at end next : ℕ) (rs : List Record) (r : Record) → AreRecords v m at end rs → StandsRecord (version_behind v rs) m end r
+pub one_more : (v : ℕ) (m : List ℕ) (at end next : ℕ) (rs : List Record) (r : Record) → AreRecords v m at end rs
+    → StandsRecord (version_behind v rs) m end r
     → next ≡ behind end (record_table (version_behind v rs) r) → AreRecords v m at next (rs ++ r ∷ [])
 one_more v m at end next [] r are stands is =
     (subst (λ (p : ℕ). StandsRecord v m p r) (sym are) stands, ap (λ (p : ℕ). behind p (record_table v r)) are ∙ sym is)
-one_more v m at end next (q ∷ rs) r are stands is = (are.0, one_more (next_version v q) m (behind at (record_table v q)) end next rs r are.1 stands is)
+one_more v m at end next (q ∷ rs) r are stands is = (
+  are.0,
+  one_more (next_version v q) m (behind at (record_table v q))
+      end next rs r are.1 stands is,
+)
 
 pub version_more : (v : ℕ) (rs : List Record) (r : Record) → version_behind v (rs ++ r ∷ []) ≡ next_version (version_behind v rs) r
 version_more v [] r = refl

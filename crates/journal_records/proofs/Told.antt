@@ -1,5 +1,6 @@
 -- What bytes say at which a record stands, by the byte that tells its kind.
-use Rattle.std.proofs.Common.{◌≡◌, ℕ, ◌+◌, ◌*◌, ◌/◌, ◌<◌, ◌≤◌, ◌==◌, if◌then◌else◌, Bool, List, [], ◌∷◌, length, Option, sym, ap, subst, ◌∙◌, arith}
+use Rattle.std.proofs.Common.{◌≡◌, ℕ, ◌+◌, ◌*◌, ◌/◌, ◌<◌, ◌≤◌, ◌==◌, if◌then◌else◌, Bool, List, [], ◌∷◌, length, Option}
+use Rattle.std.proofs.Common.{sym, ap, subst, ◌∙◌, arith}
 use Rattle.std.specs.Prelude.{IsUtf8}
 use Rattle.wire_defs.specs.Places.{number, bytes_at}
 use Rattle.wire_defs.specs.Table.{Stands}
@@ -7,13 +8,15 @@ use Rattle.wire_defs.specs.Utf16.{utf16}
 use Rattle.journal_records.specs.Grammar.{flag, kind, record_fields, record_table, opened_table, OpenIsKept, StandsRecord}
 use Rattle.journal_records.specs.declared.value.NewOpen.{NewOpen}
 use Rattle.journal_records.specs.declared.value.Record.{Record}
-use Rattle.journal_records.specs.declared.value.Record.TheVariants.{Epoch, Create, Write, SetEnd, SetBasic, SetDelete, Rename, Remove, Lock, Shut, Version, Expire}
+use Rattle.journal_records.specs.declared.value.Record.TheVariants.{Epoch, Create, Write, SetEnd, SetBasic, SetDelete}
+use Rattle.journal_records.specs.declared.value.Record.TheVariants.{Rename, Remove, Lock, Shut, Version, Expire}
 use Rattle.journal_records.proofs.Standing.{ends_inside, ends_later}
 
 -- ---- the kinds that have always the same size
 
 abbrev pub fixed_size : ℕ → ℕ
-fixed_size k = if k == 1 then 5 else if k == 4 then 45 else if k == 5 then 65 else if k == 8 then 29 else if k == 10 then 29 else if k == 12 then 29 else 0
+fixed_size k = if k == 1 then 5 else if k == 4 then 45 else if k == 5 then 65 else if k == 8 then 29 else if k == 10
+    then 29 else if k == 12 then 29 else 0
 
 fits : (v : ℕ) (m : List ℕ) (r : Record) → StandsRecord v m 0 r → fixed_size (kind r) ≤ length m
 fits v m (Epoch told_number) s = ends_inside m 0 (record_table v (Epoch told_number)) s.fields
@@ -143,7 +146,8 @@ lock_says v m is (Rename origin file replaced path) s = absurd (omega (arith, s.
 lock_says v m is (Remove origin file) s = absurd (omega (arith, s.fields.0, is))
 lock_says v m is (Lock origin id index tried_number status elements) s =
     let count = s.fields.1.1.1.1.1.1.1.1.0 in
-    let end : 37 + 24 * (length elements / 24) ≤ length m = ends_inside m 0 (record_table v (Lock origin id index tried_number status elements)) s.fields in
+    let end : 37 + 24 * (length elements / 24) ≤ length m =
+    ends_inside m 0 (record_table v (Lock origin id index tried_number status elements)) s.fields in
     omega (arith, count, end)
 lock_says v m is (Shut origin id) s = absurd (omega (arith, s.fields.0, is))
 lock_says v m is (Version told_number) s = absurd (omega (arith, s.fields.0, is))

@@ -1,6 +1,7 @@
 -- The journal's records as bytes, in versions 1 and 2 of the journal (this project's). A text is UTF-16 (RFC 2781), an
 -- element of a lock is that of a LOCK request (MS-SMB2 2.2.26.1).
-use Rattle.std.specs.Prelude.{◌≡◌, ℕ, ◌+◌, ◌*◌, ◌/◌, ◌<◌, ◌==◌, Bool, true, false, if◌then◌else◌, List, [], ◌∷◌, ◌++◌, length, Option, Some, None, Result, Ok, Err, ⊤, IsUtf8, All, flat_map}
+use Rattle.std.specs.Prelude.{◌≡◌, ℕ, ◌+◌, ◌*◌, ◌/◌, ◌<◌, ◌==◌, Bool, true, false, if◌then◌else◌, List, [], ◌∷◌, ◌++◌}
+use Rattle.std.specs.Prelude.{length, Option, Some, None, Result, Ok, Err, ⊤, IsUtf8, All, flat_map}
 use Rattle.wire_defs.specs.Table.{Field, Num, Raw, Any, Stands, with_fields, AreWritable}
 use Rattle.wire_defs.specs.Utf16.{utf16}
 use Rattle.exchange_defs.specs.declared.values.Basic.{Basic}
@@ -9,7 +10,8 @@ use Rattle.journal_records.specs.declared.fault.RecordError.{RecordError}
 use Rattle.journal_records.specs.declared.fault.RecordError.TheVariants.{Memory, BadRecord}
 use Rattle.journal_records.specs.declared.value.NewOpen.{NewOpen}
 use Rattle.journal_records.specs.declared.value.Record.{Record}
-use Rattle.journal_records.specs.declared.value.Record.TheVariants.{Epoch, Create, Write, SetEnd, SetBasic, SetDelete, Rename, Remove, Lock, Shut, Version, Expire}
+use Rattle.journal_records.specs.declared.value.Record.TheVariants.{Epoch, Create, Write, SetEnd, SetBasic, SetDelete}
+use Rattle.journal_records.specs.declared.value.Record.TheVariants.{Rename, Remove, Lock, Shut, Version, Expire}
 
 -- ---- the fields
 
@@ -30,7 +32,8 @@ timeout_table version timeout = if version == 1 then [] else Num 4 timeout ∷ [
 
 abbrev pub opened_table : ℕ → Option NewOpen → List Field
 opened_table version None = Num 1 0 ∷ []
-opened_table version (Some n) = Num 1 1 ∷ Num 8 n.id ∷ Raw 16 n.client ∷ Raw 16 n.guid ∷ (text_table (utf16 n.user) ++ (Num 4 n.access ∷ Num 4 n.share ∷ Num 4 n.options ∷ timeout_table version n.timeout))
+opened_table version (Some n) = Num 1 1 ∷ Num 8 n.id ∷ Raw 16 n.client ∷ Raw 16 n.guid ∷ (text_table (utf16 n.user)
+    ++ (Num 4 n.access ∷ Num 4 n.share ∷ Num 4 n.options ∷ timeout_table version n.timeout))
 
 abbrev pub basic_table : Basic → List Field
 basic_table b = Num 8 b.created ∷ Num 8 b.accessed ∷ Num 8 b.written ∷ Num 8 b.changed ∷ Num 4 b.attributes ∷ []
@@ -52,14 +55,19 @@ kind (Expire origin id) = 12
 -- what stands behind the kind
 abbrev pub record_fields : ℕ → Record → List Field
 record_fields version (Epoch number) = Num 4 number ∷ []
-record_fields version (Create origin action file path attributes directory time opened) = origin_table origin ++ (Num 4 action ∷ Num 8 file ∷ (text_table (utf16 path) ++ (Num 4 attributes ∷ Num 1 (flag directory) ∷ Num 8 time ∷ opened_table version opened)))
-record_fields version (Write origin file at time bytes) = origin_table origin ++ (Num 8 file ∷ Num 8 at ∷ Num 8 time ∷ Num 4 (length bytes) ∷ Raw (length bytes) bytes ∷ [])
+record_fields version (Create origin action file path attributes directory time opened) = origin_table origin
+    ++ (Num 4 action ∷ Num 8 file ∷ (text_table (utf16 path)
+    ++ (Num 4 attributes ∷ Num 1 (flag directory) ∷ Num 8 time ∷ opened_table version opened)))
+record_fields version (Write origin file at time bytes) = origin_table origin
+    ++ (Num 8 file ∷ Num 8 at ∷ Num 8 time ∷ Num 4 (length bytes) ∷ Raw (length bytes) bytes ∷ [])
 record_fields version (SetEnd origin file size time) = origin_table origin ++ (Num 8 file ∷ Num 8 size ∷ Num 8 time ∷ [])
 record_fields version (SetBasic origin file basic) = origin_table origin ++ (Num 8 file ∷ basic_table basic)
 record_fields version (SetDelete origin file marked) = origin_table origin ++ (Num 8 file ∷ Num 1 (flag marked) ∷ [])
 record_fields version (Rename origin file replaced path) = origin_table origin ++ (Num 8 file ∷ Num 8 replaced ∷ text_table (utf16 path))
 record_fields version (Remove origin file) = origin_table origin ++ (Num 8 file ∷ [])
-record_fields version (Lock origin id index number status elements) = origin_table origin ++ (Num 8 id ∷ Num 1 index ∷ Num 1 number ∷ Num 4 status ∷ Num 2 (length elements / 24) ∷ Raw (24 * (length elements / 24)) elements ∷ [])
+record_fields version (Lock origin id index number status elements) = origin_table origin
+    ++ (Num 8 id ∷ Num 1 index ∷ Num 1 number ∷ Num 4 status ∷ Num 2 (length elements / 24) ∷ Raw
+    (24 * (length elements / 24)) elements ∷ [])
 record_fields version (Shut origin id) = origin_table origin ++ (Num 8 id ∷ [])
 record_fields version (Version number) = Num 4 number ∷ []
 record_fields version (Expire origin id) = origin_table origin ++ (Num 8 id ∷ [])
@@ -126,7 +134,8 @@ version_behind version (r ∷ rs) = version_behind (next_version version r) rs
 -- records stand in m one after another, from a place on up to an end
 abbrev pub AreRecords : ℕ → List ℕ → ℕ → ℕ → List Record → Type 0
 AreRecords version m at end [] = at ≡ end
-AreRecords version m at end (r ∷ rs) = StandsRecord version m at r × AreRecords (next_version version r) m (behind at (record_table version r)) end rs
+AreRecords version m at end (r ∷ rs) = StandsRecord version m at r × AreRecords (next_version version r) m
+    (behind at (record_table version r)) end rs
 
 -- a body is these records
 abbrev pub SpellsRecords : ℕ → List ℕ → List Record → Type 0

@@ -30,7 +30,8 @@ ReadsText bytes (Err Memory) = ⊤
 
 -- the record that bytes begin with and where it ends, or they begin with none
 abbrev pub ReadsRecord : ℕ → List ℕ → Result Found Fault → Type 0
-ReadsRecord version m (Ok f) = StandsRecord version m 0 f.record × (f.end ≡ behind 0 (record_table version f.record)) × (f.end ≤ length m) × (0 < f.end)
+ReadsRecord version m (Ok f) = StandsRecord version m 0 f.record × (f.end ≡ behind 0 (record_table version f.record))
+    × (f.end ≤ length m) × (0 < f.end)
 ReadsRecord version m (Err Bad) = (r : Record) → StandsRecord version m 0 r → ⊥
 ReadsRecord version m (Err Memory) = ⊤
 
@@ -46,14 +47,19 @@ ReadsFields table m size (Err e) = length m < size
 
 -- behind the kind, up to the byte that tells whether an open was made
 abbrev pub create_fields_table : CreateFields → List Field
-create_fields_table v = origin_table v.origin ++ (Num 4 v.action ∷ Num 8 v.file ∷ (text_table v.path.now ++ (Num 4 v.attributes ∷ Num 1 v.directory ∷ Num 8 v.time ∷ [])))
+create_fields_table v = origin_table v.origin
+    ++ (Num 4 v.action ∷ Num 8 v.file ∷ (text_table v.path.now
+    ++ (Num 4 v.attributes ∷ Num 1 v.directory ∷ Num 8 v.time ∷ [])))
 
 -- behind that byte, up to the timeout
 abbrev pub open_fields_table : OpenFields → List Field
-open_fields_table v = Num 8 v.id ∷ Raw 16 v.client ∷ Raw 16 v.guid ∷ (text_table v.user.now ++ (Num 4 v.access ∷ Num 4 v.share ∷ Num 4 v.options ∷ []))
+open_fields_table v = Num 8 v.id ∷ Raw 16 v.client ∷ Raw 16 v.guid ∷ (text_table v.user.now
+    ++ (Num 4 v.access ∷ Num 4 v.share ∷ Num 4 v.options ∷ []))
 
 abbrev pub write_fields_table : WriteFields → List Field
-write_fields_table v = Num 1 3 ∷ (origin_table v.origin ++ (Num 8 v.file ∷ Num 8 v.at ∷ Num 8 v.time ∷ Num 4 (length v.bytes.now) ∷ Raw (length v.bytes.now) v.bytes.now ∷ []))
+write_fields_table v =
+    Num 1 3 ∷ (origin_table v.origin ++ (Num 8 v.file ∷ Num 8 v.at ∷ Num 8 v.time ∷ Num 4 (length v.bytes.now) ∷ Raw
+    (length v.bytes.now) v.bytes.now ∷ []))
 
 abbrev pub delete_fields_table : DeleteFields → List Field
 delete_fields_table v = Num 1 6 ∷ (origin_table v.origin ++ (Num 8 v.file ∷ Num 1 v.marked ∷ []))
@@ -62,10 +68,15 @@ abbrev pub rename_fields_table : RenameFields → List Field
 rename_fields_table v = Num 1 7 ∷ (origin_table v.origin ++ (Num 8 v.file ∷ Num 8 v.replaced ∷ text_table v.path.now))
 
 abbrev pub lock_fields_table : LockFields → List Field
-lock_fields_table v = Num 1 9 ∷ (origin_table v.origin ++ (Num 8 v.id ∷ Num 1 v.index ∷ Num 1 v.number ∷ Num 4 v.status ∷ Num 2 (length v.elements.now / 24) ∷ Raw (24 * (length v.elements.now / 24)) v.elements.now ∷ []))
+lock_fields_table v =
+    Num 1 9 ∷ (origin_table v.origin ++ (Num 8 v.id ∷ Num 1 v.index ∷ Num 1 v.number ∷ Num 4 v.status ∷ Num 2
+    (length v.elements.now / 24) ∷ Raw (24 * (length v.elements.now / 24)) v.elements.now ∷ []))
 
 -- a part of a record that stands where the cursor was, and the cursor is behind it; or no such part stands there
 abbrev pub TakesPart : {V : Type 0} → (V → List Field) → (V → Type 0) → Spot → Spot → Result V Fault → Type 0
-TakesPart table Is old new (Ok v) = Stands old.bytes old.at (table v) × Is v × (new ≡ record { bytes = old.bytes; at = behind old.at (table v) })
+TakesPart table Is old new (Ok v) = Stands old.bytes old.at (table v) × Is v × (new ≡ record {
+  bytes = old.bytes;
+  at = behind old.at (table v);
+})
 TakesPart {V} table Is old new (Err Bad) = (v : V) → Stands old.bytes old.at (table v) → Is v → ⊥
 TakesPart table Is old new (Err Memory) = ⊤

@@ -2,7 +2,9 @@
 ghost use Rattle.std.specs.Prelude.{◌≡◌, ◌+◌, ◌*◌, ◌<◌, ◌≤◌, length, MatchResult};
 ghost use Rattle.wire_defs.specs.Places.{number};
 ghost use Rattle.wire_defs.specs.Table.{Stands};
-ghost use Rattle.journal_records.specs.Reading.{StepsOver, ReadsFields, open_fields_table, create_fields_table, write_fields_table, delete_fields_table, rename_fields_table, lock_fields_table};
+ghost use Rattle.journal_records.specs.Reading.{StepsOver, ReadsFields, open_fields_table, create_fields_table};
+ghost use Rattle.journal_records.specs.Reading.{write_fields_table, delete_fields_table, rename_fields_table};
+ghost use Rattle.journal_records.specs.Reading.{lock_fields_table};
 
 use crate::parts::read_origin;
 use exchange_defs::values::Origin;

@@ -3,7 +3,8 @@ ghost use Rattle.std.specs.Prelude.{◌≡◌, ◌<◌, ◌*◌, ◌/◌, ◌^�
 ghost use Rattle.wire_defs.specs.Places.{le};
 ghost use Rattle.wire_defs.specs.Table.{Num, Raw, AreWritable, with_fields};
 ghost use Rattle.wire_defs.specs.Utf16.{utf16};
-ghost use Rattle.journal_records.specs.Grammar.{flag, origin_table, text_table, basic_table, opened_table, record_table, IsWritableRecord, AreWritableRecords, records_spelling, record_spelling};
+ghost use Rattle.journal_records.specs.Grammar.{flag, origin_table, text_table, basic_table, opened_table, record_table};
+ghost use Rattle.journal_records.specs.Grammar.{IsWritableRecord, AreWritableRecords, records_spelling, record_spelling};
 
 use crate::list::Records;
 use crate::value::{NewOpen, Record};

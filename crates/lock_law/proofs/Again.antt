@@ -6,15 +6,18 @@ use Rattle.exchange_defs.specs.Client.{Client}
 use Rattle.exchange_defs.specs.Network.{Conn}
 use Rattle.lock_law.specs.Locks.{Locks, RetriedOn, RetriedDone}
 
-again_retried_on : (c : Client) (conns : ℕ → Conn) (s : Server) (a : ℕ → ℕ) (q0 i0 : ℕ) → RetriedOn c conns s → RetriedOn (record c { retried = put2 c.retried q0 i0 c.session_number }) conns s
+again_retried_on : (c : Client) (conns : ℕ → Conn) (s : Server) (a : ℕ → ℕ) (q0 i0 : ℕ) → RetriedOn c conns s
+    → RetriedOn (record c { retried = put2 c.retried q0 i0 c.session_number }) conns s
 again_retried_on c conns s a q0 i0 i_retried_on =
     λ j n p x. let old = i_retried_on j n p x in grind arith
 
-again_retried_done : (c : Client) (conns : ℕ → Conn) (s : Server) (a : ℕ → ℕ) (q0 i0 : ℕ) → RetriedDone c conns s → RetriedDone (record c { retried = put2 c.retried q0 i0 c.session_number }) conns s
+again_retried_done : (c : Client) (conns : ℕ → Conn) (s : Server) (a : ℕ → ℕ) (q0 i0 : ℕ) → RetriedDone c conns s
+    → RetriedDone (record c { retried = put2 c.retried q0 i0 c.session_number }) conns s
 again_retried_done c conns s a q0 i0 i_retried_done =
     λ j n p x. let old = i_retried_done j n p x in grind arith
 
-pub again_keeps : (c : Client) (conns : ℕ → Conn) (s : Server) (a : ℕ → ℕ) (q0 i0 : ℕ) → Locks c conns s a → Locks (record c { retried = put2 c.retried q0 i0 c.session_number }) conns s a
+pub again_keeps : (c : Client) (conns : ℕ → Conn) (s : Server) (a : ℕ → ℕ) (q0 i0 : ℕ) → Locks c conns s a
+    → Locks (record c { retried = put2 c.retried q0 i0 c.session_number }) conns s a
 again_keeps c conns s a q0 i0 i =
     record {
       slot_index = i.slot_index;

@@ -4,9 +4,11 @@ use Rattle.exchange_defs.specs.State.{Server}
 use Rattle.exchange_defs.specs.Client.{Client}
 use Rattle.exchange_defs.specs.Network.{Conn, server_off}
 use Rattle.exchange_law.proofs.Lists.{get-push}
-use Rattle.lock_law.specs.Locks.{Locks, Unanswered, AskUp, Users, CopyNow, RetriedOn, RetriedDone, CopyAttached, FullDead, LeftFull, LeftStuck, LeftIdle}
+use Rattle.lock_law.specs.Locks.{Locks, Unanswered, AskUp, Users, CopyNow, RetriedOn, RetriedDone, CopyAttached}
+use Rattle.lock_law.specs.Locks.{FullDead, LeftFull, LeftStuck, LeftIdle}
 
-all_dropped_unanswered : (c : Client) (conns : ℕ → Conn) (s : Server) (a : ℕ → ℕ) → Unanswered c conns → Unanswered c (λ j. server_off (conns j))
+all_dropped_unanswered : (c : Client) (conns : ℕ → Conn) (s : Server) (a : ℕ → ℕ) → Unanswered c conns
+    → Unanswered c (λ j. server_off (conns j))
 all_dropped_unanswered c conns s a i_unanswered =
     λ j n p x. let old = i_unanswered j n p x in grind (arith, get-push)
 
@@ -18,39 +20,48 @@ all_dropped_users : (c : Client) (conns : ℕ → Conn) (s : Server) (a : ℕ �
 all_dropped_users c conns s a i_users =
     λ j n p x. let old = i_users j n p x in grind (arith, get-push)
 
-all_dropped_copy_now : (c : Client) (conns : ℕ → Conn) (s : Server) (a : ℕ → ℕ) → CopyNow c conns s → CopyNow c (λ j. server_off (conns j)) s
+all_dropped_copy_now : (c : Client) (conns : ℕ → Conn) (s : Server) (a : ℕ → ℕ) → CopyNow c conns s
+    → CopyNow c (λ j. server_off (conns j)) s
 all_dropped_copy_now c conns s a i_copy_now =
     λ j n p x. let old = i_copy_now j n p x in grind (arith, get-push)
 
-all_dropped_retried_on : (c : Client) (conns : ℕ → Conn) (s : Server) (a : ℕ → ℕ) → RetriedOn c conns s → RetriedOn c (λ j. server_off (conns j)) s
+all_dropped_retried_on : (c : Client) (conns : ℕ → Conn) (s : Server) (a : ℕ → ℕ) → RetriedOn c conns s
+    → RetriedOn c (λ j. server_off (conns j)) s
 all_dropped_retried_on c conns s a i_retried_on =
     λ j n p x. let old = i_retried_on j n p x in grind (arith, get-push)
 
-all_dropped_retried_done : (c : Client) (conns : ℕ → Conn) (s : Server) (a : ℕ → ℕ) → RetriedDone c conns s → RetriedDone c (λ j. server_off (conns j)) s
+all_dropped_retried_done : (c : Client) (conns : ℕ → Conn) (s : Server) (a : ℕ → ℕ) → RetriedDone c conns s
+    → RetriedDone c (λ j. server_off (conns j)) s
 all_dropped_retried_done c conns s a i_retried_done =
     λ j n p x. let old = i_retried_done j n p x in grind (arith, get-push)
 
-all_dropped_copy_attached : (c : Client) (conns : ℕ → Conn) (s : Server) (a : ℕ → ℕ) → CopyAttached c conns s → CopyAttached c (λ j. server_off (conns j)) s
+all_dropped_copy_attached : (c : Client) (conns : ℕ → Conn) (s : Server) (a : ℕ → ℕ) → CopyAttached c conns s
+    → CopyAttached c (λ j. server_off (conns j)) s
 all_dropped_copy_attached c conns s a i_copy_attached =
     λ j n p x. let old = i_copy_attached j n p x in grind (arith, get-push)
 
-all_dropped_full_dead : (c : Client) (conns : ℕ → Conn) (s : Server) (a : ℕ → ℕ) → FullDead c conns s → FullDead c (λ j. server_off (conns j)) s
+all_dropped_full_dead : (c : Client) (conns : ℕ → Conn) (s : Server) (a : ℕ → ℕ) → FullDead c conns s
+    → FullDead c (λ j. server_off (conns j)) s
 all_dropped_full_dead c conns s a i_full_dead =
     λ j n p x. let old = i_full_dead j n p x in grind (arith, get-push)
 
-all_dropped_left_full : (c : Client) (conns : ℕ → Conn) (s : Server) (a : ℕ → ℕ) → LeftFull c conns s → LeftFull c (λ j. server_off (conns j)) s
+all_dropped_left_full : (c : Client) (conns : ℕ → Conn) (s : Server) (a : ℕ → ℕ) → LeftFull c conns s
+    → LeftFull c (λ j. server_off (conns j)) s
 all_dropped_left_full c conns s a i_left_full =
     λ j n p x. let old = i_left_full j n p x in grind (arith, get-push)
 
-all_dropped_left_stuck : (c : Client) (conns : ℕ → Conn) (s : Server) (a : ℕ → ℕ) → LeftStuck c conns s → LeftStuck c (λ j. server_off (conns j)) s
+all_dropped_left_stuck : (c : Client) (conns : ℕ → Conn) (s : Server) (a : ℕ → ℕ) → LeftStuck c conns s
+    → LeftStuck c (λ j. server_off (conns j)) s
 all_dropped_left_stuck c conns s a i_left_stuck =
     λ j n p x. let old = i_left_stuck j n p x in grind (arith, get-push)
 
-all_dropped_left_idle : (c : Client) (conns : ℕ → Conn) (s : Server) (a : ℕ → ℕ) → LeftIdle c conns s a → LeftIdle c (λ j. server_off (conns j)) s a
+all_dropped_left_idle : (c : Client) (conns : ℕ → Conn) (s : Server) (a : ℕ → ℕ) → LeftIdle c conns s a
+    → LeftIdle c (λ j. server_off (conns j)) s a
 all_dropped_left_idle c conns s a i_left_idle =
     λ j n p q x. let old = i_left_idle j n p q x in grind (arith, get-push)
 
-pub all_dropped_keeps : (c : Client) (conns : ℕ → Conn) (s : Server) (a : ℕ → ℕ) → Locks c conns s a → Locks c (λ j. server_off (conns j)) s a
+pub all_dropped_keeps : (c : Client) (conns : ℕ → Conn) (s : Server) (a : ℕ → ℕ) → Locks c conns s a
+    → Locks c (λ j. server_off (conns j)) s a
 all_dropped_keeps c conns s a i =
     record {
       slot_index = i.slot_index;

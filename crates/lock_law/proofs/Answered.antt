@@ -6,7 +6,8 @@ use Rattle.exchange_defs.specs.Settling.{answered}
 use Rattle.exchange_defs.specs.Network.{Conn}
 use Rattle.lock_law.specs.Locks.{Locks, RetriedOn}
 
-answered_retried_on : (c : Client) (conns : ℕ → Conn) (s : Server) (a : ℕ → ℕ) (g : ℕ) → RetriedOn c conns s → RetriedOn (answered c g) conns s
+answered_retried_on : (c : Client) (conns : ℕ → Conn) (s : Server) (a : ℕ → ℕ) (g : ℕ) → RetriedOn c conns s
+    → RetriedOn (answered c g) conns s
 answered_retried_on c conns s a g i_retried_on =
     λ j n p x. let old = i_retried_on j n p x in grind arith
 

@@ -5,101 +5,128 @@ use Rattle.exchange_defs.specs.State.{Server, Message}
 use Rattle.exchange_defs.specs.Client.{Client}
 use Rattle.exchange_defs.specs.Network.{Conn, ForDialog, send_up}
 use Rattle.exchange_law.proofs.Lists.{get-push}
-use Rattle.lock_law.specs.Locks.{Locks, Unanswered, AskUp, AskDown, Users, CopyNow, RetriedOn, RetriedDone, CopyAttached, OpenedReply, JoinReply, JoinedReply, LostReply, FullDead, OkReply, NoReply, KeptReply, FirstReply, LeftFull, LeftStuck, LeftIdle, CloseDone, CloseFull, CloseStuck}
+use Rattle.lock_law.specs.Locks.{Locks, Unanswered, AskUp, AskDown, Users, CopyNow, RetriedOn, RetriedDone}
+use Rattle.lock_law.specs.Locks.{CopyAttached, OpenedReply, JoinReply, JoinedReply, LostReply, FullDead, OkReply}
+use Rattle.lock_law.specs.Locks.{NoReply, KeptReply, FirstReply, LeftFull, LeftStuck, LeftIdle, CloseDone, CloseFull}
+use Rattle.lock_law.specs.Locks.{CloseStuck}
 
-dialog_sent_unanswered : (c : Client) (conns : ℕ → Conn) (s : Server) (a : ℕ → ℕ) (k n0 : ℕ) (m0 : Message) → Unanswered c conns → Unanswered c (put conns k (send_up (conns k) ForDialog m0 n0))
+dialog_sent_unanswered : (c : Client) (conns : ℕ → Conn) (s : Server) (a : ℕ → ℕ) (k n0 : ℕ) (m0 : Message)
+    → Unanswered c conns → Unanswered c (put conns k (send_up (conns k) ForDialog m0 n0))
 dialog_sent_unanswered c conns s a k n0 m0 i_unanswered =
     λ j n p x. let old = i_unanswered j n p x in grind (arith, get-push)
 
-dialog_sent_ask_up : (c : Client) (conns : ℕ → Conn) (s : Server) (a : ℕ → ℕ) (k n0 : ℕ) (m0 : Message) → AskUp c conns → AskUp c (put conns k (send_up (conns k) ForDialog m0 n0))
+dialog_sent_ask_up : (c : Client) (conns : ℕ → Conn) (s : Server) (a : ℕ → ℕ) (k n0 : ℕ) (m0 : Message) → AskUp c conns
+    → AskUp c (put conns k (send_up (conns k) ForDialog m0 n0))
 dialog_sent_ask_up c conns s a k n0 m0 i_ask_up =
     λ j n p x. let old = i_ask_up j n p x in grind (arith, get-push)
 
-dialog_sent_ask_down : (c : Client) (conns : ℕ → Conn) (s : Server) (a : ℕ → ℕ) (k n0 : ℕ) (m0 : Message) → AskDown c conns → AskDown c (put conns k (send_up (conns k) ForDialog m0 n0))
+dialog_sent_ask_down : (c : Client) (conns : ℕ → Conn) (s : Server) (a : ℕ → ℕ) (k n0 : ℕ) (m0 : Message)
+    → AskDown c conns → AskDown c (put conns k (send_up (conns k) ForDialog m0 n0))
 dialog_sent_ask_down c conns s a k n0 m0 i_ask_down =
     λ j n p y. let old = i_ask_down j n p y in grind arith
 
-dialog_sent_users : (c : Client) (conns : ℕ → Conn) (s : Server) (a : ℕ → ℕ) (k n0 : ℕ) (m0 : Message) → Users c conns s → Users c (put conns k (send_up (conns k) ForDialog m0 n0)) s
+dialog_sent_users : (c : Client) (conns : ℕ → Conn) (s : Server) (a : ℕ → ℕ) (k n0 : ℕ) (m0 : Message) → Users c conns s
+    → Users c (put conns k (send_up (conns k) ForDialog m0 n0)) s
 dialog_sent_users c conns s a k n0 m0 i_users =
     λ j n p x. let old = i_users j n p x in grind (arith, get-push)
 
-dialog_sent_copy_now : (c : Client) (conns : ℕ → Conn) (s : Server) (a : ℕ → ℕ) (k n0 : ℕ) (m0 : Message) → CopyNow c conns s → CopyNow c (put conns k (send_up (conns k) ForDialog m0 n0)) s
+dialog_sent_copy_now : (c : Client) (conns : ℕ → Conn) (s : Server) (a : ℕ → ℕ) (k n0 : ℕ) (m0 : Message)
+    → CopyNow c conns s → CopyNow c (put conns k (send_up (conns k) ForDialog m0 n0)) s
 dialog_sent_copy_now c conns s a k n0 m0 i_copy_now =
     λ j n p x. let old = i_copy_now j n p x in grind (arith, get-push)
 
-dialog_sent_retried_on : (c : Client) (conns : ℕ → Conn) (s : Server) (a : ℕ → ℕ) (k n0 : ℕ) (m0 : Message) → RetriedOn c conns s → RetriedOn c (put conns k (send_up (conns k) ForDialog m0 n0)) s
+dialog_sent_retried_on : (c : Client) (conns : ℕ → Conn) (s : Server) (a : ℕ → ℕ) (k n0 : ℕ) (m0 : Message)
+    → RetriedOn c conns s → RetriedOn c (put conns k (send_up (conns k) ForDialog m0 n0)) s
 dialog_sent_retried_on c conns s a k n0 m0 i_retried_on =
     λ j n p x. let old = i_retried_on j n p x in grind (arith, get-push)
 
-dialog_sent_retried_done : (c : Client) (conns : ℕ → Conn) (s : Server) (a : ℕ → ℕ) (k n0 : ℕ) (m0 : Message) → RetriedDone c conns s → RetriedDone c (put conns k (send_up (conns k) ForDialog m0 n0)) s
+dialog_sent_retried_done : (c : Client) (conns : ℕ → Conn) (s : Server) (a : ℕ → ℕ) (k n0 : ℕ) (m0 : Message)
+    → RetriedDone c conns s → RetriedDone c (put conns k (send_up (conns k) ForDialog m0 n0)) s
 dialog_sent_retried_done c conns s a k n0 m0 i_retried_done =
     λ j n p x. let old = i_retried_done j n p x in grind (arith, get-push)
 
-dialog_sent_copy_attached : (c : Client) (conns : ℕ → Conn) (s : Server) (a : ℕ → ℕ) (k n0 : ℕ) (m0 : Message) → CopyAttached c conns s → CopyAttached c (put conns k (send_up (conns k) ForDialog m0 n0)) s
+dialog_sent_copy_attached : (c : Client) (conns : ℕ → Conn) (s : Server) (a : ℕ → ℕ) (k n0 : ℕ) (m0 : Message)
+    → CopyAttached c conns s → CopyAttached c (put conns k (send_up (conns k) ForDialog m0 n0)) s
 dialog_sent_copy_attached c conns s a k n0 m0 i_copy_attached =
     λ j n p x. let old = i_copy_attached j n p x in grind (arith, get-push)
 
-dialog_sent_opened_reply : (c : Client) (conns : ℕ → Conn) (s : Server) (a : ℕ → ℕ) (k n0 : ℕ) (m0 : Message) → OpenedReply c conns s → OpenedReply c (put conns k (send_up (conns k) ForDialog m0 n0)) s
+dialog_sent_opened_reply : (c : Client) (conns : ℕ → Conn) (s : Server) (a : ℕ → ℕ) (k n0 : ℕ) (m0 : Message)
+    → OpenedReply c conns s → OpenedReply c (put conns k (send_up (conns k) ForDialog m0 n0)) s
 dialog_sent_opened_reply c conns s a k n0 m0 i_opened_reply =
     λ j n p y. let old = i_opened_reply j n p y in grind arith
 
-dialog_sent_join_reply : (c : Client) (conns : ℕ → Conn) (s : Server) (a : ℕ → ℕ) (k n0 : ℕ) (m0 : Message) → JoinReply c conns s → JoinReply c (put conns k (send_up (conns k) ForDialog m0 n0)) s
+dialog_sent_join_reply : (c : Client) (conns : ℕ → Conn) (s : Server) (a : ℕ → ℕ) (k n0 : ℕ) (m0 : Message)
+    → JoinReply c conns s → JoinReply c (put conns k (send_up (conns k) ForDialog m0 n0)) s
 dialog_sent_join_reply c conns s a k n0 m0 i_join_reply =
     λ j n p y. let old = i_join_reply j n p y in grind arith
 
-dialog_sent_joined_reply : (c : Client) (conns : ℕ → Conn) (s : Server) (a : ℕ → ℕ) (k n0 : ℕ) (m0 : Message) → JoinedReply c conns s → JoinedReply c (put conns k (send_up (conns k) ForDialog m0 n0)) s
+dialog_sent_joined_reply : (c : Client) (conns : ℕ → Conn) (s : Server) (a : ℕ → ℕ) (k n0 : ℕ) (m0 : Message)
+    → JoinedReply c conns s → JoinedReply c (put conns k (send_up (conns k) ForDialog m0 n0)) s
 dialog_sent_joined_reply c conns s a k n0 m0 i_joined_reply =
     λ j n p y. let old = i_joined_reply j n p y in grind arith
 
-dialog_sent_lost_reply : (c : Client) (conns : ℕ → Conn) (s : Server) (a : ℕ → ℕ) (k n0 : ℕ) (m0 : Message) → LostReply c conns s → LostReply c (put conns k (send_up (conns k) ForDialog m0 n0)) s
+dialog_sent_lost_reply : (c : Client) (conns : ℕ → Conn) (s : Server) (a : ℕ → ℕ) (k n0 : ℕ) (m0 : Message)
+    → LostReply c conns s → LostReply c (put conns k (send_up (conns k) ForDialog m0 n0)) s
 dialog_sent_lost_reply c conns s a k n0 m0 i_lost_reply =
     λ j n p y. let old = i_lost_reply j n p y in grind arith
 
-dialog_sent_full_dead : (c : Client) (conns : ℕ → Conn) (s : Server) (a : ℕ → ℕ) (k n0 : ℕ) (m0 : Message) → FullDead c conns s → FullDead c (put conns k (send_up (conns k) ForDialog m0 n0)) s
+dialog_sent_full_dead : (c : Client) (conns : ℕ → Conn) (s : Server) (a : ℕ → ℕ) (k n0 : ℕ) (m0 : Message)
+    → FullDead c conns s → FullDead c (put conns k (send_up (conns k) ForDialog m0 n0)) s
 dialog_sent_full_dead c conns s a k n0 m0 i_full_dead =
     λ j n p x. let old = i_full_dead j n p x in grind (arith, get-push)
 
-dialog_sent_ok_reply : (c : Client) (conns : ℕ → Conn) (s : Server) (a : ℕ → ℕ) (k n0 : ℕ) (m0 : Message) → OkReply c conns a → OkReply c (put conns k (send_up (conns k) ForDialog m0 n0)) a
+dialog_sent_ok_reply : (c : Client) (conns : ℕ → Conn) (s : Server) (a : ℕ → ℕ) (k n0 : ℕ) (m0 : Message)
+    → OkReply c conns a → OkReply c (put conns k (send_up (conns k) ForDialog m0 n0)) a
 dialog_sent_ok_reply c conns s a k n0 m0 i_ok_reply =
     λ j n p y. let old = i_ok_reply j n p y in grind arith
 
-dialog_sent_no_reply : (c : Client) (conns : ℕ → Conn) (s : Server) (a : ℕ → ℕ) (k n0 : ℕ) (m0 : Message) → NoReply c conns a → NoReply c (put conns k (send_up (conns k) ForDialog m0 n0)) a
+dialog_sent_no_reply : (c : Client) (conns : ℕ → Conn) (s : Server) (a : ℕ → ℕ) (k n0 : ℕ) (m0 : Message)
+    → NoReply c conns a → NoReply c (put conns k (send_up (conns k) ForDialog m0 n0)) a
 dialog_sent_no_reply c conns s a k n0 m0 i_no_reply =
     λ j n p y. let old = i_no_reply j n p y in grind arith
 
-dialog_sent_kept_reply : (c : Client) (conns : ℕ → Conn) (s : Server) (a : ℕ → ℕ) (k n0 : ℕ) (m0 : Message) → KeptReply c conns s → KeptReply c (put conns k (send_up (conns k) ForDialog m0 n0)) s
+dialog_sent_kept_reply : (c : Client) (conns : ℕ → Conn) (s : Server) (a : ℕ → ℕ) (k n0 : ℕ) (m0 : Message)
+    → KeptReply c conns s → KeptReply c (put conns k (send_up (conns k) ForDialog m0 n0)) s
 dialog_sent_kept_reply c conns s a k n0 m0 i_kept_reply =
     λ j n p y. let old = i_kept_reply j n p y in grind arith
 
-dialog_sent_first_reply : (c : Client) (conns : ℕ → Conn) (s : Server) (a : ℕ → ℕ) (k n0 : ℕ) (m0 : Message) → FirstReply c conns a → FirstReply c (put conns k (send_up (conns k) ForDialog m0 n0)) a
+dialog_sent_first_reply : (c : Client) (conns : ℕ → Conn) (s : Server) (a : ℕ → ℕ) (k n0 : ℕ) (m0 : Message)
+    → FirstReply c conns a → FirstReply c (put conns k (send_up (conns k) ForDialog m0 n0)) a
 dialog_sent_first_reply c conns s a k n0 m0 i_first_reply =
     λ j n p y. let old = i_first_reply j n p y in grind arith
 
-dialog_sent_left_full : (c : Client) (conns : ℕ → Conn) (s : Server) (a : ℕ → ℕ) (k n0 : ℕ) (m0 : Message) → LeftFull c conns s → LeftFull c (put conns k (send_up (conns k) ForDialog m0 n0)) s
+dialog_sent_left_full : (c : Client) (conns : ℕ → Conn) (s : Server) (a : ℕ → ℕ) (k n0 : ℕ) (m0 : Message)
+    → LeftFull c conns s → LeftFull c (put conns k (send_up (conns k) ForDialog m0 n0)) s
 dialog_sent_left_full c conns s a k n0 m0 i_left_full =
     λ j n p x. let old = i_left_full j n p x in grind (arith, get-push)
 
-dialog_sent_left_stuck : (c : Client) (conns : ℕ → Conn) (s : Server) (a : ℕ → ℕ) (k n0 : ℕ) (m0 : Message) → LeftStuck c conns s → LeftStuck c (put conns k (send_up (conns k) ForDialog m0 n0)) s
+dialog_sent_left_stuck : (c : Client) (conns : ℕ → Conn) (s : Server) (a : ℕ → ℕ) (k n0 : ℕ) (m0 : Message)
+    → LeftStuck c conns s → LeftStuck c (put conns k (send_up (conns k) ForDialog m0 n0)) s
 dialog_sent_left_stuck c conns s a k n0 m0 i_left_stuck =
     λ j n p x. let old = i_left_stuck j n p x in grind (arith, get-push)
 
-dialog_sent_left_idle : (c : Client) (conns : ℕ → Conn) (s : Server) (a : ℕ → ℕ) (k n0 : ℕ) (m0 : Message) → LeftIdle c conns s a → LeftIdle c (put conns k (send_up (conns k) ForDialog m0 n0)) s a
+dialog_sent_left_idle : (c : Client) (conns : ℕ → Conn) (s : Server) (a : ℕ → ℕ) (k n0 : ℕ) (m0 : Message)
+    → LeftIdle c conns s a → LeftIdle c (put conns k (send_up (conns k) ForDialog m0 n0)) s a
 dialog_sent_left_idle c conns s a k n0 m0 i_left_idle =
     λ j n p q x. let old = i_left_idle j n p q x in grind (arith, get-push)
 
-dialog_sent_close_done : (c : Client) (conns : ℕ → Conn) (s : Server) (a : ℕ → ℕ) (k n0 : ℕ) (m0 : Message) → CloseDone c conns s → CloseDone c (put conns k (send_up (conns k) ForDialog m0 n0)) s
+dialog_sent_close_done : (c : Client) (conns : ℕ → Conn) (s : Server) (a : ℕ → ℕ) (k n0 : ℕ) (m0 : Message)
+    → CloseDone c conns s → CloseDone c (put conns k (send_up (conns k) ForDialog m0 n0)) s
 dialog_sent_close_done c conns s a k n0 m0 i_close_done =
     λ j n p y. let old = i_close_done j n p y in grind arith
 
-dialog_sent_close_full : (c : Client) (conns : ℕ → Conn) (s : Server) (a : ℕ → ℕ) (k n0 : ℕ) (m0 : Message) → CloseFull c conns s → CloseFull c (put conns k (send_up (conns k) ForDialog m0 n0)) s
+dialog_sent_close_full : (c : Client) (conns : ℕ → Conn) (s : Server) (a : ℕ → ℕ) (k n0 : ℕ) (m0 : Message)
+    → CloseFull c conns s → CloseFull c (put conns k (send_up (conns k) ForDialog m0 n0)) s
 dialog_sent_close_full c conns s a k n0 m0 i_close_full =
     λ j n p y. let old = i_close_full j n p y in grind arith
 
-dialog_sent_close_stuck : (c : Client) (conns : ℕ → Conn) (s : Server) (a : ℕ → ℕ) (k n0 : ℕ) (m0 : Message) → CloseStuck c conns s → CloseStuck c (put conns k (send_up (conns k) ForDialog m0 n0)) s
+dialog_sent_close_stuck : (c : Client) (conns : ℕ → Conn) (s : Server) (a : ℕ → ℕ) (k n0 : ℕ) (m0 : Message)
+    → CloseStuck c conns s → CloseStuck c (put conns k (send_up (conns k) ForDialog m0 n0)) s
 dialog_sent_close_stuck c conns s a k n0 m0 i_close_stuck =
     λ j n p y. let old = i_close_stuck j n p y in grind arith
 
-pub dialog_sent_keeps : (c : Client) (conns : ℕ → Conn) (s : Server) (a : ℕ → ℕ) (k n0 : ℕ) (m0 : Message) → Locks c conns s a → Locks c (put conns k (send_up (conns k) ForDialog m0 n0)) s a
+pub dialog_sent_keeps : (c : Client) (conns : ℕ → Conn) (s : Server) (a : ℕ → ℕ) (k n0 : ℕ) (m0 : Message)
+    → Locks c conns s a → Locks c (put conns k (send_up (conns k) ForDialog m0 n0)) s a
 dialog_sent_keeps c conns s a k n0 m0 i =
     record {
       slot_index = i.slot_index;

@@ -5,101 +5,128 @@ use Rattle.exchange_defs.specs.State.{Server}
 use Rattle.exchange_defs.specs.Client.{Client}
 use Rattle.exchange_defs.specs.Network.{Conn, server_off}
 use Rattle.exchange_law.proofs.Lists.{get-push}
-use Rattle.lock_law.specs.Locks.{Locks, Unanswered, AskUp, AskDown, Users, CopyNow, RetriedOn, RetriedDone, CopyAttached, OpenedReply, JoinReply, JoinedReply, LostReply, FullDead, OkReply, NoReply, KeptReply, FirstReply, LeftFull, LeftStuck, LeftIdle, CloseDone, CloseFull, CloseStuck}
+use Rattle.lock_law.specs.Locks.{Locks, Unanswered, AskUp, AskDown, Users, CopyNow, RetriedOn, RetriedDone}
+use Rattle.lock_law.specs.Locks.{CopyAttached, OpenedReply, JoinReply, JoinedReply, LostReply, FullDead, OkReply}
+use Rattle.lock_law.specs.Locks.{NoReply, KeptReply, FirstReply, LeftFull, LeftStuck, LeftIdle, CloseDone, CloseFull}
+use Rattle.lock_law.specs.Locks.{CloseStuck}
 
-dropped_unanswered : (c : Client) (conns : ℕ → Conn) (s : Server) (a : ℕ → ℕ) (k : ℕ) → Unanswered c conns → Unanswered c (put conns k (server_off (conns k)))
+dropped_unanswered : (c : Client) (conns : ℕ → Conn) (s : Server) (a : ℕ → ℕ) (k : ℕ) → Unanswered c conns
+    → Unanswered c (put conns k (server_off (conns k)))
 dropped_unanswered c conns s a k i_unanswered =
     λ j n p x. let old = i_unanswered j n p x in grind (arith, get-push)
 
-dropped_ask_up : (c : Client) (conns : ℕ → Conn) (s : Server) (a : ℕ → ℕ) (k : ℕ) → AskUp c conns → AskUp c (put conns k (server_off (conns k)))
+dropped_ask_up : (c : Client) (conns : ℕ → Conn) (s : Server) (a : ℕ → ℕ) (k : ℕ) → AskUp c conns
+    → AskUp c (put conns k (server_off (conns k)))
 dropped_ask_up c conns s a k i_ask_up =
     λ j n p x. let old = i_ask_up j n p x in grind (arith, get-push)
 
-dropped_ask_down : (c : Client) (conns : ℕ → Conn) (s : Server) (a : ℕ → ℕ) (k : ℕ) → AskDown c conns → AskDown c (put conns k (server_off (conns k)))
+dropped_ask_down : (c : Client) (conns : ℕ → Conn) (s : Server) (a : ℕ → ℕ) (k : ℕ) → AskDown c conns
+    → AskDown c (put conns k (server_off (conns k)))
 dropped_ask_down c conns s a k i_ask_down =
     λ j n p y. let old = i_ask_down j n p y in grind arith
 
-dropped_users : (c : Client) (conns : ℕ → Conn) (s : Server) (a : ℕ → ℕ) (k : ℕ) → Users c conns s → Users c (put conns k (server_off (conns k))) s
+dropped_users : (c : Client) (conns : ℕ → Conn) (s : Server) (a : ℕ → ℕ) (k : ℕ) → Users c conns s
+    → Users c (put conns k (server_off (conns k))) s
 dropped_users c conns s a k i_users =
     λ j n p x. let old = i_users j n p x in grind (arith, get-push)
 
-dropped_copy_now : (c : Client) (conns : ℕ → Conn) (s : Server) (a : ℕ → ℕ) (k : ℕ) → CopyNow c conns s → CopyNow c (put conns k (server_off (conns k))) s
+dropped_copy_now : (c : Client) (conns : ℕ → Conn) (s : Server) (a : ℕ → ℕ) (k : ℕ) → CopyNow c conns s
+    → CopyNow c (put conns k (server_off (conns k))) s
 dropped_copy_now c conns s a k i_copy_now =
     λ j n p x. let old = i_copy_now j n p x in grind (arith, get-push)
 
-dropped_retried_on : (c : Client) (conns : ℕ → Conn) (s : Server) (a : ℕ → ℕ) (k : ℕ) → RetriedOn c conns s → RetriedOn c (put conns k (server_off (conns k))) s
+dropped_retried_on : (c : Client) (conns : ℕ → Conn) (s : Server) (a : ℕ → ℕ) (k : ℕ) → RetriedOn c conns s
+    → RetriedOn c (put conns k (server_off (conns k))) s
 dropped_retried_on c conns s a k i_retried_on =
     λ j n p x. let old = i_retried_on j n p x in grind (arith, get-push)
 
-dropped_retried_done : (c : Client) (conns : ℕ → Conn) (s : Server) (a : ℕ → ℕ) (k : ℕ) → RetriedDone c conns s → RetriedDone c (put conns k (server_off (conns k))) s
+dropped_retried_done : (c : Client) (conns : ℕ → Conn) (s : Server) (a : ℕ → ℕ) (k : ℕ) → RetriedDone c conns s
+    → RetriedDone c (put conns k (server_off (conns k))) s
 dropped_retried_done c conns s a k i_retried_done =
     λ j n p x. let old = i_retried_done j n p x in grind (arith, get-push)
 
-dropped_copy_attached : (c : Client) (conns : ℕ → Conn) (s : Server) (a : ℕ → ℕ) (k : ℕ) → CopyAttached c conns s → CopyAttached c (put conns k (server_off (conns k))) s
+dropped_copy_attached : (c : Client) (conns : ℕ → Conn) (s : Server) (a : ℕ → ℕ) (k : ℕ) → CopyAttached c conns s
+    → CopyAttached c (put conns k (server_off (conns k))) s
 dropped_copy_attached c conns s a k i_copy_attached =
     λ j n p x. let old = i_copy_attached j n p x in grind (arith, get-push)
 
-dropped_opened_reply : (c : Client) (conns : ℕ → Conn) (s : Server) (a : ℕ → ℕ) (k : ℕ) → OpenedReply c conns s → OpenedReply c (put conns k (server_off (conns k))) s
+dropped_opened_reply : (c : Client) (conns : ℕ → Conn) (s : Server) (a : ℕ → ℕ) (k : ℕ) → OpenedReply c conns s
+    → OpenedReply c (put conns k (server_off (conns k))) s
 dropped_opened_reply c conns s a k i_opened_reply =
     λ j n p y. let old = i_opened_reply j n p y in grind arith
 
-dropped_join_reply : (c : Client) (conns : ℕ → Conn) (s : Server) (a : ℕ → ℕ) (k : ℕ) → JoinReply c conns s → JoinReply c (put conns k (server_off (conns k))) s
+dropped_join_reply : (c : Client) (conns : ℕ → Conn) (s : Server) (a : ℕ → ℕ) (k : ℕ) → JoinReply c conns s
+    → JoinReply c (put conns k (server_off (conns k))) s
 dropped_join_reply c conns s a k i_join_reply =
     λ j n p y. let old = i_join_reply j n p y in grind arith
 
-dropped_joined_reply : (c : Client) (conns : ℕ → Conn) (s : Server) (a : ℕ → ℕ) (k : ℕ) → JoinedReply c conns s → JoinedReply c (put conns k (server_off (conns k))) s
+dropped_joined_reply : (c : Client) (conns : ℕ → Conn) (s : Server) (a : ℕ → ℕ) (k : ℕ) → JoinedReply c conns s
+    → JoinedReply c (put conns k (server_off (conns k))) s
 dropped_joined_reply c conns s a k i_joined_reply =
     λ j n p y. let old = i_joined_reply j n p y in grind arith
 
-dropped_lost_reply : (c : Client) (conns : ℕ → Conn) (s : Server) (a : ℕ → ℕ) (k : ℕ) → LostReply c conns s → LostReply c (put conns k (server_off (conns k))) s
+dropped_lost_reply : (c : Client) (conns : ℕ → Conn) (s : Server) (a : ℕ → ℕ) (k : ℕ) → LostReply c conns s
+    → LostReply c (put conns k (server_off (conns k))) s
 dropped_lost_reply c conns s a k i_lost_reply =
     λ j n p y. let old = i_lost_reply j n p y in grind arith
 
-dropped_full_dead : (c : Client) (conns : ℕ → Conn) (s : Server) (a : ℕ → ℕ) (k : ℕ) → FullDead c conns s → FullDead c (put conns k (server_off (conns k))) s
+dropped_full_dead : (c : Client) (conns : ℕ → Conn) (s : Server) (a : ℕ → ℕ) (k : ℕ) → FullDead c conns s
+    → FullDead c (put conns k (server_off (conns k))) s
 dropped_full_dead c conns s a k i_full_dead =
     λ j n p x. let old = i_full_dead j n p x in grind (arith, get-push)
 
-dropped_ok_reply : (c : Client) (conns : ℕ → Conn) (s : Server) (a : ℕ → ℕ) (k : ℕ) → OkReply c conns a → OkReply c (put conns k (server_off (conns k))) a
+dropped_ok_reply : (c : Client) (conns : ℕ → Conn) (s : Server) (a : ℕ → ℕ) (k : ℕ) → OkReply c conns a
+    → OkReply c (put conns k (server_off (conns k))) a
 dropped_ok_reply c conns s a k i_ok_reply =
     λ j n p y. let old = i_ok_reply j n p y in grind arith
 
-dropped_no_reply : (c : Client) (conns : ℕ → Conn) (s : Server) (a : ℕ → ℕ) (k : ℕ) → NoReply c conns a → NoReply c (put conns k (server_off (conns k))) a
+dropped_no_reply : (c : Client) (conns : ℕ → Conn) (s : Server) (a : ℕ → ℕ) (k : ℕ) → NoReply c conns a
+    → NoReply c (put conns k (server_off (conns k))) a
 dropped_no_reply c conns s a k i_no_reply =
     λ j n p y. let old = i_no_reply j n p y in grind arith
 
-dropped_kept_reply : (c : Client) (conns : ℕ → Conn) (s : Server) (a : ℕ → ℕ) (k : ℕ) → KeptReply c conns s → KeptReply c (put conns k (server_off (conns k))) s
+dropped_kept_reply : (c : Client) (conns : ℕ → Conn) (s : Server) (a : ℕ → ℕ) (k : ℕ) → KeptReply c conns s
+    → KeptReply c (put conns k (server_off (conns k))) s
 dropped_kept_reply c conns s a k i_kept_reply =
     λ j n p y. let old = i_kept_reply j n p y in grind arith
 
-dropped_first_reply : (c : Client) (conns : ℕ → Conn) (s : Server) (a : ℕ → ℕ) (k : ℕ) → FirstReply c conns a → FirstReply c (put conns k (server_off (conns k))) a
+dropped_first_reply : (c : Client) (conns : ℕ → Conn) (s : Server) (a : ℕ → ℕ) (k : ℕ) → FirstReply c conns a
+    → FirstReply c (put conns k (server_off (conns k))) a
 dropped_first_reply c conns s a k i_first_reply =
     λ j n p y. let old = i_first_reply j n p y in grind arith
 
-dropped_left_full : (c : Client) (conns : ℕ → Conn) (s : Server) (a : ℕ → ℕ) (k : ℕ) → LeftFull c conns s → LeftFull c (put conns k (server_off (conns k))) s
+dropped_left_full : (c : Client) (conns : ℕ → Conn) (s : Server) (a : ℕ → ℕ) (k : ℕ) → LeftFull c conns s
+    → LeftFull c (put conns k (server_off (conns k))) s
 dropped_left_full c conns s a k i_left_full =
     λ j n p x. let old = i_left_full j n p x in grind (arith, get-push)
 
-dropped_left_stuck : (c : Client) (conns : ℕ → Conn) (s : Server) (a : ℕ → ℕ) (k : ℕ) → LeftStuck c conns s → LeftStuck c (put conns k (server_off (conns k))) s
+dropped_left_stuck : (c : Client) (conns : ℕ → Conn) (s : Server) (a : ℕ → ℕ) (k : ℕ) → LeftStuck c conns s
+    → LeftStuck c (put conns k (server_off (conns k))) s
 dropped_left_stuck c conns s a k i_left_stuck =
     λ j n p x. let old = i_left_stuck j n p x in grind (arith, get-push)
 
-dropped_left_idle : (c : Client) (conns : ℕ → Conn) (s : Server) (a : ℕ → ℕ) (k : ℕ) → LeftIdle c conns s a → LeftIdle c (put conns k (server_off (conns k))) s a
+dropped_left_idle : (c : Client) (conns : ℕ → Conn) (s : Server) (a : ℕ → ℕ) (k : ℕ) → LeftIdle c conns s a
+    → LeftIdle c (put conns k (server_off (conns k))) s a
 dropped_left_idle c conns s a k i_left_idle =
     λ j n p q x. let old = i_left_idle j n p q x in grind (arith, get-push)
 
-dropped_close_done : (c : Client) (conns : ℕ → Conn) (s : Server) (a : ℕ → ℕ) (k : ℕ) → CloseDone c conns s → CloseDone c (put conns k (server_off (conns k))) s
+dropped_close_done : (c : Client) (conns : ℕ → Conn) (s : Server) (a : ℕ → ℕ) (k : ℕ) → CloseDone c conns s
+    → CloseDone c (put conns k (server_off (conns k))) s
 dropped_close_done c conns s a k i_close_done =
     λ j n p y. let old = i_close_done j n p y in grind arith
 
-dropped_close_full : (c : Client) (conns : ℕ → Conn) (s : Server) (a : ℕ → ℕ) (k : ℕ) → CloseFull c conns s → CloseFull c (put conns k (server_off (conns k))) s
+dropped_close_full : (c : Client) (conns : ℕ → Conn) (s : Server) (a : ℕ → ℕ) (k : ℕ) → CloseFull c conns s
+    → CloseFull c (put conns k (server_off (conns k))) s
 dropped_close_full c conns s a k i_close_full =
     λ j n p y. let old = i_close_full j n p y in grind arith
 
-dropped_close_stuck : (c : Client) (conns : ℕ → Conn) (s : Server) (a : ℕ → ℕ) (k : ℕ) → CloseStuck c conns s → CloseStuck c (put conns k (server_off (conns k))) s
+dropped_close_stuck : (c : Client) (conns : ℕ → Conn) (s : Server) (a : ℕ → ℕ) (k : ℕ) → CloseStuck c conns s
+    → CloseStuck c (put conns k (server_off (conns k))) s
 dropped_close_stuck c conns s a k i_close_stuck =
     λ j n p y. let old = i_close_stuck j n p y in grind arith
 
-pub dropped_keeps : (c : Client) (conns : ℕ → Conn) (s : Server) (a : ℕ → ℕ) (k : ℕ) → Locks c conns s a → Locks c (put conns k (server_off (conns k))) s a
+pub dropped_keeps : (c : Client) (conns : ℕ → Conn) (s : Server) (a : ℕ → ℕ) (k : ℕ) → Locks c conns s a
+    → Locks c (put conns k (server_off (conns k))) s a
 dropped_keeps c conns s a k i =
     record {
       slot_index = i.slot_index;

@@ -8,31 +8,65 @@ use Rattle.exchange_defs.specs.Network.{Conn}
 use Rattle.exchange_law.specs.Connections.{makes_open, create_at}
 use Rattle.lock_law.specs.Locks.{Locks, AttachedLow, CopyNow, RetriedOn, NowAttached, JoinedReply, ClosedNot}
 
-joined_attached_low : (c : Client) (conns : ℕ → Conn) (s : Server) (a : ℕ → ℕ) (g q0 : ℕ) → (q0 ≡ create_at c g) → AttachedLow c → AttachedLow (record c { outstanding_on = put c.outstanding_on g None; attached = put c.attached q0 c.session_number })
+joined_attached_low : (c : Client) (conns : ℕ → Conn) (s : Server) (a : ℕ → ℕ) (g q0 : ℕ) → (q0 ≡ create_at c g)
+    → AttachedLow c → AttachedLow (record c {
+      outstanding_on = put c.outstanding_on g None;
+      attached = put c.attached q0 c.session_number;
+    })
 joined_attached_low c conns s a g q0 its i_attached_low =
     λ q. let old = i_attached_low q in grind arith
 
-joined_copy_now : (c : Client) (conns : ℕ → Conn) (s : Server) (a : ℕ → ℕ) (g q0 : ℕ) → (q0 ≡ create_at c g) → CopyNow c conns s → CopyNow (record c { outstanding_on = put c.outstanding_on g None; attached = put c.attached q0 c.session_number }) conns s
+joined_copy_now : (c : Client) (conns : ℕ → Conn) (s : Server) (a : ℕ → ℕ) (g q0 : ℕ) → (q0 ≡ create_at c g)
+    → CopyNow c conns s → CopyNow (record c {
+      outstanding_on = put c.outstanding_on g None;
+      attached = put c.attached q0 c.session_number;
+    }) conns s
 joined_copy_now c conns s a g q0 its i_copy_now =
     λ j n p x. let old = i_copy_now j n p x in grind arith
 
-joined_retried_on : (c : Client) (conns : ℕ → Conn) (s : Server) (a : ℕ → ℕ) (g q0 : ℕ) → (q0 ≡ create_at c g) → RetriedOn c conns s → RetriedOn (record c { outstanding_on = put c.outstanding_on g None; attached = put c.attached q0 c.session_number }) conns s
+joined_retried_on : (c : Client) (conns : ℕ → Conn) (s : Server) (a : ℕ → ℕ) (g q0 : ℕ) → (q0 ≡ create_at c g)
+    → RetriedOn c conns s → RetriedOn (record c {
+      outstanding_on = put c.outstanding_on g None;
+      attached = put c.attached q0 c.session_number;
+    }) conns s
 joined_retried_on c conns s a g q0 its i_retried_on =
     λ j n p x. let old = i_retried_on j n p x in grind arith
 
-joined_now_attached : (c : Client) (conns : ℕ → Conn) (s : Server) (a : ℕ → ℕ) (g q0 : ℕ) → (q0 ≡ create_at c g) → (makes_open (c.op q0) ≡ true → is_ok (c.outcome q0) ≡ true → c.live ≡ true → s.present c.session ≡ true → s.standing (c.file q0) ≡ true → s.session_of_open (c.file q0) ≡ Some c.session) → NowAttached c s → NowAttached (record c { outstanding_on = put c.outstanding_on g None; attached = put c.attached q0 c.session_number }) s
+joined_now_attached : (c : Client) (conns : ℕ → Conn) (s : Server) (a : ℕ → ℕ) (g q0 : ℕ) → (q0 ≡ create_at c g)
+    → (makes_open (c.op q0) ≡ true → is_ok (c.outcome q0) ≡ true → c.live ≡ true → s.present c.session ≡ true
+    → s.standing (c.file q0) ≡ true → s.session_of_open (c.file q0) ≡ Some c.session) → NowAttached c s
+    → NowAttached (record c {
+      outstanding_on = put c.outstanding_on g None;
+      attached = put c.attached q0 c.session_number;
+    }) s
 joined_now_attached c conns s a g q0 its at i_now_attached =
     λ q. let old = i_now_attached q in let n1 = at in grind arith
 
-joined_joined_reply : (c : Client) (conns : ℕ → Conn) (s : Server) (a : ℕ → ℕ) (g q0 : ℕ) → (q0 ≡ create_at c g) → JoinedReply c conns s → JoinedReply (record c { outstanding_on = put c.outstanding_on g None; attached = put c.attached q0 c.session_number }) conns s
+joined_joined_reply : (c : Client) (conns : ℕ → Conn) (s : Server) (a : ℕ → ℕ) (g q0 : ℕ) → (q0 ≡ create_at c g)
+    → JoinedReply c conns s → JoinedReply (record c {
+      outstanding_on = put c.outstanding_on g None;
+      attached = put c.attached q0 c.session_number;
+    }) conns s
 joined_joined_reply c conns s a g q0 its i_joined_reply =
     λ j n p y. let old = i_joined_reply j n p y in grind arith
 
-joined_closed_not : (c : Client) (conns : ℕ → Conn) (s : Server) (a : ℕ → ℕ) (g q0 : ℕ) → (q0 ≡ create_at c g) → (c.live ≡ true → s.present c.session ≡ true → s.standing (c.file q0) ≡ false → c.attached q0 ≡ c.session_number) → ClosedNot c s a → ClosedNot (record c { outstanding_on = put c.outstanding_on g None; attached = put c.attached q0 c.session_number }) s a
+joined_closed_not : (c : Client) (conns : ℕ → Conn) (s : Server) (a : ℕ → ℕ) (g q0 : ℕ) → (q0 ≡ create_at c g)
+    → (c.live ≡ true → s.present c.session ≡ true → s.standing (c.file q0) ≡ false → c.attached q0 ≡ c.session_number)
+    → ClosedNot c s a → ClosedNot (record c {
+      outstanding_on = put c.outstanding_on g None;
+      attached = put c.attached q0 c.session_number;
+    }) s a
 joined_closed_not c conns s a g q0 its was i_closed_not =
     λ p. let old = i_closed_not p in let w1 = was in grind arith
 
-pub joined_keeps : (c : Client) (conns : ℕ → Conn) (s : Server) (a : ℕ → ℕ) (g q0 : ℕ) → (q0 ≡ create_at c g) → (makes_open (c.op q0) ≡ true → is_ok (c.outcome q0) ≡ true → c.live ≡ true → s.present c.session ≡ true → s.standing (c.file q0) ≡ true → s.session_of_open (c.file q0) ≡ Some c.session) → (c.live ≡ true → s.present c.session ≡ true → s.standing (c.file q0) ≡ false → c.attached q0 ≡ c.session_number) → Locks c conns s a → Locks (record c { outstanding_on = put c.outstanding_on g None; attached = put c.attached q0 c.session_number }) conns s a
+pub joined_keeps : (c : Client) (conns : ℕ → Conn) (s : Server) (a : ℕ → ℕ) (g q0 : ℕ) → (q0 ≡ create_at c g)
+    → (makes_open (c.op q0) ≡ true → is_ok (c.outcome q0) ≡ true → c.live ≡ true → s.present c.session ≡ true
+    → s.standing (c.file q0) ≡ true → s.session_of_open (c.file q0) ≡ Some c.session)
+    → (c.live ≡ true → s.present c.session ≡ true → s.standing (c.file q0) ≡ false → c.attached q0 ≡ c.session_number)
+    → Locks c conns s a → Locks (record c {
+      outstanding_on = put c.outstanding_on g None;
+      attached = put c.attached q0 c.session_number;
+    }) conns s a
 joined_keeps c conns s a g q0 its at was i =
     record {
       slot_index = i.slot_index;

@@ -3,7 +3,8 @@ use Rattle.std.proofs.Common.{◌≡◌, ℕ, ◌+◌, Bool, true, false, if◌t
 use Rattle.exchange_defs.specs.Fold.{fold_from, sweep}
 use Rattle.exchange_defs.specs.Operations.{Op, Outcome, is_create, is_lock, is_unsettled}
 use Rattle.exchange_defs.specs.ClientStep.{Pick}
-use Rattle.exchange_defs.specs.Network.{World, Event, Push, Serve, Sent, Settings, happens, run, start, changed, later, may_serve, serve_front, absorb_front, restarted, answer}
+use Rattle.exchange_defs.specs.Network.{World, Event, Push, Serve, Sent, Settings, happens, run, start, changed, later}
+use Rattle.exchange_defs.specs.Network.{may_serve, serve_front, absorb_front, restarted, answer}
 use Rattle.exchange_defs.specs.Runs.{acts, never_acted, front_acts, is_once}
 use Rattle.exchange_defs.specs.Statements.{ExactlyOnce}
 use Rattle.exchange_law.specs.Connections.{Connections}
@@ -30,9 +31,12 @@ if_true : {X : Type 0} (b : Bool) (x y : X) → b ≡ true → (if b then x else
 if_true true x y e = refl
 if_true false x y e = absurd (cc)
 
-pushed_of : (w : World) (a : ℕ → ℕ) (k : ℕ) (slotless : List ℕ) (pick : Option Pick) → w.client.ready k ≡ true → Connections (happens w (Push k slotless pick)).client (happens w (Push k slotless pick)).conns a → Connections (changed w (Push k slotless pick)).client (changed w (Push k slotless pick)).conns a
+pushed_of : (w : World) (a : ℕ → ℕ) (k : ℕ) (slotless : List ℕ) (pick : Option Pick) → w.client.ready k ≡ true
+    → Connections (happens w (Push k slotless pick)).client (happens w (Push k slotless pick)).conns a
+    → Connections (changed w (Push k slotless pick)).client (changed w (Push k slotless pick)).conns a
 pushed_of w a k slotless pick ready C =
-    let e : happens w (Push k slotless pick) ≡ later (changed w (Push k slotless pick)) 1 = if_true (w.client.ready k) (later (changed w (Push k slotless pick)) 1) w ready in
+    let e : happens w (Push k slotless pick) ≡ later (changed w (Push k slotless pick)) 1 = if_true (w.client.ready k)
+    (later (changed w (Push k slotless pick)) 1) w ready in
     subst (λ (v : World). Connections v.client v.conns a) e C
 
 abbrev Anew : World → Type 0
@@ -45,12 +49,16 @@ anew_behind w k (x ∷ rest) h = h
 anew_at : (w : World) → Recovers w.records w.server → Anew w
 anew_at w r = restarted_by w.server w.records r
 
-anew_kept : (w : World) (k : ℕ) → may_serve w k ≡ true → Recovers (happens w (Serve k)).records (happens w (Serve k)).server → Anew (absorb_front w k (w.conns k).up)
+anew_kept : (w : World) (k : ℕ) → may_serve w k ≡ true → Recovers (happens w (Serve k)).records
+    (happens w (Serve k)).server → Anew (absorb_front w k (w.conns k).up)
 anew_kept w k may r =
-    let e : happens w (Serve k) ≡ later (serve_front w k (w.conns k).up) 1 = if_true (may_serve w k) (later (serve_front w k (w.conns k).up) 1) w may in
+    let e : happens w (Serve k) ≡ later (serve_front w k (w.conns k).up) 1 = if_true (may_serve w k)
+    (later (serve_front w k (w.conns k).up) 1) w may in
     anew_behind w k (w.conns k).up (subst Anew e (anew_at (happens w (Serve k)) r))
 
-absorbed_links : (w : World) (a : ℕ → ℕ) (k : ℕ) → Connections w.client w.conns a → (xs : List Sent) → (w.conns k).up ≡ xs → Connections (absorb_front w k xs).client (absorb_front w k xs).conns (λ g. if front_acts w xs g then a g + 1 else a g)
+absorbed_links : (w : World) (a : ℕ → ℕ) (k : ℕ) → Connections w.client w.conns a → (xs : List Sent) → (w.conns k).up
+    ≡ xs → Connections (absorb_front w k xs).client (absorb_front w k xs).conns
+    (λ g. if front_acts w xs g then a g + 1 else a g)
 absorbed_links w a k C [] is = C
 absorbed_links w a k C (x ∷ rest) is = absorb_keeps w.client w.conns a k x rest (answer w x).acted is C
 
@@ -58,10 +66,18 @@ known : (z : Settings) → (es : List Event) → Known (run es (start z)) (acts 
 known z es =
     let w : World = run es (start z) in
     record {
-      under = record { links = connections z es; sessions = sessions z es; kinds = kinds z es; creates = creates z es; fits = fitting z es };
-      pushed = λ k slotless pick ready. pushed_of w (acts es (start z)) k slotless pick ready (one_event_on (λ (v : World) a. Connections v.client v.conns a) z (connections z) es (Push k slotless pick));
+      under = record {
+        links = connections z es;
+        sessions = sessions z es;
+        kinds = kinds z es;
+        creates = creates z es;
+        fits = fitting z es;
+      };
+      pushed = λ k slotless pick ready. pushed_of w (acts es (start z)) k slotless pick ready
+          (one_event_on (λ (v : World) a. Connections v.client v.conns a) z (connections z) es (Push k slotless pick));
       anew = anew_at w (recovers z (fitting z) es);
-      anew_kept = λ k may. anew_kept w k may (one_event_on (λ (v : World) a. Recovers v.records v.server) z (recovers z (fitting z)) es (Serve k));
+      anew_kept = λ k may. anew_kept w k may (one_event_on (λ (v : World) a. Recovers v.records v.server) z
+          (recovers z (fitting z)) es (Serve k));
     }
 
 begins : (z : Settings) → LocksHold (start z) (λ g. 0)
@@ -117,7 +133,9 @@ begins z =
     }
 
 pub locks : (z : Settings) → (es : List Event) → At LocksHold z es
-locks z = on_every_run LocksHold z (begins z) (λ es e h. keeps (run es (start z)) (acts es (start z)) e (known z es) (λ k may. absorbed_links (run es (start z)) (acts es (start z)) k (connections z es) ((run es (start z)).conns k).up refl) h)
+locks z = on_every_run LocksHold z (begins z) (λ es e h. keeps (run es (start z)) (acts es (start z)) e (known z es)
+    (λ k may. absorbed_links (run es (start z)) (acts es (start z)) k (connections z es) ((run es (start z)).conns k).up
+    refl) h)
 
 -- ---- acts
 
@@ -139,15 +157,18 @@ by_kind op P e f g = elim (is_create op) as (λ b. is_create op ≡ b → P) [
   | false ↦ λ h. g (other_on (is_create op) (is_lock op) e h)
 ] refl
 
-never_lock : (z : Settings) → (es more : List Event) (g : ℕ) → is_lock ((run es (start z)).client.op g) ≡ true → never_acted ((run es (start z)).client.outcome g) ≡ true → acts (es ++ more) (start z) g ≡ 0
+never_lock : (z : Settings) → (es more : List Event) (g : ℕ) → is_lock ((run es (start z)).client.op g) ≡ true
+    → never_acted ((run es (start z)).client.outcome g) ≡ true → acts (es ++ more) (start z) g ≡ 0
 never_lock z es more g e never =
     let s = never_settled ((run es (start z)).client.outcome g) never in
-    (locks z (es ++ more)).refused_not g (of_lock _ (ap is_lock (settled_op z es more g s) ∙ e)) (of_refused _ (ap never_acted (settled_stays z es more g s) ∙ never))
+    (locks z (es ++ more)).refused_not g (of_lock _ (ap is_lock (settled_op z es more g s) ∙ e))
+    (of_refused _ (ap never_acted (settled_stays z es more g s) ∙ never))
 
 pub exactly_once : ExactlyOnce
 exactly_once z es =
     record {
       at_most = λ g e. by_kind ((run es (start z)).client.op g) _ e (λ h. at_most_of z es g h) (λ h. (locks z es).at_most g (of_lock _ h));
-      acknowledged = λ g e ok. by_kind ((run es (start z)).client.op g) _ e (λ h. acknowledged_of z es g h ok) (λ h. (locks z es).ok_acted g (of_lock _ h) ok);
+      acknowledged = λ g e ok. by_kind ((run es (start z)).client.op g) _ e (λ h. acknowledged_of z es g h ok)
+          (λ h. (locks z es).ok_acted g (of_lock _ h) ok);
       never = λ g more e n. by_kind ((run es (start z)).client.op g) _ e (λ h. never_of z es more g h n) (λ h. never_lock z es more g h n);
     }

@@ -5,58 +5,83 @@ use Rattle.exchange_defs.specs.Client.{Client, begin_session}
 use Rattle.exchange_defs.specs.Network.{Conn, Sent, Received}
 use Rattle.exchange_law.specs.Connections.{create_at}
 use Rattle.session_law.specs.Sessions.{is_ops}
-use Rattle.lock_law.specs.Locks.{Locks, AttachedLow, CopyNow, RetriedOn, RetriedDone, NowAttached, OpenedReply, JoinReply, JoinedReply, ClosedNot, LeftFull, LeftStuck, LeftIdle}
+use Rattle.lock_law.specs.Locks.{Locks, AttachedLow, CopyNow, RetriedOn, RetriedDone, NowAttached, OpenedReply}
+use Rattle.lock_law.specs.Locks.{JoinReply, JoinedReply, ClosedNot, LeftFull, LeftStuck, LeftIdle}
 use Rattle.lock_law.proofs.Words.{own_ops, own_reply_ops, ask_reply_ops}
 
-readied_attached_low : (c : Client) (conns : ℕ → Conn) (s : Server) (a : ℕ → ℕ) (k session tree : ℕ) → AttachedLow c → AttachedLow (begin_session c k session tree)
+readied_attached_low : (c : Client) (conns : ℕ → Conn) (s : Server) (a : ℕ → ℕ) (k session tree : ℕ) → AttachedLow c
+    → AttachedLow (begin_session c k session tree)
 readied_attached_low c conns s a k session tree i_attached_low =
     λ q. let old = i_attached_low q in grind arith
 
-readied_copy_now : (c : Client) (conns : ℕ → Conn) (s : Server) (a : ℕ → ℕ) (k session tree : ℕ) → ((j n : ℕ) (x : Sent) → slice_get (conns j).up n ≡ Some x → is_ops x.token ≡ true → s.present x.message.session_id ≡ false) → CopyNow c conns s → CopyNow (begin_session c k session tree) conns s
+readied_copy_now : (c : Client) (conns : ℕ → Conn) (s : Server) (a : ℕ → ℕ) (k session tree : ℕ)
+    → ((j n : ℕ) (x : Sent) → slice_get (conns j).up n ≡ Some x → is_ops x.token ≡ true → s.present x.message.session_id
+    ≡ false) → CopyNow c conns s → CopyNow (begin_session c k session tree) conns s
 readied_copy_now c conns s a k session tree gone i_copy_now =
     λ j n p x h t. let v = gone j n x h (own_ops x p t) in grind arith
 
-readied_retried_on : (c : Client) (conns : ℕ → Conn) (s : Server) (a : ℕ → ℕ) (k session tree : ℕ) → ((j n : ℕ) (x : Sent) → slice_get (conns j).up n ≡ Some x → is_ops x.token ≡ true → s.present x.message.session_id ≡ false) → RetriedOn c conns s → RetriedOn (begin_session c k session tree) conns s
+readied_retried_on : (c : Client) (conns : ℕ → Conn) (s : Server) (a : ℕ → ℕ) (k session tree : ℕ)
+    → ((j n : ℕ) (x : Sent) → slice_get (conns j).up n ≡ Some x → is_ops x.token ≡ true → s.present x.message.session_id
+    ≡ false) → RetriedOn c conns s → RetriedOn (begin_session c k session tree) conns s
 readied_retried_on c conns s a k session tree gone i_retried_on =
     λ j n p x h t. let v = gone j n x h (own_ops x p t) in grind arith
 
-readied_retried_done : (c : Client) (conns : ℕ → Conn) (s : Server) (a : ℕ → ℕ) (k session tree : ℕ) → ((j n : ℕ) (x : Sent) → slice_get (conns j).up n ≡ Some x → is_ops x.token ≡ true → s.present x.message.session_id ≡ false) → RetriedDone c conns s → RetriedDone (begin_session c k session tree) conns s
+readied_retried_done : (c : Client) (conns : ℕ → Conn) (s : Server) (a : ℕ → ℕ) (k session tree : ℕ)
+    → ((j n : ℕ) (x : Sent) → slice_get (conns j).up n ≡ Some x → is_ops x.token ≡ true → s.present x.message.session_id
+    ≡ false) → RetriedDone c conns s → RetriedDone (begin_session c k session tree) conns s
 readied_retried_done c conns s a k session tree gone i_retried_done =
     λ j n p x h t. let v = gone j n x h (own_ops x p t) in grind arith
 
-readied_now_attached : (c : Client) (conns : ℕ → Conn) (s : Server) (a : ℕ → ℕ) (k session tree : ℕ) → NowAttached c s → AttachedLow c → NowAttached (begin_session c k session tree) s
+readied_now_attached : (c : Client) (conns : ℕ → Conn) (s : Server) (a : ℕ → ℕ) (k session tree : ℕ) → NowAttached c s
+    → AttachedLow c → NowAttached (begin_session c k session tree) s
 readied_now_attached c conns s a k session tree i_now_attached i_attached_low =
     λ q. let l = i_attached_low q in grind arith
 
-readied_opened_reply : (c : Client) (conns : ℕ → Conn) (s : Server) (a : ℕ → ℕ) (k session tree : ℕ) → ((j n : ℕ) (y : Received) → slice_get (conns j).down n ≡ Some y → is_ops y.token ≡ false) → OpenedReply c conns s → OpenedReply (begin_session c k session tree) conns s
+readied_opened_reply : (c : Client) (conns : ℕ → Conn) (s : Server) (a : ℕ → ℕ) (k session tree : ℕ)
+    → ((j n : ℕ) (y : Received) → slice_get (conns j).down n ≡ Some y → is_ops y.token ≡ false) → OpenedReply c conns s
+    → OpenedReply (begin_session c k session tree) conns s
 readied_opened_reply c conns s a k session tree idle i_opened_reply =
     λ j n p y h t. let v = idle j n y h in let o1 = own_reply_ops y p t in grind arith
 
-readied_join_reply : (c : Client) (conns : ℕ → Conn) (s : Server) (a : ℕ → ℕ) (k session tree : ℕ) → ((j n : ℕ) (y : Received) → slice_get (conns j).down n ≡ Some y → is_ops y.token ≡ false) → JoinReply c conns s → JoinReply (begin_session c k session tree) conns s
+readied_join_reply : (c : Client) (conns : ℕ → Conn) (s : Server) (a : ℕ → ℕ) (k session tree : ℕ)
+    → ((j n : ℕ) (y : Received) → slice_get (conns j).down n ≡ Some y → is_ops y.token ≡ false) → JoinReply c conns s
+    → JoinReply (begin_session c k session tree) conns s
 readied_join_reply c conns s a k session tree idle i_join_reply =
     λ j n p y h t. let v = idle j n y h in let o1 = ask_reply_ops y p t in grind arith
 
-readied_joined_reply : (c : Client) (conns : ℕ → Conn) (s : Server) (a : ℕ → ℕ) (k session tree : ℕ) → ((j n : ℕ) (y : Received) → slice_get (conns j).down n ≡ Some y → is_ops y.token ≡ false) → JoinedReply c conns s → JoinedReply (begin_session c k session tree) conns s
+readied_joined_reply : (c : Client) (conns : ℕ → Conn) (s : Server) (a : ℕ → ℕ) (k session tree : ℕ)
+    → ((j n : ℕ) (y : Received) → slice_get (conns j).down n ≡ Some y → is_ops y.token ≡ false) → JoinedReply c conns s
+    → JoinedReply (begin_session c k session tree) conns s
 readied_joined_reply c conns s a k session tree idle i_joined_reply =
     λ j n p y h t. let v = idle j n y h in let o1 = ask_reply_ops y p t in grind arith
 
-readied_closed_not : (c : Client) (conns : ℕ → Conn) (s : Server) (a : ℕ → ℕ) (k session tree : ℕ) → ClosedNot c s a → AttachedLow c → ClosedNot (begin_session c k session tree) s a
+readied_closed_not : (c : Client) (conns : ℕ → Conn) (s : Server) (a : ℕ → ℕ) (k session tree : ℕ) → ClosedNot c s a
+    → AttachedLow c → ClosedNot (begin_session c k session tree) s a
 readied_closed_not c conns s a k session tree i_closed_not i_attached_low =
     λ p. let l = i_attached_low (create_at c p) in grind arith
 
-readied_left_full : (c : Client) (conns : ℕ → Conn) (s : Server) (a : ℕ → ℕ) (k session tree : ℕ) → ((j n : ℕ) (x : Sent) → slice_get (conns j).up n ≡ Some x → is_ops x.token ≡ true → s.present x.message.session_id ≡ false) → LeftFull c conns s → LeftFull (begin_session c k session tree) conns s
+readied_left_full : (c : Client) (conns : ℕ → Conn) (s : Server) (a : ℕ → ℕ) (k session tree : ℕ)
+    → ((j n : ℕ) (x : Sent) → slice_get (conns j).up n ≡ Some x → is_ops x.token ≡ true → s.present x.message.session_id
+    ≡ false) → LeftFull c conns s → LeftFull (begin_session c k session tree) conns s
 readied_left_full c conns s a k session tree gone i_left_full =
     λ j n p x h t. let v = gone j n x h (own_ops x p t) in grind arith
 
-readied_left_stuck : (c : Client) (conns : ℕ → Conn) (s : Server) (a : ℕ → ℕ) (k session tree : ℕ) → ((j n : ℕ) (x : Sent) → slice_get (conns j).up n ≡ Some x → is_ops x.token ≡ true → s.present x.message.session_id ≡ false) → LeftStuck c conns s → LeftStuck (begin_session c k session tree) conns s
+readied_left_stuck : (c : Client) (conns : ℕ → Conn) (s : Server) (a : ℕ → ℕ) (k session tree : ℕ)
+    → ((j n : ℕ) (x : Sent) → slice_get (conns j).up n ≡ Some x → is_ops x.token ≡ true → s.present x.message.session_id
+    ≡ false) → LeftStuck c conns s → LeftStuck (begin_session c k session tree) conns s
 readied_left_stuck c conns s a k session tree gone i_left_stuck =
     λ j n p x h t. let v = gone j n x h (own_ops x p t) in grind arith
 
-readied_left_idle : (c : Client) (conns : ℕ → Conn) (s : Server) (a : ℕ → ℕ) (k session tree : ℕ) → ((j n : ℕ) (x : Sent) → slice_get (conns j).up n ≡ Some x → is_ops x.token ≡ true → s.present x.message.session_id ≡ false) → LeftIdle c conns s a → LeftIdle (begin_session c k session tree) conns s a
+readied_left_idle : (c : Client) (conns : ℕ → Conn) (s : Server) (a : ℕ → ℕ) (k session tree : ℕ)
+    → ((j n : ℕ) (x : Sent) → slice_get (conns j).up n ≡ Some x → is_ops x.token ≡ true → s.present x.message.session_id
+    ≡ false) → LeftIdle c conns s a → LeftIdle (begin_session c k session tree) conns s a
 readied_left_idle c conns s a k session tree gone i_left_idle =
     λ j n p q x h t. let v = gone j n x h (own_ops x p t) in grind arith
 
-pub readied_keeps : (c : Client) (conns : ℕ → Conn) (s : Server) (a : ℕ → ℕ) (k session tree : ℕ) → ((j n : ℕ) (x : Sent) → slice_get (conns j).up n ≡ Some x → is_ops x.token ≡ true → s.present x.message.session_id ≡ false) → ((j n : ℕ) (y : Received) → slice_get (conns j).down n ≡ Some y → is_ops y.token ≡ false) → Locks c conns s a → Locks (begin_session c k session tree) conns s a
+pub readied_keeps : (c : Client) (conns : ℕ → Conn) (s : Server) (a : ℕ → ℕ) (k session tree : ℕ)
+    → ((j n : ℕ) (x : Sent) → slice_get (conns j).up n ≡ Some x → is_ops x.token ≡ true → s.present x.message.session_id
+    ≡ false) → ((j n : ℕ) (y : Received) → slice_get (conns j).down n ≡ Some y → is_ops y.token ≡ false)
+    → Locks c conns s a → Locks (begin_session c k session tree) conns s a
 readied_keeps c conns s a k session tree gone idle i =
     record {
       slot_index = i.slot_index;

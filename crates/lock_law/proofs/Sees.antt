@@ -1,14 +1,20 @@
 -- What the checks find of a lock, a close, a create, and a create that asks for its open again.
-use Rattle.std.proofs.Common.{eqb-true, ◌≡◌, ℕ, ◌==◌, nat_le, Bool, true, false, not, ◌&&◌, ◌||◌, List, Option, Some, None, is_some, refl, arith, sym, ◌∙◌, ap, subst}
+use Rattle.std.proofs.Common.{eqb-true, ◌≡◌, ℕ, ◌==◌, nat_le, Bool, true, false, not, ◌&&◌, ◌||◌, List, Option, Some}
+use Rattle.std.proofs.Common.{None, is_some, refl, arith, sym, ◌∙◌, ap, subst}
 use Rattle.exchange_defs.specs.Table.{is_at}
-use Rattle.exchange_defs.specs.Status.{success, user_session_deleted, network_name_deleted, file_closed, object_name_not_found, access_denied, invalid_device_request, sharing_violation, insufficient_resources}
+use Rattle.exchange_defs.specs.Status.{success, user_session_deleted, network_name_deleted, file_closed}
+use Rattle.exchange_defs.specs.Status.{object_name_not_found, access_denied, invalid_device_request, sharing_violation}
+use Rattle.exchange_defs.specs.Status.{insufficient_resources}
 use Rattle.exchange_defs.specs.Texts.{same_name}
-use Rattle.exchange_defs.specs.Commands.{Create, Close, Lock, CreateRequest, Durable, Reconnect, Element, form, create_form, path_form, lock_form, is_setup, deletes_on_close}
+use Rattle.exchange_defs.specs.Commands.{Create, Close, Lock, CreateRequest, Durable, Reconnect, Element, form}
+use Rattle.exchange_defs.specs.Commands.{create_form, path_form, lock_form, is_setup, deletes_on_close}
 use Rattle.exchange_defs.specs.State.{Server, Message, Empty, Range}
 use Rattle.exchange_defs.specs.Files.{find, is_directory}
 use Rattle.exchange_defs.specs.Ranges.{RangeAnswer, Stands, Denied, change_ranges}
 use Rattle.exchange_defs.specs.Opens.{is_of_session, deletes, mapped}
-use Rattle.exchange_defs.specs.CheckCreate.{reconnect_check, reconnect_or_create, has_guid, guid_check, live_check, refusal_check, new_check, durable_check, keeps_guid, max_guids, is_counted_out, after_names, names, shares, refused_create, refused_by}
+use Rattle.exchange_defs.specs.CheckCreate.{reconnect_check, reconnect_or_create, has_guid, guid_check, live_check}
+use Rattle.exchange_defs.specs.CheckCreate.{refusal_check, new_check, durable_check, keeps_guid, max_guids}
+use Rattle.exchange_defs.specs.CheckCreate.{is_counted_out, after_names, names, shares, refused_create, refused_by}
 use Rattle.exchange_defs.specs.CheckOpen.{file_of, is_slot, kept_lock, turn_down_lock, range_check, new_lock_check, slot_check}
 use Rattle.exchange_defs.specs.CheckSetup.{tree_in}
 use Rattle.exchange_defs.specs.Check.{check, owed, formed, command_check, with_tree, in_tree, tree_command, has_session}
@@ -19,18 +25,23 @@ use Rattle.lock_law.specs.Locks.{kept_at}
 
 -- ---- behind the session and the tree
 
-pub through : (P : Verdict → Type 0) (s : Server) (m : Message) → m.fault ≡ None → is_setup m.command ≡ false → P (Refuse user_session_deleted) → ((status : ℕ) → form m.command ≡ Some status → P (Refuse status))
+pub through : (P : Verdict → Type 0) (s : Server) (m : Message) → m.fault ≡ None → is_setup m.command ≡ false
+    → P (Refuse user_session_deleted) → ((status : ℕ) → form m.command ≡ Some status → P (Refuse status))
     → (s.session_on m.connection ≡ Some m.session_id → form m.command ≡ None → P (command_check s m m.command)) → P (check s m)
 through P s m fault work gone bad go =
     either P (is_setup m.command || has_session s m) _ _
-    (λ h. subst (λ u. P (owed s m u)) (sym fault) (by_form (form m.command) refl (at_of m.session_id (s.session_on m.connection) (other_on (is_setup m.command) (has_session s m) h work))))
+    (λ h. subst (λ u. P (owed s m u)) (sym fault)
+    (by_form (form m.command) refl (at_of m.session_id (s.session_on m.connection)
+    (other_on (is_setup m.command) (has_session s m) h work))))
     (λ _. gone)
   where
     by_form : (u : Option ℕ) → form m.command ≡ u → s.session_on m.connection ≡ Some m.session_id → P (formed s m u)
     by_form None e on = go on e
     by_form (Some status) e on = bad status e
 
-in_trees : (P : Verdict → Type 0) (s : Server) (m : Message) → (tree_in (s.trees m.session_id) m.tree_id ≡ None → P (Refuse network_name_deleted)) → ((pipes : Bool) → tree_in (s.trees m.session_id) m.tree_id ≡ Some pipes → P (tree_command s m pipes m.command)) → P (with_tree s m)
+in_trees : (P : Verdict → Type 0) (s : Server) (m : Message) → (tree_in (s.trees m.session_id) m.tree_id ≡ None
+    → P (Refuse network_name_deleted)) → ((pipes : Bool) → tree_in (s.trees m.session_id) m.tree_id ≡ Some pipes
+    → P (tree_command s m pipes m.command)) → P (with_tree s m)
 in_trees P s m none some = by_tree (tree_in (s.trees m.session_id) m.tree_id) refl
   where
     by_tree : (u : Option Bool) → tree_in (s.trees m.session_id) m.tree_id ≡ u → P (in_tree s m u)
@@ -38,18 +49,29 @@ in_trees P s m none some = by_tree (tree_in (s.trees m.session_id) m.tree_id) re
     by_tree (Some pipes) e = some pipes e
 
 of_session : (s : Server) (o x : ℕ) → is_of_session s o x ≡ true → s.standing o ≡ true × s.session_of_open o ≡ Some x
-of_session s o x e = (front_of (s.standing o) (is_at x (s.session_of_open o)) e, at_of x (s.session_of_open o) (back_of (s.standing o) (is_at x (s.session_of_open o)) e))
+of_session s o x e = (
+  front_of (s.standing o) (is_at x (s.session_of_open o)) e,
+  at_of x (s.session_of_open o)
+      (back_of (s.standing o) (is_at x (s.session_of_open o)) e),
+)
 
 -- ---- a lock
 
 pub data LockSees (s : Server) (m : Message) (o i n : ℕ) (es : List Element) : Verdict → Type 0 where
   Deleted : LockSees s m o i n es (Refuse user_session_deleted)
-  NoTree : s.session_on m.connection ≡ Some m.session_id → tree_in (s.trees m.session_id) m.tree_id ≡ None → LockSees s m o i n es (Refuse network_name_deleted)
+  NoTree : s.session_on m.connection ≡ Some m.session_id → tree_in (s.trees m.session_id) m.tree_id ≡ None
+      → LockSees s m o i n es (Refuse network_name_deleted)
   Away : s.session_on m.connection ≡ Some m.session_id → is_of_session s o m.session_id ≡ false → LockSees s m o i n es (Refuse file_closed)
-  Done : s.session_on m.connection ≡ Some m.session_id → s.standing o ≡ true → kept_at (s.lock_sequences o i) n ≡ Some success → LockSees s m o i n es (Give Empty)
-  Again : (status : ℕ) → s.session_on m.connection ≡ Some m.session_id → s.standing o ≡ true → kept_at (s.lock_sequences o i) n ≡ Some status → (status == success) ≡ false → LockSees s m o i n es (Refuse status)
-  Refused : (status : ℕ) → s.session_on m.connection ≡ Some m.session_id → s.standing o ≡ true → kept_at (s.lock_sequences o i) n ≡ None → (status == success) ≡ false → LockSees s m o i n es (KeepSlot o i n status es)
-  Granted : (ranges : List Range) → s.session_on m.connection ≡ Some m.session_id → s.standing o ≡ true → kept_at (s.lock_sequences o i) n ≡ None → LockSees s m o i n es (PutRanges o i n ranges es)
+  Done : s.session_on m.connection ≡ Some m.session_id → s.standing o ≡ true → kept_at (s.lock_sequences o i) n
+      ≡ Some success → LockSees s m o i n es (Give Empty)
+  Again : (status : ℕ) → s.session_on m.connection ≡ Some m.session_id → s.standing o ≡ true
+      → kept_at (s.lock_sequences o i) n ≡ Some status → (status == success) ≡ false
+      → LockSees s m o i n es (Refuse status)
+  Refused : (status : ℕ) → s.session_on m.connection ≡ Some m.session_id → s.standing o ≡ true
+      → kept_at (s.lock_sequences o i) n ≡ None → (status == success) ≡ false
+      → LockSees s m o i n es (KeepSlot o i n status es)
+  Granted : (ranges : List Range) → s.session_on m.connection ≡ Some m.session_id → s.standing o ≡ true
+      → kept_at (s.lock_sequences o i) n ≡ None → LockSees s m o i n es (PutRanges o i n ranges es)
 
 kept_is : (s : Server) (o i n : ℕ) → is_slot i ≡ true → kept_lock s o i n ≡ kept_at (s.lock_sequences o i) n
 unfolding kept_at
@@ -58,22 +80,30 @@ kept_is s o i n e = grind arith
 turned_is : (o i n status : ℕ) (es : List Element) → is_slot i ≡ true → turn_down_lock o i n es status ≡ KeepSlot o i n status es
 turned_is o i n status es e = grind arith
 
-new_sees : (s : Server) (m : Message) (o i n : ℕ) (es : List Element) → is_slot i ≡ true → s.session_on m.connection ≡ Some m.session_id → s.standing o ≡ true → kept_at (s.lock_sequences o i) n ≡ None → LockSees s m o i n es (new_lock_check s o i n es)
+new_sees : (s : Server) (m : Message) (o i n : ℕ) (es : List Element) → is_slot i ≡ true → s.session_on m.connection
+    ≡ Some m.session_id → s.standing o ≡ true → kept_at (s.lock_sequences o i) n ≡ None
+    → LockSees s m o i n es (new_lock_check s o i n es)
 new_sees s m o i n es slot on st kept =
     either (λ v. LockSees s m o i n es v) (is_directory s (file_of s o)) _ _
-    (λ _. subst (λ v. LockSees s m o i n es v) (sym (turned_is o i n invalid_device_request es slot)) (Refused invalid_device_request on st kept refl))
+    (λ _. subst (λ v. LockSees s m o i n es v) (sym (turned_is o i n invalid_device_request es slot))
+    (Refused invalid_device_request on st kept refl))
     (λ _. by_ranges (change_ranges (s.ranges (file_of s o)) o es) refl)
   where
     by_ranges : (r : RangeAnswer) → change_ranges (s.ranges (file_of s o)) o es ≡ r → LockSees s m o i n es (range_check o i n es r)
     by_ranges (Stands ranges) e = Granted ranges on st kept
-    by_ranges (Denied status) e = subst (λ v. LockSees s m o i n es v) (sym (turned_is o i n status es slot)) (Refused status on st kept (change_refuses (s.ranges (file_of s o)) o es status e))
+    by_ranges (Denied status) e = subst (λ v. LockSees s m o i n es v) (sym (turned_is o i n status es slot))
+        (Refused status on st kept (change_refuses (s.ranges (file_of s o)) o es status e))
 
-slot_sees : (s : Server) (m : Message) (o i n : ℕ) (es : List Element) → is_slot i ≡ true → s.session_on m.connection ≡ Some m.session_id → s.standing o ≡ true → (u : Option ℕ) → kept_at (s.lock_sequences o i) n ≡ u → LockSees s m o i n es (slot_check s o i n es u)
+slot_sees : (s : Server) (m : Message) (o i n : ℕ) (es : List Element) → is_slot i ≡ true → s.session_on m.connection
+    ≡ Some m.session_id → s.standing o ≡ true → (u : Option ℕ) → kept_at (s.lock_sequences o i) n ≡ u
+    → LockSees s m o i n es (slot_check s o i n es u)
 slot_sees s m o i n es slot on st None e = new_sees s m o i n es slot on st e
 slot_sees s m o i n es slot on st (Some status) e =
-    either (λ v. LockSees s m o i n es v) (status == success) _ _ (λ h. Done on st (e ∙ ap (λ z. Some z) (eqb-true status success h))) (λ h. Again status on st e h)
+    either (λ v. LockSees s m o i n es v) (status == success) _ _
+    (λ h. Done on st (e ∙ ap (λ z. Some z) (eqb-true status success h))) (λ h. Again status on st e h)
 
-pub lock_sees : (s : Server) (m : Message) (o i n : ℕ) (es : List Element) → m.fault ≡ None → m.command ≡ Lock o i n es → lock_form es ≡ None → is_slot i ≡ true → LockSees s m o i n es (check s m)
+pub lock_sees : (s : Server) (m : Message) (o i n : ℕ) (es : List Element) → m.fault ≡ None → m.command ≡ Lock o i n es
+    → lock_form es ≡ None → is_slot i ≡ true → LockSees s m o i n es (check s m)
 lock_sees s m o i n es fault is formed1 slot =
     let P : Verdict → Type 0 = λ v. LockSees s m o i n es v in
     through P s m fault (ap is_setup is) Deleted (λ status e. let f : form m.command ≡ None = ap form is ∙ formed1 in absurd (grind arith))
@@ -87,7 +117,8 @@ lock_sees s m o i n es fault is formed1 slot =
 
 pub data CloseSees (s : Server) (m : Message) (o : ℕ) : Verdict → Type 0 where
   Deleted2 : CloseSees s m o (Refuse user_session_deleted)
-  NoTree2 : s.session_on m.connection ≡ Some m.session_id → tree_in (s.trees m.session_id) m.tree_id ≡ None → CloseSees s m o (Refuse network_name_deleted)
+  NoTree2 : s.session_on m.connection ≡ Some m.session_id → tree_in (s.trees m.session_id) m.tree_id ≡ None
+      → CloseSees s m o (Refuse network_name_deleted)
   Away2 : CloseSees s m o (Refuse file_closed)
   Shuts : s.session_on m.connection ≡ Some m.session_id → s.standing o ≡ true → CloseSees s m o (CloseOpen o Empty)
 
@@ -103,23 +134,36 @@ close_sees s m o fault is =
 
 pub data AskSees (s : Server) (m : Message) (r : CreateRequest) (q : Reconnect) : Verdict → Type 0 where
   Deleted3 : AskSees s m r q (Refuse user_session_deleted)
-  NoTree3 : s.session_on m.connection ≡ Some m.session_id → tree_in (s.trees m.session_id) m.tree_id ≡ None → AskSees s m r q (Refuse network_name_deleted)
-  Gone : s.session_on m.connection ≡ Some m.session_id → (s.standing q.file && has_guid q.guid (s.opened q.file).create_guid) ≡ false → AskSees s m r q (Refuse object_name_not_found)
-  Other : s.session_on m.connection ≡ Some m.session_id → s.standing q.file ≡ true → same_name (s.opened q.file).user (s.user m.session_id) ≡ false → AskSees s m r q (Refuse access_denied)
-  Held : s.session_on m.connection ≡ Some m.session_id → (is_some (s.session_of_open q.file) && not (is_at m.session_id (s.session_of_open q.file))) ≡ true → AskSees s m r q (Refuse object_name_not_found)
-  Attached : s.session_on m.connection ≡ Some m.session_id → s.standing q.file ≡ true → (is_some (s.session_of_open q.file) && not (is_at m.session_id (s.session_of_open q.file))) ≡ false → AskSees s m r q (Attach q.file r)
+  NoTree3 : s.session_on m.connection ≡ Some m.session_id → tree_in (s.trees m.session_id) m.tree_id ≡ None
+      → AskSees s m r q (Refuse network_name_deleted)
+  Gone : s.session_on m.connection ≡ Some m.session_id
+      → (s.standing q.file && has_guid q.guid (s.opened q.file).create_guid) ≡ false
+      → AskSees s m r q (Refuse object_name_not_found)
+  Other : s.session_on m.connection ≡ Some m.session_id → s.standing q.file ≡ true → same_name (s.opened q.file).user
+      (s.user m.session_id) ≡ false → AskSees s m r q (Refuse access_denied)
+  Held : s.session_on m.connection ≡ Some m.session_id
+      → (is_some (s.session_of_open q.file) && not (is_at m.session_id (s.session_of_open q.file))) ≡ true
+      → AskSees s m r q (Refuse object_name_not_found)
+  Attached : s.session_on m.connection ≡ Some m.session_id → s.standing q.file ≡ true
+      → (is_some (s.session_of_open q.file) && not (is_at m.session_id (s.session_of_open q.file))) ≡ false
+      → AskSees s m r q (Attach q.file r)
 
-reconnect_sees : (s : Server) (m : Message) (r : CreateRequest) (q : Reconnect) → s.session_on m.connection ≡ Some m.session_id → AskSees s m r q (reconnect_check s m r q)
+reconnect_sees : (s : Server) (m : Message) (r : CreateRequest) (q : Reconnect) → s.session_on m.connection
+    ≡ Some m.session_id → AskSees s m r q (reconnect_check s m r q)
 reconnect_sees s m r q on =
     let P : Verdict → Type 0 = λ v. AskSees s m r q v in
     either P (not (s.standing q.file && has_guid q.guid (s.opened q.file).create_guid)) _ _
     (λ h. Gone on (not_true (s.standing q.file && has_guid q.guid (s.opened q.file).create_guid) h))
-    (λ h. let st = front_of (s.standing q.file) (has_guid q.guid (s.opened q.file).create_guid) (not_false (s.standing q.file && has_guid q.guid (s.opened q.file).create_guid) h) in
+    (λ h. let st = front_of (s.standing q.file) (has_guid q.guid (s.opened q.file).create_guid)
+    (not_false (s.standing q.file && has_guid q.guid (s.opened q.file).create_guid) h) in
     either P (not (same_name (s.opened q.file).user (s.user m.session_id))) _ _
     (λ u. Other on st (not_true (same_name (s.opened q.file).user (s.user m.session_id)) u))
-    (λ _. either P (is_some (s.session_of_open q.file) && not (is_at m.session_id (s.session_of_open q.file))) _ _ (λ a. Held on a) (λ a. Attached on st a)))
+    (λ _. either P (is_some (s.session_of_open q.file) && not (is_at m.session_id (s.session_of_open q.file))) _ _
+    (λ a. Held on a) (λ a. Attached on st a)))
 
-pub ask_sees : (s : Server) (m : Message) (r : CreateRequest) (q : Reconnect) → m.fault ≡ None → m.command ≡ Create r → r.reconnect ≡ Some q → create_form r ≡ None → ((pipes : Bool) → tree_in (s.trees m.session_id) m.tree_id ≡ Some pipes → pipes ≡ false) → AskSees s m r q (check s m)
+pub ask_sees : (s : Server) (m : Message) (r : CreateRequest) (q : Reconnect) → m.fault ≡ None → m.command ≡ Create r
+    → r.reconnect ≡ Some q → create_form r ≡ None → ((pipes : Bool) → tree_in (s.trees m.session_id) m.tree_id
+    ≡ Some pipes → pipes ≡ false) → AskSees s m r q (check s m)
 ask_sees s m r q fault is asks formed1 flat =
     let P : Verdict → Type 0 = λ v. AskSees s m r q v in
     through P s m fault (ap is_setup is) Deleted3 (λ status e. let f : form m.command ≡ None = ap form is ∙ formed1 in absurd (grind arith))
@@ -154,7 +198,8 @@ kept_says r status e = by_durable r.durable e
     by_durable None e = absurd (cc)
     by_durable (Some d) e = refl
 
-new_says : (s : Server) (m : Message) (r : CreateRequest) (found : Option ℕ) → is_some r.durable ≡ true → create_says (new_check s m r found) ≡ true
+new_says : (s : Server) (m : Message) (r : CreateRequest) (found : Option ℕ) → is_some r.durable ≡ true
+    → create_says (new_check s m r found) ≡ true
 new_says s m r found d =
     let P : Verdict → Type 0 = λ v. create_says v ≡ true in
     either P (deletes_on_close r.options && not (deletes (mapped r.access))) _ _ (λ _. refl)
@@ -173,17 +218,22 @@ live_says s m r o =
     (λ _. either P (is_some (s.session_of_open o) || not (s.opened o).persistent) _ _ (λ _. refl)
     (λ _. either P (same_name (s.opened o).user (s.user m.session_id)) _ _ (λ _. refl) (λ _. refl))))
 
-guid_says : (s : Server) (m : Message) (r : CreateRequest) (d : Durable) → is_some r.durable ≡ true → ((x g status : ℕ) → s.refused x g ≡ Some status → (status == success) ≡ false) → (u : Option ℕ) → create_says (guid_check s m r d u) ≡ true
+guid_says : (s : Server) (m : Message) (r : CreateRequest) (d : Durable) → is_some r.durable ≡ true
+    → ((x g status : ℕ) → s.refused x g ≡ Some status → (status == success) ≡ false) → (u : Option ℕ)
+    → create_says (guid_check s m r d u) ≡ true
 guid_says s m r d k bad (Some o) = live_says s m r o
 guid_says s m r d k bad None =
     let P : Verdict → Type 0 = λ v. create_says v ≡ true in
-    either P (s.closed m.session_id d.guid) _ _ (λ _. refl) (λ _. either P (s.expired_guids m.client_guid d.guid) _ _ (λ _. refl) (λ _. by_refused (s.refused m.session_id d.guid) refl))
+    either P (s.closed m.session_id d.guid) _ _ (λ _. refl) (λ _. either P (s.expired_guids m.client_guid d.guid) _ _
+    (λ _. refl) (λ _. by_refused (s.refused m.session_id d.guid) refl))
   where
     by_refused : (w : Option ℕ) → s.refused m.session_id d.guid ≡ w → create_says (refusal_check s m r w) ≡ true
     by_refused (Some status) e = says_refuse status (bad m.session_id d.guid status e)
     by_refused None e = new_says s m r (find s r.path) k
 
-pub create_sees : (s : Server) (m : Message) (r : CreateRequest) (d : Durable) → m.fault ≡ None → m.command ≡ Create r → r.reconnect ≡ None → r.durable ≡ Some d → ((x g status : ℕ) → s.refused x g ≡ Some status → (status == success) ≡ false) → create_says (check s m) ≡ true
+pub create_sees : (s : Server) (m : Message) (r : CreateRequest) (d : Durable) → m.fault ≡ None → m.command ≡ Create r
+    → r.reconnect ≡ None → r.durable ≡ Some d → ((x g status : ℕ) → s.refused x g ≡ Some status → (status == success)
+    ≡ false) → create_says (check s m) ≡ true
 create_sees s m r d fault is new kept bad =
     let P : Verdict → Type 0 = λ v. create_says v ≡ true in
     through P s m fault (ap is_setup is) refl (λ status e. says_refuse status (form_refuses r status (sym (ap form is) ∙ e)))
@@ -194,4 +244,5 @@ create_sees s m r d fault is new kept bad =
     by_new true = refl
     by_new false =
         subst (λ u. create_says (reconnect_or_create s m r u) ≡ true) (sym new)
-        (subst (λ u. create_says (durable_check s m r u) ≡ true) (sym kept) (guid_says s m r d (ap (λ u. is_some u) kept) bad (s.by_guid m.client_guid d.guid)))
+        (subst (λ u. create_says (durable_check s m r u) ≡ true) (sym kept)
+        (guid_says s m r d (ap (λ u. is_some u) kept) bad (s.by_guid m.client_guid d.guid)))

@@ -1,5 +1,6 @@
 -- What is known where the server takes the front of a connection, and how a verdict that isn't a lock's keeps it.
-use Rattle.std.proofs.Common.{eqb-true, ◌≡◌, ℕ, ◌+◌, ◌==◌, ◌≤◌, ◌<◌, Bool, true, false, ◌&&◌, if◌then◌else◌, List, [], Option, Some, None, slice_get, is_some, refl, arith, sym, ◌∙◌, subst}
+use Rattle.std.proofs.Common.{eqb-true, ◌≡◌, ℕ, ◌+◌, ◌==◌, ◌≤◌, ◌<◌, Bool, true, false, ◌&&◌, if◌then◌else◌, List, []}
+use Rattle.std.proofs.Common.{Option, Some, None, slice_get, is_some, refl, arith, sym, ◌∙◌, subst}
 use Rattle.exchange_defs.specs.Status.{success, disk_full}
 use Rattle.exchange_defs.specs.Commands.{Command, Create, CreateRequest, Durable, deletes_on_close}
 use Rattle.exchange_defs.specs.State.{Server, Message, Answer, Record}
@@ -12,7 +13,9 @@ use Rattle.exchange_defs.specs.Operations.{is_unsettled}
 use Rattle.exchange_defs.specs.Client.{Client, guid_for}
 use Rattle.exchange_defs.specs.Network.{Conn, Sent, Received, Token, ForOp, ForAttach}
 use Rattle.exchange_defs.specs.Runs.{is_send_of}
-use Rattle.exchange_defs.specs.Verdict.{Verdict, Refuse, Give, KeepRefusal, Repeat, Attach, Make, TurnDown, Tell, Show, KeepSlot, PutRanges, Alter, CloseOpen, Challenge, ChallengeBinding, Begin, Join, EndSession, AddTree, DropTree}
+use Rattle.exchange_defs.specs.Verdict.{Verdict, Refuse, Give, KeepRefusal, Repeat, Attach, Make, TurnDown, Tell, Show}
+use Rattle.exchange_defs.specs.Verdict.{KeepSlot, PutRanges, Alter, CloseOpen, Challenge, ChallengeBinding, Begin, Join}
+use Rattle.exchange_defs.specs.Verdict.{EndSession, AddTree, DropTree}
 use Rattle.exchange_law.specs.Connections.{Connections, makes_open, create_at}
 use Rattle.server_law.proofs.Doors.{recorded}
 use Rattle.server_law.proofs.Found.{Facts}
@@ -45,14 +48,20 @@ pub record Serving (c : Client) (conns : ℕ → Conn) (t : Server) (a : ℕ →
   pub lives : c.live ≡ true → c.session ≡ c.accepted × 0 < c.rank c.accepted
   pub current : is_ops x0.token ≡ true → (conns k).client_open ≡ true → c.live ≡ true × x0.message.session_id ≡ c.session
   pub users : (x : ℕ) → t.present x ≡ true → t.user x ≡ logon_user c.who.logon
-  pub trees : is_ops x0.token ≡ true → t.present x0.message.session_id ≡ true → is_some (tree_in (t.trees x0.message.session_id) x0.message.tree_id) ≡ true
+  pub trees : is_ops x0.token ≡ true → t.present x0.message.session_id ≡ true
+      → is_some (tree_in (t.trees x0.message.session_id) x0.message.tree_id) ≡ true
   pub kinds : TreeKinds c t
   pub work : is_ops x0.token ≡ true → is_work x0.message.command ≡ true
   pub dialog : is_ops x0.token ≡ false → is_dialog x0.message.command ≡ true
 
 -- what an answer comes to
 abbrev pub Served : Client → (ℕ → Conn) → (ℕ → ℕ) → ℕ → Sent → Answer → Type 0
-Served c conns a k x0 A = Locks c conns A.server (counted a x0.token A.acted) × ((conns k).client_open ≡ true → (place : ℕ) → MaySay c A.server (counted a x0.token A.acted) (record { token = x0.token; reply = A.reply; place = place }))
+Served c conns a k x0 A = Locks c conns A.server (counted a x0.token A.acted)
+    × ((conns k).client_open ≡ true → (place : ℕ) → MaySay c A.server (counted a x0.token A.acted) (record {
+      token = x0.token;
+      reply = A.reply;
+      place = place;
+    }))
 
 pub not_acted : (a : ℕ → ℕ) (tk : Token) (acted : Bool) (p : ℕ) → acted ≡ false → counted a tk acted p ≡ a p
 not_acted a tk acted p e = grind arith
@@ -98,14 +107,19 @@ bare_full d m now DropTree = refl
 
 -- ---- a new open is a create's
 
-same_asked : (b : Command) (r q : CreateRequest) → b ≡ Create r → b ≡ Create q → deletes_on_close q.options ≡ false → deletes_on_close r.options ≡ false
+same_asked : (b : Command) (r q : CreateRequest) → b ≡ Create r → b ≡ Create q → deletes_on_close q.options ≡ false
+    → deletes_on_close r.options ≡ false
 same_asked b r q e f d = let s : r ≡ q = grind arith in subst (λ z. deletes_on_close z.options ≡ false) (sym s) d
 
-pub new_kept : (c : Client) (conns : ℕ → Conn) (t : Server) (a : ℕ → ℕ) (k : ℕ) (x0 : Sent) (v : Verdict) → Serving c conns t a k x0 → Facts t x0.message v → NewKept v
+pub new_kept : (c : Client) (conns : ℕ → Conn) (t : Server) (a : ℕ → ℕ) (k : ℕ) (x0 : Sent) (v : Verdict)
+    → Serving c conns t a k x0 → Facts t x0.message v → NewKept v
 new_kept c conns t a k x0 (Make r found action) w f =
-    own_create c conns a k x0 r (deletes_on_close r.options ≡ false) w.links w.creates.dialog_up w.creates.ask_up w.front f.new.create.command f.new.new
+    own_create c conns a k x0 r (deletes_on_close r.options ≡ false) w.links w.creates.dialog_up w.creates.ask_up
+    w.front f.new.create.command f.new.new
     (λ g tk mk. let bd = w.links.bodies k 0 g x0 w.front tk in
-    same_asked x0.message.command r (create_asked (c.op g) (guid_for c g)) f.new.create.command (bd.1 ∙ asks_create (c.op g) (guid_for c g) (c.file (create_at c g)) (c.slot_of g) (c.number_of g) mk) (asks_to_keep (c.op g) (guid_for c g) mk))
+    same_asked x0.message.command r (create_asked (c.op g) (guid_for c g)) f.new.create.command
+    (bd.1 ∙ asks_create (c.op g) (guid_for c g) (c.file (create_at c g)) (c.slot_of g) (c.number_of g) mk)
+    (asks_to_keep (c.op g) (guid_for c g) mk))
 new_kept c conns t a k x0 (Refuse status) w f = tt
 new_kept c conns t a k x0 (Give body) w f = tt
 new_kept c conns t a k x0 (KeepRefusal guid status) w f = tt
@@ -127,7 +141,9 @@ new_kept c conns t a k x0 (AddTree pipes) w f = tt
 new_kept c conns t a k x0 DropTree w f = tt
 
 -- creates act by their own messages alone
-pub plain_other : (c : Client) (conns : ℕ → Conn) (t : Server) (a : ℕ → ℕ) (k : ℕ) (x0 : Sent) (acted : Bool) → Serving c conns t a k x0 → ((q : ℕ) → makes_open (c.op q) ≡ true → is_send_of q x0.token ≡ false) → (q : ℕ) → makes_open (c.op q) ≡ true → 1 ≤ counted a x0.token acted q → piped c.who.share ≡ false
+pub plain_other : (c : Client) (conns : ℕ → Conn) (t : Server) (a : ℕ → ℕ) (k : ℕ) (x0 : Sent) (acted : Bool)
+    → Serving c conns t a k x0 → ((q : ℕ) → makes_open (c.op q) ≡ true → is_send_of q x0.token ≡ false) → (q : ℕ)
+    → makes_open (c.op q) ≡ true → 1 ≤ counted a x0.token acted q → piped c.who.share ≡ false
 plain_other c conns t a k x0 acted w off q m l = w.locks.made_plain q m (subst (λ z. 1 ≤ z) (not_sent a x0.token acted q (off q m)) l)
 
 pub of_unmade : (c : Client) (g p : ℕ) → makes_open (c.op g) ≡ false → makes_open (c.op p) ≡ true → is_send_of p (ForOp g) ≡ false
@@ -141,15 +157,27 @@ of_unmade c g p e f = elim (g == p) as (λ b. g == p ≡ b → (g == p) ≡ fals
 steady_recorded : (t u : Server) (n : ℕ) → Steady t u → Steady t (record u { journal = n })
 steady_recorded t u n s = record { entries = s.entries; delete_pending = s.delete_pending; directory = s.directory; others = s.others }
 
-pub quiet_serve : (c : Client) (conns : ℕ → Conn) (t : Server) (a : ℕ → ℕ) (k : ℕ) (x0 : Sent) (now : ℕ) (v : Verdict) (rs : List Record) (a2 : ℕ → ℕ)
-    → Serving c conns t a k x0 → Facts t x0.message v → is_slot_verdict v ≡ false → (lower_limit < t.journal + 34 → (apply t x0.message now v).records ≡ []) → ((q : ℕ) → makes_open (c.op q) ≡ true → 1 ≤ a2 q → piped c.who.share ≡ false) → ((p : ℕ) → locking (c.op p) ≡ true → a2 p ≡ a p)
-    → ((g : ℕ) → locking (c.op g) ≡ true → c.sent g ≡ true → is_unsettled (c.outcome g) ≡ true → c.live ≡ true → (apply t x0.message now v).server.present c.session ≡ true → t.standing (open_at c g) ≡ true → closes_in x0.message.command (open_at c g) ≡ true → (apply t x0.message now v).server.standing (open_at c g) ≡ false → a g ≡ 0)
-    → ((j n g : ℕ) (y : Received) → slice_get (conns j).down n ≡ Some y → y.token ≡ ForAttach g → y.reply.status ≡ success → c.live ≡ true → (apply t x0.message now v).server.present c.session ≡ true → t.standing (open_at c g) ≡ true → closes_in x0.message.command (open_at c g) ≡ true → (apply t x0.message now v).server.standing (open_at c g) ≡ false → c.attached (create_at c g) ≡ c.session_number)
+pub quiet_serve : (c : Client) (conns : ℕ → Conn) (t : Server) (a : ℕ → ℕ) (k : ℕ) (x0 : Sent) (now : ℕ) (v : Verdict)
+    (rs : List Record) (a2 : ℕ → ℕ)
+    → Serving c conns t a k x0 → Facts t x0.message v → is_slot_verdict v ≡ false
+    → (lower_limit < t.journal + 34 → (apply t x0.message now v).records ≡ [])
+    → ((q : ℕ) → makes_open (c.op q) ≡ true → 1 ≤ a2 q → piped c.who.share ≡ false)
+    → ((p : ℕ) → locking (c.op p) ≡ true → a2 p ≡ a p)
+    → ((g : ℕ) → locking (c.op g) ≡ true → c.sent g ≡ true → is_unsettled (c.outcome g) ≡ true → c.live ≡ true
+    → (apply t x0.message now v).server.present c.session ≡ true → t.standing (open_at c g) ≡ true
+    → closes_in x0.message.command (open_at c g) ≡ true → (apply t x0.message now v).server.standing (open_at c g)
+    ≡ false → a g ≡ 0)
+    → ((j n g : ℕ) (y : Received) → slice_get (conns j).down n ≡ Some y → y.token ≡ ForAttach g → y.reply.status
+    ≡ success → c.live ≡ true → (apply t x0.message now v).server.present c.session ≡ true
+    → t.standing (open_at c g) ≡ true → closes_in x0.message.command (open_at c g) ≡ true
+    → (apply t x0.message now v).server.standing (open_at c g) ≡ false → c.attached (create_at c g)
+    ≡ c.session_number)
     → Locks c conns (recorded (apply t x0.message now v) rs).server a2
 quiet_serve c conns t a k x0 now v rs a2 w f off bare plain same_a shut joined =
     let m = x0.message in let A = apply t m now v in
     quiet_keeps c conns t a (recorded A rs).server a2 m.connection (closes_in m.command) w.low w.links same_a
-    (grows (news t m) (closes_in m.command) (view t) (view A.server) (entry_bytes rs) (verdict_quiet t m now v (λ o y h. (w.low.attached o y h).1) f off))
+    (grows (news t m) (closes_in m.command) (view t) (view A.server) (entry_bytes rs)
+    (verdict_quiet t m now v (λ o y h. (w.low.attached o y h).1) f off))
     (λ big. steady_recorded t A.server _ (bare_steady t m now v f (bare big)))
     plain
     (undeleting t m now v (new_kept c conns t a k x0 v w f) w.locks.kept_files) shut joined w.locks

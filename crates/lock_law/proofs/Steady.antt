@@ -1,15 +1,21 @@
 -- On a full journal no file changes: an answer whose records fit there owes none, and then leaves the files as they are,
 -- so that an open whose file would go with it goes on being such a one.
-use Rattle.std.proofs.Common.{eqb-true, ◌≡◌, ℕ, ◌+◌, ◌==◌, ◌<◌, Bool, true, false, not, ◌&&◌, ◌||◌, List, [], ◌∷◌, ◌++◌, Option, Some, None, refl, arith, sym, ◌∙◌, ap, subst}
+use Rattle.std.proofs.Common.{eqb-true, ◌≡◌, ℕ, ◌+◌, ◌==◌, ◌<◌, Bool, true, false, not, ◌&&◌, ◌||◌, List, [], ◌∷◌, ◌++◌}
+use Rattle.std.proofs.Common.{Option, Some, None, refl, arith, sym, ◌∙◌, ap, subst}
 use Rattle.exchange_defs.specs.Table.{has, is_filled, without}
 use Rattle.exchange_defs.specs.Commands.{CreateRequest, deletes_on_close, Element}
 use Rattle.exchange_defs.specs.State.{Server, Message, Open, Record, Origin, Entry}
 use Rattle.exchange_defs.specs.Files.{root, exists, exists_in, is_directory, is_full_directory, has_below, path_of, path_in}
-use Rattle.exchange_defs.specs.Opens.{goes, drop_open, leave_open, pending_behind, file_has_open, opens_in, leave_records, pending_records, shut_records, gone_records}
+use Rattle.exchange_defs.specs.Opens.{goes, drop_open, leave_open, pending_behind, file_has_open, opens_in}
+use Rattle.exchange_defs.specs.Opens.{leave_records, pending_records, shut_records, gone_records}
 use Rattle.exchange_defs.specs.CheckOpen.{file_of}
 use Rattle.exchange_defs.specs.Records.{fits, lower_limit, origin_of}
-use Rattle.exchange_defs.specs.Effects.{apply, change_records, create_records, lock_records, leave_all_records, end_records, records_if_named, plain_of}
-use Rattle.exchange_defs.specs.Verdict.{Verdict, Refuse, Give, KeepRefusal, Repeat, Attach, Make, TurnDown, Tell, Show, KeepSlot, PutRanges, Alter, CloseOpen, Challenge, ChallengeBinding, Begin, Join, EndSession, AddTree, DropTree, Change, PutBytes, PutEnd, PutBasic, PutDeletePending, PutPath, PutNothing}
+use Rattle.exchange_defs.specs.Effects.{apply, change_records, create_records, lock_records, leave_all_records}
+use Rattle.exchange_defs.specs.Effects.{end_records, records_if_named, plain_of}
+use Rattle.exchange_defs.specs.Verdict.{Verdict, Refuse, Give, KeepRefusal, Repeat, Attach, Make, TurnDown, Tell, Show}
+use Rattle.exchange_defs.specs.Verdict.{KeepSlot, PutRanges, Alter, CloseOpen, Challenge, ChallengeBinding, Begin, Join}
+use Rattle.exchange_defs.specs.Verdict.{EndSession, AddTree, DropTree, Change, PutBytes, PutEnd, PutBasic}
+use Rattle.exchange_defs.specs.Verdict.{PutDeletePending, PutPath, PutNothing}
 use Rattle.server_law.proofs.Logic.{either}
 use Rattle.server_law.proofs.Lists.{has-without, none-open}
 use Rattle.lock_law.specs.Locks.{goes_with}
@@ -31,11 +37,13 @@ unfolding heads
 heads_more [] ys f g = g
 heads_more (x ∷ xs) ys f g = f
 
-heads_create : (s : Server) (m : Message) (r : CreateRequest) (found : Option ℕ) (action now : ℕ) → heads (create_records s m r found action now) ≡ true
+heads_create : (s : Server) (m : Message) (r : CreateRequest) (found : Option ℕ) (action now : ℕ)
+    → heads (create_records s m r found action now) ≡ true
 unfolding create_records heads is_big
 heads_create s m r found action now = grind arith
 
-heads_lock : (s : Server) (m : Message) (o index number status : ℕ) (es : List Element) → heads (lock_records s m o index number status es) ≡ true
+heads_lock : (s : Server) (m : Message) (o index number status : ℕ) (es : List Element)
+    → heads (lock_records s m o index number status es) ≡ true
 unfolding lock_records heads is_big
 heads_lock s m o index number status es = grind arith
 
@@ -62,7 +70,9 @@ heads_gone s origin f = grind arith
 
 pub heads_leave : (s : Server) (origin : Origin) (o : ℕ) → heads (leave_records s origin o) ≡ true
 unfolding leave_records
-heads_leave s origin o = heads_more (pending_records s origin o) _ (heads_pending s origin o) (heads_more (shut_records s origin o) _ (heads_shut s origin o) (heads_gone (drop_open (pending_behind s o) o) origin (s.opened o).file))
+heads_leave s origin o = heads_more (pending_records s origin o) _ (heads_pending s origin o)
+    (heads_more (shut_records s origin o) _ (heads_shut s origin o) (heads_gone (drop_open (pending_behind s o) o)
+    origin (s.opened o).file))
 
 heads_all : (s : Server) (origin : Origin) (os : List ℕ) → heads (leave_all_records s origin os) ≡ true
 unfolding leave_all_records heads
@@ -108,9 +118,11 @@ pub record Steady (t u : Server) : Type 0 where
   pub entries : u.entries ≡ t.entries
   pub delete_pending : (f : ℕ) → u.delete_pending f ≡ t.delete_pending f
   pub directory : (f : ℕ) → u.directory f ≡ t.directory f
-  pub others : (p f : ℕ) → has p u.opens ≡ true → (u.opened p).file ≡ f → t.delete_pending f ≡ true → has p t.opens ≡ true × (t.opened p).file ≡ f
+  pub others : (p f : ℕ) → has p u.opens ≡ true → (u.opened p).file ≡ f → t.delete_pending f ≡ true → has p t.opens
+      ≡ true × (t.opened p).file ≡ f
 
-pub steady_same : (t u : Server) → u.entries ≡ t.entries → u.delete_pending ≡ t.delete_pending → u.directory ≡ t.directory → u.opens ≡ t.opens → u.opened ≡ t.opened → Steady t u
+pub steady_same : (t u : Server) → u.entries ≡ t.entries → u.delete_pending ≡ t.delete_pending → u.directory
+    ≡ t.directory → u.opens ≡ t.opens → u.opened ≡ t.opened → Steady t u
 steady_same t u e m d o p =
     record {
       entries = e;
@@ -132,13 +144,19 @@ steady_on t u v a b =
 
 abbrev goes_by : (ℕ → Bool) → List Entry → (ℕ → Bool) → (ℕ → Open) → List ℕ → ℕ → ℕ → Bool
 goes_by delete_pending entries directory opened opens o f =
-    delete_pending f && (not (f == root) && (((f == root) || exists_in entries f) && (not (is_filled (opens_in opened (without o opens) f)) && not (((f == root) || directory f) && has_below entries (path_in entries f)))))
+    delete_pending f && (not (f == root)
+    && (((f == root) || exists_in entries f) && (not (is_filled (opens_in opened (without o opens) f))
+    && not (((f == root) || directory f) && has_below entries (path_in entries f)))))
 
-goes_is : (s : Server) (o : ℕ) → deletes_on_close (s.opened o).options ≡ false → goes_with s o ≡ goes_by s.delete_pending s.entries s.directory s.opened s.opens o (s.opened o).file
+goes_is : (s : Server) (o : ℕ) → deletes_on_close (s.opened o).options ≡ false → goes_with s o
+    ≡ goes_by s.delete_pending s.entries s.directory s.opened s.opens o (s.opened o).file
 unfolding goes_with goes exists file_has_open is_full_directory is_directory path_of
-goes_is s o d = either (λ z. goes (drop_open z o) (s.opened o).file ≡ goes_by s.delete_pending s.entries s.directory s.opened s.opens o (s.opened o).file) (deletes_on_close (s.opened o).options) _ _ (λ e. absurd (grind arith)) (λ _. refl)
+goes_is s o d = either (λ z. goes (drop_open z o) (s.opened o).file ≡ goes_by s.delete_pending s.entries s.directory
+    s.opened s.opens o (s.opened o).file) (deletes_on_close (s.opened o).options) _ _ (λ e. absurd (grind arith))
+    (λ _. refl)
 
-none_filled : (opened : ℕ → Open) (os : List ℕ) (f : ℕ) → ((p : ℕ) → has p os ≡ true → ((opened p).file == f) ≡ false) → is_filled (opens_in opened os f) ≡ false
+none_filled : (opened : ℕ → Open) (os : List ℕ) (f : ℕ) → ((p : ℕ) → has p os ≡ true → ((opened p).file == f) ≡ false)
+    → is_filled (opens_in opened os f) ≡ false
 unfolding opens_in is_filled
 none_filled opened [] f none = refl
 none_filled opened (o ∷ os) f none =
@@ -156,7 +174,8 @@ not_file x f no1 = elim (x == f) as (λ b. x == f ≡ b → (x == f) ≡ false) 
   | false ↦ λ e. e
 ] refl
 
-lone : (t u : Server) (o : ℕ) → Steady t u → (u.opened o).file ≡ (t.opened o).file → t.delete_pending (t.opened o).file ≡ true → is_filled (opens_in t.opened (without o t.opens) (t.opened o).file) ≡ false
+lone : (t u : Server) (o : ℕ) → Steady t u → (u.opened o).file ≡ (t.opened o).file → t.delete_pending (t.opened o).file
+    ≡ true → is_filled (opens_in t.opened (without o t.opens) (t.opened o).file) ≡ false
     → is_filled (opens_in u.opened (without o u.opens) (t.opened o).file) ≡ false
 lone t u o st row mk none =
     none_filled u.opened (without o u.opens) (t.opened o).file (λ p h.
@@ -169,14 +188,22 @@ lone t u o st row mk none =
     let ht : has p (without o t.opens) ≡ true = grind arith in
     let n = none-open t.opened (without o t.opens) (t.opened o).file p none ht in grind arith))
 
-pub goes_on : (t u : Server) (o : ℕ) → Steady t u → u.opened o ≡ t.opened o → deletes_on_close (t.opened o).options ≡ false → goes_with t o ≡ true → goes_with u o ≡ true
+pub goes_on : (t u : Server) (o : ℕ) → Steady t u → u.opened o ≡ t.opened o → deletes_on_close (t.opened o).options
+    ≡ false → goes_with t o ≡ true → goes_with u o ≡ true
 goes_on t u o st row d g =
     let f = (t.opened o).file in
     let gt : goes_by t.delete_pending t.entries t.directory t.opened t.opens o f ≡ true = sym (goes_is t o d) ∙ g in
-    let p5 = parts5 (t.delete_pending f) (not (f == root)) ((f == root) || exists_in t.entries f) (is_filled (opens_in t.opened (without o t.opens) f)) (not (((f == root) || t.directory f) && has_below t.entries (path_in t.entries f))) gt in
+    let p5 = parts5 (t.delete_pending f) (not (f == root)) ((f == root) || exists_in t.entries f)
+    (is_filled (opens_in t.opened (without o t.opens) f))
+    (not (((f == root) || t.directory f) && has_below t.entries (path_in t.entries f))) gt in
     let rowf : (u.opened o).file ≡ f = ap (λ r. r.file) row in
     let du : deletes_on_close (u.opened o).options ≡ false = subst (λ r. deletes_on_close r.options ≡ false) (sym row) d in
     goes_is u o du ∙ subst (λ z. goes_by u.delete_pending u.entries u.directory u.opened u.opens o z ≡ true) (sym rowf)
-    (all5 (u.delete_pending f) (not (f == root)) ((f == root) || exists_in u.entries f) (is_filled (opens_in u.opened (without o u.opens) f)) (not (((f == root) || u.directory f) && has_below u.entries (path_in u.entries f)))
-    (st.delete_pending f ∙ p5.0) p5.1 (subst (λ z. ((f == root) || exists_in z f) ≡ true) (sym st.entries) p5.2) (lone t u o st rowf p5.0 p5.3)
-    (subst (λ z. not (((f == root) || u.directory f) && has_below z (path_in z f)) ≡ true) (sym st.entries) (subst (λ z. not (((f == root) || z) && has_below t.entries (path_in t.entries f)) ≡ true) (sym (st.directory f)) p5.4)))
+    (all5 (u.delete_pending f) (not (f == root)) ((f == root) || exists_in u.entries f)
+    (is_filled (opens_in u.opened (without o u.opens) f))
+    (not (((f == root) || u.directory f) && has_below u.entries (path_in u.entries f)))
+    (st.delete_pending f ∙ p5.0) p5.1 (subst (λ z. ((f == root) || exists_in z f) ≡ true) (sym st.entries) p5.2)
+    (lone t u o st rowf p5.0 p5.3)
+    (subst (λ z. not (((f == root) || u.directory f) && has_below z (path_in z f)) ≡ true) (sym st.entries)
+    (subst (λ z. not (((f == root) || z) && has_below t.entries (path_in t.entries f)) ≡ true)
+    (sym (st.directory f)) p5.4)))

@@ -5,7 +5,9 @@ use Rattle.exchange_defs.specs.Commands.{deletes_on_close}
 use Rattle.exchange_defs.specs.State.{Server, Message, Open}
 use Rattle.exchange_defs.specs.CheckOpen.{is_slot, file_of}
 use Rattle.exchange_defs.specs.Effects.{apply, reach, attached, keep_slot, set_ranges, open_row, new_file, next_open, end_if_named}
-use Rattle.exchange_defs.specs.Verdict.{Verdict, Refuse, Give, KeepRefusal, Repeat, Attach, Make, TurnDown, Tell, Show, KeepSlot, PutRanges, Alter, CloseOpen, Challenge, ChallengeBinding, Begin, Join, EndSession, AddTree, DropTree}
+use Rattle.exchange_defs.specs.Verdict.{Verdict, Refuse, Give, KeepRefusal, Repeat, Attach, Make, TurnDown, Tell, Show}
+use Rattle.exchange_defs.specs.Verdict.{KeepSlot, PutRanges, Alter, CloseOpen, Challenge, ChallengeBinding, Begin, Join}
+use Rattle.exchange_defs.specs.Verdict.{EndSession, AddTree, DropTree}
 use Rattle.server_law.proofs.Logic.{either}
 use Rattle.lock_law.proofs.Views.{View, view, reach_view, change_view, shut_view, make_view}
 use Rattle.lock_law.proofs.Verdicts.{show_view}
@@ -26,29 +28,37 @@ attached_kept t m o k = either (λ u. NoDelete (view u)) (is_some (t.session_of_
 slot_kept : (s : Server) (o index number status : ℕ) → NoDelete (view s) → NoDelete (view (keep_slot s o index number status))
 slot_kept s o index number status k = either (λ u. NoDelete (view u)) (is_slot index) _ _ (λ _. k) (λ _. k)
 
-pub end_kept : (t : Server) (now : ℕ) (named : Option ℕ) (quiet : Bool) → NoDelete (view t) → NoDelete (view (end_if_named t now named quiet))
+pub end_kept : (t : Server) (now : ℕ) (named : Option ℕ) (quiet : Bool) → NoDelete (view t)
+    → NoDelete (view (end_if_named t now named quiet))
 end_kept t now None quiet k = k
 end_kept t now (Some x) quiet k = λ o st. k o (grind arith)
 
-new_kept : (v : View) (o0 : ℕ) (row : Open) → deletes_on_close row.options ≡ false → NoDelete v → (o : ℕ) → put v.standing o0 true o ≡ true → deletes_on_close (put v.opened o0 row o).options ≡ false
+new_kept : (v : View) (o0 : ℕ) (row : Open) → deletes_on_close row.options ≡ false → NoDelete v → (o : ℕ)
+    → put v.standing o0 true o ≡ true → deletes_on_close (put v.opened o0 row o).options ≡ false
 new_kept v o0 row d k o st = let old = k o in grind arith
 
 left_kept : (v : View) (o0 : ℕ) → NoDelete v → (o : ℕ) → put v.standing o0 false o ≡ true → deletes_on_close (v.opened o).options ≡ false
 left_kept v o0 k o st = k o (grind arith)
 
-pub undeleting : (t : Server) (m : Message) (now : ℕ) (v : Verdict) → NewKept v → NoDelete (view t) → NoDelete (view (apply t m now v).server)
+pub undeleting : (t : Server) (m : Message) (now : ℕ) (v : Verdict) → NewKept v → NoDelete (view t)
+    → NoDelete (view (apply t m now v).server)
 undeleting t m now (Refuse status) n k = k
 undeleting t m now (Give body) n k = k
 undeleting t m now (KeepRefusal guid status) n k = k
 undeleting t m now (Repeat o r) n k = attached_kept t m o k
 undeleting t m now (Attach o r) n k = attached_kept t m o k
-undeleting t m now (Make r found action) n k = subst (λ z. NoDelete z) (sym (make_view t m r found action now)) (new_kept (view t) (next_open t) (open_row t m r (new_file t found) action) n k)
+undeleting t m now (Make r found action) n k = subst (λ z. NoDelete z) (sym (make_view t m r found action now))
+    (new_kept (view t) (next_open t) (open_row t m r (new_file t found) action) n k)
 undeleting t m now (TurnDown o status) n k = same_view (view t) _ (reach_view t m o) k
 undeleting t m now (Tell o body) n k = same_view (view t) _ (reach_view t m o) k
 undeleting t m now (Show o last body) n k = same_view (view t) _ (show_view t m o last) k
-undeleting t m now (KeepSlot o index number status elements) n k = slot_kept (reach t m o) o index number status (same_view (view t) _ (reach_view t m o) k)
-undeleting t m now (PutRanges o index number ranges elements) n k = slot_kept (set_ranges (reach t m o) (file_of t o) ranges) o index number 0 (same_view (view t) _ (reach_view t m o) k)
-undeleting t m now (Alter o change body) n k = same_view (view t) _ (change_view (reach t m o) (file_of t o) now change ∙ reach_view t m o) k
+undeleting t m now (KeepSlot o index number status elements) n k = slot_kept (reach t m o) o index number status
+    (same_view (view t) _ (reach_view t m o) k)
+undeleting t m now (PutRanges o index number ranges elements) n k =
+    slot_kept (set_ranges (reach t m o) (file_of t o) ranges) o index number 0
+    (same_view (view t) _ (reach_view t m o) k)
+undeleting t m now (Alter o change body) n k = same_view (view t) _ (change_view (reach t m o) (file_of t o) now change
+    ∙ reach_view t m o) k
 undeleting t m now (CloseOpen o body) n k = subst (λ z. NoDelete z) (sym (shut_view t o m.session_id)) (left_kept (view t) o k)
 undeleting t m now Challenge n k = k
 undeleting t m now (ChallengeBinding session) n k = k

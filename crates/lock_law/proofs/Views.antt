@@ -1,5 +1,6 @@
 -- What the server's effects do to sessions, opens and slots, as far as locks go.
-use Rattle.std.proofs.Common.{eqb-true, ◌≡◌, ◌≢◌, ◌⊎◌, inl, ℕ, ◌+◌, ◌==◌, ◌≤◌, ◌<◌, Bool, true, false, not, ◌&&◌, if◌then◌else◌, Option, Some, None, refl, arith, sym, ◌∙◌, ap, subst}
+use Rattle.std.proofs.Common.{eqb-true, ◌≡◌, ◌≢◌, ◌⊎◌, inl, ℕ, ◌+◌, ◌==◌, ◌≤◌, ◌<◌, Bool, true, false, not, ◌&&◌}
+use Rattle.std.proofs.Common.{if◌then◌else◌, Option, Some, None, refl, arith, sym, ◌∙◌, ap, subst}
 use Rattle.exchange_defs.specs.Table.{put, is_at}
 use Rattle.exchange_defs.specs.Commands.{CreateRequest, deletes_on_close}
 use Rattle.exchange_defs.specs.State.{Server, Message, Open, Kept}
@@ -7,7 +8,8 @@ use Rattle.exchange_defs.specs.Files.{set_delete_pending}
 use Rattle.exchange_defs.specs.Opens.{id_of, drop_open, leave_open, pending_behind, goes, with_guid}
 use Rattle.exchange_defs.specs.CheckCreate.{empties}
 use Rattle.exchange_defs.specs.CheckOpen.{is_late}
-use Rattle.exchange_defs.specs.Effects.{reach, keep_closed, change_file, make_open, open_row, new_file, next_open, guid_of, end_session, guid_staying, leaves, cleared}
+use Rattle.exchange_defs.specs.Effects.{reach, keep_closed, change_file, make_open, open_row, new_file, next_open}
+use Rattle.exchange_defs.specs.Effects.{guid_of, end_session, guid_staying, leaves, cleared}
 use Rattle.exchange_defs.specs.Verdict.{Change, PutBytes, PutEnd, PutBasic, PutDeletePending, PutPath, PutNothing}
 use Rattle.exchange_defs.specs.Step.{expire, add_expired_guid}
 use Rattle.server_law.proofs.Logic.{either}
@@ -23,14 +25,24 @@ pub record View : Type 0 where
   pub journal : ℕ
 
 abbrev pub view : Server → View
-view s = record { present = s.present; standing = s.standing; session_of_open = s.session_of_open; lock_sequences = s.lock_sequences; opened = s.opened; by_guid = s.by_guid; last = id_of s.epoch s.open_ids_given; journal = s.journal }
+view s = record {
+  present = s.present;
+  standing = s.standing;
+  session_of_open = s.session_of_open;
+  lock_sequences = s.lock_sequences;
+  opened = s.opened;
+  by_guid = s.by_guid;
+  last = id_of s.epoch s.open_ids_given;
+  journal = s.journal;
+}
 
 -- ---- what no answer does, but that to a lock or a close
 -- begins: the sessions that are in the making on its connection; closes: the opens that it closes
 pub record Quiet (begins closes : ℕ → Bool) (v u : View) : Type 0 where
   pub present : (x : ℕ) → u.present x ≡ true → v.present x ≡ false → begins x ≡ true
   pub standing : (o : ℕ) → o ≤ v.last → u.standing o ≡ true → v.standing o ≡ true
-  pub session_of_open : (o y : ℕ) → o ≤ v.last → v.session_of_open o ≡ Some y → u.standing o ≡ true → u.present y ≡ true → u.session_of_open o ≡ Some y
+  pub session_of_open : (o y : ℕ) → o ≤ v.last → v.session_of_open o ≡ Some y → u.standing o ≡ true → u.present y ≡ true
+      → u.session_of_open o ≡ Some y
   pub lock_sequences : (o i : ℕ) → o ≤ v.last → u.lock_sequences o i ≡ v.lock_sequences o i
   pub opened : (o : ℕ) → o ≤ v.last → u.opened o ≡ v.opened o
   pub named : (c g o i : ℕ) → u.by_guid c g ≡ Some o → (v.by_guid c g ≡ Some o) ⊎ (u.lock_sequences o i ≡ None)
@@ -54,7 +66,8 @@ pub same : (begins closes : ℕ → Bool) (v u : View) → u ≡ v → Quiet beg
 same begins closes v u e = subst (λ z. Quiet begins closes v z) (sym e) (stays begins closes v)
 
 -- an open without a session is attached
-pub attaches : (begins closes : ℕ → Bool) (v : View) (o0 x0 : ℕ) → v.session_of_open o0 ≡ None → Quiet begins closes v (record v { session_of_open = put v.session_of_open o0 (Some x0) })
+pub attaches : (begins closes : ℕ → Bool) (v : View) (o0 x0 : ℕ) → v.session_of_open o0 ≡ None
+    → Quiet begins closes v (record v { session_of_open = put v.session_of_open o0 (Some x0) })
 attaches begins closes v o0 x0 none =
     record {
       present = λ x h n. absurd (grind arith);
@@ -69,9 +82,18 @@ attaches begins closes v o0 x0 none =
 
 -- a new open
 abbrev pub made_view : View → ℕ → Open → ℕ → (ℕ → ℕ → Option ℕ) → View
-made_view v o row x by = record v { standing = put v.standing o true; opened = put v.opened o row; session_of_open = put v.session_of_open o (Some x); lock_sequences = put v.lock_sequences o (λ i. None); by_guid = by; last = o }
+made_view v o row x by = record v {
+  standing = put v.standing o true;
+  opened = put v.opened o row;
+  session_of_open = put v.session_of_open o (Some x);
+  lock_sequences = put v.lock_sequences o (λ i. None);
+  by_guid = by;
+  last = o;
+}
 
-pub makes : (begins closes : ℕ → Bool) (v : View) (o0 x0 : ℕ) (row : Open) (by : ℕ → ℕ → Option ℕ) → v.last < o0 → ((c g o : ℕ) → by c g ≡ Some o → (v.by_guid c g ≡ Some o) ⊎ (o ≡ o0)) → Quiet begins closes v (made_view v o0 row x0 by)
+pub makes : (begins closes : ℕ → Bool) (v : View) (o0 x0 : ℕ) (row : Open) (by : ℕ → ℕ → Option ℕ) → v.last < o0
+    → ((c g o : ℕ) → by c g ≡ Some o → (v.by_guid c g ≡ Some o) ⊎ (o ≡ o0))
+    → Quiet begins closes v (made_view v o0 row x0 by)
 makes begins closes v o0 x0 row by above new =
     record {
       present = λ x h n. absurd (grind arith);
@@ -97,7 +119,9 @@ makes begins closes v o0 x0 row by above new =
 abbrev pub left_view : View → ℕ → (ℕ → ℕ → Option ℕ) → View
 left_view v o by = record v { standing = put v.standing o false; session_of_open = put v.session_of_open o None; by_guid = by }
 
-pub leaves_by : (begins closes : ℕ → Bool) (v : View) (o0 : ℕ) (by : ℕ → ℕ → Option ℕ) → ((o y : ℕ) → closes o ≡ false → v.session_of_open o ≡ Some y → o ≢ o0) → ((c g o : ℕ) → by c g ≡ Some o → v.by_guid c g ≡ Some o) → Quiet begins closes v (left_view v o0 by)
+pub leaves_by : (begins closes : ℕ → Bool) (v : View) (o0 : ℕ) (by : ℕ → ℕ → Option ℕ)
+    → ((o y : ℕ) → closes o ≡ false → v.session_of_open o ≡ Some y → o ≢ o0)
+    → ((c g o : ℕ) → by c g ≡ Some o → v.by_guid c g ≡ Some o) → Quiet begins closes v (left_view v o0 by)
 leaves_by begins closes v o0 by which old =
     record {
       present = λ x h n. absurd (grind arith);
@@ -112,9 +136,16 @@ leaves_by begins closes v o0 by which old =
 
 -- a session ends
 abbrev pub ended_view : View → ℕ → (ℕ → Bool) → (ℕ → ℕ → Option ℕ) → View
-ended_view v x gone by = record v { present = put v.present x false; standing = λ o. v.standing o && not (gone o); session_of_open = λ o. cleared x (v.session_of_open o); by_guid = by }
+ended_view v x gone by = record v {
+  present = put v.present x false;
+  standing = λ o. v.standing o && not (gone o);
+  session_of_open = λ o. cleared x (v.session_of_open o);
+  by_guid = by;
+}
 
-pub ends : (begins closes : ℕ → Bool) (v : View) (x0 : ℕ) (gone : ℕ → Bool) (by : ℕ → ℕ → Option ℕ) → ((o : ℕ) → gone o ≡ true → v.session_of_open o ≡ Some x0) → ((c g o : ℕ) → by c g ≡ Some o → v.by_guid c g ≡ Some o) → Quiet begins closes v (ended_view v x0 gone by)
+pub ends : (begins closes : ℕ → Bool) (v : View) (x0 : ℕ) (gone : ℕ → Bool) (by : ℕ → ℕ → Option ℕ)
+    → ((o : ℕ) → gone o ≡ true → v.session_of_open o ≡ Some x0) → ((c g o : ℕ) → by c g ≡ Some o → v.by_guid c g
+    ≡ Some o) → Quiet begins closes v (ended_view v x0 gone by)
 ends begins closes v x0 gone by its old =
     record {
       present = λ x h n. absurd (grind arith);
@@ -134,7 +165,9 @@ ends begins closes v x0 gone by its old =
     kept_at_it o y w e p = let d = apart y p in grind arith
 
 -- a session begins
-pub begins_one : (begins closes : ℕ → Bool) (v : View) (x0 : ℕ) → begins x0 ≡ true → Quiet begins closes v (record v { present = put v.present x0 true })
+pub begins_one : (begins closes : ℕ → Bool) (v : View) (x0 : ℕ) → begins x0 ≡ true → Quiet begins closes v (record v {
+  present = put v.present x0 true;
+})
 begins_one begins closes v x0 may =
     record {
       present = λ x h n. grind arith;
@@ -148,9 +181,19 @@ begins_one begins closes v x0 may =
     }
 
 -- the journal grows
-pub grows : (begins closes : ℕ → Bool) (v u : View) (n : ℕ) → Quiet begins closes v u → Quiet begins closes v (record u { journal = u.journal + n })
+pub grows : (begins closes : ℕ → Bool) (v u : View) (n : ℕ) → Quiet begins closes v u
+    → Quiet begins closes v (record u { journal = u.journal + n })
 grows begins closes v u n q =
-    record { present = q.present; standing = q.standing; session_of_open = q.session_of_open; lock_sequences = q.lock_sequences; opened = q.opened; named = q.named; lasts = q.lasts; journal = let l = q.journal in grind arith }
+    record {
+      present = q.present;
+      standing = q.standing;
+      session_of_open = q.session_of_open;
+      lock_sequences = q.lock_sequences;
+      opened = q.opened;
+      named = q.named;
+      lasts = q.lasts;
+      journal = let l = q.journal in grind arith;
+    }
 
 -- ---- the effects
 
@@ -168,7 +211,9 @@ change_view s f now PutNothing = refl
 abbrev pub without_guid : Server → ℕ → ℕ → ℕ → Option ℕ
 without_guid s o = with_guid s.by_guid (s.opened o).client_guid (s.opened o).create_guid None
 
-drop_view : (s : Server) (o : ℕ) (b : Bool) → view (drop_open (if b then set_delete_pending s (s.opened o).file true else s) o) ≡ left_view (view s) o (without_guid s o)
+drop_view : (s : Server) (o : ℕ) (b : Bool)
+    → view (drop_open (if b then set_delete_pending s (s.opened o).file true else s) o)
+    ≡ left_view (view s) o (without_guid s o)
 drop_view s o true = refl
 drop_view s o false = refl
 
@@ -183,7 +228,8 @@ closed_view : (s : Server) (x : ℕ) (q : Option ℕ) → view (keep_closed s x 
 closed_view s x None = refl
 closed_view s x (Some g) = refl
 
-pub shut_view : (s : Server) (o x : ℕ) → view (keep_closed (leave_open s o) x (s.opened o).create_guid) ≡ left_view (view s) o (without_guid s o)
+pub shut_view : (s : Server) (o x : ℕ) → view (keep_closed (leave_open s o) x (s.opened o).create_guid)
+    ≡ left_view (view s) o (without_guid s o)
 shut_view s o x = closed_view (leave_open s o) x (s.opened o).create_guid ∙ leave_view s o
 
 expired_view : (s : Server) (client : ℕ) (q : Option ℕ) → view (add_expired_guid s client q) ≡ view s
@@ -193,15 +239,18 @@ expired_view s client (Some g) = refl
 pub expire_view : (s : Server) (o : ℕ) → view (expire s o) ≡ left_view (view s) o (without_guid s o)
 expire_view s o = expired_view (leave_open s o) (s.opened o).client_guid (s.opened o).create_guid ∙ leave_view s o
 
-pub still_named : (by : ℕ → ℕ → Option ℕ) (client : ℕ) (u : Option ℕ) (c g o : ℕ) → with_guid by client u None c g ≡ Some o → by c g ≡ Some o
+pub still_named : (by : ℕ → ℕ → Option ℕ) (client : ℕ) (u : Option ℕ) (c g o : ℕ) → with_guid by client u None c g
+    ≡ Some o → by c g ≡ Some o
 still_named by client None c g o e = e
 still_named by client (Some h) c g o e = grind arith
 
-pub newly_named : (by : ℕ → ℕ → Option ℕ) (client o0 : ℕ) (u : Option ℕ) (c g o : ℕ) → with_guid by client u (Some o0) c g ≡ Some o → (by c g ≡ Some o) ⊎ (o ≡ o0)
+pub newly_named : (by : ℕ → ℕ → Option ℕ) (client o0 : ℕ) (u : Option ℕ) (c g o : ℕ) → with_guid by client u (Some o0) c
+    g ≡ Some o → (by c g ≡ Some o) ⊎ (o ≡ o0)
 newly_named by client o0 None c g o e = inl e
 newly_named by client o0 (Some h) c g o e = grind arith
 
-pub end_view : (s : Server) (x now : ℕ) (quiet : Bool) → view (end_session s x now quiet) ≡ ended_view (view s) x (λ o. leaves s x o) (λ c g. guid_staying s x (s.by_guid c g))
+pub end_view : (s : Server) (x now : ℕ) (quiet : Bool) → view (end_session s x now quiet)
+    ≡ ended_view (view s) x (λ o. leaves s x o) (λ c g. guid_staying s x (s.by_guid c g))
 end_view s x now quiet = refl
 
 pub staying_named : (s : Server) (x : ℕ) (u : Option ℕ) (o : ℕ) → guid_staying s x u ≡ Some o → u ≡ Some o
@@ -215,14 +264,20 @@ its_session s x o e = of_at (s.session_of_open o) (s.opened o).persistent e
     of_at None b e = absurd (cc)
     of_at (Some y) b e = let t : (y == x) ≡ true = grind arith in ap (λ z. Some z) (eqb-true y x t)
 
-pub end_quiet : (begins closes : ℕ → Bool) (s : Server) (x now : ℕ) (quiet : Bool) → Quiet begins closes (view s) (view (end_session s x now quiet))
-end_quiet begins closes s x now quiet = ends begins closes (view s) x (λ o. leaves s x o) (λ c g. guid_staying s x (s.by_guid c g)) (its_session s x) (λ c g o e. staying_named s x (s.by_guid c g) o e)
+pub end_quiet : (begins closes : ℕ → Bool) (s : Server) (x now : ℕ) (quiet : Bool) → Quiet begins closes (view s)
+    (view (end_session s x now quiet))
+end_quiet begins closes s x now quiet = ends begins closes (view s) x (λ o. leaves s x o)
+    (λ c g. guid_staying s x (s.by_guid c g)) (its_session s x) (λ c g o e. staying_named s x (s.by_guid c g) o e)
 
 pub make_view : (s : Server) (m : Message) (r : CreateRequest) (found : Option ℕ) (action now : ℕ)
-    → view (make_open s m r found action now) ≡ made_view (view s) (next_open s) (open_row s m r (new_file s found) action) m.session_id (with_guid s.by_guid m.client_guid (guid_of r.durable) (Some (next_open s)))
+    → view (make_open s m r found action now) ≡ made_view (view s) (next_open s)
+    (open_row s m r (new_file s found) action) m.session_id (with_guid s.by_guid m.client_guid (guid_of r.durable)
+    (Some (next_open s)))
 make_view s m r None action now = refl
 make_view s m r (Some f) action now = by_kind (empties r.disposition) refl
   where
-    by_kind : (b : Bool) → empties r.disposition ≡ b → view (make_open s m r (Some f) action now) ≡ made_view (view s) (next_open s) (open_row s m r f action) m.session_id (with_guid s.by_guid m.client_guid (guid_of r.durable) (Some (next_open s)))
+    by_kind : (b : Bool) → empties r.disposition ≡ b → view (make_open s m r (Some f) action now)
+        ≡ made_view (view s) (next_open s) (open_row s m r f action) m.session_id
+        (with_guid s.by_guid m.client_guid (guid_of r.durable) (Some (next_open s)))
     by_kind true e = rw e refl
     by_kind false e = rw e refl

@@ -6,7 +6,8 @@ use Rattle.exchange_defs.specs.Dialogs.{went_on}
 use Rattle.exchange_defs.specs.Network.{Conn}
 use Rattle.lock_law.specs.Locks.{Locks}
 
-pub went_on_keeps : (c : Client) (conns : ℕ → Conn) (s : Server) (a : ℕ → ℕ) (k : ℕ) (stage : Stage) (r0 : Reply) → Locks c conns s a → Locks (went_on c k stage r0) conns s a
+pub went_on_keeps : (c : Client) (conns : ℕ → Conn) (s : Server) (a : ℕ → ℕ) (k : ℕ) (stage : Stage) (r0 : Reply)
+    → Locks c conns s a → Locks (went_on c k stage r0) conns s a
 went_on_keeps c conns s a k stage r0 i =
     record {
       slot_index = i.slot_index;

@@ -1,11 +1,13 @@
 -- What the closed words on operations and outcomes say, and what waits.
 use Rattle.std.proofs.lemmas.Bool.{eqb-false}
-use Rattle.std.proofs.Common.{eqb-true, ◌≡◌, ◌≢◌, ℕ, ◌≤◌, ◌<◌, ◌==◌, true, false, refl, arith, sym, subst, Option, Some, None, slice_get, is_some}
+use Rattle.std.proofs.Common.{eqb-true, ◌≡◌, ◌≢◌, ℕ, ◌≤◌, ◌<◌, ◌==◌, true, false, refl, arith, sym, subst, Option, Some}
+use Rattle.std.proofs.Common.{None, slice_get, is_some}
 use Rattle.exchange_defs.specs.State.{Kept}
 use Rattle.exchange_defs.specs.Operations.{Op, Outcome, is_unsettled, is_ok}
 use Rattle.exchange_defs.specs.Client.{Client}
 use Rattle.exchange_defs.specs.Network.{Conn, Sent, Received, ForOp, ForAttach}
-use Rattle.exchange_law.specs.Connections.{copies, makes_open, shuts_open, acts_once, its_create, create_at, Outstanding, DownOpen, HasOpen, Taken, Creates}
+use Rattle.exchange_law.specs.Connections.{copies, makes_open, shuts_open, acts_once, its_create, create_at}
+use Rattle.exchange_law.specs.Connections.{Outstanding, DownOpen, HasOpen, Taken, Creates}
 use Rattle.exchange_law.proofs.Lists.{own_up_count, own_down_count, attach_down_count}
 use Rattle.session_law.specs.Sessions.{is_ops}
 use Rattle.lock_law.specs.Locks.{locking, kept_at, firm, is_unsent, refused_for_good}
@@ -110,24 +112,29 @@ pub more_asks : (c : Conn) (g : ℕ) (n : ℕ) (y : Received) → slice_get c.do
 more_asks c g n y h t = let l = attach_down_count g c.down n y h t in omega (arith, l)
 
 -- a reply waits on an open connection
-pub down_is_open : (conns : ℕ → Conn) → DownOpen conns → (j n : ℕ) (y : Received) → slice_get (conns j).down n ≡ Some y → (conns j).client_open ≡ true
+pub down_is_open : (conns : ℕ → Conn) → DownOpen conns → (j n : ℕ) (y : Received) → slice_get (conns j).down n ≡ Some y
+    → (conns j).client_open ≡ true
 down_is_open conns d j n y h = let e = d j in grind arith
 
 -- the copy on an open connection is outstanding there
-pub up_on : (c : Client) (conns : ℕ → Conn) → Outstanding c conns → (j n g : ℕ) (x : Sent) → slice_get (conns j).up n ≡ Some x → x.token ≡ ForOp g → 0 < g → (conns j).client_open ≡ true → c.outstanding_on g ≡ Some j
+pub up_on : (c : Client) (conns : ℕ → Conn) → Outstanding c conns → (j n g : ℕ) (x : Sent) → slice_get (conns j).up n
+    ≡ Some x → x.token ≡ ForOp g → 0 < g → (conns j).client_open ≡ true → c.outstanding_on g ≡ Some j
 up_on c conns o j n g x h t pos op = o j g op (more_up (conns j) g n x h t) pos
 
-pub down_on : (c : Client) (conns : ℕ → Conn) → Outstanding c conns → DownOpen conns → (j n g : ℕ) (y : Received) → slice_get (conns j).down n ≡ Some y → y.token ≡ ForOp g → 0 < g → c.outstanding_on g ≡ Some j
+pub down_on : (c : Client) (conns : ℕ → Conn) → Outstanding c conns → DownOpen conns → (j n g : ℕ) (y : Received)
+    → slice_get (conns j).down n ≡ Some y → y.token ≡ ForOp g → 0 < g → c.outstanding_on g ≡ Some j
 down_on c conns o d j n g y h t pos = o j g (down_is_open conns d j n y h) (more_down (conns j) g n y h t) pos
 
-pub ask_on : (c : Client) (conns : ℕ → Conn) → Outstanding c conns → DownOpen conns → (j n g : ℕ) (y : Received) → slice_get (conns j).down n ≡ Some y → y.token ≡ ForAttach g → 0 < g → c.outstanding_on g ≡ Some j
+pub ask_on : (c : Client) (conns : ℕ → Conn) → Outstanding c conns → DownOpen conns → (j n g : ℕ) (y : Received)
+    → slice_get (conns j).down n ≡ Some y → y.token ≡ ForAttach g → 0 < g → c.outstanding_on g ≡ Some j
 ask_on c conns o d j n g y h t pos = o j g (down_is_open conns d j n y h) (more_asks (conns j) g n y h t) pos
 
 -- the create of what went out settled Ok
 pub ok_of : (c : Client) → HasOpen c → (g : ℕ) → c.sent g ≡ true → makes_open (c.op g) ≡ false → is_ok (c.outcome (create_at c g)) ≡ true
 ok_of c h g s m = let o = h g s in grind arith
 
-pub made_of : (c : Client) → Taken c → Creates c → (g : ℕ) → c.sent g ≡ true → makes_open (c.op g) ≡ false → makes_open (c.op (create_at c g)) ≡ true
+pub made_of : (c : Client) → Taken c → Creates c → (g : ℕ) → c.sent g ≡ true → makes_open (c.op g) ≡ false
+    → makes_open (c.op (create_at c g)) ≡ true
 made_of c t cr g s m = let k = t g s in (cr g k.0 k.1 m).2
 
 -- which tokens are an operation's

@@ -1,6 +1,7 @@
 -- What holds of locks and unlocks in every world that a run leads to, where each operation acted a g times: between the
 -- client's slots, what waits on the connections, and what the server's opens keep.
-use Rattle.std.specs.Prelude.{◌≡◌, ◌≢◌, ℕ, ◌+◌, ◌≤◌, ◌<◌, ◌==◌, Bool, true, false, if◌then◌else◌, List, Option, Some, None, is_some, slice_get}
+use Rattle.std.specs.Prelude.{◌≡◌, ◌≢◌, ℕ, ◌+◌, ◌≤◌, ◌<◌, ◌==◌, Bool, true, false, if◌then◌else◌, List, Option, Some}
+use Rattle.std.specs.Prelude.{None, is_some, slice_get}
 use Rattle.exchange_defs.specs.Status.{success, user_session_deleted, file_closed, object_name_not_found, disk_full}
 use Rattle.exchange_defs.specs.Texts.{same_name}
 use Rattle.exchange_defs.specs.Commands.{deletes_on_close}
@@ -69,7 +70,8 @@ InUse c = (g : ℕ) → c.sent g ≡ true → locking (c.op g) ≡ true → firm
 
 -- while one is unsettled, its slot never met a full disk
 abbrev pub FullFree : Client → Type 0
-FullFree c = (g : ℕ) → c.sent g ≡ true → locking (c.op g) ≡ true → is_unsettled (c.outcome g) ≡ true → c.full (create_at c g) (c.slot_of g) ≡ false
+FullFree c = (g : ℕ) → c.sent g ≡ true → locking (c.op g) ≡ true → is_unsettled (c.outcome g) ≡ true
+    → c.full (create_at c g) (c.slot_of g) ≡ false
 
 -- an open was attached in a session that was
 abbrev pub AttachedLow : Client → Type 0
@@ -85,15 +87,18 @@ ShutMade c = (q : ℕ) → c.closed_ok q ≡ true → is_ok (c.outcome q) ≡ tr
 
 -- what hasn't gone out by then settles as NoOpen
 abbrev pub ShutGone : Client → Type 0
-ShutGone c = (g : ℕ) → 0 < g → g ≤ c.taken → makes_open (c.op g) ≡ false → c.closed_ok (create_at c g) ≡ true → c.sent g ≡ false → is_unsettled (c.outcome g) ≡ false
+ShutGone c = (g : ℕ) → 0 < g → g ≤ c.taken → makes_open (c.op g) ≡ false → c.closed_ok (create_at c g) ≡ true → c.sent g
+    ≡ false → is_unsettled (c.outcome g) ≡ false
 
 -- what went out waited for the lower closes of its open, and none of them had settled Ok
 abbrev pub CloseBefore : Client → Type 0
-CloseBefore c = (g h : ℕ) → c.sent g ≡ true → makes_open (c.op g) ≡ false → 0 < h → h < g → create_at c h ≡ create_at c g → shuts_open (c.op h) ≡ true → is_unsettled (c.outcome h) ≡ false × is_ok (c.outcome h) ≡ false
+CloseBefore c = (g h : ℕ) → c.sent g ≡ true → makes_open (c.op g) ≡ false → 0 < h → h < g → create_at c h
+    ≡ create_at c g → shuts_open (c.op h) ≡ true → is_unsettled (c.outcome h) ≡ false × is_ok (c.outcome h) ≡ false
 
 -- a close that went out waited for all that is lower
 abbrev pub CloseAfter : Client → Type 0
-CloseAfter c = (h g : ℕ) → c.sent h ≡ true → shuts_open (c.op h) ≡ true → 0 < g → g < h → create_at c g ≡ create_at c h → makes_open (c.op g) ≡ false → is_unsettled (c.outcome g) ≡ false
+CloseAfter c = (h g : ℕ) → c.sent h ≡ true → shuts_open (c.op h) ≡ true → 0 < g → g < h → create_at c g ≡ create_at c h
+    → makes_open (c.op g) ≡ false → is_unsettled (c.outcome g) ≡ false
 
 -- what settled as NoSlot or NoOpen never went out
 abbrev pub UnsentGone : Client → Type 0
@@ -103,62 +108,85 @@ UnsentGone c = (g : ℕ) → is_unsent (c.outcome g) ≡ true → c.sent g ≡ f
 
 -- one without an unanswered copy waits on an open connection alone
 abbrev pub Unanswered : Client → (ℕ → Conn) → Type 0
-Unanswered c conns = (k n g : ℕ) (x : Sent) → slice_get (conns k).up n ≡ Some x → x.token ≡ ForOp g → c.unanswered g ≡ false → (conns k).client_open ≡ true
+Unanswered c conns = (k n g : ℕ) (x : Sent) → slice_get (conns k).up n ≡ Some x → x.token ≡ ForOp g → c.unanswered g
+    ≡ false → (conns k).client_open ≡ true
 
 -- a DH2C in an operation's place is of its create, which settled Ok
 abbrev pub AskUp : Client → (ℕ → Conn) → Type 0
 AskUp c conns = (k n g : ℕ) (x : Sent) → slice_get (conns k).up n ≡ Some x → x.token ≡ ForAttach g
-    → 0 < g × g ≤ c.taken × makes_open (c.op g) ≡ false × is_ok (c.outcome (create_at c g)) ≡ true × x.message.command ≡ reconnect_of (c.op (create_at c g)) (guid_for c (create_at c g)) (open_at c g)
+    → 0 < g × g ≤ c.taken × makes_open (c.op g) ≡ false × is_ok (c.outcome (create_at c g)) ≡ true × x.message.command
+    ≡ reconnect_of (c.op (create_at c g)) (guid_for c (create_at c g)) (open_at c g)
 
 -- and so is the reply to it
 abbrev pub AskDown : Client → (ℕ → Conn) → Type 0
-AskDown c conns = (k n g : ℕ) (y : Received) → slice_get (conns k).down n ≡ Some y → y.token ≡ ForAttach g → 0 < g × g ≤ c.taken × makes_open (c.op g) ≡ false × is_ok (c.outcome (create_at c g)) ≡ true
+AskDown c conns = (k n g : ℕ) (y : Received) → slice_get (conns k).down n ≡ Some y → y.token ≡ ForAttach g → 0 < g
+    × g ≤ c.taken × makes_open (c.op g) ≡ false × is_ok (c.outcome (create_at c g)) ≡ true
 
 -- while a copy of a lock waits whose session is there, its slot is its own
 abbrev pub Users : Client → (ℕ → Conn) → Server → Type 0
-Users c conns s = (k n g : ℕ) (x : Sent) → slice_get (conns k).up n ≡ Some x → x.token ≡ ForOp g → locking (c.op g) ≡ true → s.present x.message.session_id ≡ true → user_at c g ≡ Some g
+Users c conns s = (k n g : ℕ) (x : Sent) → slice_get (conns k).up n ≡ Some x → x.token ≡ ForOp g → locking (c.op g)
+    ≡ true → s.present x.message.session_id ≡ true → user_at c g ≡ Some g
 
 -- the operation was sent with its open attached in the session, so nothing else goes out in its place
 abbrev pub CopyNow : Client → (ℕ → Conn) → Server → Type 0
-CopyNow c conns s = (k n g : ℕ) (x : Sent) → slice_get (conns k).up n ≡ Some x → x.token ≡ ForOp g → makes_open (c.op g) ≡ false → s.present x.message.session_id ≡ true → c.live ≡ true → c.attached (create_at c g) ≡ c.session_number × c.asks_attach g ≡ false
+CopyNow c conns s = (k n g : ℕ) (x : Sent) → slice_get (conns k).up n ≡ Some x → x.token ≡ ForOp g → makes_open (c.op g)
+    ≡ false → s.present x.message.session_id ≡ true → c.live ≡ true → c.attached (create_at c g) ≡ c.session_number
+    × c.asks_attach g ≡ false
 
 -- one that waits on a closed connection was retried, where it is outstanding again, or settled
 abbrev pub RetriedOn : Client → (ℕ → Conn) → Server → Type 0
-RetriedOn c conns s = (k n g : ℕ) (x : Sent) → slice_get (conns k).up n ≡ Some x → x.token ≡ ForOp g → locking (c.op g) ≡ true → s.present x.message.session_id ≡ true → c.live ≡ true → (conns k).client_open ≡ false → is_some (c.outstanding_on g) ≡ true → c.retried (create_at c g) (c.slot_of g) ≡ c.session_number
+RetriedOn c conns s = (k n g : ℕ) (x : Sent) → slice_get (conns k).up n ≡ Some x → x.token ≡ ForOp g → locking (c.op g)
+    ≡ true → s.present x.message.session_id ≡ true → c.live ≡ true → (conns k).client_open ≡ false
+    → is_some (c.outstanding_on g) ≡ true → c.retried (create_at c g) (c.slot_of g) ≡ c.session_number
 
 -- the same where it is settled
 abbrev pub RetriedDone : Client → (ℕ → Conn) → Server → Type 0
-RetriedDone c conns s = (k n g : ℕ) (x : Sent) → slice_get (conns k).up n ≡ Some x → x.token ≡ ForOp g → locking (c.op g) ≡ true → s.present x.message.session_id ≡ true → c.live ≡ true → (conns k).client_open ≡ false → is_unsettled (c.outcome g) ≡ false → c.retried (create_at c g) (c.slot_of g) ≡ c.session_number
+RetriedDone c conns s = (k n g : ℕ) (x : Sent) → slice_get (conns k).up n ≡ Some x → x.token ≡ ForOp g
+    → locking (c.op g) ≡ true → s.present x.message.session_id ≡ true → c.live ≡ true → (conns k).client_open ≡ false
+    → is_unsettled (c.outcome g) ≡ false → c.retried (create_at c g) (c.slot_of g) ≡ c.session_number
 
 -- its open, while it stands, is attached to the copy's session
 abbrev pub CopyAttached : Client → (ℕ → Conn) → Server → Type 0
-CopyAttached c conns s = (k n g : ℕ) (x : Sent) → slice_get (conns k).up n ≡ Some x → x.token ≡ ForOp g → makes_open (c.op g) ≡ false → s.present x.message.session_id ≡ true → s.standing (open_at c g) ≡ true → s.session_of_open (open_at c g) ≡ Some x.message.session_id
+CopyAttached c conns s = (k n g : ℕ) (x : Sent) → slice_get (conns k).up n ≡ Some x → x.token ≡ ForOp g
+    → makes_open (c.op g) ≡ false → s.present x.message.session_id ≡ true → s.standing (open_at c g) ≡ true
+    → s.session_of_open (open_at c g) ≡ Some x.message.session_id
 
 -- and so is the open of a create that settled Ok, where the client holds it for attached in the live session
 abbrev pub NowAttached : Client → Server → Type 0
-NowAttached c s = (q : ℕ) → makes_open (c.op q) ≡ true → is_ok (c.outcome q) ≡ true → c.live ≡ true → c.attached q ≡ c.session_number → s.present c.session ≡ true → s.standing (c.file q) ≡ true → s.session_of_open (c.file q) ≡ Some c.session
+NowAttached c s = (q : ℕ) → makes_open (c.op q) ≡ true → is_ok (c.outcome q) ≡ true → c.live ≡ true → c.attached q
+    ≡ c.session_number → s.present c.session ≡ true → s.standing (c.file q) ≡ true → s.session_of_open (c.file q)
+    ≡ Some c.session
 
 -- the reply that opened, or attached
 abbrev pub OpenedReply : Client → (ℕ → Conn) → Server → Type 0
-OpenedReply c conns s = (k n g : ℕ) (y : Received) → slice_get (conns k).down n ≡ Some y → y.token ≡ ForOp g → makes_open (c.op g) ≡ true → y.reply.status ≡ success → c.live ≡ true → s.present c.session ≡ true → s.standing (id_in y.reply.body) ≡ true → s.session_of_open (id_in y.reply.body) ≡ Some c.session
+OpenedReply c conns s = (k n g : ℕ) (y : Received) → slice_get (conns k).down n ≡ Some y → y.token ≡ ForOp g
+    → makes_open (c.op g) ≡ true → y.reply.status ≡ success → c.live ≡ true → s.present c.session ≡ true
+    → s.standing (id_in y.reply.body) ≡ true → s.session_of_open (id_in y.reply.body) ≡ Some c.session
 
 -- of a DH2C
 abbrev pub JoinReply : Client → (ℕ → Conn) → Server → Type 0
-JoinReply c conns s = (k n g : ℕ) (y : Received) → slice_get (conns k).down n ≡ Some y → y.token ≡ ForAttach g → y.reply.status ≡ success → c.live ≡ true → s.present c.session ≡ true → s.standing (open_at c g) ≡ true → s.session_of_open (open_at c g) ≡ Some c.session
+JoinReply c conns s = (k n g : ℕ) (y : Received) → slice_get (conns k).down n ≡ Some y → y.token ≡ ForAttach g
+    → y.reply.status ≡ success → c.live ≡ true → s.present c.session ≡ true → s.standing (open_at c g) ≡ true
+    → s.session_of_open (open_at c g) ≡ Some c.session
 
 -- where the open is gone again, the client holds it for attached already
 abbrev pub JoinedReply : Client → (ℕ → Conn) → Server → Type 0
-JoinedReply c conns s = (k n g : ℕ) (y : Received) → slice_get (conns k).down n ≡ Some y → y.token ≡ ForAttach g → y.reply.status ≡ success → c.live ≡ true → s.present c.session ≡ true → s.standing (open_at c g) ≡ false → c.attached (create_at c g) ≡ c.session_number
+JoinedReply c conns s = (k n g : ℕ) (y : Received) → slice_get (conns k).down n ≡ Some y → y.token ≡ ForAttach g
+    → y.reply.status ≡ success → c.live ≡ true → s.present c.session ≡ true → s.standing (open_at c g) ≡ false
+    → c.attached (create_at c g) ≡ c.session_number
 
 -- an open that can't be attached is gone
 abbrev pub LostReply : Client → (ℕ → Conn) → Server → Type 0
-LostReply c conns s = (k n g : ℕ) (y : Received) → slice_get (conns k).down n ≡ Some y → y.token ≡ ForAttach g → y.reply.status ≢ success → y.reply.status ≢ user_session_deleted → y.reply.status ≡ object_name_not_found × s.standing (open_at c g) ≡ false
+LostReply c conns s = (k n g : ℕ) (y : Received) → slice_get (conns k).down n ≡ Some y → y.token ≡ ForAttach g
+    → y.reply.status ≢ success → y.reply.status ≢ user_session_deleted → y.reply.status ≡ object_name_not_found
+    × s.standing (open_at c g) ≡ false
 
 -- ---- slots: what the slot of its last user keeps for it says whether it acted
 
 -- the status that it keeps says whether the lock acted
 abbrev pub KeptSays : Client → Server → (ℕ → ℕ) → Type 0
-KeptSays c s a = (g status : ℕ) → user_at c g ≡ Some g → s.standing (open_at c g) ≡ true → kept_of c s g ≡ Some status → a g ≡ (if status == success then 1 else 0)
+KeptSays c s a = (g status : ℕ) → user_at c g ≡ Some g → s.standing (open_at c g) ≡ true → kept_of c s g ≡ Some status
+    → a g ≡ (if status == success then 1 else 0)
 
 -- where it keeps none, it never acted
 abbrev pub NotKept : Client → Server → (ℕ → ℕ) → Type 0
@@ -166,43 +194,56 @@ NotKept c s a = (g : ℕ) → user_at c g ≡ Some g → s.standing (open_at c g
 
 -- one that settled as Ok or Refused is kept there, unless the disk was full
 abbrev pub FirmKept : Client → Server → Type 0
-FirmKept c s = (g : ℕ) → user_at c g ≡ Some g → firm (c.outcome g) ≡ true → c.full (create_at c g) (c.slot_of g) ≡ false → s.standing (open_at c g) ≡ true → is_some (kept_of c s g) ≡ true
+FirmKept c s = (g : ℕ) → user_at c g ≡ Some g → firm (c.outcome g) ≡ true → c.full (create_at c g) (c.slot_of g) ≡ false
+    → s.standing (open_at c g) ≡ true → is_some (kept_of c s g) ≡ true
 
 -- a slot that nobody took keeps nothing, nor does any of an open whose create isn't settled
 abbrev pub NoUser : Client → Server → Type 0
-NoUser c s = (q i : ℕ) → is_ok (c.outcome q) ≡ true → makes_open (c.op q) ≡ true → c.slot_user q i ≡ None → s.standing (c.file q) ≡ true → s.lock_sequences (c.file q) i ≡ None
+NoUser c s = (q i : ℕ) → is_ok (c.outcome q) ≡ true → makes_open (c.op q) ≡ true → c.slot_user q i ≡ None
+    → s.standing (c.file q) ≡ true → s.lock_sequences (c.file q) i ≡ None
 
 -- here of the open whose create isn't settled as Ok
 abbrev pub NoSlots : Client → Server → Type 0
-NoSlots c s = (q i o : ℕ) → makes_open (c.op q) ≡ true → is_ok (c.outcome q) ≡ false → s.by_guid c.who.guid (guid_for c q) ≡ Some o → s.lock_sequences o i ≡ None
+NoSlots c s = (q i o : ℕ) → makes_open (c.op q) ≡ true → is_ok (c.outcome q) ≡ false
+    → s.by_guid c.who.guid (guid_for c q) ≡ Some o → s.lock_sequences o i ≡ None
 
 -- a slot's copies are gone where the lock settled on a full disk
 abbrev pub FullDead : Client → (ℕ → Conn) → Server → Type 0
-FullDead c conns s = (k n g : ℕ) (x : Sent) → slice_get (conns k).up n ≡ Some x → x.token ≡ ForOp g → locking (c.op g) ≡ true → s.present x.message.session_id ≡ true → firm (c.outcome g) ≡ true → c.full (create_at c g) (c.slot_of g) ≡ false
+FullDead c conns s = (k n g : ℕ) (x : Sent) → slice_get (conns k).up n ≡ Some x → x.token ≡ ForOp g → locking (c.op g)
+    ≡ true → s.present x.message.session_id ≡ true → firm (c.outcome g) ≡ true → c.full (create_at c g) (c.slot_of g)
+    ≡ false
 
 -- ---- replies that wait
 
 -- a success is of a lock that acted once
 abbrev pub OkReply : Client → (ℕ → Conn) → (ℕ → ℕ) → Type 0
-OkReply c conns a = (k n g : ℕ) (y : Received) → slice_get (conns k).down n ≡ Some y → y.token ≡ ForOp g → locking (c.op g) ≡ true → y.reply.status ≡ success → a g ≡ 1
+OkReply c conns a = (k n g : ℕ) (y : Received) → slice_get (conns k).down n ≡ Some y → y.token ≡ ForOp g
+    → locking (c.op g) ≡ true → y.reply.status ≡ success → a g ≡ 1
 
 -- a refusal that every copy meets
 abbrev pub NoReply : Client → (ℕ → Conn) → (ℕ → ℕ) → Type 0
-NoReply c conns a = (k n g : ℕ) (y : Received) → slice_get (conns k).down n ≡ Some y → y.token ≡ ForOp g → locking (c.op g) ≡ true → y.reply.status ≢ success → y.reply.status ≢ user_session_deleted → y.reply.status ≢ disk_full → a g ≡ 0
+NoReply c conns a = (k n g : ℕ) (y : Received) → slice_get (conns k).down n ≡ Some y → y.token ≡ ForOp g
+    → locking (c.op g) ≡ true → y.reply.status ≢ success → y.reply.status ≢ user_session_deleted
+    → y.reply.status ≢ disk_full → a g ≡ 0
 
 -- what a reply told the slot keeps, while the open stands
 abbrev pub KeptReply : Client → (ℕ → Conn) → Server → Type 0
-KeptReply c conns s = (k n g : ℕ) (y : Received) → slice_get (conns k).down n ≡ Some y → y.token ≡ ForOp g → locking (c.op g) ≡ true → y.reply.status ≢ user_session_deleted → y.reply.status ≢ disk_full → s.standing (open_at c g) ≡ true → is_some (kept_of c s g) ≡ true
+KeptReply c conns s = (k n g : ℕ) (y : Received) → slice_get (conns k).down n ≡ Some y → y.token ≡ ForOp g
+    → locking (c.op g) ≡ true → y.reply.status ≢ user_session_deleted → y.reply.status ≢ disk_full
+    → s.standing (open_at c g) ≡ true → is_some (kept_of c s g) ≡ true
 
 -- the refusal of a sole copy
 abbrev pub FirstReply : Client → (ℕ → Conn) → (ℕ → ℕ) → Type 0
-FirstReply c conns a = (k n g : ℕ) (y : Received) → slice_get (conns k).down n ≡ Some y → y.token ≡ ForOp g → locking (c.op g) ≡ true → y.reply.status ≢ success → c.unanswered g ≡ false → a g ≡ 0
+FirstReply c conns a = (k n g : ℕ) (y : Received) → slice_get (conns k).down n ≡ Some y → y.token ≡ ForOp g
+    → locking (c.op g) ≡ true → y.reply.status ≢ success → c.unanswered g ≡ false → a g ≡ 0
 
 -- ---- closes
 
 -- an open that was closed in the session in which it was attached: a lock of it that isn't settled never acted
 abbrev pub ClosedNot : Client → Server → (ℕ → ℕ) → Type 0
-ClosedNot c s a = (g : ℕ) → locking (c.op g) ≡ true → c.sent g ≡ true → is_unsettled (c.outcome g) ≡ true → c.live ≡ true → c.attached (create_at c g) ≡ c.session_number → s.present c.session ≡ true → s.standing (open_at c g) ≡ false → a g ≡ 0
+ClosedNot c s a = (g : ℕ) → locking (c.op g) ≡ true → c.sent g ≡ true → is_unsettled (c.outcome g) ≡ true → c.live
+    ≡ true → c.attached (create_at c g) ≡ c.session_number → s.present c.session ≡ true → s.standing (open_at c g)
+    ≡ false → a g ≡ 0
 
 -- Where a close was refused on a full disk: a record of a lock takes 66 bytes of the journal, one of a persistent open
 -- that leaves with its file 63, and no record takes less than 34. An open that owes no record where it locks, a plain
@@ -216,28 +257,42 @@ KeptFiles s = (o : ℕ) → s.standing o ≡ true → deletes_on_close (s.opened
 
 -- a copy of a close that was given up waits: it was refused on a full disk
 abbrev pub LeftFull : Client → (ℕ → Conn) → Server → Type 0
-LeftFull c conns s = (k n h : ℕ) (x : Sent) → slice_get (conns k).up n ≡ Some x → x.token ≡ ForOp h → shuts_open (c.op h) ≡ true → s.present x.message.session_id ≡ true → c.live ≡ true → is_unsettled (c.outcome h) ≡ false → is_ok (c.outcome h) ≡ false → s.standing (open_at c h) ≡ true → (s.opened (open_at c h)).persistent ≡ true → lower_limit < s.journal + 66
+LeftFull c conns s = (k n h : ℕ) (x : Sent) → slice_get (conns k).up n ≡ Some x → x.token ≡ ForOp h
+    → shuts_open (c.op h) ≡ true → s.present x.message.session_id ≡ true → c.live ≡ true → is_unsettled (c.outcome h)
+    ≡ false → is_ok (c.outcome h) ≡ false → s.standing (open_at c h) ≡ true → (s.opened (open_at c h)).persistent ≡ true
+    → lower_limit < s.journal + 66
 
 -- the same of a plain open, which goes with its file
 abbrev pub LeftStuck : Client → (ℕ → Conn) → Server → Type 0
-LeftStuck c conns s = (k n h : ℕ) (x : Sent) → slice_get (conns k).up n ≡ Some x → x.token ≡ ForOp h → shuts_open (c.op h) ≡ true → s.present x.message.session_id ≡ true → c.live ≡ true → is_unsettled (c.outcome h) ≡ false → is_ok (c.outcome h) ≡ false → s.standing (open_at c h) ≡ true → (s.opened (open_at c h)).persistent ≡ false → lower_limit < s.journal + 34 × goes_with s (open_at c h) ≡ true
+LeftStuck c conns s = (k n h : ℕ) (x : Sent) → slice_get (conns k).up n ≡ Some x → x.token ≡ ForOp h
+    → shuts_open (c.op h) ≡ true → s.present x.message.session_id ≡ true → c.live ≡ true → is_unsettled (c.outcome h)
+    ≡ false → is_ok (c.outcome h) ≡ false → s.standing (open_at c h) ≡ true → (s.opened (open_at c h)).persistent
+    ≡ false → lower_limit < s.journal + 34 × goes_with s (open_at c h) ≡ true
 
 -- and no lock behind it has acted, where each owes a record
 abbrev pub LeftIdle : Client → (ℕ → Conn) → Server → (ℕ → ℕ) → Type 0
-LeftIdle c conns s a = (k n h g : ℕ) (x : Sent) → slice_get (conns k).up n ≡ Some x → x.token ≡ ForOp h → shuts_open (c.op h) ≡ true → s.present x.message.session_id ≡ true → c.live ≡ true → is_unsettled (c.outcome h) ≡ false → is_ok (c.outcome h) ≡ false → s.standing (open_at c h) ≡ true
+LeftIdle c conns s a = (k n h g : ℕ) (x : Sent) → slice_get (conns k).up n ≡ Some x → x.token ≡ ForOp h
+    → shuts_open (c.op h) ≡ true → s.present x.message.session_id ≡ true → c.live ≡ true → is_unsettled (c.outcome h)
+    ≡ false → is_ok (c.outcome h) ≡ false → s.standing (open_at c h) ≡ true
     → (s.opened (open_at c h)).persistent ≡ true → locking (c.op g) ≡ true → create_at c g ≡ create_at c h → h < g → a g ≡ 0
 
 -- a close's success tells that the open is gone
 abbrev pub CloseDone : Client → (ℕ → Conn) → Server → Type 0
-CloseDone c conns s = (k n h : ℕ) (y : Received) → slice_get (conns k).down n ≡ Some y → y.token ≡ ForOp h → shuts_open (c.op h) ≡ true → y.reply.status ≡ success → s.standing (open_at c h) ≡ false
+CloseDone c conns s = (k n h : ℕ) (y : Received) → slice_get (conns k).down n ≡ Some y → y.token ≡ ForOp h
+    → shuts_open (c.op h) ≡ true → y.reply.status ≡ success → s.standing (open_at c h) ≡ false
 
 -- a refused close whose persistent open stands met a full disk
 abbrev pub CloseFull : Client → (ℕ → Conn) → Server → Type 0
-CloseFull c conns s = (k n h : ℕ) (y : Received) → slice_get (conns k).down n ≡ Some y → y.token ≡ ForOp h → shuts_open (c.op h) ≡ true → y.reply.status ≢ user_session_deleted → y.reply.status ≢ file_closed → s.standing (open_at c h) ≡ true → (s.opened (open_at c h)).persistent ≡ true → lower_limit < s.journal + 66
+CloseFull c conns s = (k n h : ℕ) (y : Received) → slice_get (conns k).down n ≡ Some y → y.token ≡ ForOp h
+    → shuts_open (c.op h) ≡ true → y.reply.status ≢ user_session_deleted → y.reply.status ≢ file_closed
+    → s.standing (open_at c h) ≡ true → (s.opened (open_at c h)).persistent ≡ true → lower_limit < s.journal + 66
 
 -- and so did that of a plain one
 abbrev pub CloseStuck : Client → (ℕ → Conn) → Server → Type 0
-CloseStuck c conns s = (k n h : ℕ) (y : Received) → slice_get (conns k).down n ≡ Some y → y.token ≡ ForOp h → shuts_open (c.op h) ≡ true → y.reply.status ≢ user_session_deleted → y.reply.status ≢ file_closed → s.standing (open_at c h) ≡ true → (s.opened (open_at c h)).persistent ≡ false → lower_limit < s.journal + 34 × goes_with s (open_at c h) ≡ true
+CloseStuck c conns s = (k n h : ℕ) (y : Received) → slice_get (conns k).down n ≡ Some y → y.token ≡ ForOp h
+    → shuts_open (c.op h) ≡ true → y.reply.status ≢ user_session_deleted → y.reply.status ≢ file_closed
+    → s.standing (open_at c h) ≡ true → (s.opened (open_at c h)).persistent ≡ false → lower_limit < s.journal + 34
+    × goes_with s (open_at c h) ≡ true
 
 -- ---- where a create acted, the client's share isn't that of the pipes
 

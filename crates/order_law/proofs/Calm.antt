@@ -1,13 +1,21 @@
 -- What a dialog sends reaches no open.
-use Rattle.std.proofs.Common.{◌≡◌, ℕ, ◌==◌, nat_le, Bool, true, false, not, ◌&&◌, ◌||◌, List, refl, sym, subst, Option, Some, None, is_some, inl, inr}
+use Rattle.std.proofs.Common.{◌≡◌, ℕ, ◌==◌, nat_le, Bool, true, false, not, ◌&&◌, ◌||◌, List, refl, sym, subst, Option}
+use Rattle.std.proofs.Common.{Some, None, is_some, inl, inr}
 use Rattle.exchange_defs.specs.Texts.{same_name}
-use Rattle.exchange_defs.specs.Commands.{Command, Aside, Unreadable, Setup, Logoff, TreeConnect, TreeDisconnect, Create, Close, Flush, Read, Write, Lock, Ioctl, ListDirectory, QueryFile, QueryVolume, SetInfo, SetupRequest, Shows, Begins, Bad, Refused, Logon, form, is_setup}
+use Rattle.exchange_defs.specs.Commands.{Command, Aside, Unreadable, Setup, Logoff, TreeConnect, TreeDisconnect, Create}
+use Rattle.exchange_defs.specs.Commands.{Close, Flush, Read, Write, Lock, Ioctl, ListDirectory, QueryFile, QueryVolume}
+use Rattle.exchange_defs.specs.Commands.{SetInfo, SetupRequest, Shows, Begins, Bad, Refused, Logon, form, is_setup}
 use Rattle.exchange_defs.specs.State.{Server, Message, Heard, Answer}
 use Rattle.exchange_defs.specs.Opens.{max_ids}
-use Rattle.exchange_defs.specs.CheckSetup.{is_new, is_binding, session_check, second_token, first_token, granted_session, binding_check, live_binding, second_binding, first_binding, granted_binding, tree_check, max_sessions, max_channels, max_numbers, count_channels, pipes_name, no_tree_left}
+use Rattle.exchange_defs.specs.CheckSetup.{is_new, is_binding, session_check, second_token, first_token}
+use Rattle.exchange_defs.specs.CheckSetup.{granted_session, binding_check, live_binding, second_binding, first_binding}
+use Rattle.exchange_defs.specs.CheckSetup.{granted_binding, tree_check, max_sessions, max_channels, max_numbers}
+use Rattle.exchange_defs.specs.CheckSetup.{count_channels, pipes_name, no_tree_left}
 use Rattle.exchange_defs.specs.Check.{has_session, command_check, formed, owed, check}
 use Rattle.exchange_defs.specs.Effects.{apply}
-use Rattle.exchange_defs.specs.Verdict.{Verdict, Refuse, Give, KeepRefusal, Repeat, Attach, Make, TurnDown, Tell, Show, KeepSlot, PutRanges, Alter, CloseOpen, Challenge, ChallengeBinding, Begin, Join, EndSession, AddTree, DropTree}
+use Rattle.exchange_defs.specs.Verdict.{Verdict, Refuse, Give, KeepRefusal, Repeat, Attach, Make, TurnDown, Tell, Show}
+use Rattle.exchange_defs.specs.Verdict.{KeepSlot, PutRanges, Alter, CloseOpen, Challenge, ChallengeBinding, Begin, Join}
+use Rattle.exchange_defs.specs.Verdict.{EndSession, AddTree, DropTree}
 use Rattle.exchange_defs.specs.Step.{step, without_room}
 use Rattle.exchange_defs.specs.Network.{answer_to}
 use Rattle.server_law.proofs.Doors.{by_verdict, Finds}
@@ -28,7 +36,11 @@ record Calm (v : Verdict) : Type 0 where
   calm : is_calm v ≡ true
 
 granted_calm : (s : Server) (m : Message) (r : SetupRequest) (user : List ℕ) → Calm (granted_session s m r user)
-granted_calm s m r user = either Calm (s.encrypts && (r.cipher == 0)) _ _ (λ _. record { calm = refl }) (λ _. either Calm (nat_le max_sessions s.sessions) _ _ (λ _. record { calm = refl }) (λ _. record { calm = refl }))
+granted_calm s m r user = either Calm (s.encrypts && (r.cipher == 0)) _ _ (λ _. record {
+  calm = refl;
+}) (λ _. either Calm (nat_le max_sessions s.sessions) _ _ (λ _. record { calm = refl }) (λ _. record {
+  calm = refl;
+}))
 
 second_calm : (s : Server) (m : Message) (r : SetupRequest) (t : Shows) → Calm (second_token s m r t)
 second_calm s m r Begins = record { calm = refl }
@@ -44,13 +56,22 @@ first_calm s (Logon user) = record { calm = refl }
 
 session_calm : (s : Server) (m : Message) (r : SetupRequest) → Calm (session_check s m r)
 session_calm s m r =
-    either Calm (m.session_id == 0) _ _ (λ _. either Calm (is_some (s.session_on m.connection)) _ _ (λ _. record { calm = refl }) (λ _. first_calm s r.shows))
-    (λ _. either Calm (s.present m.session_id) _ _ (λ _. record { calm = refl }) (λ _. either Calm (is_new m.session_id (s.making m.connection)) _ _ (λ _. second_calm s m r r.shows) (λ _. record { calm = refl })))
+    either Calm (m.session_id == 0) _ _ (λ _. either Calm (is_some (s.session_on m.connection)) _ _ (λ _. record {
+      calm = refl;
+    }) (λ _. first_calm s r.shows))
+    (λ _. either Calm (s.present m.session_id) _ _ (λ _. record {
+      calm = refl;
+    }) (λ _. either Calm (is_new m.session_id (s.making m.connection)) _ _
+    (λ _. second_calm s m r r.shows) (λ _. record { calm = refl })))
 
 bound_calm : (s : Server) (m : Message) (user : List ℕ) → Calm (granted_binding s m user)
 bound_calm s m user =
     either Calm (not (same_name user (s.user m.session_id))) _ _ (λ _. record { calm = refl })
-    (λ _. either Calm (nat_le max_channels (count_channels s.session_on s.connections m.session_id)) _ _ (λ _. record { calm = refl }) (λ _. either Calm (nat_le max_numbers (s.channel_numbers_drawn m.session_id)) _ _ (λ _. record { calm = refl }) (λ _. record { calm = refl })))
+    (λ _. either Calm (nat_le max_channels (count_channels s.session_on s.connections m.session_id)) _ _ (λ _. record {
+      calm = refl;
+    }) (λ _. either Calm (nat_le max_numbers (s.channel_numbers_drawn m.session_id)) _ _ (λ _. record {
+      calm = refl;
+    }) (λ _. record { calm = refl })))
 
 second_binding_calm : (s : Server) (m : Message) (t : Shows) → Calm (second_binding s m t)
 second_binding_calm s m Begins = record { calm = refl }
@@ -67,19 +88,35 @@ first_binding_calm m (Logon user) = record { calm = refl }
 live_binding_calm : (s : Server) (m : Message) (r : SetupRequest) → Calm (live_binding s m r)
 live_binding_calm s m r =
     either Calm (not r.signed) _ _ (λ _. record { calm = refl })
-    (λ _. either Calm (not (m.client_guid == s.client m.session_id)) _ _ (λ _. record { calm = refl }) (λ _. either Calm (not ((r.cipher == s.cipher m.session_id) && (r.signing == s.signing m.session_id))) _ _ (λ _. record { calm = refl })
-    (λ _. either Calm (is_some (s.session_on m.connection)) _ _ (λ _. record { calm = refl }) (λ _. either Calm (not r.verified) _ _ (λ _. record { calm = refl })
-    (λ _. either Calm (is_binding m.session_id (s.making m.connection)) _ _ (λ _. second_binding_calm s m r.shows) (λ _. first_binding_calm m r.shows))))))
+    (λ _. either Calm (not (m.client_guid == s.client m.session_id)) _ _ (λ _. record {
+      calm = refl;
+    }) (λ _. either Calm
+    (not ((r.cipher == s.cipher m.session_id) && (r.signing == s.signing m.session_id))) _ _ (λ _. record {
+      calm = refl;
+    })
+    (λ _. either Calm (is_some (s.session_on m.connection)) _ _ (λ _. record {
+      calm = refl;
+    }) (λ _. either Calm (not r.verified) _ _ (λ _. record { calm = refl })
+    (λ _. either Calm (is_binding m.session_id (s.making m.connection)) _ _ (λ _. second_binding_calm s m r.shows)
+    (λ _. first_binding_calm m r.shows))))))
 
 binding_calm : (s : Server) (m : Message) (r : SetupRequest) → Calm (binding_check s m r)
 binding_calm s m r =
     either Calm (s.present m.session_id) _ _ (λ _. live_binding_calm s m r)
-    (λ _. either Calm (not (is_new m.session_id (s.making m.connection))) _ _ (λ _. record { calm = refl }) (λ _. either Calm (not r.signed) _ _ (λ _. record { calm = refl }) (λ _. record { calm = refl })))
+    (λ _. either Calm (not (is_new m.session_id (s.making m.connection))) _ _ (λ _. record {
+      calm = refl;
+    }) (λ _. either Calm (not r.signed) _ _ (λ _. record { calm = refl }) (λ _. record {
+      calm = refl;
+    })))
 
 tree_calm : (s : Server) (m : Message) (share : List ℕ) → Calm (tree_check s m share)
 tree_calm s m share =
     either Calm (no_tree_left s m.session_id) _ _ (λ _. record { calm = refl })
-    (λ _. either Calm (same_name share pipes_name) _ _ (λ _. record { calm = refl }) (λ _. either Calm (same_name share s.share) _ _ (λ _. record { calm = refl }) (λ _. record { calm = refl })))
+    (λ _. either Calm (same_name share pipes_name) _ _ (λ _. record {
+      calm = refl;
+    }) (λ _. either Calm (same_name share s.share) _ _ (λ _. record { calm = refl }) (λ _. record {
+      calm = refl;
+    })))
 
 command_calm : (s : Server) (m : Message) (c : Command) → is_dialog c ≡ true → Calm (command_check s m c)
 unfolding is_dialog
@@ -163,10 +200,12 @@ calm_aloof s m now DropTree h = absurd (cc)
 
 found_calm : (t : Server) (m : Message) (v : Verdict) → is_dialog m.command ≡ true → Finds t m v → is_calm v ≡ true
 found_calm t m v d (inl e) = let c = check_calm t m d in subst (λ u. is_calm u ≡ true) (sym e) c.calm
-found_calm t m v d (inr e) = let c = check_calm t m d in let w = calm_without_room (check t m) c.calm in subst (λ u. is_calm u ≡ true) (sym e) w.calm
+found_calm t m v d (inr e) = let c = check_calm t m d in let w = calm_without_room (check t m) c.calm in
+    subst (λ u. is_calm u ≡ true) (sym e) w.calm
 
 step_aloof : (s : Server) (now : ℕ) (m : Message) → is_dialog m.command ≡ true → Aloof (step s now (Heard m))
-step_aloof s now m d = by_verdict Aloof s now m (λ t v records b f. let a = calm_aloof t m now v (found_calm t m v d f) in record { reached = a.reached; altered = a.altered })
+step_aloof s now m d = by_verdict Aloof s now m (λ t v records b f. let a = calm_aloof t m now v (found_calm t m v d f)
+    in record { reached = a.reached; altered = a.altered })
 
 pub aloof : (s : Server) (now : ℕ) (m : Message) (c : Command) → is_dialog m.command ≡ true → Aloof (answer_to s now m c)
 aloof s now m (Aside status) d = record { reached = refl; altered = refl }

@@ -20,7 +20,8 @@ pub record Moves (rank : ℕ → ℕ) (s u : Server) : Type 0 where
   pub guid : (p g o : ℕ) → u.by_guid p g ≡ Some o → s.by_guid p g ≡ Some o
 
 -- what the server would take still, it would have taken before
-pub live_back : (rank : ℕ → ℕ) (s u : Server) (x q o : ℕ) → Steps rank s u → 0 < rank x → o ≤ last_id s → Pair s x 0 o → u.standing o ≡ true → u.present x ≡ true → u.sequence o ≤ q
+pub live_back : (rank : ℕ → ℕ) (s u : Server) (x q o : ℕ) → Steps rank s u → 0 < rank x → o ≤ last_id s → Pair s x 0 o
+    → u.standing o ≡ true → u.present x ≡ true → u.sequence o ≤ q
     → s.standing o ≡ true × s.present x ≡ true × s.sequence o ≤ q
 live_back rank s u x q o k r l p st pr le =
     let a = k.stands o l st in let b = k.present x r pr in let at = (p a b).0 in

@@ -7,27 +7,35 @@ use Rattle.exchange_defs.specs.Dialogs.{accepted}
 use Rattle.exchange_defs.specs.Network.{Conn, Trace}
 use Rattle.order_law.specs.Contents.{Contents, LostKnown, LostAsked, SessionKnown, SessionAsked, PendingAt}
 
-accepted_lost_known : (c : Client) (conns : ℕ → Conn) (s : Server) (t : Trace) (l : Log) (a : ℕ → ℕ) (k : ℕ) → (c.rank c.pending ≡ 0) → (0 < c.pending) → LostKnown c → LostKnown (accepted c k)
+accepted_lost_known : (c : Client) (conns : ℕ → Conn) (s : Server) (t : Trace) (l : Log) (a : ℕ → ℕ) (k : ℕ)
+    → (c.rank c.pending ≡ 0) → (0 < c.pending) → LostKnown c → LostKnown (accepted c k)
 accepted_lost_known c conns s t l a k unranked above i_lost_known =
     λ p z. let old = i_lost_known p z in grind arith
 
-accepted_lost_asked : (c : Client) (conns : ℕ → Conn) (s : Server) (t : Trace) (l : Log) (a : ℕ → ℕ) (k : ℕ) → (c.rank c.pending ≡ 0) → (0 < c.pending) → LostAsked c → LostKnown c → LostAsked (accepted c k)
+accepted_lost_asked : (c : Client) (conns : ℕ → Conn) (s : Server) (t : Trace) (l : Log) (a : ℕ → ℕ) (k : ℕ)
+    → (c.rank c.pending ≡ 0) → (0 < c.pending) → LostAsked c → LostKnown c → LostAsked (accepted c k)
 accepted_lost_asked c conns s t l a k unranked above i_lost_asked i_lost_known =
     λ p j z sg gu e. let old = i_lost_known p z gu in grind arith
 
-accepted_session_known : (c : Client) (conns : ℕ → Conn) (s : Server) (t : Trace) (l : Log) (a : ℕ → ℕ) (k : ℕ) → (c.rank c.pending ≡ 0) → (0 < c.pending) → SessionKnown c → SessionKnown (accepted c k)
+accepted_session_known : (c : Client) (conns : ℕ → Conn) (s : Server) (t : Trace) (l : Log) (a : ℕ → ℕ) (k : ℕ)
+    → (c.rank c.pending ≡ 0) → (0 < c.pending) → SessionKnown c → SessionKnown (accepted c k)
 accepted_session_known c conns s t l a k unranked above i_session_known =
     let old = i_session_known in grind arith
 
-accepted_session_asked : (c : Client) (conns : ℕ → Conn) (s : Server) (t : Trace) (l : Log) (a : ℕ → ℕ) (k : ℕ) → (c.rank c.pending ≡ 0) → (0 < c.pending) → SessionAsked c → SessionKnown c → SessionAsked (accepted c k)
+accepted_session_asked : (c : Client) (conns : ℕ → Conn) (s : Server) (t : Trace) (l : Log) (a : ℕ → ℕ) (k : ℕ)
+    → (c.rank c.pending ≡ 0) → (0 < c.pending) → SessionAsked c → SessionKnown c → SessionAsked (accepted c k)
 accepted_session_asked c conns s t l a k unranked above i_session_asked i_session_known =
     λ j sg e. let old = i_session_known in grind arith
 
-accepted_pending_at : (c : Client) (conns : ℕ → Conn) (s : Server) (t : Trace) (l : Log) (a : ℕ → ℕ) (k : ℕ) → (c.rank c.pending ≡ 0) → (0 < c.pending) → ((o x : ℕ) → s.session_of_open o ≡ Some x → 0 < c.rank x) → PendingAt c s → PendingAt (accepted c k) s
+accepted_pending_at : (c : Client) (conns : ℕ → Conn) (s : Server) (t : Trace) (l : Log) (a : ℕ → ℕ) (k : ℕ)
+    → (c.rank c.pending ≡ 0) → (0 < c.pending) → ((o x : ℕ) → s.session_of_open o ≡ Some x → 0 < c.rank x)
+    → PendingAt c s → PendingAt (accepted c k) s
 accepted_pending_at c conns s t l a k unranked above attached i_pending_at =
     λ o j sg e. let old = attached o c.pending e in grind arith
 
-pub accepted_keeps : (c : Client) (conns : ℕ → Conn) (s : Server) (t : Trace) (l : Log) (a : ℕ → ℕ) (k : ℕ) → (c.rank c.pending ≡ 0) → (0 < c.pending) → ((o x : ℕ) → s.session_of_open o ≡ Some x → 0 < c.rank x) → Contents c conns s t l a → Contents (accepted c k) conns s t l a
+pub accepted_keeps : (c : Client) (conns : ℕ → Conn) (s : Server) (t : Trace) (l : Log) (a : ℕ → ℕ) (k : ℕ)
+    → (c.rank c.pending ≡ 0) → (0 < c.pending) → ((o x : ℕ) → s.session_of_open o ≡ Some x → 0 < c.rank x)
+    → Contents c conns s t l a → Contents (accepted c k) conns s t l a
 accepted_keeps c conns s t l a k unranked above attached i =
     record {
       token_up = i.token_up;

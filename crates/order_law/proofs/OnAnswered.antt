@@ -8,15 +8,20 @@ use Rattle.exchange_defs.specs.Network.{Conn, Trace}
 use Rattle.exchange_law.proofs.Lists.{get-push}
 use Rattle.order_law.specs.Contents.{Contents, edits, Unacted, Older}
 
-answered_unacted : (c : Client) (conns : ℕ → Conn) (s : Server) (t : Trace) (l : Log) (a : ℕ → ℕ) (g : ℕ) → (edits (c.op g) ≡ true → c.unanswered g ≡ false → c.asks_attach g ≡ false → l.first g ≡ None) → Unacted c l → Unacted (answered c g) l
+answered_unacted : (c : Client) (conns : ℕ → Conn) (s : Server) (t : Trace) (l : Log) (a : ℕ → ℕ) (g : ℕ)
+    → (edits (c.op g) ≡ true → c.unanswered g ≡ false → c.asks_attach g ≡ false → l.first g ≡ None) → Unacted c l
+    → Unacted (answered c g) l
 answered_unacted c conns s t l a g idle i_unacted =
     λ p ed b no un. let old = i_unacted p ed b in let id = idle in grind arith
 
-answered_older : (c : Client) (conns : ℕ → Conn) (s : Server) (t : Trace) (l : Log) (a : ℕ → ℕ) (g : ℕ) → Older c conns → Older (answered c g) conns
+answered_older : (c : Client) (conns : ℕ → Conn) (s : Server) (t : Trace) (l : Log) (a : ℕ → ℕ) (g : ℕ) → Older c conns
+    → Older (answered c g) conns
 answered_older c conns s t l a g i_older =
     λ j n i p x. let old = i_older j n i p x in grind (arith, get-push)
 
-pub answered_keeps : (c : Client) (conns : ℕ → Conn) (s : Server) (t : Trace) (l : Log) (a : ℕ → ℕ) (g : ℕ) → (edits (c.op g) ≡ true → c.unanswered g ≡ false → c.asks_attach g ≡ false → l.first g ≡ None) → Contents c conns s t l a → Contents (answered c g) conns s t l a
+pub answered_keeps : (c : Client) (conns : ℕ → Conn) (s : Server) (t : Trace) (l : Log) (a : ℕ → ℕ) (g : ℕ)
+    → (edits (c.op g) ≡ true → c.unanswered g ≡ false → c.asks_attach g ≡ false → l.first g ≡ None)
+    → Contents c conns s t l a → Contents (answered c g) conns s t l a
 answered_keeps c conns s t l a g idle i =
     record {
       token_up = i.token_up;

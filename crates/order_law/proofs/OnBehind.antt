@@ -6,97 +6,146 @@ use Rattle.exchange_defs.specs.State.{Server}
 use Rattle.exchange_defs.specs.Client.{Client}
 use Rattle.exchange_defs.specs.Network.{Conn, Received, Trace, take_front}
 use Rattle.exchange_law.proofs.Lists.{get-push, waited_down}
-use Rattle.order_law.specs.Contents.{Contents, TokenUp, TokenDown, OpensUp, AskedAs, FirstUp, NotDone, CutSeq, OpenSeq, Older, NoReplay, CopyPair, CreateReply, AttachReply, Reached, ClosedReply, AttachRefused, StaleReply, LiveUnsettled, LiveReplay, Replies, AttachStatus, SinceReply}
+use Rattle.order_law.specs.Contents.{Contents, TokenUp, TokenDown, OpensUp, AskedAs, FirstUp, NotDone, CutSeq, OpenSeq}
+use Rattle.order_law.specs.Contents.{Older, NoReplay, CopyPair, CreateReply, AttachReply, Reached, ClosedReply}
+use Rattle.order_law.specs.Contents.{AttachRefused, StaleReply, LiveUnsettled, LiveReplay, Replies, AttachStatus}
+use Rattle.order_law.specs.Contents.{SinceReply}
 
-behind_token_up : (c : Client) (conns : ℕ → Conn) (s : Server) (t : Trace) (l : Log) (a : ℕ → ℕ) (k : ℕ) (y0 : Received) (rest : List Received) → ((conns k).down ≡ y0 ∷ rest) → TokenUp c conns → TokenUp c (put conns k (take_front (conns k) rest))
+behind_token_up : (c : Client) (conns : ℕ → Conn) (s : Server) (t : Trace) (l : Log) (a : ℕ → ℕ) (k : ℕ) (y0 : Received)
+    (rest : List Received) → ((conns k).down ≡ y0 ∷ rest) → TokenUp c conns
+    → TokenUp c (put conns k (take_front (conns k) rest))
 behind_token_up c conns s t l a k y0 rest is i_token_up =
     λ j n x. let old = i_token_up j n x in grind (arith, get-push)
 
-behind_token_down : (c : Client) (conns : ℕ → Conn) (s : Server) (t : Trace) (l : Log) (a : ℕ → ℕ) (k : ℕ) (y0 : Received) (rest : List Received) → ((conns k).down ≡ y0 ∷ rest) → TokenDown c conns → TokenDown c (put conns k (take_front (conns k) rest))
+behind_token_down : (c : Client) (conns : ℕ → Conn) (s : Server) (t : Trace) (l : Log) (a : ℕ → ℕ) (k : ℕ)
+    (y0 : Received) (rest : List Received) → ((conns k).down ≡ y0 ∷ rest) → TokenDown c conns
+    → TokenDown c (put conns k (take_front (conns k) rest))
 behind_token_down c conns s t l a k y0 rest is i_token_down =
     λ j n y h. let o = waited_down conns k y0 rest j n y is h in i_token_down j o.0 y o.1
 
-behind_opens_up : (c : Client) (conns : ℕ → Conn) (s : Server) (t : Trace) (l : Log) (a : ℕ → ℕ) (k : ℕ) (y0 : Received) (rest : List Received) → ((conns k).down ≡ y0 ∷ rest) → OpensUp c conns → OpensUp c (put conns k (take_front (conns k) rest))
+behind_opens_up : (c : Client) (conns : ℕ → Conn) (s : Server) (t : Trace) (l : Log) (a : ℕ → ℕ) (k : ℕ) (y0 : Received)
+    (rest : List Received) → ((conns k).down ≡ y0 ∷ rest) → OpensUp c conns
+    → OpensUp c (put conns k (take_front (conns k) rest))
 behind_opens_up c conns s t l a k y0 rest is i_opens_up =
     λ j n x. let old = i_opens_up j n x in grind (arith, get-push)
 
-behind_asked_as : (c : Client) (conns : ℕ → Conn) (s : Server) (t : Trace) (l : Log) (a : ℕ → ℕ) (k : ℕ) (y0 : Received) (rest : List Received) → ((conns k).down ≡ y0 ∷ rest) → AskedAs c conns → AskedAs c (put conns k (take_front (conns k) rest))
+behind_asked_as : (c : Client) (conns : ℕ → Conn) (s : Server) (t : Trace) (l : Log) (a : ℕ → ℕ) (k : ℕ) (y0 : Received)
+    (rest : List Received) → ((conns k).down ≡ y0 ∷ rest) → AskedAs c conns
+    → AskedAs c (put conns k (take_front (conns k) rest))
 behind_asked_as c conns s t l a k y0 rest is i_asked_as =
     λ j n p x. let old = i_asked_as j n p x in grind (arith, get-push)
 
-behind_first_up : (c : Client) (conns : ℕ → Conn) (s : Server) (t : Trace) (l : Log) (a : ℕ → ℕ) (k : ℕ) (y0 : Received) (rest : List Received) → ((conns k).down ≡ y0 ∷ rest) → FirstUp c conns l → FirstUp c (put conns k (take_front (conns k) rest)) l
+behind_first_up : (c : Client) (conns : ℕ → Conn) (s : Server) (t : Trace) (l : Log) (a : ℕ → ℕ) (k : ℕ) (y0 : Received)
+    (rest : List Received) → ((conns k).down ≡ y0 ∷ rest) → FirstUp c conns l
+    → FirstUp c (put conns k (take_front (conns k) rest)) l
 behind_first_up c conns s t l a k y0 rest is i_first_up =
     λ j n p x. let old = i_first_up j n p x in grind (arith, get-push)
 
-behind_not_done : (c : Client) (conns : ℕ → Conn) (s : Server) (t : Trace) (l : Log) (a : ℕ → ℕ) (k : ℕ) (y0 : Received) (rest : List Received) → ((conns k).down ≡ y0 ∷ rest) → NotDone c conns l → NotDone c (put conns k (take_front (conns k) rest)) l
+behind_not_done : (c : Client) (conns : ℕ → Conn) (s : Server) (t : Trace) (l : Log) (a : ℕ → ℕ) (k : ℕ) (y0 : Received)
+    (rest : List Received) → ((conns k).down ≡ y0 ∷ rest) → NotDone c conns l
+    → NotDone c (put conns k (take_front (conns k) rest)) l
 behind_not_done c conns s t l a k y0 rest is i_not_done =
     λ j n p y h. let o = waited_down conns k y0 rest j n y is h in i_not_done j o.0 p y o.1
 
-behind_cut_seq : (c : Client) (conns : ℕ → Conn) (s : Server) (t : Trace) (l : Log) (a : ℕ → ℕ) (k : ℕ) (y0 : Received) (rest : List Received) → ((conns k).down ≡ y0 ∷ rest) → CutSeq c conns → CutSeq c (put conns k (take_front (conns k) rest))
+behind_cut_seq : (c : Client) (conns : ℕ → Conn) (s : Server) (t : Trace) (l : Log) (a : ℕ → ℕ) (k : ℕ) (y0 : Received)
+    (rest : List Received) → ((conns k).down ≡ y0 ∷ rest) → CutSeq c conns
+    → CutSeq c (put conns k (take_front (conns k) rest))
 behind_cut_seq c conns s t l a k y0 rest is i_cut_seq =
     λ j n p x. let old = i_cut_seq j n p x in grind (arith, get-push)
 
-behind_open_seq : (c : Client) (conns : ℕ → Conn) (s : Server) (t : Trace) (l : Log) (a : ℕ → ℕ) (k : ℕ) (y0 : Received) (rest : List Received) → ((conns k).down ≡ y0 ∷ rest) → OpenSeq c conns → OpenSeq c (put conns k (take_front (conns k) rest))
+behind_open_seq : (c : Client) (conns : ℕ → Conn) (s : Server) (t : Trace) (l : Log) (a : ℕ → ℕ) (k : ℕ) (y0 : Received)
+    (rest : List Received) → ((conns k).down ≡ y0 ∷ rest) → OpenSeq c conns
+    → OpenSeq c (put conns k (take_front (conns k) rest))
 behind_open_seq c conns s t l a k y0 rest is i_open_seq =
     λ j n p x. let old = i_open_seq j n p x in grind (arith, get-push)
 
-behind_older : (c : Client) (conns : ℕ → Conn) (s : Server) (t : Trace) (l : Log) (a : ℕ → ℕ) (k : ℕ) (y0 : Received) (rest : List Received) → ((conns k).down ≡ y0 ∷ rest) → Older c conns → Older c (put conns k (take_front (conns k) rest))
+behind_older : (c : Client) (conns : ℕ → Conn) (s : Server) (t : Trace) (l : Log) (a : ℕ → ℕ) (k : ℕ) (y0 : Received)
+    (rest : List Received) → ((conns k).down ≡ y0 ∷ rest) → Older c conns
+    → Older c (put conns k (take_front (conns k) rest))
 behind_older c conns s t l a k y0 rest is i_older =
     λ j n i p x. let old = i_older j n i p x in grind (arith, get-push)
 
-behind_no_replay : (c : Client) (conns : ℕ → Conn) (s : Server) (t : Trace) (l : Log) (a : ℕ → ℕ) (k : ℕ) (y0 : Received) (rest : List Received) → ((conns k).down ≡ y0 ∷ rest) → NoReplay c conns → NoReplay c (put conns k (take_front (conns k) rest))
+behind_no_replay : (c : Client) (conns : ℕ → Conn) (s : Server) (t : Trace) (l : Log) (a : ℕ → ℕ) (k : ℕ)
+    (y0 : Received) (rest : List Received) → ((conns k).down ≡ y0 ∷ rest) → NoReplay c conns
+    → NoReplay c (put conns k (take_front (conns k) rest))
 behind_no_replay c conns s t l a k y0 rest is i_no_replay =
     λ j n i q p u x. let old = i_no_replay j n i q p u x in grind (arith, get-push)
 
-behind_copy_pair : (c : Client) (conns : ℕ → Conn) (s : Server) (t : Trace) (l : Log) (a : ℕ → ℕ) (k : ℕ) (y0 : Received) (rest : List Received) → ((conns k).down ≡ y0 ∷ rest) → CopyPair c conns s → CopyPair c (put conns k (take_front (conns k) rest)) s
+behind_copy_pair : (c : Client) (conns : ℕ → Conn) (s : Server) (t : Trace) (l : Log) (a : ℕ → ℕ) (k : ℕ)
+    (y0 : Received) (rest : List Received) → ((conns k).down ≡ y0 ∷ rest) → CopyPair c conns s
+    → CopyPair c (put conns k (take_front (conns k) rest)) s
 behind_copy_pair c conns s t l a k y0 rest is i_copy_pair =
     λ j n p x. let old = i_copy_pair j n p x in grind (arith, get-push)
 
-behind_create_reply : (c : Client) (conns : ℕ → Conn) (s : Server) (t : Trace) (l : Log) (a : ℕ → ℕ) (k : ℕ) (y0 : Received) (rest : List Received) → ((conns k).down ≡ y0 ∷ rest) → CreateReply c conns s t → CreateReply c (put conns k (take_front (conns k) rest)) s t
+behind_create_reply : (c : Client) (conns : ℕ → Conn) (s : Server) (t : Trace) (l : Log) (a : ℕ → ℕ) (k : ℕ)
+    (y0 : Received) (rest : List Received) → ((conns k).down ≡ y0 ∷ rest) → CreateReply c conns s t
+    → CreateReply c (put conns k (take_front (conns k) rest)) s t
 behind_create_reply c conns s t l a k y0 rest is i_create_reply =
     λ j n p y h. let o = waited_down conns k y0 rest j n y is h in i_create_reply j o.0 p y o.1
 
-behind_attach_reply : (c : Client) (conns : ℕ → Conn) (s : Server) (t : Trace) (l : Log) (a : ℕ → ℕ) (k : ℕ) (y0 : Received) (rest : List Received) → ((conns k).down ≡ y0 ∷ rest) → AttachReply c conns s → AttachReply c (put conns k (take_front (conns k) rest)) s
+behind_attach_reply : (c : Client) (conns : ℕ → Conn) (s : Server) (t : Trace) (l : Log) (a : ℕ → ℕ) (k : ℕ)
+    (y0 : Received) (rest : List Received) → ((conns k).down ≡ y0 ∷ rest) → AttachReply c conns s
+    → AttachReply c (put conns k (take_front (conns k) rest)) s
 behind_attach_reply c conns s t l a k y0 rest is i_attach_reply =
     λ j n p y h. let o = waited_down conns k y0 rest j n y is h in i_attach_reply j o.0 p y o.1
 
-behind_reached : (c : Client) (conns : ℕ → Conn) (s : Server) (t : Trace) (l : Log) (a : ℕ → ℕ) (k : ℕ) (y0 : Received) (rest : List Received) → ((conns k).down ≡ y0 ∷ rest) → Reached c conns s → Reached c (put conns k (take_front (conns k) rest)) s
+behind_reached : (c : Client) (conns : ℕ → Conn) (s : Server) (t : Trace) (l : Log) (a : ℕ → ℕ) (k : ℕ) (y0 : Received)
+    (rest : List Received) → ((conns k).down ≡ y0 ∷ rest) → Reached c conns s
+    → Reached c (put conns k (take_front (conns k) rest)) s
 behind_reached c conns s t l a k y0 rest is i_reached =
     λ j n p y h. let o = waited_down conns k y0 rest j n y is h in i_reached j o.0 p y o.1
 
-behind_closed_reply : (c : Client) (conns : ℕ → Conn) (s : Server) (t : Trace) (l : Log) (a : ℕ → ℕ) (k : ℕ) (y0 : Received) (rest : List Received) → ((conns k).down ≡ y0 ∷ rest) → ClosedReply c conns s → ClosedReply c (put conns k (take_front (conns k) rest)) s
+behind_closed_reply : (c : Client) (conns : ℕ → Conn) (s : Server) (t : Trace) (l : Log) (a : ℕ → ℕ) (k : ℕ)
+    (y0 : Received) (rest : List Received) → ((conns k).down ≡ y0 ∷ rest) → ClosedReply c conns s
+    → ClosedReply c (put conns k (take_front (conns k) rest)) s
 behind_closed_reply c conns s t l a k y0 rest is i_closed_reply =
     λ j n p y h. let o = waited_down conns k y0 rest j n y is h in i_closed_reply j o.0 p y o.1
 
-behind_attach_refused : (c : Client) (conns : ℕ → Conn) (s : Server) (t : Trace) (l : Log) (a : ℕ → ℕ) (k : ℕ) (y0 : Received) (rest : List Received) → ((conns k).down ≡ y0 ∷ rest) → AttachRefused c conns s → AttachRefused c (put conns k (take_front (conns k) rest)) s
+behind_attach_refused : (c : Client) (conns : ℕ → Conn) (s : Server) (t : Trace) (l : Log) (a : ℕ → ℕ) (k : ℕ)
+    (y0 : Received) (rest : List Received) → ((conns k).down ≡ y0 ∷ rest) → AttachRefused c conns s
+    → AttachRefused c (put conns k (take_front (conns k) rest)) s
 behind_attach_refused c conns s t l a k y0 rest is i_attach_refused =
     λ j n p y h. let o = waited_down conns k y0 rest j n y is h in i_attach_refused j o.0 p y o.1
 
-behind_stale_reply : (c : Client) (conns : ℕ → Conn) (s : Server) (t : Trace) (l : Log) (a : ℕ → ℕ) (k : ℕ) (y0 : Received) (rest : List Received) → ((conns k).down ≡ y0 ∷ rest) → StaleReply c conns → StaleReply c (put conns k (take_front (conns k) rest))
+behind_stale_reply : (c : Client) (conns : ℕ → Conn) (s : Server) (t : Trace) (l : Log) (a : ℕ → ℕ) (k : ℕ)
+    (y0 : Received) (rest : List Received) → ((conns k).down ≡ y0 ∷ rest) → StaleReply c conns
+    → StaleReply c (put conns k (take_front (conns k) rest))
 behind_stale_reply c conns s t l a k y0 rest is i_stale_reply =
     λ j n p y h. let o = waited_down conns k y0 rest j n y is h in i_stale_reply j o.0 p y o.1
 
-behind_live_unsettled : (c : Client) (conns : ℕ → Conn) (s : Server) (t : Trace) (l : Log) (a : ℕ → ℕ) (k : ℕ) (y0 : Received) (rest : List Received) → ((conns k).down ≡ y0 ∷ rest) → LiveUnsettled c conns s → LiveUnsettled c (put conns k (take_front (conns k) rest)) s
+behind_live_unsettled : (c : Client) (conns : ℕ → Conn) (s : Server) (t : Trace) (l : Log) (a : ℕ → ℕ) (k : ℕ)
+    (y0 : Received) (rest : List Received) → ((conns k).down ≡ y0 ∷ rest) → LiveUnsettled c conns s
+    → LiveUnsettled c (put conns k (take_front (conns k) rest)) s
 behind_live_unsettled c conns s t l a k y0 rest is i_live_unsettled =
     λ j n p x. let old = i_live_unsettled j n p x in grind (arith, get-push)
 
-behind_live_replay : (c : Client) (conns : ℕ → Conn) (s : Server) (t : Trace) (l : Log) (a : ℕ → ℕ) (k : ℕ) (y0 : Received) (rest : List Received) → ((conns k).down ≡ y0 ∷ rest) → LiveReplay c conns s l → LiveReplay c (put conns k (take_front (conns k) rest)) s l
+behind_live_replay : (c : Client) (conns : ℕ → Conn) (s : Server) (t : Trace) (l : Log) (a : ℕ → ℕ) (k : ℕ)
+    (y0 : Received) (rest : List Received) → ((conns k).down ≡ y0 ∷ rest) → LiveReplay c conns s l
+    → LiveReplay c (put conns k (take_front (conns k) rest)) s l
 behind_live_replay c conns s t l a k y0 rest is i_live_replay =
     λ j n p x. let old = i_live_replay j n p x in grind (arith, get-push)
 
-behind_replies : (c : Client) (conns : ℕ → Conn) (s : Server) (t : Trace) (l : Log) (a : ℕ → ℕ) (k : ℕ) (y0 : Received) (rest : List Received) → ((conns k).down ≡ y0 ∷ rest) → Replies conns l → Replies (put conns k (take_front (conns k) rest)) l
+behind_replies : (c : Client) (conns : ℕ → Conn) (s : Server) (t : Trace) (l : Log) (a : ℕ → ℕ) (k : ℕ) (y0 : Received)
+    (rest : List Received) → ((conns k).down ≡ y0 ∷ rest) → Replies conns l
+    → Replies (put conns k (take_front (conns k) rest)) l
 behind_replies c conns s t l a k y0 rest is i_replies =
     λ j n y h. let o = waited_down conns k y0 rest j n y is h in i_replies j o.0 y o.1
 
-behind_attach_status : (c : Client) (conns : ℕ → Conn) (s : Server) (t : Trace) (l : Log) (a : ℕ → ℕ) (k : ℕ) (y0 : Received) (rest : List Received) → ((conns k).down ≡ y0 ∷ rest) → AttachStatus conns → AttachStatus (put conns k (take_front (conns k) rest))
+behind_attach_status : (c : Client) (conns : ℕ → Conn) (s : Server) (t : Trace) (l : Log) (a : ℕ → ℕ) (k : ℕ)
+    (y0 : Received) (rest : List Received) → ((conns k).down ≡ y0 ∷ rest) → AttachStatus conns
+    → AttachStatus (put conns k (take_front (conns k) rest))
 behind_attach_status c conns s t l a k y0 rest is i_attach_status =
     λ j n p y h. let o = waited_down conns k y0 rest j n y is h in i_attach_status j o.0 p y o.1
 
-behind_since_reply : (c : Client) (conns : ℕ → Conn) (s : Server) (t : Trace) (l : Log) (a : ℕ → ℕ) (k : ℕ) (y0 : Received) (rest : List Received) → ((conns k).down ≡ y0 ∷ rest) → SinceReply conns l → SinceReply (put conns k (take_front (conns k) rest)) l
+behind_since_reply : (c : Client) (conns : ℕ → Conn) (s : Server) (t : Trace) (l : Log) (a : ℕ → ℕ) (k : ℕ)
+    (y0 : Received) (rest : List Received) → ((conns k).down ≡ y0 ∷ rest) → SinceReply conns l
+    → SinceReply (put conns k (take_front (conns k) rest)) l
 behind_since_reply c conns s t l a k y0 rest is i_since_reply =
     λ j n y h. let o = waited_down conns k y0 rest j n y is h in i_since_reply j o.0 y o.1
 
-pub behind_keeps : (c : Client) (conns : ℕ → Conn) (s : Server) (t : Trace) (l : Log) (a : ℕ → ℕ) (k : ℕ) (y0 : Received) (rest : List Received) → ((conns k).down ≡ y0 ∷ rest) → Contents c conns s t l a → Contents c (put conns k (take_front (conns k) rest)) s t l a
+pub behind_keeps : (c : Client) (conns : ℕ → Conn) (s : Server) (t : Trace) (l : Log) (a : ℕ → ℕ) (k : ℕ)
+    (y0 : Received) (rest : List Received) → ((conns k).down ≡ y0 ∷ rest) → Contents c conns s t l a
+    → Contents c (put conns k (take_front (conns k) rest)) s t l a
 behind_keeps c conns s t l a k y0 rest is i =
     record {
       token_up = behind_token_up c conns s t l a k y0 rest is i.token_up;

@@ -6,19 +6,23 @@ use Rattle.exchange_defs.specs.Client.{Client, bind_channel}
 use Rattle.exchange_defs.specs.Network.{Conn, Trace}
 use Rattle.order_law.specs.Contents.{Contents, LostAsked, SessionAsked, PendingAt}
 
-bound_lost_asked : (c : Client) (conns : ℕ → Conn) (s : Server) (t : Trace) (l : Log) (a : ℕ → ℕ) (k : ℕ) → LostAsked c → LostAsked (bind_channel c k)
+bound_lost_asked : (c : Client) (conns : ℕ → Conn) (s : Server) (t : Trace) (l : Log) (a : ℕ → ℕ) (k : ℕ) → LostAsked c
+    → LostAsked (bind_channel c k)
 bound_lost_asked c conns s t l a k i_lost_asked =
     λ p j z. let old = i_lost_asked p j z in grind arith
 
-bound_session_asked : (c : Client) (conns : ℕ → Conn) (s : Server) (t : Trace) (l : Log) (a : ℕ → ℕ) (k : ℕ) → SessionAsked c → SessionAsked (bind_channel c k)
+bound_session_asked : (c : Client) (conns : ℕ → Conn) (s : Server) (t : Trace) (l : Log) (a : ℕ → ℕ) (k : ℕ)
+    → SessionAsked c → SessionAsked (bind_channel c k)
 bound_session_asked c conns s t l a k i_session_asked =
     λ j. let old = i_session_asked j in grind arith
 
-bound_pending_at : (c : Client) (conns : ℕ → Conn) (s : Server) (t : Trace) (l : Log) (a : ℕ → ℕ) (k : ℕ) → PendingAt c s → PendingAt (bind_channel c k) s
+bound_pending_at : (c : Client) (conns : ℕ → Conn) (s : Server) (t : Trace) (l : Log) (a : ℕ → ℕ) (k : ℕ)
+    → PendingAt c s → PendingAt (bind_channel c k) s
 bound_pending_at c conns s t l a k i_pending_at =
     λ o j. let old = i_pending_at o j in grind arith
 
-pub bound_keeps : (c : Client) (conns : ℕ → Conn) (s : Server) (t : Trace) (l : Log) (a : ℕ → ℕ) (k : ℕ) → Contents c conns s t l a → Contents (bind_channel c k) conns s t l a
+pub bound_keeps : (c : Client) (conns : ℕ → Conn) (s : Server) (t : Trace) (l : Log) (a : ℕ → ℕ) (k : ℕ)
+    → Contents c conns s t l a → Contents (bind_channel c k) conns s t l a
 bound_keeps c conns s t l a k i =
     record {
       token_up = i.token_up;

@@ -6,97 +6,123 @@ use Rattle.exchange_defs.specs.State.{Server, Message}
 use Rattle.exchange_defs.specs.Client.{Client}
 use Rattle.exchange_defs.specs.Network.{Conn, Trace, ForDialog, send_up}
 use Rattle.exchange_law.proofs.Lists.{get-push}
-use Rattle.order_law.specs.Contents.{Contents, TokenUp, TokenDown, OpensUp, AskedAs, FirstUp, NotDone, CutSeq, OpenSeq, Older, NoReplay, CopyPair, CreateReply, AttachReply, Reached, ClosedReply, AttachRefused, StaleReply, LiveUnsettled, LiveReplay, Replies, AttachStatus, SinceReply}
+use Rattle.order_law.specs.Contents.{Contents, TokenUp, TokenDown, OpensUp, AskedAs, FirstUp, NotDone, CutSeq, OpenSeq}
+use Rattle.order_law.specs.Contents.{Older, NoReplay, CopyPair, CreateReply, AttachReply, Reached, ClosedReply}
+use Rattle.order_law.specs.Contents.{AttachRefused, StaleReply, LiveUnsettled, LiveReplay, Replies, AttachStatus}
+use Rattle.order_law.specs.Contents.{SinceReply}
 
-dialog_sent_token_up : (c : Client) (conns : ℕ → Conn) (s : Server) (t : Trace) (l : Log) (a : ℕ → ℕ) (k n0 : ℕ) (m : Message) → TokenUp c conns → TokenUp c (put conns k (send_up (conns k) ForDialog m n0))
+dialog_sent_token_up : (c : Client) (conns : ℕ → Conn) (s : Server) (t : Trace) (l : Log) (a : ℕ → ℕ) (k n0 : ℕ)
+    (m : Message) → TokenUp c conns → TokenUp c (put conns k (send_up (conns k) ForDialog m n0))
 dialog_sent_token_up c conns s t l a k n0 m i_token_up =
     λ j n x. let old = i_token_up j n x in grind (arith, get-push)
 
-dialog_sent_token_down : (c : Client) (conns : ℕ → Conn) (s : Server) (t : Trace) (l : Log) (a : ℕ → ℕ) (k n0 : ℕ) (m : Message) → TokenDown c conns → TokenDown c (put conns k (send_up (conns k) ForDialog m n0))
+dialog_sent_token_down : (c : Client) (conns : ℕ → Conn) (s : Server) (t : Trace) (l : Log) (a : ℕ → ℕ) (k n0 : ℕ)
+    (m : Message) → TokenDown c conns → TokenDown c (put conns k (send_up (conns k) ForDialog m n0))
 dialog_sent_token_down c conns s t l a k n0 m i_token_down =
     λ j n y. let old = i_token_down j n y in grind (arith, get-push)
 
-dialog_sent_opens_up : (c : Client) (conns : ℕ → Conn) (s : Server) (t : Trace) (l : Log) (a : ℕ → ℕ) (k n0 : ℕ) (m : Message) → OpensUp c conns → OpensUp c (put conns k (send_up (conns k) ForDialog m n0))
+dialog_sent_opens_up : (c : Client) (conns : ℕ → Conn) (s : Server) (t : Trace) (l : Log) (a : ℕ → ℕ) (k n0 : ℕ)
+    (m : Message) → OpensUp c conns → OpensUp c (put conns k (send_up (conns k) ForDialog m n0))
 dialog_sent_opens_up c conns s t l a k n0 m i_opens_up =
     λ j n x. let old = i_opens_up j n x in grind (arith, get-push)
 
-dialog_sent_asked_as : (c : Client) (conns : ℕ → Conn) (s : Server) (t : Trace) (l : Log) (a : ℕ → ℕ) (k n0 : ℕ) (m : Message) → AskedAs c conns → AskedAs c (put conns k (send_up (conns k) ForDialog m n0))
+dialog_sent_asked_as : (c : Client) (conns : ℕ → Conn) (s : Server) (t : Trace) (l : Log) (a : ℕ → ℕ) (k n0 : ℕ)
+    (m : Message) → AskedAs c conns → AskedAs c (put conns k (send_up (conns k) ForDialog m n0))
 dialog_sent_asked_as c conns s t l a k n0 m i_asked_as =
     λ j n p x. let old = i_asked_as j n p x in grind (arith, get-push)
 
-dialog_sent_first_up : (c : Client) (conns : ℕ → Conn) (s : Server) (t : Trace) (l : Log) (a : ℕ → ℕ) (k n0 : ℕ) (m : Message) → FirstUp c conns l → FirstUp c (put conns k (send_up (conns k) ForDialog m n0)) l
+dialog_sent_first_up : (c : Client) (conns : ℕ → Conn) (s : Server) (t : Trace) (l : Log) (a : ℕ → ℕ) (k n0 : ℕ)
+    (m : Message) → FirstUp c conns l → FirstUp c (put conns k (send_up (conns k) ForDialog m n0)) l
 dialog_sent_first_up c conns s t l a k n0 m i_first_up =
     λ j n p x. let old = i_first_up j n p x in grind (arith, get-push)
 
-dialog_sent_not_done : (c : Client) (conns : ℕ → Conn) (s : Server) (t : Trace) (l : Log) (a : ℕ → ℕ) (k n0 : ℕ) (m : Message) → NotDone c conns l → NotDone c (put conns k (send_up (conns k) ForDialog m n0)) l
+dialog_sent_not_done : (c : Client) (conns : ℕ → Conn) (s : Server) (t : Trace) (l : Log) (a : ℕ → ℕ) (k n0 : ℕ)
+    (m : Message) → NotDone c conns l → NotDone c (put conns k (send_up (conns k) ForDialog m n0)) l
 dialog_sent_not_done c conns s t l a k n0 m i_not_done =
     λ j n p y. let old = i_not_done j n p y in grind (arith, get-push)
 
-dialog_sent_cut_seq : (c : Client) (conns : ℕ → Conn) (s : Server) (t : Trace) (l : Log) (a : ℕ → ℕ) (k n0 : ℕ) (m : Message) → CutSeq c conns → CutSeq c (put conns k (send_up (conns k) ForDialog m n0))
+dialog_sent_cut_seq : (c : Client) (conns : ℕ → Conn) (s : Server) (t : Trace) (l : Log) (a : ℕ → ℕ) (k n0 : ℕ)
+    (m : Message) → CutSeq c conns → CutSeq c (put conns k (send_up (conns k) ForDialog m n0))
 dialog_sent_cut_seq c conns s t l a k n0 m i_cut_seq =
     λ j n p x. let old = i_cut_seq j n p x in grind (arith, get-push)
 
-dialog_sent_open_seq : (c : Client) (conns : ℕ → Conn) (s : Server) (t : Trace) (l : Log) (a : ℕ → ℕ) (k n0 : ℕ) (m : Message) → OpenSeq c conns → OpenSeq c (put conns k (send_up (conns k) ForDialog m n0))
+dialog_sent_open_seq : (c : Client) (conns : ℕ → Conn) (s : Server) (t : Trace) (l : Log) (a : ℕ → ℕ) (k n0 : ℕ)
+    (m : Message) → OpenSeq c conns → OpenSeq c (put conns k (send_up (conns k) ForDialog m n0))
 dialog_sent_open_seq c conns s t l a k n0 m i_open_seq =
     λ j n p x. let old = i_open_seq j n p x in grind (arith, get-push)
 
-dialog_sent_older : (c : Client) (conns : ℕ → Conn) (s : Server) (t : Trace) (l : Log) (a : ℕ → ℕ) (k n0 : ℕ) (m : Message) → Older c conns → Older c (put conns k (send_up (conns k) ForDialog m n0))
+dialog_sent_older : (c : Client) (conns : ℕ → Conn) (s : Server) (t : Trace) (l : Log) (a : ℕ → ℕ) (k n0 : ℕ)
+    (m : Message) → Older c conns → Older c (put conns k (send_up (conns k) ForDialog m n0))
 dialog_sent_older c conns s t l a k n0 m i_older =
     λ j n i p x. let old = i_older j n i p x in grind (arith, get-push)
 
-dialog_sent_no_replay : (c : Client) (conns : ℕ → Conn) (s : Server) (t : Trace) (l : Log) (a : ℕ → ℕ) (k n0 : ℕ) (m : Message) → NoReplay c conns → NoReplay c (put conns k (send_up (conns k) ForDialog m n0))
+dialog_sent_no_replay : (c : Client) (conns : ℕ → Conn) (s : Server) (t : Trace) (l : Log) (a : ℕ → ℕ) (k n0 : ℕ)
+    (m : Message) → NoReplay c conns → NoReplay c (put conns k (send_up (conns k) ForDialog m n0))
 dialog_sent_no_replay c conns s t l a k n0 m i_no_replay =
     λ j n i q p u x. let old = i_no_replay j n i q p u x in grind (arith, get-push)
 
-dialog_sent_copy_pair : (c : Client) (conns : ℕ → Conn) (s : Server) (t : Trace) (l : Log) (a : ℕ → ℕ) (k n0 : ℕ) (m : Message) → CopyPair c conns s → CopyPair c (put conns k (send_up (conns k) ForDialog m n0)) s
+dialog_sent_copy_pair : (c : Client) (conns : ℕ → Conn) (s : Server) (t : Trace) (l : Log) (a : ℕ → ℕ) (k n0 : ℕ)
+    (m : Message) → CopyPair c conns s → CopyPair c (put conns k (send_up (conns k) ForDialog m n0)) s
 dialog_sent_copy_pair c conns s t l a k n0 m i_copy_pair =
     λ j n p x. let old = i_copy_pair j n p x in grind (arith, get-push)
 
-dialog_sent_create_reply : (c : Client) (conns : ℕ → Conn) (s : Server) (t : Trace) (l : Log) (a : ℕ → ℕ) (k n0 : ℕ) (m : Message) → CreateReply c conns s t → CreateReply c (put conns k (send_up (conns k) ForDialog m n0)) s t
+dialog_sent_create_reply : (c : Client) (conns : ℕ → Conn) (s : Server) (t : Trace) (l : Log) (a : ℕ → ℕ) (k n0 : ℕ)
+    (m : Message) → CreateReply c conns s t → CreateReply c (put conns k (send_up (conns k) ForDialog m n0)) s t
 dialog_sent_create_reply c conns s t l a k n0 m i_create_reply =
     λ j n p y. let old = i_create_reply j n p y in grind (arith, get-push)
 
-dialog_sent_attach_reply : (c : Client) (conns : ℕ → Conn) (s : Server) (t : Trace) (l : Log) (a : ℕ → ℕ) (k n0 : ℕ) (m : Message) → AttachReply c conns s → AttachReply c (put conns k (send_up (conns k) ForDialog m n0)) s
+dialog_sent_attach_reply : (c : Client) (conns : ℕ → Conn) (s : Server) (t : Trace) (l : Log) (a : ℕ → ℕ) (k n0 : ℕ)
+    (m : Message) → AttachReply c conns s → AttachReply c (put conns k (send_up (conns k) ForDialog m n0)) s
 dialog_sent_attach_reply c conns s t l a k n0 m i_attach_reply =
     λ j n p y. let old = i_attach_reply j n p y in grind (arith, get-push)
 
-dialog_sent_reached : (c : Client) (conns : ℕ → Conn) (s : Server) (t : Trace) (l : Log) (a : ℕ → ℕ) (k n0 : ℕ) (m : Message) → Reached c conns s → Reached c (put conns k (send_up (conns k) ForDialog m n0)) s
+dialog_sent_reached : (c : Client) (conns : ℕ → Conn) (s : Server) (t : Trace) (l : Log) (a : ℕ → ℕ) (k n0 : ℕ)
+    (m : Message) → Reached c conns s → Reached c (put conns k (send_up (conns k) ForDialog m n0)) s
 dialog_sent_reached c conns s t l a k n0 m i_reached =
     λ j n p y. let old = i_reached j n p y in grind (arith, get-push)
 
-dialog_sent_closed_reply : (c : Client) (conns : ℕ → Conn) (s : Server) (t : Trace) (l : Log) (a : ℕ → ℕ) (k n0 : ℕ) (m : Message) → ClosedReply c conns s → ClosedReply c (put conns k (send_up (conns k) ForDialog m n0)) s
+dialog_sent_closed_reply : (c : Client) (conns : ℕ → Conn) (s : Server) (t : Trace) (l : Log) (a : ℕ → ℕ) (k n0 : ℕ)
+    (m : Message) → ClosedReply c conns s → ClosedReply c (put conns k (send_up (conns k) ForDialog m n0)) s
 dialog_sent_closed_reply c conns s t l a k n0 m i_closed_reply =
     λ j n p y. let old = i_closed_reply j n p y in grind (arith, get-push)
 
-dialog_sent_attach_refused : (c : Client) (conns : ℕ → Conn) (s : Server) (t : Trace) (l : Log) (a : ℕ → ℕ) (k n0 : ℕ) (m : Message) → AttachRefused c conns s → AttachRefused c (put conns k (send_up (conns k) ForDialog m n0)) s
+dialog_sent_attach_refused : (c : Client) (conns : ℕ → Conn) (s : Server) (t : Trace) (l : Log) (a : ℕ → ℕ) (k n0 : ℕ)
+    (m : Message) → AttachRefused c conns s → AttachRefused c (put conns k (send_up (conns k) ForDialog m n0)) s
 dialog_sent_attach_refused c conns s t l a k n0 m i_attach_refused =
     λ j n p y. let old = i_attach_refused j n p y in grind (arith, get-push)
 
-dialog_sent_stale_reply : (c : Client) (conns : ℕ → Conn) (s : Server) (t : Trace) (l : Log) (a : ℕ → ℕ) (k n0 : ℕ) (m : Message) → StaleReply c conns → StaleReply c (put conns k (send_up (conns k) ForDialog m n0))
+dialog_sent_stale_reply : (c : Client) (conns : ℕ → Conn) (s : Server) (t : Trace) (l : Log) (a : ℕ → ℕ) (k n0 : ℕ)
+    (m : Message) → StaleReply c conns → StaleReply c (put conns k (send_up (conns k) ForDialog m n0))
 dialog_sent_stale_reply c conns s t l a k n0 m i_stale_reply =
     λ j n p y. let old = i_stale_reply j n p y in grind (arith, get-push)
 
-dialog_sent_live_unsettled : (c : Client) (conns : ℕ → Conn) (s : Server) (t : Trace) (l : Log) (a : ℕ → ℕ) (k n0 : ℕ) (m : Message) → LiveUnsettled c conns s → LiveUnsettled c (put conns k (send_up (conns k) ForDialog m n0)) s
+dialog_sent_live_unsettled : (c : Client) (conns : ℕ → Conn) (s : Server) (t : Trace) (l : Log) (a : ℕ → ℕ) (k n0 : ℕ)
+    (m : Message) → LiveUnsettled c conns s → LiveUnsettled c (put conns k (send_up (conns k) ForDialog m n0)) s
 dialog_sent_live_unsettled c conns s t l a k n0 m i_live_unsettled =
     λ j n p x. let old = i_live_unsettled j n p x in grind (arith, get-push)
 
-dialog_sent_live_replay : (c : Client) (conns : ℕ → Conn) (s : Server) (t : Trace) (l : Log) (a : ℕ → ℕ) (k n0 : ℕ) (m : Message) → LiveReplay c conns s l → LiveReplay c (put conns k (send_up (conns k) ForDialog m n0)) s l
+dialog_sent_live_replay : (c : Client) (conns : ℕ → Conn) (s : Server) (t : Trace) (l : Log) (a : ℕ → ℕ) (k n0 : ℕ)
+    (m : Message) → LiveReplay c conns s l → LiveReplay c (put conns k (send_up (conns k) ForDialog m n0)) s l
 dialog_sent_live_replay c conns s t l a k n0 m i_live_replay =
     λ j n p x. let old = i_live_replay j n p x in grind (arith, get-push)
 
-dialog_sent_replies : (c : Client) (conns : ℕ → Conn) (s : Server) (t : Trace) (l : Log) (a : ℕ → ℕ) (k n0 : ℕ) (m : Message) → Replies conns l → Replies (put conns k (send_up (conns k) ForDialog m n0)) l
+dialog_sent_replies : (c : Client) (conns : ℕ → Conn) (s : Server) (t : Trace) (l : Log) (a : ℕ → ℕ) (k n0 : ℕ)
+    (m : Message) → Replies conns l → Replies (put conns k (send_up (conns k) ForDialog m n0)) l
 dialog_sent_replies c conns s t l a k n0 m i_replies =
     λ j n y. let old = i_replies j n y in grind (arith, get-push)
 
-dialog_sent_attach_status : (c : Client) (conns : ℕ → Conn) (s : Server) (t : Trace) (l : Log) (a : ℕ → ℕ) (k n0 : ℕ) (m : Message) → AttachStatus conns → AttachStatus (put conns k (send_up (conns k) ForDialog m n0))
+dialog_sent_attach_status : (c : Client) (conns : ℕ → Conn) (s : Server) (t : Trace) (l : Log) (a : ℕ → ℕ) (k n0 : ℕ)
+    (m : Message) → AttachStatus conns → AttachStatus (put conns k (send_up (conns k) ForDialog m n0))
 dialog_sent_attach_status c conns s t l a k n0 m i_attach_status =
     λ j n p y. let old = i_attach_status j n p y in grind (arith, get-push)
 
-dialog_sent_since_reply : (c : Client) (conns : ℕ → Conn) (s : Server) (t : Trace) (l : Log) (a : ℕ → ℕ) (k n0 : ℕ) (m : Message) → SinceReply conns l → SinceReply (put conns k (send_up (conns k) ForDialog m n0)) l
+dialog_sent_since_reply : (c : Client) (conns : ℕ → Conn) (s : Server) (t : Trace) (l : Log) (a : ℕ → ℕ) (k n0 : ℕ)
+    (m : Message) → SinceReply conns l → SinceReply (put conns k (send_up (conns k) ForDialog m n0)) l
 dialog_sent_since_reply c conns s t l a k n0 m i_since_reply =
     λ j n y. let old = i_since_reply j n y in grind (arith, get-push)
 
-pub dialog_sent_keeps : (c : Client) (conns : ℕ → Conn) (s : Server) (t : Trace) (l : Log) (a : ℕ → ℕ) (k n0 : ℕ) (m : Message) → Contents c conns s t l a → Contents c (put conns k (send_up (conns k) ForDialog m n0)) s t l a
+pub dialog_sent_keeps : (c : Client) (conns : ℕ → Conn) (s : Server) (t : Trace) (l : Log) (a : ℕ → ℕ) (k n0 : ℕ)
+    (m : Message) → Contents c conns s t l a → Contents c (put conns k (send_up (conns k) ForDialog m n0)) s t l a
 dialog_sent_keeps c conns s t l a k n0 m i =
     record {
       token_up = dialog_sent_token_up c conns s t l a k n0 m i.token_up;

@@ -7,7 +7,8 @@ use Rattle.exchange_defs.specs.Client.{Client}
 use Rattle.exchange_defs.specs.Network.{Conn, Trace}
 use Rattle.order_law.specs.Contents.{Contents}
 
-pub fills_keeps : (c : Client) (conns : ℕ → Conn) (s : Server) (t : Trace) (l : Log) (a : ℕ → ℕ) (create slot : ℕ) → Contents c conns s t l a → Contents (record c { full = put2 c.full create slot true }) conns s t l a
+pub fills_keeps : (c : Client) (conns : ℕ → Conn) (s : Server) (t : Trace) (l : Log) (a : ℕ → ℕ) (create slot : ℕ)
+    → Contents c conns s t l a → Contents (record c { full = put2 c.full create slot true }) conns s t l a
 fills_keeps c conns s t l a create slot i =
     record {
       token_up = i.token_up;

@@ -6,74 +6,94 @@ use Rattle.exchange_defs.specs.Operations.{Why}
 use Rattle.exchange_defs.specs.Client.{Client, finish, is_taken}
 use Rattle.exchange_defs.specs.Network.{Conn, Trace}
 use Rattle.exchange_law.proofs.Lists.{get-push}
-use Rattle.order_law.specs.Contents.{Contents, OpensUp, LostUnknown, LostDead, LostKnown, LostAsked, SessionKnown, SessionAsked, Pairwise, Unacted, LiveUnsettled, Shows, OpenOf, Whose, By, ByOk, ByEnd, BySome, Prior}
+use Rattle.order_law.specs.Contents.{Contents, OpensUp, LostUnknown, LostDead, LostKnown, LostAsked, SessionKnown}
+use Rattle.order_law.specs.Contents.{SessionAsked, Pairwise, Unacted, LiveUnsettled, Shows, OpenOf, Whose, By, ByOk}
+use Rattle.order_law.specs.Contents.{ByEnd, BySome, Prior}
 use Rattle.order_law.proofs.Words.{finished_was}
 
-finished_opens_up : (c : Client) (conns : ℕ → Conn) (s : Server) (t : Trace) (l : Log) (a : ℕ → ℕ) (why : Why) → (c.live ≡ false) → OpensUp c conns → OpensUp (finish c why) conns
+finished_opens_up : (c : Client) (conns : ℕ → Conn) (s : Server) (t : Trace) (l : Log) (a : ℕ → ℕ) (why : Why)
+    → (c.live ≡ false) → OpensUp c conns → OpensUp (finish c why) conns
 finished_opens_up c conns s t l a why dead i_opens_up =
     λ j n x. let old = i_opens_up j n x in grind (arith, get-push)
 
-finished_lost_unknown : (c : Client) (conns : ℕ → Conn) (s : Server) (t : Trace) (l : Log) (a : ℕ → ℕ) (why : Why) → (c.live ≡ false) → LostUnknown c → LostUnknown (finish c why)
+finished_lost_unknown : (c : Client) (conns : ℕ → Conn) (s : Server) (t : Trace) (l : Log) (a : ℕ → ℕ) (why : Why)
+    → (c.live ≡ false) → LostUnknown c → LostUnknown (finish c why)
 finished_lost_unknown c conns s t l a why dead i_lost_unknown =
     λ p z. let old = i_lost_unknown p z in grind arith
 
-finished_lost_dead : (c : Client) (conns : ℕ → Conn) (s : Server) (t : Trace) (l : Log) (a : ℕ → ℕ) (why : Why) → (c.live ≡ false) → LostDead c → LostDead (finish c why)
+finished_lost_dead : (c : Client) (conns : ℕ → Conn) (s : Server) (t : Trace) (l : Log) (a : ℕ → ℕ) (why : Why)
+    → (c.live ≡ false) → LostDead c → LostDead (finish c why)
 finished_lost_dead c conns s t l a why dead i_lost_dead =
     λ p. let old = i_lost_dead p in grind arith
 
-finished_lost_known : (c : Client) (conns : ℕ → Conn) (s : Server) (t : Trace) (l : Log) (a : ℕ → ℕ) (why : Why) → (c.live ≡ false) → LostKnown c → SessionKnown c → LostKnown (finish c why)
+finished_lost_known : (c : Client) (conns : ℕ → Conn) (s : Server) (t : Trace) (l : Log) (a : ℕ → ℕ) (why : Why)
+    → (c.live ≡ false) → LostKnown c → SessionKnown c → LostKnown (finish c why)
 finished_lost_known c conns s t l a why dead i_lost_known i_session_known =
     λ p z. let old = i_lost_known p z in let known = i_session_known in grind arith
 
-finished_lost_asked : (c : Client) (conns : ℕ → Conn) (s : Server) (t : Trace) (l : Log) (a : ℕ → ℕ) (why : Why) → (c.live ≡ false) → LostAsked c → SessionAsked c → LostAsked (finish c why)
+finished_lost_asked : (c : Client) (conns : ℕ → Conn) (s : Server) (t : Trace) (l : Log) (a : ℕ → ℕ) (why : Why)
+    → (c.live ≡ false) → LostAsked c → SessionAsked c → LostAsked (finish c why)
 finished_lost_asked c conns s t l a why dead i_lost_asked i_session_asked =
     λ p j z. let old = i_lost_asked p j z in let known = i_session_asked j in grind arith
 
-finished_pairwise : (c : Client) (conns : ℕ → Conn) (s : Server) (t : Trace) (l : Log) (a : ℕ → ℕ) (why : Why) → (c.live ≡ false) → Pairwise c → Pairwise (finish c why)
+finished_pairwise : (c : Client) (conns : ℕ → Conn) (s : Server) (t : Trace) (l : Log) (a : ℕ → ℕ) (why : Why)
+    → (c.live ≡ false) → Pairwise c → Pairwise (finish c why)
 finished_pairwise c conns s t l a why dead i_pairwise =
-    λ p q lt st e1 e2 cr u1 u2. i_pairwise p q lt st e1 e2 cr (finished_was (is_taken c p) why c.session (c.outcome p) (c.given_up p) u1) (finished_was (is_taken c q) why c.session (c.outcome q) (c.given_up q) u2)
+    λ p q lt st e1 e2 cr u1 u2. i_pairwise p q lt st e1 e2 cr (finished_was (is_taken c p) why c.session (c.outcome p)
+    (c.given_up p) u1) (finished_was (is_taken c q) why c.session (c.outcome q) (c.given_up q) u2)
 
-finished_unacted : (c : Client) (conns : ℕ → Conn) (s : Server) (t : Trace) (l : Log) (a : ℕ → ℕ) (why : Why) → (c.live ≡ false) → Unacted c l → Unacted (finish c why) l
+finished_unacted : (c : Client) (conns : ℕ → Conn) (s : Server) (t : Trace) (l : Log) (a : ℕ → ℕ) (why : Why)
+    → (c.live ≡ false) → Unacted c l → Unacted (finish c why) l
 finished_unacted c conns s t l a why dead i_unacted =
     λ p. let old = i_unacted p in grind arith
 
-finished_live_unsettled : (c : Client) (conns : ℕ → Conn) (s : Server) (t : Trace) (l : Log) (a : ℕ → ℕ) (why : Why) → (c.live ≡ false) → LiveUnsettled c conns s → LiveUnsettled (finish c why) conns s
+finished_live_unsettled : (c : Client) (conns : ℕ → Conn) (s : Server) (t : Trace) (l : Log) (a : ℕ → ℕ) (why : Why)
+    → (c.live ≡ false) → LiveUnsettled c conns s → LiveUnsettled (finish c why) conns s
 finished_live_unsettled c conns s t l a why dead i_live_unsettled =
     λ j n p x. let old = i_live_unsettled j n p x in grind (arith, get-push)
 
-finished_shows : (c : Client) (conns : ℕ → Conn) (s : Server) (t : Trace) (l : Log) (a : ℕ → ℕ) (why : Why) → (c.live ≡ false) → Shows c s l → Shows (finish c why) s l
+finished_shows : (c : Client) (conns : ℕ → Conn) (s : Server) (t : Trace) (l : Log) (a : ℕ → ℕ) (why : Why)
+    → (c.live ≡ false) → Shows c s l → Shows (finish c why) s l
 finished_shows c conns s t l a why dead i_shows =
     λ p ed iso sd pe so. i_shows p ed iso sd (finished_was (is_taken c p) why c.session (c.outcome p) (c.given_up p) pe) so
 
-finished_open_of : (c : Client) (conns : ℕ → Conn) (s : Server) (t : Trace) (l : Log) (a : ℕ → ℕ) (why : Why) → (c.live ≡ false) → OpenOf c t → OpenOf (finish c why) t
+finished_open_of : (c : Client) (conns : ℕ → Conn) (s : Server) (t : Trace) (l : Log) (a : ℕ → ℕ) (why : Why)
+    → (c.live ≡ false) → OpenOf c t → OpenOf (finish c why) t
 finished_open_of c conns s t l a why dead i_open_of =
     λ q. let old = i_open_of q in grind arith
 
-finished_whose : (c : Client) (conns : ℕ → Conn) (s : Server) (t : Trace) (l : Log) (a : ℕ → ℕ) (why : Why) → (c.live ≡ false) → Whose c l → Whose (finish c why) l
+finished_whose : (c : Client) (conns : ℕ → Conn) (s : Server) (t : Trace) (l : Log) (a : ℕ → ℕ) (why : Why)
+    → (c.live ≡ false) → Whose c l → Whose (finish c why) l
 finished_whose c conns s t l a why dead i_whose =
     λ n. let old = i_whose n in grind arith
 
-finished_by : (c : Client) (conns : ℕ → Conn) (s : Server) (t : Trace) (l : Log) (a : ℕ → ℕ) (why : Why) → (c.live ≡ false) → By c l → By (finish c why) l
+finished_by : (c : Client) (conns : ℕ → Conn) (s : Server) (t : Trace) (l : Log) (a : ℕ → ℕ) (why : Why)
+    → (c.live ≡ false) → By c l → By (finish c why) l
 finished_by c conns s t l a why dead i_by =
     λ p n. let old = i_by p n in grind arith
 
-finished_by_ok : (c : Client) (conns : ℕ → Conn) (s : Server) (t : Trace) (l : Log) (a : ℕ → ℕ) (why : Why) → (c.live ≡ false) → ByOk c l → ByOk (finish c why) l
+finished_by_ok : (c : Client) (conns : ℕ → Conn) (s : Server) (t : Trace) (l : Log) (a : ℕ → ℕ) (why : Why)
+    → (c.live ≡ false) → ByOk c l → ByOk (finish c why) l
 finished_by_ok c conns s t l a why dead i_by_ok =
     λ p n v. let old = i_by_ok p n v in grind arith
 
-finished_by_end : (c : Client) (conns : ℕ → Conn) (s : Server) (t : Trace) (l : Log) (a : ℕ → ℕ) (why : Why) → (c.live ≡ false) → ByEnd c l → ByEnd (finish c why) l
+finished_by_end : (c : Client) (conns : ℕ → Conn) (s : Server) (t : Trace) (l : Log) (a : ℕ → ℕ) (why : Why)
+    → (c.live ≡ false) → ByEnd c l → ByEnd (finish c why) l
 finished_by_end c conns s t l a why dead i_by_end =
     λ p n. let old = i_by_end p n in grind arith
 
-finished_by_some : (c : Client) (conns : ℕ → Conn) (s : Server) (t : Trace) (l : Log) (a : ℕ → ℕ) (why : Why) → (c.live ≡ false) → BySome c → BySome (finish c why)
+finished_by_some : (c : Client) (conns : ℕ → Conn) (s : Server) (t : Trace) (l : Log) (a : ℕ → ℕ) (why : Why)
+    → (c.live ≡ false) → BySome c → BySome (finish c why)
 finished_by_some c conns s t l a why dead i_by_some =
     λ p. let old = i_by_some p in grind arith
 
-finished_prior : (c : Client) (conns : ℕ → Conn) (s : Server) (t : Trace) (l : Log) (a : ℕ → ℕ) (why : Why) → (c.live ≡ false) → Prior c l → Prior (finish c why) l
+finished_prior : (c : Client) (conns : ℕ → Conn) (s : Server) (t : Trace) (l : Log) (a : ℕ → ℕ) (why : Why)
+    → (c.live ≡ false) → Prior c l → Prior (finish c why) l
 finished_prior c conns s t l a why dead i_prior =
     λ p q. let old = i_prior p q in grind arith
 
-pub finished_keeps : (c : Client) (conns : ℕ → Conn) (s : Server) (t : Trace) (l : Log) (a : ℕ → ℕ) (why : Why) → (c.live ≡ false) → Contents c conns s t l a → Contents (finish c why) conns s t l a
+pub finished_keeps : (c : Client) (conns : ℕ → Conn) (s : Server) (t : Trace) (l : Log) (a : ℕ → ℕ) (why : Why)
+    → (c.live ≡ false) → Contents c conns s t l a → Contents (finish c why) conns s t l a
 finished_keeps c conns s t l a why dead i =
     record {
       token_up = i.token_up;

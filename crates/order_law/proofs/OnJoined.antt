@@ -13,19 +13,32 @@ use Rattle.order_law.specs.Newest.{Pair}
 use Rattle.order_law.specs.Contents.{Contents, file_at, last_id, Unacted, Older, NowPair}
 use Rattle.order_law.proofs.Words.{put_other}
 
-joined_unacted : (c : Client) (conns : ℕ → Conn) (s : Server) (t : Trace) (l : Log) (a : ℕ → ℕ) (g : ℕ) → (c.asks_attach g ≡ true) → (create_for c g ≡ create_at c g) → Unacted c l → Unacted (joined c g) l
+joined_unacted : (c : Client) (conns : ℕ → Conn) (s : Server) (t : Trace) (l : Log) (a : ℕ → ℕ) (g : ℕ)
+    → (c.asks_attach g ≡ true) → (create_for c g ≡ create_at c g) → Unacted c l → Unacted (joined c g) l
 joined_unacted c conns s t l a g asks named i_unacted =
     λ p. let old = i_unacted p in grind arith
 
-joined_older : (c : Client) (conns : ℕ → Conn) (s : Server) (t : Trace) (l : Log) (a : ℕ → ℕ) (g : ℕ) → (c.asks_attach g ≡ true) → (create_for c g ≡ create_at c g) → Older c conns → Older (joined c g) conns
+joined_older : (c : Client) (conns : ℕ → Conn) (s : Server) (t : Trace) (l : Log) (a : ℕ → ℕ) (g : ℕ)
+    → (c.asks_attach g ≡ true) → (create_for c g ≡ create_at c g) → Older c conns → Older (joined c g) conns
 joined_older c conns s t l a g asks named i_older =
     λ j n i p x. let old = i_older j n i p x in grind (arith, get-push)
 
-joined_now_pair : (c : Client) (conns : ℕ → Conn) (s : Server) (t : Trace) (l : Log) (a : ℕ → ℕ) (g : ℕ) → (c.asks_attach g ≡ true) → (Pair s c.session 0 (file_at c g) × file_at c g ≤ last_id s) → (create_for c g ≡ create_at c g) → NowPair c s → NowPair (joined c g) s
+joined_now_pair : (c : Client) (conns : ℕ → Conn) (s : Server) (t : Trace) (l : Log) (a : ℕ → ℕ) (g : ℕ)
+    → (c.asks_attach g ≡ true) → (Pair s c.session 0 (file_at c g) × file_at c g ≤ last_id s)
+    → (create_for c g ≡ create_at c g) → NowPair c s → NowPair (joined c g) s
 joined_now_pair c conns s t l a g asks pair named i_now_pair =
-    λ q. elim (q == create_for c g) as (λ b. q == create_for c g ≡ b → put c.attached (create_for c g) c.session_number q ≡ c.session_number → c.live ≡ true → Pair s c.session 0 (c.file q) × c.file q ≤ last_id s) [ true ↦ λ z at lv. subst (λ r. Pair s c.session 0 (c.file r) × c.file r ≤ last_id s) (sym (eqb-true _ _ z ∙ named)) pair | false ↦ λ z at lv. i_now_pair q (sym (put_other c.attached (create_for c g) c.session_number q (eqb-false _ _ z)) ∙ at) lv ] refl
+    λ q. elim (q == create_for c g) as (λ b. q == create_for c g ≡ b → put c.attached (create_for c g) c.session_number
+    q ≡ c.session_number → c.live ≡ true → Pair s c.session 0 (c.file q) × c.file q ≤ last_id s) [
+      | true ↦ λ z at lv.
+          subst (λ r. Pair s c.session 0 (c.file r) × c.file r ≤ last_id s) (sym (eqb-true _ _ z ∙ named)) pair
+      | false ↦
+          λ z at lv. i_now_pair q (sym (put_other c.attached (create_for c g) c.session_number q (eqb-false _ _ z)) ∙ at)
+          lv
+    ] refl
 
-pub joined_keeps : (c : Client) (conns : ℕ → Conn) (s : Server) (t : Trace) (l : Log) (a : ℕ → ℕ) (g : ℕ) → (c.asks_attach g ≡ true) → (Pair s c.session 0 (file_at c g) × file_at c g ≤ last_id s) → (create_for c g ≡ create_at c g) → Contents c conns s t l a → Contents (joined c g) conns s t l a
+pub joined_keeps : (c : Client) (conns : ℕ → Conn) (s : Server) (t : Trace) (l : Log) (a : ℕ → ℕ) (g : ℕ)
+    → (c.asks_attach g ≡ true) → (Pair s c.session 0 (file_at c g) × file_at c g ≤ last_id s)
+    → (create_for c g ≡ create_at c g) → Contents c conns s t l a → Contents (joined c g) conns s t l a
 joined_keeps c conns s t l a g asks pair named i =
     record {
       token_up = i.token_up;

@@ -7,7 +7,9 @@ use Rattle.exchange_defs.specs.Client.{Client}
 use Rattle.exchange_defs.specs.Network.{Conn, Trace}
 use Rattle.order_law.specs.Contents.{Contents}
 
-pub retried_keeps : (c : Client) (conns : ℕ → Conn) (s : Server) (t : Trace) (l : Log) (a : ℕ → ℕ) (create slot : ℕ) → Contents c conns s t l a → Contents (record c { retried = put2 c.retried create slot c.session_number }) conns s t l a
+pub retried_keeps : (c : Client) (conns : ℕ → Conn) (s : Server) (t : Trace) (l : Log) (a : ℕ → ℕ) (create slot : ℕ)
+    → Contents c conns s t l a → Contents (record c { retried = put2 c.retried create slot c.session_number }) conns s t
+    l a
 retried_keeps c conns s t l a create slot i =
     record {
       token_up = i.token_up;

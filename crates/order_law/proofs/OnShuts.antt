@@ -7,7 +7,8 @@ use Rattle.exchange_defs.specs.Client.{Client}
 use Rattle.exchange_defs.specs.Network.{Conn, Trace}
 use Rattle.order_law.specs.Contents.{Contents}
 
-pub shuts_keeps : (c : Client) (conns : ℕ → Conn) (s : Server) (t : Trace) (l : Log) (a : ℕ → ℕ) (create : ℕ) → Contents c conns s t l a → Contents (record c { closed_ok = put c.closed_ok create true }) conns s t l a
+pub shuts_keeps : (c : Client) (conns : ℕ → Conn) (s : Server) (t : Trace) (l : Log) (a : ℕ → ℕ) (create : ℕ)
+    → Contents c conns s t l a → Contents (record c { closed_ok = put c.closed_ok create true }) conns s t l a
 shuts_keeps c conns s t l a create i =
     record {
       token_up = i.token_up;

@@ -8,50 +8,100 @@ use Rattle.exchange_defs.specs.Operations.{is_unsettled, is_firm}
 use Rattle.exchange_defs.specs.Client.{Client}
 use Rattle.exchange_defs.specs.Network.{Conn, Received, Trace, op_of}
 use Rattle.exchange_law.specs.Connections.{create_at}
-use Rattle.order_law.specs.Contents.{Contents, edits, clashes, LostDead, Pairwise, FreshFirst, OpenGiven, FirstAt, By, SinceLe, SinceReply, SinceBy, SinceFirst, Prior, PriorBy, PriorFirst}
+use Rattle.order_law.specs.Contents.{Contents, edits, clashes, LostDead, Pairwise, FreshFirst, OpenGiven, FirstAt, By}
+use Rattle.order_law.specs.Contents.{SinceLe, SinceReply, SinceBy, SinceFirst, Prior, PriorBy, PriorFirst}
 use Rattle.order_law.proofs.Words.{put_other, live_pends}
 
-start_pairwise : (c : Client) (conns : ℕ → Conn) (s : Server) (t : Trace) (l : Log) (a : ℕ → ℕ) (g : ℕ) (pr : ℕ → Bool) → (c.sent g ≡ false) → (0 < g) → (is_unsettled (c.outcome g) ≡ true) → (c.live ≡ true) → ((n : ℕ) → n < g → create_at c n ≡ create_at c g → edits (c.op n) ≡ true → edits (c.op g) ≡ true → is_unsettled (c.outcome n) ≡ true → clashes (c.op n) (c.op g) ≡ false) → Pairwise c → LostDead c → Pairwise (record c { sent = put c.sent g true })
+start_pairwise : (c : Client) (conns : ℕ → Conn) (s : Server) (t : Trace) (l : Log) (a : ℕ → ℕ) (g : ℕ) (pr : ℕ → Bool)
+    → (c.sent g ≡ false) → (0 < g) → (is_unsettled (c.outcome g) ≡ true) → (c.live ≡ true)
+    → ((n : ℕ) → n < g → create_at c n ≡ create_at c g → edits (c.op n) ≡ true → edits (c.op g) ≡ true
+    → is_unsettled (c.outcome n) ≡ true → clashes (c.op n) (c.op g) ≡ false) → Pairwise c → LostDead c
+    → Pairwise (record c { sent = put c.sent g true })
 start_pairwise c conns s t l a g pr new above pending live lower i_pairwise i_lost_dead =
-    λ p q lt st e1 e2 cr u1 u2. elim (q == g) as (λ b. q == g ≡ b → clashes (c.op p) (c.op q) ≡ false) [ true ↦ λ z. let qg = eqb-true _ _ z in subst (λ r. clashes (c.op p) (c.op r) ≡ false) (sym qg) (lower p (subst (λ r. p < r) qg lt) (subst (λ r. create_at c p ≡ create_at c r) qg cr) e1 (subst (λ r. edits (c.op r) ≡ true) qg e2) (live_pends (c.outcome p) (c.given_up p) c.session c.live (i_lost_dead p) live u1)) | false ↦ λ z. i_pairwise p q lt (sym (put_other c.sent g true q (eqb-false _ _ z)) ∙ st) e1 e2 cr u1 u2 ] refl
+    λ p q lt st e1 e2 cr u1 u2. elim (q == g) as (λ b. q == g ≡ b → clashes (c.op p) (c.op q) ≡ false) [
+      | true ↦ λ z. let qg = eqb-true _ _ z in subst (λ r. clashes (c.op p) (c.op r) ≡ false) (sym qg)
+          (lower p (subst (λ r. p < r) qg lt) (subst (λ r. create_at c p ≡ create_at c r) qg cr) e1
+          (subst (λ r. edits (c.op r) ≡ true) qg e2) (live_pends (c.outcome p) (c.given_up p) c.session c.live
+          (i_lost_dead p) live u1))
+      | false ↦ λ z. i_pairwise p q lt (sym (put_other c.sent g true q (eqb-false _ _ z))
+          ∙ st) e1 e2 cr u1 u2
+    ] refl
 
-start_fresh_first : (c : Client) (conns : ℕ → Conn) (s : Server) (t : Trace) (l : Log) (a : ℕ → ℕ) (g : ℕ) (pr : ℕ → Bool) → (c.sent g ≡ false) → (0 < g) → (is_unsettled (c.outcome g) ≡ true) → (c.live ≡ true) → FreshFirst c l → FreshFirst (record c { sent = put c.sent g true }) (record l { since = put l.since g l.places; prior = put l.prior g pr })
+start_fresh_first : (c : Client) (conns : ℕ → Conn) (s : Server) (t : Trace) (l : Log) (a : ℕ → ℕ) (g : ℕ)
+    (pr : ℕ → Bool) → (c.sent g ≡ false) → (0 < g) → (is_unsettled (c.outcome g) ≡ true) → (c.live ≡ true)
+    → FreshFirst c l → FreshFirst (record c { sent = put c.sent g true }) (record l {
+      since = put l.since g l.places;
+      prior = put l.prior g pr;
+    })
 start_fresh_first c conns s t l a g pr new above pending live i_fresh_first =
     λ p. let old = i_fresh_first p in grind arith
 
-start_open_given : (c : Client) (conns : ℕ → Conn) (s : Server) (t : Trace) (l : Log) (a : ℕ → ℕ) (g : ℕ) (pr : ℕ → Bool) → (c.sent g ≡ false) → (0 < g) → (is_unsettled (c.outcome g) ≡ true) → (c.live ≡ true) → OpenGiven c s t → OpenGiven (record c { sent = put c.sent g true }) s t
+start_open_given : (c : Client) (conns : ℕ → Conn) (s : Server) (t : Trace) (l : Log) (a : ℕ → ℕ) (g : ℕ)
+    (pr : ℕ → Bool) → (c.sent g ≡ false) → (0 < g) → (is_unsettled (c.outcome g) ≡ true) → (c.live ≡ true)
+    → OpenGiven c s t → OpenGiven (record c { sent = put c.sent g true }) s t
 start_open_given c conns s t l a g pr new above pending live i_open_given =
     λ q o. let old = i_open_given q o in grind arith
 
-start_since_le : (c : Client) (conns : ℕ → Conn) (s : Server) (t : Trace) (l : Log) (a : ℕ → ℕ) (g : ℕ) (pr : ℕ → Bool) → (c.sent g ≡ false) → (0 < g) → (is_unsettled (c.outcome g) ≡ true) → (c.live ≡ true) → SinceLe l → SinceLe (record l { since = put l.since g l.places; prior = put l.prior g pr })
+start_since_le : (c : Client) (conns : ℕ → Conn) (s : Server) (t : Trace) (l : Log) (a : ℕ → ℕ) (g : ℕ) (pr : ℕ → Bool)
+    → (c.sent g ≡ false) → (0 < g) → (is_unsettled (c.outcome g) ≡ true) → (c.live ≡ true) → SinceLe l
+    → SinceLe (record l { since = put l.since g l.places; prior = put l.prior g pr })
 start_since_le c conns s t l a g pr new above pending live i_since_le =
     λ p. let old = i_since_le p in grind arith
 
-start_since_reply : (c : Client) (conns : ℕ → Conn) (s : Server) (t : Trace) (l : Log) (a : ℕ → ℕ) (g : ℕ) (pr : ℕ → Bool) → (c.sent g ≡ false) → (0 < g) → (is_unsettled (c.outcome g) ≡ true) → (c.live ≡ true) → ((j n : ℕ) (y : Received) → slice_get (conns j).down n ≡ Some y → op_of y.token ≢ g) → SinceReply conns l → SinceReply conns (record l { since = put l.since g l.places; prior = put l.prior g pr })
+start_since_reply : (c : Client) (conns : ℕ → Conn) (s : Server) (t : Trace) (l : Log) (a : ℕ → ℕ) (g : ℕ)
+    (pr : ℕ → Bool) → (c.sent g ≡ false) → (0 < g) → (is_unsettled (c.outcome g) ≡ true) → (c.live ≡ true)
+    → ((j n : ℕ) (y : Received) → slice_get (conns j).down n ≡ Some y → op_of y.token ≢ g) → SinceReply conns l
+    → SinceReply conns (record l { since = put l.since g l.places; prior = put l.prior g pr })
 start_since_reply c conns s t l a g pr new above pending live quiet i_since_reply =
     λ j n y h. let qu = quiet j n y h in let old = i_since_reply j n y h in grind arith
 
-start_since_by : (c : Client) (conns : ℕ → Conn) (s : Server) (t : Trace) (l : Log) (a : ℕ → ℕ) (g : ℕ) (pr : ℕ → Bool) → (c.sent g ≡ false) → (0 < g) → (is_unsettled (c.outcome g) ≡ true) → (c.live ≡ true) → SinceBy c l → By c l → SinceBy (record c { sent = put c.sent g true }) (record l { since = put l.since g l.places; prior = put l.prior g pr })
+start_since_by : (c : Client) (conns : ℕ → Conn) (s : Server) (t : Trace) (l : Log) (a : ℕ → ℕ) (g : ℕ) (pr : ℕ → Bool)
+    → (c.sent g ≡ false) → (0 < g) → (is_unsettled (c.outcome g) ≡ true) → (c.live ≡ true) → SinceBy c l → By c l
+    → SinceBy (record c { sent = put c.sent g true }) (record l {
+      since = put l.since g l.places;
+      prior = put l.prior g pr;
+    })
 start_since_by c conns s t l a g pr new above pending live i_since_by i_by =
     λ p n b. let old = i_since_by p n b in let bb = i_by p n b in grind arith
 
-start_since_first : (c : Client) (conns : ℕ → Conn) (s : Server) (t : Trace) (l : Log) (a : ℕ → ℕ) (g : ℕ) (pr : ℕ → Bool) → (c.sent g ≡ false) → (0 < g) → (is_unsettled (c.outcome g) ≡ true) → (c.live ≡ true) → SinceFirst l → FreshFirst c l → SinceFirst (record l { since = put l.since g l.places; prior = put l.prior g pr })
+start_since_first : (c : Client) (conns : ℕ → Conn) (s : Server) (t : Trace) (l : Log) (a : ℕ → ℕ) (g : ℕ)
+    (pr : ℕ → Bool) → (c.sent g ≡ false) → (0 < g) → (is_unsettled (c.outcome g) ≡ true) → (c.live ≡ true)
+    → SinceFirst l → FreshFirst c l → SinceFirst (record l { since = put l.since g l.places; prior = put l.prior g pr })
 start_since_first c conns s t l a g pr new above pending live i_since_first i_fresh_first =
     λ p n f. let old = i_since_first p n f in let fr = i_fresh_first p in grind arith
 
-start_prior : (c : Client) (conns : ℕ → Conn) (s : Server) (t : Trace) (l : Log) (a : ℕ → ℕ) (g : ℕ) (pr : ℕ → Bool) → (c.sent g ≡ false) → (0 < g) → (is_unsettled (c.outcome g) ≡ true) → (c.live ≡ true) → ((q : ℕ) → pr q ≡ true → is_firm (c.outcome q) ≡ true) → Prior c l → Prior (record c { sent = put c.sent g true }) (record l { since = put l.since g l.places; prior = put l.prior g pr })
+start_prior : (c : Client) (conns : ℕ → Conn) (s : Server) (t : Trace) (l : Log) (a : ℕ → ℕ) (g : ℕ) (pr : ℕ → Bool)
+    → (c.sent g ≡ false) → (0 < g) → (is_unsettled (c.outcome g) ≡ true) → (c.live ≡ true)
+    → ((q : ℕ) → pr q ≡ true → is_firm (c.outcome q) ≡ true) → Prior c l → Prior (record c { sent = put c.sent g true })
+    (record l { since = put l.since g l.places; prior = put l.prior g pr })
 start_prior c conns s t l a g pr new above pending live firm i_prior =
     λ p q. let old = i_prior p q in let f = firm q in grind arith
 
-start_prior_by : (c : Client) (conns : ℕ → Conn) (s : Server) (t : Trace) (l : Log) (a : ℕ → ℕ) (g : ℕ) (pr : ℕ → Bool) → (c.sent g ≡ false) → (0 < g) → (is_unsettled (c.outcome g) ≡ true) → (c.live ≡ true) → PriorBy c l → By c l → PriorBy (record c { sent = put c.sent g true }) (record l { since = put l.since g l.places; prior = put l.prior g pr })
+start_prior_by : (c : Client) (conns : ℕ → Conn) (s : Server) (t : Trace) (l : Log) (a : ℕ → ℕ) (g : ℕ) (pr : ℕ → Bool)
+    → (c.sent g ≡ false) → (0 < g) → (is_unsettled (c.outcome g) ≡ true) → (c.live ≡ true) → PriorBy c l → By c l
+    → PriorBy (record c { sent = put c.sent g true }) (record l {
+      since = put l.since g l.places;
+      prior = put l.prior g pr;
+    })
 start_prior_by c conns s t l a g pr new above pending live i_prior_by i_by =
     λ p q n. let old = i_prior_by p q n in let bb = i_by q n in grind arith
 
-start_prior_first : (c : Client) (conns : ℕ → Conn) (s : Server) (t : Trace) (l : Log) (a : ℕ → ℕ) (g : ℕ) (pr : ℕ → Bool) → (c.sent g ≡ false) → (0 < g) → (is_unsettled (c.outcome g) ≡ true) → (c.live ≡ true) → PriorFirst c l → FirstAt l → PriorFirst (record c { sent = put c.sent g true }) (record l { since = put l.since g l.places; prior = put l.prior g pr })
+start_prior_first : (c : Client) (conns : ℕ → Conn) (s : Server) (t : Trace) (l : Log) (a : ℕ → ℕ) (g : ℕ)
+    (pr : ℕ → Bool) → (c.sent g ≡ false) → (0 < g) → (is_unsettled (c.outcome g) ≡ true) → (c.live ≡ true)
+    → PriorFirst c l → FirstAt l → PriorFirst (record c { sent = put c.sent g true }) (record l {
+      since = put l.since g l.places;
+      prior = put l.prior g pr;
+    })
 start_prior_first c conns s t l a g pr new above pending live i_prior_first i_first_at =
     λ p q n. let old = i_prior_first p q n in let bb = i_first_at q n in grind arith
 
-pub start_keeps : (c : Client) (conns : ℕ → Conn) (s : Server) (t : Trace) (l : Log) (a : ℕ → ℕ) (g : ℕ) (pr : ℕ → Bool) → (c.sent g ≡ false) → (0 < g) → (is_unsettled (c.outcome g) ≡ true) → (c.live ≡ true) → ((n : ℕ) → n < g → create_at c n ≡ create_at c g → edits (c.op n) ≡ true → edits (c.op g) ≡ true → is_unsettled (c.outcome n) ≡ true → clashes (c.op n) (c.op g) ≡ false) → ((q : ℕ) → pr q ≡ true → is_firm (c.outcome q) ≡ true) → ((j n : ℕ) (y : Received) → slice_get (conns j).down n ≡ Some y → op_of y.token ≢ g) → Contents c conns s t l a → Contents (record c { sent = put c.sent g true }) conns s t (record l { since = put l.since g l.places; prior = put l.prior g pr }) a
+pub start_keeps : (c : Client) (conns : ℕ → Conn) (s : Server) (t : Trace) (l : Log) (a : ℕ → ℕ) (g : ℕ) (pr : ℕ → Bool)
+    → (c.sent g ≡ false) → (0 < g) → (is_unsettled (c.outcome g) ≡ true) → (c.live ≡ true)
+    → ((n : ℕ) → n < g → create_at c n ≡ create_at c g → edits (c.op n) ≡ true → edits (c.op g) ≡ true
+    → is_unsettled (c.outcome n) ≡ true → clashes (c.op n) (c.op g) ≡ false)
+    → ((q : ℕ) → pr q ≡ true → is_firm (c.outcome q) ≡ true) → ((j n : ℕ) (y : Received) → slice_get (conns j).down n
+    ≡ Some y → op_of y.token ≢ g) → Contents c conns s t l a → Contents (record c { sent = put c.sent g true }) conns s
+    t (record l { since = put l.since g l.places; prior = put l.prior g pr }) a
 start_keeps c conns s t l a g pr new above pending live lower firm quiet i =
     record {
       token_up = i.token_up;

@@ -6,7 +6,8 @@ use Rattle.exchange_defs.specs.Client.{Client, take_slot}
 use Rattle.exchange_defs.specs.Network.{Conn, Trace}
 use Rattle.order_law.specs.Contents.{Contents}
 
-pub take_slot_keeps : (c : Client) (conns : ℕ → Conn) (s : Server) (t : Trace) (l : Log) (a : ℕ → ℕ) (g z : ℕ) → Contents c conns s t l a → Contents (take_slot c g z) conns s t l a
+pub take_slot_keeps : (c : Client) (conns : ℕ → Conn) (s : Server) (t : Trace) (l : Log) (a : ℕ → ℕ) (g z : ℕ)
+    → Contents c conns s t l a → Contents (take_slot c g z) conns s t l a
 take_slot_keeps c conns s t l a g z i =
     record {
       token_up = i.token_up;

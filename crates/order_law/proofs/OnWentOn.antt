@@ -8,19 +8,30 @@ use Rattle.exchange_defs.specs.Network.{Conn, Trace}
 use Rattle.order_law.specs.Contents.{Contents, LostAsked, SessionAsked, PendingAt}
 use Rattle.order_law.proofs.Words.{unput}
 
-went_on_lost_asked : (c : Client) (conns : ℕ → Conn) (s : Server) (t : Trace) (l : Log) (a : ℕ → ℕ) (k : ℕ) (stage : Stage) (r : Reply) → (stage ≢ AskedTree) → ((j : ℕ) → j ≢ k → c.stage j ≡ AskedTree → told_session c stage r ≡ c.pending) → LostAsked c → LostAsked (went_on c k stage r)
+went_on_lost_asked : (c : Client) (conns : ℕ → Conn) (s : Server) (t : Trace) (l : Log) (a : ℕ → ℕ) (k : ℕ)
+    (stage : Stage) (r : Reply) → (stage ≢ AskedTree) → ((j : ℕ) → j ≢ k → c.stage j ≡ AskedTree
+    → told_session c stage r ≡ c.pending) → LostAsked c → LostAsked (went_on c k stage r)
 went_on_lost_asked c conns s t l a k stage r other alone i_lost_asked =
-    λ p j z sg gu. let u = unput c.stage k stage j AskedTree other sg in let al = alone j u.0 u.1 in subst (λ r. z ≢ r) (sym al) (i_lost_asked p j z u.1 gu)
+    λ p j z sg gu. let u = unput c.stage k stage j AskedTree other sg in let al = alone j u.0 u.1 in
+    subst (λ r. z ≢ r) (sym al) (i_lost_asked p j z u.1 gu)
 
-went_on_session_asked : (c : Client) (conns : ℕ → Conn) (s : Server) (t : Trace) (l : Log) (a : ℕ → ℕ) (k : ℕ) (stage : Stage) (r : Reply) → (stage ≢ AskedTree) → ((j : ℕ) → j ≢ k → c.stage j ≡ AskedTree → told_session c stage r ≡ c.pending) → SessionAsked c → SessionAsked (went_on c k stage r)
+went_on_session_asked : (c : Client) (conns : ℕ → Conn) (s : Server) (t : Trace) (l : Log) (a : ℕ → ℕ) (k : ℕ)
+    (stage : Stage) (r : Reply) → (stage ≢ AskedTree) → ((j : ℕ) → j ≢ k → c.stage j ≡ AskedTree
+    → told_session c stage r ≡ c.pending) → SessionAsked c → SessionAsked (went_on c k stage r)
 went_on_session_asked c conns s t l a k stage r other alone i_session_asked =
-    λ j sg. let u = unput c.stage k stage j AskedTree other sg in let al = alone j u.0 u.1 in subst (λ r. c.session ≢ r) (sym al) (i_session_asked j u.1)
+    λ j sg. let u = unput c.stage k stage j AskedTree other sg in let al = alone j u.0 u.1 in subst (λ r. c.session ≢ r)
+    (sym al) (i_session_asked j u.1)
 
-went_on_pending_at : (c : Client) (conns : ℕ → Conn) (s : Server) (t : Trace) (l : Log) (a : ℕ → ℕ) (k : ℕ) (stage : Stage) (r : Reply) → (stage ≢ AskedTree) → ((j : ℕ) → j ≢ k → c.stage j ≡ AskedTree → told_session c stage r ≡ c.pending) → PendingAt c s → PendingAt (went_on c k stage r) s
+went_on_pending_at : (c : Client) (conns : ℕ → Conn) (s : Server) (t : Trace) (l : Log) (a : ℕ → ℕ) (k : ℕ)
+    (stage : Stage) (r : Reply) → (stage ≢ AskedTree) → ((j : ℕ) → j ≢ k → c.stage j ≡ AskedTree
+    → told_session c stage r ≡ c.pending) → PendingAt c s → PendingAt (went_on c k stage r) s
 went_on_pending_at c conns s t l a k stage r other alone i_pending_at =
-    λ o j sg. let u = unput c.stage k stage j AskedTree other sg in let al = alone j u.0 u.1 in subst (λ r. s.session_of_open o ≢ Some r) (sym al) (i_pending_at o j u.1)
+    λ o j sg. let u = unput c.stage k stage j AskedTree other sg in let al = alone j u.0 u.1 in
+    subst (λ r. s.session_of_open o ≢ Some r) (sym al) (i_pending_at o j u.1)
 
-pub went_on_keeps : (c : Client) (conns : ℕ → Conn) (s : Server) (t : Trace) (l : Log) (a : ℕ → ℕ) (k : ℕ) (stage : Stage) (r : Reply) → (stage ≢ AskedTree) → ((j : ℕ) → j ≢ k → c.stage j ≡ AskedTree → told_session c stage r ≡ c.pending) → Contents c conns s t l a → Contents (went_on c k stage r) conns s t l a
+pub went_on_keeps : (c : Client) (conns : ℕ → Conn) (s : Server) (t : Trace) (l : Log) (a : ℕ → ℕ) (k : ℕ)
+    (stage : Stage) (r : Reply) → (stage ≢ AskedTree) → ((j : ℕ) → j ≢ k → c.stage j ≡ AskedTree
+    → told_session c stage r ≡ c.pending) → Contents c conns s t l a → Contents (went_on c k stage r) conns s t l a
 went_on_keeps c conns s t l a k stage r other alone i =
     record {
       token_up = i.token_up;

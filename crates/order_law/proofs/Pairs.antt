@@ -1,7 +1,8 @@
 -- What the server does keeps every pair that reached an open: while the open stands and the pair's session is there, the
 -- open is attached in that session, at this sequence or a newer one.
 use Rattle.std.proofs.lemmas.Bool.Decides.{nat_tests}
-use Rattle.std.proofs.Common.{◌≡◌, ◌≢◌, ℕ, ◌≤◌, nat_lt, Bool, true, false, not, ◌&&◌, List, refl, arith, sym, ◌∙◌, ap, Option, Some, None, is_some}
+use Rattle.std.proofs.Common.{◌≡◌, ◌≢◌, ℕ, ◌≤◌, nat_lt, Bool, true, false, not, ◌&&◌, List, refl, arith, sym, ◌∙◌, ap}
+use Rattle.std.proofs.Common.{Option, Some, None, is_some}
 use Rattle.exchange_defs.specs.Table.{put}
 use Rattle.exchange_defs.specs.Commands.{CreateRequest, SetupRequest, deletes_on_close}
 use Rattle.exchange_defs.specs.State.{Server, Message, Making}
@@ -10,7 +11,8 @@ use Rattle.exchange_defs.specs.Opens.{drop_open, pending_behind, leave_open, wit
 use Rattle.exchange_defs.specs.CheckCreate.{empties}
 use Rattle.exchange_defs.specs.CheckOpen.{is_stale, is_late, is_slot}
 use Rattle.exchange_defs.specs.CheckSetup.{is_new}
-use Rattle.exchange_defs.specs.Effects.{reach, attach, attached, keep_slot, keep_closed, file_made, change_file, end_session, end_if_named, add_session, leaves, cleared, guid_staying}
+use Rattle.exchange_defs.specs.Effects.{reach, attach, attached, keep_slot, keep_closed, file_made, change_file}
+use Rattle.exchange_defs.specs.Effects.{end_session, end_if_named, add_session, leaves, cleared, guid_staying}
 use Rattle.exchange_defs.specs.Verdict.{Change, PutBytes, PutEnd, PutBasic, PutDeletePending, PutPath, PutNothing}
 use Rattle.exchange_defs.specs.Step.{with_deadlines, expire, add_expired_guid, take_out, forget_connection, ends_with}
 use Rattle.server_law.proofs.Logic.{either, front_of, none_of}
@@ -29,7 +31,17 @@ pub record Alike (s t : Server) : Type 0 where
   pub opened : t.opened ≡ s.opened
 
 pub same : (s : Server) → Alike s s
-same s = record { standing = refl; present = refl; session_of_open = refl; sequence = refl; epoch = refl; open_ids_given = refl; making = refl; by_guid = refl; opened = refl }
+same s = record {
+  standing = refl;
+  present = refl;
+  session_of_open = refl;
+  sequence = refl;
+  epoch = refl;
+  open_ids_given = refl;
+  making = refl;
+  by_guid = refl;
+  opened = refl;
+}
 
 -- from one state to the next each pair is kept, ids only grow, and sequences stay low
 pub record Moves (s t : Server) : Type 0 where
@@ -45,7 +57,8 @@ pub record Moves (s t : Server) : Type 0 where
 
 pub moves_alike : (s t : Server) → Alike s t → Moves s t
 moves_alike s t a =
-    let st = a.standing in let pr = a.present in let at = a.session_of_open in let sq = a.sequence in let mk = a.making in let bg = a.by_guid in
+    let st = a.standing in let pr = a.present in let at = a.session_of_open in let sq = a.sequence in let mk =
+    a.making in let bg = a.by_guid in
     record {
       pair = λ x q o p. grind arith;
       stands = λ o. grind arith;
@@ -72,7 +85,8 @@ moves_on s t u a b =
       row = b.row ∙ a.row;
     }
 
-guid_dropped : (by : ℕ → ℕ → Option ℕ) (client : ℕ) (guid : Option ℕ) (c g o : ℕ) → with_guid by client guid None c g ≡ Some o → by c g ≡ Some o
+guid_dropped : (by : ℕ → ℕ → Option ℕ) (client : ℕ) (guid : Option ℕ) (c g o : ℕ) → with_guid by client guid None c g
+    ≡ Some o → by c g ≡ Some o
 guid_dropped by client None c g o e = e
 guid_dropped by client (Some h) c g o e = grind arith
 
@@ -92,26 +106,70 @@ drop_moves s o =
     }
 
 pub pending_alike : (s : Server) (o : ℕ) → Alike s (pending_behind s o)
-pending_alike s o = either (Alike s) (deletes_on_close (s.opened o).options) (set_delete_pending s (s.opened o).file true) s (λ _. record { standing = refl; present = refl; session_of_open = refl; sequence = refl; epoch = refl; open_ids_given = refl; making = refl; by_guid = refl; opened = refl }) (λ _. same s)
+pending_alike s o = either (Alike s) (deletes_on_close (s.opened o).options)
+    (set_delete_pending s (s.opened o).file true) s (λ _. record {
+      standing = refl;
+      present = refl;
+      session_of_open = refl;
+      sequence = refl;
+      epoch = refl;
+      open_ids_given = refl;
+      making = refl;
+      by_guid = refl;
+      opened = refl;
+    }) (λ _. same s)
 
 pub gone_alike : (s : Server) (f : ℕ) → Alike s (without_gone s f)
-gone_alike s f = either (Alike s) (goes s f) (remove_file s f) s (λ _. record { standing = refl; present = refl; session_of_open = refl; sequence = refl; epoch = refl; open_ids_given = refl; making = refl; by_guid = refl; opened = refl }) (λ _. same s)
+gone_alike s f = either (Alike s) (goes s f) (remove_file s f) s (λ _. record {
+  standing = refl;
+  present = refl;
+  session_of_open = refl;
+  sequence = refl;
+  epoch = refl;
+  open_ids_given = refl;
+  making = refl;
+  by_guid = refl;
+  opened = refl;
+}) (λ _. same s)
 
 pub leave_moves : (s : Server) (o : ℕ) → Moves s (leave_open s o)
 leave_moves s o =
     moves_on s (pending_behind s o) (leave_open s o) (moves_alike s (pending_behind s o) (pending_alike s o))
-    (moves_on (pending_behind s o) (drop_open (pending_behind s o) o) (leave_open s o) (drop_moves (pending_behind s o) o) (moves_alike _ _ (gone_alike (drop_open (pending_behind s o) o) (s.opened o).file)))
+    (moves_on (pending_behind s o) (drop_open (pending_behind s o) o) (leave_open s o)
+    (drop_moves (pending_behind s o) o)
+    (moves_alike _ _ (gone_alike (drop_open (pending_behind s o) o) (s.opened o).file)))
 
 pub expired_alike : (s : Server) (client : ℕ) (guid : Option ℕ) → Alike s (add_expired_guid s client guid)
 expired_alike s client None = same s
-expired_alike s client (Some g) = record { standing = refl; present = refl; session_of_open = refl; sequence = refl; epoch = refl; open_ids_given = refl; making = refl; by_guid = refl; opened = refl }
+expired_alike s client (Some g) = record {
+  standing = refl;
+  present = refl;
+  session_of_open = refl;
+  sequence = refl;
+  epoch = refl;
+  open_ids_given = refl;
+  making = refl;
+  by_guid = refl;
+  opened = refl;
+}
 
 pub expire_moves : (s : Server) (o : ℕ) → Moves s (expire s o)
-expire_moves s o = moves_on s (leave_open s o) (expire s o) (leave_moves s o) (moves_alike _ _ (expired_alike (leave_open s o) (s.opened o).client_guid (s.opened o).create_guid))
+expire_moves s o = moves_on s (leave_open s o) (expire s o) (leave_moves s o)
+    (moves_alike _ _ (expired_alike (leave_open s o) (s.opened o).client_guid (s.opened o).create_guid))
 
 closed_alike : (s : Server) (session : ℕ) (guid : Option ℕ) → Alike s (keep_closed s session guid)
 closed_alike s session None = same s
-closed_alike s session (Some g) = record { standing = refl; present = refl; session_of_open = refl; sequence = refl; epoch = refl; open_ids_given = refl; making = refl; by_guid = refl; opened = refl }
+closed_alike s session (Some g) = record {
+  standing = refl;
+  present = refl;
+  session_of_open = refl;
+  sequence = refl;
+  epoch = refl;
+  open_ids_given = refl;
+  making = refl;
+  by_guid = refl;
+  opened = refl;
+}
 
 pub shut_moves : (s : Server) (o session : ℕ) (guid : Option ℕ) → Moves s (keep_closed (leave_open s o) session guid)
 shut_moves s o session guid = moves_on s (leave_open s o) _ (leave_moves s o) (moves_alike _ _ (closed_alike (leave_open s o) session guid))
@@ -121,7 +179,9 @@ shut_moves s o session guid = moves_on s (leave_open s o) _ (leave_moves s o) (m
 pub stale_less : (a b : ℕ) → a ≤ 32767 → b ≤ 32767 → is_stale a b ≡ nat_lt a b
 stale_less a b l m = grind (arith, nat_tests)
 
-reached_pair : (s : Server) (n p : ℕ) → s.sequence p ≤ n → (x q o : ℕ) → Pair s x q o → Pair (record s { sequence = put s.sequence p n }) x q o
+reached_pair : (s : Server) (n p : ℕ) → s.sequence p ≤ n → (x q o : ℕ) → Pair s x q o → Pair (record s {
+  sequence = put s.sequence p n;
+}) x q o
 reached_pair s n p l x q o h = λ st pr. let old = h st pr in (old.0, grind arith)
 
 reached_low : (s : Server) (n p : ℕ) → n ≤ 32767 → LowSequences s → LowSequences (record s { sequence = put s.sequence p n })
@@ -130,8 +190,10 @@ reached_low s n p l low = λ o. let old = low o in grind arith
 not_less : (a b : ℕ) (t : Bool) → t ≡ nat_lt a b → t ≡ false → b ≤ a
 not_less a b t e f = grind (arith, nat_tests)
 
-pub in_time : (s : Server) (m : Message) (o : ℕ) → LowSequences s → m.channel_sequence ≤ 32767 → is_late s m o ≡ false → s.sequence o ≤ m.channel_sequence
-in_time s m o low l e = not_less m.channel_sequence (s.sequence o) (is_late s m o) (stale_less m.channel_sequence (s.sequence o) l (low o)) e
+pub in_time : (s : Server) (m : Message) (o : ℕ) → LowSequences s → m.channel_sequence ≤ 32767 → is_late s m o ≡ false
+    → s.sequence o ≤ m.channel_sequence
+in_time s m o low l e = not_less m.channel_sequence (s.sequence o) (is_late s m o)
+    (stale_less m.channel_sequence (s.sequence o) l (low o)) e
 
 pub reach_moves : (s : Server) (m : Message) (o : ℕ) → LowSequences s → m.channel_sequence ≤ 32767 → Moves s (reach s m o)
 reach_moves s m o low l =
@@ -169,24 +231,105 @@ attached_moves s m o l =
 -- ---- what touches no pair
 
 pub slot_alike : (s : Server) (o index number status : ℕ) → Alike s (keep_slot s o index number status)
-slot_alike s o index number status = either (Alike s) (is_slot index) _ _ (λ _. record { standing = refl; present = refl; session_of_open = refl; sequence = refl; epoch = refl; open_ids_given = refl; making = refl; by_guid = refl; opened = refl }) (λ _. same s)
+slot_alike s o index number status = either (Alike s) (is_slot index) _ _ (λ _. record {
+  standing = refl;
+  present = refl;
+  session_of_open = refl;
+  sequence = refl;
+  epoch = refl;
+  open_ids_given = refl;
+  making = refl;
+  by_guid = refl;
+  opened = refl;
+}) (λ _. same s)
 
 pub change_alike : (s : Server) (f now : ℕ) (change : Change) → Alike s (change_file s f now change)
-change_alike s f now (PutBytes at bytes) = record { standing = refl; present = refl; session_of_open = refl; sequence = refl; epoch = refl; open_ids_given = refl; making = refl; by_guid = refl; opened = refl }
-change_alike s f now (PutEnd size) = record { standing = refl; present = refl; session_of_open = refl; sequence = refl; epoch = refl; open_ids_given = refl; making = refl; by_guid = refl; opened = refl }
-change_alike s f now (PutBasic basic) = record { standing = refl; present = refl; session_of_open = refl; sequence = refl; epoch = refl; open_ids_given = refl; making = refl; by_guid = refl; opened = refl }
-change_alike s f now (PutDeletePending flag) = record { standing = refl; present = refl; session_of_open = refl; sequence = refl; epoch = refl; open_ids_given = refl; making = refl; by_guid = refl; opened = refl }
-change_alike s f now (PutPath replaced path) = record { standing = refl; present = refl; session_of_open = refl; sequence = refl; epoch = refl; open_ids_given = refl; making = refl; by_guid = refl; opened = refl }
+change_alike s f now (PutBytes at bytes) = record {
+  standing = refl;
+  present = refl;
+  session_of_open = refl;
+  sequence = refl;
+  epoch = refl;
+  open_ids_given = refl;
+  making = refl;
+  by_guid = refl;
+  opened = refl;
+}
+change_alike s f now (PutEnd size) = record {
+  standing = refl;
+  present = refl;
+  session_of_open = refl;
+  sequence = refl;
+  epoch = refl;
+  open_ids_given = refl;
+  making = refl;
+  by_guid = refl;
+  opened = refl;
+}
+change_alike s f now (PutBasic basic) = record {
+  standing = refl;
+  present = refl;
+  session_of_open = refl;
+  sequence = refl;
+  epoch = refl;
+  open_ids_given = refl;
+  making = refl;
+  by_guid = refl;
+  opened = refl;
+}
+change_alike s f now (PutDeletePending flag) = record {
+  standing = refl;
+  present = refl;
+  session_of_open = refl;
+  sequence = refl;
+  epoch = refl;
+  open_ids_given = refl;
+  making = refl;
+  by_guid = refl;
+  opened = refl;
+}
+change_alike s f now (PutPath replaced path) = record {
+  standing = refl;
+  present = refl;
+  session_of_open = refl;
+  sequence = refl;
+  epoch = refl;
+  open_ids_given = refl;
+  making = refl;
+  by_guid = refl;
+  opened = refl;
+}
 change_alike s f now PutNothing = same s
 
 pub file_alike : (s : Server) (r : CreateRequest) (found : Option ℕ) (now : ℕ) → Alike s (file_made s r found now)
-file_alike s r None now = record { standing = refl; present = refl; session_of_open = refl; sequence = refl; epoch = refl; open_ids_given = refl; making = refl; by_guid = refl; opened = refl }
-file_alike s r (Some f) now = either (Alike s) (empties r.disposition) _ _ (λ _. record { standing = refl; present = refl; session_of_open = refl; sequence = refl; epoch = refl; open_ids_given = refl; making = refl; by_guid = refl; opened = refl }) (λ _. same s)
+file_alike s r None now = record {
+  standing = refl;
+  present = refl;
+  session_of_open = refl;
+  sequence = refl;
+  epoch = refl;
+  open_ids_given = refl;
+  making = refl;
+  by_guid = refl;
+  opened = refl;
+}
+file_alike s r (Some f) now = either (Alike s) (empties r.disposition) _ _ (λ _. record {
+  standing = refl;
+  present = refl;
+  session_of_open = refl;
+  sequence = refl;
+  epoch = refl;
+  open_ids_given = refl;
+  making = refl;
+  by_guid = refl;
+  opened = refl;
+}) (λ _. same s)
 
 -- ---- sessions
 
 ended_pair : (s : Server) (session now : ℕ) (is_quiet : Bool) (x q o : ℕ) → Pair s x q o → Pair (end_session s session now is_quiet) x q o
-ended_pair s session now is_quiet x q o h = λ st pr. let a = ended_stands st in let b = ended_present pr in let old = h a b.1 in (cleared_other (s.session_of_open o) old.0 b.0, old.1)
+ended_pair s session now is_quiet x q o h = λ st pr. let a = ended_stands st in let b = ended_present pr in let old =
+    h a b.1 in (cleared_other (s.session_of_open o) old.0 b.0, old.1)
   where
     ended_stands : (s.standing o && not (leaves s session o)) ≡ true → s.standing o ≡ true
     ended_stands e = grind arith
@@ -223,7 +366,8 @@ end_named_moves s now None is_quiet = moves_alike s s (same s)
 end_named_moves s now (Some session) is_quiet = end_moves s session now is_quiet
 
 -- a new session, of which no pair is
-pub begun_pair : (s : Server) (m : Message) (user : List ℕ) (r : SetupRequest) (x q o : ℕ) → x ≢ m.session_id → Pair s x q o → Pair (add_session s m user r) x q o
+pub begun_pair : (s : Server) (m : Message) (user : List ℕ) (r : SetupRequest) (x q o : ℕ) → x ≢ m.session_id
+    → Pair s x q o → Pair (add_session s m user r) x q o
 begun_pair s m user r x q o n h = λ st pr. h st (other_present pr)
   where
     other_present : put s.present m.session_id true x ≡ true → s.present x ≡ true
@@ -234,13 +378,33 @@ pub take_out_moves : (s : Server) (k now : ℕ) (is_quiet : Bool) → Moves s (t
 take_out_moves s k now is_quiet =
     let t = end_if_named s now (ends_with s k) is_quiet in
     moves_on s t (forget_connection t k) (end_named_moves s now (ends_with s k) is_quiet)
-    (record { pair = λ x q o h. h; stands = λ o h. h; epoch = refl; given = refl; low = λ l. l; making = λ x j h. forgotten t.making k x j h; guid = λ c g o h. h; there = λ x h. h; row = refl })
+    (record {
+      pair = λ x q o h. h;
+      stands = λ o h. h;
+      epoch = refl;
+      given = refl;
+      low = λ l. l;
+      making = λ x j h. forgotten t.making k x j h;
+      guid = λ c g o h. h;
+      there = λ x h. h;
+      row = refl;
+    })
   where
     forgotten : (f : ℕ → Option Making) (k x j : ℕ) → is_new x (f j) ≡ false → is_new x (put f k None j) ≡ false
     forgotten f k x j h = grind arith
 
 pub deadlines_moves : (s : Server) (now : ℕ) → Moves s (with_deadlines s now)
-deadlines_moves s now = moves_alike s (with_deadlines s now) (record { standing = refl; present = refl; session_of_open = refl; sequence = refl; epoch = refl; open_ids_given = refl; making = refl; by_guid = refl; opened = refl })
+deadlines_moves s now = moves_alike s (with_deadlines s now) (record {
+  standing = refl;
+  present = refl;
+  session_of_open = refl;
+  sequence = refl;
+  epoch = refl;
+  open_ids_given = refl;
+  making = refl;
+  by_guid = refl;
+  opened = refl;
+})
 
 -- it has left
 pub shut_left : (s : Server) (o session : ℕ) (guid : Option ℕ) → (keep_closed (leave_open s o) session guid).standing o ≡ false
@@ -261,11 +425,17 @@ pub still_same : (s : Server) → Still s s
 still_same s = record { session_of_open = λ o x e. e; sequence = λ o. omega arith }
 
 pub still_on : (s t u : Server) → Still s t → Still t u → Still s u
-still_on s t u a b = record { session_of_open = λ o x e. a.session_of_open o x (b.session_of_open o x e); sequence = λ o. let l = a.sequence o in let m = b.sequence o in omega (arith, l, m) }
+still_on s t u a b = record {
+  session_of_open = λ o x e. a.session_of_open o x (b.session_of_open o x e);
+  sequence = λ o. let l = a.sequence o in let m = b.sequence o in omega (arith, l, m);
+}
 
 -- the columns are the same
 pub still_alike : (s t : Server) → t.session_of_open ≡ s.session_of_open → t.sequence ≡ s.sequence → Still s t
-still_alike s t a q = record { session_of_open = λ o x e. ap (λ f. f o) (sym a) ∙ e; sequence = λ o. let l = ap (λ f. f o) q in omega (arith, l) }
+still_alike s t a q = record {
+  session_of_open = λ o x e. ap (λ f. f o) (sym a) ∙ e;
+  sequence = λ o. let l = ap (λ f. f o) q in omega (arith, l);
+}
 
 still_drop : (s : Server) (o : ℕ) → Still s (drop_open s o)
 still_drop s o = record { session_of_open = λ p x e. dropped s.session_of_open o p x e; sequence = λ p. omega arith }
@@ -277,26 +447,32 @@ still_gone : (s : Server) (f : ℕ) → Still s (without_gone s f)
 still_gone s f = either (Still s) (goes s f) (remove_file s f) s (λ _. still_alike s _ refl refl) (λ _. still_same s)
 
 still_pending : (s : Server) (o : ℕ) → Still s (pending_behind s o)
-still_pending s o = either (Still s) (deletes_on_close (s.opened o).options) (set_delete_pending s (s.opened o).file true) s (λ _. still_alike s _ refl refl) (λ _. still_same s)
+still_pending s o = either (Still s) (deletes_on_close (s.opened o).options)
+    (set_delete_pending s (s.opened o).file true) s (λ _. still_alike s _ refl refl) (λ _. still_same s)
 
 pub still_leave : (s : Server) (o : ℕ) → Still s (leave_open s o)
 still_leave s o =
     still_on s (pending_behind s o) (leave_open s o) (still_pending s o)
-    (still_on (pending_behind s o) (drop_open (pending_behind s o) o) (leave_open s o) (still_drop (pending_behind s o) o) (still_gone (drop_open (pending_behind s o) o) (s.opened o).file))
+    (still_on (pending_behind s o) (drop_open (pending_behind s o) o) (leave_open s o)
+    (still_drop (pending_behind s o) o) (still_gone (drop_open (pending_behind s o) o) (s.opened o).file))
 
 still_expired : (s : Server) (client : ℕ) (guid : Option ℕ) → Still s (add_expired_guid s client guid)
 still_expired s client None = still_same s
 still_expired s client (Some g) = still_alike s _ refl refl
 
 pub still_expire : (s : Server) (o : ℕ) → Still s (expire s o)
-still_expire s o = still_on s (leave_open s o) (expire s o) (still_leave s o) (still_expired (leave_open s o) (s.opened o).client_guid (s.opened o).create_guid)
+still_expire s o = still_on s (leave_open s o) (expire s o) (still_leave s o)
+    (still_expired (leave_open s o) (s.opened o).client_guid (s.opened o).create_guid)
 
 pub still_shut : (s : Server) (o session : ℕ) (guid : Option ℕ) → Still s (keep_closed (leave_open s o) session guid)
 still_shut s o session None = still_leave s o
 still_shut s o session (Some g) = still_on s (leave_open s o) _ (still_leave s o) (still_alike (leave_open s o) _ refl refl)
 
 pub still_end : (s : Server) (session now : ℕ) (is_quiet : Bool) → Still s (end_session s session now is_quiet)
-still_end s session now is_quiet = record { session_of_open = λ o x e. uncleared session (s.session_of_open o) x e; sequence = λ o. omega arith }
+still_end s session now is_quiet = record {
+  session_of_open = λ o x e. uncleared session (s.session_of_open o) x e;
+  sequence = λ o. omega arith;
+}
   where
     uncleared : (session : ℕ) (a : Option ℕ) (x : ℕ) → cleared session a ≡ Some x → a ≡ Some x
     uncleared session a x e = grind arith
@@ -306,7 +482,9 @@ still_end_named s now None is_quiet = still_same s
 still_end_named s now (Some session) is_quiet = still_end s session now is_quiet
 
 pub still_take_out : (s : Server) (k now : ℕ) (is_quiet : Bool) → Still s (take_out s k now is_quiet)
-still_take_out s k now is_quiet = still_on s (end_if_named s now (ends_with s k) is_quiet) _ (still_end_named s now (ends_with s k) is_quiet) (still_alike (end_if_named s now (ends_with s k) is_quiet) _ refl refl)
+still_take_out s k now is_quiet = still_on s (end_if_named s now (ends_with s k) is_quiet) _
+    (still_end_named s now (ends_with s k) is_quiet) (still_alike (end_if_named s now (ends_with s k) is_quiet) _ refl
+    refl)
 
 pub still_deadlines : (s : Server) (now : ℕ) → Still s (with_deadlines s now)
 still_deadlines s now = still_alike s _ refl refl
@@ -315,7 +493,8 @@ still_deadlines s now = still_alike s _ refl refl
 
 pub content_leave : (s : Server) (o : ℕ) → (leave_open s o).content ≡ s.content
 content_leave s o =
-    gone (drop_open (pending_behind s o) o) (s.opened o).file ∙ either (λ (t : Server). t.content ≡ s.content) (deletes_on_close (s.opened o).options) (set_delete_pending s (s.opened o).file true) s (λ _. refl) (λ _. refl)
+    gone (drop_open (pending_behind s o) o) (s.opened o).file ∙ either (λ (t : Server). t.content ≡ s.content)
+    (deletes_on_close (s.opened o).options) (set_delete_pending s (s.opened o).file true) s (λ _. refl) (λ _. refl)
   where
     gone : (s : Server) (f : ℕ) → (without_gone s f).content ≡ s.content
     gone s f = either (λ (t : Server). t.content ≡ s.content) (goes s f) (remove_file s f) s (λ _. refl) (λ _. refl)
@@ -331,7 +510,8 @@ pub content_shut : (s : Server) (o session : ℕ) (guid : Option ℕ) → (keep_
 content_shut s o session None = content_leave s o
 content_shut s o session (Some g) = content_leave s o
 
-pub content_end_named : (s : Server) (now : ℕ) (session : Option ℕ) (is_quiet : Bool) → (end_if_named s now session is_quiet).content ≡ s.content
+pub content_end_named : (s : Server) (now : ℕ) (session : Option ℕ) (is_quiet : Bool)
+    → (end_if_named s now session is_quiet).content ≡ s.content
 content_end_named s now None is_quiet = refl
 content_end_named s now (Some session) is_quiet = refl
 
@@ -339,7 +519,10 @@ pub content_slot : (s : Server) (o index number status : ℕ) → (keep_slot s o
 content_slot s o index number status = either (λ (t : Server). t.content ≡ s.content) (is_slot index) _ _ (λ _. refl) (λ _. refl)
 
 pub content_reach : (s : Server) (m : Message) (o : ℕ) → (reach s m o).content ≡ s.content
-content_reach s m o = either (λ (t : Server). t.content ≡ s.content) (is_late s m o) s (record s { sequence = put s.sequence o m.channel_sequence }) (λ _. refl) (λ _. refl)
+content_reach s m o = either (λ (t : Server). t.content ≡ s.content) (is_late s m o) s (record s {
+  sequence = put s.sequence o m.channel_sequence;
+}) (λ _. refl) (λ _. refl)
 
 pub content_attached : (s : Server) (m : Message) (o : ℕ) → (attached s m o).content ≡ s.content
-content_attached s m o = either (λ (t : Server). t.content ≡ s.content) (is_some (s.session_of_open o)) s (attach s m o) (λ _. refl) (λ _. refl)
+content_attached s m o = either (λ (t : Server). t.content ≡ s.content) (is_some (s.session_of_open o)) s (attach s m o)
+    (λ _. refl) (λ _. refl)

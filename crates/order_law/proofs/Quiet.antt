@@ -3,13 +3,17 @@ use Rattle.std.proofs.Common.{◌≡◌, ℕ, ◌≤◌, nat_le, true, ◌++◌,
 use Rattle.exchange_defs.specs.State.{Server, Accept, End, ServerEvent, Answer}
 use Rattle.exchange_defs.specs.Records.{fits, origin_at}
 use Rattle.exchange_defs.specs.Opens.{id_of}
-use Rattle.exchange_defs.specs.Step.{step, event_answer, carried_out, expiring, with_deadlines, due, expire, expire_records, connection_of, ruling, ruling_without_room, Ruling, Says, TakesIn, TurnsAway, TakesOut, TakesAllOut, max_connections, max_expired_guids, ends_with}
+use Rattle.exchange_defs.specs.Step.{step, event_answer, carried_out, expiring, with_deadlines, due, expire}
+use Rattle.exchange_defs.specs.Step.{expire_records, connection_of, ruling, ruling_without_room, Ruling, Says, TakesIn}
+use Rattle.exchange_defs.specs.Step.{TurnsAway, TakesOut, TakesAllOut, max_connections, max_expired_guids, ends_with}
 use Rattle.server_law.proofs.Logic.{either}
 use Rattle.server_law.specs.Fits.{Fits}
 use Rattle.recovery_law.specs.Restarted.{Restarted}
 use Rattle.recovery_law.proofs.Restarts.{was_named, stood, ids_above}
 use Rattle.order_law.specs.Contents.{last_id}
-use Rattle.order_law.proofs.Pairs.{Moves as Goes, moves_alike, moves_on, same, expire_moves, deadlines_moves, take_out_moves, Still, still_same, still_on, still_alike, still_expire, still_deadlines, still_take_out, content_expire, content_end_named}
+use Rattle.order_law.proofs.Pairs.{Moves as Goes, moves_alike, moves_on, same, expire_moves, deadlines_moves}
+use Rattle.order_law.proofs.Pairs.{take_out_moves, Still, still_same, still_on, still_alike, still_expire}
+use Rattle.order_law.proofs.Pairs.{still_deadlines, still_take_out, content_expire, content_end_named}
 use Rattle.order_law.proofs.Others.{is_connections, without_room_too}
 use Rattle.order_law.proofs.Moved.{Moves}
 
@@ -30,20 +34,43 @@ calm_expire s o = record { goes = expire_moves s o; still = still_expire s o; co
 calm_out : (s : Server) (now : ℕ) (r : Ruling) → is_connections r ≡ true → Calmly s (carried_out s now r).server
 calm_out s now (Says m v) e = absurd (cc)
 calm_out s now (TakesIn k) e =
-    record { goes = moves_alike s _ (record { standing = refl; present = refl; session_of_open = refl; sequence = refl; epoch = refl; open_ids_given = refl; making = refl; by_guid = refl; opened = refl }); still = still_alike s _ refl refl; content = refl }
+    record {
+      goes = moves_alike s _ (record {
+        standing = refl;
+        present = refl;
+        session_of_open = refl;
+        sequence = refl;
+        epoch = refl;
+        open_ids_given = refl;
+        making = refl;
+        by_guid = refl;
+        opened = refl;
+      });
+      still = still_alike s _ refl refl;
+      content = refl;
+    }
 calm_out s now TurnsAway e = calm_same s
-calm_out s now (TakesOut k is_quiet) e = record { goes = take_out_moves s k now is_quiet; still = still_take_out s k now is_quiet; content = content_end_named s now (ends_with s k) is_quiet }
+calm_out s now (TakesOut k is_quiet) e = record {
+  goes = take_out_moves s k now is_quiet;
+  still = still_take_out s k now is_quiet;
+  content = content_end_named s now (ends_with s k) is_quiet;
+}
 calm_out s now (TakesAllOut is_quiet) e = absurd (cc)
 
 calm_table : (s : Server) (now : ℕ) (e : ServerEvent) → is_connections (ruling s e) ≡ true → Calmly s (event_answer s now e).server
 calm_table s now e c =
-    either (λ (A : Answer). Calmly s A.server) (fits s (carried_out s now (ruling s e)).records) _ _ (λ _. calm_out s now (ruling s e) c) (λ _. calm_out s now (ruling_without_room (ruling s e)) (without_room_too (ruling s e) c))
+    either (λ (A : Answer). Calmly s A.server) (fits s (carried_out s now (ruling s e)).records) _ _
+    (λ _. calm_out s now (ruling s e) c) (λ _. calm_out s now (ruling_without_room (ruling s e))
+    (without_room_too (ruling s e) c))
 
-calm_expiring : (s : Server) (now : ℕ) (e : ServerEvent) → ((t : Server) → is_connections (ruling t e) ≡ true) → (u : Option ℕ) → Calmly s (expiring s now e u).server
+calm_expiring : (s : Server) (now : ℕ) (e : ServerEvent) → ((t : Server) → is_connections (ruling t e) ≡ true)
+    → (u : Option ℕ) → Calmly s (expiring s now e u).server
 calm_expiring s now e c None = calm_table s now e (c s)
 calm_expiring s now e c (Some o) =
     either (λ (A : Answer). Calmly s A.server) (nat_le max_expired_guids s.expired_count) _ _ (λ _. calm_table s now e (c s))
-    (λ _. either (λ (A : Answer). Calmly s A.server) (fits s (expire_records s (origin_at (connection_of e)) o ++ (carried_out (expire s o) now (ruling (expire s o) e)).records)) _ _
+    (λ _. either (λ (A : Answer). Calmly s A.server)
+    (fits s (expire_records s (origin_at (connection_of e)) o
+    ++ (carried_out (expire s o) now (ruling (expire s o) e)).records)) _ _
     (λ _. calm_on s (expire s o) _ (calm_expire s o) (calm_out (expire s o) now (ruling (expire s o) e) (c (expire s o))))
     (λ _. calm_table s now e (c s)))
 
@@ -51,10 +78,25 @@ calm_event : (s : Server) (now : ℕ) (e : ServerEvent) → ((t : Server) → is
 calm_event s now e c =
     let d = with_deadlines s now in let A = expiring d now e (due d now) in let f = calm_expiring d now e c (due d now) in
     calm_on s d _ (record { goes = deadlines_moves s now; still = still_deadlines s now; content = refl }) (calm_on d A.server _ f
-    (record { goes = moves_alike A.server _ (record { standing = refl; present = refl; session_of_open = refl; sequence = refl; epoch = refl; open_ids_given = refl; making = refl; by_guid = refl; opened = refl }); still = still_alike A.server _ refl refl; content = refl }))
+    (record {
+      goes = moves_alike A.server _ (record {
+        standing = refl;
+        present = refl;
+        session_of_open = refl;
+        sequence = refl;
+        epoch = refl;
+        open_ids_given = refl;
+        making = refl;
+        by_guid = refl;
+        opened = refl;
+      });
+      still = still_alike A.server _ refl refl;
+      content = refl;
+    }))
 
 pub calm_accept : (s : Server) (now k : ℕ) → Calmly s (step s now (Accept k)).server
-calm_accept s now k = calm_event s now (Accept k) (λ t. either (λ r. is_connections r ≡ true) (nat_le max_connections (length t.connections)) TurnsAway (TakesIn k) (λ _. refl) (λ _. refl))
+calm_accept s now k = calm_event s now (Accept k) (λ t. either (λ r. is_connections r ≡ true)
+    (nat_le max_connections (length t.connections)) TurnsAway (TakesIn k) (λ _. refl) (λ _. refl))
 
 pub calm_end : (s : Server) (now k : ℕ) → Calmly s (step s now (End k)).server
 calm_end s now k = calm_event s now (End k) (λ t. refl)

@@ -1,8 +1,12 @@
 -- What an operation's request is, read back.
 use Rattle.std.proofs.Common.{◌≡◌, ℕ, eqb-true, true, false, not, refl, arith, sym, ◌∙◌, Option, Some, None, is_some}
 use Rattle.exchange_defs.specs.Content.{is_listed}
-use Rattle.exchange_defs.specs.Commands.{Command, Aside, Unreadable, Setup, Logoff, TreeConnect, TreeDisconnect, Create, Close, Flush, Read, Write, Lock, Ioctl, ListDirectory, QueryFile, QueryVolume, SetInfo, CreateRequest, form}
-use Rattle.exchange_defs.specs.Operations.{Op, OpCreate, OpWrite, OpRead, OpEnd, OpTime, OpRename, OpRemove, OpLock, OpUnlock, OpFlush, OpStat, OpList, OpClose, content_op, share_of, persists, durable_of, create_request, request_of, reconnect_of}
+use Rattle.exchange_defs.specs.Commands.{Command, Aside, Unreadable, Setup, Logoff, TreeConnect, TreeDisconnect, Create}
+use Rattle.exchange_defs.specs.Commands.{Close, Flush, Read, Write, Lock, Ioctl, ListDirectory, QueryFile, QueryVolume}
+use Rattle.exchange_defs.specs.Commands.{SetInfo, CreateRequest, form}
+use Rattle.exchange_defs.specs.Operations.{Op, OpCreate, OpWrite, OpRead, OpEnd, OpTime, OpRename, OpRemove, OpLock}
+use Rattle.exchange_defs.specs.Operations.{OpUnlock, OpFlush, OpStat, OpList, OpClose, content_op, share_of, persists}
+use Rattle.exchange_defs.specs.Operations.{durable_of, create_request, request_of, reconnect_of}
 use Rattle.exchange_law.specs.Connections.{its_request, makes_open}
 use Rattle.session_law.specs.Sessions.{is_dialog}
 use Rattle.create_law.specs.Creates.{is_of_ask, keeps_form}
@@ -12,7 +16,8 @@ use Rattle.order_law.proofs.Writing.{writes_to}
 use Rattle.order_law.proofs.Made.{creates, asks_guid, asks_share, attaches}
 
 -- a read, a write or an end
-pub asks_of : (op : Op) (guid file slot number : ℕ) → lists op ≡ true → its_request op guid file slot number ≡ asks (content_op op) file × is_asked (content_op op) ≡ true
+pub asks_of : (op : Op) (guid file slot number : ℕ) → lists op ≡ true → its_request op guid file slot number
+    ≡ asks (content_op op) file × is_asked (content_op op) ≡ true
 unfolding lists is_listed its_request
 asks_of (OpCreate path access share disposition persist directory) guid file slot number e = absurd (cc)
 asks_of (OpWrite create at bytes) guid file slot number e = (refl, refl)
@@ -57,7 +62,8 @@ formed_none op guid file slot number e = form_same op guid file slot number ∙ 
     none_of f e = grind arith
 
 -- what may change bytes
-pub writes_of : (op : Op) (guid file slot number p : ℕ) → writes_to (its_request op guid file slot number) p ≡ true → lists op ≡ true × p ≡ file
+pub writes_of : (op : Op) (guid file slot number p : ℕ) → writes_to (its_request op guid file slot number) p ≡ true
+    → lists op ≡ true × p ≡ file
 unfolding lists is_listed its_request
 writes_of (OpCreate path access share disposition persist directory) guid file slot number p e = absurd (cc)
 writes_of (OpWrite create at bytes) guid file slot number p e = (refl, sym (eqb-true file p e))
@@ -74,7 +80,9 @@ writes_of (OpList create) guid file slot number p e = absurd (cc)
 writes_of (OpClose create) guid file slot number p e = absurd (cc)
 
 -- what makes an open
-pub creates_op : (op : Op) (guid file slot number : ℕ) → creates (its_request op guid file slot number) ≡ true → makes_open op ≡ true × asks_guid (its_request op guid file slot number) ≡ Some guid × asks_share (its_request op guid file slot number) ≡ share_of op
+pub creates_op : (op : Op) (guid file slot number : ℕ) → creates (its_request op guid file slot number) ≡ true
+    → makes_open op ≡ true × asks_guid (its_request op guid file slot number) ≡ Some guid
+    × asks_share (its_request op guid file slot number) ≡ share_of op
 unfolding makes_open its_request
 creates_op (OpCreate path access share disposition persist directory) guid file slot number e = (refl, refl, refl)
 creates_op (OpWrite create at bytes) guid file slot number e = absurd (cc)
@@ -90,9 +98,12 @@ creates_op (OpStat create) guid file slot number e = absurd (cc)
 creates_op (OpList create) guid file slot number e = absurd (cc)
 creates_op (OpClose create) guid file slot number e = absurd (cc)
 
-pub create_asks : (op : Op) (guid file slot number : ℕ) → makes_open op ≡ true → (r : CreateRequest) × ((its_request op guid file slot number ≡ Create r) × (r.reconnect ≡ None) × (r.durable ≡ Some (durable_of guid (persists op))))
+pub create_asks : (op : Op) (guid file slot number : ℕ) → makes_open op ≡ true → (r : CreateRequest)
+    × ((its_request op guid file slot number ≡ Create r) × (r.reconnect ≡ None)
+    × (r.durable ≡ Some (durable_of guid (persists op))))
 unfolding makes_open its_request
-create_asks (OpCreate path access share disposition persist directory) guid file slot number e = (create_request path access share disposition directory (Some (durable_of guid persist)) None, (refl, refl, refl))
+create_asks (OpCreate path access share disposition persist directory) guid file slot number e =
+    (create_request path access share disposition directory (Some (durable_of guid persist)) None, (refl, refl, refl))
 create_asks (OpWrite create at bytes) guid file slot number e = absurd (cc)
 create_asks (OpRead create at size) guid file slot number e = absurd (cc)
 create_asks (OpEnd create size) guid file slot number e = absurd (cc)
@@ -123,9 +134,13 @@ makes_creates (OpList create) guid file slot number e = absurd (cc)
 makes_creates (OpClose create) guid file slot number e = absurd (cc)
 
 -- a DH2C is of its create's form, and asks for its open
-pub ask_reads : (op : Op) (guid file : ℕ) → makes_open op ≡ true → (r : CreateRequest) × ((reconnect_of op guid file ≡ Create r) × (r.reconnect ≡ Some (record { file = file; guid = guid })))
+pub ask_reads : (op : Op) (guid file : ℕ) → makes_open op ≡ true → (r : CreateRequest)
+    × ((reconnect_of op guid file ≡ Create r) × (r.reconnect ≡ Some (record { file = file; guid = guid })))
 unfolding makes_open
-ask_reads (OpCreate path access share disposition persist directory) guid file e = (create_request path access share disposition directory None (Some (record { file = file; guid = guid })), (refl, refl))
+ask_reads (OpCreate path access share disposition persist directory) guid file e = (
+  create_request path access share disposition directory None (Some (record { file = file; guid = guid })),
+  (refl, refl),
+)
 ask_reads (OpWrite create at bytes) guid file e = absurd (cc)
 ask_reads (OpRead create at size) guid file e = absurd (cc)
 ask_reads (OpEnd create size) guid file e = absurd (cc)
@@ -141,7 +156,8 @@ ask_reads (OpClose create) guid file e = absurd (cc)
 
 pub ask_form : (op : Op) (guid file : ℕ) → makes_open op ≡ true → keeps_form op ≡ true → form (reconnect_of op guid file) ≡ None
 unfolding makes_open keeps_form
-ask_form (OpCreate path access share disposition persist directory) guid file e k = none_of (form (request_of (OpCreate path access share disposition persist directory) 0 0 0 0)) k
+ask_form (OpCreate path access share disposition persist directory) guid file e k =
+    none_of (form (request_of (OpCreate path access share disposition persist directory) 0 0 0 0)) k
   where
     none_of : (f : Option ℕ) → not (is_some f) ≡ true → f ≡ None
     none_of f e = grind arith

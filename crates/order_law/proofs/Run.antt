@@ -1,12 +1,15 @@
 -- Each event keeps what holds of the bytes under opens, and so does each run.
-use Rattle.std.proofs.Common.{eqb-true, ◌≡◌, ℕ, ◌+◌, ◌≤◌, ◌==◌, Bool, true, false, not, ◌&&◌, if◌then◌else◌, List, [], ◌∷◌, refl, arith, sym, subst, ◌∙◌, ap, Some, slice_get}
+use Rattle.std.proofs.Common.{eqb-true, ◌≡◌, ℕ, ◌+◌, ◌≤◌, ◌==◌, Bool, true, false, not, ◌&&◌, if◌then◌else◌, List, []}
+use Rattle.std.proofs.Common.{◌∷◌, refl, arith, sym, subst, ◌∙◌, ap, Some, slice_get}
 use Rattle.exchange_defs.specs.Table.{put, is_filled}
 use Rattle.exchange_defs.specs.Fold.{fold_from, sweep, recovered_from}
 use Rattle.exchange_defs.specs.Texts.{same_name}
 use Rattle.exchange_defs.specs.CheckSetup.{pipes_name}
 use Rattle.exchange_defs.specs.Operations.{NoSession}
 use Rattle.exchange_defs.specs.Client.{Client}
-use Rattle.exchange_defs.specs.Network.{World, Event, Submit, Open, Push, Serve, Take, Cut, Drop, Restart, Crash, Wait, Finish, Conn, Sent, Settings, happens, run, start, later, may_open, may_serve, answer, absorbed, serve_front, absorb_front, behind_front, restarted}
+use Rattle.exchange_defs.specs.Network.{World, Event, Submit, Open, Push, Serve, Take, Cut, Drop, Restart, Crash, Wait}
+use Rattle.exchange_defs.specs.Network.{Finish, Conn, Sent, Settings, happens, run, start, later, may_open, may_serve}
+use Rattle.exchange_defs.specs.Network.{answer, absorbed, serve_front, absorb_front, behind_front, restarted}
 use Rattle.exchange_defs.specs.Runs.{acts, front_acts}
 use Rattle.exchange_defs.specs.Statements.{OneConnection}
 use Rattle.exchange_law.specs.Connections.{makes_open}
@@ -49,11 +52,15 @@ record Known (w : World) (a : ℕ → ℕ) : Type 0 where
 
 -- ---- the server takes a message, or starts anew
 
-serve_any : (w : World) (a : ℕ → ℕ) (k : ℕ) → Lower w a → ContentsHold w a → (xs : List Sent) → (w.conns k).up ≡ xs → ((g : ℕ) → makes_open (w.client.op g) ≡ true → Behind w a xs g ≤ 1) → ContentsHold (serve_front w k xs) (Behind w a xs)
+serve_any : (w : World) (a : ℕ → ℕ) (k : ℕ) → Lower w a → ContentsHold w a → (xs : List Sent) → (w.conns k).up ≡ xs
+    → ((g : ℕ) → makes_open (w.client.op g) ≡ true → Behind w a xs g ≤ 1) → ContentsHold (serve_front w k xs)
+    (Behind w a xs)
 serve_any w a k l i [] is most = i
 serve_any w a k l i (x ∷ rest) is most = serves w a k x rest is l most i
 
-serve_open : (w : World) (a : ℕ → ℕ) (k : ℕ) → Known w a → ContentsHold w a → (b : Bool) → may_serve w k ≡ b → ContentsHold (if b then later (serve_front w k (w.conns k).up) 1 else w) (λ g. if b && front_acts w (w.conns k).up g then a g + 1 else a g)
+serve_open : (w : World) (a : ℕ → ℕ) (k : ℕ) → Known w a → ContentsHold w a → (b : Bool) → may_serve w k ≡ b
+    → ContentsHold (if b then later (serve_front w k (w.conns k).up) 1 else w) (λ g. if b && front_acts w (w.conns k).up
+    g then a g + 1 else a g)
 serve_open w a k f i true e = serve_any w a k f.lower i (w.conns k).up refl (f.most k e)
 serve_open w a k f i false e = i
 
@@ -66,7 +73,9 @@ down_at f k rest j = elim (j == k) as (λ b. j == k ≡ b → (put f k (behind_f
 starts_anew : (w : World) (a : ℕ → ℕ) → Lower w a → ContentsHold w a → ContentsHold (restarted w) a
 starts_anew w a l i = restarts w a l.fits l.anew (ranked_of w a l) (current_of w a l) (alive_of w a l) i
 
-anew_any : (w : World) (a : ℕ → ℕ) (k : ℕ) → Lower w a → ContentsHold w a → (xs : List Sent) → (w.conns k).up ≡ xs → ((g : ℕ) → makes_open (w.client.op g) ≡ true → Behind w a xs g ≤ 1) → Anew (absorb_front w k xs) → ContentsHold (restarted (absorb_front w k xs)) (Behind w a xs)
+anew_any : (w : World) (a : ℕ → ℕ) (k : ℕ) → Lower w a → ContentsHold w a → (xs : List Sent) → (w.conns k).up ≡ xs
+    → ((g : ℕ) → makes_open (w.client.op g) ≡ true → Behind w a xs g ≤ 1) → Anew (absorb_front w k xs)
+    → ContentsHold (restarted (absorb_front w k xs)) (Behind w a xs)
 anew_any w a k l i [] is most r = starts_anew w a l i
 anew_any w a k l i (x ∷ rest) is most r =
     restarts (absorbed w k x rest (answer w x)) (Behind w a (x ∷ rest)) r.0 r.1
@@ -75,7 +84,8 @@ anew_any w a k l i (x ∷ rest) is most r =
     (alive_of w a l) (absorbs w a k x rest is l most i)
 
 crash_open : (w : World) (a : ℕ → ℕ) (k : ℕ) → Known w a → ContentsHold w a → (kept b : Bool) → may_serve w k ≡ b
-    → ContentsHold (if b then later (if kept then restarted (absorb_front w k (w.conns k).up) else restarted w) 1 else w) (λ g. if kept && (b && front_acts w (w.conns k).up g) then a g + 1 else a g)
+    → ContentsHold (if b then later (if kept then restarted (absorb_front w k (w.conns k).up) else restarted w) 1 else
+    w) (λ g. if kept && (b && front_acts w (w.conns k).up g) then a g + 1 else a g)
 crash_open w a k f i true true e = anew_any w a k f.lower i (w.conns k).up refl (f.most k e) (f.anew_kept k e)
 crash_open w a k f i true false e = i
 crash_open w a k f i false true e = starts_anew w a f.lower i
@@ -86,15 +96,18 @@ crash_open w a k f i false false e = i
 keeps : (w : World) (a : ℕ → ℕ) (e : Event) → Known w a → ContentsHold w a → ContentsHold (happens w e) (after w e a)
 keeps w a (Submit g op) f i = submits w a g op f.lower i
 keeps w a (Open k) f i = either (λ v. ContentsHold v a) (may_open w k) _ _ (λ m. opens_conn w a k (closed_of w k m) f.lower i) (λ _. i)
-keeps w a (Push k slotless pick) f i = either (λ v. ContentsHold v a) (w.client.ready k) _ _ (λ ready. pushes w a k slotless pick ready f.lower i) (λ _. i)
+keeps w a (Push k slotless pick) f i = either (λ v. ContentsHold v a) (w.client.ready k) _ _
+    (λ ready. pushes w a k slotless pick ready f.lower i) (λ _. i)
 keeps w a (Serve k) f i = serve_open w a k f i (may_serve w k) refl
-keeps w a (Take k) f i = either (λ v. ContentsHold v a) ((w.conns k).client_open && is_filled (w.conns k).down) _ _ (λ m. takes w a k (front_of (w.conns k).client_open _ m) f.lower i (w.conns k).down refl) (λ _. i)
+keeps w a (Take k) f i = either (λ v. ContentsHold v a) ((w.conns k).client_open && is_filled (w.conns k).down) _ _
+    (λ m. takes w a k (front_of (w.conns k).client_open _ m) f.lower i (w.conns k).down refl) (λ _. i)
 keeps w a (Cut k) f i = either (λ v. ContentsHold v a) (w.conns k).client_open _ _ (λ _. cuts w a k f.lower i) (λ _. i)
 keeps w a (Drop k) f i = either (λ v. ContentsHold v a) (w.conns k).server_open _ _ (λ _. drops w a k f.lower i) (λ _. i)
 keeps w a Restart f i = starts_anew w a f.lower i
 keeps w a (Crash k kept) f i = crash_open w a k f i kept (may_serve w k) refl
 keeps w a (Wait n) f i = i
-keeps w a (Finish refusal) f i = either (λ v. ContentsHold v a) (not w.client.live) _ _ (λ d. finishes w a (NoSession refusal) (not_true w.client.live d) i) (λ _. i)
+keeps w a (Finish refusal) f i = either (λ v. ContentsHold v a) (not w.client.live) _ _
+    (λ d. finishes w a (NoSession refusal) (not_true w.client.live d) i) (λ _. i)
 
 -- ---- at the start
 
@@ -184,10 +197,12 @@ same_client w k (x ∷ rest) = refl
 most_of : (b f : Bool) (n : ℕ) → b ≡ true → (if b && f then n + 1 else n) ≤ 1 → (if f then n + 1 else n) ≤ 1
 most_of b f n e l = grind arith
 
-at_most_behind : (w : World) (a : ℕ → ℕ) (k : ℕ) → may_serve w k ≡ true → AtMost (happens w (Serve k)).client (after w (Serve k) a) → (g : ℕ) → makes_open (w.client.op g) ≡ true → Behind w a (w.conns k).up g ≤ 1
+at_most_behind : (w : World) (a : ℕ → ℕ) (k : ℕ) → may_serve w k ≡ true → AtMost (happens w (Serve k)).client
+    (after w (Serve k) a) → (g : ℕ) → makes_open (w.client.op g) ≡ true → Behind w a (w.conns k).up g ≤ 1
 at_most_behind w a k may most g mk =
     most_of (may_serve w k) (front_acts w (w.conns k).up g) (a g) may
-    (most g (subst (λ (c : Client). makes_open (c.op g) ≡ true) (sym (ap (λ (v : World). v.client) (served_as w k may) ∙ same_client w k (w.conns k).up)) mk))
+    (most g (subst (λ (c : Client). makes_open (c.op g) ≡ true)
+    (sym (ap (λ (v : World). v.client) (served_as w k may) ∙ same_client w k (w.conns k).up)) mk))
 
 no_pipes : (b v : Bool) → (b ≡ true → v ≡ false) → v ≡ true → b ≡ false
 no_pipes true v f e = absurd (let z = f refl in grind arith)
@@ -206,7 +221,8 @@ lower z es =
       beyond = beyond z es;
       low = (newest z (below z) es).low_sequences;
       anew = (anew_at w f (recovers z (fitting z) es)).1;
-      disk = λ y id o e. no_pipes (w.server.standing o) (same_name w.client.who.share pipes_name) (open_kind z es o) (sym (kinds z es y id true e));
+      disk = λ y id o e. no_pipes (w.server.standing o) (same_name w.client.who.share pipes_name) (open_kind z es o)
+          (sym (kinds z es y id true e));
     }
 
 known : (z : Settings) (es : List Event) → Known (run es (start z)) (acts es (start z))
@@ -214,14 +230,19 @@ known z es =
     let w : World = run es (start z) in
     record {
       lower = lower z es;
-      most = λ k may. at_most_behind w (acts es (start z)) k may (one_event_on (λ (v : World) b. AtMost v.client b) z (λ ds. (creates z ds).at_most) es (Serve k));
+      most = λ k may. at_most_behind w (acts es (start z)) k may (one_event_on (λ (v : World) b. AtMost v.client b) z
+          (λ ds. (creates z ds).at_most) es (Serve k));
       anew_kept = λ k may.
           anew_behind w k (w.conns k).up (subst Anew (served_as w k may)
-          (anew_at (happens w (Serve k)) (one_event_on (λ (v : World) b. Fits v.server) z (fitting z) es (Serve k)) (one_event_on (λ (v : World) b. Recovers v.records v.server) z (recovers z (fitting z)) es (Serve k))));
+          (anew_at (happens w (Serve k)) (one_event_on (λ (v : World) b. Fits v.server) z (fitting z) es (Serve k))
+          (one_event_on (λ (v : World) b. Recovers v.records v.server) z (recovers z (fitting z)) es (Serve k))));
     }
 
 pub contents : (z : Settings) → (es : List Event) → At ContentsHold z es
 contents z = on_every_run ContentsHold z (begins z) (λ es e i. keeps (run es (start z)) (acts es (start z)) e (known z es) i)
 
 pub one_connection : OneConnection
-one_connection z es = let i = contents z es in (one_connections (run es (start z)) (acts es (start z)) i, bytes_now (run es (start z)) (acts es (start z)) i)
+one_connection z es = let i = contents z es in (
+  one_connections (run es (start z)) (acts es (start z)) i,
+  bytes_now (run es (start z)) (acts es (start z)) i,
+)

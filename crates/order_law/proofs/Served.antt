@@ -1,10 +1,12 @@
 -- What an answer to a read, a write or an end says and does, and one to a request to attach an open.
 use Rattle.std.proofs.lemmas.Bool.Decides.{nat_tests}
-use Rattle.std.proofs.Common.{inl, inr, ◌≡◌, ◌≢◌, ℕ, ◌≤◌, ◌<◌, ◌==◌, nat_lt, Bool, true, false, not, ◌&&◌, if◌then◌else◌, List, refl, arith, sym, subst, ◌∙◌, ap, Option, Some, None, is_some}
+use Rattle.std.proofs.Common.{inl, inr, ◌≡◌, ◌≢◌, ℕ, ◌≤◌, ◌<◌, ◌==◌, nat_lt, Bool, true, false, not, ◌&&◌}
+use Rattle.std.proofs.Common.{if◌then◌else◌, List, refl, arith, sym, subst, ◌∙◌, ap, Option, Some, None, is_some}
 use Rattle.exchange_defs.specs.Table.{put, is_at}
 use Rattle.exchange_defs.specs.Texts.{same_name}
 use Rattle.exchange_defs.specs.Status.{success, user_session_deleted, file_closed, file_not_available, end_of_file}
-use Rattle.exchange_defs.specs.Content.{ContentOp, Write as Writes, Read as Reads, SetEnd as Ends, Still, is_change, effect, value, past_end, written, ended}
+use Rattle.exchange_defs.specs.Content.{ContentOp, Write as Writes, Read as Reads, SetEnd as Ends, Still, is_change}
+use Rattle.exchange_defs.specs.Content.{effect, value, past_end, written, ended}
 use Rattle.exchange_defs.specs.Commands.{Create, CreateRequest, Reconnect, form, deletes_on_close}
 use Rattle.exchange_defs.specs.State.{Server, Message, Heard, Record, Answer, Body}
 use Rattle.exchange_defs.specs.Files.{set_delete_pending, remove_file}
@@ -14,7 +16,10 @@ use Rattle.exchange_defs.specs.CheckOpen.{is_late, file_of}
 use Rattle.exchange_defs.specs.CheckSetup.{tree_in}
 use Rattle.exchange_defs.specs.Check.{check, has_session}
 use Rattle.exchange_defs.specs.Effects.{apply, reach, reaches, change_file, attached, attach}
-use Rattle.exchange_defs.specs.Verdict.{Verdict, Refuse, Give, KeepRefusal, Repeat, Attach, Make, TurnDown, Tell, Show, KeepSlot, PutRanges, Alter, CloseOpen, Challenge, ChallengeBinding, Begin, Join, EndSession, AddTree, DropTree, Change, PutBytes, PutEnd, PutBasic, PutDeletePending, PutPath, PutNothing}
+use Rattle.exchange_defs.specs.Verdict.{Verdict, Refuse, Give, KeepRefusal, Repeat, Attach, Make, TurnDown, Tell, Show}
+use Rattle.exchange_defs.specs.Verdict.{KeepSlot, PutRanges, Alter, CloseOpen, Challenge, ChallengeBinding, Begin, Join}
+use Rattle.exchange_defs.specs.Verdict.{EndSession, AddTree, DropTree, Change, PutBytes, PutEnd, PutBasic}
+use Rattle.exchange_defs.specs.Verdict.{PutDeletePending, PutPath, PutNothing}
 use Rattle.exchange_defs.specs.Step.{step, with_deadlines, expire, add_expired_guid}
 use Rattle.exchange_defs.specs.Network.{content_reply, answer_to}
 use Rattle.server_law.proofs.Doors.{by_verdict, recorded, Before, Finds}
@@ -23,17 +28,23 @@ use Rattle.order_law.specs.Newest.{LowSequences}
 use Rattle.order_law.specs.Contents.{is_final}
 use Rattle.order_law.proofs.Pairs.{stale_less, in_time, content_reach}
 use Rattle.order_law.proofs.Answers.{Earlier, earlier}
-use Rattle.order_law.proofs.Listed.{asks, is_asked, changed_by, Listed, ListedBy, listed, listed_without_room, Asked, asked, asked_without_room}
+use Rattle.order_law.proofs.Listed.{asks, is_asked, changed_by, Listed, ListedBy, listed, listed_without_room, Asked}
+use Rattle.order_law.proofs.Listed.{asked, asked_without_room}
 
 -- what the answer to a read, a write or an end of the open o says, of the state before
 pub record ListedFacts (s : Server) (m : Message) (op : ContentOp) (o : ℕ) (A : Answer) : Type 0 where
-  pub acts : A.acted ≡ true → s.standing o ≡ true × s.session_of_open o ≡ Some m.session_id × s.sequence o ≤ m.channel_sequence × is_change op ≡ true × A.reply.status ≡ success × A.reached ≡ Some o × form m.command ≡ None
+  pub acts : A.acted ≡ true → s.standing o ≡ true × s.session_of_open o ≡ Some m.session_id
+      × s.sequence o ≤ m.channel_sequence × is_change op ≡ true × A.reply.status ≡ success × A.reached ≡ Some o
+      × form m.command ≡ None
   pub again : A.acted ≡ true → m.replay ≡ true → effect op (s.content (s.opened o).file) ≢ s.content (s.opened o).file
-  pub done : (A.reply.status == success) ≡ true → s.standing o ≡ true × A.server.standing o ≡ true × value op (s.content (s.opened o).file) ≡ content_reply A.reply.body × A.server.content (s.opened o).file ≡ effect op (s.content (s.opened o).file)
+  pub done : (A.reply.status == success) ≡ true → s.standing o ≡ true × A.server.standing o ≡ true
+      × value op (s.content (s.opened o).file) ≡ content_reply A.reply.body × A.server.content (s.opened o).file
+      ≡ effect op (s.content (s.opened o).file)
       × past_end op (s.content (s.opened o).file) ≡ false
   pub ended : (A.reply.status == end_of_file) ≡ true → s.standing o ≡ true × past_end op (s.content (s.opened o).file) ≡ true
   pub reached : is_change op ≡ true → form m.command ≡ None → is_final A.reply.status ≡ true → A.reached ≡ Some o
-  pub closed : (A.reply.status == file_closed) ≡ true → has_session s m ≡ true × (A.server.standing o ≡ true → s.session_of_open o ≡ Some m.session_id → ⊥)
+  pub closed : (A.reply.status == file_closed) ≡ true → has_session s m ≡ true
+      × (A.server.standing o ≡ true → s.session_of_open o ≡ Some m.session_id → ⊥)
   pub stale : (A.reply.status == file_not_available) ≡ true → s.session_of_open o ≡ Some m.session_id × m.channel_sequence < s.sequence o
 
 on_open : (s : Server) (o x : ℕ) → is_of_session s o x ≡ true → s.standing o ≡ true × s.session_of_open o ≡ Some x
@@ -45,7 +56,8 @@ is_open s o x st at e = absurd (grind arith)
 off : (a b : Bool) → a ≡ true → a ≡ false → b ≡ true
 off a b e f = absurd (grind arith)
 
-late_less : (s : Server) (m : Message) (o : ℕ) → LowSequences s → m.channel_sequence ≤ 32767 → is_late s m o ≡ true → m.channel_sequence < s.sequence o
+late_less : (s : Server) (m : Message) (o : ℕ) → LowSequences s → m.channel_sequence ≤ 32767 → is_late s m o ≡ true
+    → m.channel_sequence < s.sequence o
 late_less s m o low l e = less m.channel_sequence (s.sequence o) (is_late s m o) (stale_less m.channel_sequence (s.sequence o) l (low o)) e
   where
     less : (a b : ℕ) (t : Bool) → t ≡ nat_lt a b → t ≡ true → a < b
@@ -77,10 +89,14 @@ standing_changed s f now (PutPath replaced path) = refl
 standing_changed s f now PutNothing = refl
 
 reach_standing : (s : Server) (m : Message) (o : ℕ) → (reach s m o).standing ≡ s.standing
-reach_standing s m o = either (λ (t : Server). t.standing ≡ s.standing) (is_late s m o) s (record s { sequence = put s.sequence o m.channel_sequence }) (λ _. refl) (λ _. refl)
+reach_standing s m o = either (λ (t : Server). t.standing ≡ s.standing) (is_late s m o) s (record s {
+  sequence = put s.sequence o m.channel_sequence;
+}) (λ _. refl) (λ _. refl)
 
 -- one that is carried out
-pub altered_facts : (s : Server) (m : Message) (op : ContentOp) (o now : ℕ) (change : Change) (body : Body) → LowSequences s → m.channel_sequence ≤ 32767 → ListedBy s m op o (Alter o change body) → ListedFacts s m op o (apply s m now (Alter o change body))
+pub altered_facts : (s : Server) (m : Message) (op : ContentOp) (o now : ℕ) (change : Change) (body : Body)
+    → LowSequences s → m.channel_sequence ≤ 32767 → ListedBy s m op o (Alter o change body)
+    → ListedFacts s m op o (apply s m now (Alter o change body))
 altered_facts s m op o now change body low l h =
     let on = on_open s o m.session_id h.on in
     record {
@@ -90,7 +106,8 @@ altered_facts s m op o now change body low l h =
         on.0,
         ap (λ f. f o) (standing_changed (reach s m o) (file_of s o) now change) ∙ (ap (λ f. f o) (reach_standing s m o) ∙ on.0),
         h.reply,
-        content_changed (reach s m o) (file_of s o) now change ∙ (ap (λ c. changed_by change (c (file_of s o))) (content_reach s m o) ∙ h.after),
+        content_changed (reach s m o) (file_of s o) now change
+            ∙ (ap (λ c. changed_by change (c (file_of s o))) (content_reach s m o) ∙ h.after),
         h.before,
       );
       ended = λ e. absurd (cc);
@@ -99,20 +116,29 @@ altered_facts s m op o now change body low l h =
       stale = λ e. absurd (cc);
     }
 
-told_facts : (s : Server) (m : Message) (op : ContentOp) (o now : ℕ) (body : Body) → ListedBy s m op o (Tell o body) → ListedFacts s m op o (apply s m now (Tell o body))
+told_facts : (s : Server) (m : Message) (op : ContentOp) (o now : ℕ) (body : Body) → ListedBy s m op o (Tell o body)
+    → ListedFacts s m op o (apply s m now (Tell o body))
 told_facts s m op o now body h =
     let on = on_open s o m.session_id h.on in
     record {
       acts = λ a. absurd (cc);
       again = λ a. absurd (cc);
-      done = λ e. (on.0, ap (λ f. f o) (reach_standing s m o) ∙ on.0, h.reply, ap (λ c. c (file_of s o)) (content_reach s m o) ∙ sym h.same, h.before);
+      done = λ e. (
+        on.0,
+        ap (λ f. f o) (reach_standing s m o) ∙ on.0,
+        h.reply,
+        ap (λ c. c (file_of s o))
+            (content_reach s m o) ∙ sym h.same,
+        h.before,
+      );
       ended = λ e. absurd (cc);
       reached = λ c f z. reaches_on s m o (h.in_time c);
       closed = λ e. absurd (cc);
       stale = λ e. absurd (cc);
     }
 
-turned_facts : (s : Server) (m : Message) (op : ContentOp) (o now status : ℕ) → ListedBy s m op o (TurnDown o status) → ListedFacts s m op o (apply s m now (TurnDown o status))
+turned_facts : (s : Server) (m : Message) (op : ContentOp) (o now status : ℕ) → ListedBy s m op o (TurnDown o status)
+    → ListedFacts s m op o (apply s m now (TurnDown o status))
 turned_facts s m op o now status h =
     let on = on_open s o m.session_id h.on in
     record {
@@ -125,7 +151,9 @@ turned_facts s m op o now status h =
       stale = λ e. absurd (let z = h.stale in grind arith);
     }
 
-refused_facts : (s : Server) (m : Message) (op : ContentOp) (o now status : ℕ) → LowSequences s → m.channel_sequence ≤ 32767 → ListedBy s m op o (Refuse status) → ListedFacts s m op o (apply s m now (Refuse status))
+refused_facts : (s : Server) (m : Message) (op : ContentOp) (o now status : ℕ) → LowSequences s
+    → m.channel_sequence ≤ 32767 → ListedBy s m op o (Refuse status)
+    → ListedFacts s m op o (apply s m now (Refuse status))
 refused_facts s m op o now status low l h =
     record {
       acts = λ a. absurd (cc);
@@ -137,11 +165,16 @@ refused_facts s m op o now status low l h =
       stale = λ e. let z = h.stale e in ((on_open s o m.session_id z.0).1, late_less s m o low l z.1);
     }
 
-listed_facts_at : (s : Server) (m : Message) (op : ContentOp) (o now : ℕ) → LowSequences s → m.channel_sequence ≤ 32767 → (v : Verdict) → Listed s m op o v → ListedFacts s m op o (apply s m now v)
+listed_facts_at : (s : Server) (m : Message) (op : ContentOp) (o now : ℕ) → LowSequences s → m.channel_sequence ≤ 32767
+    → (v : Verdict) → Listed s m op o v → ListedFacts s m op o (apply s m now v)
 listed_facts_at s m op o now low l (Refuse status) h = refused_facts s m op o now status low l h.is
-listed_facts_at s m op o now low l (TurnDown p status) h = subst (λ q. ListedBy s m op o (TurnDown q status) → ListedFacts s m op o (apply s m now (TurnDown q status))) (sym h.is.its) (turned_facts s m op o now status) h.is
-listed_facts_at s m op o now low l (Tell p body) h = subst (λ q. ListedBy s m op o (Tell q body) → ListedFacts s m op o (apply s m now (Tell q body))) (sym h.is.its) (told_facts s m op o now body) h.is
-listed_facts_at s m op o now low l (Alter p change body) h = subst (λ q. ListedBy s m op o (Alter q change body) → ListedFacts s m op o (apply s m now (Alter q change body))) (sym h.is.its) (altered_facts s m op o now change body low l) h.is
+listed_facts_at s m op o now low l (TurnDown p status) h = subst (λ q. ListedBy s m op o (TurnDown q status)
+    → ListedFacts s m op o (apply s m now (TurnDown q status))) (sym h.is.its) (turned_facts s m op o now status) h.is
+listed_facts_at s m op o now low l (Tell p body) h = subst (λ q. ListedBy s m op o (Tell q body)
+    → ListedFacts s m op o (apply s m now (Tell q body))) (sym h.is.its) (told_facts s m op o now body) h.is
+listed_facts_at s m op o now low l (Alter p change body) h = subst (λ q. ListedBy s m op o (Alter q change body)
+    → ListedFacts s m op o (apply s m now (Alter q change body))) (sym h.is.its)
+    (altered_facts s m op o now change body low l) h.is
 listed_facts_at s m op o now low l (Give body) h = absurd (h.is)
 listed_facts_at s m op o now low l (KeepRefusal guid status) h = absurd (h.is)
 listed_facts_at s m op o now low l (Repeat p r) h = absurd (h.is)
@@ -160,22 +193,46 @@ listed_facts_at s m op o now low l (AddTree pipes) h = absurd (h.is)
 listed_facts_at s m op o now low l DropTree h = absurd (h.is)
 
 -- behind an expiry, of the state before it
-listed_before : (s t : Server) (m : Message) (op : ContentOp) (o : ℕ) (A : Answer) → Earlier s t → t.session_on ≡ s.session_on → (A.server.standing o ≡ true → t.standing o ≡ true) → ListedFacts t m op o A → ListedFacts s m op o A
+listed_before : (s t : Server) (m : Message) (op : ContentOp) (o : ℕ) (A : Answer) → Earlier s t → t.session_on
+    ≡ s.session_on → (A.server.standing o ≡ true → t.standing o ≡ true) → ListedFacts t m op o A
+    → ListedFacts s m op o A
 listed_before s t m op o A k on back f =
     let row : (t.opened o).file ≡ (s.opened o).file = ap (λ g. (g o).file) k.moves.row in
     let same : t.content (t.opened o).file ≡ s.content (s.opened o).file = ap (λ g. g (t.opened o).file) k.content ∙ ap s.content row in
     let sq : t.sequence o ≡ s.sequence o = ap (λ g. g o) k.sequence in
     record {
-      acts = λ a. let h = f.acts a in (k.moves.stands o h.0, k.session_of_open o m.session_id h.1, subst (λ n. n ≤ m.channel_sequence) sq h.2, h.3, h.4, h.5, h.6);
+      acts = λ a. let h = f.acts a in (
+        k.moves.stands o h.0,
+        k.session_of_open o m.session_id h.1,
+        subst (λ n. n ≤ m.channel_sequence) sq h.2,
+        h.3,
+        h.4,
+        h.5,
+        h.6,
+      );
       again = λ a r. subst (λ c. effect op c ≢ c) same (f.again a r);
-      done = λ e. let h = f.done e in (k.moves.stands o h.0, h.1, subst (λ c. value op c ≡ content_reply A.reply.body) same h.2, subst (λ g. A.server.content g ≡ effect op (s.content (s.opened o).file)) row (subst (λ c. A.server.content (t.opened o).file ≡ effect op c) same h.3), subst (λ c. past_end op c ≡ false) same h.4);
+      done = λ e. let h = f.done e in (
+        k.moves.stands o h.0,
+        h.1,
+        subst (λ c. value op c ≡ content_reply A.reply.body)
+            same h.2,
+        subst (λ g. A.server.content g ≡ effect op (s.content (s.opened o).file)) row
+            (subst (λ c. A.server.content (t.opened o).file ≡ effect op c) same h.3),
+        subst (λ c. past_end op c ≡ false)
+            same h.4,
+      );
       ended = λ e. let h = f.ended e in (k.moves.stands o h.0, subst (λ c. past_end op c ≡ true) same h.1);
       reached = f.reached;
-      closed = λ e. let z = f.closed e in (ap (λ g. is_at m.session_id (g m.connection)) (sym on) ∙ z.0, λ st at. z.1 st (k.at_on o (back st) ∙ at));
+      closed = λ e. let z = f.closed e in (
+        ap (λ g. is_at m.session_id (g m.connection)) (sym on) ∙ z.0,
+        λ st at.
+            z.1 st (k.at_on o (back st) ∙ at),
+      );
       stale = λ e. let h = f.stale e in (k.session_of_open o m.session_id h.0, subst (λ n. m.channel_sequence < n) sq h.1);
     }
 
-listed_standing : (s : Server) (m : Message) (op : ContentOp) (o now : ℕ) → (v : Verdict) → Listed s m op o v → (apply s m now v).server.standing ≡ s.standing
+listed_standing : (s : Server) (m : Message) (op : ContentOp) (o now : ℕ) → (v : Verdict) → Listed s m op o v
+    → (apply s m now v).server.standing ≡ s.standing
 listed_standing s m op o now (Refuse status) h = refl
 listed_standing s m op o now (TurnDown p status) h = reach_standing s m p
 listed_standing s m op o now (Tell p body) h = reach_standing s m p
@@ -197,10 +254,20 @@ listed_standing s m op o now (EndSession session is_quiet) h = absurd (h.is)
 listed_standing s m op o now (AddTree pipes) h = absurd (h.is)
 listed_standing s m op o now DropTree h = absurd (h.is)
 
-listed_recorded : (s : Server) (m : Message) (op : ContentOp) (o : ℕ) (A : Answer) (records : List Record) → ListedFacts s m op o A → ListedFacts s m op o (recorded A records)
-listed_recorded s m op o A records f = record { acts = f.acts; again = f.again; done = f.done; ended = f.ended; reached = f.reached; closed = f.closed; stale = f.stale }
+listed_recorded : (s : Server) (m : Message) (op : ContentOp) (o : ℕ) (A : Answer) (records : List Record)
+    → ListedFacts s m op o A → ListedFacts s m op o (recorded A records)
+listed_recorded s m op o A records f = record {
+  acts = f.acts;
+  again = f.again;
+  done = f.done;
+  ended = f.ended;
+  reached = f.reached;
+  closed = f.closed;
+  stale = f.stale;
+}
 
-found_listed : (t : Server) (m : Message) (op : ContentOp) (o : ℕ) (v : Verdict) → Listed t m op o (check t m) → Finds t m v → Listed t m op o v
+found_listed : (t : Server) (m : Message) (op : ContentOp) (o : ℕ) (v : Verdict) → Listed t m op o (check t m)
+    → Finds t m v → Listed t m op o v
 found_listed t m op o v l (inl e) = subst (Listed t m op o) (sym e) l
 found_listed t m op o v l (inr e) = subst (Listed t m op o) (sym e) (listed_without_room t m op o (check t m) l)
 
@@ -209,18 +276,23 @@ before_low : (s t : Server) → Earlier s t → LowSequences s → LowSequences 
 before_low s t k low = k.moves.low low
 
 leave_trees : (s : Server) (o : ℕ) → (leave_open s o).trees ≡ s.trees × (leave_open s o).user ≡ s.user
-leave_trees s o = let g = gone_trees (drop_open (pending_behind s o) o) (s.opened o).file in let k = pending_trees s o in (g.0 ∙ k.0, g.1 ∙ k.1)
+leave_trees s o = let g = gone_trees (drop_open (pending_behind s o) o) (s.opened o).file in let k = pending_trees s o
+    in (g.0 ∙ k.0, g.1 ∙ k.1)
   where
     gone_trees : (s : Server) (f : ℕ) → (without_gone s f).trees ≡ s.trees × (without_gone s f).user ≡ s.user
-    gone_trees s f = either (λ (t : Server). t.trees ≡ s.trees × t.user ≡ s.user) (goes s f) (remove_file s f) s (λ _. (refl, refl)) (λ _. (refl, refl))
+    gone_trees s f = either (λ (t : Server). t.trees ≡ s.trees × t.user ≡ s.user) (goes s f) (remove_file s f) s
+        (λ _. (refl, refl)) (λ _. (refl, refl))
 
     pending_trees : (s : Server) (o : ℕ) → (pending_behind s o).trees ≡ s.trees × (pending_behind s o).user ≡ s.user
-    pending_trees s o = either (λ (t : Server). t.trees ≡ s.trees × t.user ≡ s.user) (deletes_on_close (s.opened o).options) (set_delete_pending s (s.opened o).file true) s (λ _. (refl, refl)) (λ _. (refl, refl))
+    pending_trees s o = either (λ (t : Server). t.trees ≡ s.trees × t.user ≡ s.user)
+        (deletes_on_close (s.opened o).options) (set_delete_pending s (s.opened o).file true) s (λ _. (refl, refl))
+        (λ _. (refl, refl))
 
 expire_trees : (s : Server) (o : ℕ) → (expire s o).trees ≡ s.trees × (expire s o).user ≡ s.user
 expire_trees s o = by_guid (s.opened o).create_guid
   where
-    by_guid : (g : Option ℕ) → (add_expired_guid (leave_open s o) (s.opened o).client_guid g).trees ≡ s.trees × (add_expired_guid (leave_open s o) (s.opened o).client_guid g).user ≡ s.user
+    by_guid : (g : Option ℕ) → (add_expired_guid (leave_open s o) (s.opened o).client_guid g).trees ≡ s.trees
+        × (add_expired_guid (leave_open s o) (s.opened o).client_guid g).user ≡ s.user
     by_guid None = leave_trees s o
     by_guid (Some g) = leave_trees s o
 
@@ -233,52 +305,73 @@ before_user s now t (inl e) = ap (λ (u : Server). u.user) e
 before_user s now t (inr (o, d, e)) = ap (λ (u : Server). u.user) e ∙ (expire_trees (with_deadlines s now) o).1
 
 leave_at_on : (s : Server) (o : ℕ) → (leave_open s o).session_on ≡ s.session_on
-leave_at_on s o = gone (drop_open (pending_behind s o) o) (s.opened o).file ∙ either (λ (t : Server). t.session_on ≡ s.session_on) (deletes_on_close (s.opened o).options) (set_delete_pending s (s.opened o).file true) s (λ _. refl) (λ _. refl)
+leave_at_on s o = gone (drop_open (pending_behind s o) o) (s.opened o).file
+    ∙ either (λ (t : Server). t.session_on ≡ s.session_on) (deletes_on_close (s.opened o).options)
+    (set_delete_pending s (s.opened o).file true) s (λ _. refl) (λ _. refl)
   where
     gone : (s : Server) (f : ℕ) → (without_gone s f).session_on ≡ s.session_on
     gone s f = either (λ (t : Server). t.session_on ≡ s.session_on) (goes s f) (remove_file s f) s (λ _. refl) (λ _. refl)
 
 before_on : (s : Server) (now : ℕ) (t : Server) → Before s now t → t.session_on ≡ s.session_on
 before_on s now t (inl e) = ap (λ (u : Server). u.session_on) e
-before_on s now t (inr (o, q, e)) = ap (λ (u : Server). u.session_on) e ∙ guid_added (leave_open (with_deadlines s now) o) (s.opened o).client_guid (s.opened o).create_guid ∙ leave_at_on (with_deadlines s now) o
+before_on s now t (inr (o, q, e)) = ap (λ (u : Server). u.session_on) e
+    ∙ guid_added (leave_open (with_deadlines s now) o) (s.opened o).client_guid (s.opened o).create_guid
+    ∙ leave_at_on (with_deadlines s now) o
   where
     guid_added : (s : Server) (client : ℕ) (guid : Option ℕ) → (add_expired_guid s client guid).session_on ≡ s.session_on
     guid_added s client None = refl
     guid_added s client (Some g) = refl
 
-listed_step : (s : Server) (now : ℕ) (m : Message) (op : ContentOp) (o : ℕ) → is_asked op ≡ true → m.command ≡ asks op o → m.fault ≡ None → (has_session s m ≡ true → is_some (tree_in (s.trees m.session_id) m.tree_id) ≡ true) → LowSequences s → m.channel_sequence ≤ 32767
+listed_step : (s : Server) (now : ℕ) (m : Message) (op : ContentOp) (o : ℕ) → is_asked op ≡ true → m.command ≡ asks op o
+    → m.fault ≡ None → (has_session s m ≡ true → is_some (tree_in (s.trees m.session_id) m.tree_id) ≡ true)
+    → LowSequences s → m.channel_sequence ≤ 32767
     → ListedFacts s m op o (step s now (Heard m))
 listed_step s now m op o a e f t low l =
     by_verdict (ListedFacts s m op o) s now m
     (λ u v records b h. let k = earlier s now u b in
-    let lv = found_listed u m op o v (listed u m op o a e f (λ z. ap (λ g. is_some (tree_in (g m.session_id) m.tree_id)) (before_trees s now u b) ∙ t (ap (λ g. is_at m.session_id (g m.connection)) (sym (before_on s now u b)) ∙ z))) h in
-    listed_recorded s m op o _ records (listed_before s u m op o _ k (before_on s now u b) (λ st. ap (λ g. g o) (sym (listed_standing u m op o now v lv)) ∙ st) (listed_facts_at u m op o now (before_low s u k low) l v lv)))
+    let lv = found_listed u m op o v (listed u m op o a e f (λ z. ap (λ g. is_some (tree_in (g m.session_id) m.tree_id))
+    (before_trees s now u b) ∙ t (ap (λ g. is_at m.session_id (g m.connection)) (sym (before_on s now u b)) ∙ z))) h
+    in
+    listed_recorded s m op o _ records (listed_before s u m op o _ k (before_on s now u b)
+    (λ st. ap (λ g. g o) (sym (listed_standing u m op o now v lv)) ∙ st)
+    (listed_facts_at u m op o now (before_low s u k low) l v lv)))
 
-asked_answer : (s : Server) (now : ℕ) (m : Message) (op : ContentOp) (o : ℕ) → is_asked op ≡ true → answer_to s now m (asks op o) ≡ step s now (Heard m)
+asked_answer : (s : Server) (now : ℕ) (m : Message) (op : ContentOp) (o : ℕ) → is_asked op ≡ true
+    → answer_to s now m (asks op o) ≡ step s now (Heard m)
 asked_answer s now m (Writes at bytes) o a = refl
 asked_answer s now m (Reads at n) o a = refl
 asked_answer s now m (Ends n) o a = refl
 asked_answer s now m Still o a = absurd (cc)
 
-pub listed_facts : (s : Server) (now : ℕ) (m : Message) (op : ContentOp) (o : ℕ) → is_asked op ≡ true → m.command ≡ asks op o → m.fault ≡ None → (has_session s m ≡ true → is_some (tree_in (s.trees m.session_id) m.tree_id) ≡ true) → LowSequences s → m.channel_sequence ≤ 32767
+pub listed_facts : (s : Server) (now : ℕ) (m : Message) (op : ContentOp) (o : ℕ) → is_asked op ≡ true → m.command
+    ≡ asks op o → m.fault ≡ None → (has_session s m ≡ true → is_some (tree_in (s.trees m.session_id) m.tree_id) ≡ true)
+    → LowSequences s → m.channel_sequence ≤ 32767
     → ListedFacts s m op o (answer_to s now m m.command)
 listed_facts s now m op o a e f t low l =
-    subst (λ c. ListedFacts s m op o (answer_to s now m c)) (sym e) (subst (ListedFacts s m op o) (sym (asked_answer s now m op o a)) (listed_step s now m op o a e f t low l))
+    subst (λ c. ListedFacts s m op o (answer_to s now m c)) (sym e)
+    (subst (ListedFacts s m op o) (sym (asked_answer s now m op o a)) (listed_step s now m op o a e f t low l))
 
 -- ---- a request to attach an open
 
 pub record AskedFacts (s : Server) (m : Message) (c : Reconnect) (A : Answer) : Type 0 where
   pub attached : (A.reply.status == success) ≡ true → A.server.session_of_open c.file ≡ Some m.session_id
-  pub refused : (A.reply.status == success) ≡ false → (A.reply.status == user_session_deleted) ≡ false → A.server.standing c.file ≡ true → has_guid c.guid (s.opened c.file).create_guid ≡ true → (has_session s m ≡ true → same_name (s.opened c.file).user (s.user m.session_id) ≡ true)
+  pub refused : (A.reply.status == success) ≡ false → (A.reply.status == user_session_deleted) ≡ false
+      → A.server.standing c.file ≡ true → has_guid c.guid (s.opened c.file).create_guid ≡ true
+      → (has_session s m ≡ true → same_name (s.opened c.file).user (s.user m.session_id) ≡ true)
       → (is_some (s.session_of_open c.file) && not (is_at m.session_id (s.session_of_open c.file))) ≡ true
   pub end : (A.reply.status == end_of_file) ≡ false
   pub idle : A.acted ≡ false
 
-pub joined : (s : Server) (m : Message) (o : ℕ) → (is_some (s.session_of_open o) && not (is_at m.session_id (s.session_of_open o))) ≡ false → (attached s m o).session_of_open o ≡ Some m.session_id
+pub joined : (s : Server) (m : Message) (o : ℕ)
+    → (is_some (s.session_of_open o) && not (is_at m.session_id (s.session_of_open o))) ≡ false
+    → (attached s m o).session_of_open o ≡ Some m.session_id
 joined s m o e =
-    elim (is_some (s.session_of_open o)) as (λ b. is_some (s.session_of_open o) ≡ b → (attached s m o).session_of_open o ≡ Some m.session_id) [
-      | true ↦ λ z. ap (λ (t : Server). t.session_of_open o) (if_on (is_some (s.session_of_open o)) s (attach s m o) z) ∙ own (s.session_of_open o) z e
-      | false ↦ λ z. ap (λ (t : Server). t.session_of_open o) (if_off (is_some (s.session_of_open o)) s (attach s m o) z) ∙ put_here s.session_of_open o (Some m.session_id)
+    elim (is_some (s.session_of_open o)) as (λ b. is_some (s.session_of_open o) ≡ b → (attached s m o).session_of_open o
+    ≡ Some m.session_id) [
+      | true ↦ λ z. ap (λ (t : Server). t.session_of_open o) (if_on (is_some (s.session_of_open o)) s (attach s m o) z)
+          ∙ own (s.session_of_open o) z e
+      | false ↦ λ z. ap (λ (t : Server). t.session_of_open o) (if_off (is_some (s.session_of_open o)) s (attach s m o)
+          z) ∙ put_here s.session_of_open o (Some m.session_id)
     ] refl
   where
     if_on : (b : Bool) (x y : Server) → b ≡ true → (if b then x else y) ≡ x
@@ -293,11 +386,23 @@ joined s m o e =
     own : (a : Option ℕ) → is_some a ≡ true → (is_some a && not (is_at m.session_id a)) ≡ false → a ≡ Some m.session_id
     own a z e = grind arith
 
-asked_facts_at : (s : Server) (m : Message) (c : Reconnect) (now : ℕ) → form m.command ≡ None → (v : Verdict) → Asked s m c v → AskedFacts s m c (apply s m now v)
+asked_facts_at : (s : Server) (m : Message) (c : Reconnect) (now : ℕ) → form m.command ≡ None → (v : Verdict)
+    → Asked s m c v → AskedFacts s m c (apply s m now v)
 asked_facts_at s m c now f (Refuse status) h =
-    record { attached = λ e. absurd (let z = h.is.ok in grind arith); refused = λ a b st gd us. h.is.gone b f st gd us; end = h.is.end; idle = refl }
+    record {
+      attached = λ e. absurd (let z = h.is.ok in grind arith);
+      refused = λ a b st gd us. h.is.gone b f st gd us;
+      end = h.is.end;
+      idle = refl;
+    }
 asked_facts_at s m c now f (Attach p r) h =
-    record { attached = λ e. subst (λ q. (attached s m q).session_of_open c.file ≡ Some m.session_id) (sym h.is.0) (joined s m c.file h.is.1); refused = λ a. absurd (cc); end = refl; idle = refl }
+    record {
+      attached = λ e. subst (λ q. (attached s m q).session_of_open c.file ≡ Some m.session_id) (sym h.is.0)
+          (joined s m c.file h.is.1);
+      refused = λ a. absurd (cc);
+      end = refl;
+      idle = refl;
+    }
 asked_facts_at s m c now f (Give body) h = absurd (h.is)
 asked_facts_at s m c now f (KeepRefusal guid status) h = absurd (h.is)
 asked_facts_at s m c now f (Repeat p r) h = absurd (h.is)
@@ -317,9 +422,11 @@ asked_facts_at s m c now f (TurnDown p status) h = absurd (h.is)
 asked_facts_at s m c now f (Tell p body) h = absurd (h.is)
 asked_facts_at s m c now f (Alter p change body) h = absurd (h.is)
 
-asked_standing : (s : Server) (m : Message) (c : Reconnect) (now : ℕ) → (v : Verdict) → Asked s m c v → (apply s m now v).server.standing ≡ s.standing
+asked_standing : (s : Server) (m : Message) (c : Reconnect) (now : ℕ) → (v : Verdict) → Asked s m c v
+    → (apply s m now v).server.standing ≡ s.standing
 asked_standing s m c now (Refuse status) h = refl
-asked_standing s m c now (Attach p r) h = either (λ (t : Server). t.standing ≡ s.standing) (is_some (s.session_of_open p)) s (attach s m p) (λ _. refl) (λ _. refl)
+asked_standing s m c now (Attach p r) h = either (λ (t : Server). t.standing ≡ s.standing)
+    (is_some (s.session_of_open p)) s (attach s m p) (λ _. refl) (λ _. refl)
 asked_standing s m c now (Give body) h = absurd (h.is)
 asked_standing s m c now (KeepRefusal guid status) h = absurd (h.is)
 asked_standing s m c now (Repeat p r) h = absurd (h.is)
@@ -339,30 +446,49 @@ asked_standing s m c now (TurnDown p status) h = absurd (h.is)
 asked_standing s m c now (Tell p body) h = absurd (h.is)
 asked_standing s m c now (Alter p change body) h = absurd (h.is)
 
-asked_before : (s t : Server) (m : Message) (c : Reconnect) (A : Answer) → Earlier s t → t.user ≡ s.user → t.session_on ≡ s.session_on → A.server.standing ≡ t.standing → AskedFacts t m c A → AskedFacts s m c A
+asked_before : (s t : Server) (m : Message) (c : Reconnect) (A : Answer) → Earlier s t → t.user ≡ s.user → t.session_on
+    ≡ s.session_on → A.server.standing ≡ t.standing → AskedFacts t m c A → AskedFacts s m c A
 asked_before s t m c A k us onn back f =
-    let row : (t.opened c.file).create_guid ≡ (s.opened c.file).create_guid = ap (λ g. (g c.file).create_guid) k.moves.row in let who : (t.opened c.file).user ≡ (s.opened c.file).user = ap (λ g. (g c.file).user) k.moves.row in
+    let row : (t.opened c.file).create_guid ≡ (s.opened c.file).create_guid = ap (λ g. (g c.file).create_guid)
+    k.moves.row in let who : (t.opened c.file).user ≡ (s.opened c.file).user = ap (λ g. (g c.file).user) k.moves.row
+    in
     record {
       attached = f.attached;
       refused = λ a b st gd un. let on = k.at_on c.file (ap (λ g. g c.file) (sym back) ∙ st) in
-          ap (λ x. is_some x && not (is_at m.session_id x)) (sym on) ∙ f.refused a b st (ap (has_guid c.guid) row ∙ gd) (λ hs. ap (λ x. same_name x (t.user m.session_id)) who ∙ (ap (λ g. same_name (s.opened c.file).user (g m.session_id)) us ∙ un (ap (λ g. is_at m.session_id (g m.connection)) (sym onn) ∙ hs)));
+          ap (λ x. is_some x && not (is_at m.session_id x)) (sym on) ∙ f.refused a b st (ap (has_guid c.guid) row ∙ gd)
+          (λ hs. ap (λ x. same_name x (t.user m.session_id)) who
+          ∙ (ap (λ g. same_name (s.opened c.file).user (g m.session_id)) us
+          ∙ un (ap (λ g. is_at m.session_id (g m.connection)) (sym onn) ∙ hs)));
       end = f.end;
       idle = f.idle;
     }
 
-asked_recorded : (s : Server) (m : Message) (c : Reconnect) (A : Answer) (records : List Record) → AskedFacts s m c A → AskedFacts s m c (recorded A records)
+asked_recorded : (s : Server) (m : Message) (c : Reconnect) (A : Answer) (records : List Record) → AskedFacts s m c A
+    → AskedFacts s m c (recorded A records)
 asked_recorded s m c A records f = record { attached = f.attached; refused = f.refused; end = f.end; idle = f.idle }
 
 found_asked : (t : Server) (m : Message) (c : Reconnect) (v : Verdict) → Asked t m c (check t m) → Finds t m v → Asked t m c v
 found_asked t m c v l (inl e) = subst (Asked t m c) (sym e) l
 found_asked t m c v l (inr e) = subst (Asked t m c) (sym e) (asked_without_room t m c (check t m) l)
 
-asked_step : (s : Server) (now : ℕ) (m : Message) (r : CreateRequest) (c : Reconnect) → m.command ≡ Create r → r.reconnect ≡ Some c → m.fault ≡ None → (has_session s m ≡ true → is_some (tree_in (s.trees m.session_id) m.tree_id) ≡ true) → (tree_in (s.trees m.session_id) m.tree_id ≡ Some true → s.standing c.file ≡ true → ⊥) → form m.command ≡ None → AskedFacts s m c (step s now (Heard m))
+asked_step : (s : Server) (now : ℕ) (m : Message) (r : CreateRequest) (c : Reconnect) → m.command ≡ Create r
+    → r.reconnect ≡ Some c → m.fault ≡ None
+    → (has_session s m ≡ true → is_some (tree_in (s.trees m.session_id) m.tree_id) ≡ true)
+    → (tree_in (s.trees m.session_id) m.tree_id ≡ Some true → s.standing c.file ≡ true → ⊥) → form m.command ≡ None
+    → AskedFacts s m c (step s now (Heard m))
 asked_step s now m r c e k f t d n =
     by_verdict (AskedFacts s m c) s now m
-    (λ u v records b h. let q = earlier s now u b in let av = found_asked u m c v (asked u m r c e k f (λ z. ap (λ g. is_some (tree_in (g m.session_id) m.tree_id)) (before_trees s now u b) ∙ t (ap (λ g. is_at m.session_id (g m.connection)) (sym (before_on s now u b)) ∙ z)) (λ z st. d (ap (λ g. tree_in (g m.session_id) m.tree_id) (sym (before_trees s now u b)) ∙ z) (q.moves.stands c.file st)) n) h in
-    asked_recorded s m c _ records (asked_before s u m c _ q (before_user s now u b) (before_on s now u b) (asked_standing u m c now v av) (asked_facts_at u m c now n v av)))
+    (λ u v records b h. let q = earlier s now u b in let av = found_asked u m c v
+    (asked u m r c e k f (λ z. ap (λ g. is_some (tree_in (g m.session_id) m.tree_id)) (before_trees s now u b)
+    ∙ t (ap (λ g. is_at m.session_id (g m.connection)) (sym (before_on s now u b)) ∙ z))
+    (λ z st. d (ap (λ g. tree_in (g m.session_id) m.tree_id) (sym (before_trees s now u b)) ∙ z)
+    (q.moves.stands c.file st)) n) h in
+    asked_recorded s m c _ records (asked_before s u m c _ q (before_user s now u b) (before_on s now u b)
+    (asked_standing u m c now v av) (asked_facts_at u m c now n v av)))
 
-pub asked_facts : (s : Server) (now : ℕ) (m : Message) (r : CreateRequest) (c : Reconnect) → m.command ≡ Create r → r.reconnect ≡ Some c → m.fault ≡ None → (has_session s m ≡ true → is_some (tree_in (s.trees m.session_id) m.tree_id) ≡ true) → (tree_in (s.trees m.session_id) m.tree_id ≡ Some true → s.standing c.file ≡ true → ⊥) → form m.command ≡ None
+pub asked_facts : (s : Server) (now : ℕ) (m : Message) (r : CreateRequest) (c : Reconnect) → m.command ≡ Create r
+    → r.reconnect ≡ Some c → m.fault ≡ None
+    → (has_session s m ≡ true → is_some (tree_in (s.trees m.session_id) m.tree_id) ≡ true)
+    → (tree_in (s.trees m.session_id) m.tree_id ≡ Some true → s.standing c.file ≡ true → ⊥) → form m.command ≡ None
     → AskedFacts s m c (answer_to s now m m.command)
 asked_facts s now m r c e k f t d n = subst (λ x. AskedFacts s m c (answer_to s now m x)) (sym e) (asked_step s now m r c e k f t d n)

@@ -1,9 +1,13 @@
 -- Small facts of the client's table and of what waits.
 use Rattle.std.proofs.lemmas.Bool.{eqb-false}
-use Rattle.std.proofs.Common.{eqb-true, ◌≡◌, ◌≢◌, ℕ, ◌+◌, ◌<◌, ◌≤◌, ◌==◌, Bool, true, false, if◌then◌else◌, [], ◌∷◌, ◌++◌, ◌⊎◌, inl, inr, slice_get, is_some, refl, arith, sym, subst, Option, Some, None, ap, ◌∙◌}
+use Rattle.std.proofs.Common.{eqb-true, ◌≡◌, ◌≢◌, ℕ, ◌+◌, ◌<◌, ◌≤◌, ◌==◌, Bool, true, false, if◌then◌else◌, [], ◌∷◌}
+use Rattle.std.proofs.Common.{◌++◌, ◌⊎◌, inl, inr, slice_get, is_some, refl, arith, sym, subst, Option, Some, None, ap}
+use Rattle.std.proofs.Common.{◌∙◌}
 use Rattle.exchange_defs.specs.Table.{put, is_at}
-use Rattle.exchange_defs.specs.Operations.{Op, Outcome, Unsettled, WasOk, WasRefused, NoSlot, NoOpen, Unknown, Why, is_unsettled, is_firm, is_ok, is_create, persists}
-use Rattle.exchange_defs.specs.Client.{Client, create_for, outcome_after_end, given_up_after_end, unsent_after_end, outcome_after_finish, given_up_after_finish}
+use Rattle.exchange_defs.specs.Operations.{Op, Outcome, Unsettled, WasOk, WasRefused, NoSlot, NoOpen, Unknown, Why}
+use Rattle.exchange_defs.specs.Operations.{is_unsettled, is_firm, is_ok, is_create, persists}
+use Rattle.exchange_defs.specs.Client.{Client, create_for, outcome_after_end, given_up_after_end, unsent_after_end}
+use Rattle.exchange_defs.specs.Client.{outcome_after_finish, given_up_after_finish}
 use Rattle.exchange_defs.specs.Content.{is_change}
 use Rattle.exchange_defs.specs.State.{Message}
 use Rattle.exchange_defs.specs.Network.{Token, ForOp, ForAttach, Conn, Sent, Received, send_up}
@@ -47,14 +51,16 @@ unsettled_of (NoSlot n) e = absurd (cc)
 unsettled_of (NoOpen n) e = absurd (cc)
 unsettled_of (Unknown why) e = absurd (cc)
 
-pub outcomes_back : (new old : Outcome) (lost : Bool) → (is_unsettled old ≡ false → new ≡ old) → may_act new lost ≡ true → may_act old lost ≡ true
+pub outcomes_back : (new old : Outcome) (lost : Bool) → (is_unsettled old ≡ false → new ≡ old) → may_act new lost ≡ true
+    → may_act old lost ≡ true
 outcomes_back new old lost same e = by_test (is_unsettled old) refl
   where
     by_test : (b : Bool) → is_unsettled old ≡ b → may_act old lost ≡ true
     by_test true u = rw u refl
     by_test false u = subst (λ o. may_act o lost ≡ true) (same u) e
 
-pub outcomes_on : (new old : Outcome) (lost : Bool) → (is_unsettled old ≡ false → new ≡ old) → (is_unsettled old ≡ true → is_unsettled new ≡ false → ⊥) → may_act old lost ≡ true → may_act new lost ≡ true
+pub outcomes_on : (new old : Outcome) (lost : Bool) → (is_unsettled old ≡ false → new ≡ old)
+    → (is_unsettled old ≡ true → is_unsettled new ≡ false → ⊥) → may_act old lost ≡ true → may_act new lost ≡ true
 outcomes_on new old lost same never e = by_test (is_unsettled old) refl (is_unsettled new) refl
   where
     by_test : (b : Bool) → is_unsettled old ≡ b → (d : Bool) → is_unsettled new ≡ d → may_act new lost ≡ true
@@ -64,15 +70,21 @@ outcomes_on new old lost same never e = by_test (is_unsettled old) refl (is_unse
 
 -- ---- the session ends: o is the operation's outcome, v the session with which it was given up
 
-by_persist : {X : Type 0} (P : X → Outcome → Type 0) (b s k : Bool) (a d : X) (u n : Outcome) → (b ≡ true → P a Unsettled) → (s ≡ true → P d u) → (s ≡ false → k ≡ true → P a Unsettled) → (s ≡ false → P a n) → P (if b then a else if s then d else a) (if b then Unsettled else if s then u else if k then Unsettled else n)
+by_persist : {X : Type 0} (P : X → Outcome → Type 0) (b s k : Bool) (a d : X) (u n : Outcome)
+    → (b ≡ true → P a Unsettled) → (s ≡ true → P d u) → (s ≡ false → k ≡ true → P a Unsettled) → (s ≡ false → P a n)
+    → P (if b then a else if s then d else a) (if b then Unsettled else if s then u else if k then Unsettled else n)
 by_persist P true s k a d u n f g h m = f refl
 by_persist P false true k a d u n f g h m = g refl
 by_persist P false false true a d u n f g h m = h refl refl
 by_persist P false false false a d u n f g h m = m refl
 
-pub left_lost : (c : Client) (p z : ℕ) (o : Outcome) (v : Option ℕ) → (v ≡ Some z → is_unsettled o ≡ false × is_firm o ≡ false) → given_up_after_end c p o v ≡ Some z → is_unsettled (outcome_after_end c p o) ≡ false × is_firm (outcome_after_end c p o) ≡ false
+pub left_lost : (c : Client) (p z : ℕ) (o : Outcome) (v : Option ℕ) → (v ≡ Some z → is_unsettled o ≡ false × is_firm o
+    ≡ false) → given_up_after_end c p o v ≡ Some z → is_unsettled (outcome_after_end c p o) ≡ false
+    × is_firm (outcome_after_end c p o) ≡ false
 left_lost c p z Unsettled v f =
-    by_persist (λ w r. w ≡ Some z → is_unsettled r ≡ false × is_firm r ≡ false) (persists (c.op (create_for c p))) (c.sent p) (is_create (c.op p)) v (Some c.session) (Unknown _) (unsent_after_end (create_for c p) (c.sent (create_for c p)) (c.outcome (create_for c p)))
+    by_persist (λ w r. w ≡ Some z → is_unsettled r ≡ false × is_firm r ≡ false) (persists (c.op (create_for c p)))
+    (c.sent p) (is_create (c.op p)) v (Some c.session) (Unknown _)
+    (unsent_after_end (create_for c p) (c.sent (create_for c p)) (c.outcome (create_for c p)))
     (λ b e. absurd (let w = f e in cc)) (λ s e. (refl, refl)) (λ s k e. absurd (let w = f e in cc)) (λ s e. absurd (let w = f e in cc))
 left_lost c p z (WasOk reply) v f = f
 left_lost c p z (WasRefused status) v f = f
@@ -89,10 +101,15 @@ unsent_ok n b (NoOpen m) = (refl, refl)
 unsent_ok n b (Unknown why) = (refl, refl)
 
 -- it settles no operation as Ok or Refused
-pub left_firm : (c : Client) (p : ℕ) (o : Outcome) → (is_firm (outcome_after_end c p o) ≡ true → is_firm o ≡ true) × (is_ok (outcome_after_end c p o) ≡ true → is_ok o ≡ true)
+pub left_firm : (c : Client) (p : ℕ) (o : Outcome) → (is_firm (outcome_after_end c p o) ≡ true → is_firm o ≡ true)
+    × (is_ok (outcome_after_end c p o) ≡ true → is_ok o ≡ true)
 left_firm c p Unsettled =
-    by_persist (λ (w : ℕ) r. (is_firm r ≡ true → false ≡ true) × (is_ok r ≡ true → false ≡ true)) (persists (c.op (create_for c p))) (c.sent p) (is_create (c.op p)) 0 0 (Unknown _) (unsent_after_end (create_for c p) (c.sent (create_for c p)) (c.outcome (create_for c p)))
-    (λ _. (λ e. e, λ e. e)) (λ _. (λ e. e, λ e. e)) (λ _ _. (λ e. e, λ e. e)) (λ _. let u = unsent_ok (create_for c p) (c.sent (create_for c p)) (c.outcome (create_for c p)) in (λ e. sym u.0 ∙ e, λ e. sym u.1 ∙ e))
+    by_persist (λ (w : ℕ) r. (is_firm r ≡ true → false ≡ true) × (is_ok r ≡ true → false ≡ true))
+    (persists (c.op (create_for c p))) (c.sent p) (is_create (c.op p)) 0 0 (Unknown _)
+    (unsent_after_end (create_for c p) (c.sent (create_for c p)) (c.outcome (create_for c p)))
+    (λ _. (λ e. e, λ e. e)) (λ _. (λ e. e, λ e. e)) (λ _ _. (λ e. e, λ e. e))
+    (λ _. let u = unsent_ok (create_for c p) (c.sent (create_for c p)) (c.outcome (create_for c p)) in
+    (λ e. sym u.0 ∙ e, λ e. sym u.1 ∙ e))
 left_firm c p (WasOk reply) = (λ e. e, λ e. e)
 left_firm c p (WasRefused status) = (λ e. e, λ e. e)
 left_firm c p (NoSlot n) = (λ e. e, λ e. e)
@@ -100,9 +117,12 @@ left_firm c p (NoOpen n) = (λ e. e, λ e. e)
 left_firm c p (Unknown why) = (λ e. e, λ e. e)
 
 -- what went out and could act still can
-pub left_on : (c : Client) (p : ℕ) (o : Outcome) (v : Option ℕ) → c.sent p ≡ true → may_act o (is_at c.session v) ≡ true → may_act (outcome_after_end c p o) (is_at c.session (given_up_after_end c p o v)) ≡ true
+pub left_on : (c : Client) (p : ℕ) (o : Outcome) (v : Option ℕ) → c.sent p ≡ true → may_act o (is_at c.session v) ≡ true
+    → may_act (outcome_after_end c p o) (is_at c.session (given_up_after_end c p o v)) ≡ true
 left_on c p Unsettled v s e =
-    by_persist (λ w r. may_act r (is_at c.session w) ≡ true) (persists (c.op (create_for c p))) (c.sent p) (is_create (c.op p)) v (Some c.session) (Unknown _) (unsent_after_end (create_for c p) (c.sent (create_for c p)) (c.outcome (create_for c p)))
+    by_persist (λ w r. may_act r (is_at c.session w) ≡ true) (persists (c.op (create_for c p))) (c.sent p)
+    (is_create (c.op p)) v (Some c.session) (Unknown _) (unsent_after_end (create_for c p) (c.sent (create_for c p))
+    (c.outcome (create_for c p)))
     (λ _. refl) (λ _. at_self c.session) (λ t _. absurd (let u = s in cc)) (λ t. absurd (let u = s in cc))
   where
     at_self : (n : ℕ) → is_at n (Some n) ≡ true
@@ -114,7 +134,8 @@ left_on c p (NoOpen n) v s e = e
 left_on c p (Unknown why) v s e = e
 
 -- and what can act still could
-pub left_was : (c : Client) (p : ℕ) (o : Outcome) (v : Option ℕ) → may_act (outcome_after_end c p o) (is_at c.session (given_up_after_end c p o v)) ≡ true → may_act o (is_at c.session v) ≡ true
+pub left_was : (c : Client) (p : ℕ) (o : Outcome) (v : Option ℕ) → may_act (outcome_after_end c p o)
+    (is_at c.session (given_up_after_end c p o v)) ≡ true → may_act o (is_at c.session v) ≡ true
 left_was c p Unsettled v e = refl
 left_was c p (WasOk reply) v e = e
 left_was c p (WasRefused status) v e = e
@@ -122,7 +143,9 @@ left_was c p (NoSlot n) v e = e
 left_was c p (NoOpen n) v e = e
 left_was c p (Unknown why) v e = e
 
-pub finished_was : (t : Bool) (why : Why) (session : ℕ) (o : Outcome) (v : Option ℕ) → may_act (if t then outcome_after_finish why o else o) (is_at session (if t then given_up_after_finish session o v else v)) ≡ true → may_act o (is_at session v) ≡ true
+pub finished_was : (t : Bool) (why : Why) (session : ℕ) (o : Outcome) (v : Option ℕ)
+    → may_act (if t then outcome_after_finish why o else o)
+    (is_at session (if t then given_up_after_finish session o v else v)) ≡ true → may_act o (is_at session v) ≡ true
 finished_was t why session Unsettled v e = refl
 finished_was true why session (WasOk reply) v e = e
 finished_was true why session (WasRefused status) v e = e
@@ -169,7 +192,8 @@ begun_was o (Some x) z lost n e = by_test (is_at z (Some x)) refl
         still : may_act o false ≡ true → may_act o lost ≡ true
         still f = grind arith
 
-pub live_pends : (o : Outcome) (v : Option ℕ) (session : ℕ) (live : Bool) → (v ≡ Some session → live ≡ false) → live ≡ true → may_act o (is_at session v) ≡ true → is_unsettled o ≡ true
+pub live_pends : (o : Outcome) (v : Option ℕ) (session : ℕ) (live : Bool) → (v ≡ Some session → live ≡ false) → live
+    ≡ true → may_act o (is_at session v) ≡ true → is_unsettled o ≡ true
 live_pends o v session live f l e = by_test (is_unsettled o) refl
   where
     at_some : (x : Option ℕ) → is_at session x ≡ true → x ≡ Some session
@@ -202,33 +226,59 @@ unfolding edits makes_open is_change
 edits_other op e = grind arith
 
 -- what waits behind a push is what waited, or what was pushed
-pub sent_up : (conns : ℕ → Conn) (k : ℕ) (t : Token) (m : Message) (n0 j n : ℕ) (x : Sent) → slice_get (put conns k (send_up (conns k) t m n0) j).up n ≡ Some x
+pub sent_up : (conns : ℕ → Conn) (k : ℕ) (t : Token) (m : Message) (n0 j n : ℕ) (x : Sent)
+    → slice_get (put conns k (send_up (conns k) t m n0) j).up n ≡ Some x
     → (slice_get (conns j).up n ≡ Some x) ⊎ (x ≡ record { token = t; message = m })
-sent_up conns k t m n0 j n x h = elim (j == k) as (λ b. j == k ≡ b → (slice_get (conns j).up n ≡ Some x) ⊎ (x ≡ record { token = t; message = m })) [
-  | true ↦ λ e. let z = eqb-true j k e in by_push (get-push (conns k).up (record { token = t; message = m }) n).1 (subst (λ i. slice_get (put conns k (send_up (conns k) t m n0) i).up n ≡ Some x) z h) z
+sent_up conns k t m n0 j n x h = elim (j == k) as (λ b. j == k ≡ b → (slice_get (conns j).up n ≡ Some x) ⊎ (x ≡ record {
+  token = t;
+  message = m;
+})) [
+  | true ↦ λ e. let z = eqb-true j k e in by_push (get-push (conns k).up (record { token = t; message = m }) n).1
+      (subst (λ i. slice_get (put conns k (send_up (conns k) t m n0) i).up n ≡ Some x) z h) z
   | false ↦ λ e. inl (subst (λ c. slice_get c.up n ≡ Some x) (put_other conns k (send_up (conns k) t m n0) j (eqb-false j k e)) h)
 ] refl
   where
-    by_push : (slice_get ((conns k).up ++ record { token = t; message = m } ∷ []) n ≡ slice_get (conns k).up n) ⊎ (slice_get ((conns k).up ++ record { token = t; message = m } ∷ []) n ≡ Some (record { token = t; message = m }))
-        → slice_get (put conns k (send_up (conns k) t m n0) k).up n ≡ Some x → j ≡ k → (slice_get (conns j).up n ≡ Some x) ⊎ (x ≡ record { token = t; message = m })
-    by_push (inl e) h z = inl (subst (λ i. slice_get (conns i).up n ≡ Some x) (sym z) (sym e ∙ (ap (λ c. slice_get c.up n) (sym (put_self conns k (send_up (conns k) t m n0))) ∙ h)))
-    by_push (inr e) h z = inr (some_same x (record { token = t; message = m }) (sym h ∙ (ap (λ c. slice_get c.up n) (put_self conns k (send_up (conns k) t m n0)) ∙ e)))
+    by_push : (slice_get ((conns k).up ++ record { token = t; message = m } ∷ []) n ≡ slice_get (conns k).up n)
+        ⊎ (slice_get ((conns k).up ++ record { token = t; message = m } ∷ []) n ≡ Some (record {
+          token = t;
+          message = m;
+        }))
+        → slice_get (put conns k (send_up (conns k) t m n0) k).up n ≡ Some x → j ≡ k
+        → (slice_get (conns j).up n ≡ Some x) ⊎ (x ≡ record { token = t; message = m })
+    by_push (inl e) h z = inl (subst (λ i. slice_get (conns i).up n ≡ Some x) (sym z)
+        (sym e ∙ (ap (λ c. slice_get c.up n) (sym (put_self conns k (send_up (conns k) t m n0))) ∙ h)))
+    by_push (inr e) h z =
+        inr (some_same x (record {
+          token = t;
+          message = m;
+        }) (sym h ∙ (ap (λ c. slice_get c.up n) (put_self conns k (send_up (conns k) t m n0)) ∙ e)))
       where
         some_same : (x y : Sent) → Some x ≡ Some y → x ≡ y
         some_same x y e = grind arith
 
 -- and the same of replies
-pub sent_down : (conns : ℕ → Conn) (k : ℕ) (y0 : Received) (j n : ℕ) (x : Received) → slice_get (put conns k (record (conns k) { down = (conns k).down ++ y0 ∷ [] }) j).down n ≡ Some x
+pub sent_down : (conns : ℕ → Conn) (k : ℕ) (y0 : Received) (j n : ℕ) (x : Received)
+    → slice_get (put conns k (record (conns k) { down = (conns k).down ++ y0 ∷ [] }) j).down n ≡ Some x
     → (slice_get (conns j).down n ≡ Some x) ⊎ (x ≡ y0)
 sent_down conns k y0 j n x h = elim (j == k) as (λ b. j == k ≡ b → (slice_get (conns j).down n ≡ Some x) ⊎ (x ≡ y0)) [
-  | true ↦ λ e. let z = eqb-true j k e in by_push (get-push (conns k).down y0 n).1 (subst (λ i. slice_get (put conns k (record (conns k) { down = (conns k).down ++ y0 ∷ [] }) i).down n ≡ Some x) z h) z
-  | false ↦ λ e. inl (subst (λ c. slice_get c.down n ≡ Some x) (put_other conns k (record (conns k) { down = (conns k).down ++ y0 ∷ [] }) j (eqb-false j k e)) h)
+  | true ↦ λ e. let z = eqb-true j k e in by_push (get-push (conns k).down y0 n).1
+      (subst (λ i. slice_get (put conns k (record (conns k) { down = (conns k).down ++ y0 ∷ [] }) i).down n ≡ Some x) z
+      h) z
+  | false ↦ λ e. inl (subst (λ c. slice_get c.down n ≡ Some x) (put_other conns k (record (conns k) {
+    down = (conns k).down ++ y0 ∷ [];
+  }) j (eqb-false j k e)) h)
 ] refl
   where
     by_push : (slice_get ((conns k).down ++ y0 ∷ []) n ≡ slice_get (conns k).down n) ⊎ (slice_get ((conns k).down ++ y0 ∷ []) n ≡ Some y0)
-        → slice_get (put conns k (record (conns k) { down = (conns k).down ++ y0 ∷ [] }) k).down n ≡ Some x → j ≡ k → (slice_get (conns j).down n ≡ Some x) ⊎ (x ≡ y0)
-    by_push (inl e) h z = inl (subst (λ i. slice_get (conns i).down n ≡ Some x) (sym z) (sym e ∙ (ap (λ c. slice_get c.down n) (sym (put_self conns k (record (conns k) { down = (conns k).down ++ y0 ∷ [] }))) ∙ h)))
-    by_push (inr e) h z = inr (some_same x y0 (sym h ∙ (ap (λ c. slice_get c.down n) (put_self conns k (record (conns k) { down = (conns k).down ++ y0 ∷ [] })) ∙ e)))
+        → slice_get (put conns k (record (conns k) { down = (conns k).down ++ y0 ∷ [] }) k).down n ≡ Some x → j ≡ k
+        → (slice_get (conns j).down n ≡ Some x) ⊎ (x ≡ y0)
+    by_push (inl e) h z = inl (subst (λ i. slice_get (conns i).down n ≡ Some x) (sym z)
+        (sym e ∙ (ap (λ c. slice_get c.down n)
+        (sym (put_self conns k (record (conns k) { down = (conns k).down ++ y0 ∷ [] }))) ∙ h)))
+    by_push (inr e) h z =
+        inr (some_same x y0 (sym h
+        ∙ (ap (λ c. slice_get c.down n) (put_self conns k (record (conns k) { down = (conns k).down ++ y0 ∷ [] }))
+        ∙ e)))
       where
         some_same : (x y : Received) → Some x ≡ Some y → x ≡ y
         some_same x y e = grind arith

@@ -1,6 +1,7 @@
 -- What holds of the bytes under opens, and of what may still change them, in every world that a run leads to. An edit is an
 -- operation that may change its file's bytes: a write or an end.
-use Rattle.std.specs.Prelude.{◌≡◌, ◌≢◌, ℕ, ◌+◌, ◌≤◌, ◌<◌, ◌==◌, Bool, true, false, not, ◌&&◌, ◌||◌, if◌then◌else◌, List, Some, None, is_some, slice_get}
+use Rattle.std.specs.Prelude.{◌≡◌, ◌≢◌, ℕ, ◌+◌, ◌≤◌, ◌<◌, ◌==◌, Bool, true, false, not, ◌&&◌, ◌||◌, if◌then◌else◌, List}
+use Rattle.std.specs.Prelude.{Some, None, is_some, slice_get}
 use Rattle.exchange_defs.specs.Table.{is_at}
 use Rattle.exchange_defs.specs.Status.{success, file_not_available, file_closed, user_session_deleted, end_of_file}
 use Rattle.exchange_defs.specs.Content.{ContentReply, effect, value, past_end, is_change, is_listed, collides}
@@ -8,7 +9,8 @@ use Rattle.exchange_defs.specs.Order.{Log, Says_ok, Says_end, Settled_ok, Settle
 use Rattle.exchange_defs.specs.Commands.{form}
 use Rattle.exchange_defs.specs.State.{Server}
 use Rattle.exchange_defs.specs.Opens.{id_of, writes, denies_writers}
-use Rattle.exchange_defs.specs.Operations.{Op, is_unsettled, is_firm, is_ok, is_create, id_in, share_of, content_op, request_of, reconnect_of}
+use Rattle.exchange_defs.specs.Operations.{Op, is_unsettled, is_firm, is_ok, is_create, id_in, share_of, content_op}
+use Rattle.exchange_defs.specs.Operations.{request_of, reconnect_of}
 use Rattle.exchange_defs.specs.Client.{Client, AskedTree, guid_for}
 use Rattle.exchange_defs.specs.Runs.{settlement}
 use Rattle.exchange_defs.specs.Network.{Conn, Sent, Received, Trace, ForOp, ForAttach, op_of, said}
@@ -68,19 +70,24 @@ is_final status = not (status == user_session_deleted) && (not (status == file_c
 
 -- what waits of an operation is of one that was taken
 abbrev pub TokenUp : Client → (ℕ → Conn) → Type 0
-TokenUp c conns = (k n : ℕ) (x : Sent) → slice_get (conns k).up n ≡ Some x → is_ops x.token ≡ true → 0 < op_of x.token × op_of x.token ≤ c.taken
+TokenUp c conns = (k n : ℕ) (x : Sent) → slice_get (conns k).up n ≡ Some x → is_ops x.token ≡ true → 0 < op_of x.token
+    × op_of x.token ≤ c.taken
 
 -- and so is a reply that waits
 abbrev pub TokenDown : Client → (ℕ → Conn) → Type 0
-TokenDown c conns = (k n : ℕ) (y : Received) → slice_get (conns k).down n ≡ Some y → is_ops y.token ≡ true → 0 < op_of y.token × op_of y.token ≤ c.taken
+TokenDown c conns = (k n : ℕ) (y : Received) → slice_get (conns k).down n ≡ Some y → is_ops y.token ≡ true
+    → 0 < op_of y.token × op_of y.token ≤ c.taken
 
 -- a message that waits is a create's, or names the open of a create that settled Ok
 abbrev pub OpensUp : Client → (ℕ → Conn) → Type 0
-OpensUp c conns = (k n : ℕ) (x : Sent) → slice_get (conns k).up n ≡ Some x → is_ops x.token ≡ true → (makes_open (c.op (op_of x.token)) || is_ok (c.outcome (create_at c (op_of x.token)))) ≡ true
+OpensUp c conns = (k n : ℕ) (x : Sent) → slice_get (conns k).up n ≡ Some x → is_ops x.token ≡ true
+    → (makes_open (c.op (op_of x.token)) || is_ok (c.outcome (create_at c (op_of x.token)))) ≡ true
 
 -- a DH2C goes out in the place of no create, and asks for the open of its operation's create
 abbrev pub AskedAs : Client → (ℕ → Conn) → Type 0
-AskedAs c conns = (k n g : ℕ) (x : Sent) → slice_get (conns k).up n ≡ Some x → x.token ≡ ForAttach g → makes_open (c.op g) ≡ false × x.message.command ≡ reconnect_of (c.op (create_at c g)) (guid_for c (create_at c g)) (file_at c g)
+AskedAs c conns = (k n g : ℕ) (x : Sent) → slice_get (conns k).up n ≡ Some x → x.token ≡ ForAttach g
+    → makes_open (c.op g) ≡ false × x.message.command ≡ reconnect_of (c.op (create_at c g)) (guid_for c (create_at c g))
+    (file_at c g)
 
 -- ---- the client's table
 
@@ -110,17 +117,20 @@ SessionAsked c = (k : ℕ) → c.stage k ≡ AskedTree → c.session ≢ c.pendi
 
 -- edits of one open that may still act don't collide: the higher one waited
 abbrev pub Pairwise : Client → Type 0
-Pairwise c = (g h : ℕ) → g < h → c.sent h ≡ true → edits (c.op g) ≡ true → edits (c.op h) ≡ true → create_at c g ≡ create_at c h → pends c g ≡ true → pends c h ≡ true → clashes (c.op g) (c.op h) ≡ false
+Pairwise c = (g h : ℕ) → g < h → c.sent h ≡ true → edits (c.op g) ≡ true → edits (c.op h) ≡ true → create_at c g
+    ≡ create_at c h → pends c g ≡ true → pends c h ≡ true → clashes (c.op g) (c.op h) ≡ false
 
 -- ---- what waits: copies of edits and replies to them
 
 -- one without an unanswered copy hasn't acted while its copy waits, nor where none does
 abbrev pub FirstUp : Client → (ℕ → Conn) → Log → Type 0
-FirstUp c conns l = (k n g : ℕ) (x : Sent) → slice_get (conns k).up n ≡ Some x → x.token ≡ ForOp g → edits (c.op g) ≡ true → c.unanswered g ≡ false → (conns k).client_open ≡ true × l.first g ≡ None
+FirstUp c conns l = (k n g : ℕ) (x : Sent) → slice_get (conns k).up n ≡ Some x → x.token ≡ ForOp g → edits (c.op g)
+    ≡ true → c.unanswered g ≡ false → (conns k).client_open ≡ true × l.first g ≡ None
 
 -- nor does an unsettled edit without an unanswered copy have acted where none of its copies is outstanding
 abbrev pub Unacted : Client → Log → Type 0
-Unacted c l = (g : ℕ) → edits (c.op g) ≡ true → c.unanswered g ≡ false → no_copy_out c g ≡ true → is_unsettled (c.outcome g) ≡ true → l.first g ≡ None
+Unacted c l = (g : ℕ) → edits (c.op g) ≡ true → c.unanswered g ≡ false → no_copy_out c g ≡ true
+    → is_unsettled (c.outcome g) ≡ true → l.first g ≡ None
 
 -- what never went out never acted
 abbrev pub FreshFirst : Client → Log → Type 0
@@ -128,30 +138,38 @@ FreshFirst c l = (g : ℕ) → c.sent g ≡ false → l.first g ≡ None × l.si
 
 -- an edit without an unanswered copy whose reply is no success never acted
 abbrev pub NotDone : Client → (ℕ → Conn) → Log → Type 0
-NotDone c conns l = (k n g : ℕ) (y : Received) → slice_get (conns k).down n ≡ Some y → y.token ≡ ForOp g → edits (c.op g) ≡ true → (y.reply.status == success) ≡ false → c.unanswered g ≡ false → l.first g ≡ None
+NotDone c conns l = (k n g : ℕ) (y : Received) → slice_get (conns k).down n ≡ Some y → y.token ≡ ForOp g
+    → edits (c.op g) ≡ true → (y.reply.status == success) ≡ false → c.unanswered g ≡ false → l.first g ≡ None
 
 -- sequences: a copy that was cut is older than the session's, one that is outstanding has its operation's last
 abbrev pub CutSeq : Client → (ℕ → Conn) → Type 0
-CutSeq c conns = (k n g : ℕ) (x : Sent) → slice_get (conns k).up n ≡ Some x → x.token ≡ ForOp g → edits (c.op g) ≡ true → (conns k).client_open ≡ false → c.live ≡ true → x.message.session_id ≡ c.session → x.message.channel_sequence < c.sequence
+CutSeq c conns = (k n g : ℕ) (x : Sent) → slice_get (conns k).up n ≡ Some x → x.token ≡ ForOp g → edits (c.op g) ≡ true
+    → (conns k).client_open ≡ false → c.live ≡ true → x.message.session_id ≡ c.session → x.message.channel_sequence
+    < c.sequence
 
 -- on an open connection a copy has the sequence with which its operation went out last
 abbrev pub OpenSeq : Client → (ℕ → Conn) → Type 0
-OpenSeq c conns = (k n g : ℕ) (x : Sent) → slice_get (conns k).up n ≡ Some x → x.token ≡ ForOp g → edits (c.op g) ≡ true → (conns k).client_open ≡ true → x.message.channel_sequence ≡ c.sequence_of g
+OpenSeq c conns = (k n g : ℕ) (x : Sent) → slice_get (conns k).up n ≡ Some x → x.token ≡ ForOp g → edits (c.op g) ≡ true
+    → (conns k).client_open ≡ true → x.message.channel_sequence ≡ c.sequence_of g
 
 -- and any other copy of the live session is older
 abbrev pub Older : Client → (ℕ → Conn) → Type 0
-Older c conns = (k n j g : ℕ) (x : Sent) → slice_get (conns k).up n ≡ Some x → x.token ≡ ForOp g → edits (c.op g) ≡ true → c.asks_attach g ≡ false → c.outstanding_on g ≡ Some j → k ≢ j → x.message.session_id ≡ c.session → x.message.channel_sequence < c.sequence_of g
+Older c conns = (k n j g : ℕ) (x : Sent) → slice_get (conns k).up n ≡ Some x → x.token ≡ ForOp g → edits (c.op g) ≡ true
+    → c.asks_attach g ≡ false → c.outstanding_on g ≡ Some j → k ≢ j → x.message.session_id ≡ c.session
+    → x.message.channel_sequence < c.sequence_of g
 
 -- of two copies the one without the replay flag is the older
 abbrev pub NoReplay : Client → (ℕ → Conn) → Type 0
-NoReplay c conns = (j n k p g : ℕ) (m x : Sent) → slice_get (conns j).up n ≡ Some m → slice_get (conns k).up p ≡ Some x → m.token ≡ ForOp g → x.token ≡ ForOp g → edits (c.op g) ≡ true → j ≢ k
+NoReplay c conns = (j n k p g : ℕ) (m x : Sent) → slice_get (conns j).up n ≡ Some m → slice_get (conns k).up p ≡ Some x
+    → m.token ≡ ForOp g → x.token ≡ ForOp g → edits (c.op g) ≡ true → j ≢ k
     → m.message.session_id ≡ x.message.session_id → m.message.replay ≡ false → m.message.channel_sequence < x.message.channel_sequence
 
 -- ---- opens and sessions
 
 -- an edit goes out only where its open is attached in its session
 abbrev pub CopyPair : Client → (ℕ → Conn) → Server → Type 0
-CopyPair c conns s = (k n g : ℕ) (x : Sent) → slice_get (conns k).up n ≡ Some x → x.token ≡ ForOp g → edits (c.op g) ≡ true → Pair s x.message.session_id 0 (file_at c g) × file_at c g ≤ last_id s
+CopyPair c conns s = (k n g : ℕ) (x : Sent) → slice_get (conns k).up n ≡ Some x → x.token ≡ ForOp g → edits (c.op g)
+    ≡ true → Pair s x.message.session_id 0 (file_at c g) × file_at c g ≤ last_id s
 
 -- so is the open that the client holds for attached in the live session
 abbrev pub NowPair : Client → Server → Type 0
@@ -159,30 +177,36 @@ NowPair c s = (q : ℕ) → c.attached q ≡ c.session_number → c.live ≡ tru
 
 -- the open that a create's success names, as the server holds it
 abbrev pub CreateReply : Client → (ℕ → Conn) → Server → Trace → Type 0
-CreateReply c conns s t = (k n g : ℕ) (y : Received) → slice_get (conns k).down n ≡ Some y → y.token ≡ ForOp g → makes_open (c.op g) ≡ true → y.reply.status ≡ success
+CreateReply c conns s t = (k n g : ℕ) (y : Received) → slice_get (conns k).down n ≡ Some y → y.token ≡ ForOp g
+    → makes_open (c.op g) ≡ true → y.reply.status ≡ success
     → Pair s c.session 0 (id_in y.reply.body) × id_in y.reply.body ≤ last_id s × t.open_of g ≡ Some (id_in y.reply.body)
 
 -- the open that a DH2C's success attached
 abbrev pub AttachReply : Client → (ℕ → Conn) → Server → Type 0
-AttachReply c conns s = (k n g : ℕ) (y : Received) → slice_get (conns k).down n ≡ Some y → y.token ≡ ForAttach g → y.reply.status ≡ success → Pair s c.session 0 (file_at c g) × file_at c g ≤ last_id s
+AttachReply c conns s = (k n g : ℕ) (y : Received) → slice_get (conns k).down n ≡ Some y → y.token ≡ ForAttach g
+    → y.reply.status ≡ success → Pair s c.session 0 (file_at c g) × file_at c g ≤ last_id s
 
 -- an edit's reply, but for three statuses, tells that its sequence reached its open
 abbrev pub Reached : Client → (ℕ → Conn) → Server → Type 0
-Reached c conns s = (k n g : ℕ) (y : Received) → slice_get (conns k).down n ≡ Some y → y.token ≡ ForOp g → edits (c.op g) ≡ true → formed (c.op g) ≡ true → is_final y.reply.status ≡ true
+Reached c conns s = (k n g : ℕ) (y : Received) → slice_get (conns k).down n ≡ Some y → y.token ≡ ForOp g
+    → edits (c.op g) ≡ true → formed (c.op g) ≡ true → is_final y.reply.status ≡ true
     → Pair s c.session (c.sequence_of g) (file_at c g) × file_at c g ≤ last_id s
 
 -- FILE_CLOSED tells that the open is gone
 abbrev pub ClosedReply : Client → (ℕ → Conn) → Server → Type 0
-ClosedReply c conns s = (k n g : ℕ) (y : Received) → slice_get (conns k).down n ≡ Some y → y.token ≡ ForOp g → edits (c.op g) ≡ true → y.reply.status ≡ file_closed → s.standing (file_at c g) ≡ false × file_at c g ≤ last_id s
+ClosedReply c conns s = (k n g : ℕ) (y : Received) → slice_get (conns k).down n ≡ Some y → y.token ≡ ForOp g
+    → edits (c.op g) ≡ true → y.reply.status ≡ file_closed → s.standing (file_at c g) ≡ false × file_at c g ≤ last_id s
 
 -- and so does a DH2C that is refused
 abbrev pub AttachRefused : Client → (ℕ → Conn) → Server → Type 0
-AttachRefused c conns s = (k n g : ℕ) (y : Received) → slice_get (conns k).down n ≡ Some y → y.token ≡ ForAttach g → edits (c.op g) ≡ true → (y.reply.status == success) ≡ false → (y.reply.status == user_session_deleted) ≡ false
+AttachRefused c conns s = (k n g : ℕ) (y : Received) → slice_get (conns k).down n ≡ Some y → y.token ≡ ForAttach g
+    → edits (c.op g) ≡ true → (y.reply.status == success) ≡ false → (y.reply.status == user_session_deleted) ≡ false
     → s.standing (file_at c g) ≡ false × file_at c g ≤ last_id s
 
 -- FILE_NOT_AVAILABLE tells that the edit's sequence is older than the client's
 abbrev pub StaleReply : Client → (ℕ → Conn) → Type 0
-StaleReply c conns = (k n g : ℕ) (y : Received) → slice_get (conns k).down n ≡ Some y → y.token ≡ ForOp g → edits (c.op g) ≡ true → y.reply.status ≡ file_not_available → c.sequence_of g < c.sequence
+StaleReply c conns = (k n g : ℕ) (y : Received) → slice_get (conns k).down n ≡ Some y → y.token ≡ ForOp g
+    → edits (c.op g) ≡ true → y.reply.status ≡ file_not_available → c.sequence_of g < c.sequence
 
 -- an open of the live session has no newer sequence than the client
 abbrev pub SessionSeq : Client → Server → Type 0
@@ -194,22 +218,27 @@ PendingAt c s = (o k : ℕ) → c.stage k ≡ AskedTree → s.session_of_open o 
 
 -- a copy that the server would still take: its open stands, its session is there, and it isn't older than the open's sequence
 abbrev pub LiveUnsettled : Client → (ℕ → Conn) → Server → Type 0
-LiveUnsettled c conns s = (k n g : ℕ) (x : Sent) → slice_get (conns k).up n ≡ Some x → x.token ≡ ForOp g → edits (c.op g) ≡ true → formed (c.op g) ≡ true → s.standing (file_at c g) ≡ true → s.present x.message.session_id ≡ true
+LiveUnsettled c conns s = (k n g : ℕ) (x : Sent) → slice_get (conns k).up n ≡ Some x → x.token ≡ ForOp g
+    → edits (c.op g) ≡ true → formed (c.op g) ≡ true → s.standing (file_at c g) ≡ true → s.present x.message.session_id
+    ≡ true
     → s.sequence (file_at c g) ≤ x.message.channel_sequence → pends c g ≡ true
 
 -- where its edit acted already, it has the replay flag
 abbrev pub LiveReplay : Client → (ℕ → Conn) → Server → Log → Type 0
-LiveReplay c conns s l = (k n g : ℕ) (x : Sent) → slice_get (conns k).up n ≡ Some x → x.token ≡ ForOp g → edits (c.op g) ≡ true → s.standing (file_at c g) ≡ true → s.present x.message.session_id ≡ true
+LiveReplay c conns s l = (k n g : ℕ) (x : Sent) → slice_get (conns k).up n ≡ Some x → x.token ≡ ForOp g → edits (c.op g)
+    ≡ true → s.standing (file_at c g) ≡ true → s.present x.message.session_id ≡ true
     → s.sequence (file_at c g) ≤ x.message.channel_sequence → is_some (l.first g) ≡ true → x.message.replay ≡ true
 
 -- an edit that acted and may act again still shows in the bytes, under an open that denies writers
 abbrev pub Shows : Client → Server → Log → Type 0
-Shows c s l = (g : ℕ) → edits (c.op g) ≡ true → isolating (c.op (create_at c g)) ≡ true → s.standing (file_at c g) ≡ true → pends c g ≡ true → is_some (l.first g) ≡ true
+Shows c s l = (g : ℕ) → edits (c.op g) ≡ true → isolating (c.op (create_at c g)) ≡ true → s.standing (file_at c g)
+    ≡ true → pends c g ≡ true → is_some (l.first g) ≡ true
     → bytes_after (c.op g) (s.content (s.opened (file_at c g)).file) ≡ s.content (s.opened (file_at c g)).file
 
 -- an open that denies writers stands beside no other that writes
 abbrev pub Denied : Server → Type 0
-Denied s = (o p : ℕ) → s.standing o ≡ true → s.standing p ≡ true → o ≢ p → (s.opened o).file ≡ (s.opened p).file → denies_writers (s.opened o).share ≡ true → writes (s.opened p).access ≡ false
+Denied s = (o p : ℕ) → s.standing o ≡ true → s.standing p ≡ true → o ≢ p → (s.opened o).file ≡ (s.opened p).file
+    → denies_writers (s.opened o).share ≡ true → writes (s.opened p).access ≡ false
 
 -- ---- the open that a create made
 
@@ -227,7 +256,8 @@ OpenGiven c s t = (q o : ℕ) → t.open_of q ≡ Some o → o ≤ last_id s × 
 
 -- it has the create's guid, ClientGuid and share access
 abbrev pub OpenRow : Client → Server → Trace → Type 0
-OpenRow c s t = (q o : ℕ) → t.open_of q ≡ Some o → s.standing o ≡ true → (s.opened o).create_guid ≡ Some (guid_for c q) × (s.opened o).client_guid ≡ c.who.guid × (s.opened o).share ≡ share_of (c.op q)
+OpenRow c s t = (q o : ℕ) → t.open_of q ≡ Some o → s.standing o ≡ true → (s.opened o).create_guid ≡ Some (guid_for c q)
+    × (s.opened o).client_guid ≡ c.who.guid × (s.opened o).share ≡ share_of (c.op q)
 
 -- its create acted
 abbrev pub OpenActed : Trace → (ℕ → ℕ) → Type 0
@@ -241,30 +271,36 @@ Bytes s t l = (q o : ℕ) → t.open_of q ≡ Some o → s.standing o ≡ true �
 
 -- a place at which nothing acted leaves the bytes under an open that denies writers
 abbrev pub Quiet : Client → Trace → Log → Type 0
-Quiet c t l = (n q : ℕ) → n < l.places → is_some (t.open_of q) ≡ true → l.birth q ≤ n → isolating (c.op q) ≡ true → l.did n ≡ false → l.bytes q (n + 1) ≡ l.bytes q n
+Quiet c t l = (n q : ℕ) → n < l.places → is_some (t.open_of q) ≡ true → l.birth q ≤ n → isolating (c.op q) ≡ true
+    → l.did n ≡ false → l.bytes q (n + 1) ≡ l.bytes q n
 
 -- and so does a place of another open's operation
 abbrev pub Foreign : Client → Trace → Log → Type 0
-Foreign c t l = (n q : ℕ) → n < l.places → is_some (t.open_of q) ≡ true → l.birth q ≤ n → isolating (c.op q) ≡ true → ((create_at c (l.who n) == q) && lists (c.op (l.who n))) ≡ false → l.bytes q (n + 1) ≡ l.bytes q n
+Foreign c t l = (n q : ℕ) → n < l.places → is_some (t.open_of q) ≡ true → l.birth q ≤ n → isolating (c.op q) ≡ true
+    → ((create_at c (l.who n) == q) && lists (c.op (l.who n))) ≡ false → l.bytes q (n + 1) ≡ l.bytes q n
 
 -- an operation of such an open that acted is an edit, acts there first, and does to the bytes what it says
 abbrev pub Acted : Client → Log → Type 0
 Acted c l = (n : ℕ) → n < l.places → l.did n ≡ true → lists (c.op (l.who n)) ≡ true → isolating (c.op (create_at c (l.who n))) ≡ true
-    → l.first (l.who n) ≡ Some n × edits (c.op (l.who n)) ≡ true × l.bytes (create_at c (l.who n)) (n + 1) ≡ bytes_after (c.op (l.who n)) (l.bytes (create_at c (l.who n)) n)
+    → l.first (l.who n) ≡ Some n × edits (c.op (l.who n)) ≡ true × l.bytes (create_at c (l.who n)) (n + 1)
+    ≡ bytes_after (c.op (l.who n)) (l.bytes (create_at c (l.who n)) n)
 
 -- a success tells what the operation replies to the bytes at its place
 abbrev pub Gave : Client → Log → Type 0
 Gave c l = (n : ℕ) (v : ContentReply) → n < l.places → lists (c.op (l.who n)) ≡ true → l.gave n ≡ Says_ok v
-    → reply_to (c.op (l.who n)) (l.bytes (create_at c (l.who n)) n) ≡ v × l.bytes (create_at c (l.who n)) (n + 1) ≡ bytes_after (c.op (l.who n)) (l.bytes (create_at c (l.who n)) n)
+    → reply_to (c.op (l.who n)) (l.bytes (create_at c (l.who n)) n) ≡ v × l.bytes (create_at c (l.who n)) (n + 1)
+    ≡ bytes_after (c.op (l.who n)) (l.bytes (create_at c (l.who n)) n)
     × ends_before (c.op (l.who n)) (l.bytes (create_at c (l.who n)) n) ≡ false
 
 -- END_OF_FILE tells that they end before it
 abbrev pub GaveEnd : Client → Log → Type 0
-GaveEnd c l = (n : ℕ) → n < l.places → lists (c.op (l.who n)) ≡ true → l.gave n ≡ Says_end → ends_before (c.op (l.who n)) (l.bytes (create_at c (l.who n)) n) ≡ true
+GaveEnd c l = (n : ℕ) → n < l.places → lists (c.op (l.who n)) ≡ true → l.gave n ≡ Says_end
+    → ends_before (c.op (l.who n)) (l.bytes (create_at c (l.who n)) n) ≡ true
 
 -- whose messages were taken: operations that went out, or a DH2C in their place, behind their create
 abbrev pub Whose : Client → Log → Type 0
-Whose c l = (n : ℕ) → n < l.places → l.who n ≤ c.taken × (0 < l.who n → (makes_open (c.op (l.who n)) || is_ok (c.outcome (create_at c (l.who n)))) ≡ true)
+Whose c l = (n : ℕ) → n < l.places → l.who n ≤ c.taken
+    × (0 < l.who n → (makes_open (c.op (l.who n)) || is_ok (c.outcome (create_at c (l.who n)))) ≡ true)
 
 -- each place of an operation is behind that at which its open came
 abbrev pub Born : Client → Log → Type 0
@@ -284,7 +320,8 @@ By c l = (g n : ℕ) → c.settled_by g ≡ Some n → n < l.places × l.who n �
 
 -- an operation that settled Ok got what its place gave
 abbrev pub ByOk : Client → Log → Type 0
-ByOk c l = (g n : ℕ) (v : ContentReply) → lists (c.op g) ≡ true → c.settled_by g ≡ Some n → settlement (c.op g) (c.outcome g) ≡ Settled_ok v → l.gave n ≡ Says_ok v
+ByOk c l = (g n : ℕ) (v : ContentReply) → lists (c.op g) ≡ true → c.settled_by g ≡ Some n
+    → settlement (c.op g) (c.outcome g) ≡ Settled_ok v → l.gave n ≡ Says_ok v
 
 -- and so did one that was answered END_OF_FILE
 abbrev pub ByEnd : Client → Log → Type 0
@@ -296,11 +333,13 @@ BySome c = (g : ℕ) → is_firm (c.outcome g) ≡ true → is_some (c.settled_b
 
 -- a reply that waits tells what its place gave
 abbrev pub Replies : (ℕ → Conn) → Log → Type 0
-Replies conns l = (k n : ℕ) (y : Received) → slice_get (conns k).down n ≡ Some y → y.place < l.places × l.who y.place ≡ op_of y.token × l.gave y.place ≡ said y.token y.reply
+Replies conns l = (k n : ℕ) (y : Received) → slice_get (conns k).down n ≡ Some y → y.place < l.places × l.who y.place
+    ≡ op_of y.token × l.gave y.place ≡ said y.token y.reply
 
 -- a DH2C isn't answered END_OF_FILE
 abbrev pub AttachStatus : (ℕ → Conn) → Type 0
-AttachStatus conns = (k n g : ℕ) (y : Received) → slice_get (conns k).down n ≡ Some y → y.token ≡ ForAttach g → (y.reply.status == end_of_file) ≡ false
+AttachStatus conns = (k n g : ℕ) (y : Received) → slice_get (conns k).down n ≡ Some y → y.token ≡ ForAttach g
+    → (y.reply.status == end_of_file) ≡ false
 
 -- no place of an operation is before its first push, and what had settled by then has its place before it
 abbrev pub SinceLe : Log → Type 0

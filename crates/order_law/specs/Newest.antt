@@ -6,7 +6,8 @@ use Rattle.exchange_defs.specs.Fold.{fold}
 use Rattle.exchange_defs.specs.Network.{World, Event, Settings, run, start}
 use Rattle.exchange_defs.specs.Statements.{NeverAfterNewer}
 use Rattle.server_law.specs.Fits.{Attached, GuidOpen, OpenIds, Given as GivenIds}
-use Rattle.session_law.specs.Sessions.{Ranks, LastRank, RankOnce, PendingUnranked, RankedUp, SequencesUp, DialogUp, PresentAccepted, MakingUnranked}
+use Rattle.session_law.specs.Sessions.{Ranks, LastRank, RankOnce, PendingUnranked, RankedUp, SequencesUp, DialogUp}
+use Rattle.session_law.specs.Sessions.{PresentAccepted, MakingUnranked}
 
 -- while the open stands and the session is there, the open is attached in it, at this sequence or a newer one
 abbrev pub Pair : Server → ℕ → ℕ → ℕ → Type 0

@@ -3,15 +3,28 @@ use Rattle.std.proofs.Common.{◌≡◌, ℕ, ◌+◌, Bool, true, false, List, 
 use Rattle.exchange_defs.specs.Table.{put}
 use Rattle.exchange_defs.specs.Commands.{Basic}
 use Rattle.exchange_defs.specs.State.{Server, Entry, Range}
-use Rattle.exchange_defs.specs.Files.{path_of, path_in, times_at, touched, emptied_basic, make_file, set_content, empty_file, set_delete_pending, store_basic, without_file, remove_file, moved_entries, without_target, rename_file}
+use Rattle.exchange_defs.specs.Files.{path_of, path_in, times_at, touched, emptied_basic, make_file, set_content}
+use Rattle.exchange_defs.specs.Files.{empty_file, set_delete_pending, store_basic, without_file, remove_file}
+use Rattle.exchange_defs.specs.Files.{moved_entries, without_target, rename_file}
 use Rattle.recovery_law.specs.Recovers.{staying, kept_ranges, Mirrors}
 use Rattle.recovery_law.proofs.Lists.{ext}
 
 pub stores_basic : (d s : Server) (f : ℕ) (b : Basic) → Mirrors d s → Mirrors (store_basic d f b) (store_basic s f b)
-stores_basic d s f b h =
-    (record { entries = h.0.entries; next_file = h.0.next_file; directory = h.0.directory; delete_pending = h.0.delete_pending; basic = ap (λ x. put x f b) h.0.basic; content = h.0.content }, h.1, h.2)
+stores_basic d s f b h = (
+  record {
+    entries = h.0.entries;
+    next_file = h.0.next_file;
+    directory = h.0.directory;
+    delete_pending = h.0.delete_pending;
+    basic = ap (λ x. put x f b) h.0.basic;
+    content = h.0.content;
+  },
+  h.1,
+  h.2,
+)
 
-pub sets_content : (d s : Server) (f : ℕ) (change : List ℕ → List ℕ) (now : ℕ) → Mirrors d s → Mirrors (set_content d f (change (d.content f)) now) (set_content s f (change (s.content f)) now)
+pub sets_content : (d s : Server) (f : ℕ) (change : List ℕ → List ℕ) (now : ℕ) → Mirrors d s
+    → Mirrors (set_content d f (change (d.content f)) now) (set_content s f (change (s.content f)) now)
 sets_content d s f change now h = (
   record {
     entries = h.0.entries;
@@ -25,7 +38,8 @@ sets_content d s f change now h = (
   h.2,
 )
 
-pub empties_file : (d s : Server) (f attributes now : ℕ) → Mirrors d s → Mirrors (empty_file d f attributes now) (empty_file s f attributes now)
+pub empties_file : (d s : Server) (f attributes now : ℕ) → Mirrors d s → Mirrors (empty_file d f attributes now)
+    (empty_file s f attributes now)
 empties_file d s f attributes now h = (
   record {
     entries = h.0.entries;
@@ -40,35 +54,79 @@ empties_file d s f attributes now h = (
 )
 
 pub sets_pending : (d s : Server) (f : ℕ) (flag : Bool) → Mirrors d s → Mirrors (set_delete_pending d f flag) (set_delete_pending s f flag)
-sets_pending d s f flag h =
-    (record { entries = h.0.entries; next_file = h.0.next_file; directory = h.0.directory; delete_pending = ap (λ x. put x f flag) h.0.delete_pending; basic = h.0.basic; content = h.0.content }, h.1, h.2)
+sets_pending d s f flag h = (
+  record {
+    entries = h.0.entries;
+    next_file = h.0.next_file;
+    directory = h.0.directory;
+    delete_pending = ap (λ x. put x f flag) h.0.delete_pending;
+    basic = h.0.basic;
+    content = h.0.content;
+  },
+  h.1,
+  h.2,
+)
 
 pub put_same_bool : (f : ℕ → Bool) (k : ℕ) → f k ≡ true → (q : ℕ) → f q ≡ put f k true q
 put_same_bool f k h q = grind arith
 
 -- a file that is delete pending already
 pub pending_again : (d s : Server) (f : ℕ) → s.delete_pending f ≡ true → Mirrors d s → Mirrors d (set_delete_pending s f true)
-pending_again d s f m h =
-    (record { entries = h.0.entries; next_file = h.0.next_file; directory = h.0.directory; delete_pending = h.0.delete_pending ∙ ext s.delete_pending (put s.delete_pending f true) (put_same_bool s.delete_pending f m); basic = h.0.basic; content = h.0.content }, h.1, h.2)
+pending_again d s f m h = (
+  record {
+    entries = h.0.entries;
+    next_file = h.0.next_file;
+    directory = h.0.directory;
+    delete_pending = h.0.delete_pending ∙ ext s.delete_pending (put s.delete_pending f true)
+        (put_same_bool s.delete_pending f m);
+    basic = h.0.basic;
+    content = h.0.content;
+  },
+  h.1,
+  h.2,
+)
 
 pub removes_file : (d s : Server) (f : ℕ) → Mirrors d s → Mirrors (remove_file d f) (remove_file s f)
-removes_file d s f h =
-    (record { entries = ap (without_file f) h.0.entries; next_file = h.0.next_file; directory = h.0.directory; delete_pending = h.0.delete_pending; basic = h.0.basic; content = h.0.content }, h.1, h.2)
+removes_file d s f h = (
+  record {
+    entries = ap (without_file f) h.0.entries;
+    next_file = h.0.next_file;
+    directory = h.0.directory;
+    delete_pending = h.0.delete_pending;
+    basic = h.0.basic;
+    content = h.0.content;
+  },
+  h.1,
+  h.2,
+)
 
-pub renames_file : (d s : Server) (f : ℕ) (replaced : Option ℕ) (path : List ℕ) → Mirrors d s → Mirrors (rename_file d f replaced path) (rename_file s f replaced path)
+pub renames_file : (d s : Server) (f : ℕ) (replaced : Option ℕ) (path : List ℕ) → Mirrors d s
+    → Mirrors (rename_file d f replaced path) (rename_file s f replaced path)
 unfolding path_of
-renames_file d s f replaced path h =
-    (record { entries = ap (λ es. moved_entries (path_in es f) path (without_target replaced es)) h.0.entries; next_file = h.0.next_file; directory = h.0.directory; delete_pending = h.0.delete_pending; basic = h.0.basic; content = h.0.content }, h.1, h.2)
+renames_file d s f replaced path h = (
+  record {
+    entries = ap (λ es. moved_entries (path_in es f) path (without_target replaced es)) h.0.entries;
+    next_file = h.0.next_file;
+    directory = h.0.directory;
+    delete_pending = h.0.delete_pending;
+    basic = h.0.basic;
+    content = h.0.content;
+  },
+  h.1,
+  h.2,
+)
 
 abbrev entry : ℕ → List ℕ → Entry
 entry f path = record { file = f; path = path }
 
 -- a new file has no ranges, in both
-new_ranges : (p : ℕ → Bool) (drs rs : ℕ → List Range) (n m : ℕ) → n ≡ m → ((f : ℕ) → drs f ≡ kept_ranges p (rs f)) → (f : ℕ) → put drs n [] f ≡ kept_ranges p (put rs m [] f)
+new_ranges : (p : ℕ → Bool) (drs rs : ℕ → List Range) (n m : ℕ) → n ≡ m → ((f : ℕ) → drs f ≡ kept_ranges p (rs f))
+    → (f : ℕ) → put drs n [] f ≡ kept_ranges p (put rs m [] f)
 unfolding kept_ranges
 new_ranges p drs rs n m e h f = let old = h f in grind arith
 
-pub makes_file : (d s : Server) (path : List ℕ) (is_dir : Bool) (attributes now : ℕ) → Mirrors d s → Mirrors (make_file d path is_dir attributes now) (make_file s path is_dir attributes now)
+pub makes_file : (d s : Server) (path : List ℕ) (is_dir : Bool) (attributes now : ℕ) → Mirrors d s
+    → Mirrors (make_file d path is_dir attributes now) (make_file s path is_dir attributes now)
 makes_file d s path is_dir attributes now h =
     let n = h.0.next_file in (
       record {

@@ -1,10 +1,12 @@
 -- What a record's guard asks of the fold's state, from the same of the server's.
-use Rattle.std.proofs.Common.{◌≡◌, ℕ, ◌+◌, ◌-◌, ◌≤◌, ◌==◌, nat_lt, Bool, true, false, ◌&&◌, ◌||◌, List, [], ◌∷◌, length, refl, arith, sym, ◌∙◌, ap, Option, Some, None}
+use Rattle.std.proofs.Common.{◌≡◌, ℕ, ◌+◌, ◌-◌, ◌≤◌, ◌==◌, nat_lt, Bool, true, false, ◌&&◌, ◌||◌, List, [], ◌∷◌, length}
+use Rattle.std.proofs.Common.{refl, arith, sym, ◌∙◌, ap, Option, Some, None}
 use Rattle.std.proofs.lemmas.Bool.Decides.{nat_tests}
 use Rattle.exchange_defs.specs.Table.{has}
 use Rattle.exchange_defs.specs.Texts.{parent_of}
 use Rattle.exchange_defs.specs.State.{Server}
-use Rattle.exchange_defs.specs.Files.{root, find, find_in, path_of, path_in, exists, exists_in, is_directory, is_found_directory, has_parent, is_full_directory, used, sizes, passes_room}
+use Rattle.exchange_defs.specs.Files.{root, find, find_in, path_of, path_in, exists, exists_in, is_directory}
+use Rattle.exchange_defs.specs.Files.{is_found_directory, has_parent, is_full_directory, used, sizes, passes_room}
 use Rattle.exchange_defs.specs.Opens.{file_has_open}
 use Rattle.exchange_defs.specs.Fold.{full_room}
 use Rattle.recovery_law.specs.Recovers.{Opens}
@@ -33,9 +35,11 @@ unfolding is_found_directory
 same_found_directory d s h None = refl
 same_found_directory d s h (Some f) = same_directory d s h f
 
-pub same_parent : (d s : Server) → d.entries ≡ s.entries → d.directory ≡ s.directory → (path : List ℕ) → has_parent d path ≡ has_parent s path
+pub same_parent : (d s : Server) → d.entries ≡ s.entries → d.directory ≡ s.directory → (path : List ℕ)
+    → has_parent d path ≡ has_parent s path
 unfolding has_parent
-same_parent d s e h path = ap (is_found_directory d) (same_find d s e (parent_of path)) ∙ same_found_directory d s h (find s (parent_of path))
+same_parent d s e h path = ap (is_found_directory d) (same_find d s e (parent_of path)) ∙ same_found_directory d s h
+    (find s (parent_of path))
 
 pub same_full : (d s : Server) → d.entries ≡ s.entries → d.directory ≡ s.directory → (f : ℕ) → is_full_directory d f ≡ is_full_directory s f
 unfolding is_full_directory
@@ -45,14 +49,17 @@ same_used : (d s : Server) → d.entries ≡ s.entries → d.content ≡ s.conte
 unfolding used
 same_used d s e h = ap (λ c. sizes c d.entries) h ∙ ap (λ es. sizes s.content es) e
 
-room_test : (room full used size : ℕ) (b : Bool) → room ≤ full → (nat_lt room (used + size) && b) ≡ false → (nat_lt full (used + size) && b) ≡ false
+room_test : (room full used size : ℕ) (b : Bool) → room ≤ full → (nat_lt room (used + size) && b) ≡ false
+    → (nat_lt full (used + size) && b) ≡ false
 room_test room full used size true l h = grind (arith, nat_tests)
 room_test room full used size false l h = grind (arith, nat_tests)
 
-pub has_room : (d s : Server) (f size : ℕ) → d.entries ≡ s.entries → d.content ≡ s.content → d.room ≡ full_room → s.room ≤ full_room → passes_room s f size ≡ false → passes_room d f size ≡ false
+pub has_room : (d s : Server) (f size : ℕ) → d.entries ≡ s.entries → d.content ≡ s.content → d.room ≡ full_room
+    → s.room ≤ full_room → passes_room s f size ≡ false → passes_room d f size ≡ false
 unfolding passes_room
 has_room d s f size e h full within fits =
-    rw (same_used d s e h, h, full) (room_test s.room full_room (used s - length (s.content f)) size (nat_lt (length (s.content f)) size) within fits)
+    rw (same_used d s e h, h, full) (room_test s.room full_room (used s - length (s.content f)) size
+    (nat_lt (length (s.content f)) size) within fits)
 
 stays_of : (x y z : Bool) → x ≡ true → y ≡ x → z ≡ true → (y && z) ≡ true
 stays_of x y z a b c = grind arith
@@ -60,4 +67,5 @@ stays_of x y z a b c = grind arith
 pub none_open : (d s : Server) (f : ℕ) → Opens d s → Listed s → file_has_open s f ≡ false → file_has_open d f ≡ false
 unfolding file_has_open
 none_open d s f h l none =
-    rw (h.opens) (none_persistent s.opened d.opened s.opens f (λ o i p. h.opened o (stays_of (has o s.opens) (s.standing o) (s.opened o).persistent i (sym (l o)) p)) none)
+    rw (h.opens) (none_persistent s.opened d.opened s.opens f
+    (λ o i p. h.opened o (stays_of (has o s.opens) (s.standing o) (s.opened o).persistent i (sym (l o)) p)) none)

@@ -1,17 +1,24 @@
 -- A restart: what recovery makes of the records.
-use Rattle.std.proofs.Common.{◌≡◌, ℕ, ◌+◌, ◌≤◌, ◌==◌, nat_lt, nat_le, Bool, true, false, not, ◌&&◌, ◌||◌, if◌then◌else◌, List, [], ◌∷◌, ◌++◌, length, refl, arith, sym, subst, ◌∙◌, ap, Option, Some, None}
+use Rattle.std.proofs.Common.{◌≡◌, ℕ, ◌+◌, ◌≤◌, ◌==◌, nat_lt, nat_le, Bool, true, false, not, ◌&&◌, ◌||◌, if◌then◌else◌}
+use Rattle.std.proofs.Common.{List, [], ◌∷◌, ◌++◌, length, refl, arith, sym, subst, ◌∙◌, ap, Option, Some, None}
 use Rattle.exchange_defs.specs.Table.{put, put2, has, is_filled}
 use Rattle.exchange_defs.specs.Status.{success}
 use Rattle.exchange_defs.specs.Content.{written, ended, is_empty}
 use Rattle.exchange_defs.specs.Commands.{Element, all_lock, all_unlock, deletes_on_close}
-use Rattle.exchange_defs.specs.State.{Server, Open, Entry, Range, Kept, Record, NewOpen, EpochRecord, CreateRecord, WriteRecord, EndRecord, BasicRecord, DeleteRecord, RenameRecord, RemoveRecord, LockRecord, CloseRecord, VersionRecord, ExpireRecord}
-use Rattle.exchange_defs.specs.Files.{root, find, exists, exists_in, path_in, make_file, empty_file, set_content, store_basic, set_delete_pending, remove_file, rename_file, passes_room}
+use Rattle.exchange_defs.specs.State.{Server, Open, Entry, Range, Kept, Record, NewOpen, EpochRecord, CreateRecord}
+use Rattle.exchange_defs.specs.State.{WriteRecord, EndRecord, BasicRecord, DeleteRecord, RenameRecord, RemoveRecord}
+use Rattle.exchange_defs.specs.State.{LockRecord, CloseRecord, VersionRecord, ExpireRecord}
+use Rattle.exchange_defs.specs.Files.{root, find, exists, exists_in, path_in, make_file, empty_file, set_content}
+use Rattle.exchange_defs.specs.Files.{store_basic, set_delete_pending, remove_file, rename_file, passes_room}
 use Rattle.exchange_defs.specs.Ranges.{RangeAnswer, Stands, Denied, change_ranges}
 use Rattle.exchange_defs.specs.Opens.{id_of, max_ids, opens_in, file_has_open, drop_open, pending_behind, goes, without_gone}
 use Rattle.exchange_defs.specs.CheckOpen.{target_of, file_of, is_slot}
 use Rattle.exchange_defs.specs.Effects.{keep_slot, set_ranges}
 use Rattle.exchange_defs.specs.Step.{add_expired_guid, max_expired_guids}
-use Rattle.exchange_defs.specs.Fold.{nothing_yet, with_record, fold_from, fold, sweep, begin_epoch, set_version, may_create, may_have_open, restore, created_file, is_file, may_rename, may_remove, lock_granted, lock_recorded, shut_recorded, recovery_records, recovered_from, opening_records}
+use Rattle.exchange_defs.specs.Fold.{nothing_yet, with_record, fold_from, fold, sweep, begin_epoch, set_version}
+use Rattle.exchange_defs.specs.Fold.{may_create, may_have_open, restore, created_file, is_file, may_rename, may_remove}
+use Rattle.exchange_defs.specs.Fold.{lock_granted, lock_recorded, shut_recorded, recovery_records, recovered_from}
+use Rattle.exchange_defs.specs.Fold.{opening_records}
 use Rattle.server_law.proofs.Logic.{either, both}
 use Rattle.recovery_law.specs.Recovers.{staying, kept_guid, Files, Opens, Recovers}
 use Rattle.recovery_law.specs.Restarted.{Bare, Restarted, EntriesLeft}
@@ -28,14 +35,21 @@ none_put f k v h q = let old = h q in grind arith
 bare_swept : (s : Server) (es : List Entry) → Bare s → Bare (sweep s es)
 unfolding sweep
 bare_swept s [] h = h
-bare_swept s (e ∷ es) h = bare_swept (without_gone s e.file) es (either (λ x. Bare x) (goes s e.file) (remove_file s e.file) s (λ _. h) (λ _. h))
+bare_swept s (e ∷ es) h = bare_swept (without_gone s e.file) es
+    (either (λ x. Bare x) (goes s e.file) (remove_file s e.file) s (λ _. h) (λ _. h))
 
 bare_epoch : (s : Server) (number : ℕ) → Bare s → Bare (begin_epoch s number)
-bare_epoch s number h = either (λ x. Bare x) (number == s.epoch + 1) (record (sweep s s.entries) { epoch = number; open_ids_given = 0; session_ids_given = 0 }) s (λ _. bare_swept s s.entries h) (λ _. h)
+bare_epoch s number h = either (λ x. Bare x) (number == s.epoch + 1) (record (sweep s s.entries) {
+  epoch = number;
+  open_ids_given = 0;
+  session_ids_given = 0;
+}) s (λ _. bare_swept s s.entries h) (λ _. h)
 
-bare_file : (s : Server) (action f : ℕ) (path : List ℕ) (attributes : ℕ) (is_dir : Bool) (time : ℕ) → Bare s → Bare (created_file s action f path attributes is_dir time)
+bare_file : (s : Server) (action f : ℕ) (path : List ℕ) (attributes : ℕ) (is_dir : Bool) (time : ℕ) → Bare s
+    → Bare (created_file s action f path attributes is_dir time)
 bare_file s action f path attributes is_dir time h =
-    either (λ x. Bare x) (action == 2) (make_file s path is_dir attributes time) (if action == 1 then s else empty_file s f attributes time) (λ _. h)
+    either (λ x. Bare x) (action == 2) (make_file s path is_dir attributes time)
+    (if action == 1 then s else empty_file s f attributes time) (λ _. h)
     (λ _. either (λ x. Bare x) (action == 1) s (empty_file s f attributes time) (λ _. h) (λ _. h))
 
 bare_opened : (s : Server) (f action : ℕ) (opened : Option NewOpen) → Bare s → Bare (restore s f action opened)
@@ -76,14 +90,18 @@ bare_dropped s o h =
     }
 
 bare_shut : (s : Server) (o : ℕ) → Bare s → Bare (shut_recorded s o)
-bare_shut s o h = bare_dropped (pending_behind s o) o (either (λ x. Bare x) (deletes_on_close (s.opened o).options) (set_delete_pending s (s.opened o).file true) s (λ _. h) (λ _. h))
+bare_shut s o h = bare_dropped (pending_behind s o) o (either (λ x. Bare x) (deletes_on_close (s.opened o).options)
+    (set_delete_pending s (s.opened o).file true) s (λ _. h) (λ _. h))
 
 bare_expired : (s : Server) (client : ℕ) (guid : Option ℕ) → Bare s → Bare (add_expired_guid s client guid)
 bare_expired s client None h = h
 bare_expired s client (Some g) h = h
 
 bare_slot : (s : Server) (o index number status : ℕ) → Bare s → Bare (keep_slot s o index number status)
-bare_slot s o index number status h = either (λ x. Bare x) (is_slot index) (record s { lock_sequences = put2 s.lock_sequences o index (Some (record { number = number; status = status })) }) s (λ _. h) (λ _. h)
+bare_slot s o index number status h = either (λ x. Bare x) (is_slot index) (record s {
+  lock_sequences = put2 s.lock_sequences o index (Some (record { number = number; status = status }));
+}) s (λ _. h)
+    (λ _. h)
 
 bare_granted : (s : Server) (o index number : ℕ) (x : RangeAnswer) → Bare s → Bare (lock_granted s o index number x)
 bare_granted s o index number (Denied status) h = h
@@ -91,27 +109,39 @@ bare_granted s o index number (Stands ranges) h = bare_slot (set_ranges s (file_
 
 bare_locked : (s : Server) (o index number status : ℕ) (es : List Element) → Bare s → Bare (lock_recorded s o index number status es)
 bare_locked s o index number status es h =
-    let granted = lock_granted s o index number (change_ranges (s.ranges (file_of s o)) o es) in let kept = keep_slot s o index number status in
+    let granted = lock_granted s o index number (change_ranges (s.ranges (file_of s o)) o es) in let kept =
+    keep_slot s o index number status in
     either (λ x. Bare x) (not (all_lock es || all_unlock es)) s (if status == success then granted else kept) (λ _. h)
-    (λ _. either (λ x. Bare x) (status == success) granted kept (λ _. bare_granted s o index number (change_ranges (s.ranges (file_of s o)) o es) h) (λ _. bare_slot s o index number status h))
+    (λ _. either (λ x. Bare x) (status == success) granted kept
+    (λ _. bare_granted s o index number (change_ranges (s.ranges (file_of s o)) o es) h)
+    (λ _. bare_slot s o index number status h))
 
 bare_record : (s : Server) (r : Record) → Bare s → Bare (with_record s r)
 bare_record s (EpochRecord number) h = bare_epoch s number h
-bare_record s (VersionRecord number) h = either (λ x. Bare x) ((number == 2) && (s.version == 1)) (record s { version = 2 }) s (λ _. h) (λ _. h)
+bare_record s (VersionRecord number) h = either (λ x. Bare x) ((number == 2) && (s.version == 1)) (record s {
+  version = 2;
+}) s (λ _. h) (λ _. h)
 bare_record s (CreateRecord origin action f path attributes is_dir time opened) h =
     let made = created_file s action f path attributes is_dir time in
-    either (λ x. Bare x) (may_create s action f path && may_have_open s opened) (restore made f action opened) s (λ _. bare_opened made f action opened (bare_file s action f path attributes is_dir time h)) (λ _. h)
+    either (λ x. Bare x) (may_create s action f path && may_have_open s opened) (restore made f action opened) s
+    (λ _. bare_opened made f action opened (bare_file s action f path attributes is_dir time h)) (λ _. h)
 bare_record s (WriteRecord origin f at time bytes) h =
-    either (λ x. Bare x) (is_file s f && (not (is_empty bytes) && not (passes_room s f (at + length bytes)))) (set_content s f (written at bytes (s.content f)) time) s (λ _. h) (λ _. h)
-bare_record s (EndRecord origin f size time) h = either (λ x. Bare x) (is_file s f && not (passes_room s f size)) (set_content s f (ended size (s.content f)) time) s (λ _. h) (λ _. h)
+    either (λ x. Bare x) (is_file s f && (not (is_empty bytes) && not (passes_room s f (at + length bytes))))
+    (set_content s f (written at bytes (s.content f)) time) s (λ _. h) (λ _. h)
+bare_record s (EndRecord origin f size time) h = either (λ x. Bare x) (is_file s f && not (passes_room s f size))
+    (set_content s f (ended size (s.content f)) time) s (λ _. h) (λ _. h)
 bare_record s (BasicRecord origin f basic) h = either (λ x. Bare x) (exists s f) (store_basic s f basic) s (λ _. h) (λ _. h)
-bare_record s (DeleteRecord origin f flag) h = either (λ x. Bare x) (exists s f && not (f == root)) (set_delete_pending s f flag) s (λ _. h) (λ _. h)
-bare_record s (RenameRecord origin f replaced path) h = either (λ x. Bare x) (may_rename s f replaced path) (rename_file s f (target_of f (find s path)) path) s (λ _. h) (λ _. h)
+bare_record s (DeleteRecord origin f flag) h = either (λ x. Bare x) (exists s f && not (f == root))
+    (set_delete_pending s f flag) s (λ _. h) (λ _. h)
+bare_record s (RenameRecord origin f replaced path) h = either (λ x. Bare x) (may_rename s f replaced path)
+    (rename_file s f (target_of f (find s path)) path) s (λ _. h) (λ _. h)
 bare_record s (RemoveRecord origin f) h = either (λ x. Bare x) (may_remove s f) (remove_file s f) s (λ _. h) (λ _. h)
-bare_record s (LockRecord origin o index number status es) h = either (λ x. Bare x) (s.standing o && nat_le index 64) (lock_recorded s o index number status es) s (λ _. bare_locked s o index number status es h) (λ _. h)
+bare_record s (LockRecord origin o index number status es) h = either (λ x. Bare x) (s.standing o && nat_le index 64)
+    (lock_recorded s o index number status es) s (λ _. bare_locked s o index number status es h) (λ _. h)
 bare_record s (CloseRecord origin o) h = either (λ x. Bare x) (s.standing o) (shut_recorded s o) s (λ _. bare_shut s o h) (λ _. h)
 bare_record s (ExpireRecord origin o) h =
-    either (λ x. Bare x) (s.standing o && nat_lt s.expired_count max_expired_guids) (add_expired_guid (shut_recorded s o) (s.opened o).client_guid (s.opened o).create_guid) s
+    either (λ x. Bare x) (s.standing o && nat_lt s.expired_count max_expired_guids)
+    (add_expired_guid (shut_recorded s o) (s.opened o).client_guid (s.opened o).create_guid) s
     (λ _. bare_expired (shut_recorded s o) (s.opened o).client_guid (s.opened o).create_guid (bare_shut s o h)) (λ _. h)
 
 bare_from : (s : Server) (rs : List Record) → Bare s → Bare (fold_from s rs)
@@ -192,7 +222,11 @@ same_test n m e = grind arith
 epoch_begins : (s u : Server) (number : ℕ) → number ≡ u.epoch + 1 → Carried s u → NextEpoch s (begin_epoch u number) number
 epoch_begins s u number e h =
     let c = carried_swept s u u.entries h in
-    let step : begin_epoch u number ≡ record (sweep u u.entries) { epoch = number; open_ids_given = 0; session_ids_given = 0 } = rw (same_test number (u.epoch + 1) e) refl in
+    let step : begin_epoch u number ≡ record (sweep u u.entries) {
+      epoch = number;
+      open_ids_given = 0;
+      session_ids_given = 0;
+    } = rw (same_test number (u.epoch + 1) e) refl in
     subst (λ x. NextEpoch s x number) (sym step)
     (record {
       carried = record {
@@ -217,7 +251,21 @@ epoch_begins s u number e h =
 
 carries_itself : (s : Server) → Carried s s
 carries_itself s =
-    record { opens = refl; standing = refl; opened = refl; lock_sequences = refl; by_guid = refl; ranges = refl; next_file = refl; directory = refl; delete_pending = refl; basic = refl; content = refl; expired_guids = refl; expired_count = refl }
+    record {
+      opens = refl;
+      standing = refl;
+      opened = refl;
+      lock_sequences = refl;
+      by_guid = refl;
+      ranges = refl;
+      next_file = refl;
+      directory = refl;
+      delete_pending = refl;
+      basic = refl;
+      content = refl;
+      expired_guids = refl;
+      expired_count = refl;
+    }
 
 -- the version alone is raised
 pub record Raised (s u : Server) : Type 0 where
@@ -228,7 +276,21 @@ version_raised : (s : Server) (number : ℕ) → Raised s (set_version s number)
 version_raised s number =
     either (λ x. Raised s x) ((number == 2) && (s.version == 1)) (record s { version = 2 }) s
     (λ _. record {
-      carried = record { opens = refl; standing = refl; opened = refl; lock_sequences = refl; by_guid = refl; ranges = refl; next_file = refl; directory = refl; delete_pending = refl; basic = refl; content = refl; expired_guids = refl; expired_count = refl };
+      carried = record {
+        opens = refl;
+        standing = refl;
+        opened = refl;
+        lock_sequences = refl;
+        by_guid = refl;
+        ranges = refl;
+        next_file = refl;
+        directory = refl;
+        delete_pending = refl;
+        basic = refl;
+        content = refl;
+        expired_guids = refl;
+        expired_count = refl;
+      };
       epoch = refl;
     })
     (λ _. record { carried = carries_itself s; epoch = refl })
@@ -237,7 +299,8 @@ recovers_epoch : (d : Server) → NextEpoch d (fold_from d (opening_records d)) 
 unfolding fold_from
 recovers_epoch d =
     let r = version_raised d 2 in
-    either (λ rs. NextEpoch d (fold_from d rs) (d.epoch + 1)) (d.version == 1) (VersionRecord 2 ∷ EpochRecord (d.epoch + 1) ∷ []) (EpochRecord (d.epoch + 1) ∷ [])
+    either (λ rs. NextEpoch d (fold_from d rs) (d.epoch + 1)) (d.version == 1)
+    (VersionRecord 2 ∷ EpochRecord (d.epoch + 1) ∷ []) (EpochRecord (d.epoch + 1) ∷ [])
     (λ _. epoch_begins d (set_version d 2) (d.epoch + 1) (sym (ap (λ n. n + 1) r.epoch)) r.carried)
     (λ _. epoch_begins d d (d.epoch + 1) refl (carries_itself d))
 
@@ -248,7 +311,8 @@ recovers_next d n e = subst (λ i. NextEpoch d (fold_from d (opening_records d))
 
 pub restarted : (s : Server) (rs : List Record) → Recovers rs s → Restarted s (recovered_from s rs)
 restarted s rs h =
-    let all = subst (λ (x : Server). NextEpoch (fold rs) x (s.epoch + 1)) (sym (fold_append nothing_yet rs (recovery_records rs))) (recovers_next (fold rs) s.epoch h.2.epoch) in
+    let all = subst (λ (x : Server). NextEpoch (fold rs) x (s.epoch + 1))
+    (sym (fold_append nothing_yet rs (recovery_records rs))) (recovers_next (fold rs) s.epoch h.2.epoch) in
     let c = all.carried in let b = bare_fold (rs ++ recovery_records rs) in
     record {
       epoch = all.epoch;
@@ -291,15 +355,22 @@ stays_opened m o e = grind arith
 left_from : (d s : Server) → Listed s → Files d s → Opens d s → EntriesLeft s (fold_from d (opening_records d))
 left_from d s l f h =
     record {
-      were = λ g e. let t = left_behind d d g e in (ap (λ es. exists_in es g) (sym f.entries) ∙ t.0, t.1 ∙ ap (λ es. path_in es g) f.entries);
-      not_pending = λ g m. held_behind d d g (stays_not_pending (d.delete_pending g) (file_has_open d g) (ap (λ (x : ℕ → Bool). x g) f.delete_pending ∙ m)) ∙ ap (λ es. exists_in es g) f.entries;
+      were = λ g e. let t = left_behind d d g e in (
+        ap (λ es. exists_in es g) (sym f.entries) ∙ t.0,
+        t.1
+            ∙ ap (λ es. path_in es g) f.entries,
+      );
+      not_pending = λ g m. held_behind d d g (stays_not_pending (d.delete_pending g) (file_has_open d g)
+          (ap (λ (x : ℕ → Bool). x g) f.delete_pending ∙ m)) ∙ ap (λ es. exists_in es g) f.entries;
       held = λ o stays. let g = (s.opened o).file in
-          held_behind d d g (stays_opened (d.delete_pending g) (file_has_open d g) (open_there d s o l h stays)) ∙ ap (λ es. exists_in es g) f.entries;
+          held_behind d d g (stays_opened (d.delete_pending g) (file_has_open d g) (open_there d s o l h stays))
+          ∙ ap (λ es. exists_in es g) f.entries;
     }
 
 pub entries_left : (s : Server) (rs : List Record) → Listed s → Recovers rs s → EntriesLeft s (recovered_from s rs)
 entries_left s rs l h =
-    let t = subst (λ (x : Server). EntriesLeft s x) (sym (fold_append nothing_yet rs (recovery_records rs))) (left_from (fold rs) s l h.0 h.1) in
+    let t = subst (λ (x : Server). EntriesLeft s x) (sym (fold_append nothing_yet rs (recovery_records rs)))
+    (left_from (fold rs) s l h.0 h.1) in
     record { were = t.were; not_pending = t.not_pending; held = t.held }
 
 -- ---- what the laws above ask of it
@@ -318,20 +389,25 @@ named_by p (Some a) o e = elim (p a) as (λ b. p a ≡ b → (if b then Some a e
 names_by : (p : ℕ → Bool) (x : Option ℕ) (o : ℕ) → x ≡ Some o → p o ≡ true → kept_guid p x ≡ Some o
 names_by p x o e f = rw (e, f) refl
 
-pub was_named : (s u : Server) → Restarted s u → (c g o : ℕ) → u.by_guid c g ≡ Some o → s.by_guid c g ≡ Some o × staying s.standing s.opened o ≡ true
+pub was_named : (s u : Server) → Restarted s u → (c g o : ℕ) → u.by_guid c g ≡ Some o → s.by_guid c g ≡ Some o
+    × staying s.standing s.opened o ≡ true
 was_named s u r c g o e = named_by (staying s.standing s.opened) (s.by_guid c g) o (sym (r.by_guid c g) ∙ e)
 
-pub stays_named : (s u : Server) → Restarted s u → (c g o : ℕ) → s.by_guid c g ≡ Some o → staying s.standing s.opened o ≡ true → u.by_guid c g ≡ Some o
+pub stays_named : (s u : Server) → Restarted s u → (c g o : ℕ) → s.by_guid c g ≡ Some o → staying s.standing s.opened o
+    ≡ true → u.by_guid c g ≡ Some o
 stays_named s u r c g o e stays = r.by_guid c g ∙ names_by (staying s.standing s.opened) (s.by_guid c g) o e stays
 
 -- what stands behind it stood, is persistent and has its row
-pub stood : (s u : Server) → Restarted s u → (o : ℕ) → u.standing o ≡ true → s.standing o ≡ true × (s.opened o).persistent ≡ true × u.opened o ≡ s.opened o
+pub stood : (s u : Server) → Restarted s u → (o : ℕ) → u.standing o ≡ true → s.standing o ≡ true
+    × (s.opened o).persistent ≡ true × u.opened o ≡ s.opened o
 stood s u r o e =
     let stays = sym (r.standing o) ∙ e in let t = both_of (s.standing o) (s.opened o).persistent stays in (t.0, t.1, r.opened o stays)
 
 -- ids go on above those that were given
-pub ids_above : (s u : Server) → Restarted s u → s.open_ids_given ≤ max_ids → id_of s.epoch s.open_ids_given ≤ id_of u.epoch u.open_ids_given
+pub ids_above : (s u : Server) → Restarted s u → s.open_ids_given ≤ max_ids → id_of s.epoch s.open_ids_given ≤ id_of
+    u.epoch u.open_ids_given
 ids_above s u r few = let e = r.epoch in let g = r.open_ids_given in omega arith
 
-pub sessions_above : (s u : Server) → Restarted s u → s.session_ids_given ≤ max_ids → id_of s.epoch s.session_ids_given ≤ id_of u.epoch u.session_ids_given
+pub sessions_above : (s u : Server) → Restarted s u → s.session_ids_given ≤ max_ids → id_of s.epoch s.session_ids_given
+    ≤ id_of u.epoch u.session_ids_given
 sessions_above s u r few = let e = r.epoch in let g = r.session_ids_given in omega arith

@@ -1,12 +1,16 @@
 -- One event of the server: an expiry in front, then the verdict, or what stands in its place where no record fits.
-use Rattle.std.proofs.Common.{◌≡◌, ℕ, nat_lt, nat_le, Bool, true, false, if◌then◌else◌, List, [], ◌∷◌, ◌++◌, length, refl, arith, sym, subst, ◌∙◌, ap, Option, Some, None, is_some, ◌⊎◌, inl, inr}
+use Rattle.std.proofs.Common.{◌≡◌, ℕ, nat_lt, nat_le, Bool, true, false, if◌then◌else◌, List, [], ◌∷◌, ◌++◌, length}
+use Rattle.std.proofs.Common.{refl, arith, sym, subst, ◌∙◌, ap, Option, Some, None, is_some, ◌⊎◌, inl, inr}
 use Rattle.std.proofs.lemmas.Bool.Decides.{nat_tests}
 use Rattle.exchange_defs.specs.Table.{has}
 use Rattle.exchange_defs.specs.State.{Server, Message, ServerEvent, Accept, Heard, End, Open, Record, Origin, Answer}
 use Rattle.exchange_defs.specs.Files.{exists}
 use Rattle.exchange_defs.specs.Check.{check}
 use Rattle.exchange_defs.specs.Records.{fits, origin_at}
-use Rattle.exchange_defs.specs.Step.{Ruling, Says, TakesIn, TurnsAway, TakesOut, TakesAllOut, ruling, ruling_without_room, without_room, max_connections, carried_out, event_answer, expiring, behind_expiry, step, with_deadlines, first_deadline, is_past, due_in, due, expire, expire_records, connection_of, max_expired_guids, ends_with}
+use Rattle.exchange_defs.specs.Step.{Ruling, Says, TakesIn, TurnsAway, TakesOut, TakesAllOut, ruling}
+use Rattle.exchange_defs.specs.Step.{ruling_without_room, without_room, max_connections, carried_out, event_answer}
+use Rattle.exchange_defs.specs.Step.{expiring, behind_expiry, step, with_deadlines, first_deadline, is_past, due_in}
+use Rattle.exchange_defs.specs.Step.{due, expire, expire_records, connection_of, max_expired_guids, ends_with}
 use Rattle.exchange_defs.specs.Fold.{fold_from}
 use Rattle.server_law.specs.Fits.{PlainAttached, Deadlines, Listed}
 use Rattle.server_law.proofs.Logic.{either}
@@ -49,14 +53,16 @@ rules s (End k) ok = tt
 rules s Rattle.exchange_defs.specs.State.Stop ok = absurd ok
 
 rules_without_room : (s : Server) (e : ServerEvent) → Runs e → Rules s (ruling_without_room (ruling s e))
-rules_without_room s (Accept k) ok = either (λ r. Rules s (ruling_without_room r)) (nat_le max_connections (length s.connections)) TurnsAway (TakesIn k) (λ _. tt) (λ _. tt)
+rules_without_room s (Accept k) ok = either (λ r. Rules s (ruling_without_room r))
+    (nat_le max_connections (length s.connections)) TurnsAway (TakesIn k) (λ _. tt) (λ _. tt)
 rules_without_room s (Heard m) ok = inr refl
 rules_without_room s (End k) ok = tt
 rules_without_room s Rattle.exchange_defs.specs.State.Stop ok = absurd ok
 
 tables : (d s : Server) (now : ℕ) (e : ServerEvent) → Runs e → Needs s → Mirrors d s → Good d (event_answer s now e)
 tables d s now e ok n h =
-    either (Good d) (fits s (carried_out s now (ruling s e)).records) (carried_out s now (ruling s e)) (carried_out s now (ruling_without_room (ruling s e)))
+    either (Good d) (fits s (carried_out s now (ruling s e)).records) (carried_out s now (ruling s e))
+    (carried_out s now (ruling_without_room (ruling s e)))
     (λ _. carried d s now (ruling s e) (rules s e ok) n h)
     (λ _. carried d s now (ruling_without_room (ruling s e)) (rules_without_room s e ok) n h)
 
@@ -67,13 +73,17 @@ pub record Due (s : Server) (o : ℕ) : Type 0 where
   pub stands : s.standing o ≡ true
   pub persistent : (s.opened o).persistent ≡ true
 
-found_due : (deadline : ℕ → Option ℕ) (os : List ℕ) (now o : ℕ) → due_in deadline os now ≡ Some o → has o os ≡ true × is_past now (deadline o) ≡ true
+found_due : (deadline : ℕ → Option ℕ) (os : List ℕ) (now o : ℕ) → due_in deadline os now ≡ Some o → has o os ≡ true
+    × is_past now (deadline o) ≡ true
 unfolding due_in
 found_due deadline [] now o e = absurd (cc)
 found_due deadline (x ∷ xs) now o e =
     let rest = found_due deadline xs now o in
-    elim (is_past now (deadline x)) as (λ b. is_past now (deadline x) ≡ b → (if b then Some x else due_in deadline xs now) ≡ Some o → has o (x ∷ xs) ≡ true × is_past now (deadline o) ≡ true) [
-      | true ↦ λ p q. let same = some_same x o q in subst (λ y. has y (x ∷ xs) ≡ true × is_past now (deadline y) ≡ true) same (at_head x xs, p)
+    elim (is_past now (deadline x)) as (λ b. is_past now (deadline x) ≡ b
+    → (if b then Some x else due_in deadline xs now) ≡ Some o → has o (x ∷ xs) ≡ true × is_past now (deadline o)
+    ≡ true) [
+      | true ↦ λ p q. let same = some_same x o q in subst (λ y. has y (x ∷ xs) ≡ true × is_past now (deadline y) ≡ true)
+          same (at_head x xs, p)
       | false ↦ λ p q. let t = rest q in (in_tail o x xs t.0, t.1)
     ] refl e
   where
@@ -83,17 +93,20 @@ found_due deadline (x ∷ xs) now o e =
 few : (n : ℕ) → nat_le max_expired_guids n ≡ false → nat_lt n max_expired_guids ≡ true
 few n e = grind (arith, nat_tests)
 
-expiring_good : (d s : Server) (now : ℕ) (e : ServerEvent) → Runs e → Needs s → ((o : ℕ) → due s now ≡ Some o → Due s o) → ((o : ℕ) → due s now ≡ Some o → Needs (expire s o)) → Mirrors d s
+expiring_good : (d s : Server) (now : ℕ) (e : ServerEvent) → Runs e → Needs s → ((o : ℕ) → due s now ≡ Some o → Due s o)
+    → ((o : ℕ) → due s now ≡ Some o → Needs (expire s o)) → Mirrors d s
     → (x : Option ℕ) → due s now ≡ x → Good d (expiring s now e x)
 expiring_good d s now e ok n dues behind h None q = tables d s now e ok n h
 expiring_good d s now e ok n dues behind h (Some o) q =
-    let t = expire s o in let front = expire_records s (origin_at (connection_of e)) o in let A = carried_out t now (ruling t e) in let is_due = dues o q in
+    let t = expire s o in let front = expire_records s (origin_at (connection_of e)) o in let A = carried_out t now
+    (ruling t e) in let is_due = dues o q in
     either (Good d) (nat_le max_expired_guids s.expired_count) (event_answer s now e) (behind_expiry s now e front A)
     (λ _. tables d s now e ok n h)
     (λ room. either (Good d) (fits s (front ++ A.records)) (record A { records = front ++ A.records }) (event_answer s now e)
     (λ _. subst (λ x. Mirrors x A.server) (sym (fold_append d front A.records))
     (carried (fold_from d front) t now (ruling t e) (rules t e ok) (behind o q)
-    (expires_recorded d s (origin_at (connection_of e)) o (leaver s o n is_due.stands) is_due.persistent (few s.expired_count room) n.listed h)))
+    (expires_recorded d s (origin_at (connection_of e)) o (leaver s o n is_due.stands) is_due.persistent
+    (few s.expired_count room) n.listed h)))
     (λ _. tables d s now e ok n h))
 
 -- ---- the whole step
@@ -112,7 +125,9 @@ needs_dated s now n = record {
   root_stays = n.root_stays;
 }
 
-by_deadline : (now : ℕ) (stands : Bool) (at : Option ℕ) (row : Open) (deadline : Option ℕ) → ((d : ℕ) → deadline ≡ Some d → at ≡ None) → is_past now (first_deadline now stands at row deadline) ≡ true → at ≡ None
+by_deadline : (now : ℕ) (stands : Bool) (at : Option ℕ) (row : Open) (deadline : Option ℕ)
+    → ((d : ℕ) → deadline ≡ Some d → at ≡ None) → is_past now (first_deadline now stands at row deadline) ≡ true → at
+    ≡ None
 by_deadline now stands None row deadline h e = refl
 by_deadline now true (Some x) row None h e = absurd (cc)
 by_deadline now false (Some x) row None h e = absurd (cc)
@@ -126,14 +141,17 @@ kept_by : (persistent : Bool) (at : Option ℕ) → at ≡ None → (persistent 
 kept_by true at e h = refl
 kept_by false at e h = absurd (cc (h refl, ap is_some e))
 
-due_is : (s : Server) (now o : ℕ) → Listed s → Deadlines s → PlainAttached s → due (with_deadlines s now) now ≡ Some o → Due (with_deadlines s now) o
+due_is : (s : Server) (now o : ℕ) → Listed s → Deadlines s → PlainAttached s → due (with_deadlines s now) now ≡ Some o
+    → Due (with_deadlines s now) o
 due_is s now o listed deadlines plain e =
     let t = found_due (with_deadlines s now).deadline s.opens now o e in
     let stands = sym (listed o) ∙ t.0 in
     let none = no_session s now o deadlines t.1 in
     record { stands = stands; persistent = kept_by (s.opened o).persistent (s.session_of_open o) none (plain o stands) }
 
-pub steps : (d s : Server) (now : ℕ) (e : ServerEvent) → Runs e → Needs s → Deadlines s → PlainAttached s → ((o : ℕ) → due (with_deadlines s now) now ≡ Some o → Needs (expire (with_deadlines s now) o)) → Mirrors d s → Good d (step s now e)
+pub steps : (d s : Server) (now : ℕ) (e : ServerEvent) → Runs e → Needs s → Deadlines s → PlainAttached s
+    → ((o : ℕ) → due (with_deadlines s now) now ≡ Some o → Needs (expire (with_deadlines s now) o)) → Mirrors d s
+    → Good d (step s now e)
 steps d s now e ok n deadlines plain behind h =
     let t = with_deadlines s now in
     expiring_good d t now e ok (needs_dated s now n) (λ o. due_is s now o n.listed deadlines plain) behind h (due t now) refl

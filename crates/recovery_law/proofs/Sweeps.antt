@@ -31,7 +31,8 @@ apart_of es f g e q = cc (exists_cut es f, subst (λ x. exists_in (without_file 
 left_gone : (s u : Server) (f : ℕ) → Left s u → Left s (without_gone u f)
 left_gone s u f h =
     either (λ x. Left s x) (goes u f) (remove_file u f) u
-    (λ _ g e. let n = apart_of u.entries f g e in let old = h g (sym (exists_rest u.entries f g n) ∙ e) in (old.0, path_rest u.entries f g n ∙ old.1))
+    (λ _ g e. let n = apart_of u.entries f g e in let old = h g (sym (exists_rest u.entries f g n) ∙ e) in
+    (old.0, path_rest u.entries f g n ∙ old.1))
     (λ _. h)
 
 left_swept : (s u : Server) (es : List Entry) → Left s u → Left s (sweep u es)
@@ -40,7 +41,11 @@ left_swept s u [] h = h
 left_swept s u (e ∷ es) h = left_swept s (without_gone u e.file) es (left_gone s u e.file h)
 
 left_epoch : (s u : Server) (number : ℕ) → Left s u → Left s (begin_epoch u number)
-left_epoch s u number h = either (λ x. Left s x) (number == u.epoch + 1) (record (sweep u u.entries) { epoch = number; open_ids_given = 0; session_ids_given = 0 }) u (λ _. left_swept s u u.entries h) (λ _. h)
+left_epoch s u number h = either (λ x. Left s x) (number == u.epoch + 1) (record (sweep u u.entries) {
+  epoch = number;
+  open_ids_given = 0;
+  session_ids_given = 0;
+}) u (λ _. left_swept s u u.entries h) (λ _. h)
 
 left_version : (s u : Server) (number : ℕ) → Left s u → Left s (set_version u number)
 left_version s u number h = either (λ x. Left s x) ((number == 2) && (u.version == 1)) (record u { version = 2 }) u (λ _. h) (λ _. h)
@@ -49,7 +54,8 @@ pub left_behind : (d s : Server) → Left d (fold_from d (opening_records s))
 unfolding fold_from
 left_behind d s =
     let all : Left d d = λ g e. (e, refl) in
-    either (λ rs. Left d (fold_from d rs)) (s.version == 1) (VersionRecord 2 ∷ EpochRecord (s.epoch + 1) ∷ []) (EpochRecord (s.epoch + 1) ∷ [])
+    either (λ rs. Left d (fold_from d rs)) (s.version == 1) (VersionRecord 2 ∷ EpochRecord (s.epoch + 1) ∷ [])
+    (EpochRecord (s.epoch + 1) ∷ [])
     (λ _. left_epoch d (set_version d 2) (s.epoch + 1) (left_version d d 2 all))
     (λ _. left_epoch d d (s.epoch + 1) all)
 
@@ -76,7 +82,8 @@ held_gone : (s u : Server) (f g : ℕ) → Held s u g → Held s (without_gone u
 unfolding file_has_open
 held_gone s u f g h =
     either (λ x. Held s x g) (goes u f) (remove_file u f) u
-    (λ q. let n : g ≢ f = λ t. clash (goes u g) (never_goes u g h.still) (subst (λ x. goes u x ≡ true) (sym t) q) in record { there = exists_rest u.entries f g n ∙ h.there; still = h.still })
+    (λ q. let n : g ≢ f = λ t. clash (goes u g) (never_goes u g h.still) (subst (λ x. goes u x ≡ true) (sym t) q) in
+    record { there = exists_rest u.entries f g n ∙ h.there; still = h.still })
     (λ _. h)
 
 held_swept : (s u : Server) (es : List Entry) (g : ℕ) → Held s u g → Held s (sweep u es) g
@@ -88,16 +95,22 @@ held_epoch : (s u : Server) (number g : ℕ) → Held s u g → Held s (begin_ep
 unfolding file_has_open
 held_epoch s u number g h =
     let t = held_swept s u u.entries g h in
-    either (λ x. Held s x g) (number == u.epoch + 1) (record (sweep u u.entries) { epoch = number; open_ids_given = 0; session_ids_given = 0 }) u (λ _. record { there = t.there; still = t.still }) (λ _. h)
+    either (λ x. Held s x g) (number == u.epoch + 1) (record (sweep u u.entries) {
+      epoch = number;
+      open_ids_given = 0;
+      session_ids_given = 0;
+    }) u (λ _. record { there = t.there; still = t.still }) (λ _. h)
 
 held_version : (s u : Server) (number g : ℕ) → Held s u g → Held s (set_version u number) g
 unfolding file_has_open
-held_version s u number g h = either (λ x. Held s x g) ((number == 2) && (u.version == 1)) (record u { version = 2 }) u (λ _. record { there = h.there; still = h.still }) (λ _. h)
+held_version s u number g h = either (λ x. Held s x g) ((number == 2) && (u.version == 1)) (record u { version = 2 }) u
+    (λ _. record { there = h.there; still = h.still }) (λ _. h)
 
 pub held_behind : (d s : Server) (g : ℕ) → Stays d g → exists_in (fold_from d (opening_records s)).entries g ≡ exists_in d.entries g
 unfolding fold_from
 held_behind d s g stays =
     let all : Held d d g = record { there = refl; still = stays } in
-    (either (λ rs. Held d (fold_from d rs) g) (s.version == 1) (VersionRecord 2 ∷ EpochRecord (s.epoch + 1) ∷ []) (EpochRecord (s.epoch + 1) ∷ [])
+    (either (λ rs. Held d (fold_from d rs) g) (s.version == 1) (VersionRecord 2 ∷ EpochRecord (s.epoch + 1) ∷ [])
+    (EpochRecord (s.epoch + 1) ∷ [])
     (λ _. held_epoch d (set_version d 2) (s.epoch + 1) g (held_version d d 2 g all))
     (λ _. held_epoch d d (s.epoch + 1) g all)).there

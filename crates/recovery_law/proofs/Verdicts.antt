@@ -1,6 +1,7 @@
 -- Each verdict of the checks: what its records fold to stands for what its effect leaves.
 use Rattle.std.proofs.lemmas.Bool.{eqb-false}
-use Rattle.std.proofs.Common.{◌≡◌, ◌≢◌, ℕ, Bool, true, false, ◌||◌, if◌then◌else◌, List, [], ◌∷◌, refl, sym, ◌∙◌, ap, Option, Some, None, is_some}
+use Rattle.std.proofs.Common.{◌≡◌, ◌≢◌, ℕ, Bool, true, false, ◌||◌, if◌then◌else◌, List, [], ◌∷◌, refl, sym, ◌∙◌, ap}
+use Rattle.std.proofs.Common.{Option, Some, None, is_some}
 use Rattle.exchange_defs.specs.Table.{put}
 use Rattle.exchange_defs.specs.Status.{success}
 use Rattle.exchange_defs.specs.Commands.{Element, Lock, all_lock, all_unlock, form, deletes_on_close}
@@ -10,8 +11,12 @@ use Rattle.exchange_defs.specs.Opens.{leave_open, leave_records}
 use Rattle.exchange_defs.specs.Ranges.{Stands, change_ranges}
 use Rattle.exchange_defs.specs.CheckOpen.{is_late, file_of}
 use Rattle.exchange_defs.specs.Records.{origin_of}
-use Rattle.exchange_defs.specs.Verdict.{Verdict, Refuse, Give, KeepRefusal, Repeat, Attach, Make, TurnDown, Tell, Show, KeepSlot, PutRanges, Alter, CloseOpen, Challenge, ChallengeBinding, Begin, Join, EndSession, AddTree, DropTree, Change, PutBytes, PutEnd, PutBasic, PutDeletePending, PutPath, PutNothing}
-use Rattle.exchange_defs.specs.Effects.{apply, reach, attach, attached, keep_slot, set_ranges, lock_records, change_file, change_records, keep_closed}
+use Rattle.exchange_defs.specs.Verdict.{Verdict, Refuse, Give, KeepRefusal, Repeat, Attach, Make, TurnDown, Tell, Show}
+use Rattle.exchange_defs.specs.Verdict.{KeepSlot, PutRanges, Alter, CloseOpen, Challenge, ChallengeBinding, Begin, Join}
+use Rattle.exchange_defs.specs.Verdict.{EndSession, AddTree, DropTree, Change, PutBytes, PutEnd, PutBasic}
+use Rattle.exchange_defs.specs.Verdict.{PutDeletePending, PutPath, PutNothing}
+use Rattle.exchange_defs.specs.Effects.{apply, reach, attach, attached, keep_slot, set_ranges, lock_records}
+use Rattle.exchange_defs.specs.Effects.{change_file, change_records, keep_closed}
 use Rattle.exchange_defs.specs.Fold.{fold_from}
 use Rattle.server_law.specs.Fits.{Listed, Ascending, GuidOpen, OpenGuid, OpenIds, RangeOwners, OpenFiles}
 use Rattle.server_law.proofs.Logic.{either}
@@ -58,12 +63,16 @@ unfolding fold_from
 nothing_owed d s h = h
 
 reached : (d s : Server) (m : Message) (o : ℕ) → Mirrors d s → Mirrors (fold_from d []) (reach s m o)
-reached d s m o h = either (λ x. Mirrors (fold_from d []) x) (is_late s m o) s (record s { sequence = put s.sequence o m.channel_sequence }) (λ _. nothing_owed d s h) (λ _. nothing_owed d s h)
+reached d s m o h = either (λ x. Mirrors (fold_from d []) x) (is_late s m o) s (record s {
+  sequence = put s.sequence o m.channel_sequence;
+}) (λ _. nothing_owed d s h) (λ _. nothing_owed d s h)
 
 attaches : (d s : Server) (m : Message) (o : ℕ) → Mirrors d s → Mirrors (fold_from d []) (attached s m o)
-attaches d s m o h = either (λ x. Mirrors (fold_from d []) x) (is_some (s.session_of_open o)) s (attach s m o) (λ _. nothing_owed d s h) (λ _. nothing_owed d s h)
+attaches d s m o h = either (λ x. Mirrors (fold_from d []) x) (is_some (s.session_of_open o)) s (attach s m o)
+    (λ _. nothing_owed d s h) (λ _. nothing_owed d s h)
 
-shows : (d s : Server) (m : Message) (o : ℕ) (last : Option (List ℕ)) → Mirrors d s → Mirrors (fold_from d []) (record (reach s m o) { enumeration_location = put s.enumeration_location o last })
+shows : (d s : Server) (m : Message) (o : ℕ) (last : Option (List ℕ)) → Mirrors d s → Mirrors (fold_from d [])
+    (record (reach s m o) { enumeration_location = put s.enumeration_location o last })
 shows d s m o last h = reached d s m o h
 
 -- ---- locks
@@ -79,7 +88,8 @@ kind_of (x ∷ xs) f = formed_by (all_lock (x ∷ xs) || all_unlock (x ∷ xs)) 
 lock_kind : (s : Server) (m : Message) (o index number : ℕ) (es : List Element) → LockFacts s m o index number es → LockKind es
 lock_kind s m o index number es f = kind_of es (ap form (sym f.command) ∙ f.opened.tree.session.formed)
 
-keeps : (d s : Server) (m : Message) (o index number status : ℕ) (es : List Element) → s.standing o ≡ true → LockKind es → status ≢ success → Mirrors d s
+keeps : (d s : Server) (m : Message) (o index number status : ℕ) (es : List Element) → s.standing o ≡ true → LockKind es
+    → status ≢ success → Mirrors d s
     → Mirrors (fold_from d (lock_records s m o index number status es)) (keep_slot (reach s m o) o index number status)
 unfolding lock_records
 keeps d s m o index number status es stands kind denied h =
@@ -88,18 +98,22 @@ keeps d s m o index number status es stands kind denied h =
     (λ _. slot_kept d s m o index number status es stands kind denied h)
     (λ _. slot_kept d t m o index number status es stands kind denied h)
 
-puts : (d s : Server) (m : Message) (o index number : ℕ) (out : List Range) (es : List Element) → s.standing o ≡ true → LockKind es → change_ranges (s.ranges (file_of s o)) o es ≡ Stands out → Mirrors d s
-    → Mirrors (fold_from d (lock_records s m o index number success es)) (keep_slot (set_ranges (reach s m o) (file_of s o) out) o index number success)
+puts : (d s : Server) (m : Message) (o index number : ℕ) (out : List Range) (es : List Element) → s.standing o ≡ true
+    → LockKind es → change_ranges (s.ranges (file_of s o)) o es ≡ Stands out → Mirrors d s
+    → Mirrors (fold_from d (lock_records s m o index number success es))
+    (keep_slot (set_ranges (reach s m o) (file_of s o) out) o index number success)
 unfolding lock_records
 puts d s m o index number out es stands kind grants h =
     let t = record s { sequence = put s.sequence o m.channel_sequence } in
-    either (λ x. Mirrors (fold_from d (lock_records s m o index number success es)) (keep_slot (set_ranges x (file_of s o) out) o index number success)) (is_late s m o) s t
+    either (λ x. Mirrors (fold_from d (lock_records s m o index number success es))
+    (keep_slot (set_ranges x (file_of s o) out) o index number success)) (is_late s m o) s t
     (λ _. ranges_put d s m o index number out es stands kind grants h)
     (λ _. ranges_put d t m o index number out es stands kind grants h)
 
 -- ---- writes and set-infos
 
-sequence_aside : (e s : Server) (q : ℕ → ℕ) (f now : ℕ) (c : Change) → Mirrors e (change_file s f now c) → Mirrors e (change_file (record s { sequence = q }) f now c)
+sequence_aside : (e s : Server) (q : ℕ → ℕ) (f now : ℕ) (c : Change) → Mirrors e (change_file s f now c)
+    → Mirrors e (change_file (record s { sequence = q }) f now c)
 unfolding path_of
 sequence_aside e s q f now (PutBytes at bytes) h = h
 sequence_aside e s q f now (PutEnd size) h = h
@@ -113,7 +127,9 @@ alters : (d s : Server) (m : Message) (o now : ℕ) (c : Change) (body : Body) �
 alters d s m o now c body facts n h =
     let f = file_of s o in
     let done = changes d s m f now c (n.open_files o facts.opened.standing) (allowed s m o c body facts) n.root_stays n.listed h in
-    either (λ x. Mirrors (fold_from d (change_records m f now c)) (change_file x f now c)) (is_late s m o) s (record s { sequence = put s.sequence o m.channel_sequence })
+    either (λ x. Mirrors (fold_from d (change_records m f now c)) (change_file x f now c)) (is_late s m o) s (record s {
+      sequence = put s.sequence o m.channel_sequence;
+    })
     (λ _. done)
     (λ _. sequence_aside (fold_from d (change_records m f now c)) s (put s.sequence o m.channel_sequence) f now c done)
 
@@ -136,12 +152,14 @@ good d s m now (TurnDown o status) f n h = reached d s m o h
 good d s m now (Tell o body) f n h = reached d s m o h
 good d s m now (Show o last body) f n h = shows d s m o last h
 good d s m now (KeepSlot o index number status elements) f n h =
-    keeps d s m o index number status elements f.lock.opened.standing (lock_kind s m o index number elements f.lock) (eqb-false status success f.refused) h
+    keeps d s m o index number status elements f.lock.opened.standing (lock_kind s m o index number elements f.lock)
+    (eqb-false status success f.refused) h
 good d s m now (PutRanges o index number ranges elements) f n h =
     puts d s m o index number ranges elements f.lock.opened.standing (lock_kind s m o index number elements f.lock) f.granted h
 good d s m now (Alter o change body) f n h = alters d s m o now change body f n h
 good d s m now (CloseOpen o body) f n h =
-    closed_aside (fold_from d (leave_records s (origin_of m) o)) (leave_open s o) m.session_id (s.opened o).create_guid (leaves_recorded d s (origin_of m) o (leaver s o n f.opened.standing) n.listed h)
+    closed_aside (fold_from d (leave_records s (origin_of m) o)) (leave_open s o) m.session_id (s.opened o).create_guid
+    (leaves_recorded d s (origin_of m) o (leaver s o n f.opened.standing) n.listed h)
 good d s m now Challenge f n h = nothing_owed d s h
 good d s m now (ChallengeBinding session) f n h = nothing_owed d s h
 good d s m now (Begin session user previous r is_quiet) f n h = ends_if_named d s (origin_of m) previous now is_quiet (ender s n) h

@@ -1,13 +1,21 @@
 -- Each event of the world, and each run: the records stand for the server.
 use Rattle.std.proofs.Common.{◌≡◌, ℕ, Bool, true, false, List, [], ◌∷◌, ◌++◌, refl, arith, sym, subst, ◌∙◌, ap}
-use Rattle.exchange_defs.specs.Commands.{Command, Aside, Unreadable, Setup, Logoff, TreeConnect, TreeDisconnect, Create, Close, Flush, Read, Write, Lock, Ioctl, ListDirectory, QueryFile, QueryVolume, SetInfo}
+use Rattle.exchange_defs.specs.Commands.{Command, Aside, Unreadable, Setup, Logoff, TreeConnect, TreeDisconnect, Create}
+use Rattle.exchange_defs.specs.Commands.{Close, Flush, Read, Write, Lock, Ioctl, ListDirectory, QueryFile, QueryVolume}
+use Rattle.exchange_defs.specs.Commands.{SetInfo}
 use Rattle.exchange_defs.specs.State.{Server, Message, ServerEvent, Accept, Heard, End, Record, Reply}
 use Rattle.exchange_defs.specs.Step.{step, with_deadlines}
 use Rattle.exchange_defs.specs.Fold.{nothing_yet, persistent_in, fold, fold_from, StandsFor}
-use Rattle.exchange_defs.specs.ClientStep.{Act, Nothing, CloseChannels, Sends, Asks, AllSettled, Pushes, IsCut, Hears, act, client_after, CloseChannel, IsReady}
+use Rattle.exchange_defs.specs.ClientStep.{Act, Nothing, CloseChannels, Sends, Asks, AllSettled, Pushes, IsCut, Hears}
+use Rattle.exchange_defs.specs.ClientStep.{act, client_after, CloseChannel, IsReady}
 use Rattle.exchange_defs.specs.Client.{Client, leave_dialog}
 use Rattle.exchange_defs.specs.Dialogs.{DialogStep, GoesOn, Accepts, Binds, Readies, Refuses, dialog_step}
-use Rattle.exchange_defs.specs.Network.{World, Event, Submit, Open, Push, Serve, Take, Cut, Drop, Restart, Crash, Wait, Finish, Sent, Received, Token, ForDialog, ForOp, ForAttach, Settings, start, blank_server, run, happens, changed, is_possible, moments, later, answer_to, serve_front, absorb_front, pushed_by, take_reply, took_by, dialog_took, closed_by, cut_by, restarted, crashed, behind_reply, with_client, one_cut, may_serve}
+use Rattle.exchange_defs.specs.Network.{World, Event, Submit, Open, Push, Serve, Take, Cut, Drop, Restart, Crash, Wait}
+use Rattle.exchange_defs.specs.Network.{Finish, Sent, Received, Token, ForDialog, ForOp, ForAttach, Settings, start}
+use Rattle.exchange_defs.specs.Network.{blank_server, run, happens, changed, is_possible, moments, later, answer_to}
+use Rattle.exchange_defs.specs.Network.{serve_front, absorb_front, pushed_by, take_reply, took_by, dialog_took}
+use Rattle.exchange_defs.specs.Network.{closed_by, cut_by, restarted, crashed, behind_reply, with_client, one_cut}
+use Rattle.exchange_defs.specs.Network.{may_serve}
 use Rattle.server_law.specs.Fits.{Fits, Listed}
 use Rattle.server_law.proofs.Logic.{either}
 use Rattle.server_law.proofs.SessionEffects.{deadlines_keeps}
@@ -34,10 +42,12 @@ needs s i =
 
 -- ---- the server's step
 
-pub stepped : (rs : List Record) (s : Server) (now : ℕ) (e : ServerEvent) → Runs e → Fits s → Recovers rs s → Recovers (rs ++ (step s now e).records) (step s now e).server
+pub stepped : (rs : List Record) (s : Server) (now : ℕ) (e : ServerEvent) → Runs e → Fits s → Recovers rs s
+    → Recovers (rs ++ (step s now e).records) (step s now e).server
 stepped rs s now e ok i h =
     subst (λ (x : Server). Mirrors x (step s now e).server) (sym (fold_append nothing_yet rs (step s now e).records))
-    (steps (fold rs) s now e ok (needs s i) i.deadlines i.plain_attached (λ o d. needs _ (expired_keeps (with_deadlines s now) now o d (deadlines_keeps s now i))) h)
+    (steps (fold rs) s now e ok (needs s i) i.deadlines i.plain_attached
+    (λ o d. needs _ (expired_keeps (with_deadlines s now) now o d (deadlines_keeps s now i))) h)
 
 abbrev Kept : World → Type 0
 Kept w = Recovers w.records w.server
@@ -45,7 +55,8 @@ Kept w = Recovers w.records w.server
 nothing_more : (rs : List Record) (s : Server) → Recovers rs s → Recovers (rs ++ []) s
 nothing_more rs s h = subst (λ (x : Server). Mirrors x s) (sym (fold_append nothing_yet rs [])) (nothing_owed (fold rs) s h)
 
-answers : (rs : List Record) (s : Server) (now : ℕ) (m : Message) (c : Command) → Fits s → Recovers rs s → Recovers (rs ++ (answer_to s now m c).records) (answer_to s now m c).server
+answers : (rs : List Record) (s : Server) (now : ℕ) (m : Message) (c : Command) → Fits s → Recovers rs s
+    → Recovers (rs ++ (answer_to s now m c).records) (answer_to s now m c).server
 answers rs s now m (Aside status) i h = nothing_more rs s h
 answers rs s now m (Unreadable status) i h = stepped rs s now (Heard m) tt i h
 answers rs s now m (Setup request) i h = stepped rs s now (Heard m) tt i h
@@ -124,12 +135,14 @@ takes w k (y ∷ rest) h = tokens (behind_reply w k rest) k y.reply y.place y.to
 restarts_world : (w : World) → Listed w.server → Kept w → Kept (restarted w)
 restarts_world w l h = restarts w.server w.records l h
 
-crashes : (w : World) (k : ℕ) (kept : Bool) → Fits w.server → Listed (absorb_front w k (w.conns k).up).server → Kept w → Kept (crashed w k kept)
+crashes : (w : World) (k : ℕ) (kept : Bool) → Fits w.server → Listed (absorb_front w k (w.conns k).up).server → Kept w
+    → Kept (crashed w k kept)
 crashes w k true i l h = restarts_world (absorb_front w k (w.conns k).up) l (absorbs w k (w.conns k).up i h)
 crashes w k false i l h = restarts_world w i.listed h
 
 -- the state behind an absorbed front is that behind a serve
-absorbed_fits : (w : World) (k : ℕ) → may_serve w k ≡ true → Fits (happens w (Serve k)).server → Fits (absorb_front w k (w.conns k).up).server
+absorbed_fits : (w : World) (k : ℕ) → may_serve w k ≡ true → Fits (happens w (Serve k)).server
+    → Fits (absorb_front w k (w.conns k).up).server
 absorbed_fits w k may i =
     let e : happens w (Serve k) ≡ later (serve_front w k (w.conns k).up) 1 = rw may refl in
     subst Fits (ap (λ (v : World). v.server) e ∙ same_server w k (w.conns k).up) i
@@ -145,7 +158,9 @@ keeps w e i next h = either (λ v. Kept v) (is_possible w e) (later (changed w e
     by (Push k slotless pick) may = pushes w k (client_after w.client (Pushes k slotless pick)) (act w.client (Pushes k slotless pick)) h
     by (Serve k) may = serves w k (w.conns k).up i h
     by (Take k) may = takes w k (w.conns k).down h
-    by (Cut k) may = either (λ v. Kept v) (w.client.ready k) (with_client (cut_by w k (act w.client (IsCut k))) (client_after w.client (IsCut k))) (one_cut (with_client w (leave_dialog w.client k)) k) (λ _. cuts w k (act w.client (IsCut k)) h) (λ _. h)
+    by (Cut k) may = either (λ v. Kept v) (w.client.ready k) (with_client (cut_by w k (act w.client (IsCut k)))
+        (client_after w.client (IsCut k))) (one_cut (with_client w (leave_dialog w.client k)) k)
+        (λ _. cuts w k (act w.client (IsCut k)) h) (λ _. h)
     by (Drop k) may = stepped w.records w.server w.moment (End k) tt i h
     by Restart may = restarts_world w i.listed h
     by (Crash k kept) may = crashes w k kept i (absorbed_fits w k may (next (Serve k))).listed h
@@ -169,14 +184,30 @@ fine_next w e f = λ more. f (e ∷ more)
 pub always : (es : List Event) (w : World) → Fine w → Kept w → Kept (run es w)
 unfolding run
 always [] w f h = h
-always (e ∷ es) w f h = always es (happens w e) (fine_next w e f) (keeps w e (fine_now w f) (λ x. fine_now (happens w x) (fine_next w x f)) h)
+always (e ∷ es) w f h = always es (happens w e) (fine_next w e f)
+    (keeps w e (fine_now w f) (λ x. fine_now (happens w x) (fine_next w x f)) h)
 
 blank_mirrors : (z : Settings) → Recovers [] (blank_server z)
 unfolding fold_from persistent_in kept_ranges
 blank_mirrors z = (
   record { entries = refl; next_file = refl; directory = refl; delete_pending = refl; basic = refl; content = refl },
-  record { opens = refl; standing = λ o. refl; opened = λ o e. refl; lock_sequences = λ o i e. refl; by_guid = λ c g. refl; ranges = λ f. refl },
-  record { version = refl; epoch = refl; open_ids_given = omega arith; full = refl; room = omega arith; expired_guids = refl; expired_count = refl },
+  record {
+    opens = refl;
+    standing = λ o. refl;
+    opened = λ o e. refl;
+    lock_sequences = λ o i e. refl;
+    by_guid = λ c g. refl;
+    ranges = λ f. refl;
+  },
+  record {
+    version = refl;
+    epoch = refl;
+    open_ids_given = omega arith;
+    full = refl;
+    room = omega arith;
+    expired_guids = refl;
+    expired_count = refl;
+  },
 )
 
 pub begins : (z : Settings) → Kept (start z)

@@ -19,7 +19,9 @@ kept_ranges p [] = []
 kept_ranges p (r ∷ rs) = if p r.owner then r ∷ kept_ranges p rs else kept_ranges p rs
 
 -- the files, all of them
-pub record FilesAgree (fold_entries its_entries : List Entry) (fold_next its_next : ℕ) (fold_directory its_directory fold_pending its_pending : ℕ → Bool) (fold_basic its_basic : ℕ → Basic) (fold_content its_content : ℕ → List ℕ) : Type 0 where
+pub record FilesAgree (fold_entries its_entries : List Entry) (fold_next its_next : ℕ)
+    (fold_directory its_directory fold_pending its_pending : ℕ → Bool) (fold_basic its_basic : ℕ → Basic)
+    (fold_content its_content : ℕ → List ℕ) : Type 0 where
   pub entries : fold_entries ≡ its_entries
   pub next_file : fold_next ≡ its_next
   pub directory : fold_directory ≡ its_directory
@@ -28,7 +30,9 @@ pub record FilesAgree (fold_entries its_entries : List Entry) (fold_next its_nex
   pub content : fold_content ≡ its_content
 
 -- the persistent opens alone, with their rows, slots, guids and ranges
-pub record OpensAgree (fold_opens its_opens : List ℕ) (fold_standing its_standing : ℕ → Bool) (fold_opened its_opened : ℕ → Open) (fold_slots its_slots : ℕ → ℕ → Option Kept) (fold_guids its_guids : ℕ → ℕ → Option ℕ) (fold_ranges its_ranges : ℕ → List Range) : Type 0 where
+pub record OpensAgree (fold_opens its_opens : List ℕ) (fold_standing its_standing : ℕ → Bool)
+    (fold_opened its_opened : ℕ → Open) (fold_slots its_slots : ℕ → ℕ → Option Kept) (fold_guids its_guids : ℕ → ℕ
+    → Option ℕ) (fold_ranges its_ranges : ℕ → List Range) : Type 0 where
   pub opens : fold_opens ≡ persistent_in its_opened its_opens
   pub standing : (o : ℕ) → fold_standing o ≡ staying its_standing its_opened o
   pub opened : (o : ℕ) → staying its_standing its_opened o ≡ true → fold_opened o ≡ its_opened o
@@ -37,7 +41,8 @@ pub record OpensAgree (fold_opens its_opens : List ℕ) (fold_standing its_stand
   pub ranges : (f : ℕ) → fold_ranges f ≡ kept_ranges (staying its_standing its_opened) (its_ranges f)
 
 -- the numbers; the fold gives no more ids than the server gave, and its room is the whole
-pub record CountsAgree (fold_version its_version fold_epoch its_epoch fold_given its_given fold_room its_room : ℕ) (fold_expired its_expired : ℕ → ℕ → Bool) (fold_count its_count : ℕ) : Type 0 where
+pub record CountsAgree (fold_version its_version fold_epoch its_epoch fold_given its_given fold_room its_room : ℕ)
+    (fold_expired its_expired : ℕ → ℕ → Bool) (fold_count its_count : ℕ) : Type 0 where
   pub version : fold_version ≡ its_version
   pub epoch : fold_epoch ≡ its_epoch
   pub open_ids_given : fold_given ≤ its_given
@@ -48,15 +53,18 @@ pub record CountsAgree (fold_version its_version fold_epoch its_epoch fold_given
 
 -- the columns of files, of the fold d and of the server s
 abbrev pub Files : Server → Server → Type 0
-Files d s = FilesAgree d.entries s.entries d.next_file s.next_file d.directory s.directory d.delete_pending s.delete_pending d.basic s.basic d.content s.content
+Files d s = FilesAgree d.entries s.entries d.next_file s.next_file d.directory s.directory d.delete_pending
+    s.delete_pending d.basic s.basic d.content s.content
 
 -- those of opens
 abbrev pub Opens : Server → Server → Type 0
-Opens d s = OpensAgree d.opens s.opens d.standing s.standing d.opened s.opened d.lock_sequences s.lock_sequences d.by_guid s.by_guid d.ranges s.ranges
+Opens d s = OpensAgree d.opens s.opens d.standing s.standing d.opened s.opened d.lock_sequences s.lock_sequences
+    d.by_guid s.by_guid d.ranges s.ranges
 
 -- those of counts
 abbrev pub Counts : Server → Server → Type 0
-Counts d s = CountsAgree d.version s.version d.epoch s.epoch d.open_ids_given s.open_ids_given d.room s.room d.expired_guids s.expired_guids d.expired_count s.expired_count
+Counts d s = CountsAgree d.version s.version d.epoch s.epoch d.open_ids_given s.open_ids_given d.room s.room
+    d.expired_guids s.expired_guids d.expired_count s.expired_count
 
 -- the first state, a fold's, stands for the second
 abbrev pub Mirrors : Server → Server → Type 0

@@ -6,7 +6,9 @@ use Rattle.exchange_defs.specs.Fold.{persistent_in}
 use Rattle.recovery_law.specs.Recovers.{staying, kept_ranges, kept_guid}
 
 -- the columns of sessions and connections, and those of opens that no record keeps
-pub record NoSessions (at : ℕ → Option ℕ) (sequence : ℕ → ℕ) (deadline : ℕ → Option ℕ) (listed : ℕ → Option (List ℕ)) (present : ℕ → Bool) (sessions : ℕ) (trees : ℕ → List Tree) (closed : ℕ → ℕ → Bool) (refused : ℕ → ℕ → Option ℕ) (guids : ℕ → ℕ) (connections : List ℕ) (on : ℕ → Option ℕ) (making : ℕ → Option Making) : Type 0 where
+pub record NoSessions (at : ℕ → Option ℕ) (sequence : ℕ → ℕ) (deadline : ℕ → Option ℕ) (listed : ℕ → Option (List ℕ))
+    (present : ℕ → Bool) (sessions : ℕ) (trees : ℕ → List Tree) (closed : ℕ → ℕ → Bool) (refused : ℕ → ℕ → Option ℕ)
+    (guids : ℕ → ℕ) (connections : List ℕ) (on : ℕ → Option ℕ) (making : ℕ → Option Making) : Type 0 where
   pub apart : (o : ℕ) → at o ≡ None
   pub unreached : (o : ℕ) → sequence o ≡ 0
   pub undated : (o : ℕ) → deadline o ≡ None
@@ -23,7 +25,8 @@ pub record NoSessions (at : ℕ → Option ℕ) (sequence : ℕ → ℕ) (deadli
 
 -- a server without sessions, trees and connections
 abbrev pub Bare : Server → Type 0
-Bare s = NoSessions s.session_of_open s.sequence s.deadline s.enumeration_location s.present s.sessions s.trees s.closed s.refused s.guids s.connections s.session_on s.making
+Bare s = NoSessions s.session_of_open s.sequence s.deadline s.enumeration_location s.present s.sessions s.trees s.closed
+    s.refused s.guids s.connections s.session_on s.making
 
 -- u stands where s stood before the restart
 pub record Restarted (s u : Server) : Type 0 where

@@ -5,22 +5,27 @@ use Rattle.exchange_defs.specs.State.{Server, Range}
 use Rattle.exchange_defs.specs.Files.{exists}
 use Rattle.exchange_defs.specs.Opens.{with_guid, drop_open}
 use Rattle.exchange_defs.specs.Ranges.{without_owner}
-use Rattle.server_law.specs.Fits.{Fits, Attached, PlainAttached, GuidOpen, OpenGuid, PersistentGuid, Deadlines, Listed, Ascending, OpenIds, RangeOwners, OpenFiles}
+use Rattle.server_law.specs.Fits.{Fits, Attached, PlainAttached, GuidOpen, OpenGuid, PersistentGuid, Deadlines, Listed}
+use Rattle.server_law.specs.Fits.{Ascending, OpenIds, RangeOwners, OpenFiles}
 use Rattle.server_law.proofs.Lists.{has-without, ascending-without, without_owner-from}
 
-dropped_guid : (s : Server) (o c g p : ℕ) → GuidOpen s → (u : Option ℕ) → (s.opened o).create_guid ≡ u → with_guid s.by_guid (s.opened o).client_guid u None c g ≡ Some p
+dropped_guid : (s : Server) (o c g p : ℕ) → GuidOpen s → (u : Option ℕ) → (s.opened o).create_guid ≡ u
+    → with_guid s.by_guid (s.opened o).client_guid u None c g ≡ Some p
     → put s.standing o false p ≡ true × (s.opened p).client_guid ≡ c × (s.opened p).create_guid ≡ Some g
 dropped_guid s o c g p old None e = let was = old c g p in grind arith
 dropped_guid s o c g p old (Some h) e = let was = old c g p in grind arith
 
-dropped_open : (s : Server) (o p g : ℕ) → s.standing o ≡ true → OpenGuid s → (u : Option ℕ) → (s.opened o).create_guid ≡ u → put s.standing o false p ≡ true → (s.opened p).create_guid ≡ Some g
+dropped_open : (s : Server) (o p g : ℕ) → s.standing o ≡ true → OpenGuid s → (u : Option ℕ) → (s.opened o).create_guid
+    ≡ u → put s.standing o false p ≡ true → (s.opened p).create_guid ≡ Some g
     → with_guid s.by_guid (s.opened o).client_guid u None (s.opened p).client_guid g ≡ Some p
 dropped_open s o p g stands old None e = let was = old p g in grind arith
 dropped_open s o p g stands old (Some h) e = let was = old p g in let own = old o h stands e in grind arith
 
 dropped_range : (s : Server) (o y n : ℕ) (r : Range) → RangeOwners s → (b : Bool) → (y == (s.opened o).file) ≡ b
-    → slice_get (if b then without_owner o (s.ranges (s.opened o).file) else s.ranges y) n ≡ Some r → put s.standing o false r.owner ≡ true × (s.opened r.owner).file ≡ y
-dropped_range s o y n r old true e h = let f = without_owner-from o (s.ranges (s.opened o).file) n r h in let was = old (s.opened o).file f.1.0 r f.1.1 in let same = eqb-true y (s.opened o).file e in grind arith
+    → slice_get (if b then without_owner o (s.ranges (s.opened o).file) else s.ranges y) n ≡ Some r
+    → put s.standing o false r.owner ≡ true × (s.opened r.owner).file ≡ y
+dropped_range s o y n r old true e h = let f = without_owner-from o (s.ranges (s.opened o).file) n r h in let was =
+    old (s.opened o).file f.1.0 r f.1.1 in let same = eqb-true y (s.opened o).file e in grind arith
 dropped_range s o y n r old false e h = let was = old y n r h in grind arith
 
 drop_open_attached : (s : Server) (o : ℕ) → (s.standing o ≡ true) → Attached s → Attached (drop_open s o)

@@ -1,17 +1,27 @@
 -- What the checks found, for each verdict: what stood in the state and in the message when it was given.
-use Rattle.std.specs.Prelude.{◌≡◌, ◌⊎◌, ℕ, ◌+◌, ◌==◌, ◌≤◌, ◌<◌, nat_le, Bool, true, false, not, ◌&&◌, List, length, Option, Some, None, is_some}
+use Rattle.std.specs.Prelude.{◌≡◌, ◌⊎◌, ℕ, ◌+◌, ◌==◌, ◌≤◌, ◌<◌, nat_le, Bool, true, false, not, ◌&&◌, List, length}
+use Rattle.std.specs.Prelude.{Option, Some, None, is_some}
 use Rattle.exchange_defs.specs.Status.{success}
 use Rattle.exchange_defs.specs.Texts.{is_path, is_below, same_name}
 use Rattle.exchange_defs.specs.Content.{is_empty}
-use Rattle.exchange_defs.specs.Commands.{Setup, Logoff, TreeConnect, TreeDisconnect, Create, Close, Write, Lock, SetInfo, Setting, SetBasic, Rename, SetDelete, SetAllocation, SetEnd, CreateRequest, Durable, Reconnect, SetupRequest, Logon, Element, deletes_on_close, form}
+use Rattle.exchange_defs.specs.Commands.{Setup, Logoff, TreeConnect, TreeDisconnect, Create, Close, Write, Lock}
+use Rattle.exchange_defs.specs.Commands.{SetInfo, Setting, SetBasic, Rename, SetDelete, SetAllocation, SetEnd}
+use Rattle.exchange_defs.specs.Commands.{CreateRequest, Durable, Reconnect, SetupRequest, Logon, Element}
+use Rattle.exchange_defs.specs.Commands.{deletes_on_close, form}
 use Rattle.exchange_defs.specs.State.{Server, Message, NewSession, Range, Body, Empty, Count}
 use Rattle.exchange_defs.specs.Files.{root, find, path_of, exists, is_directory, has_parent, passes_room, set_basic, allocated}
 use Rattle.exchange_defs.specs.Ranges.{change_ranges, Stands, may_write}
 use Rattle.exchange_defs.specs.Opens.{deletes, mapped, max_ids}
-use Rattle.exchange_defs.specs.CheckCreate.{keeps_guid, max_guids, max_opens, max_files, last_file, action_of, shares, makes_missing, empties, has_guid}
-use Rattle.exchange_defs.specs.CheckOpen.{is_late, file_of, has_access, is_slot, kept_status, bytes_change, allocation_change, target_of, target_refused, delete_names, open_below, is_repeated}
+use Rattle.exchange_defs.specs.CheckCreate.{keeps_guid, max_guids, max_opens, max_files, last_file, action_of, shares}
+use Rattle.exchange_defs.specs.CheckCreate.{makes_missing, empties, has_guid}
+use Rattle.exchange_defs.specs.CheckOpen.{is_late, file_of, has_access, is_slot, kept_status, bytes_change}
+use Rattle.exchange_defs.specs.CheckOpen.{allocation_change, target_of, target_refused, delete_names, open_below}
+use Rattle.exchange_defs.specs.CheckOpen.{is_repeated}
 use Rattle.exchange_defs.specs.CheckSetup.{tree_in, is_binding, previous_of}
-use Rattle.exchange_defs.specs.Verdict.{Verdict, Refuse, Give, KeepRefusal, Repeat, Attach, Make, TurnDown, Tell, Show, KeepSlot, PutRanges, Alter, CloseOpen, Challenge, ChallengeBinding, Begin, Join, EndSession, AddTree, DropTree, Change, PutEnd, PutBasic, PutDeletePending, PutPath}
+use Rattle.exchange_defs.specs.Verdict.{Verdict, Refuse, Give, KeepRefusal, Repeat, Attach, Make, TurnDown, Tell, Show}
+use Rattle.exchange_defs.specs.Verdict.{KeepSlot, PutRanges, Alter, CloseOpen, Challenge, ChallengeBinding, Begin, Join}
+use Rattle.exchange_defs.specs.Verdict.{EndSession, AddTree, DropTree, Change, PutEnd, PutBasic, PutDeletePending}
+use Rattle.exchange_defs.specs.Verdict.{PutPath}
 
 -- a request of a live session on its own connection, signed as owed and well formed
 pub record SessionFacts (s : Server) (m : Message) : Type 0 where
@@ -91,7 +101,8 @@ pub record RepeatFacts (s : Server) (m : Message) (o : ℕ) (r : CreateRequest) 
   pub kept : r.durable ≡ Some durable
   pub named : s.by_guid m.client_guid durable.guid ≡ Some o
   pub replay : m.replay ≡ true
-  pub whose : (s.session_of_open o ≡ Some m.session_id) ⊎ (s.session_of_open o ≡ None × (s.opened o).persistent ≡ true × same_name (s.opened o).user (s.user m.session_id) ≡ true)
+  pub whose : (s.session_of_open o ≡ Some m.session_id) ⊎ (s.session_of_open o ≡ None × (s.opened o).persistent ≡ true
+      × same_name (s.opened o).user (s.user m.session_id) ≡ true)
 
 pub record AttachFacts (s : Server) (m : Message) (o : ℕ) (r : CreateRequest) : Type 0 where
   pub reconnect : Reconnect

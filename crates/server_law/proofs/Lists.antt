@@ -1,11 +1,15 @@
 -- The lists beside the tables: opens, ranges, files and trees, behind what adds to them or takes from them.
-use Rattle.std.proofs.Common.{◌≡◌, ◌⊎◌, inl, inr, ℕ, ◌+◌, ◌==◌, nat_lt, Bool, true, false, not, ◌&&◌, ◌||◌, if◌then◌else◌, List, [], ◌∷◌, ◌++◌, length, refl, arith, sym, subst, Option, Some, None, slice_get, zero, suc}
+use Rattle.std.proofs.Common.{◌≡◌, ◌⊎◌, inl, inr, ℕ, ◌+◌, ◌==◌, nat_lt, Bool, true, false, not, ◌&&◌, ◌||◌}
+use Rattle.std.proofs.Common.{if◌then◌else◌, List, [], ◌∷◌, ◌++◌, length, refl, arith, sym, subst, Option, Some, None}
+use Rattle.std.proofs.Common.{slice_get, zero, suc}
 use Rattle.std.proofs.lemmas.Bool.Decides.{nat_tests}
 use Rattle.exchange_defs.specs.Table.{has, without, placed_in, is_filled}
 use Rattle.exchange_defs.specs.Commands.{Element, all_lock}
 use Rattle.exchange_defs.specs.State.{Server, Entry, Open, Range, Tree}
 use Rattle.exchange_defs.specs.Files.{exists_in, without_file, moved_entry, moved_entries}
-use Rattle.exchange_defs.specs.Ranges.{RangeAnswer, Stands, ranges_of, is_denied, any_wraps, count_owned, max_ranges, add_ranges, is_equal_range, prepended, take_range, take_ranges, stands_or, lock_ranges, unlock_ranges, change_ranges, without_owner}
+use Rattle.exchange_defs.specs.Ranges.{RangeAnswer, Stands, ranges_of, is_denied, any_wraps, count_owned, max_ranges}
+use Rattle.exchange_defs.specs.Ranges.{add_ranges, is_equal_range, prepended, take_range, take_ranges, stands_or}
+use Rattle.exchange_defs.specs.Ranges.{lock_ranges, unlock_ranges, change_ranges, without_owner}
 use Rattle.exchange_defs.specs.Opens.{opens_in}
 use Rattle.exchange_defs.specs.Effects.{leaves, plain_in, staying_in, ranges_staying, without_tree}
 use Rattle.exchange_defs.specs.Step.{due_in}
@@ -42,13 +46,16 @@ above-less : (n m : ℕ) (xs : List ℕ) → nat_lt n m ≡ true → above m xs 
 unfolding above
 above-less n m [] l h = refl
 above-less n m (x ∷ xs) l h =
-    let old = above-less n m xs l (back_of (nat_lt m x) (above m xs) h) in let front = front_of (nat_lt m x) (above m xs) h in let step : nat_lt n x ≡ true = grind (arith, nat_tests) in both (nat_lt n x) (above n xs) step old
+    let old = above-less n m xs l (back_of (nat_lt m x) (above m xs) h) in let front = front_of (nat_lt m x)
+    (above m xs) h in let step : nat_lt n x ≡ true = grind (arith, nat_tests) in both (nat_lt n x) (above n xs) step
+    old
 
 ascending-above : (x : ℕ) (xs : List ℕ) → is_ascending (x ∷ xs) ≡ true → above x xs ≡ true
 unfolding is_ascending above
 ascending-above x [] h = refl
 ascending-above x (y ∷ ys) h =
-    let l = front_of (nat_lt x y) (is_ascending (y ∷ ys)) h in both (nat_lt x y) (above x ys) l (above-less x y ys l (ascending-above y ys (back_of (nat_lt x y) (is_ascending (y ∷ ys)) h)))
+    let l = front_of (nat_lt x y) (is_ascending (y ∷ ys)) h in both (nat_lt x y) (above x ys) l
+    (above-less x y ys l (ascending-above y ys (back_of (nat_lt x y) (is_ascending (y ∷ ys)) h)))
 
 ascending-rest : (x : ℕ) (xs : List ℕ) → is_ascending (x ∷ xs) ≡ true → is_ascending xs ≡ true
 unfolding is_ascending
@@ -69,7 +76,8 @@ pub ascending-without : (o : ℕ) (os : List ℕ) → is_ascending os ≡ true �
 ascending-without o [] h = h
 ascending-without o (x ∷ xs) h =
     let old = ascending-without o xs (ascending-rest x xs h) in
-    either (λ ys. is_ascending ys ≡ true) (x == o) _ _ (λ _. old) (λ _. ascending-front x (without o xs) (above-without x o xs (ascending-above x xs h)) old)
+    either (λ ys. is_ascending ys ≡ true) (x == o) _ _ (λ _. old)
+    (λ _. ascending-front x (without o xs) (above-without x o xs (ascending-above x xs h)) old)
 
 above-staying : (s : Server) (session n : ℕ) (os : List ℕ) → above n os ≡ true → above n (staying_in s session os) ≡ true
 unfolding above staying_in
@@ -81,7 +89,8 @@ unfolding staying_in
 ascending-staying s session [] h = h
 ascending-staying s session (x ∷ xs) h =
     let old = ascending-staying s session xs (ascending-rest x xs h) in
-    either (λ ys. is_ascending ys ≡ true) (leaves s session x) _ _ (λ _. old) (λ _. ascending-front x (staying_in s session xs) (above-staying s session x xs (ascending-above x xs h)) old)
+    either (λ ys. is_ascending ys ≡ true) (leaves s session x) _ _ (λ _. old)
+    (λ _. ascending-front x (staying_in s session xs) (above-staying s session x xs (ascending-above x xs h)) old)
 
 above-placed : (n o : ℕ) (os : List ℕ) → nat_lt n o ≡ true → above n os ≡ true → above n (placed_in o os) ≡ true
 unfolding above
@@ -94,11 +103,13 @@ ascending-placed o [] h f = refl
 ascending-placed o (x ∷ xs) h f =
     either (λ ys. is_ascending ys ≡ true) (nat_lt o x) _ _ (λ l. both (nat_lt o x) (is_ascending (x ∷ xs)) l h)
     (λ l. let g : nat_lt x o ≡ true = grind (arith, nat_tests) in let away : has o xs ≡ false = grind arith in
-    ascending-front x (placed_in o xs) (above-placed x o xs g (ascending-above x xs h)) (ascending-placed o xs (ascending-rest x xs h) away))
+    ascending-front x (placed_in o xs) (above-placed x o xs g (ascending-above x xs h))
+    (ascending-placed o xs (ascending-rest x xs h) away))
 
 -- ---- the opens of a file, and those that are due
 
-pub none-open : (opened : ℕ → Open) (os : List ℕ) (f p : ℕ) → is_filled (opens_in opened os f) ≡ false → has p os ≡ true → ((opened p).file == f) ≡ false
+pub none-open : (opened : ℕ → Open) (os : List ℕ) (f p : ℕ) → is_filled (opens_in opened os f) ≡ false → has p os ≡ true
+    → ((opened p).file == f) ≡ false
 unfolding opens_in is_filled
 none-open opened [] f p e h = absurd (cc)
 none-open opened (x ∷ xs) f p e h = let old = none-open opened xs f p in grind arith
@@ -130,7 +141,8 @@ from_none Q xs = λ n x h. absurd (cc)
 from_rest : {X : Type 0} (Q : X → Type 0) (y : X) (ys xs : List X) → From Q ys xs → From Q ys (y ∷ xs)
 from_rest Q y ys xs f = λ n x h. let old = f n x h in (old.0, among-rest y xs x old.1)
 
-from_front : {X : Type 0} (Q : X → Type 0) (y : X) (ys xs : List X) → Q y → From Q ys xs → (n : ℕ) (x : X) → slice_get (y ∷ ys) n ≡ Some x → Q x × Among (y ∷ xs) x
+from_front : {X : Type 0} (Q : X → Type 0) (y : X) (ys xs : List X) → Q y → From Q ys xs → (n : ℕ) (x : X)
+    → slice_get (y ∷ ys) n ≡ Some x → Q x × Among (y ∷ xs) x
 from_front Q y ys xs q f zero x h = (subst Q (some_same y x h) q, (zero, h))
 from_front Q y ys xs q f (suc n) x h = let old = f n x h in (old.0, among-rest y xs x old.1)
 
@@ -202,7 +214,8 @@ within_front : (y : Range) (ys xs : List Range) → Within ys xs → (n : ℕ) (
 within_front y ys xs f zero r h = (zero, h)
 within_front y ys xs f (suc n) r h = among-rest y xs r (f n r h)
 
-prepended-some : (r : Range) (u : Option (List Range)) (ys : List Range) → prepended r u ≡ Some ys → (zs : List Range) × (u ≡ Some zs) × (r ∷ zs ≡ ys)
+prepended-some : (r : Range) (u : Option (List Range)) (ys : List Range) → prepended r u ≡ Some ys → (zs : List Range)
+    × (u ≡ Some zs) × (r ∷ zs ≡ ys)
 unfolding prepended
 prepended-some r None ys e = absurd (cc)
 prepended-some r (Some zs) ys e = (zs, refl, some_same (r ∷ zs) ys e)
@@ -216,7 +229,8 @@ take_range-within (x ∷ xs) w ys =
     (λ _ e. let p = prepended-some x (take_range xs w) ys e in
     subst (λ zs. Within zs (x ∷ xs)) p.2 (within_front x p.0 xs (take_range-within xs w p.0 p.1)))
 
-take_ranges-within : (rs0 : List Range) (u : Option (List Range)) (ws ys : List Range) → ((rs : List Range) → u ≡ Some rs → Within rs rs0) → take_ranges u ws ≡ Some ys → Within ys rs0
+take_ranges-within : (rs0 : List Range) (u : Option (List Range)) (ws ys : List Range)
+    → ((rs : List Range) → u ≡ Some rs → Within rs rs0) → take_ranges u ws ≡ Some ys → Within ys rs0
 unfolding take_ranges
 take_ranges-within rs0 None [] ys f e = absurd (cc)
 take_ranges-within rs0 None (w ∷ ws) ys f e = absurd (cc)
@@ -230,7 +244,8 @@ stands_or-some bad None ys e = absurd (cc)
 stands_or-some bad (Some zs) ys e = cc
 
 -- what stands behind a LOCK request stood before it or is this open's
-pub change_ranges-beside : (rs : List Range) (o : ℕ) (es : List Element) (ys : List Range) → change_ranges rs o es ≡ Stands ys → Beside o ys rs
+pub change_ranges-beside : (rs : List Range) (o : ℕ) (es : List Element) (ys : List Range) → change_ranges rs o es
+    ≡ Stands ys → Beside o ys rs
 unfolding change_ranges lock_ranges unlock_ranges
 change_ranges-beside rs o es ys =
     let R = λ (A : RangeAnswer). A ≡ Stands ys → Beside o ys rs in let ws = ranges_of o es in
@@ -239,7 +254,9 @@ change_ranges-beside rs o es ys =
     (λ _. either R (any_wraps ws) _ _ (λ _ e. absurd (cc))
     (λ _ e. add_ranges-beside o rs rs ws ys (ranges_of-owner o es) (beside_all o rs) (stands_or-some _ (add_ranges rs ws) ys e))))
     (λ _. either R (any_wraps ws) _ _ (λ _ e. absurd (cc))
-    (λ _ e n r h. inr (take_ranges-within rs (Some rs) ws ys (λ zs q m x k. (m, subst (λ v. slice_get v m ≡ Some x) (sym (some_same rs zs q)) k)) (stands_or-some _ (take_ranges (Some rs) ws) ys e) n r h)))
+    (λ _ e n r h. inr (take_ranges-within rs (Some rs) ws ys
+    (λ zs q m x k. (m, subst (λ v. slice_get v m ≡ Some x) (sym (some_same rs zs q)) k))
+    (stands_or-some _ (take_ranges (Some rs) ws) ys e) n r h)))
 
 -- ---- files
 

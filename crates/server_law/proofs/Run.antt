@@ -1,13 +1,19 @@
 -- Each event keeps what fits together of the server, and so does each run.
 use Rattle.std.proofs.Common.{◌≡◌, ℕ, ◌≤◌, min, Bool, true, false, List, [], ◌∷◌, ◌++◌, arith}
-use Rattle.exchange_defs.specs.Commands.{Command, Unreadable, Aside, Setup, Logoff, TreeConnect, TreeDisconnect, Create, Close, Flush, Read, Write, Lock, Ioctl, ListDirectory, QueryFile, QueryVolume, SetInfo}
+use Rattle.exchange_defs.specs.Commands.{Command, Unreadable, Aside, Setup, Logoff, TreeConnect, TreeDisconnect, Create}
+use Rattle.exchange_defs.specs.Commands.{Close, Flush, Read, Write, Lock, Ioctl, ListDirectory, QueryFile, QueryVolume}
+use Rattle.exchange_defs.specs.Commands.{SetInfo}
 use Rattle.exchange_defs.specs.State.{Server, Message, Accept, Heard, End, Answer, Reply}
 use Rattle.exchange_defs.specs.Fold.{recovery_records, full_room, fold}
 use Rattle.exchange_defs.specs.Step.{step}
 use Rattle.exchange_defs.specs.Client.{Client}
 use Rattle.exchange_defs.specs.ClientStep.{Act, Nothing, Sends, Asks, CloseChannels, AllSettled, CloseChannel, IsReady, act}
 use Rattle.exchange_defs.specs.Dialogs.{DialogStep, GoesOn, Accepts, Binds, Readies, Refuses, dialog_step}
-use Rattle.exchange_defs.specs.Network.{World, Event, Submit, Open, Push, Serve, Take, Cut, Drop, Restart, Crash, Wait, Finish, Sent, Received, Token, ForDialog, ForOp, ForAttach, happens, run, start, Settings, blank_server, changed, is_possible, pushed_by, answer, answer_to, serve_front, absorb_front, crashed, restarted, take_reply, behind_reply, took_by, dialog_took, closed_by, cut_by, cut_off}
+use Rattle.exchange_defs.specs.Network.{World, Event, Submit, Open, Push, Serve, Take, Cut, Drop, Restart, Crash, Wait}
+use Rattle.exchange_defs.specs.Network.{Finish, Sent, Received, Token, ForDialog, ForOp, ForAttach, happens, run, start}
+use Rattle.exchange_defs.specs.Network.{Settings, blank_server, changed, is_possible, pushed_by, answer, answer_to}
+use Rattle.exchange_defs.specs.Network.{serve_front, absorb_front, crashed, restarted, take_reply, behind_reply}
+use Rattle.exchange_defs.specs.Network.{took_by, dialog_took, closed_by, cut_by, cut_off}
 use Rattle.server_law.specs.Fits.{Fits, all_sound}
 use Rattle.server_law.proofs.Logic.{either}
 use Rattle.server_law.proofs.Folded.{sound_more, sound_none, sound_recovery, recovered_fits}
@@ -52,7 +58,11 @@ serves w k (x ∷ rest) i = with_good w (answer w x) i.1 (answered w.server w.mo
 -- ---- Restart and Crash
 
 restarts : (w : World) → ServerFits w → ServerFits (restarted w)
-restarts w i = (recovered_fits w.server w.records i.0.room i.1, sound_more w.records (recovery_records w.records) i.1 (sound_recovery (fold w.records)))
+restarts w i = (
+  recovered_fits w.server w.records i.0.room i.1,
+  sound_more w.records (recovery_records w.records) i.1
+      (sound_recovery (fold w.records)),
+)
 
 crashes : (w : World) (k : ℕ) (kept : Bool) → ServerFits w → ServerFits (crashed w k kept)
 crashes w k true i = restarts (absorb_front w k (w.conns k).up) (absorbs w k (w.conns k).up i)

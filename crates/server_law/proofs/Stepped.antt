@@ -2,7 +2,9 @@
 use Rattle.std.proofs.Common.{◌≡◌, inl, inr, ℕ, ◌+◌, Bool, true, nat_le, List, [], ◌∷◌, ◌++◌, length, sym, subst}
 use Rattle.exchange_defs.specs.State.{Server, ServerEvent, Accept, Heard, End, Stop, Record, Answer}
 use Rattle.exchange_defs.specs.Records.{entry_bytes, origin_at}
-use Rattle.exchange_defs.specs.Step.{step, with_deadlines, max_connections, Ruling, Says, TakesIn, TurnsAway, TakesOut, TakesAllOut, ruling, ruling_without_room, carried_out, connection_of, ends_with, take_out, take_all_out}
+use Rattle.exchange_defs.specs.Step.{step, with_deadlines, max_connections, Ruling, Says, TakesIn, TurnsAway, TakesOut}
+use Rattle.exchange_defs.specs.Step.{TakesAllOut, ruling, ruling_without_room, carried_out, connection_of, ends_with}
+use Rattle.exchange_defs.specs.Step.{take_out, take_all_out}
 use Rattle.server_law.specs.Fits.{Fits, all_sound}
 use Rattle.server_law.proofs.Logic.{either}
 use Rattle.server_law.proofs.Doors.{Front, Rules, by_ruling}
@@ -45,7 +47,8 @@ take_out_keeps s k now is_quiet i = forget_keeps _ k (end_if_named_keeps s now (
 take_all_out_keeps : (s : Server) (ks : List ℕ) (now : ℕ) (is_quiet : Bool) → Fits s → Fits (take_all_out s ks now is_quiet)
 unfolding take_all_out
 take_all_out_keeps s [] now is_quiet i = i
-take_all_out_keeps s (k ∷ ks) now is_quiet i = take_all_out_keeps (take_out s k now is_quiet) ks now is_quiet (take_out_keeps s k now is_quiet i)
+take_all_out_keeps s (k ∷ ks) now is_quiet i = take_all_out_keeps (take_out s k now is_quiet) ks now is_quiet
+    (take_out_keeps s k now is_quiet i)
 
 carried_keeps : (s : Server) (now : ℕ) (r : Ruling) → Fits s → RulingFacts s r → Fits (carried_out s now r).server
 carried_keeps s now (Says m v) i f = applied_keeps s m now v i f
@@ -63,8 +66,12 @@ carried_sound s now (TakesAllOut is_quiet) i f = sound_take_all s s.connections 
 
 -- ---- the step
 
-pub front_fits : (s : Server) (now : ℕ) (e : ServerEvent) (t : Server) (front : List Record) → Front s now e t front → Fits s → Fits t × all_sound front ≡ true
-front_fits s now e t front (inl q) i = (subst (λ u. Fits u) (sym q.0) (deadlines_keeps s now i), subst (λ rs. all_sound rs ≡ true) (sym q.1) sound_none)
+pub front_fits : (s : Server) (now : ℕ) (e : ServerEvent) (t : Server) (front : List Record) → Front s now e t front
+    → Fits s → Fits t × all_sound front ≡ true
+front_fits s now e t front (inl q) i = (
+  subst (λ u. Fits u) (sym q.0) (deadlines_keeps s now i),
+  subst (λ rs. all_sound rs ≡ true) (sym q.1) sound_none,
+)
 front_fits s now e t front (inr q) i = (
   subst (λ u. Fits u) (sym q.2) (expired_keeps (with_deadlines s now) now q.0 q.1 (deadlines_keeps s now i)),
   subst (λ rs. all_sound rs ≡ true) (sym q.3) (sound_expiry (with_deadlines s now) (origin_at (connection_of e)) q.0),
@@ -76,5 +83,7 @@ Good A = Fits A.server × all_sound A.records ≡ true
 pub stepped : (s : Server) (now : ℕ) (e : ServerEvent) → Fits s → Good (step s now e)
 stepped s now e i =
     by_ruling Good s now e
-    (λ t front r at rules. let a = front_fits s now e t front at i in let f = ruling_facts t e r rules in let A = carried_out t now r in
-    (journal_keeps A.server (A.server.journal + entry_bytes (front ++ A.records)) (carried_keeps t now r a.0 f), sound_more front A.records a.1 (carried_sound t now r a.0 f)))
+    (λ t front r at rules. let a = front_fits s now e t front at i in let f = ruling_facts t e r rules in let A = carried_out t now r in (
+      journal_keeps A.server (A.server.journal + entry_bytes (front ++ A.records)) (carried_keeps t now r a.0 f),
+      sound_more front A.records a.1 (carried_sound t now r a.0 f),
+    ))

@@ -4,7 +4,9 @@ use Rattle.exchange_defs.specs.State.{Server}
 use Rattle.exchange_defs.specs.Client.{Client}
 use Rattle.exchange_defs.specs.Network.{Conn, server_off}
 use Rattle.exchange_law.proofs.Lists.{get-push}
-use Rattle.session_law.specs.Sessions.{Sessions, CurrentUp, CurrentDown, RankedUp, FromClient, SequencesUp, WorkUp, DialogUp, LogonUp, FirstUp, SecondUp, TreeConnectUp, AskedFresh, FirstReply, SecondReply, TreeUp, TreeReply}
+use Rattle.session_law.specs.Sessions.{Sessions, CurrentUp, CurrentDown, RankedUp, FromClient, SequencesUp, WorkUp}
+use Rattle.session_law.specs.Sessions.{DialogUp, LogonUp, FirstUp, SecondUp, TreeConnectUp, AskedFresh, FirstReply}
+use Rattle.session_law.specs.Sessions.{SecondReply, TreeUp, TreeReply}
 
 all_server_off_current_up : (c : Client) (conns : ℕ → Conn) (s : Server) → CurrentUp c conns → CurrentUp c (λ q. server_off (conns q))
 all_server_off_current_up c conns s i_current_up =
@@ -46,7 +48,8 @@ all_server_off_second_up : (c : Client) (conns : ℕ → Conn) (s : Server) → 
 all_server_off_second_up c conns s i_second_up =
     λ j n x. let old = i_second_up j n x in grind (arith, get-push)
 
-all_server_off_tree_connect_up : (c : Client) (conns : ℕ → Conn) (s : Server) → TreeConnectUp c conns → TreeConnectUp c (λ q. server_off (conns q))
+all_server_off_tree_connect_up : (c : Client) (conns : ℕ → Conn) (s : Server) → TreeConnectUp c conns
+    → TreeConnectUp c (λ q. server_off (conns q))
 all_server_off_tree_connect_up c conns s i_tree_connect_up =
     λ j n x. let old = i_tree_connect_up j n x in grind (arith, get-push)
 
@@ -54,11 +57,13 @@ all_server_off_asked_fresh : (c : Client) (conns : ℕ → Conn) (s : Server) �
 all_server_off_asked_fresh c conns s i_asked_fresh =
     λ p j n x. let old = i_asked_fresh p j n x in grind (arith, get-push)
 
-all_server_off_first_reply : (c : Client) (conns : ℕ → Conn) (s : Server) → FirstReply c conns s → FirstReply c (λ q. server_off (conns q)) s
+all_server_off_first_reply : (c : Client) (conns : ℕ → Conn) (s : Server) → FirstReply c conns s
+    → FirstReply c (λ q. server_off (conns q)) s
 all_server_off_first_reply c conns s i_first_reply =
     λ j n y. let old = i_first_reply j n y in grind (arith, get-push)
 
-all_server_off_second_reply : (c : Client) (conns : ℕ → Conn) (s : Server) → SecondReply c conns s → SecondReply c (λ q. server_off (conns q)) s
+all_server_off_second_reply : (c : Client) (conns : ℕ → Conn) (s : Server) → SecondReply c conns s
+    → SecondReply c (λ q. server_off (conns q)) s
 all_server_off_second_reply c conns s i_second_reply =
     λ j n y. let old = i_second_reply j n y in grind (arith, get-push)
 

@@ -22,7 +22,9 @@ not_made y s k e h P = absurd (grind arith)
 begins_new : (z : Settings) → Anew z.who.guid (logon_user z.who.logon) 1 (fold (recovery_records []))
 begins_new z = anew z.who.guid (logon_user z.who.logon) (blank_server z) [] (folds_nothing z.who.guid (logon_user z.who.logon))
 
-sits_at_first : (z : Settings) (s : Server) → ((x : ℕ) → s.present x ≡ false) → ((k : ℕ) → s.making k ≡ None) → ((o : ℕ) → s.standing o ≡ true → (s.opened o).user ≡ logon_user z.who.logon × (s.opened o).client_guid ≡ z.who.guid)
+sits_at_first : (z : Settings) (s : Server) → ((x : ℕ) → s.present x ≡ false) → ((k : ℕ) → s.making k ≡ None)
+    → ((o : ℕ) → s.standing o ≡ true → (s.opened o).user ≡ logon_user z.who.logon × (s.opened o).client_guid
+    ≡ z.who.guid)
     → Sessions (new_client z.who) (λ k. no_conn) s
 sits_at_first z s present making opens =
     record {
@@ -78,16 +80,19 @@ behind z es k = subst (λ w. w.server.session_ids_given ≤ max_ids) (run_more e
 pub holds : (z : Settings) (es : List Event) → SessionsHold (run es (start z))
 holds z es =
     on_every_run (λ w a. SessionsHold w) z (begins z)
-    (λ xs e h. let c = connections z xs in keeps (run xs (start z)) e c.once c.ready (bounds_of (run xs (start z)).server (fitting z xs)) (behind z xs) h) es
+    (λ xs e h. let c = connections z xs in keeps (run xs (start z)) e c.once c.ready
+    (bounds_of (run xs (start z)).server (fitting z xs)) (behind z xs) h) es
 
 -- ---- for the laws above: at a world of a run, and one event further
 
 pub sessions : (z : Settings) (es : List Event) → Sessions (run es (start z)).client (run es (start z)).conns (run es (start z)).server
 sessions z es = (holds z es).sits
 
-pub sessions_behind : (z : Settings) (es : List Event) (e : Event) → Sessions (happens (run es (start z)) e).client (happens (run es (start z)) e).conns (happens (run es (start z)) e).server
+pub sessions_behind : (z : Settings) (es : List Event) (e : Event) → Sessions (happens (run es (start z)) e).client
+    (happens (run es (start z)) e).conns (happens (run es (start z)) e).server
 sessions_behind z es e = subst (λ w. Sessions w.client w.conns w.server) (run_more es e (start z)) (sessions z (es ++ e ∷ []))
 
 -- the epoch of the records is the server's, and the opens that they restore are this client's
-pub stored : (z : Settings) (es : List Event) → Folds (run es (start z)).client.who.guid (logon_user (run es (start z)).client.who.logon) (run es (start z)).server.epoch (fold (run es (start z)).records)
+pub stored : (z : Settings) (es : List Event) → Folds (run es (start z)).client.who.guid
+    (logon_user (run es (start z)).client.who.logon) (run es (start z)).server.epoch (fold (run es (start z)).records)
 stored z es = (holds z es).stored

@@ -4,7 +4,8 @@ use Rattle.exchange_defs.specs.State.{Server}
 use Rattle.exchange_defs.specs.Client.{Client, bind_channel}
 use Rattle.exchange_defs.specs.Network.{Conn}
 use Rattle.exchange_law.proofs.Lists.{get-push}
-use Rattle.session_law.specs.Sessions.{Sessions, Making, PendingAccepted, PendingUnranked, FirstUp, SecondUp, TreeConnectUp, AskedFresh, PendingGiven, FirstReply, SecondReply, TreeReply}
+use Rattle.session_law.specs.Sessions.{Sessions, Making, PendingAccepted, PendingUnranked, FirstUp, SecondUp}
+use Rattle.session_law.specs.Sessions.{TreeConnectUp, AskedFresh, PendingGiven, FirstReply, SecondReply, TreeReply}
 
 bound_making : (c : Client) (conns : ℕ → Conn) (s : Server) (k : ℕ) → Making c → Making (bind_channel c k)
 bound_making c conns s k i_making =
@@ -26,7 +27,8 @@ bound_second_up : (c : Client) (conns : ℕ → Conn) (s : Server) (k : ℕ) →
 bound_second_up c conns s k i_second_up =
     λ j n x. let old = i_second_up j n x in grind (arith, get-push)
 
-bound_tree_connect_up : (c : Client) (conns : ℕ → Conn) (s : Server) (k : ℕ) → TreeConnectUp c conns → TreeConnectUp (bind_channel c k) conns
+bound_tree_connect_up : (c : Client) (conns : ℕ → Conn) (s : Server) (k : ℕ) → TreeConnectUp c conns
+    → TreeConnectUp (bind_channel c k) conns
 bound_tree_connect_up c conns s k i_tree_connect_up =
     λ j n x. let old = i_tree_connect_up j n x in grind (arith, get-push)
 

@@ -1,14 +1,25 @@
 -- What the checks' verdicts say of sessions and trees.
-use Rattle.std.proofs.Common.{◌≡◌, ℕ, ◌==◌, Bool, true, false, not, ◌&&◌, ◌||◌, nat_le, List, [], ◌∷◌, refl, arith, sym, subst, ◌∙◌, ap, Option, Some, None, is_some}
-use Rattle.exchange_defs.specs.Status.{success, more_processing_required, insufficient_resources, disk_full, invalid_parameter, user_session_deleted}
+use Rattle.std.proofs.Common.{◌≡◌, ℕ, ◌==◌, Bool, true, false, not, ◌&&◌, ◌||◌, nat_le, List, [], ◌∷◌, refl, arith, sym}
+use Rattle.std.proofs.Common.{subst, ◌∙◌, ap, Option, Some, None, is_some}
+use Rattle.exchange_defs.specs.Status.{success, more_processing_required, insufficient_resources, disk_full}
+use Rattle.exchange_defs.specs.Status.{invalid_parameter, user_session_deleted}
 use Rattle.exchange_defs.specs.Texts.{same_name}
-use Rattle.exchange_defs.specs.Commands.{Command, Unreadable, Aside, Setup, Logoff, TreeConnect, TreeDisconnect, Create, Close, Flush, Read, Write, Lock, Ioctl, ListDirectory, QueryFile, QueryVolume, SetInfo, Element, SetupRequest, CreateRequest, Durable, Shows, Begins, Bad, Refused, Logon, Setting, form, is_setup, no_file}
+use Rattle.exchange_defs.specs.Commands.{Command, Unreadable, Aside, Setup, Logoff, TreeConnect, TreeDisconnect, Create}
+use Rattle.exchange_defs.specs.Commands.{Close, Flush, Read, Write, Lock, Ioctl, ListDirectory, QueryFile, QueryVolume}
+use Rattle.exchange_defs.specs.Commands.{SetInfo, Element, SetupRequest, CreateRequest, Durable, Shows, Begins, Bad}
+use Rattle.exchange_defs.specs.Commands.{Refused, Logon, Setting, form, is_setup, no_file}
 use Rattle.exchange_defs.specs.State.{Server, Message, Named}
 use Rattle.exchange_defs.specs.Opens.{max_ids}
-use Rattle.exchange_defs.specs.Verdict.{Verdict, Refuse, Give, KeepRefusal, Repeat, Attach, Make, TurnDown, Tell, Show, KeepSlot, PutRanges, Alter, CloseOpen, Challenge, ChallengeBinding, Begin, Join, EndSession, AddTree, DropTree}
+use Rattle.exchange_defs.specs.Verdict.{Verdict, Refuse, Give, KeepRefusal, Repeat, Attach, Make, TurnDown, Tell, Show}
+use Rattle.exchange_defs.specs.Verdict.{KeepSlot, PutRanges, Alter, CloseOpen, Challenge, ChallengeBinding, Begin, Join}
+use Rattle.exchange_defs.specs.Verdict.{EndSession, AddTree, DropTree}
 use Rattle.exchange_defs.specs.CheckCreate.{create_check, refused_by}
-use Rattle.exchange_defs.specs.CheckOpen.{close_check, flush_check, read_check, write_check, lock_check, ioctl_check, free_ioctl_check, list_check, file_query_check, volume_query_check, set_check, listing_of}
-use Rattle.exchange_defs.specs.CheckSetup.{session_check, binding_check, second_token, first_token, granted_session, previous_of, setup_check, tree_check, tree_in, is_new, max_sessions, pipes_name, no_tree_left}
+use Rattle.exchange_defs.specs.CheckOpen.{close_check, flush_check, read_check, write_check, lock_check, ioctl_check}
+use Rattle.exchange_defs.specs.CheckOpen.{free_ioctl_check, list_check, file_query_check, volume_query_check, set_check}
+use Rattle.exchange_defs.specs.CheckOpen.{listing_of}
+use Rattle.exchange_defs.specs.CheckSetup.{session_check, binding_check, second_token, first_token, granted_session}
+use Rattle.exchange_defs.specs.CheckSetup.{previous_of, setup_check, tree_check, tree_in, is_new, max_sessions}
+use Rattle.exchange_defs.specs.CheckSetup.{pipes_name, no_tree_left}
 use Rattle.exchange_defs.specs.Check.{check, owed, formed, command_check, with_tree, in_tree, tree_command, on_open, has_session}
 use Rattle.exchange_defs.specs.Step.{without_room}
 use Rattle.server_law.proofs.Logic.{either, at_of, other_on}
@@ -33,7 +44,8 @@ abbrev pub OnFile : Server → Message → Type 0
 OnFile s m = asks m.command ≡ false × s.session_on m.connection ≡ Some m.session_id
 
 abbrev pub Found : Server → Message → Verdict → Type 0
-Found s m (Refuse status) = asks m.command ≡ true → m.fault ≡ None → (status == success) ≡ false × (status == more_processing_required) ≡ false
+Found s m (Refuse status) = asks m.command ≡ true → m.fault ≡ None → (status == success) ≡ false
+    × (status == more_processing_required) ≡ false
 Found s m (Give body) = OnFile s m
 Found s m (KeepRefusal guid status) = OnFile s m
 Found s m (Repeat o r) = OnFile s m
@@ -59,14 +71,26 @@ Found s m DropTree = m.command ≡ TreeDisconnect
 abbrev Asked : Message → SetupRequest → Type 0
 Asked m r = m.command ≡ Setup r × r.binding ≡ false
 
-granted : (s : Server) (m : Message) (r : SetupRequest) (user : List ℕ) → Asked m r → s.present m.session_id ≡ false → is_new m.session_id (s.making m.connection) ≡ true → r.shows ≡ Logon user → Found s m (granted_session s m r user)
+granted : (s : Server) (m : Message) (r : SetupRequest) (user : List ℕ) → Asked m r → s.present m.session_id ≡ false
+    → is_new m.session_id (s.making m.connection) ≡ true → r.shows ≡ Logon user → Found s m (granted_session s m r user)
 granted s m r user q apart made shows =
     let P : Verdict → Type 0 = λ v. Found s m v in
     either P (s.encrypts && (r.cipher == 0)) _ _ (λ _ a f. (refl, refl))
     (λ _. either P (nat_le max_sessions s.sessions) _ _ (λ _ a f. (refl, refl))
-    (λ _. record { command = q.0; unbound = q.1; own = refl; logon = ap is_logon shows; its_user = ap logon_user (sym shows); made = made; apart = apart; before = refl }))
+    (λ _. record {
+      command = q.0;
+      unbound = q.1;
+      own = refl;
+      logon = ap is_logon shows;
+      its_user = ap logon_user (sym shows);
+      made = made;
+      apart = apart;
+      before = refl;
+    }))
 
-second : (s : Server) (m : Message) (r : SetupRequest) → Asked m r → s.present m.session_id ≡ false → is_new m.session_id (s.making m.connection) ≡ true → (shows : Shows) → r.shows ≡ shows → Found s m (second_token s m r shows)
+second : (s : Server) (m : Message) (r : SetupRequest) → Asked m r → s.present m.session_id ≡ false
+    → is_new m.session_id (s.making m.connection) ≡ true → (shows : Shows) → r.shows ≡ shows
+    → Found s m (second_token s m r shows)
 second s m r q apart made Begins e = λ a f. (refl, refl)
 second s m r q apart made Bad e = λ a f. (refl, refl)
 second s m r q apart made Refused e = λ a f. (refl, refl)
@@ -77,7 +101,8 @@ unfolding is_new_setup
 asks_new m r q = ap is_new_setup q.0 ∙ ap not q.1
 
 first : (s : Server) (m : Message) (r : SetupRequest) → Asked m r → (shows : Shows) → Found s m (first_token s shows)
-first s m r q Begins = either (λ v. Found s m v) (nat_le max_ids s.session_ids_given) (Refuse insufficient_resources) Challenge (λ _ a f. (refl, refl)) (λ _. asks_new m r q)
+first s m r q Begins = either (λ v. Found s m v) (nat_le max_ids s.session_ids_given) (Refuse insufficient_resources)
+    Challenge (λ _ a f. (refl, refl)) (λ _. asks_new m r q)
 first s m r q Bad = λ a f. (refl, refl)
 first s m r q Refused = λ a f. (refl, refl)
 first s m r q (Logon user) = λ a f. (refl, refl)
@@ -85,9 +110,11 @@ first s m r q (Logon user) = λ a f. (refl, refl)
 new_session : (s : Server) (m : Message) (r : SetupRequest) → Asked m r → Found s m (session_check s m r)
 new_session s m r q =
     let P : Verdict → Type 0 = λ v. Found s m v in
-    either P (m.session_id == 0) _ _ (λ _. either P (is_some (s.session_on m.connection)) _ _ (λ _ a f. (refl, refl)) (λ _. first s m r q r.shows))
+    either P (m.session_id == 0) _ _ (λ _. either P (is_some (s.session_on m.connection)) _ _ (λ _ a f. (refl, refl))
+    (λ _. first s m r q r.shows))
     (λ _. either P (s.present m.session_id) _ _ (λ _ a f. (refl, refl))
-    (λ apart. either P (is_new m.session_id (s.making m.connection)) _ _ (λ made. second s m r q apart made r.shows refl) (λ _ a f. (refl, refl))))
+    (λ apart. either P (is_new m.session_id (s.making m.connection)) _ _ (λ made. second s m r q apart made r.shows
+    refl) (λ _ a f. (refl, refl))))
 
 -- ---- a further channel
 
@@ -150,7 +177,8 @@ on_file (Alter o change body) = true
 on_file (CloseOpen o body) = true
 on_file _ = false
 
-by_file : (s : Server) (m : Message) → asks m.command ≡ false → s.session_on m.connection ≡ Some m.session_id → (v : Verdict) → on_file v ≡ true → Found s m v
+by_file : (s : Server) (m : Message) → asks m.command ≡ false → s.session_on m.connection ≡ Some m.session_id
+    → (v : Verdict) → on_file v ≡ true → Found s m v
 by_file s m n o (Refuse status) b = λ a f. untold (asks m.command) n a _
 by_file s m n o (Give body) b = (n, o)
 by_file s m n o (KeepRefusal guid status) b = (n, o)
@@ -196,7 +224,8 @@ file_listing o class last [] fit = refl
 file_listing o class last (n ∷ ns) [] = refl
 file_listing o class last (n ∷ ns) (k ∷ ks) = refl
 
-file_list : (s : Server) (o class : ℕ) (restart single : Bool) (pattern : List ℕ) (room : ℕ) → on_file (list_check s o class restart single pattern room) ≡ true
+file_list : (s : Server) (o class : ℕ) (restart single : Bool) (pattern : List ℕ) (room : ℕ)
+    → on_file (list_check s o class restart single pattern room) ≡ true
 file_list s o class restart single pattern room = grind (arith, file_listing)
 
 file_query : (s : Server) (o class room : ℕ) → on_file (file_query_check s o class room) ≡ true
@@ -233,11 +262,13 @@ file_tree s m pipes (Close o query) p = file_open s m o (close_check s o query) 
 file_tree s m pipes (Flush o) p = file_open s m o (flush_check s o) (file_flush s o)
 file_tree s m pipes (Read o at size minimum channel) p = file_open s m o (read_check s o at size minimum) (file_read s o at size minimum)
 file_tree s m pipes (Write o at bytes channel) p = file_open s m o (write_check s m o at bytes) (file_write s m o at bytes)
-file_tree s m pipes (Lock o index number elements) p = file_open s m o (lock_check s o index number elements) (file_lock s o index number elements)
+file_tree s m pipes (Lock o index number elements) p = file_open s m o (lock_check s o index number elements)
+    (file_lock s o index number elements)
 file_tree s m pipes (Ioctl o code room) p =
     either (λ v. on_file v ≡ true) (o == no_file) (free_ioctl_check s code room) (on_open s m o (ioctl_check s m o code room))
     (λ _. file_free_ioctl s code room) (λ _. file_open s m o (ioctl_check s m o code room) (file_ioctl s m o code room))
-file_tree s m pipes (ListDirectory o class restart single pattern room) p = file_open s m o (list_check s o class restart single pattern room) (file_list s o class restart single pattern room)
+file_tree s m pipes (ListDirectory o class restart single pattern room) p =
+    file_open s m o (list_check s o class restart single pattern room) (file_list s o class restart single pattern room)
 file_tree s m pipes (QueryFile o class room) p = file_open s m o (file_query_check s o class room) (file_query s o class room)
 file_tree s m pipes (QueryVolume o class room) p = file_open s m o (volume_query_check s o class room) (file_volume s o class room)
 file_tree s m pipes (SetInfo o setting) p = file_open s m o (set_check s m o setting) (file_set s m o setting)
@@ -247,7 +278,8 @@ file_in_tree : (s : Server) (m : Message) (pipes : Option Bool) → plain m.comm
 file_in_tree s m None p = refl
 file_in_tree s m (Some pipes) p = file_tree s m pipes m.command p
 
-with_a_tree : (s : Server) (m : Message) → plain m.command ≡ true → s.session_on m.connection ≡ Some m.session_id → Found s m (with_tree s m)
+with_a_tree : (s : Server) (m : Message) → plain m.command ≡ true → s.session_on m.connection ≡ Some m.session_id
+    → Found s m (with_tree s m)
 with_a_tree s m p o = by_file s m (plain_asks m.command p) o (with_tree s m) (file_in_tree s m (tree_in (s.trees m.session_id) m.tree_id) p)
 
 not_asks : (m : Message) (c : Command) → asks c ≡ false → m.command ≡ c → (n : Bool) → n ≡ asks m.command → n ≡ false
@@ -265,7 +297,8 @@ refuse_plain : (s : Server) (m : Message) (c : Command) (status : ℕ) → plain
 refuse_plain s m c status p e = λ a f. untold (asks m.command) (ap asks e ∙ plain_asks c p) a _
 
 -- the command, where its session is there or it is a SESSION_SETUP
-of_command : (s : Server) (m : Message) → (is_setup m.command ≡ false → s.session_on m.connection ≡ Some m.session_id) → (c : Command) → m.command ≡ c → Found s m (command_check s m c)
+of_command : (s : Server) (m : Message) → (is_setup m.command ≡ false → s.session_on m.connection ≡ Some m.session_id)
+    → (c : Command) → m.command ≡ c → Found s m (command_check s m c)
 of_command s m o (Unreadable status) e = refuse_plain s m (Unreadable status) status refl e
 of_command s m o (Setup request) e = setups s m request e
 of_command s m o Logoff e = log_off m e
@@ -292,20 +325,24 @@ setup_form (TreeConnect share) status a e = absurd (cc)
 setup_form _ status a e = absurd (cc)
 
 refuse_form : (s : Server) (m : Message) (status : ℕ) → form m.command ≡ Some status → Found s m (Refuse status)
-refuse_form s m status e = λ a f. subst (λ x. (x == success) ≡ false × (x == more_processing_required) ≡ false) (sym (setup_form m.command status a e)) (refl, refl)
+refuse_form s m status e = λ a f. subst (λ x. (x == success) ≡ false × (x == more_processing_required) ≡ false)
+    (sym (setup_form m.command status a e)) (refl, refl)
 
-of_form : (s : Server) (m : Message) → (is_setup m.command ≡ false → s.session_on m.connection ≡ Some m.session_id) → (o : Option ℕ) → form m.command ≡ o → Found s m (formed s m o)
+of_form : (s : Server) (m : Message) → (is_setup m.command ≡ false → s.session_on m.connection ≡ Some m.session_id)
+    → (o : Option ℕ) → form m.command ≡ o → Found s m (formed s m o)
 of_form s m o (Some status) e = refuse_form s m status e
 of_form s m o None e = of_command s m o m.command refl
 
-of_fault : (s : Server) (m : Message) → (is_setup m.command ≡ false → s.session_on m.connection ≡ Some m.session_id) → (o : Option ℕ) → m.fault ≡ o → Found s m (owed s m o)
+of_fault : (s : Server) (m : Message) → (is_setup m.command ≡ false → s.session_on m.connection ≡ Some m.session_id)
+    → (o : Option ℕ) → m.fault ≡ o → Found s m (owed s m o)
 of_fault s m o (Some status) e = λ a f. absurd (cc)
 of_fault s m o None e = of_form s m o (form m.command) refl
 
 pub found : (s : Server) (m : Message) → Found s m (check s m)
 found s m =
     either (λ v. Found s m v) (is_setup m.command || has_session s m) (owed s m m.fault) (Refuse user_session_deleted)
-    (λ e. of_fault s m (λ n. at_of m.session_id (s.session_on m.connection) (other_on (is_setup m.command) (has_session s m) e n)) m.fault refl)
+    (λ e. of_fault s m (λ n. at_of m.session_id (s.session_on m.connection)
+    (other_on (is_setup m.command) (has_session s m) e n)) m.fault refl)
     (λ _ a f. (refl, refl))
 
 -- ---- where the records don't fit

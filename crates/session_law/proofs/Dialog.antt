@@ -1,5 +1,6 @@
 -- What a dialog's response does.
-use Rattle.std.proofs.Common.{eqb-true, ◌≡◌, ◌≢◌, ℕ, ◌≤◌, ◌<◌, ◌==◌, Bool, true, false, refl, arith, sym, ◌∙◌, ap, Some, is_some, Option, None}
+use Rattle.std.proofs.Common.{eqb-true, ◌≡◌, ◌≢◌, ℕ, ◌≤◌, ◌<◌, ◌==◌, Bool, true, false, refl, arith, sym, ◌∙◌, ap, Some}
+use Rattle.std.proofs.Common.{is_some, Option, None}
 use Rattle.exchange_defs.specs.Table.{put}
 use Rattle.exchange_defs.specs.Status.{success, more_processing_required}
 use Rattle.exchange_defs.specs.State.{Server, Reply}
@@ -10,7 +11,8 @@ use Rattle.exchange_defs.specs.Dialogs.{GoesOn, Accepts, Binds, Readies, Refuses
 use Rattle.exchange_defs.specs.Network.{Conn, World, ForDialog, dialog_took, send_up, one_cut, with_client}
 use Rattle.exchange_law.specs.Connections.{copies}
 use Rattle.server_law.proofs.Logic.{either}
-use Rattle.session_law.specs.Sessions.{Sessions, makes_session, is_dialog, is_new_setup, is_tree_connect, logs_on, user_in, previous_in, logon_user}
+use Rattle.session_law.specs.Sessions.{Sessions, makes_session, is_dialog, is_new_setup, is_tree_connect, logs_on}
+use Rattle.session_law.specs.Sessions.{user_in, previous_in, logon_user}
 use Rattle.session_law.proofs.WentOn.{went_on_keeps}
 use Rattle.session_law.proofs.Told.{told_keeps}
 use Rattle.session_law.proofs.Accepted.{accepted_keeps}
@@ -31,7 +33,8 @@ dialog_command c (SaidFirst bound) = refl
 dialog_command c (SaidSecond bound) = refl
 dialog_command c AskedTree = refl
 
-logon_command : (c : Client) (stage : Stage) → logs_on (stage_command c stage) ≡ true → user_in (stage_command c stage) ≡ logon_user c.who.logon
+logon_command : (c : Client) (stage : Stage) → logs_on (stage_command c stage) ≡ true → user_in (stage_command c stage)
+    ≡ logon_user c.who.logon
 unfolding logs_on user_in
 logon_command c Apart e = absurd (cc)
 logon_command c (SaidNegotiate bound) e = absurd (cc)
@@ -44,18 +47,27 @@ unfolding is_new_setup
 first_command c stage e = ap (λ t. is_new_setup (stage_command c t)) e
 
 second_command : (c : Client) (k id : ℕ) (stage : Stage) → stage ≡ SaidSecond false
-    → is_new_setup (stage_command c stage) ≡ true × previous_in (stage_command c stage) ≡ c.accepted × (dialog_message c k id stage).session_id ≡ c.pending
+    → is_new_setup (stage_command c stage) ≡ true × previous_in (stage_command c stage) ≡ c.accepted
+    × (dialog_message c k id stage).session_id ≡ c.pending
 unfolding is_new_setup previous_in
-second_command c k id stage e = (ap (λ t. is_new_setup (stage_command c t)) e, ap (λ t. previous_in (stage_command c t)) e, ap (λ t. (dialog_message c k id t).session_id) e)
+second_command c k id stage e = (
+  ap (λ t. is_new_setup (stage_command c t)) e,
+  ap (λ t. previous_in (stage_command c t))
+      e,
+  ap (λ t. (dialog_message c k id t).session_id) e,
+)
 
-tree_command : (c : Client) (k id : ℕ) (stage : Stage) → stage ≡ AskedTree → is_tree_connect (stage_command c stage) ≡ true × (dialog_message c k id stage).session_id ≡ c.pending
+tree_command : (c : Client) (k id : ℕ) (stage : Stage) → stage ≡ AskedTree → is_tree_connect (stage_command c stage)
+    ≡ true × (dialog_message c k id stage).session_id ≡ c.pending
 unfolding is_tree_connect
 tree_command c k id stage e = (ap (λ t. is_tree_connect (stage_command c t)) e, ap (λ t. (dialog_message c k id t).session_id) e)
 
-sends : (c : Client) (conns : ℕ → Conn) (s : Server) (k id : ℕ) (stage : Stage) → c.stage k ≡ stage → copies 0 (conns k) ≡ 0 → Sessions c conns s → Sessions c (put conns k (send_up (conns k) ForDialog (dialog_message c k id stage) 1)) s
+sends : (c : Client) (conns : ℕ → Conn) (s : Server) (k id : ℕ) (stage : Stage) → c.stage k ≡ stage → copies 0 (conns k)
+    ≡ 0 → Sessions c conns s → Sessions c (put conns k (send_up (conns k) ForDialog (dialog_message c k id stage) 1)) s
 sends c conns s k id stage at none i =
     dialog_sent_keeps c conns s k 1 (dialog_message c k id stage) none refl refl refl refl (dialog_command c stage) (logon_command c stage)
-    (λ e. first_command c stage (sym at ∙ e)) (λ e. second_command c k id stage (sym at ∙ e)) (λ e. tree_command c k id stage (sym at ∙ e)) i
+    (λ e. first_command c stage (sym at ∙ e)) (λ e. second_command c k id stage (sym at ∙ e))
+    (λ e. tree_command c k id stage (sym at ∙ e)) i
 
 put_stage : (f : ℕ → Stage) (k : ℕ) (stage : Stage) → put f k stage k ≡ stage
 put_stage f k stage = grind arith
@@ -79,10 +91,15 @@ not_second : (a : Stage) (b : Bool) → b ≡ true → a ≡ SaidSecond b → a 
 not_second a b t e = λ q. absurd (grind arith)
 
 -- a stage that tells no id and asks for no tree
-went : (w : World) (k : ℕ) (stage : Stage) → copies 0 (w.conns k) ≡ 0 → (makes_session stage ≡ true → w.client.making ≡ Some k) → stage ≢ SaidSecond false → stage ≢ AskedTree → SessionsFit w
-    → Sessions (record w.client { stage = put w.client.stage k stage }) (put w.conns k (send_up (w.conns k) ForDialog (dialog_message (record w.client { stage = put w.client.stage k stage }) k (w.conns k).next_id stage) 1)) w.server
+went : (w : World) (k : ℕ) (stage : Stage) → copies 0 (w.conns k) ≡ 0 → (makes_session stage ≡ true → w.client.making
+    ≡ Some k) → stage ≢ SaidSecond false → stage ≢ AskedTree → SessionsFit w
+    → Sessions (record w.client { stage = put w.client.stage k stage })
+    (put w.conns k (send_up (w.conns k) ForDialog (dialog_message (record w.client {
+      stage = put w.client.stage k stage;
+    }) k (w.conns k).next_id stage) 1)) w.server
 went w k stage none from untold unasked i =
-    sends (record w.client { stage = put w.client.stage k stage }) w.conns w.server k (w.conns k).next_id stage (put_stage w.client.stage k stage) none
+    sends (record w.client { stage = put w.client.stage k stage }) w.conns w.server k (w.conns k).next_id stage
+    (put_stage w.client.stage k stage) none
     (went_on_keeps w.client w.conns w.server k stage none from untold unasked i)
 
 no_first : (b : Bool) → SaidFirst b ≢ SaidSecond false
@@ -99,15 +116,21 @@ bound_tree = λ e. absurd (cc)
 
 -- what is known of the reply
 pub record Tells (w : World) (k : ℕ) (r : Reply) : Type 0 where
-  pub first : w.client.stage k ≡ SaidFirst false → r.status ≡ more_processing_required → w.client.rank r.session_id ≡ 0 × 0 < r.session_id × r.session_id ≤ id_of w.server.epoch w.server.session_ids_given
-  pub second : w.client.stage k ≡ SaidSecond false → r.status ≡ success → (0 < w.client.rank w.client.accepted → w.server.present w.client.accepted ≡ false) × ((j : ℕ) → is_new w.client.pending (w.server.making j) ≡ false)
-  pub tree : w.client.stage k ≡ AskedTree → r.status ≡ success → w.server.present w.client.accepted ≡ true → is_some (tree_in (w.server.trees w.client.accepted) r.tree_id) ≡ true
+  pub first : w.client.stage k ≡ SaidFirst false → r.status ≡ more_processing_required → w.client.rank r.session_id ≡ 0
+      × 0 < r.session_id × r.session_id ≤ id_of w.server.epoch w.server.session_ids_given
+  pub second : w.client.stage k ≡ SaidSecond false → r.status ≡ success
+      → (0 < w.client.rank w.client.accepted → w.server.present w.client.accepted ≡ false)
+      × ((j : ℕ) → is_new w.client.pending (w.server.making j) ≡ false)
+  pub tree : w.client.stage k ≡ AskedTree → r.status ≡ success → w.server.present w.client.accepted ≡ true
+      → is_some (tree_in (w.server.trees w.client.accepted) r.tree_id) ≡ true
 
-pub took_dialog : (w : World) (k : ℕ) (r : Reply) → copies 0 (w.conns k) ≡ 0 → Tells w k r → SessionsFit w → (t : Stage) → w.client.stage k ≡ t → SessionsFit (dialog_took w k r (dialog_step t r.status))
+pub took_dialog : (w : World) (k : ℕ) (r : Reply) → copies 0 (w.conns k) ≡ 0 → Tells w k r → SessionsFit w → (t : Stage)
+    → w.client.stage k ≡ t → SessionsFit (dialog_took w k r (dialog_step t r.status))
 took_dialog w k r none tells i Apart at = turned_down w k r r.status i
 took_dialog w k r none tells i (SaidNegotiate bound) at =
     either (λ d. SessionsFit (dialog_took w k r d)) (r.status == success) (GoesOn (SaidFirst bound)) (Refuses r.status)
-    (λ _. went w k (SaidFirst bound) none (λ m. i.making k (ap makes_session at ∙ m)) (no_first bound) (no_tree bound) i) (λ _. turned_down w k r r.status i)
+    (λ _. went w k (SaidFirst bound) none (λ m. i.making k (ap makes_session at ∙ m)) (no_first bound) (no_tree bound)
+    i) (λ _. turned_down w k r r.status i)
 took_dialog w k r none tells i (SaidFirst true) at =
     either (λ d. SessionsFit (dialog_took w k r d)) (r.status == more_processing_required) (GoesOn (SaidSecond true)) (Refuses r.status)
     (λ _. went w k (SaidSecond true) none (λ m. absurd (cc)) bound_second bound_tree i) (λ _. turned_down w k r r.status i)
@@ -120,7 +143,8 @@ took_dialog w k r none tells i (SaidFirst false) at =
     (λ _. turned_down w k r r.status i)
 took_dialog w k r none tells i (SaidSecond true) at =
     either (λ d. SessionsFit (dialog_took w k r d)) (r.status == success) Binds (Refuses r.status)
-    (λ _. ended_well SessionsFit w k w.client.session w.client.tree (λ live. bound_keeps w.client w.conns w.server k i) (λ dead newer. absurd (omega (arith, newer))) (failed w k i)) (λ _. turned_down w k r r.status i)
+    (λ _. ended_well SessionsFit w k w.client.session w.client.tree (λ live. bound_keeps w.client w.conns w.server k i)
+    (λ dead newer. absurd (omega (arith, newer))) (failed w k i)) (λ _. turned_down w k r r.status i)
 took_dialog w k r none tells i (SaidSecond false) at =
     either (λ d. SessionsFit (dialog_took w k r d)) (r.status == success) Accepts (Refuses r.status)
     (λ e. let u = tells.second at (eqb-true r.status success e) in
@@ -129,6 +153,7 @@ took_dialog w k r none tells i (SaidSecond false) at =
     (λ _. turned_down w k r r.status i)
 took_dialog w k r none tells i AskedTree at =
     either (λ d. SessionsFit (dialog_took w k r d)) (r.status == success) Readies (Refuses r.status)
-    (λ e. ended_well SessionsFit w k w.client.pending r.tree_id (λ live. absurd (not_making w.client.making k (i.live_accepted live).2 (i.making k (ap makes_session at))))
+    (λ e. ended_well SessionsFit w k w.client.pending r.tree_id
+    (λ live. absurd (not_making w.client.making k (i.live_accepted live).2 (i.making k (ap makes_session at))))
     (λ dead newer. readied_keeps w.client w.conns w.server k r none at (tells.tree at (eqb-true r.status success e)) i) (failed w k i))
     (λ _. turned_down w k r r.status i)

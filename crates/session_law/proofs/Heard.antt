@@ -1,7 +1,9 @@
 -- What a message that is answered does to sessions, whatever expired in front of it.
 use Rattle.std.proofs.Common.{◌≡◌, ◌≢◌, ℕ, ◌+◌, Bool, true, false, inl, inr, refl, sym, subst, ◌∙◌, ap, is_some}
 use Rattle.exchange_defs.specs.Texts.{same_name}
-use Rattle.exchange_defs.specs.Commands.{Command, Unreadable, Aside, Setup, Logoff, TreeConnect, TreeDisconnect, Create, Close, Flush, Read, Write, Lock, Ioctl, ListDirectory, QueryFile, QueryVolume, SetInfo}
+use Rattle.exchange_defs.specs.Commands.{Command, Unreadable, Aside, Setup, Logoff, TreeConnect, TreeDisconnect, Create}
+use Rattle.exchange_defs.specs.Commands.{Close, Flush, Read, Write, Lock, Ioctl, ListDirectory, QueryFile, QueryVolume}
+use Rattle.exchange_defs.specs.Commands.{SetInfo}
 use Rattle.exchange_defs.specs.State.{Server, Message, Heard, Answer}
 use Rattle.exchange_defs.specs.CheckSetup.{is_new, tree_in}
 use Rattle.exchange_defs.specs.Opens.{id_of}
@@ -22,7 +24,8 @@ seen_enters s t m A q e =
       logs = e.logs;
       user = e.user;
       made = ap (λ f. is_new m.session_id (f m.connection)) (sym q.making) ∙ e.made;
-      gone = λ p n. e.gone (ap (λ f. f (previous_in m.command)) q.present ∙ p) (ap (λ f. same_name (f (previous_in m.command)) (user_in m.command)) q.user ∙ n);
+      gone = λ p n. e.gone (ap (λ f. f (previous_in m.command)) q.present ∙ p)
+          (ap (λ f. same_name (f (previous_in m.command)) (user_in m.command)) q.user ∙ n);
       unmade = λ j h. let u = e.unmade j h in (ap (λ f. is_new m.session_id (f j)) (sym q.making) ∙ u.0, u.1);
     }
 
@@ -43,7 +46,9 @@ seen_facts s t m A q f =
       present = λ x p n. ap (λ g. g x) (sym q.present) ∙ f.present x p n;
       users = λ x p n. f.users x p n ∙ ap (λ g. g x) q.user;
       enters = λ e. seen_enters s t m A q (f.enters e);
-      making = λ k y e n. ap (λ g. is_new y (g k)) (sym q.making) ∙ f.making k y e (elsewhere f.challenges y (id_of t.epoch (t.session_ids_given + 1)) (id_of s.epoch (s.session_ids_given + 1)) ns n);
+      making = λ k y e n. ap (λ g. is_new y (g k)) (sym q.making)
+          ∙ f.making k y e (elsewhere f.challenges y (id_of t.epoch (t.session_ids_given + 1))
+          (id_of s.epoch (s.session_ids_given + 1)) ns n);
       epoch = f.epoch ∙ q.epoch;
       counted = λ e. let c = f.counted e in (c.0 ∙ ap (λ n. n + 1) q.session_ids_given, c.1 ∙ ns, c.2);
       uncounted = λ e. let c = f.uncounted e in (c.0 ∙ q.session_ids_given, c.1);
@@ -52,15 +57,24 @@ seen_facts s t m A q f =
       interim = f.interim;
       trees = λ x id p a n h. f.trees x id (ap (λ g. g x) q.present ∙ p) a n (ap (λ g. is_some (tree_in (g x) id)) q.trees ∙ h);
       connected = f.connected;
-      opens = λ o e n. q.standing o (f.opens o e (elsewhere f.makes o (id_of t.epoch (t.open_ids_given + 1)) (id_of s.epoch (s.open_ids_given + 1)) no n));
-      rows = λ o n. f.rows o (elsewhere f.makes o (id_of t.epoch (t.open_ids_given + 1)) (id_of s.epoch (s.open_ids_given + 1)) no n) ∙ ap (λ g. g o) q.opened;
-      maker = λ e. let w = f.maker e in
-          (subst (λ i. (A.server.opened i).user ≡ s.user m.session_id) no (w.0 ∙ ap (λ g. g m.session_id) q.user), subst (λ i. (A.server.opened i).client_guid ≡ m.client_guid) no w.1, ap (λ g. g m.connection) (sym q.session_on) ∙ w.2);
+      opens = λ o e n. q.standing o
+          (f.opens o e (elsewhere f.makes o (id_of t.epoch (t.open_ids_given + 1))
+          (id_of s.epoch (s.open_ids_given + 1)) no n));
+      rows = λ o n. f.rows o (elsewhere f.makes o (id_of t.epoch (t.open_ids_given + 1))
+          (id_of s.epoch (s.open_ids_given + 1)) no n) ∙ ap (λ g. g o) q.opened;
+      maker = λ e. let w = f.maker e in (
+        subst (λ i. (A.server.opened i).user ≡ s.user m.session_id) no (w.0 ∙ ap (λ g. g m.session_id) q.user),
+        subst (λ i. (A.server.opened i).client_guid ≡ m.client_guid) no w.1,
+        ap (λ g. g m.connection)
+            (sym q.session_on) ∙ w.2,
+      );
     }
 
 pub before_stays : (s : Server) (now : ℕ) (t : Server) → Before s now t → Stays s t
 before_stays s now t (inl e) = subst (λ u. Stays s u) (sym e) (stays_dated s now)
-before_stays s now t (inr h) = subst (λ u. Stays s u) (sym h.2) (stays_so s (with_deadlines s now) (expire (with_deadlines s now) h.0) (stays_dated s now) (stays_expired (with_deadlines s now) h.0))
+before_stays s now t (inr h) = subst (λ u. Stays s u) (sym h.2)
+    (stays_so s (with_deadlines s now) (expire (with_deadlines s now) h.0) (stays_dated s now)
+    (stays_expired (with_deadlines s now) h.0))
 
 finds_found : (t : Server) (m : Message) (v : Verdict) → Finds t m v → Found t m v
 finds_found t m v (inl e) = subst (λ u. Found t m u) (sym e) (found t m)
@@ -69,14 +83,16 @@ finds_found t m v (inr e) = subst (λ u. Found t m u) (sym e) (found_full t m (c
 stepped : (s : Server) (now : ℕ) (m : Message) → Facts s m (step s now (Heard m))
 stepped s now m =
     by_verdict (λ A. Facts s m A) s now m
-    (λ t v records b f. seen_facts s t m (recorded (apply t m now v) records) (before_stays s now t b) (by_verdicts t m now records v (finds_found t m v f)))
+    (λ t v records b f. seen_facts s t m (recorded (apply t m now v) records) (before_stays s now t b)
+    (by_verdicts t m now records v (finds_found t m v f)))
 
 quiet_aside : (m : Message) (status : ℕ) → m.command ≡ Aside status → asks m.command ≡ false
 unfolding is_new_setup is_tree_connect
 quiet_aside m status e = ap asks e
 
 aside : (s : Server) (m : Message) (status : ℕ) → m.command ≡ Aside status → Facts s m (untouched s m status)
-aside s m status e = quiet_facts s m (untouched s m status) (stays_same s) refl (λ a f. untold (asks m.command) (quiet_aside m status e) a _)
+aside s m status e = quiet_facts s m (untouched s m status) (stays_same s) refl
+    (λ a f. untold (asks m.command) (quiet_aside m status e) a _)
 
 pub answered : (s : Server) (now : ℕ) (m : Message) (c : Command) → m.command ≡ c → Facts s m (answer_to s now m c)
 answered s now m (Aside status) e = aside s m status e

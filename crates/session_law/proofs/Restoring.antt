@@ -11,7 +11,8 @@ use Rattle.server_law.proofs.Doors.{Before, Finds}
 use Rattle.session_law.proofs.Written.{Clean, Folds, anew, folds_more}
 use Rattle.session_law.proofs.Owed.{AllClean, by_verdict, clean_step, is_make}
 
-pub bare_heard : (g : ℕ) (s : Server) (now : ℕ) (m : Message) → ((t : Server) (v : Verdict) → Before s now t → Finds t m v → is_make v ≡ false) → Clean g [] (step s now (Heard m)).records
+pub bare_heard : (g : ℕ) (s : Server) (now : ℕ) (m : Message) → ((t : Server) (v : Verdict) → Before s now t
+    → Finds t m v → is_make v ≡ false) → Clean g [] (step s now (Heard m)).records
 bare_heard g s now m none = clean_step g [] s now (Heard m) all
   where
     bare : (t : Server) (v : Verdict) → Before s now t → Finds t m v → Clean g [] (apply t m now v).records
@@ -30,11 +31,19 @@ bare_heard g s now m none = clean_step g [] s now (Heard m) all
 abbrev pub Bare : Bool → ℕ → List Record → Type 0
 Bare kind epoch rs = kind ≡ true → (g : ℕ) → Folds g [] epoch (fold rs)
 
-pub bare_more : (kind : Bool) (epoch n : ℕ) (rs more : List Record) → n ≡ epoch → (kind ≡ true → (g : ℕ) → Clean g [] more) → Bare kind epoch rs → Bare kind n (rs ++ more)
-bare_more kind epoch n rs more e clean b = λ piped g. subst (λ i. Folds g [] i (fold (rs ++ more))) (sym e) (folds_more g [] epoch rs more (clean piped g) (b piped g))
+pub bare_more : (kind : Bool) (epoch n : ℕ) (rs more : List Record) → n ≡ epoch
+    → (kind ≡ true → (g : ℕ) → Clean g [] more) → Bare kind epoch rs → Bare kind n (rs ++ more)
+bare_more kind epoch n rs more e clean b = λ piped g. subst (λ i. Folds g [] i (fold (rs ++ more))) (sym e)
+    (folds_more g [] epoch rs more (clean piped g) (b piped g))
 
-pub bare_anew : (kind : Bool) (s : Server) (rs : List Record) → Bare kind s.epoch rs → Bare kind (fold (rs ++ recovery_records rs)).epoch (rs ++ recovery_records rs)
-bare_anew kind s rs b = λ piped g. let f = (anew g [] s rs (b piped g)).folds in record { epoch = refl; present = f.present; making = f.making; opens = f.opens }
+pub bare_anew : (kind : Bool) (s : Server) (rs : List Record) → Bare kind s.epoch rs
+    → Bare kind (fold (rs ++ recovery_records rs)).epoch (rs ++ recovery_records rs)
+bare_anew kind s rs b = λ piped g. let f = (anew g [] s rs (b piped g)).folds in record {
+  epoch = refl;
+  present = f.present;
+  making = f.making;
+  opens = f.opens;
+}
 
 two_clients : (n : ℕ) → n ≡ 0 → n ≡ 1 → (P : Type 0) → P
 two_clients n a b P = absurd (cc)

@@ -1,6 +1,7 @@
 -- What an answer to the message at a connection's front does to what holds of sessions, and what its reply says.
 use Rattle.std.proofs.lemmas.Bool.{eqb-false}
-use Rattle.std.proofs.Common.{eqb-true, ◌≡◌, ◌≢◌, ℕ, ◌+◌, ◌≤◌, ◌<◌, ◌==◌, Bool, true, false, List, [], ◌∷◌, refl, arith, sym, subst, ◌∙◌, ap, Option, Some, None, slice_get, is_some}
+use Rattle.std.proofs.Common.{eqb-true, ◌≡◌, ◌≢◌, ℕ, ◌+◌, ◌≤◌, ◌<◌, ◌==◌, Bool, true, false, List, [], ◌∷◌, refl, arith}
+use Rattle.std.proofs.Common.{sym, subst, ◌∙◌, ap, Option, Some, None, slice_get, is_some}
 use Rattle.exchange_defs.specs.Status.{success, more_processing_required}
 use Rattle.exchange_defs.specs.Texts.{same_name, upper}
 use Rattle.exchange_defs.specs.Commands.{Command, TreeDisconnect}
@@ -11,7 +12,9 @@ use Rattle.exchange_defs.specs.Effects.{next_session, next_open}
 use Rattle.exchange_defs.specs.Client.{Client, SaidFirst, SaidSecond, AskedTree}
 use Rattle.exchange_defs.specs.Network.{Conn, Sent}
 use Rattle.server_law.specs.Fits.{OnPresent, MakingOnce}
-use Rattle.session_law.specs.Sessions.{is_ops, is_work, is_dialog, is_new_setup, logs_on, user_in, logon_user, MakingUnranked, SessionUsers, OpenUsers, RankedGiven, CurrentUp, WorkUp, FirstUp, SecondUp, TreeConnectUp, PendingAccepted, LogonUp, FromClient}
+use Rattle.session_law.specs.Sessions.{is_ops, is_work, is_dialog, is_new_setup, logs_on, user_in, logon_user}
+use Rattle.session_law.specs.Sessions.{MakingUnranked, SessionUsers, OpenUsers, RankedGiven, CurrentUp, WorkUp, FirstUp}
+use Rattle.session_law.specs.Sessions.{SecondUp, TreeConnectUp, PendingAccepted, LogonUp, FromClient}
 use Rattle.session_law.proofs.Words.{Moves}
 use Rattle.session_law.proofs.Answers.{Facts}
 use Rattle.server_law.proofs.Logic.{both}
@@ -70,21 +73,26 @@ dialog_keeps c w = λ e. absurd (grind arith)
 
 -- ---- the server's step
 
-opens_of : (c : Client) (s : Server) (m : Message) (A : Answer) → Facts s m A → SessionUsers c s → OpenUsers c s → m.client_guid ≡ c.who.guid → OnPresent s → OpenUsers c A.server
+opens_of : (c : Client) (s : Server) (m : Message) (A : Answer) → Facts s m A → SessionUsers c s → OpenUsers c s
+    → m.client_guid ≡ c.who.guid → OnPresent s → OpenUsers c A.server
 opens_of c s m A f users opens client on o h =
     elim f.makes as (λ b. f.makes ≡ b → (A.server.opened o).user ≡ logon_user c.who.logon × (A.server.opened o).client_guid ≡ c.who.guid) [
       | false ↦ λ b. of_old (λ e. none_true f.makes b e _)
-      | true ↦ λ b. elim (o == next_open s) as (λ q. o == next_open s ≡ q → (A.server.opened o).user ≡ logon_user c.who.logon × (A.server.opened o).client_guid ≡ c.who.guid) [
-        | true ↦ λ q. let is = eqb-true o (next_open s) q in let w = f.maker b in
-            subst (λ i. (A.server.opened i).user ≡ logon_user c.who.logon × (A.server.opened i).client_guid ≡ c.who.guid) (sym is) (w.0 ∙ users m.session_id (on m.connection m.session_id w.2), w.1 ∙ client)
-        | false ↦ λ q. of_old (λ _. eqb-false o (next_open s) q)
-      ] refl
+      | true ↦ λ b. elim (o == next_open s) as (λ q. o == next_open s ≡ q → (A.server.opened o).user
+          ≡ logon_user c.who.logon × (A.server.opened o).client_guid ≡ c.who.guid) [
+            | true ↦ λ q. let is = eqb-true o (next_open s) q in let w = f.maker b in
+                subst (λ i. (A.server.opened i).user ≡ logon_user c.who.logon × (A.server.opened i).client_guid
+                ≡ c.who.guid) (sym is) (w.0 ∙ users m.session_id (on m.connection m.session_id w.2), w.1 ∙ client)
+            | false ↦ λ q. of_old (λ _. eqb-false o (next_open s) q)
+          ] refl
     ] refl
   where
-    of_old : (f.makes ≡ true → o ≢ next_open s) → (A.server.opened o).user ≡ logon_user c.who.logon × (A.server.opened o).client_guid ≡ c.who.guid
+    of_old : (f.makes ≡ true → o ≢ next_open s) → (A.server.opened o).user ≡ logon_user c.who.logon
+        × (A.server.opened o).client_guid ≡ c.who.guid
     of_old n = subst (λ r. r.user ≡ logon_user c.who.logon × r.client_guid ≡ c.who.guid) (sym (f.rows o n)) (opens o (f.opens o h n))
 
-users_of : (c : Client) (s : Server) (m : Message) (A : Answer) → Facts s m A → SessionUsers c s → (logs_on m.command ≡ true → user_in m.command ≡ logon_user c.who.logon) → SessionUsers c A.server
+users_of : (c : Client) (s : Server) (m : Message) (A : Answer) → Facts s m A → SessionUsers c s
+    → (logs_on m.command ≡ true → user_in m.command ≡ logon_user c.who.logon) → SessionUsers c A.server
 users_of c s m A f users logon x h =
     elim f.begins as (λ b. f.begins ≡ b → A.server.user x ≡ logon_user c.who.logon) [
       | false ↦ λ b. of_old (λ e. none_true f.begins b e _)
@@ -97,26 +105,33 @@ users_of c s m A f users logon x h =
     of_old : (f.begins ≡ true → x ≢ m.session_id) → A.server.user x ≡ logon_user c.who.logon
     of_old n = f.users x h n ∙ users x (f.present x h n)
 
-unranked_of : (c : Client) (s : Server) (m : Message) (A : Answer) → Facts s m A → MakingUnranked c s → RankedGiven c s → MakingUnranked c A.server
+unranked_of : (c : Client) (s : Server) (m : Message) (A : Answer) → Facts s m A → MakingUnranked c s → RankedGiven c s
+    → MakingUnranked c A.server
 unranked_of c s m A f unranked given k y h =
     elim (y == next_session s) as (λ q. y == next_session s ≡ q → c.rank y ≡ 0) [
       | true ↦ λ q. let is = eqb-true y (next_session s) q in
-          subst (λ i. c.rank i ≡ 0) (sym is) (zero_rank (c.rank (next_session s)) (id_of s.epoch s.session_ids_given) (next_session s) (given (next_session s)) (next_above s.epoch s.session_ids_given))
+          subst (λ i. c.rank i ≡ 0) (sym is) (zero_rank (c.rank (next_session s)) (id_of s.epoch s.session_ids_given)
+          (next_session s) (given (next_session s)) (next_above s.epoch s.session_ids_given))
       | false ↦ λ q. unranked k y (f.making k y h (λ _. eqb-false y (next_session s) q))
     ] refl
 
-ids_of : (s : Server) (m : Message) (A : Answer) → Facts s m A → id_of s.epoch s.session_ids_given ≤ id_of A.server.epoch A.server.session_ids_given
+ids_of : (s : Server) (m : Message) (A : Answer) → Facts s m A → id_of s.epoch s.session_ids_given ≤ id_of
+    A.server.epoch A.server.session_ids_given
 ids_of s m A f =
     elim f.challenges as (λ b. f.challenges ≡ b → id_of s.epoch s.session_ids_given ≤ id_of A.server.epoch A.server.session_ids_given) [
       | true ↦ λ b. more_given s.epoch A.server.epoch s.session_ids_given A.server.session_ids_given f.epoch (f.counted b).0
       | false ↦ λ b. same_given s.epoch A.server.epoch s.session_ids_given A.server.session_ids_given f.epoch (f.uncounted b).0
     ] refl
 
-back_of : (c : Client) (s : Server) (m : Message) (A : Answer) → Facts s m A → MakingUnranked c s → (x : ℕ) → 0 < c.rank x → A.server.present x ≡ true → s.present x ≡ true
-back_of c s m A f unranked x r p = f.present x p (λ b. ranked_other c.rank x m.session_id r (unranked m.connection m.session_id (f.enters b).made))
+back_of : (c : Client) (s : Server) (m : Message) (A : Answer) → Facts s m A → MakingUnranked c s → (x : ℕ)
+    → 0 < c.rank x → A.server.present x ≡ true → s.present x ≡ true
+back_of c s m A f unranked x r p =
+    f.present x p (λ b. ranked_other c.rank x m.session_id r (unranked m.connection m.session_id (f.enters b).made))
 
-pub moves_of : (c : Client) (s : Server) (m : Message) (A : Answer) → Facts s m A → MakingUnranked c s → RankedGiven c s → SessionUsers c s → OpenUsers c s → OnPresent s
-    → m.client_guid ≡ c.who.guid → m.command ≢ TreeDisconnect → (logs_on m.command ≡ true → user_in m.command ≡ logon_user c.who.logon) → Moves c s A.server
+pub moves_of : (c : Client) (s : Server) (m : Message) (A : Answer) → Facts s m A → MakingUnranked c s → RankedGiven c s
+    → SessionUsers c s → OpenUsers c s → OnPresent s
+    → m.client_guid ≡ c.who.guid → m.command ≢ TreeDisconnect → (logs_on m.command ≡ true → user_in m.command
+    ≡ logon_user c.who.logon) → Moves c s A.server
 moves_of c s m A f unranked given users opens on client keeps logon =
     record {
       present = back_of c s m A f unranked;
@@ -130,7 +145,8 @@ moves_of c s m A f unranked given users opens on client keeps logon =
 
 -- ---- the reply
 
-pub reply_current : (c : Client) (conns : ℕ → Conn) (s : Server) (k : ℕ) (x : Sent) (A : Answer) → Facts s x.message A → slice_get (conns k).up 0 ≡ Some x → (conns k).client_open ≡ true → CurrentUp c conns → WorkUp conns
+pub reply_current : (c : Client) (conns : ℕ → Conn) (s : Server) (k : ℕ) (x : Sent) (A : Answer) → Facts s x.message A
+    → slice_get (conns k).up 0 ≡ Some x → (conns k).client_open ≡ true → CurrentUp c conns → WorkUp conns
     → is_ops x.token ≡ true → c.live ≡ true × A.reply.session_id ≡ c.session
 reply_current c conns s k x A f h stands current work ops =
     let now = current k 0 x h ops stands in
@@ -142,33 +158,49 @@ above_zero e n = omega arith
 within : (e d n b : ℕ) → d ≡ e → b ≡ n + 1 → id_of e (n + 1) ≤ id_of d b
 within e d n b a c = omega (arith, a, c)
 
-pub reply_first : (c : Client) (conns : ℕ → Conn) (s : Server) (k : ℕ) (x : Sent) (A : Answer) → Facts s x.message A → slice_get (conns k).up 0 ≡ Some x → (conns k).client_open ≡ true → FirstUp c conns → FromClient c conns → RankedGiven c s
+pub reply_first : (c : Client) (conns : ℕ → Conn) (s : Server) (k : ℕ) (x : Sent) (A : Answer) → Facts s x.message A
+    → slice_get (conns k).up 0 ≡ Some x → (conns k).client_open ≡ true → FirstUp c conns → FromClient c conns
+    → RankedGiven c s
     → is_ops x.token ≡ false → c.stage k ≡ SaidFirst false → A.reply.status ≡ more_processing_required
     → c.rank A.reply.session_id ≡ 0 × 0 < A.reply.session_id × A.reply.session_id ≤ id_of A.server.epoch A.server.session_ids_given
 reply_first c conns s k x A f h stands first who given dialog stage status =
     let n = f.counted (f.interim status (first k 0 x h stands dialog stage) (who k 0 x h).2) in (
-      ap c.rank n.1 ∙ zero_rank (c.rank (next_session s)) (id_of s.epoch s.session_ids_given) (next_session s) (given (next_session s)) (next_above s.epoch s.session_ids_given),
+      ap c.rank n.1 ∙ zero_rank (c.rank (next_session s)) (id_of s.epoch s.session_ids_given) (next_session s)
+          (given (next_session s)) (next_above s.epoch s.session_ids_given),
       subst (λ i. 0 < i) (sym n.1) (above_zero s.epoch s.session_ids_given),
-      subst (λ i. i ≤ id_of A.server.epoch A.server.session_ids_given) (sym n.1) (within s.epoch A.server.epoch s.session_ids_given A.server.session_ids_given f.epoch n.0),
+      subst (λ i. i ≤ id_of A.server.epoch A.server.session_ids_given) (sym n.1)
+          (within s.epoch A.server.epoch s.session_ids_given A.server.session_ids_given f.epoch n.0),
     )
 
-pub reply_second : (c : Client) (conns : ℕ → Conn) (s : Server) (k : ℕ) (x : Sent) (A : Answer) → Facts s x.message A → slice_get (conns k).up 0 ≡ Some x → (conns k).client_open ≡ true → SecondUp c conns → FromClient c conns → LogonUp c conns
-    → MakingUnranked c s → SessionUsers c s → MakingOnce s → is_ops x.token ≡ false → c.stage k ≡ SaidSecond false → A.reply.status ≡ success
+pub reply_second : (c : Client) (conns : ℕ → Conn) (s : Server) (k : ℕ) (x : Sent) (A : Answer) → Facts s x.message A
+    → slice_get (conns k).up 0 ≡ Some x → (conns k).client_open ≡ true → SecondUp c conns → FromClient c conns
+    → LogonUp c conns
+    → MakingUnranked c s → SessionUsers c s → MakingOnce s → is_ops x.token ≡ false → c.stage k ≡ SaidSecond false
+    → A.reply.status ≡ success
     → (0 < c.rank c.accepted → A.server.present c.accepted ≡ false) × ((j : ℕ) → is_new c.pending (A.server.making j) ≡ false)
 reply_second c conns s k x A f h stands second who logon unranked users once dialog stage status =
-    let m = x.message in let u = second k 0 x h stands dialog stage in let b = f.welcome status u.0 (who k 0 x h).2 in let w = f.enters b in (
+    let m = x.message in let u = second k 0 x h stands dialog stage in let b = f.welcome status u.0 (who k 0 x h).2 in
+    let w = f.enters b in (
       λ r. refuted (A.server.present c.accepted) (λ p.
           let old = back_of c s m A f unranked c.accepted r p in
           let mine = logon k 0 x h w.logs in
-          let same : same_name (s.user c.accepted) (user_in m.command) ≡ true = ap (λ z. same_name z (user_in m.command)) (users c.accepted old ∙ sym mine) ∙ same_itself (user_in m.command) in
-          subst (λ i. A.server.present i ≡ false) u.1 (w.gone (subst (λ i. s.present i ≡ true) (sym u.1) old) (subst (λ i. same_name (s.user i) (user_in m.command) ≡ true) (sym u.1) same))),
+          let same : same_name (s.user c.accepted) (user_in m.command) ≡ true =
+          ap (λ z. same_name z (user_in m.command)) (users c.accepted old ∙ sym mine)
+          ∙ same_itself (user_in m.command) in
+          subst (λ i. A.server.present i ≡ false) u.1 (w.gone (subst (λ i. s.present i ≡ true) (sym u.1) old)
+          (subst (λ i. same_name (s.user i) (user_in m.command) ≡ true) (sym u.1) same))),
       λ j. refuted (is_new c.pending (A.server.making j)) (λ n.
           let q = w.unmade j (subst (λ i. is_new i (A.server.making j) ≡ true) (sym u.2) n) in
-          absurd (q.1 (once j m.connection m.session_id (making_of m.session_id (s.making j) q.0) (making_of m.session_id (s.making m.connection) w.made)))),
+          absurd (q.1 (once j m.connection m.session_id (making_of m.session_id (s.making j) q.0)
+          (making_of m.session_id (s.making m.connection) w.made)))),
     )
 
-pub reply_tree : (c : Client) (conns : ℕ → Conn) (s : Server) (k : ℕ) (x : Sent) (A : Answer) → Facts s x.message A → slice_get (conns k).up 0 ≡ Some x → (conns k).client_open ≡ true → TreeConnectUp c conns → FromClient c conns → PendingAccepted c
-    → is_ops x.token ≡ false → c.stage k ≡ AskedTree → A.reply.status ≡ success → is_some (tree_in (A.server.trees c.accepted) A.reply.tree_id) ≡ true
+pub reply_tree : (c : Client) (conns : ℕ → Conn) (s : Server) (k : ℕ) (x : Sent) (A : Answer) → Facts s x.message A
+    → slice_get (conns k).up 0 ≡ Some x → (conns k).client_open ≡ true → TreeConnectUp c conns → FromClient c conns
+    → PendingAccepted c
+    → is_ops x.token ≡ false → c.stage k ≡ AskedTree → A.reply.status ≡ success
+    → is_some (tree_in (A.server.trees c.accepted) A.reply.tree_id) ≡ true
 reply_tree c conns s k x A f h stands tree who pending dialog stage status =
     let u = tree k 0 x h stands dialog stage in
-    subst (λ i. is_some (tree_in (A.server.trees i) A.reply.tree_id) ≡ true) (u.1 ∙ (pending k stage).0) (f.connected status u.0 (who k 0 x h).2)
+    subst (λ i. is_some (tree_in (A.server.trees i) A.reply.tree_id) ≡ true) (u.1 ∙ (pending k stage).0)
+    (f.connected status u.0 (who k 0 x h).2)

@@ -32,7 +32,8 @@ pub record Moves (c : Client) (s t : Server) : Type 0 where
   pub making : (k y : ℕ) → y ≤ id_of s.epoch s.session_ids_given → is_new y (t.making k) ≡ true → is_new y (s.making k) ≡ true
   pub unranked : MakingUnranked c t
   pub ids : id_of s.epoch s.session_ids_given ≤ id_of t.epoch t.session_ids_given
-  pub trees : (x id : ℕ) → 0 < c.rank x → t.present x ≡ true → is_some (tree_in (s.trees x) id) ≡ true → is_some (tree_in (t.trees x) id) ≡ true
+  pub trees : (x id : ℕ) → 0 < c.rank x → t.present x ≡ true → is_some (tree_in (s.trees x) id) ≡ true
+      → is_some (tree_in (t.trees x) id) ≡ true
 
 -- a dialog's message or reply is counted
 dialog_token : (t : Token) → is_ops t ≡ false → op_of t ≡ 0
@@ -47,12 +48,14 @@ none_down : (n : ℕ) (c : Conn) → copies n c ≡ 0 → 1 ≤ count_down n c.d
 none_down n c e l P = absurd (omega (arith, e, l))
 
 -- where a connection carries none of its dialog, such a one waits on another
-pub no_dialog_up : (conns : ℕ → Conn) (k : ℕ) → copies 0 (conns k) ≡ 0 → (j n : ℕ) (x : Sent) → slice_get (conns j).up n ≡ Some x → is_ops x.token ≡ false → j ≢ k
+pub no_dialog_up : (conns : ℕ → Conn) (k : ℕ) → copies 0 (conns k) ≡ 0 → (j n : ℕ) (x : Sent) → slice_get (conns j).up n
+    ≡ Some x → is_ops x.token ≡ false → j ≢ k
 no_dialog_up conns k none j n x h t =
     let l = counted_up 0 (conns j).up n x h (dialog_token x.token t) in
     λ e. none_up 0 (conns k) none (grind arith) _
 
-pub no_dialog_down : (conns : ℕ → Conn) (k : ℕ) → copies 0 (conns k) ≡ 0 → (j n : ℕ) (y : Received) → slice_get (conns j).down n ≡ Some y → is_ops y.token ≡ false → j ≢ k
+pub no_dialog_down : (conns : ℕ → Conn) (k : ℕ) → copies 0 (conns k) ≡ 0 → (j n : ℕ) (y : Received)
+    → slice_get (conns j).down n ≡ Some y → is_ops y.token ≡ false → j ≢ k
 no_dialog_down conns k none j n y h t =
     let l = counted_down 0 (conns j).down n y h (dialog_token y.token t) in
     λ e. none_down 0 (conns k) none (grind arith) _

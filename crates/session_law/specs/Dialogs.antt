@@ -35,7 +35,8 @@ is_signed _ = false
 
 -- a signed SESSION_SETUP that waits, on whichever connection, is of a session that the client accepted
 abbrev pub SignedUp : Client → (ℕ → Conn) → Type 0
-SignedUp c conns = (k n : ℕ) (x : Sent) → slice_get (conns k).up n ≡ Some x → is_signed x.message.command ≡ true → 0 < c.rank x.message.session_id
+SignedUp c conns = (k n : ℕ) (x : Sent) → slice_get (conns k).up n ≡ Some x → is_signed x.message.command ≡ true
+    → 0 < c.rank x.message.session_id
 
 pub record Dialogs (identity : Identity) (c : Client) (conns : ℕ → Conn) : Type 0 where
   pub who : c.who ≡ identity

@@ -9,7 +9,8 @@ use Rattle.exchange_defs.specs.Network.{Conn, Sent}
 
 -- a TREE_CONNECT that waits asks for the client's share
 abbrev pub SharesUp : Client → (ℕ → Conn) → Type 0
-SharesUp c conns = (k n : ℕ) (x : Sent) (share : List ℕ) → slice_get (conns k).up n ≡ Some x → x.message.command ≡ TreeConnect share → share ≡ c.who.share
+SharesUp c conns = (k n : ℕ) (x : Sent) (share : List ℕ) → slice_get (conns k).up n ≡ Some x → x.message.command
+    ≡ TreeConnect share → share ≡ c.who.share
 
 -- a session's tree is that of the pipes exactly where the client's share is
 abbrev pub TreeKinds : Client → Server → Type 0

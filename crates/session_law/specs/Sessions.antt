@@ -120,17 +120,20 @@ SequenceLow c = c.sequence ≤ 32767
 
 -- what is noted by a session's number is of a session that was
 abbrev pub NumberedSessions : Client → Type 0
-NumberedSessions c = (create slot : ℕ) → c.attached create ≤ c.session_number × c.retried create slot ≤ c.session_number × (c.live ≡ true → 0 < c.session_number)
+NumberedSessions c = (create slot : ℕ) → c.attached create ≤ c.session_number × c.retried create slot ≤ c.session_number
+    × (c.live ≡ true → 0 < c.session_number)
 
 -- ---- what waits
 
 -- a message or a reply of an operation on an open connection is of the live session
 abbrev pub CurrentUp : Client → (ℕ → Conn) → Type 0
-CurrentUp c conns = (k n : ℕ) (x : Sent) → slice_get (conns k).up n ≡ Some x → is_ops x.token ≡ true → (conns k).client_open ≡ true → c.live ≡ true × x.message.session_id ≡ c.session
+CurrentUp c conns = (k n : ℕ) (x : Sent) → slice_get (conns k).up n ≡ Some x → is_ops x.token ≡ true
+    → (conns k).client_open ≡ true → c.live ≡ true × x.message.session_id ≡ c.session
 
 -- and so is a reply
 abbrev pub CurrentDown : Client → (ℕ → Conn) → Type 0
-CurrentDown c conns = (k n : ℕ) (y : Received) → slice_get (conns k).down n ≡ Some y → is_ops y.token ≡ true → (conns k).client_open ≡ true → c.live ≡ true × y.reply.session_id ≡ c.session
+CurrentDown c conns = (k n : ℕ) (y : Received) → slice_get (conns k).down n ≡ Some y → is_ops y.token ≡ true
+    → (conns k).client_open ≡ true → c.live ≡ true × y.reply.session_id ≡ c.session
 
 -- each message of an operation is of a session that was accepted, and each is this client's
 abbrev pub RankedUp : Client → (ℕ → Conn) → Type 0
@@ -138,11 +141,13 @@ RankedUp c conns = (k n : ℕ) (x : Sent) → slice_get (conns k).up n ≡ Some 
 
 -- each message has the client's ClientGuid and its connection's number, and is signed and sealed as owed
 abbrev pub FromClient : Client → (ℕ → Conn) → Type 0
-FromClient c conns = (k n : ℕ) (x : Sent) → slice_get (conns k).up n ≡ Some x → x.message.client_guid ≡ c.who.guid × x.message.connection ≡ k × x.message.fault ≡ None
+FromClient c conns = (k n : ℕ) (x : Sent) → slice_get (conns k).up n ≡ Some x → x.message.client_guid ≡ c.who.guid
+    × x.message.connection ≡ k × x.message.fault ≡ None
 
 -- sequences are below 32,768, and those of the live session at most the client's
 abbrev pub SequencesUp : Client → (ℕ → Conn) → Type 0
-SequencesUp c conns = (k n : ℕ) (x : Sent) → slice_get (conns k).up n ≡ Some x → x.message.channel_sequence ≤ 32767 × (c.live ≡ true → x.message.session_id ≡ c.session → x.message.channel_sequence ≤ c.sequence)
+SequencesUp c conns = (k n : ℕ) (x : Sent) → slice_get (conns k).up n ≡ Some x → x.message.channel_sequence ≤ 32767
+    × (c.live ≡ true → x.message.session_id ≡ c.session → x.message.channel_sequence ≤ c.sequence)
 
 -- an operation's command leaves sessions and trees alone
 abbrev pub WorkUp : (ℕ → Conn) → Type 0
@@ -150,29 +155,35 @@ WorkUp conns = (k n : ℕ) (x : Sent) → slice_get (conns k).up n ≡ Some x �
 
 -- and a dialog's message is a dialog's command, of the sequence 0
 abbrev pub DialogUp : (ℕ → Conn) → Type 0
-DialogUp conns = (k n : ℕ) (x : Sent) → slice_get (conns k).up n ≡ Some x → is_ops x.token ≡ false → x.message.channel_sequence ≡ 0 × is_dialog x.message.command ≡ true
+DialogUp conns = (k n : ℕ) (x : Sent) → slice_get (conns k).up n ≡ Some x → is_ops x.token ≡ false
+    → x.message.channel_sequence ≡ 0 × is_dialog x.message.command ≡ true
 
 -- whoever logs on is the client's user
 abbrev pub LogonUp : Client → (ℕ → Conn) → Type 0
-LogonUp c conns = (k n : ℕ) (x : Sent) → slice_get (conns k).up n ≡ Some x → logs_on x.message.command ≡ true → user_in x.message.command ≡ logon_user c.who.logon
+LogonUp c conns = (k n : ℕ) (x : Sent) → slice_get (conns k).up n ≡ Some x → logs_on x.message.command ≡ true
+    → user_in x.message.command ≡ logon_user c.who.logon
 
 -- what waits of the dialog of a new session, by its stage; a dialog's first SESSION_SETUP
 abbrev pub FirstUp : Client → (ℕ → Conn) → Type 0
-FirstUp c conns = (k n : ℕ) (x : Sent) → slice_get (conns k).up n ≡ Some x → (conns k).client_open ≡ true → is_ops x.token ≡ false → c.stage k ≡ SaidFirst false → is_new_setup x.message.command ≡ true
+FirstUp c conns = (k n : ℕ) (x : Sent) → slice_get (conns k).up n ≡ Some x → (conns k).client_open ≡ true
+    → is_ops x.token ≡ false → c.stage k ≡ SaidFirst false → is_new_setup x.message.command ≡ true
 
 -- its second one names the last accepted session as its previous one
 abbrev pub SecondUp : Client → (ℕ → Conn) → Type 0
-SecondUp c conns = (k n : ℕ) (x : Sent) → slice_get (conns k).up n ≡ Some x → (conns k).client_open ≡ true → is_ops x.token ≡ false → c.stage k ≡ SaidSecond false
+SecondUp c conns = (k n : ℕ) (x : Sent) → slice_get (conns k).up n ≡ Some x → (conns k).client_open ≡ true
+    → is_ops x.token ≡ false → c.stage k ≡ SaidSecond false
     → is_new_setup x.message.command ≡ true × previous_in x.message.command ≡ c.accepted × x.message.session_id ≡ c.pending
 
 -- then a TREE_CONNECT in the session that it makes
 abbrev pub TreeConnectUp : Client → (ℕ → Conn) → Type 0
-TreeConnectUp c conns = (k n : ℕ) (x : Sent) → slice_get (conns k).up n ≡ Some x → (conns k).client_open ≡ true → is_ops x.token ≡ false → c.stage k ≡ AskedTree
+TreeConnectUp c conns = (k n : ℕ) (x : Sent) → slice_get (conns k).up n ≡ Some x → (conns k).client_open ≡ true
+    → is_ops x.token ≡ false → c.stage k ≡ AskedTree
     → is_tree_connect x.message.command ≡ true × x.message.session_id ≡ c.pending
 
 -- an accepted session that isn't ready yet has no operation's message
 abbrev pub AskedFresh : Client → (ℕ → Conn) → Type 0
-AskedFresh c conns = (j k n : ℕ) (x : Sent) → c.stage j ≡ AskedTree → slice_get (conns k).up n ≡ Some x → is_ops x.token ≡ true → x.message.session_id ≢ c.pending
+AskedFresh c conns = (j k n : ℕ) (x : Sent) → c.stage j ≡ AskedTree → slice_get (conns k).up n ≡ Some x → is_ops x.token
+    ≡ true → x.message.session_id ≢ c.pending
 
 -- ---- the server's sessions
 
@@ -202,19 +213,22 @@ PendingGiven c s = (k : ℕ) → c.stage k ≡ SaidSecond false → 0 < c.pendin
 
 -- the interim response tells an id that was never accepted
 abbrev pub FirstReply : Client → (ℕ → Conn) → Server → Type 0
-FirstReply c conns s = (k n : ℕ) (y : Received) → slice_get (conns k).down n ≡ Some y → is_ops y.token ≡ false → c.stage k ≡ SaidFirst false → y.reply.status ≡ more_processing_required
+FirstReply c conns s = (k n : ℕ) (y : Received) → slice_get (conns k).down n ≡ Some y → is_ops y.token ≡ false
+    → c.stage k ≡ SaidFirst false → y.reply.status ≡ more_processing_required
     → c.rank y.reply.session_id ≡ 0 × 0 < y.reply.session_id × y.reply.session_id ≤ id_of s.epoch s.session_ids_given
 
 -- the new session's success waits: the accepted one before it is gone, and no connection makes the new one any more
 abbrev pub SecondReply : Client → (ℕ → Conn) → Server → Type 0
-SecondReply c conns s = (k n : ℕ) (y : Received) → slice_get (conns k).down n ≡ Some y → is_ops y.token ≡ false → c.stage k ≡ SaidSecond false → y.reply.status ≡ success
+SecondReply c conns s = (k n : ℕ) (y : Received) → slice_get (conns k).down n ≡ Some y → is_ops y.token ≡ false
+    → c.stage k ≡ SaidSecond false → y.reply.status ≡ success
     → (0 < c.rank c.accepted → s.present c.accepted ≡ false) × ((j : ℕ) → is_new c.pending (s.making j) ≡ false)
 
 -- ---- trees
 
 -- the tree that an operation's message names is there while its session is
 abbrev pub TreeUp : (ℕ → Conn) → Server → Type 0
-TreeUp conns s = (k n : ℕ) (x : Sent) → slice_get (conns k).up n ≡ Some x → is_ops x.token ≡ true → s.present x.message.session_id ≡ true → is_some (tree_in (s.trees x.message.session_id) x.message.tree_id) ≡ true
+TreeUp conns s = (k n : ℕ) (x : Sent) → slice_get (conns k).up n ≡ Some x → is_ops x.token ≡ true
+    → s.present x.message.session_id ≡ true → is_some (tree_in (s.trees x.message.session_id) x.message.tree_id) ≡ true
 
 -- so is the client's tree while its session is
 abbrev pub TreeLive : Client → Server → Type 0
@@ -222,7 +236,8 @@ TreeLive c s = c.live ≡ true → s.present c.session ≡ true → is_some (tre
 
 -- and the tree that a TREE_CONNECT's success tells
 abbrev pub TreeReply : Client → (ℕ → Conn) → Server → Type 0
-TreeReply c conns s = (k n : ℕ) (y : Received) → slice_get (conns k).down n ≡ Some y → is_ops y.token ≡ false → c.stage k ≡ AskedTree → y.reply.status ≡ success
+TreeReply c conns s = (k n : ℕ) (y : Received) → slice_get (conns k).down n ≡ Some y → is_ops y.token ≡ false
+    → c.stage k ≡ AskedTree → y.reply.status ≡ success
     → s.present c.accepted ≡ true → is_some (tree_in (s.trees c.accepted) y.reply.tree_id) ≡ true
 
 pub record Sessions (c : Client) (conns : ℕ → Conn) (s : Server) : Type 0 where

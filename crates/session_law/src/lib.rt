@@ -23,9 +23,10 @@ pub fn sessions_law()
 {}
 
 /// On every run, behind every event, the client stays who it was, and each of its channels is closed, or ready, or in its
-/// dialog (each part of `Dialogs`): a ready channel's dialog is over; an open end whose dialog is over is ready; a dialog's
-/// message that waits is alone in its list, and nothing else waits beside it; the session in the making has its dialog on
-/// its channel; and a signed SESSION_SETUP that waits, on whichever connection, is of a session that the client accepted.
+/// dialog (each part of `Dialogs`): a ready channel's dialog is over; an open end whose dialog is over is ready; of a
+/// channel in its dialog, the message that waits is alone in its list, and nothing else waits beside it; the session in
+/// the making has its dialog on its channel; and a signed SESSION_SETUP that waits, on whichever connection, is of a
+/// session that the client accepted.
 pub fn dialogs_law()
     ensures fit { (settings : Settings) (events : List Event) → Dialogs settings.who (run events (start settings)).client (run events (start settings)).conns }
 {}

@@ -2,4 +2,11 @@ use Rattle.invariant_law.proofs.Law.{own_always, gone_always, creates_always, lo
 use Rattle.invariant_law.proofs.invariant_law.Goals as goal
 
 pub returns : goal.returns
-returns c = record { own = own_always; gone = gone_always; creates = creates_always; locks = locks_always; edits = edits_always; newest = newest_always }
+returns c = record {
+  own = own_always;
+  gone = gone_always;
+  creates = creates_always;
+  locks = locks_always;
+  edits = edits_always;
+  newest = newest_always;
+}

@@ -1,6 +1,9 @@
 use Rattle.std.proofs.Common.{◌≡◌, ℕ, ◌^◌, ◌<◌, Bool, true, false, List, ◌++◌, Option, Some, refl, ap, ◌∙◌, arith}
-use Rattle.wire_defs.specs.SessionSetup.{SessionSetupResponseValue, SpellsSessionSetupResponse, session_setup_response_fault, session_setup_response_in, session_setup_response_spelling}
-use Rattle.wire_defs.specs.TreeConnect.{SpellsTreeConnectResponse, tree_connect_response_fault, tree_connect_response_in, tree_connect_response_spelling}
+use Rattle.wire_defs.specs.SessionSetup.{SessionSetupResponseValue, SpellsSessionSetupResponse}
+use Rattle.wire_defs.specs.SessionSetup.{session_setup_response_fault, session_setup_response_in}
+use Rattle.wire_defs.specs.SessionSetup.{session_setup_response_spelling}
+use Rattle.wire_defs.specs.TreeConnect.{SpellsTreeConnectResponse, tree_connect_response_fault}
+use Rattle.wire_defs.specs.TreeConnect.{tree_connect_response_in, tree_connect_response_spelling}
 use Rattle.wire_defs.specs.declared.session_message.TreeConnectResponse.{TreeConnectResponse}
 use Rattle.exchange_defs.specs.Commands.{has_bit}
 use Rattle.exchange_defs.specs.State.{Body, SetUp, Connected}

@@ -2,7 +2,8 @@ use Rattle.std.proofs.Common.{◌≡◌, ℕ, Bool, List, [], ◌∷◌, ◌++�
 use Rattle.std.specs.Prelude.{◌==◌, if◌then◌else◌}
 use Rattle.std.proofs.lemmas.List.{append-nil}
 use Rattle.wire_defs.specs.declared.header.Header.{Header}
-use Rattle.wire_defs.specs.TreeConnect.{TreeConnectRequestValue, SpellsTreeConnectRequest, tree_connect_request_fault, tree_connect_request_in}
+use Rattle.wire_defs.specs.TreeConnect.{TreeConnectRequestValue, SpellsTreeConnectRequest, tree_connect_request_fault}
+use Rattle.wire_defs.specs.TreeConnect.{tree_connect_request_in}
 use Rattle.exchange_defs.specs.Texts.{leaf_of, leaf_from}
 use Rattle.exchange_defs.specs.Commands.{Command, TreeConnect}
 use Rattle.command_defs.specs.Text.{text_in}

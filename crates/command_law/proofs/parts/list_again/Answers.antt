@@ -2,7 +2,9 @@ use Rattle.std.proofs.Common.{◌≡◌, ℕ, ◌+◌, ◌≤◌, ◌<◌, Bool,
 use Rattle.std.specs.Prelude.{◌==◌, ◌||◌, if◌then◌else◌}
 use Rattle.wire_defs.specs.Aligned.{told}
 use Rattle.wire_defs.specs.Utf16.{utf16}
-use Rattle.wire_defs.specs.QueryDirectory.{IsWritableQueryDirectoryRequest, QueryDirectoryRequestValue, SpellsQueryDirectoryRequest, query_directory_request_fault, query_directory_request_in}
+use Rattle.wire_defs.specs.QueryDirectory.{IsWritableQueryDirectoryRequest, QueryDirectoryRequestValue}
+use Rattle.wire_defs.specs.QueryDirectory.{SpellsQueryDirectoryRequest, query_directory_request_fault}
+use Rattle.wire_defs.specs.QueryDirectory.{query_directory_request_in}
 use Rattle.exchange_defs.specs.Commands.{Command, ListDirectory, has_bit}
 use Rattle.command_defs.specs.Text.{text_in}
 use Rattle.command_defs.specs.Tables.{bit_if}

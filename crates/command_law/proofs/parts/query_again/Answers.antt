@@ -1,6 +1,7 @@
 use Rattle.std.proofs.Common.{ℕ, Bool, List, ◌++◌, refl, ap, ◌∙◌, arith}
 use Rattle.std.specs.Prelude.{if◌then◌else◌}
-use Rattle.wire_defs.specs.QueryInfo.{IsWritableQueryInfoRequest, QueryInfoRequestValue, SpellsQueryInfoRequest, query_info_request_fault, query_info_request_in}
+use Rattle.wire_defs.specs.QueryInfo.{IsWritableQueryInfoRequest, QueryInfoRequestValue, SpellsQueryInfoRequest}
+use Rattle.wire_defs.specs.QueryInfo.{query_info_request_fault, query_info_request_in}
 use Rattle.exchange_defs.specs.Status.{not_supported}
 use Rattle.exchange_defs.specs.Commands.{QueryFile, Unreadable}
 use Rattle.command_defs.specs.Ids.{file_of}

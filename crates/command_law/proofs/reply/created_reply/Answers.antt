@@ -1,8 +1,10 @@
 use Rattle.std.proofs.Common.{ℕ, ◌^◌, ◌≤◌, ◌<◌, Bool, true, false, List, ◌++◌, length, Option, Some, None, refl, ap, ◌∙◌, arith}
 use Rattle.std.specs.Prelude.{◌==◌, if◌then◌else◌, option_map}
 use Rattle.wire_defs.specs.Aligned.{told}
-use Rattle.wire_defs.specs.CreateResponse.{CreateResponseValue, SpellsCreateResponse, create_response_fault, create_response_in, create_response_spelling}
-use Rattle.wire_defs.specs.CreateContexts.{IsWritableReplyContexts, IsWritableDh2qReply, IsWritableMaximalAccess, IsWritableDiskId, reply_contexts_spelling, flags_of}
+use Rattle.wire_defs.specs.CreateResponse.{CreateResponseValue, SpellsCreateResponse, create_response_fault}
+use Rattle.wire_defs.specs.CreateResponse.{create_response_in, create_response_spelling}
+use Rattle.wire_defs.specs.CreateContexts.{IsWritableReplyContexts, IsWritableDh2qReply, IsWritableMaximalAccess}
+use Rattle.wire_defs.specs.CreateContexts.{IsWritableDiskId, reply_contexts_spelling, flags_of}
 use Rattle.exchange_defs.specs.State.{Body, Created, CreateReply}
 use Rattle.command_defs.specs.ReplyBody.{created_value, contexts_told, timeout_told, access_told, disk_id_told}
 use Rattle.command_defs.specs.ReplyOf.{body_in, created_of, of_length}

@@ -1,7 +1,9 @@
 use Rattle.std.proofs.Common.{◌≡◌, ℕ, Bool, false, List, ◌++◌, Option, refl, ap, ◌∙◌, arith}
 use Rattle.std.specs.Prelude.{is_some, option_map, option_and_then}
 use Rattle.wire_defs.specs.Chain.{is_badly_linked, piece}
-use Rattle.wire_defs.specs.QueryDirectory.{QueryDirectoryResponseValue, SpellsQueryDirectoryResponse, query_directory_response_fault, query_directory_response_in, query_directory_response_spelling}
+use Rattle.wire_defs.specs.QueryDirectory.{QueryDirectoryResponseValue, SpellsQueryDirectoryResponse}
+use Rattle.wire_defs.specs.QueryDirectory.{query_directory_response_fault, query_directory_response_in}
+use Rattle.wire_defs.specs.QueryDirectory.{query_directory_response_spelling}
 use Rattle.wire_defs.specs.Directory.{DirectoryEntryValue, SpellsDirectoryEntry, directory_entry_in, first_entry_fault, listing_spelling}
 use Rattle.wire_defs.specs.declared.directory_class.DirectoryClass.TheVariants as class
 use Rattle.info_law.proofs.OneEntry.{whole_first_entry}

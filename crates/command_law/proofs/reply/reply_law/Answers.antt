@@ -4,7 +4,9 @@ use Rattle.wire_defs.specs.Error.{error_response_spelling}
 use Rattle.exchange_defs.specs.Status.{success}
 use Rattle.exchange_defs.specs.Commands.{Command, QueryFile, ListDirectory, SetEnd, SetBasic, Rename, SetDelete}
 use Rattle.exchange_defs.specs.State.{Body, Empty, Created, Content, Count, Listing, FileInfo}
-use Rattle.exchange_defs.specs.Operations.{Op, OpCreate, OpWrite, OpRead, OpEnd, OpTime, OpRename, OpRemove, OpLock, OpUnlock, OpFlush, OpStat, OpList, OpClose, Names, request_of, value_in, id_in, create_request, durable_of, only_written, lock_flags, element}
+use Rattle.exchange_defs.specs.Operations.{Op, OpCreate, OpWrite, OpRead, OpEnd, OpTime, OpRename, OpRemove, OpLock}
+use Rattle.exchange_defs.specs.Operations.{OpUnlock, OpFlush, OpStat, OpList, OpClose, Names, request_of, value_in}
+use Rattle.exchange_defs.specs.Operations.{id_in, create_request, durable_of, only_written, lock_flags, element}
 use Rattle.command_defs.specs.ReplyBody.{reply_body, success_body, is_told}
 use Rattle.command_defs.specs.ReplyOf.{reply_of, body_in, or_other}
 use Rattle.command_law.specs.Fitting.{IsAnswer, IsHeardAlike}

@@ -1,6 +1,9 @@
 use Rattle.std.proofs.Common.{ℕ, ◌^◌, ◌<◌, Bool, true, false, List, [], ◌++◌, length, Option, Some, refl, ◌∙◌, arith}
-use Rattle.wire_defs.specs.QueryInfo.{QueryInfoResponseValue, SpellsQueryInfoResponse, query_info_response_fault, query_info_response_in, query_info_response_spelling}
-use Rattle.wire_defs.specs.FileClasses.{SpellsFileStandardInformation, file_standard_information_fault, file_standard_information_in, IsWritableFileStandardInformation, file_standard_information_spelling, file_standard_information_table}
+use Rattle.wire_defs.specs.QueryInfo.{QueryInfoResponseValue, SpellsQueryInfoResponse, query_info_response_fault}
+use Rattle.wire_defs.specs.QueryInfo.{query_info_response_in, query_info_response_spelling}
+use Rattle.wire_defs.specs.FileClasses.{SpellsFileStandardInformation, file_standard_information_fault}
+use Rattle.wire_defs.specs.FileClasses.{file_standard_information_in, IsWritableFileStandardInformation}
+use Rattle.wire_defs.specs.FileClasses.{file_standard_information_spelling, file_standard_information_table}
 use Rattle.wire_defs.specs.declared.class.FileStandardInformation.{FileStandardInformation}
 use Rattle.wire_law.proofs.Rows.{length-with_fields, size_of}
 use Rattle.exchange_defs.specs.State.{Body, FileInfo, Info}

@@ -3,7 +3,10 @@ use Rattle.std.specs.Prelude.{◌==◌, ◌&&◌, nat_le, if◌then◌else◌}
 use Rattle.wire_defs.specs.declared.header.Header.{Header}
 use Rattle.wire_defs.specs.Classes.{is_query_class, is_directory_class}
 use Rattle.exchange_defs.specs.Commands.{Command, CreateRequest, SetEnd, SetBasic, Rename, SetDelete}
-use Rattle.exchange_defs.specs.Operations.{Op, OpCreate, OpWrite, OpRead, OpEnd, OpTime, OpRename, OpRemove, OpLock, OpUnlock, OpFlush, OpStat, OpList, OpClose, keeps_limits, is_create, request_of, reconnect_of, is_spelled_path, fits_32, fits_64, are_below, create_request, durable_of, only_written, lock_flags, element}
+use Rattle.exchange_defs.specs.Operations.{Op, OpCreate, OpWrite, OpRead, OpEnd, OpTime, OpRename, OpRemove, OpLock}
+use Rattle.exchange_defs.specs.Operations.{OpUnlock, OpFlush, OpStat, OpList, OpClose, keeps_limits, is_create}
+use Rattle.exchange_defs.specs.Operations.{request_of, reconnect_of, is_spelled_path, fits_32, fits_64, are_below}
+use Rattle.exchange_defs.specs.Operations.{create_request, durable_of, only_written, lock_flags, element}
 use Rattle.command_defs.specs.CommandOf.{Told, command_of, named_command}
 use Rattle.command_defs.specs.BodyOf.{body_of, number_of_command}
 use Rattle.command_law.specs.Fitting.{IsName}

@@ -2,7 +2,8 @@ use Rattle.std.proofs.Common.{◌≡◌, ℕ, ◌^◌, ◌<◌, Bool, true, fals
 use Rattle.std.specs.Prelude.{◌==◌, not}
 use Rattle.wire_defs.specs.Utf16.{utf16}
 use Rattle.wire_defs.specs.Classes.{is_set_class}
-use Rattle.wire_defs.specs.SetInfo.{IsWritableSetInfoRequest, SetInfoRequestValue, SpellsSetInfoRequest, set_info_request_fault, set_info_request_in}
+use Rattle.wire_defs.specs.SetInfo.{IsWritableSetInfoRequest, SetInfoRequestValue, SpellsSetInfoRequest}
+use Rattle.wire_defs.specs.SetInfo.{set_info_request_fault, set_info_request_in}
 use Rattle.wire_defs.specs.FileClasses
 use Rattle.wire_defs.specs.declared.class.FileBasicInformation.{FileBasicInformation}
 use Rattle.wire_defs.specs.declared.class.FileDispositionInformation.{FileDispositionInformation}
