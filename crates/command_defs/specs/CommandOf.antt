@@ -1,6 +1,6 @@
 -- The command of a request by its bytes, and the message that the server hears (MS-SMB2 2.2.1, 3.3.5.2).
-use Rattle.std.specs.Prelude.{ℕ, zero, suc, ◌/◌, ◌%◌, ◌==◌, Bool, not, ◌||◌, if◌then◌else◌, List, [], ◌∷◌, length, drop}
-use Rattle.std.specs.Prelude.{Option, Some, None, is_some, is_none, option_map}
+use Rattle.std.specs.Prelude.{ℕ, zero, suc, ◌/◌, ◌%◌, ◌==◌, Bool, true, false, not, ◌||◌, if◌then◌else◌, List, [], ◌∷◌, length, drop}
+use Rattle.std.specs.Prelude.{Option, Some, None, is_some, option_map}
 use Rattle.wire_defs.specs.Places.{number}
 use Rattle.wire_defs.specs.declared.header.Header.{Header}
 use Rattle.wire_defs.specs.declared.error.MessageError.{MessageError}
@@ -77,6 +77,14 @@ setup_of t h readable v =
       signing = t.signing;
       shows = t.shows v.security;
     })
+
+-- of a body that doesn't read nothing is told
+abbrev pub no_setup : SessionSetupRequestValue
+no_setup = record { flags = 0; security_mode = 0; capabilities = 0; channel = 0; previous_session_id = 0; security = [] }
+
+abbrev pub setup_if : Told → Header → Option MessageError → SessionSetupRequestValue → Command
+setup_if t h (Some e) v = setup_of t h false no_setup
+setup_if t h None v = setup_of t h true v
 
 -- ---- TREE_CONNECT (2.2.9): the share's name stands behind the last `\` of the path
 
@@ -188,7 +196,7 @@ echo_status None None = success
 -- ---- each command, in the order of their numbers; m is the message from its header on
 
 unfoldable pub setup_in : Told → Header → List ℕ → Command
-setup_in t h m = setup_of t h (is_none (session_setup_request_fault m)) (session_setup_request_in m)
+setup_in t h m = setup_if t h (session_setup_request_fault m) (session_setup_request_in m)
 
 unfoldable pub logoff_in : List ℕ → Command
 logoff_in m = unless (bare_fault m) Logoff

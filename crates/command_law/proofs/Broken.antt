@@ -37,7 +37,7 @@ module _ {V E : Type 0} (value : List ℕ → V) (fault : List ℕ → Option E)
       next_item (is_some (fault m)) (number 4 m 0 == 0) (value (piece m)) _ (ap is_some b.0) (is_linked (number 4 m 0) b.1)
       ∙ ap (option_map (λ (vs : List V). value (piece m) ∷ vs)) (first_broken k n (drop (number 4 m 0) m) e b.2)
 
-  items_broken : (m : List ℕ) (e : E) → BreaksChain fault m e → items_in value (λ m. is_some (fault m)) m ≡ None
+  pub items_broken : (m : List ℕ) (e : E) → BreaksChain fault m e → items_in value (λ m. is_some (fault m)) m ≡ None
   unfolding items_in
   items_broken [] e b = absurd (b.some refl)
   items_broken (x ∷ xs) e b = first_broken b.count (length (x ∷ xs)) (x ∷ xs) e b.break

@@ -13,6 +13,6 @@ mod request;
 mod setting;
 
 pub use dialog::{dialog_reply_law, share_law};
-pub use reading::same_reading_law;
+pub use reading::{same_listing_law, same_reading_law};
 pub use reply::reply_law;
 pub use request::request_law;

@@ -8,6 +8,13 @@ ghost use Rattle.wire_defs.specs.declared.refusal.TextError.{TextError};
 ghost use Rattle.wire_defs.specs.declared.refusal.TextError.TheVariants as errors;
 ghost use Rattle.command_defs.specs.CommandOf.{contexts_in};
 ghost use Rattle.command_defs.specs.Text.{text_in};
+ghost use Rattle.command_defs.specs.Items.{items_in};
+ghost use Rattle.std.specs.Prelude.{is_some};
+ghost use Rattle.wire_defs.specs.Directory.{DirectoryEntryValue, SpellsListing, BreaksListing, directory_entry_in, first_entry_fault};
+ghost use Rattle.wire_defs.specs.declared.directory_class.DirectoryClass.{DirectoryClass};
+ghost use Rattle.wire_defs.specs.declared.error.MessageError.{MessageError};
+
+use info_law::directory_entry_law;
 
 /// Contexts and texts read as the wire's own grammar says: what is spelled gives its value, and what has a
 /// break gives none.
@@ -17,3 +24,11 @@ pub fn same_reading_law()
     ensures text { (t : List ℕ) → IsUtf8 t → text_in (utf16 t) ≡ Some t }
     ensures no_text { (bytes : List ℕ) (e : TextError) → BreaksUtf16 bytes e → (e ≡ errors.Memory → ⊥) → text_in bytes ≡ None }
 {}
+
+/// A listing reads as the wire's own grammar says, in each class: its entries, or none where it has a break.
+pub fn same_listing_law()
+    ensures listing { (c : DirectoryClass) (m : List ℕ) (vs : List DirectoryEntryValue) → SpellsListing c m vs → items_in (directory_entry_in c) (λ m. is_some (first_entry_fault c m)) m ≡ Some vs }
+    ensures no_listing { (c : DirectoryClass) (m : List ℕ) (e : MessageError) → BreaksListing c m e → items_in (directory_entry_in c) (λ m. is_some (first_entry_fault c m)) m ≡ None }
+{
+    directory_entry_law();
+}

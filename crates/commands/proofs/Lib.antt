@@ -1,0 +1,12 @@
+pub mod Guids
+pub mod Unless
+pub mod Leaf
+pub mod Elements
+pub mod Sizes
+pub mod Listed
+pub mod Contexts
+pub mod Halves
+pub mod Places
+pub mod Refused
+pub mod Heard
+pub mod Joined

@@ -1,0 +1,18 @@
+-- A command of a body that reads, and of one that doesn't.
+use Rattle.std.proofs.Common.{◌≡◌, false, Option, Some, None, sym, ap, ◌∙◌}
+use Rattle.wire_defs.specs.declared.error.MessageError.{MessageError}
+use Rattle.exchange_defs.specs.Commands.{Command, Unreadable}
+use Rattle.wire_defs.specs.declared.header.Header.{Header}
+use Rattle.wire_defs.specs.SessionSetup.{SessionSetupRequestValue}
+use Rattle.command_defs.specs.CommandOf.{Told, unless, status_of, setup_of, setup_if, no_setup}
+
+pub where_it_reads : (fault : Option MessageError) (c d : Command) → fault ≡ None → d ≡ c → d ≡ unless fault c
+where_it_reads fault c d none is = is ∙ sym (ap (λ (e : Option MessageError). unless e c) none)
+
+pub where_it_breaks : (fault : Option MessageError) (c d : Command) (e : MessageError) → fault ≡ Some e → d ≡ Unreadable
+    (status_of e) → d ≡ unless fault c
+where_it_breaks fault c d e some is = is ∙ sym (ap (λ (e : Option MessageError). unless e c) some)
+
+pub setup_where_it_breaks : (t : Told) (h : Header) (fault : Option MessageError) (v : SessionSetupRequestValue) (c : Command) (e : MessageError)
+    → fault ≡ Some e → c ≡ setup_of t h false no_setup → c ≡ setup_if t h fault v
+setup_where_it_breaks t h fault v c e some is = is ∙ sym (ap (λ (f : Option MessageError). setup_if t h f v) some)
