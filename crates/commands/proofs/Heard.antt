@@ -1,6 +1,8 @@
 -- The names of a listing, one after the other.
-use Rattle.std.proofs.Common.{◌≡◌, ℕ, ◌+◌, List, [], ◌∷◌, ◌++◌, drop, Option, Some, None, refl, sym, ap, ◌∙◌, append_assoc}
+use Rattle.std.proofs.Common.{◌≡◌, ℕ, ◌+◌, ◌≤◌, List, [], ◌∷◌, ◌++◌, length, drop, Option, Some, None, refl, sym, ap, ◌∙◌, append_assoc}
 use Rattle.std.specs.Prelude.{option_map}
+use Rattle.std.proofs.Math.ListN.{drop_of_length-le}
+use Rattle.std.proofs.lemmas.List.{append-nil}
 use Rattle.wire_defs.specs.Directory.{DirectoryEntryValue}
 use Rattle.exchange_defs.specs.State.{Named}
 use Rattle.command_defs.specs.Text.{text_in}
@@ -29,3 +31,9 @@ unfolding names_of
 names_stop es got i v front text is =
     sym (is ∙ ap (λ (l : List DirectoryEntryValue). found_before got (names_of l)) front
     ∙ ap (λ (o : Option (List ℕ)). found_before got (in_front (option_map (named_of v.end_of_file) o) (names_of (drop (i + 1) es)))) text)
+
+pub names_end : (es : List DirectoryEntryValue) (got : List Named) (i : ℕ) → length es ≤ i → names_of es ≡ found_before got (names_of (drop i es))
+    → Some got ≡ names_of es
+unfolding names_of
+names_end es got i past is =
+    sym (is ∙ ap (λ (l : List DirectoryEntryValue). found_before got (names_of l)) (drop_of_length-le es past) ∙ ap Some (append-nil got))

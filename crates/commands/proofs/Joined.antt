@@ -136,6 +136,7 @@ messages_go_on ms m i out front is =
     ∙ sym (append_assoc out (joined_if (nat_lt (i + 1) (length ms)) m) (frame_spelling (drop (i + 1) ms)))
 
 pub small_at : (ms : List Message) (i : ℕ) (m : Message) (rest : List Message) → AreSmall ms → drop i ms ≡ m ∷ rest → next_place m < 2 ^ 32
-small_at [] i m rest are is = absurd cc
+small_at [] zero m rest are is = absurd (let none : [] ≡ m ∷ rest = is in cc)
+small_at [] (suc i) m rest are is = absurd (let none : [] ≡ m ∷ rest = is in cc)
 small_at (n ∷ ns) zero m rest are is = let same : n ≡ m = cc in subst (λ (k : Message). next_place k < 2 ^ 32) same are.0
 small_at (n ∷ ns) (suc i) m rest are is = small_at ns i m rest are.1 is

@@ -59,6 +59,7 @@ entries_go_on c ns n i out front is =
     ∙ sym (append_assoc out (entry_if (nat_lt (i + 1) (length ns)) c (entry_of c n)) (listed c (drop (i + 1) ns)))
 
 pub listed_at : (ns : List Named) (i : ℕ) (n : Named) (rest : List Named) → AreListed ns → drop i ns ≡ n ∷ rest → length (utf16 n.name) < 2 ^ 31
-listed_at [] i n rest are is = absurd cc
+listed_at [] zero n rest are is = absurd (let none : [] ≡ n ∷ rest = is in cc)
+listed_at [] (suc i) n rest are is = absurd (let none : [] ≡ n ∷ rest = is in cc)
 listed_at (m ∷ ms) zero n rest are is = let same : m ≡ n = cc in subst (λ (k : Named). length (utf16 k.name) < 2 ^ 31) same are.0
 listed_at (m ∷ ms) (suc i) n rest are is = listed_at ms i n rest are.1 is

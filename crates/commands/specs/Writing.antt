@@ -10,17 +10,20 @@ use Rattle.wire_defs.specs.Directory.{DirectoryEntryValue}
 use Rattle.commands.specs.declared.fault.WriteError.{WriteError}
 use Rattle.commands.specs.declared.fault.WriteError.TheVariants.{Memory, Unwritable}
 
+-- why a part wasn't written: it doesn't fit, or memory ran out
+abbrev pub IsRefused : Type 0 → WriteError → Type 0
+IsRefused fits Unwritable = fits → ⊥
+IsRefused fits Memory = ⊤
+
 -- the bytes, or why there are none
 abbrev pub Writes : Type 0 → List ℕ → Result (List ℕ) WriteError → Type 0
 Writes fits spelling (Ok bytes) = bytes ≡ spelling
-Writes fits spelling (Err Unwritable) = fits → ⊥
-Writes fits spelling (Err Memory) = ⊤
+Writes fits spelling (Err e) = IsRefused fits e
 
 -- bytes put behind others, or why they weren't
 abbrev pub Puts : {X : Type 0} → Type 0 → List ℕ → List ℕ → List ℕ → Result X WriteError → Type 0
 Puts fits more old new (Ok u) = new ≡ old ++ more
-Puts fits more old new (Err Unwritable) = fits → ⊥
-Puts fits more old new (Err Memory) = ⊤
+Puts fits more old new (Err e) = IsRefused fits e
 
 -- a text whose length in UTF-16 fits a field of 2 bytes
 abbrev pub IsShort : List ℕ → Type 0

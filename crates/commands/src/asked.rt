@@ -6,12 +6,13 @@ ghost use Rattle.commands.specs.Meaning;
 
 use crate::command::Command;
 use crate::create::create_in;
+use crate::ids::has_bit;
 use crate::lock::lock_in;
 use crate::plain::{
     close_in, flush_in, ioctl_in, logoff_in, read_in, tree_disconnect_in, write_in,
 };
 use crate::query::{list_in, query_in};
-use crate::request::Request;
+use crate::request::{Message, Request};
 use crate::session::{echo_form, setup_in, tree_connect_in};
 use crate::setting::set_in;
 use crate::status::{INVALID_PARAMETER, NOT_SUPPORTED};
@@ -76,5 +77,30 @@ pub fn request_of<'a>(
             Ok(command) => Ok(Some(Request::Command(command))),
             Err(error) => Err(error),
         },
+    }
+}
+
+/// The message that the server hears of a command: the header's ids, channel sequence and replay flag with what its
+/// connection is and found (MS-SMB2 2.2.1.2). `fault` is ACCESS_DENIED where the request isn't signed or sealed as
+/// owed.
+pub fn heard_as<'a>(
+    connection: u32,
+    client_guid: u128,
+    fault: Option<u32>,
+    header: &Header,
+    command: Command<'a>,
+) -> Message<'a>
+    ensures { (t : Told) → t.connection ≡ connection → t.client ≡ client_guid → t.fault ≡ fault → Meaning.message_of result ≡ CommandOf.heard_as t header.now (Meaning.command_of command.entry) }
+{
+    Message {
+        connection,
+        client_guid,
+        session_id: header.session,
+        tree_id: header.tree,
+        message_id: header.message,
+        channel_sequence: (header.status % 65536) as u16,
+        replay: has_bit(header.flags, 0x2000_0000),
+        fault,
+        command,
     }
 }

@@ -14,7 +14,6 @@ use msg_info::{DirectoryClass, DirectoryEntry, ListingError, read_listing};
 use std::alloc::{AllocError, Global};
 
 // An entry, with those behind it.
-#[tactic(auto, using(crate::proofs::Places::front_is))]
 fn entry_at<'a>(found: &[DirectoryEntry<'a>], at: usize) -> DirectoryEntry<'a>
     requires { at < length found.now }
     ensures { drop at (entries found.now) ≡ directory_entry result ∷ drop (at + 1) (entries found.now) }
@@ -23,10 +22,7 @@ fn entry_at<'a>(found: &[DirectoryEntry<'a>], at: usize) -> DirectoryEntry<'a>
 }
 
 // The names of entries, where all are text.
-fn names_of(
-    alloc: Global,
-    found: &[DirectoryEntry<'_>],
-) -> Result<Option<Vec<Named>>, AllocError>
+fn names_of(alloc: Global, found: &[DirectoryEntry<'_>]) -> Result<Option<Vec<Named>>, AllocError>
     ensures { IfOk result (λ names. option_map (λ v. map Meaning.named_of v.items) names ≡ ReplyOf.names_of (entries found.now)) }
 {
     let mut names = Vec::new(alloc);
@@ -36,13 +32,13 @@ fn names_of(
             Ok(text) => text,
             Err(error) => return Err(error),
         };
-        let Some(name) = text else {
-            return Ok(None);
-        };
-        names.push(Named {
-            name,
-            info: of_length(entry.end_of_file),
-        })?;
+        match text {
+            Some(name) => names.push(Named {
+                name,
+                info: of_length(entry.end_of_file),
+            })?,
+            None => return Ok(None),
+        }
     }
     Ok(Some(names))
 }

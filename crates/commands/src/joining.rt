@@ -57,7 +57,6 @@ fn put_one(out: &mut Out, m: &Unjoined<'_>, more: bool) -> Result<(), WriteError
 }
 
 // A message, with those behind it.
-#[tactic(auto, using(crate::proofs::Places::front_is))]
 fn message_at<'a>(messages: &[Unjoined<'a>], at: usize) -> Unjoined<'a>
     requires { at < length messages.now }
     ensures { drop at (map frames.message_of messages.now) ≡ frames.message_of result ∷ drop (at + 1) (map frames.message_of messages.now) }

@@ -25,7 +25,7 @@ mod status;
 mod texts;
 mod volume;
 
-pub use asked::request_of;
+pub use asked::{heard_as, request_of};
 pub use command::{Command, CreateRequest, Durable, Reconnect, Setting};
 pub use exchange_defs::values::{Basic, Element};
 pub use fault::WriteError;

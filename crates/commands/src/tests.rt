@@ -1,8 +1,8 @@
 use super::*;
 use smb_bytes::Bytes;
+use smb_header::split_compound;
 use std::alloc::{AllocError, Global};
 use std::test::*;
-use smb_header::split_compound;
 use wire_defs::{Header, Span};
 
 fn header_of(command: u16, status: u32) -> Header {
@@ -44,12 +44,16 @@ fn a_write_both_ways(rt: HostRuntime) -> Result<(), Fail> {
     let message = behind_header(rt.alloc(), &WRITE)?;
     let found = request_of(rt.alloc(), &header_of(9, 0), message.as_slice())?;
     match found {
-        Some(Request::Command(Command::Write {
-            file,
-            at,
-            bytes,
-            channel,
-        })) => {
+        Some(
+            Request::Command(
+                Command::Write {
+                    file,
+                    at,
+                    bytes,
+                    channel,
+                },
+            ),
+        ) => {
             assert_eq!(rt; (file, at, channel), (9, 7, 0));
             assert_eq!(rt; bytes, b"hello".as_slice());
         }
@@ -111,7 +115,14 @@ fn messages_of_a_frame(rt: HostRuntime) -> Result<(), Fail> {
     let parts = split_compound(rt.alloc(), frame.as_slice())?;
     assert_eq!(rt;
         parts.as_slice(),
-        [Span { start: 0, end: 72 }, Span { start: 72, end: 157 }].as_slice()
+        [
+            Span { start: 0, end: 72 },
+            Span {
+                start: 72,
+                end: 157
+            }
+        ]
+        .as_slice()
     );
     Ok(())
 }

@@ -24,7 +24,7 @@ returns-in_ok-ioctl_body-in-Ioctl c = rw c.in-Ioctl.is (c.in_ok-ioctl_body-in-Io
 
 pub returns-in-ListDirectory : goal.returns-in-ListDirectory
 returns-in-ListDirectory c = rw c.in-ListDirectory.is (c.list_body.ensures c.args.token.now c.in-ListDirectory.file
-c.in-ListDirectory.class c.in-ListDirectory.restart c.in-ListDirectory.single c.in-ListDirectory.pattern c.in-ListDirectory.room)
+    c.in-ListDirectory.class c.in-ListDirectory.restart c.in-ListDirectory.single c.in-ListDirectory.pattern c.in-ListDirectory.room)
 
 pub returns-in-QueryFile : goal.returns-in-QueryFile
 returns-in-QueryFile c = rw c.in-QueryFile.is (c.file_body.ensures c.args.token.now c.in-QueryFile.file c.in-QueryFile.class c.in-QueryFile.room)
