@@ -1,12 +1,17 @@
 -- What is written in several parts is short.
-use Rattle.std.proofs.Common.{◌≡◌, ℕ, ◌+◌, ◌*◌, ◌<◌, ◌≤◌, Bool, true, false, List, [], ◌∷◌, ◌++◌, length, Option, Some, None, refl, ap, ◌∙◌, arith, length-append, add_assoc}
+use Rattle.std.proofs.Common.{◌≡◌, ℕ, ◌+◌, ◌*◌, ◌<◌, ◌≤◌, Bool, true, false, List, [], ◌∷◌, ◌++◌, length, Option, Some}
+use Rattle.std.proofs.Common.{None, refl, ap, ◌∙◌, arith, length-append, add_assoc}
 use Rattle.std.specs.Prelude.{◌^◌, ◌==◌, if◌then◌else◌, flat_map, option_map}
 use Rattle.wire_defs.specs.Places.{le, gap_to_8}
 use Rattle.wire_defs.specs.Aligned.{aligned_gap}
 use Rattle.wire_defs.proofs.Numbers.{length-le}
 use Rattle.wire_defs.specs.Table.{Field, Num, Raw, Any, with_fields}
 use Rattle.wire_defs.specs.Chain.{chain_spelling}
-use Rattle.wire_defs.specs.CreateContexts.{CreateContext, context_spelling, context_size, context_whole, dh2q, dh2c, mxac, qfid, asked, dh2q_asked, dh2c_asked, asked_contexts, dh2q_told, mxac_told, qfid_told, told_contexts, dh2q_table, dh2c_table, dh2q_reply_table, maximal_access_table, disk_id_table, reply_contexts_spelling, create_contexts_spelling}
+use Rattle.wire_defs.specs.CreateContexts.{CreateContext, context_spelling, context_size, context_whole, dh2q, dh2c}
+use Rattle.wire_defs.specs.CreateContexts.{mxac, qfid, asked, dh2q_asked, dh2c_asked, asked_contexts, dh2q_told}
+use Rattle.wire_defs.specs.CreateContexts.{mxac_told, qfid_told, told_contexts, dh2q_table, dh2c_table}
+use Rattle.wire_defs.specs.CreateContexts.{dh2q_reply_table, maximal_access_table, disk_id_table}
+use Rattle.wire_defs.specs.CreateContexts.{reply_contexts_spelling, create_contexts_spelling}
 use Rattle.wire_defs.specs.declared.context.ReplyContexts.{ReplyContexts}
 use Rattle.wire_defs.specs.declared.context.Dh2qReply.{Dh2qReply}
 use Rattle.wire_defs.specs.declared.context.MaximalAccess.{MaximalAccess}
@@ -97,8 +102,17 @@ told_short c =
     let a = told_dh2q c.dh2q in
     let b = told_mxac c.mxac in
     let d = told_qfid c.qfid in
-    let short = chain_short (told_contexts c) (short_append (dh2q_told c.dh2q) _ a.0 (short_append (mxac_told c.mxac) (qfid_told c.qfid) b.0 d.0)) in
-    omega (arith, short, a.1, b.1, d.1, length-append (dh2q_told c.dh2q) (mxac_told c.mxac ++ qfid_told c.qfid), length-append (mxac_told c.mxac) (qfid_told c.qfid))
+    let short = chain_short (told_contexts c)
+    (short_append (dh2q_told c.dh2q) _ a.0 (short_append (mxac_told c.mxac) (qfid_told c.qfid) b.0 d.0)) in
+    omega (
+      arith,
+      short,
+      a.1,
+      b.1,
+      d.1,
+      length-append (dh2q_told c.dh2q) (mxac_told c.mxac ++ qfid_told c.qfid),
+      length-append (mxac_told c.mxac) (qfid_told c.qfid),
+    )
 
 -- of a request that a client writes
 
@@ -136,7 +150,9 @@ asked_short r =
     let e = asked_qfid r.disk_id in
     let front = dh2q_asked (option_map dh2q_of r.durable) in
     let middle = dh2c_asked (option_map dh2c_of r.reconnect) in
-    let short = chain_short (asked_contexts (contexts_of r)) (short_append front _ a.0 (short_append middle _ b.0 (short_append (asked r.maximal mxac) (asked r.disk_id qfid) d.0 e.0))) in
+    let short = chain_short (asked_contexts (contexts_of r))
+    (short_append front _ a.0 (short_append middle _ b.0 (short_append (asked r.maximal mxac) (asked r.disk_id qfid)
+    d.0 e.0))) in
     omega (
       arith,
       short,

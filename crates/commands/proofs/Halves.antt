@@ -21,7 +21,8 @@ split (suc w) k (suc all) n r q size is small =
     let first : r % 256 ≡ n % 256 = omega (arith, up) in
     let next : n / 256 ≡ r / 256 + x = omega (arith, up) in
     let wide : 256 ^ suc w ≡ 256 ^ w * 256 = pow-suc 256 w in
-    let later : le w (r / 256) ++ le k q ≡ le all (n / 256) = split w k all (n / 256) (r / 256) q (omega (arith, size)) next (omega (arith, wide, small)) in
+    let later : le w (r / 256) ++ le k q ≡ le all (n / 256) = split w k all (n / 256) (r / 256) q (omega (arith, size))
+    next (omega (arith, wide, small)) in
     ap (λ (b : ℕ). b ∷ (le w (r / 256) ++ le k q)) first ∙ ap (λ (l : List ℕ). n % 256 ∷ l) later
 
 pub guid_halves : (n : ℕ) → le 8 (n % 0x1_0000_0000_0000_0000) ++ le 8 (n / 0x1_0000_0000_0000_0000) ≡ guid_id n

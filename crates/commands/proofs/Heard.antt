@@ -12,7 +12,8 @@ use Rattle.command_defs.specs.ReplyOf.{named_of, in_front, names_of}
 abbrev pub found_before : List Named → Option (List Named) → Option (List Named)
 found_before got o = option_map (λ (rest : List Named). got ++ rest) o
 
-ahead : (got : List Named) (n : Named) (o : Option (List Named)) → found_before got (option_map (λ (ns : List Named). n ∷ ns) o) ≡ found_before (got ++ n ∷ []) o
+ahead : (got : List Named) (n : Named) (o : Option (List Named))
+    → found_before got (option_map (λ (ns : List Named). n ∷ ns) o) ≡ found_before (got ++ n ∷ []) o
 ahead got n None = refl
 ahead got n (Some rest) = ap Some (sym (append_assoc got (n ∷ []) rest))
 
@@ -32,7 +33,8 @@ names_stop es got i v front text is =
     sym (is ∙ ap (λ (l : List DirectoryEntryValue). found_before got (names_of l)) front
     ∙ ap (λ (o : Option (List ℕ)). found_before got (in_front (option_map (named_of v.end_of_file) o) (names_of (drop (i + 1) es)))) text)
 
-pub names_end : (es : List DirectoryEntryValue) (got : List Named) (i : ℕ) → length es ≤ i → names_of es ≡ found_before got (names_of (drop i es))
+pub names_end : (es : List DirectoryEntryValue) (got : List Named) (i : ℕ) → length es ≤ i → names_of es
+    ≡ found_before got (names_of (drop i es))
     → Some got ≡ names_of es
 unfolding names_of
 names_end es got i past is =

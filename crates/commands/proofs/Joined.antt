@@ -1,5 +1,6 @@
 -- Messages that were joined are split again.
-use Rattle.std.proofs.Common.{◌≡◌, ℕ, zero, suc, Bool, true, false, ◌+◌, ◌%◌, ◌^◌, ◌<◌, ◌≤◌, List, [], ◌∷◌, ◌++◌, length, drop, refl, sym, ap, subst, ◌∙◌, arith, length-append, append_assoc}
+use Rattle.std.proofs.Common.{◌≡◌, ℕ, zero, suc, Bool, true, false, ◌+◌, ◌%◌, ◌^◌, ◌<◌, ◌≤◌, List, [], ◌∷◌, ◌++◌}
+use Rattle.std.proofs.Common.{length, drop, refl, sym, ap, subst, ◌∙◌, arith, length-append, append_assoc}
 use Rattle.std.specs.Prelude.{nat_lt}
 use Rattle.std.proofs.lemmas.Grind.{common_steps}
 use Rattle.std.proofs.Math.Seq.{drop-append_seam}
@@ -9,7 +10,8 @@ use Rattle.wire_defs.specs.Compound.{HasHeader, LeadsOn, IsJoined, AreJoined, Is
 use Rattle.wire_defs.specs.declared.header.Header.{Header}
 use Rattle.wire_defs.specs.declared.header.Span.{Span}
 use Rattle.wire_defs.proofs.Numbers.{length-le}
-use Rattle.commands.specs.Joining.{Message, header_before, message_spelling, message_size, next_place, frame_spelling, spans_from, joined_if, AreJoinable, AreSmall}
+use Rattle.commands.specs.Joining.{Message, header_before, message_spelling, message_size, next_place, frame_spelling}
+use Rattle.commands.specs.Joining.{spans_from, joined_if, AreJoinable, AreSmall}
 
 record Found (frame : List ℕ) (from : ℕ) (spans : List Span) : Type 0 where
   joined : List Span
@@ -25,7 +27,16 @@ behind front rest at e = ap (λ (n : ℕ). drop n (front ++ rest)) e ∙ drop-ap
 module _ (again : (rest : List ℕ) (h : Header) → IsWritableHeader h → SpellsHeader (header_spelling h ++ rest) h)
     (sized : (h : Header) → IsWritableHeader h → length (header_spelling h) ≡ 64) where
   told : (h : Header) (next : ℕ) → IsWritableHeader (header_before h 0) → next < 256 ^ 4 → IsWritableHeader (header_before h next)
-  told h next is small = (is.0, (is.1.0, (is.1.1.0, (is.1.1.1.0, (is.1.1.1.1.0, (is.1.1.1.1.1.0, (is.1.1.1.1.1.1.0, (small, is.1.1.1.1.1.1.1.1))))))))
+  told h next is small = (
+    is.0,
+    (
+      is.1.0,
+      (
+        is.1.1.0,
+        (is.1.1.1.0, (is.1.1.1.1.0, (is.1.1.1.1.1.0, (is.1.1.1.1.1.1.0, (small, is.1.1.1.1.1.1.1.1))))),
+      ),
+    ),
+  )
 
   -- the header of a message behind a front
   stands : (front rest : List ℕ) (at : ℕ) (m : Message) (next : ℕ) → at ≡ length front → IsWritableHeader (header_before m.header next)
@@ -37,7 +48,11 @@ module _ (again : (rest : List ℕ) (h : Header) → IsWritableHeader h → Spel
       subst (λ (l : List ℕ). SpellsHeader l h) same (again (m.body ++ rest) h is)
 
   size_is : (m : Message) (next : ℕ) → IsWritableHeader (header_before m.header next) → length (message_spelling m next) ≡ message_size m
-  size_is m next is = omega (arith, length-append (header_spelling (header_before m.header next)) m.body, sized (header_before m.header next) is)
+  size_is m next is = omega (
+    arith,
+    length-append (header_spelling (header_before m.header next)) m.body,
+    sized (header_before m.header next) is,
+  )
 
   long : (m : Message) (ms : List Message) → AreJoinable (m ∷ ms) → 64 ≤ length (frame_spelling (m ∷ ms))
   long m [] is = omega (arith, size_is m 0 is.0, length-append (message_spelling m 0) [])
@@ -95,7 +110,8 @@ module _ (again : (rest : List ℕ) (h : Header) → IsWritableHeader h → Spel
         length-append front (first ++ rest),
       ) in
       let header : HasHeader frame at (header_before m.header next) = subst (λ (l : List ℕ). HasHeader (front ++ l) at
-      (header_before m.header next)) (sym (append_assoc (message_spelling m next) gap rest)) (stands front (gap ++ rest) at m next e is_next) in
+      (header_before m.header next)) (sym (append_assoc (message_spelling m next) gap rest))
+      (stands front (gap ++ rest) at m next e is_next) in
       record {
         joined = record { start = at; end = at + next } ∷ later.joined;
         last = later.last;
@@ -104,7 +120,8 @@ module _ (again : (rest : List ℕ) (h : Header) → IsWritableHeader h → Spel
         whole = ap (λ (ss : List Span). record { start = at; end = at + next } ∷ ss) later.whole;
       }
 
-  pub joined_again : (m : Message) (ms : List Message) → AreJoinable (m ∷ ms) → SpellsCompound (frame_spelling (m ∷ ms)) (spans_from 0 (m ∷ ms))
+  pub joined_again : (m : Message) (ms : List Message) → AreJoinable (m ∷ ms) → SpellsCompound (frame_spelling (m ∷ ms))
+      (spans_from 0 (m ∷ ms))
   joined_again m ms is =
       let found : Found (frame_spelling (m ∷ ms)) 0 (spans_from 0 (m ∷ ms)) = joined_from [] 0 m ms refl is in
       record { joined = found.joined; last = found.last; are_joined = found.are_joined; is_last = found.is_last; whole = found.whole }

@@ -1,5 +1,6 @@
 -- The part of a path behind its last `\`.
-use Rattle.std.proofs.Common.{◌≡◌, ℕ, ◌==◌, Bool, true, false, ◌||◌, if◌then◌else◌, List, [], ◌∷◌, ◌++◌, length, take, drop, get_or, ◌+◌, ◌<◌, ◌≢◌, refl, sym, ap, ◌∙◌, arith}
+use Rattle.std.proofs.Common.{◌≡◌, ℕ, ◌==◌, Bool, true, false, ◌||◌, if◌then◌else◌, List, [], ◌∷◌, ◌++◌, length, take}
+use Rattle.std.proofs.Common.{drop, get_or, ◌+◌, ◌<◌, ◌≢◌, refl, sym, ap, ◌∙◌, arith}
 use Prim.Native.Nat.{suc}
 use Rattle.std.proofs.lemmas.Grind.{common_steps}
 use Rattle.std.proofs.lemmas.List.{append_assoc, append-nil, take-append-drop}
@@ -20,7 +21,8 @@ leaf_stays leaf (c ∷ cs) e = let a = append_assoc leaf (c ∷ []) cs in let h 
 leaf_found : (leaf d name : List ℕ) → has_slash name ≡ false → leaf_from leaf (d ++ 92 ∷ name) ≡ name
 unfolding leaf_from has_slash
 leaf_found leaf [] name e = leaf_stays [] name e
-leaf_found leaf (c ∷ cs) name e = let h = leaf_found (leaf ++ c ∷ []) cs name e in let g = leaf_found [] cs name e in grind (arith, common_steps)
+leaf_found leaf (c ∷ cs) name e = let h = leaf_found (leaf ++ c ∷ []) cs name e in let g = leaf_found [] cs name e in
+    grind (arith, common_steps)
 
 leaf_is : (d name : List ℕ) → has_slash name ≡ false → leaf_of (d ++ 92 ∷ name) ≡ name
 unfolding leaf_of
@@ -32,10 +34,13 @@ no_slash [] h = refl
 no_slash (c ∷ cs) h = let a = h 0 (grind arith) in let b = no_slash cs (λ i l e. h (suc i) (omega arith) e) in grind (arith, common_steps)
 
 -- a path cut at its last backslash
-pub leaf_split : (s leaf : List ℕ) (i j : ℕ) → leaf ≡ drop j s → NoCharPasses (λ d. d == 92) (drop j s) → HasCharAt 92 s i j → leaf ≡ leaf_of s
+pub leaf_split : (s leaf : List ℕ) (i j : ℕ) → leaf ≡ drop j s → NoCharPasses (λ d. d == 92) (drop j s)
+    → HasCharAt 92 s i j → leaf ≡ leaf_of s
 leaf_split s leaf i j f n h =
     let d = drop_at_char 92 s i j h (omega arith) in
-    f ∙ (sym (leaf_is (take i s) (drop j s) (no_slash (drop j s) (λ k l. NoCharPasses-char 92 (drop j s) k n (omega arith) l))) ∙ ap leaf_of (ap (λ l. take i s ++ l) (sym d) ∙ take-append-drop i s))
+    f ∙ (sym (leaf_is (take i s) (drop j s)
+    (no_slash (drop j s) (λ k l. NoCharPasses-char 92 (drop j s) k n (omega arith) l)))
+    ∙ ap leaf_of (ap (λ l. take i s ++ l) (sym d) ∙ take-append-drop i s))
 
 pub leaf_none : (s : List ℕ) → NoCharPasses (λ d. d == 92) s → s ≡ leaf_of s
 unfolding leaf_of

@@ -1,5 +1,6 @@
 -- The entries of a listing as they are written one behind the other.
-use Rattle.std.proofs.Common.{◌≡◌, ℕ, zero, suc, ◌+◌, ◌<◌, Bool, true, false, List, [], ◌∷◌, ◌++◌, length, drop, map, refl, sym, ap, subst, ◌∙◌, arith, append_assoc}
+use Rattle.std.proofs.Common.{◌≡◌, ℕ, zero, suc, ◌+◌, ◌<◌, Bool, true, false, List, [], ◌∷◌, ◌++◌, length, drop, map}
+use Rattle.std.proofs.Common.{refl, sym, ap, subst, ◌∙◌, arith, append_assoc}
 use Rattle.std.specs.Prelude.{nat_lt, ◌^◌}
 use Rattle.std.proofs.lemmas.Grind.{common_steps}
 use Rattle.wire_defs.specs.Utf16.{utf16}
@@ -16,16 +17,20 @@ module _ (v : DirectoryEntryValue) (n : Named) (more : Bool) where
   pub told_directory : FullEntry v n.info 0 (utf16 n.name) → entry_if more class.Directory v ≡ entry_if more class.Directory (with_info n 0)
   told_directory is = cc
 
-  pub told_full : FullEntry v n.info 0 (utf16 n.name) → entry_if more class.FullDirectory v ≡ entry_if more class.FullDirectory (with_info n 0)
+  pub told_full : FullEntry v n.info 0 (utf16 n.name) → entry_if more class.FullDirectory v
+      ≡ entry_if more class.FullDirectory (with_info n 0)
   told_full is = cc
 
-  pub told_both : FullEntry v n.info 0 (utf16 n.name) → entry_if more class.BothDirectory v ≡ entry_if more class.BothDirectory (with_info n 0)
+  pub told_both : FullEntry v n.info 0 (utf16 n.name) → entry_if more class.BothDirectory v
+      ≡ entry_if more class.BothDirectory (with_info n 0)
   told_both is = cc
 
-  pub told_id_both : FullEntry v n.info n.info.file (utf16 n.name) → entry_if more class.IdBothDirectory v ≡ entry_if more class.IdBothDirectory (with_info n n.info.file)
+  pub told_id_both : FullEntry v n.info n.info.file (utf16 n.name) → entry_if more class.IdBothDirectory v
+      ≡ entry_if more class.IdBothDirectory (with_info n n.info.file)
   told_id_both is = cc
 
-  pub told_id_full : FullEntry v n.info n.info.file (utf16 n.name) → entry_if more class.IdFullDirectory v ≡ entry_if more class.IdFullDirectory (with_info n n.info.file)
+  pub told_id_full : FullEntry v n.info n.info.file (utf16 n.name) → entry_if more class.IdFullDirectory v
+      ≡ entry_if more class.IdFullDirectory (with_info n n.info.file)
   told_id_full is = cc
 
 -- ---- one behind the other
@@ -58,7 +63,8 @@ entries_go_on c ns n i out front is =
     n) ++ listed c (drop (i + 1) ns)) (some_is (i + 1) ns))
     ∙ sym (append_assoc out (entry_if (nat_lt (i + 1) (length ns)) c (entry_of c n)) (listed c (drop (i + 1) ns)))
 
-pub listed_at : (ns : List Named) (i : ℕ) (n : Named) (rest : List Named) → AreListed ns → drop i ns ≡ n ∷ rest → length (utf16 n.name) < 2 ^ 31
+pub listed_at : (ns : List Named) (i : ℕ) (n : Named) (rest : List Named) → AreListed ns → drop i ns ≡ n ∷ rest
+    → length (utf16 n.name) < 2 ^ 31
 listed_at [] zero n rest are is = absurd (let none : [] ≡ n ∷ rest = is in cc)
 listed_at [] (suc i) n rest are is = absurd (let none : [] ≡ n ∷ rest = is in cc)
 listed_at (m ∷ ms) zero n rest are is = let same : m ≡ n = cc in subst (λ (k : Named). length (utf16 k.name) < 2 ^ 31) same are.0

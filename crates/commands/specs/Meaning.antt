@@ -5,7 +5,9 @@ use Rattle.exchange_defs.specs.State as says
 use Rattle.command_defs.specs.CommandOf.{Told}
 use Rattle.exchange_defs.specs.Status.{success}
 use Rattle.commands.specs.declared.command.Command.{Command}
-use Rattle.commands.specs.declared.command.Command.TheVariants.{Unreadable, Aside, Setup, Logoff, TreeConnect, TreeDisconnect, Create, Close, Flush, Read, Write, Lock, Ioctl, ListDirectory, QueryFile, QueryVolume, SetInfo}
+use Rattle.commands.specs.declared.command.Command.TheVariants.{Unreadable, Aside, Setup, Logoff, TreeConnect}
+use Rattle.commands.specs.declared.command.Command.TheVariants.{TreeDisconnect, Create, Close, Flush, Read, Write, Lock}
+use Rattle.commands.specs.declared.command.Command.TheVariants.{Ioctl, ListDirectory, QueryFile, QueryVolume, SetInfo}
 use Rattle.commands.specs.declared.command.CreateRequest.{CreateRequest}
 use Rattle.commands.specs.declared.command.Durable.{Durable}
 use Rattle.commands.specs.declared.command.Reconnect.{Reconnect}
@@ -20,7 +22,8 @@ use Rattle.commands.specs.declared.request.Request.TheVariants as requests
 use Rattle.commands.specs.declared.request.Message.{Message}
 use Rattle.commands.specs.declared.reply.Reply.{Reply}
 use Rattle.commands.specs.declared.reply.Body.{Body}
-use Rattle.commands.specs.declared.reply.Body.TheVariants.{Empty, Created, Closed, Content, Count, Interfaces, Listing, FileInfo, VolumeInfo, SetUp, Connected}
+use Rattle.commands.specs.declared.reply.Body.TheVariants.{Empty, Created, Closed, Content, Count, Interfaces, Listing}
+use Rattle.commands.specs.declared.reply.Body.TheVariants.{FileInfo, VolumeInfo, SetUp, Connected}
 use Rattle.commands.specs.declared.reply.Info.{Info}
 use Rattle.commands.specs.declared.reply.CreateReply.{CreateReply}
 use Rattle.commands.specs.declared.reply.Named.{Named}

@@ -37,7 +37,8 @@ AreListed (n ∷ ns) = (length (utf16 n.name) < 2 ^ 31) × AreListed ns
 abbrev pub FitsSaid : says.Body → Type 0
 FitsSaid (says.Content bytes) = length bytes < 2 ^ 32
 FitsSaid (says.Listing class entries) = AreListed entries × (length (listing_bytes class entries) < 2 ^ 32)
-FitsSaid (says.FileInfo class path info access options) = (length (utf16 (92 ∷ path)) < 2 ^ 32) × (length (file_bytes class path info access options) < 2 ^ 32)
+FitsSaid (says.FileInfo class path info access options) = (length (utf16 (92 ∷ path)) < 2 ^ 32)
+    × (length (file_bytes class path info access options) < 2 ^ 32)
 FitsSaid says.Empty = Unit {0}
 FitsSaid (says.Created reply) = Unit {0}
 FitsSaid (says.Closed info) = Unit {0}

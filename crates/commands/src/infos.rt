@@ -2,7 +2,9 @@
 ghost use Rattle.std.specs.Prelude.{◌≡◌, ◌<◌, ◌^◌, ◌∷◌, ℕ, List, length, IfOk};
 ghost use Rattle.wire_defs.specs.Places.{le};
 ghost use Rattle.wire_defs.specs.Utf16.{utf16};
-ghost use Rattle.wire_defs.specs.FileClasses.{file_basic_information_spelling, file_standard_information_spelling, file_internal_information_spelling, file_all_information_spelling, file_network_open_information_spelling};
+ghost use Rattle.wire_defs.specs.FileClasses.{file_basic_information_spelling, file_standard_information_spelling};
+ghost use Rattle.wire_defs.specs.FileClasses.{file_internal_information_spelling, file_all_information_spelling};
+ghost use Rattle.wire_defs.specs.FileClasses.{file_network_open_information_spelling};
 ghost use Rattle.command_defs.specs.Infos;
 ghost use Rattle.command_defs.specs.Tables.{bit_if};
 ghost use Rattle.commands.specs.Meaning;

@@ -91,7 +91,7 @@ fn what_was_read_both_ways(rt: HostRuntime) -> Result<(), Fail> {
     assert_eq!(rt; body.as_slice(), CONTENT.as_slice());
     let message = behind_header(rt.alloc(), &CONTENT)?;
     let heard = reply_of(rt.alloc(), &command, &header_of(8, 0), message.as_slice())?;
-    match heard.body {
+    match &heard.body {
         Body::Content { bytes } => assert_eq!(rt; bytes.as_slice(), b"hello".as_slice()),
         _ => assert!(rt; false, "no content"),
     }

@@ -2,7 +2,10 @@
 ghost use Rattle.std.specs.Prelude.{◌≡◌, IfOk, ◌∷◌, []};
 ghost use Rattle.wire_defs.specs.Utf16.{utf16};
 ghost use Rattle.command_defs.specs.Infos;
-ghost use Rattle.wire_defs.specs.VolumeClasses.{file_fs_volume_information_spelling, file_fs_size_information_spelling, file_fs_device_information_spelling, file_fs_attribute_information_spelling, file_fs_full_size_information_spelling};
+ghost use Rattle.wire_defs.specs.VolumeClasses.{file_fs_volume_information_spelling, file_fs_size_information_spelling};
+ghost use Rattle.wire_defs.specs.VolumeClasses.{file_fs_device_information_spelling};
+ghost use Rattle.wire_defs.specs.VolumeClasses.{file_fs_attribute_information_spelling};
+ghost use Rattle.wire_defs.specs.VolumeClasses.{file_fs_full_size_information_spelling};
 ghost use Rattle.commands.specs.Meaning;
 
 use crate::reply::Address;

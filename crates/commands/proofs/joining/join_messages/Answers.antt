@@ -16,7 +16,8 @@ pub loop-at-preserved : goal.loop-at-preserved
 loop-at-preserved c =
     let ms : List Message = map message_of c.args.messages.now in
     let m : Message = message_of c.message_at-message.result in
-    let more : c.has_more-more.result ≡ nat_lt (c.loop-at.at + 1) (length ms) = c.has_more-more.ensures ∙ ap (λ (k : ℕ). nat_lt (c.loop-at.at + 1) k) (sym (length-map c.args.messages.now message_of)) in
+    let more : c.has_more-more.result ≡ nat_lt (c.loop-at.at + 1) (length ms) = c.has_more-more.ensures
+    ∙ ap (λ (k : ℕ). nat_lt (c.loop-at.at + 1) k) (sym (length-map c.args.messages.now message_of)) in
     let put : c.put_one.new.out ≡ c.loop-at.out ++ joined_if (nat_lt (c.loop-at.at + 1) (length ms)) m =
     c.in-Ok.ensures ∙ ap (λ (b : Bool). c.loop-at.out ++ joined_if b m) more in
     rw put (messages_go_on ms m c.loop-at.at c.loop-at.out c.message_at-message.ensures c.loop-at.invariant)

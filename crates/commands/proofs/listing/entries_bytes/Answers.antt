@@ -25,7 +25,9 @@ loop-at-preserved c =
     let n : says.Named = named_of c.index-entries-at.result in
     let front : drop c.loop-at.at ns ≡ n ∷ drop (c.loop-at.at + 1) ns = front_is named_of c.args.entries.now c.loop-at.at
     c.index-entries-at.result c.index-entries-at.is c.loop-at-test.true in
-    let more : c.has_more-more.result ≡ nat_lt (c.loop-at.at + 1) (length ns) = c.has_more-more.ensures ∙ ap (λ (k : ℕ). nat_lt (c.loop-at.at + 1) k) (sym (length-map c.args.entries.now named_of)) in
-    let put : c.put_named.new.out ≡ c.loop-at.out ++ entry_if (nat_lt (c.loop-at.at + 1) (length ns)) c.args.class (entry_of c.args.class n) =
+    let more : c.has_more-more.result ≡ nat_lt (c.loop-at.at + 1) (length ns) = c.has_more-more.ensures
+    ∙ ap (λ (k : ℕ). nat_lt (c.loop-at.at + 1) k) (sym (length-map c.args.entries.now named_of)) in
+    let put : c.put_named.new.out ≡ c.loop-at.out ++ entry_if (nat_lt (c.loop-at.at + 1) (length ns)) c.args.class
+    (entry_of c.args.class n) =
     c.in-Ok.ensures ∙ ap (λ (b : Bool). c.loop-at.out ++ entry_if b c.args.class (entry_of c.args.class n)) more in
     rw put (entries_go_on c.args.class ns n c.loop-at.at c.loop-at.out front c.loop-at.invariant)

@@ -8,5 +8,6 @@ use Rattle.commands.proofs.spelling.create.Goals as goal
 
 pub write_create_request-requires-clause-contexts : goal.write_create_request-requires-clause-contexts
 write_create_request-requires-clause-contexts c =
-    let same : c.as_slice-2.result.now ≡ create_contexts_spelling (contexts_of (create_of c.args.r.now)) = c.as_slice-2.ensures ∙ c.in_ok-contexts.ensures in
+    let same : c.as_slice-2.result.now ≡ create_contexts_spelling (contexts_of (create_of c.args.r.now)) =
+    c.as_slice-2.ensures ∙ c.in_ok-contexts.ensures in
     subst (λ (l : List ℕ). length l < 2 ^ 32) (sym same) (asked_short (create_of c.args.r.now))
