@@ -90,7 +90,8 @@ pub fn heard_as<'a>(
     header: &Header,
     command: Command<'a>,
 ) -> Message<'a>
-    ensures { (t : Told) → t.connection ≡ connection → t.client ≡ client_guid → t.fault ≡ fault → Meaning.message_of result ≡ CommandOf.heard_as t header.now (Meaning.command_of command.entry) }
+    ensures { (t : Told) → t.connection ≡ connection → t.client ≡ client_guid → t.fault ≡ fault → Meaning.message_of result
+        ≡ CommandOf.heard_as t header.now (Meaning.command_of command.entry) }
 {
     Message {
         connection,

@@ -71,7 +71,8 @@ fn named_create<'a>(v: &msg_file::CreateRequest<'_>, path: Text, c: &CreateConte
 }
 
 fn create_of<'a>(alloc: Global, v: &msg_file::CreateRequest<'_>) -> Result<Command<'a>, AllocError>
-    ensures { IfOk result (λ c. Meaning.command_of c ≡ CommandOf.create_of (create_request v.now) (text_in v.now.name.now) (CommandOf.contexts_in v.now.contexts.now)) }
+    ensures { IfOk result (λ c. Meaning.command_of c ≡ CommandOf.create_of (create_request v.now) (text_in v.now.name.now)
+        (CommandOf.contexts_in v.now.contexts.now)) }
 {
     match text_in(alloc, v.name) {
         Ok(Some(path)) => match contexts_in(v.contexts) {

@@ -99,7 +99,8 @@ fn empty_if(reads: bool) -> Option<Body>
 
 #[tactic(auto, unfolding(command_defs::specs::ReplyOf::body_in))]
 fn content_in(alloc: Global, m: &[u8]) -> Result<Option<Body>, AllocError>
-    ensures { (file at size minimum channel : ℕ) → IfOk result (λ found. option_map Meaning.body_of found ≡ ReplyOf.body_in (asks.Read file at size minimum channel) m.now) }
+    ensures { (file at size minimum channel : ℕ) → IfOk result
+        (λ found. option_map Meaning.body_of found ≡ ReplyOf.body_in (asks.Read file at size minimum channel) m.now) }
 {
     match read_read_response(m) {
         Ok(v) => match Bytes::from_slice(alloc, v.payload) {
@@ -112,7 +113,8 @@ fn content_in(alloc: Global, m: &[u8]) -> Result<Option<Body>, AllocError>
 
 #[tactic(auto, unfolding(command_defs::specs::ReplyOf::body_in))]
 fn count_in(m: &[u8]) -> Option<Body>
-    ensures { (file at : ℕ) (bytes : List ℕ) (channel : ℕ) → option_map Meaning.body_of result ≡ ReplyOf.body_in (asks.Write file at bytes channel) m.now }
+    ensures { (file at : ℕ) (bytes : List ℕ) (channel : ℕ) → option_map Meaning.body_of result
+        ≡ ReplyOf.body_in (asks.Write file at bytes channel) m.now }
 {
     match read_write_response(m) {
         Ok(v) => Some(Body::Count { count: v.count }),
@@ -153,7 +155,9 @@ fn file_in(alloc: Global, class: u8, m: &[u8]) -> Option<Body>
 
 #[tactic(auto, unfolding(command_defs::specs::ReplyOf::body_in))]
 fn list_in(alloc: Global, class: u8, m: &[u8]) -> Result<Option<Body>, AllocError>
-    ensures { (file : ℕ) (restart single : Bool) (pattern : List ℕ) (room : ℕ) → IfOk result (λ found. option_map Meaning.body_of found ≡ ReplyOf.body_in (asks.ListDirectory file class restart single pattern room) m.now) }
+    ensures { (file : ℕ) (restart single : Bool) (pattern : List ℕ) (room : ℕ) → IfOk result
+        (λ found. option_map Meaning.body_of found ≡ ReplyOf.body_in (asks.ListDirectory file class restart single pattern room)
+        m.now) }
 {
     match read_query_directory_response(m) {
         Ok(v) => listing_in(alloc, class, v.output),
@@ -205,7 +209,8 @@ fn other_body() -> Body
 }
 
 fn body_of(alloc: Global, command: &Command<'_>, status: u32, m: &[u8]) -> Result<Body, AllocError>
-    ensures { IfOk result (λ b. Meaning.body_of b ≡ (if status == success then ReplyOf.or_other (ReplyOf.body_in (Meaning.command_of command.now) m.now) else says.Empty)) }
+    ensures { IfOk result (λ b. Meaning.body_of b
+        ≡ (if status == success then ReplyOf.or_other (ReplyOf.body_in (Meaning.command_of command.now) m.now) else says.Empty)) }
 {
     if status != 0 {
         return Ok(Body::Empty);

@@ -126,7 +126,8 @@ fn all(
     options: u32,
 ) -> Result<Bytes, AllocError>
     requires { length name.now < 2 ^ 32 }
-    ensures { (path : List ℕ) → name.now ≡ utf16 (92 ∷ path) → IfOk result (λ b. b ≡ file_all_information_spelling (Infos.all_of path (Meaning.info_of info.now) access options)) }
+    ensures { (path : List ℕ) → name.now ≡ utf16 (92 ∷ path) → IfOk result
+        (λ b. b ≡ file_all_information_spelling (Infos.all_of path (Meaning.info_of info.now) access options)) }
 {
     let value = FileAllInformation {
         creation_time: info.times.created,
@@ -157,7 +158,8 @@ pub(crate) fn file_bytes(
     access: u32,
     options: u32,
 ) -> Result<Bytes, WriteError>
-    ensures { Writes (length (utf16 (92 ∷ path.now)) < 2 ^ 32) (Infos.file_bytes class path.now (Meaning.info_of info.now) access options) result }
+    ensures { Writes (length (utf16 (92 ∷ path.now)) < 2 ^ 32) (Infos.file_bytes class path.now (Meaning.info_of info.now) access
+        options) result }
 {
     match class {
         4 => Ok(basic(alloc, info)?),

@@ -29,7 +29,8 @@ fn put_message(out: &mut Out, m: &Unjoined<'_>, next: u32) -> Result<(), AllocEr
 
 // A message padded to a multiple of 8, which others follow.
 fn put_joined(out: &mut Out, m: &Unjoined<'_>) -> Result<(), WriteError>
-    ensures { Puts (frames.next_place (frames.message_of m.now) < 2 ^ 32) (frames.joined_if true (frames.message_of m.now)) out.old out.new result }
+    ensures { Puts (frames.next_place (frames.message_of m.now) < 2 ^ 32) (frames.joined_if true (frames.message_of m.now))
+        out.old out.new result }
 {
     let len = m.body.len();
     if len >= 0xffff_ffc0 {
@@ -47,7 +48,8 @@ fn put_joined(out: &mut Out, m: &Unjoined<'_>) -> Result<(), WriteError>
 
 // A message, with whether more follow.
 fn put_one(out: &mut Out, m: &Unjoined<'_>, more: bool) -> Result<(), WriteError>
-    ensures { Puts (frames.next_place (frames.message_of m.now) < 2 ^ 32) (frames.joined_if more (frames.message_of m.now)) out.old out.new result }
+    ensures { Puts (frames.next_place (frames.message_of m.now) < 2 ^ 32) (frames.joined_if more (frames.message_of m.now))
+        out.old out.new result }
 {
     if more {
         return put_joined(out, m);
@@ -68,7 +70,8 @@ fn message_at<'a>(messages: &[Unjoined<'a>], at: usize) -> Unjoined<'a>
 /// NextCommand of each header is told here, whatever it was. `Unwritable` comes only where a message is longer than
 /// NextCommand can say. Each message's signature is still to be written, over its padding too.
 pub fn join_messages(alloc: Global, messages: &[Unjoined<'_>]) -> Result<Bytes, WriteError>
-    ensures { Writes (frames.AreSmall (map frames.message_of messages.now)) (frames.frame_spelling (map frames.message_of messages.now)) result }
+    ensures { Writes (frames.AreSmall (map frames.message_of messages.now))
+        (frames.frame_spelling (map frames.message_of messages.now)) result }
 {
     let mut out = Out::new(alloc);
     for at in 0..messages.len() {
@@ -84,7 +87,8 @@ pub fn join_messages(alloc: Global, messages: &[Unjoined<'_>]) -> Result<Bytes, 
 
 /// Messages that were joined, one at least, are split again where they began, each with its padding.
 pub fn joined_law()
-    ensures { (m : frames.Message) (ms : List frames.Message) → frames.AreJoinable (m ∷ ms) → SpellsCompound (frames.frame_spelling (m ∷ ms)) (frames.spans_from 0 (m ∷ ms)) }
+    ensures { (m : frames.Message) (ms : List frames.Message) → frames.AreJoinable (m ∷ ms)
+        → SpellsCompound (frames.frame_spelling (m ∷ ms)) (frames.spans_from 0 (m ∷ ms)) }
 {
     header_law();
 }

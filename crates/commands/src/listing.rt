@@ -69,7 +69,8 @@ fn only_name(name: &[u8]) -> DirectoryEntry<'_>
 // The entry of a file whose name is these bytes in UTF-16.
 #[tactic(auto, using(crate::proofs::Listed::told_directory, crate::proofs::Listed::told_full, crate::proofs::Listed::told_both, crate::proofs::Listed::told_id_both, crate::proofs::Listed::told_id_full))]
 fn entry_of<'a>(class: DirectoryClass, info: &Info, name: &'a [u8]) -> DirectoryEntry<'a>
-    ensures told { (n : says.Named) (more : Bool) → n.info ≡ Meaning.info_of info.now → utf16 n.name ≡ name.now → entry_if more class (directory_entry result) ≡ entry_if more class (Infos.entry_of class n) }
+    ensures told { (n : says.Named) (more : Bool) → n.info ≡ Meaning.info_of info.now → utf16 n.name ≡ name.now
+        → entry_if more class (directory_entry result) ≡ entry_if more class (Infos.entry_of class n) }
     ensures name { result.name.now ≡ name.now }
 {
     match class {
@@ -90,7 +91,8 @@ fn put_named(
     named: &Named,
     more: bool,
 ) -> Result<(), WriteError>
-    ensures { Puts (length (utf16 named.now.name) < 2 ^ 31) (entry_if more class (Infos.entry_of class (Meaning.named_of named.now))) out.old out.new result }
+    ensures { Puts (length (utf16 named.now.name) < 2 ^ 31)
+        (entry_if more class (Infos.entry_of class (Meaning.named_of named.now))) out.old out.new result }
 {
     let name = utf16_of(alloc, named.name.as_str())?;
     if name.len() >= 0x8000_0000 {
@@ -113,7 +115,8 @@ fn entries_bytes(
     class: DirectoryClass,
     entries: &[Named],
 ) -> Result<Bytes, WriteError>
-    ensures { Writes (AreListed (map Meaning.named_of entries.now)) (listing_spelling class (Infos.entries_of class (map Meaning.named_of entries.now))) result }
+    ensures { Writes (AreListed (map Meaning.named_of entries.now))
+        (listing_spelling class (Infos.entries_of class (map Meaning.named_of entries.now))) result }
 {
     let mut out = Out::new(alloc);
     for at in 0..entries.len() {

@@ -63,7 +63,8 @@ fn setup_body(alloc: Global, token: &[u8], body: &Body) -> Result<Bytes, AllocEr
 }
 
 fn tree_body(alloc: Global, body: &Body) -> Result<Bytes, AllocError>
-    ensures { (token share : List ℕ) → IfOk result (λ b. b ≡ ReplyBody.success_body token (asks.TreeConnect share) (Meaning.body_of body.now)) }
+    ensures { (token share : List ℕ) → IfOk result
+        (λ b. b ≡ ReplyBody.success_body token (asks.TreeConnect share) (Meaning.body_of body.now)) }
 {
     match body {
         Body::Connected {
@@ -146,7 +147,8 @@ fn created(alloc: Global, r: &CreateReply) -> Result<Bytes, AllocError>
 }
 
 fn create_body(alloc: Global, body: &Body) -> Result<Bytes, AllocError>
-    ensures { (token : List ℕ) (r : asks.CreateRequest) → IfOk result (λ b. b ≡ ReplyBody.success_body token (asks.Create r) (Meaning.body_of body.now)) }
+    ensures { (token : List ℕ) (r : asks.CreateRequest) → IfOk result
+        (λ b. b ≡ ReplyBody.success_body token (asks.Create r) (Meaning.body_of body.now)) }
 {
     match body {
         Body::Created(reply) => created(alloc, reply),
@@ -188,7 +190,8 @@ fn untold(alloc: Global) -> Result<Bytes, AllocError>
 }
 
 fn close_body(alloc: Global, body: &Body) -> Result<Bytes, AllocError>
-    ensures { (token : List ℕ) (file : ℕ) (query : Bool) → IfOk result (λ b. b ≡ ReplyBody.success_body token (asks.Close file query) (Meaning.body_of body.now)) }
+    ensures { (token : List ℕ) (file : ℕ) (query : Bool) → IfOk result
+        (λ b. b ≡ ReplyBody.success_body token (asks.Close file query) (Meaning.body_of body.now)) }
 {
     match body {
         Body::Closed { info } => closed(alloc, info),
@@ -198,7 +201,9 @@ fn close_body(alloc: Global, body: &Body) -> Result<Bytes, AllocError>
 }
 
 fn read_body(alloc: Global, body: &Body) -> Result<Bytes, WriteError>
-    ensures { (token : List ℕ) (file at size minimum channel : ℕ) → Writes (FitsSaid (Meaning.body_of body.now)) (ReplyBody.success_body token (asks.Read file at size minimum channel) (Meaning.body_of body.now)) result }
+    ensures { (token : List ℕ) (file at size minimum channel : ℕ)
+        → Writes (FitsSaid (Meaning.body_of body.now)) (ReplyBody.success_body token (asks.Read file at size minimum channel)
+        (Meaning.body_of body.now)) result }
 {
     match body {
         Body::Content { bytes } => {
@@ -216,7 +221,8 @@ fn read_body(alloc: Global, body: &Body) -> Result<Bytes, WriteError>
 }
 
 fn write_body(alloc: Global, body: &Body) -> Result<Bytes, AllocError>
-    ensures { (token : List ℕ) (file at : ℕ) (payload : List ℕ) (channel : ℕ) → IfOk result (λ b. b ≡ ReplyBody.success_body token (asks.Write file at payload channel) (Meaning.body_of body.now)) }
+    ensures { (token : List ℕ) (file at : ℕ) (payload : List ℕ) (channel : ℕ) → IfOk result
+        (λ b. b ≡ ReplyBody.success_body token (asks.Write file at payload channel) (Meaning.body_of body.now)) }
 {
     match body {
         Body::Count { count } => {
@@ -232,7 +238,8 @@ fn write_body(alloc: Global, body: &Body) -> Result<Bytes, AllocError>
 
 #[tactic(auto, using(crate::proofs::Contexts::interface_short))]
 fn ioctl_body(alloc: Global, file: u64, code: u32, body: &Body) -> Result<Bytes, AllocError>
-    ensures { (token : List ℕ) (room : ℕ) → IfOk result (λ b. b ≡ ReplyBody.success_body token (asks.Ioctl file code room) (Meaning.body_of body.now)) }
+    ensures { (token : List ℕ) (room : ℕ) → IfOk result
+        (λ b. b ≡ ReplyBody.success_body token (asks.Ioctl file code room) (Meaning.body_of body.now)) }
 {
     match body {
         Body::Interfaces { address } => {
@@ -264,7 +271,10 @@ fn output_of_list(alloc: Global, output: &Bytes) -> Result<Bytes, WriteError>
 }
 
 fn list_body(alloc: Global, body: &Body) -> Result<Bytes, WriteError>
-    ensures { (token : List ℕ) (file class : ℕ) (restart single : Bool) (pattern : List ℕ) (room : ℕ) → Writes (FitsSaid (Meaning.body_of body.now)) (ReplyBody.success_body token (asks.ListDirectory file class restart single pattern room) (Meaning.body_of body.now)) result }
+    ensures { (token : List ℕ) (file class : ℕ) (restart single : Bool) (pattern : List ℕ) (room : ℕ)
+        → Writes (FitsSaid (Meaning.body_of body.now))
+        (ReplyBody.success_body token (asks.ListDirectory file class restart single pattern room) (Meaning.body_of body.now))
+        result }
 {
     match body {
         Body::Listing { class, entries } => {
@@ -289,7 +299,9 @@ fn output_of_query(alloc: Global, output: &Bytes) -> Result<Bytes, WriteError>
 }
 
 fn file_body(alloc: Global, body: &Body) -> Result<Bytes, WriteError>
-    ensures { (token : List ℕ) (file class room : ℕ) → Writes (FitsSaid (Meaning.body_of body.now)) (ReplyBody.success_body token (asks.QueryFile file class room) (Meaning.body_of body.now)) result }
+    ensures { (token : List ℕ) (file class room : ℕ)
+        → Writes (FitsSaid (Meaning.body_of body.now)) (ReplyBody.success_body token (asks.QueryFile file class room)
+        (Meaning.body_of body.now)) result }
 {
     match body {
         Body::FileInfo {
@@ -307,7 +319,9 @@ fn file_body(alloc: Global, body: &Body) -> Result<Bytes, WriteError>
 }
 
 fn volume_body(alloc: Global, body: &Body) -> Result<Bytes, WriteError>
-    ensures { (token : List ℕ) (file class room : ℕ) → Writes (FitsSaid (Meaning.body_of body.now)) (ReplyBody.success_body token (asks.QueryVolume file class room) (Meaning.body_of body.now)) result }
+    ensures { (token : List ℕ) (file class room : ℕ)
+        → Writes (FitsSaid (Meaning.body_of body.now)) (ReplyBody.success_body token (asks.QueryVolume file class room)
+        (Meaning.body_of body.now)) result }
 {
     match body {
         Body::VolumeInfo { class, room, used } => {
@@ -326,7 +340,8 @@ fn success_body(
     body: &Body,
 ) -> Result<Bytes, WriteError>
     requires { length token.now < 2 ^ 16 }
-    ensures { Writes (FitsSaid (Meaning.body_of body.now)) (ReplyBody.success_body token.now (Meaning.command_of command.now) (Meaning.body_of body.now)) result }
+    ensures { Writes (FitsSaid (Meaning.body_of body.now)) (ReplyBody.success_body token.now (Meaning.command_of command.now)
+        (Meaning.body_of body.now)) result }
 {
     match command {
         Command::Unreadable { status: _ } => Ok(Bytes::new(alloc)),
@@ -374,7 +389,8 @@ pub fn reply_body(
     command: &Command<'_>,
     reply: &Reply,
 ) -> Result<Bytes, WriteError>
-    ensures { Writes (FitsReply token.now (Meaning.reply_of reply.now)) (ReplyBody.reply_body token.now (Meaning.command_of command.now) (Meaning.reply_of reply.now)) result }
+    ensures { Writes (FitsReply token.now (Meaning.reply_of reply.now))
+        (ReplyBody.reply_body token.now (Meaning.command_of command.now) (Meaning.reply_of reply.now)) result }
 {
     if token.len() >= 0x1_0000 {
         return Err(WriteError::Unwritable);

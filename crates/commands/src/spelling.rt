@@ -56,7 +56,8 @@ fn share_path(alloc: Global, share: &str) -> Result<Bytes, AllocError>
 }
 
 fn tree_connect(alloc: Global, share: &str) -> Result<Bytes, WriteError>
-    ensures { Writes (length (utf16 (BodyOf.host ++ share.now)) < 2 ^ 16) (tree_connect_request_spelling (BodyOf.tree_connect_value share.now)) result }
+    ensures { Writes (length (utf16 (BodyOf.host ++ share.now)) < 2 ^ 16)
+        (tree_connect_request_spelling (BodyOf.tree_connect_value share.now)) result }
 {
     let path = share_path(alloc, share)?;
     if path.len() >= 0x1_0000 {
@@ -221,7 +222,8 @@ fn lock(
     number: u8,
     elements: &[Element],
 ) -> Result<Bytes, WriteError>
-    ensures { Writes ((16 * index + number < 2 ^ 32) × (1 ≤ length elements.now) × (length elements.now < 2 ^ 16)) (lock_request_spelling (BodyOf.lock_value file index number elements.now)) result }
+    ensures { Writes ((16 * index + number < 2 ^ 32) × (1 ≤ length elements.now) × (length elements.now < 2 ^ 16))
+        (lock_request_spelling (BodyOf.lock_value file index number elements.now)) result }
 {
     let Some(lock_sequence) = sequence_of(index, number) else {
         return Err(WriteError::Unwritable);
@@ -255,7 +257,8 @@ fn list(
     pattern: &str,
     room: u32,
 ) -> Result<Bytes, WriteError>
-    ensures { Writes (length (utf16 pattern.now) < 2 ^ 16) (query_directory_request_spelling (BodyOf.list_value file class restart single pattern.now room)) result }
+    ensures { Writes (length (utf16 pattern.now) < 2 ^ 16)
+        (query_directory_request_spelling (BodyOf.list_value file class restart single pattern.now room)) result }
 {
     let name = utf16_of(alloc, pattern)?;
     if name.len() >= 0x1_0000 {
@@ -301,7 +304,9 @@ fn basic_bytes(alloc: Global, basic: &Basic) -> Result<Bytes, AllocError>
 }
 
 fn rename_bytes(alloc: Global, replace: bool, path: &str) -> Result<Bytes, WriteError>
-    ensures { Writes (length (utf16 path.now) < 2 ^ 32) (file_rename_information_spelling (record { replace_if_exists = bit_if replace 1; root_directory = 0; name = utf16 path.now })) result }
+    ensures { Writes (length (utf16 path.now) < 2 ^ 32)
+        (file_rename_information_spelling
+        (record { replace_if_exists = bit_if replace 1; root_directory = 0; name = utf16 path.now })) result }
 {
     let name = utf16_of(alloc, path)?;
     if name.len() >= 0x1_0000_0000 {
@@ -368,7 +373,8 @@ fn class_of(setting: &Setting) -> u8
 }
 
 fn set(alloc: Global, file: u64, setting: &Setting) -> Result<Bytes, WriteError>
-    ensures { Writes (FitsAsked (asks.SetInfo file (Meaning.setting_of setting.now))) (set_info_request_spelling (BodyOf.set_value file (Meaning.setting_of setting.now))) result }
+    ensures { Writes (FitsAsked (asks.SetInfo file (Meaning.setting_of setting.now)))
+        (set_info_request_spelling (BodyOf.set_value file (Meaning.setting_of setting.now))) result }
 {
     let payload = setting_bytes(alloc, setting)?;
     if payload.len() >= 0x1_0000_0000 {
