@@ -1,13 +1,12 @@
 -- What is written in several parts is short.
 use Rattle.std.proofs.Common.{◌≡◌, ℕ, ◌+◌, ◌*◌, ◌<◌, ◌≤◌, Bool, true, false, List, [], ◌∷◌, ◌++◌, length, Option, Some}
-use Rattle.std.proofs.Common.{None, refl, ap, ◌∙◌, arith, length-append, add_assoc}
+use Rattle.std.proofs.Common.{None, ◌∙◌, arith, length-append}
 use Rattle.std.specs.Prelude.{◌^◌, ◌==◌, if◌then◌else◌, flat_map, option_map}
 use Rattle.wire_defs.specs.Places.{le, gap_to_8}
-use Rattle.wire_defs.specs.Aligned.{aligned_gap}
 use Rattle.wire_defs.proofs.Numbers.{length-le}
 use Rattle.wire_defs.specs.Table.{Field, Num, Raw, Any, with_fields}
 use Rattle.wire_defs.specs.Chain.{chain_spelling}
-use Rattle.wire_defs.specs.CreateContexts.{CreateContext, context_spelling, context_size, context_whole, dh2q, dh2c}
+use Rattle.wire_defs.specs.CreateContexts.{CreateContext, context_spelling, context_size, context_whole}
 use Rattle.wire_defs.specs.CreateContexts.{mxac, qfid, asked, dh2q_asked, dh2c_asked, asked_contexts, dh2q_told}
 use Rattle.wire_defs.specs.CreateContexts.{mxac_told, qfid_told, told_contexts, dh2q_table, dh2c_table}
 use Rattle.wire_defs.specs.CreateContexts.{dh2q_reply_table, maximal_access_table, disk_id_table}
@@ -16,8 +15,6 @@ use Rattle.wire_defs.specs.declared.context.ReplyContexts.{ReplyContexts}
 use Rattle.wire_defs.specs.declared.context.Dh2qReply.{Dh2qReply}
 use Rattle.wire_defs.specs.declared.context.MaximalAccess.{MaximalAccess}
 use Rattle.wire_defs.specs.declared.context.DiskId.{DiskId}
-use Rattle.wire_defs.specs.declared.context.Dh2q.{Dh2q}
-use Rattle.wire_defs.specs.declared.context.Dh2c.{Dh2c}
 use Rattle.wire_defs.specs.Interfaces.{network_interface_table}
 use Rattle.wire_defs.specs.Lock.{lock_element_table, lock_element_spelling}
 use Rattle.exchange_defs.specs.Commands.{CreateRequest, Durable, Reconnect, Element}

@@ -1,6 +1,5 @@
 -- The elements of a LOCK, one after the other.
 use Rattle.std.proofs.Common.{◌≡◌, ℕ, suc, ◌/◌, ◌<◌, ◌≤◌, List, [], ◌∷◌, ◌++◌, length, drop, ap, sym, ◌∙◌, arith, length-drop, append_assoc}
-use Rattle.std.proofs.lemmas.Grind.{common_steps}
 use Rattle.std.proofs.lemmas.List.{append-nil}
 use Rattle.wire_defs.specs.Places.{number}
 use Rattle.wire_defs.specs.Table.{Stands}

@@ -1,12 +1,12 @@
 -- Messages that were joined are split again.
-use Rattle.std.proofs.Common.{◌≡◌, ℕ, zero, suc, Bool, true, false, ◌+◌, ◌%◌, ◌^◌, ◌<◌, ◌≤◌, List, [], ◌∷◌, ◌++◌}
+use Rattle.std.proofs.Common.{◌≡◌, ℕ, zero, suc, Bool, true, false, ◌+◌, ◌^◌, ◌<◌, ◌≤◌, List, [], ◌∷◌, ◌++◌}
 use Rattle.std.proofs.Common.{length, drop, refl, sym, ap, subst, ◌∙◌, arith, length-append, append_assoc}
 use Rattle.std.specs.Prelude.{nat_lt}
 use Rattle.std.proofs.lemmas.Grind.{common_steps}
 use Rattle.std.proofs.Math.Seq.{drop-append_seam}
 use Rattle.wire_defs.specs.Places.{le, gap_to_8}
 use Rattle.wire_defs.specs.Header.{SpellsHeader, IsWritableHeader, header_spelling}
-use Rattle.wire_defs.specs.Compound.{HasHeader, LeadsOn, IsJoined, AreJoined, IsLast, SpellsCompound}
+use Rattle.wire_defs.specs.Compound.{HasHeader, AreJoined, IsLast, SpellsCompound}
 use Rattle.wire_defs.specs.declared.header.Header.{Header}
 use Rattle.wire_defs.specs.declared.header.Span.{Span}
 use Rattle.wire_defs.proofs.Numbers.{length-le}

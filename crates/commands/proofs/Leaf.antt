@@ -1,6 +1,6 @@
 -- The part of a path behind its last `\`.
-use Rattle.std.proofs.Common.{◌≡◌, ℕ, ◌==◌, Bool, true, false, ◌||◌, if◌then◌else◌, List, [], ◌∷◌, ◌++◌, length, take}
-use Rattle.std.proofs.Common.{drop, get_or, ◌+◌, ◌<◌, ◌≢◌, refl, sym, ap, ◌∙◌, arith}
+use Rattle.std.proofs.Common.{◌≡◌, ℕ, ◌==◌, Bool, false, ◌||◌, List, [], ◌∷◌, ◌++◌, length, take}
+use Rattle.std.proofs.Common.{drop, get_or, ◌<◌, ◌≢◌, refl, sym, ap, ◌∙◌, arith}
 use Prim.Native.Nat.{suc}
 use Rattle.std.proofs.lemmas.Grind.{common_steps}
 use Rattle.std.proofs.lemmas.List.{append_assoc, append-nil, take-append-drop}

@@ -1,5 +1,5 @@
 -- The entries of a listing as they are written one behind the other.
-use Rattle.std.proofs.Common.{◌≡◌, ℕ, zero, suc, ◌+◌, ◌<◌, Bool, true, false, List, [], ◌∷◌, ◌++◌, length, drop, map}
+use Rattle.std.proofs.Common.{◌≡◌, ℕ, zero, suc, ◌+◌, ◌<◌, Bool, true, false, List, [], ◌∷◌, ◌++◌, length, drop}
 use Rattle.std.proofs.Common.{refl, sym, ap, subst, ◌∙◌, arith, append_assoc}
 use Rattle.std.specs.Prelude.{nat_lt, ◌^◌}
 use Rattle.std.proofs.lemmas.Grind.{common_steps}
@@ -8,7 +8,7 @@ use Rattle.wire_defs.specs.Directory.{DirectoryEntryValue, listing_spelling}
 use Rattle.wire_defs.specs.declared.directory_class.DirectoryClass.{DirectoryClass}
 use Rattle.wire_defs.specs.declared.directory_class.DirectoryClass.TheVariants as class
 use Rattle.info_classes.specs.Listing.{entry_if}
-use Rattle.exchange_defs.specs.State.{Named, Info}
+use Rattle.exchange_defs.specs.State.{Named}
 use Rattle.command_defs.specs.Infos.{entry_of, entries_of, with_info}
 use Rattle.commands.specs.Writing.{FullEntry, AreListed}
 

@@ -1,11 +1,10 @@
-use Rattle.std.proofs.Common.{◌≡◌, ℕ, ◌+◌, ◌≤◌, List, [], ◌∷◌, ◌++◌, length, drop, map, Some, None, ap, ◌∙◌, arith}
+use Rattle.std.proofs.Common.{◌≡◌, ◌≤◌, List, [], ◌∷◌, ◌++◌, length, map, ap, ◌∙◌, arith}
 use Rattle.std.proofs.lemmas.Grind.{common_steps}
 use Rattle.std.proofs.lemmas.List.{map-append, length-map}
 use Rattle.wire_defs.specs.Directory.{DirectoryEntryValue}
 use Rattle.info_classes.specs.Views.{directory_entry}
 use Rattle.info_classes.specs.Listing.{entries}
 use Rattle.exchange_defs.specs.State as says
-use Rattle.command_defs.specs.Text.{text_in}
 use Rattle.command_defs.specs.ReplyOf as heard
 use Rattle.commands.specs.Meaning.{named_of}
 use Rattle.commands.specs.declared.reply.Named.{Named}
