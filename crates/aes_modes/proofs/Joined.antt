@@ -29,7 +29,7 @@ front_block : (a b : List ℕ) (i : ℕ) → 16 * i + 16 ≤ length a → block_
 unfolding block_at
 front_block a b i fit = same_sixteen (λ k. get_or (a ++ b) (16 * i + k) 0) (λ k. get_or a (16 * i + k) 0) (λ k lt. front_byte a b (16 * i + k) (omega arith))
 
-back_block : (a b : List ℕ) (n j : ℕ) → length a ≡ 16 * n → block_at (a ++ b) (n + j) ≡ block_at b j
+pub back_block : (a b : List ℕ) (n j : ℕ) → length a ≡ 16 * n → block_at (a ++ b) (n + j) ≡ block_at b j
 unfolding block_at
 back_block a b n j whole =
     same_sixteen (λ k. get_or (a ++ b) (16 * (n + j) + k) 0) (λ k. get_or b (16 * j + k) 0)
