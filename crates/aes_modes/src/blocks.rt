@@ -106,7 +106,8 @@ pub(crate) fn push_masked_block(
     key: &[u8; 16],
 ) -> Result<(), AllocError>
     requires { 16 * i ≤ length text.now }
-    ensures { OnOk result (out.new.items ≡ out.old.items ++ take (min (length text.now - 16 * i) 16) (block_sum (block_at text.now i) key.now)) }
+    ensures { OnOk result (out.new.items ≡ out.old.items ++ take (min (length text.now - 16 * i) 16) (block_sum
+        (block_at text.now i) key.now)) }
 {
     let masked = block_sum_of(&block_of(text, i), key);
     let count = (text.len() - 16 * i).min(16);
@@ -117,7 +118,8 @@ pub(crate) fn push_masked_block(
 #[inline(always)]
 pub(crate) fn mask_block(text: &mut [u8], i: usize, key: &[u8; 16])
     requires { 16 * i ≤ length text.old }
-    ensures { text.new ≡ take (16 * i) text.old ++ (take (min (length text.old - 16 * i) 16) (block_sum (block_at text.old i) key.now) ++ drop (16 * i + min (length text.old - 16 * i) 16) text.old) }
+    ensures { text.new ≡ take (16 * i) text.old ++ (take (min (length text.old - 16 * i) 16) (block_sum (block_at
+        text.old i) key.now) ++ drop (16 * i + min (length text.old - 16 * i) 16) text.old) }
 {
     let masked = block_sum_of(&block_of(text, i), key);
     let count = (text.len() - 16 * i).min(16);

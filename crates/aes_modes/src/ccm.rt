@@ -15,7 +15,8 @@ use std::alloc::{AllocError, Global};
 fn nonce_byte(first: u8, nonce: &[u8], n: u64, k: usize) -> u8
     requires long { 7 ≤ length nonce.now }
     requires place { k ≤ 15 }
-    ensures { result ≡ (if k == 0 then first else if nat_le k (length nonce.now) then slice_index nonce.now (k - 1) else big_byte (15 - length nonce.now) n (k - 1 - length nonce.now)) }
+    ensures { result ≡ (if k == 0 then first else if nat_le k (length nonce.now) then slice_index nonce.now (k - 1) else
+        big_byte (15 - length nonce.now) n (k - 1 - length nonce.now)) }
 {
     if k == 0 {
         first

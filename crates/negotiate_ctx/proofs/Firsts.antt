@@ -14,7 +14,8 @@ drop-all : (xs : List ℕ) → drop (length xs) xs ≡ []
 drop-all [] = refl
 drop-all (x ∷ xs) = drop-all xs
 
-pub cipher_passed : (xs : List ℕ) (k : ℕ) → k < length xs → is_cipher (get_or xs k 0) ≡ false → cipher_of (drop k xs) ≡ cipher_of (drop (k + 1) xs)
+pub cipher_passed : (xs : List ℕ) (k : ℕ) → k < length xs → is_cipher (get_or xs k 0) ≡ false → cipher_of (drop k xs) ≡
+    cipher_of (drop (k + 1) xs)
 unfolding cipher_of
 cipher_passed xs k lt none = rw (drop-here xs k lt, none) refl
 
@@ -26,7 +27,8 @@ pub cipher_none : (xs : List ℕ) → cipher_of (drop (length xs) xs) ≡ 0
 unfolding cipher_of
 cipher_none xs = rw (drop-all xs) refl
 
-pub signing_passed : (xs : List ℕ) (k : ℕ) → k < length xs → is_signing (get_or xs k 0) ≡ false → signing_of (drop k xs) ≡ signing_of (drop (k + 1) xs)
+pub signing_passed : (xs : List ℕ) (k : ℕ) → k < length xs → is_signing (get_or xs k 0) ≡ false → signing_of (drop k xs)
+    ≡ signing_of (drop (k + 1) xs)
 unfolding signing_of
 signing_passed xs k lt none = rw (drop-here xs k lt, none) refl
 

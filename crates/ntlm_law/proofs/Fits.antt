@@ -27,7 +27,8 @@ server_size now = refl
 number_front : (a b : List ℕ) (at : ℕ) → at + 2 ≤ length a → number 2 (a ++ b) at ≡ number 2 a at
 unfolding bytes_at
 number_front a b at fit =
-    ap number_of (ap (take 2) (drop-append-le at a b (omega arith)) ∙ take-append-le 2 (drop at a) b (let l = length-drop at a in omega arith))
+    ap number_of (ap (take 2) (drop-append-le at a b (omega arith)) ∙ take-append-le 2 (drop at a) b (let l =
+    length-drop at a in omega arith))
 
 not_short : (n k : ℕ) → k ≤ n → nat_lt n k ≡ false
 not_short n k h = grind (arith, nat_tests)
@@ -36,15 +37,18 @@ long_enough : (n k : ℕ) → nat_lt n k ≡ false → k ≤ n
 long_enough n k h = grind (arith, nat_tests)
 
 -- one whole pair in front
-one_pair : (m at : ℕ) (info rest : List ℕ) → 4 ≤ length info → (number 2 info 0 == 0) ≡ false → pair_size info ≤ length info → pairs_break (suc m) at (take (pair_size info) info ++ rest) ≡ pairs_break m (at + pair_size info) rest
+one_pair : (m at : ℕ) (info rest : List ℕ) → 4 ≤ length info → (number 2 info 0 == 0) ≡ false → pair_size info ≤ length
+    info → pairs_break (suc m) at (take (pair_size info) info ++ rest) ≡ pairs_break m (at + pair_size info) rest
 unfolding pairs_break
 one_pair m at info rest long more fits =
     let s : ℕ = pair_size info in
     let p : List ℕ = take s info in
     let size : length p ≡ s = length-take-le s info fits in
     let whole : p ++ drop s info ≡ info = take-append-drop s info in
-    let id : number 2 (p ++ rest) 0 ≡ number 2 info 0 = number_front p rest 0 (omega arith) ∙ sym (number_front p (drop s info) 0 (omega arith)) ∙ ap (λ (x : List ℕ). number 2 x 0) whole in
-    let count : number 2 (p ++ rest) 2 ≡ number 2 info 2 = number_front p rest 2 (omega arith) ∙ sym (number_front p (drop s info) 2 (omega arith)) ∙ ap (λ (x : List ℕ). number 2 x 2) whole in
+    let id : number 2 (p ++ rest) 0 ≡ number 2 info 0 = number_front p rest 0 (omega arith) ∙ sym (number_front p (drop
+    s info) 0 (omega arith)) ∙ ap (λ (x : List ℕ). number 2 x 0) whole in
+    let count : number 2 (p ++ rest) 2 ≡ number 2 info 2 = number_front p rest 2 (omega arith) ∙ sym (number_front p
+    (drop s info) 2 (omega arith)) ∙ ap (λ (x : List ℕ). number 2 x 2) whole in
     let all : length (p ++ rest) ≡ length p + length rest = length-append p rest in
     let told : nat_lt (length (p ++ rest)) 4 ≡ false = not_short (length (p ++ rest)) 4 (omega arith) in
     let inside : nat_lt (length (p ++ rest)) s ≡ false = not_short (length (p ++ rest)) s (omega arith) in
@@ -61,8 +65,11 @@ abbrev ended : Bool → Bool → Bool → ℕ → ℕ
 ended short done long rest = if short then 0 else if done then 0 else if long then 0 else rest
 
 one_more : (n m at at' : ℕ) (info tail : List ℕ) → Follows tail
-    → ((m at at' : ℕ) → pairs_break n at (drop (pair_size info) info) ≡ None → end_at n (drop (pair_size info) info) + 2 ≤ m → pairs_break m at' (take (end_at n (drop (pair_size info) info)) (drop (pair_size info) info) ++ tail) ≡ None)
-    → (short done long : Bool) → nat_lt (length info) 4 ≡ short → (number 2 info 0 == 0) ≡ done → nat_lt (length info) (pair_size info) ≡ long
+    → ((m at at' : ℕ) → pairs_break n at (drop (pair_size info) info) ≡ None → end_at n (drop (pair_size info) info) + 2
+    ≤ m → pairs_break m at' (take (end_at n (drop (pair_size info) info)) (drop (pair_size info) info) ++ tail) ≡
+    None)
+    → (short done long : Bool) → nat_lt (length info) 4 ≡ short → (number 2 info 0 == 0) ≡ done → nat_lt (length info)
+    (pair_size info) ≡ long
     → broken short done long at (pairs_break n (at + pair_size info) (drop (pair_size info) info)) ≡ None
     → ended short done long (pair_size info + end_at n (drop (pair_size info) info)) + 2 ≤ m
     → pairs_break m at' (take (ended short done long (pair_size info + end_at n (drop (pair_size info) info))) info ++ tail) ≡ None
@@ -74,32 +81,37 @@ one_more n (suc m) at at' info tail follows later false false false s d l h le =
     let size : ℕ = pair_size info in
     let rest : List ℕ = drop size info in
     let front : ℕ = end_at n rest in
-    let split : take (size + front) info ++ tail ≡ take size info ++ (take front rest ++ tail) = ap (λ (x : List ℕ). x ++ tail) (take-add size front info) ∙ append_assoc (take size info) (take front rest) tail in
+    let split : take (size + front) info ++ tail ≡ take size info ++ (take front rest ++ tail) = ap (λ (x : List ℕ). x
+    ++ tail) (take-add size front info) ∙ append_assoc (take size info) (take front rest) tail in
     ap (λ (x : List ℕ). pairs_break (suc m) at' x) split
     ∙ one_pair m at' info (take front rest ++ tail) (long_enough (length info) 4 s) d (long_enough (length info) size l)
     ∙ later m (at + size) (at' + size) h (omega arith)
 
 -- pairs that fit, up to the end pair, and others that fit behind them
-fits_on : (n m at at' : ℕ) (info tail : List ℕ) → Follows tail → pairs_break n at info ≡ None → end_at n info + 2 ≤ m → pairs_break m at' (take (end_at n info) info ++ tail) ≡ None
+fits_on : (n m at at' : ℕ) (info tail : List ℕ) → Follows tail → pairs_break n at info ≡ None → end_at n info + 2 ≤ m →
+    pairs_break m at' (take (end_at n info) info ++ tail) ≡ None
 unfolding pairs_break end_at
 fits_on zero m at at' info tail follows h le = absurd cc
 fits_on (suc n) m at at' info tail follows h le =
     one_more n m at at' info tail follows (λ m at at' h le. fits_on n m at at' (drop (pair_size info) info) tail follows h le)
     (nat_lt (length info) 4) (number 2 info 0 == 0) (nat_lt (length info) (pair_size info)) refl refl refl h le
 
-ended_within : (n : ℕ) (info : List ℕ) (short done long : Bool) → nat_lt (length info) (pair_size info) ≡ long → end_at n (drop (pair_size info) info) ≤ length (drop (pair_size info) info)
+ended_within : (n : ℕ) (info : List ℕ) (short done long : Bool) → nat_lt (length info) (pair_size info) ≡ long → end_at
+    n (drop (pair_size info) info) ≤ length (drop (pair_size info) info)
     → ended short done long (pair_size info + end_at n (drop (pair_size info) info)) ≤ length info
 ended_within n info true done long l h = omega arith
 ended_within n info false true long l h = omega arith
 ended_within n info false false true l h = omega arith
-ended_within n info false false false l h = let fits = long_enough (length info) (pair_size info) l in let d = length-drop (pair_size info) info in omega arith
+ended_within n info false false false l h = let fits = long_enough (length info) (pair_size info) l in let d =
+    length-drop (pair_size info) info in omega arith
 
 -- the end pair stands inside
 end_within : (n : ℕ) (info : List ℕ) → end_at n info ≤ length info
 unfolding end_at
 end_within zero info = omega arith
 end_within (suc n) info =
-    ended_within n info (nat_lt (length info) 4) (number 2 info 0 == 0) (nat_lt (length info) (pair_size info)) refl (end_within n (drop (pair_size info) info))
+    ended_within n info (nat_lt (length info) 4) (number 2 info 0 == 0) (nat_lt (length info) (pair_size info)) refl
+    (end_within n (drop (pair_size info) info))
 
 abbrev pub own_pairs : List ℕ
 own_pairs = (pair 6 (le 4 2) ++ end_pair) ++ replicate 4 0
@@ -115,12 +127,14 @@ unfolding le
 own_size = refl
 
 -- the pairs of an answer, and the zeros behind them
-pub answer_pairs : (at at' : ℕ) (info : List ℕ) → pairs_break (length info) at info ≡ None → info_fault at' (client_info info ++ replicate 4 0) ≡ None
+pub answer_pairs : (at at' : ℕ) (info : List ℕ) → pairs_break (length info) at info ≡ None → info_fault at' (client_info
+    info ++ replicate 4 0) ≡ None
 unfolding info_fault client_info
 answer_pairs at at' info h =
     let end : ℕ = end_at (length info) info in
     let front : List ℕ = take end info in
-    let joined : (front ++ (pair 6 (le 4 2) ++ end_pair)) ++ replicate 4 0 ≡ front ++ own_pairs = append_assoc front (pair 6 (le 4 2) ++ end_pair) (replicate 4 0) in
+    let joined : (front ++ (pair 6 (le 4 2) ++ end_pair)) ++ replicate 4 0 ≡ front ++ own_pairs = append_assoc front
+    (pair 6 (le 4 2) ++ end_pair) (replicate 4 0) in
     let size : length front ≡ end = length-take-le end info (end_within (length info) info) in
     let whole = length-append front own_pairs in
     let own = own_size in
@@ -152,7 +166,8 @@ pub data HasPairs (info : List ℕ) : Type 0 where
 is_zero : (n : ℕ) → (n == 0) ≡ true → n ≡ 0
 is_zero n h = grind (arith, nat_tests)
 
-pairs_by : (none : Bool) (m : List ℕ) (count at : ℕ) → (count == 0) ≡ none → (if none then None else info_fault at (bytes_at count m at)) ≡ None → HasPairs (bytes_at count m at)
+pairs_by : (none : Bool) (m : List ℕ) (count at : ℕ) → (count == 0) ≡ none → (if none then None else info_fault at
+    (bytes_at count m at)) ≡ None → HasPairs (bytes_at count m at)
 unfolding info_fault
 pairs_by true m count at e h = Without (ap (λ (n : ℕ). bytes_at n m at) (is_zero count e) ∙ bytes_at-nothing m at)
 pairs_by false m count at e h = With at (no_break (pairs_break (length (bytes_at count m at)) at (bytes_at count m at)) h)
@@ -162,7 +177,8 @@ pub info_read : (m : List ℕ) (v : Type2Value) → type2_in m ≡ Ok v → HasP
 info_read m v h =
     let both = given_value (type2_fault m) (type2_value m) v h in
     let last : (if number 2 m 40 == 0 then None else info_fault (number 4 m 44) (part_in m 40)) ≡ None =
-    last_none (start_fault m 56 2 or_else part_fault m 12 TargetName or_else part_fault m 40 TargetInfo) (if number 2 m 40 == 0 then None else info_fault (number 4 m 44) (part_in m 40)) both.0 in
+    last_none (start_fault m 56 2 or_else part_fault m 12 TargetName or_else part_fault m 40 TargetInfo) (if number 2 m
+    40 == 0 then None else info_fault (number 4 m 44) (part_in m 40)) both.0 in
     subst (λ (x : Type2Value). HasPairs x.target_info) both.1 (pairs_by (number 2 m 40 == 0) m (number 2 m 40) (number 4 m 44) refl last)
 
 pub answer_fits : (at' : ℕ) (info : List ℕ) → HasPairs info → info_fault at' (client_info info ++ replicate 4 0) ≡ None

@@ -31,7 +31,8 @@ two_bytes b h =
 characters-spread : (bs : List ℕ) → IsAscii bs → utf16_characters bs ≡ spread bs
 unfolding utf16_characters spread
 characters-spread [] h = refl
-characters-spread (b ∷ bs) h = rw (small b (h 0), two_bytes b (h 0)) (ap (λ (r : List ℕ). b ∷ 0 ∷ r) (characters-spread bs (rest_of b bs h)))
+characters-spread (b ∷ bs) h = rw (small b (h 0), two_bytes b (h 0)) (ap (λ (r : List ℕ). b ∷ 0 ∷ r) (characters-spread
+    bs (rest_of b bs h)))
 
 utf16-spread : (bs : List ℕ) → IsAscii bs → utf16 bs ≡ spread bs
 utf16-spread bs h = ap utf16_characters (chars-IsAscii bs h) ∙ characters-spread bs h

@@ -21,6 +21,79 @@ long_enough xs h = sym (take-append-le 8 xs (replicate 8 0) h)
 
 -- ---- a type 3
 
-pub writable3 : (v : Type3Value) → v.flags < 256 ^ 4 → length v.lm < 256 ^ 2 → length v.nt < 256 ^ 2 → length v.domain < 256 ^ 2 → length v.user < 256 ^ 2 → length v.workstation < 256 ^ 2 → length v.session_key < 256 ^ 2 → length v.mic ≡ 16 → IsWritableType3 v
-writable3 v flags lm nt domain user workstation key mic =
-    (refl, (omega arith, (lm, (lm, (omega arith, (nt, (nt, (omega arith, (domain, (domain, (omega arith, (user, (user, (omega arith, (workstation, (workstation, (omega arith, (key, (key, (omega arith, (flags, (mic, (refl, (refl, (refl, (refl, (refl, (refl, tt))))))))))))))))))))))))))))
+pub writable3 : (v : Type3Value) → v.flags < 256 ^ 4 → length v.lm < 256 ^ 2 → length v.nt < 256 ^ 2 → length v.domain <
+    256 ^ 2 → length v.user < 256 ^ 2 → length v.workstation < 256 ^ 2 → length v.session_key < 256 ^ 2 → length v.mic ≡
+    16 → IsWritableType3 v
+writable3 v flags lm nt domain user workstation key mic = (
+  refl,
+  (
+    omega arith,
+    (
+      lm,
+      (
+        lm,
+        (
+          omega arith,
+          (
+            nt,
+            (
+              nt,
+              (
+                omega arith,
+                (
+                  domain,
+                  (
+                    domain,
+                    (
+                      omega arith,
+                      (
+                        user,
+                        (
+                          user,
+                          (
+                            omega arith,
+                            (
+                              workstation,
+                              (
+                                workstation,
+                                (
+                                  omega arith,
+                                  (
+                                    key,
+                                    (
+                                      key,
+                                      (
+                                        omega arith,
+                                        (
+                                          flags,
+                                          (
+                                            mic,
+                                            (
+                                              refl,
+                                              (
+                                                refl,
+                                                (refl, (refl, (refl, (refl, tt)))),
+                                              ),
+                                            ),
+                                          ),
+                                        ),
+                                      ),
+                                    ),
+                                  ),
+                                ),
+                              ),
+                            ),
+                          ),
+                        ),
+                      ),
+                    ),
+                  ),
+                ),
+              ),
+            ),
+          ),
+        ),
+      ),
+    ),
+  ),
+)

@@ -46,6 +46,12 @@ struct Place {
     at: u32,
 }
 
+fn place(count: u16, at: u32) -> Place
+    ensures { result ≡ record { count = count; at = at } }
+{
+    Place { count, at }
+}
+
 /// The fixed part of a type 1, as far as it is needed.
 #[derive(Clone, Copy)]
 struct Fixed1 {
@@ -98,16 +104,10 @@ fn fixed2_of(m: &[u8]) -> Result<Fixed2, Short>
     Ok(Fixed2 {
         signature,
         kind,
-        target_name: Place {
-            count: name_count,
-            at: name_at,
-        },
+        target_name: place(name_count, name_at),
         flags,
         challenge,
-        target_info: Place {
-            count: info_count,
-            at: info_at,
-        },
+        target_info: place(info_count, info_at),
     })
 }
 
@@ -156,30 +156,12 @@ fn fixed3_of(m: &[u8]) -> Result<Fixed3, Short>
     Ok(Fixed3 {
         signature,
         kind,
-        lm: Place {
-            count: lm_count,
-            at: lm_at,
-        },
-        nt: Place {
-            count: nt_count,
-            at: nt_at,
-        },
-        domain: Place {
-            count: domain_count,
-            at: domain_at,
-        },
-        user: Place {
-            count: user_count,
-            at: user_at,
-        },
-        workstation: Place {
-            count: workstation_count,
-            at: workstation_at,
-        },
-        session_key: Place {
-            count: key_count,
-            at: key_at,
-        },
+        lm: place(lm_count, lm_at),
+        nt: place(nt_count, nt_at),
+        domain: place(domain_count, domain_at),
+        user: place(user_count, user_at),
+        workstation: place(workstation_count, workstation_at),
+        session_key: place(key_count, key_at),
         flags,
         mic,
     })
@@ -201,7 +183,8 @@ fn check_kind(signature: &[u8; 8], told: u32, kind: u32) -> Result<(), NtlmError
 /// A part of a message.
 #[tactic(auto, unfolding(token_defs::specs::Messages::range_fault, wire_defs::specs::Places::bytes_at))]
 fn part_of(m: &[u8], place: Place, field: NtlmField) -> Result<&[u8], NtlmError>
-    ensures same { MatchResult result (λ part. (range_fault m.now place.count place.at field ≡ None) × (part.now ≡ bytes_at place.count m.now place.at)) (λ e. range_fault m.now place.count place.at field ≡ Some e) }
+    ensures same { MatchResult result (λ part. (range_fault m.now place.count place.at field ≡ None) × (part.now ≡
+        bytes_at place.count m.now place.at)) (λ e. range_fault m.now place.count place.at field ≡ Some e) }
     ensures whole { IfOk result (λ part. length part.now ≡ place.count) }
     ensures short { IfOk result (λ part. length part.now < 65536) }
 {
@@ -232,7 +215,8 @@ pub fn read_type1(m: &[u8]) -> Result<Type1, NtlmError>
 /// The pairs of target information, where there is some.
 fn check_info(place: Place, info: &[u8]) -> Result<(), NtlmError>
     requires { place.at + length info.now < 2 ^ 63 }
-    ensures { MatchResult result (λ _. (if place.count == 0 then None else info_fault place.at info.now) ≡ None) (λ e. (if place.count == 0 then None else info_fault place.at info.now) ≡ Some e) }
+    ensures { MatchResult result (λ _. (if place.count == 0 then None else info_fault place.at info.now) ≡ None) (λ e.
+        (if place.count == 0 then None else info_fault place.at info.now) ≡ Some e) }
 {
     if place.count == 0 {
         return Ok(());
@@ -265,7 +249,9 @@ pub fn read_type2(m: &[u8]) -> Result<Type2<'_>, NtlmError>
 fn check_response(place: Place, nt: &[u8]) -> Result<(), NtlmError>
     requires whole { length nt.now ≡ place.count }
     requires short { place.at + length nt.now < 2 ^ 63 }
-    ensures { MatchResult result (λ _. (if nat_lt place.count 44 then None else info_fault (place.at + 44) (drop 44 nt.now)) ≡ None) (λ e. (if nat_lt place.count 44 then None else info_fault (place.at + 44) (drop 44 nt.now)) ≡ Some e) }
+    ensures { MatchResult result (λ _. (if nat_lt place.count 44 then None else info_fault (place.at + 44) (drop 44
+        nt.now)) ≡ None) (λ e. (if nat_lt place.count 44 then None else info_fault (place.at + 44) (drop 44 nt.now)) ≡
+        Some e) }
 {
     if place.count < 44 {
         return Ok(());

@@ -18,7 +18,8 @@ pub record Tells (frame : List ℕ) (t : Transform) : Type 0 where
 -- the text where the tag is the definition's, and else the ciphertext as it was
 abbrev pub ShowsText : ℕ → List ℕ → List ℕ → List ℕ → List ℕ → List ℕ → List ℕ → Bool → Type 0
 ShowsText cipher key nonce added tag old new true = (tag ≡ tag_of cipher key nonce added new old) × (new ≡ ciphertext cipher key nonce old)
-ShowsText cipher key nonce added tag old new false = ¬ (tag ≡ tag_of cipher key nonce added (ciphertext cipher key nonce old) old) × (new ≡ old)
+ShowsText cipher key nonce added tag old new false = ¬ (tag ≡ tag_of cipher key nonce added (ciphertext cipher key nonce
+    old) old) × (new ≡ old)
 
 -- the message or the cause that is due, or no memory for the message
 abbrev pub Unseals : Result (List ℕ) SealError → Result (List ℕ) SealError → Type 0

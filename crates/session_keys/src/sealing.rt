@@ -158,7 +158,8 @@ fn transform_in(frame: &[u8]) -> Result<Transform, Short>
 /// The transform header of a frame of this session, or the first cause for which the frame isn't looked into.
 #[tactic(auto, unfolding(session_defs::specs::Sealing::frame_fault, session_defs::specs::Sealing::is_sealed))]
 fn transform_of(frame: &[u8], session: u64) -> Result<Transform, SealError>
-    ensures { MatchResult result (λ t. (frame_fault session frame.now ≡ None) × (length frame.now ≤ 1114112) × Tells frame.now t) (λ e. frame_fault session frame.now ≡ Some e) }
+    ensures { MatchResult result (λ t. (frame_fault session frame.now ≡ None) × (length frame.now ≤ 1114112) × Tells
+        frame.now t) (λ e. frame_fault session frame.now ≡ Some e) }
 {
     let transform = match transform_in(frame) {
         Ok(transform) => transform,

@@ -101,7 +101,8 @@ pub record Pending : Type 0 where
 -- a MIC that isn't there is accepted
 abbrev pub shown_with : List ℕ → LogonValue → Option (List ℕ) → Shown
 shown_with list logon None = LoggedOn logon false
-shown_with list logon (Some code) = if bytes_eq code (mech_list_mic logon.key true logon.exchanged list) then LoggedOn logon true else Refused
+shown_with list logon (Some code) = if bytes_eq code (mech_list_mic logon.key true logon.exchanged list) then LoggedOn
+    logon true else Refused
 
 abbrev pub shown_logon : List ℕ → Option (List ℕ) → Result LogonValue LogonError → Shown
 shown_logon list code (Ok logon) = shown_with list logon code

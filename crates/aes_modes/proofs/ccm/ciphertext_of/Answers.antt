@@ -8,7 +8,10 @@ loop-i-init c = c.in_ok-out.ensures.items ∙ masked_none c.args.aes.now (λ i. 
 
 pub loop-i-preserved : goal.loop-i-preserved
 loop-i-preserved c =
-    c.in_ok-push_masked_block.ensures ∙ masked_step c.args.aes.now (λ i. counter_block c.args.nonce.now (i + 1)) c.args.text.now c.loop-i.out.items c.stream_block.result c.loop-i.i (omega arith) c.loop-i.invariant c.stream_block.ensures
+    c.in_ok-push_masked_block.ensures ∙ masked_step c.args.aes.now (λ i. counter_block c.args.nonce.now (i + 1))
+    c.args.text.now c.loop-i.out.items c.stream_block.result c.loop-i.i (omega arith) c.loop-i.invariant
+    c.stream_block.ensures
 
 pub returns : goal.returns
-returns c = masked_end c.args.aes.now (λ i. counter_block c.args.nonce.now (i + 1)) c.args.text.now c.loop-i.out.items c.loop-i.i (omega arith) c.loop-i.invariant
+returns c = masked_end c.args.aes.now (λ i. counter_block c.args.nonce.now (i + 1)) c.args.text.now c.loop-i.out.items
+    c.loop-i.i (omega arith) c.loop-i.invariant

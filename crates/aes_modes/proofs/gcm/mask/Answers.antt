@@ -8,7 +8,9 @@ loop-i-init c = none_masked c.args.aes.now (λ i. counter_block c.args.nonce.now
 
 pub loop-i-preserved : goal.loop-i-preserved
 loop-i-preserved c =
-    one_masked c.args.aes.now (λ i. counter_block c.args.nonce.now (i + 2)) c.args.text.now c.loop-i.text _ c.stream_block.result c.loop-i.i (omega arith) c.loop-i.invariant c.stream_block.ensures c.mask_block.ensures
+    one_masked c.args.aes.now (λ i. counter_block c.args.nonce.now (i + 2)) c.args.text.now c.loop-i.text _
+    c.stream_block.result c.loop-i.i (omega arith) c.loop-i.invariant c.stream_block.ensures c.mask_block.ensures
 
 pub returns : goal.returns
-returns c = all_masked c.args.aes.now (λ i. counter_block c.args.nonce.now (i + 2)) c.args.text.now c.loop-i.text c.loop-i.i (omega arith) c.loop-i.invariant
+returns c = all_masked c.args.aes.now (λ i. counter_block c.args.nonce.now (i + 2)) c.args.text.now c.loop-i.text
+    c.loop-i.i (omega arith) c.loop-i.invariant

@@ -10,7 +10,9 @@ returns-then-shows c =
     let told = c.in_ok-transform.ensures.2 in
     let old : c.as_mut_slice.result.now ≡ drop 52 frame = c.as_mut_slice.ensures.value ∙ (c.in_ok-text.ensures.items ∙ whole_rest frame) in
     ap (λ (k : List ℕ). unsealed_by keys.cipher k keys.session frame) (sym c.key_of-key.ensures)
-    ∙ (right c.show-shows.result keys.cipher c.key_of-key.result.now _ frame _ _ _ c.show-shows.new.text keys.session c.if-shows.true c.in_ok-transform.ensures.0 old told.nonce c.added_in-added.ensures told.tag c.show-shows.ensures
+    ∙ (right c.show-shows.result keys.cipher c.key_of-key.result.now _ frame _ _ _ c.show-shows.new.text keys.session
+    c.if-shows.true c.in_ok-transform.ensures.0 old told.nonce c.added_in-added.ensures told.tag
+    c.show-shows.ensures
     ∙ ap Ok (sym (c.from_vec.ensures ∙ written c.show-shows.new.text _ _ (sym (c.show-shows.auto.text ∙ c.as_mut_slice.ensures.len)))))
 
 pub returns-else-shows : goal.returns-else-shows
@@ -20,4 +22,6 @@ returns-else-shows c =
     let told = c.in_ok-transform.ensures.2 in
     let old : c.as_mut_slice.result.now ≡ drop 52 frame = c.as_mut_slice.ensures.value ∙ (c.in_ok-text.ensures.items ∙ whole_rest frame) in
     ap (λ (k : List ℕ). unsealed_by keys.cipher k keys.session frame) (sym c.key_of-key.ensures)
-    ∙ (wrong c.show-shows.result keys.cipher c.key_of-key.result.now _ frame _ _ _ c.show-shows.new.text keys.session c.if-shows.false c.in_ok-transform.ensures.0 old told.nonce c.added_in-added.ensures told.tag c.show-shows.ensures).0
+    ∙ (wrong c.show-shows.result keys.cipher c.key_of-key.result.now _ frame _ _ _ c.show-shows.new.text keys.session
+    c.if-shows.false c.in_ok-transform.ensures.0 old told.nonce c.added_in-added.ensures told.tag
+    c.show-shows.ensures).0
