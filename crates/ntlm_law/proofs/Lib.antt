@@ -1,6 +1,6 @@
 mod Again
-mod Answers
 mod Codes
 mod Fits
 mod Letters
-mod Own
+mod Logons
+mod Reading

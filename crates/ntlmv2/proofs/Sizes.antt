@@ -1,7 +1,7 @@
 -- Eight bytes of a value, and the parts of a type 3 that fit their fields.
 use Rattle.std.proofs.Common.{◌≡◌, ℕ, ◌+◌, ◌^◌, ◌<◌, ◌≤◌, List, [], ◌∷◌, ◌++◌, length, take, drop, replicate, refl, sym, arith}
 use Rattle.std.proofs.lemmas.List.{take-append-le}
-use Rattle.token_defs.specs.Messages.{Type3Value, IsWritableType3}
+use Rattle.token_defs.specs.Messages.{Type2Value, Type3Value, IsWritableType2, IsWritableType3}
 
 -- ---- eight bytes
 
@@ -19,7 +19,10 @@ filled (a ∷ b ∷ c ∷ d ∷ e ∷ f ∷ g ∷ i ∷ xs) h = absurd (omega ar
 pub long_enough : (xs : List ℕ) → 8 ≤ length xs → take 8 xs ≡ take 8 (xs ++ replicate 8 0)
 long_enough xs h = sym (take-append-le 8 xs (replicate 8 0) h)
 
--- ---- a type 3
+-- ---- messages whose parts fit
+
+pub writable2 : (v : Type2Value) → v.flags < 256 ^ 4 → length v.challenge ≡ 8 → length v.target_name < 256 ^ 2 → length v.target_info < 256 ^ 2 → IsWritableType2 v
+writable2 v flags challenge name info = (refl, (omega arith, (name, (name, (omega arith, (flags, (challenge, (info, (info, (omega arith, (refl, (refl, tt))))))))))))
 
 pub writable3 : (v : Type3Value) → v.flags < 256 ^ 4 → length v.lm < 256 ^ 2 → length v.nt < 256 ^ 2 → length v.domain <
     256 ^ 2 → length v.user < 256 ^ 2 → length v.workstation < 256 ^ 2 → length v.session_key < 256 ^ 2 → length v.mic ≡

@@ -1,5 +1,5 @@
 //! The three messages, read and written.
-ghost use Rattle.std.specs.Prelude.{◌≡◌, ◌<◌, ◌+◌, ◌^◌, ◌++◌, ◌==◌, nat_lt, if◌then◌else◌, length, drop, MatchResult, None, Some, IfOk, OnOk};
+ghost use Rattle.std.specs.Prelude.{◌≡◌, ◌<◌, ◌+◌, ◌^◌, ◌++◌, ◌==◌, nat_lt, if◌then◌else◌, length, drop, MatchResult, None, Some, IfOk, OnOk, IsTrue};
 ghost use Rattle.wire_defs.specs.Places.{le, bytes_at};
 ghost use Rattle.wire_defs.specs.Table.{with_fields};
 ghost use Rattle.token_defs.specs.Messages.{ntlm_signature, range_fault, info_fault, type3_places, type1_in, type2_in, type3_in, type1_spelling, type2_spelling, type3_spelling, IsWritableType2, IsWritableType3};
@@ -46,7 +46,7 @@ struct Place {
     at: u32,
 }
 
-fn place(count: u16, at: u32) -> Place
+fn place_at(count: u16, at: u32) -> Place
     ensures { result ≡ record { count = count; at = at } }
 {
     Place { count, at }
@@ -104,10 +104,10 @@ fn fixed2_of(m: &[u8]) -> Result<Fixed2, Short>
     Ok(Fixed2 {
         signature,
         kind,
-        target_name: place(name_count, name_at),
+        target_name: place_at(name_count, name_at),
         flags,
         challenge,
-        target_info: place(info_count, info_at),
+        target_info: place_at(info_count, info_at),
     })
 }
 
@@ -156,12 +156,12 @@ fn fixed3_of(m: &[u8]) -> Result<Fixed3, Short>
     Ok(Fixed3 {
         signature,
         kind,
-        lm: place(lm_count, lm_at),
-        nt: place(nt_count, nt_at),
-        domain: place(domain_count, domain_at),
-        user: place(user_count, user_at),
-        workstation: place(workstation_count, workstation_at),
-        session_key: place(key_count, key_at),
+        lm: place_at(lm_count, lm_at),
+        nt: place_at(nt_count, nt_at),
+        domain: place_at(domain_count, domain_at),
+        user: place_at(user_count, user_at),
+        workstation: place_at(workstation_count, workstation_at),
+        session_key: place_at(key_count, key_at),
         flags,
         mic,
     })
@@ -317,6 +317,27 @@ pub fn write_type1(alloc: Global, m: &Type1) -> Result<Bytes, AllocError>
     out.put_zeros(8)?;
     out.put_zeros(8)?;
     Ok(out.finish())
+}
+
+/// Whether each part of a type 2 fits its length field, so that `write_type2` takes it.
+#[tactic(auto, using(crate::proofs::Sizes::writable2))]
+pub fn can_write_type2(m: &Type2<'_>) -> bool
+    ensures { IsTrue result → IsWritableType2 (type2_view m.now) }
+{
+    m.target_name.len() < 65_536 && m.target_info.len() < 65_536
+}
+
+/// Whether each part of a type 3 fits its length field, so that `write_type3` takes it.
+#[tactic(auto, using(crate::proofs::Sizes::writable3))]
+pub fn can_write_type3(m: &Type3<'_>) -> bool
+    ensures { IsTrue result → IsWritableType3 (type3_view m.now) }
+{
+    m.lm.len() < 65_536
+        && m.nt.len() < 65_536
+        && m.domain.len() < 65_536
+        && m.user.len() < 65_536
+        && m.workstation.len() < 65_536
+        && m.session_key.len() < 65_536
 }
 
 /// A type 2, whose parts stand behind its 56 bytes. Each part fits its length field.

@@ -1,4 +1,4 @@
-use Rattle.ntlm_law.proofs.Answers.{answer_reads}
+use Rattle.ntlm_law.proofs.Reading.{answer_reads}
 use Rattle.ntlm_law.proofs.own.answer_law.Goals as goal
 
 pub returns : goal.returns

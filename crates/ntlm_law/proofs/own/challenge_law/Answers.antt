@@ -1,4 +1,4 @@
-use Rattle.ntlm_law.proofs.Answers.{challenge_reads}
+use Rattle.ntlm_law.proofs.Reading.{challenge_reads}
 use Rattle.ntlm_law.proofs.own.challenge_law.Goals as goal
 
 pub returns : goal.returns

@@ -3,8 +3,8 @@ use Rattle.token_defs.specs.Messages.{Type2Value, type1_in, type2_in}
 use Rattle.token_defs.specs.Acceptor.{challenge_value}
 use Rattle.token_defs.specs.Answer.{client_flags, first_message}
 use Rattle.ntlm_law.proofs.Again.{type1_again}
-use Rattle.ntlm_law.proofs.Answers.{challenge_reads, answer_reads, is_answer, same_ok}
-use Rattle.ntlm_law.proofs.Own.{own_verdict}
+use Rattle.ntlm_law.proofs.Reading.{challenge_reads, answer_reads, is_answer, same_ok}
+use Rattle.ntlm_law.proofs.Logons.{own_verdict}
 use Rattle.ntlm_law.proofs.own.own_logon_law.Goals as goal
 
 pub returns : goal.returns
