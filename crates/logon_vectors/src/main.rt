@@ -1,7 +1,8 @@
 //! Reads the tokens of a logon and computes its keys, signatures and sealed messages. The rows and the expected output were
-//! written by tools/session-vectors.py.
+//! written by tools/session-vectors.py. With the word `measure` it tells instead what sealing and a logon cost.
 #![tactic(auto)]
 
+mod figures;
 mod keys;
 mod ntlm;
 mod sealing;
@@ -10,6 +11,7 @@ mod words;
 
 use anyhow::{Context, Result};
 use std::alloc::Global;
+use std::env;
 
 /// The answer to a row. One that begins with `#` stands in the output as it is.
 fn answer(alloc: Global, row: &str) -> Result<String> {
@@ -29,6 +31,11 @@ fn answer(alloc: Global, row: &str) -> Result<String> {
 }
 
 fn main(rt: HostRuntime) -> Result<()> {
+    if env::args(&rt)?.count() > 1 {
+        let said = figures::measured(&rt)?;
+        println!(rt; "{said}")?;
+        return Ok(());
+    }
     for row in rt.lines(rt.alloc()) {
         let row = row?;
         let said = answer(rt.alloc(), row.as_str())?;

@@ -38,7 +38,7 @@ unfolding mic
 length-mic key first second third = length-md5 _
 
 -- six parts behind a front of 72 bytes and a code of 16
-zeroed : (f m a b c d e k : List ℕ) → length f ≡ 72 → length m ≡ 16 → without_mic (((((((f ++ m) ++ a) ++ b) ++ c) ++ d)
+pub zeroed : (f m a b c d e k : List ℕ) → length f ≡ 72 → length m ≡ 16 → without_mic (((((((f ++ m) ++ a) ++ b) ++ c) ++ d)
     ++ e) ++ k) ≡ f ++ (replicate 16 0 ++ (a ++ (b ++ (c ++ (d ++ (e ++ k))))))
 zeroed f m a b c d e k front code =
     let rest : List ℕ = a ++ (b ++ (c ++ (d ++ (e ++ k)))) in

@@ -14,7 +14,8 @@ five false false false false p q r s t h1 h2 h3 h4 h5 = h5
 
 length_most : (n : ℕ) → length (length_bytes n) ≤ 5
 length_most n =
-    five (nat_lt n 0x80) (nat_lt n 0x100) (nat_lt n 0x1_0000) (nat_lt n 0x100_0000) _ _ _ _ _ (omega arith) (omega arith) (omega arith) (omega arith) (omega arith)
+    five (nat_lt n 0x80) (nat_lt n 0x100) (nat_lt n 0x1_0000) (nat_lt n 0x100_0000) _ _ _ _ _ (omega arith) (omega
+    arith) (omega arith) (omega arith) (omega arith)
 
 most : (tag : ℕ) (c : List ℕ) → length (spelled tag c) ≤ length c + 6
 unfolding spelled
@@ -36,7 +37,8 @@ names_alone : (at : ℕ) → names_in (record { at = at; bytes = ntlm_list }) �
 unfolding names_in element length_in begins_with_ntlm names_ntlm ends
 names_alone at = refl
 
-pub init_writable : (v : InitValue) → v.ntlm_first ≡ true → v.mech_list ≡ ntlm_list → size_of v.token < 2 ^ 30 → size_of v.mic < 2 ^ 30 → IsWritableInit v
+pub init_writable : (v : InitValue) → v.ntlm_first ≡ true → v.mech_list ≡ ntlm_list → size_of v.token < 2 ^ 30 → size_of
+    v.mic < 2 ^ 30 → IsWritableInit v
 unfolding init_spelling
 init_writable v first alone token mic =
     let list = most 0xa0 v.mech_list in

@@ -35,10 +35,16 @@ fn names_ntlm_alone(list: &Bytes) -> bool
 pub fn can_write_init(token: &InitToken) -> bool
     ensures { IsTrue result → IsWritableInit (init_view token.now) }
 {
-    token.ntlm_first
-        && names_ntlm_alone(&token.mech_list)
-        && part_size(&token.token) < MOST
-        && part_size(&token.mic) < MOST
+    if !token.ntlm_first {
+        return false;
+    }
+    if part_size(&token.token) >= MOST {
+        return false;
+    }
+    if part_size(&token.mic) >= MOST {
+        return false;
+    }
+    names_ntlm_alone(&token.mech_list)
 }
 
 /// Whether `write_resp` takes a token: where its parts have fewer than 2^30 bytes.
