@@ -23,8 +23,31 @@ long_enough xs h = sym (take-append-le 8 xs (replicate 8 0) h)
 
 pub writable2 : (v : Type2Value) → v.flags < 256 ^ 4 → length v.challenge ≡ 8 → length v.target_name < 256 ^ 2 → length
     v.target_info < 256 ^ 2 → IsWritableType2 v
-writable2 v flags challenge name info = (refl, (omega arith, (name, (name, (omega arith, (flags, (challenge, (info,
-    (info, (omega arith, (refl, (refl, tt))))))))))))
+writable2 v flags challenge name info = (
+  refl,
+  (
+    omega arith,
+    (
+      name,
+      (
+        name,
+        (
+          omega arith,
+          (
+            flags,
+            (
+              challenge,
+              (
+                info,
+                (info, (omega arith, (refl, (refl, tt)))),
+              ),
+            ),
+          ),
+        ),
+      ),
+    ),
+  ),
+)
 
 pub writable3 : (v : Type3Value) → v.flags < 256 ^ 4 → length v.lm < 256 ^ 2 → length v.nt < 256 ^ 2 → length v.domain <
     256 ^ 2 → length v.user < 256 ^ 2 → length v.workstation < 256 ^ 2 → length v.session_key < 256 ^ 2 → length v.mic ≡

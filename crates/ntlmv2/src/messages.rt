@@ -46,12 +46,6 @@ struct Place {
     at: u32,
 }
 
-fn place_at(count: u16, at: u32) -> Place
-    ensures { result ≡ record { count = count; at = at } }
-{
-    Place { count, at }
-}
-
 /// The fixed part of a type 1, as far as it is needed.
 #[derive(Clone, Copy)]
 struct Fixed1 {
@@ -91,23 +85,25 @@ fn fixed2_of(m: &[u8]) -> Result<Fixed2, Short>
     let mut cursor = Cursor::new(m);
     let signature = cursor.get_array::<8>()?;
     let kind = cursor.get_u32()?;
-    let name_count = cursor.get_u16()?;
-    let _name_most = cursor.get_u16()?;
-    let name_at = cursor.get_u32()?;
+    let count = cursor.get_u16()?;
+    let _most = cursor.get_u16()?;
+    let at = cursor.get_u32()?;
+    let target_name = Place { count, at };
     let flags = cursor.get_u32()?;
     let challenge = cursor.get_array::<8>()?;
     let _reserved = cursor.get_u64()?;
-    let info_count = cursor.get_u16()?;
-    let _info_most = cursor.get_u16()?;
-    let info_at = cursor.get_u32()?;
+    let count = cursor.get_u16()?;
+    let _most = cursor.get_u16()?;
+    let at = cursor.get_u32()?;
+    let target_info = Place { count, at };
     let _version = cursor.get_u64()?;
     Ok(Fixed2 {
         signature,
         kind,
-        target_name: place_at(name_count, name_at),
+        target_name,
         flags,
         challenge,
-        target_info: place_at(info_count, info_at),
+        target_info,
     })
 }
 
@@ -132,36 +128,42 @@ fn fixed3_of(m: &[u8]) -> Result<Fixed3, Short>
     let mut cursor = Cursor::new(m);
     let signature = cursor.get_array::<8>()?;
     let kind = cursor.get_u32()?;
-    let lm_count = cursor.get_u16()?;
-    let _lm_most = cursor.get_u16()?;
-    let lm_at = cursor.get_u32()?;
-    let nt_count = cursor.get_u16()?;
-    let _nt_most = cursor.get_u16()?;
-    let nt_at = cursor.get_u32()?;
-    let domain_count = cursor.get_u16()?;
-    let _domain_most = cursor.get_u16()?;
-    let domain_at = cursor.get_u32()?;
-    let user_count = cursor.get_u16()?;
-    let _user_most = cursor.get_u16()?;
-    let user_at = cursor.get_u32()?;
-    let workstation_count = cursor.get_u16()?;
-    let _workstation_most = cursor.get_u16()?;
-    let workstation_at = cursor.get_u32()?;
-    let key_count = cursor.get_u16()?;
-    let _key_most = cursor.get_u16()?;
-    let key_at = cursor.get_u32()?;
+    let count = cursor.get_u16()?;
+    let _most = cursor.get_u16()?;
+    let at = cursor.get_u32()?;
+    let lm = Place { count, at };
+    let count = cursor.get_u16()?;
+    let _most = cursor.get_u16()?;
+    let at = cursor.get_u32()?;
+    let nt = Place { count, at };
+    let count = cursor.get_u16()?;
+    let _most = cursor.get_u16()?;
+    let at = cursor.get_u32()?;
+    let domain = Place { count, at };
+    let count = cursor.get_u16()?;
+    let _most = cursor.get_u16()?;
+    let at = cursor.get_u32()?;
+    let user = Place { count, at };
+    let count = cursor.get_u16()?;
+    let _most = cursor.get_u16()?;
+    let at = cursor.get_u32()?;
+    let workstation = Place { count, at };
+    let count = cursor.get_u16()?;
+    let _most = cursor.get_u16()?;
+    let at = cursor.get_u32()?;
+    let session_key = Place { count, at };
     let flags = cursor.get_u32()?;
     let _version = cursor.get_u64()?;
     let mic = cursor.get_array::<16>()?;
     Ok(Fixed3 {
         signature,
         kind,
-        lm: place_at(lm_count, lm_at),
-        nt: place_at(nt_count, nt_at),
-        domain: place_at(domain_count, domain_at),
-        user: place_at(user_count, user_at),
-        workstation: place_at(workstation_count, workstation_at),
-        session_key: place_at(key_count, key_at),
+        lm,
+        nt,
+        domain,
+        user,
+        workstation,
+        session_key,
         flags,
         mic,
     })
@@ -324,7 +326,11 @@ pub fn write_type1(alloc: Global, m: &Type1) -> Result<Bytes, AllocError>
 pub fn can_write_type2(m: &Type2<'_>) -> bool
     ensures { IsTrue result → IsWritableType2 (type2_view m.now) }
 {
-    m.target_name.len() < 65_536 && m.target_info.len() < 65_536
+    let _flags = m.flags;
+    if m.target_name.len() >= 65_536 {
+        return false;
+    }
+    m.target_info.len() < 65_536
 }
 
 /// Whether each part of a type 3 fits its length field, so that `write_type3` takes it.
@@ -332,12 +338,14 @@ pub fn can_write_type2(m: &Type2<'_>) -> bool
 pub fn can_write_type3(m: &Type3<'_>) -> bool
     ensures { IsTrue result → IsWritableType3 (type3_view m.now) }
 {
-    m.lm.len() < 65_536
-        && m.nt.len() < 65_536
-        && m.domain.len() < 65_536
-        && m.user.len() < 65_536
-        && m.workstation.len() < 65_536
-        && m.session_key.len() < 65_536
+    let _flags = m.flags;
+    if m.lm.len() >= 65_536 || m.nt.len() >= 65_536 || m.domain.len() >= 65_536 {
+        return false;
+    }
+    if m.user.len() >= 65_536 || m.workstation.len() >= 65_536 {
+        return false;
+    }
+    m.session_key.len() < 65_536
 }
 
 /// A type 2, whose parts stand behind its 56 bytes. Each part fits its length field.
