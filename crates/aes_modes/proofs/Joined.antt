@@ -1,8 +1,7 @@
 -- Chains, hashes and last blocks of a message in two pieces, of which the first fills whole blocks.
-use Rattle.std.proofs.Common.{◌≡◌, ℕ, zero, suc, ◌+◌, ◌-◌, ◌*◌, ◌/◌, ◌^◌, ◌≤◌, ◌<◌, ◌==◌, List, [], ◌∷◌, ◌++◌, length, drop, get_or, length-append, refl, sym, ap, ◌∙◌, arith}
+use Rattle.std.proofs.Common.{◌≡◌, ℕ, zero, suc, ◌+◌, ◌*◌, ◌^◌, ◌≤◌, ◌<◌, List, [], ◌∷◌, ◌++◌, length, drop, get_or, length-append, refl, ap, ◌∙◌, arith}
 use Rattle.std.proofs.lemmas.List.{append-nil, get_or-append-add}
 use Rattle.std.specs.Int.Bits.{bit_xor}
-use Rattle.std.specs.Int.{w128, from_be_bytes}
 use Rattle.cipher_defs.specs.Aes.{sixteen, cipher, block_sum}
 use Rattle.cipher_defs.specs.Blocks.{block_at, block_count, chained}
 use Rattle.cipher_defs.specs.Cmac.{zeros, before_last, rest_of, last_block, cmac}

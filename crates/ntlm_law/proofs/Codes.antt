@@ -1,13 +1,10 @@
 -- A MIC counts as zeros in its own message; a key that is exchanged comes out as it went in; and how long keys and codes are.
-use Rattle.std.proofs.Common.{◌≡◌, ℕ, ◌+◌, List, [], ◌∷◌, ◌++◌, append_assoc, length, take, drop, replicate, length-append, refl, sym, ap, ◌∙◌, arith}
+use Rattle.std.proofs.Common.{◌≡◌, ℕ, List, [], ◌∷◌, ◌++◌, append_assoc, length, take, drop, replicate, length-append, refl, sym, ap, ◌∙◌, arith}
 use Rattle.std.proofs.lemmas.List.{take_at, drop_at}
 use Rattle.std.specs.Int.Bits.{bit_xor, xor_self, xor_assoc, xor_zero_r}
 use Rattle.md5.proofs.StandardFacts.{length-md5}
 use Rattle.cipher_defs.specs.Rc4.{CipherState, advanced, stream_byte, enciphered, opened}
-use Rattle.wire_defs.specs.Places.{le}
-use Rattle.wire_defs.specs.Table.{with_fields}
 use Rattle.token_defs.specs.Formulas.{proof, exchanged_key, without_mic, mic}
-use Rattle.token_defs.specs.Messages.{Type3Value, type3_spelling}
 
 xor_twice : (x k : ℕ) → bit_xor (bit_xor x k) k ≡ x
 xor_twice x k = xor_assoc x k k ∙ (ap (bit_xor x) (xor_self k) ∙ xor_zero_r x)

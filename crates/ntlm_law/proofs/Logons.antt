@@ -1,5 +1,5 @@
 -- One's own answer is the logon with one's own key.
-use Rattle.std.proofs.Common.{◌≡◌, ℕ, ◌≤◌, ◌==◌, nat_le, Bool, true, false, not, ◌&&◌, ◌||◌, if◌then◌else◌, List, [], ◌∷◌, ◌++◌, length, take, drop, replicate, refl, sym, ap, ◌∙◌, arith, Option, Some, None, Result, Ok, Err}
+use Rattle.std.proofs.Common.{◌≡◌, ℕ, ◌≤◌, nat_le, Bool, true, false, not, ◌&&◌, if◌then◌else◌, List, [], ◌∷◌, ◌++◌, length, take, drop, replicate, refl, sym, ap, ◌∙◌, arith, Some, Ok}
 use Rattle.std.proofs.lemmas.Bool.Decides.{nat_tests}
 use Rattle.std.proofs.lemmas.List.{take_at, drop_at}
 use Rattle.std.proofs.lemmas.Slice.Eq.{bytes_eq-Decides}
@@ -8,9 +8,9 @@ use Rattle.cipher_defs.specs.Md4.{md4}
 use Rattle.cipher_defs.specs.Hmac.{hmac_of_md5}
 use Rattle.wire_defs.specs.Places.{le}
 use Rattle.wire_defs.specs.Table.{Raw, Num, Any, with_fields}
-use Rattle.token_defs.specs.Formulas.{utf16, upper, ntowf_in, proof, base_key, exchanged_key, temp, without_mic, mic}
+use Rattle.token_defs.specs.Formulas.{utf16, upper, ntowf_in, proof, base_key, exchanged_key, without_mic, mic}
 use Rattle.token_defs.specs.Messages.{Type2Value, Type3Value, ntlm_signature, type3_places, type3_in, type3_spelling}
-use Rattle.token_defs.specs.Acceptor.{User, LogonValue, is_ascii_utf16, is_named, user_named, exchanges, has_form, user_key, proves, exported_key, owes_mic, logon_of, verdict_on, verdict}
+use Rattle.token_defs.specs.Acceptor.{User, is_ascii_utf16, is_named, user_named, exchanges, has_form, user_key, proves, exported_key, owes_mic, logon_of, verdict}
 use Rattle.token_defs.specs.Answer.{Credentials, client_info, time_in, temp_of, key_of, proof_of, answer_with, answer_code}
 use Rattle.token_defs.specs.Pairs.{pair_in}
 use Rattle.ntlm_law.proofs.Reading.{response_long, length-time}
@@ -40,7 +40,7 @@ uncoded c v code long =
     ap without_mic (spelled w)
     ∙ (zeroed (front_of w) code w.lm w.nt w.domain w.user w.workstation w.session_key (front_size w) long
     ∙ sym (ap without_mic (spelled z) ∙ zeroed (front_of z) (replicate 16 0) z.lm z.nt z.domain z.user z.workstation
-        z.session_key (front_size z) refl))
+    z.session_key (front_size z) refl))
 
 -- the code of an answer is that of the answer with the code
 coded : (c : Credentials) (first second : List ℕ) (v : Type2Value) → answer_code c first second v ≡ mic c.key first
@@ -75,7 +75,7 @@ same_key : (c : Credentials) (users : List User) (u : User) → IsAscii c.user �
 unfolding ntowf_in
 same_key c users u ascii named password =
     let name : utf16 (upper u.name) ≡ utf16 (upper c.user) = sym (same_name (utf16 c.user) u (found_named (utf16 c.user)
-        users u named)) ∙ sym (utf16-upper c.user ascii) in
+    users u named)) ∙ sym (utf16-upper c.user ascii) in
     λ t. hmac_of_md5 (md4 (utf16 (password t))) (name t ++ utf16 c.domain)
 
 -- ---- the proof and the key
@@ -94,15 +94,15 @@ proved c v code u server eight long key sent =
     let front : take 16 (shown ++ text) ≡ shown = take_at shown text 16 size in
     let back : drop 16 (shown ++ text) ≡ text = drop_at shown text 16 size in
     let exchanged : length (exchanged_key (base_key (key_of c) shown) c.key) ≡ 16 = length-exchanged (base_key (key_of
-        c) shown) c.key ∙ long in
+    c) shown) c.key ∙ long in
     let due : take 16 (shown ++ text) ≡ proof (user_key u (answer_with c v code)) server (drop 16 (shown ++ text)) =
-        front ∙ sym (λ t. proof (key t) (sym sent t) (back t)) in
+    front ∙ sym (λ t. proof (key t) (sym sent t) (back t)) in
     let same : bytes_eq (take 16 (shown ++ text)) (proof (user_key u (answer_with c v code)) server (drop 16 (shown ++
-        text))) ≡ true = (bytes_eq-Decides (take 16 (shown ++ text)) (proof (user_key u (answer_with c v code)) server
-        (drop 16 (shown ++ text)))).1 due in
+    text))) ≡ true = (bytes_eq-Decides (take 16 (shown ++ text)) (proof (user_key u (answer_with c v code)) server
+    (drop 16 (shown ++ text)))).1 due in
     let room : nat_le 44 (length (shown ++ text)) ≡ true =
     fits 44 (length (shown ++ text)) (response_long shown (time_in v.target_info) c.challenge (client_info
-        v.target_info) size (length-time (pair_in (length v.target_info) 7 v.target_info)) eight) in
+    v.target_info) size (length-time (pair_in (length v.target_info) 7 v.target_info)) eight) in
     rw (room, exchanged, same) refl
 
 exported : (c : Credentials) (v : Type2Value) (code : List ℕ) (u : User) → user_key u (answer_with c v code) ≡ key_of c
@@ -111,9 +111,9 @@ unfolding exported_key exchanges
 exported c v code u key =
     let shown : List ℕ = proof_of c v in
     let front : take 16 (shown ++ temp_of c v) ≡ shown = take_at shown (temp_of c v) 16 (length-proof (key_of c)
-        v.challenge (temp_of c v)) in
+    v.challenge (temp_of c v)) in
     (λ t. exchanged_key (base_key (key t) (front t)) (exchanged_key (base_key (key_of c) shown) c.key)) ∙
-        exchanged_twice (base_key (key_of c) shown) c.key
+    exchanged_twice (base_key (key_of c) shown) c.key
 
 -- ---- the verdict
 
@@ -136,7 +136,7 @@ pub own_verdict : (c : Credentials) (users : List User) (u : User) (server first
     → length c.challenge ≡ 8 → length c.key ≡ 16 → IsAscii c.user → user_named (utf16 c.user) users ≡ Some u →
     u.password ≡ c.password → v.challenge ≡ server
     → type3_in third ≡ Ok (answer_with c v (answer_code c first second v)) → type3_spelling (answer_with c v
-        (answer_code c first second v)) ≡ third
+    (answer_code c first second v)) ≡ third
     → verdict users server first second third ≡ Ok (record { user = u.name; key = c.key; exchanged = true })
 unfolding exchanges
 own_verdict c users u server first second third v eight long ascii named password sent reads is =
@@ -145,6 +145,6 @@ own_verdict c users u server first second third v eight long ascii named passwor
     let key : user_key u w ≡ key_of c = same_key c users u ascii named password in
     let exported_is : exported_key u w ≡ c.key = exported c v code u key in
     let mic_is : w.mic ≡ mic (exported_key u w) first second third = coded c first second v ∙ (λ t. mic (sym exported_is
-        t) first second (is t)) in
+    t) first second (is t)) in
     judged users server first second third w u reads (ascii_name c.user ascii) named (proved c v code u server eight long key sent) mic_is
     ∙ (λ t. Ok (record { user = u.name; key = exported_is t; exchanged = true }))

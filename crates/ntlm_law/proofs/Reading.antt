@@ -1,5 +1,5 @@
 -- A challenge and an answer read back.
-use Rattle.std.proofs.Common.{◌≡◌, ℕ, ◌+◌, ◌^◌, ◌<◌, ◌≤◌, ◌==◌, nat_lt, Bool, true, false, ◌&&◌, if◌then◌else◌, List, ◌∷◌, ◌++◌, append_assoc, length, take, drop, replicate, length-append, length-drop, refl, sym, ap, subst, ◌∙◌, arith, Option, Some, None, Result, Ok, Err}
+use Rattle.std.proofs.Common.{◌≡◌, ℕ, ◌+◌, ◌^◌, ◌<◌, ◌≤◌, ◌==◌, nat_lt, Bool, true, false, ◌&&◌, if◌then◌else◌, List, ◌∷◌, ◌++◌, append_assoc, length, drop, replicate, length-append, length-drop, refl, ap, subst, ◌∙◌, arith, Option, Some, None, Result, Ok}
 use Rattle.std.specs.Prelude.{bit_and}
 use Rattle.std.proofs.lemmas.Bool.Decides.{nat_tests}
 use Rattle.std.proofs.lemmas.List.{drop_at, length-take}
@@ -7,7 +7,7 @@ use Rattle.std.proofs.lemmas.Nat.{or_of_32, and_le_r}
 use Rattle.token_defs.specs.declared.ntlm.Type1.{Type1}
 use Rattle.token_defs.specs.declared.ntlm.NtlmError.{NtlmError}
 use Rattle.token_defs.specs.Pairs.{pair_in}
-use Rattle.token_defs.specs.Formulas.{utf16, base_key, temp}
+use Rattle.token_defs.specs.Formulas.{base_key, temp}
 use Rattle.token_defs.specs.Messages.{Type2Value, Type3Value, info_fault, nt_at, type1_in, type2_in, type3_in, type2_spelling, type3_spelling, IsWritableType2, IsWritableType3}
 use Rattle.token_defs.specs.Acceptor.{challenge_flags, large_name, server_info, challenge_value, challenge}
 use Rattle.token_defs.specs.Answer.{Credentials, client_info, time_or_zero, time_in, temp_of, key_of, proof_of, answer_with, has_room, answer_code, answer, answered}
@@ -29,16 +29,39 @@ flags_fit flags =
 
 writable2 : (v : Type2Value) → v.flags < 256 ^ 4 → length v.challenge ≡ 8 → length v.target_name < 256 ^ 2 → length
     v.target_info < 256 ^ 2 → IsWritableType2 v
-writable2 v flags challenge name info = (refl, (omega arith, (name, (name, (omega arith, (flags, (challenge, (info,
-    (info, (omega arith, (refl, (refl, tt))))))))))))
+writable2 v flags challenge name info = (
+  refl,
+  (
+    omega arith,
+    (
+      name,
+      (
+        name,
+        (
+          omega arith,
+          (
+            flags,
+            (
+              challenge,
+              (
+                info,
+                (info, (omega arith, (refl, (refl, tt)))),
+              ),
+            ),
+          ),
+        ),
+      ),
+    ),
+  ),
+)
 
 challenged : (v : Type1) (server : List ℕ) (now : ℕ) → length server ≡ 8 → type2_in (type2_spelling (challenge_value v
     server now)) ≡ Ok (challenge_value v server now)
 challenged v server now long =
     type2_again (challenge_value v server now) (writable2 (challenge_value v server now) (flags_fit v.flags) long (omega
-        arith) (let s = server_size now in omega arith))
+    arith) (let s = server_size now in omega arith))
     (none_if (length (server_info now) == 0) (info_fault (56 + length large_name) (server_info now)) (server_fits (56 +
-        length large_name) now))
+    length large_name) now))
 
 pub same_ok : {X : Type 0} (x y : X) → ◌≡◌ {A = Result X NtlmError} (Ok x) (Ok y) → x ≡ y
 same_ok x y h = cc
@@ -82,10 +105,79 @@ response_long p time challenge info lp lt lc =
 writable3 : (v : Type3Value) → v.flags < 256 ^ 4 → length v.lm < 256 ^ 2 → length v.nt < 256 ^ 2 → length v.domain < 256
     ^ 2 → length v.user < 256 ^ 2 → length v.workstation < 256 ^ 2 → length v.session_key < 256 ^ 2 → length v.mic ≡ 16
     → IsWritableType3 v
-writable3 v flags lm nt domain user workstation key mic =
-    (refl, (omega arith, (lm, (lm, (omega arith, (nt, (nt, (omega arith, (domain, (domain, (omega arith, (user, (user,
-        (omega arith, (workstation, (workstation, (omega arith, (key, (key, (omega arith, (flags, (mic, (refl, (refl,
-        (refl, (refl, (refl, (refl, tt))))))))))))))))))))))))))))
+writable3 v flags lm nt domain user workstation key mic = (
+  refl,
+  (
+    omega arith,
+    (
+      lm,
+      (
+        lm,
+        (
+          omega arith,
+          (
+            nt,
+            (
+              nt,
+              (
+                omega arith,
+                (
+                  domain,
+                  (
+                    domain,
+                    (
+                      omega arith,
+                      (
+                        user,
+                        (
+                          user,
+                          (
+                            omega arith,
+                            (
+                              workstation,
+                              (
+                                workstation,
+                                (
+                                  omega arith,
+                                  (
+                                    key,
+                                    (
+                                      key,
+                                      (
+                                        omega arith,
+                                        (
+                                          flags,
+                                          (
+                                            mic,
+                                            (
+                                              refl,
+                                              (
+                                                refl,
+                                                (refl, (refl, (refl, (refl, tt)))),
+                                              ),
+                                            ),
+                                          ),
+                                        ),
+                                      ),
+                                    ),
+                                  ),
+                                ),
+                              ),
+                            ),
+                          ),
+                        ),
+                      ),
+                    ),
+                  ),
+                ),
+              ),
+            ),
+          ),
+        ),
+      ),
+    ),
+  ),
+)
 
 below : (n : ℕ) → nat_lt n 65536 ≡ true → n < 256 ^ 2
 below n h = grind (arith, nat_tests)
@@ -105,12 +197,12 @@ answer_again c v code pairs challenge key long room =
     let exchanged = length-exchanged (base_key (key_of c) (proof_of c v)) c.key in
     let rest : drop 44 w.nt ≡ client_info v.target_info ++ replicate 4 0 =
     response_rest (proof_of c v) (time_in v.target_info) c.challenge (client_info v.target_info) (length-proof (key_of
-        c) v.challenge (temp_of c v)) (length-time (pair_in (length v.target_info) 7 v.target_info)) challenge in
+    c) v.challenge (temp_of c v)) (length-time (pair_in (length v.target_info) 7 v.target_info)) challenge in
     let fits : info_fault (nt_at w + 44) (drop 44 w.nt) ≡ None = ap (info_fault (nt_at w + 44)) rest ∙ answer_fits
-        (nt_at w + 44) v.target_info pairs in
+    (nt_at w + 44) v.target_info pairs in
     type3_again w
     (writable3 w (omega arith) (omega arith) (below (length w.nt) parts.0) (below (length w.domain) parts.1) (below
-        (length w.user) parts.2) (omega arith) (omega arith) long)
+    (length w.user) parts.2) (omega arith) (omega arith) long)
     (none_if (nat_lt (length w.nt) 44) (info_fault (nt_at w + 44) (drop 44 w.nt)) fits)
 
 given_if : {X : Type 0} (b : Bool) (x y : X) → (if b then Some x else None) ≡ Some y → (b ≡ true) × (x ≡ y)
@@ -132,4 +224,4 @@ answer_reads c first second third v challenge key reads made =
     let is = is_answer c first second third v made in
     subst (λ (m : List ℕ). type3_in m ≡ Ok w) is.1
     (answer_again c v (answer_code c first second v) (info_read second v reads) challenge key (length-mic c.key first
-        second (type3_spelling (answer_with c v (replicate 16 0)))) is.0)
+    second (type3_spelling (answer_with c v (replicate 16 0)))) is.0)

@@ -1,5 +1,5 @@
 -- A client with a logon of its own, and the user whose logon it is.
-use Rattle.std.specs.Prelude.{◌≡◌, ◌<◌, List, length, Some}
+use Rattle.std.specs.Prelude.{◌≡◌, List, length, Some}
 use Rattle.std.specs.Str.{IsAscii}
 use Rattle.token_defs.specs.Formulas.{utf16}
 use Rattle.token_defs.specs.Acceptor.{User, user_named}

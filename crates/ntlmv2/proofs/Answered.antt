@@ -1,5 +1,5 @@
 -- The type 3 of a response, with the MIC of the message without it, is the answer.
-use Rattle.std.proofs.Common.{◌≡◌, ℕ, ◌<◌, ◌^◌, nat_lt, Bool, true, false, not, ◌&&◌, if◌then◌else◌, List, ◌++◌, length, replicate, refl, ap, ◌∙◌, arith, Option, Some, None}
+use Rattle.std.proofs.Common.{◌≡◌, ℕ, ◌<◌, ◌^◌, nat_lt, Bool, true, false, ◌&&◌, if◌then◌else◌, List, ◌++◌, length, replicate, refl, ap, ◌∙◌, arith, Option, Some, None}
 use Rattle.std.proofs.lemmas.Bool.Decides.{nat_tests}
 use Rattle.token_defs.specs.Formulas.{utf16, mic}
 use Rattle.token_defs.specs.Messages.{Type2Value, Type3Value, type3_spelling}
@@ -60,14 +60,11 @@ pub given_answer : (c : Credentials) (second : Type2Value) (r : Response) (first
     c.key first second_bytes unsigned → third ≡ type3_spelling (answer_value r code) → Some third ≡ Answer.answered c
     first second_bytes second
 unfolding Answer.answered
-given_answer c second r first second_bytes unsigned code third is short u m t = rw short_has_room c second r (replicate
-    16 0) is short (ap Some (t ∙ answered c second r first second_bytes unsigned code is u m))
+given_answer c second r first second_bytes unsigned code third is short u m t =
+    rw (short_has_room c second r (replicate 16 0) is short)
+    (ap Some (t ∙ answered c second r first second_bytes unsigned code is u m))
 
 pub no_answer : (c : Credentials) (second : Type2Value) (r : Response) (first second_bytes : List ℕ) → IsResponse c
     second r → (IsShort r → ⊥) → None ≡ Answer.answered c first second_bytes second
 unfolding Answer.answered
-no_answer c second r first second_bytes is long = rw long_has_none c second r (replicate 16 0) is long refl
-
-pub is_there : (b : Bool) → not b ≡ false → b ≡ true
-is_there true h = refl
-is_there false h = absurd cc
+no_answer c second r first second_bytes is long = rw (long_has_none c second r (replicate 16 0) is long) refl

@@ -1,17 +1,13 @@
 -- A sealed frame, part by part.
-use Rattle.std.proofs.Common.{◌≡◌, ℕ, ◌+◌, ◌-◌, ◌≤◌, ◌<◌, ◌^◌, Bool, true, false, if◌then◌else◌, List, [], ◌∷◌, ◌++◌, length, take, drop, append_assoc, length-append, length-drop, refl, sym, ap, ◌∙◌, subst, arith, Option, Some, None, Result, Ok, Err, IfOk}
-use Rattle.std.proofs.lemmas.List.{length-take-le, take_at, drop_at}
-use Rattle.std.proofs.lemmas.Slice.Eq.{bytes_eq-Decides}
-use Rattle.std.specs.Str.{bytes_eq}
+use Rattle.std.proofs.Common.{◌≡◌, ℕ, ◌+◌, ◌-◌, ◌≤◌, ◌<◌, ◌^◌, Bool, true, false, if◌then◌else◌, List, length, take, drop, refl, sym, subst, arith}
+use Rattle.std.proofs.lemmas.List.{length-take-le}
 use Rattle.cipher_defs.specs.Gcm
 use Rattle.cipher_defs.specs.Ccm
 use Rattle.cipher_defs.specs.Ccm.{IsFit}
 use Rattle.aes_modes.proofs.Masking.{sum_length}
-use Rattle.aes_modes.proofs.Unmasking.{masked_length, masked_twice, front_of, back_of}
+use Rattle.aes_modes.proofs.Unmasking.{masked_length, masked_twice}
 use Rattle.wire_defs.specs.Places.{bytes_at}
-use Rattle.wire_defs.proofs.Numbers.{length-bytes_at}
-use Rattle.session_defs.specs.Sealing.{words_of, is_gcm, ciphertext, tag_of, tag_is_right}
-use Rattle.session_keys.proofs.Halves.{rest_is}
+use Rattle.session_defs.specs.Sealing.{words_of, is_gcm, ciphertext, tag_of}
 
 length_by : (gcm : Bool) (a b : List ℕ) (n : ℕ) → length a ≡ n → length b ≡ n → length (if gcm then a else b) ≡ n
 length_by true a b n e f = e

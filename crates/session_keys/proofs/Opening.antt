@@ -1,14 +1,13 @@
 -- What is sealed opens, what is signed verifies, and nonces differ.
-use Rattle.std.proofs.Common.{◌≡◌, ℕ, ◌+◌, ◌-◌, ◌≤◌, ◌<◌, ◌^◌, ◌==◌, nat_le, nat_lt, Bool, true, false, not, ◌&&◌, ◌||◌, if◌then◌else◌, List, [], ◌∷◌, ◌++◌, append_assoc, length, take, drop, replicate, get_or, length-append, refl, sym, ap, ◌∙◌, subst, arith, Option, Some, None, Result, Ok, Err}
-use Rattle.std.proofs.lemmas.List.{take_at, drop_at, length-take-le, take-append-drop}
+use Rattle.std.proofs.Common.{◌≡◌, ℕ, ◌+◌, ◌≤◌, ◌<◌, ◌^◌, ◌==◌, nat_le, nat_lt, true, false, List, [], ◌++◌, append_assoc, length, take, drop, replicate, length-append, refl, sym, ap, ◌∙◌, subst, arith, Ok}
+use Rattle.std.proofs.lemmas.List.{take_at, drop_at}
 use Rattle.std.proofs.lemmas.Bool.Decides.{nat_tests}
 use Rattle.std.proofs.lemmas.Slice.Eq.{bytes_eq-Decides}
 use Rattle.std.specs.Str.{bytes_eq}
 use Rattle.wire_defs.specs.Places.{le, number, number_of, bytes_at}
 use Rattle.wire_defs.proofs.Numbers.{length-le, number_of-le, bytes_at-behind}
-use Rattle.session_defs.specs.declared.material.Keys.{Keys}
 use Rattle.session_defs.specs.Nonces.{NonceState, nonce_of}
-use Rattle.session_defs.specs.Sealing.{protocol, added_of, key_for, ciphertext, tag_of, sealed_by, sealed, is_sealed, frame_fault, shown, tag_is_right, unsealed_by, unsealed}
+use Rattle.session_defs.specs.Sealing.{protocol, added_of, ciphertext, tag_of, sealed_by, is_sealed, frame_fault, tag_is_right, unsealed_by}
 use Rattle.session_keys.proofs.Frames.{ciphertext_length, tag_length, hides_twice}
 
 same_bytes : (a : List ℕ) → bytes_eq a a ≡ true

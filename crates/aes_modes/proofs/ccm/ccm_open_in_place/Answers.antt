@@ -1,4 +1,4 @@
-use Rattle.std.proofs.Common.{◌≡◌, ℕ, List, length, take, refl, true, false}
+use Rattle.std.proofs.Common.{◌≡◌, ℕ, List, length, take, refl}
 use Rattle.aes_modes.proofs.InPlace.{ccm_stays, ccm_again}
 use Rattle.aes_modes.proofs.ccm.ccm_open_in_place.Goals as goal
 

@@ -1,7 +1,7 @@
 use Rattle.std.proofs.Common.{◌∙◌, ap}
 use Rattle.ntlmv2.specs.Views.{type2_view, credentials_view}
 use Rattle.token_defs.specs.Formulas.{mic}
-use Rattle.ntlmv2.proofs.Answered.{given_answer, no_answer, is_there}
+use Rattle.ntlmv2.proofs.Answered.{given_answer, no_answer}
 use Rattle.ntlmv2.proofs.answer.answer_to.Goals as goal
 
 pub returns-then-not-has_room_for : goal.returns-then-not-has_room_for
@@ -15,5 +15,5 @@ returns c =
     let code = c.in_ok-code.ensures ∙ ap (mic c.args.client.now.key c.args.first.now c.args.second_bytes.now) c.as_slice.ensures in
     given_answer (credentials_view c.args.client.now) (type2_view c.args.second.now) c.in_ok-response.response
     c.args.first.now c.args.second_bytes.now c.in_ok-unsigned.unsigned c.in_ok-code.code c.in_ok-answer.answer
-    c.in_ok-response.ensures (c.has_room_for.ensures.0 (is_there c.has_room_for.result c.if-not-has_room_for.false))
+    c.in_ok-response.ensures (c.has_room_for.ensures.0 c.if-not-has_room_for.false)
     c.in_ok-unsigned.ensures code c.in_ok-answer.ensures

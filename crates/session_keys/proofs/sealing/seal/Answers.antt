@@ -1,5 +1,5 @@
-use Rattle.std.proofs.Common.{◌≡◌, ◌∙◌, List, ℕ, ◌++◌, length, replicate, refl, sym, ap, arith, rules}
-use Rattle.session_defs.specs.Sealing.{protocol, added_of, key_for, tag_of, ciphertext, sealed_by}
+use Rattle.std.proofs.Common.{◌≡◌, ◌∙◌, List, ℕ, ◌++◌, length, replicate, refl, sym, rules}
+use Rattle.session_defs.specs.Sealing.{protocol, tag_of, ciphertext, sealed_by}
 use Rattle.session_keys.proofs.InPlace.{sealed_frame, written}
 use Rattle.session_keys.proofs.sealing.seal.Goals as goal
 

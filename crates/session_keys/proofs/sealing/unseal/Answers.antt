@@ -1,4 +1,4 @@
-use Rattle.std.proofs.Common.{◌≡◌, ◌∙◌, List, ℕ, length, drop, sym, ap, Ok}
+use Rattle.std.proofs.Common.{◌≡◌, ◌∙◌, List, ℕ, drop, sym, ap, Ok}
 use Rattle.session_defs.specs.Sealing.{unsealed_by}
 use Rattle.session_keys.proofs.InPlace.{right, wrong, written, whole_rest}
 use Rattle.session_keys.proofs.sealing.unseal.Goals as goal

@@ -1,4 +1,4 @@
-use Rattle.std.proofs.Common.{◌≡◌, ◌∙◌, List, ℕ, sym, ap, Ok}
+use Rattle.std.proofs.Common.{◌∙◌, List, ℕ, sym, ap, Ok}
 use Rattle.session_defs.specs.Sealing.{unsealed_by}
 use Rattle.session_keys.proofs.InPlace.{right, wrong, whole_rest, text_behind, put_again}
 use Rattle.session_keys.proofs.sealing.unseal_in_place.Goals as goal

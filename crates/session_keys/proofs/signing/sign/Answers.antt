@@ -1,4 +1,4 @@
-use Rattle.std.proofs.Common.{◌≡◌, ◌-◌, length, take, drop, arith, length-drop}
+use Rattle.std.proofs.Common.{arith, length-drop}
 use Rattle.session_keys.proofs.Halves.{rest_is, by_gmac, by_cmac}
 use Rattle.session_keys.proofs.signing.sign.Goals as goal
 
