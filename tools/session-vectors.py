@@ -270,7 +270,7 @@ def init_row(table, token, listed, ntlm_first, mech_token=None, mic=None):
     table.row(
         f"init {token.hex()}",
         f"list {listed.hex()} ntlm_first {str(ntlm_first).lower()} token {word_of(mech_token)} mic {word_of(mic)}",
-        f.init_token(listed, mech_token, mic).hex(),
+        f.init_token(listed, mech_token, mic).hex() if listed == f.mech_list(f.NTLM_OID) else "with another mechanism",
     )
 
 

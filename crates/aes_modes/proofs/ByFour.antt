@@ -13,7 +13,13 @@ abbrev shifted4 : ℕ → ℕ
 shifted4 z = shifted (shifted (shifted (shifted z)))
 
 shifted4-xor : (a b : ℕ) → shifted4 (bit_xor a b) ≡ bit_xor (shifted4 a) (shifted4 b)
-shifted4-xor a b = rw (shifted-xor a b, shifted-xor (shifted a) (shifted b), shifted-xor (shifted (shifted a)) (shifted (shifted b)), shifted-xor (shifted (shifted (shifted a))) (shifted (shifted (shifted b)))) refl
+shifted4-xor a b = rw (
+  shifted-xor a b,
+  shifted-xor (shifted a) (shifted b),
+  shifted-xor (shifted (shifted a)) (shifted
+      (shifted b)),
+  shifted-xor (shifted (shifted (shifted a))) (shifted (shifted (shifted b))),
+) refl
 
 shifted_even : (a : ℕ) → shifted (2 * a) ≡ a
 unfolding shifted
@@ -29,7 +35,8 @@ shifted4_high q =
 
 parts : (z : ℕ) → bit_xor (z / 16 * 16) (z % 16) ≡ z
 parts z =
-    let e : bit_xor (z / 16 * 2 ^ 4 + 0) (0 * 2 ^ 4 + z % 16) ≡ bit_xor (z / 16) 0 * 2 ^ 4 + bit_xor 0 (z % 16) = xor_block 4 (z / 16) 0 0 (z % 16) (omega arith) (omega arith) in
+    let e : bit_xor (z / 16 * 2 ^ 4 + 0) (0 * 2 ^ 4 + z % 16) ≡ bit_xor (z / 16) 0 * 2 ^ 4 + bit_xor 0 (z % 16) =
+    xor_block 4 (z / 16) 0 0 (z % 16) (omega arith) (omega arith) in
     let a : z / 16 * 2 ^ 4 + 0 ≡ z / 16 * 16 = omega arith in
     let b : 0 * 2 ^ 4 + z % 16 ≡ z % 16 = omega arith in
     let e' = rw (a, b, xor_zero_r (z / 16), xor_zero_l (z % 16)) at e in
@@ -61,18 +68,30 @@ low_at (suc (suc (suc (suc (suc (suc (suc (suc (suc (suc (suc (suc (suc (suc (su
 -- shifted by four, by the table
 pub shifted4_is : (z : ℕ) → bit_xor (z / 16) (get_or LOW (z % 16) 0) ≡ shifted4 z
 shifted4_is z =
-    sym (ap (λ (x : ℕ). shifted4 x) (sym (parts z)) ∙ shifted4-xor (z / 16 * 16) (z % 16) ∙ rw (shifted4_high (z / 16), low_at (z % 16) (omega arith)) refl)
+    sym (ap (λ (x : ℕ). shifted4 x) (sym (parts z)) ∙ shifted4-xor (z / 16 * 16) (z % 16) ∙ rw (
+      shifted4_high (z / 16),
+      low_at (z % 16) (omega arith),
+    ) refl)
 
 -- the sum over a front and a rest, for a front of four bits
-sum_at_front : (b3 b2 b1 b0 : Bool) (bs : List Bool) (h : ℕ) → sum_at (b3 ∷ b2 ∷ b1 ∷ b0 ∷ bs) h ≡ bit_xor (sum_at (b3 ∷ b2 ∷ b1 ∷ b0 ∷ []) h) (shifted4 (sum_at bs h))
+sum_at_front : (b3 b2 b1 b0 : Bool) (bs : List Bool) (h : ℕ) → sum_at (b3 ∷ b2 ∷ b1 ∷ b0 ∷ bs) h ≡ bit_xor (sum_at (b3 ∷
+    b2 ∷ b1 ∷ b0 ∷ []) h) (shifted4 (sum_at bs h))
 unfolding sum_at
 sum_at_front b3 b2 b1 b0 bs h =
-    rw (← sum_at-shifted bs h, ← sum_at-shifted bs (shifted h), ← sum_at-shifted bs (shifted (shifted h)), ← sum_at-shifted bs (shifted (shifted (shifted h))), xor_zero_r) (simp xor_assoc)
+    rw (
+      ← sum_at-shifted bs h,
+      ← sum_at-shifted bs (shifted h),
+      ← sum_at-shifted bs (shifted (shifted h)),
+      ←
+          sum_at-shifted bs (shifted (shifted (shifted h))),
+      xor_zero_r,
+    ) (simp xor_assoc)
 
 bit_again : (y d : ℕ) → y % 16 / 8 % 2 ≡ y / 8 % 2
 bit_again y d = omega arith
 
-bits_four : (x i n : ℕ) → n ≡ x / 2 ^ i % 16 → bits_of (i + 4) x ≡ (n / 8 % 2 == 1) ∷ (n / 4 % 2 == 1) ∷ (n / 2 % 2 == 1) ∷ (n % 2 == 1) ∷ bits_of i x
+bits_four : (x i n : ℕ) → n ≡ x / 2 ^ i % 16 → bits_of (i + 4) x ≡ (n / 8 % 2 == 1) ∷ (n / 4 % 2 == 1) ∷ (n / 2 % 2 ==
+    1) ∷ (n % 2 == 1) ∷ bits_of i x
 unfolding bits_of
 bits_four x i n e =
     let k : i + 4 ≡ suc (suc (suc (suc i))) = omega arith in
@@ -91,9 +110,17 @@ pub step_four : (x h i n z entry : ℕ) → n ≡ x / 2 ^ i % 16 → entry ≡ s
 unfolding bits_of
 step_four x h i n z entry e is so_far =
     let d0 : n / 1 ≡ n = omega arith in
-    rw (is, so_far, bits_four x i n e, sum_at_front (n / 8 % 2 == 1) (n / 4 % 2 == 1) (n / 2 % 2 == 1) (n % 2 == 1) (bits_of i x) h, d0) refl
+    rw (
+      is,
+      so_far,
+      bits_four x i n e,
+      sum_at_front (n / 8 % 2 == 1) (n / 4 % 2 == 1) (n / 2 % 2 == 1) (n % 2 == 1)
+          (bits_of i x) h,
+      d0,
+    ) refl
 
-pub sums_more : (sums : List ℕ) (h n entry : ℕ) → length sums ≡ 16 → n < 16 → ((k : ℕ) → k < n → get_or sums k 0 ≡ sum_at (bits_of 4 k) h) → entry ≡ sum_at (bits_of 4 n) h
+pub sums_more : (sums : List ℕ) (h n entry : ℕ) → length sums ≡ 16 → n < 16 → ((k : ℕ) → k < n → get_or sums k 0 ≡
+    sum_at (bits_of 4 k) h) → entry ≡ sum_at (bits_of 4 n) h
     → (k : ℕ) → k < n + 1 → get_or (set sums n entry) k 0 ≡ sum_at (bits_of 4 k) h
 sums_more sums h n entry len lt known is k below =
     elim (cases_lt k n) [

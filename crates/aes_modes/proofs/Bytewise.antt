@@ -16,14 +16,16 @@ pow_byte (suc (suc (suc (suc (suc (suc (suc (suc zero)))))))) lt = refl
 pow_byte (suc (suc (suc (suc (suc (suc (suc (suc (suc e))))))))) lt = absurd (omega arith)
 
 -- a byte of a number in the w - 1 .. w bytes behind a nonce of `long` bytes
-pub number_byte : (n k long : ℕ) → 7 ≤ long → long < k → k ≤ 15 → n / 2 ^ (8 * (15 - k)) % 256 ≡ n / 256 ^ (15 - long - 1 - (k - 1 - long)) % 256
+pub number_byte : (n k long : ℕ) → 7 ≤ long → long < k → k ≤ 15 → n / 2 ^ (8 * (15 - k)) % 256 ≡ n / 256 ^ (15 - long -
+    1 - (k - 1 - long)) % 256
 number_byte n k long low above within =
     let e : 15 - long - 1 - (k - 1 - long) ≡ 15 - k = omega arith in
     let p : 2 ^ (8 * (15 - k)) ≡ 256 ^ (15 - k) = pow_byte (15 - k) (omega arith) in
     rw (e, p) refl
 
 pub nonce_number : (n k first : ℕ) (nonce : List ℕ) → 7 ≤ length nonce → length nonce < k → k ≤ 15
-    → n / 2 ^ (8 * (15 - k)) % 256 ≡ cond (eqb k 0) first (cond (leb k (length nonce)) (get_or nonce (k - 1) 0) (big_byte (15 - length nonce) n (k - 1 - length nonce)))
+    → n / 2 ^ (8 * (15 - k)) % 256 ≡ cond (eqb k 0) first (cond (leb k (length nonce)) (get_or nonce (k - 1) 0)
+    (big_byte (15 - length nonce) n (k - 1 - length nonce)))
 nonce_number n k first nonce low above within =
     let some : k ≡ 0 → ⊥ = λ e. omega arith in
     rw (ne_eqb k 0 some, lt-leb k (length nonce) above) (number_byte n k (length nonce) low above within)

@@ -11,7 +11,8 @@ pub chained_none : (ws : List (List ℕ)) (y m : List ℕ) → y ≡ chained ws 
 unfolding chained
 chained_none ws y m = refl
 
-pub chained_more : (ws : List (List ℕ)) (y m : List ℕ) (i : ℕ) → cipher ws (block_sum (chained ws y m i) (block_at m i)) ≡ chained ws y m (i + 1)
+pub chained_more : (ws : List (List ℕ)) (y m : List ℕ) (i : ℕ) → cipher ws (block_sum (chained ws y m i) (block_at m i))
+    ≡ chained ws y m (i + 1)
 unfolding chained
 chained_more ws y m i = let k : i + 1 ≡ suc i = omega arith in rw k refl
 
@@ -19,7 +20,8 @@ pub hashed_none : (h y : ℕ) (m : List ℕ) → y ≡ hashed h y m 0
 unfolding hashed
 hashed_none h y m = refl
 
-pub hashed_more : (h y : ℕ) (m : List ℕ) (i : ℕ) → product (bit_xor (hashed h y m i) (from_be_bytes w128 (block_at m i))) h ≡ hashed h y m (i + 1)
+pub hashed_more : (h y : ℕ) (m : List ℕ) (i : ℕ) → product (bit_xor (hashed h y m i) (from_be_bytes w128 (block_at m
+    i))) h ≡ hashed h y m (i + 1)
 unfolding hashed
 hashed_more h y m i = let k : i + 1 ≡ suc i = omega arith in rw k refl
 

@@ -12,7 +12,8 @@ or_none a b e =
     (omega arith, omega arith)
 
 xor_none : (a b : ℕ) → bit_xor a b ≡ 0 → a ≡ b
-xor_none a b e = sym (xor_zero_r a) ∙ ap (λ (x : ℕ). bit_xor a x) (sym (xor_self b)) ∙ sym (xor_assoc a b b) ∙ ap (λ (x : ℕ). bit_xor x b) e ∙ xor_zero_l b
+xor_none a b e = sym (xor_zero_r a) ∙ ap (λ (x : ℕ). bit_xor a x) (sym (xor_self b)) ∙ sym (xor_assoc a b b) ∙ ap (λ (x
+    : ℕ). bit_xor x b) e ∙ xor_zero_l b
 
 pub compared_none : (a b : List ℕ) (i d : ℕ) → i < length a → length a ≡ length b → (d ≡ 0 → take i a ≡ take i b)
     → bit_or d (bit_xor (get_or a i 0) (get_or b i 0)) ≡ 0 → take (i + 1) a ≡ take (i + 1) b
@@ -27,7 +28,8 @@ compared_same a b i d lt len so_far e =
     let p : (take i a ≡ take i b) × (get_or a i 0 ≡ get_or b i 0) = same_from_push (take i a) (take i b) (get_or a i 0) (get_or b i 0) j in
     rw (so_far p.0, p.1, xor_self (get_or b i 0)) (or_zero_l 0)
 
-pub compared_whole : (a b : List ℕ) (i d : ℕ) → length a ≤ i → length a ≡ length b → (d ≡ 0 → take i a ≡ take i b) → (take i a ≡ take i b → d ≡ 0)
+pub compared_whole : (a b : List ℕ) (i d : ℕ) → length a ≤ i → length a ≡ length b → (d ≡ 0 → take i a ≡ take i b) →
+    (take i a ≡ take i b → d ≡ 0)
     → (eqb d 0 ≡ true → a ≡ b) × (a ≡ b → eqb d 0 ≡ true)
 compared_whole a b i d le len none same = (
   λ e. sym (take_all i a le) ∙ none (eqb-true d 0 e) ∙ take_all i b (omega arith),

@@ -1,8 +1,7 @@
 -- Chains, hashes and last blocks of a message in two pieces, of which the first fills whole blocks.
-use Rattle.std.proofs.Common.{◌≡◌, ℕ, zero, suc, ◌+◌, ◌-◌, ◌*◌, ◌/◌, ◌^◌, ◌≤◌, ◌<◌, ◌==◌, List, [], ◌∷◌, ◌++◌, length, drop, get_or, length-append, refl, sym, ap, ◌∙◌, arith}
+use Rattle.std.proofs.Common.{◌≡◌, ℕ, zero, suc, ◌+◌, ◌*◌, ◌^◌, ◌≤◌, ◌<◌, List, [], ◌∷◌, ◌++◌, length, drop, get_or, length-append, refl, ap, ◌∙◌, arith}
 use Rattle.std.proofs.lemmas.List.{append-nil, get_or-append-add}
 use Rattle.std.specs.Int.Bits.{bit_xor}
-use Rattle.std.specs.Int.{w128, from_be_bytes}
 use Rattle.cipher_defs.specs.Aes.{sixteen, cipher, block_sum}
 use Rattle.cipher_defs.specs.Blocks.{block_at, block_count, chained}
 use Rattle.cipher_defs.specs.Cmac.{zeros, before_last, rest_of, last_block, cmac}
@@ -27,20 +26,23 @@ drop_behind (x ∷ a) b n = let e : suc (length a) + n ≡ suc (length a + n) = 
 
 front_block : (a b : List ℕ) (i : ℕ) → 16 * i + 16 ≤ length a → block_at (a ++ b) i ≡ block_at a i
 unfolding block_at
-front_block a b i fit = same_sixteen (λ k. get_or (a ++ b) (16 * i + k) 0) (λ k. get_or a (16 * i + k) 0) (λ k lt. front_byte a b (16 * i + k) (omega arith))
+front_block a b i fit = same_sixteen (λ k. get_or (a ++ b) (16 * i + k) 0) (λ k. get_or a (16 * i + k) 0) (λ k lt.
+    front_byte a b (16 * i + k) (omega arith))
 
-back_block : (a b : List ℕ) (n j : ℕ) → length a ≡ 16 * n → block_at (a ++ b) (n + j) ≡ block_at b j
+pub back_block : (a b : List ℕ) (n j : ℕ) → length a ≡ 16 * n → block_at (a ++ b) (n + j) ≡ block_at b j
 unfolding block_at
 back_block a b n j whole =
     same_sixteen (λ k. get_or (a ++ b) (16 * (n + j) + k) 0) (λ k. get_or b (16 * j + k) 0)
-    (λ k lt. let e : 16 * (n + j) + k ≡ length a + (16 * j + k) = omega arith in ap (λ (i : ℕ). get_or (a ++ b) i 0) e ∙ get_or-append-add a b (16 * j + k) 0)
+    (λ k lt. let e : 16 * (n + j) + k ≡ length a + (16 * j + k) = omega arith in ap (λ (i : ℕ). get_or (a ++ b) i 0) e ∙
+    get_or-append-add a b (16 * j + k) 0)
 
 front_chain : (ws : List (List ℕ)) (y a b : List ℕ) (i : ℕ) → 16 * i ≤ length a → chained ws y (a ++ b) i ≡ chained ws y a i
 unfolding chained
 front_chain ws y a b zero fit = refl
 front_chain ws y a b (suc i) fit = rw (front_chain ws y a b i (omega arith), front_block a b i (omega arith)) refl
 
-both_chain : (ws : List (List ℕ)) (y a b : List ℕ) (n k : ℕ) → length a ≡ 16 * n → chained ws y (a ++ b) (n + k) ≡ chained ws (chained ws y a n) b k
+both_chain : (ws : List (List ℕ)) (y a b : List ℕ) (n k : ℕ) → length a ≡ 16 * n → chained ws y (a ++ b) (n + k) ≡
+    chained ws (chained ws y a n) b k
 unfolding chained
 both_chain ws y a b n zero whole = let e : n + 0 ≡ n = omega arith in rw e (front_chain ws y a b n (omega arith))
 both_chain ws y a b n (suc k) whole =
@@ -67,7 +69,8 @@ last_behind ws f r whole some =
     let rest : rest_of (f ++ r) ≡ rest_of r = ap (λ (n : ℕ). drop n (f ++ r)) e ∙ drop_behind f r (16 * before_last r) in
     rw rest refl
 
-pub cmac_parts : (ws : List (List ℕ)) (f r : List ℕ) → length f ≡ 64 → 0 < length r → cipher ws (block_sum (chained ws (chained ws zeros f 4) r (before_last r)) (last_block ws r)) ≡ cmac ws (f ++ r)
+pub cmac_parts : (ws : List (List ℕ)) (f r : List ℕ) → length f ≡ 64 → 0 < length r → cipher ws (block_sum (chained ws
+    (chained ws zeros f 4) r (before_last r)) (last_block ws r)) ≡ cmac ws (f ++ r)
 unfolding cmac
 cmac_parts ws f r whole some =
     let long = length-append f r in
@@ -78,7 +81,8 @@ pub cmac_front : (ws : List (List ℕ)) (f r : List ℕ) → length r ≡ 0 → 
 cmac_front ws f [] none = rw (append-nil f) refl
 cmac_front ws f (x ∷ r) none = absurd (omega arith)
 
-pub ghash_parts : (h : ℕ) (f r : List ℕ) → length f ≡ 64 → product (bit_xor (hashed_all h (hashed_all h (hashed_all h 0 f) r) []) (8 * (64 + length r) * 2 ^ 64)) h ≡ ghash h (f ++ r) []
+pub ghash_parts : (h : ℕ) (f r : List ℕ) → length f ≡ 64 → product (bit_xor (hashed_all h (hashed_all h (hashed_all h 0
+    f) r) []) (8 * (64 + length r) * 2 ^ 64)) h ≡ ghash h (f ++ r) []
 unfolding ghash
 ghash_parts h f r whole =
     let long = length-append f r in

@@ -2,7 +2,8 @@ pub mod ByFour
 pub mod Bytewise
 pub mod Chains
 pub mod Compared
+mod InPlace
+mod Joined
 pub mod Linear
 pub mod Masking
 pub mod Unmasking
-mod Joined

@@ -6,7 +6,8 @@ use Rattle.cipher_defs.specs.Ghash.{shifted, bits_of, sum_at}
 
 pub swapped : (a b c d : ℕ) → bit_xor (bit_xor a b) (bit_xor c d) ≡ bit_xor (bit_xor a c) (bit_xor b d)
 swapped a b c d =
-    let e : bit_xor b (bit_xor c d) ≡ bit_xor c (bit_xor b d) = sym (xor_assoc b c d) ∙ ap (λ (x : ℕ). bit_xor x d) (xor_comm b c) ∙ xor_assoc c b d in
+    let e : bit_xor b (bit_xor c d) ≡ bit_xor c (bit_xor b d) = sym (xor_assoc b c d) ∙ ap (λ (x : ℕ). bit_xor x d)
+    (xor_comm b c) ∙ xor_assoc c b d in
     xor_assoc a b (bit_xor c d) ∙ ap (λ (x : ℕ). bit_xor a x) e ∙ sym (xor_assoc a c (bit_xor b d))
 
 abbrev low : ℕ → ℕ
@@ -26,7 +27,8 @@ unfolding shifted
 shifted-xor a b =
     let half : bit_xor a b / 2 ≡ bit_xor (a / 2) (b / 2) = xor_shr a b 1 in
     let rest : bit_xor a b % 2 ≡ bit_xor (a % 2) (b % 2) = xor_mod a b 1 in
-    let lows : low (bit_xor a b % 2) ≡ bit_xor (low (a % 2)) (low (b % 2)) = ap low rest ∙ low-xor (a % 2) (b % 2) (omega arith) (omega arith) in
+    let lows : low (bit_xor a b % 2) ≡ bit_xor (low (a % 2)) (low (b % 2)) = ap low rest ∙ low-xor (a % 2) (b % 2)
+    (omega arith) (omega arith) in
     rw (half, lows) (swapped (a / 2) (b / 2) (low (a % 2)) (low (b % 2)))
 
 pub shifted-cond : (b : Bool) (v : ℕ) → cond b (shifted v) 0 ≡ shifted (cond b v 0)
@@ -59,7 +61,8 @@ ended z v x k total e so_far =
     sym (xor_zero_r z) ∙ same
 
 -- one step from the end
-pub step_back : (x h m z : ℕ) → z ≡ sum_at (bits_of m x) h → bit_xor (cond (eqb (x / 2 ^ m % 2) 1) h 0) (shifted z) ≡ sum_at (bits_of (m + 1) x) h
+pub step_back : (x h m z : ℕ) → z ≡ sum_at (bits_of m x) h → bit_xor (cond (eqb (x / 2 ^ m % 2) 1) h 0) (shifted z) ≡
+    sum_at (bits_of (m + 1) x) h
 unfolding bits_of sum_at
 step_back x h m z e =
     let k : m + 1 ≡ suc m = omega arith in

@@ -38,7 +38,8 @@ unfolding block_at
 block_byte m i c lt = sixteen_at (λ k. get_or m (16 * i + k) 0) c lt
 
 masked_more : (ws : List (List ℕ)) (f : ℕ → List ℕ) (text : List ℕ) (i c : ℕ) → c < 16
-    → masked ws f text (suc (16 * i + c)) ≡ masked ws f text (16 * i + c) ++ bit_xor (get_or text (16 * i + c) 0) (get_or (cipher ws (f i)) c 0) ∷ []
+    → masked ws f text (suc (16 * i + c)) ≡ masked ws f text (16 * i + c) ++ bit_xor (get_or text (16 * i + c) 0)
+    (get_or (cipher ws (f i)) c 0) ∷ []
 unfolding masked stream_byte
 masked_more ws f text i c lt =
     let q : (16 * i + c) / 16 ≡ i = omega arith in
@@ -54,32 +55,39 @@ masked_block ws f text i zero le =
 masked_block ws f text i (suc c) le =
     let k : 16 * i + suc c ≡ suc (16 * i + c) = omega arith in
     let len : length (block_sum (block_at text i) (cipher ws (f i))) ≡ 16 = sum_length (block_at text i) (cipher ws (f i)) in
-    let here : get_or (block_sum (block_at text i) (cipher ws (f i))) c 0 ≡ bit_xor (get_or text (16 * i + c) 0) (get_or (cipher ws (f i)) c 0) =
-    sum_byte (block_at text i) (cipher ws (f i)) c (omega arith) ∙ ap (λ (x : ℕ). bit_xor x (get_or (cipher ws (f i)) c 0)) (block_byte text i c (omega arith)) in
-    let front : take (suc c) (block_sum (block_at text i) (cipher ws (f i))) ≡ take c (block_sum (block_at text i) (cipher ws (f i))) ++ get_or (block_sum (block_at text i) (cipher ws (f i))) c 0 ∷ [] =
+    let here : get_or (block_sum (block_at text i) (cipher ws (f i))) c 0 ≡ bit_xor (get_or text (16 * i + c) 0) (get_or
+    (cipher ws (f i)) c 0) =
+    sum_byte (block_at text i) (cipher ws (f i)) c (omega arith) ∙ ap (λ (x : ℕ). bit_xor x (get_or (cipher ws (f i)) c
+    0)) (block_byte text i c (omega arith)) in
+    let front : take (suc c) (block_sum (block_at text i) (cipher ws (f i))) ≡ take c (block_sum (block_at text i)
+    (cipher ws (f i))) ++ get_or (block_sum (block_at text i) (cipher ws (f i))) c 0 ∷ [] =
     take-suc (block_sum (block_at text i) (cipher ws (f i))) c 0 (omega arith) in
     rw (k, masked_more ws f text i c (omega arith), masked_block ws f text i c (omega arith), front, here)
-    (append_assoc (masked ws f text (16 * i)) (take c (block_sum (block_at text i) (cipher ws (f i)))) (bit_xor (get_or text (16 * i + c) 0) (get_or (cipher ws (f i)) c 0) ∷ []))
+    (append_assoc (masked ws f text (16 * i)) (take c (block_sum (block_at text i) (cipher ws (f i)))) (bit_xor (get_or
+    text (16 * i + c) 0) (get_or (cipher ws (f i)) c 0) ∷ []))
 
 pub masked_none : (ws : List (List ℕ)) (f : ℕ → List ℕ) (text : List ℕ) → [] ≡ masked ws f text (min (16 * 0) (length text))
 unfolding masked
 masked_none ws f text = let z : min (16 * 0) (length text) ≡ 0 = omega arith in rw z refl
 
 -- one turn of the loop over the blocks
-pub masked_step : (ws : List (List ℕ)) (f : ℕ → List ℕ) (text out key : List ℕ) (i : ℕ) → 16 * i < length text → out ≡ masked ws f text (min (16 * i) (length text)) → key ≡ cipher ws (f i)
+pub masked_step : (ws : List (List ℕ)) (f : ℕ → List ℕ) (text out key : List ℕ) (i : ℕ) → 16 * i < length text → out ≡
+    masked ws f text (min (16 * i) (length text)) → key ≡ cipher ws (f i)
     → out ++ take (min (length text - 16 * i) 16) (block_sum (block_at text i) key) ≡ masked ws f text (min (16 * (i + 1)) (length text))
 masked_step ws f text out key i lt so_far is =
     let a : min (16 * i) (length text) ≡ 16 * i = omega arith in
     let e : min (16 * (i + 1)) (length text) ≡ 16 * i + min (length text - 16 * i) 16 = omega arith in
     rw (so_far, a, is, e) (sym (masked_block ws f text i (min (length text - 16 * i) 16) (omega arith)))
 
-pub masked_end : (ws : List (List ℕ)) (f : ℕ → List ℕ) (text out : List ℕ) (n : ℕ) → length text ≤ 16 * n → out ≡ masked ws f text (min (16 * n) (length text)) → out ≡ masked ws f text (length text)
+pub masked_end : (ws : List (List ℕ)) (f : ℕ → List ℕ) (text out : List ℕ) (n : ℕ) → length text ≤ 16 * n → out ≡ masked
+    ws f text (min (16 * n) (length text)) → out ≡ masked ws f text (length text)
 masked_end ws f text out n le so_far =
     let e : min (16 * n) (length text) ≡ length text = omega arith in
     rw e at so_far
 
 -- a text of one block
-pub masked_front : (ws : List (List ℕ)) (f : ℕ → List ℕ) (m : List ℕ) (n : ℕ) → n ≤ 16 → take n (block_sum (block_at m 0) (cipher ws (f 0))) ≡ masked ws f m n
+pub masked_front : (ws : List (List ℕ)) (f : ℕ → List ℕ) (m : List ℕ) (n : ℕ) → n ≤ 16 → take n (block_sum (block_at m
+    0) (cipher ws (f 0))) ≡ masked ws f m n
 unfolding masked
 masked_front ws f m n le =
     let e : masked ws f m (16 * 0 + n) ≡ take n (block_sum (block_at m 0) (cipher ws (f 0))) = masked_block ws f m 0 n le in

@@ -10,21 +10,25 @@ pub masked_length : (ws : List (List ℕ)) (f : ℕ → List ℕ) (text : List �
 unfolding masked
 masked_length ws f text zero = refl
 masked_length ws f text (suc n) =
-    let p : length (masked ws f text n ++ bit_xor (get_or text n 0) (stream_byte ws f n) ∷ []) ≡ length (masked ws f text n) + 1 = length_push (masked ws f text n) (bit_xor (get_or text n 0) (stream_byte ws f n)) in
+    let p : length (masked ws f text n ++ bit_xor (get_or text n 0) (stream_byte ws f n) ∷ []) ≡ length (masked ws f
+    text n) + 1 = length_push (masked ws f text n) (bit_xor (get_or text n 0) (stream_byte ws f n)) in
     let e : length (masked ws f text n) ≡ n = masked_length ws f text n in
     omega arith
 
-masked_at : (ws : List (List ℕ)) (f : ℕ → List ℕ) (text : List ℕ) (n j : ℕ) → j < n → get_or (masked ws f text n) j 0 ≡ bit_xor (get_or text j 0) (stream_byte ws f j)
+masked_at : (ws : List (List ℕ)) (f : ℕ → List ℕ) (text : List ℕ) (n j : ℕ) → j < n → get_or (masked ws f text n) j 0 ≡
+    bit_xor (get_or text j 0) (stream_byte ws f j)
 unfolding masked
 masked_at ws f text zero j lt = absurd (omega arith)
 masked_at ws f text (suc n) j lt =
     let len : length (masked ws f text n) ≡ n = masked_length ws f text n in
     elim (cases_lt j n) [
       | inl below ↦
-          get_or_append_left (masked ws f text n) (bit_xor (get_or text n 0) (stream_byte ws f n) ∷ []) 0 j (omega arith) ∙ masked_at ws f text n j below
+          get_or_append_left (masked ws f text n) (bit_xor (get_or text n 0) (stream_byte ws f n) ∷ []) 0 j (omega
+          arith) ∙ masked_at ws f text n j below
       | inr above ↦
           let same : j ≡ n = omega arith in
-          let here : get_or (masked ws f text n ++ bit_xor (get_or text n 0) (stream_byte ws f n) ∷ []) n 0 ≡ bit_xor (get_or text n 0) (stream_byte ws f n) =
+          let here : get_or (masked ws f text n ++ bit_xor (get_or text n 0) (stream_byte ws f n) ∷ []) n 0 ≡ bit_xor
+          (get_or text n 0) (stream_byte ws f n) =
           get_or_at (masked ws f text n) (bit_xor (get_or text n 0) (stream_byte ws f n)) [] 0 n len in
           rw same here
     ]
@@ -32,19 +36,23 @@ masked_at ws f text (suc n) j lt =
 xor_twice : (a b : ℕ) → bit_xor (bit_xor a b) b ≡ a
 xor_twice a b = xor_assoc a b b ∙ ap (λ (x : ℕ). bit_xor a x) (xor_self b) ∙ xor_zero_r a
 
-masked_front_twice : (ws : List (List ℕ)) (f : ℕ → List ℕ) (text : List ℕ) (n k : ℕ) → k ≤ n → n ≤ length text → masked ws f (masked ws f text n) k ≡ take k text
+masked_front_twice : (ws : List (List ℕ)) (f : ℕ → List ℕ) (text : List ℕ) (n k : ℕ) → k ≤ n → n ≤ length text → masked
+    ws f (masked ws f text n) k ≡ take k text
 unfolding masked
 masked_front_twice ws f text n zero le fit = refl
 masked_front_twice ws f text n (suc k) le fit =
     let here : bit_xor (get_or (masked ws f text n) k 0) (stream_byte ws f k) ≡ get_or text k 0 =
-    ap (λ (x : ℕ). bit_xor x (stream_byte ws f k)) (masked_at ws f text n k (omega arith)) ∙ xor_twice (get_or text k 0) (stream_byte ws f k) in
+    ap (λ (x : ℕ). bit_xor x (stream_byte ws f k)) (masked_at ws f text n k (omega arith)) ∙ xor_twice (get_or text k 0)
+    (stream_byte ws f k) in
     let more : take (suc k) text ≡ take k text ++ get_or text k 0 ∷ [] = take-suc text k 0 (omega arith) in
     rw (masked_front_twice ws f text n k (omega arith) fit, here, more) refl
 
-pub masked_twice : (ws : List (List ℕ)) (f : ℕ → List ℕ) (text c : List ℕ) → c ≡ masked ws f text (length text) → masked ws f c (length c) ≡ text
+pub masked_twice : (ws : List (List ℕ)) (f : ℕ → List ℕ) (text c : List ℕ) → c ≡ masked ws f text (length text) → masked
+    ws f c (length c) ≡ text
 masked_twice ws f text c is =
     let len : length c ≡ length text = ap length is ∙ masked_length ws f text (length text) in
-    rw (len, is, masked_front_twice ws f text (length text) (length text) (omega arith) (omega arith)) (take_all (length text) text (omega arith))
+    rw (len, is, masked_front_twice ws f text (length text) (length text) (omega arith) (omega arith)) (take_all (length
+    text) text (omega arith))
 
 -- what stands before the last n bytes, and those
 pub front_of : (c t : List ℕ) (n : ℕ) → length t ≡ n → take (length (c ++ t) - n) (c ++ t) ≡ c

@@ -1,5 +1,5 @@
 //! What the modes share: blocks of bytes, the chain over them, masking block by block, and the comparison of tags.
-ghost use Rattle.std.specs.Prelude.{◌≡◌, ◌≤◌, ◌<◌, ◌*◌, ◌+◌, ◌-◌, ◌/◌, ◌++◌, ◌↔◌, IsTrue, length, take, min, slice_index, OnOk};
+ghost use Rattle.std.specs.Prelude.{◌≡◌, ◌≤◌, ◌<◌, ◌*◌, ◌+◌, ◌-◌, ◌/◌, ◌++◌, ◌↔◌, IsTrue, length, take, drop, min, slice_index, OnOk};
 ghost use Rattle.cipher_defs.specs.Aes.{block_sum};
 ghost use Rattle.cipher_defs.specs.Blocks.{block_at, block_count, chained};
 
@@ -106,11 +106,24 @@ pub(crate) fn push_masked_block(
     key: &[u8; 16],
 ) -> Result<(), AllocError>
     requires { 16 * i ≤ length text.now }
-    ensures { OnOk result (out.new.items ≡ out.old.items ++ take (min (length text.now - 16 * i) 16) (block_sum (block_at text.now i) key.now)) }
+    ensures { OnOk result (out.new.items ≡ out.old.items ++ take (min (length text.now - 16 * i) 16) (block_sum
+        (block_at text.now i) key.now)) }
 {
     let masked = block_sum_of(&block_of(text, i), key);
     let count = (text.len() - 16 * i).min(16);
     out.extend_from_slice(&masked[..count])
+}
+
+/// Masks block i of the text where it stands, as far as the text goes, under `key`.
+#[inline(always)]
+pub(crate) fn mask_block(text: &mut [u8], i: usize, key: &[u8; 16])
+    requires { 16 * i ≤ length text.old }
+    ensures { text.new ≡ take (16 * i) text.old ++ (take (min (length text.old - 16 * i) 16) (block_sum (block_at
+        text.old i) key.now) ++ drop (16 * i + min (length text.old - 16 * i) 16) text.old) }
+{
+    let masked = block_sum_of(&block_of(text, i), key);
+    let count = (text.len() - 16 * i).min(16);
+    text[16 * i..16 * i + count].copy_from_slice(&masked[..count]);
 }
 
 /// Whether two tags of one length are the same. It takes the same time whatever they are.

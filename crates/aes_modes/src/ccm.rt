@@ -1,9 +1,11 @@
 //! CCM with a nonce of 7 to 13 bytes and a tag of 4, 6 .. 16 (SP 800-38C, with the formatting of its appendix A).
-ghost use Rattle.std.specs.Prelude.{◌≡◌, ◌<◌, ◌≤◌, ◌+◌, ◌-◌, ◌*◌, ◌^◌, ◌↔◌, IsTrue, length, take, nat_le, ◌==◌, if◌then◌else◌, slice_index, IfOk};
+ghost use Rattle.std.specs.Prelude.{◌≡◌, ◌<◌, ◌≤◌, ◌+◌, ◌-◌, ◌*◌, ◌^◌, ◌↔◌, IsTrue, length, take, nat_le, ◌==◌, if◌then◌else◌, slice_index, ◌++◌, IfOk};
+ghost use Rattle.aes_modes.specs.InPlace.{OpensInPlace};
 ghost use Rattle.cipher_defs.specs.Blocks.{big_byte};
+ghost use Rattle.cipher_defs.specs.Aes.{cipher};
 ghost use Rattle.cipher_defs.specs.Ccm.{nonce_block, flags, counter_block, mac, ciphertext, tag_of, sealed, IsFit, Opens};
 
-use crate::blocks::{block_count_of, block_of, chain_of, is_same, push_masked_block};
+use crate::blocks::{block_count_of, block_of, chain_of, is_same, mask_block, push_masked_block};
 use crate::prefix::added_chain_of;
 use aes_block::{Aes, block_sum_of};
 use smb_bytes::Bytes;
@@ -13,7 +15,8 @@ use std::alloc::{AllocError, Global};
 fn nonce_byte(first: u8, nonce: &[u8], n: u64, k: usize) -> u8
     requires long { 7 ≤ length nonce.now }
     requires place { k ≤ 15 }
-    ensures { result ≡ (if k == 0 then first else if nat_le k (length nonce.now) then slice_index nonce.now (k - 1) else big_byte (15 - length nonce.now) n (k - 1 - length nonce.now)) }
+    ensures { result ≡ (if k == 0 then first else if nat_le k (length nonce.now) then slice_index nonce.now (k - 1) else
+        big_byte (15 - length nonce.now) n (k - 1 - length nonce.now)) }
 {
     if k == 0 {
         first
@@ -104,6 +107,17 @@ fn tag_block_of(aes: &Aes, nonce: &[u8], added: &[u8], text: &[u8], tag: usize) 
     block_sum_of(&block_of(&mac, 0), &mask)
 }
 
+/// What masks block i of a text: its counter block, from 1 on, enciphered.
+#[inline(always)]
+fn stream_block(aes: &Aes, nonce: &[u8], i: usize) -> [u8; 16]
+    requires long { 7 ≤ length nonce.now }
+    requires short { length nonce.now ≤ 13 }
+    requires fits { i + 1 < 2 ^ 64 }
+    ensures { result ≡ cipher aes.now (counter_block nonce.now (i + 1)) }
+{
+    aes.encrypt_block(&counter_block_of(nonce, i + 1))
+}
+
 /// The text under the counter blocks from 1 on, in a vector with `room` bytes more.
 fn ciphertext_of(
     alloc: Global,
@@ -119,8 +133,7 @@ fn ciphertext_of(
 {
     let mut out = Vec::with_capacity(alloc, text.len() + room)?;
     for i in 0..block_count_of(text) {
-        let key = aes.encrypt_block(&counter_block_of(nonce, i + 1));
-        push_masked_block(&mut out, text, i, &key)?;
+        push_masked_block(&mut out, text, i, &stream_block(aes, nonce, i))?;
     }
     Ok(out)
 }
@@ -168,4 +181,49 @@ pub fn ccm_open(
         return Ok(None);
     }
     Ok(Some(Bytes::from_vec(text)))
+}
+
+/// Masks a text where it stands, under the counter blocks from 1 on.
+fn mask(aes: &Aes, nonce: &[u8], text: &mut [u8])
+    requires long { 7 ≤ length nonce.now }
+    requires short { length nonce.now ≤ 13 }
+    ensures { text.new ≡ ciphertext aes.now nonce.now text.old }
+{
+    for i in 0..block_count_of(text) {
+        mask_block(text, i, &stream_block(aes, nonce, i));
+    }
+}
+
+/// Seals a text where it stands, together with the additional data, and gives a block that begins with the tag of `tag`
+/// bytes. It takes no memory (SP 800-38C, 6.1). Seal nothing twice under one key and nonce.
+pub fn ccm_seal_in_place(
+    aes: &Aes,
+    nonce: &[u8],
+    added: &[u8],
+    text: &mut [u8],
+    tag: usize,
+) -> [u8; 16]
+    requires { IsFit nonce.now (length text.old) tag }
+    ensures hidden { text.new ≡ ciphertext aes.now nonce.now text.old }
+    ensures tag { take tag result ≡ tag_of aes.now nonce.now added.now text.old tag }
+{
+    let block = tag_block_of(aes, nonce, added, text, tag);
+    mask(aes, nonce, text);
+    block
+}
+
+/// Whether the tag is the one of the text under a ciphertext and of the additional data: the ciphertext then becomes
+/// its text, and else stays as it was. It opens what `ccm_open` opens, and takes no memory (SP 800-38C, 6.2). Where the
+/// tag differs the text stood there for a while, and was masked again.
+pub fn ccm_open_in_place(aes: &Aes, nonce: &[u8], added: &[u8], tag: &[u8], text: &mut [u8]) -> bool
+    requires { IsFit nonce.now (length text.old) (length tag.now) }
+    ensures { OpensInPlace (λ o. Opens aes.now nonce.now added.now (text.old ++ tag.now) (length tag.now) o) text.old text.new result }
+{
+    mask(aes, nonce, text);
+    let block = tag_block_of(aes, nonce, added, text, tag.len());
+    if !is_same(&block[..tag.len()], tag) {
+        mask(aes, nonce, text);
+        return false;
+    }
+    true
 }

@@ -1,8 +1,10 @@
 //! GCM and GMAC with a nonce of 12 bytes and a tag of 16 (SP 800-38D).
 ghost use Rattle.std.specs.Prelude.{◌≡◌, ◌<◌, ◌≤◌, ◌+◌, ◌-◌, ◌^◌, ◌++◌, length, IfOk};
+ghost use Rattle.aes_modes.specs.InPlace.{OpensInPlace};
+ghost use Rattle.cipher_defs.specs.Aes.{cipher};
 ghost use Rattle.cipher_defs.specs.Gcm.{counter_block, hash_key, ciphertext, tag_of, sealed, Opens, gmac};
 
-use crate::blocks::{block_count_of, is_same, push_masked_block};
+use crate::blocks::{block_count_of, is_same, mask_block, push_masked_block};
 use crate::hash::Table;
 use aes_block::{Aes, block_sum_of};
 use smb_bytes::Bytes;
@@ -35,6 +37,15 @@ fn counter_block_of(nonce: &[u8; 12], i: u32) -> [u8; 16]
     ]
 }
 
+/// What masks block i of a text: its counter block, from 2 on, enciphered.
+#[inline(always)]
+fn stream_block(aes: &Aes, nonce: &[u8; 12], i: usize) -> [u8; 16]
+    requires { i + 2 < 2 ^ 32 }
+    ensures { result ≡ cipher aes.now (counter_block nonce.now (i + 2)) }
+{
+    aes.encrypt_block(&counter_block_of(nonce, (i + 2) as u32))
+}
+
 /// The text under the counter blocks from 2 on, in a vector with `room` bytes more.
 fn ciphertext_of(
     alloc: Global,
@@ -50,8 +61,7 @@ fn ciphertext_of(
 {
     let mut out = Vec::with_capacity(alloc, text.len() + room)?;
     for i in 0..block_count_of(text) {
-        let key = aes.encrypt_block(&counter_block_of(nonce, (i + 2) as u32));
-        push_masked_block(&mut out, text, i, &key)?;
+        push_masked_block(&mut out, text, i, &stream_block(aes, nonce, i))?;
     }
     Ok(out)
 }
@@ -118,6 +128,49 @@ pub fn gcm_open(
     }
     let text = ciphertext_of(alloc, aes, nonce, ciphertext, 0)?;
     Ok(Some(Bytes::from_vec(text)))
+}
+
+/// Masks a text where it stands, under the counter blocks from 2 on.
+fn mask(aes: &Aes, nonce: &[u8; 12], text: &mut [u8])
+    requires { length text.old < 2 ^ 36 - 31 }
+    ensures { text.new ≡ ciphertext aes.now nonce.now text.old }
+{
+    for i in 0..block_count_of(text) {
+        mask_block(text, i, &stream_block(aes, nonce, i));
+    }
+}
+
+/// Seals a text where it stands, together with the additional data, and gives the tag. It takes no memory
+/// (SP 800-38D, 7.1). Seal nothing twice under one key and nonce.
+pub fn gcm_seal_in_place(aes: &Aes, nonce: &[u8; 12], added: &[u8], text: &mut [u8]) -> [u8; 16]
+    requires added { length added.now < 2 ^ 61 }
+    requires text { length text.old < 2 ^ 36 - 31 }
+    ensures hidden { text.new ≡ ciphertext aes.now nonce.now text.old }
+    ensures tag { result ≡ tag_of aes.now nonce.now added.now text.new }
+{
+    mask(aes, nonce, text);
+    tag_of_sealed(aes, nonce, added, text)
+}
+
+/// Whether the tag is the one of a ciphertext and its additional data: the ciphertext then becomes its text, and else
+/// stays as it is. It opens what `gcm_open` opens, and takes no memory (SP 800-38D, 7.2).
+pub fn gcm_open_in_place(
+    aes: &Aes,
+    nonce: &[u8; 12],
+    added: &[u8],
+    tag: &[u8; 16],
+    text: &mut [u8],
+) -> bool
+    requires added { length added.now < 2 ^ 61 }
+    requires text { length text.old < 2 ^ 36 - 31 }
+    ensures { OpensInPlace (λ o. Opens aes.now nonce.now added.now (text.old ++ tag.now) o) text.old text.new result }
+{
+    let own = tag_of_sealed(aes, nonce, added, text);
+    if !is_same(&own, tag) {
+        return false;
+    }
+    mask(aes, nonce, text);
+    true
 }
 
 /// The tag of a message under GMAC: GCM's over the message as additional data and no text

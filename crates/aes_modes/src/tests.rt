@@ -74,6 +74,30 @@ fn sealed_by_gcm(rt: HostRuntime) -> Result<(), Fail> {
     Ok(())
 }
 
+/// The test case 2 of GCM's proposal.
+#[test]
+fn opened_by_gcm_in_place(rt: HostRuntime) {
+    let aes = Aes::new_128(&[0; 16]);
+    let tag = 0xab6e47d42cec13bdf53a67b21257bddfu128;
+    let mut text = 0x0388dace60b6a392f328c2b971b2fe78u128.to_be_bytes();
+    let other = (tag ^ 1).to_be_bytes();
+    assert!(rt; !gcm_open_in_place(&aes, &[0; 12], &[], &other, &mut text));
+    assert_eq!(rt;
+        u128::from_be_bytes(text),
+        0x0388dace60b6a392f328c2b971b2fe78
+    );
+    assert!(rt; gcm_open_in_place(&aes, &[0; 12], &[], &tag.to_be_bytes(), &mut text));
+    assert_eq!(rt; u128::from_be_bytes(text), 0);
+    assert_eq!(rt;
+        u128::from_be_bytes(gcm_seal_in_place(&aes, &[0; 12], &[], &mut text)),
+        tag
+    );
+    assert_eq!(rt;
+        u128::from_be_bytes(text),
+        0x0388dace60b6a392f328c2b971b2fe78
+    );
+}
+
 /// The nonce begins at 0x10, the additional data at 0, the text at 0x20.
 fn is_sealed_by_ccm(
     alloc: Global,
@@ -121,4 +145,22 @@ fn sealed_by_ccm(rt: HostRuntime) -> Result<(), Fail> {
         )?
     );
     Ok(())
+}
+
+/// SP 800-38C, C.1.
+#[test]
+fn opened_by_ccm_in_place(rt: HostRuntime) {
+    let aes = Aes::new_128(&0x404142434445464748494a4b4c4d4e4fu128.to_be_bytes());
+    let nonce = [0x10, 0x11, 0x12, 0x13, 0x14, 0x15, 0x16];
+    let added = [0, 1, 2, 3, 4, 5, 6, 7];
+    let mut text = 0x7162015bu32.to_be_bytes();
+    let other = 0x4dac255cu32.to_be_bytes();
+    let tag = 0x4dac255du32.to_be_bytes();
+    assert!(rt; !ccm_open_in_place(&aes, &nonce, &added, &other, &mut text));
+    assert_eq!(rt; u32::from_be_bytes(text), 0x7162015b);
+    assert!(rt; ccm_open_in_place(&aes, &nonce, &added, &tag, &mut text));
+    assert_eq!(rt; u32::from_be_bytes(text), 0x20212223);
+    let block = ccm_seal_in_place(&aes, &nonce, &added, &mut text, 4);
+    assert_eq!(rt; u32::from_be_bytes(text), 0x7162015b);
+    assert_eq!(rt; u128::from_be_bytes(block) >> 96, 0x4dac255d);
 }

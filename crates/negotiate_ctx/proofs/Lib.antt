@@ -1,2 +1,3 @@
+mod Firsts
 pub mod Walk
 pub mod Spelling

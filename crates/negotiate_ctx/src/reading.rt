@@ -33,7 +33,8 @@ fn all_fit(bytes: &[u8], count: u16) -> bool
 // The first known type that stands twice.
 fn doubled(bytes: &[u8], count: u16) -> Option<u16>
     requires { contexts_end bytes.now 0 count ≤ length bytes.now }
-    ensures { MatchOption result (doubled [] (contexts_in bytes.now 0 count) ≡ None) (λ k. doubled [] (contexts_in bytes.now 0 count) ≡ Some k) }
+    ensures { MatchOption result (doubled [] (contexts_in bytes.now 0 count) ≡ None) (λ k. doubled [] (contexts_in
+        bytes.now 0 count) ≡ Some k) }
 {
     let mut seen = Seen {
         preauth: false,
@@ -60,7 +61,12 @@ fn doubled(bytes: &[u8], count: u16) -> Option<u16>
 fn first_of(bytes: &[u8], count: u16, kind: u16) -> Option<&[u8]>
     requires fits { contexts_end bytes.now 0 count ≤ length bytes.now }
     requires lists { all_fit (contexts_in bytes.now 0 count) ≡ true }
-    ensures { MatchOption result (first_of kind (contexts_in bytes.now 0 count) ≡ None) (λ b. (first_of kind (contexts_in bytes.now 0 count) ≡ Some (record { kind = kind; bytes = b.now })) × (lists_fit (record { kind = kind; bytes = b.now }) ≡ true)) }
+    ensures { MatchOption result (first_of kind (contexts_in bytes.now 0 count) ≡ None) (λ b. (first_of kind
+        (contexts_in bytes.now 0 count) ≡ Some (record { kind = kind; bytes = b.now })) × (lists_fit (record {
+          kind =
+              kind;
+          bytes = b.now;
+        }) ≡ true)) }
 {
     let mut end = 0;
     let mut left = count;

@@ -1,18 +1,18 @@
 -- A message in which the fields of a value stand reads as that value.
-use Rattle.std.proofs.Common.{◌≡◌, ℕ, ◌+◌, ◌≤◌, ◌<◌, ◌==◌, nat_lt, nat_le, Bool, true, false, not, ◌||◌, if◌then◌else◌, List, [], ◌∷◌, ◌++◌, length, drop, length-drop, refl, arith, sym, ◌∙◌, ap, subst, Option, Some, None, Result, Ok, Err}
+use Rattle.std.proofs.Common.{◌≡◌, ℕ, ◌+◌, ◌≤◌, ◌==◌, nat_lt, nat_le, Bool, true, false, ◌||◌, List, [], length, refl, arith, subst, None, Ok}
 use Rattle.std.proofs.lemmas.List.{append-nil}
 use Rattle.std.proofs.lemmas.Bool.Decides.{nat_tests}
-use Rattle.std.specs.Str.{bytes_eq}
 use Rattle.wire_defs.specs.Places.{number, bytes_at}
-use Rattle.wire_defs.specs.Table.{Stands, with_fields}
+use Rattle.wire_defs.specs.Table.{Stands}
 use Rattle.wire_law.proofs.Rows.{row_stands}
 use Rattle.token_defs.specs.declared.ntlm.Type1.{Type1}
 use Rattle.token_defs.specs.declared.ntlm.NtlmField.{NtlmField}
 use Rattle.token_defs.specs.declared.ntlm.NtlmField.TheVariants.{Lm, Nt, Domain, User, Workstation, SessionKey, TargetName, TargetInfo}
-use Rattle.token_defs.specs.Messages.{Type2Value, Type3Value, ntlm_signature, start_fault, range_fault, info_fault, type1_in, type2_in, type3_in, type1_table, type2_table, type3_table, type1_spelling, type2_spelling, type3_spelling, IsWritableType1, IsWritableType2, IsWritableType3, nt_at, domain_at, user_at, workstation_at, session_key_at}
+use Rattle.token_defs.specs.Messages.{Type2Value, Type3Value, ntlm_signature, start_fault, range_fault, type1_in, type2_in, type3_in, type1_table, type2_table, type3_table, type1_spelling, type2_spelling, type3_spelling, IsWritableType1, IsWritableType2, IsWritableType3, nt_at, domain_at, user_at, workstation_at, session_key_at}
 use Rattle.ntlm_law.specs.Fitting.{HasPairs2, HasPairs3}
 
-start_fits : (m : List ℕ) (fixed type : ℕ) → fixed ≤ length m → bytes_at 8 m 0 ≡ ntlm_signature → number 4 m 8 ≡ type → start_fault m fixed type ≡ None
+start_fits : (m : List ℕ) (fixed type : ℕ) → fixed ≤ length m → bytes_at 8 m 0 ≡ ntlm_signature → number 4 m 8 ≡ type →
+    start_fault m fixed type ≡ None
 unfolding start_fault
 start_fits m fixed type long front kind =
     let whole : nat_lt (length m) fixed ≡ false = grind (arith, nat_tests) in
@@ -35,10 +35,44 @@ type1_reads m v s =
     rw (start, s.1.1.0) refl
 
 pub type1_again : (v : Type1) → IsWritableType1 v → type1_in (type1_spelling v) ≡ Ok v
-type1_again v w = type1_reads (type1_spelling v) v (subst (λ (m : List ℕ). Stands m 0 (type1_table v)) (append-nil (type1_spelling v)) (row_stands (type1_table v) [] [] 0 refl w))
+type1_again v w = type1_reads (type1_spelling v) v (subst (λ (m : List ℕ). Stands m 0 (type1_table v)) (append-nil
+    (type1_spelling v)) (row_stands (type1_table v) [] [] 0 refl w))
 
 type2_reads : (m : List ℕ) (v : Type2Value) → Stands m 0 (type2_table v) → HasPairs2 v → type2_in m ≡ Ok v
-type2_reads m v (front, (kind, (name, (most, (name_at, (flags, (challenge, (info, (info_most, (info_at, (name_is, (info_is, end)))))))))))) pairs =
+type2_reads m v (
+  front,
+  (
+    kind,
+    (
+      name,
+      (
+        most,
+        (
+          name_at,
+          (
+            flags,
+            (
+              challenge,
+              (
+                info,
+                (
+                  info_most,
+                  (
+                    info_at,
+                    (
+                      name_is,
+                      (info_is, end),
+                    ),
+                  ),
+                ),
+              ),
+            ),
+          ),
+        ),
+      ),
+    ),
+  ),
+) pairs =
     let start = start_fits m 56 2 (omega arith) front kind in
     let names = range_fits m (length v.target_name) 56 TargetName (omega arith) in
     let infos = range_fits m (length v.target_info) (56 + length v.target_name) TargetInfo (omega arith) in
@@ -46,10 +80,72 @@ type2_reads m v (front, (kind, (name, (most, (name_at, (flags, (challenge, (info
 
 pub type2_again : (v : Type2Value) → IsWritableType2 v → HasPairs2 v → type2_in (type2_spelling v) ≡ Ok v
 unfolding type2_spelling
-type2_again v w pairs = type2_reads (type2_spelling v) v (subst (λ (m : List ℕ). Stands m 0 (type2_table v)) (append-nil (type2_spelling v)) (row_stands (type2_table v) [] [] 0 refl w)) pairs
+type2_again v w pairs = type2_reads (type2_spelling v) v (subst (λ (m : List ℕ). Stands m 0 (type2_table v)) (append-nil
+    (type2_spelling v)) (row_stands (type2_table v) [] [] 0 refl w)) pairs
 
 type3_reads : (m : List ℕ) (v : Type3Value) → Stands m 0 (type3_table v) → HasPairs3 v → type3_in m ≡ Ok v
-type3_reads m v (front, (kind, (lm, (lm_most, (lm_at, (nt, (nt_most, (nt_place, (domain, (domain_most, (domain_place, (user, (user_most, (user_place, (workstation, (workstation_most, (workstation_place, (key, (key_most, (key_place, (flags, (mic, (lm_is, (nt_is, (domain_is, (user_is, (workstation_is, (key_is, end)))))))))))))))))))))))))))) pairs =
+type3_reads m v (
+  front,
+  (
+    kind,
+    (
+      lm,
+      (
+        lm_most,
+        (
+          lm_at,
+          (
+            nt,
+            (
+              nt_most,
+              (
+                nt_place,
+                (
+                  domain,
+                  (
+                    domain_most,
+                    (
+                      domain_place,
+                      (
+                        user,
+                        (
+                          user_most,
+                          (
+                            user_place,
+                            (
+                              workstation,
+                              (
+                                workstation_most,
+                                (
+                                  workstation_place,
+                                  (
+                                    key,
+                                    (
+                                      key_most,
+                                      (
+                                        key_place,
+                                        (flags, (mic, (lm_is, (nt_is, (domain_is, (user_is, (workstation_is, (key_is, end)))))))),
+                                      ),
+                                    ),
+                                  ),
+                                ),
+                              ),
+                            ),
+                          ),
+                        ),
+                      ),
+                    ),
+                  ),
+                ),
+              ),
+            ),
+          ),
+        ),
+      ),
+    ),
+  ),
+) pairs
+    =
     let start = start_fits m 88 3 (omega arith) front kind in
     let lms = range_fits m (length v.lm) 88 Lm (omega arith) in
     let nts = range_fits m (length v.nt) (nt_at v) Nt (omega arith) in
@@ -57,8 +153,38 @@ type3_reads m v (front, (kind, (lm, (lm_most, (lm_at, (nt, (nt_most, (nt_place, 
     let users = range_fits m (length v.user) (user_at v) User (omega arith) in
     let workstations = range_fits m (length v.workstation) (workstation_at v) Workstation (omega arith) in
     let keys = range_fits m (length v.session_key) (session_key_at v) SessionKey (omega arith) in
-    rw (start, lm, lm_at, nt, nt_place, domain, domain_place, user, user_place, workstation, workstation_place, key, key_place, lms, nts, domains, users, workstations, keys, lm_is, nt_is, domain_is, user_is, workstation_is, key_is, pairs, flags, mic) refl
+    rw (
+      start,
+      lm,
+      lm_at,
+      nt,
+      nt_place,
+      domain,
+      domain_place,
+      user,
+      user_place,
+      workstation,
+      workstation_place,
+      key,
+      key_place,
+      lms,
+      nts,
+      domains,
+      users,
+      workstations,
+      keys,
+      lm_is,
+      nt_is,
+      domain_is,
+      user_is,
+      workstation_is,
+      key_is,
+      pairs,
+      flags,
+      mic,
+    ) refl
 
 pub type3_again : (v : Type3Value) → IsWritableType3 v → HasPairs3 v → type3_in (type3_spelling v) ≡ Ok v
 unfolding type3_spelling
-type3_again v w pairs = type3_reads (type3_spelling v) v (subst (λ (m : List ℕ). Stands m 0 (type3_table v)) (append-nil (type3_spelling v)) (row_stands (type3_table v) [] [] 0 refl w)) pairs
+type3_again v w pairs = type3_reads (type3_spelling v) v (subst (λ (m : List ℕ). Stands m 0 (type3_table v)) (append-nil
+    (type3_spelling v)) (row_stands (type3_table v) [] [] 0 refl w)) pairs

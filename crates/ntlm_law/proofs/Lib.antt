@@ -1,1 +1,6 @@
 mod Again
+mod Codes
+mod Fits
+mod Letters
+mod Logons
+mod Reading

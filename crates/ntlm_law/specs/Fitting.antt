@@ -1,5 +1,5 @@
 -- Values whose pairs of target information fit, at the place where a canonical spelling has them.
-use Rattle.std.specs.Prelude.{◌≡◌, ℕ, ◌+◌, ◌==◌, nat_lt, if◌then◌else◌, List, length, drop, None}
+use Rattle.std.specs.Prelude.{◌≡◌, ◌+◌, ◌==◌, nat_lt, if◌then◌else◌, length, drop, None}
 use Rattle.token_defs.specs.Messages.{Type2Value, Type3Value, info_fault, nt_at}
 
 -- there is no target information, or it has an end pair and each pair before it fits

@@ -1,39 +1,70 @@
 -- The type 3 of a response, with the MIC of the message without it, is the answer.
-use Rattle.std.proofs.Common.{◌≡◌, ℕ, ◌+◌, ◌<◌, ◌≤◌, ◌^◌, List, [], ◌++◌, length, replicate, length-append, refl, ap, ◌∙◌, arith, Option, Some, None}
-use Rattle.std.proofs.lemmas.List.{length-take}
-use Rattle.md5.proofs.StandardFacts.{length-md5}
-use Rattle.token_defs.specs.Pairs.{pair_in}
-use Rattle.token_defs.specs.Formulas.{proof, mic, temp}
+use Rattle.std.proofs.Common.{◌≡◌, ℕ, ◌<◌, ◌^◌, nat_lt, Bool, true, false, ◌&&◌, if◌then◌else◌, List, ◌++◌, length, replicate, refl, ap, ◌∙◌, arith, Option, Some, None}
+use Rattle.std.proofs.lemmas.Bool.Decides.{nat_tests}
+use Rattle.token_defs.specs.Formulas.{utf16, mic}
 use Rattle.token_defs.specs.Messages.{Type2Value, Type3Value, type3_spelling}
-use Rattle.token_defs.specs.Answer.{Credentials, answer_with, answer, temp_of, key_of, proof_of, time_or_zero, time_in}
+use Rattle.token_defs.specs.Answer.{Credentials, answer_with, has_room, answer, temp_of, proof_of}
+use Rattle.token_defs.specs.Answer
 use Rattle.ntlmv2.specs.declared.answer.Response.{Response}
 use Rattle.ntlmv2.specs.Responses.{IsResponse, IsShort, answer_value}
-use Rattle.ntlmv2.proofs.Sizes.{short_utf16, temp_short}
 
-same_value : (c : Credentials) (second : Type2Value) (r : Response) (code : List ℕ) → IsResponse c second r → answer_value r code ≡ answer_with c second code
+same_value : (c : Credentials) (second : Type2Value) (r : Response) (code : List ℕ) → IsResponse c second r →
+    answer_value r code ≡ answer_with c second code
 same_value c second r code is = rw (is.nt, is.domain, is.user, is.session_key) refl
 
-pub answered : (c : Credentials) (second : Type2Value) (r : Response) (first second_bytes unsigned code : List ℕ) → IsResponse c second r → unsigned ≡ type3_spelling (answer_value r (replicate 16 0)) → code ≡ mic c.key first second_bytes unsigned → type3_spelling (answer_value r code) ≡ answer c first second_bytes second
+pub answered : (c : Credentials) (second : Type2Value) (r : Response) (first second_bytes unsigned code : List ℕ) →
+    IsResponse c second r → unsigned ≡ type3_spelling (answer_value r (replicate 16 0)) → code ≡ mic c.key first
+    second_bytes unsigned → type3_spelling (answer_value r code) ≡ answer c first second_bytes second
 unfolding answer
 answered c second r first second_bytes unsigned code is u m =
-    let plain : unsigned ≡ type3_spelling (answer_with c second (replicate 16 0)) = u ∙ ap type3_spelling (same_value c second r (replicate 16 0) is) in
-    ap type3_spelling (same_value c second r code is) ∙ ap (λ (x : List ℕ). type3_spelling (answer_with c second x)) (m ∙ ap (mic c.key first second_bytes) plain)
+    let plain : unsigned ≡ type3_spelling (answer_with c second (replicate 16 0)) = u ∙ ap type3_spelling (same_value c
+    second r (replicate 16 0) is) in
+    ap type3_spelling (same_value c second r code is) ∙ ap (λ (x : List ℕ). type3_spelling (answer_with c second x)) (m
+    ∙ ap (mic c.key first second_bytes) plain)
 
-long_proof : (key challenge text : List ℕ) → length (proof key challenge text) ≡ 16
-unfolding proof
-long_proof key challenge text = length-md5 _
+lt : (n : ℕ) → n < 256 ^ 2 → nat_lt n 65536 ≡ true
+lt n h = grind (arith, nat_tests)
 
-long_time : (o : Option (List ℕ)) → length (time_or_zero o) ≡ 8
-long_time None = refl
-long_time (Some time) = omega (arith, length-take 8 (time ++ replicate 8 0), length-append time (replicate 8 0))
+below : (n : ℕ) → nat_lt n 65536 ≡ true → n < 256 ^ 2
+below n h = grind (arith, nat_tests)
 
-pub short_response : (c : Credentials) (second : Type2Value) (r : Response) → IsResponse c second r → length c.challenge ≡ 8 → length c.user < 2 ^ 14 → length c.domain < 2 ^ 14 → length second.target_info + 64 ≤ 2 ^ 16 → IsShort r
-short_response c second r is challenge user domain info =
-    let t = temp_short (time_in second.target_info) c.challenge second.target_info (long_time (pair_in (length second.target_info) 7 second.target_info)) challenge in
-    let all = length-append (proof_of c second) (temp_of c second) in
-    let p = long_proof (key_of c) second.challenge (temp_of c second) in
-    record {
-      nt = rw is.nt (omega arith);
-      domain = rw is.domain (short_utf16 c.domain domain);
-      user = rw is.user (short_utf16 c.user user);
-    }
+all_three : (a b c : Bool) → (a && (b && c)) ≡ true → (a ≡ true) × (b ≡ true) × (c ≡ true)
+all_three true true true h = (refl, refl, refl)
+all_three true true false h = absurd cc
+all_three true false c h = absurd cc
+all_three false b c h = absurd cc
+
+not_false : (b : Bool) → (b ≡ true → ⊥) → b ≡ false
+not_false true h = absurd (h refl)
+not_false false h = refl
+
+-- what is short has room, and the other way round
+pub short_has_room : (c : Credentials) (second : Type2Value) (r : Response) (code : List ℕ) → IsResponse c second r →
+    IsShort r → has_room (answer_with c second code) ≡ true
+short_has_room c second r code is short = rw (← is.nt, ← is.domain, ← is.user, lt _ short.nt, lt _ short.domain, lt _ short.user) refl
+
+pub long_has_none : (c : Credentials) (second : Type2Value) (r : Response) (code : List ℕ) → IsResponse c second r →
+    (IsShort r → ⊥) → has_room (answer_with c second code) ≡ false
+long_has_none c second r code is long =
+    not_false (has_room (answer_with c second code)) (λ e.
+    let parts = all_three (nat_lt (length (proof_of c second ++ temp_of c second)) 65536) (nat_lt (length (utf16
+    c.domain)) 65536) (nat_lt (length (utf16 c.user)) 65536) e in
+    long (record {
+      nt = rw is.nt (below _ parts.0);
+      domain = rw is.domain (below _ parts.1);
+      user = rw is.user (below _ parts.2);
+    }))
+
+pub given_answer : (c : Credentials) (second : Type2Value) (r : Response) (first second_bytes unsigned code third : List
+    ℕ) → IsResponse c second r → IsShort r → unsigned ≡ type3_spelling (answer_value r (replicate 16 0)) → code ≡ mic
+    c.key first second_bytes unsigned → third ≡ type3_spelling (answer_value r code) → Some third ≡ Answer.answered c
+    first second_bytes second
+unfolding Answer.answered
+given_answer c second r first second_bytes unsigned code third is short u m t =
+    rw (short_has_room c second r (replicate 16 0) is short)
+    (ap Some (t ∙ answered c second r first second_bytes unsigned code is u m))
+
+pub no_answer : (c : Credentials) (second : Type2Value) (r : Response) (first second_bytes : List ℕ) → IsResponse c
+    second r → (IsShort r → ⊥) → None ≡ Answer.answered c first second_bytes second
+unfolding Answer.answered
+no_answer c second r first second_bytes is long = rw (long_has_none c second r (replicate 16 0) is long) refl

@@ -27,7 +27,8 @@ has_proof v h =
 pub has_key : (v : Type3Value) → has_form v ≡ true → exchanges v.flags ≡ true → length v.session_key ≡ 16
 unfolding has_form
 has_key v h e =
-    let key = or_second (exchanges v.flags) (length v.session_key == 16) e (and_right (nat_le 44 (length v.nt)) _ (and_right (has_profile v.flags) _ h)) in
+    let key = or_second (exchanges v.flags) (length v.session_key == 16) e (and_right (nat_le 44 (length v.nt)) _
+    (and_right (has_profile v.flags) _ h)) in
     grind (arith, nat_tests)
 
 -- a slice from a place to the end

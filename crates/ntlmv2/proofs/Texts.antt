@@ -20,8 +20,10 @@ and_false : (b : Bool) → (b && false) ≡ false
 and_false true = refl
 and_false false = refl
 
-spoiled_at : (bytes : List ℕ) (k n : ℕ) (same : Bool) → (k == n) ≡ same → k < suc n → ascii_byte bytes k ≡ false → (k < n → ascii_below bytes n ≡ false) → (ascii_below bytes n && ascii_byte bytes n) ≡ false
-spoiled_at bytes k n true e lt bad before = let here : k ≡ n = grind (arith, nat_tests) in rw (← here, bad) (and_false (ascii_below bytes k))
+spoiled_at : (bytes : List ℕ) (k n : ℕ) (same : Bool) → (k == n) ≡ same → k < suc n → ascii_byte bytes k ≡ false → (k <
+    n → ascii_below bytes n ≡ false) → (ascii_below bytes n && ascii_byte bytes n) ≡ false
+spoiled_at bytes k n true e lt bad before = let here : k ≡ n = grind (arith, nat_tests) in rw (← here, bad) (and_false
+    (ascii_below bytes k))
 spoiled_at bytes k n false e lt bad before = let h : ascii_below bytes n ≡ false = before (grind (arith, nat_tests)) in rw h refl
 
 -- one byte of another text spoils all

@@ -19,24 +19,39 @@ mic_there true true h = refl
 mic_there true false h = absurd cc
 mic_there false e h = refl
 
-pub wrong_proof : (u : User) (server first second third : List ℕ) (v : Type3Value) → proves u server v ≡ false → verdict_on (Some u) server first second third v ≡ Err WrongProof
+pub wrong_proof : (u : User) (server first second third : List ℕ) (v : Type3Value) → proves u server v ≡ false →
+    verdict_on (Some u) server first second third v ≡ Err WrongProof
 wrong_proof u server first second third v p = rw p refl
 
-pub wrong_mic : (u : User) (server first second third : List ℕ) (v : Type3Value) → proves u server v ≡ true → has_mic (exported_key u v) first second third v ≡ false → verdict_on (Some u) server first second third v ≡ Err WrongMic
-wrong_mic u server first second third v p h = rw (p, mic_lacks (owes_mic v) (bytes_eq v.mic (mic (exported_key u v) first second third)) h) refl
+pub wrong_mic : (u : User) (server first second third : List ℕ) (v : Type3Value) → proves u server v ≡ true → has_mic
+    (exported_key u v) first second third v ≡ false → verdict_on (Some u) server first second third v ≡ Err WrongMic
+wrong_mic u server first second third v p h = rw (
+  p,
+  mic_lacks (owes_mic v) (bytes_eq v.mic (mic (exported_key u v)
+      first second third)) h,
+) refl
 
-pub logged_on : (u : User) (server first second third : List ℕ) (v : Type3Value) → proves u server v ≡ true → has_mic (exported_key u v) first second third v ≡ true → verdict_on (Some u) server first second third v ≡ Ok (logon_of u v)
-logged_on u server first second third v p h = rw (p, mic_there (owes_mic v) (bytes_eq v.mic (mic (exported_key u v) first second third)) h) refl
+pub logged_on : (u : User) (server first second third : List ℕ) (v : Type3Value) → proves u server v ≡ true → has_mic
+    (exported_key u v) first second third v ≡ true → verdict_on (Some u) server first second third v ≡ Ok (logon_of u v)
+logged_on u server first second third v p h = rw (
+  p,
+  mic_there (owes_mic v) (bytes_eq v.mic (mic (exported_key u v)
+      first second third)) h,
+) refl
 
-pub unread : (users : List User) (server first second third : List ℕ) (e : NtlmError) → type3_in third ≡ Err e → verdict users server first second third ≡ Err WrongProof
+pub unread : (users : List User) (server first second third : List ℕ) (e : NtlmError) → type3_in third ≡ Err e → verdict
+    users server first second third ≡ Err WrongProof
 unfolding verdict
 unread users server first second third e h = rw h refl
 
-pub not_ascii : (users : List User) (server first second third : List ℕ) (v : Type3Value) → type3_in third ≡ Ok v → is_ascii_utf16 v.user ≡ false → verdict users server first second third ≡ Err NotAscii
+pub not_ascii : (users : List User) (server first second third : List ℕ) (v : Type3Value) → type3_in third ≡ Ok v →
+    is_ascii_utf16 v.user ≡ false → verdict users server first second third ≡ Err NotAscii
 unfolding verdict
 not_ascii users server first second third v h a = rw (h, a) refl
 
-pub of_user : (users : List User) (server first second third : List ℕ) (v : Type3Value) (u : Option User) → type3_in third ≡ Ok v → is_ascii_utf16 v.user ≡ true → user_named v.user users ≡ u → verdict users server first second third ≡ verdict_on u server first second third v
+pub of_user : (users : List User) (server first second third : List ℕ) (v : Type3Value) (u : Option User) → type3_in
+    third ≡ Ok v → is_ascii_utf16 v.user ≡ true → user_named v.user users ≡ u → verdict users server first second third
+    ≡ verdict_on u server first second third v
 unfolding verdict
 of_user users server first second third v u h a n = rw (h, a, n) refl
 

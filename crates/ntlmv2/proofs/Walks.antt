@@ -23,10 +23,20 @@ passing n k h = grind (arith, nat_tests)
 
 -- ---- the first break
 
-break_on : (k at : ℕ) (b : List ℕ) → length b ≤ k → Stands b → (j : ℕ) × (k ≡ j + 1) × (pairs_break k at b ≡ pairs_break j (at + pair_size b) (drop (pair_size b) b))
+break_on : (k at : ℕ) (b : List ℕ) → length b ≤ k → Stands b → (j : ℕ) × (k ≡ j + 1) × (pairs_break k at b ≡ pairs_break
+    j (at + pair_size b) (drop (pair_size b) b))
 unfolding pairs_break
 break_on zero at b low s = absurd (let t = s.told in omega arith)
-break_on (suc j) at b low s = (j, omega arith, rw (long b s.told, other (number 2 b 0) 0 s.more, fitting (length b) (pair_size b) s.fits) refl)
+break_on (suc j) at b low s = (
+  j,
+  omega arith,
+  rw (
+    long b s.told,
+    other (number 2 b 0) 0 s.more,
+    fitting (length b)
+        (pair_size b) s.fits,
+  ) refl,
+)
 
 break_here : (k at : ℕ) (b : List ℕ) → length b ≤ k → Breaks b → pairs_break k at b ≡ Some at
 unfolding pairs_break
@@ -47,7 +57,8 @@ pub record IsChecked (at : ℕ) (bytes : List ℕ) (place : ℕ) (rest : List �
 pub checked_at_start : (at : ℕ) (bytes : List ℕ) → IsChecked at bytes at bytes
 checked_at_start at bytes = record { more = length bytes; enough = omega arith; same = refl }
 
-pub checked_on : (at : ℕ) (bytes : List ℕ) (place : ℕ) (rest : List ℕ) → IsChecked at bytes place rest → Stands rest → IsChecked at bytes (place + pair_size rest) (drop (pair_size rest) rest)
+pub checked_on : (at : ℕ) (bytes : List ℕ) (place : ℕ) (rest : List ℕ) → IsChecked at bytes place rest → Stands rest →
+    IsChecked at bytes (place + pair_size rest) (drop (pair_size rest) rest)
 checked_on at bytes place rest c s =
     let step = break_on c.more place rest c.enough s in
     record {
@@ -56,18 +67,31 @@ checked_on at bytes place rest c s =
       same = c.same ∙ step.2;
     }
 
-pub checked_break : (at : ℕ) (bytes : List ℕ) (place : ℕ) (rest : List ℕ) → IsChecked at bytes place rest → Breaks rest → pairs_break (length bytes) at bytes ≡ Some place
+pub checked_break : (at : ℕ) (bytes : List ℕ) (place : ℕ) (rest : List ℕ) → IsChecked at bytes place rest → Breaks rest
+    → pairs_break (length bytes) at bytes ≡ Some place
 checked_break at bytes place rest c h = c.same ∙ break_here c.more place rest c.enough h
 
-pub checked_end : (at : ℕ) (bytes : List ℕ) (place : ℕ) (rest : List ℕ) → IsChecked at bytes place rest → Ends rest → pairs_break (length bytes) at bytes ≡ None
+pub checked_end : (at : ℕ) (bytes : List ℕ) (place : ℕ) (rest : List ℕ) → IsChecked at bytes place rest → Ends rest →
+    pairs_break (length bytes) at bytes ≡ None
 checked_end at bytes place rest c h = c.same ∙ break_none c.more place rest c.enough h
 
 -- ---- the value of an id
 
-find_on : (k id : ℕ) (b : List ℕ) → length b ≤ k → Stands b → ¬ (number 2 b 0 ≡ id) → (j : ℕ) × (k ≡ j + 1) × (pair_in k id b ≡ pair_in j id (drop (pair_size b) b))
+find_on : (k id : ℕ) (b : List ℕ) → length b ≤ k → Stands b → ¬ (number 2 b 0 ≡ id) → (j : ℕ) × (k ≡ j + 1) × (pair_in k
+    id b ≡ pair_in j id (drop (pair_size b) b))
 unfolding pair_in
 find_on zero id b low s differs = absurd (let t = s.told in omega arith)
-find_on (suc j) id b low s differs = (j, omega arith, rw (long b s.told, other (number 2 b 0) 0 s.more, fitting (length b) (pair_size b) s.fits, other (number 2 b 0) id differs) refl)
+find_on (suc j) id b low s differs = (
+  j,
+  omega arith,
+  rw (
+    long b s.told,
+    other (number 2 b 0) 0 s.more,
+    fitting (length
+        b) (pair_size b) s.fits,
+    other (number 2 b 0) id differs,
+  ) refl,
+)
 
 find_here : (k id : ℕ) (b : List ℕ) → length b ≤ k → Stands b → number 2 b 0 ≡ id → pair_in k id b ≡ Some (bytes_at (number 2 b 2) b 4)
 unfolding pair_in
@@ -100,7 +124,8 @@ pub record IsSearched (id : ℕ) (bytes rest : List ℕ) : Type 0 where
 pub searched_at_start : (id : ℕ) (bytes : List ℕ) → IsSearched id bytes bytes
 searched_at_start id bytes = record { more = length bytes; enough = omega arith; same = refl }
 
-pub searched_on : (id : ℕ) (bytes rest : List ℕ) → IsSearched id bytes rest → Stands rest → ¬ (number 2 rest 0 ≡ id) → IsSearched id bytes (drop (pair_size rest) rest)
+pub searched_on : (id : ℕ) (bytes rest : List ℕ) → IsSearched id bytes rest → Stands rest → ¬ (number 2 rest 0 ≡ id) →
+    IsSearched id bytes (drop (pair_size rest) rest)
 searched_on id bytes rest c s differs =
     let step = find_on c.more id rest c.enough s differs in
     record {
@@ -109,7 +134,8 @@ searched_on id bytes rest c s differs =
       same = c.same ∙ step.2;
     }
 
-pub searched_found : (id : ℕ) (bytes rest : List ℕ) → IsSearched id bytes rest → Stands rest → number 2 rest 0 ≡ id → pair_in (length bytes) id bytes ≡ Some (bytes_at (number 2 rest 2) rest 4)
+pub searched_found : (id : ℕ) (bytes rest : List ℕ) → IsSearched id bytes rest → Stands rest → number 2 rest 0 ≡ id →
+    pair_in (length bytes) id bytes ≡ Some (bytes_at (number 2 rest 2) rest 4)
 searched_found id bytes rest c s e = c.same ∙ find_here c.more id rest c.enough s e
 
 pub searched_break : (id : ℕ) (bytes rest : List ℕ) → IsSearched id bytes rest → Breaks rest → pair_in (length bytes) id bytes ≡ None
@@ -120,7 +146,8 @@ searched_end id bytes rest c h = c.same ∙ find_end c.more id rest c.enough h
 
 -- ---- the bytes before the end pair
 
-end_on : (k : ℕ) (b : List ℕ) → length b ≤ k → Stands b → (j : ℕ) × (k ≡ j + 1) × (end_at k b ≡ pair_size b + end_at j (drop (pair_size b) b))
+end_on : (k : ℕ) (b : List ℕ) → length b ≤ k → Stands b → (j : ℕ) × (k ≡ j + 1) × (end_at k b ≡ pair_size b + end_at j
+    (drop (pair_size b) b))
 unfolding end_at
 end_on zero b low s = absurd (let t = s.told in omega arith)
 end_on (suc j) b low s = (j, omega arith, rw (long b s.told, other (number 2 b 0) 0 s.more, fitting (length b) (pair_size b) s.fits) refl)

@@ -38,4 +38,5 @@ IsKey u server v None = proves u server v ≡ false
 -- where the first user of that name stands
 abbrev pub IsPlace : List (List ℕ × List ℕ) → List ℕ → Option ℕ → Type 0
 IsPlace users name None = user_named name (map user_of users) ≡ None
-IsPlace users name (Some k) = (k < length users) × ((d : List ℕ × List ℕ) → user_named name (map user_of users) ≡ Some (user_of (get_or users k d)))
+IsPlace users name (Some k) = (k < length users) × ((d : List ℕ × List ℕ) → user_named name (map user_of users) ≡ Some
+    (user_of (get_or users k d)))

@@ -289,7 +289,8 @@ impl Acceptor {
         t3: &[u8],
         m: &Type3<'_>,
     ) -> Result<Logon, LogonError>
-        ensures { Judges result (verdict_on (Some (user_of user.now)) self.now.server self.now.first self.now.second t3.now (type3_view m.now)) }
+        ensures { Judges result (verdict_on (Some (user_of user.now)) self.now.server self.now.first self.now.second
+            t3.now (type3_view m.now)) }
     {
         let found = key_of(alloc, user, &self.server, m)?;
         let key = match found {

@@ -1,7 +1,7 @@
 //! The client's side: the first message, and the answer to a challenge.
-ghost use Rattle.std.specs.Prelude.{◌≡◌, ◌≤◌, ◌<◌, ◌+◌, ◌++◌, ◌^◌, length, take, replicate, IfOk};
+ghost use Rattle.std.specs.Prelude.{◌≡◌, ◌↔◌, IsTrue, ◌++◌, take, replicate, IfOk};
 ghost use Rattle.token_defs.specs.Formulas.{temp};
-ghost use Rattle.token_defs.specs.Answer.{first_message, time_in, client_info, answer};
+ghost use Rattle.token_defs.specs.Answer.{first_message, time_in, client_info, answered};
 ghost use Rattle.ntlmv2.specs.Views.{type2_view, credentials_view};
 ghost use Rattle.ntlmv2.specs.Responses.{IsResponse, IsShort, answer_value};
 ghost use Rattle.token_defs.specs.Messages.{type3_spelling};
@@ -136,23 +136,32 @@ fn write_answer(alloc: Global, response: &Response, mic: [u8; 16]) -> Result<Byt
     )
 }
 
+/// Each part fits its length field.
+fn has_room_for(response: &Response) -> bool
+    ensures { IsTrue result ↔ IsShort response.now }
+{
+    response.nt.len() < 65_536 && response.domain.len() < 65_536 && response.user.len() < 65_536
+}
+
 /// The type 3 that answers a type 2 of these bytes and this value, with a MIC over all three messages
-/// (MS-NLMP 3.1.5.1.2). The names of the user and of the domain have fewer than 16,384 bytes, and the target
-/// information leaves room for the response's other parts.
+/// (MS-NLMP 3.1.5.1.2). `None`, exactly where the response or a name in UTF-16 has 65,536 bytes or more, which its length
+/// field can't tell.
+#[tactic(auto, unfolding(token_defs::specs::Answer::answered))]
 pub fn answer_to(
     alloc: Global,
     client: &Credentials<'_>,
     first: &[u8],
     second_bytes: &[u8],
     second: &Type2<'_>,
-) -> Result<Bytes, AllocError>
-    requires user { length client.now.user.now < 2 ^ 14 }
-    requires domain { length client.now.domain.now < 2 ^ 14 }
-    requires info { length second.now.target_info.now + 64 ≤ 2 ^ 16 }
-    ensures { IfOk result (λ b. b ≡ answer (credentials_view client.now) first.now second_bytes.now (type2_view second.now)) }
+) -> Result<Option<Bytes>, AllocError>
+    ensures { IfOk result (λ o. o ≡ answered (credentials_view client.now) first.now second_bytes.now (type2_view second.now)) }
 {
     let response = response_to(alloc, client, second)?;
+    if !has_room_for(&response) {
+        return Ok(None);
+    }
     let unsigned = write_answer(alloc, &response, [0; 16])?;
     let code = mic(alloc, &client.key, first, second_bytes, unsigned.as_slice())?;
-    write_answer(alloc, &response, code)
+    let answer = write_answer(alloc, &response, code)?;
+    Ok(Some(answer))
 }

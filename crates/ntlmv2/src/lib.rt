@@ -14,7 +14,8 @@ pub use acceptor::{Acceptor, Logon};
 pub use answer::{Credentials, answer_to, first_message};
 pub use formulas::{base_key, mic, ntowf, proof, sign_mech_list};
 pub use messages::{
-    Type2, Type3, read_type1, read_type2, read_type3, write_type1, write_type2, write_type3,
+    Type2, Type3, can_write_type2, can_write_type3, read_type1, read_type2, read_type3,
+    write_type1, write_type2, write_type3,
 };
 pub use token_defs::{LogonError, NtlmError, NtlmField, Type1};
 pub use users::Users;

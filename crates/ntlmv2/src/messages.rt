@@ -1,5 +1,5 @@
 //! The three messages, read and written.
-ghost use Rattle.std.specs.Prelude.{◌≡◌, ◌<◌, ◌+◌, ◌^◌, ◌++◌, ◌==◌, nat_lt, if◌then◌else◌, length, drop, MatchResult, None, Some, IfOk, OnOk};
+ghost use Rattle.std.specs.Prelude.{◌≡◌, ◌<◌, ◌+◌, ◌^◌, ◌++◌, ◌==◌, nat_lt, if◌then◌else◌, length, drop, MatchResult, None, Some, IfOk, OnOk, IsTrue};
 ghost use Rattle.wire_defs.specs.Places.{le, bytes_at};
 ghost use Rattle.wire_defs.specs.Table.{with_fields};
 ghost use Rattle.token_defs.specs.Messages.{ntlm_signature, range_fault, info_fault, type3_places, type1_in, type2_in, type3_in, type1_spelling, type2_spelling, type3_spelling, IsWritableType2, IsWritableType3};
@@ -85,29 +85,25 @@ fn fixed2_of(m: &[u8]) -> Result<Fixed2, Short>
     let mut cursor = Cursor::new(m);
     let signature = cursor.get_array::<8>()?;
     let kind = cursor.get_u32()?;
-    let name_count = cursor.get_u16()?;
-    let _name_most = cursor.get_u16()?;
-    let name_at = cursor.get_u32()?;
+    let count = cursor.get_u16()?;
+    let _most = cursor.get_u16()?;
+    let at = cursor.get_u32()?;
+    let target_name = Place { count, at };
     let flags = cursor.get_u32()?;
     let challenge = cursor.get_array::<8>()?;
     let _reserved = cursor.get_u64()?;
-    let info_count = cursor.get_u16()?;
-    let _info_most = cursor.get_u16()?;
-    let info_at = cursor.get_u32()?;
+    let count = cursor.get_u16()?;
+    let _most = cursor.get_u16()?;
+    let at = cursor.get_u32()?;
+    let target_info = Place { count, at };
     let _version = cursor.get_u64()?;
     Ok(Fixed2 {
         signature,
         kind,
-        target_name: Place {
-            count: name_count,
-            at: name_at,
-        },
+        target_name,
         flags,
         challenge,
-        target_info: Place {
-            count: info_count,
-            at: info_at,
-        },
+        target_info,
     })
 }
 
@@ -132,54 +128,42 @@ fn fixed3_of(m: &[u8]) -> Result<Fixed3, Short>
     let mut cursor = Cursor::new(m);
     let signature = cursor.get_array::<8>()?;
     let kind = cursor.get_u32()?;
-    let lm_count = cursor.get_u16()?;
-    let _lm_most = cursor.get_u16()?;
-    let lm_at = cursor.get_u32()?;
-    let nt_count = cursor.get_u16()?;
-    let _nt_most = cursor.get_u16()?;
-    let nt_at = cursor.get_u32()?;
-    let domain_count = cursor.get_u16()?;
-    let _domain_most = cursor.get_u16()?;
-    let domain_at = cursor.get_u32()?;
-    let user_count = cursor.get_u16()?;
-    let _user_most = cursor.get_u16()?;
-    let user_at = cursor.get_u32()?;
-    let workstation_count = cursor.get_u16()?;
-    let _workstation_most = cursor.get_u16()?;
-    let workstation_at = cursor.get_u32()?;
-    let key_count = cursor.get_u16()?;
-    let _key_most = cursor.get_u16()?;
-    let key_at = cursor.get_u32()?;
+    let count = cursor.get_u16()?;
+    let _most = cursor.get_u16()?;
+    let at = cursor.get_u32()?;
+    let lm = Place { count, at };
+    let count = cursor.get_u16()?;
+    let _most = cursor.get_u16()?;
+    let at = cursor.get_u32()?;
+    let nt = Place { count, at };
+    let count = cursor.get_u16()?;
+    let _most = cursor.get_u16()?;
+    let at = cursor.get_u32()?;
+    let domain = Place { count, at };
+    let count = cursor.get_u16()?;
+    let _most = cursor.get_u16()?;
+    let at = cursor.get_u32()?;
+    let user = Place { count, at };
+    let count = cursor.get_u16()?;
+    let _most = cursor.get_u16()?;
+    let at = cursor.get_u32()?;
+    let workstation = Place { count, at };
+    let count = cursor.get_u16()?;
+    let _most = cursor.get_u16()?;
+    let at = cursor.get_u32()?;
+    let session_key = Place { count, at };
     let flags = cursor.get_u32()?;
     let _version = cursor.get_u64()?;
     let mic = cursor.get_array::<16>()?;
     Ok(Fixed3 {
         signature,
         kind,
-        lm: Place {
-            count: lm_count,
-            at: lm_at,
-        },
-        nt: Place {
-            count: nt_count,
-            at: nt_at,
-        },
-        domain: Place {
-            count: domain_count,
-            at: domain_at,
-        },
-        user: Place {
-            count: user_count,
-            at: user_at,
-        },
-        workstation: Place {
-            count: workstation_count,
-            at: workstation_at,
-        },
-        session_key: Place {
-            count: key_count,
-            at: key_at,
-        },
+        lm,
+        nt,
+        domain,
+        user,
+        workstation,
+        session_key,
         flags,
         mic,
     })
@@ -201,7 +185,8 @@ fn check_kind(signature: &[u8; 8], told: u32, kind: u32) -> Result<(), NtlmError
 /// A part of a message.
 #[tactic(auto, unfolding(token_defs::specs::Messages::range_fault, wire_defs::specs::Places::bytes_at))]
 fn part_of(m: &[u8], place: Place, field: NtlmField) -> Result<&[u8], NtlmError>
-    ensures same { MatchResult result (λ part. (range_fault m.now place.count place.at field ≡ None) × (part.now ≡ bytes_at place.count m.now place.at)) (λ e. range_fault m.now place.count place.at field ≡ Some e) }
+    ensures same { MatchResult result (λ part. (range_fault m.now place.count place.at field ≡ None) × (part.now ≡
+        bytes_at place.count m.now place.at)) (λ e. range_fault m.now place.count place.at field ≡ Some e) }
     ensures whole { IfOk result (λ part. length part.now ≡ place.count) }
     ensures short { IfOk result (λ part. length part.now < 65536) }
 {
@@ -232,7 +217,8 @@ pub fn read_type1(m: &[u8]) -> Result<Type1, NtlmError>
 /// The pairs of target information, where there is some.
 fn check_info(place: Place, info: &[u8]) -> Result<(), NtlmError>
     requires { place.at + length info.now < 2 ^ 63 }
-    ensures { MatchResult result (λ _. (if place.count == 0 then None else info_fault place.at info.now) ≡ None) (λ e. (if place.count == 0 then None else info_fault place.at info.now) ≡ Some e) }
+    ensures { MatchResult result (λ _. (if place.count == 0 then None else info_fault place.at info.now) ≡ None) (λ e.
+        (if place.count == 0 then None else info_fault place.at info.now) ≡ Some e) }
 {
     if place.count == 0 {
         return Ok(());
@@ -265,7 +251,9 @@ pub fn read_type2(m: &[u8]) -> Result<Type2<'_>, NtlmError>
 fn check_response(place: Place, nt: &[u8]) -> Result<(), NtlmError>
     requires whole { length nt.now ≡ place.count }
     requires short { place.at + length nt.now < 2 ^ 63 }
-    ensures { MatchResult result (λ _. (if nat_lt place.count 44 then None else info_fault (place.at + 44) (drop 44 nt.now)) ≡ None) (λ e. (if nat_lt place.count 44 then None else info_fault (place.at + 44) (drop 44 nt.now)) ≡ Some e) }
+    ensures { MatchResult result (λ _. (if nat_lt place.count 44 then None else info_fault (place.at + 44) (drop 44
+        nt.now)) ≡ None) (λ e. (if nat_lt place.count 44 then None else info_fault (place.at + 44) (drop 44 nt.now)) ≡
+        Some e) }
 {
     if place.count < 44 {
         return Ok(());
@@ -331,6 +319,33 @@ pub fn write_type1(alloc: Global, m: &Type1) -> Result<Bytes, AllocError>
     out.put_zeros(8)?;
     out.put_zeros(8)?;
     Ok(out.finish())
+}
+
+/// Whether each part of a type 2 fits its length field, so that `write_type2` takes it.
+#[tactic(auto, using(crate::proofs::Sizes::writable2))]
+pub fn can_write_type2(m: &Type2<'_>) -> bool
+    ensures { IsTrue result → IsWritableType2 (type2_view m.now) }
+{
+    let _flags = m.flags;
+    if m.target_name.len() >= 65_536 {
+        return false;
+    }
+    m.target_info.len() < 65_536
+}
+
+/// Whether each part of a type 3 fits its length field, so that `write_type3` takes it.
+#[tactic(auto, using(crate::proofs::Sizes::writable3))]
+pub fn can_write_type3(m: &Type3<'_>) -> bool
+    ensures { IsTrue result → IsWritableType3 (type3_view m.now) }
+{
+    let _flags = m.flags;
+    if m.lm.len() >= 65_536 || m.nt.len() >= 65_536 || m.domain.len() >= 65_536 {
+        return false;
+    }
+    if m.user.len() >= 65_536 || m.workstation.len() >= 65_536 {
+        return false;
+    }
+    m.session_key.len() < 65_536
 }
 
 /// A type 2, whose parts stand behind its 56 bytes. Each part fits its length field.

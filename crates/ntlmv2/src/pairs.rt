@@ -27,7 +27,8 @@ pub(crate) enum Front<'a> {
 
 /// The id and the length of the pair in front.
 fn told(bytes: &[u8]) -> Result<(u16, u16), Short>
-    ensures { MatchResult result (λ t. (4 ≤ length bytes.now) × (t.0 ≡ number 2 bytes.now 0) × (t.1 ≡ number 2 bytes.now 2)) (λ e. length bytes.now < 4) }
+    ensures { MatchResult result (λ t. (4 ≤ length bytes.now) × (t.0 ≡ number 2 bytes.now 0) × (t.1 ≡ number 2 bytes.now
+        2)) (λ e. length bytes.now < 4) }
 {
     let mut cursor = Cursor::new(bytes);
     let id = cursor.get_u16()?;

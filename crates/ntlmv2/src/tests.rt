@@ -33,8 +33,9 @@ fn a_logon(rt: HostRuntime) -> Result<(), Fail> {
         challenge: [9; 8],
         key: [5; 16],
     };
-    assert!(rt; value.target_info.len() <= 65_472);
-    let third = answer_to(alloc, &client, first.as_slice(), second.as_slice(), &value)?;
+    let third = answer_to(alloc, &client, first.as_slice(), second.as_slice(), &value)?.ok_or(
+        "no answer",
+    )?;
     let mut users = Users::new(alloc);
     users.push(Text::from_str(alloc, "bob")?, Text::from_str(alloc, "x")?)?;
     users.push(

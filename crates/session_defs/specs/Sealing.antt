@@ -32,12 +32,14 @@ protocol = 0xfd ∷ 0x53 ∷ 0x4d ∷ 0x42 ∷ []
 -- under one of the modes: of the nonce's 16 bytes GCM takes 12 and CCM 11; the tag has 16
 unfoldable pub ciphertext : ℕ → List ℕ → List ℕ → List ℕ → List ℕ
 ciphertext cipher key nonce text =
-    if is_gcm cipher then Gcm.ciphertext (words_of cipher key) (take 12 nonce) text else Ccm.ciphertext (words_of cipher key) (take 11 nonce) text
+    if is_gcm cipher then Gcm.ciphertext (words_of cipher key) (take 12 nonce) text else Ccm.ciphertext (words_of cipher
+    key) (take 11 nonce) text
 
 -- the tag of a text and its ciphertext: GCM's is the ciphertext's, CCM's the text's
 unfoldable pub tag_of : ℕ → List ℕ → List ℕ → List ℕ → List ℕ → List ℕ → List ℕ
 tag_of cipher key nonce added text hidden =
-    if is_gcm cipher then Gcm.tag_of (words_of cipher key) (take 12 nonce) added hidden else Ccm.tag_of (words_of cipher key) (take 11 nonce) added text 16
+    if is_gcm cipher then Gcm.tag_of (words_of cipher key) (take 12 nonce) added hidden else Ccm.tag_of (words_of cipher
+    key) (take 11 nonce) added text 16
 
 -- the frame that a text is sealed to
 unfoldable pub sealed_by : ℕ → List ℕ → ℕ → List ℕ → List ℕ → List ℕ
@@ -67,7 +69,8 @@ shown cipher key frame = ciphertext cipher key (bytes_at 16 frame 20) (drop 52 f
 
 unfoldable pub tag_is_right : ℕ → List ℕ → List ℕ → Bool
 tag_is_right cipher key frame =
-    bytes_eq (bytes_at 16 frame 4) (tag_of cipher key (bytes_at 16 frame 20) (bytes_at 32 frame 20) (shown cipher key frame) (drop 52 frame))
+    bytes_eq (bytes_at 16 frame 4) (tag_of cipher key (bytes_at 16 frame 20) (bytes_at 32 frame 20) (shown cipher key
+    frame) (drop 52 frame))
 
 abbrev pub if_whole : Option SealError → Result (List ℕ) SealError → Result (List ℕ) SealError
 if_whole (Some e) r = Err e

@@ -1,5 +1,5 @@
 -- A key of 128 bits as the first half of what is derived, comparisons, and lists put together.
-use Rattle.std.proofs.Common.{◌≡◌, ℕ, ◌+◌, ◌-◌, ◌≤◌, Bool, true, false, ◌↔◌, IsTrue, List, [], ◌∷◌, ◌++◌, append_assoc, length, take, drop, replicate, length-drop, ◌==◌, refl, sym, ap, ◌∙◌, arith}
+use Rattle.std.proofs.Common.{◌≡◌, ℕ, ◌-◌, Bool, true, false, ◌↔◌, IsTrue, List, ◌++◌, append_assoc, length, take, drop, replicate, length-drop, ◌==◌, refl, sym, arith}
 use Rattle.std.proofs.lemmas.List.{take_at, take_all, length-take-le}
 use Rattle.std.proofs.lemmas.Bool.Decides.{nat_tests}
 use Rattle.std.proofs.lemmas.Slice.Eq.{bytes_eq-Decides}
@@ -18,7 +18,8 @@ pub half_is : (key label context : List ℕ) → take 16 (derived_padded key lab
 unfolding derived outputs
 half_is key label context =
     let out : List ℕ = hmac_of_sha256 key (fixed_input 1 label context 128) in
-    let len : length out ≡ 32 = length-sha256 (padded_by 0x5c (key_block sha256 key) ++ sha256 (padded_by 0x36 (key_block sha256 key) ++ fixed_input 1 label context 128)) in
+    let len : length out ≡ 32 = length-sha256 (padded_by 0x5c (key_block sha256 key) ++ sha256 (padded_by 0x36
+    (key_block sha256 key) ++ fixed_input 1 label context 128)) in
     let half : length (take 16 out) ≡ 16 = length-take-le 16 out (omega arith) in
     take_at (take 16 out) (replicate (32 - length (take 16 out)) 0) 16 half
 
@@ -49,12 +50,14 @@ not_two n h = grind (arith, nat_tests)
 unsigned_is : (m : List ℕ) → (take 48 m ++ replicate 16 0) ++ take (length m - 64) (drop 64 m) ≡ unsigned m
 unsigned_is m = rw (rest_is m 64) (append_assoc (take 48 m) (replicate 16 0) (drop 64 m))
 
-pub by_gmac : (s : Signer) (m : List ℕ) (ws : List (List ℕ)) (nonce header out : List ℕ) → s.algorithm ≡ 2 → ws ≡ schedule 4 s.key → nonce ≡ signing_nonce m → header ≡ take 48 m ++ replicate 16 0
+pub by_gmac : (s : Signer) (m : List ℕ) (ws : List (List ℕ)) (nonce header out : List ℕ) → s.algorithm ≡ 2 → ws ≡
+    schedule 4 s.key → nonce ≡ signing_nonce m → header ≡ take 48 m ++ replicate 16 0
     → out ≡ gmac ws nonce (header ++ take (length m - 64) (drop 64 m)) → out ≡ signature s m
 unfolding signature
 by_gmac s m ws nonce header out two keys id front is = rw (is, keys, id, front, unsigned_is m, two) refl
 
-pub by_cmac : (s : Signer) (m : List ℕ) (ws : List (List ℕ)) (header out : List ℕ) → ¬ (s.algorithm ≡ 2) → ws ≡ schedule 4 s.key → header ≡ take 48 m ++ replicate 16 0
+pub by_cmac : (s : Signer) (m : List ℕ) (ws : List (List ℕ)) (header out : List ℕ) → ¬ (s.algorithm ≡ 2) → ws ≡ schedule
+    4 s.key → header ≡ take 48 m ++ replicate 16 0
     → out ≡ cmac ws (header ++ take (length m - 64) (drop 64 m)) → out ≡ signature s m
 unfolding signature
 by_cmac s m ws header out other keys front is = rw (is, keys, front, unsigned_is m, not_two s.algorithm other) refl

@@ -1,4 +1,5 @@
 mod Frames
 mod Halves
+mod InPlace
 mod Opening
 mod Verifying

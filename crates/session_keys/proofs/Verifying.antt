@@ -1,16 +1,15 @@
 -- What is signed verifies.
-use Rattle.std.proofs.Common.{◌≡◌, ℕ, zero, suc, ◌+◌, ◌-◌, ◌*◌, ◌%◌, ◌≤◌, ◌<◌, ◌==◌, Bool, true, false, if◌then◌else◌, List, [], ◌∷◌, ◌++◌, append_assoc, length, take, drop, replicate, length-append, length-drop, refl, sym, ap, ◌∙◌, arith}
+use Rattle.std.proofs.Common.{◌≡◌, ℕ, zero, suc, ◌+◌, ◌%◌, ◌≤◌, ◌==◌, Bool, true, false, if◌then◌else◌, List, [], ◌∷◌, ◌++◌, append_assoc, length, take, drop, replicate, length-append, length-drop, refl, sym, ap, ◌∙◌, arith}
 use Rattle.std.proofs.lemmas.List.{take_at, drop_at, length-take-le, take-append-drop}
 use Rattle.std.proofs.lemmas.Slice.Eq.{bytes_eq-Decides}
-use Rattle.std.specs.Str.{bytes_eq}
 use Rattle.cipher_defs.specs.Aes.{schedule, cipher}
 use Rattle.cipher_defs.specs.Cmac.{cmac}
 use Rattle.cipher_defs.specs.Gcm.{gmac}
 use Rattle.aes_modes.proofs.Masking.{sum_length}
-use Rattle.wire_defs.specs.Places.{le, number, number_of, bytes_at}
+use Rattle.wire_defs.specs.Places.{le, number_of, bytes_at}
 use Rattle.wire_defs.proofs.Numbers.{bytes_at-behind}
 use Rattle.session_defs.specs.declared.material.Signer.{Signer}
-use Rattle.session_defs.specs.Signing.{unsigned, role, signing_nonce, signature, signed, verifies}
+use Rattle.session_defs.specs.Signing.{unsigned, signing_nonce, signature, signed, verifies}
 
 drop_in : (h a : List ℕ) (n : ℕ) → n ≤ length h → drop n (h ++ a) ≡ drop n h ++ a
 drop_in h a zero le = refl
@@ -37,7 +36,8 @@ cmac_length ws m = sum_length _ _
 pub signature_length : (s : Signer) (m : List ℕ) → length (signature s m) ≡ 16
 unfolding signature
 signature_length s m =
-    length_by (s.algorithm == 2) (gmac (schedule 4 s.key) (signing_nonce m) (unsigned m)) (cmac (schedule 4 s.key) (unsigned m)) 16 (sum_length _ _) (cmac_length (schedule 4 s.key) (unsigned m))
+    length_by (s.algorithm == 2) (gmac (schedule 4 s.key) (signing_nonce m) (unsigned m)) (cmac (schedule 4 s.key)
+    (unsigned m)) 16 (sum_length _ _) (cmac_length (schedule 4 s.key) (unsigned m))
 
 signature_same : (s : Signer) (m n : List ℕ) → unsigned m ≡ unsigned n → signing_nonce m ≡ signing_nonce n → signature s m ≡ signature s n
 unfolding signature
@@ -45,9 +45,12 @@ signature_same s m n e f = λ t. if s.algorithm == 2 then gmac (schedule 4 s.key
 
 same_nonce : (h a b : List ℕ) → length h ≡ 48 → signing_nonce (h ++ a) ≡ signing_nonce (h ++ b)
 same_nonce h a b len =
-    let id : bytes_at 8 (h ++ a) 24 ≡ bytes_at 8 (h ++ b) 24 = front_bytes 8 24 h a (omega arith) ∙ sym (front_bytes 8 24 h b (omega arith)) in
-    let command : bytes_at 2 (h ++ a) 12 ≡ bytes_at 2 (h ++ b) 12 = front_bytes 2 12 h a (omega arith) ∙ sym (front_bytes 2 12 h b (omega arith)) in
-    let flags : bytes_at 1 (h ++ a) 16 ≡ bytes_at 1 (h ++ b) 16 = front_bytes 1 16 h a (omega arith) ∙ sym (front_bytes 1 16 h b (omega arith)) in
+    let id : bytes_at 8 (h ++ a) 24 ≡ bytes_at 8 (h ++ b) 24 = front_bytes 8 24 h a (omega arith) ∙ sym (front_bytes 8
+    24 h b (omega arith)) in
+    let command : bytes_at 2 (h ++ a) 12 ≡ bytes_at 2 (h ++ b) 12 = front_bytes 2 12 h a (omega arith) ∙ sym
+    (front_bytes 2 12 h b (omega arith)) in
+    let flags : bytes_at 1 (h ++ a) 16 ≡ bytes_at 1 (h ++ b) 16 = front_bytes 1 16 h a (omega arith) ∙ sym (front_bytes
+    1 16 h b (omega arith)) in
     λ t. id t ++ le 4 (number_of (flags t) % 2 + (if number_of (command t) == 12 then 2 else 0))
 
 pub verified : (s : Signer) (m : List ℕ) → 64 ≤ length m → verifies s (signed s m) ≡ true
@@ -61,8 +64,10 @@ verified s m long =
     let field : bytes_at 16 all 48 ≡ code = bytes_at-behind 16 head code (drop 64 m) 48 (sym head_len) code_len in
     let both_len : length (head ++ code) ≡ 64 = (let a = length-append head code in omega arith) in
     let front : take 48 all ≡ head = take_at head (code ++ drop 64 m) 48 head_len in
-    let back : drop 64 all ≡ drop 64 m = ap (drop 64) (sym (append_assoc head code (drop 64 m))) ∙ drop_at (head ++ code) (drop 64 m) 64 both_len in
+    let back : drop 64 all ≡ drop 64 m = ap (drop 64) (sym (append_assoc head code (drop 64 m))) ∙ drop_at (head ++
+    code) (drop 64 m) 64 both_len in
     let plain : unsigned all ≡ unsigned m = λ t. front t ++ (replicate 16 0 ++ back t) in
-    let nonce : signing_nonce all ≡ signing_nonce m = same_nonce head (code ++ drop 64 m) (drop 48 m) head_len ∙ ap signing_nonce (take-append-drop 48 m) in
+    let nonce : signing_nonce all ≡ signing_nonce m = same_nonce head (code ++ drop 64 m) (drop 48 m) head_len ∙ ap
+    signing_nonce (take-append-drop 48 m) in
     let same : signature s all ≡ code = signature_same s all m plain nonce in
     (bytes_eq-Decides (bytes_at 16 all 48) (signature s all)).1 (field ∙ sym same)

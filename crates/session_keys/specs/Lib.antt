@@ -1,3 +1,4 @@
 pub mod Giving
+pub mod Sealing
 pub mod Telling
 pub mod Unsealing

@@ -8,7 +8,8 @@ ghost use Rattle.session_defs.specs.Signing.{signed, verifies};
 
 /// What is sealed unseals to its text, under the same keys and direction.
 pub fn sealed_opens_law()
-    ensures { (keys : Keys) (from_client : Bool) (nonce text : List ℕ) → length nonce ≡ 16 → length text ≤ 1114060 → keys.session < 2 ^ 64 → unsealed keys from_client (sealed keys from_client nonce text) ≡ Ok text }
+    ensures { (keys : Keys) (from_client : Bool) (nonce text : List ℕ) → length nonce ≡ 16 → length text ≤ 1114060 →
+        keys.session < 2 ^ 64 → unsealed keys from_client (sealed keys from_client nonce text) ≡ Ok text }
 {}
 
 /// What is signed verifies.
@@ -18,5 +19,6 @@ pub fn signed_verifies_law()
 
 /// Two different counters, or two channels, never give one nonce.
 pub fn distinct_nonces_law()
-    ensures { (a b : NonceState) → a.counter < 2 ^ 64 → b.counter < 2 ^ 64 → a.channel < 2 ^ 16 → b.channel < 2 ^ 16 → nonce_of a ≡ nonce_of b → a ≡ b }
+    ensures { (a b : NonceState) → a.counter < 2 ^ 64 → b.counter < 2 ^ 64 → a.channel < 2 ^ 16 → b.channel < 2 ^ 16 →
+        nonce_of a ≡ nonce_of b → a ≡ b }
 {}

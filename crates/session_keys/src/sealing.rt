@@ -1,10 +1,12 @@
 //! Sealed messages.
 ghost use Rattle.std.specs.Prelude.{◌≡◌, ◌≤◌, ◌<◌, ◌+◌, ◌++◌, IfOk, MatchResult, length, take, drop, Some, None};
 ghost use Rattle.session_defs.specs.Sealing.{words_of, is_gcm, key_for, added_of, ciphertext, tag_of, sealed, frame_fault, unsealed};
-ghost use Rattle.session_keys.specs.Unsealing.{HasCipher, Tells, Opened, Unseals};
+ghost use Rattle.wire_defs.specs.Places.{bytes_at};
+ghost use Rattle.session_keys.specs.Sealing.{HasCipher, SealsBehind};
+ghost use Rattle.session_keys.specs.Unsealing.{Tells, ShowsText, Unseals, UnsealsInPlace};
 
 use aes_block::Aes;
-use aes_modes::{ccm_open, ccm_seal, gcm_open, gcm_seal};
+use aes_modes::{ccm_open_in_place, ccm_seal_in_place, gcm_open_in_place, gcm_seal_in_place};
 use session_defs::{Keys, SealError};
 use smb_bytes::{Bytes, Cursor, FixedOut, Short};
 use std::alloc::{AllocError, Global};
@@ -68,30 +70,39 @@ fn gcm_nonce(nonce: &[u8]) -> [u8; 12]
     front
 }
 
-/// The ciphertext and then the tag.
-#[tactic(auto, unfolding(session_defs::specs::Sealing::ciphertext, session_defs::specs::Sealing::tag_of, cipher_defs::specs::Gcm::sealed, cipher_defs::specs::Ccm::sealed))]
-fn ciphered(
-    alloc: Global,
+/// Seals a text where it stands, and gives its tag.
+#[tactic(auto, unfolding(session_defs::specs::Sealing::ciphertext, session_defs::specs::Sealing::tag_of))]
+fn hide(
     cipher: u16,
     key: &[u8; 32],
     nonce: &[u8; 16],
     added: &[u8; 32],
-    text: &[u8],
-) -> Result<Bytes, AllocError>
-    requires { length text.now ≤ 1114060 }
-    ensures len { IfOk result (λ b. length b ≡ length text.now + 16) }
-    ensures same { IfOk result (λ b. b ≡ ciphertext cipher key.now nonce.now text.now ++ tag_of cipher key.now nonce.now added.now text.now (ciphertext cipher key.now nonce.now text.now)) }
+    text: &mut [u8],
+) -> [u8; 16]
+    requires { length text.old ≤ 1114060 }
+    ensures hidden { text.new ≡ ciphertext cipher key.now nonce.now text.old }
+    ensures tag { result ≡ tag_of cipher key.now nonce.now added.now text.old text.new }
 {
     let aes = aes_of(cipher, key);
     if is_gcm_of(cipher) {
-        gcm_seal(alloc, &aes, &gcm_nonce(nonce), added, text)
+        gcm_seal_in_place(&aes, &gcm_nonce(nonce), added, text)
     } else {
-        ccm_seal(alloc, &aes, &nonce[..11], added, text, 16)
+        ccm_seal_in_place(&aes, &nonce[..11], added, text, 16)
     }
 }
 
+/// Seals the text behind the 52 bytes of a transform header, and puts its tag into the header.
+fn seal_frame(cipher: u16, key: &[u8; 32], nonce: &[u8; 16], added: &[u8; 32], frame: &mut [u8])
+    requires whole { 52 ≤ length frame.old }
+    requires short { length frame.old ≤ 1114112 }
+    ensures { SealsBehind cipher key.now nonce.now added.now frame.old frame.new }
+{
+    let tag = hide(cipher, key, nonce, added, &mut frame[HEADER..]);
+    frame[4..20].copy_from_slice(&tag);
+}
+
 /// A message of at most 1,114,060 bytes, sealed under a nonce that is given once (MS-SMB2 3.1.4.3). The keys have a cipher.
-#[tactic(auto, using(crate::proofs::Frames::frame_of_parts, crate::proofs::Frames::ciphertext_length), unfolding(session_defs::specs::Sealing::sealed_by))]
+/// The message is copied once.
 pub fn seal(
     alloc: Global,
     keys: &Keys,
@@ -105,14 +116,13 @@ pub fn seal(
 {
     let added = added(nonce, message.len() as u32, keys.session);
     let key = key_of(keys, from_client);
-    let ciphered = ciphered(alloc, keys.cipher, key, nonce, &added, message)?;
-    let ciphered = ciphered.as_slice();
-    let mut frame = Bytes::new(alloc);
-    frame.extend(&PROTOCOL)?;
-    frame.extend(&ciphered[message.len()..])?;
-    frame.extend(&added)?;
-    frame.extend(&ciphered[..message.len()])?;
-    Ok(frame)
+    let mut frame = Vec::with_capacity(alloc, HEADER + message.len())?;
+    frame.extend_from_slice(&PROTOCOL)?;
+    frame.extend_from_slice(&[0; 16])?;
+    frame.extend_from_slice(&added)?;
+    frame.extend_from_slice(message)?;
+    seal_frame(keys.cipher, key, nonce, &added, frame.as_mut_slice());
+    Ok(Bytes::from_vec(frame))
 }
 
 /// What a transform header tells.
@@ -148,7 +158,8 @@ fn transform_in(frame: &[u8]) -> Result<Transform, Short>
 /// The transform header of a frame of this session, or the first cause for which the frame isn't looked into.
 #[tactic(auto, unfolding(session_defs::specs::Sealing::frame_fault, session_defs::specs::Sealing::is_sealed))]
 fn transform_of(frame: &[u8], session: u64) -> Result<Transform, SealError>
-    ensures { MatchResult result (λ t. (frame_fault session frame.now ≡ None) × (length frame.now ≤ 1114112) × Tells frame.now t) (λ e. frame_fault session frame.now ≡ Some e) }
+    ensures { MatchResult result (λ t. (frame_fault session frame.now ≡ None) × (length frame.now ≤ 1114112) × Tells
+        frame.now t) (λ e. frame_fault session frame.now ≡ Some e) }
 {
     let transform = match transform_in(frame) {
         Ok(transform) => transform,
@@ -166,41 +177,39 @@ fn transform_of(frame: &[u8], session: u64) -> Result<Transform, SealError>
     Ok(transform)
 }
 
-/// The ciphertext behind a transform header, and then its tag.
-fn ciphered_in(alloc: Global, frame: &[u8], tag: &[u8; 16]) -> Result<Bytes, AllocError>
+/// The additional data in a transform header.
+fn added_in(frame: &[u8]) -> [u8; 32]
     requires { 52 ≤ length frame.now }
-    ensures { IfOk result (λ b. b ≡ drop 52 frame.now ++ tag.now) }
+    ensures { result ≡ bytes_at 32 frame.now 20 }
 {
-    let mut ciphered = Bytes::from_slice(alloc, &frame[HEADER..])?;
-    ciphered.extend(tag)?;
-    Ok(ciphered)
+    let mut added = [0; 32];
+    added.copy_from_slice(&frame[20..HEADER]);
+    added
 }
 
-/// The text of a frame, or nothing where its tag is another one.
-fn opened(
-    alloc: Global,
+/// Whether the tag is the one of a ciphertext and its additional data: the ciphertext then becomes its text, and else
+/// stays as it is.
+fn show(
     cipher: u16,
     key: &[u8; 32],
     transform: &Transform,
-    frame: &[u8],
-) -> Result<Option<Bytes>, AllocError>
-    requires tells { Tells frame.now transform.now }
-    requires size { length frame.now ≤ 1114112 }
-    ensures { IfOk result (λ o. Opened cipher key.now frame.now o) }
+    added: &[u8; 32],
+    text: &mut [u8],
+) -> bool
+    requires { length text.old ≤ 1114060 }
+    ensures { ShowsText cipher key.now transform.now.nonce added.now transform.now.tag text.old text.new result }
 {
     let aes = aes_of(cipher, key);
     let nonce = &transform.nonce;
-    let added = &frame[20..HEADER];
-    let ciphered = ciphered_in(alloc, frame, &transform.tag)?;
     if is_gcm_of(cipher) {
-        gcm_open(alloc, &aes, &gcm_nonce(nonce), added, ciphered.as_slice())
+        gcm_open_in_place(&aes, &gcm_nonce(nonce), added, &transform.tag, text)
     } else {
-        ccm_open(alloc, &aes, &nonce[..11], added, ciphered.as_slice(), 16)
+        ccm_open_in_place(&aes, &nonce[..11], added, &transform.tag, text)
     }
 }
 
 /// The message of a sealed frame, or the first of `NotSealed`, `BadSize`, `OtherSession` and `BadTag` that applies
-/// (MS-SMB2 3.3.5.2.1.1). The keys have a cipher.
+/// (MS-SMB2 3.3.5.2.1.1). The keys have a cipher. The message is copied once.
 #[tactic(auto, unfolding(session_defs::specs::Sealing::unsealed_by))]
 pub fn unseal(
     alloc: Global,
@@ -213,8 +222,31 @@ pub fn unseal(
 {
     let transform = transform_of(frame, keys.session)?;
     let key = key_of(keys, from_client);
-    match opened(alloc, keys.cipher, key, &transform, frame)? {
-        Some(text) => Ok(text),
-        None => Err(SealError::BadTag),
+    let added = added_in(frame);
+    let mut text = Vec::from_slice(alloc, &frame[HEADER..])?;
+    let shows = show(keys.cipher, key, &transform, &added, text.as_mut_slice());
+    if shows {
+        Ok(Bytes::from_vec(text))
+    } else {
+        Err(SealError::BadTag)
+    }
+}
+
+/// Unseals a frame where it stands: the message then stands behind the 52 bytes of its transform header, which stay.
+/// The first of `NotSealed`, `BadSize`, `OtherSession` and `BadTag` that applies leaves the frame as it was
+/// (MS-SMB2 3.3.5.2.1.1). The keys have a cipher. It takes no memory.
+#[tactic(auto, unfolding(session_defs::specs::Sealing::unsealed_by))]
+pub fn unseal_in_place(keys: &Keys, from_client: bool, frame: &mut [u8]) -> Result<(), SealError>
+    requires { HasCipher keys.now }
+    ensures { UnsealsInPlace (unsealed keys.now from_client frame.old) frame.old frame.new result }
+{
+    let transform = transform_of(frame, keys.session)?;
+    let key = key_of(keys, from_client);
+    let added = added_in(frame);
+    let shows = show(keys.cipher, key, &transform, &added, &mut frame[HEADER..]);
+    if shows {
+        Ok(())
+    } else {
+        Err(SealError::BadTag)
     }
 }

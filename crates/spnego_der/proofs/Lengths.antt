@@ -19,7 +19,8 @@ short_front a b h = let e = length-append a b in omega arith
 pub short_back : (a b : List ℕ) → length (a ++ b) < 2 ^ 32 → length b < 2 ^ 32
 short_back a b h = let e = length-append a b in omega arith
 
-pub joined : (out : List ℕ) (tag : ℕ) (contents : List ℕ) → ((out ++ tag ∷ []) ++ length_bytes (length contents)) ++ contents ≡ out ++ spelled tag contents
+pub joined : (out : List ℕ) (tag : ℕ) (contents : List ℕ) → ((out ++ tag ∷ []) ++ length_bytes (length contents)) ++
+    contents ≡ out ++ spelled tag contents
 unfolding spelled
 joined out tag contents = simp append_assoc refl
 
@@ -32,7 +33,9 @@ unfolding spelled
 state_short s = omega arith
 
 -- of a NegTokenInit: its fields, its SEQUENCE, what stands in its choice, and the whole contents
-pub init_parts : (v : InitValue) → length (init_spelling v) < 2 ^ 32 → (length (init_fields_spelling v) < 2 ^ 32) × (length (spelled 0x30 (init_fields_spelling v)) < 2 ^ 32) × (length (spelled 6 spnego ++ spelled 0xa0 (spelled 0x30 (init_fields_spelling v))) < 2 ^ 32)
+pub init_parts : (v : InitValue) → length (init_spelling v) < 2 ^ 32 → (length (init_fields_spelling v) < 2 ^ 32) ×
+    (length (spelled 0x30 (init_fields_spelling v)) < 2 ^ 32) × (length (spelled 6 spnego ++ spelled 0xa0 (spelled 0x30
+    (init_fields_spelling v))) < 2 ^ 32)
 unfolding init_spelling
 init_parts v h =
     let all = short_inside 0x60 (spelled 6 spnego ++ spelled 0xa0 (spelled 0x30 (init_fields_spelling v))) h in
@@ -40,7 +43,8 @@ init_parts v h =
     let sequence = short_inside 0xa0 (spelled 0x30 (init_fields_spelling v)) choice in
     (short_inside 0x30 (init_fields_spelling v) sequence, sequence, all)
 
-pub resp_parts : (v : RespValue) → length (resp_spelling v) < 2 ^ 32 → (length (resp_fields_spelling v) < 2 ^ 32) × (length (spelled 0x30 (resp_fields_spelling v)) < 2 ^ 32)
+pub resp_parts : (v : RespValue) → length (resp_spelling v) < 2 ^ 32 → (length (resp_fields_spelling v) < 2 ^ 32) ×
+    (length (spelled 0x30 (resp_fields_spelling v)) < 2 ^ 32)
 unfolding resp_spelling
 resp_parts v h =
     let sequence = short_inside 0xa1 (spelled 0x30 (resp_fields_spelling v)) h in

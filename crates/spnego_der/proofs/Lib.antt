@@ -2,3 +2,4 @@ mod Again
 mod Lengths
 mod Mechanisms
 mod Spelled
+mod Writable

@@ -22,12 +22,14 @@ not_empty : (n : ℕ) → 0 < n → (n == 0) ≡ false
 not_empty n h = grind (arith, nat_tests)
 
 -- what is left of the search where some elements are left and one was read
-pub some_left : (k : ℕ) (p : Piece) (e : Parted) → 0 < length p.bytes → length p.bytes ≤ k → element 6 p ≡ Ok e → (j : ℕ) × (k ≡ j + 1) × (names_ntlm k p ≡ with_found (bytes_eq e.contents.bytes ntlmssp) (names_ntlm j e.rest))
+pub some_left : (k : ℕ) (p : Piece) (e : Parted) → 0 < length p.bytes → length p.bytes ≤ k → element 6 p ≡ Ok e → (j :
+    ℕ) × (k ≡ j + 1) × (names_ntlm k p ≡ with_found (bytes_eq e.contents.bytes ntlmssp) (names_ntlm j e.rest))
 unfolding names_ntlm
 some_left zero p e some low read = absurd (omega arith)
 some_left (suc j) p e some low read = (j, omega arith, rw (not_empty (length p.bytes) some, read) refl)
 
-pub some_broken : (k : ℕ) (p : Piece) (e : DerError) → 0 < length p.bytes → length p.bytes ≤ k → element 6 p ≡ Err e → names_ntlm k p ≡ Err e
+pub some_broken : (k : ℕ) (p : Piece) (e : DerError) → 0 < length p.bytes → length p.bytes ≤ k → element 6 p ≡ Err e →
+    names_ntlm k p ≡ Err e
 unfolding names_ntlm
 some_broken zero p e some low read = absurd (omega arith)
 some_broken (suc j) p e some low read = rw (not_empty (length p.bytes) some, read) refl
@@ -50,7 +52,8 @@ at_start p = record { more = length p.bytes; enough = omega arith; same = sym (w
     without (Ok x) = refl
     without (Err e) = refl
 
-pub one_on : (front p : Piece) (e : Parted) (found : Bool) → IsSearched front p found → 0 < length p.bytes → element 6 p ≡ Ok e → length e.rest.bytes < length p.bytes → IsSearched front e.rest (found || bytes_eq e.contents.bytes ntlmssp)
+pub one_on : (front p : Piece) (e : Parted) (found : Bool) → IsSearched front p found → 0 < length p.bytes → element 6 p
+    ≡ Ok e → length e.rest.bytes < length p.bytes → IsSearched front e.rest (found || bytes_eq e.contents.bytes ntlmssp)
 one_on front p e found s some read shorter =
     let step = some_left s.more p e some s.enough read in
     record {
@@ -59,8 +62,10 @@ one_on front p e found s some read shorter =
       same = s.same ∙ (ap (with_found found) step.2 ∙ found_twice found (bytes_eq e.contents.bytes ntlmssp) (names_ntlm step.0 e.rest));
     }
 
-pub broken : (front p : Piece) (e : DerError) (found : Bool) → IsSearched front p found → 0 < length p.bytes → element 6 p ≡ Err e → names_ntlm (length front.bytes) front ≡ Err e
+pub broken : (front p : Piece) (e : DerError) (found : Bool) → IsSearched front p found → 0 < length p.bytes → element 6
+    p ≡ Err e → names_ntlm (length front.bytes) front ≡ Err e
 broken front p e found s some read = s.same ∙ ap (with_found found) (some_broken s.more p e some s.enough read)
 
-pub ended : (front p : Piece) (found : Bool) → IsSearched front p found → length p.bytes ≡ 0 → names_ntlm (length front.bytes) front ≡ Ok found
+pub ended : (front p : Piece) (found : Bool) → IsSearched front p found → length p.bytes ≡ 0 → names_ntlm (length
+    front.bytes) front ≡ Ok found
 ended front p found s none = s.same ∙ (ap (with_found found) (none_left s.more p none) ∙ found_none found)

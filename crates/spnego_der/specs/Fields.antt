@@ -35,7 +35,16 @@ abbrev pub mech_view : SupportedMech → Mech
 mech_view x = record { ntlm = x.ntlm; rest = piece x.rest }
 
 abbrev pub init_fields_view : InitFields → Named
-init_fields_view x = record { named = x.names_ntlm; value = record { mech_list = x.mech_list.now; ntlm_first = x.ntlm_first; token = lent x.token; mic = lent x.mic } }
+init_fields_view x = record {
+  named = x.names_ntlm;
+  value = record {
+    mech_list = x.mech_list.now;
+    ntlm_first =
+        x.ntlm_first;
+    token = lent x.token;
+    mic = lent x.mic;
+  };
+}
 
 abbrev pub resp_fields_view : RespFields → RespValue
 resp_fields_view x = record { state = x.state; ntlm = x.ntlm; token = lent x.token; mic = lent x.mic }

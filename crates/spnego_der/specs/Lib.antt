@@ -1,3 +1,4 @@
 pub mod Fields
+pub mod Fitting
 pub mod Pieces
 pub mod Views

@@ -76,7 +76,9 @@ impl<'a> Piece<'a> {
 pub(crate) fn element_of<'a>(tag: u8, p: &Piece<'a>) -> Result<Parted<'a>, DerError>
     requires { p.now.at + length p.now.bytes.now < 2 ^ 63 }
     ensures same { Answers parted result (element tag (piece p.now)) }
-    ensures bounds { IfOk result (λ e. (e.contents.at + length e.contents.bytes.now ≤ p.now.at + length p.now.bytes.now) × (e.rest.at + length e.rest.bytes.now ≤ p.now.at + length p.now.bytes.now) × (length e.rest.bytes.now < length p.now.bytes.now)) }
+    ensures bounds { IfOk result (λ e. (e.contents.at + length e.contents.bytes.now ≤ p.now.at + length p.now.bytes.now)
+        × (e.rest.at + length e.rest.bytes.now ≤ p.now.at + length p.now.bytes.now) × (length e.rest.bytes.now < length
+        p.now.bytes.now)) }
 {
     let bytes = p.bytes;
     if bytes.is_empty() {

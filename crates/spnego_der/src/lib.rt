@@ -4,11 +4,13 @@
 
 mod element;
 mod fields;
+mod fitting;
 mod laws;
 mod reading;
 mod token;
 mod writing;
 
+pub use fitting::{NTLM_LIST, can_write_init, can_write_resp};
 pub use laws::{init_law, resp_law};
 pub use reading::{read_init, read_resp};
 pub use token::{InitToken, RespToken};

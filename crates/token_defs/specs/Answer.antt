@@ -1,5 +1,5 @@
 -- The client's side of NTLMv2 (MS-NLMP 3.1.5.1): its type 1, and the type 3 that answers a type 2, with a key that it exchanges and a MIC.
-use Rattle.std.specs.Prelude.{ℕ, List, [], ◌++◌, length, take, replicate, Option, Some, None}
+use Rattle.std.specs.Prelude.{ℕ, nat_lt, Bool, ◌&&◌, if◌then◌else◌, List, [], ◌++◌, length, take, replicate, Option, Some, None}
 use Rattle.wire_defs.specs.Places.{le}
 use Rattle.token_defs.specs.Pairs.{pair, end_pair, pair_in, end_at}
 use Rattle.token_defs.specs.Messages.{Type2Value, Type3Value, type1_spelling, type3_spelling}
@@ -54,6 +54,10 @@ answer_with c second code = record {
   mic = code;
 }
 
+-- each part that may be long fits its length field of two bytes
+abbrev pub has_room : Type3Value → Bool
+has_room v = nat_lt (length v.nt) 65536 && (nat_lt (length v.domain) 65536 && nat_lt (length v.user) 65536)
+
 -- the MIC is over the message with zeros in its place
 abbrev pub answer_code : Credentials → List ℕ → List ℕ → Type2Value → List ℕ
 answer_code c first second_bytes second = mic c.key first second_bytes (type3_spelling (answer_with c second (replicate 16 0)))
@@ -61,3 +65,8 @@ answer_code c first second_bytes second = mic c.key first second_bytes (type3_sp
 -- the type 3 that answers the type 2 of these bytes and this value
 unfoldable pub answer : Credentials → List ℕ → List ℕ → Type2Value → List ℕ
 answer c first second_bytes second = type3_spelling (answer_with c second (answer_code c first second_bytes second))
+
+-- the same where its parts have room, and nothing otherwise
+unfoldable pub answered : Credentials → List ℕ → List ℕ → Type2Value → Option (List ℕ)
+answered c first second_bytes second =
+    if has_room (answer_with c second (replicate 16 0)) then Some (answer c first second_bytes second) else None

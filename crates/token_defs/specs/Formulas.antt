@@ -63,11 +63,13 @@ mic key first second third = hmac_of_md5 key (first ++ (second ++ without_mic th
 
 abbrev pub signing_text : Bool → List ℕ
 signing_text from_client =
-    if from_client then codes "session key to client-to-server signing key magic constant" else codes "session key to server-to-client signing key magic constant"
+    if from_client then codes "session key to client-to-server signing key magic constant"
+    else codes "session key to server-to-client signing key magic constant"
 
 abbrev pub sealing_text : Bool → List ℕ
 sealing_text from_client =
-    if from_client then codes "session key to client-to-server sealing key magic constant" else codes "session key to server-to-client sealing key magic constant"
+    if from_client then codes "session key to client-to-server sealing key magic constant"
+    else codes "session key to server-to-client sealing key magic constant"
 
 -- SIGNKEY and SEALKEY (3.4.5.2, 3.4.5.3)
 abbrev pub sign_key : List ℕ → Bool → List ℕ

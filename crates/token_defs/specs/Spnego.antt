@@ -107,7 +107,10 @@ pub record Hints : Type 0 where
 -- [3] of a SEQUENCE is negHints
 unfoldable pub hints : Piece → Result Hints DerError
 hints p =
-    if comes 0xa3 p then (element 0xa3 p >>= λ e. if comes 0x30 e.contents then Ok (record { there = true; rest = e.rest }) else Ok (record { there = false; rest = p }))
+    if comes 0xa3 p then (element 0xa3 p >>= λ e. if comes 0x30 e.contents then Ok (record {
+      there = true;
+      rest = e.rest;
+    }) else Ok (record { there = false; rest = p }))
     else Ok (record { there = false; rest = p })
 
 -- ---- NegTokenInit
@@ -125,7 +128,16 @@ init_fields p = do
   told ← hints token.rest
   mic ← octets (if told.there then 0xa4 else 0xa3) told.rest
   _ ← ends mic.rest
-  Ok (record { named = types.names.named; value = record { mech_list = types.list; ntlm_first = types.names.first; token = token.bytes; mic = mic.bytes } })
+  Ok (record {
+    named = types.names.named;
+    value = record {
+      mech_list = types.list;
+      ntlm_first = types.names.first;
+      token
+          = token.bytes;
+      mic = mic.bytes;
+    };
+  })
 
 -- [0] of the SEQUENCE, and nothing behind it
 unfoldable pub init_choice : Piece → Result Named DerError

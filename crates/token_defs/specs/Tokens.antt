@@ -9,7 +9,7 @@ use Rattle.token_defs.specs.Spnego.{InitValue, RespValue, init_in, resp_in, init
 use Rattle.token_defs.specs.Messages.{Type2Value, type1_in, type2_in}
 use Rattle.token_defs.specs.Formulas.{mech_list_mic}
 use Rattle.token_defs.specs.Acceptor.{User, LogonValue, challenge, verdict}
-use Rattle.token_defs.specs.Answer.{Credentials, first_message, answer}
+use Rattle.token_defs.specs.Answer.{Credentials, first_message, answered}
 
 -- ---- the server's hint in NEGOTIATE, and the client's first token
 
@@ -63,8 +63,12 @@ challenge_token second = challenge_resp second
 abbrev pub answer_resp : List ℕ → List ℕ → List ℕ
 answer_resp third list_mic = resp_spelling (record { state = None; ntlm = false; token = Some third; mic = Some list_mic })
 
+abbrev pub answer_with_mic : Credentials → Option (List ℕ) → Option (List ℕ)
+answer_with_mic c None = None
+answer_with_mic c (Some third) = Some (answer_resp third (mech_list_mic c.key true true ntlm_list))
+
 abbrev pub answer_to_message : Credentials → List ℕ → Result Type2Value NtlmError → Option (List ℕ)
-answer_to_message c second (Ok v) = Some (answer_resp (answer c first_message second v) (mech_list_mic c.key true true ntlm_list))
+answer_to_message c second (Ok v) = answer_with_mic c (answered c first_message second v)
 answer_to_message c second (Err e) = None
 
 abbrev pub answer_to_token : Credentials → Option (List ℕ) → Option (List ℕ)
@@ -75,7 +79,7 @@ abbrev pub answer_to : Credentials → Result RespValue DerError → Option (Lis
 answer_to c (Ok v) = answer_to_token c v.token
 answer_to c (Err e) = None
 
--- the answer to an interim token; none where that doesn't read, or has no type 2
+-- the answer to an interim token; none where that doesn't read, has no type 2, or one whose answer has no room in its fields
 unfoldable pub answer_token : Credentials → List ℕ → Option (List ℕ)
 answer_token c token = answer_to c (resp_in token)
 
@@ -97,7 +101,8 @@ pub record Pending : Type 0 where
 -- a MIC that isn't there is accepted
 abbrev pub shown_with : List ℕ → LogonValue → Option (List ℕ) → Shown
 shown_with list logon None = LoggedOn logon false
-shown_with list logon (Some code) = if bytes_eq code (mech_list_mic logon.key true logon.exchanged list) then LoggedOn logon true else Refused
+shown_with list logon (Some code) = if bytes_eq code (mech_list_mic logon.key true logon.exchanged list) then LoggedOn
+    logon true else Refused
 
 abbrev pub shown_logon : List ℕ → Option (List ℕ) → Result LogonValue LogonError → Shown
 shown_logon list code (Ok logon) = shown_with list logon code

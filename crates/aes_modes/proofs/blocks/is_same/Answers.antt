@@ -12,4 +12,5 @@ loop-i-preserved c = record {
 }
 
 pub returns : goal.returns
-returns c = compared_whole c.args.a.now c.args.b.now c.loop-i.i c.loop-i.differing c.loop-i-test.false c.requires c.loop-i.invariant.none c.loop-i.invariant.same
+returns c = compared_whole c.args.a.now c.args.b.now c.loop-i.i c.loop-i.differing c.loop-i-test.false c.requires
+    c.loop-i.invariant.none c.loop-i.invariant.same

@@ -1,5 +1,4 @@
-use Rattle.std.proofs.Common.{◌≡◌, ◌+◌, ◌∙◌, ap, arith}
-use Rattle.cipher_defs.specs.Aes.{cipher}
+use Rattle.std.proofs.Common.{◌+◌, ◌∙◌, arith}
 use Rattle.cipher_defs.specs.Ccm.{counter_block}
 use Rattle.aes_modes.proofs.Masking.{masked_none, masked_step, masked_end}
 use Rattle.aes_modes.proofs.ccm.ciphertext_of.Goals as goal
@@ -9,8 +8,10 @@ loop-i-init c = c.in_ok-out.ensures.items ∙ masked_none c.args.aes.now (λ i. 
 
 pub loop-i-preserved : goal.loop-i-preserved
 loop-i-preserved c =
-    let key : c.encrypt_block-key.result ≡ cipher c.args.aes.now (counter_block c.args.nonce.now (c.loop-i.i + 1)) = c.encrypt_block-key.ensures ∙ ap (λ x. cipher c.args.aes.now x) c.counter_block_of.ensures in
-    c.in_ok-push_masked_block.ensures ∙ masked_step c.args.aes.now (λ i. counter_block c.args.nonce.now (i + 1)) c.args.text.now c.loop-i.out.items c.encrypt_block-key.result c.loop-i.i (omega arith) c.loop-i.invariant key
+    c.in_ok-push_masked_block.ensures ∙ masked_step c.args.aes.now (λ i. counter_block c.args.nonce.now (i + 1))
+    c.args.text.now c.loop-i.out.items c.stream_block.result c.loop-i.i (omega arith) c.loop-i.invariant
+    c.stream_block.ensures
 
 pub returns : goal.returns
-returns c = masked_end c.args.aes.now (λ i. counter_block c.args.nonce.now (i + 1)) c.args.text.now c.loop-i.out.items c.loop-i.i (omega arith) c.loop-i.invariant
+returns c = masked_end c.args.aes.now (λ i. counter_block c.args.nonce.now (i + 1)) c.args.text.now c.loop-i.out.items
+    c.loop-i.i (omega arith) c.loop-i.invariant

@@ -2,4 +2,11 @@ use Rattle.std.proofs.Common.{refl}
 use Rattle.aes_modes.proofs.gcm.tag_of_sealed.Goals as goal
 
 pub returns : goal.returns
-returns c = rw (c.block_sum_of.ensures, c.to_be_bytes.ensures, c.ghash_of-hash.ensures, c.table_of.ensures, c.encrypt_block-mask.ensures, c.counter_block_of.ensures) refl
+returns c = rw (
+  c.block_sum_of.ensures,
+  c.to_be_bytes.ensures,
+  c.ghash_of-hash.ensures,
+  c.table_of.ensures,
+  c.encrypt_block-mask.ensures,
+  c.counter_block_of.ensures,
+) refl

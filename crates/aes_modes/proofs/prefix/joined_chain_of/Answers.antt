@@ -6,4 +6,9 @@ pub loop-i-init : goal.loop-i-init
 loop-i-init c = chained_none c.args.aes.now c.args.start.now (c.args.front.now ++ c.args.back.now)
 
 pub loop-i-preserved : goal.loop-i-preserved
-loop-i-preserved c = rw (c.encrypt_block-s.ensures, c.block_sum_of.ensures, c.joined_block_of.ensures, c.loop-i.invariant) (chained_more c.args.aes.now c.args.start.now (c.args.front.now ++ c.args.back.now) c.loop-i.i)
+loop-i-preserved c = rw (
+  c.encrypt_block-s.ensures,
+  c.block_sum_of.ensures,
+  c.joined_block_of.ensures,
+  c.loop-i.invariant,
+) (chained_more c.args.aes.now c.args.start.now (c.args.front.now ++ c.args.back.now) c.loop-i.i)

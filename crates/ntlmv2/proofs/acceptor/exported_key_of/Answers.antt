@@ -7,5 +7,6 @@ pub returns-then-has_key_exchange : goal.returns-then-has_key_exchange
 returns-then-has_key_exchange c =
     let e : exchanges c.args.m.now.flags ≡ true = sym c.has_key_exchange.ensures ∙ c.if-has_key_exchange.true in
     let long = c.requires.sent e in
-    let whole : take 16 c.args.m.now.session_key.now ≡ c.args.m.now.session_key.now = take_all 16 c.args.m.now.session_key.now (omega arith) in
+    let whole : take 16 c.args.m.now.session_key.now ≡ c.args.m.now.session_key.now = take_all 16
+    c.args.m.now.session_key.now (omega arith) in
     rw e (cc)

@@ -13,7 +13,8 @@ pub returns-then-bytes-ne0 : goal.returns-then-bytes-ne0
 returns-then-bytes-ne0 c = sym (odd_is_not c.args.bytes.now c.if-bytes-ne0.true)
 
 pub returns-then-not-is_ascii_at : goal.returns-then-not-is_ascii_at
-returns-then-not-is_ascii_at c = sym (byte_is_not c.args.bytes.now c.bytes.k (omega arith) (sym c.is_ascii_at.ensures ∙ c.if-not-is_ascii_at.true))
+returns-then-not-is_ascii_at c = sym (byte_is_not c.args.bytes.now c.bytes.k (omega arith) (sym c.is_ascii_at.ensures ∙
+    c.if-not-is_ascii_at.true))
 
 pub returns : goal.returns
 returns c =

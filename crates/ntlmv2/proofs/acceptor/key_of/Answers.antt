@@ -15,8 +15,10 @@ unfolding proves
 returns-then-not-is_shown c =
     let formed : has_form (type3_view c.args.m.now) ≡ true = sym c.is_formed.ensures ∙ c.if-not-is_formed.false in
     let k : c.in_ok-key.key ≡ ntowf_in c.args.user.now.1 c.args.user.now.0 c.args.m.now.domain.now = cc c.in_ok-key.ensures in
-    let s : bytes_eq (take 16 c.args.m.now.nt.now) (proof c.in_ok-key.key c.args.server.now (drop 16 c.args.m.now.nt.now)) ≡ false = sym c.is_shown.ensures ∙ c.if-not-is_shown.true in
-    rw formed (subst (λ (x : List ℕ). bytes_eq (take 16 c.args.m.now.nt.now) (proof x c.args.server.now (drop 16 c.args.m.now.nt.now)) ≡ false) k s)
+    let s : bytes_eq (take 16 c.args.m.now.nt.now) (proof c.in_ok-key.key c.args.server.now (drop 16
+    c.args.m.now.nt.now)) ≡ false = sym c.is_shown.ensures ∙ c.if-not-is_shown.true in
+    rw formed (subst (λ (x : List ℕ). bytes_eq (take 16 c.args.m.now.nt.now) (proof x c.args.server.now (drop 16
+    c.args.m.now.nt.now)) ≡ false) k s)
 
 pub exported_key_of-requires : goal.exported_key_of-requires
 exported_key_of-requires c =
@@ -31,8 +33,10 @@ unfolding proves exported_key
 returns c =
     let formed : has_form (type3_view c.args.m.now) ≡ true = sym c.is_formed.ensures ∙ c.if-not-is_formed.false in
     let k : c.in_ok-key.key ≡ ntowf_in c.args.user.now.1 c.args.user.now.0 c.args.m.now.domain.now = cc c.in_ok-key.ensures in
-    let s : bytes_eq (take 16 c.args.m.now.nt.now) (proof c.in_ok-key.key c.args.server.now (drop 16 c.args.m.now.nt.now)) ≡ true = sym c.is_shown.ensures ∙ c.if-not-is_shown.false in (
-      rw formed (subst (λ (x : List ℕ). bytes_eq (take 16 c.args.m.now.nt.now) (proof x c.args.server.now (drop 16 c.args.m.now.nt.now)) ≡ true) k s),
+    let s : bytes_eq (take 16 c.args.m.now.nt.now) (proof c.in_ok-key.key c.args.server.now (drop 16
+    c.args.m.now.nt.now)) ≡ true = sym c.is_shown.ensures ∙ c.if-not-is_shown.false in (
+      rw formed (subst (λ (x : List ℕ). bytes_eq (take 16 c.args.m.now.nt.now) (proof x c.args.server.now (drop 16
+          c.args.m.now.nt.now)) ≡ true) k s),
       c.exported_key_of.ensures ∙ ap (λ (x : List ℕ). exported_by x (type3_view c.args.m.now)) k,
     )
 

@@ -9,11 +9,13 @@ pairs-init c = (checked_at_start c.args.at c.args.bytes.now, refl)
 
 pub returns-in-Broken : goal.returns-in-Broken
 unfolding info_fault
-returns-in-Broken c = ap pairs_fault (checked_break c.args.at c.args.bytes.now c.pairs.place c.pairs.rest.now c.pairs.invariant.0 c.in-Broken.ensures)
+returns-in-Broken c = ap pairs_fault (checked_break c.args.at c.args.bytes.now c.pairs.place c.pairs.rest.now
+    c.pairs.invariant.0 c.in-Broken.ensures)
 
 pub returns-in-End : goal.returns-in-End
 unfolding info_fault
-returns-in-End c = ap pairs_fault (checked_end c.args.at c.args.bytes.now c.pairs.place c.pairs.rest.now c.pairs.invariant.0 c.in-End.ensures)
+returns-in-End c = ap pairs_fault (checked_end c.args.at c.args.bytes.now c.pairs.place c.pairs.rest.now
+    c.pairs.invariant.0 c.in-End.ensures)
 
 pub pairs-preserved : goal.pairs-preserved
 pairs-preserved c =

@@ -24,9 +24,11 @@ pairs-smaller c =
 pub returns-then-pair-id : goal.returns-then-pair-id
 returns-then-pair-id c =
     let p = c.in-One.ensures in
-    ap Some p.value ∙ sym (searched_found c.args.id c.args.bytes.now c.pairs.rest.now c.pairs.invariant p.stands (sym p.id ∙ c.if-pair-id.true))
+    ap Some p.value ∙ sym (searched_found c.args.id c.args.bytes.now c.pairs.rest.now c.pairs.invariant p.stands (sym
+    p.id ∙ c.if-pair-id.true))
 
 pub pairs-preserved : goal.pairs-preserved
 pairs-preserved c =
     let p = c.in-One.ensures in
-    rw p.rest (searched_on c.args.id c.args.bytes.now c.pairs.rest.now c.pairs.invariant p.stands (subst (λ (n : ℕ). ¬ (n ≡ c.args.id)) p.id c.if-pair-id.false))
+    rw p.rest (searched_on c.args.id c.args.bytes.now c.pairs.rest.now c.pairs.invariant p.stands (subst (λ (n : ℕ). ¬
+    (n ≡ c.args.id)) p.id c.if-pair-id.false))

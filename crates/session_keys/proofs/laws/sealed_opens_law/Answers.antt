@@ -3,4 +3,5 @@ use Rattle.session_keys.proofs.Opening.{opens}
 use Rattle.session_keys.proofs.laws.sealed_opens_law.Goals as goal
 
 pub returns : goal.returns
-returns c = λ keys from_client nonce text whole small id. opens keys.cipher (key_for keys from_client) keys.session nonce text whole small id
+returns c = λ keys from_client nonce text whole small id. opens keys.cipher (key_for keys from_client) keys.session
+    nonce text whole small id

@@ -1,21 +1,27 @@
-use Rattle.std.proofs.Common.{◌≡◌, ◌∙◌, List, ℕ, ◌++◌, length}
-use Rattle.session_defs.specs.Sealing.{protocol, added_of, key_for, ciphertext, tag_of, sealed_by}
-use Rattle.session_keys.proofs.Frames.{frame_of_parts, ciphertext_length}
+use Rattle.std.proofs.Common.{◌≡◌, ◌∙◌, List, ℕ, ◌++◌, length, replicate, refl, sym, rules}
+use Rattle.session_defs.specs.Sealing.{protocol, tag_of, ciphertext, sealed_by}
+use Rattle.session_keys.proofs.InPlace.{sealed_frame, written}
 use Rattle.session_keys.proofs.sealing.seal.Goals as goal
 
 pub returns : goal.returns
 unfolding sealed_by
 returns c =
     let keys = c.args.keys.now in
-    let nonce = c.args.nonce.now in
-    let text = c.args.message.now in
-    let key : List ℕ = key_for keys c.args.from_client in
-    let added : List ℕ = added_of nonce (length text) keys.session in
-    let hidden : List ℕ = ciphertext keys.cipher key nonce text in
-    let tag : List ℕ = tag_of keys.cipher key nonce added text hidden in
-    let due : c.as_slice-ciphered.result.now ≡ hidden ++ tag =
-    c.as_slice-ciphered.ensures
-    ∙ (c.in_ok-ciphered.ensures.same
-    ∙ (λ t. ciphertext keys.cipher (c.key_of-key.ensures t) nonce text ++ tag_of keys.cipher (c.key_of-key.ensures t) nonce (c.added-added.ensures t) text (ciphertext keys.cipher (c.key_of-key.ensures t) nonce text))) in
-    rw (c.in_ok-extend-4.ensures.ok, c.in_ok-extend-3.ensures.ok, c.in_ok-extend-2.ensures.ok, c.in_ok-extend.ensures.ok, c.new-frame.ensures, c.added-added.ensures)
-    (frame_of_parts protocol hidden tag added c.as_slice-ciphered.result.now (length text) due (ciphertext_length keys.cipher key nonce text))
+    let text : List ℕ = c.args.message.now in
+    let nonce : List ℕ = c.args.nonce.now in
+    let long = c.as_mut_slice.ensures.len in
+    let old : c.as_mut_slice.result.now ≡ ((protocol ++ replicate 16 0) ++ c.added-added.result) ++ text =
+    c.as_mut_slice.ensures.value ∙ rw (
+      c.in_ok-extend_from_slice-4.ensures.items,
+      c.in_ok-extend_from_slice-3.ensures.items,
+      c.in_ok-extend_from_slice-2.ensures.items,
+      c.in_ok-extend_from_slice.ensures.items,
+      c.in_ok-frame.ensures.items,
+    ) refl in
+    let added_long : length c.added-added.result ≡ 32 = search rules in
+    let made = sealed_frame keys.cipher c.key_of-key.result.now nonce c.added-added.result text protocol (replicate 16
+    0) _ _ refl refl added_long old c.seal_frame.ensures in
+    c.from_vec.ensures ∙ (written c.seal_frame.new.frame _ _ (sym (c.seal_frame.auto.frame ∙ long)) ∙ (made ∙ (λ t.
+    protocol ++ (tag_of keys.cipher (c.key_of-key.ensures t) nonce (c.added-added.ensures t) text (ciphertext
+    keys.cipher (c.key_of-key.ensures t) nonce text) ++ (c.added-added.ensures t ++ ciphertext keys.cipher
+    (c.key_of-key.ensures t) nonce text)))))

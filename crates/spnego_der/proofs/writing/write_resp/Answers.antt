@@ -13,7 +13,8 @@ element-requires c = rw (c.as_slice.ensures, c.in_ok-fields.ensures) (resp_parts
 
 pub element-requires-2 : goal.element-requires-2
 element-requires-2 c =
-    rw (c.as_slice-2.ensures, c.in_ok-sequence.ensures, c.as_slice.ensures, c.in_ok-fields.ensures) (resp_parts (resp_view c.args.token.now) c.requires.short).1
+    rw (c.as_slice-2.ensures, c.in_ok-sequence.ensures, c.as_slice.ensures, c.in_ok-fields.ensures) (resp_parts
+    (resp_view c.args.token.now) c.requires.short).1
 
 pub returns : goal.returns
 unfolding resp_spelling

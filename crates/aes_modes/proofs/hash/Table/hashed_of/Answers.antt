@@ -5,4 +5,5 @@ pub loop-i-init : goal.loop-i-init
 loop-i-init c = hashed_none c.args.self.now.h c.args.y c.args.m.now
 
 pub loop-i-preserved : goal.loop-i-preserved
-loop-i-preserved c = rw (c.product_of-z.ensures, c.from_be_bytes.ensures, c.block_of.ensures, c.loop-i.invariant) (hashed_more c.args.self.now.h c.args.y c.args.m.now c.loop-i.i)
+loop-i-preserved c = rw (c.product_of-z.ensures, c.from_be_bytes.ensures, c.block_of.ensures, c.loop-i.invariant)
+    (hashed_more c.args.self.now.h c.args.y c.args.m.now c.loop-i.i)

@@ -1,0 +1,8 @@
+use Rattle.std.proofs.Common.{rules, arith}
+use Rattle.spnego_der.specs.Views.{init_view}
+use Rattle.spnego_der.proofs.Writable.{init_writable}
+use Rattle.spnego_der.proofs.fitting.can_write_init.Goals as goal
+
+pub returns : goal.returns
+returns c =
+    λ h. init_writable (init_view c.args.token.now) (search rules) (c.names_ntlm_alone.ensures h) (omega arith) (omega arith)
