@@ -83,7 +83,7 @@ pub record AreDialogsLawful (z : WorldSettings) : Type 0 where
       × (client_told (greeting_text z.client salt m) ≡ number_of z.client.guid)
   pub greeted : (salt answer_salt : List ℕ) (m : Message) (now : ℕ) (h : Header) (r : List ℕ) →
       length salt ≡ 32 → length answer_salt ≡ 32 → IsSent m 1 → now < 256 ^ 8
-          → IsMessage h (negotiate_response_body z.server.guid answer_salt now (greeting_text z.client salt m)) r →
+      → IsMessage h (negotiate_response_body z.server.guid answer_salt now (greeting_text z.client salt m)) r →
       (has_contexts r ≡ true) × (choice_fault z.client r ≡ None) × (is_hint (negotiate_response_in r).security ≡ true)
       × ((chosen_told r).cipher ≡ (chosen_of z.client).cipher) × ((chosen_told r).signing ≡ (chosen_of z.client).signing)
   -- SESSION_SETUP, both ways
