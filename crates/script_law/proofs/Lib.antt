@@ -1,0 +1,5 @@
+pub mod Paired
+pub mod Quiet
+pub mod Loops
+pub mod Settling
+pub mod Scripts

@@ -1,0 +1,79 @@
+-- Scripts whose own lines lose nothing: what their course cuts, and what becomes of each operation.
+use Rattle.std.specs.Prelude.{◌≡◌, ℕ, ◌≤◌, ◌<◌, Bool, true, false, ◌&&◌, ◌||◌, List, [], ◌∷◌, ◌++◌}
+use Rattle.exchange_defs.specs.Operations.{NoSlot, NoOpen, is_firm}
+use Rattle.exchange_defs.specs.Client.{Client}
+use Rattle.exchange_defs.specs.ClientStep.{last_number, some_unsettled}
+use Rattle.exchange_defs.specs.Schedules.{Line, Does, Settles}
+use Rattle.exchange_defs.specs.Network.{World, Event, Cut, Drop, Restart, Crash, Finish, Settings, happens, run, start}
+use Rattle.completeness_law.specs.Completeness.{course_of, without_losses}
+use Rattle.outcomes_law.specs.Outcomes.{Answered, LacksSlot, LacksOpen}
+
+-- ---- scripts
+
+-- no cut, drop, restart or crash
+abbrev pub is_quiet : Event → Bool
+is_quiet (Cut k) = false
+is_quiet (Drop k) = false
+is_quiet Restart = false
+is_quiet (Crash k kept) = false
+is_quiet _ = true
+
+-- a push, a link and a settling are the program's own, whatever events they come to
+abbrev pub is_quiet_line : Line → Bool
+is_quiet_line (Does e) = is_quiet e
+is_quiet_line _ = true
+
+-- none of its lines is a cut, drop, restart or crash
+unfoldable pub is_quiet_script : List Line → Bool
+is_quiet_script [] = true
+is_quiet_script (l ∷ ls) = is_quiet_line l && is_quiet_script ls
+
+-- ---- what its course cuts, and what it gives up
+
+-- The program cuts a ready channel, in settling too, only where every operation is settled.
+abbrev pub CutsSettled : Type 0
+CutsSettled =
+    (z : Settings) (ls : List Line) → is_quiet_script ls ≡ true → (before after : List Event) (k : ℕ)
+    → (course_of z ls).events ≡ before ++ Cut k ∷ after → (run before (start z)).client.ready k ≡ true
+    → some_unsettled (run before (start z)).client (run before (start z)).client.taken ≡ false
+
+-- all is given up while an operation is unsettled
+abbrev pub gives_up : World → Event → Bool
+gives_up w (Finish refusal) = some_unsettled w.client w.client.taken
+gives_up w _ = false
+
+-- some event of the list does, in the world that it comes to
+unfoldable pub has_given_up : List Event → World → Bool
+has_given_up [] w = false
+has_given_up (e ∷ es) w = gives_up w e || has_given_up es (happens w e)
+
+-- Where nothing is given up for a refused logon, the client loses nothing of an operation.
+abbrev pub LosesNothing : Type 0
+LosesNothing =
+    (z : Settings) (ls : List Line) → is_quiet_script ls ≡ true → has_given_up (course_of z ls).events (start z) ≡ false
+    → without_losses (course_of z ls).events (start z) ≡ true
+
+-- ---- what becomes of each operation
+
+-- An operation is Ok or Refused with the reply of the server's step to a message of its own; or it had no slot, or no open,
+-- by the event that is its cause.
+pub data Ends (z : Settings) (events : List Event) (c : Client) (g : ℕ) : Type 0 where
+  ByReply : is_firm (c.outcome g) ≡ true → Answered z events g (c.op g) (c.settled_by g) (c.outcome g) → Ends z events c g
+  WithoutSlot : (create : ℕ) → c.outcome g ≡ NoSlot create → LacksSlot z events g create → Ends z events c g
+  WithoutOpen : (create : ℕ) → c.outcome g ≡ NoOpen create → LacksOpen z events g create → Ends z events c g
+
+-- Each operation that was taken ends so, where the script ends in settling, nothing was given up, and the client has counted
+-- fewer sessions than it can.
+abbrev pub ScriptEnds : Type 0
+ScriptEnds =
+    (z : Settings) (ls : List Line) → is_quiet_script ls ≡ true
+    → has_given_up (course_of z (ls ++ Settles ∷ [])).events (start z) ≡ false
+    → (course_of z (ls ++ Settles ∷ [])).world.client.session_number < last_number
+    → (g : ℕ) → 0 < g → g ≤ (course_of z (ls ++ Settles ∷ [])).world.client.taken
+    → Ends z (course_of z (ls ++ Settles ∷ [])).events (course_of z (ls ++ Settles ∷ [])).world.client g
+
+-- the events of its course lead to the world of its course
+abbrev pub CourseRuns : Type 0
+CourseRuns =
+    (z : Settings) (ls : List Line) → is_quiet_script ls ≡ true
+    → run (course_of z ls).events (start z) ≡ (course_of z ls).world
