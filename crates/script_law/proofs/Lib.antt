@@ -1,5 +1,6 @@
 pub mod Paired
 pub mod Quiet
 pub mod Loops
+pub mod Due
 pub mod Settling
 pub mod Scripts

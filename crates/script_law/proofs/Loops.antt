@@ -7,16 +7,23 @@ use Rattle.exchange_defs.specs.Schedules.{last_refusal, linked, least, is_apart,
 use Rattle.exchange_defs.specs.Network.{Event, Open, Serve, Take, Finish, may_serve, may_take_reply}
 use Rattle.completeness_law.proofs.Equations.{by_test, serve_on, serve_off, take_on, take_off, drain_on, drain_off}
 use Rattle.completeness_law.proofs.Equations.{linking_on, linking_off, finished_on, finished_off, linked_on, linked_off}
-use Rattle.script_law.specs.Scripts.{is_quiet}
+use Rattle.script_law.specs.Scripts.{is_quiet, is_finish}
 
-abbrev pub CarriedOn : (Course → Type 0) → Type 0
-CarriedOn P = (c : Course) (e : Event) → is_quiet e ≡ true → P c → P (went c e)
+-- neither a cut, drop, restart or crash, nor a Finish
+abbrev pub is_plain : Event → Bool
+is_plain e = is_quiet e && not (is_finish e)
+
+pub record CarriedOn (P : Course → Type 0) : Type 0 where
+  pub event : (c : Course) (e : Event) → is_plain e ≡ true → P c → P (went c e)
+  -- a Finish behind a refused dialog
+  pub finish : (c : Course) (refusal : Refusal) → last_refusal c.world.client.refusals ≡ Some refusal → P c
+      → P (went c (Finish refusal))
 
 serves : (P : Course → Type 0) → CarriedOn P → (n : ℕ) (c : Course) (k : ℕ) → P c → P (serve_all n c k)
 unfolding serve_all
 serves P on zero c k h = h
 serves P on (suc n) c k h =
-    let again = serves P on n (went c (Serve k)) k (on c (Serve k) refl h) in
+    let again = serves P on n (went c (Serve k)) k (on.event c (Serve k) refl h) in
     by_test P (may_serve c.world k) (serve_all (suc n) c k) (serve_all n (went c (Serve k)) k) c (serve_on n c k)
     (serve_off n c k) (λ _. again) (λ _. h)
 
@@ -24,7 +31,7 @@ takes : (P : Course → Type 0) → CarriedOn P → (n : ℕ) (c : Course) (k : 
 unfolding take_all
 takes P on zero c k h = h
 takes P on (suc n) c k h =
-    let again = takes P on n (went c (Take k)) k (on c (Take k) refl h) in
+    let again = takes P on n (went c (Take k)) k (on.event c (Take k) refl h) in
     by_test P (may_take_reply c.world k) (take_all (suc n) c k) (take_all n (went c (Take k)) k) c (take_on n c k)
     (take_off n c k) (λ _. again) (λ _. h)
 
@@ -45,23 +52,24 @@ unfolding linking
 links_on P on zero c k h = h
 links_on P on (suc n) c k h =
     let u = went c (Serve k) in let v = went u (Take k) in
-    let again = links_on P on n v k (on u (Take k) refl (on c (Serve k) refl h)) in
+    let again = links_on P on n v k (on.event u (Take k) refl (on.event c (Serve k) refl h)) in
     by_test P (is_linking c.world k) (linking (suc n) c k) (linking n v k) c (linking_on n c k) (linking_off n c k) (λ _. again) (λ _. h)
 
 pub links : (P : Course → Type 0) → CarriedOn P → (c : Course) (k : ℕ) → P c → P (link c k)
 unfolding link
-links P on c k h = links_on P on 8 (went c (Open k)) k (on c (Open k) refl h)
+links P on c k h = links_on P on 8 (went c (Open k)) k (on.event c (Open k) refl h)
 
-finishes_by : (P : Course → Type 0) → CarriedOn P → (o : Option Refusal) (c : Course) → P c → P (finished_by o c)
+finishes_by : (P : Course → Type 0) → CarriedOn P → (o : Option Refusal) (c : Course)
+    → last_refusal c.world.client.refusals ≡ o → P c → P (finished_by o c)
 unfolding finished_by
-finishes_by P on None c h = h
-finishes_by P on (Some refusal) c h = on c (Finish refusal) refl h
+finishes_by P on None c is h = h
+finishes_by P on (Some refusal) c is h = on.finish c refusal is h
 
 pub finishes : (P : Course → Type 0) → CarriedOn P → (n : Bool) (c d : Course) → P d → P (finished_after n c d)
 finishes P on n c d h =
     by_test P (n && not (length c.world.client.refusals == length d.world.client.refusals)) (finished_after n c d)
-    (finished_by (last_refusal d.world.client.refusals) d) d
-    (finished_on n c d) (finished_off n c d) (λ _. finishes_by P on (last_refusal d.world.client.refusals) d h) (λ _. h)
+    (finished_by (last_refusal d.world.client.refusals) d) d (finished_on n c d) (finished_off n c d)
+    (λ _. finishes_by P on (last_refusal d.world.client.refusals) d refl h) (λ _. h)
 
 pub begins : (P : Course → Type 0) → CarriedOn P → (n : ℕ) (c : Course) → P c → P (linked n c)
 begins P on n c h =
@@ -71,7 +79,7 @@ begins P on n c h =
 
 pub pushes : (P : Course → Type 0) → CarriedOn P → (c : Course) (k : ℕ) → P c → P (went_push c k)
 unfolding went_push
-pushes P on c k h = on c (push_lowest c.world k) refl h
+pushes P on c k h = on.event c (push_lowest c.world k) refl h
 
 -- each of the channels in turn
 pub each_on : (P : Course → Type 0) (act : Course → ℕ → Course) → ((c : Course) (k : ℕ) → P c → P (act c k))

@@ -10,7 +10,7 @@ use Rattle.completeness_law.proofs.Runs.{settle_settles}
 use Rattle.outcomes_law.specs.Outcomes.{Answered, LacksSlot, LacksOpen, is_known}
 use Rattle.outcomes_law.proofs.Answers.{all_answered}
 use Rattle.outcomes_law.proofs.Causes.{causes_told}
-use Rattle.script_law.specs.Scripts.{is_quiet_line, is_quiet_script, CutsSettled, LosesNothing, CourseRuns, ScriptEnds}
+use Rattle.script_law.specs.Scripts.{is_quiet_line, is_quiet_script, CutsSettled, LosesNothing, AllEnd}
 use Rattle.script_law.specs.Scripts.{Ends, ByReply, WithoutSlot, WithoutOpen}
 use Rattle.script_law.proofs.Quiet.{Quietly, quiet_event, without_cuts, cut_in, ready_cut, nothing_lost}
 use Rattle.script_law.proofs.Loops.{links, pushes}
@@ -36,9 +36,6 @@ quietly : (z : Settings) (ls : List Line) → is_quiet_script ls ≡ true → Qu
 quietly z ls q = courses z ls (begun z) q (first z)
 
 -- ---- what is cut
-
-pub course_runs : CourseRuns
-course_runs z ls q = (quietly z ls q).is
 
 pub cuts_settled : CutsSettled
 cuts_settled z ls q before after k is on =
@@ -70,7 +67,7 @@ ends_by z events c g (NoSlot create) is settled known firm slot gone = WithoutSl
 ends_by z events c g (NoOpen create) is settled known firm slot gone = WithoutOpen create is (gone create is)
 ends_by z events c g (Unknown why) is settled known firm slot gone = absurd (cc)
 
-pub script_ends : ScriptEnds
+pub script_ends : AllEnd
 script_ends z ls q kept few g low high =
     let script = ls ++ Settles ∷ [] in let c = course_of z script in let h = quietly z script (settles_last ls q) in
     subst (λ (w : World). Ends z c.events w.client g) h.is

@@ -23,12 +23,18 @@ use Rattle.completeness_law.proofs.NewSession.{seeks}
 use Rattle.completeness_law.proofs.Rounds.{SettledTo, LeastTo, seek, all_settled, one_round_on}
 use Rattle.completeness_law.proofs.Settling.{first_steps, all_clean}
 use Rattle.completeness_law.proofs.Runs.{OfRun, always, present}
+use Rattle.exchange_defs.specs.Network.{Finish}
+use Rattle.script_law.specs.Scripts.{is_quiet}
 use Rattle.script_law.proofs.Paired.{absent}
 use Rattle.script_law.proofs.Quiet.{Quietly, of_run, facts_of, goes_on, quiet_event, unready_cut, settled_cut}
 use Rattle.script_law.proofs.Loops.{CarriedOn, drains, finishes, begins, pushes, each_on}
 
 pub carried_on : (z : Settings) → CarriedOn (Quietly z)
-carried_on z c e q h = quiet_event z c e q h
+carried_on z =
+    record {
+      event = λ c e plain h. quiet_event z c e (front_of (is_quiet e) _ plain) h;
+      finish = λ c refusal is h. quiet_event z c (Finish refusal) refl h;
+    }
 
 -- ---- cuts and drops of single channels
 

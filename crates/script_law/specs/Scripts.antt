@@ -1,9 +1,9 @@
--- Scripts whose own lines lose nothing: what their course cuts, and what becomes of each operation.
-use Rattle.std.specs.Prelude.{◌≡◌, ℕ, ◌≤◌, ◌<◌, Bool, true, false, ◌&&◌, ◌||◌, List, [], ◌∷◌, ◌++◌}
-use Rattle.exchange_defs.specs.Operations.{NoSlot, NoOpen, is_firm}
+-- Courses of scripts, most of them of scripts whose own lines lose nothing: what is cut, and what becomes of each operation.
+use Rattle.std.specs.Prelude.{◌≡◌, ℕ, ◌≤◌, ◌<◌, Bool, true, false, ◌&&◌, ◌||◌, List, [], ◌∷◌, ◌++◌, Some}
+use Rattle.exchange_defs.specs.Operations.{Refusal, NoSlot, NoOpen, is_firm}
 use Rattle.exchange_defs.specs.Client.{Client}
 use Rattle.exchange_defs.specs.ClientStep.{last_number, some_unsettled}
-use Rattle.exchange_defs.specs.Schedules.{Line, Does, Settles}
+use Rattle.exchange_defs.specs.Schedules.{Line, Does, Settles, last_refusal}
 use Rattle.exchange_defs.specs.Network.{World, Event, Cut, Drop, Restart, Crash, Finish, Settings, happens, run, start}
 use Rattle.completeness_law.specs.Completeness.{course_of, without_losses}
 use Rattle.outcomes_law.specs.Outcomes.{Answered, LacksSlot, LacksOpen}
@@ -28,7 +28,34 @@ unfoldable pub is_quiet_script : List Line → Bool
 is_quiet_script [] = true
 is_quiet_script (l ∷ ls) = is_quiet_line l && is_quiet_script ls
 
--- ---- what its course cuts, and what it gives up
+-- the client gives up for want of a session
+abbrev pub is_finish : Event → Bool
+is_finish (Finish refusal) = true
+is_finish _ = false
+
+abbrev pub is_finish_line : Line → Bool
+is_finish_line (Does e) = is_finish e
+is_finish_line _ = false
+
+-- some line of it is a Finish
+unfoldable pub finishes_itself : List Line → Bool
+finishes_itself [] = false
+finishes_itself (l ∷ ls) = is_finish_line l || finishes_itself ls
+
+-- ---- the course of any script
+
+-- Its events lead to its world.
+abbrev pub CourseRuns : Type 0
+CourseRuns = (z : Settings) (ls : List Line) → run (course_of z ls).events (start z) ≡ (course_of z ls).world
+
+-- The program gives up only behind a refused dialog: a Finish that is no line of the script has the last one's refusal.
+abbrev pub FinishesRefused : Type 0
+FinishesRefused =
+    (z : Settings) (ls : List Line) → finishes_itself ls ≡ false → (before after : List Event) (refusal : Refusal)
+    → (course_of z ls).events ≡ before ++ Finish refusal ∷ after
+    → last_refusal (run before (start z)).client.refusals ≡ Some refusal
+
+-- ---- what the course of a quiet script cuts, and what it gives up
 
 -- The program cuts a ready channel, in settling too, only where every operation is settled.
 abbrev pub CutsSettled : Type 0
@@ -47,7 +74,7 @@ unfoldable pub has_given_up : List Event → World → Bool
 has_given_up [] w = false
 has_given_up (e ∷ es) w = gives_up w e || has_given_up es (happens w e)
 
--- Where nothing is given up for a refused logon, the client loses nothing of an operation.
+-- Where nothing is given up for want of a session, the client loses nothing of an operation.
 abbrev pub LosesNothing : Type 0
 LosesNothing =
     (z : Settings) (ls : List Line) → is_quiet_script ls ≡ true → has_given_up (course_of z ls).events (start z) ≡ false
@@ -64,16 +91,10 @@ pub data Ends (z : Settings) (events : List Event) (c : Client) (g : ℕ) : Type
 
 -- Each operation that was taken ends so, where the script ends in settling, nothing was given up, and the client has counted
 -- fewer sessions than it can.
-abbrev pub ScriptEnds : Type 0
-ScriptEnds =
+abbrev pub AllEnd : Type 0
+AllEnd =
     (z : Settings) (ls : List Line) → is_quiet_script ls ≡ true
     → has_given_up (course_of z (ls ++ Settles ∷ [])).events (start z) ≡ false
     → (course_of z (ls ++ Settles ∷ [])).world.client.session_number < last_number
     → (g : ℕ) → 0 < g → g ≤ (course_of z (ls ++ Settles ∷ [])).world.client.taken
     → Ends z (course_of z (ls ++ Settles ∷ [])).events (course_of z (ls ++ Settles ∷ [])).world.client g
-
--- the events of its course lead to the world of its course
-abbrev pub CourseRuns : Type 0
-CourseRuns =
-    (z : Settings) (ls : List Line) → is_quiet_script ls ≡ true
-    → run (course_of z ls).events (start z) ≡ (course_of z ls).world

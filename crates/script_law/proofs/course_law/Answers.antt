@@ -1,0 +1,5 @@
+use Rattle.script_law.proofs.Due.{course_runs, finishes_refused}
+use Rattle.script_law.proofs.course_law.Goals as goal
+
+pub returns : goal.returns
+returns c = record { runs = course_runs; finishes = finishes_refused }
