@@ -1,4 +1,4 @@
--- Without a drop of a channel that the client holds, a restart or a crash, the server's end is open wherever the client's is.
+-- Without a drop of a connection that the client holds, a restart or a crash, the server's end is open wherever the client's is.
 use Rattle.std.proofs.lemmas.Bool.Decides.{nat_tests}
 use Rattle.std.proofs.Common.{◌≡◌, ℕ, ◌<◌, ◌==◌, nat_lt, Bool, true, false, not, refl, arith, sym, subst, ◌∙◌, ap}
 use Rattle.exchange_defs.specs.Table.{put}
@@ -6,7 +6,7 @@ use Rattle.exchange_defs.specs.Status.{success}
 use Rattle.exchange_defs.specs.State.{Accept}
 use Rattle.exchange_defs.specs.Step.{step}
 use Rattle.exchange_defs.specs.Client.{Client}
-use Rattle.exchange_defs.specs.ClientStep.{Act, Nothing, CloseChannel, CloseChannels, Sends, Asks, AllSettled}
+use Rattle.exchange_defs.specs.ClientStep.{some_unsettled, Act, Nothing, CloseChannel, CloseChannels, Sends, Asks, AllSettled}
 use Rattle.exchange_defs.specs.Network.{World, Event, Submit, Open, Push, Serve, Take, Cut, Drop, Restart, Crash, Wait}
 use Rattle.exchange_defs.specs.Network.{Finish, Conn, happens, changed, later, may_open, may_serve, may_take_reply, fresh}
 use Rattle.exchange_defs.specs.Network.{pushed_by, server_off}
@@ -26,12 +26,14 @@ Held d = d.client_open ≡ true → d.server_open ≡ true
 abbrev pub Paired : (ℕ → Conn) → Type 0
 Paired f = (k : ℕ) → Held (f k)
 
--- a drop of what the client let go
-abbrev pub is_safe : World → Event → Bool
-is_safe w (Drop k) = not (w.conns k).client_open
-is_safe w Restart = false
-is_safe w (Crash k kept) = false
-is_safe w _ = true
+-- what the course of a quiet script has: a cut where all is settled, a drop of what the client let go, and no restart or
+-- crash
+abbrev pub keeps : World → Event → Bool
+keeps w (Cut k) = not (some_unsettled w.client w.client.taken)
+keeps w (Drop k) = not (w.conns k).client_open
+keeps w Restart = false
+keeps w (Crash k kept) = false
+keeps w _ = true
 
 pub absent : (b : Bool) (P : Type 0) → b ≡ true → b ≡ false → P
 absent b P e f = absurd (cc)
@@ -108,7 +110,7 @@ dropped_here w k shut h =
     (not_true (w.conns k).client_open shut))
     (λ _. h k)
 
-pub paired_on : (w : World) (e : Event) → Facts w → is_safe w e ≡ true → Paired w.conns → Paired (happens w e).conns
+pub paired_on : (w : World) (e : Event) → Facts w → keeps w e ≡ true → Paired w.conns → Paired (happens w e).conns
 paired_on w (Submit g op) F s h = h
 paired_on w (Open k) F s h = paired_by w.conns _ k (open_elsewhere w k) h (opened_here w k F h)
 paired_on w (Push k slotless pick) F s h =

@@ -3,22 +3,23 @@ use Rattle.std.proofs.Common.{◌≡◌, ℕ, ◌+◌, ◌*◌, true, false, Lis
 use Rattle.exchange_defs.specs.Operations.{Outcome, Unsettled, WasOk, WasRefused, NoSlot, NoOpen, Unknown, is_unsettled, is_firm}
 use Rattle.exchange_defs.specs.Client.{Client}
 use Rattle.exchange_defs.specs.Schedules.{Course, Line, Does, Pushes, Links as LinksLine, Settles, course, go}
-use Rattle.exchange_defs.specs.Network.{World, Event, Settings, run, start}
-use Rattle.server_law.proofs.Logic.{front_of, back_of, both}
+use Rattle.exchange_defs.specs.Network.{World, Event, Cut, Drop, Settings, run, start}
+use Rattle.server_law.proofs.Logic.{front_of, back_of, both, not_true}
 use Rattle.completeness_law.specs.Completeness.{begun, course_of}
 use Rattle.completeness_law.proofs.Runs.{settle_settles}
 use Rattle.outcomes_law.specs.Outcomes.{Answered, LacksSlot, LacksOpen, is_known}
 use Rattle.outcomes_law.proofs.Answers.{all_answered}
 use Rattle.outcomes_law.proofs.Causes.{causes_told}
-use Rattle.script_law.specs.Scripts.{is_quiet_line, is_quiet_script, CutsSettled, LosesNothing, AllEnd}
+use Rattle.script_law.specs.Scripts.{is_quiet_line, is_quiet_script, CutsSettled, DropsLetGo, LosesNothing, AllEnd}
 use Rattle.script_law.specs.Scripts.{Ends, ByReply, WithoutSlot, WithoutOpen}
-use Rattle.script_law.proofs.Quiet.{Quietly, quiet_event, without_cuts, cut_in, ready_cut, nothing_lost}
+use Rattle.script_law.proofs.Quiet.{Quietly, quiet_event, all_keep, kept_in, nothing_lost}
+use Rattle.script_law.proofs.Paired.{keeps}
 use Rattle.script_law.proofs.Loops.{links, pushes}
 use Rattle.script_law.proofs.Settling.{carried_on, settles}
 
 first : (z : Settings) → Quietly z (begun z)
-unfolding run without_cuts
-first z = record { is = refl; paired = λ k o. absurd (cc); uncut = refl }
+unfolding run all_keep
+first z = record { is = refl; paired = λ k o. absurd (cc); kept = refl }
 
 goes : (z : Settings) (c : Course) (l : Line) → is_quiet_line l ≡ true → Quietly z c → Quietly z (go 256 c l)
 unfolding go
@@ -37,14 +38,20 @@ quietly z ls q = courses z ls (begun z) q (first z)
 
 -- ---- what is cut
 
+-- an event of the course, in the world that it comes to
+kept_at : (z : Settings) (ls : List Line) → is_quiet_script ls ≡ true → (before after : List Event) (e : Event)
+    → (course_of z ls).events ≡ before ++ e ∷ after → keeps (run before (start z)) e ≡ true
+kept_at z ls q before after e is =
+    kept_in before after e (start z) (subst (λ (es : List Event). all_keep es (start z) ≡ true) is (quietly z ls q).kept)
+
 pub cuts_settled : CutsSettled
-cuts_settled z ls q before after k is on =
-    let u = (quietly z ls q).uncut in
-    ready_cut ((run before (start z)).client.ready k) _
-    (cut_in before after k (start z) (subst (λ (es : List Event). without_cuts es (start z) ≡ true) is u)) on
+cuts_settled z ls q before after k is = not_true _ (kept_at z ls q before after (Cut k) is)
+
+pub drops_let_go : DropsLetGo
+drops_let_go z ls q before after k is = not_true _ (kept_at z ls q before after (Drop k) is)
 
 pub loses_nothing_quiet : LosesNothing
-loses_nothing_quiet z ls q kept = nothing_lost (course_of z ls).events (start z) (quietly z ls q).uncut kept
+loses_nothing_quiet z ls q kept = nothing_lost (course_of z ls).events (start z) (quietly z ls q).kept kept
 
 -- ---- what becomes of each operation
 
@@ -74,6 +81,6 @@ script_ends z ls q kept few g low high =
     (let w = run c.events (start z) in
     let settled : is_unsettled (w.client.outcome g) ≡ false = subst (λ (v : World). is_unsettled (v.client.outcome g)
     ≡ false) (sym h.is) (settle_settles z ls few g low high) in
-    let a = all_answered z c.events (nothing_lost c.events (start z) h.uncut kept) g in
+    let a = all_answered z c.events (nothing_lost c.events (start z) h.kept kept) g in
     ends_by z c.events w.client g (w.client.outcome g) refl settled a.0 a.1
     (λ create. (causes_told z c.events g create).0) (λ create. (causes_told z c.events g create).1))

@@ -1,4 +1,4 @@
--- Settling cuts a channel that isn't ready, or one where every operation is settled, and drops what the client let go.
+-- Settling cuts a channel only where every operation is settled, and drops what the client let go.
 use Rattle.std.proofs.Common.{◌≡◌, ℕ, ◌≤◌, ◌<◌, ◌==◌, Bool, true, false, not, ◌&&◌, ◌||◌, List, [], ◌∷◌, ◌++◌, ◌⊎◌, inl, inr}
 use Rattle.std.proofs.Common.{refl, arith, sym, subst, ap, Option, Some, zero, suc}
 use Rattle.exchange_defs.specs.Table.{is_filled, is_at}
@@ -7,26 +7,26 @@ use Rattle.exchange_defs.specs.Client.{Client, Stage, goes_itself, settle_no_slo
 use Rattle.exchange_defs.specs.ClientStep.{Pick, some_unsettled}
 use Rattle.exchange_defs.specs.Schedules.{Course, Choice, choose, purse, went, went_if, went_push, drain}
 use Rattle.exchange_defs.specs.Schedules.{hangs, is_talking, is_orphan, finished_after, drain_and_cut, each, drop_orphan, tidy}
-use Rattle.exchange_defs.specs.Schedules.{linked, pushed_round, ready_round, rounds, settle_below, least}
-use Rattle.exchange_defs.specs.Network.{World, Push, Cut, Drop, Conn, Sent, Settings, happens}
+use Rattle.exchange_defs.specs.Schedules.{both_open, has_more, linked, pushed_round, ready_round, rounds, settle_below, least}
+use Rattle.exchange_defs.specs.Network.{World, Push, Cut, Drop, Finish, Conn, Sent, Received, Settings, happens}
 use Rattle.server_law.proofs.Logic.{front_of, back_of}
-use Rattle.session_law.specs.Dialogs.{Channel, IsClosed, IsReady, IsInDialog}
+use Rattle.session_law.specs.Dialogs.{Channel, IsClosed, IsReady, IsInDialog, MessageAlone, ReplyAlone, IsLost}
 use Rattle.completeness_law.proofs.Equations.{by_test, went_on, went_off, linked_off, ready_on, ready_off, pushed_on, pushed_off}
 use Rattle.completeness_law.proofs.Equations.{rounds_on, rounds_off}
 use Rattle.completeness_law.proofs.Later.{Later, now, push_later, one_round}
 use Rattle.completeness_law.proofs.Choose.{Calm, Chosen, Sending, SettledAll, chooses, full_purse}
 use Rattle.completeness_law.proofs.Exchange.{own_push, ask_push, quiet_push}
+use Rattle.completeness_law.proofs.Drain.{drains_all}
 use Rattle.completeness_law.proofs.Round.{Idle}
-use Rattle.completeness_law.proofs.Clean.{Clean, each_of}
+use Rattle.completeness_law.proofs.Clean.{Clean, each_of, finished_conns}
 use Rattle.completeness_law.proofs.Tidy.{Rested, idle_of, calm_of, least_ready, all_dropped}
 use Rattle.completeness_law.proofs.NewSession.{seeks}
 use Rattle.completeness_law.proofs.Rounds.{SettledTo, LeastTo, seek, all_settled, one_round_on}
 use Rattle.completeness_law.proofs.Settling.{first_steps, all_clean}
 use Rattle.completeness_law.proofs.Runs.{OfRun, always, present}
-use Rattle.exchange_defs.specs.Network.{Finish}
 use Rattle.script_law.specs.Scripts.{is_quiet}
-use Rattle.script_law.proofs.Paired.{absent}
-use Rattle.script_law.proofs.Quiet.{Quietly, of_run, facts_of, goes_on, quiet_event, unready_cut, settled_cut}
+use Rattle.script_law.proofs.Paired.{Held, absent}
+use Rattle.script_law.proofs.Quiet.{Quietly, of_run, facts_of, goes_on, quiet_event}
 use Rattle.script_law.proofs.Loops.{CarriedOn, drains, finishes, begins, pushes, each_on}
 
 pub carried_on : (z : Settings) → CarriedOn (Quietly z)
@@ -38,40 +38,48 @@ carried_on z =
 
 -- ---- cuts and drops of single channels
 
--- the client's end is open and the server's closed, or the dialog goes on
-talking : (a b t : Bool) → (a && (not b || t)) ≡ true → (a ≡ true → b ≡ true) → t ≡ true
-talking a true t e h = back_of a t e
-talking a false t e h = absurd (let o = h (front_of a _ e) in cc)
+-- what waits on a channel with two open ends is more to drain
+waits_up : (d : Conn) (x : Sent) → d.client_open ≡ true → d.server_open ≡ true → d.up ≡ x ∷ []
+    → (both_open d && (is_filled d.up || is_filled d.down)) ≡ false → ⊥
+unfolding both_open is_filled
+waits_up d x o s up e = absurd (grind arith)
 
-not_ready : (r : Bool) (s : Stage) (c : Conn) → is_talking s ≡ true → Channel r s c → r ≡ false
+waits_down : (d : Conn) (y : Received) → d.client_open ≡ true → d.server_open ≡ true → d.down ≡ y ∷ []
+    → (both_open d && (is_filled d.up || is_filled d.down)) ≡ false → ⊥
+unfolding both_open is_filled
+waits_down d y o s down e = absurd (grind arith)
+
+-- a dialog that was begun, of two open ends, has its message or its reply there
+dialog_over : (r : Bool) (s : Stage) (d : Conn) → Channel r s d → Held d → (both_open d && (is_filled d.up || is_filled d.down)) ≡ false
+    → d.client_open ≡ true → is_talking s ≡ false
 unfolding is_talking
-not_ready r s c talks (IsClosed off apart shut none) = off
-not_ready r s c talks (IsReady on apart o) = absurd (grind arith)
-not_ready r s c talks (IsInDialog off t o waits) = off
+dialog_over r s d (IsClosed off apart shut none) h e o = absent d.client_open _ o shut
+dialog_over r s d (IsReady on apart stands) h e o = grind arith
+dialog_over r s d (IsInDialog off talks stands (MessageAlone x one none token)) h e o = absurd (waits_up d x o (h o) one e)
+dialog_over r s d (IsInDialog off talks stands (ReplyAlone y none one token)) h e o = absurd (waits_down d y o (h o) one e)
+dialog_over r s d (IsInDialog off talks stands (IsLost gone none empty)) h e o = absent d.server_open _ (h o) gone
 
-hangs_talking : (w : World) (k : ℕ) → hangs w k ≡ true → ((w.conns k).client_open ≡ true → (w.conns k).server_open
-    ≡ true) → is_talking (w.client.stage k) ≡ true
-unfolding hangs
-hangs_talking w k e h = talking (w.conns k).client_open (w.conns k).server_open (is_talking (w.client.stage k)) e h
+none_hangs : (a b t : Bool) → (a ≡ true → b ≡ true) → (a ≡ true → t ≡ false) → (a && (not b || t)) ≡ false
+none_hangs true b t h f = let e = h refl in let g = f refl in grind arith
+none_hangs false b t h f = refl
 
--- what hangs is in its dialog
-cuts_hanging : (z : Settings) (c : Course) (k : ℕ) → Quietly z c → hangs c.world k ≡ true → Quietly z (went c (Cut k))
-cuts_hanging z c k h e =
-    goes_on z c (Cut k) refl
-    (unready_cut (c.world.client.ready k) _
-    (not_ready (c.world.client.ready k) (c.world.client.stage k) (c.world.conns k)
-    (hangs_talking c.world k e (h.paired k)) ((facts_of z c h).channels k))) h
+never_hangs : (w v : World) (k : ℕ) → v.conns ≡ w.conns → has_more w k ≡ false → Channel (v.client.ready k) (v.client.stage k) (v.conns k)
+    → Held (v.conns k) → hangs v k ≡ false
+unfolding has_more hangs
+never_hangs w v k e more stands h =
+    none_hangs (v.conns k).client_open (v.conns k).server_open (is_talking (v.client.stage k)) h
+    (dialog_over (v.client.ready k) (v.client.stage k) (v.conns k) stands h
+    (subst (λ f. (both_open (f k) && (is_filled (f k).up || is_filled (f k).down)) ≡ false) (sym e) more))
 
-if_hanging : (z : Settings) (c : Course) (k : ℕ) → Quietly z c → Quietly z (went_if (hangs c.world k) c (Cut k))
-if_hanging z c k h =
-    by_test (Quietly z) (hangs c.world k) (went_if (hangs c.world k) c (Cut k)) (went c (Cut k)) c
-    (went_on (hangs c.world k) c (Cut k)) (went_off (hangs c.world k) c (Cut k)) (λ e. cuts_hanging z c k h e) (λ _. h)
-
+-- no dialog hangs, so none is cut
 drains_and_cuts : (z : Settings) (c : Course) (k : ℕ) → Quietly z c → Quietly z (drain_and_cut c k)
 unfolding drain_and_cut
 drains_and_cuts z c k h =
-    let d = drain 64 c k in let n = is_at k c.world.client.making in
-    if_hanging z (finished_after n c d) k (finishes (Quietly z) (carried_on z) n c d (drains (Quietly z) (carried_on z) 64 c k h))
+    let d = drain 64 c k in let n = is_at k c.world.client.making in let e = finished_after n c d in
+    let q = finishes (Quietly z) (carried_on z) n c d (drains (Quietly z) (carried_on z) 64 c k h) in
+    let off = never_hangs d.world e.world k (finished_conns n c d) (drains_all (OfRun z) (always z) c k (of_run z c h)).done
+    ((facts_of z e q).channels k) (q.paired k) in
+    subst (Quietly z) (sym (went_off (hangs e.world k) e (Cut k) off)) q
 
 let_go : (w : World) (k : ℕ) → is_orphan w k ≡ true → not (w.conns k).client_open ≡ true
 unfolding is_orphan
@@ -82,7 +90,7 @@ unfolding drop_orphan
 drops z c k h =
     by_test (Quietly z) (is_orphan c.world k) (went_if (is_orphan c.world k) c (Drop k)) (went c (Drop k)) c
     (went_on (is_orphan c.world k) c (Drop k)) (went_off (is_orphan c.world k) c (Drop k))
-    (λ e. goes_on z c (Drop k) (let_go c.world k e) refl h) (λ _. h)
+    (λ e. goes_on z c (Drop k) (let_go c.world k e) h) (λ _. h)
 
 -- no client's end is open alone
 none_alone : (a b : Bool) → (a ≡ true → b ≡ true) → (a && not b) ≡ false
@@ -155,7 +163,7 @@ pushes_on z c k h i q =
     by_test (Quietly z) (is_filled (v.world.conns k).up || is_filled (v.world.conns k).down) (pushed_round c k)
     (drain 64 v k) (went v (Cut k)) (pushed_on c k) (pushed_off c k)
     (λ _. drains (Quietly z) (carried_on z) 64 v k p)
-    (λ off. goes_on z v (Cut k) refl (settled_cut (v.world.client.ready k) _ (idle_push z c k h i q off)) p)
+    (λ off. goes_on z v (Cut k) (ap not (idle_push z c k h i q off)) p)
 
 readies : (z : Settings) (c : Course) → Quietly z c → ((q : ℕ) → Clean c.world.conns q) → Quietly z (ready_round 256 c)
 readies z c h clean =

@@ -57,12 +57,18 @@ FinishesRefused =
 
 -- ---- what the course of a quiet script cuts, and what it gives up
 
--- The program cuts a ready channel, in settling too, only where every operation is settled.
+-- The program cuts a channel, in settling too, only where every operation is settled.
 abbrev pub CutsSettled : Type 0
 CutsSettled =
     (z : Settings) (ls : List Line) → is_quiet_script ls ≡ true → (before after : List Event) (k : ℕ)
-    → (course_of z ls).events ≡ before ++ Cut k ∷ after → (run before (start z)).client.ready k ≡ true
+    → (course_of z ls).events ≡ before ++ Cut k ∷ after
     → some_unsettled (run before (start z)).client (run before (start z)).client.taken ≡ false
+
+-- It drops a connection only where the client has let it go.
+abbrev pub DropsLetGo : Type 0
+DropsLetGo =
+    (z : Settings) (ls : List Line) → is_quiet_script ls ≡ true → (before after : List Event) (k : ℕ)
+    → (course_of z ls).events ≡ before ++ Drop k ∷ after → ((run before (start z)).conns k).client_open ≡ false
 
 -- all is given up while an operation is unsettled
 abbrev pub gives_up : World → Event → Bool

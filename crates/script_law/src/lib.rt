@@ -5,7 +5,7 @@
 
 pub mod example;
 
-ghost use Rattle.script_law.specs.Scripts.{CourseRuns, FinishesRefused, CutsSettled, LosesNothing, AllEnd};
+ghost use Rattle.script_law.specs.Scripts.{CourseRuns, FinishesRefused, CutsSettled, DropsLetGo, LosesNothing, AllEnd};
 
 /// The events of any script's course lead to the course's world (`runs`). Where the client gives all up for want of a session,
 /// and no line of the script says so, a dialog was refused before, and what it gives up with is the last such refusal
@@ -15,11 +15,12 @@ pub fn course_law()
     ensures finishes { FinishesRefused }
 {}
 
-/// In the course of a script whose own lines lose nothing, wherever it settles, the client cuts a ready channel only where
-/// every operation is settled (`cuts`). So it loses nothing of an operation, unless it gives all up for want of a session
-/// (`loses`).
+/// In the course of a script whose own lines lose nothing, wherever it settles, a channel is cut only where every operation is
+/// settled (`cuts`), and a connection is dropped only where the client has let it go (`drops`). So the client loses nothing of
+/// an operation, unless it gives all up for want of a session (`loses`).
 pub fn quiet_settle_law()
     ensures cuts { CutsSettled }
+    ensures drops { DropsLetGo }
     ensures loses { LosesNothing }
 {}
 
