@@ -10,7 +10,7 @@ use Rattle.exchange_defs.specs.Schedules.{tidy, linked, pushed_round, ready_roun
 use Rattle.exchange_defs.specs.Network.{World, Event, Cut, Drop, Finish, Settings, happens, run, start}
 use Rattle.exchange_law.proofs.Reached.{run_more}
 use Rattle.server_law.proofs.Logic.{back_of, front_off, back_off, not_true}
-use Rattle.completeness_law.specs.Completeness.{begun}
+use Rattle.completeness_law.specs.Completeness.{begun, course_of}
 use Rattle.completeness_law.proofs.Equations.{by_test, went_on, went_off, ready_on, ready_off, pushed_on, pushed_off, rounds_on, rounds_off}
 use Rattle.completeness_law.proofs.Later.{one_round}
 use Rattle.script_law.specs.Scripts.{is_quiet, is_finish, is_finish_line, finishes_itself, CourseRuns, FinishesRefused}
@@ -150,7 +150,10 @@ first z own = record { is = refl; due = λ _. tt }
 pub course_runs : CourseRuns
 course_runs z ls = (courses z true ls (begun z) (λ o. absurd (cc)) (first z true)).is
 
+-- each Finish of a course whose script has none of its own is due
+pub all_due : (z : Settings) (ls : List Line) → finishes_itself ls ≡ false → AllDue (course_of z ls).events (start z)
+all_due z ls n = (courses z false ls (begun z) (λ _. n) (first z false)).due refl
+
 pub finishes_refused : FinishesRefused
 finishes_refused z ls n before after refusal is =
-    let t = courses z false ls (begun z) (λ _. n) (first z false) in
-    due_in before after (Finish refusal) (start z) (subst (λ (es : List Event). AllDue es (start z)) is (t.due refl)) refusal refl
+    due_in before after (Finish refusal) (start z) (subst (λ (es : List Event). AllDue es (start z)) is (all_due z ls n)) refusal refl

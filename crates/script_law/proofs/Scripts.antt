@@ -1,5 +1,6 @@
 -- Scripts, line by line, and the statements.
-use Rattle.std.proofs.Common.{◌≡◌, ℕ, ◌+◌, ◌*◌, true, false, List, [], ◌∷◌, ◌++◌, refl, sym, subst, ap}
+use Rattle.std.proofs.Common.{◌≡◌, ℕ, ◌+◌, ◌*◌, true, false, List, [], ◌∷◌, ◌++◌, refl, sym, subst, ◌∙◌, ap}
+use Rattle.exchange_defs.specs.Table.{is_filled}
 use Rattle.exchange_defs.specs.Operations.{Outcome, Unsettled, WasOk, WasRefused, NoSlot, NoOpen, Unknown, is_unsettled, is_firm}
 use Rattle.exchange_defs.specs.Client.{Client}
 use Rattle.exchange_defs.specs.Schedules.{Course, Line, Does, Pushes, Links as LinksLine, Settles, course, go}
@@ -10,10 +11,12 @@ use Rattle.completeness_law.proofs.Runs.{settle_settles}
 use Rattle.outcomes_law.specs.Outcomes.{Answered, LacksSlot, LacksOpen, is_known}
 use Rattle.outcomes_law.proofs.Answers.{all_answered}
 use Rattle.outcomes_law.proofs.Causes.{causes_told}
-use Rattle.script_law.specs.Scripts.{is_quiet_line, is_quiet_script, CutsSettled, DropsLetGo, LosesNothing, AllEnd}
+use Rattle.script_law.specs.Scripts.{is_quiet_line, is_quiet_script, GivesNothingUp, CutsSettled, DropsLetGo, LosesNothing, AllEnd}
 use Rattle.script_law.specs.Scripts.{Ends, ByReply, WithoutSlot, WithoutOpen}
 use Rattle.script_law.proofs.Quiet.{Quietly, quiet_event, all_keep, kept_in, nothing_lost}
 use Rattle.script_law.proofs.Paired.{keeps}
+use Rattle.script_law.proofs.Due.{all_due, course_runs}
+use Rattle.script_law.proofs.Refusals.{nothing_given_up}
 use Rattle.script_law.proofs.Loops.{links, pushes}
 use Rattle.script_law.proofs.Settling.{carried_on, settles}
 
@@ -52,6 +55,12 @@ drops_let_go z ls q before after k is = not_true _ (kept_at z ls q before after 
 
 pub loses_nothing_quiet : LosesNothing
 loses_nothing_quiet z ls q kept = nothing_lost (course_of z ls).events (start z) (quietly z ls q).kept kept
+
+pub gives_nothing_up : GivesNothingUp
+unfolding is_filled
+gives_nothing_up z ls n none =
+    nothing_given_up (course_of z ls).events (start z) (all_due z ls n)
+    (ap (λ (w : World). is_filled w.client.refusals) (course_runs z ls) ∙ ap is_filled none)
 
 -- ---- what becomes of each operation
 

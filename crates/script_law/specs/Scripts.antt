@@ -42,6 +42,18 @@ unfoldable pub finishes_itself : List Line → Bool
 finishes_itself [] = false
 finishes_itself (l ∷ ls) = is_finish_line l || finishes_itself ls
 
+-- ---- what is given up
+
+-- all is given up while an operation is unsettled
+abbrev pub gives_up : World → Event → Bool
+gives_up w (Finish refusal) = some_unsettled w.client w.client.taken
+gives_up w _ = false
+
+-- some event of the list does, in the world that it comes to
+unfoldable pub has_given_up : List Event → World → Bool
+has_given_up [] w = false
+has_given_up (e ∷ es) w = gives_up w e || has_given_up es (happens w e)
+
 -- ---- the course of any script
 
 -- Its events lead to its world.
@@ -55,7 +67,13 @@ FinishesRefused =
     → (course_of z ls).events ≡ before ++ Finish refusal ∷ after
     → last_refusal (run before (start z)).client.refusals ≡ Some refusal
 
--- ---- what the course of a quiet script cuts, and what it gives up
+-- Where no dialog of the client was refused, nothing was given up while an operation was unsettled.
+abbrev pub GivesNothingUp : Type 0
+GivesNothingUp =
+    (z : Settings) (ls : List Line) → finishes_itself ls ≡ false → (course_of z ls).world.client.refusals ≡ []
+    → has_given_up (course_of z ls).events (start z) ≡ false
+
+-- ---- what the course of a quiet script cuts and drops
 
 -- The program cuts a channel, in settling too, only where every operation is settled.
 abbrev pub CutsSettled : Type 0
@@ -69,16 +87,6 @@ abbrev pub DropsLetGo : Type 0
 DropsLetGo =
     (z : Settings) (ls : List Line) → is_quiet_script ls ≡ true → (before after : List Event) (k : ℕ)
     → (course_of z ls).events ≡ before ++ Drop k ∷ after → ((run before (start z)).conns k).client_open ≡ false
-
--- all is given up while an operation is unsettled
-abbrev pub gives_up : World → Event → Bool
-gives_up w (Finish refusal) = some_unsettled w.client w.client.taken
-gives_up w _ = false
-
--- some event of the list does, in the world that it comes to
-unfoldable pub has_given_up : List Event → World → Bool
-has_given_up [] w = false
-has_given_up (e ∷ es) w = gives_up w e || has_given_up es (happens w e)
 
 -- Where nothing is given up for want of a session, the client loses nothing of an operation.
 abbrev pub LosesNothing : Type 0

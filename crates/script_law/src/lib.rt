@@ -5,14 +5,15 @@
 
 pub mod example;
 
-ghost use Rattle.script_law.specs.Scripts.{CourseRuns, FinishesRefused, CutsSettled, DropsLetGo, LosesNothing, AllEnd};
+ghost use Rattle.script_law.specs.Scripts.{CourseRuns, FinishesRefused, GivesNothingUp, CutsSettled, DropsLetGo, LosesNothing, AllEnd};
 
 /// The events of any script's course lead to the course's world (`runs`). Where the client gives all up for want of a session,
 /// and no line of the script says so, a dialog was refused before, and what it gives up with is the last such refusal
-/// (`finishes`).
+/// (`finishes`). So nothing is given up of a client none of whose dialogs was refused (`gives_up`).
 pub fn course_law()
     ensures runs { CourseRuns }
     ensures finishes { FinishesRefused }
+    ensures gives_up { GivesNothingUp }
 {}
 
 /// In the course of a script whose own lines lose nothing, wherever it settles, a channel is cut only where every operation is
