@@ -67,7 +67,7 @@ FinishesRefused =
     → (course_of z ls).events ≡ before ++ Finish refusal ∷ after
     → last_refusal (run before (start z)).client.refusals ≡ Some refusal
 
--- Where no dialog of the client was refused, nothing was given up while an operation was unsettled.
+-- Where no dialog of the client was refused, and no line is a Finish, nothing was given up while an operation was unsettled.
 abbrev pub GivesNothingUp : Type 0
 GivesNothingUp =
     (z : Settings) (ls : List Line) → finishes_itself ls ≡ false → (course_of z ls).world.client.refusals ≡ []
