@@ -10,7 +10,7 @@ use Rattle.session_law.specs.Dialogs.{Channels}
 use Rattle.session_law.proofs.DialogFacts.{dialogs}
 use Rattle.session_law.proofs.Always.{sessions}
 use Rattle.completeness_law.specs.Completeness.{begun, course_of, DrainSuffices, LinkSuffices, AllSettled, FindsSession, SettleSettles}
-use Rattle.completeness_law.proofs.Facts.{Facts, Rises, Always}
+use Rattle.completeness_law.proofs.Facts.{Facts, Rises, Always, AllPresent}
 use Rattle.completeness_law.proofs.Columns.{count_none, Counted, counted_on, taken_on, number_on, Limits, limits_on}
 use Rattle.completeness_law.proofs.Waits.{CreateOk, waits_on}
 use Rattle.completeness_law.proofs.Carried.{Carried, carried_on, Low, low_on}
@@ -121,7 +121,7 @@ still : (z : Settings) (es : List Event) (e : Event) (g : ℕ) → is_unsettled 
 still z es e g s = ap (λ (w : World). is_unsettled (w.client.outcome g)) (sym (run_more es e (start z)))
     ∙ ap is_unsettled (settled_stays z es (e ∷ []) g s) ∙ s
 
-always : (z : Settings) → Always (OfRun z)
+pub always : (z : Settings) → Always (OfRun z)
 always z =
     record {
       step = λ w e h. record { events = h.events ++ e ∷ []; is = run_more h.events e (start z) ∙ ap (λ v. happens v e) h.is };
@@ -166,6 +166,12 @@ held z es =
 pub session_found : (z : Settings) (es : List Event) → FindsSession (run es (start z))
 session_found z es = let h = held z es in finds (run es (start z)) _ (connections z es) (sessions z es) h.seats h.plain h.fair.0
 
+pub present : (z : Settings) → AllPresent (OfRun z)
+present z = record {
+  present = λ w o. subst FindsSession o.is (session_found z o.events);
+  rise = λ w o. subst Rises o.is (rises_always z o.events);
+}
+
 -- ---- scripts
 
 went_of : (z : Settings) → (c : Course) (e : Event) → OfRun z c.world → OfRun z (went c e).world
@@ -205,10 +211,7 @@ link_suffices z ls k =
 pub settle_settles : SettleSettles
 settle_settles z ls few =
     let c = course_of z ls in let h = courses z ls (begun z) (at_first z) in let e = at_end ls (begun z) in
-    by (subst (λ (d : Course). Done d.world) (sym e) (settles (OfRun z) (always z) (record {
-      present = λ w o. subst FindsSession o.is (session_found z o.events);
-      rise = λ w o. subst Rises o.is (rises_always z o.events);
-    }) c h))
+    by (subst (λ (d : Course). Done d.world) (sym e) (settles (OfRun z) (always z) (present z) c h))
   where
     by : Done (course_of z (ls ++ Settles ∷ [])).world → AllSettled (course_of z (ls ++ Settles ∷ [])).world.client
     by (inl s) = s

@@ -19,7 +19,7 @@ most f (suc n) = let i = most f n in sum (f n) (count_on f n) i
     sum true m l = omega (arith, l)
     sum false m l = omega (arith, l)
 
-first_steps : (K : World → Type 0) → Always K → (c : Course) → Steps (Later K c) (λ q e. Clean e.world.conns q) drain_and_cut
+pub first_steps : (K : World → Type 0) → Always K → (c : Course) → Steps (Later K c) (λ q e. Clean e.world.conns q) drain_and_cut
 first_steps K A c =
     record {
       keeps = λ d k l. joined_on K c d (drain_and_cut d k) l (first_part K A d k l.known).later;
@@ -30,7 +30,7 @@ first_steps K A c =
           (λ n. clean_else d.world.conns (drain_and_cut d k).world.conns k q f.elsewhere n) i;
     }
 
-all_clean : (K : World → Type 0) → Always K → (c d : Course) → EachOf (Later K c) (λ q e. Clean e.world.conns q) c d 0
+pub all_clean : (K : World → Type 0) → Always K → (c d : Course) → EachOf (Later K c) (λ q e. Clean e.world.conns q) c d 0
     256 → (q : ℕ) → Clean d.world.conns q
 all_clean K A c d e q =
     let F = A.facts d.world e.keeps.known in

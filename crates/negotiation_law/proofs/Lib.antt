@@ -1,0 +1,12 @@
+pub mod Tables
+pub mod Chains
+pub mod Making
+pub mod Values
+pub mod Checked
+pub mod Going
+pub mod Telling
+pub mod Serving
+pub mod Taking
+pub mod Runs
+pub mod Searched
+pub mod Guarded
