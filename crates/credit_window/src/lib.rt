@@ -2,7 +2,6 @@
 //! the client's purse. Neither takes memory after it is made.
 #![tactic(auto)]
 
-pub mod laws;
 pub mod purse;
 pub mod window;
 

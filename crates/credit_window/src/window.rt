@@ -3,7 +3,7 @@ ghost use Rattle.std.specs.Prelude.{◌≡◌, ℕ, ◌+◌, ◌-◌, ◌<◌, �
 ghost use Rattle.std.specs.VecDeque.{deque_len, deque_capacity};
 ghost use Rattle.credit_defs.specs.Ids.{counted, ids_from, outside};
 ghost use Rattle.credit_defs.specs.Window.{first_window, after_take, granted, after_grant};
-ghost use Rattle.credit_window.specs.Row.{IsAscending, AllLess, IsSplitAt};
+ghost use Rattle.credit_law.specs.Row.{IsAscending, AllLess, IsSplitAt};
 
 use std::alloc::{AllocError, Global};
 use std::collections::VecDeque;
@@ -48,7 +48,7 @@ impl Model for Window {
     ghost use Rattle.std.specs.Prelude.{length, ◌≤◌};
     ghost use Rattle.std.specs.VecDeque.{deque_capacity};
     ghost use Rattle.credit_defs.specs.Window.{HeldIds};
-    ghost use Rattle.credit_window.specs.Row.{IsAscending, AllLess};
+    ghost use Rattle.credit_law.specs.Row.{IsAscending, AllLess};
 
     ghost Value = { HeldIds };
 

@@ -1,5 +1,5 @@
 use Rattle.std.proofs.Common.{◌+◌, ap, ◌∙◌, arith, append_assoc, ◌∷◌, [], ◌++◌}
-use Rattle.credit_window.proofs.Rows.{ids_from-push}
+use Rattle.credit_law.proofs.Rows.{ids_from-push}
 use Rattle.credit_defs.specs.Ids.{ids_from}
 use Rattle.credit_window.proofs.window.append.Goals as goal
 

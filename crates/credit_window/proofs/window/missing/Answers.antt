@@ -1,7 +1,7 @@
 use Rattle.std.proofs.Common.{◌≡◌, ◌+◌, ◌<◌, take, drop, length, refl, sym, ◌∙◌, subst, arith, length-drop}
 use Rattle.std.proofs.lemmas.List.{get_or_default}
 use Rattle.credit_defs.specs.Ids.{ids_from}
-use Rattle.credit_window.proofs.Rows.{AllLess-get, no_gap, run_fits, found_gap, run_more, not_some}
+use Rattle.credit_law.proofs.Rows.{AllLess-get, no_gap, run_fits, found_gap, run_more, not_some}
 use Rattle.credit_window.proofs.window.missing.Goals as goal
 
 pub overflow_add-place : goal.overflow_add-place

@@ -1,6 +1,6 @@
 use Rattle.std.proofs.Common.{ltb, ltb-true, arith, rules}
 use Rattle.std.proofs.lemmas.List.Sorted.{IsPartitionPoint-from_clause, IsPartitionedBy-ltb}
-use Rattle.credit_window.proofs.Rows.{ascending_order, not_less}
+use Rattle.credit_law.proofs.Rows.{ascending_order, not_less}
 use Rattle.credit_window.proofs.window.place_of.Goals as goal
 
 pub returns : goal.returns

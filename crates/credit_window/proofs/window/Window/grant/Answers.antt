@@ -1,7 +1,7 @@
 use Rattle.std.proofs.Common.{◌+◌, length, sym, ap, ◌∙◌, subst, arith, length-append}
 use Rattle.credit_defs.specs.Ids.{ids_from}
-use Rattle.credit_window.specs.Row.{IsAscending, AllLess}
-use Rattle.credit_window.proofs.Rows.{IsAscending-append, AllLess-append, AllLess-weaken, AllLess-ids_from, length-ids_from}
+use Rattle.credit_law.specs.Row.{IsAscending, AllLess}
+use Rattle.credit_law.proofs.Rows.{IsAscending-append, AllLess-append, AllLess-weaken, AllLess-ids_from, length-ids_from}
 use Rattle.credit_window.proofs.window.Window.grant.Goals as goal
 
 pub invariant_of-self : goal.invariant_of-self

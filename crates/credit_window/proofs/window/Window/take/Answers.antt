@@ -1,7 +1,7 @@
 use Rattle.std.proofs.Common.{◌≡◌, length, refl, sym, ap, ◌∙◌, subst, arith, length-drop}
 use Rattle.credit_defs.specs.Ids.{counted, outside}
-use Rattle.credit_window.specs.Row.{IsAscending, AllLess}
-use Rattle.credit_window.proofs.Rows.{AllLess-weaken, IsAscending-filter, AllLess-filter, run_fits, take_is, left_is, length-without}
+use Rattle.credit_law.specs.Row.{IsAscending, AllLess}
+use Rattle.credit_law.proofs.Rows.{AllLess-weaken, IsAscending-filter, AllLess-filter, run_fits, take_is, left_is, length-without}
 use Rattle.credit_window.proofs.window.Window.take.Goals as goal
 
 pub missing-requires-clause-last : goal.missing-requires-clause-last

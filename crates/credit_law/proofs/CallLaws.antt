@@ -8,7 +8,7 @@ use Rattle.std.proofs.lemmas.Bool.{cases_lt}
 use Rattle.credit_defs.specs.Ids.{counted, ids_from, holds, times, times_if, is_among, gap_if, outside}
 use Rattle.credit_defs.specs.Window.{HeldIds, first_window, after_take, granted, after_grant}
 use Rattle.credit_defs.specs.Calls.{Call, taking, granting, after_taking, ids_taken, all_taken, EachIdOnce}
-use Rattle.credit_window.proofs.Rows.{is_among-in}
+use Rattle.credit_law.proofs.Rows.{is_among-in}
 
 times-append : (id : ℕ) (xs ys : List ℕ) → times id (xs ++ ys) ≡ times id xs + times id ys
 times-append id [] ys = omega arith

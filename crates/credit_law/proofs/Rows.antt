@@ -11,7 +11,7 @@ use borrow.Author.Tests.{lt-ltb, le-leb, lt-leb}
 use Rattle.std.proofs.lemmas.Bool.{cases_lt}
 use Rattle.credit_defs.specs.Window.{HeldIds, after_take}
 use Rattle.credit_defs.specs.Ids.{counted, ids_from, holds, is_among, without, gap_if, outside}
-use Rattle.credit_window.specs.Row.{IsAscending, AllLess, IsSplitAt}
+use Rattle.credit_law.specs.Row.{IsAscending, AllLess, IsSplitAt}
 
 pub IsAscending-weaken : (low low' : ℕ) (xs : List ℕ) → low' ≤ low → IsAscending low xs → IsAscending low' xs
 IsAscending-weaken low low' [] le a = tt

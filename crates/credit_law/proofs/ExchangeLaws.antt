@@ -9,7 +9,7 @@ use Rattle.credit_defs.specs.Window.{HeldIds, after_take, granted}
 use Rattle.credit_defs.specs.Exchange.{Line, first_line, Step, sends, serves, hears, sent_if, served_if, served, heard}
 use Rattle.credit_defs.specs.Exchange.{after_step, after_steps, ids_on_their_way, IsBalanced, FrontIsHeld}
 use Rattle.credit_defs.specs.Exchange.{NothingIsRefused}
-use Rattle.credit_window.proofs.Rows.{IsAscending-ids_from, ids_from-append, length-ids_from, outside-run, without-run, without-above}
+use Rattle.credit_law.proofs.Rows.{IsAscending-ids_from, ids_from-append, length-ids_from, outside-run, without-run, without-above}
 
 -- the requests on their way use ids one behind the other
 abbrev Follow : ℕ → List (ℕ × ℕ) → ℕ → Type 0
