@@ -1,5 +1,5 @@
 -- The messages of a frame, one after the other: the server's side and the replies keep step in what is in the making.
-use Rattle.std.proofs.Common.{◌≡◌, ℕ, ◌==◌, Bool, true, false, if◌then◌else◌, List, [], ◌∷◌}
+use Rattle.std.proofs.Common.{◌++◌, ◌≡◌, ℕ, ◌==◌, Bool, true, false, if◌then◌else◌, List, [], ◌∷◌}
 use Rattle.std.proofs.Common.{refl, sym, ◌∙◌, ap, subst}
 use Rattle.std.proofs.Common.{Option, Some, None, is_some}
 use Rattle.std.specs.Prelude.{option_map}
@@ -11,7 +11,8 @@ use Rattle.command_defs.specs.CommandOf.{Told, command_of, message_of, heard_as}
 use Rattle.server_law.proofs.Logic.{either}
 use Rattle.world_defs.specs.Settings.{ServerSettings}
 use Rattle.world_defs.specs.Ends.{ServerEnd, Greeting, Logons}
-use Rattle.world_defs.specs.Hearing.{Checked, is_negotiate}
+use Rattle.credit_defs.specs.Window.{after_grant}
+use Rattle.world_defs.specs.Hearing.{Checked, is_negotiate, is_cancel}
 use Rattle.world_defs.specs.Related.{Carry, Turn, Goes, Fails, turn_of, related_turn}
 use Rattle.world_defs.specs.Logon.{Progress, Stays, Interim, Final, progress, setup_progress}
 use Rattle.world_defs.specs.Connection.{told_of, heard_message, Taken, taken_with, Going, went_by, went_heard}
@@ -128,10 +129,13 @@ heard_keeps old s z k now fresh f g c (Some m) fine is i =
     went_keeps old s z k now fresh f g c m (answer_to g.server now m m.command) fine h
     (answered g.server now m m.command refl (subst FaultFine (sym h.fault) fine.fault)) i
 
-failed_keeps : (old : ℕ → Option Making) (s : Server) (z : ServerSettings) (k now : ℕ) (fresh : List ℕ) (f : ServerEnd)
-    (g : Going) (c : Checked) (status : ℕ)
-    → GoesOn old s k f g → GoesOn old s k f (went_turn z k now fresh f g c (Fails status))
-failed_keeps old s z k now fresh f g c status i =
+said_keeps : (old : ℕ → Option Making) (s : Server) (k : ℕ) (f : ServerEnd) (g : Going) (c : Checked) (status : ℕ)
+    → GoesOn old s k f g
+    → GoesOn old s k f (record g {
+      window = after_grant c.header.credits g.window;
+      replies = g.replies ++ said_failed f g.window c status ∷ [];
+    })
+said_keeps old s k f g c status i =
     let r = said_failed f g.window c status in
     record {
       follows = follow_with (is_some f.greeting) (is_some f.making) g.replies r i.follows tt;
@@ -139,6 +143,13 @@ failed_keeps old s z k now fresh f g c status i =
       elsewhere = i.elsewhere;
       taken = i.taken;
     }
+
+-- a CANCEL that fails leaves all as it was
+failed_keeps : (old : ℕ → Option Making) (s : Server) (z : ServerSettings) (k now : ℕ) (fresh : List ℕ) (f : ServerEnd)
+    (g : Going) (c : Checked) (status : ℕ)
+    → GoesOn old s k f g → GoesOn old s k f (went_turn z k now fresh f g c (Fails status))
+failed_keeps old s z k now fresh f g c status i =
+    either (GoesOn old s k f) (is_cancel c.header) _ _ (λ _. i) (λ _. said_keeps old s k f g c status i)
 
 -- a message with the ids of another one is the same in command and fault
 abbrev TurnFine : Option Greeting → Turn → Type 0

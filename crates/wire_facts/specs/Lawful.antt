@@ -61,15 +61,16 @@ pub record AreHeadersLawful : Type 0 where
 
 pub record AreCommandsLawful : Type 0 where
   pub own : (t : Told) (h : Header) (m : List ℕ) (op : Op) (guid file slot number : ℕ) →
-      IsMessage h (body_of (request_of op guid file slot number)) m → h.command ≡ number_of_command (request_of op guid file slot number) →
+      IsWritableHeader h → IsMessage h (body_of (request_of op guid file slot number)) m → h.command
+      ≡ number_of_command (request_of op guid file slot number) →
       keeps_limits op ≡ true → guid < 256 ^ 16 → file < 256 ^ 8 → slot < 256 ^ 3 → number < 16 →
       command_of t (header_as h m) m ≡ Some (request_of op guid file slot number)
   pub attach : (t : Told) (h : Header) (m : List ℕ) (op : Op) (guid file : ℕ) →
-      IsMessage h (body_of (reconnect_of op guid file)) m → h.command ≡ number_of_command (reconnect_of op guid file) →
+      IsWritableHeader h → IsMessage h (body_of (reconnect_of op guid file)) m → h.command ≡ number_of_command (reconnect_of op guid file) →
       keeps_limits op ≡ true → is_create op ≡ true → guid < 256 ^ 16 → file < 256 ^ 8 →
       command_of t (header_as h m) m ≡ Some (reconnect_of op guid file)
   pub reply : (h : Header) (m token : List ℕ) (op : Op) (guid file slot number : ℕ) (r : Reply) →
-      IsMessage h (reply_body token (request_of op guid file slot number) r) m → h.status ≡ r.status →
+      IsWritableHeader h → IsMessage h (reply_body token (request_of op guid file slot number) r) m → h.status ≡ r.status →
       r.status ≡ success → IsAnswer op r.body →
       IsHeardAlike op (reply_of (request_of op 0 0 0 0) (header_as h m) m).body r.body
   pub refused : (c : Command) (h : Header) (m : List ℕ) → (h.status ≡ success → ⊥) → (reply_of c (header_as h m) m).body ≡ Empty
@@ -83,7 +84,7 @@ pub record AreDialogsLawful (z : WorldSettings) : Type 0 where
       × (client_told (greeting_text z.client salt m) ≡ number_of z.client.guid)
   pub greeted : (salt answer_salt : List ℕ) (m : Message) (now : ℕ) (h : Header) (r : List ℕ) →
       length salt ≡ 32 → length answer_salt ≡ 32 → IsSent m 1 → now < 256 ^ 8
-      → IsMessage h (negotiate_response_body z.server.guid answer_salt now (greeting_text z.client salt m)) r →
+      → IsWritableHeader h → IsMessage h (negotiate_response_body z.server.guid answer_salt now (greeting_text z.client salt m)) r →
       (has_contexts r ≡ true) × (choice_fault z.client r ≡ None) × (is_hint (negotiate_response_in r).security ≡ true)
       × ((chosen_told r).cipher ≡ (chosen_of z.client).cipher) × ((chosen_told r).signing ≡ (chosen_of z.client).signing)
   -- SESSION_SETUP, both ways
@@ -100,13 +101,14 @@ pub record AreDialogsLawful (z : WorldSettings) : Type 0 where
         signing = t.signing;
         shows = t.shows token;
       })))
-  pub told : (c : Command) (h : Header) (token r : List ℕ) (reply : Reply) (bound : Bool) → IsMessage h (reply_body token c reply) r →
+  pub told : (c : Command) (h : Header) (token r : List ℕ) (reply : Reply) (bound : Bool) → IsWritableHeader h
+      → IsMessage h (reply_body token c reply) r →
       IsSetUpBy c reply token → (body_reads (SaidSecond bound) r ≡ true) × (setup_token r ≡ token) × (setup_flags r ≡ flags_of reply)
   -- TREE_CONNECT, both ways
-  pub tree : (t : Told) (h : Header) (m : List ℕ) → IsMessage h (body_of (TreeConnect z.share)) m → h.command ≡ 3 →
+  pub tree : (t : Told) (h : Header) (m : List ℕ) → IsWritableHeader h → IsMessage h (body_of (TreeConnect z.share)) m → h.command ≡ 3 →
       command_of t (header_as h m) m ≡ Some (TreeConnect z.share)
   pub tree_told : (h : Header) (token r : List ℕ) (kind capabilities access : ℕ) (reply : Reply) → reply.status ≡ success →
-      reply.body ≡ Connected kind capabilities access → IsMessage h (reply_body token (TreeConnect z.share) reply) r →
+      reply.body ≡ Connected kind capabilities access → IsWritableHeader h → IsMessage h (reply_body token (TreeConnect z.share) reply) r →
       kind < 256 → capabilities < 256 ^ 4 → access < 256 ^ 4 → body_reads AskedTree r ≡ true
 
 -- ---- the tokens of a logon

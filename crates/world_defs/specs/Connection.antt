@@ -14,7 +14,7 @@ use Rattle.session_defs.specs.declared.material.Keys.{Keys}
 use Rattle.session_defs.specs.Signing.{verifies}
 use Rattle.world_defs.specs.Settings.{ServerSettings}
 use Rattle.world_defs.specs.Ends.{ServerEnd, Logons, no_keys, chosen_on, client_on, signer_on, ConnEnd, Spent, Full}
-use Rattle.world_defs.specs.Hearing.{Checked, Frame, check_frame, is_negotiate}
+use Rattle.world_defs.specs.Hearing.{Checked, Frame, check_frame, is_negotiate, is_cancel}
 use Rattle.world_defs.specs.Negotiate.{negotiate_status, client_told}
 use Rattle.world_defs.specs.Related.{Carry, Turn, Goes, Fails, turn_of, carried_behind, carried_past}
 use Rattle.world_defs.specs.Logon.{Progress, Stays, Final, progress, token_in, token_shows, exported, answer_token_by}
@@ -122,10 +122,12 @@ went_heard z k now fresh f g c (Some m) = went_by z k now fresh f g c m (answer_
 
 abbrev pub went_turn : ServerSettings → ℕ → ℕ → List ℕ → ServerEnd → Going → Checked → Turn → Going
 went_turn z k now fresh f g old (Goes c) = went_heard z k now fresh f g c (heard_message z g.logons k f c)
-went_turn z k now fresh f g old (Fails status) = record g {
-  window = after_grant old.header.credits g.window;
-  replies = g.replies ++ said_failed f g.window old status ∷ [];
-}
+went_turn z k now fresh f g old (Fails status) =
+    if is_cancel old.header then g
+    else record g {
+      window = after_grant old.header.credits g.window;
+      replies = g.replies ++ said_failed f g.window old status ∷ [];
+    }
 
 unfoldable pub went_all : ServerSettings → ℕ → ℕ → List ℕ → ServerEnd → Going → List Checked → Going
 went_all z k now fresh f g [] = g

@@ -1,6 +1,7 @@
 -- Related messages (MS-SMB2 3.2.4.1.4, 3.3.5.2.7.2): what a message of a frame hands on to the next one that is related to it.
 use Rattle.std.specs.Prelude.{ℕ, ◌+◌, ◌==◌, nat_le, if◌then◌else◌, List, ◌++◌, length, take, drop}
 use Rattle.std.specs.Prelude.{replicate, Option, Some, None}
+use Rattle.std.specs.Str.{bytes_eq}
 use Rattle.wire_defs.specs.Places.{bytes_at}
 use Rattle.exchange_defs.specs.State.{Body, Created, Reply}
 use Rattle.command_defs.specs.Ids.{file_id}
@@ -27,9 +28,13 @@ file_place n =
     else if n == 17 then Some 80
     else None
 
--- 16 bytes FF, which name no open
+-- 16 zeros, which no open has
 abbrev pub no_file_id : List ℕ
-no_file_id = replicate 16 0xff
+no_file_id = replicate 16 0
+
+-- 16 bytes FF, by which an IOCTL names no open, are that of an unrelated request alone: a related one is handed zeros
+abbrev pub handed_on : List ℕ → List ℕ
+handed_on file = if bytes_eq file (replicate 16 0xff) then no_file_id else file
 
 abbrev pub file_at : Option ℕ → List ℕ → List ℕ
 file_at None m = no_file_id
@@ -51,7 +56,7 @@ with_file n file m = with_file_at (file_place n) file m
 
 abbrev pub file_behind : Checked → Body → List ℕ
 file_behind c (Created reply) = file_id reply.id
-file_behind c _ = file_named c.header.command c.bytes
+file_behind c _ = handed_on (file_named c.header.command c.bytes)
 
 -- behind a message that was answered, NEGOTIATE and ECHO too
 abbrev pub carried_behind : Checked → Reply → Carry
@@ -63,7 +68,7 @@ carried_past c status = record {
   status = status;
   session = c.header.session;
   tree = c.header.tree;
-  file = file_named c.header.command c.bytes;
+  file = handed_on (file_named c.header.command c.bytes);
 }
 
 -- ---- what becomes of a message: it goes its way, or fails with the status of the one before, which then stays handed on

@@ -106,11 +106,11 @@ RequestsAreHeard z w =
     (w.values.conns k).server_open ≡ true → (w.wires k).up ≡ b ∷ bs → (w.values.conns k).up ≡ x ∷ xs →
     (step_at z w k b).taken ≡ Some (record { message = x.message; answer = answer w.values x })
 
--- ---- behind a logon nothing is taken unsigned and unsealed but a SESSION_SETUP, and a NEGOTIATE, which no connection hears twice
+-- ---- behind a logon nothing is taken unsigned, nor unsealed where sealing is owed, but a SESSION_SETUP, and a NEGOTIATE, which no connection hears twice
 
 abbrev pub IsGuarded : ServerEnd → Frame → Checked → Type 0
 IsGuarded f x c =
-    (x.sealed ≡ true) ⊎ (has_bit c.header.flags 8 ≡ true) × (signed_by f.keys c.raw ≡ true)
+    (x.sealed ≡ true) ⊎ (f.encrypts ≡ false) × (has_bit c.header.flags 8 ≡ true) × (signed_by f.keys c.raw ≡ true)
     ⊎ (is_setup c.header ≡ true) ⊎ (is_negotiate c.header ≡ true)
 
 abbrev pub FramesAreGuarded : Type 0
