@@ -2,8 +2,10 @@
 #![tactic(auto)]
 
 mod names;
+mod pattern;
 
 pub use names::{key_of, path_form, units};
+pub use pattern::accepts;
 
 #[cfg(test)]
 mod tests;

@@ -13,3 +13,13 @@ fn paths_and_their_form(rt: HostRuntime) -> Result<(), Fail> {
     assert_eq!(rt; key_of(rt.alloc(), "aé\\Z")?.as_str(), "Aé\\Z");
     Ok(())
 }
+
+#[test]
+fn patterns(rt: HostRuntime) -> Result<(), Fail> {
+    let alloc = rt.alloc();
+    assert_eq!(rt; accepts(alloc, b"*.TX?", "aé.txt".as_bytes())?, true);
+    assert_eq!(rt; accepts(alloc, b"?", "é".as_bytes())?, true);
+    assert_eq!(rt; accepts(alloc, b"a*b*", b"axc")?, false);
+    assert_eq!(rt; accepts(alloc, b"", b"x")?, true);
+    Ok(())
+}
