@@ -1,4 +1,4 @@
-use Rattle.std.proofs.Common.{◌≡◌, List, [], Bool, refl, sym, ap, subst, ◌∙◌}
+use Rattle.std.proofs.Common.{List, [], Bool, refl, sym, subst, ◌∙◌}
 use Rattle.exchange_defs.specs.Listing.{matches}
 use Rattle.file_names.specs.Rows.{AreFor}
 use Rattle.file_names.proofs.Patterns.{first_row, accepts_filled}

@@ -1,5 +1,3 @@
-use Rattle.std.proofs.Common.{◌≡◌, ◌<◌, ◌==◌, ℕ, List, [], ◌∷◌, true, length, get_or, arith, sym, ap, ◌∙◌}
-use Rattle.exchange_defs.specs.Listing.{accepts}
 use Rattle.file_names.proofs.Patterns.{short_accepts, star_only}
 use Rattle.file_names.proofs.pattern.is_any.Goals as goal
 

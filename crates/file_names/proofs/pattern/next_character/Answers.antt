@@ -1,4 +1,4 @@
-use Rattle.std.proofs.Common.{◌≡◌, ◌+◌, ◌&&◌, nat_le, nat_lt, true, false, get_or, length, arith, sym, ◌∙◌}
+use Rattle.std.proofs.Common.{arith, sym, ◌∙◌}
 use Rattle.file_names.proofs.Patterns.{middle_step, begin_step, middle_end}
 use Rattle.file_names.proofs.pattern.next_character.Goals as goal
 

@@ -1,4 +1,4 @@
-use Rattle.std.proofs.Common.{◌≡◌, ◌+◌, ◌-◌, ◌≤◌, ◌<◌, ℕ, List, Bool, length, drop}
+use Rattle.std.proofs.Common.{◌≡◌, ◌-◌, ◌≤◌, ℕ, List, Bool, length, drop}
 use Rattle.exchange_defs.specs.Listing.{after_character}
 use Rattle.file_names.proofs.pattern.next_character.Given as goal
 

@@ -1,4 +1,4 @@
-use Rattle.std.proofs.Common.{◌≡◌, ◌+◌, ◌<◌, ◌≤◌, ℕ, false, length, get_or, drop, arith, sym, ap, ◌∙◌, refl}
+use Rattle.std.proofs.Common.{◌<◌, false, length, get_or, arith, sym, ◌∙◌, refl}
 use Rattle.std.proofs.Math.ListN.{length-set}
 use Rattle.exchange_defs.specs.Listing.{one_character}
 use Rattle.file_names.proofs.Patterns.{character_step, character_end, set_front, set_other, set_last}

@@ -1,5 +1,5 @@
 use Rattle.std.proofs.Common.{◌≡◌, ◌+◌, ◌-◌, ◌≤◌, ◌<◌, ℕ, List, Bool, false, length, drop, get_or}
-use Rattle.exchange_defs.specs.Listing.{one_character, one_byte}
+use Rattle.exchange_defs.specs.Listing.{one_character}
 use Rattle.file_names.specs.Rows.{AreFor}
 use Rattle.file_names.proofs.pattern.one_character.Given as goal
 
