@@ -10,7 +10,7 @@ use Rattle.world_defs.specs.Messages.{Heard}
 use Rattle.world_defs.specs.Ends.{ClientEnd}
 use Rattle.world_defs.specs.Dialog.{line_response, dialog_response}
 use Rattle.world_defs.specs.World.{World, command_asked}
-use Rattle.world_defs.specs.Statements.{plain_run, IsInStep, RequestsAreHeard, NoncesOnce}
+use Rattle.world_defs.specs.Statements.{plain_run, IsInStep, RequestsAreHeard, NoncesOnce, AcceptedIsMade, SealsAreKept}
 use Rattle.wire_facts.specs.Lawful.{IsLawful}
 
 -- ---- the front of what comes down is heard as the reply that the server's step gave
@@ -54,6 +54,8 @@ pub record Steps (z : WorldSettings) (events : List Event) : Type 0 where
   pub requests : RequestsAreHeard z (plain_run z events)
   pub replies : RepliesAreHeard (plain_run z events)
   pub nonces : NoncesOnce (plain_run z events)
+  pub accepted : AcceptedIsMade (plain_run z events)
+  pub seals : SealsAreKept (plain_run z events)
 
 abbrev pub StepLaw : Type 0
 StepLaw = (z : WorldSettings) → IsLawful z → (events : List Event) → restarts_in events < 4194304 → Steps z events

@@ -7,8 +7,11 @@ pub mod Related
 pub mod Logon
 pub mod Answering
 pub mod Connection
+pub mod Given
 pub mod Sending
 pub mod Dialog
 pub mod World
 pub mod Events
+pub mod Notes
+pub mod Courses
 pub mod Statements

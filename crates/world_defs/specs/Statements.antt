@@ -1,15 +1,17 @@
 -- What is said of runs over bytes.
-use Rattle.std.specs.Prelude.{◌≡◌, ℕ, ◌⊎◌, true, false, List, [], ◌∷◌, length, Some, None, Ok, slice_get}
+use Rattle.std.specs.Prelude.{◌≡◌, ℕ, ◌≤◌, ◌⊎◌, Bool, true, false, List, [], ◌∷◌, length, Some, None, Ok, slice_get}
 use Rattle.exchange_defs.specs.Commands.{has_bit}
 use Rattle.exchange_defs.specs.Network.{Event, Push, Sent}
 use Rattle.exchange_defs.specs.Network.{answer, run, start}
+use Rattle.session_defs.specs.declared.material.Keys.{Keys}
 use Rattle.session_defs.specs.declared.material.Signer.{Signer}
 use Rattle.session_defs.specs.Chain.{chain, hashed, Collide}
 use Rattle.session_defs.specs.Derivation.{signing_key}
 use Rattle.session_defs.specs.Signing.{verifies}
+use Rattle.session_defs.specs.Sealing.{sealed}
 use Rattle.world_defs.specs.Settings.{WorldSettings, values_of}
 use Rattle.world_defs.specs.Ends.{ServerEnd, nonce_at}
-use Rattle.world_defs.specs.Hearing.{Checked, Frame, check_frame, signed_by, is_negotiate, is_setup}
+use Rattle.world_defs.specs.Hearing.{Checked, Frame, begins_sealed, check_frame, signed_by, is_negotiate, is_setup}
 use Rattle.world_defs.specs.Answering.{Ending, Seal}
 use Rattle.world_defs.specs.World.{World, paid, step_at}
 use Rattle.world_defs.specs.Events.{ByteEvent, Plain, bytes_happen, bytes_run, bytes_start}
@@ -62,6 +64,39 @@ plainly (e ∷ es) = Plain e ∷ plainly es
 abbrev pub plain_run : WorldSettings → List Event → World
 plain_run z events = bytes_run z (plainly events) (bytes_start z)
 
+-- ---- what is remembered binds, in a world of a run without tampering: each accepted final response is one that the server made
+
+abbrev pub AcceptedIsMade : World → Type 0
+AcceptedIsMade w = (i : ℕ) (a : Ending) → slice_get w.accepted i ≡ Some a → (j : ℕ) × (slice_get w.made j ≡ Some a)
+
+-- and each sealed frame that is on its way is remembered: a seal of this session and direction spells it under these keys
+abbrev pub IsSpelledBy : Keys → Bool → List ℕ → Seal → Type 0
+IsSpelledBy keys to_server frame a =
+    (a.session ≡ keys.session) × (a.to_server ≡ to_server) × (sealed keys to_server (nonce_at a.channel a.counter) a.text ≡ frame)
+
+abbrev pub IsRemembered : World → Keys → Bool → List ℕ → Type 0
+IsRemembered w keys to_server frame = (j : ℕ) × (a : Seal) × (slice_get w.sealings j ≡ Some a) × IsSpelledBy keys to_server frame a
+
+-- under the keys of the end that sent it
+pub record SealsAreKept (w : World) : Type 0 where
+  pub up :
+      (k i : ℕ) (frame : List ℕ) → slice_get (w.wires k).up i ≡ Some frame → begins_sealed frame ≡ true →
+      IsRemembered w (w.wires k).client_end.keys true frame
+  pub down :
+      (k i : ℕ) (frame : List ℕ) → slice_get (w.wires k).down i ≡ Some frame → begins_sealed frame ≡ true →
+      (keys : Keys) × ((w.wires k).server_end.keys ≡ Some keys) × IsRemembered w keys false frame
+
+-- ---- channels: each accepted one of a session has a number of its own, over every run
+
+pub record AreNumbered (w : World) : Type 0 where
+  pub given : (k : ℕ) → w.values.client.ready k ≡ true → (w.wires k).client_end.channel ≤ w.numbers
+  pub own :
+      (j k : ℕ) → w.values.client.ready j ≡ true → w.values.client.ready k ≡ true →
+      (w.wires j).client_end.channel ≡ (w.wires k).client_end.channel → j ≡ k
+
+abbrev pub ChannelsAreNumbered : Type 0
+ChannelsAreNumbered = (z : WorldSettings) (events : List ByteEvent) → AreNumbered (bytes_run z events (bytes_start z))
+
 -- ---- nonces: no two messages are sealed under one in a session and a direction
 
 pub record IsOneNonce (a b : Seal) : Type 0 where
@@ -106,7 +141,8 @@ RequestsAreHeard z w =
     (w.values.conns k).server_open ≡ true → (w.wires k).up ≡ b ∷ bs → (w.values.conns k).up ≡ x ∷ xs →
     (step_at z w k b).taken ≡ Some (record { message = x.message; answer = answer w.values x })
 
--- ---- behind a logon nothing is taken unsigned, nor unsealed where sealing is owed, but a SESSION_SETUP, and a NEGOTIATE, which no connection hears twice
+-- ---- behind a logon nothing is taken unsigned, nor unsealed where sealing is owed, but a SESSION_SETUP, and a
+-- NEGOTIATE, which no connection hears twice
 
 abbrev pub IsGuarded : ServerEnd → Frame → Checked → Type 0
 IsGuarded f x c =
