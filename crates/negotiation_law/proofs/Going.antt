@@ -13,7 +13,7 @@ use Rattle.world_defs.specs.Settings.{ServerSettings}
 use Rattle.world_defs.specs.Ends.{ServerEnd, Greeting, Logons}
 use Rattle.credit_defs.specs.Window.{after_grant}
 use Rattle.world_defs.specs.Hearing.{Checked, is_negotiate, is_cancel}
-use Rattle.world_defs.specs.Related.{Carry, Turn, Goes, Fails, turn_of, related_turn}
+use Rattle.world_defs.specs.Related.{Carry, Turn, Goes, Fails, turn_of, failed_as, related_turn}
 use Rattle.world_defs.specs.Logon.{Progress, Stays, Interim, Final, progress, setup_progress}
 use Rattle.world_defs.specs.Connection.{told_of, heard_message, Taken, taken_with, Going, went_by, went_heard}
 use Rattle.world_defs.specs.Connection.{went_turn, went_all, said_to, said_failed}
@@ -149,7 +149,7 @@ failed_keeps : (old : ℕ → Option Making) (s : Server) (z : ServerSettings) (
     (g : Going) (c : Checked) (status : ℕ)
     → GoesOn old s k f g → GoesOn old s k f (went_turn z k now fresh f g c (Fails status))
 failed_keeps old s z k now fresh f g c status i =
-    either (GoesOn old s k f) (is_cancel c.header) _ _ (λ _. i) (λ _. said_keeps old s k f g c status i)
+    either (GoesOn old s k f) (is_cancel c.header) _ _ (λ _. i) (λ _. said_keeps old s k f g (failed_as g.carried c) status i)
 
 -- a message with the ids of another one is the same in command and fault
 abbrev TurnFine : Option Greeting → Turn → Type 0

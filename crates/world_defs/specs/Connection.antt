@@ -16,7 +16,7 @@ use Rattle.world_defs.specs.Settings.{ServerSettings}
 use Rattle.world_defs.specs.Ends.{ServerEnd, Logons, no_keys, chosen_on, client_on, signer_on, ConnEnd, Spent, Full}
 use Rattle.world_defs.specs.Hearing.{Checked, Frame, check_frame, is_negotiate, is_cancel}
 use Rattle.world_defs.specs.Negotiate.{negotiate_status, client_told}
-use Rattle.world_defs.specs.Related.{Carry, Turn, Goes, Fails, turn_of, carried_behind, carried_past}
+use Rattle.world_defs.specs.Related.{Carry, Turn, Goes, Fails, turn_of, failed_as, carried_behind, carried_past}
 use Rattle.world_defs.specs.Logon.{Progress, Stays, Final, progress, token_in, token_shows, exported, answer_token_by}
 use Rattle.world_defs.specs.Logon.{final_keys, logons_behind, signer_of}
 use Rattle.world_defs.specs.Answering.{Said, reply_header, said_body, joined_in, text_limit, all_texts, each_joined, concatenated, Seal}
@@ -123,10 +123,11 @@ went_heard z k now fresh f g c (Some m) = went_by z k now fresh f g c m (answer_
 abbrev pub went_turn : ServerSettings → ℕ → ℕ → List ℕ → ServerEnd → Going → Checked → Turn → Going
 went_turn z k now fresh f g old (Goes c) = went_heard z k now fresh f g c (heard_message z g.logons k f c)
 went_turn z k now fresh f g old (Fails status) =
+    let c = failed_as g.carried old in
     if is_cancel old.header then g
     else record g {
-      window = after_grant old.header.credits g.window;
-      replies = g.replies ++ said_failed f g.window old status ∷ [];
+      window = after_grant c.header.credits g.window;
+      replies = g.replies ++ said_failed f g.window c status ∷ [];
     }
 
 unfoldable pub went_all : ServerSettings → ℕ → ℕ → List ℕ → ServerEnd → Going → List Checked → Going

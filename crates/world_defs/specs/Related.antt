@@ -83,6 +83,11 @@ with_ids c y = record c {
   bytes = with_file c.header.command y.file c.bytes;
 }
 
+-- A reply to one that fails tells the ids of what it is related to: its own header may have FF throughout.
+abbrev pub failed_as : Option Carry → Checked → Checked
+failed_as None c = c
+failed_as (Some y) c = record c { header = record c.header { session = y.session; tree = y.tree } }
+
 abbrev pub related_turn : Checked → Carry → Turn
 related_turn c y = if y.status == 0 then Goes (with_ids c y) else Fails y.status
 
