@@ -1,5 +1,5 @@
 #!/usr/bin/env python3
-"""Writes the table of logon tokens, keys, signatures and sealed messages that the program crates/logon_vectors is run on.
+"""Writes the table of logon tokens, keys, signatures and sealed messages for a program crates/logon_vectors, which isn't here yet.
 
 usage: tools/session-vectors.py
 
@@ -270,7 +270,7 @@ def init_row(table, token, listed, ntlm_first, mech_token=None, mic=None):
     table.row(
         f"init {token.hex()}",
         f"list {listed.hex()} ntlm_first {str(ntlm_first).lower()} token {word_of(mech_token)} mic {word_of(mic)}",
-        f.init_token(listed, mech_token, mic).hex() if listed == f.mech_list(f.NTLM_OID) else "with another mechanism",
+        f.init_token(listed, mech_token, mic).hex(),
     )
 
 
@@ -364,7 +364,7 @@ def choices(table):
 
 
 def chains(table):
-    table.title("the preauthentication chain (MS-SMB2 3.3.5.4, 3.3.5.5)")
+    table.title("the preauthentication chain (MS-SMB2 3.1.4.4.1)")
     five = [said(f"{count}*{first}") for count, first in ((190, 1), (250, 2), (150, 3), (220, 4), (333, 5))]
     words = ["190*1", "250*2", "150*3", "220*4", "333*5"]
     for count in range(6):
