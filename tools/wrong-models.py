@@ -54,9 +54,13 @@ def refusal(text, crate):
 
 
 def pattern(text):
-    """What a text looks like where lines are broken in it: any white space for a space, and a last mark in a record."""
-    escaped = re.sub(r"(?:\\ |\\\n|\s)+", r"\\s+", re.escape(text))
-    return re.compile(escaped.replace(r"\s+\}", r";?\s+\}"))
+    """What a text looks like where lines are broken in it: any white space for inner spaces, and a last mark in a record.
+
+    White space at the text's ends stands as it is, since the new text has the same there."""
+    inner = text.strip()
+    escaped = re.sub(r"(?:\\ |\\\n|\s)+", r"\\s+", re.escape(inner))
+    before, behind = text.split(inner)
+    return re.compile(re.escape(before) + escaped.replace(r"\s+\}", r";?\s+\}") + re.escape(behind))
 
 
 def misplaced(change, top):

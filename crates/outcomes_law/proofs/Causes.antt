@@ -22,7 +22,7 @@ use Rattle.exchange_law.specs.Connections.{Connections, makes_open, its_create}
 use Rattle.exchange_law.proofs.Lists.{front_down}
 use Rattle.exchange_law.proofs.Reached.{run_more}
 use Rattle.exchange_law.proofs.Run.{connections}
-use Rattle.exchange_law.proofs.Stays.{Beyond, beyond}
+use Rattle.exchange_law.proofs.Stays.{Beyond, beyond, settled_stays}
 use Rattle.server_law.proofs.Logic.{either, front_of, back_of}
 use Rattle.completeness_law.proofs.Client.{Took, Finishing, Pushing, Slotless, Small, Takes, client_keeps}
 use Rattle.completeness_law.proofs.Events.{put_off, put_at}
@@ -41,7 +41,7 @@ record GoneNow (e : Event) (d : Client) (g create : ℕ) : Type 0 where
 
 record Caused (z : Settings) (es : List Event) (e : Event) (d : Client) : Type 0 where
   slot : (g create : ℕ) → d.outcome g ≡ NoSlot create → LacksSlot z (es ++ e ∷ []) g create
-  opening : (g create : ℕ) → d.outcome g ≡ NoOpen create → LacksOpen z (es ++ e ∷ []) g create ⊎ GoneNow e d g create
+  opening : (g create : ℕ) → d.outcome g ≡ NoOpen create → ((run es (start z)).client.outcome g ≡ NoOpen create) ⊎ GoneNow e d g create
   read : (g : ℕ) → d.outcome g ≡ Unknown (WithStatus success) → ⊥
 
 -- as it was before the event
@@ -71,18 +71,21 @@ later_open z es e g create h =
       after = h.after ++ e ∷ [];
       event = h.event;
       is = ap (λ xs. xs ++ e ∷ []) h.is ∙ append_assoc h.before (h.event ∷ h.after) (e ∷ []);
+      unsettled = h.unsettled;
+      came = h.came;
       named = h.named;
       unsent = h.unsent;
       gone = h.gone;
     }
 
 -- the outcomes are the old ones
-from_old : (z : Settings) (es : List Event) (e : Event) (c d : Client) → d.outcome ≡ c.outcome → Old z es c → Caused z es e d
-from_old z es e c d o h =
-    let at : (g : ℕ) → d.outcome g ≡ c.outcome g = λ g. ap (λ u. u g) o in
+from_old : (z : Settings) (es : List Event) (e : Event) (d : Client) → d.outcome ≡ (run es (start z)).client.outcome
+    → Old z es (run es (start z)).client → Caused z es e d
+from_old z es e d o h =
+    let at : (g : ℕ) → d.outcome g ≡ (run es (start z)).client.outcome g = λ g. ap (λ u. u g) o in
     record {
       slot = λ g create q. later_slot z es e g create (h.slot g create (sym (at g) ∙ q));
-      opening = λ g create q. inl (later_open z es e g create (h.opening g create (sym (at g) ∙ q)));
+      opening = λ g create q. inl (sym (at g) ∙ q);
       read = λ g q. h.read g (sym (at g) ∙ q);
     }
 
@@ -97,8 +100,8 @@ from_push z es e c d k o p h =
       read = λ g q. h.read g (sym (at g) ∙ q);
     }
   where
-    only : (g create : ℕ) → LacksOpen z (es ++ e ∷ []) g create ⊎ GoneNow e c g create → LacksOpen z (es ++ e ∷ []) g
-        create ⊎ GoneNow e d g create
+    only : (g create : ℕ) → ((run es (start z)).client.outcome g ≡ NoOpen create) ⊎ GoneNow e c g create
+        → ((run es (start z)).client.outcome g ≡ NoOpen create) ⊎ GoneNow e d g create
     only g create (inl y) = inl y
     only g create (inr y) = absurd (y.quiet k p)
 
@@ -158,12 +161,12 @@ slotless_caused z es e c k g l s h =
           (λ _ y. y) q);
     }
   where
-    old : (x create : ℕ) → c.outcome x ≡ NoOpen create → LacksOpen z (es ++ e ∷ []) x create ⊎ GoneNow e (record c {
-      outcome = put c.outcome g (NoSlot (create_for c g));
-    }) x create
+    old : (x create : ℕ) → c.outcome x ≡ NoOpen create → ((run es (start z)).client.outcome x ≡ NoOpen create)
+        ⊎ GoneNow e (record c { outcome = put c.outcome g (NoSlot (create_for c g)) }) x create
     old x create q = only (h.opening x create q)
       where
-        only : LacksOpen z (es ++ e ∷ []) x create ⊎ GoneNow e c x create → LacksOpen z (es ++ e ∷ []) x create
+        only : ((run es (start z)).client.outcome x ≡ NoOpen create) ⊎ GoneNow e c x create
+            → ((run es (start z)).client.outcome x ≡ NoOpen create)
             ⊎ GoneNow e (record c { outcome = put c.outcome g (NoSlot (create_for c g)) }) x create
         only (inl y) = inl y
         only (inr y) = absurd (y.quiet k (record { slotless = s.front ++ g ∷ s.rest; pick = s.pick; is = s.pushes }))
@@ -322,8 +325,8 @@ settles_caused z es e k g asking r place o t h =
     same_open : (n m : ℕ) → NoOpen n ≡ NoOpen m → n ≡ m
     same_open n m v = cc
 
-    open_by : (x create : ℕ) → d.outcome x ≡ NoOpen create → Left c d g o x → LacksOpen z (es ++ e ∷ []) x create ⊎ GoneNow e d x create
-    open_by x create q (Was y) = inl (later_open z es e x create (h.opening x create (sym y ∙ q)))
+    open_by : (x create : ℕ) → d.outcome x ≡ NoOpen create → Left c d g o x → (c.outcome x ≡ NoOpen create) ⊎ GoneNow e d x create
+    open_by x create q (Was y) = inl (sym y ∙ q)
     open_by x create q (Now y) = answer_not o (NoOpen create) _ answer refl (sym y ∙ q)
     open_by x create q (Lost n y a b f) =
         let v : n ≡ create = same_open n create (sym y ∙ q) in
@@ -462,9 +465,9 @@ ends_caused z es e c quiet own same h =
     slot_by x create q (OpenGone y a b) = absurd (let v = sym y ∙ q in cc)
 
     open_by : (x create : ℕ) → outcome_after_end c x (c.outcome x) ≡ NoOpen create
-        → Ended c x (outcome_after_end c x (c.outcome x)) → LacksOpen z (es ++ e ∷ []) x create
+        → Ended c x (outcome_after_end c x (c.outcome x)) → ((run es (start z)).client.outcome x ≡ NoOpen create)
         ⊎ GoneNow e (end_session c) x create
-    open_by x create q (AsBefore y) = inl (later_open z es e x create (h.opening x create (sym (back x) ∙ (sym y ∙ q))))
+    open_by x create q (AsBefore y) = inl (sym (back x) ∙ (sym y ∙ q))
     open_by x create q (WithSession y) = absurd (let v = sym y ∙ q in cc)
     open_by x create q (OpenGone y a b) =
         let v : create_for c x ≡ create = open_same (create_for c x) create (sym y ∙ q) in
@@ -512,9 +515,8 @@ finishes_caused z es e why f h =
     slot_by x create q (inr y) = absurd (let v = sym y ∙ q in cc)
 
     open_by : (x create : ℕ) → (finish c why).outcome x ≡ NoOpen create → ((finish c why).outcome x ≡ c.outcome x)
-        ⊎ ((finish c why).outcome x ≡ Unknown why) → LacksOpen z (es ++ e ∷ []) x create ⊎ GoneNow e (finish c why) x
-        create
-    open_by x create q (inl y) = inl (later_open z es e x create (h.opening x create (sym y ∙ q)))
+        ⊎ ((finish c why).outcome x ≡ Unknown why) → (c.outcome x ≡ NoOpen create) ⊎ GoneNow e (finish c why) x create
+    open_by x create q (inl y) = inl (sym y ∙ q)
     open_by x create q (inr y) = absurd (let v = sym y ∙ q in cc)
 
     read_by : (x : ℕ) → (finish c why).outcome x ≡ Unknown (WithStatus success)
@@ -569,10 +571,10 @@ takes_caused z es e a cn h g op is m =
           (outcome_at_first c g op) (c.outcome x) (λ _ y. absurd (not_slot (first_left c g op) y)) (λ _ y. y) q));
       opening = λ x create q.
           elim (x == g) as (λ b. x == g ≡ b → (if b then outcome_at_first c g op else c.outcome x) ≡ NoOpen create
-          → LacksOpen z (es ++ e ∷ []) x create ⊎ GoneNow e d x create) [
-            | true ↦ λ t y. let xg : x ≡ g = eqb-true x g t in subst (λ p. LacksOpen z (es ++ e ∷ []) p create
-                ⊎ GoneNow e d p create) (sym xg) (new create (first_left c g op) y)
-            | false ↦ λ t y. inl (later_open z es e x create (h.opening x create y))
+          → (c.outcome x ≡ NoOpen create) ⊎ GoneNow e d x create) [
+            | true ↦ λ t y. let xg : x ≡ g = eqb-true x g t in subst (λ p. (c.outcome p ≡ NoOpen create) ⊎ GoneNow e d p create)
+                (sym xg) (new create (first_left c g op) y)
+            | false ↦ λ t y. inl y
           ] refl q;
       read = λ x q. h.read x (either (λ o. o ≡ Unknown (WithStatus success) → c.outcome x
           ≡ Unknown (WithStatus success)) (x == g) (outcome_at_first c g op) (c.outcome x)
@@ -605,7 +607,7 @@ takes_caused z es e a cn h g op is m =
 
     new : (create : ℕ) → (outcome_at_first c g op ≡ Unsettled) ⊎ (outcome_at_first c g op ≡ NoOpen (create_of g op)
         × is_gone c (create_of g op) ≡ true × is_create op ≡ false) → outcome_at_first c g op ≡ NoOpen create
-        → LacksOpen z (es ++ e ∷ []) g create ⊎ GoneNow e d g create
+        → (c.outcome g ≡ NoOpen create) ⊎ GoneNow e d g create
     new create (inl y) q = absurd (let v = sym y ∙ q in cc)
     new create (inr y) q =
         let v : create_of g op ≡ create = open_same (create_of g op) create (sym y.0 ∙ q) in let b = below_self c g op m y.2 in
@@ -629,21 +631,21 @@ caused_small : (z : Settings) (es : List Event) (e : Event) → OwnCreate (run e
 caused_small z es e own h =
     let c = (run es (start z)).client in
     record {
-      opens = λ k. from_old z es e c _ refl h;
+      opens = λ k. from_old z es e _ refl h;
       slotless = λ d k g l s i. slotless_caused z es e d k g l s i;
       begins_op = λ d k g i m p j. from_push z es e d (outstanding (begun d g i) k g) k (begun_same d k g i) p j;
       asks = λ d k g m p i. from_push z es e d _ k refl p i;
       settles = λ k g asking r place o on firm t. settles_caused z es e k g asking r place o t h;
-      answers = λ g. from_old z es e c _ refl h;
-      joins = λ k g on. from_old z es e c _ refl h;
+      answers = λ g. from_old z es e _ refl h;
+      joins = λ k g on. from_old z es e _ refl h;
       ends = λ g d. ends_caused z es e (answered c g) (no_push_take e d.channel d.takes) own refl h;
       cut_ends = λ k on is. ends_caused z es e c (no_push_cut e k is) own refl h;
-      cuts = λ k on more is. from_old z es e c _ refl h;
-      goes = λ k te s y rest is token d. from_old z es e c _ refl h;
-      accepts = λ k r d. from_old z es e c _ refl h;
-      binds = λ k talks o live. from_old z es e c _ refl h;
-      begins = λ k tree at o dead. from_old z es e c _ refl h;
-      leaves = λ k rs. from_old z es e c _ refl h;
+      cuts = λ k on more is. from_old z es e _ refl h;
+      goes = λ k te s y rest is token d. from_old z es e _ refl h;
+      accepts = λ k r d. from_old z es e _ refl h;
+      binds = λ k talks o live. from_old z es e _ refl h;
+      begins = λ k tree at o dead. from_old z es e _ refl h;
+      leaves = λ k rs. from_old z es e _ refl h;
       finishes = λ why f. finishes_caused z es e why f h;
     }
 
@@ -655,24 +657,37 @@ one_caused z es e h =
     let w = run es (start z) in let cn = connections z es in
     let own = own_create w.client w _ cn (beyond z es) in
     let behind : Caused z es e (happens w e).client = client_keeps (Caused z es e) w e (takes_caused z es e _ cn h)
-    (caused_small z es e own h) (from_old z es e w.client w.client refl h) in
+    (caused_small z es e own h) (from_old z es e w.client refl h) in
     subst (λ (v : World). Old z (es ++ e ∷ []) v.client) (sym (run_more es e (start z)))
-    (record { slot = behind.slot; opening = λ g create q. by g create (behind.opening g create q); read = behind.read })
+    (record { slot = behind.slot; opening = λ g create q. by g create q (behind.opening g create q); read = behind.read })
   where
-    by : (g create : ℕ) → LacksOpen z (es ++ e ∷ []) g create ⊎ GoneNow e (happens (run es (start z)) e).client g create
-        → LacksOpen z (es ++ e ∷ []) g create
-    by g create (inl y) = y
-    by g create (inr y) =
-        let at = run_more es e (start z) in
+    at : run (es ++ e ∷ []) (start z) ≡ happens (run es (start z)) e
+    at = run_more es e (start z)
+
+    -- what had settled before the event had this outcome already
+    now : (g create : ℕ) → (happens (run es (start z)) e).client.outcome g ≡ NoOpen create
+        → GoneNow e (happens (run es (start z)) e).client g create → (b : Bool)
+        → is_unsettled ((run es (start z)).client.outcome g) ≡ b → LacksOpen z (es ++ e ∷ []) g create
+    now g create q y false u = later_open z es e g create
+        (h.opening g create (sym (settled_stays z es (e ∷ []) g u) ∙ (ap (λ (v : World). v.client.outcome g) at ∙ q)))
+    now g create q y true u =
         record {
           before = es;
           after = [];
           event = e;
           is = refl;
+          unsettled = u;
+          came = subst (λ (v : World). v.client.outcome g ≡ NoOpen create) (sym at) q;
           named = subst (λ (v : World). create ≡ create_for v.client g) (sym at) y.named;
           unsent = subst (λ (v : World). v.client.sent g ≡ false) (sym at) y.unsent;
           gone = subst (λ (v : World). is_gone v.client create ≡ true) (sym at) y.gone;
         }
+
+    by : (g create : ℕ) → (happens (run es (start z)) e).client.outcome g ≡ NoOpen create
+        → ((run es (start z)).client.outcome g ≡ NoOpen create) ⊎ GoneNow e (happens (run es (start z)) e).client g create
+        → LacksOpen z (es ++ e ∷ []) g create
+    by g create q (inl y) = later_open z es e g create (h.opening g create y)
+    by g create q (inr y) = now g create q y (is_unsettled ((run es (start z)).client.outcome g)) refl
 
 none_caused : (z : Settings) → OldAll z []
 unfolding run

@@ -1,12 +1,14 @@
 -- On every run a success that waits reads as its operation's, and each reply that waits was made at some Serve.
 use Rattle.std.proofs.lemmas.List.{append-nil, append_assoc}
-use Rattle.std.proofs.Common.{◌≡◌, ◌≢◌, ℕ, ◌+◌, ◌≤◌, ◌==◌, true, false, not, List, [], ◌∷◌, ◌++◌, refl, arith, sym}
+use Rattle.std.proofs.Common.{◌≡◌, ◌≢◌, ℕ, ◌+◌, ◌≤◌, ◌==◌, Bool, true, false, not, if◌then◌else◌, List, [], ◌∷◌}
+use Rattle.std.proofs.Common.{◌++◌, refl, arith, sym}
 use Rattle.std.proofs.Common.{subst, ◌∙◌, ap, eqb-true}
 use Rattle.exchange_defs.specs.Status.{success}
 use Rattle.exchange_defs.specs.Operations.{Op, request_of}
 use Rattle.exchange_defs.specs.Client.{Client, guid_for, may_take, take_op}
 use Rattle.exchange_defs.specs.Network.{World, Event, Submit, Open, Push, Serve, Take, Cut, Drop, Restart, Crash, Wait}
 use Rattle.exchange_defs.specs.Network.{Finish, Sent, Received, ForOp, Settings, run, start, happens, later, answer}
+use Rattle.exchange_defs.specs.Network.{may_serve, is_possible, changed, moments}
 use Rattle.exchange_law.specs.Connections.{Connections, create_at, its_request}
 use Rattle.exchange_law.proofs.Lists.{front_up}
 use Rattle.exchange_law.proofs.Run.{connections}
@@ -100,6 +102,7 @@ pub record Made (z : Settings) (es : List Event) (y : Received) : Type 0 where
   pub after : List Event
   pub channel : ℕ
   pub is : es ≡ before ++ Serve channel ∷ after
+  pub met : may_serve (run before (start z)) channel ≡ true
   pub front : Sent
   pub rest : List Sent
   pub waits : ((run before (start z)).conns channel).up ≡ front ∷ rest
@@ -117,6 +120,7 @@ made_later z es e y h =
       after = h.after ++ e ∷ [];
       channel = h.channel;
       is = ap (λ xs. xs ++ e ∷ []) h.is ∙ append_assoc h.before (Serve h.channel ∷ h.after) (e ∷ []);
+      met = h.met;
       front = h.front;
       rest = h.rest;
       waits = h.waits;
@@ -129,17 +133,20 @@ none_made : (z : Settings) → MadeAll z []
 unfolding run
 none_made z k n y at = absurd (cc)
 
-pub made : (z : Settings) (es : List Event) → MadeAll z es
-made z =
-    every (MadeAll z) (none_made z)
-    (λ es e h. let w = run es (start z) in
-    subst (λ (v : World). AllDown (Made z (es ++ e ∷ [])) v.conns) (sym (run_more es e (start z)))
-    (still_all_down (Made z (es ++ e ∷ [])) w e
+-- an event that the world doesn't meet leaves it as it is
+unmet : (w : World) (e : Event) → is_possible w e ≡ false → happens w e ≡ w
+unmet w e n = ap (λ (b : Bool). if b then later (changed w e) (moments e) else w) n
+
+made_by : (z : Settings) (es : List Event) (e : Event) → MadeAll z es → (b : Bool) → is_possible (run es (start z)) e ≡ b
+    → AllDown (Made z (es ++ e ∷ [])) (happens (run es (start z)) e).conns
+made_by z es e h true m =
+    still_all_down (Made z (es ++ e ∷ [])) (run es (start z)) e
     (λ k x rest s is o. record {
       before = es;
       after = [];
       channel = k;
       is = ap (λ v. es ++ v ∷ []) s;
+      met = subst (λ v. is_possible (run es (start z)) v ≡ true) s m;
       front = x;
       rest = rest;
       waits = is;
@@ -147,4 +154,12 @@ made z =
       reply = refl;
       place = refl;
     })
-    (λ k n y at. made_later z es e y (h k n y at))))
+    (λ k n y at. made_later z es e y (h k n y at))
+made_by z es e h false m = subst (λ (v : World). AllDown (Made z (es ++ e ∷ [])) v.conns) (sym (unmet (run es (start z)) e m))
+    (λ k n y at. made_later z es e y (h k n y at))
+
+pub made : (z : Settings) (es : List Event) → MadeAll z es
+made z =
+    every (MadeAll z) (none_made z)
+    (λ es e h. subst (λ (v : World). AllDown (Made z (es ++ e ∷ [])) v.conns) (sym (run_more es e (start z)))
+    (made_by z es e h (is_possible (run es (start z)) e) refl))

@@ -2,10 +2,11 @@
 use Rattle.std.specs.Prelude.{◌≡◌, ◌≢◌, ℕ, Bool, true, false, if◌then◌else◌, List, [], ◌∷◌, ◌++◌, Option, Some, is_some, slice_get}
 use Rattle.exchange_defs.specs.Status.{success}
 use Rattle.exchange_defs.specs.State.{Reply}
-use Rattle.exchange_defs.specs.Operations.{Op, OpReply, Outcome, WasOk, WasRefused, NoSlot, NoOpen, Unknown, WithStatus, is_firm, value_in}
+use Rattle.exchange_defs.specs.Operations.{Op, OpReply, Outcome, WasOk, WasRefused, NoSlot, NoOpen, Unknown, WithStatus, is_firm}
+use Rattle.exchange_defs.specs.Operations.{is_unsettled, value_in}
 use Rattle.exchange_defs.specs.Client.{create_for, is_gone, lacks_slot, settle_no_slots}
 use Rattle.exchange_defs.specs.ClientStep.{Pick}
-use Rattle.exchange_defs.specs.Network.{Event, Push, Serve, Sent, Received, ForOp, ForAttach, Settings, run, start, answer}
+use Rattle.exchange_defs.specs.Network.{Event, Push, Serve, Sent, Received, ForOp, ForAttach, Settings, run, start, answer, may_serve}
 use Rattle.completeness_law.specs.Completeness.{without_losses}
 
 -- ---- a success reads
@@ -37,13 +38,16 @@ pub record LacksSlot (z : Settings) (events : List Event) (g create : ℕ) : Typ
   pub named : create ≡ create_for (run before (start z)).client g
   pub lacks : lacks_slot (settle_no_slots (run before (start z)).client channel front) channel g ≡ true
 
--- The event behind which an operation has no open: it never went out, and its create gives no open any more, since it settled
--- otherwise than Ok, or a close of it settled Ok, or its plain open's session ended.
+-- The event at which an operation came to have no open: it was unsettled until then; behind it, it never went out, and its
+-- create gives no open any more, since it settled otherwise than Ok, or a close of it settled Ok, or its plain open's session
+-- ended.
 pub record LacksOpen (z : Settings) (events : List Event) (g create : ℕ) : Type 0 where
   pub before : List Event
   pub after : List Event
   pub event : Event
   pub is : events ≡ before ++ event ∷ after
+  pub unsettled : is_unsettled ((run before (start z)).client.outcome g) ≡ true
+  pub came : (run (before ++ event ∷ []) (start z)).client.outcome g ≡ NoOpen create
   pub named : create ≡ create_for (run (before ++ event ∷ []) (start z)).client g
   pub unsent : (run (before ++ event ∷ []) (start z)).client.sent g ≡ false
   pub gone : is_gone (run (before ++ event ∷ []) (start z)).client create ≡ true
@@ -63,13 +67,14 @@ pub data SettledAs (op : Op) (own : Bool) (r : Reply) : Outcome → Type 0 where
   AsOk : (reply : OpReply) → own ≡ true → r.status ≡ success → value_in op r.body ≡ Some reply → SettledAs op own r (WasOk reply)
   AsRefused : r.status ≢ success → SettledAs op own r (WasRefused r.status)
 
--- The event at which the server answered the message of the operation whose reply settled it: the front of a channel, by the
--- server's step in the world before that event.
+-- The event at which the server answered the message of the operation whose reply settled it: a Serve that the world before it
+-- meets takes the front of a channel, and the server's step there gives the reply.
 pub record Answered (z : Settings) (events : List Event) (g : ℕ) (op : Op) (settled_by : Option ℕ) (outcome : Outcome) : Type 0 where
   pub before : List Event
   pub after : List Event
   pub channel : ℕ
   pub is : events ≡ before ++ Serve channel ∷ after
+  pub met : may_serve (run before (start z)) channel ≡ true
   pub front : Sent
   pub rest : List Sent
   pub waits : ((run before (start z)).conns channel).up ≡ front ∷ rest
