@@ -1,0 +1,16 @@
+pub mod Keys
+pub mod Entries
+pub mod Rows
+pub mod Order
+pub mod Below
+pub mod Found
+pub mod Raised
+pub mod Children
+pub mod Full
+pub mod Counts
+pub mod RowsMade
+pub mod Refused
+pub mod Long
+pub mod Housed
+pub mod Plain
+pub mod Lengths

@@ -1,0 +1,13 @@
+use Rattle.std.proofs.Common.{sym, ◌∙◌, ap, refl}
+use Rattle.file_store.specs.Shown.{at_key, folded}
+use Rattle.file_store.proofs.Refused.{cancelled}
+use Rattle.file_store.proofs.RowsMade.{same_rows}
+use Rattle.file_store.proofs.tree.Tree.cancel_make.Goals as goal
+
+pub returns-clause-shown : goal.returns-clause-shown
+returns-clause-shown c = λ s path directory attributes now p.
+    let k = c.as_str.ensures.value ∙ (p.row_is.row_is.key_is ∙ ap folded p.row_is.path_is) in
+    record {
+      rows = same_rows c.args.self.now _ s (λ q. refl) refl refl refl refl refl p.rows;
+      keys_are = λ q. cancelled (folded path) q _ _ c.args.self.now.next (λ r. at_key s.entries r) p.free (rw (sym k) (c.forget_path.ensures q)) (p.keys_are q);
+    }

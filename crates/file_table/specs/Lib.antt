@@ -1,4 +1,0 @@
-pub mod Keys
-pub mod Shown
-pub mod Refusals
-pub mod Made
