@@ -22,23 +22,30 @@ def default(part):
 
 HEAD = """use Rattle.std.proofs.lemmas.Bool.{eqb-false}
 use Rattle.std.proofs.lemmas.Bool.Decides.{nat_tests}
-use Rattle.std.proofs.Common.{eqb-true, ◌≡◌, ◌≢◌, ℕ, ◌+◌, ◌≤◌, ◌<◌, ◌==◌, Bool, true, false, not, ◌&&◌, ◌||◌, if◌then◌else◌, List, [], ◌∷◌, ◌++◌, ◌⊎◌, inl, inr, refl, arith, sym, subst, ◌∙◌, ap, Option, Some, None, slice_get, is_some, zero, suc}
+use Rattle.std.proofs.Common.{eqb-true, ◌≡◌, ◌≢◌, ℕ, ◌+◌, ◌≤◌, ◌<◌, ◌==◌, Bool, true, false, not, ◌&&◌, ◌||◌,
+    if◌then◌else◌, List, [], ◌∷◌, ◌++◌, ◌⊎◌, inl, inr, refl, arith, sym, subst, ◌∙◌, ap, Option, Some, None, slice_get, is_some, zero, suc}
 use Rattle.exchange_defs.specs.Table.{put, put2, is_at}
 use Rattle.exchange_defs.specs.Status.{success, file_not_available, file_closed, user_session_deleted, end_of_file}
 use Rattle.exchange_defs.specs.Content.{ContentReply}
 use Rattle.exchange_defs.specs.Order.{Log, Says_ok, Says_end, Settled_ok, Settled_end}
 use Rattle.exchange_defs.specs.State.{Server, Message, Reply}
-use Rattle.exchange_defs.specs.Operations.{Op, Outcome, Unsettled, Why, is_unsettled, is_firm, is_ok, is_create, persists, create_of, id_in, share_of, reconnect_of, HadStatus}
-use Rattle.exchange_defs.specs.Client.{Client, Stage, Apart, AskedTree, guid_for, SaidNegotiate, create_for, outstanding as put_out, take_slot, asked, cut_channel, end_session, finish, is_taken, outcome_after_end, given_up_after_end, outcome_after_finish, given_up_after_finish, bind_channel, begin_session, leave_dialog, note_refusal}
+use Rattle.exchange_defs.specs.Operations.{Op, Outcome, Unsettled, Why, is_unsettled, is_firm, is_ok, is_create,
+    persists, create_of, id_in, share_of, reconnect_of, HadStatus}
+use Rattle.exchange_defs.specs.Client.{Client, Stage, Apart, AskedTree, guid_for, SaidNegotiate, create_for,
+    outstanding as put_out, take_slot, asked, cut_channel, end_session, finish, is_taken, outcome_after_end,
+    given_up_after_end, outcome_after_finish, given_up_after_finish, bind_channel, begin_session, leave_dialog, note_refusal}
 use Rattle.exchange_defs.specs.Settling.{answered, joined, settled as settled_by}
 use Rattle.exchange_defs.specs.Dialogs.{open_channel, went_on, accepted, told_session}
 use Rattle.exchange_defs.specs.Runs.{settlement}
-use Rattle.exchange_defs.specs.Network.{Conn, Sent, Received, Trace, Token, ForDialog, ForOp, ForAttach, op_of, is_own, fresh as fresh_conn, server_off, client_off, send_up, behind_front, take_front, said}
+use Rattle.exchange_defs.specs.Network.{Conn, Sent, Received, Trace, Token, ForDialog, ForOp, ForAttach, op_of, is_own,
+    fresh as fresh_conn, server_off, client_off, send_up, behind_front, take_front, said}
 use Rattle.exchange_law.specs.Connections.{create_at, makes_open, its_create, no_copy_out, count_up, count_down, CONNECTIONS}
-use Rattle.exchange_law.proofs.Lists.{get-push, own_up_count, attach_up_count, own_down_count, attach_down_count, front_up, front_down, waited, waited_down}
+use Rattle.exchange_law.proofs.Lists.{get-push, own_up_count, attach_up_count, own_down_count, attach_down_count,
+    front_up, front_down, waited, waited_down}
 use Rattle.session_law.specs.Sessions.{is_ops}
 use Rattle.order_law.specs.Newest.{Pair}
-use Rattle.order_law.specs.Contents.{Contents, edits, lists, formed, isolating, clashes, bytes_after, reply_to, ends_before, file_at, pends, last_id, is_final, PARTS}
+use Rattle.order_law.specs.Contents.{Contents, edits, lists, formed, isolating, clashes, bytes_after, reply_to,
+    ends_before, file_at, pends, last_id, is_final, PARTS}
 use Rattle.order_law.proofs.Moved.{Steps, Moves, live_back}
 use Rattle.order_law.proofs.Words.{WORDS}
 """.replace("PARTS", ", ".join(type_name(p) for p in PARTS))
@@ -46,7 +53,8 @@ use Rattle.order_law.proofs.Words.{WORDS}
 
 
 STATE = "(c : Client) (conns : ℕ → Conn) (s : Server) (t : Trace) (l : Log) (a : ℕ → ℕ)"
-LOWER = {p: (type_name(p), arguments_in(CONNECTIONS, type_name(p))) for p in re.findall(r"^  pub (\w+) : ", CONNECTIONS[CONNECTIONS.index("pub record Connections"):], re.M)}
+LOWER = {p: (type_name(p), arguments_in(CONNECTIONS, type_name(p))) for p in re.findall(r"^  pub (\w+) : ",
+    CONNECTIONS[CONNECTIONS.index("pub record Connections"):], re.M)}
 
 
 def emit(event):
@@ -69,7 +77,8 @@ def emit(event):
         # what quantifies is given to the parts that name it alone, and the rest to each
         bare = re.sub(r"\b(i|cn)\.\w+", "", term)
         needs = [(n, ty) for n, ty in event.needs if n not in event.narrow or re.search(r"(?<![\w.])%s\b" % n, bare)]
-        premises = premised(needs) + "".join("C.%s %s → " % (LOWER[q][0], " ".join(LOWER[q][1])) for q in lower) + "".join("%s %s → " % (type_name(q), " ".join(ARGUMENTS[q])) for q in parts)
+        premises = premised(needs) + "".join("C.%s %s → " % (LOWER[q][0], " ".join(LOWER[q][1]))
+            for q in lower) + "".join("%s %s → " % (type_name(q), " ".join(ARGUMENTS[q])) for q in parts)
         goal = type_name(part) + " " + " ".join(event.state[w] for w in ARGUMENTS[part])
         given = before + [n for n, _ in needs] + ["cn_" + q for q in lower]
         name = "%s_%s" % (low, part)
@@ -84,7 +93,8 @@ def emit(event):
     used = sorted(set(re.findall(r"\bC\.(\w+)", text)))
     text = text.replace("CONNECTIONS", ", ".join("%s as C%s" % (u, u) for u in used) if used else "copies").replace("C.", "C")
     words_used = [w for w in WORDS if re.search(r"(?<![\w.])%s\b" % w, "".join(out[2:]))]
-    text = text.replace("use Rattle.order_law.proofs.Words.{WORDS}\n", "use Rattle.order_law.proofs.Words.{%s}\n" % ", ".join(words_used) if words_used else "")
+    text = text.replace("use Rattle.order_law.proofs.Words.{WORDS}\n", "use Rattle.order_law.proofs.Words.{%s}\n"
+        % ", ".join(words_used) if words_used else "")
     write_module(TOP, "On" + event.name, text)
 
 

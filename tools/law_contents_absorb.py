@@ -34,6 +34,7 @@ missing = [p for p in PARTS if p not in calls]
 print("missing", missing)
 if not missing:
     behind = "Contents " + " ".join(after[w] for w in ("c", "conns", "s", "t", "l", "a"))
-    out.append(step("absorb_keeps", OVER, premised(needs), "Contents c conns s t l a", behind, " ".join(VARIABLES + [n for n, _ in needs] + ["i"])))
+    out.append(step("absorb_keeps", OVER, premised(needs), "Contents c conns s t l a", behind,
+        " ".join(VARIABLES + [n for n, _ in needs] + ["i"])))
     out.append(fields(PARTS, calls))
 write_module(TOP, "OnAbsorb", "".join(out))

@@ -44,7 +44,8 @@ PARTS = {
 
 # parts of the layer of connections, cited as f.NAME
 FIT = {
-    "once": "conns", "outstanding": "c conns", "own_up": "c conns", "down_open": "conns", "on_ready": "c", "ready": "c conns", "settled": "c", "taken": "c",
+    "once": "conns", "outstanding": "c conns", "own_up": "c conns", "down_open": "conns", "on_ready": "c",
+    "ready": "c conns", "settled": "c", "taken": "c",
     "fresh": "c a", "bodies": "c conns", "first": "c conns a", "sent_replies": "c conns",
 }
 
@@ -57,22 +58,28 @@ def default(part):
 
 HEAD = """use Rattle.std.proofs.lemmas.Bool.{eqb-false}
 use Rattle.std.proofs.lemmas.Bool.Decides.{nat_tests}
-use Rattle.std.proofs.Common.{eqb-true, ◌≡◌, ◌≢◌, ℕ, ◌+◌, ◌≤◌, ◌<◌, ◌==◌, Bool, true, false, not, ◌&&◌, ◌||◌, if◌then◌else◌, List, [], ◌∷◌, ◌++◌, ◌⊎◌, inl, inr, refl, arith, sym, subst, ◌∙◌, ap, Option, Some, None, slice_get, is_some, zero, suc}
+use Rattle.std.proofs.Common.{eqb-true, ◌≡◌, ◌≢◌, ℕ, ◌+◌, ◌≤◌, ◌<◌, ◌==◌, Bool, true, false, not, ◌&&◌, ◌||◌,
+    if◌then◌else◌, List, [], ◌∷◌, ◌++◌, ◌⊎◌, inl, inr, refl, arith, sym, subst, ◌∙◌, ap, Option, Some, None, slice_get, is_some, zero, suc}
 use Rattle.exchange_defs.specs.Table.{put, put2}
 use Rattle.exchange_defs.specs.Status.{success, user_session_deleted}
 use Rattle.exchange_defs.specs.State.{Message, Reply, Open as OpenRow}
 use Rattle.exchange_defs.specs.Operations.{Op, Outcome, Unsettled, Why, is_unsettled, is_ok, id_in, HadStatus}
-use Rattle.exchange_defs.specs.Client.{Client, Stage, take_slot, outstanding as put_out, asked, cut_channel, end_session, finish, bind_channel, begin_session, leave_dialog, note_refusal}
+use Rattle.exchange_defs.specs.Client.{Client, Stage, take_slot, outstanding as put_out, asked, cut_channel,
+    end_session, finish, bind_channel, begin_session, leave_dialog, note_refusal}
 use Rattle.exchange_defs.specs.Settling.{answered, joined, settled as settled_by}
 use Rattle.exchange_defs.specs.Dialogs.{open_channel, went_on, accepted}
-use Rattle.exchange_defs.specs.Network.{Conn, Sent, Received, Token, ForDialog, ForOp, ForAttach, op_of, fresh as fresh_conn, server_off, client_off, send_up, behind_front, take_front}
+use Rattle.exchange_defs.specs.Network.{Conn, Sent, Received, Token, ForDialog, ForOp, ForAttach, op_of,
+    fresh as fresh_conn, server_off, client_off, send_up, behind_front, take_front}
 use Rattle.exchange_defs.specs.Runs.{never_acted}
 use Rattle.exchange_law.specs.Connections.{copies, makes_open, FIT}
-use Rattle.exchange_law.proofs.Lists.{get-push, counted_up, counted_down, own_up_count, own_down_count, front_up, front_down, waited, waited_down}
+use Rattle.exchange_law.proofs.Lists.{get-push, counted_up, counted_down, own_up_count, own_down_count, front_up,
+    front_down, waited, waited_down}
 use Rattle.session_law.specs.Sessions.{logon_user}
-use Rattle.create_law.specs.Creates.{Seen, Creates, Restarts, own_guid, guid_at, named, is_kept, is_current, is_barred, is_full, refuses, outlives, keeps_form, is_of_dialog, is_of_ask, has_files, may_act, PARTS}
+use Rattle.create_law.specs.Creates.{Seen, Creates, Restarts, own_guid, guid_at, named, is_kept, is_current, is_barred,
+    is_full, refuses, outlives, keeps_form, is_of_dialog, is_of_ask, has_files, may_act, PARTS}
 use Rattle.create_law.proofs.Words.{guid_once, full_more, after_end}
-use Rattle.create_law.proofs.Moves.{refuse_in, attach_to, make_new, leave_by, closed_by, shut_in, expire_by, goes_with, named_still, end_of, begin_of}
+use Rattle.create_law.proofs.Moves.{refuse_in, attach_to, make_new, leave_by, closed_by, shut_in, expire_by, goes_with,
+    named_still, end_of, begin_of}
 """
 CLASH = {"Named": "Named", "Attached": "Attached"}
 HEAD = HEAD.replace("PARTS", ", ".join(type_name(p) for p in PARTS)).replace("FIT", ", ".join(type_name(p) for p in FIT))
@@ -91,7 +98,8 @@ class Event:
 OLD_UP = "let o9 = waited conns k x0 rest j n y is h in "
 OLD_DOWN = "let o9 = waited_down conns k y0 rest j n y is h in "
 # what waits as a reply on an open connection is outstanding there
-OUT = "let n1 = own_down_count p (conns j).down n y h' t in let u = f.outstanding j p in let d = f.down_open j in let sr = f.sent_replies j n p y h' t in let tk = f.taken p sr in "
+OUT = ("let n1 = own_down_count p (conns j).down n y h' t in let u = f.outstanding j p in let d = "
+    "f.down_open j in let sr = f.sent_replies j n p y h' t in let tk = f.taken p sr in ")
 DOWN = "let h' : slice_get (conns j).down n ≡ Some y = grind arith in "
 # the replies and copies of a create are of one that was sent, and so of one that was taken
 SENT_UP = "let b9 = f.bodies j n p y h t in let tk = f.taken p b9.0 in "
@@ -104,7 +112,8 @@ EVENTS = [
           c="(record c { taken = g; op = put c.op g op; outcome = put c.outcome g out })",
           parts={
               "made": "λ p o h. let old = i.made p o h in let fr = f.fresh p in let tk = f.taken p in grind arith",
-              "named_kind": "λ p o h. let old = i.named_kind p o h in let md = i.made p o h in let fr = f.fresh p in let tk = f.taken p in grind arith",
+              "named_kind": "λ p o h. let old = i.named_kind p o h in let md = i.made p o h in let fr = f.fresh p in let tk = "
+                  "f.taken p in grind arith",
               "unclosed": "λ p. let old = i.unclosed p in let fr = f.fresh p in let tk = f.taken p in grind arith",
               "acted_kept": "λ j n p y h t. let old = i.acted_kept j n p y h t in " + SENT_UP + "grind arith",
               "at_most": "λ p. let old = i.at_most p in let fr = f.fresh p in let tk = f.taken p in grind arith",
@@ -122,21 +131,25 @@ EVENTS = [
               "plain_dead": "λ p. let old = i.plain_dead p in let tk = f.taken p in grind arith",
               "asking_other": "λ p. let old = i.asking_other p in grind arith",
           }),
-    Event("Opened", "a connection is made", "up down", "(k : ℕ) (served : Bool)", c="(open_channel c k)", conns="(put conns k (fresh_conn c k served))"),
+    Event("Opened", "a connection is made", "up down", "(k : ℕ) (served : Bool)", c="(open_channel c k)",
+    conns="(put conns k (fresh_conn c k served))"),
     Event("Dropped", "the server closes its end", "up", "(k : ℕ)", conns="(put conns k (server_off (conns k)))"),
     Event("Outcomes", "operations other than creates settle without a reply", "outcome", "(new : ℕ → Outcome)",
           [("same", "(h : ℕ) → makes_open (c.op h) ≡ true → new h ≡ c.outcome h")], c="(record c { outcome = new })",
           parts={p: None for p in ("unclosed", "refused_not", "dead_refused", "ok_acted", "file_guid", "file_of", "plain_dead")}),
     Event("TakeSlot", "a lock takes a slot", "", "(g s : ℕ)", c="(take_slot c g s)"),
-    Event("Start", "an operation goes out first", "sent", "(g : ℕ)", [("lives", "c.live ≡ true")], c="(record c { sent = put c.sent g true })"),
-    Event("Front", "the front leaves", "up", "(k : ℕ) (x0 : Sent) (rest : List Sent)", [("is", "(conns k).up ≡ x0 ∷ rest")], conns="(put conns k (behind_front (conns k) rest))",
+    Event("Start", "an operation goes out first", "sent", "(g : ℕ)", [("lives", "c.live ≡ true")],
+    c="(record c { sent = put c.sent g true })"),
+    Event("Front", "the front leaves", "up", "(k : ℕ) (x0 : Sent) (rest : List Sent)",
+    [("is", "(conns k).up ≡ x0 ∷ rest")], conns="(put conns k (behind_front (conns k) rest))",
           parts={
               "acted_kept": "λ j n p y h. " + OLD_UP + "i.acted_kept j o9.0 p y o9.1",
               "dead_refused": "λ j n p y h. " + OLD_UP + "i.dead_refused j o9.0 p y o9.1",
               "dialog_up": "λ j n y h. " + OLD_UP + "i.dialog_up j o9.0 y o9.1",
               "ask_up": "λ j n p y h. " + OLD_UP + "i.ask_up j o9.0 p y o9.1",
           }),
-    Event("Behind", "a reply leaves its connection", "down", "(k : ℕ) (y0 : Received) (rest : List Received)", [("is", "(conns k).down ≡ y0 ∷ rest")],
+    Event("Behind", "a reply leaves its connection", "down", "(k : ℕ) (y0 : Received) (rest : List Received)",
+    [("is", "(conns k).down ≡ y0 ∷ rest")],
           conns="(put conns k (take_front (conns k) rest))",
           parts={
               "no_reply": "λ j n p y h. " + OLD_DOWN + "i.no_reply j o9.0 p y o9.1",
@@ -147,43 +160,57 @@ EVENTS = [
           }),
     Event("WentOn", "a dialog goes on", "", "(k : ℕ) (stage : Stage) (r : Reply)", c="(went_on c k stage r)"),
     Event("Accepted", "a new session is accepted", "rank", "(k : ℕ)", c="(accepted c k)"),
-    Event("DialogRefused", "a dialog is refused, and the client closes its channel", "down", "(k status : ℕ)", c="(note_refusal c k (HadStatus status))", conns="(put conns k (client_off (conns k)))"),
-    Event("DialogSent", "the next message of a dialog goes out", "up", "(k n0 : ℕ) (m : Message)", [("says", "is_of_dialog m.command ≡ true")],
+    Event("DialogRefused", "a dialog is refused, and the client closes its channel", "down", "(k status : ℕ)",
+    c="(note_refusal c k (HadStatus status))", conns="(put conns k (client_off (conns k)))"),
+    Event("DialogSent", "the next message of a dialog goes out", "up", "(k n0 : ℕ) (m : Message)",
+    [("says", "is_of_dialog m.command ≡ true")],
           conns="(put conns k (send_up (conns k) ForDialog m n0))"),
     Event("Bound", "a further channel is ready", "", "(k : ℕ)", c="(bind_channel c k)"),
-    Event("Readied", "a session is ready", "live session", "(k session tree : ℕ)", [("dead", "c.live ≡ false")], c="(begin_session c k session tree)",
+    Event("Readied", "a session is ready", "live session", "(k session tree : ℕ)", [("dead", "c.live ≡ false")],
+    c="(begin_session c k session tree)",
           parts={
               "unclosed": "λ p. let old = i.unclosed p in let pd = i.plain_dead p in let fr = f.fresh p in grind arith",
               "barred_reply": "λ j n p y h t. let h' = h in " + OUT + "let on = f.on_ready p j in let rd = f.ready j in grind arith",
           }),
-    Event("DialogOff", "the client closes a channel that isn't ready", "down", "(k : ℕ)", c="(leave_dialog c k)", conns="(put conns k (client_off (conns k)))"),
-    Event("Cut", "a ready channel is cut", "down unanswered", "(k : ℕ)", c="(cut_channel c k)", conns="(put conns k (client_off (conns k)))",
+    Event("DialogOff", "the client closes a channel that isn't ready", "down", "(k : ℕ)", c="(leave_dialog c k)",
+    conns="(put conns k (client_off (conns k)))"),
+    Event("Cut", "a ready channel is cut", "down unanswered", "(k : ℕ)", c="(cut_channel c k)",
+    conns="(put conns k (client_off (conns k)))",
           parts={
               "no_reply": "λ j n p y h t. " + DOWN + OUT + "let old = i.no_reply j n p y h' t in grind arith",
               "barred_reply": "λ j n p y h t. " + DOWN + OUT + "let old = i.barred_reply j n p y h' t in grind arith",
           }),
     Event("Leave", "the session ends", "down unanswered live outcome", c="(end_session c)", conns="(λ q. client_off (conns q))",
           parts={
-              "unclosed": "λ p m u l s. let e = after_end c p m in let old = i.unclosed p m (e.still u) l in let lasts = e.lasts u in let fr = f.fresh p in grind arith",
+              "unclosed": "λ p m u l s. let e = after_end c p m in let old = i.unclosed p m (e.still u) l in let lasts = "
+                  "e.lasts u in let fr = f.fresh p in grind arith",
               "refused_not": "λ p m. let e = (after_end c p m).never in let old = i.refused_not p m in grind arith",
-              "dead_refused": "λ j n p y h t m. let h' : slice_get (conns j).up n ≡ Some y = grind arith in let e = (after_end c p m).never in let old = i.dead_refused j n p y h' t m in grind arith",
+              "dead_refused": "λ j n p y h t m. let h' : slice_get (conns j).up n ≡ Some y = grind arith in let e = (after_end c p "
+                  "m).never in let old = i.dead_refused j n p y h' t m in grind arith",
               "ok_acted": "λ p m. let e = (after_end c p m).ok in let old = i.ok_acted p m in grind arith",
               "file_guid": "λ p m. let e = (after_end c p m).ok in let old = i.file_guid p m in grind arith",
               "file_of": "λ p o m. let e = (after_end c p m).ok in let old = i.file_of p o m in grind arith",
               "plain_dead": "λ p l m. let e = (after_end c p m).lasts in grind arith",
           }),
     Event("Answered", "an operation is answered and isn't settled", "", "(g : ℕ)", c="(answered c g)"),
-    Event("Opens", "a create that is outstanding names its open", "file", "(g id : ℕ)", [("pending", "is_unsettled (c.outcome g) ≡ true")], c="(record c { file = put c.file g id; attached = put c.attached g c.session_number })"),
+    Event("Opens", "a create that is outstanding names its open", "file", "(g id : ℕ)",
+    [("pending", "is_unsettled (c.outcome g) ≡ true")],
+    c="(record c { file = put c.file g id; attached = put c.attached g c.session_number })"),
     Event("Joined", "a DH2C attached its open", "", "(g : ℕ)", c="(joined c g)"),
     Event("Shuts", "a close shut its open", "", "(create : ℕ)", c="(record c { closed_ok = put c.closed_ok create true })"),
     Event("Fills", "a lock met a full disk", "", "(create slot : ℕ)", c="(record c { full = put2 c.full create slot true })"),
-    Event("Retried", "a slot's lock goes out again", "", "(create slot : ℕ)", c="(record c { retried = put2 c.retried create slot c.session_number })"),
+    Event("Retried", "a slot's lock goes out again", "", "(create slot : ℕ)",
+    c="(record c { retried = put2 c.retried create slot c.session_number })"),
     Event("Finished", "no session can be had", "outcome", "(why : Why)", c="(finish c why)"),
     Event("Settle", "a reply settles its operation", "outcome", "(g place : ℕ) (outcome : Outcome)",
           [("never", "makes_open (c.op g) ≡ true → never_acted outcome ≡ true → a g ≡ 0"),
            ("acted", "makes_open (c.op g) ≡ true → is_ok outcome ≡ true → 1 ≤ a g"),
-           ("barred", "(j n : ℕ) (y : Sent) → slice_get (conns j).up n ≡ Some y → y.token ≡ ForOp g → makes_open (c.op g) ≡ true → never_acted outcome ≡ true → v.present y.message.session_id ≡ true → is_barred c v y.message.session_id g ≡ true"),
-           ("guid", "makes_open (c.op g) ≡ true → is_ok outcome ≡ true → c.file g ≤ v.last × (v.standing (c.file g) ≡ true → (v.opened (c.file g)).client_guid ≡ c.who.guid × (v.opened (c.file g)).create_guid ≡ Some (guid_at c g))"),
+           ("barred", "(j n : ℕ) (y : Sent) → slice_get (conns j).up n ≡ Some y → y.token ≡ ForOp g → makes_open (c.op g) "
+               "≡ true → never_acted outcome ≡ true → v.present y.message.session_id ≡ true → is_barred c v "
+               "y.message.session_id g ≡ true"),
+           ("guid", "makes_open (c.op g) ≡ true → is_ok outcome ≡ true → c.file g ≤ v.last × (v.standing (c.file g) ≡ "
+               "true → (v.opened (c.file g)).client_guid ≡ c.who.guid × (v.opened (c.file g)).create_guid ≡ Some "
+               "(guid_at c g))"),
            ("names", "(o : ℕ) → makes_open (c.op g) ≡ true → is_ok outcome ≡ true → named c v g ≡ Some o → o ≡ c.file g"),
            ("firm", "is_unsettled outcome ≡ false")],
           c="(settled_by c g outcome place)",
@@ -204,11 +231,17 @@ EVENTS = [
           [("other", "makes_open (c.op g) ≡ false"), ("within", "g ≤ c.taken"), ("says", "is_of_ask m.command ≡ true")],
           c="(asked c k g)", conns="(put conns k (send_up (conns k) (ForAttach g) m n0))"),
     Event("Say", "a reply is on its way", "down", "(k : ℕ) (y0 : Received)",
-          [("never", "(g : ℕ) → y0.token ≡ ForOp g → makes_open (c.op g) ≡ true → refuses (c.unanswered g) y0.reply.status ≡ true → a g ≡ 0"),
-           ("barred", "(g : ℕ) → y0.token ≡ ForOp g → makes_open (c.op g) ≡ true → c.unanswered g ≡ true → refuses true y0.reply.status ≡ true → is_current c v ≡ true → is_barred c v c.session g ≡ true"),
+          [("never", "(g : ℕ) → y0.token ≡ ForOp g → makes_open (c.op g) ≡ true → refuses (c.unanswered g) "
+              "y0.reply.status ≡ true → a g ≡ 0"),
+           ("barred", "(g : ℕ) → y0.token ≡ ForOp g → makes_open (c.op g) ≡ true → c.unanswered g ≡ true → refuses true "
+               "y0.reply.status ≡ true → is_current c v ≡ true → is_barred c v c.session g ≡ true"),
            ("acted", "(g : ℕ) → y0.token ≡ ForOp g → makes_open (c.op g) ≡ true → y0.reply.status ≡ success → 1 ≤ a g"),
-           ("guid", "(g : ℕ) → y0.token ≡ ForOp g → makes_open (c.op g) ≡ true → y0.reply.status ≡ success → id_in y0.reply.body ≤ v.last × (v.standing (id_in y0.reply.body) ≡ true → (v.opened (id_in y0.reply.body)).client_guid ≡ c.who.guid × (v.opened (id_in y0.reply.body)).create_guid ≡ Some (guid_at c g))"),
-           ("names", "(g o : ℕ) → y0.token ≡ ForOp g → makes_open (c.op g) ≡ true → y0.reply.status ≡ success → named c v g ≡ Some o → o ≡ id_in y0.reply.body")],
+           ("guid", "(g : ℕ) → y0.token ≡ ForOp g → makes_open (c.op g) ≡ true → y0.reply.status ≡ success → id_in "
+               "y0.reply.body ≤ v.last × (v.standing (id_in y0.reply.body) ≡ true → (v.opened (id_in "
+               "y0.reply.body)).client_guid ≡ c.who.guid × (v.opened (id_in y0.reply.body)).create_guid ≡ Some "
+               "(guid_at c g))"),
+           ("names", "(g o : ℕ) → y0.token ≡ ForOp g → makes_open (c.op g) ≡ true → y0.reply.status ≡ success → named c v "
+               "g ≡ Some o → o ≡ id_in y0.reply.body")],
           conns="(put conns k (record (conns k) { down = (conns k).down ++ y0 ∷ [] }))",
           parts={
               "no_reply": "λ j n p y. let old = i.no_reply j n p y in let q = never p in grind (arith, get-push)",
@@ -218,52 +251,69 @@ EVENTS = [
               "reply_of": "λ j n p o y. let old = i.reply_of j n p o y in let q = names p o in grind (arith, get-push)",
           }),
     # ---- the server
-    Event("RefuseIn", "a refusal is kept", "refused guids", "(x q0 status : ℕ)", [("bad", "(status == success) ≡ false")], v="(refuse_in v x q0 status)",
+    Event("RefuseIn", "a refusal is kept", "refused guids", "(x q0 status : ℕ)",
+    [("bad", "(status == success) ≡ false")], v="(refuse_in v x q0 status)",
           parts={
-              "dead_refused": "λ j n p y h t m e s. let old = i.dead_refused j n p y h t m e s in let fm = full_more (v.guids x) in grind arith",
-              "barred_reply": "λ j n p y h t m e s u. let old = i.barred_reply j n p y h t m e s u in let fm = full_more (v.guids x) in grind arith",
+              "dead_refused": "λ j n p y h t m e s. let old = i.dead_refused j n p y h t m e s in let fm = full_more (v.guids x) "
+                  "in grind arith",
+              "barred_reply": "λ j n p y h t m e s u. let old = i.barred_reply j n p y h t m e s u in let fm = full_more (v.guids "
+                  "x) in grind arith",
           }),
-    Event("AttachTo", "an open becomes a session's", "session_of_open guids", "(x o0 : ℕ)", [("ranked", "0 < c.rank x"), ("there", "v.present x ≡ true")], v="(attach_to v o0 x)",
+    Event("AttachTo", "an open becomes a session's", "session_of_open guids", "(x o0 : ℕ)",
+    [("ranked", "0 < c.rank x"), ("there", "v.present x ≡ true")], v="(attach_to v o0 x)",
           parts={
-              "dead_refused": "λ j n p y h t m e s. let old = i.dead_refused j n p y h t m e s in let fm = full_more (v.guids x) in grind arith",
-              "barred_reply": "λ j n p y h t m e s u. let old = i.barred_reply j n p y h t m e s u in let fm = full_more (v.guids x) in grind arith",
+              "dead_refused": "λ j n p y h t m e s. let old = i.dead_refused j n p y h t m e s in let fm = full_more (v.guids x) "
+                  "in grind arith",
+              "barred_reply": "λ j n p y h t m e s u. let old = i.barred_reply j n p y h t m e s u in let fm = full_more (v.guids "
+                  "x) in grind arith",
           }),
     Event("MakeNew", "a create acts", "standing opened session_of_open by_guid guids last a", "(g x o0 : ℕ) (row : OpenRow) (b : ℕ → ℕ)",
           [("create", "makes_open (c.op g) ≡ true"), ("idle", "a g ≡ 0"), ("counted", "b g ≡ 1"), ("formed", "may_act c g ≡ true"),
            ("above", "o0 ≡ v.last + 1"), ("ranked", "0 < c.rank x"), ("there", "v.present x ≡ true"),
-           ("client", "row.client_guid ≡ c.who.guid"), ("guid", "row.create_guid ≡ Some (guid_at c g)"), ("kind", "row.persistent ≡ outlives (c.op g)"), ("user", "row.user ≡ logon_user c.who.logon"),
+           ("client", "row.client_guid ≡ c.who.guid"), ("guid", "row.create_guid ≡ Some (guid_at c g)"),
+           ("kind", "row.persistent ≡ outlives (c.op g)"), ("user", "row.user ≡ logon_user c.who.logon"),
            ("alive", "never_acted (c.outcome g) ≡ false"),
-           ("silent", "(j n : ℕ) (y : Received) → slice_get (conns j).down n ≡ Some y → y.token ≡ ForOp g → refuses (c.unanswered g) y.reply.status ≡ false"),
+           ("silent", "(j n : ℕ) (y : Received) → slice_get (conns j).down n ≡ Some y → y.token ≡ ForOp g → refuses "
+               "(c.unanswered g) y.reply.status ≡ false"),
            ("others", "(h : ℕ) → makes_open (c.op h) ≡ true → h ≢ g → b h ≡ a h")],
           v="(make_new v o0 row x (guid_at c g))", a="b",
           parts={
               "made": "λ p o. let old = i.made p o in let same = guid_once c.who.salt p g in let oth = others p in grind arith",
               "named": "λ p o. let old = i.named p o in let gv = i.named_given p o in let same = guid_once c.who.salt p g in grind arith",
-              "named_kind": "λ p o. let old = i.named_kind p o in let gv = i.named_given p o in let same = guid_once c.who.salt p g in grind arith",
+              "named_kind": "λ p o. let old = i.named_kind p o in let gv = i.named_given p o in let same = guid_once c.who.salt "
+                  "p g in grind arith",
               "named_given": "λ p o. let old = i.named_given p o in let same = guid_once c.who.salt p g in grind arith",
               "unclosed": "λ p. let old = i.unclosed p in let same = guid_once c.who.salt p g in let oth = others p in grind arith",
-              "acted_kept": "λ j n p y. let old = i.acted_kept j n p y in let same = guid_once c.who.salt p g in let oth = others p in grind arith",
+              "acted_kept": "λ j n p y. let old = i.acted_kept j n p y in let same = guid_once c.who.salt p g in let oth = "
+                  "others p in grind arith",
               "at_most": "λ p. let old = i.at_most p in let oth = others p in grind arith",
               "form_acted": "λ p. let old = i.form_acted p in let oth = others p in grind arith",
               "refused_not": "λ p. let old = i.refused_not p in let oth = others p in grind arith",
-              "dead_refused": "λ j n p y h t m e s. let old = i.dead_refused j n p y h t m e s in let fm = full_more (v.guids x) in grind arith",
+              "dead_refused": "λ j n p y h t m e s. let old = i.dead_refused j n p y h t m e s in let fm = full_more (v.guids x) "
+                  "in grind arith",
               "no_reply": "λ j n p y h t. let old = i.no_reply j n p y h t in let oth = others p in let q = silent j n y h in grind arith",
-              "barred_reply": "λ j n p y h t m e s u. let old = i.barred_reply j n p y h t m e s u in let fm = full_more (v.guids x) in grind arith",
+              "barred_reply": "λ j n p y h t m e s u. let old = i.barred_reply j n p y h t m e s u in let fm = full_more (v.guids "
+                  "x) in grind arith",
               "ok_acted": "λ p. let old = i.ok_acted p in let oth = others p in grind arith",
               "ok_reply": "λ j n p y h t. let old = i.ok_reply j n p y h t in let oth = others p in grind arith",
-              "file_of": "λ p o m e. let old = i.file_of p o m e in let ac = i.ok_acted p m e in let same = guid_once c.who.salt p g in grind arith",
-              "reply_of": "λ j n p o y h t m e. let old = i.reply_of j n p o y h t m e in let ac = i.ok_reply j n p y h t m e in let same = guid_once c.who.salt p g in grind arith",
+              "file_of": "λ p o m e. let old = i.file_of p o m e in let ac = i.ok_acted p m e in let same = guid_once "
+                  "c.who.salt p g in grind arith",
+              "reply_of": "λ j n p o y h t m e. let old = i.reply_of j n p o y h t m e in let ac = i.ok_reply j n p y h t m e "
+                  "in let same = guid_once c.who.salt p g in grind arith",
           }),
     Event("ShutIn", "an open leaves by a close", "standing session_of_open by_guid closed", "(x o0 : ℕ) (q0 : Option ℕ)",
           [("guid", "(v.opened o0).create_guid ≡ q0"),
-           ("settled", "(h : ℕ) → makes_open (c.op h) ≡ true → (v.opened o0).client_guid ≡ c.who.guid → q0 ≡ Some (guid_at c h) → is_unsettled (c.outcome h) ≡ false"),
-           ("here", "(j n h : ℕ) (y : Sent) → slice_get (conns j).up n ≡ Some y → y.token ≡ ForOp h → v.present y.message.session_id ≡ true → y.message.session_id ≡ x")],
+           ("settled", "(h : ℕ) → makes_open (c.op h) ≡ true → (v.opened o0).client_guid ≡ c.who.guid → q0 ≡ Some (guid_at "
+               "c h) → is_unsettled (c.outcome h) ≡ false"),
+           ("here", "(j n h : ℕ) (y : Sent) → slice_get (conns j).up n ≡ Some y → y.token ≡ ForOp h → v.present "
+               "y.message.session_id ≡ true → y.message.session_id ≡ x")],
           v="(shut_in v o0 x q0)",
           parts={
               "unclosed": "λ p m u l s. let old = i.unclosed p m u l s in let q = settled p m in grind arith",
               "acted_kept": "λ j n p y h t m e s. let old = i.acted_kept j n p y h t m e s in let q = here j n p y h t e in grind arith",
           }),
-    Event("ExpireBy", "an open leaves by its deadline", "standing session_of_open by_guid expired_guids", "(o0 : ℕ) (q0 : Option ℕ)", [("guid", "(v.opened o0).create_guid ≡ q0")], v="(expire_by v o0 q0)"),
+    Event("ExpireBy", "an open leaves by its deadline", "standing session_of_open by_guid expired_guids",
+    "(o0 : ℕ) (q0 : Option ℕ)", [("guid", "(v.opened o0).create_guid ≡ q0")], v="(expire_by v o0 q0)"),
     Event("EndOf", "a session ends", "standing by_guid session_of_open present closed refused guids", "(x : ℕ)",
           [("here", "(y : ℕ) → v.present y ≡ true → 0 < c.rank y → y ≡ c.accepted"),
            ("lives", "c.live ≡ true → c.session ≡ c.accepted"),
@@ -279,12 +329,15 @@ EVENTS = [
               "dead_refused": "λ j n p y h t. let old = i.dead_refused j n p y h t in let r = ranked j n p y h t in grind arith",
               "barred_reply": "λ j n p y h t. let old = i.barred_reply j n p y h t in let l = lives in grind arith",
           }),
-    Event("Restarted", "the server starts anew", "present by_guid standing opened session_of_open closed refused guids expired_guids last up", "(u : Seen)", [("r", "Restarts v u")],
+    Event("Restarted", "the server starts anew",
+        "present by_guid standing opened session_of_open closed refused guids expired_guids last up", "(u : Seen)", [("r", "Restarts v u")],
           v="u", conns="(λ q. server_off (conns q))",
           parts={
               "made": "λ p o h. i.made p o (r.was c.who.guid (guid_at c p) o h)",
-              "named": "λ p o h. let st = r.named c.who.guid (guid_at c p) o h in let sd = r.stood o st in let old = i.named p o (r.was c.who.guid (guid_at c p) o h) in grind arith",
-              "named_kind": "λ p o h. let st = r.named c.who.guid (guid_at c p) o h in let sd = r.stood o st in let old = i.named_kind p o (r.was c.who.guid (guid_at c p) o h) in grind arith",
+              "named": "λ p o h. let st = r.named c.who.guid (guid_at c p) o h in let sd = r.stood o st in let old = "
+                  "i.named p o (r.was c.who.guid (guid_at c p) o h) in grind arith",
+              "named_kind": "λ p o h. let st = r.named c.who.guid (guid_at c p) o h in let sd = r.stood o st in let old = "
+                  "i.named_kind p o (r.was c.who.guid (guid_at c p) o h) in grind arith",
               "named_given": "λ p o h. let l = r.last in let old = i.named_given p o (r.was c.who.guid (guid_at c p) o h) in grind arith",
               "attached": "λ o z. let q = r.apart o in grind arith",
               "plain_attached": "λ o s. let q = r.stood o s in grind arith",
@@ -293,7 +346,8 @@ EVENTS = [
               "refused_status": "λ z q t. let e = r.unrefused z q in grind arith",
               "file_guid": "λ p m e. let old = i.file_guid p m e in let l = r.last in let q = r.stood (c.file p) in grind arith",
               "file_of": "λ p o m e h. i.file_of p o m e (r.was c.who.guid (guid_at c p) o h)",
-              "reply_guid": "λ j n p y h t m e. let old = i.reply_guid j n p y h t m e in let l = r.last in let q = r.stood (id_in y.reply.body) in grind arith",
+              "reply_guid": "λ j n p y h t m e. let old = i.reply_guid j n p y h t m e in let l = r.last in let q = r.stood "
+                  "(id_in y.reply.body) in grind arith",
               "reply_of": "λ j n p o y h t m e g. i.reply_of j n p o y h t m e (r.was c.who.guid (guid_at c p) o g)",
           }),
     Event("Recount", "other operations act", "a", "(b : ℕ → ℕ)", [("same", "(h : ℕ) → makes_open (c.op h) ≡ true → b h ≡ a h")], a="b",
@@ -323,7 +377,8 @@ for event in EVENTS:
 
 BEFORE = {
     "EndOf": """-- an open that isn't attached to the session stays
-goes_not : (c : Client) (v : Seen) (x o : ℕ) → Attached c v → ((y : ℕ) → v.present y ≡ true → 0 < c.rank y → y ≡ c.accepted) → (y : ℕ) → y ≢ x → y ≡ c.accepted → goes_with v x o ≡ false
+goes_not : (c : Client) (v : Seen) (x o : ℕ) → Attached c v → ((y : ℕ) → v.present y ≡ true → 0 < c.rank y → y
+    ≡ c.accepted) → (y : ℕ) → y ≢ x → y ≡ c.accepted → goes_with v x o ≡ false
 goes_not c v x o at here y apart same = by_session (v.session_of_open o) refl
   where
     by_session : (z : Option ℕ) → v.session_of_open o ≡ z → goes_with v x o ≡ false
@@ -336,24 +391,30 @@ there_before v x y e = grind arith
 apart_from : (v : Seen) (x y : ℕ) → (end_of v x).present y ≡ true → y ≢ x
 apart_from v x y e = grind arith
 
-still_before : (c : Client) (v : Seen) (x p : ℕ) → (outlives (c.op p) || is_current c (end_of v x)) ≡ true → (outlives (c.op p) || is_current c v) ≡ true
+still_before : (c : Client) (v : Seen) (x p : ℕ) → (outlives (c.op p) || is_current c (end_of v x)) ≡ true
+    → (outlives (c.op p) || is_current c v) ≡ true
 still_before c v x p e = grind arith
 
-by_kind : (c : Client) (v : Seen) (x p o : ℕ) → (v.opened o).persistent ≡ outlives (c.op p) → (outlives (c.op p) || is_current c (end_of v x)) ≡ true → (c.session ≢ x → c.live ≡ true → goes_with v x o ≡ false) → goes_with v x o ≡ false
+by_kind : (c : Client) (v : Seen) (x p o : ℕ) → (v.opened o).persistent ≡ outlives (c.op p)
+    → (outlives (c.op p) || is_current c (end_of v x)) ≡ true → (c.session ≢ x → c.live ≡ true → goes_with v x o
+    ≡ false) → goes_with v x o ≡ false
 by_kind c v x p o k s f = by_op (outlives (c.op p)) refl
   where
     by_op : (b : Bool) → outlives (c.op p) ≡ b → goes_with v x o ≡ false
     by_op true e = grind arith
     by_op false e = f (apart_from v x c.session (grind arith)) (grind arith)
 
-kept_still : (c : Client) (v : Seen) (x p : ℕ) → is_kept c v p ≡ true → ((o : ℕ) → named c v p ≡ Some o → goes_with v x o ≡ false) → is_kept c (end_of v x) p ≡ true
+kept_still : (c : Client) (v : Seen) (x p : ℕ) → is_kept c v p ≡ true
+    → ((o : ℕ) → named c v p ≡ Some o → goes_with v x o ≡ false) → is_kept c (end_of v x) p ≡ true
 kept_still c v x p k f = by_name (named c v p) refl
   where
     by_name : (z : Option ℕ) → named c v p ≡ z → is_kept c (end_of v x) p ≡ true
     by_name None e = grind arith
     by_name (Some o) e = let g = f o e in grind arith
 
-end_kept : (c : Client) (v : Seen) (x p y : ℕ) → (v.closed y (guid_at c p) || is_kept c v p) ≡ true → ((o : ℕ) → named c v p ≡ Some o → goes_with v x o ≡ false) → y ≢ x → ((end_of v x).closed y (guid_at c p) || is_kept c (end_of v x) p) ≡ true
+end_kept : (c : Client) (v : Seen) (x p y : ℕ) → (v.closed y (guid_at c p) || is_kept c v p) ≡ true
+    → ((o : ℕ) → named c v p ≡ Some o → goes_with v x o ≡ false) → y ≢ x
+    → ((end_of v x).closed y (guid_at c p) || is_kept c (end_of v x) p) ≡ true
 end_kept c v x p y k f d = by_closed (v.closed y (guid_at c p)) refl
   where
     by_closed : (b : Bool) → v.closed y (guid_at c p) ≡ b → ((end_of v x).closed y (guid_at c p) || is_kept c (end_of v x) p) ≡ true
@@ -362,7 +423,8 @@ end_kept c v x p y k f d = by_closed (v.closed y (guid_at c p)) refl
 
 """,
     "Restarted": """restart_kept : (c : Client) (v u : Seen) (p : ℕ) → Restarts v u → NamedKind c v → outlives (c.op p) ≡ true → (o : Option ℕ) → named c v p ≡ o → (is_some o || v.expired_guids c.who.guid (guid_at c p)) ≡ true → is_kept c u p ≡ true
-restart_kept c v u p r nk out None e s = let m = r.expired_guids in let w : u.expired_guids c.who.guid (guid_at c p) ≡ v.expired_guids c.who.guid (guid_at c p) = ap (λ f. f c.who.guid (guid_at c p)) m in grind arith
+restart_kept c v u p r nk out None e s = let m = r.expired_guids in let w : u.expired_guids c.who.guid (guid_at c p)
+    ≡ v.expired_guids c.who.guid (guid_at c p) = ap (λ f. f c.who.guid (guid_at c p)) m in grind arith
 restart_kept c v u p r nk out (Some o) e s = let k = nk p o e in let st = r.stays c.who.guid (guid_at c p) o e (k.0 ∙ out) in grind arith
 
 restart_unclosed : (c : Client) (v : Seen) (a : ℕ → ℕ) (u : Seen) → Restarts v u → Unclosed c v a → NamedKind c v → Unclosed c u a
@@ -393,17 +455,21 @@ def emit(event):
         parts = [part] + sorted(named_in("i", term) - {part})
         fits = sorted(named_in("f", term))
         # what quantifies is given to the parts that name it alone, and the rest to each
-        needs = [(n, t) for n, t in event.needs if ("→" not in t and not t.startswith("Restarts")) or re.search(r"\b%s\b" % n, re.sub(r"\b[if]\.\w+", "", term))]
-        premises = premised(needs) + "".join("%s %s → " % (type_name(q), PARTS[q][0]) for q in parts) + "".join("%s %s → " % (type_name(q), FIT[q]) for q in fits)
+        needs = [(n, t) for n, t in event.needs if ("→" not in t and not t.startswith("Restarts"))
+            or re.search(r"\b%s\b" % n, re.sub(r"\b[if]\.\w+", "", term))]
+        premises = premised(needs) + "".join("%s %s → " % (type_name(q), PARTS[q][0])
+            for q in parts) + "".join("%s %s → " % (type_name(q), FIT[q]) for q in fits)
         goal = type_name(part) + " " + " ".join(state[w] for w in arguments.split())
         given = variables + [n for n, _ in needs]
         name = "%s_%s" % (low, part)
-        out.append(lemma(name, over, premises, goal, " ".join(given + ["i_" + q for q in parts] + ["f_" + q for q in fits]), bound("f", bound("i", term))))
+        out.append(lemma(name, over, premises, goal,
+            " ".join(given + ["i_" + q for q in parts] + ["f_" + q for q in fits]), bound("f", bound("i", term))))
         calls[part] = " ".join([name] + given + ["i." + q for q in parts] + ["f." + q for q in fits])
     fit = any("f." in call for call in calls.values())
     premises = premised(event.needs) + ("Connections c conns a → " if fit else "")
     words = " ".join(variables + [n for n, _ in event.needs] + (["f"] if fit else []) + ["i"])
-    out.append(step(low + "_creates", over, premises, "Creates c conns v a", "Creates %s %s %s %s" % (event.c, event.conns, event.v, event.a), words))
+    out.append(step(low + "_creates", over, premises, "Creates c conns v a", "Creates %s %s %s %s" % (event.c,
+        event.conns, event.v, event.a), words))
     out.append(fields(PARTS, calls))
     text = "".join(out)
     if fit:

@@ -18,8 +18,16 @@ ghost use Rattle.create_law.specs.Creates.{Creates, seen};
 /// create acted, which stands and has that guid; while a create is unsettled, what tells that it acted is kept; and the
 /// open that an acknowledged create names is the one that its guid names, as long as that stands.
 pub fn creates_law()
-    ensures at_most { (settings : Settings) (events : List Event) (g : ℕ) → is_create ((run events (start settings)).client.op g) ≡ true → acts events (start settings) g ≤ 1 }
-    ensures acknowledged { (settings : Settings) (events : List Event) (g : ℕ) → is_create ((run events (start settings)).client.op g) ≡ true → is_ok ((run events (start settings)).client.outcome g) ≡ true → acts events (start settings) g ≡ 1 }
-    ensures never { (settings : Settings) (events more : List Event) (g : ℕ) → is_create ((run events (start settings)).client.op g) ≡ true → never_acted ((run events (start settings)).client.outcome g) ≡ true → acts (events ++ more) (start settings) g ≡ 0 }
-    ensures fit { (settings : Settings) (events : List Event) → Creates (run events (start settings)).client (run events (start settings)).conns (seen (run events (start settings)).server) (acts events (start settings)) }
+    ensures at_most { (settings : Settings) (events : List Event) (g : ℕ)
+        → is_create ((run events (start settings)).client.op g) ≡ true → acts events (start settings) g ≤ 1 }
+    ensures acknowledged { (settings : Settings) (events : List Event) (g : ℕ)
+        → is_create ((run events (start settings)).client.op g) ≡ true
+        → is_ok ((run events (start settings)).client.outcome g) ≡ true → acts events (start settings) g ≡ 1 }
+    ensures never { (settings : Settings) (events more : List Event) (g : ℕ)
+        → is_create ((run events (start settings)).client.op g) ≡ true
+        → never_acted ((run events (start settings)).client.outcome g) ≡ true → acts (events ++ more) (start settings) g
+        ≡ 0 }
+    ensures fit { (settings : Settings) (events : List Event)
+        → Creates (run events (start settings)).client (run events (start settings)).conns
+        (seen (run events (start settings)).server) (acts events (start settings)) }
 {}

@@ -52,7 +52,12 @@ ghost use Rattle.exchange_examples.specs.Scripts.{is_out_behind, purse_behind, l
 
 /// A create is retried on a second channel, its open is closed, and the delayed first copy finds its guid: it acts once.
 pub fn retried_create_example()
-    ensures script_ends { script_ends 2 268435456 retried_create ≡ record { settled = WasOk (Action 2) ∷ WasOk IsDone ∷ []; printed = [] ∷ []; stored = record { path = (97 ∷ []); bytes = [] } ∷ [] } }
+    ensures script_ends { script_ends 2 268435456 retried_create
+        ≡ record {
+          settled = WasOk (Action 2) ∷ WasOk IsDone ∷ [];
+          printed = [] ∷ [];
+          stored = record { path = (97 ∷ []); bytes = [] } ∷ [];
+        } }
     ensures note { note 2 268435456 retried_create_until_note 0 ≡ record { status = 0xc000022a; acted = false } }
     ensures acts_1 { acted_on 2 268435456 retried_create 1 ≡ 1 }
     ensures acts_2 { acted_on 2 268435456 retried_create 2 ≡ 1 }
@@ -60,7 +65,13 @@ pub fn retried_create_example()
 
 /// A lock is refused, the range becomes free, and the delayed first copy is refused again by its slot.
 pub fn kept_refusal_example()
-    ensures script_ends { script_ends 2 268435456 kept_refusal ≡ record { settled = WasOk (Action 2) ∷ WasOk (Action 1) ∷ WasOk IsDone ∷ WasRefused 0xc0000055 ∷ WasOk IsDone ∷ WasOk IsDone ∷ []; printed = []; stored = record { path = (97 ∷ []); bytes = [] } ∷ [] } }
+    ensures script_ends { script_ends 2 268435456 kept_refusal
+        ≡ record {
+          settled = WasOk (Action 2) ∷ WasOk (Action 1) ∷ WasOk IsDone ∷ WasRefused 0xc0000055 ∷ WasOk IsDone
+              ∷ WasOk IsDone ∷ [];
+          printed = [];
+          stored = record { path = (97 ∷ []); bytes = [] } ∷ [];
+        } }
     ensures note { note 2 268435456 kept_refusal_until_note 0 ≡ record { status = 0xc0000055; acted = false } }
     ensures acts_3 { acted_on 2 268435456 kept_refusal 3 ≡ 1 }
     ensures acts_4 { acted_on 2 268435456 kept_refusal 4 ≡ 0 }
@@ -70,7 +81,12 @@ pub fn kept_refusal_example()
 
 /// A new session replaces the old one, and a copy of the old one that waits is script_ends so.
 pub fn replaced_session_example()
-    ensures script_ends { script_ends 2 268435456 replaced_session ≡ record { settled = WasOk (Action 2) ∷ WasOk (IsCount 3) ∷ []; printed = (2 ∷ []) ∷ []; stored = record { path = (97 ∷ []); bytes = (111 ∷ 108 ∷ 100 ∷ []) } ∷ [] } }
+    ensures script_ends { script_ends 2 268435456 replaced_session
+        ≡ record {
+          settled = WasOk (Action 2) ∷ WasOk (IsCount 3) ∷ [];
+          printed = (2 ∷ []) ∷ [];
+          stored = record { path = (97 ∷ []); bytes = (111 ∷ 108 ∷ 100 ∷ []) } ∷ [];
+        } }
     ensures note { note 2 268435456 replaced_session_until_note 0 ≡ record { status = 0xc0000203; acted = false } }
     ensures acts_1 { acted_on 2 268435456 replaced_session 1 ≡ 1 }
     ensures acts_2 { acted_on 2 268435456 replaced_session 2 ≡ 1 }
@@ -78,7 +94,12 @@ pub fn replaced_session_example()
 
 /// A write that fills the room is retried: its bytes are not counted twice, and the next write finds no room.
 pub fn room_counted_once_example()
-    ensures script_ends { script_ends 2 4 room_counted_once ≡ record { settled = WasOk (Action 2) ∷ WasOk (IsCount 4) ∷ WasRefused 0xc000007f ∷ []; printed = (2 ∷ 3 ∷ []) ∷ []; stored = record { path = (97 ∷ []); bytes = (97 ∷ 98 ∷ 99 ∷ 100 ∷ []) } ∷ [] } }
+    ensures script_ends { script_ends 2 4 room_counted_once
+        ≡ record {
+          settled = WasOk (Action 2) ∷ WasOk (IsCount 4) ∷ WasRefused 0xc000007f ∷ [];
+          printed = (2 ∷ 3 ∷ []) ∷ [];
+          stored = record { path = (97 ∷ []); bytes = (97 ∷ 98 ∷ 99 ∷ 100 ∷ []) } ∷ [];
+        } }
     ensures note { note 2 4 room_counted_once_until_note 1 ≡ record { status = 0x00000000; acted = false } }
     ensures acts_2 { acted_on 2 4 room_counted_once 2 ≡ 1 }
     ensures acts_3 { acted_on 2 4 room_counted_once 3 ≡ 0 }
@@ -86,7 +107,12 @@ pub fn room_counted_once_example()
 
 /// A write under an older sequence is held back and goes out again; the delayed copy of the other is held back too.
 pub fn held_back_write_example()
-    ensures script_ends { script_ends 3 268435456 held_back_write ≡ record { settled = WasOk (Action 2) ∷ WasOk (IsCount 1) ∷ WasOk (IsCount 1) ∷ []; printed = (2 ∷ 3 ∷ []) ∷ []; stored = record { path = (97 ∷ []); bytes = (97 ∷ 98 ∷ []) } ∷ [] } }
+    ensures script_ends { script_ends 3 268435456 held_back_write
+        ≡ record {
+          settled = WasOk (Action 2) ∷ WasOk (IsCount 1) ∷ WasOk (IsCount 1) ∷ [];
+          printed = (2 ∷ 3 ∷ []) ∷ [];
+          stored = record { path = (97 ∷ []); bytes = (97 ∷ 98 ∷ []) } ∷ [];
+        } }
     ensures note_1 { note 3 268435456 held_back_write_until_note 2 ≡ record { status = 0xc0000467; acted = false } }
     ensures note_2 { note 3 268435456 held_back_write_until_last 0 ≡ record { status = 0xc0000467; acted = false } }
     ensures acts_2 { acted_on 3 268435456 held_back_write 2 ≡ 1 }
@@ -95,49 +121,93 @@ pub fn held_back_write_example()
 
 /// The server restarts behind a persistent create whose reply is lost: the retry finds the same open.
 pub fn restart_persistent_example()
-    ensures script_ends { script_ends 1 268435456 restart_persistent ≡ record { settled = WasOk (Action 2) ∷ []; printed = [] ∷ []; stored = record { path = (97 ∷ []); bytes = [] } ∷ [] } }
+    ensures script_ends { script_ends 1 268435456 restart_persistent ≡ record {
+      settled = WasOk (Action 2) ∷ [];
+      printed = [] ∷ [];
+      stored = record { path = (97 ∷ []); bytes = [] } ∷ [];
+    } }
     ensures acts_1 { acted_on 1 268435456 restart_persistent 1 ≡ 1 }
     ensures file { id_told 1 268435456 restart_persistent 1 ≡ 4294967297 }
 {}
 
 /// The server dies before it serves a persistent create: the retry makes the open.
 pub fn crash_lost_example()
-    ensures script_ends { script_ends 1 268435456 crash_lost ≡ record { settled = WasOk (Action 2) ∷ []; printed = [] ∷ []; stored = record { path = (97 ∷ []); bytes = [] } ∷ [] } }
+    ensures script_ends { script_ends 1 268435456 crash_lost ≡ record {
+      settled = WasOk (Action 2) ∷ [];
+      printed = [] ∷ [];
+      stored = record { path = (97 ∷ []); bytes = [] } ∷ [];
+    } }
     ensures acts_1 { acted_on 1 268435456 crash_lost 1 ≡ 1 }
     ensures file { id_told 1 268435456 crash_lost 1 ≡ 8589934593 }
 {}
 
 /// The server dies behind a persistent create whose records stand: the retry finds the same open.
 pub fn crash_kept_example()
-    ensures script_ends { script_ends 1 268435456 crash_kept ≡ record { settled = WasOk (Action 2) ∷ []; printed = [] ∷ []; stored = record { path = (97 ∷ []); bytes = [] } ∷ [] } }
+    ensures script_ends { script_ends 1 268435456 crash_kept ≡ record {
+      settled = WasOk (Action 2) ∷ [];
+      printed = [] ∷ [];
+      stored = record { path = (97 ∷ []); bytes = [] } ∷ [];
+    } }
     ensures acts_1 { acted_on 1 268435456 crash_kept 1 ≡ 1 }
     ensures file { id_told 1 268435456 crash_kept 1 ≡ 4294967297 }
 {}
 
 /// The server restarts behind a plain create: its session is lost, and the file stays.
 pub fn restart_plain_example()
-    ensures script_ends { script_ends 1 268435456 restart_plain ≡ record { settled = Unknown (SessionLost 1) ∷ []; printed = []; stored = record { path = (97 ∷ []); bytes = [] } ∷ [] } }
+    ensures script_ends { script_ends 1 268435456 restart_plain ≡ record {
+      settled = Unknown (SessionLost 1) ∷ [];
+      printed = [];
+      stored = record { path = (97 ∷ []); bytes = [] } ∷ [];
+    } }
     ensures acts_1 { acted_on 1 268435456 restart_plain 1 ≡ 1 }
 {}
 
 /// Each of the sixty-four slots was retried in the session: the next lock finds none, and the next session has them again.
 pub fn all_slots_retried_example()
-    ensures { script_ends 2 268435456 all_slots_retried ≡ record { settled = WasOk (Action 2) ∷ WasOk IsDone ∷ WasOk IsDone ∷ WasOk IsDone ∷ WasOk IsDone ∷ WasOk IsDone ∷ WasOk IsDone ∷ WasOk IsDone ∷ WasOk IsDone ∷ WasOk IsDone ∷ WasOk IsDone ∷ WasOk IsDone ∷ WasOk IsDone ∷ WasOk IsDone ∷ WasOk IsDone ∷ WasOk IsDone ∷ WasOk IsDone ∷ WasOk IsDone ∷ WasOk IsDone ∷ WasOk IsDone ∷ WasOk IsDone ∷ WasOk IsDone ∷ WasOk IsDone ∷ WasOk IsDone ∷ WasOk IsDone ∷ WasOk IsDone ∷ WasOk IsDone ∷ WasOk IsDone ∷ WasOk IsDone ∷ WasOk IsDone ∷ WasOk IsDone ∷ WasOk IsDone ∷ WasOk IsDone ∷ WasOk IsDone ∷ WasOk IsDone ∷ WasOk IsDone ∷ WasOk IsDone ∷ WasOk IsDone ∷ WasOk IsDone ∷ WasOk IsDone ∷ WasOk IsDone ∷ WasOk IsDone ∷ WasOk IsDone ∷ WasOk IsDone ∷ WasOk IsDone ∷ WasOk IsDone ∷ WasOk IsDone ∷ WasOk IsDone ∷ WasOk IsDone ∷ WasOk IsDone ∷ WasOk IsDone ∷ WasOk IsDone ∷ WasOk IsDone ∷ WasOk IsDone ∷ WasOk IsDone ∷ WasOk IsDone ∷ WasOk IsDone ∷ WasOk IsDone ∷ WasOk IsDone ∷ WasOk IsDone ∷ WasOk IsDone ∷ WasOk IsDone ∷ WasOk IsDone ∷ WasOk IsDone ∷ WasOk IsDone ∷ NoSlot 1 ∷ WasOk IsDone ∷ []; printed = [] ∷ []; stored = record { path = (97 ∷ []); bytes = [] } ∷ [] } }
+    ensures { script_ends 2 268435456 all_slots_retried
+        ≡ record {
+          settled = WasOk (Action 2) ∷ WasOk IsDone ∷ WasOk IsDone ∷ WasOk IsDone ∷ WasOk IsDone ∷ WasOk IsDone
+              ∷ WasOk IsDone ∷ WasOk IsDone ∷ WasOk IsDone ∷ WasOk IsDone ∷ WasOk IsDone ∷ WasOk IsDone ∷ WasOk IsDone
+              ∷ WasOk IsDone ∷ WasOk IsDone ∷ WasOk IsDone ∷ WasOk IsDone ∷ WasOk IsDone ∷ WasOk IsDone ∷ WasOk IsDone
+              ∷ WasOk IsDone ∷ WasOk IsDone ∷ WasOk IsDone ∷ WasOk IsDone ∷ WasOk IsDone ∷ WasOk IsDone ∷ WasOk IsDone
+              ∷ WasOk IsDone ∷ WasOk IsDone ∷ WasOk IsDone ∷ WasOk IsDone ∷ WasOk IsDone ∷ WasOk IsDone ∷ WasOk IsDone
+              ∷ WasOk IsDone ∷ WasOk IsDone ∷ WasOk IsDone ∷ WasOk IsDone ∷ WasOk IsDone ∷ WasOk IsDone ∷ WasOk IsDone
+              ∷ WasOk IsDone ∷ WasOk IsDone ∷ WasOk IsDone ∷ WasOk IsDone ∷ WasOk IsDone ∷ WasOk IsDone ∷ WasOk IsDone
+              ∷ WasOk IsDone ∷ WasOk IsDone ∷ WasOk IsDone ∷ WasOk IsDone ∷ WasOk IsDone ∷ WasOk IsDone ∷ WasOk IsDone
+              ∷ WasOk IsDone ∷ WasOk IsDone ∷ WasOk IsDone ∷ WasOk IsDone ∷ WasOk IsDone ∷ WasOk IsDone ∷ WasOk IsDone
+              ∷ WasOk IsDone ∷ WasOk IsDone ∷ WasOk IsDone ∷ NoSlot 1 ∷ WasOk IsDone ∷ [];
+          printed = [] ∷ [];
+          stored = record { path = (97 ∷ []); bytes = [] } ∷ [];
+        } }
 {}
 
 /// Two opens that share with each other stand together.
 pub fn shared_readers_example()
-    ensures { script_ends 1 268435456 shared_readers ≡ record { settled = WasOk (Action 2) ∷ WasOk (Action 1) ∷ []; printed = [] ∷ []; stored = record { path = (97 ∷ []); bytes = [] } ∷ [] } }
+    ensures { script_ends 1 268435456 shared_readers ≡ record {
+      settled = WasOk (Action 2) ∷ WasOk (Action 1) ∷ [];
+      printed = [] ∷ [];
+      stored = record { path = (97 ∷ []); bytes = [] } ∷ [];
+    } }
 {}
 
 /// A writer is refused beside an open that shares no writing, and what hangs on it has no open.
 pub fn denied_writer_example()
-    ensures { script_ends 1 268435456 denied_writer ≡ record { settled = WasOk (Action 2) ∷ WasRefused 0xc0000043 ∷ NoOpen 2 ∷ []; printed = [] ∷ []; stored = record { path = (97 ∷ []); bytes = [] } ∷ [] } }
+    ensures { script_ends 1 268435456 denied_writer
+        ≡ record {
+          settled = WasOk (Action 2) ∷ WasRefused 0xc0000043 ∷ NoOpen 2 ∷ [];
+          printed = [] ∷ [];
+          stored = record { path = (97 ∷ []); bytes = [] } ∷ [];
+        } }
 {}
 
 /// A delayed request to attach an open lowers no sequence, and an older write behind it is held back.
 pub fn delayed_reconnect_example()
-    ensures script_ends { script_ends 3 268435456 delayed_reconnect ≡ record { settled = WasOk (Action 2) ∷ WasOk (IsCount 1) ∷ WasOk (IsCount 1) ∷ []; printed = (2 ∷ 3 ∷ []) ∷ []; stored = record { path = (97 ∷ []); bytes = (98 ∷ []) } ∷ [] } }
+    ensures script_ends { script_ends 3 268435456 delayed_reconnect
+        ≡ record {
+          settled = WasOk (Action 2) ∷ WasOk (IsCount 1) ∷ WasOk (IsCount 1) ∷ [];
+          printed = (2 ∷ 3 ∷ []) ∷ [];
+          stored = record { path = (97 ∷ []); bytes = (98 ∷ []) } ∷ [];
+        } }
     ensures note_1 { note 3 268435456 delayed_reconnect_until_note 0 ≡ record { status = 0x00000000; acted = false } }
     ensures note_2 { note 3 268435456 delayed_reconnect_until_last 1 ≡ record { status = 0xc0000467; acted = false } }
     ensures acts_1 { acted_on 3 268435456 delayed_reconnect 1 ≡ 1 }
@@ -147,7 +217,12 @@ pub fn delayed_reconnect_example()
 
 /// A persistent open without a session expires: a write that may have acted is unknown, and the file can be opened anew.
 pub fn expired_open_example()
-    ensures script_ends { script_ends 1 268435456 expired_open ≡ record { settled = WasOk (Action 2) ∷ Unknown (WithStatus 0xc0000034) ∷ WasOk (Action 1) ∷ []; printed = (2 ∷ []) ∷ [] ∷ []; stored = record { path = (97 ∷ []); bytes = (97 ∷ []) } ∷ [] } }
+    ensures script_ends { script_ends 1 268435456 expired_open
+        ≡ record {
+          settled = WasOk (Action 2) ∷ Unknown (WithStatus 0xc0000034) ∷ WasOk (Action 1) ∷ [];
+          printed = (2 ∷ []) ∷ [] ∷ [];
+          stored = record { path = (97 ∷ []); bytes = (97 ∷ []) } ∷ [];
+        } }
     ensures acts_1 { acted_on 1 268435456 expired_open 1 ≡ 1 }
     ensures acts_2 { acted_on 1 268435456 expired_open 2 ≡ 1 }
     ensures acts_3 { acted_on 1 268435456 expired_open 3 ≡ 1 }
@@ -155,62 +230,122 @@ pub fn expired_open_example()
 
 /// Before its deadline the open stands, is attached again, and denies the other create.
 pub fn open_before_expiry_example()
-    ensures script_ends { script_ends 1 268435456 open_before_expiry ≡ record { settled = WasOk (Action 2) ∷ WasOk (IsCount 1) ∷ WasRefused 0xc0000043 ∷ []; printed = (2 ∷ []) ∷ []; stored = record { path = (97 ∷ []); bytes = (97 ∷ []) } ∷ [] } }
+    ensures script_ends { script_ends 1 268435456 open_before_expiry
+        ≡ record {
+          settled = WasOk (Action 2) ∷ WasOk (IsCount 1) ∷ WasRefused 0xc0000043 ∷ [];
+          printed = (2 ∷ []) ∷ [];
+          stored = record { path = (97 ∷ []); bytes = (97 ∷ []) } ∷ [];
+        } }
     ensures acts_2 { acted_on 1 268435456 open_before_expiry 2 ≡ 1 }
     ensures acts_3 { acted_on 1 268435456 open_before_expiry 3 ≡ 0 }
 {}
 
 /// A create whose reply is lost expires: its retry finds its guid expired, so it is unknown.
 pub fn expired_create_example()
-    ensures script_ends { script_ends 1 268435456 expired_create ≡ record { settled = Unknown (WithStatus 0xc000022a) ∷ []; printed = []; stored = record { path = (97 ∷ []); bytes = [] } ∷ [] } }
+    ensures script_ends { script_ends 1 268435456 expired_create
+        ≡ record {
+          settled = Unknown (WithStatus 0xc000022a) ∷ [];
+          printed = [];
+          stored = record { path = (97 ∷ []); bytes = [] } ∷ [];
+        } }
     ensures acts_1 { acted_on 1 268435456 expired_create 1 ≡ 1 }
 {}
 
 /// One connection creates, writes, reads and closes.
 pub fn first_steps_example()
-    ensures { script_ends 1 268435456 first_steps ≡ record { settled = WasOk (Action 2) ∷ WasOk (IsCount 5) ∷ WasOk (IsContent (104 ∷ 101 ∷ 108 ∷ 108 ∷ 111 ∷ [])) ∷ WasOk IsDone ∷ []; printed = (2 ∷ 3 ∷ []) ∷ []; stored = record { path = (97 ∷ 46 ∷ 116 ∷ 120 ∷ 116 ∷ []); bytes = (104 ∷ 101 ∷ 108 ∷ 108 ∷ 111 ∷ []) } ∷ [] } }
+    ensures { script_ends 1 268435456 first_steps
+        ≡ record {
+          settled = WasOk (Action 2) ∷ WasOk (IsCount 5) ∷ WasOk (IsContent (104 ∷ 101 ∷ 108 ∷ 108 ∷ 111 ∷ []))
+              ∷ WasOk IsDone ∷ [];
+          printed = (2 ∷ 3 ∷ []) ∷ [];
+          stored = record { path = (97 ∷ 46 ∷ 116 ∷ 120 ∷ 116 ∷ []); bytes = (104 ∷ 101 ∷ 108 ∷ 108 ∷ 111 ∷ []) } ∷ [];
+        } }
 {}
 
 /// A read of no bytes at the end is a success, and one of a byte is END_OF_FILE.
 pub fn end_of_file_example()
-    ensures { script_ends 1 268435456 end_of_file ≡ record { settled = WasOk (Action 2) ∷ WasOk (IsCount 2) ∷ WasOk (IsContent []) ∷ WasRefused 0xc0000011 ∷ []; printed = (2 ∷ 3 ∷ 4 ∷ []) ∷ []; stored = record { path = (97 ∷ []); bytes = (97 ∷ 98 ∷ []) } ∷ [] } }
+    ensures { script_ends 1 268435456 end_of_file
+        ≡ record {
+          settled = WasOk (Action 2) ∷ WasOk (IsCount 2) ∷ WasOk (IsContent []) ∷ WasRefused 0xc0000011 ∷ [];
+          printed = (2 ∷ 3 ∷ 4 ∷ []) ∷ [];
+          stored = record { path = (97 ∷ []); bytes = (97 ∷ 98 ∷ []) } ∷ [];
+        } }
 {}
 
 /// A write behind the end fills the gap with zeros.
 pub fn gaps_are_zeros_example()
-    ensures { script_ends 1 268435456 gaps_are_zeros ≡ record { settled = WasOk (Action 2) ∷ WasOk (IsCount 1) ∷ WasOk (IsCount 1) ∷ []; printed = (2 ∷ 3 ∷ []) ∷ []; stored = record { path = (97 ∷ []); bytes = (0 ∷ 0 ∷ 0 ∷ 122 ∷ 123 ∷ []) } ∷ [] } }
+    ensures { script_ends 1 268435456 gaps_are_zeros
+        ≡ record {
+          settled = WasOk (Action 2) ∷ WasOk (IsCount 1) ∷ WasOk (IsCount 1) ∷ [];
+          printed = (2 ∷ 3 ∷ []) ∷ [];
+          stored = record { path = (97 ∷ []); bytes = (0 ∷ 0 ∷ 0 ∷ 122 ∷ 123 ∷ []) } ∷ [];
+        } }
 {}
 
 /// A directory lists its names in order; files of one path each.
 pub fn listed_names_example()
-    ensures { script_ends 1 268435456 listed_names ≡ record { settled = WasOk (Action 2) ∷ WasOk (Action 2) ∷ WasOk (Action 2) ∷ WasOk (Names ((97 ∷ []) ∷ (98 ∷ []) ∷ [])) ∷ []; printed = [] ∷ [] ∷ [] ∷ []; stored = record { path = (100 ∷ 92 ∷ 97 ∷ []); bytes = [] } ∷ record { path = (100 ∷ 92 ∷ 98 ∷ []); bytes = [] } ∷ [] } }
+    ensures { script_ends 1 268435456 listed_names
+        ≡ record {
+          settled = WasOk (Action 2) ∷ WasOk (Action 2) ∷ WasOk (Action 2)
+              ∷ WasOk (Names ((97 ∷ []) ∷ (98 ∷ []) ∷ [])) ∷ [];
+          printed = [] ∷ [] ∷ [] ∷ [];
+          stored = record { path = (100 ∷ 92 ∷ 97 ∷ []); bytes = [] } ∷ record {
+            path = (100 ∷ 92 ∷ 98 ∷ []);
+            bytes = [];
+          } ∷ [];
+        } }
 {}
 
 /// A file is renamed, stamped and made delete pending, and goes with its last open.
 pub fn renamed_and_removed_example()
-    ensures { script_ends 1 268435456 renamed_and_removed ≡ record { settled = WasOk (Action 2) ∷ WasOk (IsCount 2) ∷ WasOk IsDone ∷ WasOk (Length 2) ∷ WasOk IsDone ∷ WasOk IsDone ∷ WasOk IsDone ∷ []; printed = (2 ∷ []) ∷ []; stored = [] } }
+    ensures { script_ends 1 268435456 renamed_and_removed
+        ≡ record {
+          settled = WasOk (Action 2) ∷ WasOk (IsCount 2) ∷ WasOk IsDone ∷ WasOk (Length 2) ∷ WasOk IsDone
+              ∷ WasOk IsDone ∷ WasOk IsDone ∷ [];
+          printed = (2 ∷ []) ∷ [];
+          stored = [];
+        } }
 {}
 
 /// An open that shares nothing keeps out who would delete.
 pub fn denied_remover_example()
-    ensures { script_ends 1 268435456 denied_remover ≡ record { settled = WasOk (Action 2) ∷ WasOk (Action 2) ∷ WasRefused 0xc0000043 ∷ NoOpen 3 ∷ []; printed = [] ∷ [] ∷ []; stored = record { path = (100 ∷ 92 ∷ 97 ∷ []); bytes = [] } ∷ [] } }
+    ensures { script_ends 1 268435456 denied_remover
+        ≡ record {
+          settled = WasOk (Action 2) ∷ WasOk (Action 2) ∷ WasRefused 0xc0000043 ∷ NoOpen 3 ∷ [];
+          printed = [] ∷ [] ∷ [];
+          stored = record { path = (100 ∷ 92 ∷ 97 ∷ []); bytes = [] } ∷ [];
+        } }
 {}
 
 /// A create acted and its reply is lost with its channel: the retry is given the same answer.
 pub fn retry_after_act_example()
-    ensures script_ends { script_ends 2 268435456 retry_after_act ≡ record { settled = WasOk (Action 2) ∷ []; printed = [] ∷ []; stored = record { path = (97 ∷ []); bytes = [] } ∷ [] } }
+    ensures script_ends { script_ends 2 268435456 retry_after_act ≡ record {
+      settled = WasOk (Action 2) ∷ [];
+      printed = [] ∷ [];
+      stored = record { path = (97 ∷ []); bytes = [] } ∷ [];
+    } }
     ensures acts_1 { acted_on 2 268435456 retry_after_act 1 ≡ 1 }
 {}
 
 /// A close acted and its reply is lost: the retry finds no open, and the close is Ok.
 pub fn retried_close_example()
-    ensures script_ends { script_ends 2 268435456 retried_close ≡ record { settled = WasOk (Action 2) ∷ WasOk IsDone ∷ []; printed = [] ∷ []; stored = record { path = (97 ∷ []); bytes = [] } ∷ [] } }
+    ensures script_ends { script_ends 2 268435456 retried_close
+        ≡ record {
+          settled = WasOk (Action 2) ∷ WasOk IsDone ∷ [];
+          printed = [] ∷ [];
+          stored = record { path = (97 ∷ []); bytes = [] } ∷ [];
+        } }
     ensures acts_2 { acted_on 2 268435456 retried_close 2 ≡ 1 }
 {}
 
 /// A delayed end is held back, as a write is.
 pub fn held_back_end_example()
-    ensures script_ends { script_ends 2 268435456 held_back_end ≡ record { settled = WasOk (Action 2) ∷ WasOk IsDone ∷ WasOk IsDone ∷ []; printed = (2 ∷ 3 ∷ []) ∷ []; stored = record { path = (97 ∷ []); bytes = (0 ∷ 0 ∷ 0 ∷ []) } ∷ [] } }
+    ensures script_ends { script_ends 2 268435456 held_back_end
+        ≡ record {
+          settled = WasOk (Action 2) ∷ WasOk IsDone ∷ WasOk IsDone ∷ [];
+          printed = (2 ∷ 3 ∷ []) ∷ [];
+          stored = record { path = (97 ∷ []); bytes = (0 ∷ 0 ∷ 0 ∷ []) } ∷ [];
+        } }
     ensures note { note 2 268435456 held_back_end_until_note 0 ≡ record { status = 0xc0000467; acted = false } }
     ensures acts_2 { acted_on 2 268435456 held_back_end 2 ≡ 1 }
     ensures acts_3 { acted_on 2 268435456 held_back_end 3 ≡ 1 }
@@ -218,47 +353,82 @@ pub fn held_back_end_example()
 
 /// A write that finds no room adopts its sequence all the same, so its delayed copy is held back.
 pub fn refusal_adopts_example()
-    ensures script_ends { script_ends 2 4 refusal_adopts ≡ record { settled = WasOk (Action 2) ∷ WasRefused 0xc000007f ∷ []; printed = (2 ∷ []) ∷ []; stored = record { path = (97 ∷ []); bytes = [] } ∷ [] } }
+    ensures script_ends { script_ends 2 4 refusal_adopts
+        ≡ record {
+          settled = WasOk (Action 2) ∷ WasRefused 0xc000007f ∷ [];
+          printed = (2 ∷ []) ∷ [];
+          stored = record { path = (97 ∷ []); bytes = [] } ∷ [];
+        } }
     ensures note { note 2 4 refusal_adopts_until_note 0 ≡ record { status = 0xc0000467; acted = false } }
     ensures acts_2 { acted_on 2 4 refusal_adopts 2 ≡ 0 }
 {}
 
 /// A lock acted and its reply is lost with the server: the retry is answered by its slot.
 pub fn restart_keeps_locks_example()
-    ensures script_ends { script_ends 1 268435456 restart_keeps_locks ≡ record { settled = WasOk (Action 2) ∷ WasOk IsDone ∷ []; printed = [] ∷ []; stored = record { path = (97 ∷ []); bytes = [] } ∷ [] } }
+    ensures script_ends { script_ends 1 268435456 restart_keeps_locks
+        ≡ record {
+          settled = WasOk (Action 2) ∷ WasOk IsDone ∷ [];
+          printed = [] ∷ [];
+          stored = record { path = (97 ∷ []); bytes = [] } ∷ [];
+        } }
     ensures acts_2 { acted_on 1 268435456 restart_keeps_locks 2 ≡ 1 }
 {}
 
 /// A lock of a persistent open is refused, and a restart keeps that.
 pub fn restart_keeps_refused_locks_example()
-    ensures script_ends { script_ends 2 268435456 restart_keeps_refused_locks ≡ record { settled = WasOk (Action 2) ∷ WasOk (Action 1) ∷ WasOk IsDone ∷ WasRefused 0xc0000055 ∷ []; printed = []; stored = record { path = (97 ∷ []); bytes = [] } ∷ [] } }
+    ensures script_ends { script_ends 2 268435456 restart_keeps_refused_locks
+        ≡ record {
+          settled = WasOk (Action 2) ∷ WasOk (Action 1) ∷ WasOk IsDone ∷ WasRefused 0xc0000055 ∷ [];
+          printed = [];
+          stored = record { path = (97 ∷ []); bytes = [] } ∷ [];
+        } }
     ensures acts_3 { acted_on 2 268435456 restart_keeps_refused_locks 3 ≡ 1 }
     ensures acts_4 { acted_on 2 268435456 restart_keeps_refused_locks 4 ≡ 0 }
 {}
 
 /// An open that is attached again has no deadline any more.
 pub fn attached_again_example()
-    ensures script_ends { script_ends 1 268435456 attached_again ≡ record { settled = WasOk (Action 2) ∷ WasOk (IsCount 1) ∷ WasOk (IsCount 1) ∷ []; printed = (2 ∷ 3 ∷ []) ∷ []; stored = record { path = (97 ∷ []); bytes = (98 ∷ []) } ∷ [] } }
+    ensures script_ends { script_ends 1 268435456 attached_again
+        ≡ record {
+          settled = WasOk (Action 2) ∷ WasOk (IsCount 1) ∷ WasOk (IsCount 1) ∷ [];
+          printed = (2 ∷ 3 ∷ []) ∷ [];
+          stored = record { path = (97 ∷ []); bytes = (98 ∷ []) } ∷ [];
+        } }
     ensures acts_2 { acted_on 1 268435456 attached_again 2 ≡ 1 }
     ensures acts_3 { acted_on 1 268435456 attached_again 3 ≡ 1 }
 {}
 
 /// A plain open is lost with its session, and what comes later has no open.
 pub fn plain_open_lost_example()
-    ensures script_ends { script_ends 1 268435456 plain_open_lost ≡ record { settled = WasOk (Action 2) ∷ Unknown (SessionLost 1) ∷ NoOpen 1 ∷ NoOpen 1 ∷ []; printed = [] ∷ []; stored = record { path = (97 ∷ []); bytes = [] } ∷ [] } }
+    ensures script_ends { script_ends 1 268435456 plain_open_lost
+        ≡ record {
+          settled = WasOk (Action 2) ∷ Unknown (SessionLost 1) ∷ NoOpen 1 ∷ NoOpen 1 ∷ [];
+          printed = [] ∷ [];
+          stored = record { path = (97 ∷ []); bytes = [] } ∷ [];
+        } }
     ensures acts_2 { acted_on 1 268435456 plain_open_lost 2 ≡ 0 }
 {}
 
 /// A write waits for a lower one that overlaps it as long as that is unsettled, though no copy of it is outstanding.
 pub fn later_write_waits_example()
-    ensures script_ends { script_ends 3 268435456 later_write_waits ≡ record { settled = WasOk (Action 2) ∷ WasOk (IsCount 1) ∷ WasOk (IsCount 1) ∷ []; printed = (2 ∷ 3 ∷ []) ∷ []; stored = record { path = (97 ∷ []); bytes = (98 ∷ []) } ∷ [] } }
+    ensures script_ends { script_ends 3 268435456 later_write_waits
+        ≡ record {
+          settled = WasOk (Action 2) ∷ WasOk (IsCount 1) ∷ WasOk (IsCount 1) ∷ [];
+          printed = (2 ∷ 3 ∷ []) ∷ [];
+          stored = record { path = (97 ∷ []); bytes = (98 ∷ []) } ∷ [];
+        } }
     ensures acts_2 { acted_on 3 268435456 later_write_waits 2 ≡ 1 }
     ensures acts_3 { acted_on 3 268435456 later_write_waits 3 ≡ 1 }
 {}
 
 /// A retried write that did not act before is carried out, though it lies within the file.
 pub fn retried_overwrite_example()
-    ensures script_ends { script_ends 2 268435456 retried_overwrite ≡ record { settled = WasOk (Action 2) ∷ WasOk (IsCount 2) ∷ WasOk (IsCount 1) ∷ []; printed = (2 ∷ 3 ∷ []) ∷ []; stored = record { path = (97 ∷ []); bytes = (98 ∷ 97 ∷ []) } ∷ [] } }
+    ensures script_ends { script_ends 2 268435456 retried_overwrite
+        ≡ record {
+          settled = WasOk (Action 2) ∷ WasOk (IsCount 2) ∷ WasOk (IsCount 1) ∷ [];
+          printed = (2 ∷ 3 ∷ []) ∷ [];
+          stored = record { path = (97 ∷ []); bytes = (98 ∷ 97 ∷ []) } ∷ [];
+        } }
     ensures note { note 2 268435456 retried_overwrite_until_note 0 ≡ record { status = 0xc0000467; acted = false } }
     ensures acts_2 { acted_on 2 268435456 retried_overwrite 2 ≡ 1 }
     ensures acts_3 { acted_on 2 268435456 retried_overwrite 3 ≡ 1 }
@@ -266,7 +436,12 @@ pub fn retried_overwrite_example()
 
 /// A slot whose lock was retried is used no more in the session, so the delayed copy of that lock is answered by it.
 pub fn slot_not_used_again_example()
-    ensures script_ends { script_ends 2 268435456 slot_not_used_again ≡ record { settled = WasOk (Action 2) ∷ WasOk IsDone ∷ WasOk IsDone ∷ []; printed = [] ∷ []; stored = record { path = (97 ∷ []); bytes = [] } ∷ [] } }
+    ensures script_ends { script_ends 2 268435456 slot_not_used_again
+        ≡ record {
+          settled = WasOk (Action 2) ∷ WasOk IsDone ∷ WasOk IsDone ∷ [];
+          printed = [] ∷ [];
+          stored = record { path = (97 ∷ []); bytes = [] } ∷ [];
+        } }
     ensures note { note 2 268435456 slot_not_used_again_until_note 0 ≡ record { status = 0x00000000; acted = false } }
     ensures acts_2 { acted_on 2 268435456 slot_not_used_again 2 ≡ 1 }
     ensures acts_3 { acted_on 2 268435456 slot_not_used_again 3 ≡ 1 }
@@ -285,25 +460,42 @@ pub fn given_up_slot_not_used_again_example()
 
 /// A rename acted and its reply is lost: the retry finds the file under that very name, and is Ok.
 pub fn retried_rename_example()
-    ensures script_ends { script_ends 2 268435456 retried_rename ≡ record { settled = WasOk (Action 2) ∷ WasOk IsDone ∷ []; printed = [] ∷ []; stored = record { path = (98 ∷ []); bytes = [] } ∷ [] } }
+    ensures script_ends { script_ends 2 268435456 retried_rename
+        ≡ record {
+          settled = WasOk (Action 2) ∷ WasOk IsDone ∷ [];
+          printed = [] ∷ [];
+          stored = record { path = (98 ∷ []); bytes = [] } ∷ [];
+        } }
     ensures note { note 2 268435456 retried_rename_until_note 1 ≡ record { status = 0x00000000; acted = false } }
 {}
 
 /// The files are script_ends in byte order of their paths: B stands before a.
 pub fn files_by_bytes_example()
-    ensures script_ends { script_ends 1 268435456 files_by_bytes ≡ record { settled = WasOk (Action 2) ∷ WasOk (Action 2) ∷ []; printed = [] ∷ [] ∷ []; stored = record { path = (66 ∷ []); bytes = [] } ∷ record { path = (97 ∷ []); bytes = [] } ∷ [] } }
+    ensures script_ends { script_ends 1 268435456 files_by_bytes
+        ≡ record {
+          settled = WasOk (Action 2) ∷ WasOk (Action 2) ∷ [];
+          printed = [] ∷ [] ∷ [];
+          stored = record { path = (66 ∷ []); bytes = [] } ∷ record { path = (97 ∷ []); bytes = [] } ∷ [];
+        } }
 {}
 
 /// A write acted and is unheard, a shared lock comes over its range, and its second copy is script_ends that it is done.
 pub fn repeated_behind_a_lock_example()
-    ensures script_ends { script_ends 2 268435456 repeated_behind_a_lock ≡ record { settled = WasOk (Action 2) ∷ WasOk (IsCount 1) ∷ WasOk IsDone ∷ []; printed = (2 ∷ []) ∷ []; stored = record { path = (97 ∷ []); bytes = (97 ∷ []) } ∷ [] } }
+    ensures script_ends { script_ends 2 268435456 repeated_behind_a_lock
+        ≡ record {
+          settled = WasOk (Action 2) ∷ WasOk (IsCount 1) ∷ WasOk IsDone ∷ [];
+          printed = (2 ∷ []) ∷ [];
+          stored = record { path = (97 ∷ []); bytes = (97 ∷ []) } ∷ [];
+        } }
     ensures acts_2 { acted_on 2 268435456 repeated_behind_a_lock 2 ≡ 1 }
 {}
 
 /// A directory's rename and its removal acted and are heard at their second copies alone.
 pub fn repeated_on_a_directory_example()
-    ensures renamed { settled_in (course 2 (repeated_on_a_directory (OpRename 1 (101 ∷ []))) (beginning 268435456)) ≡ WasOk (Action 2) ∷ WasOk IsDone ∷ [] }
-    ensures removed { settled_in (course 2 (repeated_on_a_directory (OpRemove 1)) (beginning 268435456)) ≡ WasOk (Action 2) ∷ WasOk IsDone ∷ [] }
+    ensures renamed { settled_in (course 2 (repeated_on_a_directory (OpRename 1 (101 ∷ []))) (beginning 268435456))
+        ≡ WasOk (Action 2) ∷ WasOk IsDone ∷ [] }
+    ensures removed { settled_in (course 2 (repeated_on_a_directory (OpRemove 1)) (beginning 268435456))
+        ≡ WasOk (Action 2) ∷ WasOk IsDone ∷ [] }
     ensures renamed_once { acted_on 2 268435456 (repeated_on_a_directory (OpRename 1 (101 ∷ []))) 2 ≡ 1 }
     ensures removed_once { acted_on 2 268435456 (repeated_on_a_directory (OpRemove 1)) 2 ≡ 1 }
 {}
@@ -312,18 +504,26 @@ pub fn repeated_on_a_directory_example()
 pub fn repeated_without_access_example()
     ensures end { status_after one_session (ask (make 0x81 7 2 0x40 None) ∷ []) (again (SetInfo first_open (SetEnd 0))) ≡ 0xc000_0022 }
     ensures write { status_after one_session (ask (make 0x81 7 2 0x40 None) ∷ []) (again (Write first_open 0 [] 0)) ≡ 0xc000_0022 }
-    ensures delete_pending { status_after one_session (ask (make 0x81 7 2 0x40 None) ∷ []) (again (SetInfo first_open (SetDelete false))) ≡ 0xc000_0022 }
-    ensures with_access { status_after one_session (ask (make 0x183 7 2 0x40 None) ∷ []) (again (SetInfo first_open (SetEnd 0))) ≡ 0x0000_0000 }
+    ensures delete_pending { status_after one_session (ask (make 0x81 7 2 0x40 None) ∷ []) (again (SetInfo first_open (SetDelete false)))
+        ≡ 0xc000_0022 }
+    ensures with_access { status_after one_session (ask (make 0x183 7 2 0x40 None) ∷ []) (again (SetInfo first_open (SetEnd 0)))
+        ≡ 0x0000_0000 }
 {}
 
 /// On the pipes' share each CREATE is OBJECT_NAME_NOT_FOUND, whatever it carries, and nothing is kept or counted of it.
 pub fn pipes_keep_nothing_example()
-    ensures durable { status_after one_session (ask (TreeConnect pipes_name) ∷ []) (on_pipes (make 0x183 7 2 0x40 (by_guid 5 true))) ≡ 0xc000_0034 }
-    ensures known_guid { status_after one_session (ask (TreeConnect pipes_name) ∷ ask (make 0x183 7 2 0x40 (by_guid 5 true)) ∷ []) (on_pipes (make 0x183 7 2 0x40 (by_guid 5 true))) ≡ 0xc000_0034 }
-    ensures attach { status_after one_session (ask (TreeConnect pipes_name) ∷ ask (make 0x183 7 2 0x40 (by_guid 5 true)) ∷ []) (on_pipes (reconnect first_open 5)) ≡ 0xc000_0034 }
-    ensures unkept { (after_all one_session 100 (ask (TreeConnect pipes_name) ∷ on_pipes (make 0x183 7 2 0x40 (by_guid 5 true)) ∷ [])).refused session 5 ≡ None }
-    ensures uncounted { (after_all one_session 100 (ask (TreeConnect pipes_name) ∷ on_pipes (make 0x183 7 2 0x40 (by_guid 5 true)) ∷ [])).guids session ≡ 0 }
-    ensures on_the_disk { status_after one_session (ask (TreeConnect pipes_name) ∷ on_pipes (make 0x183 7 2 0x40 (by_guid 5 true)) ∷ []) (ask (make 0x183 7 2 0x40 (by_guid 5 true))) ≡ 0x0000_0000 }
+    ensures durable { status_after one_session (ask (TreeConnect pipes_name) ∷ []) (on_pipes (make 0x183 7 2 0x40 (by_guid 5 true)))
+        ≡ 0xc000_0034 }
+    ensures known_guid { status_after one_session (ask (TreeConnect pipes_name) ∷ ask (make 0x183 7 2 0x40 (by_guid 5 true)) ∷ [])
+        (on_pipes (make 0x183 7 2 0x40 (by_guid 5 true))) ≡ 0xc000_0034 }
+    ensures attach { status_after one_session (ask (TreeConnect pipes_name) ∷ ask (make 0x183 7 2 0x40 (by_guid 5 true)) ∷ [])
+        (on_pipes (reconnect first_open 5)) ≡ 0xc000_0034 }
+    ensures unkept { (after_all one_session 100 (ask (TreeConnect pipes_name) ∷ on_pipes (make 0x183 7 2 0x40 (by_guid 5 true))
+        ∷ [])).refused session 5 ≡ None }
+    ensures uncounted { (after_all one_session 100 (ask (TreeConnect pipes_name) ∷ on_pipes (make 0x183 7 2 0x40 (by_guid 5 true))
+        ∷ [])).guids session ≡ 0 }
+    ensures on_the_disk { status_after one_session (ask (TreeConnect pipes_name) ∷ on_pipes (make 0x183 7 2 0x40 (by_guid 5 true)) ∷ [])
+        (ask (make 0x183 7 2 0x40 (by_guid 5 true))) ≡ 0x0000_0000 }
 {}
 
 /// Thirty-two listings of 16 credits each take all that a channel holds: the thirty-third goes out once one was heard.
@@ -355,16 +555,24 @@ pub fn stale_sequences_example()
 
 /// The CreateGuid of a live open is answered again with the replay flag alone, and that of a closed open never.
 pub fn guid_of_a_closed_open_example()
-    ensures live_replayed { status_after one_session (ask (make 0x183 0 2 0x40 (by_guid 5 false)) ∷ []) (Heard (from_client 0 7 9 0 true (make 0x183 0 2 0x40 (by_guid 5 false)))) ≡ 0 }
-    ensures live_repeated { status_after one_session (ask (make 0x183 0 2 0x40 (by_guid 5 false)) ∷ []) (ask (make 0x183 0 2 0x40 (by_guid 5 false))) ≡ 0xc000022a }
-    ensures closed { status_after one_session (ask (make 0x183 0 2 0x40 (by_guid 5 false)) ∷ ask (Close first_open false) ∷ []) (Heard (from_client 0 7 9 0 true (make 0x183 0 2 0x40 (by_guid 5 false)))) ≡ 0xc000022a }
+    ensures live_replayed { status_after one_session (ask (make 0x183 0 2 0x40 (by_guid 5 false)) ∷ [])
+        (Heard (from_client 0 7 9 0 true (make 0x183 0 2 0x40 (by_guid 5 false)))) ≡ 0 }
+    ensures live_repeated { status_after one_session (ask (make 0x183 0 2 0x40 (by_guid 5 false)) ∷ [])
+        (ask (make 0x183 0 2 0x40 (by_guid 5 false))) ≡ 0xc000022a }
+    ensures closed { status_after one_session (ask (make 0x183 0 2 0x40 (by_guid 5 false)) ∷ ask (Close first_open false) ∷ [])
+        (Heard (from_client 0 7 9 0 true (make 0x183 0 2 0x40 (by_guid 5 false)))) ≡ 0xc000022a }
 {}
 
 /// A refused create is refused again by its CreateGuid, though what refused it is gone.
 pub fn kept_create_refusal_example()
-    ensures denied { status_after one_session (ask (make 0x183 0 2 0x40 (by_guid 5 false)) ∷ []) (ask (make 0x183 0 1 0x40 (by_guid 6 false))) ≡ 0xc0000043 }
-    ensures again { status_after one_session (ask (make 0x183 0 2 0x40 (by_guid 5 false)) ∷ ask (make 0x183 0 1 0x40 (by_guid 6 false)) ∷ ask (Close first_open false) ∷ []) (Heard (from_client 0 7 9 0 true (make 0x183 0 1 0x40 (by_guid 6 false)))) ≡ 0xc0000043 }
-    ensures another_guid { status_after one_session (ask (make 0x183 0 2 0x40 (by_guid 5 false)) ∷ ask (make 0x183 0 1 0x40 (by_guid 6 false)) ∷ ask (Close first_open false) ∷ []) (ask (make 0x183 0 1 0x40 (by_guid 7 false))) ≡ 0 }
+    ensures denied { status_after one_session (ask (make 0x183 0 2 0x40 (by_guid 5 false)) ∷ [])
+        (ask (make 0x183 0 1 0x40 (by_guid 6 false))) ≡ 0xc0000043 }
+    ensures again { status_after one_session (ask (make 0x183 0 2 0x40 (by_guid 5 false))
+        ∷ ask (make 0x183 0 1 0x40 (by_guid 6 false)) ∷ ask (Close first_open false) ∷ [])
+        (Heard (from_client 0 7 9 0 true (make 0x183 0 1 0x40 (by_guid 6 false)))) ≡ 0xc0000043 }
+    ensures another_guid { status_after one_session (ask (make 0x183 0 2 0x40 (by_guid 5 false))
+        ∷ ask (make 0x183 0 1 0x40 (by_guid 6 false)) ∷ ask (Close first_open false) ∷ [])
+        (ask (make 0x183 0 1 0x40 (by_guid 7 false))) ≡ 0 }
 {}
 
 /// Nobody empties a file under an open that denies writers.
@@ -377,38 +585,62 @@ pub fn emptying_asks_for_writing_example()
 
 /// An open that deletes on close makes its file delete pending where it leaves, and the file goes with its last open.
 pub fn delete_on_close_example()
-    ensures pending { status_after one_session (ask (make 0x10183 7 2 0x1040 None) ∷ ask (make 0x10081 7 1 0x40 None) ∷ ask (Close first_open false) ∷ []) (ask (make 0x81 7 1 0x40 None)) ≡ 0xc0000056 }
-    ensures stays { files_after one_session (ask (make 0x10183 7 2 0x1040 None) ∷ ask (make 0x10081 7 1 0x40 None) ∷ ask (Close first_open false) ∷ []) ≡ 1 }
-    ensures goes { files_after one_session (ask (make 0x10183 7 2 0x1040 None) ∷ ask (make 0x10081 7 1 0x40 None) ∷ ask (Close first_open false) ∷ ask (Close second_open false) ∷ []) ≡ 0 }
+    ensures pending { status_after one_session (ask (make 0x10183 7 2 0x1040 None) ∷ ask (make 0x10081 7 1 0x40 None)
+        ∷ ask (Close first_open false) ∷ []) (ask (make 0x81 7 1 0x40 None)) ≡ 0xc0000056 }
+    ensures stays { files_after one_session (ask (make 0x10183 7 2 0x1040 None) ∷ ask (make 0x10081 7 1 0x40 None)
+        ∷ ask (Close first_open false) ∷ []) ≡ 1 }
+    ensures goes { files_after one_session (ask (make 0x10183 7 2 0x1040 None) ∷ ask (make 0x10081 7 1 0x40 None)
+        ∷ ask (Close first_open false) ∷ ask (Close second_open false) ∷ []) ≡ 0 }
     ensures access { status_after one_session [] (ask (make 0x183 7 2 0x1040 None)) ≡ 0xc0000022 }
 {}
 
 /// A plain close owes the flag and the removal, and one that leaves nothing owes no record.
 pub fn records_of_a_close_example()
-    ensures delete_pending { records_after one_session (ask (make 0x10183 7 2 0x1040 None) ∷ []) (ask (Close first_open false)) ≡ DeleteRecord (record { session = session; connection = 0; message = 9 }) 1 true ∷ RemoveRecord (record { session = session; connection = 0; message = 9 }) 1 ∷ [] }
+    ensures delete_pending { records_after one_session (ask (make 0x10183 7 2 0x1040 None) ∷ []) (ask (Close first_open false))
+        ≡ DeleteRecord (record { session = session; connection = 0; message = 9 }) 1 true
+        ∷ RemoveRecord (record { session = session; connection = 0; message = 9 }) 1 ∷ [] }
     ensures plain { records_after one_session (ask (make 0x183 7 2 0x40 None) ∷ []) (ask (Close first_open false)) ≡ [] }
-    ensures persistent { records_after one_session (ask (make 0x183 7 2 0x40 (by_guid 5 true)) ∷ []) (ask (Close first_open false)) ≡ CloseRecord (record { session = session; connection = 0; message = 9 }) first_open ∷ [] }
+    ensures persistent { records_after one_session (ask (make 0x183 7 2 0x40 (by_guid 5 true)) ∷ [])
+        (ask (Close first_open false))
+        ≡ CloseRecord (record { session = session; connection = 0; message = 9 }) first_open ∷ [] }
 {}
 
 /// A lock is refused beside an overlapping range, of the same open too; a range of no bytes overlaps nothing; an unlock
 /// takes one equal range.
 pub fn ranges_and_slots_example()
-    ensures overlap { status_after one_session (ask (make 0x183 7 2 0x40 None) ∷ ask (Lock first_open 0 0 (lock_of 0 0 10 2 0 ∷ [])) ∷ []) (ask (Lock first_open 0 0 (lock_of 0 9 1 1 0 ∷ []))) ≡ 0xc0000055 }
-    ensures apart { status_after one_session (ask (make 0x183 7 2 0x40 None) ∷ ask (Lock first_open 0 0 (lock_of 0 0 10 2 0 ∷ [])) ∷ []) (ask (Lock first_open 0 0 (lock_of 0 10 1 2 0 ∷ []))) ≡ 0 }
-    ensures no_bytes { status_after one_session (ask (make 0x183 7 2 0x40 None) ∷ ask (Lock first_open 0 0 (lock_of 0 0 10 2 0 ∷ [])) ∷ []) (ask (Lock first_open 0 0 (lock_of 0 5 0 2 0 ∷ []))) ≡ 0 }
-    ensures shared_twice { status_after one_session (ask (make 0x183 7 2 0x40 None) ∷ ask (Lock first_open 0 0 (lock_of 0 0 10 1 0 ∷ lock_of 0 0 10 1 0 ∷ [])) ∷ ask (Lock first_open 0 0 (lock_of 0 0 10 4 0 ∷ [])) ∷ []) (ask (Lock first_open 0 0 (lock_of 0 0 10 4 0 ∷ []))) ≡ 0 }
-    ensures not_locked { status_after one_session (ask (make 0x183 7 2 0x40 None) ∷ ask (Lock first_open 0 0 (lock_of 0 0 10 1 0 ∷ [])) ∷ ask (Lock first_open 0 0 (lock_of 0 0 10 4 0 ∷ [])) ∷ []) (ask (Lock first_open 0 0 (lock_of 0 0 10 4 0 ∷ []))) ≡ 0xc000007e }
-    ensures all_or_nothing { status_after one_session (ask (make 0x183 7 2 0x40 None) ∷ ask (Lock first_open 0 0 (lock_of 0 0 1 2 0 ∷ lock_of 0 0 1 2 0 ∷ [])) ∷ []) (ask (Lock first_open 0 0 (lock_of 0 0 1 2 0 ∷ []))) ≡ 0 }
-    ensures kept { status_after one_session (ask (make 0x183 7 2 0x40 None) ∷ ask (Lock first_open 3 0 (lock_of 0 0 1 4 0 ∷ [])) ∷ ask (Lock first_open 4 0 (lock_of 0 0 1 2 0 ∷ [])) ∷ []) (ask (Lock first_open 3 0 (lock_of 0 0 1 4 0 ∷ []))) ≡ 0xc000007e }
-    ensures mixed { status_after one_session (ask (make 0x183 7 2 0x40 None) ∷ []) (ask (Lock first_open 3 0 (lock_of 0 0 1 4 0 ∷ lock_of 0 0 1 2 0 ∷ []))) ≡ 0xc000000d }
-    ensures past_the_end { status_after one_session (ask (make 0x183 7 2 0x40 None) ∷ []) (ask (Lock first_open 3 0 (lock_of 0 18446744073709551615 2 2 0 ∷ []))) ≡ 0xc00001a1 }
+    ensures overlap { status_after one_session (ask (make 0x183 7 2 0x40 None) ∷ ask (Lock first_open 0 0 (lock_of 0 0 10 2 0 ∷ []))
+        ∷ []) (ask (Lock first_open 0 0 (lock_of 0 9 1 1 0 ∷ []))) ≡ 0xc0000055 }
+    ensures apart { status_after one_session (ask (make 0x183 7 2 0x40 None) ∷ ask (Lock first_open 0 0 (lock_of 0 0 10 2 0 ∷ []))
+        ∷ []) (ask (Lock first_open 0 0 (lock_of 0 10 1 2 0 ∷ []))) ≡ 0 }
+    ensures no_bytes { status_after one_session (ask (make 0x183 7 2 0x40 None) ∷ ask (Lock first_open 0 0 (lock_of 0 0 10 2 0 ∷ []))
+        ∷ []) (ask (Lock first_open 0 0 (lock_of 0 5 0 2 0 ∷ []))) ≡ 0 }
+    ensures shared_twice { status_after one_session
+        (ask (make 0x183 7 2 0x40 None) ∷ ask (Lock first_open 0 0 (lock_of 0 0 10 1 0 ∷ lock_of 0 0 10 1 0 ∷ []))
+        ∷ ask (Lock first_open 0 0 (lock_of 0 0 10 4 0 ∷ [])) ∷ [])
+        (ask (Lock first_open 0 0 (lock_of 0 0 10 4 0 ∷ []))) ≡ 0 }
+    ensures not_locked { status_after one_session (ask (make 0x183 7 2 0x40 None) ∷ ask (Lock first_open 0 0 (lock_of 0 0 10 1 0 ∷ []))
+        ∷ ask (Lock first_open 0 0 (lock_of 0 0 10 4 0 ∷ [])) ∷ [])
+        (ask (Lock first_open 0 0 (lock_of 0 0 10 4 0 ∷ []))) ≡ 0xc000007e }
+    ensures all_or_nothing { status_after one_session
+        (ask (make 0x183 7 2 0x40 None) ∷ ask (Lock first_open 0 0 (lock_of 0 0 1 2 0 ∷ lock_of 0 0 1 2 0 ∷ [])) ∷ [])
+        (ask (Lock first_open 0 0 (lock_of 0 0 1 2 0 ∷ []))) ≡ 0 }
+    ensures kept { status_after one_session
+        (ask (make 0x183 7 2 0x40 None) ∷ ask (Lock first_open 3 0 (lock_of 0 0 1 4 0 ∷ []))
+        ∷ ask (Lock first_open 4 0 (lock_of 0 0 1 2 0 ∷ [])) ∷ []) (ask (Lock first_open 3 0 (lock_of 0 0 1 4 0 ∷ [])))
+        ≡ 0xc000007e }
+    ensures mixed { status_after one_session (ask (make 0x183 7 2 0x40 None) ∷ [])
+        (ask (Lock first_open 3 0 (lock_of 0 0 1 4 0 ∷ lock_of 0 0 1 2 0 ∷ []))) ≡ 0xc000000d }
+    ensures past_the_end { status_after one_session (ask (make 0x183 7 2 0x40 None) ∷ [])
+        (ask (Lock first_open 3 0 (lock_of 0 18446744073709551615 2 2 0 ∷ []))) ≡ 0xc00001a1 }
 {}
 
 /// Where no record fits, a create is refused and kept so, and a session ends all the same, its files staying as they are.
 pub fn full_journal_example()
     ensures create { status_after (with_full_journal one_session) [] (ask (make 0x183 7 2 0x40 (by_guid 5 false))) ≡ 0xc000007f }
-    ensures no_record { status_after (with_full_journal (after_all one_session 50 (ask (make 0x10183 7 2 0x1040 None) ∷ []))) [] (ask (make 0x81 7 1 0x40 None)) ≡ 0 }
-    ensures close { status_after (with_full_journal (after_all one_session 50 (ask (make 0x10183 7 2 0x1040 None) ∷ []))) [] (ask (Close first_open false)) ≡ 0xc000007f }
+    ensures no_record { status_after (with_full_journal (after_all one_session 50 (ask (make 0x10183 7 2 0x1040 None) ∷ []))) []
+        (ask (make 0x81 7 1 0x40 None)) ≡ 0 }
+    ensures close { status_after (with_full_journal (after_all one_session 50 (ask (make 0x10183 7 2 0x1040 None) ∷ []))) []
+        (ask (Close first_open false)) ≡ 0xc000007f }
     ensures end { status_after (with_full_journal (after_all one_session 50 (ask (make 0x10183 7 2 0x1040 None) ∷ []))) [] (End 0) ≡ 0 }
     ensures stays { files_after (with_full_journal (after_all one_session 50 (ask (make 0x10183 7 2 0x1040 None) ∷ []))) (End 0 ∷ []) ≡ 1 }
     ensures goes { files_after one_session (ask (make 0x10183 7 2 0x1040 None) ∷ End 0 ∷ []) ≡ 0 }
@@ -417,16 +649,25 @@ pub fn full_journal_example()
 /// A persistent open without a session leaves at the first event from its deadline on, unless as many guids are kept as there may be.
 pub fn expiry_at_its_deadline_example()
     ensures before { records_after (after_all one_session 0 (ask (make 0x183 7 2 0x40 (by_guid 5 true)) ∷ End 0 ∷ [])) [] (Accept 3) ≡ [] }
-    ensures at_the_deadline { (step (after_all one_session 0 (ask (make 0x183 7 2 0x40 (by_guid 5 true)) ∷ End 0 ∷ [])) 600000001 (Accept 3)).records ≡ ExpireRecord (record { session = 0; connection = 3; message = 0 }) first_open ∷ [] }
-    ensures one_before { (step (after_all one_session 0 (ask (make 0x183 7 2 0x40 (by_guid 5 true)) ∷ End 0 ∷ [])) 600000000 (Accept 3)).records ≡ [] }
-    ensures all_expired_guids { (step (with_all_expired_guids (after_all one_session 0 (ask (make 0x183 7 2 0x40 (by_guid 5 true)) ∷ End 0 ∷ []))) 600000001 (Accept 3)).records ≡ [] }
+    ensures at_the_deadline { (step (after_all one_session 0 (ask (make 0x183 7 2 0x40 (by_guid 5 true)) ∷ End 0 ∷ [])) 600000001
+        (Accept 3)).records ≡ ExpireRecord (record { session = 0; connection = 3; message = 0 }) first_open ∷ [] }
+    ensures one_before { (step (after_all one_session 0 (ask (make 0x183 7 2 0x40 (by_guid 5 true)) ∷ End 0 ∷ [])) 600000000
+        (Accept 3)).records ≡ [] }
+    ensures all_expired_guids { (step (with_all_expired_guids
+        (after_all one_session 0 (ask (make 0x183 7 2 0x40 (by_guid 5 true)) ∷ End 0 ∷ []))) 600000001
+        (Accept 3)).records ≡ [] }
 {}
 
 /// In a fold too no open expires where as many guids are kept as there may be.
 pub fn expired_guids_in_the_fold_example()
-    ensures all_expired_guids { (with_record (with_all_expired_guids (after_all one_session 0 (ask (make 0x183 7 2 0x40 (by_guid 5 true)) ∷ []))) (ExpireRecord (record { session = 0; connection = 3; message = 0 }) first_open)).expired_count ≡ 65536 }
-    ensures stands { (with_record (with_all_expired_guids (after_all one_session 0 (ask (make 0x183 7 2 0x40 (by_guid 5 true)) ∷ []))) (ExpireRecord (record { session = 0; connection = 3; message = 0 }) first_open)).opens ≡ first_open ∷ [] }
-    ensures leaves { (with_record (after_all one_session 0 (ask (make 0x183 7 2 0x40 (by_guid 5 true)) ∷ [])) (ExpireRecord (record { session = 0; connection = 3; message = 0 }) first_open)).opens ≡ [] }
+    ensures all_expired_guids { (with_record
+        (with_all_expired_guids (after_all one_session 0 (ask (make 0x183 7 2 0x40 (by_guid 5 true)) ∷ [])))
+        (ExpireRecord (record { session = 0; connection = 3; message = 0 }) first_open)).expired_count ≡ 65536 }
+    ensures stands { (with_record
+        (with_all_expired_guids (after_all one_session 0 (ask (make 0x183 7 2 0x40 (by_guid 5 true)) ∷ [])))
+        (ExpireRecord (record { session = 0; connection = 3; message = 0 }) first_open)).opens ≡ first_open ∷ [] }
+    ensures leaves { (with_record (after_all one_session 0 (ask (make 0x183 7 2 0x40 (by_guid 5 true)) ∷ []))
+        (ExpireRecord (record { session = 0; connection = 3; message = 0 }) first_open)).opens ≡ [] }
 {}
 
 /// A star stands for any characters and a question mark for one, by ASCII case.
@@ -451,9 +692,13 @@ pub fn forms_of_names_example()
 /// Where no session can be had, all that was taken and is unsettled is given up with the refusal, also where the dialog was
 /// begun before; what is taken later isn't.
 pub fn refused_logon_example()
-    ensures given_up { settled_in (course 1 (submit 1 (OpCreate (97 ∷ []) 0x183 0 2 false false) ∷ submit 2 (OpWrite 1 0 (97 ∷ [])) ∷ SettlesAll ∷ []) stranger) ≡ Unknown (NoSession (HadStatus 0xc000006d)) ∷ Unknown (NoSession (HadStatus 0xc000006d)) ∷ [] }
-    ensures dialog_begun { settled_in (course 1 (submit 1 (OpCreate (97 ∷ []) 0x183 0 2 false false) ∷ Does (Open 0) ∷ SettlesAll ∷ []) stranger) ≡ Unknown (NoSession (HadStatus 0xc000006d)) ∷ [] }
-    ensures dialog_of_a_good_logon { settled_in (course 1 (submit 1 (OpCreate (97 ∷ []) 0x183 0 2 false false) ∷ Does (Open 0) ∷ SettlesAll ∷ []) (beginning 268435456)) ≡ WasOk (Action 2) ∷ [] }
+    ensures given_up { settled_in (course 1 (submit 1 (OpCreate (97 ∷ []) 0x183 0 2 false false) ∷ submit 2 (OpWrite 1 0 (97 ∷ []))
+        ∷ SettlesAll ∷ []) stranger)
+        ≡ Unknown (NoSession (HadStatus 0xc000006d)) ∷ Unknown (NoSession (HadStatus 0xc000006d)) ∷ [] }
+    ensures dialog_begun { settled_in (course 1 (submit 1 (OpCreate (97 ∷ []) 0x183 0 2 false false) ∷ Does (Open 0) ∷ SettlesAll ∷ [])
+        stranger) ≡ Unknown (NoSession (HadStatus 0xc000006d)) ∷ [] }
+    ensures dialog_of_a_good_logon { settled_in (course 1 (submit 1 (OpCreate (97 ∷ []) 0x183 0 2 false false) ∷ Does (Open 0) ∷ SettlesAll ∷ [])
+        (beginning 268435456)) ≡ WasOk (Action 2) ∷ [] }
     ensures not_what_comes_later { (course 1 (Does (Finish (HadStatus 1)) ∷ []) (beginning 268435456)).world.client.outcome 1 ≡ Unsettled }
 {}
 
@@ -463,15 +708,18 @@ pub fn refused_channel_example()
     ensures client_closed { ((course 33 (links_to 33) (beginning 268435456)).world.conns 32).client_open ≡ false }
     ensures server_open { ((course 33 (links_to 33) (beginning 268435456)).world.conns 32).server_open ≡ true }
     ensures dropped { ((course 33 (links_to 33 ++ SettlesAll ∷ []) (beginning 268435456)).world.conns 32).server_open ≡ false }
-    ensures settled { settled_in (course 33 (links_to 33 ++ submit 1 (OpCreate (97 ∷ []) 0x183 0 2 false false) ∷ SettlesAll ∷ []) (beginning 268435456)) ≡ WasOk (Action 2) ∷ [] }
+    ensures settled { settled_in (course 33 (links_to 33 ++ submit 1 (OpCreate (97 ∷ []) 0x183 0 2 false false) ∷ SettlesAll ∷ [])
+        (beginning 268435456)) ≡ WasOk (Action 2) ∷ [] }
 {}
 
 /// A cut of one of two channels raises the sequence, and at the last sequence it ends the session.
 pub fn last_sequence_ends_session_example()
     ensures raised { (course 2 (Links 0 ∷ Links 1 ∷ Does (Cut 0) ∷ []) (beginning 268435456)).world.client.sequence ≡ 1 }
     ensures stays { (course 2 (Links 0 ∷ Links 1 ∷ Does (Cut 0) ∷ []) (beginning 268435456)).world.client.live ≡ true }
-    ensures ends { (course 2 (Does (Cut 0) ∷ []) (worn_out (course 2 (Links 0 ∷ Links 1 ∷ []) (beginning 268435456)))).world.client.live ≡ false }
-    ensures begins_anew { (course 2 (Does (Cut 0) ∷ Does (Drop 0) ∷ Links 0 ∷ []) (worn_out (course 2 (Links 0 ∷ Links 1 ∷ []) (beginning 268435456)))).world.client.sequence ≡ 0 }
+    ensures ends { (course 2 (Does (Cut 0) ∷ [])
+        (worn_out (course 2 (Links 0 ∷ Links 1 ∷ []) (beginning 268435456)))).world.client.live ≡ false }
+    ensures begins_anew { (course 2 (Does (Cut 0) ∷ Does (Drop 0) ∷ Links 0 ∷ [])
+        (worn_out (course 2 (Links 0 ∷ Links 1 ∷ []) (beginning 268435456)))).world.client.sequence ≡ 0 }
 {}
 
 /// An event that the world cannot meet is none, and one that it meets raises the moment.
@@ -479,34 +727,52 @@ pub fn impossible_events_example()
     ensures no_channel { (course 1 (Does (Cut 0) ∷ []) (beginning 268435456)).world.moment ≡ 0 }
     ensures restart { (course 1 (Does Restart ∷ []) (beginning 268435456)).world.moment ≡ 1 }
     ensures link { (course 1 (Links 0 ∷ []) (beginning 268435456)).world.moment ≡ 9 }
-    ensures no_finish { settled_in (course 1 (Links 0 ∷ submit 1 (OpCreate (97 ∷ []) 0x183 0 2 false false) ∷ Does (Finish (HadStatus 1)) ∷ []) (beginning 268435456)) ≡ Unsettled ∷ [] }
+    ensures no_finish { settled_in (course 1 (Links 0 ∷ submit 1 (OpCreate (97 ∷ []) 0x183 0 2 false false)
+        ∷ Does (Finish (HadStatus 1)) ∷ []) (beginning 268435456)) ≡ Unsettled ∷ [] }
 {}
 
 /// A write needs write access, a read meets no range of another open, and a closed open leaves no range.
 pub fn access_and_ranges_example()
     ensures no_access { status_after one_session (ask (make 0x81 7 2 0x40 None) ∷ []) (ask (Write first_open 0 (97 ∷ []) 0)) ≡ 0xc0000022 }
-    ensures read_conflict { status_after one_session (ask (make 0x183 7 2 0x40 None) ∷ ask (make 0x183 7 1 0x40 None) ∷ ask (Lock first_open 0 0 (lock_of 0 0 10 2 0 ∷ [])) ∷ []) (ask (Read second_open 5 1 0 0)) ≡ 0xc0000054 }
-    ensures own_read { status_after one_session (ask (make 0x183 7 2 0x40 None) ∷ ask (Write first_open 0 (97 ∷ []) 0) ∷ ask (Lock first_open 0 0 (lock_of 0 0 10 2 0 ∷ [])) ∷ []) (ask (Read first_open 0 1 0 0)) ≡ 0 }
-    ensures own_shared_write { status_after one_session (ask (make 0x183 7 2 0x40 None) ∷ ask (Lock first_open 0 0 (lock_of 0 0 10 1 0 ∷ [])) ∷ []) (ask (Write first_open 0 (97 ∷ []) 0)) ≡ 0xc0000054 }
-    ensures closed { status_after one_session (ask (make 0x183 7 2 0x40 None) ∷ ask (make 0x183 7 1 0x40 None) ∷ ask (Lock first_open 0 0 (lock_of 0 0 10 2 0 ∷ [])) ∷ ask (Close first_open false) ∷ []) (ask (Lock second_open 0 0 (lock_of 0 0 10 2 0 ∷ []))) ≡ 0 }
+    ensures read_conflict { status_after one_session (ask (make 0x183 7 2 0x40 None) ∷ ask (make 0x183 7 1 0x40 None)
+        ∷ ask (Lock first_open 0 0 (lock_of 0 0 10 2 0 ∷ [])) ∷ []) (ask (Read second_open 5 1 0 0)) ≡ 0xc0000054 }
+    ensures own_read { status_after one_session (ask (make 0x183 7 2 0x40 None) ∷ ask (Write first_open 0 (97 ∷ []) 0)
+        ∷ ask (Lock first_open 0 0 (lock_of 0 0 10 2 0 ∷ [])) ∷ []) (ask (Read first_open 0 1 0 0)) ≡ 0 }
+    ensures own_shared_write { status_after one_session (ask (make 0x183 7 2 0x40 None) ∷ ask (Lock first_open 0 0 (lock_of 0 0 10 1 0 ∷ []))
+        ∷ []) (ask (Write first_open 0 (97 ∷ []) 0)) ≡ 0xc0000054 }
+    ensures closed { status_after one_session (ask (make 0x183 7 2 0x40 None) ∷ ask (make 0x183 7 1 0x40 None)
+        ∷ ask (Lock first_open 0 0 (lock_of 0 0 10 2 0 ∷ [])) ∷ ask (Close first_open false) ∷ [])
+        (ask (Lock second_open 0 0 (lock_of 0 0 10 2 0 ∷ []))) ≡ 0 }
     ensures empty_write { records_after one_session (ask (make 0x183 7 2 0x40 None) ∷ []) (ask (Write first_open 9 [] 0)) ≡ [] }
 {}
 
 /// An open of a live session is given to no other; one whose session is gone is given again, and denies writers meanwhile.
 pub fn a_second_session_example()
-    ensures attach { status_after second_session (ask (make 0x183 0 2 0x40 (by_guid 5 true)) ∷ []) (ask_second true (reconnect first_open 5)) ≡ 0xc0000034 }
-    ensures replay { status_after second_session (ask (make 0x183 0 2 0x40 (by_guid 5 true)) ∷ []) (ask_second true (make 0x183 0 2 0x40 (by_guid 5 true))) ≡ 0xc000022a }
-    ensures attach_when_gone { status_after second_session (ask (make 0x183 0 2 0x40 (by_guid 5 true)) ∷ End 0 ∷ []) (ask_second true (reconnect first_open 5)) ≡ 0 }
-    ensures replay_when_gone { status_after second_session (ask (make 0x183 0 2 0x40 (by_guid 5 true)) ∷ End 0 ∷ []) (ask_second true (make 0x183 0 2 0x40 (by_guid 5 true))) ≡ 0 }
-    ensures denied_when_gone { status_after second_session (ask (make 0x183 0 2 0x40 (by_guid 5 true)) ∷ End 0 ∷ []) (ask_second false (make 0x183 7 1 0x40 (by_guid 6 false))) ≡ 0xc0000043 }
+    ensures attach { status_after second_session (ask (make 0x183 0 2 0x40 (by_guid 5 true)) ∷ [])
+        (ask_second true (reconnect first_open 5)) ≡ 0xc0000034 }
+    ensures replay { status_after second_session (ask (make 0x183 0 2 0x40 (by_guid 5 true)) ∷ [])
+        (ask_second true (make 0x183 0 2 0x40 (by_guid 5 true))) ≡ 0xc000022a }
+    ensures attach_when_gone { status_after second_session (ask (make 0x183 0 2 0x40 (by_guid 5 true)) ∷ End 0 ∷ [])
+        (ask_second true (reconnect first_open 5)) ≡ 0 }
+    ensures replay_when_gone { status_after second_session (ask (make 0x183 0 2 0x40 (by_guid 5 true)) ∷ End 0 ∷ [])
+        (ask_second true (make 0x183 0 2 0x40 (by_guid 5 true))) ≡ 0 }
+    ensures denied_when_gone { status_after second_session (ask (make 0x183 0 2 0x40 (by_guid 5 true)) ∷ End 0 ∷ [])
+        (ask_second false (make 0x183 7 1 0x40 (by_guid 6 false))) ≡ 0xc0000043 }
 {}
 
 /// A plain open leaves with its session: its lock binds no other, and its CreateGuid can be used again.
 pub fn what_a_gone_open_leaves_example()
-    ensures lock_while_it_stands { status_after second_session (ask (make 0x183 7 2 0x40 (by_guid 5 false)) ∷ ask (Lock first_open 0 0 (lock_of 0 0 10 2 0 ∷ [])) ∷ ask_second false (make 0x183 7 1 0x40 (by_guid 6 false)) ∷ []) (ask_second false (Lock second_open 0 0 (lock_of 0 0 10 2 0 ∷ []))) ≡ 0xc0000055 }
-    ensures lock_when_gone { status_after second_session (ask (make 0x183 7 2 0x40 (by_guid 5 false)) ∷ ask (Lock first_open 0 0 (lock_of 0 0 10 2 0 ∷ [])) ∷ End 0 ∷ ask_second false (make 0x183 7 1 0x40 (by_guid 6 false)) ∷ []) (ask_second false (Lock second_open 0 0 (lock_of 0 0 10 2 0 ∷ []))) ≡ 0 }
-    ensures guid_while_it_stands { status_after second_session (ask (make 0x183 7 2 0x40 (by_guid 5 false)) ∷ []) (ask_second false (make 0x183 7 1 0x40 (by_guid 5 false))) ≡ 0xc000022a }
-    ensures guid_when_gone { status_after second_session (ask (make 0x183 7 2 0x40 (by_guid 5 false)) ∷ End 0 ∷ []) (ask_second false (make 0x183 7 1 0x40 (by_guid 5 false))) ≡ 0 }
+    ensures lock_while_it_stands { status_after second_session (ask (make 0x183 7 2 0x40 (by_guid 5 false))
+        ∷ ask (Lock first_open 0 0 (lock_of 0 0 10 2 0 ∷ [])) ∷ ask_second false (make 0x183 7 1 0x40 (by_guid 6 false))
+        ∷ []) (ask_second false (Lock second_open 0 0 (lock_of 0 0 10 2 0 ∷ []))) ≡ 0xc0000055 }
+    ensures lock_when_gone { status_after second_session (ask (make 0x183 7 2 0x40 (by_guid 5 false))
+        ∷ ask (Lock first_open 0 0 (lock_of 0 0 10 2 0 ∷ [])) ∷ End 0
+        ∷ ask_second false (make 0x183 7 1 0x40 (by_guid 6 false)) ∷ [])
+        (ask_second false (Lock second_open 0 0 (lock_of 0 0 10 2 0 ∷ []))) ≡ 0 }
+    ensures guid_while_it_stands { status_after second_session (ask (make 0x183 7 2 0x40 (by_guid 5 false)) ∷ [])
+        (ask_second false (make 0x183 7 1 0x40 (by_guid 5 false))) ≡ 0xc000022a }
+    ensures guid_when_gone { status_after second_session (ask (make 0x183 7 2 0x40 (by_guid 5 false)) ∷ End 0 ∷ [])
+        (ask_second false (make 0x183 7 1 0x40 (by_guid 5 false))) ≡ 0 }
 {}
 
 /// What successes end_of: ENCRYPT_DATA and the channel's number, kind and capabilities of a tree, room and what is used of
@@ -514,13 +780,21 @@ pub fn what_a_gone_open_leaves_example()
 pub fn told_by_successes_example()
     ensures pipes { body_after one_session [] (ask (TreeConnect pipes_name)) ≡ Connected 2 0 2032127 }
     ensures disk { body_after one_session [] (ask (TreeConnect (100 ∷ []))) ≡ Connected 1 16 2032127 }
-    ensures session { body_after one_session (Accept 1 ∷ in_second 0 0 false (setup Begins) ∷ []) (in_second second_id 0 false (setup (Logon (117 ∷ [])))) ≡ SetUp true 1 }
-    ensures channel { body_after one_session (Accept 1 ∷ Heard (from_client 1 7 9 0 false (binding true)) ∷ []) binding_logon ≡ SetUp true 2 }
-    ensures volume { body_after one_session (ask (make 0x183 7 2 0x40 (by_guid 5 true)) ∷ ask (Write first_open 3 (1 ∷ 2 ∷ []) 0) ∷ []) (ask (QueryVolume first_open 7 32)) ≡ VolumeInfo 7 268435456 5 }
-    ensures file { body_after one_session (ask (make 0x10183 7 2 0x1040 None) ∷ []) (ask (QueryFile first_open 18 104)) ≡ FileInfo 18 (97 ∷ []) (made_info false 100) 0x10183 0x1040 }
-    ensures listing { body_after one_session (ask (make 0x183 7 2 1 None) ∷ []) (ask (ListDirectory first_open 37 true true (42 ∷ []) 200)) ≡ Listing 37 (record { name = 46 ∷ []; info = made_info true 100 } ∷ []) }
-    ensures interfaces { body_after one_session [] (ask (Ioctl no_file query_interfaces 152)) ≡ Interfaces (record { ip = 2130706433; port = 445 }) }
-    ensures interfaces_of_an_open { body_after one_session (ask (make 0x183 7 2 0x40 None) ∷ []) (ask (Ioctl first_open query_interfaces 152)) ≡ Interfaces (record { ip = 2130706433; port = 445 }) }
+    ensures session { body_after one_session (Accept 1 ∷ in_second 0 0 false (setup Begins) ∷ [])
+        (in_second second_id 0 false (setup (Logon (117 ∷ [])))) ≡ SetUp true 1 }
+    ensures channel { body_after one_session (Accept 1 ∷ Heard (from_client 1 7 9 0 false (binding true)) ∷ [])
+        binding_logon ≡ SetUp true 2 }
+    ensures volume { body_after one_session (ask (make 0x183 7 2 0x40 (by_guid 5 true)) ∷ ask (Write first_open 3 (1 ∷ 2 ∷ []) 0)
+        ∷ []) (ask (QueryVolume first_open 7 32)) ≡ VolumeInfo 7 268435456 5 }
+    ensures file { body_after one_session (ask (make 0x10183 7 2 0x1040 None) ∷ []) (ask (QueryFile first_open 18 104))
+        ≡ FileInfo 18 (97 ∷ []) (made_info false 100) 0x10183 0x1040 }
+    ensures listing { body_after one_session (ask (make 0x183 7 2 1 None) ∷ [])
+        (ask (ListDirectory first_open 37 true true (42 ∷ []) 200))
+        ≡ Listing 37 (record { name = 46 ∷ []; info = made_info true 100 } ∷ []) }
+    ensures interfaces { body_after one_session [] (ask (Ioctl no_file query_interfaces 152))
+        ≡ Interfaces (record { ip = 2130706433; port = 445 }) }
+    ensures interfaces_of_an_open { body_after one_session (ask (make 0x183 7 2 0x40 None) ∷ []) (ask (Ioctl first_open query_interfaces 152))
+        ≡ Interfaces (record { ip = 2130706433; port = 445 }) }
     ensures interfaces_after_a_restart { (recovered_from one_session []).address ≡ record { ip = 2130706433; port = 445 } }
 {}
 

@@ -16,7 +16,9 @@ ghost use Rattle.exchange_law.specs.Connections.{Connections};
 /// own request; an operation that settled has nothing outstanding; what never went out never acted; and a create, lock
 /// or unlock of which no copy is unanswered hasn't acted while its copy waits.
 pub fn connections_law()
-    ensures fit { (settings : Settings) (events : List Event) → Connections (run events (start settings)).client (run events (start settings)).conns (acts events (start settings)) }
+    ensures fit { (settings : Settings) (events : List Event)
+        → Connections (run events (start settings)).client (run events (start settings)).conns
+        (acts events (start settings)) }
 {}
 
 /// What settled stays as it settled: no event behind it changes the outcome. (A number that isn't taken yet is unsettled.)

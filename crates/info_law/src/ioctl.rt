@@ -9,7 +9,8 @@ pub fn ioctl_request_law()
     ensures one { (m : List ℕ) (v w : IoctlRequestValue) → SpellsIoctlRequest m v → SpellsIoctlRequest m w → v ≡ w }
     ensures whole { (m : List ℕ) (v : IoctlRequestValue) → SpellsIoctlRequest m v → ioctl_request_fault m ≡ None }
     ensures given { (m : List ℕ) → ioctl_request_fault m ≡ None → SpellsIoctlRequest m (ioctl_request_in m) }
-    ensures again { (header rest : List ℕ) (v : IoctlRequestValue) → length header ≡ 64 → IsWritableIoctlRequest v → SpellsIoctlRequest (header ++ (ioctl_request_spelling v ++ rest)) v }
+    ensures again { (header rest : List ℕ) (v : IoctlRequestValue) → length header ≡ 64 → IsWritableIoctlRequest v
+        → SpellsIoctlRequest (header ++ (ioctl_request_spelling v ++ rest)) v }
 {}
 
 /// The laws of the IOCTL response.
@@ -17,5 +18,6 @@ pub fn ioctl_response_law()
     ensures one { (m : List ℕ) (v w : IoctlResponseValue) → SpellsIoctlResponse m v → SpellsIoctlResponse m w → v ≡ w }
     ensures whole { (m : List ℕ) (v : IoctlResponseValue) → SpellsIoctlResponse m v → ioctl_response_fault m ≡ None }
     ensures given { (m : List ℕ) → ioctl_response_fault m ≡ None → SpellsIoctlResponse m (ioctl_response_in m) }
-    ensures again { (header rest : List ℕ) (v : IoctlResponseValue) → length header ≡ 64 → IsWritableIoctlResponse v → SpellsIoctlResponse (header ++ (ioctl_response_spelling v ++ rest)) v }
+    ensures again { (header rest : List ℕ) (v : IoctlResponseValue) → length header ≡ 64 → IsWritableIoctlResponse v
+        → SpellsIoctlResponse (header ++ (ioctl_response_spelling v ++ rest)) v }
 {}

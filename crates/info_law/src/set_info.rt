@@ -10,7 +10,8 @@ pub fn set_info_request_law()
     ensures one { (m : List ℕ) (v w : SetInfoRequestValue) → SpellsSetInfoRequest m v → SpellsSetInfoRequest m w → v ≡ w }
     ensures whole { (m : List ℕ) (v : SetInfoRequestValue) → SpellsSetInfoRequest m v → set_info_request_fault m ≡ None }
     ensures given { (m : List ℕ) → set_info_request_fault m ≡ None → SpellsSetInfoRequest m (set_info_request_in m) }
-    ensures again { (header rest : List ℕ) (v : SetInfoRequestValue) → length header ≡ 64 → IsWritableSetInfoRequest v → SpellsSetInfoRequest (header ++ (set_info_request_spelling v ++ rest)) v }
+    ensures again { (header rest : List ℕ) (v : SetInfoRequestValue) → length header ≡ 64 → IsWritableSetInfoRequest v
+        → SpellsSetInfoRequest (header ++ (set_info_request_spelling v ++ rest)) v }
 {}
 
 /// The laws of the SET_INFO response.
@@ -18,5 +19,6 @@ pub fn set_info_response_law()
     ensures one { (m : List ℕ) (v w : SetInfoResponse) → SpellsSetInfoResponse m v → SpellsSetInfoResponse m w → v ≡ w }
     ensures whole { (m : List ℕ) (v : SetInfoResponse) → SpellsSetInfoResponse m v → set_info_response_fault m ≡ None }
     ensures given { (m : List ℕ) → set_info_response_fault m ≡ None → SpellsSetInfoResponse m (set_info_response_in m) }
-    ensures again { (header rest : List ℕ) (v : SetInfoResponse) → length header ≡ 64 → IsWritableSetInfoResponse v → SpellsSetInfoResponse (header ++ (set_info_response_spelling v ++ rest)) v }
+    ensures again { (header rest : List ℕ) (v : SetInfoResponse) → length header ≡ 64 → IsWritableSetInfoResponse v
+        → SpellsSetInfoResponse (header ++ (set_info_response_spelling v ++ rest)) v }
 {}

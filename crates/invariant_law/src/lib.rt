@@ -30,8 +30,10 @@ ghost use Rattle.invariant_law.specs.Parts.{CopiesAreOwn, GoneIsDeleted, Creates
 pub fn invariant_law()
     ensures own { (settings : Settings) (events : List Event) → CopiesAreOwn (run events (start settings)) }
     ensures gone { (settings : Settings) (events : List Event) → GoneIsDeleted (run events (start settings)) }
-    ensures creates { (settings : Settings) (events : List Event) → CreatesAreKept (run events (start settings)) (acts events (start settings)) }
-    ensures locks { (settings : Settings) (events : List Event) → LocksAreKept (run events (start settings)) (acts events (start settings)) }
+    ensures creates { (settings : Settings) (events : List Event)
+        → CreatesAreKept (run events (start settings)) (acts events (start settings)) }
+    ensures locks { (settings : Settings) (events : List Event)
+        → LocksAreKept (run events (start settings)) (acts events (start settings)) }
     ensures edits { (settings : Settings) (events : List Event) → EditsAreShown (run events (start settings)) }
     ensures newest { (settings : Settings) (events : List Event) → NoneIsNewer (run events (start settings)) }
 {}

@@ -19,5 +19,7 @@ ghost use Rattle.lock_law.specs.Locks.{Locks};
 /// waits whose session is there, its slot is its own; and what its open's slot keeps for its number says whether it acted.
 pub fn exactly_once_law()
     ensures once { ExactlyOnce }
-    ensures fit { (settings : Settings) (events : List Event) → Locks (run events (start settings)).client (run events (start settings)).conns (run events (start settings)).server (acts events (start settings)) }
+    ensures fit { (settings : Settings) (events : List Event)
+        → Locks (run events (start settings)).client (run events (start settings)).conns
+        (run events (start settings)).server (acts events (start settings)) }
 {}

@@ -45,7 +45,8 @@ one_safe f sealed behind first x e =
 
 with_safe : (keys : Option Keys) (owes sealed : Bool) (c : Checked) (cs : List Checked) → IsSafe keys owes sealed c
     → AreSafe keys owes sealed cs → AreSafe keys owes sealed (c ∷ cs)
-with_safe keys owes sealed c cs one all zero d h = let same : c ≡ d = (let q : Some c ≡ Some d = h in cc) in subst (IsSafe keys owes sealed) same one
+with_safe keys owes sealed c cs one all zero d h = let same : c ≡ d = (let q : Some c ≡ Some d = h in cc) in
+    subst (IsSafe keys owes sealed) same one
 with_safe keys owes sealed c cs one all (suc i) d h = all i d h
 
 none_safe : (keys : Option Keys) (owes sealed : Bool) → AreSafe keys owes sealed []
@@ -62,7 +63,8 @@ turn_safe : (keys : Option Keys) (owes sealed : Bool) (o : Option ConnEnd) (r : 
 turn_safe keys owes sealed (Some e) r all = tt
 turn_safe keys owes sealed None r all = all
 
-behind_safe : (f : ServerEnd) (sealed behind : Bool) (xs : List Heard) → FrameSafe f.keys f.encrypts sealed (checked_behind f sealed behind xs)
+behind_safe : (f : ServerEnd) (sealed behind : Bool) (xs : List Heard) → FrameSafe f.keys f.encrypts sealed
+    (checked_behind f sealed behind xs)
 unfolding checked_behind
 behind_safe f sealed behind [] = (refl, none_safe f.keys f.encrypts sealed)
 behind_safe f sealed behind (x ∷ xs) =
@@ -77,7 +79,8 @@ in_safe f sealed (x ∷ xs) =
     (front_safe f.keys f.encrypts sealed (checked_as f sealed false true x) _ (one_safe f sealed false true x)
     (behind_safe (behind_turn f x.header) sealed (is_setup x.header) xs))
 
-text_safe : (f : ServerEnd) (t : Result FrameText ConnEnd) (x : Frame) → checked_text f t ≡ Ok x → AreSafe f.keys f.encrypts x.sealed x.messages
+text_safe : (f : ServerEnd) (t : Result FrameText ConnEnd) (x : Frame) → checked_text f t ≡ Ok x
+    → AreSafe f.keys f.encrypts x.sealed x.messages
 text_safe f (Err e) x is = absurd (let q : Err e ≡ Ok x = is in cc)
 text_safe f (Ok t) x is = told (checked_in f t.sealed t.messages) is (in_safe f t.sealed t.messages)
   where

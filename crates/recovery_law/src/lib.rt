@@ -16,8 +16,14 @@ ghost use Rattle.recovery_law.specs.Restarted.{EntriesLeft, Restarted};
 /// expired guids, epoch and version. So a restart at any moment leaves those opens with all that is theirs, a new epoch of ids
 /// and no session (`restart`), and each file at its path, but for delete pending ones that no such open has (`entries`).
 pub fn recovery_law()
-    ensures stands { (settings : Settings) (events : List Event) → StandsFor (run events (start settings)).records (run events (start settings)).server }
-    ensures agree { (settings : Settings) (events : List Event) → Recovers (run events (start settings)).records (run events (start settings)).server }
-    ensures restart { (settings : Settings) (events : List Event) → Restarted (run events (start settings)).server (recovered_from (run events (start settings)).server (run events (start settings)).records) }
-    ensures entries { (settings : Settings) (events : List Event) → EntriesLeft (run events (start settings)).server (recovered_from (run events (start settings)).server (run events (start settings)).records) }
+    ensures stands { (settings : Settings) (events : List Event)
+        → StandsFor (run events (start settings)).records (run events (start settings)).server }
+    ensures agree { (settings : Settings) (events : List Event)
+        → Recovers (run events (start settings)).records (run events (start settings)).server }
+    ensures restart { (settings : Settings) (events : List Event)
+        → Restarted (run events (start settings)).server
+        (recovered_from (run events (start settings)).server (run events (start settings)).records) }
+    ensures entries { (settings : Settings) (events : List Event)
+        → EntriesLeft (run events (start settings)).server
+        (recovered_from (run events (start settings)).server (run events (start settings)).records) }
 {}

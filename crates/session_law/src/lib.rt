@@ -18,8 +18,12 @@ ghost use Rattle.session_law.specs.Sessions.{Sessions};
 /// that its operations' messages name. And each session's tree is that of the pipes exactly where the client's share is
 /// (each part of `Kinds`), and then no open stands, also behind a restart.
 pub fn sessions_law()
-    ensures fit { (settings : Settings) (events : List Event) → Sessions (run events (start settings)).client (run events (start settings)).conns (run events (start settings)).server }
-    ensures kinds { (settings : Settings) (events : List Event) → Kinds (run events (start settings)).client (run events (start settings)).conns (run events (start settings)).server }
+    ensures fit { (settings : Settings) (events : List Event)
+        → Sessions (run events (start settings)).client (run events (start settings)).conns
+        (run events (start settings)).server }
+    ensures kinds { (settings : Settings) (events : List Event)
+        → Kinds (run events (start settings)).client (run events (start settings)).conns
+        (run events (start settings)).server }
 {}
 
 /// On every run, behind every event, the client stays who it was, and each of its channels is closed, or ready, or in its
@@ -28,5 +32,6 @@ pub fn sessions_law()
 /// the making has its dialog on its channel; and a signed SESSION_SETUP that waits, on whichever connection, is of a
 /// session that the client accepted.
 pub fn dialogs_law()
-    ensures fit { (settings : Settings) (events : List Event) → Dialogs settings.who (run events (start settings)).client (run events (start settings)).conns }
+    ensures fit { (settings : Settings) (events : List Event)
+        → Dialogs settings.who (run events (start settings)).client (run events (start settings)).conns }
 {}
