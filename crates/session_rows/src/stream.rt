@@ -1,0 +1,61 @@
+//! Pieces of a stream, and the frames that are handed out behind each.
+use anyhow::{Result, bail};
+use smb_frame::{Deframer, FrameError, frame_of};
+use std::alloc::Global;
+use vector_rows::{bytes_of, digits_of};
+
+/// Longest row of pieces and of frames.
+const MANY: usize = 100;
+
+/// What `next` answers until it hands out nothing; a refusal is asked for twice.
+fn handed_out(alloc: Global, frames: &mut Deframer) -> Result<String> {
+    let mut line = String::new(alloc);
+    for _ in 0..MANY {
+        match frames.next() {
+            Ok(Some(frame)) if frame.bytes.as_slice().is_empty() => line.push_str("empty, ")?,
+            Ok(Some(frame)) => {
+                let digits = digits_of(alloc, frame.bytes.as_slice())?;
+                line.push_str(&format!(in alloc; "{digits}, ")?)?;
+            }
+            Ok(None) => {
+                line.push_str("None")?;
+                return Ok(line);
+            }
+            Err(FrameError::Memory) => bail!("out of memory"),
+            Err(refusal) => {
+                let again = frames.next().err();
+                let same = again == Some(refusal);
+                let word = if same { "" } else { "another than " };
+                line.push_str(&format!(in alloc; "{refusal:?}, {word}{refusal:?}")?)?;
+                return Ok(line);
+            }
+        }
+    }
+    Ok(line)
+}
+
+/// The pieces of a row, fed one after the other.
+pub fn answers(alloc: Global, row: &str) -> Result<String> {
+    let mut frames = Deframer::new(alloc);
+    let mut line = String::from_str(alloc, "stream:")?;
+    let mut mark = " ";
+    for piece in row.split_whitespace().skip(1) {
+        frames.feed(&bytes_of(alloc, piece)?)?;
+        let said = handed_out(alloc, &mut frames)?;
+        line.push_str(&format!(in alloc; "{mark}{said}")?)?;
+        mark = "; ";
+    }
+    Ok(line)
+}
+
+/// The frame of a message.
+pub fn framed(alloc: Global, digits: &str) -> Result<String> {
+    let message = bytes_of(alloc, digits)?;
+    Ok(match frame_of(alloc, &message) {
+        Ok(bytes) => {
+            let digits = digits_of(alloc, bytes.as_slice())?;
+            format!(in alloc; "frame: {digits}")?
+        }
+        Err(refusal) => format!(in alloc; "frame: {refusal:?}")?,
+    })
+}
