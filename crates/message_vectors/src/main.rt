@@ -15,6 +15,7 @@ fn answer(alloc: Global, line: &str) -> Result<String> {
         "session" => session_rows::answer(alloc, row),
         "file" => file_rows::answer(alloc, row),
         "info" => info_rows::answer(alloc, row),
+        "record" => record_rows::answer(alloc, row),
         _ => bail!("an unknown table"),
     }
 }
