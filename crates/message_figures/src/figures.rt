@@ -1,7 +1,8 @@
 //! Times of one run. Each turn changes a byte first, so that no two do the same.
-use crate::response::{body_of, payload_of, told, written};
+use crate::response::{body_of, header_of, payload_of, told, written};
 use anyhow::{Context, Result, ensure};
 use smb_bytes::Bytes;
+use smb_header::read_header;
 use std::alloc::Global;
 use std::time::{Clock, Instant};
 
@@ -58,15 +59,18 @@ fn new_copies(
     Ok(time)
 }
 
-// The body of the response.
+// The header and the body of the response.
 fn writes(clock: &impl Clock, alloc: Global, payload: &mut Vec<u8>, turns: usize) -> Result<u64> {
     let mut kept = Bytes::new(alloc);
+    let mut front = [0u8; 64];
     let start = Instant::now(clock)?;
     for turn in 0..turns {
         touch(payload.as_mut_slice(), turn);
+        front = header_of(turn as u64);
         kept = body_of(alloc, payload.as_slice())?;
     }
     let time = nanos(clock, start, turns)?;
+    ensure!(read_header(&front).is_ok(), "another header");
     let due = body_of(alloc, payload.as_slice())?;
     ensure!(kept.as_slice() == due.as_slice(), "another body");
     Ok(time)

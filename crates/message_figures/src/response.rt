@@ -27,21 +27,25 @@ pub fn body_of(alloc: Global, payload: &[u8]) -> Result<Bytes> {
     Ok(body)
 }
 
-/// The header and the body.
-pub fn written(alloc: Global, payload: &[u8]) -> Result<Bytes> {
-    let header = Header {
+/// The header of a READ response.
+pub fn header_of(message: u64) -> [u8; 64] {
+    write_header(&Header {
         charge: 1,
         status: 0,
         command: 8,
         credits: 1,
         flags: 1,
         next: 0,
-        message: 7,
+        message,
         tree: 1,
         session: 2,
         signature: [0; 16],
-    };
-    let mut message = Bytes::from_slice(alloc, &write_header(&header))?;
+    })
+}
+
+/// The header and the body.
+pub fn written(alloc: Global, payload: &[u8]) -> Result<Bytes> {
+    let mut message = Bytes::from_slice(alloc, &header_of(7))?;
     message.extend(body_of(alloc, payload)?.as_slice())?;
     Ok(message)
 }
