@@ -18,6 +18,7 @@ fn other(alloc: Global, first: &str, digits: &str, row: &str) -> Result<Option<S
         "text" => Ok(Some(bytes::text(alloc, digits)?)),
         "compound" => Ok(Some(bytes::compound(alloc, digits)?)),
         "frame" => Ok(Some(stream::framed(alloc, digits)?)),
+        "zeros" => Ok(Some(stream::zeros(alloc, digits.parse::<usize>()?)?)),
         "stream" => Ok(Some(stream::answers(alloc, row)?)),
         "contexts" => Ok(Some(contexts::answer(alloc, row)?)),
         _ => Ok(None),

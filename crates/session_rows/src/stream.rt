@@ -1,11 +1,14 @@
 //! Pieces of a stream, and the frames that are handed out behind each.
-use anyhow::{Result, bail};
+use anyhow::{Context, Result, bail, ensure};
 use smb_frame::{Deframer, FrameError, frame_of};
 use std::alloc::Global;
 use vector_rows::{bytes_of, digits_of};
 
 /// Longest row of pieces and of frames.
 const MANY: usize = 100;
+
+/// Most zeros of a row.
+const MOST: usize = 0x100_0000;
 
 /// What `next` answers until it hands out nothing; a refusal is asked for twice.
 fn handed_out(alloc: Global, frames: &mut Deframer) -> Result<String> {
@@ -46,6 +49,21 @@ pub fn answers(alloc: Global, row: &str) -> Result<String> {
         mark = "; ";
     }
     Ok(line)
+}
+
+/// The first bytes of the frame of so many zeros, and how many are behind them.
+pub fn zeros(alloc: Global, count: usize) -> Result<String> {
+    ensure!(count <= MOST, "too many zeros");
+    let message = vec![in alloc; 0u8; count]?;
+    match frame_of(alloc, &message) {
+        Ok(bytes) => {
+            let (front, rest) = bytes.as_slice().split_at_checked(4).context("no frame")?;
+            let digits = digits_of(alloc, front)?;
+            Ok(format!(in alloc; "zeros: {digits} and {} bytes", rest.len())?)
+        }
+        Err(FrameError::Memory) => bail!("out of memory"),
+        Err(refusal) => Ok(format!(in alloc; "zeros: {refusal:?}")?),
+    }
 }
 
 /// The frame of a message.
