@@ -99,11 +99,12 @@ fn hundredths(time: u64, by: u64) -> Result<u64> {
 pub fn measured(clock: &impl Clock, alloc: Global, size: usize) -> Result<String> {
     let turns = COPIED.checked_div(size).context("no size")?;
     let mut payload = payload_of(alloc, size)?;
-    let message = written(alloc, &payload)?;
+    let spelled = written(alloc, &payload)?;
+    let mut message = Vec::from_slice(alloc, spelled.as_slice())?;
     let copy = copies(clock, alloc, &mut payload, turns)?;
     let new_copy = new_copies(clock, alloc, &mut payload, turns)?;
     let write = writes(clock, alloc, &mut payload, turns)?;
-    let read = reads(clock, &mut Vec::from_slice(alloc, message.as_slice())?)?;
+    let read = reads(clock, &mut message)?;
     let share = hundredths(write, new_copy)?;
     let of_memcpy = hundredths(write, copy)?;
     Ok(format!(in alloc;

@@ -10,26 +10,41 @@ const MANY: usize = 100;
 /// Most zeros of a row.
 const MOST: usize = 0x100_0000;
 
-/// What `next` answers until it hands out nothing; a refusal is asked for twice.
+fn piece(alloc: Global, bytes: &[u8]) -> Result<String> {
+    if bytes.is_empty() {
+        Ok(String::from_str(alloc, "empty")?)
+    } else {
+        digits_of(alloc, bytes)
+    }
+}
+
+// A refusal, for which is asked again.
+fn refused(alloc: Global, frames: &mut Deframer, refusal: FrameError) -> Result<String> {
+    ensure!(refusal != FrameError::Memory, "out of memory");
+    let again = frames.next().err();
+    let word = if again == Some(refusal) {
+        ""
+    } else {
+        "another than "
+    };
+    Ok(format!(in alloc; "{refusal:?}, {word}{refusal:?}")?)
+}
+
+/// What `next` answers until it hands out nothing.
 fn handed_out(alloc: Global, frames: &mut Deframer) -> Result<String> {
     let mut line = String::new(alloc);
     for _ in 0..MANY {
         match frames.next() {
-            Ok(Some(frame)) if frame.bytes.as_slice().is_empty() => line.push_str("empty, ")?,
             Ok(Some(frame)) => {
-                let digits = digits_of(alloc, frame.bytes.as_slice())?;
-                line.push_str(&format!(in alloc; "{digits}, ")?)?;
+                line.push_str(&piece(alloc, frame.bytes.as_slice())?)?;
+                line.push_str(", ")?;
             }
             Ok(None) => {
                 line.push_str("None")?;
                 return Ok(line);
             }
-            Err(FrameError::Memory) => bail!("out of memory"),
             Err(refusal) => {
-                let again = frames.next().err();
-                let same = again == Some(refusal);
-                let word = if same { "" } else { "another than " };
-                line.push_str(&format!(in alloc; "{refusal:?}, {word}{refusal:?}")?)?;
+                line.push_str(&refused(alloc, frames, refusal)?)?;
                 return Ok(line);
             }
         }
