@@ -8,20 +8,27 @@ use crate::value::{NewOpen, Record};
 use smb_bytes::Text;
 
 // How many bytes a character takes in UTF-16.
+#[tactic(auto, using(crate::proofs::Fitting::short_units, crate::proofs::Fitting::long_units))]
 fn units_size(character: char) -> u32
     ensures { result ≡ length (units_of character) }
 {
     if (character as u32) < 0x10000 { 2 } else { 4 }
 }
 
-fn text_fits(text: &Text) -> bool
+fn is_short(text: &str) -> bool
     ensures { IsTrue result ↔ TextFits text.now }
 {
     let mut size = 0u32;
-    for character in text.as_str().chars() {
+    for character in text.chars() {
         size = size.saturating_add(units_size(character));
     }
     size < 65536
+}
+
+fn text_fits(text: &Text) -> bool
+    ensures { IsTrue result ↔ TextFits text.now }
+{
+    is_short(text.as_str())
 }
 
 fn open_fits(opened: &Option<NewOpen>) -> bool
