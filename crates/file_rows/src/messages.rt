@@ -5,15 +5,24 @@ use std::alloc::Global;
 use vector_rows::{Outcome, both_ways};
 
 fn create_request(alloc: Global, m: &[u8]) -> Result<Outcome> {
-    Ok(
-        both_ways!(alloc, m, read_create_request, write_create_request, v => v.name.len() < 0x1_0000 && v.contexts.len() < 0x1_0000_0000),
-    )
+    Ok(both_ways!(
+        alloc,
+        m,
+        read_create_request,
+        write_create_request,
+        v => v.name.len() < 0x1_0000
+            && v.contexts.len() < 0x1_0000_0000
+    ))
 }
 
 fn create_response(alloc: Global, m: &[u8]) -> Result<Outcome> {
-    Ok(
-        both_ways!(alloc, m, read_create_response, write_create_response, v => v.contexts.len() < 0x1_0000_0000),
-    )
+    Ok(both_ways!(
+        alloc,
+        m,
+        read_create_response,
+        write_create_response,
+        v => v.contexts.len() < 0x1_0000_0000
+    ))
 }
 
 fn close_request(alloc: Global, m: &[u8]) -> Result<Outcome> {
@@ -37,15 +46,23 @@ fn read_request(alloc: Global, m: &[u8]) -> Result<Outcome> {
 }
 
 fn read_response(alloc: Global, m: &[u8]) -> Result<Outcome> {
-    Ok(
-        both_ways!(alloc, m, read_read_response, write_read_response, v => v.payload.len() < 0x1_0000_0000),
-    )
+    Ok(both_ways!(
+        alloc,
+        m,
+        read_read_response,
+        write_read_response,
+        v => v.payload.len() < 0x1_0000_0000
+    ))
 }
 
 fn write_request(alloc: Global, m: &[u8]) -> Result<Outcome> {
-    Ok(
-        both_ways!(alloc, m, read_write_request, write_write_request, v => v.payload.len() < 0x1_0000_0000),
-    )
+    Ok(both_ways!(
+        alloc,
+        m,
+        read_write_request,
+        write_write_request,
+        v => v.payload.len() < 0x1_0000_0000
+    ))
 }
 
 fn write_response(alloc: Global, m: &[u8]) -> Result<Outcome> {
@@ -53,9 +70,15 @@ fn write_response(alloc: Global, m: &[u8]) -> Result<Outcome> {
 }
 
 fn lock_request(alloc: Global, m: &[u8]) -> Result<Outcome> {
-    Ok(
-        both_ways!(alloc, m, read_lock_request, write_lock_request, v => v.locks.len() % 24 == 0 && v.locks.len() > 0 && v.locks.len() < 24 * 0x1_0000),
-    )
+    Ok(both_ways!(
+        alloc,
+        m,
+        read_lock_request,
+        write_lock_request,
+        v => v.locks.len() % 24 == 0
+            && v.locks.len() > 0
+            && v.locks.len() < 24 * 0x1_0000
+    ))
 }
 
 fn lock_response(alloc: Global, m: &[u8]) -> Result<Outcome> {

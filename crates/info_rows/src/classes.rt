@@ -68,15 +68,23 @@ fn file_network_open_information(alloc: Global, m: &[u8]) -> Result<Outcome> {
 }
 
 fn file_rename_information(alloc: Global, m: &[u8]) -> Result<Outcome> {
-    Ok(
-        both_ways!(alloc, m, read_file_rename_information, write_file_rename_information, v => v.name.len() < 0x1_0000_0000),
-    )
+    Ok(both_ways!(
+        alloc,
+        m,
+        read_file_rename_information,
+        write_file_rename_information,
+        v => v.name.len() < 0x1_0000_0000
+    ))
 }
 
 fn file_all_information(alloc: Global, m: &[u8]) -> Result<Outcome> {
-    Ok(
-        both_ways!(alloc, m, read_file_all_information, write_file_all_information, v => v.name.len() < 0x1_0000_0000),
-    )
+    Ok(both_ways!(
+        alloc,
+        m,
+        read_file_all_information,
+        write_file_all_information,
+        v => v.name.len() < 0x1_0000_0000
+    ))
 }
 
 fn file_fs_size_information(alloc: Global, m: &[u8]) -> Result<Outcome> {
@@ -107,15 +115,23 @@ fn file_fs_full_size_information(alloc: Global, m: &[u8]) -> Result<Outcome> {
 }
 
 fn file_fs_volume_information(alloc: Global, m: &[u8]) -> Result<Outcome> {
-    Ok(
-        both_ways!(alloc, m, read_file_fs_volume_information, write_file_fs_volume_information, v => v.label.len() < 0x1_0000_0000),
-    )
+    Ok(both_ways!(
+        alloc,
+        m,
+        read_file_fs_volume_information,
+        write_file_fs_volume_information,
+        v => v.label.len() < 0x1_0000_0000
+    ))
 }
 
 fn file_fs_attribute_information(alloc: Global, m: &[u8]) -> Result<Outcome> {
-    Ok(
-        both_ways!(alloc, m, read_file_fs_attribute_information, write_file_fs_attribute_information, v => v.name.len() < 0x1_0000_0000),
-    )
+    Ok(both_ways!(
+        alloc,
+        m,
+        read_file_fs_attribute_information,
+        write_file_fs_attribute_information,
+        v => v.name.len() < 0x1_0000_0000
+    ))
 }
 
 fn network_interface(alloc: Global, m: &[u8]) -> Result<Outcome> {

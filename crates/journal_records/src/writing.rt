@@ -83,7 +83,8 @@ fn put_front(out: &mut Out, kind: u8, origin: &Origin, subject: u64) -> Result<(
 // Where bytes were written, when, and which.
 fn put_written(out: &mut Out, at: u64, time: u64, bytes: &Bytes) -> Result<(), AllocError>
     requires { length bytes.now < 2 ^ 32 }
-    ensures { OnOk result (out.new ≡ with_fields out.old (Num 8 at ∷ Num 8 time ∷ Num 4 (length bytes.now) ∷ Raw (length bytes.now) bytes.now ∷ [])) }
+    ensures { OnOk result (out.new ≡ with_fields out.old (Num 8 at ∷ Num 8 time ∷ Num 4 (length bytes.now)
+        ∷ Raw (length bytes.now) bytes.now ∷ [])) }
 {
     out.put_u64(at)?;
     out.put_u64(time)?;
@@ -100,7 +101,8 @@ fn put_slot(
     elements: &Bytes,
 ) -> Result<(), AllocError>
     requires { length elements.now / 24 < 65536 }
-    ensures { OnOk result (out.new ≡ with_fields out.old (Num 1 index ∷ Num 1 number ∷ Num 4 status ∷ Num 2 (length elements.now / 24) ∷ Raw (24 * (length elements.now / 24)) elements.now ∷ [])) }
+    ensures { OnOk result (out.new ≡ with_fields out.old (Num 1 index ∷ Num 1 number ∷ Num 4 status ∷ Num 2 (length elements.now / 24)
+        ∷ Raw (24 * (length elements.now / 24)) elements.now ∷ [])) }
 {
     out.put_u8(index)?;
     out.put_u8(number)?;

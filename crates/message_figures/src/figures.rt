@@ -89,10 +89,11 @@ fn reads(clock: &impl Clock, message: &mut Vec<u8>) -> Result<u64> {
     Ok(time)
 }
 
-// Hundredths of one time by another.
-fn hundredths(time: u64, by: u64) -> Result<u64> {
+// One time by another, with two places.
+fn ratio(alloc: Global, time: u64, by: u64) -> Result<String> {
     let more = time.checked_mul(100).context("a long time")?;
-    more.checked_div(by).context("no time went by")
+    let hundredths = more.checked_div(by).context("no time went by")?;
+    Ok(format!(in alloc; "{}.{:02}", hundredths / 100, hundredths % 100)?)
 }
 
 /// The times of one size.
@@ -105,13 +106,10 @@ pub fn measured(clock: &impl Clock, alloc: Global, size: usize) -> Result<String
     let new_copy = new_copies(clock, alloc, &mut payload, turns)?;
     let write = writes(clock, alloc, &mut payload, turns)?;
     let read = reads(clock, &mut message)?;
-    let share = hundredths(write, new_copy)?;
-    let of_memcpy = hundredths(write, copy)?;
-    Ok(format!(in alloc;
-        "{size} bytes, ns: read {read}, write {write}, a copy {copy}, to new memory {new_copy}; write to copies: {}.{:02}, to new memory {}.{:02}",
-        of_memcpy / 100,
-        of_memcpy % 100,
-        share / 100,
-        share % 100
-    )?)
+    let of_new = ratio(alloc, write, new_copy)?;
+    let of_copy = ratio(alloc, write, copy)?;
+    let times = format!(in alloc;
+        "{size} bytes, ns: read {read}, write {write}, a copy {copy}, to new memory {new_copy}"
+    )?;
+    Ok(format!(in alloc; "{times}; written: {of_copy} copies, {of_new} to new memory")?)
 }

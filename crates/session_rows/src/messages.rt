@@ -5,33 +5,55 @@ use std::alloc::Global;
 use vector_rows::{Outcome, both_ways};
 
 fn negotiate_request(alloc: Global, m: &[u8]) -> Result<Outcome> {
-    Ok(
-        both_ways!(alloc, m, read_negotiate_request, write_negotiate_request, v => v.dialects.len() % 2 == 0 && v.dialects.len() > 0 && v.dialects.len() < 2 * 0x1_0000),
-    )
+    Ok(both_ways!(
+        alloc,
+        m,
+        read_negotiate_request,
+        write_negotiate_request,
+        v => v.dialects.len() % 2 == 0
+            && v.dialects.len() > 0
+            && v.dialects.len() < 2 * 0x1_0000
+    ))
 }
 
 fn negotiate_response(alloc: Global, m: &[u8]) -> Result<Outcome> {
-    Ok(
-        both_ways!(alloc, m, read_negotiate_response, write_negotiate_response, v => v.security.len() < 0x1_0000),
-    )
+    Ok(both_ways!(
+        alloc,
+        m,
+        read_negotiate_response,
+        write_negotiate_response,
+        v => v.security.len() < 0x1_0000
+    ))
 }
 
 fn session_setup_request(alloc: Global, m: &[u8]) -> Result<Outcome> {
-    Ok(
-        both_ways!(alloc, m, read_session_setup_request, write_session_setup_request, v => v.security.len() < 0x1_0000),
-    )
+    Ok(both_ways!(
+        alloc,
+        m,
+        read_session_setup_request,
+        write_session_setup_request,
+        v => v.security.len() < 0x1_0000
+    ))
 }
 
 fn session_setup_response(alloc: Global, m: &[u8]) -> Result<Outcome> {
-    Ok(
-        both_ways!(alloc, m, read_session_setup_response, write_session_setup_response, v => v.security.len() < 0x1_0000),
-    )
+    Ok(both_ways!(
+        alloc,
+        m,
+        read_session_setup_response,
+        write_session_setup_response,
+        v => v.security.len() < 0x1_0000
+    ))
 }
 
 fn tree_connect_request(alloc: Global, m: &[u8]) -> Result<Outcome> {
-    Ok(
-        both_ways!(alloc, m, read_tree_connect_request, write_tree_connect_request, v => v.path.len() < 0x1_0000),
-    )
+    Ok(both_ways!(
+        alloc,
+        m,
+        read_tree_connect_request,
+        write_tree_connect_request,
+        v => v.path.len() < 0x1_0000
+    ))
 }
 
 fn tree_connect_response(alloc: Global, m: &[u8]) -> Result<Outcome> {
