@@ -7,4 +7,4 @@ pub mod Sizes
 pub mod Refusals
 pub mod Flags
 pub mod One
-pub mod Fitting
+pub mod Characters

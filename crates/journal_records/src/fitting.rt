@@ -8,7 +8,7 @@ use crate::value::{NewOpen, Record};
 use smb_bytes::Text;
 
 // How many bytes a character takes in UTF-16.
-#[tactic(auto, using(crate::proofs::Fitting::short_units, crate::proofs::Fitting::long_units))]
+#[tactic(auto, using(crate::proofs::Characters::short_units, crate::proofs::Characters::long_units))]
 fn units_size(character: char) -> u32
     ensures { result ≡ length (units_of character) }
 {
