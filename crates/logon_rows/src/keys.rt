@@ -1,4 +1,6 @@
 //! The choice of algorithms, the chain, keys, signatures and nonces.
+ghost use Rattle.std.specs.Prelude.{◌≤◌, length};
+
 use crate::words::{array_in, array_of, bytes_in, message_in, message_of, u16_in, u64_in, word_in};
 use anyhow::{Result, bail, ensure};
 use mac_kdf::kdf;
@@ -115,17 +117,23 @@ fn signing(alloc: Global, words: &mut SplitWhitespace<'_>) -> Result<String> {
     digits_of(alloc, &derive(&base, &chain, &chosen, 1).signing.key)
 }
 
+fn put_signature(message: &mut [u8], signature: &[u8; 16])
+    requires { 64 ≤ length message.old }
+{
+    message[48..64].copy_from_slice(signature);
+}
+
 /// The message with a signature in its field, and whatever stands behind it.
 fn with_signature(
     alloc: Global,
     message: &[u8],
     signature: &[u8; 16],
     further: &[u8],
-) -> Result<Vec<u8>> {
-    ensure!(message.len() >= 64, "a message without a header");
-    let mut signed = Vec::from_slice(alloc, &message[..48])?;
-    signed.extend_from_slice(signature)?;
-    signed.extend_from_slice(&message[64..])?;
+) -> Result<Vec<u8>>
+    requires { 64 ≤ length message.now }
+{
+    let mut signed = Vec::from_slice(alloc, message)?;
+    put_signature(signed.as_mut_slice(), signature);
     signed.extend_from_slice(further)?;
     Ok(signed)
 }
@@ -153,6 +161,7 @@ fn check_signature(
     message: &[u8],
     signature: &[u8; 16],
 ) -> Result<()> {
+    ensure!(message.len() >= 64, "a message without a header");
     let signed = with_signature(alloc, message, signature, &[])?;
     let longer = with_signature(alloc, message, signature, &[1])?;
     ensure!(is_signed(signer, &signed)?, "its signature does not verify");

@@ -32,7 +32,10 @@ given_once old behind later last first second small g calls h same =
     let channel : old.channel ≡ later.channel = sym (ap (λ (n : NonceState). n.channel) (g.2)) ∙ on.channel in
     let counter : behind.counter ≡ old.counter + 1 = ap (λ (n : NonceState). n.counter) (g.2) in
     let one : nonce_of old ≡ nonce_of later = sym (g.1) ∙ (same ∙ h.1) in
-    let states : old ≡ later = nonces_differ old later (omega (arith, g.0)) (omega (arith, h.0)) small (omega (arith,
-    small, channel)) one in
+    let states : old ≡ later = nonces_differ old later (omega (arith, g.0)) (omega (arith, h.0)) small (omega (
+      arith,
+      small,
+      channel,
+    )) one in
     let again : old.counter ≡ later.counter = ap (λ (n : NonceState). n.counter) states in
     absurd (omega (arith, again, counter, on.counter))
