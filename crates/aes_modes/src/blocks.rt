@@ -1,10 +1,17 @@
 //! What the modes share: blocks of bytes, the chain over them, masking block by block, and the comparison of tags.
 ghost use Rattle.std.specs.Prelude.{◌≡◌, ◌≤◌, ◌<◌, ◌*◌, ◌+◌, ◌-◌, ◌/◌, ◌++◌, ◌↔◌, IsTrue, length, take, drop, min, slice_index, OnOk};
-ghost use Rattle.cipher_defs.specs.Aes.{block_sum};
+ghost use Rattle.cipher_defs.specs.Aes.{block_sum, cipher};
 ghost use Rattle.cipher_defs.specs.Blocks.{block_at, block_count, chained};
 
 use aes_block::{Aes, block_sum_of};
-use std::alloc::AllocError;
+
+/// A block under the key, outside of the loops over a message.
+#[inline(never)]
+pub(crate) fn enciphered(aes: &Aes, block: &[u8; 16]) -> [u8; 16]
+    ensures { result ≡ cipher aes.now block.now }
+{
+    aes.encrypt_block(block)
+}
 
 /// How many blocks the bytes fill, the last one perhaps in part.
 pub(crate) fn block_count_of(m: &[u8]) -> usize
@@ -97,23 +104,6 @@ pub(crate) fn chain_of(aes: &Aes, start: &[u8; 16], m: &[u8], blocks: usize) -> 
     s
 }
 
-/// Adds block i of the text, as far as the text goes, under `key`.
-#[inline(always)]
-pub(crate) fn push_masked_block(
-    out: &mut Vec<u8>,
-    text: &[u8],
-    i: usize,
-    key: &[u8; 16],
-) -> Result<(), AllocError>
-    requires { 16 * i ≤ length text.now }
-    ensures { OnOk result (out.new.items ≡ out.old.items ++ take (min (length text.now - 16 * i) 16) (block_sum
-        (block_at text.now i) key.now)) }
-{
-    let masked = block_sum_of(&block_of(text, i), key);
-    let count = (text.len() - 16 * i).min(16);
-    out.extend_from_slice(&masked[..count])
-}
-
 /// Masks block i of the text where it stands, as far as the text goes, under `key`.
 #[inline(always)]
 pub(crate) fn mask_block(text: &mut [u8], i: usize, key: &[u8; 16])
@@ -122,11 +112,19 @@ pub(crate) fn mask_block(text: &mut [u8], i: usize, key: &[u8; 16])
         text.old i) key.now) ++ drop (16 * i + min (length text.old - 16 * i) 16) text.old) }
 {
     let masked = block_sum_of(&block_of(text, i), key);
-    let count = (text.len() - 16 * i).min(16);
-    text[16 * i..16 * i + count].copy_from_slice(&masked[..count]);
+    let rest = text.len() - 16 * i;
+    if rest >= 16 {
+        text[16 * i..16 * i + 16].copy_from_slice(&masked);
+    } else {
+        text[16 * i..].copy_from_slice(&masked[..rest]);
+    }
 }
 
 /// Whether two tags of one length are the same. It takes the same time whatever they are.
+///
+/// All differences are gathered, and the result is compared once: the work is the same whatever the bytes are. No contract
+/// can say so, and a loop that leaves at the first difference would prove as well, so the body is to keep this form. Whoever
+/// sends tags could else learn from the time how many of their bytes were right.
 pub fn is_same(a: &[u8], b: &[u8]) -> bool
     requires { length a.now ≡ length b.now }
     ensures { IsTrue result ↔ (a.now ≡ b.now) }
