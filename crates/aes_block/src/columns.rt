@@ -56,14 +56,21 @@ pub(crate) fn sum_of(s: Columns, t: Columns) -> Columns
     }
 }
 
+/// Four bytes as a column.
+#[inline(always)]
+fn column_of(w: &[u8; 4]) -> u32
+    ensures { rows result ≡ four (λ k. slice_index w.now k) }
+{
+    u32::from_le_bytes([w[0], w[1], w[2], w[3]])
+}
+
 /// A word of the expanded key as a column.
 #[inline(always)]
 fn key_column_of(words: &[[u8; 4]], i: usize) -> u32
     requires { i < length words.now }
     ensures { rows result ≡ four (λ k. slice_index (word words.now i) k) }
 {
-    let w = words[i];
-    u32::from_le_bytes([w[0], w[1], w[2], w[3]])
+    column_of(&words[i])
 }
 
 /// The key of a round.

@@ -16,5 +16,5 @@ returns c =
       at0 = simp row0-xor (rw (p.at0, q.at0, r.at0, s.at0) (simp (xor_zero_l, xor_zero_r)));
       at1 = simp row1-xor (rw (p.at1, q.at1, r.at1, s.at1) (simp (xor_zero_l, xor_zero_r)));
       at2 = simp row2-xor (rw (p.at2, q.at2, r.at2, s.at2) (simp (xor_zero_l, xor_zero_r)));
-      at3 = simp row3-xor (rw (p.at3, q.at3, r.at3, s.at3) (simp (xor_zero_l, xor_zero_r)));
+      at3 = simp row3-xor (rw (p.at3, q.at3, r.at3, s.at3) refl);
     }
