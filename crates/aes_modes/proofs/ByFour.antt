@@ -123,14 +123,14 @@ step_four x h i n z entry e is so_far =
 -- ---- the rows of sums
 
 -- the row as the code has it
-abbrev pub row : ℕ → List ℕ
-row v =
-    let four : ℕ = shifted v in
-    let two : ℕ = shifted four in
-    let one : ℕ = shifted two in
+abbrev pub sums_in_row : ℕ → ℕ → ℕ → ℕ → List ℕ
+sums_in_row v four two one =
     0 ∷ one ∷ two ∷ bit_xor two one ∷ four ∷ bit_xor four one ∷ bit_xor four two ∷ bit_xor four (bit_xor two one) ∷ v ∷ bit_xor v one
     ∷ bit_xor v two ∷ bit_xor v (bit_xor two one) ∷ bit_xor v four ∷ bit_xor v (bit_xor four one) ∷ bit_xor v (bit_xor four two)
     ∷ bit_xor v (bit_xor four (bit_xor two one)) ∷ []
+
+abbrev row : ℕ → List ℕ
+row v = sums_in_row v (shifted v) (shifted (shifted v)) (shifted (shifted (shifted v)))
 
 shifted4-sum : (bs : List Bool) (v : ℕ) → shifted4 (sum_at bs v) ≡ sum_at bs (shifted4 v)
 shifted4-sum bs v = rw (
@@ -168,8 +168,10 @@ row_at v (suc (suc (suc (suc (suc (suc (suc (suc (suc (suc (suc (suc (suc (suc z
 row_at v (suc (suc (suc (suc (suc (suc (suc (suc (suc (suc (suc (suc (suc (suc (suc zero))))))))))))))) lt = simp (xor_zero_l, xor_zero_r)
 row_at v (suc (suc (suc (suc (suc (suc (suc (suc (suc (suc (suc (suc (suc (suc (suc (suc n)))))))))))))))) lt = absurd (omega arith)
 
-pub row_is : (v : ℕ) (made : List ℕ) → made ≡ row v → IsRow made v
-row_is v made is = λ n lt. ap (λ (r : List ℕ). get_or r n 0) is ∙ row_at v n lt
+pub row_told : (v four two one : ℕ) → four ≡ shifted v → two ≡ shifted four → one ≡ shifted two → IsRow (sums_in_row v four two one) v
+row_told v four two one p q r =
+    let made : sums_in_row v four two one ≡ row v = rw (r, q, p) refl in
+    λ n lt. ap (λ (l : List ℕ). get_or l n 0) made ∙ row_at v n lt
 
 pub rows_more : (rows : List (List ℕ)) (h j : ℕ) (made : List ℕ) → length rows ≡ 32 → j < 32 → ((k : ℕ) → k < j → IsRow
     (get_or rows k []) (raised (4 * k) h)) → IsRow made (raised (4 * j) h)
@@ -230,10 +232,11 @@ sum_at-append (x ∷ xs) ys v =
 
 bits_of-add : (m n x : ℕ) → bits_of (m + n) x ≡ bits_of m (x / 2 ^ n) ++ bits_of n x
 unfolding bits_of
-bits_of-add zero n x = refl
+bits_of-add zero n x = let e : 0 + n ≡ n = omega arith in ap (λ (j : ℕ). bits_of j x) e
 bits_of-add (suc m) n x =
+    let k : suc m + n ≡ suc (m + n) = omega arith in
     let e : x / 2 ^ (m + n) ≡ x / 2 ^ n / 2 ^ m = ap (λ (j : ℕ). x / 2 ^ j) (omega arith) ∙ sym (shr-shr x n m) in
-    rw (e, bits_of-add m n x) refl
+    ap (λ (j : ℕ). bits_of j x) k ∙ rw (e, bits_of-add m n x) refl
 
 bits_of-length : (n x : ℕ) → length (bits_of n x) ≡ n
 unfolding bits_of

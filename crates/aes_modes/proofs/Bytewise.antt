@@ -1,7 +1,8 @@
 -- Bytes of numbers and of two lists one behind the other.
-use Rattle.std.proofs.Common.{◌≡◌, ℕ, zero, suc, ◌-◌, ◌*◌, ◌/◌, ◌%◌, ◌^◌, ◌≤◌, ◌<◌, true, cond, eqb, leb, ltb, List, length, get_or, refl, arith, inl, inr}
+use Rattle.std.proofs.Common.{◌≡◌, ℕ, zero, suc, ◌-◌, ◌*◌, ◌/◌, ◌%◌, ◌^◌, ◌≤◌, ◌<◌, true, cond, eqb, leb, ltb, List, [], ◌∷◌, length, get_or, refl, arith, inl, inr}
+use Rattle.std.specs.Int.{w64, to_be_bytes}
 use Rattle.std.specs.Int.Bits.{bit_xor, xor_zero_l, xor_zero_r}
-use Rattle.std.proofs.Math.Nat.{pow-le-pow_right, div-eq-zero_of_lt, zero-div}
+use Rattle.std.proofs.Math.Nat.{pow-le-pow_right, div-eq_of_lt, zero-div}
 use Rattle.std.proofs.lemmas.Bool.{ne_eqb, lt-leb, le-leb, ltb-true, lt-ltb, le-ltb, cases_lt}
 use Rattle.cipher_defs.specs.Aes.{block_sum}
 use Rattle.cipher_defs.specs.Blocks.{big_byte}
@@ -67,12 +68,12 @@ abbrev pub number_place : ℕ → ℕ → ℕ
 number_place n k = cond (ltb k 8) 0 (big_byte 8 n (k - 8))
 
 below_none : (n p : ℕ) → n < p → n / p ≡ 0
-below_none n p lt = div-eq-zero_of_lt n p lt
+below_none n p lt = div-eq_of_lt lt
 
 -- the number is too small for a byte that stands among the nonce's
 number_above : (n k long : ℕ) → 7 ≤ long → k ≤ long → long ≤ 13 → n < 256 ^ (15 - long) → number_place n k ≡ 0
 number_above n k long low within high below =
-    let less : 256 ^ (15 - long) ≤ 256 ^ (15 - k) = pow-le-pow_right 256 (15 - long) (15 - k) (omega arith) (omega arith) in
+    let less : 256 ^ (15 - long) ≤ 256 ^ (15 - k) = pow-le-pow_right {n = 256} (omega arith) (omega arith) in
     let none : n / 256 ^ (15 - k) ≡ 0 = below_none n (256 ^ (15 - k)) (omega arith) in
     elim (cases_lt k 8) [
       | inl small ↦ rw (lt-ltb k 8 small) refl
@@ -108,3 +109,13 @@ counted_is n nonce low high below =
     let first : ℕ = 14 - length nonce in
     same_sixteen (λ k. bit_xor (nonce_place first nonce 0 k) (number_place n k)) (λ k. nonce_place first nonce n k)
     (λ k lt. counted_byte first n k nonce low high lt below)
+
+-- the number's bytes as the code writes them
+pub number_bytes : (bytes : List ℕ) (n : ℕ) → bytes ≡ to_be_bytes w64 n → 0 ∷ 0 ∷ 0 ∷ 0 ∷ 0 ∷ 0 ∷ 0 ∷ 0 ∷ get_or bytes 0 0
+    ∷ get_or bytes 1 0 ∷ get_or bytes 2 0 ∷ get_or bytes 3 0 ∷ get_or bytes 4 0 ∷ get_or bytes 5 0 ∷ get_or bytes 6 0
+    ∷ get_or bytes 7 0 ∷ [] ≡ number_block n
+unfolding number_block
+number_bytes bytes n is =
+    let last : n % 256 ≡ n / 1 % 256 = omega arith in
+    rw is (λ t. 0 ∷ 0 ∷ 0 ∷ 0 ∷ 0 ∷ 0 ∷ 0 ∷ 0 ∷ (n / 256 ^ 7 % 256) ∷ (n / 256 ^ 6 % 256) ∷ (n / 256 ^ 5 % 256) ∷ (n / 256 ^ 4 % 256)
+    ∷ (n / 256 ^ 3 % 256) ∷ (n / 256 ^ 2 % 256) ∷ (n / 256 % 256) ∷ last t ∷ [])

@@ -114,9 +114,9 @@ pub(crate) fn mask_block(text: &mut [u8], i: usize, key: &[u8; 16])
     let masked = block_sum_of(&block_of(text, i), key);
     let rest = text.len() - 16 * i;
     if rest >= 16 {
-        text[16 * i..16 * i + 16].copy_from_slice(&masked);
+        text[16 * i..16 * i + 16].copy_from_slice(&masked[..16]);
     } else {
-        text[16 * i..].copy_from_slice(&masked[..rest]);
+        text[16 * i..16 * i + rest].copy_from_slice(&masked[..rest]);
     }
 }
 

@@ -10,6 +10,6 @@ pub loop-j-preserved : goal.loop-j-preserved
 loop-j-preserved c = record {
   element = c.shifted_by_four-v.ensures ∙ rw c.loop-j.invariant.element (sym (raised_four c.loop-j.j c.args.h));
   known = rows_more c.loop-j.rows c.args.h c.loop-j.j c.row_of.result c.loop-j.invariant.len (omega arith)
-      c.loop-j.invariant.known (rw ← c.loop-j.invariant.element c.row_of.ensures);
+      c.loop-j.invariant.known (rw (← c.loop-j.invariant.element) c.row_of.ensures);
   len = simp length-set c.loop-j.invariant.len;
 }
