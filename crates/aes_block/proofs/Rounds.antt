@@ -1,5 +1,5 @@
 -- A state's columns through a sum and a round.
-use Rattle.std.proofs.Common.{◌≡◌, ℕ, zero, suc, ◌+◌, ◌-◌, ◌*◌, ◌/◌, ◌<◌, List, ◌∷◌, [], ◌++◌, get_or, length, refl, ap, ◌∙◌, arith}
+use Rattle.std.proofs.Common.{◌≡◌, ℕ, zero, suc, ◌+◌, ◌-◌, ◌*◌, ◌/◌, ◌<◌, List, ◌∷◌, [], ◌++◌, ◌⊎◌, inl, inr, get_or, length, refl, ap, ◌∙◌, arith}
 use Rattle.std.proofs.lemmas.Nat.{le_bytes_4}
 use Rattle.std.specs.Int.{w32, from_le_bytes}
 use Rattle.std.specs.Int.Bits.{bit_xor}
@@ -75,23 +75,22 @@ same_sums s t = refl
 abbrev pub one_more : List (List ℕ) → List ℕ → ℕ → List ℕ
 one_more ws s r = block_sum (mixed_columns (replaced s)) (round_key ws r)
 
-pub nine_more : (ws : List (List ℕ)) (block : List ℕ)
-    → one_more ws (one_more ws (one_more ws (one_more ws (one_more ws (one_more ws (one_more ws (one_more ws (one_more ws (block_sum
-    block (round_key ws 0)) 1) 2) 3) 4) 5) 6) 7) 8) 9 ≡ after ws block 9
+pub none_more : (ws : List (List ℕ)) (block : List ℕ) → block_sum block (round_key ws 0) ≡ after ws block (2 * 0)
 unfolding after
-nine_more ws block = refl
+none_more ws block = refl
 
-pub four_more : (ws : List (List ℕ)) (block : List ℕ) → one_more ws (one_more ws (one_more ws (one_more ws (after ws
-    block 9) 10) 11) 12) 13 ≡ after ws block 13
+pub two_more : (ws : List (List ℕ)) (block : List ℕ) (i : ℕ) → one_more ws (one_more ws (after ws block (2 * i)) (2 * i
+    + 1)) (2 * i + 2) ≡ after ws block (2 * (i + 1))
 unfolding after
-four_more ws block = refl
+two_more ws block i =
+    let k : 2 * (i + 1) ≡ suc (suc (2 * i)) = omega arith in
+    let l : 2 * i + 1 ≡ suc (2 * i) = omega arith in
+    let m : 2 * i + 2 ≡ suc (suc (2 * i)) = omega arith in
+    rw (k, l, m) refl
 
-pub ten_rounds : (ws : List (List ℕ)) (block : List ℕ) → length ws ≡ 44 → block_sum (replaced (after ws block 9))
-    (round_key ws 10) ≡ cipher ws block
-unfolding cipher rounds
-ten_rounds ws block e = let r : length ws / 4 - 1 ≡ 10 = omega arith in rw r refl
-
-pub fourteen_rounds : (ws : List (List ℕ)) (block : List ℕ) → length ws ≡ 60 → block_sum (replaced (after ws block 13))
-    (round_key ws 14) ≡ cipher ws block
-unfolding cipher rounds
-fourteen_rounds ws block e = let r : length ws / 4 - 1 ≡ 14 = omega arith in rw r refl
+-- the last two of n rounds, behind the whole ones in pairs
+pub all_rounds : (ws : List (List ℕ)) (block : List ℕ) (n : ℕ) → (n ≡ 10) ⊎ (n ≡ 14) → length ws / 4 - 1 ≡ n
+    → block_sum (replaced (one_more ws (after ws block (2 * (n / 2 - 1))) (n - 1))) (round_key ws n) ≡ cipher ws block
+unfolding after cipher rounds
+all_rounds ws block n (inl e) r = rw (r, e) refl
+all_rounds ws block n (inr e) r = rw (r, e) refl

@@ -17,48 +17,30 @@ fn next_of(words: &[[u8; 4]], s: Columns, round: usize) -> Columns
     round_of(s, key_of(words, round))
 }
 
-/// The state behind nine whole rounds. They stand in a row: a loop over them would take an eighth more time.
+/// The state behind pairs of whole rounds. A loop over single rounds takes a twentieth more time.
 #[inline(always)]
-fn after_nine(words: &[[u8; 4]], block: &[u8; 16]) -> Columns
-    requires { 40 ≤ length words.now }
-    ensures { state result.a result.b result.c result.d ≡ after words.now block.now 9 }
+fn after_pairs(words: &[[u8; 4]], block: &[u8; 16], pairs: usize) -> Columns
+    requires { 8 * pairs + 4 ≤ length words.now }
+    ensures { state result.a result.b result.c result.d ≡ after words.now block.now (2 * pairs) }
 {
-    let begun = sum_of(columns_of(block), key_of(words, 0));
-    let one = next_of(words, begun, 1);
-    let two = next_of(words, one, 2);
-    let three = next_of(words, two, 3);
-    let four = next_of(words, three, 4);
-    let five = next_of(words, four, 5);
-    let six = next_of(words, five, 6);
-    let seven = next_of(words, six, 7);
-    let eight = next_of(words, seven, 8);
-    next_of(words, eight, 9)
+    let mut s = sum_of(columns_of(block), key_of(words, 0));
+    for i in 0..pairs {
+        let between = next_of(words, s, 2 * i + 1);
+        s = next_of(words, between, 2 * i + 2);
+    }
+    s
 }
 
-/// The state behind thirteen whole rounds.
-#[inline(always)]
-fn after_thirteen(words: &[[u8; 4]], block: &[u8; 16]) -> Columns
-    requires { 56 ≤ length words.now }
-    ensures { state result.a result.b result.c result.d ≡ after words.now block.now 13 }
-{
-    let nine = after_nine(words, block);
-    let ten = next_of(words, nine, 10);
-    let eleven = next_of(words, ten, 11);
-    let twelve = next_of(words, eleven, 12);
-    next_of(words, twelve, 13)
-}
-
-/// The last round mixes no columns.
+/// The last round mixes no columns. The rounds before it are odd in number.
 #[inline(always)]
 fn cipher_of(words: &[[u8; 4]], block: &[u8; 16]) -> [u8; 16]
     requires { (length words.now ≡ 44) ⊎ (length words.now ≡ 60) }
     ensures { result ≡ cipher words.now block.now }
 {
-    if words.len() == 44 {
-        block_of(last_round_of(after_nine(words, block), key_of(words, 10)))
-    } else {
-        block_of(last_round_of(after_thirteen(words, block), key_of(words, 14)))
-    }
+    let rounds = words.len() / 4 - 1;
+    let even = after_pairs(words, block, rounds / 2 - 1);
+    let odd = next_of(words, even, rounds - 1);
+    block_of(last_round_of(odd, key_of(words, rounds)))
 }
 
 /// A key, expanded. A contract sees the list of the expanded key's words, of four bytes each.

@@ -14,10 +14,11 @@ use std::{env, fmt};
 
 const SIZES: [usize; 3] = [256, 4096, 1_048_576];
 
-/// What a batch works on, and how many batches there are: the quickest counts.
-const BATCH: usize = 1_048_576;
+/// The bytes of a batch of short messages, and how many batches there are: the quickest counts, since a machine is seldom
+/// idle for long.
+const BATCH: usize = 65_536;
 
-const BATCHES: u32 = 12;
+const BATCHES: u32 = 100;
 
 #[derive(Clone, Copy)]
 enum Mode {
@@ -138,7 +139,7 @@ fn batch(mode: Mode, long: bool, each: bool, turns: usize, message: &mut [u8]) -
 
 /// The quickest batch's bytes in a microsecond.
 fn speed(rt: &HostRuntime, mode: Mode, long: bool, each: bool, message: &mut [u8]) -> Result<u64> {
-    let turns = BATCH / message.len().max(1);
+    let turns = BATCH.checked_div(message.len()).unwrap_or(1).max(1);
     let mut least = u64::MAX;
     for _ in 0..BATCHES {
         let start = Instant::now(rt)?;
@@ -147,7 +148,9 @@ fn speed(rt: &HostRuntime, mode: Mode, long: bool, each: bool, message: &mut [u8
         ensure!(good, "{} doesn't open what it sealed", mode.name());
         least = least.min(nanos);
     }
-    let bytes = passes(mode) * turns as u64 * message.len() as u64;
+    let bytes = passes(mode)
+        .saturating_mul(turns as u64)
+        .saturating_mul(message.len() as u64);
     Ok(bytes.saturating_mul(1000) / least.max(1))
 }
 
