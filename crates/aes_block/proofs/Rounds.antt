@@ -1,7 +1,7 @@
 -- A state's columns through a sum and a round.
-use Rattle.std.proofs.Common.{◌≡◌, ℕ, zero, suc, ◌+◌, ◌-◌, ◌*◌, ◌/◌, ◌<◌, List, ◌∷◌, [], ◌++◌, ◌⊎◌, inl, inr, get_or, length, refl, ap, ◌∙◌, arith}
-use Rattle.std.proofs.lemmas.Nat.{le_bytes_4}
-use Rattle.std.specs.Int.{w32, from_le_bytes}
+use Rattle.std.proofs.Common.{◌≡◌, ℕ, zero, suc, ◌+◌, ◌-◌, ◌*◌, ◌/◌, ◌%◌, ◌<◌, List, ◌∷◌, [], ◌++◌, ◌⊎◌, inl, inr, get_or, length, refl, sym, ap, ◌∙◌, arith}
+use Rattle.std.proofs.lemmas.Nat.{le_bytes_4, le_bytes_8, shr-shr}
+use Rattle.std.specs.Int.{w32, w64, from_le_bytes, to_le_bytes}
 use Rattle.std.specs.Int.Bits.{bit_xor}
 use Rattle.cipher_defs.specs.Aes.{four, sixteen, word, replaced, mixed_columns, block_sum, round_key, after, cipher, rounds}
 use Rattle.aes_block.specs.Columns.{rows, state, IsMixedColumn, IsLastColumn}
@@ -26,30 +26,70 @@ key_is ws r a b c d p q s t =
     let first : rows a ≡ four (λ k. get_or (word ws (4 * r + 0)) k 0) = p ∙ ap (λ (n : ℕ). four (λ k. get_or (word ws n) k 0)) z in
     λ i. first i ++ (q i ++ (s i ++ t i))
 
-bytes_small : (p q r s : ℕ) → p < 256 → q < 256 → r < 256 → s < 256 → (i : ℕ) → get_or (p ∷ q ∷ r ∷ s ∷ []) i 0 < 256
-bytes_small p q r s a b c d zero = a
-bytes_small p q r s a b c d (suc zero) = b
-bytes_small p q r s a b c d (suc (suc zero)) = c
-bytes_small p q r s a b c d (suc (suc (suc zero))) = d
-bytes_small p q r s a b c d (suc (suc (suc (suc i)))) = omega arith
+four_small : (p q r s : ℕ) → p < 256 → q < 256 → r < 256 → s < 256 → (i : ℕ) → get_or (p ∷ q ∷ r ∷ s ∷ []) i 0 < 256
+four_small p q r s a b c d zero = a
+four_small p q r s a b c d (suc zero) = b
+four_small p q r s a b c d (suc (suc zero)) = c
+four_small p q r s a b c d (suc (suc (suc zero))) = d
+four_small p q r s a b c d (suc (suc (suc (suc i)))) = omega arith
 
 -- the rows of a word that was read from four bytes
 pub rows_read : (p q r s n : ℕ) → p < 256 → q < 256 → r < 256 → s < 256 → n ≡ from_le_bytes w32 (p ∷ q ∷ r ∷ s ∷ []) → rows n ≡ p ∷ q ∷ r ∷ s ∷ []
-rows_read p q r s n a b c d is = le_bytes_4 (p ∷ q ∷ r ∷ s ∷ []) n refl (bytes_small p q r s a b c d) is
+rows_read p q r s n a b c d is = le_bytes_4 (p ∷ q ∷ r ∷ s ∷ []) n refl (four_small p q r s a b c d) is
 
-pub columns_are : (block : List ℕ) (a b c d : ℕ) → ((i : ℕ) → get_or block i 0 < 256)
-    → a ≡ from_le_bytes w32 (get_or block 0 0 ∷ get_or block 1 0 ∷ get_or block 2 0 ∷ get_or block 3 0 ∷ [])
-    → b ≡ from_le_bytes w32 (get_or block 4 0 ∷ get_or block 5 0 ∷ get_or block 6 0 ∷ get_or block 7 0 ∷ [])
-    → c ≡ from_le_bytes w32 (get_or block 8 0 ∷ get_or block 9 0 ∷ get_or block 10 0 ∷ get_or block 11 0 ∷ [])
-    → d ≡ from_le_bytes w32 (get_or block 12 0 ∷ get_or block 13 0 ∷ get_or block 14 0 ∷ get_or block 15 0 ∷ [])
-    → state a b c d ≡ sixteen (λ k. get_or block k 0)
+-- eight bytes are the rows of two columns
+rows_split : (n : ℕ) → rows (n % 4294967296) ++ rows (n / 4294967296) ≡ to_le_bytes w64 n
+rows_split n =
+    let p0 : n % 4294967296 % 256 ≡ n % 256 = omega arith in
+    let p1 : n % 4294967296 / 256 % 256 ≡ n / 256 % 256 = omega arith in
+    let p2 : n % 4294967296 / 65536 % 256 ≡ n / 65536 % 256 = omega arith in
+    let p3 : n % 4294967296 / 16777216 % 256 ≡ n / 16777216 % 256 = omega arith in
+    let q1 : n / 4294967296 / 256 % 256 ≡ n / 1099511627776 % 256 = ap (λ (x : ℕ). x % 256) (shr-shr n 32 8) in
+    let q2 : n / 4294967296 / 65536 % 256 ≡ n / 281474976710656 % 256 = ap (λ (x : ℕ). x % 256) (shr-shr n 32 16) in
+    let q3 : n / 4294967296 / 16777216 % 256 ≡ n / 72057594037927936 % 256 = ap (λ (x : ℕ). x % 256) (shr-shr n 32 24) in
+    λ t. p0 t ∷ p1 t ∷ p2 t ∷ p3 t ∷ (n / 4294967296 % 256) ∷ q1 t ∷ q2 t ∷ q3 t ∷ []
+
+rows_joined : (a b : ℕ) → a < 4294967296 → to_le_bytes w64 (a + b * 4294967296) ≡ rows a ++ rows b
+rows_joined a b lt =
+    let n : ℕ = a + b * 4294967296 in
+    let low : n % 4294967296 ≡ a = omega arith in
+    let high : n / 4294967296 ≡ b = omega arith in
+    sym (rows_split n) ∙ ap (λ (x : ℕ). rows x ++ rows (n / 4294967296)) low ∙ ap (λ (x : ℕ). rows a ++ rows x) high
+
+pub block_is : (a b c d : ℕ) → a < 4294967296 → c < 4294967296 → to_le_bytes w64 (a + b * 4294967296) ++ to_le_bytes w64 (c
+    + d * 4294967296) ≡ state a b c d
 unfolding state
-columns_are block a b c d small p q r s =
-    let first = rows_read _ _ _ _ a (small 0) (small 1) (small 2) (small 3) p in
-    let second = rows_read _ _ _ _ b (small 4) (small 5) (small 6) (small 7) q in
-    let third = rows_read _ _ _ _ c (small 8) (small 9) (small 10) (small 11) r in
-    let fourth = rows_read _ _ _ _ d (small 12) (small 13) (small 14) (small 15) s in
-    λ i. first i ++ (second i ++ (third i ++ fourth i))
+block_is a b c d p q =
+    let left = rows_joined a b p in
+    let right = rows_joined c d q in
+    λ t. left t ++ right t
+
+bytes_small : (p q r s t u v w : ℕ) → p < 256 → q < 256 → r < 256 → s < 256 → t < 256 → u < 256 → v < 256 → w < 256 → (i
+    : ℕ) → get_or (p ∷ q ∷ r ∷ s ∷ t ∷ u ∷ v ∷ w ∷ []) i 0 < 256
+bytes_small p q r s t u v w a b c d e f g h zero = a
+bytes_small p q r s t u v w a b c d e f g h (suc zero) = b
+bytes_small p q r s t u v w a b c d e f g h (suc (suc zero)) = c
+bytes_small p q r s t u v w a b c d e f g h (suc (suc (suc zero))) = d
+bytes_small p q r s t u v w a b c d e f g h (suc (suc (suc (suc zero)))) = e
+bytes_small p q r s t u v w a b c d e f g h (suc (suc (suc (suc (suc zero))))) = f
+bytes_small p q r s t u v w a b c d e f g h (suc (suc (suc (suc (suc (suc zero)))))) = g
+bytes_small p q r s t u v w a b c d e f g h (suc (suc (suc (suc (suc (suc (suc zero))))))) = h
+bytes_small p q r s t u v w a b c d e f g h (suc (suc (suc (suc (suc (suc (suc (suc i)))))))) = omega arith
+
+half_read : (p q r s t u v w n : ℕ) → p < 256 → q < 256 → r < 256 → s < 256 → t < 256 → u < 256 → v < 256 → w < 256
+    → n ≡ from_le_bytes w64 (p ∷ q ∷ r ∷ s ∷ t ∷ u ∷ v ∷ w ∷ []) → rows (n % 4294967296) ++ rows (n / 4294967296) ≡ p ∷ q ∷ r ∷ s ∷ t ∷ u ∷ v ∷ w ∷ []
+half_read p q r s t u v w n a b c d e f g h is = rows_split n ∙ le_bytes_8 (p ∷ q ∷ r ∷ s ∷ t ∷ u ∷ v ∷ w ∷ []) n refl
+    (bytes_small p q r s t u v w a b c d e f g h) is
+
+pub columns_are : (s : List ℕ) (left right : ℕ) → ((i : ℕ) → get_or s i 0 < 256)
+    → left ≡ from_le_bytes w64 (get_or s 0 0 ∷ get_or s 1 0 ∷ get_or s 2 0 ∷ get_or s 3 0 ∷ get_or s 4 0 ∷ get_or s 5 0 ∷ get_or s 6 0 ∷ get_or s 7 0 ∷ [])
+    → right ≡ from_le_bytes w64 (get_or s 8 0 ∷ get_or s 9 0 ∷ get_or s 10 0 ∷ get_or s 11 0 ∷ get_or s 12 0 ∷ get_or s 13 0 ∷ get_or s 14 0 ∷ get_or s 15 0 ∷ [])
+    → state (left % 4294967296) (left / 4294967296) (right % 4294967296) (right / 4294967296) ≡ sixteen (λ k. get_or s k 0)
+unfolding state
+columns_are s left right small p q =
+    let first = half_read _ _ _ _ _ _ _ _ left (small 0) (small 1) (small 2) (small 3) (small 4) (small 5) (small 6) (small 7) p in
+    let second = half_read _ _ _ _ _ _ _ _ right (small 8) (small 9) (small 10) (small 11) (small 12) (small 13) (small 14) (small 15) q in
+    λ i. first i ++ second i
 
 pub round_is : (a b c d ka kb kc kd w x y z : ℕ) → IsMixedColumn a b c d ka w → IsMixedColumn b c d a kb x → IsMixedColumn c d a b kc y → IsMixedColumn d a b c kd z
     → state w x y z ≡ block_sum (mixed_columns (replaced (state a b c d))) (state ka kb kc kd)

@@ -14,17 +14,19 @@ pub(crate) struct Columns {
     d: u32,
 }
 
-/// The columns of a block.
+/// The columns of a block. It is read in halves of 64 bits, as `block_of` writes it.
 #[inline(always)]
 pub(crate) fn columns_of(block: &[u8; 16]) -> Columns
     ensures { state result.a result.b result.c result.d ≡ sixteen (λ k. slice_index block.now k) }
 {
     let s = block;
+    let left = u64::from_le_bytes([s[0], s[1], s[2], s[3], s[4], s[5], s[6], s[7]]);
+    let right = u64::from_le_bytes([s[8], s[9], s[10], s[11], s[12], s[13], s[14], s[15]]);
     Columns {
-        a: u32::from_le_bytes([s[0], s[1], s[2], s[3]]),
-        b: u32::from_le_bytes([s[4], s[5], s[6], s[7]]),
-        c: u32::from_le_bytes([s[8], s[9], s[10], s[11]]),
-        d: u32::from_le_bytes([s[12], s[13], s[14], s[15]]),
+        a: (left % 0x1_0000_0000) as u32,
+        b: (left >> 32) as u32,
+        c: (right % 0x1_0000_0000) as u32,
+        d: (right >> 32) as u32,
     }
 }
 
@@ -33,13 +35,11 @@ pub(crate) fn columns_of(block: &[u8; 16]) -> Columns
 pub(crate) fn block_of(s: Columns) -> [u8; 16]
     ensures { result ≡ state s.a s.b s.c s.d }
 {
-    let a = s.a.to_le_bytes();
-    let b = s.b.to_le_bytes();
-    let c = s.c.to_le_bytes();
-    let d = s.d.to_le_bytes();
+    let left = (s.a as u64 + s.b as u64 * 0x1_0000_0000).to_le_bytes();
+    let right = (s.c as u64 + s.d as u64 * 0x1_0000_0000).to_le_bytes();
     [
-        a[0], a[1], a[2], a[3], b[0], b[1], b[2], b[3], c[0], c[1], c[2], c[3], d[0], d[1], d[2],
-        d[3],
+        left[0], left[1], left[2], left[3], left[4], left[5], left[6], left[7], right[0], right[1],
+        right[2], right[3], right[4], right[5], right[6], right[7],
     ]
 }
 

@@ -92,16 +92,17 @@ pub(crate) fn block_of(m: &[u8], i: usize) -> [u8; 16]
     }
 }
 
-/// The chain from `start` over the first blocks.
+/// The chain from `start` over the first blocks. It goes from block to block as a number, which stands in two registers.
 pub(crate) fn chain_of(aes: &Aes, start: &[u8; 16], m: &[u8], blocks: usize) -> [u8; 16]
     requires { 16 * blocks ≤ length m.now + 15 }
     ensures { result ≡ chained aes.now start.now m.now blocks }
 {
-    let mut s = *start;
+    let mut s = u128::from_le_bytes(*start);
     for i in 0..blocks {
-        s = aes.encrypt_block(&block_sum_of(&s, &block_of(m, i)));
+        let sum = block_sum_of(&s.to_le_bytes(), &block_of(m, i));
+        s = u128::from_le_bytes(aes.encrypt_block(&sum));
     }
-    s
+    s.to_le_bytes()
 }
 
 /// Masks block i of the text where it stands, as far as the text goes, under `key`.

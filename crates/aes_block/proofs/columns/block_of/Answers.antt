@@ -1,7 +1,7 @@
-use Rattle.std.proofs.Common.{refl}
-use Rattle.aes_block.specs.Columns.{state}
+use Rattle.std.proofs.Common.{arith}
+use Rattle.aes_block.proofs.Rounds.{block_is}
 use Rattle.aes_block.proofs.columns.block_of.Goals as goal
 
 pub returns : goal.returns
-unfolding state
-returns c = rw (c.to_le_bytes-a.ensures, c.to_le_bytes-b.ensures, c.to_le_bytes-c.ensures, c.to_le_bytes-d.ensures) refl
+returns c = rw (c.to_le_bytes-left.ensures, c.to_le_bytes-right.ensures) (block_is c.args.s.a c.args.s.b c.args.s.c
+    c.args.s.d (omega arith) (omega arith))

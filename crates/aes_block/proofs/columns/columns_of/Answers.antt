@@ -5,5 +5,4 @@ use Rattle.aes_block.proofs.columns.columns_of.Goals as goal
 pub returns : goal.returns
 returns c =
     let small : (i : ℕ) → get_or c.args.block.now i 0 < 256 = search rules in
-    columns_are c.args.block.now _ _ _ _ small c.from_le_bytes.ensures c.from_le_bytes-2.ensures c.from_le_bytes-3.ensures
-    c.from_le_bytes-4.ensures
+    columns_are c.args.block.now _ _ small c.from_le_bytes-left.ensures c.from_le_bytes-right.ensures
