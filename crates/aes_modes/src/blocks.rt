@@ -92,17 +92,54 @@ pub(crate) fn block_of(m: &[u8], i: usize) -> [u8; 16]
     }
 }
 
-/// The chain from `start` over the first blocks. It goes from block to block as a number, which stands in two registers.
-pub(crate) fn chain_of(aes: &Aes, start: &[u8; 16], m: &[u8], blocks: usize) -> [u8; 16]
-    requires { 16 * blocks ≤ length m.now + 15 }
+/// The chain from `start` over whole blocks. It goes from block to block as a number, which stands in two registers.
+fn whole_chain_of(aes: &Aes, start: &[u8; 16], m: &[u8], blocks: usize) -> [u8; 16]
+    requires { 16 * blocks ≤ length m.now }
     ensures { result ≡ chained aes.now start.now m.now blocks }
 {
     let mut s = u128::from_le_bytes(*start);
     for i in 0..blocks {
-        let sum = block_sum_of(&s.to_le_bytes(), &block_of(m, i));
+        let block = whole_block_of(m, i);
+        let sum = block_sum_of(&s.to_le_bytes(), &block);
         s = u128::from_le_bytes(aes.encrypt_block(&sum));
     }
     s.to_le_bytes()
+}
+
+/// The chain from `start` over the first blocks.
+pub(crate) fn chain_of(aes: &Aes, start: &[u8; 16], m: &[u8], blocks: usize) -> [u8; 16]
+    requires { 16 * blocks ≤ length m.now + 15 }
+    ensures { result ≡ chained aes.now start.now m.now blocks }
+{
+    let whole = m.len() / 16;
+    if blocks <= whole {
+        return whole_chain_of(aes, start, m, blocks);
+    }
+    let s = whole_chain_of(aes, start, m, whole);
+    enciphered(aes, &block_sum_of(&s, &part_of_block_of(m, whole)))
+}
+
+/// Masks a whole block i of the text where it stands, under `key`.
+#[inline(always)]
+fn mask_whole_block(text: &mut [u8], i: usize, key: &[u8; 16])
+    requires { 16 * i + 16 ≤ length text.old }
+    ensures { text.new ≡ take (16 * i) text.old ++ (take 16 (block_sum (block_at text.old i) key.now) ++ drop (16 * i +
+        16) text.old) }
+{
+    let masked = block_sum_of(&whole_block_of(text, i), key);
+    text[16 * i..16 * i + 16].copy_from_slice(&masked[..16]);
+}
+
+/// Masks the rest of a text, which is no whole block.
+fn mask_part(text: &mut [u8], i: usize, key: &[u8; 16])
+    requires before { 16 * i ≤ length text.old }
+    requires part { length text.old < 16 * i + 16 }
+    ensures { text.new ≡ take (16 * i) text.old ++ (take (length text.old - 16 * i) (block_sum (block_at text.old i)
+        key.now) ++ drop (16 * i + (length text.old - 16 * i)) text.old) }
+{
+    let masked = block_sum_of(&part_of_block_of(text, i), key);
+    let rest = text.len() - 16 * i;
+    text[16 * i..16 * i + rest].copy_from_slice(&masked[..rest]);
 }
 
 /// Masks block i of the text where it stands, as far as the text goes, under `key`.
@@ -112,12 +149,10 @@ pub(crate) fn mask_block(text: &mut [u8], i: usize, key: &[u8; 16])
     ensures { text.new ≡ take (16 * i) text.old ++ (take (min (length text.old - 16 * i) 16) (block_sum (block_at
         text.old i) key.now) ++ drop (16 * i + min (length text.old - 16 * i) 16) text.old) }
 {
-    let masked = block_sum_of(&block_of(text, i), key);
-    let rest = text.len() - 16 * i;
-    if rest >= 16 {
-        text[16 * i..16 * i + 16].copy_from_slice(&masked[..16]);
+    if text.len() - 16 * i >= 16 {
+        mask_whole_block(text, i, key)
     } else {
-        text[16 * i..16 * i + rest].copy_from_slice(&masked[..rest]);
+        mask_part(text, i, key)
     }
 }
 
