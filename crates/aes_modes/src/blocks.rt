@@ -92,7 +92,7 @@ pub(crate) fn block_of(m: &[u8], i: usize) -> [u8; 16]
     }
 }
 
-/// The chain from `start` over whole blocks. It goes from block to block as a number, which stands in two registers.
+/// The chain from `start` over whole blocks.
 fn whole_chain_of(aes: &Aes, start: &[u8; 16], m: &[u8], blocks: usize) -> [u8; 16]
     requires { 16 * blocks ≤ length m.now }
     ensures { result ≡ chained aes.now start.now m.now blocks }
