@@ -1,10 +1,9 @@
 -- The bytes of a sum of words, and the orders in which a column's four terms are summed.
-use Rattle.std.proofs.Common.{◌≡◌, ℕ, ◌/◌, ◌%◌, refl, sym, ap, ◌∙◌}
+use Rattle.std.proofs.Common.{◌≡◌, ℕ, ◌/◌, ◌%◌, sym, ap, ◌∙◌}
 use Rattle.std.specs.Int.Bits.{bit_xor, xor_assoc}
 use Rattle.std.proofs.lemmas.Nat.{xor_comm, xor_shr, xor_mod}
 use Rattle.cipher_defs.specs.Field.{doubled}
 use Rattle.cipher_defs.specs.Aes.{mixed}
-use Rattle.aes_block.specs.Columns.{row0, row1, row2, row3}
 use Rattle.aes_block.proofs.Table.{tripled}
 
 pub row0-xor : (a b : ℕ) → bit_xor a b % 256 ≡ bit_xor (a % 256) (b % 256)

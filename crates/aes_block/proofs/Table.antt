@@ -1,5 +1,5 @@
 -- The tables are the S-box and its multiples, row by row: all entries, by computation.
-use Rattle.std.proofs.Common.{◌≡◌, ℕ, ◌<◌, Bool, true, ◌&&◌, eqb, List, [], get_or, refl}
+use Rattle.std.proofs.Common.{◌≡◌, ℕ, ◌<◌, Bool, true, ◌&&◌, eqb, [], get_or, refl}
 use Rattle.std.specs.Int.Bits.{bit_xor}
 use Rattle.std.proofs.lemmas.Bool.{eqb-true}
 use Rattle.cipher_defs.specs.Field.{doubled, sbox}

@@ -1,5 +1,5 @@
-use Rattle.std.proofs.Common.{ℕ, ◌/◌, ◌%◌, refl, arith}
-use Rattle.std.specs.Int.Bits.{bit_xor, xor_zero_l, xor_zero_r}
+use Rattle.std.proofs.Common.{refl, arith}
+use Rattle.std.specs.Int.Bits.{xor_zero_l, xor_zero_r}
 use Rattle.aes_block.specs.Columns.{row0, row1, row2, row3}
 use Rattle.aes_block.proofs.Table.{entry4, entry5, entry6, entry7}
 use Rattle.aes_block.proofs.Sums.{row0-xor, row1-xor, row2-xor, row3-xor}

@@ -1,4 +1,4 @@
-use Rattle.std.proofs.Common.{ℕ, ◌/◌, ◌%◌, ap, ◌∙◌, arith}
+use Rattle.std.proofs.Common.{ℕ, ap, arith}
 use Rattle.std.specs.Int.Bits.{bit_xor}
 use Rattle.cipher_defs.specs.Field.{sbox}
 use Rattle.aes_block.specs.Columns.{row0, row1, row2, row3}
