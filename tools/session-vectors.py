@@ -1,5 +1,5 @@
 #!/usr/bin/env python3
-"""Writes the table of logon tokens, keys, signatures and sealed messages for a program crates/logon_vectors, which isn't here yet.
+"""Writes the table of logon tokens, keys, signatures and sealed messages that the program crates/logon_vectors is run on.
 
 usage: tools/session-vectors.py
 
@@ -65,7 +65,7 @@ def said(word):
 
 def published(table):
     """MS-NLMP 4.2.4: User, Password, Domain, all keys and messages as printed there."""
-    table.title("MS-NLMP 4.2.4, as published: NTOWFv2, proof, session base key, messages, and the signature of a message")
+    table.title("MS-NLMP 4.2.4, as published: NTOWFv2, proof, session base key, messages, and a message enciphered under a sealing key")
     info = pairs((2, utf16("Domain")), (1, utf16("Server")))
     owf, blob = f.ntowf("Password", "User", "Domain"), f.temp(0, b"\xaa" * 8, info)
     answer = f.proof(owf, CHALLENGE, blob)
@@ -169,6 +169,7 @@ class Logon:
         owf, blob = f.ntowf(password, user, domain), f.temp(NOW, b"\x11" * 8, pairs(*kept))
         answer = f.proof(owf, CHALLENGE, blob)
         base = f.hmac_md5(owf, answer)
+        self.name = {"USER": "User", "BOB": "bob"}.get(user.upper())
         self.exchanged = bool(flags & 0x40000000)
         self.key = exported if self.exchanged else base
         carried = f.Rc4(base).apply(exported) if self.exchanged else b""
@@ -176,7 +177,7 @@ class Logon:
         self.third.mic = f.mic(self.key, self.first, self.second, self.third.spelled())
 
     def row(self, table, answer=None):
-        words = answer or f"{self.key.hex()} {'exchanged' if self.exchanged else 'plain'}"
+        words = answer or f"{self.key.hex()} {'exchanged' if self.exchanged else 'plain'} {self.name}"
         table.row(f"check {self.first.hex()} {CHALLENGE.hex()} {NOW} {self.third.spelled().hex()}", words)
 
 
@@ -270,7 +271,7 @@ def init_row(table, token, listed, ntlm_first, mech_token=None, mic=None):
     table.row(
         f"init {token.hex()}",
         f"list {listed.hex()} ntlm_first {str(ntlm_first).lower()} token {word_of(mech_token)} mic {word_of(mic)}",
-        f.init_token(listed, mech_token, mic).hex(),
+        f.init_token(listed, mech_token, mic).hex() if listed == f.mech_list(f.NTLM_OID) else "with another mechanism",
     )
 
 
@@ -364,7 +365,7 @@ def choices(table):
 
 
 def chains(table):
-    table.title("the preauthentication chain (MS-SMB2 3.1.4.4.1)")
+    table.title("the preauthentication chain (MS-SMB2 3.3.5.4, 3.3.5.5)")
     five = [said(f"{count}*{first}") for count, first in ((190, 1), (250, 2), (150, 3), (220, 4), (333, 5))]
     words = ["190*1", "250*2", "150*3", "220*4", "333*5"]
     for count in range(6):
@@ -389,9 +390,15 @@ def derivations(table):
             asked = f"keys {base.hex()} {words} {cipher} {algorithm} {session}"
             table.row(asked, keys_shown(keys, keys.signing, algorithm, cipher, session))
             bound = f.Keys(bytes(range(16)), said("64*31"), cipher).signing
-            table.row(f"{asked} {bytes(range(16)).hex()} 64*31", keys_shown(keys, bound, algorithm, cipher, session))
+            table.row(f"bound{asked[4:]} {bytes(range(16)).hex()} 64*31", keys_shown(keys, bound, algorithm, cipher, session))
         unsealed = f.Keys(base, said(words), 0)
         table.row(f"signing {base.hex()} {words}", unsealed.signing.hex())
+
+
+def nonces(table):
+    table.title("the first nonces of a channel: 8 bytes of counter, 2 of the channel's number, zeros (2.2.41)")
+    for channel, count in ((1, 3), (513, 2), (65535, 1)):
+        table.row(f"nonces {channel} {count}", b"".join(struct.pack("<QH6x", counter, channel) for counter in range(count)).hex())
 
 
 def keys_shown(keys, signing, algorithm, cipher, session):
@@ -483,6 +490,7 @@ def main():
     choices(table)
     chains(table)
     derivations(table)
+    nonces(table)
     signatures(table)
     seals(table)
     table.write("logon_vectors")

@@ -1,18 +1,9 @@
--- One more round, one more power, one more word.
+-- One more power, one more word.
 use Rattle.std.proofs.Common.{◌≡◌, ℕ, suc, ◌+◌, ◌<◌, List, [], length, take, refl, ap, ◌∙◌, arith}
 use Rattle.std.proofs.Math.ListN.{set}
 use Rattle.std.proofs.lemmas.List.{take_more_set, length-take-le}
 use Rattle.cipher_defs.specs.Field.{doubled}
-use Rattle.cipher_defs.specs.Aes.{after, block_sum, mixed_columns, replaced, round_key, constant, expanded, next_word}
-
-pub after_none : (ws : List (List ℕ)) (block : List ℕ) → block_sum block (round_key ws 0) ≡ after ws block 0
-unfolding after
-after_none ws block = refl
-
-pub after_more : (ws : List (List ℕ)) (block : List ℕ) (i : ℕ) → block_sum (mixed_columns (replaced (after ws block i)))
-    (round_key ws (i + 1)) ≡ after ws block (i + 1)
-unfolding after
-after_more ws block i = let k : i + 1 ≡ suc i = omega arith in rw k refl
+use Rattle.cipher_defs.specs.Aes.{constant, expanded, next_word}
 
 pub constant_none : 1 ≡ constant 0
 unfolding constant

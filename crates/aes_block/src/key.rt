@@ -1,6 +1,6 @@
-//! The key expansion (FIPS 197, 5.2) and the round keys.
+//! The key expansion (FIPS 197, 5.2).
 ghost use Rattle.std.specs.Prelude.{◌≡◌, ◌+◌, ◌*◌, ◌≤◌, ◌<◌, length, take, slice_set};
-ghost use Rattle.cipher_defs.specs.Aes.{constant, sub_word, rot_word, word_sum, word_change, next_word, expanded, round_key};
+ghost use Rattle.cipher_defs.specs.Aes.{constant, sub_word, rot_word, word_sum, word_change, next_word, expanded};
 
 use crate::state::{doubled_of, substituted};
 
@@ -33,6 +33,7 @@ fn word_sum_of(v: [u8; 4], w: [u8; 4]) -> [u8; 4]
 }
 
 /// What is added to the word a key's length before word i.
+#[inline(always)]
 #[tactic(auto, unfolding(cipher_defs::specs::Aes::word_change))]
 fn word_change_of(key_words: usize, before: [u8; 4], i: usize) -> [u8; 4]
     requires { 0 < key_words }
@@ -50,6 +51,7 @@ fn word_change_of(key_words: usize, before: [u8; 4], i: usize) -> [u8; 4]
 }
 
 /// The word behind those that there are.
+#[inline(always)]
 #[tactic(auto, unfolding(cipher_defs::specs::Aes::next_word))]
 fn next_word_of(key: &[u8], key_words: usize, words: &[[u8; 4]]) -> [u8; 4]
     requires some { 0 < key_words }
@@ -65,7 +67,8 @@ fn next_word_of(key: &[u8], key_words: usize, words: &[[u8; 4]]) -> [u8; 4]
     }
 }
 
-/// Expands a key into the first words of the array.
+/// Expands a key into the first words of the array. Inlined, it divides by a constant.
+#[inline(always)]
 pub(crate) fn expanded_of(key: &[u8], key_words: usize, count: usize) -> [[u8; 4]; 60]
     requires some { 0 < key_words }
     requires whole { 4 * key_words ≤ length key.now }
@@ -77,21 +80,4 @@ pub(crate) fn expanded_of(key: &[u8], key_words: usize, count: usize) -> [[u8; 4
         words[i] = next_word_of(key, key_words, &words[..i]);
     }
     words
-}
-
-/// The key of a round: four words.
-#[inline(always)]
-#[tactic(auto, unfolding(cipher_defs::specs::Aes::round_key))]
-pub(crate) fn round_key_of(words: &[[u8; 4]], round: usize) -> [u8; 16]
-    requires { 4 * round + 4 ≤ length words.now }
-    ensures { result ≡ round_key words.now round }
-{
-    let a = words[4 * round];
-    let b = words[4 * round + 1];
-    let c = words[4 * round + 2];
-    let d = words[4 * round + 3];
-    [
-        a[0], a[1], a[2], a[3], b[0], b[1], b[2], b[3], c[0], c[1], c[2], c[3], d[0], d[1], d[2],
-        d[3],
-    ]
 }

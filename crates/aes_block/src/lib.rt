@@ -1,10 +1,12 @@
-//! AES with keys of 128 and 256 bits (FIPS 197), by a table of 256 bytes.
+//! AES with keys of 128 and 256 bits (FIPS 197), by tables of 256 words.
 #![tactic(auto)]
 
 mod cipher;
+mod columns;
 mod key;
 mod sbox;
 mod state;
+mod tables;
 
 pub use cipher::Aes;
 pub use state::block_sum_of;

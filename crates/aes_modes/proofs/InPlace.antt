@@ -75,3 +75,7 @@ ccm_stays ws nonce added old new tag own n len is differ made =
 pub ccm_again : (ws : List (List ℕ)) (nonce old once twice : List ℕ) → once ≡ Ccm.ciphertext ws nonce old → twice ≡
     Ccm.ciphertext ws nonce once → twice ≡ old
 ccm_again ws nonce old once twice made again = again ∙ masked_twice ws (λ i. Ccm.counter_block nonce (i + 1)) old once made
+
+-- what is written through a slice of a vector
+pub written : (new old : List ℕ) (n : ℕ) → n ≡ length new → take n (new ++ drop (length new) old) ≡ new
+written new old n len = take_at new (drop (length new) old) n (sym len)

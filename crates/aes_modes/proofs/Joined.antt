@@ -7,7 +7,7 @@ use Rattle.cipher_defs.specs.Blocks.{block_at, block_count, chained}
 use Rattle.cipher_defs.specs.Cmac.{zeros, before_last, rest_of, last_block, cmac}
 use Rattle.cipher_defs.specs.Ghash.{product, hashed, hashed_all, ghash}
 
-same_sixteen : (f g : ℕ → ℕ) → ((k : ℕ) → k < 16 → f k ≡ g k) → sixteen f ≡ sixteen g
+pub same_sixteen : (f g : ℕ → ℕ) → ((k : ℕ) → k < 16 → f k ≡ g k) → sixteen f ≡ sixteen g
 same_sixteen f g h =
     let h0 = h 0 (omega arith) in let h1 = h 1 (omega arith) in let h2 = h 2 (omega arith) in let h3 = h 3 (omega arith) in
     let h4 = h 4 (omega arith) in let h5 = h 5 (omega arith) in let h6 = h 6 (omega arith) in let h7 = h 7 (omega arith) in

@@ -6,4 +6,5 @@ mod InPlace
 mod Joined
 pub mod Linear
 pub mod Masking
+mod Sixteen
 pub mod Unmasking

@@ -1,7 +1,7 @@
 -- A text masked block by block is masked byte by byte.
-use Rattle.std.proofs.Common.{◌≡◌, ℕ, zero, suc, ◌+◌, ◌-◌, ◌*◌, ◌/◌, ◌%◌, ◌≤◌, ◌<◌, min, List, [], ◌∷◌, ◌++◌, length, take, get_or, refl, sym, ap, ◌∙◌, append_assoc, arith}
+use Rattle.std.proofs.Common.{◌≡◌, ℕ, zero, suc, ◌+◌, ◌-◌, ◌*◌, ◌/◌, ◌%◌, ◌≤◌, ◌<◌, min, List, [], ◌∷◌, ◌++◌, length, take, drop, get_or, refl, sym, ap, ◌∙◌, append_assoc, arith}
 use Rattle.std.proofs.Math.Seq.{take-suc}
-use Rattle.std.proofs.lemmas.List.{append-nil}
+use Rattle.std.proofs.lemmas.List.{append-nil, take_all, drop-drop}
 use Rattle.std.specs.Int.Bits.{bit_xor}
 use Rattle.cipher_defs.specs.Aes.{cipher, sixteen, block_sum}
 use Rattle.cipher_defs.specs.Blocks.{block_at, masked, stream_byte}
@@ -93,3 +93,12 @@ masked_front ws f m n le =
     let e : masked ws f m (16 * 0 + n) ≡ take n (block_sum (block_at m 0) (cipher ws (f 0))) = masked_block ws f m 0 n le in
     let z : 16 * 0 + n ≡ n = omega arith in
     sym (ap (λ (j : ℕ). masked ws f m j) (sym z) ∙ e)
+
+-- a whole block, written over the one that stood there
+pub whole_put : (text key : List ℕ) (i : ℕ) → take (16 * i) text ++ (block_sum (block_at text i) key ++ drop 16 (drop (16
+    * i) text)) ≡ take (16 * i) text ++ (take 16 (block_sum (block_at text i) key) ++ drop (16 * i + 16) text)
+whole_put text key i =
+    let len : length (block_sum (block_at text i) key) ≡ 16 = sum_length (block_at text i) key in
+    let all : take 16 (block_sum (block_at text i) key) ≡ block_sum (block_at text i) key = take_all 16 (block_sum
+    (block_at text i) key) (omega arith) in
+    rw (all, drop-drop 16 (16 * i) text) refl

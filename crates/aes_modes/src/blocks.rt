@@ -1,10 +1,17 @@
 //! What the modes share: blocks of bytes, the chain over them, masking block by block, and the comparison of tags.
 ghost use Rattle.std.specs.Prelude.{◌≡◌, ◌≤◌, ◌<◌, ◌*◌, ◌+◌, ◌-◌, ◌/◌, ◌++◌, ◌↔◌, IsTrue, length, take, drop, min, slice_index, OnOk};
-ghost use Rattle.cipher_defs.specs.Aes.{block_sum};
+ghost use Rattle.cipher_defs.specs.Aes.{block_sum, cipher};
 ghost use Rattle.cipher_defs.specs.Blocks.{block_at, block_count, chained};
 
 use aes_block::{Aes, block_sum_of};
-use std::alloc::AllocError;
+
+/// A block under the key, outside of the loops over a message.
+#[inline(never)]
+pub(crate) fn enciphered(aes: &Aes, block: &[u8; 16]) -> [u8; 16]
+    ensures { result ≡ cipher aes.now block.now }
+{
+    aes.encrypt_block(block)
+}
 
 /// How many blocks the bytes fill, the last one perhaps in part.
 pub(crate) fn block_count_of(m: &[u8]) -> usize
@@ -85,33 +92,54 @@ pub(crate) fn block_of(m: &[u8], i: usize) -> [u8; 16]
     }
 }
 
+/// The chain from `start` over whole blocks.
+fn whole_chain_of(aes: &Aes, start: &[u8; 16], m: &[u8], blocks: usize) -> [u8; 16]
+    requires { 16 * blocks ≤ length m.now }
+    ensures { result ≡ chained aes.now start.now m.now blocks }
+{
+    let mut s = u128::from_le_bytes(*start);
+    for i in 0..blocks {
+        let block = whole_block_of(m, i);
+        let sum = block_sum_of(&s.to_le_bytes(), &block);
+        s = u128::from_le_bytes(aes.encrypt_block(&sum));
+    }
+    s.to_le_bytes()
+}
+
 /// The chain from `start` over the first blocks.
 pub(crate) fn chain_of(aes: &Aes, start: &[u8; 16], m: &[u8], blocks: usize) -> [u8; 16]
     requires { 16 * blocks ≤ length m.now + 15 }
     ensures { result ≡ chained aes.now start.now m.now blocks }
 {
-    let mut s = *start;
-    for i in 0..blocks {
-        s = aes.encrypt_block(&block_sum_of(&s, &block_of(m, i)));
+    let whole = m.len() / 16;
+    if blocks <= whole {
+        return whole_chain_of(aes, start, m, blocks);
     }
-    s
+    let s = whole_chain_of(aes, start, m, whole);
+    enciphered(aes, &block_sum_of(&s, &part_of_block_of(m, whole)))
 }
 
-/// Adds block i of the text, as far as the text goes, under `key`.
+/// Masks a whole block i of the text where it stands, under `key`.
 #[inline(always)]
-pub(crate) fn push_masked_block(
-    out: &mut Vec<u8>,
-    text: &[u8],
-    i: usize,
-    key: &[u8; 16],
-) -> Result<(), AllocError>
-    requires { 16 * i ≤ length text.now }
-    ensures { OnOk result (out.new.items ≡ out.old.items ++ take (min (length text.now - 16 * i) 16) (block_sum
-        (block_at text.now i) key.now)) }
+fn mask_whole_block(text: &mut [u8], i: usize, key: &[u8; 16])
+    requires { 16 * i + 16 ≤ length text.old }
+    ensures { text.new ≡ take (16 * i) text.old ++ (take 16 (block_sum (block_at text.old i) key.now) ++ drop (16 * i +
+        16) text.old) }
 {
-    let masked = block_sum_of(&block_of(text, i), key);
-    let count = (text.len() - 16 * i).min(16);
-    out.extend_from_slice(&masked[..count])
+    let masked = block_sum_of(&whole_block_of(text, i), key);
+    text[16 * i..16 * i + 16].copy_from_slice(&masked[..16]);
+}
+
+/// Masks the rest of a text, which is no whole block.
+fn mask_part(text: &mut [u8], i: usize, key: &[u8; 16])
+    requires before { 16 * i ≤ length text.old }
+    requires part { length text.old < 16 * i + 16 }
+    ensures { text.new ≡ take (16 * i) text.old ++ (take (length text.old - 16 * i) (block_sum (block_at text.old i)
+        key.now) ++ drop (16 * i + (length text.old - 16 * i)) text.old) }
+{
+    let masked = block_sum_of(&part_of_block_of(text, i), key);
+    let rest = text.len() - 16 * i;
+    text[16 * i..16 * i + rest].copy_from_slice(&masked[..rest]);
 }
 
 /// Masks block i of the text where it stands, as far as the text goes, under `key`.
@@ -121,12 +149,18 @@ pub(crate) fn mask_block(text: &mut [u8], i: usize, key: &[u8; 16])
     ensures { text.new ≡ take (16 * i) text.old ++ (take (min (length text.old - 16 * i) 16) (block_sum (block_at
         text.old i) key.now) ++ drop (16 * i + min (length text.old - 16 * i) 16) text.old) }
 {
-    let masked = block_sum_of(&block_of(text, i), key);
-    let count = (text.len() - 16 * i).min(16);
-    text[16 * i..16 * i + count].copy_from_slice(&masked[..count]);
+    if text.len() - 16 * i >= 16 {
+        mask_whole_block(text, i, key)
+    } else {
+        mask_part(text, i, key)
+    }
 }
 
 /// Whether two tags of one length are the same. It takes the same time whatever they are.
+///
+/// All differences are gathered, and the result is compared once: the work is the same whatever the bytes are. No contract
+/// can say so, and a loop that leaves at the first difference would prove as well, so the body is to keep this form. Whoever
+/// sends tags could else learn from the time how many of their bytes were right.
 pub fn is_same(a: &[u8], b: &[u8]) -> bool
     requires { length a.now ≡ length b.now }
     ensures { IsTrue result ↔ (a.now ≡ b.now) }

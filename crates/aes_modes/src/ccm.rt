@@ -1,11 +1,12 @@
 //! CCM with a nonce of 7 to 13 bytes and a tag of 4, 6 .. 16 (SP 800-38C, with the formatting of its appendix A).
 ghost use Rattle.std.specs.Prelude.{◌≡◌, ◌<◌, ◌≤◌, ◌+◌, ◌-◌, ◌*◌, ◌^◌, ◌↔◌, IsTrue, length, take, nat_le, ◌==◌, if◌then◌else◌, slice_index, ◌++◌, IfOk};
+ghost use Rattle.aes_modes.specs.Counters.{number_block};
 ghost use Rattle.aes_modes.specs.InPlace.{OpensInPlace};
 ghost use Rattle.cipher_defs.specs.Blocks.{big_byte};
-ghost use Rattle.cipher_defs.specs.Aes.{cipher};
+ghost use Rattle.cipher_defs.specs.Aes.{block_sum, cipher};
 ghost use Rattle.cipher_defs.specs.Ccm.{nonce_block, flags, counter_block, mac, ciphertext, tag_of, sealed, IsFit, Opens};
 
-use crate::blocks::{block_count_of, block_of, chain_of, is_same, mask_block, push_masked_block};
+use crate::blocks::{block_count_of, block_of, chain_of, enciphered, is_same, mask_block};
 use crate::prefix::added_chain_of;
 use aes_block::{Aes, block_sum_of};
 use smb_bytes::Bytes;
@@ -91,7 +92,7 @@ fn mac_of(aes: &Aes, nonce: &[u8], added: &[u8], text: &[u8], tag: usize) -> [u8
     ensures { result ≡ mac aes.now nonce.now added.now text.now tag }
 {
     let first = nonce_block_of(flags_of(nonce, added, tag), nonce, text.len() as u64);
-    let behind_added = added_chain_of(aes, &aes.encrypt_block(&first), added);
+    let behind_added = added_chain_of(aes, &enciphered(aes, &first), added);
     chain_of(aes, &behind_added, text, block_count_of(text))
 }
 
@@ -103,19 +104,42 @@ fn tag_block_of(aes: &Aes, nonce: &[u8], added: &[u8], text: &[u8], tag: usize) 
     ensures { take tag result ≡ tag_of aes.now nonce.now added.now text.now tag }
 {
     let mac = mac_of(aes, nonce, added, text, tag);
-    let mask = aes.encrypt_block(&counter_block_of(nonce, 0));
+    let mask = enciphered(aes, &counter_block_of(nonce, 0));
     block_sum_of(&block_of(&mac, 0), &mask)
+}
+
+/// Counter block i by that of number 0, in whose last bytes the number then stands.
+#[inline(always)]
+fn counted(zero: &[u8; 16], i: u64) -> [u8; 16]
+    ensures { result ≡ block_sum zero.now (number_block i) }
+{
+    let n = i.to_be_bytes();
+    let number = [
+        0, 0, 0, 0, 0, 0, 0, 0, n[0], n[1], n[2], n[3], n[4], n[5], n[6], n[7],
+    ];
+    block_sum_of(zero, &number)
 }
 
 /// What masks block i of a text: its counter block, from 1 on, enciphered.
 #[inline(always)]
-fn stream_block(aes: &Aes, nonce: &[u8], i: usize) -> [u8; 16]
+fn stream_block(aes: &Aes, zero: &[u8; 16], i: usize) -> [u8; 16]
+    requires { i + 1 < 2 ^ 64 }
+    ensures { result ≡ cipher aes.now (block_sum zero.now (number_block (i + 1))) }
+{
+    aes.encrypt_block(&counted(zero, i as u64 + 1))
+}
+
+/// Masks a text where it stands, under the counter blocks from 1 on.
+fn mask(aes: &Aes, nonce: &[u8], text: &mut [u8])
     requires long { 7 ≤ length nonce.now }
     requires short { length nonce.now ≤ 13 }
-    requires fits { i + 1 < 2 ^ 64 }
-    ensures { result ≡ cipher aes.now (counter_block nonce.now (i + 1)) }
+    requires fits { length text.old < 256 ^ (15 - length nonce.now) }
+    ensures { text.new ≡ ciphertext aes.now nonce.now text.old }
 {
-    aes.encrypt_block(&counter_block_of(nonce, i + 1))
+    let zero = counter_block_of(nonce, 0);
+    for i in 0..block_count_of(text) {
+        mask_block(text, i, &stream_block(aes, &zero, i));
+    }
 }
 
 /// The text under the counter blocks from 1 on, in a vector with `room` bytes more.
@@ -128,13 +152,13 @@ fn ciphertext_of(
 ) -> Result<Vec<u8>, AllocError>
     requires long { 7 ≤ length nonce.now }
     requires short { length nonce.now ≤ 13 }
+    requires fits { length text.now < 256 ^ (15 - length nonce.now) }
     requires room { room ≤ 16 }
     ensures { IfOk result (λ v. v.items ≡ ciphertext aes.now nonce.now text.now) }
 {
     let mut out = Vec::with_capacity(alloc, text.len() + room)?;
-    for i in 0..block_count_of(text) {
-        push_masked_block(&mut out, text, i, &stream_block(aes, nonce, i))?;
-    }
+    out.extend_from_slice(text)?;
+    mask(aes, nonce, out.as_mut_slice());
     Ok(out)
 }
 
@@ -181,17 +205,6 @@ pub fn ccm_open(
         return Ok(None);
     }
     Ok(Some(Bytes::from_vec(text)))
-}
-
-/// Masks a text where it stands, under the counter blocks from 1 on.
-fn mask(aes: &Aes, nonce: &[u8], text: &mut [u8])
-    requires long { 7 ≤ length nonce.now }
-    requires short { length nonce.now ≤ 13 }
-    ensures { text.new ≡ ciphertext aes.now nonce.now text.old }
-{
-    for i in 0..block_count_of(text) {
-        mask_block(text, i, &stream_block(aes, nonce, i));
-    }
 }
 
 /// Seals a text where it stands, together with the additional data, and gives a block that begins with the tag of `tag`

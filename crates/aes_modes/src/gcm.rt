@@ -4,7 +4,7 @@ ghost use Rattle.aes_modes.specs.InPlace.{OpensInPlace};
 ghost use Rattle.cipher_defs.specs.Aes.{cipher};
 ghost use Rattle.cipher_defs.specs.Gcm.{counter_block, hash_key, ciphertext, tag_of, sealed, Opens, gmac};
 
-use crate::blocks::{block_count_of, is_same, mask_block, push_masked_block};
+use crate::blocks::{block_count_of, enciphered, is_same, mask_block};
 use crate::hash::Table;
 use aes_block::{Aes, block_sum_of};
 use smb_bytes::Bytes;
@@ -46,6 +46,16 @@ fn stream_block(aes: &Aes, nonce: &[u8; 12], i: usize) -> [u8; 16]
     aes.encrypt_block(&counter_block_of(nonce, (i + 2) as u32))
 }
 
+/// Masks a text where it stands, under the counter blocks from 2 on.
+fn mask(aes: &Aes, nonce: &[u8; 12], text: &mut [u8])
+    requires { length text.old < 2 ^ 36 - 31 }
+    ensures { text.new ≡ ciphertext aes.now nonce.now text.old }
+{
+    for i in 0..block_count_of(text) {
+        mask_block(text, i, &stream_block(aes, nonce, i));
+    }
+}
+
 /// The text under the counter blocks from 2 on, in a vector with `room` bytes more.
 fn ciphertext_of(
     alloc: Global,
@@ -60,9 +70,8 @@ fn ciphertext_of(
     ensures len { IfOk result (λ v. length v.items ≡ length text.now) }
 {
     let mut out = Vec::with_capacity(alloc, text.len() + room)?;
-    for i in 0..block_count_of(text) {
-        push_masked_block(&mut out, text, i, &stream_block(aes, nonce, i))?;
-    }
+    out.extend_from_slice(text)?;
+    mask(aes, nonce, out.as_mut_slice());
     Ok(out)
 }
 
@@ -70,7 +79,7 @@ fn ciphertext_of(
 fn table_of(aes: &Aes) -> Table
     ensures { result.h ≡ hash_key aes.now }
 {
-    Table::new(u128::from_be_bytes(aes.encrypt_block(&[0; 16])))
+    Table::new(u128::from_be_bytes(enciphered(aes, &[0; 16])))
 }
 
 fn tag_of_sealed(aes: &Aes, nonce: &[u8; 12], added: &[u8], sealed: &[u8]) -> [u8; 16]
@@ -79,7 +88,7 @@ fn tag_of_sealed(aes: &Aes, nonce: &[u8; 12], added: &[u8], sealed: &[u8]) -> [u
     ensures { result ≡ tag_of aes.now nonce.now added.now sealed.now }
 {
     let hash = table_of(aes).ghash_of(added, sealed);
-    let mask = aes.encrypt_block(&counter_block_of(nonce, 1));
+    let mask = enciphered(aes, &counter_block_of(nonce, 1));
     block_sum_of(&hash.to_be_bytes(), &mask)
 }
 
@@ -130,16 +139,6 @@ pub fn gcm_open(
     Ok(Some(Bytes::from_vec(text)))
 }
 
-/// Masks a text where it stands, under the counter blocks from 2 on.
-fn mask(aes: &Aes, nonce: &[u8; 12], text: &mut [u8])
-    requires { length text.old < 2 ^ 36 - 31 }
-    ensures { text.new ≡ ciphertext aes.now nonce.now text.old }
-{
-    for i in 0..block_count_of(text) {
-        mask_block(text, i, &stream_block(aes, nonce, i));
-    }
-}
-
 /// Seals a text where it stands, together with the additional data, and gives the tag. It takes no memory
 /// (SP 800-38D, 7.1). Seal nothing twice under one key and nonce.
 pub fn gcm_seal_in_place(aes: &Aes, nonce: &[u8; 12], added: &[u8], text: &mut [u8]) -> [u8; 16]
@@ -188,6 +187,6 @@ pub fn gmac_joined(aes: &Aes, nonce: &[u8; 12], front: &[u8; 64], rest: &[u8]) -
     ensures { result ≡ gmac aes.now nonce.now (front.now ++ rest.now) }
 {
     let hash = table_of(aes).ghash_joined(front, rest);
-    let mask = aes.encrypt_block(&counter_block_of(nonce, 1));
+    let mask = enciphered(aes, &counter_block_of(nonce, 1));
     block_sum_of(&hash.to_be_bytes(), &mask)
 }

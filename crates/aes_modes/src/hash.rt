@@ -1,7 +1,7 @@
-//! The product in GF(2^128) and GHASH (SP 800-38D, 6.3 and 6.4), four bits at a time from a table made for the key.
-ghost use Rattle.std.specs.Prelude.{◌≡◌, ◌<◌, ◌^◌, ◌++◌, [], ℕ, length, slice_index_or, if◌then◌else◌};
+//! The product in GF(2^128) and GHASH (SP 800-38D, 6.3 and 6.4), four bits at a time, each four by a row of sums that is made for the key.
+ghost use Rattle.std.specs.Prelude.{◌≡◌, ◌<◌, ◌≤◌, ◌-◌, ◌*◌, ◌^◌, ◌++◌, [], ℕ, length, if◌then◌else◌};
 ghost use Rattle.cipher_defs.specs.Ghash.{shifted, product, bits_of, sum_at, hashed_all, ghash};
-ghost use Rattle.aes_modes.specs.Sums.{IsTable};
+ghost use Rattle.aes_modes.specs.Sums.{raised, IsRow, AreRows};
 
 use crate::blocks::{block_count_of, block_of};
 
@@ -48,53 +48,93 @@ fn shifted_by_four(z: u128) -> u128
     (z >> 4) ^ LOW[(z % 16) as usize]
 }
 
-/// The sum of the multiples of h at the four bits of n.
-fn sum_of(n: u8, h: u128) -> u128
-    ensures { result ≡ sum_at (bits_of 4 n) h }
+/// The sums of an element and its next three multiples, for each choice of these: bit 3 takes the element itself.
+#[inline(always)]
+fn row_of(v: u128) -> [u128; 16]
+    ensures { IsRow result v }
 {
-    let mut z = 0;
-    for i in 0..4u32 {
-        z = masked((n >> i) % 2 == 1, h) ^ shifted_of(z);
-    }
-    z
+    let eight = v;
+    let four = shifted_of(eight);
+    let two = shifted_of(four);
+    let one = shifted_of(two);
+    let three = two ^ one;
+    let five = four ^ one;
+    let six = four ^ two;
+    let seven = four ^ three;
+    [
+        0,
+        one,
+        two,
+        three,
+        four,
+        five,
+        six,
+        seven,
+        eight,
+        eight ^ one,
+        eight ^ two,
+        eight ^ three,
+        eight ^ four,
+        eight ^ five,
+        eight ^ six,
+        eight ^ seven,
+    ]
 }
 
-fn sums_of(h: u128) -> [u128; 16]
-    ensures { IsTable result h }
+#[inline(always)]
+fn rows_of(h: u128) -> [[u128; 16]; 32]
+    ensures { AreRows result h }
 {
-    let mut sums = [0; 16];
-    for n in 0..16u8 {
-        sums[n as usize] = sum_of(n, h);
+    let mut rows = [[0; 16]; 32];
+    let mut v = h;
+    for j in 0..32 {
+        rows[j] = row_of(v);
+        v = shifted_by_four(v);
     }
-    sums
+    rows
 }
 
-/// A hash key, and the sums of four multiples of it.
+/// A hash key, and the sums of its multiples for each four bits of a factor: row 0 for the highest four.
 #[derive(Drop)]
 pub(crate) struct Table {
     h: u128,
-    sums: [u128; 16],
-    ghost sums_are: { IsTable sums h },
+    rows: [[u128; 16]; 32],
+    ghost rows_are: { AreRows rows h },
 }
 
 impl Table {
+    #[inline(always)]
     pub(crate) fn new(h: u128) -> Table
         ensures { result.h ≡ h }
     {
         Table {
             h,
-            sums: sums_of(h),
+            rows: rows_of(h),
         }
     }
 
+    /// The sum at the bits of a half of a factor, whose lowest four bits have the row `last`.
+    #[inline(always)]
+    fn half_of(&self, half: u64, last: usize) -> u128
+        requires low { 15 ≤ last }
+        requires high { last ≤ 31 }
+        ensures { result ≡ sum_at (bits_of 64 half) (raised (4 * (last - 15)) self.now.h) }
+    {
+        let mut z = 0;
+        for i in 0..16 {
+            let bits = (half >> (4 * i as u32)) % 16;
+            z ^= self.rows[last - i][bits as usize];
+        }
+        z
+    }
+
+    #[inline(always)]
     pub(crate) fn product_of(&self, x: u128) -> u128
         ensures { result ≡ product x self.now.h }
     {
-        let mut z = 0;
-        for i in 0..32u32 {
-            z = self.sums[((x >> (4 * i)) % 16) as usize] ^ shifted_by_four(z);
-        }
-        z
+        let high = (x >> 64) as u64;
+        let low = (x % 0x1_0000_0000_0000_0000) as u64;
+        self.half_of(high, 15) ^ self.half_of(low, 31)
     }
 
     /// The hash from y over all blocks, the last filled with zeros.

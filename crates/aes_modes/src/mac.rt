@@ -4,7 +4,7 @@ ghost use Rattle.cipher_defs.specs.Aes.{block_sum, cipher};
 ghost use Rattle.cipher_defs.specs.Blocks.{chained};
 ghost use Rattle.cipher_defs.specs.Cmac.{doubled_block, first_subkey, padded, before_last, last_block, cmac};
 
-use crate::blocks::chain_of;
+use crate::blocks::{chain_of, enciphered};
 use aes_block::{Aes, block_sum_of};
 
 /// x times a block, as an element of GF(2^128) with the highest bit first.
@@ -21,7 +21,7 @@ fn doubled_block_of(block: [u8; 16]) -> [u8; 16]
 fn first_subkey_of(aes: &Aes) -> [u8; 16]
     ensures { result ≡ first_subkey aes.now }
 {
-    doubled_block_of(aes.encrypt_block(&[0; 16]))
+    doubled_block_of(enciphered(aes, &[0; 16]))
 }
 
 fn padded_byte(rest: &[u8], i: usize) -> u8
@@ -82,7 +82,7 @@ fn cmac_from(aes: &Aes, start: &[u8; 16], m: &[u8]) -> [u8; 16]
 {
     let before = m.len().saturating_sub(1) / 16;
     let chain = chain_of(aes, start, m, before);
-    aes.encrypt_block(&block_sum_of(&chain, &last_block_of(aes, m)))
+    enciphered(aes, &block_sum_of(&chain, &last_block_of(aes, m)))
 }
 
 /// The tag of a message under CMAC, 16 bytes (SP 800-38B, 6.2). It takes no memory.

@@ -4,6 +4,7 @@ ghost use Rattle.cipher_defs.specs.Aes.{block_sum};
 ghost use Rattle.cipher_defs.specs.Blocks.{block_at, block_count, chained};
 ghost use Rattle.cipher_defs.specs.Ccm.{length_prefix, prefixed};
 
+use crate::blocks::enciphered;
 use aes_block::{Aes, block_sum_of};
 
 /// Byte `k` of n, counted from the lowest.
@@ -108,7 +109,7 @@ fn joined_chain_of(aes: &Aes, start: &[u8; 16], front: &[u8], back: &[u8]) -> [u
     let mut s = *start;
     let blocks = (front.len() + back.len()).div_ceil(16);
     for i in 0..blocks {
-        s = aes.encrypt_block(&block_sum_of(&s, &joined_block_of(front, back, i)));
+        s = enciphered(aes, &block_sum_of(&s, &joined_block_of(front, back, i)));
     }
     s
 }

@@ -1,7 +1,8 @@
 //! Computes what each line of the input asks of a mode of AES, and opens again what it sealed. A line is the
 //! mode, and the lengths of key, nonce, additional data, text and tag; the output adds the result in
 //! hexadecimal digits, or its SHA-256 where it is long. The expected output was written by another implementation;
-//! the lines of `ccm-example` are SP 800-38C's examples 1 to 4, whose bytes count upwards.
+//! the lines of `ccm-example` are SP 800-38C's examples 1 to 4, whose bytes count upwards. A mode with `-zeros` has bytes of
+//! zero; one with `-through` stands for all lengths of text up to the line's, and the SHA-256 of all their results.
 #![tactic(auto)]
 
 use aes_block::Aes;
@@ -15,6 +16,7 @@ use std::alloc::Global;
 #[derive(Drop)]
 struct Row<'a> {
     mode: &'a str,
+    kind: Kind,
     key: usize,
     nonce: usize,
     added: usize,
@@ -22,9 +24,20 @@ struct Row<'a> {
     tag: usize,
 }
 
+/// A line's mode, and where its bytes come from.
+fn named(word: &str) -> (&str, Kind) {
+    match word.split_once('-') {
+        Some((mode, "example")) => (mode, Kind::Example),
+        Some((mode, "zeros")) => (mode, Kind::Zeros),
+        Some((mode, _)) => (mode, Kind::Mixed),
+        None => (word, Kind::Mixed),
+    }
+}
+
 fn row_of(line: &str) -> Result<Row<'_>> {
     let mut words = line.split_whitespace();
-    let mode = words.next().context("no mode")?;
+    let word = words.next().context("no mode")?;
+    let (mode, kind) = named(word);
     let key = words.next().context("no key")?.parse::<usize>()?;
     let nonce = words.next().context("no nonce")?.parse::<usize>()?;
     let added = words.next().context("no data")?.parse::<usize>()?;
@@ -32,6 +45,7 @@ fn row_of(line: &str) -> Result<Row<'_>> {
     let tag = words.next().context("no tag")?.parse::<usize>()?;
     Ok(Row {
         mode,
+        kind,
         key,
         nonce,
         added,
@@ -63,16 +77,21 @@ fn pattern(
     Ok(bytes)
 }
 
-/// Whether a line is one of SP 800-38C's examples.
-fn is_example(row: &Row<'_>) -> bool {
-    row.mode == "ccm-example"
+/// Where a line's bytes come from.
+#[derive(Clone, Copy, PartialEq)]
+enum Kind {
+    /// They count upwards, as in SP 800-38C's examples.
+    Example,
+    Zeros,
+    Mixed,
 }
 
 fn key_of(alloc: Global, row: &Row<'_>) -> Result<Vec<u8>> {
-    if is_example(row) {
-        return pattern(alloc, row.key, 0, 1, 0x40, 256);
+    match row.kind {
+        Kind::Example => pattern(alloc, row.key, 0, 1, 0x40, 256),
+        Kind::Zeros => pattern(alloc, row.key, 0, 0, 0, 256),
+        Kind::Mixed => pattern(alloc, row.key, 0, 7, 3, 256),
     }
-    pattern(alloc, row.key, 0, 7, 3, 256)
 }
 
 fn aes_of(alloc: Global, row: &Row<'_>) -> Result<Aes> {
@@ -95,18 +114,23 @@ struct Parts {
 }
 
 fn parts_of(alloc: Global, row: &Row<'_>) -> Result<Parts> {
-    if is_example(row) {
-        return Ok(Parts {
+    match row.kind {
+        Kind::Example => Ok(Parts {
             nonce: pattern(alloc, row.nonce, 0, 1, 0x10, 256)?,
             added: pattern(alloc, row.added, 0, 1, 0, 256)?,
             text: pattern(alloc, row.text, 0, 1, 0x20, 256)?,
-        });
+        }),
+        Kind::Zeros => Ok(Parts {
+            nonce: pattern(alloc, row.nonce, 0, 0, 0, 256)?,
+            added: pattern(alloc, row.added, 0, 0, 0, 256)?,
+            text: pattern(alloc, row.text, 0, 0, 0, 256)?,
+        }),
+        Kind::Mixed => Ok(Parts {
+            nonce: pattern(alloc, row.nonce, 0, 11, 2, 256)?,
+            added: pattern(alloc, row.added, 0, 3, 9, 256)?,
+            text: pattern(alloc, row.text, 1, 5, 1, 251)?,
+        }),
     }
-    Ok(Parts {
-        nonce: pattern(alloc, row.nonce, 0, 11, 2, 256)?,
-        added: pattern(alloc, row.added, 0, 3, 9, 256)?,
-        text: pattern(alloc, row.text, 1, 5, 1, 251)?,
-    })
 }
 
 fn nonce_of(parts: &Parts) -> Result<[u8; 12]> {
@@ -188,24 +212,44 @@ fn shown(alloc: Global, bytes: &[u8]) -> Result<String> {
     Ok(format!(in alloc; "sha256 {digits}")?)
 }
 
+/// What a mode makes of a text of the row's length. What it sealed is opened again.
+fn made(alloc: Global, row: &Row<'_>, aes: &Aes) -> Result<Bytes> {
+    let parts = parts_of(alloc, row)?;
+    let text = parts.text.as_slice();
+    if row.mode == "cmac" {
+        return Ok(Bytes::from_slice(alloc, &cmac(aes, text))?);
+    }
+    if row.mode == "gmac" {
+        ensure!(text.len() < 1_000_000, "too long");
+        return Ok(Bytes::from_slice(alloc, &gmac(aes, &nonce_of(&parts)?, text))?);
+    }
+    let sealed = seal(alloc, row, aes, &parts)?;
+    ensure!(
+        opens_again(alloc, row, aes, &parts, sealed.as_slice())?,
+        "it does not open again"
+    );
+    Ok(sealed)
+}
+
+/// The SHA-256 of what a mode makes of texts of all lengths up to the row's.
+fn through(alloc: Global, mut row: Row<'_>, aes: &Aes) -> Result<String> {
+    let mut all = Vec::new(alloc);
+    let most = row.text;
+    for text in 0..=most {
+        row.text = text;
+        all.extend_from_slice(made(alloc, &row, aes)?.as_slice())?;
+    }
+    let digits = hex::encode(alloc, Sha256::digest(all.as_slice()))?;
+    Ok(format!(in alloc; "sha256 {digits}")?)
+}
+
 fn answer(alloc: Global, line: &str) -> Result<String> {
     let row = row_of(line)?;
     let aes = aes_of(alloc, &row)?;
-    let parts = parts_of(alloc, &row)?;
-    if row.mode == "cmac" {
-        return shown(alloc, &cmac(&aes, parts.text.as_slice()));
+    if line.contains("-through") {
+        return through(alloc, row, &aes);
     }
-    if row.mode == "gmac" {
-        let text = parts.text.as_slice();
-        ensure!(text.len() < 1_000_000, "too long");
-        return shown(alloc, &gmac(&aes, &nonce_of(&parts)?, text));
-    }
-    let sealed = seal(alloc, &row, &aes, &parts)?;
-    ensure!(
-        opens_again(alloc, &row, &aes, &parts, sealed.as_slice())?,
-        "it does not open again"
-    );
-    shown(alloc, sealed.as_slice())
+    shown(alloc, made(alloc, &row, &aes)?.as_slice())
 }
 
 fn main(rt: HostRuntime) -> Result<()> {

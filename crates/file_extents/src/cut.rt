@@ -65,13 +65,13 @@ fn trim_at(pieces: &mut BTreeMap<u64, Vec<u8>>, place: u64, n: u64) -> u64
 }
 
 // Keeps the first bytes, and gives memory back where less than half of it is used.
-fn cut_piece(piece: &mut Vec<u8>, count: usize) -> u64
+pub fn cut_piece(piece: &mut Vec<u8>, count: usize) -> u64
     ensures { piece.new.items ≡ take count piece.old.items }
 {
     let before = piece.len();
     piece.truncate(count);
     let after = piece.len();
-    if after < before / 2 {
+    if after < piece.capacity() / 2 {
         piece.shrink_to_fit();
     }
     (before - after) as u64

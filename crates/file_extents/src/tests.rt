@@ -1,4 +1,5 @@
 use super::*;
+use crate::cut::cut_piece;
 use std::test::*;
 
 #[test]
@@ -27,5 +28,15 @@ fn writes_over_pieces(rt: HostRuntime) -> Result<(), Fail> {
     file.write(1, b"################")?;
     assert_eq!(rt; file.read(15, 20)?.as_slice(), b"##".as_slice());
     assert_eq!(rt; (file.len(), file.held()), (17, 16));
+    Ok(())
+}
+
+#[test]
+fn a_piece_that_is_halved_again_and_again(rt: HostRuntime) -> Result<(), Fail> {
+    let mut piece = Vec::from_slice(rt.alloc(), b"0123456789abcdef")?;
+    cut_piece(&mut piece, 8);
+    cut_piece(&mut piece, 4);
+    cut_piece(&mut piece, 2);
+    assert_eq!(rt; (piece.len(), piece.capacity()), (2, 4));
     Ok(())
 }

@@ -1,5 +1,5 @@
 -- The messages in code as the definitions see them.
-use Rattle.std.specs.Prelude.{◌≡◌, ℕ, List, Result, Ok, Err}
+use Rattle.std.specs.Prelude.{◌≡◌, ℕ, ◌<◌, List, length, Result, Ok, Err}
 use Rattle.token_defs.specs.declared.ntlm.NtlmError.{NtlmError}
 use Rattle.token_defs.specs.declared.ntlm.NtlmError.TheVariants as ntlm
 use Rattle.token_defs.specs.declared.ntlm.LogonError.{LogonError}
@@ -26,6 +26,12 @@ type3_view m = record {
   session_key = m.session_key.now;
   mic = m.mic;
 }
+
+-- each part of a type 3 has fewer than 65,536 bytes
+abbrev pub AreShort : Type3 → Type 0
+AreShort m =
+    (length m.lm.now < 65536) × (length m.nt.now < 65536) × (length m.domain.now < 65536) × (length m.user.now < 65536)
+    × (length m.workstation.now < 65536) × (length m.session_key.now < 65536)
 
 abbrev pub credentials_view : Credentials → Answer.Credentials
 credentials_view c = record { user = c.user.now; password = c.password.now; domain = c.domain.now; challenge = c.challenge; key = c.key }

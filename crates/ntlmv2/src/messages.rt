@@ -1,10 +1,10 @@
 //! The three messages, read and written.
-ghost use Rattle.std.specs.Prelude.{◌≡◌, ◌<◌, ◌+◌, ◌^◌, ◌++◌, ◌==◌, nat_lt, if◌then◌else◌, length, drop, MatchResult, None, Some, IfOk, OnOk, IsTrue};
+ghost use Rattle.std.specs.Prelude.{◌≡◌, ◌<◌, ◌+◌, ◌^◌, ◌++◌, ◌==◌, nat_lt, if◌then◌else◌, length, drop, MatchResult, None, Some, IfOk, OnOk, IsTrue, ◌↔◌};
 ghost use Rattle.wire_defs.specs.Places.{le, bytes_at};
 ghost use Rattle.wire_defs.specs.Table.{with_fields};
 ghost use Rattle.token_defs.specs.Messages.{ntlm_signature, range_fault, info_fault, type3_places, type1_in, type2_in, type3_in, type1_spelling, type2_spelling, type3_spelling, IsWritableType2, IsWritableType3};
-ghost use Rattle.ntlmv2.specs.Fixed.{IsFixed1, IsFixed2, IsFixed3, MatchKind};
-ghost use Rattle.ntlmv2.specs.Views.{type2_view, type3_view, Reads};
+ghost use Rattle.ntlmv2.specs.Fixed.{IsFixed1, IsFixed2, IsFixed3, MatchKind, TellsPlace};
+ghost use Rattle.ntlmv2.specs.Views.{type2_view, type3_view, AreShort, Reads};
 
 use crate::pairs::check_pairs;
 use smb_bytes::{Bytes, Cursor, Out, Short};
@@ -46,6 +46,16 @@ struct Place {
     at: u32,
 }
 
+/// The place of a part as the next eight bytes tell it.
+fn place_in(cursor: &mut Cursor<'_>) -> Result<Place, Short>
+    ensures { TellsPlace cursor.old cursor.new result }
+{
+    let count = cursor.get_u16()?;
+    let _most = cursor.get_u16()?;
+    let at = cursor.get_u32()?;
+    Ok(Place { count, at })
+}
+
 /// The fixed part of a type 1, as far as it is needed.
 #[derive(Clone, Copy)]
 struct Fixed1 {
@@ -85,17 +95,11 @@ fn fixed2_of(m: &[u8]) -> Result<Fixed2, Short>
     let mut cursor = Cursor::new(m);
     let signature = cursor.get_array::<8>()?;
     let kind = cursor.get_u32()?;
-    let count = cursor.get_u16()?;
-    let _most = cursor.get_u16()?;
-    let at = cursor.get_u32()?;
-    let target_name = Place { count, at };
+    let target_name = place_in(&mut cursor)?;
     let flags = cursor.get_u32()?;
     let challenge = cursor.get_array::<8>()?;
     let _reserved = cursor.get_u64()?;
-    let count = cursor.get_u16()?;
-    let _most = cursor.get_u16()?;
-    let at = cursor.get_u32()?;
-    let target_info = Place { count, at };
+    let target_info = place_in(&mut cursor)?;
     let _version = cursor.get_u64()?;
     Ok(Fixed2 {
         signature,
@@ -128,30 +132,12 @@ fn fixed3_of(m: &[u8]) -> Result<Fixed3, Short>
     let mut cursor = Cursor::new(m);
     let signature = cursor.get_array::<8>()?;
     let kind = cursor.get_u32()?;
-    let count = cursor.get_u16()?;
-    let _most = cursor.get_u16()?;
-    let at = cursor.get_u32()?;
-    let lm = Place { count, at };
-    let count = cursor.get_u16()?;
-    let _most = cursor.get_u16()?;
-    let at = cursor.get_u32()?;
-    let nt = Place { count, at };
-    let count = cursor.get_u16()?;
-    let _most = cursor.get_u16()?;
-    let at = cursor.get_u32()?;
-    let domain = Place { count, at };
-    let count = cursor.get_u16()?;
-    let _most = cursor.get_u16()?;
-    let at = cursor.get_u32()?;
-    let user = Place { count, at };
-    let count = cursor.get_u16()?;
-    let _most = cursor.get_u16()?;
-    let at = cursor.get_u32()?;
-    let workstation = Place { count, at };
-    let count = cursor.get_u16()?;
-    let _most = cursor.get_u16()?;
-    let at = cursor.get_u32()?;
-    let session_key = Place { count, at };
+    let lm = place_in(&mut cursor)?;
+    let nt = place_in(&mut cursor)?;
+    let domain = place_in(&mut cursor)?;
+    let user = place_in(&mut cursor)?;
+    let workstation = place_in(&mut cursor)?;
+    let session_key = place_in(&mut cursor)?;
     let flags = cursor.get_u32()?;
     let _version = cursor.get_u64()?;
     let mic = cursor.get_array::<16>()?;
@@ -324,7 +310,8 @@ pub fn write_type1(alloc: Global, m: &Type1) -> Result<Bytes, AllocError>
 /// Whether each part of a type 2 fits its length field, so that `write_type2` takes it.
 #[tactic(auto, using(crate::proofs::Sizes::writable2))]
 pub fn can_write_type2(m: &Type2<'_>) -> bool
-    ensures { IsTrue result → IsWritableType2 (type2_view m.now) }
+    ensures exact { IsTrue result ↔ (length m.now.target_name.now < 65536) × (length m.now.target_info.now < 65536) }
+    ensures fits { IsTrue result → IsWritableType2 (type2_view m.now) }
 {
     let _flags = m.flags;
     if m.target_name.len() >= 65_536 {
@@ -336,7 +323,8 @@ pub fn can_write_type2(m: &Type2<'_>) -> bool
 /// Whether each part of a type 3 fits its length field, so that `write_type3` takes it.
 #[tactic(auto, using(crate::proofs::Sizes::writable3))]
 pub fn can_write_type3(m: &Type3<'_>) -> bool
-    ensures { IsTrue result → IsWritableType3 (type3_view m.now) }
+    ensures exact { IsTrue result ↔ AreShort m.now }
+    ensures fits { IsTrue result → IsWritableType3 (type3_view m.now) }
 {
     let _flags = m.flags;
     if m.lm.len() >= 65_536 || m.nt.len() >= 65_536 || m.domain.len() >= 65_536 {

@@ -2,4 +2,5 @@ mod Frames
 mod Halves
 mod InPlace
 mod Opening
+mod Repeats
 mod Verifying

@@ -1,7 +1,7 @@
 -- How long spelled elements are at least, and what is put together.
-use Rattle.std.proofs.Common.{◌≡◌, ℕ, suc, ◌+◌, ◌<◌, ◌≤◌, ◌^◌, List, [], ◌∷◌, ◌++◌, length, length-append, append_assoc, refl, arith, sym, ◌∙◌, ap, Option, Some, None}
+use Rattle.std.proofs.Common.{◌≡◌, ℕ, suc, ◌+◌, ◌<◌, ◌≤◌, ◌^◌, List, [], ◌∷◌, ◌++◌, length, length-append, append_assoc, refl, arith, ap}
 use Rattle.token_defs.specs.Der.{length_bytes, spelled}
-use Rattle.token_defs.specs.Spnego.{spnego, ntlmssp, octets_spelling, init_spelling, resp_spelling, init_fields_spelling, resp_fields_spelling, InitValue, RespValue, state_spelling, mech_spelling}
+use Rattle.token_defs.specs.Spnego.{spnego, ntlmssp, init_spelling, resp_spelling, init_fields_spelling, resp_fields_spelling, InitValue, RespValue}
 
 length-spelled : (tag : ℕ) (c : List ℕ) → length (spelled tag c) ≡ suc (length (length_bytes (length c)) + length c)
 unfolding spelled

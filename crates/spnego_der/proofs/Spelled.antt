@@ -1,9 +1,8 @@
 -- A spelled element reads back, whatever stands behind it.
-use Rattle.std.proofs.Common.{◌≡◌, ℕ, zero, suc, ◌+◌, ◌-◌, ◌*◌, ◌/◌, ◌%◌, ◌^◌, ◌<◌, ◌≤◌, ◌==◌, nat_lt, Bool, true, false, ◌&&◌, if◌then◌else◌, List, [], ◌∷◌, ◌++◌, length, take, drop, length-append, append_assoc, refl, arith, sym, ◌∙◌, ap, subst, Result, Ok, Err}
+use Rattle.std.proofs.Common.{◌≡◌, ℕ, suc, ◌+◌, ◌*◌, ◌/◌, ◌%◌, ◌^◌, ◌<◌, ◌≤◌, ◌==◌, nat_lt, Bool, true, false, ◌&&◌, if◌then◌else◌, List, [], ◌∷◌, ◌++◌, length, take, drop, length-append, append_assoc, refl, arith, sym, ◌∙◌, ap, Ok}
 use Rattle.std.proofs.lemmas.Bool.Decides.{nat_tests}
 use Rattle.std.proofs.lemmas.List.{append-nil}
-use Rattle.token_defs.specs.declared.der.DerError.{DerError}
-use Rattle.token_defs.specs.Der.{◌>>=◌, Piece, Parted, length_bytes, length_in, element, comes, spelled}
+use Rattle.token_defs.specs.Der.{Parted, length_bytes, length_in, element, comes, spelled}
 
 drop_front : (a b : List ℕ) → drop (length a) (a ++ b) ≡ b
 drop_front [] b = refl

@@ -1,5 +1,5 @@
 -- How long tokens are at most, and that the list of NTLMSSP alone reads at any place.
-use Rattle.std.proofs.Common.{◌≡◌, ℕ, suc, ◌+◌, ◌^◌, ◌<◌, ◌≤◌, nat_lt, Bool, true, false, if◌then◌else◌, List, [], ◌∷◌, ◌++◌, length, length-append, refl, sym, ap, ◌∙◌, arith, Option, Some, None, Ok}
+use Rattle.std.proofs.Common.{◌≡◌, ℕ, ◌+◌, ◌^◌, ◌<◌, ◌≤◌, nat_lt, Bool, true, false, if◌then◌else◌, List, [], ◌∷◌, ◌++◌, length, length-append, refl, ap, arith, Option, Some, None, Ok}
 use Rattle.token_defs.specs.Der.{length_bytes, spelled, element, length_in, ends}
 use Rattle.token_defs.specs.Spnego.{spnego, ntlmssp, ntlm_list, names_in, names_ntlm, begins_with_ntlm, octets_spelling, init_spelling, resp_spelling, init_fields_spelling, resp_fields_spelling, InitValue, RespValue, state_spelling, mech_spelling, IsWritableInit, IsWritableResp}
 use Rattle.spnego_der.specs.Fitting.{size_of}

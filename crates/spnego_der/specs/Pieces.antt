@@ -1,5 +1,5 @@
 -- A part of a token in code, as the definitions see it.
-use Rattle.std.specs.Prelude.{◌≡◌, ℕ, ◌+◌, ◌≤◌, List, length, Result, Ok, Err}
+use Rattle.std.specs.Prelude.{◌≡◌, ◌+◌, ◌≤◌, length, Result, Ok, Err}
 use Rattle.token_defs.specs.declared.der.DerError.{DerError}
 use Rattle.token_defs.specs.Der
 use Rattle.spnego_der.specs.declared.element.Piece.{Piece}

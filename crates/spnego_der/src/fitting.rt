@@ -1,7 +1,7 @@
 //! Whether a token can be written.
-ghost use Rattle.std.specs.Prelude.{◌≡◌, IsTrue};
+ghost use Rattle.std.specs.Prelude.{◌≡◌, ◌<◌, ◌^◌, ◌↔◌, IsTrue};
 ghost use Rattle.token_defs.specs.Spnego.{ntlm_list, IsWritableInit, IsWritableResp};
-ghost use Rattle.spnego_der.specs.Fitting.{size_of};
+ghost use Rattle.spnego_der.specs.Fitting.{size_of, HasUsualParts};
 ghost use Rattle.spnego_der.specs.Views.{init_view, resp_view};
 
 use crate::token::{InitToken, RespToken};
@@ -25,7 +25,7 @@ fn part_size(part: &Option<Bytes>) -> usize
 }
 
 fn names_ntlm_alone(list: &Bytes) -> bool
-    ensures { IsTrue result → list.now ≡ ntlm_list }
+    ensures { IsTrue result ↔ list.now ≡ ntlm_list }
 {
     list.as_slice() == NTLM_LIST.as_slice()
 }
@@ -33,7 +33,8 @@ fn names_ntlm_alone(list: &Bytes) -> bool
 /// Whether `write_init` takes a token: where its list names NTLMSSP alone and its parts have fewer than 2^30 bytes.
 #[tactic(auto, using(crate::proofs::Writable::init_writable))]
 pub fn can_write_init(token: &InitToken) -> bool
-    ensures { IsTrue result → IsWritableInit (init_view token.now) }
+    ensures exact { IsTrue result ↔ HasUsualParts token.now }
+    ensures fits { IsTrue result → IsWritableInit (init_view token.now) }
 {
     if !token.ntlm_first {
         return false;
@@ -50,7 +51,8 @@ pub fn can_write_init(token: &InitToken) -> bool
 /// Whether `write_resp` takes a token: where its parts have fewer than 2^30 bytes.
 #[tactic(auto, using(crate::proofs::Writable::resp_writable))]
 pub fn can_write_resp(token: &RespToken) -> bool
-    ensures { IsTrue result → IsWritableResp (resp_view token.now) }
+    ensures exact { IsTrue result ↔ (size_of token.now.token < 2 ^ 30) × (size_of token.now.mic < 2 ^ 30) }
+    ensures fits { IsTrue result → IsWritableResp (resp_view token.now) }
 {
     part_size(&token.token) < MOST && part_size(&token.mic) < MOST
 }

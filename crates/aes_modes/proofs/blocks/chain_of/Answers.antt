@@ -1,9 +1,14 @@
-use Rattle.aes_modes.proofs.Chains.{chained_none, chained_more}
+use Rattle.std.proofs.Common.{◌≡◌, ◌/◌, ◌+◌, length, arith}
+use Rattle.aes_modes.proofs.Chains.{chained_more}
 use Rattle.aes_modes.proofs.blocks.chain_of.Goals as goal
 
-pub loop-i-init : goal.loop-i-init
-loop-i-init c = chained_none c.args.aes.now c.args.start.now c.args.m.now
-
-pub loop-i-preserved : goal.loop-i-preserved
-loop-i-preserved c = rw (c.encrypt_block-s.ensures, c.block_sum_of.ensures, c.block_of.ensures, c.loop-i.invariant)
-    (chained_more c.args.aes.now c.args.start.now c.args.m.now c.loop-i.i)
+pub returns : goal.returns
+returns c =
+    let last : c.args.blocks ≡ length c.args.m.now / 16 + 1 = omega arith in
+    rw (
+      last,
+      c.enciphered.ensures,
+      c.block_sum_of.ensures,
+      c.part_of_block_of.ensures,
+      c.whole_chain_of-s.ensures,
+    ) (chained_more c.args.aes.now c.args.start.now c.args.m.now (length c.args.m.now / 16))

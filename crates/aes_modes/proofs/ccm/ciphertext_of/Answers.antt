@@ -1,17 +1,10 @@
-use Rattle.std.proofs.Common.{◌+◌, ◌∙◌, arith}
-use Rattle.cipher_defs.specs.Ccm.{counter_block}
-use Rattle.aes_modes.proofs.Masking.{masked_none, masked_step, masked_end}
+use Rattle.std.proofs.Common.{◌∙◌, List, ℕ, sym, ap, arith}
+use Rattle.std.proofs.lemmas.Grind.{common_steps}
+use Rattle.cipher_defs.specs.Ccm.{ciphertext}
+use Rattle.aes_modes.proofs.InPlace.{written}
 use Rattle.aes_modes.proofs.ccm.ciphertext_of.Goals as goal
 
-pub loop-i-init : goal.loop-i-init
-loop-i-init c = c.in_ok-out.ensures.items ∙ masked_none c.args.aes.now (λ i. counter_block c.args.nonce.now (i + 1)) c.args.text.now
-
-pub loop-i-preserved : goal.loop-i-preserved
-loop-i-preserved c =
-    c.in_ok-push_masked_block.ensures ∙ masked_step c.args.aes.now (λ i. counter_block c.args.nonce.now (i + 1))
-    c.args.text.now c.loop-i.out.items c.stream_block.result c.loop-i.i (omega arith) c.loop-i.invariant
-    c.stream_block.ensures
-
 pub returns : goal.returns
-returns c = masked_end c.args.aes.now (λ i. counter_block c.args.nonce.now (i + 1)) c.args.text.now c.loop-i.out.items
-    c.loop-i.i (omega arith) c.loop-i.invariant
+returns c =
+    written c.mask.new.text _ _ (sym (c.mask.auto.text ∙ c.as_mut_slice.ensures.len)) ∙ c.mask.ensures
+    ∙ ap (λ (x : List ℕ). ciphertext c.args.aes.now c.args.nonce.now x) (c.as_mut_slice.ensures.value ∙ grind (arith, common_steps))

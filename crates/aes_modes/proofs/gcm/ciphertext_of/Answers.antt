@@ -1,22 +1,15 @@
-use Rattle.std.proofs.Common.{◌≡◌, ℕ, ◌+◌, ◌∙◌, List, length, ap, arith}
-use Rattle.cipher_defs.specs.Gcm.{counter_block}
-use Rattle.cipher_defs.specs.Blocks.{masked}
+use Rattle.std.proofs.Common.{ℕ, ◌+◌, ◌∙◌, List, length, sym, ap, arith}
+use Rattle.std.proofs.lemmas.Grind.{common_steps}
+use Rattle.cipher_defs.specs.Gcm.{counter_block, ciphertext}
+use Rattle.aes_modes.proofs.InPlace.{written}
 use Rattle.aes_modes.proofs.Unmasking.{masked_length}
-use Rattle.aes_modes.proofs.Masking.{masked_none, masked_step, masked_end}
 use Rattle.aes_modes.proofs.gcm.ciphertext_of.Goals as goal
 
-pub loop-i-init : goal.loop-i-init
-loop-i-init c = c.in_ok-out.ensures.items ∙ masked_none c.args.aes.now (λ i. counter_block c.args.nonce.now (i + 2)) c.args.text.now
+pub returns-clause-text : goal.returns-clause-text
+returns-clause-text c =
+    written c.mask.new.text _ _ (sym (c.mask.auto.text ∙ c.as_mut_slice.ensures.len)) ∙ c.mask.ensures
+    ∙ ap (λ (x : List ℕ). ciphertext c.args.aes.now c.args.nonce.now x) (c.as_mut_slice.ensures.value ∙ grind (arith, common_steps))
 
-pub loop-i-preserved : goal.loop-i-preserved
-loop-i-preserved c =
-    c.in_ok-push_masked_block.ensures ∙ masked_step c.args.aes.now (λ i. counter_block c.args.nonce.now (i + 2))
-    c.args.text.now c.loop-i.out.items c.stream_block.result c.loop-i.i (omega arith) c.loop-i.invariant
-    c.stream_block.ensures
-
-pub returns : goal.returns
-returns c =
-    let f : ℕ → List ℕ = λ i. counter_block c.args.nonce.now (i + 2) in
-    let e : c.loop-i.out.items ≡ masked c.args.aes.now f c.args.text.now (length c.args.text.now) = masked_end
-    c.args.aes.now f c.args.text.now c.loop-i.out.items c.loop-i.i (omega arith) c.loop-i.invariant in
-    record { text = e; len = ap length e ∙ masked_length c.args.aes.now f c.args.text.now (length c.args.text.now) }
+pub returns-clause-len : goal.returns-clause-len
+returns-clause-len c = ap length (returns-clause-text c) ∙ masked_length c.args.aes.now (λ i. counter_block
+    c.args.nonce.now (i + 2)) c.args.text.now (length c.args.text.now)

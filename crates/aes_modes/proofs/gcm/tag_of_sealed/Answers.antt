@@ -7,6 +7,6 @@ returns c = rw (
   c.to_be_bytes.ensures,
   c.ghash_of-hash.ensures,
   c.table_of.ensures,
-  c.encrypt_block-mask.ensures,
+  c.enciphered-mask.ensures,
   c.counter_block_of.ensures,
 ) refl

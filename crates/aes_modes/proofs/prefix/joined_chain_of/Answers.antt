@@ -7,7 +7,7 @@ loop-i-init c = chained_none c.args.aes.now c.args.start.now (c.args.front.now +
 
 pub loop-i-preserved : goal.loop-i-preserved
 loop-i-preserved c = rw (
-  c.encrypt_block-s.ensures,
+  c.enciphered-s.ensures,
   c.block_sum_of.ensures,
   c.joined_block_of.ensures,
   c.loop-i.invariant,

@@ -11,6 +11,8 @@ loop-r-preserved c = All-more RecordFits c.args.records.now c.loop-r.r-index c.r
 
 pub returns : goal.returns
 returns c =
-    let end : length c.args.records.now ≤ c.loop-r.r-index = grind arith in
-    (λ _. All-same RecordFits c.args.records.now (take c.loop-r.r-index c.args.records.now)
-    (sym (take_all c.loop-r.r-index c.args.records.now end)) c.loop-r.invariant, λ _. refl)
+    let end : length c.args.records.now ≤ c.loop-r.r-index = grind arith in (
+      λ _. All-same RecordFits c.args.records.now (take c.loop-r.r-index c.args.records.now)
+          (sym (take_all c.loop-r.r-index c.args.records.now end)) c.loop-r.invariant,
+      λ _. refl,
+    )

@@ -1,4 +1,4 @@
-use Rattle.std.proofs.Common.{◌<◌, ◌+◌, ◌^◌, length, ℕ}
+use Rattle.std.proofs.Common.{◌<◌, ◌+◌, ◌^◌, length}
 use Rattle.spnego_der.specs.Pieces.{piece}
 use Rattle.spnego_der.proofs.Mechanisms.{IsSearched}
 use Rattle.spnego_der.proofs.fields.find_ntlm.Given as goal

@@ -1,4 +1,4 @@
-use Rattle.std.proofs.Common.{◌≡◌, ◌++◌, refl, subst, IfOk, List, ℕ}
+use Rattle.std.proofs.Common.{◌≡◌, ◌++◌, refl, subst, IfOk}
 use Rattle.token_defs.specs.Der.{spelled}
 use Rattle.token_defs.specs.Spnego.{spnego, init_spelling, init_fields_spelling}
 use Rattle.spnego_der.specs.Views.{init_view}

@@ -1,0 +1,13 @@
+use Rattle.std.proofs.Common.{◌≡◌, ◌-◌, ◌/◌, ◌⊎◌, ℕ, length, refl, arith, inl, inr}
+use Rattle.aes_block.proofs.Rounds.{all_rounds}
+use Rattle.aes_block.proofs.cipher.cipher_of.Goals as goal
+
+pub returns : goal.returns
+returns c =
+    let n : ℕ = length c.args.words.now / 4 - 1 in
+    let either : (n ≡ 10) ⊎ (n ≡ 14) = elim c.requires [
+      | inl e ↦ inl (omega arith)
+      | inr e ↦ inr (omega arith)
+    ] in
+    rw (c.block_of.ensures, c.last_round_of.ensures, c.next_of-odd.ensures, c.after_pairs-even.ensures, c.key_of.ensures)
+    (all_rounds c.args.words.now c.args.block.now n either refl)

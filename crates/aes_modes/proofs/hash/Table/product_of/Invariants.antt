@@ -1,6 +1,0 @@
-use Rattle.std.proofs.Common.{◌≡◌, ◌*◌}
-use Rattle.cipher_defs.specs.Ghash.{bits_of, sum_at}
-use Rattle.aes_modes.proofs.hash.Table.product_of.Given as goal
-
-abbrev pub invariant-loop-i : goal.invariant-loop-i
-invariant-loop-i l = l.z ≡ sum_at (bits_of (4 * l.i) l.x) l.self.h
