@@ -56,12 +56,13 @@ fn handed_out(alloc: Global, frames: &mut Deframer) -> Result<String> {
 pub fn answers(alloc: Global, row: &str) -> Result<String> {
     let mut frames = Deframer::new(alloc);
     let mut line = String::from_str(alloc, "stream:")?;
-    let mut mark = " ";
+    let mut first = true;
     for piece in row.split_whitespace().skip(1) {
         frames.feed(&bytes_of(alloc, piece)?)?;
         let said = handed_out(alloc, &mut frames)?;
-        line.push_str(&format!(in alloc; "{mark}{said}")?)?;
-        mark = "; ";
+        let mark = if first { "" } else { ";" };
+        line.push_str(&format!(in alloc; "{mark} {said}")?)?;
+        first = false;
     }
     Ok(line)
 }
