@@ -29,12 +29,19 @@ use Rattle.command_defs.specs.Tables.{directory_class, bit_if}
 unfoldable pub allocation : ℕ → ℕ
 allocation size = ((size + 4095) / 4096) * 4096
 
--- FileAttributes (MS-FSCC 2.6): a directory has 0x10; a file that has none is NORMAL, 0x80
+unfoldable pub without_bit : ℕ → ℕ → ℕ
+without_bit n bit = if has_bit n bit then n - bit else n
+
+-- the attributes that are set of a file and tell nothing of what it is: NORMAL, 0x80, and DIRECTORY, 0x10, are passed over
+abbrev pub plain_attributes : ℕ → ℕ
+plain_attributes attributes = without_bit (without_bit attributes 0x80) 0x10
+
+-- FileAttributes (MS-FSCC 2.6): a directory has DIRECTORY and no file has it; NORMAL is told alone, of a file that has no other
 unfoldable pub attributes_of : Info → ℕ
 attributes_of i =
-    if i.is_directory then (if has_bit i.times.attributes 0x10 then i.times.attributes else i.times.attributes + 0x10)
-    else if i.times.attributes == 0 then 0x80
-    else i.times.attributes
+    if i.is_directory then plain_attributes i.times.attributes + 0x10
+    else if plain_attributes i.times.attributes == 0 then 0x80
+    else plain_attributes i.times.attributes
 
 abbrev pub basic_of : Info → FileBasicInformation
 basic_of i = record {
@@ -191,7 +198,8 @@ listing_of (Some c) ns = listing_spelling c (entries_of c ns)
 unfoldable pub listing_bytes : ℕ → List Named → List ℕ
 listing_bytes class ns = listing_of (directory_class class) ns
 
--- ---- interfaces: one, of IPv4 (family 2), told at 10 Gbit/s; port and address have their highest byte first
+-- ---- interfaces: one, of IPv4 (family 2), told at 10 Gbit/s; the address has its highest byte first, and the port is
+-- reserved: a server writes 0 (MS-SMB2 2.2.32.5.1.1)
 
 abbrev pub interface_of : Address → NetworkInterface
 interface_of a =
@@ -201,7 +209,7 @@ interface_of a =
       capability = 0;
       link_speed = 10000000000;
       family = 2;
-      port = (a.port / 256) ∷ (a.port % 256) ∷ [];
+      port = 0 ∷ 0 ∷ [];
       address = (a.ip / 16777216) ∷ ((a.ip / 65536) % 256) ∷ ((a.ip / 256) % 256) ∷ (a.ip % 256) ∷ [];
     }
 

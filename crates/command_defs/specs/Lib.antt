@@ -7,3 +7,4 @@ pub mod BodyOf
 pub mod Infos
 pub mod ReplyBody
 pub mod ReplyOf
+pub mod Fits

@@ -1,5 +1,5 @@
 -- The values of the examples.
-use Rattle.std.specs.Prelude.{ℕ, false, true, List, [], ◌∷◌, Some, None}
+use Rattle.std.specs.Prelude.{ℕ, Bool, false, true, List, [], ◌∷◌, Some, None}
 use Rattle.wire_defs.specs.Places.{le}
 use Rattle.wire_defs.specs.declared.header.Header.{Header}
 use Rattle.exchange_defs.specs.Commands.{CreateRequest, Bad}
@@ -60,6 +60,16 @@ nothing = record {
     changed = 0;
     attributes = 0;
   };
+}
+
+-- a file or a directory with these attributes
+abbrev pub with_attributes : Bool → ℕ → Info
+with_attributes directory attributes = record {
+  file = 0;
+  is_directory = directory;
+  size = 0;
+  is_delete_pending = false;
+  times = record { created = 0; accessed = 0; written = 0; changed = 0; attributes = attributes };
 }
 
 -- `.` and `ab`

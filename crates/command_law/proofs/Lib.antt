@@ -11,3 +11,4 @@ pub mod HeardBack
 pub mod Infos
 pub mod Names
 pub mod Broken
+pub mod Volumes

@@ -25,7 +25,7 @@ in_32 n e = omega (arith, below n 0x1_0000_0000 e)
 pub in_64 : (n : ℕ) → fits_64 n ≡ true → n < 256 ^ 8
 in_64 n e = omega (arith, below n 0x1_0000_0000_0000_0000 e)
 
-ascii_then : (x : ℕ) (xs : List ℕ) → x < 128 → IsUtf8 xs → IsUtf8 (x ∷ xs)
+pub ascii_then : (x : ℕ) (xs : List ℕ) → x < 128 → IsUtf8 xs → IsUtf8 (x ∷ xs)
 ascii_then x xs small u = IsUtf8-append (x ∷ []) xs (subst IsUtf8 (encode_ascii x small) (IsUtf8-encode x (low_scalar x
     (omega (arith, small))))) u
 

@@ -22,7 +22,7 @@ fold_append : (n : ℕ) (xs ys : List ℕ) → fold (λ a x. a + weight x) n (xs
 fold_append n [] ys = refl
 fold_append n (x ∷ xs) ys = fold_append (n + weight x) xs ys
 
-sum_append : (xs ys : List ℕ) → utf16_length (xs ++ ys) ≡ utf16_length xs + utf16_length ys
+pub sum_append : (xs ys : List ℕ) → utf16_length (xs ++ ys) ≡ utf16_length xs + utf16_length ys
 unfolding utf16_length
 sum_append xs ys = fold_append 0 xs ys ∙ fold_from (fold (λ a x. a + weight x) 0 xs) ys
 

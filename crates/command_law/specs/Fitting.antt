@@ -78,6 +78,11 @@ abbrev pub AreNames : List Named → Type 0
 AreNames [] = Unit {0}
 AreNames (n ∷ ns) = IsName n.name × AreNames ns
 
+-- the names of a listing are text
+abbrev pub AreTexts : List Named → Type 0
+AreTexts [] = Unit {0}
+AreTexts (n ∷ ns) = IsUtf8 n.name × AreTexts ns
+
 -- The body that a success of an operation's command has, its numbers within their fields: a CREATE's tells the open, a WRITE's
 -- a count, a READ's bytes, a QUERY_INFO's the class 5, a QUERY_DIRECTORY's entries of the class 12, and the others' nothing.
 abbrev pub IsAnswer : Op → Body → Type 0

@@ -9,7 +9,8 @@ use wire_law::create_request_law;
 
 // CREATE
 pub fn create_again()
-    ensures { (header rest : List ℕ) (r : CreateRequest) → length header ≡ 64 → IsCreate r → create_in (header ++ (body_of (Create r) ++ rest)) ≡ Create r }
+    ensures { (header rest : List ℕ) (r : CreateRequest) → length header ≡ 64 → IsCreate r
+        → create_in (header ++ (body_of (Create r) ++ rest)) ≡ Create r }
 {
     create_request_law();
     create_contexts_law();

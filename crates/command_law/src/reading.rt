@@ -27,8 +27,10 @@ pub fn same_reading_law()
 
 /// A listing reads as the wire's own grammar says, in each class: its entries, or none where it has a break.
 pub fn same_listing_law()
-    ensures listing { (c : DirectoryClass) (m : List ℕ) (vs : List DirectoryEntryValue) → SpellsListing c m vs → items_in (directory_entry_in c) (λ m. is_some (first_entry_fault c m)) m ≡ Some vs }
-    ensures no_listing { (c : DirectoryClass) (m : List ℕ) (e : MessageError) → BreaksListing c m e → items_in (directory_entry_in c) (λ m. is_some (first_entry_fault c m)) m ≡ None }
+    ensures listing { (c : DirectoryClass) (m : List ℕ) (vs : List DirectoryEntryValue) → SpellsListing c m vs
+        → items_in (directory_entry_in c) (λ m. is_some (first_entry_fault c m)) m ≡ Some vs }
+    ensures no_listing { (c : DirectoryClass) (m : List ℕ) (e : MessageError) → BreaksListing c m e
+        → items_in (directory_entry_in c) (λ m. is_some (first_entry_fault c m)) m ≡ None }
 {
     directory_entry_law();
 }

@@ -14,8 +14,15 @@ use crate::setting::set_again;
 /// the connection tells. The operation keeps the limits at which it is taken; a CreateGuid has 16 bytes, an
 /// open's id 8, a slot's index fits a LockSequence, and its number is below 16.
 pub fn request_law()
-    ensures own { (t : Told) (h : Header) (header rest : List ℕ) (op : Op) (guid file slot number : ℕ) → length header ≡ 64 → keeps_limits op ≡ true → guid < 256 ^ 16 → file < 256 ^ 8 → slot < 256 ^ 3 → number < 16 → h.command ≡ number_of_command (request_of op guid file slot number) → command_of t h (header ++ (body_of (request_of op guid file slot number) ++ rest)) ≡ Some (request_of op guid file slot number) }
-    ensures attach { (t : Told) (h : Header) (header rest : List ℕ) (op : Op) (guid file : ℕ) → length header ≡ 64 → keeps_limits op ≡ true → is_create op ≡ true → guid < 256 ^ 16 → file < 256 ^ 8 → h.command ≡ number_of_command (reconnect_of op guid file) → command_of t h (header ++ (body_of (reconnect_of op guid file) ++ rest)) ≡ Some (reconnect_of op guid file) }
+    ensures own { (t : Told) (h : Header) (header rest : List ℕ) (op : Op) (guid file slot number : ℕ) → length header
+        ≡ 64 → keeps_limits op ≡ true → guid < 256 ^ 16 → file < 256 ^ 8 → slot < 256 ^ 3 → number < 16 → h.command
+        ≡ number_of_command (request_of op guid file slot number)
+        → command_of t h (header ++ (body_of (request_of op guid file slot number) ++ rest))
+        ≡ Some (request_of op guid file slot number) }
+    ensures attach { (t : Told) (h : Header) (header rest : List ℕ) (op : Op) (guid file : ℕ) → length header ≡ 64
+        → keeps_limits op ≡ true → is_create op ≡ true → guid < 256 ^ 16 → file < 256 ^ 8 → h.command
+        ≡ number_of_command (reconnect_of op guid file)
+        → command_of t h (header ++ (body_of (reconnect_of op guid file) ++ rest)) ≡ Some (reconnect_of op guid file) }
 {
     create_again();
     close_again();

@@ -11,7 +11,8 @@ use info_law::{
 
 // SET_INFO
 pub fn set_again()
-    ensures { (header rest : List ℕ) (file : ℕ) (setting : Setting) → length header ≡ 64 → file < 256 ^ 8 → IsSetting setting → set_in (header ++ (body_of (SetInfo file setting) ++ rest)) ≡ SetInfo file setting }
+    ensures { (header rest : List ℕ) (file : ℕ) (setting : Setting) → length header ≡ 64 → file < 256 ^ 8
+        → IsSetting setting → set_in (header ++ (body_of (SetInfo file setting) ++ rest)) ≡ SetInfo file setting }
 {
     set_info_request_law();
     file_basic_information_law();

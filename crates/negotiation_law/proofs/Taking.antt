@@ -6,7 +6,7 @@ use Rattle.std.proofs.lemmas.List.{length-append}
 use Rattle.exchange_defs.specs.Table.{put}
 use Rattle.exchange_defs.specs.Status.{success, more_processing_required}
 use Rattle.exchange_defs.specs.State.{Server, Message}
-use Rattle.exchange_defs.specs.Operations.{Refusal, BadToken, BadSignature, BadChoice, HadStatus}
+use Rattle.exchange_defs.specs.Operations.{Refusal, BadToken, BadSignature, HadStatus}
 use Rattle.exchange_defs.specs.Client.{Stage, Apart, SaidNegotiate, SaidFirst, SaidSecond, AskedTree}
 use Rattle.exchange_defs.specs.ClientStep.{Act, Nothing, Sends, Asks, CloseChannel, CloseChannels, AllSettled, IsCut}
 use Rattle.exchange_defs.specs.ClientStep.{IsReady, IsRefused, Hears, act}
@@ -21,7 +21,7 @@ use Rattle.world_defs.specs.Messages.{Heard}
 use Rattle.world_defs.specs.Ends.{ClientEnd, ServerEnd}
 use Rattle.world_defs.specs.Answering.{Ending}
 use Rattle.world_defs.specs.Sending.{line_frame, spent, sealed_on}
-use Rattle.world_defs.specs.Dialog.{due, dialog_fault, has_form, choices_of, has_token, is_signed, flags_fit}
+use Rattle.world_defs.specs.Dialog.{due, dialog_fault, has_form, choices_of, has_token, is_signed, last_fault}
 use Rattle.world_defs.specs.Dialog.{first_refusal, unless, ended_on, accepted_end, bound_end, noted_heard, paid_in}
 use Rattle.world_defs.specs.Dialog.{line_response, dialog_response}
 use Rattle.world_defs.specs.World.{World, Wires, with_values, with_client_end, queued, line_sent}
@@ -160,7 +160,7 @@ no_fault_signed : (c : ClientSettings) (n : ClientEnd) (stage : Stage) (x : Hear
     → is_signed n stage x.bytes ≡ true
 no_fault_signed c n stage x e =
     signed_of (has_form n stage x) (choices_of c stage x.bytes) (has_token c n stage x.bytes)
-    (is_signed n stage x.bytes) (unless (flags_fit n stage x.bytes) (BadChoice 5)) e
+    (is_signed n stage x.bytes) (last_fault n stage x) e
 
 -- an accepted response is whole and verified
 ended_verified : (accepted : List Ending) (n : ClientEnd) (x : Heard) (bound : Bool) → AreVerified accepted

@@ -1,13 +1,15 @@
 -- Which events of the world over bytes a script's lines come to (this project's): the program's own choices, as the model of values has
 -- them, with the credits that the client's end of a connection holds, and with tampering. No statement on runs takes them as a premise.
 use Rattle.std.specs.Prelude.{ℕ, zero, suc, ◌+◌, ◌*◌, ◌==◌, Bool, true, false, not, ◌&&◌, ◌||◌, List, [], ◌∷◌, ◌++◌, length, Option}
-use Rattle.std.specs.Prelude.{Some, None}
+use Rattle.std.specs.Prelude.{Some, None, ◌≡◌, map}
+use Rattle.exchange_defs.specs.Schedules as values
 use Rattle.exchange_defs.specs.Table.{is_at, is_filled}
 use Rattle.exchange_defs.specs.Operations.{Refusal}
 use Rattle.exchange_defs.specs.ClientStep.{some_unsettled}
-use Rattle.exchange_defs.specs.Network.{Event, Open, Serve, Take, Cut, Drop, Finish, may_serve, may_take_reply}
+use Rattle.exchange_defs.specs.Network.{Event, Open, Serve, Take, Cut, Drop, Finish, may_serve, may_take_reply, start}
 use Rattle.exchange_defs.specs.Schedules.{choose, push_by, is_linking, has_more, hangs, is_orphan, is_apart, last_refusal, least}
-use Rattle.world_defs.specs.Settings.{WorldSettings}
+use Rattle.world_defs.specs.Settings.{WorldSettings, values_of}
+use Rattle.world_defs.specs.Notes.{WorldError, event_error, step_error, open_error, unless_open}
 use Rattle.world_defs.specs.World.{World}
 use Rattle.world_defs.specs.Events.{ByteEvent, Plain, forge, flip, bytes_happen, bytes_start}
 
@@ -149,3 +151,40 @@ go z n c Settles = settle_below z n (8 * (c.world.values.client.taken + n + 1)) 
 unfoldable pub course : WorldSettings → ℕ → List Line → Course → Course
 course z n [] c = c
 course z n (l ∷ ls) c = course z n ls (go z n c l)
+
+-- ---- the first line whose event the world doesn't meet, by its place from 0; the schedule ends there
+
+abbrev pub line_error : World → Line → Option WorldError
+line_error w (Does e) = event_error w e
+line_error w (Forges k up bytes) = step_error w (forge k up bytes)
+line_error w (Flips k up at mask) = step_error w (flip k up at mask)
+line_error w (Pushes k) = unless_open (w.values.client.ready k) k
+line_error w (Links k) = open_error w k
+line_error w Settles = None
+
+pub record LineError : Type 0 where
+  pub line : ℕ
+  pub why : WorldError
+
+abbrev pub error_or : ℕ → Option WorldError → Option LineError → Option LineError
+error_or i None later = later
+error_or i (Some why) later = Some (record { line = i; why = why })
+
+unfoldable pub first_error : WorldSettings → ℕ → ℕ → List Line → Course → Option LineError
+first_error z n i [] c = None
+first_error z n i (l ∷ ls) c = error_or i (line_error c.world l) (first_error z n (i + 1) ls (go z n c l))
+
+-- ---- in step: without tampering a script comes to the values that the model of values has
+
+abbrev pub line_of : values.Line → Line
+line_of (values.Does e) = Does e
+line_of (values.Pushes k) = Pushes k
+line_of (values.Links k) = Links k
+line_of values.Settles = Settles
+
+abbrev pub values_opening : WorldSettings → values.Course
+values_opening z = record { world = start (values_of z); events = [] }
+
+abbrev pub IsCourseInStep : WorldSettings → ℕ → List values.Line → Type 0
+IsCourseInStep z n ls =
+    (course z n (map line_of ls) (opening z)).world.values ≡ (values.course n ls (values_opening z)).world

@@ -1,5 +1,5 @@
 -- What the client's end hears (MS-SMB2 3.2.5.1 to 3.2.5.5): a dialog's response with its first fault, and a line's reply.
-use Rattle.std.specs.Prelude.{ℕ, ◌==◌, Bool, true, false, not, ◌&&◌, ◌||◌, if◌then◌else◌, List, [], ◌∷◌, ◌++◌, length, Option, Some}
+use Rattle.std.specs.Prelude.{ℕ, ◌==◌, nat_lt, Bool, true, false, not, ◌&&◌, ◌||◌, if◌then◌else◌, List, [], ◌∷◌, ◌++◌, length, Option, Some}
 use Rattle.std.specs.Prelude.{None, is_none, is_some, Result, Ok, Err}
 use Rattle.wire_defs.specs.declared.header.Header.{Header}
 use Rattle.wire_defs.specs.Negotiate.{negotiate_response_in, negotiate_response_fault}
@@ -185,6 +185,13 @@ flags_fit n (SaidSecond bound) m =
     && (not (has_bit (setup_flags m) 2) && not (has_bit (setup_flags m) 4 && ((own_final n bound 0).cipher == 0)))
 flags_fit n _ m = true
 
+-- ---- a credit for the next request, where one follows (3.2.4.1.2)
+
+abbrev pub pays_next : ClientEnd → Stage → Header → Bool
+pays_next n AskedTree h = true
+pays_next n (SaidSecond bound) h = bound || nat_lt 0 (after_add h.credits n.purse).held
+pays_next n _ h = nat_lt 0 (after_add h.credits n.purse).held
+
 abbrev pub choices_of : ClientSettings → Stage → List ℕ → Option Refusal
 choices_of c (SaidNegotiate bound) m = choice_fault c m
 choices_of c _ m = None
@@ -197,13 +204,17 @@ first_refusal None later = later
 abbrev pub unless : Bool → Refusal → Option Refusal
 unless b why = if b then None else Some why
 
+-- behind the signature
+abbrev pub last_fault : ClientEnd → Stage → Heard → Option Refusal
+last_fault n stage x =
+    first_refusal (unless (flags_fit n stage x.bytes) (BadChoice 5)) (unless (pays_next n stage x.header) BadToken)
+
 abbrev pub dialog_fault : ClientSettings → ClientEnd → Stage → Heard → Option Refusal
 dialog_fault c n stage x =
     first_refusal (unless (has_form n stage x) BadToken)
     (first_refusal (choices_of c stage x.bytes)
     (first_refusal (unless (has_token c n stage x.bytes) BadToken)
-    (first_refusal (unless (is_signed n stage x.bytes) BadSignature)
-    (unless (flags_fit n stage x.bytes) (BadChoice 5)))))
+    (first_refusal (unless (is_signed n stage x.bytes) BadSignature) (last_fault n stage x))))
 
 -- ---- this end behind a response
 

@@ -117,3 +117,4 @@ pub data ConnEnd : Type 0 where
   Unsealable : ConnEnd
   Spent : ConnEnd
   Full : ConnEnd
+  Stopped : (count : ℕ) → ConnEnd  -- the server has, at this count of the disk's faults

@@ -8,6 +8,8 @@ pub mod Logon
 pub mod Answering
 pub mod Connection
 pub mod Given
+pub mod Lacking
+pub mod Mishaps
 pub mod Sending
 pub mod Dialog
 pub mod World

@@ -38,7 +38,7 @@ handed_on file = if bytes_eq file (replicate 16 0xff) then no_file_id else file
 
 abbrev pub file_at : Option ℕ → List ℕ → List ℕ
 file_at None m = no_file_id
-file_at (Some place) m = bytes_at 16 m place
+file_at (Some place) m = if nat_le (place + 16) (length m) then bytes_at 16 m place else no_file_id
 
 -- the FileId that a request names
 unfoldable pub file_named : ℕ → List ℕ → List ℕ

@@ -1,5 +1,5 @@
 -- What the client's end of a connection sends (MS-SMB2 3.2.4.1, 3.2.4.2): its requests, signed or sealed, and the tokens of a dialog.
-use Rattle.std.specs.Prelude.{ℕ, ◌+◌, Bool, true, false, ◌||◌, not, nat_lt, if◌then◌else◌, List, [], ◌∷◌, Option, Some}
+use Rattle.std.specs.Prelude.{ℕ, ◌+◌, Bool, true, false, ◌||◌, not, nat_lt, if◌then◌else◌, List, [], ◌∷◌, length, Option, Some}
 use Rattle.std.specs.Prelude.{None}
 use Rattle.wire_defs.specs.declared.header.Header.{Header}
 use Rattle.wire_defs.specs.SessionSetup.{session_setup_request_spelling}
@@ -92,9 +92,14 @@ setup_frame n bound previous token m =
 abbrev pub credentials_of : ClientSettings → ClientEnd → Credentials
 credentials_of c n = record { user = c.user; password = c.password; domain = []; challenge = n.challenge; key = n.base }
 
--- the answer to an interim token, where that reads
+-- a token whose length SecurityBufferLength tells (2.2.5)
+abbrev pub that_fits : Option (List ℕ) → Option (List ℕ)
+that_fits None = None
+that_fits (Some token) = if nat_lt (length token) 65536 then Some token else None
+
+-- the answer to an interim token, where that reads and the answer fits its field
 unfoldable pub answer_of : ClientSettings → ClientEnd → List ℕ → Option (List ℕ)
-answer_of c n token = answer_token (credentials_of c n) token
+answer_of c n token = that_fits (answer_token (credentials_of c n) token)
 
 abbrev pub or_no_token : Option (List ℕ) → List ℕ
 or_no_token None = []

@@ -1,5 +1,5 @@
 -- What is said of runs over bytes.
-use Rattle.std.specs.Prelude.{◌≡◌, ℕ, ◌≤◌, ◌⊎◌, Bool, true, false, List, [], ◌∷◌, length, Some, None, Ok, slice_get}
+use Rattle.std.specs.Prelude.{◌≡◌, ℕ, ◌≤◌, ◌<◌, ◌⊎◌, Bool, true, false, List, [], ◌∷◌, length, Some, None, Ok, slice_get}
 use Rattle.exchange_defs.specs.Commands.{has_bit}
 use Rattle.exchange_defs.specs.Network.{Event, Push, Sent}
 use Rattle.exchange_defs.specs.Network.{answer, run, start}
@@ -10,7 +10,7 @@ use Rattle.session_defs.specs.Derivation.{signing_key}
 use Rattle.session_defs.specs.Signing.{verifies}
 use Rattle.session_defs.specs.Sealing.{sealed}
 use Rattle.world_defs.specs.Settings.{WorldSettings, values_of}
-use Rattle.world_defs.specs.Ends.{ServerEnd, nonce_at}
+use Rattle.world_defs.specs.Ends.{ClientEnd, ServerEnd, nonce_at}
 use Rattle.world_defs.specs.Hearing.{Checked, Frame, begins_sealed, check_frame, signed_by, is_negotiate, is_setup}
 use Rattle.world_defs.specs.Answering.{Ending, Seal}
 use Rattle.world_defs.specs.World.{World, paid, step_at}
@@ -69,6 +69,15 @@ plain_run z events = bytes_run z (plainly events) (bytes_start z)
 abbrev pub AcceptedIsMade : World → Type 0
 AcceptedIsMade w = (i : ℕ) (a : Ending) → slice_get w.accepted i ≡ Some a → (j : ℕ) × (slice_get w.made j ≡ Some a)
 
+-- and a ready channel's logon is remembered, over every run: the last response of its transcript, with its keys
+abbrev pub IsAccepted : World → ClientEnd → Type 0
+IsAccepted w n =
+    (i : ℕ) × (a : Ending) × (slice_get w.accepted i ≡ Some a) × (a.transcript ≡ n.transcript) × (a.base ≡ n.base)
+    × (signer_of_ending a ≡ n.keys.signing)
+
+abbrev pub AcceptedIsKept : World → Type 0
+AcceptedIsKept w = (k : ℕ) → w.values.client.ready k ≡ true → IsAccepted w (w.wires k).client_end
+
 -- and each sealed frame that is on its way is remembered: a seal of this session and direction spells it under these keys
 abbrev pub IsSpelledBy : Keys → Bool → List ℕ → Seal → Type 0
 IsSpelledBy keys to_server frame a =
@@ -96,6 +105,19 @@ pub record AreNumbered (w : World) : Type 0 where
 
 abbrev pub ChannelsAreNumbered : Type 0
 ChannelsAreNumbered = (z : WorldSettings) (events : List ByteEvent) → AreNumbered (bytes_run z events (bytes_start z))
+
+-- and in a session numbers rise: the session's first channel has 1, and each further one a number above all before it
+pub record NumbersRise (w v : World) : Type 0 where
+  pub first : (k : ℕ) → w.values.client.live ≡ false → v.values.client.ready k ≡ true → (v.wires k).client_end.channel ≡ 1
+  pub kept : w.values.client.live ≡ true → v.values.client.live ≡ true → w.numbers ≤ v.numbers
+  pub further :
+      (k : ℕ) → w.values.client.live ≡ true → w.values.client.ready k ≡ false → v.values.client.ready k ≡ true →
+      (w.numbers < v.numbers) × ((v.wires k).client_end.channel ≡ v.numbers)
+
+abbrev pub ChannelNumbersRise : Type 0
+ChannelNumbersRise =
+    (z : WorldSettings) (events : List ByteEvent) (e : ByteEvent) →
+    NumbersRise (bytes_run z events (bytes_start z)) (bytes_happen z (bytes_run z events (bytes_start z)) e)
 
 -- ---- nonces: no two messages are sealed under one in a session and a direction
 

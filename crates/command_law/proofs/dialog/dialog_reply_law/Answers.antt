@@ -6,12 +6,13 @@ use Rattle.wire_defs.specs.TreeConnect.{SpellsTreeConnectResponse, tree_connect_
 use Rattle.wire_defs.specs.TreeConnect.{tree_connect_response_in, tree_connect_response_spelling}
 use Rattle.wire_defs.specs.declared.session_message.TreeConnectResponse.{TreeConnectResponse}
 use Rattle.exchange_defs.specs.Commands.{has_bit}
-use Rattle.exchange_defs.specs.State.{Body, SetUp, Connected}
+use Rattle.exchange_defs.specs.State.{Body, SetUp, Connected, Empty}
+use Rattle.wire_defs.specs.Bare.{bare_fault, bare_spelling}
 use Rattle.command_defs.specs.Tables.{bit_if}
 use Rattle.command_defs.specs.ReplyBody.{connected_value}
 use Rattle.command_defs.specs.ReplyOf.{body_in}
 use Rattle.command_law.proofs.ReadBack.{found}
-use Rattle.command_law.proofs.HeardBack.{heard_as}
+use Rattle.command_law.proofs.HeardBack.{heard_as, unbroken}
 use Rattle.command_law.proofs.dialog.dialog_reply_law.Goals as goal
 
 abbrev set_up : SessionSetupResponseValue → Option Body
@@ -65,3 +66,15 @@ returns-clause-tree c = λ header rest token share kind capabilities access len 
     heard_as tree_connect_response_fault tree_connect_response_in connected m v
     (found SpellsTreeConnectResponse tree_connect_response_fault tree_connect_response_in law.one law.whole law.given
     m v (law.again header rest v len (omega arith, (small, (omega arith, (few, (fits, tt)))))))
+
+pub returns-clause-logoff : goal.returns-clause-logoff
+unfolding body_in
+returns-clause-logoff c = λ header rest token len.
+    let m : List ℕ = header ++ (bare_spelling ++ rest) in
+    unbroken (bare_fault m) (Some Empty) (c.bare_law.ensures.whole m (c.bare_law.ensures.again header rest len))
+
+pub returns-clause-disconnect : goal.returns-clause-disconnect
+unfolding body_in
+returns-clause-disconnect c = λ header rest token len.
+    let m : List ℕ = header ++ (bare_spelling ++ rest) in
+    unbroken (bare_fault m) (Some Empty) (c.bare_law.ensures.whole m (c.bare_law.ensures.again header rest len))

@@ -1,0 +1,5 @@
+pub mod Elements
+pub mod Guids
+pub mod Heard
+pub mod Leaf
+pub mod Unless

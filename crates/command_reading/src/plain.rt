@@ -1,0 +1,101 @@
+//! Requests that carry no text.
+ghost use Rattle.std.specs.Prelude.{◌≡◌};
+ghost use Rattle.command_defs.specs.CommandOf.{logoff_in, tree_disconnect_in, close_in, flush_in, read_in, write_in, ioctl_in};
+ghost use Rattle.command_values.specs.Meaning;
+
+use crate::ids::{file_of, has_bit};
+use crate::status::unreadable;
+use command_values::Command;
+use msg_file::{read_close_request, read_flush_request, read_read_request, read_write_request};
+use msg_info::read_ioctl_request;
+use msg_session::{read_logoff_request, read_tree_disconnect_request};
+
+#[tactic(auto, unfolding(command_defs::specs::CommandOf::logoff_in), using(crate::proofs::Unless::where_it_reads, crate::proofs::Unless::where_it_breaks))]
+pub(crate) fn logoff_in(m: &[u8]) -> Command<'_>
+    ensures { Meaning.command_of result ≡ logoff_in m.now }
+{
+    match read_logoff_request(m) {
+        Ok(_) => Command::Logoff,
+        Err(error) => unreadable(error),
+    }
+}
+
+#[tactic(auto, unfolding(command_defs::specs::CommandOf::tree_disconnect_in), using(crate::proofs::Unless::where_it_reads, crate::proofs::Unless::where_it_breaks))]
+pub(crate) fn tree_disconnect_in(m: &[u8]) -> Command<'_>
+    ensures { Meaning.command_of result ≡ tree_disconnect_in m.now }
+{
+    match read_tree_disconnect_request(m) {
+        Ok(_) => Command::TreeDisconnect,
+        Err(error) => unreadable(error),
+    }
+}
+
+#[tactic(auto, unfolding(command_defs::specs::CommandOf::close_in), using(crate::proofs::Unless::where_it_reads, crate::proofs::Unless::where_it_breaks))]
+pub(crate) fn close_in(m: &[u8]) -> Command<'_>
+    ensures { Meaning.command_of result ≡ close_in m.now }
+{
+    match read_close_request(m) {
+        Ok(v) => Command::Close {
+            file: file_of(&v.file_id),
+            query: has_bit(v.flags as u32, 1),
+        },
+        Err(error) => unreadable(error),
+    }
+}
+
+#[tactic(auto, unfolding(command_defs::specs::CommandOf::flush_in), using(crate::proofs::Unless::where_it_reads, crate::proofs::Unless::where_it_breaks))]
+pub(crate) fn flush_in(m: &[u8]) -> Command<'_>
+    ensures { Meaning.command_of result ≡ flush_in m.now }
+{
+    match read_flush_request(m) {
+        Ok(v) => Command::Flush {
+            file: file_of(&v.file_id),
+        },
+        Err(error) => unreadable(error),
+    }
+}
+
+#[tactic(auto, unfolding(command_defs::specs::CommandOf::read_in), using(crate::proofs::Unless::where_it_reads, crate::proofs::Unless::where_it_breaks))]
+pub(crate) fn read_in(m: &[u8]) -> Command<'_>
+    ensures { Meaning.command_of result ≡ read_in m.now }
+{
+    match read_read_request(m) {
+        Ok(v) => Command::Read {
+            file: file_of(&v.file_id),
+            at: v.offset,
+            size: v.length,
+            minimum: v.minimum_count,
+            channel: v.channel,
+        },
+        Err(error) => unreadable(error),
+    }
+}
+
+#[tactic(auto, unfolding(command_defs::specs::CommandOf::write_in), using(crate::proofs::Unless::where_it_reads, crate::proofs::Unless::where_it_breaks))]
+pub(crate) fn write_in(m: &[u8]) -> Command<'_>
+    ensures { Meaning.command_of result ≡ write_in m.now }
+{
+    match read_write_request(m) {
+        Ok(v) => Command::Write {
+            file: file_of(&v.file_id),
+            at: v.offset,
+            bytes: v.payload,
+            channel: v.channel,
+        },
+        Err(error) => unreadable(error),
+    }
+}
+
+#[tactic(auto, unfolding(command_defs::specs::CommandOf::ioctl_in), using(crate::proofs::Unless::where_it_reads, crate::proofs::Unless::where_it_breaks))]
+pub(crate) fn ioctl_in(m: &[u8]) -> Command<'_>
+    ensures { Meaning.command_of result ≡ ioctl_in m.now }
+{
+    match read_ioctl_request(m) {
+        Ok(v) => Command::Ioctl {
+            file: file_of(&v.file_id),
+            code: v.ctl_code,
+            room: v.max_output_response,
+        },
+        Err(error) => unreadable(error),
+    }
+}

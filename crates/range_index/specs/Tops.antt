@@ -1,0 +1,35 @@
+-- Which of many numbered ranges covers a byte last, as a table by bytes: a key tells it for its byte and those behind it.
+use Rattle.std.specs.Prelude.{◌≡◌, ℕ, zero, suc, ◌+◌, ◌<◌, ◌≤◌, ◌^◌, nat_le, nat_lt, Bool, ◌&&◌, if◌then◌else◌, List, ◌++◌, length, slice_index, Option, Some, None, ◌⊎◌}
+
+-- the number at the greatest key that isn't above a byte, or 0
+unfoldable pub top_in : (ℕ → Option ℕ) → ℕ → ℕ
+top_in keys zero = elim (keys 0) [ Some top ↦ top | None ↦ 0 ]
+top_in keys (suc x) = elim (keys (suc x)) [ Some top ↦ top | None ↦ top_in keys x ]
+
+-- the byte lies in the range
+abbrev pub is_in : ℕ → ℕ → ℕ → Bool
+is_in at size x = nat_le at x && nat_lt x (at + size)
+
+-- the range covers its bytes, last of all
+abbrev pub Covers : (old new : ℕ → ℕ) (at size number : ℕ) → Type 0
+Covers old new at size number = (x : ℕ) → x < 2 ^ 64 → new x ≡ (if is_in at size x then number else old x)
+
+-- a range left where it covered a byte, or stayed
+abbrev pub Forgets : (old new : ℕ → ℕ) (number : ℕ) → Type 0
+Forgets old new number = (x : ℕ) → x < 2 ^ 64 → (new x ≡ old x) ⊎ ((old x ≡ number) × (new x ≡ 0))
+
+-- a byte of a range that a number covers last
+pub record IsTop (top : ℕ → ℕ) (at size number : ℕ) : Type 0 where
+  pub byte : ℕ
+  pub behind : at ≤ byte
+  pub within : byte < at + size
+  pub fits : byte < 2 ^ 64
+  pub is : top byte ≡ number
+  pub some : 0 < number
+
+-- behind a list stand the numbers that cover a byte of the range last, each at least once, and no others
+pub record Lists (top : ℕ → ℕ) (at size : ℕ) (old new : List ℕ) : Type 0 where
+  pub more : List ℕ
+  pub is : new ≡ old ++ more
+  pub each : (i : ℕ) → i < length more → IsTop top at size (slice_index more i)
+  pub all : (x : ℕ) → at ≤ x → x < at + size → x < 2 ^ 64 → (top x ≡ 0) ⊎ ((i : ℕ) × (i < length more) × (slice_index more i ≡ top x))

@@ -1,0 +1,145 @@
+//! Which of many numbered ranges of bytes covers a byte last.
+#![tactic(auto)]
+
+ghost use Rattle.std.specs.Prelude.{◌≡◌, ℕ, ◌==◌, if◌then◌else◌, [], ◌∷◌, ◌++◌, OnOk, OnErr};
+ghost use Rattle.range_index.specs.Tops.{Covers, Forgets, Lists};
+ghost use Rattle.range_index.specs.Shown.{top};
+
+mod keys;
+
+use keys::{
+    divide, divide_behind, drop_behind, forget_key, is_whole, join_at, key_behind, put, top_of,
+};
+use std::alloc::{AllocError, Global};
+use std::collections::BTreeMap;
+
+/// Ranges of bytes below 2^64, by number. Where ranges overlap, a later one hides the earlier ones. Contracts speak of the
+/// number that covers each byte last (`top`); 0 is none.
+#[derive(Drop)]
+pub struct RangeIndex {
+    /// By a byte, the number of the range that covers it and those behind it up to the next key.
+    tops: BTreeMap<u64, u32>,
+}
+
+/// Adds a number to a list, where it is one.
+fn add(into: &mut Vec<u32>, number: u32) -> Result<(), AllocError>
+    ensures { OnOk result (into.new.items ≡ if number == 0 then into.old.items else into.old.items ++ number ∷ []) }
+{
+    if number != 0 {
+        into.push(number)?;
+    }
+    Ok(())
+}
+
+impl RangeIndex {
+    /// No ranges. It takes no memory.
+    pub fn new(alloc: Global) -> RangeIndex
+        ensures { (x : ℕ) → top result x ≡ 0 }
+    {
+        RangeIndex {
+            tops: BTreeMap::new(alloc),
+        }
+    }
+
+    /// The number of the last range that covers a byte, or 0.
+    pub fn top_at(&self, at: u64) -> u32
+        ensures { result ≡ top self.now at }
+    {
+        top_of(&self.tops, at)
+    }
+
+    /// Adds to a list the number of each range that covers a byte of this one last. Where memory runs out some are added.
+    pub fn tops_in(&self, at: u64, size: u64, into: &mut Vec<u32>) -> Result<(), AllocError>
+        ensures { OnOk result (Lists (top self.now) at size into.old.items into.new.items) }
+    {
+        if size == 0 {
+            return Ok(());
+        }
+        let last = at.saturating_add(size - 1);
+        let mut number = top_of(&self.tops, at);
+        let mut from = at;
+        loop {
+            add(into, number)?;
+            let Some(key) = key_behind(&self.tops, from, last) else {
+                return Ok(());
+            };
+            number = key.top;
+            from = key.at;
+        }
+    }
+
+    /// A range covers its bytes, last of all. Where memory runs out nothing changes.
+    pub fn cover(&mut self, at: u64, size: u64, number: u32) -> Result<(), AllocError>
+        ensures ok { OnOk result (Covers (top self.old) (top self.new) at size number) }
+        ensures err { OnErr result ((x : ℕ) → top self.new x ≡ top self.old x) }
+    {
+        if size == 0 {
+            return Ok(());
+        }
+        divide(&mut self.tops, at)?;
+        divide_behind(&mut self.tops, at, size)?;
+        let last = at.saturating_add(size - 1);
+        drop_behind(&mut self.tops, at, last);
+        put(&mut self.tops, at, number);
+        Ok(())
+    }
+
+    /// A range that no later one hides in part leaves. Any other stays.
+    pub fn forget(&mut self, at: u64, size: u64, number: u32)
+        ensures { Forgets (top self.old) (top self.new) number }
+    {
+        let Some(end) = at.checked_add(size) else {
+            return;
+        };
+        if !is_whole(&self.tops, at, end, number) {
+            return;
+        }
+        forget_key(&mut self.tops, at);
+        join_at(&mut self.tops, end);
+    }
+
+    /// No range covers a byte any more.
+    pub fn clear(&mut self)
+        ensures { (x : ℕ) → top self.new x ≡ 0 }
+    {
+        self.tops.clear();
+    }
+}
+
+#[cfg(test)]
+mod tests {
+    use super::*;
+    use std::test::Fail;
+
+    #[test]
+    fn later_ranges_hide_earlier_ones(rt: HostRuntime) -> Result<(), Fail> {
+        let alloc = rt.alloc();
+        let mut index = RangeIndex::new(alloc);
+        index.cover(10, 10, 1)?;
+        index.cover(15, 10, 2)?;
+        index.cover(u64::MAX, 5, 3)?;
+        for (at, top) in [
+            (9, 0),
+            (10, 1),
+            (14, 1),
+            (15, 2),
+            (24, 2),
+            (25, 0),
+            (u64::MAX - 1, 0),
+            (u64::MAX, 3),
+        ] {
+            assert_eq!(rt; index.top_at(at), top, "at {at}");
+        }
+        let mut tops = Vec::new(alloc);
+        index.tops_in(12, 100, &mut tops)?;
+        index.tops_in(20, 0, &mut tops)?;
+        index.tops_in(24, u64::MAX, &mut tops)?;
+        assert_eq!(rt; tops.as_slice(), [1, 2, 2, 3].as_slice());
+        index.forget(15, 10, 2);
+        assert_eq!(rt; index.top_at(20), 0);
+        assert_eq!(rt; index.top_at(12), 1);
+        index.clear();
+        assert_eq!(rt; index.top_at(12), 0);
+        Ok(())
+    }
+}
