@@ -3,12 +3,12 @@
 
 usage: tools/wire-vectors.py
 
-Writes `stdin` and `stdout` of crates/session_vectors, file_vectors, info_vectors and record_vectors. The bytes are made by
-`struct.pack` from the layouts of MS-SMB2 2.2, MS-FSCC 2.4 and 2.5, and of the journal; nothing here is the output of the
-program. A line of `stdin` is a word and the hexadecimal digits of a body, which stands behind a header of 64 zero bytes where
-the word is a message; a number behind them cuts the message to so many bytes. `stdout` has the value that stands in it, by
-name, and its canonical spelling, or the refusal. A line `cuts` asks for the outcome at each length, and `stdout` has the
-lengths from which it is another; a line `only` asks for the value alone. Lines that begin with `#` are printed as they are.
+Writes `stdin` and `stdout` of crates/message_vectors. The bytes are made by `struct.pack` from the layouts of MS-SMB2 2.2,
+MS-FSCC 2.4 and 2.5, and of the journal; nothing here is the output of the program. A line of `stdin` is the name of a table, a
+word and the hexadecimal digits of a body, which stands behind a header of 64 zero bytes where the word is a message; a number
+behind them cuts the message to so many bytes. `stdout` has the value that stands in it, by name, and its canonical spelling, or
+the refusal. A line `cuts` asks for the outcome at each length, and `stdout` has the lengths from which it is another; a line
+`only` asks for the value alone. Lines that begin with `#` are printed as they are.
 """
 import os
 import struct
@@ -25,24 +25,27 @@ OTHER_ID = bytes(range(0x21, 0x31))
 
 
 class Table:
-    """The two sides of a program's table."""
+    """The two sides of a table."""
 
-    def __init__(self):
-        self.asked, self.answered = [], []
+    def __init__(self, name):
+        self.name, self.asked, self.answered = name, [], []
 
     def title(self, words):
         self.asked.append(f"# {words}")
         self.answered.append(f"# {words}")
 
     def row(self, asked, *answered):
-        self.asked.append(asked)
+        self.asked.append(f"{self.name} {asked}")
         self.answered += answered
 
-    def write(self, name):
-        folder = os.path.join(os.path.dirname(os.path.dirname(os.path.abspath(__file__))), "crates", name)
-        for file, lines in (("stdin", self.asked), ("stdout", self.answered)):
-            with open(os.path.join(folder, file), "w", encoding="utf-8") as out:
-                out.write("# Written by tools/wire-vectors.py.\n" + "".join(line + "\n" for line in lines))
+
+def write(tables):
+    folder = os.path.join(os.path.dirname(os.path.dirname(os.path.abspath(__file__))), "crates", "message_vectors")
+    asked = [line for table in tables for line in table.asked]
+    answered = [line for table in tables for line in table.answered]
+    for file, lines in (("stdin", asked), ("stdout", answered)):
+        with open(os.path.join(folder, file), "w", encoding="utf-8") as out:
+            out.write("# Written by tools/wire-vectors.py.\n" + "".join(line + "\n" for line in lines))
 
 
 # ---- messages
@@ -337,6 +340,17 @@ def class_refusals(table, messages):
             only_read(table, kind, layout, layout.spelled(value))
 
 
+def lock_elements(table):
+    table.title("elements of a LOCK request (2.2.26.1), one after the other, the reserved bytes passed over; what is left over is none")
+    ranges = ((10, 20, 0x12), (2**64 - 1, 2**63, 0xFFFFFFFF), (0, 0, 0))
+    for behind in (b"", bytes(23)):
+        for count in (0, 1, 3):
+            shown = [f"  {Shown('LockElement', offset=o, length=n, flags=f)}" for o, n, f in ranges[:count]]
+            spelled = b"".join(lock_element(*each) for each in ranges[:count])
+            told = b"".join(struct.pack("<QQII", *each, 0xEEEEEEEE) for each in ranges[:count]) + behind
+            table.row(f"elements {told.hex() or '-'}", "elements:", *shown, f"  none at {count}", f"  {spelled.hex() or '-'}")
+
+
 def logon_cuts(table, messages, values):
     table.title("each message of a logon with a create, a write, a listing and a close, cut at each length")
     for kind in messages:
@@ -368,7 +382,7 @@ def chosen(messages, names):
 
 
 def main():
-    session, file, info, record = Table(), Table(), Table(), Table()
+    session, file, info, record = (Table(name) for name in ("session", "file", "info", "record"))
     contexts.header_rows(session)
     contexts.frame_rows(session)
     contexts.text_rows(session)
@@ -377,14 +391,14 @@ def main():
     contexts.negotiate_context_rows(session)
     tables_of(file, layouts.FILE, file_values())
     logon_cuts(file, chosen(layouts.FILE, LOGON["file"]), file_values())
+    lock_elements(file)
     contexts.create_context_rows(file)
     tables_of(info, layouts.INFO, info_values())
     class_refusals(info, layouts.INFO)
     logon_cuts(info, chosen(layouts.INFO, LOGON["info"]), info_values())
     classes.class_rows(info)
     records.record_rows(record)
-    for name, table in (("session_vectors", session), ("file_vectors", file), ("info_vectors", info), ("record_vectors", record)):
-        table.write(name)
+    write((session, file, info, record))
     return 0
 
 

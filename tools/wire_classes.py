@@ -162,10 +162,11 @@ def plain_rows(table, name, words):
 
 
 def short_rows(table, kind, fields, data):
-    """Each field cut by one byte: the place of the first that doesn't fit."""
+    """Each field cut by one byte, and of few fields at other lengths too: the place of the first that doesn't fit."""
     at = 0
     for _, width in fields:
-        table.row(f"{kind} {data[:at + width - 1].hex() or '-'}", f"{kind}: Short({at})")
+        for length in {at + width - 1} if len(fields) > 2 else sorted({at, at + width // 2, at + width - 1}):
+            table.row(f"{kind} {data[:length].hex() or '-'}", f"{kind}: Short({at})")
         at += width
 
 

@@ -118,6 +118,10 @@ def frame_rows(table):
     whole = b"\0\0\0\x40" + message
     table.row(f"frame {message.hex()}", f"frame: {whole.hex()}")
     table.row("frame -", "frame: 00000000")
+    for count in (255, 256, 1114111, 1114112):
+        table.row(f"zeros {count}", f"zeros: {struct.pack('>I', count).hex()} and {count} bytes")
+    for count in (1114113, 1114368, 16777216):
+        table.row(f"zeros {count}", f"zeros: TooLong({count})")
     stream_row(
         table,
         [whole[:1], whole[1:3], whole[3:4], whole[4:67], whole[67:], bytes(4), b"\1"],

@@ -7,3 +7,4 @@ pub mod Sizes
 pub mod Refusals
 pub mod Flags
 pub mod One
+pub mod Characters

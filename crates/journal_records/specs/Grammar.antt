@@ -156,6 +156,32 @@ ReadsRecords items version m (Err (BadRecord place)) = BreaksRecords version m p
 
 -- ---- written, in version 2
 
+-- what the writer's caller sees to: texts, bytes and elements fit the fields that tell how many they are
+abbrev pub TextFits : List ℕ → Type 0
+TextFits text = length (utf16 text) < 65536
+
+abbrev pub OpenFits : Option NewOpen → Type 0
+OpenFits None = ⊤
+OpenFits (Some n) = TextFits n.user
+
+abbrev pub RecordFits : Record → Type 0
+RecordFits (Epoch number) = ⊤
+RecordFits (Create origin action file path attributes directory time opened) = TextFits path × OpenFits opened
+RecordFits (Write origin file at time bytes) = length bytes < 4294967296
+RecordFits (SetEnd origin file size time) = ⊤
+RecordFits (SetBasic origin file basic) = ⊤
+RecordFits (SetDelete origin file marked) = ⊤
+RecordFits (Rename origin file replaced path) = TextFits path
+RecordFits (Remove origin file) = ⊤
+RecordFits (Lock origin id index number status elements) = length elements / 24 < 65536
+RecordFits (Shut origin id) = ⊤
+RecordFits (Version number) = ⊤
+RecordFits (Expire origin id) = ⊤
+
+abbrev pub RecordsFit : List Record → Type 0
+RecordsFit rs = All RecordFits rs
+
+-- a record that reads back: its numbers fit their fields too
 pub record IsWritableRecord (r : Record) : Type 0 where
   pub fits : AreWritable (record_table 2 r)
   pub kept : IsKept 2 r

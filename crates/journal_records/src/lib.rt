@@ -2,6 +2,7 @@
 #![tactic(auto)]
 
 mod fault;
+mod fitting;
 mod fixed;
 mod laws;
 mod list;
@@ -13,6 +14,7 @@ mod writing;
 
 pub use exchange_defs::values::{Basic, Origin};
 pub use fault::RecordError;
+pub use fitting::can_write;
 pub use laws::records_law;
 pub use list::Records;
 pub use reading::read_records;

@@ -1,10 +1,10 @@
 //! Records written one behind the other, in version 2.
 ghost use Rattle.std.specs.Prelude.{◌≡◌, ◌<◌, ◌*◌, ◌/◌, ◌^◌, [], ◌∷◌, ◌++◌, length, OnOk, IfOk};
 ghost use Rattle.wire_defs.specs.Places.{le};
-ghost use Rattle.wire_defs.specs.Table.{Num, Raw, AreWritable, with_fields};
+ghost use Rattle.wire_defs.specs.Table.{Num, Raw, with_fields};
 ghost use Rattle.wire_defs.specs.Utf16.{utf16};
-ghost use Rattle.journal_records.specs.Grammar.{flag, origin_table, text_table, basic_table, opened_table, record_table};
-ghost use Rattle.journal_records.specs.Grammar.{IsWritableRecord, AreWritableRecords, records_spelling, record_spelling};
+ghost use Rattle.journal_records.specs.Grammar.{flag, kind, origin_table, text_table, basic_table, opened_table, record_table};
+ghost use Rattle.journal_records.specs.Grammar.{TextFits, OpenFits, RecordFits, RecordsFit, records_spelling, record_spelling};
 
 use crate::list::Records;
 use crate::value::{NewOpen, Record};
@@ -31,7 +31,7 @@ fn put_basic(out: &mut Out, basic: &Basic) -> Result<(), AllocError>
 }
 
 fn put_text(alloc: Global, out: &mut Out, text: &Text) -> Result<(), AllocError>
-    requires { length (utf16 text.now) < 65536 }
+    requires { TextFits text.now }
     ensures { OnOk result (out.new ≡ with_fields out.old (text_table (utf16 text.now))) }
 {
     let units = utf16_of(alloc, text.as_str())?;
@@ -46,7 +46,7 @@ fn put_flag(out: &mut Out, yes: bool) -> Result<(), AllocError>
 }
 
 fn put_opened(alloc: Global, out: &mut Out, opened: &Option<NewOpen>) -> Result<(), AllocError>
-    requires { AreWritable (opened_table 2 opened.now) }
+    requires { OpenFits opened.now }
     ensures { OnOk result (out.new ≡ with_fields out.old (opened_table 2 opened.now)) }
 {
     let Some(open) = opened else {
@@ -83,7 +83,8 @@ fn put_front(out: &mut Out, kind: u8, origin: &Origin, subject: u64) -> Result<(
 // Where bytes were written, when, and which.
 fn put_written(out: &mut Out, at: u64, time: u64, bytes: &Bytes) -> Result<(), AllocError>
     requires { length bytes.now < 2 ^ 32 }
-    ensures { OnOk result (out.new ≡ with_fields out.old (Num 8 at ∷ Num 8 time ∷ Num 4 (length bytes.now) ∷ Raw (length bytes.now) bytes.now ∷ [])) }
+    ensures { OnOk result (out.new ≡ with_fields out.old (Num 8 at ∷ Num 8 time ∷ Num 4 (length bytes.now)
+        ∷ Raw (length bytes.now) bytes.now ∷ [])) }
 {
     out.put_u64(at)?;
     out.put_u64(time)?;
@@ -100,7 +101,8 @@ fn put_slot(
     elements: &Bytes,
 ) -> Result<(), AllocError>
     requires { length elements.now / 24 < 65536 }
-    ensures { OnOk result (out.new ≡ with_fields out.old (Num 1 index ∷ Num 1 number ∷ Num 4 status ∷ Num 2 (length elements.now / 24) ∷ Raw (24 * (length elements.now / 24)) elements.now ∷ [])) }
+    ensures { OnOk result (out.new ≡ with_fields out.old (Num 1 index ∷ Num 1 number ∷ Num 4 status ∷ Num 2 (length elements.now / 24)
+        ∷ Raw (24 * (length elements.now / 24)) elements.now ∷ [])) }
 {
     out.put_u8(index)?;
     out.put_u8(number)?;
@@ -109,90 +111,160 @@ fn put_slot(
     out.put_slice(elements.as_slice())
 }
 
+fn put_create(alloc: Global, out: &mut Out, r: &Record) -> Result<(), AllocError>
+    requires kind { kind r.now ≡ 2 }
+    requires fits { RecordFits r.now }
+    ensures { OnOk result (out.new ≡ with_fields out.old (record_table 2 r.now)) }
+{
+    let Record::Create {
+        origin,
+        action,
+        file,
+        path,
+        attributes,
+        directory,
+        time,
+        opened,
+    } = r
+    else {
+        unreachable!()
+    };
+    out.put_u8(2)?;
+    put_origin(out, origin)?;
+    out.put_u32(*action)?;
+    out.put_u64(*file)?;
+    put_text(alloc, out, path)?;
+    out.put_u32(*attributes)?;
+    put_flag(out, *directory)?;
+    out.put_u64(*time)?;
+    put_opened(alloc, out, opened)
+}
+
+fn put_write(out: &mut Out, r: &Record) -> Result<(), AllocError>
+    requires kind { kind r.now ≡ 3 }
+    requires fits { RecordFits r.now }
+    ensures { OnOk result (out.new ≡ with_fields out.old (record_table 2 r.now)) }
+{
+    let Record::Write {
+        origin,
+        file,
+        at,
+        time,
+        bytes,
+    } = r
+    else {
+        unreachable!()
+    };
+    put_front(out, 3, origin, *file)?;
+    put_written(out, *at, *time, bytes)
+}
+
+fn put_end(out: &mut Out, r: &Record) -> Result<(), AllocError>
+    requires kind { kind r.now ≡ 4 }
+    requires fits { RecordFits r.now }
+    ensures { OnOk result (out.new ≡ with_fields out.old (record_table 2 r.now)) }
+{
+    let Record::SetEnd {
+        origin,
+        file,
+        length,
+        time,
+    } = r
+    else {
+        unreachable!()
+    };
+    put_front(out, 4, origin, *file)?;
+    out.put_u64(*length)?;
+    out.put_u64(*time)
+}
+
+fn put_attributes(out: &mut Out, r: &Record) -> Result<(), AllocError>
+    requires kind { kind r.now ≡ 5 }
+    requires fits { RecordFits r.now }
+    ensures { OnOk result (out.new ≡ with_fields out.old (record_table 2 r.now)) }
+{
+    let Record::SetBasic {
+        origin,
+        file,
+        basic,
+    } = r
+    else {
+        unreachable!()
+    };
+    put_front(out, 5, origin, *file)?;
+    put_basic(out, basic)
+}
+
+fn put_mark(out: &mut Out, r: &Record) -> Result<(), AllocError>
+    requires kind { kind r.now ≡ 6 }
+    requires fits { RecordFits r.now }
+    ensures { OnOk result (out.new ≡ with_fields out.old (record_table 2 r.now)) }
+{
+    let Record::SetDelete {
+        origin,
+        file,
+        marked,
+    } = r
+    else {
+        unreachable!()
+    };
+    put_front(out, 6, origin, *file)?;
+    put_flag(out, *marked)
+}
+
+fn put_rename(alloc: Global, out: &mut Out, r: &Record) -> Result<(), AllocError>
+    requires kind { kind r.now ≡ 7 }
+    requires fits { RecordFits r.now }
+    ensures { OnOk result (out.new ≡ with_fields out.old (record_table 2 r.now)) }
+{
+    let Record::Rename {
+        origin,
+        file,
+        replaced,
+        path,
+    } = r
+    else {
+        unreachable!()
+    };
+    put_front(out, 7, origin, *file)?;
+    out.put_u64(*replaced)?;
+    put_text(alloc, out, path)
+}
+
+fn put_lock(out: &mut Out, r: &Record) -> Result<(), AllocError>
+    requires kind { kind r.now ≡ 9 }
+    requires fits { RecordFits r.now }
+    ensures { OnOk result (out.new ≡ with_fields out.old (record_table 2 r.now)) }
+{
+    let Record::Lock {
+        origin,
+        id,
+        index,
+        number,
+        status,
+        elements,
+    } = r
+    else {
+        unreachable!()
+    };
+    put_front(out, 9, origin, *id)?;
+    put_slot(out, *index, *number, *status, elements)
+}
+
 fn put_fields(alloc: Global, out: &mut Out, r: &Record) -> Result<(), AllocError>
-    requires { AreWritable (record_table 2 r.now) }
+    requires { RecordFits r.now }
     ensures { OnOk result (out.new ≡ with_fields out.old (record_table 2 r.now)) }
 {
     match r {
         Record::Epoch { number } => put_number(out, 1, *number),
-        Record::Create {
-            origin,
-            action,
-            file,
-            path,
-            attributes,
-            directory,
-            time,
-            opened,
-        } => {
-            out.put_u8(2)?;
-            put_origin(out, origin)?;
-            out.put_u32(*action)?;
-            out.put_u64(*file)?;
-            put_text(alloc, out, path)?;
-            out.put_u32(*attributes)?;
-            put_flag(out, *directory)?;
-            out.put_u64(*time)?;
-            put_opened(alloc, out, opened)
-        }
-        Record::Write {
-            origin,
-            file,
-            at,
-            time,
-            bytes,
-        } => {
-            put_front(out, 3, origin, *file)?;
-            put_written(out, *at, *time, bytes)
-        }
-        Record::SetEnd {
-            origin,
-            file,
-            length,
-            time,
-        } => {
-            put_front(out, 4, origin, *file)?;
-            out.put_u64(*length)?;
-            out.put_u64(*time)
-        }
-        Record::SetBasic {
-            origin,
-            file,
-            basic,
-        } => {
-            put_front(out, 5, origin, *file)?;
-            put_basic(out, basic)
-        }
-        Record::SetDelete {
-            origin,
-            file,
-            marked,
-        } => {
-            put_front(out, 6, origin, *file)?;
-            put_flag(out, *marked)
-        }
-        Record::Rename {
-            origin,
-            file,
-            replaced,
-            path,
-        } => {
-            put_front(out, 7, origin, *file)?;
-            out.put_u64(*replaced)?;
-            put_text(alloc, out, path)
-        }
+        Record::Create { .. } => put_create(alloc, out, r),
+        Record::Write { .. } => put_write(out, r),
+        Record::SetEnd { .. } => put_end(out, r),
+        Record::SetBasic { .. } => put_attributes(out, r),
+        Record::SetDelete { .. } => put_mark(out, r),
+        Record::Rename { .. } => put_rename(alloc, out, r),
         Record::Remove { origin, file } => put_front(out, 8, origin, *file),
-        Record::Lock {
-            origin,
-            id,
-            index,
-            number,
-            status,
-            elements,
-        } => {
-            put_front(out, 9, origin, *id)?;
-            put_slot(out, *index, *number, *status, elements)
-        }
+        Record::Lock { .. } => put_lock(out, r),
         Record::Shut { origin, id } => put_front(out, 10, origin, *id),
         Record::Version { number } => put_number(out, 11, *number),
         Record::Expire { origin, id } => put_front(out, 12, origin, *id),
@@ -201,15 +273,15 @@ fn put_fields(alloc: Global, out: &mut Out, r: &Record) -> Result<(), AllocError
 
 #[tactic(auto, using(crate::proofs::Written::put_behind))]
 fn put_record(alloc: Global, out: &mut Out, r: &Record) -> Result<(), AllocError>
-    requires { IsWritableRecord r.now }
+    requires { RecordFits r.now }
     ensures { OnOk result (out.new ≡ out.old ++ record_spelling r.now) }
 {
     put_fields(alloc, out, r)
 }
 
-/// Writes records one behind the other, in version 2.
+/// Writes records one behind the other, in version 2. `can_write` tells whether their texts, bytes and elements fit.
 pub fn write_records(alloc: Global, records: &Records) -> Result<Bytes, AllocError>
-    requires { AreWritableRecords records.now }
+    requires { RecordsFit records.now }
     ensures { IfOk result (λ b. b ≡ records_spelling records.now) }
 {
     let mut out = Out::new(alloc);

@@ -1,0 +1,66 @@
+//! Whether records can be written.
+ghost use Rattle.std.specs.Prelude.{◌≡◌, ◌<◌, length, IsTrue, ◌↔◌};
+ghost use Rattle.wire_defs.specs.Utf16.{units_of};
+ghost use Rattle.journal_records.specs.Grammar.{TextFits, OpenFits, RecordFits, RecordsFit};
+
+use crate::list::Records;
+use crate::value::{NewOpen, Record};
+use smb_bytes::Text;
+
+// How many bytes a character takes in UTF-16.
+#[tactic(auto, using(crate::proofs::Characters::short_units, crate::proofs::Characters::long_units))]
+fn units_size(character: char) -> u32
+    ensures { result ≡ length (units_of character) }
+{
+    if (character as u32) < 0x10000 { 2 } else { 4 }
+}
+
+fn is_short(text: &str) -> bool
+    ensures { IsTrue result ↔ TextFits text.now }
+{
+    let mut size = 0u32;
+    for character in text.chars() {
+        size = size.saturating_add(units_size(character));
+    }
+    size < 65536
+}
+
+fn text_fits(text: &Text) -> bool
+    ensures { IsTrue result ↔ TextFits text.now }
+{
+    is_short(text.as_str())
+}
+
+fn open_fits(opened: &Option<NewOpen>) -> bool
+    ensures { IsTrue result ↔ OpenFits opened.now }
+{
+    match opened {
+        Some(open) => text_fits(&open.user),
+        None => true,
+    }
+}
+
+fn record_fits(r: &Record) -> bool
+    ensures { IsTrue result ↔ RecordFits r.now }
+{
+    match r {
+        Record::Create { path, opened, .. } => text_fits(path) && open_fits(opened),
+        Record::Write { bytes, .. } => bytes.len() < 0x1_0000_0000,
+        Record::Rename { path, .. } => text_fits(path),
+        Record::Lock { elements, .. } => elements.len() / 24 < 65536,
+        _ => true,
+    }
+}
+
+/// Whether each text has fewer than 65,536 bytes in UTF-16, the bytes of each write are fewer than 2^32, and the elements of each
+/// lock fewer than 65,536: `write_records` asks for it.
+pub fn can_write(records: &Records) -> bool
+    ensures { IsTrue result ↔ RecordsFit records.now }
+{
+    for r in records.as_slice() {
+        if !record_fits(r) {
+            return false;
+        }
+    }
+    true
+}

@@ -1,0 +1,30 @@
+//! Reads headers, frames, texts, messages, contexts, classes, listings and the journal's records, and writes again what they hold. A row
+//! begins with the name of its table; one that begins with `#` stands in the output as it is. The rows and the expected output were
+//! written by tools/wire-vectors.py.
+#![tactic(auto)]
+
+use anyhow::{Context, Result, bail};
+use std::alloc::Global;
+
+fn answer(alloc: Global, line: &str) -> Result<String> {
+    if line.starts_with('#') {
+        return Ok(String::from_str(alloc, line)?);
+    }
+    let (table, row) = line.split_once(' ').context("no table")?;
+    match table {
+        "session" => session_rows::answer(alloc, row),
+        "file" => file_rows::answer(alloc, row),
+        "info" => info_rows::answer(alloc, row),
+        "record" => record_rows::answer(alloc, row),
+        _ => bail!("an unknown table"),
+    }
+}
+
+fn main(rt: HostRuntime) -> Result<()> {
+    for line in rt.lines(rt.alloc()) {
+        let line = line?;
+        let said = answer(rt.alloc(), line.as_str())?;
+        println!(rt; "{said}")?;
+    }
+    Ok(())
+}
