@@ -1,4 +1,5 @@
 pub mod Counted
+pub mod Fronts
 pub mod Rounds
 pub mod Steps
 pub mod Sums

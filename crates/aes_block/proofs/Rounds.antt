@@ -130,7 +130,7 @@ two_more ws block i =
 
 -- the last two of n rounds, behind the whole ones in pairs
 pub all_rounds : (ws : List (List ℕ)) (block : List ℕ) (n : ℕ) → (n ≡ 10) ⊎ (n ≡ 14) → length ws / 4 - 1 ≡ n
-    → block_sum (replaced (one_more ws (after ws block (2 * (n / 2 - 1))) (n - 1))) (round_key ws n) ≡ cipher ws block
+    → block_sum (replaced (one_more ws (after ws block (2 * (n / 2 - 1))) (rounds ws - 1))) (round_key ws (rounds ws)) ≡ cipher ws block
 unfolding after cipher rounds
 all_rounds ws block n (inl e) r = rw (r, e) refl
 all_rounds ws block n (inr e) r = rw (r, e) refl

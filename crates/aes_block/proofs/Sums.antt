@@ -18,7 +18,7 @@ row2-xor a b = ap (λ (x : ℕ). x % 256) (xor_shr a b 16) ∙ xor_mod (a / 6553
 pub row3-xor : (a b : ℕ) → bit_xor a b / 16777216 % 256 ≡ bit_xor (a / 16777216 % 256) (b / 16777216 % 256)
 row3-xor a b = ap (λ (x : ℕ). x % 256) (xor_shr a b 24) ∙ xor_mod (a / 16777216) (b / 16777216) 8
 
-moved : (a b c : ℕ) → bit_xor (bit_xor a b) c ≡ bit_xor (bit_xor a c) b
+pub moved : (a b c : ℕ) → bit_xor (bit_xor a b) c ≡ bit_xor (bit_xor a c) b
 moved a b c = xor_assoc a b c ∙ ap (λ (x : ℕ). bit_xor a x) (xor_comm b c) ∙ sym (xor_assoc a c b)
 
 -- 2 a, 3 b, c, d

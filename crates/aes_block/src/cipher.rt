@@ -1,15 +1,17 @@
 //! The cipher (FIPS 197, 5.1).
-ghost use Rattle.std.specs.Prelude.{◌≡◌, ◌≤◌, ◌⊎◌, ◌*◌, ◌+◌, length};
-ghost use Rattle.cipher_defs.specs.Aes.{replaced, mixed_columns, block_sum, round_key, after, cipher, schedule};
+ghost use Rattle.std.specs.Prelude.{◌≡◌, ◌≤◌, ◌⊎◌, ◌*◌, ◌+◌, ◌-◌, length};
+ghost use Rattle.cipher_defs.specs.Aes.{replaced, mixed_columns, block_sum, round_key, after, cipher, rounds, schedule};
 ghost use Rattle.aes_block.specs.Columns.{state};
+ghost use Rattle.aes_block.specs.Fronts.{IsFront};
 
 use crate::columns::{Columns, block_of, columns_of, key_of, last_round_of, round_of, sum_of};
+use crate::front::{Front, cipher_behind, front_of};
 use crate::key::expanded_of;
 use std::marker::Model;
 
 /// The state behind one round more.
 #[inline(always)]
-fn next_of(words: &[[u8; 4]], s: Columns, round: usize) -> Columns
+pub(crate) fn next_of(words: &[[u8; 4]], s: Columns, round: usize) -> Columns
     requires { 4 * round + 4 ≤ length words.now }
     ensures { state result.a result.b result.c result.d ≡ block_sum (mixed_columns (replaced (state s.a s.b s.c s.d)))
         (round_key words.now round) }
@@ -31,7 +33,18 @@ fn after_pairs(words: &[[u8; 4]], block: &[u8; 16], pairs: usize) -> Columns
     s
 }
 
-/// The last round mixes no columns. The rounds before it are odd in number.
+/// The last two rounds, of which the last mixes no columns, behind an even number of them.
+#[inline(always)]
+pub(crate) fn ended_of(words: &[[u8; 4]], even: Columns) -> [u8; 16]
+    requires { (length words.now ≡ 44) ⊎ (length words.now ≡ 60) }
+    ensures { result ≡ block_sum (replaced (block_sum (mixed_columns (replaced (state even.a even.b even.c even.d)))
+        (round_key words.now (rounds words.now - 1)))) (round_key words.now (rounds words.now)) }
+{
+    let rounds = words.len() / 4 - 1;
+    let odd = next_of(words, even, rounds - 1);
+    block_of(last_round_of(odd, key_of(words, rounds)))
+}
+
 #[inline(always)]
 fn cipher_of(words: &[[u8; 4]], block: &[u8; 16]) -> [u8; 16]
     requires { (length words.now ≡ 44) ⊎ (length words.now ≡ 60) }
@@ -39,8 +52,7 @@ fn cipher_of(words: &[[u8; 4]], block: &[u8; 16]) -> [u8; 16]
 {
     let rounds = words.len() / 4 - 1;
     let even = after_pairs(words, block, rounds / 2 - 1);
-    let odd = next_of(words, even, rounds - 1);
-    block_of(last_round_of(odd, key_of(words, rounds)))
+    ended_of(words, even)
 }
 
 /// A key, expanded. A contract sees the list of the expanded key's words, of four bytes each.
@@ -87,5 +99,21 @@ impl Aes {
         ensures { result ≡ cipher self.now block.now }
     {
         cipher_of(&self.words[..self.count], block)
+    }
+
+    /// What the first two rounds make of the block but for its last byte.
+    pub fn front_of(&self, block: &[u8; 16]) -> Front
+        ensures { IsFront self.now block.now result }
+    {
+        front_of(&self.words[..self.count], block)
+    }
+
+    /// The block under the key, from a front of it: of this block, or of one that differs in its last byte alone.
+    #[inline(always)]
+    pub fn encrypt_behind(&self, front: &Front, block: &[u8; 16]) -> [u8; 16]
+        requires { IsFront self.now block.now front.now }
+        ensures { result ≡ cipher self.now block.now }
+    {
+        cipher_behind(&self.words[..self.count], front, block)
     }
 }

@@ -8,10 +8,10 @@ use crate::tables::TABLES;
 /// A state by its columns, each a word whose lowest byte stands in row 0.
 #[derive(Clone, Copy)]
 pub(crate) struct Columns {
-    a: u32,
-    b: u32,
-    c: u32,
-    d: u32,
+    pub(crate) a: u32,
+    pub(crate) b: u32,
+    pub(crate) c: u32,
+    pub(crate) d: u32,
 }
 
 /// The columns of a block. It is read in halves of 64 bits, as `block_of` writes it.
@@ -89,7 +89,7 @@ pub(crate) fn key_of(words: &[[u8; 4]], round: usize) -> Columns
 
 /// A column of a round: of each column the byte that ShiftRows brings here, substituted and mixed.
 #[inline(always)]
-fn mixed_column_of(a: u32, b: u32, c: u32, d: u32, key: u32) -> u32
+pub(crate) fn mixed_column_of(a: u32, b: u32, c: u32, d: u32, key: u32) -> u32
     ensures { IsMixedColumn a b c d key result }
 {
     TABLES[0][(a % 256) as usize]

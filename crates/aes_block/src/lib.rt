@@ -3,12 +3,14 @@
 
 mod cipher;
 mod columns;
+mod front;
 mod key;
 mod sbox;
 mod state;
 mod tables;
 
 pub use cipher::Aes;
+pub use front::Front;
 pub use state::block_sum_of;
 
 #[cfg(test)]

@@ -80,7 +80,7 @@ number_above n k long low within high below =
       | inr large ↦ let e : 8 - 1 - (k - 8) ≡ 15 - k = omega arith in rw (le-ltb k 8 large, e, none) refl
     ]
 
-zero_bytes : (p : ℕ) → 0 / p % 256 ≡ 0
+pub zero_bytes : (p : ℕ) → 0 / p % 256 ≡ 0
 zero_bytes p = rw (zero-div p) refl
 
 counted_byte : (first n k : ℕ) (nonce : List ℕ) → 7 ≤ length nonce → length nonce ≤ 13 → k < 16 → n < 256 ^ (15 - length nonce)

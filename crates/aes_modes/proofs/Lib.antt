@@ -2,6 +2,7 @@ pub mod ByFour
 pub mod Bytewise
 pub mod Chains
 pub mod Compared
+mod Fronts
 mod InPlace
 mod Joined
 pub mod Linear

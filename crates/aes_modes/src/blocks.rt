@@ -1,9 +1,10 @@
 //! What the modes share: blocks of bytes, the chain over them, masking block by block, and the comparison of tags.
 ghost use Rattle.std.specs.Prelude.{◌≡◌, ◌≤◌, ◌<◌, ◌*◌, ◌+◌, ◌-◌, ◌/◌, ◌++◌, ◌↔◌, IsTrue, length, take, drop, min, slice_index, OnOk};
+ghost use Rattle.aes_block.specs.Fronts.{IsFront};
 ghost use Rattle.cipher_defs.specs.Aes.{block_sum, cipher};
 ghost use Rattle.cipher_defs.specs.Blocks.{block_at, block_count, chained};
 
-use aes_block::{Aes, block_sum_of};
+use aes_block::{Aes, Front, block_sum_of};
 
 /// A block under the key, outside of the loops over a message.
 #[inline(never)]
@@ -11,6 +12,19 @@ pub(crate) fn enciphered(aes: &Aes, block: &[u8; 16]) -> [u8; 16]
     ensures { result ≡ cipher aes.now block.now }
 {
     aes.encrypt_block(block)
+}
+
+/// A front of the block, where the one that there is serves as long as the block's last byte isn't 0.
+#[inline(always)]
+pub(crate) fn front_at(aes: &Aes, block: &[u8; 16], front: Front) -> Front
+    requires { (slice_index block.now 15 ≡ 0 → ⊥) → IsFront aes.now block.now front }
+    ensures { IsFront aes.now block.now result }
+{
+    if block[15] == 0 {
+        aes.front_of(block)
+    } else {
+        front
+    }
 }
 
 /// How many blocks the bytes fill, the last one perhaps in part.

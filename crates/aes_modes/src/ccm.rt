@@ -1,12 +1,14 @@
 //! CCM with a nonce of 7 to 13 bytes and a tag of 4, 6 .. 16 (SP 800-38C, with the formatting of its appendix A).
-ghost use Rattle.std.specs.Prelude.{◌≡◌, ◌<◌, ◌≤◌, ◌+◌, ◌-◌, ◌*◌, ◌^◌, ◌↔◌, IsTrue, length, take, nat_le, ◌==◌, if◌then◌else◌, slice_index, ◌++◌, IfOk};
+ghost use Rattle.std.specs.Prelude.{◌≡◌, ◌<◌, ◌≤◌, ◌-◌, ◌*◌, ◌^◌, ◌↔◌, IsTrue, length, take, nat_le, ◌==◌, if◌then◌else◌, slice_index, ◌++◌, IfOk};
 ghost use Rattle.aes_modes.specs.Counters.{number_block};
 ghost use Rattle.aes_modes.specs.InPlace.{OpensInPlace};
 ghost use Rattle.cipher_defs.specs.Blocks.{big_byte};
-ghost use Rattle.cipher_defs.specs.Aes.{block_sum, cipher};
+ghost use Rattle.cipher_defs.specs.Aes.{block_sum};
 ghost use Rattle.cipher_defs.specs.Ccm.{nonce_block, flags, counter_block, mac, ciphertext, tag_of, sealed, IsFit, Opens};
 
-use crate::blocks::{block_count_of, block_of, chain_of, enciphered, is_same, mask_block};
+use crate::blocks::{
+    block_count_of, block_of, chain_of, enciphered, front_at, is_same, mask_block,
+};
 use crate::prefix::added_chain_of;
 use aes_block::{Aes, block_sum_of};
 use smb_bytes::Bytes;
@@ -120,16 +122,8 @@ fn counted(zero: &[u8; 16], i: u64) -> [u8; 16]
     block_sum_of(zero, &number)
 }
 
-/// What masks block i of a text: its counter block, from 1 on, enciphered.
-#[inline(always)]
-fn stream_block(aes: &Aes, zero: &[u8; 16], i: usize) -> [u8; 16]
-    requires { i + 1 < 2 ^ 64 }
-    ensures { result ≡ cipher aes.now (block_sum zero.now (number_block (i + 1))) }
-{
-    aes.encrypt_block(&counted(zero, i as u64 + 1))
-}
-
-/// Masks a text where it stands, under the counter blocks from 1 on.
+/// Masks a text where it stands, under the counter blocks from 1 on: the front of a counter block serves until the
+/// number's last byte is 0 again.
 fn mask(aes: &Aes, nonce: &[u8], text: &mut [u8])
     requires long { 7 ≤ length nonce.now }
     requires short { length nonce.now ≤ 13 }
@@ -137,8 +131,11 @@ fn mask(aes: &Aes, nonce: &[u8], text: &mut [u8])
     ensures { text.new ≡ ciphertext aes.now nonce.now text.old }
 {
     let zero = counter_block_of(nonce, 0);
+    let mut front = aes.front_of(&counted(&zero, 0));
     for i in 0..block_count_of(text) {
-        mask_block(text, i, &stream_block(aes, &zero, i));
+        let block = counted(&zero, i as u64 + 1);
+        front = front_at(aes, &block, front);
+        mask_block(text, i, &aes.encrypt_behind(&front, &block));
     }
 }
 

@@ -1,10 +1,9 @@
 //! GCM and GMAC with a nonce of 12 bytes and a tag of 16 (SP 800-38D).
-ghost use Rattle.std.specs.Prelude.{◌≡◌, ◌<◌, ◌≤◌, ◌+◌, ◌-◌, ◌^◌, ◌++◌, length, IfOk};
+ghost use Rattle.std.specs.Prelude.{◌≡◌, ◌<◌, ◌≤◌, ◌-◌, ◌^◌, ◌++◌, length, IfOk};
 ghost use Rattle.aes_modes.specs.InPlace.{OpensInPlace};
-ghost use Rattle.cipher_defs.specs.Aes.{cipher};
 ghost use Rattle.cipher_defs.specs.Gcm.{counter_block, hash_key, ciphertext, tag_of, sealed, Opens, gmac};
 
-use crate::blocks::{block_count_of, enciphered, is_same, mask_block};
+use crate::blocks::{block_count_of, enciphered, front_at, is_same, mask_block};
 use crate::hash::Table;
 use aes_block::{Aes, block_sum_of};
 use smb_bytes::Bytes;
@@ -37,22 +36,17 @@ fn counter_block_of(nonce: &[u8; 12], i: u32) -> [u8; 16]
     ]
 }
 
-/// What masks block i of a text: its counter block, from 2 on, enciphered.
-#[inline(always)]
-fn stream_block(aes: &Aes, nonce: &[u8; 12], i: usize) -> [u8; 16]
-    requires { i + 2 < 2 ^ 32 }
-    ensures { result ≡ cipher aes.now (counter_block nonce.now (i + 2)) }
-{
-    aes.encrypt_block(&counter_block_of(nonce, (i + 2) as u32))
-}
-
-/// Masks a text where it stands, under the counter blocks from 2 on.
+/// Masks a text where it stands, under the counter blocks from 2 on: the front of a counter block serves until the
+/// number's last byte is 0 again.
 fn mask(aes: &Aes, nonce: &[u8; 12], text: &mut [u8])
     requires { length text.old < 2 ^ 36 - 31 }
     ensures { text.new ≡ ciphertext aes.now nonce.now text.old }
 {
+    let mut front = aes.front_of(&counter_block_of(nonce, 1));
     for i in 0..block_count_of(text) {
-        mask_block(text, i, &stream_block(aes, nonce, i));
+        let block = counter_block_of(nonce, (i + 2) as u32);
+        front = front_at(aes, &block, front);
+        mask_block(text, i, &aes.encrypt_behind(&front, &block));
     }
 }
 

@@ -9,5 +9,4 @@ returns c =
       | inl e ↦ inl (omega arith)
       | inr e ↦ inr (omega arith)
     ] in
-    rw (c.block_of.ensures, c.last_round_of.ensures, c.next_of-odd.ensures, c.after_pairs-even.ensures, c.key_of.ensures)
-    (all_rounds c.args.words.now c.args.block.now n either refl)
+    rw (c.ended_of.ensures, c.after_pairs-even.ensures) (all_rounds c.args.words.now c.args.block.now n either refl)

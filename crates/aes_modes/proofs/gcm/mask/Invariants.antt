@@ -1,7 +1,11 @@
 use Rattle.std.proofs.Common.{◌≡◌, ◌+◌, ◌*◌, min, length}
+use Rattle.aes_block.specs.Fronts.{IsFront}
 use Rattle.cipher_defs.specs.Gcm.{counter_block}
 use Rattle.aes_modes.proofs.InPlace.{masked_to}
 use Rattle.aes_modes.proofs.gcm.mask.Given as goal
 
 abbrev pub invariant-loop-i : goal.invariant-loop-i
-invariant-loop-i l = l.text ≡ masked_to l.aes (λ i. counter_block l.nonce (i + 2)) l.initial.text (min (16 * l.i) (length l.initial.text))
+invariant-loop-i l = record {
+  done : l.text ≡ masked_to l.aes (λ i. counter_block l.nonce (i + 2)) l.initial.text (min (16 * l.i) (length l.initial.text));
+  front : IsFront l.aes (counter_block l.nonce (l.i + 1)) l.front;
+}
