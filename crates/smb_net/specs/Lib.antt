@@ -1,0 +1,3 @@
+pub mod FileTime
+pub mod Link
+pub mod Memory
