@@ -1,0 +1,19 @@
+-- A frame whose events had no mishap.
+use Rattle.std.specs.Prelude.{◌≡◌, ℕ, true, List, [], ◌∷◌, Option, Some, None, ⊤}
+use Rattle.exchange_defs.specs.State.{Server}
+use Rattle.world_defs.specs.Settings.{ServerSettings}
+use Rattle.world_defs.specs.Ends.{ServerEnd, Logons}
+use Rattle.world_defs.specs.Connection.{connection_step}
+use Rattle.world_defs.specs.Mishaps.{Mishap, owned_step}
+
+abbrev pub NoneBefell : List (Option Mishap) → Type 0
+NoneBefell [] = ⊤
+NoneBefell (None ∷ xs) = NoneBefell xs
+NoneBefell (Some x ∷ xs) = ⊥
+
+-- where just as much is told as it has events, and nothing befell any, its step is the connection's own
+abbrev pub OwnStep : Type 0
+OwnStep =
+    (z : ServerSettings) (k now : ℕ) (fresh : List ℕ) (s : Server) (L : Logons) (f : ServerEnd) (mishaps : List (Option Mishap))
+    (frame : List ℕ) → NoneBefell mishaps → (owned_step z k now fresh s L f mishaps frame).matches ≡ true
+    → (owned_step z k now fresh s L f mishaps frame).step ≡ connection_step z k now fresh s L f frame
