@@ -122,6 +122,13 @@ impl Ranges {
         self.items = ranges;
     }
 
+    /// Gives up all ranges of an open. It takes no memory.
+    pub fn release_all(&mut self, owner: u64)
+        ensures { self.new ≡ filter (λ r. not (r.owner == owner)) self.old }
+    {
+        self.items.retain(|range| range.owner != owner);
+    }
+
     /// Whether an open may read the bytes: `Conflict` with the first exclusive range of another. It takes no memory.
     pub fn may_read(&self, owner: u64, at: u64, length: u64) -> Result<(), RangeError>
         ensures { MatchResult result (λ _. read_conflict self.now owner at length ≡ None)

@@ -1,0 +1,5 @@
+pub mod Lists
+pub mod HeldLemmas
+pub mod SetLemmas
+pub mod IndexLemmas
+pub mod SessionLemmas
