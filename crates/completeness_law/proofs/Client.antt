@@ -35,7 +35,7 @@ pub record Took (w : World) (e : Event) (k g : ℕ) (asking : Bool) (r : Reply) 
   pub asks : w.client.asks_attach g ≡ asking
   pub heard_as : heard w.client g asking r ≡ Settles o
 
--- an operation settles for want of a slot, behind those before it in the list of a push
+-- an operation settles because no slot is free, behind those before it in the list of a push
 pub record Slotless (w : World) (e : Event) (c : Client) (k g : ℕ) : Type 0 where
   pub front : List ℕ
   pub rest : List ℕ

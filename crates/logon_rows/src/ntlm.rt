@@ -129,7 +129,7 @@ fn verdict(alloc: Global, acceptor: &Acceptor, third: &[u8]) -> Result<String> {
             };
             Ok(format!(in alloc; "{key} {kind} {}", logon.user.as_str())?)
         }
-        Err(LogonError::Memory) => bail!("out of memory"),
+        Err(LogonError::Memory) => bail!("memory ran out"),
         Err(refusal) => Ok(format!(in alloc; "{refusal:?}")?),
     }
 }

@@ -46,7 +46,7 @@ fn opened_apart(alloc: Global, keys: &Keys, from_client: bool, frame: &[u8]) -> 
     ensure!(keys.cipher >= 1 && keys.cipher <= 4, "no cipher");
     match unseal(alloc, keys, from_client, frame) {
         Ok(text) => digits_of(alloc, text.as_slice()),
-        Err(SealError::Memory) => bail!("out of memory"),
+        Err(SealError::Memory) => bail!("memory ran out"),
         Err(refusal) => Ok(format!(in alloc; "{refusal:?}")?),
     }
 }

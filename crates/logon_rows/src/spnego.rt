@@ -60,7 +60,7 @@ fn resp_shown(alloc: Global, token: &RespToken) -> Result<String> {
 fn init(alloc: Global, bytes: &[u8]) -> Result<String> {
     match read_init(alloc, bytes) {
         Ok(token) => init_shown(alloc, &token),
-        Err(DerError::Memory) => bail!("out of memory"),
+        Err(DerError::Memory) => bail!("memory ran out"),
         Err(refusal) => Ok(format!(in alloc; "{refusal:?}")?),
     }
 }
@@ -68,7 +68,7 @@ fn init(alloc: Global, bytes: &[u8]) -> Result<String> {
 fn resp(alloc: Global, bytes: &[u8]) -> Result<String> {
     match read_resp(alloc, bytes) {
         Ok(token) => resp_shown(alloc, &token),
-        Err(DerError::Memory) => bail!("out of memory"),
+        Err(DerError::Memory) => bail!("memory ran out"),
         Err(refusal) => Ok(format!(in alloc; "{refusal:?}")?),
     }
 }

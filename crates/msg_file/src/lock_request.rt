@@ -74,7 +74,7 @@ pub fn lock_element_at(locks: &[u8], index: usize) -> Option<LockElement>
     element_behind(locks, at).ok()
 }
 
-/// Adds an element at the end of a LOCK request's elements. For want of memory nothing changes.
+/// Adds an element at the end of a LOCK request's elements. Where memory runs out nothing changes.
 pub fn push_lock_element(locks: &mut Bytes, element: &LockElement) -> Result<(), AllocError>
     ensures ok { OnOk result (locks.new ≡ locks.old ++ lock_element_spelling element.now) }
     ensures err { OnErr result (locks.new ≡ locks.old) }

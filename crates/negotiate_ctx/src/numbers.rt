@@ -49,7 +49,7 @@ impl Numbers {
         self.items.is_empty()
     }
 
-    /// Adds a number at the end. For want of memory nothing changes.
+    /// Adds a number at the end. Where memory runs out nothing changes.
     pub fn push(&mut self, number: u16) -> Result<(), AllocError>
         ensures ok { OnOk result (self.new ≡ self.old ++ number ∷ []) }
         ensures err { OnErr result (self.new ≡ self.old) }

@@ -25,7 +25,7 @@ NeverUnread = (z : Settings) (events : List Event) (g : ℕ) → (run events (st
 
 -- ---- why an operation has no slot or no open
 
--- The push at which a lock or unlock settled for want of a slot: behind those before it in the push's list it could go out
+-- The push at which a lock or unlock settled, no slot being free: behind those before it in the push's list it could go out
 -- itself, it never had, and no slot of its open was free.
 pub record LacksSlot (z : Settings) (events : List Event) (g create : ℕ) : Type 0 where
   pub before : List Event

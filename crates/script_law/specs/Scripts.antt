@@ -28,7 +28,7 @@ unfoldable pub is_quiet_script : List Line → Bool
 is_quiet_script [] = true
 is_quiet_script (l ∷ ls) = is_quiet_line l && is_quiet_script ls
 
--- the client gives up for want of a session
+-- the client gives up because no session comes
 abbrev pub is_finish : Event → Bool
 is_finish (Finish refusal) = true
 is_finish _ = false
@@ -88,7 +88,7 @@ DropsLetGo =
     (z : Settings) (ls : List Line) → is_quiet_script ls ≡ true → (before after : List Event) (k : ℕ)
     → (course_of z ls).events ≡ before ++ Drop k ∷ after → ((run before (start z)).conns k).client_open ≡ false
 
--- Where nothing is given up for want of a session, the client loses nothing of an operation.
+-- Where nothing is given up because no session comes, the client loses nothing of an operation.
 abbrev pub LosesNothing : Type 0
 LosesNothing =
     (z : Settings) (ls : List Line) → is_quiet_script ls ≡ true → has_given_up (course_of z ls).events (start z) ≡ false

@@ -17,6 +17,3 @@ pub use ending::Ending;
 pub use limits::{SCRIPT_BYTES, SCRIPT_LINES, SCRIPT_OPERATIONS};
 pub use script::{Code, Line, Refusal, Statement};
 pub use top::smb311;
-
-#[cfg(test)]
-mod tests;

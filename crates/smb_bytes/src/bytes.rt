@@ -68,7 +68,7 @@ impl Bytes {
         self.items.is_empty()
     }
 
-    /// Adds one byte at the end. For want of memory nothing changes.
+    /// Adds one byte at the end. Where memory runs out nothing changes.
     pub fn push(&mut self, byte: u8) -> Result<(), AllocError>
         ensures ok { OnOk result (self.new ≡ self.old ++ byte ∷ []) }
         ensures err { OnErr result (self.new ≡ self.old) }
@@ -77,7 +77,7 @@ impl Bytes {
         Ok(())
     }
 
-    /// Adds bytes at the end. For want of memory nothing changes.
+    /// Adds bytes at the end. Where memory runs out nothing changes.
     pub fn extend(&mut self, more: &[u8]) -> Result<(), AllocError>
         ensures ok { OnOk result (self.new ≡ self.old ++ more.now) }
         ensures err { OnErr result (self.new ≡ self.old) }

@@ -77,7 +77,7 @@ impl Text {
         self.text.is_empty()
     }
 
-    /// Adds one character at the end. For want of memory nothing changes.
+    /// Adds one character at the end. Where memory runs out nothing changes.
     pub fn push(&mut self, character: char) -> Result<(), AllocError>
         ensures ok { OnOk result (self.new ≡ self.old ++ encode_utf8 character) }
         ensures err { OnErr result (self.new ≡ self.old) }
@@ -85,7 +85,7 @@ impl Text {
         self.text.push(character)
     }
 
-    /// Adds a text at the end. For want of memory nothing changes.
+    /// Adds a text at the end. Where memory runs out nothing changes.
     pub fn push_str(&mut self, more: &str) -> Result<(), AllocError>
         ensures ok { OnOk result (self.new ≡ self.old ++ more.now) }
         ensures err { OnErr result (self.new ≡ self.old) }

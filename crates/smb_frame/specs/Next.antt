@@ -6,7 +6,7 @@ use Rattle.wire_defs.specs.declared.refusal.FrameError.TheVariants as errors
 use Rattle.smb_frame.specs.declared.deframer.Frame.{Frame}
 
 -- The frame at the front of the bytes that are left was handed out; or they stay, since there is none yet, since there
--- is a refusal, or for want of memory.
+-- is a refusal, or where memory runs out.
 abbrev pub NextAnswers : List ℕ → List ℕ → Result (Option Frame) FrameError → Type 0
 NextAnswers old new (Ok (Some f)) = front old ≡ Whole f.bytes new
 NextAnswers old new (Ok None) = (front old ≡ Waits) × (new ≡ old)

@@ -56,7 +56,7 @@ impl Deframer {
         }
     }
 
-    /// Adds a piece at the end. For want of memory nothing changes.
+    /// Adds a piece at the end. Where memory runs out nothing changes.
     pub fn feed(&mut self, piece: &[u8]) -> Result<(), AllocError>
         ensures ok { OnOk result (self.new ≡ self.old ++ piece.now) }
         ensures err { OnErr result (self.new ≡ self.old) }

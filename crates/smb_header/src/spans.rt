@@ -35,7 +35,7 @@ impl Parts {
         self.items.as_slice()
     }
 
-    /// Adds a message at the end. For want of memory nothing changes.
+    /// Adds a message at the end. Where memory runs out nothing changes.
     pub fn push(&mut self, span: Span) -> Result<(), AllocError>
         ensures ok { OnOk result (self.new ≡ self.old ++ span ∷ []) }
         ensures err { OnErr result (self.new ≡ self.old) }

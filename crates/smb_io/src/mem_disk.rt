@@ -53,7 +53,7 @@ impl MemDisk {
     }
 }
 
-// Zeros at the end, or no change for want of room.
+// Zeros at the end, or no change where there is no room.
 #[tactic(auto, using(crate::proofs::Written::zeros))]
 fn lengthen(bytes: &mut Vec<u8>, more: usize) -> Result<(), Failed>
     ensures ok { OnOk result (bytes.new.items ≡ bytes.old.items ++ replicate more 0) }
@@ -76,7 +76,7 @@ fn overwrite(bytes: &mut [u8], at: usize, from: &[u8])
     bytes[at..at + from.len()].copy_from_slice(from);
 }
 
-// Puts a piece into the bytes at a place, or changes nothing for want of room.
+// Puts a piece into the bytes at a place, or changes nothing where there is no room.
 fn put(bytes: &mut Vec<u8>, at: u64, from: &[u8]) -> Result<(), Failed>
     ensures ok { OnOk result (WritesAt bytes.old.items at from.now bytes.new.items) }
     ensures err { OnErr result (bytes.new.items ≡ bytes.old.items) }

@@ -4,7 +4,7 @@ use thiserror::Error;
 /// first context that has one, in the order written here.
 #[derive(Clone, Copy, Debug, PartialEq, Eq, Error)]
 pub enum ChainError {
-    #[error("out of memory")]
+    #[error("memory ran out")]
     Memory,
     /// The fixed part, the name or the data of a context, or a context behind one that tells of a next
     /// one, doesn't fit. A context's parts must stand behind its fixed part and before the next one.

@@ -4,7 +4,7 @@ use thiserror::Error;
 /// What keeps bytes from being a text in UTF-16: the first break, in the order written here.
 #[derive(Clone, Copy, Debug, PartialEq, Eq, Error)]
 pub enum TextError {
-    #[error("out of memory")]
+    #[error("memory ran out")]
     Memory,
     /// The number of bytes, which is odd.
     #[error("{0} bytes are no whole units of UTF-16")]
@@ -17,7 +17,7 @@ pub enum TextError {
 /// What keeps the bytes at the front of a stream from being a frame.
 #[derive(Clone, Copy, Debug, PartialEq, Eq, Error)]
 pub enum FrameError {
-    #[error("out of memory")]
+    #[error("memory ran out")]
     Memory,
     /// The first byte, which isn't 0.
     #[error("a frame begins with {0}")]

@@ -86,8 +86,8 @@ impl Client {
         id_behind(self.next, &self.ops[index])
     }
 
-    /// Takes an operation, where its number is the next one and it keeps the limits. For want of
-    /// memory nothing changes.
+    /// Takes an operation, where its number is the next one and it keeps the limits. Where memory
+    /// runs out nothing changes.
     pub fn submit(&mut self, op: Op) -> Result<bool, AllocError>
         ensures taken { IfOk result (λ b. b ≡ takes_op self.old.ops.items op) }
         ensures ops { OnOk result (self.new.ops.items ≡ (if takes_op self.old.ops.items op then self.old.ops.items ++ op.kind ∷ [] else self.old.ops.items)) }

@@ -20,6 +20,3 @@ pub use network::{NO_NOTE, StepNote, World, WorldError, WorldEvent};
 pub use one_content::one_content_law;
 pub use operation::{Op, OpKind, OpReply, Outcome, Why};
 pub use table::Outcomes;
-
-#[cfg(test)]
-mod tests;

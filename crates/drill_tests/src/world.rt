@@ -1,8 +1,8 @@
-use super::*;
 use smb_bytes::Bytes;
 use std::alloc::Global;
 use std::process::Abort;
 use std::test::*;
+use world_model::{Op, OpKind, OpReply, Outcome, World, WorldError, WorldEvent};
 
 fn write(alloc: Global, number: u32, at: u64, text: &[u8]) -> Result<WorldEvent, Fail> {
     let bytes = Bytes::from_slice(alloc, text)?;

@@ -1,6 +1,6 @@
-use crate::smb311;
 use smb_bytes::Bytes;
 use smb_io::{Failed, MemSink, MemSource, Sink, Source};
+use smb311_cli::smb311;
 use std::alloc::{AllocError, Global};
 use std::process::Abort;
 use std::test::Fail;
