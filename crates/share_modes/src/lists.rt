@@ -1,5 +1,4 @@
-use std::alloc::{AllocError, Global};
-use std::marker::Model;
+use owned_list::ListOf;
 
 /// An open of a file: its id, its mapped access and its share access (MS-SMB2 2.2.13).
 #[derive(Clone, Copy, Debug, PartialEq, Eq)]
@@ -19,85 +18,7 @@ pub struct Range {
 }
 
 /// Opens of one file, one after the other.
-#[derive(Drop)]
-pub struct OpenList {
-    items: Vec<Open>,
-}
-
-impl Model for OpenList {
-    ghost use Rattle.std.specs.Prelude.{List};
-    ghost use Rattle.share_modes.specs.declared.lists.Open.{Open};
-
-    ghost Value = { List Open };
-
-    ghost view = { λ l. l.items.items };
-}
-
-impl OpenList {
-    ghost use Rattle.std.specs.Prelude.{◌≡◌, [], ◌∷◌, ◌++◌, OnOk, OnErr};
-
-    pub fn new(alloc: Global) -> OpenList
-        ensures { result ≡ [] }
-    {
-        OpenList {
-            items: Vec::new(alloc),
-        }
-    }
-
-    /// Adds one at the end. For want of memory nothing changes.
-    pub fn push(&mut self, one: Open) -> Result<(), AllocError>
-        ensures ok { OnOk result (self.new ≡ self.old ++ one ∷ []) }
-        ensures err { OnErr result (self.new ≡ self.old) }
-    {
-        self.items.push(one)?;
-        Ok(())
-    }
-
-    pub fn as_slice(&self) -> &[Open]
-        ensures { result.now ≡ self.now }
-    {
-        self.items.as_slice()
-    }
-}
+pub type OpenList = ListOf<Open>;
 
 /// Ranges, one after the other.
-#[derive(Drop)]
-pub struct RangeList {
-    items: Vec<Range>,
-}
-
-impl Model for RangeList {
-    ghost use Rattle.std.specs.Prelude.{List};
-    ghost use Rattle.share_modes.specs.declared.lists.Range.{Range};
-
-    ghost Value = { List Range };
-
-    ghost view = { λ l. l.items.items };
-}
-
-impl RangeList {
-    ghost use Rattle.std.specs.Prelude.{◌≡◌, [], ◌∷◌, ◌++◌, OnOk, OnErr};
-
-    pub fn new(alloc: Global) -> RangeList
-        ensures { result ≡ [] }
-    {
-        RangeList {
-            items: Vec::new(alloc),
-        }
-    }
-
-    /// Adds one at the end. For want of memory nothing changes.
-    pub fn push(&mut self, range: Range) -> Result<(), AllocError>
-        ensures ok { OnOk result (self.new ≡ self.old ++ range ∷ []) }
-        ensures err { OnErr result (self.new ≡ self.old) }
-    {
-        self.items.push(range)?;
-        Ok(())
-    }
-
-    pub fn as_slice(&self) -> &[Range]
-        ensures { result.now ≡ self.now }
-    {
-        self.items.as_slice()
-    }
-}
+pub type RangeList = ListOf<Range>;
