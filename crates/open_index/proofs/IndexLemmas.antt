@@ -19,7 +19,8 @@ pub other_pair : (a b c d : ℕ) → (d == b) ≡ false → is_at (pair_cmp (a, 
 other_pair a b c d ne = pair_at a b c d ∙ grind arith
 
 -- what is at or below a number isn't there, where the first pair is above it
-pub below_first : (a b now c d : ℕ) (there : Bool) → (there ≡ true → is_gt (pair_cmp (a, b) (c, d)) ≡ false) → nat_lt now a ≡ true → c ≤ now → there ≡ false
+pub below_first : (a b now c d : ℕ) (there : Bool) → (there ≡ true → is_gt (pair_cmp (a, b) (c, d)) ≡ false)
+    → nat_lt now a ≡ true → c ≤ now → there ≡ false
 below_first a b now c d true f l m = absurd (let k = first_least a b c d (f refl) in grind (arith, nat_tests))
 below_first a b now c d false f l m = refl
 

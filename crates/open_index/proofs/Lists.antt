@@ -20,7 +20,9 @@ pub absent_below : (o x : ℕ) (xs : List ℕ) → is_ascending (x ∷ xs) ≡ t
 unfolding is_ascending
 absent_below o x [] a l = absent_step o x false l refl
 absent_below o x (y ∷ ys) a l =
-    absent_step o x (has o (y ∷ ys)) l (absent_below o y ys (back_of (nat_lt x y) (is_ascending (y ∷ ys)) a) (less o x y l (front_of (nat_lt x y) (is_ascending (y ∷ ys)) a)))
+    absent_step o x (has o (y ∷ ys)) l
+    (absent_below o y ys (back_of (nat_lt x y) (is_ascending (y ∷ ys)) a)
+    (less o x y l (front_of (nat_lt x y) (is_ascending (y ∷ ys)) a)))
 
 pub without_absent : (o : ℕ) (xs : List ℕ) → has o xs ≡ false → without o xs ≡ xs
 without_absent o [] h = refl
@@ -33,7 +35,8 @@ same_less o x y a b = grind arith
 pub behind_front : (o x : ℕ) (xs : List ℕ) → is_ascending (x ∷ xs) ≡ true → (x == o) ≡ true → has o xs ≡ false
 unfolding is_ascending
 behind_front o x [] a e = refl
-behind_front o x (y ∷ ys) a e = absent_below o y ys (back_of (nat_lt x y) (is_ascending (y ∷ ys)) a) (same_less o x y e (front_of (nat_lt x y) (is_ascending (y ∷ ys)) a))
+behind_front o x (y ∷ ys) a e = absent_below o y ys (back_of (nat_lt x y) (is_ascending (y ∷ ys)) a)
+    (same_less o x y e (front_of (nat_lt x y) (is_ascending (y ∷ ys)) a))
 
 pub rest_ascends : (x : ℕ) (xs : List ℕ) → is_ascending (x ∷ xs) ≡ true → is_ascending xs ≡ true
 unfolding is_ascending

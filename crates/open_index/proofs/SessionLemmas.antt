@@ -1,11 +1,13 @@
 -- Rows of sessions behind small steps.
-use Rattle.std.proofs.Common.{◌≡◌, ℕ, ◌+◌, ◌==◌, Bool, true, false, Option, Some, is_some, refl, sym, ap, subst, ◌∙◌, arith, eqb-true, nat_eq, IsSome}
+use Rattle.std.proofs.Common.{◌≡◌, ℕ, ◌+◌, ◌==◌, Bool, true, false, Option, Some, is_some, refl, sym, ap, subst, ◌∙◌}
+use Rattle.std.proofs.Common.{arith, eqb-true, nat_eq, IsSome}
 use Rattle.std.specs.HashMap.{HashMap, get, Updates}
 use Rattle.std.specs.BTreeSet.{BTreeSet, contains}
 use Rattle.std.specs.Ordering.{nat_cmp}
 use Rattle.exchange_defs.specs.Table.{put, put2}
 use Rattle.open_index.specs.declared.keep.SessionOpens.{SessionOpens}
-use Rattle.open_index.specs.Keep.{SessionIs, SessionShown, SessionsGrow, SessionsCount, ClosesGuid, RefusesGuid, SessionsUnlist, lists, lists_plain, names, one_more, closed_with}
+use Rattle.open_index.specs.Keep.{SessionIs, SessionShown, SessionsGrow, SessionsCount, ClosesGuid, RefusesGuid}
+use Rattle.open_index.specs.Keep.{SessionsUnlist, lists, lists_plain, names, one_more, closed_with}
 
 pub grows_same : (rows : ℕ → Option SessionOpens) → SessionsGrow rows rows
 grows_same rows = record { shown = λ q c r g h. h; listed = λ q o h. h; plain = λ q o h. h; named = λ q g h. h }
@@ -32,7 +34,8 @@ grows_at a b x same shown listed plain named =
       named = λ q g. by (λ (v w : Option SessionOpens). names v g ≡ true → names w g ≡ true) q (λ v h. h) (named g);
     }
   where
-    by : (P : Option SessionOpens → Option SessionOpens → Type 0) (q : ℕ) → ((v : Option SessionOpens) → P v v) → P (a x) (b x) → P (a q) (b q)
+    by : (P : Option SessionOpens → Option SessionOpens → Type 0) (q : ℕ) → ((v : Option SessionOpens) → P v v)
+        → P (a x) (b x) → P (a q) (b q)
     by P q id here = split (q == x) refl
       where
         split : (t : Bool) → (q == x) ≡ t → P (a q) (b q)
@@ -57,7 +60,8 @@ count_none a = record { shown = λ cl r n s x. s x; listed = λ q o e. e; plain 
 abbrev Others : (ℕ → Option SessionOpens) → (ℕ → Option SessionOpens) → ℕ → Type 0
 Others a b x = (q : ℕ) → (q == x) ≡ false → b q ≡ a q
 
-at_key : (a b : ℕ → Option SessionOpens) (x : ℕ) (P : ℕ → Option SessionOpens → Type 0) → Others a b x → P x (b x) → ((q : ℕ) → (q == x) ≡ false → P q (a q)) → (q : ℕ) → P q (b q)
+at_key : (a b : ℕ → Option SessionOpens) (x : ℕ) (P : ℕ → Option SessionOpens → Type 0) → Others a b x → P x (b x)
+    → ((q : ℕ) → (q == x) ≡ false → P q (a q)) → (q : ℕ) → P q (b q)
 at_key a b x P same here there q = by (q == x) refl
   where
     by : (t : Bool) → (q == x) ≡ t → P q (b q)
@@ -70,7 +74,8 @@ put_here f x v = grind arith
 put_there : {X : Type 0} (f : ℕ → X) (x q : ℕ) (v : X) → (q == x) ≡ false → put f x v q ≡ f q
 put_there f x q v e = rw e refl
 
-pub count_at : (a b : ℕ → Option SessionOpens) (x : ℕ) → Others a b x → ((c : ℕ → Bool) (r : ℕ → Option ℕ) (g : ℕ) → SessionShown (a x) c r g → SessionShown (b x) c r (g + 1))
+pub count_at : (a b : ℕ → Option SessionOpens) (x : ℕ) → Others a b x
+    → ((c : ℕ → Bool) (r : ℕ → Option ℕ) (g : ℕ) → SessionShown (a x) c r g → SessionShown (b x) c r (g + 1))
     → ((o : ℕ) → lists (b x) o ≡ lists (a x) o) → ((o : ℕ) → lists_plain (b x) o ≡ lists_plain (a x) o)
     → ((g : ℕ) → names (b x) g ≡ names (a x) g) → SessionsCount a b (one_more x)
 count_at a b x same here listed plain named =
@@ -106,7 +111,8 @@ pub refuse_at : (a b : ℕ → Option SessionOpens) (x g status : ℕ) → Other
 refuse_at a b x g status same here listed plain named =
     record {
       shown = λ c r n f h. at_key a b x (λ q v. SessionShown v (c q) (put2 r x g (Some status) q) (n q)) same
-          (subst (λ (k : ℕ → Option ℕ). SessionShown (b x) (c x) k (n x)) (sym (put2_here r x g (Some status))) (here (c x) (r x) (n x) f (h x)))
+          (subst (λ (k : ℕ → Option ℕ). SessionShown (b x) (c x) k (n x)) (sym (put2_here r x g (Some status)))
+          (here (c x) (r x) (n x) f (h x)))
           (λ q e. subst (λ (k : ℕ → Option ℕ). SessionShown (a q) (c q) k (n q)) (sym (put2_there r x g q (Some status) e)) (h q));
       listed = λ q o. at_key a b x (λ q v. lists (a q) o ≡ true → lists v o ≡ true) same (listed o) (λ q e k. k) q;
       plain = λ q o. at_key a b x (λ q v. lists_plain (a q) o ≡ true → lists_plain v o ≡ true) same (plain o) (λ q e k. k) q;
@@ -120,7 +126,8 @@ pub close_at : (a b : ℕ → Option SessionOpens) (x g : ℕ) → Others a b x
 close_at a b x g same here listed plain named =
     record {
       shown = λ c r n f h. at_key a b x (λ q v. SessionShown v (put2 c x g true q) (r q) (n q)) same
-          (subst (λ (k : ℕ → Bool). SessionShown (b x) k (r x) (n x)) (sym (put2_here c x g true)) (here (c x) (r x) (n x) (f x g refl refl) (h x)))
+          (subst (λ (k : ℕ → Bool). SessionShown (b x) k (r x) (n x)) (sym (put2_here c x g true))
+          (here (c x) (r x) (n x) (f x g refl refl) (h x)))
           (λ q e. subst (λ (k : ℕ → Bool). SessionShown (a q) k (r q) (n q)) (sym (put2_there c x g q true e)) (h q));
       listed = λ q o. at_key a b x (λ q v. lists v o ≡ lists (a q) o) same (listed o) (λ q e. refl) q;
       plain = λ q o. at_key a b x (λ q v. lists_plain v o ≡ lists_plain (a q) o) same (plain o) (λ q e. refl) q;
@@ -143,7 +150,8 @@ unlist_none a id = record { shown = λ q c r g h. h; listed = λ q o e. refl; pl
 
 pub unlist_at : (a b : ℕ → Option SessionOpens) (x id : ℕ) → Others a b x
     → ((c : ℕ → Bool) (r : ℕ → Option ℕ) (g : ℕ) → SessionShown (a x) c r g → SessionShown (b x) c r g)
-    → ((o : ℕ) → (o == id) ≡ false → lists (b x) o ≡ lists (a x) o) → ((o : ℕ) → (o == id) ≡ false → lists_plain (b x) o ≡ lists_plain (a x) o)
+    → ((o : ℕ) → (o == id) ≡ false → lists (b x) o ≡ lists (a x) o)
+    → ((o : ℕ) → (o == id) ≡ false → lists_plain (b x) o ≡ lists_plain (a x) o)
     → ((g : ℕ) → names (b x) g ≡ names (a x) g) → SessionsUnlist a b id
 unlist_at a b x id same here listed plain named =
     record {
@@ -156,7 +164,8 @@ unlist_at a b x id same here listed plain named =
 -- ---- a row that is changed in place
 
 -- what a write through the place of a row leaves of a map
-pub written_row : {S : Type 0} (m n : HashMap ℕ SessionOpens S) (k : ℕ) (r w : SessionOpens) → get nat_eq m k ≡ Some r → (IsSome (get nat_eq m k) → Updates nat_eq m n k (Some w))
+pub written_row : {S : Type 0} (m n : HashMap ℕ SessionOpens S) (k : ℕ) (r w : SessionOpens) → get nat_eq m k ≡ Some r
+    → (IsSome (get nat_eq m k) → Updates nat_eq m n k (Some w))
     → (get nat_eq n k ≡ Some w) × ((q : ℕ) → (q == k) ≡ false → get nat_eq n q ≡ get nat_eq m q)
 written_row m n k r w e u = let p = u (subst (λ (v : Option SessionOpens). IsSome v) (sym e) refl) in (p.1, λ q ne. p.2 q (turned q k ne))
   where
@@ -165,26 +174,32 @@ written_row m n k r w e u = let p = u (subst (λ (v : Option SessionOpens). IsSo
 
 pub grows_row : (a b : ℕ → Option SessionOpens) (x : ℕ) (r w : SessionOpens) → a x ≡ Some r → (b x ≡ Some w) × Others a b x
     → ((c : ℕ → Bool) (f : ℕ → Option ℕ) (n : ℕ) → SessionIs r c f n → SessionIs w c f n)
-    → ((o : ℕ) → contains nat_cmp r.opens o ≡ true → contains nat_cmp w.opens o ≡ true) → ((o : ℕ) → contains nat_cmp r.plain o ≡ true → contains nat_cmp w.plain o ≡ true)
+    → ((o : ℕ) → contains nat_cmp r.opens o ≡ true → contains nat_cmp w.opens o ≡ true)
+    → ((o : ℕ) → contains nat_cmp r.plain o ≡ true → contains nat_cmp w.plain o ≡ true)
     → ((g : ℕ) → is_some (get nat_eq r.results g) ≡ true → is_some (get nat_eq w.results g) ≡ true) → SessionsGrow a b
 grows_row a b x r w ea eb shown listed plain named =
-    grows_at a b x eb.1 (λ c f n. rw (ea, eb.0) (shown c f n)) (λ o. rw (ea, eb.0) (listed o)) (λ o. rw (ea, eb.0) (plain o)) (λ g. rw (ea, eb.0) (named g))
+    grows_at a b x eb.1 (λ c f n. rw (ea, eb.0) (shown c f n)) (λ o. rw (ea, eb.0) (listed o))
+    (λ o. rw (ea, eb.0) (plain o)) (λ g. rw (ea, eb.0) (named g))
 
 pub count_row : (a b : ℕ → Option SessionOpens) (x : ℕ) (r w : SessionOpens) → a x ≡ Some r → (b x ≡ Some w) × Others a b x
     → ((c : ℕ → Bool) (f : ℕ → Option ℕ) (n : ℕ) → SessionIs r c f n → SessionIs w c f (n + 1))
     → w.results ≡ r.results → w.opens ≡ r.opens → w.plain ≡ r.plain → SessionsCount a b (one_more x)
 count_row a b x r w ea eb shown results opens plain =
     count_at a b x eb.1 (λ c f n. rw (ea, eb.0) (shown c f n)) (λ o. rw (ea, eb.0) (ap (λ (v : BTreeSet ℕ). contains nat_cmp v o) opens))
-    (λ o. rw (ea, eb.0) (ap (λ (v : BTreeSet ℕ). contains nat_cmp v o) plain)) (λ g. rw (ea, eb.0) (ap (λ (v : _). is_some (get nat_eq v g)) results))
+    (λ o. rw (ea, eb.0) (ap (λ (v : BTreeSet ℕ). contains nat_cmp v o) plain))
+    (λ g. rw (ea, eb.0) (ap (λ (v : _). is_some (get nat_eq v g)) results))
 
 pub refuse_row : (a b : ℕ → Option SessionOpens) (x g status : ℕ) (r w : SessionOpens) → a x ≡ Some r → (b x ≡ Some w) × Others a b x
     → ((c : ℕ → Bool) (f : ℕ → Option ℕ) (n : ℕ) → c g ≡ false → SessionIs r c f n → SessionIs w c (put f g (Some status)) n)
-    → ((h : ℕ) → is_some (get nat_eq r.results h) ≡ true → is_some (get nat_eq w.results h) ≡ true) → w.opens ≡ r.opens → w.plain ≡ r.plain → RefusesGuid a b x g status
+    → ((h : ℕ) → is_some (get nat_eq r.results h) ≡ true → is_some (get nat_eq w.results h) ≡ true)
+    → w.opens ≡ r.opens → w.plain ≡ r.plain → RefusesGuid a b x g status
 refuse_row a b x g status r w ea eb shown named opens plain =
-    refuse_at a b x g status eb.1 (λ c f n. rw (ea, eb.0) (shown c f n)) (λ o. rw (ea, eb.0) (λ h. ap (λ (v : BTreeSet ℕ). contains nat_cmp v o) opens ∙ h))
+    refuse_at a b x g status eb.1 (λ c f n. rw (ea, eb.0) (shown c f n))
+    (λ o. rw (ea, eb.0) (λ h. ap (λ (v : BTreeSet ℕ). contains nat_cmp v o) opens ∙ h))
     (λ o. rw (ea, eb.0) (λ h. ap (λ (v : BTreeSet ℕ). contains nat_cmp v o) plain ∙ h)) (λ h. rw (ea, eb.0) (named h))
 
 pub close_row : (a b : Option SessionOpens) (g : ℕ) (r w : SessionOpens) → a ≡ Some r → b ≡ Some w
-    → ((c : ℕ → Bool) (f : ℕ → Option ℕ) (n : ℕ) → is_some (get nat_eq r.results g) ≡ true → SessionIs r c f n → SessionIs w (put c g true) f n)
+    → ((c : ℕ → Bool) (f : ℕ → Option ℕ) (n : ℕ) → is_some (get nat_eq r.results g) ≡ true → SessionIs r c f n
+    → SessionIs w (put c g true) f n)
     → (c : ℕ → Bool) (f : ℕ → Option ℕ) (n : ℕ) → names a g ≡ true → SessionShown a c f n → SessionShown b (put c g true) f n
 close_row a b g r w ea eb shown c f n = rw (ea, eb) (shown c f n)

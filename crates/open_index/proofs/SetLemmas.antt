@@ -22,7 +22,8 @@ contains_has q (x ∷ xs) = let e = contains_has q xs in let a = at_is q x in gr
 
 less_of : (x y : ℕ) → nat_cmp x y ≡ Less → nat_lt x y ≡ true
 less_of x y = either (λ (v : Ordering). v ≡ Less → nat_lt x y ≡ true) (nat_lt x y) Less (if x == y then Equal else Greater) (λ l e. l)
-    (either (λ (v : Ordering). nat_lt x y ≡ false → v ≡ Less → nat_lt x y ≡ true) (x == y) Equal Greater (λ q l e. absurd (cc)) (λ q l e. absurd (cc)))
+    (either (λ (v : Ordering). nat_lt x y ≡ false → v ≡ Less → nat_lt x y ≡ true) (x == y) Equal Greater
+    (λ q l e. absurd (cc)) (λ q l e. absurd (cc)))
 
 pub ordered_ascends : (xs : List ℕ) → IsStrictlySortedBy nat_cmp xs → is_ascending xs ≡ true
 unfolding IsStrictlySortedBy is_ascending
@@ -32,14 +33,16 @@ ordered_ascends (x ∷ y ∷ ys) h = both (nat_lt x y) (is_ascending (y ∷ ys))
 
 -- ---- two ascending lists with the same elements are the same
 
-lesser_front : (x y : ℕ) (xs ys : List ℕ) → is_ascending (x ∷ xs) ≡ true → is_ascending (y ∷ ys) ≡ true → has x (x ∷ xs) ≡ has x (y ∷ ys) → nat_lt x y ≡ false
+lesser_front : (x y : ℕ) (xs ys : List ℕ) → is_ascending (x ∷ xs) ≡ true → is_ascending (y ∷ ys) ≡ true
+    → has x (x ∷ xs) ≡ has x (y ∷ ys) → nat_lt x y ≡ false
 lesser_front x y xs ys a b same = either (λ (v : Bool). v ≡ nat_lt x y → nat_lt x y ≡ false) (nat_lt x y) true false
     (λ l e. let n = absent_below x y ys b l in absurd (grind arith)) (λ l e. l) (grind arith)
 
 fronts : (x y : ℕ) → nat_lt x y ≡ false → nat_lt y x ≡ false → x ≡ y
 fronts x y a b = grind (arith, nat_tests)
 
-rest_same : (x p : ℕ) (xs ys : List ℕ) → is_ascending (x ∷ xs) ≡ true → is_ascending (x ∷ ys) ≡ true → has p (x ∷ xs) ≡ has p (x ∷ ys) → has p xs ≡ has p ys
+rest_same : (x p : ℕ) (xs ys : List ℕ) → is_ascending (x ∷ xs) ≡ true → is_ascending (x ∷ ys) ≡ true
+    → has p (x ∷ xs) ≡ has p (x ∷ ys) → has p xs ≡ has p ys
 rest_same x p xs ys a b same = let f = behind_front p x xs a in let g = behind_front p x ys b in grind arith
 
 pub ascending_same : (xs ys : List ℕ) → is_ascending xs ≡ true → is_ascending ys ≡ true → ((p : ℕ) → has p xs ≡ has p ys) → xs ≡ ys

@@ -64,14 +64,16 @@ kept_of false (Some status) = Some (told.Refused status)
 -- ---- rows of sessions that keep what they show, and may list more opens and have more places
 
 pub record SessionsGrow (old new : ℕ → Option SessionOpens) : Type 0 where
-  pub shown : (q : ℕ) (closed : ℕ → Bool) (refused : ℕ → Option ℕ) (guids : ℕ) → SessionShown (old q) closed refused guids → SessionShown (new q) closed refused guids
+  pub shown : (q : ℕ) (closed : ℕ → Bool) (refused : ℕ → Option ℕ) (guids : ℕ)
+      → SessionShown (old q) closed refused guids → SessionShown (new q) closed refused guids
   pub listed : (q o : ℕ) → lists (old q) o ≡ true → lists (new q) o ≡ true
   pub plain : (q o : ℕ) → lists_plain (old q) o ≡ true → lists_plain (new q) o ≡ true
   pub named : (q g : ℕ) → names (old q) g ≡ true → names (new q) g ≡ true
 
 -- rows in which the counts of guids are changed so, and else as grown
 pub record SessionsCount (old new : ℕ → Option SessionOpens) (count : (ℕ → ℕ) → ℕ → ℕ) : Type 0 where
-  pub shown : (closed : ℕ → ℕ → Bool) (refused : ℕ → ℕ → Option ℕ) (guids : ℕ → ℕ) → ((x : ℕ) → SessionShown (old x) (closed x) (refused x) (guids x))
+  pub shown : (closed : ℕ → ℕ → Bool) (refused : ℕ → ℕ → Option ℕ) (guids : ℕ → ℕ)
+      → ((x : ℕ) → SessionShown (old x) (closed x) (refused x) (guids x))
       → (x : ℕ) → SessionShown (new x) (closed x) (refused x) (count guids x)
   pub listed : (q o : ℕ) → lists (old q) o ≡ true → lists (new q) o ≡ true
   pub plain : (q o : ℕ) → lists_plain (old q) o ≡ true → lists_plain (new q) o ≡ true
@@ -98,8 +100,10 @@ closed_with (Some x) (Some g) closed = put2 closed x g true
 
 -- rows of sessions in which this guid of this one is closed, where there are both and it has its place
 pub record ClosesGuid (old new : ℕ → Option SessionOpens) (session guid : Option ℕ) : Type 0 where
-  pub shown : (closed : ℕ → ℕ → Bool) (refused : ℕ → ℕ → Option ℕ) (guids : ℕ → ℕ) → ((x g : ℕ) → session ≡ Some x → guid ≡ Some g → names (old x) g ≡ true)
-      → ((x : ℕ) → SessionShown (old x) (closed x) (refused x) (guids x)) → (x : ℕ) → SessionShown (new x) (closed_with session guid closed x) (refused x) (guids x)
+  pub shown : (closed : ℕ → ℕ → Bool) (refused : ℕ → ℕ → Option ℕ) (guids : ℕ → ℕ)
+      → ((x g : ℕ) → session ≡ Some x → guid ≡ Some g → names (old x) g ≡ true)
+      → ((x : ℕ) → SessionShown (old x) (closed x) (refused x) (guids x)) → (x : ℕ)
+      → SessionShown (new x) (closed_with session guid closed x) (refused x) (guids x)
   pub listed : (q o : ℕ) → lists (new q) o ≡ lists (old q) o
   pub plain : (q o : ℕ) → lists_plain (new q) o ≡ lists_plain (old q) o
   pub named : (q g : ℕ) → names (new q) g ≡ names (old q) g
@@ -107,7 +111,8 @@ pub record ClosesGuid (old new : ℕ → Option SessionOpens) (session guid : Op
 -- rows of sessions in which the create of this guid is refused, where none of it was closed
 pub record RefusesGuid (old new : ℕ → Option SessionOpens) (session guid status : ℕ) : Type 0 where
   pub shown : (closed : ℕ → ℕ → Bool) (refused : ℕ → ℕ → Option ℕ) (guids : ℕ → ℕ) → closed session guid ≡ false
-      → ((x : ℕ) → SessionShown (old x) (closed x) (refused x) (guids x)) → (x : ℕ) → SessionShown (new x) (closed x) (put2 refused session guid (Some status) x) (guids x)
+      → ((x : ℕ) → SessionShown (old x) (closed x) (refused x) (guids x)) → (x : ℕ)
+      → SessionShown (new x) (closed x) (put2 refused session guid (Some status) x) (guids x)
   pub listed : (q o : ℕ) → lists (old q) o ≡ true → lists (new q) o ≡ true
   pub plain : (q o : ℕ) → lists_plain (old q) o ≡ true → lists_plain (new q) o ≡ true
   pub named : (q g : ℕ) → names (old q) g ≡ true → names (new q) g ≡ true

@@ -1,5 +1,6 @@
 //! What the opens of one file hold of it: their count, what they share and deny, and the ranges that they lock.
-ghost use Rattle.std.specs.Prelude.{◌≡◌, ◌+◌, ◌<◌, ◌≤◌, ◌^◌, ◌==◌, ℕ, List, ◌∷◌, [], length, true, false, None, Some, is_some, if◌then◌else◌, nat_eq, nat_lt};
+ghost use Rattle.std.specs.Prelude.{◌≡◌, ◌+◌, ◌<◌, ◌≤◌, ◌^◌, ◌==◌, ℕ, List, ◌∷◌, [], length, true, false, None, Some};
+ghost use Rattle.std.specs.Prelude.{is_some, if◌then◌else◌, nat_eq, nat_lt};
 ghost use Rattle.std.specs.HashMap.{get, spare};
 ghost use Rattle.exchange_defs.specs.State as model;
 ghost use Rattle.exchange_defs.specs.Ranges.{without_owner};
@@ -31,7 +32,8 @@ impl FileOpens {
 
     // One more open stands.
     fn add(&mut self, one: Open)
-        ensures { (os : List Open) (ranges : List model.Range) → length os + 1 < 2 ^ 64 → HeldIs self.old os ranges → HeldIs self.new (one ∷ os) ranges }
+        ensures { (os : List Open) (ranges : List model.Range) → length os + 1 < 2 ^ 64 → HeldIs self.old os ranges
+            → HeldIs self.new (one ∷ os) ranges }
     {
         self.count = self.count.saturating_add(1);
         self.shares.add(one);
@@ -40,7 +42,8 @@ impl FileOpens {
     // One of the opens leaves, with its ranges.
     #[tactic(auto, using(crate::proofs::HeldLemmas::owners_are))]
     fn remove(&mut self, one: Open)
-        ensures { (os : List Open) (ranges : List model.Range) → HeldIs self.old (one ∷ os) ranges → HeldIs self.new os (without_owner one.id ranges) }
+        ensures { (os : List Open) (ranges : List model.Range) → HeldIs self.old (one ∷ os) ranges
+            → HeldIs self.new os (without_owner one.id ranges) }
     {
         self.count = self.count.saturating_sub(1);
         self.shares.remove(one);
@@ -103,7 +106,8 @@ pub fn count_open(files: &mut HashMap<u64, FileOpens>, alloc: Global, file: u64,
 fn remove_held(files: &mut HashMap<u64, FileOpens>, file: u64, one: Open) -> bool
     ensures here { (os : List Open) (ranges : List model.Range) → HeldShown (get nat_eq files.old file) (one ∷ os) ranges
         → HeldShown (get nat_eq files.new file) os (without_owner one.id ranges) }
-    ensures empty { (os : List Open) (ranges : List model.Range) → result ≡ true → HeldShown (get nat_eq files.new file) os ranges → (os ≡ []) × (ranges ≡ []) }
+    ensures empty { (os : List Open) (ranges : List model.Range) → result ≡ true
+        → HeldShown (get nat_eq files.new file) os ranges → (os ≡ []) × (ranges ≡ []) }
     ensures others { (q : ℕ) → (q == file) ≡ false → get nat_eq files.new q ≡ get nat_eq files.old q }
     ensures room { spare files.old ≤ spare files.new }
 {

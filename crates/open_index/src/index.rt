@@ -81,7 +81,8 @@ impl Deadlines {
 
     // Takes the first deadline out where it is met, and tells its open.
     fn next_past(&mut self, now: u64) -> Option<u64>
-        ensures others { IfSome result (λ id. (o d : ℕ) → (o == id) ≡ false → contains pair_cmp self.new.pending (d, o) ≡ contains pair_cmp self.old.pending (d, o)) }
+        ensures others { IfSome result (λ id. (o d : ℕ) → (o == id) ≡ false
+            → contains pair_cmp self.new.pending (d, o) ≡ contains pair_cmp self.old.pending (d, o)) }
         ensures fewer { IfSome result (λ id. btree_set_len self.new.pending + 1 ≡ btree_set_len self.old.pending) }
         ensures none { IfNone result ((o d : ℕ) → d ≤ now → contains pair_cmp self.new.pending (d, o) ≡ false) }
         ensures same { IfNone result (self.new ≡ self.old) }
@@ -106,7 +107,8 @@ fn is_first_met(pending: &BTreeSet<(u64, u64)>, now: u64) -> bool
 
 // Takes the first deadline out.
 fn take_first(pending: &mut BTreeSet<(u64, u64)>) -> Option<u64>
-    ensures others { IfSome result (λ id. (o d : ℕ) → (o == id) ≡ false → contains pair_cmp pending.new (d, o) ≡ contains pair_cmp pending.old (d, o)) }
+    ensures others { IfSome result (λ id. (o d : ℕ) → (o == id) ≡ false
+        → contains pair_cmp pending.new (d, o) ≡ contains pair_cmp pending.old (d, o)) }
     ensures fewer { IfSome result (λ id. btree_set_len pending.new + 1 ≡ btree_set_len pending.old) }
     ensures none { IfNone result ((o d : ℕ) → contains pair_cmp pending.new (d, o) ≡ false) }
     ensures same { IfNone result (pending.new ≡ pending.old) }

@@ -50,7 +50,8 @@ impl SessionOpens {
 
     /// Makes room for what becomes of one more CreateGuid.
     pub fn reserve_result(&mut self) -> Result<(), AllocError>
-        ensures kept { (closed : ℕ → Bool) (refused : ℕ → Option ℕ) (guids : ℕ) → SessionIs self.old closed refused guids → SessionIs self.new closed refused guids }
+        ensures kept { (closed : ℕ → Bool) (refused : ℕ → Option ℕ) (guids : ℕ)
+            → SessionIs self.old closed refused guids → SessionIs self.new closed refused guids }
         ensures named { (g : ℕ) → get nat_eq self.new.results g ≡ get nat_eq self.old.results g }
         ensures opens { self.new.opens ≡ self.old.opens }
         ensures plain { self.new.plain ≡ self.old.plain }
@@ -87,7 +88,8 @@ impl SessionOpens {
 
     /// Counts one more CreateGuid.
     pub fn count(&mut self)
-        ensures kept { (closed : ℕ → Bool) (refused : ℕ → Option ℕ) (guids : ℕ) → SessionIs self.old closed refused guids → SessionIs self.new closed refused (guids + 1) }
+        ensures kept { (closed : ℕ → Bool) (refused : ℕ → Option ℕ) (guids : ℕ)
+            → SessionIs self.old closed refused guids → SessionIs self.new closed refused (guids + 1) }
         ensures results { self.new.results ≡ self.old.results }
         ensures opens { self.new.opens ≡ self.old.opens }
         ensures plain { self.new.plain ≡ self.old.plain }
@@ -98,7 +100,8 @@ impl SessionOpens {
     /// Gives the close of a CreateGuid its place.
     pub fn stand(&mut self, guid: u128)
         requires { 0 < spare self.old.results }
-        ensures kept { (closed : ℕ → Bool) (refused : ℕ → Option ℕ) (guids : ℕ) → SessionIs self.old closed refused guids → SessionIs self.new closed refused guids }
+        ensures kept { (closed : ℕ → Bool) (refused : ℕ → Option ℕ) (guids : ℕ)
+            → SessionIs self.old closed refused guids → SessionIs self.new closed refused guids }
         ensures named { is_some (get nat_eq self.new.results guid) ≡ true }
         ensures others { (g : ℕ) → is_some (get nat_eq self.old.results g) ≡ true → is_some (get nat_eq self.new.results g) ≡ true }
         ensures opens { self.new.opens ≡ self.old.opens }
@@ -125,7 +128,8 @@ impl SessionOpens {
     /// Keeps that the create of a CreateGuid was refused with this status.
     pub fn refuse(&mut self, guid: u128, status: u32)
         requires { 0 < spare self.old.results }
-        ensures kept { (closed : ℕ → Bool) (refused : ℕ → Option ℕ) (guids : ℕ) → closed guid ≡ false → SessionIs self.old closed refused guids
+        ensures kept { (closed : ℕ → Bool) (refused : ℕ → Option ℕ) (guids : ℕ) → closed guid ≡ false
+            → SessionIs self.old closed refused guids
             → SessionIs self.new closed (put refused guid (Some status)) guids }
         ensures others { (g : ℕ) → is_some (get nat_eq self.old.results g) ≡ true → is_some (get nat_eq self.new.results g) ≡ true }
         ensures opens { self.new.opens ≡ self.old.opens }

@@ -1,8 +1,11 @@
 //! Small steps on the rows of the sessions.
-ghost use Rattle.std.specs.Prelude.{◌≡◌, ◌+◌, ◌<◌, ◌==◌, ℕ, Bool, Option, true, false, None, Some, OnOk, is_some, IsSome, if◌then◌else◌, nat_eq};
+ghost use Rattle.std.specs.Prelude.{◌≡◌, ◌+◌, ◌<◌, ◌==◌, ℕ, Bool, Option, true, false, None, Some, OnOk, is_some};
+ghost use Rattle.std.specs.Prelude.{IsSome, if◌then◌else◌, nat_eq};
 ghost use Rattle.std.specs.HashMap.{get, spare};
 ghost use Rattle.exchange_defs.specs.Table.{put};
-ghost use Rattle.open_index.specs.Keep.{SessionShown, SessionsGrow, SessionsCount, ClosesGuid, RefusesGuid, SessionsUnlist, HasPlace, HasPlaceIn, lists, lists_plain, names, one_more, guids_with};
+ghost use Rattle.open_index.specs.Keep.{SessionShown, SessionsGrow, SessionsCount, ClosesGuid, RefusesGuid};
+ghost use Rattle.open_index.specs.Keep.{SessionsUnlist, HasPlace, HasPlaceIn, lists, lists_plain, names, one_more};
+ghost use Rattle.open_index.specs.Keep.{guids_with};
 
 use crate::keep::SessionOpens;
 use std::alloc::{AllocError, Global};
@@ -65,7 +68,8 @@ pub fn list_in(
 ) -> Result<(), AllocError>
     ensures grows { SessionsGrow (λ q. get nat_eq sessions.old q) (λ q. get nat_eq sessions.new q) }
     ensures listed { HasPlace (get nat_eq sessions.old session) → OnOk result (HasPlace (get nat_eq sessions.new session)
-        × (lists (get nat_eq sessions.new session) id ≡ true) × (is_plain ≡ true → lists_plain (get nat_eq sessions.new session) id ≡ true)) }
+        × (lists (get nat_eq sessions.new session) id ≡ true)
+        × (is_plain ≡ true → lists_plain (get nat_eq sessions.new session) id ≡ true)) }
 {
     match sessions.get_mut(&session) {
         Some(row) => row.list(id, is_plain),
@@ -75,7 +79,8 @@ pub fn list_in(
 
 /// Counts one more CreateGuid of a session.
 pub fn count_in(sessions: &mut HashMap<u64, SessionOpens>, session: u64)
-    ensures counted { is_some (get nat_eq sessions.old session) ≡ true → SessionsCount (λ q. get nat_eq sessions.old q) (λ q. get nat_eq sessions.new q) (one_more session) }
+    ensures counted { is_some (get nat_eq sessions.old session) ≡ true
+        → SessionsCount (λ q. get nat_eq sessions.old q) (λ q. get nat_eq sessions.new q) (one_more session) }
 {
     if let Some(row) = sessions.get_mut(&session) {
         row.count();
@@ -136,7 +141,8 @@ pub fn attach_in(sessions: &mut HashMap<u64, SessionOpens>, session: u64, guid: 
 /// Keeps that an open of a CreateGuid was closed.
 pub fn close_in(sessions: &mut HashMap<u64, SessionOpens>, session: u64, guid: u128)
     ensures here { (closed : ℕ → Bool) (refused : ℕ → Option ℕ) (guids : ℕ) → names (get nat_eq sessions.old session) guid ≡ true
-        → SessionShown (get nat_eq sessions.old session) closed refused guids → SessionShown (get nat_eq sessions.new session) (put closed guid true) refused guids }
+        → SessionShown (get nat_eq sessions.old session) closed refused guids
+        → SessionShown (get nat_eq sessions.new session) (put closed guid true) refused guids }
     ensures others { (q : ℕ) → (q == session) ≡ false → get nat_eq sessions.new q ≡ get nat_eq sessions.old q }
     ensures listed { (q o : ℕ) → lists (get nat_eq sessions.new q) o ≡ lists (get nat_eq sessions.old q) o }
     ensures plain { (q o : ℕ) → lists_plain (get nat_eq sessions.new q) o ≡ lists_plain (get nat_eq sessions.old q) o }

@@ -1,5 +1,6 @@
 -- The numbers that cover bytes of a range last, listed as far as a byte.
-use Rattle.std.proofs.Common.{◌≡◌, ℕ, Bool, false, zero, suc, ◌+◌, ◌<◌, ◌≤◌, ◌==◌, ◌^◌, if◌then◌else◌, List, [], ◌∷◌, ◌++◌, length, slice_index, append_assoc, arith, ◌⊎◌, inl, inr, sym, ◌∙◌, ap, subst}
+use Rattle.std.proofs.Common.{◌≡◌, ℕ, Bool, false, zero, suc, ◌+◌, ◌<◌, ◌≤◌, ◌==◌, ◌^◌, if◌then◌else◌, List, [], ◌∷◌}
+use Rattle.std.proofs.Common.{◌++◌, length, slice_index, append_assoc, arith, ◌⊎◌, inl, inr, sym, ◌∙◌, ap, subst}
 use Rattle.std.proofs.lemmas.Grind.{common_steps}
 use Rattle.range_index.specs.Tops.{IsTop, Lists}
 
@@ -10,10 +11,16 @@ pub record Listing (top : ℕ → ℕ) (at size from : ℕ) (old new : List ℕ)
   pub all : (x : ℕ) → at ≤ x → x < from → (top x ≡ 0) ⊎ ((i : ℕ) × (i < length more) × (slice_index more i ≡ top x))
 
 pub begun : (top : ℕ → ℕ) (at size : ℕ) (old : List ℕ) → Listing top at size at old old
-begun top at size old = record { more = []; is = grind (arith, common_steps); each = λ i h. absurd (omega arith); all = λ x a b. absurd (omega arith) }
+begun top at size old = record {
+  more = [];
+  is = grind (arith, common_steps);
+  each = λ i h. absurd (omega arith);
+  all = λ x a b. absurd (omega arith);
+}
 
 -- bytes that nothing covers are passed
-passed : (top : ℕ → ℕ) (at size from next : ℕ) (old new : List ℕ) → Listing top at size from old new → ((x : ℕ) → from ≤ x → x < next → top x ≡ 0) → Listing top at size next old new
+passed : (top : ℕ → ℕ) (at size from next : ℕ) (old new : List ℕ) → Listing top at size from old new
+    → ((x : ℕ) → from ≤ x → x < next → top x ≡ 0) → Listing top at size next old new
 passed top at size from next old new l none =
     record {
       more = l.more;
@@ -26,7 +33,9 @@ passed top at size from next old new l none =
     }
 
 -- bytes that one number covers are listed with it
-added : (top : ℕ → ℕ) (at size from next number : ℕ) (old new : List ℕ) → Listing top at size from old new → IsTop top at size number → ((x : ℕ) → from ≤ x → x < next → top x ≡ number) → Listing top at size next old (new ++ number ∷ [])
+added : (top : ℕ → ℕ) (at size from next number : ℕ) (old new : List ℕ) → Listing top at size from old new
+    → IsTop top at size number → ((x : ℕ) → from ≤ x → x < next → top x ≡ number)
+    → Listing top at size next old (new ++ number ∷ [])
 added top at size from next number old new l is covers =
     record {
       more = l.more ++ number ∷ [];
@@ -52,7 +61,8 @@ added top at size from next number old new l is covers =
           | inr k ↦ subst (λ n. IsTop top at size n) (sym (subst (λ j. slice_index (l.more ++ number ∷ []) j ≡ number) k last)) is
         ]
 
-    all : (x : ℕ) → at ≤ x → x < next → (top x ≡ 0) ⊎ ((i : ℕ) × (i < length (l.more ++ number ∷ [])) × (slice_index (l.more ++ number ∷ []) i ≡ top x))
+    all : (x : ℕ) → at ≤ x → x < next
+        → (top x ≡ 0) ⊎ ((i : ℕ) × (i < length (l.more ++ number ∷ [])) × (slice_index (l.more ++ number ∷ []) i ≡ top x))
     all x a b =
         let case : (x < from) ⊎ (from ≤ x) = grind arith in
         elim case [
@@ -61,12 +71,23 @@ added top at size from next number old new l is covers =
         ]
 
 -- the bytes from one on that have its number
-pub goes_on : (top : ℕ → ℕ) (at size from next number : ℕ) (old new : List ℕ) → Listing top at size from old new → at ≤ from → from < at + size → from < 2 ^ 64 → from < next → ((x : ℕ) → from ≤ x → x < next → top x ≡ number) → Listing top at size next old (if number == 0 then new else new ++ number ∷ [])
+pub goes_on : (top : ℕ → ℕ) (at size from next number : ℕ) (old new : List ℕ) → Listing top at size from old new
+    → at ≤ from → from < at + size → from < 2 ^ 64 → from < next → ((x : ℕ) → from ≤ x → x < next → top x ≡ number)
+    → Listing top at size next old (if number == 0 then new else new ++ number ∷ [])
 goes_on top at size from next zero old new l a b f h covers = passed top at size from next old new l covers
 goes_on top at size from next (suc n) old new l a b f h covers =
     let e : (suc n == 0) ≡ false = grind arith in
     subst (λ (xs : List ℕ). Listing top at size next old xs) (sym (ap (λ (t : Bool). if t then new else new ++ suc n ∷ []) e))
-    (added top at size from next (suc n) old new l (record { byte = from; behind = a; within = b; fits = f; is = covers from (omega arith) h; some = omega arith }) covers)
+    (added top at size from next (suc n) old new l
+    (record {
+      byte = from;
+      behind = a;
+      within = b;
+      fits = f;
+      is = covers from (omega arith) h;
+      some = omega arith;
+    }) covers)
 
-pub whole : (top : ℕ → ℕ) (at size next : ℕ) (old new : List ℕ) → Listing top at size next old new → ((x : ℕ) → x < at + size → x < 2 ^ 64 → x < next) → Lists top at size old new
+pub whole : (top : ℕ → ℕ) (at size next : ℕ) (old new : List ℕ) → Listing top at size next old new
+    → ((x : ℕ) → x < at + size → x < 2 ^ 64 → x < next) → Lists top at size old new
 whole top at size next old new l far = record { more = l.more; is = l.is; each = l.each; all = λ x a b f. l.all x a (far x b f) }

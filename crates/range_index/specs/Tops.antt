@@ -1,5 +1,6 @@
 -- Which of many numbered ranges covers a byte last, as a table by bytes: a key tells it for its byte and those behind it.
-use Rattle.std.specs.Prelude.{◌≡◌, ℕ, zero, suc, ◌+◌, ◌<◌, ◌≤◌, ◌^◌, nat_le, nat_lt, Bool, ◌&&◌, if◌then◌else◌, List, ◌++◌, length, slice_index, Option, Some, None, ◌⊎◌}
+use Rattle.std.specs.Prelude.{◌≡◌, ℕ, zero, suc, ◌+◌, ◌<◌, ◌≤◌, ◌^◌, nat_le, nat_lt, Bool, ◌&&◌, if◌then◌else◌, List}
+use Rattle.std.specs.Prelude.{◌++◌, length, slice_index, Option, Some, None, ◌⊎◌}
 
 -- the number at the greatest key that isn't above a byte, or 0
 unfoldable pub top_in : (ℕ → Option ℕ) → ℕ → ℕ

@@ -82,7 +82,8 @@ pub fn divide(tops: &mut BTreeMap<u64, u32>, at: u64) -> Result<(), AllocError>
 /// A key behind a range, where there are bytes behind it, whose number stays as it was.
 pub fn divide_behind(tops: &mut BTreeMap<u64, u32>, at: u64, size: u64) -> Result<(), AllocError>
     ensures same { (x : ℕ) → top_in (λ q. get nat_cmp tops.new q) x ≡ top_in (λ q. get nat_cmp tops.old q) x }
-    ensures key { OnOk result (at + size < 2 ^ 64 → get nat_cmp tops.new (at + size) ≡ Some (top_in (λ q. get nat_cmp tops.old q) (at + size))) }
+    ensures key { OnOk result (at + size < 2 ^ 64
+        → get nat_cmp tops.new (at + size) ≡ Some (top_in (λ q. get nat_cmp tops.old q) (at + size))) }
     ensures others { (q : ℕ) → (q ≡ at + size → ⊥) → get nat_cmp tops.new q ≡ get nat_cmp tops.old q }
 {
     match at.checked_add(size) {

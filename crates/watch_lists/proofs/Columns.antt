@@ -1,5 +1,6 @@
 -- Columns of the links behind a change of one.
-use Rattle.std.proofs.Common.{◌≡◌, ℕ, ◌<◌, ◌≤◌, ◌==◌, if◌then◌else◌, List, [], ◌∷◌, ◌++◌, length, set, get_or, refl, ap, sym, ◌∙◌, arith, subst, ◌⊎◌, inl, inr}
+use Rattle.std.proofs.Common.{◌≡◌, ℕ, ◌<◌, ◌≤◌, ◌==◌, if◌then◌else◌, List, [], ◌∷◌, ◌++◌, length, set, get_or, refl, ap}
+use Rattle.std.proofs.Common.{sym, ◌∙◌, arith, subst, ◌⊎◌, inl, inr}
 use Rattle.std.proofs.lemmas.Grind.{common_steps}
 use Rattle.std.proofs.lemmas.List.{get_or-set_same, get_or-set_other}
 use Rattle.watch_lists.specs.declared.Link.{Link}
@@ -12,13 +13,16 @@ col f links g = f (link_at links g)
 test_if : (g x a b c : ℕ) → (g ≡ x → c ≡ a) → ((g ≡ x → ⊥) → c ≡ b) → c ≡ (if g == x then a else b)
 test_if g x a b c h k = grind arith
 
-pub col_set : (f : Link → ℕ) (links : List Link) (x : ℕ) (r : Link) → x < length links → (g : ℕ) → col f (set links x r) g ≡ put (col f links) x (f r) g
-col_set f links x r h g = test_if g x (f r) (f (get_or links g no_link)) (f (get_or (set links x r) g no_link)) (λ e. rw (e, get_or-set_same links x r no_link h) refl) (λ e. rw (get_or-set_other links x g r no_link e) refl)
+pub col_set : (f : Link → ℕ) (links : List Link) (x : ℕ) (r : Link) → x < length links → (g : ℕ)
+    → col f (set links x r) g ≡ put (col f links) x (f r) g
+col_set f links x r h g = test_if g x (f r) (f (get_or links g no_link)) (f (get_or (set links x r) g no_link))
+    (λ e. rw (e, get_or-set_same links x r no_link h) refl) (λ e. rw (get_or-set_other links x g r no_link e) refl)
 
 pub put_same : (f : ℕ → ℕ) (x v : ℕ) → v ≡ f x → (g : ℕ) → put f x v g ≡ f g
 put_same f x v e g = sym (test_if g x v (f g) (f g) (λ k. rw k (sym e)) (λ k. refl))
 
-pub col_kept : (f : Link → ℕ) (links : List Link) (x : ℕ) (r : Link) → x < length links → f r ≡ f (link_at links x) → (g : ℕ) → col f (set links x r) g ≡ col f links g
+pub col_kept : (f : Link → ℕ) (links : List Link) (x : ℕ) (r : Link) → x < length links → f r ≡ f (link_at links x)
+    → (g : ℕ) → col f (set links x r) g ≡ col f links g
 col_kept f links x r h e g = col_set f links x r h g ∙ put_same (col f links) x (f r) e g
 
 pub all : (f g : ℕ → ℕ) → ((x : ℕ) → f x ≡ g x) → f ≡ g
@@ -31,12 +35,16 @@ inside links g h =
     elim case [ inl k ↦ k | inr k ↦ absurd (beyond links g k h) ]
   where
     beyond : (links : List Link) (g : ℕ) → length links ≤ g → 0 < (get_or links g no_link).watch → ⊥
-    beyond links g k h = (let e : get_or links g no_link ≡ no_link = grind (arith, common_steps) in (let p : 0 < no_link.watch = subst (λ (r : Link). 0 < r.watch) e h in omega arith))
+    beyond links g k h = (let e : get_or links g no_link ≡ no_link = grind (arith, common_steps)
+        in (let p : 0 < no_link.watch = subst (λ (r : Link). 0 < r.watch) e h in omega arith))
 
 -- lists are those of equal columns
-pub moved : (watch first next watch' first' next' : ℕ → ℕ) → ((g : ℕ) → watch' g ≡ watch g) → ((g : ℕ) → first' g ≡ first g) → ((g : ℕ) → next' g ≡ next g) → Lists watch first next → Lists watch' first' next'
+pub moved : (watch first next watch' first' next' : ℕ → ℕ) → ((g : ℕ) → watch' g ≡ watch g)
+    → ((g : ℕ) → first' g ≡ first g) → ((g : ℕ) → next' g ≡ next g) → Lists watch first next → Lists watch' first' next'
 moved watch first next watch' first' next' a b c l =
-    subst (λ (d : ℕ → ℕ). Lists d first' next') (sym (all watch' watch a)) (subst (λ (d : ℕ → ℕ). Lists watch d next') (sym (all first' first b)) (subst (λ (d : ℕ → ℕ). Lists watch first d) (sym (all next' next c)) l))
+    subst (λ (d : ℕ → ℕ). Lists d first' next') (sym (all watch' watch a))
+    (subst (λ (d : ℕ → ℕ). Lists watch d next') (sym (all first' first b))
+    (subst (λ (d : ℕ → ℕ). Lists watch first d) (sym (all next' next c)) l))
 
 pub put_alike : (f g : ℕ → ℕ) (x v : ℕ) → ((i : ℕ) → f i ≡ g i) → (i : ℕ) → put f x v i ≡ put g x v i
 put_alike f g x v h i = ap (λ (d : ℕ → ℕ). put d x v i) (all f g h)
@@ -45,4 +53,8 @@ put_alike f g x v h i = ap (λ (d : ℕ → ℕ). put d x v i) (all f g h)
 pub link_more : (links : List Link) (g : ℕ) → link_at (links ++ no_link ∷ []) g ≡ link_at links g
 link_more links g =
     let case : (g < length links) ⊎ ((g ≡ length links) ⊎ (length links < g)) = grind arith in
-    elim case [ inl k ↦ grind (arith, common_steps) | inr (inl k) ↦ grind (arith, common_steps) | inr (inr k) ↦ grind (arith, common_steps) ]
+    elim case [
+      | inl k ↦ grind (arith, common_steps)
+      | inr (inl k) ↦ grind (arith, common_steps)
+      | inr (inr k) ↦ grind (arith, common_steps)
+    ]

@@ -19,14 +19,16 @@ put_off f k v g e = grind (arith, e)
 held : (watch first next : ℕ → ℕ) (b x : ℕ) → Lists watch first next → 0 < b → 0 < x → first b ≡ x → watch x ≡ b
 held watch first next b x l p q e = subst (λ n. watch n ≡ b) e (l.top_is b p (subst (λ n. 0 < n) (sym e) q))
 
-leaves_low : (watch first next : ℕ → ℕ) (b x h : ℕ) → Lists watch first next → 0 < b → watch x ≡ b → first b ≡ x → (h ≡ x → ⊥) → watch h ≡ b → h ≤ next x
+leaves_low : (watch first next : ℕ → ℕ) (b x h : ℕ) → Lists watch first next → 0 < b → watch x ≡ b → first b ≡ x
+    → (h ≡ x → ⊥) → watch h ≡ b → h ≤ next x
 leaves_low watch first next b x h l p w e i s =
     let case : (h ≤ next x) ⊎ (next x < h) = grind arith in
     let top : h ≤ first b = l.top b h p s in
     let lower : h < x = grind (arith, e, top, i) in
     elim case [ inl k ↦ k | inr k ↦ absurd (l.below x h (subst (λ n. 0 < n) (sym w) p) k lower (s ∙ sym w)) ]
 
-leaves_top : (watch first next : ℕ → ℕ) (b x : ℕ) → Lists watch first next → 0 < b → watch x ≡ b → first b ≡ x → (c h : ℕ) → 0 < c → put watch x 0 h ≡ c → h ≤ put first b (next x) c
+leaves_top : (watch first next : ℕ → ℕ) (b x : ℕ) → Lists watch first next → 0 < b → watch x ≡ b → first b ≡ x
+    → (c h : ℕ) → 0 < c → put watch x 0 h ≡ c → h ≤ put first b (next x) c
 leaves_top watch first next b x l p w e c h k s =
     elim (two h x) [
       | inl i ↦ absurd (let z : 0 ≡ c = sym (put_at watch x 0 h i) ∙ s in omega arith)
@@ -39,7 +41,8 @@ leaves_top watch first next b x l p w e c h k s =
           )
     ]
 
-leaves_top_is : (watch first next : ℕ → ℕ) (b x : ℕ) → Lists watch first next → 0 < b → watch x ≡ b → (c : ℕ) → 0 < c → 0 < put first b (next x) c → put watch x 0 (put first b (next x) c) ≡ c
+leaves_top_is : (watch first next : ℕ → ℕ) (b x : ℕ) → Lists watch first next → 0 < b → watch x ≡ b → (c : ℕ) → 0 < c
+    → 0 < put first b (next x) c → put watch x 0 (put first b (next x) c) ≡ c
 leaves_top_is watch first next b x l p w c k s =
     let pw : 0 < watch x = subst (λ n. 0 < n) (sym w) p in
     elim (two c b) [
@@ -57,7 +60,8 @@ leaves_top_is watch first next b x l p w c k s =
           )
     ]
 
-leaves_below : (watch next : ℕ → ℕ) (x y h : ℕ) → (0 < watch y → next y < h → h < y → watch h ≡ watch y → ⊥) → 0 < put watch x 0 y → next y < h → h < y → put watch x 0 h ≡ put watch x 0 y → ⊥
+leaves_below : (watch next : ℕ → ℕ) (x y h : ℕ) → (0 < watch y → next y < h → h < y → watch h ≡ watch y → ⊥)
+    → 0 < put watch x 0 y → next y < h → h < y → put watch x 0 h ≡ put watch x 0 y → ⊥
 leaves_below watch next x y h l k s t u =
     elim (two y x) [
       | inl i ↦ (let z = subst (λ n. 0 < n) (put_at watch x 0 y i) k in omega arith)
@@ -71,7 +75,8 @@ leaves_below watch next x y h l k s t u =
           )
     ]
 
-leaves_below_is : (watch first next : ℕ → ℕ) (b x : ℕ) → Lists watch first next → 0 < b → watch x ≡ b → first b ≡ x → (y : ℕ) → 0 < put watch x 0 y → 0 < next y → put watch x 0 (next y) ≡ put watch x 0 y
+leaves_below_is : (watch first next : ℕ → ℕ) (b x : ℕ) → Lists watch first next → 0 < b → watch x ≡ b → first b ≡ x
+    → (y : ℕ) → 0 < put watch x 0 y → 0 < next y → put watch x 0 (next y) ≡ put watch x 0 y
 leaves_below_is watch first next b x l p w e y k s =
     elim (two y x) [
       | inl i ↦ absurd (let z = subst (λ n. 0 < n) (put_at watch x 0 y i) k in omega arith)
@@ -84,7 +89,8 @@ leaves_below_is watch first next b x l p w e y k s =
           )
     ]
   where
-    past : (watch first next : ℕ → ℕ) (b x y : ℕ) → Lists watch first next → 0 < b → watch x ≡ b → first b ≡ x → (y ≡ x → ⊥) → 0 < watch y → 0 < next y → next y ≡ x → watch (next y) ≡ watch y → ⊥
+    past : (watch first next : ℕ → ℕ) (b x y : ℕ) → Lists watch first next → 0 < b → watch x ≡ b → first b ≡ x
+        → (y ≡ x → ⊥) → 0 < watch y → 0 < next y → next y ≡ x → watch (next y) ≡ watch y → ⊥
     past watch first next b x y l p w e i pos s z is =
         let t : watch y ≡ b = sym is ∙ ap watch z ∙ w in
         let low : next y < y = l.lower y pos s in
@@ -97,7 +103,8 @@ leaves_lower watch first next x l y k s =
       | inr i ↦ l.lower y (subst (λ n. 0 < n) (put_off watch x 0 y i) k) s
     ]
 
-pub first_leaves : (watch first next : ℕ → ℕ) (b x : ℕ) → Lists watch first next → 0 < b → 0 < x → first b ≡ x → Lists (put watch x 0) (put first b (next x)) next
+pub first_leaves : (watch first next : ℕ → ℕ) (b x : ℕ) → Lists watch first next → 0 < b → 0 < x → first b ≡ x
+    → Lists (put watch x 0) (put first b (next x)) next
 first_leaves watch first next b x l p q e =
     let w = held watch first next b x l p q e in
     record {
@@ -109,7 +116,8 @@ first_leaves watch first next b x l p q e =
       lower = leaves_lower watch first next x l;
     }
 
-pub comes_in_front : (watch first next : ℕ → ℕ) (b x : ℕ) → Lists watch first next → 0 < b → watch x ≡ 0 → first b < x → Lists (put watch x b) (put first b x) (put next x (first b))
+pub comes_in_front : (watch first next : ℕ → ℕ) (b x : ℕ) → Lists watch first next → 0 < b → watch x ≡ 0 → first b < x
+    → Lists (put watch x b) (put first b x) (put next x (first b))
 comes_in_front watch first next b x l p w e =
     record {
       nought = put_nought watch x b (omega arith) l.nought;
@@ -123,7 +131,9 @@ comes_in_front watch first next b x l p w e =
 which : (z x y : ℕ) → (z ≡ x) ⊎ ((z ≡ y) ⊎ ((z ≡ x → ⊥) × (z ≡ y → ⊥)))
 which z x y = grind arith
 
-behind_below : (watch first next : ℕ → ℕ) (b x y : ℕ) → Lists watch first next → 0 < b → watch x ≡ 0 → watch y ≡ b → next y < x → x < y → (z h : ℕ) → 0 < put watch x b z → put (put next x (next y)) y x z < h → h < z → put watch x b h ≡ put watch x b z → ⊥
+behind_below : (watch first next : ℕ → ℕ) (b x y : ℕ) → Lists watch first next → 0 < b → watch x ≡ 0 → watch y ≡ b
+    → next y < x → x < y → (z h : ℕ) → 0 < put watch x b z → put (put next x (next y)) y x z < h → h < z
+    → put watch x b h ≡ put watch x b z → ⊥
 behind_below watch first next b x y l p w v e f z h k s t u =
     elim (which z x y) [
       | inl i ↦ grind (arith, l.below y h, i)
@@ -135,10 +145,15 @@ behind_below watch first next b x y l p w v e f z h k s t u =
           )
     ]
   where
-    between : (watch next : ℕ → ℕ) (b x y z h : ℕ) → watch y ≡ b → next y < x → x < y → ((i : ℕ) → 0 < watch y → next y < i → i < y → watch i ≡ watch y → ⊥) → ((i : ℕ) → 0 < watch z → next z < i → i < z → watch i ≡ watch z → ⊥) → (z ≡ y → ⊥) → 0 < watch z → next z < h → h < z → put watch x b h ≡ watch z → ⊥
+    between : (watch next : ℕ → ℕ) (b x y z h : ℕ) → watch y ≡ b → next y < x → x < y
+        → ((i : ℕ) → 0 < watch y → next y < i → i < y → watch i ≡ watch y → ⊥)
+        → ((i : ℕ) → 0 < watch z → next z < i → i < z → watch i ≡ watch z → ⊥) → (z ≡ y → ⊥) → 0 < watch z
+        → next z < h → h < z → put watch x b h ≡ watch z → ⊥
     between watch next b x y z h v e f ly lz i k s t u = grind (arith, ly z, lz y, lz h)
 
-behind_below_is : (watch first next : ℕ → ℕ) (b x y : ℕ) → Lists watch first next → 0 < b → watch x ≡ 0 → watch y ≡ b → next y < x → x < y → (z : ℕ) → 0 < put watch x b z → 0 < put (put next x (next y)) y x z → put watch x b (put (put next x (next y)) y x z) ≡ put watch x b z
+behind_below_is : (watch first next : ℕ → ℕ) (b x y : ℕ) → Lists watch first next → 0 < b → watch x ≡ 0 → watch y ≡ b
+    → next y < x → x < y → (z : ℕ) → 0 < put watch x b z → 0 < put (put next x (next y)) y x z
+    → put watch x b (put (put next x (next y)) y x z) ≡ put watch x b z
 behind_below_is watch first next b x y l p w v e f z k s =
     elim (which z x y) [
       | inl i ↦ grind (arith, l.below_is y, i)
@@ -152,7 +167,8 @@ behind_below_is watch first next b x y l p w v e f z k s =
           )
     ]
 
-pub comes_behind : (watch first next : ℕ → ℕ) (b x y : ℕ) → Lists watch first next → 0 < b → watch x ≡ 0 → watch y ≡ b → next y < x → x < y → Lists (put watch x b) first (put (put next x (next y)) y x)
+pub comes_behind : (watch first next : ℕ → ℕ) (b x y : ℕ) → Lists watch first next → 0 < b → watch x ≡ 0 → watch y ≡ b
+    → next y < x → x < y → Lists (put watch x b) first (put (put next x (next y)) y x)
 comes_behind watch first next b x y l p w v e f =
     record {
       nought = put_nought watch x b (omega arith) l.nought;

@@ -8,5 +8,8 @@ pub invariant_of-self-else-price-low : goal.invariant_of-self-else-price-low
 invariant_of-self-else-price-low c =
     let s : c.set-else-price-low.new.self ≡ set c.self.inside.lows (c.args.index / 128) c.low_of-low.result = cc in
     subst (λ (xs : List ℕ). Bounds (set c.self.inside.all.items c.args.index c.args.price) xs) (sym s)
-    (set_bounds c.args.index c.args.price c.low_of-low.result c.min-end.result c.self.inside.all.items c.self.inside.lows (omega arith) (grind (arith, common_steps)) (grind (arith, common_steps)) c.self.invariant
-    (subst (λ (xs : List ℕ). (i : ℕ) → i < length (piece (c.args.index / 128 * 128) c.min-end.result xs) → c.low_of-low.result ≤ slice_index (piece (c.args.index / 128 * 128) c.min-end.result xs) i) c.deref.ensures.value c.low_of-low.ensures))
+    (set_bounds c.args.index c.args.price c.low_of-low.result c.min-end.result c.self.inside.all.items
+    c.self.inside.lows (omega arith) (grind (arith, common_steps)) (grind (arith, common_steps)) c.self.invariant
+    (subst (λ (xs : List ℕ). (i : ℕ) → i < length (piece (c.args.index / 128 * 128) c.min-end.result xs)
+    → c.low_of-low.result ≤ slice_index (piece (c.args.index / 128 * 128) c.min-end.result xs) i)
+    c.deref.ensures.value c.low_of-low.ensures))

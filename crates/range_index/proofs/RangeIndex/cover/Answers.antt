@@ -15,7 +15,8 @@ returns-clause-ok c =
     let size = c.args.size in
     let last = c.saturating_add-last.result in
     let some : 0 < size = grind (arith, common_steps) in
-    let ends : (at ≤ last) × ((last < at + size) × ((x : ℕ) → x < at + size → x < 2 ^ 64 → x ≤ last)) = last_of at size last c.ranges.at.fits some c.saturating_add-last.ensures in
+    let ends : (at ≤ last) × ((last < at + size) × ((x : ℕ) → x < at + size → x < 2 ^ 64 → x ≤ last)) =
+    last_of at size last c.ranges.at.fits some c.saturating_add-last.ensures in
     covered k0 k2 k4 at size c.args.number last some
     (λ x. c.divide_behind.ensures.same x ∙ c.divide.ensures.same x)
     c.put.ensures.key
@@ -28,6 +29,7 @@ returns-clause-ok c =
     near q (inl h) = inl (omega arith)
     near q (inr h) = inr h
 
-    apart : (q : ℕ) → (q < c.args.at) ⊎ (c.saturating_add-last.result < q) → c.args.at ≤ c.saturating_add-last.result → get nat_cmp c.put.new.tops q ≡ get nat_cmp c.drop_behind.new.tops q
+    apart : (q : ℕ) → (q < c.args.at) ⊎ (c.saturating_add-last.result < q) → c.args.at ≤ c.saturating_add-last.result
+        → get nat_cmp c.put.new.tops q ≡ get nat_cmp c.drop_behind.new.tops q
     apart q (inl h) l = c.put.ensures.others q (λ e. omega arith)
     apart q (inr h) l = c.put.ensures.others q (λ e. omega arith)

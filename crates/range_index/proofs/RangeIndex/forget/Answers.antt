@@ -10,7 +10,8 @@ join_at-requires-clause-none c =
     let e = c.if-not-is_whole.ensures in
     let more : ℕ → Option ℕ = λ q. get nat_cmp c.forget_key.new.tops q in
     flat more c.args.at (c.in-Some.end - 1) (let a = (e.end refl).0 in omega arith)
-    (λ q a b. c.forget_key.ensures.others q (λ z. omega arith) ∙ e.between refl q a (let m = (e.end refl).0 in omega arith)) ∙ c.forget_key.ensures.none
+    (λ q a b. c.forget_key.ensures.others q (λ z. omega arith)
+    ∙ e.between refl q a (let m = (e.end refl).0 in omega arith)) ∙ c.forget_key.ensures.none
 
 pub returns : goal.returns
 returns c =
@@ -19,4 +20,5 @@ returns c =
     let more : ℕ → Option ℕ = λ q. get nat_cmp c.forget_key.new.tops q in
     λ x h.
     subst (λ (n : ℕ). (n ≡ top_in old x) ⊎ ((top_in old x ≡ c.args.number) × (n ≡ 0))) (sym (c.join_at.ensures x))
-    (forgot old more c.args.at c.in-Some.end c.args.number (e.key refl) (e.end refl).0 (e.end refl).1 (e.between refl) c.forget_key.ensures.none c.forget_key.ensures.others x h)
+    (forgot old more c.args.at c.in-Some.end c.args.number (e.key refl) (e.end refl).0 (e.end refl).1
+    (e.between refl) c.forget_key.ensures.none c.forget_key.ensures.others x h)

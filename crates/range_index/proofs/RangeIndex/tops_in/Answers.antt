@@ -11,7 +11,12 @@ pub loop-key-init : goal.loop-key-init
 loop-key-init c =
     let some : 0 < c.args.size = grind (arith, common_steps) in
     let ends = last_of c.args.at c.args.size c.saturating_add-last.result c.ranges.at.fits some c.saturating_add-last.ensures in
-    record { number = c.top_of-number.ensures; behind = omega arith; within = ends.0; listed = begun (top c.args.self.now) c.args.at c.args.size c.args.into.now.items }
+    record {
+      number = c.top_of-number.ensures;
+      behind = omega arith;
+      within = ends.0;
+      listed = begun (top c.args.self.now) c.args.at c.args.size c.args.into.now.items;
+    }
 
 pub returns-in_default : goal.returns-in_default
 returns-in_default c =
@@ -22,10 +27,15 @@ returns-in_default c =
     let v = c.loop-key.invariant in
     let within : c.loop-key.from < c.args.at + c.args.size = (let a = v.within in let b = ends.1.0 in omega arith) in
     let fits : c.loop-key.from < 18446744073709551616 = (let a = v.within in let b = c.saturating_add-last.type_inv in omega arith) in
-    let covers : (x : ℕ) → c.loop-key.from ≤ x → x < last + 1 → top c.args.self.now x ≡ c.loop-key.number = λ x a b. flat keys c.loop-key.from x a (λ q m n. c.in_default.ensures.none q m (omega arith)) ∙ sym v.number in
+    let covers : (x : ℕ) → c.loop-key.from ≤ x → x < last + 1
+    → top c.args.self.now x ≡ c.loop-key.number =
+    λ x a b. flat keys c.loop-key.from x a (λ q m n. c.in_default.ensures.none q m (omega arith)) ∙ sym v.number in
     whole (top c.args.self.now) c.args.at c.args.size (last + 1) c.args.into.now.items c.add.new.into.items
-    (subst (λ (xs : List ℕ). Listing (top c.args.self.now) c.args.at c.args.size (last + 1) c.args.into.now.items xs) (sym c.in_ok-add.ensures)
-    (goes_on (top c.args.self.now) c.args.at c.args.size c.loop-key.from (last + 1) c.loop-key.number c.args.into.now.items c.loop-key.into.items v.listed v.behind within fits (let a = v.within in omega arith) covers))
+    (subst (λ (xs : List ℕ). Listing (top c.args.self.now) c.args.at c.args.size (last + 1) c.args.into.now.items xs)
+    (sym c.in_ok-add.ensures)
+    (goes_on (top c.args.self.now) c.args.at c.args.size c.loop-key.from
+    (last + 1) c.loop-key.number c.args.into.now.items c.loop-key.into.items v.listed v.behind within fits
+    (let a = v.within in omega arith) covers))
     (λ x a b. let k = ends.1.1 x a b in omega arith)
 
 pub loop-key-preserved : goal.loop-key-preserved
@@ -38,11 +48,16 @@ loop-key-preserved c =
     let e = c.in-Some.ensures in
     let within : c.loop-key.from < c.args.at + c.args.size = (let a = v.within in let b = ends.1.0 in omega arith) in
     let fits : c.loop-key.from < 18446744073709551616 = (let a = v.within in let b = c.saturating_add-last.type_inv in omega arith) in
-    let covers : (x : ℕ) → c.loop-key.from ≤ x → x < next → top c.args.self.now x ≡ c.loop-key.number = λ x a b. flat keys c.loop-key.from x a (λ q m n. none_if (keys q) (λ s. let l = e.first q m s in omega arith)) ∙ sym v.number in
+    let covers : (x : ℕ) → c.loop-key.from ≤ x → x < next
+    → top c.args.self.now x ≡ c.loop-key.number =
+    λ x a b. flat keys c.loop-key.from x a (λ q m n. none_if (keys q) (λ s. let l = e.first q m s in omega arith))
+    ∙ sym v.number in
     record {
       number = sym (at_key keys next c.in-Some.key.top e.key);
       behind = (let a = v.behind in let b = e.behind.0 in omega arith);
       within = e.behind.1;
-      listed = subst (λ (xs : List ℕ). Listing (top c.args.self.now) c.args.at c.args.size next c.args.into.now.items xs) (sym c.in_ok-add.ensures)
-          (goes_on (top c.args.self.now) c.args.at c.args.size c.loop-key.from next c.loop-key.number c.args.into.now.items c.loop-key.into.items v.listed v.behind within fits e.behind.0 covers);
+      listed = subst (λ (xs : List ℕ). Listing (top c.args.self.now) c.args.at c.args.size next c.args.into.now.items
+          xs) (sym c.in_ok-add.ensures)
+          (goes_on (top c.args.self.now) c.args.at c.args.size c.loop-key.from next c.loop-key.number
+          c.args.into.now.items c.loop-key.into.items v.listed v.behind within fits e.behind.0 covers);
     }

@@ -7,7 +7,8 @@ use Rattle.range_index.proofs.keys.forget_key.Goals as goal
 pub returns-then-number_below-eq0-clause-none : goal.returns-then-number_below-eq0-clause-none
 returns-then-number_below-eq0-clause-none c =
     let u = c.remove.ensures.updates in
-    gone (λ q. get nat_cmp c.args.tops.now q) (λ q. get nat_cmp c.remove.new.self q) c.args.at (at_new c.args.tops.now c.remove.new.self c.args.at None u)
+    gone (λ q. get nat_cmp c.args.tops.now q) (λ q. get nat_cmp c.remove.new.self q) c.args.at
+    (at_new c.args.tops.now c.remove.new.self c.args.at None u)
     (at_others c.args.tops.now c.remove.new.self c.args.at None u) (λ h. sym (c.number_below.ensures.other h) ∙ c.if-number_below-eq0.true)
 
 pub returns-else-number_below-eq0-clause-none : goal.returns-else-number_below-eq0-clause-none

@@ -8,7 +8,9 @@ pub returns-in-Some : goal.returns-in-Some
 returns-in-Some c =
     let keys : ℕ → Option ℕ = λ q. get nat_cmp c.args.tops.now q in
     let k = c.in-Some.ensures in
-    sym (flat keys c.in-Some.key.at c.args.at k.before (λ q a b. none_if (keys q) (λ s. let l = k.last q b s in omega arith)) ∙ at_key keys c.in-Some.key.at c.in-Some.key.top k.key)
+    sym (flat keys c.in-Some.key.at c.args.at k.before
+    (λ q a b. none_if (keys q) (λ s. let l = k.last q b s in omega arith))
+    ∙ at_key keys c.in-Some.key.at c.in-Some.key.top k.key)
 
 pub returns-in-None : goal.returns-in-None
 returns-in-None c = sym (empty (λ q. get nat_cmp c.args.tops.now q) c.args.at c.in-None.ensures.none)

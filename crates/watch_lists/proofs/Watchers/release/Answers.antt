@@ -7,11 +7,13 @@ use Rattle.watch_lists.proofs.Watchers.release.Goals as goal
 pub returns-then-index-eq0-clause-none : goal.returns-then-index-eq0-clause-none
 returns-then-index-eq0-clause-none c =
     let v : c.self.inside.links.items ≡ c.args.self.now = c.self.view_is in
-    let l : Lists (watches c.args.self.now) (firsts c.args.self.now) (nexts c.args.self.now) = subst (λ (xs : List Link). Lists (watches xs) (firsts xs) (nexts xs)) v c.self.invariant in
+    let l : Lists (watches c.args.self.now) (firsts c.args.self.now) (nexts c.args.self.now) =
+    subst (λ (xs : List Link). Lists (watches xs) (firsts xs) (nexts xs)) v c.self.invariant in
     let none : firsts c.args.self.now c.args.holder ≡ 0 = grind (arith, common_steps) in
     λ g e. no_watcher c.args.self.now c.args.holder l c.requires.above none g e
   where
-    no_watcher : (links : List Link) (b : ℕ) → Lists (watches links) (firsts links) (nexts links) → 0 < b → firsts links b ≡ 0 → (g : ℕ) → watches links g ≡ b → ⊥
+    no_watcher : (links : List Link) (b : ℕ) → Lists (watches links) (firsts links) (nexts links) → 0 < b
+        → firsts links b ≡ 0 → (g : ℕ) → watches links g ≡ b → ⊥
     no_watcher links b l p none g e =
         let low : g ≤ firsts links b = l.top b g p e in
         let at : g ≡ 0 = omega arith in

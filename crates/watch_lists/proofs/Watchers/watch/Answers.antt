@@ -8,5 +8,8 @@ use Rattle.watch_lists.proofs.Watchers.watch.Goals as goal
 pub returns-clause-watch : goal.returns-clause-watch
 returns-clause-watch c =
     let len : length c.enlist.new.links ≡ length c.self.inside.links.items = grind (arith, common_steps) in
-    let is : take c.self.inside.links.len (c.enlist.new.links ++ drop (length c.enlist.new.links) c.self.inside.links.items) ≡ c.enlist.new.links = grind (arith, common_steps) in
-    λ g. ap (λ (xs : List Link). watches xs g) is ∙ c.enlist.ensures.watch g ∙ ap (λ (xs : List Link). put (watches xs) c.args.index c.args.holder g) (c.deref_mut.ensures.value ∙ c.self.view_is)
+    let is : take c.self.inside.links.len
+    (c.enlist.new.links ++ drop (length c.enlist.new.links) c.self.inside.links.items) ≡ c.enlist.new.links =
+    grind (arith, common_steps) in
+    λ g. ap (λ (xs : List Link). watches xs g) is ∙ c.enlist.ensures.watch g
+    ∙ ap (λ (xs : List Link). put (watches xs) c.args.index c.args.holder g) (c.deref_mut.ensures.value ∙ c.self.view_is)

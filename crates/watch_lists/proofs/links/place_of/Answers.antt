@@ -16,7 +16,8 @@ loop-at-init c =
       inside = inside c.args.links.now (firsts c.args.links.now c.args.holder) p;
     }
   where
-    other : (links : List Link) (index holder : ℕ) → watches links index ≡ 0 → 0 < holder → watches links (firsts links holder) ≡ holder → index ≤ firsts links holder → index < firsts links holder
+    other : (links : List Link) (index holder : ℕ) → watches links index ≡ 0 → 0 < holder
+        → watches links (firsts links holder) ≡ holder → index ≤ firsts links holder → index < firsts links holder
     other links index holder a b w h =
         let case : (index < firsts links holder) ⊎ (firsts links holder ≡ index) = grind arith in
         elim case [ inl k ↦ k | inr e ↦ absurd (let z : holder ≡ 0 = sym w ∙ ap (watches links) e ∙ a in omega arith) ]
