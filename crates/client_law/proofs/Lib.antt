@@ -1,0 +1,12 @@
+pub mod Moves
+pub mod Settling
+pub mod Ending
+pub mod Taking
+pub mod Sending
+pub mod Waiting
+pub mod Chosen
+pub mod Heard
+pub mod Ended
+pub mod Pushed
+pub mod Replies
+pub mod Events
