@@ -48,7 +48,7 @@ told_message k c t (Some x) m a b n e =
     subst (λ y. IsHeard k c y) same
     (record { connection = a; fault = b; setup = λ q h. n q (ap Some h) })
 
-heard_is : (z : ServerSettings) (L : Logons) (k : ℕ) (f : ServerEnd) (c : Checked) (m : Message)
+pub heard_is : (z : ServerSettings) (L : Logons) (k : ℕ) (f : ServerEnd) (c : Checked) (m : Message)
     → heard_message z L k f c ≡ Some m → IsHeard k c m
 unfolding message_of
 heard_is z L k f c m e =
@@ -88,7 +88,7 @@ command_follows (Setup request) r greeted before after made shape held g = follo
     greeted before after made shape held (g request refl)
 command_follows c r greeted before after made shape held g = tt
 
-taken_server : (o : Option Taken) (m : Message) (A : Answer) (s : Server) → A.server ≡ answer_server (Some (taken_with o m A)) s
+pub taken_server : (o : Option Taken) (m : Message) (A : Answer) (s : Server) → A.server ≡ answer_server (Some (taken_with o m A)) s
 taken_server None m A s = refl
 taken_server (Some t) m A s = refl
 
@@ -152,14 +152,14 @@ failed_keeps old s z k now fresh f g c status i =
     either (GoesOn old s k f) (is_cancel c.header) _ _ (λ _. i) (λ _. said_keeps old s k f g (failed_as g.carried c) status i)
 
 -- a message with the ids of another one is the same in command and fault
-abbrev TurnFine : Option Greeting → Turn → Type 0
+abbrev pub TurnFine : Option Greeting → Turn → Type 0
 TurnFine g (Goes c) = IsFine g c
 TurnFine g (Fails status) = Unit {0}
 
 related_fine : (g : Option Greeting) (c : Checked) (y : Carry) → IsFine g c → TurnFine g (related_turn c y)
 related_fine g c y fine = either (TurnFine g) (y.status == 0) _ _ (λ _. record { greeted = fine.greeted; fault = fine.fault }) (λ _. tt)
 
-turn_fine : (g : Option Greeting) (o : Option Carry) (c : Checked) → IsFine g c → TurnFine g (turn_of o c)
+pub turn_fine : (g : Option Greeting) (o : Option Carry) (c : Checked) → IsFine g c → TurnFine g (turn_of o c)
 turn_fine g None c fine = fine
 turn_fine g (Some y) c fine = either (TurnFine g) c.related _ _ (λ _. related_fine g c y fine) (λ _. fine)
 

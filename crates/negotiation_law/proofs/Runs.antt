@@ -81,7 +81,7 @@ pushed_keeps w k slotless pick i =
 
 -- ---- Serve, Drop, Restart and the others
 
-serve_open : (w : World) (k : ℕ) → may_serve w.values k ≡ true → (w.values.conns k).server_open ≡ true
+pub serve_open : (w : World) (k : ℕ) → may_serve w.values k ≡ true → (w.values.conns k).server_open ≡ true
 serve_open w k e = front_of (w.values.conns k).server_open (is_filled (w.values.conns k).up) e
 
 crashed : (z : WorldSettings) (w : World) (k : ℕ) (kept : Bool) → Keeps w

@@ -91,12 +91,13 @@ step_kept z k now fresh s L f frame greeting making held =
 
 -- ---- the values behind it
 
-took_server : (v : Values) (k : ℕ) (token : Token) (xs : List Sent) (o : Option Taken)
+pub took_server : (v : Values) (k : ℕ) (token : Token) (xs : List Sent) (o : Option Taken)
     → (values_took v k token xs o).server ≡ answer_server o v.server
 took_server v k token xs None = refl
 took_server v k token xs (Some t) = refl
 
-took_open : (v : Values) (k : ℕ) (token : Token) (xs : List Sent) (o : Option Taken) → SameOpen v.conns (values_took v k token xs o).conns
+pub took_open : (v : Values) (k : ℕ) (token : Token) (xs : List Sent) (o : Option Taken)
+    → SameOpen v.conns (values_took v k token xs o).conns
 took_open v k token xs None = put_open v.conns k (behind_front (v.conns k) xs) refl
 took_open v k token xs (Some t) = absorbed_open v k (record { token = token; message = t.message }) xs t.answer
 
@@ -111,7 +112,7 @@ each_open v k y [] = λ j. refl
 each_open v k y (f ∷ fs) = same_open v.conns (replied v k y).conns (replied_each (replied v k y) k y fs).conns
     (replied_open v k y) (each_open (replied v k y) k y fs)
 
-said_server : (v : Values) (k : ℕ) (token : Token) (xs : List Sent) (S : ConnectionStep)
+pub said_server : (v : Values) (k : ℕ) (token : Token) (xs : List Sent) (S : ConnectionStep)
     → (values_said v k token xs S).server ≡ answer_server S.taken v.server
 said_server v k token xs S = each_server (values_took v k token xs S.taken) k (record {
   token = token;
@@ -119,7 +120,8 @@ said_server v k token xs S = each_server (values_took v k token xs S.taken) k (r
   place = v.log.places;
 }) S.frames ∙ took_server v k token xs S.taken
 
-said_open : (v : Values) (k : ℕ) (token : Token) (xs : List Sent) (S : ConnectionStep) → SameOpen v.conns (values_said v k token xs S).conns
+pub said_open : (v : Values) (k : ℕ) (token : Token) (xs : List Sent) (S : ConnectionStep)
+    → SameOpen v.conns (values_said v k token xs S).conns
 said_open v k token xs S =
     same_open v.conns (values_took v k token xs S.taken).conns (values_said v k token xs S).conns
     (took_open v k token xs S.taken) (each_open (values_took v k token xs S.taken) k (record {

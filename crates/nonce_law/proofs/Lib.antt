@@ -1,0 +1,9 @@
+pub mod Numbers
+pub mod Drawn
+pub mod Bare
+pub mod Drawing
+pub mod Going
+pub mod Telling
+pub mod Serving
+pub mod Taking
+pub mod Runs

@@ -1,0 +1,86 @@
+//! Worked examples of the exchange over bytes, computed by the checker: frames of several messages, related ones, events that
+//! found no memory or a server that stopped, and a dialog without credits.
+#![tactic(auto)]
+
+ghost use Rattle.std.specs.Prelude.{◌≡◌, ℕ, [], ◌∷◌, ◌++◌, true, false, Some, None, replicate, length};
+ghost use Rattle.credit_defs.specs.Ids.{ids_from};
+ghost use Rattle.exchange_defs.specs.Client.{SaidFirst, SaidSecond, AskedTree};
+ghost use Rattle.exchange_defs.specs.Operations.{BadToken};
+ghost use Rattle.world_defs.specs.Ends.{OutsideWindow, Stopped};
+ghost use Rattle.world_defs.specs.Related.{file_named};
+ghost use Rattle.world_examples.specs.Ends.{greeted_end, take_frame, echo, cancel, two_echoes, related_echoes, statuses_of, go_through};
+ghost use Rattle.world_examples.specs.Events.{two_disconnects, with_mishaps, lacks, halts, setup_behind, fault_at};
+
+/// Two messages of one frame are answered in one frame. Neither is signed, and no key is there to sign with.
+pub fn two_echoes_example()
+    ensures frames { length (take_frame greeted_end two_echoes).frames ≡ 1 }
+    ensures status { (take_frame greeted_end two_echoes).status ≡ Some 0xc000_0022 }
+    ensures left { (take_frame greeted_end two_echoes).server_end.window.held ≡ ids_from 3 8 }
+{}
+
+/// An id is taken once.
+pub fn id_taken_twice_example()
+    ensures { (take_frame (take_frame greeted_end (echo 1 0)).server_end (echo 1 0)).ends ≡ Some (OutsideWindow 1) }
+{}
+
+/// A CANCEL takes no id and has no reply.
+pub fn cancel_example()
+    ensures frames { (take_frame greeted_end (cancel 1)).frames ≡ [] }
+    ensures ends { (take_frame greeted_end (cancel 1)).ends ≡ None }
+    ensures held { (take_frame greeted_end (cancel 1)).server_end.window.held ≡ ids_from 1 8 }
+{}
+
+/// A related message fails with the status of the one before it, and goes its way where that is success.
+pub fn related_messages_example()
+    ensures goes { statuses_of (go_through (related_echoes None)).replies ≡ 0 ∷ 0 ∷ [] }
+    ensures fails { statuses_of (go_through (related_echoes (Some 0xc000_0022))).replies ≡ 0xc000_0022 ∷ 0xc000_0022 ∷ [] }
+{}
+
+/// Without a mishap the frame's step is the connection's own.
+pub fn no_mishap_example()
+    ensures frames { (with_mishaps (None ∷ None ∷ [])).step.frames ≡ (take_frame greeted_end two_disconnects).frames }
+    ensures matches { (with_mishaps (None ∷ None ∷ [])).matches ≡ true }
+    ensures lacked { (with_mishaps (None ∷ None ∷ [])).lacked ≡ false }
+{}
+
+/// An event that found no memory is answered so, and the message behind it by the step.
+pub fn no_memory_example()
+    ensures last { (with_mishaps (None ∷ lacks ∷ [])).step.status ≡ Some 0xc000_0017 }
+    ensures behind { (with_mishaps (lacks ∷ None ∷ [])).step.status ≡ Some 0xc000_0203 }
+    ensures lacked { (with_mishaps (lacks ∷ None ∷ [])).lacked ≡ true }
+{}
+
+/// A server that stopped ends the connection without an answer, and no message behind has an event.
+pub fn stopped_example()
+    ensures ends { (with_mishaps (halts ∷ [])).step.ends ≡ Some (Stopped 3) }
+    ensures frames { (with_mishaps (halts ∷ [])).step.frames ≡ [] }
+    ensures matches { (with_mishaps (halts ∷ [])).matches ≡ true }
+{}
+
+/// As much is given as a frame has events, and no more.
+pub fn given_example()
+    ensures too_few { (with_mishaps (None ∷ [])).matches ≡ false }
+    ensures too_many { (with_mishaps (None ∷ None ∷ None ∷ [])).matches ≡ false }
+    ensures behind_a_stop { (with_mishaps (halts ∷ None ∷ [])).matches ≡ false }
+{}
+
+/// The 4,097th SESSION_SETUP of a connection has no event.
+pub fn setups_example()
+    ensures last { (setup_behind 4095 []).matches ≡ false }
+    ensures past { (setup_behind 4096 []).matches ≡ true }
+    ensures status { (setup_behind 4096 []).step.status ≡ Some 0xc000_009a }
+    ensures count { (setup_behind 4096 []).setups ≡ 4096 }
+{}
+
+/// A request too short for its FileId names 16 zeros. An IOCTL's stands at 72.
+pub fn short_request_example()
+    ensures short { file_named 11 (replicate 87 1) ≡ replicate 16 0 }
+    ensures whole { file_named 11 (replicate 88 1) ≡ replicate 16 1 }
+{}
+
+/// No request of a dialog follows where no credit is held behind the response; behind TREE_CONNECT and a binding none does.
+pub fn no_credit_example()
+    ensures none { fault_at (SaidFirst false) 0 ≡ Some BadToken }
+    ensures one { fault_at (SaidFirst false) 1 ≡ None }
+    ensures tree { fault_at AskedTree 0 ≡ None }
+{}
