@@ -1,7 +1,7 @@
 #!/usr/bin/env python3
 """Writes random calls on a store of files, each with its answer by a plain model: a dict of paths and byte strings.
 
-usage: tools/store-calls.py SEED COUNT
+usage: tools/store-calls.py SEED COUNT [WORD..]       leaves out the calls of each WORD, of those that change nothing
 
 A line is a call, ` = ` and its answer. An answer of eight hexadecimal digits alone is a status (MS-ERREF); a refused call
 changes nothing.
@@ -14,22 +14,32 @@ changes nothing.
     rename NUMBER PATH keep|replace = ok
     remove NUMBER = ok
     read NUMBER AT LENGTH = BYTES              `-` for none, above 24 bytes `COUNT#SUM`
-    list NUMBER PATTERN = NAME/NUMBER ..       `-` is the empty pattern; `none` where no name is accepted
+    list NUMBER PATTERN = NAME/NUMBER ..       `-` is the empty pattern
+    more NUMBER PATTERN LAST CLASS ROOM one|all = none | some NAME/NUMBER ..
+                                               what fits behind the name LAST (`+` for none) in an information class; `none` where no name is
+                                               accepted there, and `some` alone where the first doesn't fit
+    below NUMBER = NUMBER ..                   all that stands below a directory, by path in upper case; `none` where nothing does
     path NUMBER = PATH
     info NUMBER = file|dir LENGTH marked|kept CREATED ACCESSED WRITTEN CHANGED ATTRIBUTES
     basic NUMBER CREATED ACCESSED WRITTEN CHANGED ATTRIBUTES = ok
     mark NUMBER marked|kept = ok
+    try make .. | write .. | rename .. = ok    as the call, but given up when its memory is taken: nothing changes
+    gone NUMBER back|away = ok                 a file or an empty directory is taken out, and put back or dropped
     used = BYTES        next = NUMBER        room ROOM = ok
     files = COUNT#SUM                          no directories, in byte order of paths; the SUM is over, for each, its path's UTF-8 bytes,
                                                a zero byte, its length in 8 bytes and its bytes, one after the other
 
 The SUM of bytes is the sum of (i + 1) times byte i, modulo 2^32.
 """
+import copy
 import random
 import sys
 
 INVALID, NAME_INVALID, NO_PATH, COLLISION = 0xC000000D, 0xC0000033, 0xC000003A, 0xC0000035
-DENIED, NOT_EMPTY, FULL, PAST_END = 0xC0000022, 0xC0000101, 0xC000007F, 0xC0000011
+DENIED, NOT_EMPTY, FULL, PAST_END, NO_FILE = 0xC0000022, 0xC0000101, 0xC000007F, 0xC0000011, 0xC000000F
+
+# bytes of an entry beside its name, by information class (MS-FSCC 2.4)
+PARTS = {1: 64, 2: 68, 3: 94, 12: 12, 37: 104, 38: 80}
 ROOT = 0
 
 
@@ -184,6 +194,26 @@ class Store:
         names = [(".", number), ("..", self.find(parent_of(path)))] + [(name, other) for _, name, other in sorted(inside)]
         return [(name, other) for name, other in names if accepts(pattern, name)]
 
+    def list_from(self, number, pattern, last, kind, room, single):
+        """The wanted names behind the last one, and those of them that fit."""
+
+        def place(name):
+            return (0, b"") if name == "." else (1, b"") if name == ".." else (2, upper(name).encode())
+
+        wanted = [entry for entry in self.list(number, pattern) if last is None or place(last) < place(entry[0])]
+        fit, at = [], 0
+        for name, other in wanted:
+            at = (at + 7) // 8 * 8 + PARTS[kind] + len(name.encode("utf-16-le"))
+            if at > room:
+                break
+            fit.append((name, other))
+        return wanted, fit[:1] if single else fit
+
+    def below(self, number):
+        path = self.files[number].path
+        inside = [(upper(file.path).encode(), other) for other, file in self.files.items() if is_below(path, file.path)]
+        return [other for _, other in sorted(inside)]
+
     def all_files(self):
         """(path, bytes) of each file, in byte order of paths."""
         return sorted((file.path.encode(), file.bytes) for file in self.files.values() if not file.directory)
@@ -306,7 +336,49 @@ class Caller:
     def call_list(self):
         number, pattern = self.a_number(True), self.chance.choice(self.PATTERNS)
         names = self.store.list(number, pattern)
-        return f"list {number} {shown(pattern)}", " ".join(f"{name}/{other}" for name, other in names) or "none"
+        return f"list {number} {shown(pattern)}", " ".join(f"{name}/{other}" for name, other in names) or f"{NO_FILE:08x}"
+
+    def call_more(self):
+        number, pattern = self.a_number(True), self.chance.choice(self.PATTERNS)
+        names = [name for name, _ in self.store.list(number, "*")]
+        last = self.chance.choice([None, *names, *names, "A", "b!", "~"])
+        kind, room = self.chance.choice(list(PARTS)), self.chance.choice([0, 100, 200, 300, 1000, 65536])
+        single = self.chance.random() < 0.2
+        wanted, fit = self.store.list_from(number, pattern, last, kind, room, single)
+        words = f"more {number} {shown(pattern)} {'+' if last is None else last} {kind} {room} {'one' if single else 'all'}"
+        return words, " ".join(["some"] + [f"{name}/{other}" for name, other in fit]) if wanted else "none"
+
+    def call_below(self):
+        number = self.a_number(True)
+        return f"below {number}", " ".join(map(str, self.store.below(number))) or "none"
+
+    def call_try(self):
+        """A call that is given up before it acts: it is refused as ever, and changes nothing."""
+        words, act = self.chance.choice([self.call_make, self.call_rename, self.call_rename, self.call_write])()
+        if not callable(act):
+            return words, act
+        store = copy.deepcopy(self.store)
+
+        def tried():
+            try:
+                act()
+            finally:
+                self.store.__dict__.update(store.__dict__)
+
+        return f"try {words}", tried
+
+    def call_gone(self):
+        """Files and empty directories that are taken out; those that come back are as they were."""
+        files = self.store.files
+        free = [
+            number
+            for number, file in files.items()
+            if number != ROOT and not any(is_below(file.path, other.path) for other in files.values() if file.directory)
+        ]
+        if not free:
+            return self.call_used()
+        number, back = self.chance.choice(free), self.chance.random() < 0.8
+        return f"gone {number} {'back' if back else 'away'}", lambda: None if back else self.store.remove(number)
 
     def call_path(self):
         number = self.a_number()
@@ -370,6 +442,10 @@ class Caller:
             self.call_remove: 11 if many else 5,
             self.call_read: 12,
             self.call_list: 2,
+            self.call_more: 4,
+            self.call_below: 1,
+            self.call_try: 3,
+            self.call_gone: 2,
             self.call_path: 4,
             self.call_info: 9,
             self.call_basic: 2,
@@ -393,13 +469,13 @@ class Caller:
 
 
 def main():
-    seed, count = int(sys.argv[1]), int(sys.argv[2])
+    seed, count, left_out = int(sys.argv[1]), int(sys.argv[2]), sys.argv[3:]
     caller = Caller(seed, 120000)
-    print(f"# Written by tools/store-calls.py {seed} {count}.")
-    print("new 120000 = ok")
-    for _ in range(count - 2):
-        print(caller.line())
-    print("files = " + caller.call_files()[1])
+    lines = ["new 120000 = ok", *(caller.line() for _ in range(count - 2)), "files = " + caller.call_files()[1]]
+    print(f"# Written by tools/{' '.join(['store-calls.py', *sys.argv[1:]])}.")
+    for line in lines:
+        if line.split(" ")[0] not in left_out:
+            print(line)
     return 0
 
 

@@ -77,7 +77,7 @@ impl Extents {
         self.len = n;
     }
 
-    /// Puts bytes at a place, with zeros before it where the file ends earlier. For want of memory the bytes stay.
+    /// Puts bytes at a place, with zeros before it where the file ends earlier. Where memory runs out the bytes stay.
     pub fn write(&mut self, at: u64, bytes: &[u8]) -> Result<(), AllocError>
         requires { at + length bytes.now < 2 ^ 64 }
         ensures ok { OnOk result ((c : List ℕ) → IsContent self.old c → IsContent self.new (written at bytes.now c)) }

@@ -1,5 +1,6 @@
 -- What stands below a directory is what begins with its key and a backslash.
-use Rattle.std.proofs.Common.{◌≡◌, ℕ, ◌==◌, Bool, true, false, ◌&&◌, if◌then◌else◌, List, [], ◌∷◌, length, Option, Some, None, is_some, refl, sym, ap, ◌∙◌, arith}
+use Rattle.std.proofs.Common.{◌≡◌, ℕ, ◌==◌, Bool, true, false, ◌&&◌, if◌then◌else◌, List, [], ◌∷◌, length, Option, Some}
+use Rattle.std.proofs.Common.{None, is_some, refl, sym, ap, ◌∙◌, arith}
 use Rattle.std.proofs.lemmas.Grind.{common_steps}
 use Rattle.std.specs.Str.{bytes_eq}
 use Rattle.std.specs.Char.{to_ascii_uppercase}
@@ -51,16 +52,26 @@ module _ (p : List ℕ) (n : (length p == 0) ≡ false) where
       more true o t = refl
       more false o t = t
 
-      by : (has_below es p ≡ true → (q : List ℕ) × (is_some (at_key es q) ≡ true) × (begins (below_key p) q ≡ true)) → (b : Bool) → is_below p e.path ≡ b → (if b then true else has_below es p) ≡ true → (q : List ℕ) × (is_some (if bytes_eq (folded e.path) q then Some e.file else at_key es q) ≡ true) × (begins (below_key p) q ≡ true)
-      by rest true s t = (folded e.path, itself (bytes_eq (folded e.path) (folded e.path)) (at_key es (folded e.path)) (nat_list_eq_equiv.refl (folded e.path)), sym (below_is p e.path n) ∙ s)
+      by : (has_below es p ≡ true → (q : List ℕ) × (is_some (at_key es q) ≡ true) × (begins (below_key p) q ≡ true))
+          → (b : Bool) → is_below p e.path ≡ b → (if b then true else has_below es p) ≡ true → (q : List ℕ)
+          × (is_some (if bytes_eq (folded e.path) q then Some e.file else at_key es q) ≡ true)
+          × (begins (below_key p) q ≡ true)
+      by rest true s t = (
+        folded e.path,
+        itself (bytes_eq (folded e.path) (folded e.path)) (at_key es (folded e.path))
+            (nat_list_eq_equiv.refl (folded e.path)),
+        sym (below_is p e.path n) ∙ s,
+      )
       by rest false s t = let f = rest t in (f.0, more (bytes_eq (folded e.path) f.0) (at_key es f.0) f.1, f.2)
 
   pub shown : (es : List Entry) (q : List ℕ) → is_some (at_key es q) ≡ true → begins (below_key p) q ≡ true → has_below es p ≡ true
   unfolding has_below at_key
   shown [] q a b = absurd (cc)
-  shown (e ∷ es) q a b = let h = shown es q in let s = bytes_same (folded e.path) q in let i = below_is p e.path n in grind (arith, common_steps)
+  shown (e ∷ es) q a b = let h = shown es q in let s = bytes_same (folded e.path) q in let i = below_is p e.path n in
+      grind (arith, common_steps)
 
-  module _ (es : List Entry) (front : List ℕ) (at : List ℕ → Option ℕ) (f : front ≡ below_key p) (same : (q : List ℕ) → at q ≡ at_key es q) where
+  module _ (es : List Entry) (front : List ℕ) (at : List ℕ → Option ℕ) (f : front ≡ below_key p) (same : (q : List ℕ)
+      → at q ≡ at_key es q) where
     there : (q : List ℕ) → is_some (at_key es q) ≡ true → is_some (at q) ≡ true
     there q e = ap is_some (same q) ∙ e
 

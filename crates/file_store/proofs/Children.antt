@@ -1,5 +1,6 @@
 -- The order of a listing is that of the keys, and a child's key is its directory's, a backslash and its name's.
-use Rattle.std.proofs.Common.{◌≡◌, ℕ, ◌==◌, Bool, false, ◌||◌, List, [], ◌∷◌, ◌++◌, length, take, drop, get_or, ◌<◌, ◌≢◌, refl, sym, ap, ◌∙◌, arith}
+use Rattle.std.proofs.Common.{◌≡◌, ℕ, ◌==◌, Bool, if◌then◌else◌, true, false, ◌||◌, List, [], ◌∷◌, ◌++◌, length, take}
+use Rattle.std.proofs.Common.{drop, get_or, ◌<◌, ◌≢◌, refl, sym, ap, ◌∙◌, arith}
 use Prim.Native.Nat.{suc}
 use Rattle.std.proofs.lemmas.Grind.{common_steps}
 use Rattle.std.proofs.lemmas.List.{append_assoc, append-nil, take-append-drop}
@@ -9,6 +10,7 @@ use Rattle.std.specs.Str.Pattern.{HasCharAt}
 use Rattle.std.specs.Ordering.{is_lt, nat_cmp}
 use Rattle.std.specs.Cmp.Lexicographic.{slice_cmp}
 use Rattle.exchange_defs.specs.Texts.{name_before, parent_from, parent_of, leaf_from, leaf_of}
+unfoldable pub use Rattle.file_store.specs.Keys.{has_slash}
 use Rattle.file_store.specs.Shown.{folded}
 use Rattle.file_store.proofs.Keys.{upper_is}
 
@@ -18,11 +20,6 @@ before_is [] [] = refl
 before_is [] (y ∷ ys) = refl
 before_is (x ∷ xs) [] = refl
 before_is (x ∷ xs) (y ∷ ys) = let u = upper_is x in let v = upper_is y in let h = before_is xs ys in grind (arith, common_steps)
-
--- a name has no backslash
-unfoldable pub has_slash : List ℕ → Bool
-has_slash [] = false
-has_slash (c ∷ cs) = (c == 92) || has_slash cs
 
 parent_stays : (found front name : List ℕ) → has_slash name ≡ false → parent_from found front name ≡ found
 unfolding parent_from has_slash
@@ -59,11 +56,33 @@ leaf_whole p e = leaf_stays [] p e
 leaf_found : (leaf d name : List ℕ) → has_slash name ≡ false → leaf_from leaf (d ++ 92 ∷ name) ≡ name
 unfolding leaf_from has_slash
 leaf_found leaf [] name e = leaf_stays [] name e
-leaf_found leaf (c ∷ cs) name e = let h = leaf_found (leaf ++ c ∷ []) cs name e in let g = leaf_found [] cs name e in grind (arith, common_steps)
+leaf_found leaf (c ∷ cs) name e = let h = leaf_found (leaf ++ c ∷ []) cs name e in let g = leaf_found [] cs name e in
+    grind (arith, common_steps)
 
 pub leaf_is : (d name : List ℕ) → has_slash name ≡ false → leaf_of (d ++ 92 ∷ name) ≡ name
 unfolding leaf_of
 leaf_is d name e = leaf_found [] d name e
+
+slash_append : (a : List ℕ) (c : ℕ) → has_slash a ≡ false → (c == 92) ≡ false → has_slash (a ++ c ∷ []) ≡ false
+unfolding has_slash
+slash_append [] c e n = rw n refl
+slash_append (x ∷ xs) c e n = let h = slash_append xs c in grind (arith, common_steps)
+
+leaf_from_slash : (leaf p : List ℕ) → has_slash leaf ≡ false → has_slash (leaf_from leaf p) ≡ false
+unfolding leaf_from has_slash
+leaf_from_slash leaf [] e = e
+leaf_from_slash leaf (c ∷ cs) e = by (c == 92) refl (leaf_from_slash [] cs) (leaf_from_slash (leaf ++ c ∷ []) cs)
+  where
+    by : (b : Bool) → (c == 92) ≡ b → (has_slash [] ≡ false → has_slash (leaf_from [] cs) ≡ false)
+        → (has_slash (leaf ++ c ∷ []) ≡ false → has_slash (leaf_from (leaf ++ c ∷ []) cs) ≡ false)
+        → has_slash (if b then leaf_from [] cs else leaf_from (leaf ++ c ∷ []) cs) ≡ false
+    by true i h g = h refl
+    by false i h g = g (slash_append leaf c e i)
+
+-- a name has no backslash
+pub leaf_slash : (p : List ℕ) → has_slash (leaf_of p) ≡ false
+unfolding leaf_of has_slash
+leaf_slash p = leaf_from_slash [] p refl
 
 no_slash : (bs : List ℕ) → ((i : ℕ) → i < length bs → get_or bs i 0 ≢ 92) → has_slash bs ≡ false
 unfolding has_slash
@@ -71,11 +90,26 @@ no_slash [] h = refl
 no_slash (c ∷ cs) h = let a = h 0 (grind arith) in let b = no_slash cs (λ i l e. h (suc i) (omega arith) e) in grind (arith, common_steps)
 
 -- a path cut at its last backslash
-pub parent_split : (s front : List ℕ) (i j : ℕ) → front ≡ take i s → NoCharPasses (λ d. d == 92) (drop j s) → HasCharAt 92 s i j → front ≡ parent_of s
+pub parent_split : (s front : List ℕ) (i j : ℕ) → front ≡ take i s → NoCharPasses (λ d. d == 92) (drop j s)
+    → HasCharAt 92 s i j → front ≡ parent_of s
 parent_split s front i j f n h =
     let d = drop_at_char 92 s i j h (omega arith) in
-    f ∙ (sym (parent_is (take i s) (drop j s) (no_slash (drop j s) (λ k l. NoCharPasses-char 92 (drop j s) k n (omega arith) l))) ∙ ap parent_of (ap (λ l. take i s ++ l) (sym d) ∙ take-append-drop i s))
+    f ∙ (sym (parent_is (take i s) (drop j s)
+    (no_slash (drop j s) (λ k l. NoCharPasses-char 92 (drop j s) k n (omega arith) l)))
+    ∙ ap parent_of (ap (λ l. take i s ++ l) (sym d) ∙ take-append-drop i s))
 
 pub parent_none : (s : List ℕ) → NoCharPasses (λ d. d == 92) s → [] ≡ parent_of s
 unfolding parent_of
 parent_none s n = sym (parent_stays [] [] s (no_slash s (λ k l. NoCharPasses-char 92 s k n (omega arith) l)))
+
+-- a name is what stands behind the last backslash
+pub leaf_split : (s back : List ℕ) (i j : ℕ) → back ≡ drop j s → NoCharPasses (λ d. d == 92) (drop j s)
+    → HasCharAt 92 s i j → back ≡ leaf_of s
+leaf_split s back i j f n h =
+    let d = drop_at_char 92 s i j h (omega arith) in
+    f ∙ (sym (leaf_is (take i s) (drop j s)
+    (no_slash (drop j s) (λ k l. NoCharPasses-char 92 (drop j s) k n (omega arith) l)))
+    ∙ ap leaf_of (ap (λ l. take i s ++ l) (sym d) ∙ take-append-drop i s))
+
+pub leaf_none : (s : List ℕ) → NoCharPasses (λ d. d == 92) s → s ≡ leaf_of s
+leaf_none s n = sym (leaf_whole s (no_slash s (λ k l. NoCharPasses-char 92 s k n (omega arith) l)))

@@ -30,13 +30,15 @@ sizes_gone content [] f p a e = absurd (cc)
 sizes_gone content (x ∷ xs) f p a e =
     let h = sizes_gone content xs f p a.2 in let w = without_absent f xs in let m = path_head x xs f a in grind (arith, common_steps)
 
-pub fresh_added : (es : List Entry) (n f : ℕ) (p : List ℕ) → ((g : ℕ) → n ≤ g → path_at es g ≡ None) → n + 1 ≤ f → path_at (es ++ record { file = n; path = p } ∷ []) f ≡ None
+pub fresh_added : (es : List Entry) (n f : ℕ) (p : List ℕ) → ((g : ℕ) → n ≤ g → path_at es g ≡ None) → n + 1 ≤ f
+    → path_at (es ++ record { file = n; path = p } ∷ []) f ≡ None
 fresh_added es n f p h l =
     let e = path_added es (record { file = n; path = p }) f (h n (omega arith)) in
     let k = h f (omega arith) in
     grind (arith, common_steps)
 
-pub root_added : (es : List Entry) (n : ℕ) (p : List ℕ) → path_at es n ≡ None → path_at es 0 ≡ None → 0 < n → path_at (es ++ record { file = n; path = p } ∷ []) 0 ≡ None
+pub root_added : (es : List Entry) (n : ℕ) (p : List ℕ) → path_at es n ≡ None → path_at es 0 ≡ None → 0 < n
+    → path_at (es ++ record { file = n; path = p } ∷ []) 0 ≡ None
 root_added es n p e z l = let k = path_added es (record { file = n; path = p }) 0 e in grind (arith, common_steps)
 
 pub bytes_filled : (p : List ℕ) → (length p == 0) ≡ false → bytes_eq (folded p) [] ≡ false

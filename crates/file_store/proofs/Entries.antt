@@ -15,25 +15,30 @@ bytes_same a b e = (bytes_decides a b).0 e
 
 -- ---- one more at the end
 
-pub key_added : (es : List Entry) (e : Entry) (q : List ℕ) → at_key es (folded e.path) ≡ None → at_key (es ++ e ∷ []) q ≡ (if bytes_eq (folded e.path) q then Some e.file else at_key es q)
+pub key_added : (es : List Entry) (e : Entry) (q : List ℕ) → at_key es (folded e.path) ≡ None → at_key (es ++ e ∷ []) q
+    ≡ (if bytes_eq (folded e.path) q then Some e.file else at_key es q)
 unfolding at_key
 key_added [] e q n = refl
 key_added (x ∷ xs) e q n = let h = key_added xs e q in let s = bytes_same (folded e.path) q in grind (arith, common_steps)
 
-pub path_added : (es : List Entry) (e : Entry) (f : ℕ) → path_at es e.file ≡ None → path_at (es ++ e ∷ []) f ≡ (if f == e.file then Some e.path else path_at es f)
+pub path_added : (es : List Entry) (e : Entry) (f : ℕ) → path_at es e.file ≡ None → path_at (es ++ e ∷ []) f
+    ≡ (if f == e.file then Some e.path else path_at es f)
 unfolding path_at
 path_added [] e f n = grind (arith, common_steps)
 path_added (x ∷ xs) e f n = let h = path_added xs e f in grind (arith, common_steps)
 
-key_differs : (x e : Entry) (xs : List Entry) → at_key (x ∷ xs) (folded e.path) ≡ None → (bytes_eq (folded e.path) (folded x.path) ≡ false) × (at_key xs (folded e.path) ≡ None)
+key_differs : (x e : Entry) (xs : List Entry) → at_key (x ∷ xs) (folded e.path) ≡ None
+    → (bytes_eq (folded e.path) (folded x.path) ≡ false) × (at_key xs (folded e.path) ≡ None)
 unfolding at_key
 key_differs x e xs n = let t = bytes_turned (folded e.path) (folded x.path) in grind (arith, common_steps)
 
-number_differs : (x e : Entry) (xs : List Entry) → path_at (x ∷ xs) e.file ≡ None → ((x.file == e.file) ≡ false) × (path_at xs e.file ≡ None)
+number_differs : (x e : Entry) (xs : List Entry) → path_at (x ∷ xs) e.file ≡ None → ((x.file == e.file) ≡ false)
+    × (path_at xs e.file ≡ None)
 unfolding path_at
 number_differs x e xs n = grind (arith, common_steps)
 
-pub apart_added : (es : List Entry) (e : Entry) → Apart es → at_key es (folded e.path) ≡ None → path_at es e.file ≡ None → Apart (es ++ e ∷ [])
+pub apart_added : (es : List Entry) (e : Entry) → Apart es → at_key es (folded e.path) ≡ None → path_at es e.file ≡ None
+    → Apart (es ++ e ∷ [])
 unfolding at_key path_at
 apart_added [] e a n m = (refl, refl, tt)
 apart_added (x ∷ xs) e a n m =
@@ -59,9 +64,11 @@ path_gone (x ∷ xs) f g = let h = path_gone xs f g in grind (arith, common_step
 pub key_of_path : (es : List Entry) (f : ℕ) (p : List ℕ) → Apart es → path_at es f ≡ Some p → at_key es (folded p) ≡ Some f
 unfolding at_key path_at
 key_of_path [] f p a e = absurd (cc)
-key_of_path (x ∷ xs) f p a e = let h = key_of_path xs f p a.2 in let n = a.0 in let r = nat_list_eq_equiv.refl (folded p) in let s = bytes_same (folded x.path) (folded p) in grind (arith, common_steps)
+key_of_path (x ∷ xs) f p a e = let h = key_of_path xs f p a.2 in let n = a.0 in let r = nat_list_eq_equiv.refl
+    (folded p) in let s = bytes_same (folded x.path) (folded p) in grind (arith, common_steps)
 
-pub key_gone : (es : List Entry) (f : ℕ) (p q : List ℕ) → Apart es → path_at es f ≡ Some p → at_key (without_file f es) q ≡ (if bytes_eq (folded p) q then None else at_key es q)
+pub key_gone : (es : List Entry) (f : ℕ) (p q : List ℕ) → Apart es → path_at es f ≡ Some p → at_key (without_file f es)
+    q ≡ (if bytes_eq (folded p) q then None else at_key es q)
 unfolding at_key path_at without_file
 key_gone [] f p q a e = absurd (cc)
 key_gone (x ∷ xs) f p q a e =
@@ -84,7 +91,8 @@ unfolding at_key without_file
 key_stays_free [] f q n = refl
 key_stays_free (x ∷ xs) f q n = let h = key_stays_free xs f q in grind (arith, common_steps)
 
-apart_if : (b : Bool) (x : Entry) (xs ys : List Entry) → Apart ys → at_key ys (folded x.path) ≡ None → path_at ys x.file ≡ None → Apart (if b then ys else x ∷ ys)
+apart_if : (b : Bool) (x : Entry) (xs ys : List Entry) → Apart ys → at_key ys (folded x.path) ≡ None → path_at ys x.file
+    ≡ None → Apart (if b then ys else x ∷ ys)
 apart_if true x xs ys a n m = a
 apart_if false x xs ys a n m = (n, m, a)
 
@@ -92,4 +100,5 @@ pub apart_gone : (es : List Entry) (f : ℕ) → Apart es → Apart (without_fil
 unfolding without_file
 apart_gone [] f a = tt
 apart_gone (x ∷ xs) f a =
-    apart_if (x.file == f) x xs (without_file f xs) (apart_gone xs f a.2) (key_stays_free xs f (folded x.path) a.0) (path_gone xs f x.file ∙ none_if (f == x.file) (path_at xs x.file) a.1)
+    apart_if (x.file == f) x xs (without_file f xs) (apart_gone xs f a.2) (key_stays_free xs f (folded x.path) a.0)
+    (path_gone xs f x.file ∙ none_if (f == x.file) (path_at xs x.file) a.1)

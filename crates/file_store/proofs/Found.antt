@@ -1,5 +1,6 @@
 -- What a row that was found says of its file.
-use Rattle.std.proofs.Common.{◌≡◌, ℕ, ◌==◌, Bool, true, false, ◌||◌, if◌then◌else◌, List, [], ◌∷◌, length, Option, Some, None, is_some, unwrap_or, refl, sym, ap, ◌∙◌, arith}
+use Rattle.std.proofs.Common.{◌≡◌, ℕ, ◌==◌, Bool, true, false, ◌||◌, if◌then◌else◌, List, [], ◌∷◌, length, Option, Some}
+use Rattle.std.proofs.Common.{None, is_some, unwrap_or, refl, sym, ap, ◌∙◌, arith}
 use Rattle.std.proofs.lemmas.Grind.{common_steps}
 use Rattle.std.specs.Str.{bytes_eq}
 use Rattle.std.specs.String.{string_bytes}
@@ -20,22 +21,50 @@ or_true false b e = e
 pub zero : (f : ℕ) → (f == 0) ≡ true → f ≡ 0
 zero f e = grind arith
 
-same_info : (a b : model.Info) → a.file ≡ b.file → a.is_directory ≡ b.is_directory → a.size ≡ b.size → a.is_delete_pending ≡ b.is_delete_pending → a.times ≡ b.times → a ≡ b
+same_info : (a b : model.Info) → a.file ≡ b.file → a.is_directory ≡ b.is_directory → a.size ≡ b.size
+    → a.is_delete_pending ≡ b.is_delete_pending → a.times ≡ b.times → a ≡ b
 same_info a b p q r s t = λ i. record { file = p i; is_directory = q i; size = r i; is_delete_pending = s i; times = t i }
 
 pub found_info : (s : model.Server) (f : ℕ) (r : Row) (i : Info) → RowFound (Some r) s f → InfoIs i f r → model_info i ≡ info_of s f
 unfolding info_of is_directory
 found_info s f r i h is = by (f == 0) refl h
   where
-    by : (b : Bool) → (f == 0) ≡ b → RowOrRoot b (Some r) s f → model_info i ≡ record { file = f; is_directory = (f == 0) || s.directory f; size = length (s.content f); is_delete_pending = s.delete_pending f; times = s.basic f }
+    by : (b : Bool) → (f == 0) ≡ b → RowOrRoot b (Some r) s f → model_info i ≡ record {
+      file = f;
+      is_directory = (f == 0) || s.directory f;
+      size = length (s.content f);
+      is_delete_pending = s.delete_pending f;
+      times = s.basic f;
+    }
     by true e h = let z = zero f e in
-        same_info _ _ is.file_is (is.directory_is ∙ (sym h.1.directory_is ∙ ap (λ b. b || s.directory f) (sym e))) (is.length_is (s.content 0) h.1.content_is ∙ ap (λ g. length (s.content g)) (sym z)) (is.marked_is ∙ (sym h.1.delete_pending_is ∙ ap (λ g. s.delete_pending g) (sym z))) (is.basic_is ∙ (sym h.1.basic_is ∙ ap (λ g. s.basic g) (sym z)))
+        same_info _ _ is.file_is (is.directory_is ∙ (sym h.1.directory_is ∙ ap (λ b. b || s.directory f) (sym e)))
+        (is.length_is (s.content 0) h.1.content_is ∙ ap (λ g. length (s.content g)) (sym z))
+        (is.marked_is ∙ (sym h.1.delete_pending_is ∙ ap (λ g. s.delete_pending g) (sym z)))
+        (is.basic_is ∙ (sym h.1.basic_is ∙ ap (λ g. s.basic g) (sym z)))
     by false e h =
-        same_info _ _ is.file_is (is.directory_is ∙ (sym h.1.directory_is ∙ ap (λ b. b || s.directory f) (sym e))) (is.length_is (s.content f) h.1.content_is) (is.marked_is ∙ sym h.1.delete_pending_is) (is.basic_is ∙ sym h.1.basic_is)
+        same_info _ _ is.file_is (is.directory_is ∙ (sym h.1.directory_is ∙ ap (λ b. b || s.directory f) (sym e)))
+        (is.length_is (s.content f) h.1.content_is) (is.marked_is ∙ sym h.1.delete_pending_is)
+        (is.basic_is ∙ sym h.1.basic_is)
 
 pub none_found : (o : Option (List ℕ)) → o ≡ None → is_some o ≡ true → false ≡ true
 none_found None a b = b
 none_found (Some x) a b = absurd (cc)
+
+pub exists_found : (s : model.Server) (f : ℕ) (r : Row) → RowFound (Some r) s f → true ≡ exists s f
+unfolding exists
+exists_found s f r h = by (f == 0) h
+  where
+    by : (b : Bool) → RowOrRoot b (Some r) s f → true ≡ (b || exists_in s.entries f)
+    by true h = refl
+    by false h = sym (exists_is s.entries f ∙ ap is_some h.0)
+
+pub exists_missing : (s : model.Server) (f : ℕ) → RowFound None s f → false ≡ exists s f
+unfolding exists
+exists_missing s f h = by (f == 0) h
+  where
+    by : (b : Bool) → RowOrRoot b None s f → false ≡ (b || exists_in s.entries f)
+    by true h = absurd h
+    by false h = sym (exists_is s.entries f ∙ ap is_some h)
 
 pub never_missing : (s : model.Server) (f : ℕ) → RowFound None s f → exists s f ≡ true → false ≡ true
 unfolding exists
@@ -81,7 +110,8 @@ found_directory s f r h = by (f == 0) refl h
     by false e h = sym h.1.directory_is ∙ ap (λ b. b || s.directory f) (sym e)
 
 -- what a path finds is there
-there_if : (b : Bool) (e f : ℕ) (o : Option ℕ) (there : Bool) → (o ≡ Some f → there ≡ true) → (if b then Some e else o) ≡ Some f → (if e == f then true else there) ≡ true
+there_if : (b : Bool) (e f : ℕ) (o : Option ℕ) (there : Bool) → (o ≡ Some f → there ≡ true) → (if b then Some e else o)
+    ≡ Some f → (if e == f then true else there) ≡ true
 there_if b e f o there h g = grind (arith, common_steps)
 
 pub key_there : (es : List model.Entry) (q : List ℕ) (f : ℕ) → at_key es q ≡ Some f → exists_in es f ≡ true
@@ -92,9 +122,11 @@ key_there (x ∷ xs) q f e = there_if (bytes_eq (folded x.path) q) x.file f (at_
 pub found_there : (s : model.Server) (p : List ℕ) (f : ℕ) → find s p ≡ Some f → exists s f ≡ true
 unfolding find exists
 found_there s [] f e = let z = some_same 0 f e in grind (arith, common_steps)
-found_there s (c ∷ cs) f e = or_true (f == 0) (exists_in s.entries f) (key_there s.entries (folded (c ∷ cs)) f (sym (find_is s.entries (c ∷ cs)) ∙ e))
+found_there s (c ∷ cs) f e = or_true (f == 0) (exists_in s.entries f)
+    (key_there s.entries (folded (c ∷ cs)) f (sym (find_is s.entries (c ∷ cs)) ∙ e))
 
-pub found_below : (s : model.Server) (f : ℕ) (r : Row) → RowFound (Some r) s f → (length r.path == 0) ≡ false → r.directory ≡ true → string_bytes r.below ≡ below_key r.path
+pub found_below : (s : model.Server) (f : ℕ) (r : Row) → RowFound (Some r) s f → (length r.path == 0) ≡ false
+    → r.directory ≡ true → string_bytes r.below ≡ below_key r.path
 found_below s f r h n d = by (f == 0) h
   where
     by : (b : Bool) → RowOrRoot b (Some r) s f → string_bytes r.below ≡ below_key r.path

@@ -1,5 +1,6 @@
 -- A directory in which something stands.
-use Rattle.std.proofs.Common.{◌≡◌, ℕ, ◌==◌, Bool, true, false, not, ◌&&◌, ◌||◌, if◌then◌else◌, List, [], ◌∷◌, length, Option, Some, None, unwrap_or, refl, sym, ap, ◌∙◌, arith}
+use Rattle.std.proofs.Common.{◌≡◌, ℕ, ◌==◌, Bool, true, false, not, ◌&&◌, ◌||◌, if◌then◌else◌, List, [], ◌∷◌, length}
+use Rattle.std.proofs.Common.{Option, Some, None, unwrap_or, refl, sym, ap, ◌∙◌, arith}
 use Rattle.std.proofs.lemmas.Grind.{common_steps}
 use Rattle.std.specs.Str.{bytes_eq}
 use Rattle.exchange_defs.specs.State as model
@@ -26,11 +27,13 @@ no_path : (o : Option (List ℕ)) → o ≡ None → unwrap_or o [] ≡ []
 no_path None e = refl
 no_path (Some x) e = absurd (cc)
 
-pub root_full : (s : model.Server) → at_key s.entries [] ≡ None → path_at s.entries 0 ≡ None → not (length s.entries == 0) ≡ is_full_directory s 0
+pub root_full : (s : model.Server) → at_key s.entries [] ≡ None → path_at s.entries 0 ≡ None
+    → not (length s.entries == 0) ≡ is_full_directory s 0
 unfolding is_full_directory is_directory path_of
 root_full s n z = any_below s.entries n ∙ ap (has_below s.entries) (sym (path_is s.entries 0 ∙ no_path (path_at s.entries 0) z))
 
-pub row_full : (s : model.Server) (f : ℕ) (r : Row) → path_at s.entries 0 ≡ None → RowFound (Some r) s f → (r.directory && has_below s.entries r.path) ≡ is_full_directory s f
+pub row_full : (s : model.Server) (f : ℕ) (r : Row) → path_at s.entries 0 ≡ None → RowFound (Some r) s f
+    → (r.directory && has_below s.entries r.path) ≡ is_full_directory s f
 unfolding is_full_directory
 row_full s f r z h = rw (found_directory s f r h, found_path s f r z h) refl
 
@@ -38,11 +41,13 @@ some_none : (f : ℕ) (o : Option ℕ) → o ≡ Some f → o ≡ None → true 
 some_none f None a b = absurd (cc)
 some_none f (Some x) a b = absurd (cc)
 
-pub path_filled : (es : List model.Entry) (f : ℕ) (p : List ℕ) → Apart es → at_key es [] ≡ None → path_at es f ≡ Some p → (length p == 0) ≡ false
+pub path_filled : (es : List model.Entry) (f : ℕ) (p : List ℕ) → Apart es → at_key es [] ≡ None → path_at es f ≡ Some p
+    → (length p == 0) ≡ false
 path_filled es f [] a n e = some_none f (at_key es []) (key_of_path es f [] a e) n
 path_filled es f (c ∷ cs) a n e = grind arith
 
-pub row_filled : (s : model.Server) (f : ℕ) (r : Row) → Apart s.entries → at_key s.entries [] ≡ None → (f == 0) ≡ false → RowFound (Some r) s f → (length r.path == 0) ≡ false
+pub row_filled : (s : model.Server) (f : ℕ) (r : Row) → Apart s.entries → at_key s.entries [] ≡ None → (f == 0) ≡ false
+    → RowFound (Some r) s f → (length r.path == 0) ≡ false
 row_filled s f r a n z h = by (f == 0) z h
   where
     by : (b : Bool) → b ≡ false → RowOrRoot b (Some r) s f → (length r.path == 0) ≡ false
@@ -54,9 +59,11 @@ unfolding exists
 there_in s f z e = grind (arith, common_steps)
 
 -- a directory that may go has nothing below it
-pub not_full : (s : model.Server) (f : ℕ) (p : List ℕ) → path_at s.entries f ≡ Some p → is_full_directory s f ≡ false → (s.directory f && has_below s.entries p) ≡ false
+pub not_full : (s : model.Server) (f : ℕ) (p : List ℕ) → path_at s.entries f ≡ Some p → is_full_directory s f ≡ false
+    → (s.directory f && has_below s.entries p) ≡ false
 unfolding is_full_directory is_directory path_of
-not_full s f p e n = off (f == 0) (s.directory f) (has_below s.entries p) (ap (λ (l : List ℕ). ((f == 0) || s.directory f) && has_below s.entries l) (sym same) ∙ n)
+not_full s f p e n = off (f == 0) (s.directory f) (has_below s.entries p)
+    (ap (λ (l : List ℕ). ((f == 0) || s.directory f) && has_below s.entries l) (sym same) ∙ n)
   where
     same : path_in s.entries f ≡ p
     same = path_is s.entries f ∙ ap (λ (o : Option (List ℕ)). unwrap_or o []) e

@@ -1,5 +1,6 @@
 -- Whatever stands below a path has a directory there: after one file came or went.
-use Rattle.std.proofs.Common.{◌≡◌, ◌⊎◌, inl, inr, ℕ, ◌==◌, Bool, true, false, ◌&&◌, ◌||◌, if◌then◌else◌, List, [], ◌∷◌, ◌++◌, length, Option, Some, None, is_some, refl, sym, ap, subst, ◌∙◌, arith}
+use Rattle.std.proofs.Common.{◌≡◌, ◌⊎◌, inl, inr, ℕ, ◌==◌, Bool, true, false, ◌&&◌, ◌||◌, if◌then◌else◌, List, [], ◌∷◌}
+use Rattle.std.proofs.Common.{◌++◌, length, Option, Some, None, is_some, refl, sym, ap, subst, ◌∙◌, arith}
 use Rattle.std.proofs.lemmas.Grind.{common_steps}
 use Rattle.std.proofs.lemmas.Bool.Decides.{nat_tests}
 use Rattle.std.specs.Str.{bytes_eq}
@@ -54,7 +55,8 @@ folded_append (x ∷ xs) b = ap (λ l. to_ascii_uppercase x ∷ l) (folded_appen
 pub slash_folded : (p : List ℕ) → has_slash (folded p) ≡ has_slash p
 unfolding has_slash
 slash_folded [] = refl
-slash_folded (c ∷ cs) = let h = slash_folded cs in let s : (to_ascii_uppercase c == 92) ≡ (c == 92) = grind arith in grind (arith, common_steps)
+slash_folded (c ∷ cs) = let h = slash_folded cs in let s : (to_ascii_uppercase c == 92) ≡ (c == 92) = grind arith in
+    grind (arith, common_steps)
 
 -- ---- a new path
 
@@ -74,7 +76,8 @@ absent_number es q f n z e = by (f == n) refl
         sym (none_found (path_at es n) z (sym (exists_is es n) ∙ ap (exists_in es) (sym same) ∙ there))
 
 -- the directory of a path that may be made is there
-pub parent_house : (s : Server) (d : List ℕ) → path_at s.entries 0 ≡ None → (length d == 0) ≡ false → is_found_directory s (find s d) ≡ true → IsHouse (at_key s.entries (folded d)) s.directory
+pub parent_house : (s : Server) (d : List ℕ) → path_at s.entries 0 ≡ None → (length d == 0) ≡ false
+    → is_found_directory s (find s d) ≡ true → IsHouse (at_key s.entries (folded d)) s.directory
 unfolding is_found_directory is_directory
 parent_house s d z n h = by (at_key s.entries (folded d)) refl (ap (is_found_directory s) (sym (find_other s d n)) ∙ h)
   where
@@ -110,18 +113,23 @@ ancestor_house s p z old form parent a b e =
     let c = last_slash p slash in
     let d = c.0 in
     let l = c.1 in
-    let above : is_found_directory s (find s d) ≡ true = ap (λ (q : List ℕ). is_found_directory s (find s q)) (sym (ap parent_of c.2 ∙ parent_is d l c.3)) ∙ parent in
+    let above : is_found_directory s (find s d) ≡ true = ap (λ (q : List ℕ). is_found_directory s (find s q))
+    (sym (ap parent_of c.2 ∙ parent_is d l c.3)) ∙ parent in
     let cut = cut_before a b (folded d) (folded l) (slash_folded l ∙ c.3) (sym e ∙ (ap folded c.2 ∙ folded_append d (92 ∷ l))) in
     by d l c.2 above cut
   where
-    by : (d l : List ℕ) → p ≡ d ++ 92 ∷ l → is_found_directory s (find s d) ≡ true → (a ≡ folded d) ⊎ ((m : List ℕ) × (folded d ≡ a ++ 92 ∷ m)) → IsHouse (at_key s.entries a) s.directory
-    by d l e above (inl same) = subst (λ (k : List ℕ). IsHouse (at_key s.entries k) s.directory) (sym same) (parent_house s d z (filled_front p d l form e) above)
+    by : (d l : List ℕ) → p ≡ d ++ 92 ∷ l → is_found_directory s (find s d) ≡ true → (a ≡ folded d)
+        ⊎ ((m : List ℕ) × (folded d ≡ a ++ 92 ∷ m)) → IsHouse (at_key s.entries a) s.directory
+    by d l e above (inl same) = subst (λ (k : List ℕ). IsHouse (at_key s.entries k) s.directory) (sym same)
+        (parent_house s d z (filled_front p d l form e) above)
     by d l e above (inr h) =
-        old a h.0 (ap (λ (k : List ℕ). is_some (at_key s.entries k)) (sym h.1) ∙ (ap is_some (sym (find_other s d (filled_folded d a h.0 h.1))) ∙ some_found s (find s d) above))
+        old a h.0 (ap (λ (k : List ℕ). is_some (at_key s.entries k)) (sym h.1)
+        ∙ (ap is_some (sym (find_other s d (filled_folded d a h.0 h.1))) ∙ some_found s (find s d) above))
 
 -- ---- one more, and one less
 
-house_more : (es : List Entry) (q : List ℕ) (o : Option ℕ) (directory : ℕ → Bool) (n : ℕ) (dir : Bool) → path_at es n ≡ None → at_key es q ≡ o → IsHouse o directory
+house_more : (es : List Entry) (q : List ℕ) (o : Option ℕ) (directory : ℕ → Bool) (n : ℕ) (dir : Bool) → path_at es n
+    ≡ None → at_key es q ≡ o → IsHouse o directory
     → IsHouse o (λ f. if f == n then dir else directory f)
 house_more es q None directory n dir z e h = h
 house_more es q (Some f) directory n dir z e h = let a = absent_number es q f n z e in grind (arith, common_steps)
@@ -130,7 +138,8 @@ no_house : (o : Option ℕ) (directory : ℕ → Bool) (b : Bool) → o ≡ None
 no_house None directory b e h = absurd h
 no_house (Some f) directory b e h = absurd (cc)
 
-pub housed_made : (s : Server) (p : List ℕ) (dir : Bool) → path_at s.entries 0 ≡ None → path_at s.entries s.next_file ≡ None → at_key s.entries (folded p) ≡ None
+pub housed_made : (s : Server) (p : List ℕ) (dir : Bool) → path_at s.entries 0 ≡ None → path_at s.entries s.next_file
+    ≡ None → at_key s.entries (folded p) ≡ None
     → ((a b : List ℕ) → is_some (at_key s.entries (a ++ 92 ∷ b)) ≡ true → IsHouse (at_key s.entries a) s.directory)
     → path_form p ≡ None → has_parent s p ≡ true
     → (a b : List ℕ) → is_some (at_key (s.entries ++ record { file = s.next_file; path = p } ∷ []) (a ++ 92 ∷ b)) ≡ true
@@ -140,14 +149,17 @@ housed_made s p dir z m free old form parent a b there = rw (key_added s.entries
     new : Entry
     new = record { file = s.next_file; path = p }
 
-    house : (c : Bool) → bytes_eq (folded p) (a ++ 92 ∷ b) ≡ c → is_some (if c then Some s.next_file else at_key s.entries (a ++ 92 ∷ b)) ≡ true → IsHouse (at_key s.entries a) s.directory
+    house : (c : Bool) → bytes_eq (folded p) (a ++ 92 ∷ b) ≡ c
+        → is_some (if c then Some s.next_file else at_key s.entries (a ++ 92 ∷ b)) ≡ true → IsHouse (at_key s.entries a)
+        s.directory
     house true e t = ancestor_house s p z old form parent a b (bytes_same (folded p) (a ++ 92 ∷ b) e)
     house false e t = old a b t
 
     above : IsHouse (at_key s.entries a) s.directory
     above = house (bytes_eq (folded p) (a ++ 92 ∷ b)) refl (ap is_some (sym (key_added s.entries new (a ++ 92 ∷ b) free)) ∙ there)
 
-    put : (c : Bool) → bytes_eq (folded p) a ≡ c → IsHouse (if c then Some s.next_file else at_key s.entries a) (λ f. if f == s.next_file then dir else s.directory f)
+    put : (c : Bool) → bytes_eq (folded p) a ≡ c → IsHouse (if c then Some s.next_file else at_key s.entries a)
+        (λ f. if f == s.next_file then dir else s.directory f)
     put true e = no_house (at_key s.entries a) s.directory _ (ap (at_key s.entries) (sym (bytes_same (folded p) a e)) ∙ free) above
     put false e = house_more s.entries a (at_key s.entries a) s.directory s.next_file dir m refl above
 
@@ -156,7 +168,8 @@ unfolding begins
 begins_front [] b = refl
 begins_front (x ∷ xs) b = let h = begins_front xs b in grind (arith, common_steps)
 
-pub housed_gone : (es : List Entry) (directory : ℕ → Bool) (f : ℕ) (p : List ℕ) → Apart es → path_at es f ≡ Some p → (length p == 0) ≡ false → (directory f && has_below es p) ≡ false
+pub housed_gone : (es : List Entry) (directory : ℕ → Bool) (f : ℕ) (p : List ℕ) → Apart es → path_at es f ≡ Some p
+    → (length p == 0) ≡ false → (directory f && has_below es p) ≡ false
     → ((a b : List ℕ) → is_some (at_key es (a ++ 92 ∷ b)) ≡ true → IsHouse (at_key es a) directory)
     → (a b : List ℕ) → is_some (at_key (without_file f es) (a ++ 92 ∷ b)) ≡ true → IsHouse (at_key (without_file f es) a) directory
 housed_gone es directory f p apart e n full old a b there = rw (key_gone es f p a apart e) (put (bytes_eq (folded p) a) refl)
@@ -166,7 +179,8 @@ housed_gone es directory f p apart e n full old a b there = rw (key_gone es f p 
     stood false o t = t
 
     was : is_some (at_key es (a ++ 92 ∷ b)) ≡ true
-    was = stood (bytes_eq (folded p) (a ++ 92 ∷ b)) (at_key es (a ++ 92 ∷ b)) (ap is_some (sym (key_gone es f p (a ++ 92 ∷ b) apart e)) ∙ there)
+    was = stood (bytes_eq (folded p) (a ++ 92 ∷ b)) (at_key es (a ++ 92 ∷ b))
+        (ap is_some (sym (key_gone es f p (a ++ 92 ∷ b) apart e)) ∙ there)
 
     both : (c d : Bool) → c ≡ true → d ≡ true → (c && d) ≡ false → true ≡ false
     both true true s t u = u
@@ -184,7 +198,8 @@ housed_gone es directory f p apart e n full old a b there = rw (key_gone es f p 
         let below = shown p n es (a ++ 92 ∷ b) was (ap (λ (k : List ℕ). begins (k ++ 92 ∷ []) (a ++ 92 ∷ b)) same ∙ begins_front a b) in
         absurd (let x = never (at_key es a) (ap (at_key es) (sym same) ∙ key_of_path es f p apart e) below (old a b was) in cc)
 
-pub housed_none : (es : List Entry) (directory : ℕ → Bool) → es ≡ [] → (a b : List ℕ) → is_some (at_key es (a ++ 92 ∷ b)) ≡ true → IsHouse (at_key es a) directory
+pub housed_none : (es : List Entry) (directory : ℕ → Bool) → es ≡ [] → (a b : List ℕ)
+    → is_some (at_key es (a ++ 92 ∷ b)) ≡ true → IsHouse (at_key es a) directory
 unfolding at_key
 housed_none [] directory e a b t = absurd (cc)
 housed_none (x ∷ xs) directory e a b t = absurd (cc)

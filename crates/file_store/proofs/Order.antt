@@ -1,5 +1,6 @@
 -- The index in the order of its keys.
-use Rattle.std.proofs.Common.{◌≡◌, ℕ, ◌<◌, ◌≤◌, Bool, true, false, not, cond, String, List, [], ◌∷◌, length, take, Option, Some, None, is_some, refl, sym, ap, subst, ◌∙◌, arith}
+use Rattle.std.proofs.Common.{◌≡◌, ℕ, ◌<◌, ◌≤◌, Bool, true, false, not, cond, String, List, [], ◌∷◌, length, take}
+use Rattle.std.proofs.Common.{Option, Some, None, is_some, refl, sym, ap, subst, ◌∙◌, arith}
 use Rattle.std.proofs.lemmas.Grind.{common_steps}
 use Rattle.std.specs.Str.{bytes_eq}
 use Rattle.std.specs.String.{string_bytes, string_cmp}
@@ -27,21 +28,28 @@ none_of None e = refl
 none_of (Some x) e = absurd (cc)
 
 -- a key that finds something is a stored one
-stored : {Y : Type 0} (es : List (String Y × ℕ)) (q : List ℕ) → is_some (lookup (λ k. is_eq (slice_cmp nat_cmp q (string_bytes k))) es) ≡ true → (k : String Y) × (string_bytes k ≡ q)
+stored : {Y : Type 0} (es : List (String Y × ℕ)) (q : List ℕ)
+    → is_some (lookup (λ k. is_eq (slice_cmp nat_cmp q (string_bytes k))) es) ≡ true → (k : String Y)
+    × (string_bytes k ≡ q)
 stored [] q h = absurd (cc)
 stored {Y = Y} (e ∷ es) q h = by (stored es q) (is_eq (slice_cmp nat_cmp q (string_bytes e.0))) refl h
   where
-    by : (is_some (lookup (λ k. is_eq (slice_cmp nat_cmp q (string_bytes k))) es) ≡ true → (k : String Y) × (string_bytes k ≡ q)) → (b : Bool) → is_eq (slice_cmp nat_cmp q (string_bytes e.0)) ≡ b → is_some (cond b (Some e.1) (lookup (λ k. is_eq (slice_cmp nat_cmp q (string_bytes k))) es)) ≡ true → (k : String Y) × (string_bytes k ≡ q)
+    by : (is_some (lookup (λ k. is_eq (slice_cmp nat_cmp q (string_bytes k))) es) ≡ true → (k : String Y)
+        × (string_bytes k ≡ q)) → (b : Bool) → is_eq (slice_cmp nat_cmp q (string_bytes e.0)) ≡ b
+        → is_some (cond b (Some e.1) (lookup (λ k. is_eq (slice_cmp nat_cmp q (string_bytes k))) es)) ≡ true
+        → (k : String Y) × (string_bytes k ≡ q)
     by more true s t = (e.0, sym (bytes_same q (string_bytes e.0) (sym (is_eq-slice_cmp q (string_bytes e.0)) ∙ s)))
     by more false s t = more t
 
 module _ {Y : Type 0} (m : BTreeMap (String Y) ℕ) (start : String Y) where
-  pub next_some : (k : String Y) (v : ℕ) (t : List (String Y × ℕ)) → IsRangeOf string_cmp (Included start) Unbounded m ((k, v) ∷ t) → IsNext (Some (string_bytes k)) (λ q. get_by_text m q) (string_bytes start)
+  pub next_some : (k : String Y) (v : ℕ) (t : List (String Y × ℕ)) → IsRangeOf string_cmp (Included start) Unbounded m
+      ((k, v) ∷ t) → IsNext (Some (string_bytes k)) (λ q. get_by_text m q) (string_bytes start)
   next_some k v t h = (
     not_on _ h.1.0.0,
     ap is_some h.1.1,
     λ q le there. let z = stored m.entries q there in
-        subst (λ (q : List ℕ). key_le (string_bytes start) q ≡ true → is_some (get_by_text m q) ≡ true → key_le (string_bytes k) q ≡ true) z.1 (λ l s. not_on _ (h.2 z.0 (not_off _ l, tt) s)) le there,
+        subst (λ (q : List ℕ). key_le (string_bytes start) q ≡ true → is_some (get_by_text m q) ≡ true
+        → key_le (string_bytes k) q ≡ true) z.1 (λ l s. not_on _ (h.2 z.0 (not_off _ l, tt) s)) le there,
   )
 
   pub next_none : IsRangeOf string_cmp (Included start) Unbounded m [] → IsNext None (λ q. get_by_text m q) (string_bytes start)
@@ -77,7 +85,8 @@ front_between (x ∷ xs) (y ∷ ys) [] a b e = absurd (cc)
 front_between (x ∷ xs) (y ∷ ys) (z ∷ zs) a b e = let h = front_between xs ys zs in grind (arith, common_steps)
 
 -- a path in upper case begins so
-pub begins_folded : (front path : List ℕ) → length front ≤ length path → bytes_eq (folded (take (length front) path)) front ≡ begins front (folded path)
+pub begins_folded : (front path : List ℕ) → length front ≤ length path → bytes_eq (folded (take (length front) path))
+    front ≡ begins front (folded path)
 unfolding begins
 begins_folded [] path l = refl
 begins_folded (x ∷ xs) [] l = absurd (let e : 1 ≤ 0 = grind arith in omega arith)

@@ -31,7 +31,8 @@ made_leaf (c ∷ cs) n e = let h = form_path (c ∷ cs) e in let l = leaf_compon
 leaf_from_behind : (leaf d rest : List ℕ) → leaf_from leaf (d ++ 92 ∷ rest) ≡ leaf_from [] rest
 unfolding leaf_from
 leaf_from_behind leaf [] rest = refl
-leaf_from_behind leaf (c ∷ cs) rest = let h = leaf_from_behind [] cs rest in let g = leaf_from_behind (leaf ++ c ∷ []) cs rest in grind (arith, common_steps)
+leaf_from_behind leaf (c ∷ cs) rest = let h = leaf_from_behind [] cs rest in let g = leaf_from_behind (leaf ++ c ∷ [])
+    cs rest in grind (arith, common_steps)
 
 -- the name depends on what stands behind the last backslash alone
 pub leaf_behind : (d rest : List ℕ) → leaf_of (d ++ 92 ∷ rest) ≡ leaf_of rest
@@ -52,7 +53,8 @@ made_front p e = by (begins_with_backslash p) (is_path p) e
     by true c e = absurd (cc)
     by false c e = refl
 
-pub plain_added : (es : List Entry) (e : Entry) → AllPlain es → is_component (leaf_of e.path) ≡ true → begins_with_backslash e.path ≡ false → AllPlain (es ++ e ∷ [])
+pub plain_added : (es : List Entry) (e : Entry) → AllPlain es → is_component (leaf_of e.path) ≡ true
+    → begins_with_backslash e.path ≡ false → AllPlain (es ++ e ∷ [])
 plain_added [] e h l b = (l, b, tt)
 plain_added (x ∷ xs) e h l b = (h.0, h.1, plain_added xs e h.2 l b)
 

@@ -24,7 +24,8 @@ module _ (f : ℕ → ℕ) (low : (b : ℕ) → b < 128 → f b < 128) (high : (
   long c le (of1 h e) = absurd (omega arith)
   long c le (of2 a b p q u v e) = wide c _ le e (λ i. high a (omega arith) i ∷ high b u.0 i ∷ [])
   long c le (of3 a b d p q u u' v e) = wide c _ le e (λ i. high a (omega arith) i ∷ high b u.0 i ∷ high d u'.0 i ∷ [])
-  long c le (of4 a b d k p q u u' u'' v e) = wide c _ le e (λ i. high a (omega arith) i ∷ high b u.0 i ∷ high d u'.0 i ∷ high k u''.0 i ∷ [])
+  long c le (of4 a b d k p q u u' u'' v e) = wide c _ le e (λ i. high a (omega arith) i ∷ high b u.0 i ∷ high d u'.0 i ∷
+      high k u''.0 i ∷ [])
 
   letter : (c : ℕ) → Shape c → map f (encode c) ≡ encode (f c)
   letter c s = ⊎_elim (λ h. ap (map f) (one c h) ∙ sym (one (f c) (low c h))) (λ h. long c h s) (order c 128)
@@ -36,8 +37,11 @@ module _ (f : ℕ → ℕ) (low : (b : ℕ) → b < 128 → f b < 128) (high : (
   letters [] e = (refl, refl)
   letters (c ∷ cs) e =
       let are = both (scalar c) (scalars cs) e in
-      let rest = letters cs are.1 in
-      (ap (λ y. y && scalars (map f cs)) (stays c are.0) ∙ rest.0, (λ i. sym (letter c (shape c (scalar_cases c are.0))) i ++ rest.1 i) ∙ sym (map-append f (encode c) (encodes cs)))
+      let rest = letters cs are.1 in (
+        ap (λ y. y && scalars (map f cs)) (stays c are.0) ∙ rest.0,
+        (λ i. sym (letter c (shape c (scalar_cases c are.0))) i ++ rest.1 i)
+            ∙ sym (map-append f (encode c) (encodes cs)),
+      )
 
   pub changed : (bs : List ℕ) → IsUtf8 bs → IsUtf8 (map f bs)
   changed bs u = let on = letters u.0 u.1.0 in (map f u.0, (on.0, on.1 ∙ ap (map f) u.1.1))
@@ -52,4 +56,5 @@ kept true y b v e = refl
 kept false y b v e = ap (λ z. cond z v b) e
 
 pub raised : (bs : List ℕ) → IsUtf8 bs → IsUtf8 (map to_ascii_uppercase bs)
-raised = changed to_ascii_uppercase (λ b h. small (ltb b 97) (ltb b 123) b (b - 32) h (λ _. omega arith)) (λ b h. kept (ltb b 97) (ltb b 123) b (b - 32) (le-ltb b 123 (omega arith)))
+raised = changed to_ascii_uppercase (λ b h. small (ltb b 97) (ltb b 123) b (b - 32) h (λ _. omega arith))
+    (λ b h. kept (ltb b 97) (ltb b 123) b (b - 32) (le-ltb b 123 (omega arith)))

@@ -1,5 +1,6 @@
 -- Rows after one was made, or went.
-use Rattle.std.proofs.Common.{◌≡◌, ℕ, ◌==◌, ◌<◌, nat_eq, Bool, true, false, if◌then◌else◌, List, Option, Some, None, refl, sym, ap, ◌∙◌, arith}
+use Rattle.std.proofs.Common.{◌≡◌, ℕ, ◌==◌, ◌<◌, nat_eq, Bool, true, false, if◌then◌else◌, List, Option, Some, None}
+use Rattle.std.proofs.Common.{refl, sym, ap, ◌∙◌, arith}
 use Rattle.std.specs.HashMap.{get, hash_map_len}
 use Rattle.exchange_defs.specs.State.{Server}
 use Rattle.exchange_defs.specs.Commands.{Basic}
@@ -7,17 +8,22 @@ use Rattle.file_store.specs.declared.row.Row.{Row}
 use Rattle.file_store.specs.declared.tree.Tree.{Tree}
 use Rattle.file_store.specs.Shown.{RowIs, RowShown, ShowsRows}
 
-row_put : (b : Bool) (old : Option Row) (w : Row) (p : List ℕ) (path : Option (List ℕ)) (d m nd nm : Bool) (t nt : Basic) (c nc : List ℕ) → w.path ≡ p → RowIs w nd nm nt nc → RowShown old path d m t c
-    → RowShown (if b then Some w else old) (if b then Some p else path) (if b then nd else d) (if b then nm else m) (if b then nt else t) (if b then nc else c)
+row_put : (b : Bool) (old : Option Row) (w : Row) (p : List ℕ) (path : Option (List ℕ)) (d m nd nm : Bool)
+    (t nt : Basic) (c nc : List ℕ) → w.path ≡ p → RowIs w nd nm nt nc → RowShown old path d m t c
+    → RowShown (if b then Some w else old) (if b then Some p else path) (if b then nd else d) (if b then nm else m)
+    (if b then nt else t) (if b then nc else c)
 row_put true old w p path d m nd nm t nt c nc e is h = (ap Some (sym e), is)
 row_put false old w p path d m nd nm t nt c nc e is h = h
 
-pub row_made : (f n k : ℕ) (old new : Option Row) (w : Row) (p : List ℕ) (path there : Option (List ℕ)) (d m nd nm : Bool) (t nt : Basic) (c nc : List ℕ) → n ≡ k → new ≡ (if f == k then Some w else old)
+pub row_made : (f n k : ℕ) (old new : Option Row) (w : Row) (p : List ℕ) (path there : Option (List ℕ))
+    (d m nd nm : Bool) (t nt : Basic) (c nc : List ℕ) → n ≡ k → new ≡ (if f == k then Some w else old)
     → there ≡ (if f == n then Some p else path) → w.path ≡ p → RowIs w nd nm nt nc → RowShown old path d m t c
     → RowShown new there (if f == n then nd else d) (if f == n then nm else m) (if f == n then nt else t) (if f == n then nc else c)
-row_made f n k old new w p path there d m nd nm t nt c nc e en ep wp is h = rw (en, ep, e) (row_put (f == k) old w p path d m nd nm t nt c nc wp is h)
+row_made f n k old new w p path there d m nd nm t nt c nc e en ep wp is h =
+    rw (en, ep, e) (row_put (f == k) old w p path d m nd nm t nt c nc wp is h)
 
-pub root_stays : (n : ℕ) (r : Row) (m nm : Bool) (t nt : Basic) (c nc : List ℕ) → 0 < n → RowIs r true m t c → RowIs r true (if 0 == n then nm else m) (if 0 == n then nt else t) (if 0 == n then nc else c)
+pub root_stays : (n : ℕ) (r : Row) (m nm : Bool) (t nt : Basic) (c nc : List ℕ) → 0 < n → RowIs r true m t c
+    → RowIs r true (if 0 == n then nm else m) (if 0 == n then nt else t) (if 0 == n then nc else c)
 root_stays n r m nm t nt c nc l h = by (0 == n) (grind arith)
   where
     by : (b : Bool) → b ≡ false → RowIs r true (if b then nm else m) (if b then nt else t) (if b then nc else c)
@@ -28,18 +34,23 @@ some_none : (p : List ℕ) (o : Option (List ℕ)) → o ≡ Some p → o ≡ No
 some_none p None a b = absurd (cc)
 some_none p (Some x) a b = absurd (cc)
 
-pub no_row : (o : Option Row) (path : Option (List ℕ)) (d m : Bool) (t : Basic) (c : List ℕ) → RowShown o path d m t c → path ≡ None → o ≡ None
+pub no_row : (o : Option Row) (path : Option (List ℕ)) (d m : Bool) (t : Basic) (c : List ℕ) → RowShown o path d m t c
+    → path ≡ None → o ≡ None
 no_row None path d m t c h e = refl
 no_row (Some r) path d m t c h e = absurd (let x = some_none r.path path h.0 e in cc)
 
-pub row_there : (o : Option Row) (r : Row) (path : Option (List ℕ)) (d m : Bool) (t : Basic) (c : List ℕ) → o ≡ Some r → RowShown o path d m t c → (path ≡ Some r.path) × RowIs r d m t c
+pub row_there : (o : Option Row) (r : Row) (path : Option (List ℕ)) (d m : Bool) (t : Basic) (c : List ℕ) → o ≡ Some r
+    → RowShown o path d m t c → (path ≡ Some r.path) × RowIs r d m t c
 row_there o r path d m t c e h = (rw e at h)
 
-pub row_gone : (b : Bool) (old : Option Row) (path : Option (List ℕ)) (d m : Bool) (t : Basic) (c : List ℕ) → RowShown old path d m t c → RowShown (if b then None else old) (if b then None else path) d m t c
+pub row_gone : (b : Bool) (old : Option Row) (path : Option (List ℕ)) (d m : Bool) (t : Basic) (c : List ℕ)
+    → RowShown old path d m t c → RowShown (if b then None else old) (if b then None else path) d m t c
 row_gone true old path d m t c h = refl
 row_gone false old path d m t c h = h
 
-pub same_rows : (t u : Tree) (s : Server) → ((q : ℕ) → get nat_eq u.rows q ≡ get nat_eq t.rows q) → hash_map_len u.rows ≡ hash_map_len t.rows → u.root ≡ t.root → u.next ≡ t.next → u.used ≡ t.used → u.room ≡ t.room → ShowsRows t s → ShowsRows u s
+pub same_rows : (t u : Tree) (s : Server) → ((q : ℕ) → get nat_eq u.rows q ≡ get nat_eq t.rows q) → hash_map_len u.rows
+    ≡ hash_map_len t.rows → u.root ≡ t.root → u.next ≡ t.next → u.used ≡ t.used → u.room ≡ t.room → ShowsRows t s
+    → ShowsRows u s
 same_rows t u s rs ls ro ne us rm h = record {
   apart = h.apart;
   fresh = h.fresh;
@@ -58,5 +69,6 @@ same_rows t u s rs ls ro ne us rm h = record {
   room_is = h.room_is ∙ sym rm;
 }
 
-pub gone_row : (o : Option Row) (path : Option (List ℕ)) (d m : Bool) (t : Basic) (c : List ℕ) → o ≡ None → RowShown o path d m t c → path ≡ None
+pub gone_row : (o : Option Row) (path : Option (List ℕ)) (d m : Bool) (t : Basic) (c : List ℕ) → o ≡ None
+    → RowShown o path d m t c → path ≡ None
 gone_row o path d m t c e h = (rw e at h)

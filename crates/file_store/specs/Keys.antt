@@ -2,6 +2,7 @@
 use Rattle.std.specs.Prelude.{◌≡◌, ℕ, Bool, true, false, ◌==◌, List, [], ◌∷◌, Option, Some, None, not, ◌&&◌, ◌||◌, is_some, String}
 use Rattle.std.specs.Ordering.{is_gt, nat_cmp}
 use Rattle.std.specs.String.{string_bytes}
+use Rattle.exchange_defs.specs.Table.{has}
 use Rattle.std.specs.Cmp.Lexicographic.{slice_cmp}
 
 -- whether the second key begins with the first
@@ -24,3 +25,13 @@ IsNext (Some k) at start = (key_le start k ≡ true) × (is_some (at k) ≡ true
 abbrev pub below_in : {Y : Type 0} → List ℕ → List (String Y × ℕ) → ℕ → Bool
 below_in front [] g = false
 below_in front (e ∷ es) g = ((e.1 == g) && begins front (string_bytes e.0)) || below_in front es g
+
+-- these are the files of the keys that begin so
+abbrev pub AreBelow : (List ℕ → Option ℕ) → List ℕ → List ℕ → Type 0
+AreBelow at front fs = (g : ℕ) → (has g fs ≡ true → (q : List ℕ) × (at q ≡ Some g) × (begins front q ≡ true))
+    × ((q : List ℕ) → at q ≡ Some g → begins front q ≡ true → has g fs ≡ true)
+
+-- a name has no backslash
+unfoldable pub has_slash : List ℕ → Bool
+has_slash [] = false
+has_slash (c ∷ cs) = (c == 92) || has_slash cs

@@ -3,3 +3,7 @@ pub mod Shown
 pub mod Refusals
 pub mod Made
 pub mod Bytes
+pub mod Moved
+pub mod Listed
+pub mod Stored
+pub mod Gone

@@ -1,6 +1,7 @@
 -- Why a file is not made or not taken away, in the order in which a CREATE is checked (MS-SMB2 3.3.5.9, MS-FSA 2.1.5.1.1).
 use Rattle.std.specs.Prelude.{◌≡◌, ℕ, ◌==◌, nat_le, nat_lt, ◌||◌, if◌then◌else◌, List, length, Option, Some, None, is_some}
-use Rattle.exchange_defs.specs.Status.{access_denied, end_of_file, disk_full, object_path_not_found, object_name_collision, insufficient_resources}
+use Rattle.exchange_defs.specs.Status.{access_denied, end_of_file, disk_full, object_path_not_found}
+use Rattle.exchange_defs.specs.Status.{object_name_collision, insufficient_resources}
 use Rattle.exchange_defs.specs.State.{Server}
 use Rattle.exchange_defs.specs.Content.{past_end, Read}
 use Rattle.exchange_defs.specs.Commands.{path_form}
@@ -8,11 +9,11 @@ use Rattle.exchange_defs.specs.Files.{root, find, has_parent, is_full_directory,
 use Rattle.file_store.specs.declared.error.StoreError.{StoreError}
 use Rattle.file_store.specs.declared.error.StoreError.TheVariants.{Memory, Status}
 
--- at most 65,536 files and directories, whose numbers end at 2^64 - 2; then what stands at the path, then its directory
+-- what stands at the path; then at most 65,536 files and directories, whose numbers end at 2^64 - 2; then its directory
 abbrev pub place_refusal : Server → List ℕ → Option ℕ
 place_refusal s path =
-    if nat_le 65536 (length s.entries) || nat_lt 0xffff_ffff_ffff_fffe s.next_file then Some insufficient_resources
-    else if is_some (find s path) then Some object_name_collision
+    if is_some (find s path) then Some object_name_collision
+    else if nat_le 65536 (length s.entries) || nat_lt 0xffff_ffff_ffff_fffe s.next_file then Some insufficient_resources
     else if has_parent s path then None else Some object_path_not_found
 
 abbrev pub form_first : Option ℕ → Option ℕ → Option ℕ
@@ -34,7 +35,7 @@ read_refusal s f at size = if past_end (Read at size) (s.content f) then Some en
 abbrev pub room_refusal : Server → ℕ → ℕ → Option ℕ
 room_refusal s f size = if passes_room s f size then Some disk_full else None
 
--- a refusal tells the status of the rule; for want of memory alone it tells none
+-- a refusal tells the status of the rule; that memory ran out tells none
 abbrev pub Tells : StoreError → Option ℕ → Type 0
 Tells Memory refusal = refusal ≡ None
 Tells (Status status) refusal = refusal ≡ Some status

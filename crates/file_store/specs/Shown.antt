@@ -1,5 +1,6 @@
 -- A `Tree` shows the columns of the model's files: entries, the next number, kinds, delete pending, times and bytes.
-use Rattle.std.specs.Prelude.{◌≡◌, ◌≤◌, ◌<◌, ℕ, ◌==◌, Bool, true, false, if◌then◌else◌, List, [], ◌∷◌, ◌++◌, length, Option, Some, None, nat_eq, map, is_some, ⊤}
+use Rattle.std.specs.Prelude.{◌≡◌, ◌≤◌, ◌<◌, ℕ, ◌==◌, Bool, true, false, if◌then◌else◌, List, [], ◌∷◌, ◌++◌, length}
+use Rattle.std.specs.Prelude.{Option, Some, None, nat_eq, map, is_some, ⊤}
 use Rattle.std.specs.HashMap.{get, hash_map_len}
 use Rattle.std.specs.BTreeMap.{get_by_text}
 use Rattle.std.specs.String.{string_bytes}
@@ -62,7 +63,8 @@ RowShown None path directory delete_pending basic content = path ≡ None
 RowShown (Some r) path directory delete_pending basic content = (path ≡ Some r.path) × RowIs r directory delete_pending basic content
 
 -- all but the index of paths
-pub record RowsShown (t : Tree) (entries : List model.Entry) (next_file : ℕ) (directory delete_pending : ℕ → Bool) (basic : ℕ → Basic) (content : ℕ → List ℕ) (room : ℕ) : Type 0 where
+pub record RowsShown (t : Tree) (entries : List model.Entry) (next_file : ℕ) (directory delete_pending : ℕ → Bool)
+    (basic : ℕ → Basic) (content : ℕ → List ℕ) (room : ℕ) : Type 0 where
   pub apart : Apart entries
   pub fresh : (f : ℕ) → next_file ≤ f → path_at entries f ≡ None
   pub above : 0 < next_file
@@ -80,7 +82,8 @@ pub record RowsShown (t : Tree) (entries : List model.Entry) (next_file : ℕ) (
   pub used_is : sizes content entries ≡ t.used
   pub room_is : room ≡ t.room
 
-pub record FilesShown (t : Tree) (entries : List model.Entry) (next_file : ℕ) (directory delete_pending : ℕ → Bool) (basic : ℕ → Basic) (content : ℕ → List ℕ) (room : ℕ) : Type 0 where
+pub record FilesShown (t : Tree) (entries : List model.Entry) (next_file : ℕ) (directory delete_pending : ℕ → Bool)
+    (basic : ℕ → Basic) (content : ℕ → List ℕ) (room : ℕ) : Type 0 where
   pub rows : RowsShown t entries next_file directory delete_pending basic content room
   pub keys_are : (q : List ℕ) → get_by_text t.paths q ≡ at_key entries q
 
@@ -101,7 +104,7 @@ pub record Begins (s : model.Server) : Type 0 where
 -- the row of a file or of the root
 abbrev pub RowOrRoot : Bool → Option Row → model.Server → ℕ → Type 0
 RowOrRoot true None s f = ⊥
-RowOrRoot true (Some r) s f = (r.path ≡ []) × RowIs r true (s.delete_pending 0) (s.basic 0) (s.content 0)
+RowOrRoot true (Some r) s f = (r.path ≡ []) × RowIs r true (s.delete_pending 0) (s.basic 0) (s.content 0) × (string_bytes r.below ≡ [])
 RowOrRoot false r s f = RowShown r (path_at s.entries f) (s.directory f) (s.delete_pending f) (s.basic f) (s.content f)
 
 abbrev pub RowFound : Option Row → model.Server → ℕ → Type 0

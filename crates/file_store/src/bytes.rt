@@ -1,5 +1,6 @@
 //! Bytes of files by number, and the room that all of them have.
-ghost use Rattle.std.specs.Prelude.{◌≡◌, ◌+◌, ◌-◌, ◌<◌, ◌&&◌, nat_lt, ◌≤◌, ◌^◌, ◌==◌, nat_eq, ℕ, List, Bool, true, false, if◌then◌else◌, length, take, drop, Some, None};
+ghost use Rattle.std.specs.Prelude.{◌≡◌, ◌+◌, ◌-◌, ◌<◌, ◌&&◌, nat_lt, ◌≤◌, ◌^◌, ◌==◌, nat_eq, ℕ, List, Bool, true};
+ghost use Rattle.std.specs.Prelude.{false, if◌then◌else◌, length, take, drop, Some, None};
 ghost use Rattle.std.specs.Prelude.{OnOk, IfOk, IfSome, IfNone, IsSome, IsOk, MatchResult, MatchOption};
 ghost use Rattle.std.specs.HashMap.{get, hash_map_len};
 ghost use Rattle.exchange_defs.specs.State.{Server};
@@ -28,9 +29,9 @@ const DISK_FULL: u32 = 0xc000_007f;
 /// A write for which there is memory and room: what the file's pieces need, and where the write ends.
 #[derive(Drop)]
 pub struct NewBytes {
-    pub file: u64,
-    pub end: u64,
-    pub prepared: Prepared,
+    pub(crate) file: u64,
+    pub(crate) end: u64,
+    pub(crate) prepared: Prepared,
 }
 
 // Takes the memory for a write into a row's bytes, which stay as they are.
@@ -66,7 +67,8 @@ fn finish_row(rows: &mut HashMap<u64, Row>, file: u64, prepared: Prepared, bytes
 
 // Cuts a row's bytes or goes on with zeros.
 fn end_row(rows: &mut HashMap<u64, Row>, file: u64, size: u64)
-    ensures there { BytesPut (get nat_eq rows.old file) (get nat_eq rows.new file) (λ x y. (c : List ℕ) → IsContent x c → IsContent y (ended size c)) }
+    ensures there { BytesPut (get nat_eq rows.old file) (get nat_eq rows.new file) (λ x y. (c : List ℕ) → IsContent x c
+        → IsContent y (ended size c)) }
     ensures others { (q : ℕ) → (q == file) ≡ false → get nat_eq rows.new q ≡ get nat_eq rows.old q }
     ensures count { hash_map_len rows.new ≡ hash_map_len rows.old }
 {
@@ -80,7 +82,8 @@ impl Tree {
     /// there (MS-FSA 2.1.5.3).
     pub fn read(&self, file: u64, at: u64, length: u32) -> Result<Bytes, StoreError>
         ensures { MatchResult result
-            (λ b. (s : Server) → ShowsFiles self.now s → exists s file ≡ true → (read_refusal s file at length ≡ None) × (b ≡ take length (drop at (s.content file))))
+            (λ b. (s : Server) → ShowsFiles self.now s → exists s file ≡ true → (read_refusal s file at length ≡ None)
+            × (b ≡ take length (drop at (s.content file))))
             (λ e. (s : Server) → ShowsFiles self.now s → exists s file ≡ true → Tells e (read_refusal s file at length)) }
     {
         match self.row(file) {
@@ -154,7 +157,8 @@ impl Tree {
         ensures nothing { length bytes.now ≡ 0 → IsOk result × (self.new ≡ self.old) }
         ensures done { 0 < length bytes.now → MatchResult result
             (λ _. (s : Server) → ShowsFiles self.old s → exists s file ≡ true → is_directory s file ≡ false
-            → (room_refusal s file (at + length bytes.now) ≡ None) × ShowsFiles self.new (set_content s file (written at bytes.now (s.content file)) now))
+            → (room_refusal s file (at + length bytes.now) ≡ None)
+            × ShowsFiles self.new (set_content s file (written at bytes.now (s.content file)) now))
             (λ e. (s : Server) → ShowsFiles self.old s → exists s file ≡ true → is_directory s file ≡ false
             → Tells e (room_refusal s file (at + length bytes.now)) × ShowsFiles self.new s) }
         ensures held { self.new.held ≤ self.old.held + length bytes.now }
@@ -172,7 +176,7 @@ impl Tree {
     }
 
     /// Takes the memory for a write of one byte or more, which `finish_write` then does. The files stay as they are,
-    /// and a write that is given up here has changed nothing.
+    /// and a write that is given up here has changed no byte; the place of its piece may stay named.
     pub fn prepare_write(
         &mut self,
         file: u64,
@@ -207,7 +211,8 @@ impl Tree {
     fn end_of(&self, file: u64, at: u64, bytes: &[u8]) -> Option<u64>
         ensures end { IfSome result (λ e. e ≡ at + length bytes.now) }
         ensures rule { (s : Server) → ShowsFiles self.now s → exists s file ≡ true
-            → MatchOption result (passes_room s file (at + length bytes.now) ≡ true) (λ _. passes_room s file (at + length bytes.now) ≡ false) }
+            → MatchOption result (passes_room s file (at + length bytes.now)
+            ≡ true) (λ _. passes_room s file (at + length bytes.now) ≡ false) }
     {
         let end = at as u128 + bytes.len() as u128;
         if self.is_past_room(file, end) {
@@ -263,7 +268,8 @@ impl Tree {
 
     /// The same where it is known that the file doesn't pass the room.
     pub fn end(&mut self, file: u64, size: u64, now: u64)
-        ensures shown { (s : Server) → ShowsFiles self.old s → exists s file ≡ true → is_directory s file ≡ false → passes_room s file size ≡ false
+        ensures shown { (s : Server) → ShowsFiles self.old s → exists s file ≡ true → is_directory s file ≡ false
+            → passes_room s file size ≡ false
             → ShowsFiles self.new (set_content s file (ended size (s.content file)) now) }
         ensures held { self.new.held ≤ self.old.held }
     {
@@ -286,7 +292,8 @@ impl Tree {
 
     // Cuts the file or goes on with zeros, and leaves the times as they are.
     fn put_end(&mut self, file: u64, size: u64)
-        ensures shown { (s : Server) → ShowsFiles self.old s → exists s file ≡ true → is_directory s file ≡ false → passes_room s file size ≡ false
+        ensures shown { (s : Server) → ShowsFiles self.old s → exists s file ≡ true → is_directory s file ≡ false
+            → passes_room s file size ≡ false
             → ShowsFiles self.new (with_content s file (ended size (s.content file))) }
         ensures held { self.new.held ≤ self.old.held }
     {
@@ -300,7 +307,8 @@ impl Tree {
     // The sum of the lengths when a file of `length` bytes has `size`, which doesn't pass the room. The room is read so
     // that its range bounds the sum.
     fn used_behind(&self, length: u64, size: u64) -> u64
-        ensures { (s : Server) → ShowsFiles self.now s → length ≤ used s → (nat_lt s.room ((used s - length) + size) && nat_lt length size) ≡ false
+        ensures { (s : Server) → ShowsFiles self.now s → length ≤ used s
+            → (nat_lt s.room ((used s - length) + size) && nat_lt length size) ≡ false
             → result ≡ (used s - length) + size }
     {
         let _room = self.room();

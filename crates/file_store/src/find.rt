@@ -5,6 +5,7 @@ ghost use Rattle.exchange_defs.specs.Files.{find, exists, is_directory, has_pare
 ghost use Rattle.exchange_defs.specs.Texts.{parent_of};
 ghost use Rattle.file_store.specs.Shown.{ShowsFiles, folded, at_key, below_key, RowFound};
 ghost use Rattle.std.specs.Str.{bytes_eq};
+ghost use Rattle.file_store.specs.Keys.{begins};
 
 use crate::index::{next_key, starts};
 use crate::row::Row;
@@ -15,7 +16,8 @@ use std::str;
 const MAX_BYTES: usize = 3072;
 
 impl Tree {
-    /// The number of the file or directory of a path, by ASCII case. It takes no memory.
+    /// The number of the file or directory of a path, by ASCII case. It takes no memory. Past 3,072 bytes, which no
+    /// request has, it looks at every path.
     #[tactic(auto, using(crate::proofs::Keys::find_root, crate::proofs::Keys::find_other))]
     pub fn find(&self, path: &str) -> Option<u64>
         ensures { (s : Server) → ShowsFiles self.now s → result ≡ find s path.now }
@@ -61,6 +63,16 @@ impl Tree {
         ensures { (s : Server) → ShowsFiles self.now s → result ≡ at_key s.entries key.now }
     {
         self.paths.get(key).copied()
+    }
+
+    /// Whether the number names a file or directory. The root is always there.
+    pub fn exists(&self, file: u64) -> bool
+        ensures { (s : Server) → ShowsFiles self.now s → result ≡ exists s file }
+    {
+        match self.row(file) {
+            Some(_) => return true,
+            None => return false,
+        }
     }
 
     /// Whether what is there is a directory.
@@ -122,6 +134,18 @@ impl Tree {
             None => return false,
         }
     }
+}
+
+// Whether the path in upper case begins so.
+pub fn begins_so(path: &str, front: &str) -> bool
+    ensures { result ≡ begins front.now (folded path.now) }
+{
+    let path = path.as_bytes();
+    let front = front.as_bytes();
+    if path.len() < front.len() {
+        return false;
+    }
+    is_upper_of(front, &path[..front.len()])
 }
 
 // Whether the key is the path in upper case.

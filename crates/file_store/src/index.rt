@@ -44,6 +44,21 @@ pub fn name_path(
     }
 }
 
+// The key names another file, where it names one.
+pub fn set_path(paths: &mut BTreeMap<String, u64>, key: &str, file: u64)
+    ensures { (q : List ℕ) → get_by_text paths.new q
+        ≡ (if bytes_eq key.now q then option_map (λ (_ : ℕ). file) (get_by_text paths.old q) else get_by_text paths.old
+        q) }
+{
+    match paths.get_mut(key) {
+        Some(named) => {
+            *named = file;
+            return;
+        }
+        None => return,
+    }
+}
+
 // The key names nothing.
 pub fn forget_path(paths: &mut BTreeMap<String, u64>, key: &str)
     ensures { (q : List ℕ) → get_by_text paths.new q ≡ (if bytes_eq key.now q then None else get_by_text paths.old q) }

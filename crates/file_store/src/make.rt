@@ -1,5 +1,6 @@
 ghost use Rattle.std.specs.Prelude.{nat_le, nat_lt, ◌≤◌, ◌||◌, length, false};
-ghost use Rattle.std.specs.Prelude.{◌≡◌, ◌+◌, ◌<◌, ◌^◌, ◌==◌, ℕ, List, Bool, true, None, Some, map, OnOk, OnErr, IfOk, IfNone, MatchResult, if◌then◌else◌, nat_eq};
+ghost use Rattle.std.specs.Prelude.{◌≡◌, ◌+◌, ◌<◌, ◌^◌, ◌==◌, ℕ, List, Bool, true, None, Some, map, OnOk, OnErr, IfOk};
+ghost use Rattle.std.specs.Prelude.{IfNone, MatchResult, if◌then◌else◌, nat_eq};
 ghost use Rattle.std.specs.HashMap.{get, hash_map_len, spare};
 ghost use Rattle.std.specs.BTreeMap.{get_by_text};
 ghost use Rattle.std.specs.Str.{bytes_eq};
@@ -40,7 +41,7 @@ const DIRECTORY_NOT_EMPTY: u32 = 0xc000_0101;
 /// A file for which there is memory, and whose path is taken.
 #[derive(Drop)]
 pub struct NewFile {
-    pub row: Row,
+    pub(crate) row: Row,
 }
 
 fn new_row(
@@ -67,7 +68,7 @@ fn new_row(
 }
 
 // There is room for one row more.
-fn make_room(rows: &mut HashMap<u64, Row>) -> Result<(), AllocError>
+pub(crate) fn make_room(rows: &mut HashMap<u64, Row>) -> Result<(), AllocError>
     ensures rows { (q : ℕ) → get nat_eq rows.new q ≡ get nat_eq rows.old q }
     ensures count { hash_map_len rows.new ≡ hash_map_len rows.old }
     ensures room { OnOk result (0 < spare rows.new) }
@@ -76,7 +77,7 @@ fn make_room(rows: &mut HashMap<u64, Row>) -> Result<(), AllocError>
 }
 
 // The row stands at a new number.
-fn put_row(rows: &mut HashMap<u64, Row>, file: u64, row: Row)
+pub(crate) fn put_row(rows: &mut HashMap<u64, Row>, file: u64, row: Row)
     requires { 0 < spare rows.old }
     ensures at { (q : ℕ) → get nat_eq rows.new q ≡ (if q == file then Some row else get nat_eq rows.old q) }
     ensures count { get nat_eq rows.old file ≡ None → hash_map_len rows.new ≡ hash_map_len rows.old + 1 }
@@ -85,7 +86,10 @@ fn put_row(rows: &mut HashMap<u64, Row>, file: u64, row: Row)
 }
 
 impl Tree {
-    /// Makes a file or directory of the next number, which it answers. Its times are `now`.
+    /// Makes a file or directory of the next number, which it answers. Its times are `now`. It is refused, in this order,
+    /// for a path of a bad form (INVALID_PARAMETER for a leading `\`, else OBJECT_NAME_INVALID), a path that is there
+    /// (OBJECT_NAME_COLLISION), the 65,537th file or directory or a number past 2^64 - 2 (INSUFFICIENT_RESOURCES), and a
+    /// path whose directory isn't there (OBJECT_PATH_NOT_FOUND): MS-SMB2 3.3.5.9.
     pub fn make(
         &mut self,
         path: &str,
@@ -153,7 +157,8 @@ impl Tree {
     /// Makes a prepared file, and answers its number. It takes no memory.
     pub fn finish_make(&mut self, prepared: NewFile) -> u64
         requires { IsReady self.old }
-        ensures shown { (s : Server) (path : List ℕ) (directory : Bool) (attributes now : ℕ) → Prepared self.old prepared s path directory attributes now
+        ensures shown { (s : Server) (path : List ℕ) (directory : Bool) (attributes now : ℕ)
+            → Prepared self.old prepared s path directory attributes now
             → (result ≡ s.next_file) × ShowsFiles self.new (make_file s path directory attributes now) }
         ensures held { self.new.held ≡ self.old.held }
     {
@@ -165,7 +170,8 @@ impl Tree {
 
     /// Gives up a prepared file: the files are as before. It takes no memory.
     pub fn cancel_make(&mut self, prepared: NewFile)
-        ensures shown { (s : Server) (path : List ℕ) (directory : Bool) (attributes now : ℕ) → Prepared self.old prepared s path directory attributes now
+        ensures shown { (s : Server) (path : List ℕ) (directory : Bool) (attributes now : ℕ)
+            → Prepared self.old prepared s path directory attributes now
             → ShowsFiles self.new s }
         ensures held { self.new.held ≡ self.old.held }
     {
@@ -183,16 +189,16 @@ impl Tree {
         }
     }
 
-    // The status of the first rule on counts and places that making this path breaks.
+    // The status of the first rule on places and counts that making this path breaks.
     fn place_refusal(&self, path: &str) -> Option<u32>
         ensures number { IfNone result (self.now.next + 1 < 2 ^ 64) }
         ensures rule { (s : Server) → ShowsFiles self.now s → result ≡ place_refusal s path.now }
     {
-        if self.is_counted_out() {
-            return Some(INSUFFICIENT_RESOURCES);
-        }
         if self.find(path).is_some() {
             return Some(OBJECT_NAME_COLLISION);
+        }
+        if self.is_counted_out() {
+            return Some(INSUFFICIENT_RESOURCES);
         }
         if self.has_parent(path) {
             return None;
@@ -212,7 +218,8 @@ impl Tree {
     /// Takes away a file or an empty directory that is there. It takes no memory.
     pub fn remove(&mut self, file: u64) -> Result<(), StoreError>
         ensures done { MatchResult result
-            (λ _. (s : Server) → ShowsFiles self.old s → exists s file ≡ true → (remove_refusal s file ≡ None) × ShowsFiles self.new (remove_file s file))
+            (λ _. (s : Server) → ShowsFiles self.old s → exists s file ≡ true → (remove_refusal s file ≡ None)
+            × ShowsFiles self.new (remove_file s file))
             (λ e. (s : Server) → ShowsFiles self.old s → exists s file ≡ true → Refuses e (remove_refusal s file) × ShowsFiles self.new s) }
         ensures held { self.new.held ≤ self.old.held }
     {
@@ -227,7 +234,8 @@ impl Tree {
     }
 
     fn take_away(&mut self, file: u64)
-        ensures shown { (s : Server) → ShowsFiles self.old s → exists_in s.entries file ≡ true → is_full_directory s file ≡ false → ShowsFiles self.new (remove_file s file) }
+        ensures shown { (s : Server) → ShowsFiles self.old s → exists_in s.entries file ≡ true
+            → is_full_directory s file ≡ false → ShowsFiles self.new (remove_file s file) }
         ensures held { self.new.held ≤ self.old.held }
     {
         match self.rows.remove(&file) {

@@ -15,14 +15,14 @@ use std::collections::{BTreeMap, HashMap};
 /// The files of the share.
 #[derive(Drop)]
 pub struct Tree {
-    pub rows: HashMap<u64, Row>,
-    pub paths: BTreeMap<String, u64>,
-    pub root: Row,
-    pub next: u64,
-    pub used: u64,
-    pub room: u64,
-    pub held: u64,
-    pub alloc: Global,
+    pub(crate) rows: HashMap<u64, Row>,
+    pub(crate) paths: BTreeMap<String, u64>,
+    pub(crate) root: Row,
+    pub(crate) next: u64,
+    pub(crate) used: u64,
+    pub(crate) room: u64,
+    pub(crate) held: u64,
+    pub(crate) alloc: Global,
 }
 
 fn put_basic(rows: &mut HashMap<u64, Row>, file: u64, basic: Basic)
@@ -37,7 +37,8 @@ fn put_basic(rows: &mut HashMap<u64, Row>, file: u64, basic: Basic)
 
 fn put_delete_pending(rows: &mut HashMap<u64, Row>, file: u64, delete_pending: bool)
     ensures rows { (q : ℕ) → get nat_eq rows.new q
-        ≡ (if q == file then option_map (λ (r : Row). record r { delete_pending = delete_pending }) (get nat_eq rows.old q) else get nat_eq rows.old q) }
+        ≡ (if q == file then option_map (λ (r : Row). record r { delete_pending = delete_pending })
+        (get nat_eq rows.old q) else get nat_eq rows.old q) }
     ensures count { hash_map_len rows.new ≡ hash_map_len rows.old }
 {
     if let Some(row) = rows.get_mut(&file) {
@@ -81,7 +82,8 @@ impl Tree {
         self.rows.get(&file)
     }
 
-    /// The path of a file, borrowed. So a directory's new name is written into each path below it.
+    /// The path of a file, borrowed from its row. So a directory's new name is written into each path below it, and
+    /// renaming it takes time as what stands there.
     pub fn path(&self, file: u64) -> &str
         ensures { (s : Server) → ShowsFiles self.now s → result.now ≡ path_of s file }
     {

@@ -11,5 +11,6 @@ pub returns-clause-shown : goal.returns-clause-shown
 returns-clause-shown c = λ s h e d r.
     let f = c.args.file in
     let t = with_content s f (ended c.args.size (s.content f)) in
-    subst (λ (b : Basic). ShowsFiles c.set_basic.new.self (store_basic t f b)) (c.touched-basic.ensures ∙ ap (λ (b : Basic). touched b c.args.now) (told_basic c.info.result s f (c.info.ensures s h e)))
+    subst (λ (b : Basic). ShowsFiles c.set_basic.new.self (store_basic t f b)) (c.touched-basic.ensures
+    ∙ ap (λ (b : Basic). touched b c.args.now) (told_basic c.info.result s f (c.info.ensures s h e)))
     (c.set_basic.ensures.shown t (c.put_end.ensures.shown s h e d r))

@@ -2,4 +2,9 @@ use Rattle.file_store.proofs.Raised.{raised}
 use Rattle.file_store.proofs.tree.Tree.find_folded.Goals as goal
 
 pub returns-in-Err : goal.returns-in-Err
-returns-in-Err c = λ s h. absurd (c.in-Err.ensures.cases.0 (rw (c.make_ascii_uppercase.ensures.after, c.copy_from_slice.ensures.after, c.as_bytes.ensures.value) (raised c.args.path.now c.utf8.path)))
+returns-in-Err c = λ s h.
+    absurd (c.in-Err.ensures.cases.0 (rw (
+      c.make_ascii_uppercase.ensures.after,
+      c.copy_from_slice.ensures.after,
+      c.as_bytes.ensures.value,
+    ) (raised c.args.path.now c.utf8.path)))

@@ -11,4 +11,5 @@ abbrev pub invariant-loop-key : goal.invariant-loop-key
 invariant-loop-key l =
     (goal.iterator-loop-key).can_next l.key-iterator ×
     (goal.iterator-loop-key).is_finite l.key-iterator ×
-    (get_by_text l.fn.self.paths (folded l.fn.path) ≡ lookup (λ k. is_eq (slice_cmp nat_cmp (folded l.fn.path) (string_bytes k))) l.key-iterator)
+    (get_by_text l.fn.self.paths (folded l.fn.path)
+    ≡ lookup (λ k. is_eq (slice_cmp nat_cmp (folded l.fn.path) (string_bytes k))) l.key-iterator)

@@ -30,8 +30,13 @@ returns-clause-shown c = λ s path directory attributes now p.
           root_path = h.root_path;
           root_below = h.root_below;
           root_is = root_stays s.next_file c.args.self.now.root _ _ _ _ _ _ h.above h.root_is;
-          rows_are = λ f. row_made f s.next_file c.args.self.now.next (get nat_eq c.args.self.now.rows f) _ c.args.prepared.row path (path_at s.entries f) _ _ _ _ _ _ _ _ _ i (c.put_row.ensures.at f) (path_added s.entries entry f m) g.path_is g.row_is (h.rows_are f);
-          count_is = length_added s.entries entry ∙ (ap (λ n. n + 1) h.count_is ∙ sym (c.put_row.ensures.count (no_row _ _ _ _ _ _ (h.rows_are c.args.self.now.next) (h.fresh c.args.self.now.next (omega arith)))));
+          rows_are = λ f. row_made f s.next_file c.args.self.now.next (get nat_eq c.args.self.now.rows f) _
+              c.args.prepared.row path (path_at s.entries f) _ _ _ _ _ _ _ _ _ i (c.put_row.ensures.at f)
+              (path_added s.entries entry f m) g.path_is g.row_is (h.rows_are f);
+          count_is = length_added s.entries entry
+              ∙ (ap (λ n. n + 1) h.count_is
+              ∙ sym (c.put_row.ensures.count (no_row _ _ _ _ _ _ (h.rows_are c.args.self.now.next)
+              (h.fresh c.args.self.now.next (omega arith)))));
           next_is = ap (λ n. n + 1) i;
           used_is = sizes_added s.content s.entries s.next_file path m ∙ h.used_is;
           room_is = h.room_is;

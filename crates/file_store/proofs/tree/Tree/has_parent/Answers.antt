@@ -5,7 +5,8 @@ use Rattle.file_store.proofs.tree.Tree.has_parent.Goals as goal
 
 pub returns-in-Some : goal.returns-in-Some
 unfolding has_parent is_found_directory
-returns-in-Some c = λ s h. let f = c.in-Some.ensures s h in c.is_directory.ensures s h (found_there s _ _ (sym f)) ∙ ap (is_found_directory s) (f ∙ ap (find s) c.parent_of.ensures)
+returns-in-Some c = λ s h. let f = c.in-Some.ensures s h in c.is_directory.ensures s h (found_there s _ _ (sym f))
+    ∙ ap (is_found_directory s) (f ∙ ap (find s) c.parent_of.ensures)
 
 pub returns-in-None : goal.returns-in-None
 unfolding has_parent is_found_directory

@@ -23,7 +23,8 @@ returns-clause-shown c = λ s h e d r.
     (c.used_behind-self.ensures s h (subst (λ (n : ℕ). n ≤ used s) (sym len) (part_of_used s f (path_in s.entries f) h.rows.apart p))
     (subst (λ (n : ℕ). (nat_lt s.room ((used s - n) + size) && nat_lt n size) ≡ false) (sym len) (room_left_used s f size r))) in
     shows_changed t u s f new z
-    (rows_changed t u f (λ x y. (c : List ℕ) → IsContent x c → IsContent y (ended size c)) c.end_row.ensures.there c.end_row.ensures.others s h new (λ x y q i. q (s.content f) i))
+    (rows_changed t u f (λ x y. (c : List ℕ) → IsContent x c → IsContent y (ended size c)) c.end_row.ensures.there
+    c.end_row.ensures.others s h new (λ x y q i. q (s.content f) i))
     c.end_row.ensures.count
     (sum_changed s f size (path_in s.entries f) new h.rows.apart p (length-ended size (s.content f)) ∙ sym sum)
     refl refl refl refl h

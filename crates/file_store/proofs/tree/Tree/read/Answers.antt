@@ -3,7 +3,8 @@ use Rattle.file_store.proofs.Lengths.{read_told}
 use Rattle.file_store.proofs.tree.Tree.read.Goals as goal
 
 pub returns-in-Some : goal.returns-in-Some
-returns-in-Some c = read_told c.args.self.now c.args.file c.args.at c.args.length c.in-Some.row.now c.read_row.result c.in-Some.ensures c.read_row.ensures
+returns-in-Some c = read_told c.args.self.now c.args.file c.args.at c.args.length c.in-Some.row.now c.read_row.result
+    c.in-Some.ensures c.read_row.ensures
 
 pub returns-in-None : goal.returns-in-None
 returns-in-None c = λ s h e. absurd (let x = never_missing s c.args.file (c.in-None.ensures s h) e in cc)

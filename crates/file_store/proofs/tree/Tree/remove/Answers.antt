@@ -4,4 +4,10 @@ use Rattle.file_store.proofs.Full.{there_in}
 use Rattle.file_store.proofs.tree.Tree.remove.Goals as goal
 
 pub returns-clause-done : goal.returns-clause-done
-returns-clause-done c = λ s h e. (not_refused s c.args.file (other_file c.args.file c.if-file-eq0.false) (sym (c.is_full.ensures s h e) ∙ c.if-is_full.false), c.take_away.ensures.shown s h (there_in s c.args.file (other_file c.args.file c.if-file-eq0.false) e) (sym (c.is_full.ensures s h e) ∙ c.if-is_full.false))
+returns-clause-done c = λ s h e. (
+  not_refused s c.args.file (other_file c.args.file c.if-file-eq0.false)
+      (sym (c.is_full.ensures s h e) ∙ c.if-is_full.false),
+  c.take_away.ensures.shown s h
+      (there_in s c.args.file (other_file c.args.file c.if-file-eq0.false) e) (sym (c.is_full.ensures s h e)
+      ∙ c.if-is_full.false),
+)

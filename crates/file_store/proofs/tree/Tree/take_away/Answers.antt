@@ -23,18 +23,24 @@ returns-in-Some-clause-shown c = λ s h x full.
         above = w.above;
         no_root = path_gone s.entries f 0 ∙ none_if (f == 0) _ w.no_root;
         no_empty = key_stays_free s.entries f [] w.no_empty;
-        housed = housed_gone s.entries s.directory f c.in-Some.row.path w.apart r.0 (path_filled s.entries f c.in-Some.row.path w.apart w.no_empty r.0) (not_full s f c.in-Some.row.path r.0 full) w.housed;
+        housed = housed_gone s.entries s.directory f c.in-Some.row.path w.apart r.0
+            (path_filled s.entries f c.in-Some.row.path w.apart w.no_empty r.0)
+            (not_full s f c.in-Some.row.path r.0 full) w.housed;
         plain = plain_gone s.entries f w.plain;
         root_path = w.root_path;
         root_below = w.root_below;
         root_is = w.root_is;
         rows_are = λ g. rw (c.remove.ensures.updates.0 g, path_gone s.entries f g) (row_gone (f == g) _ _ _ _ _ _ (w.rows_are g));
-        count_is = let a = length_gone s.entries f c.in-Some.row.path w.apart r.0 in let b = c.in-Some.ensures.len in let k = w.count_is in omega arith;
+        count_is = let a = length_gone s.entries f c.in-Some.row.path w.apart r.0 in let b = c.in-Some.ensures.len in
+            let k = w.count_is in omega arith;
         next_is = w.next_is;
-        used_is = let a = sizes_gone s.content s.entries f c.in-Some.row.path w.apart r.0 in let b = c.len.ensures (s.content f) r.1.content_is in let k = w.used_is in let u = c.saturating_sub-self.ensures in grind (arith, common_steps);
+        used_is = let a = sizes_gone s.content s.entries f c.in-Some.row.path w.apart r.0 in
+            let b = c.len.ensures (s.content f) r.1.content_is in let k = w.used_is in
+            let u = c.saturating_sub-self.ensures in grind (arith, common_steps);
         room_is = w.room_is;
       };
-      keys_are = λ q. let e = key_gone s.entries f c.in-Some.row.path q w.apart r.0 in c.forget_path.ensures q ∙ rw (c.as_str.ensures.value, r.1.key_is, h.keys_are q) (sym e);
+      keys_are = λ q. let e = key_gone s.entries f c.in-Some.row.path q w.apart r.0 in c.forget_path.ensures q
+          ∙ rw (c.as_str.ensures.value, r.1.key_is, h.keys_are q) (sym e);
     }
 
 pub returns-in-None-clause-shown : goal.returns-in-None-clause-shown
