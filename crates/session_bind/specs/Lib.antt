@@ -1,0 +1,4 @@
+pub mod Shown
+pub mod Changes
+pub mod Steps
+pub mod Logons

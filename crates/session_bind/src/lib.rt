@@ -1,0 +1,21 @@
+//! The server's sessions (MS-SMB2 3.3.1.8), their channels and trees, and what is in the making on each connection
+//! (3.3.1.7).
+//!
+//! As in the table of opens a call that needs memory takes it first, and what it made room for can't fail.
+#![tactic(auto)]
+
+mod ids;
+mod links;
+mod look;
+mod row;
+mod table;
+mod tokens;
+mod trees;
+
+pub use exchange_defs::values::Tree;
+pub use row::{InMaking, Link, Purpose, SessionRow};
+pub use table::Sessions;
+pub use tokens::{Begun, TokenShown, challenge_for, final_for, token_shown};
+
+#[cfg(test)]
+mod tests;
