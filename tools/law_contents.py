@@ -11,7 +11,10 @@ import re
 
 from law_contents_events import EVENTS, WORDS
 from law_contents_parts import ARGUMENTS, CONNECTIONS, PARTS, TOP, arguments_in
-from law_text import bound, fields, kept_part, lemma, low_name, named_in, names, premised, sentence, step, type_name, write_module, write_wanted
+from law_text import (
+    bound, fields, held, kept_part, lemma, low_name, named_in, names, narrowed, premised, sentence, step, type_name,
+    write_module, write_wanted,
+)
 
 
 def default(part):
@@ -53,8 +56,9 @@ use Rattle.order_law.proofs.Words.{WORDS}
 
 
 STATE = "(c : Client) (conns : ℕ → Conn) (s : Server) (t : Trace) (l : Log) (a : ℕ → ℕ)"
-LOWER = {p: (type_name(p), arguments_in(CONNECTIONS, type_name(p))) for p in re.findall(r"^  pub (\w+) : ",
+LOWER = {p: " ".join(arguments_in(CONNECTIONS, type_name(p))) for p in re.findall(r"^  pub (\w+) : ",
     CONNECTIONS[CONNECTIONS.index("pub record Connections"):], re.M)}
+SPOKEN = {part: " ".join(arguments) for part, arguments in ARGUMENTS.items()}
 
 
 def emit(event):
@@ -74,17 +78,14 @@ def emit(event):
         for q in lower:
             if q not in lower_used:
                 lower_used.append(q)
-        # what quantifies is given to the parts that name it alone, and the rest to each
-        bare = re.sub(r"\b(i|cn)\.\w+", "", term)
-        needs = [(n, ty) for n, ty in event.needs if n not in event.narrow or re.search(r"(?<![\w.])%s\b" % n, bare)]
-        premises = premised(needs) + "".join("C.%s %s → " % (LOWER[q][0], " ".join(LOWER[q][1]))
-            for q in lower) + "".join("%s %s → " % (type_name(q), " ".join(ARGUMENTS[q])) for q in parts)
+        needs = narrowed(event.needs, re.sub(r"\b(i|cn)\.\w+", "", term), lambda name, wanted: name in event.narrow)
+        premises = premised(needs) + held(lower, LOWER, "C.") + held(parts, SPOKEN)
         goal = type_name(part) + " " + " ".join(event.state[w] for w in ARGUMENTS[part])
         given = before + [n for n, _ in needs] + ["cn_" + q for q in lower]
         name = "%s_%s" % (low, part)
         out.append(lemma(name, over, premises, goal, " ".join(given + ["i_" + q for q in parts]), bound("cn", bound("i", term))))
         calls[part] = " ".join([name] + given + ["i." + q for q in parts])
-    premises = premised(event.needs) + "".join("C.%s %s → " % (LOWER[q][0], " ".join(LOWER[q][1])) for q in lower_used)
+    premises = premised(event.needs) + held(lower_used, LOWER, "C.")
     words = " ".join(before + [n for n, _ in event.needs] + ["cn_" + q for q in lower_used] + ["i"])
     behind = " ".join(event.state[w] for w in ("c", "conns", "s", "t", "l", "a"))
     out.append(step(low + "_keeps", over, premises, "Contents c conns s t l a", "Contents " + behind, words))

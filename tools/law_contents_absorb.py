@@ -6,11 +6,12 @@ import re
 
 from law_contents_parts import ARGUMENTS, HERE, PARTS, TOP
 from law_contents_absorb_parts import PARTS as TEXTS
-from law_text import bound, fields, lemma, named_in, names, premised, step, type_name, write_module
+from law_text import bound, fields, held, lemma, named_in, names, premised, step, type_name, write_module
 
 STATE = "(c : Client) (conns : ℕ → Conn) (s : Server) (t : Trace) (l : Log) (a : ℕ → ℕ)"
 OVER = STATE + " (k : ℕ) (x0 : Sent) (rest : List Sent) (A : Answer)"
 VARIABLES = names(OVER)
+SPOKEN = {part: " ".join(arguments) for part, arguments in ARGUMENTS.items()}
 
 out = [open(os.path.join(HERE, "law_contents_absorb.txt")).read().replace("PARTS", ", ".join(type_name(p) for p in PARTS))]
 after = dict(c="c", conns="(Front conns k rest)", s="A.server", t="(new_trace c t l x0 A)", l="(new_log c t l x0 A)", a="(new_acts a x0 A)")
@@ -24,7 +25,7 @@ for part, (variables, columns) in PARTS.items():
     premises, term = TEXTS[part]
     parts = [part] + [q for q in sorted((named_in("i", term) | set(re.findall(r"\bi_(\w+)", term))) - {part}) if q in PARTS]
     needs += [need for need in premises if need[0] not in [n for n, _ in needs]]
-    wanted = premised(premises) + "".join("%s %s → " % (type_name(q), " ".join(ARGUMENTS[q])) for q in parts)
+    wanted = premised(premises) + held(parts, SPOKEN)
     given = VARIABLES + [n for n, _ in premises]
     name = "absorb_" + part
     goal = type_name(part) + " " + " ".join(after[w] for w in ARGUMENTS[part])

@@ -9,7 +9,10 @@ Run `rt tidy` and `rt fmt` in the crate behind it: it writes all imports into ea
 """
 import re
 
-from law_text import bound, fields, kept_part, lemma, low_name, named_in, names, premised, proofs_of, sentence, standing, step, type_name, write_list, write_module, write_wanted
+from law_text import (
+    bound, fields, held, kept_part, lemma, low_name, named_in, names, narrowed, premised, proofs_of, quantifies,
+    sentence, standing, step, type_name, write_list, write_module, write_wanted,
+)
 
 TOP = proofs_of("create_law")
 
@@ -370,8 +373,16 @@ for event in EVENTS:
             variables = PARTS[part][1]
             event.parts[part] = "λ %s. let old = i.%s %s in let s = same p in grind arith" % (variables, part, variables)
     if event.name == "EndOf":
-        event.parts["unclosed"] = "λ p m u l s. kept_still c v x p (i.unclosed p m u l (still_before c v x p s)) (λ o e. by_kind c v x p o (i.named_kind p o e).0 s (λ n t. goes_not c v x o i.attached here c.session n (lives t)))"
-        event.parts["acted_kept"] = "λ j n p y h t m e s. end_kept c v x p y.message.session_id (i.acted_kept j n p y h t m (there_before v x y.message.session_id e) s) (λ o q. goes_not c v x o i.attached here y.message.session_id (apart_from v x y.message.session_id e) (here y.message.session_id (there_before v x y.message.session_id e) (ranked j n p y h t))) (apart_from v x y.message.session_id e)"
+        event.parts["unclosed"] = (
+            "λ p m u l s. kept_still c v x p (i.unclosed p m u l (still_before c v x p s)) (λ o e. by_kind c v x p o "
+            "(i.named_kind p o e).0 s (λ n t. goes_not c v x o i.attached here c.session n (lives t)))"
+        )
+        event.parts["acted_kept"] = (
+            "λ j n p y h t m e s. end_kept c v x p y.message.session_id (i.acted_kept j n p y h t m (there_before v x "
+            "y.message.session_id e) s) (λ o q. goes_not c v x o i.attached here y.message.session_id (apart_from v x "
+            "y.message.session_id e) (here y.message.session_id (there_before v x y.message.session_id e) "
+            "(ranked j n p y h t))) (apart_from v x y.message.session_id e)"
+        )
     if event.name == "Restarted":
         event.parts["unclosed"] = "λ p m s l t. restart_unclosed c v a u r i.unclosed i.named_kind p m s l t"
 
@@ -422,7 +433,9 @@ end_kept c v x p y k f d = by_closed (v.closed y (guid_at c p)) refl
     by_closed false e = let w = kept_still c v x p (grind arith) f in grind arith
 
 """,
-    "Restarted": """restart_kept : (c : Client) (v u : Seen) (p : ℕ) → Restarts v u → NamedKind c v → outlives (c.op p) ≡ true → (o : Option ℕ) → named c v p ≡ o → (is_some o || v.expired_guids c.who.guid (guid_at c p)) ≡ true → is_kept c u p ≡ true
+    "Restarted": """restart_kept : (c : Client) (v u : Seen) (p : ℕ) → Restarts v u → NamedKind c v
+    → outlives (c.op p) ≡ true → (o : Option ℕ) → named c v p ≡ o
+    → (is_some o || v.expired_guids c.who.guid (guid_at c p)) ≡ true → is_kept c u p ≡ true
 restart_kept c v u p r nk out None e s = let m = r.expired_guids in let w : u.expired_guids c.who.guid (guid_at c p)
     ≡ v.expired_guids c.who.guid (guid_at c p) = ap (λ f. f c.who.guid (guid_at c p)) m in grind arith
 restart_kept c v u p r nk out (Some o) e s = let k = nk p o e in let st = r.stays c.who.guid (guid_at c p) o e (k.0 ∙ out) in grind arith
@@ -438,6 +451,7 @@ restart_unclosed c v a u r un nk p m s l t =
 
 
 BASE = "(c : Client) (conns : ℕ → Conn) (v : Seen) (a : ℕ → ℕ)"
+ARGUMENTS = {part: row[0] for part, row in PARTS.items()}
 
 
 def emit(event):
@@ -454,11 +468,9 @@ def emit(event):
         term = event.parts.get(part) or default(part)
         parts = [part] + sorted(named_in("i", term) - {part})
         fits = sorted(named_in("f", term))
-        # what quantifies is given to the parts that name it alone, and the rest to each
-        needs = [(n, t) for n, t in event.needs if ("→" not in t and not t.startswith("Restarts"))
-            or re.search(r"\b%s\b" % n, re.sub(r"\b[if]\.\w+", "", term))]
-        premises = premised(needs) + "".join("%s %s → " % (type_name(q), PARTS[q][0])
-            for q in parts) + "".join("%s %s → " % (type_name(q), FIT[q]) for q in fits)
+        bare = re.sub(r"\b[if]\.\w+", "", term)
+        needs = narrowed(event.needs, bare, lambda name, wanted: quantifies(name, wanted) or wanted.startswith("Restarts"))
+        premises = premised(needs) + held(parts, ARGUMENTS) + held(fits, FIT)
         goal = type_name(part) + " " + " ".join(state[w] for w in arguments.split())
         given = variables + [n for n, _ in needs]
         name = "%s_%s" % (low, part)

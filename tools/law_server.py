@@ -1,9 +1,12 @@
 #!/usr/bin/env python3
 """Writes the regular part of the proofs of server_law: for each small effect on the server one lemma for each part of
-Fits that reads a column which the effect writes, and the record that joins them. Run it at the top of a clone, then
-`rt tidy` and `rt fmt` in crates/server_law."""
+Fits that reads a column which the effect writes, and the record that joins them.
 
+Run `rt tidy` and `rt fmt` in the crate behind it: it writes all imports into each file.
+"""
 import os
+
+from law_text import proofs_of, sentence, write_module
 
 # field: (word, columns that it reads, variables, hypotheses)
 PARTS = {
@@ -112,13 +115,17 @@ EFFECTS = [
            {'ascending': ['ascending', 'listed'], 'range_owners': ['range_owners']},
            '''
 -- the table of guids with the new open's, as its guid is
-added_guid : (s : Server) (o : ℕ) (row : Open) (c g p : ℕ) → s.standing o ≡ false → GuidOpen s → (u : Option ℕ) → row.create_guid ≡ u → with_guid s.by_guid row.client_guid u (Some o) c g ≡ Some p
+added_guid : (s : Server) (o : ℕ) (row : Open) (c g p : ℕ) → s.standing o ≡ false → GuidOpen s → (u : Option ℕ)
+    → row.create_guid ≡ u → with_guid s.by_guid row.client_guid u (Some o) c g ≡ Some p
     → put s.standing o true p ≡ true × (put s.opened o row p).client_guid ≡ c × (put s.opened o row p).create_guid ≡ Some g
 added_guid s o row c g p free old None e = let was = old c g p in grind arith
 added_guid s o row c g p free old (Some h) e = let was = old c g p in grind arith
 
-added_open : (s : Server) (o : ℕ) (row : Open) (p g : ℕ) → s.standing o ≡ false → ((x : ℕ) → row.create_guid ≡ Some x → s.by_guid row.client_guid x ≡ None) → OpenGuid s → (u : Option ℕ) → row.create_guid ≡ u
-    → put s.standing o true p ≡ true → (put s.opened o row p).create_guid ≡ Some g → with_guid s.by_guid row.client_guid u (Some o) (put s.opened o row p).client_guid g ≡ Some p
+added_open : (s : Server) (o : ℕ) (row : Open) (p g : ℕ) → s.standing o ≡ false
+    → ((x : ℕ) → row.create_guid ≡ Some x → s.by_guid row.client_guid x ≡ None) → OpenGuid s → (u : Option ℕ)
+    → row.create_guid ≡ u
+    → put s.standing o true p ≡ true → (put s.opened o row p).create_guid ≡ Some g
+        → with_guid s.by_guid row.client_guid u (Some o) (put s.opened o row p).client_guid g ≡ Some p
 added_open s o row p g free guid old None e = let was = old p g in grind arith
 added_open s o row p g free guid old (Some h) e = let was = old p g in let new = guid h e in grind arith
 '''),
@@ -357,14 +364,8 @@ for effect in EFFECTS:
 
 def main():
     for module, effects in FILES.items():
-        path = 'crates/server_law/proofs/%s.antt' % module
-        with open(path, 'w') as f:
-            f.write('-- Written by tools/law_server.py. %s.\n' % '; '.join(e.says[0].upper() + e.says[1:] if i == 0
-                else e.says for i, e in enumerate(effects)))
-            f.write(HEAD)
-            f.write(MORE.get(module, ''))
-            f.write('\n')
-            f.write('\n'.join(emit(e) for e in effects))
+        head = sentence('; '.join(effect.says for effect in effects)) + HEAD + MORE.get(module, '')
+        write_module(proofs_of('server_law'), module, head + '\n' + '\n'.join(emit(effect) for effect in effects))
 
 
 if __name__ == '__main__':

@@ -57,6 +57,20 @@ def premised(needs):
     return "".join("(%s) → " % wanted for _, wanted in needs)
 
 
+def held(parts, arguments, mark=""):
+    """parts of a record, as premises: each with what it speaks of"""
+    return "".join("%s%s %s → " % (mark, type_name(part), arguments[part]) for part in parts)
+
+
+def quantifies(name, wanted):
+    return "→" in wanted
+
+
+def narrowed(needs, bare, narrow=quantifies):
+    """what a proof needs: what is narrow where the proof names it, and the rest always"""
+    return [need for need in needs if not narrow(*need) or re.search(r"(?<![\w.])%s\b" % need[0], bare)]
+
+
 def lemma(name, state, premises, goal, words, term):
     """a lemma over a state, with its arguments behind, and its proof"""
     return "%s : %s → %s%s\n%s %s =\n    %s\n\n" % (name, state, premises, goal, name, words, term)

@@ -102,7 +102,8 @@ def copy_crates(folder):
 def run_check(copy, crate, words):
     """The status of the check, None where it took too long, and what it printed."""
     folder = os.path.join(copy, "crates", crate)
-    with subprocess.Popen(["rt", "check"] + words, cwd=folder, stdout=subprocess.PIPE, stderr=subprocess.STDOUT, text=True, start_new_session=True) as run:
+    with subprocess.Popen(["rt", "check"] + words, cwd=folder, stdout=subprocess.PIPE, stderr=subprocess.STDOUT,
+        text=True, start_new_session=True) as run:
         try:
             text, _ = run.communicate(timeout=LIMIT)
             return run.returncode, text
