@@ -37,7 +37,10 @@ volume_by : (room used : ℕ) (a b c d : Bool) → length (if a then file_fs_vol
 unfolding total
 volume_by room used true b c d = few (file_fs_volume_information_whole volume_value) (omega arith)
 volume_by room used false true c d = few (file_fs_size_information_table (sizes_of room used)) (omega arith)
-volume_by room used false false true d = few (file_fs_device_information_table (record { device_type = 7; characteristics = 0x20 })) (omega arith)
+volume_by room used false false true d = few (file_fs_device_information_table (record {
+  device_type = 7;
+  characteristics = 0x20;
+})) (omega arith)
 volume_by room used false false false true = few (file_fs_attribute_information_whole file_system) (omega (arith, ntfs_few))
 volume_by room used false false false false = few (file_fs_full_size_information_table (full_sizes_of room used)) (omega arith)
 

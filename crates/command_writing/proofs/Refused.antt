@@ -13,7 +13,8 @@ pub first_refused : (part rest : Type 0) (e : WriteError) → IsRefused part e �
 first_refused part rest e no_part = refused (part × rest) part e (λ all. all.0) no_part
 
 -- the first part fits, and the rest was written
-pub both_written : (part rest : Type 0) (x y : List ℕ) (r : Result (List ℕ) WriteError) → part → x ≡ y → Writes rest x r → Writes (part × rest) y r
+pub both_written : (part rest : Type 0) (x y : List ℕ) (r : Result (List ℕ) WriteError) → part → x ≡ y → Writes rest x r
+    → Writes (part × rest) y r
 both_written part rest x y (Ok bytes) fits same w = ((fits, w.0), w.1 ∙ same)
 both_written part rest x y (Err Memory) fits same w = tt
 both_written part rest x y (Err Unwritable) fits same w = λ all. w all.1

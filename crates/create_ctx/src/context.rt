@@ -41,7 +41,8 @@ fn next_of(m: &[u8]) -> Result<usize, ChainError>
 // A part of a context.
 #[tactic(auto, unfolding(wire_defs::specs::Places::bytes_at, wire_defs::specs::CreateContexts::is_outside))]
 fn part_of(m: &[u8], at: usize, len: usize) -> Result<&[u8], ChainError>
-    ensures { MatchResult result (λ b. (is_outside m.now at len ≡ false) × IsPart m.now at len 16 b.now) (λ e. (is_outside m.now at len ≡ true) × (e ≡ Short)) }
+    ensures { MatchResult result (λ b. (is_outside m.now at len ≡ false) × IsPart m.now at len 16 b.now)
+        (λ e. (is_outside m.now at len ≡ true) × (e ≡ Short)) }
 {
     if len == 0 {
         return Ok(&m[..0]);

@@ -46,7 +46,8 @@ fn disk_id_in(value: &[u8]) -> Result<DiskId, Short>
 }
 
 fn dh2q_of(c: &Context<'_>) -> Result<Option<Dh2qReply>, Short>
-    ensures { MatchResult result (λ q. q ≡ (if is_named c.now.name.now dh2q then Some (dh2q_reply_in c.now.value.now) else None)) (λ _. (is_named c.now.name.now dh2q ≡ true) × (length c.now.value.now < 8)) }
+    ensures { MatchResult result (λ q. q ≡ (if is_named c.now.name.now dh2q then Some (dh2q_reply_in c.now.value.now)
+        else None)) (λ _. (is_named c.now.name.now dh2q ≡ true) × (length c.now.value.now < 8)) }
 {
     if !is_named(c.name, b"DH2Q") {
         return Ok(None);
@@ -56,7 +57,9 @@ fn dh2q_of(c: &Context<'_>) -> Result<Option<Dh2qReply>, Short>
 }
 
 fn mxac_of(c: &Context<'_>) -> Result<Option<MaximalAccess>, Short>
-    ensures { MatchResult result (λ a. a ≡ (if is_named c.now.name.now mxac then Some (maximal_access_in c.now.value.now) else None)) (λ _. (is_named c.now.name.now mxac ≡ true) × (length c.now.value.now < 8)) }
+    ensures { MatchResult result
+        (λ a. a ≡ (if is_named c.now.name.now mxac then Some (maximal_access_in c.now.value.now) else None))
+        (λ _. (is_named c.now.name.now mxac ≡ true) × (length c.now.value.now < 8)) }
 {
     if !is_named(c.name, b"MxAc") {
         return Ok(None);
@@ -66,7 +69,8 @@ fn mxac_of(c: &Context<'_>) -> Result<Option<MaximalAccess>, Short>
 }
 
 fn qfid_of(c: &Context<'_>) -> Result<Option<DiskId>, Short>
-    ensures { MatchResult result (λ d. d ≡ (if is_named c.now.name.now qfid then Some (disk_id_in c.now.value.now) else None)) (λ _. (is_named c.now.name.now qfid ≡ true) × (length c.now.value.now < 32)) }
+    ensures { MatchResult result (λ d. d ≡ (if is_named c.now.name.now qfid then Some (disk_id_in c.now.value.now) else
+        None)) (λ _. (is_named c.now.name.now qfid ≡ true) × (length c.now.value.now < 32)) }
 {
     if !is_named(c.name, b"QFid") {
         return Ok(None);
@@ -78,7 +82,8 @@ fn qfid_of(c: &Context<'_>) -> Result<Option<DiskId>, Short>
 // What one context says. Data that are as long as is due are never too short.
 #[tactic(auto, unfolding(wire_defs::specs::CreateContexts::reply_due, wire_defs::specs::CreateContexts::is_named))]
 fn reply_of(c: &Context<'_>) -> Result<ReplyContexts, Short>
-    ensures { MatchResult result (λ r. r ≡ reply_of (context c.now)) (λ _. HasLength (reply_due c.now.name.now) (length c.now.value.now) → ⊥) }
+    ensures { MatchResult result (λ r. r ≡ reply_of (context c.now)) (λ _. HasLength (reply_due c.now.name.now)
+        (length c.now.value.now) → ⊥) }
 {
     let dh2q = dh2q_of(c)?;
     let mxac = mxac_of(c)?;

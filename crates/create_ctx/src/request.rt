@@ -41,7 +41,8 @@ fn dh2c_in(value: &[u8]) -> Result<Dh2c, Short>
 }
 
 fn dh2q_of(c: &Context<'_>) -> Result<Option<Dh2q>, Short>
-    ensures { MatchResult result (λ q. q ≡ (if is_named c.now.name.now dh2q then Some (dh2q_in c.now.value.now) else None)) (λ _. (is_named c.now.name.now dh2q ≡ true) × (length c.now.value.now < 32)) }
+    ensures { MatchResult result (λ q. q ≡ (if is_named c.now.name.now dh2q then Some (dh2q_in c.now.value.now) else
+        None)) (λ _. (is_named c.now.name.now dh2q ≡ true) × (length c.now.value.now < 32)) }
 {
     if !is_named(c.name, b"DH2Q") {
         return Ok(None);
@@ -51,7 +52,8 @@ fn dh2q_of(c: &Context<'_>) -> Result<Option<Dh2q>, Short>
 }
 
 fn dh2c_of(c: &Context<'_>) -> Result<Option<Dh2c>, Short>
-    ensures { MatchResult result (λ q. q ≡ (if is_named c.now.name.now dh2c then Some (dh2c_in c.now.value.now) else None)) (λ _. (is_named c.now.name.now dh2c ≡ true) × (length c.now.value.now < 36)) }
+    ensures { MatchResult result (λ q. q ≡ (if is_named c.now.name.now dh2c then Some (dh2c_in c.now.value.now) else
+        None)) (λ _. (is_named c.now.name.now dh2c ≡ true) × (length c.now.value.now < 36)) }
 {
     if !is_named(c.name, b"DH2C") {
         return Ok(None);
@@ -63,7 +65,8 @@ fn dh2c_of(c: &Context<'_>) -> Result<Option<Dh2c>, Short>
 // What one context says. Data that are as long as is due are never too short.
 #[tactic(auto, unfolding(wire_defs::specs::CreateContexts::request_due, wire_defs::specs::CreateContexts::is_named))]
 fn request_of(c: &Context<'_>) -> Result<CreateContexts, Short>
-    ensures { MatchResult result (λ r. r ≡ request_of (context c.now)) (λ _. HasLength (request_due c.now.name.now) (length c.now.value.now) → ⊥) }
+    ensures { MatchResult result (λ r. r ≡ request_of (context c.now)) (λ _. HasLength (request_due c.now.name.now)
+        (length c.now.value.now) → ⊥) }
 {
     let dh2q = dh2q_of(c)?;
     let dh2c = dh2c_of(c)?;

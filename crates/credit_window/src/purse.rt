@@ -65,7 +65,8 @@ impl Purse {
     /// Spends the credits of a charge, of which 0 counts as 1. The answer is the first of the message ids
     /// that they pay for. Where the charge is above what is held, nothing changes.
     pub fn spend(&mut self, charge: u16) -> Result<u64, NoCredit>
-        ensures spent { IfOk result (λ first. (counted charge ≤ self.old.held) × (first ≡ self.old.next) × (self.new ≡ after_spend charge self.old)) }
+        ensures spent { IfOk result (λ first. (counted charge ≤ self.old.held) × (first ≡ self.old.next)
+            × (self.new ≡ after_spend charge self.old)) }
         ensures refused { IfErr result (λ e. (self.old.held < counted charge) × (e.held ≡ self.old.held) × (self.new ≡ self.old)) }
     {
         let count = u32::from(charge.max(1));

@@ -54,7 +54,8 @@ impl Model for Window {
 
     ghost view = { λ w. record { held = w.ids.items; next = w.next } };
 
-    ghost invariant = { λ w. IsAscending 0 w.ids.items × AllLess w.next w.ids.items × (length w.ids.items ≤ 512) × (512 ≤ deque_capacity w.ids) };
+    ghost invariant = { λ w. IsAscending 0 w.ids.items × AllLess w.next w.ids.items × (length w.ids.items ≤ 512)
+        × (512 ≤ deque_capacity w.ids) };
 }
 
 impl Window {
@@ -72,7 +73,8 @@ impl Window {
     /// the ring, one step for each id of the charge, and moves of the held ids below or above them,
     /// whichever are fewer.
     pub fn take(&mut self, first: u64, charge: u16) -> Result<(), Outside>
-        ensures taken { OnOk result ((outside self.old.held first (counted charge) ≡ None) × (self.new ≡ after_take first charge self.old)) }
+        ensures taken { OnOk result ((outside self.old.held first (counted charge) ≡ None)
+            × (self.new ≡ after_take first charge self.old)) }
         ensures outside { IfErr result (λ e. outside self.old.held first (counted charge) ≡ Some e.id) }
         ensures unchanged { OnErr result (self.new ≡ self.old) }
     {

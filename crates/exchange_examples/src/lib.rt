@@ -578,7 +578,8 @@ pub fn kept_create_refusal_example()
 /// Nobody empties a file under an open that denies writers.
 pub fn emptying_asks_for_writing_example()
     ensures opened { status_after one_session (ask (make 0x81 1 2 0x40 None) ∷ []) (ask (make 0x81 1 1 0x40 None)) ≡ 0 }
-    ensures denier_beside_writer { status_after one_session (ask (make 0x183 7 2 0x40 None) ∷ []) (ask (make 0x81 1 1 0x40 None)) ≡ 0xc0000043 }
+    ensures denier_beside_writer { status_after one_session (ask (make 0x183 7 2 0x40 None) ∷ []) (ask (make 0x81 1 1 0x40 None))
+        ≡ 0xc0000043 }
     ensures overwritten { status_after one_session (ask (make 0x81 1 2 0x40 None) ∷ []) (ask (make 0x81 1 4 0x40 None)) ≡ 0xc0000043 }
     ensures superseded { status_after one_session (ask (make 0x81 1 2 0x40 None) ∷ []) (ask (make 0x81 1 0 0x40 None)) ≡ 0xc0000043 }
 {}
@@ -738,7 +739,8 @@ pub fn access_and_ranges_example()
         ∷ ask (Lock first_open 0 0 (lock_of 0 0 10 2 0 ∷ [])) ∷ []) (ask (Read second_open 5 1 0 0)) ≡ 0xc0000054 }
     ensures own_read { status_after one_session (ask (make 0x183 7 2 0x40 None) ∷ ask (Write first_open 0 (97 ∷ []) 0)
         ∷ ask (Lock first_open 0 0 (lock_of 0 0 10 2 0 ∷ [])) ∷ []) (ask (Read first_open 0 1 0 0)) ≡ 0 }
-    ensures own_shared_write { status_after one_session (ask (make 0x183 7 2 0x40 None) ∷ ask (Lock first_open 0 0 (lock_of 0 0 10 1 0 ∷ []))
+    ensures own_shared_write { status_after one_session
+        (ask (make 0x183 7 2 0x40 None) ∷ ask (Lock first_open 0 0 (lock_of 0 0 10 1 0 ∷ []))
         ∷ []) (ask (Write first_open 0 (97 ∷ []) 0)) ≡ 0xc0000054 }
     ensures closed { status_after one_session (ask (make 0x183 7 2 0x40 None) ∷ ask (make 0x183 7 1 0x40 None)
         ∷ ask (Lock first_open 0 0 (lock_of 0 0 10 2 0 ∷ [])) ∷ ask (Close first_open false) ∷ [])

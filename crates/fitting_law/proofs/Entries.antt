@@ -230,12 +230,18 @@ inside m at (Raw w b ∷ fs) s = inside m (at + w) fs s.1
 inside m at (Any w ∷ fs) s = inside m (at + w) fs s
 
 pub some_entry : (c : DirectoryClass) (m : List ℕ) (v : DirectoryEntryValue) → SpellsDirectoryEntry c m v → 1 ≤ length m
-some_entry class.Directory m v is = let long : 64 ≤ length m = inside m 0 (directory_entry_table class.Directory v (number 4 m 0)) is.fixed in omega (arith, long)
-some_entry class.FullDirectory m v is = let long : 68 ≤ length m = inside m 0 (directory_entry_table class.FullDirectory v (number 4 m 0)) is.fixed in omega (arith, long)
-some_entry class.BothDirectory m v is = let long : 94 ≤ length m = inside m 0 (directory_entry_table class.BothDirectory v (number 4 m 0)) is.fixed in omega (arith, long)
-some_entry class.Names m v is = let long : 12 ≤ length m = inside m 0 (directory_entry_table class.Names v (number 4 m 0)) is.fixed in omega (arith, long)
-some_entry class.IdBothDirectory m v is = let long : 104 ≤ length m = inside m 0 (directory_entry_table class.IdBothDirectory v (number 4 m 0)) is.fixed in omega (arith, long)
-some_entry class.IdFullDirectory m v is = let long : 80 ≤ length m = inside m 0 (directory_entry_table class.IdFullDirectory v (number 4 m 0)) is.fixed in omega (arith, long)
+some_entry class.Directory m v is = let long : 64 ≤ length m =
+    inside m 0 (directory_entry_table class.Directory v (number 4 m 0)) is.fixed in omega (arith, long)
+some_entry class.FullDirectory m v is = let long : 68 ≤ length m =
+    inside m 0 (directory_entry_table class.FullDirectory v (number 4 m 0)) is.fixed in omega (arith, long)
+some_entry class.BothDirectory m v is = let long : 94 ≤ length m =
+    inside m 0 (directory_entry_table class.BothDirectory v (number 4 m 0)) is.fixed in omega (arith, long)
+some_entry class.Names m v is = let long : 12 ≤ length m =
+    inside m 0 (directory_entry_table class.Names v (number 4 m 0)) is.fixed in omega (arith, long)
+some_entry class.IdBothDirectory m v is = let long : 104 ≤ length m =
+    inside m 0 (directory_entry_table class.IdBothDirectory v (number 4 m 0)) is.fixed in omega (arith, long)
+some_entry class.IdFullDirectory m v is = let long : 80 ≤ length m =
+    inside m 0 (directory_entry_table class.IdFullDirectory v (number 4 m 0)) is.fixed in omega (arith, long)
 
 -- ---- their names
 

@@ -32,7 +32,8 @@ use Rattle.command_law.proofs.PathLength.{utf16_few, sum_append}
 gap_few : (n : ℕ) → gap_to_8 n ≤ 7
 gap_few n = omega arith
 
-entry_few : (c : DirectoryClass) (v : DirectoryEntryValue) (next : ℕ) → length (directory_entry_spelling c v next) ≡ fixed_size c + length v.name
+entry_few : (c : DirectoryClass) (v : DirectoryEntryValue) (next : ℕ) → length (directory_entry_spelling c v next)
+    ≡ fixed_size c + length v.name
 unfolding total
 entry_few class.Directory v next = length_fields (directory_entry_whole class.Directory v next) [] ∙ omega arith
 entry_few class.FullDirectory v next = length_fields (directory_entry_whole class.FullDirectory v next) [] ∙ omega arith
@@ -230,7 +231,8 @@ file_by false false true d path i access options is = omega (
   arith,
   length_fields (file_internal_information_table (record { index_number = i.file })) [],
 )
-file_by false false false true path i access options is = omega (arith, length_fields (file_network_open_information_table (network_open_of i)) [])
+file_by false false false true path i access options is =
+    omega (arith, length_fields (file_network_open_information_table (network_open_of i)) [])
 file_by false false false false path i access options is = omega (
   arith,
   length_fields (file_all_information_whole (all_of path i access options)) [],

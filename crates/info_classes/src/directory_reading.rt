@@ -37,7 +37,8 @@ fn read_directory(m: &[u8]) -> Result<DirectoryEntry<'_>, MessageError>
 }
 
 fn read_full_directory(m: &[u8]) -> Result<DirectoryEntry<'_>, MessageError>
-    ensures { Reads (directory_entry_fault classes.FullDirectory m.now) (SpellsDirectoryEntry classes.FullDirectory m.now) directory_entry result }
+    ensures { Reads (directory_entry_fault classes.FullDirectory m.now) (SpellsDirectoryEntry classes.FullDirectory
+        m.now) directory_entry result }
 {
     let mut cursor = Cursor::new(m);
     let _next = cursor.get_u32()?;
@@ -66,7 +67,8 @@ fn read_full_directory(m: &[u8]) -> Result<DirectoryEntry<'_>, MessageError>
 }
 
 fn read_both_directory(m: &[u8]) -> Result<DirectoryEntry<'_>, MessageError>
-    ensures { Reads (directory_entry_fault classes.BothDirectory m.now) (SpellsDirectoryEntry classes.BothDirectory m.now) directory_entry result }
+    ensures { Reads (directory_entry_fault classes.BothDirectory m.now) (SpellsDirectoryEntry classes.BothDirectory
+        m.now) directory_entry result }
 {
     let mut cursor = Cursor::new(m);
     let _next = cursor.get_u32()?;
@@ -119,7 +121,8 @@ fn read_names(m: &[u8]) -> Result<DirectoryEntry<'_>, MessageError>
 }
 
 fn read_id_both_directory(m: &[u8]) -> Result<DirectoryEntry<'_>, MessageError>
-    ensures { Reads (directory_entry_fault classes.IdBothDirectory m.now) (SpellsDirectoryEntry classes.IdBothDirectory m.now) directory_entry result }
+    ensures { Reads (directory_entry_fault classes.IdBothDirectory m.now) (SpellsDirectoryEntry classes.IdBothDirectory
+        m.now) directory_entry result }
 {
     let mut cursor = Cursor::new(m);
     let _next = cursor.get_u32()?;
@@ -153,7 +156,8 @@ fn read_id_both_directory(m: &[u8]) -> Result<DirectoryEntry<'_>, MessageError>
 }
 
 fn read_id_full_directory(m: &[u8]) -> Result<DirectoryEntry<'_>, MessageError>
-    ensures { Reads (directory_entry_fault classes.IdFullDirectory m.now) (SpellsDirectoryEntry classes.IdFullDirectory m.now) directory_entry result }
+    ensures { Reads (directory_entry_fault classes.IdFullDirectory m.now) (SpellsDirectoryEntry classes.IdFullDirectory
+        m.now) directory_entry result }
 {
     let mut cursor = Cursor::new(m);
     let _next = cursor.get_u32()?;

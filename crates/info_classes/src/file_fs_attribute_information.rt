@@ -13,7 +13,8 @@ use std::alloc::{AllocError, Global};
 pub fn read_file_fs_attribute_information(
     m: &[u8],
 ) -> Result<FileFsAttributeInformation<'_>, MessageError>
-    ensures { Reads (file_fs_attribute_information_fault m.now) (SpellsFileFsAttributeInformation m.now) file_fs_attribute_information result }
+    ensures { Reads (file_fs_attribute_information_fault m.now) (SpellsFileFsAttributeInformation m.now)
+        file_fs_attribute_information result }
 {
     let mut cursor = Cursor::new(m);
     let file_system_attributes = cursor.get_u32()?;

@@ -35,7 +35,8 @@ pub enum ListingError {
 // How far the next entry is.
 #[tactic(auto, unfolding(wire_defs::specs::Directory::link_fault))]
 fn next_of(m: &[u8]) -> Result<usize, MessageError>
-    ensures { Reads (short_fault m.now 0 (4 ∷ []) or_else link_fault m.now) (λ n. (n ≡ number 4 m.now 0) × (is_badly_linked m.now ≡ false)) (λ n. n) result }
+    ensures { Reads (short_fault m.now 0 (4 ∷ []) or_else link_fault m.now) (λ n. (n ≡ number 4 m.now 0)
+        × (is_badly_linked m.now ≡ false)) (λ n. n) result }
 {
     let mut cursor = Cursor::new(m);
     let next = cursor.get_u32()? as usize;

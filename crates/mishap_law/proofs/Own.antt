@@ -1,5 +1,6 @@
 -- A frame whose events had no mishap.
-use Rattle.std.proofs.Common.{◌≡◌, ℕ, Bool, true, false, not, ◌&&◌, if◌then◌else◌, List, [], ◌∷◌, Option, Some, None, is_some, Result, Ok, Err, ◌⊎◌, inl, inr, refl, sym, ap, subst, ◌∙◌}
+use Rattle.std.proofs.Common.{◌≡◌, ℕ, Bool, true, false, not, ◌&&◌, if◌then◌else◌, List, [], ◌∷◌, Option, Some, None}
+use Rattle.std.proofs.Common.{is_some, Result, Ok, Err, ◌⊎◌, inl, inr, refl, sym, ap, subst, ◌∙◌}
 use Rattle.exchange_defs.specs.Table.{is_filled}
 use Rattle.exchange_defs.specs.State.{Server, Message}
 use Rattle.exchange_defs.specs.Network.{answer_to}
@@ -9,7 +10,8 @@ use Rattle.world_defs.specs.Hearing.{Checked, Frame, check_frame}
 use Rattle.world_defs.specs.Related.{Turn, Goes, Fails, turn_of}
 use Rattle.world_defs.specs.Connection.{Going, heard_message, went_heard, went_turn, went_all, beginning, step_of, answered}
 use Rattle.world_defs.specs.Given.{has_event, went_answered, dealt_step}
-use Rattle.world_defs.specs.Mishaps.{Mishap, Lacks, Halts, Owned, owned_next, owned_aside, owned_heard, owned_turn, owned_all, owned_of, owning}
+use Rattle.world_defs.specs.Mishaps.{Mishap, Lacks, Halts, Owned, owned_next, owned_aside, owned_heard, owned_turn}
+use Rattle.world_defs.specs.Mishaps.{owned_all, owned_of, owning}
 use Rattle.mishap_law.specs.Own.{NoneBefell}
 
 -- ---- where something was missing it stays so
@@ -42,7 +44,8 @@ missing_all : (z : ServerSettings) (k now : ℕ) (fresh : List ℕ) (f : ServerE
 unfolding owned_all
 missing_all z k now fresh f w [] e = e
 missing_all z k now fresh f w (c ∷ cs) e =
-    missing_if (is_some w.dealt.stopped) w (owned_all z k now fresh f (owned_turn z k now fresh f w c (turn_of w.dealt.going.carried c)) cs) e
+    missing_if (is_some w.dealt.stopped) w
+    (owned_all z k now fresh f (owned_turn z k now fresh f w c (turn_of w.dealt.going.carried c)) cs) e
     (missing_all z k now fresh f (owned_turn z k now fresh f w c (turn_of w.dealt.going.carried c)) cs
     (missing_turn z k now fresh f w c (turn_of w.dealt.going.carried c) e))
 
@@ -118,7 +121,8 @@ goes_all z k now fresh f w [] stands none = inr (record { going = refl; stopped 
 goes_all z k now fresh f w (c ∷ cs) stands none =
     let t = turn_of w.dealt.going.carried c in
     let v = owned_turn z k now fresh f w c t in
-    stands_if w.dealt.stopped w (owned_all z k now fresh f v cs) (went_all z k now fresh f (went_turn z k now fresh f w.dealt.going c t) cs) stands
+    stands_if w.dealt.stopped w (owned_all z k now fresh f v cs)
+    (went_all z k now fresh f (went_turn z k now fresh f w.dealt.going c t) cs) stands
     (all_of z k now fresh f w v (went_turn z k now fresh f w.dealt.going c t) cs (goes_turn z k now fresh f w c t stands none)
     (λ u p q. goes_all z k now fresh f u cs p q))
 

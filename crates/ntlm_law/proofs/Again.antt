@@ -1,5 +1,6 @@
 -- A message in which the fields of a value stand reads as that value.
-use Rattle.std.proofs.Common.{◌≡◌, ℕ, ◌+◌, ◌≤◌, ◌==◌, nat_lt, nat_le, Bool, true, false, ◌||◌, List, [], length, refl, arith, subst, None, Ok}
+use Rattle.std.proofs.Common.{◌≡◌, ℕ, ◌+◌, ◌≤◌, ◌==◌, nat_lt, nat_le, Bool, true, false, ◌||◌, List, [], length, refl}
+use Rattle.std.proofs.Common.{arith, subst, None, Ok}
 use Rattle.std.proofs.lemmas.List.{append-nil}
 use Rattle.std.proofs.lemmas.Bool.Decides.{nat_tests}
 use Rattle.wire_defs.specs.Places.{number, bytes_at}
@@ -8,7 +9,10 @@ use Rattle.wire_law.proofs.Rows.{row_stands}
 use Rattle.token_defs.specs.declared.ntlm.Type1.{Type1}
 use Rattle.token_defs.specs.declared.ntlm.NtlmField.{NtlmField}
 use Rattle.token_defs.specs.declared.ntlm.NtlmField.TheVariants.{Lm, Nt, Domain, User, Workstation, SessionKey, TargetName, TargetInfo}
-use Rattle.token_defs.specs.Messages.{Type2Value, Type3Value, ntlm_signature, start_fault, range_fault, type1_in, type2_in, type3_in, type1_table, type2_table, type3_table, type1_spelling, type2_spelling, type3_spelling, IsWritableType1, IsWritableType2, IsWritableType3, nt_at, domain_at, user_at, workstation_at, session_key_at}
+use Rattle.token_defs.specs.Messages.{Type2Value, Type3Value, ntlm_signature, start_fault, range_fault, type1_in}
+use Rattle.token_defs.specs.Messages.{type2_in, type3_in, type1_table, type2_table, type3_table, type1_spelling}
+use Rattle.token_defs.specs.Messages.{type2_spelling, type3_spelling, IsWritableType1, IsWritableType2, IsWritableType3}
+use Rattle.token_defs.specs.Messages.{nt_at, domain_at, user_at, workstation_at, session_key_at}
 use Rattle.ntlm_law.specs.Fitting.{HasPairs2, HasPairs3}
 
 start_fits : (m : List ℕ) (fixed type : ℕ) → fixed ≤ length m → bytes_at 8 m 0 ≡ ntlm_signature → number 4 m 8 ≡ type →

@@ -1,5 +1,7 @@
 -- The pairs of a challenge fit, and those of an answer: the server's pairs, then the client's own and the end.
-use Rattle.std.proofs.Common.{◌≡◌, ℕ, zero, suc, ◌+◌, ◌≤◌, ◌==◌, nat_lt, Bool, true, false, if◌then◌else◌, List, [], ◌++◌, append_assoc, length, take, drop, replicate, length-append, length-drop, refl, sym, ap, subst, ◌∙◌, arith, Option, Some, None, Ok}
+use Rattle.std.proofs.Common.{◌≡◌, ℕ, zero, suc, ◌+◌, ◌≤◌, ◌==◌, nat_lt, Bool, true, false, if◌then◌else◌, List, []}
+use Rattle.std.proofs.Common.{◌++◌, append_assoc, length, take, drop, replicate, length-append, length-drop, refl, sym}
+use Rattle.std.proofs.Common.{ap, subst, ◌∙◌, arith, Option, Some, None, Ok}
 use Rattle.std.proofs.lemmas.Bool.Decides.{nat_tests}
 use Rattle.std.proofs.lemmas.List.{take-append-le, drop-append-le, drop_at, take-append-drop, length-take-le}
 use Rattle.std.proofs.Math.Seq.{take-add}
@@ -8,7 +10,8 @@ use Rattle.token_defs.specs.Pairs.{pair, end_pair, pair_size, pairs_break, end_a
 use Rattle.wire_defs.proofs.Numbers.{bytes_at-nothing}
 use Rattle.token_defs.specs.declared.ntlm.NtlmError.{NtlmError}
 use Rattle.token_defs.specs.declared.ntlm.NtlmField.TheVariants.{TargetName, TargetInfo}
-use Rattle.token_defs.specs.Messages.{Type2Value, ◌or_else◌, start_fault, part_fault, part_in, info_fault, pairs_fault, type2_fault, type2_value, given, type2_in}
+use Rattle.token_defs.specs.Messages.{Type2Value, ◌or_else◌, start_fault, part_fault, part_in, info_fault, pairs_fault}
+use Rattle.token_defs.specs.Messages.{type2_fault, type2_value, given, type2_in}
 use Rattle.token_defs.specs.Acceptor.{server_info}
 use Rattle.token_defs.specs.Answer.{client_info}
 

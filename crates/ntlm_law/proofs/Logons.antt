@@ -1,5 +1,6 @@
 -- One's own answer is the logon with one's own key.
-use Rattle.std.proofs.Common.{◌≡◌, ℕ, ◌≤◌, nat_le, Bool, true, false, not, ◌&&◌, if◌then◌else◌, List, [], ◌∷◌, ◌++◌, length, take, drop, replicate, refl, sym, ap, ◌∙◌, arith, Some, Ok}
+use Rattle.std.proofs.Common.{◌≡◌, ℕ, ◌≤◌, nat_le, Bool, true, false, not, ◌&&◌, if◌then◌else◌, List, [], ◌∷◌, ◌++◌}
+use Rattle.std.proofs.Common.{length, take, drop, replicate, refl, sym, ap, ◌∙◌, arith, Some, Ok}
 use Rattle.std.proofs.lemmas.Bool.Decides.{nat_tests}
 use Rattle.std.proofs.lemmas.List.{take_at, drop_at}
 use Rattle.std.proofs.lemmas.Slice.Eq.{bytes_eq-Decides}
@@ -10,7 +11,8 @@ use Rattle.wire_defs.specs.Places.{le}
 use Rattle.wire_defs.specs.Table.{Raw, Num, Any, with_fields}
 use Rattle.token_defs.specs.Formulas.{utf16, upper, ntowf_in, proof, base_key, exchanged_key, without_mic, mic}
 use Rattle.token_defs.specs.Messages.{Type2Value, Type3Value, ntlm_signature, type3_places, type3_in, type3_spelling}
-use Rattle.token_defs.specs.Acceptor.{User, is_ascii_utf16, is_named, user_named, exchanges, has_form, user_key, proves, exported_key, owes_mic, logon_of, verdict}
+use Rattle.token_defs.specs.Acceptor.{User, is_ascii_utf16, is_named, user_named, exchanges, has_form, user_key, proves}
+use Rattle.token_defs.specs.Acceptor.{exported_key, owes_mic, logon_of, verdict}
 use Rattle.token_defs.specs.Answer.{Credentials, client_info, time_in, temp_of, key_of, proof_of, answer_with, answer_code}
 use Rattle.token_defs.specs.Pairs.{pair_in}
 use Rattle.ntlm_law.proofs.Reading.{response_long, length-time}

@@ -1,5 +1,7 @@
 -- A challenge and an answer read back.
-use Rattle.std.proofs.Common.{◌≡◌, ℕ, ◌+◌, ◌^◌, ◌<◌, ◌≤◌, ◌==◌, nat_lt, Bool, true, false, ◌&&◌, if◌then◌else◌, List, ◌∷◌, ◌++◌, append_assoc, length, drop, replicate, length-append, length-drop, refl, ap, subst, ◌∙◌, arith, Option, Some, None, Result, Ok}
+use Rattle.std.proofs.Common.{◌≡◌, ℕ, ◌+◌, ◌^◌, ◌<◌, ◌≤◌, ◌==◌, nat_lt, Bool, true, false, ◌&&◌, if◌then◌else◌, List}
+use Rattle.std.proofs.Common.{◌∷◌, ◌++◌, append_assoc, length, drop, replicate, length-append, length-drop, refl, ap}
+use Rattle.std.proofs.Common.{subst, ◌∙◌, arith, Option, Some, None, Result, Ok}
 use Rattle.std.specs.Prelude.{bit_and}
 use Rattle.std.proofs.lemmas.Bool.Decides.{nat_tests}
 use Rattle.std.proofs.lemmas.List.{drop_at, length-take}
@@ -8,9 +10,11 @@ use Rattle.token_defs.specs.declared.ntlm.Type1.{Type1}
 use Rattle.token_defs.specs.declared.ntlm.NtlmError.{NtlmError}
 use Rattle.token_defs.specs.Pairs.{pair_in}
 use Rattle.token_defs.specs.Formulas.{base_key, temp}
-use Rattle.token_defs.specs.Messages.{Type2Value, Type3Value, info_fault, nt_at, type1_in, type2_in, type3_in, type2_spelling, type3_spelling, IsWritableType2, IsWritableType3}
+use Rattle.token_defs.specs.Messages.{Type2Value, Type3Value, info_fault, nt_at, type1_in, type2_in, type3_in}
+use Rattle.token_defs.specs.Messages.{type2_spelling, type3_spelling, IsWritableType2, IsWritableType3}
 use Rattle.token_defs.specs.Acceptor.{challenge_flags, large_name, server_info, challenge_value, challenge}
-use Rattle.token_defs.specs.Answer.{Credentials, client_info, time_or_zero, time_in, temp_of, key_of, proof_of, answer_with, has_room, answer_code, answer, answered}
+use Rattle.token_defs.specs.Answer.{Credentials, client_info, time_or_zero, time_in, temp_of, key_of, proof_of}
+use Rattle.token_defs.specs.Answer.{answer_with, has_room, answer_code, answer, answered}
 use Rattle.ntlm_law.proofs.Again.{type2_again, type3_again}
 use Rattle.ntlm_law.proofs.Fits.{HasPairs, server_fits, server_size, info_read, answer_fits}
 use Rattle.ntlm_law.proofs.Codes.{length-exchanged, length-proof, length-mic}

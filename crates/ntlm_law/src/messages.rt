@@ -1,7 +1,9 @@
 //! A canonical spelling reads back.
 ghost use Rattle.std.specs.Prelude.{◌≡◌, Ok};
 ghost use Rattle.token_defs.specs.declared.ntlm.Type1.{Type1};
-ghost use Rattle.token_defs.specs.Messages.{Type2Value, Type3Value, type1_in, type2_in, type3_in, type1_spelling, type2_spelling, type3_spelling, IsWritableType1, IsWritableType2, IsWritableType3};
+ghost use Rattle.token_defs.specs.Messages.{Type2Value, Type3Value, type1_in, type2_in, type3_in, type1_spelling};
+ghost use Rattle.token_defs.specs.Messages.{type2_spelling, type3_spelling, IsWritableType1, IsWritableType2};
+ghost use Rattle.token_defs.specs.Messages.{IsWritableType3};
 ghost use Rattle.ntlm_law.specs.Fitting.{HasPairs2, HasPairs3};
 
 /// A type 1 reads back.

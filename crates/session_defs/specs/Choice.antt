@@ -1,6 +1,7 @@
 -- What a server chooses from a client's lists (MS-SMB2 3.3.5.4): of ciphers AES-128-CCM 1, AES-128-GCM 2, AES-256-CCM 3 and
 -- AES-256-GCM 4 (2.2.3.1.2), of signing algorithms AES-CMAC 1 and AES-GMAC 2 (2.2.3.1.7).
-use Rattle.std.specs.Prelude.{ℕ, ◌==◌, nat_le, Bool, true, false, ◌&&◌, ◌||◌, if◌then◌else◌, List, [], ◌∷◌, Option, Some, None, Result, Ok, Err}
+use Rattle.std.specs.Prelude.{ℕ, ◌==◌, nat_le, Bool, true, false, ◌&&◌, ◌||◌, if◌then◌else◌, List, [], ◌∷◌, Option}
+use Rattle.std.specs.Prelude.{Some, None, Result, Ok, Err}
 use Rattle.session_defs.specs.declared.choice.Chosen.{Chosen}
 use Rattle.session_defs.specs.declared.choice.ChooseError.{ChooseError}
 use Rattle.session_defs.specs.declared.choice.ChooseError.TheVariants.{NoPreauth, NoHash}

@@ -1,6 +1,7 @@
 -- What is sealed (MS-SMB2 2.2.41, 3.1.4.3): a transform header of 52 bytes, FD 'S' 'M' 'B', Signature, Nonce, OriginalMessageSize,
 -- Reserved, Flags 1 and SessionId, and the ciphertext. The tag is the Signature, the additional data all behind it.
-use Rattle.std.specs.Prelude.{ℕ, ◌+◌, ◌==◌, nat_le, nat_lt, Bool, not, ◌&&◌, ◌||◌, if◌then◌else◌, List, [], ◌∷◌, ◌++◌, length, take, drop, Option, Some, None, Result, Ok, Err}
+use Rattle.std.specs.Prelude.{ℕ, ◌+◌, ◌==◌, nat_le, nat_lt, Bool, not, ◌&&◌, ◌||◌, if◌then◌else◌, List, [], ◌∷◌, ◌++◌}
+use Rattle.std.specs.Prelude.{length, take, drop, Option, Some, None, Result, Ok, Err}
 use Rattle.std.specs.Str.{bytes_eq}
 use Rattle.cipher_defs.specs.Aes.{schedule}
 use Rattle.cipher_defs.specs.Gcm

@@ -16,7 +16,9 @@ fn length_of(stream: &[u8]) -> u32
 /// are needed.
 #[tactic(auto, unfolding(wire_defs::specs::Frames::front))]
 pub(crate) fn front_of(stream: &[u8]) -> Result<Option<usize>, FrameError>
-    ensures { MatchResult result (λ o. MatchOption o (front stream.now ≡ Waits) (λ n. (4 + n ≤ length stream.now) × (front stream.now ≡ Whole (bytes_at n stream.now 4) (drop (4 + n) stream.now)))) (λ e. front stream.now ≡ Breaks e) }
+    ensures { MatchResult result (λ o. MatchOption o (front stream.now ≡ Waits) (λ n. (4 + n ≤ length stream.now)
+        × (front stream.now ≡ Whole (bytes_at n stream.now 4) (drop (4 + n) stream.now)))) (λ e. front stream.now
+        ≡ Breaks e) }
 {
     if stream.is_empty() {
         return Ok(None);

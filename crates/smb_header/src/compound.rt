@@ -9,7 +9,9 @@ use wire_defs::{HeaderError, Span};
 // The place of the message behind the one at `at`; `None` where that one is the last.
 fn next_of(frame: &[u8], at: usize) -> Result<Option<usize>, HeaderError>
     requires { at ≤ length frame.now }
-    ensures { MatchResult result (λ o. MatchOption o (IsLast frame.now (record { start = at; end = length frame.now })) (λ next. IsJoined frame.now (record { start = at; end = next }) × (at + 64 ≤ next) × (next + 64 ≤ length frame.now))) (λ e. BreaksAt frame.now at e) }
+    ensures { MatchResult result (λ o. MatchOption o (IsLast frame.now (record { start = at; end = length frame.now }))
+        (λ next. IsJoined frame.now (record { start = at; end = next }) × (at + 64 ≤ next)
+        × (next + 64 ≤ length frame.now))) (λ e. BreaksAt frame.now at e) }
 {
     let header = read_header(&frame[at..])?;
     let next = header.next as usize;

@@ -16,8 +16,11 @@ pub struct ContextAt<'a> {
 
 /// The context of `m` that begins at the next multiple of 8 from `behind` on.
 pub fn context_behind(m: &[u8], behind: usize) -> Result<ContextAt<'_>, Short>
-    ensures found { MatchResult result (λ c. (c.kind ≡ number 2 m.now (context_place behind)) × (c.bytes.now ≡ bytes_at (number 2 m.now (context_place behind + 2)) m.now (context_place behind + 8))) (λ _. length m.now < context_end m.now (context_place behind)) }
-    ensures end { MatchResult result (λ c. (c.end ≡ context_end m.now (context_place behind)) × (c.end ≤ length m.now)) (λ _. length m.now < context_end m.now (context_place behind)) }
+    ensures found { MatchResult result (λ c. (c.kind ≡ number 2 m.now (context_place behind))
+        × (c.bytes.now ≡ bytes_at (number 2 m.now (context_place behind + 2)) m.now (context_place behind + 8)))
+        (λ _. length m.now < context_end m.now (context_place behind)) }
+    ensures end { MatchResult result (λ c. (c.end ≡ context_end m.now (context_place behind)) × (c.end ≤ length m.now))
+        (λ _. length m.now < context_end m.now (context_place behind)) }
 {
     let mut cursor = Cursor::new(m);
     let _before = cursor.take(behind)?;
@@ -36,7 +39,8 @@ pub fn context_behind(m: &[u8], behind: usize) -> Result<ContextAt<'_>, Short>
 // Where `count` contexts end that begin at `at`, if they fit.
 fn end_of(m: &[u8], at: usize, count: u16) -> Option<usize>
     requires { at ≤ length m.now }
-    ensures { MatchOption result (length m.now < contexts_end m.now at count) (λ e. (e ≡ contexts_end m.now at count) × (at ≤ e) × (e ≤ length m.now)) }
+    ensures { MatchOption result (length m.now < contexts_end m.now at count) (λ e. (e ≡ contexts_end m.now at count)
+        × (at ≤ e) × (e ≤ length m.now)) }
 {
     let mut end = at;
     let mut left = count;

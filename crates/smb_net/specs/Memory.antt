@@ -2,7 +2,8 @@
 use Rattle.std.specs.Prelude.{ℕ, List, Bool, false, Option, None}
 use Rattle.smb_io.specs.declared.address.Address.{Address}
 
--- A link: what reads gave, what they have yet to give, what was written, whether a read gave the end, what is left of the plan of its faults,
+-- A link: what reads gave, what they have yet to give, what was written, whether a read gave the end, what is left of
+-- the plan of its faults,
 -- and how often it failed.
 pub record LinkState : Type 0 where
   pub given : List ℕ

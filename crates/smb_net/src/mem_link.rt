@@ -29,7 +29,14 @@ impl Model for MemLink {
 
     ghost Value = { LinkState };
 
-    ghost view = { λ l. record { given = take l.place l.bytes; left = drop l.place l.bytes; written = l.written; ended = l.ended; failing = l.plan; faults = l.faults } };
+    ghost view = { λ l. record {
+      given = take l.place l.bytes;
+      left = drop l.place l.bytes;
+      written = l.written;
+      ended = l.ended;
+      failing = l.plan;
+      faults = l.faults;
+    } };
 
     ghost invariant = { λ l. l.place ≤ length l.bytes };
 }
@@ -40,7 +47,14 @@ impl MemLink {
     /// A link with these bytes left to read, whose call `k` fails where byte `k` of `failing` is 1.
     /// Calls past that list do not fail while there is memory. It always succeeds.
     pub fn new(alloc: Global, bytes: Bytes, failing: Bytes) -> Result<MemLink, AllocError>
-        ensures { IsOkAnd result (λ l. l ≡ record { given = []; left = bytes; written = []; ended = false; failing = failing; faults = 0 }) }
+        ensures { IsOkAnd result (λ l. l ≡ record {
+          given = [];
+          left = bytes;
+          written = [];
+          ended = false;
+          failing = failing;
+          faults = 0;
+        }) }
     {
         Ok(MemLink {
             bytes,

@@ -145,7 +145,13 @@ impl<'a, W: Wait + Sync> Model for MemNet<'a, W> {
 
     ghost Value = { SideState };
 
-    ghost view = { λ n. record { listens_at = n.listens_at; accepted = n.accepted; failing = n.plan; link_failing = n.link_failing; faults = n.faults } };
+    ghost view = { λ n. record {
+      listens_at = n.listens_at;
+      accepted = n.accepted;
+      failing = n.plan;
+      link_failing = n.link_failing;
+      faults = n.faults;
+    } };
 }
 
 impl<'a, W: Wait + Sync> Drop for MemNet<'a, W> {

@@ -1,8 +1,13 @@
 -- What a canonical token holds reads back, part by part.
-use Rattle.std.proofs.Common.{◌≡◌, ℕ, ◌+◌, ◌^◌, ◌<◌, ◌==◌, Bool, true, false, List, [], ◌∷◌, ◌++◌, length, refl, arith, sym, ◌∙◌, ap, Option, Some, None, Ok}
+use Rattle.std.proofs.Common.{◌≡◌, ℕ, ◌+◌, ◌^◌, ◌<◌, ◌==◌, Bool, true, false, List, [], ◌∷◌, ◌++◌, length, refl, arith}
+use Rattle.std.proofs.Common.{sym, ◌∙◌, ap, Option, Some, None, Ok}
 use Rattle.std.proofs.lemmas.List.{append-nil}
 use Rattle.token_defs.specs.Der.{Piece, comes, ends, spelled}
-use Rattle.token_defs.specs.Spnego.{InitValue, RespValue, Names, spnego, ntlmssp, byte_is, spnego_named, octets, passed, names_in, mech_types, hints, init_fields, init_choice, init_in, state_in, mech_in, resp_fields, resp_in, octets_spelling, state_spelling, mech_spelling, init_fields_spelling, init_spelling, resp_fields_spelling, resp_spelling, IsWritableInit, IsWritableResp}
+use Rattle.token_defs.specs.Spnego.{InitValue, RespValue, Names, spnego, ntlmssp, byte_is, spnego_named, octets, passed}
+use Rattle.token_defs.specs.Spnego.{names_in, mech_types, hints, init_fields, init_choice, init_in, state_in, mech_in}
+use Rattle.token_defs.specs.Spnego.{resp_fields, resp_in, octets_spelling, state_spelling, mech_spelling}
+use Rattle.token_defs.specs.Spnego.{init_fields_spelling, init_spelling, resp_fields_spelling, resp_spelling}
+use Rattle.token_defs.specs.Spnego.{IsWritableInit, IsWritableResp}
 use Rattle.spnego_der.proofs.Lengths.{short_inside, short_front, short_back, mech_short, state_short, init_parts, resp_parts}
 use Rattle.spnego_der.proofs.Spelled.{lead, element_reads, element_alone, comes_here, comes_other}
 

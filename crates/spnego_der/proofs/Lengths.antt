@@ -1,7 +1,8 @@
 -- How long spelled elements are at least, and what is put together.
 use Rattle.std.proofs.Common.{◌≡◌, ℕ, suc, ◌+◌, ◌<◌, ◌≤◌, ◌^◌, List, [], ◌∷◌, ◌++◌, length, length-append, append_assoc, refl, arith, ap}
 use Rattle.token_defs.specs.Der.{length_bytes, spelled}
-use Rattle.token_defs.specs.Spnego.{spnego, ntlmssp, init_spelling, resp_spelling, init_fields_spelling, resp_fields_spelling, InitValue, RespValue}
+use Rattle.token_defs.specs.Spnego.{spnego, ntlmssp, init_spelling, resp_spelling, init_fields_spelling}
+use Rattle.token_defs.specs.Spnego.{resp_fields_spelling, InitValue, RespValue}
 
 length-spelled : (tag : ℕ) (c : List ℕ) → length (spelled tag c) ≡ suc (length (length_bytes (length c)) + length c)
 unfolding spelled

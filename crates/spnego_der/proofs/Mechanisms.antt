@@ -1,5 +1,6 @@
 -- One step of the search among the mechanisms, and its ends.
-use Rattle.std.proofs.Common.{◌≡◌, ℕ, zero, suc, ◌+◌, ◌<◌, ◌≤◌, ◌==◌, Bool, true, false, ◌||◌, length, refl, arith, sym, ◌∙◌, ap, Result, Ok, Err}
+use Rattle.std.proofs.Common.{◌≡◌, ℕ, zero, suc, ◌+◌, ◌<◌, ◌≤◌, ◌==◌, Bool, true, false, ◌||◌, length, refl, arith, sym}
+use Rattle.std.proofs.Common.{◌∙◌, ap, Result, Ok, Err}
 use Rattle.std.specs.Str.{bytes_eq}
 use Rattle.std.proofs.lemmas.Bool.Decides.{nat_tests}
 use Rattle.token_defs.specs.declared.der.DerError.{DerError}

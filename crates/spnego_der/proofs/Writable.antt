@@ -1,7 +1,10 @@
 -- How long tokens are at most, and that the list of NTLMSSP alone reads at any place.
-use Rattle.std.proofs.Common.{◌≡◌, ℕ, ◌+◌, ◌^◌, ◌<◌, ◌≤◌, nat_lt, Bool, true, false, if◌then◌else◌, List, [], ◌∷◌, ◌++◌, length, length-append, refl, ap, arith, Option, Some, None, Ok}
+use Rattle.std.proofs.Common.{◌≡◌, ℕ, ◌+◌, ◌^◌, ◌<◌, ◌≤◌, nat_lt, Bool, true, false, if◌then◌else◌, List, [], ◌∷◌, ◌++◌}
+use Rattle.std.proofs.Common.{length, length-append, refl, ap, arith, Option, Some, None, Ok}
 use Rattle.token_defs.specs.Der.{length_bytes, spelled, element, length_in, ends}
-use Rattle.token_defs.specs.Spnego.{spnego, ntlmssp, ntlm_list, names_in, names_ntlm, begins_with_ntlm, octets_spelling, init_spelling, resp_spelling, init_fields_spelling, resp_fields_spelling, InitValue, RespValue, state_spelling, mech_spelling, IsWritableInit, IsWritableResp}
+use Rattle.token_defs.specs.Spnego.{spnego, ntlmssp, ntlm_list, names_in, names_ntlm, begins_with_ntlm, octets_spelling}
+use Rattle.token_defs.specs.Spnego.{init_spelling, resp_spelling, init_fields_spelling, resp_fields_spelling, InitValue}
+use Rattle.token_defs.specs.Spnego.{RespValue, state_spelling, mech_spelling, IsWritableInit, IsWritableResp}
 use Rattle.spnego_der.specs.Fitting.{size_of}
 
 five : (a b c d : Bool) (p q r s t : List ℕ) → length p ≤ 5 → length q ≤ 5 → length r ≤ 5 → length s ≤ 5 → length t ≤ 5

@@ -1,7 +1,8 @@
 //! The parts of SPNEGO's tokens.
 ghost use Rattle.std.specs.Prelude.{◌≡◌, ◌<◌, ◌+◌, ◌^◌, ◌==◌, ◌||◌, if◌then◌else◌, length, true, IfOk};
 ghost use Rattle.std.specs.Str.{bytes_eq};
-ghost use Rattle.token_defs.specs.Spnego.{ntlmssp, byte_is, spnego_named, octets, passed, names_ntlm, begins_with_ntlm, names_in, mech_types, hints, state_in, mech_in};
+ghost use Rattle.token_defs.specs.Spnego.{ntlmssp, byte_is, spnego_named, octets, passed, names_ntlm, begins_with_ntlm};
+ghost use Rattle.token_defs.specs.Spnego.{names_in, mech_types, hints, state_in, mech_in};
 ghost use Rattle.spnego_der.specs.Pieces.{piece, Answers, Within};
 ghost use Rattle.spnego_der.specs.Fields.{octets_view, names_view, mech_types_view, hints_view, state_view, mech_view};
 

@@ -1,6 +1,7 @@
 //! A canonical spelling reads back.
 ghost use Rattle.std.specs.Prelude.{◌≡◌, Ok};
-ghost use Rattle.token_defs.specs.Spnego.{InitValue, RespValue, init_in, init_spelling, IsWritableInit, resp_in, resp_spelling, IsWritableResp};
+ghost use Rattle.token_defs.specs.Spnego.{InitValue, RespValue, init_in, init_spelling, IsWritableInit, resp_in};
+ghost use Rattle.token_defs.specs.Spnego.{resp_spelling, IsWritableResp};
 
 pub fn init_law()
     ensures { (v : InitValue) → IsWritableInit v → init_in (init_spelling v) ≡ Ok v }

@@ -1,7 +1,9 @@
 //! Tokens written, with the shortest lengths.
 ghost use Rattle.std.specs.Prelude.{◌≡◌, ◌<◌, ◌^◌, ◌++◌, length, OnOk, IfOk};
 ghost use Rattle.token_defs.specs.Der.{length_bytes, spelled};
-ghost use Rattle.token_defs.specs.Spnego.{octets_spelling, state_spelling, mech_spelling, init_fields_spelling, init_spelling, resp_fields_spelling, resp_spelling, IsWritableInit, IsWritableResp};
+ghost use Rattle.token_defs.specs.Spnego.{octets_spelling, state_spelling, mech_spelling, init_fields_spelling};
+ghost use Rattle.token_defs.specs.Spnego.{init_spelling, resp_fields_spelling, resp_spelling, IsWritableInit};
+ghost use Rattle.token_defs.specs.Spnego.{IsWritableResp};
 ghost use Rattle.spnego_der.specs.Views.{init_view, resp_view};
 
 use crate::fields::NTLMSSP;

@@ -1,6 +1,7 @@
 -- Elements of DER (X.690 8.1): a tag of one byte, a length and contents. Lengths are read in every definite form of up to four
 -- bytes, and written in the shortest.
-use Rattle.std.specs.Prelude.{ℕ, ◌+◌, ◌-◌, ◌*◌, ◌/◌, ◌%◌, ◌==◌, nat_lt, Bool, true, ◌&&◌, ◌||◌, if◌then◌else◌, List, [], ◌∷◌, ◌++◌, length, take, drop, slice_index, Result, Ok, Err}
+use Rattle.std.specs.Prelude.{ℕ, ◌+◌, ◌-◌, ◌*◌, ◌/◌, ◌%◌, ◌==◌, nat_lt, Bool, true, ◌&&◌, ◌||◌, if◌then◌else◌, List, []}
+use Rattle.std.specs.Prelude.{◌∷◌, ◌++◌, length, take, drop, slice_index, Result, Ok, Err}
 use Rattle.token_defs.specs.declared.der.DerError.{DerError}
 use Rattle.token_defs.specs.declared.der.DerError.TheVariants.{Truncated, BadTag, BadLength, Trailing}
 

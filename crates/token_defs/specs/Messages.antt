@@ -1,6 +1,7 @@
 -- NTLM's messages (MS-NLMP 2.2.1). Each begins `NTLMSSP` and a zero, and its type:4. A variable part is told by Length:2, MaxLength:2,
 -- which is passed over, and Offset:4, counted from the message's first byte.
-use Rattle.std.specs.Prelude.{ℕ, ◌+◌, ◌==◌, nat_lt, nat_le, not, ◌||◌, if◌then◌else◌, List, [], ◌∷◌, ◌++◌, length, drop, Option, Some, None, Result, Ok, Err}
+use Rattle.std.specs.Prelude.{ℕ, ◌+◌, ◌==◌, nat_lt, nat_le, not, ◌||◌, if◌then◌else◌, List, [], ◌∷◌, ◌++◌, length, drop}
+use Rattle.std.specs.Prelude.{Option, Some, None, Result, Ok, Err}
 use Rattle.std.specs.Str.{bytes_eq}
 use Rattle.wire_defs.specs.Places.{number, bytes_at}
 use Rattle.wire_defs.specs.Table.{Field, Num, Raw, Any, with_fields, AreWritable}

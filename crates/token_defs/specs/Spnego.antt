@@ -2,7 +2,8 @@
 -- mechTypes [0], reqFlags [1], mechToken [2] and mechListMIC [3]; with negHints [3] the MIC is [4]. NegTokenResp: [1] of a SEQUENCE
 -- of negState [0], supportedMech [1], responseToken [2], mechListMIC [3]. What reqFlags and negHints hold is passed over. Nothing
 -- stands behind a token or an element of it.
-use Rattle.std.specs.Prelude.{◌≡◌, ℕ, zero, suc, ◌+◌, ◌^◌, ◌<◌, ◌==◌, Bool, true, false, ◌||◌, if◌then◌else◌, List, [], ◌∷◌, ◌++◌, length, slice_index, Option, Some, None, Result, Ok, Err}
+use Rattle.std.specs.Prelude.{◌≡◌, ℕ, zero, suc, ◌+◌, ◌^◌, ◌<◌, ◌==◌, Bool, true, false, ◌||◌, if◌then◌else◌, List, []}
+use Rattle.std.specs.Prelude.{◌∷◌, ◌++◌, length, slice_index, Option, Some, None, Result, Ok, Err}
 use Rattle.std.specs.Str.{bytes_eq}
 use Rattle.token_defs.specs.declared.der.DerError.{DerError}
 use Rattle.token_defs.specs.declared.der.DerError.TheVariants.{BadTag, BadLength, NoNtlm}

@@ -11,7 +11,8 @@ pub fn close_request_law()
     ensures one { (m : List ℕ) (v w : CloseRequest) → SpellsCloseRequest m v → SpellsCloseRequest m w → v ≡ w }
     ensures whole { (m : List ℕ) (v : CloseRequest) → SpellsCloseRequest m v → close_request_fault m ≡ None }
     ensures given { (m : List ℕ) → close_request_fault m ≡ None → SpellsCloseRequest m (close_request_in m) }
-    ensures again { (header rest : List ℕ) (v : CloseRequest) → length header ≡ 64 → IsWritableCloseRequest v → SpellsCloseRequest (header ++ (close_request_spelling v ++ rest)) v }
+    ensures again { (header rest : List ℕ) (v : CloseRequest) → length header ≡ 64 → IsWritableCloseRequest v
+        → SpellsCloseRequest (header ++ (close_request_spelling v ++ rest)) v }
 {}
 
 /// The laws of the CLOSE response.
@@ -19,5 +20,6 @@ pub fn close_response_law()
     ensures one { (m : List ℕ) (v w : CloseResponse) → SpellsCloseResponse m v → SpellsCloseResponse m w → v ≡ w }
     ensures whole { (m : List ℕ) (v : CloseResponse) → SpellsCloseResponse m v → close_response_fault m ≡ None }
     ensures given { (m : List ℕ) → close_response_fault m ≡ None → SpellsCloseResponse m (close_response_in m) }
-    ensures again { (header rest : List ℕ) (v : CloseResponse) → length header ≡ 64 → IsWritableCloseResponse v → SpellsCloseResponse (header ++ (close_response_spelling v ++ rest)) v }
+    ensures again { (header rest : List ℕ) (v : CloseResponse) → length header ≡ 64 → IsWritableCloseResponse v
+        → SpellsCloseResponse (header ++ (close_response_spelling v ++ rest)) v }
 {}

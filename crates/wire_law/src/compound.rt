@@ -9,7 +9,8 @@ use crate::header::header_law;
 /// A frame is one list of messages at most, and a frame that is one has no break.
 pub fn compound_law()
     ensures one { (frame : List ℕ) (ss ts : List Span) → SpellsCompound frame ss → SpellsCompound frame ts → ss ≡ ts }
-    ensures whole { (frame : List ℕ) (ss : List Span) (e : HeaderError) → SpellsCompound frame ss → BreaksCompound frame e → (e ≡ errors.Memory → ⊥) → ⊥ }
+    ensures whole { (frame : List ℕ) (ss : List Span) (e : HeaderError) → SpellsCompound frame ss
+        → BreaksCompound frame e → (e ≡ errors.Memory → ⊥) → ⊥ }
 {
     header_law();
 }

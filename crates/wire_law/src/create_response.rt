@@ -7,5 +7,6 @@ pub fn create_response_law()
     ensures one { (m : List ℕ) (v w : CreateResponseValue) → SpellsCreateResponse m v → SpellsCreateResponse m w → v ≡ w }
     ensures whole { (m : List ℕ) (v : CreateResponseValue) → SpellsCreateResponse m v → create_response_fault m ≡ None }
     ensures given { (m : List ℕ) → create_response_fault m ≡ None → SpellsCreateResponse m (create_response_in m) }
-    ensures again { (header rest : List ℕ) (v : CreateResponseValue) → length header ≡ 64 → IsWritableCreateResponse v → SpellsCreateResponse (header ++ (create_response_spelling v ++ rest)) v }
+    ensures again { (header rest : List ℕ) (v : CreateResponseValue) → length header ≡ 64 → IsWritableCreateResponse v
+        → SpellsCreateResponse (header ++ (create_response_spelling v ++ rest)) v }
 {}

@@ -8,5 +8,6 @@ pub fn error_response_law()
     ensures one { (m : List ℕ) (v w : ErrorResponse) → SpellsErrorResponse m v → SpellsErrorResponse m w → v ≡ w }
     ensures whole { (m : List ℕ) (v : ErrorResponse) → SpellsErrorResponse m v → error_response_fault m ≡ None }
     ensures given { (m : List ℕ) → error_response_fault m ≡ None → SpellsErrorResponse m (error_response_in m) }
-    ensures again { (header rest : List ℕ) (v : ErrorResponse) → length header ≡ 64 → IsWritableErrorResponse v → SpellsErrorResponse (header ++ (error_response_spelling v ++ rest)) v }
+    ensures again { (header rest : List ℕ) (v : ErrorResponse) → length header ≡ 64 → IsWritableErrorResponse v
+        → SpellsErrorResponse (header ++ (error_response_spelling v ++ rest)) v }
 {}

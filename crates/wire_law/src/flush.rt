@@ -11,7 +11,8 @@ pub fn flush_request_law()
     ensures one { (m : List ℕ) (v w : FlushRequest) → SpellsFlushRequest m v → SpellsFlushRequest m w → v ≡ w }
     ensures whole { (m : List ℕ) (v : FlushRequest) → SpellsFlushRequest m v → flush_request_fault m ≡ None }
     ensures given { (m : List ℕ) → flush_request_fault m ≡ None → SpellsFlushRequest m (flush_request_in m) }
-    ensures again { (header rest : List ℕ) (v : FlushRequest) → length header ≡ 64 → IsWritableFlushRequest v → SpellsFlushRequest (header ++ (flush_request_spelling v ++ rest)) v }
+    ensures again { (header rest : List ℕ) (v : FlushRequest) → length header ≡ 64 → IsWritableFlushRequest v
+        → SpellsFlushRequest (header ++ (flush_request_spelling v ++ rest)) v }
 {}
 
 /// The laws of the FLUSH response.
@@ -19,5 +20,6 @@ pub fn flush_response_law()
     ensures one { (m : List ℕ) (v w : FlushResponse) → SpellsFlushResponse m v → SpellsFlushResponse m w → v ≡ w }
     ensures whole { (m : List ℕ) (v : FlushResponse) → SpellsFlushResponse m v → flush_response_fault m ≡ None }
     ensures given { (m : List ℕ) → flush_response_fault m ≡ None → SpellsFlushResponse m (flush_response_in m) }
-    ensures again { (header rest : List ℕ) (v : FlushResponse) → length header ≡ 64 → IsWritableFlushResponse v → SpellsFlushResponse (header ++ (flush_response_spelling v ++ rest)) v }
+    ensures again { (header rest : List ℕ) (v : FlushResponse) → length header ≡ 64 → IsWritableFlushResponse v
+        → SpellsFlushResponse (header ++ (flush_response_spelling v ++ rest)) v }
 {}

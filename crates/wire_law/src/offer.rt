@@ -7,6 +7,8 @@ ghost use Rattle.wire_law.specs.Offers.{IsWritableOffer};
 /// it, reads back as the offer that it was made of.
 pub fn offer_law()
     ensures list { (v : OfferValue) (salt : List ℕ) → IsWritableOffer v salt → IsContextList (offer_spelling v salt) (offer_count v) }
-    ensures whole { (v : OfferValue) (salt rest : List ℕ) → IsWritableOffer v salt → offer_fault (offer_spelling v salt ++ rest) (offer_count v) ≡ None }
-    ensures again { (v : OfferValue) (salt rest : List ℕ) → IsWritableOffer v salt → offer_in (offer_spelling v salt ++ rest) (offer_count v) ≡ v }
+    ensures whole { (v : OfferValue) (salt rest : List ℕ) → IsWritableOffer v salt
+        → offer_fault (offer_spelling v salt ++ rest) (offer_count v) ≡ None }
+    ensures again { (v : OfferValue) (salt rest : List ℕ) → IsWritableOffer v salt
+        → offer_in (offer_spelling v salt ++ rest) (offer_count v) ≡ v }
 {}

@@ -15,13 +15,18 @@ pub fn number_law()
 pub fn table_law()
     ensures one { (m : List ℕ) (at : ℕ) (fs gs : List Field) → layout fs ≡ layout gs → Stands m at fs → Stands m at gs → fs ≡ gs }
     ensures whole { (m : List ℕ) (at : ℕ) (fs : List Field) → Stands m at fs → short_fault m at (widths fs) ≡ None }
-    ensures again { (front rest : List ℕ) (fs : List Field) → AreWritable fs → Stands (front ++ (with_fields [] fs ++ rest)) (length front) fs }
+    ensures again { (front rest : List ℕ) (fs : List Field) → AreWritable fs
+        → Stands (front ++ (with_fields [] fs ++ rest)) (length front) fs }
 {}
 
 /// The variable parts: a part or a list that stands breaks nothing, and where nothing breaks, it stands.
 pub fn part_law()
-    ensures part { (m : List ℕ) (at len fixed : ℕ) (bytes : List ℕ) (part : Part) → IsPart m at len fixed bytes → part_fault m at len fixed part ≡ None }
-    ensures given_part { (m : List ℕ) (at len fixed : ℕ) (part : Part) → part_fault m at len fixed part ≡ None → IsPart m at len fixed (bytes_at len m at) }
-    ensures list { (m : List ℕ) (at count each : ℕ) (bytes : List ℕ) (part : Part) → IsCounted m at count each bytes → count_fault m at count each part ≡ None }
-    ensures given_list { (m : List ℕ) (at count each : ℕ) (part : Part) → count_fault m at count each part ≡ None → IsCounted m at count each (bytes_at (count * each) m at) }
+    ensures part { (m : List ℕ) (at len fixed : ℕ) (bytes : List ℕ) (part : Part) → IsPart m at len fixed bytes
+        → part_fault m at len fixed part ≡ None }
+    ensures given_part { (m : List ℕ) (at len fixed : ℕ) (part : Part) → part_fault m at len fixed part ≡ None
+        → IsPart m at len fixed (bytes_at len m at) }
+    ensures list { (m : List ℕ) (at count each : ℕ) (bytes : List ℕ) (part : Part) → IsCounted m at count each bytes
+        → count_fault m at count each part ≡ None }
+    ensures given_list { (m : List ℕ) (at count each : ℕ) (part : Part) → count_fault m at count each part ≡ None
+        → IsCounted m at count each (bytes_at (count * each) m at) }
 {}

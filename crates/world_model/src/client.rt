@@ -21,7 +21,9 @@ use std::alloc::{AllocError, Global};
 
 /// How a reply settles its operation. A success whose body isn't its response says nothing.
 fn outcome_in(alloc: Global, m: &[u8], header: &Header) -> Result<Outcome, AllocError>
-    ensures { (message : ℕ) (kind : Kind) (reply : Reply) → message < 2 ^ 64 → Suits kind reply → m.now ≡ response_bytes message kind reply → header.now ≡ response_header (request_header message kind) (status_of reply) → IfOk result (λ o. o ≡ outcome_by reply) }
+    ensures { (message : ℕ) (kind : Kind) (reply : Reply) → message < 2 ^ 64 → Suits kind reply → m.now
+        ≡ response_bytes message kind reply → header.now ≡ response_header (request_header message kind)
+        (status_of reply) → IfOk result (λ o. o ≡ outcome_by reply) }
 {
     response_law();
     if header.status != SUCCESS {
@@ -90,7 +92,8 @@ impl Client {
     /// runs out nothing changes.
     pub fn submit(&mut self, op: Op) -> Result<bool, AllocError>
         ensures taken { IfOk result (λ b. b ≡ takes_op self.old.ops.items op) }
-        ensures ops { OnOk result (self.new.ops.items ≡ (if takes_op self.old.ops.items op then self.old.ops.items ++ op.kind ∷ [] else self.old.ops.items)) }
+        ensures ops { OnOk result (self.new.ops.items ≡ (if takes_op self.old.ops.items op then self.old.ops.items
+            ++ op.kind ∷ [] else self.old.ops.items)) }
         ensures outcomes { self.new.outcomes ≡ self.old.outcomes }
         ensures sent { self.new.sent ≡ self.old.sent }
         ensures next { self.new.next ≡ self.old.next }
@@ -106,7 +109,11 @@ impl Client {
     /// Hears a response, and settles the operation whose message id it has. Where memory runs out
     /// nothing changes.
     pub fn hear(&mut self, alloc: Global, m: &[u8]) -> Result<Option<u32>, AllocError>
-        ensures ok { (message number : ℕ) (kind : Kind) (reply : Reply) → message < 2 ^ 64 → Suits kind reply → m.now ≡ response_bytes message kind reply → self.old.sent ≡ Some (record { number = number; message = message }) → IfOk result (IsSettling self.old self.new number (outcome_by reply)) }
+        ensures ok { (message number : ℕ) (kind : Kind) (reply : Reply) → message < 2 ^ 64 → Suits kind reply → m.now
+            ≡ response_bytes message kind reply → self.old.sent ≡ Some (record {
+              number = number;
+              message = message;
+            }) → IfOk result (IsSettling self.old self.new number (outcome_by reply)) }
         ensures err { OnErr result (self.new ≡ self.old) }
     {
         response_law();

@@ -68,7 +68,8 @@ fn write_in(m: &[u8]) -> Option<Command<'_>>
 
 /// What the request in a message asks, where its command is known and its body reads.
 pub fn command_in(m: &[u8], command: u16) -> Option<Command<'_>>
-    ensures { (message : ℕ) (kind : OpKind) → is_in_limits kind ≡ true → message < 2 ^ 64 → m.now ≡ request_bytes message kind → command ≡ command_number kind → IsCommand (command_of kind) result }
+    ensures { (message : ℕ) (kind : OpKind) → is_in_limits kind ≡ true → message < 2 ^ 64 → m.now
+        ≡ request_bytes message kind → command ≡ command_number kind → IsCommand (command_of kind) result }
 {
     request_law();
     if command == READ {

@@ -229,8 +229,12 @@ impl Server {
     /// Answers the request in a message, which it acts on. A message that isn't a READ or WRITE
     /// request breaks the form. Where memory runs out the file stays.
     pub fn respond(&mut self, alloc: Global, m: &[u8]) -> Result<Answered, AllocError>
-        ensures ok { (message : ℕ) (kind : OpKind) → is_in_limits kind ≡ true → message < 2 ^ 64 → m.now ≡ request_bytes message kind → IfOk result (Answers (request_header message kind) (answer (command_of kind) self.old.file.items)) }
-        ensures file { (message : ℕ) (kind : OpKind) → is_in_limits kind ≡ true → message < 2 ^ 64 → m.now ≡ request_bytes message kind → OnOk result (self.new.file.items ≡ (answer (command_of kind) self.old.file.items).file) }
+        ensures ok { (message : ℕ) (kind : OpKind) → is_in_limits kind ≡ true → message < 2 ^ 64 → m.now
+            ≡ request_bytes message kind
+            → IfOk result (Answers (request_header message kind) (answer (command_of kind) self.old.file.items)) }
+        ensures file { (message : ℕ) (kind : OpKind) → is_in_limits kind ≡ true → message < 2 ^ 64 → m.now
+            ≡ request_bytes message kind
+            → OnOk result (self.new.file.items ≡ (answer (command_of kind) self.old.file.items).file) }
         ensures err { OnErr result (self.new.file.items ≡ self.old.file.items) }
     {
         request_law();

@@ -18,9 +18,13 @@ use wire_law::{
 
 /// What a request's bytes spell.
 pub fn request_law()
-    ensures header { (message : ℕ) (kind : OpKind) → is_in_limits kind ≡ true → message < 2 ^ 64 → SpellsHeader (request_bytes message kind) (request_header message kind) }
-    ensures read { (message create at size : ℕ) → is_in_limits (kinds.Read create at size) ≡ true → message < 2 ^ 64 → SpellsReadRequest (request_bytes message (kinds.Read create at size)) (read_request_of at size) }
-    ensures write { (message create at : ℕ) (bytes : List ℕ) → is_in_limits (kinds.Write create at bytes) ≡ true → message < 2 ^ 64 → SpellsWriteRequest (request_bytes message (kinds.Write create at bytes)) (write_request_of at bytes) }
+    ensures header { (message : ℕ) (kind : OpKind) → is_in_limits kind ≡ true → message < 2 ^ 64
+        → SpellsHeader (request_bytes message kind) (request_header message kind) }
+    ensures read { (message create at size : ℕ) → is_in_limits (kinds.Read create at size) ≡ true → message < 2 ^ 64
+        → SpellsReadRequest (request_bytes message (kinds.Read create at size)) (read_request_of at size) }
+    ensures write { (message create at : ℕ) (bytes : List ℕ) → is_in_limits (kinds.Write create at bytes) ≡ true
+        → message < 2 ^ 64 → SpellsWriteRequest (request_bytes message (kinds.Write create at bytes))
+        (write_request_of at bytes) }
 {
     header_law();
     read_request_law();
@@ -29,9 +33,19 @@ pub fn request_law()
 
 /// What a response's bytes spell.
 pub fn response_law()
-    ensures header { (message : ℕ) (kind : OpKind) (reply : Reply) → message < 2 ^ 64 → Suits kind reply → SpellsHeader (response_bytes message kind reply) (response_header (request_header message kind) (status_of reply)) }
-    ensures read { (message : ℕ) (kind : OpKind) (found : List ℕ) → message < 2 ^ 64 → length found < 2 ^ 32 → SpellsReadResponse (response_bytes message kind (Content found)) (record { data_remaining = 0; payload = found }) }
-    ensures write { (message count : ℕ) (kind : OpKind) → message < 2 ^ 64 → count < 2 ^ 32 → SpellsWriteResponse (response_bytes message kind (Counts count)) (record { count = count; remaining = 0 }) }
+    ensures header { (message : ℕ) (kind : OpKind) (reply : Reply) → message < 2 ^ 64 → Suits kind reply
+        → SpellsHeader (response_bytes message kind reply) (response_header (request_header message kind)
+        (status_of reply)) }
+    ensures read { (message : ℕ) (kind : OpKind) (found : List ℕ) → message < 2 ^ 64 → length found < 2 ^ 32
+        → SpellsReadResponse (response_bytes message kind (Content found)) (record {
+          data_remaining = 0;
+          payload = found;
+        }) }
+    ensures write { (message count : ℕ) (kind : OpKind) → message < 2 ^ 64 → count < 2 ^ 32
+        → SpellsWriteResponse (response_bytes message kind (Counts count)) (record {
+          count = count;
+          remaining = 0;
+        }) }
 {
     header_law();
     read_response_law();

@@ -51,7 +51,8 @@ impl World {
     /// One event. `NoChannel` comes exactly for a connection that isn't 0, `NothingThere` exactly
     /// where the list is empty from which the event takes its front.
     pub fn step(&mut self, event: WorldEvent) -> Result<StepNote, WorldError>
-        ensures ok { IfOk result (λ note. (s : State) → WorldHolds self.old s → (refusal s event ≡ None) × (note ≡ note_of s event) × WorldHolds self.new (happens s event)) }
+        ensures ok { IfOk result (λ note. (s : State) → WorldHolds self.old s → (refusal s event ≡ None)
+            × (note ≡ note_of s event) × WorldHolds self.new (happens s event)) }
         ensures err { IfErr result (λ e. (s : State) → WorldHolds self.old s → StepFails (refusal s event) e × WorldHolds self.new s) }
         ensures refused { (s : State) (e : Refusal) → WorldHolds self.old s → refusal s event ≡ Some e → result ≡ Err e }
     {
@@ -258,7 +259,9 @@ fn has_place(serves_by_operation: &[OperationServes], index: usize, place: u64) 
 
 /// Notes the serve in which an operation acted, where none is noted.
 fn note_first(serves_by_operation: &mut [OperationServes], index: usize, place: u64)
-    ensures first { (n : ℕ) → index < length serves_by_operation.old → (serves_at serves_by_operation.new n).first ≡ (if n == index then noted (serves_at serves_by_operation.old n).first place else (serves_at serves_by_operation.old n).first) }
+    ensures first { (n : ℕ) → index < length serves_by_operation.old → (serves_at serves_by_operation.new n).first
+        ≡ (if n == index then noted (serves_at serves_by_operation.old n).first place else
+        (serves_at serves_by_operation.old n).first) }
     ensures by { (n : ℕ) → (serves_at serves_by_operation.new n).by ≡ (serves_at serves_by_operation.old n).by }
 {
     if index < serves_by_operation.len() {
@@ -272,7 +275,8 @@ fn note_first(serves_by_operation: &mut [OperationServes], index: usize, place: 
 /// Notes the serve whose reply settled an operation.
 fn note_settled_by(serves_by_operation: &mut [OperationServes], index: usize, place: u64)
     ensures first { (n : ℕ) → (serves_at serves_by_operation.new n).first ≡ (serves_at serves_by_operation.old n).first }
-    ensures by { (n : ℕ) → index < length serves_by_operation.old → (serves_at serves_by_operation.new n).by ≡ (if n == index then Some place else (serves_at serves_by_operation.old n).by) }
+    ensures by { (n : ℕ) → index < length serves_by_operation.old → (serves_at serves_by_operation.new n).by
+        ≡ (if n == index then Some place else (serves_at serves_by_operation.old n).by) }
 {
     if index < serves_by_operation.len() {
         let mark = &mut serves_by_operation[index];

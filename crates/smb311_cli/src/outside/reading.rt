@@ -39,7 +39,8 @@ fn read_piece<S: Source>(
     text: &mut Vec<u8>,
     piece: &mut [u8],
 ) -> Result<usize, ReadError>
-    ensures read { IfOk result (λ count. Takes (S.left source.old) (S.left source.new) text.old.items text.new.items (length piece.old) count) }
+    ensures read { IfOk result (λ count. Takes (S.left source.old) (S.left source.new) text.old.items text.new.items
+        (length piece.old) count) }
     ensures faults { OnOk result (S.faults source.new ≡ S.faults source.old) }
     ensures failed { IfErr result (λ e. HasFailed (S.faults source.old) (S.faults source.new) e) }
 {

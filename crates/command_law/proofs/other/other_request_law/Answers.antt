@@ -23,7 +23,8 @@ unfolding command_of ioctl_in
 returns-clause-ioctl c = λ t h header rest v len fit number.
     let law = c.ioctl_request_law.ensures in
     let m : List ℕ = header ++ (ioctl_request_spelling v ++ rest) in
-    let is = found SpellsIoctlRequest ioctl_request_fault ioctl_request_in law.one law.whole law.given m v (law.again header rest v len fit) in
+    let is = found SpellsIoctlRequest ioctl_request_fault ioctl_request_in law.one law.whole law.given m v
+    (law.again header rest v len fit) in
     ap (λ (n : ℕ). by_number n t h m) number ∙ ap Some (read_as SpellsIoctlRequest ioctl_request_fault ioctl_request_in ioctl_of m v is)
 
 -- a QUERY_INFO by its type, and by whether its class is left out
