@@ -1,5 +1,6 @@
 -- Four bits at a time.
-use Rattle.std.proofs.Common.{◌≡◌, ℕ, zero, suc, ◌+◌, ◌-◌, ◌*◌, ◌/◌, ◌%◌, ◌^◌, ◌<◌, ◌≤◌, Bool, cond, ◌==◌, List, [], ◌∷◌, ◌++◌, length, get_or, refl, sym, ap, ◌∙◌, arith, inl, inr, ◌≢◌}
+use Rattle.std.proofs.Common.{◌≡◌, ℕ, zero, suc, ◌+◌, ◌-◌, ◌*◌, ◌/◌, ◌%◌, ◌^◌, ◌<◌, ◌≤◌, Bool, cond, ◌==◌, List, []}
+use Rattle.std.proofs.Common.{◌∷◌, ◌++◌, length, get_or, refl, sym, ap, ◌∙◌, arith, inl, inr, ◌≢◌}
 use Rattle.std.proofs.Math.ListN.{set}
 use Rattle.std.proofs.lemmas.List.{get_or-set_other, get_or-set_same}
 use Rattle.std.proofs.lemmas.Bool.{cases_lt}
@@ -210,7 +211,8 @@ half_more rows x h i last z are lt low high so_far =
     rw (count, next) (step_place x (raised (4 * (last - i)) h) (4 * i) n z (get_or (get_or rows (last - i) []) n 0) refl
     (are (last - i) (omega arith) n (omega arith)) so)
 
-pub half_whole : (x h last z i : ℕ) → 16 ≤ i → i ≤ 16 → z ≡ sum_at (bits_of (4 * i) x) (raised (4 * (last + 1 - i)) h) → z ≡ sum_at (bits_of 64 x) (raised (4 * (last - 15)) h)
+pub half_whole : (x h last z i : ℕ) → 16 ≤ i → i ≤ 16 → z ≡ sum_at (bits_of (4 * i) x) (raised (4 * (last + 1 - i)) h)
+    → z ≡ sum_at (bits_of 64 x) (raised (4 * (last - 15)) h)
 half_whole x h last z i le ge so_far =
     let a : 4 * i ≡ 64 = omega arith in
     let b : last + 1 - i ≡ last - 15 = omega arith in
@@ -227,8 +229,10 @@ sum_at-append : (xs ys : List Bool) (v : ℕ) → sum_at (xs ++ ys) v ≡ bit_xo
 unfolding sum_at raised
 sum_at-append [] ys v = sym (xor_zero_l (sum_at ys v))
 sum_at-append (x ∷ xs) ys v =
-    let rest : sum_at (xs ++ ys) (shifted v) ≡ bit_xor (sum_at xs (shifted v)) (sum_at ys (raised (length xs) (shifted v))) = sum_at-append xs ys (shifted v) in
-    rw (rest, raised-shifted (length xs) v) (sym (xor_assoc (cond x v 0) (sum_at xs (shifted v)) (sum_at ys (shifted (raised (length xs) v)))))
+    let rest : sum_at (xs ++ ys) (shifted v) ≡ bit_xor (sum_at xs (shifted v))
+    (sum_at ys (raised (length xs) (shifted v))) = sum_at-append xs ys (shifted v) in
+    rw (rest, raised-shifted (length xs) v)
+    (sym (xor_assoc (cond x v 0) (sum_at xs (shifted v)) (sum_at ys (shifted (raised (length xs) v)))))
 
 bits_of-add : (m n x : ℕ) → bits_of (m + n) x ≡ bits_of m (x / 2 ^ n) ++ bits_of n x
 unfolding bits_of
@@ -246,7 +250,8 @@ bits_of-length (suc n) x = ap suc (bits_of-length n x)
 bit_below : (d n x : ℕ) → x % 2 ^ (suc d + n) / 2 ^ n % 2 ≡ x / 2 ^ n % 2
 bit_below d n x =
     let whole : x % 2 ^ (suc d + n) ≡ (x / 2 ^ n % 2 ^ suc d) * 2 ^ n + x % 2 ^ n = mod-pow-add x (suc d) n in
-    let high : ((x / 2 ^ n % 2 ^ suc d) * 2 ^ n + x % 2 ^ n) / 2 ^ n ≡ x / 2 ^ n % 2 ^ suc d = shr_high (x / 2 ^ n % 2 ^ suc d) n (x % 2 ^ n) (mod_below x (2 ^ n) (pow_pos n)) in
+    let high : ((x / 2 ^ n % 2 ^ suc d) * 2 ^ n + x % 2 ^ n) / 2 ^ n ≡ x / 2 ^ n % 2 ^ suc d =
+    shr_high (x / 2 ^ n % 2 ^ suc d) n (x % 2 ^ n) (mod_below x (2 ^ n) (pow_pos n)) in
     let low : x / 2 ^ n % 2 ^ (d + 1) ≡ (x / 2 ^ n / 2 ^ 1 % 2 ^ d) * 2 ^ 1 + x / 2 ^ n % 2 ^ 1 = mod-pow-add (x / 2 ^ n) d 1 in
     let same : suc d ≡ d + 1 = omega arith in
     let low' : x / 2 ^ n % 2 ^ suc d ≡ (x / 2 ^ n / 2 ^ 1 % 2 ^ d) * 2 ^ 1 + x / 2 ^ n % 2 ^ 1 = rw same low in
@@ -259,7 +264,8 @@ bits_of-low d (suc n) x =
     let e : d + suc n ≡ suc d + n = omega arith in
     rw (e, bit_below d n x, bits_of-low (suc d) n x) refl
 
-pub halves : (x h high low : ℕ) → high ≡ sum_at (bits_of 64 (x / 2 ^ 64)) (raised 0 h) → low ≡ sum_at (bits_of 64 (x % 2 ^ 64)) (raised 64 h) → bit_xor high low ≡ product x h
+pub halves : (x h high low : ℕ) → high ≡ sum_at (bits_of 64 (x / 2 ^ 64)) (raised 0 h) → low
+    ≡ sum_at (bits_of 64 (x % 2 ^ 64)) (raised 64 h) → bit_xor high low ≡ product x h
 halves x h high low is also =
     let lows : bits_of 64 (x % 2 ^ 64) ≡ bits_of 64 x = bits_of-low 0 64 x in
     let both : bits_of 128 x ≡ bits_of 64 (x / 2 ^ 64) ++ bits_of 64 x = bits_of-add 64 64 x in

@@ -1,5 +1,6 @@
 -- Bytes of numbers and of two lists one behind the other.
-use Rattle.std.proofs.Common.{◌≡◌, ℕ, zero, suc, ◌-◌, ◌*◌, ◌/◌, ◌%◌, ◌^◌, ◌≤◌, ◌<◌, true, cond, eqb, leb, ltb, List, [], ◌∷◌, length, get_or, refl, arith, inl, inr}
+use Rattle.std.proofs.Common.{◌≡◌, ℕ, zero, suc, ◌-◌, ◌*◌, ◌/◌, ◌%◌, ◌^◌, ◌≤◌, ◌<◌, true, cond, eqb, leb, ltb, List, []}
+use Rattle.std.proofs.Common.{◌∷◌, length, get_or, refl, arith, inl, inr}
 use Rattle.std.specs.Int.{w64, to_be_bytes}
 use Rattle.std.specs.Int.Bits.{bit_xor, xor_zero_l, xor_zero_r}
 use Rattle.std.proofs.Math.Nat.{pow-le-pow_right, div-eq_of_lt, zero-div}

@@ -12,12 +12,14 @@ use Rattle.aes_modes.proofs.Bytewise.{zero_bytes}
 pub front_of_same : (ws : List (List ℕ)) (b c front : List ℕ) → b ≡ c → IsFront ws b front → IsFront ws c front
 front_of_same ws b c front e is = λ y wa wb wc wd lt h. is y wa wb wc wd lt h ∙ ap (λ (x : List ℕ). after ws (with_last x y) 2) e
 
-front_of_like : (ws : List (List ℕ)) (b c front : List ℕ) → ((y : ℕ) → with_last b y ≡ with_last c y) → IsFront ws b front → IsFront ws c front
+front_of_like : (ws : List (List ℕ)) (b c front : List ℕ) → ((y : ℕ) → with_last b y ≡ with_last c y)
+    → IsFront ws b front → IsFront ws c front
 front_of_like ws b c front e is = λ y wa wb wc wd lt h. is y wa wb wc wd lt h ∙ ap (λ (x : List ℕ). after ws x 2) (e y)
 
 -- ---- GCM's counter blocks
 
-gcm_like : (nonce : List ℕ) (m n y : ℕ) → m / 256 ≡ n / 256 → with_last (Gcm.counter_block nonce m) y ≡ with_last (Gcm.counter_block nonce n) y
+gcm_like : (nonce : List ℕ) (m n y : ℕ) → m / 256 ≡ n / 256 → with_last (Gcm.counter_block nonce m) y
+    ≡ with_last (Gcm.counter_block nonce n) y
 unfolding with_last Gcm.counter_block
 gcm_like nonce m n y e =
     let a : m / 256 ^ 3 % 256 ≡ n / 256 ^ 3 % 256 = omega (arith, e) in
@@ -73,7 +75,8 @@ unfolding block_sum number_block
 counted_last z n = refl
 
 -- the number grew by one, and its last byte isn't 0
-pub ccm_serves : (ws : List (List ℕ)) (nonce zero_block block front : List ℕ) (i : ℕ) → length nonce ≤ 13 → zero_block ≡ Ccm.counter_block nonce 0
+pub ccm_serves : (ws : List (List ℕ)) (nonce zero_block block front : List ℕ) (i : ℕ) → length nonce ≤ 13 → zero_block
+    ≡ Ccm.counter_block nonce 0
     → block ≡ block_sum zero_block (number_block (i + 1))
     → IsFront ws (block_sum zero_block (number_block i)) front → (get_or block 15 0 ≡ 0 → ⊥) → IsFront ws block front
 ccm_serves ws nonce z block front i short zero is have some =

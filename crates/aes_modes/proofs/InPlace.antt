@@ -1,13 +1,14 @@
 -- A text masked where it stands, block by block, and what opening there leaves.
-use Rattle.std.proofs.Common.{◌≡◌, ℕ, ◌+◌, ◌-◌, ◌*◌, ◌≤◌, ◌<◌, min, List, ◌++◌, length, take, drop, length-append, length-drop, refl, sym, ap, ◌∙◌, append_assoc, arith, None}
+use Rattle.std.proofs.Common.{◌≡◌, ℕ, ◌+◌, ◌-◌, ◌*◌, ◌≤◌, ◌<◌, min, List, ◌++◌, length, take, drop, length-append}
+use Rattle.std.proofs.Common.{length-drop, refl, sym, ap, ◌∙◌, append_assoc, arith, None}
 use Rattle.std.proofs.lemmas.List.{take_at, drop_all, append-nil, take-append-drop, length-take-le}
 use Rattle.std.proofs.lemmas.Slice.{drop-append-drop}
 use Rattle.cipher_defs.specs.Aes.{cipher, block_sum}
 use Rattle.cipher_defs.specs.Blocks.{block_at, masked}
 use Rattle.cipher_defs.specs.Ccm
 use Rattle.aes_modes.proofs.Joined.{back_block}
-use Rattle.aes_modes.proofs.Masking.{masked_block}
-use Rattle.aes_modes.proofs.Unmasking.{masked_length, masked_twice, front_of, back_of}
+use Rattle.cipher_law.proofs.Masking.{masked_block}
+use Rattle.cipher_law.proofs.Unmasking.{masked_length, masked_twice, front_of, back_of}
 
 -- the first n bytes masked, and the others as they were
 abbrev pub masked_to : List (List ℕ) → (ℕ → List ℕ) → List ℕ → ℕ → List ℕ

@@ -6,6 +6,4 @@ mod Fronts
 mod InPlace
 mod Joined
 pub mod Linear
-pub mod Masking
 mod Sixteen
-pub mod Unmasking

@@ -10,7 +10,9 @@ digit b rest n lt is = (omega arith, omega arith)
 next_digit : (b rest n e : ℕ) → b < 256 → n / 2 ^ e ≡ b + rest * 256 → (n / 2 ^ e % 256 ≡ b) × (n / 2 ^ (e + 8) ≡ rest)
 next_digit b rest n e lt is = let p = digit b rest (n / 2 ^ e) lt is in (p.0, sym (shr-shr n e 8) ∙ p.1)
 
-bytes_16 : (b : ℕ → ℕ) (n : ℕ) → ((i : ℕ) → b i < 256) → n ≡ from_le_bytes w128 (b 0 ∷ b 1 ∷ b 2 ∷ b 3 ∷ b 4 ∷ b 5 ∷ b 6 ∷ b 7 ∷ b 8 ∷ b 9 ∷ b 10 ∷ b 11 ∷ b 12 ∷ b 13 ∷ b 14 ∷ b 15 ∷ [])
+bytes_16 : (b : ℕ → ℕ) (n : ℕ) → ((i : ℕ) → b i < 256) → n
+    ≡ from_le_bytes w128 (b 0 ∷ b 1 ∷ b 2 ∷ b 3 ∷ b 4 ∷ b 5 ∷ b 6 ∷ b 7 ∷ b 8 ∷ b 9 ∷ b 10 ∷ b 11 ∷ b 12 ∷ b 13 ∷ b 14 ∷
+    b 15 ∷ [])
     → to_le_bytes w128 n ≡ b 0 ∷ b 1 ∷ b 2 ∷ b 3 ∷ b 4 ∷ b 5 ∷ b 6 ∷ b 7 ∷ b 8 ∷ b 9 ∷ b 10 ∷ b 11 ∷ b 12 ∷ b 13 ∷ b 14 ∷ b 15 ∷ []
 bytes_16 b n small is =
     let r15 : ℕ = b 15 in
@@ -46,9 +48,12 @@ bytes_16 b n small is =
     let p13 = next_digit (b 13) r14 n 104 (small 13) p12.1 in
     let p14 = next_digit (b 14) r15 n 112 (small 14) p13.1 in
     let p15 = next_digit (b 15) 0 n 120 (small 15) (p14.1 ∙ omega arith) in
-    λ t. p0.0 t ∷ p1.0 t ∷ p2.0 t ∷ p3.0 t ∷ p4.0 t ∷ p5.0 t ∷ p6.0 t ∷ p7.0 t ∷ p8.0 t ∷ p9.0 t ∷ p10.0 t ∷ p11.0 t ∷ p12.0 t ∷ p13.0 t ∷ p14.0 t ∷ p15.0 t ∷ []
+    λ t. p0.0 t ∷ p1.0 t ∷ p2.0 t ∷ p3.0 t ∷ p4.0 t ∷ p5.0 t ∷ p6.0 t ∷ p7.0 t ∷ p8.0 t ∷ p9.0 t ∷ p10.0 t ∷ p11.0 t ∷
+    p12.0 t ∷ p13.0 t ∷ p14.0 t ∷ p15.0 t ∷ []
 
-written_16 : (bs : List ℕ) → length bs ≡ 16 → get_or bs 0 0 ∷ get_or bs 1 0 ∷ get_or bs 2 0 ∷ get_or bs 3 0 ∷ get_or bs 4 0 ∷ get_or bs 5 0 ∷ get_or bs 6 0 ∷ get_or bs 7 0 ∷ get_or bs 8 0 ∷ get_or bs 9 0 ∷ get_or bs 10 0 ∷ get_or bs 11 0 ∷ get_or bs 12 0 ∷ get_or bs 13 0 ∷ get_or bs 14 0 ∷ get_or bs 15 0 ∷ [] ≡ bs
+written_16 : (bs : List ℕ) → length bs ≡ 16 → get_or bs 0 0 ∷ get_or bs 1 0 ∷ get_or bs 2 0 ∷ get_or bs 3 0 ∷ get_or bs
+    4 0 ∷ get_or bs 5 0 ∷ get_or bs 6 0 ∷ get_or bs 7 0 ∷ get_or bs 8 0 ∷ get_or bs 9 0 ∷ get_or bs 10 0 ∷ get_or bs 11
+    0 ∷ get_or bs 12 0 ∷ get_or bs 13 0 ∷ get_or bs 14 0 ∷ get_or bs 15 0 ∷ [] ≡ bs
 written_16 [] l = absurd (omega arith)
 written_16 (b0 ∷ []) l = absurd (omega arith)
 written_16 (b0 ∷ b1 ∷ []) l = absurd (omega arith)
@@ -68,5 +73,6 @@ written_16 (b0 ∷ b1 ∷ b2 ∷ b3 ∷ b4 ∷ b5 ∷ b6 ∷ b7 ∷ b8 ∷ b9 �
 written_16 (b0 ∷ b1 ∷ b2 ∷ b3 ∷ b4 ∷ b5 ∷ b6 ∷ b7 ∷ b8 ∷ b9 ∷ b10 ∷ b11 ∷ b12 ∷ b13 ∷ b14 ∷ b15 ∷ []) l = refl
 written_16 (b0 ∷ b1 ∷ b2 ∷ b3 ∷ b4 ∷ b5 ∷ b6 ∷ b7 ∷ b8 ∷ b9 ∷ b10 ∷ b11 ∷ b12 ∷ b13 ∷ b14 ∷ b15 ∷ c ∷ bs) l = absurd (omega arith)
 
-pub le_bytes_16 : (bs : List ℕ) (n : ℕ) → length bs ≡ 16 → ((i : ℕ) → get_or bs i 0 < 256) → n ≡ from_le_bytes w128 bs → to_le_bytes w128 n ≡ bs
+pub le_bytes_16 : (bs : List ℕ) (n : ℕ) → length bs ≡ 16 → ((i : ℕ) → get_or bs i 0 < 256) → n ≡ from_le_bytes w128 bs
+    → to_le_bytes w128 n ≡ bs
 le_bytes_16 bs n l small is = bytes_16 (λ i. get_or bs i 0) n small is ∙ written_16 bs l

@@ -1,5 +1,6 @@
 //! CCM with a nonce of 7 to 13 bytes and a tag of 4, 6 .. 16 (SP 800-38C, with the formatting of its appendix A).
-ghost use Rattle.std.specs.Prelude.{◌≡◌, ◌<◌, ◌≤◌, ◌-◌, ◌*◌, ◌^◌, ◌↔◌, IsTrue, length, take, nat_le, ◌==◌, if◌then◌else◌, slice_index, ◌++◌, IfOk};
+ghost use Rattle.std.specs.Prelude.{◌≡◌, ◌<◌, ◌≤◌, ◌-◌, ◌*◌, ◌^◌, ◌↔◌, IsTrue, length, take, nat_le, ◌==◌};
+ghost use Rattle.std.specs.Prelude.{if◌then◌else◌, slice_index, ◌++◌, IfOk};
 ghost use Rattle.aes_modes.specs.Counters.{number_block};
 ghost use Rattle.aes_modes.specs.InPlace.{OpensInPlace};
 ghost use Rattle.cipher_defs.specs.Blocks.{big_byte};

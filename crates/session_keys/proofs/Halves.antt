@@ -1,5 +1,6 @@
 -- A key of 128 bits as the first half of what is derived, comparisons, and lists put together.
-use Rattle.std.proofs.Common.{◌≡◌, ℕ, ◌-◌, Bool, true, false, ◌↔◌, IsTrue, List, ◌++◌, append_assoc, length, take, drop, replicate, length-drop, ◌==◌, refl, sym, arith}
+use Rattle.std.proofs.Common.{◌≡◌, ℕ, ◌-◌, Bool, true, false, ◌↔◌, IsTrue, List, ◌++◌, append_assoc, length, take, drop}
+use Rattle.std.proofs.Common.{replicate, length-drop, ◌==◌, refl, sym, arith}
 use Rattle.std.proofs.lemmas.List.{take_at, take_all, length-take-le}
 use Rattle.std.proofs.lemmas.Bool.Decides.{nat_tests}
 use Rattle.std.proofs.lemmas.Slice.Eq.{bytes_eq-Decides}

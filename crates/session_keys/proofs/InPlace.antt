@@ -1,13 +1,15 @@
 -- A frame sealed and unsealed where it stands: a header of 52 bytes, and what stands behind it.
-use Rattle.std.proofs.Common.{◌≡◌, ℕ, ◌-◌, ◌≤◌, Bool, true, false, List, [], ◌++◌, append_assoc, length, take, drop, length-append, length-drop, refl, sym, ap, ◌∙◌, arith, None, Ok, Err}
-use Rattle.std.proofs.lemmas.List.{append-nil, take_at, take_all, drop_at, drop_all, drop-drop, drop-take, take-append-le, drop-append-le, take-append-drop, length-take-le}
+use Rattle.std.proofs.Common.{◌≡◌, ℕ, ◌-◌, ◌≤◌, Bool, true, false, List, [], ◌++◌, append_assoc, length, take, drop}
+use Rattle.std.proofs.Common.{length-append, length-drop, refl, sym, ap, ◌∙◌, arith, None, Ok, Err}
+use Rattle.std.proofs.lemmas.List.{append-nil, take_at, take_all, drop_at, drop_all, drop-drop, drop-take}
+use Rattle.std.proofs.lemmas.List.{take-append-le, drop-append-le, take-append-drop, length-take-le}
 use Rattle.std.proofs.lemmas.Slice.Eq.{bytes_eq-Decides}
 use Rattle.std.specs.Str.{bytes_eq}
 use borrow.Rule.Slice.PartMut.{put_mid}
 use Rattle.cipher_defs.specs.Gcm
 use Rattle.cipher_defs.specs.Ccm
 use Rattle.aes_modes.specs.InPlace.{OpensInPlace}
-use Rattle.aes_modes.proofs.Unmasking.{front_of, back_of}
+use Rattle.cipher_law.proofs.Unmasking.{front_of, back_of}
 use Rattle.wire_defs.specs.Places.{bytes_at}
 use Rattle.session_defs.specs.declared.error.SealError.TheVariants.{BadTag}
 use Rattle.session_defs.specs.Sealing.{words_of, is_gcm, ciphertext, tag_of, frame_fault, shown, tag_is_right, unsealed_by}

@@ -1,6 +1,3 @@
-mod Frames
 mod Halves
 mod InPlace
-mod Opening
 mod Repeats
-mod Verifying

@@ -3,7 +3,7 @@ use Rattle.std.proofs.Common.{◌≡◌, ℕ, ◌+◌, ◌≤◌, ◌<◌, ◌^�
 use Rattle.session_defs.specs.Nonces.{NonceState, nonce_of}
 use Rattle.session_keys.specs.declared.nonces.Spent.{Spent}
 use Rattle.session_keys.specs.Giving.{GivesNonce, Calls, NoCall, OneMore}
-use Rattle.session_keys.proofs.Opening.{nonces_differ}
+use Rattle.sealing_law.proofs.Opening.{nonces_differ}
 
 -- the same channel, and a counter that is no lower
 record Onward (s t : NonceState) : Type 0 where

@@ -8,7 +8,7 @@ mod sealing;
 mod signing;
 
 pub use derivation::{bind, derive};
-pub use laws::{distinct_nonces_law, nonces_once_law, sealed_opens_law, signed_verifies_law};
+pub use laws::nonces_once_law;
 pub use nonces::{Nonces, Spent};
 pub use sealing::{seal, unseal, unseal_in_place};
 pub use session_defs::{Chosen, Keys, SealError, Signer};

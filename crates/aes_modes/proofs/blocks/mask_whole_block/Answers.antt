@@ -1,5 +1,5 @@
 use Rattle.std.proofs.Common.{◌≡◌, ◌+◌, ◌-◌, ◌*◌, arith}
-use Rattle.aes_modes.proofs.Masking.{whole_put}
+use Rattle.cipher_law.proofs.Masking.{whole_put}
 use Rattle.aes_modes.proofs.blocks.mask_whole_block.Goals as goal
 
 pub returns : goal.returns

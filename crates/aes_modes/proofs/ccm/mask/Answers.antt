@@ -23,7 +23,8 @@ loop-i-preserved c = record {
       c.encrypt_behind.result c.loop-i.i (omega arith) c.loop-i.invariant.done
       (c.encrypt_behind.ensures ∙ ap (λ (x : List ℕ). cipher c.args.aes.now x) c.counted-block.ensures
       ∙ ap (λ (x : List ℕ). cipher c.args.aes.now (block_sum x (number_block (c.loop-i.i + 1)))) c.counter_block_of-zero.ensures
-      ∙ ap (λ (x : List ℕ). cipher c.args.aes.now x) (counted_is (c.loop-i.i + 1) c.args.nonce.now c.requires.long c.requires.short (omega arith)))
+      ∙ ap (λ (x : List ℕ). cipher c.args.aes.now x) (counted_is (c.loop-i.i + 1) c.args.nonce.now c.requires.long
+      c.requires.short (omega arith)))
       c.mask_block.ensures;
   front = front_of_same _ _ _ _ c.counted-block.ensures c.front_at-front.ensures;
 }

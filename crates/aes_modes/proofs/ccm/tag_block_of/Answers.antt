@@ -1,5 +1,5 @@
 use Rattle.cipher_defs.specs.Ccm.{counter_block, mac}
-use Rattle.aes_modes.proofs.Masking.{masked_front}
+use Rattle.cipher_law.proofs.Masking.{masked_front}
 use Rattle.aes_modes.proofs.ccm.tag_block_of.Goals as goal
 
 pub returns : goal.returns

@@ -2,7 +2,7 @@ use Rattle.std.proofs.Common.{ℕ, ◌+◌, ◌∙◌, List, length, sym, ap, ar
 use Rattle.std.proofs.lemmas.Grind.{common_steps}
 use Rattle.cipher_defs.specs.Gcm.{counter_block, ciphertext}
 use Rattle.aes_modes.proofs.InPlace.{written}
-use Rattle.aes_modes.proofs.Unmasking.{masked_length}
+use Rattle.cipher_law.proofs.Unmasking.{masked_length}
 use Rattle.aes_modes.proofs.gcm.ciphertext_of.Goals as goal
 
 pub returns-clause-text : goal.returns-clause-text

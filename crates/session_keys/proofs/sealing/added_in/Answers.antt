@@ -1,5 +1,5 @@
 use Rattle.std.proofs.Common.{◌∙◌}
-use Rattle.session_keys.proofs.Frames.{added_in}
+use Rattle.sealing_law.proofs.Frames.{added_in}
 use Rattle.session_keys.proofs.sealing.added_in.Goals as goal
 
 pub returns : goal.returns

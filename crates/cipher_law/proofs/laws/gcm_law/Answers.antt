@@ -1,9 +1,9 @@
 use Rattle.std.proofs.Common.{◌≡◌, ℕ, ◌+◌, ◌-◌, List, ◌++◌, length, take, drop, refl, sym, ap, ◌∙◌, length-append, arith}
 use Rattle.std.proofs.lemmas.List.{take-append-drop}
 use Rattle.cipher_defs.specs.Gcm.{sealed, counter_block, ciphertext, plaintext, tag_of, text_part}
-use Rattle.aes_modes.proofs.Masking.{sum_length}
-use Rattle.aes_modes.proofs.Unmasking.{masked_twice, front_of, back_of}
-use Rattle.aes_modes.proofs.laws.gcm_law.Goals as goal
+use Rattle.cipher_law.proofs.Masking.{sum_length}
+use Rattle.cipher_law.proofs.Unmasking.{masked_twice, front_of, back_of}
+use Rattle.cipher_law.proofs.laws.gcm_law.Goals as goal
 
 pub returns-clause-again : goal.returns-clause-again
 unfolding sealed

@@ -1,11 +1,13 @@
 -- What is signed verifies.
-use Rattle.std.proofs.Common.{◌≡◌, ℕ, zero, suc, ◌+◌, ◌%◌, ◌≤◌, ◌==◌, Bool, true, false, if◌then◌else◌, List, [], ◌∷◌, ◌++◌, append_assoc, length, take, drop, replicate, length-append, length-drop, refl, sym, ap, ◌∙◌, arith}
+use Rattle.std.proofs.Common.{◌≡◌, ℕ, zero, suc, ◌+◌, ◌%◌, ◌≤◌, ◌==◌, Bool, true, false, if◌then◌else◌, List, [], ◌∷◌}
+use Rattle.std.proofs.Common.{◌++◌, append_assoc, length, take, drop, replicate, length-append, length-drop, refl, sym}
+use Rattle.std.proofs.Common.{ap, ◌∙◌, arith}
 use Rattle.std.proofs.lemmas.List.{take_at, drop_at, length-take-le, take-append-drop}
 use Rattle.std.proofs.lemmas.Slice.Eq.{bytes_eq-Decides}
 use Rattle.cipher_defs.specs.Aes.{schedule, cipher}
 use Rattle.cipher_defs.specs.Cmac.{cmac}
 use Rattle.cipher_defs.specs.Gcm.{gmac}
-use Rattle.aes_modes.proofs.Masking.{sum_length}
+use Rattle.cipher_law.proofs.Masking.{sum_length}
 use Rattle.wire_defs.specs.Places.{le, number_of, bytes_at}
 use Rattle.wire_defs.proofs.Numbers.{bytes_at-behind}
 use Rattle.session_defs.specs.declared.material.Signer.{Signer}

@@ -1,8 +1,8 @@
 use Rattle.std.proofs.Common.{◌≡◌, ℕ, ◌+◌, ◌-◌, List, ◌++◌, length, take, drop, refl, sym, ap, ◌∙◌, length-append, arith}
 use Rattle.std.proofs.lemmas.List.{take-append-drop}
 use Rattle.cipher_defs.specs.Ccm.{sealed, counter_block, ciphertext, plaintext, mac, tag_of, text_part, tag_part}
-use Rattle.aes_modes.proofs.Unmasking.{masked_length, masked_twice, front_of, back_of}
-use Rattle.aes_modes.proofs.laws.ccm_law.Goals as goal
+use Rattle.cipher_law.proofs.Unmasking.{masked_length, masked_twice, front_of, back_of}
+use Rattle.cipher_law.proofs.laws.ccm_law.Goals as goal
 
 pub returns-clause-again : goal.returns-clause-again
 unfolding sealed

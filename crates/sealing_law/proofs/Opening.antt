@@ -1,5 +1,7 @@
 -- What is sealed opens, what is signed verifies, and nonces differ.
-use Rattle.std.proofs.Common.{◌≡◌, ℕ, ◌+◌, ◌≤◌, ◌<◌, ◌^◌, ◌==◌, nat_le, nat_lt, true, false, List, [], ◌++◌, append_assoc, length, take, drop, replicate, length-append, refl, sym, ap, ◌∙◌, subst, arith, Ok}
+use Rattle.std.proofs.Common.{◌≡◌, ℕ, ◌+◌, ◌≤◌, ◌<◌, ◌^◌, ◌==◌, nat_le, nat_lt, true, false, List, [], ◌++◌}
+use Rattle.std.proofs.Common.{append_assoc, length, take, drop, replicate, length-append, refl, sym, ap, ◌∙◌, subst}
+use Rattle.std.proofs.Common.{arith, Ok}
 use Rattle.std.proofs.lemmas.List.{take_at, drop_at}
 use Rattle.std.proofs.lemmas.Bool.Decides.{nat_tests}
 use Rattle.std.proofs.lemmas.Slice.Eq.{bytes_eq-Decides}
@@ -8,7 +10,7 @@ use Rattle.wire_defs.specs.Places.{le, number, number_of, bytes_at}
 use Rattle.wire_defs.proofs.Numbers.{length-le, number_of-le, bytes_at-behind}
 use Rattle.session_defs.specs.Nonces.{NonceState, nonce_of}
 use Rattle.session_defs.specs.Sealing.{protocol, added_of, ciphertext, tag_of, sealed_by, is_sealed, frame_fault, tag_is_right, unsealed_by}
-use Rattle.session_keys.proofs.Frames.{ciphertext_length, tag_length, hides_twice}
+use Rattle.sealing_law.proofs.Frames.{ciphertext_length, tag_length, hides_twice}
 
 same_bytes : (a : List ℕ) → bytes_eq a a ≡ true
 same_bytes a = (bytes_eq-Decides a a).1 refl

@@ -1,11 +1,12 @@
 -- A sealed frame, part by part.
-use Rattle.std.proofs.Common.{◌≡◌, ℕ, ◌+◌, ◌-◌, ◌≤◌, ◌<◌, ◌^◌, Bool, true, false, if◌then◌else◌, List, length, take, drop, refl, sym, subst, arith}
+use Rattle.std.proofs.Common.{◌≡◌, ℕ, ◌+◌, ◌-◌, ◌≤◌, ◌<◌, ◌^◌, Bool, true, false, if◌then◌else◌, List, length, take}
+use Rattle.std.proofs.Common.{drop, refl, sym, subst, arith}
 use Rattle.std.proofs.lemmas.List.{length-take-le}
 use Rattle.cipher_defs.specs.Gcm
 use Rattle.cipher_defs.specs.Ccm
 use Rattle.cipher_defs.specs.Ccm.{IsFit}
-use Rattle.aes_modes.proofs.Masking.{sum_length}
-use Rattle.aes_modes.proofs.Unmasking.{masked_length, masked_twice}
+use Rattle.cipher_law.proofs.Masking.{sum_length}
+use Rattle.cipher_law.proofs.Unmasking.{masked_length, masked_twice}
 use Rattle.wire_defs.specs.Places.{bytes_at}
 use Rattle.session_defs.specs.Sealing.{words_of, is_gcm, ciphertext, tag_of}
 

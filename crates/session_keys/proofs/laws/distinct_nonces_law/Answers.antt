@@ -1,5 +1,0 @@
-use Rattle.session_keys.proofs.Opening.{nonces_differ}
-use Rattle.session_keys.proofs.laws.distinct_nonces_law.Goals as goal
-
-pub returns : goal.returns
-returns c = λ a b fa fb ca cb e. nonces_differ a b fa fb ca cb e
