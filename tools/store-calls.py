@@ -25,6 +25,8 @@ changes nothing.
     mark NUMBER marked|kept = ok
     try make .. | write .. | rename .. = ok    as the call, but given up when its memory is taken: nothing changes
     gone NUMBER back|away = ok                 a file or an empty directory is taken out, and put back or dropped
+    coded PATH = NUMBER                        makes a file; the path is hexadecimal digits
+    holds NUMBER AT BYTES = same | other       whether the file holds these bytes there
     used = BYTES        next = NUMBER        room ROOM = ok
     files = COUNT#SUM                          no directories, in byte order of paths; the SUM is over, for each, its path's UTF-8 bytes,
                                                a zero byte, its length in 8 bytes and its bytes, one after the other
@@ -217,6 +219,78 @@ class Store:
     def all_files(self):
         """(path, bytes) of each file, in byte order of paths."""
         return sorted((file.path.encode(), file.bytes) for file in self.files.values() if not file.directory)
+
+
+# ---- calls with answers that were worked by hand
+
+WORKED = r"""
+# Names (MS-SMB2 3.3.5.9, MS-FSCC 2.1.5). A path that holds a space or a control character is coded.
+new 0 = ok
+make d dir 0 1 = 1
+make a file 0 1 = 2
+make A file 0 1 = c0000035
+make - file 0 1 = c0000035
+coded 6220632e64 = 3
+make ... file 0 1 = 4
+make é file 0 1 = 5
+make É file 0 1 = 6
+coded 787f = 7
+coded f0908080 = 8
+make d\x file 0 1 = 9
+make D\X file 0 1 = c0000035
+make none\x file 0 1 = c000003a
+make a\x file 0 1 = c000003a
+make \x file 0 1 = c000000d
+make \x* file 0 1 = c000000d
+make \ file 0 1 = c000000d
+make . file 0 1 = c0000033
+make .. file 0 1 = c0000033
+make d\.. file 0 1 = c0000033
+make d\\x file 0 1 = c0000033
+make d\ file 0 1 = c0000033
+make " file 0 1 = c0000033
+make x* file 0 1 = c0000033
+make x/y file 0 1 = c0000033
+make x:y file 0 1 = c0000033
+make < file 0 1 = c0000033
+make > file 0 1 = c0000033
+make x? file 0 1 = c0000033
+make | file 0 1 = c0000033
+coded 1f = c0000033
+coded 7800 = c0000033
+make none\x* file 0 1 = c0000033
+# Renames by kind (MS-FSA 2.1.5.15.11).
+new 0 = ok
+make d dir 0 1 = 1
+make d\x file 0 1 = 2
+make a file 0 1 = 3
+make e dir 0 1 = 4
+rename 0 r keep = c0000022
+rename 3 \a keep = c000000d
+rename 3 a* keep = c0000033
+rename 1 d\e replace = c000000d
+rename 1 D\x\y replace = c000000d
+rename 3 none\a replace = c000003a
+rename 3 a\a replace = c000003a
+rename 3 d\X keep = c0000035
+rename 3 A keep = c0000035
+rename 3 - keep = c0000035
+rename 3 e replace = c0000022
+rename 3 - replace = c0000022
+rename 1 e replace = c0000022
+rename 3 A replace = ok
+rename 3 d\X replace = ok
+rename 1 e\d keep = ok
+path 3 = e\d\X
+find d = none
+remove 4 = c0000101
+# Whether a write changes anything.
+new 10 = ok
+make a file 0 1 = 1
+holds 1 0 - = same
+holds 1 0 78 = other
+# Calls at random.
+""".strip()
 
 
 # ---- calls at random
@@ -473,6 +547,7 @@ def main():
     caller = Caller(seed, 120000)
     lines = ["new 120000 = ok", *(caller.line() for _ in range(count - 2)), "files = " + caller.call_files()[1]]
     print(f"# Written by tools/{' '.join(['store-calls.py', *sys.argv[1:]])}.")
+    print(WORKED)
     for line in lines:
         if line.split(" ")[0] not in left_out:
             print(line)

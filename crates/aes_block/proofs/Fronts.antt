@@ -130,7 +130,8 @@ sum_last : (ws : List (List ℕ)) (block : List ℕ) (a b c d e y : ℕ) → sta
     → state a b c e ≡ block_sum (with_last block y) (round_key ws 0)
 unfolding state round_key block_sum with_last
 sum_last ws block a b c d e y is q0 q1 q2 q3 =
-    let at : (k : ℕ) → get_or (state a b c d) k 0 ≡ get_or (block_sum block (round_key ws 0)) k 0 = λ k. ap (λ (l : List ℕ). get_or l k 0) is in
+    let at : (k : ℕ) → get_or (state a b c d) k 0 ≡ get_or (block_sum block (round_key ws 0)) k 0 = λ k.
+    ap (λ (l : List ℕ). get_or l k 0) is in
     let p0 = at 0 in let p1 = at 1 in let p2 = at 2 in let p3 = at 3 in
     let p4 = at 4 in let p5 = at 5 in let p6 = at 6 in let p7 = at 7 in
     let p8 = at 8 in let p9 = at 9 in let p10 = at 10 in let p11 = at 11 in
@@ -176,7 +177,8 @@ front_is ws block ja jb jc jd sa sb sc sd ka kb kc kd la lb lc ld v b c d ra rb 
     let e3 : row3 e ≡ x = omega (arith, small) in
     let first = round_is sa sb sc e ka kb kc kd h.a b c d (h.first sa sb sc e ka e3 pv) (same2 sb sc sd sa e kb b e2 pb)
     (same1 sc sd sa sb e kc c e1 pc) (same0 sd sa sb sc e kd d e0 pd) in
-    let one = one_round ws (with_last block y) sa sb sc e ka kb kc kd h.a b c d (sum_last ws block sa sb sc sd e y sum e0 e1 e2 e3) key1 first in
+    let one = one_round ws (with_last block y) sa sb sc e ka kb kc kd h.a b c d
+    (sum_last ws block sa sb sc sd e y sum e0 e1 e2 e3) key1 first in
     let second = round_is h.a b c d la lb lc ld wa wb wc wd (h.at_a h.a b c d la refl qa) (h.at_b b c d h.a lb refl qb)
     (h.at_c c d h.a b lc refl qc) (h.at_d d h.a b c ld refl qd) in
     two_rounds ws (with_last block y) h.a b c d la lb lc ld wa wb wc wd one key2 second

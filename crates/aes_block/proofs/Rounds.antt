@@ -1,5 +1,6 @@
 -- A state's columns through a sum and a round.
-use Rattle.std.proofs.Common.{◌≡◌, ℕ, zero, suc, ◌+◌, ◌-◌, ◌*◌, ◌/◌, ◌%◌, ◌<◌, List, ◌∷◌, [], ◌++◌, ◌⊎◌, inl, inr, get_or, length, refl, sym, ap, ◌∙◌, arith}
+use Rattle.std.proofs.Common.{◌≡◌, ℕ, zero, suc, ◌+◌, ◌-◌, ◌*◌, ◌/◌, ◌%◌, ◌<◌, List, ◌∷◌, [], ◌++◌, ◌⊎◌, inl, inr}
+use Rattle.std.proofs.Common.{get_or, length, refl, sym, ap, ◌∙◌, arith}
 use Rattle.std.proofs.lemmas.Nat.{le_bytes_4, le_bytes_8, shr-shr}
 use Rattle.std.specs.Int.{w32, w64, from_le_bytes, to_le_bytes}
 use Rattle.std.specs.Int.Bits.{bit_xor}
@@ -7,7 +8,8 @@ use Rattle.cipher_defs.specs.Aes.{four, sixteen, word, replaced, mixed_columns, 
 use Rattle.aes_block.specs.Columns.{rows, state, IsMixedColumn, IsLastColumn}
 use Rattle.aes_block.proofs.Sums.{row0-xor, row1-xor, row2-xor, row3-xor}
 
-pub sum_is : (a b c d e f g h : ℕ) → state (bit_xor a e) (bit_xor b f) (bit_xor c g) (bit_xor d h) ≡ block_sum (state a b c d) (state e f g h)
+pub sum_is : (a b c d e f g h : ℕ) → state (bit_xor a e) (bit_xor b f) (bit_xor c g) (bit_xor d h)
+    ≡ block_sum (state a b c d) (state e f g h)
 unfolding state block_sum
 sum_is a b c d e f g h =
     let p0 = row0-xor a e in let p1 = row1-xor a e in let p2 = row2-xor a e in let p3 = row3-xor a e in
@@ -17,7 +19,8 @@ sum_is a b c d e f g h =
     λ t. p0 t ∷ p1 t ∷ p2 t ∷ p3 t ∷ q0 t ∷ q1 t ∷ q2 t ∷ q3 t ∷ r0 t ∷ r1 t ∷ r2 t ∷ r3 t ∷ s0 t ∷ s1 t ∷ s2 t ∷ s3 t ∷ []
 
 -- the columns of a round's key
-pub key_is : (ws : List (List ℕ)) (r a b c d : ℕ) → rows a ≡ four (λ k. get_or (word ws (4 * r)) k 0) → rows b ≡ four (λ k. get_or (word ws (4 * r + 1)) k 0)
+pub key_is : (ws : List (List ℕ)) (r a b c d : ℕ) → rows a ≡ four (λ k. get_or (word ws (4 * r)) k 0) → rows b
+    ≡ four (λ k. get_or (word ws (4 * r + 1)) k 0)
     → rows c ≡ four (λ k. get_or (word ws (4 * r + 2)) k 0) → rows d ≡ four (λ k. get_or (word ws (4 * r + 3)) k 0)
     → state a b c d ≡ round_key ws r
 unfolding state round_key
@@ -34,7 +37,8 @@ four_small p q r s a b c d (suc (suc (suc zero))) = d
 four_small p q r s a b c d (suc (suc (suc (suc i)))) = omega arith
 
 -- the rows of a word that was read from four bytes
-pub rows_read : (p q r s n : ℕ) → p < 256 → q < 256 → r < 256 → s < 256 → n ≡ from_le_bytes w32 (p ∷ q ∷ r ∷ s ∷ []) → rows n ≡ p ∷ q ∷ r ∷ s ∷ []
+pub rows_read : (p q r s n : ℕ) → p < 256 → q < 256 → r < 256 → s < 256 → n ≡ from_le_bytes w32 (p ∷ q ∷ r ∷ s ∷ [])
+    → rows n ≡ p ∷ q ∷ r ∷ s ∷ []
 rows_read p q r s n a b c d is = le_bytes_4 (p ∷ q ∷ r ∷ s ∷ []) n refl (four_small p q r s a b c d) is
 
 -- eight bytes are the rows of two columns
@@ -77,13 +81,16 @@ bytes_small p q r s t u v w a b c d e f g h (suc (suc (suc (suc (suc (suc (suc z
 bytes_small p q r s t u v w a b c d e f g h (suc (suc (suc (suc (suc (suc (suc (suc i)))))))) = omega arith
 
 half_read : (p q r s t u v w n : ℕ) → p < 256 → q < 256 → r < 256 → s < 256 → t < 256 → u < 256 → v < 256 → w < 256
-    → n ≡ from_le_bytes w64 (p ∷ q ∷ r ∷ s ∷ t ∷ u ∷ v ∷ w ∷ []) → rows (n % 4294967296) ++ rows (n / 4294967296) ≡ p ∷ q ∷ r ∷ s ∷ t ∷ u ∷ v ∷ w ∷ []
+    → n ≡ from_le_bytes w64 (p ∷ q ∷ r ∷ s ∷ t ∷ u ∷ v ∷ w ∷ []) → rows (n % 4294967296) ++ rows (n / 4294967296)
+    ≡ p ∷ q ∷ r ∷ s ∷ t ∷ u ∷ v ∷ w ∷ []
 half_read p q r s t u v w n a b c d e f g h is = rows_split n ∙ le_bytes_8 (p ∷ q ∷ r ∷ s ∷ t ∷ u ∷ v ∷ w ∷ []) n refl
     (bytes_small p q r s t u v w a b c d e f g h) is
 
 pub columns_are : (s : List ℕ) (left right : ℕ) → ((i : ℕ) → get_or s i 0 < 256)
-    → left ≡ from_le_bytes w64 (get_or s 0 0 ∷ get_or s 1 0 ∷ get_or s 2 0 ∷ get_or s 3 0 ∷ get_or s 4 0 ∷ get_or s 5 0 ∷ get_or s 6 0 ∷ get_or s 7 0 ∷ [])
-    → right ≡ from_le_bytes w64 (get_or s 8 0 ∷ get_or s 9 0 ∷ get_or s 10 0 ∷ get_or s 11 0 ∷ get_or s 12 0 ∷ get_or s 13 0 ∷ get_or s 14 0 ∷ get_or s 15 0 ∷ [])
+    → left ≡ from_le_bytes w64 (get_or s 0 0 ∷ get_or s 1 0 ∷ get_or s 2 0 ∷ get_or s 3 0 ∷ get_or s 4 0 ∷ get_or s 5 0
+    ∷ get_or s 6 0 ∷ get_or s 7 0 ∷ [])
+    → right ≡ from_le_bytes w64 (get_or s 8 0 ∷ get_or s 9 0 ∷ get_or s 10 0 ∷ get_or s 11 0 ∷ get_or s 12 0 ∷ get_or s
+    13 0 ∷ get_or s 14 0 ∷ get_or s 15 0 ∷ [])
     → state (left % 4294967296) (left / 4294967296) (right % 4294967296) (right / 4294967296) ≡ sixteen (λ k. get_or s k 0)
 unfolding state
 columns_are s left right small p q =
@@ -91,17 +98,21 @@ columns_are s left right small p q =
     let second = half_read _ _ _ _ _ _ _ _ right (small 8) (small 9) (small 10) (small 11) (small 12) (small 13) (small 14) (small 15) q in
     λ i. first i ++ second i
 
-pub round_is : (a b c d ka kb kc kd w x y z : ℕ) → IsMixedColumn a b c d ka w → IsMixedColumn b c d a kb x → IsMixedColumn c d a b kc y → IsMixedColumn d a b c kd z
+pub round_is : (a b c d ka kb kc kd w x y z : ℕ) → IsMixedColumn a b c d ka w → IsMixedColumn b c d a kb x
+    → IsMixedColumn c d a b kc y → IsMixedColumn d a b c kd z
     → state w x y z ≡ block_sum (mixed_columns (replaced (state a b c d))) (state ka kb kc kd)
 unfolding state replaced mixed_columns block_sum
 round_is a b c d ka kb kc kd w x y z p q r s =
-    λ t. p.at0 t ∷ p.at1 t ∷ p.at2 t ∷ p.at3 t ∷ q.at0 t ∷ q.at1 t ∷ q.at2 t ∷ q.at3 t ∷ r.at0 t ∷ r.at1 t ∷ r.at2 t ∷ r.at3 t ∷ s.at0 t ∷ s.at1 t ∷ s.at2 t ∷ s.at3 t ∷ []
+    λ t. p.at0 t ∷ p.at1 t ∷ p.at2 t ∷ p.at3 t ∷ q.at0 t ∷ q.at1 t ∷ q.at2 t ∷ q.at3 t ∷ r.at0 t ∷ r.at1 t ∷ r.at2 t ∷
+    r.at3 t ∷ s.at0 t ∷ s.at1 t ∷ s.at2 t ∷ s.at3 t ∷ []
 
-pub last_is : (a b c d ka kb kc kd w x y z : ℕ) → IsLastColumn a b c d ka w → IsLastColumn b c d a kb x → IsLastColumn c d a b kc y → IsLastColumn d a b c kd z
+pub last_is : (a b c d ka kb kc kd w x y z : ℕ) → IsLastColumn a b c d ka w → IsLastColumn b c d a kb x
+    → IsLastColumn c d a b kc y → IsLastColumn d a b c kd z
     → state w x y z ≡ block_sum (replaced (state a b c d)) (state ka kb kc kd)
 unfolding state replaced block_sum
 last_is a b c d ka kb kc kd w x y z p q r s =
-    λ t. p.at0 t ∷ p.at1 t ∷ p.at2 t ∷ p.at3 t ∷ q.at0 t ∷ q.at1 t ∷ q.at2 t ∷ q.at3 t ∷ r.at0 t ∷ r.at1 t ∷ r.at2 t ∷ r.at3 t ∷ s.at0 t ∷ s.at1 t ∷ s.at2 t ∷ s.at3 t ∷ []
+    λ t. p.at0 t ∷ p.at1 t ∷ p.at2 t ∷ p.at3 t ∷ q.at0 t ∷ q.at1 t ∷ q.at2 t ∷ q.at3 t ∷ r.at0 t ∷ r.at1 t ∷ r.at2 t ∷
+    r.at3 t ∷ s.at0 t ∷ s.at1 t ∷ s.at2 t ∷ s.at3 t ∷ []
 
 -- the first sixteen bytes of a block are all that a sum takes
 pub same_sum : (s t : List ℕ) → block_sum (sixteen (λ k. get_or s k 0)) t ≡ block_sum s t

@@ -70,16 +70,20 @@ unfolding all_below sbox
 test7 = refl
 
 pub entry0 : (i : ℕ) → i < 256 → HasRows (entry 0 i) (doubled (sbox i)) (sbox i) (sbox i) (tripled (sbox i))
-entry0 i lt = rows_told _ _ _ _ _ (at_below (λ i. has_rows (entry 0 i) (doubled (sbox i)) (sbox i) (sbox i) (tripled (sbox i))) 256 i test0 lt)
+entry0 i lt = rows_told _ _ _ _ _
+    (at_below (λ i. has_rows (entry 0 i) (doubled (sbox i)) (sbox i) (sbox i) (tripled (sbox i))) 256 i test0 lt)
 
 pub entry1 : (i : ℕ) → i < 256 → HasRows (entry 1 i) (tripled (sbox i)) (doubled (sbox i)) (sbox i) (sbox i)
-entry1 i lt = rows_told _ _ _ _ _ (at_below (λ i. has_rows (entry 1 i) (tripled (sbox i)) (doubled (sbox i)) (sbox i) (sbox i)) 256 i test1 lt)
+entry1 i lt = rows_told _ _ _ _ _ (at_below (λ i. has_rows (entry 1 i) (tripled (sbox i)) (doubled (sbox i)) (sbox i)
+    (sbox i)) 256 i test1 lt)
 
 pub entry2 : (i : ℕ) → i < 256 → HasRows (entry 2 i) (sbox i) (tripled (sbox i)) (doubled (sbox i)) (sbox i)
-entry2 i lt = rows_told _ _ _ _ _ (at_below (λ i. has_rows (entry 2 i) (sbox i) (tripled (sbox i)) (doubled (sbox i)) (sbox i)) 256 i test2 lt)
+entry2 i lt = rows_told _ _ _ _ _ (at_below (λ i. has_rows (entry 2 i) (sbox i) (tripled (sbox i)) (doubled (sbox i))
+    (sbox i)) 256 i test2 lt)
 
 pub entry3 : (i : ℕ) → i < 256 → HasRows (entry 3 i) (sbox i) (sbox i) (tripled (sbox i)) (doubled (sbox i))
-entry3 i lt = rows_told _ _ _ _ _ (at_below (λ i. has_rows (entry 3 i) (sbox i) (sbox i) (tripled (sbox i)) (doubled (sbox i))) 256 i test3 lt)
+entry3 i lt = rows_told _ _ _ _ _
+    (at_below (λ i. has_rows (entry 3 i) (sbox i) (sbox i) (tripled (sbox i)) (doubled (sbox i))) 256 i test3 lt)
 
 pub entry4 : (i : ℕ) → i < 256 → HasRows (entry 4 i) (sbox i) 0 0 0
 entry4 i lt = rows_told _ _ _ _ _ (at_below (λ i. has_rows (entry 4 i) (sbox i) 0 0 0) 256 i test4 lt)

@@ -12,6 +12,3 @@ mod tables;
 pub use cipher::Aes;
 pub use front::Front;
 pub use state::block_sum_of;
-
-#[cfg(test)]
-mod tests;

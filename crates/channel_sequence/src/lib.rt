@@ -5,6 +5,3 @@
 mod seen;
 
 pub use seen::{Offered, Seen};
-
-#[cfg(test)]
-mod tests;

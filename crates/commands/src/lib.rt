@@ -9,6 +9,3 @@ pub use command_values::{
 pub use command_writing::{
     Unjoined, WriteError, body_of, elements_bytes, join_messages, joined_law, reply_body,
 };
-
-#[cfg(test)]
-mod tests;

@@ -1,7 +1,8 @@
-//! Disks that fail: files that refuse a call, and a journal on a disk of which each call fails in turn.
+//! Tests of disks, sources and sinks. They stand in a crate of their own, so that the crate that they call isn't proved a
+//! second time for them.
 #![tactic(auto)]
 
 #[cfg(test)]
 mod files;
 #[cfg(test)]
-mod recovery;
+mod outside;

@@ -6,6 +6,3 @@ mod pattern;
 
 pub use names::{key_of, path_form, units};
 pub use pattern::accepts;
-
-#[cfg(test)]
-mod tests;

@@ -6,6 +6,3 @@ mod slots;
 
 pub use exchange_defs::values::Kept;
 pub use slots::Slots;
-
-#[cfg(test)]
-mod tests;

@@ -13,6 +13,3 @@ pub use derivation::kdf;
 pub use keyed_hash::{hmac_md5, hmac_sha256};
 pub use message_digest::md4;
 pub use stream_cipher::Rc4;
-
-#[cfg(test)]
-mod tests;

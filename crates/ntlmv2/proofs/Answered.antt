@@ -1,5 +1,6 @@
 -- The type 3 of a response, with the MIC of the message without it, is the answer.
-use Rattle.std.proofs.Common.{◌≡◌, ℕ, ◌<◌, ◌^◌, nat_lt, Bool, true, false, ◌&&◌, if◌then◌else◌, List, ◌++◌, length, replicate, refl, ap, ◌∙◌, arith, Option, Some, None}
+use Rattle.std.proofs.Common.{◌≡◌, ℕ, ◌<◌, ◌^◌, nat_lt, Bool, true, false, ◌&&◌, if◌then◌else◌, List, ◌++◌, length}
+use Rattle.std.proofs.Common.{replicate, refl, ap, ◌∙◌, arith, Option, Some, None}
 use Rattle.std.proofs.lemmas.Bool.Decides.{nat_tests}
 use Rattle.token_defs.specs.Formulas.{utf16, mic}
 use Rattle.token_defs.specs.Messages.{Type2Value, Type3Value, type3_spelling}

@@ -1,5 +1,6 @@
 -- What the form of a type 3 says of its parts.
-use Rattle.std.proofs.Common.{◌≡◌, ℕ, ◌≤◌, ◌-◌, ◌==◌, nat_le, Bool, true, false, not, ◌&&◌, ◌||◌, List, length, take, drop, length-drop, refl, ap, arith, Option}
+use Rattle.std.proofs.Common.{◌≡◌, ℕ, ◌≤◌, ◌-◌, ◌==◌, nat_le, Bool, true, false, not, ◌&&◌, ◌||◌, List, length, take}
+use Rattle.std.proofs.Common.{drop, length-drop, refl, ap, arith, Option}
 use Rattle.std.proofs.lemmas.List.{take_all}
 use Rattle.token_defs.specs.Pairs.{pair_in}
 use Rattle.std.proofs.lemmas.Bool.Decides.{nat_tests}

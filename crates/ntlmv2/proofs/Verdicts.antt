@@ -6,7 +6,8 @@ use Rattle.token_defs.specs.declared.ntlm.NtlmError.TheVariants as ntlm
 use Rattle.token_defs.specs.declared.ntlm.LogonError.TheVariants.{NotAscii, UnknownUser, WrongProof, WrongMic}
 use Rattle.token_defs.specs.Formulas.{mic}
 use Rattle.token_defs.specs.Messages.{Type3Value, type1_in, type3_in}
-use Rattle.token_defs.specs.Acceptor.{User, challenge, is_ascii_utf16, user_named, proves, exported_key, owes_mic, logon_of, verdict_on, verdict}
+use Rattle.token_defs.specs.Acceptor.{User, challenge, is_ascii_utf16, user_named, proves, exported_key, owes_mic}
+use Rattle.token_defs.specs.Acceptor.{logon_of, verdict_on, verdict}
 use Rattle.ntlmv2.specs.Judging.{Challenges, has_mic}
 
 mic_lacks : (o e : Bool) → (not o || e) ≡ false → (o && not e) ≡ true

@@ -1,5 +1,6 @@
 -- The acceptor as a value, and what its first call answers.
-use Rattle.std.specs.Prelude.{◌≡◌, ℕ, ◌<◌, Bool, true, false, not, ◌||◌, if◌then◌else◌, List, length, take, map, get_or, Option, Some, None, Result, Ok, Err}
+use Rattle.std.specs.Prelude.{◌≡◌, ℕ, ◌<◌, Bool, true, false, not, ◌||◌, if◌then◌else◌, List, length, take, map, get_or}
+use Rattle.std.specs.Prelude.{Option, Some, None, Result, Ok, Err}
 use Rattle.std.specs.Str.{bytes_eq}
 use Rattle.token_defs.specs.declared.ntlm.NtlmError.{NtlmError}
 use Rattle.token_defs.specs.declared.ntlm.NtlmError.TheVariants.{Memory}

@@ -5,7 +5,8 @@ ghost use Rattle.token_defs.specs.Formulas.{utf16, upper, proof};
 ghost use Rattle.token_defs.specs.Pairs.{pair};
 ghost use Rattle.ntlmv2.specs.Judging.{user_of, exported_by, IsKey, IsPlace};
 ghost use Rattle.ntlmv2.specs.Views.{type3_view};
-ghost use Rattle.token_defs.specs.Acceptor.{challenge_flags, server_info, ascii_byte, is_ascii_utf16, has_form, exchanges, has_mic_bit, owes_mic};
+ghost use Rattle.token_defs.specs.Acceptor.{challenge_flags, server_info, ascii_byte, is_ascii_utf16, has_form};
+ghost use Rattle.token_defs.specs.Acceptor.{exchanges, has_mic_bit, owes_mic};
 
 use crate::formulas::{base_key, exchanged_key_of, mic, ntowf_with, proof};
 use crate::messages::{Type2, Type3, read_type1, read_type3, write_type2};

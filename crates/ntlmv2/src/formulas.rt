@@ -1,7 +1,8 @@
 //! NTLMv2's formulas.
 ghost use Rattle.std.specs.Prelude.{◌≡◌, ◌++◌, take, drop, IfOk, OnOk};
 ghost use Rattle.md5.specs.Md5.{md5};
-ghost use Rattle.token_defs.specs.Formulas.{ntowf_in, ntowf, proof, base_key, exchanged_key, without_mic, mic, sign_key, seal_key, checksum, hidden_checksum, mech_list_mic};
+ghost use Rattle.token_defs.specs.Formulas.{ntowf_in, ntowf, proof, base_key, exchanged_key, without_mic, mic, sign_key};
+ghost use Rattle.token_defs.specs.Formulas.{seal_key, checksum, hidden_checksum, mech_list_mic};
 
 use crate::text::{upper_of, utf16_of};
 use mac_kdf::{Rc4, hmac_md5, md4};

@@ -19,6 +19,3 @@ pub use messages::{
 };
 pub use token_defs::{LogonError, NtlmError, NtlmField, Type1};
 pub use users::Users;
-
-#[cfg(test)]
-mod tests;

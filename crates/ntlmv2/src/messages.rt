@@ -1,8 +1,11 @@
 //! The three messages, read and written.
-ghost use Rattle.std.specs.Prelude.{◌≡◌, ◌<◌, ◌+◌, ◌^◌, ◌++◌, ◌==◌, nat_lt, if◌then◌else◌, length, drop, MatchResult, None, Some, IfOk, OnOk, IsTrue, ◌↔◌};
+ghost use Rattle.std.specs.Prelude.{◌≡◌, ◌<◌, ◌+◌, ◌^◌, ◌++◌, ◌==◌, nat_lt, if◌then◌else◌, length, drop, MatchResult};
+ghost use Rattle.std.specs.Prelude.{None, Some, IfOk, OnOk, IsTrue, ◌↔◌};
 ghost use Rattle.wire_defs.specs.Places.{le, bytes_at};
 ghost use Rattle.wire_defs.specs.Table.{with_fields};
-ghost use Rattle.token_defs.specs.Messages.{ntlm_signature, range_fault, info_fault, type3_places, type1_in, type2_in, type3_in, type1_spelling, type2_spelling, type3_spelling, IsWritableType2, IsWritableType3};
+ghost use Rattle.token_defs.specs.Messages.{ntlm_signature, range_fault, info_fault, type3_places, type1_in, type2_in};
+ghost use Rattle.token_defs.specs.Messages.{type3_in, type1_spelling, type2_spelling, type3_spelling, IsWritableType2};
+ghost use Rattle.token_defs.specs.Messages.{IsWritableType3};
 ghost use Rattle.ntlmv2.specs.Fixed.{IsFixed1, IsFixed2, IsFixed3, MatchKind, TellsPlace};
 ghost use Rattle.ntlmv2.specs.Views.{type2_view, type3_view, AreShort, Reads};
 

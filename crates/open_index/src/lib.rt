@@ -16,6 +16,3 @@ pub use sessions::{
     attach_in, close_guid, count_in, list_in, refuse_in, reserve_guid, stand_new, unlist_in,
 };
 pub use share_modes::{Open, Range};
-
-#[cfg(test)]
-mod tests;

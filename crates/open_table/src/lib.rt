@@ -27,6 +27,3 @@ pub use open_index::{Deadlines, FileOpens, KeptCreate, KeptResult, SessionOpens}
 pub use row::{OpenParts, Row};
 pub use share_modes::{Open, Range, RangeError, RangeList};
 pub use table::Opens;
-
-#[cfg(test)]
-mod tests;

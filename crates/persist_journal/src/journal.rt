@@ -73,7 +73,15 @@ impl<D: Disk> Model for Journal<D> {
 
     ghost Value = { JournalState D };
 
-    ghost view = { λ j. record { disk = j.disk; used = j.gate + 1; count = j.count; taken = j.taken; next = j.next; stopped = j.stopped; room = vec_capacity j.buffer } };
+    ghost view = { λ j. record {
+      disk = j.disk;
+      used = j.gate + 1;
+      count = j.count;
+      taken = j.taken;
+      next = j.next;
+      stopped = j.stopped;
+      room = vec_capacity j.buffer;
+    } };
 
     ghost invariant = { λ j. (j.gate < 2 ^ 64 - 1) × (j.count ≤ j.gate) × (8 ≤ j.next) × (j.next ≤ j.gate) × (j.taken ≤ j.next) };
 }
@@ -151,7 +159,8 @@ impl<D: Disk> Journal<D> {
     pub fn recover(alloc: Global, mut disk: D) -> Result<Journal<D>, JournalError>
     where
         D: Drop,
-        ensures settled { IfOk result (λ journal. D.told → (bodies : List (List ℕ)) → StandsFor (D.seen disk) bodies → Settled D.seen D.may_leave journal bodies) }
+        ensures settled { IfOk result (λ journal. D.told → (bodies : List (List ℕ)) → StandsFor (D.seen disk) bodies
+            → Settled D.seen D.may_leave journal bodies) }
         ensures any_moment { IfOk result (λ journal. D.told → (bodies : List (List ℕ)) → StandsFor (D.seen disk) bodies
             → LeavesOnly D.moment D.left_since disk journal.disk (λ c. D.may_leave disk c ⊎ StandsFor c bodies)) }
         ensures cause { Recovers D.told D.seen D.faults disk result }

@@ -20,6 +20,3 @@ pub use list::BytesList;
 pub use read::Found;
 pub use recovery::repair;
 pub use start::prepare;
-
-#[cfg(test)]
-mod tests;

@@ -127,7 +127,8 @@ fn check_magic<D: Disk>(disk: &mut D) -> Result<Option<u64>, Failed>
 // From the first gate to one that is closed, or whose entry doesn't fit.
 fn scan<D: Disk>(disk: &mut D, end: u64) -> Result<Found, Failed>
     requires { 8 < end }
-    ensures found { D.told → end ≡ length (D.seen disk.old) → take 8 (D.seen disk.old) ≡ magic → IfOk result (λ f. FoundIn (D.seen disk.old) f) }
+    ensures found { D.told → end ≡ length (D.seen disk.old) → take 8 (D.seen disk.old) ≡ magic
+        → IfOk result (λ f. FoundIn (D.seen disk.old) f) }
     ensures bound { IfOk result (λ f. IsWithin end f) }
     ensures quiet { Quiet D.told D.seen D.may_leave D.moment D.left_since disk.old disk.new }
     ensures cause { CountsFault (D.faults disk.old) (D.faults disk.new) result }

@@ -12,7 +12,8 @@ use smb_io::{Disk, Failed};
 fn blank<D: Disk>(disk: &mut D) -> Result<(), Failed>
     ensures done { D.told → IsNew (D.seen disk.old) (D.may_leave disk.old)
         → OnOk result ((D.seen disk.new ≡ replicate 8 0 ++ 0 ∷ []) × Only (D.seen disk.new) (D.may_leave disk.new)) }
-    ensures any_moment { D.told → IsNew (D.seen disk.old) (D.may_leave disk.old) → LeavesOnly D.moment D.left_since disk.old disk.new IsShort }
+    ensures any_moment { D.told → IsNew (D.seen disk.old) (D.may_leave disk.old) → LeavesOnly D.moment D.left_since
+        disk.old disk.new IsShort }
     ensures cause { CountsFault (D.faults disk.old) (D.faults disk.new) result }
 {
     disk.write_at(0, &[0; 8])?;

@@ -54,6 +54,3 @@ impl Chain {
 pub fn chain_law()
     ensures { (messages : List (List ℕ)) (message : List ℕ) → chain (messages ++ message ∷ []) ≡ value_behind (chain messages) message }
 {}
-
-#[cfg(test)]
-mod tests;

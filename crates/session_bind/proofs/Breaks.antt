@@ -1,5 +1,5 @@
 -- What a token comes to where it breaks, or its logon is refused.
-use Rattle.std.proofs.Common.{◌≡◌, List, ℕ, Option, Some, None, Result, Ok, Err, refl, sym, ap, ◌∙◌}
+use Rattle.std.proofs.Common.{◌≡◌, List, ℕ, Option, None, Result, Err, sym, ap}
 use Rattle.token_defs.specs.declared.der.DerError.{DerError}
 use Rattle.token_defs.specs.declared.der.DerError.TheVariants as der
 use Rattle.token_defs.specs.declared.ntlm.LogonError.{LogonError}

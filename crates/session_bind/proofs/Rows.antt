@@ -1,23 +1,18 @@
 -- Rows of sessions and connections behind a change at one key.
-use Rattle.std.proofs.Common.{◌≡◌, ℕ, ◌+◌, ◌-◌, ◌^◌, ◌<◌, ◌≤◌, ◌==◌, nat_eq, nat_le, nat_lt, Bool, true, false, not}
-use Rattle.std.proofs.Common.{if◌then◌else◌, List, [], ◌∷◌, ◌++◌, length, filter, Option, Some, None, refl, sym, ap}
-use Rattle.std.proofs.Common.{subst, ◌∙◌, arith, eqb-true}
+use Rattle.std.proofs.Common.{◌≡◌, ℕ, ◌+◌, ◌^◌, ◌<◌, ◌≤◌, ◌==◌, nat_le, nat_lt, Bool, true, false, not}
+use Rattle.std.proofs.Common.{if◌then◌else◌, List, [], ◌∷◌, ◌++◌, filter, Option, Some, None, refl, sym, ap}
+use Rattle.std.proofs.Common.{subst, ◌∙◌, arith}
 use Rattle.std.proofs.lemmas.Grind.{common_steps}
 use Rattle.std.proofs.lemmas.Bool.Decides.{nat_tests}
-use Rattle.std.specs.HashMap.{get, hash_map_len}
-use Rattle.exchange_defs.specs.Table.{put, has, is_at, without}
+use Rattle.exchange_defs.specs.Table.{has, is_at, without}
 use Rattle.exchange_defs.specs.State as model
 use Rattle.exchange_defs.specs.Effects.{cleared, without_tree}
 use Rattle.exchange_defs.specs.CheckSetup.{max_numbers, last_tree}
-use Rattle.server_law.proofs.Logic.{either}
 use Rattle.session_bind.specs.declared.row.SessionRow.{SessionRow}
-use Rattle.session_bind.specs.declared.row.InMaking.{InMaking}
 use Rattle.session_bind.specs.declared.row.Link.{Link}
-use Rattle.session_bind.specs.declared.table.Sessions.{Sessions}
-use Rattle.session_bind.specs.Shown.{RowIs, RowShown, LinkShown, making_of, making_for, lists, SessionsShown, ShowsSessions}
-use Rattle.session_bind.specs.Steps.{with_making, with_session, without_session, IsNewSession, DrawsChannel, KeepsLogon}
-use Rattle.session_bind.specs.Steps.{RowJoins, RowParts, DropsChannel, RowTrees, AddsTree, DropsTree}
-use Rattle.session_bind.specs.Changes.{session_gone, session_added, session_joined}
+use Rattle.session_bind.specs.Shown.{RowIs, RowShown, LinkShown, lists}
+use Rattle.session_bind.specs.Steps.{with_session, without_session, DrawsChannel, KeepsLogon}
+use Rattle.session_bind.specs.Steps.{DropsChannel, RowTrees, AddsTree, DropsTree}
 
 -- ---- lists
 

@@ -1,25 +1,19 @@
 -- The table of sessions behind each change: what its maps say makes the whole.
-use Rattle.std.proofs.Common.{◌≡◌, ◌≤◌, ℕ, ◌+◌, ◌-◌, ◌==◌, nat_eq, nat_le, nat_lt, Bool, true, false, not}
-use Rattle.std.proofs.Common.{if◌then◌else◌, List, [], ◌∷◌, ◌++◌, length, Option, Some, None, refl, sym, ap, subst, ◌∙◌}
-use Rattle.std.proofs.Common.{arith, eqb-true}
-use Rattle.std.proofs.lemmas.Grind.{common_steps}
-use Rattle.std.proofs.lemmas.Bool.Decides.{nat_tests}
+use Rattle.std.proofs.Common.{◌≡◌, ℕ, ◌+◌, ◌-◌, ◌==◌, nat_eq, nat_le, nat_lt, Bool, true, false}
+use Rattle.std.proofs.Common.{if◌then◌else◌, List, [], ◌∷◌, ◌++◌, Option, Some, None, refl, sym, ap, subst, ◌∙◌}
+use Rattle.std.proofs.Common.{eqb-true}
 use Rattle.std.specs.HashMap.{get, hash_map_len}
-use Rattle.exchange_defs.specs.Table.{put, has, is_at, without}
+use Rattle.exchange_defs.specs.Table.{without}
 use Rattle.exchange_defs.specs.State as model
 use Rattle.exchange_defs.specs.Effects.{cleared, add_tree, without_tree}
 use Rattle.exchange_defs.specs.Step.{forget_connection}
 use Rattle.exchange_defs.specs.CheckSetup.{max_numbers, last_tree}
-use Rattle.server_law.specs.Fits.{OnPresent}
-use Rattle.session_bind.specs.declared.row.SessionRow.{SessionRow}
-use Rattle.session_bind.specs.declared.row.InMaking.{InMaking}
-use Rattle.session_bind.specs.declared.row.Link.{Link}
 use Rattle.session_bind.specs.declared.table.Sessions.{Sessions}
-use Rattle.session_bind.specs.Shown.{RowIs, RowShown, LinkShown, making_of, making_for, lists, SessionsShown, ShowsSessions}
-use Rattle.session_bind.specs.Steps.{with_making, with_session, without_session, IsNewSession, DrawsChannel}
+use Rattle.session_bind.specs.Shown.{RowShown, LinkShown, lists, ShowsSessions}
+use Rattle.session_bind.specs.Steps.{with_session, without_session, DrawsChannel}
 use Rattle.session_bind.specs.Steps.{DropsChannel, AddsTree, DropsTree}
-use Rattle.session_bind.specs.Changes.{session_gone, session_added, session_joined, tree_dropped}
-use Rattle.session_bind.proofs.Rows.{has_more, link_live, link_cleared, row_gone, row_joined, row_parted, row_treed}
+use Rattle.session_bind.specs.Changes.{session_gone, session_joined, tree_dropped}
+use Rattle.session_bind.proofs.Rows.{link_live, link_cleared, row_gone, row_joined, row_parted, row_treed}
 use Rattle.session_bind.proofs.Rows.{row_untreed, link_gone, lists_joined, lists_drawn, lists_parted, lists_treed}
 use Rattle.session_bind.proofs.Rows.{lists_untreed}
 

@@ -16,6 +16,3 @@ pub use exchange_defs::values::Tree;
 pub use row::{InMaking, Link, Purpose, SessionRow};
 pub use table::Sessions;
 pub use tokens::{Begun, TokenShown, challenge_for, final_for, token_shown};
-
-#[cfg(test)]
-mod tests;

@@ -15,6 +15,3 @@ pub use law::ranges_law;
 pub use lists::{Open, OpenList, Range, RangeList};
 pub use ranges::{RangeError, Ranges};
 pub use sharing::{Violation, admits};
-
-#[cfg(test)]
-mod tests;

@@ -21,6 +21,3 @@ pub use short::Short;
 pub use text::Text;
 pub use utf16::{text_of_utf16, utf16_of};
 pub use wire_defs::TextError;
-
-#[cfg(test)]
-mod tests;

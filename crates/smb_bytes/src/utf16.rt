@@ -40,7 +40,8 @@ pub fn utf16_of(alloc: Global, text: &str) -> Result<Bytes, AllocError>
 fn pair_at(bytes: &[u8], at: usize) -> Option<u32>
     requires inside { at + 2 ≤ length bytes.now }
     requires whole { (length bytes.now % 2 ≡ 0) × (at % 2 ≡ 0) }
-    ensures { MatchOption result (IsHigh (number 2 bytes.now at) → IsLow (number 2 bytes.now (at + 2)) → ⊥) (λ code. IsPair bytes.now at code) }
+    ensures { MatchOption result (IsHigh (number 2 bytes.now at) → IsLow (number 2 bytes.now (at + 2)) → ⊥)
+        (λ code. IsPair bytes.now at code) }
 {
     let high = u16_at(bytes, at) as u32;
     if high < 0xd800 || high >= 0xdc00 {
@@ -67,7 +68,9 @@ struct Found {
 fn character_at(bytes: &[u8], at: usize) -> Option<Found>
     requires inside { at + 2 ≤ length bytes.now }
     requires whole { (length bytes.now % 2 ≡ 0) × (at % 2 ≡ 0) }
-    ensures { MatchOption result (IsLone bytes.now at) (λ f. IsScalar f.character × (at < f.end) × (f.end ≤ length bytes.now) × (f.end % 2 ≡ 0) × (take f.end bytes.now ≡ take at bytes.now ++ units_of f.character)) }
+    ensures { MatchOption result (IsLone bytes.now at) (λ f. IsScalar f.character × (at < f.end)
+        × (f.end ≤ length bytes.now) × (f.end % 2 ≡ 0) × (take f.end bytes.now ≡ take at bytes.now
+        ++ units_of f.character)) }
 {
     match pair_at(bytes, at) {
         Some(code) => {

@@ -29,6 +29,3 @@ pub use source::Source;
 pub use std_disk::StdDisk;
 pub use std_sink::StdSink;
 pub use std_source::StdSource;
-
-#[cfg(test)]
-mod tests;

@@ -29,6 +29,8 @@ pub fn answer(alloc: Global, tree: &mut Tree, call: &str) -> Result<String, Erro
         Some(&"try") => given_up(alloc, tree, words.get(1..).unwrap_or(&[])),
         Some(&"info") => info(alloc, tree, number(&words, 1)),
         Some(&"read") => read(alloc, tree, &words),
+        Some(&"coded") => coded(alloc, tree, word(&words, 1)),
+        Some(&"holds") => holds(alloc, tree, &words),
         Some(_) => change(alloc, tree, &words),
         None => text(alloc, ""),
     };
@@ -74,6 +76,21 @@ fn change(alloc: Global, tree: &mut Tree, words: &[&str]) -> Result<String, Stor
         _ => return text(alloc, "unknown"),
     }
     done(alloc)
+}
+
+// Makes a file whose path is written as hexadecimal digits.
+fn coded(alloc: Global, tree: &mut Tree, path: &str) -> Result<String, StoreError> {
+    let path = bytes_of(alloc, path)?;
+    match std::str::from_utf8(&path) {
+        Ok(path) => digits(alloc, tree.make(path, false, 0, 1)?),
+        Err(_) => text(alloc, "unknown"),
+    }
+}
+
+fn holds(alloc: Global, tree: &Tree, words: &[&str]) -> Result<String, StoreError> {
+    let bytes = bytes_of(alloc, word(words, 3))?;
+    let same = tree.holds(number(words, 1), number(words, 2), &bytes)?;
+    text(alloc, if same { "same" } else { "other" })
 }
 
 fn word<'a>(words: &[&'a str], i: usize) -> &'a str {

@@ -2,8 +2,6 @@
 #![tactic(auto)]
 
 mod call;
-#[cfg(test)]
-mod tests;
 
 use anyhow::Error;
 use call::answer;

@@ -1,4 +1,4 @@
-use Rattle.std.proofs.Common.{nat_eq, refl, ◌∙◌}
+use Rattle.std.proofs.Common.{nat_eq, ◌∙◌}
 use Rattle.std.specs.HashMap.{get}
 use Rattle.std.proofs.lemmas.List.{take_more}
 use Rattle.session_bind.proofs.Rows.{one_more}

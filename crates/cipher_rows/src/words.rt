@@ -1,0 +1,44 @@
+// Words of a row, taken one after the other.
+use aes_block::Aes;
+use anyhow::{Context, Result, bail};
+use std::alloc::Global;
+use std::str::SplitWhitespace;
+use vector_rows::bytes_of;
+
+pub fn word_in<'a>(words: &mut SplitWhitespace<'a>) -> Result<&'a str> {
+    words.next().context("a word is missing")
+}
+
+/// The bytes of the next word.
+pub fn bytes_in(alloc: Global, words: &mut SplitWhitespace<'_>) -> Result<Vec<u8>> {
+    let word = word_in(words)?;
+    let Some((count, digits)) = word.split_once('*') else {
+        return bytes_of(alloc, word);
+    };
+    let piece = bytes_of(alloc, digits)?;
+    let mut bytes = Vec::new(alloc);
+    for _ in 0..count.parse::<u32>()? {
+        bytes.extend_from_slice(piece.as_slice())?;
+    }
+    Ok(bytes)
+}
+
+/// The bytes of the next word, which are so many.
+pub fn array_in<const N: usize>(alloc: Global, words: &mut SplitWhitespace<'_>) -> Result<[u8; N]> {
+    let bytes = bytes_in(alloc, words)?;
+    <[u8; N]>::try_from(bytes.as_slice())
+        .ok()
+        .context("another number of bytes")
+}
+
+/// The key that the next word has.
+pub fn key_in(alloc: Global, words: &mut SplitWhitespace<'_>) -> Result<Aes> {
+    let key = bytes_in(alloc, words)?;
+    if let Ok(short) = <[u8; 16]>::try_from(key.as_slice()) {
+        Ok(Aes::new_128(&short))
+    } else if let Ok(long) = <[u8; 32]>::try_from(key.as_slice()) {
+        Ok(Aes::new_256(&long))
+    } else {
+        bail!("a key of another length")
+    }
+}
