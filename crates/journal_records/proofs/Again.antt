@@ -6,7 +6,7 @@ use Rattle.wire_defs.specs.Places.{le}
 use Rattle.wire_defs.specs.Table.{Field, Num, Raw, Any, AreWritable, Stands, with_fields}
 use Rattle.wire_defs.proofs.Numbers.{length-le}
 use Rattle.wire_law.proofs.Rows.{table_again}
-use Rattle.journal_records.specs.Grammar.{behind, record_table, next_version, IsKept, StandsRecord, AreRecords}
+use Rattle.journal_records.specs.Grammar.{behind, record_table, next_version, IsKept, AreRecords}
 use Rattle.journal_records.specs.Grammar.{SpellsRecords, IsWritableRecord, AreWritableRecords, record_spelling}
 use Rattle.journal_records.specs.Grammar.{records_spelling}
 use Rattle.journal_records.specs.declared.value.Record.{Record}

@@ -1,7 +1,7 @@
 -- Bytes that tell neither yes nor no, and units that spell no text.
-use Rattle.std.proofs.Common.{◌≡◌, ℕ, ◌%◌, Bool, true, false, List, length, sym, subst, ◌∙◌}
+use Rattle.std.proofs.Common.{◌≡◌, ℕ, Bool, true, false, List, sym, subst}
 use Rattle.std.specs.Prelude.{IsUtf8}
-use Rattle.wire_defs.specs.Utf16.{utf16, IsReadTo, IsLone, BreaksUtf16}
+use Rattle.wire_defs.specs.Utf16.{utf16, BreaksUtf16}
 use Rattle.wire_defs.specs.declared.refusal.TextError.{TextError}
 use Rattle.wire_defs.specs.declared.refusal.TextError.TheVariants as errors
 use Rattle.wire_law.proofs.Characters.{text_holds}

@@ -8,3 +8,4 @@ pub mod Refusals
 pub mod Flags
 pub mod One
 pub mod Characters
+pub mod Allowed

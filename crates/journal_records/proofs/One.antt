@@ -11,7 +11,7 @@ use Rattle.wire_law.proofs.Characters.{one_text}
 use Rattle.exchange_defs.specs.declared.values.Basic.{Basic}
 use Rattle.exchange_defs.specs.declared.values.Origin.{Origin}
 use Rattle.journal_records.specs.Grammar.{flag, behind, kind, record_fields, record_table, opened_table, timeout_table}
-use Rattle.journal_records.specs.Grammar.{next_version, version_behind, IsKept, IsTimeout, OpenIsKept, StandsRecord}
+use Rattle.journal_records.specs.Grammar.{next_version, version_behind, IsTimeout, OpenIsKept, StandsRecord}
 use Rattle.journal_records.specs.Grammar.{AreRecords, SpellsRecords, BreaksRecords}
 use Rattle.journal_records.specs.declared.value.NewOpen.{NewOpen}
 use Rattle.journal_records.specs.declared.value.Record.{Record}

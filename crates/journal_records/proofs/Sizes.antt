@@ -1,6 +1,6 @@
 -- What is written is as long as the model reckons.
-use Rattle.std.proofs.Common.{◌≡◌, ℕ, zero, suc, ◌+◌, ◌-◌, ◌*◌, ◌/◌, ◌%◌, ◌<◌, ◌≤◌, Bool, List, [], ◌∷◌, ◌++◌, length}
-use Rattle.std.proofs.Common.{drop, fold, sum_by, flat_map, Option, Some, None, chars, IsUtf8, inl, inr, refl, sym, ap}
+use Rattle.std.proofs.Common.{◌≡◌, ℕ, zero, suc, ◌+◌, ◌-◌, ◌*◌, ◌/◌, ◌%◌, ◌<◌, ◌≤◌, List, [], ◌∷◌, ◌++◌, length}
+use Rattle.std.proofs.Common.{drop, fold, Option, Some, None, chars, IsUtf8, inl, inr, refl, ap}
 use Rattle.std.proofs.Common.{◌∙◌, arith, length-append}
 use Rattle.std.proofs.lemmas.List.Elements.{All-head, All-tail}
 use Rattle.std.proofs.lemmas.Bool.{cases_lt}
@@ -9,10 +9,8 @@ use Rattle.std.proofs.lemmas.Str.{encodes-chars}
 use lib.Utf8.{encode}
 use Rattle.std.specs.Prelude.{encode_utf8, encode_utf8_all}
 use Rattle.wire_defs.specs.Places.{le}
-use Rattle.wire_defs.specs.Table.{with_fields}
 use Rattle.wire_defs.specs.Utf16.{utf16, utf16_of, units_of as wide_units}
 use Rattle.wire_defs.proofs.Numbers.{length-le}
-use Rattle.exchange_defs.specs.Commands.{Element}
 use Rattle.exchange_defs.specs.Texts.{units_of, utf16_length}
 use Rattle.exchange_defs.specs.Records.{text_size, opened_size, record_size, records_size}
 use Rattle.journal_records.specs.Grammar.{behind, record_table, opened_table, IsKept, OpenIsKept, IsWritableRecord}

@@ -1,6 +1,6 @@
 -- The journal's records as bytes, in versions 1 and 2 of the journal (this project's). A text is UTF-16 (RFC 2781), an
 -- element of a lock is that of a LOCK request (MS-SMB2 2.2.26.1).
-use Rattle.std.specs.Prelude.{◌≡◌, ℕ, ◌+◌, ◌*◌, ◌/◌, ◌<◌, ◌==◌, Bool, true, false, if◌then◌else◌, List, [], ◌∷◌, ◌++◌}
+use Rattle.std.specs.Prelude.{◌≡◌, ℕ, ◌+◌, ◌*◌, ◌/◌, ◌%◌, ◌<◌, ◌==◌, Bool, true, false, if◌then◌else◌, List, [], ◌∷◌, ◌++◌}
 use Rattle.std.specs.Prelude.{length, Option, Some, None, Result, Ok, Err, ⊤, IsUtf8, All, flat_map}
 use Rattle.wire_defs.specs.Table.{Field, Num, Raw, Any, Stands, with_fields, AreWritable}
 use Rattle.wire_defs.specs.Utf16.{utf16}
@@ -156,7 +156,8 @@ ReadsRecords items version m (Err (BadRecord place)) = BreaksRecords version m p
 
 -- ---- written, in version 2
 
--- what the writer's caller sees to: texts, bytes and elements fit the fields that tell how many they are
+-- What the writer's caller sees to: texts, bytes and elements fit the fields that tell how many they are, elements are
+-- whole ones of 24 bytes, and the version told is 2.
 abbrev pub TextFits : List ℕ → Type 0
 TextFits text = length (utf16 text) < 65536
 
@@ -173,9 +174,9 @@ RecordFits (SetBasic origin file basic) = ⊤
 RecordFits (SetDelete origin file marked) = ⊤
 RecordFits (Rename origin file replaced path) = TextFits path
 RecordFits (Remove origin file) = ⊤
-RecordFits (Lock origin id index number status elements) = length elements / 24 < 65536
+RecordFits (Lock origin id index number status elements) = (length elements / 24 < 65536) × (length elements % 24 ≡ 0)
 RecordFits (Shut origin id) = ⊤
-RecordFits (Version number) = ⊤
+RecordFits (Version number) = number ≡ 2
 RecordFits (Expire origin id) = ⊤
 
 abbrev pub RecordsFit : List Record → Type 0
@@ -194,3 +195,51 @@ AreWritableRecords rs = All IsWritableRecord rs
 
 abbrev pub records_spelling : List Record → List ℕ
 records_spelling rs = flat_map record_spelling rs
+
+-- ---- what each value of the record types keeps: its numbers fit their fields, a GUID has 16 bytes, a text is UTF-8
+
+abbrev pub open_numbers : Option NewOpen → List Field
+open_numbers None = []
+open_numbers (Some n) = Num 8 n.id ∷ Raw 16 n.client ∷ Raw 16 n.guid ∷ Num 4 n.access ∷ Num 4 n.share ∷ Num 4 n.options
+    ∷ Num 4 n.timeout ∷ []
+
+abbrev pub record_numbers : Record → List Field
+record_numbers (Epoch number) = Num 4 number ∷ []
+record_numbers (Create origin action file path attributes directory time opened) = origin_table origin
+    ++ (Num 4 action ∷ Num 8 file ∷ Num 4 attributes ∷ Num 8 time ∷ open_numbers opened)
+record_numbers (Write origin file at time bytes) = origin_table origin ++ (Num 8 file ∷ Num 8 at ∷ Num 8 time ∷ [])
+record_numbers (SetEnd origin file size time) = origin_table origin ++ (Num 8 file ∷ Num 8 size ∷ Num 8 time ∷ [])
+record_numbers (SetBasic origin file basic) = origin_table origin ++ (Num 8 file ∷ basic_table basic)
+record_numbers (SetDelete origin file marked) = origin_table origin ++ (Num 8 file ∷ [])
+record_numbers (Rename origin file replaced path) = origin_table origin ++ (Num 8 file ∷ Num 8 replaced ∷ [])
+record_numbers (Remove origin file) = origin_table origin ++ (Num 8 file ∷ [])
+record_numbers (Lock origin id index number status elements) = origin_table origin
+    ++ (Num 8 id ∷ Num 1 index ∷ Num 1 number ∷ Num 4 status ∷ [])
+record_numbers (Shut origin id) = origin_table origin ++ (Num 8 id ∷ [])
+record_numbers (Version number) = Num 4 number ∷ []
+record_numbers (Expire origin id) = origin_table origin ++ (Num 8 id ∷ [])
+
+abbrev pub HasUser : Option NewOpen → Type 0
+HasUser None = ⊤
+HasUser (Some n) = IsUtf8 n.user
+
+abbrev pub HasTexts : Record → Type 0
+HasTexts (Epoch number) = ⊤
+HasTexts (Create origin action file path attributes directory time opened) = IsUtf8 path × HasUser opened
+HasTexts (Write origin file at time bytes) = ⊤
+HasTexts (SetEnd origin file size time) = ⊤
+HasTexts (SetBasic origin file basic) = ⊤
+HasTexts (SetDelete origin file marked) = ⊤
+HasTexts (Rename origin file replaced path) = IsUtf8 path
+HasTexts (Remove origin file) = ⊤
+HasTexts (Lock origin id index number status elements) = ⊤
+HasTexts (Shut origin id) = ⊤
+HasTexts (Version number) = ⊤
+HasTexts (Expire origin id) = ⊤
+
+pub record IsInRange (r : Record) : Type 0 where
+  pub numbers : AreWritable (record_numbers r)
+  pub texts : HasTexts r
+
+abbrev pub AreInRange : List Record → Type 0
+AreInRange rs = All IsInRange rs

@@ -1,6 +1,5 @@
 -- What the functions that read a part of a record answer.
-use Rattle.std.specs.Prelude.{◌≡◌, ℕ, ◌+◌, ◌*◌, ◌/◌, ◌<◌, ◌≤◌, List, [], ◌∷◌, ◌++◌, length, Option, Some, None, Result, Ok, Err, ⊤, IsUtf8}
-use Rattle.wire_defs.specs.Places.{number}
+use Rattle.std.specs.Prelude.{◌≡◌, ℕ, ◌+◌, ◌*◌, ◌/◌, ◌<◌, ◌≤◌, List, [], ◌∷◌, ◌++◌, length, Result, Ok, Err, ⊤, IsUtf8}
 use Rattle.wire_defs.specs.Table.{Field, Num, Raw, Stands}
 use Rattle.wire_defs.specs.Utf16.{utf16}
 use Rattle.smb_bytes.specs.Spot.{Spot}

@@ -47,13 +47,14 @@ fn record_fits(r: &Record) -> bool
         Record::Create { path, opened, .. } => text_fits(path) && open_fits(opened),
         Record::Write { bytes, .. } => bytes.len() < 0x1_0000_0000,
         Record::Rename { path, .. } => text_fits(path),
-        Record::Lock { elements, .. } => elements.len() / 24 < 65536,
+        Record::Lock { elements, .. } => elements.len() / 24 < 65536 && elements.len() % 24 == 0,
+        Record::Version { number } => *number == 2,
         _ => true,
     }
 }
 
-/// Whether each text has fewer than 65,536 bytes in UTF-16, the bytes of each write are fewer than 2^32, and the elements of each
-/// lock fewer than 65,536: `write_records` asks for it.
+/// Whether each text has fewer than 65,536 bytes in UTF-16, the bytes of each write are fewer than 2^32, the elements of each
+/// lock are whole ones and fewer than 65,536, and each version told is 2: `write_records` asks for it.
 pub fn can_write(records: &Records) -> bool
     ensures { IsTrue result ↔ RecordsFit records.now }
 {

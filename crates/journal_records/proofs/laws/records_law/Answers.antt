@@ -1,4 +1,5 @@
 use Rattle.journal_records.proofs.Again.{read_again}
+use Rattle.journal_records.proofs.Allowed.{all_writable}
 use Rattle.journal_records.proofs.One.{one_body, breaks_alone, breaks_once}
 use Rattle.journal_records.proofs.Sizes.{written_size}
 use Rattle.journal_records.proofs.laws.records_law.Goals as goal
@@ -17,3 +18,9 @@ returns-clause-again c = read_again
 
 pub returns-clause-size : goal.returns-clause-size
 returns-clause-size c = written_size
+
+pub returns-clause-fit : goal.returns-clause-fit
+returns-clause-fit c = all_writable
+
+pub returns-clause-fit_again : goal.returns-clause-fit_again
+returns-clause-fit_again c = λ rs fit is. read_again rs (all_writable rs fit is)
