@@ -11,7 +11,8 @@ returns-in-Some c = λ s h e.
       record { path = c.in_ok-path-in-Some.path; bytes = c.from_vec.result },
       c.in_ok-push-in-Some.ensures.items,
       c.in_ok-path-in-Some.ensures,
-      c.from_vec.ensures ∙ (c.in_ok-bytes-in-Some.ensures d i ∙ (ap (λ (n : ℕ). take n d) (c.len.ensures d i) ∙ take_all (length d) d (omega arith))),
+      c.from_vec.ensures ∙ (c.in_ok-bytes-in-Some.ensures d i ∙ (ap (λ (n : ℕ). take n d) (c.len.ensures d i)
+          ∙ take_all (length d) d (omega arith))),
     )
 
 pub returns-in-None : goal.returns-in-None

@@ -6,7 +6,8 @@ use Rattle.file_store.proofs.tree.Tree.put_back.Goals as goal
 pub returns-in-Ok-clause-back : goal.returns-in-Ok-clause-back
 returns-in-Ok-clause-back c = λ s done h g. c.put_in.ensures.back s done
     (record {
-      rows = same_rows c.args.self.now _ (remove_file s c.args.gone.file) c.make_room.ensures.rows c.make_room.ensures.count refl refl refl refl h.rows;
+      rows = same_rows c.args.self.now _ (remove_file s c.args.gone.file) c.make_room.ensures.rows
+          c.make_room.ensures.count refl refl refl refl h.rows;
       keys_are = h.keys_are;
     }) g
 

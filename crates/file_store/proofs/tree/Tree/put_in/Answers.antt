@@ -21,7 +21,8 @@ returns-in-Ok-clause-back c = λ s done h g.
         root_path = h.rows.root_path;
         root_below = h.rows.root_below;
         root_is = h.rows.root_is;
-        rows_are = λ q. row_back s f q (get nat_eq c.args.self.now.rows q) _ w (c.put_row.ensures.at q) (h.rows.rows_are q) g.path_is g.row_is;
+        rows_are = λ q. row_back s f q (get nat_eq c.args.self.now.rows q) _ w (c.put_row.ensures.at q)
+            (h.rows.rows_are q) g.path_is g.row_is;
         count_is =
             let a = length_gone s.entries f w.path g.apart g.path_is in
             let k = h.rows.count_is in

@@ -6,7 +6,8 @@ use Rattle.file_store.proofs.Spelled.{spell_directory, spell_file}
 use Rattle.file_store.proofs.tree.Tree.spell.Goals as goal
 
 pub returns-then-row : goal.returns-then-row
-returns-then-row c = λ s h e p. spell_directory c.args.self.now s c.args.file c.in-Some.row.now h (sym c.in-Some.ensures.value) c.if-row.true p (get_by_text c.args.spelled.now p)
+returns-then-row c = λ s h e p. spell_directory c.args.self.now s c.args.file c.in-Some.row.now h
+    (sym c.in-Some.ensures.value) c.if-row.true p (get_by_text c.args.spelled.now p)
 
 pub returns-in-Some : goal.returns-in-Some
 returns-in-Some c = λ s h e p.
