@@ -1,0 +1,74 @@
+// How operations settle.
+ghost use Rattle.std.specs.Prelude.{◌≡◌, ℕ, not, ◌&&◌};
+ghost use Rattle.exchange_defs.specs.Operations.{is_ok, is_firm, persists};
+ghost use Rattle.exchange_defs.specs.Client.{Client, is_attached, is_gone};
+ghost use Rattle.client_outcomes.specs.Meaning.{outcome_of};
+
+use msg_session::Refusal;
+use operation_values::OpReply;
+
+/// How an operation settled.
+#[derive(Drop)]
+pub enum Outcome {
+    Ok(OpReply),
+    /// The status, of a server that did nothing.
+    Refused(u32),
+    /// Its create, of whose lock slots none is free.
+    NoSlot(u32),
+    /// Its create, which gives no open any more.
+    NoOpen(u32),
+    Unknown(Why),
+}
+
+/// Why nobody knows whether an operation acted.
+#[derive(Clone, Copy, Debug, PartialEq, Eq, Drop)]
+pub enum Why {
+    /// The number of the session that ended, counted from 1.
+    SessionLost(u32),
+    Status(u32),
+    NoSession(Refusal),
+    /// How many connects in a row failed.
+    GaveUp(u32),
+    Ended,
+}
+
+/// A dialog that was refused, and on which connection.
+#[derive(Clone, Copy, Debug, PartialEq, Eq, Drop)]
+pub struct RefusedDialog {
+    pub connection: u32,
+    pub refusal: Refusal,
+}
+
+impl Outcome {
+    pub fn is_ok(&self) -> bool
+        ensures { result ≡ is_ok (outcome_of self.now) }
+    {
+        matches!(self, Outcome::Ok(_))
+    }
+
+    /// Whether it settled as Ok or Refused.
+    pub fn is_firm(&self) -> bool
+        ensures { result ≡ is_firm (outcome_of self.now) }
+    {
+        matches!(self, Outcome::Ok(_) | Outcome::Refused(_))
+    }
+}
+
+/// Whether a create that settled so gives no open any more: a close of it settled Ok (`shut`), or its open isn't persistent and
+/// isn't attached in this session.
+pub fn is_gone(outcome: &Outcome, shut: bool, persistent: bool, attached: bool) -> bool
+    ensures { (c : Client) (create : ℕ) → c.outcome create ≡ outcome_of outcome.now → c.closed_ok create ≡ shut
+        → persists (c.op create) ≡ persistent → is_attached c create ≡ attached → result ≡ is_gone c create }
+{
+    if outcome.is_ok() {
+        shut || gives_none(persistent, attached)
+    } else {
+        true
+    }
+}
+
+fn gives_none(persistent: bool, attached: bool) -> bool
+    ensures { result ≡ (not persistent && not attached) }
+{
+    !persistent && !attached
+}

@@ -1,0 +1,10 @@
+pub mod Walking
+pub mod Columns
+pub mod Holding
+pub mod Finding
+pub mod Changing
+pub mod Adding
+pub mod Least
+pub mod Stretch
+pub mod Growing
+pub mod Found
