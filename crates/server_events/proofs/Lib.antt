@@ -1,0 +1,4 @@
+pub mod Same
+pub mod Checks
+pub mod Shown
+pub mod Steps
