@@ -1,5 +1,5 @@
 #!/usr/bin/env python3
-"""Applies each change of tools/wrong-models.txt to a copy of the crates, one at a time, and checks crates there.
+"""Applies each change of tools/wrong-models.txt and tools/wrong-worlds.txt to a copy of the crates, one at a time, and checks crates there.
 
 usage: tools/wrong-models.py --laws FOLDER [NAME ..]
        tools/wrong-models.py [--examples] CRATE FOLDER [NAME ..]
@@ -19,17 +19,22 @@ import os, re, shutil, signal, subprocess, sys
 
 TOP = os.path.dirname(os.path.dirname(os.path.abspath(__file__)))
 LIMIT = 900  # seconds of one check
+LISTS = {"wrong-models.txt": "exchange_examples", "wrong-worlds.txt": "world_examples"}  # with the crate of their examples
 
 
 def read_changes():
+    return [change for name in LISTS for change in read_list(name)]
+
+
+def read_list(name):
     changes, current = [], {}
-    for line in open(os.path.join(TOP, "tools", "wrong-models.txt"), encoding="utf-8"):
+    for line in open(os.path.join(TOP, "tools", name), encoding="utf-8"):
         line = line.rstrip("\n")
         if not line or line.startswith("#"):
             continue
         key, value = line.split(": ", 1)
         if key == "name":
-            current = {"edits": []}
+            current = {"edits": [], "crate": LISTS[name]}
             changes.append(current)
         if key in ("file", "also"):
             current["edits"].append({"file": value})
@@ -74,11 +79,14 @@ def misplaced(change, top):
     return found
 
 
+def functions_of(crate):
+    return re.findall(r"fn (\w+)\(", open(os.path.join(TOP, "crates", crate, "src", "lib.rt"), encoding="utf-8").read())
+
+
 def check_texts():
-    examples = os.path.join(TOP, "crates", "exchange_examples", "src", "lib.rt")
-    functions = re.findall(r"fn (\w+)\(", open(examples, encoding="utf-8").read())
     changes = read_changes()
     for change in changes:
+        functions = functions_of(change["crate"])
         for bad in misplaced(change, TOP):
             print(change["name"], bad)
         if change.get("example", functions[0]) not in functions:
@@ -177,6 +185,8 @@ def main():
     decide = by_laws if crate == "" else lambda copy, c: verdict(copy, c, crate, ["--only", c["example"]] if mode else [])
     copy = copy_crates(folder)
     for change in read_changes():
+        if mode == "--examples" and change["crate"] != crate:
+            continue
         if needs in change and (not chosen or change["name"] in chosen):
             print(change["name"], try_change(copy, change, decide), flush=True)
 

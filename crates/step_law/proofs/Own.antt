@@ -8,7 +8,7 @@ use Rattle.world_defs.specs.Events.{bytes_changed, bytes_later}
 use Rattle.step_law.specs.Own.{OwnEvents}
 
 -- both worlds meet the event, or neither does
-met_alike : (b : Bool) (x w : World) (y : Values) (n : ℕ) → x.values ≡ y
+pub met_alike : (b : Bool) (x w : World) (y : Values) (n : ℕ) → x.values ≡ y
     → (if b then bytes_later x n else w).values ≡ (if b then later y n else w.values)
 met_alike true x w y n e = ap (λ v. later v n) e
 met_alike false x w y n e = refl

@@ -1,1 +1,4 @@
+pub mod Fronts
+pub mod InStep
+pub mod Links
 pub mod Own

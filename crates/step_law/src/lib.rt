@@ -1,12 +1,43 @@
-//! What the events of the exchange over bytes do to its values: each event that reads no frame does what it does in the model of
-//! values, whatever stands on the wires.
+//! What the events of the exchange over bytes do to its values: each event does what it does in the model of values. Of one that
+//! reads no frame this holds whatever stands on the wires; of a Serve, a Take and a Crash that keeps its front it holds where the
+//! front is heard as what it was made for.
 //!
-//! The law is a public function with an empty body, whose contract is the statement.
+//! Each law is a public function with an empty body, whose contract is the statement.
 #![tactic(auto)]
 
 ghost use Rattle.step_law.specs.Own.{OwnEvents};
+ghost use Rattle.step_law.specs.Fronts.{FrontsAreServed, FrontsAreTaken};
+ghost use Rattle.step_law.specs.InStep.{TiedGoesInStep, TiesAreKept};
+
+use credit_law::nothing_is_refused_law;
 
 /// Of every world, also of one that was tampered with, and of every event but a Serve, a Take and a Crash that keeps its front.
 pub fn own_events_law()
     ensures own { OwnEvents }
+{}
+
+/// A Serve and a Crash that keeps its front, where the front of what goes up reads as its message, its ids are held and a nonce is
+/// left: the server takes that message, with the answer of the model of values (MS-SMB2 3.3.5.2).
+pub fn fronts_served_law()
+    ensures served { FrontsAreServed }
+{}
+
+/// A Take, where the front of what comes down opens or verifies and is heard as the reply that it was made for; in a dialog a
+/// response of the status that is due has no fault besides (MS-SMB2 3.2.5.1).
+pub fn fronts_taken_law()
+    ensures taken { FrontsAreTaken }
+{}
+
+/// Of a world whose ends are tied as `IsTied` says: each event does to its values what it does in the model, and each request that
+/// waits is heard as the message that it was made for.
+pub fn in_step_law()
+    ensures in_step { TiedGoesInStep }
+{
+    nothing_is_refused_law();
+}
+
+/// The opening state is tied, and each event that closes ends or is the client's alone leaves a world tied: all but an Open, a
+/// Push, a Serve, a Take and a Crash that keeps its front, of which this isn't proved here.
+pub fn ties_law()
+    ensures kept { TiesAreKept }
 {}

@@ -75,19 +75,21 @@ pub record AreCommandsLawful : Type 0 where
       IsHeardAlike op (reply_of (request_of op 0 0 0 0) (header_as h m) m).body r.body
   pub refused : (c : Command) (h : Header) (m : List ℕ) → (h.status ≡ success → ⊥) → (reply_of c (header_as h m) m).body ≡ Empty
 
--- ---- a dialog's messages
+-- ---- a dialog's messages: NEGOTIATE, SESSION_SETUP and TREE_CONNECT, each both ways
 
-pub record AreDialogsLawful (z : WorldSettings) : Type 0 where
-  -- NEGOTIATE, both ways
+pub record IsGreetingHeard (z : WorldSettings) : Type 0 where
   pub greeting : (salt : List ℕ) (m : Message) → length salt ≡ 32 → IsSent m 1 →
       (negotiate_status (greeting_text z.client salt m) ≡ success) × (negotiated (greeting_text z.client salt m) ≡ chosen_of z.client)
       × (client_told (greeting_text z.client salt m) ≡ number_of z.client.guid)
+
+pub record IsGreetingAnswered (z : WorldSettings) : Type 0 where
   pub greeted : (salt answer_salt : List ℕ) (m : Message) (now : ℕ) (h : Header) (r : List ℕ) →
       length salt ≡ 32 → length answer_salt ≡ 32 → IsSent m 1 → now < 256 ^ 8
       → IsWritableHeader h → IsMessage h (negotiate_response_body z.server.guid answer_salt now (greeting_text z.client salt m)) r →
       (has_contexts r ≡ true) × (choice_fault z.client r ≡ None) × (is_hint (negotiate_response_in r).security ≡ true)
       × ((chosen_told r).cipher ≡ (chosen_of z.client).cipher) × ((chosen_told r).signing ≡ (chosen_of z.client).signing)
-  -- SESSION_SETUP, both ways
+
+pub record AreSetupsLawful : Type 0 where
   pub setup : (t : Told) (bound : Bool) (previous : ℕ) (token : List ℕ) (m : Message) (r : List ℕ) → IsSent m 1 → previous < 256 ^ 8 →
       length token < 256 ^ 2 → (r ≡ setup_text bound previous token m) × (bound ≡ false)
       ⊎ (s : Signer) × (r ≡ signed s (setup_text bound previous token m)) × (bound ≡ true) →
@@ -104,7 +106,8 @@ pub record AreDialogsLawful (z : WorldSettings) : Type 0 where
   pub told : (c : Command) (h : Header) (token r : List ℕ) (reply : Reply) (bound : Bool) → IsWritableHeader h
       → IsMessage h (reply_body token c reply) r →
       IsSetUpBy c reply token → (body_reads (SaidSecond bound) r ≡ true) × (setup_token r ≡ token) × (setup_flags r ≡ flags_of reply)
-  -- TREE_CONNECT, both ways
+
+pub record AreTreesLawful (z : WorldSettings) : Type 0 where
   pub tree : (t : Told) (h : Header) (m : List ℕ) → IsWritableHeader h → IsMessage h (body_of (TreeConnect z.share)) m → h.command ≡ 3 →
       command_of t (header_as h m) m ≡ Some (TreeConnect z.share)
   pub tree_told : (h : Header) (token r : List ℕ) (kind capabilities access : ℕ) (reply : Reply) → reply.status ≡ success →
@@ -140,9 +143,21 @@ pub record IsLawful (z : WorldSettings) : Type 0 where
   pub ciphers : AreCiphersLawful
   pub headers : AreHeadersLawful
   pub commands : AreCommandsLawful
-  pub dialogs : AreDialogsLawful z
+  pub greeting_heard : IsGreetingHeard z
+  pub greeting_answered : IsGreetingAnswered z
+  pub setups : AreSetupsLawful
+  pub trees : AreTreesLawful z
   pub tokens : AreTokensLawful z
 
 -- of any settings that fit
 abbrev pub WireFacts : Type 0
 WireFacts = (z : WorldSettings) → IsFitting z → IsLawful z
+
+abbrev pub TreeFacts : Type 0
+TreeFacts = (z : WorldSettings) → IsFitting z → AreTreesLawful z
+
+abbrev pub GreetingFacts : Type 0
+GreetingFacts = (z : WorldSettings) → IsFitting z → IsGreetingHeard z
+
+abbrev pub AnswerFacts : Type 0
+AnswerFacts = (z : WorldSettings) → IsFitting z → IsGreetingAnswered z
