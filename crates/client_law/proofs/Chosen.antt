@@ -1,10 +1,9 @@
 -- Small facts on tests and on tables, and the two branches of a step.
-use Rattle.std.proofs.Common.{◌≡◌, ℕ, ◌+◌, ◌<◌, ◌≤◌, ◌==◌, ◌&&◌, ◌||◌, not, nat_le, nat_lt, Bool, true, false}
+use Rattle.std.proofs.Common.{◌≡◌, ℕ, ◌<◌, ◌≤◌, ◌==◌, ◌&&◌, ◌||◌, not, nat_le, nat_lt, Bool, true, false}
 use Rattle.std.proofs.Common.{if◌then◌else◌, arith, ◌⊎◌, inl, inr, sym, ◌∙◌, ap, refl, Option, Some, None, is_some}
 use Rattle.std.proofs.Common.{is_none}
 use Rattle.exchange_defs.specs.Table.{put}
 use Rattle.exchange_defs.specs.Client.{Client}
-use Rattle.client_law.proofs.Moves.{true_or_false}
 
 -- what holds in both branches
 pub in_both : (P : Client → Type 0) (b : Bool) (x y : Client) → (b ≡ true → P x) → (b ≡ false → P y) → P (if b then x else y)

@@ -1,18 +1,18 @@
 -- The session ends, or its last channel is cut.
-use Rattle.std.proofs.Common.{◌≡◌, ℕ, ◌+◌, ◌<◌, ◌≤◌, ◌==◌, ◌&&◌, ◌||◌, not, Bool, true, false, if◌then◌else◌, arith}
-use Rattle.std.proofs.Common.{◌⊎◌, inl, inr, sym, ◌∙◌, ap, refl, Option, Some, None, is_some}
-use Rattle.exchange_defs.specs.Operations.{Op, OpReply, Outcome, Unsettled, WasOk, WasRefused, NoSlot, NoOpen, Unknown}
+use Rattle.std.proofs.Common.{◌≡◌, ℕ, ◌==◌, ◌&&◌, ◌||◌, not, Bool, true, false, if◌then◌else◌, arith}
+use Rattle.std.proofs.Common.{◌⊎◌, inl, inr, refl, Option, Some, None, is_some}
+use Rattle.exchange_defs.specs.Operations.{Outcome, Unsettled, WasOk, WasRefused, NoSlot, NoOpen, Unknown}
 use Rattle.exchange_defs.specs.Operations.{Why, SessionLost, is_create, is_ok, is_unsettled, persists}
-use Rattle.exchange_defs.specs.Client.{Client, create_for, is_gone, is_gone_after, end_session, outcome_after_end}
-use Rattle.exchange_defs.specs.Client.{plain_after_end, unsent_after_end, on_after_cut, cut_channel, ends_at_cut}
+use Rattle.exchange_defs.specs.Client.{Client, create_for, is_gone_after, end_session, outcome_after_end}
+use Rattle.exchange_defs.specs.Client.{unsent_after_end, on_after_cut, cut_channel, ends_at_cut}
 use Rattle.exchange_defs.specs.ClientStep.{cut_after}
-use Rattle.client_law.specs.Columns.{Ops, Standing, ops_of, standing_of}
-use Rattle.client_law.specs.Kept.{Kept, Ordered, Stands}
-use Rattle.client_law.proofs.Moves.{true_or_false, clash}
-use Rattle.client_law.proofs.Ending.{Ends, IsLost, ended_stands}
-use Rattle.client_law.proofs.Sending.{Sends, sent_stands}
+use Rattle.client_law.specs.Columns.{ops_of, standing_of}
+use Rattle.client_law.specs.Kept.{Kept}
+use Rattle.client_law.proofs.Moves.{clash}
+use Rattle.client_law.proofs.Ending.{ended_stands}
+use Rattle.client_law.proofs.Sending.{sent_stands}
 use Rattle.client_law.proofs.Heard.{ok_is_settled}
-use Rattle.client_law.proofs.Chosen.{in_both, and_left, and_right}
+use Rattle.client_law.proofs.Chosen.{in_both}
 
 -- ---- one operation's outcome: persist, sent, create, and its create's outcome and whether that went out
 

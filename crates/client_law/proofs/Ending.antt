@@ -1,8 +1,8 @@
 -- The session ends: what hung on a plain open is given up.
-use Rattle.std.proofs.Common.{◌≡◌, ℕ, ◌+◌, ◌<◌, ◌≤◌, Bool, true, false, arith, ◌⊎◌, inl, inr, sym, ◌∙◌, ap, subst, refl}
+use Rattle.std.proofs.Common.{◌≡◌, ℕ, ◌<◌, ◌≤◌, true, false, arith, ◌⊎◌, inl, inr, sym, ◌∙◌, ap, refl}
 use Rattle.client_law.specs.Columns.{Ops, Standing, IsFirst, AllSettled}
 use Rattle.client_law.specs.Kept.{Ordered, Stands}
-use Rattle.client_law.proofs.Moves.{Moves, moved, true_or_false, stays, clash, first_stays, whole_first}
+use Rattle.client_law.proofs.Moves.{moved, true_or_false, stays, clash, whole_first}
 
 -- why one settles: it went out, or its create did, or its create is settled
 abbrev pub IsLost : Ops → Standing → ℕ → Type 0

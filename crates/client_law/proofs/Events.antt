@@ -1,27 +1,26 @@
 -- Each event keeps what is kept, and it holds at the beginning.
 use Rattle.std.proofs.Common.{◌≡◌, ℕ, ◌+◌, ◌<◌, ◌≤◌, ◌==◌, ◌&&◌, ◌||◌, not, nat_le, nat_lt, Bool, true, false}
-use Rattle.std.proofs.Common.{if◌then◌else◌, arith, ◌⊎◌, inl, inr, sym, ◌∙◌, ap, refl, Option, Some, None, is_some}
+use Rattle.std.proofs.Common.{if◌then◌else◌, arith, inl, inr, sym, ◌∙◌, ap, refl, is_some}
 use Rattle.exchange_defs.specs.Table.{put}
-use Rattle.exchange_defs.specs.Operations.{Op, OpReply, Outcome, Unsettled, WasOk, WasRefused, NoSlot, NoOpen, Unknown}
+use Rattle.exchange_defs.specs.Operations.{Op, Outcome, Unsettled, WasOk, WasRefused, NoSlot, NoOpen, Unknown}
 use Rattle.exchange_defs.specs.Operations.{Why, create_of, is_create, is_ok, is_unsettled, persists, holds_up}
-use Rattle.exchange_defs.specs.Operations.{keeps_limits}
 use Rattle.exchange_defs.specs.Client.{Client, create_for, is_gone, is_gone_after, may_take, take_op, outcome_at_first}
 use Rattle.exchange_defs.specs.Client.{is_taken, outcome_after_finish, finish, bind_channel, begin_session}
 use Rattle.exchange_defs.specs.Client.{leave_dialog, note_refusal}
 use Rattle.exchange_defs.specs.ClientStep.{ClientEvent, TakesOp, Pushes, Hears, IsCut, IsReady, IsRefused, Finishes}
 use Rattle.exchange_defs.specs.ClientStep.{client_after, ready_after, becomes_ready}
 use Rattle.exchange_defs.specs.Network.{Settings, start}
-use Rattle.client_law.specs.Columns.{Ops, Standing, ops_of, standing_of, IsFirst, AllSettled}
-use Rattle.client_law.specs.Kept.{Kept, Ordered, Stands, IsTimely}
-use Rattle.client_law.proofs.Moves.{Moves, moved, true_or_false, clash, whole_first}
-use Rattle.client_law.proofs.Sending.{Sends, sent_stands}
-use Rattle.client_law.proofs.Taking.{Takes, taken_stands}
+use Rattle.client_law.specs.Columns.{ops_of, standing_of}
+use Rattle.client_law.specs.Kept.{Kept, Ordered, IsTimely}
+use Rattle.client_law.proofs.Moves.{moved, clash, whole_first}
+use Rattle.client_law.proofs.Sending.{sent_stands}
+use Rattle.client_law.proofs.Taking.{taken_stands}
 use Rattle.client_law.proofs.Heard.{ok_is_settled}
 use Rattle.client_law.proofs.Ended.{cut_keeps}
 use Rattle.client_law.proofs.Pushed.{push_keeps}
 use Rattle.client_law.proofs.Replies.{hear_keeps}
-use Rattle.client_law.proofs.Chosen.{in_both, put_here, put_there, and_left, and_right, or_cases, not_true, is_same}
-use Rattle.client_law.proofs.Chosen.{is_positive, is_less, is_at_most, same_or_other}
+use Rattle.client_law.proofs.Chosen.{in_both, put_here, put_there, and_left, and_right, or_cases, is_same}
+use Rattle.client_law.proofs.Chosen.{is_positive, is_less, same_or_other}
 
 -- ---- a channel becomes ready, or its dialog is refused
 

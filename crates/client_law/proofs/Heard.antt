@@ -1,20 +1,18 @@
 -- A reply is heard: its operation settles, goes out again, attaches its open, or the session ends.
-use Rattle.std.proofs.Common.{◌≡◌, ℕ, ◌+◌, ◌<◌, ◌≤◌, ◌==◌, ◌&&◌, ◌||◌, not, Bool, true, false, if◌then◌else◌, List, []}
-use Rattle.std.proofs.Common.{◌∷◌, ◌++◌, arith, ◌⊎◌, inl, inr, sym, ◌∙◌, ap, refl, Option, Some, None, is_some}
-use Rattle.exchange_defs.specs.Table.{put, is_at}
-use Rattle.exchange_defs.specs.State.{Reply, Body}
-use Rattle.exchange_defs.specs.Operations.{Op, OpReply, OpCreate, OpClose, Outcome, Unsettled, WasOk, WasRefused}
-use Rattle.exchange_defs.specs.Operations.{NoSlot, NoOpen, Unknown, WithStatus, create_of, is_create, is_close, is_ok}
+use Rattle.std.proofs.Common.{◌≡◌, ℕ, ◌==◌, ◌&&◌, ◌||◌, not, Bool, true, false, if◌then◌else◌}
+use Rattle.std.proofs.Common.{arith, ◌⊎◌, inl, inr, sym, ◌∙◌, ap, refl, is_some}
+use Rattle.exchange_defs.specs.Table.{put}
+use Rattle.exchange_defs.specs.Operations.{Op, Outcome, Unsettled, WasOk, WasRefused}
+use Rattle.exchange_defs.specs.Operations.{NoSlot, NoOpen, Unknown, is_create, is_close, is_ok}
 use Rattle.exchange_defs.specs.Operations.{is_unsettled, persists, holds_up}
-use Rattle.exchange_defs.specs.Client.{Client, create_for, is_gone, is_gone_after, is_attached}
-use Rattle.exchange_defs.specs.Settling.{Heard, Settles as SettlesAs, GoesAgain, Attaches, EndsSession, without_open}
-use Rattle.exchange_defs.specs.Settling.{give_up_on, with_no_opens, settled, answered, joined}
-use Rattle.client_law.specs.Columns.{Ops, Standing, ops_of, standing_of, IsFirst, AllSettled}
-use Rattle.client_law.specs.Kept.{Kept, Ordered, Stands}
+use Rattle.exchange_defs.specs.Client.{Client, create_for, is_gone, is_gone_after}
+use Rattle.exchange_defs.specs.Settling.{without_open}
+use Rattle.exchange_defs.specs.Settling.{with_no_opens, settled}
+use Rattle.client_law.specs.Columns.{ops_of, standing_of, AllSettled}
+use Rattle.client_law.specs.Kept.{Kept}
 use Rattle.client_law.proofs.Moves.{true_or_false, clash}
-use Rattle.client_law.proofs.Settling.{Settles, settled_stands, create_whole, create_none_out, close_whole, close_none_out}
-use Rattle.client_law.proofs.Sending.{Sends, sent_stands}
-use Rattle.client_law.proofs.Chosen.{in_both, put_here, put_there, and_left, and_right, not_true, is_same, same_or_other, put_none}
+use Rattle.client_law.proofs.Settling.{settled_stands, create_whole, create_none_out, close_whole, close_none_out}
+use Rattle.client_law.proofs.Chosen.{put_here, put_there, and_left, and_right, not_true, is_same, same_or_other, put_none}
 
 -- ---- what an operation of an open that is gone comes to
 

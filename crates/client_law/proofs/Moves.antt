@@ -1,5 +1,5 @@
 -- One event over what was taken: what it may change, and that it keeps all that is kept.
-use Rattle.std.proofs.Common.{◌≡◌, ℕ, ◌+◌, ◌<◌, ◌≤◌, Bool, true, false, arith, ◌⊎◌, inl, inr, sym, ◌∙◌, ap, subst, refl}
+use Rattle.std.proofs.Common.{◌≡◌, ℕ, ◌<◌, ◌≤◌, Bool, true, false, arith, ◌⊎◌, inl, inr, refl}
 use Rattle.client_law.specs.Columns.{Ops, Standing, IsFirst, AllSettled}
 use Rattle.client_law.specs.Kept.{Ordered, Stands}
 

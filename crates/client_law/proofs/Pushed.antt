@@ -1,19 +1,19 @@
 -- Push: locks for which there is no slot settle, and an operation goes out, or a request to attach in its place.
-use Rattle.std.proofs.Common.{◌≡◌, ℕ, ◌+◌, ◌<◌, ◌≤◌, ◌&&◌, not, nat_le, nat_lt, Bool, true, false, if◌then◌else◌, List}
-use Rattle.std.proofs.Common.{[], ◌∷◌, arith, ◌⊎◌, inl, inr, sym, ◌∙◌, ap, refl, Option, Some, None, is_some, is_none}
+use Rattle.std.proofs.Common.{◌≡◌, ℕ, Bool, true, false, if◌then◌else◌, List}
+use Rattle.std.proofs.Common.{[], ◌∷◌, arith, ◌⊎◌, inl, inr, sym, ◌∙◌, ap, refl, Option, Some, None, is_some}
 use Rattle.exchange_defs.specs.Table.{put}
-use Rattle.exchange_defs.specs.Operations.{Op, Outcome, Unsettled, WasOk, NoSlot, is_create, is_ok, is_unsettled, is_lock}
-use Rattle.exchange_defs.specs.Client.{Client, create_for, is_gone, is_gone_after, may_push, waits, has_open, is_taken}
-use Rattle.exchange_defs.specs.Client.{goes_itself, needs_slot, has_free, has_its_slot, lacks_slot, settle_no_slot}
-use Rattle.exchange_defs.specs.Client.{settle_no_slots, begun, begin, again, outstanding, asked, take_slot}
+use Rattle.exchange_defs.specs.Operations.{Op, Outcome, NoSlot, is_create, is_ok, is_unsettled, is_lock}
+use Rattle.exchange_defs.specs.Client.{Client, create_for, is_gone_after, may_push}
+use Rattle.exchange_defs.specs.Client.{goes_itself, has_its_slot, lacks_slot, settle_no_slot}
+use Rattle.exchange_defs.specs.Client.{settle_no_slots, begin, again, outstanding, asked}
 use Rattle.exchange_defs.specs.ClientStep.{Pick, itself_after, op_after, pick_after, push_after}
-use Rattle.client_law.specs.Columns.{Ops, Standing, ops_of, standing_of, IsFirst}
-use Rattle.client_law.specs.Kept.{Kept, Ordered, Stands}
-use Rattle.client_law.proofs.Moves.{Goes, true_or_false, clash}
-use Rattle.client_law.proofs.Sending.{Sends, sent_stands, Drops, dropped_stands}
+use Rattle.client_law.specs.Columns.{ops_of, standing_of}
+use Rattle.client_law.specs.Kept.{Kept, Stands}
+use Rattle.client_law.proofs.Moves.{Goes, clash}
+use Rattle.client_law.proofs.Sending.{sent_stands, dropped_stands}
 use Rattle.client_law.proofs.Waiting.{waits_not}
 use Rattle.client_law.proofs.Chosen.{in_both, put_here, put_there, and_left, and_right, or_cases, not_true, is_positive}
-use Rattle.client_law.proofs.Chosen.{is_at_most, none_is_out, put_is_some, put_is_true, same_or_other}
+use Rattle.client_law.proofs.Chosen.{is_at_most, none_is_out, put_is_some, put_is_true}
 
 -- what a push asks of an operation
 pub record MayGo (c : Client) (k g : ℕ) : Type 0 where

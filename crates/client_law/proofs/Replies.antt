@@ -1,27 +1,27 @@
 -- What a reply comes to, for each line of the settling table.
-use Rattle.std.proofs.Common.{◌≡◌, ℕ, ◌+◌, ◌<◌, ◌≤◌, ◌==◌, ◌&&◌, ◌||◌, not, nat_lt, Bool, true, false, if◌then◌else◌}
-use Rattle.std.proofs.Common.{List, [], ◌∷◌, ◌++◌, arith, ◌⊎◌, inl, inr, sym, ◌∙◌, ap, subst, refl, Option, Some, None}
+use Rattle.std.proofs.Common.{◌≡◌, ℕ, ◌==◌, ◌&&◌, ◌||◌, not, Bool, true, false, if◌then◌else◌}
+use Rattle.std.proofs.Common.{arith, ◌⊎◌, inl, inr, sym, ◌∙◌, ap, subst, refl, Option, Some, None}
 use Rattle.std.proofs.Common.{is_some}
 use Rattle.exchange_defs.specs.Table.{put, put2, is_at}
 use Rattle.exchange_defs.specs.Status.{success, user_session_deleted, disk_full}
 use Rattle.exchange_defs.specs.State.{Reply, Body}
 use Rattle.exchange_defs.specs.Operations.{Op, OpReply, Outcome, Unsettled, WasOk, WasRefused, NoSlot, NoOpen, Unknown}
-use Rattle.exchange_defs.specs.Operations.{WithStatus, IsDone, create_of, is_create, is_close, is_lock, is_ok}
+use Rattle.exchange_defs.specs.Operations.{is_create, is_close, is_lock, is_ok}
 use Rattle.exchange_defs.specs.Operations.{is_unsettled, persists, value_in, id_in}
-use Rattle.exchange_defs.specs.Client.{Client, create_for, is_gone, is_gone_after, is_attached, end_session}
+use Rattle.exchange_defs.specs.Client.{Client, create_for, is_gone, is_gone_after}
 use Rattle.exchange_defs.specs.Settling.{Heard, Settles as SettlesAs, GoesAgain, Attaches, EndsSession, with_no_opens}
 use Rattle.exchange_defs.specs.Settling.{settled, answered, joined, settle, hear, heard, noted, noted_ok, noted_full}
 use Rattle.exchange_defs.specs.Settling.{settles_open, ok_or_unknown, refused, was_closed, may_have_acted, refuses_all}
 use Rattle.exchange_defs.specs.Settling.{goes_again, is_awaited}
 use Rattle.exchange_defs.specs.ClientStep.{hear_after}
-use Rattle.client_law.specs.Columns.{Ops, Standing, ops_of, standing_of, IsFirst, AllSettled}
-use Rattle.client_law.specs.Kept.{Kept, Ordered, Stands}
+use Rattle.client_law.specs.Columns.{ops_of, standing_of}
+use Rattle.client_law.specs.Kept.{Kept}
 use Rattle.client_law.proofs.Moves.{true_or_false, clash}
-use Rattle.client_law.proofs.Settling.{Settles, settled_stands}
-use Rattle.client_law.proofs.Sending.{Sends, sent_stands}
+use Rattle.client_law.proofs.Settling.{settled_stands}
+use Rattle.client_law.proofs.Sending.{sent_stands}
 use Rattle.client_law.proofs.Heard.{noted_by, opening_keeps, ok_is_settled, out_is_put}
 use Rattle.client_law.proofs.Ended.{end_keeps}
-use Rattle.client_law.proofs.Chosen.{in_both, put_here, put_there, and_left, and_right, or_cases, not_true, is_same}
+use Rattle.client_law.proofs.Chosen.{in_both, put_here, put_there, and_left}
 use Rattle.client_law.proofs.Chosen.{same_or_other, put_none}
 
 -- ---- an operation that is no create and no close settles

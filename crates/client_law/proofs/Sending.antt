@@ -1,8 +1,8 @@
 -- Events that settle nothing, or one that may go out.
-use Rattle.std.proofs.Common.{◌≡◌, ℕ, ◌+◌, ◌<◌, ◌≤◌, Bool, true, false, arith, ◌⊎◌, inl, inr, sym, ◌∙◌, ap, subst, refl}
-use Rattle.client_law.specs.Columns.{Ops, Standing, IsFirst, AllSettled}
+use Rattle.std.proofs.Common.{◌≡◌, ℕ, ◌<◌, ◌≤◌, true, false, arith, ◌⊎◌, inl, inr, sym, ◌∙◌, ap, subst}
+use Rattle.client_law.specs.Columns.{Ops, Standing, IsFirst}
 use Rattle.client_law.specs.Kept.{Ordered, Stands}
-use Rattle.client_law.proofs.Moves.{Moves, Goes, moved, true_or_false, stays, clash, first_stays, whole_first}
+use Rattle.client_law.proofs.Moves.{Goes, moved, stays, clash, first_stays}
 
 -- what is outstanding, what was sent, and which opens are gone change
 pub record Sends (o : Ops) (s t : Standing) : Type 0 where

@@ -1,8 +1,8 @@
 -- A reply settles an operation, and with it what never went out of an open that is gone then.
-use Rattle.std.proofs.Common.{◌≡◌, ℕ, ◌+◌, ◌<◌, ◌≤◌, Bool, true, false, arith, ◌⊎◌, inl, inr, sym, ◌∙◌, ap, subst, refl}
+use Rattle.std.proofs.Common.{◌≡◌, ℕ, ◌<◌, ◌≤◌, true, false, arith, ◌⊎◌, inl, inr, sym, ◌∙◌, ap, subst}
 use Rattle.client_law.specs.Columns.{Ops, Standing, IsFirst, AllSettled}
 use Rattle.client_law.specs.Kept.{Ordered, Stands}
-use Rattle.client_law.proofs.Moves.{Moves, Goes, moved, true_or_false, stays, clash, first_stays, whole_first}
+use Rattle.client_law.proofs.Moves.{moved, true_or_false, stays, clash, first_stays, whole_first}
 
 -- g settles
 pub record Settles (o : Ops) (s t : Standing) (g : ℕ) : Type 0 where

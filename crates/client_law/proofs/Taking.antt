@@ -1,6 +1,6 @@
 -- An operation is taken: it is unsettled, or settled where its open is gone.
-use Rattle.std.proofs.Common.{◌≡◌, ℕ, ◌+◌, ◌<◌, ◌≤◌, Bool, true, false, arith, ◌⊎◌, inl, inr, sym, ◌∙◌, ap, subst, refl}
-use Rattle.client_law.specs.Columns.{Ops, Standing, IsFirst, AllSettled}
+use Rattle.std.proofs.Common.{◌≡◌, ℕ, ◌+◌, ◌<◌, ◌≤◌, true, false, arith, ◌⊎◌, inl, inr, sym, ◌∙◌, ap, subst}
+use Rattle.client_law.specs.Columns.{Ops, Standing, IsFirst}
 use Rattle.client_law.specs.Kept.{Ordered, Stands}
 use Rattle.client_law.proofs.Moves.{true_or_false, clash}
 

@@ -1,11 +1,10 @@
 -- What waits, as the model says it and as a fact on each lower operation.
-use Rattle.std.proofs.Common.{◌≡◌, ℕ, zero, suc, ◌+◌, ◌<◌, ◌≤◌, ◌==◌, ◌&&◌, Bool, true, false, if◌then◌else◌, refl}
-use Rattle.std.proofs.Common.{arith, ◌⊎◌, inl, inr, sym, ◌∙◌, ap}
+use Rattle.std.proofs.Common.{◌≡◌, ℕ, zero, suc, ◌<◌, ◌==◌, ◌&&◌, Bool, true, false, if◌then◌else◌, refl}
+use Rattle.std.proofs.Common.{arith, ◌⊎◌, inl, inr, sym}
 use Rattle.exchange_defs.specs.Operations.{is_unsettled, holds_up}
 use Rattle.exchange_defs.specs.Client.{Client, create_for, waits}
 use Rattle.client_law.specs.Columns.{ops_of, standing_of, IsFirst}
-use Rattle.client_law.specs.Kept.{Kept, Ordered}
-use Rattle.client_law.proofs.Moves.{true_or_false}
+use Rattle.client_law.specs.Kept.{Ordered}
 
 waits_step : (same holds stands rest : Bool) → rest ≡ false → (same ≡ true → holds ≡ true → stands ≡ false)
     → (if same && holds then (if stands then true else rest) else rest) ≡ false

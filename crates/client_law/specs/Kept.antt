@@ -1,6 +1,5 @@
 -- What holds of a client's table whatever happened, as long as it gives up only while no session is live.
 use Rattle.std.specs.Prelude.{◌≡◌, ℕ, ◌<◌, ◌≤◌, true, false}
-use Rattle.exchange_defs.specs.Operations.{Why}
 use Rattle.exchange_defs.specs.Client.{Client}
 use Rattle.exchange_defs.specs.ClientStep.{ClientEvent, Finishes}
 use Rattle.client_law.specs.Columns.{Ops, Standing, ops_of, standing_of, IsFirst}

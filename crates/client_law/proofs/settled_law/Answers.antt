@@ -1,4 +1,4 @@
-use Rattle.std.proofs.Common.{◌≡◌, ℕ, ◌<◌, ◌≤◌, true, false, sym, ◌∙◌, ap, inl, inr, arith}
+use Rattle.std.proofs.Common.{ℕ, ◌<◌, ◌≤◌, inl, inr, arith}
 use Rattle.exchange_defs.specs.Operations.{is_create}
 use Rattle.exchange_defs.specs.Client.{Client, create_for}
 use Rattle.client_law.specs.Kept.{Kept}
