@@ -18,7 +18,7 @@ fn all_fit(bytes: &[u8], count: u16) -> bool
     let mut end = 0;
     let mut left = count;
     while left > 0 {
-        let Ok(context) = context_behind(bytes, end) else {
+        let Some(context) = context_behind(bytes, end) else {
             return false;
         };
         if !lists_fit(context.kind, context.bytes) {
@@ -44,7 +44,7 @@ fn doubled(bytes: &[u8], count: u16) -> Option<u16>
     let mut end = 0;
     let mut left = count;
     while left > 0 {
-        let Ok(context) = context_behind(bytes, end) else {
+        let Some(context) = context_behind(bytes, end) else {
             return None;
         };
         if doubles(seen, context.kind) {
@@ -71,7 +71,7 @@ fn first_of(bytes: &[u8], count: u16, kind: u16) -> Option<&[u8]>
     let mut end = 0;
     let mut left = count;
     while left > 0 {
-        let Ok(context) = context_behind(bytes, end) else {
+        let Some(context) = context_behind(bytes, end) else {
             return None;
         };
         if context.kind == kind {

@@ -1,9 +1,9 @@
-ghost use Rattle.std.specs.Prelude.{◌≡◌, ◌+◌, ◌≤◌, ◌<◌, length, MatchOption, MatchResult};
+ghost use Rattle.std.specs.Prelude.{◌≡◌, ◌+◌, ◌≤◌, ◌<◌, length, MatchOption};
 ghost use Rattle.wire_defs.specs.Places.{number, bytes_at};
 ghost use Rattle.wire_defs.specs.Fault.{Reads};
 ghost use Rattle.wire_defs.specs.Contexts.{AreContexts, contexts_fault, context_place, context_end, contexts_end};
 
-use smb_bytes::{Cursor, Short};
+use smb_bytes::Cursor;
 use wire_defs::{MessageError, Part};
 
 /// A context of a NEGOTIATE (MS-SMB2 2.2.3.1), and the place behind it.
@@ -14,22 +14,22 @@ pub struct ContextAt<'a> {
     pub end: usize,
 }
 
-/// The context of `m` that begins at the next multiple of 8 from `behind` on.
-pub fn context_behind(m: &[u8], behind: usize) -> Result<ContextAt<'_>, Short>
-    ensures found { MatchResult result (λ c. (c.kind ≡ number 2 m.now (context_place behind))
-        × (c.bytes.now ≡ bytes_at (number 2 m.now (context_place behind + 2)) m.now (context_place behind + 8)))
-        (λ _. length m.now < context_end m.now (context_place behind)) }
-    ensures end { MatchResult result (λ c. (c.end ≡ context_end m.now (context_place behind)) × (c.end ≤ length m.now))
-        (λ _. length m.now < context_end m.now (context_place behind)) }
+/// The context of `m` that begins at the next multiple of 8 from `behind` on, where it fits.
+pub fn context_behind(m: &[u8], behind: usize) -> Option<ContextAt<'_>>
+    ensures found { MatchOption result (length m.now < context_end m.now (context_place behind))
+        (λ c. (c.kind ≡ number 2 m.now (context_place behind))
+        × (c.bytes.now ≡ bytes_at (number 2 m.now (context_place behind + 2)) m.now (context_place behind + 8))) }
+    ensures end { MatchOption result (length m.now < context_end m.now (context_place behind))
+        (λ c. (c.end ≡ context_end m.now (context_place behind)) × (c.end ≤ length m.now)) }
 {
     let mut cursor = Cursor::new(m);
-    let _before = cursor.take(behind)?;
-    cursor.align8()?;
-    let kind = cursor.get_u16()?;
-    let len = cursor.get_u16()?;
-    let _reserved = cursor.get_u32()?;
-    let bytes = cursor.take(len as usize)?;
-    Ok(ContextAt {
+    let _before = cursor.take(behind).ok()?;
+    cursor.align8().ok()?;
+    let kind = cursor.get_u16().ok()?;
+    let len = cursor.get_u16().ok()?;
+    let _reserved = cursor.get_u32().ok()?;
+    let bytes = cursor.take(len as usize).ok()?;
+    Some(ContextAt {
         kind,
         bytes,
         end: cursor.at(),
@@ -45,7 +45,7 @@ fn end_of(m: &[u8], at: usize, count: u16) -> Option<usize>
     let mut end = at;
     let mut left = count;
     while left > 0 {
-        let Ok(context) = context_behind(m, end) else {
+        let Some(context) = context_behind(m, end) else {
             return None;
         };
         end = context.end;

@@ -20,13 +20,13 @@ returns-then-not-lists_fit c =
     let behind = c.loop-left.end in
     let left = c.loop-left.left in
     let some : left ≡ suc (left - 1) = omega arith in
-    let kind = c.in-Ok.context.kind in
-    let bytes = c.in-Ok.context.bytes.now in
-    let end = c.in-Ok.context.end in
+    let kind = c.in-Some.context.kind in
+    let bytes = c.in-Some.context.bytes.now in
+    let end = c.in-Some.context.end in
     let is : IsNext m behind kind bytes end = record {
-      is_kind = c.in-Ok.ensures.found.0;
-      is_bytes = c.in-Ok.ensures.found.1;
-      is_end = c.in-Ok.ensures.end.0;
+      is_kind = c.in-Some.ensures.found.0;
+      is_bytes = c.in-Some.ensures.found.1;
+      is_end = c.in-Some.ensures.end.0;
     } in
     let cs : contexts_in m behind left ≡ context kind bytes ∷ contexts_in m end (left - 1) = next_context m behind left
     (left - 1) kind bytes end some is in
@@ -40,18 +40,18 @@ loop-left-preserved c =
     let behind = c.loop-left.end in
     let left = c.loop-left.left in
     let some : left ≡ suc (left - 1) = omega arith in
-    let kind = c.in-Ok.context.kind in
-    let bytes = c.in-Ok.context.bytes.now in
-    let end = c.in-Ok.context.end in
+    let kind = c.in-Some.context.kind in
+    let bytes = c.in-Some.context.bytes.now in
+    let end = c.in-Some.context.end in
     let is : IsNext m behind kind bytes end = record {
-      is_kind = c.in-Ok.ensures.found.0;
-      is_bytes = c.in-Ok.ensures.found.1;
-      is_end = c.in-Ok.ensures.end.0;
+      is_kind = c.in-Some.ensures.found.0;
+      is_bytes = c.in-Some.ensures.found.1;
+      is_end = c.in-Some.ensures.end.0;
     } in
     let cs : contexts_in m behind left ≡ context kind bytes ∷ contexts_in m end (left - 1) = next_context m behind left
     (left - 1) kind bytes end some is in
     let fit : lists_fit (context kind bytes) ≡ true = sym c.lists_fit.ensures ∙ c.if-not-lists_fit.false in (
-      walks_on m c.args.count behind left (left - 1) kind bytes end c.loop-left.invariant.0 some is c.in-Ok.ensures.end.1,
+      walks_on m c.args.count behind left (left - 1) kind bytes end c.loop-left.invariant.0 some is c.in-Some.ensures.end.1,
       sym (ap all_fit cs ∙ fit_more (context kind bytes) (contexts_in m end (left - 1)) fit) ∙ c.loop-left.invariant.1,
     )
 

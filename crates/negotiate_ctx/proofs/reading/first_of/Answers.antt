@@ -22,13 +22,13 @@ returns-then-context-kind c =
     let behind = c.loop-left.end in
     let left = c.loop-left.left in
     let some : left ≡ suc (left - 1) = omega arith in
-    let kind = c.in-Ok.context.kind in
-    let bytes = c.in-Ok.context.bytes.now in
-    let end = c.in-Ok.context.end in
+    let kind = c.in-Some.context.kind in
+    let bytes = c.in-Some.context.bytes.now in
+    let end = c.in-Some.context.end in
     let is : IsNext m behind kind bytes end = record {
-      is_kind = c.in-Ok.ensures.found.0;
-      is_bytes = c.in-Ok.ensures.found.1;
-      is_end = c.in-Ok.ensures.end.0;
+      is_kind = c.in-Some.ensures.found.0;
+      is_bytes = c.in-Some.ensures.found.1;
+      is_end = c.in-Some.ensures.end.0;
     } in
     let cs : contexts_in m behind left ≡ context kind bytes ∷ contexts_in m end (left - 1) = next_context m behind left
     (left - 1) kind bytes end some is in
@@ -47,19 +47,19 @@ loop-left-preserved c =
     let behind = c.loop-left.end in
     let left = c.loop-left.left in
     let some : left ≡ suc (left - 1) = omega arith in
-    let kind = c.in-Ok.context.kind in
-    let bytes = c.in-Ok.context.bytes.now in
-    let end = c.in-Ok.context.end in
+    let kind = c.in-Some.context.kind in
+    let bytes = c.in-Some.context.bytes.now in
+    let end = c.in-Some.context.end in
     let is : IsNext m behind kind bytes end = record {
-      is_kind = c.in-Ok.ensures.found.0;
-      is_bytes = c.in-Ok.ensures.found.1;
-      is_end = c.in-Ok.ensures.end.0;
+      is_kind = c.in-Some.ensures.found.0;
+      is_bytes = c.in-Some.ensures.found.1;
+      is_end = c.in-Some.ensures.end.0;
     } in
     let cs : contexts_in m behind left ≡ context kind bytes ∷ contexts_in m end (left - 1) = next_context m behind left
     (left - 1) kind bytes end some is in
     let rest = contexts_in m end (left - 1) in
     let later = first_later c.args.kind (context kind bytes) rest c.if-context-kind.false in (
-      walks_on m c.args.count behind left (left - 1) kind bytes end c.loop-left.invariant.0 some is c.in-Ok.ensures.end.1,
+      walks_on m c.args.count behind left (left - 1) kind bytes end c.loop-left.invariant.0 some is c.in-Some.ensures.end.1,
       sym (ap (first_of c.args.kind) cs ∙ later) ∙ c.loop-left.invariant.1,
       (fit_each (context kind bytes) rest (sym (ap all_fit cs) ∙ c.loop-left.invariant.2)).1,
     )

@@ -14,9 +14,9 @@ returns-in_default c =
 pub loop-left-preserved : goal.loop-left-preserved
 loop-left-preserved c =
     let some : c.loop-left.left ≡ suc (c.loop-left.left - 1) = omega arith in (
-      sym (one_more c.loop-left.left (c.loop-left.left - 1) c.args.m.now c.loop-left.end c.in-Ok.context.end some
-          c.in-Ok.ensures.end.0) ∙ c.loop-left.invariant.0,
-      c.in-Ok.ensures.end.1,
+      sym (one_more c.loop-left.left (c.loop-left.left - 1) c.args.m.now c.loop-left.end c.in-Some.context.end some
+          c.in-Some.ensures.end.0) ∙ c.loop-left.invariant.0,
+      c.in-Some.ensures.end.1,
     )
 
 pub returns : goal.returns
