@@ -12,6 +12,3 @@ pub mod view;
 
 pub use book::Book;
 pub use shared::{BookSeat, Receipt, SharedBook};
-
-#[cfg(test)]
-mod tests;

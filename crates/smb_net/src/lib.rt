@@ -27,6 +27,3 @@ pub use net::Net;
 pub use std_clock::{StdClock, file_time};
 pub use std_link::StdLink;
 pub use std_net::StdNet;
-
-#[cfg(test)]
-mod tests;

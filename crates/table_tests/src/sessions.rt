@@ -1,5 +1,5 @@
 //! One session with two channels, and one whole logon.
-use ntlmv2::{Credentials, Users, answer_to, first_message, read_type2, sign_mech_list};
+use ntlmv2::{Credentials, Logon, Users, answer_to, first_message, read_type2, sign_mech_list};
 use session_bind::*;
 use session_defs::{Keys, Signer};
 use smb_bytes::{Bytes, Text};
@@ -104,9 +104,8 @@ fn init_token(alloc: Global) -> Result<Bytes, Fail> {
     Ok(write_init(alloc, &init)?)
 }
 
-// Its answer to a challenge.
-fn answer_token(alloc: Global, challenge: &[u8]) -> Result<Bytes, Fail> {
-    let second = read_resp(alloc, challenge)?.token.ok_or("no type 2")?;
+// Its third message to a challenge's.
+fn third_message(alloc: Global, second: &[u8]) -> Result<Bytes, Fail> {
     let client = Credentials {
         user: "uSER",
         password: "Password",
@@ -115,10 +114,14 @@ fn answer_token(alloc: Global, challenge: &[u8]) -> Result<Bytes, Fail> {
         key: [5; 16],
     };
     let first = first_message(alloc)?;
-    let value = read_type2(second.as_slice())?;
-    let third = answer_to(alloc, &client, first.as_slice(), second.as_slice(), &value)?.ok_or(
-        "no answer",
-    )?;
+    let value = read_type2(second)?;
+    Ok(answer_to(alloc, &client, first.as_slice(), second, &value)?.ok_or("no answer")?)
+}
+
+// Its answer to a challenge.
+fn answer_token(alloc: Global, challenge: &[u8]) -> Result<Bytes, Fail> {
+    let second = read_resp(alloc, challenge)?.token.ok_or("no type 2")?;
+    let third = third_message(alloc, second.as_slice())?;
     let mic = sign_mech_list(&[5; 16], true, true, &NTLM_LIST);
     let answer = RespToken {
         state: None,
@@ -132,16 +135,10 @@ fn answer_token(alloc: Global, challenge: &[u8]) -> Result<Bytes, Fail> {
     Ok(write_resp(alloc, &answer)?)
 }
 
-#[test]
-fn a_logon(rt: HostRuntime) -> Result<(), Fail> {
-    let alloc = rt.alloc();
-    let mut users = Users::new(alloc);
-    users.push(
-        Text::from_str(alloc, "User")?,
-        Text::from_str(alloc, "Password")?,
-    )?;
+// What the server makes of the first token: a logon in the making, and its challenge.
+fn challenged(alloc: Global, users: &Users) -> Result<(InMaking, Bytes), Fail> {
     let init = init_token(alloc)?;
-    let TokenShown::Begins(begun) = token_shown(alloc, &users, None, init.as_slice())? else {
+    let TokenShown::Begins(begun) = token_shown(alloc, users, None, init.as_slice())? else {
         return Err("no first token".into());
     };
     let (acceptor, challenge) = challenge_for(alloc, &begun, [1; 8], 77)?;
@@ -150,19 +147,57 @@ fn a_logon(rt: HostRuntime) -> Result<(), Fail> {
         list: begun.list,
         acceptor,
     };
-    let answer = answer_token(alloc, challenge.as_slice())?;
-    let shown = token_shown(alloc, &users, Some(&making), answer.as_slice())?;
+    Ok((making, challenge))
+}
+
+// What it makes of the answer.
+fn logged_on(
+    alloc: Global,
+    users: &Users,
+    making: &InMaking,
+    challenge: &[u8],
+) -> Result<(Logon, bool), Fail> {
+    let answer = answer_token(alloc, challenge)?;
+    let shown = token_shown(alloc, users, Some(making), answer.as_slice())?;
     let TokenShown::LoggedOn { logon, signs } = shown else {
         return Err("no logon".into());
     };
-    assert_eq!(rt;
-        (logon.user.as_str(), logon.key, signs),
-        ("User", [5; 16], true)
-    );
-    let ended = final_for(alloc, making.list.as_slice(), &logon, signs)?;
+    Ok((logon, signs))
+}
+
+// The server's last token has its own MIC.
+fn expect_final(
+    rt: &impl Abort,
+    alloc: Global,
+    list: &[u8],
+    logon: &Logon,
+    signs: bool,
+) -> Result<(), Fail> {
+    let ended = final_for(alloc, list, logon, signs)?;
     let told = read_resp(alloc, ended.as_slice())?;
     let code = told.mic.ok_or("no MIC")?;
     let mic = sign_mech_list(&[5; 16], false, true, &NTLM_LIST);
-    assert_eq!(rt; (told.state, code.as_slice()), (Some(0), mic.as_slice()));
+    assert_eq!(rt; told.state, Some(0));
+    assert_eq!(rt; code.as_slice(), mic.as_slice());
     Ok(())
+}
+
+fn two_users(alloc: Global) -> Result<Users, Fail> {
+    let mut users = Users::new(alloc);
+    users.push(Text::from_str(alloc, "bob")?, Text::from_str(alloc, "x")?)?;
+    let name = Text::from_str(alloc, "User")?;
+    users.push(name, Text::from_str(alloc, "Password")?)?;
+    Ok(users)
+}
+
+#[test]
+fn a_logon(rt: HostRuntime) -> Result<(), Fail> {
+    let alloc = rt.alloc();
+    let users = two_users(alloc)?;
+    let (making, challenge) = challenged(alloc, &users)?;
+    let (logon, signs) = logged_on(alloc, &users, &making, challenge.as_slice())?;
+    assert_eq!(rt; logon.user.as_str(), "User");
+    assert_eq!(rt; logon.key, [5; 16]);
+    assert!(rt; signs && logon.exchanged);
+    expect_final(&rt, alloc, making.list.as_slice(), &logon, signs)
 }

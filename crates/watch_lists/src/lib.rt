@@ -108,29 +108,3 @@ impl Watchers {
         Some(links::release_first(&mut self.links, holder))
     }
 }
-
-#[cfg(test)]
-mod tests {
-    use super::*;
-    use std::test::Fail;
-
-    #[test]
-    fn watchers_are_let_go(rt: HostRuntime) -> Result<(), Fail> {
-        let mut watchers = Watchers::new(rt.alloc());
-        for _ in 0..9 {
-            watchers.push()?;
-        }
-        assert_eq!(rt; watchers.len(), 9);
-        for index in [5, 8, 6] {
-            if watchers.len() == 9 && watchers.watched(index) == 0 {
-                watchers.watch(index, 2);
-            }
-        }
-        for released in [Some(8), Some(6), Some(5), None] {
-            if watchers.len() == 9 {
-                assert_eq!(rt; watchers.release(2), released);
-            }
-        }
-        Ok(())
-    }
-}

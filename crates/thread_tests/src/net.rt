@@ -1,6 +1,6 @@
-use crate::{Clock, Link, MemClock, MemLink, MemNet, Net, StdClock, StdNet, file_time};
 use smb_bytes::Bytes;
 use smb_io::{Address, Failed};
+use smb_net::{Clock, Link, MemClock, MemLink, MemNet, Net, StdClock, StdNet, file_time};
 use std::net::{Ipv4Addr, SocketAddr, TcpListener};
 use std::sync::Wait;
 use std::test::Fail;

@@ -1,7 +1,7 @@
 ghost use Rattle.std.specs.Prelude.{◌≡◌, ◌+◌, ◌%◌, ◌^◌, IfSome};
 ghost use Rattle.shared_book.specs.Words.{IsSameSeat, AreOfOneBook, IsSeatOf};
 
-use super::*;
+use shared_book::{Book, BookSeat, SharedBook};
 use std::snapshot::Snapshot;
 use std::sync::Wait;
 use std::test::Fail;
