@@ -34,3 +34,7 @@ pub record Lists (top : ℕ → ℕ) (at size : ℕ) (old new : List ℕ) : Type
   pub is : new ≡ old ++ more
   pub each : (i : ℕ) → i < length more → IsTop top at size (slice_index more i)
   pub all : (x : ℕ) → at ≤ x → x < at + size → x < 2 ^ 64 → (top x ≡ 0) ⊎ ((i : ℕ) × (i < length more) × (slice_index more i ≡ top x))
+
+-- a list, and what was added behind it
+abbrev pub GoesOn : (old new : List ℕ) → Type 0
+GoesOn old new = (more : List ℕ) × (new ≡ old ++ more)

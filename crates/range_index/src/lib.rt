@@ -2,7 +2,7 @@
 #![tactic(auto)]
 
 ghost use Rattle.std.specs.Prelude.{◌≡◌, ℕ, ◌==◌, if◌then◌else◌, [], ◌∷◌, ◌++◌, OnOk, OnErr};
-ghost use Rattle.range_index.specs.Tops.{Covers, Forgets, Lists};
+ghost use Rattle.range_index.specs.Tops.{Covers, Forgets, GoesOn, Lists};
 ghost use Rattle.range_index.specs.Shown.{top};
 
 mod keys;
@@ -23,7 +23,8 @@ pub struct RangeIndex {
 
 /// Adds a number to a list, where it is one.
 fn add(into: &mut Vec<u32>, number: u32) -> Result<(), AllocError>
-    ensures { OnOk result (into.new.items ≡ if number == 0 then into.old.items else into.old.items ++ number ∷ []) }
+    ensures ok { OnOk result (into.new.items ≡ if number == 0 then into.old.items else into.old.items ++ number ∷ []) }
+    ensures err { OnErr result (into.new.items ≡ into.old.items) }
 {
     if number != 0 {
         into.push(number)?;
@@ -50,7 +51,8 @@ impl RangeIndex {
 
     /// Adds to a list the number of each range that covers a byte of this one last. Where memory runs out some are added.
     pub fn tops_in(&self, at: u64, size: u64, into: &mut Vec<u32>) -> Result<(), AllocError>
-        ensures { OnOk result (Lists (top self.now) at size into.old.items into.new.items) }
+        ensures listed { OnOk result (Lists (top self.now) at size into.old.items into.new.items) }
+        ensures goes { GoesOn into.old.items into.new.items }
     {
         if size == 0 {
             return Ok(());
@@ -103,43 +105,5 @@ impl RangeIndex {
         ensures { (x : ℕ) → top self.new x ≡ 0 }
     {
         self.tops.clear();
-    }
-}
-
-#[cfg(test)]
-mod tests {
-    use super::*;
-    use std::test::Fail;
-
-    #[test]
-    fn later_ranges_hide_earlier_ones(rt: HostRuntime) -> Result<(), Fail> {
-        let alloc = rt.alloc();
-        let mut index = RangeIndex::new(alloc);
-        index.cover(10, 10, 1)?;
-        index.cover(15, 10, 2)?;
-        index.cover(u64::MAX, 5, 3)?;
-        for (at, top) in [
-            (9, 0),
-            (10, 1),
-            (14, 1),
-            (15, 2),
-            (24, 2),
-            (25, 0),
-            (u64::MAX - 1, 0),
-            (u64::MAX, 3),
-        ] {
-            assert_eq!(rt; index.top_at(at), top, "at {at}");
-        }
-        let mut tops = Vec::new(alloc);
-        index.tops_in(12, 100, &mut tops)?;
-        index.tops_in(20, 0, &mut tops)?;
-        index.tops_in(24, u64::MAX, &mut tops)?;
-        assert_eq!(rt; tops.as_slice(), [1, 2, 2, 3].as_slice());
-        index.forget(15, 10, 2);
-        assert_eq!(rt; index.top_at(20), 0);
-        assert_eq!(rt; index.top_at(12), 1);
-        index.clear();
-        assert_eq!(rt; index.top_at(12), 0);
-        Ok(())
     }
 }

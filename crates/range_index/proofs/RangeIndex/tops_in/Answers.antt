@@ -1,4 +1,4 @@
-use Rattle.std.proofs.Common.{◌≡◌, ℕ, ◌+◌, ◌<◌, ◌≤◌, List, Option, sym, ◌∙◌, subst, arith}
+use Rattle.std.proofs.Common.{◌≡◌, ℕ, ◌+◌, ◌<◌, ◌≤◌, List, [], Option, append-nil, sym, ◌∙◌, subst, arith}
 use Rattle.std.proofs.lemmas.Grind.{common_steps}
 use Rattle.std.specs.Ordering.{nat_cmp}
 use Rattle.std.specs.BTreeMap.{get}
@@ -30,13 +30,24 @@ returns-in_default c =
     let covers : (x : ℕ) → c.loop-key.from ≤ x → x < last + 1
     → top c.args.self.now x ≡ c.loop-key.number =
     λ x a b. flat keys c.loop-key.from x a (λ q m n. c.in_default.ensures.none q m (omega arith)) ∙ sym v.number in
-    whole (top c.args.self.now) c.args.at c.args.size (last + 1) c.args.into.now.items c.add.new.into.items
-    (subst (λ (xs : List ℕ). Listing (top c.args.self.now) c.args.at c.args.size (last + 1) c.args.into.now.items xs)
-    (sym c.in_ok-add.ensures)
+    let w : Listing (top c.args.self.now) c.args.at c.args.size (last + 1) c.args.into.now.items c.add.new.into.items =
+    subst (λ (xs : List ℕ). Listing (top c.args.self.now) c.args.at c.args.size (last + 1) c.args.into.now.items xs)
+    (sym c.in_ok-add.ensures.ok)
     (goes_on (top c.args.self.now) c.args.at c.args.size c.loop-key.from
     (last + 1) c.loop-key.number c.args.into.now.items c.loop-key.into.items v.listed v.behind within fits
-    (let a = v.within in omega arith) covers))
-    (λ x a b. let k = ends.1.1 x a b in omega arith)
+    (let a = v.within in omega arith) covers) in
+    record {
+      listed = whole (top c.args.self.now) c.args.at c.args.size (last + 1) c.args.into.now.items c.add.new.into.items w
+          (λ x a b. let k = ends.1.1 x a b in omega arith);
+      goes = (w.more, w.is);
+    }
+
+pub returns-then-size-eq0-clause-goes : goal.returns-then-size-eq0-clause-goes
+returns-then-size-eq0-clause-goes c = ([], sym (append-nil c.args.into.now.items))
+
+pub returns-in_err-add-clause-goes : goal.returns-in_err-add-clause-goes
+returns-in_err-add-clause-goes c =
+    let v = c.loop-key.invariant in (v.listed.more, c.in_err-add.ensures.err ∙ v.listed.is)
 
 pub loop-key-preserved : goal.loop-key-preserved
 loop-key-preserved c =
@@ -57,7 +68,7 @@ loop-key-preserved c =
       behind = (let a = v.behind in let b = e.behind.0 in omega arith);
       within = e.behind.1;
       listed = subst (λ (xs : List ℕ). Listing (top c.args.self.now) c.args.at c.args.size next c.args.into.now.items
-          xs) (sym c.in_ok-add.ensures)
+          xs) (sym c.in_ok-add.ensures.ok)
           (goes_on (top c.args.self.now) c.args.at c.args.size c.loop-key.from next c.loop-key.number
           c.args.into.now.items c.loop-key.into.items v.listed v.behind within fits e.behind.0 covers);
     }

@@ -1,0 +1,42 @@
+use Rattle.std.proofs.Common.{◌≡◌, ℕ, ◌<◌, List, length, inl, refl, sym, subst}
+use Rattle.std.proofs.lemmas.Result.{on_ok_weaker}
+use Rattle.operation_rows.specs.Rows.{stands}
+use Rattle.operation_rows.proofs.Walking.{positive}
+use Rattle.client_marks.specs.Marks.{Adds, Told}
+use Rattle.client_marks.proofs.Raised.{adds_none, adds_one, goes_none, goes_one, positive_not, told_one}
+use Rattle.client_marks.proofs.listing.list_one.Goals as goal
+
+pub returns-then-mark-eq0-clause-adds : goal.returns-then-mark-eq0-clause-adds
+returns-then-mark-eq0-clause-adds c = adds_none (λ l. (0 < l) × (l ≡ c.args.mark)) c.args.holders.now.items
+
+pub returns-then-mark-eq0-clause-told : goal.returns-then-mark-eq0-clause-told
+returns-then-mark-eq0-clause-told c = λ p. absurd (positive_not c.args.mark p c.if-mark-eq0.true)
+
+pub returns-then-mark-eq0-clause-goes : goal.returns-then-mark-eq0-clause-goes
+returns-then-mark-eq0-clause-goes c = goes_none c.args.holders.now.items
+
+pub returns-then-not-rows-mark-clause-adds : goal.returns-then-not-rows-mark-clause-adds
+returns-then-not-rows-mark-clause-adds c = adds_none (λ l. (0 < l) × (l ≡ c.args.mark)) c.args.holders.now.items
+
+pub returns-then-not-rows-mark-clause-told : goal.returns-then-not-rows-mark-clause-told
+returns-then-not-rows-mark-clause-told c = λ p. inl c.if-not-rows-mark.true
+
+pub returns-then-not-rows-mark-clause-goes : goal.returns-then-not-rows-mark-clause-goes
+returns-then-not-rows-mark-clause-goes c = goes_none c.args.holders.now.items
+
+pub returns-clause-adds : goal.returns-clause-adds
+returns-clause-adds c =
+    let old = c.args.holders.now.items in
+    on_ok_weaker c.put_behind.result (λ e. subst (λ (xs : List ℕ). Adds (λ l. (0 < l) × (l ≡ c.args.mark)) old xs) (sym e)
+    (adds_one (λ l. (0 < l) × (l ≡ c.args.mark)) old c.args.mark (positive c.args.mark c.if-mark-eq0.false, refl)))
+    c.put_behind.ensures.ok
+
+pub returns-clause-told : goal.returns-clause-told
+returns-clause-told c =
+    let old = c.args.holders.now.items in
+    on_ok_weaker c.put_behind.result (λ e. subst (λ (xs : List ℕ). Told (stands c.args.rows.now) xs (length old) (length xs) c.args.mark)
+    (sym e) (told_one (stands c.args.rows.now) old c.args.mark)) c.put_behind.ensures.ok
+
+pub returns-clause-goes : goal.returns-clause-goes
+returns-clause-goes c = goes_one c.put_behind.result c.args.holders.now.items c.put_behind.new.holders.items c.args.mark
+    c.put_behind.ensures.ok c.put_behind.ensures.err

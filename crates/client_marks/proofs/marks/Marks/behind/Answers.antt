@@ -1,0 +1,24 @@
+use Rattle.std.proofs.Common.{◌==◌, ◌&&◌, not, true, refl, sym, ap, ◌∙◌}
+use Rattle.operation_values.specs.Waiting.{is_close_kind}
+use Rattle.operation_rows.specs.Holding.{is_changing}
+use Rattle.client_marks.specs.Marks.{fills_by_shape, is_barrier, is_end, is_write}
+use Rattle.client_marks.proofs.Raised.{highest_more}
+use Rattle.client_marks.proofs.marks.Marks.behind.Goals as goal
+
+pub returns : goal.returns
+returns c = λ o k sizes create h a b d.
+    let m = c.args.self.now in
+    let n = c.args.number in
+    record {
+      lasts = highest_more o (λ x. true) create n m.last n true h.lasts a refl refl;
+      changes = highest_more o (λ x. is_changing (k x)) create n m.change c.raised-change.result c.changes.result h.changes a
+          (ap (λ z. is_changing z) b ∙ sym c.changes.ensures) c.raised-change.ensures;
+      fills = highest_more o (λ x. fills_by_shape k sizes x) create n m.filled c.raised-filled.result c.fills.result h.fills a
+          ((λ t. is_write (b t) && not ((d t) == 0)) ∙ sym c.fills.ensures) c.raised-filled.ensures;
+      closes = highest_more o (λ x. is_close_kind (k x)) create n m.close c.raised-close.result c.closes.result h.closes a
+          (ap (λ z. is_close_kind z) b ∙ sym c.closes.ensures) c.raised-close.ensures;
+      ends = highest_more o (λ x. is_end (k x)) create n m.end c.raised-end.result c.ends.result h.ends a
+          (ap (λ z. is_end z) b ∙ sym c.ends.ensures) c.raised-end.ensures;
+      barriers = highest_more o (λ x. is_barrier (k x)) create n m.barrier c.raised-barrier.result c.bars.result h.barriers a
+          (ap (λ z. is_barrier z) b ∙ sym c.bars.ensures) c.raised-barrier.ensures;
+    }

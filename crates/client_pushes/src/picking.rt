@@ -1,0 +1,116 @@
+// Whether an operation goes out itself, and with which lock slot.
+ghost use Rattle.std.specs.Prelude.{◌≡◌, ℕ, ◌+◌, ◌<◌, ◌≤◌, ◌&&◌, ◌||◌, not, true, List, length, ◌∷◌, [], ◌++◌, Some, IfSome, IfNone};
+ghost use Rattle.watch_lists.specs.declared.Link.{Link as Watch};
+ghost use Rattle.exchange_defs.specs.Client.{Client, is_attached, lacks_slot, settle_no_slot};
+ghost use Rattle.exchange_defs.specs.Schedules.{choose};
+ghost use Rattle.client_law.specs.Kept.{Kept};
+ghost use Rattle.choice_law.specs.Choosing.{Goes, chosen};
+ghost use Rattle.client_session.specs.Shown.{ShowsSession};
+ghost use Rattle.client_slots.specs.Shown.{HaveRows};
+ghost use Rattle.operation_rows.specs.Rows.{row_at};
+ghost use Rattle.operation_rows.specs.Holding.{IsSafe};
+ghost use Rattle.operation_rows.specs.Choosing.{Counts};
+ghost use Rattle.client_rows.specs.Shown.{ShowsRows};
+ghost use Rattle.client_pushes.specs.Shown.{ShowsOpen, is_create_kind, is_lock_kind};
+
+use client_rows::settle_one;
+use client_session::Session;
+use client_slots::free_slot;
+use operation_rows::{Row, Slot};
+use operation_values::Kind;
+use price_table::Prices;
+use watch_lists::Watchers;
+
+fn is_create(rows: &[Row], index: usize) -> bool
+    requires { index < length rows.now }
+    ensures { result ≡ is_create_kind (row_at rows.now index).kind }
+{
+    match rows[index].kind {
+        Kind::Create => true,
+        _ => false,
+    }
+}
+
+fn is_lock(rows: &[Row], index: usize) -> bool
+    requires { index < length rows.now }
+    ensures { result ≡ is_lock_kind (row_at rows.now index).kind }
+{
+    match rows[index].kind {
+        Kind::Lock => true,
+        _ => false,
+    }
+}
+
+/// Whether it is a lock that never went out itself.
+fn is_new_lock(rows: &[Row], index: usize) -> bool
+    requires { index < length rows.now }
+    ensures { result ≡ (is_lock_kind (row_at rows.now index).kind && not (row_at rows.now index).sent) }
+{
+    is_lock(rows, index) && !rows[index].sent
+}
+
+/// Whether an operation goes out itself, and not a request to attach its open in its place: it is a create, or its open is
+/// attached in this session.
+pub fn goes_itself(rows: &[Row], session: &Session, attached: u32, index: usize) -> bool
+    requires { index < length rows.now }
+    ensures { (c : Client) (create : ℕ) → ShowsSession session.now c → c.attached create ≡ attached
+        → result ≡ (is_create_kind (row_at rows.now index).kind || is_attached c create) }
+{
+    is_create(rows, index) || session.is_attached(attached)
+}
+
+/// Whether it is a lock that goes out itself for the first time.
+fn takes_slot(rows: &[Row], session: &Session, attached: u32, index: usize) -> bool
+    requires { index < length rows.now }
+    ensures { (c : Client) (create : ℕ) → ShowsSession session.now c → c.attached create ≡ attached
+        → result ≡ ((is_create_kind (row_at rows.now index).kind || is_attached c create)
+        && (is_lock_kind (row_at rows.now index).kind && not (row_at rows.now index).sent)) }
+{
+    goes_itself(rows, session, attached, index) && is_new_lock(rows, index)
+}
+
+/// What becomes of an operation that nothing holds up and that is paid for: it goes out. A lock that goes out itself for the first
+/// time takes the slot that is told; another one takes none, which is told as 0. Where nothing is told there is no slot for it.
+pub fn pick(
+    rows: &[Row],
+    slots: &[Slot],
+    session: &Session,
+    attached: u32,
+    index: usize,
+) -> Option<u8>
+    requires above { 0 < index }
+    requires within { index < length rows.now }
+    requires few { length slots.now ≤ 64 }
+    requires users { HaveRows rows.now slots.now }
+    ensures some { (c : Client) (holders prices : List ℕ) (watchers : List Watch) (k credits n : ℕ) (slotless : List ℕ)
+        → ShowsRows rows.now holders prices watchers c → ShowsOpen rows.now slots.now session.now attached index c
+        → IfSome result (λ slot. chosen c k credits slotless index n
+        ≡ record { slotless = slotless; pick = Some (record { op = index; slot = slot }) }) }
+    ensures none { (c : Client) (holders prices : List ℕ) (watchers : List Watch) (k credits n : ℕ) (slotless : List ℕ)
+        → ShowsRows rows.now holders prices watchers c → ShowsOpen rows.now slots.now session.now attached index c
+        → IfNone result (chosen c k credits slotless index n
+        ≡ choose (settle_no_slot c k index) k credits (slotless ++ index ∷ []) (index + 1) n) }
+    ensures lacks { (c : Client) (holders prices : List ℕ) (watchers : List Watch) (k credits : ℕ)
+        → ShowsRows rows.now holders prices watchers c → ShowsOpen rows.now slots.now session.now attached index c
+        → Kept c → c.ready k ≡ true → Goes c credits index → IfNone result (lacks_slot c k index ≡ true) }
+{
+    if !takes_slot(rows, session, attached, index) {
+        return Some(0);
+    }
+    free_slot(rows, slots, session.number())
+}
+
+/// A lock that may go out, and for which there is no slot, settles so.
+pub fn settle_slotless(rows: &mut [Row], prices: &mut Prices, watchers: &mut Watchers, index: usize)
+    requires above { 0 < index }
+    requires within { index < length rows.old }
+    requires counts { Counts rows.old prices.old watchers.old }
+    ensures count { length rows.new ≡ length rows.old }
+    ensures counts { Counts rows.new prices.new watchers.new }
+    ensures safe { (holders : List ℕ) → IsSafe rows.old holders → IsSafe rows.new holders }
+    ensures shown { (c : Client) (holders : List ℕ) (k : ℕ) → IsSafe rows.old holders
+        → ShowsRows rows.old holders prices.old watchers.old c → lacks_slot c k index ≡ true
+        → ShowsRows rows.new holders prices.new watchers.new (settle_no_slot c k index) }
+{
+    settle_one(rows, prices, watchers, index, false);
+}

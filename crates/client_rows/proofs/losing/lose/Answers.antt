@@ -1,0 +1,26 @@
+use Rattle.std.proofs.Common.{true, if◌then◌else◌, refl, sym, ◌∙◌, None}
+use Rattle.exchange_defs.specs.Table.{put}
+use Rattle.operation_rows.specs.declared.row.Row.{Row}
+use Rattle.operation_rows.specs.Rows.{row_at}
+use Rattle.client_rows.proofs.Moving.{put_col, same_col}
+use Rattle.client_rows.proofs.losing.lose.Goals as goal
+
+pub returns-clause-shown : goal.returns-clause-shown
+returns-clause-shown c = λ d holders s.
+    let old = c.args.rows.now in
+    let x = c.args.index in
+    let r : Row = record (row_at old x) { outstanding_on = None; unanswered = c.unanswered_behind-unanswered.result } in
+    let w = s.sends in
+    c.put_row.ensures.shown d holders d.sent (put d.outstanding_on x None)
+    d.asks_attach (put d.unanswered x (if d.asks_attach x then d.unanswered x else true)) d.sequence_of d.slot_of d.number_of s
+    (record {
+      sent_is = same_col (λ (z : Row). z.sent) old x r d.sent c.requires.within refl w.sent_is;
+      out_is = put_col (λ (z : Row). z.outstanding_on) old x r d.outstanding_on None c.requires.within refl w.out_is;
+      asks_is = same_col (λ (z : Row). z.asking) old x r d.asks_attach c.requires.within refl w.asks_is;
+      unanswered_is = put_col (λ (z : Row). z.unanswered) old x r d.unanswered (if d.asks_attach x then d.unanswered x else true)
+          c.requires.within ((λ t. if w.asks_is x t then w.unanswered_is x t else true) ∙ sym c.unanswered_behind-unanswered.ensures)
+          w.unanswered_is;
+      sequence_is = same_col (λ (z : Row). z.sequence) old x r d.sequence_of c.requires.within refl w.sequence_is;
+      slot_is = same_col (λ (z : Row). z.slot) old x r d.slot_of c.requires.within refl w.slot_is;
+      number_is = same_col (λ (z : Row). z.slot_number) old x r d.number_of c.requires.within refl w.number_is;
+    })

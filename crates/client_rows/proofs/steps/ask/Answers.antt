@@ -1,0 +1,24 @@
+use Rattle.std.proofs.Common.{refl, Some, true}
+use Rattle.exchange_defs.specs.Table.{put}
+use Rattle.operation_rows.specs.declared.row.Row.{Row}
+use Rattle.operation_rows.specs.Rows.{row_at}
+use Rattle.client_rows.proofs.Moving.{put_col, same_col}
+use Rattle.client_rows.proofs.steps.ask.Goals as goal
+
+pub returns-clause-shown : goal.returns-clause-shown
+returns-clause-shown c = λ d holders s.
+    let old = c.args.rows.now in
+    let x = c.args.index in
+    let r : Row = record (row_at old x) { asking = true; outstanding_on = Some c.args.channel } in
+    let w = s.sends in
+    c.put_row.ensures.shown d holders d.sent (put d.outstanding_on x (Some c.args.channel))
+    (put d.asks_attach x true) d.unanswered d.sequence_of d.slot_of d.number_of s
+    (record {
+      sent_is = same_col (λ (z : Row). z.sent) old x r d.sent c.requires.within refl w.sent_is;
+      out_is = put_col (λ (z : Row). z.outstanding_on) old x r d.outstanding_on (Some c.args.channel) c.requires.within refl w.out_is;
+      asks_is = put_col (λ (z : Row). z.asking) old x r d.asks_attach true c.requires.within refl w.asks_is;
+      unanswered_is = same_col (λ (z : Row). z.unanswered) old x r d.unanswered c.requires.within refl w.unanswered_is;
+      sequence_is = same_col (λ (z : Row). z.sequence) old x r d.sequence_of c.requires.within refl w.sequence_is;
+      slot_is = same_col (λ (z : Row). z.slot) old x r d.slot_of c.requires.within refl w.slot_is;
+      number_is = same_col (λ (z : Row). z.slot_number) old x r d.number_of c.requires.within refl w.number_is;
+    })

@@ -1,0 +1,61 @@
+-- What the rows of a client's operations show of a client of the model: an equation for each column that rows keep.
+use Rattle.std.specs.Prelude.{◌≡◌, ℕ, ◌<◌, ◌≤◌, ◌==◌, not, Bool, true, false, if◌then◌else◌, List, length, Option, None}
+use Rattle.watch_lists.specs.declared.Link.{Link as Watch}
+use Rattle.exchange_defs.specs.Operations.{Op, OpWrite, Outcome, charge, create_of, holds_up, is_firm, is_unsettled, weight}
+use Rattle.exchange_defs.specs.Table.{put}
+use Rattle.exchange_defs.specs.Client.{Client}
+use Rattle.exchange_defs.specs.Schedules.{cost}
+use Rattle.operation_values.specs.Waiting.{kind_of}
+use Rattle.operation_rows.specs.declared.row.Row.{Row}
+use Rattle.operation_rows.specs.Rows.{row_at, stands, owner, kind, costs}
+use Rattle.operation_rows.specs.Moves.{StandsRows}
+
+-- of one open, g waits for h, by what they ask
+abbrev pub waits_by : (ℕ → Op) → ℕ → ℕ → Bool
+waits_by op h g = holds_up (op h) (op g)
+
+-- it writes a byte or more
+abbrev pub is_filled : Op → Bool
+is_filled (OpWrite create at bytes) = not (length bytes == 0)
+is_filled _ = false
+
+abbrev pub fills_by : (ℕ → Op) → ℕ → Bool
+fills_by op h = is_filled (op h)
+
+-- of what was taken: each has a row, its create, its kind, whether it is settled, and what it costs
+pub record ShowsPlaces (rows : List Row) (taken : ℕ) (op : ℕ → Op) (outcome : ℕ → Outcome) (paid : ℕ → ℕ) : Type 0 where
+  pub has_row : (g : ℕ) → 0 < g → g ≤ taken → g < length rows
+  pub is_taken : (g : ℕ) → 0 < g → g < length rows → g ≤ taken
+  pub creates : (g : ℕ) → 0 < g → g ≤ taken → create_of g (op g) ≡ owner rows g
+  pub kinds : (g : ℕ) → 0 < g → g ≤ taken → kind_of (op g) ≡ kind rows g
+  pub charges : (g : ℕ) → 0 < g → g ≤ taken → charge (weight (op g)) ≡ (row_at rows g).charge
+  pub unsettled : (g : ℕ) → 0 < g → g ≤ taken → is_unsettled (outcome g) ≡ stands rows g
+  pub firm_is : (g : ℕ) → 0 < g → g ≤ taken → is_firm (outcome g) ≡ (row_at rows g).firm
+  pub pays : (g : ℕ) → 0 < g → g ≤ taken → stands rows g ≡ true → paid g ≡ costs rows g
+
+-- what went out, and how; a number that isn't taken never did
+pub record ShowsSends (rows : List Row) (sent : ℕ → Bool) (out : ℕ → Option ℕ) (asks unanswered : ℕ → Bool)
+    (sequence slot number : ℕ → ℕ) : Type 0 where
+  pub sent_is : (g : ℕ) → sent g ≡ (row_at rows g).sent
+  pub out_is : (g : ℕ) → out g ≡ (row_at rows g).outstanding_on
+  pub asks_is : (g : ℕ) → asks g ≡ (row_at rows g).asking
+  pub unanswered_is : (g : ℕ) → unanswered g ≡ (row_at rows g).unanswered
+  pub sequence_is : (g : ℕ) → sequence g ≡ (row_at rows g).sequence
+  pub slot_is : (g : ℕ) → slot g ≡ (row_at rows g).slot
+  pub number_is : (g : ℕ) → number g ≡ (row_at rows g).slot_number
+
+pub record ShowsRows (rows : List Row) (holders prices : List ℕ) (watchers : List Watch) (c : Client) : Type 0 where
+  pub places : ShowsPlaces rows c.taken c.op c.outcome (λ g. cost c g)
+  pub sends : ShowsSends rows c.sent c.outstanding_on c.asks_attach c.unanswered c.sequence_of c.slot_of c.number_of
+  -- links, lists, prices and watchers stand right by what the operations ask
+  pub stand : StandsRows (waits_by c.op) (fills_by c.op) rows holders prices watchers
+
+-- ---- what a channel takes with it
+
+-- a request to attach that is lost makes no unanswered copy
+abbrev pub lost : Client → ℕ → Client
+lost c g =
+    record c {
+      outstanding_on = put c.outstanding_on g None;
+      unanswered = put c.unanswered g (if c.asks_attach g then c.unanswered g else true);
+    }

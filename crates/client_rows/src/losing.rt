@@ -1,0 +1,37 @@
+// What is outstanding of an operation goes with its channel.
+ghost use Rattle.std.specs.Prelude.{◌≡◌, ℕ, ◌<◌, true, if◌then◌else◌, List, length};
+ghost use Rattle.exchange_defs.specs.Client.{Client};
+ghost use Rattle.operation_rows.specs.Holding.{IsSafe};
+ghost use Rattle.operation_rows.specs.Choosing.{Counts};
+ghost use Rattle.client_rows.specs.Shown.{ShowsRows, lost};
+
+use crate::steps::put_row;
+use operation_rows::Row;
+use price_table::Prices;
+use watch_lists::Watchers;
+
+/// Whether a copy of an operation is unanswered once what is outstanding of it is lost.
+fn unanswered_behind(row: &Row) -> bool
+    ensures { result ≡ (if row.now.asking then row.now.unanswered else true) }
+{
+    if row.asking { row.unanswered } else { true }
+}
+
+/// What was outstanding of an operation is lost with its channel.
+pub fn lose(rows: &mut [Row], prices: &mut Prices, watchers: &Watchers, index: usize)
+    requires within { index < length rows.old }
+    requires counts { Counts rows.old prices.old watchers.now }
+    ensures count { length rows.new ≡ length rows.old }
+    ensures counts { Counts rows.new prices.new watchers.now }
+    ensures safe { (holders : List ℕ) → IsSafe rows.old holders → IsSafe rows.new holders }
+    ensures shown { (c : Client) (holders : List ℕ) → ShowsRows rows.old holders prices.old watchers.now c
+        → ShowsRows rows.new holders prices.new watchers.now (lost c index) }
+{
+    let unanswered = unanswered_behind(&rows[index]);
+    let row = Row {
+        outstanding_on: None,
+        unanswered,
+        ..rows[index]
+    };
+    put_row(rows, prices, watchers, index, row);
+}

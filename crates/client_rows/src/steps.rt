@@ -1,0 +1,171 @@
+// The steps of one operation: it goes out, or a request to attach goes out in its place; it is answered; it settles.
+ghost use Rattle.std.specs.Prelude.{◌≡◌, ℕ, ◌<◌, Bool, true, false, List, length, slice_set, Option};
+ghost use Rattle.exchange_defs.specs.Table.{put};
+ghost use Rattle.exchange_defs.specs.Operations.{Outcome, is_firm, is_unsettled};
+ghost use Rattle.exchange_defs.specs.Client.{Client, asked, outstanding};
+ghost use Rattle.exchange_defs.specs.Settling.{answered};
+ghost use Rattle.client_law.specs.Columns.{IsFirst, ops_of, standing_of};
+ghost use Rattle.operation_rows.specs.Rows.{row_at};
+ghost use Rattle.operation_rows.specs.Holding.{IsSafe};
+ghost use Rattle.operation_rows.specs.Choosing.{Counts};
+ghost use Rattle.operation_rows.specs.Moves.{KeepsPlace};
+ghost use Rattle.client_rows.specs.Shown.{ShowsRows, ShowsSends};
+
+use operation_rows::{Row, change, settle};
+use price_table::Prices;
+use watch_lists::Watchers;
+
+/// A row changes, but for its place, its cost and whether it is settled.
+pub fn put_row(rows: &mut [Row], prices: &mut Prices, watchers: &Watchers, index: usize, row: Row)
+    requires within { index < length rows.old }
+    requires counts { Counts rows.old prices.old watchers.now }
+    requires keeps { KeepsPlace (row_at rows.old index) row }
+    requires firm { row.firm ≡ (row_at rows.old index).firm }
+    requires cost { row.cost ≡ (row_at rows.old index).cost }
+    requires charge { row.charge ≡ (row_at rows.old index).charge }
+    ensures row { rows.new ≡ slice_set rows.old index row }
+    ensures counts { Counts rows.new prices.new watchers.now }
+    ensures safe { (holders : List ℕ) → IsSafe rows.old holders → IsSafe rows.new holders }
+    ensures shown { (c : Client) (holders : List ℕ) (sent : ℕ → Bool) (out : ℕ → Option ℕ) (asks unanswered : ℕ → Bool)
+        (sequence slot number : ℕ → ℕ) → ShowsRows rows.old holders prices.old watchers.now c
+        → ShowsSends (slice_set rows.old index row) sent out asks unanswered sequence slot number
+        → ShowsRows rows.new holders prices.new watchers.now (record c {
+          sent = sent;
+          outstanding_on = out;
+          asks_attach = asks;
+          unanswered = unanswered;
+          sequence_of = sequence;
+          slot_of = slot;
+          number_of = number;
+        }) }
+{
+    change(rows, prices, watchers, index, row);
+}
+
+/// What was outstanding of an operation is answered.
+pub fn answer(rows: &mut [Row], prices: &mut Prices, watchers: &Watchers, index: usize)
+    requires within { index < length rows.old }
+    requires counts { Counts rows.old prices.old watchers.now }
+    ensures count { length rows.new ≡ length rows.old }
+    ensures counts { Counts rows.new prices.new watchers.now }
+    ensures safe { (holders : List ℕ) → IsSafe rows.old holders → IsSafe rows.new holders }
+    ensures shown { (c : Client) (holders : List ℕ) → ShowsRows rows.old holders prices.old watchers.now c
+        → ShowsRows rows.new holders prices.new watchers.now (answered c index) }
+{
+    let row = Row {
+        outstanding_on: None,
+        ..rows[index]
+    };
+    put_row(rows, prices, watchers, index, row);
+}
+
+/// A request to attach its open goes out in an operation's place.
+pub fn ask(rows: &mut [Row], prices: &mut Prices, watchers: &Watchers, index: usize, channel: u8)
+    requires within { index < length rows.old }
+    requires counts { Counts rows.old prices.old watchers.now }
+    ensures count { length rows.new ≡ length rows.old }
+    ensures counts { Counts rows.new prices.new watchers.now }
+    ensures safe { (holders : List ℕ) → IsSafe rows.old holders → IsSafe rows.new holders }
+    ensures shown { (c : Client) (holders : List ℕ) → ShowsRows rows.old holders prices.old watchers.now c
+        → ShowsRows rows.new holders prices.new watchers.now (asked c channel index) }
+{
+    let row = Row {
+        asking: true,
+        outstanding_on: Some(channel),
+        ..rows[index]
+    };
+    put_row(rows, prices, watchers, index, row);
+}
+
+/// An operation goes out itself, with the session's channel sequence.
+pub fn put_out(
+    rows: &mut [Row],
+    prices: &mut Prices,
+    watchers: &Watchers,
+    index: usize,
+    channel: u8,
+    sequence: u16,
+)
+    requires within { index < length rows.old }
+    requires counts { Counts rows.old prices.old watchers.now }
+    ensures count { length rows.new ≡ length rows.old }
+    ensures counts { Counts rows.new prices.new watchers.now }
+    ensures safe { (holders : List ℕ) → IsSafe rows.old holders → IsSafe rows.new holders }
+    ensures shown { (c : Client) (holders : List ℕ) → ShowsRows rows.old holders prices.old watchers.now c → c.sequence ≡ sequence
+        → ShowsRows rows.new holders prices.new watchers.now (outstanding c channel index) }
+{
+    let row = Row {
+        asking: false,
+        outstanding_on: Some(channel),
+        sequence,
+        ..rows[index]
+    };
+    put_row(rows, prices, watchers, index, row);
+}
+
+/// An operation was sent.
+pub fn note_sent(rows: &mut [Row], prices: &mut Prices, watchers: &Watchers, index: usize)
+    requires within { index < length rows.old }
+    requires counts { Counts rows.old prices.old watchers.now }
+    ensures count { length rows.new ≡ length rows.old }
+    ensures counts { Counts rows.new prices.new watchers.now }
+    ensures safe { (holders : List ℕ) → IsSafe rows.old holders → IsSafe rows.new holders }
+    ensures shown { (c : Client) (holders : List ℕ) → ShowsRows rows.old holders prices.old watchers.now c
+        → ShowsRows rows.new holders prices.new watchers.now (record c { sent = put c.sent index true }) }
+{
+    let row = Row {
+        sent: true,
+        ..rows[index]
+    };
+    put_row(rows, prices, watchers, index, row);
+}
+
+/// A lock takes a slot, under this number.
+pub fn note_slot(
+    rows: &mut [Row],
+    prices: &mut Prices,
+    watchers: &Watchers,
+    index: usize,
+    slot: u8,
+    number: u8,
+)
+    requires within { index < length rows.old }
+    requires counts { Counts rows.old prices.old watchers.now }
+    ensures count { length rows.new ≡ length rows.old }
+    ensures counts { Counts rows.new prices.new watchers.now }
+    ensures safe { (holders : List ℕ) → IsSafe rows.old holders → IsSafe rows.new holders }
+    ensures shown { (c : Client) (holders : List ℕ) → ShowsRows rows.old holders prices.old watchers.now c
+        → ShowsRows rows.new holders prices.new watchers.now (record c {
+          slot_of = put c.slot_of index slot;
+          number_of = put c.number_of index number;
+        }) }
+{
+    let row = Row {
+        slot,
+        slot_number: number,
+        ..rows[index]
+    };
+    put_row(rows, prices, watchers, index, row);
+}
+
+/// An operation settles that waits for nothing.
+pub fn settle_one(
+    rows: &mut [Row],
+    prices: &mut Prices,
+    watchers: &mut Watchers,
+    index: usize,
+    firm: bool,
+)
+    requires within { index < length rows.old }
+    requires counts { Counts rows.old prices.old watchers.old }
+    requires above { 0 < index }
+    ensures count { length rows.new ≡ length rows.old }
+    ensures counts { Counts rows.new prices.new watchers.new }
+    ensures safe { (holders : List ℕ) → IsSafe rows.old holders → IsSafe rows.new holders }
+    ensures shown { (c : Client) (holders : List ℕ) (o : Outcome) → IsSafe rows.old holders
+        → ShowsRows rows.old holders prices.old watchers.old c → is_unsettled o ≡ false → is_firm o ≡ firm
+        → IsFirst (ops_of c) (standing_of c) index
+        → ShowsRows rows.new holders prices.new watchers.new (record c { outcome = put c.outcome index o }) }
+{
+    settle(rows, prices, watchers, index, firm);
+}

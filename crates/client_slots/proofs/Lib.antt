@@ -1,0 +1,3 @@
+pub mod Freeing
+pub mod Tables
+pub mod Showing

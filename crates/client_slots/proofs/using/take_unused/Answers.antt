@@ -1,0 +1,18 @@
+use Rattle.std.proofs.Common.{◌+◌, List, length, sym, subst}
+use Rattle.exchange_defs.specs.Client.{create_for, take_slot}
+use Rattle.operation_rows.specs.declared.slots.Slot.{Slot}
+use Rattle.client_slots.specs.Shown.{HaveRows, ShowsSlots}
+use Rattle.client_slots.proofs.Showing.{have_more, number_more, shows_more}
+use Rattle.client_slots.proofs.using.take_unused.Goals as goal
+
+pub returns-clause-shown : goal.returns-clause-shown
+returns-clause-shown c = λ d rows session h firm. subst (λ (xs : List Slot). ShowsSlots rows xs session
+    (take_slot d c.args.index (length c.args.slots.now.items + 1)) (create_for d c.args.index)) (sym c.push_reserved.ensures.items)
+    (shows_more rows c.args.slots.now.items session d c.args.index h firm)
+
+pub returns-clause-number : goal.returns-clause-number
+returns-clause-number c = λ d rows session create h. number_more rows c.args.slots.now.items session d create h
+
+pub returns-clause-users : goal.returns-clause-users
+returns-clause-users c = λ rows h l. subst (λ (xs : List Slot). HaveRows rows xs) (sym c.push_reserved.ensures.items)
+    (have_more rows c.args.slots.now.items c.args.index h l)

@@ -1,0 +1,32 @@
+use Rattle.std.proofs.Common.{◌-◌, ◌<◌, List, length, sym, ◌∙◌, subst, ap, arith}
+use Rattle.std.proofs.Math.ListN.{length-set}
+use Rattle.exchange_defs.specs.Client.{create_for, take_slot}
+use Rattle.operation_rows.specs.declared.slots.Slot.{Slot}
+use Rattle.operation_rows.specs.Slots.{slot_at}
+use Rattle.client_slots.specs.Shown.{HaveRows, ShowsSlots}
+use Rattle.client_slots.proofs.Showing.{have_used, number_used, used_at}
+use Rattle.client_slots.proofs.using.take_used.Goals as goal
+
+pub use_again-requires : goal.use_again-requires
+use_again-requires c =
+    let l = c.requires.within in
+    let a = c.requires.above in
+    let b : c.args.slot - 1 < length c.args.slots.now = omega arith in
+    record { within = b; user = c.requires.users (c.args.slot - 1) b }
+
+pub returns : goal.returns
+returns c =
+    let l = c.requires.within in
+    let a = c.requires.above in
+    let b : c.args.slot - 1 < length c.args.slots.now = omega arith in
+    record {
+      shown = λ d session h firm. subst (λ (xs : List Slot). ShowsSlots c.args.rows.now xs session
+          (take_slot d c.args.index c.args.slot) (create_for d c.args.index)) (sym c.use_again.ensures.slots)
+          (used_at c.args.rows.now c.args.slots.now session d c.args.index c.args.slot a b firm h);
+      number = λ d session create h numbers. c.use_again.ensures.number
+          ∙ number_used c.args.rows.now c.args.slots.now session d create c.args.slot a b h numbers;
+      users = subst (λ (xs : List Slot). HaveRows c.args.rows.now xs) (sym c.use_again.ensures.slots)
+          (have_used c.args.rows.now c.args.slots.now c.args.index c.requires.users c.requires.taken (c.args.slot - 1) b);
+      count = ap (λ (xs : List Slot). length xs) c.use_again.ensures.slots
+          ∙ length-set c.args.slots.now (c.args.slot - 1) (record (slot_at c.args.slots.now (c.args.slot - 1)) { user = c.args.index });
+    }

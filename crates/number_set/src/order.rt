@@ -1,0 +1,54 @@
+// All numbers in some order, and the place of each.
+ghost use Rattle.std.specs.Prelude.{◌≡◌, ℕ, ◌+◌, ◌<◌, ◌^◌, length, slice_index, slice_set, ◌∷◌, [], ◌++◌, OnOk, OnErr};
+
+use std::alloc::AllocError;
+
+/// One number more, the last of all. Where memory runs out nothing changes.
+pub fn add(order: &mut Vec<u32>, places: &mut Vec<u32>) -> Result<(), AllocError>
+    requires { length places.old.items < 2 ^ 32 }
+    ensures ok { OnOk result ((order.new.items ≡ order.old.items ++ length places.old.items ∷ [])
+        × (places.new.items ≡ places.old.items ++ length places.old.items ∷ [])) }
+    ensures err { OnErr result ((order.new.items ≡ order.old.items) × (places.new.items ≡ places.old.items)) }
+{
+    order.reserve(1)?;
+    places.reserve(1)?;
+    let number = places.len() as u32;
+    order.push_reserved(number);
+    places.push_reserved(number);
+    Ok(())
+}
+
+/// The numbers at two places change places.
+pub fn swap_in(order: &mut Vec<u32>, places: &mut Vec<u32>, i: usize, j: usize)
+    requires i { i < length order.old.items }
+    requires j { j < length order.old.items }
+    requires few { length order.old.items < 2 ^ 32 }
+    requires a { slice_index order.old.items i < length places.old.items }
+    requires b { slice_index order.old.items j < length places.old.items }
+    ensures order { order.new.items
+        ≡ slice_set (slice_set order.old.items i (slice_index order.old.items j)) j (slice_index order.old.items i) }
+    ensures places { places.new.items
+        ≡ slice_set (slice_set places.old.items (slice_index order.old.items i) j) (slice_index order.old.items j) i }
+{
+    swap(order, places, i, j);
+}
+
+/// The numbers at two places of slices change places.
+fn swap(order: &mut [u32], places: &mut [u32], i: usize, j: usize)
+    requires i { i < length order.old }
+    requires j { j < length order.old }
+    requires few { length order.old < 2 ^ 32 }
+    requires a { slice_index order.old i < length places.old }
+    requires b { slice_index order.old j < length places.old }
+    ensures order { order.new ≡ slice_set (slice_set order.old i (slice_index order.old j)) j (slice_index order.old i) }
+    ensures places { places.new ≡ slice_set (slice_set places.old (slice_index order.old i) j) (slice_index order.old j) i }
+    ensures ordered { length order.new ≡ length order.old }
+    ensures placed { length places.new ≡ length places.old }
+{
+    let a = order[i];
+    let b = order[j];
+    order[i] = b;
+    order[j] = a;
+    places[a as usize] = j as u32;
+    places[b as usize] = i as u32;
+}
