@@ -1,0 +1,12 @@
+mod Below
+mod Commands
+mod Creates
+mod Dispatch
+mod Listings
+mod Locks
+mod Passed
+mod ReadAnswers
+mod Same
+mod Sessions
+mod Sizes
+mod Writes

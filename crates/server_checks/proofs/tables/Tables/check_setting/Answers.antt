@@ -1,0 +1,32 @@
+use Rattle.std.proofs.Common.{ℕ, List, ap, sym, ◌∙◌}
+use Rattle.command_values.specs.Meaning.{command_of, message_of, setting_of}
+use Rattle.command_values.specs.declared.command.Setting.{Setting}
+use Rattle.exchange_defs.specs.CheckOpen.{setting_check}
+use Rattle.exchange_defs.specs.Commands.{Rename}
+use Rattle.server_checks.proofs.Passed.{passed}
+use Rattle.server_verdicts.specs.Views.{path_in_setting, verdict_of}
+use Rattle.server_checks.proofs.tables.Tables.check_setting.Goals as goal
+
+pub returns-in-SetBasic : goal.returns-in-SetBasic
+returns-in-SetBasic c = λ s f t st p. c.check_basic.ensures (command_of c.args.m.now.command) s f t st
+    ∙ sym (ap (λ (z : Setting). setting_check s (message_of c.args.m.now) c.args.id (setting_of z)) c.in-SetBasic.is)
+
+pub returns-in-Rename : goal.returns-in-Rename
+returns-in-Rename c = λ s f t st p.
+    let q = p ∙ (ap (λ (z : Setting). path_in_setting (setting_of z)) c.in-Rename.is ∙ sym c.as_str.ensures) in
+    passed c.check_rename.result (verdict_of (command_of c.args.m.now.command)) _ _
+    (ap (λ (z : List ℕ). setting_check s (message_of c.args.m.now) c.args.id (Rename c.in-Rename.replace z)) c.as_str.ensures
+    ∙ sym (ap (λ (z : Setting). setting_check s (message_of c.args.m.now) c.args.id (setting_of z)) c.in-Rename.is))
+    (c.check_rename.ensures (command_of c.args.m.now.command) s f t st q)
+
+pub returns-in-SetDelete : goal.returns-in-SetDelete
+returns-in-SetDelete c = λ s f t st p. c.check_delete.ensures (command_of c.args.m.now.command) s f t st
+    ∙ sym (ap (λ (z : Setting). setting_check s (message_of c.args.m.now) c.args.id (setting_of z)) c.in-SetDelete.is)
+
+pub returns-in-SetAllocation : goal.returns-in-SetAllocation
+returns-in-SetAllocation c = λ s f t st p. c.check_allocation.ensures (command_of c.args.m.now.command) s f t st
+    ∙ sym (ap (λ (z : Setting). setting_check s (message_of c.args.m.now) c.args.id (setting_of z)) c.in-SetAllocation.is)
+
+pub returns-in-SetEnd : goal.returns-in-SetEnd
+returns-in-SetEnd c = λ s f t st p. c.check_end.ensures (command_of c.args.m.now.command) s f t st
+    ∙ sym (ap (λ (z : Setting). setting_check s (message_of c.args.m.now) c.args.id (setting_of z)) c.in-SetEnd.is)

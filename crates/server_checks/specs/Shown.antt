@@ -1,0 +1,18 @@
+-- The server's tables show a state of the model, column by column.
+use Rattle.std.specs.Prelude.{◌≡◌}
+use Rattle.exchange_defs.specs.State as model
+use Rattle.open_table.specs.Shown.{ShowsOpens}
+use Rattle.file_store.specs.Shown.{ShowsFiles}
+use Rattle.session_bind.specs.Shown.{ShowsSessions}
+use Rattle.command_values.specs.Meaning.{address_of}
+use Rattle.server_checks.specs.declared.tables.Tables.{Tables}
+
+pub record TablesShown (t : Tables) (s : model.Server) : Type 0 where
+  pub opens : ShowsOpens t.opens s
+  pub files : ShowsFiles t.tree s
+  pub sessions : ShowsSessions t.sessions s
+  pub share_is : s.share ≡ t.config.share
+  pub encrypts_is : s.encrypts ≡ t.config.encrypts
+  pub address_is : s.address ≡ address_of t.config.address
+  pub version_is : s.version ≡ t.version
+  pub journal_is : s.journal ≡ t.journal

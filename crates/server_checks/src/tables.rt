@@ -1,0 +1,143 @@
+//! The server's tables, and single looks at them.
+ghost use Rattle.std.specs.Prelude.{◌≡◌, ◌<◌, length, true};
+ghost use Rattle.command_values.specs.Meaning.{info_of};
+ghost use Rattle.exchange_defs.specs.CheckOpen.{file_of, has_access};
+ghost use Rattle.exchange_defs.specs.Files as files;
+ghost use Rattle.exchange_defs.specs.Files.{exists};
+ghost use Rattle.exchange_defs.specs.State.{Server};
+ghost use Rattle.exchange_defs.specs.Table.{is_at};
+ghost use Rattle.file_store.specs.Shown.{model_info};
+ghost use Rattle.server_law.specs.Fits.{Fits};
+ghost use Rattle.server_checks.specs.Shown.{TablesShown};
+
+use command_values::{Address, Basic, Info};
+use file_store::Tree;
+use ntlmv2::Users;
+use open_table::Opens;
+use server_verdicts::has_bit;
+use session_bind::Sessions;
+use smb_bytes::Text;
+use std::alloc::Global;
+
+/// What a server is told when it starts, beside its disk.
+#[derive(Drop)]
+pub struct Config {
+    pub users: Users,
+    pub share: Text,
+    /// How many bytes all files may hold; more than 268,435,456 counts as that.
+    pub room: u64,
+    /// EncryptData (MS-SMB2 3.3.1.5): messages of a session are sealed.
+    pub encrypts: bool,
+    pub address: Address,
+}
+
+/// The server's state but for its disk.
+#[derive(Drop)]
+pub struct Tables {
+    pub alloc: Global,
+    pub config: Config,
+    pub tree: Tree,
+    pub opens: Opens,
+    pub sessions: Sessions,
+    /// The version of the journal.
+    pub version: u32,
+    /// How many bytes of the disk the journal uses.
+    pub journal: u64,
+}
+
+impl Tables {
+    /// The user of a session that is there.
+    pub fn user(&self, session: u64) -> &str
+        ensures { (s : Server) → TablesShown self.now s → s.present session ≡ true → result.now ≡ s.user session }
+    {
+        match self.sessions.row(session) {
+            Some(row) => row.user.as_str(),
+            None => "",
+        }
+    }
+
+    /// The file of an open that stands.
+    pub fn file_of(&self, id: u64) -> u64
+        ensures shown { (s : Server) → TablesShown self.now s → s.standing id ≡ true → result ≡ file_of s id }
+        ensures there { (s : Server) → Fits s → TablesShown self.now s → s.standing id ≡ true
+            → exists s result ≡ true }
+    {
+        self.opens.file_of(id)
+    }
+
+    /// What is known of a file that is there.
+    pub fn info(&self, file: u64) -> Info
+        ensures { (s : Server) → TablesShown self.now s → exists s file ≡ true → info_of result
+            ≡ files.info_of s file }
+    {
+        info_of(&self.tree.info(file))
+    }
+
+    /// How many bytes it has.
+    #[tactic(auto, unfolding(exchange_defs::specs::Files::info_of))]
+    pub fn length(&self, file: u64) -> u64
+        ensures { (s : Server) → TablesShown self.now s → exists s file ≡ true → result ≡ length (s.content file) }
+    {
+        self.tree.info(file).length
+    }
+
+    /// Its times and attributes.
+    #[tactic(auto, unfolding(exchange_defs::specs::Files::info_of))]
+    pub fn basic(&self, file: u64) -> Basic
+        ensures { (s : Server) → TablesShown self.now s → exists s file ≡ true → result ≡ s.basic file }
+    {
+        self.tree.info(file).basic
+    }
+
+    /// Whether it goes with its last open.
+    #[tactic(auto, unfolding(exchange_defs::specs::Files::info_of))]
+    pub fn is_pending(&self, file: u64) -> bool
+        ensures { (s : Server) → TablesShown self.now s → exists s file ≡ true → result ≡ s.delete_pending file }
+    {
+        self.tree.info(file).marked
+    }
+
+    /// Whether the access of an open has this bit.
+    pub fn has_access(&self, id: u64, bit: u32) -> bool
+        requires { 0 < bit }
+        ensures { (s : Server) → TablesShown self.now s → s.standing id ≡ true → result ≡ has_access s id bit }
+    {
+        match self.opens.row(id) {
+            Some(row) => has_bit(row.access, bit),
+            None => false,
+        }
+    }
+
+    /// Whether an open outlives its session.
+    pub fn is_persistent(&self, id: u64) -> bool
+        ensures { (s : Server) → TablesShown self.now s → s.standing id ≡ true → result ≡ (s.opened id).persistent }
+    {
+        match self.opens.row(id) {
+            Some(row) => row.persistent,
+            None => false,
+        }
+    }
+}
+
+/// What the store knows of a file, as a reply tells it.
+pub fn info_of(info: &file_store::Info) -> Info
+    ensures { info_of result ≡ model_info info.now }
+{
+    Info {
+        file: info.file,
+        is_directory: info.directory,
+        size: info.length,
+        is_delete_pending: info.marked,
+        times: info.basic,
+    }
+}
+
+// The option holds this number.
+pub(crate) fn is_at(number: u64, kept: Option<u64>) -> bool
+    ensures { result ≡ is_at number kept }
+{
+    match kept {
+        Some(kept) => kept == number,
+        None => false,
+    }
+}

@@ -1,0 +1,6 @@
+mod Begun
+mod Changed
+mod Closes
+mod Made
+mod Steps
+mod Told

@@ -1,0 +1,30 @@
+use Rattle.std.proofs.Common.{◌∙◌}
+use Rattle.command_values.specs.Meaning.{message_of}
+use Rattle.exchange_defs.specs.Effects.{keep_slot}
+use Rattle.exchange_defs.specs.Table.{put}
+use Rattle.server_checks.specs.Shown.{TablesShown}
+use Rattle.server_effects.proofs.Steps.{config_kept, logons_kept, reached}
+use Rattle.server_effects.proofs.locks.keep_slot.Goals as goal
+
+pub returns-clause-shows : goal.returns-clause-shows
+returns-clause-shows c = λ now s f h a. record {
+  shows = reached (λ v. TablesShown c.reach.new.t v
+      → TablesShown c.keep_in_slot.new.t (keep_slot v c.args.id c.args.index c.args.number c.args.status)) s
+      (message_of c.args.m.now) c.args.id
+      (λ x. c.keep_in_slot.ensures.shows s x a.0)
+      (λ x. c.keep_in_slot.ensures.shows (record s { sequence = put s.sequence c.args.id c.args.m.now.channel_sequence }) x a.0)
+      (c.reach.ensures.shows s h a.0);
+  reply = c.quiet.ensures.reply;
+  acted = c.quiet.ensures.acted_is;
+}
+
+pub returns-clause-bare : goal.returns-clause-bare
+returns-clause-bare c = c.quiet.ensures.bare
+
+pub returns-clause-config : goal.returns-clause-config
+returns-clause-config c = config_kept c.reach.new.t c.keep_in_slot.new.t _ c.keep_in_slot.ensures.kept
+    ∙ (config_kept c.args.t.now c.reach.new.t _ c.reach.ensures.kept)
+
+pub returns-clause-logons : goal.returns-clause-logons
+returns-clause-logons c = λ keys pending k. logons_kept c.reach.new.t c.keep_in_slot.new.t _ c.keep_in_slot.ensures.kept keys pending
+    (logons_kept c.args.t.now c.reach.new.t _ c.reach.ensures.kept keys pending k)

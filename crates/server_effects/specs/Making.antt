@@ -1,0 +1,32 @@
+-- What was made ready of a new open stands for it.
+use Rattle.std.specs.Prelude.{◌≡◌, ℕ, true, false, Option, Some, None}
+use Rattle.exchange_defs.specs.CheckCreate.{empties}
+use Rattle.exchange_defs.specs.Commands as asks
+use Rattle.exchange_defs.specs.Commands.{asks_directory}
+use Rattle.exchange_defs.specs.Effects.{open_row, new_file}
+use Rattle.exchange_defs.specs.State as model
+use Rattle.file_store.specs.Made.{IsReady, Prepared}
+use Rattle.file_store.specs.Shown.{ShowsFiles}
+use Rattle.open_table.specs.Rows.{IsNewRow, open_of, parts_of}
+use Rattle.open_table.specs.declared.row.Row.{Row}
+use Rattle.server_checks.specs.declared.tables.Tables.{Tables}
+use Rattle.server_effects.specs.declared.making.FileReady.{FileReady}
+use Rattle.server_effects.specs.declared.making.FileReady.TheVariants as files
+
+-- the file of a new open: until it is made, the store is prepared for it
+abbrev pub FileFor : Tables → model.Server → asks.CreateRequest → Option ℕ → ℕ → FileReady → Type 0
+FileFor t s r found now (files.New file) = (found ≡ None) × Prepared t.tree file s r.path (asks_directory r) r.attributes now
+FileFor t s r found now (files.Emptied file attributes) = (found ≡ Some file) × (attributes ≡ r.attributes)
+    × (empties r.disposition ≡ true) × ShowsFiles t.tree s
+FileFor t s r found now (files.AsItIs file) = (found ≡ Some file) × (empties r.disposition ≡ false) × ShowsFiles t.tree s
+
+abbrev pub FileRoom : Tables → FileReady → Type 0
+FileRoom t (files.New file) = IsReady t.tree
+FileRoom t _ = Unit {0}
+
+-- the row is the one of the open that is made
+pub record RowFor (s : model.Server) (m : model.Message) (r : asks.CreateRequest) (found : Option ℕ) (action : ℕ) (row : Row) : Type 0 where
+  pub opened_is : open_of row ≡ open_row s m r (new_file s found) action
+  pub session_is : row.session ≡ Some m.session_id
+  pub sequence_is : row.sequence ≡ m.channel_sequence
+  pub is_new : IsNewRow row (parts_of row) row.user

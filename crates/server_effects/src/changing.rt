@@ -1,0 +1,84 @@
+//! WRITE and SET_INFO (MS-SMB2 3.3.5.13, 3.3.5.21): a change of a file, for which there is memory.
+ghost use Rattle.std.specs.Prelude.{◌≡◌, ℕ, true, List, [], Some};
+ghost use Rattle.command_values.specs.Meaning.{body_of, command_of, message_of};
+ghost use Rattle.exchange_defs.specs.CheckOpen.{file_of};
+ghost use Rattle.exchange_defs.specs.Effects as effects;
+ghost use Rattle.exchange_defs.specs.Effects.{apply, change_acts};
+ghost use Rattle.exchange_defs.specs.Files.{exists};
+ghost use Rattle.exchange_defs.specs.State.{Server};
+ghost use Rattle.exchange_defs.specs.Verdict as verdicts;
+ghost use Rattle.file_store.specs.Shown.{ShowsFiles};
+ghost use Rattle.session_bind.specs.Logons.{LogonsStay};
+ghost use Rattle.server_law.specs.Fits.{Fits};
+ghost use Rattle.server_verdicts.specs.Views.{bytes_in};
+ghost use Rattle.server_effects.specs.Able.{Able, AbleToChange, IsChangeOf};
+ghost use Rattle.server_effects.specs.Carried.{Carried, IsBare};
+ghost use Rattle.server_effects.specs.Ready.{ChangeFor, FilesForChange, OthersShown};
+
+use crate::answering::{Answer, answer_with};
+use crate::reached::reach;
+use command_values::{Basic, Body, Command, Message};
+use file_store::{Move, NewBytes};
+use server_checks::Tables;
+use server_verdicts::status::SUCCESS;
+
+/// A change of a file with its memory.
+#[derive(Drop)]
+pub enum ChangeReady {
+    PutBytes { bytes: NewBytes },
+    PutEnd { size: u64 },
+    PutBasic { basic: Basic },
+    PutDeletePending { pending: bool },
+    PutPath { moved: Move },
+    PutNothing,
+}
+
+/// The file of an open is changed. `acts` tells whether anything differs behind it.
+pub fn alter(
+    t: &mut Tables,
+    m: &Message<'_>,
+    id: u64,
+    change: ChangeReady,
+    body: Body,
+    acts: bool,
+    now: u64,
+) -> Answer
+    ensures shows { (s : Server) (c : verdicts.Change) → Fits s → OthersShown t.old s → FilesForChange t.old s change
+        → Able s (message_of m.now) (verdicts.Alter id c (body_of body)) → ChangeFor t.old s (file_of s id) change c
+        → acts ≡ change_acts s (file_of s id) now c
+        → Carried t.new result (apply s (message_of m.now) now (verdicts.Alter id c (body_of body))) }
+    ensures bare { IsBare result }
+    ensures config { t.new.config ≡ t.old.config }
+    ensures logons { LogonsStay t.old.sessions t.new.sessions }
+{
+    let file = t.opens.file_of(id);
+    change_file(t, m, file, change, now);
+    reach(t, m, id);
+    answer_with(t.alloc, m, SUCCESS, body, acts)
+}
+
+fn change_file(t: &mut Tables, m: &Message<'_>, file: u64, change: ChangeReady, now: u64)
+    ensures shows { (s : Server) (c : verdicts.Change) → exists s file ≡ true → AbleToChange s file c → ChangeFor t.old s file change c
+        → IsChangeOf (command_of m.now.command) c → FilesForChange t.old s change
+        → ShowsFiles t.new.tree (effects.change_file s file now c) }
+    ensures kept { t.new ≡ record t.old { tree = t.new.tree } }
+{
+    match change {
+        ChangeReady::PutBytes { bytes } => t.tree.finish_write(bytes, bytes_of(m), now),
+        ChangeReady::PutEnd { size } => t.tree.end(file, size, now),
+        ChangeReady::PutBasic { basic } => t.tree.set_basic(file, basic),
+        ChangeReady::PutDeletePending { pending } => t.tree.mark(file, pending),
+        ChangeReady::PutPath { moved } => t.tree.finish_rename(moved),
+        ChangeReady::PutNothing => {}
+    }
+}
+
+/// The bytes of a WRITE; of another message none.
+pub fn bytes_of<'a>(m: &'a Message<'_>) -> &'a [u8]
+    ensures { result.now ≡ bytes_in (command_of m.now.command) }
+{
+    match &m.command {
+        Command::Write { bytes, .. } => bytes,
+        _ => &[],
+    }
+}

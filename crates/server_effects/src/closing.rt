@@ -1,0 +1,101 @@
+//! CLOSE (MS-SMB2 3.3.5.10), and files that go with their last open (MS-FSA 2.1.5.5).
+ghost use Rattle.std.specs.Prelude.{◌≡◌, ℕ, Some, true};
+ghost use Rattle.command_values.specs.Meaning.{body_of, message_of};
+ghost use Rattle.exchange_defs.specs.Commands.{deletes_on_close};
+ghost use Rattle.exchange_defs.specs.Effects.{keep_closed};
+ghost use Rattle.exchange_defs.specs.Files as files;
+ghost use Rattle.exchange_defs.specs.Files.{exists};
+ghost use Rattle.exchange_defs.specs.Opens.{drop_open, goes, pending_behind, without_gone};
+ghost use Rattle.exchange_defs.specs.State.{Server};
+ghost use Rattle.exchange_defs.specs.Verdict.{CloseOpen};
+ghost use Rattle.session_bind.specs.Logons.{LogonsStay};
+ghost use Rattle.server_checks.specs.Shown.{TablesShown};
+ghost use Rattle.server_effects.specs.Carried.{Carries, IsBare};
+ghost use Rattle.server_law.specs.Fits.{Fits};
+
+use crate::answering::{Answer, acting};
+use command_values::{Body, Message};
+use server_checks::Tables;
+use server_verdicts::deletes_on_close;
+
+/// The open leaves, and its file with it where it goes; its session keeps its CreateGuid as closed.
+pub fn close_open(t: &mut Tables, m: &Message<'_>, id: u64, body: Body) -> Answer
+    ensures shows { (now : ℕ) → Carries t.old t.new result (message_of m.now) now (CloseOpen id (body_of body)) }
+    ensures bare { IsBare result }
+    ensures config { t.new.config ≡ t.old.config }
+    ensures logons { LogonsStay t.old.sessions t.new.sessions }
+{
+    let file = t.opens.file_of(id);
+    mark_behind(t, id);
+    shut(t, id);
+    drop_gone(t, file);
+    acting(t.alloc, m, body)
+}
+
+/// An open that deletes on close makes its file delete pending where it leaves.
+pub fn mark_behind(t: &mut Tables, id: u64)
+    ensures shows { (s : Server) → TablesShown t.old s → s.standing id ≡ true → TablesShown t.new (pending_behind s id) }
+    ensures kept { t.new ≡ record t.old { tree = t.new.tree } }
+{
+    if !is_deleting(t, id) {
+        return;
+    }
+    let file = t.opens.file_of(id);
+    t.tree.mark(file, true);
+}
+
+fn is_deleting(t: &Tables, id: u64) -> bool
+    ensures { (s : Server) → TablesShown t.now s → s.standing id ≡ true → result ≡ deletes_on_close (s.opened id).options }
+{
+    match t.opens.row(id) {
+        Some(row) => deletes_on_close(row.options),
+        None => false,
+    }
+}
+
+// The open of a session leaves.
+fn shut(t: &mut Tables, id: u64)
+    ensures shows { (s : Server) (session : ℕ) → Fits s → TablesShown t.old s → s.standing id ≡ true → s.session_of_open id ≡ Some session
+        → TablesShown t.new (keep_closed (drop_open s id) session (s.opened id).create_guid) }
+    ensures kept { t.new ≡ record t.old { opens = t.new.opens } }
+{
+    let _ = t.opens.close(id);
+}
+
+/// A file goes that is delete pending, has no open, and is no directory in which something stands.
+pub fn drop_gone(t: &mut Tables, file: u64)
+    ensures shows { (s : Server) → TablesShown t.old s → exists s file ≡ true → TablesShown t.new (without_gone s file) }
+    ensures kept { t.new ≡ record t.old { tree = t.new.tree } }
+{
+    if !is_going(t, file) {
+        return;
+    }
+    remove(t, file);
+}
+
+#[tactic(auto, unfolding(exchange_defs::specs::Opens::goes))]
+fn is_going(t: &Tables, file: u64) -> bool
+    ensures { (s : Server) → TablesShown t.now s → exists s file ≡ true → result ≡ goes s file }
+{
+    if !t.is_pending(file) {
+        return false;
+    }
+    if file == 0 {
+        return false;
+    }
+    if t.opens.has_open(file) {
+        return false;
+    }
+    !t.tree.is_full(file)
+}
+
+fn remove(t: &mut Tables, file: u64)
+    ensures shows { (s : Server) → TablesShown t.old s → exists s file ≡ true → goes s file ≡ true
+        → TablesShown t.new (files.remove_file s file) }
+    ensures kept { t.new ≡ record t.old { tree = t.new.tree } }
+{
+    match t.tree.remove(file) {
+        Ok(()) => return,
+        Err(_) => return,
+    }
+}

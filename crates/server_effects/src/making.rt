@@ -1,0 +1,67 @@
+//! CREATE of a new open (MS-SMB2 3.3.5.9): its file is made, emptied, or stays as it is, and its row stands.
+ghost use Rattle.std.specs.Prelude.{◌≡◌, ◌<◌, ℕ, Option};
+ghost use Rattle.command_values.specs.Meaning.{command_of, message_of};
+ghost use Rattle.exchange_defs.specs.Commands.{CreateRequest};
+ghost use Rattle.exchange_defs.specs.Effects.{apply, file_made};
+ghost use Rattle.exchange_defs.specs.State.{Server};
+ghost use Rattle.exchange_defs.specs.Verdict.{Make};
+ghost use Rattle.file_store.specs.Shown.{ShowsFiles};
+ghost use Rattle.open_table.specs.Shown.{HasRoom, HasRoomIn, next_of};
+ghost use Rattle.session_bind.specs.Logons.{LogonsStay};
+ghost use Rattle.server_law.specs.Fits.{Fits};
+ghost use Rattle.server_verdicts.specs.Views.{create_in};
+ghost use Rattle.server_effects.specs.Able.{Able, FoundIsFile};
+ghost use Rattle.server_effects.specs.Carried.{Carried, IsBare};
+ghost use Rattle.server_effects.specs.Making.{FileFor, FileRoom, RowFor};
+ghost use Rattle.server_effects.specs.Ready.{OthersShown};
+
+use crate::answering::{Answer, acting};
+use crate::creates::{asked, create_reply};
+use command_values::Message;
+use file_store::NewFile;
+use open_table::Row;
+use server_checks::Tables;
+
+/// What becomes of the file of a new open.
+#[derive(Drop)]
+pub enum FileReady {
+    New { file: NewFile },
+    Emptied { file: u64, attributes: u32 },
+    AsItIs { file: u64 },
+}
+
+/// A new open stands, of a file that was made ready.
+pub fn make(t: &mut Tables, m: &Message<'_>, file: FileReady, row: Row, now: u64) -> Answer
+    requires file { FileRoom t.old file }
+    requires row { HasRoom t.old.opens × HasRoomIn t.old.opens row.session (next_of t.old.opens) row.persistent
+        × (t.old.opens.given < 0xffff_ffff) }
+    ensures shows { (s : Server) (found : Option ℕ) (action : ℕ) → Fits s → OthersShown t.old s
+        → FileFor t.old s (create_in (command_of m.now.command)) found now file
+        → RowFor s (message_of m.now) (create_in (command_of m.now.command)) found action row
+        → Able s (message_of m.now) (Make (create_in (command_of m.now.command)) found action)
+        → Carried t.new result (apply s (message_of m.now) now (Make (create_in (command_of m.now.command)) found action)) }
+    ensures bare { IsBare result }
+    ensures config { t.new.config ≡ t.old.config }
+    ensures logons { LogonsStay t.old.sessions t.new.sessions }
+{
+    let action = row.action;
+    put_file(t, file, now);
+    let id = t.opens.add(row);
+    let body = create_reply(t, id, asked(m), action);
+    acting(t.alloc, m, body)
+}
+
+fn put_file(t: &mut Tables, file: FileReady, now: u64)
+    requires { FileRoom t.old file }
+    ensures shows { (s : Server) (r : CreateRequest) (found : Option ℕ) → FoundIsFile s r found → FileFor t.old s r found now file
+        → ShowsFiles t.new.tree (file_made s r found now) }
+    ensures kept { t.new ≡ record t.old { tree = t.new.tree } }
+{
+    match file {
+        FileReady::New { file } => {
+            let _ = t.tree.finish_make(file);
+        }
+        FileReady::Emptied { file, attributes } => t.tree.empty(file, attributes, now),
+        FileReady::AsItIs { .. } => {}
+    }
+}
