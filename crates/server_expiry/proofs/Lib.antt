@@ -1,0 +1,3 @@
+mod Goes
+mod Behind
+mod Back

@@ -1,0 +1,4 @@
+mod Files
+mod Each
+mod Lost
+mod Steps
