@@ -1,0 +1,4 @@
+pub mod Elements
+pub mod Sizes
+pub mod Values
+pub mod Bodies

@@ -1,0 +1,26 @@
+//! The body that records make in the journal.
+ghost use Rattle.std.specs.Prelude.{IfOk};
+ghost use Rattle.server_body.specs.Body.{IsBody};
+
+use crate::typed::are_typed;
+use journal_records::{Records, can_write, write_records};
+use smb_bytes::Bytes;
+use std::alloc::{AllocError, Global};
+
+/// The body of records in version 2 of the journal; empty of none. Of records that their fields can't hold, as no message from
+/// the wire makes them, the answer is that memory ran out.
+pub fn spelled(alloc: Global, records: &Records) -> Result<Bytes, AllocError>
+    ensures { IfOk result (λ b. IsBody b records.now) }
+{
+    if records.is_empty() {
+        return Ok(Bytes::new(alloc));
+    }
+    if !can_write(records) {
+        return Err(AllocError);
+    }
+    are_typed(records);
+    match write_records(alloc, records) {
+        Ok(body) => Ok(body),
+        Err(error) => Err(error),
+    }
+}

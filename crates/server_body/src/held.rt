@@ -1,0 +1,64 @@
+//! What is made of bytes that a record holds.
+ghost use Rattle.std.specs.Prelude.{◌≡◌, ◌/◌, ◌≤◌, ◌<◌, length, drop, IfOk, MatchResult};
+ghost use Rattle.wire_defs.specs.Places.{number, number_of};
+ghost use Rattle.journal_records.specs.Meaning.{elements_in};
+
+use exchange_defs::values::Element;
+use msg_file::lock_element_at;
+use smb_bytes::{Cursor, Short};
+use std::alloc::{AllocError, Global};
+
+// The two halves of 16 bytes, the first one the lower.
+#[derive(Clone, Copy)]
+struct Halves {
+    low: u64,
+    high: u64,
+}
+
+fn halves_of(guid: &[u8]) -> Result<Halves, Short>
+    ensures { MatchResult result (λ h. (h.low ≡ number 8 guid.now 0) × (h.high ≡ number 8 guid.now 8)) (λ _. length guid.now < 16) }
+{
+    let mut cursor = Cursor::new(guid);
+    let low = cursor.get_u64()?;
+    let high = cursor.get_u64()?;
+    Ok(Halves { low, high })
+}
+
+/// The number that the bytes of a GUID spell, the lowest first.
+#[tactic(auto, using(crate::proofs::Elements::guid_cut))]
+pub fn guid_of(guid: &[u8; 16]) -> u128
+    ensures { result ≡ number_of guid.now }
+{
+    match halves_of(guid) {
+        Ok(halves) => halves.low as u128 + halves.high as u128 * 0x1_0000_0000_0000_0000,
+        Err(_short) => 0,
+    }
+}
+
+// The bytes behind an element.
+fn behind(bytes: &[u8]) -> &[u8]
+    requires { 24 ≤ length bytes.now }
+    ensures { result.now ≡ drop 24 bytes.now }
+{
+    &bytes[24..]
+}
+
+/// The elements of a Lock record, 24 bytes each (MS-SMB2 2.2.26.1).
+#[tactic(auto, using(crate::proofs::Elements::elements_go_on, crate::proofs::Elements::elements_end))]
+pub fn elements_of(alloc: Global, bytes: &[u8]) -> Result<Vec<Element>, AllocError>
+    ensures { IfOk result (λ v. v.items ≡ elements_in (length bytes.now / 24) bytes.now) }
+{
+    let mut elements = Vec::new(alloc);
+    let mut rest = bytes;
+    loop {
+        let Some(found) = lock_element_at(rest, 0) else {
+            return Ok(elements);
+        };
+        elements.push(Element {
+            at: found.offset,
+            length: found.length,
+            flags: found.flags,
+        })?;
+        rest = behind(rest);
+    }
+}

@@ -1,0 +1,10 @@
+pub mod Choice
+pub mod Keys
+pub mod Shown
+pub mod Swept
+pub mod OfFile
+pub mod Making
+pub mod Leaving
+pub mod Locking
+pub mod Following
+pub mod ByKind
