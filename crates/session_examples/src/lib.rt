@@ -8,6 +8,7 @@ ghost use Rattle.session_defs.specs.Choice.{choice};
 ghost use Rattle.session_defs.specs.declared.choice.ChooseError.TheVariants.{NoPreauth, NoHash};
 ghost use Rattle.session_defs.specs.Derivation.{signing_key, to_server_key};
 ghost use Rattle.session_defs.specs.Nonces.{nonce_of};
+ghost use Rattle.session_defs.specs.Signing.{signature};
 ghost use Rattle.token_defs.specs.declared.der.DerError.TheVariants.{Truncated, BadLength, BadTag, Trailing, NoNtlm};
 ghost use Rattle.token_defs.specs.Spnego.{init_in, resp_in, init_spelling, resp_spelling, ntlm_list};
 
@@ -93,4 +94,13 @@ pub fn answer_example()
         }) }
     ensures another_tag { resp_in (160 ∷ 26 ∷ 48 ∷ 24 ∷ 160 ∷ 3 ∷ 10 ∷ 1 ∷ 1 ∷ 161 ∷ 12 ∷ 6 ∷ 10 ∷ 43 ∷ 6 ∷ 1 ∷ 4 ∷ 1 ∷
         130 ∷ 55 ∷ 2 ∷ 2 ∷ 10 ∷ 162 ∷ 3 ∷ 4 ∷ 1 ∷ 255 ∷ []) ≡ Err (BadTag 0 160) }
+{}
+
+/// AES-CMAC of an ECHO of 68 bytes, header and all, by OpenSSL.
+pub fn signature_example()
+    ensures { signature (record { key = 1 ∷ 1 ∷ 1 ∷ 1 ∷ 1 ∷ 1 ∷ 1 ∷ 1 ∷ 1 ∷ 1 ∷ 1 ∷ 1 ∷ 1 ∷ 1 ∷ 1 ∷ 1 ∷ []; algorithm = 1 })
+        (254 ∷ 83 ∷ 77 ∷ 66 ∷ 64 ∷ 0 ∷ 1 ∷ 0 ∷ 0 ∷ 0 ∷ 0 ∷ 0 ∷ 13 ∷ 0 ∷ 1 ∷ 0 ∷ 8 ∷ 0 ∷ 0 ∷ 0 ∷ 0 ∷ 0 ∷ 0 ∷ 0 ∷ 1
+        ∷ 0 ∷ 0 ∷ 0 ∷ 0 ∷ 0 ∷ 0 ∷ 0 ∷ 0 ∷ 0 ∷ 0 ∷ 0 ∷ 0 ∷ 0 ∷ 0 ∷ 0 ∷ 0 ∷ 0 ∷ 0 ∷ 0 ∷ 0 ∷ 0 ∷ 0 ∷ 0 ∷ 0 ∷ 0 ∷ 0
+        ∷ 0 ∷ 0 ∷ 0 ∷ 0 ∷ 0 ∷ 0 ∷ 0 ∷ 0 ∷ 0 ∷ 0 ∷ 0 ∷ 0 ∷ 0 ∷ 4 ∷ 0 ∷ 0 ∷ 0 ∷ [])
+        ≡ 131 ∷ 179 ∷ 82 ∷ 127 ∷ 52 ∷ 246 ∷ 59 ∷ 77 ∷ 204 ∷ 33 ∷ 20 ∷ 249 ∷ 59 ∷ 255 ∷ 159 ∷ 49 ∷ [] }
 {}

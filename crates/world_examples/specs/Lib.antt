@@ -1,2 +1,3 @@
 pub mod Ends
 pub mod Events
+pub mod Keyed

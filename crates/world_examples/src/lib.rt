@@ -1,5 +1,5 @@
 //! Worked examples of the exchange over bytes, computed by the checker: frames of several messages, related ones, events that
-//! found no memory or a server that stopped, and a dialog without credits.
+//! found no memory or a server that stopped, what is signed, sealed and bound, and a dialog without credits.
 #![tactic(auto)]
 
 ghost use Rattle.std.specs.Prelude.{◌≡◌, ℕ, [], ◌∷◌, ◌++◌, true, false, Some, None, replicate, length};
@@ -8,7 +8,10 @@ ghost use Rattle.exchange_defs.specs.Client.{SaidFirst, SaidSecond, AskedTree};
 ghost use Rattle.exchange_defs.specs.Operations.{BadToken};
 ghost use Rattle.world_defs.specs.Ends.{OutsideWindow, Stopped};
 ghost use Rattle.world_defs.specs.Related.{file_named};
+ghost use Rattle.world_defs.specs.Logon.{Interim, signer_of, final_keys};
 ghost use Rattle.world_examples.specs.Ends.{greeted_end, take_frame, echo, cancel, two_echoes, related_echoes, statuses_of, go_through};
+ghost use Rattle.world_examples.specs.Keyed.{go_in_session, two_trees, some_keys, keyed_end, signed_echo, signed_reply};
+ghost use Rattle.world_examples.specs.Keyed.{sealed_echo, sealed_reply, keyed_logons, binding, bound_second};
 ghost use Rattle.world_examples.specs.Events.{two_disconnects, with_mishaps, lacks, halts, setup_behind, fault_at};
 
 /// Two messages of one frame are answered in one frame. Neither is signed, and no key is there to sign with.
@@ -83,4 +86,33 @@ pub fn no_credit_example()
     ensures none { fault_at (SaidFirst false) 0 ≡ Some BadToken }
     ensures one { fault_at (SaidFirst false) 1 ≡ None }
     ensures tree { fault_at AskedTree 0 ≡ None }
+{}
+
+/// A related message takes session and tree of the one before it.
+pub fn related_session_example()
+    ensures { statuses_of (go_in_session (two_trees (100 ∷ []))).replies ≡ 0 ∷ 0 ∷ [] }
+{}
+
+/// What is only signed is refused where sealing is owed.
+pub fn sealing_owed_example()
+    ensures owed { (take_frame (keyed_end true) signed_echo).status ≡ Some 0xc000_0022 }
+    ensures not_owed { (take_frame (keyed_end false) signed_echo).status ≡ Some 0 }
+{}
+
+/// A signed request has a signed reply.
+pub fn signed_reply_example()
+    ensures { (take_frame (keyed_end false) signed_echo).frames ≡ signed_reply ∷ [] }
+{}
+
+/// A sealed request has a sealed reply, which takes a nonce.
+pub fn sealed_reply_example()
+    ensures frames { (take_frame (keyed_end true) sealed_echo).frames ≡ sealed_reply ∷ [] }
+    ensures counter { (take_frame (keyed_end true) sealed_echo).server_end.counter ≡ 1 }
+{}
+
+/// In a binding the session signs the interim response, and the channel has the session's cipher keys and the next number.
+pub fn binding_example()
+    ensures signer { signer_of [] keyed_logons 0 greeted_end binding (Interim true) ≡ Some some_keys.signing }
+    ensures keys { (final_keys [] keyed_logons 0 greeted_end binding true).to_server ≡ replicate 32 2 }
+    ensures channel { bound_second.channel ≡ 2 }
 {}

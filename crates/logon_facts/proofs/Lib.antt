@@ -1,0 +1,4 @@
+mod Lengths
+mod Begun
+mod Shown
+mod Logged
