@@ -65,14 +65,14 @@ low_steps (s ∷ steps) l low = low_steps steps (after_step s l) (low_step s l l
 low_always : (l : Line) → Reached l → IsLow l
 low_always l r = subst IsLow (sym r.is) (low_steps r.steps first_line (omega arith))
 
-next_low : NothingIsRefused → (l : Line) → Reached l → l.purse.next ≤ 2 ^ 64 - 1
+pub next_low : NothingIsRefused → (l : Line) → Reached l → l.purse.next ≤ 2 ^ 64 - 1
 next_low law l r =
     let low = low_always l r in
     let even : IsBalanced l = subst IsBalanced (sym r.is) (law r.steps).0 in
     let e = even.1 in
     omega (arith, low, e)
 
-front_held : NothingIsRefused → (l : Line) → Reached l → FrontIsHeld l.requests l.window
+pub front_held : NothingIsRefused → (l : Line) → Reached l → FrontIsHeld l.requests l.window
 front_held law l r = subst (λ (v : Line). FrontIsHeld v.requests v.window) (sym r.is) (law r.steps).1
 
 -- ---- the front of what goes up
@@ -126,7 +126,7 @@ no_frame_up z L k f x xs [] all = all
 no_frame_up z L k f x xs (q ∷ qs) all = all
 
 -- a message waits with its frame
-has_frame_up : (z : WorldSettings) (w : World) (k : ℕ) (x : Sent) (xs : List Sent) → IsTied z w → (w.values.conns k).server_open ≡ true
+pub has_frame_up : (z : WorldSettings) (w : World) (k : ℕ) (x : Sent) (xs : List Sent) → IsTied z w → (w.values.conns k).server_open ≡ true
     → (w.wires k).up ≡ [] → (w.values.conns k).up ≡ x ∷ xs → ⊥
 has_frame_up z w k x xs i so e h =
     let t = i.tied k in
@@ -155,7 +155,7 @@ empty_or true xs e = ap is_filled e
 empty_or false xs e = refl
 
 -- by whether the end is open
-by_open : (P : Type 0) (b : Bool) → (b ≡ true → P) → (b ≡ false → P) → P
+pub by_open : (P : Type 0) (b : Bool) → (b ≡ true → P) → (b ≡ false → P) → P
 by_open P true f g = f refl
 by_open P false f g = g refl
 
@@ -186,7 +186,7 @@ some_if : {X : Type 0} (c : Bool) (y x : X) → (if c then Some y else None) ≡
 some_if true y x e = (refl, let h : Some y ≡ Some x = e in cc)
 some_if false y x e = absurd (let h : None ≡ Some x = e in cc)
 
-response_gives : (o : Option Heard) (x : Heard) → if_response o ≡ Some x → (o ≡ Some x) × (is_response x.header ≡ true)
+pub response_gives : (o : Option Heard) (x : Heard) → if_response o ≡ Some x → (o ≡ Some x) × (is_response x.header ≡ true)
 response_gives None x e = absurd (let h : None ≡ Some x = e in cc)
 response_gives (Some y) x e =
     let s = some_if (is_response y.header) y x e in (ap Some s.1, subst (λ (v : Heard). is_response v.header ≡ true) s.1 s.0)
@@ -194,7 +194,7 @@ response_gives (Some y) x e =
 in_bytes : (b : List ℕ) (x : Heard) → response_in (Some b) ≡ Some x → b ≡ x.bytes
 in_bytes b x e = ap (λ (v : Heard). v.bytes) (some_if (has_header b) (heard_in b) x e).1
 
-opens_both : (b : List ℕ) (x : Heard) (e v : Bool) (o : Option (List ℕ)) → response_in (if e then o else if v then Some b else None) ≡ Some x
+pub opens_both : (b : List ℕ) (x : Heard) (e v : Bool) (o : Option (List ℕ)) → response_in (if e then o else if v then Some b else None) ≡ Some x
     → response_in (if e then o else Some b) ≡ Some x
 opens_both b x true v o h = h
 opens_both b x false true o h = h
@@ -320,7 +320,7 @@ talk_at z w k b bs y ys i co lined off e h =
     talk_heard z w.values.client.op (shared_of w.values.client w.keys w.logons) k c.server_open u.client_end u.server_end u.up u.down c.up c.down t.link.line b bs y ys e h off
     (t.talk co lined)
 
-heard_at : (z : WorldSettings) (w : World) (k : ℕ) (b : List ℕ) (bs : List (List ℕ)) (y : Received) (ys : List Received) → IsTied z w
+pub heard_at : (z : WorldSettings) (w : World) (k : ℕ) (b : List ℕ) (bs : List (List ℕ)) (y : Received) (ys : List Received) → IsTied z w
     → RepliesAreDue w → (w.values.conns k).client_open ≡ true → (w.wires k).down ≡ b ∷ bs → (w.values.conns k).down ≡ y ∷ ys
     → (stage : Stage) → (w.wires k).client_end.stage ≡ stage → HearsAs z w.values.client.op (w.wires k).client_end b y
 heard_at z w k b bs y ys i due co e h Apart at =
@@ -350,7 +350,7 @@ no_talk_down z s k so n f up down xs rs l y ys e h (Lost e1 e2 e3 e4 e5) = let q
 no_talk_down z s k so n f up down xs rs l y ys e h (Comes a v e1 e2 e3 e4 c) = let q : a ∷ [] ≡ [] = sym e3 ∙ e in cc
 
 -- a reply comes with its frame
-has_frame_down : (z : WorldSettings) (w : World) (k : ℕ) (y : Received) (ys : List Received) → IsTied z w
+pub has_frame_down : (z : WorldSettings) (w : World) (k : ℕ) (y : Received) (ys : List Received) → IsTied z w
     → (w.values.conns k).client_open ≡ true → (w.wires k).down ≡ [] → (w.values.conns k).down ≡ y ∷ ys → ⊥
 has_frame_down z w k y ys i co e h =
     let t = i.tied k in

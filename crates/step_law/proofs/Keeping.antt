@@ -21,12 +21,12 @@ use Rattle.world_defs.specs.World.{dropped_wires, restarted_wires}
 use Rattle.world_defs.specs.Events.{bytes_changed, bytes_later, no_wires, bytes_start}
 use Rattle.step_law.specs.Fronts.{TellsBody}
 use Rattle.step_law.specs.Links.{Shared, shared_of, Answers, AllAnswer, Talks, Waits, Comes, Lost, Tied, TieOf, Ties}
-use Rattle.step_law.specs.Links.{IsTied}
+use Rattle.step_law.specs.Links.{HasOwnKeys, IsTied}
 use Rattle.step_law.specs.InStep.{only_closes, AllTaken, RepliesAreTaken, TiesAreKept}
 
 -- ---- tables
 
-both_tables : (P : ℕ → Conn → Wires → Type 0) (conns : ℕ → Conn) (wires : ℕ → Wires) (k : ℕ) (d : Conn) (u : Wires) → P k d u
+pub both_tables : (P : ℕ → Conn → Wires → Type 0) (conns : ℕ → Conn) (wires : ℕ → Wires) (k : ℕ) (d : Conn) (u : Wires) → P k d u
     → ((j : ℕ) → (j == k) ≡ false → P j (conns j) (wires j)) → (j : ℕ) → P j (put conns k d j) (put wires k u j)
 both_tables P conns wires k d u here there j =
     elim (j == k) as (λ b. j == k ≡ b → P j (if b then d else conns j) (if b then u else wires j)) [
@@ -36,10 +36,10 @@ both_tables P conns wires k d u here there j =
 
 -- ---- the client's end closes
 
-false_open : {X : Type 0} → false ≡ true → X
+pub false_open : {X : Type 0} → false ≡ true → X
 false_open e = absurd (let h : false ≡ true = e in cc)
 
-client_closed : (z : WorldSettings) (op : ℕ → Op) (s : Shared) (k : ℕ) (co so : Bool) (n : ClientEnd) (f : ServerEnd)
+pub client_closed : (z : WorldSettings) (op : ℕ → Op) (s : Shared) (k : ℕ) (co so : Bool) (n : ClientEnd) (f : ServerEnd)
     (up down : List (List ℕ)) (xs : List Sent) (ys : List Received) → Tied z op s k co so n f up down xs ys
     → Tied z op s k false so n f up [] xs []
 client_closed z op s k co so n f up down xs ys t =
@@ -53,6 +53,8 @@ client_closed z op s k co so n f up down xs ys t =
         asked = i.asked;
         awaited = λ c o. false_open c;
         answers = λ c. false_open c;
+        session_fits = λ c. false_open c;
+        sealable = λ c. false_open c;
         keys = λ c o. false_open c;
         encrypts = λ c o. false_open c;
         greeted = λ c o. false_open c;
@@ -66,12 +68,12 @@ client_closed z op s k co so n f up down xs ys t =
 
 -- ---- the server's end closes
 
-talk_lost : (z : WorldSettings) (s : Shared) (k : ℕ) (so : Bool) (n : ClientEnd) (f : ServerEnd) (up down : List (List ℕ))
+talk_lost : (z : WorldSettings) (s : Shared) (k : ℕ) (so : Bool) (n : ClientEnd) (f g : ServerEnd) (up down : List (List ℕ))
     (xs : List Sent) (ys : List Received) (l : Line) (stage : Stage) → Talks z s k so n f up down xs ys l stage
-    → Talks z s k false n f [] down [] ys l stage
-talk_lost z s k so n f up down xs ys l stage (Waits b x e1 e2 e3 e4 g) = Lost refl refl e3 e4 refl
-talk_lost z s k so n f up down xs ys l stage (Lost e1 e2 e3 e4 e5) = Lost refl refl e3 e4 refl
-talk_lost z s k so n f up down xs ys l stage (Comes a y e1 e2 e3 e4 c) = Comes a y refl refl e3 e4 (record {
+    → Talks z s k false n g [] down [] ys l stage
+talk_lost z s k so n f g up down xs ys l stage (Waits b x e1 e2 e3 e4 w) = Lost refl refl e3 e4 refl
+talk_lost z s k so n f g up down xs ys l stage (Lost e1 e2 e3 e4 e5) = Lost refl refl e3 e4 refl
+talk_lost z s k so n f g up down xs ys l stage (Comes a y e1 e2 e3 e4 c) = Comes a y refl refl e3 e4 (record {
   heard = c.heard;
   opens = c.opens;
   alone = c.alone;
@@ -85,10 +87,11 @@ talk_lost z s k so n f up down xs ys l stage (Comes a y e1 e2 e3 e4 c) = Comes a
   lasting = c.lasting;
 })
 
-server_closed : (z : WorldSettings) (op : ℕ → Op) (s : Shared) (k : ℕ) (co so : Bool) (n : ClientEnd) (f : ServerEnd)
+-- whatever end it is
+pub server_closed : (z : WorldSettings) (op : ℕ → Op) (s : Shared) (k : ℕ) (co so : Bool) (n : ClientEnd) (f g : ServerEnd)
     (up down : List (List ℕ)) (xs : List Sent) (ys : List Received) → Tied z op s k co so n f up down xs ys
-    → Tied z op s k co false n f [] down [] ys
-server_closed z op s k co so n f up down xs ys t =
+    → Tied z op s k co false n g [] down [] ys
+server_closed z op s k co so n f g up down xs ys t =
     let i = t.link in record {
       link = record {
         line = i.line;
@@ -99,22 +102,24 @@ server_closed z op s k co so n f up down xs ys t =
         asked = λ o. false_open o;
         awaited = λ c o. false_open o;
         answers = i.answers;
+        session_fits = i.session_fits;
+        sealable = i.sealable;
         keys = λ c o. false_open o;
         encrypts = λ c o. false_open o;
         greeted = λ c o. false_open o;
       };
       bound_keys = t.bound_keys;
-      talk = λ c b. talk_lost z s k so n f up down xs ys i.line n.stage (t.talk c b);
+      talk = λ c b. talk_lost z s k so n f g up down xs ys i.line n.stage (t.talk c b);
       purse = t.purse;
       logon = t.logon;
       salted = λ o. false_open o;
     }
 
-server_tie : (z : WorldSettings) (op : ℕ → Op) (s : Shared) (k : ℕ) (d : Conn) (u : Wires) → TieOf z op s k d u
+pub server_tie : (z : WorldSettings) (op : ℕ → Op) (s : Shared) (k : ℕ) (d : Conn) (u : Wires) → TieOf z op s k d u
     → TieOf z op s k (server_off d) (server_end_off u)
-server_tie z op s k d u t = server_closed z op s k d.client_open d.server_open u.client_end u.server_end u.up u.down d.up d.down t
+server_tie z op s k d u t = server_closed z op s k d.client_open d.server_open u.client_end u.server_end u.server_end u.up u.down d.up d.down t
 
-client_tie : (z : WorldSettings) (op : ℕ → Op) (s : Shared) (k : ℕ) (d : Conn) (u : Wires) → TieOf z op s k d u
+pub client_tie : (z : WorldSettings) (op : ℕ → Op) (s : Shared) (k : ℕ) (d : Conn) (u : Wires) → TieOf z op s k d u
     → TieOf z op s k (client_off d) (client_end_off u)
 client_tie z op s k d u t = client_closed z op s k d.client_open d.server_open u.client_end u.server_end u.up u.down d.up d.down t
 
@@ -166,7 +171,7 @@ cut_world w k ready last =
 
 one_closed : (z : WorldSettings) (c : Client) (keys : Keys) (L : Logons) (conns : ℕ → Conn) (wires : ℕ → Wires) (k : ℕ) (d : Client)
     → d.op ≡ c.op → shared_of d keys L ≡ shared_of c keys L → ((j : ℕ) → (j == k) ≡ false → d.stage j ≡ c.stage j)
-    → (0 < d.rank d.accepted → L.keys d.accepted ≡ keys) → Ties z c keys L conns wires
+    → HasOwnKeys z keys L d.rank d.accepted → Ties z c keys L conns wires
     → Ties z d keys L (put conns k (client_off (conns k))) (put wires k (client_end_off (wires k)))
 one_closed z c keys L conns wires k d ops shared stages own i =
     let p = client_off (conns k) in
@@ -192,7 +197,7 @@ all_closed z w i =
       own_keys = i.own_keys;
     }
 
-other_stage : (stage : ℕ → Stage) (k j : ℕ) (v : Stage) → (j == k) ≡ false → put stage k v j ≡ stage j
+pub other_stage : (stage : ℕ → Stage) (k j : ℕ) (v : Stage) → (j == k) ≡ false → put stage k v j ≡ stage j
 other_stage stage k j v e = ap (λ b. if b then v else stage j) e
 
 cut_ties : (z : WorldSettings) (w : World) (k : ℕ) (ready last : Bool) → IsTied z w → IsTied z (cut_world w k ready last)
@@ -207,7 +212,7 @@ cut_ties z w k false last i =
 
 -- ---- Submit: an operation that is taken is none that a reply is of
 
-put_other : {X : Type 0} (f : ℕ → X) (k : ℕ) (v : X) (q : ℕ) → q < k → put f k v q ≡ f q
+pub put_other : {X : Type 0} (f : ℕ → X) (k : ℕ) (v : X) (q : ℕ) → q < k → put f k v q ≡ f q
 put_other f k v q less = grind arith
 
 abbrev TellsOf : Op → Heard → Reply → Type 0
@@ -264,6 +269,8 @@ taken_tie z op g taken new s k d u e few t =
         awaited = i.awaited;
         answers = λ c. answers_later op g taken new n.keys n.encrypts n.awaited n.purse.next u.down d.down i.line.grants e few
             (i.answers c);
+        session_fits = i.session_fits;
+        sealable = i.sealable;
         keys = i.keys;
         encrypts = i.encrypts;
         greeted = i.greeted;
@@ -300,7 +307,7 @@ submit_by z w g op true is few i =
 
 finish_ties : (z : WorldSettings) (w : World) (d : Client) → d.op ≡ w.values.client.op
     → shared_of d w.keys w.logons ≡ shared_of w.values.client w.keys w.logons → d.stage ≡ w.values.client.stage
-    → (0 < d.rank d.accepted → w.logons.keys d.accepted ≡ w.keys) → IsTied z w → Ties z d w.keys w.logons w.values.conns w.wires
+    → HasOwnKeys z w.keys w.logons d.rank d.accepted → IsTied z w → Ties z d w.keys w.logons w.values.conns w.wires
 finish_ties z w d ops shared stages own i = record {
   tied = λ j. subst (λ o. TieOf z o (shared_of d w.keys w.logons) j (w.values.conns j) (w.wires j)) (sym ops)
       (subst (λ s. TieOf z w.values.client.op s j (w.values.conns j) (w.wires j)) (sym shared) (i.tied j));
@@ -342,6 +349,8 @@ no_tie z op s k = record {
     asked = λ o. false_open o;
     awaited = λ c o. false_open o;
     answers = λ c. false_open c;
+    session_fits = λ c. false_open c;
+    sealable = λ c. false_open c;
     keys = λ c o. false_open o;
     encrypts = λ c o. false_open o;
     greeted = λ c o. false_open o;
@@ -360,7 +369,7 @@ start_ties z =
       tied = λ k. no_tie z c.op (shared_of c no_keys no_logons) k;
       stages = λ k o. false_open o;
       nexts = λ k o. false_open o;
-      own_keys = λ e. refl;
+      own_keys = λ e. absurd (let h : 0 < 0 = e in omega (arith, h));
     }
 
 pub ties_kept : TiesAreKept

@@ -4,3 +4,6 @@ pub mod Hearing
 pub mod Taking
 pub mod InStep
 pub mod Keeping
+pub mod Columns
+pub mod Took
+pub mod Tree

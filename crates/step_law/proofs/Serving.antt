@@ -41,7 +41,7 @@ nothing_sealed false false (Some ms) t e s =
     let same : plain ≡ t = (cc) in
     let q : false ≡ true = ap (λ (v : FrameText). v.sealed) same ∙ s in cc
 
-sealed_keys : (keys : Option Keys) (b : List ℕ) (t : FrameText) → text_of keys b ≡ Ok t → t.sealed ≡ true → is_some keys ≡ true
+pub sealed_keys : (keys : Option Keys) (b : List ℕ) (t : FrameText) → text_of keys b ≡ Ok t → t.sealed ≡ true → is_some keys ≡ true
 sealed_keys (Some keys) b t e s = refl
 sealed_keys None b t e s = absurd (nothing_sealed (is_too_long b) (begins_sealed b) (messages_in b) t e s)
 
@@ -85,11 +85,11 @@ alone_in f b sealed x text turn =
 
 -- ---- and its reply is one frame
 
-record IsTold (S : ConnectionStep) (t : Option Taken) : Type 0 where
-  taken : S.taken ≡ t
-  ends : S.ends ≡ None
-  frame : List ℕ
-  frames : S.frames ≡ frame ∷ []
+pub record IsTold (S : ConnectionStep) (t : Option Taken) : Type 0 where
+  pub taken : S.taken ≡ t
+  pub ends : S.ends ≡ None
+  pub frame : List ℕ
+  pub frames : S.frames ≡ frame ∷ []
 
 record OneFrame (keys : Option Keys) (f : ServerEnd) (text : List ℕ) : Type 0 where
   frame : List ℕ
@@ -100,10 +100,10 @@ unfolding sealed_each
 one_sealed None f text e = absurd (let h : false ≡ true = e in cc)
 one_sealed (Some keys) f text e = record { frame = sealed_under keys false (nonce_at f.channel f.counter) text; is = refl }
 
-is_low : (n last : ℕ) → n < last → nat_le (n + 1) last ≡ true
+pub is_low : (n last : ℕ) → n < last → nat_le (n + 1) last ≡ true
 is_low n last e = grind (arith, nat_tests)
 
-goes_on : (b : Bool) (x y : ConnectionStep) → b ≡ true → (if true && not b then x else y) ≡ y
+pub goes_on : (b : Bool) (x y : ConnectionStep) → b ≡ true → (if true && not b then x else y) ≡ y
 goes_on true x y e = refl
 goes_on false x y e = absurd (let h : false ≡ true = e in cc)
 
@@ -141,7 +141,25 @@ went_one : (z : WorldSettings) (k now : ℕ) (fresh : List ℕ) (f : ServerEnd) 
 unfolding went_all
 went_one z k now fresh f s L c m is = ap (went_heard z.server k now fresh f (beginning s L f) c) is
 
-told_at : (z : WorldSettings) (w : World) (k : ℕ) (b : List ℕ) (x : Sent) (bill : ℕ × ℕ)
+-- what the server's end makes of the front
+pub step_is : (z : WorldSettings) (w : World) (k : ℕ) (b : List ℕ) (x : Sent) (bill : ℕ × ℕ)
+    (r : Reads z w.logons k (w.wires k).server_end b x bill) → MayServe (w.wires k).server_end bill
+    → step_at z w k b
+    ≡ answered (behind_turn (w.wires k).server_end r.heard.header) r.sealed
+    (went_by z.server k w.values.moment (take 8 (draw z.seed w.draws)) (behind_turn (w.wires k).server_end r.heard.header)
+    (beginning w.values.server w.logons (behind_turn (w.wires k).server_end r.heard.header))
+    (checked_as (w.wires k).server_end r.sealed false true r.heard) x.message (answer w.values x))
+step_is z w k b x bill r may =
+    let f = (w.wires k).server_end in
+    let now = w.values.moment in
+    let fresh = take 8 (draw z.seed w.draws) in
+    let F = behind_turn f r.heard.header in
+    let c = checked_as f r.sealed false true r.heard in
+    ap (step_of z.server k now fresh w.values.server w.logons f)
+    (alone_in f b r.sealed r.heard r.text (in_turn z w.logons k f b x bill r may))
+    ∙ ap (answered F r.sealed) (went_one z k now fresh F w.values.server w.logons c x.message r.message)
+
+pub told_at : (z : WorldSettings) (w : World) (k : ℕ) (b : List ℕ) (x : Sent) (bill : ℕ × ℕ)
     → Reads z w.logons k (w.wires k).server_end b x bill → MayServe (w.wires k).server_end bill
     → IsTold (step_at z w k b) (Some (record { message = x.message; answer = answer w.values x }))
 told_at z w k b x bill r may =
@@ -150,22 +168,19 @@ told_at z w k b x bill r may =
     let fresh = take 8 (draw z.seed w.draws) in
     let s = w.values.server in
     let L = w.logons in
-    let F = one_message f r.sealed r.heard in
+    let F = behind_turn f r.heard.header in
     let c = checked_as f r.sealed false true r.heard in
     let m = x.message in
     let A = answer w.values x in
-    let G = went_by z.server k now fresh F.server_end (beginning s L F.server_end) c m A in
-    let said = said_to z.server k now fresh F.server_end L F.server_end.window c m.command A.reply in
-    let is : step_at z w k b ≡ answered F.server_end r.sealed G =
-    ap (step_of z.server k now fresh s L f) (alone_in f b r.sealed r.heard r.text (in_turn z L k f b x bill r may))
-    ∙ ap (answered F.server_end r.sealed) (went_one z k now fresh F.server_end s L c m r.message) in
-    subst (λ S. IsTold S (Some (record { message = m; answer = A }))) (sym is)
-    (one_told F.server_end r.sealed G.server G.logons G.window G.carried G.taken said
+    let G = went_by z.server k now fresh F (beginning s L F) c m A in
+    let said = said_to z.server k now fresh F L F.window c m.command A.reply in
+    subst (λ S. IsTold S (Some (record { message = m; answer = A }))) (sym (step_is z w k b x bill r may))
+    (one_told F r.sealed G.server G.logons G.window G.carried G.taken said
     (λ e. sealed_keys f.keys b (record { sealed = r.sealed; messages = r.heard ∷ [] }) r.text e) may.nonce)
 
 -- ---- the values behind it
 
-said_values : (w : World) (k : ℕ) (bs : List (List ℕ)) (x : Sent) (xs : List Sent) (S : ConnectionStep)
+pub said_values : (w : World) (k : ℕ) (bs : List (List ℕ)) (x : Sent) (xs : List Sent) (S : ConnectionStep)
     → IsTold S (Some (record { message = x.message; answer = answer w.values x }))
     → (served_by w k bs xs x.token S S.ends).values ≡ serve_front w.values k (x ∷ xs)
 unfolding replied_each

@@ -21,11 +21,11 @@ use Rattle.step_law.specs.Fronts.{TellsReply, TellsBody, HearsAs, OnLine, InDial
 use Rattle.step_law.proofs.Own.{met_alike}
 use Rattle.step_law.proofs.Hearing.{op_alike, asked_alike}
 
-put_same : {X : Type 0} (f : ℕ → X) (k : ℕ) (v : X) → put f k v k ≡ v
+pub put_same : {X : Type 0} (f : ℕ → X) (k : ℕ) (v : X) → put f k v k ≡ v
 put_same f k v = grind arith
 
 -- the world in which the front has left has the client's end as it was
-end_is : (w : World) (k : ℕ) (bs : List (List ℕ)) (ys : List Received)
+pub end_is : (w : World) (k : ℕ) (bs : List (List ℕ)) (ys : List Received)
     → ((behind_frame w k bs ys).wires k).client_end ≡ (w.wires k).client_end
 end_is w k bs ys = ap (λ (u : Wires). u.client_end) (put_same w.wires k (record (w.wires k) { down = bs }))
 

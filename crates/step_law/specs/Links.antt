@@ -3,21 +3,26 @@ use Rattle.std.specs.Prelude.{◌≡◌, ℕ, ◌+◌, ◌==◌, ◌≤◌, ◌<
 use Rattle.std.specs.Prelude.{Some, None, is_some, Ok}
 use Rattle.wire_defs.specs.Places.{number_of}
 use Rattle.exchange_defs.specs.Status.{success}
+use Rattle.exchange_defs.specs.Commands.{Command, Aside, Setup, SetupRequest}
+use Rattle.exchange_defs.specs.State.{Message}
 use Rattle.exchange_defs.specs.Operations.{Op}
 use Rattle.exchange_defs.specs.Client.{Client, Stage, Apart, SaidNegotiate, SaidFirst, SaidSecond, AskedTree}
 use Rattle.exchange_defs.specs.Network.{Conn, Sent, Received, Token, ForDialog, ForOp, ForAttach}
 use Rattle.credit_defs.specs.Purse.{Credits, first_purse}
 use Rattle.credit_defs.specs.Exchange.{Line, Step, after_steps, first_line}
+use Rattle.session_defs.specs.declared.choice.Chosen.{Chosen}
 use Rattle.session_defs.specs.declared.material.Keys.{Keys}
+use Rattle.session_defs.specs.Derivation.{known}
 use Rattle.token_defs.specs.Tokens.{first_token}
 use Rattle.world_defs.specs.Settings.{WorldSettings, chosen_of}
 use Rattle.world_defs.specs.Messages.{Heard}
-use Rattle.world_defs.specs.Negotiate.{negotiate_status, client_told, negotiated}
+use Rattle.world_defs.specs.Negotiate.{client_told, negotiated}
 use Rattle.world_defs.specs.Ends.{ClientEnd, ServerEnd, Greeting, Logons, client_on, chosen_on}
 use Rattle.world_defs.specs.Hearing.{text_of, is_negotiate, is_setup, is_cancel, fault_of}
 use Rattle.world_defs.specs.Logon.{token_in, pending_by, challenge_of, greeting_transcript, before_setup}
-use Rattle.world_defs.specs.Sending.{answer_of}
-use Rattle.world_defs.specs.Dialog.{line_response, dialog_response, due, dialog_fault, body_reads, setup_token, seals_told, own_final}
+use Rattle.world_defs.specs.Sending.{greeting_text, answer_of}
+use Rattle.world_defs.specs.Dialog.{line_response, dialog_response, due, dialog_fault, body_reads, chosen_told, setup_token}
+use Rattle.world_defs.specs.Dialog.{command_due, seals_told, own_final}
 use Rattle.world_defs.specs.World.{World, Wires}
 use Rattle.step_law.specs.Fronts.{Reads, TellsReply, TellsBody}
 
@@ -51,8 +56,14 @@ pub record Asked (z : WorldSettings) (L : Logons) (k : ℕ) (f : ServerEnd) (b :
   pub fault : fault_of f reads.sealed false reads.heard ≡ None
   pub credits : reads.heard.header.credits ≡ 512
   pub counts : is_cancel reads.heard.header ≡ false
+  pub charge_fits : reads.heard.header.charge < 256 ^ 2
+  pub command_fits : reads.heard.header.command < 256 ^ 2
+  pub message_fits : reads.heard.header.message < 256 ^ 8
   pub sealing : is_line reads.heard ≡ true → (reads.sealed ≡ f.encrypts) × (is_some f.keys ≡ true)
+  pub plain : is_line reads.heard ≡ false → reads.sealed ≡ false
   pub kind : is_operations x.token ≡ true → is_line reads.heard ≡ true
+  -- what a dialog asks on a line is its TREE_CONNECT
+  pub tree : x.token ≡ ForDialog → is_line reads.heard ≡ true → reads.heard.header.command ≡ 3
 
 abbrev pub AllAsked : WorldSettings → Logons → ℕ → ServerEnd → List (List ℕ) → List Sent → List (ℕ × ℕ) → Type 0
 AllAsked z L k f [] [] [] = Unit {0}
@@ -108,6 +119,8 @@ pub record Linked (z : WorldSettings) (op : ℕ → Op) (s : Shared) (k : ℕ) (
   pub asked : server_open ≡ true → AllAsked z s.logons k f up xs line.requests
   pub awaited : client_open ≡ true → server_open ≡ true → AllAwaited n.awaited n.purse.next xs line.requests
   pub answers : client_open ≡ true → AllAnswer op n.keys n.encrypts n.awaited n.purse.next down ys line.grants
+  pub session_fits : client_open ≡ true → n.keys.session < 2 ^ 64
+  pub sealable : client_open ≡ true → n.encrypts ≡ true → (n.keys.cipher == 0) ≡ false
   pub keys : client_open ≡ true → server_open ≡ true → f.keys ≡ Some n.keys
   pub encrypts : client_open ≡ true → server_open ≡ true → f.encrypts ≡ n.encrypts
   pub greeted :
@@ -135,6 +148,11 @@ pub record GreetedAs (z : WorldSettings) (g : Option Greeting) : Type 0 where
   pub cipher : (chosen_on g).cipher ≡ (chosen_of z.client).cipher
   pub signing : (chosen_on g).signing ≡ (chosen_of z.client).signing
 
+-- the client's choice is the server's
+pub record ChosenAs (z : WorldSettings) (c : Chosen) : Type 0 where
+  pub cipher : c.cipher ≡ (chosen_of z.client).cipher
+  pub signing : c.signing ≡ (chosen_of z.client).signing
+
 -- in a binding both ends have the keys of the client's session
 abbrev pub IsBinding : Shared → ClientEnd → Heard → Bool → Type 0
 IsBinding s n x bound = bound ≡ true → (x.header.session ≡ s.session) × (n.keys ≡ s.keys)
@@ -143,10 +161,29 @@ IsBinding s n x bound = bound ≡ true → (x.header.session ≡ s.session) × (
 abbrev pub IsBegun : Logons → ℕ → Type 0
 IsBegun L k = (fresh : List ℕ) × (now : ℕ) × (length fresh ≡ 8) × (now < 256 ^ 8) × (L.pending k ≡ pending_by first_token fresh now)
 
+-- the client's NEGOTIATE
+pub record IsOwnGreeting (z : WorldSettings) (b : List ℕ) : Type 0 where
+  pub salt : List ℕ
+  pub message : Message
+  pub is : b ≡ greeting_text z.client salt message
+  pub salted : length salt ≡ 32
+  pub sequence : message.channel_sequence ≡ 0
+  pub id : message.message_id ≡ 0
+  pub tree : message.tree_id ≡ 0
+  pub session : message.session_id ≡ 0
+  pub told : negotiated b ≡ chosen_of z.client
+  pub client : client_told b ≡ number_of z.client.guid
+
+-- the command of a stage's request
+abbrev pub IsDialogCommand : Stage → Command → Type 0
+IsDialogCommand (SaidNegotiate bound) c = c ≡ Aside success
+IsDialogCommand (SaidFirst bound) c = (r : SetupRequest) × (c ≡ Setup r) × (r.binding ≡ bound)
+IsDialogCommand (SaidSecond bound) c = (r : SetupRequest) × (c ≡ Setup r) × (r.binding ≡ bound)
+IsDialogCommand _ c = ⊥
+
 -- what the request of a stage carries
 abbrev pub Carries : WorldSettings → Shared → ℕ → ClientEnd → Stage → Heard → Type 0
-Carries z s k n (SaidNegotiate bound) x =
-    (negotiate_status x.bytes ≡ success) × (negotiated x.bytes ≡ chosen_of z.client) × (client_told x.bytes ≡ number_of z.client.guid)
+Carries z s k n (SaidNegotiate bound) x = IsOwnGreeting z x.bytes
 Carries z s k n (SaidFirst bound) x = (token_in x.bytes ≡ first_token) × IsBinding s n x bound
 Carries z s k n (SaidSecond bound) x =
     IsBegun s.logons k × (answer_of z.client n (challenge_of (s.logons.pending k)) ≡ Some (token_in x.bytes)) × IsBinding s n x bound
@@ -155,9 +192,11 @@ Carries z s k n _ x = ⊥
 
 -- the server's end, where the request of a stage waits for it: its transcript and the request are the client's transcript
 abbrev pub IsBehind : WorldSettings → ServerEnd → ClientEnd → List ℕ → Stage → Type 0
-IsBehind z f n b (SaidNegotiate bound) = (f.greeting ≡ None) × (n.transcript ≡ b ∷ [])
-IsBehind z f n b (SaidFirst bound) = GreetedAs z f.greeting × (f.making ≡ None) × (n.transcript ≡ before_setup f ++ b ∷ [])
-IsBehind z f n b (SaidSecond bound) = GreetedAs z f.greeting × (is_some f.making ≡ true) × (n.transcript ≡ before_setup f ++ b ∷ [])
+IsBehind z f n b (SaidNegotiate bound) = (f.greeting ≡ None) × (f.making ≡ None) × (n.transcript ≡ b ∷ [])
+IsBehind z f n b (SaidFirst bound) =
+    GreetedAs z f.greeting × (f.making ≡ None) × (n.transcript ≡ before_setup f ++ b ∷ []) × ChosenAs z n.chosen
+IsBehind z f n b (SaidSecond bound) =
+    GreetedAs z f.greeting × (is_some f.making ≡ true) × (n.transcript ≡ before_setup f ++ b ∷ []) × ChosenAs z n.chosen
 IsBehind z f n b _ = ⊥
 
 pub record Waiting (z : WorldSettings) (s : Shared) (k : ℕ) (n : ClientEnd) (f : ServerEnd) (b : List ℕ) (x : Sent)
@@ -166,6 +205,8 @@ pub record Waiting (z : WorldSettings) (s : Shared) (k : ℕ) (n : ClientEnd) (f
   pub opens : text_of f.keys b ≡ Ok (record { sealed = false; messages = heard ∷ [] })
   pub alone : heard.bytes ≡ b
   pub token : x.token ≡ ForDialog
+  pub command : IsDialogCommand stage x.message.command
+  pub header : heard.header.command ≡ command_due stage
   pub awaits : n.awaited heard.header.message ≡ Some ForDialog
   pub below : heard.header.message < n.purse.next
   pub no_grants : grants ≡ []
@@ -187,10 +228,11 @@ IsAhead s k n f z a x (SaidSecond false) =
 IsAhead s k n f z a x _ = ⊥
 
 -- what stands whether or not the server's end is open
-abbrev pub IsLasting : Shared → ℕ → ClientEnd → Stage → Type 0
-IsLasting s k n (SaidFirst bound) = IsBegun s.logons k
-IsLasting s k n (SaidSecond false) = s.logons.keys s.pending ≡ own_final n false s.pending
-IsLasting s k n _ = Unit {0}
+abbrev pub IsLasting : WorldSettings → Shared → ℕ → ClientEnd → Heard → Stage → Type 0
+IsLasting z s k n x (SaidNegotiate bound) = ChosenAs z (chosen_told x.bytes)
+IsLasting z s k n x (SaidFirst bound) = IsBegun s.logons k × ChosenAs z n.chosen
+IsLasting z s k n x (SaidSecond false) = (s.logons.keys s.pending ≡ own_final n false s.pending) × ChosenAs z n.chosen
+IsLasting z s k n x _ = Unit {0}
 
 -- of another status than the due one no more is asked than that it is heard
 pub record Coming (z : WorldSettings) (s : Shared) (k : ℕ) (server_open : Bool) (n : ClientEnd) (f : ServerEnd) (a : List ℕ)
@@ -205,7 +247,7 @@ pub record Coming (z : WorldSettings) (s : Shared) (k : ℕ) (server_open : Bool
   pub credits : heard.header.credits ≡ dialog_grant stage
   pub sound : (heard.header.status == due stage) ≡ true → dialog_fault z.client n stage heard ≡ None
   pub ahead : (heard.header.status == due stage) ≡ true → server_open ≡ true → IsAhead s k n f z a heard stage
-  pub lasting : (heard.header.status == due stage) ≡ true → IsLasting s k n stage
+  pub lasting : (heard.header.status == due stage) ≡ true → IsLasting z s k n heard stage
 
 pub data Talks (z : WorldSettings) (s : Shared) (k : ℕ) (server_open : Bool) (n : ClientEnd) (f : ServerEnd)
     (up down : List (List ℕ)) (xs : List Sent) (ys : List Received) (line : Line) (stage : Stage) : Type 0 where
@@ -244,12 +286,16 @@ pub record Tied (z : WorldSettings) (op : ℕ → Op) (s : Shared) (k : ℕ) (cl
 abbrev pub TieOf : WorldSettings → (ℕ → Op) → Shared → ℕ → Conn → Wires → Type 0
 TieOf z op s k d u = Tied z op s k d.client_open d.server_open u.client_end u.server_end u.up u.down d.up d.down
 
+-- the last accepted session has on both ends the same keys, of the cipher that is chosen
+abbrev pub HasOwnKeys : WorldSettings → Keys → Logons → (ℕ → ℕ) → ℕ → Type 0
+HasOwnKeys z keys L rank accepted =
+    0 < rank accepted → (L.keys accepted ≡ keys) × (keys.cipher ≡ known (chosen_of z.client).cipher) × (keys.session < 2 ^ 64)
+
 pub record Ties (z : WorldSettings) (c : Client) (keys : Keys) (L : Logons) (conns : ℕ → Conn) (wires : ℕ → Wires) : Type 0 where
   pub tied : (k : ℕ) → TieOf z c.op (shared_of c keys L) k (conns k) (wires k)
   pub stages : (k : ℕ) → (conns k).client_open ≡ true → (wires k).client_end.stage ≡ c.stage k
   pub nexts : (k : ℕ) → (conns k).client_open ≡ true → (wires k).client_end.purse.next ≡ (conns k).next_id
-  -- the last accepted session has on both ends the same keys
-  pub own_keys : 0 < c.rank c.accepted → L.keys c.accepted ≡ keys
+  pub own_keys : HasOwnKeys z keys L c.rank c.accepted
 
 abbrev pub IsTied : WorldSettings → World → Type 0
 IsTied z w = Ties z w.values.client w.keys w.logons w.values.conns w.wires

@@ -8,6 +8,7 @@
 ghost use Rattle.step_law.specs.Own.{OwnEvents};
 ghost use Rattle.step_law.specs.Fronts.{FrontsAreServed, FrontsAreTaken};
 ghost use Rattle.step_law.specs.InStep.{TiedGoesInStep, TiesAreKept};
+ghost use Rattle.step_law.specs.Taken.{TakesAreKept, TreeTakesAreKept};
 
 use credit_law::nothing_is_refused_law;
 
@@ -40,4 +41,15 @@ pub fn in_step_law()
 /// Push, a Serve, a Take and a Crash that keeps its front, of which this isn't proved here.
 pub fn ties_law()
     ensures kept { TiesAreKept }
+{}
+
+/// A Take leaves a tied world tied: of a line's reply, where an operation has one copy on a connection, and of a dialog's response of
+/// another status than the one that is due.
+pub fn takes_law()
+    ensures kept { TakesAreKept }
+{}
+
+/// So does the Take of the response to a new session's TREE_CONNECT, by which its channel is ready, where no other dialog is on its way.
+pub fn tree_takes_law()
+    ensures kept { TreeTakesAreKept }
 {}

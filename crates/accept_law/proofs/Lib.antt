@@ -1,0 +1,4 @@
+pub mod Lined
+pub mod Came
+pub mod Bound
+pub mod Accepted

@@ -1,0 +1,10 @@
+pub mod Sparing
+pub mod Credit
+pub mod Step
+pub mod Told
+pub mod Front
+pub mod Greeted
+pub mod First
+pub mod Second
+pub mod Serve
+pub mod Crash

@@ -1,0 +1,79 @@
+-- Over every run without tampering the values are those of a run of the model.
+use Rattle.std.proofs.Common.{◌≡◌, List, [], ◌∷◌, ◌++◌, refl, sym, ap, ◌∙◌}
+use Rattle.std.proofs.lemmas.List.{append_assoc}
+use Rattle.exchange_defs.specs.Network.{Event, Settings, happens, run, start}
+use Rattle.exchange_law.proofs.Reached.{run_more}
+use Rattle.credit_defs.specs.Exchange.{NothingIsRefused}
+use Rattle.world_defs.specs.Settings.{WorldSettings, values_of}
+use Rattle.world_defs.specs.World.{World}
+use Rattle.world_defs.specs.Events.{Plain, bytes_happen, bytes_run, bytes_start}
+use Rattle.world_defs.specs.Statements.{plainly, plain_run, value_event, value_events, RequestsAreHeard}
+use Rattle.wire_facts.specs.Lawful.{IsLawful}
+use Rattle.step_law.specs.Links.{IsTied}
+use Rattle.step_law.proofs.InStep.{tied_goes}
+use Rattle.step_law.proofs.Keeping.{ties_kept}
+use Rattle.due_law.proofs.Due.{worlds_are_due}
+use Rattle.run_law.specs.Supplies.{AreSupplied, RunsGoInStep}
+use Rattle.run_law.proofs.Events.{stays_tied}
+
+-- ---- one more event at the end
+
+bytes_more : (z : WorldSettings) (es : List Event) (e : Event) (w : World)
+    → bytes_run z (plainly (es ++ e ∷ [])) w ≡ bytes_happen z (bytes_run z (plainly es) w) (Plain e)
+unfolding bytes_run plainly
+bytes_more z [] e w = refl
+bytes_more z (x ∷ es) e w = bytes_more z es e (bytes_happen z w (Plain x))
+
+nothing_run : (z : Settings) → start z ≡ run [] (start z)
+unfolding run
+nothing_run z = refl
+
+nothing_happened : (z : WorldSettings) → bytes_start z ≡ plain_run z []
+unfolding bytes_run plainly
+nothing_happened z = refl
+
+-- ---- from a world of a run on
+
+-- what holds of it
+record Here (z : WorldSettings) (w : World) (before values : List Event) : Type 0 where
+  tied : IsTied z w
+  reached : w ≡ plain_run z before
+  is : w.values ≡ run values (start (values_of z))
+
+-- and of the one that some more events lead to
+record There (z : WorldSettings) (w v : World) (es : List Event) : Type 0 where
+  in_step : v.values ≡ run (value_events z w es) w.values
+  tied : IsTied z v
+  requests : RequestsAreHeard z v
+
+from_here : NothingIsRefused → (z : WorldSettings) → IsLawful z → (events : List Event) → AreSupplied z events → (es : List Event) (w : World)
+    (before values : List Event) → before ++ es ≡ events → Here z w before values → There z w (bytes_run z (plainly es) w) es
+unfolding bytes_run plainly value_events run
+from_here held z law events supplied [] w before values part h =
+    let d = worlds_are_due z w values h.is in
+    let g = tied_goes held z w h.tied d.due in
+    record { in_step = refl; tied = h.tied; requests = g.requests }
+from_here held z law events supplied (x ∷ es) w before values part h =
+    let d = worlds_are_due z w values h.is in
+    let s = supplied before (x ∷ es) values w part h.reached h.is h.tied in
+    let g = tied_goes held z w h.tied d.due in
+    let v = bytes_happen z w (Plain x) in
+    let e = value_event w x in
+    let next : v.values ≡ run (values ++ e ∷ []) (start (values_of z)) =
+    g.values x ∙ (ap (λ u. happens u e) h.is ∙ sym (run_more values e (start (values_of z)))) in
+    let reached : v ≡ plain_run z (before ++ x ∷ []) =
+    ap (λ u. bytes_happen z u (Plain x)) h.reached ∙ sym (bytes_more z before x (bytes_start z)) in
+    let t = from_here held z law events supplied es v (before ++ x ∷ []) (values ++ e ∷ []) (append_assoc before (x ∷ []) es ∙ part)
+    (record { tied = stays_tied held z law w h.tied d s x; reached = reached; is = next }) in
+    record {
+      in_step = t.in_step ∙ ap (λ u. run (value_events z v es) u) (g.values x);
+      tied = t.tied;
+      requests = t.requests;
+    }
+
+pub runs_go : NothingIsRefused → RunsGoInStep
+runs_go held z events law supplied =
+    let ties = ties_kept z in
+    let t = from_here held z law events supplied events (bytes_start z) [] [] refl
+    (record { tied = ties.start; reached = nothing_happened z; is = nothing_run (values_of z) }) in
+    record { in_step = t.in_step; requests = t.requests; tied = t.tied }

@@ -1,0 +1,4 @@
+pub mod Asked
+pub mod Ends
+pub mod Going
+pub mod Taken

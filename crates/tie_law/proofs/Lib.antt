@@ -1,0 +1,10 @@
+pub mod Commands
+pub mod Answering
+pub mod Hearing
+pub mod Linking
+pub mod Line
+pub mod Asking
+pub mod Sending
+pub mod Pushed
+pub mod Crash
+pub mod Opened

@@ -1,0 +1,4 @@
+pub mod Lines
+pub mod Sending
+pub mod Pushed
+pub mod Opened
