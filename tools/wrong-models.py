@@ -11,7 +11,7 @@ are left out. With CRATE that crate is checked for each change; with --examples 
 names is proved, and changes without one are left out. A line is printed for each: its name, then `refused` with the crate
 and the functions or lemmas whose proof fails (`below` where a crate that it stands on refused already), `passes`, `LATE`
 where a check took longer than the limit, which tells nothing, or `BAD` where a text doesn't stand once or doesn't compile.
-What each check printed is kept in FOLDER/logs.
+What each check printed is kept in FOLDER/logs. What earlier checks kept of the crates that those stand on is copied too.
 With --texts nothing is proved: a line is printed for each text that doesn't stand once, each example that isn't there, and
 each change that has neither an example nor a law.
 """
@@ -96,11 +96,29 @@ def check_texts():
     print(len(changes), "changes read")
 
 
-def copy_crates(folder):
+def with_lower(crates):
+    """These crates and all of the repository that they stand on."""
+    lines = [line.split("#")[0] for line in open(os.path.join(TOP, "crates.txt"), encoding="utf-8")]
+    below = {line.split(":")[0].split()[0]: line.split(":")[1].split() for line in lines if ":" in line}
+    found, waiting = set(), list(crates)
+    while waiting:
+        crate = waiting.pop()
+        if crate in below and crate not in found:
+            found.add(crate)
+            waiting += below[crate]
+    return found
+
+
+def copy_crates(folder, crates):
+    """A copy of all crates, and of what was kept of these and of those that they stand on."""
     copy = os.path.join(folder, "wrong")
     shutil.rmtree(copy, ignore_errors=True)
     os.makedirs(copy)
-    shutil.copytree(os.path.join(TOP, "crates"), os.path.join(copy, "crates"), ignore=shutil.ignore_patterns("out"))
+    shutil.copytree(os.path.join(TOP, "crates"), os.path.join(copy, "crates"), ignore=shutil.ignore_patterns("out", "out.part"))
+    for name in with_lower(crates):
+        out = os.path.join("crates", name, "out")
+        if os.path.isdir(os.path.join(TOP, out, "rlib")):
+            subprocess.run(["cp", "-a", os.path.join(TOP, out), os.path.join(copy, out)], check=False)
     for part in ("crates.txt", "HANDLES"):
         shutil.copy(os.path.join(TOP, part), os.path.join(copy, part))
     subprocess.run(["git", "init", "-q"], cwd=copy, check=False)
@@ -183,12 +201,11 @@ def main():
     folder, chosen = words[0], words[1:]
     needs = {"--laws": "laws", "--examples": "example"}.get(mode, "name")
     decide = by_laws if crate == "" else lambda copy, c: verdict(copy, c, crate, ["--only", c["example"]] if mode else [])
-    copy = copy_crates(folder)
-    for change in read_changes():
-        if mode == "--examples" and change["crate"] != crate:
-            continue
-        if needs in change and (not chosen or change["name"] in chosen):
-            print(change["name"], try_change(copy, change, decide), flush=True)
+    changes = [c for c in read_changes() if needs in c and (not chosen or c["name"] in chosen)]
+    changes = [c for c in changes if mode != "--examples" or c["crate"] == crate]
+    copy = copy_crates(folder, [name for c in changes for name in (c["laws"].split() if crate == "" else [crate])])
+    for change in changes:
+        print(change["name"], try_change(copy, change, decide), flush=True)
 
 
 main()

@@ -108,7 +108,7 @@ tampered_next : (w v : World) (b : Bool) → Unmoved w v → Counted w → Next 
 tampered_next w v false u i = nothing w i
 tampered_next w v true u i = unmoved_then w v (bytes_later v 1) (later_unmoved v 1) (unmoved w v u i)
 
-happen_next : (z : WorldSettings) (w : World) (e : ByteEvent) → Counted w → Next w (bytes_happen z w e)
+pub happen_next : (z : WorldSettings) (w : World) (e : ByteEvent) → Counted w → Next w (bytes_happen z w e)
 happen_next z w (Plain e) i = plain_next z w e (is_possible w.values e) refl i
 happen_next z w (Tamper k up change) i =
     tampered_next w (tampered w k up change) (may_tamper w k up) (tampered_unmoved w k up change) i
@@ -123,7 +123,7 @@ unfolding bytes_run
 run_kept z [] w i old = old
 run_kept z (e ∷ es) w i old = (let n = happen_next z w e i in run_kept z es (bytes_happen z w e) n.counted (n.kept old))
 
-start_counted : (z : WorldSettings) → Counted (bytes_start z)
+pub start_counted : (z : WorldSettings) → Counted (bytes_start z)
 start_counted z = record {
   making = λ k e. absurd (let h : false ≡ true = e in cc);
   not_live = λ k e. refl;

@@ -1,0 +1,25 @@
+//! The law on nonces to the server: over every run of the exchange over bytes, tampered with or not, in which the client accepts no
+//! two sessions of one id, no two messages that it seals have one nonce in one session (MS-SMB2 2.2.41, 3.1.4.3). Without tampering
+//! that premise is the model's own, and both directions are one law.
+//!
+//! Each law is the contract of a public function that does nothing.
+#![tactic(auto)]
+
+ghost use Rattle.sending_law.specs.Sent.{NoncesToServer, PlainNonces};
+
+use nonce_law::nonces_to_client_law;
+use session_law::sessions_law;
+
+/// Of all that the client sealed in a run.
+pub fn nonces_to_server_law()
+    ensures once { NoncesToServer }
+{}
+
+/// Of all that both ends sealed in a run without tampering of which each front goes in step with the model.
+pub fn plain_nonces_law()
+    ensures once { PlainNonces }
+{
+    sessions_law();
+    nonces_to_client_law();
+    nonces_to_server_law();
+}
