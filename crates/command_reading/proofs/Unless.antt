@@ -13,6 +13,8 @@ pub where_it_breaks : (fault : Option MessageError) (c d : Command) (e : Message
     (status_of e) → d ≡ unless fault c
 where_it_breaks fault c d e some is = is ∙ sym (ap (λ (e : Option MessageError). unless e c) some)
 
+pub ruleset reads_or_breaks = (where_it_reads, where_it_breaks)
+
 pub setup_where_it_breaks : (t : Told) (h : Header) (fault : Option MessageError) (v : SessionSetupRequestValue)
     (c : Command) (e : MessageError)
     → fault ≡ Some e → c ≡ setup_of t h false no_setup → c ≡ setup_if t h fault v

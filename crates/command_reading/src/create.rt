@@ -88,7 +88,7 @@ fn create_of<'a>(alloc: Global, v: &msg_file::CreateRequest<'_>) -> Result<Comma
     }
 }
 
-#[tactic(auto, unfolding(command_defs::specs::CommandOf::create_in), using(crate::proofs::Unless::where_it_reads, crate::proofs::Unless::where_it_breaks))]
+#[tactic(auto, unfolding(command_defs::specs::CommandOf::create_in), using(crate::proofs::Unless::reads_or_breaks))]
 pub(crate) fn create_in(alloc: Global, m: &[u8]) -> Result<Command<'_>, AllocError>
     ensures { IfOk result (λ c. Meaning.command_of c ≡ CommandOf.create_in m.now) }
 {

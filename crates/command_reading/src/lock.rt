@@ -51,7 +51,7 @@ fn lock_of<'a>(alloc: Global, v: &LockRequest<'_>) -> Result<Command<'a>, AllocE
     })
 }
 
-#[tactic(auto, unfolding(command_defs::specs::CommandOf::lock_in), using(crate::proofs::Unless::where_it_reads, crate::proofs::Unless::where_it_breaks))]
+#[tactic(auto, unfolding(command_defs::specs::CommandOf::lock_in), using(crate::proofs::Unless::reads_or_breaks))]
 pub(crate) fn lock_in(alloc: Global, m: &[u8]) -> Result<Command<'_>, AllocError>
     ensures { IfOk result (λ c. Meaning.command_of c ≡ CommandOf.lock_in m.now) }
 {

@@ -10,7 +10,7 @@ use msg_file::{read_close_request, read_flush_request, read_read_request, read_w
 use msg_info::read_ioctl_request;
 use msg_session::{read_logoff_request, read_tree_disconnect_request};
 
-#[tactic(auto, unfolding(command_defs::specs::CommandOf::logoff_in), using(crate::proofs::Unless::where_it_reads, crate::proofs::Unless::where_it_breaks))]
+#[tactic(auto, unfolding(command_defs::specs::CommandOf::logoff_in), using(crate::proofs::Unless::reads_or_breaks))]
 pub(crate) fn logoff_in(m: &[u8]) -> Command<'_>
     ensures { Meaning.command_of result ≡ logoff_in m.now }
 {
@@ -20,7 +20,7 @@ pub(crate) fn logoff_in(m: &[u8]) -> Command<'_>
     }
 }
 
-#[tactic(auto, unfolding(command_defs::specs::CommandOf::tree_disconnect_in), using(crate::proofs::Unless::where_it_reads, crate::proofs::Unless::where_it_breaks))]
+#[tactic(auto, unfolding(command_defs::specs::CommandOf::tree_disconnect_in), using(crate::proofs::Unless::reads_or_breaks))]
 pub(crate) fn tree_disconnect_in(m: &[u8]) -> Command<'_>
     ensures { Meaning.command_of result ≡ tree_disconnect_in m.now }
 {
@@ -30,7 +30,7 @@ pub(crate) fn tree_disconnect_in(m: &[u8]) -> Command<'_>
     }
 }
 
-#[tactic(auto, unfolding(command_defs::specs::CommandOf::close_in), using(crate::proofs::Unless::where_it_reads, crate::proofs::Unless::where_it_breaks))]
+#[tactic(auto, unfolding(command_defs::specs::CommandOf::close_in), using(crate::proofs::Unless::reads_or_breaks))]
 pub(crate) fn close_in(m: &[u8]) -> Command<'_>
     ensures { Meaning.command_of result ≡ close_in m.now }
 {
@@ -43,7 +43,7 @@ pub(crate) fn close_in(m: &[u8]) -> Command<'_>
     }
 }
 
-#[tactic(auto, unfolding(command_defs::specs::CommandOf::flush_in), using(crate::proofs::Unless::where_it_reads, crate::proofs::Unless::where_it_breaks))]
+#[tactic(auto, unfolding(command_defs::specs::CommandOf::flush_in), using(crate::proofs::Unless::reads_or_breaks))]
 pub(crate) fn flush_in(m: &[u8]) -> Command<'_>
     ensures { Meaning.command_of result ≡ flush_in m.now }
 {
@@ -55,7 +55,7 @@ pub(crate) fn flush_in(m: &[u8]) -> Command<'_>
     }
 }
 
-#[tactic(auto, unfolding(command_defs::specs::CommandOf::read_in), using(crate::proofs::Unless::where_it_reads, crate::proofs::Unless::where_it_breaks))]
+#[tactic(auto, unfolding(command_defs::specs::CommandOf::read_in), using(crate::proofs::Unless::reads_or_breaks))]
 pub(crate) fn read_in(m: &[u8]) -> Command<'_>
     ensures { Meaning.command_of result ≡ read_in m.now }
 {
@@ -71,7 +71,7 @@ pub(crate) fn read_in(m: &[u8]) -> Command<'_>
     }
 }
 
-#[tactic(auto, unfolding(command_defs::specs::CommandOf::write_in), using(crate::proofs::Unless::where_it_reads, crate::proofs::Unless::where_it_breaks))]
+#[tactic(auto, unfolding(command_defs::specs::CommandOf::write_in), using(crate::proofs::Unless::reads_or_breaks))]
 pub(crate) fn write_in(m: &[u8]) -> Command<'_>
     ensures { Meaning.command_of result ≡ write_in m.now }
 {
@@ -86,7 +86,7 @@ pub(crate) fn write_in(m: &[u8]) -> Command<'_>
     }
 }
 
-#[tactic(auto, unfolding(command_defs::specs::CommandOf::ioctl_in), using(crate::proofs::Unless::where_it_reads, crate::proofs::Unless::where_it_breaks))]
+#[tactic(auto, unfolding(command_defs::specs::CommandOf::ioctl_in), using(crate::proofs::Unless::reads_or_breaks))]
 pub(crate) fn ioctl_in(m: &[u8]) -> Command<'_>
     ensures { Meaning.command_of result ≡ ioctl_in m.now }
 {

@@ -41,7 +41,7 @@ fn list_of<'a>(alloc: Global, v: &QueryDirectoryRequest<'_>) -> Result<Command<'
     }
 }
 
-#[tactic(auto, unfolding(command_defs::specs::CommandOf::list_in), using(crate::proofs::Unless::where_it_reads, crate::proofs::Unless::where_it_breaks))]
+#[tactic(auto, unfolding(command_defs::specs::CommandOf::list_in), using(crate::proofs::Unless::reads_or_breaks))]
 pub(crate) fn list_in(alloc: Global, m: &[u8]) -> Result<Command<'_>, AllocError>
     ensures { IfOk result (λ c. Meaning.command_of c ≡ CommandOf.list_in m.now) }
 {
@@ -85,7 +85,7 @@ fn query_of<'a>(v: &QueryInfoRequest<'_>) -> Command<'a>
     }
 }
 
-#[tactic(auto, unfolding(command_defs::specs::CommandOf::query_in), using(crate::proofs::Unless::where_it_reads, crate::proofs::Unless::where_it_breaks))]
+#[tactic(auto, unfolding(command_defs::specs::CommandOf::query_in), using(crate::proofs::Unless::reads_or_breaks))]
 pub(crate) fn query_in(m: &[u8]) -> Command<'_>
     ensures { Meaning.command_of result ≡ CommandOf.query_in m.now }
 {

@@ -38,7 +38,7 @@ pub(crate) fn setup_in<'a>(header: &Header, m: &'a [u8]) -> SetupForm<'a>
     }
 }
 
-#[tactic(auto, unfolding(command_defs::specs::CommandOf::tree_connect_in), using(crate::proofs::Unless::where_it_reads, crate::proofs::Unless::where_it_breaks))]
+#[tactic(auto, unfolding(command_defs::specs::CommandOf::tree_connect_in), using(crate::proofs::Unless::reads_or_breaks))]
 pub(crate) fn tree_connect_in(alloc: Global, m: &[u8]) -> Result<Command<'_>, AllocError>
     ensures { IfOk result (λ c. Meaning.command_of c ≡ tree_connect_in m.now) }
 {

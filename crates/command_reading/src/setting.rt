@@ -18,7 +18,7 @@ use msg_info::{
 };
 use std::alloc::{AllocError, Global};
 
-#[tactic(auto, using(crate::proofs::Unless::where_it_reads, crate::proofs::Unless::where_it_breaks))]
+#[tactic(auto, using(crate::proofs::Unless::reads_or_breaks))]
 fn set_basic<'a>(file: u64, bytes: &[u8]) -> Command<'a>
     ensures { Meaning.command_of result ≡ CommandOf.setting_of file 4 bytes.now }
 {
@@ -69,7 +69,7 @@ fn rename_of<'a>(
     }
 }
 
-#[tactic(auto, using(crate::proofs::Unless::where_it_reads, crate::proofs::Unless::where_it_breaks))]
+#[tactic(auto, using(crate::proofs::Unless::reads_or_breaks))]
 fn rename<'a>(alloc: Global, file: u64, bytes: &[u8]) -> Result<Command<'a>, AllocError>
     ensures { IfOk result (λ c. Meaning.command_of c ≡ CommandOf.setting_of file 10 bytes.now) }
 {
@@ -79,7 +79,7 @@ fn rename<'a>(alloc: Global, file: u64, bytes: &[u8]) -> Result<Command<'a>, All
     }
 }
 
-#[tactic(auto, using(crate::proofs::Unless::where_it_reads, crate::proofs::Unless::where_it_breaks))]
+#[tactic(auto, using(crate::proofs::Unless::reads_or_breaks))]
 fn set_delete<'a>(file: u64, bytes: &[u8]) -> Command<'a>
     ensures { Meaning.command_of result ≡ CommandOf.setting_of file 13 bytes.now }
 {
@@ -94,7 +94,7 @@ fn set_delete<'a>(file: u64, bytes: &[u8]) -> Command<'a>
     }
 }
 
-#[tactic(auto, using(crate::proofs::Unless::where_it_reads, crate::proofs::Unless::where_it_breaks))]
+#[tactic(auto, using(crate::proofs::Unless::reads_or_breaks))]
 fn set_allocation<'a>(file: u64, bytes: &[u8]) -> Command<'a>
     ensures { Meaning.command_of result ≡ CommandOf.setting_of file 19 bytes.now }
 {
@@ -109,7 +109,7 @@ fn set_allocation<'a>(file: u64, bytes: &[u8]) -> Command<'a>
     }
 }
 
-#[tactic(auto, using(crate::proofs::Unless::where_it_reads, crate::proofs::Unless::where_it_breaks))]
+#[tactic(auto, using(crate::proofs::Unless::reads_or_breaks))]
 fn set_end<'a>(file: u64, bytes: &[u8]) -> Command<'a>
     ensures { Meaning.command_of result ≡ CommandOf.setting_of file 20 bytes.now }
 {
@@ -159,7 +159,7 @@ fn set_of<'a>(alloc: Global, v: &SetInfoRequest<'_>) -> Result<Command<'a>, Allo
     }
 }
 
-#[tactic(auto, unfolding(command_defs::specs::CommandOf::set_in), using(crate::proofs::Unless::where_it_reads, crate::proofs::Unless::where_it_breaks))]
+#[tactic(auto, unfolding(command_defs::specs::CommandOf::set_in), using(crate::proofs::Unless::reads_or_breaks))]
 pub(crate) fn set_in(alloc: Global, m: &[u8]) -> Result<Command<'_>, AllocError>
     ensures { IfOk result (λ c. Meaning.command_of c ≡ CommandOf.set_in m.now) }
 {

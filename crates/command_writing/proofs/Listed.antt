@@ -55,6 +55,8 @@ some_is i [] = grind (arith, common_steps)
 some_is zero (n ∷ ns) = grind (arith, common_steps)
 some_is (suc i) (n ∷ ns) = let h = some_is i ns in grind (arith, common_steps)
 
+pub ruleset told_entries = (told_directory, told_full, told_both, told_id_both, told_id_full)
+
 -- what stands is the front of the listing, and the next entry is put behind it
 pub entries_go_on : (c : DirectoryClass) (ns : List Named) (n : Named) (i : ℕ) (out : List ℕ) → drop i ns ≡ n ∷ drop (i + 1) ns
     → listed c ns ≡ out ++ listed c (drop i ns)

@@ -52,7 +52,7 @@ fn only_name(name: &[u8]) -> DirectoryEntry<'_>
 }
 
 // The entry of a file whose name is these bytes in UTF-16.
-#[tactic(auto, using(crate::proofs::Listed::told_directory, crate::proofs::Listed::told_full, crate::proofs::Listed::told_both, crate::proofs::Listed::told_id_both, crate::proofs::Listed::told_id_full))]
+#[tactic(auto, using(crate::proofs::Listed::told_entries))]
 fn entry_of<'a>(class: DirectoryClass, info: &Info, name: &'a [u8]) -> DirectoryEntry<'a>
     ensures told { (n : says.Named) (more : Bool) → n.info ≡ Meaning.info_of info.now → utf16 n.name ≡ name.now
         → entry_if more class (directory_entry result) ≡ entry_if more class (Infos.entry_of class n) }

@@ -10,24 +10,59 @@ use smb311_cli::smb311;
 use std::alloc::Global;
 use vector_rows::bytes_of;
 
-/// The answer to a row, `STATUS|TEXT`, where calls fail as the plans say.
-pub fn answer(alloc: Global, row: &str, reading: &str, writing: &str) -> Result<Answer> {
-    let (words, rest) = row.split_once('|').context("no words")?;
-    let (script, due) = rest.split_once('|').context("no script")?;
-    let script = Bytes::from_vec(unescaped(alloc, script)?);
-    let mut source = MemSource::new(alloc, script, plan(alloc, reading)?)?;
-    let mut sink = MemSink::new(alloc, plan(alloc, writing)?)?;
-    let words = words_of(alloc, words)?;
-    let status = smb311(alloc, words.as_slice(), &mut source, &mut sink);
-    let text = std::str::from_utf8(sink.bytes())?.replace(alloc, "\n", "\\n")?;
-    Ok(Answer {
-        said: format!(in alloc; "{status}|{text}")?,
-        due: String::from_str(alloc, due)?,
-    })
+/// A row in its parts.
+#[derive(Clone, Copy)]
+struct Asked<'a> {
+    words: &'a str,
+    script: &'a str,
+    due: &'a str,
 }
 
-fn plan(alloc: Global, digits: &str) -> Result<Bytes> {
-    Ok(Bytes::from_vec(bytes_of(alloc, digits)?))
+/// The answer to a row, `STATUS|TEXT`, where calls fail as the plans say.
+pub fn answer(alloc: Global, row: &str, reading: &str, writing: &str) -> Result<Answer> {
+    let asked = asked_in(row)?;
+    let said = said_to(alloc, asked, reading, writing)?;
+    let due = String::from_str(alloc, asked.due)?;
+    Ok(Answer { said, due })
+}
+
+fn asked_in(row: &str) -> Result<Asked<'_>> {
+    let (words, rest) = row.split_once('|').context("no words")?;
+    let (script, due) = rest.split_once('|').context("no script")?;
+    Ok(Asked { words, script, due })
+}
+
+fn said_to(alloc: Global, asked: Asked<'_>, reading: &str, writing: &str) -> Result<String> {
+    let words = words_of(alloc, asked.words)?;
+    let source = source_of(alloc, asked.script, reading)?;
+    let sink = sink_of(alloc, writing)?;
+    ran(alloc, words.as_slice(), source, sink)
+}
+
+fn source_of(alloc: Global, script: &str, plan: &str) -> Result<MemSource> {
+    let plan = bytes_of(alloc, plan)?;
+    let script = unescaped(alloc, script)?;
+    Ok(MemSource::new(alloc, Bytes::from_vec(script), Bytes::from_vec(plan))?)
+}
+
+fn sink_of(alloc: Global, plan: &str) -> Result<MemSink> {
+    let plan = bytes_of(alloc, plan)?;
+    Ok(MemSink::new(alloc, Bytes::from_vec(plan))?)
+}
+
+fn ran(
+    alloc: Global,
+    words: &[String],
+    mut source: MemSource,
+    mut sink: MemSink,
+) -> Result<String> {
+    let status = smb311(alloc, words, &mut source, &mut sink);
+    told(alloc, status, sink.bytes())
+}
+
+fn told(alloc: Global, status: u8, written: &[u8]) -> Result<String> {
+    let text = std::str::from_utf8(written)?.replace(alloc, "\n", "\\n")?;
+    Ok(format!(in alloc; "{status}|{text}")?)
 }
 
 fn words_of(alloc: Global, text: &str) -> Result<Vec<String>> {

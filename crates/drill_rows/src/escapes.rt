@@ -43,20 +43,26 @@ fn plain(alloc: Global, text: &str) -> Result<Vec<u8>> {
 
 // What stands behind a backslash.
 fn escaped(alloc: Global, part: &[u8], bytes: &mut Vec<u8>) -> Result<()> {
-    match part {
-        [b'n', rest @ ..] => {
-            bytes.push(b'\n')?;
-            bytes.extend_from_slice(rest)?;
-        }
-        [b'r', rest @ ..] => {
-            bytes.push(b'\r')?;
-            bytes.extend_from_slice(rest)?;
-        }
-        [b'x', high, low, rest @ ..] => {
-            bytes.extend_from_slice(hex::decode(alloc, [*high, *low])?.as_slice())?;
-            bytes.extend_from_slice(rest)?;
-        }
+    match part.split_first() {
+        Some((b'n', rest)) => pushed(bytes, b'\n', rest),
+        Some((b'r', rest)) => pushed(bytes, b'\r', rest),
+        Some((b'x', rest)) => coded(alloc, bytes, rest),
         _ => bail!("an unknown escape"),
     }
+}
+
+fn pushed(bytes: &mut Vec<u8>, byte: u8, rest: &[u8]) -> Result<()> {
+    bytes.push(byte)?;
+    bytes.extend_from_slice(rest)?;
+    Ok(())
+}
+
+// Two digits, and what stands behind them.
+fn coded(alloc: Global, bytes: &mut Vec<u8>, part: &[u8]) -> Result<()> {
+    if part.len() < 2 {
+        bail!("a digit is missing");
+    }
+    bytes.extend_from_slice(hex::decode(alloc, &part[..2])?.as_slice())?;
+    bytes.extend_from_slice(&part[2..])?;
     Ok(())
 }

@@ -7,7 +7,8 @@ mod command;
 mod escapes;
 mod schedule;
 
-use anyhow::{Context, Result, bail, ensure};
+use anyhow::{Context, Result, bail};
+use due_rows::{Tally, ensure_due, is_remark};
 use std::alloc::Global;
 
 /// What is answered to a row, and what is to be.
@@ -29,32 +30,23 @@ fn answered(alloc: Global, row: &str) -> Result<Answer> {
     }
 }
 
-/// Whether a line is a row, to which what is due is answered.
+/// Whether a line is a row, which is answered with what is due.
 fn is_right(alloc: Global, line: &str) -> Result<bool> {
-    if line.starts_with('#') {
+    if is_remark(line) {
         return Ok(false);
     }
     let answer = answered(alloc, line)?;
-    ensure!(
-        answer.said.as_str() == answer.due.as_str(),
-        "answered {}",
-        answer.said
-    );
+    ensure_due(answer.said.as_str(), answer.due.as_str())?;
     Ok(true)
 }
 
 fn main(rt: HostRuntime) -> Result<()> {
-    let mut lines: u64 = 0;
-    let mut right: u64 = 0;
+    let mut tally = Tally::new();
     for line in rt.lines(rt.alloc()) {
         let line = line?;
-        lines = lines.saturating_add(1);
-        match is_right(rt.alloc(), line.as_str()) {
-            Ok(true) => right = right.saturating_add(1),
-            Ok(false) => {}
-            Err(error) => bail!("line {lines}: {error}"),
-        }
+        tally.count(is_right(rt.alloc(), line.as_str()))?;
     }
+    let right = tally.right();
     println!(rt; "{right} rows are answered as they say")?;
     Ok(())
 }

@@ -11,35 +11,47 @@ use world_model::{Op, OpKind, OpReply, Outcome, StepNote, World, WorldError, Wor
 /// The answers of a new world to events, without those that say nothing.
 pub fn answer(alloc: Global, row: &str) -> Result<Answer> {
     let (events, due) = row.split_once('|').context("no events")?;
-    let mut world = World::new(alloc)?;
-    let mut said = String::new(alloc);
-    for event in events.split("; ") {
-        let more = answered(alloc, &mut world, event)?;
-        if !said.is_empty() && !more.is_empty() {
-            said.push_str("; ")?;
-        }
-        said.push_str(more.as_str())?;
-    }
+    let said = said_to(alloc, events)?;
     let due = String::from_str(alloc, due)?;
     Ok(Answer { said, due })
 }
 
+fn said_to(alloc: Global, events: &str) -> Result<String> {
+    let mut world = World::new(alloc)?;
+    let mut said = String::new(alloc);
+    for event in events.split("; ") {
+        let more = answered(alloc, &mut world, event)?;
+        push_more(&mut said, more.as_str())?;
+    }
+    Ok(said)
+}
+
+fn push_more(said: &mut String, more: &str) -> Result<()> {
+    if !said.is_empty() && !more.is_empty() {
+        said.push_str("; ")?;
+    }
+    said.push_str(more)?;
+    Ok(())
+}
+
 fn answered(alloc: Global, world: &mut World, event: &str) -> Result<String> {
     let mut words = event.split_whitespace();
-    let word = words.next().context("no event")?;
-    match word {
-        "settle" => {
-            world.settle()?;
-            Ok(String::new(alloc))
-        }
+    match words.next().context("no event")? {
+        "settle" => settled(alloc, world),
         "outcomes" => outcomes(alloc, world),
         "files" => files(alloc, world),
         "order" => order(alloc, world, number(&mut words)?),
-        _ => {
-            let event = event_of(alloc, word, &mut words)?;
-            note(alloc, world.step(event))
-        }
+        word => stepped(alloc, world, event_of(alloc, word, &mut words)?),
     }
+}
+
+fn settled(alloc: Global, world: &mut World) -> Result<String> {
+    world.settle()?;
+    Ok(String::new(alloc))
+}
+
+fn stepped(alloc: Global, world: &mut World, event: WorldEvent) -> Result<String> {
+    note(alloc, world.step(event))
 }
 
 fn number(words: &mut SplitWhitespace<'_>) -> Result<u32> {
@@ -51,51 +63,58 @@ fn offset(words: &mut SplitWhitespace<'_>) -> Result<u64> {
 }
 
 fn event_of(alloc: Global, word: &str, words: &mut SplitWhitespace<'_>) -> Result<WorldEvent> {
-    let first = number(words)?;
-    Ok(match word {
-        "push" => WorldEvent::Push(first),
-        "serve" => WorldEvent::Serve(first),
-        "take" => WorldEvent::Take(first),
-        "write" => {
-            let at = offset(words)?;
-            let bytes = Bytes::from_vec(bytes_of(alloc, words.next().context("no bytes")?)?);
-            let create = 0;
-            let kind = OpKind::Write { create, at, bytes };
-            WorldEvent::Submit(Op {
-                number: first,
-                kind,
-            })
-        }
-        "read" => {
-            let at = offset(words)?;
-            let length = number(words)?;
-            let create = 0;
-            let kind = OpKind::Read { create, at, length };
-            WorldEvent::Submit(Op {
-                number: first,
-                kind,
-            })
-        }
+    let number = number(words)?;
+    match word {
+        "push" => Ok(WorldEvent::Push(number)),
+        "serve" => Ok(WorldEvent::Serve(number)),
+        "take" => Ok(WorldEvent::Take(number)),
+        "write" => Ok(submitted(number, write_of(alloc, words)?)),
+        "read" => Ok(submitted(number, read_of(words)?)),
         _ => bail!("an unknown event"),
+    }
+}
+
+fn submitted(number: u32, kind: OpKind) -> WorldEvent {
+    WorldEvent::Submit(Op { number, kind })
+}
+
+fn write_of(alloc: Global, words: &mut SplitWhitespace<'_>) -> Result<OpKind> {
+    let at = offset(words)?;
+    let bytes = bytes_of(alloc, words.next().context("no bytes")?)?;
+    Ok(OpKind::Write {
+        create: 0,
+        at,
+        bytes: Bytes::from_vec(bytes),
+    })
+}
+
+fn read_of(words: &mut SplitWhitespace<'_>) -> Result<OpKind> {
+    let at = offset(words)?;
+    let length = number(words)?;
+    Ok(OpKind::Read {
+        create: 0,
+        at,
+        length,
     })
 }
 
 // What an event noted: the status that was sent, and whether the server acted.
 fn note(alloc: Global, noted: Result<StepNote, WorldError>) -> Result<String> {
     match noted {
-        Ok(StepNote { status: None, .. }) => Ok(String::new(alloc)),
-        Ok(
-            StepNote {
-                status: Some(status),
-                acted,
-            },
-        ) => {
-            let word = if acted { "acted" } else { "kept" };
-            Ok(format!(in alloc; "{word} {status:08x}")?)
-        }
+        Ok(step) => sent(alloc, step),
         Err(WorldError::NoChannel(c)) => Ok(format!(in alloc; "no-channel {c}")?),
         Err(WorldError::NothingThere(c)) => Ok(format!(in alloc; "nothing-there {c}")?),
         Err(WorldError::Memory) => bail!("out of memory"),
+    }
+}
+
+fn sent(alloc: Global, step: StepNote) -> Result<String> {
+    match step.status {
+        None => Ok(String::new(alloc)),
+        Some(status) => {
+            let word = if step.acted { "acted" } else { "kept" };
+            Ok(format!(in alloc; "{word} {status:08x}")?)
+        }
     }
 }
 

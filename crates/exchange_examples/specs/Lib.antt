@@ -1,3 +1,4 @@
 pub mod Scripts
 pub mod Servers
 pub mod Laws
+pub mod Computed

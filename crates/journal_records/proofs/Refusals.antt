@@ -160,3 +160,8 @@ open_timeout v m bytes at there some size there_is none o s kept =
     let place : number 2 m (at + 41) ≡ length bytes = ap (λ (p : ℕ). number 2 m p) (omega arith) ∙ size in
     let last : at + 55 + length (utf16 d.user) ≡ there = omega (arith, same, place, there_is) in
     none d.timeout (subst (λ (p : ℕ). Stands m p (timeout_table v d.timeout)) last d.stands) d.kept
+
+-- Why a create's record doesn't read, and why its open doesn't.
+pub ruleset creates = (create_short, create_flag, create_text, create_opened)
+
+pub ruleset opens = (opened_short, opened_told, open_short, open_text, open_timeout)

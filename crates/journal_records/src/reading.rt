@@ -33,7 +33,7 @@ fn read_timeout(cursor: &mut Cursor<'_>, version: u32) -> Result<u32, Fault>
     Ok(cursor.get_u32()?)
 }
 
-#[tactic(auto, using(crate::proofs::Refusals::opened_short, crate::proofs::Refusals::opened_told, crate::proofs::Refusals::open_short, crate::proofs::Refusals::open_text, crate::proofs::Refusals::open_timeout))]
+#[tactic(auto, using(crate::proofs::Refusals::opens))]
 fn read_opened(
     alloc: Global,
     cursor: &mut Cursor<'_>,
@@ -63,7 +63,7 @@ fn read_opened(
     }))
 }
 
-#[tactic(auto, using(crate::proofs::Refusals::create_short, crate::proofs::Refusals::create_flag, crate::proofs::Refusals::create_text, crate::proofs::Refusals::create_opened))]
+#[tactic(auto, using(crate::proofs::Refusals::creates))]
 fn read_create(alloc: Global, m: &[u8], version: u32) -> Result<Found, Fault>
     requires { number 1 m.now 0 ≡ 2 }
     ensures { ReadsRecord version m.now result }

@@ -7,7 +7,8 @@ mod calls;
 mod disks;
 mod each;
 
-use anyhow::{Context, Result, bail, ensure};
+use anyhow::{Context, Result, bail};
+use due_rows::{Tally, ensure_due, is_remark, row_of};
 use vector_rows::bytes_of;
 
 /// What is answered to a row.
@@ -29,29 +30,24 @@ fn said_of(rt: &HostRuntime, given: &str) -> Result<String> {
     }
 }
 
-/// Whether a line is a row, which says what is due.
+/// Whether a line is a row, which is answered with what is due.
 fn is_right(rt: &HostRuntime, line: &str) -> Result<bool> {
-    if line.starts_with('#') {
+    if is_remark(line) {
         return Ok(false);
     }
-    let (given, due) = line.split_once(" = ").context("nothing is due")?;
-    let said = said_of(rt, given)?;
-    ensure!(said.as_str() == due, "answered {said}");
+    let row = row_of(line)?;
+    let said = said_of(rt, row.given)?;
+    ensure_due(said.as_str(), row.due)?;
     Ok(true)
 }
 
 fn main(rt: HostRuntime) -> Result<()> {
-    let mut lines: u64 = 0;
-    let mut right: u64 = 0;
+    let mut tally = Tally::new();
     for line in rt.lines(rt.alloc()) {
         let line = line?;
-        lines = lines.saturating_add(1);
-        match is_right(&rt, line.as_str()) {
-            Ok(true) => right = right.saturating_add(1),
-            Ok(false) => {}
-            Err(error) => bail!("line {lines}: {error}"),
-        }
+        tally.count(is_right(&rt, line.as_str()))?;
     }
+    let right = tally.right();
     println!(rt; "{right} rows are answered as they say")?;
     Ok(())
 }

@@ -70,7 +70,8 @@ impl Opens {
 
     /// Gives up an open that was taken out when it was due: its deadline is out of the index. It takes no memory.
     pub fn give_up(&mut self, taken: Taken)
-        ensures { (s : Server) → ShowsOpens self.old s → s.deadline taken.id ≡ None → ShowsOpens self.new s }
+        ensures shows { (s : Server) → ShowsOpens self.old s → s.deadline taken.id ≡ None → ShowsOpens self.new s }
+        ensures rest { self.new ≡ record self.old { deadlines = self.new.deadlines } }
     {
         self.forget_at(taken.row.deadline, taken.id);
     }
@@ -79,6 +80,7 @@ impl Opens {
     fn forget_at(&mut self, deadline: Option<u64>, id: u64)
         ensures shows { (s : Server) → ShowsOpens self.old s → s.deadline id ≡ None → ShowsOpens self.new s }
         ensures room { HasExpiredRoom self.old → HasExpiredRoom self.new }
+        ensures rest { self.new ≡ record self.old { deadlines = self.new.deadlines } }
     {
         self.deadlines.forget(deadline, id);
     }

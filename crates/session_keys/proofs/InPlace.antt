@@ -168,3 +168,7 @@ written new old n len = take_at new (drop (length new) old) n (sym len)
 
 pub whole_rest : (frame : List ℕ) → take (length frame - 52) (drop 52 frame) ≡ drop 52 frame
 whole_rest frame = take_all (length frame - 52) (drop 52 frame) (let l = length-drop 52 frame in omega arith)
+
+-- what is put over the first 52 bytes
+pub in_front : (frame new header : List ℕ) → 52 ≤ length frame → new ≡ header → put_mid 0 52 frame new ≡ header ++ drop 52 frame
+in_front frame new header whole is = ap (λ (t : List ℕ). t ++ drop 52 frame) is

@@ -10,6 +10,6 @@ mod signing;
 pub use derivation::{bind, derive};
 pub use laws::nonces_once_law;
 pub use nonces::{Nonces, Spent};
-pub use sealing::{seal, unseal, unseal_in_place};
+pub use sealing::{seal, seal_in_place, unseal, unseal_in_place};
 pub use session_defs::{Chosen, Keys, SealError, Signer};
 pub use signing::{sign, verify};

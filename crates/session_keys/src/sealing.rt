@@ -1,6 +1,6 @@
 //! Sealed messages.
-ghost use Rattle.std.specs.Prelude.{◌≡◌, ◌≤◌, ◌<◌, ◌+◌, ◌++◌, IfOk, MatchResult, length, take, drop, Some, None};
-ghost use Rattle.session_defs.specs.Sealing.{words_of, is_gcm, key_for, added_of, ciphertext, tag_of, sealed, frame_fault, unsealed};
+ghost use Rattle.std.specs.Prelude.{◌≡◌, ◌≤◌, ◌<◌, ◌+◌, ◌++◌, IfOk, MatchResult, length, take, drop, replicate, Some, None};
+ghost use Rattle.session_defs.specs.Sealing.{words_of, is_gcm, key_for, added_of, ciphertext, tag_of, protocol, sealed, frame_fault, unsealed};
 ghost use Rattle.wire_defs.specs.Places.{bytes_at};
 ghost use Rattle.session_keys.specs.Sealing.{HasCipher, SealsBehind};
 ghost use Rattle.session_keys.specs.Unsealing.{Tells, ShowsText, Unseals, UnsealsInPlace};
@@ -123,6 +123,33 @@ pub fn seal(
     frame.extend_from_slice(message)?;
     seal_frame(keys.cipher, key, nonce, &added, frame.as_mut_slice());
     Ok(Bytes::from_vec(frame))
+}
+
+/// A transform header whose tag isn't there yet.
+fn header_with(added: &[u8; 32]) -> [u8; 52]
+    ensures { result ≡ (protocol ++ replicate 16 0) ++ added.now }
+{
+    let mut out = FixedOut::<52>::new();
+    out.put_slice(&PROTOCOL);
+    out.put_slice(&[0; 16]);
+    out.put_slice(added);
+    out.finish()
+}
+
+/// Seals a message of at most 1,114,060 bytes where it stands: the 52 bytes in front of it, whatever they were, become
+/// its transform header (MS-SMB2 3.1.4.3). The nonce is given once, and the keys have a cipher. It takes no memory.
+pub fn seal_in_place(keys: &Keys, from_client: bool, nonce: &[u8; 16], frame: &mut [u8])
+    requires cipher { HasCipher keys.now }
+    requires whole { 52 ≤ length frame.old }
+    requires short { length frame.old ≤ 1114112 }
+    ensures { frame.new ≡ sealed keys.now from_client nonce.now (drop 52 frame.old) }
+{
+    let size = (frame.len() - HEADER) as u32;
+    let added = added(nonce, size, keys.session);
+    let header = header_with(&added);
+    let key = key_of(keys, from_client);
+    frame[..HEADER].copy_from_slice(&header);
+    seal_frame(keys.cipher, key, nonce, &added, frame);
 }
 
 /// What a transform header tells.

@@ -1,39 +1,15 @@
 use anyhow::Error;
 use exchange_defs::values::Basic;
-use file_store::{Entry, StoreError, Tree};
+use file_store::{Entry, Gone, StoreError, Tree};
 use std::alloc::{AllocError, Global};
 
 /// The answer to a call, as the calls' file spells it.
 pub fn answer(alloc: Global, tree: &mut Tree, call: &str) -> Result<String, Error> {
     let words: Vec<&str> = call.split(' ').collect(alloc)?;
-    let given = match words.first() {
-        Some(&"new") => {
-            *tree = Tree::new(alloc, number(&words, 1));
-            done(alloc)
-        }
-        Some(&"room") => {
-            tree.set_room(number(&words, 1));
-            done(alloc)
-        }
-        Some(&"find") => match tree.find(path(&words, 1)) {
-            Some(file) => digits(alloc, file),
-            None => text(alloc, "none"),
-        },
-        Some(&"used") => digits(alloc, tree.used()),
-        Some(&"next") => digits(alloc, tree.next_file()),
-        Some(&"path") => text(alloc, shown(tree.path(number(&words, 1)))),
-        Some(&"files") => files(alloc, tree),
-        Some(&"list") => list(alloc, tree, &words),
-        Some(&"more") => more(alloc, tree, &words),
-        Some(&"below") => below(alloc, tree, number(&words, 1)),
-        Some(&"try") => given_up(alloc, tree, words.get(1..).unwrap_or(&[])),
-        Some(&"info") => info(alloc, tree, number(&words, 1)),
-        Some(&"read") => read(alloc, tree, &words),
-        Some(&"coded") => coded(alloc, tree, word(&words, 1)),
-        Some(&"holds") => holds(alloc, tree, &words),
-        Some(_) => change(alloc, tree, &words),
-        None => text(alloc, ""),
-    };
+    told(alloc, given(alloc, tree, &words))
+}
+
+fn told(alloc: Global, given: Result<String, StoreError>) -> Result<String, Error> {
     match given {
         Ok(text) => Ok(text),
         Err(StoreError::Status(status)) => Ok(format!(in alloc; "{status:08x}")?),
@@ -41,41 +17,106 @@ pub fn answer(alloc: Global, tree: &mut Tree, call: &str) -> Result<String, Erro
     }
 }
 
-fn change(alloc: Global, tree: &mut Tree, words: &[&str]) -> Result<String, StoreError> {
-    let file = number(words, 1);
+// Each call stands in a function of its own, so that its contract isn't in the way of the others' proofs.
+fn given(alloc: Global, tree: &mut Tree, words: &[&str]) -> Result<String, StoreError> {
     match word(words, 0) {
-        "make" => {
-            let directory = word(words, 2) == "dir";
-            let made = tree.make(
-                path(words, 1),
-                directory,
-                attributes(words, 3),
-                number(words, 4),
-            )?;
-            return digits(alloc, made);
-        }
-        "write" => {
-            let bytes = bytes_of(alloc, word(words, 3))?;
-            tree.write(file, number(words, 2), &bytes, number(words, 4))?;
-        }
-        "end" => tree.set_end(file, number(words, 2), number(words, 3))?,
-        "rename" => tree.rename(file, path(words, 2), word(words, 3) == "replace")?,
-        "remove" => tree.remove(file)?,
-        "gone" => gone(tree, file, word(words, 2) == "back")?,
-        "mark" => tree.mark(file, word(words, 2) == "marked"),
-        "basic" => tree.set_basic(
-            file,
-            Basic {
-                created: number(words, 2),
-                accessed: number(words, 3),
-                written: number(words, 4),
-                changed: number(words, 5),
-                attributes: attributes(words, 6),
-            },
-        ),
-        _ => return text(alloc, "unknown"),
+        "new" => anew(alloc, tree, number(words, 1)),
+        "room" => room(alloc, tree, number(words, 1)),
+        "try" => given_up(alloc, tree, words.get(1..).unwrap_or(&[])),
+        "coded" => coded(alloc, tree, word(words, 1)),
+        "make" => make(alloc, tree, words),
+        "write" => write(alloc, tree, words),
+        "end" => end(alloc, tree, words),
+        "rename" => rename(alloc, tree, words),
+        "remove" => remove(alloc, tree, number(words, 1)),
+        "gone" => gone(alloc, tree, words),
+        "mark" => mark(alloc, tree, words),
+        "basic" => set_basic(alloc, tree, words),
+        _ => look(alloc, tree, words),
     }
+}
+
+fn look(alloc: Global, tree: &Tree, words: &[&str]) -> Result<String, StoreError> {
+    match word(words, 0) {
+        "find" => find(alloc, tree, path(words, 1)),
+        "used" => digits(alloc, tree.used()),
+        "next" => digits(alloc, tree.next_file()),
+        "path" => text(alloc, shown(tree.path(number(words, 1)))),
+        "files" => files(alloc, tree),
+        "list" => list(alloc, tree, words),
+        "more" => more(alloc, tree, words),
+        "below" => below(alloc, tree, number(words, 1)),
+        "info" => info(alloc, tree, number(words, 1)),
+        "read" => read(alloc, tree, words),
+        "holds" => holds(alloc, tree, words),
+        _ => text(alloc, "unknown"),
+    }
+}
+
+fn anew(alloc: Global, tree: &mut Tree, room: u64) -> Result<String, StoreError> {
+    *tree = Tree::new(alloc, room);
     done(alloc)
+}
+
+fn room(alloc: Global, tree: &mut Tree, room: u64) -> Result<String, StoreError> {
+    tree.set_room(room);
+    done(alloc)
+}
+
+fn find(alloc: Global, tree: &Tree, path: &str) -> Result<String, StoreError> {
+    match tree.find(path) {
+        Some(file) => digits(alloc, file),
+        None => text(alloc, "none"),
+    }
+}
+
+fn make(alloc: Global, tree: &mut Tree, words: &[&str]) -> Result<String, StoreError> {
+    let directory = word(words, 2) == "dir";
+    let attributes = attributes(words, 3);
+    let made = tree.make(path(words, 1), directory, attributes, number(words, 4))?;
+    digits(alloc, made)
+}
+
+fn write(alloc: Global, tree: &mut Tree, words: &[&str]) -> Result<String, StoreError> {
+    let bytes = bytes_of(alloc, word(words, 3))?;
+    tree.write(number(words, 1), number(words, 2), &bytes, number(words, 4))?;
+    done(alloc)
+}
+
+fn end(alloc: Global, tree: &mut Tree, words: &[&str]) -> Result<String, StoreError> {
+    tree.set_end(number(words, 1), number(words, 2), number(words, 3))?;
+    done(alloc)
+}
+
+fn rename(alloc: Global, tree: &mut Tree, words: &[&str]) -> Result<String, StoreError> {
+    let replace = word(words, 3) == "replace";
+    tree.rename(number(words, 1), path(words, 2), replace)?;
+    done(alloc)
+}
+
+fn remove(alloc: Global, tree: &mut Tree, file: u64) -> Result<String, StoreError> {
+    tree.remove(file)?;
+    done(alloc)
+}
+
+fn mark(alloc: Global, tree: &mut Tree, words: &[&str]) -> Result<String, StoreError> {
+    tree.mark(number(words, 1), word(words, 2) == "marked");
+    done(alloc)
+}
+
+fn set_basic(alloc: Global, tree: &mut Tree, words: &[&str]) -> Result<String, StoreError> {
+    tree.set_basic(number(words, 1), basic_in(words));
+    done(alloc)
+}
+
+fn basic_in(words: &[&str]) -> Basic {
+    Basic {
+        created: number(words, 2),
+        accessed: number(words, 3),
+        written: number(words, 4),
+        changed: number(words, 5),
+        attributes: attributes(words, 6),
+    }
 }
 
 // Makes a file whose path is written as hexadecimal digits.
@@ -204,16 +245,26 @@ fn files(alloc: Global, tree: &Tree) -> Result<String, StoreError> {
 }
 
 // A file is taken out, and put back or dropped.
-fn gone(tree: &mut Tree, file: u64, back: bool) -> Result<(), StoreError> {
-    let gone = tree.take_out(file)?;
+fn gone(alloc: Global, tree: &mut Tree, words: &[&str]) -> Result<String, StoreError> {
+    let gone = tree.take_out(number(words, 1))?;
+    if word(words, 2) == "back" {
+        put_back(tree, gone)?;
+    }
+    done(alloc)
+}
+
+fn put_back(tree: &mut Tree, gone: Option<Gone>) -> Result<(), StoreError> {
     match gone {
-        Some(gone) => {
-            if back && !tree.put_back(gone) {
-                return Err(StoreError::Memory);
-            }
-            Ok(())
-        }
+        Some(gone) => came_back(tree.put_back(gone)),
         None => Ok(()),
+    }
+}
+
+fn came_back(is_back: bool) -> Result<(), StoreError> {
+    if is_back {
+        Ok(())
+    } else {
+        Err(StoreError::Memory)
     }
 }
 
@@ -273,23 +324,31 @@ fn below(alloc: Global, tree: &Tree, directory: u64) -> Result<String, StoreErro
 // A call whose memory is taken, and which is then given up.
 fn given_up(alloc: Global, tree: &mut Tree, words: &[&str]) -> Result<String, StoreError> {
     match word(words, 0) {
-        "make" => {
-            let directory = word(words, 2) == "dir";
-            let attributes = attributes(words, 3);
-            let new = tree.prepare_make(path(words, 1), directory, attributes, number(words, 4))?;
-            tree.cancel_make(new);
-        }
-        "rename" => {
-            let replace = word(words, 3) == "replace";
-            let moved = tree.prepare_rename(number(words, 1), path(words, 2), replace)?;
-            tree.cancel_rename(moved);
-        }
-        _ => {
-            let bytes = bytes_of(alloc, word(words, 3))?;
-            if !bytes.is_empty() {
-                let _ = tree.prepare_write(number(words, 1), number(words, 2), &bytes)?;
-            }
-        }
+        "make" => make_given_up(alloc, tree, words),
+        "rename" => rename_given_up(alloc, tree, words),
+        _ => write_given_up(alloc, tree, words),
+    }
+}
+
+fn make_given_up(alloc: Global, tree: &mut Tree, words: &[&str]) -> Result<String, StoreError> {
+    let directory = word(words, 2) == "dir";
+    let attributes = attributes(words, 3);
+    let new = tree.prepare_make(path(words, 1), directory, attributes, number(words, 4))?;
+    tree.cancel_make(new);
+    done(alloc)
+}
+
+fn rename_given_up(alloc: Global, tree: &mut Tree, words: &[&str]) -> Result<String, StoreError> {
+    let replace = word(words, 3) == "replace";
+    let moved = tree.prepare_rename(number(words, 1), path(words, 2), replace)?;
+    tree.cancel_rename(moved);
+    done(alloc)
+}
+
+fn write_given_up(alloc: Global, tree: &mut Tree, words: &[&str]) -> Result<String, StoreError> {
+    let bytes = bytes_of(alloc, word(words, 3))?;
+    if !bytes.is_empty() {
+        let _ = tree.prepare_write(number(words, 1), number(words, 2), &bytes)?;
     }
     done(alloc)
 }
