@@ -1,5 +1,5 @@
 -- The model's event of what the server hears, and what of a SESSION_SETUP stands beside it (MS-SMB2 3.3.5.5).
-use Rattle.std.specs.Prelude.{◌≡◌, false, List, Option, Some, None, ⊤}
+use Rattle.std.specs.Prelude.{◌≡◌, Bool, true, false, List, Option, Some, None, ⊤}
 use Rattle.exchange_defs.specs.Commands as asks
 use Rattle.exchange_defs.specs.State as says
 use Rattle.token_defs.specs.Acceptor.{User}
@@ -16,10 +16,15 @@ use Rattle.server_asked.specs.declared.asked.Asked.{Asked}
 use Rattle.server_asked.specs.declared.asked.Asked.TheVariants as askings
 use Rattle.server_asked.specs.declared.asked.LogonPart.{LogonPart}
 
--- a SESSION_SETUP that came without its bytes shows no token
+-- a SESSION_SETUP that came without its bytes shows no token, and has no signature that verifies
 abbrev pub without_token : asks.Command → asks.Command
-without_token (asks.Setup request) = asks.Setup (record request { shows = asks.Bad })
+without_token (asks.Setup request) = asks.Setup (record request { shows = asks.Bad; verified = false })
 without_token c = c
+
+-- a SESSION_SETUP with its bytes, which alone takes memory to be heard
+abbrev pub is_setup_heard : ServerEvent → Bool
+is_setup_heard (events.Setup setup) = true
+is_setup_heard _ = false
 
 -- the model's event of one that the server hears
 abbrev pub heard_event : List User → Logons → says.Server → ServerEvent → says.ServerEvent

@@ -1,8 +1,8 @@
-ghost use Rattle.std.specs.Prelude.{◌≡◌, ◌<◌, ◌^◌, ◌&&◌, IfOk, List, length, nat_le};
+ghost use Rattle.std.specs.Prelude.{◌≡◌, ◌<◌, ◌^◌, ◌&&◌, IfOk, IsOk, List, false, length, nat_le};
 ghost use Rattle.command_values.specs.Meaning.{command_of, message_of, setup_of, shows_of};
 ghost use Rattle.exchange_defs.specs.State.{Heard, Server};
 ghost use Rattle.exchange_defs.specs.Step.{connection_of};
-ghost use Rattle.server_asked.specs.Heard.{AskedAgrees, LogonFor, PartOf, event_of, heard_event, part_in, without_token};
+ghost use Rattle.server_asked.specs.Heard.{AskedAgrees, LogonFor, PartOf, event_of, heard_event, is_setup_heard, part_in, without_token};
 ghost use Rattle.server_events.specs.Setups.{in_the_making, request_of, setup_message, verified_by};
 ghost use Rattle.session_bind.specs.Logons.{LogonsShown, begun_in, shown_of};
 ghost use Rattle.session_bind.specs.Shown.{ShowsSessions};
@@ -41,7 +41,9 @@ pub enum Asked<'a> {
 /// What a SESSION_SETUP's token shows, and what keys and challenges are made of.
 #[derive(Drop)]
 pub struct LogonPart {
+    /// What the token shows behind what is in the making on its connection.
     pub shown: TokenShown,
+    /// Cipher and signing algorithm that NEGOTIATE chose.
     pub chosen: Chosen,
     /// The value of the preauthentication chain behind the request.
     pub chain: [u8; 64],
@@ -63,7 +65,8 @@ impl<'a> Asked<'a> {
     }
 }
 
-/// The event as the model's step takes it. Where memory runs out it has none.
+/// The event as the model's step takes it. A SESSION_SETUP with its bytes has none where memory runs out, and a signed one of
+/// 2^60 bytes or more has none either.
 pub fn hear<'a>(
     alloc: Global,
     users: &Users,
@@ -73,6 +76,7 @@ pub fn hear<'a>(
     ensures event { IfOk result (λ a. (s : Server) (L : Logons) → ShowsSessions sessions.now s → LogonsShown sessions.now L.keys L.pending
         → (event_of a ≡ heard_event users.now (in_the_making s L) s event.entry) × LogonFor users.now (in_the_making s L) event.entry a) }
     ensures agrees { IfOk result (λ a. AskedAgrees a) }
+    ensures sure { is_setup_heard event.entry ≡ false → IsOk result }
 {
     match event {
         ServerEvent::Accept { connection } => Ok(Asked::Accept { connection }),
@@ -206,7 +210,7 @@ fn shows_of(shown: &TokenShown) -> Result<Shows, AllocError>
     }
 }
 
-// A SESSION_SETUP that came without its bytes shows no token.
+// A SESSION_SETUP that came without its bytes shows no token, and has no signature that verifies.
 fn without_token(message: Message<'_>) -> Message<'_>
     ensures { message_of result ≡ record (message_of message.entry) { command = without_token (command_of message.entry.command) } }
 {
@@ -231,7 +235,7 @@ fn command_without_token(command: Command<'_>) -> Command<'_>
             readable: request.readable,
             binding: request.binding,
             signed: request.signed,
-            verified: request.verified,
+            verified: false,
             previous: request.previous,
             cipher: request.cipher,
             signing: request.signing,

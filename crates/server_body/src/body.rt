@@ -7,8 +7,8 @@ use journal_records::{Records, can_write, write_records};
 use smb_bytes::Bytes;
 use std::alloc::{AllocError, Global};
 
-/// The body of records in version 2 of the journal; empty of none. Of records that their fields can't hold, as no message from
-/// the wire makes them, the answer is that memory ran out.
+/// The body of records in version 2 of the journal; empty of none. Of records that `can_write` refuses the answer is that
+/// memory ran out; no message from the wire makes such.
 pub fn spelled(alloc: Global, records: &Records) -> Result<Bytes, AllocError>
     ensures { IfOk result (λ b. IsBody b records.now) }
 {

@@ -43,7 +43,7 @@ fn behind(bytes: &[u8]) -> &[u8]
     &bytes[24..]
 }
 
-/// The elements of a Lock record, 24 bytes each (MS-SMB2 2.2.26.1).
+/// The elements of a Lock record, 24 bytes each (MS-SMB2 2.2.26.1); what stands behind the last whole one is left out.
 #[tactic(auto, using(crate::proofs::Elements::elements_go_on, crate::proofs::Elements::elements_end))]
 pub fn elements_of(alloc: Global, bytes: &[u8]) -> Result<Vec<Element>, AllocError>
     ensures { IfOk result (λ v. v.items ≡ elements_in (length bytes.now / 24) bytes.now) }

@@ -1,10 +1,24 @@
 -- A last call whose result is returned as it is, and lookups by name.
-use Rattle.std.proofs.Common.{◌≡◌, ◌∙◌, ◌&&◌, Bool, true, false, if◌then◌else◌, refl}
+use Rattle.std.proofs.Common.{◌≡◌, ◌∙◌, ◌&&◌, ◌||◌, ℕ, Bool, true, false, if◌then◌else◌, refl, Option, Some, None, is_some}
 use Rattle.std.specs.Prelude.{Result, IfOk}
 use Rattle.std.proofs.lemmas.Result.{IfOk-weaker}
 
 pub passed : {X Y V : Type 0} (r : Result X Y) (g : X → V) (u w : V) → u ≡ w → IfOk r (λ v. g v ≡ u) → IfOk r (λ v. g v ≡ w)
 passed r g u w e h = IfOk-weaker r (λ v. g v ≡ u) (λ v. g v ≡ w) (λ v p. p ∙ e) h
+
+-- ---- what can't be
+
+pub no_value : (o : Option ℕ) → o ≡ None → is_some o ≡ true → ⊥
+no_value None e h = absurd (cc)
+no_value (Some n) e h = absurd (cc)
+
+pub front_on : (x y : Bool) → x ≡ true → (x || y) ≡ false → ⊥
+front_on true y e h = absurd (cc)
+front_on false y e h = absurd (cc)
+
+pub back_on : (x y : Bool) → y ≡ true → (x || y) ≡ false → ⊥
+back_on true y e h = absurd (cc)
+back_on false y e h = absurd (cc)
 
 -- ---- choices
 

@@ -1,5 +1,6 @@
 -- The server's tables show a state of the model, column by column.
-use Rattle.std.specs.Prelude.{◌≡◌}
+use Rattle.std.specs.Prelude.{◌≡◌, min}
+use Rattle.exchange_defs.specs.Fold.{full_room}
 use Rattle.exchange_defs.specs.State as model
 use Rattle.open_table.specs.Shown.{ShowsOpens}
 use Rattle.file_store.specs.Shown.{ShowsFiles}
@@ -12,6 +13,8 @@ pub record TablesShown (t : Tables) (s : model.Server) : Type 0 where
   pub files : ShowsFiles t.tree s
   pub sessions : ShowsSessions t.sessions s
   pub share_is : s.share ≡ t.config.share
+  -- more than the full room counts as that
+  pub room_is : s.room ≡ min t.config.room full_room
   pub encrypts_is : s.encrypts ≡ t.config.encrypts
   pub address_is : s.address ≡ address_of t.config.address
   pub version_is : s.version ≡ t.version

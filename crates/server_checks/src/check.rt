@@ -1,9 +1,9 @@
 //! The ordered checks of a message; the first that applies answers (MS-SMB2 3.3.5.2).
-ghost use Rattle.std.specs.Prelude.{◌≡◌, ◌==◌, true, false, None, IfOk, Bool};
+ghost use Rattle.std.specs.Prelude.{◌≡◌, ◌==◌, ◌||◌, true, false, None, is_some, IfOk, IsOk, Bool};
 ghost use Rattle.command_values.specs.Meaning.{command_of, message_of};
 ghost use Rattle.exchange_defs.specs.Check.{check, command_check, formed, has_session, on_open, owed};
 ghost use Rattle.exchange_defs.specs.Check.{tree_command, with_tree};
-ghost use Rattle.exchange_defs.specs.Commands.{Ioctl, form, no_file};
+ghost use Rattle.exchange_defs.specs.Commands.{Ioctl, form, is_setup, no_file};
 ghost use Rattle.exchange_defs.specs.Opens.{is_of_session};
 ghost use Rattle.exchange_defs.specs.State.{Server};
 ghost use Rattle.server_checks.specs.Looks.{HasItsSession, IsOnOpen, open_command};
@@ -24,10 +24,14 @@ const NO_FILE: u64 = 0xffff_ffff_ffff_ffff;
 
 impl Tables {
     /// What the checks of a message come to. A SESSION_SETUP meets neither the check of the session nor what the second one
-    /// says of signing and sealing.
+    /// says of signing and sealing. Where memory runs out there is no verdict; that never comes before the checks of the
+    /// session and of signing.
     pub fn check(&self, m: &Message<'_>) -> Result<Verdict, AllocError>
-        ensures { (s : Server) → Fits s → TablesShown self.now s
+        ensures verdict { (s : Server) → Fits s → TablesShown self.now s
             → IfOk result (λ v. verdict_of (command_of m.now.command) v ≡ check s (message_of m.now)) }
+        ensures absent { (s : Server) → TablesShown self.now s
+            → (is_setup (command_of m.now.command) || has_session s (message_of m.now)) ≡ false → IsOk result }
+        ensures faulty { is_some m.now.fault ≡ true → IsOk result }
     {
         if is_setup(&m.command) {
             return self.check_owed(m);
@@ -47,8 +51,9 @@ impl Tables {
 
     // The request is signed or sealed as owed.
     fn check_owed(&self, m: &Message<'_>) -> Result<Verdict, AllocError>
-        ensures { (s : Server) → Fits s → TablesShown self.now s → HasItsSession s (message_of m.now)
+        ensures verdict { (s : Server) → Fits s → TablesShown self.now s → HasItsSession s (message_of m.now)
             → IfOk result (λ v. verdict_of (command_of m.now.command) v ≡ owed s (message_of m.now) m.now.fault) }
+        ensures faulty { is_some m.now.fault ≡ true → IsOk result }
     {
         match m.fault {
             Some(status) => Ok(refuse(status)),

@@ -325,7 +325,8 @@ fn lacks_delete(request: &CreateRequest) -> bool
 
 // The first answer again where the replay flag is set and the open is this session's, or persistent and nobody's.
 fn live_row(m: &Message<'_>, id: u64, row: &Row, user: &str) -> Verdict
-    ensures { (request : asks.CreateRequest) → verdict_of (Create request) result ≡ row_check (message_of m.now) request id row.now user.now }
+    ensures { (request : asks.CreateRequest) → verdict_of (Create request) result
+        ≡ row_check (message_of m.now) request id row.now user.now }
 {
     if !m.replay {
         return refuse(DUPLICATE_OBJECTID);

@@ -1,5 +1,6 @@
 //! The checks of the requests that name an open (MS-SMB2 3.3.5.10 to 3.3.5.20), but for SET_INFO.
-ghost use Rattle.std.specs.Prelude.{◌≡◌, ◌+◌, ◌<◌, ◌||◌, ℕ, true, IfOk, List, MatchResult, None, Option, Some, is_some, length, map, option_map};
+ghost use Rattle.std.specs.Prelude.{◌≡◌, ◌+◌, ◌<◌, ◌||◌, ℕ, true, IfOk, List, MatchResult, None, Option, Some, is_some};
+ghost use Rattle.std.specs.Prelude.{length, map, option_map};
 ghost use Rattle.command_values.specs.Meaning.{body_of, command_of, message_of, named_of};
 ghost use Rattle.exchange_defs.specs.CheckOpen.{begins_at, bytes_change, close_check, file_of, file_query_check, flush_check};
 ghost use Rattle.exchange_defs.specs.CheckOpen.{free_ioctl_check, has_access, ioctl_check, is_repeated, kept_lock, list_check};

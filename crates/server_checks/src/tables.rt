@@ -22,12 +22,15 @@ use std::alloc::Global;
 /// What a server is told when it starts, beside its disk.
 #[derive(Drop)]
 pub struct Config {
+    /// Who may log on, with their keys (MS-NLMP 3.3.2).
     pub users: Users,
+    /// The name of the one disk share, without the server's name, compared without regard to ASCII case.
     pub share: Text,
     /// How many bytes all files may hold; more than 268,435,456 counts as that.
     pub room: u64,
     /// EncryptData (MS-SMB2 3.3.1.5): messages of a session are sealed.
     pub encrypts: bool,
+    /// Where the server is reached, told by FSCTL_QUERY_NETWORK_INTERFACE_INFO (MS-SMB2 2.2.32.5).
     pub address: Address,
 }
 
@@ -36,8 +39,11 @@ pub struct Config {
 pub struct Tables {
     pub alloc: Global,
     pub config: Config,
+    /// Files by number and path.
     pub tree: Tree,
+    /// GlobalOpenTable (MS-SMB2 3.3.1.10).
     pub opens: Opens,
+    /// GlobalSessionTable and ConnectionList (3.3.1.7, 3.3.1.8).
     pub sessions: Sessions,
     /// The version of the journal.
     pub version: u32,
@@ -73,7 +79,7 @@ impl Tables {
         info_of(&self.tree.info(file))
     }
 
-    /// How many bytes it has.
+    /// How many bytes a file that is there has.
     #[tactic(auto, unfolding(exchange_defs::specs::Files::info_of))]
     pub fn length(&self, file: u64) -> u64
         ensures { (s : Server) → TablesShown self.now s → exists s file ≡ true → result ≡ length (s.content file) }
@@ -81,7 +87,7 @@ impl Tables {
         self.tree.info(file).length
     }
 
-    /// Its times and attributes.
+    /// Times (100 ns since 1601) and attributes of a file that is there.
     #[tactic(auto, unfolding(exchange_defs::specs::Files::info_of))]
     pub fn basic(&self, file: u64) -> Basic
         ensures { (s : Server) → TablesShown self.now s → exists s file ≡ true → result ≡ s.basic file }
@@ -89,7 +95,7 @@ impl Tables {
         self.tree.info(file).basic
     }
 
-    /// Whether it goes with its last open.
+    /// Whether a file that is there is delete pending.
     #[tactic(auto, unfolding(exchange_defs::specs::Files::info_of))]
     pub fn is_pending(&self, file: u64) -> bool
         ensures { (s : Server) → TablesShown self.now s → exists s file ≡ true → result ≡ s.delete_pending file }

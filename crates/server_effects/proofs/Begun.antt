@@ -1,5 +1,5 @@
 -- A session that begins is the one of its row.
-use Rattle.std.proofs.Common.{◌≡◌, ℕ, List, sym, subst, refl}
+use Rattle.std.proofs.Common.{◌≡◌, ℕ, List, subst, refl}
 use Rattle.exchange_defs.specs.Commands.{SetupRequest}
 use Rattle.exchange_defs.specs.Effects.{add_session}
 use Rattle.exchange_defs.specs.State.{Message, Server}
@@ -23,4 +23,4 @@ pub begun_tables : (t : Tables) (w : Sessions) (s : Server) (m : Message) (user 
     → TablesShown (record t { sessions = w }) (add_session s m user r)
 begun_tables t w s m user r session row h e i k = session_pieces t w (add_session s m user r) h.opens h.files
     (subst (λ (v : Server). ShowsSessions w v) (added_is s m user r session row e i) k)
-    h.share_is h.encrypts_is h.address_is h.version_is h.journal_is
+    h.share_is h.room_is h.encrypts_is h.address_is h.version_is h.journal_is

@@ -25,18 +25,18 @@ use Rattle.server_effects.specs.declared.changing.ChangeReady.TheVariants as cha
 
 pub changed_tables : (t : Tables) (w : Tree) (s : Server) (f now : ℕ) (c : Change) → OthersShown t s → ShowsFiles w (change_file s f now c)
     → TablesShown (record t { tree = w }) (change_file s f now c)
-changed_tables t w s f now (PutBytes p bytes) h k = file_pieces t w (change_file s f now (PutBytes p bytes)) h.opens k h.sessions h.share_is
-    h.encrypts_is h.address_is h.version_is h.journal_is
-changed_tables t w s f now (PutEnd n) h k = file_pieces t w (change_file s f now (PutEnd n)) h.opens k h.sessions h.share_is
-    h.encrypts_is h.address_is h.version_is h.journal_is
-changed_tables t w s f now (PutBasic b) h k = file_pieces t w (change_file s f now (PutBasic b)) h.opens k h.sessions h.share_is
-    h.encrypts_is h.address_is h.version_is h.journal_is
-changed_tables t w s f now (PutDeletePending flag) h k = file_pieces t w (change_file s f now (PutDeletePending flag)) h.opens k h.sessions h.share_is
-    h.encrypts_is h.address_is h.version_is h.journal_is
-changed_tables t w s f now (PutPath replaced path) h k = file_pieces t w (change_file s f now (PutPath replaced path)) h.opens k h.sessions h.share_is
-    h.encrypts_is h.address_is h.version_is h.journal_is
-changed_tables t w s f now PutNothing h k = file_pieces t w (change_file s f now PutNothing) h.opens k h.sessions h.share_is
-    h.encrypts_is h.address_is h.version_is h.journal_is
+changed_tables t w s f now (PutBytes p bytes) h k = file_pieces t w (change_file s f now (PutBytes p bytes)) h.opens k
+    h.sessions h.share_is h.room_is h.encrypts_is h.address_is h.version_is h.journal_is
+changed_tables t w s f now (PutEnd n) h k = file_pieces t w (change_file s f now (PutEnd n)) h.opens k
+    h.sessions h.share_is h.room_is h.encrypts_is h.address_is h.version_is h.journal_is
+changed_tables t w s f now (PutBasic b) h k = file_pieces t w (change_file s f now (PutBasic b)) h.opens k
+    h.sessions h.share_is h.room_is h.encrypts_is h.address_is h.version_is h.journal_is
+changed_tables t w s f now (PutDeletePending flag) h k = file_pieces t w (change_file s f now (PutDeletePending flag)) h.opens k
+    h.sessions h.share_is h.room_is h.encrypts_is h.address_is h.version_is h.journal_is
+changed_tables t w s f now (PutPath replaced path) h k = file_pieces t w (change_file s f now (PutPath replaced path)) h.opens k
+    h.sessions h.share_is h.room_is h.encrypts_is h.address_is h.version_is h.journal_is
+changed_tables t w s f now PutNothing h k = file_pieces t w (change_file s f now PutNothing) h.opens k
+    h.sessions h.share_is h.room_is h.encrypts_is h.address_is h.version_is h.journal_is
 
 pub changed_standing : (s : Server) (f now o : ℕ) (c : Change) → s.standing o ≡ true → (change_file s f now c).standing o ≡ true
 changed_standing s f now o (PutBytes p bytes) h = h
@@ -65,8 +65,10 @@ pub reach_changed : (s : Server) (m : Message) (o f now : ℕ) (c : Change)
 reach_changed s m o f now (PutBytes p bytes) = either_way (is_late s m o) s (put s.sequence o m.channel_sequence) f now (PutBytes p bytes)
 reach_changed s m o f now (PutEnd n) = either_way (is_late s m o) s (put s.sequence o m.channel_sequence) f now (PutEnd n)
 reach_changed s m o f now (PutBasic b) = either_way (is_late s m o) s (put s.sequence o m.channel_sequence) f now (PutBasic b)
-reach_changed s m o f now (PutDeletePending flag) = either_way (is_late s m o) s (put s.sequence o m.channel_sequence) f now (PutDeletePending flag)
-reach_changed s m o f now (PutPath replaced path) = either_way (is_late s m o) s (put s.sequence o m.channel_sequence) f now (PutPath replaced path)
+reach_changed s m o f now (PutDeletePending flag) = either_way (is_late s m o) s (put s.sequence o m.channel_sequence)
+    f now (PutDeletePending flag)
+reach_changed s m o f now (PutPath replaced path) = either_way (is_late s m o) s (put s.sequence o m.channel_sequence)
+    f now (PutPath replaced path)
 reach_changed s m o f now PutNothing = either_way (is_late s m o) s (put s.sequence o m.channel_sequence) f now PutNothing
 
 -- ---- each change

@@ -24,8 +24,8 @@ pub pending_tables : (t : Tables) (w : Tree) (s : Server) (o : ℕ) → deletes_
     → ShowsFiles w (set_delete_pending s (s.opened o).file true) → TablesShown (record t { tree = w }) (pending_behind s o)
 pending_tables t w s o d h x = subst (λ (b : Bool). TablesShown (record t { tree = w }) (if b then set_delete_pending s
     (s.opened o).file true else s))
-    (sym d) (file_pieces t w (set_delete_pending s (s.opened o).file true) h.opens x h.sessions h.share_is h.encrypts_is h.address_is
-    h.version_is h.journal_is)
+    (sym d) (file_pieces t w (set_delete_pending s (s.opened o).file true) h.opens x h.sessions h.share_is
+    h.room_is h.encrypts_is h.address_is h.version_is h.journal_is)
 
 pub never_pending : (t : Tables) (s : Server) (o : ℕ) → deletes_on_close (s.opened o).options ≡ false → TablesShown t s
     → TablesShown t (pending_behind s o)
@@ -36,9 +36,9 @@ never_pending t s o d h = subst (λ (b : Bool). TablesShown t (if b then set_del
 pub closed_tables : (t : Tables) (u : Opens) (s : Server) (o x : ℕ) (g : Option ℕ) → TablesShown t s
     → ShowsOpens u (keep_closed (drop_open s o) x g) → TablesShown (record t { opens = u }) (keep_closed (drop_open s o) x g)
 closed_tables t u s o x None h k = pieces t u
-    (drop_open s o) k h.files h.sessions h.share_is h.encrypts_is h.address_is h.version_is h.journal_is
-closed_tables t u s o x (Some g) h k = pieces t u (keep_closed (drop_open s o) x (Some g)) k h.files h.sessions h.share_is h.encrypts_is
-    h.address_is h.version_is h.journal_is
+    (drop_open s o) k h.files h.sessions h.share_is h.room_is h.encrypts_is h.address_is h.version_is h.journal_is
+closed_tables t u s o x (Some g) h k = pieces t u (keep_closed (drop_open s o) x (Some g)) k h.files
+    h.sessions h.share_is h.room_is h.encrypts_is h.address_is h.version_is h.journal_is
 
 -- ---- the file
 

@@ -1,5 +1,6 @@
 mod Begun
 mod Changed
+mod Checks
 mod Closes
 mod Made
 mod Steps

@@ -1,22 +1,20 @@
 -- A new open, and its file.
-use Rattle.std.proofs.Common.{◌≡◌, ℕ, ◌+◌, ◌==◌, Bool, true, false, ◌||◌, if◌then◌else◌, List, [], ◌∷◌, Option, Some, None, slice_get}
+use Rattle.std.proofs.Common.{◌≡◌, ℕ, ◌+◌, ◌==◌, Bool, true, false, if◌then◌else◌, List, [], ◌∷◌, Option, Some, None, slice_get}
 use Rattle.std.proofs.Common.{refl, sym, ap, subst, arith, ◌∙◌}
 use Rattle.std.proofs.lemmas.Bool.Decides.{nat_tests}
 use Rattle.exchange_defs.specs.CheckCreate.{empties}
 use Rattle.exchange_defs.specs.Commands.{CreateRequest, Durable, asks_directory}
 use Rattle.exchange_defs.specs.Effects.{file_made, guid_of, guids_after, make_open, new_file, next_open, open_row}
-use Rattle.exchange_defs.specs.Files.{empty_file, exists, exists_in, make_file, root}
+use Rattle.exchange_defs.specs.Files.{empty_file, exists, make_file}
 use Rattle.exchange_defs.specs.Opens.{add_open}
 use Rattle.exchange_defs.specs.State as model
 use Rattle.exchange_defs.specs.State.{Message, Server, Range}
 use Rattle.exchange_defs.specs.Table.{put}
-use Rattle.file_store.specs.Made.{Prepared}
 use Rattle.file_store.specs.Shown.{ShowsFiles}
-use Rattle.file_store.specs.declared.make.NewFile.{NewFile}
 use Rattle.file_store.specs.declared.tree.Tree.{Tree}
 use Rattle.open_index.specs.Keep.{guids_with}
 use Rattle.open_table.specs.Changes.{created}
-use Rattle.open_table.specs.Rows.{open_of, parts_of}
+use Rattle.open_table.specs.Rows.{parts_of}
 use Rattle.open_table.specs.Shown.{ShowsOpens}
 use Rattle.open_table.specs.declared.row.Row.{Row}
 use Rattle.open_table.specs.declared.table.Opens.{Opens}
@@ -51,7 +49,8 @@ pub file_left : (s : Server) (r : CreateRequest) (found : Option ℕ) (f now : �
 file_left s r found f now w e b h = subst (λ (o : Option ℕ). ShowsFiles w (file_made s r o now)) (sym e)
     (subst (λ (x : Bool). ShowsFiles w (if x then empty_file s f r.attributes now else s)) (sym b) h)
 
-pub file_there : (s : Server) (r : CreateRequest) (f : ℕ) (found : Option ℕ) → found ≡ Some f → FoundIsFile s r found → FoundIsFile s r (Some f)
+pub file_there : (s : Server) (r : CreateRequest) (f : ℕ) (found : Option ℕ) → found ≡ Some f
+    → FoundIsFile s r found → FoundIsFile s r (Some f)
 file_there s r f found e h = subst (λ (o : Option ℕ). FoundIsFile s r o) e h
 
 -- ---- the state behind it: any of these files, and the open
@@ -141,6 +140,7 @@ made_tables t w u s m r None action now row f h i files opens =
       files = files;
       sessions = h.sessions;
       share_is = h.share_is;
+      room_is = h.room_is;
       encrypts_is = h.encrypts_is;
       address_is = h.address_is;
       version_is = h.version_is;
@@ -155,6 +155,7 @@ made_tables t w u s m r (Some g) action now row f h i files opens =
       files = x;
       sessions = h.sessions;
       share_is = h.share_is;
+      room_is = h.room_is;
       encrypts_is = h.encrypts_is;
       address_is = h.address_is;
       version_is = h.version_is;
@@ -165,6 +166,7 @@ made_tables t w u s m r (Some g) action now row f h i files opens =
       files = x;
       sessions = h.sessions;
       share_is = h.share_is;
+      room_is = h.room_is;
       encrypts_is = h.encrypts_is;
       address_is = h.address_is;
       version_is = h.version_is;

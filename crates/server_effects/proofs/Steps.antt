@@ -1,8 +1,9 @@
 -- A change of the opens leaves what the other tables show.
-use Rattle.std.proofs.Common.{◌≡◌, ◌<◌, ℕ, Bool, true, false, if◌then◌else◌, Some, is_some, sym, ap, subst, arith}
+use Rattle.std.proofs.Common.{◌≡◌, ◌<◌, ℕ, min, Bool, true, false, if◌then◌else◌, Some, is_some, sym, ap, subst, arith}
 use Rattle.std.proofs.lemmas.Bool.Decides.{nat_tests}
 use Rattle.exchange_defs.specs.CheckOpen.{is_late, is_slot}
 use Rattle.exchange_defs.specs.Effects.{attach, attached, keep_slot, reach}
+use Rattle.exchange_defs.specs.Fold.{full_room}
 use Rattle.exchange_defs.specs.Opens.{file_has_open}
 use Rattle.exchange_defs.specs.State.{Message, Server}
 use Rattle.exchange_defs.specs.Table.{put, put2}
@@ -21,13 +22,14 @@ use Rattle.server_checks.specs.declared.tables.Tables.{Tables}
 -- ---- tables
 
 pub pieces : (t : Tables) (u : Opens) (v : Server) → ShowsOpens u v → ShowsFiles t.tree v → ShowsSessions t.sessions v
-    → v.share ≡ t.config.share → v.encrypts ≡ t.config.encrypts → v.address ≡ address_of t.config.address
-    → v.version ≡ t.version → v.journal ≡ t.journal → TablesShown (record t { opens = u }) v
-pieces t u v opens files sessions share encrypts address version journal = record {
+    → v.share ≡ t.config.share → v.room ≡ min t.config.room full_room → v.encrypts ≡ t.config.encrypts
+    → v.address ≡ address_of t.config.address → v.version ≡ t.version → v.journal ≡ t.journal → TablesShown (record t { opens = u }) v
+pieces t u v opens files sessions share room encrypts address version journal = record {
   opens = opens;
   files = files;
   sessions = sessions;
   share_is = share;
+  room_is = room;
   encrypts_is = encrypts;
   address_is = address;
   version_is = version;
@@ -35,13 +37,14 @@ pieces t u v opens files sessions share encrypts address version journal = recor
 }
 
 pub file_pieces : (t : Tables) (w : Tree) (v : Server) → ShowsOpens t.opens v → ShowsFiles w v → ShowsSessions t.sessions v
-    → v.share ≡ t.config.share → v.encrypts ≡ t.config.encrypts → v.address ≡ address_of t.config.address
-    → v.version ≡ t.version → v.journal ≡ t.journal → TablesShown (record t { tree = w }) v
-file_pieces t w v opens files sessions share encrypts address version journal = record {
+    → v.share ≡ t.config.share → v.room ≡ min t.config.room full_room → v.encrypts ≡ t.config.encrypts
+    → v.address ≡ address_of t.config.address → v.version ≡ t.version → v.journal ≡ t.journal → TablesShown (record t { tree = w }) v
+file_pieces t w v opens files sessions share room encrypts address version journal = record {
   opens = opens;
   files = files;
   sessions = sessions;
   share_is = share;
+  room_is = room;
   encrypts_is = encrypts;
   address_is = address;
   version_is = version;
@@ -49,13 +52,14 @@ file_pieces t w v opens files sessions share encrypts address version journal = 
 }
 
 pub session_pieces : (t : Tables) (w : Sessions) (v : Server) → ShowsOpens t.opens v → ShowsFiles t.tree v → ShowsSessions w v
-    → v.share ≡ t.config.share → v.encrypts ≡ t.config.encrypts → v.address ≡ address_of t.config.address
-    → v.version ≡ t.version → v.journal ≡ t.journal → TablesShown (record t { sessions = w }) v
-session_pieces t w v opens files sessions share encrypts address version journal = record {
+    → v.share ≡ t.config.share → v.room ≡ min t.config.room full_room → v.encrypts ≡ t.config.encrypts
+    → v.address ≡ address_of t.config.address → v.version ≡ t.version → v.journal ≡ t.journal → TablesShown (record t { sessions = w }) v
+session_pieces t w v opens files sessions share room encrypts address version journal = record {
   opens = opens;
   files = files;
   sessions = sessions;
   share_is = share;
+  room_is = room;
   encrypts_is = encrypts;
   address_is = address;
   version_is = version;
@@ -84,8 +88,8 @@ reached P s m o old new = either P (is_late s m o) s (record s { sequence = put 
 pub reached_tables : (t : Tables) (u : Opens) (s : Server) (m : Message) (o : ℕ) → TablesShown t s → ShowsOpens u (reach s m o)
     → TablesShown (record t { opens = u }) (reach s m o)
 reached_tables t u s m o h = reached (λ v. ShowsOpens u v → TablesShown (record t { opens = u }) v) s m o
-    (λ x. pieces t u s x h.files h.sessions h.share_is h.encrypts_is h.address_is h.version_is h.journal_is)
-    (λ x. pieces t u (record s { sequence = put s.sequence o m.channel_sequence }) x h.files h.sessions h.share_is h.encrypts_is
+    (λ x. pieces t u s x h.files h.sessions h.share_is h.room_is h.encrypts_is h.address_is h.version_is h.journal_is)
+    (λ x. pieces t u (record s { sequence = put s.sequence o m.channel_sequence }) x h.files h.sessions h.share_is h.room_is h.encrypts_is
     h.address_is h.version_is h.journal_is)
 
 pub open_still : (s : Server) (sequence : ℕ → ℕ) (f : ℕ) → file_has_open s f ≡ true
@@ -105,9 +109,9 @@ pub slot_tables : (t : Tables) (u : Opens) (s : Server) (o index number status :
     → ShowsOpens u (keep_slot s o index number status) → TablesShown (record t { opens = u }) (keep_slot s o index number status)
 slot_tables t u s o index number status h =
     either (λ v. ShowsOpens u v → TablesShown (record t { opens = u }) v) (is_slot index) (slot_put s o index number status) s
-    (λ _ x. pieces t u (slot_put s o index number status) x h.files h.sessions h.share_is h.encrypts_is h.address_is h.version_is
+    (λ _ x. pieces t u (slot_put s o index number status) x h.files h.sessions h.share_is h.room_is h.encrypts_is h.address_is h.version_is
     h.journal_is)
-    (λ _ x. pieces t u s x h.files h.sessions h.share_is h.encrypts_is h.address_is h.version_is h.journal_is)
+    (λ _ x. pieces t u s x h.files h.sessions h.share_is h.room_is h.encrypts_is h.address_is h.version_is h.journal_is)
 
 no_slot : (t : Tables) (s : Server) (o index number status : ℕ) (b : Bool) → b ≡ false → TablesShown t s
     → TablesShown t (if b then slot_put s o index number status else s)
@@ -134,5 +138,5 @@ pub attached_tables : (t : Tables) (u : Opens) (s : Server) (m : Message) (o : �
     → TablesShown (record t { opens = u }) (attached s m o)
 attached_tables t u s m o h = either (λ v. ShowsOpens u v
     → TablesShown (record t { opens = u }) v) (is_some (s.session_of_open o)) s (attach s m o)
-    (λ _ x. pieces t u s x h.files h.sessions h.share_is h.encrypts_is h.address_is h.version_is h.journal_is)
-    (λ _ x. pieces t u (attach s m o) x h.files h.sessions h.share_is h.encrypts_is h.address_is h.version_is h.journal_is)
+    (λ _ x. pieces t u s x h.files h.sessions h.share_is h.room_is h.encrypts_is h.address_is h.version_is h.journal_is)
+    (λ _ x. pieces t u (attach s m o) x h.files h.sessions h.share_is h.room_is h.encrypts_is h.address_is h.version_is h.journal_is)

@@ -15,7 +15,8 @@ use Rattle.server_checks.specs.declared.tables.Tables.{Tables}
 use Rattle.server_effects.specs.Able.{Able}
 use Rattle.server_effects.specs.declared.answering.Answer.{Answer}
 
--- the tables and the answer are those of the model's
+-- the tables, the reply and whether it acted are the model's; its records are told before, and reached and altered speak of runs
+-- alone
 pub record Carried (t : Tables) (r : Answer) (a : model.Answer) : Type 0 where
   pub shows : TablesShown t a.server
   pub reply : reply_of r.reply ≡ a.reply

@@ -1,6 +1,7 @@
 -- What was made ready of a verdict stands for it.
-use Rattle.std.specs.Prelude.{◌≡◌, ℕ, List}
+use Rattle.std.specs.Prelude.{◌≡◌, ℕ, List, min}
 use Rattle.exchange_defs.specs.Commands as asks
+use Rattle.exchange_defs.specs.Fold.{full_room}
 use Rattle.exchange_defs.specs.State as model
 use Rattle.exchange_defs.specs.Verdict as verdicts
 use Rattle.command_values.specs.Meaning.{address_of}
@@ -20,6 +21,7 @@ pub record OthersShown (t : Tables) (s : model.Server) : Type 0 where
   pub opens : ShowsOpens t.opens s
   pub sessions : ShowsSessions t.sessions s
   pub share_is : s.share ≡ t.config.share
+  pub room_is : s.room ≡ min t.config.room full_room
   pub encrypts_is : s.encrypts ≡ t.config.encrypts
   pub address_is : s.address ≡ address_of t.config.address
   pub version_is : s.version ≡ t.version

@@ -17,8 +17,9 @@ pub struct Answer {
     pub acted: bool,
     /// Of a SESSION_SETUP: the token of its response; empty where it has none.
     pub token: Bytes,
-    /// The keys of the channel that it made, and the channel's number in its session.
+    /// The keys of the channel that a SESSION_SETUP made.
     pub keys: Option<Keys>,
+    /// The number of the channel that a SESSION_SETUP made, from 1 in its session.
     pub channel: Option<u16>,
 }
 

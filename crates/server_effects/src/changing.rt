@@ -22,7 +22,8 @@ use file_store::{Move, NewBytes};
 use server_checks::Tables;
 use server_verdicts::status::SUCCESS;
 
-/// A change of a file with its memory.
+/// A change of a file with its memory: bytes at a place; a new end, with its size in bytes; times (100 ns since 1601) and
+/// attributes; whether the file is delete pending; a new path; or none.
 #[derive(Drop)]
 pub enum ChangeReady {
     PutBytes { bytes: NewBytes },
@@ -33,7 +34,7 @@ pub enum ChangeReady {
     PutNothing,
 }
 
-/// The file of an open is changed. `acts` tells whether anything differs behind it.
+/// The file of an open is changed. `acts` tells whether anything differs behind it; `now` is in 100 ns since 1601.
 pub fn alter(
     t: &mut Tables,
     m: &Message<'_>,

@@ -23,8 +23,11 @@ use server_verdicts::status::SUCCESS;
 /// What a CREATE asks to be told: an open that outlives its session, its maximal access, its file's number on the disk.
 #[derive(Clone, Copy, Debug, PartialEq, Eq)]
 pub struct Asks {
+    /// SMB2_CREATE_DURABLE_HANDLE_REQUEST_V2 (MS-SMB2 2.2.13.2.11).
     pub durable: bool,
+    /// SMB2_CREATE_QUERY_MAXIMAL_ACCESS_REQUEST (2.2.13.2.5).
     pub maximal: bool,
+    /// SMB2_CREATE_QUERY_ON_DISK_ID (2.2.13.2.9).
     pub disk_id: bool,
 }
 
@@ -69,7 +72,8 @@ pub fn attach(t: &mut Tables, m: &Message<'_>, id: u64) -> Answer
 // An open without a session becomes this one's.
 fn take_up(t: &mut Tables, m: &Message<'_>, id: u64)
     requires { HasSessionRoom t.old.opens m.now.session_id id }
-    ensures shows { (s : Server) → TablesShown t.old s → s.standing id ≡ true → TablesShown t.new (effects.attached s (message_of m.now) id) }
+    ensures shows { (s : Server) → TablesShown t.old s → s.standing id ≡ true
+        → TablesShown t.new (effects.attached s (message_of m.now) id) }
     ensures kept { t.new ≡ record t.old { opens = t.new.opens } }
 {
     t.opens.put_attached(id, m.session_id, m.channel_sequence);
@@ -86,7 +90,8 @@ fn action_of(t: &Tables, id: u64) -> u32
 
 /// What a CREATE tells of an open that stands.
 pub fn create_reply(t: &Tables, id: u64, told: Asks, action: u32) -> Body
-    ensures { (s : Server) (r : asks.CreateRequest) → exists s (s.opened id).file ≡ true → TablesShown t.now s → s.standing id ≡ true → told ≡ asks_of r
+    ensures { (s : Server) (r : asks.CreateRequest) → exists s (s.opened id).file ≡ true → TablesShown t.now s
+        → s.standing id ≡ true → told ≡ asks_of r
         → body_of result ≡ effects.create_reply s id r action }
 {
     Body::Created(CreateReply {

@@ -77,7 +77,7 @@ pub fn join(t: &mut Tables, m: &Message<'_>, session: u64, keys: Keys, token: By
     set_up_answer(t, m, token, keys, channel, false)
 }
 
-/// A session begins, with its first channel.
+/// A session begins, with its first channel. A previous session is ended by its caller before.
 pub fn begin(
     t: &mut Tables,
     m: &Message<'_>,

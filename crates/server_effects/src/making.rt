@@ -22,7 +22,7 @@ use file_store::NewFile;
 use open_table::Row;
 use server_checks::Tables;
 
-/// What becomes of the file of a new open.
+/// What becomes of the file of a new open: it is made, emptied with new attributes, or stays as it is.
 #[derive(Drop)]
 pub enum FileReady {
     New { file: NewFile },
@@ -30,7 +30,7 @@ pub enum FileReady {
     AsItIs { file: u64 },
 }
 
-/// A new open stands, of a file that was made ready.
+/// A new open stands, of a file that was made ready. The next id is its FileId, both halves; `now` is in 100 ns since 1601.
 pub fn make(t: &mut Tables, m: &Message<'_>, file: FileReady, row: Row, now: u64) -> Answer
     requires file { FileRoom t.old file }
     requires row { HasRoom t.old.opens × HasRoomIn t.old.opens row.session (next_of t.old.opens) row.persistent

@@ -50,7 +50,8 @@ unmarked_at t w f b none above h = record {
     plain = h.rows.plain;
     root_path = h.rows.root_path;
     root_below = h.rows.root_below;
-    root_is = subst (λ (m : Bool). RowIs t.root true m (w.basic 0) (w.content 0)) (ap (λ (d : Bool). if d then b else w.delete_pending 0) above)
+    root_is = subst (λ (m : Bool). RowIs t.root true m (w.basic 0) (w.content 0))
+        (ap (λ (d : Bool). if d then b else w.delete_pending 0) above)
         h.rows.root_is;
     rows_are = λ q. at q (q == f) refl (h.rows.rows_are q);
     count_is = h.rows.count_is;
@@ -62,7 +63,8 @@ unmarked_at t w f b none above h = record {
 }
   where
     at : (q : ℕ) (d : Bool) → (q == f) ≡ d
-        → RowShown (get nat_eq t.rows q) (path_at w.entries q) (w.directory q) (if d then b else w.delete_pending q) (w.basic q) (w.content q)
+        → RowShown (get nat_eq t.rows q) (path_at w.entries q) (w.directory q) (if d then b else w.delete_pending q)
+        (w.basic q) (w.content q)
         → RowShown (get nat_eq t.rows q) (path_at w.entries q) (w.directory q) (w.delete_pending q) (w.basic q) (w.content q)
     at q true e k = row_free (get nat_eq t.rows q) (path_at w.entries q) (w.directory q) b (w.delete_pending q) (w.basic q) (w.content q)
         (subst (λ (z : ℕ). path_at w.entries z ≡ None) (sym (eqb-true q f e)) none) k
@@ -95,6 +97,11 @@ mark_back t s f d was e h = subst (λ (marks : ℕ → Bool). ShowsFiles t (re_m
     same d = λ t q. at d q (q == f) refl t
 
 -- ---- the file of an open that was taken out
+
+-- where none goes, none went
+pub stayed : (b : Bool) (gone : Option Gone) (s : Server) (f : ℕ) → b ≡ false → GoneWith b gone s f → gone ≡ None
+stayed true gone s f e h = absurd (cc)
+stayed false gone s f e h = h
 
 -- it went, and comes back
 pub back_gone : (old new : Tree) (s : Server) (o : ℕ) (gone : Gone) (r : Bool) → Fits s → s.standing o ≡ true

@@ -58,7 +58,8 @@ opens_behind t s o h =
 pub opens_before : (t : Opens) (s : Server) (o : ℕ) → ShowsOpens t (expire s o)
     → ShowsOpens t (add_expired_guid (drop_open s o) (s.opened o).client_guid (s.opened o).create_guid)
 opens_before t s o h =
-    from_either (λ (w : Server). ShowsOpens t (add_expired_guid w c (s.opened o).create_guid)) (goes (drop_open (pending_behind s o) o) f) _ _
+    from_either (λ (w : Server). ShowsOpens t (add_expired_guid w c (s.opened o).create_guid))
+    (goes (drop_open (pending_behind s o) o) f) _ _
     (λ k. marked (gone (drop_open (pending_behind s o) o) (s.opened o).create_guid k)) (λ k. marked k) h
   where
     c : ℕ
@@ -132,10 +133,12 @@ pub undated_yet : (old new : Opens) (s : Server) (o : ℕ) → new.undated ≡ o
 undated_yet old new s o e h st none = λ d. rw e (h.undated o st none d)
 
 -- what a file that goes with its open is
-pub gone_parts : (s : Server) (o : ℕ) (goes : Bool) (file : ℕ) → Fits s → s.standing o ≡ true → goes ≡ goes_behind s o → (s.opened o).file ≡ file
+pub gone_parts : (s : Server) (o : ℕ) (goes : Bool) (file : ℕ) → Fits s → s.standing o ≡ true → goes ≡ goes_behind s o
+    → (s.opened o).file ≡ file
     → goes ≡ true → (exists_in s.entries file ≡ true) × (is_full_directory s file ≡ false)
 gone_parts s o goes file f st g e h =
-    subst (λ (z : ℕ). (exists_in s.entries z ≡ true) × (is_full_directory s z ≡ false)) e (there s o f st (sym g ∙ h), not_full s o f st (sym g ∙ h))
+    subst (λ (z : ℕ). (exists_in s.entries z ≡ true) × (is_full_directory s z ≡ false)) e
+    (there s o f st (sym g ∙ h), not_full s o f st (sym g ∙ h))
 
 -- the store without it, in the words of the state
 pub gone_files : (t : Tree) (s : Server) (o : ℕ) (goes : Bool) (gone : Option Gone) (file : ℕ) → goes ≡ goes_behind s o

@@ -1,4 +1,4 @@
-ghost use Rattle.std.specs.Prelude.{◌≡◌, ℕ, true, false, None, MatchResult, IfOk, nat_le, nat_lt, if◌then◌else◌};
+ghost use Rattle.std.specs.Prelude.{◌≡◌, ℕ, true, false, None, MatchResult, IfOk, IsOk, nat_le, nat_lt, if◌then◌else◌};
 ghost use Rattle.exchange_defs.specs.Files.{exists_in, is_full_directory, remove_file, set_delete_pending};
 ghost use Rattle.exchange_defs.specs.Opens.{drop_open};
 ghost use Rattle.exchange_defs.specs.State.{Server};
@@ -28,11 +28,13 @@ pub struct Expired {
     pub(crate) was_kept: bool,
 }
 
-/// The open that is to expire in front of an event: of those that are due that of the least id.
+/// The open that is to expire in front of an event: of those that are due at this moment (100 ns since 1601) that of the
+/// least id, and none where 65,536 guids are kept as expired. Of the table its index of deadlines alone may change.
 pub fn due(opens: &mut Opens, now: u64) -> Option<u64>
     ensures due { (s : Server) → Fits s → ShowsOpens opens.old s
         → result ≡ (if nat_le max_expired_guids s.expired_count then None else due (with_deadlines s now) now) }
     ensures shows { (s : Server) → ShowsOpens opens.old s → ShowsOpens opens.new s }
+    ensures rest { opens.new ≡ record opens.old { deadlines = opens.new.deadlines } }
 {
     if has_all_guids(opens) {
         return None;
@@ -188,12 +190,14 @@ fn mark_if(tree: &mut Tree, file: u64, deletes: bool)
     }
 }
 
-/// Puts it back. Where there is no memory to name its file again, it answers the open, which stays out.
+/// Puts it back. Where there is no memory to name its file again, it answers the open, which stays out, for `Opens::give_up`
+/// to forget its deadline; no record of that is in the journal. Where no file went it always comes back.
 pub fn put_back(opens: &mut Opens, tree: &mut Tree, expired: Expired) -> Result<(), Taken>
     requires { HasRoom opens.old }
-    ensures { (s : Server) (o : ℕ) → Fits s → s.standing o ≡ true → s.session_of_open o ≡ None → IsExpired opens.old expired s o
+    ensures shows { (s : Server) (o : ℕ) → Fits s → s.standing o ≡ true → s.session_of_open o ≡ None → IsExpired opens.old expired s o
         → ShowsBoth opens.old tree.old (expire s o)
         → MatchResult result (λ _. ShowsBoth opens.new tree.new s) (λ t. (t ≡ expired.taken) × ShowsBoth opens.new tree.new (expire s o)) }
+    ensures back { (s : Server) (o : ℕ) → IsExpired opens.old expired s o → goes_behind s o ≡ false → IsOk result }
 {
     let Expired {
         taken,
@@ -215,6 +219,7 @@ fn file_back(tree: &mut Tree, gone: Option<Gone>, file: u64, was_pending: bool) 
         → GoneWith (goes_behind s o) gone s (s.opened o).file → (gone ≡ None → was_pending ≡ s.delete_pending (s.opened o).file)
         → ShowsFiles tree.old (expire s o) → ShowsFiles tree.new s }
     ensures stays { (s : Server) → result ≡ false → ShowsFiles tree.old s → ShowsFiles tree.new s }
+    ensures plain { gone ≡ None → result ≡ true }
 {
     match gone {
         Some(gone) => tree.put_back(gone),
@@ -225,9 +230,10 @@ fn file_back(tree: &mut Tree, gone: Option<Gone>, file: u64, was_pending: bool) 
     }
 }
 
-/// It stays out.
+/// It stays out. Of the table its index of deadlines alone changes.
 pub fn give_up(opens: &mut Opens, expired: Expired)
-    ensures { (s : Server) → ShowsOpens opens.old s → s.deadline expired.taken.id ≡ None → ShowsOpens opens.new s }
+    ensures shows { (s : Server) → ShowsOpens opens.old s → s.deadline expired.taken.id ≡ None → ShowsOpens opens.new s }
+    ensures rest { opens.new ≡ record opens.old { deadlines = opens.new.deadlines } }
 {
     let Expired { taken, .. } = expired;
     opens.give_up(taken);

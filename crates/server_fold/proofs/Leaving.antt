@@ -1,10 +1,9 @@
 -- Opens that leave.
-use Rattle.std.proofs.Common.{◌≡◌, ℕ, ◌+◌, ◌==◌, nat_lt, Bool, true, false, ◌&&◌, if◌then◌else◌, Option, Some, None, refl, sym, ap}
-use Rattle.std.proofs.Common.{subst, ◌∙◌}
+use Rattle.std.proofs.Common.{◌≡◌, ℕ, true, if◌then◌else◌, Option, Some, None, refl, sym, ap}
+use Rattle.std.proofs.Common.{subst}
 use Rattle.exchange_defs.specs.Commands.{deletes_on_close}
 use Rattle.exchange_defs.specs.State as model
 use Rattle.exchange_defs.specs.State.{Server}
-use Rattle.exchange_defs.specs.Table.{put2}
 use Rattle.exchange_defs.specs.Files.{set_delete_pending}
 use Rattle.exchange_defs.specs.Fold.{shut_recorded}
 use Rattle.exchange_defs.specs.Opens.{drop_open, pending_behind}

@@ -1,9 +1,9 @@
 -- Locks and unlocks that were granted, and the slots that keep their answers.
 use Rattle.std.proofs.Common.{◌≡◌, ℕ, ◌+◌, ◌≤◌, ◌<◌, ◌==◌, nat_le, nat_lt, Bool, true, false, not, ◌&&◌, ◌||◌, if◌then◌else◌, List, [], ◌∷◌}
-use Rattle.std.proofs.Common.{◌++◌, length, map, Option, Some, None, refl, sym, ap, subst, ◌∙◌, arith}
+use Rattle.std.proofs.Common.{length, map, Some, refl, sym, ap, subst, arith}
 use Rattle.std.proofs.lemmas.Bool.{eqb-false}
 use Rattle.std.proofs.lemmas.Bool.Decides.{nat_tests}
-use Rattle.std.specs.Prelude.{Result, Ok, Err, IfOk, OnOk, MatchResult, take}
+use Rattle.std.specs.Prelude.{Result, Ok, Err, IfOk, OnOk}
 use Rattle.exchange_defs.specs.Commands.{Element, all_lock, all_unlock}
 use Rattle.exchange_defs.specs.CheckOpen.{file_of, is_slot}
 use Rattle.exchange_defs.specs.Effects.{keep_slot, set_ranges}
@@ -13,7 +13,7 @@ use Rattle.exchange_defs.specs.Ranges.{lock_ranges, unlock_ranges, change_ranges
 use Rattle.exchange_defs.specs.State as model
 use Rattle.exchange_defs.specs.State.{Server, Origin, LockRecord}
 use Rattle.exchange_defs.specs.Status.{success, insufficient_resources}
-use Rattle.exchange_defs.specs.Table.{put, put2, is_filled}
+use Rattle.exchange_defs.specs.Table.{put2, is_filled}
 use Rattle.open_table.specs.Locks.{DeniedBy, StandsWith}
 use Rattle.open_table.specs.Shown.{ShowsOpens}
 use Rattle.open_table.specs.declared.table.Opens.{Opens}
@@ -27,7 +27,7 @@ use Rattle.server_law.specs.Fits.{Fits}
 use Rattle.server_law.proofs.Logic.{either, both}
 use Rattle.server_fold.specs.Durable.{DurableShown, is_granted, ranges_behind}
 use Rattle.server_fold.specs.declared.durable.Durable.{Durable}
-use Rattle.server_fold.proofs.Choice.{clash, on, off, first_off, second_off, not_on, not_off}
+use Rattle.server_fold.proofs.Choice.{clash, on, off, not_on, not_off}
 use Rattle.server_fold.proofs.Shown.{ranges_same}
 
 -- ---- slots

@@ -1,6 +1,6 @@
 -- Creates: what is made of a file, and the open that is restored.
-use Rattle.std.proofs.Common.{◌≡◌, ℕ, ◌+◌, ◌/◌, ◌%◌, ◌==◌, nat_le, nat_lt, Bool, true, false, not, ◌&&◌, ◌||◌, if◌then◌else◌, List, []}
-use Rattle.std.proofs.Common.{Option, Some, None, is_some, length, refl, sym, ap, subst, ◌∙◌, arith, eqb-true}
+use Rattle.std.proofs.Common.{◌≡◌, ℕ, ◌/◌, ◌%◌, ◌==◌, nat_le, nat_lt, Bool, true, false, not, ◌&&◌, ◌||◌, if◌then◌else◌, List, []}
+use Rattle.std.proofs.Common.{Option, Some, None, is_some, length, refl, sym, ap, subst, ◌∙◌, arith}
 use Rattle.std.proofs.lemmas.Bool.Decides.{nat_tests}
 use Rattle.std.specs.Prelude.{Result, Ok, Err, IfOk, OnOk}
 use Rattle.wire_defs.specs.Places.{number_of}
@@ -9,7 +9,7 @@ use Rattle.exchange_defs.specs.Commands.{path_form}
 use Rattle.exchange_defs.specs.CheckCreate.{max_opens, max_files, last_file}
 use Rattle.exchange_defs.specs.Opens.{max_ids}
 use Rattle.exchange_defs.specs.State as model
-use Rattle.exchange_defs.specs.State.{Server, Origin, CreateRecord}
+use Rattle.exchange_defs.specs.State.{Server, Origin}
 use Rattle.exchange_defs.specs.Table.{put}
 use Rattle.exchange_defs.specs.Texts.{is_path}
 use Rattle.exchange_defs.specs.Files.{exists, find, has_parent, is_directory, make_file, empty_file, emptied_basic}
@@ -30,11 +30,11 @@ use Rattle.open_table.specs.declared.row.OpenParts.{OpenParts}
 use Rattle.open_table.specs.declared.table.Opens.{Opens}
 use Rattle.server_law.specs.Fits.{Fits}
 use Rattle.server_law.proofs.Logic.{front_of, back_of, both, not_true}
-use Rattle.fold_law.proofs.Created.{path_of_form, form_of_path, created_fits, created_free}
+use Rattle.fold_law.proofs.Created.{path_of_form, form_of_path, created_free}
 use Rattle.server_fold.specs.Durable.{DurableShown, create_record, may_be_made, file_behind}
 use Rattle.server_fold.specs.declared.creates.Made.{Made}
 use Rattle.server_fold.specs.declared.durable.Durable.{Durable}
-use Rattle.server_fold.proofs.Choice.{clash, on, off, first_off, second_off, not_on, not_off, eq_on, lt_le, le_lt, neither}
+use Rattle.server_fold.proofs.Choice.{on, off, first_off, second_off, not_on, not_off, eq_on, lt_le, le_lt, neither}
 use Rattle.server_fold.proofs.Shown.{content_behind, same_files, made_behind}
 
 -- ---- a new file

@@ -1,24 +1,24 @@
 -- Records of a file alone: what their guards are, and what stands behind a call that went through or was refused.
-use Rattle.std.proofs.Common.{◌≡◌, ℕ, ◌+◌, ◌<◌, ◌==◌, Bool, true, false, not, ◌&&◌, ◌||◌, if◌then◌else◌, List, [], ◌∷◌, length}
-use Rattle.std.proofs.Common.{Option, Some, None, refl, sym, ap, subst, ◌∙◌, arith, eqb-true}
+use Rattle.std.proofs.Common.{◌≡◌, ℕ, ◌+◌, ◌<◌, ◌==◌, Bool, true, false, not, ◌&&◌, if◌then◌else◌, List, [], ◌∷◌, length}
+use Rattle.std.proofs.Common.{Option, Some, None, refl, sym, ap, subst, ◌∙◌, arith}
 use Rattle.std.proofs.lemmas.Bool.Decides.{nat_tests}
 use Rattle.std.specs.Prelude.{Result, Ok, Err, MatchResult, OnOk}
 use Rattle.exchange_defs.specs.Status.{access_denied, directory_not_empty, invalid_parameter, object_path_not_found, disk_full}
-use Rattle.exchange_defs.specs.Commands.{Basic, path_form}
+use Rattle.exchange_defs.specs.Commands.{path_form}
 use Rattle.exchange_defs.specs.Content.{written, ended, is_empty}
 use Rattle.exchange_defs.specs.CheckOpen.{target_of}
-use Rattle.exchange_defs.specs.State.{Server, Entry, Origin, WriteRecord, EndRecord, BasicRecord, DeleteRecord, RenameRecord}
+use Rattle.exchange_defs.specs.State.{Server, Origin, WriteRecord, EndRecord, RenameRecord}
 use Rattle.exchange_defs.specs.State.{RemoveRecord}
 use Rattle.exchange_defs.specs.Table.{put}
 use Rattle.exchange_defs.specs.Texts.{is_path, is_below}
 use Rattle.exchange_defs.specs.Files.{root, exists, exists_in, find, has_parent, path_of, is_directory, is_full_directory, passes_room}
-use Rattle.exchange_defs.specs.Files.{set_content, store_basic, set_delete_pending, remove_file, rename_file, without_file, without_target}
+use Rattle.exchange_defs.specs.Files.{set_content, remove_file, rename_file, without_file, without_target}
 use Rattle.exchange_defs.specs.Files.{moved_entries, touched}
 use Rattle.exchange_defs.specs.Fold.{is_file, same_target, may_replace, may_rename, may_remove, with_record}
 use Rattle.exchange_defs.specs.Opens.{file_has_open}
 use Rattle.file_store.specs.Shown.{ShowsFiles}
 use Rattle.file_store.specs.Refusals.{room_refusal, remove_refusal, form_first, Tells, Refuses}
-use Rattle.file_store.specs.Moved.{rename_refusal, move_refusal, target_refusal, target_is_directory}
+use Rattle.file_store.specs.Moved.{rename_refusal, move_refusal, target_is_directory}
 use Rattle.file_store.specs.declared.error.StoreError.{StoreError}
 use Rattle.file_store.specs.declared.error.StoreError.TheVariants.{Memory, Status}
 use Rattle.file_store.specs.declared.tree.Tree.{Tree}

@@ -22,7 +22,7 @@ use Rattle.open_table.specs.declared.table.Opens.{Opens}
 use Rattle.server_law.specs.Fits.{Fits, is_ascending}
 use Rattle.server_law.proofs.Logic.{both}
 use Rattle.server_law.proofs.Lists.{exists-pushed}
-use Rattle.fold_law.specs.Order.{numbers, FilesAscend}
+use Rattle.fold_law.specs.Order.{numbers}
 use Rattle.fold_law.proofs.Numbers.{made_ascend}
 use Rattle.fold_law.proofs.Created.{unlocked}
 use Rattle.server_fold.specs.Durable.{DurableShown}

@@ -1,12 +1,12 @@
 -- A sweep by numbers.
-use Rattle.std.proofs.Common.{◌≡◌, ℕ, ◌==◌, Bool, true, false, not, ◌&&◌, ◌||◌, if◌then◌else◌, List, [], ◌∷◌, Option, Some, None, refl, sym}
-use Rattle.std.proofs.Common.{ap, subst, ◌∙◌, arith}
+use Rattle.std.proofs.Common.{◌≡◌, ℕ, ◌==◌, Bool, true, false, not, ◌&&◌, if◌then◌else◌, List, [], ◌∷◌, Some, None, refl, sym}
+use Rattle.std.proofs.Common.{subst, ◌∙◌}
 use Rattle.std.specs.Prelude.{Result, Ok, Err, MatchResult}
-use Rattle.std.specs.BTreeSet.{BTreeSet, IsOrdered, contains}
+use Rattle.std.specs.BTreeSet.{IsOrdered}
 use Rattle.std.specs.Ordering.{nat_cmp}
 use Rattle.exchange_defs.specs.Status.{access_denied, directory_not_empty}
-use Rattle.exchange_defs.specs.State.{Server, Entry}
-use Rattle.exchange_defs.specs.Files.{root, exists, exists_in, is_full_directory, remove_file}
+use Rattle.exchange_defs.specs.State.{Server}
+use Rattle.exchange_defs.specs.Files.{root, exists, is_full_directory, remove_file}
 use Rattle.exchange_defs.specs.Fold.{sweep}
 use Rattle.exchange_defs.specs.Opens.{file_has_open, goes, without_gone}
 use Rattle.file_store.specs.Shown.{ShowsFiles}

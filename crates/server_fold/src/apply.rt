@@ -11,7 +11,7 @@ use journal_records::{Record, RecordError, read_records};
 use std::alloc::AllocError;
 
 impl Durable {
-    /// Follows records that are at hand.
+    /// Follows records that are at hand. Where memory runs out a part of them was applied.
     pub fn with_records(&mut self, records: &[Record]) -> Result<(), AllocError>
         ensures { (s : Server) → Fits s → DurableShown self.old s → all_sound (records_of records.now) ≡ true
             → OnOk result (DurableShown self.new (fold_from s (records_of records.now))) }

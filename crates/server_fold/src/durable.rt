@@ -25,9 +25,13 @@ pub const FULL_ROOM: u64 = 268_435_456;
 #[derive(Drop)]
 pub struct Durable {
     pub alloc: Global,
+    /// The version of the journal, 1 or 2.
     pub version: u32,
+    /// The last epoch that began; 0 before the first.
     pub epoch: u32,
+    /// Files by number and path.
     pub tree: Tree,
+    /// The persistent opens, and expired guids.
     pub opens: Opens,
     /// Each file that is delete pending, and perhaps some that are not.
     pub(crate) pending: BTreeSet<u64>,

@@ -11,6 +11,3 @@ mod records;
 
 pub use apply::apply_records;
 pub use durable::{Durable, FULL_ROOM};
-
-#[cfg(test)]
-mod tests;

@@ -26,7 +26,8 @@ each_stands u ids i h a stand =
 abbrev pub HaveLeft : Leaving → model.Server → model.Server → model.Origin → List ℕ → List model.Record → List model.Record → Type 0
 HaveLeft m s u origin os old new = HasLeft m s (leave_all u os) × (new ≡ old ++ leave_all_records u origin os)
 
-pub none_left : (l : Leaving) (s u : model.Server) (origin : model.Origin) (rs : List model.Record) → HasLeft l s u → HaveLeft l s u origin [] rs rs
+pub none_left : (l : Leaving) (s u : model.Server) (origin : model.Origin) (rs : List model.Record)
+    → HasLeft l s u → HaveLeft l s u origin [] rs rs
 unfolding leave_all leave_all_records
 none_left l s u origin rs a = (a, sym (append-nil rs))
 

@@ -49,7 +49,8 @@ pub ends_on : (s : model.Server) (ks : List ℕ) (i : ℕ) (o r : Option ℕ) �
 ends_on s ks i o r h n e l =
     l ∙ at_drop_more (λ (v : List ℕ). last_left s (take i ks) v o) ks i 0 h
     ∙ ap (λ (a : Option ℕ). last_left s (take i ks) (get_or ks i 0 ∷ drop (i + 1) ks) a) e
-    ∙ ap (λ (b : Bool). if b then None else last_left s (take i ks) (get_or ks i 0 ∷ drop (i + 1) ks) (s.session_on (get_or ks i 0))) (sym n)
+    ∙ ap (λ (b : Bool). if b then None else last_left s (take i ks) (get_or ks i 0 ∷ drop (i + 1) ks)
+    (s.session_on (get_or ks i 0))) (sym n)
 
 -- ---- one connection more
 

@@ -64,7 +64,8 @@ pub left_in : (l m : Leaving) (p : Step) (s u : model.Server) (o : ℕ) (origin 
 left_in l m p s u o origin row r0 r1 r2 e i f g left stands h1 h2 = (a.0, all)
   where
     a : HasLeft m s (leave_open u o) × (leave_records u origin o ≡ records_behind (opens_left l) (marked_by l) s u origin o (s.opened o))
-    a = left_one (opens_left l) (opens_left m) (marked_by l) (went_with l) (marked_by m) (went_with m) s u o origin left stands (subst (λ (r : model.Open). LeftBehind (opens_left l) (marked_by l) (went_with l) (opens_left m)
+    a = left_one (opens_left l) (opens_left m) (marked_by l) (went_with l) (marked_by m) (went_with m) s u o origin left stands
+        (subst (λ (r : model.Open). LeftBehind (opens_left l) (marked_by l) (went_with l) (opens_left m)
         (marked_by m) (went_with m) s u r) (sym e) (behind l m p s u row i f g))
 
     told : (marks marks2 goes goes2 : Bool) → marks ≡ marks2 → goes ≡ goes2

@@ -30,7 +30,8 @@ pub(crate) fn step_of(
     row: &Row,
 ) -> Result<Step, AllocError>
     ensures { IfOk result (λ p. (s u : Server) → ShowsOpens opens.now s → ShowsFiles tree.now s → HasLeft leaving.now s u
-        → exists u row.now.file ≡ true → exists s row.now.file ≡ true → opens_left leaving.now row.now.file + 1 ≤ length (opens_of s row.now.file)
+        → exists u row.now.file ≡ true → exists s row.now.file ≡ true
+        → opens_left leaving.now row.now.file + 1 ≤ length (opens_of s row.now.file)
         → IsStep leaving.now s u (open_of row.now) p) }
 {
     let before = is_pending(tree, leaving, row.file);

@@ -8,6 +8,9 @@ returns-in-Message-clause-event c = λ s L t l. rw c.in-Message.is (ap (λ (m : 
 pub returns-in-Setup-clause-event : goal.returns-in-Setup-clause-event
 returns-in-Setup-clause-event c = rw c.in-Setup.is c.asked_setup.ensures.event
 
+pub returns-in-Setup-clause-sure : goal.returns-in-Setup-clause-sure
+returns-in-Setup-clause-sure c = rw c.in-Setup.is (λ h. absurd (cc))
+
 pub returns-in-Accept-clause-event : goal.returns-in-Accept-clause-event
 returns-in-Accept-clause-event c = λ s L t l. rw c.in-Accept.is (refl, refl)
 

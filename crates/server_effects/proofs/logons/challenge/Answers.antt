@@ -7,7 +7,7 @@ use Rattle.server_effects.proofs.logons.challenge.Goals as goal
 pub returns-clause-shows : goal.returns-clause-shows
 returns-clause-shows c = λ now s f h a. record {
   shows = session_pieces c.args.t.now c.challenge-id.new.self (challenged s c.args.m.now.connection) h.opens h.files
-      (c.challenge-id.ensures.shows s h.sessions) h.share_is h.encrypts_is h.address_is h.version_is h.journal_is;
+      (c.challenge-id.ensures.shows s h.sessions) h.share_is h.room_is h.encrypts_is h.address_is h.version_is h.journal_is;
   reply = c.more.ensures.reply ∙ ap (going_on c.args.m.now.tree_id) (c.challenge-id.ensures.id s h.sessions);
   acted = c.more.ensures.beside.0;
 }

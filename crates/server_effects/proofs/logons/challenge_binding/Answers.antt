@@ -5,7 +5,8 @@ use Rattle.server_effects.proofs.logons.challenge_binding.Goals as goal
 pub returns-clause-shows : goal.returns-clause-shows
 returns-clause-shows c = λ now s f h a. record {
   shows = session_pieces c.args.t.now c.challenge_binding.new.self (challenged_binding s c.args.m.now.connection c.args.session)
-      h.opens h.files (c.challenge_binding.ensures.shows s h.sessions) h.share_is h.encrypts_is h.address_is h.version_is h.journal_is;
+      h.opens h.files (c.challenge_binding.ensures.shows s h.sessions)
+      h.share_is h.room_is h.encrypts_is h.address_is h.version_is h.journal_is;
   reply = c.more.ensures.reply;
   acted = c.more.ensures.beside.0;
 }

@@ -8,7 +8,7 @@ use Rattle.server_effects.proofs.logons.join.Goals as goal
 pub returns-clause-shows : goal.returns-clause-shows
 returns-clause-shows c = λ now s f h a. record {
   shows = session_pieces c.args.t.now c.join-channel.new.self (session_joined s c.args.m.now.connection c.args.session) h.opens h.files
-      (c.join-channel.ensures.shows s h.sessions a.0 a.1) h.share_is h.encrypts_is h.address_is h.version_is h.journal_is;
+      (c.join-channel.ensures.shows s h.sessions a.0 a.1) h.share_is h.room_is h.encrypts_is h.address_is h.version_is h.journal_is;
   reply = c.set_up_answer.ensures.reply
       ∙ (ap (λ (b : Bool). set_up_in (message_of c.args.m.now) b c.join-channel.result) (sym h.encrypts_is)
       ∙ ap (set_up_in (message_of c.args.m.now) s.encrypts) (c.join-channel.ensures.number s h.sessions a.0 a.1));

@@ -1,8 +1,7 @@
-use Rattle.std.proofs.Common.{◌≡◌, ◌<◌, ℕ, ap, subst, sym, ◌∙◌}
+use Rattle.std.proofs.Common.{◌<◌, ℕ, ap, subst, sym, ◌∙◌}
 use Rattle.command_values.specs.Meaning.{command_of, message_of}
 use Rattle.exchange_defs.specs.Effects.{create_reply, make_open}
 use Rattle.exchange_defs.specs.State as model
-use Rattle.exchange_defs.specs.State.{Server}
 use Rattle.exchange_defs.specs.Status.{success}
 use Rattle.open_table.specs.Rows.{parts_of}
 use Rattle.open_table.specs.Shown.{HasRoom, HasRoomIn, ShowsOpens, next_of}

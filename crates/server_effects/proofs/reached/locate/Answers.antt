@@ -4,4 +4,4 @@ use Rattle.server_effects.proofs.reached.locate.Goals as goal
 
 pub returns-clause-shows : goal.returns-clause-shows
 returns-clause-shows c = λ s h st. pieces c.args.t.now c.set_location.new.self (located_at s c.args.id c.args.last)
-    (c.set_location.ensures s h.opens st) h.files h.sessions h.share_is h.encrypts_is h.address_is h.version_is h.journal_is
+    (c.set_location.ensures s h.opens st) h.files h.sessions h.share_is h.room_is h.encrypts_is h.address_is h.version_is h.journal_is

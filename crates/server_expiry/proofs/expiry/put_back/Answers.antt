@@ -1,24 +1,33 @@
-use Rattle.std.proofs.Common.{sym, subst, ap, refl}
+use Rattle.std.proofs.Common.{◌≡◌, true, false, sym, subst, ap, refl, ◌∙◌}
 use Rattle.exchange_defs.specs.State as model
 use Rattle.exchange_defs.specs.Opens.{drop_open}
 use Rattle.exchange_defs.specs.Step.{add_expired_guid, expire}
 use Rattle.open_table.specs.Shown.{HasRoom, ShowsOpens}
 use Rattle.open_table.specs.Taken.{IsUndated}
 use Rattle.open_table.specs.declared.table.Opens.{Opens}
+use Rattle.server_expiry.proofs.Back.{stayed}
 use Rattle.server_expiry.proofs.Behind.{back_at, opens_before, kept_before}
+use Rattle.server_expiry.specs.Expired.{goes_behind}
 use Rattle.server_expiry.proofs.expiry.put_back.Goals as goal
 
 pub put_back-requires : goal.put_back-requires
 put_back-requires c = subst (λ (t : Opens). HasRoom t) (sym c.keep_guid_no_more.ensures.rest) c.requires
 
-pub returns-then-not-file_back : goal.returns-then-not-file_back
-returns-then-not-file_back c = λ s o f st none x b. (refl, (b.0, c.file_back.ensures.stays (expire s o) c.if-not-file_back.true b.1))
+pub returns-then-not-file_back-clause-shows : goal.returns-then-not-file_back-clause-shows
+returns-then-not-file_back-clause-shows c = λ s o f st none x b.
+    (refl, (b.0, c.file_back.ensures.stays (expire s o) c.if-not-file_back.true b.1))
 
-pub returns : goal.returns
-returns c = λ s o f st none x b.
+pub returns-then-not-file_back-clause-back : goal.returns-then-not-file_back-clause-back
+returns-then-not-file_back-clause-back c = λ s o x b.
+    let none_went = stayed (goes_behind s o) c.args.expired.gone s (s.opened o).file b x.gone in
+    let e : true ≡ false = sym (c.file_back.ensures.plain none_went) ∙ c.if-not-file_back.true in absurd (cc)
+
+pub returns-clause-shows : goal.returns-clause-shows
+returns-clause-shows c = λ s o f st none x b.
     let e = x.taken.row_is.1.opened_is in
     let back = c.keep_guid_no_more.ensures.shown (drop_open s o)
-    (subst (λ (r : model.Open). ShowsOpens c.args.opens.now (add_expired_guid (drop_open s o) r.client_guid r.create_guid)) e (opens_before _ s o b.0))
+    (subst (λ (r : model.Open). ShowsOpens c.args.opens.now (add_expired_guid (drop_open s o) r.client_guid r.create_guid)) e
+    (opens_before _ s o b.0))
     (kept_before s o c.args.expired.taken.row _ e x.was_kept) in (
       back_at _ _ s o c.args.expired.taken f x.taken back st none
           (subst (λ (t : Opens). IsUndated t s o) (sym c.keep_guid_no_more.ensures.rest) x.undated) c.put_back.ensures,

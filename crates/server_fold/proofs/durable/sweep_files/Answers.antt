@@ -1,4 +1,4 @@
-use Rattle.std.proofs.Common.{◌≡◌, ℕ, List, refl, sym, ap, subst, ◌∙◌}
+use Rattle.std.proofs.Common.{ℕ, List, refl, sym, ap, subst, ◌∙◌}
 use Rattle.exchange_defs.specs.State.{Server}
 use Rattle.file_store.specs.Shown.{ShowsFiles}
 use Rattle.exchange_defs.specs.Opens.{without_gone}

@@ -17,7 +17,8 @@ loop-i-preserved c = λ now s f o t h.
     let less : c.loop-i.i < length s.connections = omega arith in
     let a = c.loop-i.invariant now s f o t h in
     c.in_ok-end_with.ensures s now c.loop-i.i f o t less
-    (subst (λ (v : List ℕ). c.ends_behind-session.result ≡ ends_left s (take c.loop-i.i v) (get_or v c.loop-i.i 0) (drop (c.loop-i.i + 1) v))
+    (subst (λ (v : List ℕ). c.ends_behind-session.result
+    ≡ ends_left s (take c.loop-i.i v) (get_or v c.loop-i.i 0) (drop (c.loop-i.i + 1) v))
     cs (c.ends_behind-session.ensures s h)) a.0 a.1
 
 pub returns : goal.returns

@@ -1,4 +1,4 @@
-use Rattle.std.proofs.Common.{ℕ, ◌==◌, ◌+◌, sym, ◌∙◌}
+use Rattle.std.proofs.Common.{◌==◌, ◌+◌, sym, ◌∙◌}
 use Rattle.exchange_defs.specs.State.{Server}
 use Rattle.exchange_defs.specs.Fold.{sweep}
 use Rattle.server_fold.specs.Durable.{DurableShown}

@@ -1,4 +1,4 @@
-use Rattle.std.proofs.Common.{ℕ, Bool, true, nat_lt, ◌≡◌, ◌&&◌, sym, subst, ap, ◌∙◌}
+use Rattle.std.proofs.Common.{ℕ, true, nat_lt, ◌≡◌, ◌&&◌, sym, ap, ◌∙◌}
 use Rattle.exchange_defs.specs.State.{Server}
 use Rattle.server_fold.specs.Durable.{DurableShown}
 use Rattle.exchange_defs.specs.Fold.{shut_recorded}

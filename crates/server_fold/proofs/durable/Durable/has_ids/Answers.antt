@@ -1,4 +1,4 @@
-use Rattle.std.proofs.Common.{◌≡◌, ℕ, Option, is_some, ap, ◌∙◌}
+use Rattle.std.proofs.Common.{ℕ, Option, is_some, ap, ◌∙◌}
 use Rattle.exchange_defs.specs.Effects.{next_open}
 use Rattle.server_fold.proofs.Making.{ids_left}
 use Rattle.server_fold.proofs.durable.Durable.has_ids.Goals as goal

@@ -1,4 +1,4 @@
-use Rattle.std.proofs.Common.{ℕ, sym, ap, ◌∙◌}
+use Rattle.std.proofs.Common.{ℕ, ap, ◌∙◌}
 use Rattle.exchange_defs.specs.Ranges.{count_owned}
 use Rattle.server_fold.proofs.Locking.{owned_is}
 use Rattle.server_fold.proofs.durable.Durable.owned_ranges.Goals as goal

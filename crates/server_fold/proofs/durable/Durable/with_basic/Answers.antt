@@ -1,4 +1,4 @@
-use Rattle.std.proofs.Common.{ℕ, sym, ◌∙◌}
+use Rattle.std.proofs.Common.{sym, ◌∙◌}
 use Rattle.exchange_defs.specs.State.{Server}
 use Rattle.server_fold.specs.Durable.{DurableShown}
 use Rattle.exchange_defs.specs.Files.{exists, store_basic}

@@ -1,4 +1,4 @@
-use Rattle.std.proofs.Common.{◌==◌, not, length, sym, ◌∙◌}
+use Rattle.std.proofs.Common.{not, sym, ◌∙◌}
 use Rattle.exchange_defs.specs.Content.{is_empty}
 use Rattle.server_fold.proofs.Choice.{first_off, second_off, not_off}
 use Rattle.server_fold.proofs.OfFile.{write_shown, write_none, is_empty_of, filled_bytes}
