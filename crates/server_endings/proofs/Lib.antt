@@ -1,0 +1,7 @@
+mod Columns
+mod Ended
+mod Left
+mod Opens
+mod Picked
+mod Pieces
+mod Turns
