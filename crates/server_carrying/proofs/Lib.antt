@@ -1,0 +1,3 @@
+mod Arms
+mod Begins
+mod Whole
