@@ -1,0 +1,18 @@
+use Rattle.std.proofs.Common.{List, ap, ◌∙◌}
+use Rattle.exchange_defs.specs.State as model
+use Rattle.exchange_defs.specs.Effects.{end_records, leave_all_records, plain_of}
+use Rattle.journal_records.specs.Meaning.{records_of}
+use Rattle.journal_records.specs.declared.value.Record.{Record}
+use Rattle.server_owed.proofs.Told.{behind_none, ended_records, plain_stand}
+use Rattle.server_owed.proofs.verdict.end_records.Goals as goal
+
+pub returns-then-quiet : goal.returns-then-quiet
+unfolding end_records
+returns-then-quiet c = λ s f o t. rw c.if-quiet.true c.no_record.ensures
+
+pub returns : goal.returns
+returns c = λ s f o t.
+    ended_records s _ c.args.session c.args.quiet _ c.if-quiet.false
+    (behind_none _ _ _ (ap (λ (v : List Record). records_of v) c.new-records.ensures)
+    (c.in_ok-end_in.ensures s s f o t (c.new-leaving.ensures s f) (plain_stand s c.args.session f)).1
+    ∙ ap (λ (z : model.Origin). leave_all_records s z (plain_of s c.args.session)) c.origin_of-origin.ensures)

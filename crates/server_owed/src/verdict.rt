@@ -1,0 +1,145 @@
+ghost use Rattle.std.specs.Prelude.{◌≡◌, true, IfOk};
+ghost use Rattle.command_values.specs.Meaning.{command_of, message_of};
+ghost use Rattle.exchange_defs.specs.CheckOpen.{file_of};
+ghost use Rattle.exchange_defs.specs.Effects.{apply, change_records, end_records, records_if_named};
+ghost use Rattle.exchange_defs.specs.Opens.{leave_records};
+ghost use Rattle.exchange_defs.specs.Records.{origin_of};
+ghost use Rattle.exchange_defs.specs.State.{Server};
+ghost use Rattle.file_store.specs.Shown.{ShowsFiles};
+ghost use Rattle.journal_records.specs.Meaning.{records_of};
+ghost use Rattle.open_table.specs.Shown.{ShowsOpens};
+ghost use Rattle.server_law.specs.Fits.{Fits};
+ghost use Rattle.server_owed.specs.Owing.{Owing};
+ghost use Rattle.server_verdicts.specs.Views.{change_of, verdict_of};
+ghost use Rattle.session_bind.specs.Shown.{ShowsSessions};
+
+use crate::change::change_records;
+use crate::create::create_records;
+use crate::lock::{granted_records, lock_records};
+use crate::records::{no_record, origin_of};
+use command_values::Message;
+use file_store::Tree;
+use journal_records::Records;
+use open_table::Opens;
+use server_leaving::{Leaving, end_in, leave_in};
+use server_verdicts::{Change, Verdict};
+use session_bind::Sessions;
+use std::alloc::{AllocError, Global};
+
+/// The records of a verdict on a message.
+pub fn owed(
+    alloc: Global,
+    opens: &Opens,
+    tree: &Tree,
+    sessions: &Sessions,
+    m: &Message<'_>,
+    verdict: &Verdict,
+    now: u64,
+) -> Result<Records, AllocError>
+    ensures { (s : Server) → Fits s → ShowsOpens opens.now s → ShowsFiles tree.now s → ShowsSessions sessions.now s
+        → Owing s (message_of m.now) (verdict_of (command_of m.now.command) verdict.now)
+        → IfOk result (λ rs. records_of rs ≡ (apply s (message_of m.now) now (verdict_of (command_of m.now.command) verdict.now)).records) }
+{
+    match verdict {
+        Verdict::Make { found, action } => {
+            create_records(alloc, opens, tree, sessions, m, *found, *action, now)
+        }
+        Verdict::KeepSlot {
+            id,
+            index,
+            number,
+            status,
+        } => lock_records(alloc, opens, m, *id, *index, *number, *status),
+        Verdict::PutRanges {
+            id,
+            index,
+            number,
+            ..
+        } => granted_records(alloc, opens, m, *id, *index, *number),
+        Verdict::Alter { id, change, .. } => altered_records(alloc, opens, m, *id, change, now),
+        Verdict::CloseOpen { id, .. } => leaving_records(alloc, opens, tree, m, *id),
+        Verdict::Begin {
+            previous,
+            quiet,
+            ..
+        } => end_if_named(alloc, opens, tree, m, *previous, *quiet),
+        Verdict::EndSession { session, quiet } => {
+            end_records(alloc, opens, tree, m, *session, *quiet)
+        }
+        _ => Ok(no_record(alloc)),
+    }
+}
+
+// The records of a change of an open's file.
+fn altered_records(
+    alloc: Global,
+    opens: &Opens,
+    m: &Message<'_>,
+    id: u64,
+    change: &Change,
+    now: u64,
+) -> Result<Records, AllocError>
+    ensures { (s : Server) → ShowsOpens opens.now s → s.standing id ≡ true
+        → IfOk result (λ rs. records_of rs
+        ≡ change_records (message_of m.now) (file_of s id) now (change_of (command_of m.now.command) change.now)) }
+{
+    let file = opens.file_of(id);
+    change_records(alloc, m, file, change, now)
+}
+
+// The records of one open that leaves.
+fn leaving_records(
+    alloc: Global,
+    opens: &Opens,
+    tree: &Tree,
+    m: &Message<'_>,
+    id: u64,
+) -> Result<Records, AllocError>
+    ensures { (s : Server) → Fits s → ShowsOpens opens.now s → ShowsFiles tree.now s → s.standing id ≡ true
+        → IfOk result (λ rs. records_of rs ≡ leave_records s (origin_of (message_of m.now)) id) }
+{
+    let origin = origin_of(m);
+    let mut records = Records::new(alloc);
+    let mut leaving = Leaving::new(alloc);
+    leave_in(opens, tree, &mut leaving, &mut records, origin, id)?;
+    Ok(records)
+}
+
+// The records of a session that ends, where one is named and its records fit.
+fn end_if_named(
+    alloc: Global,
+    opens: &Opens,
+    tree: &Tree,
+    m: &Message<'_>,
+    session: Option<u64>,
+    quiet: bool,
+) -> Result<Records, AllocError>
+    ensures { (s : Server) → Fits s → ShowsOpens opens.now s → ShowsFiles tree.now s
+        → IfOk result (λ rs. records_of rs ≡ records_if_named s (origin_of (message_of m.now)) session quiet) }
+{
+    match session {
+        Some(session) => end_records(alloc, opens, tree, m, session, quiet),
+        None => Ok(no_record(alloc)),
+    }
+}
+
+fn end_records(
+    alloc: Global,
+    opens: &Opens,
+    tree: &Tree,
+    m: &Message<'_>,
+    session: u64,
+    quiet: bool,
+) -> Result<Records, AllocError>
+    ensures { (s : Server) → Fits s → ShowsOpens opens.now s → ShowsFiles tree.now s
+        → IfOk result (λ rs. records_of rs ≡ end_records s (origin_of (message_of m.now)) session quiet) }
+{
+    if quiet {
+        return Ok(no_record(alloc));
+    }
+    let origin = origin_of(m);
+    let mut records = Records::new(alloc);
+    let mut leaving = Leaving::new(alloc);
+    end_in(opens, tree, &mut leaving, &mut records, origin, session)?;
+    Ok(records)
+}

@@ -1,0 +1,2 @@
+mod Quiet
+mod Ruled

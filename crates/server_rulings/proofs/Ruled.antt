@@ -1,0 +1,98 @@
+-- What an event comes to, by its kind.
+use Rattle.std.proofs.Common.{◌≡◌, ◌≤◌, ◌<◌, ℕ, nat_le, Bool, true, false, if◌then◌else◌, length, Option, refl, sym, ap, subst, arith, ◌∙◌}
+use Rattle.std.proofs.lemmas.Bool.Decides.{nat_tests}
+use Rattle.command_values.specs.Meaning.{command_of, message_of}
+use Rattle.command_values.specs.declared.request.Message.{Message}
+use Rattle.exchange_defs.specs.Check.{check}
+use Rattle.exchange_defs.specs.State as says
+use Rattle.exchange_defs.specs.State.{Accept, End, Heard, Server, ServerEvent, Stop}
+use Rattle.exchange_defs.specs.Step as steps
+use Rattle.exchange_defs.specs.Step.{max_connections, ruling, ruling_without_room, without_room}
+use Rattle.server_asked.specs.Heard.{event_of}
+use Rattle.server_asked.specs.declared.asked.Asked.{Asked}
+use Rattle.server_asked.specs.declared.asked.Asked.TheVariants as askings
+use Rattle.server_asked.specs.declared.asked.LogonPart.{LogonPart}
+use Rattle.server_effects.specs.Able.{Able}
+use Rattle.server_law.specs.Fits.{Fits}
+use Rattle.server_rulings.specs.Rulings.{AbleToRule, is_said, ruling_of}
+use Rattle.server_rulings.specs.declared.ruling.Ruling.{Ruling}
+use Rattle.server_rulings.specs.declared.ruling.Ruling.TheVariants as rulings
+use Rattle.server_verdicts.specs.Views.{verdict_of}
+use Rattle.server_verdicts.specs.declared.verdict.Verdict.{Verdict}
+
+pub said_ruled : (s : Server) (a : Asked) (m : Message) (l : Option LogonPart) (v : Verdict) → a ≡ askings.Says m l
+    → verdict_of (command_of m.command) v ≡ check s (message_of m) → ruling_of (event_of a) (rulings.Says v) ≡ ruling s (event_of a)
+said_ruled s a m l v e h =
+    subst (λ (b : Asked). ruling_of (event_of b) (rulings.Says v) ≡ ruling s (event_of b)) (sym e) (ap (steps.Says (message_of m)) h)
+
+pub is_heard : (a : Asked) (m : Message) (l : Option LogonPart) → a ≡ askings.Says m l → is_said a ≡ false → ⊥
+is_heard a m l e n = let k : is_said a ≡ true = ap is_said e in cc
+
+pub accept_ruled : (s : Server) (a : Asked) (k : ℕ) (r : Ruling) → a ≡ askings.Accept k → ruling_of (Accept k) r ≡ ruling s (Accept k)
+    → ruling_of (event_of a) r ≡ ruling s (event_of a)
+accept_ruled s a k r e h = subst (λ (b : Asked). ruling_of (event_of b) r ≡ ruling s (event_of b)) (sym e) h
+
+pub end_ruled : (s : Server) (a : Asked) (k : ℕ) → a ≡ askings.End k → ruling_of (event_of a) (rulings.TakesOut k false) ≡ ruling s (event_of a)
+end_ruled s a k e = subst (λ (b : Asked). ruling_of (event_of b) (rulings.TakesOut k false) ≡ ruling s (event_of b)) (sym e) refl
+
+pub stop_ruled : (s : Server) (a : Asked) → a ≡ askings.Stop → ruling_of (event_of a) (rulings.TakesAllOut false) ≡ ruling s (event_of a)
+stop_ruled s a e = subst (λ (b : Asked). ruling_of (event_of b) (rulings.TakesAllOut false) ≡ ruling s (event_of b)) (sym e) refl
+
+pub turned_away : (s : Server) (k : ℕ) → 256 ≤ length s.connections → steps.TurnsAway ≡ ruling s (Accept k)
+turned_away s k h = by (nat_le max_connections (length s.connections)) (grind (arith, nat_tests))
+  where
+    by : (b : Bool) → b ≡ true → steps.TurnsAway ≡ (if b then steps.TurnsAway else steps.TakesIn k)
+    by true e = refl
+    by false e = absurd (cc)
+
+pub taken_in : (s : Server) (k : ℕ) → length s.connections < 256 → steps.TakesIn k ≡ ruling s (Accept k)
+taken_in s k h = by (nat_le max_connections (length s.connections)) (grind (arith, nat_tests))
+  where
+    by : (b : Bool) → b ≡ false → steps.TakesIn k ≡ (if b then steps.TurnsAway else steps.TakesIn k)
+    by true e = absurd (cc)
+    by false e = refl
+
+pub said_without : (a : Asked) (m : Message) (l : Option LogonPart) (v w : Verdict) → a ≡ askings.Says m l
+    → verdict_of (command_of m.command) w ≡ without_room (verdict_of (command_of m.command) v)
+    → ruling_of (event_of a) (rulings.Says w) ≡ ruling_without_room (ruling_of (event_of a) (rulings.Says v))
+said_without a m l v w e h =
+    subst (λ (b : Asked). ruling_of (event_of b) (rulings.Says w) ≡ ruling_without_room (ruling_of (event_of b) (rulings.Says v))) (sym e)
+    (ap (steps.Says (message_of m)) h)
+
+-- of an event that is no message a verdict is none
+pub unsaid_without : (a : Asked) (v : Verdict) → is_said a ≡ false
+    → ruling_of (event_of a) (rulings.Says v) ≡ ruling_without_room (ruling_of (event_of a) (rulings.Says v))
+unsaid_without (askings.Accept k) v h = refl
+unsaid_without (askings.Says m l) v h = absurd (cc)
+unsaid_without (askings.End k) v h = refl
+unsaid_without askings.Stop v h = refl
+
+pub other : (a : Asked) → ((m : Message) (l : Option LogonPart) → a ≡ askings.Says m l → ⊥) → is_said a ≡ false
+other (askings.Accept k) h = refl
+other (askings.Says m l) h = absurd (h m l refl)
+other (askings.End k) h = refl
+other askings.Stop h = refl
+
+-- ---- what can be carried out
+
+pub able : ((s : Server) (m : says.Message) → Fits s → Able s m (check s m)) → (s : Server) (e : ServerEvent) → Fits s
+    → AbleToRule s (ruling s e)
+able law s (Heard m) f = law s m f
+able law s (Accept k) f = by (nat_le max_connections (length s.connections))
+  where
+    by : (b : Bool) → AbleToRule s (if b then steps.TurnsAway else steps.TakesIn k)
+    by true = tt
+    by false = tt
+able law s (End k) f = tt
+able law s Stop f = tt
+
+pub able_lesser : ((s : Server) (m : says.Message) → Fits s → Able s m (without_room (check s m))) → (s : Server) (e : ServerEvent) → Fits s
+    → AbleToRule s (ruling_without_room (ruling s e))
+able_lesser law s (Heard m) f = law s m f
+able_lesser law s (Accept k) f = by (nat_le max_connections (length s.connections))
+  where
+    by : (b : Bool) → AbleToRule s (ruling_without_room (if b then steps.TurnsAway else steps.TakesIn k))
+    by true = tt
+    by false = tt
+able_lesser law s (End k) f = tt
+able_lesser law s Stop f = tt

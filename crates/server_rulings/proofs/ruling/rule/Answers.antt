@@ -1,0 +1,19 @@
+use Rattle.server_rulings.proofs.Ruled.{accept_ruled, end_ruled, is_heard, said_ruled, stop_ruled}
+use Rattle.server_rulings.proofs.ruling.rule.Goals as goal
+
+pub returns-in-Ok-clause-ruled : goal.returns-in-Ok-clause-ruled
+returns-in-Ok-clause-ruled c = λ s f h. said_ruled s c.args.asked.now _ _ c.in-Ok.verdict c.in-Says.is
+    (c.in-Ok.ensures.verdict s f h)
+
+pub returns-in-Err-clause-sure : goal.returns-in-Err-clause-sure
+returns-in-Err-clause-sure c = λ n. absurd (is_heard c.args.asked.now _ _ c.in-Says.is n)
+
+pub returns-in-Accept-clause-ruled : goal.returns-in-Accept-clause-ruled
+returns-in-Accept-clause-ruled c = λ s f h. accept_ruled s c.args.asked.now _ c.on_accept.result c.in-Accept.is
+    (c.on_accept.ensures s h)
+
+pub returns-in-End-clause-ruled : goal.returns-in-End-clause-ruled
+returns-in-End-clause-ruled c = λ s f h. end_ruled s c.args.asked.now _ c.in-End.is
+
+pub returns-in-Stop-clause-ruled : goal.returns-in-Stop-clause-ruled
+returns-in-Stop-clause-ruled c = λ s f h. stop_ruled s c.args.asked.now c.in-Stop.is

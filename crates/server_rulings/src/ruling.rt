@@ -1,0 +1,106 @@
+//! What an event comes to, before anything changes.
+ghost use Rattle.std.specs.Prelude.{◌≡◌, IfOk, IsOk, false};
+ghost use Rattle.exchange_defs.specs.Records.{origin_at};
+ghost use Rattle.exchange_defs.specs.State.{Accept, Server, ServerEvent};
+ghost use Rattle.exchange_defs.specs.Step.{ruling, ruling_without_room};
+ghost use Rattle.server_asked.specs.Heard.{event_of};
+ghost use Rattle.server_checks.specs.Shown.{TablesShown};
+ghost use Rattle.server_rulings.specs.Rulings.{AbleToRule, is_said, ruling_of};
+ghost use Rattle.server_rulings.specs.declared.ruling.Ruling.TheVariants.{Says};
+ghost use Rattle.server_law.specs.Fits.{Fits};
+
+use journal_records::Origin;
+use server_asked::Asked;
+use server_checks::Tables;
+use server_effects::able_law;
+use server_verdicts::{Verdict, without_room};
+use std::alloc::AllocError;
+
+const MAX_CONNECTIONS: usize = 256;
+
+/// The verdict on a message, or what becomes of connections. Quiet: files stay as they are, since no record fits.
+#[derive(Drop)]
+pub enum Ruling {
+    Says { verdict: Verdict },
+    TakesIn { connection: u32 },
+    TurnsAway,
+    TakesOut { connection: u32, quiet: bool },
+    TakesAllOut { quiet: bool },
+}
+
+/// What an event comes to, and that it can be carried out. Memory runs out at a message alone.
+pub fn rule(t: &Tables, asked: &Asked<'_>) -> Result<Ruling, AllocError>
+    ensures ruled { (s : Server) → Fits s → TablesShown t.now s
+        → IfOk result (λ r. ruling_of (event_of asked.now) r ≡ ruling s (event_of asked.now)) }
+    ensures sure { is_said asked.now ≡ false → IsOk result }
+{
+    match asked {
+        Asked::Says { message, .. } => match t.check(message) {
+            Ok(verdict) => Ok(Ruling::Says { verdict }),
+            Err(error) => Err(error),
+        },
+        Asked::Accept { connection } => Ok(on_accept(t, *connection)),
+        Asked::End { connection } => Ok(Ruling::TakesOut {
+            connection: *connection,
+            quiet: false,
+        }),
+        Asked::Stop => Ok(Ruling::TakesAllOut { quiet: false }),
+    }
+}
+
+fn on_accept(t: &Tables, connection: u32) -> Ruling
+    ensures { (s : Server) → TablesShown t.now s → ruling_of (Accept connection) result ≡ ruling s (Accept connection) }
+{
+    if t.sessions.connections().len() >= MAX_CONNECTIONS {
+        return Ruling::TurnsAway;
+    }
+    Ruling::TakesIn { connection }
+}
+
+/// What stands in its place where its records don't fit.
+pub fn without_records(asked: &Asked<'_>, ruling: Ruling) -> Ruling
+    ensures { ruling_of (event_of asked.now) result ≡ ruling_without_room (ruling_of (event_of asked.now) ruling) }
+{
+    match ruling {
+        Ruling::Says { verdict } => verdict_without_records(asked, verdict),
+        Ruling::TakesIn { connection } => Ruling::TakesIn { connection },
+        Ruling::TurnsAway => Ruling::TurnsAway,
+        Ruling::TakesOut { connection, .. } => Ruling::TakesOut {
+            connection,
+            quiet: true,
+        },
+        Ruling::TakesAllOut { .. } => Ruling::TakesAllOut { quiet: true },
+    }
+}
+
+fn verdict_without_records(asked: &Asked<'_>, verdict: Verdict) -> Ruling
+    ensures { ruling_of (event_of asked.now) result
+        ≡ ruling_without_room (ruling_of (event_of asked.now) (Says verdict)) }
+{
+    match asked {
+        Asked::Says { message, .. } => Ruling::Says {
+            verdict: without_room(message, verdict),
+        },
+        _ => Ruling::Says { verdict },
+    }
+}
+
+/// Where a record comes from that no message caused, on a connection or 0.
+pub fn at_connection(connection: u32) -> Origin
+    ensures { result ≡ origin_at connection }
+{
+    Origin {
+        session: 0,
+        connection,
+        message: 0,
+    }
+}
+
+/// What an event comes to can be carried out in a state that fits, and so can what stands in its place where its records find
+/// no room.
+pub fn ruling_law()
+    ensures able { (s : Server) (e : ServerEvent) → Fits s → AbleToRule s (ruling s e) }
+    ensures lesser { (s : Server) (e : ServerEvent) → Fits s → AbleToRule s (ruling_without_room (ruling s e)) }
+{
+    able_law();
+}
