@@ -1,0 +1,4 @@
+mod Checks
+mod Opens
+mod Records
+mod Expired
