@@ -1,0 +1,34 @@
+//! What a restart finds of the server that ran before: the records that it had written down, and so its files and its opens that
+//! outlive a session.
+//!
+//! The law is a public function with an empty body but for the laws that it rests on; its contract is the statement.
+#![tactic(auto)]
+
+ghost use Rattle.std.specs.Prelude.{◌≡◌, ℕ, List, true};
+ghost use Rattle.exchange_defs.specs.Fold.{Configuration, recovered};
+ghost use Rattle.exchange_defs.specs.State as model;
+ghost use Rattle.journal_defs.specs.Grammar.{StandsFor};
+ghost use Rattle.recovery_law.specs.Recovers.{Recovers};
+ghost use Rattle.recovery_law.specs.Restarted.{EntriesLeft, Restarted};
+ghost use Rattle.server_law.specs.Fits.{Fits, all_sound};
+ghost use Rattle.server_recovery.specs.Reading.{BodiesSpell};
+ghost use Rattle.server_restart.specs.Restart.{IsSoundDisk};
+
+use persist_journal::one_meaning;
+
+/// Bytes whose bodies spell records that make no open which deletes the root on close are such as a restart asks for (`sound`),
+/// and stand for no other records (`same`). A server of whose state the records are told by their fold stands, behind a restart,
+/// where it stood (`stands`): its persistent opens with all that is theirs, in a new epoch of ids, without a session; and each file at
+/// its path, but for delete pending ones that no such open has (`entries`).
+pub fn restart_law()
+    ensures sound { (bytes : List ℕ) (bodies : List (List ℕ)) (records : List model.Record) → StandsFor bytes bodies
+        → BodiesSpell bodies records → all_sound records ≡ true → IsSoundDisk bytes }
+    ensures same { (bytes : List ℕ) (bodies others : List (List ℕ)) (records more : List model.Record) → StandsFor bytes bodies
+        → BodiesSpell bodies records → StandsFor bytes others → BodiesSpell others more → records ≡ more }
+    ensures stands { (s : model.Server) (records : List model.Record) (z : Configuration) (count : ℕ) → Recovers records s
+        → Restarted s (recovered z count records) }
+    ensures entries { (s : model.Server) (records : List model.Record) (z : Configuration) (count : ℕ) → Fits s → Recovers records s
+        → EntriesLeft s (recovered z count records) }
+{
+    one_meaning();
+}

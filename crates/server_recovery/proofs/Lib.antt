@@ -1,0 +1,5 @@
+pub mod Nothing
+pub mod Calls
+pub mod Bodies
+pub mod SoFar
+pub mod Openings

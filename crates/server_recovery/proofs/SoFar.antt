@@ -1,0 +1,313 @@
+-- How far the bodies of a journal were folded.
+use Rattle.std.proofs.Common.{◌≡◌, ℕ, ◌+◌, ◌-◌, ◌<◌, List, [], ◌∷◌, ◌++◌, length, drop, slice_get, Option, Some, None}
+use Rattle.std.proofs.Common.{refl, sym, ap, subst, ◌∙◌, append_assoc, length-append, arith}
+use Rattle.std.proofs.Math.Seq.{get_or-append_seam}
+use Rattle.std.proofs.lemmas.List.{append-nil, take_at}
+use Rattle.std.proofs.lemmas.Option.{slice_get_read}
+use Rattle.std.specs.Prelude.{Result, Ok, Err, IfOk, IfErr, MatchResult}
+use Rattle.exchange_defs.specs.Fold.{nothing_yet, fold_from}
+use Rattle.exchange_defs.specs.State as model
+use Rattle.exchange_defs.specs.State.{Server}
+use Rattle.journal_defs.specs.Grammar.{front}
+use Rattle.journal_defs.specs.Moments.{Quiet}
+use Rattle.journal_records.specs.declared.fault.RecordError.{RecordError}
+use Rattle.journal_records.specs.declared.fault.RecordError.TheVariants as faulty
+use Rattle.persist_journal.specs.Gather.{Gathered}
+use Rattle.persist_journal.specs.Journal.{JournalState, Settled, HandsOut, NextAnswers, capped}
+use Rattle.persist_journal.specs.declared.journal.JournalError.{JournalError}
+use Rattle.persist_journal.specs.declared.journal.JournalError.TheVariants.{Memory, DiskFault, NotAJournal, Full, Stopped}
+use Rattle.server_recovery.proofs.Calls.{gate_more, quiet_begun, quiet_behind}
+use Rattle.smb_io.specs.Faults.{Rose}
+use Rattle.server_law.specs.Fits.{Fits}
+use Rattle.server_fold.specs.Durable.{DurableShown, Applied}
+use Rattle.server_fold.specs.declared.durable.Durable.{Durable}
+use Rattle.server_recovery.specs.Reading.{BodiesSpell, IsReadFrom, HandedOut, IsBehind, FoldRefused, BodyCause, BodyRefused}
+use Rattle.server_recovery.specs.Reading.{ReadRefused, cause_of}
+use Rattle.server_recovery.proofs.Nothing.{nothing_fits}
+use Rattle.server_recovery.proofs.Bodies.{sound_so_far, sound_less, read_on}
+
+-- these bodies were read of a journal, which was old and is now, and folded from a state that had begun to d
+pub record FoldedSoFar {D : Type 0} (told : Type 0) (seen : D → List ℕ) (may_leave : D → List ℕ → Type 0) (moment : D → ℕ)
+    (left_since : D → ℕ → List ℕ → Type 0) (faults : D → ℕ) (old : JournalState D) (begun : Durable) (now : JournalState D)
+    (d : Durable) (gate : ℕ) : Type 0
+  where
+    pub bodies : List (List ℕ)
+    pub gathered : Gathered told seen may_leave moment left_since faults old now bodies
+    pub gate_is : gate ≡ capped (length (front bodies))
+    pub read : DurableShown begun nothing_yet → (records : List model.Record) × IsReadFrom d nothing_yet bodies records
+
+-- ---- one body
+
+none_read : (d : Durable) → DurableShown d nothing_yet → (records : List model.Record) × IsReadFrom d nothing_yet [] records
+unfolding fold_from
+none_read d h = ([], record { spelled = λ sound. refl; shown = λ s. h; fits = λ s. nothing_fits })
+
+-- what comes of one that isn't applied
+pub refused_of : (e : Durable) (s : Server) (body : List ℕ) (gate : ℕ) (error : RecordError) (x : JournalError)
+    → x ≡ cause_of error gate → Applied e s body (Err error) → BodyRefused s body x
+refused_of e s body gate error x is a = subst (λ (y : JournalError). BodyRefused s body y) (sym is) (by error a)
+  where
+    by : (f : RecordError) → Applied e s body (Err f) → BodyRefused s body (cause_of f gate)
+    by faulty.Memory b = tt
+    by (faulty.BadRecord place) b = (place, b.0)
+
+pub caused_of : (gate : ℕ) (error : RecordError) (x : JournalError) → x ≡ cause_of error gate → BodyCause gate x
+caused_of gate error x is = subst (λ (y : JournalError). BodyCause gate y) (sym is) (by error)
+  where
+    by : (f : RecordError) → BodyCause gate (cause_of f gate)
+    by faulty.Memory = tt
+    by (faulty.BadRecord place) = refl
+
+-- the same of bytes that are the body
+pub applied_to : (e : Durable) (s : Server) (m body : List ℕ) → m ≡ body → Applied e s m (Ok tt) → Applied e s body (Ok tt)
+applied_to e s m body is a = subst (λ (b : List ℕ). Applied e s b (Ok tt)) is a
+
+pub failed_on : (e : Durable) (s : Server) (m body : List ℕ) (error : RecordError) → m ≡ body → Applied e s m (Err error)
+    → Applied e s body (Err error)
+failed_on e s m body error is a = subst (λ (b : List ℕ). Applied e s b (Err error)) is a
+
+-- ---- the body that stands behind others
+
+body_at : (bodies : List (List ℕ)) (body : List ℕ) (more : List (List ℕ)) → slice_get (bodies ++ body ∷ more) (length bodies) ≡ Some body
+body_at bodies body more =
+    let long = length-append bodies (body ∷ more) in
+    slice_get_read (bodies ++ body ∷ more) (length (bodies ++ body ∷ more)) (length bodies) body refl (omega (arith, long))
+    (sym (get_or-append_seam bodies body more body))
+
+refused_at : (d : Durable) (bodies : List (List ℕ)) (body : List ℕ) (more : List (List ℕ)) (rs : List model.Record) (at : ℕ)
+    → at ≡ capped (length (front bodies)) → IsReadFrom d nothing_yet bodies rs
+    → ((u : Server) → Fits u → DurableShown d u → BodyRefused u body (NotAJournal at))
+    → FoldRefused (bodies ++ body ∷ more) (NotAJournal at)
+refused_at d bodies body more rs at is was refused = λ sound.
+    let spelled = was.spelled (sound_less bodies (body ∷ more) sound) in
+    let ok = sound_so_far bodies (body ∷ more) rs sound spelled in
+    let broken = refused (fold_from nothing_yet rs) (was.fits ok) (was.shown ok) in
+    let front_is = sym (take_at bodies (body ∷ more) (length bodies) refl) in (
+      length bodies,
+      body,
+      rs,
+      broken.0,
+      body_at bodies body more,
+      is ∙ ap (λ (v : List (List ℕ)). capped (length (front v))) front_is,
+      subst (λ (v : List (List ℕ)). BodiesSpell v rs) front_is spelled,
+      broken.1,
+    )
+
+none_not : (n : ℕ) → None ≡ Some n → ⊥
+none_not n e = cc
+
+some_of : (r : Result (Option (List ℕ)) JournalError) (o p : Option (List ℕ)) → r ≡ Ok o → o ≡ p → r ≡ Ok p
+some_of r o p is same = subst (λ (x : Option (List ℕ)). r ≡ Ok x) same is
+
+-- ---- the whole journal
+
+module _ {D : Type 0} (told : Type 0) (seen : D → List ℕ) (may_leave : D → List ℕ → Type 0) (moment : D → ℕ)
+    (left_since : D → ℕ → List ℕ → Type 0) (faults : D → ℕ) where
+  abbrev SoFar : JournalState D → Durable → JournalState D → Durable → ℕ → Type 0
+  SoFar old begun now d gate = FoldedSoFar told seen may_leave moment left_since faults old begun now d gate
+
+  -- what the next call hands out
+  abbrev Hands : JournalState D → Result (Option (List ℕ)) JournalError → JournalState D → Type 0
+  Hands now r new = told → (bodies : List (List ℕ)) → Settled seen may_leave now bodies → HandsOut seen may_leave now bodies r new
+
+  pub so_far_begun : ((disk : D) (c : List ℕ) → left_since disk (moment disk) c → may_leave disk c)
+      → (old : JournalState D) (begun : Durable)
+      → SoFar old begun old begun 8
+  so_far_begun only_now old begun = record {
+    bodies = [];
+    gathered = record {
+      same = λ t bs s. s;
+      front = λ t bs s. refl;
+      quiet = quiet_begun told seen may_leave moment left_since only_now old.disk;
+      advances = (refl, refl);
+    };
+    gate_is = refl;
+    read = λ h. none_read begun h;
+  }
+
+  advanced : (old now new : JournalState D) (t n : ℕ) → now ≡ record old { disk = now.disk; taken = now.taken; next = now.next }
+      → new ≡ record now { disk = new.disk; taken = t; next = n }
+      → new ≡ record old { disk = new.disk; taken = new.taken; next = new.next }
+  advanced old now new t n a b =
+      ap (λ (j : JournalState D). record j { disk = new.disk; taken = new.taken; next = new.next }) b
+      ∙ ap (λ (j : JournalState D). record j { disk = new.disk; taken = new.taken; next = new.next }) a
+
+  pub nearer : (now new : JournalState D) (body : List ℕ) (o : Option (List ℕ)) (r : Result (Option (List ℕ)) JournalError)
+      → r ≡ Ok o → o ≡ Some body → NextAnswers faults now r new → new.used - new.next < now.used - now.next
+  nearer now new body o r is some k =
+      let one : NextAnswers faults now (Ok (Some body)) new =
+      subst (λ (x : Result (Option (List ℕ)) JournalError). NextAnswers faults now x new) (some_of r o (Some body) is some) k in
+      let used : new.used ≡ now.used = ap (λ (j : JournalState D). j.used) one.1 in
+      let next : new.next ≡ now.next + 5 + length body = ap (λ (j : JournalState D). j.next) one.1 in
+      let inside : new.next < new.used = one.2 in
+      omega (arith, used, next, inside)
+
+  pub so_far_more : (old now new : JournalState D) (begun d e : Durable) (gate next : ℕ) (body : List ℕ) (o : Option (List ℕ))
+      (r : Result (Option (List ℕ)) JournalError) (q : Result ℕ JournalError) → SoFar old begun now d gate
+      → r ≡ Ok o → o ≡ Some body → Hands now r new
+      → Quiet told seen may_leave moment left_since now.disk new.disk → NextAnswers faults now r new
+      → q ≡ Ok next → IfOk q (λ n. IsBehind gate body n)
+      → ((u : Server) → Fits u → DurableShown d u → MatchResult q (λ _. Applied e u body (Ok tt)) (λ x. BodyRefused u body x))
+      → SoFar old begun new e next
+  so_far_more old now new begun d e gate next body o r q was is some hands quiet answers done behind apply =
+      let one = some_of r o (Some body) is some in
+      let out : Hands now (Ok (Some body)) new = subst (λ (x : Result (Option (List ℕ)) JournalError). Hands now x new) one hands in
+      let k : NextAnswers faults now (Ok (Some body)) new =
+      subst (λ (x : Result (Option (List ℕ)) JournalError). NextAnswers faults now x new) one answers in
+      let place : IsBehind gate body next = subst (λ (x : Result ℕ JournalError). IfOk x (λ n. IsBehind gate body n)) done behind in
+      record {
+        bodies = was.bodies ++ body ∷ [];
+        gathered = record {
+          same = λ t bs s. (out t bs (was.gathered.same t bs s)).1;
+          front = λ t bs s.
+              let handed = out t bs (was.gathered.same t bs s) in
+              append_assoc was.bodies (body ∷ []) (drop new.taken bs)
+              ∙ (ap (λ (v : List (List ℕ)). was.bodies ++ v) (sym handed.0) ∙ was.gathered.front t bs s);
+          quiet = quiet_behind told seen may_leave moment left_since old.disk now.disk new.disk was.gathered.quiet quiet;
+          advances = (
+            advanced old now new (now.taken + 1) (now.next + 5 + length body) was.gathered.advances.0 k.1,
+            k.3 ∙ was.gathered.advances.1,
+          );
+        };
+        gate_is = place (length (front was.bodies)) was.gate_is ∙ ap (λ (n : ℕ). capped n) (sym (gate_more was.bodies body));
+        read = λ h. let w = was.read h in read_on d e was.bodies w.0 body w.1 (λ u fits shown.
+            subst (λ (x : Result ℕ JournalError). MatchResult x (λ _. Applied e u body (Ok tt)) (λ y. BodyRefused u body y)) done
+            (apply u fits shown));
+      }
+
+  -- ---- all were read
+
+  none_left : (old now new : JournalState D) (begun d : Durable) (gate : ℕ) (o : Option (List ℕ))
+      (r : Result (Option (List ℕ)) JournalError) (was : SoFar old begun now d gate)
+      → r ≡ Ok o → o ≡ None → old.taken ≡ 0 → Hands now r new → HandedOut told seen may_leave old was.bodies
+  none_left old now new begun d gate o r was is end none hands = λ t all settled.
+      let out : Hands now (Ok None) new =
+      subst (λ (x : Result (Option (List ℕ)) JournalError). Hands now x new) (some_of r o None is end) hands in
+      let handed = out t all (was.gathered.same t all settled) in
+      sym (append-nil was.bodies)
+      ∙ (ap (λ (v : List (List ℕ)). was.bodies ++ v) (sym handed.0)
+      ∙ (was.gathered.front t all settled ∙ ap (λ (n : ℕ). drop n all) none))
+
+  pub all_read : (old now new : JournalState D) (begun d : Durable) (gate : ℕ) (o : Option (List ℕ))
+      (r : Result (Option (List ℕ)) JournalError) → SoFar old begun now d gate
+      → r ≡ Ok o → o ≡ None → old.taken ≡ 0 → Hands now r new → (s : Server) → s ≡ nothing_yet → DurableShown begun s
+      → (bodies : List (List ℕ)) × (records : List model.Record) × IsReadFrom d s bodies records
+      × (gate ≡ capped (length (front bodies))) × HandedOut told seen may_leave old bodies
+  all_read old now new begun d gate o r was is end none hands s nothing shown =
+      let w = was.read (subst (λ (u : Server). DurableShown begun u) nothing shown) in (
+        was.bodies,
+        w.0,
+        subst (λ (u : Server). IsReadFrom d u was.bodies w.0) (sym nothing) w.1,
+        was.gate_is,
+        none_left old now new begun d gate o r was is end none hands,
+      )
+
+  pub stays_settled : (old now new : JournalState D) (begun d : Durable) (gate : ℕ) (o : Option (List ℕ))
+      (r : Result (Option (List ℕ)) JournalError) → SoFar old begun now d gate
+      → r ≡ Ok o → o ≡ None → Hands now r new → told → (bodies : List (List ℕ)) → Settled seen may_leave old bodies
+      → Settled seen may_leave new bodies
+  stays_settled old now new begun d gate o r was is end hands = λ t bodies settled.
+      let out : Hands now (Ok None) new =
+      subst (λ (x : Result (Option (List ℕ)) JournalError). Hands now x new) (some_of r o None is end) hands in
+      (out t bodies (was.gathered.same t bodies settled)).1
+
+  pub reads_on : (old now new : JournalState D) (begun d : Durable) (gate : ℕ) (o : Option (List ℕ))
+      (r : Result (Option (List ℕ)) JournalError) → SoFar old begun now d gate
+      → r ≡ Ok o → o ≡ None → NextAnswers faults now r new → (new.stopped ≡ None) × (faults new.disk ≡ faults old.disk)
+  reads_on old now new begun d gate o r was is end answers =
+      let one : NextAnswers faults now (Ok None) new =
+      subst (λ (x : Result (Option (List ℕ)) JournalError). NextAnswers faults now x new) (some_of r o None is end) answers in (
+        ap (λ (j : JournalState D). j.stopped) one.2 ∙ one.0,
+        ap (λ (j : JournalState D). faults j.disk) one.2 ∙ was.gathered.advances.1,
+      )
+
+  pub stays_quiet : (old now new : JournalState D) (begun d : Durable) (gate : ℕ) → SoFar old begun now d gate
+      → Quiet told seen may_leave moment left_since now.disk new.disk → Quiet told seen may_leave moment left_since old.disk new.disk
+  stays_quiet old now new begun d gate was quiet =
+      quiet_behind told seen may_leave moment left_since old.disk now.disk new.disk was.gathered.quiet quiet
+
+  -- ---- a call was refused
+
+  by_hands : (now new : JournalState D) (bodies : List (List ℕ)) (x : JournalError) → HandsOut seen may_leave now bodies (Err x) new
+      → FoldRefused bodies x
+  by_hands now new bodies Memory h = tt
+  by_hands now new bodies (DiskFault n) h = tt
+  by_hands now new bodies (NotAJournal at) h = absurd h
+  by_hands now new bodies (Full would limit) h = tt
+  by_hands now new bodies (Stopped n) h = tt
+
+  pub unread : (old now new : JournalState D) (begun d : Durable) (gate : ℕ) (r : Result (Option (List ℕ)) JournalError) (x : JournalError)
+      → SoFar old begun now d gate → r ≡ Err x → Hands now r new → told → (bodies : List (List ℕ))
+      → Settled seen may_leave old bodies → FoldRefused bodies x
+  unread old now new begun d gate r x was is hands t bodies settled =
+      by_hands now new bodies x (subst (λ (y : Result (Option (List ℕ)) JournalError). HandsOut seen may_leave now bodies y new) is
+      (hands t bodies (was.gathered.same t bodies settled)))
+
+  by_answers : (old now new : JournalState D) (begun d : Durable) (gate : ℕ) (x : JournalError) → SoFar old begun now d gate
+      → old.stopped ≡ None → NextAnswers faults now (Err x) new → ReadRefused faults old.disk x new
+  by_answers old now new begun d gate Memory was on k = tt
+  by_answers old now new begun d gate (DiskFault n) was on k =
+      (subst (λ (m : ℕ). Rose m n) was.gathered.advances.1 k.0.1, k.0.2)
+  by_answers old now new begun d gate (NotAJournal at) was on k = tt
+  by_answers old now new begun d gate (Full would limit) was on k = k
+  by_answers old now new begun d gate (Stopped n) was on k =
+      let goes_on : now.stopped ≡ None = ap (λ (j : JournalState D). j.stopped) was.gathered.advances.0 ∙ on in
+      let halted : now.stopped ≡ Some n = k.0 in
+      none_not n (sym goes_on ∙ halted)
+
+  pub unread_cause : (old now new : JournalState D) (begun d : Durable) (gate : ℕ) (r : Result (Option (List ℕ)) JournalError)
+      (x : JournalError) → SoFar old begun now d gate → r ≡ Err x → old.stopped ≡ None → NextAnswers faults now r new
+      → ReadRefused faults old.disk x new
+  unread_cause old now new begun d gate r x was is on k =
+      by_answers old now new begun d gate x was on
+      (subst (λ (y : Result (Option (List ℕ)) JournalError). NextAnswers faults now y new) is k)
+
+  -- ---- a body was refused
+
+  by_cause : (old new : JournalState D) (gate : ℕ) (x : JournalError) → BodyCause gate x → ReadRefused faults old.disk x new
+  by_cause old new gate Memory h = tt
+  by_cause old new gate (DiskFault n) h = absurd h
+  by_cause old new gate (NotAJournal at) h = tt
+  by_cause old new gate (Full would limit) h = h
+  by_cause old new gate (Stopped n) h = h
+
+  pub unfolded_cause : (old new : JournalState D) (gate : ℕ) (q : Result ℕ JournalError) (x : JournalError) → q ≡ Err x
+      → IfErr q (λ y. BodyCause gate y) → ReadRefused faults old.disk x new
+  unfolded_cause old new gate q x is h =
+      by_cause old new gate x (subst (λ (z : Result ℕ JournalError). IfErr z (λ y. BodyCause gate y)) is h)
+
+  broken_at : (old now new : JournalState D) (begun d : Durable) (gate : ℕ) (body : List ℕ) (at : ℕ) → SoFar old begun now d gate
+      → old.taken ≡ 0 → Hands now (Ok (Some body)) new → at ≡ gate
+      → ((u : Server) → Fits u → DurableShown d u → BodyRefused u body (NotAJournal at)) → told → DurableShown begun nothing_yet
+      → (bodies : List (List ℕ)) → Settled seen may_leave old bodies → FoldRefused bodies (NotAJournal at)
+  broken_at old now new begun d gate body at was none out place refused t shown bodies settled =
+      let handed = out t bodies (was.gathered.same t bodies settled) in
+      let whole : was.bodies ++ body ∷ drop new.taken bodies ≡ bodies = ap (λ (v : List (List ℕ)). was.bodies ++ v) (sym handed.0)
+      ∙ (was.gathered.front t bodies settled ∙ ap (λ (n : ℕ). drop n bodies) none) in
+      let w = was.read shown in
+      subst (λ (v : List (List ℕ)). FoldRefused v (NotAJournal at)) whole
+      (refused_at d was.bodies body (drop new.taken bodies) w.0 at (place ∙ was.gate_is) w.1 refused)
+
+  by_body : (old now new : JournalState D) (begun d : Durable) (gate : ℕ) (body : List ℕ) (x : JournalError) → SoFar old begun now d gate
+      → old.taken ≡ 0 → Hands now (Ok (Some body)) new → BodyCause gate x
+      → ((u : Server) → Fits u → DurableShown d u → BodyRefused u body x) → told → DurableShown begun nothing_yet
+      → (bodies : List (List ℕ)) → Settled seen may_leave old bodies → FoldRefused bodies x
+  by_body old now new begun d gate body Memory was none out cause refused t shown bodies settled = tt
+  by_body old now new begun d gate body (DiskFault n) was none out cause refused t shown bodies settled = tt
+  by_body old now new begun d gate body (NotAJournal at) was none out cause refused t shown bodies settled =
+      broken_at old now new begun d gate body at was none out cause refused t shown bodies settled
+  by_body old now new begun d gate body (Full would limit) was none out cause refused t shown bodies settled = tt
+  by_body old now new begun d gate body (Stopped n) was none out cause refused t shown bodies settled = tt
+
+  pub unfolded : (old now new : JournalState D) (begun d e : Durable) (gate : ℕ) (body : List ℕ) (o : Option (List ℕ))
+      (r : Result (Option (List ℕ)) JournalError) (q : Result ℕ JournalError) (x : JournalError) → SoFar old begun now d gate
+      → r ≡ Ok o → o ≡ Some body → old.taken ≡ 0 → Hands now r new → q ≡ Err x → IfErr q (λ y. BodyCause gate y)
+      → ((u : Server) → Fits u → DurableShown d u → MatchResult q (λ _. Applied e u body (Ok tt)) (λ y. BodyRefused u body y))
+      → told → (s : Server) → s ≡ nothing_yet → DurableShown begun s → (bodies : List (List ℕ)) → Settled seen may_leave old bodies
+      → FoldRefused bodies x
+  unfolded old now new begun d e gate body o r q x was is some none hands stopped cause apply t s nothing shown bodies settled =
+      by_body old now new begun d gate body x was none
+      (subst (λ (y : Result (Option (List ℕ)) JournalError). Hands now y new) (some_of r o (Some body) is some) hands)
+      (subst (λ (z : Result ℕ JournalError). IfErr z (λ y. BodyCause gate y)) stopped cause)
+      (λ u fits shown. subst (λ (z : Result ℕ JournalError). MatchResult z (λ _. Applied e u body (Ok tt)) (λ y. BodyRefused u body y))
+      stopped (apply u fits shown)) t (subst (λ (u : Server). DurableShown begun u) nothing shown) bodies settled

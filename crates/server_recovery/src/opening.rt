@@ -1,0 +1,37 @@
+//! What a recovery writes down.
+ghost use Rattle.std.specs.Prelude.{◌≡◌, IfOk};
+ghost use Rattle.exchange_defs.specs.Fold.{opening_records};
+ghost use Rattle.exchange_defs.specs.State.{Server};
+ghost use Rattle.journal_records.specs.Meaning.{records_of};
+ghost use Rattle.server_recovery.specs.Opening.{versions_of};
+
+use journal_records::{Record, Records};
+use server_fold::Durable;
+use std::alloc::{AllocError, Global};
+
+/// The next epoch, in a journal of version 1 behind the record of version 2. Behind 2^32 - 1 epochs, which no journal holds,
+/// the answer is that memory ran out.
+pub fn opening_records(state: &Durable) -> Result<Records, AllocError>
+    ensures { IfOk result (λ rs. (s : Server) → s.version ≡ state.now.version → s.epoch ≡ state.now.epoch
+        → records_of rs ≡ opening_records s) }
+{
+    let epoch = state.epoch;
+    if epoch == u32::MAX {
+        return Err(AllocError);
+    }
+    let mut records = versions(state.alloc, state.version)?;
+    records.push(Record::Epoch { number: epoch + 1 })?;
+    Ok(records)
+}
+
+// In a journal of version 1 the record of version 2, and else none.
+fn versions(alloc: Global, version: u32) -> Result<Records, AllocError>
+    ensures { IfOk result (λ rs. rs ≡ versions_of version) }
+{
+    let mut records = Records::new(alloc);
+    if version != 1 {
+        return Ok(records);
+    }
+    records.push(Record::Version { number: 2 })?;
+    Ok(records)
+}

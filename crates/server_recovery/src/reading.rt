@@ -1,0 +1,82 @@
+//! Body by body, one in memory.
+ghost use Rattle.std.specs.Prelude.{◌≡◌, ℕ, List, length, IfErr, IfOk, MatchResult, None, Ok, OnOk, ⊤};
+ghost use Rattle.exchange_defs.specs.State as model;
+ghost use Rattle.journal_defs.specs.Grammar.{front};
+ghost use Rattle.journal_defs.specs.Moments.{Quiet};
+ghost use Rattle.persist_journal.specs.Journal.{Settled, capped};
+ghost use Rattle.server_fold.specs.Durable.{Applied, DurableShown};
+ghost use Rattle.server_law.specs.Fits.{Fits};
+ghost use Rattle.server_recovery.specs.Reading.{BodyCause, BodyRefused, FoldRefused, HandedOut, IsBehind, IsNothing, IsReadFrom};
+ghost use Rattle.server_recovery.specs.Reading.{ReadRefused, cause_of};
+
+use journal_records::RecordError;
+use persist_journal::{Journal, JournalError};
+use server_fold::{Durable, apply_records};
+use smb_bytes::Bytes;
+use smb_io::Disk;
+
+// The first gate, and what stands around a body: its length in front, and the next gate.
+const FIRST_GATE: u64 = 8;
+
+const AROUND: u64 = 5;
+
+/// Applies each body of a journal that was just recovered. Answers where its last gate stands; the place stands still at
+/// 2^64 - 1. `NotAJournal` has the gate of the first body that is no list of records.
+pub fn fold_bodies<D: Disk>(
+    journal: &mut Journal<D>,
+    state: &mut Durable,
+) -> Result<u64, JournalError>
+    requires { (journal.old.stopped ≡ None) × (journal.old.taken ≡ 0) }
+    ensures read { IfOk result (λ gate. (journal.new.stopped ≡ None) × (D.faults journal.new.disk ≡ D.faults journal.old.disk)) }
+    ensures folded { (s : model.Server) → IsNothing s → DurableShown state.old s
+        → IfOk result (λ gate. (bodies : List (List ℕ)) × (records : List model.Record) × IsReadFrom state.new s bodies records
+        × (gate ≡ capped (length (front bodies))) × HandedOut D.told D.seen D.may_leave journal.old bodies) }
+    ensures stays { D.told → (bodies : List (List ℕ)) → Settled D.seen D.may_leave journal.old bodies
+        → OnOk result (Settled D.seen D.may_leave journal.new bodies) }
+    ensures refused { D.told → (s : model.Server) → IsNothing s → DurableShown state.old s → (bodies : List (List ℕ))
+        → Settled D.seen D.may_leave journal.old bodies → IfErr result (λ x. FoldRefused bodies x) }
+    ensures quiet { Quiet D.told D.seen D.may_leave D.moment D.left_since journal.old.disk journal.new.disk }
+    ensures cause { MatchResult result (λ _. ⊤) (λ x. ReadRefused D.faults journal.old.disk x journal.new) }
+{
+    let mut gate = FIRST_GATE;
+    loop {
+        match journal.next_body() {
+            Ok(Some(body)) => match fold_body(state, &body, gate) {
+                Ok(next) => gate = next,
+                Err(error) => return Err(error),
+            },
+            Ok(None) => return Ok(gate),
+            Err(error) => return Err(error),
+        }
+    }
+}
+
+// Applies a body whose gate stands there. Answers where the next one stands.
+fn fold_body(state: &mut Durable, body: &Bytes, gate: u64) -> Result<u64, JournalError>
+    ensures applied { (s : model.Server) → Fits s → DurableShown state.old s → MatchResult result
+        (λ _. Applied state.new s body.now (Ok tt)) (λ x. BodyRefused s body.now x) }
+    ensures behind { IfOk result (λ next. IsBehind gate body.now next) }
+    ensures cause { IfErr result (λ x. BodyCause gate x) }
+{
+    match apply_records(state, body.as_slice()) {
+        Ok(()) => Ok(gate_behind(gate, body)),
+        Err(error) => Err(cause_of(&error, gate)),
+    }
+}
+
+fn gate_behind(gate: u64, body: &Bytes) -> u64
+    ensures { IsBehind gate body.now result }
+{
+    gate.saturating_add(AROUND)
+        .saturating_add(body.len() as u64)
+}
+
+// What a body that isn't applied is told as.
+fn cause_of(error: &RecordError, gate: u64) -> JournalError
+    ensures { result ≡ cause_of error.now gate }
+{
+    match error {
+        RecordError::Memory => JournalError::Memory,
+        RecordError::BadRecord(_) => JournalError::NotAJournal(gate),
+    }
+}

@@ -1,0 +1,353 @@
+-- What a restart answers, put together from what it read and what it wrote.
+use Rattle.std.proofs.Common.{◌≡◌, ◌⊎◌, inl, inr, ⊎_elim, ℕ, ◌+◌, ◌-◌, ◌≤◌, ◌==◌, Bool, true, false, if◌then◌else◌}
+use Rattle.std.proofs.Common.{List, [], ◌∷◌, ◌++◌, length, take, Some, None, refl, sym, ap, subst, ◌∙◌, arith}
+use Rattle.std.proofs.lemmas.List.{take_all}
+use Rattle.std.specs.Prelude.{Result, Ok, Err, IfOk}
+use Rattle.exchange_defs.specs.Fold.{nothing_yet, fold, fold_from, full_room, opening_records, recovery_records}
+use Rattle.exchange_defs.specs.Records.{entry_bytes}
+use Rattle.exchange_defs.specs.State as model
+use Rattle.exchange_defs.specs.State.{Server, VersionRecord, EpochRecord}
+use Rattle.journal_defs.specs.Grammar.{StandsFor, front}
+use Rattle.journal_defs.specs.Moments.{LeavesOnly, Quiet}
+use Rattle.journal_records.specs.Grammar.{SpellsRecords}
+use Rattle.journal_records.specs.Meaning.{records_of}
+use Rattle.journal_records.specs.declared.value.Record.{Record}
+use Rattle.journal_records.specs.declared.value.Record.TheVariants.{Epoch, Create, Write, SetEnd, SetBasic, SetDelete}
+use Rattle.journal_records.specs.declared.value.Record.TheVariants.{Rename, Remove, Lock, Shut, Version, Expire}
+use Rattle.persist_journal.specs.Journal as journals
+use Rattle.persist_journal.specs.Journal.{JournalState, Settled, Appends, BeforeOrAfter, capped}
+use Rattle.persist_journal.specs.declared.journal.JournalError.{JournalError}
+use Rattle.persist_journal.specs.declared.journal.JournalError.TheVariants.{Memory, DiskFault, NotAJournal, Full, Stopped}
+use Rattle.server_body.specs.Body.{IsBody, added_by}
+use Rattle.server_body.proofs.Sizes.{added, again}
+use Rattle.server_checks.specs.Shown.{TablesShown}
+use Rattle.server_checks.specs.declared.tables.Config.{Config}
+use Rattle.server_checks.specs.declared.tables.Tables.{Tables}
+use Rattle.server_fold.proofs.Choice.{eq_on}
+use Rattle.server_fold.specs.Durable.{DurableShown}
+use Rattle.server_fold.specs.declared.durable.Durable.{Durable}
+use Rattle.server_law.specs.Fits.{Fits, all_sound}
+use Rattle.server_law.proofs.Folded.{sound_recovery}
+use Rattle.server_law.proofs.Logic.{either}
+use Rattle.server_recovery.specs.Reading.{AreSound, BodiesSpell, FoldRefused, HandedOut, IsNothing, IsReadFrom, ReadRefused}
+use Rattle.server_recovery.proofs.Bodies.{spell_more}
+use Rattle.server_restart.specs.Found.{Found, IsOf, IsRead, all_of}
+use Rattle.server_restart.specs.Restart.{IsBegun, IsFull, IsNoBody, IsSoundDisk, RestartLeaves, RestartRefused}
+use Rattle.server_restart.specs.Restart.{Restarts, configuration_of, configured}
+use Rattle.server_restart.proofs.OfFold.{all_begun, all_fit, all_recover, all_version, behind, of_fold, sound_all}
+use Rattle.session_bind.specs.Logons.{LogonsShown}
+use Rattle.smb_io.specs.Faults.{Rose}
+use Rattle.world_defs.specs.Ends.{no_logons}
+
+-- ---- the body that a recovery writes
+
+five : (s : Server) → 5 ≤ entry_bytes (opening_records s)
+unfolding entry_bytes
+five s = either (λ rs. 5 ≤ entry_bytes rs) (s.version == 1) (VersionRecord 2 ∷ EpochRecord (s.epoch + 1) ∷ [])
+    (EpochRecord (s.epoch + 1) ∷ []) (λ _. omega arith) (λ _. omega arith)
+
+opening_adds : (body : List ℕ) (s : Server) → added_by body ≡ entry_bytes (opening_records s)
+    → entry_bytes (opening_records s) ≡ 5 + length body
+opening_adds [] s e = omega (arith, e, five s)
+opening_adds (c ∷ cs) s e = sym e
+
+abbrev begins : List model.Record → Bool
+begins [] = false
+begins (VersionRecord number ∷ rs) = true
+begins (_ ∷ rs) = false
+
+abbrev some_records : Bool → List model.Record → Bool
+some_records b [] = false
+some_records b (r ∷ rs) = true
+
+-- behind a version of 1 the record of version 2 is spelled as in version 2
+spells_1 : (rs : List Record) (n : ℕ) (body : List ℕ) → records_of rs ≡ VersionRecord 2 ∷ EpochRecord n ∷ [] → IsBody body rs
+    → SpellsRecords 1 body rs
+spells_1 [] n body e is = absurd (let f : false ≡ true = ap begins e in cc)
+spells_1 (Version k ∷ rest) n body e is =
+    let h : SpellsRecords 2 body (Version k ∷ rest) = again body (Version k) rest is in
+    (record { fields = h.0.fields; kept = h.0.kept }, h.1)
+spells_1 (Epoch k ∷ rest) n body e is = absurd (let f : false ≡ true = ap begins e in cc)
+spells_1 (Create origin action file path attributes directory time made ∷ rest) n body e is = absurd (let f : false ≡ true = ap begins e in cc)
+spells_1 (Write origin file at time bytes ∷ rest) n body e is = absurd (let f : false ≡ true = ap begins e in cc)
+spells_1 (SetEnd origin file size time ∷ rest) n body e is = absurd (let f : false ≡ true = ap begins e in cc)
+spells_1 (SetBasic origin file basic ∷ rest) n body e is = absurd (let f : false ≡ true = ap begins e in cc)
+spells_1 (SetDelete origin file marked ∷ rest) n body e is = absurd (let f : false ≡ true = ap begins e in cc)
+spells_1 (Rename origin file replaced path ∷ rest) n body e is = absurd (let f : false ≡ true = ap begins e in cc)
+spells_1 (Remove origin file ∷ rest) n body e is = absurd (let f : false ≡ true = ap begins e in cc)
+spells_1 (Lock origin id index number status elements ∷ rest) n body e is = absurd (let f : false ≡ true = ap begins e in cc)
+spells_1 (Shut origin id ∷ rest) n body e is = absurd (let f : false ≡ true = ap begins e in cc)
+spells_1 (Expire origin id ∷ rest) n body e is = absurd (let f : false ≡ true = ap begins e in cc)
+
+none_told : (b : Bool) (n : ℕ) → [] ≡ (if b then VersionRecord 2 ∷ EpochRecord n ∷ [] else EpochRecord n ∷ []) → ⊥
+none_told true n e = let f : false ≡ true = ap (some_records true) e in cc
+none_told false n e = let f : false ≡ true = ap (some_records true) e in cc
+
+spells_2 : (rs : List Record) (b : Bool) (n : ℕ) (body : List ℕ)
+    → records_of rs ≡ (if b then VersionRecord 2 ∷ EpochRecord n ∷ [] else EpochRecord n ∷ []) → IsBody body rs → SpellsRecords 2 body rs
+spells_2 [] b n body e is = absurd (none_told b n e)
+spells_2 (r ∷ rest) b n body e is = again body r rest is
+
+spells_opening : (version : ℕ) (rs : List Record) (n : ℕ) (body : List ℕ) → (version ≡ 1) ⊎ (version ≡ 2)
+    → records_of rs ≡ (if version == 1 then VersionRecord 2 ∷ EpochRecord n ∷ [] else EpochRecord n ∷ []) → IsBody body rs
+    → SpellsRecords version body rs
+spells_opening version rs n body (inl one) e is =
+    subst (λ (v : ℕ). SpellsRecords v body rs) (sym one)
+    (spells_1 rs n body (e ∙ ap (λ (b : Bool). if b then VersionRecord 2 ∷ EpochRecord n ∷ [] else EpochRecord n ∷ [])
+    (eq_on version 1 one)) is)
+spells_opening version rs n body (inr two) e is =
+    subst (λ (v : ℕ). SpellsRecords v body rs) (sym two) (spells_2 rs (version == 1) n body e is)
+
+pub if_ok_by : {X Y : Type 0} {P Q : X → Type 0} (r : Result X Y) → IfOk r P → ((x : X) → P x → Q x) → IfOk r Q
+if_ok_by (Ok x) p f = f x p
+if_ok_by (Err y) p f = tt
+
+none_not : (n : ℕ) → None ≡ Some n → ⊥
+none_not n e = cc
+
+-- what the body of a recovery's records is, and what the state follows
+abbrev pub IsOpened : Durable → Durable → List ℕ → Type 0
+IsOpened old new body = (rs : List Record) × IsBody body rs
+    × ((s : Server) → s.version ≡ old.version → s.epoch ≡ old.epoch → records_of rs ≡ opening_records s)
+    × ((s : Server) → Fits s → DurableShown old s → all_sound (records_of rs) ≡ true → DurableShown new (fold_from s (records_of rs)))
+
+pub opened_by : (old new : Durable) (body : List ℕ) (rs xs : List Record) → xs ≡ rs → IsBody body rs
+    → ((s : Server) → s.version ≡ old.version → s.epoch ≡ old.epoch → records_of rs ≡ opening_records s)
+    → ((s : Server) → Fits s → DurableShown old s → all_sound (records_of xs) ≡ true → DurableShown new (fold_from s (records_of xs)))
+    → IsOpened old new body
+opened_by old new body rs xs e is opening begun = (
+  rs,
+  is,
+  opening,
+  subst (λ (ys : List Record). (s : Server) → Fits s → DurableShown old s → all_sound (records_of ys) ≡ true
+      → DurableShown new (fold_from s (records_of ys))) e begun,
+)
+
+module _ {D : Type 0} (told : Type 0) (seen : D → List ℕ) (may_leave : D → List ℕ → Type 0) (faults : D → ℕ) where
+  -- what a fold of all its bodies gives
+  abbrev Folds : JournalState D → Durable → Durable → ℕ → Type 0
+  Folds j before d gate = (s : Server) → IsNothing s → DurableShown before s → (bodies : List (List ℕ)) × (records : List model.Record)
+      × IsReadFrom d s bodies records × (gate ≡ capped (length (front bodies))) × HandedOut told seen may_leave j bodies
+
+  -- its bodies stay
+  abbrev Stays : JournalState D → JournalState D → Type 0
+  Stays old new = told → (all : List (List ℕ)) → Settled seen may_leave old all → Settled seen may_leave new all
+
+  opening_told : (d : Durable) (bodies : List (List ℕ)) (records : List model.Record) (rs : List Record)
+      → IsReadFrom d nothing_yet bodies records
+      → ((s : Server) → s.version ≡ d.version → s.epoch ≡ d.epoch → records_of rs ≡ opening_records s) → all_sound records ≡ true
+      → records_of rs ≡ recovery_records records
+  opening_told d bodies records rs was opening ok = opening (fold records) (was.shown ok).version_is (was.shown ok).epoch_is
+
+  read_all : (first j : JournalState D) (d : Durable) (bodies : List (List ℕ)) (records : List model.Record) (rs : List Record)
+      (body : List ℕ) → IsReadFrom d nothing_yet bodies records → HandedOut told seen may_leave first bodies → Stays first j
+      → ((s : Server) → s.version ≡ d.version → s.epoch ≡ d.epoch → records_of rs ≡ opening_records s) → IsBody body rs
+      → told → (all : List (List ℕ)) → Settled seen may_leave first all → AreSound all
+      → IsRead seen may_leave j all bodies records body
+  read_all first j d bodies records rs body was handed stays opening is t all settled sound =
+      let same : bodies ≡ all = handed t all settled in
+      let spelled : BodiesSpell all records = subst (λ (bs : List (List ℕ)). BodiesSpell bs records) same
+      (was.spelled (subst (λ (bs : List (List ℕ)). AreSound bs) (sym same) sound)) in
+      let whole : take (length all) all ≡ all = take_all (length all) all (omega arith) in
+      let ok : all_sound records ≡ true = sound (length all) records
+      (subst (λ (bs : List (List ℕ)). BodiesSpell bs records) (sym whole) spelled) in
+      let e : records_of rs ≡ recovery_records records = opening_told d bodies records rs was opening ok in
+      record {
+        same = same;
+        spelled = spelled;
+        sound = ok;
+        settled = stays t all settled;
+        more = subst (λ (xs : List model.Record). BodiesSpell (all ++ body ∷ []) (records ++ xs)) e
+            (spell_more nothing_yet all records body rs spelled
+            (spells_opening (fold records).version rs ((fold records).epoch + 1) body (of_fold records).version_is e is));
+      }
+
+  pub found : (first j : JournalState D) (d0 d1 d2 : Durable) (gate : ℕ) (body : List ℕ) → DurableShown d0 nothing_yet
+      → (j.stopped ≡ None) × (faults j.disk ≡ faults first.disk) → Folds first d0 d1 gate → Stays first j → IsOpened d1 d2 body
+      → Found told seen may_leave faults first j d2 gate body
+  found first j d0 d1 d2 gate body new read folds stays o =
+      let rs = o.0 in
+      let e = folds nothing_yet refl new in
+      let was : IsReadFrom d1 nothing_yet e.0 e.1 = e.2 in
+      let told_so : all_sound e.1 ≡ true → records_of rs ≡ recovery_records e.1 = opening_told d1 e.0 e.1 rs was o.2 in
+      record {
+        bodies = e.0;
+        records = e.1;
+        goes_on = read.0;
+        no_fault = read.1;
+        gate_is = e.3;
+        shown = λ ok. subst (λ (x : Server). DurableShown d2 x)
+            (ap (λ (xs : List model.Record). fold_from (fold e.1) xs) (told_so ok) ∙ behind e.1)
+            (o.3 (fold e.1) (was.fits ok) (was.shown ok)
+            (subst (λ (xs : List model.Record). all_sound xs ≡ true) (sym (told_so ok)) (sound_recovery (fold e.1))));
+        adds = λ ok. opening_adds body (fold e.1) (added body (recovery_records e.1) (rs, told_so ok, o.1));
+        read = read_all first j d1 e.0 e.1 rs body was e.4 stays o.2 o.1;
+      }
+
+  -- ---- the answers
+
+  small_room : (z : Config) → (configuration_of z).room ≤ full_room
+  small_room z = omega arith
+
+  pub restarted : (disk : D) (first j new : JournalState D) (d : Durable) (gate used number : ℕ) (body m : List ℕ) (z : Config) (t : Tables)
+      → IsOf told seen may_leave faults disk first → Found told seen may_leave faults first j d gate body → m ≡ body
+      → (told → (all : List (List ℕ)) → Settled seen may_leave j all
+      → (number ≡ length all) × Settled seen may_leave new (all ++ m ∷ []))
+      → Appends faults j m true (Ok number) new → used ≡ capped (gate + 6 + length body)
+      → ((s : Server) → DurableShown d s → IsBegun s → TablesShown t (configured s (configuration_of z) used))
+      → LogonsShown t.sessions no_logons.keys no_logons.pending → Restarts told seen may_leave z disk new t
+  restarted disk first j new d gate used number body m z t i f same written a u tables logons =
+      let long : length m ≡ length body = ap length same in
+      let bound : j.used + 5 + length m ≤ 1073741824 = a.0.1 in
+      let adds : new.used ≡ j.used + 5 + length m = a.3 in
+      let small : 5 + length body ≤ used = omega (arith, long, bound, u) in
+      let counts : all_sound f.records ≡ true → used - (5 + length body) + entry_bytes (recovery_records f.records) ≡ used =
+      λ ok. let more : entry_bytes (recovery_records f.records) ≡ 5 + length body = f.adds ok in omega (arith, small, more) in (
+        a.4,
+        used - (5 + length body),
+        f.records,
+        λ ok. record {
+          shown = subst (λ (n : ℕ). TablesShown t (configured (fold (all_of f.records)) (configuration_of z) n)) (sym (counts ok))
+              (tables (fold (all_of f.records)) (f.shown ok) (all_begun f.records));
+          logons = logons;
+          fits = all_fit (configuration_of z) (used - (5 + length body)) f.records (small_room z) ok;
+          version = all_version f.records;
+          sound = sound_all f.records ok;
+          for_state = all_recover (configuration_of z) (used - (5 + length body)) f.records (small_room z) ok;
+        },
+        λ y sound.
+            let s = i.0.3 y in
+            let q = f.read y s.0 (i.1 y s.0 s.1) (sound s.0 s.1) in
+            let sizes : length (front f.bodies) ≡ length (front s.0) = ap (λ (bs : List (List ℕ)). length (front bs)) q.same in
+            let uses : j.used ≡ length (front s.0) + 1 = q.settled.used in
+            let at : gate ≡ capped (length (front f.bodies)) = f.gate_is in
+            let all : used ≡ new.used = omega (arith, long, bound, u, sizes, uses, at, adds) in
+            record {
+              bodies = s.0;
+              body = body;
+              stood = s.1;
+              spelled = q.spelled;
+              sound = q.sound;
+              bytes_are = omega (arith, long, bound, u, sizes, uses, at);
+              settled = subst (λ (v : List ℕ). Settled seen may_leave new (s.0 ++ v ∷ [])) same (written y s.0 q.settled).1;
+              more = q.more;
+              used = counts q.sound ∙ all;
+            },
+      )
+
+  -- ---- the refusals
+
+  pub unread : (disk : D) (x : JournalError) → journals.Recovers told seen faults disk (Err x) → RestartRefused told seen faults disk x
+  unread disk Memory h = tt
+  unread disk (DiskFault n) h = h
+  unread disk (NotAJournal at) h = λ t sound. inl (h t)
+  unread disk (Full would limit) h = absurd h
+  unread disk (Stopped n) h = h
+
+  no_body : (disk : D) (first : JournalState D) (d0 : Durable) (at : ℕ) → IsOf told seen may_leave faults disk first
+      → DurableShown d0 nothing_yet
+      → (told → (s : Server) → IsNothing s → DurableShown d0 s → (bodies : List (List ℕ)) → Settled seen may_leave first bodies
+      → FoldRefused bodies (NotAJournal at)) → told → IsSoundDisk (seen disk) → IsNoBody (seen disk) at
+  no_body disk first d0 at i new refused t sound =
+      let b = i.0.3 t in
+      let f = refused t nothing_yet refl new b.0 (i.1 t b.0 b.1) (sound b.0 b.1) in
+      (b.0, f.0, f.1, f.2, f.3, b.1, f.4, f.5, f.6, f.7)
+
+  pub unfolded : (disk : D) (first j : JournalState D) (d0 : Durable) (x : JournalError)
+      → IsOf told seen may_leave faults disk first → DurableShown d0 nothing_yet → ReadRefused faults first.disk x j
+      → (told → (s : Server) → IsNothing s → DurableShown d0 s → (bodies : List (List ℕ)) → Settled seen may_leave first bodies
+      → FoldRefused bodies x) → RestartRefused told seen faults disk x
+  unfolded disk first j d0 Memory i new cause refused = tt
+  unfolded disk first j d0 (DiskFault n) i new cause refused = record {
+    dropped = j.disk;
+    count = cause.1;
+    rose = subst (λ (m : ℕ). Rose m n) i.0.0 cause.0;
+  }
+  unfolded disk first j d0 (NotAJournal at) i new cause refused = λ t sound. inr (no_body disk first d0 at i new refused t sound)
+  unfolded disk first j d0 (Full would limit) i new cause refused = absurd cause
+  unfolded disk first j d0 (Stopped n) i new cause refused = cause
+
+  full : (disk : D) (first j new : JournalState D) (d : Durable) (gate : ℕ) (body m : List ℕ) (would limit : ℕ)
+      → IsOf told seen may_leave faults disk first → Found told seen may_leave faults first j d gate body → m ≡ body
+      → Appends faults j m true (Err (Full would limit)) new → told → IsSoundDisk (seen disk) → IsFull (seen disk) would limit
+  full disk first j new d gate body m would limit i f same a t sound =
+      let s = i.0.3 t in
+      let q = f.read t s.0 (i.1 t s.0 s.1) (sound s.0 s.1) in
+      let long : length m ≡ length body = ap length same in
+      let uses : j.used ≡ length (front s.0) + 1 = q.settled.used in
+      let more : entry_bytes (recovery_records f.records) ≡ 5 + length body = f.adds q.sound in
+      let size : j.used + 5 + length m ≡ length (front s.0) + 1 + entry_bytes (recovery_records f.records) =
+      omega (arith, long, uses, more) in
+      (s.0, f.records, s.1, q.spelled, a.1 ∙ ap (λ (n : ℕ). capped n) size, a.2, a.3)
+
+  pub unwritten : (disk : D) (first j new : JournalState D) (d : Durable) (gate : ℕ) (body m : List ℕ) (x : JournalError)
+      → IsOf told seen may_leave faults disk first → Found told seen may_leave faults first j d gate body → m ≡ body
+      → Appends faults j m true (Err x) new → RestartRefused told seen faults disk x
+  unwritten disk first j new d gate body m Memory i f same a = tt
+  unwritten disk first j new d gate body m (DiskFault n) i f same a = record {
+    dropped = new.disk;
+    count = a.2;
+    rose = subst (λ (k : ℕ). Rose k n) (f.no_fault ∙ i.0.0) a.1;
+  }
+  unwritten disk first j new d gate body m (NotAJournal at) i f same a = absurd a
+  unwritten disk first j new d gate body m (Full would limit) i f same a = full disk first j new d gate body m would limit i f same a
+  unwritten disk first j new d gate body m (Stopped n) i f same a = none_not n (sym f.goes_on ∙ a.0)
+
+-- ---- a crash at any moment
+
+module _ {D : Type 0} (told : Type 0) (seen : D → List ℕ) (may_leave : D → List ℕ → Type 0) (moment : D → ℕ)
+    (left_since : D → ℕ → List ℕ → Type 0) (faults : D → ℕ) where
+  in_a_row : (old mid new : D) (P Q R : List ℕ → Type 0) → LeavesOnly moment left_since old mid P
+      → LeavesOnly moment left_since mid new Q → ((c : List ℕ) → P c → R c) → ((c : List ℕ) → Q c → R c)
+      → LeavesOnly moment left_since old new R
+  in_a_row old mid new P Q R first second front back = record {
+    later = omega (arith, first.later, second.later);
+    each = λ c left. ⊎_elim (λ was. front c (first.each c was)) (back c) (second.before (moment old) c first.later left);
+    before = λ t c le left. ⊎_elim (λ was. ⊎_elim (λ early. inl early) (λ here. inr (front c here)) (first.before t c le was))
+        (λ here. inr (back c here)) (second.before t c (omega (arith, le, first.later)) left);
+  }
+
+  settled_leaves : (j : JournalState D) (all : List (List ℕ)) (c : List ℕ) → Settled seen may_leave j all → may_leave j.disk c
+      → StandsFor c all
+  settled_leaves j all c s left =
+      inr (record { gate = s.gate; rest = []; spelled = s.durable c left ∙ s.file; closed = s.closed; fit = s.fit })
+
+  of_append : (disk : D) (all bodies : List (List ℕ)) (j : JournalState D) (records : List model.Record) (body c : List ℕ)
+      → IsRead seen may_leave j all bodies records body → BeforeOrAfter all body c → RestartLeaves (may_leave disk) all c
+  of_append disk all bodies j records body c q (inl here) = inr (inl here)
+  of_append disk all bodies j records body c q (inr here) = inr (inr (body, records, q.spelled, q.more, here))
+
+  -- of a journal that was recovered
+  pub leaves_read : (first j new : JournalState D) (d : Durable) (gate : ℕ) (body : List ℕ)
+      → Found told seen may_leave faults first j d gate body → Quiet told seen may_leave moment left_since first.disk j.disk
+      → (told → (all : List (List ℕ)) → Settled seen may_leave j all
+      → LeavesOnly moment left_since j.disk new.disk (BeforeOrAfter all body))
+      → told → (all : List (List ℕ)) → Settled seen may_leave first all → AreSound all
+      → LeavesOnly moment left_since first.disk new.disk (RestartLeaves (may_leave first.disk) all)
+  leaves_read first j new d gate body f quiet appended t all settled sound =
+      let q = f.read t all settled sound in
+      in_a_row first.disk j.disk new.disk (may_leave first.disk) (BeforeOrAfter all body) (RestartLeaves (may_leave first.disk) all)
+      quiet.any_moment (appended t all q.settled) (λ c was. inl was)
+      (λ c here. of_append first.disk all f.bodies j f.records body c q here)
+
+  of_recover : (disk : D) (all : List (List ℕ)) (c : List ℕ) → may_leave disk c ⊎ StandsFor c all → RestartLeaves (may_leave disk) all c
+  of_recover disk all c (inl was) = inl was
+  of_recover disk all c (inr here) = inr (inl here)
+
+  of_read : (disk : D) (first : JournalState D) (all : List (List ℕ)) (c : List ℕ) → Settled seen may_leave first all
+      → RestartLeaves (may_leave first.disk) all c → RestartLeaves (may_leave disk) all c
+  of_read disk first all c s (inl was) = inr (inl (settled_leaves first all c s was))
+  of_read disk first all c s (inr more) = inr more
+
+  pub at_any_moment : (disk : D) (first new : JournalState D)
+      → (told → (all : List (List ℕ)) → StandsFor (seen disk) all → Settled seen may_leave first all)
+      → (told → (all : List (List ℕ)) → StandsFor (seen disk) all
+      → LeavesOnly moment left_since disk first.disk (λ c. may_leave disk c ⊎ StandsFor c all))
+      → (told → (all : List (List ℕ)) → Settled seen may_leave first all → AreSound all
+      → LeavesOnly moment left_since first.disk new.disk (RestartLeaves (may_leave first.disk) all))
+      → told → (all : List (List ℕ)) → StandsFor (seen disk) all → AreSound all
+      → LeavesOnly moment left_since disk new.disk (RestartLeaves (may_leave disk) all)
+  at_any_moment disk first new opens recovered read t all stands sound =
+      in_a_row disk first.disk new.disk (λ c. may_leave disk c ⊎ StandsFor c all) (RestartLeaves (may_leave first.disk) all)
+      (RestartLeaves (may_leave disk) all) (recovered t all stands) (read t all (opens t all stands) sound)
+      (of_recover disk all) (λ c here. of_read disk first all c (opens t all stands) here)

@@ -1,0 +1,3 @@
+mod OfFold
+mod Sessions
+mod Behind

@@ -1,0 +1,11 @@
+use Rattle.exchange_defs.specs.Fold.{nothing_yet}
+use Rattle.world_defs.specs.Ends.{no_logons}
+use Rattle.server_restart.proofs.Sessions.{shown_begun}
+use Rattle.server_restart.proofs.tables.sessions_of.Goals as goal
+
+pub returns : goal.returns
+returns c = record {
+  shown = λ s e b. shown_begun c.begin_epoch.new.self c.args.epoch s (c.begin_epoch.ensures.shows nothing_yet c.new-sessions.ensures.shows) e b;
+  logons = c.begin_epoch.ensures.logons no_logons.keys no_logons.pending
+      (c.new-sessions.ensures.logons no_logons.keys no_logons.pending);
+}

@@ -1,0 +1,42 @@
+-- What a restart has found before it writes anything.
+use Rattle.std.specs.Prelude.{◌≡◌, ℕ, ◌+◌, List, [], ◌∷◌, ◌++◌, length, None, true, Ok}
+use Rattle.exchange_defs.specs.Fold.{fold, recovery_records}
+use Rattle.exchange_defs.specs.Records.{entry_bytes}
+use Rattle.exchange_defs.specs.State as model
+use Rattle.journal_defs.specs.Grammar.{StandsFor, front}
+use Rattle.persist_journal.specs.Journal.{JournalState, Recovers, Settled, capped}
+use Rattle.server_fold.specs.Durable.{DurableShown}
+use Rattle.server_fold.specs.declared.durable.Durable.{Durable}
+use Rattle.server_law.specs.Fits.{all_sound}
+use Rattle.server_recovery.specs.Reading.{AreSound, BodiesSpell}
+
+-- the records of the disk, and behind them what the recovery adds
+abbrev pub all_of : List model.Record → List model.Record
+all_of rs = rs ++ recovery_records rs
+
+-- the journal is what was recovered of the disk
+abbrev pub IsOf : {D : Type 0} → Type 0 → (D → List ℕ) → (D → List ℕ → Type 0) → (D → ℕ) → D → JournalState D → Type 0
+IsOf told seen may_leave faults disk journal = Recovers told seen faults disk (Ok journal)
+    × (told → (bodies : List (List ℕ)) → StandsFor (seen disk) bodies → Settled seen may_leave journal bodies)
+
+-- these are all of its bodies, and with this one they spell what the recovery adds too
+pub record IsRead {D : Type 0} (seen : D → List ℕ) (may_leave : D → List ℕ → Type 0) (journal : JournalState D)
+    (all bodies : List (List ℕ)) (records : List model.Record) (body : List ℕ) : Type 0 where
+  pub same : bodies ≡ all
+  pub spelled : BodiesSpell all records
+  pub sound : all_sound records ≡ true
+  pub settled : Settled seen may_leave journal all
+  pub more : BodiesSpell (all ++ body ∷ []) (all_of records)
+
+-- A journal was first so, and is so once all its bodies are read, the last gate behind them; the state shows their records and those
+-- that this body is to add.
+pub record Found {D : Type 0} (told : Type 0) (seen : D → List ℕ) (may_leave : D → List ℕ → Type 0) (faults : D → ℕ)
+    (first journal : JournalState D) (d : Durable) (gate : ℕ) (body : List ℕ) : Type 0 where
+  pub bodies : List (List ℕ)
+  pub records : List model.Record
+  pub goes_on : journal.stopped ≡ None
+  pub no_fault : faults journal.disk ≡ faults first.disk
+  pub gate_is : gate ≡ capped (length (front bodies))
+  pub shown : all_sound records ≡ true → DurableShown d (fold (all_of records))
+  pub adds : all_sound records ≡ true → entry_bytes (recovery_records records) ≡ 5 + length body
+  pub read : told → (all : List (List ℕ)) → Settled seen may_leave first all → AreSound all → IsRead seen may_leave journal all bodies records body

@@ -1,0 +1,108 @@
+-- What a restart answers of a disk.
+use Rattle.std.specs.Prelude.{◌≡◌, ◌⊎◌, ℕ, ◌+◌, ◌<◌, min, List, [], ◌∷◌, ◌++◌, length, take, slice_get, Some, true, Result, Ok, Err, ⊤}
+use Rattle.std.specs.Prelude.{None}
+use Rattle.command_values.specs.Meaning.{address_of}
+use Rattle.exchange_defs.specs.Fold.{Configuration, fold, full_room, recovered, recovery_records}
+use Rattle.exchange_defs.specs.Records.{entry_bytes}
+use Rattle.exchange_defs.specs.State as model
+use Rattle.journal_defs.specs.Grammar.{StandsFor, BreaksAt, front}
+use Rattle.journal_records.specs.Grammar.{BreaksRecords}
+use Rattle.persist_journal.specs.Journal.{JournalState, FailedAt, Settled, capped}
+use Rattle.persist_journal.specs.declared.journal.JournalError.{JournalError}
+use Rattle.persist_journal.specs.declared.journal.JournalError.TheVariants as causes
+use Rattle.recovery_law.specs.Recovers.{Recovers}
+use Rattle.recovery_law.specs.Restarted.{Bare}
+use Rattle.server_checks.specs.Shown.{TablesShown}
+use Rattle.server_checks.specs.declared.tables.Config.{Config}
+use Rattle.server_checks.specs.declared.tables.Tables.{Tables}
+use Rattle.server_law.specs.Fits.{Fits, all_sound}
+use Rattle.server_recovery.specs.Reading.{AreSound, BodiesSpell}
+use Rattle.session_bind.specs.Logons.{LogonsShown}
+use Rattle.world_defs.specs.Ends.{no_logons}
+
+-- ---- the state
+
+-- what a configuration tells the model; more than the full room counts as that
+abbrev pub configuration_of : Config → Configuration
+configuration_of z = record {
+  share = z.share;
+  room = min z.room full_room;
+  encrypts = z.encrypts;
+  address = address_of z.address;
+}
+
+-- the state under a configuration, behind a journal of so many bytes
+abbrev pub configured : model.Server → Configuration → ℕ → model.Server
+configured s z journal = record s { share = z.share; room = z.room; encrypts = z.encrypts; address = z.address; journal = journal }
+
+-- no session has begun in this epoch, and there is no connection
+abbrev pub IsBegun : model.Server → Type 0
+IsBegun s = Bare s × s.session_ids_given ≡ 0
+
+-- the tables show the state that recovery makes of these records, which fits together and for which all records stand
+pub record IsRecovered (z : Config) (t : Tables) (bytes : ℕ) (records : List model.Record) : Type 0 where
+  pub shown : TablesShown t (recovered (configuration_of z) bytes records)
+  pub logons : LogonsShown t.sessions no_logons.keys no_logons.pending
+  pub fits : Fits (recovered (configuration_of z) bytes records)
+  pub version : (recovered (configuration_of z) bytes records).version ≡ 2
+  pub sound : all_sound (records ++ recovery_records records) ≡ true
+  pub for_state : Recovers (records ++ recovery_records records) (recovered (configuration_of z) bytes records)
+
+-- ---- the disk
+
+-- bytes whose bodies make no open that deletes the root on close, as far as they are records
+abbrev pub IsSoundDisk : List ℕ → Type 0
+IsSoundDisk bytes = (bodies : List (List ℕ)) → StandsFor bytes bodies → AreSound bodies
+
+-- the disk stood for these records, and the journal stands for these and what the recovery adds, in one body
+pub record StandsBehind {D : Type 0} (seen : D → List ℕ) (may_leave : D → List ℕ → Type 0) (disk : D) (journal : JournalState D)
+    (bytes : ℕ) (records : List model.Record) : Type 0 where
+  pub bodies : List (List ℕ)
+  pub body : List ℕ
+  pub stood : StandsFor (seen disk) bodies
+  pub spelled : BodiesSpell bodies records
+  pub sound : all_sound records ≡ true
+  pub bytes_are : bytes ≡ length (front bodies) + 1
+  pub settled : Settled seen may_leave journal (bodies ++ body ∷ [])
+  pub more : BodiesSpell (bodies ++ body ∷ []) (records ++ recovery_records records)
+  pub used : bytes + entry_bytes (recovery_records records) ≡ journal.used
+
+-- ---- the answers
+
+-- No call of the disk has failed, so the records that the recovery adds stand on it. Where the disk tells its bytes, the records are
+-- all of its records.
+abbrev pub Restarts : {D : Type 0} → Type 0 → (D → List ℕ) → (D → List ℕ → Type 0) → Config → D → JournalState D → Tables → Type 0
+Restarts told seen may_leave z disk journal t = (journal.stopped ≡ None) × (bytes : ℕ) × (records : List model.Record)
+    × (all_sound records ≡ true → IsRecovered z t bytes records)
+    × (told → IsSoundDisk (seen disk) → StandsBehind seen may_leave disk journal bytes records)
+
+-- the body that begins at this gate is the first that is no list of records
+abbrev pub IsNoBody : List ℕ → ℕ → Type 0
+IsNoBody bytes gate = (bodies : List (List ℕ)) × (k : ℕ) × (body : List ℕ) × (records : List model.Record) × (place : ℕ)
+    × StandsFor bytes bodies × (slice_get bodies k ≡ Some body) × (gate ≡ capped (length (front (take k bodies))))
+    × BodiesSpell (take k bodies) records × BreaksRecords (fold records).version body place
+
+-- the journal would pass its upper limit by the records that a recovery adds
+abbrev pub IsFull : List ℕ → ℕ → ℕ → Type 0
+IsFull bytes would limit = (bodies : List (List ℕ)) × (records : List model.Record) × StandsFor bytes bodies × BodiesSpell bodies records
+    × (would ≡ capped (length (front bodies) + 1 + entry_bytes (recovery_records records))) × (limit ≡ 1073741824) × (limit < would)
+
+abbrev pub RestartRefused : {D : Type 0} → Type 0 → (D → List ℕ) → (D → ℕ) → D → JournalError → Type 0
+RestartRefused told seen faults disk causes.Memory = ⊤
+RestartRefused told seen faults disk (causes.DiskFault n) = FailedAt faults disk n
+RestartRefused told seen faults disk (causes.NotAJournal at) = told → IsSoundDisk (seen disk) → BreaksAt (seen disk) at ⊎ IsNoBody (seen disk) at
+RestartRefused told seen faults disk (causes.Full would limit) = told → IsSoundDisk (seen disk) → IsFull (seen disk) would limit
+RestartRefused told seen faults disk (causes.Stopped n) = ⊥
+
+abbrev pub RestartAnswers : {D : Type 0} → Type 0 → (D → List ℕ) → (D → List ℕ → Type 0) → (D → ℕ) → Config → D
+    → Result (JournalState D × Tables) JournalError → Type 0
+RestartAnswers told seen may_leave faults z disk (Ok r) = Restarts told seen may_leave z disk r.0 r.1
+RestartAnswers told seen may_leave faults z disk (Err x) = RestartRefused told seen faults disk x
+
+-- ---- a crash at any moment
+
+-- it leaves what it could leave before, or bytes that stand for the bodies as they were, or with the one that a recovery adds
+abbrev pub RestartLeaves : (List ℕ → Type 0) → List (List ℕ) → List ℕ → Type 0
+RestartLeaves may_leave bodies bytes = may_leave bytes ⊎ StandsFor bytes bodies
+    ⊎ ((body : List ℕ) × (records : List model.Record) × BodiesSpell bodies records
+    × BodiesSpell (bodies ++ body ∷ []) (records ++ recovery_records records) × StandsFor bytes (bodies ++ body ∷ []))
