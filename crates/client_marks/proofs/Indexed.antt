@@ -98,7 +98,11 @@ module _ (o : ℕ → ℕ) (such : ℕ → Bool) (at size : ℕ → ℕ) (u : �
             elim (in_or_not (at n) (size n) x) as (λ _. (top2 x ≡ h) ⊎ (h < top2 x)) [
               | inl q ↦ (
                   let v = here x f q.2 in
-                  elim (ways h n) as (λ _. (top2 x ≡ h) ⊎ (h < top2 x)) [ inl z ↦ inl (v ∙ sym z) | inr z ↦ inr (subst (λ y. h < y) (sym v) (smaller h n l z)) ]
+                  elim (ways h n) as (λ _. (top2 x ≡ h) ⊎ (h < top2 x)) [
+                    | inl z ↦ inl (v ∙ sym z)
+                    | inr z ↦ inr
+                        (subst (λ y. h < y) (sym v) (smaller h n l z))
+                  ]
                   )
               | inr q ↦ (
                   elim (ways h n) as (λ _. (top2 x ≡ h) ⊎ (h < top2 x)) [

@@ -4,3 +4,4 @@ pub mod New
 pub mod Raised
 pub mod Indexed
 pub mod Whole
+pub mod Lower

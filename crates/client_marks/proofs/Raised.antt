@@ -190,7 +190,8 @@ lists_all u close mark top at size a b c d x tx y ty t =
       mark_told = λ p. (
           elim (ty p) as (λ _. (u mark ≡ false) ⊎ IsIn d (length a) (length d) mark) [
             | inl e ↦ inl e
-            | inr e ↦ inr (in_earlier d (length a) (length b) (length d) mark m (in_more (λ l. IsTop top at size l) c d (length b) mark z e))
+            | inr e ↦ inr (in_earlier d (length a) (length b) (length d) mark m
+                (in_more (λ l. IsTop top at size l) c d (length b) mark z e))
           ]
           );
       tops_told = λ w f p q s. in_earlier d (length a) (length c) (length d) (top w) (omega arith) (told_tops top at size c d t w f p q s);

@@ -16,7 +16,8 @@ use Rattle.client_marks.specs.Marked.{IsMarked}
 use Rattle.client_marks.specs.Marks.{Heights, IsIndexed, ListsHolders, fills_by_shape, holds_by_shape}
 use Rattle.client_marks.specs.Marks.{is_end, is_lock_kind, is_write, mark_of, top_of}
 use Rattle.client_marks.proofs.Waits.{barrier_write, close_holds, end_look, end_read, holds_create, lock_lock, write_read, write_write}
-use Rattle.client_marks.proofs.Covered.{by_close as close_of, change_found, end_found, list_found, lock_found, look_found, meets_at, read_found, write_found}
+use Rattle.client_marks.proofs.Covered.{by_close as close_of, change_found, end_found, list_found, lock_found, look_found}
+use Rattle.client_marks.proofs.Covered.{meets_at, read_found, write_found}
 use Rattle.client_marks.proofs.New.{both, joins, suits_new}
 
 module _ (o : ℕ → ℕ) (k : ℕ → Kind) (at size : ℕ → ℕ) (u : ℕ → Bool) (create n : ℕ) (m : Marks) (written locked : ℕ → ℕ)
@@ -36,7 +37,8 @@ module _ (o : ℕ → ℕ) (k : ℕ → Kind) (at size : ℕ → ℕ) (u : ℕ �
   plain b f (inl e) = inl e
   plain b f (inr e) = inr (inl e)
 
-  chained : (b : Kind) (f : ℕ) (such : Bool) → o f ≡ create → ((((o f) == (o n)) && such) ≡ true → on_chain b o k (λ x. fills_by_shape k size x) f n ≡ true)
+  chained : (b : Kind) (f : ℕ) (such : Bool) → o f ≡ create
+      → ((((o f) == (o n)) && such) ≡ true → on_chain b o k (λ x. fills_by_shape k size x) f n ≡ true)
       → Found f ⊎ (such ≡ true) → Covered b f
   chained b f such a w (inl e) = plain b f e
   chained b f such a w (inr e) = inr (inr (w (both (o f) (o n) such (a ∙ sym own) e)))
@@ -80,7 +82,8 @@ module _ (o : ℕ → ℕ) (k : ℕ → Kind) (at size : ℕ → ℕ) (u : ℕ �
       subst (λ z. Entry kinds.Write z) (sym e)
       (h.barriers.below q, h.barriers.own q, barrier_write (k m.barrier) (at m.barrier) (size m.barrier) (at n) (size n) (h.barriers.is q))
 
-  of_end : (b : Kind) (l : ℕ) → ((a : Kind) (p s q t : ℕ) → is_end a ≡ true → shape_holds a p s b q t ≡ true) → 0 < l → l ≡ m.end → Entry b l
+  of_end : (b : Kind) (l : ℕ) → ((a : Kind) (p s q t : ℕ) → is_end a ≡ true → shape_holds a p s b q t ≡ true) → 0 < l
+      → l ≡ m.end → Entry b l
   of_end b l w p e =
       let q : 0 < m.end = subst (λ z. 0 < z) e p in
       subst (λ z. Entry b z) (sym e) (h.ends.below q, h.ends.own q, w (k m.end) (at m.end) (size m.end) (at n) (size n) (h.ends.is q))
@@ -102,7 +105,8 @@ module _ (o : ℕ → ℕ) (k : ℕ → Kind) (at size : ℕ → ℕ) (u : ℕ �
             (meets_at (at (top x)) (size (top x)) (at n) (size n) x has.behind has.within t.behind t.within),
       )
 
-  entry_by : (b : Kind) (l : ℕ) → 0 < l → (l ≡ m.close) ⊎ ((l ≡ mark_of b m) ⊎ IsTop (λ x. top_of b written locked x) (at n) (size n) l) → Entry b l
+  entry_by : (b : Kind) (l : ℕ) → 0 < l
+      → (l ≡ m.close) ⊎ ((l ≡ mark_of b m) ⊎ IsTop (λ x. top_of b written locked x) (at n) (size n) l) → Entry b l
   entry_by b l p (inl e) = of_close b l p e
   entry_by kinds.Create l p (inr (inl e)) = of_none kinds.Create l p e
   entry_by kinds.Write l p (inr (inl e)) = of_barrier l p e

@@ -73,6 +73,15 @@ pub record Heights (o : ℕ → ℕ) (k : ℕ → Kind) (size : ℕ → ℕ) (cr
   pub ends : IsHighest o (λ h. is_end (k h)) create n m.end
   pub barriers : IsHighest o (λ h. is_barrier (k h)) create n m.barrier
 
+-- they are below a number
+pub record AreBelow (m : Marks) (n : ℕ) : Type 0 where
+  pub last : m.last < n
+  pub change : m.change < n
+  pub filled : m.filled < n
+  pub close : m.close < n
+  pub end : m.end < n
+  pub barrier : m.barrier < n
+
 -- the mark, beside the last close, at which a new one of this kind looks
 abbrev pub mark_of : Kind → Marks → ℕ
 mark_of kinds.Create m = 0

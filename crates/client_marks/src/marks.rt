@@ -1,9 +1,9 @@
 // The highest operations of an open, by what later ones wait for.
-ghost use Rattle.std.specs.Prelude.{◌≡◌, ℕ, ◌+◌, ◌==◌, ◌&&◌, not, if◌then◌else◌};
+ghost use Rattle.std.specs.Prelude.{◌≡◌, ℕ, ◌+◌, ◌<◌, ◌==◌, ◌&&◌, not, if◌then◌else◌};
 ghost use Rattle.operation_values.specs.declared.shapes.Kind.{Kind as Kinds};
 ghost use Rattle.operation_values.specs.Waiting.{is_close_kind};
 ghost use Rattle.operation_rows.specs.Holding.{is_changing};
-ghost use Rattle.client_marks.specs.Marks.{Heights, is_barrier, is_end, is_write, mark_of};
+ghost use Rattle.client_marks.specs.Marks.{AreBelow, Heights, is_barrier, is_end, is_write, mark_of};
 
 use operation_values::Kind;
 
@@ -88,8 +88,9 @@ impl Marks {
 
     /// The marks behind one operation more, whose number is the next.
     pub fn behind(&self, number: u32, kind: Kind, size: u64) -> Marks
-        ensures { (o : ℕ → ℕ) (k : ℕ → Kinds) (sizes : ℕ → ℕ) (create : ℕ) → Heights o k sizes create number self.now
+        ensures highest { (o : ℕ → ℕ) (k : ℕ → Kinds) (sizes : ℕ → ℕ) (create : ℕ) → Heights o k sizes create number self.now
             → o number ≡ create → k number ≡ kind → sizes number ≡ size → Heights o k sizes create (number + 1) result }
+        ensures below { (n : ℕ) → AreBelow self.now n → number < n → AreBelow result n }
     {
         let change = raised(self.change, changes(kind), number);
         let filled = raised(self.filled, fills(kind, size), number);

@@ -204,3 +204,7 @@ and_both x a y b e f g = grind arith
 
 pub and_none : (x a b : Bool) → x ≡ a → x ≡ false → x ≡ (a && b)
 and_none x a b e f = grind arith
+
+pub bounded_slot : (n : ℕ) (o : Option ℕ) → IfSome o (λ slot. (0 < slot) × (slot ≤ n + 1)) → IfSome o (λ slot. slot ≤ n + 1)
+bounded_slot n None h = tt
+bounded_slot n (Some slot) h = h.1

@@ -86,7 +86,6 @@ module _ (rows new : List Row) (slots : List Slot) (session : ℕ) (c : Client) 
         firm = λ p l. h.firm p l ∙ sym (firm (slot_at slots p).user);
         unused = h.unused;
         number = h.number;
-        counted = h.counted;
       })
 
   pub other_slots : is_lock (c.op g) ≡ false → ShowsSlots rows slots session c create
@@ -100,7 +99,6 @@ module _ (rows new : List Row) (slots : List Slot) (session : ℕ) (c : Client) 
         firm = λ p l. h.firm p l ∙ sym (firm (slot_at slots p).user);
         unused = h.unused;
         number = h.number;
-        counted = h.counted;
       })
 
 -- ---- a slot behind those that were used
@@ -145,7 +143,6 @@ out_slots rows new slots session c k g create firm h =
       firm = λ p l. h.firm p l ∙ sym (firm (slot_at slots p).user);
       unused = h.unused;
       number = h.number;
-      counted = h.counted;
     }
 
 module _ (rows new : List Row) (slots : List Slot) (session : ℕ) (c : Client) (k g i create : ℕ)

@@ -1,5 +1,5 @@
 -- What an operation's open shows of the model's client, as far as a push looks at it.
-use Rattle.std.specs.Prelude.{◌≡◌, ℕ, Bool, true, false, List}
+use Rattle.std.specs.Prelude.{◌≡◌, ℕ, ◌<◌, Bool, true, false, List}
 use Rattle.exchange_defs.specs.Client.{Client, create_for}
 use Rattle.operation_values.specs.declared.shapes.Kind.{Kind}
 use Rattle.operation_values.specs.declared.shapes.Kind.TheVariants as kinds
@@ -17,8 +17,10 @@ abbrev pub is_lock_kind : Kind → Bool
 is_lock_kind kinds.Lock = true
 is_lock_kind _ = false
 
--- the session, the number of the session in which the open of operation g was attached last, and the open's lock slots
+-- the session, which is the first one or a later one, the number of the session in which the open of operation g was attached last,
+-- and the open's lock slots
 pub record ShowsOpen (rows : List Row) (slots : List Slot) (session : Session) (attached g : ℕ) (c : Client) : Type 0 where
   pub in_session : ShowsSession session c
   pub attached_in : c.attached (create_for c g) ≡ attached
+  pub counted : 0 < c.session_number
   pub has_slots : ShowsSlots rows slots c.session_number c (create_for c g)

@@ -93,6 +93,7 @@ pub fn pick(
     ensures lacks { (c : Client) (holders prices : List ℕ) (watchers : List Watch) (k credits : ℕ)
         → ShowsRows rows.now holders prices watchers c → ShowsOpen rows.now slots.now session.now attached index c
         → Kept c → c.ready k ≡ true → Goes c credits index → IfNone result (lacks_slot c k index ≡ true) }
+    ensures slot { IfSome result (λ slot. slot ≤ length slots.now + 1) }
 {
     if !takes_slot(rows, session, attached, index) {
         return Some(0);

@@ -10,7 +10,7 @@ ghost use Rattle.operation_rows.specs.Rows.{row_at};
 ghost use Rattle.operation_rows.specs.Slots.{slot_at};
 ghost use Rattle.operation_rows.specs.Holding.{IsSafe};
 ghost use Rattle.operation_rows.specs.Choosing.{Counts};
-ghost use Rattle.client_rows.specs.Shown.{ShowsRows};
+ghost use Rattle.client_rows.specs.Shown.{KeepsRow, ShowsRows};
 
 use client_rows::put_row;
 use client_session::Session;
@@ -60,6 +60,7 @@ pub fn send_lock(
     requires slot { slot ≤ length slots.old.items + 1 }
     requires room { length slots.old.items < slot → vec_len slots.old < vec_capacity slots.old }
     ensures count { length rows.new ≡ length rows.old }
+    ensures place { KeepsRow rows.old rows.new index }
     ensures counts { Counts rows.new prices.new watchers.now }
     ensures safe { (holders : List ℕ) → IsSafe rows.old holders → IsSafe rows.new holders }
     ensures users { HaveRows rows.new slots.new.items }
@@ -96,6 +97,7 @@ pub fn send_first(
     requires within { index < length rows.old }
     requires counts { Counts rows.old prices.old watchers.now }
     ensures count { length rows.new ≡ length rows.old }
+    ensures place { KeepsRow rows.old rows.new index }
     ensures counts { Counts rows.new prices.new watchers.now }
     ensures safe { (holders : List ℕ) → IsSafe rows.old holders → IsSafe rows.new holders }
     ensures shown { (c : Client) (holders : List ℕ) (slot : ℕ) → ShowsRows rows.old holders prices.old watchers.now c
@@ -146,6 +148,7 @@ pub fn send_lock_again(
     requires above { 0 < (row_at rows.old index).slot }
     requires slot { (row_at rows.old index).slot ≤ length slots.old.items }
     ensures count { length rows.new ≡ length rows.old }
+    ensures place { KeepsRow rows.old rows.new index }
     ensures counts { Counts rows.new prices.new watchers.now }
     ensures safe { (holders : List ℕ) → IsSafe rows.old holders → IsSafe rows.new holders }
     ensures users { HaveRows rows.new slots.new.items }
@@ -173,6 +176,7 @@ fn put_again(
     requires within { index < length rows.old }
     requires counts { Counts rows.old prices.old watchers.now }
     ensures count { length rows.new ≡ length rows.old }
+    ensures place { KeepsRow rows.old rows.new index }
     ensures counts { Counts rows.new prices.new watchers.now }
     ensures safe { (holders : List ℕ) → IsSafe rows.old holders → IsSafe rows.new holders }
     ensures firm { (g : ℕ) → (row_at rows.new g).firm ≡ (row_at rows.old g).firm }
@@ -200,6 +204,7 @@ pub fn send_again(
     requires within { index < length rows.old }
     requires counts { Counts rows.old prices.old watchers.now }
     ensures count { length rows.new ≡ length rows.old }
+    ensures place { KeepsRow rows.old rows.new index }
     ensures counts { Counts rows.new prices.new watchers.now }
     ensures safe { (holders : List ℕ) → IsSafe rows.old holders → IsSafe rows.new holders }
     ensures shown { (c : Client) (holders : List ℕ) (slot : ℕ) → ShowsRows rows.old holders prices.old watchers.now c

@@ -152,3 +152,11 @@ module _ (old new : List Row) (a : Alike old new) where
         sends = sends_alike c s.sends;
         stand = subst (λ (k : ℕ → ℕ). Stands (waits_by c.op) (fills_by c.op) k new holders prices2 watchers2) same_costs t;
       }
+
+-- ---- one that is found isn't below where the search began
+
+pub behind_is : (holds : ℕ → ℕ → Bool) (price : ℕ → ℕ) (credits : ℕ) (rows : List Row) (from : ℕ) (r : Option ℕ)
+    → MatchOption r (AllStay holds price credits rows from (length rows)) (λ i. IsLeast holds price credits rows from i)
+    → IfSome r (λ i. from ≤ i)
+behind_is holds price credits rows from None h = tt
+behind_is holds price credits rows from (Some g) h = h.behind

@@ -52,10 +52,23 @@ pub record ShowsRows (rows : List Row) (holders prices : List ℕ) (watchers : L
 
 -- ---- what a channel takes with it
 
--- a request to attach that is lost makes no unanswered copy
+-- where something is outstanding of the operation; a request to attach that is lost makes no unanswered copy
 abbrev pub lost : Client → ℕ → Client
 lost c g =
     record c {
       outstanding_on = put c.outstanding_on g None;
       unanswered = put c.unanswered g (if c.asks_attach g then c.unanswered g else true);
     }
+
+-- ---- what stays where one row changes
+
+-- where each stands stays, and of all but one also what is outstanding
+pub record KeepsRow (old new : List Row) (x : ℕ) : Type 0 where
+  pub count : length new ≡ length old
+  pub create : (g : ℕ) → owner new g ≡ owner old g
+  pub opens : (g : ℕ) → (row_at new g).«open» ≡ (row_at old g).«open»
+  pub kinds : (g : ℕ) → kind new g ≡ kind old g
+  pub unsettled : (g : ℕ) → stands new g ≡ stands old g
+  pub firms : (g : ℕ) → (row_at new g).firm ≡ (row_at old g).firm
+  pub charges : (g : ℕ) → (row_at new g).charge ≡ (row_at old g).charge
+  pub others : (g : ℕ) → (g ≡ x → ⊥) → (row_at new g).outstanding_on ≡ (row_at old g).outstanding_on

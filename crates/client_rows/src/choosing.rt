@@ -1,5 +1,5 @@
 // The client's choice at a push.
-ghost use Rattle.std.specs.Prelude.{◌≡◌, ℕ, ◌+◌, ◌<◌, true, List, length, None, IfSome, IfNone};
+ghost use Rattle.std.specs.Prelude.{◌≡◌, ℕ, ◌+◌, ◌<◌, ◌≤◌, true, List, length, None, IfSome, IfNone};
 ghost use Rattle.exchange_defs.specs.Client.{Client};
 ghost use Rattle.exchange_defs.specs.Schedules.{choose};
 ghost use Rattle.client_law.specs.Kept.{Kept};
@@ -30,6 +30,7 @@ pub fn choose_from(
     ensures safe { IsSafe rows.new holders.now }
     ensures counts { Counts rows.new prices.new watchers.new }
     ensures inside { IfSome result (λ i. i < length rows.old) }
+    ensures behind { (c : Client) → ShowsRows rows.old holders.now prices.old watchers.old c → IfSome result (λ i. start ≤ i) }
     ensures shown { (c : Client) → ShowsRows rows.old holders.now prices.old watchers.old c
         → ShowsRows rows.new holders.now prices.new watchers.new c }
     ensures none { (c : Client) (k m : ℕ) (slotless : List ℕ) → ShowsRows rows.old holders.now prices.old watchers.old c

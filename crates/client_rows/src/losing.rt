@@ -1,6 +1,7 @@
 // What is outstanding of an operation goes with its channel.
-ghost use Rattle.std.specs.Prelude.{◌≡◌, ℕ, ◌<◌, true, if◌then◌else◌, List, length};
+ghost use Rattle.std.specs.Prelude.{◌≡◌, ℕ, ◌<◌, true, if◌then◌else◌, List, length, slice_set, None};
 ghost use Rattle.exchange_defs.specs.Client.{Client};
+ghost use Rattle.operation_rows.specs.Rows.{row_at};
 ghost use Rattle.operation_rows.specs.Holding.{IsSafe};
 ghost use Rattle.operation_rows.specs.Choosing.{Counts};
 ghost use Rattle.client_rows.specs.Shown.{ShowsRows, lost};
@@ -17,10 +18,15 @@ fn unanswered_behind(row: &Row) -> bool
     if row.asking { row.unanswered } else { true }
 }
 
-/// What was outstanding of an operation is lost with its channel.
+/// What is outstanding of an operation is lost with its channel. It is asked of one of which something is: of another it would note
+/// an unanswered copy.
 pub fn lose(rows: &mut [Row], prices: &mut Prices, watchers: &Watchers, index: usize)
     requires within { index < length rows.old }
     requires counts { Counts rows.old prices.old watchers.now }
+    ensures row { rows.new ≡ slice_set rows.old index (record (row_at rows.old index) {
+      outstanding_on = None;
+      unanswered = if (row_at rows.old index).asking then (row_at rows.old index).unanswered else true;
+    }) }
     ensures count { length rows.new ≡ length rows.old }
     ensures counts { Counts rows.new prices.new watchers.now }
     ensures safe { (holders : List ℕ) → IsSafe rows.old holders → IsSafe rows.new holders }

@@ -9,7 +9,7 @@ ghost use Rattle.operation_rows.specs.Rows.{row_at};
 ghost use Rattle.operation_rows.specs.Holding.{IsSafe};
 ghost use Rattle.operation_rows.specs.Choosing.{Counts};
 ghost use Rattle.operation_rows.specs.Moves.{KeepsPlace};
-ghost use Rattle.client_rows.specs.Shown.{ShowsRows, ShowsSends};
+ghost use Rattle.client_rows.specs.Shown.{KeepsRow, ShowsRows, ShowsSends};
 
 use operation_rows::{Row, change, settle};
 use price_table::Prices;
@@ -24,6 +24,7 @@ pub fn put_row(rows: &mut [Row], prices: &mut Prices, watchers: &Watchers, index
     requires cost { row.cost ≡ (row_at rows.old index).cost }
     requires charge { row.charge ≡ (row_at rows.old index).charge }
     ensures row { rows.new ≡ slice_set rows.old index row }
+    ensures place { row.open ≡ (row_at rows.old index).open → KeepsRow rows.old rows.new index }
     ensures counts { Counts rows.new prices.new watchers.now }
     ensures safe { (holders : List ℕ) → IsSafe rows.old holders → IsSafe rows.new holders }
     ensures shown { (c : Client) (holders : List ℕ) (sent : ℕ → Bool) (out : ℕ → Option ℕ) (asks unanswered : ℕ → Bool)
@@ -47,6 +48,7 @@ pub fn answer(rows: &mut [Row], prices: &mut Prices, watchers: &Watchers, index:
     requires within { index < length rows.old }
     requires counts { Counts rows.old prices.old watchers.now }
     ensures count { length rows.new ≡ length rows.old }
+    ensures place { KeepsRow rows.old rows.new index }
     ensures counts { Counts rows.new prices.new watchers.now }
     ensures safe { (holders : List ℕ) → IsSafe rows.old holders → IsSafe rows.new holders }
     ensures shown { (c : Client) (holders : List ℕ) → ShowsRows rows.old holders prices.old watchers.now c
@@ -64,6 +66,7 @@ pub fn ask(rows: &mut [Row], prices: &mut Prices, watchers: &Watchers, index: us
     requires within { index < length rows.old }
     requires counts { Counts rows.old prices.old watchers.now }
     ensures count { length rows.new ≡ length rows.old }
+    ensures place { KeepsRow rows.old rows.new index }
     ensures counts { Counts rows.new prices.new watchers.now }
     ensures safe { (holders : List ℕ) → IsSafe rows.old holders → IsSafe rows.new holders }
     ensures shown { (c : Client) (holders : List ℕ) → ShowsRows rows.old holders prices.old watchers.now c
@@ -89,6 +92,7 @@ pub fn put_out(
     requires within { index < length rows.old }
     requires counts { Counts rows.old prices.old watchers.now }
     ensures count { length rows.new ≡ length rows.old }
+    ensures place { KeepsRow rows.old rows.new index }
     ensures counts { Counts rows.new prices.new watchers.now }
     ensures safe { (holders : List ℕ) → IsSafe rows.old holders → IsSafe rows.new holders }
     ensures shown { (c : Client) (holders : List ℕ) → ShowsRows rows.old holders prices.old watchers.now c → c.sequence ≡ sequence
@@ -108,6 +112,7 @@ pub fn note_sent(rows: &mut [Row], prices: &mut Prices, watchers: &Watchers, ind
     requires within { index < length rows.old }
     requires counts { Counts rows.old prices.old watchers.now }
     ensures count { length rows.new ≡ length rows.old }
+    ensures place { KeepsRow rows.old rows.new index }
     ensures counts { Counts rows.new prices.new watchers.now }
     ensures safe { (holders : List ℕ) → IsSafe rows.old holders → IsSafe rows.new holders }
     ensures shown { (c : Client) (holders : List ℕ) → ShowsRows rows.old holders prices.old watchers.now c
@@ -132,6 +137,7 @@ pub fn note_slot(
     requires within { index < length rows.old }
     requires counts { Counts rows.old prices.old watchers.now }
     ensures count { length rows.new ≡ length rows.old }
+    ensures place { KeepsRow rows.old rows.new index }
     ensures counts { Counts rows.new prices.new watchers.now }
     ensures safe { (holders : List ℕ) → IsSafe rows.old holders → IsSafe rows.new holders }
     ensures shown { (c : Client) (holders : List ℕ) → ShowsRows rows.old holders prices.old watchers.now c
@@ -159,6 +165,7 @@ pub fn settle_one(
     requires within { index < length rows.old }
     requires counts { Counts rows.old prices.old watchers.old }
     requires above { 0 < index }
+    ensures row { rows.new ≡ slice_set rows.old index (record (row_at rows.old index) { unsettled = false; firm = firm }) }
     ensures count { length rows.new ≡ length rows.old }
     ensures counts { Counts rows.new prices.new watchers.new }
     ensures safe { (holders : List ℕ) → IsSafe rows.old holders → IsSafe rows.new holders }

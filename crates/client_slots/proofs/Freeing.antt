@@ -1,6 +1,6 @@
 -- The least free slot of the rows is the model's.
 use Rattle.std.proofs.Common.{◌≡◌, ℕ, zero, suc, ◌+◌, ◌-◌, ◌<◌, ◌≤◌, ◌==◌, ◌&&◌, not, nat_le, nat_lt, Bool, true, false, if◌then◌else◌}
-use Rattle.std.proofs.Common.{List, length, refl, ap, sym, ◌∙◌, arith, ◌⊎◌, inl, inr, Option, Some}
+use Rattle.std.proofs.Common.{List, length, refl, ap, sym, ◌∙◌, arith, ◌⊎◌, inl, inr, Option, Some, None, IfSome}
 use Rattle.exchange_defs.specs.Client.{Client, is_out_of_use}
 use Rattle.exchange_defs.specs.Client.{is_free as is_free_in}
 use Rattle.exchange_defs.specs.Schedules.{least_free}
@@ -30,7 +30,8 @@ is_above i e = grind arith
 never_used : (session : ℕ) → 0 < session → (true && (not (0 == session) && not false)) ≡ true
 never_used session p = grind arith
 
-module _ (rows : List Row) (slots : List Slot) (session : ℕ) (c : Client) (create : ℕ) where
+module _ (rows : List Row) (slots : List Slot) (session : ℕ) (c : Client) (create : ℕ)
+    (counted : 0 < session) where
   abbrev tests : ℕ → Bool
   tests i = is_out_of_use c (c.slot_user create i) && (not (c.retried create i == c.session_number) && not (c.full create i))
 
@@ -44,7 +45,7 @@ module _ (rows : List Row) (slots : List Slot) (session : ℕ) (c : Client) (cre
   by_none s place l =
       let w = s.unused place l in
       let u = ap (λ o. is_out_of_use c o) w.0 in
-      (λ t. (u t) && (not ((w.1 t) == (s.number t)) && not (w.2 t))) ∙ never_used session s.counted
+      (λ t. (u t) && (not ((w.1 t) == (s.number t)) && not (w.2 t))) ∙ never_used session counted
 
   free_is : ShowsSlots rows slots session c create → (i : ℕ) → is_free_in c create i ≡ is_free rows slots session i
   free_is s i =
@@ -64,3 +65,73 @@ module _ (rows : List Row) (slots : List Slot) (session : ℕ) (c : Client) (cre
   least_is s i (suc n) =
       (λ t. elim (free_is s i t) as (λ x. Option ℕ) [ true ↦ Some i | false ↦ least_free c create (i + 1) n ])
       ∙ (λ t. elim (is_free rows slots session i) as (λ x. Option ℕ) [ true ↦ Some i | false ↦ (least_is s (i + 1) n) t ])
+
+-- ---- it isn't above the slot behind those that were used
+
+if_weaker : (o : Option ℕ) (P Q : ℕ → Type 0) → ((s : ℕ) → P s → Q s) → IfSome o P → IfSome o Q
+if_weaker None P Q f h = tt
+if_weaker (Some s) P Q f h = f s h
+
+-- the first from i on, of n
+abbrev IsFirst : (ℕ → Bool) → (i n s : ℕ) → Type 0
+IsFirst free i n s = (i ≤ s) × (s < i + n) × ((j : ℕ) → i ≤ j → j < s → free j ≡ false)
+
+later_too : (free : ℕ → Bool) (i n s : ℕ) → free i ≡ false → IsFirst free (i + 1) n s → IsFirst free i (suc n) s
+later_too free i n s e h =
+    let a = h.0 in
+    let b = h.1 in (
+      omega arith,
+      omega arith,
+      λ j l k. elim (at_or_behind i j l) as (λ _. free j ≡ false) [ inl q ↦ ap (λ x. free x) q ∙ e | inr q ↦ h.2 j q k ],
+    )
+  where
+    at_or_behind : (i j : ℕ) → i ≤ j → (j ≡ i) ⊎ (i + 1 ≤ j)
+    at_or_behind i j l = grind arith
+
+by_first : (free : ℕ → Bool) (i n : ℕ) (b : Bool) (o : Option ℕ) → free i ≡ b → IfSome o (λ s. IsFirst free (i + 1) n s)
+    → IfSome (elim b as (λ x. Option ℕ) [ true ↦ Some i | false ↦ o ]) (λ s. IsFirst free i (suc n) s)
+by_first free i n true o e h = (omega arith, omega arith, λ j l k. absurd (omega arith))
+by_first free i n false o e h = if_weaker o (λ s. IsFirst free (i + 1) n s) (λ s. IsFirst free i (suc n) s) (λ s f. later_too free i n s e f) h
+
+least_first : (free : ℕ → Bool) (i n : ℕ) → IfSome (least free i n) (λ s. IsFirst free i n s)
+unfolding least
+least_first free i zero = tt
+least_first free i (suc n) = by_first free i n (free i) (least free (i + 1) n) refl (least_first free (i + 1) n)
+
+fresh_is_free : (m : ℕ) (x : Bool) → m < 64 → ((nat_lt 0 (m + 1) && nat_le (m + 1) 64) && (if nat_lt ((m + 1) - 1) m then x else true)) ≡ true
+fresh_is_free m x l = λ t. (some_above m t && within_all m l t) && if_beyond ((m + 1) - 1) m x (omega arith) t
+  where
+    some_above : (n : ℕ) → nat_lt 0 (n + 1) ≡ true
+    some_above n = grind arith
+
+    within_all : (n : ℕ) → n < 64 → nat_le (n + 1) 64 ≡ true
+    within_all n k = grind arith
+
+clash : (b : Bool) → b ≡ true → b ≡ false → ⊥
+clash b e f = absurd (cc)
+
+full_or_not : (m : ℕ) → m ≤ 64 → (m ≡ 64) ⊎ (m < 64)
+full_or_not m l = grind arith
+
+up_to_or_past : (s m : ℕ) → (s ≤ m) ⊎ (m < s)
+up_to_or_past s m = grind arith
+
+module _ (rows : List Row) (slots : List Slot) (session : ℕ) (few : length slots ≤ 64) where
+  bounded : (s : ℕ) → IsFirst (is_free rows slots session) 1 64 s → (0 < s) × (s ≤ length slots + 1)
+  bounded s h =
+      let a = h.0 in
+      let b = h.1 in
+      elim (full_or_not (length slots) few) as (λ _. (0 < s) × (s ≤ length slots + 1)) [
+        | inl e ↦ (omega arith, omega arith)
+        | inr l ↦ elim (up_to_or_past s (length slots + 1)) as (λ _. (0 < s) × (s ≤ length slots + 1)) [
+          | inl k ↦ (omega arith, k)
+          | inr k ↦ absurd (clash (is_free rows slots session (length slots + 1))
+              (fresh_is_free (length slots) (is_free_slot rows session (slot_at slots ((length slots + 1) - 1))) l)
+              (h.2 (length slots + 1) (omega arith) k))
+        ]
+      ]
+
+  pub least_within : IfSome (least (is_free rows slots session) 1 64) (λ s. (0 < s) × (s ≤ length slots + 1))
+  least_within =
+      if_weaker (least (is_free rows slots session) 1 64) (λ s. IsFirst (is_free rows slots session) 1 64 s)
+      (λ s. (0 < s) × (s ≤ length slots + 1)) bounded (least_first (is_free rows slots session) 1 64)

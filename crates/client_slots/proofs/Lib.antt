@@ -1,3 +1,4 @@
 pub mod Freeing
 pub mod Tables
 pub mod Showing
+pub mod Staying

@@ -1,5 +1,6 @@
 -- What slots show behind each change.
-use Rattle.std.proofs.Common.{◌≡◌, ℕ, ◌+◌, ◌-◌, ◌%◌, ◌<◌, ◌≤◌, ◌==◌, ◌&&◌, not, Bool, true, false, if◌then◌else◌, List, [], ◌∷◌, ◌++◌, length}
+use Rattle.std.proofs.Common.{◌≡◌, ℕ, ◌+◌, ◌-◌, ◌%◌, ◌<◌, ◌≤◌, ◌==◌, ◌&&◌, not, Bool, true, false, if◌then◌else◌, List, [], ◌∷◌}
+use Rattle.std.proofs.Common.{◌++◌, length}
 use Rattle.std.proofs.Common.{set, refl, ap, sym, ◌∙◌, arith, subst, ◌⊎◌, inl, inr, Option, Some, length-append}
 use Rattle.std.proofs.Math.ListN.{length-set}
 use Rattle.exchange_defs.specs.Table.{put2}
@@ -88,7 +89,6 @@ module _ (rows : List Row) (slots : List Slot) (session : ℕ) (c : Client) wher
             (h.unused p (omega arith)).2,
           );
           number = h.number;
-          counted = h.counted;
         }
 
   -- ---- a slot more
@@ -157,7 +157,6 @@ module _ (rows : List Row) (slots : List Slot) (session : ℕ) (c : Client) wher
             (h.unused p (omega arith)).2,
           );
           number = h.number;
-          counted = h.counted;
         }
 
   -- ---- a lock goes out again
@@ -213,7 +212,6 @@ module _ (rows : List Row) (slots : List Slot) (session : ℕ) (c : Client) wher
             (h.unused p (omega arith)).2,
           );
           number = h.number;
-          counted = h.counted;
         }
 
   -- ---- a lock meets DISK_FULL
@@ -268,7 +266,6 @@ module _ (rows : List Row) (slots : List Slot) (session : ℕ) (c : Client) wher
                 (past_place p place (length slots) l (omega arith)) ∙ (h.unused p (omega arith)).2,
           );
           number = h.number;
-          counted = h.counted;
         }
 
 -- ---- by the model's steps
@@ -277,7 +274,7 @@ pick_yes : (P : Client → Type 0) (b : Bool) (x y : Client) → b ≡ true → 
 pick_yes P true x y e p = p
 pick_yes P false x y e p = absurd (cc)
 
-pick_any : (P : Client → Type 0) (b : Bool) (x y : Client) → P x → P y → P (if b then x else y)
+pub pick_any : (P : Client → Type 0) (b : Bool) (x y : Client) → P x → P y → P (if b then x else y)
 pick_any P true x y p q = p
 pick_any P false x y p q = q
 
@@ -287,7 +284,8 @@ back_to slot l = omega arith
 module _ (rows : List Row) (slots : List Slot) (session : ℕ) (c : Client) where
   pub used_at : (g slot : ℕ) → 0 < slot → slot - 1 < length slots → is_firm (c.outcome g) ≡ (row_at rows g).firm
       → ShowsSlots rows slots session c (create_for c g)
-      → ShowsSlots rows (set slots (slot - 1) (record (slot_at slots (slot - 1)) { user = g })) session (take_slot c g slot) (create_for c g)
+      → ShowsSlots rows (set slots (slot - 1) (record (slot_at slots (slot - 1)) { user = g })) session (take_slot c g slot)
+      (create_for c g)
   used_at g slot a l firm h =
       subst (λ i. ShowsSlots rows (set slots (slot - 1) (record (slot_at slots (slot - 1)) { user = g })) session
       (take_slot c g i) (create_for c g)) (sym (back_to slot a)) (shows_used rows slots session c g (slot - 1) l h firm)
@@ -305,7 +303,8 @@ module _ (rows : List Row) (slots : List Slot) (session : ℕ) (c : Client) wher
 
   pub tried_by : (g slot : ℕ) → 0 < slot → slot ≤ length slots → is_lock (c.op g) ≡ true → c.slot_of g ≡ slot
       → ShowsSlots rows slots session c (create_for c g)
-      → ShowsSlots rows (set slots (slot - 1) (record (slot_at slots (slot - 1)) { retried = session })) session (again c g) (create_for c g)
+      → ShowsSlots rows (set slots (slot - 1) (record (slot_at slots (slot - 1)) { retried = session })) session (again c g)
+      (create_for c g)
   tried_by g slot a l lock at h =
       pick_yes (λ (d : Client). ShowsSlots rows (set slots (slot - 1) (record (slot_at slots (slot - 1)) { retried = session }))
       session d (create_for c g)) (is_lock (c.op g))
@@ -382,7 +381,6 @@ module _ (rows : List Row) (slots : List Slot) (session create : ℕ) (c : Clien
           (h.unused p k).2,
         );
         number = h.number;
-        counted = h.counted;
       }
 
   pub tried_other : (g : ℕ) → (create ≡ create_for c g → ⊥) → ShowsSlots rows slots session c create
@@ -401,7 +399,6 @@ module _ (rows : List Row) (slots : List Slot) (session create : ℕ) (c : Clien
           (h.unused p k).2,
         );
         number = h.number;
-        counted = h.counted;
       }) h
 
   pub filled_other : (g status : ℕ) → (create ≡ create_for c g → ⊥) → ShowsSlots rows slots session c create
@@ -421,7 +418,6 @@ module _ (rows : List Row) (slots : List Slot) (session create : ℕ) (c : Clien
           put2_other c.full (create_for c g) (c.slot_of g) create (p + 1) true n ∙ (h.unused p k).2,
         );
         number = h.number;
-        counted = h.counted;
       }) h
 
   pub begins : (k id tree : ℕ) → ShowsSlots rows slots session c create
@@ -434,5 +430,4 @@ module _ (rows : List Row) (slots : List Slot) (session create : ℕ) (c : Clien
         firm = h.firm;
         unused = h.unused;
         number = ap (λ n. n + 1) h.number;
-        counted = omega arith;
       }

@@ -1,23 +1,29 @@
 // How slots are used.
-ghost use Rattle.std.specs.Prelude.{◌≡◌, ℕ, ◌+◌, ◌%◌, ◌<◌, ◌≤◌, true, false, List, length, slice_set, vec_len, vec_capacity};
-ghost use Rattle.exchange_defs.specs.Operations.{is_firm, is_lock};
-ghost use Rattle.exchange_defs.specs.Client.{Client, again, begin_session, create_for, next_number, take_slot as takes};
-ghost use Rattle.exchange_defs.specs.Settling.{noted_full};
+ghost use Rattle.std.specs.Prelude.{◌≡◌, ℕ, ◌+◌, ◌%◌, ◌<◌, ◌≤◌, ◌==◌, ◌&&◌, not, Bool, true, false, List, [], length};
+ghost use Rattle.std.specs.Prelude.{slice_set, vec_len, vec_capacity, IfSome};
+ghost use Rattle.exchange_defs.specs.State.{Reply as Replied};
+ghost use Rattle.exchange_defs.specs.Operations.{Op, Outcome, is_firm, is_lock};
+ghost use Rattle.exchange_defs.specs.Client.{Client, Identity, again, begin_session, bind_channel, create_for, cut_channel};
+ghost use Rattle.exchange_defs.specs.Client.{end_session, next_number, settle_no_slot, take_op, take_slot as takes};
+ghost use Rattle.exchange_defs.specs.Settling.{answered, joined, noted_full, settle};
+ghost use Rattle.exchange_defs.specs.Network.{new_client};
 ghost use Rattle.exchange_defs.specs.Status.{disk_full};
 ghost use Rattle.exchange_defs.specs.Schedules.{least_free};
 ghost use Rattle.operation_rows.specs.declared.row.Row.{Row as Rowed};
 ghost use Rattle.operation_rows.specs.declared.slots.Slot.{Slot as Slotted};
 ghost use Rattle.operation_rows.specs.Rows.{row_at};
 ghost use Rattle.operation_rows.specs.Slots.{slot_at};
-ghost use Rattle.client_slots.specs.Shown.{HaveRows, ShowsSlots};
+ghost use Rattle.client_slots.specs.Shown.{HaveRows, IsUnused, KeepsSlots, ShowsFirm, ShowsSlots};
 
 use operation_rows::{Row, Slot, least_free};
 
-/// The least slot from 1 to 64 that a lock may take. Those behind an open's slots were never used.
+/// The least slot from 1 to 64 that a lock may take in a session. Those behind an open's slots were never used.
 pub fn free_slot(rows: &[Row], slots: &[Slot], session: u32) -> Option<u8>
     requires few { length slots.now ≤ 64 }
     requires users { HaveRows rows.now slots.now }
-    ensures { (c : Client) (create : ℕ) → ShowsSlots rows.now slots.now session c create → result ≡ least_free c create 1 64 }
+    ensures shown { (c : Client) (create : ℕ) → 0 < session → ShowsSlots rows.now slots.now session c create
+        → result ≡ least_free c create 1 64 }
+    ensures within { IfSome result (λ slot. (0 < slot) × (slot ≤ length slots.now + 1)) }
 {
     least_free(rows, slots, session)
 }
@@ -118,7 +124,8 @@ fn fill_at(slots: &mut [Slot], place: usize)
     slots[place].full = true;
 }
 
-/// What is done to the slots of one open leaves those of the others, and a new session leaves all.
+/// An open's slots over everything else that a client does. A client that begins has none; what is done to the slots of one open
+/// leaves those of the others, a new session leaves all, and so does all that neither takes nor tries a slot nor meets DISK_FULL.
 pub fn slots_law()
     ensures taken { (rows : List Rowed) (slots : List Slotted) (session create : ℕ) (c : Client) (g i : ℕ)
         → (create ≡ create_for c g → ⊥) → ShowsSlots rows slots session c create
@@ -131,4 +138,20 @@ pub fn slots_law()
         → ShowsSlots rows slots session (noted_full c g false status) create }
     ensures begins { (rows : List Rowed) (slots : List Slotted) (session create : ℕ) (c : Client) (k id tree : ℕ)
         → ShowsSlots rows slots session c create → ShowsSlots rows slots (session + 1) (begin_session c k id tree) create }
+    ensures starts { (rows : List Rowed) (who : Identity) (create : ℕ) → ShowsSlots rows [] 0 (new_client who) create }
+    ensures fresh { (rows : List Rowed) (session create : ℕ) (c : Client) → c.session_number ≡ session
+        → ((i : ℕ) → IsUnused c create i) → ShowsSlots rows [] session c create }
+    ensures keeps { (rows later : List Rowed) (slots : List Slotted) (session create : ℕ) (c d : Client) → KeepsSlots c d create
+        → ShowsFirm later slots d → ShowsSlots rows slots session c create → ShowsSlots later slots session d create }
+    ensures submits { (c : Client) (g : ℕ) (op : Op) (create : ℕ) → KeepsSlots c (take_op c g op) create }
+    ensures slotless { (c : Client) (k g create : ℕ) → KeepsSlots c (settle_no_slot c k g) create }
+    ensures cuts { (c : Client) (k create : ℕ) → KeepsSlots c (cut_channel c k) create }
+    ensures binds { (c : Client) (k create : ℕ) → KeepsSlots c (bind_channel c k) create }
+    ensures settles { (c : Client) (g : ℕ) (asking : Bool) (r : Replied) (place : ℕ) (outcome : Outcome) (create : ℕ)
+        → KeepsSlots (noted_full c g asking r.status) (settle c g asking r place outcome) create }
+    ensures unfilled { (c : Client) (g : ℕ) (asking : Bool) (status create : ℕ)
+        → (is_lock (c.op g) && (not asking && (status == disk_full))) ≡ false → KeepsSlots c (noted_full c g asking status) create }
+    ensures answers { (c : Client) (g create : ℕ) → KeepsSlots c (answered c g) create }
+    ensures attaches { (c : Client) (g create : ℕ) → KeepsSlots c (joined c g) create }
+    ensures ends { (c : Client) (create : ℕ) → KeepsSlots c (end_session c) create }
 {}

@@ -63,7 +63,7 @@ module _ (n : ℕ) (order places : List ℕ) (i j : ℕ) (h : Pairs n order plac
   order_at_j : get_or order' j 0 ≡ a
   order_at_j = twice_last order i j b a i_in j_in
 
-  order_at_i : get_or order' i 0 ≡ b
+  pub order_at_i : get_or order' i 0 ≡ b
   order_at_i =
       elim (same_or_other i j) as (λ _. get_or order' i 0 ≡ b) [
         | inl e ↦ subst (λ x. get_or order' x 0 ≡ b) (sym e) (order_at_j ∙ ap (λ x. get_or order x 0) e)

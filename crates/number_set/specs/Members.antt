@@ -1,5 +1,5 @@
 -- Which numbers are members, and where each stands.
-use Rattle.std.specs.Prelude.{◌≡◌, ℕ, ◌<◌, ◌≤◌, ◌^◌, Bool, nat_lt, List, length, slice_index}
+use Rattle.std.specs.Prelude.{◌≡◌, ℕ, ◌<◌, ◌≤◌, ◌^◌, Bool, true, false, ◌==◌, if◌then◌else◌, nat_lt, List, [], ◌∷◌, length, slice_index}
 use Rattle.number_set.specs.declared.Members.{Members}
 
 -- how many numbers there are, and how many are members
@@ -32,3 +32,8 @@ pub record Fits (s : Members) : Type 0 where
   pub pairs : Pairs (size s) s.order.items s.places.items
   pub within : count s ≤ size s
   pub few : size s < 2 ^ 32
+
+-- a number stands in a list
+abbrev pub is_in : ℕ → List ℕ → Bool
+is_in n [] = false
+is_in n (x ∷ xs) = if x == n then true else is_in n xs

@@ -1,12 +1,12 @@
 //! A set of numbers below a count, which tells its members one by one.
 #![tactic(auto)]
 
-ghost use Rattle.std.specs.Prelude.{◌≡◌, ℕ, ◌+◌, ◌-◌, ◌==◌, ◌<◌, ◌^◌, true, false, if◌then◌else◌, length, OnOk, OnErr};
-ghost use Rattle.number_set.specs.Members.{Fits, count, has, member, place, size};
+ghost use Rattle.std.specs.Prelude.{◌≡◌, ℕ, ◌+◌, ◌-◌, ◌==◌, ◌<◌, ◌^◌, true, false, if◌then◌else◌, length, take, slice_index, OnOk, OnErr};
+ghost use Rattle.number_set.specs.Members.{Fits, count, has, is_in, member, place, size};
 
 mod order;
 
-use order::{add, swap_in};
+use order::{add, front, swap_in};
 use std::alloc::{AllocError, Global};
 
 /// Numbers from 0 on, and which of them are members. Each call but `push` takes a few steps and no memory.
@@ -125,10 +125,33 @@ impl Members {
         ensures count { count self.new + 1 ≡ count self.old }
         ensures has { (h : ℕ) → h < size self.old → has self.new h ≡ (if h == number then false else has self.old h) }
         ensures members { (i : ℕ) → i < place self.old number → member self.new i ≡ member self.old i }
+        ensures moved { member self.new (place self.old number) ≡ member self.old (count self.new) }
+        ensures others { (i : ℕ) → i < count self.new → (i ≡ place self.old number → ⊥) → member self.new i ≡ member self.old i }
     {
         let place = self.place_of(number);
         let last = self.count - 1;
         swap_in(&mut self.order, &mut self.places, place, last);
         self.count = last;
+    }
+
+    /// The members, in their order.
+    pub fn members(&self) -> &[u32]
+        requires fits { Fits self.now }
+        ensures is { result.now ≡ take (count self.now) self.now.order.items }
+        ensures within { (i : ℕ) → i < length result.now → slice_index result.now i < size self.now }
+        ensures all { (g : ℕ) → g < size self.now → has self.now g ≡ true → is_in g result.now ≡ true }
+    {
+        front(&self.order, self.count)
+    }
+
+    /// No number is a member any more.
+    pub fn clear(&mut self)
+        requires fits { Fits self.old }
+        ensures fits { Fits self.new }
+        ensures size { size self.new ≡ size self.old }
+        ensures count { count self.new ≡ 0 }
+        ensures has { (h : ℕ) → has self.new h ≡ false }
+    {
+        self.count = 0;
     }
 }

@@ -1,5 +1,5 @@
 // All numbers in some order, and the place of each.
-ghost use Rattle.std.specs.Prelude.{◌≡◌, ℕ, ◌+◌, ◌<◌, ◌^◌, length, slice_index, slice_set, ◌∷◌, [], ◌++◌, OnOk, OnErr};
+ghost use Rattle.std.specs.Prelude.{◌≡◌, ℕ, ◌+◌, ◌<◌, ◌≤◌, ◌^◌, length, take, slice_index, slice_set, ◌∷◌, [], ◌++◌, OnOk, OnErr};
 
 use std::alloc::AllocError;
 
@@ -51,4 +51,12 @@ fn swap(order: &mut [u32], places: &mut [u32], i: usize, j: usize)
     order[j] = a;
     places[a as usize] = j as u32;
     places[b as usize] = i as u32;
+}
+
+/// The first numbers.
+pub fn front(order: &Vec<u32>, count: usize) -> &[u32]
+    requires { count ≤ length order.now.items }
+    ensures { result.now ≡ take count order.now.items }
+{
+    &order[..count]
 }

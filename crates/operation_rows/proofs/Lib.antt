@@ -8,3 +8,4 @@ pub mod Least
 pub mod Stretch
 pub mod Growing
 pub mod Found
+pub mod Beginning

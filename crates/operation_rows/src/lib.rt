@@ -16,4 +16,4 @@ pub use holders::holder_of;
 pub use moves::{change, settle};
 pub use row::Row;
 pub use slots::{Slot, least_free};
-pub use taking::take;
+pub use taking::{add, begin, make_room, take};

@@ -86,7 +86,8 @@ impl RangeIndex {
         Ok(())
     }
 
-    /// A range that no later one hides in part leaves. Any other stays.
+    /// A range that no later one hides in part leaves, which saves memory. Any other stays. The contract says only that each byte keeps
+    /// its number or has lost this one.
     pub fn forget(&mut self, at: u64, size: u64, number: u32)
         ensures { Forgets (top self.old) (top self.new) number }
     {

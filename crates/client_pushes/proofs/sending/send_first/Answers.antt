@@ -43,3 +43,6 @@ returns-clause-slots c = λ d slots number create slot h lock fresh.
     } in
     other_slots old c.put_row.new.rows slots number d c.args.channel x slot create
     (firm_same old c.put_row.new.rows x r c.requires.within refl c.put_row.ensures.row) fresh lock h
+
+pub returns-clause-place : goal.returns-clause-place
+returns-clause-place c = c.put_row.ensures.place refl

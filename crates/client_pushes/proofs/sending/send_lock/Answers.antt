@@ -80,3 +80,6 @@ returns-clause-slots c = λ d holders s slots above lock fresh.
     (create_for d x) (firm_same old c.put_row.new.rows x r c.requires.within refl c.put_row.ensures.row) fresh lock
     (c.take_slot-number.ensures.shown d d.session_number slots
     (s.places.firm_is x above (s.places.is_taken x above c.requires.within)))
+
+pub returns-clause-place : goal.returns-clause-place
+returns-clause-place c = c.put_row.ensures.place refl

@@ -1,6 +1,6 @@
 use Rattle.operation_rows.specs.Rows.{costs}
 use Rattle.client_rows.specs.Shown.{fills_by, waits_by}
-use Rattle.client_rows.proofs.Showing.{alike_shown, goes_is, none_is, some_is}
+use Rattle.client_rows.proofs.Showing.{alike_shown, behind_is, goes_is, none_is, some_is}
 use Rattle.client_rows.proofs.choosing.choose_from.Goals as goal
 
 pub returns-clause-shown : goal.returns-clause-shown
@@ -25,4 +25,9 @@ pub returns-clause-goes : goal.returns-clause-goes
 returns-clause-goes c = λ d s.
     goes_is c.args.rows.now c.args.holders.now c.args.prices.now c.args.watchers.now d s c.args.credits c.args.start
     c.find_from.result c.requires.above c.find_from.ensures.inside
+    (c.find_from.ensures.chosen (waits_by d.op) (fills_by d.op) (costs c.args.rows.now) s.stand)
+
+pub returns-clause-behind : goal.returns-clause-behind
+returns-clause-behind c = λ d s.
+    behind_is (waits_by d.op) (costs c.args.rows.now) c.args.credits c.args.rows.now c.args.start c.find_from.result
     (c.find_from.ensures.chosen (waits_by d.op) (fills_by d.op) (costs c.args.rows.now) s.stand)

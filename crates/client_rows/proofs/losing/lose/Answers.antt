@@ -1,4 +1,4 @@
-use Rattle.std.proofs.Common.{true, if◌then◌else◌, refl, sym, ◌∙◌, None}
+use Rattle.std.proofs.Common.{Bool, true, if◌then◌else◌, set, refl, ap, sym, ◌∙◌, None}
 use Rattle.exchange_defs.specs.Table.{put}
 use Rattle.operation_rows.specs.declared.row.Row.{Row}
 use Rattle.operation_rows.specs.Rows.{row_at}
@@ -24,3 +24,10 @@ returns-clause-shown c = λ d holders s.
       slot_is = same_col (λ (z : Row). z.slot) old x r d.slot_of c.requires.within refl w.slot_is;
       number_is = same_col (λ (z : Row). z.slot_number) old x r d.number_of c.requires.within refl w.number_is;
     })
+
+pub returns-clause-row : goal.returns-clause-row
+returns-clause-row c =
+    let old = c.args.rows.now in
+    let x = c.args.index in
+    c.put_row.ensures.row
+    ∙ ap (λ (b : Bool). set old x (record (row_at old x) { outstanding_on = None; unanswered = b })) c.unanswered_behind-unanswered.ensures

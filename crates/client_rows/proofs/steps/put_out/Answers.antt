@@ -22,3 +22,6 @@ returns-clause-shown c = λ d holders s e.
       slot_is = same_col (λ (z : Row). z.slot) old x r d.slot_of c.requires.within refl w.slot_is;
       number_is = same_col (λ (z : Row). z.slot_number) old x r d.number_of c.requires.within refl w.number_is;
     })
+
+pub returns-clause-place : goal.returns-clause-place
+returns-clause-place c = c.put_row.ensures.place refl

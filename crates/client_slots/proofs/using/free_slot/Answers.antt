@@ -1,6 +1,12 @@
-use Rattle.std.proofs.Common.{sym, ◌∙◌}
-use Rattle.client_slots.proofs.Freeing.{least_is}
+use Rattle.std.proofs.Common.{ℕ, ◌+◌, ◌<◌, ◌≤◌, length, sym, ◌∙◌, subst, Option, IfSome}
+use Rattle.client_slots.proofs.Freeing.{least_is, least_within}
 use Rattle.client_slots.proofs.using.free_slot.Goals as goal
 
 pub returns : goal.returns
-returns c = λ d create h. c.least_free.ensures ∙ sym (least_is c.args.rows.now c.args.slots.now c.args.session d create h 1 64)
+returns c =
+    record {
+      shown = λ d create counted h. c.least_free.ensures
+          ∙ sym (least_is c.args.rows.now c.args.slots.now c.args.session d create counted h 1 64);
+      within = subst (λ (o : Option ℕ). IfSome o (λ slot. (0 < slot) × (slot ≤ length c.args.slots.now + 1)))
+          (sym c.least_free.ensures) (least_within c.args.rows.now c.args.slots.now c.args.session c.requires.few);
+    }

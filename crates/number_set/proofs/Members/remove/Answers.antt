@@ -1,6 +1,6 @@
-use Rattle.std.proofs.Common.{◌≡◌, ◌+◌, ◌-◌, ◌<◌, ℕ, nat_lt, List, length, get_or, ap, ◌∙◌, arith}
+use Rattle.std.proofs.Common.{◌≡◌, ◌+◌, ◌-◌, ◌<◌, ℕ, nat_lt, List, length, get_or, ap, ◌∙◌, subst, arith}
 use Rattle.number_set.specs.Members.{Pairs}
-use Rattle.number_set.proofs.Swapping.{has_removed, is_below, order_past, pairs_lists, swapped}
+use Rattle.number_set.proofs.Swapping.{has_removed, is_below, order', order_at_i, order_past, pairs_lists, swapped}
 use Rattle.number_set.proofs.Members.remove.Goals as goal
 
 pub overflow_sub-last : goal.overflow_sub-last
@@ -59,4 +59,8 @@ returns c =
           ∙ has_removed n o p i (m - 1) h k l q r e m u (omega arith) x w;
       members = λ x w. ap (λ (xs : List ℕ). get_or xs x 0) d.order
           ∙ order_past n o p i (m - 1) h k l x (λ a. (omega arith)) (λ a. (omega arith));
+      moved = ap (λ (xs : List ℕ). get_or xs (get_or p q 0) 0) d.order
+          ∙ subst (λ y. get_or (order' n o p i (m - 1) h k l) y 0 ≡ get_or o (m - 1) 0) e (order_at_i n o p i (m - 1) h k l);
+      others = λ x w a. ap (λ (xs : List ℕ). get_or xs x 0) d.order
+          ∙ order_past n o p i (m - 1) h k l x (λ f. a (f ∙ e)) (λ f. (omega arith));
     }

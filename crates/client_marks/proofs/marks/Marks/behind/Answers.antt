@@ -2,11 +2,12 @@ use Rattle.std.proofs.Common.{◌==◌, ◌&&◌, not, true, refl, sym, ap, ◌�
 use Rattle.operation_values.specs.Waiting.{is_close_kind}
 use Rattle.operation_rows.specs.Holding.{is_changing}
 use Rattle.client_marks.specs.Marks.{fills_by_shape, is_barrier, is_end, is_write}
+use Rattle.client_marks.proofs.Lower.{raised_below}
 use Rattle.client_marks.proofs.Raised.{highest_more}
 use Rattle.client_marks.proofs.marks.Marks.behind.Goals as goal
 
-pub returns : goal.returns
-returns c = λ o k sizes create h a b d.
+pub returns-clause-highest : goal.returns-clause-highest
+returns-clause-highest c = λ o k sizes create h a b d.
     let m = c.args.self.now in
     let n = c.args.number in
     record {
@@ -21,4 +22,17 @@ returns c = λ o k sizes create h a b d.
           (ap (λ z. is_end z) b ∙ sym c.ends.ensures) c.raised-end.ensures;
       barriers = highest_more o (λ x. is_barrier (k x)) create n m.barrier c.raised-barrier.result c.bars.result h.barriers a
           (ap (λ z. is_barrier z) b ∙ sym c.bars.ensures) c.raised-barrier.ensures;
+    }
+
+pub returns-clause-below : goal.returns-clause-below
+returns-clause-below c = λ n b l.
+    let m = c.args.self.now in
+    let x = c.args.number in
+    record {
+      last = l;
+      change = raised_below c.changes.result x m.change c.raised-change.result n c.raised-change.ensures l b.change;
+      filled = raised_below c.fills.result x m.filled c.raised-filled.result n c.raised-filled.ensures l b.filled;
+      close = raised_below c.closes.result x m.close c.raised-close.result n c.raised-close.ensures l b.close;
+      end = raised_below c.ends.result x m.end c.raised-end.result n c.raised-end.ensures l b.end;
+      barrier = raised_below c.bars.result x m.barrier c.raised-barrier.result n c.raised-barrier.ensures l b.barrier;
     }

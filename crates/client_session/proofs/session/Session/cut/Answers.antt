@@ -1,5 +1,4 @@
 use Rattle.std.proofs.Common.{◌≡◌, ◌<◌, true, sym, ◌∙◌, subst}
-use Rattle.exchange_defs.specs.Client.{ends_at_cut}
 use Rattle.exchange_defs.specs.ClientStep.{cut_after}
 use Rattle.client_session.specs.declared.session.Session.{Session}
 use Rattle.client_session.specs.Shown.{ShowsSession, ready_at}

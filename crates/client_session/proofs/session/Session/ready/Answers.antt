@@ -1,4 +1,4 @@
-use Rattle.std.proofs.Common.{◌≡◌, ◌==◌, nat_lt, true, refl, sym, ◌∙◌, subst}
+use Rattle.std.proofs.Common.{◌==◌, nat_lt, true, refl, sym, ◌∙◌, subst}
 use Rattle.exchange_defs.specs.ClientStep.{ready_after}
 use Rattle.client_session.specs.declared.session.Session.{Session}
 use Rattle.client_session.specs.Shown.{ShowsSession}
