@@ -1,0 +1,6 @@
+//! What a channel that is cut takes of what a client has outstanding, and what the end of a session does.
+#![tactic(auto)]
+
+mod cutting;
+
+pub use cutting::{lose_channel, lose_session};

@@ -1,0 +1,5 @@
+pub mod Columns
+pub mod Keeping
+pub mod Longer
+pub mod Submitted
+pub mod Joined

@@ -1,0 +1,12 @@
+use Rattle.std.proofs.Common.{refl}
+use Rattle.range_index.specs.Shown.{top}
+use Rattle.client_opens.proofs.Keeping.{fresh_open}
+use Rattle.client_opens.proofs.opening.Open.new.Goals as goal
+
+pub returns-clause-shown : goal.returns-clause-shown
+returns-clause-shown c = λ rows at size create n e. fresh_open rows at size create n
+    (record { last = 0; change = 0; filled = 0; close = 0; end = 0; barrier = 0 }) (top c.new-written.result) (top c.new-locked.result) e
+    refl c.new-written.ensures c.new-locked.ensures
+
+pub returns-clause-below : goal.returns-clause-below
+returns-clause-below c = λ n p. record { last = p; change = p; filled = p; close = p; end = p; barrier = p }

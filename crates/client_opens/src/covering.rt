@@ -1,0 +1,48 @@
+// The bytes of a new operation.
+ghost use Rattle.std.specs.Prelude.{OnOk, OnErr};
+ghost use Rattle.range_index.specs.Shown.{top};
+ghost use Rattle.client_opens.specs.Opened.{Behind, Clears, Stays};
+
+use operation_values::Kind;
+use range_index::RangeIndex;
+use std::alloc::AllocError;
+
+fn clear_both(written: &mut RangeIndex, locked: &mut RangeIndex)
+    ensures written { Clears (top written.new) }
+    ensures locked { Clears (top locked.new) }
+{
+    written.clear();
+    locked.clear();
+}
+
+/// A write or a lock has its bytes last; behind an end and behind a close nothing is told of earlier ones, since what comes then
+/// waits for that one. Where memory runs out nothing changes.
+pub fn cover(
+    kind: Kind,
+    at: u64,
+    size: u64,
+    number: u32,
+    written: &mut RangeIndex,
+    locked: &mut RangeIndex,
+) -> Result<(), AllocError>
+    ensures ok { OnOk result (Behind kind (top written.old) (top written.new) (top locked.old) (top locked.new) at size number) }
+    ensures err { OnErr result (Stays (top written.old) (top written.new) × Stays (top locked.old) (top locked.new)) }
+{
+    match kind {
+        Kind::Write => written.cover(at, size, number),
+        Kind::Lock => locked.cover(at, size, number),
+        Kind::End => {
+            written.clear();
+            Ok(())
+        }
+        Kind::Close => {
+            clear_both(written, locked);
+            Ok(())
+        }
+        Kind::Create => Ok(()),
+        Kind::Read => Ok(()),
+        Kind::Change => Ok(()),
+        Kind::Look => Ok(()),
+        Kind::List => Ok(()),
+    }
+}

@@ -1,0 +1,102 @@
+// One operation more of an open: its row is taken, and the marks go on.
+ghost use Rattle.std.specs.Prelude.{◌≡◌, ℕ, ◌+◌, ◌<◌, ◌^◌, length, ◌∷◌, [], ◌++◌, OnOk, OnErr};
+ghost use Rattle.exchange_defs.specs.Table.{put};
+ghost use Rattle.exchange_defs.specs.Operations.{Op};
+ghost use Rattle.exchange_defs.specs.Client.{Client, take_op};
+ghost use Rattle.operation_values.specs.Waiting.{at_of, size_of};
+ghost use Rattle.operation_rows.specs.Choosing.{Counts};
+ghost use Rattle.operation_rows.specs.Holding.{IsSafe};
+ghost use Rattle.range_index.specs.Shown.{top};
+ghost use Rattle.client_marks.specs.declared.marks.Marks.{Marks as OpenMarks};
+ghost use Rattle.client_marks.specs.Marks.{AreBelow, mark_of};
+ghost use Rattle.client_rows.specs.Shown.{ShowsRows};
+ghost use Rattle.client_opens.specs.Opened.{IsOn, ShowsOpen, placed_row};
+
+use crate::noting::{Stretch, note};
+use crate::opening::Open;
+use client_submits::add_one;
+use operation_rows::{Row, make_room};
+use operation_values::Shape;
+use price_table::Prices;
+use std::alloc::AllocError;
+use watch_lists::Watchers;
+
+fn count_of(rows: &Vec<Row>) -> usize
+    ensures { result ≡ length rows.now.items }
+{
+    rows.len()
+}
+
+/// An operation's row, with its part of the list and the links that its open's marks are.
+fn placed(row: Row, stretch: &Stretch, opened: &Open) -> Row
+    ensures { result ≡ placed_row row stretch.now.begin stretch.now.end opened.now.marks }
+{
+    Row {
+        holders: stretch.begin,
+        holders_end: stretch.end,
+        lower: opened.marks.last,
+        change: opened.marks.change,
+        filled: opened.marks.filled,
+        ..row
+    }
+}
+
+/// Takes an operation of an open, whatever its kind. Where memory runs out the rows and the open show what they showed.
+pub fn take_on(
+    rows: &mut Vec<Row>,
+    holders: &mut Vec<u32>,
+    prices: &mut Prices,
+    watchers: &mut Watchers,
+    opened: &mut Open,
+    shape: &Shape,
+    row: Row,
+) -> Result<(), AllocError>
+    requires counts { Counts rows.old.items prices.old watchers.old }
+    requires few { length rows.old.items + 1 < 2 ^ 32 }
+    requires close { opened.old.marks.close < length rows.old.items }
+    requires mark { mark_of shape.now.kind opened.old.marks < length rows.old.items }
+    ensures counts { Counts rows.new.items prices.new watchers.new }
+    ensures row { OnOk result (rows.new.items
+        ≡ rows.old.items ++ placed_row row (length holders.old.items) (length holders.new.items) opened.old.marks ∷ []) }
+    ensures same { OnErr result (rows.new.items ≡ rows.old.items) }
+    ensures below { OnOk result (AreBelow opened.old.marks (length rows.old.items) → AreBelow opened.new.marks (length rows.old.items + 1)) }
+    ensures marks { OnErr result (opened.new.marks ≡ opened.old.marks) }
+    ensures safe { OnOk result ((c : Client) (op : Op) (create : ℕ) → IsSafe rows.old.items holders.old.items
+        → ShowsRows rows.old.items holders.old.items prices.old watchers.old c → length rows.old.items ≡ c.taken + 1
+        → IsOn rows.old.items c op create (length rows.old.items) shape.now row
+        → ShowsOpen rows.old.items (λ x. at_of (c.op x)) (λ x. size_of (c.op x)) create (length rows.old.items) opened.old.marks
+        (top opened.old.written) (top opened.old.locked) → IsSafe rows.new.items holders.new.items) }
+    ensures shown { OnOk result ((c : Client) (op : Op) (create : ℕ) → IsSafe rows.old.items holders.old.items
+        → ShowsRows rows.old.items holders.old.items prices.old watchers.old c → length rows.old.items ≡ c.taken + 1
+        → IsOn rows.old.items c op create (length rows.old.items) shape.now row
+        → ShowsOpen rows.old.items (λ x. at_of (c.op x)) (λ x. size_of (c.op x)) create (length rows.old.items) opened.old.marks
+        (top opened.old.written) (top opened.old.locked)
+        → ShowsRows rows.new.items holders.new.items prices.new watchers.new (take_op c (length rows.old.items) op)) }
+    ensures keeps { OnOk result ((c : Client) (op : Op) (create : ℕ) → IsSafe rows.old.items holders.old.items
+        → ShowsRows rows.old.items holders.old.items prices.old watchers.old c → length rows.old.items ≡ c.taken + 1
+        → IsOn rows.old.items c op create (length rows.old.items) shape.now row
+        → ShowsOpen rows.old.items (λ x. at_of (c.op x)) (λ x. size_of (c.op x)) create (length rows.old.items) opened.old.marks
+        (top opened.old.written) (top opened.old.locked)
+        → ShowsOpen rows.new.items (λ x. at_of (put c.op (length rows.old.items) op x))
+        (λ x. size_of (put c.op (length rows.old.items) op x)) create (length rows.old.items + 1) opened.new.marks
+        (top opened.new.written) (top opened.new.locked)) }
+    ensures others { OnOk result ((c : Client) (op : Op) (other : ℕ) (m : OpenMarks) (written locked : ℕ → ℕ)
+        → (row.create ≡ other → ⊥)
+        → ShowsOpen rows.old.items (λ x. at_of (c.op x)) (λ x. size_of (c.op x)) other (length rows.old.items) m written locked
+        → ShowsOpen rows.new.items (λ x. at_of (put c.op (length rows.old.items) op x))
+        (λ x. size_of (put c.op (length rows.old.items) op x)) other (length rows.old.items + 1) m written locked) }
+    ensures kept { OnErr result ((c : Client) → ShowsRows rows.old.items holders.old.items prices.old watchers.old c
+        → ShowsRows rows.new.items holders.new.items prices.new watchers.new c) }
+    ensures stays { OnErr result ((at size : ℕ → ℕ) (create n : ℕ)
+        → ShowsOpen rows.old.items at size create n opened.old.marks (top opened.old.written) (top opened.old.locked)
+        → ShowsOpen rows.new.items at size create n opened.new.marks (top opened.new.written) (top opened.new.locked)) }
+{
+    make_room(rows, prices, watchers)?;
+    let count = count_of(rows);
+    let number = count as u32;
+    let stretch = note(rows, opened, shape, number, holders)?;
+    let row = placed(row, &stretch, opened);
+    add_one(rows, prices, watchers, row);
+    opened.marks = opened.marks.behind(number, shape.kind, shape.size);
+    Ok(())
+}

@@ -1,0 +1,3 @@
+pub mod Wider
+pub mod Taken
+pub mod Shapes

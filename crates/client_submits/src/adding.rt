@@ -1,0 +1,35 @@
+// One operation more, as the model's client takes it.
+ghost use Rattle.std.specs.Prelude.{◌≡◌, ℕ, ◌+◌, ◌<◌, ◌≤◌, List, length, ◌∷◌, [], ◌++◌, vec_len, vec_capacity};
+ghost use Rattle.exchange_defs.specs.Table.{put};
+ghost use Rattle.exchange_defs.specs.Operations.{Op};
+ghost use Rattle.exchange_defs.specs.Client.{Client, create_for, take_op};
+ghost use Rattle.operation_rows.specs.Choosing.{Counts};
+ghost use Rattle.operation_rows.specs.Holding.{IsSafe};
+ghost use Rattle.operation_rows.specs.Taking.{IsNew};
+ghost use Rattle.client_rows.specs.Shown.{ShowsRows, fills_by, waits_by};
+ghost use Rattle.client_submits.specs.Taken.{IsRowOf};
+
+use operation_rows::{Row, add};
+use price_table::Prices;
+use watch_lists::Watchers;
+
+/// Takes an operation for which there is room. It takes no memory.
+pub fn add_one(rows: &mut Vec<Row>, prices: &mut Prices, watchers: &Watchers, row: Row)
+    requires counts { Counts rows.old.items prices.old watchers.now }
+    requires room { vec_len rows.old < vec_capacity rows.old }
+    requires priced { length rows.old.items < length prices.old }
+    requires watched { length rows.old.items < length watchers.now }
+    ensures more { rows.new.items ≡ rows.old.items ++ row ∷ [] }
+    ensures counts { Counts rows.new.items prices.new watchers.now }
+    ensures safe { (c : Client) (op : Op) (holders : List ℕ) → IsSafe rows.old.items holders
+        → IsNew (waits_by (put c.op (length rows.old.items) op)) (fills_by (put c.op (length rows.old.items) op)) rows.new.items holders
+        (length rows.old.items) → 0 < length rows.old.items → IsSafe rows.new.items holders }
+    ensures shown { (c : Client) (op : Op) (holders : List ℕ) → IsSafe rows.old.items holders
+        → ShowsRows rows.old.items holders prices.old watchers.now c → length rows.old.items ≡ c.taken + 1
+        → ((g : ℕ) → 0 < g → g ≤ c.taken → 0 < create_for c g) → IsRowOf row c (length rows.old.items) op
+        → IsNew (waits_by (put c.op (length rows.old.items) op)) (fills_by (put c.op (length rows.old.items) op)) rows.new.items holders
+        (length rows.old.items)
+        → ShowsRows rows.new.items holders prices.new watchers.now (take_op c (length rows.old.items) op) }
+{
+    add(rows, prices, watchers, row);
+}
