@@ -1,0 +1,34 @@
+// What operations cost without a session.
+ghost use Rattle.std.specs.Prelude.{◌≡◌, ℕ, ◌<◌, List};
+ghost use Rattle.exchange_defs.specs.Client.{Client};
+ghost use Rattle.operation_rows.specs.Rows.{stands};
+ghost use Rattle.operation_rows.specs.Holding.{IsSafe};
+ghost use Rattle.operation_rows.specs.Choosing.{Counts};
+ghost use Rattle.client_rows.specs.Shown.{ShowsRows};
+ghost use Rattle.client_cuts.specs.Cutting.{end_all};
+ghost use Rattle.client_settles.specs.Shown.{AreSettledBelow, GoesSettled};
+ghost use Rattle.client_endings.specs.Ending.{ending};
+
+use client_costs::price_one;
+use operation_rows::Row;
+use price_table::Prices;
+use watch_lists::Watchers;
+
+/// Without a session each operation costs what a request to attach does, but for a create. Those below one are settled.
+pub fn detach_from(rows: &mut [Row], prices: &mut Prices, watchers: &Watchers, from: usize)
+    requires above { 0 < from }
+    requires counts { Counts rows.old prices.old watchers.now }
+    requires below { AreSettledBelow rows.old from }
+    ensures settles { GoesSettled rows.old rows.new }
+    ensures stands { (g : ℕ) → stands rows.new g ≡ stands rows.old g }
+    ensures counts { Counts rows.new prices.new watchers.now }
+    ensures safe { (holders : List ℕ) → IsSafe rows.old holders → IsSafe rows.new holders }
+    ensures shown { (c : Client) (holders : List ℕ) → ShowsRows rows.old holders prices.old watchers.now (end_all c)
+        → ShowsRows rows.new holders prices.new watchers.now (ending c) }
+{
+    let mut at = from;
+    while at < rows.len() {
+        price_one(rows, prices, watchers, at, false);
+        at += 1;
+    }
+}

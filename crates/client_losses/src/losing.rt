@@ -1,0 +1,51 @@
+// What is outstanding is lost, and its numbers leave the set.
+ghost use Rattle.std.specs.Prelude.{◌≡◌, ℕ, List};
+ghost use Rattle.exchange_defs.specs.Client.{Client, cut_channel};
+ghost use Rattle.operation_rows.specs.Holding.{IsSafe};
+ghost use Rattle.operation_rows.specs.Choosing.{Counts};
+ghost use Rattle.client_rows.specs.Shown.{ShowsRows};
+ghost use Rattle.client_cuts.specs.Cutting.{Loses, end_all};
+ghost use Rattle.client_losses.specs.Shown.{HoldsOut};
+
+use crate::sweeping::sweep;
+use client_cuts::{lose_channel, lose_session};
+use number_set::Members;
+use operation_rows::Row;
+use price_table::Prices;
+use watch_lists::Watchers;
+
+/// A channel is cut: what is outstanding on it is lost, and is no member any more.
+pub fn lose_on_channel(
+    rows: &mut [Row],
+    prices: &mut Prices,
+    watchers: &Watchers,
+    out: &mut Members,
+    channel: u8,
+)
+    requires counts { Counts rows.old prices.old watchers.now }
+    requires out { HoldsOut rows.old out.old }
+    ensures counts { Counts rows.new prices.new watchers.now }
+    ensures safe { (holders : List ℕ) → IsSafe rows.old holders → IsSafe rows.new holders }
+    ensures loses { Loses rows.old rows.new }
+    ensures out { HoldsOut rows.new out.new }
+    ensures shown { (c : Client) (holders : List ℕ) → ShowsRows rows.old holders prices.old watchers.now c
+        → ShowsRows rows.new holders prices.new watchers.now (cut_channel c channel) }
+{
+    lose_channel(rows, prices, watchers, out.members(), channel);
+    sweep(rows, out);
+}
+
+/// The session ends: what is outstanding is lost, on whichever channel, and there is no member any more.
+pub fn lose_all(rows: &mut [Row], prices: &mut Prices, watchers: &Watchers, out: &mut Members)
+    requires counts { Counts rows.old prices.old watchers.now }
+    requires out { HoldsOut rows.old out.old }
+    ensures counts { Counts rows.new prices.new watchers.now }
+    ensures safe { (holders : List ℕ) → IsSafe rows.old holders → IsSafe rows.new holders }
+    ensures loses { Loses rows.old rows.new }
+    ensures out { HoldsOut rows.new out.new }
+    ensures shown { (c : Client) (holders : List ℕ) → ShowsRows rows.old holders prices.old watchers.now c
+        → ShowsRows rows.new holders prices.new watchers.now (end_all c) }
+{
+    lose_session(rows, prices, watchers, out.members());
+    out.clear();
+}

@@ -1,0 +1,4 @@
+pub mod GivenUp
+pub mod Going
+pub mod Settled
+pub mod Unsettled
