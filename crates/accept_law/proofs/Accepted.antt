@@ -199,7 +199,8 @@ accepted_world v k x =
     with_values (line_sent a k ForDialog (dialog_message (accepted v.values.client k) k (a.wires k).client_end.purse.next AskedTree) 1)
     (dialog_sent (with_client v.values (accepted v.values.client k)) k AskedTree)
 
-own_keys_now : (z : WorldSettings) (w : World) (k : ℕ) → w.logons.keys w.values.client.pending ≡ own_final (w.wires k).client_end false w.values.client.pending
+own_keys_now : (z : WorldSettings) (w : World) (k : ℕ)
+    → w.logons.keys w.values.client.pending ≡ own_final (w.wires k).client_end false w.values.client.pending
     → ChosenAs z (w.wires k).client_end.chosen → w.values.client.pending < 2 ^ 64 → (rank : ℕ → ℕ)
     → HasOwnKeys z (own_final (w.wires k).client_end false w.values.client.pending) w.logons rank w.values.client.pending
 own_keys_now z w k keys chosen low rank e = (keys, ap known chosen.cipher, low)

@@ -96,8 +96,10 @@ stayed_ties : (z : WorldSettings) (c d : Client) (k : ℕ) (keys : Keys) (L : Lo
     → HasOwnKeys z keys L c.rank c.accepted → Ties z d keys L conns wires
 stayed_ties z c d k keys L conns wires s tied stages nexts own = record {
   tied = λ j. subst (λ o. TieOf z o (shared_of d keys L) j (conns j) (wires j)) (sym s.op)
-      (subst (λ n. TieOf z c.op (record { session = n; pending = d.pending; keys = keys; logons = L }) j (conns j) (wires j)) (sym s.session)
-      (subst (λ n. TieOf z c.op (record { session = c.session; pending = n; keys = keys; logons = L }) j (conns j) (wires j)) (sym s.pending)
+      (subst (λ n. TieOf z c.op (record { session = n; pending = d.pending; keys = keys; logons = L }) j (conns j) (wires j))
+      (sym s.session)
+      (subst (λ n. TieOf z c.op (record { session = c.session; pending = n; keys = keys; logons = L }) j (conns j) (wires j))
+      (sym s.pending)
       (tied j)));
   stages = λ j o. stages j o ∙ ap (λ (f : ℕ → Stage). f j) (sym s.stage);
   nexts = nexts;

@@ -109,7 +109,8 @@ passed_due : (z : WorldSettings) (v : World) (k : ℕ) (stage : Stage) (x : Hear
     → dialog_hears z v k stage o ≡ passed_world z v k stage x (dialog_step stage x.header.status)
 passed_due z v k stage x o opens ok sound =
     ap (dialog_hears z v k stage) opens
-    ∙ ap (dialog_passed z v k stage x) (fault_if (x.header.status == due stage) (dialog_fault z.client (v.wires k).client_end stage x) ok sound)
+    ∙ ap (dialog_passed z v k stage x)
+    (fault_if (x.header.status == due stage) (dialog_fault z.client (v.wires k).client_end stage x) ok sound)
 
 takes_final : (z : WorldSettings) (w : World) (k : ℕ) (a : List ℕ) (y : Received) (bound : Bool) (x : Heard)
     → (w.wires k).client_end.stage ≡ SaidSecond bound → dialog_response (w.wires k).client_end (SaidSecond bound) a ≡ Some x

@@ -81,5 +81,7 @@ seals_with z n bound x sound e =
     let fit : flags_fit n stage m ≡ true =
     unless_none (flags_fit n stage m) (BadChoice 5)
     (chain (unless (has_form n stage x) BadToken) (choices_of z.client stage m) (unless (has_token z.client n stage m) BadToken)
-    (unless (is_signed n stage m) BadSignature) (unless (flags_fit n stage m) (BadChoice 5)) (unless (pays_next n stage x.header) BadToken) sound) in
-    cipher_there (has_bit (setup_flags m) 1) (has_bit (setup_flags m) 2) (has_bit (setup_flags m) 4) ((own_final n bound 0).cipher == 0) fit e
+    (unless (is_signed n stage m) BadSignature) (unless (flags_fit n stage m) (BadChoice 5))
+    (unless (pays_next n stage x.header) BadToken) sound) in
+    cipher_there (has_bit (setup_flags m) 1) (has_bit (setup_flags m) 2) (has_bit (setup_flags m) 4)
+    ((own_final n bound 0).cipher == 0) fit e

@@ -77,7 +77,8 @@ crashed_ties z w k x xs bs g h p e apart i =
     let r = behind_front d xs in
     let v : Wires = record u { server_end = g; up = bs } in record {
       tied = both_tables (λ j r q. TieOf z c.op s j (server_off r) (server_end_off q)) w.values.conns w.wires k r v
-          (closed_now z c.op (shared_at w) M k d.client_open d.server_open u.client_end u.server_end g u.up u.down d.up d.down x xs e (i.tied k))
+          (closed_now z c.op (shared_at w) M k d.client_open d.server_open u.client_end u.server_end g u.up u.down
+          d.up d.down x xs e (i.tied k))
           (λ j q. server_tie z c.op s j (w.values.conns j) (w.wires j) (other_tie z w k h p apart i j q));
       stages = both_tables (λ j r q. r.client_open ≡ true → q.client_end.stage ≡ c.stage j) w.values.conns w.wires k r v (i.stages k)
           (λ j q. i.stages j);
@@ -104,7 +105,8 @@ absorbed_ties held z w k b bs x xs i so e h talk =
     let none : outside l.window.held q.0 (counted q.1) ≡ None =
     subst (λ (rs : List (ℕ × ℕ)). FrontIsHeld rs l.window) p.is (front_held held l link.reached) in
     let low = next_low held l link.reached in
-    let count : f.counter + length (q ∷ p.bills) ≤ l.purse.next = subst (λ rs. f.counter + length rs ≤ l.purse.next) p.is (link.counted so) in
+    let count : f.counter + length (q ∷ p.bills) ≤ l.purse.next = subst (λ rs. f.counter + length rs ≤ l.purse.next) p.is
+    (link.counted so) in
     let may : MayServe f q = record {
       held = ap (λ (v : HeldIds). outside v.held q.0 (counted q.1)) (link.window so) ∙ none;
       nonce = omega (arith, count, low);

@@ -133,7 +133,8 @@ begun_now z w k b x h bound F ok =
     ap (λ p. (logons_to z w k h p).pending k) (interim z w k b x h bound F ok)
     ∙ (put_same w.logons.pending k (pending_by (token_in h.bytes) fresh now) ∙ ap (λ v. pending_by v fresh now) carries.0)
 
-making_now : (z : WorldSettings) (w : World) (k : ℕ) (b : List ℕ) (x : Sent) (h : Heard) (bound : Bool) → Front z w k b x h (SaidFirst bound)
+making_now : (z : WorldSettings) (w : World) (k : ℕ) (b : List ℕ) (x : Sent) (h : Heard) (bound : Bool)
+    → Front z w k b x h (SaidFirst bound)
     → ((answer w.values x).reply.status == more_processing_required) ≡ true
     → (end_by z w k h x).making ≡ Some ((w.wires k).client_end.transcript ++ text_by z w k h x ∷ [])
 making_now z w k b x h bound F ok =

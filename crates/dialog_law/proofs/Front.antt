@@ -57,7 +57,8 @@ pub record Front (z : WorldSettings) (w : World) (k : ℕ) (b : List ℕ) (x : S
 
 abbrev pub head_by : World → ℕ → Heard → Sent → Header
 head_by w k h x =
-    told_header h.header (answer w.values x).reply (granted h.header.credits (window_behind (w.wires k).server_end.window h.header)) plain_flags
+    told_header h.header (answer w.values x).reply
+    (granted h.header.credits (window_behind (w.wires k).server_end.window h.header)) plain_flags
 
 pub told_at : (z : WorldSettings) (w : World) (k : ℕ) (b : List ℕ) (x : Sent) (h : Heard) (stage : Stage) → Front z w k b x h stage
     → IsTold (head_by w k h x) (said_by z w k h x).body (text_by z w k h x)
@@ -98,7 +99,8 @@ form_is z w k b x h stage F flags text answers reads =
 
 pub no_fault : (form token signed flags pays : Bool) (choice : Option Refusal) → form ≡ true → choice ≡ None → token ≡ true → signed ≡ true
     → flags ≡ true → pays ≡ true
-    → first_refusal (unless form BadToken) (first_refusal choice (first_refusal (unless token BadToken) (first_refusal (unless signed BadSignature)
+    → first_refusal (unless form BadToken)
+    (first_refusal choice (first_refusal (unless token BadToken) (first_refusal (unless signed BadSignature)
     (first_refusal (unless flags (BadChoice 5)) (unless pays BadToken))))) ≡ None
 no_fault form token signed flags pays choice e1 e2 e3 e4 e5 e6 =
     let rest = first_refusal (unless flags (BadChoice 5)) (unless pays BadToken) in

@@ -33,7 +33,8 @@ body_is : (guid salt : List ℕ) (now : ℕ) (c : Checked) (token : List ℕ) (c
     → (r.status == success) ≡ true → said_body guid salt now c token command r ≡ negotiate_response_body guid salt now c.bytes
 unfolding said_body
 body_is guid salt now c token command r e f =
-    taken_both (is_negotiate c.header) (r.status == success) (negotiate_response_body guid salt now c.bytes) (reply_body token command r) e f
+    taken_both (is_negotiate c.header) (r.status == success) (negotiate_response_body guid salt now c.bytes)
+    (reply_body token command r) e f
 
 sent : (m : Message) → m.channel_sequence ≡ 0 → m.message_id ≡ 0 → m.tree_id ≡ 0 → m.session_id ≡ 0 → IsSent m 1
 sent m a b c d = record {
@@ -104,8 +105,10 @@ greeted_comes z law w k b x h bound place F =
     let stays : progress_by w x ≡ Stays = ap (λ c. progress c (answer w.values x).reply) F.command in
     comes z law w k b x h stage place F refl t
     (λ ok. (let g = greeted z law w k b x h bound F ok in
-    no_fault (has_form n stage y) (is_hint (negotiate_response_in text).security) true true (pays_next n stage y.header) (choice_fault z.client text)
-    (form_is z w k b x h stage F t.flags text t.answers g.contexts) g.choice g.hint refl refl (pays n stage y.header refl F.credit F.purse)))
+    no_fault (has_form n stage y) (is_hint (negotiate_response_in text).security) true true (pays_next n stage y.header)
+    (choice_fault z.client text)
+    (form_is z w k b x h stage F t.flags text t.answers g.contexts) g.choice g.hint refl refl
+    (pays n stage y.header refl F.credit F.purse)))
     (λ ok. (let e = has_greeting z w k b x h bound F ok in (
       ap (λ p. (server_end_moved (counted_by w k h) (said_by z w k h x) text p).keys) stays ∙ F.no_keys,
       subst (GreetedAs z) (sym e) (record {

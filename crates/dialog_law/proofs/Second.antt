@@ -43,7 +43,8 @@ use Rattle.dialog_law.proofs.First.{one_is, same_greeting}
 
 -- ---- the token that was answered
 
-final_token : (users : List User) (pending : Option Pending) (token fresh : List ℕ) (now : ℕ) (bound encrypts : Bool) (channel : ℕ) (p : Progress)
+final_token : (users : List User) (pending : Option Pending) (token fresh : List ℕ) (now : ℕ)
+    (bound encrypts : Bool) (channel : ℕ) (p : Progress)
     → p ≡ Final bound channel encrypts → answer_token_by users pending token fresh now p ≡ final_of users pending token
 unfolding answer_token_by
 final_token users pending token fresh now bound encrypts channel p e = ap (answer_token_by users pending token fresh now) e
@@ -233,7 +234,8 @@ second_comes z law w k b x h bound place F =
     ∙ (ap (λ (q : Keys). Some q.signing) v.keys ∙ ap Some (own_signing n bound h.header.session 0)) in
     no_fault (has_form n stage y) (has_token z.client n stage text) (is_signed n stage text) (flags_fit n stage text)
     (pays_next n stage y.header) None (form_is z w k b x h stage F t.flags text t.answers v.reads) refl v.token_final
-    (right_by z law said h.header reply (granted h.header.credits (window_behind f.window h.header)) (own_final n bound 0).signing signer refl
+    (right_by z law said h.header reply (granted h.header.credits (window_behind f.window h.header))
+    (own_final n bound 0).signing signer refl
     F.head F.fits (few_granted h.header.credits (window_behind f.window h.header)))
     (flags_now n bound text (seals_in reply.body) (known (chosen_of z.client).cipher) v.flags (own_cipher z n bound chosen ciphers) F.seals)
     (pays n stage y.header refl F.credit F.purse)))

@@ -36,7 +36,8 @@ use Rattle.tie_law.proofs.Line.{split_by, fresh_of, checked_of, conn_twice, said
 use Rattle.dialog_law.specs.Serving.{Spare, IsApart, IsTalk, IsDialogFront, DialogServesAreKept}
 use Rattle.dialog_law.proofs.Sparing.{Sparing, with_logons, session_at, tied_spared}
 use Rattle.dialog_law.proofs.Credit.{dialog_granted}
-use Rattle.dialog_law.proofs.Step.{progress_by, said_by, text_by, counted_by, end_by, logons_to, logons_by, served, same_window, same_salt, less_counted}
+use Rattle.dialog_law.proofs.Step.{progress_by, said_by, text_by, counted_by, end_by, logons_to, logons_by, served, same_window}
+use Rattle.dialog_law.proofs.Step.{same_salt, less_counted}
 use Rattle.dialog_law.proofs.Front.{Front, shared_at, IsComing}
 use Rattle.dialog_law.proofs.Greeted.{greeted_comes}
 use Rattle.dialog_law.proofs.First.{first_comes}
@@ -145,7 +146,8 @@ dialog_link : (z : WorldSettings) (op : ℕ → Op) (s : Shared) (M : Logons) (k
     → Linked z op (with_logons s M) k co true n g [] more [] told
 dialog_link z op s M k co n f g b down more x ys told i q e reached off window low =
     let l = i.line in
-    let count : f.counter + length (q ∷ []) ≤ l.purse.next = subst (λ rs. f.counter + length rs ≤ l.purse.next) e (i.counted refl) in record {
+    let count : f.counter + length (q ∷ []) ≤ l.purse.next = subst (λ rs. f.counter + length rs ≤ l.purse.next) e
+    (i.counted refl) in record {
       line = line_less l q [];
       reached = reached;
       purse = i.purse;
@@ -202,7 +204,8 @@ fronted held z w k b x t =
     let none : outside l.window.held q.0 (counted q.1) ≡ None =
     subst (λ (rs : List (ℕ × ℕ)). FrontIsHeld rs l.window) is (front_held held l link.reached) in
     let low = next_low held l link.reached in
-    let count : f.counter + length (q ∷ []) ≤ l.purse.next = subst (λ rs. f.counter + length rs ≤ l.purse.next) is (link.counted refl) in record {
+    let count : f.counter + length (q ∷ []) ≤ l.purse.next = subst (λ rs. f.counter + length rs ≤ l.purse.next) is
+    (link.counted refl) in record {
       bill = q;
       is = is;
       asked = p.asked;
@@ -256,7 +259,11 @@ front_is held z w k b x i front t F co off W =
           ∙ (ap (granted 512) (window_at z w k b x t F)
           ∙ dialog_granted held l link.reached q F.reached W.no_grants n.stage off (sym link.purse ∙ purse));
       purse = purse;
-      bound = λ e. (let session = front.bound_session co e in let own = i.own_keys session.1 in (ap w.logons.keys session.0 ∙ own.0, own.1));
+      bound = λ e. (let session = front.bound_session co e in let own = i.own_keys session.1 in (
+        ap w.logons.keys session.0
+            ∙ own.0,
+        own.1,
+      ));
       logs_on = front.logs_on co;
       seals = front.seals;
     }
@@ -334,7 +341,8 @@ dialog_tie held z w k b x front t F more told talks =
     let window : g.window ≡ after_grant 512 (after_take F.bill.0 F.bill.1 t.link.line.window) =
     same_window G said text p
     ∙ (ap (λ c. after_grant c (window_behind f.window h.header)) a.credits ∙ ap (after_grant 512) (window_at z w k b x t F)) in record {
-      link = dialog_link z w.values.client.op (shared_at w) (logons_by z w k h x) k (d.client_open && is_lined n.stage) n f g b (w.wires k).down
+      link = dialog_link z w.values.client.op (shared_at w) (logons_by z w k h x) k
+          (d.client_open && is_lined n.stage) n f g b (w.wires k).down
           more x d.down told t.link F.bill F.is F.reached (both_off d.client_open (is_lined n.stage) front.unlined) window
           (less_counted G said text p);
       bound_keys = t.bound_keys;
@@ -398,7 +406,8 @@ served_tie z law held w k b x i so e h front =
     sym (ap (λ o. (served_by w k [] [] x.token S o).values) T.ends)
     ∙ said_values w k [] x [] S (told_at z w k b x F.bill a.reads F.may) in
     subst (λ o. IsTied z (served_by w k [] [] x.token S o)) (sym T.ends)
-    (subst (λ (V : Values). Ties z V.client w.keys S.logons V.conns (put w.wires k (answered_wires u d.client_open S.server_end [] S.frames)))
+    (subst (λ (V : Values). Ties z V.client w.keys S.logons V.conns
+    (put w.wires k (answered_wires u d.client_open S.server_end [] S.frames)))
     (sym values)
     (subst (λ L. Ties z c w.keys L (serve_front w.values k (x ∷ [])).conns
     (put w.wires k (answered_wires u d.client_open S.server_end [] S.frames))) (sym T.logons)

@@ -13,7 +13,8 @@ use Rattle.exchange_defs.specs.Operations.{Op}
 use Rattle.exchange_defs.specs.Client.{Stage, Apart, SaidNegotiate, SaidFirst, SaidSecond, AskedTree}
 use Rattle.exchange_defs.specs.Network.{Sent, Received}
 use Rattle.command_defs.specs.CommandOf.{Told, heard_as, no_setup, setup_if, setup_in, logoff_in, tree_connect_in, tree_disconnect_in}
-use Rattle.command_defs.specs.CommandOf.{create_in, close_in, flush_in, read_in, write_in, lock_in, ioctl_in, list_in, query_in, set_in, other_of}
+use Rattle.command_defs.specs.CommandOf.{create_in, close_in, flush_in, read_in, write_in, lock_in, ioctl_in, list_in, query_in}
+use Rattle.command_defs.specs.CommandOf.{set_in, other_of}
 use Rattle.command_defs.specs.CommandOf.{echo_status, named_command, command_of, message_of}
 use Rattle.credit_defs.specs.Exchange.{Line}
 use Rattle.session_defs.specs.declared.material.Keys.{Keys}
@@ -227,7 +228,8 @@ waiting_spared z s M k n f b x grants stage e w = record {
   carries = carries_spared z s M k n stage w.heard e w.carries;
 }
 
-ahead_spared : (z : WorldSettings) (s : Shared) (M : Logons) (k : ℕ) (n : ClientEnd) (f : ServerEnd) (a : List ℕ) (x : Heard) (stage : Stage)
+ahead_spared : (z : WorldSettings) (s : Shared) (M : Logons) (k : ℕ) (n : ClientEnd) (f : ServerEnd) (a : List ℕ) (x : Heard)
+    (stage : Stage)
     → M.pending k ≡ s.logons.pending k → IsAhead s k n f z a x stage → IsAhead (with_logons s M) k n f z a x stage
 ahead_spared z s M k n f a x Apart e h = absurd h
 ahead_spared z s M k n f a x (SaidNegotiate bound) e h = h

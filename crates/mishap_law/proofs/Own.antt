@@ -1,12 +1,12 @@
 -- A frame whose events had no mishap.
 use Rattle.std.proofs.Common.{◌≡◌, ℕ, Bool, true, false, not, ◌&&◌, if◌then◌else◌, List, [], ◌∷◌, Option, Some, None}
-use Rattle.std.proofs.Common.{is_some, Result, Ok, Err, ◌⊎◌, inl, inr, refl, sym, ap, subst, ◌∙◌}
+use Rattle.std.proofs.Common.{is_some, Result, Ok, Err, ◌⊎◌, inl, inr, refl, ap, subst, ◌∙◌}
 use Rattle.exchange_defs.specs.Table.{is_filled}
 use Rattle.exchange_defs.specs.State.{Server, Message}
 use Rattle.exchange_defs.specs.Network.{answer_to}
 use Rattle.world_defs.specs.Settings.{ServerSettings}
 use Rattle.world_defs.specs.Ends.{ServerEnd, Logons, ConnEnd}
-use Rattle.world_defs.specs.Hearing.{Checked, Frame, check_frame}
+use Rattle.world_defs.specs.Hearing.{Checked, Frame}
 use Rattle.world_defs.specs.Related.{Turn, Goes, Fails, turn_of}
 use Rattle.world_defs.specs.Connection.{Going, heard_message, went_heard, went_turn, went_all, beginning, step_of, answered}
 use Rattle.world_defs.specs.Given.{has_event, went_answered, dealt_step}

@@ -26,8 +26,8 @@ use Rattle.talk_law.specs.Talking.{goes_on}
 use Rattle.talk_law.proofs.Taken.{going_on}
 use Rattle.accept_law.proofs.Bound.{binds_kept}
 use Rattle.accept_law.proofs.Accepted.{accepts_kept}
-use Rattle.due_law.specs.Due.{IsDue}
-use Rattle.run_law.specs.Supplies.{Supplies}
+use Rattle.waiting_law.specs.Due.{IsDue}
+use Rattle.run_law.proofs.Supplied.{Supplies}
 
 -- ---- an event that the world can't meet
 
@@ -35,7 +35,8 @@ none_by : (z : WorldSettings) (w v : World) (n : ℕ) (b : Bool) → b ≡ false
 none_by z w v n true e = absurd (let h : true ≡ false = e in cc)
 none_by z w v n false e = refl
 
-none_happens : (z : WorldSettings) (w : World) (e : Event) → is_possible w.values e ≡ false → IsTied z w → IsTied z (bytes_happen z w (Plain e))
+none_happens : (z : WorldSettings) (w : World) (e : Event) → is_possible w.values e ≡ false → IsTied z w
+    → IsTied z (bytes_happen z w (Plain e))
 none_happens z w e never i =
     subst (IsTied z) (sym (none_by z w (bytes_changed z w e) (moments e) (is_possible w.values e) never)) i
 
@@ -88,7 +89,8 @@ take_stage z law w i d s k y ys co h Apart at b ok = (let t = takes_kept z w k y
 take_stage z law w i d s k y ys co h (SaidNegotiate bound) at true ok =
     going_on z w k y ys law i d.due co h (ap goes_on at) (ap (λ v. y.reply.status == due v) at ∙ ok) (s.going k y ys co h (ap goes_on at))
 take_stage z law w i d s k y ys co h (SaidNegotiate bound) at false ok =
-    refused_at z w i d k y ys co h (λ e. (let q : SaidNegotiate bound ≡ Apart = sym at ∙ e in cc)) (ap (λ v. y.reply.status == due v) at ∙ ok)
+    refused_at z w i d k y ys co h (λ e. (let q : SaidNegotiate bound ≡ Apart = sym at ∙ e in cc))
+    (ap (λ v. y.reply.status == due v) at ∙ ok)
 take_stage z law w i d s k y ys co h (SaidFirst bound) at true ok =
     going_on z w k y ys law i d.due co h (ap goes_on at) (ap (λ v. y.reply.status == due v) at ∙ ok) (s.going k y ys co h (ap goes_on at))
 take_stage z law w i d s k y ys co h (SaidFirst bound) at false ok =

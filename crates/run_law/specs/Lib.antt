@@ -1,1 +1,1 @@
-pub mod Supplies
+pub mod Bounds

@@ -370,7 +370,7 @@ bound_sends w k x alive t =
       keys = refl;
       numbers = refl;
       seals = refl;
-      room = new.room;
+      room = new.room k t.at;
       rank = refl;
       alive = alive;
     }) t.sends

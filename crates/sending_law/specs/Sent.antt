@@ -19,11 +19,14 @@ NoncesToServerOnce w =
     (i j : ℕ) (a b : Seal) → slice_get w.sealings i ≡ Some a → slice_get w.sealings j ≡ Some b → a.to_server ≡ true
     → IsOneNonce a b → i ≡ j
 
--- where a dialog waits for the last response of a new session, the client never accepted one of this id; and a channel's number
--- fits its field
+-- where a dialog waits for the last response of a binding, the number of one more channel fits its field
+abbrev pub HasNumber : World → Type 0
+HasNumber w = (k : ℕ) → w.values.client.stage k ≡ SaidSecond true → w.numbers < 65535
+
+-- and where it waits for that of a new session, the client never accepted one of this id
 pub record IsNew (w : World) : Type 0 where
   pub id : (k : ℕ) → w.values.client.stage k ≡ SaidSecond false → w.values.client.rank w.values.client.pending ≡ 0
-  pub room : w.numbers < 65535
+  pub room : HasNumber w
 
 -- in each world of a run before its last event
 abbrev pub AreNew : WorldSettings → List ByteEvent → World → Type 0
@@ -38,12 +41,12 @@ NoncesToServer =
 
 -- ---- of runs without tampering, both directions
 
--- fewer than 65,535 channels were accepted in a session, in each world before the last event
+-- in each world before the last event
 abbrev pub HasRoom : WorldSettings → List Event → World → Type 0
 HasRoom z [] w = Unit {0}
-HasRoom z (e ∷ es) w = (w.numbers < 65535) × HasRoom z es (bytes_happen z w (Plain e))
+HasRoom z (e ∷ es) w = HasNumber w × HasRoom z es (bytes_happen z w (Plain e))
 
--- where each front of the run goes in step with the model
+-- where each beginning of the run is in step with the model
 abbrev pub PlainNonces : Type 0
 PlainNonces =
     (z : WorldSettings) (events : List Event) → ((n : ℕ) → IsInStep z (take n events)) → HasRoom z events (bytes_start z)

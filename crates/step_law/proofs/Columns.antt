@@ -1,12 +1,12 @@
 -- What a reply leaves of the client's operations, its session, its dialogs and the sessions that it accepted.
-use Rattle.std.proofs.Common.{◌≡◌, ℕ, ◌+◌, ◌==◌, Bool, true, false, not, ◌&&◌, if◌then◌else◌, List, [], ◌∷◌, ◌++◌, refl, sym, ◌∙◌}
+use Rattle.std.proofs.Common.{◌≡◌, ℕ, ◌==◌, Bool, true, false, not, ◌&&◌, if◌then◌else◌, List, [], ◌∷◌, refl, ◌∙◌}
 use Rattle.std.proofs.Common.{Option, Some, None}
 use Rattle.exchange_defs.specs.Table.{put, put2}
 use Rattle.exchange_defs.specs.Status.{disk_full}
 use Rattle.exchange_defs.specs.State.{Body, Reply}
-use Rattle.exchange_defs.specs.Operations.{Op, Outcome, Unsettled, WasOk, WasRefused, NoSlot, NoOpen, Unknown, is_create, is_close}
+use Rattle.exchange_defs.specs.Operations.{Outcome, Unsettled, WasOk, WasRefused, NoSlot, NoOpen, Unknown, is_create, is_close}
 use Rattle.exchange_defs.specs.Operations.{is_lock, id_in}
-use Rattle.exchange_defs.specs.Client.{Client, Stage, create_for, may_push, goes_itself, has_its_slot, take_slot, begin, again, begun}
+use Rattle.exchange_defs.specs.Client.{Client, create_for, may_push, goes_itself, has_its_slot, take_slot, begin, again, begun}
 use Rattle.exchange_defs.specs.Client.{outstanding, asked, lacks_slot, settle_no_slot, settle_no_slots}
 use Rattle.exchange_defs.specs.ClientStep.{Pick, Pushes, client_after, itself_after, op_after, pick_after}
 use Rattle.exchange_defs.specs.Settling.{Heard, Settles, GoesAgain, Attaches, EndsSession, noted_ok, noted, noted_full, settled, settle}

@@ -194,7 +194,8 @@ response_gives (Some y) x e =
 in_bytes : (b : List ℕ) (x : Heard) → response_in (Some b) ≡ Some x → b ≡ x.bytes
 in_bytes b x e = ap (λ (v : Heard). v.bytes) (some_if (has_header b) (heard_in b) x e).1
 
-pub opens_both : (b : List ℕ) (x : Heard) (e v : Bool) (o : Option (List ℕ)) → response_in (if e then o else if v then Some b else None) ≡ Some x
+pub opens_both : (b : List ℕ) (x : Heard) (e v : Bool) (o : Option (List ℕ))
+    → response_in (if e then o else if v then Some b else None) ≡ Some x
     → response_in (if e then o else Some b) ≡ Some x
 opens_both b x true v o h = h
 opens_both b x false true o h = h
@@ -317,7 +318,8 @@ talk_at z w k b bs y ys i co lined off e h =
     let t = i.tied k in
     let u = w.wires k in
     let c = w.values.conns k in
-    talk_heard z w.values.client.op (shared_of w.values.client w.keys w.logons) k c.server_open u.client_end u.server_end u.up u.down c.up c.down t.link.line b bs y ys e h off
+    talk_heard z w.values.client.op (shared_of w.values.client w.keys w.logons) k c.server_open u.client_end u.server_end u.up u.down c.up
+    c.down t.link.line b bs y ys e h off
     (t.talk co lined)
 
 pub heard_at : (z : WorldSettings) (w : World) (k : ℕ) (b : List ℕ) (bs : List (List ℕ)) (y : Received) (ys : List Received) → IsTied z w
@@ -359,7 +361,8 @@ has_frame_down z w k y ys i co e h =
     let n = u.client_end in
     by_open ⊥ (is_lined n.stage)
     (λ lined. (let g = comings_at z w k [] (y ∷ ys) i co lined e h in no_frame_down w.values.client.op n y ys g.grants g.all))
-    (λ lined. no_talk_down z (shared_of w.values.client w.keys w.logons) k c.server_open n u.server_end u.up u.down c.up c.down t.link.line y ys e h (t.talk co lined))
+    (λ lined. no_talk_down z (shared_of w.values.client w.keys w.logons) k c.server_open n u.server_end u.up u.down c.up
+    c.down t.link.line y ys e h (t.talk co lined))
 
 -- ---- Take
 

@@ -117,7 +117,8 @@ server_closed z op s k co so n f g up down xs ys t =
 
 pub server_tie : (z : WorldSettings) (op : ℕ → Op) (s : Shared) (k : ℕ) (d : Conn) (u : Wires) → TieOf z op s k d u
     → TieOf z op s k (server_off d) (server_end_off u)
-server_tie z op s k d u t = server_closed z op s k d.client_open d.server_open u.client_end u.server_end u.server_end u.up u.down d.up d.down t
+server_tie z op s k d u t =
+    server_closed z op s k d.client_open d.server_open u.client_end u.server_end u.server_end u.up u.down d.up d.down t
 
 pub client_tie : (z : WorldSettings) (op : ℕ → Op) (s : Shared) (k : ℕ) (d : Conn) (u : Wires) → TieOf z op s k d u
     → TieOf z op s k (client_off d) (client_end_off u)

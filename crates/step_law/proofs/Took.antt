@@ -1,16 +1,16 @@
 -- A line's reply that is taken, and a dialog that is refused, leave a world tied.
-use Rattle.std.proofs.Common.{◌≡◌, ℕ, ◌+◌, ◌<◌, ◌≤◌, ◌==◌, Bool, true, false, not, ◌&&◌, if◌then◌else◌, List, [], ◌∷◌, ◌++◌, length}
-use Rattle.std.proofs.Common.{refl, sym, ap, ◌∙◌, subst, eqb-true, arith, Option, Some, None}
+use Rattle.std.proofs.Common.{◌≡◌, ℕ, ◌+◌, ◌==◌, Bool, true, false, ◌&&◌, if◌then◌else◌, List, [], ◌∷◌, ◌++◌}
+use Rattle.std.proofs.Common.{refl, sym, ap, ◌∙◌, subst, eqb-true, Option, Some, None}
 use Rattle.exchange_defs.specs.Table.{put, is_filled}
 use Rattle.exchange_defs.specs.Operations.{Op, Refusal, HadStatus}
 use Rattle.exchange_defs.specs.State.{Reply}
 use Rattle.exchange_defs.specs.Client.{Client, Stage, Apart, SaidNegotiate, SaidFirst, SaidSecond, AskedTree, end_session, note_refusal}
 use Rattle.exchange_defs.specs.Settling.{Heard as Hearing, Settles, GoesAgain, Attaches, EndsSession, answered, heard, hear, is_awaited}
-use Rattle.exchange_defs.specs.ClientStep.{Act, Nothing, CloseChannels, act_heard}
+use Rattle.exchange_defs.specs.ClientStep.{Act, Nothing, act_heard}
 use Rattle.exchange_defs.specs.Dialogs.{DialogStep, GoesOn, Accepts, Binds, Readies, Refuses, dialog_step}
-use Rattle.exchange_defs.specs.Network.{World as Values, Conn, Sent, Received, Token, ForDialog, ForOp, ForAttach, Take, with_client}
+use Rattle.exchange_defs.specs.Network.{Conn, Sent, Received, Token, ForDialog, ForOp, ForAttach, Take, with_client}
 use Rattle.exchange_defs.specs.Network.{take_front, client_off, closed_by, dialog_took, is_possible}
-use Rattle.credit_defs.specs.Purse.{Credits, after_add}
+use Rattle.credit_defs.specs.Purse.{after_add}
 use Rattle.credit_defs.specs.Exchange.{Line, Step, hears, after_step, after_steps, first_line}
 use Rattle.credit_defs.specs.Exchange.{heard as heard_grants}
 use Rattle.command_defs.specs.ReplyOf.{reply_of}
@@ -23,14 +23,15 @@ use Rattle.world_defs.specs.World.{World, Wires, with_values, with_client_end, c
 use Rattle.world_defs.specs.World.{line_heard, line_hears, dialog_reply, dialog_wires, dialog_passed, dialog_hears, hears as hears_at}
 use Rattle.world_defs.specs.World.{behind_frame, take_frame}
 use Rattle.world_defs.specs.Events.{Plain, bytes_later, bytes_happen}
-use Rattle.step_law.specs.Fronts.{HearsInDialog, HearsAs, OnLine, InDialog}
-use Rattle.step_law.specs.Links.{Shared, shared_of, AllAwaited, Answers, AllAnswer, Reached, Linked, is_lined, binds, Tied, TieOf, HasOwnKeys, Ties, IsTied}
+use Rattle.step_law.specs.Fronts.{HearsAs, OnLine, InDialog}
+use Rattle.step_law.specs.Links.{Shared, shared_of, AllAwaited, Answers, AllAnswer, Reached, Linked, is_lined, Tied}
+use Rattle.step_law.specs.Links.{TieOf, HasOwnKeys, Ties, IsTied}
 use Rattle.step_law.specs.InStep.{RepliesAreDue}
 use Rattle.step_law.specs.Taken.{OtherUp, OtherDown, IsAlone, TakesStayTied, TakesAreKept}
 use Rattle.step_law.proofs.Taking.{put_same, end_is}
-use Rattle.step_law.proofs.InStep.{has_frame_down, heard_at, by_open}
+use Rattle.step_law.proofs.InStep.{has_frame_down, heard_at}
 use Rattle.step_law.proofs.Keeping.{false_open, client_closed, client_tie, other_stage}
-use Rattle.step_law.proofs.Columns.{Keeps, keeps, goes_on, hear_keeps}
+use Rattle.step_law.proofs.Columns.{Keeps, hear_keeps}
 
 -- ---- an id that is awaited no more; the others are
 
@@ -354,7 +355,8 @@ refused_front z w k b bs y ys i off not_due (InDialog h) =
     let v = behind_frame w k bs ys in
     let x = h.heard in
     let same = h.same in
-    let opens : dialog_response (v.wires k).client_end n.stage b ≡ Some x = ap (λ m. dialog_response m n.stage b) (end_is w k bs ys) ∙ h.opens in
+    let opens : dialog_response (v.wires k).client_end n.stage b ≡ Some x = ap (λ m. dialog_response m n.stage b)
+    (end_is w k bs ys) ∙ h.opens in
     let told : (x.header.status == due n.stage) ≡ false = ap (λ q. q == due n.stage) same.status ∙ not_due in
     subst (IsTied z) (sym (refused_hears z v k b y.place n.stage x off opens told))
     (refused_ties z w k bs ys n.stage x x.header.status i)

@@ -1,14 +1,15 @@
 -- The response to a new session's TREE_CONNECT is taken: its channel is ready, or is closed, and ends stay tied.
-use Rattle.std.proofs.Common.{◌≡◌, ℕ, ◌+◌, ◌<◌, ◌≤◌, ◌==◌, Bool, true, false, not, ◌&&◌, if◌then◌else◌, List, [], ◌∷◌, ◌++◌, length}
-use Rattle.std.proofs.Common.{refl, sym, ap, ◌∙◌, subst, eqb-true, arith, Option, Some, None}
+use Rattle.std.proofs.Common.{◌≡◌, ℕ, ◌==◌, Bool, true, false, ◌&&◌, if◌then◌else◌, List, [], ◌∷◌}
+use Rattle.std.proofs.Common.{refl, sym, ap, ◌∙◌, subst, eqb-true, Option, Some, None}
 use Rattle.exchange_defs.specs.Table.{put}
 use Rattle.exchange_defs.specs.Status.{success}
 use Rattle.exchange_defs.specs.Operations.{Op, Refusal}
 use Rattle.exchange_defs.specs.Client.{Client, Stage, Apart, SaidNegotiate, SaidFirst, SaidSecond, AskedTree, bind_channel, begin_session}
 use Rattle.exchange_defs.specs.Client.{leave_dialog}
 use Rattle.exchange_defs.specs.ClientStep.{Act, Nothing, CloseChannel, becomes_ready}
-use Rattle.exchange_defs.specs.Dialogs.{DialogStep, Readies, Refuses, dialog_step}
-use Rattle.exchange_defs.specs.Network.{World as Values, Conn, Sent, Received, Token, ForDialog, with_client, take_front, client_off, closed_by}
+use Rattle.exchange_defs.specs.Dialogs.{Readies, Refuses, dialog_step}
+use Rattle.exchange_defs.specs.Network.{Conn, Sent, Received, with_client, take_front}
+use Rattle.exchange_defs.specs.Network.{client_off, closed_by}
 use Rattle.exchange_defs.specs.Network.{Take}
 use Rattle.session_defs.specs.declared.material.Keys.{Keys}
 use Rattle.session_defs.specs.Sealing.{opened}
@@ -17,11 +18,11 @@ use Rattle.wire_defs.specs.declared.header.Header.{Header}
 use Rattle.world_defs.specs.Settings.{WorldSettings}
 use Rattle.world_defs.specs.Messages.{Heard}
 use Rattle.world_defs.specs.Ends.{ClientEnd, ServerEnd, Logons}
-use Rattle.world_defs.specs.Dialog.{paid_in, line_text, response_in, line_response, dialog_response, dialog_fault, due}
+use Rattle.world_defs.specs.Dialog.{paid_in, line_text, response_in, dialog_response, dialog_fault, due}
 use Rattle.world_defs.specs.World.{World, Wires, with_values, with_client_end, client_end_off, closed_wires, dialog_reply, dialog_passed}
 use Rattle.world_defs.specs.World.{dialog_hears, hears as hears_at, behind_frame, take_frame}
 use Rattle.world_defs.specs.Events.{Plain, bytes_happen}
-use Rattle.step_law.specs.Fronts.{HearsInDialog, HearsAs, OnLine, InDialog}
+use Rattle.step_law.specs.Fronts.{HearsAs, OnLine, InDialog}
 use Rattle.step_law.specs.Links.{Shared, shared_of, Linked, is_lined, binds, Tied, TieOf, HasOwnKeys, Ties, IsTied}
 use Rattle.step_law.specs.InStep.{RepliesAreDue}
 use Rattle.step_law.specs.Taken.{IsAlone, IsQuiet, TreeTakesAreKept}

@@ -29,27 +29,29 @@ pub fn fronts_taken_law()
     ensures taken { FrontsAreTaken }
 {}
 
-/// Of a world whose ends are tied as `IsTied` says: each event does to its values what it does in the model, and each request that
-/// waits is heard as the message that it was made for.
+/// Of a world whose ends are tied as `IsTied` says, and whose replies come as `RepliesAreDue` says: each event does to its values what
+/// it does in the model, and each request that waits is heard as the message that it was made for.
 pub fn in_step_law()
     ensures in_step { TiedGoesInStep }
 {
     nothing_is_refused_law();
 }
 
-/// The opening state is tied, and each event that closes ends or is the client's alone leaves a world tied: all but an Open, a
-/// Push, a Serve, a Take and a Crash that keeps its front, of which this isn't proved here.
+/// The opening state is tied, and each event that closes ends or is the client's alone leaves a world tied, where each reply that comes
+/// is of an operation that was taken: all but an Open, a Push, a Serve, a Take and a Crash that keeps its front, of which this isn't
+/// proved here.
 pub fn ties_law()
     ensures kept { TiesAreKept }
 {}
 
-/// A Take leaves a tied world tied: of a line's reply, where an operation has one copy on a connection, and of a dialog's response of
-/// another status than the one that is due.
+/// A Take leaves a tied world tied, where replies come as `RepliesAreDue` says: of a line's reply of which no other copy is on its way,
+/// and of a dialog's response of another status than the one that is due.
 pub fn takes_law()
     ensures kept { TakesAreKept }
 {}
 
-/// So does the Take of the response to a new session's TREE_CONNECT, by which its channel is ready, where no other dialog is on its way.
+/// So does the Take of the success of a new session's TREE_CONNECT, by which its channel is ready, where replies come as `RepliesAreDue`
+/// says, no other copy of it is on its way, and no other dialog is.
 pub fn tree_takes_law()
     ensures kept { TreeTakesAreKept }
 {}

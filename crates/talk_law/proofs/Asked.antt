@@ -71,12 +71,14 @@ sent_as n false previous token m = inl (refl, refl)
 pub setup_is : (n : ClientEnd) (bound : Bool) (previous : ℕ) (token : List ℕ) (m : Message)
     → IsMessage (request_header m 1 1 bound) (session_setup_request_spelling (setup_value bound previous token))
     (setup_frame n bound previous token m)
-setup_is n bound previous token m = setup_message bound previous token m (setup_frame n bound previous token m) (sent_as n bound previous token m)
+setup_is n bound previous token m = setup_message bound previous token m (setup_frame n bound previous token m)
+    (sent_as n bound previous token m)
 
 abbrev pub setup_heard : ClientEnd → Bool → ℕ → List ℕ → Message → Heard
 setup_heard n bound previous token m = heard_as (request_header m 1 1 bound) (setup_frame n bound previous token m)
 
-pub setup_opens : (z : WorldSettings) → IsLawful z → (n : ClientEnd) (bound : Bool) (previous : ℕ) (token : List ℕ) (m : Message) → IsSent m 1
+pub setup_opens : (z : WorldSettings) → IsLawful z
+    → (n : ClientEnd) (bound : Bool) (previous : ℕ) (token : List ℕ) (m : Message) → IsSent m 1
     → previous < 256 ^ 8 → length token < 256 ^ 2
     → text_of None (setup_frame n bound previous token m)
     ≡ Ok (record { sealed = false; messages = setup_heard n bound previous token m ∷ [] })
@@ -215,8 +217,10 @@ setup_asked z law L k f n bound previous token m shown next i no_keys greeted ow
     }
 
 -- the token that it carries
-pub setup_token_is : (z : WorldSettings) → IsLawful z → (n : ClientEnd) (bound : Bool) (previous : ℕ) (token : List ℕ) (m : Message) (t : Told)
+pub setup_token_is : (z : WorldSettings) → IsLawful z
+    → (n : ClientEnd) (bound : Bool) (previous : ℕ) (token : List ℕ) (m : Message) (t : Told)
     → IsSent m 1 → previous < 256 ^ 8 → length token < 256 ^ 2 → token_in (setup_frame n bound previous token m) ≡ token
 setup_token_is z law n bound previous token m t s p short =
     let setups = law.setups in
-    let all = setups.setup t bound previous token m (setup_frame n bound previous token m) s p short (sent_as n bound previous token m) in all.0
+    let all = setups.setup t bound previous token m (setup_frame n bound previous token m) s p short
+    (sent_as n bound previous token m) in all.0

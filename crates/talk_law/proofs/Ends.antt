@@ -20,7 +20,8 @@ use Rattle.world_defs.specs.Dialog.{noted_heard}
 use Rattle.world_defs.specs.World.{noted_sent}
 use Rattle.world_defs.specs.Sending.{spent}
 use Rattle.wire_facts.specs.Lawful.{IsLawful}
-use Rattle.step_law.specs.Links.{Shared, AllAsked, Asked, Reached, Linked, is_lined, binds, dialog_purse, dialog_grant, Waiting, Coming, Waits}
+use Rattle.step_law.specs.Links.{Shared, AllAsked, Asked, Reached, Linked, is_lined, binds, dialog_purse, dialog_grant, Waiting}
+use Rattle.step_law.specs.Links.{Coming, Waits}
 use Rattle.step_law.specs.Links.{Tied}
 use Rattle.step_law.proofs.Took.{reach_more}
 use Rattle.talk_law.specs.Talking.{goes_on}
@@ -83,7 +84,8 @@ none_of co off on = absurd (let h : false ≡ true = sym off ∙ on in cc)
 more_counted : (c r n : ℕ) → c + r ≤ n → c + (r + 1) ≤ n + counted 1
 more_counted c r n e = omega (arith, e)
 
-pub linked_on : (z : WorldSettings) (op : ℕ → Op) (s t : Shared) (k : ℕ) (was co so : Bool) (n m : ClientEnd) (f : ServerEnd) (frame : List ℕ)
+pub linked_on : (z : WorldSettings) (op : ℕ → Op) (s t : Shared) (k : ℕ) (was co so : Bool) (n m : ClientEnd) (f : ServerEnd)
+    (frame : List ℕ)
     (down : List (List ℕ)) (ys : List Received) (x : Sent) (g : ℕ) (i : Linked z op s k was so n f [] down [] ys) → co ≡ false
     → t.logons ≡ s.logons → i.line.grants ≡ g ∷ [] → nat_le (counted 1) (after_add g i.line.purse).held ≡ true
     → m.purse ≡ after_spend 1 (after_add g n.purse)
@@ -145,7 +147,8 @@ going_tie z op s t k so n f a y stage next frame m T C goes is same purse off ke
     ap (λ p. nat_le (counted 1) (after_add g p).held) line_purse ∙ pays_once stage goes in
     let at : m.message_id ≡ (after_add g l.purse).next =
     id ∙ (ap (λ c. (after_add c n.purse).next) C.credits ∙ ap (λ p. (after_add g p).next) i.purse) in
-    let all = linked_on z op s t k (true && is_lined n.stage) (is_lined next) so n (next_end n stage C.heard next frame) f frame (a ∷ []) (y ∷ []) x g
+    let all = linked_on z op s t k (true && is_lined n.stage) (is_lined next) so n
+    (next_end n stage C.heard next frame) f frame (a ∷ []) (y ∷ []) x g
     i off same C.grants_it paid (ap (λ c. after_spend 1 (after_add c n.purse)) C.credits)
     (λ o. subst (λ q. Asked z s.logons k f frame x (q, 1)) at (asked o)) in record {
       link = all;

@@ -203,7 +203,8 @@ pub first_tie : (z : WorldSettings) → IsLawful z → (op : ℕ → Op) (s : Sh
     → (C.heard.header.status == due (SaidNegotiate bound)) ≡ true → n.purse ≡ dialog_purse (SaidNegotiate bound)
     → (bound ≡ true → n.keys ≡ s.keys) → (bound ≡ true → s.logons.keys c.session ≡ n.keys) → c.session ≡ s.session
     → Tied z op (with_pending s c.pending) k true so
-    (next_end n (SaidNegotiate bound) C.heard (SaidFirst bound) (first_frame c k n bound C.heard)) f (first_frame c k n bound C.heard ∷ []) []
+    (next_end n (SaidNegotiate bound) C.heard (SaidFirst bound) (first_frame c k n bound C.heard)) f
+    (first_frame c k n bound C.heard ∷ []) []
     (record { token = ForDialog; message = first_sent c k n bound C.heard } ∷ []) []
 first_tie z law op s k true n f a y bound c T C i ok purse keys own session =
     going_tie z op s (with_pending s c.pending) k true n f a y (SaidNegotiate bound) (SaidFirst bound) (first_frame c k n bound C.heard)
@@ -280,9 +281,11 @@ second_waits z law s k n f a y grants bound c C i ok logon purse keys session =
     let lasting = C.lasting ok in
     let heard = setup_heard h bound previous token m in
     let t = told_of z.server s.logons k f (checked_as f false false true heard) in
-    let told : token_in frame ≡ token = setup_token_is z law h bound previous token m t mine.sent (previous_fits z c bound i) answered.short in record {
+    let told : token_in frame ≡ token = setup_token_is z law h bound previous token m t mine.sent
+    (previous_fits z c bound i) answered.short in record {
       heard = heard;
-      opens = ap (λ o. text_of o frame) ahead.0 ∙ setup_opens z law h bound previous token m mine.sent (previous_fits z c bound i) answered.short;
+      opens = ap (λ o. text_of o frame) ahead.0
+          ∙ setup_opens z law h bound previous token m mine.sent (previous_fits z c bound i) answered.short;
       alone = refl;
       token = refl;
       command = (setup_by c bound c.who.logon, refl, refl);
@@ -323,7 +326,8 @@ second_asked z law s k n f a y grants bound c C i ok logon purse keys =
     let answered = own.answered in
     let ahead = C.ahead ok refl in
     setup_asked z law s.logons k f h bound (previous_of c bound) (own_token z n x) m (logon_of z) m.message_id mine ahead.0 ahead.1
-    (λ e. ap (λ b. s.logons.keys (if b then c.session else c.pending)) e ∙ keys e) (previous_fits z c bound i) answered.short answered.shows refl
+    (λ e. ap (λ b. s.logons.keys (if b then c.session else c.pending)) e ∙ keys e)
+    (previous_fits z c bound i) answered.short answered.shows refl
 
 pub second_tie : (z : WorldSettings) → IsLawful z → (op : ℕ → Op) (s : Shared) (k : ℕ) (so : Bool) (n : ClientEnd) (f : ServerEnd)
     (a : List ℕ) (y : Received) (bound : Bool) (c : Client) (T : Tied z op s k true so n f [] (a ∷ []) [] (y ∷ []))

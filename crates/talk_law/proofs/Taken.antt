@@ -101,7 +101,8 @@ front_same : (v y : Received) (ys : List Received) → v ∷ [] ≡ y ∷ ys →
 front_same v y ys e = cc
 
 lists_of : (z : WorldSettings) (s : Shared) (k : ℕ) (so : Bool) (n : ClientEnd) (f : ServerEnd) (up down : List (List ℕ)) (xs : List Sent)
-    (rs : List Received) (stage : Stage) (y : Received) (ys : List Received) (l : Line) → rs ≡ y ∷ ys → Talks z s k so n f up down xs rs l stage
+    (rs : List Received) (stage : Stage) (y : Received) (ys : List Received) (l : Line) → rs ≡ y ∷ ys
+    → Talks z s k so n f up down xs rs l stage
     → ListsAre up down xs rs y
 lists_of z s k so n f up down xs rs stage y ys l h (Waits b x e1 e2 e3 e4 w) = absurd (let q : [] ≡ y ∷ ys = sym e4 ∙ h in cc)
 lists_of z s k so n f up down xs rs stage y ys l h (Lost e1 e2 e3 e4 e5) = absurd (let q : [] ≡ y ∷ ys = sym e4 ∙ h in cc)
@@ -124,7 +125,8 @@ coming_of z s k so n f a y l stage (Comes b v e1 e2 e3 e4 c) =
 abbrev going_world : World → ℕ → Stage → Heard → Stage → Bool → List ℕ → World
 going_world v k stage x next bound token =
     let c = went_on v.values.client k next (dialog_reply v stage x) in
-    with_values (setup_sent (with_client_end (with_values v (with_client v.values c)) k (noted_heard (v.wires k).client_end stage x)) k next bound token)
+    with_values (setup_sent (with_client_end (with_values v (with_client v.values c)) k
+    (noted_heard (v.wires k).client_end stage x)) k next bound token)
     (dialog_sent (with_client v.values c) k next)
 
 fault_if : (b : Bool) (o : Option Refusal) → b ≡ true → o ≡ None → (if b then o else None) ≡ None
@@ -136,14 +138,16 @@ passed_due : (z : WorldSettings) (v : World) (k : ℕ) (stage : Stage) (x : Hear
     → dialog_hears z v k stage o ≡ passed_world z v k stage x (dialog_step stage x.header.status)
 passed_due z v k stage x o opens ok sound =
     ap (dialog_hears z v k stage) opens
-    ∙ ap (dialog_passed z v k stage x) (fault_if (x.header.status == due stage) (dialog_fault z.client (v.wires k).client_end stage x) ok sound)
+    ∙ ap (dialog_passed z v k stage x)
+    (fault_if (x.header.status == due stage) (dialog_fault z.client (v.wires k).client_end stage x) ok sound)
 
 -- a Take of what came, by its stage
 takes_first : (z : WorldSettings) (w : World) (k : ℕ) (a : List ℕ) (y : Received) (bound : Bool) (x : Heard)
     → (w.wires k).client_end.stage ≡ SaidNegotiate bound → dialog_response (w.wires k).client_end (SaidNegotiate bound) a ≡ Some x
     → (x.header.status == due (SaidNegotiate bound)) ≡ true
     → dialog_fault z.client (w.wires k).client_end (SaidNegotiate bound) x ≡ None
-    → take_frame z w k (a ∷ []) (y ∷ []) ≡ going_world (behind_frame w k [] []) k (SaidNegotiate bound) x (SaidFirst bound) bound first_token
+    → take_frame z w k (a ∷ []) (y ∷ []) ≡ going_world (behind_frame w k [] []) k (SaidNegotiate bound) x
+    (SaidFirst bound) bound first_token
 takes_first z w k a y bound x at opens ok sound =
     let v = behind_frame w k [] [] in
     let stage = SaidNegotiate bound in
@@ -251,7 +255,8 @@ ComesTo z w k a y =
 logon_of_tie : (n : ClientEnd) → (length n.challenge ≡ 8) × (length n.base ≡ 16) → HasLogon n
 logon_of_tie n t = record { challenge = t.0; base = t.1 }
 
-keys_of_bound : (z : WorldSettings) (w : World) (k : ℕ) (y : Received) → IsTied z w → IsGoing z w k y → binds (w.values.client.stage k) ≡ true
+keys_of_bound : (z : WorldSettings) (w : World) (k : ℕ) (y : Received) → IsTied z w → IsGoing z w k y
+    → binds (w.values.client.stage k) ≡ true
     → w.logons.keys w.values.client.session ≡ w.keys
 keys_of_bound z w k y i g e =
     let session = g.bound_session e in
@@ -262,7 +267,8 @@ by_stage : (z : WorldSettings) → IsLawful z → (w : World) (k : ℕ) (a : Lis
     → (w.values.conns k).client_open ≡ true → (w.wires k).client_end.stage ≡ stage → goes_on stage ≡ true
     → (y.reply.status == due stage) ≡ true → IsGoing z w k y → (w.wires k).up ≡ [] → (w.values.conns k).up ≡ []
     → (T : ComesTo z w k a y)
-    → Coming z (shared_of w.values.client w.keys w.logons) k (w.values.conns k).server_open (w.wires k).client_end (w.wires k).server_end a y
+    → Coming z (shared_of w.values.client w.keys w.logons) k (w.values.conns k).server_open (w.wires k).client_end
+    (w.wires k).server_end a y
     T.link.line.grants stage
     → (w.wires k).client_end.purse ≡ dialog_purse stage → IsTied z (take_frame z w k (a ∷ []) (y ∷ []))
 unfolding reply_of
@@ -345,7 +351,8 @@ taken_at z law w k b bs y ys i co e h goes ok g =
     let C = coming_of z s k d.server_open n u.server_end a y T.link.line n.stage (T.talk refl off) in
     subst (IsTied z) (sym (taken_world z w k a [] y [] co lists.down_is lists.told_is))
     (later_tied z (take_frame z w k (a ∷ []) (y ∷ [])) 1
-    (by_stage z law w k a y n.stage i co refl (ap goes_on at ∙ goes) (ap (λ v. y.reply.status == due v) at ∙ ok) g lists.up_is lists.sent_is T C
+    (by_stage z law w k a y n.stage i co refl (ap goes_on at ∙ goes)
+    (ap (λ v. y.reply.status == due v) at ∙ ok) g lists.up_is lists.sent_is T C
     (T.purse refl off)))
 
 take_by : (z : WorldSettings) → IsLawful z → (w : World) (k : ℕ) (y : Received) (ys : List Received) → IsTied z w

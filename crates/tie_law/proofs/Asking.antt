@@ -133,7 +133,8 @@ texted z law n k m charge true e i id sealable =
     (heard_as h plain) plain long (ciphers.begins n.keys true (nonce_at n.channel n.counter) plain) opens
     (heads.alone h body plain fit refl is) in
     let same : line_frame n m charge ≡ frame =
-    ap (λ b. if b then sealed n.keys true (nonce_at n.channel n.counter) plain else signed n.keys.signing (request_text m charge true)) e in record {
+    ap (λ b. if b then sealed n.keys true (nonce_at n.channel n.counter) plain else signed n.keys.signing
+    (request_text m charge true)) e in record {
       bytes = plain;
       fits = fit;
       is = is;
@@ -244,7 +245,8 @@ asked_new z law L n f k token m charge next i asks id sealable keys encrypts gre
     let told = told_of z.server L k f c in
     let command = i.reads told h t.bytes t.fits t.is refl in
     let message : heard_message z.server L k f c ≡ Some m =
-    message_is z n k m charge (not e) told t.bytes i refl (client_not (is_negotiate x.header) (client_told t.bytes) (client_on f.greeting) first
+    message_is z n k m charge (not e) told t.bytes i refl
+    (client_not (is_negotiate x.header) (client_told t.bytes) (client_on f.greeting) first
     ∙ (client ∙ sym i.client)) fault command in
     let line : is_line x ≡ true = there (is_negotiate x.header) (is_setup x.header) first second in record {
       reads = record {

@@ -58,7 +58,8 @@ absorbed_ties held z w k b bs x xs i so e h line =
     let none : outside l.window.held q.0 (counted q.1) ≡ None =
     subst (λ (rs : List (ℕ × ℕ)). FrontIsHeld rs l.window) p.is (front_held held l link.reached) in
     let low = next_low held l link.reached in
-    let count : f.counter + length (q ∷ p.bills) ≤ l.purse.next = subst (λ rs. f.counter + length rs ≤ l.purse.next) p.is (link.counted so) in
+    let count : f.counter + length (q ∷ p.bills) ≤ l.purse.next = subst (λ rs. f.counter + length rs ≤ l.purse.next) p.is
+    (link.counted so) in
     let may : MayServe f q = record {
       held = ap (λ (v : HeldIds). outside v.held q.0 (counted q.1)) (link.window so) ∙ none;
       nonce = omega (arith, count, low);

@@ -35,7 +35,8 @@ use Rattle.tie_law.proofs.Linking.{end_behind, window_is, served_link}
 
 -- ---- the front of a line, with what waits behind it
 
-pub record Split (z : WorldSettings) (w : World) (k : ℕ) (b : List ℕ) (bs : List (List ℕ)) (x : Sent) (xs : List Sent) (l : Line) : Type 0 where
+pub record Split (z : WorldSettings) (w : World) (k : ℕ) (b : List ℕ) (bs : List (List ℕ)) (x : Sent) (xs : List Sent)
+    (l : Line) : Type 0 where
   pub bill : ℕ × ℕ
   pub bills : List (ℕ × ℕ)
   pub is : l.requests ≡ bill ∷ bills
@@ -92,7 +93,8 @@ token_of z w k h x =
     answer_token_by z.server.users (w.logons.pending k) (token_in h.bytes) (fresh_of z w) w.values.moment
     (progress x.message.command (answer w.values x).reply)
 
-pub record IsServed (z : WorldSettings) (w : World) (k : ℕ) (b : List ℕ) (x : Sent) (q : ℕ × ℕ) (a : Asked z w.logons k (w.wires k).server_end b x q) : Type 0 where
+pub record IsServed (z : WorldSettings) (w : World) (k : ℕ) (b : List ℕ) (x : Sent) (q : ℕ × ℕ)
+    (a : Asked z w.logons k (w.wires k).server_end b x q) : Type 0 where
   pub keys : Keys
   pub has : (w.wires k).server_end.keys ≡ Some keys
   pub sealing : a.reads.sealed ≡ (w.wires k).server_end.encrypts
@@ -100,7 +102,8 @@ pub record IsServed (z : WorldSettings) (w : World) (k : ℕ) (b : List ℕ) (x 
   pub line : is_line a.reads.heard ≡ true
   pub step :
       LineStep (step_at z w k b) w.logons (end_behind (w.wires k).server_end a.reads.heard.header a.reads.sealed)
-      (answer_frame keys (behind_turn (w.wires k).server_end a.reads.heard.header) a.reads.sealed (said_of z w k a.reads.sealed a.reads.heard x))
+      (answer_frame keys (behind_turn (w.wires k).server_end a.reads.heard.header) a.reads.sealed
+      (said_of z w k a.reads.sealed a.reads.heard x))
   pub said :
       IsSaid (said_of z w k a.reads.sealed a.reads.heard x)
       (told_header a.reads.heard.header (answer w.values x).reply
@@ -155,7 +158,8 @@ answers_it : (z : WorldSettings) → IsLawful z → (w : World) (k : ℕ) (b : L
     → (w.wires k).client_end.awaited q.0 ≡ Some x.token → q.0 < (w.wires k).client_end.purse.next
     → Answers w.values.client.op (w.wires k).client_end.keys (w.wires k).client_end.encrypts (w.wires k).client_end.awaited
     (w.wires k).client_end.purse.next
-    (answer_frame v.keys (behind_turn (w.wires k).server_end a.reads.heard.header) a.reads.sealed (said_of z w k a.reads.sealed a.reads.heard x))
+    (answer_frame v.keys (behind_turn (w.wires k).server_end a.reads.heard.header) a.reads.sealed
+    (said_of z w k a.reads.sealed a.reads.heard x))
     (record { token = x.token; reply = (answer w.values x).reply; place = place }) (granted 512 (after_take q.0 q.1 l.window))
 answers_it z law w k b x q a v l place fits tells window same_key same_seal id awaits below =
     let f = (w.wires k).server_end in
@@ -289,7 +293,8 @@ served_tie z law held w k b bs x xs place i so e h front =
       tied = conn_twice (TieOf z c.op s) w.values.conns w.wires k (behind_front d xs) (λ g. say_down g y)
           (answered_wires u d.client_open E bs (frame ∷ [])) (told d.client_open refl) (λ j g. i.tied j);
       stages = conn_twice (λ j r g. r.client_open ≡ true → g.client_end.stage ≡ c.stage j) w.values.conns w.wires k (behind_front d xs)
-          (λ g. say_down g y) (answered_wires u d.client_open E bs (frame ∷ [])) (open_by d xs y (λ g. g ≡ true → n.stage ≡ c.stage k) (i.stages k) d.client_open)
+          (λ g. say_down g y) (answered_wires u d.client_open E bs (frame ∷ []))
+          (open_by d xs y (λ g. g ≡ true → n.stage ≡ c.stage k) (i.stages k) d.client_open)
           (λ j g. i.stages j);
       nexts = conn_twice (λ j r g. r.client_open ≡ true → g.client_end.purse.next ≡ r.next_id) w.values.conns w.wires k (behind_front d xs)
           (λ g. say_down g y) (answered_wires u d.client_open E bs (frame ∷ [])) (next_by d xs y n.purse.next (i.nexts k) d.client_open)
@@ -299,7 +304,8 @@ served_tie z law held w k b bs x xs place i so e h front =
     let values : (served_on w k bs xs x.token S).values ≡ serve_front w.values k (x ∷ xs) =
     sym (ap (λ o. (served_by w k bs xs x.token S o).values) T.ends) ∙ said_values w k bs x xs S (told_at z w k b x q r may) in
     subst (λ o. IsTied z (served_by w k bs xs x.token S o)) (sym T.ends)
-    (subst (λ (V : Values). Ties z V.client w.keys S.logons V.conns (put w.wires k (answered_wires u d.client_open S.server_end bs S.frames)))
+    (subst (λ (V : Values). Ties z V.client w.keys S.logons V.conns
+    (put w.wires k (answered_wires u d.client_open S.server_end bs S.frames)))
     (sym values)
     (subst (λ L. Ties z c w.keys L (serve_front w.values k (x ∷ xs)).conns
     (put w.wires k (answered_wires u d.client_open S.server_end bs S.frames))) (sym T.logons)

@@ -118,7 +118,8 @@ served_link z op s k co n f b bs down more x xs ys told frame y i q qs a e rest 
     let h = r.heard.header in
     let l = i.line in
     let same : window_behind f.window h ≡ after_take q.0 q.1 l.window = window_is f h l q a.counts (i.window refl) r.id r.charge in
-    let count : f.counter + length (q ∷ qs) ≤ l.purse.next = subst (λ rs. f.counter + length rs ≤ l.purse.next) e (i.counted refl) in record {
+    let count : f.counter + length (q ∷ qs) ≤ l.purse.next = subst (λ rs. f.counter + length rs ≤ l.purse.next) e
+    (i.counted refl) in record {
       line = line_less l q qs;
       reached = subst Reached (served_is l q qs e none) (reach_more l (serves 512) i.reached);
       purse = i.purse;

@@ -40,13 +40,17 @@ pushed_ties : (z : WorldSettings) → IsLawful z → (w : World) (k : ℕ) (d : 
     → ((g : ℕ) → a ≡ Asks g → IsLineMessage z (w.wires k).client_end k (ask_message d k (w.wires k).client_end.purse.next g) 1)
     → IsTied z (with_values (pushed_wires w k d a) (pushed_by w.values k d a))
 pushed_ties z law w k d (Sends g) i keeps co apart sends asks =
-    sent_ties z law w k (ForOp g) d (λ id. own_message d k id g) (charge (weight (d.op g))) i keeps co refl (i.stages k co) apart (sends g refl)
+    sent_ties z law w k (ForOp g) d (λ id. own_message d k id g) (charge (weight (d.op g))) i keeps co refl
+    (i.stages k co) apart (sends g refl)
 pushed_ties z law w k d (Asks g) i keeps co apart sends asks =
     sent_ties z law w k (ForAttach g) d (λ id. ask_message d k id g) 1 i keeps co refl (i.stages k co) apart (asks g refl)
 pushed_ties z law w k d Nothing i keeps co apart sends asks = kept_ties z w.values.client d w.keys w.logons w.values.conns w.wires keeps i
-pushed_ties z law w k d CloseChannel i keeps co apart sends asks = kept_ties z w.values.client d w.keys w.logons w.values.conns w.wires keeps i
-pushed_ties z law w k d CloseChannels i keeps co apart sends asks = kept_ties z w.values.client d w.keys w.logons w.values.conns w.wires keeps i
-pushed_ties z law w k d AllSettled i keeps co apart sends asks = kept_ties z w.values.client d w.keys w.logons w.values.conns w.wires keeps i
+pushed_ties z law w k d CloseChannel i keeps co apart sends asks =
+    kept_ties z w.values.client d w.keys w.logons w.values.conns w.wires keeps i
+pushed_ties z law w k d CloseChannels i keeps co apart sends asks =
+    kept_ties z w.values.client d w.keys w.logons w.values.conns w.wires keeps i
+pushed_ties z law w k d AllSettled i keeps co apart sends asks =
+    kept_ties z w.values.client d w.keys w.logons w.values.conns w.wires keeps i
 
 push_by : (z : WorldSettings) (w v : World) (b : Bool) → IsTied z w → (b ≡ true → IsTied z v) → IsTied z (if b then bytes_later v 1 else w)
 push_by z w v true i f = f refl

@@ -104,7 +104,8 @@ sent_link z law op s k so n f up down xs ys token m charge i ops mine =
     let q : ℕ × ℕ = (l.purse.next, charge) in
     let more : Line = record l { purse = after_spend charge l.purse; requests = l.requests ++ q ∷ [] } in
     let next : n.purse.next ≡ l.purse.next = ap (λ (c : Credits). c.next) i.purse in
-    let paid : nat_le (counted charge) l.purse.held ≡ true = ap (λ (c : Credits). nat_le (counted charge) c.held) (sym i.purse) ∙ mine.paid in
+    let paid : nat_le (counted charge) l.purse.held ≡ true = ap (λ (c : Credits). nat_le (counted charge) c.held)
+    (sym i.purse) ∙ mine.paid in
     let is : after_step (sends charge) l ≡ more = sent_line (nat_le (counted charge) l.purse.held) charge l paid in
     let less : n.purse.next < n.purse.next + counted charge = rises n.purse.next charge in record {
       line = more;

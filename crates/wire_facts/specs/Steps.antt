@@ -1,8 +1,8 @@
--- What is said of runs without tampering, given the facts on bytes.
-use Rattle.std.specs.Prelude.{◌≡◌, ℕ, ◌+◌, ◌<◌, true, false, List, [], ◌∷◌, Option, Some}
+-- What is said of runs without tampering, of settings that fit.
+use Rattle.std.specs.Prelude.{◌≡◌, ℕ, ◌+◌, ◌<◌, ◌^◌, true, false, List, [], ◌∷◌, Option, Some}
 use Rattle.exchange_defs.specs.State.{Reply}
 use Rattle.exchange_defs.specs.Client.{Stage, Apart}
-use Rattle.exchange_defs.specs.Network.{Event, Restart, Crash, Received, Token, ForDialog, ForOp, ForAttach}
+use Rattle.exchange_defs.specs.Network.{Event, Submit, Restart, Crash, Received, Token, ForDialog, ForOp, ForAttach}
 use Rattle.command_defs.specs.ReplyOf.{reply_of}
 use Rattle.command_law.specs.Fitting.{IsHeardAlike}
 use Rattle.world_defs.specs.Settings.{WorldSettings}
@@ -11,7 +11,7 @@ use Rattle.world_defs.specs.Ends.{ClientEnd}
 use Rattle.world_defs.specs.Dialog.{line_response, dialog_response}
 use Rattle.world_defs.specs.World.{World, command_asked}
 use Rattle.world_defs.specs.Statements.{plain_run, IsInStep, RequestsAreHeard, NoncesOnce, AcceptedIsMade, SealsAreKept}
-use Rattle.wire_facts.specs.Lawful.{IsLawful}
+use Rattle.wire_facts.specs.Fitting.{IsFitting}
 
 -- ---- the front of what comes down is heard as the reply that the server's step gave
 
@@ -41,13 +41,19 @@ RepliesAreHeard w =
     (w.values.conns k).client_open ≡ true → (w.wires k).down ≡ b ∷ bs → (w.values.conns k).down ≡ y ∷ ys →
     (x : Heard) × (response_at (w.wires k).client_end (w.wires k).client_end.stage b ≡ Some x) × IsHeardReply w (w.wires k).client_end y x
 
--- ---- over every run without tampering, of fewer restarts than a journal has room for
+-- ---- over every run without tampering, of fewer restarts than a journal has room for, and of no more operations than a CreateGuid
+-- has numbers for: 8 of its 16 bytes are the operation's
 
 unfoldable pub restarts_in : List Event → ℕ
 restarts_in [] = 0
 restarts_in (Restart ∷ es) = 1 + restarts_in es
 restarts_in (Crash k kept ∷ es) = 1 + restarts_in es
 restarts_in (e ∷ es) = restarts_in es
+
+unfoldable pub submits_in : List Event → ℕ
+submits_in [] = 0
+submits_in (Submit g op ∷ es) = 1 + submits_in es
+submits_in (e ∷ es) = submits_in es
 
 pub record Steps (z : WorldSettings) (events : List Event) : Type 0 where
   pub in_step : IsInStep z events
@@ -58,4 +64,5 @@ pub record Steps (z : WorldSettings) (events : List Event) : Type 0 where
   pub seals : SealsAreKept (plain_run z events)
 
 abbrev pub StepLaw : Type 0
-StepLaw = (z : WorldSettings) → IsLawful z → (events : List Event) → restarts_in events < 4194304 → Steps z events
+StepLaw =
+    (z : WorldSettings) → IsFitting z → (events : List Event) → restarts_in events < 4194304 → submits_in events < 2 ^ 64 → Steps z events

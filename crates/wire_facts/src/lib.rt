@@ -1,7 +1,7 @@
 //! What the laws of the exchange over bytes lean on: that what is signed verifies, what is sealed opens, what is spelled
 //! reads back, and that a logon's tokens are understood. The facts stand in `specs/` as one record. Those on ciphers, headers,
 //! commands, NEGOTIATE, SESSION_SETUP and TREE_CONNECT are proved here, each as the contract of a public function that does
-//! nothing; those on tokens aren't proved yet.
+//! nothing; those on tokens are proved by `logon_facts`.
 #![tactic(auto)]
 
 ghost use Rattle.wire_facts.specs.Lawful.{AreCiphersLawful, AreHeadersLawful, AreCommandsLawful, AreSetupsLawful};

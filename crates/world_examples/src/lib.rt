@@ -8,11 +8,12 @@ ghost use Rattle.exchange_defs.specs.Client.{SaidFirst, SaidSecond, AskedTree};
 ghost use Rattle.exchange_defs.specs.Operations.{BadToken};
 ghost use Rattle.world_defs.specs.Ends.{OutsideWindow, Stopped};
 ghost use Rattle.world_defs.specs.Related.{file_named};
+ghost use Rattle.world_defs.specs.Dialog.{pays_next};
 ghost use Rattle.world_defs.specs.Logon.{Interim, signer_of, final_keys};
 ghost use Rattle.world_examples.specs.Ends.{greeted_end, take_frame, echo, cancel, two_echoes, related_echoes, statuses_of, go_through};
 ghost use Rattle.world_examples.specs.Keyed.{go_in_session, two_trees, some_keys, keyed_end, signed_echo, signed_reply};
 ghost use Rattle.world_examples.specs.Keyed.{sealed_echo, sealed_reply, keyed_logons, binding, bound_second};
-ghost use Rattle.world_examples.specs.Events.{two_disconnects, with_mishaps, lacks, halts, setup_behind, fault_at};
+ghost use Rattle.world_examples.specs.Events.{two_disconnects, with_mishaps, lacks, halts, setup_behind, penniless, granting, fault_at};
 
 /// Two messages of one frame are answered in one frame. Neither is signed, and no key is there to sign with.
 pub fn two_echoes_example()
@@ -86,6 +87,7 @@ pub fn no_credit_example()
     ensures none { fault_at (SaidFirst false) 0 ≡ Some BadToken }
     ensures one { fault_at (SaidFirst false) 1 ≡ None }
     ensures tree { fault_at AskedTree 0 ≡ None }
+    ensures binding { pays_next penniless (SaidSecond true) (granting 0).header ≡ true }
 {}
 
 /// A related message takes session and tree of the one before it.

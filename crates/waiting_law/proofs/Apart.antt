@@ -6,36 +6,17 @@ use Rattle.exchange_defs.specs.Commands.{Command, Setup, SetupRequest}
 use Rattle.exchange_defs.specs.State.{Reply}
 use Rattle.exchange_defs.specs.CheckSetup.{is_new}
 use Rattle.exchange_defs.specs.Client.{Stage, Apart, SaidNegotiate, SaidFirst, SaidSecond, AskedTree}
-use Rattle.exchange_defs.specs.Network.{World as Values, Event, Settings, Sent, Received, answer, run, start}
-use Rattle.exchange_defs.specs.Runs.{acts}
-use Rattle.exchange_law.specs.Connections.{Connections}
-use Rattle.exchange_law.proofs.Run.{connections}
-use Rattle.session_law.specs.Sessions.{Sessions, is_ops, is_new_setup}
-use Rattle.session_law.specs.Dialogs.{Dialogs, is_signed}
-use Rattle.session_law.proofs.Always.{sessions}
-use Rattle.session_law.proofs.DialogFacts.{dialogs}
+use Rattle.exchange_defs.specs.Network.{World as Values, Settings, Sent, Received, answer}
+use Rattle.session_law.specs.Sessions.{is_ops, is_new_setup}
+use Rattle.session_law.specs.Dialogs.{is_signed}
 use Rattle.session_law.proofs.Heard.{answered}
 use Rattle.world_defs.specs.Settings.{WorldSettings, values_of}
 use Rattle.world_defs.specs.Logon.{Progress, Stays, Interim, Final, progress, channel_in, seals_in}
 use Rattle.world_defs.specs.World.{World}
 use Rattle.step_law.specs.Links.{IsTied}
 use Rattle.dialog_law.specs.Serving.{begins_new, Spare, AllSpared, is_new_second, IsApart}
-use Rattle.apart_law.specs.Apart.{SessionsAreApart}
-
--- what the laws say of a world of values
-record Facts (z : Settings) (v : Values) : Type 0 where
-  counts : ℕ → ℕ
-  carried : Connections v.client v.conns counts
-  sits : Sessions v.client v.conns v.server
-  talk : Dialogs z.who v.client v.conns
-
-facts : (z : Settings) (events : List Event) → Facts z (run events (start z))
-facts z events = record {
-  counts = acts events (start z);
-  carried = connections z events;
-  sits = sessions z events;
-  talk = dialogs z events;
-}
+use Rattle.waiting_law.specs.Apart.{SessionsAreApart}
+use Rattle.waiting_law.proofs.Due.{Facts, facts}
 
 -- ---- a new session begins at a success alone
 

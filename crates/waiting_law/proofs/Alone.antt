@@ -1,5 +1,6 @@
 -- Each event leaves what waits of a dialog alone: an operation goes up on a ready channel, which carries nothing of a dialog.
-use Rattle.std.proofs.Common.{◌≡◌, ℕ, ◌+◌, ◌==◌, Bool, true, false, not, ◌&&◌, if◌then◌else◌, List, [], ◌∷◌, ◌++◌, refl, sym, ap, ◌∙◌, subst}
+use Rattle.std.proofs.Common.{◌≡◌, ℕ, ◌+◌, ◌==◌, Bool, true, false, not, ◌&&◌, if◌then◌else◌, List, [], ◌∷◌, ◌++◌, refl, sym}
+use Rattle.std.proofs.Common.{ap, ◌∙◌, subst}
 use Rattle.std.proofs.Common.{arith, Option, Some, None}
 use Rattle.exchange_defs.specs.Table.{put, is_filled}
 use Rattle.exchange_defs.specs.Status.{success}
@@ -11,7 +12,8 @@ use Rattle.exchange_defs.specs.Settling.{Heard as Hearing, Settles, GoesAgain, A
 use Rattle.exchange_defs.specs.Dialogs.{DialogStep, GoesOn, Accepts, Binds, Readies, Refuses, dialog_step}
 use Rattle.exchange_defs.specs.ClientStep.{Pick, Act, Nothing, CloseChannels, pick_after, pick_act, act_heard, some_unsettled, IsReady}
 use Rattle.exchange_defs.specs.Network.{World, Event, Submit, Open, Push, Serve, Take, Cut, Drop, Restart, Crash, Wait, Finish, Conn, Sent}
-use Rattle.exchange_defs.specs.Network.{Received, Token, ForDialog, ForOp, ForAttach, op_of, happens, changed, later, may_open, may_serve, fresh}
+use Rattle.exchange_defs.specs.Network.{Received, Token, ForDialog, ForOp, ForAttach, op_of, happens, changed, later, may_open}
+use Rattle.exchange_defs.specs.Network.{may_serve, fresh}
 use Rattle.exchange_defs.specs.Network.{server_off, client_off, send_up, say_down, behind_front, take_front, pushed_by, answer, serve_front}
 use Rattle.exchange_defs.specs.Network.{absorb_front, take_reply, took_by, dialog_took, op_took, closed_by, cut_by, behind_reply, restarted}
 use Rattle.exchange_defs.specs.Network.{dialog_ended, run, start, Settings}
@@ -21,7 +23,7 @@ use Rattle.exchange_law.proofs.Reached.{on_every_run}
 use Rattle.server_law.proofs.Logic.{either, front_of}
 use Rattle.session_law.specs.Dialogs.{Dialogs, Channel, IsClosed, IsReady as ReadyNow, IsInDialog, Awaits, MessageAlone, ReplyAlone, IsLost}
 use Rattle.session_law.proofs.DialogFacts.{dialogs}
-use Rattle.alone_law.specs.Alone.{NoDialogs, IsOneOr, Nothing as NoneWaits, One, Operations, AreAlone, DialogsAreAlone}
+use Rattle.waiting_law.specs.Alone.{NoDialogs, IsOneOr, Nothing as NoneWaits, One, Operations, AreAlone, DialogsAreAlone}
 
 -- ---- by the change of the connections
 
@@ -90,14 +92,16 @@ zero_left a b e = omega (arith, e)
 -- ---- Push
 
 sends_op : (w : World) (k g s : ℕ) (c : Client) → NoDialogs (w.conns k).up → AreAlone w.conns
-    → AreAlone (pushed_by w k (pick_after c k (Some (record { op = g; slot = s }))) (pick_act c k (Some (record { op = g; slot = s })))).conns
+    → AreAlone (pushed_by w k (pick_after c k (Some (record { op = g; slot = s })))
+    (pick_act c k (Some (record { op = g; slot = s })))).conns
 sends_op w k g s c none i =
     let Q : Client → Act → Type 0 = λ d x. AreAlone (pushed_by w k d x).conns in
     both_ways Q (may_push c k g) _ _ _ _
     (λ _. both_ways Q (goes_itself c g) _ _ _ _
     (λ _. both_ways Q (has_its_slot c g s) _ _ _ _
     (λ _. let d = outstanding (begun c g s) k g in
-    sent_alone w.conns k _ (ForOp g) (own_message d k (w.conns k).next_id g) (λ e. (let h : ForOp g ≡ ForDialog = e in cc)) none i) (λ _. i))
+    sent_alone w.conns k _ (ForOp g) (own_message d k (w.conns k).next_id g)
+    (λ e. (let h : ForOp g ≡ ForDialog = e in cc)) none i) (λ _. i))
     (λ _. let d = asked c k g in
     sent_alone w.conns k _ (ForAttach g) (ask_message d k (w.conns k).next_id g) (λ e. (let h : ForAttach g ≡ ForDialog = e in cc)) none i))
     (λ _. i)
@@ -144,7 +148,8 @@ ended : (w : World) (k session tree : ℕ) → AreAlone w.conns → AreAlone (di
 ended w k session tree i = ended_well (λ v. AreAlone v.conns) w k session tree (λ _. i) (λ _ _. i)
     (same_alone w.conns k (client_off (w.conns k)) refl i)
 
-dialog_by : (w : World) (k : ℕ) (r : Reply) → (w.conns k).up ≡ [] → AreAlone w.conns → (d : DialogStep) → AreAlone (dialog_took w k r d).conns
+dialog_by : (w : World) (k : ℕ) (r : Reply) → (w.conns k).up ≡ [] → AreAlone w.conns → (d : DialogStep)
+    → AreAlone (dialog_took w k r d).conns
 dialog_by w k r none i (GoesOn s) = first_alone w.conns k 1 ForDialog _ none i
 dialog_by w k r none i Accepts = first_alone w.conns k 1 ForDialog _ none i
 dialog_by w k r none i Binds = ended w k w.client.session w.client.tree i
@@ -226,7 +231,8 @@ stays_alone z w a (Open k) c d i =
     (λ m. opened_alone w.client w.conns k ((step w.server w.moment (Accept k)).reply.status == success) i) (λ _. i)
 stays_alone z w a (Push k slotless pick) c d i = either (λ (v : World). AreAlone v.conns) (w.client.ready k) _ _
     (λ _. pushes w k slotless pick
-    (λ r. (let all = c.ready k r in none_counted (w.conns k).up (zero_left (count_up 0 (w.conns k).up) (count_down 0 (w.conns k).down) all.2))) i)
+    (λ r. (let all = c.ready k r in none_counted (w.conns k).up
+    (zero_left (count_up 0 (w.conns k).up) (count_down 0 (w.conns k).down) all.2))) i)
     (λ _. i)
 stays_alone z w a (Serve k) c d i = either (λ (v : World). AreAlone v.conns) (may_serve w k) (later (serve_front w k (w.conns k).up) 1) w
     (λ _. serves w k i (w.conns k).up refl) (λ _. i)

@@ -17,14 +17,14 @@ use Rattle.world_defs.specs.World.{World}
 use Rattle.step_law.specs.Links.{is_lined, binds}
 use Rattle.step_law.specs.InStep.{AllTaken}
 use Rattle.step_law.specs.Taken.{OtherUp, OtherDown, IsAlone}
-use Rattle.due_law.specs.Due.{IsDue, WorldsAreDue}
+use Rattle.waiting_law.specs.Due.{IsDue, WorldsAreDue}
 
 -- what the laws say of a world of values
-record Facts (z : Settings) (v : Values) : Type 0 where
-  counts : ℕ → ℕ
-  carried : Connections v.client v.conns counts
-  sits : Sessions v.client v.conns v.server
-  talk : Dialogs z.who v.client v.conns
+pub record Facts (z : Settings) (v : Values) : Type 0 where
+  pub counts : ℕ → ℕ
+  pub carried : Connections v.client v.conns counts
+  pub sits : Sessions v.client v.conns v.server
+  pub talk : Dialogs z.who v.client v.conns
 
 -- ---- small words
 
@@ -272,7 +272,7 @@ due_by z w f =
       talks = talks_at s v f;
     }
 
-facts : (z : Settings) (events : List Event) → Facts z (run events (start z))
+pub facts : (z : Settings) (events : List Event) → Facts z (run events (start z))
 facts z events = record {
   counts = acts events (start z);
   carried = connections z events;

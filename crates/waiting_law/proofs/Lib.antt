@@ -1,0 +1,3 @@
+pub mod Due
+pub mod Alone
+pub mod Apart
