@@ -1,0 +1,12 @@
+//! What waits of a dialog in the exchange model, to the letter.
+//!
+//! The law is a public function with an empty body, whose contract is the statement.
+#![tactic(auto)]
+
+ghost use Rattle.exact_law.specs.Exact.{MessagesAreExact};
+
+/// On every run, behind every event, what waits for the server on an open connection that is in its dialog is the message of its stage, as
+/// the client would make it now: of its session in a binding, and of the session in the making else.
+pub fn messages_are_exact_law()
+    ensures exact { MessagesAreExact }
+{}

@@ -1,0 +1,5 @@
+pub mod Epoch
+pub mod Bounds
+pub mod Low
+pub mod LowIds
+pub mod Fits

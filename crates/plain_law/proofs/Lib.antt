@@ -1,0 +1,11 @@
+pub mod Prefix
+pub mod Salt
+pub mod Greeting
+pub mod Short
+pub mod Values
+pub mod Requests
+pub mod Pushed
+pub mod Talked
+pub mod Lined
+pub mod Heard
+pub mod Plain

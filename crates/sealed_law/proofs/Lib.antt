@@ -1,0 +1,3 @@
+pub mod Server
+pub mod Checks
+pub mod Runs
