@@ -1,9 +1,9 @@
 -- What a search tells, by what becomes of the operation that was found.
-use Rattle.std.proofs.Common.{◌≡◌, ℕ, ◌+◌, ◌<◌, ◌≤◌, List, length, refl, ap, sym, ◌∙◌, subst, arith, Some}
+use Rattle.std.proofs.Common.{◌≡◌, ℕ, ◌+◌, ◌<◌, ◌≤◌, true, List, length, refl, ap, sym, ◌∙◌, subst, arith, Some}
 use Rattle.std.proofs.lemmas.List.{get_or_default}
-use Rattle.exchange_defs.specs.Client.{Client}
+use Rattle.exchange_defs.specs.Client.{Client, goes_itself, has_its_slot}
 use Rattle.exchange_defs.specs.Schedules.{choose}
-use Rattle.choice_law.specs.Choosing.{chosen}
+use Rattle.choice_law.specs.Choosing.{Goes, chosen}
 use Rattle.operation_rows.specs.declared.row.Row.{Row}
 use Rattle.operation_rows.specs.Rows.{row_at}
 use Rattle.operation_rows.specs.Slots.{slot_at}
@@ -17,19 +17,22 @@ use Rattle.client_choice.specs.Shown.{AreBounded, HaveOpens, IsAt, IsInside, Sho
 -- an operation behind those that are passed over
 pub tells_from : (c : Client) (k credits start index : ℕ) (slotless : List ℕ) (r : Found)
     → ((d n : ℕ) → start + d ≡ index → index + n ≡ c.taken → choose c k credits slotless start (d + (n + 1)) ≡ chosen c k credits slotless index n)
-    → (r ≡ found.Nothing → ⊥) → TellsOf c k credits slotless index r → Tells c k credits slotless start r
-tells_from c k credits start index slotless found.Nothing h a t = absurd (a refl)
-tells_from c k credits start index slotless (found.Goes i slot) h a t =
-    subst (λ x. (d n : ℕ) → start + d ≡ x → x + n ≡ c.taken → choose c k credits slotless start (d + (n + 1))
-    ≡ record { slotless = slotless; pick = Some (record { op = x; slot = slot }) }) (sym t.0) (λ d n e f. h d n e f ∙ t.1 n)
-tells_from c k credits start index slotless (found.Slotless i) h a t =
+    → (r ≡ found.Nothing → ⊥) → Goes c credits index → TellsOf c k credits slotless index r → Tells c k credits slotless start r
+tells_from c k credits start index slotless found.Nothing h a w t = absurd (a refl)
+tells_from c k credits start index slotless (found.Goes i slot) h a w t = (
+  subst (λ x. Goes c credits x) (sym t.0) w,
+  subst (λ x. goes_itself c x ≡ true → has_its_slot c x slot ≡ true) (sym t.0) t.1,
+  subst (λ x. (d n : ℕ) → start + d ≡ x → x + n ≡ c.taken → choose c k credits slotless start (d + (n + 1))
+      ≡ record { slotless = slotless; pick = Some (record { op = x; slot = slot }) }) (sym t.0) (λ d n e f. h d n e f ∙ t.2 n),
+)
+tells_from c k credits start index slotless (found.Slotless i) h a w t =
     subst (λ x. Tells c k credits slotless start (found.Slotless x)) (sym t.0) (t.1, λ d n e f. h d n e f ∙ t.2 n)
 
 -- one that is behind another is behind a lower one
 pub inside_from : (rows : List Row) (opens : List Attached) (start index : ℕ) (r : Found) → start ≤ index → IsInside rows opens index r
     → IsInside rows opens start r
 inside_from rows opens start index found.Nothing l h = tt
-inside_from rows opens start index (found.Goes i slot) l h = (let a = h.0 in (omega arith, h.1, h.2))
+inside_from rows opens start index (found.Goes i slot) l h = (let a = h.0 in (omega arith, h.1, h.2, h.3))
 inside_from rows opens start index (found.Slotless i) l h = (let a = h.0 in (omega arith, h.1))
 
 -- what stands at a place is one

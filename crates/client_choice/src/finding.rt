@@ -80,8 +80,8 @@ fn judge_from(
     judge(rows, opens, session, index)
 }
 
-/// The operation that the model's client chooses, from one on, and what becomes of it. What is found to wait is noted so, and
-/// nothing else changes.
+/// The operation that the model's client chooses, from one on, and what becomes of it. `credits`: those that the channel holds
+/// (MS-SMB2 3.2.4.1.5), at most 254. What is found to wait is noted so, and nothing else changes.
 pub fn find(
     rows: &mut [Row],
     holders: &[u32],

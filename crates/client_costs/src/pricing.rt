@@ -35,7 +35,7 @@ fn cost_of(row: &Row, attached: bool) -> u8
     }
 }
 
-/// An operation costs what it does where its open is attached, or isn't.
+/// An operation costs what it does where its open is attached, or isn't. A cost is in credits (MS-SMB2 3.2.4.1.5).
 pub fn price_one(
     rows: &mut [Row],
     prices: &mut Prices,
@@ -62,8 +62,8 @@ pub fn price_one(
     change(rows, prices, watchers, index, row);
 }
 
-/// Each operation of an open costs what it does where the open is attached, or isn't. `last` is the highest of them that may be
-/// unsettled.
+/// Each operation of an open costs what it does where the open is attached, or isn't; a cost is in credits (MS-SMB2 3.2.4.1.5).
+/// A request that attaches an open costs one (3.2.4.4). `last` is the highest of them that may be unsettled.
 pub fn price_open(
     rows: &mut [Row],
     prices: &mut Prices,
@@ -90,7 +90,8 @@ pub fn price_open(
     }
 }
 
-/// An open is attached in this session: its operations go out themselves from now on.
+/// An open is attached in this session: its operations go out themselves from now on, each for its charge in credits (MS-SMB2
+/// 3.2.4.1.5).
 pub fn attach(rows: &mut [Row], prices: &mut Prices, watchers: &Watchers, last: u32)
     requires within { last < length rows.old }
     requires counts { Counts rows.old prices.old watchers.now }

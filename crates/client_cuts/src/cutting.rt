@@ -65,7 +65,7 @@ fn lose_any(rows: &mut [Row], prices: &mut Prices, watchers: &Watchers, index: u
     lose(rows, prices, watchers, index);
 }
 
-/// A channel is cut: what is outstanding on it is lost. What is outstanding is among the numbers that are given.
+/// A channel is cut: what is outstanding on it is lost (MS-SMB2 3.2.7.1). What is outstanding is among the numbers that are given.
 pub fn lose_channel(
     rows: &mut [Row],
     prices: &mut Prices,
@@ -88,7 +88,7 @@ pub fn lose_channel(
     }
 }
 
-/// The session ends: what is outstanding is lost, on whichever channel. It is among the numbers that are given.
+/// The session ends: what is outstanding is lost, on whichever channel (MS-SMB2 3.2.7.1). It is among the numbers that are given.
 pub fn lose_session(rows: &mut [Row], prices: &mut Prices, watchers: &Watchers, numbers: &[u32])
     requires within { (i : ℕ) → i < length numbers.now → slice_index numbers.now i < length rows.old }
     requires counts { Counts rows.old prices.old watchers.now }

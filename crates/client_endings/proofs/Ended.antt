@@ -16,7 +16,8 @@ use Rattle.client_outcomes.specs.declared.outcome.Outcome.{Outcome as Settled}
 use Rattle.client_outcomes.specs.declared.outcome.Outcome.TheVariants as outcomes
 use Rattle.client_rows.specs.Shown.{ShowsRows}
 use Rattle.client_settles.specs.Shown.{GoesSettled, ShowsValues, op_at}
-use Rattle.client_endings.specs.Ending.{AreOwned, ended_below, is_create_kind}
+use Rattle.client_marks.specs.Marks.{is_create_kind}
+use Rattle.client_endings.specs.Ending.{AreOwned, ended_below}
 use Rattle.client_endings.proofs.Lost.{after_left, after_lost, after_settled, create_kind, still_waits}
 
 ways : (x y : ℕ) → (x ≡ y) ⊎ (x ≡ y → ⊥)

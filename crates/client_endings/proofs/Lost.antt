@@ -5,7 +5,7 @@ use Rattle.exchange_defs.specs.Operations.{OpStat, OpList, OpClose, is_create, i
 use Rattle.exchange_defs.specs.Operations.{Outcome, NoOpen, NoSlot, SessionLost, Unknown, Unsettled, WasOk, WasRefused}
 use Rattle.exchange_defs.specs.Client.{Client, create_for, outcome_after_end, plain_after_end, unsent_after_end}
 use Rattle.operation_values.specs.Waiting.{kind_of}
-use Rattle.client_endings.specs.Ending.{is_create_kind}
+use Rattle.client_marks.specs.Marks.{is_create_kind}
 
 pub create_kind : (op : Op) → is_create op ≡ is_create_kind (kind_of op)
 create_kind (OpCreate path access share disposition persist directory) = refl

@@ -1,17 +1,11 @@
 -- The end of a session, operation by operation.
-use Rattle.std.specs.Prelude.{ℕ, ◌<◌, nat_lt, Bool, true, false, if◌then◌else◌, List, length, Option, Some, None}
+use Rattle.std.specs.Prelude.{ℕ, ◌<◌, nat_lt, if◌then◌else◌, List, length, Option, Some, None}
 use Rattle.exchange_defs.specs.Operations.{Outcome, Unsettled}
 use Rattle.exchange_defs.specs.Client.{Client, end_session, outcome_after_end}
-use Rattle.operation_values.specs.declared.shapes.Kind.{Kind}
-use Rattle.operation_values.specs.declared.shapes.Kind.TheVariants as kinds
 use Rattle.operation_rows.specs.declared.row.Row.{Row}
 use Rattle.operation_rows.specs.Rows.{owner}
 use Rattle.client_outcomes.specs.declared.outcome.Outcome.{Outcome as Settled}
 use Rattle.client_outcomes.specs.Meaning.{outcome_of}
-
-abbrev pub is_create_kind : Kind → Bool
-is_create_kind kinds.Create = true
-is_create_kind _ = false
 
 -- the session ended, and nothing settled with it yet
 abbrev pub ending : Client → Client

@@ -14,7 +14,8 @@ use operation_rows::Row;
 use price_table::Prices;
 use watch_lists::Watchers;
 
-/// Without a session each operation costs what a request to attach does, but for a create. Those below one are settled.
+/// Without a session each operation costs what a request to attach does, one credit (MS-SMB2 3.2.4.4), but for a create. Those
+/// below one are settled.
 pub fn detach_from(rows: &mut [Row], prices: &mut Prices, watchers: &Watchers, from: usize)
     requires above { 0 < from }
     requires counts { Counts rows.old prices.old watchers.now }

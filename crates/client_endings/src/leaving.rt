@@ -9,7 +9,8 @@ ghost use Rattle.operation_rows.specs.Choosing.{Counts};
 ghost use Rattle.client_rows.specs.Shown.{ShowsRows};
 ghost use Rattle.client_cuts.specs.Cutting.{end_all};
 ghost use Rattle.client_settles.specs.Shown.{AreSettledBelow, GoesSettled, ShowsValues, op_at};
-ghost use Rattle.client_endings.specs.Ending.{AreOwned, ended_below, is_create_kind, settled_or_left};
+ghost use Rattle.client_marks.specs.Marks.{is_create_kind};
+ghost use Rattle.client_endings.specs.Ending.{AreOwned, ended_below, settled_or_left};
 
 use crate::detaching::detach_from;
 use client_outcomes::{Outcome, Why};
@@ -140,7 +141,7 @@ fn leave_one(
 }
 
 /// The session with this number ended, and nothing is outstanding any more: what hung on a plain open settles, from one operation
-/// on, below which all are settled; and all else costs what it does without a session.
+/// on, below which all are settled; and all else costs what it does without a session (MS-SMB2 3.2.7.1, 3.2.4.4).
 pub fn end_from(
     rows: &mut [Row],
     prices: &mut Prices,

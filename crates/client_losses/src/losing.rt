@@ -1,6 +1,7 @@
 // What is outstanding is lost, and its numbers leave the set.
 ghost use Rattle.std.specs.Prelude.{◌≡◌, ℕ, List};
 ghost use Rattle.exchange_defs.specs.Client.{Client, cut_channel};
+ghost use Rattle.number_set.specs.Members.{count};
 ghost use Rattle.operation_rows.specs.Holding.{IsSafe};
 ghost use Rattle.operation_rows.specs.Choosing.{Counts};
 ghost use Rattle.client_rows.specs.Shown.{ShowsRows};
@@ -14,7 +15,7 @@ use operation_rows::Row;
 use price_table::Prices;
 use watch_lists::Watchers;
 
-/// A channel is cut: what is outstanding on it is lost, and is no member any more.
+/// A channel is cut: what is outstanding on it is lost, and is no member any more (MS-SMB2 3.2.7.1).
 pub fn lose_on_channel(
     rows: &mut [Row],
     prices: &mut Prices,
@@ -35,7 +36,7 @@ pub fn lose_on_channel(
     sweep(rows, out);
 }
 
-/// The session ends: what is outstanding is lost, on whichever channel, and there is no member any more.
+/// The session ends: what is outstanding is lost, on whichever channel, and there is no member any more (MS-SMB2 3.2.7.1).
 pub fn lose_all(rows: &mut [Row], prices: &mut Prices, watchers: &Watchers, out: &mut Members)
     requires counts { Counts rows.old prices.old watchers.now }
     requires out { HoldsOut rows.old out.old }
@@ -43,6 +44,7 @@ pub fn lose_all(rows: &mut [Row], prices: &mut Prices, watchers: &Watchers, out:
     ensures safe { (holders : List ℕ) → IsSafe rows.old holders → IsSafe rows.new holders }
     ensures loses { Loses rows.old rows.new }
     ensures out { HoldsOut rows.new out.new }
+    ensures none { count out.new ≡ 0 }
     ensures shown { (c : Client) (holders : List ℕ) → ShowsRows rows.old holders prices.old watchers.now c
         → ShowsRows rows.new holders prices.new watchers.now (end_all c) }
 {

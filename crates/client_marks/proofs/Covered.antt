@@ -192,18 +192,19 @@ module _ (o : ℕ → ℕ) (k : ℕ → Kind) (at size : ℕ → ℕ) (u : ℕ �
         ]
 
     -- by the last one that has a byte which both have
-    shared : (such : ℕ → Bool) (clear : ℕ) (top : ℕ → ℕ) (h : ℕ) → ((g : ℕ) → at g < 2 ^ 64) → 0 < h → h < n → o h ≡ create
-        → such h ≡ true → meets (at h) (size h) (at n) (size n) ≡ true → clear < h
+    shared : (such : ℕ → Bool) (clear : ℕ) (top : ℕ → ℕ) (h : ℕ) → ((g : ℕ) → 0 < g → g ≤ n → at g < 2 ^ 64) → 0 < h → h < n
+        → o h ≡ create → such h ≡ true → meets (at h) (size h) (at n) (size n) ≡ true → clear < h
         → IsIndexed o such at size u create n clear top
         → ((l : ℕ) → such l ≡ true → meets (at h) (size h) (at l) (size l) ≡ true → holds h l ≡ true)
         → AllTold top holders begin end (at n) (size n) → Found h
     shared such clear top h fits p l a e m c i w t =
         let b = meets_byte (at h) (size h) (at n) (size n) m in
-        by_top such clear top h (max (at h) (at n)) (at n) (size n) (fits_64 (at h) (at n) (fits h) (fits n)) p l c a e
+        by_top such clear top h (max (at h) (at n)) (at n) (size n)
+        (fits_64 (at h) (at n) (fits h p (omega arith)) (fits n (omega arith) (omega arith))) p l c a e
         (record { behind = b.0; within = b.1 }) b.2 b.3 i
         (λ v q s y. w v s (meets_at (at h) (size h) (at v) (size v) (max (at h) (at n)) b.0 b.1 y.behind y.within)) t
 
-    pub lock_found : (locked : ℕ → ℕ) → k n ≡ kinds.Lock → ((g : ℕ) → at g < 2 ^ 64)
+    pub lock_found : (locked : ℕ → ℕ) → k n ≡ kinds.Lock → ((g : ℕ) → 0 < g → g ≤ n → at g < 2 ^ 64)
         → IsIndexed o (λ g. is_lock_kind (k g)) at size u create n close locked
         → AllTold locked holders begin end (at n) (size n)
         → (h : ℕ) → 0 < h → h < n → o h ≡ create → holds h n ≡ true → Found h
@@ -220,7 +221,8 @@ module _ (o : ℕ → ℕ) (k : ℕ → Kind) (at size : ℕ → ℕ) (u : ℕ �
         ]
 
     module _ (stop : ℕ) (ends : IsHighest o (λ g. is_end (k g)) create n stop) (written : ℕ → ℕ)
-        (fits : (g : ℕ) → at g < 2 ^ 64) (i : IsIndexed o (λ g. is_write (k g)) at size u create n (max stop close) written) where
+        (fits : (g : ℕ) → 0 < g → g ≤ n → at g < 2 ^ 64)
+        (i : IsIndexed o (λ g. is_write (k g)) at size u create n (max stop close) written) where
       -- an earlier write, by what shows of it, or by the end or the close behind it
       by_write : (h mark : ℕ) (such : ℕ → Bool) → 0 < h → h < n → o h ≡ create → holds h n ≡ true → k h ≡ kinds.Write
           → meets (at h) (size h) (at n) (size n) ≡ true → AllTold written holders begin end (at n) (size n)

@@ -21,7 +21,7 @@ use Rattle.client_marks.proofs.Covered.{meets_at, read_found, write_found}
 use Rattle.client_marks.proofs.New.{both, joins, suits_new}
 
 module _ (o : ℕ → ℕ) (k : ℕ → Kind) (at size : ℕ → ℕ) (u : ℕ → Bool) (create n : ℕ) (m : Marks) (written locked : ℕ → ℕ)
-    (old holders : List ℕ) (h : Heights o k size create n m) (fits : (g : ℕ) → at g < 2 ^ 64)
+    (old holders : List ℕ) (h : Heights o k size create n m) (fits : (g : ℕ) → 0 < g → g ≤ n → at g < 2 ^ 64)
     (first : (g f : ℕ) → 0 < g → g < n → u g ≡ false → f < g → o f ≡ o g → holds_by_shape k at size f g ≡ true → u f ≡ false)
     (own : o n ≡ create)
     (writes : IsIndexed o (λ g. is_write (k g)) at size u create n (max m.end m.close) written)

@@ -23,7 +23,7 @@ pub record IsMarked (rows : List Row) (at size : ℕ → ℕ) (create n : ℕ) (
   pub begins_at : begins rows n ≡ length old
   pub ends_at : ends rows n ≡ length holders
   pub heights : Heights (owner rows) (kind rows) size create n m
-  pub fits : (g : ℕ) → at g < 2 ^ 64
+  pub fits : (g : ℕ) → 0 < g → g ≤ n → at g < 2 ^ 64
   pub first : (g f : ℕ) → 0 < g → g < n → stands rows g ≡ false → f < g → owner rows f ≡ owner rows g
       → holds_by_shape (kind rows) at size f g ≡ true → stands rows f ≡ false
   pub creates : (h : ℕ) → h < n → kind rows h ≡ kinds.Create → owner rows h ≡ h

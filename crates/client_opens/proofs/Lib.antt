@@ -3,3 +3,4 @@ pub mod Keeping
 pub mod Longer
 pub mod Submitted
 pub mod Joined
+pub mod Settled

@@ -121,8 +121,9 @@ module _ (rows : List Row) (r : Row) (c : Client) (op : Op) (create : ℕ) (m : 
   waits_at s e i h g p q k l = waits_is op2 more h g (kind_at s e i h p k) (kind_at s e i g q l)
 
   pub marked : IsSafe rows list → ShowsRows rows list prices watchers c → n ≡ c.taken + 1 → IsRowOf r c n op → IsPlaced r m old holders
-      → create_of n op ≡ create → 0 < create → create ≤ n → (create < n → owner rows create ≡ create) → ((g : ℕ) → at g < 2 ^ 64)
-      → SettlesLate c n op → ShowsOpen rows (λ x. at_of (c.op x)) (λ x. size_of (c.op x)) create n m written locked
+      → create_of n op ≡ create → 0 < create → create ≤ n → (create < n → owner rows create ≡ create)
+      → ((g : ℕ) → 0 < g → g ≤ n → at g < 2 ^ 64) → SettlesLate c n op
+      → ShowsOpen rows (λ x. at_of (c.op x)) (λ x. size_of (c.op x)) create n m written locked
       → ListsHolders (stands rows) m.close (mark_of r.kind m) (λ x. top_of r.kind written locked x) (at_of op) (size_of op) old holders
       → (mark_of r.kind m < n) → IsMarked more at size create n m written locked old holders
   marked safe s e i y own p b itself fits late o t marks =

@@ -53,7 +53,7 @@ pub record IsOn (rows : List Row) (c : Client) (op : Op) (create n : ℕ) (shape
   pub below : create ≤ n
   pub itself : create < n → owner rows create ≡ create
   pub created : (g : ℕ) → 0 < g → g ≤ c.taken → 0 < create_for c g
-  pub fits : (g : ℕ) → at_of (put c.op n op g) < 2 ^ 64
+  pub fits : (g : ℕ) → 0 < g → g ≤ n → at_of (put c.op n op g) < 2 ^ 64
   -- where it settles at once, what it would wait for is settled, as client_law tells of what is taken
   pub late : is_unsettled (outcome_at_first c n op) ≡ false → (h : ℕ) → 0 < h → h < n → create_for c h ≡ create_of n op
       → holds_up (c.op h) op ≡ true → is_unsettled (c.outcome h) ≡ false

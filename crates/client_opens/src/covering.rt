@@ -15,8 +15,8 @@ fn clear_both(written: &mut RangeIndex, locked: &mut RangeIndex)
     locked.clear();
 }
 
-/// A write or a lock has its bytes last; behind an end and behind a close nothing is told of earlier ones, since what comes then
-/// waits for that one. Where memory runs out nothing changes.
+/// The new operation is the last write, or the last lock, of its bytes. Behind an end no write is kept, and behind a close neither
+/// writes nor locks are: what comes then waits for that one. Where memory runs out nothing changes.
 pub fn cover(
     kind: Kind,
     at: u64,

@@ -2,9 +2,11 @@
 #![tactic(auto)]
 
 mod covering;
+mod law;
 mod noting;
 mod opening;
 mod submitting;
 
+pub use law::opens_law;
 pub use opening::Open;
 pub use submitting::take_on;

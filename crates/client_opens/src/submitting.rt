@@ -41,7 +41,8 @@ fn placed(row: Row, stretch: &Stretch, opened: &Open) -> Row
     }
 }
 
-/// Takes an operation of an open, whatever its kind. Where memory runs out the rows and the open show what they showed.
+/// Takes an operation of an open, whatever its kind. Where memory runs out the rows and the open show what they showed, and
+/// nothing is listed. What waits for what is this project's.
 pub fn take_on(
     rows: &mut Vec<Row>,
     holders: &mut Vec<u32>,
@@ -59,7 +60,9 @@ pub fn take_on(
     ensures row { OnOk result (rows.new.items
         ≡ rows.old.items ++ placed_row row (length holders.old.items) (length holders.new.items) opened.old.marks ∷ []) }
     ensures same { OnErr result (rows.new.items ≡ rows.old.items) }
-    ensures below { OnOk result (AreBelow opened.old.marks (length rows.old.items) → AreBelow opened.new.marks (length rows.old.items + 1)) }
+    ensures unlisted { OnErr result (holders.new.items ≡ holders.old.items) }
+    ensures below { OnOk result (AreBelow opened.old.marks (length rows.old.items)
+        → AreBelow opened.new.marks (length rows.old.items + 1)) }
     ensures marks { OnErr result (opened.new.marks ≡ opened.old.marks) }
     ensures safe { OnOk result ((c : Client) (op : Op) (create : ℕ) → IsSafe rows.old.items holders.old.items
         → ShowsRows rows.old.items holders.old.items prices.old watchers.old c → length rows.old.items ≡ c.taken + 1

@@ -1,12 +1,12 @@
 -- What the model chooses at an operation that goes, by the tests of the rows.
 use Rattle.std.proofs.Common.{◌≡◌, ℕ, zero, suc, ◌+◌, ◌<◌, ◌≤◌, ◌&&◌, ◌||◌, not, nat_le, Bool, true, false, List, [], ◌∷◌, ◌++◌, length}
-use Rattle.std.proofs.Common.{refl, ap, sym, ◌∙◌, arith, ◌⊎◌, inl, inr, Option, Some, None, IfSome, IfNone, is_none, if◌then◌else◌}
+use Rattle.std.proofs.Common.{refl, ap, sym, ◌∙◌, subst, arith, ◌⊎◌, inl, inr, Option, Some, None, IfSome, IfNone, is_none, if◌then◌else◌}
 use Rattle.watch_lists.specs.declared.Link.{Link as Watch}
 use Rattle.exchange_defs.specs.Table.{put}
 use Rattle.exchange_defs.specs.Operations.{Op, OpCreate, OpWrite, OpRead, OpEnd, OpTime, OpRename, OpRemove, OpLock, NoSlot}
 use Rattle.exchange_defs.specs.Operations.{OpUnlock, OpFlush, OpStat, OpList, OpClose, is_create, is_lock, is_unsettled}
 use Rattle.exchange_defs.specs.Client.{Client, create_for, goes_itself, has_free, is_attached, is_free, lacks_slot, may_push, needs_slot}
-use Rattle.exchange_defs.specs.Client.{has_open, is_taken, settle_no_slot, waits}
+use Rattle.exchange_defs.specs.Client.{has_its_slot, has_open, is_taken, settle_no_slot, waits}
 use Rattle.exchange_defs.specs.Schedules.{Choice, choose, cost, least_free}
 use Rattle.client_law.specs.Kept.{Kept}
 use Rattle.client_law.specs.Columns.{IsFirst, ops_of, standing_of}
@@ -18,11 +18,11 @@ use Rattle.operation_values.specs.Waiting.{kind_of}
 use Rattle.operation_rows.specs.declared.row.Row.{Row}
 use Rattle.operation_rows.specs.Rows.{row_at}
 use Rattle.client_rows.specs.Shown.{ShowsRows}
-use Rattle.client_pushes.specs.Shown.{is_create_kind, is_lock_kind}
+use Rattle.client_marks.specs.Marks.{is_create_kind, is_lock_kind}
 
 -- ---- kinds
 
-create_kind : (o : Op) → is_create o ≡ is_create_kind (kind_of o)
+pub create_kind : (o : Op) → is_create o ≡ is_create_kind (kind_of o)
 create_kind (OpCreate path access share disposition persist directory) = refl
 create_kind (OpWrite create at bytes) = refl
 create_kind (OpRead create at size) = refl
@@ -37,7 +37,7 @@ create_kind (OpStat create) = refl
 create_kind (OpList create) = refl
 create_kind (OpClose create) = refl
 
-lock_kind : (o : Op) → is_lock o ≡ is_lock_kind (kind_of o)
+pub lock_kind : (o : Op) → is_lock o ≡ is_lock_kind (kind_of o)
 lock_kind (OpCreate path access share disposition persist directory) = refl
 lock_kind (OpWrite create at bytes) = refl
 lock_kind (OpRead create at size) = refl
@@ -208,3 +208,35 @@ and_none x a b e f = grind arith
 pub bounded_slot : (n : ℕ) (o : Option ℕ) → IfSome o (λ slot. (0 < slot) × (slot ≤ n + 1)) → IfSome o (λ slot. slot ≤ n + 1)
 bounded_slot n None h = tt
 bounded_slot n (Some slot) h = h.1
+
+-- ---- the slot that is told is the operation's
+
+if_weaker : (o : Option ℕ) (P Q : ℕ → Type 0) → ((s : ℕ) → P s → Q s) → IfSome o P → IfSome o Q
+if_weaker None P Q f h = tt
+if_weaker (Some s) P Q f h = f s h
+
+by_free : (c : Client) (create i : ℕ) (b : Bool) (o : Option ℕ) → is_free c create i ≡ b → IfSome o (λ s. is_free c create s ≡ true)
+    → IfSome (elim b as (λ x. Option ℕ) [ true ↦ Some i | false ↦ o ]) (λ s. is_free c create s ≡ true)
+by_free c create i true o e h = e
+by_free c create i false o e h = h
+
+least_is_free : (c : Client) (create i n : ℕ) → IfSome (least_free c create i n) (λ s. is_free c create s ≡ true)
+unfolding least_free
+least_is_free c create i zero = tt
+least_is_free c create i (suc n) =
+    by_free c create i (is_free c create i) (least_free c create (i + 1) n) refl (least_is_free c create (i + 1) n)
+
+has_by : (needs free : Bool) → free ≡ true → (if needs then free else true) ≡ true
+has_by true free e = e
+has_by false free e = refl
+
+pub no_need : (goes needs free : Bool) → (goes && needs) ≡ false → goes ≡ true → (if needs then free else true) ≡ true
+no_need true true free e f = absurd (cc)
+no_need true false free e f = refl
+no_need false needs free e f = absurd (cc)
+
+pub has_slot : (c : Client) (g : ℕ) (r : Option ℕ) → r ≡ least_free c (create_for c g) 1 64
+    → IfSome r (λ slot. goes_itself c g ≡ true → has_its_slot c g slot ≡ true)
+has_slot c g r e = if_weaker r (λ s. is_free c (create_for c g) s ≡ true) (λ s. goes_itself c g ≡ true → has_its_slot c g s ≡ true)
+    (λ s f i. has_by (needs_slot c g) (is_free c (create_for c g) s) f)
+    (subst (λ (o : Option ℕ). IfSome o (λ s. is_free c (create_for c g) s ≡ true)) (sym e) (least_is_free c (create_for c g) 1 64))

@@ -1,21 +1,11 @@
 -- What an operation's open shows of the model's client, as far as a push looks at it.
-use Rattle.std.specs.Prelude.{◌≡◌, ℕ, ◌<◌, Bool, true, false, List}
+use Rattle.std.specs.Prelude.{◌≡◌, ℕ, ◌<◌, List}
 use Rattle.exchange_defs.specs.Client.{Client, create_for}
-use Rattle.operation_values.specs.declared.shapes.Kind.{Kind}
-use Rattle.operation_values.specs.declared.shapes.Kind.TheVariants as kinds
 use Rattle.operation_rows.specs.declared.row.Row.{Row}
 use Rattle.operation_rows.specs.declared.slots.Slot.{Slot}
 use Rattle.client_session.specs.declared.session.Session.{Session}
 use Rattle.client_session.specs.Shown.{ShowsSession}
 use Rattle.client_slots.specs.Shown.{ShowsSlots}
-
-abbrev pub is_create_kind : Kind → Bool
-is_create_kind kinds.Create = true
-is_create_kind _ = false
-
-abbrev pub is_lock_kind : Kind → Bool
-is_lock_kind kinds.Lock = true
-is_lock_kind _ = false
 
 -- the session, which is the first one or a later one, the number of the session in which the open of operation g was attached last,
 -- and the open's lock slots

@@ -1,7 +1,7 @@
 // Whether an operation goes out itself, and with which lock slot.
 ghost use Rattle.std.specs.Prelude.{◌≡◌, ℕ, ◌+◌, ◌<◌, ◌≤◌, ◌&&◌, ◌||◌, not, true, List, length, ◌∷◌, [], ◌++◌, Some, IfSome, IfNone};
 ghost use Rattle.watch_lists.specs.declared.Link.{Link as Watch};
-ghost use Rattle.exchange_defs.specs.Client.{Client, is_attached, lacks_slot, settle_no_slot};
+ghost use Rattle.exchange_defs.specs.Client.{Client, goes_itself as goes, has_its_slot, is_attached, lacks_slot, settle_no_slot};
 ghost use Rattle.exchange_defs.specs.Schedules.{choose};
 ghost use Rattle.client_law.specs.Kept.{Kept};
 ghost use Rattle.choice_law.specs.Choosing.{Goes, chosen};
@@ -11,7 +11,8 @@ ghost use Rattle.operation_rows.specs.Rows.{row_at};
 ghost use Rattle.operation_rows.specs.Holding.{IsSafe};
 ghost use Rattle.operation_rows.specs.Choosing.{Counts};
 ghost use Rattle.client_rows.specs.Shown.{ShowsRows};
-ghost use Rattle.client_pushes.specs.Shown.{ShowsOpen, is_create_kind, is_lock_kind};
+ghost use Rattle.client_marks.specs.Marks.{is_create_kind, is_lock_kind};
+ghost use Rattle.client_pushes.specs.Shown.{ShowsOpen};
 
 use client_rows::settle_one;
 use client_session::Session;
@@ -93,7 +94,11 @@ pub fn pick(
     ensures lacks { (c : Client) (holders prices : List ℕ) (watchers : List Watch) (k credits : ℕ)
         → ShowsRows rows.now holders prices watchers c → ShowsOpen rows.now slots.now session.now attached index c
         → Kept c → c.ready k ≡ true → Goes c credits index → IfNone result (lacks_slot c k index ≡ true) }
+    ensures has { (c : Client) (holders prices : List ℕ) (watchers : List Watch) → ShowsRows rows.now holders prices watchers c
+        → ShowsOpen rows.now slots.now session.now attached index c
+        → IfSome result (λ slot. goes c index ≡ true → has_its_slot c index slot ≡ true) }
     ensures slot { IfSome result (λ slot. slot ≤ length slots.now + 1) }
+    ensures few { IfSome result (λ slot. slot ≤ 64) }
 {
     if !takes_slot(rows, session, attached, index) {
         return Some(0);

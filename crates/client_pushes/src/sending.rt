@@ -3,7 +3,7 @@ ghost use Rattle.std.specs.Prelude.{◌≡◌, ℕ, ◌+◌, ◌<◌, ◌≤◌,
 ghost use Rattle.exchange_defs.specs.Operations.{is_firm, is_lock as locks};
 ghost use Rattle.exchange_defs.specs.Client.{Client, again, begun, create_for, next_number, outstanding, take_slot as takes};
 ghost use Rattle.client_session.specs.Shown.{ShowsSession};
-ghost use Rattle.client_slots.specs.Shown.{HaveRows, ShowsSlots};
+ghost use Rattle.client_slots.specs.Shown.{AreUsed, HaveRows, ShowsSlots};
 ghost use Rattle.operation_rows.specs.declared.slots.Slot.{Slot as Slotted};
 ghost use Rattle.operation_rows.specs.declared.row.Row.{Row as Rowed};
 ghost use Rattle.operation_rows.specs.Rows.{row_at};
@@ -33,7 +33,10 @@ fn take_slot(rows: &[Row], slots: &mut Vec<Slot>, slot: u8, index: usize) -> u8
     ensures number { (c : Client) (session : ℕ) → ShowsSlots rows.now slots.old.items session c (create_for c index)
         → ((h : ℕ) → c.number_of h ≡ (row_at rows.now h).slot_number)
         → result ≡ next_number c (c.slot_user (create_for c index) slot) }
+    ensures most { (n : ℕ) → slot ≤ n → length slots.old.items ≤ n → length slots.new.items ≤ n }
+    ensures capacity { vec_capacity slots.new ≡ vec_capacity slots.old }
     ensures users { HaveRows rows.now slots.new.items }
+    ensures positive { 0 < index → AreUsed slots.old.items → AreUsed slots.new.items }
 {
     if slot as usize > slots.len() {
         take_unused(slots, index as u32);
@@ -63,7 +66,10 @@ pub fn send_lock(
     ensures place { KeepsRow rows.old rows.new index }
     ensures counts { Counts rows.new prices.new watchers.now }
     ensures safe { (holders : List ℕ) → IsSafe rows.old holders → IsSafe rows.new holders }
+    ensures most { (n : ℕ) → slot ≤ n → length slots.old.items ≤ n → length slots.new.items ≤ n }
+    ensures capacity { vec_capacity slots.new ≡ vec_capacity slots.old }
     ensures users { HaveRows rows.new slots.new.items }
+    ensures positive { 0 < index → AreUsed slots.old.items → AreUsed slots.new.items }
     ensures shown { (c : Client) (holders : List ℕ) → ShowsRows rows.old holders prices.old watchers.now c → ShowsSession session.now c
         → ShowsSlots rows.old slots.old.items c.session_number c (create_for c index) → 0 < index → locks (c.op index) ≡ true
         → c.sent index ≡ false → ShowsRows rows.new holders prices.new watchers.now (outstanding (begun c index slot) channel index) }
@@ -123,6 +129,7 @@ fn retry(rows: &[Row], slots: &mut Vec<Slot>, session: &Session, index: usize)
     requires above { 0 < (row_at rows.now index).slot }
     requires within { (row_at rows.now index).slot ≤ length slots.old.items }
     ensures count { length slots.new.items ≡ length slots.old.items }
+    ensures capacity { vec_capacity slots.new ≡ vec_capacity slots.old }
     ensures users { (place : ℕ) → (slot_at slots.new.items place).user ≡ (slot_at slots.old.items place).user }
     ensures shown { (c : Client) (lines : List Rowed) → ShowsSession session.now c → locks (c.op index) ≡ true
         → c.slot_of index ≡ (row_at rows.now index).slot
@@ -151,7 +158,10 @@ pub fn send_lock_again(
     ensures place { KeepsRow rows.old rows.new index }
     ensures counts { Counts rows.new prices.new watchers.now }
     ensures safe { (holders : List ℕ) → IsSafe rows.old holders → IsSafe rows.new holders }
+    ensures capacity { vec_capacity slots.new ≡ vec_capacity slots.old }
     ensures users { HaveRows rows.new slots.new.items }
+    ensures positive { AreUsed slots.old.items → AreUsed slots.new.items }
+    ensures slot_count { length slots.new.items ≡ length slots.old.items }
     ensures shown { (c : Client) (holders : List ℕ) (slot : ℕ) → ShowsRows rows.old holders prices.old watchers.now c
         → ShowsSession session.now c → locks (c.op index) ≡ true → c.sent index ≡ true
         → ShowsRows rows.new holders prices.new watchers.now (outstanding (begun c index slot) channel index) }

@@ -1,12 +1,12 @@
 -- One operation settles, by value.
-use Rattle.std.proofs.Common.{◌≡◌, ℕ, ◌-◌, ◌<◌, ◌≤◌, Bool, true, false, List, length, set, get_or, refl, ap, sym, ◌∙◌, arith, ◌⊎◌, inl, inr}
+use Rattle.std.proofs.Common.{◌≡◌, ℕ, ◌-◌, ◌<◌, Bool, false, List, length, set, get_or, refl, ap, sym, ◌∙◌, arith, ◌⊎◌, inl, inr}
 use Rattle.std.proofs.Math.ListN.{length-set}
 use Rattle.std.proofs.lemmas.List.{get_or-set_same, get_or-set_other}
 use Rattle.exchange_defs.specs.Table.{put}
 use Rattle.exchange_defs.specs.Operations.{Op, Outcome, is_unsettled}
 use Rattle.operation_values.specs.declared.values.OpKind.{OpKind}
 use Rattle.operation_rows.specs.declared.row.Row.{Row}
-use Rattle.operation_rows.specs.Rows.{row_at, stands}
+use Rattle.operation_rows.specs.Rows.{stands}
 use Rattle.operation_rows.proofs.Walking.{put_at, put_off, row_here, row_there}
 use Rattle.operation_rows.proofs.Changing.{settled_row}
 use Rattle.client_outcomes.specs.declared.outcome.Outcome.{Outcome as Settled}

@@ -53,7 +53,8 @@ fn give_up(
     }
 }
 
-/// All from one on that are unsettled are given up; those below it are settled. So no operation is left.
+/// All from one on that are unsettled are given up; those below it are settled. So no operation is left. Giving up is this
+/// project's.
 pub fn give_up_from(
     rows: &mut [Row],
     prices: &mut Prices,

@@ -9,12 +9,14 @@ ghost use Rattle.client_settles.specs.Shown.{AreSettledBelow};
 
 use operation_rows::Row;
 
-/// The lowest unsettled operation from one on, below which all are settled; where there is none, a number without a row.
+/// The lowest unsettled operation from one on, below which all are settled; where there is none, a number without a row, which is
+/// the next one to be taken where it looks from a row on.
 pub fn first_left(rows: &[Row], from: usize) -> usize
     requires above { 0 < from }
     requires settled { AreSettledBelow rows.now from }
     ensures above { from ≤ result }
     ensures settled { AreSettledBelow rows.now result }
+    ensures inside { from ≤ length rows.now → result ≤ length rows.now }
     ensures stands { result < length rows.now → stands rows.now result ≡ true }
     ensures left { (c : Client) → ShowsPlaces rows.now c.taken c.op c.outcome (λ g. cost c g)
         → some_unsettled c c.taken ≡ nat_lt result (length rows.now) }

@@ -18,7 +18,7 @@ use operation_rows::Row;
 use price_table::Prices;
 use watch_lists::Watchers;
 
-/// An operation that waits for nothing settles, and how.
+/// An operation that waits for nothing settles, and how. When one settles is this project's.
 pub fn settle_as(
     rows: &mut [Row],
     prices: &mut Prices,

@@ -131,6 +131,14 @@ module _ (rows : List Row) (slots : List Slot) (session : ℕ) (few : length slo
         ]
       ]
 
+  pub least_few : IfSome (least (is_free rows slots session) 1 64) (λ s. s ≤ 64)
+  least_few =
+      if_weaker (least (is_free rows slots session) 1 64) (λ s. IsFirst (is_free rows slots session) 1 64 s) (λ s. s ≤ 64)
+      (λ s h. up_to s h.1) (least_first (is_free rows slots session) 1 64)
+    where
+      up_to : (s : ℕ) → s < 1 + 64 → s ≤ 64
+      up_to s l = omega arith
+
   pub least_within : IfSome (least (is_free rows slots session) 1 64) (λ s. (0 < s) × (s ≤ length slots + 1))
   least_within =
       if_weaker (least (is_free rows slots session) 1 64) (λ s. IsFirst (is_free rows slots session) 1 64 s)

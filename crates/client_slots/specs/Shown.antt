@@ -36,3 +36,7 @@ pub record KeepsSlots (c d : Client) (create : ℕ) : Type 0 where
 -- each slot's last user has a row
 abbrev pub HaveRows : List Row → List Slot → Type 0
 HaveRows rows slots = (place : ℕ) → place < length slots → (slot_at slots place).user < length rows
+
+-- each slot's last user is an operation
+abbrev pub AreUsed : List Slot → Type 0
+AreUsed slots = (place : ℕ) → place < length slots → 0 < (slot_at slots place).user

@@ -13,7 +13,7 @@ ghost use Rattle.operation_rows.specs.declared.row.Row.{Row as Rowed};
 ghost use Rattle.operation_rows.specs.declared.slots.Slot.{Slot as Slotted};
 ghost use Rattle.operation_rows.specs.Rows.{row_at};
 ghost use Rattle.operation_rows.specs.Slots.{slot_at};
-ghost use Rattle.client_slots.specs.Shown.{HaveRows, IsUnused, KeepsSlots, ShowsFirm, ShowsSlots};
+ghost use Rattle.client_slots.specs.Shown.{AreUsed, HaveRows, IsUnused, KeepsSlots, ShowsFirm, ShowsSlots};
 
 use operation_rows::{Row, Slot, least_free};
 
@@ -24,6 +24,7 @@ pub fn free_slot(rows: &[Row], slots: &[Slot], session: u32) -> Option<u8>
     ensures shown { (c : Client) (create : ℕ) → 0 < session → ShowsSlots rows.now slots.now session c create
         → result ≡ least_free c create 1 64 }
     ensures within { IfSome result (λ slot. (0 < slot) × (slot ≤ length slots.now + 1)) }
+    ensures few { IfSome result (λ slot. slot ≤ 64) }
 {
     least_free(rows, slots, session)
 }
@@ -40,6 +41,7 @@ pub fn take_used(rows: &[Row], slots: &mut [Slot], slot: u8, index: u32) -> u8
     ensures number { (c : Client) (session create : ℕ) → ShowsSlots rows.now slots.old session c create
         → ((h : ℕ) → c.number_of h ≡ (row_at rows.now h).slot_number) → result ≡ next_number c (c.slot_user create slot) }
     ensures users { HaveRows rows.now slots.new }
+    ensures positive { 0 < index → AreUsed slots.old → AreUsed slots.new }
     ensures count { length slots.new ≡ length slots.old }
 {
     let place = slot as usize - 1;
@@ -55,6 +57,7 @@ pub fn take_unused(slots: &mut Vec<Slot>, index: u32)
     ensures number { (c : Client) (rows : List Rowed) (session create : ℕ) → ShowsSlots rows slots.old.items session c create
         → next_number c (c.slot_user create (length slots.old.items + 1)) ≡ 0 }
     ensures users { (rows : List Rowed) → HaveRows rows slots.old.items → index < length rows → HaveRows rows slots.new.items }
+    ensures positive { 0 < index → AreUsed slots.old.items → AreUsed slots.new.items }
     ensures count { length slots.new.items ≡ length slots.old.items + 1 }
     ensures capacity { vec_capacity slots.new ≡ vec_capacity slots.old }
 {

@@ -13,7 +13,7 @@ use operation_rows::{Row, add};
 use price_table::Prices;
 use watch_lists::Watchers;
 
-/// Takes an operation for which there is room. It takes no memory.
+/// Takes an operation for which there is room. It takes no memory. How a client keeps its operations is this project's.
 pub fn add_one(rows: &mut Vec<Row>, prices: &mut Prices, watchers: &Watchers, row: Row)
     requires counts { Counts rows.old.items prices.old watchers.now }
     requires room { vec_len rows.old < vec_capacity rows.old }

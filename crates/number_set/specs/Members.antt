@@ -1,5 +1,6 @@
 -- Which numbers are members, and where each stands.
 use Rattle.std.specs.Prelude.{◌≡◌, ℕ, ◌<◌, ◌≤◌, ◌^◌, Bool, true, false, ◌==◌, if◌then◌else◌, nat_lt, List, [], ◌∷◌, length, slice_index}
+use Rattle.std.specs.Prelude.{vec_len, vec_capacity}
 use Rattle.number_set.specs.declared.Members.{Members}
 
 -- how many numbers there are, and how many are members
@@ -32,6 +33,10 @@ pub record Fits (s : Members) : Type 0 where
   pub pairs : Pairs (size s) s.order.items s.places.items
   pub within : count s ≤ size s
   pub few : size s < 2 ^ 32
+
+-- one number more finds room
+abbrev pub HasPlace : Members → Type 0
+HasPlace s = (vec_len s.order < vec_capacity s.order) × (vec_len s.places < vec_capacity s.places)
 
 -- a number stands in a list
 abbrev pub is_in : ℕ → List ℕ → Bool

@@ -2,14 +2,14 @@
 #![tactic(auto)]
 
 ghost use Rattle.std.specs.Prelude.{◌≡◌, ℕ, ◌+◌, ◌-◌, ◌==◌, ◌<◌, ◌^◌, true, false, if◌then◌else◌, length, take, slice_index, OnOk, OnErr};
-ghost use Rattle.number_set.specs.Members.{Fits, count, has, is_in, member, place, size};
+ghost use Rattle.number_set.specs.Members.{Fits, HasPlace, count, has, is_in, member, place, size};
 
 mod order;
 
-use order::{add, front, swap_in};
+use order::{add_last, front, make_room, swap_in};
 use std::alloc::{AllocError, Global};
 
-/// Numbers from 0 on, and which of them are members. Each call but `push` takes a few steps and no memory.
+/// Numbers from 0 on, and which of them are members. Each call but `reserve` and `push` takes a few steps and no memory.
 #[derive(Drop)]
 pub struct Members {
     /// All numbers, the members first.
@@ -82,6 +82,34 @@ impl Members {
         self.places[number] as usize
     }
 
+    /// Makes room for one number more. The set stays as it is, and where memory runs out too.
+    pub fn reserve(&mut self) -> Result<(), AllocError>
+        requires fits { Fits self.old }
+        ensures fits { Fits self.new }
+        ensures size { size self.new ≡ size self.old }
+        ensures count { count self.new ≡ count self.old }
+        ensures has { (h : ℕ) → has self.new h ≡ has self.old h }
+        ensures members { (i : ℕ) → member self.new i ≡ member self.old i }
+        ensures room { OnOk result (HasPlace self.new) }
+    {
+        make_room(&mut self.order, &mut self.places)
+    }
+
+    /// Adds a number, which is no member, where there is room for it. It takes no memory.
+    pub fn add(&mut self)
+        requires fits { Fits self.old }
+        requires few { size self.old + 1 < 2 ^ 32 }
+        requires room { HasPlace self.old }
+        ensures fits { Fits self.new }
+        ensures size { size self.new ≡ size self.old + 1 }
+        ensures count { count self.new ≡ count self.old }
+        ensures has { (h : ℕ) → h < size self.old → has self.new h ≡ has self.old h }
+        ensures apart { has self.new (size self.old) ≡ false }
+        ensures members { (i : ℕ) → i < count self.old → member self.new i ≡ member self.old i }
+    {
+        add_last(&mut self.order, &mut self.places);
+    }
+
     /// Adds a number, which is no member. Where memory runs out nothing changes.
     pub fn push(&mut self) -> Result<(), AllocError>
         requires fits { Fits self.old }
@@ -94,7 +122,8 @@ impl Members {
         ensures apart { OnOk result (has self.new (size self.old) ≡ false) }
         ensures members { (i : ℕ) → i < count self.old → member self.new i ≡ member self.old i }
     {
-        add(&mut self.order, &mut self.places)?;
+        self.reserve()?;
+        self.add();
         Ok(())
     }
 

@@ -1,21 +1,31 @@
 // All numbers in some order, and the place of each.
-ghost use Rattle.std.specs.Prelude.{◌≡◌, ℕ, ◌+◌, ◌<◌, ◌≤◌, ◌^◌, length, take, slice_index, slice_set, ◌∷◌, [], ◌++◌, OnOk, OnErr};
+ghost use Rattle.std.specs.Prelude.{◌≡◌, ℕ, ◌+◌, ◌<◌, ◌≤◌, ◌^◌, length, take, slice_index, slice_set, ◌∷◌, [], ◌++◌, OnOk};
+ghost use Rattle.std.specs.Prelude.{vec_len, vec_capacity};
 
 use std::alloc::AllocError;
 
-/// One number more, the last of all. Where memory runs out nothing changes.
-pub fn add(order: &mut Vec<u32>, places: &mut Vec<u32>) -> Result<(), AllocError>
-    requires { length places.old.items < 2 ^ 32 }
-    ensures ok { OnOk result ((order.new.items ≡ order.old.items ++ length places.old.items ∷ [])
-        × (places.new.items ≡ places.old.items ++ length places.old.items ∷ [])) }
-    ensures err { OnErr result ((order.new.items ≡ order.old.items) × (places.new.items ≡ places.old.items)) }
+/// Makes room for one number more. The numbers stay, and where memory runs out too.
+pub fn make_room(order: &mut Vec<u32>, places: &mut Vec<u32>) -> Result<(), AllocError>
+    ensures ordered { order.new.items ≡ order.old.items }
+    ensures placed { places.new.items ≡ places.old.items }
+    ensures room { OnOk result ((vec_len order.new < vec_capacity order.new) × (vec_len places.new < vec_capacity places.new)) }
 {
     order.reserve(1)?;
     places.reserve(1)?;
+    Ok(())
+}
+
+/// One number more, the last of all, for which there is room.
+pub fn add_last(order: &mut Vec<u32>, places: &mut Vec<u32>)
+    requires few { length places.old.items < 2 ^ 32 }
+    requires ordered { vec_len order.old < vec_capacity order.old }
+    requires placed { vec_len places.old < vec_capacity places.old }
+    ensures order { order.new.items ≡ order.old.items ++ length places.old.items ∷ [] }
+    ensures places { places.new.items ≡ places.old.items ++ length places.old.items ∷ [] }
+{
     let number = places.len() as u32;
     order.push_reserved(number);
     places.push_reserved(number);
-    Ok(())
 }
 
 /// The numbers at two places change places.

@@ -37,6 +37,7 @@ returns-in-Some c =
       opens = λ d o. shows_alike c.args.rows.now c.choose_from.new.rows c.args.opens.now a c.args.session.now d o;
       told = λ d k slotless s o i r. tells_from d k c.args.credits c.args.start c.in-Some.index slotless c.judge_from.result
           (λ x n e f. c.in-Some.ensures.some d k x n slotless s i r e f) (c.judge_from.ensures.some (c.in-Some.ensures.behind d s))
+          (c.in-Some.ensures.goes d s)
           (c.judge_from.ensures.told d c.args.holders.now c.choose_from.new.prices c.choose_from.new.watchers k c.args.credits slotless
           (c.choose_from.ensures.shown d s)
           (shows_alike c.args.rows.now c.choose_from.new.rows c.args.opens.now a c.args.session.now d o) i r

@@ -35,12 +35,16 @@ returns-in-Some c =
             (one_at c.args.opens.now (row_at rows x).«open» own o (c.requires.opens x c.requires.above c.requires.within)
             c.index-opens-rows.is at)
             (subst (λ (xs : List Slot). c.in-Some.slot ≤ length xs + 1) c.deref.ensures.value c.in-Some.ensures.slot),
+        c.in-Some.ensures.few,
       );
       some = λ e. absurd (cc);
       told = λ d holders prices watchers k credits slotless s o i r w. (
           let shown = subst (λ (xs : List Slot). ShowsOpen rows xs c.args.session.now own.session x d) (sym c.deref.ensures.value)
-          (o x own c.requires.above c.requires.within c.index-opens-rows.is) in
-          (refl, λ n. c.in-Some.ensures.some d holders prices watchers k credits n slotless s shown)
+          (o x own c.requires.above c.requires.within c.index-opens-rows.is) in (
+            refl,
+            c.in-Some.ensures.has d holders prices watchers s shown,
+            λ n. c.in-Some.ensures.some d holders prices watchers k credits n slotless s shown,
+          )
           );
     }
 

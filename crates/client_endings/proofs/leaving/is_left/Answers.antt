@@ -1,4 +1,4 @@
-use Rattle.std.proofs.Common.{◌<◌, ◌≤◌, not, true, false, length, sym, ap, ◌∙◌, subst}
+use Rattle.std.proofs.Common.{◌<◌, ◌≤◌, true, false, length, sym, ap, ◌∙◌, subst}
 use Rattle.exchange_defs.specs.Operations.{persists}
 use Rattle.operation_rows.specs.Rows.{stands, owner}
 use Rattle.client_settles.specs.Shown.{op_at}

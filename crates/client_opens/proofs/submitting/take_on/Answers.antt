@@ -182,3 +182,9 @@ returns-in_err-stretch-clause-marks c = on_err c.from_residual-in_err-stretch.re
 
 pub returns-in_err-make_room-clause-marks : goal.returns-in_err-make_room-clause-marks
 returns-in_err-make_room-clause-marks c = on_err c.from_residual.result refl
+
+pub returns-in_err-make_room-clause-unlisted : goal.returns-in_err-make_room-clause-unlisted
+returns-in_err-make_room-clause-unlisted c = on_err c.from_residual.result refl
+
+pub returns-in_err-stretch-clause-unlisted : goal.returns-in_err-stretch-clause-unlisted
+returns-in_err-stretch-clause-unlisted c = on_err c.from_residual-in_err-stretch.result c.in_err-stretch.ensures.kept

@@ -1,6 +1,6 @@
 use Rattle.operation_rows.specs.Rows.{row_at}
 use Rattle.exchange_defs.specs.Client.{is_attached}
-use Rattle.client_pushes.specs.Shown.{is_create_kind}
+use Rattle.client_marks.specs.Marks.{is_create_kind}
 use Rattle.client_pushes.proofs.Picked.{or_first, or_second}
 use Rattle.client_pushes.proofs.picking.goes_itself.Goals as goal
 

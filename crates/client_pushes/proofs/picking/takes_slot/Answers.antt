@@ -1,7 +1,7 @@
 use Rattle.std.proofs.Common.{◌&&◌, ◌||◌, not}
 use Rattle.operation_rows.specs.Rows.{row_at}
 use Rattle.exchange_defs.specs.Client.{is_attached}
-use Rattle.client_pushes.specs.Shown.{is_create_kind, is_lock_kind}
+use Rattle.client_marks.specs.Marks.{is_create_kind, is_lock_kind}
 use Rattle.client_pushes.proofs.Picked.{and_both, and_none}
 use Rattle.client_pushes.proofs.picking.takes_slot.Goals as goal
 

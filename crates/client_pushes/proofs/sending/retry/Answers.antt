@@ -1,4 +1,4 @@
-use Rattle.std.proofs.Common.{◌≤◌, List, length, sym, ap, ◌∙◌, subst, arith}
+use Rattle.std.proofs.Common.{◌≤◌, List, length, refl, sym, ap, ◌∙◌, subst, arith}
 use Rattle.std.proofs.Common.{◌≡◌}
 use Rattle.std.proofs.lemmas.Grind.{common_steps}
 use Rattle.exchange_defs.specs.Client.{again, create_for}
@@ -26,6 +26,7 @@ returns c =
     (c.try_again.ensures.count ∙ ap (λ (xs : List Slot). length xs) o) in
     record {
       count = ap (λ (xs : List Slot). length xs) w ∙ c.try_again.ensures.count ∙ ap (λ (xs : List Slot). length xs) o;
+      capacity = refl;
       users = λ p. ap (λ (xs : List Slot). (slot_at xs p).user) w ∙ c.try_again.ensures.users p
           ∙ ap (λ (xs : List Slot). (slot_at xs p).user) o;
       shown = λ d lines session lock at h. subst (λ (xs : List Slot). ShowsSlots lines xs d.session_number (again d x) (create_for d x))

@@ -1,3 +1,4 @@
+use Rattle.std.proofs.Common.{◌<◌, length, sym, subst}
 use Rattle.exchange_defs.specs.Client.{create_for}
 use Rattle.client_pushes.proofs.Sent.{have_moved, lock_again, lock_slots_again}
 use Rattle.client_pushes.proofs.sending.send_lock_again.Goals as goal
@@ -18,3 +19,10 @@ returns-clause-slots c = λ d holders slot s session h lock sent.
     let x = c.args.index in
     lock_slots_again old c.put_again.new.rows c.retry.new.slots.items d.session_number d c.args.channel x slot (create_for d x)
     c.put_again.ensures.firm sent (c.retry.ensures.shown d old session lock (s.sends.slot_is x) h)
+
+pub returns-clause-positive : goal.returns-clause-positive
+returns-clause-positive c = λ used p l.
+    subst (λ u. 0 < u) (sym (c.retry.ensures.users p)) (used p (subst (λ n. p < n) c.retry.ensures.count l))
+
+pub returns-clause-slot_count : goal.returns-clause-slot_count
+returns-clause-slot_count c = c.retry.ensures.count

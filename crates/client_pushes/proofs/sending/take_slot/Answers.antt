@@ -1,9 +1,9 @@
-use Rattle.std.proofs.Common.{◌≡◌, ◌+◌, ◌≤◌, List, length, sym, ap, ◌∙◌, subst, arith}
+use Rattle.std.proofs.Common.{◌≡◌, ◌+◌, ◌≤◌, List, length, refl, sym, ap, ◌∙◌, subst, arith}
 use Rattle.std.proofs.lemmas.Grind.{common_steps}
 use Rattle.exchange_defs.specs.Client.{create_for, next_number}
 use Rattle.exchange_defs.specs.Client.{take_slot as takes}
 use Rattle.operation_rows.specs.declared.slots.Slot.{Slot}
-use Rattle.client_slots.specs.Shown.{HaveRows, ShowsSlots}
+use Rattle.client_slots.specs.Shown.{AreUsed, HaveRows, ShowsSlots}
 use Rattle.client_pushes.proofs.Sent.{one_behind, whole}
 use Rattle.client_pushes.proofs.sending.take_slot.Goals as goal
 
@@ -38,7 +38,10 @@ returns-then-slot-len c =
           (c.take_unused.ensures.shown d rows session h firm);
       number = λ d session h numbers. sym (ap (λ i. next_number d (d.slot_user (create_for d x) i)) (sym e)
           ∙ c.take_unused.ensures.number d rows session (create_for d x) h);
+      most = λ n a b. (let k = c.take_unused.ensures.count in let t = c.if-slot-len.true in omega arith);
+      capacity = c.take_unused.ensures.capacity;
       users = c.take_unused.ensures.users rows c.requires.users c.requires.taken;
+      positive = λ p used. c.take_unused.ensures.positive p used;
     }
 
 pub returns : goal.returns
@@ -54,5 +57,10 @@ returns c =
           (c.take_used.ensures.shown d session (subst (λ (xs : List Slot). ShowsSlots rows xs session d (create_for d x)) (sym o) h) firm);
       number = λ d session h numbers. c.take_used.ensures.number d session (create_for d x)
           (subst (λ (xs : List Slot). ShowsSlots rows xs session d (create_for d x)) (sym o) h) numbers;
+      most = λ m a b. subst (λ z. z ≤ m) (sym (ap (λ (xs : List Slot). length xs) w ∙ c.take_used.ensures.count
+          ∙ ap (λ (xs : List Slot). length xs) o)) b;
+      capacity = refl;
       users = subst (λ (xs : List Slot). HaveRows rows xs) (sym w) c.take_used.ensures.users;
+      positive = λ p used. subst (λ (xs : List Slot). AreUsed xs) (sym w)
+          (c.take_used.ensures.positive p (subst (λ (xs : List Slot). AreUsed xs) (sym o) used));
     }

@@ -1,6 +1,5 @@
-use Rattle.std.proofs.Common.{◌≡◌, ◌-◌, ◌<◌, ◌≤◌, ℕ, length, refl, sym, ap, ◌∙◌, arith}
+use Rattle.std.proofs.Common.{◌-◌, ◌<◌, ◌≤◌, length, refl, sym, ap, ◌∙◌, arith}
 use Rattle.client_outcomes.specs.Meaning.{why_of}
-use Rattle.client_settles.specs.GivenUp.{finished_below}
 use Rattle.client_settles.proofs.GivenUp.{rows_begun, rows_finished, values_begun, values_finished}
 use Rattle.client_settles.proofs.Going.{goes_both, goes_none}
 use Rattle.client_settles.proofs.finishing.give_up_from.Goals as goal

@@ -1,5 +1,5 @@
 use Rattle.std.proofs.Common.{ℕ, ◌+◌, ◌<◌, ◌≤◌, length, sym, ◌∙◌, subst, Option, IfSome}
-use Rattle.client_slots.proofs.Freeing.{least_is, least_within}
+use Rattle.client_slots.proofs.Freeing.{least_few, least_is, least_within}
 use Rattle.client_slots.proofs.using.free_slot.Goals as goal
 
 pub returns : goal.returns
@@ -9,4 +9,6 @@ returns c =
           ∙ sym (least_is c.args.rows.now c.args.slots.now c.args.session d create counted h 1 64);
       within = subst (λ (o : Option ℕ). IfSome o (λ slot. (0 < slot) × (slot ≤ length c.args.slots.now + 1)))
           (sym c.least_free.ensures) (least_within c.args.rows.now c.args.slots.now c.args.session c.requires.few);
+      few = subst (λ (o : Option ℕ). IfSome o (λ slot. slot ≤ 64)) (sym c.least_free.ensures)
+          (least_few c.args.rows.now c.args.slots.now c.args.session c.requires.few);
     }

@@ -1,8 +1,9 @@
-use Rattle.std.proofs.Common.{◌+◌, List, length, sym, subst}
+use Rattle.std.proofs.Common.{◌+◌, false, List, length, sym, subst}
 use Rattle.exchange_defs.specs.Client.{create_for, take_slot}
 use Rattle.operation_rows.specs.declared.slots.Slot.{Slot}
-use Rattle.client_slots.specs.Shown.{HaveRows, ShowsSlots}
+use Rattle.client_slots.specs.Shown.{AreUsed, HaveRows, ShowsSlots}
 use Rattle.client_slots.proofs.Showing.{have_more, number_more, shows_more}
+use Rattle.client_slots.proofs.Used.{used_more}
 use Rattle.client_slots.proofs.using.take_unused.Goals as goal
 
 pub returns-clause-shown : goal.returns-clause-shown
@@ -16,3 +17,7 @@ returns-clause-number c = λ d rows session create h. number_more rows c.args.sl
 pub returns-clause-users : goal.returns-clause-users
 returns-clause-users c = λ rows h l. subst (λ (xs : List Slot). HaveRows rows xs) (sym c.push_reserved.ensures.items)
     (have_more rows c.args.slots.now.items c.args.index h l)
+
+pub returns-clause-positive : goal.returns-clause-positive
+returns-clause-positive c = λ p used. subst (λ (xs : List Slot). AreUsed xs) (sym c.push_reserved.ensures.items)
+    (used_more c.args.slots.now.items (record { user = c.args.index; retried = 0; full = false }) p used)

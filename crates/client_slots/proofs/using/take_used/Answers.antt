@@ -3,8 +3,9 @@ use Rattle.std.proofs.Math.ListN.{length-set}
 use Rattle.exchange_defs.specs.Client.{create_for, take_slot}
 use Rattle.operation_rows.specs.declared.slots.Slot.{Slot}
 use Rattle.operation_rows.specs.Slots.{slot_at}
-use Rattle.client_slots.specs.Shown.{HaveRows, ShowsSlots}
+use Rattle.client_slots.specs.Shown.{AreUsed, HaveRows, ShowsSlots}
 use Rattle.client_slots.proofs.Showing.{have_used, number_used, used_at}
+use Rattle.client_slots.proofs.Used.{used_again}
 use Rattle.client_slots.proofs.using.take_used.Goals as goal
 
 pub use_again-requires : goal.use_again-requires
@@ -27,6 +28,8 @@ returns c =
           ∙ number_used c.args.rows.now c.args.slots.now session d create c.args.slot a b h numbers;
       users = subst (λ (xs : List Slot). HaveRows c.args.rows.now xs) (sym c.use_again.ensures.slots)
           (have_used c.args.rows.now c.args.slots.now c.args.index c.requires.users c.requires.taken (c.args.slot - 1) b);
+      positive = λ p used. subst (λ (xs : List Slot). AreUsed xs) (sym c.use_again.ensures.slots)
+          (used_again c.args.slots.now (c.args.slot - 1) (record (slot_at c.args.slots.now (c.args.slot - 1)) { user = c.args.index }) b p used);
       count = ap (λ (xs : List Slot). length xs) c.use_again.ensures.slots
           ∙ length-set c.args.slots.now (c.args.slot - 1) (record (slot_at c.args.slots.now (c.args.slot - 1)) { user = c.args.index });
     }
