@@ -1,4 +1,5 @@
 mod Checks
+mod Expired
 mod Opens
 mod Records
-mod Expired
+mod Replies

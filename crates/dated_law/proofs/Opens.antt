@@ -1,5 +1,5 @@
 -- Opens that leave: of their deadlines nothing that stays depends.
-use Rattle.std.proofs.Common.{◌≡◌, ℕ, ◌==◌, Bool, true, false, if◌then◌else◌, List, [], ◌∷◌, ◌++◌, Option, Some, None, refl, ap, ◌∙◌}
+use Rattle.std.proofs.Common.{◌≡◌, ℕ, Bool, true, false, if◌then◌else◌, List, [], ◌∷◌, ◌++◌, Option, Some, None, refl, ap, ◌∙◌}
 use Rattle.exchange_defs.specs.Commands.{deletes_on_close}
 use Rattle.exchange_defs.specs.Effects.{dated, end_session, files_behind, guid_staying, leave_all, leave_all_records, leaves, plain_in, plain_of}
 use Rattle.exchange_defs.specs.Effects.{end_if_named, end_records, ranges_staying, records_if_named, staying_in}
@@ -68,7 +68,7 @@ all_left_records (o ∷ os) s f g =
 
 -- ---- a session's
 
-plain : (s : Server) (f : ℕ → Option ℕ) (x : ℕ) (os : List ℕ) → plain_in (with s f) x os ≡ plain_in s x os
+pub plain : (s : Server) (f : ℕ → Option ℕ) (x : ℕ) (os : List ℕ) → plain_in (with s f) x os ≡ plain_in s x os
 unfolding plain_in
 plain s f x [] = refl
 plain s f x (o ∷ os) = ap (λ (ps : List ℕ). if leaves s x o then o ∷ ps else ps) (plain s f x os)
@@ -118,7 +118,7 @@ ended s f x now q = λ t. record (end_session s x now q) {
 
 -- ---- connections
 
-ends : (s : Server) (f : ℕ → Option ℕ) (k : ℕ) → ends_with (with s f) k ≡ ends_with s k
+pub ends : (s : Server) (f : ℕ → Option ℕ) (k : ℕ) → ends_with (with s f) k ≡ ends_with s k
 ends s f k = by (s.session_on k)
   where
     by : (o : Option ℕ) → last_session (with s f) k o ≡ last_session s k o
@@ -134,7 +134,7 @@ pub lost_records : (s : Server) (f : ℕ → Option ℕ) (g : Origin) (k : ℕ) 
     ≡ records_if_named s g (ends_with s k) q
 lost_records s f g k q = ap (λ (o : Option ℕ). records_if_named (with s f) g o q) (ends s f k) ∙ records_if s f g (ends_with s k) q
 
-abbrev dates_if : Server → (ℕ → Option ℕ) → ℕ → Option ℕ → ℕ → Option ℕ
+abbrev pub dates_if : Server → (ℕ → Option ℕ) → ℕ → Option ℕ → ℕ → Option ℕ
 dates_if s f now None = f
 dates_if s f now (Some x) = λ o. dated x now (s.opened o) (s.session_of_open o) (f o)
 
@@ -143,7 +143,7 @@ ended_if : (s : Server) (f : ℕ → Option ℕ) (now : ℕ) (o : Option ℕ) (q
 ended_if s f now None q = refl
 ended_if s f now (Some x) q = ended s f x now q
 
-taken_out : (s : Server) (f : ℕ → Option ℕ) (k now : ℕ) (q : Bool) → take_out (with s f) k now q
+pub taken_out : (s : Server) (f : ℕ → Option ℕ) (k now : ℕ) (q : Bool) → take_out (with s f) k now q
     ≡ with (take_out s k now q) (dates_if s f now (ends_with s k))
 taken_out s f k now q =
     ap (λ (o : Option ℕ). forget_connection (end_if_named (with s f) now o q) k) (ends s f k)

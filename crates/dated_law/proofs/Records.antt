@@ -10,7 +10,7 @@ use Rattle.exchange_defs.specs.Verdict.{Join, KeepRefusal, KeepSlot, Make, PutRa
 use Rattle.dated_law.proofs.Checks.{with}
 use Rattle.dated_law.proofs.Opens.{all_lost_records, ended_records, left_records, lost_records, records_if}
 
-file : (s : Server) (f : ℕ → Option ℕ) (found : Option ℕ) → new_file (with s f) found ≡ new_file s found
+pub file : (s : Server) (f : ℕ → Option ℕ) (found : Option ℕ) → new_file (with s f) found ≡ new_file s found
 file s f None = refl
 file s f (Some g) = refl
 

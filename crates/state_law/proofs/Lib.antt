@@ -1,1 +1,3 @@
 mod Begins
+mod Due
+mod Version

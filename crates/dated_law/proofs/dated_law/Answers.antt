@@ -3,6 +3,7 @@ use Rattle.server_law.proofs.SessionEffects.{deadlines_keeps}
 use Rattle.dated_law.proofs.Checks.{checked, ruled}
 use Rattle.dated_law.proofs.Expired.{expired, front}
 use Rattle.dated_law.proofs.Records.{owing}
+use Rattle.dated_law.proofs.Replies.{acted, told}
 use Rattle.dated_law.proofs.dated_law.Goals as goal
 
 pub returns : goal.returns
@@ -10,6 +11,8 @@ returns c = record {
   checks = λ s now m. checked s (with_deadlines s now).deadline m;
   ruled = λ s now e. ruled s (with_deadlines s now).deadline e;
   owed = λ s now r. owing s (with_deadlines s now).deadline now r;
+  told = λ s now r. told s (with_deadlines s now).deadline now r;
+  acted = λ s now r. acted s (with_deadlines s now).deadline now r;
   front = λ s now g o. front s (with_deadlines s now).deadline g o;
   expired = expired;
   fits = deadlines_keeps;

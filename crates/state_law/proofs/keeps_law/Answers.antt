@@ -1,7 +1,10 @@
-use Rattle.server_law.proofs.Applied.{expire_keeps}
-use Rattle.server_law.proofs.Folded.{folded_keeps}
-use Rattle.server_law.proofs.Stepped.{stepped}
+use Rattle.server_law.proofs.Applied.{expire_keeps, journal_keeps}
+use Rattle.server_law.proofs.Folded.{folded_keeps, recovered_fits}
+use Rattle.server_law.proofs.Sound.{sound_expiry}
+use Rattle.server_law.proofs.Stepped.{stepped, take_out_keeps}
 use Rattle.state_law.proofs.Begins.{nothing_fits}
+use Rattle.state_law.proofs.Due.{due_open}
+use Rattle.state_law.proofs.Version.{expired_version, version_stays}
 use Rattle.state_law.proofs.keeps_law.Goals as goal
 
 pub returns : goal.returns
@@ -10,4 +13,12 @@ returns c = record {
   stepped = λ s now e i. (stepped s now e i).0;
   expired = expire_keeps;
   folded = folded_keeps;
+  recovered = recovered_fits;
+  taken_out = take_out_keeps;
+  counted = λ s n i. journal_keeps s n i;
+  due = due_open;
+  sound = λ s now e i. (stepped s now e i).1;
+  sound_alone = sound_expiry;
+  version = version_stays;
+  version_alone = expired_version;
 }

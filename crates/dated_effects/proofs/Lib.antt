@@ -1,0 +1,4 @@
+mod Able
+mod Ready
+mod Room
+mod Same

@@ -1,0 +1,14 @@
+use Rattle.exchange_defs.specs.Step.{with_deadlines}
+use Rattle.dated_effects.proofs.Able.{able}
+use Rattle.dated_effects.proofs.Ready.{readied, shown}
+use Rattle.dated_effects.proofs.Room.{is_prepared, to_carry}
+use Rattle.dated_effects.proofs.dated_effects_law.Goals as goal
+
+pub returns : goal.returns
+returns c = record {
+  able = λ s now m v h. able s (with_deadlines s now).deadline m v h;
+  readied = λ t u s m now r h o. readied t u s (with_deadlines s now).deadline m now r h o;
+  shown = λ t u s now h o. shown t u s (with_deadlines s now).deadline h o;
+  prepared = λ t u s now e p h o. is_prepared t u s (with_deadlines s now).deadline now e p h o;
+  room = to_carry;
+}
