@@ -25,7 +25,7 @@ use server_verdicts::status::{INSUFFICIENT_RESOURCES, SUCCESS};
 use smb_bytes::Bytes;
 use std::alloc::Global;
 
-/// Carries out what was prepared of an event.
+/// Carries out what was prepared of an event, at `now` (100 ns since 1601).
 pub fn carry_event(t: &mut Tables, asked: &Asked<'_>, prepared: Prepared, now: u64) -> Answer
     requires { RoomToCarry t.old asked.now prepared }
     ensures shows { (s : Server) → Fits s → IsPrepared t.old s now (event_of asked.now) prepared

@@ -20,7 +20,7 @@ use server_effects::{
 use server_readied::Ready;
 use server_verdicts::status::SUCCESS;
 
-/// Carries a verdict on a message out that was made ready.
+/// Carries a verdict on a message out that was made ready, at `now` (100 ns since 1601).
 pub fn carry_out(t: &mut Tables, m: &Message<'_>, ready: Ready, now: u64) -> Answer
     requires { RoomFor t.old m.now.session_id m.now.connection ready }
     ensures shows { (s : Server) → Fits s → IsReadied t.old s (message_of m.now) now ready

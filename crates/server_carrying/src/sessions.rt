@@ -20,7 +20,7 @@ use server_endings::{end_if_named, end_session};
 use server_readied::SetupReady;
 use server_verdicts::status::SUCCESS;
 
-/// A challenge goes out, or a session or channel begins.
+/// A challenge goes out, or a session or channel begins, at `now` (100 ns since 1601).
 pub fn set_up(t: &mut Tables, m: &Message<'_>, step: SetupReady, now: u64) -> Answer
     requires { StepRoom t.old m.now.connection step }
     ensures shows { (s : Server) → Fits s → TablesShown t.old s → StepStands (message_of m.now) step
@@ -59,7 +59,7 @@ pub fn set_up(t: &mut Tables, m: &Message<'_>, step: SetupReady, now: u64) -> An
     }
 }
 
-/// A session ends by its own request.
+/// A session ends by its own request, at `now` (100 ns since 1601).
 pub fn end_by_message(
     t: &mut Tables,
     m: &Message<'_>,

@@ -10,7 +10,7 @@ ghost use Rattle.server_law.specs.Fits.{Fits};
 use crate::leaving::leave_all;
 use server_checks::Tables;
 
-/// A session ends. Quiet, files stay as they are. Tells whether an open left.
+/// A session ends at `now` (100 ns since 1601). Quiet, files stay as they are. Tells whether an open left.
 pub fn end_session(t: &mut Tables, session: u64, now: u64, is_quiet: bool) -> bool
     ensures told { (s : Server) → Fits s → TablesShown t.old s → result ≡ end_acts s session }
     ensures shows { (s : Server) → Fits s → TablesShown t.old s → s.present session ≡ true
@@ -24,7 +24,7 @@ pub fn end_session(t: &mut Tables, session: u64, now: u64, is_quiet: bool) -> bo
     acted
 }
 
-/// Where a session is named, it ends.
+/// Where a session is named, it ends at `now` (100 ns since 1601).
 pub fn end_if_named(t: &mut Tables, session: Option<u64>, now: u64, is_quiet: bool) -> bool
     ensures told { (s : Server) → Fits s → TablesShown t.old s → result ≡ acts_if_named s session }
     ensures shows { (s : Server) → Fits s → TablesShown t.old s → ((x : ℕ) → session ≡ Some x → s.present x ≡ true)

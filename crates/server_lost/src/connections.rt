@@ -11,7 +11,8 @@ ghost use Rattle.server_law.specs.Fits.{Fits};
 use server_checks::Tables;
 use server_endings::end_if_named;
 
-/// A connection is lost, with the session that has its last channel on it. Tells whether that acted.
+/// A connection is lost at `now` (100 ns since 1601), with the session that has its last channel on it. Tells whether that
+/// acted.
 pub fn take_out(t: &mut Tables, connection: u32, now: u64, is_quiet: bool) -> bool
     ensures told { (s : Server) → Fits s → TablesShown t.old s → result ≡ acts_if_named s (ends_with s connection) }
     ensures shows { (s : Server) → Fits s → TablesShown t.old s → TablesShown t.new (take_out s connection now is_quiet) }
@@ -50,7 +51,7 @@ fn first_of(list: &[u32]) -> Option<u32>
     list.first().copied()
 }
 
-/// All are lost, in the order in which they came.
+/// All are lost at `now` (100 ns since 1601), in the order in which they came. Tells whether that acted.
 pub fn take_all_out(t: &mut Tables, now: u64, is_quiet: bool) -> bool
     ensures told { (s : Server) → Fits s → TablesShown t.old s → result ≡ take_all_acts s s.connections now is_quiet }
     ensures shows { (s : Server) → Fits s → TablesShown t.old s

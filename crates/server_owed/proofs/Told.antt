@@ -41,6 +41,15 @@ use Rattle.server_verdicts.specs.declared.verdict.Verdict.TheVariants as codes
 use Rattle.share_modes.specs.declared.lists.Range.{Range}
 use Rattle.server_owed.specs.Owing.{IsCreate}
 
+-- where it can't
+
+pub true_not : true ≡ false → ⊥
+true_not h = cc
+
+pub not_quiet : (q : Bool) → q ≡ false → not q ≡ false → ⊥
+not_quiet true e h = cc
+not_quiet false e h = cc
+
 -- where memory may run out
 pub if_ok_by : {X Y : Type 0} {P Q : X → Type 0} (r : Result X Y) → IfOk r P → ((x : X) → P x → Q x) → IfOk r Q
 if_ok_by (Ok x) p f = f x p

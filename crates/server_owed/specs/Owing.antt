@@ -1,5 +1,5 @@
 -- What the records of a verdict lean on; it follows from the checks.
-use Rattle.std.specs.Prelude.{◌≡◌, true, false, nat_le, ⊤}
+use Rattle.std.specs.Prelude.{◌≡◌, ◌&&◌, Bool, true, false, is_some, nat_le, not, ⊤}
 use Rattle.exchange_defs.specs.Commands as asks
 use Rattle.exchange_defs.specs.Opens.{max_ids}
 use Rattle.exchange_defs.specs.State as model
@@ -19,3 +19,14 @@ Owing s m (verdicts.PutRanges o index number ranges elements) = s.standing o ≡
 Owing s m (verdicts.Alter o change body) = s.standing o ≡ true
 Owing s m (verdicts.CloseOpen o body) = s.standing o ≡ true
 Owing s m _ = ⊤
+
+-- it may owe records, for which memory may run out
+abbrev pub may_owe : verdicts.Verdict → Bool
+may_owe (verdicts.Make request found action) = true
+may_owe (verdicts.KeepSlot o index number status elements) = true
+may_owe (verdicts.PutRanges o index number ranges elements) = true
+may_owe (verdicts.Alter o change body) = true
+may_owe (verdicts.CloseOpen o body) = true
+may_owe (verdicts.Begin session user previous request quiet) = is_some previous && not quiet
+may_owe (verdicts.EndSession session quiet) = not quiet
+may_owe _ = false

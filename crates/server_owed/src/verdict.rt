@@ -1,4 +1,4 @@
-ghost use Rattle.std.specs.Prelude.{◌≡◌, true, IfOk};
+ghost use Rattle.std.specs.Prelude.{◌≡◌, ◌&&◌, false, is_some, not, true, IfOk, IsOk};
 ghost use Rattle.command_values.specs.Meaning.{command_of, message_of};
 ghost use Rattle.exchange_defs.specs.CheckOpen.{file_of};
 ghost use Rattle.exchange_defs.specs.Effects.{apply, change_records, end_records, records_if_named};
@@ -9,7 +9,7 @@ ghost use Rattle.file_store.specs.Shown.{ShowsFiles};
 ghost use Rattle.journal_records.specs.Meaning.{records_of};
 ghost use Rattle.open_table.specs.Shown.{ShowsOpens};
 ghost use Rattle.server_law.specs.Fits.{Fits};
-ghost use Rattle.server_owed.specs.Owing.{Owing};
+ghost use Rattle.server_owed.specs.Owing.{Owing, may_owe};
 ghost use Rattle.server_verdicts.specs.Views.{change_of, verdict_of};
 ghost use Rattle.session_bind.specs.Shown.{ShowsSessions};
 
@@ -26,7 +26,12 @@ use server_verdicts::{Change, Verdict};
 use session_bind::Sessions;
 use std::alloc::{AllocError, Global};
 
-/// The records of a verdict on a message.
+/// The records of a verdict on a message that is carried out at `now` (100 ns since 1601).
+///
+/// # Errors
+///
+/// Memory ran out, which it can't for a verdict that owes none: a refusal, an answer that changes no file and no persistent
+/// open, a session that ends quietly.
 pub fn owed(
     alloc: Global,
     opens: &Opens,
@@ -36,9 +41,10 @@ pub fn owed(
     verdict: &Verdict,
     now: u64,
 ) -> Result<Records, AllocError>
-    ensures { (s : Server) → Fits s → ShowsOpens opens.now s → ShowsFiles tree.now s → ShowsSessions sessions.now s
+    ensures told { (s : Server) → Fits s → ShowsOpens opens.now s → ShowsFiles tree.now s → ShowsSessions sessions.now s
         → Owing s (message_of m.now) (verdict_of (command_of m.now.command) verdict.now)
         → IfOk result (λ rs. records_of rs ≡ (apply s (message_of m.now) now (verdict_of (command_of m.now.command) verdict.now)).records) }
+    ensures sure { may_owe (verdict_of (command_of m.now.command) verdict.now) ≡ false → IsOk result }
 {
     match verdict {
         Verdict::Make { found, action } => {
@@ -114,8 +120,9 @@ fn end_if_named(
     session: Option<u64>,
     quiet: bool,
 ) -> Result<Records, AllocError>
-    ensures { (s : Server) → Fits s → ShowsOpens opens.now s → ShowsFiles tree.now s
+    ensures told { (s : Server) → Fits s → ShowsOpens opens.now s → ShowsFiles tree.now s
         → IfOk result (λ rs. records_of rs ≡ records_if_named s (origin_of (message_of m.now)) session quiet) }
+    ensures sure { (is_some session && not quiet) ≡ false → IsOk result }
 {
     match session {
         Some(session) => end_records(alloc, opens, tree, m, session, quiet),
@@ -131,8 +138,9 @@ fn end_records(
     session: u64,
     quiet: bool,
 ) -> Result<Records, AllocError>
-    ensures { (s : Server) → Fits s → ShowsOpens opens.now s → ShowsFiles tree.now s
+    ensures told { (s : Server) → Fits s → ShowsOpens opens.now s → ShowsFiles tree.now s
         → IfOk result (λ rs. records_of rs ≡ end_records s (origin_of (message_of m.now)) session quiet) }
+    ensures sure { not quiet ≡ false → IsOk result }
 {
     if quiet {
         return Ok(no_record(alloc));

@@ -8,20 +8,25 @@ use session_defs::Keys;
 use share_modes::Range;
 use smb_bytes::{Bytes, Text};
 
-/// A step of a logon.
+/// A step of a logon (MS-SMB2 3.3.5.5). `list` holds the bytes of the first token's list of mechanisms, `acceptor` the challenge,
+/// `token` the bytes of the response's token.
 #[derive(Drop)]
 pub enum SetupReady {
+    /// A new session is in the making, under the next id.
     Challenge {
         list: Bytes,
         acceptor: Acceptor,
         token: Bytes,
     },
+    /// A further channel of this session is in the making.
     ChallengeBinding {
         session: u64,
         list: Bytes,
         acceptor: Acceptor,
         token: Bytes,
     },
+    /// A session begins under this id. The previous one, where there is one, ends first; quiet where its records don't fit
+    /// the journal.
     Begin {
         session: u64,
         row: SessionRow,
@@ -29,6 +34,7 @@ pub enum SetupReady {
         previous: Option<u64>,
         quiet: bool,
     },
+    /// A session has a further channel, with these keys.
     Join {
         session: u64,
         keys: Keys,
@@ -36,6 +42,9 @@ pub enum SetupReady {
     },
 }
 
+/// A verdict with all the memory that its effect wants, one variant a verdict (`server_verdicts::Verdict`). What the request says
+/// (paths, bytes, elements) stays with it. `id` is an open's, `status` an NTSTATUS (MS-ERREF 2.3), `body` what the response
+/// carries; `index` and `number` name a lock slot (MS-SMB2 3.3.5.14).
 #[derive(Drop)]
 pub enum Ready {
     Refuse {
@@ -44,6 +53,7 @@ pub enum Ready {
     Give {
         body: Body,
     },
+    /// Refused, and kept for a replay under this CreateGuid.
     KeepRefusal {
         guid: u128,
         status: u32,
@@ -54,6 +64,7 @@ pub enum Ready {
     Attach {
         id: u64,
     },
+    /// An open is made of what is there, or with a file that is new or emptied.
     Make {
         file: FileReady,
         row: Row,
@@ -83,6 +94,7 @@ pub enum Ready {
         number: u8,
         ranges: Vec<Range>,
     },
+    /// A change of the open's file. `acts`: whether anything differs behind it.
     Alter {
         id: u64,
         change: ChangeReady,
@@ -96,10 +108,12 @@ pub enum Ready {
     Setup {
         step: SetupReady,
     },
+    /// A session ends; quiet, files stay as they are, since its records don't fit the journal.
     EndSession {
         session: u64,
         quiet: bool,
     },
+    /// A tree connect, to the share or to the pipes.
     AddTree {
         pipes: bool,
     },

@@ -22,10 +22,11 @@ use std::alloc::AllocError;
 
 /// Takes the memory that the effect of a verdict wants. Where there is none the state is as before. Of a SESSION_SETUP `logon`
 /// is what its token shows; without it there is no step of a logon. A file that is made or renamed has its path from then on.
+/// `now` is in 100 ns since 1601.
 ///
 /// # Errors
 ///
-/// Memory ran out, which it can't where the effect wants none.
+/// Memory ran out, which it can't where the effect wants none, or the message isn't one that the verdict is on.
 pub fn ready(
     t: &mut Tables,
     m: &Message<'_>,

@@ -18,6 +18,9 @@ pub if_ok_by : {X Y : Type 0} {P Q : X → Type 0} (r : Result X Y) → IfOk r P
 if_ok_by (Ok x) p f = f x p
 if_ok_by (Err y) p f = tt
 
+pub not_quiet : (q : Bool) → q ≡ false → q ≡ true → ⊥
+not_quiet q e h = let f : false ≡ true = sym e ∙ h in cc
+
 -- quiet, nothing is owed
 quiet_end : (s : Server) (g : Origin) (o : Option ℕ) → records_if_named s g o true ≡ []
 unfolding end_records

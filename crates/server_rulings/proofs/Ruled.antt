@@ -1,9 +1,10 @@
 -- What an event comes to, by its kind.
-use Rattle.std.proofs.Common.{◌≡◌, ◌≤◌, ◌<◌, ℕ, nat_le, Bool, true, false, if◌then◌else◌, length, Option, refl, sym, ap, subst, arith, ◌∙◌}
+use Rattle.std.proofs.Common.{◌≡◌, ◌≤◌, ◌<◌, ◌||◌, ℕ, nat_le, Bool, true, false, if◌then◌else◌, length, Option, is_some, refl, sym, ap, subst, arith, ◌∙◌}
 use Rattle.std.proofs.lemmas.Bool.Decides.{nat_tests}
 use Rattle.command_values.specs.Meaning.{command_of, message_of}
 use Rattle.command_values.specs.declared.request.Message.{Message}
-use Rattle.exchange_defs.specs.Check.{check}
+use Rattle.exchange_defs.specs.Check.{check, has_session}
+use Rattle.exchange_defs.specs.Commands.{is_setup}
 use Rattle.exchange_defs.specs.State as says
 use Rattle.exchange_defs.specs.State.{Accept, End, Heard, Server, ServerEvent, Stop}
 use Rattle.exchange_defs.specs.Step as steps
@@ -27,6 +28,24 @@ said_ruled s a m l v e h =
 
 pub is_heard : (a : Asked) (m : Message) (l : Option LogonPart) → a ≡ askings.Says m l → is_said a ≡ false → ⊥
 is_heard a m l e n = let k : is_said a ≡ true = ap is_said e in cc
+
+-- the message that is heard is the one that is asked about
+heard_same : (x y : says.Message) → Heard x ≡ Heard y → x ≡ y
+heard_same x y e = cc
+
+heard_message : (a : Asked) (m : Message) (l : Option LogonPart) (x : says.Message) → a ≡ askings.Says m l → event_of a ≡ Heard x
+    → message_of m ≡ x
+heard_message a m l x e h = heard_same (message_of m) x (sym (ap event_of e) ∙ h)
+
+pub absent_of : (s : Server) (a : Asked) (m : Message) (l : Option LogonPart) (x : says.Message) → a ≡ askings.Says m l
+    → event_of a ≡ Heard x → (is_setup x.command || has_session s x) ≡ false
+    → (is_setup (command_of m.command) || has_session s (message_of m)) ≡ false
+absent_of s a m l x e h n =
+    subst (λ (y : says.Message). (is_setup y.command || has_session s y) ≡ false) (sym (heard_message a m l x e h)) n
+
+pub faulty_of : (a : Asked) (m : Message) (l : Option LogonPart) (x : says.Message) → a ≡ askings.Says m l → event_of a ≡ Heard x
+    → is_some x.fault ≡ true → is_some m.fault ≡ true
+faulty_of a m l x e h n = subst (λ (y : says.Message). is_some y.fault ≡ true) (sym (heard_message a m l x e h)) n
 
 pub accept_ruled : (s : Server) (a : Asked) (k : ℕ) (r : Ruling) → a ≡ askings.Accept k → ruling_of (Accept k) r ≡ ruling s (Accept k)
     → ruling_of (event_of a) r ≡ ruling s (event_of a)

@@ -1,5 +1,5 @@
 //! The records of connections that are lost (MS-SMB2 3.3.7.1), told before they are.
-ghost use Rattle.std.specs.Prelude.{◌≡◌, ℕ, IfOk, false};
+ghost use Rattle.std.specs.Prelude.{◌≡◌, ℕ, IfOk, IsOk, false, true};
 ghost use Rattle.exchange_defs.specs.Effects.{end_records, records_if_named};
 ghost use Rattle.exchange_defs.specs.Records.{origin_at};
 ghost use Rattle.exchange_defs.specs.State.{Server};
@@ -15,9 +15,14 @@ use server_leaving::{Leaving, all_end_records, end_in};
 use std::alloc::AllocError;
 
 /// The records of the session, where there is one, that ends with a connection that is lost. Quiet, there are none.
+///
+/// # Errors
+///
+/// Memory ran out, which it can't where the end is quiet.
 pub fn lost_records(t: &Tables, connection: u32, quiet: bool) -> Result<Records, AllocError>
-    ensures { (s : Server) → Fits s → TablesShown t.now s
+    ensures told { (s : Server) → Fits s → TablesShown t.now s
         → IfOk result (λ rs. records_of rs ≡ records_if_named s (origin_at connection) (ends_with s connection) quiet) }
+    ensures sure { quiet ≡ true → IsOk result }
 {
     if quiet {
         return Ok(Records::new(t.alloc));
@@ -48,9 +53,14 @@ fn session_records(t: &Tables, origin: Origin, session: u64) -> Result<Records, 
 }
 
 /// The records of a stop, at which all connections are lost one behind the other. Quiet, there are none.
+///
+/// # Errors
+///
+/// Memory ran out, which it can't where the ends are quiet.
 pub fn all_lost_records(t: &Tables, quiet: bool) -> Result<Records, AllocError>
-    ensures { (s : Server) (now : ℕ) → Fits s → TablesShown t.now s
+    ensures told { (s : Server) (now : ℕ) → Fits s → TablesShown t.now s
         → IfOk result (λ rs. records_of rs ≡ take_all_records s s.connections now quiet) }
+    ensures sure { quiet ≡ true → IsOk result }
 {
     if quiet {
         return Ok(Records::new(t.alloc));

@@ -1,7 +1,9 @@
 //! What an event comes to, before anything changes.
-ghost use Rattle.std.specs.Prelude.{◌≡◌, IfOk, IsOk, false};
+ghost use Rattle.std.specs.Prelude.{◌≡◌, ◌||◌, IfOk, IsOk, false, is_some, true};
+ghost use Rattle.exchange_defs.specs.Check.{has_session};
+ghost use Rattle.exchange_defs.specs.Commands.{is_setup};
 ghost use Rattle.exchange_defs.specs.Records.{origin_at};
-ghost use Rattle.exchange_defs.specs.State.{Accept, Server, ServerEvent};
+ghost use Rattle.exchange_defs.specs.State.{Accept, Heard, Message, Server, ServerEvent};
 ghost use Rattle.exchange_defs.specs.Step.{ruling, ruling_without_room};
 ghost use Rattle.server_asked.specs.Heard.{event_of};
 ghost use Rattle.server_checks.specs.Shown.{TablesShown};
@@ -28,11 +30,18 @@ pub enum Ruling {
     TakesAllOut { quiet: bool },
 }
 
-/// What an event comes to, and that it can be carried out. Memory runs out at a message alone.
+/// What an event comes to.
+///
+/// # Errors
+///
+/// Memory ran out at a message, behind the checks of its session and of signing and sealing; at no other event.
 pub fn rule(t: &Tables, asked: &Asked<'_>) -> Result<Ruling, AllocError>
     ensures ruled { (s : Server) → Fits s → TablesShown t.now s
         → IfOk result (λ r. ruling_of (event_of asked.now) r ≡ ruling s (event_of asked.now)) }
     ensures sure { is_said asked.now ≡ false → IsOk result }
+    ensures absent { (s : Server) (m : Message) → TablesShown t.now s → event_of asked.now ≡ Heard m
+        → (is_setup m.command || has_session s m) ≡ false → IsOk result }
+    ensures faulty { (m : Message) → event_of asked.now ≡ Heard m → is_some m.fault ≡ true → IsOk result }
 {
     match asked {
         Asked::Says { message, .. } => match t.check(message) {

@@ -1,4 +1,4 @@
-use Rattle.server_rulings.proofs.Ruled.{accept_ruled, end_ruled, is_heard, said_ruled, stop_ruled}
+use Rattle.server_rulings.proofs.Ruled.{absent_of, accept_ruled, end_ruled, faulty_of, is_heard, said_ruled, stop_ruled}
 use Rattle.server_rulings.proofs.ruling.rule.Goals as goal
 
 pub returns-in-Ok-clause-ruled : goal.returns-in-Ok-clause-ruled
@@ -7,6 +7,12 @@ returns-in-Ok-clause-ruled c = λ s f h. said_ruled s c.args.asked.now _ _ c.in-
 
 pub returns-in-Err-clause-sure : goal.returns-in-Err-clause-sure
 returns-in-Err-clause-sure c = λ n. absurd (is_heard c.args.asked.now _ _ c.in-Says.is n)
+
+pub returns-in-Err-clause-absent : goal.returns-in-Err-clause-absent
+returns-in-Err-clause-absent c = λ s m h e n. c.in-Err.ensures.absent s h (absent_of s c.args.asked.now _ _ m c.in-Says.is e n)
+
+pub returns-in-Err-clause-faulty : goal.returns-in-Err-clause-faulty
+returns-in-Err-clause-faulty c = λ m e n. c.in-Err.ensures.faulty (faulty_of c.args.asked.now _ _ m c.in-Says.is e n)
 
 pub returns-in-Accept-clause-ruled : goal.returns-in-Accept-clause-ruled
 returns-in-Accept-clause-ruled c = λ s f h. accept_ruled s c.args.asked.now _ c.on_accept.result c.in-Accept.is
