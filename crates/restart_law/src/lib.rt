@@ -7,22 +7,23 @@
 ghost use Rattle.std.specs.Prelude.{◌≡◌, ℕ, List, true};
 ghost use Rattle.exchange_defs.specs.Fold.{Configuration, recovered};
 ghost use Rattle.exchange_defs.specs.State as model;
-ghost use Rattle.journal_defs.specs.Grammar.{StandsFor};
+ghost use Rattle.journal_defs.specs.Grammar.{BreaksAt, StandsFor};
 ghost use Rattle.recovery_law.specs.Recovers.{Recovers};
 ghost use Rattle.recovery_law.specs.Restarted.{EntriesLeft, Restarted};
 ghost use Rattle.server_law.specs.Fits.{Fits, all_sound};
 ghost use Rattle.server_recovery.specs.Reading.{BodiesSpell};
-ghost use Rattle.server_restart.specs.Restart.{IsSoundDisk};
+ghost use Rattle.server_restart.specs.Restart.{IsNoBody};
 
-use persist_journal::one_meaning;
+use journal_records::records_law;
+use persist_journal::{broken_means_nothing, one_meaning};
 
-/// Bytes whose bodies spell records that make no open which deletes the root on close are such as a restart asks for (`sound`),
-/// and stand for no other records (`same`). A server of whose state the records are told by their fold stands, behind a restart,
-/// where it stood (`stands`): its persistent opens with all that is theirs, in a new epoch of ids, without a session; and each file at
-/// its path, but for delete pending ones that no such open has (`entries`).
+/// Bytes whose bodies spell records that make no open which deletes the root on close are a journal, which no restart refuses as
+/// none (`taken`), and stand for no other records (`same`). A server of whose state the records are told by their fold stands,
+/// behind a restart, where it stood (`stands`): its persistent opens with all that is theirs, in a new epoch of ids, without a
+/// session; and each file at its path, but for delete pending ones that no such open has (`entries`).
 pub fn restart_law()
-    ensures sound { (bytes : List ℕ) (bodies : List (List ℕ)) (records : List model.Record) → StandsFor bytes bodies
-        → BodiesSpell bodies records → all_sound records ≡ true → IsSoundDisk bytes }
+    ensures taken { (bytes : List ℕ) (bodies : List (List ℕ)) (records : List model.Record) (at : ℕ) → StandsFor bytes bodies
+        → BodiesSpell bodies records → all_sound records ≡ true → (BreaksAt bytes at → ⊥) × (IsNoBody bytes at → ⊥) }
     ensures same { (bytes : List ℕ) (bodies others : List (List ℕ)) (records more : List model.Record) → StandsFor bytes bodies
         → BodiesSpell bodies records → StandsFor bytes others → BodiesSpell others more → records ≡ more }
     ensures stands { (s : model.Server) (records : List model.Record) (z : Configuration) (count : ℕ) → Recovers records s
@@ -30,5 +31,7 @@ pub fn restart_law()
     ensures entries { (s : model.Server) (records : List model.Record) (z : Configuration) (count : ℕ) → Fits s → Recovers records s
         → EntriesLeft s (recovered z count records) }
 {
+    records_law();
+    broken_means_nothing();
     one_meaning();
 }

@@ -10,21 +10,19 @@ use Rattle.exchange_defs.specs.State as model
 use Rattle.exchange_defs.specs.State.{Server}
 use Rattle.journal_defs.specs.Grammar.{front}
 use Rattle.journal_defs.specs.Moments.{Quiet}
-use Rattle.journal_records.specs.declared.fault.RecordError.{RecordError}
-use Rattle.journal_records.specs.declared.fault.RecordError.TheVariants as faulty
 use Rattle.persist_journal.specs.Gather.{Gathered}
 use Rattle.persist_journal.specs.Journal.{JournalState, Settled, HandsOut, NextAnswers, capped}
 use Rattle.persist_journal.specs.declared.journal.JournalError.{JournalError}
 use Rattle.persist_journal.specs.declared.journal.JournalError.TheVariants.{Memory, DiskFault, NotAJournal, Full, Stopped}
 use Rattle.server_recovery.proofs.Calls.{gate_more, quiet_begun, quiet_behind}
 use Rattle.smb_io.specs.Faults.{Rose}
-use Rattle.server_law.specs.Fits.{Fits}
-use Rattle.server_fold.specs.Durable.{DurableShown, Applied}
+use Rattle.server_law.specs.Fits.{Fits, all_sound}
+use Rattle.server_fold.specs.Durable.{DurableShown}
 use Rattle.server_fold.specs.declared.durable.Durable.{Durable}
-use Rattle.server_recovery.specs.Reading.{BodiesSpell, IsReadFrom, HandedOut, IsBehind, FoldRefused, BodyCause, BodyRefused}
-use Rattle.server_recovery.specs.Reading.{ReadRefused, cause_of}
+use Rattle.server_recovery.specs.Reading.{BodiesSpell, FoldedBy, IsReadFrom, HandedOut, IsBehind, FoldRefused, BodyCause, BodyRefused}
+use Rattle.server_recovery.specs.Reading.{ReadRefused}
 use Rattle.server_recovery.proofs.Nothing.{nothing_fits}
-use Rattle.server_recovery.proofs.Bodies.{sound_so_far, sound_less, read_on}
+use Rattle.server_recovery.proofs.Bodies.{read_on}
 
 -- these bodies were read of a journal, which was old and is now, and folded from a state that had begun to d
 pub record FoldedSoFar {D : Type 0} (told : Type 0) (seen : D → List ℕ) (may_leave : D → List ℕ → Type 0) (moment : D → ℕ)
@@ -39,32 +37,8 @@ pub record FoldedSoFar {D : Type 0} (told : Type 0) (seen : D → List ℕ) (may
 -- ---- one body
 
 none_read : (d : Durable) → DurableShown d nothing_yet → (records : List model.Record) × IsReadFrom d nothing_yet [] records
-unfolding fold_from
-none_read d h = ([], record { spelled = λ sound. refl; shown = λ s. h; fits = λ s. nothing_fits })
-
--- what comes of one that isn't applied
-pub refused_of : (e : Durable) (s : Server) (body : List ℕ) (gate : ℕ) (error : RecordError) (x : JournalError)
-    → x ≡ cause_of error gate → Applied e s body (Err error) → BodyRefused s body x
-refused_of e s body gate error x is a = subst (λ (y : JournalError). BodyRefused s body y) (sym is) (by error a)
-  where
-    by : (f : RecordError) → Applied e s body (Err f) → BodyRefused s body (cause_of f gate)
-    by faulty.Memory b = tt
-    by (faulty.BadRecord place) b = (place, b.0)
-
-pub caused_of : (gate : ℕ) (error : RecordError) (x : JournalError) → x ≡ cause_of error gate → BodyCause gate x
-caused_of gate error x is = subst (λ (y : JournalError). BodyCause gate y) (sym is) (by error)
-  where
-    by : (f : RecordError) → BodyCause gate (cause_of f gate)
-    by faulty.Memory = tt
-    by (faulty.BadRecord place) = refl
-
--- the same of bytes that are the body
-pub applied_to : (e : Durable) (s : Server) (m body : List ℕ) → m ≡ body → Applied e s m (Ok tt) → Applied e s body (Ok tt)
-applied_to e s m body is a = subst (λ (b : List ℕ). Applied e s b (Ok tt)) is a
-
-pub failed_on : (e : Durable) (s : Server) (m body : List ℕ) (error : RecordError) → m ≡ body → Applied e s m (Err error)
-    → Applied e s body (Err error)
-failed_on e s m body error is a = subst (λ (b : List ℕ). Applied e s b (Err error)) is a
+unfolding fold_from all_sound
+none_read d h = ([], record { spelled = refl; sound = refl; shown = h; fits = nothing_fits })
 
 -- ---- the body that stands behind others
 
@@ -76,21 +50,18 @@ body_at bodies body more =
 
 refused_at : (d : Durable) (bodies : List (List ℕ)) (body : List ℕ) (more : List (List ℕ)) (rs : List model.Record) (at : ℕ)
     → at ≡ capped (length (front bodies)) → IsReadFrom d nothing_yet bodies rs
-    → ((u : Server) → Fits u → DurableShown d u → BodyRefused u body (NotAJournal at))
+    → ((u : Server) → Fits u → DurableShown d u → BodyRefused u.version body (NotAJournal at))
     → FoldRefused (bodies ++ body ∷ more) (NotAJournal at)
-refused_at d bodies body more rs at is was refused = λ sound.
-    let spelled = was.spelled (sound_less bodies (body ∷ more) sound) in
-    let ok = sound_so_far bodies (body ∷ more) rs sound spelled in
-    let broken = refused (fold_from nothing_yet rs) (was.fits ok) (was.shown ok) in
+refused_at d bodies body more rs at is was refused =
     let front_is = sym (take_at bodies (body ∷ more) (length bodies) refl) in (
       length bodies,
       body,
       rs,
-      broken.0,
       body_at bodies body more,
       is ∙ ap (λ (v : List (List ℕ)). capped (length (front v))) front_is,
-      subst (λ (v : List (List ℕ)). BodiesSpell v rs) front_is spelled,
-      broken.1,
+      subst (λ (v : List (List ℕ)). BodiesSpell v rs) front_is was.spelled,
+      was.sound,
+      refused (fold_from nothing_yet rs) was.fits was.shown,
     )
 
 none_not : (n : ℕ) → None ≡ Some n → ⊥
@@ -147,7 +118,7 @@ module _ {D : Type 0} (told : Type 0) (seen : D → List ℕ) (may_leave : D →
       → r ≡ Ok o → o ≡ Some body → Hands now r new
       → Quiet told seen may_leave moment left_since now.disk new.disk → NextAnswers faults now r new
       → q ≡ Ok next → IfOk q (λ n. IsBehind gate body n)
-      → ((u : Server) → Fits u → DurableShown d u → MatchResult q (λ _. Applied e u body (Ok tt)) (λ x. BodyRefused u body x))
+      → ((u : Server) → Fits u → DurableShown d u → MatchResult q (λ _. FoldedBy e u body) (λ x. BodyRefused u.version body x))
       → SoFar old begun new e next
   so_far_more old now new begun d e gate next body o r q was is some hands quiet answers done behind apply =
       let one = some_of r o (Some body) is some in
@@ -171,7 +142,7 @@ module _ {D : Type 0} (told : Type 0) (seen : D → List ℕ) (may_leave : D →
         };
         gate_is = place (length (front was.bodies)) was.gate_is ∙ ap (λ (n : ℕ). capped n) (sym (gate_more was.bodies body));
         read = λ h. let w = was.read h in read_on d e was.bodies w.0 body w.1 (λ u fits shown.
-            subst (λ (x : Result ℕ JournalError). MatchResult x (λ _. Applied e u body (Ok tt)) (λ y. BodyRefused u body y)) done
+            subst (λ (x : Result ℕ JournalError). MatchResult x (λ _. FoldedBy e u body) (λ y. BodyRefused u.version body y)) done
             (apply u fits shown));
       }
 
@@ -278,7 +249,7 @@ module _ {D : Type 0} (told : Type 0) (seen : D → List ℕ) (may_leave : D →
 
   broken_at : (old now new : JournalState D) (begun d : Durable) (gate : ℕ) (body : List ℕ) (at : ℕ) → SoFar old begun now d gate
       → old.taken ≡ 0 → Hands now (Ok (Some body)) new → at ≡ gate
-      → ((u : Server) → Fits u → DurableShown d u → BodyRefused u body (NotAJournal at)) → told → DurableShown begun nothing_yet
+      → ((u : Server) → Fits u → DurableShown d u → BodyRefused u.version body (NotAJournal at)) → told → DurableShown begun nothing_yet
       → (bodies : List (List ℕ)) → Settled seen may_leave old bodies → FoldRefused bodies (NotAJournal at)
   broken_at old now new begun d gate body at was none out place refused t shown bodies settled =
       let handed = out t bodies (was.gathered.same t bodies settled) in
@@ -290,7 +261,7 @@ module _ {D : Type 0} (told : Type 0) (seen : D → List ℕ) (may_leave : D →
 
   by_body : (old now new : JournalState D) (begun d : Durable) (gate : ℕ) (body : List ℕ) (x : JournalError) → SoFar old begun now d gate
       → old.taken ≡ 0 → Hands now (Ok (Some body)) new → BodyCause gate x
-      → ((u : Server) → Fits u → DurableShown d u → BodyRefused u body x) → told → DurableShown begun nothing_yet
+      → ((u : Server) → Fits u → DurableShown d u → BodyRefused u.version body x) → told → DurableShown begun nothing_yet
       → (bodies : List (List ℕ)) → Settled seen may_leave old bodies → FoldRefused bodies x
   by_body old now new begun d gate body Memory was none out cause refused t shown bodies settled = tt
   by_body old now new begun d gate body (DiskFault n) was none out cause refused t shown bodies settled = tt
@@ -302,12 +273,12 @@ module _ {D : Type 0} (told : Type 0) (seen : D → List ℕ) (may_leave : D →
   pub unfolded : (old now new : JournalState D) (begun d e : Durable) (gate : ℕ) (body : List ℕ) (o : Option (List ℕ))
       (r : Result (Option (List ℕ)) JournalError) (q : Result ℕ JournalError) (x : JournalError) → SoFar old begun now d gate
       → r ≡ Ok o → o ≡ Some body → old.taken ≡ 0 → Hands now r new → q ≡ Err x → IfErr q (λ y. BodyCause gate y)
-      → ((u : Server) → Fits u → DurableShown d u → MatchResult q (λ _. Applied e u body (Ok tt)) (λ y. BodyRefused u body y))
+      → ((u : Server) → Fits u → DurableShown d u → MatchResult q (λ _. FoldedBy e u body) (λ y. BodyRefused u.version body y))
       → told → (s : Server) → s ≡ nothing_yet → DurableShown begun s → (bodies : List (List ℕ)) → Settled seen may_leave old bodies
       → FoldRefused bodies x
   unfolded old now new begun d e gate body o r q x was is some none hands stopped cause apply t s nothing shown bodies settled =
       by_body old now new begun d gate body x was none
       (subst (λ (y : Result (Option (List ℕ)) JournalError). Hands now y new) (some_of r o (Some body) is some) hands)
       (subst (λ (z : Result ℕ JournalError). IfErr z (λ y. BodyCause gate y)) stopped cause)
-      (λ u fits shown. subst (λ (z : Result ℕ JournalError). MatchResult z (λ _. Applied e u body (Ok tt)) (λ y. BodyRefused u body y))
+      (λ u fits shown. subst (λ (z : Result ℕ JournalError). MatchResult z (λ _. FoldedBy e u body) (λ y. BodyRefused u.version body y))
       stopped (apply u fits shown)) t (subst (λ (u : Server). DurableShown begun u) nothing shown) bodies settled

@@ -1,5 +1,5 @@
 -- What a recovery reads, body by body, and what stops it.
-use Rattle.std.specs.Prelude.{◌≡◌, ℕ, ◌+◌, List, [], ◌∷◌, ◌++◌, length, take, true, slice_get, Some, ⊤}
+use Rattle.std.specs.Prelude.{◌≡◌, ◌⊎◌, ℕ, ◌+◌, List, [], ◌∷◌, ◌++◌, length, take, true, false, slice_get, Some, ⊤}
 use Rattle.exchange_defs.specs.Fold.{nothing_yet, fold, fold_from}
 use Rattle.exchange_defs.specs.State as model
 use Rattle.journal_defs.specs.Grammar.{front}
@@ -27,21 +27,28 @@ SpellFrom s (body ∷ bodies) rs = (front : List Record) × (rest : List model.R
 abbrev pub BodiesSpell : List (List ℕ) → List model.Record → Type 0
 BodiesSpell bodies rs = SpellFrom nothing_yet bodies rs
 
--- Bodies whose records make no open that deletes the root on close, as far as they are records: so are those of every server.
-abbrev pub AreSound : List (List ℕ) → Type 0
-AreSound bodies = (k : ℕ) (records : List model.Record) → BodiesSpell (take k bodies) records → all_sound records ≡ true
+-- A body that no server writes: it is no list of records, or one of them makes an open that deletes the root on close.
+abbrev pub NoServerWrites : ℕ → List ℕ → Type 0
+NoServerWrites version body = ((place : ℕ) × BreaksRecords version body place)
+    ⊎ ((rs : List Record) × SpellsRecords version body rs × (all_sound (records_of rs) ≡ false))
 
 -- ---- what was read
 
 abbrev pub IsNothing : model.Server → Type 0
 IsNothing s = s ≡ nothing_yet
 
--- Bodies that were read one behind the other: as far as their records make no open that deletes the root on close, they are these
--- records, and the state is their fold.
+-- the state behind a body of these records: their fold, where none makes an open that deletes the root on close
+abbrev pub FoldedBy : Durable → model.Server → List ℕ → Type 0
+FoldedBy d s body = (rs : List Record) × SpellsRecords s.version body rs × (all_sound (records_of rs) ≡ true)
+    × DurableShown d (fold_from s (records_of rs))
+
+-- Bodies that were read one behind the other: they are these records, none of which makes an open that deletes the root on close, and
+-- the state is their fold.
 pub record IsReadFrom (d : Durable) (s : model.Server) (bodies : List (List ℕ)) (records : List model.Record) : Type 0 where
-  pub spelled : AreSound bodies → SpellFrom s bodies records
-  pub shown : all_sound records ≡ true → DurableShown d (fold_from s records)
-  pub fits : all_sound records ≡ true → Fits (fold_from s records)
+  pub spelled : SpellFrom s bodies records
+  pub sound : all_sound records ≡ true
+  pub shown : DurableShown d (fold_from s records)
+  pub fits : Fits (fold_from s records)
 
 -- where the disk tells its bytes they are all that it has
 abbrev pub HandedOut : {D : Type 0} → Type 0 → (D → List ℕ) → (D → List ℕ → Type 0) → JournalState D → List (List ℕ) → Type 0
@@ -53,17 +60,17 @@ IsBehind gate body next = (bytes : ℕ) → gate ≡ capped bytes → next ≡ c
 
 -- ---- what stops it
 
--- the first body that is no list of records, told by its gate
+-- the first body that no server writes, told by its gate
 abbrev pub FoldRefused : List (List ℕ) → JournalError → Type 0
-FoldRefused bodies (causes.NotAJournal at) = AreSound bodies → (k : ℕ) × (body : List ℕ) × (records : List model.Record) × (place : ℕ)
+FoldRefused bodies (causes.NotAJournal at) = (k : ℕ) × (body : List ℕ) × (records : List model.Record)
     × (slice_get bodies k ≡ Some body) × (at ≡ capped (length (front (take k bodies)))) × BodiesSpell (take k bodies) records
-    × BreaksRecords (fold records).version body place
+    × (all_sound records ≡ true) × NoServerWrites (fold records).version body
 FoldRefused bodies causes.Memory = ⊤
 FoldRefused bodies (causes.DiskFault n) = ⊤
 FoldRefused bodies (causes.Full would limit) = ⊤
 FoldRefused bodies (causes.Stopped n) = ⊤
 
--- a body that isn't applied is no list of records, or memory ran out
+-- a body that isn't read is no list of records, or memory ran out
 abbrev pub cause_of : RecordError → ℕ → JournalError
 cause_of faulty.Memory gate = causes.Memory
 cause_of (faulty.BadRecord place) gate = causes.NotAJournal gate
@@ -75,12 +82,13 @@ BodyCause gate (causes.DiskFault n) = ⊥
 BodyCause gate (causes.Full would limit) = ⊥
 BodyCause gate (causes.Stopped n) = ⊥
 
-abbrev pub BodyRefused : model.Server → List ℕ → JournalError → Type 0
-BodyRefused s body (causes.NotAJournal at) = (place : ℕ) × BreaksRecords s.version body place
-BodyRefused s body causes.Memory = ⊤
-BodyRefused s body (causes.DiskFault n) = ⊤
-BodyRefused s body (causes.Full would limit) = ⊤
-BodyRefused s body (causes.Stopped n) = ⊤
+-- a body that isn't applied, in the version that the records before it have reached, is one that no server writes, or memory ran out
+abbrev pub BodyRefused : ℕ → List ℕ → JournalError → Type 0
+BodyRefused version body (causes.NotAJournal at) = NoServerWrites version body
+BodyRefused version body causes.Memory = ⊤
+BodyRefused version body (causes.DiskFault n) = ⊤
+BodyRefused version body (causes.Full would limit) = ⊤
+BodyRefused version body (causes.Stopped n) = ⊤
 
 -- what reading answers of any disk
 abbrev pub ReadRefused : {D : Type 0} → (D → ℕ) → D → JournalError → JournalState D → Type 0

@@ -1,17 +1,20 @@
 //! Body by body, one in memory.
-ghost use Rattle.std.specs.Prelude.{◌≡◌, ℕ, List, length, IfErr, IfOk, MatchResult, None, Ok, OnOk, ⊤};
+ghost use Rattle.std.specs.Prelude.{◌≡◌, ℕ, List, length, true, IfErr, IfOk, MatchResult, None, OnOk, ⊤};
 ghost use Rattle.exchange_defs.specs.State as model;
 ghost use Rattle.journal_defs.specs.Grammar.{front};
 ghost use Rattle.journal_defs.specs.Moments.{Quiet};
+ghost use Rattle.journal_records.specs.Grammar.{SpellsRecords};
+ghost use Rattle.journal_records.specs.Meaning.{opened, record_of, records_of};
 ghost use Rattle.persist_journal.specs.Journal.{Settled, capped};
-ghost use Rattle.server_fold.specs.Durable.{Applied, DurableShown};
-ghost use Rattle.server_law.specs.Fits.{Fits};
-ghost use Rattle.server_recovery.specs.Reading.{BodyCause, BodyRefused, FoldRefused, HandedOut, IsBehind, IsNothing, IsReadFrom};
-ghost use Rattle.server_recovery.specs.Reading.{ReadRefused, cause_of};
+ghost use Rattle.server_fold.specs.Durable.{DurableShown};
+ghost use Rattle.server_law.specs.Fits.{Fits, all_sound, is_sound, keeps_root};
+ghost use Rattle.server_recovery.specs.Reading.{BodyCause, BodyRefused, FoldRefused, FoldedBy, HandedOut, IsBehind, IsNothing};
+ghost use Rattle.server_recovery.specs.Reading.{IsReadFrom, ReadRefused, cause_of};
 
-use journal_records::RecordError;
+use journal_records::{NewOpen, Record, RecordError, Records, read_records};
 use persist_journal::{Journal, JournalError};
-use server_fold::{Durable, apply_records};
+use server_fold::Durable;
+use server_verdicts::deletes_on_close;
 use smb_bytes::Bytes;
 use smb_io::Disk;
 
@@ -21,7 +24,9 @@ const FIRST_GATE: u64 = 8;
 const AROUND: u64 = 5;
 
 /// Applies each body of a journal that was just recovered. Answers where its last gate stands; the place stands still at
-/// 2^64 - 1. `NotAJournal` has the gate of the first body that is no list of records.
+/// 2^64 - 1. `NotAJournal` has the gate of the first body that no server writes: it is no list of records, or one of them makes
+/// an open that deletes the root on close. Where it is refused the state is no longer to be used: a part of the bodies may have
+/// been applied.
 pub fn fold_bodies<D: Disk>(
     journal: &mut Journal<D>,
     state: &mut Durable,
@@ -54,13 +59,65 @@ pub fn fold_bodies<D: Disk>(
 // Applies a body whose gate stands there. Answers where the next one stands.
 fn fold_body(state: &mut Durable, body: &Bytes, gate: u64) -> Result<u64, JournalError>
     ensures applied { (s : model.Server) → Fits s → DurableShown state.old s → MatchResult result
-        (λ _. Applied state.new s body.now (Ok tt)) (λ x. BodyRefused s body.now x) }
+        (λ _. FoldedBy state.new s body.now) (λ x. BodyRefused s.version body.now x) }
     ensures behind { IfOk result (λ next. IsBehind gate body.now next) }
     ensures cause { IfErr result (λ x. BodyCause gate x) }
 {
-    match apply_records(state, body.as_slice()) {
-        Ok(()) => Ok(gate_behind(gate, body)),
+    match records_in(state, body, gate) {
+        Ok(records) => match state.with_records(records.as_slice()) {
+            Ok(()) => Ok(gate_behind(gate, body)),
+            Err(_) => Err(JournalError::Memory),
+        },
+        Err(error) => Err(error),
+    }
+}
+
+// The records of a body whose gate stands there.
+fn records_in(state: &Durable, body: &Bytes, gate: u64) -> Result<Records, JournalError>
+    ensures read { MatchResult result
+        (λ rs. SpellsRecords state.now.version body.now rs × (all_sound (records_of rs) ≡ true))
+        (λ x. BodyRefused state.now.version body.now x) }
+    ensures cause { IfErr result (λ x. BodyCause gate x) }
+{
+    match read_records(state.alloc, body.as_slice(), state.version) {
+        Ok(records) => {
+            if are_sound(records.as_slice()) {
+                Ok(records)
+            } else {
+                Err(JournalError::NotAJournal(gate))
+            }
+        }
         Err(error) => Err(cause_of(&error, gate)),
+    }
+}
+
+// None makes an open that deletes the root on close.
+fn are_sound(records: &[Record]) -> bool
+    ensures { result ≡ all_sound (records_of records.now) }
+{
+    for record in records {
+        if !is_sound(record) {
+            return false;
+        }
+    }
+    true
+}
+
+fn is_sound(one: &Record) -> bool
+    ensures { result ≡ is_sound (record_of one.now) }
+{
+    match one {
+        Record::Create { file, opened, .. } => keeps_root(*file, opened),
+        _ => true,
+    }
+}
+
+fn keeps_root(file: u64, new: &Option<NewOpen>) -> bool
+    ensures { result ≡ keeps_root file (opened new.now) }
+{
+    match new {
+        Some(new) => !(deletes_on_close(new.options) && file == 0),
+        None => true,
     }
 }
 
@@ -71,7 +128,7 @@ fn gate_behind(gate: u64, body: &Bytes) -> u64
         .saturating_add(body.len() as u64)
 }
 
-// What a body that isn't applied is told as.
+// What a body that isn't read is told as.
 fn cause_of(error: &RecordError, gate: u64) -> JournalError
     ensures { result ≡ cause_of error.now gate }
 {

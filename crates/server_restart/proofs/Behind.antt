@@ -1,8 +1,7 @@
 -- What a restart answers, put together from what it read and what it wrote.
 use Rattle.std.proofs.Common.{◌≡◌, ◌⊎◌, inl, inr, ⊎_elim, ℕ, ◌+◌, ◌-◌, ◌≤◌, ◌==◌, Bool, true, false, if◌then◌else◌}
-use Rattle.std.proofs.Common.{List, [], ◌∷◌, ◌++◌, length, take, Some, None, refl, sym, ap, subst, ◌∙◌, arith}
-use Rattle.std.proofs.lemmas.List.{take_all}
-use Rattle.std.specs.Prelude.{Result, Ok, Err, IfOk}
+use Rattle.std.proofs.Common.{List, [], ◌∷◌, ◌++◌, length, Some, None, refl, sym, ap, subst, ◌∙◌, arith}
+use Rattle.std.specs.Prelude.{Ok, Err}
 use Rattle.exchange_defs.specs.Fold.{nothing_yet, fold, fold_from, full_room, opening_records, recovery_records}
 use Rattle.exchange_defs.specs.Records.{entry_bytes}
 use Rattle.exchange_defs.specs.State as model
@@ -29,10 +28,10 @@ use Rattle.server_fold.specs.declared.durable.Durable.{Durable}
 use Rattle.server_law.specs.Fits.{Fits, all_sound}
 use Rattle.server_law.proofs.Folded.{sound_recovery}
 use Rattle.server_law.proofs.Logic.{either}
-use Rattle.server_recovery.specs.Reading.{AreSound, BodiesSpell, FoldRefused, HandedOut, IsNothing, IsReadFrom, ReadRefused}
+use Rattle.server_recovery.specs.Reading.{BodiesSpell, FoldRefused, HandedOut, IsNothing, IsReadFrom, ReadRefused}
 use Rattle.server_recovery.proofs.Bodies.{spell_more}
 use Rattle.server_restart.specs.Found.{Found, IsOf, IsRead, all_of}
-use Rattle.server_restart.specs.Restart.{IsBegun, IsFull, IsNoBody, IsSoundDisk, RestartLeaves, RestartRefused}
+use Rattle.server_restart.specs.Restart.{FaultIsTold, IsBegun, IsFull, IsNoBody, RestartLeaves, RestartRefused}
 use Rattle.server_restart.specs.Restart.{Restarts, configuration_of, configured}
 use Rattle.server_restart.proofs.OfFold.{all_begun, all_fit, all_recover, all_version, behind, of_fold, sound_all}
 use Rattle.session_bind.specs.Logons.{LogonsShown}
@@ -98,10 +97,6 @@ spells_opening version rs n body (inl one) e is =
 spells_opening version rs n body (inr two) e is =
     subst (λ (v : ℕ). SpellsRecords v body rs) (sym two) (spells_2 rs (version == 1) n body e is)
 
-pub if_ok_by : {X Y : Type 0} {P Q : X → Type 0} (r : Result X Y) → IfOk r P → ((x : X) → P x → Q x) → IfOk r Q
-if_ok_by (Ok x) p f = f x p
-if_ok_by (Err y) p f = tt
-
 none_not : (n : ℕ) → None ≡ Some n → ⊥
 none_not n e = cc
 
@@ -135,27 +130,21 @@ module _ {D : Type 0} (told : Type 0) (seen : D → List ℕ) (may_leave : D →
 
   opening_told : (d : Durable) (bodies : List (List ℕ)) (records : List model.Record) (rs : List Record)
       → IsReadFrom d nothing_yet bodies records
-      → ((s : Server) → s.version ≡ d.version → s.epoch ≡ d.epoch → records_of rs ≡ opening_records s) → all_sound records ≡ true
+      → ((s : Server) → s.version ≡ d.version → s.epoch ≡ d.epoch → records_of rs ≡ opening_records s)
       → records_of rs ≡ recovery_records records
-  opening_told d bodies records rs was opening ok = opening (fold records) (was.shown ok).version_is (was.shown ok).epoch_is
+  opening_told d bodies records rs was opening = opening (fold records) was.shown.version_is was.shown.epoch_is
 
   read_all : (first j : JournalState D) (d : Durable) (bodies : List (List ℕ)) (records : List model.Record) (rs : List Record)
       (body : List ℕ) → IsReadFrom d nothing_yet bodies records → HandedOut told seen may_leave first bodies → Stays first j
       → ((s : Server) → s.version ≡ d.version → s.epoch ≡ d.epoch → records_of rs ≡ opening_records s) → IsBody body rs
-      → told → (all : List (List ℕ)) → Settled seen may_leave first all → AreSound all
-      → IsRead seen may_leave j all bodies records body
-  read_all first j d bodies records rs body was handed stays opening is t all settled sound =
+      → told → (all : List (List ℕ)) → Settled seen may_leave first all → IsRead seen may_leave j all bodies records body
+  read_all first j d bodies records rs body was handed stays opening is t all settled =
       let same : bodies ≡ all = handed t all settled in
-      let spelled : BodiesSpell all records = subst (λ (bs : List (List ℕ)). BodiesSpell bs records) same
-      (was.spelled (subst (λ (bs : List (List ℕ)). AreSound bs) (sym same) sound)) in
-      let whole : take (length all) all ≡ all = take_all (length all) all (omega arith) in
-      let ok : all_sound records ≡ true = sound (length all) records
-      (subst (λ (bs : List (List ℕ)). BodiesSpell bs records) (sym whole) spelled) in
-      let e : records_of rs ≡ recovery_records records = opening_told d bodies records rs was opening ok in
+      let spelled : BodiesSpell all records = subst (λ (bs : List (List ℕ)). BodiesSpell bs records) same was.spelled in
+      let e : records_of rs ≡ recovery_records records = opening_told d bodies records rs was opening in
       record {
         same = same;
         spelled = spelled;
-        sound = ok;
         settled = stays t all settled;
         more = subst (λ (xs : List model.Record). BodiesSpell (all ++ body ∷ []) (records ++ xs)) e
             (spell_more nothing_yet all records body rs spelled
@@ -169,18 +158,19 @@ module _ {D : Type 0} (told : Type 0) (seen : D → List ℕ) (may_leave : D →
       let rs = o.0 in
       let e = folds nothing_yet refl new in
       let was : IsReadFrom d1 nothing_yet e.0 e.1 = e.2 in
-      let told_so : all_sound e.1 ≡ true → records_of rs ≡ recovery_records e.1 = opening_told d1 e.0 e.1 rs was o.2 in
+      let told_so : records_of rs ≡ recovery_records e.1 = opening_told d1 e.0 e.1 rs was o.2 in
       record {
         bodies = e.0;
         records = e.1;
         goes_on = read.0;
         no_fault = read.1;
         gate_is = e.3;
-        shown = λ ok. subst (λ (x : Server). DurableShown d2 x)
-            (ap (λ (xs : List model.Record). fold_from (fold e.1) xs) (told_so ok) ∙ behind e.1)
-            (o.3 (fold e.1) (was.fits ok) (was.shown ok)
-            (subst (λ (xs : List model.Record). all_sound xs ≡ true) (sym (told_so ok)) (sound_recovery (fold e.1))));
-        adds = λ ok. opening_adds body (fold e.1) (added body (recovery_records e.1) (rs, told_so ok, o.1));
+        sound = was.sound;
+        shown = subst (λ (x : Server). DurableShown d2 x)
+            (ap (λ (xs : List model.Record). fold_from (fold e.1) xs) told_so ∙ behind e.1)
+            (o.3 (fold e.1) was.fits was.shown
+            (subst (λ (xs : List model.Record). all_sound xs ≡ true) (sym told_so) (sound_recovery (fold e.1))));
+        adds = opening_adds body (fold e.1) (added body (recovery_records e.1) (rs, told_so, o.1));
         read = read_all first j d1 e.0 e.1 rs body was e.4 stays o.2 o.1;
       }
 
@@ -195,29 +185,30 @@ module _ {D : Type 0} (told : Type 0) (seen : D → List ℕ) (may_leave : D →
       → (number ≡ length all) × Settled seen may_leave new (all ++ m ∷ []))
       → Appends faults j m true (Ok number) new → used ≡ capped (gate + 6 + length body)
       → ((s : Server) → DurableShown d s → IsBegun s → TablesShown t (configured s (configuration_of z) used))
-      → LogonsShown t.sessions no_logons.keys no_logons.pending → Restarts told seen may_leave z disk new t
+      → LogonsShown t.sessions no_logons.keys no_logons.pending → Restarts told seen may_leave faults z disk new t
   restarted disk first j new d gate used number body m z t i f same written a u tables logons =
       let long : length m ≡ length body = ap length same in
       let bound : j.used + 5 + length m ≤ 1073741824 = a.0.1 in
       let adds : new.used ≡ j.used + 5 + length m = a.3 in
       let small : 5 + length body ≤ used = omega (arith, long, bound, u) in
-      let counts : all_sound f.records ≡ true → used - (5 + length body) + entry_bytes (recovery_records f.records) ≡ used =
-      λ ok. let more : entry_bytes (recovery_records f.records) ≡ 5 + length body = f.adds ok in omega (arith, small, more) in (
+      let more : entry_bytes (recovery_records f.records) ≡ 5 + length body = f.adds in
+      let counts : used - (5 + length body) + entry_bytes (recovery_records f.records) ≡ used = omega (arith, small, more) in (
         a.4,
+        a.5 ∙ (f.no_fault ∙ i.0.0),
         used - (5 + length body),
         f.records,
-        λ ok. record {
-          shown = subst (λ (n : ℕ). TablesShown t (configured (fold (all_of f.records)) (configuration_of z) n)) (sym (counts ok))
-              (tables (fold (all_of f.records)) (f.shown ok) (all_begun f.records));
+        record {
+          shown = subst (λ (n : ℕ). TablesShown t (configured (fold (all_of f.records)) (configuration_of z) n)) (sym counts)
+              (tables (fold (all_of f.records)) f.shown (all_begun f.records));
           logons = logons;
-          fits = all_fit (configuration_of z) (used - (5 + length body)) f.records (small_room z) ok;
+          fits = all_fit (configuration_of z) (used - (5 + length body)) f.records (small_room z) f.sound;
           version = all_version f.records;
-          sound = sound_all f.records ok;
-          for_state = all_recover (configuration_of z) (used - (5 + length body)) f.records (small_room z) ok;
+          sound = sound_all f.records f.sound;
+          for_state = all_recover (configuration_of z) (used - (5 + length body)) f.records (small_room z) f.sound;
         },
-        λ y sound.
+        λ y.
             let s = i.0.3 y in
-            let q = f.read y s.0 (i.1 y s.0 s.1) (sound s.0 s.1) in
+            let q = f.read y s.0 (i.1 y s.0 s.1) in
             let sizes : length (front f.bodies) ≡ length (front s.0) = ap (λ (bs : List (List ℕ)). length (front bs)) q.same in
             let uses : j.used ≡ length (front s.0) + 1 = q.settled.used in
             let at : gate ≡ capped (length (front f.bodies)) = f.gate_is in
@@ -227,11 +218,11 @@ module _ {D : Type 0} (told : Type 0) (seen : D → List ℕ) (may_leave : D →
               body = body;
               stood = s.1;
               spelled = q.spelled;
-              sound = q.sound;
+              sound = f.sound;
               bytes_are = omega (arith, long, bound, u, sizes, uses, at);
               settled = subst (λ (v : List ℕ). Settled seen may_leave new (s.0 ++ v ∷ [])) same (written y s.0 q.settled).1;
               more = q.more;
-              used = counts q.sound ∙ all;
+              used = counts ∙ all;
             },
       )
 
@@ -240,58 +231,67 @@ module _ {D : Type 0} (told : Type 0) (seen : D → List ℕ) (may_leave : D →
   pub unread : (disk : D) (x : JournalError) → journals.Recovers told seen faults disk (Err x) → RestartRefused told seen faults disk x
   unread disk Memory h = tt
   unread disk (DiskFault n) h = h
-  unread disk (NotAJournal at) h = λ t sound. inl (h t)
+  unread disk (NotAJournal at) h = λ t. inl (h t)
   unread disk (Full would limit) h = absurd h
   unread disk (Stopped n) h = h
 
   no_body : (disk : D) (first : JournalState D) (d0 : Durable) (at : ℕ) → IsOf told seen may_leave faults disk first
       → DurableShown d0 nothing_yet
       → (told → (s : Server) → IsNothing s → DurableShown d0 s → (bodies : List (List ℕ)) → Settled seen may_leave first bodies
-      → FoldRefused bodies (NotAJournal at)) → told → IsSoundDisk (seen disk) → IsNoBody (seen disk) at
-  no_body disk first d0 at i new refused t sound =
+      → FoldRefused bodies (NotAJournal at)) → told → IsNoBody (seen disk) at
+  no_body disk first d0 at i new refused t =
       let b = i.0.3 t in
-      let f = refused t nothing_yet refl new b.0 (i.1 t b.0 b.1) (sound b.0 b.1) in
-      (b.0, f.0, f.1, f.2, f.3, b.1, f.4, f.5, f.6, f.7)
+      let f = refused t nothing_yet refl new b.0 (i.1 t b.0 b.1) in
+      (b.0, f.0, f.1, f.2, b.1, f.3, f.4, f.5, f.6, f.7)
+
+  abbrev RefusedAs : D → JournalState D → JournalError → Type 0
+  RefusedAs disk j x = RestartRefused told seen faults disk x × FaultIsTold faults j x
 
   pub unfolded : (disk : D) (first j : JournalState D) (d0 : Durable) (x : JournalError)
       → IsOf told seen may_leave faults disk first → DurableShown d0 nothing_yet → ReadRefused faults first.disk x j
       → (told → (s : Server) → IsNothing s → DurableShown d0 s → (bodies : List (List ℕ)) → Settled seen may_leave first bodies
-      → FoldRefused bodies x) → RestartRefused told seen faults disk x
-  unfolded disk first j d0 Memory i new cause refused = tt
-  unfolded disk first j d0 (DiskFault n) i new cause refused = record {
-    dropped = j.disk;
-    count = cause.1;
-    rose = subst (λ (m : ℕ). Rose m n) i.0.0 cause.0;
-  }
-  unfolded disk first j d0 (NotAJournal at) i new cause refused = λ t sound. inr (no_body disk first d0 at i new refused t sound)
+      → FoldRefused bodies x) → RefusedAs disk j x
+  unfolded disk first j d0 Memory i new cause refused = (tt, tt)
+  unfolded disk first j d0 (DiskFault n) i new cause refused = (
+    record { dropped = j.disk; count = cause.1; rose = subst (λ (m : ℕ). Rose m n) i.0.0 cause.0 },
+    cause.1,
+  )
+  unfolded disk first j d0 (NotAJournal at) i new cause refused = (λ t. inr (no_body disk first d0 at i new refused t), tt)
   unfolded disk first j d0 (Full would limit) i new cause refused = absurd cause
-  unfolded disk first j d0 (Stopped n) i new cause refused = cause
+  unfolded disk first j d0 (Stopped n) i new cause refused = absurd cause
 
   full : (disk : D) (first j new : JournalState D) (d : Durable) (gate : ℕ) (body m : List ℕ) (would limit : ℕ)
       → IsOf told seen may_leave faults disk first → Found told seen may_leave faults first j d gate body → m ≡ body
-      → Appends faults j m true (Err (Full would limit)) new → told → IsSoundDisk (seen disk) → IsFull (seen disk) would limit
-  full disk first j new d gate body m would limit i f same a t sound =
+      → Appends faults j m true (Err (Full would limit)) new → told → IsFull (seen disk) would limit
+  full disk first j new d gate body m would limit i f same a t =
       let s = i.0.3 t in
-      let q = f.read t s.0 (i.1 t s.0 s.1) (sound s.0 s.1) in
+      let q = f.read t s.0 (i.1 t s.0 s.1) in
       let long : length m ≡ length body = ap length same in
       let uses : j.used ≡ length (front s.0) + 1 = q.settled.used in
-      let more : entry_bytes (recovery_records f.records) ≡ 5 + length body = f.adds q.sound in
+      let more : entry_bytes (recovery_records f.records) ≡ 5 + length body = f.adds in
       let size : j.used + 5 + length m ≡ length (front s.0) + 1 + entry_bytes (recovery_records f.records) =
       omega (arith, long, uses, more) in
       (s.0, f.records, s.1, q.spelled, a.1 ∙ ap (λ (n : ℕ). capped n) size, a.2, a.3)
 
   pub unwritten : (disk : D) (first j new : JournalState D) (d : Durable) (gate : ℕ) (body m : List ℕ) (x : JournalError)
       → IsOf told seen may_leave faults disk first → Found told seen may_leave faults first j d gate body → m ≡ body
-      → Appends faults j m true (Err x) new → RestartRefused told seen faults disk x
-  unwritten disk first j new d gate body m Memory i f same a = tt
-  unwritten disk first j new d gate body m (DiskFault n) i f same a = record {
-    dropped = new.disk;
-    count = a.2;
-    rose = subst (λ (k : ℕ). Rose k n) (f.no_fault ∙ i.0.0) a.1;
-  }
+      → Appends faults j m true (Err x) new → RefusedAs disk new x
+  unwritten disk first j new d gate body m Memory i f same a = (tt, tt)
+  unwritten disk first j new d gate body m (DiskFault n) i f same a = (
+    record { dropped = new.disk; count = a.2; rose = subst (λ (k : ℕ). Rose k n) (f.no_fault ∙ i.0.0) a.1 },
+    a.2,
+  )
   unwritten disk first j new d gate body m (NotAJournal at) i f same a = absurd a
-  unwritten disk first j new d gate body m (Full would limit) i f same a = full disk first j new d gate body m would limit i f same a
-  unwritten disk first j new d gate body m (Stopped n) i f same a = none_not n (sym f.goes_on ∙ a.0)
+  unwritten disk first j new d gate body m (Full would limit) i f same a =
+      (full disk first j new d gate body m would limit i f same a, tt)
+  unwritten disk first j new d gate body m (Stopped n) i f same a = absurd (none_not n (sym f.goes_on ∙ a.0))
+
+  -- where memory ran out the disk stays
+  pub not_written : (j new : JournalState D) (m : List ℕ) (x : JournalError) → Appends faults j m true (Err x) new → x ≡ Memory
+      → new.disk ≡ j.disk
+  not_written j new m x a is =
+      let k : Appends faults j m true (Err Memory) new = subst (λ (y : JournalError). Appends faults j m true (Err y) new) is a in
+      ap (λ (s : JournalState D). s.disk) k.2.0
 
 -- ---- a crash at any moment
 
@@ -322,13 +322,26 @@ module _ {D : Type 0} (told : Type 0) (seen : D → List ℕ) (may_leave : D →
       → Found told seen may_leave faults first j d gate body → Quiet told seen may_leave moment left_since first.disk j.disk
       → (told → (all : List (List ℕ)) → Settled seen may_leave j all
       → LeavesOnly moment left_since j.disk new.disk (BeforeOrAfter all body))
-      → told → (all : List (List ℕ)) → Settled seen may_leave first all → AreSound all
+      → told → (all : List (List ℕ)) → Settled seen may_leave first all
       → LeavesOnly moment left_since first.disk new.disk (RestartLeaves (may_leave first.disk) all)
-  leaves_read first j new d gate body f quiet appended t all settled sound =
-      let q = f.read t all settled sound in
+  leaves_read first j new d gate body f quiet appended t all settled =
+      let q = f.read t all settled in
       in_a_row first.disk j.disk new.disk (may_leave first.disk) (BeforeOrAfter all body) (RestartLeaves (may_leave first.disk) all)
       quiet.any_moment (appended t all q.settled) (λ c was. inl was)
       (λ c here. of_append first.disk all f.bodies j f.records body c q here)
+
+  -- where it was only read
+  pub quiet_leaves : (old new : D) (all : List (List ℕ)) → Quiet told seen may_leave moment left_since old new
+      → LeavesOnly moment left_since old new (RestartLeaves (may_leave old) all)
+  quiet_leaves old new all quiet = record {
+    later = quiet.any_moment.later;
+    each = λ c left. inl (quiet.any_moment.each c left);
+    before = λ t c le left. ⊎_elim (λ was. inl was) (λ here. inr (inl here)) (quiet.any_moment.before t c le left);
+  }
+
+  pub quiet_still : (old mid new : D) → Quiet told seen may_leave moment left_since old mid → new ≡ mid
+      → Quiet told seen may_leave moment left_since old new
+  quiet_still old mid new quiet is = subst (λ (d : D). Quiet told seen may_leave moment left_since old d) (sym is) quiet
 
   of_recover : (disk : D) (all : List (List ℕ)) (c : List ℕ) → may_leave disk c ⊎ StandsFor c all → RestartLeaves (may_leave disk) all c
   of_recover disk all c (inl was) = inl was
@@ -343,11 +356,11 @@ module _ {D : Type 0} (told : Type 0) (seen : D → List ℕ) (may_leave : D →
       → (told → (all : List (List ℕ)) → StandsFor (seen disk) all → Settled seen may_leave first all)
       → (told → (all : List (List ℕ)) → StandsFor (seen disk) all
       → LeavesOnly moment left_since disk first.disk (λ c. may_leave disk c ⊎ StandsFor c all))
-      → (told → (all : List (List ℕ)) → Settled seen may_leave first all → AreSound all
+      → (told → (all : List (List ℕ)) → Settled seen may_leave first all
       → LeavesOnly moment left_since first.disk new.disk (RestartLeaves (may_leave first.disk) all))
-      → told → (all : List (List ℕ)) → StandsFor (seen disk) all → AreSound all
+      → told → (all : List (List ℕ)) → StandsFor (seen disk) all
       → LeavesOnly moment left_since disk new.disk (RestartLeaves (may_leave disk) all)
-  at_any_moment disk first new opens recovered read t all stands sound =
+  at_any_moment disk first new opens recovered read t all stands =
       in_a_row disk first.disk new.disk (λ c. may_leave disk c ⊎ StandsFor c all) (RestartLeaves (may_leave first.disk) all)
-      (RestartLeaves (may_leave disk) all) (recovered t all stands) (read t all (opens t all stands) sound)
+      (RestartLeaves (may_leave disk) all) (recovered t all stands) (read t all (opens t all stands))
       (of_recover disk all) (λ c here. of_read disk first all c (opens t all stands) here)

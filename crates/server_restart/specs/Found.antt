@@ -8,7 +8,7 @@ use Rattle.persist_journal.specs.Journal.{JournalState, Recovers, Settled, cappe
 use Rattle.server_fold.specs.Durable.{DurableShown}
 use Rattle.server_fold.specs.declared.durable.Durable.{Durable}
 use Rattle.server_law.specs.Fits.{all_sound}
-use Rattle.server_recovery.specs.Reading.{AreSound, BodiesSpell}
+use Rattle.server_recovery.specs.Reading.{BodiesSpell}
 
 -- the records of the disk, and behind them what the recovery adds
 abbrev pub all_of : List model.Record → List model.Record
@@ -24,7 +24,6 @@ pub record IsRead {D : Type 0} (seen : D → List ℕ) (may_leave : D → List �
     (all bodies : List (List ℕ)) (records : List model.Record) (body : List ℕ) : Type 0 where
   pub same : bodies ≡ all
   pub spelled : BodiesSpell all records
-  pub sound : all_sound records ≡ true
   pub settled : Settled seen may_leave journal all
   pub more : BodiesSpell (all ++ body ∷ []) (all_of records)
 
@@ -37,6 +36,7 @@ pub record Found {D : Type 0} (told : Type 0) (seen : D → List ℕ) (may_leave
   pub goes_on : journal.stopped ≡ None
   pub no_fault : faults journal.disk ≡ faults first.disk
   pub gate_is : gate ≡ capped (length (front bodies))
-  pub shown : all_sound records ≡ true → DurableShown d (fold (all_of records))
-  pub adds : all_sound records ≡ true → entry_bytes (recovery_records records) ≡ 5 + length body
-  pub read : told → (all : List (List ℕ)) → Settled seen may_leave first all → AreSound all → IsRead seen may_leave journal all bodies records body
+  pub sound : all_sound records ≡ true
+  pub shown : DurableShown d (fold (all_of records))
+  pub adds : entry_bytes (recovery_records records) ≡ 5 + length body
+  pub read : told → (all : List (List ℕ)) → Settled seen may_leave first all → IsRead seen may_leave journal all bodies records body

@@ -6,7 +6,6 @@ use Rattle.exchange_defs.specs.Fold.{Configuration, fold, full_room, recovered, 
 use Rattle.exchange_defs.specs.Records.{entry_bytes}
 use Rattle.exchange_defs.specs.State as model
 use Rattle.journal_defs.specs.Grammar.{StandsFor, BreaksAt, front}
-use Rattle.journal_records.specs.Grammar.{BreaksRecords}
 use Rattle.persist_journal.specs.Journal.{JournalState, FailedAt, Settled, capped}
 use Rattle.persist_journal.specs.declared.journal.JournalError.{JournalError}
 use Rattle.persist_journal.specs.declared.journal.JournalError.TheVariants as causes
@@ -16,7 +15,7 @@ use Rattle.server_checks.specs.Shown.{TablesShown}
 use Rattle.server_checks.specs.declared.tables.Config.{Config}
 use Rattle.server_checks.specs.declared.tables.Tables.{Tables}
 use Rattle.server_law.specs.Fits.{Fits, all_sound}
-use Rattle.server_recovery.specs.Reading.{AreSound, BodiesSpell}
+use Rattle.server_recovery.specs.Reading.{BodiesSpell, NoServerWrites}
 use Rattle.session_bind.specs.Logons.{LogonsShown}
 use Rattle.world_defs.specs.Ends.{no_logons}
 
@@ -50,10 +49,6 @@ pub record IsRecovered (z : Config) (t : Tables) (bytes : ℕ) (records : List m
 
 -- ---- the disk
 
--- bytes whose bodies make no open that deletes the root on close, as far as they are records
-abbrev pub IsSoundDisk : List ℕ → Type 0
-IsSoundDisk bytes = (bodies : List (List ℕ)) → StandsFor bytes bodies → AreSound bodies
-
 -- the disk stood for these records, and the journal stands for these and what the recovery adds, in one body
 pub record StandsBehind {D : Type 0} (seen : D → List ℕ) (may_leave : D → List ℕ → Type 0) (disk : D) (journal : JournalState D)
     (bytes : ℕ) (records : List model.Record) : Type 0 where
@@ -69,18 +64,19 @@ pub record StandsBehind {D : Type 0} (seen : D → List ℕ) (may_leave : D → 
 
 -- ---- the answers
 
--- No call of the disk has failed, so the records that the recovery adds stand on it. Where the disk tells its bytes, the records are
--- all of its records.
-abbrev pub Restarts : {D : Type 0} → Type 0 → (D → List ℕ) → (D → List ℕ → Type 0) → Config → D → JournalState D → Tables → Type 0
-Restarts told seen may_leave z disk journal t = (journal.stopped ≡ None) × (bytes : ℕ) × (records : List model.Record)
-    × (all_sound records ≡ true → IsRecovered z t bytes records)
-    × (told → IsSoundDisk (seen disk) → StandsBehind seen may_leave disk journal bytes records)
+-- No call of the disk has failed: its count of faults is what it was. So the records that the recovery adds stand on it. Where the
+-- disk tells its bytes, the records are all of its records.
+abbrev pub Restarts : {D : Type 0} → Type 0 → (D → List ℕ) → (D → List ℕ → Type 0) → (D → ℕ) → Config → D → JournalState D → Tables
+    → Type 0
+Restarts told seen may_leave faults z disk journal t = (journal.stopped ≡ None) × (faults journal.disk ≡ faults disk)
+    × (bytes : ℕ) × (records : List model.Record) × IsRecovered z t bytes records
+    × (told → StandsBehind seen may_leave disk journal bytes records)
 
--- the body that begins at this gate is the first that is no list of records
+-- the body that begins at this gate is the first that no server writes
 abbrev pub IsNoBody : List ℕ → ℕ → Type 0
-IsNoBody bytes gate = (bodies : List (List ℕ)) × (k : ℕ) × (body : List ℕ) × (records : List model.Record) × (place : ℕ)
+IsNoBody bytes gate = (bodies : List (List ℕ)) × (k : ℕ) × (body : List ℕ) × (records : List model.Record)
     × StandsFor bytes bodies × (slice_get bodies k ≡ Some body) × (gate ≡ capped (length (front (take k bodies))))
-    × BodiesSpell (take k bodies) records × BreaksRecords (fold records).version body place
+    × BodiesSpell (take k bodies) records × (all_sound records ≡ true) × NoServerWrites (fold records).version body
 
 -- the journal would pass its upper limit by the records that a recovery adds
 abbrev pub IsFull : List ℕ → ℕ → ℕ → Type 0
@@ -90,14 +86,27 @@ IsFull bytes would limit = (bodies : List (List ℕ)) × (records : List model.R
 abbrev pub RestartRefused : {D : Type 0} → Type 0 → (D → List ℕ) → (D → ℕ) → D → JournalError → Type 0
 RestartRefused told seen faults disk causes.Memory = ⊤
 RestartRefused told seen faults disk (causes.DiskFault n) = FailedAt faults disk n
-RestartRefused told seen faults disk (causes.NotAJournal at) = told → IsSoundDisk (seen disk) → BreaksAt (seen disk) at ⊎ IsNoBody (seen disk) at
-RestartRefused told seen faults disk (causes.Full would limit) = told → IsSoundDisk (seen disk) → IsFull (seen disk) would limit
+RestartRefused told seen faults disk (causes.NotAJournal at) = told → BreaksAt (seen disk) at ⊎ IsNoBody (seen disk) at
+RestartRefused told seen faults disk (causes.Full would limit) = told → IsFull (seen disk) would limit
 RestartRefused told seen faults disk (causes.Stopped n) = ⊥
 
 abbrev pub RestartAnswers : {D : Type 0} → Type 0 → (D → List ℕ) → (D → List ℕ → Type 0) → (D → ℕ) → Config → D
     → Result (JournalState D × Tables) JournalError → Type 0
-RestartAnswers told seen may_leave faults z disk (Ok r) = Restarts told seen may_leave z disk r.0 r.1
+RestartAnswers told seen may_leave faults z disk (Ok r) = Restarts told seen may_leave faults z disk r.0 r.1
 RestartAnswers told seen may_leave faults z disk (Err x) = RestartRefused told seen faults disk x
+
+-- of a journal that is at hand: the count of faults that is told is that of its disk
+abbrev pub FaultIsTold : {D : Type 0} → (D → ℕ) → JournalState D → JournalError → Type 0
+FaultIsTold faults journal (causes.DiskFault n) = n ≡ faults journal.disk
+FaultIsTold faults journal causes.Memory = ⊤
+FaultIsTold faults journal (causes.NotAJournal at) = ⊤
+FaultIsTold faults journal (causes.Full would limit) = ⊤
+FaultIsTold faults journal (causes.Stopped n) = ⊤
+
+abbrev pub BeginAnswers : {D : Type 0} → Type 0 → (D → List ℕ) → (D → List ℕ → Type 0) → (D → ℕ) → Config → D → JournalState D
+    → Result Tables JournalError → Type 0
+BeginAnswers told seen may_leave faults z disk journal (Ok t) = Restarts told seen may_leave faults z disk journal t
+BeginAnswers told seen may_leave faults z disk journal (Err x) = RestartRefused told seen faults disk x × FaultIsTold faults journal x
 
 -- ---- a crash at any moment
 

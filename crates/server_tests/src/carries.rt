@@ -1,26 +1,8 @@
-use crate::tables::tables;
+use crate::tables::{parts, tables};
 use command_values::{Command, Message};
-use open_table::OpenParts;
 use server_carrying::carry_out;
 use server_readied::Ready;
 use std::test::*;
-
-// An open of the root in session 7; with a CreateGuid one that outlives it.
-fn parts(guid: Option<u128>) -> OpenParts {
-    OpenParts {
-        file: 0,
-        access: 0x3,
-        share: 0x7,
-        options: 0,
-        action: 1,
-        persistent: guid.is_some(),
-        client: 1,
-        guid,
-        session: Some(7),
-        sequence: 0,
-        timeout: 60_000,
-    }
-}
 
 // A session that ends by its own request takes its plain open along.
 #[test]

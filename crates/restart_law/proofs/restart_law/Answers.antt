@@ -1,11 +1,11 @@
-use Rattle.restart_law.proofs.Spelled.{same_records, sound_disk}
+use Rattle.restart_law.proofs.Spelled.{never_refused, same_records}
 use Rattle.restart_law.proofs.Stands.{files_again, stands_again}
 use Rattle.restart_law.proofs.restart_law.Goals as goal
 
 pub returns : goal.returns
 returns c = record {
-  sound = sound_disk c.one_meaning.ensures;
-  same = same_records c.one_meaning.ensures;
+  taken = never_refused c.records_law.ensures.one c.records_law.ensures.whole c.one_meaning.ensures c.broken_means_nothing.ensures;
+  same = same_records c.records_law.ensures.one c.one_meaning.ensures;
   stands = stands_again;
   entries = files_again;
 }

@@ -1,14 +1,9 @@
-use Rattle.server_recovery.proofs.SoFar.{refused_of, caused_of, applied_to, failed_on}
+use Rattle.server_recovery.proofs.Sound.{folded_by, refused_in}
 use Rattle.server_recovery.proofs.reading.fold_body.Goals as goal
 
-pub returns-in-Ok-clause-applied : goal.returns-in-Ok-clause-applied
-returns-in-Ok-clause-applied c = λ s i h. applied_to c.apply_records.new.state s c.as_slice.result.now c.args.body.now c.as_slice.ensures
-    (c.in-Ok.ensures s i h)
+pub returns-in-Ok-with_records-clause-applied : goal.returns-in-Ok-with_records-clause-applied
+returns-in-Ok-with_records-clause-applied c = λ s i h. folded_by c.args.state.now c.with_records.new.self s c.args.body.now
+    c.in-Ok.records c.as_slice.result.now h c.in-Ok.ensures.read c.as_slice.ensures (c.in-Ok-with_records.ensures s i h)
 
-pub returns-in-Err-clause-applied : goal.returns-in-Err-clause-applied
-returns-in-Err-clause-applied c = λ s i h. refused_of c.apply_records.new.state s c.args.body.now c.args.gate c.in-Err.error
-    c.cause_of.result c.cause_of.ensures
-    (failed_on c.apply_records.new.state s c.as_slice.result.now c.args.body.now c.in-Err.error c.as_slice.ensures (c.in-Err.ensures s i h))
-
-pub returns-in-Err-clause-cause : goal.returns-in-Err-clause-cause
-returns-in-Err-clause-cause c = caused_of c.args.gate c.in-Err.error c.cause_of.result c.cause_of.ensures
+pub returns-clause-applied : goal.returns-clause-applied
+returns-clause-applied c = λ s i h. refused_in c.args.state.now s c.args.body.now c.in-Err.error h c.in-Err.ensures.read

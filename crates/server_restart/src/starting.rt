@@ -1,18 +1,18 @@
 //! What is read, what is written down, and what comes of both.
-ghost use Rattle.std.specs.Prelude.{◌≡◌, ◌+◌, ℕ, List, IfOk, None, true};
+ghost use Rattle.std.specs.Prelude.{◌≡◌, ◌+◌, ℕ, List, Err, IfOk, None, true};
 ghost use Rattle.exchange_defs.specs.Fold.{fold_from, opening_records};
 ghost use Rattle.exchange_defs.specs.State as model;
 ghost use Rattle.journal_defs.specs.Grammar.{StandsFor};
-ghost use Rattle.journal_defs.specs.Moments.{LeavesOnly};
+ghost use Rattle.journal_defs.specs.Moments.{LeavesOnly, Quiet};
 ghost use Rattle.journal_records.specs.Meaning.{records_of};
 ghost use Rattle.journal_records.specs.declared.value.Record.{Record};
 ghost use Rattle.persist_journal.specs.Journal.{BeforeOrAfter, JournalState, Settled, capped};
+ghost use Rattle.persist_journal.specs.declared.journal.JournalError.TheVariants as causes;
 ghost use Rattle.server_body.specs.Body.{IsBody};
 ghost use Rattle.server_fold.specs.Durable.{DurableShown};
 ghost use Rattle.server_law.specs.Fits.{Fits, all_sound};
-ghost use Rattle.server_recovery.specs.Reading.{AreSound};
 ghost use Rattle.server_restart.specs.Found.{Found, IsOf};
-ghost use Rattle.server_restart.specs.Restart.{RestartAnswers, RestartLeaves};
+ghost use Rattle.server_restart.specs.Restart.{BeginAnswers, RestartAnswers, RestartLeaves};
 
 use crate::tables::tables_of;
 use persist_journal::{Journal, JournalError};
@@ -25,13 +25,15 @@ use smb_io::Disk;
 use std::alloc::{AllocError, Global};
 
 // What stands behind the last gate: a length, a body and the next gate.
-const AROUND: u64 = 6;
+const BEHIND_GATE: u64 = 6;
 
 /// A server on a disk that a crash may have left: what the journal's records stand for, under the next epoch, which goes into the
 /// journal, in one of version 1 behind the record of version 2. It reads body by body, and writes where all memory is at hand.
 ///
-/// `NotAJournal` has the place where the bytes are no journal, or the gate of the first body that is no list of records; `Full` what
-/// the journal would use with the epoch, and its limit; `DiskFault` the count of faults, which rose.
+/// `NotAJournal` has the place where the bytes are no journal, or the gate of the first body that no server writes: it is no list
+/// of records, or one of them makes an open that deletes the root on close; `Full` what the journal would use with the epoch, and
+/// its limit; `DiskFault` the count of faults, which rose; `Memory` may come before and behind each read. Where it refuses, the
+/// disk is dropped: call `Journal::recover` and `begin` to keep it.
 pub fn restart<D: Disk>(
     alloc: Global,
     disk: D,
@@ -40,33 +42,40 @@ pub fn restart<D: Disk>(
 where
     D: Drop,
     ensures answers { RestartAnswers D.told D.seen D.may_leave D.faults config disk result }
-    ensures any_moment { IfOk result (λ r. D.told → (all : List (List ℕ)) → StandsFor (D.seen disk) all → AreSound all
+    ensures any_moment { IfOk result (λ r. D.told → (all : List (List ℕ)) → StandsFor (D.seen disk) all
         → LeavesOnly D.moment D.left_since disk r.0.disk (RestartLeaves (D.may_leave disk) all)) }
     ensures config { IfOk result (λ r. r.1.config ≡ config) }
 {
     match Journal::recover(alloc, disk) {
-        Ok(journal) => read(alloc, journal, config),
+        Ok(mut journal) => match begin(alloc, &mut journal, config) {
+            Ok(tables) => Ok((journal, tables)),
+            Err(error) => Err(error),
+        },
         Err(error) => Err(error),
     }
 }
 
-// The same, of a journal that was just recovered.
-fn read<D: Disk>(
+/// The tables of a server on a journal that was just recovered of a disk; the next epoch goes into the journal, in one of version
+/// 1 behind the record of version 2. Whatever it answers, a crash at any moment of it leaves what it could leave before, or bytes
+/// that stand for the bodies of the journal, or for these and the one with the epoch. Where memory runs out nothing was written.
+///
+/// Errors as those of `restart`; with `DiskFault` the journal has stopped.
+pub fn begin<D: Disk>(
     alloc: Global,
-    mut journal: Journal<D>,
+    journal: &mut Journal<D>,
     config: Config,
-) -> Result<(Journal<D>, Tables), JournalError>
-where
-    D: Drop,
-    requires { (journal.stopped ≡ None) × (journal.taken ≡ 0) }
-    ensures answers { (disk : D) → IsOf D.told D.seen D.may_leave D.faults disk journal
-        → RestartAnswers D.told D.seen D.may_leave D.faults config disk result }
-    ensures any_moment { IfOk result (λ r. D.told → (all : List (List ℕ)) → Settled D.seen D.may_leave journal all → AreSound all
-        → LeavesOnly D.moment D.left_since journal.disk r.0.disk (RestartLeaves (D.may_leave journal.disk) all)) }
-    ensures config { IfOk result (λ r. r.1.config ≡ config) }
+) -> Result<Tables, JournalError>
+    requires { (journal.old.stopped ≡ None) × (journal.old.taken ≡ 0) }
+    ensures answers { (disk : D) → IsOf D.told D.seen D.may_leave D.faults disk journal.old
+        → BeginAnswers D.told D.seen D.may_leave D.faults config disk journal.new result }
+    ensures any_moment { D.told → (all : List (List ℕ)) → Settled D.seen D.may_leave journal.old all
+        → LeavesOnly D.moment D.left_since journal.old.disk journal.new.disk (RestartLeaves (D.may_leave journal.old.disk) all) }
+    ensures memory { result ≡ Err causes.Memory
+        → Quiet D.told D.seen D.may_leave D.moment D.left_since journal.old.disk journal.new.disk }
+    ensures config { IfOk result (λ t. t.config ≡ config) }
 {
     let mut state = Durable::new(alloc);
-    match fold_bodies(&mut journal, &mut state) {
+    match fold_bodies(journal, &mut state) {
         Ok(gate) => match opened(alloc, &mut state) {
             Ok(body) => write(alloc, journal, state, gate, &body, config),
             Err(_) => Err(JournalError::Memory),
@@ -91,25 +100,24 @@ fn opened(alloc: Global, state: &mut Durable) -> Result<Bytes, AllocError>
 // Puts them onto the disk. Then the tables are those of the state.
 fn write<D: Disk>(
     alloc: Global,
-    mut journal: Journal<D>,
+    journal: &mut Journal<D>,
     state: Durable,
     gate: u64,
     body: &Bytes,
     config: Config,
-) -> Result<(Journal<D>, Tables), JournalError>
-where
-    D: Drop,
+) -> Result<Tables, JournalError>
     ensures answers { (disk : D) (first : JournalState D) → IsOf D.told D.seen D.may_leave D.faults disk first
-        → Found D.told D.seen D.may_leave D.faults first journal state gate body.now
-        → RestartAnswers D.told D.seen D.may_leave D.faults config disk result }
-    ensures any_moment { IfOk result (λ r. D.told → (all : List (List ℕ)) → Settled D.seen D.may_leave journal all
-        → LeavesOnly D.moment D.left_since journal.disk r.0.disk (BeforeOrAfter all body.now)) }
-    ensures config { IfOk result (λ r. r.1.config ≡ config) }
+        → Found D.told D.seen D.may_leave D.faults first journal.old state gate body.now
+        → BeginAnswers D.told D.seen D.may_leave D.faults config disk journal.new result }
+    ensures any_moment { D.told → (all : List (List ℕ)) → Settled D.seen D.may_leave journal.old all
+        → LeavesOnly D.moment D.left_since journal.old.disk journal.new.disk (BeforeOrAfter all body.now) }
+    ensures memory { result ≡ Err causes.Memory → journal.new.disk ≡ journal.old.disk }
+    ensures config { IfOk result (λ t. t.config ≡ config) }
 {
     match journal.append(body.as_slice(), true) {
         Ok(_number) => {
             let used = used_behind(gate, body.len());
-            Ok((journal, tables_of(alloc, state, config, used)))
+            Ok(tables_of(alloc, state, config, used))
         }
         Err(error) => Err(error),
     }
@@ -118,5 +126,6 @@ where
 fn used_behind(gate: u64, length: usize) -> u64
     ensures { result ≡ capped (gate + 6 + length) }
 {
-    gate.saturating_add(AROUND).saturating_add(length as u64)
+    gate.saturating_add(BEHIND_GATE)
+        .saturating_add(length as u64)
 }

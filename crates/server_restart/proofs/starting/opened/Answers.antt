@@ -1,5 +1,5 @@
 use Rattle.server_restart.proofs.Behind.{opened_by}
-use Rattle.server_restart.proofs.begin.opened.Goals as goal
+use Rattle.server_restart.proofs.starting.opened.Goals as goal
 
 pub returns : goal.returns
 returns c = opened_by c.args.state.now c.with_records.new.self c.in_ok-body.body c.in_ok-records.records c.as_slice.result.now
