@@ -1,0 +1,3 @@
+mod Early
+mod Lesser
+mod Planned
