@@ -1,0 +1,4 @@
+pub mod Laws
+pub mod Behind
+pub mod Answered
+pub mod Lone

@@ -1,0 +1,6 @@
+//! An event's body goes onto the disk, and then the tables follow.
+#![tactic(auto)]
+
+mod committing;
+
+pub use committing::commit;

@@ -1,0 +1,4 @@
+pub mod Kept
+mod Steps
+mod Beside
+mod Rules

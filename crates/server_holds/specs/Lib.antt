@@ -1,0 +1,9 @@
+pub mod Rulings
+pub mod Shown
+pub mod Heard
+pub mod Beside
+pub mod Journal
+pub mod Holds
+pub mod Rooms
+pub mod Counted
+pub mod Alone

@@ -1,0 +1,6 @@
+//! All the memory that an event wants, for its body and for its effect, before anything is written.
+#![tactic(auto)]
+
+mod room;
+
+pub use room::make_room;
