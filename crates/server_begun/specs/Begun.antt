@@ -1,0 +1,23 @@
+-- A server that begins on the disk that an earlier one left.
+use Rattle.std.specs.Prelude.{◌≡◌, ℕ, ◌+◌, List, ◌++◌, length, None}
+use Rattle.exchange_defs.specs.Fold.{recovered, recovery_records}
+use Rattle.exchange_defs.specs.State as model
+use Rattle.journal_defs.specs.Grammar.{StandsFor, front}
+use Rattle.server_checks.specs.declared.tables.Config.{Config}
+use Rattle.server_holds.specs.Holds.{Holds}
+use Rattle.server_holds.specs.declared.state.ServerState.{ServerState}
+use Rattle.server_recovery.specs.Reading.{BodiesSpell}
+use Rattle.server_restart.specs.Restart.{configuration_of}
+use Rattle.world_defs.specs.Ends.{no_logons}
+
+-- the records of which the disk's bytes are
+abbrev pub Told : List ℕ → ℕ → List model.Record → Type 0
+Told bytes count records = (bodies : List (List ℕ)) × StandsFor bytes bodies × BodiesSpell bodies records × (count ≡ length (front bodies) + 1)
+
+-- No call of the disk has failed. It holds the state that recovery makes of these records, with the records that the recovery adds
+-- behind them; where the disk tells its bytes, they are all of its records.
+abbrev pub Begins : {D : Type 0} → Type 0 → (D → List ℕ) → (D → List ℕ → Type 0) → (D → ℕ) → Config → D → ServerState D → Type 0
+Begins told seen may_leave faults z disk c = (c.stopped ≡ None) × (faults c.journal.disk ≡ faults disk)
+    × (bytes : ℕ) × (records : List model.Record)
+    × Holds told seen may_leave c (recovered (configuration_of z) bytes records) no_logons (records ++ recovery_records records)
+    × (told → Told (seen disk) bytes records)
