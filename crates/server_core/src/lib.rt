@@ -1,0 +1,6 @@
+//! The server's step (MS-SMB2 3.3.5) over its tables, with the journal behind it.
+#![tactic(auto)]
+
+mod server;
+
+pub use server::Server;

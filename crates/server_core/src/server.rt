@@ -1,0 +1,110 @@
+//! The server's step over its tables and its journal.
+ghost use Rattle.std.specs.Prelude.{◌≡◌, ℕ, Err, IfOk, List, MatchResult, Some, ⊤};
+ghost use Rattle.exchange_defs.specs.State as model;
+ghost use Rattle.exchange_defs.specs.Step.{step};
+ghost use Rattle.file_store.specs.Stored.{AreFiles};
+ghost use Rattle.journal_defs.specs.Grammar.{StandsFor};
+ghost use Rattle.journal_defs.specs.Moments.{LeavesOnly};
+ghost use Rattle.server_asked.specs.Heard.{heard_event};
+ghost use Rattle.server_asked.specs.declared.event.ServerEvent.{ServerEvent};
+ghost use Rattle.server_begun.specs.Begun.{Begins};
+ghost use Rattle.server_holds.specs.Beside.{logons_behind};
+ghost use Rattle.server_holds.specs.Holds.{EventLeaves, EventRefused, GoesOn, Holds, StepAnswers};
+ghost use Rattle.server_holds.specs.Shown.{ServerShown};
+ghost use Rattle.server_events.specs.Setups.{progress_of};
+ghost use Rattle.server_events.specs.declared.error.EventError.TheVariants as errors;
+ghost use Rattle.server_restart.specs.Restart.{RestartLeaves, RestartRefused};
+ghost use Rattle.world_defs.specs.Ends.{Logons};
+
+use file_store::StoredFile;
+use persist_journal::JournalError;
+use server_asked::ServerEvent;
+use server_begun::recover_state;
+use server_checks::Config;
+use server_effects::Answer;
+use server_event::answer_event;
+use server_events::EventError;
+use server_holds::ServerState;
+use smb_io::Disk;
+use std::alloc::{AllocError, Global};
+
+/// An SMB 3.1.1 server's state, with the journal that outlives it.
+#[derive(Drop)]
+pub struct Server<D: Disk> {
+    state: ServerState<D>,
+}
+
+impl<D: Disk> Server<D> {
+    /// A server on the disk that an earlier one left, or on an empty one: it holds what the journal's records stand for, under the
+    /// next epoch, which goes into the journal.
+    ///
+    /// `NotAJournal` has the place where the bytes are no journal, or the gate of the first body that no server writes; `Full` what the
+    /// journal would use with the epoch, and its limit; `DiskFault` the count of faults, which rose; `Memory` may come at any read.
+    /// Where it refuses, the disk is dropped.
+    pub fn recover(alloc: Global, disk: D, config: Config) -> Result<Server<D>, JournalError>
+    where
+        D: Drop,
+        ensures holds { IfOk result (λ c. Begins D.told D.seen D.may_leave D.faults config disk c.state) }
+        ensures refused { MatchResult result (λ _. ⊤) (λ x. RestartRefused D.told D.seen D.faults disk x) }
+        ensures any_moment { IfOk result (λ c. D.told → (all : List (List ℕ)) → StandsFor (D.seen disk) all
+            → LeavesOnly D.moment D.left_since disk c.state.journal.disk (RestartLeaves (D.may_leave disk) all)) }
+        ensures config { IfOk result (λ c. c.state.tables.config ≡ config) }
+    {
+        match recover_state(alloc, disk, config) {
+            Ok(state) => Ok(Server { state }),
+            Err(error) => Err(error),
+        }
+    }
+
+    /// One event: in front of it an open that expires, behind it what the journal holds. All memory is taken first, then the
+    /// records go onto the disk as one body, and then the tables follow, so that an answer is given where its records stand.
+    ///
+    /// `Memory`: the state is as before, or is changed by the expiry of one open alone, whose records then stand in a body of
+    /// their own. `DiskFault` comes only where the disk's count of faults rose, and carries it: the tables have the event's
+    /// change, and each later event answers `Stopped` with that count and changes nothing.
+    pub fn event(&mut self, now: u64, event: ServerEvent<'_>) -> Result<Answer, EventError>
+        ensures step { (s : model.Server) (L : Logons) (records : List model.Record)
+            → Holds D.told D.seen D.may_leave self.old.state s L records
+            → let e = heard_event self.old.state.tables.config.users L s event.entry in MatchResult result
+            (λ r. StepAnswers D.told D.seen D.may_leave self.new.state s L records now event.entry r (step s now e))
+            (λ x. EventRefused D.told D.seen D.may_leave D.faults x self.old.state self.new.state s L records now e
+            (logons_behind self.old.state.tables.config.users L event.entry now (progress_of e (step s now e).reply))) }
+        ensures any_moment { D.told
+            → (s : model.Server) (L : Logons) (records : List model.Record) (bodies : List (List ℕ))
+            → Holds D.told D.seen D.may_leave self.old.state s L records → GoesOn D.seen D.may_leave self.old.state s records bodies
+            → LeavesOnly D.moment D.left_since self.old.state.journal.disk self.new.state.journal.disk
+            (EventLeaves s now (heard_event self.old.state.tables.config.users L s event.entry) bodies) }
+        ensures stopped { (count : ℕ) → self.old.state.stopped ≡ Some count
+            → (result ≡ Err (errors.Stopped count)) × (self.new ≡ self.old) }
+        ensures config { self.new.state.tables.config ≡ self.old.state.tables.config }
+    {
+        answer_event(&mut self.state, now, event)
+    }
+
+    /// The count of faults at which a call of the disk failed.
+    pub fn stopped(&self) -> Option<u64>
+        ensures { result ≡ self.now.state.stopped }
+    {
+        self.state.stopped
+    }
+
+    /// All files, no directories, in byte order of their paths, with their bytes.
+    pub fn files(&self) -> Result<Vec<StoredFile>, AllocError>
+        ensures { IfOk result (λ v. (s : model.Server) (L : Logons) → ServerShown self.now.state.tables s L
+            → AreFiles v.items s) }
+    {
+        match self.state.tables.tree.files() {
+            Ok(files) => Ok(files),
+            Err(error) => Err(error),
+        }
+    }
+
+    /// Hands back the disk.
+    pub fn stop(self) -> D
+        ensures { result ≡ self.state.journal.disk }
+    {
+        let Server { state } = self;
+        let ServerState { journal, .. } = state;
+        journal.stop()
+    }
+}

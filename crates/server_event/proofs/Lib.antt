@@ -1,0 +1,10 @@
+mod Again
+mod Beyond
+mod Carried
+mod Committed
+mod Lacking
+mod Moments
+mod Out
+mod Refused
+mod Said
+mod Without

@@ -1,0 +1,33 @@
+use Rattle.std.proofs.Common.{inl, refl}
+use Rattle.server_asked.specs.Heard.{heard_event}
+use Rattle.server_event.proofs.Refused.{none_leaves}
+use Rattle.server_event.proofs.Said.{asks_by}
+use Rattle.server_event.proofs.event.answer_heard.Goals as goal
+
+pub returns-in-Ok-clause-step : goal.returns-in-Ok-clause-step
+returns-in-Ok-clause-step g c = λ s L records h none.
+    c.answer_asked.ensures.step c.args.server.now.tables.config.users s L records c.args.event
+    (asks_by g.D.Disk.told g.D.Disk.seen g.D.Disk.may_leave c.args.server.now s L records c.args.now c.args.event c.in-Ok.asked h none
+    (c.unmade_law.ensures c.args.server.now.tables.config.users s L c.args.now) c.in-Ok.ensures.agrees
+    (c.in-Ok.ensures.event s L h.shown.tables.sessions h.shown.logons))
+
+pub returns-in-Ok-clause-any_moment : goal.returns-in-Ok-clause-any_moment
+returns-in-Ok-clause-any_moment g c = λ told s L records bodies h n.
+    c.answer_asked.ensures.any_moment told c.args.server.now.tables.config.users s L records bodies c.args.event
+    (asks_by g.D.Disk.told g.D.Disk.seen g.D.Disk.may_leave c.args.server.now s L records c.args.now c.args.event c.in-Ok.asked h n.0
+    (c.unmade_law.ensures c.args.server.now.tables.config.users s L c.args.now) c.in-Ok.ensures.agrees
+    (c.in-Ok.ensures.event s L h.shown.tables.sessions h.shown.logons)) n
+
+pub returns-in-Err-clause-step : goal.returns-in-Err-clause-step
+returns-in-Err-clause-step g c = λ s L records h none. (none, inl h)
+
+pub returns-in-Err-clause-any_moment : goal.returns-in-Err-clause-any_moment
+returns-in-Err-clause-any_moment g c = λ told s L records bodies h n.
+    none_leaves g.D.Disk.seen g.D.Disk.may_leave g.D.Disk.moment g.D.Disk.left_since g.met.D.Disk.only_now c.args.server.now.journal
+    c.args.server.now.journal s records c.args.now (heard_event c.args.server.now.tables.config.users L s c.args.event) bodies refl n.1
+
+pub returns-in-Ok-clause-config : goal.returns-in-Ok-clause-config
+returns-in-Ok-clause-config g c = c.answer_asked.ensures.config
+
+pub returns-in-Err-clause-config : goal.returns-in-Err-clause-config
+returns-in-Err-clause-config g c = refl

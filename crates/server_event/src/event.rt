@@ -1,0 +1,125 @@
+//! An event, from the message to what stands on the disk.
+ghost use Rattle.std.specs.Prelude.{◌≡◌, ℕ, Err, List, None, Some};
+ghost use Rattle.exchange_defs.specs.State as model;
+ghost use Rattle.journal_defs.specs.Moments.{LeavesOnly};
+ghost use Rattle.server_asked.specs.Heard.{heard_event};
+ghost use Rattle.server_events.specs.declared.error.EventError.TheVariants as errors;
+ghost use Rattle.server_asked.specs.declared.event.ServerEvent.{ServerEvent};
+ghost use Rattle.server_event.specs.Behind.{Asks, MayExpire};
+ghost use Rattle.server_holds.specs.Holds.{EventAnswers, EventLeaves, GoesOn, Holds};
+ghost use Rattle.token_defs.specs.Acceptor.{User};
+ghost use Rattle.world_defs.specs.Ends.{Logons};
+
+use crate::alone::event_alone;
+use crate::expiring::{Behind, event_behind_expiry};
+use expiring_law::expiring_law;
+use server_asked::{Asked, ServerEvent, hear};
+use server_effects::Answer;
+use server_events::{EventError, unmade_law};
+use server_expiry::due;
+use server_holds::ServerState;
+use smb_io::Disk;
+
+/// One event: in front of it an open that expires, behind it what the journal holds. All memory is taken first, then the
+/// records go onto the disk as one body, and then the tables follow, so that an answer is given where its records stand.
+///
+/// # Errors
+///
+/// `Memory`: the state is as before, or is changed by the expiry of one open alone, whose records then stand in a body of
+/// their own. `DiskFault` comes only where the disk's count of faults rose, and carries it: the tables have the event's
+/// change, and each later event answers `Stopped` with that count and changes nothing.
+pub fn answer_event<D: Disk>(
+    server: &mut ServerState<D>,
+    now: u64,
+    event: ServerEvent<'_>,
+) -> Result<Answer, EventError>
+    ensures step { (s : model.Server) (L : Logons) (records : List model.Record)
+        → Holds D.told D.seen D.may_leave server.old s L records
+        → EventAnswers D.told D.seen D.may_leave D.faults server.old server.new server.old.tables.config.users s L records now event.entry result }
+    ensures any_moment { D.told
+        → (s : model.Server) (L : Logons) (records : List model.Record) (bodies : List (List ℕ))
+        → Holds D.told D.seen D.may_leave server.old s L records → GoesOn D.seen D.may_leave server.old s records bodies
+        → LeavesOnly D.moment D.left_since server.old.journal.disk server.new.journal.disk
+        (EventLeaves s now (heard_event server.old.tables.config.users L s event.entry) bodies) }
+    ensures stopped { (count : ℕ) → server.old.stopped ≡ Some count
+        → (result ≡ Err (errors.Stopped count)) × (server.new ≡ server.old) }
+    ensures config { server.new.tables.config ≡ server.old.tables.config }
+{
+    match server.stopped {
+        Some(count) => Err(EventError::Stopped(count)),
+        None => answer_heard(server, now, event),
+    }
+}
+
+// An event of a server that goes on.
+fn answer_heard<D: Disk>(
+    server: &mut ServerState<D>,
+    now: u64,
+    event: ServerEvent<'_>,
+) -> Result<Answer, EventError>
+    ensures step { (s : model.Server) (L : Logons) (records : List model.Record)
+        → Holds D.told D.seen D.may_leave server.old s L records → server.old.stopped ≡ None
+        → EventAnswers D.told D.seen D.may_leave D.faults server.old server.new server.old.tables.config.users s L records now event.entry result }
+    ensures any_moment { D.told
+        → (s : model.Server) (L : Logons) (records : List model.Record) (bodies : List (List ℕ))
+        → Holds D.told D.seen D.may_leave server.old s L records → GoesOn D.seen D.may_leave server.old s records bodies
+        → LeavesOnly D.moment D.left_since server.old.journal.disk server.new.journal.disk
+        (EventLeaves s now (heard_event server.old.tables.config.users L s event.entry) bodies) }
+    ensures config { server.new.tables.config ≡ server.old.tables.config }
+{
+    unmade_law();
+    let t = &server.tables;
+    match hear(t.alloc, &t.config.users, &t.sessions, event) {
+        Ok(asked) => answer_asked(server, &asked, now),
+        Err(_) => Err(EventError::Memory),
+    }
+}
+
+// An event as the server took it in: in front of it an open may expire.
+fn answer_asked<D: Disk>(
+    server: &mut ServerState<D>,
+    asked: &Asked<'_>,
+    now: u64,
+) -> Result<Answer, EventError>
+    ensures step { (users : List User) (s : model.Server) (L : Logons) (records : List model.Record) (e : ServerEvent)
+        → Asks D.told D.seen D.may_leave server.old users s L records now e asked.now
+        → EventAnswers D.told D.seen D.may_leave D.faults server.old server.new users s L records now e result }
+    ensures any_moment { D.told
+        → (users : List User) (s : model.Server) (L : Logons) (records : List model.Record) (bodies : List (List ℕ)) (e : ServerEvent)
+        → Asks D.told D.seen D.may_leave server.old users s L records now e asked.now
+        → GoesOn D.seen D.may_leave server.old s records bodies
+        → LeavesOnly D.moment D.left_since server.old.journal.disk server.new.journal.disk
+        (EventLeaves s now (heard_event users L s e) bodies) }
+    ensures config { server.new.tables.config ≡ server.old.tables.config }
+{
+    expiring_law();
+    match due(&mut server.tables.opens, now) {
+        Some(id) => expire_first(server, asked, now, id),
+        None => event_alone(server, asked, now),
+    }
+}
+
+// An open is due, and may expire in front of the event.
+fn expire_first<D: Disk>(
+    server: &mut ServerState<D>,
+    asked: &Asked<'_>,
+    now: u64,
+    id: u64,
+) -> Result<Answer, EventError>
+    ensures step { (users : List User) (s : model.Server) (L : Logons) (records : List model.Record) (e : ServerEvent)
+        → Asks D.told D.seen D.may_leave server.old users s L records now e asked.now → MayExpire s now id
+        → EventAnswers D.told D.seen D.may_leave D.faults server.old server.new users s L records now e result }
+    ensures any_moment { D.told
+        → (users : List User) (s : model.Server) (L : Logons) (records : List model.Record) (bodies : List (List ℕ)) (e : ServerEvent)
+        → Asks D.told D.seen D.may_leave server.old users s L records now e asked.now → MayExpire s now id
+        → GoesOn D.seen D.may_leave server.old s records bodies
+        → LeavesOnly D.moment D.left_since server.old.journal.disk server.new.journal.disk
+        (EventLeaves s now (heard_event users L s e) bodies) }
+    ensures config { server.new.tables.config ≡ server.old.tables.config }
+{
+    match event_behind_expiry(server, asked, now, id) {
+        Ok(Behind::Answered { answer }) => Ok(answer),
+        Ok(Behind::NoneExpires) => event_alone(server, asked, now),
+        Err(error) => Err(error),
+    }
+}

@@ -1,0 +1,155 @@
+//! An event behind the expiry of an open (MS-SMB2 3.3.6.2), in one body with it, where the records of both fit.
+ghost use Rattle.std.specs.Prelude.{◌≡◌, ℕ, IfOk, List};
+ghost use Rattle.exchange_defs.specs.State as model;
+ghost use Rattle.journal_defs.specs.Moments.{LeavesOnly};
+ghost use Rattle.open_table.specs.Shown.{HasRoom};
+ghost use Rattle.server_asked.specs.Heard.{heard_event};
+ghost use Rattle.server_asked.specs.declared.event.ServerEvent.{ServerEvent};
+ghost use Rattle.server_event.specs.Behind.{Asks, BehindEnds, HasFront, IsFront, MayExpire, StaysWhereNone, Without};
+ghost use Rattle.server_holds.specs.Holds.{EventLeaves, GoesOn};
+ghost use Rattle.server_holds.specs.Rooms.{HasRoomToWrite};
+ghost use Rattle.token_defs.specs.Acceptor.{User};
+ghost use Rattle.world_defs.specs.Ends.{Logons};
+
+use crate::back::{carry_behind, lack_behind, none_behind};
+use expiring_law::expiring_law;
+use server_asked::Asked;
+use server_behind::{front_body, ready_behind};
+use server_body::body_law;
+use server_effects::Answer;
+use server_events::EventError;
+use server_expiry::{Expired, take_expired};
+use server_holds::ServerState;
+use server_plan::fits;
+use server_writing::reserve_body;
+use smb_bytes::Bytes;
+use smb_io::Disk;
+use state_law::keeps_law;
+
+// What became of an event behind the expiry of an open.
+#[derive(Drop)]
+pub(crate) enum Behind {
+    Answered { answer: Answer },
+    // None expires: the state is as before.
+    NoneExpires,
+}
+
+// Where the records of both don't fit, none expires.
+pub(crate) fn event_behind_expiry<D: Disk>(
+    server: &mut ServerState<D>,
+    asked: &Asked<'_>,
+    now: u64,
+    id: u64,
+) -> Result<Behind, EventError>
+    ensures step { (users : List User) (s : model.Server) (L : Logons) (records : List model.Record) (e : ServerEvent)
+        → Asks D.told D.seen D.may_leave server.old users s L records now e asked.now → MayExpire s now id
+        → BehindEnds D.told D.seen D.may_leave D.faults server.old server.new users s L records now e asked.now result }
+    ensures any_moment { D.told
+        → (users : List User) (s : model.Server) (L : Logons) (records : List model.Record) (bodies : List (List ℕ)) (e : ServerEvent)
+        → Asks D.told D.seen D.may_leave server.old users s L records now e asked.now → MayExpire s now id
+        → GoesOn D.seen D.may_leave server.old s records bodies
+        → LeavesOnly D.moment D.left_since server.old.journal.disk server.new.journal.disk
+        (EventLeaves s now (heard_event users L s e) bodies) }
+    ensures none { IfOk result (λ b. StaysWhereNone server.old server.new b) }
+    ensures config { server.new.tables.config ≡ server.old.tables.config }
+{
+    keeps_law();
+    match front_body(&server.tables, asked, id) {
+        Ok(front) => behind_front(server, asked, now, id, &front),
+        Err(_) => Err(EventError::Memory),
+    }
+}
+
+// Where the body of the expiry doesn't fit by itself, none expires either.
+fn behind_front<D: Disk>(
+    server: &mut ServerState<D>,
+    asked: &Asked<'_>,
+    now: u64,
+    id: u64,
+    front: &Bytes,
+) -> Result<Behind, EventError>
+    ensures step { (users : List User) (s : model.Server) (L : Logons) (records : List model.Record) (e : ServerEvent)
+        → Asks D.told D.seen D.may_leave server.old users s L records now e asked.now → MayExpire s now id
+        → IsFront s asked.now id front.now
+        → BehindEnds D.told D.seen D.may_leave D.faults server.old server.new users s L records now e asked.now result }
+    ensures any_moment { D.told
+        → (users : List User) (s : model.Server) (L : Logons) (records : List model.Record) (bodies : List (List ℕ)) (e : ServerEvent)
+        → Asks D.told D.seen D.may_leave server.old users s L records now e asked.now → MayExpire s now id
+        → IsFront s asked.now id front.now → GoesOn D.seen D.may_leave server.old s records bodies
+        → LeavesOnly D.moment D.left_since server.old.journal.disk server.new.journal.disk
+        (EventLeaves s now (heard_event users L s e) bodies) }
+    ensures none { IfOk result (λ b. StaysWhereNone server.old server.new b) }
+    ensures config { server.new.tables.config ≡ server.old.tables.config }
+{
+    body_law();
+    expiring_law();
+    if !fits(&server.tables, front.len()) {
+        return Ok(Behind::NoneExpires);
+    }
+    match reserve_body(&mut server.journal, front.len()) {
+        Ok(()) => take_out(server, asked, now, id, front),
+        Err(error) => Err(error),
+    }
+}
+
+// The open is taken out, with its file where that goes.
+fn take_out<D: Disk>(
+    server: &mut ServerState<D>,
+    asked: &Asked<'_>,
+    now: u64,
+    id: u64,
+    front: &Bytes,
+) -> Result<Behind, EventError>
+    requires { HasRoomToWrite server.old front.now }
+    ensures step { (users : List User) (s : model.Server) (L : Logons) (records : List model.Record) (e : ServerEvent)
+        → Asks D.told D.seen D.may_leave server.old users s L records now e asked.now → MayExpire s now id
+        → HasFront s asked.now id front.now
+        → BehindEnds D.told D.seen D.may_leave D.faults server.old server.new users s L records now e asked.now result }
+    ensures any_moment { D.told
+        → (users : List User) (s : model.Server) (L : Logons) (records : List model.Record) (bodies : List (List ℕ)) (e : ServerEvent)
+        → Asks D.told D.seen D.may_leave server.old users s L records now e asked.now → MayExpire s now id
+        → HasFront s asked.now id front.now → GoesOn D.seen D.may_leave server.old s records bodies
+        → LeavesOnly D.moment D.left_since server.old.journal.disk server.new.journal.disk
+        (EventLeaves s now (heard_event users L s e) bodies) }
+    ensures none { IfOk result (λ b. StaysWhereNone server.old server.new b) }
+    ensures config { server.new.tables.config ≡ server.old.tables.config }
+{
+    keeps_law();
+    match take_expired(&mut server.tables.opens, &mut server.tables.tree, id) {
+        Ok(Some(expired)) => event_without(server, asked, now, expired, front),
+        Ok(None) => Ok(Behind::NoneExpires),
+        Err(_) => Err(EventError::Memory),
+    }
+}
+
+// The event on the tables without the open that expires.
+fn event_without<D: Disk>(
+    server: &mut ServerState<D>,
+    asked: &Asked<'_>,
+    now: u64,
+    expired: Expired,
+    front: &Bytes,
+) -> Result<Behind, EventError>
+    requires { HasRoom server.old.tables.opens × HasRoomToWrite server.old front.now }
+    ensures step { (users : List User) (s : model.Server) (L : Logons) (records : List model.Record) (e : ServerEvent) (o : ℕ)
+        (y : model.Server)
+        → Without D.told D.seen D.may_leave server.old users s L records now e asked.now o expired y → MayExpire s now o
+        → HasFront s asked.now o front.now
+        → BehindEnds D.told D.seen D.may_leave D.faults server.old server.new users s L records now e asked.now result }
+    ensures any_moment { D.told
+        → (users : List User) (s : model.Server) (L : Logons) (records : List model.Record) (bodies : List (List ℕ)) (e : ServerEvent)
+        (o : ℕ) (y : model.Server)
+        → Without D.told D.seen D.may_leave server.old users s L records now e asked.now o expired y → MayExpire s now o
+        → HasFront s asked.now o front.now → GoesOn D.seen D.may_leave server.old s records bodies
+        → LeavesOnly D.moment D.left_since server.old.journal.disk server.new.journal.disk
+        (EventLeaves s now (heard_event users L s e) bodies) }
+    ensures none { IfOk result (λ b. StaysWhereNone server.old server.new b) }
+    ensures config { server.new.tables.config ≡ server.old.tables.config }
+{
+    keeps_law();
+    match ready_behind(server, asked, now, front) {
+        Ok(Some(both)) => carry_behind(server, asked, now, expired, both),
+        Ok(None) => none_behind(server, asked, now, expired, front),
+        Err(lack) => lack_behind(server, asked, now, expired, front, lack),
+    }
+}
