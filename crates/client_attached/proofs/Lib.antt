@@ -1,0 +1,5 @@
+pub mod Changed
+pub mod Kept
+pub mod Known
+pub mod Moved
+pub mod Slots

@@ -1,0 +1,3 @@
+pub mod Known
+pub mod Opens
+pub mod Places

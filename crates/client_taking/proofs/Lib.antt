@@ -1,0 +1,4 @@
+pub mod Allowed
+pub mod First
+pub mod Grown
+pub mod Roomed

@@ -1,0 +1,52 @@
+// Whether an operation may be taken.
+ghost use Rattle.std.specs.Prelude.{◌≡◌, ◌<◌, ◌≤◌, ◌&&◌, nat_lt, length};
+ghost use Rattle.exchange_defs.specs.Client.{Client, may_take as may};
+ghost use Rattle.operation_rows.specs.Rows.{row_at};
+ghost use Rattle.operation_values.specs.Meaning.{op_of};
+ghost use Rattle.client_marks.specs.Marks.{is_create_kind};
+ghost use Rattle.client_table.specs.Shown.{Fits, ShowsTable};
+
+use client_table::Table;
+use operation_values::{Kind, OpKind, keeps_limits};
+
+fn is_create_at(table: &Table, index: usize) -> bool
+    requires { index < length table.now.rows.items }
+    ensures { result ≡ is_create_kind (row_at table.now.rows.items index).kind }
+{
+    match table.rows[index].kind {
+        Kind::Create => true,
+        _ => false,
+    }
+}
+
+/// Whether a number below another is that of a create.
+fn names_create(table: &Table, create: u32, number: u32) -> bool
+    requires within { 1 < number → number ≤ length table.now.rows.items }
+    ensures { result ≡ (nat_lt 0 create && (nat_lt create number && is_create_kind (row_at table.now.rows.items create).kind)) }
+{
+    if create == 0 {
+        return false;
+    }
+    if create >= number {
+        return false;
+    }
+    is_create_at(table, create as usize)
+}
+
+/// Whether an operation's number is the next one, it keeps the limits of what a script gives, and its create is that of a create taken
+/// before.
+pub fn may_take(table: &Table, number: u32, kind: &OpKind) -> bool
+    requires fits { Fits table.now }
+    ensures { (c : Client) → ShowsTable table.now c → result ≡ may c number (op_of kind.now) }
+{
+    if number as usize != table.ops.len() + 1 {
+        return false;
+    }
+    if !keeps_limits(kind) {
+        return false;
+    }
+    match kind.create() {
+        Some(create) => names_create(table, create, number),
+        None => true,
+    }
+}

@@ -1,0 +1,74 @@
+// An operation is taken.
+ghost use Rattle.std.specs.Prelude.{◌≡◌, ℕ, ◌+◌, ◌<◌, ◌^◌, [], ◌∷◌, ◌++◌, length, OnOk, OnErr};
+ghost use Rattle.exchange_defs.specs.Table.{put};
+ghost use Rattle.exchange_defs.specs.Client.{Client, take_op};
+ghost use Rattle.operation_values.specs.Meaning.{op_of};
+ghost use Rattle.operation_values.specs.Waiting.{at_of, size_of};
+ghost use Rattle.range_index.specs.Shown.{top};
+ghost use Rattle.client_marks.specs.declared.marks.Marks.{Marks as OpenMarks};
+ghost use Rattle.client_marks.specs.Marks.{AreBelow, mark_of};
+ghost use Rattle.client_opens.specs.Opened.{ShowsOpen, placed_row};
+ghost use Rattle.client_table.specs.Shown.{Fits, ShowsTable};
+ghost use Rattle.client_taking.specs.Taken.{HasRooms, TakesOn};
+
+use client_opens::{Open, take_on};
+use client_outcomes::Outcome;
+use client_table::Table;
+use operation_rows::Row;
+use operation_values::{OpKind, Shape};
+use std::alloc::AllocError;
+
+/// Takes an operation of an open, where there is room for its values. Where memory runs out table and open show what they showed.
+/// `outcome` is how it settles where its row is settled.
+pub fn take_row(
+    table: &mut Table,
+    opened: &mut Open,
+    kind: OpKind,
+    shape: &Shape,
+    row: Row,
+    outcome: Outcome,
+) -> Result<(), AllocError>
+    requires fits { Fits table.old }
+    requires some { 0 < length table.old.rows.items }
+    requires few { length table.old.rows.items + 1 < 2 ^ 32 }
+    requires room { HasRooms table.old }
+    requires close { opened.old.marks.close < length table.old.rows.items }
+    requires mark { mark_of shape.now.kind opened.old.marks < length table.old.rows.items }
+    ensures row { OnOk result (table.new.rows.items ≡ table.old.rows.items
+        ++ placed_row row (length table.old.holders.items) (length table.new.holders.items) opened.old.marks ∷ []) }
+    ensures same { OnErr result (table.new.rows.items ≡ table.old.rows.items) }
+    ensures below { OnOk result (AreBelow opened.old.marks (length table.old.rows.items)
+        → AreBelow opened.new.marks (length table.old.rows.items + 1)) }
+    ensures marks { OnErr result (opened.new.marks ≡ opened.old.marks) }
+    ensures fits { OnOk result ((c : Client) (create : ℕ) → TakesOn table.old opened.old c (op_of kind) create shape.now row outcome
+        → Fits table.new) }
+    ensures shown { OnOk result ((c : Client) (create : ℕ) → TakesOn table.old opened.old c (op_of kind) create shape.now row outcome
+        → ShowsTable table.new (take_op c (length table.old.rows.items) (op_of kind))) }
+    ensures keeps { OnOk result ((c : Client) (create : ℕ) → TakesOn table.old opened.old c (op_of kind) create shape.now row outcome
+        → ShowsOpen table.new.rows.items (λ x. at_of (put c.op (length table.old.rows.items) (op_of kind) x))
+        (λ x. size_of (put c.op (length table.old.rows.items) (op_of kind) x)) create (length table.old.rows.items + 1) opened.new.marks
+        (top opened.new.written) (top opened.new.locked)) }
+    ensures others { OnOk result ((c : Client) (other : ℕ) (m : OpenMarks) (written locked : ℕ → ℕ) → (row.create ≡ other → ⊥)
+        → ShowsOpen table.old.rows.items (λ x. at_of (c.op x)) (λ x. size_of (c.op x)) other (length table.old.rows.items) m written locked
+        → ShowsOpen table.new.rows.items (λ x. at_of (put c.op (length table.old.rows.items) (op_of kind) x))
+        (λ x. size_of (put c.op (length table.old.rows.items) (op_of kind) x)) other (length table.old.rows.items + 1) m written locked) }
+    ensures still { OnErr result (Fits table.new) }
+    ensures kept { OnErr result ((c : Client) → ShowsTable table.old c → ShowsTable table.new c) }
+    ensures stays { OnErr result ((at size : ℕ → ℕ) (create n : ℕ)
+        → ShowsOpen table.old.rows.items at size create n opened.old.marks (top opened.old.written) (top opened.old.locked)
+        → ShowsOpen table.new.rows.items at size create n opened.new.marks (top opened.new.written) (top opened.new.locked)) }
+{
+    take_on(
+        &mut table.rows,
+        &mut table.holders,
+        &mut table.prices,
+        &mut table.watchers,
+        opened,
+        shape,
+        row,
+    )?;
+    table.ops.push_reserved(kind);
+    table.settled.push_reserved(outcome);
+    table.out.add();
+    Ok(())
+}
