@@ -1,0 +1,107 @@
+use Rattle.std.proofs.Common.{◌≡◌, ◌<◌, ◌≤◌, ◌&&◌, nat_le, nat_lt, true, false, length, refl, sym, ◌∙◌, subst, arith}
+use Rattle.client_law.proofs.Chosen.{and_left, and_right, is_at_most, is_positive}
+use Rattle.operation_rows.specs.Rows.{row_at}
+use Rattle.client_sending.proofs.Going.{keeps_none, not_among}
+use Rattle.client_sending.proofs.locking.send_locking.Goals as goal
+
+pub send_lock_again_at-requires : goal.send_lock_again_at-requires
+send_lock_again_at-requires c =
+    let r = c.requires in
+    let x = (row_at c.args.table.now.rows.items c.args.index).slot in
+    let n = length c.args.slots.now.items in
+    let t : (nat_lt 0 x && nat_le x n) ≡ true = sym c.has_slot.ensures ∙ c.if-has_slot.true in
+    record {
+      fits = r.fits;
+      within = r.within;
+      users = r.users;
+      above = is_positive x (and_left (nat_lt 0 x) (nat_le x n) t);
+      slot = is_at_most x n (and_right (nat_lt 0 x) (nat_le x n) t);
+    }
+
+pub returns-then-has_slot : goal.returns-then-has_slot
+returns-then-has_slot c =
+    let e = c.send_lock_again_at.ensures in
+    let x = c.args.index in
+    record {
+      fits = e.fits;
+      session = e.session;
+      place = e.place;
+      users = e.users;
+      positive = λ p a. e.positive a;
+      most = λ n a b. subst (λ z. z ≤ n) (sym e.slot_count) b;
+      capacity = e.capacity;
+      shown = λ d s h p lock has. (
+          let sent : d.sent x ≡ true = s.rows.sends.sent_is x ∙ sym c.was_sent.ensures ∙ c.if-was_sent.true in (
+            e.shown d c.args.slot s lock sent,
+            e.slots d c.args.slot s h lock sent,
+          )
+          );
+    }
+
+pub returns-else-has_slot : goal.returns-else-has_slot
+returns-else-has_slot c =
+    let r = c.requires in
+    let x = c.args.index in
+    let n = length c.args.slots.now.items in
+    let rows = c.args.table.now.rows.items in
+    record {
+      fits = r.fits;
+      session = refl;
+      place = keeps_none rows x;
+      users = r.users;
+      positive = λ p a. a;
+      most = λ n a b. b;
+      capacity = refl;
+      shown = λ d s h p lock has. absurd (
+          let sent : d.sent x ≡ true = s.rows.sends.sent_is x ∙ sym c.was_sent.ensures ∙ c.if-was_sent.true in
+          let w = has.again sent in
+          let q = s.rows.sends.slot_is x in
+          not_among (row_at rows x).slot n (sym c.has_slot.ensures ∙ c.if-has_slot.false) (subst (λ y. 0 < y) q w.0)
+          (subst (λ y. y ≤ n) q w.1)
+          );
+    }
+
+pub send_lock_at-requires : goal.send_lock_at-requires
+send_lock_at-requires c =
+    let r = c.requires in
+    record { fits = r.fits; within = r.within; users = r.users; above = c.if-slot-gt0.true; slot = r.slot; room = r.room }
+
+pub returns-then-slot-gt0 : goal.returns-then-slot-gt0
+returns-then-slot-gt0 c =
+    let e = c.send_lock_at.ensures in
+    let x = c.args.index in
+    record {
+      fits = e.fits;
+      session = e.session;
+      place = e.place;
+      users = e.users;
+      positive = e.positive;
+      most = e.most;
+      capacity = e.capacity;
+      shown = λ d s h p lock has. (
+          let sent : d.sent x ≡ false = s.rows.sends.sent_is x ∙ sym c.was_sent.ensures ∙ c.if-was_sent.false in (
+            e.shown d s h p lock sent,
+            e.slots d s h p lock sent,
+          )
+          );
+    }
+
+pub returns-else-slot-gt0 : goal.returns-else-slot-gt0
+returns-else-slot-gt0 c =
+    let r = c.requires in
+    let x = c.args.index in
+    record {
+      fits = r.fits;
+      session = refl;
+      place = keeps_none c.args.table.now.rows.items x;
+      users = r.users;
+      positive = λ p a. a;
+      most = λ n a b. b;
+      capacity = refl;
+      shown = λ d s h p lock has. absurd (
+          let sent : d.sent x ≡ false = s.rows.sends.sent_is x ∙ sym c.was_sent.ensures ∙ c.if-was_sent.false in
+          let some = has.first sent in
+          let none = c.if-slot-gt0.false in
+          omega arith
+          );
+    }

@@ -1,0 +1,93 @@
+use Rattle.std.proofs.Common.{◌≡◌, ℕ, ◌<◌, List, length, vec_capacity, refl, sym, ap, ◌∙◌, subst, arith}
+use Rattle.std.proofs.lemmas.Grind.{common_steps}
+use Rattle.exchange_defs.specs.Client.{begun, create_for, outstanding}
+use Rattle.number_set.specs.Members.{has}
+use Rattle.operation_rows.specs.declared.row.Row.{Row}
+use Rattle.operation_rows.specs.Rows.{is_out}
+use Rattle.operation_rows.specs.Holding.{IsSafe}
+use Rattle.operation_rows.specs.Choosing.{Counts}
+use Rattle.client_rows.specs.Shown.{KeepsRow, ShowsRows}
+use Rattle.client_slots.specs.Shown.{HaveRows, ShowsSlots}
+use Rattle.client_losses.specs.Shown.{HoldsOut}
+use Rattle.client_table.specs.Shown.{FitsParts, ShowsParts}
+use Rattle.client_table.proofs.Losing.{whole}
+use Rattle.client_steps.proofs.Rest.{begun_rest}
+use Rattle.client_steps.proofs.Stepped.{others_so, stepped_fits, stepped_shown}
+use Rattle.client_steps.proofs.stepping.send_lock_at.Goals as goal
+
+-- guesses: the rows are lent by deref_mut, and read by deref behind that
+
+pub send_lock-requires : goal.send_lock-requires
+send_lock-requires c =
+    let t = c.args.table.now in
+    let o = c.deref_mut.ensures.value in
+    record {
+      within = subst (λ (xs : List Row). c.args.index < length xs) (sym o) c.requires.within;
+      counts = subst (λ (xs : List Row). Counts xs t.prices t.watchers) (sym o) c.requires.fits.counts;
+      users = subst (λ (xs : List Row). HaveRows xs c.args.slots.now.items) (sym o) c.requires.users;
+      above = c.requires.above;
+      slot = c.requires.slot;
+      room = c.requires.room;
+    }
+
+pub refresh-requires : goal.refresh-requires
+refresh-requires c =
+    let t = c.args.table.now in
+    let f = c.requires.fits in
+    let x = c.args.index in
+    let old = t.rows.items in
+    let new = c.send_lock.new.rows in
+    let n : length old ≡ t.rows.len = grind (arith, common_steps) in
+    let k : KeepsRow old new x = subst (λ (xs : List Row). KeepsRow xs new x) c.deref_mut.ensures.value c.send_lock.ensures.place in
+    let is : c.deref.result.now ≡ new = c.deref.ensures.value ∙ whole t.rows.len old new n k.count in
+    record {
+      fits = f.out.fits;
+      sized = f.out.sized ∙ sym k.count ∙ ap (λ (xs : List Row). length xs) (sym is);
+      within = subst (λ (xs : List Row). x < length xs) (sym is) (subst (λ m. x < m) (sym k.count) c.requires.within);
+      others = subst (λ (xs : List Row). (g : ℕ) → g < length xs → (g ≡ x → ⊥) → has t.out g ≡ is_out xs g) (sym is)
+          (others_so old new x k t.out f.out);
+    }
+
+pub returns : goal.returns
+returns c =
+    let t = c.args.table.now in
+    let f = c.requires.fits in
+    let x = c.args.index in
+    let o = c.deref_mut.ensures.value in
+    let e = c.send_lock.ensures in
+    let old = t.rows.items in
+    let new = c.send_lock.new.rows in
+    let prices = c.send_lock.new.prices in
+    let out = c.refresh.new.out in
+    let n : length old ≡ t.rows.len = grind (arith, common_steps) in
+    let k : KeepsRow old new x = subst (λ (xs : List Row). KeepsRow xs new x) o e.place in
+    let w = whole t.rows.len old new n k.count in
+    let is : c.deref.result.now ≡ new = c.deref.ensures.value ∙ w in
+    let h : HoldsOut new out = subst (λ (xs : List Row). HoldsOut xs out) is c.refresh.ensures in
+    record {
+      fits = subst (λ (xs : List Row). FitsParts xs t.holders.items prices t.watchers out t.lowest (length t.ops.items)
+          (length t.settled.items) (length t.order.items) (vec_capacity t.order)) (sym w)
+          (stepped_fits old new x k t.holders.items t.prices prices t.watchers t.out out t.lowest (length t.ops.items)
+          (length t.settled.items) (length t.order.items) (vec_capacity t.order)
+          (e.safe t.holders.items (subst (λ (xs : List Row). IsSafe xs t.holders.items) (sym o) f.safe)) e.counts h f);
+      session = refl;
+      place = subst (λ (xs : List Row). KeepsRow old xs x) (sym w) k;
+      users = subst (λ (xs : List Row). HaveRows xs c.send_lock.new.slots.items) (sym w) e.users;
+      positive = e.positive;
+      most = e.most;
+      capacity = e.capacity;
+      shown = λ d s h a lock sent.
+          subst (λ (xs : List Row). ShowsParts t.session xs t.holders.items prices t.watchers t.ops.items t.settled.items t.order.items
+          t.dialogs.items (outstanding (begun d x c.args.slot) c.args.channel x)) (sym w)
+          (stepped_shown old new x k t.session t.holders.items t.prices prices t.watchers t.ops.items t.settled.items t.order.items
+          t.dialogs.items d (outstanding (begun d x c.args.slot) c.args.channel x) (begun_rest d c.args.channel x c.args.slot
+          (λ q l. c.requires.above)) s
+          (e.shown d t.holders.items (subst (λ (xs : List Row). ShowsRows xs t.holders.items t.prices t.watchers d) (sym o) s.rows)
+          s.session
+          (subst (λ (xs : List Row). ShowsSlots xs c.args.slots.now.items d.session_number d (create_for d x)) (sym o) h) a lock sent));
+      slots = λ d s h a lock sent.
+          subst (λ (xs : List Row). ShowsSlots xs c.send_lock.new.slots.items d.session_number
+          (outstanding (begun d x c.args.slot) c.args.channel x) (create_for d x)) (sym w)
+          (e.slots d t.holders.items (subst (λ (xs : List Row). ShowsRows xs t.holders.items t.prices t.watchers d) (sym o) s.rows)
+          (subst (λ (xs : List Row). ShowsSlots xs c.args.slots.now.items d.session_number d (create_for d x)) (sym o) h) a lock sent);
+    }
