@@ -1,0 +1,27 @@
+use Rattle.exchange_defs.specs.Client.{Client}
+use Rattle.exchange_defs.specs.ClientStep.{cut_after}
+use Rattle.client_attached.specs.Known.{ShowsOpened}
+use Rattle.client_attached.specs.Opens.{ShowsAttached}
+use Rattle.client_core.specs.Shown.{ShowsMarks}
+use Rattle.client_core.proofs.Around.{cut_any, fits_around, shows_around}
+use Rattle.client_core.proofs.client.Client.cut.Goals as goal
+
+pub cut-requires : goal.cut-requires
+cut-requires c = record { fits = c.requires.fits.fits }
+
+pub returns : goal.returns
+returns c =
+    let x = c.args.self.now in
+    let t = x.table in
+    let rows = t.rows.items in
+    let u = c.cut.new.table in
+    let e = c.cut.ensures in
+    let k = c.args.channel in
+    record {
+      fits = fits_around t u x.attached.items x.opened.items x.marks.items e.places x.later.items e.fits c.requires.fits;
+      shown = λ d s kept. shows_around t u x.attached.items x.opened.items x.marks.items e.places (cut_after d k) (e.shown d s.table kept)
+          (cut_any (λ (w : Client). ShowsAttached rows x.attached.items w) d k s.attached s.attached s.attached)
+          (cut_any (λ (w : Client). ShowsOpened rows x.opened.items w) d k s.opened s.opened s.opened)
+          (cut_any (λ (w : Client). ShowsMarks rows x.marks.items w.op) d k s.marks s.marks s.marks);
+      told = λ d s. e.told d s.table;
+    }

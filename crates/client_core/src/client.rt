@@ -1,0 +1,184 @@
+// A client as a whole.
+ghost use Rattle.std.specs.Prelude.{◌≡◌, ℕ, ◌<◌, nat_lt, not, true, false, if◌then◌else◌, length, OnOk, OnErr};
+ghost use Rattle.exchange_defs.specs.State.{Reply};
+ghost use Rattle.exchange_defs.specs.Network.{Settings, start};
+ghost use Rattle.exchange_defs.specs.Client.{Client as Model, finish, note_refusal};
+ghost use Rattle.exchange_defs.specs.ClientStep.{CloseChannels, Nothing, becomes_ready, cut_after, hear_act, hear_after, ready_after};
+ghost use Rattle.exchange_defs.specs.ClientStep.{some_unsettled};
+ghost use Rattle.client_law.specs.Kept.{Kept};
+ghost use Rattle.operation_rows.specs.Rows.{row_at, owner};
+ghost use Rattle.client_marks.specs.Marks.{IsHighest};
+ghost use Rattle.client_opens.specs.declared.opening.Open.{Open as Mark};
+ghost use Rattle.client_outcomes.specs.Meaning.{refusal_of, why_of};
+ghost use Rattle.client_session.specs.Shown.{cut_told, ready_at};
+ghost use Rattle.client_pushing.specs.Acts.{act_by, act_of, chosen_with, pushed_by};
+ghost use Rattle.client_replies.specs.Reading.{Reads};
+ghost use Rattle.client_core.specs.Shown.{FitsClient, IsMarkAt, ShowsClient};
+
+use crate::beginning::no_table;
+use client_attached::Opened;
+use client_choice::Attached;
+use client_cutting::cut;
+use client_opens::Open;
+use client_outcomes::Why;
+use client_pushing::{Pushed, push};
+use client_replies::{Response, hear};
+use client_session::Cut;
+use client_table::Table;
+use msg_session::Refusal;
+use std::alloc::{AllocError, Global};
+
+/// A client's operations, its session and its opens.
+#[derive(Drop)]
+pub struct Client {
+    pub table: Table,
+    /// Of each open, in the order of their creates: its session and its lock slots; what is known of it; and what operations to come
+    /// wait for.
+    pub attached: Vec<Attached>,
+    pub opened: Vec<Opened>,
+    pub marks: Vec<Open>,
+    /// By operation, the next higher one of its open; 0 where there is none.
+    pub later: Vec<u32>,
+}
+
+fn open_of(table: &Table, index: usize) -> usize
+    requires { index < length table.now.rows.items }
+    ensures { result ≡ (row_at table.now.rows.items index).«open» }
+{
+    table.rows[index].open as usize
+}
+
+fn has_row(table: &Table, index: usize) -> bool
+    ensures { result ≡ nat_lt index (length table.now.rows.items) }
+{
+    index < table.rows.len()
+}
+
+fn last_at(marks: &[Open], at: usize) -> u32
+    requires { at < length marks.now }
+    ensures { (o : Mark) × (IsMarkAt marks.now at o) × (result ≡ o.marks.last) }
+{
+    let mark = &marks[at];
+    mark.marks.last
+}
+
+impl Client {
+    /// No operations, no opens and no session. It takes no memory.
+    pub fn new(alloc: Global) -> Client
+        ensures fits { FitsClient result }
+        ensures shown { (settings : Settings) → ShowsClient result (start settings).client }
+    {
+        let table = no_table(alloc);
+        Client {
+            table,
+            attached: Vec::new(alloc),
+            opened: Vec::new(alloc),
+            marks: Vec::new(alloc),
+            later: Vec::new(alloc),
+        }
+    }
+
+    /// The highest operation of the open of one.
+    fn last_of(&self, index: usize) -> u32
+        requires fits { FitsClient self.now }
+        ensures { 0 < index → index < length self.now.table.rows.items → IsHighest (owner self.now.table.rows.items) (λ h. true)
+            (owner self.now.table.rows.items index) (length self.now.table.rows.items) result }
+    {
+        if index == 0 {
+            return 0;
+        }
+        if !has_row(&self.table, index) {
+            return 0;
+        }
+        let at = open_of(&self.table, index);
+        last_at(&self.marks, at)
+    }
+
+    /// Whether every operation is settled.
+    pub fn is_settled(&mut self) -> bool
+        requires fits { FitsClient self.old }
+        ensures fits { FitsClient self.new }
+        ensures shown { (c : Model) → ShowsClient self.old c → ShowsClient self.new c }
+        ensures told { (c : Model) → ShowsClient self.old c → result ≡ not (some_unsettled c c.taken) }
+    {
+        self.table.is_settled()
+    }
+
+    /// The dialog of a channel that isn't ready ended well, in a session with these ids. False where the channel can't be ready in it.
+    pub fn ready(&mut self, channel: u8, session: u64, tree: u32) -> bool
+        requires fits { FitsClient self.old }
+        requires apart { ready_at self.old.table.session channel ≡ false }
+        ensures fits { FitsClient self.new }
+        ensures shown { (c : Model) → ShowsClient self.old c → ShowsClient self.new (ready_after c channel session tree) }
+        ensures told { (c : Model) → ShowsClient self.old c → result ≡ becomes_ready c session }
+    {
+        self.table.ready(channel, session, tree)
+    }
+
+    /// The dialog of a channel was refused. Where memory runs out nothing changes.
+    pub fn refused(&mut self, channel: u32, why: Refusal) -> Result<(), AllocError>
+        requires fits { FitsClient self.old }
+        ensures fits { FitsClient self.new }
+        ensures shown { OnOk result ((c : Model) → ShowsClient self.old c → ShowsClient self.new (note_refusal c channel (refusal_of why))) }
+        ensures kept { OnErr result ((c : Model) → ShowsClient self.old c → ShowsClient self.new c) }
+    {
+        match self.table.refused(channel, why) {
+            Ok(()) => Ok(()),
+            Err(error) => Err(error),
+        }
+    }
+
+    /// A channel is cut. The session ends with its last ready one, or where its ChannelSequence can't be raised.
+    pub fn cut(&mut self, channel: u8) -> Cut
+        requires fits { FitsClient self.old }
+        ensures fits { FitsClient self.new }
+        ensures shown { (c : Model) → ShowsClient self.old c → Kept c → ShowsClient self.new (cut_after c channel) }
+        ensures told { (c : Model) → ShowsClient self.old c → result ≡ cut_told c channel }
+    {
+        cut(&mut self.table, channel)
+    }
+
+    /// No session can be had: all that was taken and is unsettled is given up.
+    pub fn finish(&mut self, why: Why)
+        requires fits { FitsClient self.old }
+        ensures fits { FitsClient self.new }
+        ensures shown { (c : Model) → ShowsClient self.old c → ShowsClient self.new (finish c (why_of why)) }
+    {
+        self.table.finish(why);
+    }
+
+    /// A channel may send, and holds so many credits (MS-SMB2 3.2.4.1.5). It takes no memory.
+    pub fn push(&mut self, channel: u8, credits: u32) -> Pushed
+        requires fits { FitsClient self.old }
+        ensures fits { FitsClient self.new }
+        ensures shown { (c : Model) → ShowsClient self.old c → Kept c
+            → ShowsClient self.new (pushed_by c channel (chosen_with c channel credits)) }
+        ensures told { (c : Model) → ShowsClient self.old c → Kept c → act_of result ≡ act_by c channel (chosen_with c channel credits) }
+    {
+        push(&mut self.table, &mut self.attached, channel, credits)
+    }
+
+    /// The response to an operation, or to the request to attach its open in its place (`asking`). One that isn't awaited on this channel
+    /// changes nothing. True where the session ended, and all connections are to be closed.
+    pub fn hear(&mut self, channel: u8, index: usize, asking: bool, response: Response) -> bool
+        requires fits { FitsClient self.old }
+        ensures fits { FitsClient self.new }
+        ensures shown { (c : Model) (r : Reply) (place : ℕ) → ShowsClient self.old c → Kept c → Reads response c index r
+            → ShowsClient self.new (hear_after c channel index asking r place) }
+        ensures told { (c : Model) (r : Reply) → ShowsClient self.old c → Kept c → Reads response c index r
+            → hear_act c channel index asking r ≡ (if result then CloseChannels else Nothing) }
+    {
+        let last = self.last_of(index);
+        hear(
+            &mut self.table,
+            &mut self.attached,
+            &mut self.opened,
+            &self.later,
+            channel,
+            index,
+            last,
+            asking,
+            response,
+        )
+    }
+}

@@ -1,0 +1,7 @@
+//! A client: its operations, its session and its opens, in one value, and what each event but a submit does to it.
+#![tactic(auto)]
+
+mod beginning;
+mod client;
+
+pub use client::Client;

@@ -1,0 +1,117 @@
+// An operation comes onto an open that there is.
+ghost use Rattle.std.specs.Prelude.{◌≡◌, ℕ, ◌+◌, ◌<◌, ◌≤◌, ◌^◌, true, if◌then◌else◌, length, vec_capacity, OnOk, OnErr};
+ghost use Rattle.exchange_defs.specs.Table.{put};
+ghost use Rattle.exchange_defs.specs.Operations.{keeps_limits};
+ghost use Rattle.exchange_defs.specs.Client.{Client, is_attached, take_op};
+ghost use Rattle.operation_values.specs.declared.shapes.Kind.TheVariants as kinds;
+ghost use Rattle.operation_values.specs.Meaning.{op_of};
+ghost use Rattle.operation_values.specs.Waiting.{kind_of};
+ghost use Rattle.client_marks.specs.Marks.{AreBelow, is_lock_kind};
+ghost use Rattle.client_opens.specs.declared.opening.Open.{Open as Kept};
+ghost use Rattle.client_outcomes.specs.declared.outcome.Outcome.TheVariants as outcomes;
+ghost use Rattle.client_table.specs.Shown.{Fits, ShowsTable};
+ghost use Rattle.client_taking.specs.Taken.{HasRooms};
+ghost use Rattle.client_joining.specs.Joined.{Joins};
+ghost use Rattle.client_joining.specs.Keeping.{IsMore, Keeps};
+
+use crate::fresh::new_row;
+use crate::standing::{is_attached_now, is_gone_now};
+use client_attached::Opened;
+use client_choice::Attached;
+use client_opens::Open;
+use client_outcomes::{Outcome, Why};
+use client_table::Table;
+use client_taking::take_row;
+use operation_values::{Kind, OpKind, Shape};
+use std::alloc::AllocError;
+
+fn is_lock(kind: Kind) -> bool
+    ensures { result ≡ is_lock_kind kind }
+{
+    match kind {
+        Kind::Lock => true,
+        _ => false,
+    }
+}
+
+/// An open that has locks has room for each of its 64 slots, so that no push takes memory (MS-SMB2 3.2.1.4).
+fn make_slots(own: &mut Attached, locks: bool) -> Result<(), AllocError>
+    ensures session { own.new.session ≡ own.old.session }
+    ensures slots { own.new.slots.items ≡ own.old.slots.items }
+    ensures capacity { vec_capacity own.old.slots ≤ vec_capacity own.new.slots }
+    ensures room { OnOk result (locks ≡ true → 64 ≤ vec_capacity own.new.slots) }
+{
+    if !locks {
+        return Ok(());
+    }
+    own.slots.reserve(64)
+}
+
+/// What an operation costs at first: its charge where its open is attached, and one credit where that has to be asked for (MS-SMB2
+/// 3.2.4.1.5, 3.2.4.4).
+fn cost_of(table: &Table, own: &Attached, shape: &Shape) -> u8
+    ensures { (c : Client) (create : ℕ) → ShowsTable table.now c → c.attached create ≡ own.now.session
+        → result ≡ (if is_attached c create then shape.now.charge else 1) }
+{
+    if is_attached_now(table, own) {
+        shape.charge
+    } else {
+        1
+    }
+}
+
+/// How an operation settles whose create gives no open any more; of another this tells nothing.
+fn first_outcome(gone: bool, create: u32) -> Outcome
+    ensures { gone ≡ true → result ≡ outcomes.NoOpen create }
+{
+    if gone {
+        Outcome::NoOpen(create)
+    } else {
+        Outcome::Unknown(Why::Ended)
+    }
+}
+
+/// An operation comes onto the open of its create, for whose values there is room. Where its open is gone it settles so at once. Where
+/// memory runs out table and open show what they showed.
+pub fn take_onto(
+    table: &mut Table,
+    own: &mut Attached,
+    known: &Opened,
+    mark: &mut Open,
+    create: u32,
+    open: u32,
+    kind: OpKind,
+) -> Result<(), AllocError>
+    requires fits { Fits table.old }
+    requires few { length table.old.rows.items + 1 < 2 ^ 32 }
+    requires room { HasRooms table.old }
+    requires above { 0 < create }
+    requires within { create < length table.old.rows.items }
+    requires limits { keeps_limits (op_of kind) ≡ true }
+    requires below { AreBelow mark.old.marks (length table.old.rows.items) }
+    ensures session { own.new.session ≡ own.old.session }
+    ensures slots { own.new.slots.items ≡ own.old.slots.items }
+    ensures capacity { vec_capacity own.old.slots ≤ vec_capacity own.new.slots }
+    ensures row { OnOk result (IsMore table.old.rows.items table.new.rows.items create «open» (kind_of (op_of kind))) }
+    ensures locks { OnOk result (kind_of (op_of kind) ≡ kinds.Lock → 64 ≤ vec_capacity own.new.slots) }
+    ensures below { OnOk result (AreBelow mark.new.marks (length table.old.rows.items + 1)) }
+    ensures joined { OnOk result ((c : Client) → Joins table.old own.old known.now mark.old c create (op_of kind) → Fits table.new
+        × ShowsTable table.new (take_op c (length table.old.rows.items) (op_of kind))
+        × Keeps table.new.rows.items (length table.old.rows.items + 1) (put c.op (length table.old.rows.items) (op_of kind)) create mark.new) }
+    ensures others { OnOk result ((c : Client) (other : ℕ) (m : Kept) → (create ≡ other → ⊥)
+        → Keeps table.old.rows.items (length table.old.rows.items) c.op other m
+        → Keeps table.new.rows.items (length table.old.rows.items + 1) (put c.op (length table.old.rows.items) (op_of kind)) other m) }
+    ensures same { OnErr result (table.new.rows.items ≡ table.old.rows.items) }
+    ensures marks { OnErr result (mark.new.marks ≡ mark.old.marks) }
+    ensures still { OnErr result (Fits table.new) }
+    ensures kept { OnErr result ((c : Client) → ShowsTable table.old c → ShowsTable table.new c) }
+    ensures stays { OnErr result ((c : Client) (n : ℕ) → Keeps table.old.rows.items n c.op create mark.old
+        → Keeps table.new.rows.items n c.op create mark.new) }
+{
+    let shape = Shape::of(&kind);
+    make_slots(own, is_lock(shape.kind))?;
+    let gone = is_gone_now(table, known, own, create as usize);
+    let cost = cost_of(table, own, &shape);
+    let row = new_row(&shape, cost, create, open, !gone);
+    take_row(table, mark, kind, &shape, row, first_outcome(gone, create))
+}

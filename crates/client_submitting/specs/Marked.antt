@@ -1,0 +1,21 @@
+-- What each open keeps of its operations, beside the table.
+use Rattle.std.specs.Prelude.{◌≡◌, ℕ, ◌<◌, List, length, slice_index_or}
+use Rattle.exchange_defs.specs.Operations.{Op}
+use Rattle.operation_rows.specs.declared.row.Row.{Row}
+use Rattle.operation_rows.specs.Rows.{row_at, owner}
+use Rattle.client_marks.specs.Marks.{AreBelow}
+use Rattle.client_opens.specs.declared.opening.Open.{Open}
+use Rattle.client_joining.specs.Keeping.{Keeps}
+
+-- it stands at a place of a list
+abbrev pub IsMarkedAt : List Open → ℕ → Open → Type 0
+IsMarkedAt marks i m = m ≡ slice_index_or marks i m
+
+-- each operation's open has its marks, and they are numbers of rows
+pub record FitsMarks (rows : List Row) (marks : List Open) : Type 0 where
+  pub opens : (g : ℕ) → 0 < g → g < length rows → (row_at rows g).«open» < length marks
+  pub below : (g : ℕ) (m : Open) → 0 < g → g < length rows → IsMarkedAt marks (row_at rows g).«open» m → AreBelow m.marks (length rows)
+
+abbrev pub ShowsMarks : List Row → List Open → (ℕ → Op) → Type 0
+ShowsMarks rows marks op = (g : ℕ) (m : Open) → 0 < g → g < length rows → IsMarkedAt marks (row_at rows g).«open» m
+    → Keeps rows (length rows) op (owner rows g) m

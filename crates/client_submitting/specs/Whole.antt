@@ -1,0 +1,24 @@
+-- A client's table with its opens: what they keep among themselves, and what they show.
+use Rattle.std.specs.Prelude.{◌≡◌, List, length}
+use Rattle.exchange_defs.specs.Client.{Client}
+use Rattle.client_choice.specs.declared.finding.Attached.{Attached}
+use Rattle.client_opens.specs.declared.opening.Open.{Open}
+use Rattle.client_table.specs.declared.parts.Table.{Table}
+use Rattle.client_table.specs.Shown.{Fits, ShowsTable}
+use Rattle.client_attached.specs.declared.opened.Opened.{Opened}
+use Rattle.client_attached.specs.Known.{ShowsOpened}
+use Rattle.client_attached.specs.Opens.{FitsOpens, ShowsAttached}
+use Rattle.client_submitting.specs.Marked.{FitsMarks, ShowsMarks}
+
+pub record FitsWhole (t : Table) (attached : List Attached) (opened : List Opened) (marks : List Open) : Type 0 where
+  pub table : Fits t
+  pub opens : FitsOpens t.rows.items attached
+  pub marked : FitsMarks t.rows.items marks
+  pub known : length opened ≡ length attached
+  pub counted : length marks ≡ length attached
+
+pub record ShowsWhole (t : Table) (opens : List Attached) (known : List Opened) (marks : List Open) (c : Client) : Type 0 where
+  pub table : ShowsTable t c
+  pub attached : ShowsAttached t.rows.items opens c
+  pub opened : ShowsOpened t.rows.items known c
+  pub marked : ShowsMarks t.rows.items marks c.op

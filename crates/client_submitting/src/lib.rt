@@ -1,0 +1,6 @@
+//! A submit on a client's table and its opens: an operation comes onto the open of its create. What a script may submit is this project's.
+#![tactic(auto)]
+
+mod more;
+
+pub use more::take_more;

@@ -1,0 +1,72 @@
+// An operation is submitted on an open that there is.
+ghost use Rattle.std.specs.Prelude.{◌≡◌, ℕ, ◌+◌, ◌<◌, ◌^◌, true, false, length, OnOk, OnErr};
+ghost use Rattle.exchange_defs.specs.Operations.{create_of, is_create, keeps_limits};
+ghost use Rattle.exchange_defs.specs.Client.{Client, take_op};
+ghost use Rattle.client_law.specs.Kept.{Kept};
+ghost use Rattle.operation_values.specs.Meaning.{op_of};
+ghost use Rattle.operation_rows.specs.Rows.{row_at};
+ghost use Rattle.client_attached.specs.Known.{IsKnownAt};
+ghost use Rattle.client_taking.specs.Taken.{HasRooms};
+ghost use Rattle.client_submitting.specs.Whole.{FitsWhole, ShowsWhole};
+
+use client_attached::Opened;
+use client_choice::Attached;
+use client_joining::take_onto;
+use client_opens::Open;
+use client_table::Table;
+use operation_values::OpKind;
+use std::alloc::AllocError;
+
+/// The place of an operation's open.
+fn open_of(table: &Table, index: usize) -> u32
+    requires { index < length table.now.rows.items }
+    ensures { result ≡ (row_at table.now.rows.items index).«open» }
+{
+    table.rows[index].open
+}
+
+/// What is known of an open.
+fn known_at(opened: &Vec<Opened>, at: usize) -> Opened
+    requires { at < length opened.now.items }
+    ensures { IsKnownAt opened.now.items at result }
+{
+    opened[at]
+}
+
+/// An operation comes onto the open of its create, for whose values there is room. Where memory runs out all shows what it showed. How a
+/// client keeps its operations is this project's.
+pub fn take_more(
+    table: &mut Table,
+    attached: &mut [Attached],
+    opened: &Vec<Opened>,
+    marks: &mut [Open],
+    create: u32,
+    kind: OpKind,
+) -> Result<(), AllocError>
+    requires all { FitsWhole table.old attached.old opened.now.items marks.old }
+    requires few { length table.old.rows.items + 1 < 2 ^ 32 }
+    requires room { HasRooms table.old }
+    requires above { 0 < create }
+    requires within { create < length table.old.rows.items }
+    requires limits { keeps_limits (op_of kind) ≡ true }
+    ensures shown { OnOk result ((c : Client) → ShowsWhole table.old attached.old opened.now.items marks.old c → Kept c
+        → is_create (c.op create) ≡ true → is_create (op_of kind) ≡ false → ((g : ℕ) → create_of g (op_of kind) ≡ create)
+        → FitsWhole table.new attached.new opened.now.items marks.new
+        × ShowsWhole table.new attached.new opened.now.items marks.new (take_op c (length table.old.rows.items) (op_of kind))) }
+    ensures still { OnErr result (FitsWhole table.new attached.new opened.now.items marks.new) }
+    ensures kept { OnErr result ((c : Client) → ShowsWhole table.old attached.old opened.now.items marks.old c → Kept c
+        → is_create (c.op create) ≡ true → ShowsWhole table.new attached.new opened.now.items marks.new c) }
+{
+    let open = open_of(table, create as usize);
+    let at = open as usize;
+    let known = known_at(opened, at);
+    take_onto(
+        table,
+        &mut attached[at],
+        &known,
+        &mut marks[at],
+        create,
+        open,
+        kind,
+    )
+}
