@@ -1,6 +1,6 @@
 -- The checks of a SESSION_SETUP grant a session or a channel to a token that shows a logon alone.
 use Rattle.std.proofs.lemmas.Bool.{eqb-false}
-use Rattle.std.proofs.Common.{◌≡◌, ℕ, ◌==◌, nat_le, true, false, not, ◌&&◌, ◌||◌, if◌then◌else◌, List, inl, inr, refl, sym, ap, ◌∙◌, subst}
+use Rattle.std.proofs.Common.{◌≡◌, ℕ, ◌==◌, nat_le, true, false, not, ◌&&◌, ◌||◌, List, inl, inr, refl, sym, ap, subst}
 use Rattle.std.proofs.Common.{arith, Option, Some, None, is_some}
 use Rattle.exchange_defs.specs.Status.{success, more_processing_required, user_session_deleted, invalid_parameter}
 use Rattle.exchange_defs.specs.Texts.{same_name}

@@ -1,4 +1,4 @@
--- A reply tells the tree of its request, or a new one, whose id is at most the last one.
+-- A reply tells the tree of its request, or one whose id is at most the last one; which one isn't said (MS-SMB2 3.3.5.7).
 use Rattle.std.specs.Prelude.{◌≡◌, ◌⊎◌, ℕ, ◌≤◌, ◌<◌, ◌^◌, List, None}
 use Rattle.exchange_defs.specs.Status.{success}
 use Rattle.exchange_defs.specs.Commands.{TreeConnect}

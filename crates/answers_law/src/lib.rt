@@ -17,7 +17,7 @@ pub fn successes_log_on_law()
     ensures logs { SuccessesLogOn }
 {}
 
-/// A reply tells the tree of its request, or the new one of a TREE_CONNECT, whose id is at most the last one (MS-SMB2 3.3.5.7).
+/// A reply tells the tree of its request, or one whose id is at most the last one; which one isn't said (MS-SMB2 3.3.5.7).
 pub fn trees_are_told_law()
     ensures told { TreesAreTold }
 {}

@@ -53,7 +53,7 @@ same_token : (o : Option (List ℕ)) (a b : List ℕ) → o ≡ Some a → o ≡
 same_token o a b e f = (let h : Some a ≡ Some b = sym e ∙ f in cc)
 
 -- the client's own answer stands in the request
-answered_now : (z : WorldSettings) → IsLawful z → (w : World) (k : ℕ) (b : List ℕ) (x : Sent) (h : Heard) (bound : Bool)
+pub answered_now : (z : WorldSettings) → IsLawful z → (w : World) (k : ℕ) (b : List ℕ) (x : Sent) (h : Heard) (bound : Bool)
     → Front z w k b x h (SaidSecond bound) → IsAnswered z (w.wires k).client_end (w.logons.pending k) (token_in h.bytes)
 answered_now z law w k b x h bound F =
     let n = (w.wires k).client_end in
@@ -81,7 +81,7 @@ final_same users L k f raw base n old session false e tr own cipher signing =
     ∙ (ap (λ c. keys_of n.base (chain n.transcript) c (chosen_on f.greeting).signing session) cipher
     ∙ ap (λ s. keys_of n.base (chain n.transcript) n.chosen.cipher s session) signing))
 
-own_signing : (n : ClientEnd) (bound : Bool) (a b : ℕ) → (own_final n bound a).signing ≡ (own_final n bound b).signing
+pub own_signing : (n : ClientEnd) (bound : Bool) (a b : ℕ) → (own_final n bound a).signing ≡ (own_final n bound b).signing
 own_signing n true a b = refl
 own_signing n false a b = refl
 
@@ -117,7 +117,7 @@ pub record IsFinal (z : WorldSettings) (w : World) (k : ℕ) (x : Sent) (h : Hea
   pub token_final : is_final (w.wires k).client_end.base (setup_token (text_by z w k h x)) ≡ true
   pub flags : setup_flags (text_by z w k h x) ≡ bit_if (seals_in (answer w.values x).reply.body) 4
 
-finished : (z : WorldSettings) → IsLawful z → (w : World) (k : ℕ) (b : List ℕ) (x : Sent) (h : Heard) (bound : Bool)
+pub finished : (z : WorldSettings) → IsLawful z → (w : World) (k : ℕ) (b : List ℕ) (x : Sent) (h : Heard) (bound : Bool)
     → Front z w k b x h (SaidSecond bound) → (answer w.values x).reply.status ≡ success → IsFinal z w k x h bound
 finished z law w k b x h bound F ok =
     let stage = SaidSecond bound in

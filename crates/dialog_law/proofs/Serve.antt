@@ -175,24 +175,24 @@ same_heard o a b x y e f =
     let lists : x ∷ [] ≡ y ∷ [] = ap (λ (v : FrameText). v.messages) same in
     (cc)
 
-abbrev AloneTied : WorldSettings → World → ℕ → List ℕ → Sent → Type 0
+abbrev pub AloneTied : WorldSettings → World → ℕ → List ℕ → Sent → Type 0
 AloneTied z w k b x =
     Tied z w.values.client.op (shared_at w) k (w.values.conns k).client_open true (w.wires k).client_end (w.wires k).server_end (b ∷ [])
     (w.wires k).down (x ∷ []) (w.values.conns k).down
 
 -- the front of a list of one, its bill and what the server may do with it
-record Fronted (z : WorldSettings) (w : World) (k : ℕ) (b : List ℕ) (x : Sent) (l : Line) : Type 0 where
-  bill : ℕ × ℕ
-  is : l.requests ≡ bill ∷ []
-  asked : Asked z w.logons k (w.wires k).server_end b x bill
-  may : MayServe (w.wires k).server_end bill
-  reached : Reached (line_less l bill [])
+pub record Fronted (z : WorldSettings) (w : World) (k : ℕ) (b : List ℕ) (x : Sent) (l : Line) : Type 0 where
+  pub bill : ℕ × ℕ
+  pub is : l.requests ≡ bill ∷ []
+  pub asked : Asked z w.logons k (w.wires k).server_end b x bill
+  pub may : MayServe (w.wires k).server_end bill
+  pub reached : Reached (line_less l bill [])
 
 none_left : (z : WorldSettings) (L : Logons) (k : ℕ) (f : ServerEnd) (qs : List (ℕ × ℕ)) → AllAsked z L k f [] [] qs → qs ≡ []
 none_left z L k f [] all = refl
 none_left z L k f (q ∷ qs) all = absurd all
 
-fronted : NothingIsRefused → (z : WorldSettings) (w : World) (k : ℕ) (b : List ℕ) (x : Sent) (t : AloneTied z w k b x)
+pub fronted : NothingIsRefused → (z : WorldSettings) (w : World) (k : ℕ) (b : List ℕ) (x : Sent) (t : AloneTied z w k b x)
     → Fronted z w k b x t.link.line
 fronted held z w k b x t =
     let f = (w.wires k).server_end in
@@ -225,7 +225,7 @@ window_at z w k b x t F =
     let r = a.reads in
     window_is (w.wires k).server_end r.heard.header link.line F.bill a.counts (link.window refl) r.id r.charge
 
-front_is : NothingIsRefused → (z : WorldSettings) (w : World) (k : ℕ) (b : List ℕ) (x : Sent) → IsTied z w → IsDialogFront z w k x []
+pub front_is : NothingIsRefused → (z : WorldSettings) (w : World) (k : ℕ) (b : List ℕ) (x : Sent) → IsTied z w → IsDialogFront z w k x []
     → (t : AloneTied z w k b x) (F : Fronted z w k b x t.link.line) → (w.values.conns k).client_open ≡ true
     → is_lined (w.wires k).client_end.stage ≡ false
     → Waiting z (shared_at w) k (w.wires k).client_end (w.wires k).server_end b x t.link.line.grants (w.wires k).client_end.stage

@@ -1,8 +1,7 @@
 -- A dialog's message hangs on four columns of the client alone.
-use Rattle.std.proofs.Common.{◌≡◌, ℕ, ◌==◌, Bool, true, false, if◌then◌else◌, List, [], ◌∷◌, refl, sym, ap, ◌∙◌, subst, eqb-true, arith, None}
+use Rattle.std.proofs.Common.{◌≡◌, ℕ, ◌==◌, true, false, if◌then◌else◌, [], ◌∷◌, refl, sym, ap, ◌∙◌, subst, eqb-true, arith, None}
 use Rattle.exchange_defs.specs.Table.{put}
-use Rattle.exchange_defs.specs.Commands.{Command, Setup, TreeConnect, Begins}
-use Rattle.exchange_defs.specs.State.{Message}
+use Rattle.exchange_defs.specs.Commands.{Setup, TreeConnect, Begins}
 use Rattle.exchange_defs.specs.Client.{Client, Stage, Apart, SaidNegotiate, SaidFirst, SaidSecond, AskedTree}
 use Rattle.exchange_defs.specs.Dialogs.{stage_session, stage_command, dialog_message}
 use Rattle.exchange_defs.specs.Network.{Conn}

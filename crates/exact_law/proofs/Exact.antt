@@ -1,7 +1,7 @@
 -- Each event leaves what waits of a dialog the message of its stage: while a session is in the making no other dialog waits, so the
 -- columns that change then are looked at by none.
 use Rattle.std.proofs.lemmas.Bool.{eqb-false}
-use Rattle.std.proofs.Common.{◌≡◌, ℕ, ◌+◌, ◌<◌, ◌==◌, Bool, true, false, not, ◌&&◌, if◌then◌else◌, List, [], ◌∷◌, ◌++◌, refl, sym, ap, ◌∙◌, subst}
+use Rattle.std.proofs.Common.{◌≡◌, ℕ, ◌+◌, ◌==◌, Bool, true, false, not, ◌&&◌, if◌then◌else◌, List, [], ◌∷◌, ◌++◌, refl, sym, ap, ◌∙◌, subst}
 use Rattle.std.proofs.Common.{arith, Option, Some, None}
 use Rattle.exchange_defs.specs.Table.{put, is_filled}
 use Rattle.exchange_defs.specs.Status.{success, more_processing_required}
@@ -25,12 +25,12 @@ use Rattle.exchange_defs.specs.Runs.{acts}
 use Rattle.exchange_law.specs.Connections.{Connections, count_up, count_down, copies, is_bound}
 use Rattle.exchange_law.proofs.Run.{both_ways, ended_well, connections}
 use Rattle.exchange_law.proofs.Reached.{on_every_run}
-use Rattle.server_law.proofs.Logic.{either, front_of}
+use Rattle.server_law.proofs.Logic.{either}
 use Rattle.session_law.specs.Sessions.{Sessions, makes_session}
 use Rattle.session_law.specs.Dialogs.{Dialogs, Channel, IsClosed, IsReady as ReadyNow, IsInDialog, Awaits, MessageAlone, ReplyAlone, IsLost}
 use Rattle.session_law.proofs.Always.{sessions}
 use Rattle.session_law.proofs.DialogFacts.{dialogs}
-use Rattle.session_law.proofs.Table.{Keeps, keeps_so, keeps_itself, keeps_no_slots, keeps_begun, keeps_asked, keeps_answered, keeps_joined}
+use Rattle.session_law.proofs.Table.{Keeps, keeps_so, keeps_no_slots, keeps_begun, keeps_asked, keeps_answered, keeps_joined}
 use Rattle.session_law.proofs.Table.{keeps_settle}
 use Rattle.exact_law.specs.Exact.{ExactAt, AreExact, MessagesAreExact}
 use Rattle.exact_law.proofs.Alike.{Alike, alike, moved, kept, put_exact, both_exact, closed_exact, empty_exact}

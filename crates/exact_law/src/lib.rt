@@ -6,7 +6,7 @@
 ghost use Rattle.exact_law.specs.Exact.{MessagesAreExact};
 
 /// On every run, behind every event, what waits for the server on an open connection that is in its dialog is the message of its stage, as
-/// the client would make it now: of its session in a binding, and of the session in the making else.
+/// the client would make it now, but for its MessageId: of its session in a binding, and of the session in the making else.
 pub fn messages_are_exact_law()
     ensures exact { MessagesAreExact }
 {}

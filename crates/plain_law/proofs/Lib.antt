@@ -1,3 +1,5 @@
+pub mod Asked
+pub mod Left
 pub mod Prefix
 pub mod Salt
 pub mod Greeting
@@ -5,6 +7,8 @@ pub mod Short
 pub mod Values
 pub mod Requests
 pub mod Pushed
+pub mod Sealed
+pub mod Replies
 pub mod Talked
 pub mod Lined
 pub mod Heard

@@ -1,5 +1,5 @@
 -- All that a world on the way wants, and with it the law.
-use Rattle.std.proofs.Common.{◌≡◌, ℕ, ◌+◌, ◌<◌, ◌≤◌, ◌^◌, List, [], ◌∷◌, ◌++◌, length, take, drop, append_assoc, sym, ap, ◌∙◌, arith}
+use Rattle.std.proofs.Common.{◌≡◌, ℕ, ◌+◌, ◌<◌, ◌≤◌, ◌^◌, List, [], ◌∷◌, ◌++◌, length, take, drop, ap, arith}
 use Rattle.std.proofs.lemmas.List.{take-append-drop}
 use Rattle.exchange_defs.specs.Commands.{TreeConnect}
 use Rattle.exchange_defs.specs.Network.{Event, Received, run, start}
@@ -20,19 +20,20 @@ use Rattle.limits_law.specs.Low.{last_id}
 use Rattle.limits_law.proofs.Low.{front_down}
 use Rattle.sending_law.specs.Sent.{PlainNonces}
 use Rattle.run_law.specs.Bounds.{GoingBounds, AcceptingBounds, Bounds, RunsInStep, RunsGoInStep}
-use Rattle.plain_law.specs.Plain.{IsLeft, AreLeft, PlainRunsGoInStep}
+use Rattle.plain_law.specs.Plain.{PlainRunsGoInStep}
 use Rattle.plain_law.proofs.Prefix.{restarts_same, submits_same, restarts_part, submits_part}
 use Rattle.plain_law.proofs.Greeting.{greeting_short}
 use Rattle.plain_law.proofs.Short.{requests_are_short}
 use Rattle.plain_law.proofs.Values.{Facts, facts_at}
 use Rattle.plain_law.proofs.Pushed.{small_id, pushes_fit}
 use Rattle.plain_law.proofs.Talked.{dialogs_fit}
+use Rattle.plain_law.proofs.Left.{left_of}
 use Rattle.plain_law.proofs.Lined.{lines_fit}
 use Rattle.plain_law.proofs.Heard.{replies_are_heard}
 
 -- ---- the Takes of a dialog
 
-goes_fit : (z : WorldSettings) (w : World) (es : List Event) → Facts (values_of z) es w.values → restarts_in es < 4194304
+goes_fit : (z : WorldSettings) (w : World) (es : List Event) → Facts (values_of z) es w.values → restarts_in es < 4294967295
     → (k : ℕ) (y : Received) (ys : List Received) → (w.values.conns k).down ≡ y ∷ ys → GoingBounds w y
 goes_fit z w es f few k y ys h =
     let low = f.low in
@@ -54,7 +55,7 @@ as_64 : (n : ℕ) → n < 256 ^ 8 → n < 2 ^ 64
 as_64 n l = omega (arith, l)
 
 accepts_fit : (z : WorldSettings) → IsFitting z → (w : World) (es : List Event) → Facts (values_of z) es w.values
-    → restarts_in es < 4194304 → AcceptingBounds z w
+    → restarts_in es < 4294967295 → AcceptingBounds z w
 accepts_fit z fit w es f few =
     let low = f.low in
     record {
@@ -64,16 +65,16 @@ accepts_fit z fit w es f few =
 
 -- ---- a world on the way
 
-bounds_of : NothingIsRefused → (z : WorldSettings) → IsFitting z → IsLawful z → (w : World) (es : List Event)
-    → w.values ≡ run es (start (values_of z)) → IsTied z w → restarts_in es < 4194304 → submits_in es < 2 ^ 64 → IsLeft z w → Bounds z w
-bounds_of held z fit law w es e i few taken left =
+pub bounds_of : NothingIsRefused → (z : WorldSettings) → IsFitting z → IsLawful z → (w : World) (es : List Event)
+    → w.values ≡ run es (start (values_of z)) → IsTied z w → restarts_in es < 4294967295 → submits_in es < 2 ^ 64 → Bounds z w
+bounds_of held z fit law w es e i few taken =
     let f = facts_at (values_of z) es w.values e in
     record {
       opens = λ k. greeting_short z law fit w k;
       pushes = λ k slotless pick ready.
           pushes_fit held requests_are_short z law w es e i few taken k slotless (paid w k slotless pick) ready;
-      lines = λ k x xs so h line. lines_fit z w es e f few k x xs so h line (left.fronts k x xs so h);
-      dialogs = λ k x xs so h talks. dialogs_fit z w es e f few k x xs so h talks (left.fronts k x xs so h);
+      lines = λ k x xs so h line. lines_fit z w es e f few k x xs so h line (left_of z w es e f few k x xs h);
+      dialogs = λ k x xs so h talks. dialogs_fit z w es e f few k x xs so h talks;
       going = λ k y ys co h on. goes_fit z w es f few k y ys h;
       accepting = λ k co at. accepts_fit z fit w es f few;
     }
@@ -83,45 +84,40 @@ bounds_of held z fit law w es e i few taken left =
 low_of : (a b c d n : ℕ) → a ≡ b → b ≤ c → c ≡ d → d < n → a < n
 low_of a b c d n p l q h = omega (arith, p, l, q, h)
 
-in_step : NothingIsRefused → WireFacts → RunsGoInStep → (z : WorldSettings) (events : List Event) → IsFitting z
-    → restarts_in events < 4194304 → submits_in events < 2 ^ 64 → AreLeft z events → RunsInStep z events
-in_step held facts runs z events fit few taken left =
+pub in_step : NothingIsRefused → WireFacts → RunsGoInStep → (z : WorldSettings) (events : List Event) → IsFitting z
+    → restarts_in events < 4294967295 → submits_in events < 2 ^ 64 → RunsInStep z events
+in_step held facts runs z events fit few taken =
     let law = facts z fit in
     runs z events law (λ before after e w part reached is i.
     (let values = value_events z (bytes_start z) before in
-    let restarts = low_of (restarts_in values) (restarts_in before) (restarts_in (before ++ e ∷ after)) (restarts_in events) 4194304
+    let restarts = low_of (restarts_in values) (restarts_in before) (restarts_in (before ++ e ∷ after)) (restarts_in events) 4294967295
     (restarts_same z before (bytes_start z)) (restarts_part before (e ∷ after)) (ap restarts_in part) few in
     let submits = low_of (submits_in values) (submits_in before) (submits_in (before ++ e ∷ after)) (submits_in events) (2 ^ 64)
     (submits_same z before (bytes_start z)) (submits_part before (e ∷ after)) (ap submits_in part) taken in
-    bounds_of held z fit law w values is i restarts submits (left before after e w part reached is i)))
+    bounds_of held z fit law w values is i restarts submits))
 
 -- ---- each beginning of it
-
-left_part : (z : WorldSettings) (events : List Event) (n : ℕ) → AreLeft z events → AreLeft z (take n events)
-left_part z events n left before after e w part reached is i =
-    left before (after ++ drop n events) e w
-    (sym (append_assoc before (e ∷ after) (drop n events)) ∙ (ap (λ es. es ++ drop n events) part ∙ take-append-drop n events)) reached is i
 
 part_low : (a b c n : ℕ) → a ≤ b → b ≡ c → c < n → a < n
 part_low a b c n l e h = omega (arith, l, e, h)
 
 step_part : NothingIsRefused → WireFacts → RunsGoInStep → (z : WorldSettings) (events : List Event) → IsFitting z
-    → restarts_in events < 4194304 → submits_in events < 2 ^ 64 → AreLeft z events → (n : ℕ) → IsInStep z (take n events)
-step_part held facts runs z events fit few taken left n =
+    → restarts_in events < 4294967295 → submits_in events < 2 ^ 64 → (n : ℕ) → IsInStep z (take n events)
+step_part held facts runs z events fit few taken n =
     let front = take n events in
     let rest = drop n events in
-    let restarts = part_low (restarts_in front) (restarts_in (front ++ rest)) (restarts_in events) 4194304 (restarts_part front rest)
+    let restarts = part_low (restarts_in front) (restarts_in (front ++ rest)) (restarts_in events) 4294967295 (restarts_part front rest)
     (ap restarts_in (take-append-drop n events)) few in
     let submits = part_low (submits_in front) (submits_in (front ++ rest)) (submits_in events) (2 ^ 64) (submits_part front rest)
     (ap submits_in (take-append-drop n events)) taken in
-    let r = in_step held facts runs z front fit restarts submits (left_part z events n left) in
+    let r = in_step held facts runs z front fit restarts submits in
     r.in_step
 
 pub plain_runs : NothingIsRefused → WireFacts → RunsGoInStep → PlainNonces → PlainRunsGoInStep
-plain_runs held facts runs once z events fit few taken left =
-    let r = in_step held facts runs z events fit few taken left in
+plain_runs held facts runs once z events fit few taken =
+    let r = in_step held facts runs z events fit few taken in
     record {
       runs = r;
       replies = replies_are_heard z (plain_run z events) r.tied;
-      nonces = once z events (step_part held facts runs z events fit few taken left);
+      nonces = once z events (step_part held facts runs z events fit few taken);
     }

@@ -34,10 +34,10 @@ use Rattle.plain_law.proofs.Requests.{own_reads, creates, slot_low, own_plain, a
 
 -- ---- numbers
 
-pub small_id : (a r : ℕ) → r < 4194304 → a ≤ id_of (1 + r) max_ids → a < 256 ^ 8
+pub small_id : (a r : ℕ) → r < 4294967295 → a ≤ id_of (1 + r) max_ids → a < 256 ^ 8
 small_id a r few l = omega (arith, few, l)
 
-small_file : (a e g r : ℕ) → r < 4194304 → a ≤ id_of e g → e ≤ 1 + r → g ≤ max_ids → a < 256 ^ 8
+small_file : (a e g r : ℕ) → r < 4294967295 → a ≤ id_of e g → e ≤ 1 + r → g ≤ max_ids → a < 256 ^ 8
 small_file a e g r few l m h = omega (arith, few, l, m, h)
 
 small_guid : (salt g : ℕ) → salt < 2 ^ 64 → g < 2 ^ 64 → salt * 0x1_0000_0000_0000_0000 + g < 256 ^ 16
@@ -116,7 +116,7 @@ record Fit (z : WorldSettings) (c : Client) : Type 0 where
   session : c.session < 256 ^ 8
   tree : c.tree < 256 ^ 4
 
-fit_of : (z : WorldSettings) (es : List Event) (v : Values) → Facts (values_of z) es v → restarts_in es < 4194304 → Fit z v.client
+fit_of : (z : WorldSettings) (es : List Event) (v : Values) → Facts (values_of z) es v → restarts_in es < 4294967295 → Fit z v.client
 fit_of z es v f few =
     let sits = f.sits in
     let talk = f.talk in
@@ -138,7 +138,7 @@ taken_low : (z : WorldSettings) (es : List Event) (v : Values) → Facts (values
 taken_low z es v f few g l =
     let bounded = f.bounded in below g v.client.taken (submits_in es) l bounded.taken few
 
-file_low : (z : WorldSettings) (es : List Event) (v : Values) → Facts (values_of z) es v → restarts_in es < 4194304 → (q : ℕ)
+file_low : (z : WorldSettings) (es : List Event) (v : Values) → Facts (values_of z) es v → restarts_in es < 4294967295 → (q : ℕ)
     → makes_open (v.client.op q) ≡ true → is_ok (v.client.outcome q) ≡ true → v.client.file q < 256 ^ 8
 file_low z es v f few q mk ok =
     let made = f.made in
@@ -159,7 +159,7 @@ line_of held z w i k =
     (next_low held link.line link.reached)
 
 sends_fit : NothingIsRefused → RequestsAreShort → (z : WorldSettings) → IsLawful z → (w : World) → IsTied z w → (k : ℕ) (es : List Event)
-    (v : Values) → Facts (values_of z) es v → restarts_in es < 4194304 → submits_in es < 2 ^ 64 → (g : ℕ)
+    (v : Values) → Facts (values_of z) es v → restarts_in es < 4294967295 → submits_in es < 2 ^ 64 → (g : ℕ)
     → v.client.sent g ≡ true → (0 < g) × (g ≤ v.client.taken) → Paid (w.wires k).client_end (charge (weight (v.client.op g)))
     → IsLineMessage z (w.wires k).client_end k (own_message v.client k (w.wires k).client_end.purse.next g)
     (charge (weight (v.client.op g)))
@@ -204,7 +204,7 @@ sends_fit held short z law w i k es v f few taken g sent own paid =
     }
 
 asks_fit : NothingIsRefused → RequestsAreShort → (z : WorldSettings) → IsLawful z → (w : World) → IsTied z w → (k : ℕ) (es : List Event)
-    (v : Values) → Facts (values_of z) es v → restarts_in es < 4194304 → submits_in es < 2 ^ 64 → (g : ℕ)
+    (v : Values) → Facts (values_of z) es v → restarts_in es < 4294967295 → submits_in es < 2 ^ 64 → (g : ℕ)
     → (0 < g) × (g ≤ v.client.taken) → makes_open (v.client.op g) ≡ false → is_ok (v.client.outcome (create_at v.client g)) ≡ true
     → Paid (w.wires k).client_end 1
     → IsLineMessage z (w.wires k).client_end k (ask_message v.client k (w.wires k).client_end.purse.next g) 1
@@ -253,7 +253,7 @@ asks_fit held short z law w i k es v f few taken g own no_create ok paid =
 -- ---- behind the push
 
 sends_behind : NothingIsRefused → RequestsAreShort → (z : WorldSettings) → IsLawful z → (w : World) → IsTied z w → (k : ℕ)
-    (more : List Event) (d : Client) (a : Act) → Facts (values_of z) more (next_by w.values k d a) → restarts_in more < 4194304
+    (more : List Event) (d : Client) (a : Act) → Facts (values_of z) more (next_by w.values k d a) → restarts_in more < 4294967295
     → submits_in more < 2 ^ 64 → (g : ℕ) → a ≡ Sends g → Paid (w.wires k).client_end (charge (weight (d.op g)))
     → IsLineMessage z (w.wires k).client_end k (own_message d k (w.wires k).client_end.purse.next g) (charge (weight (d.op g)))
 sends_behind held short z law w i k more d a f restarts submits g e paid =
@@ -266,7 +266,7 @@ sends_behind held short z law w i k more d a f restarts submits g e paid =
     sends_fit held short z law w i k more v facts restarts submits g body.0 (carried.taken g body.0) paid
 
 asks_behind : NothingIsRefused → RequestsAreShort → (z : WorldSettings) → IsLawful z → (w : World) → IsTied z w → (k : ℕ)
-    (more : List Event) (d : Client) (a : Act) → Facts (values_of z) more (next_by w.values k d a) → restarts_in more < 4194304
+    (more : List Event) (d : Client) (a : Act) → Facts (values_of z) more (next_by w.values k d a) → restarts_in more < 4294967295
     → submits_in more < 2 ^ 64 → (g : ℕ) → a ≡ Asks g → Paid (w.wires k).client_end 1
     → IsLineMessage z (w.wires k).client_end k (ask_message d k (w.wires k).client_end.purse.next g) 1
 asks_behind held short z law w i k more d a f restarts submits g e paid =
@@ -279,7 +279,7 @@ asks_behind held short z law w i k more d a f restarts submits g e paid =
     asks_fit held short z law w i k more v facts restarts submits g (asked.0, asked.1) asked.2 asked.3 paid
 
 pub pushes_fit : NothingIsRefused → RequestsAreShort → (z : WorldSettings) → IsLawful z → (w : World) (es : List Event)
-    → w.values ≡ run es (start (values_of z)) → IsTied z w → restarts_in es < 4194304 → submits_in es < 2 ^ 64
+    → w.values ≡ run es (start (values_of z)) → IsTied z w → restarts_in es < 4294967295 → submits_in es < 2 ^ 64
     → (k : ℕ) (slotless : List ℕ) (pick : Option Pick) → w.values.client.ready k ≡ true → PushBounds z w k slotless pick
 pushes_fit held short z law w es is i few taken k slotless pick ready =
     let c = w.values.client in
@@ -288,7 +288,7 @@ pushes_fit held short z law w es is i few taken k slotless pick ready =
     let more = es ++ Push k slotless pick ∷ [] in
     let at : next_by w.values k d a ≡ run more (start (values_of z)) = next_is (values_of z) w.values es k slotless pick is ready in
     let f = facts_at (values_of z) more (next_by w.values k d a) at in
-    let restarts = subst (λ n. n < 4194304) (sym (restarts_next es k slotless pick)) few in
+    let restarts = subst (λ n. n < 4294967295) (sym (restarts_next es k slotless pick)) few in
     let submits = subst (λ n. n < 2 ^ 64) (sym (submits_next es k slotless pick)) taken in
     record {
       sends = λ g e paid. sends_behind held short z law w i k more d a f restarts submits g e paid;

@@ -1,5 +1,5 @@
 -- An operation's request is read back, and is none of a dialog.
-use Rattle.std.proofs.Common.{◌≡◌, ℕ, ◌+◌, ◌-◌, ◌*◌, ◌/◌, ◌<◌, ◌≤◌, ◌^◌, ◌==◌, true, false, ◌&&◌, if◌then◌else◌, List, refl, arith, Some}
+use Rattle.std.proofs.Common.{◌≡◌, ℕ, ◌+◌, ◌-◌, ◌/◌, ◌<◌, ◌≤◌, ◌^◌, ◌==◌, true, false, List, refl, arith, Some}
 use Rattle.std.proofs.lemmas.Bool.Decides.{nat_tests}
 use Rattle.wire_defs.specs.Header.{IsWritableHeader}
 use Rattle.wire_defs.specs.declared.header.Header.{Header}
@@ -127,7 +127,7 @@ asked_plain (OpClose create) guid file e = off e
 
 -- ---- its charge
 
-weight_low : (op : Op) → keeps_limits op ≡ true → weight op ≤ 1048577
+pub weight_low : (op : Op) → keeps_limits op ≡ true → weight op ≤ 1048577
 weight_low (OpWrite create at bytes) k = grind (arith, nat_tests)
 weight_low (OpRead create at size) k = grind (arith, nat_tests)
 weight_low _ k = omega arith

@@ -1,6 +1,6 @@
 -- The requests of an operation that keeps its limits fit a frame.
-use Rattle.std.proofs.Common.{◌≡◌, ℕ, ◌+◌, ◌-◌, ◌*◌, ◌%◌, ◌<◌, ◌≤◌, ◌^◌, ◌==◌, nat_le, Bool, true, false, ◌&&◌, if◌then◌else◌, List, [], ◌∷◌, ◌++◌}
-use Rattle.std.proofs.Common.{length, length-append, ◌∙◌, arith, Some, None}
+use Rattle.std.proofs.Common.{◌≡◌, ℕ, ◌+◌, ◌-◌, ◌<◌, ◌≤◌, ◌^◌, ◌==◌, nat_le, Bool, true, false, ◌&&◌, if◌then◌else◌, List, [], ◌∷◌, ◌++◌}
+use Rattle.std.proofs.Common.{length, length-append, arith, Some, None}
 use Rattle.wire_defs.specs.Places.{le, gap_to_8}
 use Rattle.wire_defs.specs.Table.{with_fields}
 use Rattle.wire_defs.specs.Utf16.{utf16}
@@ -36,7 +36,7 @@ use Rattle.plain_law.specs.Plain.{RequestsAreShort}
 
 -- ---- parts
 
-file_long : (o : ℕ) → length (file_id o) ≡ 16
+pub file_long : (o : ℕ) → length (file_id o) ≡ 16
 unfolding file_id
 file_long o = omega (arith, length-append (le 8 o) (le 8 o), length-le 8 o)
 
@@ -44,14 +44,14 @@ guid_long : (guid : ℕ) → length (guid_id guid) ≡ 16
 unfolding guid_id
 guid_long guid = length-le 16 guid
 
-gap_few : (n : ℕ) → gap_to_8 n ≤ 7
+pub gap_few : (n : ℕ) → gap_to_8 n ≤ 7
 gap_few n = omega arith
 
-gap_or_none : (b : Bool) (n : ℕ) → (if b then 0 else gap_to_8 n) ≤ 7
+pub gap_or_none : (b : Bool) (n : ℕ) → (if b then 0 else gap_to_8 n) ≤ 7
 gap_or_none true n = omega arith
 gap_or_none false n = gap_few n
 
-one_or_none : (b : Bool) → (if b then 1 else 0) ≤ 1
+pub one_or_none : (b : Bool) → (if b then 1 else 0) ≤ 1
 one_or_none true = omega arith
 one_or_none false = omega arith
 

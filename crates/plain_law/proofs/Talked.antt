@@ -1,8 +1,9 @@
 -- What the Serve of a NEGOTIATE or a SESSION_SETUP asks.
-use Rattle.std.proofs.Common.{◌≡◌, ℕ, ◌+◌, ◌<◌, ◌≤◌, ◌^◌, ◌==◌, Bool, true, false, ◌&&◌, if◌then◌else◌, List, [], ◌∷◌, refl, sym, ap, ◌∙◌, subst, arith}
+use Rattle.std.proofs.Common.{◌≡◌, ℕ, ◌+◌, ◌<◌, ◌≤◌, ◌^◌, Bool, true, false, ◌&&◌, if◌then◌else◌, List, ◌∷◌, refl, sym, ap, ◌∙◌, subst, arith}
 use Rattle.exchange_defs.specs.Table.{is_filled}
 use Rattle.exchange_defs.specs.Status.{success}
-use Rattle.exchange_defs.specs.Commands.{Setup, SetupRequest, Shows, Begins, Bad, Refused, Logon}
+use Rattle.exchange_defs.specs.Commands.{Setup, SetupRequest, Shows, Begins, Bad, Refused, Logon, Command, Aside, Unreadable, Logoff, TreeConnect, TreeDisconnect, Create, Close, Flush, Read}
+use Rattle.exchange_defs.specs.Commands.{Write, Lock, Ioctl, ListDirectory, QueryFile, QueryVolume, SetInfo}
 use Rattle.exchange_defs.specs.Schedules.{is_talking}
 use Rattle.exchange_defs.specs.State.{Message, last_moment}
 use Rattle.exchange_defs.specs.Client.{Identity, Stage, Apart, SaidNegotiate, SaidFirst, SaidSecond, AskedTree, guid_for}
@@ -22,10 +23,12 @@ use Rattle.wire_facts.specs.Steps.{restarts_in}
 use Rattle.step_law.specs.Links.{is_lined}
 use Rattle.tie_law.specs.Lines.{is_lines}
 use Rattle.run_law.specs.Bounds.{DialogBounds}
-use Rattle.plain_law.specs.Plain.{IsLeftOf}
 use Rattle.plain_law.proofs.Values.{Facts}
 use Rattle.plain_law.proofs.Requests.{own_plain, asked_plain, creates}
 use Rattle.plain_law.proofs.Pushed.{small_id, small_tree}
+use Rattle.plain_law.proofs.Sealed.{seals_fit}
+use Rattle.statuses_law.proofs.Runs.{statuses_fit}
+use Rattle.sealed_law.specs.Sealed.{sets_up}
 
 pub not_both : {X : Type 0} (b : Bool) → b ≡ true → b ≡ false → X
 not_both b e f = absurd (let h : true ≡ false = sym e ∙ f in cc)
@@ -149,6 +152,27 @@ logs_on z es v f k x xs h co bound at ok =
     let shown : is_logon c.who.logon ≡ true = successes_log_on v x r command mine.2 ok in
     logon_by (logon_of z) (sym (ap (λ (i : Identity). is_logon i.logon) talk.who) ∙ shown)
 
+-- ---- what is no line's is a NEGOTIATE or a SESSION_SETUP, or what else the connection answers by itself
+
+talks_up : (c : Command) → is_lines c ≡ false → sets_up c ≡ true
+talks_up (Aside status) off = refl
+talks_up (Setup request) off = refl
+talks_up (Unreadable status) off = absurd (let h : true ≡ false = off in cc)
+talks_up Logoff off = absurd (let h : true ≡ false = off in cc)
+talks_up (TreeConnect share) off = absurd (let h : true ≡ false = off in cc)
+talks_up TreeDisconnect off = absurd (let h : true ≡ false = off in cc)
+talks_up (Create request) off = absurd (let h : true ≡ false = off in cc)
+talks_up (Close file query) off = absurd (let h : true ≡ false = off in cc)
+talks_up (Flush file) off = absurd (let h : true ≡ false = off in cc)
+talks_up (Read file at size minimum channel) off = absurd (let h : true ≡ false = off in cc)
+talks_up (Write file at bytes channel) off = absurd (let h : true ≡ false = off in cc)
+talks_up (Lock file index number elements) off = absurd (let h : true ≡ false = off in cc)
+talks_up (Ioctl file code room) off = absurd (let h : true ≡ false = off in cc)
+talks_up (ListDirectory file class restart single pattern room) off = absurd (let h : true ≡ false = off in cc)
+talks_up (QueryFile file class room) off = absurd (let h : true ≡ false = off in cc)
+talks_up (QueryVolume file class room) off = absurd (let h : true ≡ false = off in cc)
+talks_up (SetInfo file setting) off = absurd (let h : true ≡ false = off in cc)
+
 -- ---- all of it
 
 pub fills : (b : Bool) (xs : List Sent) (x : Sent) (rest : List Sent) → b ≡ true → xs ≡ x ∷ rest → (b && is_filled xs) ≡ true
@@ -172,22 +196,28 @@ replies_fit z es v e k x xs so h =
     let back : Told es v x = subst (λ (u : Values). Told es u x) (sym e) (told.0, small_tree (answer (run es (start z)) x).reply.tree_id told.1) in
     back
 
+pub status_fits : (z : Settings) (es : List Event) (v : Values) → v ≡ run es (start z) → (k : ℕ) (x : Sent) (xs : List Sent)
+    → (v.conns k).up ≡ x ∷ xs → (answer v x).reply.status < 256 ^ 4
+status_fits z es v e k x xs h =
+    subst (λ (u : Values). (answer u x).reply.status < 256 ^ 4) (sym e)
+    (statuses_fit z es k x xs (subst (λ (u : Values). (u.conns k).up ≡ x ∷ xs) e h))
+
 pub dialogs_fit : (z : WorldSettings) (w : World) (es : List Event) → w.values ≡ run es (start (values_of z))
-    → Facts (values_of z) es w.values → restarts_in es < 4194304 → (k : ℕ) (x : Sent) (xs : List Sent)
-    → (w.values.conns k).server_open ≡ true → (w.values.conns k).up ≡ x ∷ xs → is_lines x.message.command ≡ false → IsLeftOf z w x
+    → Facts (values_of z) es w.values → restarts_in es < 4294967295 → (k : ℕ) (x : Sent) (xs : List Sent)
+    → (w.values.conns k).server_open ≡ true → (w.values.conns k).up ≡ x ∷ xs → is_lines x.message.command ≡ false
     → DialogBounds z w k x
-dialogs_fit z w es e f few k x xs so h talks left =
+dialogs_fit z w es e f few k x xs so h talks =
     let token = own (values_of z) es w.values f k x xs h talks in
     let told = replies_fit (values_of z) es w.values e k x xs so h in
     record {
       own = token;
       unlined = λ co. unlined (values_of z) es w.values f k x xs h talks token co;
       fits = record {
-        status = left.status;
+        status = status_fits (values_of z) es w.values e k x xs h;
         session = small_id (answer w.values x).reply.session_id (restarts_in es) few told.0;
         tree = told.1;
       };
       moment = moment_low w.values.moment f.moment;
       logs_on = λ co bound at ok. logs_on z es w.values f k x xs h co bound at ok;
-      seals = left.seals;
+      seals = seals_fit z es w.values e k x xs h (talks_up x.message.command talks);
     }

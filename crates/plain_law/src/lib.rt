@@ -1,5 +1,5 @@
-//! Every run of the exchange over bytes without tampering is one of the model of values, of settings that fit, of fewer restarts than a
-//! journal has room for and of fewer operations than a CreateGuid has numbers for, given what is left to say of the values (`IsLeft`).
+//! Every run of the exchange over bytes without tampering is one of the model of values, of settings that fit, of fewer restarts than an
+//! epoch of 32 bits has values and of fewer operations than a CreateGuid has numbers for.
 //!
 //! The law is a public function, whose contract is the statement.
 #![tactic(auto)]
@@ -12,10 +12,9 @@ use run_law::runs_law;
 use sending_law::plain_nonces_law;
 
 /// Over a run without tampering the values are those of a run of the model, each request and each reply that waits is heard as what it
-/// was made for, and the two ends of each connection are tied, where of each world on the way `IsLeft` holds: that statuses fit their
-/// field and replies a frame, that an operation's success has its operation's body, and that no logon seals without a cipher. That ids,
-/// guids, trees, slots and moments fit, that requests do, which messages wait and what a refusal and a logon tell, is proved. No nonce
-/// then comes twice in a session and a direction, where no binding waits for its last response behind 65,535 channels of a session.
+/// was made for, and the two ends of each connection are tied: ids, guids, trees, slots, statuses, moments and what is told fit, and so do
+/// requests and replies their frames. No nonce then comes twice in a session and a direction, where no binding waits for its last response
+/// behind 65,535 channels of a session.
 pub fn plain_runs_law()
     ensures runs { PlainRunsGoInStep }
 {

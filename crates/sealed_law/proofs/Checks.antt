@@ -1,6 +1,6 @@
 -- The checks of a SESSION_SETUP: a session begins where the server doesn't encrypt or the client has a cipher, and a channel is bound
 -- where the client has the session's cipher.
-use Rattle.std.proofs.Common.{◌≡◌, ℕ, ◌==◌, nat_le, Bool, true, false, not, ◌&&◌, ◌||◌, List, inl, inr, refl, sym, ◌∙◌, subst}
+use Rattle.std.proofs.Common.{◌≡◌, ℕ, ◌==◌, nat_le, Bool, true, false, not, ◌&&◌, ◌||◌, List, inl, inr, refl, sym, subst}
 use Rattle.std.proofs.Common.{Option, Some, None, is_some}
 use Rattle.exchange_defs.specs.Status.{user_session_deleted}
 use Rattle.exchange_defs.specs.Texts.{same_name}

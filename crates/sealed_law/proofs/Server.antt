@@ -1,5 +1,5 @@
 -- What an event does to the server's sessions as far as their ciphers go.
-use Rattle.std.proofs.Common.{◌≡◌, ℕ, ◌==◌, Bool, true, false, ◌&&◌, if◌then◌else◌, List, ◌++◌, inl, inr, refl, sym, ap, ◌∙◌, subst, arith}
+use Rattle.std.proofs.Common.{◌≡◌, ℕ, ◌==◌, Bool, true, false, if◌then◌else◌, List, inl, inr, refl, sym, ap, ◌∙◌, subst, arith}
 use Rattle.std.proofs.Common.{nat_le, length, Option, Some, None, is_some}
 use Rattle.exchange_defs.specs.Table.{put}
 use Rattle.exchange_defs.specs.Status.{success}

@@ -41,7 +41,7 @@ RepliesAreHeard w =
     (w.values.conns k).client_open ≡ true → (w.wires k).down ≡ b ∷ bs → (w.values.conns k).down ≡ y ∷ ys →
     (x : Heard) × (response_at (w.wires k).client_end (w.wires k).client_end.stage b ≡ Some x) × IsHeardReply w (w.wires k).client_end y x
 
--- ---- over every run without tampering, of fewer restarts than a journal has room for, and of no more operations than a CreateGuid
+-- ---- over every run without tampering, of fewer restarts than an epoch of 32 bits has values, and of no more operations than a CreateGuid
 -- has numbers for: 8 of its 16 bytes are the operation's
 
 unfoldable pub restarts_in : List Event → ℕ
@@ -65,4 +65,5 @@ pub record Steps (z : WorldSettings) (events : List Event) : Type 0 where
 
 abbrev pub StepLaw : Type 0
 StepLaw =
-    (z : WorldSettings) → IsFitting z → (events : List Event) → restarts_in events < 4194304 → submits_in events < 2 ^ 64 → Steps z events
+    (z : WorldSettings) → IsFitting z → (events : List Event) → restarts_in events < 4294967295 → submits_in events < 2 ^ 64
+    → Steps z events
