@@ -146,7 +146,7 @@ start_keeps z =
       numbered = none_sealed (sealers (bytes_start z).values.conns (bytes_start z).wires) (λ k. refl);
     }
 
-kept : (z : WorldSettings) (es : List ByteEvent) → Keeps (bytes_run z es (bytes_start z))
+pub kept : (z : WorldSettings) (es : List ByteEvent) → Keeps (bytes_run z es (bytes_start z))
 kept z es = run_keeps z es (bytes_start z) (start_keeps z)
 
 -- ---- nonces with the same bytes are the same

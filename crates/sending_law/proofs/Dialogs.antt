@@ -1,5 +1,5 @@
 -- Cuts, replies that end the session, and the dialogs.
-use Rattle.std.proofs.Common.{◌≡◌, ℕ, ◌+◌, ◌==◌, nat_lt, Bool, true, false, not, ◌&&◌, ◌||◌, if◌then◌else◌, List, refl, sym}
+use Rattle.std.proofs.Common.{◌≡◌, ℕ, ◌+◌, ◌==◌, ◌<◌, nat_lt, Bool, true, false, not, ◌&&◌, ◌||◌, if◌then◌else◌, List, refl, sym}
 use Rattle.std.proofs.Common.{ap, ◌∙◌, subst, arith, Option, Some, None, is_some}
 use Rattle.exchange_defs.specs.Table.{put}
 use Rattle.exchange_defs.specs.Status.{success, more_processing_required}
@@ -31,7 +31,7 @@ use Rattle.numbers_law.specs.Counted.{makes_new, binds, Counted}
 use Rattle.numbers_law.proofs.Moves.{put_same, put_other, put_field, not_both, remembered, Unmoved}
 use Rattle.numbers_law.proofs.Quiet.{Same, same, hear_same}
 use Rattle.step_law.proofs.Columns.{hear_keeps}
-use Rattle.sending_law.specs.Sent.{IsNew, may_send, sender_of, Sends}
+use Rattle.sending_law.specs.Sent.{HasNewId, may_send, sender_of, Sends}
 use Rattle.sending_law.proofs.Ends.{untouched, same_seals, off_at, all_off, goes_on, accepts, bound, second_true}
 
 -- ---- an end closes
@@ -208,7 +208,7 @@ refused_sends w k why idle i =
 -- what is known of a connection whose dialog is on its way
 record Talking (w : World) (k : ℕ) (stage : Stage) : Type 0 where
   counted : Counted w
-  fresh_id : IsNew w
+  fresh_id : HasNewId w
   sends : Sends w
   at : w.values.client.stage k ≡ stage
   idle : w.values.client.ready k ≡ false
@@ -219,7 +219,7 @@ idle_by w k stage false is off at i = refl
 idle_by w k stage true is off at i = absurd (off (sym at ∙ (let a = i.apart k is in a.0)))
 
 talking : (w : World) (k : ℕ) (stage : Stage) → (stage ≡ Apart → ⊥) → (w.wires k).client_end.stage ≡ stage
-    → (w.values.conns k).client_open ≡ true → Counted w → IsNew w → Sends w → Talking w k stage
+    → (w.values.conns k).client_open ≡ true → Counted w → HasNewId w → Sends w → Talking w k stage
 talking w k stage off at co c new i =
     let here = sym (c.stages k co) ∙ at in record {
       counted = c;
@@ -329,7 +329,7 @@ accepts_sends z w k x t =
       y = c.pending;
       count = c.accepted_count;
       session = id;
-      unranked = new.id k stage;
+      unranked = new k stage;
       rank = refl;
     }) t.counted t.sends
 
@@ -347,16 +347,15 @@ ready_world w a k session tree becomes live =
     with_values (closed_wires a k (ready_act_by becomes))
     (with_client (closed_by w.values k (ready_act_by becomes)) (ready_client w.values.client k session tree becomes live))
 
-bound_sends : (w : World) (k : ℕ) (x : Heard) → w.values.client.live ≡ true → Talking w k (SaidSecond true)
+bound_sends : (w : World) (k : ℕ) (x : Heard) → w.numbers < 65535 → w.values.client.live ≡ true → Talking w k (SaidSecond true)
     → Sends (ready_world w (channel_bound w k x) k w.values.client.session w.values.client.tree true true)
-bound_sends w k x alive t =
+bound_sends w k x room alive t =
     let v = ready_world w (channel_bound w k x) k w.values.client.session w.values.client.tree true true in
     let c = w.values.client in
     let n = bound_end (w.wires k).client_end x (w.numbers + 1) in
     let a : Wires = record (w.wires k) { client_end = n } in
     let ready_is = put_same c.ready k true in
     let stage_is = put_same c.stage k Apart in
-    let new = t.fresh_id in
     bound w v k (record {
       beside = record {
         ready = λ j q. put_other c.ready k j true q;
@@ -370,7 +369,7 @@ bound_sends w k x alive t =
       keys = refl;
       numbers = refl;
       seals = refl;
-      room = new.room k t.at;
+      room = room;
       rank = refl;
       alive = alive;
     }) t.sends
@@ -387,12 +386,12 @@ becomes_bound c e = ap (λ b. if b then c.session == c.session else nat_lt c.ses
     own_session : (n : ℕ) → (n == n) ≡ true
     own_session n = grind arith
 
-binds_sends : (z : WorldSettings) (w : World) (k : ℕ) (x : Heard) → Talking w k (SaidSecond true) → Passes z w k (SaidSecond true) x Binds
-binds_sends z w k x t =
+binds_sends : (z : WorldSettings) (w : World) (k : ℕ) (x : Heard) → w.numbers < 65535 → Talking w k (SaidSecond true) → Passes z w k (SaidSecond true) x Binds
+binds_sends z w k x room t =
     let c = w.values.client in
     let alive : c.live ≡ true = alive_by w k c.live refl (ap binds t.at) t.counted in
     subst (λ b. Sends (ready_world w (channel_bound w k x) k c.session c.tree b c.live)) (sym (becomes_bound c alive))
-    (subst (λ b. Sends (ready_world w (channel_bound w k x) k c.session c.tree true b)) (sym alive) (bound_sends w k x alive t))
+    (subst (λ b. Sends (ready_world w (channel_bound w k x) k c.session c.tree true b)) (sym alive) (bound_sends w k x room alive t))
 
 -- ---- a new session is ready, or there is no number for it
 
@@ -439,52 +438,64 @@ readies_sends z w k x t =
 
 -- ---- each response of a dialog
 
-step_sends : (z : WorldSettings) (w : World) (k : ℕ) (stage : Stage) (x : Heard) → Talking w k stage
+-- at the success of a binding there is a number
+abbrev Roomy : World → Stage → Heard → Type 0
+Roomy w stage x = stage ≡ SaidSecond true → (x.header.status == success) ≡ true → w.numbers < 65535
+
+step_sends : (z : WorldSettings) (w : World) (k : ℕ) (stage : Stage) (x : Heard) → Roomy w stage x → Talking w k stage
     → Passes z w k stage x (dialog_step stage x.header.status)
-step_sends z w k Apart x t = refused_sends w k (HadStatus x.header.status) t.idle t.sends
-step_sends z w k (SaidNegotiate bound) x t =
+step_sends z w k Apart x room t = refused_sends w k (HadStatus x.header.status) t.idle t.sends
+step_sends z w k (SaidNegotiate bound) x room t =
     either (Passes z w k (SaidNegotiate bound) x) (x.header.status == success) (GoesOn (SaidFirst bound)) (Refuses x.header.status)
     (λ _. first_sends z w k bound x t) (λ _. refused_sends w k (HadStatus x.header.status) t.idle t.sends)
-step_sends z w k (SaidFirst bound) x t =
+step_sends z w k (SaidFirst bound) x room t =
     either (Passes z w k (SaidFirst bound) x) (x.header.status == more_processing_required) (GoesOn (SaidSecond bound))
     (Refuses x.header.status) (λ _. next_sends z w k bound x t)
     (λ _. refused_sends w k (HadStatus x.header.status) t.idle t.sends)
-step_sends z w k (SaidSecond true) x t =
+step_sends z w k (SaidSecond true) x room t =
     either (Passes z w k (SaidSecond true) x) (x.header.status == success) Binds (Refuses x.header.status)
-    (λ _. binds_sends z w k x t) (λ _. refused_sends w k (HadStatus x.header.status) t.idle t.sends)
-step_sends z w k (SaidSecond false) x t =
+    (λ ok. binds_sends z w k x (room refl ok) t) (λ _. refused_sends w k (HadStatus x.header.status) t.idle t.sends)
+step_sends z w k (SaidSecond false) x room t =
     either (Passes z w k (SaidSecond false) x) (x.header.status == success) Accepts (Refuses x.header.status)
     (λ _. accepts_sends z w k x t) (λ _. refused_sends w k (HadStatus x.header.status) t.idle t.sends)
-step_sends z w k AskedTree x t =
+step_sends z w k AskedTree x room t =
     either (Passes z w k AskedTree x) (x.header.status == success) Readies (Refuses x.header.status)
     (λ _. readies_sends z w k x t) (λ _. refused_sends w k (HadStatus x.header.status) t.idle t.sends)
 
-passed_sends : (z : WorldSettings) (w : World) (k : ℕ) (stage : Stage) (x : Heard) (o : Option Refusal) → Talking w k stage
+passed_sends : (z : WorldSettings) (w : World) (k : ℕ) (stage : Stage) (x : Heard) (o : Option Refusal) → Roomy w stage x
+    → Talking w k stage
     → Sends (dialog_passed z w k stage x o)
-passed_sends z w k stage x (Some why) t = refused_sends w k why t.idle t.sends
-passed_sends z w k stage x None t = step_sends z w k stage x t
+passed_sends z w k stage x (Some why) room t = refused_sends w k why t.idle t.sends
+passed_sends z w k stage x None room t = step_sends z w k stage x room t
 
-dialog_sends : (z : WorldSettings) (w : World) (k : ℕ) (stage : Stage) (o : Option Heard) → Talking w k stage
+dialog_sends : (z : WorldSettings) (w : World) (k : ℕ) (stage : Stage) (o : Option Heard)
+    → ((x : Heard) → o ≡ Some x → Roomy w stage x) → Talking w k stage
     → Sends (dialog_hears z w k stage o)
-dialog_sends z w k stage None t = refused_sends w k BadToken t.idle t.sends
-dialog_sends z w k stage (Some x) t =
-    passed_sends z w k stage x (if x.header.status == due stage then dialog_fault z.client (w.wires k).client_end stage x else None) t
+dialog_sends z w k stage None room t = refused_sends w k BadToken t.idle t.sends
+dialog_sends z w k stage (Some x) room t =
+    passed_sends z w k stage x (if x.header.status == due stage then dialog_fault z.client (w.wires k).client_end stage x else None)
+    (room x refl) t
 
 pub hears_sends : (z : WorldSettings) (w : World) (k : ℕ) (b : List ℕ) (place : ℕ) (stage : Stage)
-    → (w.wires k).client_end.stage ≡ stage → (w.values.conns k).client_open ≡ true → Counted w → IsNew w → Sends w
-    → Sends (hears z w k b place stage)
-hears_sends z w k b place Apart at co c new i = line_sends w k place (line_response (w.wires k).client_end b) c i
-hears_sends z w k b place (SaidNegotiate bound) at co c new i =
+    → (w.wires k).client_end.stage ≡ stage → (w.values.conns k).client_open ≡ true → Counted w → HasNewId w
+    → ((x : Heard) → stage ≡ SaidSecond true → dialog_response (w.wires k).client_end (SaidSecond true) b ≡ Some x
+    → (x.header.status == success) ≡ true → w.numbers < 65535) → Sends w → Sends (hears z w k b place stage)
+hears_sends z w k b place Apart at co c new room i = line_sends w k place (line_response (w.wires k).client_end b) c i
+hears_sends z w k b place (SaidNegotiate bound) at co c new room i =
     dialog_sends z w k (SaidNegotiate bound) (dialog_response (w.wires k).client_end (SaidNegotiate bound) b)
+    (λ x e s ok. room x s (subst (λ q. dialog_response (w.wires k).client_end q b ≡ Some x) s e) ok)
     (talking w k (SaidNegotiate bound) (λ e. (let h : SaidNegotiate bound ≡ Apart = e in cc)) at co c new i)
-hears_sends z w k b place (SaidFirst bound) at co c new i =
+hears_sends z w k b place (SaidFirst bound) at co c new room i =
     dialog_sends z w k (SaidFirst bound) (dialog_response (w.wires k).client_end (SaidFirst bound) b)
+    (λ x e s ok. room x s (subst (λ q. dialog_response (w.wires k).client_end q b ≡ Some x) s e) ok)
     (talking w k (SaidFirst bound) (λ e. (let h : SaidFirst bound ≡ Apart = e in cc)) at co c new i)
-hears_sends z w k b place (SaidSecond bound) at co c new i =
+hears_sends z w k b place (SaidSecond bound) at co c new room i =
     dialog_sends z w k (SaidSecond bound) (dialog_response (w.wires k).client_end (SaidSecond bound) b)
+    (λ x e s ok. room x s (subst (λ q. dialog_response (w.wires k).client_end q b ≡ Some x) s e) ok)
     (talking w k (SaidSecond bound) (λ e. (let h : SaidSecond bound ≡ Apart = e in cc)) at co c new i)
-hears_sends z w k b place AskedTree at co c new i =
+hears_sends z w k b place AskedTree at co c new room i =
     dialog_sends z w k AskedTree (dialog_response (w.wires k).client_end AskedTree b)
+    (λ x e s ok. room x s (subst (λ q. dialog_response (w.wires k).client_end q b ≡ Some x) s e) ok)
     (talking w k AskedTree (λ e. (let h : AskedTree ≡ Apart = e in cc)) at co c new i)
 
 -- ---- Open: its dialog begins

@@ -5,7 +5,7 @@ use Rattle.std.proofs.lemmas.Bool.Decides.{nat_tests}
 use Rattle.exchange_defs.specs.Table.{is_filled}
 use Rattle.exchange_defs.specs.State.{Server}
 use Rattle.exchange_defs.specs.Operations.{Op, NoSession, weight, charge}
-use Rattle.exchange_defs.specs.Client.{Client, may_take, take_op, finish, own_message, ask_message, settle_no_slots}
+use Rattle.exchange_defs.specs.Client.{Client, SaidSecond, may_take, take_op, finish, own_message, ask_message, settle_no_slots}
 use Rattle.exchange_defs.specs.ClientStep.{Pick, Pushes, Act, Nothing, Sends as SendsOp, Asks, CloseChannel, CloseChannels, AllSettled}
 use Rattle.exchange_defs.specs.ClientStep.{some_unsettled, act, client_after, pick_act}
 use Rattle.exchange_defs.specs.Network.{Event, Submit, Open, Push, Serve, Take, Cut, Drop, Restart, Crash, Wait, Finish, Sent, Received}
@@ -17,6 +17,7 @@ use Rattle.world_defs.specs.Ends.{ServerEnd, Logons, ConnEnd, Spent}
 use Rattle.world_defs.specs.Hearing.{Frame, check_frame}
 use Rattle.world_defs.specs.Answering.{Seal, joined_in, text_limit, all_texts, each_joined, has_nonces, seals_by}
 use Rattle.world_defs.specs.Connection.{Taken, Going, ConnectionStep, ended_by, answered_in, answered_with, beginning, went_all, step_of}
+use Rattle.world_defs.specs.Dialog.{dialog_response}
 use Rattle.world_defs.specs.Sending.{line_frame, may_seal, spent, sealed_on}
 use Rattle.world_defs.specs.World.{World, Wires, queued, with_values, cost, may_pay}
 use Rattle.world_defs.specs.World.{paid, pushed_wires, values_took, replied_each, values_said, answered_wires, served_on, served_mutely}
@@ -257,10 +258,10 @@ absorb_sends z w k (b ∷ bs) (x ∷ xs) i = mutely_sends w k bs x xs (step_at z
 -- ---- Take
 
 take_sends : (z : WorldSettings) (w : World) (k : ℕ) (bs : List (List ℕ)) (ys : List Received) → (w.values.conns k).client_open ≡ true
-    → Counted w → IsNew w → Sends w → Sends (take_frame z w k bs ys)
-take_sends z w k [] ys co c new i = i
-take_sends z w k (b ∷ bs) [] co c new i = i
-take_sends z w k (b ∷ bs) (y ∷ ys) co c new i =
+    → (w.wires k).down ≡ bs → Counted w → IsNew w → Sends w → Sends (take_frame z w k bs ys)
+take_sends z w k [] ys co e c new i = i
+take_sends z w k (b ∷ bs) [] co e c new i = i
+take_sends z w k (b ∷ bs) (y ∷ ys) co e c new i =
     let v = behind_frame w k bs ys in
     let u = behind_unmoved w k bs ys in
     let n = unmoved w v u c in
@@ -274,10 +275,12 @@ take_sends z w k (b ∷ bs) (y ∷ ys) co c new i =
       rank = refl;
       ups = λ b y e up. (b, e);
     }) i in
-    let still : IsNew v = record { id = new.id; room = new.room } in
+    let same : (v.wires k).client_end ≡ (w.wires k).client_end = put_field (λ (x : Wires). x.client_end) w.wires k front refl k in
     let at = u.end_stage k in
     let so = u.is_open k in
-    hears_sends z v k b y.place (w.wires k).client_end.stage at (so ∙ co) n.counted still behind
+    hears_sends z v k b y.place (w.wires k).client_end.stage at (so ∙ co) n.counted new.id
+    (λ x s r ok. new.room k b bs x co (sym (c.stages k co) ∙ s) e (subst (λ q. dialog_response q (SaidSecond true) b ≡ Some x) same r) ok)
+    behind
 
 -- ---- each event
 
@@ -300,7 +303,7 @@ changed_sends z w (Push k slotless pick) can c new i =
 changed_sends z w (Serve k) can c new i = serve_sends z w k (w.wires k).up (w.values.conns k).up i
 changed_sends z w (Take k) can c new i =
     take_sends z w k (w.wires k).down (w.values.conns k).down
-    (first_of (w.values.conns k).client_open (is_filled (w.values.conns k).down) can) c new i
+    (first_of (w.values.conns k).client_open (is_filled (w.values.conns k).down) can) refl c new i
 changed_sends z w (Cut k) can c new i = cut_sends w k c i
 changed_sends z w (Drop k) can c new i = dropped_sends w k i
 changed_sends z w Restart can c new i = restarted_sends w i

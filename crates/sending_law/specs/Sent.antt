@@ -1,10 +1,12 @@
 -- What the client seals, and what holds of it in every world of a run.
-use Rattle.std.specs.Prelude.{◌≡◌, ℕ, ◌≤◌, ◌<◌, Bool, true, false, not, ◌||◌, List, [], ◌∷◌, take, Some, slice_get}
+use Rattle.std.specs.Prelude.{◌≡◌, ℕ, ◌==◌, ◌≤◌, ◌<◌, Bool, true, false, not, ◌||◌, List, [], ◌∷◌, take, Some, slice_get}
+use Rattle.exchange_defs.specs.Status.{success}
 use Rattle.exchange_defs.specs.Client.{Client, SaidSecond}
 use Rattle.exchange_defs.specs.Network.{Event}
 use Rattle.world_defs.specs.Settings.{WorldSettings}
 use Rattle.world_defs.specs.Ends.{ClientEnd}
-use Rattle.world_defs.specs.Dialog.{is_asked}
+use Rattle.world_defs.specs.Messages.{Heard}
+use Rattle.world_defs.specs.Dialog.{is_asked, dialog_response}
 use Rattle.world_defs.specs.Answering.{Seal}
 use Rattle.world_defs.specs.World.{World}
 use Rattle.world_defs.specs.Events.{ByteEvent, Plain, bytes_happen, bytes_run, bytes_start}
@@ -19,13 +21,19 @@ NoncesToServerOnce w =
     (i j : ℕ) (a b : Seal) → slice_get w.sealings i ≡ Some a → slice_get w.sealings j ≡ Some b → a.to_server ≡ true
     → IsOneNonce a b → i ≡ j
 
--- where a dialog waits for the last response of a binding, the number of one more channel fits its field
+-- where the success of a binding comes, the number of one more channel fits its field
 abbrev pub HasNumber : World → Type 0
-HasNumber w = (k : ℕ) → w.values.client.stage k ≡ SaidSecond true → w.numbers < 65535
+HasNumber w =
+    (k : ℕ) (b : List ℕ) (bs : List (List ℕ)) (x : Heard) → (w.values.conns k).client_open ≡ true →
+    w.values.client.stage k ≡ SaidSecond true → (w.wires k).down ≡ b ∷ bs →
+    dialog_response (w.wires k).client_end (SaidSecond true) b ≡ Some x → (x.header.status == success) ≡ true → w.numbers < 65535
 
--- and where it waits for that of a new session, the client never accepted one of this id
+-- and where a dialog waits for that of a new session, the client never accepted one of this id
+abbrev pub HasNewId : World → Type 0
+HasNewId w = (k : ℕ) → w.values.client.stage k ≡ SaidSecond false → w.values.client.rank w.values.client.pending ≡ 0
+
 pub record IsNew (w : World) : Type 0 where
-  pub id : (k : ℕ) → w.values.client.stage k ≡ SaidSecond false → w.values.client.rank w.values.client.pending ≡ 0
+  pub id : HasNewId w
   pub room : HasNumber w
 
 -- in each world of a run before its last event

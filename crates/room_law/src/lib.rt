@@ -1,0 +1,21 @@
+//! Where the success of a binding comes, in a run of the exchange over bytes without tampering, its session has a number for one more
+//! channel: of 65,535 the server gives each once.
+//!
+//! The law is a public function, whose contract is the statement.
+#![tactic(auto)]
+
+ghost use Rattle.room_law.specs.Room.{PlainRunsHaveRoom};
+
+use credit_law::nothing_is_refused_law;
+use logon_facts::wire_facts_law;
+use run_law::runs_law;
+
+/// The channels that a client has bound, and those whose success is on its way, are no more than the server numbered, which are 65,535 of a
+/// session at most (MS-SMB2 3.3.5.5.2).
+pub fn room_law()
+    ensures room { PlainRunsHaveRoom }
+{
+    nothing_is_refused_law();
+    wire_facts_law();
+    runs_law();
+}
