@@ -14,6 +14,7 @@ import struct
 import sys
 
 import session_formulas as f
+import worked_logon as worked
 from session_formulas import Type3, der, pairs, utf16
 from wire_contexts import header
 from wire_shown import Shown
@@ -480,6 +481,51 @@ def breaks(table, session):
             row(frame[:place] + bytes([frame[place] ^ 1]) + frame[place + 1 :], "BadTag")
 
 
+# ---- worked logons
+
+
+def worked_rows(table):
+    """Each part of the logons of worked_logon.py, whose bytes are made there."""
+    for logon in worked.worked_logons():
+        table.title(f"a worked logon, {logon.name}: choice, tokens, chain, keys, signatures, sealed messages")
+        offered = [",".join(map(str, ids)) or "-" for ids in (logon.ciphers, logon.signings)]
+        chosen = Shown("Chosen", cipher=logon.cipher, signing=logon.signing, signing_told=bool(logon.signings))
+        table.row("choice yes yes " + " ".join(offered), chosen)
+        worked_tokens(table, logon.tokens)
+        table.row("chain " + " ".join(message.hex() for message in logon.transcript), logon.chain.hex())
+        asked = f"keys {logon.tokens.key.hex()} {logon.chain.hex()} {logon.cipher} {logon.signing} {logon.session}"
+        table.row(asked, keys_shown(logon.keys, logon.keys.signing, logon.signing, logon.cipher, logon.session))
+        worked_frames(table, logon)
+
+
+def worked_tokens(table, t):
+    table.row("first -", t.type1.hex())
+    init_row(table, t.first, t.list, True, t.type1)
+    table.row(f"challenge {t.type1.hex()} {t.server.hex()} {t.now}", t.type2.hex())
+    resp_row(table, t.interim, 1, True, t.type2)
+    client = f"{worked.USER} {worked.PASSWORD} - {t.challenge.hex()} {t.key.hex()}"
+    table.row(f"answer {client} {t.type1.hex()} {t.type2.hex()}", t.type3.hex())
+    table.row(f"list_mic {t.key.hex()} client exchanged {t.list.hex()}", t.second[-16:].hex())
+    resp_row(table, t.second, inner=t.type3, mic=t.second[-16:])
+    table.row(f"check {t.type1.hex()} {t.server.hex()} {t.now} {t.type3.hex()}", f"{t.key.hex()} exchanged {worked.USER}")
+    table.row(f"list_mic {t.key.hex()} server exchanged {t.list.hex()}", t.final[-16:].hex())
+    resp_row(table, t.final, 0, mic=t.final[-16:])
+
+
+def worked_frames(table, logon):
+    """A signature is asked of the message with zeros in its place."""
+    if logon.encrypts:
+        table.row("nonces 1 2", b"".join(struct.pack("<QH6x", counter, 1) for counter in range(2)).hex())
+    for place, message in enumerate(logon.messages):
+        if message.signed:
+            bare = message.frame[:48] + bytes(16) + message.frame[64:]
+            table.row(f"sign {logon.signing} {logon.keys.signing.hex()} {bare.hex()}", message.frame[48:64].hex())
+        if message.sealed:
+            side, key = ("server", logon.keys.to_client) if place % 2 else ("client", logon.keys.to_server)
+            asked = f"{logon.cipher} {key.hex()} {logon.session} {side} {message.frame[20:36].hex()} {message.text.hex()}"
+            table.row(f"seal {asked}", shown(message.frame))
+
+
 def main():
     table = Table()
     published(table)
@@ -493,6 +539,7 @@ def main():
     nonces(table)
     signatures(table)
     seals(table)
+    worked_rows(table)
     table.write("logon_vectors")
     return 0
 

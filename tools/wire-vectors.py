@@ -18,6 +18,7 @@ import wire_classes as classes
 import wire_contexts as contexts
 import wire_layouts as layouts
 import wire_records as records
+import worked_logon as worked
 from wire_layouts import HEADER, packed, snake
 from wire_shown import Shown
 
@@ -377,6 +378,20 @@ LOGON = {
 }
 
 
+def worked_rows(session, file):
+    """The headers and bodies of one of the logons of worked_logon.py, which writes them by itself."""
+    logon = worked.worked_logons()[0]
+    for table in (session, file):
+        table.title(f"a worked logon, {logon.name}: its messages, the sealed ones as they were before")
+    for message in logon.messages:
+        table, of_table = (session, layouts.SESSION) if message.name in layouts.SESSION else (file, layouts.FILE)
+        layout = of_table[message.name]
+        contexts.spelled_header_row(session, message.frame if message.signed else message.text)
+        value = layout.read(message.text)
+        assert layout.spelled(value) == message.text[HEADER:], message.name
+        accepted(table, message.name, layout, value)
+
+
 def chosen(messages, names):
     return {name: messages[name] for name in names}
 
@@ -389,6 +404,7 @@ def main():
     tables_of(session, layouts.SESSION, session_values())
     logon_cuts(session, chosen(layouts.SESSION, LOGON["session"]), session_values())
     contexts.negotiate_context_rows(session)
+    worked_rows(session, file)
     tables_of(file, layouts.FILE, file_values())
     logon_cuts(file, chosen(layouts.FILE, LOGON["file"]), file_values())
     lock_elements(file)

@@ -29,6 +29,14 @@ def header_row(table, **fields):
     table.row(f"header {header(**fields).hex()}", f"header: {value}", f"  {written.hex()}")
 
 
+def spelled_header_row(table, message):
+    """The row of the header that a message begins with."""
+    names = ("charge", "status", "command", "credits", "flags", "next", "message", "reserved", "tree", "session")
+    fields = dict(zip(names, struct.unpack_from("<HIHHIIQIIQ", message, 6)), signature=message[48:64])
+    assert header(**fields) == message[:64]
+    header_row(table, **fields)
+
+
 def header_rows(table):
     table.title("headers (2.2.1.2; asynchronous 2.2.1.1, whose AsyncId has TreeId's place in its upper half)")
     signature = bytes(range(16, 32))

@@ -5,3 +5,5 @@ pub mod Bound
 pub mod Owed
 pub mod Replies
 pub mod Others
+pub mod Greetings
+pub mod Requests

@@ -1,3 +1,5 @@
 pub mod Ends
 pub mod Events
 pub mod Keyed
+pub mod Worked
+pub mod Meeting

@@ -1,19 +1,26 @@
 //! Worked examples of the exchange over bytes, computed by the checker: frames of several messages, related ones, events that
-//! found no memory or a server that stopped, what is signed, sealed and bound, and a dialog without credits.
+//! found no memory or a server that stopped, what is signed, sealed and bound, and a dialog without credits; and a worked
+//! logon, the bytes of which another implementation makes.
 #![tactic(auto)]
 
 ghost use Rattle.std.specs.Prelude.{◌≡◌, ℕ, [], ◌∷◌, ◌++◌, true, false, Some, None, replicate, length};
 ghost use Rattle.credit_defs.specs.Ids.{ids_from};
 ghost use Rattle.exchange_defs.specs.Client.{SaidFirst, SaidSecond, AskedTree};
+ghost use Rattle.exchange_defs.specs.Commands.{TreeConnect};
 ghost use Rattle.exchange_defs.specs.Operations.{BadToken};
+ghost use Rattle.token_defs.specs.Tokens.{first_token};
 ghost use Rattle.world_defs.specs.Ends.{OutsideWindow, Stopped};
 ghost use Rattle.world_defs.specs.Related.{file_named};
 ghost use Rattle.world_defs.specs.Dialog.{pays_next};
 ghost use Rattle.world_defs.specs.Logon.{Interim, signer_of, final_keys};
+ghost use Rattle.world_defs.specs.Sending.{greeting_text, setup_text, request_text};
 ghost use Rattle.world_examples.specs.Ends.{greeted_end, take_frame, echo, cancel, two_echoes, related_echoes, statuses_of, go_through};
 ghost use Rattle.world_examples.specs.Keyed.{go_in_session, two_trees, some_keys, keyed_end, signed_echo, signed_reply};
 ghost use Rattle.world_examples.specs.Keyed.{sealed_echo, sealed_reply, keyed_logons, binding, bound_second};
 ghost use Rattle.world_examples.specs.Events.{two_disconnects, with_mishaps, lacks, halts, setup_behind, penniless, granting, fault_at};
+ghost use Rattle.world_examples.specs.Meeting.{client_of_logon, share_name, first_id, sent, dialog_sent, create_asked};
+ghost use Rattle.world_examples.specs.Meeting.{greeting_heard, first_setup_heard, last_told, tree_told, create_told, signed_tree_heard};
+ghost use Rattle.world_examples.specs.Worked as worked;
 
 /// Two messages of one frame are answered in one frame. Neither is signed, and no key is there to sign with.
 pub fn two_echoes_example()
@@ -117,4 +124,31 @@ pub fn binding_example()
     ensures signer { signer_of [] keyed_logons 0 greeted_end binding (Interim true) ≡ Some some_keys.signing }
     ensures keys { (final_keys [] keyed_logons 0 greeted_end binding true).to_server ≡ replicate 32 2 }
     ensures channel { bound_second.channel ≡ 2 }
+{}
+
+/// NEGOTIATE, and the server's step over it.
+pub fn worked_greeting_example()
+    ensures asked { greeting_text client_of_logon worked.client_salt (dialog_sent 0 0) ≡ worked.greeting }
+    ensures told { greeting_heard.frames ≡ worked.greeting_reply ∷ [] }
+{}
+
+/// Both SESSION_SETUPs. The second token, and what ends the logon, are given; the final response is signed by AES-CMAC.
+pub fn worked_setup_example()
+    ensures first { setup_text false 0 first_token (dialog_sent 1 0) ≡ worked.first_setup }
+    ensures interim { first_setup_heard.frames ≡ worked.interim ∷ [] }
+    ensures second { setup_text false 0 worked.second_token (dialog_sent 2 first_id) ≡ worked.second_setup }
+    ensures last { last_told ≡ worked.last_reply }
+{}
+
+/// TREE_CONNECT and its response as they are before they are sealed; and the server's step over a signed one.
+pub fn worked_tree_example()
+    ensures asked { request_text (sent 3 first_id 0 (TreeConnect share_name)) 1 false ≡ worked.tree_asked }
+    ensures told { tree_told ≡ worked.tree_told }
+    ensures signed { signed_tree_heard.frames ≡ worked.signed_tree_told ∷ [] }
+{}
+
+/// A CREATE of a persistent open and its response, before they are sealed.
+pub fn worked_create_example()
+    ensures asked { request_text (sent 4 first_id 1 create_asked) 1 false ≡ worked.create_asked }
+    ensures told { create_told ≡ worked.create_told }
 {}
