@@ -19,6 +19,7 @@ held told seen may_leave c s L records h none = record {
   sound = h.sound;
   goes_on = none;
   stopped_is = h.stopped_is;
+  used = h.used none;
   stands = h.stands none;
 }
 
@@ -63,6 +64,7 @@ held_still {D} told seen may_leave old new s records o same h = record {
   sound = h.sound;
   goes_on = same ∙ h.goes_on;
   stopped_is = same ∙ (h.stopped_is ∙ sym (ap (λ (i : JournalState D). i.stopped) o.0));
+  used = h.used ∙ sym (ap (λ (i : JournalState D). i.used) o.0);
   stands = λ t. let b = h.stands t in (b.0, stands_still seen may_leave old.journal new.journal s records b.0 o b.1);
 }
 
@@ -75,6 +77,7 @@ holds_shown told seen may_leave c s L records h shown = record {
   version = h.version;
   sound = h.sound;
   stopped_is = h.stopped_is;
+  used = λ none. h.used;
   stands = λ none t. h.stands t;
 }
 
@@ -99,6 +102,7 @@ holds_more told seen may_leave old new s t M records more body law h f b count w
   version = f.version ∙ h.version;
   sound = sound_more records more h.sound f.sound;
   stopped_is = w.same ∙ (h.stopped_is ∙ sym w.journal_same);
+  used = λ none. count ∙ (ap (λ (n : ℕ). n + added_by body) h.used ∙ sym w.used);
   stands = λ none tells.
       let c = h.stands tells in (
         c.0 ++ bodies_of body,

@@ -294,6 +294,20 @@ impl<D: Disk> Journal<D> {
         answer
     }
 
+    /// How many bytes the journal uses, with the gate at its end.
+    pub fn used(&self) -> u64
+        ensures { result ≡ self.now.used }
+    {
+        self.gate + 1
+    }
+
+    /// Where the gate stands of the body that `next_body` hands out next; where all were, that of the closed one behind the last.
+    pub fn next_gate(&self) -> u64
+        ensures { result ≡ self.now.next }
+    {
+        self.next
+    }
+
     /// Hands back the disk.
     pub fn stop(self) -> D
         ensures { result ≡ self.disk }

@@ -21,10 +21,11 @@ begun told seen may_leave faults z disk j t r =
         version = s.version;
         sound = s.sound;
         stopped_is = sym r.0;
-        stands = λ none tells. let b = r.5 tells in (
+        used = λ none. r.5;
+        stands = λ none tells. let b = r.6 tells in (
           b.bodies ++ b.body ∷ [],
-          record { settled = b.settled; spelled = b.more; for_state = s.for_state; used = b.used },
+          record { settled = b.settled; spelled = b.more; for_state = s.for_state; used = r.5 },
         );
       },
-      λ tells. let b = r.5 tells in (b.bodies, b.stood, b.spelled, b.bytes_are),
+      λ tells. let b = r.6 tells in (b.bodies, b.stood, b.spelled, b.bytes_are),
     )

@@ -32,7 +32,8 @@ pub record Stands {D : Type 0} (seen : D → List ℕ) (may_leave : D → List �
   pub for_state : Recovers records s
   pub used : s.journal ≡ journal.used
 
--- a server's records are of version 2, and none makes an open that deletes the root on close
+-- A server's records are of version 2, and none makes an open that deletes the root on close. As long as no call of the disk failed,
+-- the state counts the bytes that the journal uses.
 pub record Holds {D : Type 0} (told : Type 0) (seen : D → List ℕ) (may_leave : D → List ℕ
     → Type 0) (c : ServerState D) (s : model.Server)
     (L : Logons) (records : List model.Record) : Type 0 where
@@ -41,6 +42,7 @@ pub record Holds {D : Type 0} (told : Type 0) (seen : D → List ℕ) (may_leave
   pub version : s.version ≡ 2
   pub sound : all_sound records ≡ true
   pub stopped_is : c.stopped ≡ c.journal.stopped
+  pub used : c.stopped ≡ None → s.journal ≡ c.journal.used
   pub stands : c.stopped ≡ None → told → (bodies : List (List ℕ)) × Stands seen may_leave c.journal s records bodies
 
 -- what a server that goes on holds but for what its tables show
@@ -51,6 +53,7 @@ pub record Held {D : Type 0} (told : Type 0) (seen : D → List ℕ) (may_leave 
   pub sound : all_sound records ≡ true
   pub goes_on : c.stopped ≡ None
   pub stopped_is : c.stopped ≡ c.journal.stopped
+  pub used : s.journal ≡ c.journal.used
   pub stands : told → (bodies : List (List ℕ)) × Stands seen may_leave c.journal s records bodies
 
 -- ---- an event that has an answer: the model's step of the event that it is, and beside the reply the parts of a logon

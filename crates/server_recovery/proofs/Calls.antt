@@ -1,35 +1,6 @@
--- Calls of a journal one behind the other, and how far its last gate stands.
-use Rattle.std.proofs.Common.{◌≡◌, inl, inr, ⊎_elim, ℕ, ◌+◌, List, [], ◌∷◌, ◌++◌, length, refl}
-use Rattle.std.proofs.Common.{sym, ap, ◌∙◌, append_assoc, length-append, arith}
-use Rattle.std.proofs.lemmas.List.{append-nil}
-use Rattle.wire_defs.specs.Places.{le}
-use Rattle.wire_defs.proofs.Numbers.{length-le}
-use Rattle.journal_defs.specs.Grammar.{magic, entry, opened, front}
+-- Calls of a journal one behind the other.
+use Rattle.std.proofs.Common.{◌≡◌, inl, inr, ⊎_elim, ℕ, List, refl, ◌∙◌, arith}
 use Rattle.journal_defs.specs.Moments.{LeavesOnly, Quiet}
-
--- ---- one body more
-
-opened_more : (bodies : List (List ℕ)) (body : List ℕ) → opened (bodies ++ body ∷ []) ≡ opened bodies ++ opened (body ∷ [])
-opened_more [] body = refl
-opened_more (b ∷ bodies) body =
-    ap (λ (l : List ℕ). 1 ∷ (entry b ++ l)) (opened_more bodies body)
-    ∙ ap (λ (l : List ℕ). 1 ∷ l) (sym (append_assoc (entry b) (opened bodies) (opened (body ∷ []))))
-
-front_more : (bodies : List (List ℕ)) (body : List ℕ) → front (bodies ++ body ∷ []) ≡ front bodies ++ 1 ∷ (entry body ++ [])
-front_more bodies body =
-    ap (λ (l : List ℕ). magic ++ l) (opened_more bodies body) ∙ sym (append_assoc magic (opened bodies) (opened (body ∷ [])))
-
-pub gate_more : (bodies : List (List ℕ)) (body : List ℕ) → length (front (bodies ++ body ∷ []))
-    ≡ length (front bodies) + 5 + length body
-gate_more bodies body =
-    let sizes : length (front (bodies ++ body ∷ [])) ≡ length (front bodies ++ 1 ∷ (entry body ++ [])) =
-    ap length (front_more bodies body) in
-    let left : length (front bodies ++ 1 ∷ (entry body ++ [])) ≡ length (front bodies) + length
-    (1 ∷ (entry body ++ [])) = length-append (front bodies) (1 ∷ (entry body ++ [])) in
-    let middle : length (entry body ++ []) ≡ length (entry body) = ap length (append-nil (entry body)) in
-    let inner : length (entry body) ≡ length (le 4 (length body)) + length body = length-append (le 4 (length body)) body in
-    let four : length (le 4 (length body)) ≡ 4 = length-le 4 (length body) in
-    omega arith
 
 -- ---- runs of calls that only read
 

@@ -1,5 +1,5 @@
 -- What a recovery reads, body by body, and what stops it.
-use Rattle.std.specs.Prelude.{◌≡◌, ◌⊎◌, ℕ, ◌+◌, List, [], ◌∷◌, ◌++◌, length, take, true, false, slice_get, Some, ⊤}
+use Rattle.std.specs.Prelude.{◌≡◌, ◌⊎◌, ℕ, List, [], ◌∷◌, ◌++◌, length, take, true, false, slice_get, Some, ⊤}
 use Rattle.exchange_defs.specs.Fold.{nothing_yet, fold, fold_from}
 use Rattle.exchange_defs.specs.State as model
 use Rattle.journal_defs.specs.Grammar.{front}
@@ -8,7 +8,7 @@ use Rattle.journal_records.specs.Meaning.{records_of}
 use Rattle.journal_records.specs.declared.fault.RecordError.{RecordError}
 use Rattle.journal_records.specs.declared.fault.RecordError.TheVariants as faulty
 use Rattle.journal_records.specs.declared.value.Record.{Record}
-use Rattle.persist_journal.specs.Journal.{JournalState, Settled, capped}
+use Rattle.persist_journal.specs.Journal.{JournalState, Settled}
 use Rattle.persist_journal.specs.declared.journal.JournalError.{JournalError}
 use Rattle.persist_journal.specs.declared.journal.JournalError.TheVariants as causes
 use Rattle.smb_io.specs.Faults.{Rose}
@@ -54,16 +54,12 @@ pub record IsReadFrom (d : Durable) (s : model.Server) (bodies : List (List ℕ)
 abbrev pub HandedOut : {D : Type 0} → Type 0 → (D → List ℕ) → (D → List ℕ → Type 0) → JournalState D → List (List ℕ) → Type 0
 HandedOut told seen may_leave journal bodies = told → (all : List (List ℕ)) → Settled seen may_leave journal all → bodies ≡ all
 
--- the gate behind a body whose own stands behind so many bytes
-abbrev pub IsBehind : ℕ → List ℕ → ℕ → Type 0
-IsBehind gate body next = (bytes : ℕ) → gate ≡ capped bytes → next ≡ capped (bytes + 5 + length body)
-
 -- ---- what stops it
 
 -- the first body that no server writes, told by its gate
 abbrev pub FoldRefused : List (List ℕ) → JournalError → Type 0
 FoldRefused bodies (causes.NotAJournal at) = (k : ℕ) × (body : List ℕ) × (records : List model.Record)
-    × (slice_get bodies k ≡ Some body) × (at ≡ capped (length (front (take k bodies)))) × BodiesSpell (take k bodies) records
+    × (slice_get bodies k ≡ Some body) × (at ≡ length (front (take k bodies))) × BodiesSpell (take k bodies) records
     × (all_sound records ≡ true) × NoServerWrites (fold records).version body
 FoldRefused bodies causes.Memory = ⊤
 FoldRefused bodies (causes.DiskFault n) = ⊤

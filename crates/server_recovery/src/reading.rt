@@ -1,14 +1,13 @@
 //! Body by body, one in memory.
-ghost use Rattle.std.specs.Prelude.{◌≡◌, ℕ, List, length, true, IfErr, IfOk, MatchResult, None, OnOk, ⊤};
+ghost use Rattle.std.specs.Prelude.{◌≡◌, ℕ, List, true, IfErr, IfOk, MatchResult, None, OnOk, ⊤};
 ghost use Rattle.exchange_defs.specs.State as model;
-ghost use Rattle.journal_defs.specs.Grammar.{front};
 ghost use Rattle.journal_defs.specs.Moments.{Quiet};
 ghost use Rattle.journal_records.specs.Grammar.{SpellsRecords};
 ghost use Rattle.journal_records.specs.Meaning.{opened, record_of, records_of};
-ghost use Rattle.persist_journal.specs.Journal.{Settled, capped};
+ghost use Rattle.persist_journal.specs.Journal.{Settled};
 ghost use Rattle.server_fold.specs.Durable.{DurableShown};
 ghost use Rattle.server_law.specs.Fits.{Fits, all_sound, is_sound, keeps_root};
-ghost use Rattle.server_recovery.specs.Reading.{BodyCause, BodyRefused, FoldRefused, FoldedBy, HandedOut, IsBehind, IsNothing};
+ghost use Rattle.server_recovery.specs.Reading.{BodyCause, BodyRefused, FoldRefused, FoldedBy, HandedOut, IsNothing};
 ghost use Rattle.server_recovery.specs.Reading.{IsReadFrom, ReadRefused, cause_of};
 
 use journal_records::{NewOpen, Record, RecordError, Records, read_records};
@@ -18,24 +17,19 @@ use server_verdicts::deletes_on_close;
 use smb_bytes::Bytes;
 use smb_io::Disk;
 
-// The first gate, and what stands around a body: its length in front, and the next gate.
-const FIRST_GATE: u64 = 8;
-
-const AROUND: u64 = 5;
-
-/// Applies each body of a journal that was just recovered. Answers where its last gate stands; the place stands still at
-/// 2^64 - 1. `NotAJournal` has the gate of the first body that no server writes: it is no list of records, or one of them makes
-/// an open that deletes the root on close. Where it is refused the state is no longer to be used: a part of the bodies may have
-/// been applied.
+/// Applies each body of a journal that was just recovered. `NotAJournal` has the gate of the first body that no server writes: it
+/// is no list of records, or one of them makes an open that deletes the root on close. Where it is refused the state is no longer
+/// to be used: a part of the bodies may have been applied.
 pub fn fold_bodies<D: Disk>(
     journal: &mut Journal<D>,
     state: &mut Durable,
-) -> Result<u64, JournalError>
+) -> Result<(), JournalError>
     requires { (journal.old.stopped ≡ None) × (journal.old.taken ≡ 0) }
-    ensures read { IfOk result (λ gate. (journal.new.stopped ≡ None) × (D.faults journal.new.disk ≡ D.faults journal.old.disk)) }
+    ensures read { IfOk result (λ _. (journal.new.stopped ≡ None) × (D.faults journal.new.disk ≡ D.faults journal.old.disk)
+        × (journal.new.used ≡ journal.old.used)) }
     ensures folded { (s : model.Server) → IsNothing s → DurableShown state.old s
-        → IfOk result (λ gate. (bodies : List (List ℕ)) × (records : List model.Record) × IsReadFrom state.new s bodies records
-        × (gate ≡ capped (length (front bodies))) × HandedOut D.told D.seen D.may_leave journal.old bodies) }
+        → IfOk result (λ _. (bodies : List (List ℕ)) × (records : List model.Record) × IsReadFrom state.new s bodies records
+        × HandedOut D.told D.seen D.may_leave journal.old bodies) }
     ensures stays { D.told → (bodies : List (List ℕ)) → Settled D.seen D.may_leave journal.old bodies
         → OnOk result (Settled D.seen D.may_leave journal.new bodies) }
     ensures refused { D.told → (s : model.Server) → IsNothing s → DurableShown state.old s → (bodies : List (List ℕ))
@@ -43,29 +37,28 @@ pub fn fold_bodies<D: Disk>(
     ensures quiet { Quiet D.told D.seen D.may_leave D.moment D.left_since journal.old.disk journal.new.disk }
     ensures cause { MatchResult result (λ _. ⊤) (λ x. ReadRefused D.faults journal.old.disk x journal.new) }
 {
-    let mut gate = FIRST_GATE;
     loop {
+        let gate = journal.next_gate();
         match journal.next_body() {
             Ok(Some(body)) => match fold_body(state, &body, gate) {
-                Ok(next) => gate = next,
+                Ok(()) => {}
                 Err(error) => return Err(error),
             },
-            Ok(None) => return Ok(gate),
+            Ok(None) => return Ok(()),
             Err(error) => return Err(error),
         }
     }
 }
 
-// Applies a body whose gate stands there. Answers where the next one stands.
-fn fold_body(state: &mut Durable, body: &Bytes, gate: u64) -> Result<u64, JournalError>
+// Applies a body whose gate stands there.
+fn fold_body(state: &mut Durable, body: &Bytes, gate: u64) -> Result<(), JournalError>
     ensures applied { (s : model.Server) → Fits s → DurableShown state.old s → MatchResult result
         (λ _. FoldedBy state.new s body.now) (λ x. BodyRefused s.version body.now x) }
-    ensures behind { IfOk result (λ next. IsBehind gate body.now next) }
     ensures cause { IfErr result (λ x. BodyCause gate x) }
 {
     match records_in(state, body, gate) {
         Ok(records) => match state.with_records(records.as_slice()) {
-            Ok(()) => Ok(gate_behind(gate, body)),
+            Ok(()) => Ok(()),
             Err(_) => Err(JournalError::Memory),
         },
         Err(error) => Err(error),
@@ -119,13 +112,6 @@ fn keeps_root(file: u64, new: &Option<NewOpen>) -> bool
         Some(new) => !(deletes_on_close(new.options) && file == 0),
         None => true,
     }
-}
-
-fn gate_behind(gate: u64, body: &Bytes) -> u64
-    ensures { IsBehind gate body.now result }
-{
-    gate.saturating_add(AROUND)
-        .saturating_add(body.len() as u64)
 }
 
 // What a body that isn't read is told as.

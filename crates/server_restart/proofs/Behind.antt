@@ -1,5 +1,5 @@
 -- What a restart answers, put together from what it read and what it wrote.
-use Rattle.std.proofs.Common.{◌≡◌, ◌⊎◌, inl, inr, ⊎_elim, ℕ, ◌+◌, ◌-◌, ◌≤◌, ◌==◌, Bool, true, false, if◌then◌else◌}
+use Rattle.std.proofs.Common.{◌≡◌, ◌⊎◌, inl, inr, ⊎_elim, ℕ, ◌+◌, ◌≤◌, ◌==◌, Bool, true, false, if◌then◌else◌}
 use Rattle.std.proofs.Common.{List, [], ◌∷◌, ◌++◌, length, Some, None, refl, sym, ap, subst, ◌∙◌, arith}
 use Rattle.std.specs.Prelude.{Ok, Err}
 use Rattle.exchange_defs.specs.Fold.{nothing_yet, fold, fold_from, full_room, opening_records, recovery_records}
@@ -120,9 +120,9 @@ opened_by old new body rs xs e is opening begun = (
 
 module _ {D : Type 0} (told : Type 0) (seen : D → List ℕ) (may_leave : D → List ℕ → Type 0) (faults : D → ℕ) where
   -- what a fold of all its bodies gives
-  abbrev Folds : JournalState D → Durable → Durable → ℕ → Type 0
-  Folds j before d gate = (s : Server) → IsNothing s → DurableShown before s → (bodies : List (List ℕ)) × (records : List model.Record)
-      × IsReadFrom d s bodies records × (gate ≡ capped (length (front bodies))) × HandedOut told seen may_leave j bodies
+  abbrev Folds : JournalState D → Durable → Durable → Type 0
+  Folds j before d = (s : Server) → IsNothing s → DurableShown before s → (bodies : List (List ℕ)) × (records : List model.Record)
+      × IsReadFrom d s bodies records × HandedOut told seen may_leave j bodies
 
   -- its bodies stay
   abbrev Stays : JournalState D → JournalState D → Type 0
@@ -151,10 +151,10 @@ module _ {D : Type 0} (told : Type 0) (seen : D → List ℕ) (may_leave : D →
             (spells_opening (fold records).version rs ((fold records).epoch + 1) body (of_fold records).version_is e is));
       }
 
-  pub found : (first j : JournalState D) (d0 d1 d2 : Durable) (gate : ℕ) (body : List ℕ) → DurableShown d0 nothing_yet
-      → (j.stopped ≡ None) × (faults j.disk ≡ faults first.disk) → Folds first d0 d1 gate → Stays first j → IsOpened d1 d2 body
-      → Found told seen may_leave faults first j d2 gate body
-  found first j d0 d1 d2 gate body new read folds stays o =
+  pub found : (first j : JournalState D) (d0 d1 d2 : Durable) (body : List ℕ) → DurableShown d0 nothing_yet
+      → (j.stopped ≡ None) × (faults j.disk ≡ faults first.disk) × (j.used ≡ first.used) → Folds first d0 d1 → Stays first j → IsOpened d1 d2 body
+      → Found told seen may_leave faults first j d2 body
+  found first j d0 d1 d2 body new read folds stays o =
       let rs = o.0 in
       let e = folds nothing_yet refl new in
       let was : IsReadFrom d1 nothing_yet e.0 e.1 = e.2 in
@@ -164,14 +164,13 @@ module _ {D : Type 0} (told : Type 0) (seen : D → List ℕ) (may_leave : D →
         records = e.1;
         goes_on = read.0;
         no_fault = read.1;
-        gate_is = e.3;
         sound = was.sound;
         shown = subst (λ (x : Server). DurableShown d2 x)
             (ap (λ (xs : List model.Record). fold_from (fold e.1) xs) told_so ∙ behind e.1)
             (o.3 (fold e.1) was.fits was.shown
             (subst (λ (xs : List model.Record). all_sound xs ≡ true) (sym told_so) (sound_recovery (fold e.1))));
         adds = opening_adds body (fold e.1) (added body (recovery_records e.1) (rs, told_so, o.1));
-        read = read_all first j d1 e.0 e.1 rs body was e.4 stays o.2 o.1;
+        read = read_all first j d1 e.0 e.1 rs body was e.3 stays o.2 o.1;
       }
 
   -- ---- the answers
@@ -179,50 +178,44 @@ module _ {D : Type 0} (told : Type 0) (seen : D → List ℕ) (may_leave : D →
   small_room : (z : Config) → (configuration_of z).room ≤ full_room
   small_room z = omega arith
 
-  pub restarted : (disk : D) (first j new : JournalState D) (d : Durable) (gate used number : ℕ) (body m : List ℕ) (z : Config) (t : Tables)
-      → IsOf told seen may_leave faults disk first → Found told seen may_leave faults first j d gate body → m ≡ body
+  pub restarted : (disk : D) (first j new : JournalState D) (d : Durable) (used number : ℕ) (body m : List ℕ) (z : Config) (t : Tables)
+      → IsOf told seen may_leave faults disk first → Found told seen may_leave faults first j d body → m ≡ body
       → (told → (all : List (List ℕ)) → Settled seen may_leave j all
       → (number ≡ length all) × Settled seen may_leave new (all ++ m ∷ []))
-      → Appends faults j m true (Ok number) new → used ≡ capped (gate + 6 + length body)
+      → Appends faults j m true (Ok number) new → used ≡ new.used
       → ((s : Server) → DurableShown d s → IsBegun s → TablesShown t (configured s (configuration_of z) used))
       → LogonsShown t.sessions no_logons.keys no_logons.pending → Restarts told seen may_leave faults z disk new t
-  restarted disk first j new d gate used number body m z t i f same written a u tables logons =
+  restarted disk first j new d used number body m z t i f same written a u tables logons =
       let long : length m ≡ length body = ap length same in
-      let bound : j.used + 5 + length m ≤ 1073741824 = a.0.1 in
       let adds : new.used ≡ j.used + 5 + length m = a.3 in
-      let small : 5 + length body ≤ used = omega (arith, long, bound, u) in
       let more : entry_bytes (recovery_records f.records) ≡ 5 + length body = f.adds in
-      let counts : used - (5 + length body) + entry_bytes (recovery_records f.records) ≡ used = omega (arith, small, more) in (
+      let counts : j.used + entry_bytes (recovery_records f.records) ≡ used = omega (arith, long, adds, more, u) in (
         a.4,
         a.5 ∙ (f.no_fault ∙ i.0.0),
-        used - (5 + length body),
+        j.used,
         f.records,
         record {
           shown = subst (λ (n : ℕ). TablesShown t (configured (fold (all_of f.records)) (configuration_of z) n)) (sym counts)
               (tables (fold (all_of f.records)) f.shown (all_begun f.records));
           logons = logons;
-          fits = all_fit (configuration_of z) (used - (5 + length body)) f.records (small_room z) f.sound;
+          fits = all_fit (configuration_of z) j.used f.records (small_room z) f.sound;
           version = all_version f.records;
           sound = sound_all f.records f.sound;
-          for_state = all_recover (configuration_of z) (used - (5 + length body)) f.records (small_room z) f.sound;
+          for_state = all_recover (configuration_of z) j.used f.records (small_room z) f.sound;
         },
+        counts ∙ u,
         λ y.
             let s = i.0.3 y in
             let q = f.read y s.0 (i.1 y s.0 s.1) in
-            let sizes : length (front f.bodies) ≡ length (front s.0) = ap (λ (bs : List (List ℕ)). length (front bs)) q.same in
-            let uses : j.used ≡ length (front s.0) + 1 = q.settled.used in
-            let at : gate ≡ capped (length (front f.bodies)) = f.gate_is in
-            let all : used ≡ new.used = omega (arith, long, bound, u, sizes, uses, at, adds) in
             record {
               bodies = s.0;
               body = body;
               stood = s.1;
               spelled = q.spelled;
               sound = f.sound;
-              bytes_are = omega (arith, long, bound, u, sizes, uses, at);
+              bytes_are = q.settled.used;
               settled = subst (λ (v : List ℕ). Settled seen may_leave new (s.0 ++ v ∷ [])) same (written y s.0 q.settled).1;
               more = q.more;
-              used = counts ∙ all;
             },
       )
 
@@ -260,10 +253,10 @@ module _ {D : Type 0} (told : Type 0) (seen : D → List ℕ) (may_leave : D →
   unfolded disk first j d0 (Full would limit) i new cause refused = absurd cause
   unfolded disk first j d0 (Stopped n) i new cause refused = absurd cause
 
-  full : (disk : D) (first j new : JournalState D) (d : Durable) (gate : ℕ) (body m : List ℕ) (would limit : ℕ)
-      → IsOf told seen may_leave faults disk first → Found told seen may_leave faults first j d gate body → m ≡ body
+  full : (disk : D) (first j new : JournalState D) (d : Durable) (body m : List ℕ) (would limit : ℕ)
+      → IsOf told seen may_leave faults disk first → Found told seen may_leave faults first j d body → m ≡ body
       → Appends faults j m true (Err (Full would limit)) new → told → IsFull (seen disk) would limit
-  full disk first j new d gate body m would limit i f same a t =
+  full disk first j new d body m would limit i f same a t =
       let s = i.0.3 t in
       let q = f.read t s.0 (i.1 t s.0 s.1) in
       let long : length m ≡ length body = ap length same in
@@ -273,18 +266,18 @@ module _ {D : Type 0} (told : Type 0) (seen : D → List ℕ) (may_leave : D →
       omega (arith, long, uses, more) in
       (s.0, f.records, s.1, q.spelled, a.1 ∙ ap (λ (n : ℕ). capped n) size, a.2, a.3)
 
-  pub unwritten : (disk : D) (first j new : JournalState D) (d : Durable) (gate : ℕ) (body m : List ℕ) (x : JournalError)
-      → IsOf told seen may_leave faults disk first → Found told seen may_leave faults first j d gate body → m ≡ body
+  pub unwritten : (disk : D) (first j new : JournalState D) (d : Durable) (body m : List ℕ) (x : JournalError)
+      → IsOf told seen may_leave faults disk first → Found told seen may_leave faults first j d body → m ≡ body
       → Appends faults j m true (Err x) new → RefusedAs disk new x
-  unwritten disk first j new d gate body m Memory i f same a = (tt, tt)
-  unwritten disk first j new d gate body m (DiskFault n) i f same a = (
+  unwritten disk first j new d body m Memory i f same a = (tt, tt)
+  unwritten disk first j new d body m (DiskFault n) i f same a = (
     record { dropped = new.disk; count = a.2; rose = subst (λ (k : ℕ). Rose k n) (f.no_fault ∙ i.0.0) a.1 },
     a.2,
   )
-  unwritten disk first j new d gate body m (NotAJournal at) i f same a = absurd a
-  unwritten disk first j new d gate body m (Full would limit) i f same a =
-      (full disk first j new d gate body m would limit i f same a, tt)
-  unwritten disk first j new d gate body m (Stopped n) i f same a = absurd (none_not n (sym f.goes_on ∙ a.0))
+  unwritten disk first j new d body m (NotAJournal at) i f same a = absurd a
+  unwritten disk first j new d body m (Full would limit) i f same a =
+      (full disk first j new d body m would limit i f same a, tt)
+  unwritten disk first j new d body m (Stopped n) i f same a = absurd (none_not n (sym f.goes_on ∙ a.0))
 
   -- where memory ran out the disk stays
   pub not_written : (j new : JournalState D) (m : List ℕ) (x : JournalError) → Appends faults j m true (Err x) new → x ≡ Memory
@@ -318,13 +311,13 @@ module _ {D : Type 0} (told : Type 0) (seen : D → List ℕ) (may_leave : D →
   of_append disk all bodies j records body c q (inr here) = inr (inr (body, records, q.spelled, q.more, here))
 
   -- of a journal that was recovered
-  pub leaves_read : (first j new : JournalState D) (d : Durable) (gate : ℕ) (body : List ℕ)
-      → Found told seen may_leave faults first j d gate body → Quiet told seen may_leave moment left_since first.disk j.disk
+  pub leaves_read : (first j new : JournalState D) (d : Durable) (body : List ℕ)
+      → Found told seen may_leave faults first j d body → Quiet told seen may_leave moment left_since first.disk j.disk
       → (told → (all : List (List ℕ)) → Settled seen may_leave j all
       → LeavesOnly moment left_since j.disk new.disk (BeforeOrAfter all body))
       → told → (all : List (List ℕ)) → Settled seen may_leave first all
       → LeavesOnly moment left_since first.disk new.disk (RestartLeaves (may_leave first.disk) all)
-  leaves_read first j new d gate body f quiet appended t all settled =
+  leaves_read first j new d body f quiet appended t all settled =
       let q = f.read t all settled in
       in_a_row first.disk j.disk new.disk (may_leave first.disk) (BeforeOrAfter all body) (RestartLeaves (may_leave first.disk) all)
       quiet.any_moment (appended t all q.settled) (λ c was. inl was)

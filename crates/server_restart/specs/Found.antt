@@ -3,8 +3,8 @@ use Rattle.std.specs.Prelude.{◌≡◌, ℕ, ◌+◌, List, [], ◌∷◌, ◌+
 use Rattle.exchange_defs.specs.Fold.{fold, recovery_records}
 use Rattle.exchange_defs.specs.Records.{entry_bytes}
 use Rattle.exchange_defs.specs.State as model
-use Rattle.journal_defs.specs.Grammar.{StandsFor, front}
-use Rattle.persist_journal.specs.Journal.{JournalState, Recovers, Settled, capped}
+use Rattle.journal_defs.specs.Grammar.{StandsFor}
+use Rattle.persist_journal.specs.Journal.{JournalState, Recovers, Settled}
 use Rattle.server_fold.specs.Durable.{DurableShown}
 use Rattle.server_fold.specs.declared.durable.Durable.{Durable}
 use Rattle.server_law.specs.Fits.{all_sound}
@@ -27,15 +27,13 @@ pub record IsRead {D : Type 0} (seen : D → List ℕ) (may_leave : D → List �
   pub settled : Settled seen may_leave journal all
   pub more : BodiesSpell (all ++ body ∷ []) (all_of records)
 
--- A journal was first so, and is so once all its bodies are read, the last gate behind them; the state shows their records and those
--- that this body is to add.
+-- A journal was first so, and is so once all its bodies are read; the state shows their records and those that this body is to add.
 pub record Found {D : Type 0} (told : Type 0) (seen : D → List ℕ) (may_leave : D → List ℕ → Type 0) (faults : D → ℕ)
-    (first journal : JournalState D) (d : Durable) (gate : ℕ) (body : List ℕ) : Type 0 where
+    (first journal : JournalState D) (d : Durable) (body : List ℕ) : Type 0 where
   pub bodies : List (List ℕ)
   pub records : List model.Record
   pub goes_on : journal.stopped ≡ None
   pub no_fault : faults journal.disk ≡ faults first.disk
-  pub gate_is : gate ≡ capped (length (front bodies))
   pub sound : all_sound records ≡ true
   pub shown : DurableShown d (fold (all_of records))
   pub adds : entry_bytes (recovery_records records) ≡ 5 + length body

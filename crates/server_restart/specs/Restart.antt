@@ -60,22 +60,22 @@ pub record StandsBehind {D : Type 0} (seen : D → List ℕ) (may_leave : D → 
   pub bytes_are : bytes ≡ length (front bodies) + 1
   pub settled : Settled seen may_leave journal (bodies ++ body ∷ [])
   pub more : BodiesSpell (bodies ++ body ∷ []) (records ++ recovery_records records)
-  pub used : bytes + entry_bytes (recovery_records records) ≡ journal.used
 
 -- ---- the answers
 
--- No call of the disk has failed: its count of faults is what it was. So the records that the recovery adds stand on it. Where the
--- disk tells its bytes, the records are all of its records.
+-- No call of the disk has failed: its count of faults is what it was. So the records that the recovery adds stand on it, and the
+-- journal uses their bytes behind those that it used. Where the disk tells its bytes, the records are all of its records.
 abbrev pub Restarts : {D : Type 0} → Type 0 → (D → List ℕ) → (D → List ℕ → Type 0) → (D → ℕ) → Config → D → JournalState D → Tables
     → Type 0
 Restarts told seen may_leave faults z disk journal t = (journal.stopped ≡ None) × (faults journal.disk ≡ faults disk)
     × (bytes : ℕ) × (records : List model.Record) × IsRecovered z t bytes records
+    × (bytes + entry_bytes (recovery_records records) ≡ journal.used)
     × (told → StandsBehind seen may_leave disk journal bytes records)
 
 -- the body that begins at this gate is the first that no server writes
 abbrev pub IsNoBody : List ℕ → ℕ → Type 0
 IsNoBody bytes gate = (bodies : List (List ℕ)) × (k : ℕ) × (body : List ℕ) × (records : List model.Record)
-    × StandsFor bytes bodies × (slice_get bodies k ≡ Some body) × (gate ≡ capped (length (front (take k bodies))))
+    × StandsFor bytes bodies × (slice_get bodies k ≡ Some body) × (gate ≡ length (front (take k bodies)))
     × BodiesSpell (take k bodies) records × (all_sound records ≡ true) × NoServerWrites (fold records).version body
 
 -- the journal would pass its upper limit by the records that a recovery adds

@@ -1,12 +1,12 @@
 //! What is read, what is written down, and what comes of both.
-ghost use Rattle.std.specs.Prelude.{◌≡◌, ◌+◌, ℕ, List, Err, IfOk, None, true};
+ghost use Rattle.std.specs.Prelude.{◌≡◌, ℕ, List, Err, IfOk, None, true};
 ghost use Rattle.exchange_defs.specs.Fold.{fold_from, opening_records};
 ghost use Rattle.exchange_defs.specs.State as model;
 ghost use Rattle.journal_defs.specs.Grammar.{StandsFor};
 ghost use Rattle.journal_defs.specs.Moments.{LeavesOnly, Quiet};
 ghost use Rattle.journal_records.specs.Meaning.{records_of};
 ghost use Rattle.journal_records.specs.declared.value.Record.{Record};
-ghost use Rattle.persist_journal.specs.Journal.{BeforeOrAfter, JournalState, Settled, capped};
+ghost use Rattle.persist_journal.specs.Journal.{BeforeOrAfter, JournalState, Settled};
 ghost use Rattle.persist_journal.specs.declared.journal.JournalError.TheVariants as causes;
 ghost use Rattle.server_body.specs.Body.{IsBody};
 ghost use Rattle.server_fold.specs.Durable.{DurableShown};
@@ -23,9 +23,6 @@ use server_recovery::{fold_bodies, opening_records};
 use smb_bytes::Bytes;
 use smb_io::Disk;
 use std::alloc::{AllocError, Global};
-
-// What stands behind the last gate: a length, a body and the next gate.
-const BEHIND_GATE: u64 = 6;
 
 /// A server on a disk that a crash may have left: what the journal's records stand for, under the next epoch, which goes into the
 /// journal, in one of version 1 behind the record of version 2. It reads body by body, and writes where all memory is at hand.
@@ -76,8 +73,8 @@ pub fn begin<D: Disk>(
 {
     let mut state = Durable::new(alloc);
     match fold_bodies(journal, &mut state) {
-        Ok(gate) => match opened(alloc, &mut state) {
-            Ok(body) => write(alloc, journal, state, gate, &body, config),
+        Ok(()) => match opened(alloc, &mut state) {
+            Ok(body) => write(alloc, journal, state, &body, config),
             Err(_) => Err(JournalError::Memory),
         },
         Err(error) => Err(error),
@@ -102,12 +99,11 @@ fn write<D: Disk>(
     alloc: Global,
     journal: &mut Journal<D>,
     state: Durable,
-    gate: u64,
     body: &Bytes,
     config: Config,
 ) -> Result<Tables, JournalError>
     ensures answers { (disk : D) (first : JournalState D) → IsOf D.told D.seen D.may_leave D.faults disk first
-        → Found D.told D.seen D.may_leave D.faults first journal.old state gate body.now
+        → Found D.told D.seen D.may_leave D.faults first journal.old state body.now
         → BeginAnswers D.told D.seen D.may_leave D.faults config disk journal.new result }
     ensures any_moment { D.told → (all : List (List ℕ)) → Settled D.seen D.may_leave journal.old all
         → LeavesOnly D.moment D.left_since journal.old.disk journal.new.disk (BeforeOrAfter all body.now) }
@@ -116,16 +112,9 @@ fn write<D: Disk>(
 {
     match journal.append(body.as_slice(), true) {
         Ok(_number) => {
-            let used = used_behind(gate, body.len());
+            let used = journal.used();
             Ok(tables_of(alloc, state, config, used))
         }
         Err(error) => Err(error),
     }
-}
-
-fn used_behind(gate: u64, length: usize) -> u64
-    ensures { result ≡ capped (gate + 6 + length) }
-{
-    gate.saturating_add(BEHIND_GATE)
-        .saturating_add(length as u64)
 }

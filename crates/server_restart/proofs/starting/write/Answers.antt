@@ -1,6 +1,6 @@
-use Rattle.std.proofs.Common.{◌≡◌, ℕ, ◌+◌, List, ap, subst, ◌∙◌}
+use Rattle.std.proofs.Common.{◌≡◌, ℕ, List, subst}
 use Rattle.journal_defs.specs.Moments.{LeavesOnly}
-use Rattle.persist_journal.specs.Journal.{BeforeOrAfter, capped}
+use Rattle.persist_journal.specs.Journal.{BeforeOrAfter}
 use Rattle.persist_journal.specs.declared.journal.JournalError.TheVariants.{Memory}
 use Rattle.server_restart.proofs.Behind.{not_written, restarted, unwritten}
 use Rattle.server_restart.proofs.starting.write.Goals as goal
@@ -9,10 +9,9 @@ pub returns-in-Ok : goal.returns-in-Ok
 returns-in-Ok g c = record {
   answers = λ disk first i f.
       restarted g.D.Disk.told g.D.Disk.seen g.D.Disk.may_leave g.D.Disk.faults disk first c.args.journal.now c.append.new.self
-      c.args.state c.args.gate c.used_behind-used.result c.in-Ok._number c.args.body.now c.as_slice.result.now c.args.config
-      c.tables_of.result i f c.as_slice.ensures c.in-Ok.ensures.acknowledged c.in-Ok.ensures.cause
-      (c.used_behind-used.ensures ∙ ap (λ (n : ℕ). capped (c.args.gate + 6 + n)) c.len.ensures)
-      c.tables_of.ensures.shown c.tables_of.ensures.logons;
+      c.args.state c.used-used.result c.in-Ok._number c.args.body.now c.as_slice.result.now c.args.config c.tables_of.result i f
+      c.as_slice.ensures c.in-Ok.ensures.acknowledged c.in-Ok.ensures.cause c.used-used.ensures c.tables_of.ensures.shown
+      c.tables_of.ensures.logons;
   any_moment = λ t all settled.
       subst (λ (m : List ℕ). LeavesOnly g.D.Disk.moment g.D.Disk.left_since c.args.journal.now.disk c.append.new.self.disk
       (BeforeOrAfter all m)) c.as_slice.ensures (c.in-Ok.ensures.any_moment t all settled);
@@ -24,7 +23,7 @@ pub returns-in-Err : goal.returns-in-Err
 returns-in-Err g c = record {
   answers = λ disk first i f.
       unwritten g.D.Disk.told g.D.Disk.seen g.D.Disk.may_leave g.D.Disk.faults disk first c.args.journal.now c.append.new.self
-      c.args.state c.args.gate c.args.body.now c.as_slice.result.now c.in-Err.error i f c.as_slice.ensures c.in-Err.ensures.cause;
+      c.args.state c.args.body.now c.as_slice.result.now c.in-Err.error i f c.as_slice.ensures c.in-Err.ensures.cause;
   any_moment = λ t all settled.
       subst (λ (m : List ℕ). LeavesOnly g.D.Disk.moment g.D.Disk.left_since c.args.journal.now.disk c.append.new.self.disk
       (BeforeOrAfter all m)) c.as_slice.ensures (c.in-Err.ensures.any_moment t all settled);
