@@ -1,13 +1,14 @@
 //! The server's step over its tables and its journal.
-ghost use Rattle.std.specs.Prelude.{◌≡◌, ℕ, Err, IfOk, List, MatchResult, Some, ⊤};
+ghost use Rattle.std.specs.Prelude.{◌≡◌, ℕ, Err, IfOk, List, MatchResult, None, Some, false, true, ⊤};
 ghost use Rattle.exchange_defs.specs.State as model;
-ghost use Rattle.exchange_defs.specs.Step.{step};
+ghost use Rattle.exchange_defs.specs.Step.{due, step, with_deadlines};
 ghost use Rattle.file_store.specs.Stored.{AreFiles};
 ghost use Rattle.journal_defs.specs.Grammar.{StandsFor};
 ghost use Rattle.journal_defs.specs.Moments.{LeavesOnly};
-ghost use Rattle.server_asked.specs.Heard.{heard_event};
+ghost use Rattle.server_asked.specs.Heard.{heard_event, is_setup_heard};
 ghost use Rattle.server_asked.specs.declared.event.ServerEvent.{ServerEvent};
 ghost use Rattle.server_begun.specs.Begun.{Begins};
+ghost use Rattle.server_event.specs.Early.{HasMemory, is_refused_early};
 ghost use Rattle.server_holds.specs.Beside.{logons_behind};
 ghost use Rattle.server_holds.specs.Holds.{EventLeaves, EventRefused, GoesOn, Holds, StepAnswers};
 ghost use Rattle.server_holds.specs.Shown.{ServerShown};
@@ -60,8 +61,9 @@ impl<D: Disk> Server<D> {
     /// records go onto the disk as one body, and then the tables follow, so that an answer is given where its records stand.
     ///
     /// `Memory`: the state is as before, or is changed by the expiry of one open alone, whose records then stand in a body of
-    /// their own. `DiskFault` comes only where the disk's count of faults rose, and carries it: the tables have the event's
-    /// change, and each later event answers `Stopped` with that count and changes nothing.
+    /// their own. Where no open is due, it is never the answer to a message that the checks of its session, or of signing and
+    /// sealing, refuse, but for a SESSION_SETUP with its bytes. `DiskFault` comes only where the disk's count of faults rose, and
+    /// carries it: the tables have the event's change, and each later event answers `Stopped` with that count and changes nothing.
     pub fn event(&mut self, now: u64, event: ServerEvent<'_>) -> Result<Answer, EventError>
         ensures step { (s : model.Server) (L : Logons) (records : List model.Record)
             → Holds D.told D.seen D.may_leave self.old.state s L records
@@ -77,6 +79,10 @@ impl<D: Disk> Server<D> {
         ensures stopped { (count : ℕ) → self.old.state.stopped ≡ Some count
             → (result ≡ Err (errors.Stopped count)) × (self.new ≡ self.old) }
         ensures config { self.new.state.tables.config ≡ self.old.state.tables.config }
+        ensures early { (s : model.Server) (L : Logons) (records : List model.Record)
+            → Holds D.told D.seen D.may_leave self.old.state s L records → is_setup_heard event.entry ≡ false
+            → due (with_deadlines s now) now ≡ None
+            → is_refused_early s (heard_event self.old.state.tables.config.users L s event.entry) ≡ true → HasMemory result }
     {
         answer_event(&mut self.state, now, event)
     }

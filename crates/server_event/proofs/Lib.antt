@@ -2,6 +2,7 @@ mod Again
 mod Beyond
 mod Carried
 mod Committed
+mod Early
 mod Lacking
 mod Moments
 mod Out

@@ -165,6 +165,7 @@ held_tables told seen may_leave c t s records h = record {
   sound = h.sound;
   goes_on = h.goes_on;
   stopped_is = h.stopped_is;
+  used = h.used;
   stands = h.stands;
 }
 

@@ -1,14 +1,19 @@
 //! An event in front of which no open expires.
-ghost use Rattle.std.specs.Prelude.{◌≡◌, ℕ, List, length, true};
+ghost use Rattle.std.specs.Prelude.{◌≡◌, [], ℕ, List, false, length, true};
 ghost use Rattle.exchange_defs.specs.State as model;
-ghost use Rattle.exchange_defs.specs.Step.{event_answer, step, with_deadlines, written_down};
+ghost use Rattle.exchange_defs.specs.Step.{event_answer, ruling, step, with_deadlines, written_down};
 ghost use Rattle.journal_defs.specs.Moments.{LeavesOnly};
 ghost use Rattle.server_asked.specs.Heard.{event_of, heard_event};
 ghost use Rattle.server_asked.specs.declared.event.ServerEvent.{ServerEvent};
 ghost use Rattle.server_body.specs.Body.{fits_by};
+ghost use Rattle.server_checks.specs.Shown.{TablesShown};
 ghost use Rattle.server_event.specs.Behind.{Asks};
+ghost use Rattle.server_event.specs.Early.{HasMemory, is_refused_early};
 ghost use Rattle.server_holds.specs.Holds.{EventAnswers, EventLeaves, GoesOn};
+ghost use Rattle.server_law.specs.Fits.{Fits};
 ghost use Rattle.server_plan.specs.Plans.{PlanFor};
+ghost use Rattle.server_preparing.specs.Preparing.{wants_memory_by};
+ghost use Rattle.server_rulings.specs.Rulings.{ruling_of};
 ghost use Rattle.token_defs.specs.Acceptor.{User};
 ghost use Rattle.world_defs.specs.Ends.{Logons};
 
@@ -45,6 +50,8 @@ pub(crate) fn event_alone<D: Disk>(
         → LeavesOnly D.moment D.left_since server.old.journal.disk server.new.journal.disk
         (EventLeaves s now (heard_event users L s e) bodies) }
     ensures config { server.new.tables.config ≡ server.old.tables.config }
+    ensures early { (s : model.Server) → Fits s → TablesShown server.old.tables s → is_refused_early s (event_of asked.now) ≡ true
+        → HasMemory result }
 {
     match plan_event(&server.tables, asked, now) {
         Ok(plan) => carry_plan(server, asked, plan, now),
@@ -72,6 +79,8 @@ fn carry_plan<D: Disk>(
         → LeavesOnly D.moment D.left_since server.old.journal.disk server.new.journal.disk
         (EventLeaves s now (heard_event users L s e) bodies) }
     ensures config { server.new.tables.config ≡ server.old.tables.config }
+    ensures early { (s : model.Server) → ruling_of (event_of asked.now) plan.ruling ≡ ruling s (event_of asked.now) → plan.body ≡ []
+        → wants_memory_by (ruling s (event_of asked.now)) ≡ false → HasMemory result }
 {
     behind_law();
     body_law();

@@ -1,12 +1,16 @@
 //! An event, from the message to what stands on the disk.
-ghost use Rattle.std.specs.Prelude.{◌≡◌, ℕ, Err, List, None, Some};
+ghost use Rattle.std.specs.Prelude.{◌≡◌, ℕ, Err, List, None, Some, false, true};
 ghost use Rattle.exchange_defs.specs.State as model;
+ghost use Rattle.exchange_defs.specs.Step.{due, with_deadlines};
 ghost use Rattle.journal_defs.specs.Moments.{LeavesOnly};
-ghost use Rattle.server_asked.specs.Heard.{heard_event};
+ghost use Rattle.server_asked.specs.Heard.{event_of, heard_event, is_setup_heard};
 ghost use Rattle.server_events.specs.declared.error.EventError.TheVariants as errors;
 ghost use Rattle.server_asked.specs.declared.event.ServerEvent.{ServerEvent};
+ghost use Rattle.server_checks.specs.Shown.{TablesShown};
 ghost use Rattle.server_event.specs.Behind.{Asks, MayExpire};
+ghost use Rattle.server_event.specs.Early.{HasMemory, is_refused_early};
 ghost use Rattle.server_holds.specs.Holds.{EventAnswers, EventLeaves, GoesOn, Holds};
+ghost use Rattle.server_law.specs.Fits.{Fits};
 ghost use Rattle.token_defs.specs.Acceptor.{User};
 ghost use Rattle.world_defs.specs.Ends.{Logons};
 
@@ -26,8 +30,9 @@ use smb_io::Disk;
 /// # Errors
 ///
 /// `Memory`: the state is as before, or is changed by the expiry of one open alone, whose records then stand in a body of
-/// their own. `DiskFault` comes only where the disk's count of faults rose, and carries it: the tables have the event's
-/// change, and each later event answers `Stopped` with that count and changes nothing.
+/// their own. Where no open is due, it is never the answer to a message that the checks of its session, or of signing and
+/// sealing, refuse, but for a SESSION_SETUP with its bytes. `DiskFault` comes only where the disk's count of faults rose, and
+/// carries it: the tables have the event's change, and each later event answers `Stopped` with that count and changes nothing.
 pub fn answer_event<D: Disk>(
     server: &mut ServerState<D>,
     now: u64,
@@ -44,6 +49,10 @@ pub fn answer_event<D: Disk>(
     ensures stopped { (count : ℕ) → server.old.stopped ≡ Some count
         → (result ≡ Err (errors.Stopped count)) × (server.new ≡ server.old) }
     ensures config { server.new.tables.config ≡ server.old.tables.config }
+    ensures early { (s : model.Server) (L : Logons) (records : List model.Record)
+        → Holds D.told D.seen D.may_leave server.old s L records → is_setup_heard event.entry ≡ false
+        → due (with_deadlines s now) now ≡ None
+        → is_refused_early s (heard_event server.old.tables.config.users L s event.entry) ≡ true → HasMemory result }
 {
     match server.stopped {
         Some(count) => Err(EventError::Stopped(count)),
@@ -66,6 +75,10 @@ fn answer_heard<D: Disk>(
         → LeavesOnly D.moment D.left_since server.old.journal.disk server.new.journal.disk
         (EventLeaves s now (heard_event server.old.tables.config.users L s event.entry) bodies) }
     ensures config { server.new.tables.config ≡ server.old.tables.config }
+    ensures early { (s : model.Server) (L : Logons) (records : List model.Record)
+        → Holds D.told D.seen D.may_leave server.old s L records → is_setup_heard event.entry ≡ false
+        → due (with_deadlines s now) now ≡ None
+        → is_refused_early s (heard_event server.old.tables.config.users L s event.entry) ≡ true → HasMemory result }
 {
     unmade_law();
     let t = &server.tables;
@@ -91,6 +104,8 @@ fn answer_asked<D: Disk>(
         → LeavesOnly D.moment D.left_since server.old.journal.disk server.new.journal.disk
         (EventLeaves s now (heard_event users L s e) bodies) }
     ensures config { server.new.tables.config ≡ server.old.tables.config }
+    ensures early { (s : model.Server) → Fits s → TablesShown server.old.tables s → due (with_deadlines s now) now ≡ None
+        → is_refused_early s (event_of asked.now) ≡ true → HasMemory result }
 {
     expiring_law();
     match due(&mut server.tables.opens, now) {

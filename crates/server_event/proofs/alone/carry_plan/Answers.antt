@@ -1,4 +1,4 @@
-use Rattle.std.proofs.Common.{List, refl, sym, ap, subst, ◌∙◌}
+use Rattle.std.proofs.Common.{List, ℕ, length, refl, sym, ap, subst, ◌∙◌}
 use Rattle.exchange_defs.specs.State as model
 use Rattle.exchange_defs.specs.Step.{Ruling, carried_out, step, with_deadlines}
 use Rattle.holds_law.proofs.Behind.{held, held_still, settled_still}
@@ -6,10 +6,12 @@ use Rattle.server_asked.specs.Heard.{event_of, heard_event}
 use Rattle.server_body.specs.Body.{IsBodyOf}
 use Rattle.server_checks.specs.declared.tables.Config.{Config}
 use Rattle.server_event.proofs.Committed.{alone_comes, event_carried, may_plan}
+use Rattle.server_event.proofs.Early.{not_on, written_memory}
 use Rattle.server_event.proofs.Lacking.{lacked}
 use Rattle.server_event.proofs.Moments.{by_event, leaves_more, nothing_left, same_disk, since_same}
 use Rattle.server_holds.specs.Holds.{EventLeaves}
 use Rattle.server_prepared.specs.Prepared.{prepared_ruling}
+use Rattle.server_preparing.specs.Preparing.{wants_memory_by}
 use Rattle.server_rulings.specs.Rulings.{AbleToRule}
 use Rattle.server_writing.specs.Bodies.{LeavesOf}
 use Rattle.server_event.proofs.alone.carry_plan.Goals as goal
@@ -72,6 +74,7 @@ returns-in-Ok g c =
           (c.commit.ensures.any_moment tells bodies
           (settled_still seen may_leave old.journal mid.journal bodies c.make_room.ensures.journal.0 goes.1.settled)));
       config = c.commit.ensures.config ∙ c.make_room.ensures.kept.config;
+      early = λ s e b w. written_memory g.D.Disk.faults mid c.commit.new.server c.args.plan.body c.commit.result c.commit.ensures.writes;
     }
 
 pub returns : goal.returns
@@ -94,6 +97,7 @@ returns g c =
           nothing_left seen may_leave g.D.Disk.moment g.D.Disk.left_since g.met.D.Disk.only_now s c.args.now (heard_event users L s e)
           old.journal mid.journal.disk bodies (same_disk old.journal mid.journal c.make_room.ensures.journal.0) goes.1.settled;
       config = c.make_room.ensures.kept.config;
+      early = λ s e b w. absurd (not_on (c.in-Err.ensures.sure (ap (λ (v : List ℕ). length v) b) (ap wants_memory_by e ∙ w)));
     }
 
 pub make_room-requires : goal.make_room-requires

@@ -1,5 +1,6 @@
 use Rattle.std.proofs.Common.{inl, refl}
-use Rattle.server_asked.specs.Heard.{heard_event}
+use Rattle.server_asked.specs.Heard.{event_of, heard_event}
+use Rattle.server_event.proofs.Early.{early_of, refusal_wants}
 use Rattle.server_event.proofs.Moments.{nothing_left}
 use Rattle.server_event.proofs.alone.event_alone.Goals as goal
 
@@ -10,6 +11,10 @@ returns-in-Ok g c = record {
   any_moment = λ told users s L records bodies e a is goes.
       c.carry_plan.ensures.any_moment told users s L records bodies e a (c.in-Ok.ensures.plan s a.holds.fits a.holds.shown.tables) is goes;
   config = c.carry_plan.ensures.config;
+  early = λ s f h e.
+      let x = event_of c.args.asked.now in
+      let k = c.in-Ok.ensures.early s f h (early_of s x e) in
+      c.carry_plan.ensures.early s k.0 k.1 (refusal_wants s x e);
 }
 
 pub returns-in-Err : goal.returns-in-Err
@@ -19,6 +24,7 @@ returns-in-Err g c = record {
       nothing_left g.D.Disk.seen g.D.Disk.may_leave g.D.Disk.moment g.D.Disk.left_since g.met.D.Disk.only_now s c.args.now
       (heard_event users L s e) c.args.server.now.journal c.args.server.now.journal.disk bodies refl goes.1.settled;
   config = refl;
+  early = λ s f h e. c.in-Err.ensures.early s f h (early_of s (event_of c.args.asked.now) e);
 }
 
 pub carry_plan-requires : goal.carry_plan-requires

@@ -1,6 +1,8 @@
-use Rattle.std.proofs.Common.{refl, ◌∙◌}
+use Rattle.std.proofs.Common.{nat_le, refl, ◌∙◌}
+use Rattle.exchange_defs.specs.Step.{due, max_expired_guids, with_deadlines}
 use Rattle.server_asked.specs.Heard.{event_of}
-use Rattle.server_event.proofs.Refused.{answers_from, asks_opens}
+use Rattle.server_event.proofs.Early.{none_due}
+use Rattle.server_event.proofs.Refused.{answers_from, asks_opens, shown_opens}
 use Rattle.server_event.proofs.Said.{some_expires}
 use Rattle.server_event.proofs.event.answer_asked.Goals as goal
 
@@ -47,3 +49,12 @@ returns-in-Some-clause-config g c = c.expire_first.ensures.config
 
 pub returns-in-None-clause-config : goal.returns-in-None-clause-config
 returns-in-None-clause-config g c = c.event_alone.ensures.config
+
+pub returns-in-Some-clause-early : goal.returns-in-Some-clause-early
+returns-in-Some-clause-early g c = λ s f h d e.
+    absurd (none_due (nat_le max_expired_guids s.expired_count) (due (with_deadlines s c.args.now) c.args.now) c.in-Some.id d
+    (c.in-Some.ensures.due s f h.opens))
+
+pub returns-in-None-clause-early : goal.returns-in-None-clause-early
+returns-in-None-clause-early g c = λ s f h d e.
+    c.event_alone.ensures.early s f (shown_opens c.args.server.now.tables c.due.new.opens s h (c.due.ensures.shows s h.opens)) e

@@ -29,3 +29,9 @@ returns-in-Some-clause-config g c = refl
 
 pub returns-in-None-clause-config : goal.returns-in-None-clause-config
 returns-in-None-clause-config g c = c.answer_heard.ensures.config
+
+pub returns-in-Some-clause-early : goal.returns-in-Some-clause-early
+returns-in-Some-clause-early g c = λ s L records h n d e. tt
+
+pub returns-in-None-clause-early : goal.returns-in-None-clause-early
+returns-in-None-clause-early g c = λ s L records h n d e. c.answer_heard.ensures.early s L records h n d e

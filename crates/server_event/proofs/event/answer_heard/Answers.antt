@@ -1,5 +1,9 @@
-use Rattle.std.proofs.Common.{inl, refl}
+use Rattle.std.proofs.Common.{◌≡◌, true, inl, refl, subst, sym, ◌∙◌}
+use Rattle.exchange_defs.specs.State as model
 use Rattle.server_asked.specs.Heard.{heard_event}
+use Rattle.server_event.proofs.Early.{heard_same, not_on}
+use Rattle.server_event.specs.Early.{is_refused_early}
+use Rattle.server_events.specs.Setups.{in_the_making}
 use Rattle.server_event.proofs.Refused.{none_leaves}
 use Rattle.server_event.proofs.Said.{asks_by}
 use Rattle.server_event.proofs.event.answer_heard.Goals as goal
@@ -31,3 +35,13 @@ returns-in-Ok-clause-config g c = c.answer_asked.ensures.config
 
 pub returns-in-Err-clause-config : goal.returns-in-Err-clause-config
 returns-in-Err-clause-config g c = refl
+
+pub returns-in-Ok-clause-early : goal.returns-in-Ok-clause-early
+returns-in-Ok-clause-early g c = λ s L records h n d e.
+    let users = c.args.server.now.tables.config.users in
+    let k = c.in-Ok.ensures.event s L h.shown.tables.sessions h.shown.logons in
+    c.answer_asked.ensures.early s h.fits h.shown.tables d (subst (λ (v : model.ServerEvent). is_refused_early s v ≡ true)
+    (sym (k.0 ∙ heard_same users (in_the_making s L) L s c.args.event n)) e)
+
+pub returns-in-Err-clause-early : goal.returns-in-Err-clause-early
+returns-in-Err-clause-early g c = λ s L records h n d e. not_on (c.in-Err.ensures.sure n)

@@ -10,4 +10,5 @@ returns g c =
       any_moment = c.answer_event.ensures.any_moment;
       stopped = λ count is. let k = c.answer_event.ensures.stopped count is in (k.0, ap wrapped k.1);
       config = c.answer_event.ensures.config;
+      early = c.answer_event.ensures.early;
     }
