@@ -1,0 +1,139 @@
+//! What events take with few and with many opens, each on a file of its own.
+use crate::caller::Caller;
+use crate::next;
+use anyhow::{Context, Result};
+use event_calls::disk_of;
+use std::alloc::Global;
+use std::time::Instant;
+
+const TURNS: u32 = 20_000;
+
+const PIECE: usize = 4096;
+
+// Nanoseconds an event.
+#[derive(Clone, Copy)]
+struct Times {
+    opened: u128,
+    written: u128,
+    read: u128,
+    locked: u128,
+}
+
+// A client's opens, and the paths of their files.
+#[derive(Drop)]
+struct Stand {
+    caller: Caller,
+    paths: Vec<String>,
+    ids: Vec<u64>,
+}
+
+/// The table with its bars.
+pub fn measure(rt: &HostRuntime) -> Result<()> {
+    let few = times_with(rt, 10)?;
+    let many = times_with(rt, 10_000)?;
+    row(rt, "CREATE with CLOSE", few.opened, many.opened)?;
+    row(rt, "WRITE of 4 KiB", few.written, many.written)?;
+    row(rt, "READ of 4 KiB", few.read, many.read)?;
+    row(rt, "LOCK with UNLOCK", few.locked, many.locked)
+}
+
+fn a_second(nanos: u128) -> u128 {
+    1_000_000_000 / nanos.max(1)
+}
+
+fn row(rt: &HostRuntime, name: &str, few: u128, many: u128) -> Result<()> {
+    let tenths = many.saturating_mul(10) / few.max(1);
+    println!(rt;
+        "{name}: {} events a second with 10 opens, {} with 10,000, {}.{} times; bar: 2 times",
+        a_second(few),
+        a_second(many),
+        tenths / 10,
+        tenths % 10
+    )?;
+    Ok(())
+}
+
+fn stand_of(alloc: Global, count: u32) -> Result<Stand> {
+    let mut caller = Caller::new(alloc, disk_of(alloc, &[], &[])?)?;
+    let mut paths = Vec::new(alloc);
+    let mut ids = Vec::new(alloc);
+    let piece = vec![in alloc; 7u8; PIECE]?;
+    for number in 0..count {
+        let path = format!(in alloc; "f{number:05}")?;
+        let id = caller.open(path.as_str(), None)?;
+        caller.write(id, 0, &piece)?;
+        ids.push(id)?;
+        paths.push(path)?;
+    }
+    Ok(Stand { caller, paths, ids })
+}
+
+fn times_with(rt: &HostRuntime, count: u32) -> Result<Times> {
+    let Stand {
+        mut caller,
+        paths,
+        ids,
+    } = stand_of(rt.alloc(), count)?;
+    Ok(Times {
+        opened: opened(rt, &mut caller, &paths)?,
+        written: written(rt, &mut caller, &ids)?,
+        read: read(rt, &mut caller, &ids)?,
+        locked: locked(rt, &mut caller, &ids)?,
+    })
+}
+
+// A place among so many.
+fn place(word: u64, count: usize) -> usize {
+    ((word >> 33) as usize) % count.max(1)
+}
+
+fn opened(rt: &HostRuntime, caller: &mut Caller, paths: &[String]) -> Result<u128> {
+    let mut word: u64 = 1;
+    let start = Instant::now(rt)?;
+    for _ in 0..TURNS {
+        word = next(word);
+        let path = paths.get(place(word, paths.len())).context("no path")?;
+        let id = caller.open(path.as_str(), None)?;
+        caller.close(id)?;
+    }
+    Ok(start.elapsed(rt)?.as_nanos() / (2 * TURNS as u128))
+}
+
+fn id_at(ids: &[u64], word: u64) -> Result<u64> {
+    ids.get(place(word, ids.len())).copied().context("no open")
+}
+
+fn written(rt: &HostRuntime, caller: &mut Caller, ids: &[u64]) -> Result<u128> {
+    let piece = vec![in rt.alloc(); 8u8; PIECE]?;
+    let mut word: u64 = 1;
+    let start = Instant::now(rt)?;
+    for _ in 0..TURNS {
+        word = next(word);
+        let id = id_at(ids, word)?;
+        caller.write(id, 0, &piece)?;
+    }
+    Ok(start.elapsed(rt)?.as_nanos() / TURNS as u128)
+}
+
+fn read(rt: &HostRuntime, caller: &mut Caller, ids: &[u64]) -> Result<u128> {
+    let mut word: u64 = 1;
+    let start = Instant::now(rt)?;
+    for _ in 0..TURNS {
+        word = next(word);
+        let id = id_at(ids, word)?;
+        let _bytes = caller.read(id, 0, PIECE as u32)?;
+    }
+    Ok(start.elapsed(rt)?.as_nanos() / TURNS as u128)
+}
+
+fn locked(rt: &HostRuntime, caller: &mut Caller, ids: &[u64]) -> Result<u128> {
+    let mut word: u64 = 1;
+    let start = Instant::now(rt)?;
+    for _ in 0..TURNS {
+        word = next(word);
+        let id = id_at(ids, word)?;
+        caller.lock(id, 0, false)?;
+        caller.lock(id, 0, true)?;
+    }
+    Ok(start.elapsed(rt)?.as_nanos() / (2 * TURNS as u128))
+}

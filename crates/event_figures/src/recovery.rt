@@ -1,0 +1,33 @@
+//! What a start takes on a journal of many small records.
+use crate::caller::Caller;
+use anyhow::Result;
+use event_calls::{config, disk_of};
+use event_server::Running;
+use smb_io::MemDisk;
+use std::alloc::Global;
+use std::time::Instant;
+
+const RECORDS: u32 = 2_000_000;
+
+// A disk with the records of so many writes of one byte.
+fn written(alloc: Global) -> Result<MemDisk> {
+    let mut caller = Caller::new(alloc, disk_of(alloc, &[], &[])?)?;
+    let id = caller.open("f", None)?;
+    for turn in 0..RECORDS {
+        caller.write(id, 0, &[(turn % 256) as u8])?;
+    }
+    Ok(caller.stop())
+}
+
+pub fn measure(rt: &HostRuntime) -> Result<()> {
+    let alloc = rt.alloc();
+    let disk = written(alloc)?;
+    let config = config(alloc, 268_435_456, false)?;
+    let start = Instant::now(rt)?;
+    let server = Running::begin(alloc, disk, config)?;
+    let nanos = start.elapsed(rt)?.as_nanos();
+    let files = server.files()?.len();
+    let rate = (RECORDS as u128).saturating_mul(1_000_000_000) / nanos.max(1);
+    println!(rt; "recovery of {RECORDS} small records, {files} file: {rate} a second")?;
+    Ok(())
+}

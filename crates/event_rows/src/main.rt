@@ -1,0 +1,51 @@
+//! Events of a server, row by row, and what is answered to them. A row is what the server stands on, ` | `, events with `; ` between
+//! them, ` = ` and what is answered. Events in front of a ` > ` prepare the others: all of them succeed. The server stands on
+//! `new`, or by options and flags on `disk=BYTES`, on a disk whose calls fail as `plan=BYTES` says, with `room=BYTES` for all files,
+//! with `sealed` messages, or on a `counting` disk, which keeps nothing. What each word asks stands in `src`. Answers were worked by
+//! hand from the public documents and from this project's own rules (`docs/DEFINITIONS.md`). A row that is answered otherwise is
+//! written out.
+#![tactic(auto)]
+
+mod around;
+mod requests;
+mod row;
+mod stage;
+mod told;
+mod words;
+
+use anyhow::Result;
+use due_rows::{ensure_due, is_remark, row_of};
+use std::alloc::Global;
+
+// What is answered to a row, or why it can't be run.
+fn said_in(alloc: Global, given: &str) -> Result<String> {
+    match row::said_to(alloc, given) {
+        Ok(said) => Ok(said),
+        Err(error) => Ok(format!(in alloc; "{error}")?),
+    }
+}
+
+// Whether a row is answered with what is due; else what is answered is written out.
+fn is_right(rt: &HostRuntime, line: &str) -> Result<bool> {
+    let row = row_of(line)?;
+    let said = said_in(rt.alloc(), row.given)?;
+    match ensure_due(said.as_str(), row.due) {
+        Ok(()) => Ok(true),
+        Err(_) => {
+            println!(rt; "{} = {}", row.given, said.as_str())?;
+            Ok(false)
+        }
+    }
+}
+
+fn main(rt: HostRuntime) -> Result<()> {
+    let mut right: u64 = 0;
+    for line in rt.lines(rt.alloc()) {
+        let line = line?;
+        if !is_remark(line.as_str()) && is_right(&rt, line.as_str())? {
+            right = right.saturating_add(1);
+        }
+    }
+    println!(rt; "{right} rows are answered as they say")?;
+    Ok(())
+}

@@ -1,0 +1,57 @@
+// A row: what the server stands on, and its events.
+use crate::stage::{Stage, is_done};
+use crate::words::{has, number_or, option, payload, words_of};
+use anyhow::{Context, Result, ensure};
+use event_calls::{CountingDisk, disk_of};
+use smb_io::Disk;
+use std::alloc::Global;
+
+fn push_more(said: &mut String, more: &str) -> Result<()> {
+    if !said.is_empty() {
+        said.push_str("; ")?;
+    }
+    said.push_str(more)?;
+    Ok(())
+}
+
+// Events that prepare others.
+fn prepare<D: Disk + Drop>(stage: &mut Stage<D>, events: &str) -> Result<()> {
+    if events.is_empty() {
+        return Ok(());
+    }
+    for event in events.split("; ") {
+        let said = stage.said(event)?;
+        ensure!(is_done(said.as_str()), "{event}: {}", said.as_str());
+    }
+    Ok(())
+}
+
+// What is answered to events on a disk, or why there is no server.
+fn said_on<D: Disk + Drop>(alloc: Global, disk: D, words: &[&str], events: &str) -> Result<String> {
+    let room = number_or(words, "room", 268_435_456)?;
+    let mut stage = Stage::new(alloc, room, has(words, "sealed"));
+    let begun = stage.begin(disk)?;
+    if begun.as_str() != "ok" {
+        return Ok(begun);
+    }
+    let (before, asked) = events.split_once(" > ").unwrap_or(("", events));
+    prepare(&mut stage, before)?;
+    let mut said = String::new(alloc);
+    for event in asked.split("; ") {
+        let more = stage.said(event)?;
+        push_more(&mut said, more.as_str())?;
+    }
+    Ok(said)
+}
+
+/// What is answered to a row.
+pub fn said_to(alloc: Global, given: &str) -> Result<String> {
+    let (head, events) = given.split_once(" | ").context("no events")?;
+    let words = words_of(alloc, head)?;
+    if has(&words, "counting") {
+        return said_on(alloc, CountingDisk::new(), &words, events);
+    }
+    let bytes = payload(alloc, option(&words, "disk").unwrap_or("-"))?;
+    let plan = payload(alloc, option(&words, "plan").unwrap_or("-"))?;
+    said_on(alloc, disk_of(alloc, &bytes, &plan)?, &words, events)
+}
