@@ -7,9 +7,10 @@ use Rattle.exchange_defs.specs.ClientStep.{becomes_ready, cut_after, hear_after,
 use Rattle.exchange_defs.specs.Settling.{Attaches, EndsSession, GoesAgain, Heard, Settles, hear, heard, is_awaited, noted, noted_full, settled}
 use Rattle.exchange_defs.specs.Settling.{settles_open, with_no_opens}
 use Rattle.client_law.proofs.Chosen.{in_both}
+use Rattle.operation_values.specs.declared.shapes.Kind.TheVariants as kinds
 use Rattle.operation_values.specs.Waiting.{at_of, size_of}
 use Rattle.operation_rows.specs.declared.row.Row.{Row}
-use Rattle.operation_rows.specs.Rows.{row_at, owner}
+use Rattle.operation_rows.specs.Rows.{row_at, kind, owner}
 use Rattle.range_index.specs.Shown.{top}
 use Rattle.client_opens.specs.declared.opening.Open.{Open}
 use Rattle.client_opens.specs.Opened.{ShowsOpen}
@@ -26,7 +27,9 @@ use Rattle.client_attached.proofs.Known.{known_moved}
 use Rattle.client_attached.proofs.Moved.{fits_moved, shown_moved}
 use Rattle.client_hearing.proofs.Noted.{ascends_moved, note_any}
 use Rattle.client_replies.proofs.Heard.{highest_moved}
-use Rattle.client_core.specs.Shown.{AreLast, FitsAll, IsMarkAt, ShowsAll, ShowsMarks}
+use Rattle.client_submitting.specs.Marked.{FitsMarks, IsBounded, IsMarkedAt, ShowsMarks}
+use Rattle.client_submitting.specs.Whole.{ShowsWhole}
+use Rattle.client_core.specs.Shown.{FitsAll}
 
 pub same_places : (rows new : List Row) → new ≡ rows → KeepsPlaces rows new
 same_places rows new e = subst (λ (xs : List Row). KeepsPlaces rows xs) (sym e) (places_none rows)
@@ -35,11 +38,20 @@ module _ (rows new : List Row) (m : KeepsPlaces rows new) (marks : List Open) wh
   within : (g : ℕ) → g < length new → g < length rows
   within g l = subst (λ n. g < n) m.count l
 
-  there : (g : ℕ) (o : Open) → IsMarkAt marks (row_at new g).«open» o → IsMarkAt marks (row_at rows g).«open» o
-  there g o q = subst (λ x. IsMarkAt marks x o) (m.opens g) q
+  there : (g : ℕ) (o : Open) → IsMarkedAt marks (row_at new g).«open» o → IsMarkedAt marks (row_at rows g).«open» o
+  there g o q = subst (λ x. IsMarkedAt marks x o) (m.opens g) q
 
-  pub lasts_moved : AreLast rows marks → AreLast new marks
-  lasts_moved a g o p l q = highest_moved rows new g o.marks.last m.count m.create (a g o p (within g l) (there g o q))
+  pub marked_moved : FitsMarks rows marks → FitsMarks new marks
+  marked_moved f =
+      record {
+        opens = λ g p l. subst (λ x. x < length marks) (sym (m.opens g)) (f.opens g p (within g l));
+        below = λ g o p l q. subst (λ n. IsBounded o n) (sym m.count) (f.below g o p (within g l) (there g o q));
+        lasts = λ g o p l q. highest_moved rows new g o.marks.last m.count m.create (f.lasts g o p (within g l) (there g o q));
+      }
+
+  pub homes_moved : ((g : ℕ) → 0 < g → g < length rows → kind rows g ≡ kinds.Create → owner rows g ≡ g)
+      → (g : ℕ) → 0 < g → g < length new → kind new g ≡ kinds.Create → owner new g ≡ g
+  homes_moved h g p l k = m.create g ∙ h g p (within g l) (sym (m.kinds g) ∙ k)
 
   pub marks_moved : (op : ℕ → Op) → ShowsMarks rows marks op → ShowsMarks new marks op
   marks_moved op s g o p l q =
@@ -55,11 +67,14 @@ module _ (t u : Table) (attached : List Attached) (opened : List Opened) (marks 
   pub fits_around : (later : List ℕ) → Fits u → FitsAll t attached opened marks later → FitsAll u attached opened marks later
   fits_around later w f =
       record {
-        fits = w;
-        opens = fits_moved t.rows.items u.rows.items attached m f.opens;
-        known = f.known;
-        marked = f.marked;
-        lasts = lasts_moved t.rows.items u.rows.items m marks f.lasts;
+        whole = record {
+          table = w;
+          opens = fits_moved t.rows.items u.rows.items attached m f.whole.opens;
+          marked = marked_moved t.rows.items u.rows.items m marks f.whole.marked;
+          known = f.whole.known;
+          counted = f.whole.counted;
+          homes = homes_moved t.rows.items u.rows.items m marks f.whole.homes;
+        };
         later = ascends_moved t.rows.items u.rows.items later m f.later;
       }
 
@@ -69,22 +84,25 @@ module _ (t u : Table) (attached : List Attached) (opened : List Opened) (marks 
       → FitsAll u attached opened marks later
   fits_changed was_attached was_opened later w o a k f =
       record {
-        fits = w;
-        opens = o;
-        known = k ∙ f.known ∙ sym a;
-        marked = f.marked ∙ sym a;
-        lasts = lasts_moved t.rows.items u.rows.items m marks f.lasts;
+        whole = record {
+          table = w;
+          opens = o;
+          marked = marked_moved t.rows.items u.rows.items m marks f.whole.marked;
+          known = k ∙ f.whole.known ∙ sym a;
+          counted = f.whole.counted ∙ sym a;
+          homes = homes_moved t.rows.items u.rows.items m marks f.whole.homes;
+        };
         later = ascends_moved t.rows.items u.rows.items later m f.later;
       }
 
   pub shows_around : (d : Client) → ShowsTable u d → ShowsAttached t.rows.items attached d → ShowsOpened t.rows.items opened d
-      → ShowsMarks t.rows.items marks d.op → ShowsAll u attached opened marks d
+      → ShowsMarks t.rows.items marks d.op → ShowsWhole u attached opened marks d
   shows_around d w a k s =
       record {
         table = w;
         attached = shown_moved t.rows.items u.rows.items attached m d.attached d.slot_user d.retried d.full a;
         opened = known_moved t.rows.items u.rows.items opened m d.op d.file d.closed_ok d.sent d.slot_of k;
-        marks = marks_moved t.rows.items u.rows.items m marks d.op s;
+        marked = marks_moved t.rows.items u.rows.items m marks d.op s;
       }
 
 -- ---- what events leave

@@ -6,7 +6,8 @@ use Rattle.client_choice.specs.declared.finding.Attached.{Attached}
 use Rattle.client_table.specs.declared.parts.Table.{Table}
 use Rattle.client_table.specs.Shown.{Fits, ShowsTable}
 use Rattle.client_attached.specs.declared.opened.Opened.{Opened}
-use Rattle.client_core.specs.Shown.{FitsAll, ShowsAll}
+use Rattle.client_submitting.specs.Whole.{ShowsWhole}
+use Rattle.client_core.specs.Shown.{FitsAll}
 
 none_in : {X : Type 0} (xs : List X) (i : ℕ) → xs ≡ [] → i < length xs → ⊥
 none_in xs i e l = nothing i (subst (λ n. i < n) (ap (λ ys. length ys) e) l)
@@ -19,17 +20,24 @@ module _ (t : Table) (attached : List Attached) (opened : List Opened) (marks : 
   pub none_fits : Fits t → FitsAll t attached opened marks later
   none_fits w =
       record {
-        fits = w;
-        opens = record {
-          opens = λ g p k. absurd (none_in t.rows.items g e k);
-          paired = λ g h p k. absurd (none_in t.rows.items g e k);
-          room = λ g own p k. absurd (none_in t.rows.items g e k);
-          bounded = λ i own k. absurd (none_in attached i a k);
-          users = λ i own k. absurd (none_in attached i a k);
+        whole = record {
+          table = w;
+          opens = record {
+            opens = λ g p k. absurd (none_in t.rows.items g e k);
+            paired = λ g h p k. absurd (none_in t.rows.items g e k);
+            room = λ g own p k. absurd (none_in t.rows.items g e k);
+            bounded = λ i own k. absurd (none_in attached i a k);
+            users = λ i own k. absurd (none_in attached i a k);
+          };
+          marked = record {
+            opens = λ g p k. absurd (none_in t.rows.items g e k);
+            below = λ g own p k. absurd (none_in t.rows.items g e k);
+            lasts = λ g own p k. absurd (none_in t.rows.items g e k);
+          };
+          known = ap (λ xs. length xs) o ∙ sym (ap (λ xs. length xs) a);
+          counted = ap (λ xs. length xs) m ∙ sym (ap (λ xs. length xs) a);
+          homes = λ g p k. absurd (none_in t.rows.items g e k);
         };
-        known = ap (λ xs. length xs) o ∙ sym (ap (λ xs. length xs) a);
-        marked = ap (λ xs. length xs) m ∙ sym (ap (λ xs. length xs) a);
-        lasts = λ g own p k. absurd (none_in t.rows.items g e k);
         later = record {
           counted = ap (λ xs. length xs) l ∙ sym (ap (λ xs. length xs) e);
           within = λ g p k. absurd (none_in t.rows.items g e k);
@@ -39,7 +47,7 @@ module _ (t : Table) (attached : List Attached) (opened : List Opened) (marks : 
         };
       }
 
-  pub none_shown : (settings : Settings) → ShowsTable t (start settings).client → ShowsAll t attached opened marks (start settings).client
+  pub none_shown : (settings : Settings) → ShowsTable t (start settings).client → ShowsWhole t attached opened marks (start settings).client
   none_shown settings w =
       record {
         table = w;
@@ -57,5 +65,5 @@ module _ (t : Table) (attached : List Attached) (opened : List Opened) (marks : 
           closed_none = λ x k. refl;
           unsent = λ g q. refl;
         };
-        marks = λ g own p k. absurd (none_in t.rows.items g e k);
+        marked = λ g own p k. absurd (none_in t.rows.items g e k);
       }

@@ -1,3 +1,5 @@
 pub mod Around
 pub mod Begun
+pub mod FirstRow
+pub mod Higher
 pub mod Pushed

@@ -1,31 +1,43 @@
 // A client as a whole.
-ghost use Rattle.std.specs.Prelude.{◌≡◌, ℕ, ◌<◌, nat_lt, not, true, false, if◌then◌else◌, length, OnOk, OnErr};
+ghost use Rattle.std.specs.Prelude.{◌≡◌, ℕ, ◌+◌, ◌<◌, ◌^◌, nat_lt, not, true, false, if◌then◌else◌, length, vec_len, vec_capacity};
+ghost use Rattle.std.specs.Prelude.{OnOk, OnErr, IfOk};
+ghost use Rattle.exchange_defs.specs.Operations.{create_of, is_create, keeps_limits};
 ghost use Rattle.exchange_defs.specs.State.{Reply};
 ghost use Rattle.exchange_defs.specs.Network.{Settings, start};
-ghost use Rattle.exchange_defs.specs.Client.{Client as Model, finish, note_refusal};
-ghost use Rattle.exchange_defs.specs.ClientStep.{CloseChannels, Nothing, becomes_ready, cut_after, hear_act, hear_after, ready_after};
-ghost use Rattle.exchange_defs.specs.ClientStep.{some_unsettled};
+ghost use Rattle.exchange_defs.specs.Client.{Client as Model, finish, may_take as may, note_refusal, take_op};
+ghost use Rattle.exchange_defs.specs.ClientStep.{CloseChannels, Nothing, TakesOp, becomes_ready, client_after, cut_after, hear_act};
+ghost use Rattle.exchange_defs.specs.ClientStep.{hear_after, ready_after, some_unsettled};
 ghost use Rattle.client_law.specs.Kept.{Kept};
+ghost use Rattle.operation_values.specs.declared.shapes.Kind.TheVariants as kinds;
+ghost use Rattle.operation_values.specs.Meaning.{op_of};
 ghost use Rattle.operation_rows.specs.Rows.{row_at, owner};
-ghost use Rattle.client_marks.specs.Marks.{IsHighest};
+ghost use Rattle.client_marks.specs.Marks.{IsHighest, is_create_kind};
 ghost use Rattle.client_opens.specs.declared.opening.Open.{Open as Mark};
 ghost use Rattle.client_outcomes.specs.Meaning.{refusal_of, why_of};
 ghost use Rattle.client_session.specs.Shown.{cut_told, ready_at};
 ghost use Rattle.client_pushing.specs.Acts.{act_by, act_of, chosen_with, pushed_by};
 ghost use Rattle.client_replies.specs.Reading.{Reads};
-ghost use Rattle.client_core.specs.Shown.{FitsClient, IsMarkAt, ShowsClient};
+ghost use Rattle.client_taking.specs.Taken.{HasRooms, KeepsOrBegins};
+ghost use Rattle.client_submitting.specs.Marked.{IsMarkedAt};
+ghost use Rattle.client_core.specs.Shown.{FitsClient, ShowsClient};
 
 use crate::beginning::no_table;
 use client_attached::Opened;
 use client_choice::Attached;
+use client_creating::take_first;
 use client_cutting::cut;
+use client_gone::add_later;
 use client_opens::Open;
 use client_outcomes::Why;
 use client_pushing::{Pushed, push};
 use client_replies::{Response, hear};
 use client_session::Cut;
+use client_starting::start_rows;
+use client_submitting::take_more;
 use client_table::Table;
+use client_taking::{make_room, may_take};
 use msg_session::Refusal;
+use operation_values::OpKind;
 use std::alloc::{AllocError, Global};
 
 /// A client's operations, its session and its opens.
@@ -56,10 +68,17 @@ fn has_row(table: &Table, index: usize) -> bool
 
 fn last_at(marks: &[Open], at: usize) -> u32
     requires { at < length marks.now }
-    ensures { (o : Mark) × (IsMarkAt marks.now at o) × (result ≡ o.marks.last) }
+    ensures { (o : Mark) × (IsMarkedAt marks.now at o) × (result ≡ o.marks.last) }
 {
     let mark = &marks[at];
     mark.marks.last
+}
+
+/// Whether one operation more has a number.
+fn has_number(table: &Table) -> bool
+    ensures { result ≡ true → length table.now.rows.items + 1 < 2 ^ 32 }
+{
+    table.rows.len() < u32::MAX as usize
 }
 
 impl Client {
@@ -180,5 +199,122 @@ impl Client {
             asking,
             response,
         )
+    }
+
+    /// A number for one operation more, and room for it in the table; row 0 where there is no row yet. All shows what it showed, where
+    /// memory runs out too.
+    fn make_way(&mut self) -> Result<(), AllocError>
+        requires fits { FitsClient self.old }
+        ensures fits { FitsClient self.new }
+        ensures some { OnOk result (0 < length self.new.table.rows.items) }
+        ensures few { OnOk result (length self.new.table.rows.items + 1 < 2 ^ 32) }
+        ensures rows { KeepsOrBegins self.old.table.rows.items self.new.table.rows.items }
+        ensures room { OnOk result (HasRooms self.new.table) }
+        ensures later { OnOk result (vec_len self.new.later < vec_capacity self.new.later) }
+        ensures shown { (c : Model) → ShowsClient self.old c → ShowsClient self.new c }
+    {
+        start_rows(&mut self.table, &mut self.later)?;
+        if !has_number(&self.table) {
+            return Err(AllocError);
+        }
+        self.later.reserve(1)?;
+        make_room(&mut self.table)
+    }
+
+    /// An operation comes onto the open of its create, for which there is room.
+    fn take_other(&mut self, create: u32, kind: OpKind) -> Result<(), AllocError>
+        requires fits { FitsClient self.old }
+        requires few { length self.old.table.rows.items + 1 < 2 ^ 32 }
+        requires room { HasRooms self.old.table }
+        requires later { vec_len self.old.later < vec_capacity self.old.later }
+        requires limits { keeps_limits (op_of kind) ≡ true }
+        requires above { 0 < create }
+        requires within { create < length self.old.table.rows.items }
+        requires made { (row_at self.old.table.rows.items create).kind ≡ kinds.Create }
+        requires other { is_create (op_of kind) ≡ false }
+        requires names { (g : ℕ) → create_of g (op_of kind) ≡ create }
+        ensures fits { FitsClient self.new }
+        ensures shown { OnOk result ((c : Model) → ShowsClient self.old c → Kept c
+            → ShowsClient self.new (take_op c (length self.old.table.rows.items) (op_of kind))) }
+        ensures kept { OnErr result ((c : Model) → ShowsClient self.old c → ShowsClient self.new c) }
+    {
+        let last = self.last_of(create as usize);
+        take_more(
+            &mut self.table,
+            &mut self.attached,
+            &self.opened,
+            &mut self.marks,
+            create,
+            kind,
+        )?;
+        add_later(&mut self.later, last);
+        Ok(())
+    }
+
+    /// A create comes, with an open of its own, for whose values there is room.
+    fn take_create(&mut self, kind: OpKind, alloc: Global) -> Result<(), AllocError>
+        requires fits { FitsClient self.old }
+        requires some { 0 < length self.old.table.rows.items }
+        requires few { length self.old.table.rows.items + 1 < 2 ^ 32 }
+        requires room { HasRooms self.old.table }
+        requires later { vec_len self.old.later < vec_capacity self.old.later }
+        requires limits { keeps_limits (op_of kind) ≡ true }
+        requires made { is_create (op_of kind) ≡ true }
+        ensures fits { FitsClient self.new }
+        ensures shown { OnOk result ((c : Model) → ShowsClient self.old c → Kept c
+            → ShowsClient self.new (take_op c (length self.old.table.rows.items) (op_of kind))) }
+        ensures kept { OnErr result ((c : Model) → ShowsClient self.old c → ShowsClient self.new c) }
+    {
+        take_first(
+            &mut self.table,
+            &mut self.attached,
+            &mut self.opened,
+            &mut self.marks,
+            kind,
+            alloc,
+        )?;
+        add_later(&mut self.later, 0);
+        Ok(())
+    }
+
+    /// An operation that may be taken comes, for which there is room.
+    fn take(&mut self, kind: OpKind, alloc: Global) -> Result<(), AllocError>
+        requires fits { FitsClient self.old }
+        requires some { 0 < length self.old.table.rows.items }
+        requires few { length self.old.table.rows.items + 1 < 2 ^ 32 }
+        requires room { HasRooms self.old.table }
+        requires later { vec_len self.old.later < vec_capacity self.old.later }
+        requires limits { keeps_limits (op_of kind) ≡ true }
+        requires made { is_create (op_of kind) ≡ false → (create : ℕ) → ((g : ℕ) → create_of g (op_of kind) ≡ create)
+            → (0 < create) × (create < length self.old.table.rows.items)
+            × (is_create_kind (row_at self.old.table.rows.items create).kind ≡ true) }
+        ensures fits { FitsClient self.new }
+        ensures shown { OnOk result ((c : Model) → ShowsClient self.old c → Kept c
+            → ShowsClient self.new (take_op c (length self.old.table.rows.items) (op_of kind))) }
+        ensures kept { OnErr result ((c : Model) → ShowsClient self.old c → ShowsClient self.new c) }
+    {
+        match kind.create() {
+            Some(create) => self.take_other(create, kind),
+            None => self.take_create(kind, alloc),
+        }
+    }
+
+    /// An operation is submitted under a number. False where it may not be taken: the number isn't the next one, it passes the limits
+    /// of what a script gives, or it isn't on a create taken before; then nothing changes. Where memory runs out nothing is taken.
+    pub fn submit(&mut self, number: u32, kind: OpKind, alloc: Global) -> Result<bool, AllocError>
+        requires fits { FitsClient self.old }
+        ensures fits { FitsClient self.new }
+        ensures shown { OnOk result ((c : Model) → ShowsClient self.old c → Kept c
+            → ShowsClient self.new (client_after c (TakesOp number (op_of kind)))) }
+        ensures told { IfOk result (λ taken. (c : Model) → ShowsClient self.old c → taken ≡ may c number (op_of kind)) }
+        ensures kept { OnErr result ((c : Model) → ShowsClient self.old c → ShowsClient self.new c) }
+        ensures order { OnErr result ((c : Model) → ShowsClient self.old c → may c number (op_of kind) ≡ true) }
+    {
+        if !may_take(&self.table, number, &kind) {
+            return Ok(false);
+        }
+        self.make_way()?;
+        self.take(kind, alloc)?;
+        Ok(true)
     }
 }

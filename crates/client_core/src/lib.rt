@@ -1,4 +1,4 @@
-//! A client: its operations, its session and its opens, in one value, and what each event but a submit does to it.
+//! A client: its operations, its session and its opens, in one value, and what each event does to it.
 #![tactic(auto)]
 
 mod beginning;

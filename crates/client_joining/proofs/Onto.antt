@@ -68,7 +68,7 @@ first_below n b e = grind arith
 least_below : 0 < 2 ^ 64
 least_below = lit< tt
 
-at_below : (op : Op) → keeps_limits op ≡ true → at_of op < 2 ^ 64
+pub at_below : (op : Op) → keeps_limits op ≡ true → at_of op < 2 ^ 64
 at_below (OpCreate path access share disposition persist directory) e = least_below
 at_below (OpWrite create at bytes) e = first_below at (are_below 256 bytes && nat_le (length bytes) 1048577) e
 at_below (OpRead create at size) e = first_below at (nat_le size 1048577) e

@@ -6,8 +6,10 @@ ghost use Rattle.exchange_defs.specs.Client.{Client, is_attached, take_op};
 ghost use Rattle.operation_values.specs.declared.shapes.Kind.TheVariants as kinds;
 ghost use Rattle.operation_values.specs.Meaning.{op_of};
 ghost use Rattle.operation_values.specs.Waiting.{kind_of};
+ghost use Rattle.range_index.specs.Shown.{top};
 ghost use Rattle.client_marks.specs.Marks.{AreBelow, is_lock_kind};
 ghost use Rattle.client_opens.specs.declared.opening.Open.{Open as Kept};
+ghost use Rattle.client_opens.specs.Opened.{AreTopped};
 ghost use Rattle.client_outcomes.specs.declared.outcome.Outcome.TheVariants as outcomes;
 ghost use Rattle.client_table.specs.Shown.{Fits, ShowsTable};
 ghost use Rattle.client_taking.specs.Taken.{HasRooms};
@@ -89,14 +91,19 @@ pub fn take_onto(
     requires within { create < length table.old.rows.items }
     requires limits { keeps_limits (op_of kind) ≡ true }
     requires below { AreBelow mark.old.marks (length table.old.rows.items) }
+    requires topped { AreTopped (top mark.old.written) (top mark.old.locked) (length table.old.rows.items) }
     ensures session { own.new.session ≡ own.old.session }
     ensures slots { own.new.slots.items ≡ own.old.slots.items }
     ensures capacity { vec_capacity own.old.slots ≤ vec_capacity own.new.slots }
     ensures row { OnOk result (IsMore table.old.rows.items table.new.rows.items create «open» (kind_of (op_of kind))) }
     ensures locks { OnOk result (kind_of (op_of kind) ≡ kinds.Lock → 64 ≤ vec_capacity own.new.slots) }
     ensures below { OnOk result (AreBelow mark.new.marks (length table.old.rows.items + 1)) }
-    ensures joined { OnOk result ((c : Client) → Joins table.old own.old known.now mark.old c create (op_of kind) → Fits table.new
-        × ShowsTable table.new (take_op c (length table.old.rows.items) (op_of kind))
+    ensures topped { OnOk result (AreTopped (top mark.new.written) (top mark.new.locked) (length table.old.rows.items + 1)) }
+    ensures tops { OnErr result (AreTopped (top mark.new.written) (top mark.new.locked) (length table.old.rows.items)) }
+    ensures last { OnOk result (mark.new.marks.last ≡ length table.old.rows.items) }
+    ensures fits { OnOk result (Fits table.new) }
+    ensures joined { OnOk result ((c : Client) → Joins table.old own.old known.now mark.old c create (op_of kind)
+        → ShowsTable table.new (take_op c (length table.old.rows.items) (op_of kind))
         × Keeps table.new.rows.items (length table.old.rows.items + 1) (put c.op (length table.old.rows.items) (op_of kind)) create mark.new) }
     ensures others { OnOk result ((c : Client) (other : ℕ) (m : Kept) → (create ≡ other → ⊥)
         → Keeps table.old.rows.items (length table.old.rows.items) c.op other m

@@ -4,3 +4,4 @@ pub mod Longer
 pub mod Submitted
 pub mod Joined
 pub mod Settled
+pub mod Secure

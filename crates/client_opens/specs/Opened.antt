@@ -38,6 +38,10 @@ Behind kinds.Look w w2 l l2 at size n = Stays w w2 × Stays l l2
 Behind kinds.List w w2 l l2 at size n = Stays w w2 × Stays l l2
 Behind kinds.Close w w2 l l2 at size n = Clears w2 × Clears l2
 
+-- the numbers that the tables of bytes tell are below one
+abbrev pub AreTopped : (written locked : ℕ → ℕ) → ℕ → Type 0
+AreTopped written locked n = (x : ℕ) → x < 2 ^ 64 → (written x < n) × (locked x < n)
+
 -- a row with its part of the list, and with the links that its open's marks are
 abbrev pub placed_row : Row → (begin end : ℕ) → Marks → Row
 placed_row row begin end m = record row { holders = begin; holders_end = end; lower = m.last; change = m.change; filled = m.filled }

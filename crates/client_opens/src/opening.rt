@@ -4,7 +4,7 @@ ghost use Rattle.operation_rows.specs.declared.row.Row.{Row as Rows};
 ghost use Rattle.operation_rows.specs.Rows.{owner};
 ghost use Rattle.range_index.specs.Shown.{top};
 ghost use Rattle.client_marks.specs.Marks.{AreBelow};
-ghost use Rattle.client_opens.specs.Opened.{ShowsOpen};
+ghost use Rattle.client_opens.specs.Opened.{AreTopped, ShowsOpen};
 
 use client_marks::Marks;
 use range_index::RangeIndex;
@@ -25,6 +25,7 @@ impl Open {
         ensures shown { (rows : List Rows) (at size : ℕ → ℕ) (create n : ℕ) → ((h : ℕ) → h < n → owner rows h ≡ create → ⊥)
             → ShowsOpen rows at size create n result.marks (top result.written) (top result.locked) }
         ensures below { (n : ℕ) → 0 < n → AreBelow result.marks n }
+        ensures topped { (n : ℕ) → 0 < n → AreTopped (top result.written) (top result.locked) n }
     {
         let written = RangeIndex::new(alloc);
         let locked = RangeIndex::new(alloc);

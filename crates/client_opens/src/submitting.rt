@@ -1,22 +1,24 @@
 // One operation more of an open: its row is taken, and the marks go on.
-ghost use Rattle.std.specs.Prelude.{◌≡◌, ℕ, ◌+◌, ◌<◌, ◌^◌, length, ◌∷◌, [], ◌++◌, OnOk, OnErr};
+ghost use Rattle.std.specs.Prelude.{◌≡◌, ℕ, ◌+◌, ◌<◌, ◌≤◌, ◌^◌, length, ◌∷◌, [], ◌++◌, OnOk, OnErr};
 ghost use Rattle.exchange_defs.specs.Table.{put};
 ghost use Rattle.exchange_defs.specs.Operations.{Op};
 ghost use Rattle.exchange_defs.specs.Client.{Client, take_op};
+ghost use Rattle.operation_values.specs.declared.shapes.Kind.{Kind as Kinds};
 ghost use Rattle.operation_values.specs.Waiting.{at_of, size_of};
 ghost use Rattle.operation_rows.specs.Choosing.{Counts};
 ghost use Rattle.operation_rows.specs.Holding.{IsSafe};
 ghost use Rattle.range_index.specs.Shown.{top};
 ghost use Rattle.client_marks.specs.declared.marks.Marks.{Marks as OpenMarks};
-ghost use Rattle.client_marks.specs.Marks.{AreBelow, mark_of};
+ghost use Rattle.client_marks.specs.Marks.{AreBelow, Heights, mark_of};
 ghost use Rattle.client_rows.specs.Shown.{ShowsRows};
-ghost use Rattle.client_opens.specs.Opened.{IsOn, ShowsOpen, placed_row};
+ghost use Rattle.client_opens.specs.Opened.{AreTopped, IsOn, ShowsOpen, placed_row};
 
 use crate::noting::{Stretch, note};
 use crate::opening::Open;
+use client_marks::Marks;
 use client_submits::add_one;
 use operation_rows::{Row, make_room};
-use operation_values::Shape;
+use operation_values::{Kind, Shape};
 use price_table::Prices;
 use std::alloc::AllocError;
 use watch_lists::Watchers;
@@ -38,6 +40,20 @@ fn placed(row: Row, stretch: &Stretch, opened: &Open) -> Row
         change: opened.marks.change,
         filled: opened.marks.filled,
         ..row
+    }
+}
+
+/// An open's marks behind one operation more. Its last operation is that one, whatever the marks were.
+fn marked(marks: &Marks, number: u32, kind: Kind, size: u64) -> Marks
+    ensures highest { (o : ℕ → ℕ) (k : ℕ → Kinds) (sizes : ℕ → ℕ) (create : ℕ) → Heights o k sizes create number marks.now
+        → o number ≡ create → k number ≡ kind → sizes number ≡ size → Heights o k sizes create (number + 1) result }
+    ensures below { (n : ℕ) → AreBelow marks.now n → number < n → AreBelow result n }
+    ensures last { result.last ≡ number }
+{
+    let marks = marks.behind(number, kind, size);
+    Marks {
+        last: number,
+        ..marks
     }
 }
 
@@ -63,12 +79,20 @@ pub fn take_on(
     ensures unlisted { OnErr result (holders.new.items ≡ holders.old.items) }
     ensures below { OnOk result (AreBelow opened.old.marks (length rows.old.items)
         → AreBelow opened.new.marks (length rows.old.items + 1)) }
+    ensures last { OnOk result (opened.new.marks.last ≡ length rows.old.items) }
     ensures marks { OnErr result (opened.new.marks ≡ opened.old.marks) }
     ensures safe { OnOk result ((c : Client) (op : Op) (create : ℕ) → IsSafe rows.old.items holders.old.items
         → ShowsRows rows.old.items holders.old.items prices.old watchers.old c → length rows.old.items ≡ c.taken + 1
         → IsOn rows.old.items c op create (length rows.old.items) shape.now row
         → ShowsOpen rows.old.items (λ x. at_of (c.op x)) (λ x. size_of (c.op x)) create (length rows.old.items) opened.old.marks
         (top opened.old.written) (top opened.old.locked) → IsSafe rows.new.items holders.new.items) }
+    ensures secure { OnOk result (IsSafe rows.old.items holders.old.items → 0 < length rows.old.items
+        → row.create ≤ length rows.old.items → AreBelow opened.old.marks (length rows.old.items)
+        → AreTopped (top opened.old.written) (top opened.old.locked) (length rows.old.items) → IsSafe rows.new.items holders.new.items) }
+    ensures topped { OnOk result (AreTopped (top opened.old.written) (top opened.old.locked) (length rows.old.items)
+        → AreTopped (top opened.new.written) (top opened.new.locked) (length rows.old.items + 1)) }
+    ensures tops { OnErr result ((n : ℕ) → AreTopped (top opened.old.written) (top opened.old.locked) n
+        → AreTopped (top opened.new.written) (top opened.new.locked) n) }
     ensures shown { OnOk result ((c : Client) (op : Op) (create : ℕ) → IsSafe rows.old.items holders.old.items
         → ShowsRows rows.old.items holders.old.items prices.old watchers.old c → length rows.old.items ≡ c.taken + 1
         → IsOn rows.old.items c op create (length rows.old.items) shape.now row
@@ -100,6 +124,6 @@ pub fn take_on(
     let stretch = note(rows, opened, shape, number, holders)?;
     let row = placed(row, &stretch, opened);
     add_one(rows, prices, watchers, row);
-    opened.marks = opened.marks.behind(number, shape.kind, shape.size);
+    opened.marks = marked(&opened.marks, number, shape.kind, shape.size);
     Ok(())
 }

@@ -1,7 +1,8 @@
 -- Table and opens behind an operation more on an open that there is, and where memory ran out.
-use Rattle.std.proofs.Common.{◌≡◌, ℕ, ◌+◌, ◌<◌, ◌≤◌, List, [], ◌∷◌, ◌++◌, length, set, vec_capacity}
-use Rattle.std.proofs.Common.{refl, ap, sym, ◌∙◌, subst, arith, inl, inr}
+use Rattle.std.proofs.Common.{◌≡◌, ℕ, ◌+◌, ◌<◌, ◌≤◌, true, List, [], ◌∷◌, ◌++◌, length, set, vec_capacity}
+use Rattle.std.proofs.Common.{refl, ap, sym, ◌∙◌, subst, arith, ◌⊎◌, inl, inr}
 use Rattle.std.proofs.Math.ListN.{length-set}
+use Rattle.std.proofs.lemmas.List.{length_push}
 use Rattle.exchange_defs.specs.Table.{put}
 use Rattle.exchange_defs.specs.Operations.{Op, persists}
 use Rattle.exchange_defs.specs.Client.{Client, take_op}
@@ -9,8 +10,10 @@ use Rattle.operation_values.specs.declared.shapes.Kind.TheVariants as kinds
 use Rattle.operation_rows.specs.declared.row.Row.{Row}
 use Rattle.operation_rows.specs.declared.slots.Slot.{Slot}
 use Rattle.operation_rows.specs.Rows.{row_at, owner, kind}
+use Rattle.operation_rows.proofs.Adding.{at_new, at_old}
 use Rattle.operation_rows.proofs.Walking.{put_off}
-use Rattle.client_marks.specs.Marks.{AreBelow}
+use Rattle.client_marks.specs.declared.marks.Marks.{Marks}
+use Rattle.client_marks.specs.Marks.{IsHighest}
 use Rattle.client_choice.specs.declared.finding.Attached.{Attached}
 use Rattle.client_choice.specs.Shown.{IsAt}
 use Rattle.client_opens.specs.declared.opening.Open.{Open}
@@ -19,9 +22,12 @@ use Rattle.client_attached.specs.Known.{IsKnownAt, ShowsOpened}
 use Rattle.client_attached.specs.Opens.{FitsOpens, HasSlots, HaveUsers, ShowsAttached}
 use Rattle.client_attached.proofs.Changed.{fits_set, shown_set}
 use Rattle.client_joining.specs.Keeping.{Keeps}
-use Rattle.client_submitting.specs.Marked.{FitsMarks, IsMarkedAt, ShowsMarks}
+use Rattle.client_submitting.specs.Marked.{FitsMarks, IsBounded, IsMarkedAt, ShowsMarks}
 use Rattle.client_submitting.proofs.Grown.{Pair, fits_grown, known_grown, shown_grown}
 use Rattle.client_submitting.proofs.Marks.{Reads, keeps_grown, marked_grown, reads_set}
+
+ways : (x y : ℕ) → (x ≡ y) ⊎ (x ≡ y → ⊥)
+ways x y = grind arith
 
 no_less : (a b : ℕ) → 64 ≤ a → a ≤ b → 64 ≤ b
 no_less a b l h = omega arith
@@ -127,8 +133,8 @@ module _ (rows : List Row) (r : Row) (attached : List Attached) (create at : ℕ
     all_in : (g : ℕ) → 0 < g → g < length rows → (row_at rows g).«open» < length (set marks at mark)
     all_in g a b = subst (λ n. (row_at rows g).«open» < n) (sym counted) (m.opens g a b)
 
-    pub marks_fit : AreBelow mark.marks (length rows + 1) → FitsMarks (rows ++ r ∷ []) (set marks at mark)
-    marks_fit below = marked_grown rows r marks (set marks at mark) mark reads stands_in pair all_in below m
+    pub marks_fit : IsBounded mark (length rows + 1) → mark.marks.last ≡ length rows → FitsMarks (rows ++ r ∷ []) (set marks at mark)
+    marks_fit below last = marked_grown rows r marks (set marks at mark) mark reads stands_in pair all_in below last m
 
     pub marks_show : (c : Client) (op : Op) → Keeps (rows ++ r ∷ []) (length rows + 1) (put c.op (length rows) op) create mark
         → ((other : ℕ) (z : Open) → (create ≡ other → ⊥) → Keeps rows (length rows) c.op other z
@@ -139,6 +145,21 @@ module _ (rows : List Row) (r : Row) (attached : List Attached) (create at : ℕ
         (subst (λ x. Keeps (rows ++ r ∷ []) (length rows + 1) (put c.op (length rows) op) x mark) (sym c_is) own)
         (λ other z e k. others other z (λ h. e (c_is ∙ h)) k) s
 
+-- creates stay on their own opens behind an operation that is none
+before_last : (g n m : ℕ) → g < m → m ≡ n + 1 → (g ≡ n → ⊥) → g < n
+before_last g n m l e q = omega arith
+
+pub homes_more : (rows : List Row) (r : Row) → (r.kind ≡ kinds.Create → ⊥)
+    → ((g : ℕ) → 0 < g → g < length rows → kind rows g ≡ kinds.Create → owner rows g ≡ g)
+    → (g : ℕ) → 0 < g → g < length (rows ++ r ∷ []) → kind (rows ++ r ∷ []) g ≡ kinds.Create → owner (rows ++ r ∷ []) g ≡ g
+homes_more rows r plain homes g p l k =
+    elim (ways g (length rows)) as (λ _. owner (rows ++ r ∷ []) g ≡ g) [
+      | inl e ↦ absurd (plain (sym (ap (λ x. kind (rows ++ r ∷ []) x) e ∙ ap (λ (w : Row). w.kind) (at_new rows r)) ∙ k))
+      | inr e ↦ ap (λ (w : Row). w.create) (at_old rows r g e)
+          ∙ homes g p (before_last g (length rows) (length (rows ++ r ∷ [])) l (length_push rows r) e)
+          (sym (ap (λ (w : Row). w.kind) (at_old rows r g e)) ∙ k)
+    ]
+
 -- ---- where memory ran out, an open's marks may be written anew, and keep what they kept
 
 module _ (rows : List Row) (marks : List Open) (create at : ℕ) (mark after : Open) (p : 0 < create) (l : create < length rows)
@@ -146,16 +167,23 @@ module _ (rows : List Row) (marks : List Open) (create at : ℕ) (mark after : O
   spot2 : at < length marks
   spot2 = subst (λ x. x < length marks) (sym q) (m.opens create p l)
 
-  pub marks_stay : after.marks ≡ mark.marks → FitsMarks rows (set marks at after)
-  marks_stay e =
+  pub marks_stay : IsBounded after (length rows) → after.marks ≡ mark.marks → FitsMarks rows (set marks at after)
+  marks_stay e same =
       record {
         opens = λ g a b. subst (λ n. (row_at rows g).«open» < n) (sym (length-set marks at after)) (m.opens g a b);
         below = λ g z a b h. elim (reads_set marks at after spot2 (row_at rows g).«open» z
             (subst (λ n. (row_at rows g).«open» < n) (sym (length-set marks at after)) (m.opens g a b)) h)
-            as (λ _. AreBelow z.marks (length rows)) [
-              | inl w ↦ subst (λ (y : Open). AreBelow y.marks (length rows)) (sym w.1)
-                  (subst (λ y. AreBelow y (length rows)) (sym e) (m.below g mark a b (subst (λ x. IsMarkedAt marks x mark) (sym w.0) is)))
+            as (λ _. IsBounded z (length rows)) [
+              | inl w ↦ subst (λ (y : Open). IsBounded y (length rows)) (sym w.1) e
               | inr w ↦ m.below g z a b w.1
+            ];
+        lasts = λ g z a b h. elim (reads_set marks at after spot2 (row_at rows g).«open» z
+            (subst (λ n. (row_at rows g).«open» < n) (sym (length-set marks at after)) (m.opens g a b)) h)
+            as (λ _. IsHighest (owner rows) (λ x. true) (owner rows g) (length rows) z.marks.last) [
+              | inl w ↦ subst (λ (y : Open). IsHighest (owner rows) (λ x. true) (owner rows g) (length rows) y.marks.last) (sym w.1)
+                  (subst (λ (y : Marks). IsHighest (owner rows) (λ x. true) (owner rows g) (length rows) y.last) (sym same)
+                  (m.lasts g mark a b (subst (λ x. IsMarkedAt marks x mark) (sym w.0) is)))
+              | inr w ↦ m.lasts g z a b w.1
             ];
       }
 

@@ -3,10 +3,12 @@ ghost use Rattle.std.specs.Prelude.{◌≡◌, ℕ, ◌+◌, ◌<◌, ◌^◌, t
 ghost use Rattle.exchange_defs.specs.Operations.{create_of, is_create, keeps_limits};
 ghost use Rattle.exchange_defs.specs.Client.{Client, take_op};
 ghost use Rattle.client_law.specs.Kept.{Kept};
+ghost use Rattle.operation_values.specs.declared.shapes.Kind.TheVariants as kinds;
 ghost use Rattle.operation_values.specs.Meaning.{op_of};
 ghost use Rattle.operation_rows.specs.Rows.{row_at};
 ghost use Rattle.client_attached.specs.Known.{IsKnownAt};
 ghost use Rattle.client_taking.specs.Taken.{HasRooms};
+ghost use Rattle.client_submitting.specs.Marked.{AddsOne};
 ghost use Rattle.client_submitting.specs.Whole.{FitsWhole, ShowsWhole};
 
 use client_attached::Opened;
@@ -49,13 +51,17 @@ pub fn take_more(
     requires above { 0 < create }
     requires within { create < length table.old.rows.items }
     requires limits { keeps_limits (op_of kind) ≡ true }
+    requires made { (row_at table.old.rows.items create).kind ≡ kinds.Create }
+    requires other { is_create (op_of kind) ≡ false }
+    requires names { (g : ℕ) → create_of g (op_of kind) ≡ create }
+    ensures row { OnOk result (AddsOne table.old.rows.items table.new.rows.items create) }
+    ensures same { OnErr result (table.new.rows.items ≡ table.old.rows.items) }
+    ensures fits { OnOk result (FitsWhole table.new attached.new opened.now.items marks.new) }
     ensures shown { OnOk result ((c : Client) → ShowsWhole table.old attached.old opened.now.items marks.old c → Kept c
-        → is_create (c.op create) ≡ true → is_create (op_of kind) ≡ false → ((g : ℕ) → create_of g (op_of kind) ≡ create)
-        → FitsWhole table.new attached.new opened.now.items marks.new
-        × ShowsWhole table.new attached.new opened.now.items marks.new (take_op c (length table.old.rows.items) (op_of kind))) }
+        → ShowsWhole table.new attached.new opened.now.items marks.new (take_op c (length table.old.rows.items) (op_of kind))) }
     ensures still { OnErr result (FitsWhole table.new attached.new opened.now.items marks.new) }
-    ensures kept { OnErr result ((c : Client) → ShowsWhole table.old attached.old opened.now.items marks.old c → Kept c
-        → is_create (c.op create) ≡ true → ShowsWhole table.new attached.new opened.now.items marks.new c) }
+    ensures kept { OnErr result ((c : Client) → ShowsWhole table.old attached.old opened.now.items marks.old c
+        → ShowsWhole table.new attached.new opened.now.items marks.new c) }
 {
     let open = open_of(table, create as usize);
     let at = open as usize;

@@ -3,6 +3,10 @@ use Rattle.std.proofs.Common.{◌≡◌, ℕ, ◌+◌, ◌-◌, ◌<◌, ◌≤�
 use Rattle.exchange_defs.specs.Operations.{Op, create_of, is_create, keeps_limits}
 use Rattle.exchange_defs.specs.Client.{Client, may_take}
 
+pub clash : (b : Bool) → b ≡ true → b ≡ false → ⊥
+clash true e f = absurd (cc)
+clash false e f = absurd (cc)
+
 is_not : (a b : ℕ) → (a ≡ b → ⊥) → (a == b) ≡ false
 is_not a b n = grind arith
 
@@ -34,6 +38,23 @@ both_hold create number x p l = by (nat_lt 0 create) (nat_lt create number) (mor
     by true true e f = refl
     by true false e f = absurd (cc)
     by false b e f = absurd (cc)
+
+-- and what such a number tells
+named_by : (a b x : Bool) → (a && (b && x)) ≡ true → (a ≡ true) × (b ≡ true) × (x ≡ true)
+named_by true true true e = (refl, refl, refl)
+named_by true true false e = absurd (cc)
+named_by true false x e = absurd (cc)
+named_by false b x e = absurd (cc)
+
+less_row : (create number n : ℕ) → 0 < create → create < number → (1 < number → number ≤ n) → create < n
+less_row create number n p l h = let w = h (omega arith) in omega arith
+
+pub made_so : (create number n : ℕ) (x : Bool) → (nat_lt 0 create && (nat_lt create number && x)) ≡ true → (1 < number → number ≤ n)
+    → (0 < create) × (create < n) × (x ≡ true)
+made_so create number n x e h =
+    let w = named_by (nat_lt 0 create) (nat_lt create number) x e in
+    let p = less 0 create w.0 in
+    (p, less_row create number n p (less create number w.1) h, w.2)
 
 -- ---- the whole test
 

@@ -1,5 +1,6 @@
 // Whether an operation may be taken.
-ghost use Rattle.std.specs.Prelude.{◌≡◌, ◌<◌, ◌≤◌, ◌&&◌, nat_lt, length};
+ghost use Rattle.std.specs.Prelude.{◌≡◌, ℕ, ◌<◌, ◌≤◌, ◌&&◌, nat_lt, true, false, length};
+ghost use Rattle.exchange_defs.specs.Operations.{create_of, is_create, keeps_limits as keeps};
 ghost use Rattle.exchange_defs.specs.Client.{Client, may_take as may};
 ghost use Rattle.operation_rows.specs.Rows.{row_at};
 ghost use Rattle.operation_values.specs.Meaning.{op_of};
@@ -37,7 +38,10 @@ fn names_create(table: &Table, create: u32, number: u32) -> bool
 /// before.
 pub fn may_take(table: &Table, number: u32, kind: &OpKind) -> bool
     requires fits { Fits table.now }
-    ensures { (c : Client) → ShowsTable table.now c → result ≡ may c number (op_of kind.now) }
+    ensures shown { (c : Client) → ShowsTable table.now c → result ≡ may c number (op_of kind.now) }
+    ensures limits { result ≡ true → keeps (op_of kind.now) ≡ true }
+    ensures made { result ≡ true → is_create (op_of kind.now) ≡ false → (create : ℕ) → ((g : ℕ) → create_of g (op_of kind.now) ≡ create)
+        → (0 < create) × (create < length table.now.rows.items) × (is_create_kind (row_at table.now.rows.items create).kind ≡ true) }
 {
     if number as usize != table.ops.len() + 1 {
         return false;

@@ -1,5 +1,5 @@
 // Room for one operation more.
-ghost use Rattle.std.specs.Prelude.{◌≡◌, ◌+◌, ◌<◌, ◌^◌, length, OnOk};
+ghost use Rattle.std.specs.Prelude.{◌≡◌, ◌+◌, ◌<◌, ◌^◌, length, OnOk, OnErr};
 ghost use Rattle.exchange_defs.specs.Client.{Client};
 ghost use Rattle.client_table.specs.Shown.{Fits, ShowsTable};
 ghost use Rattle.client_taking.specs.Taken.{HasRooms, KeepsOrBegins};
@@ -14,6 +14,7 @@ pub fn make_first(table: &mut Table) -> Result<(), AllocError>
     ensures fits { Fits table.new }
     ensures some { OnOk result (0 < length table.new.rows.items) }
     ensures rows { KeepsOrBegins table.old.rows.items table.new.rows.items }
+    ensures same { OnErr result (table.new.rows.items ≡ table.old.rows.items) }
     ensures shown { (c : Client) → ShowsTable table.old c → ShowsTable table.new c }
 {
     if !table.rows.is_empty() {

@@ -1,13 +1,13 @@
 // An operation is taken.
-ghost use Rattle.std.specs.Prelude.{◌≡◌, ℕ, ◌+◌, ◌<◌, ◌^◌, [], ◌∷◌, ◌++◌, length, OnOk, OnErr};
+ghost use Rattle.std.specs.Prelude.{◌≡◌, ℕ, ◌+◌, ◌<◌, ◌≤◌, ◌^◌, [], ◌∷◌, ◌++◌, length, None, OnOk, OnErr};
 ghost use Rattle.exchange_defs.specs.Table.{put};
 ghost use Rattle.exchange_defs.specs.Client.{Client, take_op};
 ghost use Rattle.operation_values.specs.Meaning.{op_of};
 ghost use Rattle.operation_values.specs.Waiting.{at_of, size_of};
 ghost use Rattle.range_index.specs.Shown.{top};
 ghost use Rattle.client_marks.specs.declared.marks.Marks.{Marks as OpenMarks};
-ghost use Rattle.client_marks.specs.Marks.{AreBelow, mark_of};
-ghost use Rattle.client_opens.specs.Opened.{ShowsOpen, placed_row};
+ghost use Rattle.client_marks.specs.Marks.{AreBelow};
+ghost use Rattle.client_opens.specs.Opened.{AreTopped, ShowsOpen, placed_row};
 ghost use Rattle.client_table.specs.Shown.{Fits, ShowsTable};
 ghost use Rattle.client_taking.specs.Taken.{HasRooms, TakesOn};
 
@@ -32,16 +32,20 @@ pub fn take_row(
     requires some { 0 < length table.old.rows.items }
     requires few { length table.old.rows.items + 1 < 2 ^ 32 }
     requires room { HasRooms table.old }
-    requires close { opened.old.marks.close < length table.old.rows.items }
-    requires mark { mark_of shape.now.kind opened.old.marks < length table.old.rows.items }
+    requires below { AreBelow opened.old.marks (length table.old.rows.items) }
+    requires topped { AreTopped (top opened.old.written) (top opened.old.locked) (length table.old.rows.items) }
+    requires above { 0 < row.create }
+    requires own { row.create ≤ length table.old.rows.items }
+    requires unsent { row.outstanding_on ≡ None }
     ensures row { OnOk result (table.new.rows.items ≡ table.old.rows.items
         ++ placed_row row (length table.old.holders.items) (length table.new.holders.items) opened.old.marks ∷ []) }
     ensures same { OnErr result (table.new.rows.items ≡ table.old.rows.items) }
-    ensures below { OnOk result (AreBelow opened.old.marks (length table.old.rows.items)
-        → AreBelow opened.new.marks (length table.old.rows.items + 1)) }
+    ensures below { OnOk result (AreBelow opened.new.marks (length table.old.rows.items + 1)) }
+    ensures topped { OnOk result (AreTopped (top opened.new.written) (top opened.new.locked) (length table.old.rows.items + 1)) }
+    ensures tops { OnErr result (AreTopped (top opened.new.written) (top opened.new.locked) (length table.old.rows.items)) }
+    ensures last { OnOk result (opened.new.marks.last ≡ length table.old.rows.items) }
     ensures marks { OnErr result (opened.new.marks ≡ opened.old.marks) }
-    ensures fits { OnOk result ((c : Client) (create : ℕ) → TakesOn table.old opened.old c (op_of kind) create shape.now row outcome
-        → Fits table.new) }
+    ensures fits { OnOk result (Fits table.new) }
     ensures shown { OnOk result ((c : Client) (create : ℕ) → TakesOn table.old opened.old c (op_of kind) create shape.now row outcome
         → ShowsTable table.new (take_op c (length table.old.rows.items) (op_of kind))) }
     ensures keeps { OnOk result ((c : Client) (create : ℕ) → TakesOn table.old opened.old c (op_of kind) create shape.now row outcome

@@ -1,4 +1,4 @@
-use Rattle.std.proofs.Common.{◌≡◌, ℕ, ◌<◌, if◌then◌else◌, length, refl, ap, sym, ◌∙◌, subst, arith}
+use Rattle.std.proofs.Common.{◌≡◌, ℕ, ◌<◌, ◌≤◌, if◌then◌else◌, length, refl, ap, sym, ◌∙◌, subst, arith}
 use Rattle.exchange_defs.specs.Operations.{charge, weight}
 use Rattle.exchange_defs.specs.Client.{Client, is_attached, is_gone}
 use Rattle.operation_values.specs.Meaning.{op_of}
@@ -6,7 +6,6 @@ use Rattle.operation_values.specs.Waiting.{at_of, size_of}
 use Rattle.operation_rows.specs.declared.row.Row.{Row}
 use Rattle.range_index.specs.Shown.{top}
 use Rattle.client_marks.specs.Marks.{is_lock_kind}
-use Rattle.client_marks.proofs.Lower.{mark_below}
 use Rattle.client_settles.specs.Shown.{outcome_by}
 use Rattle.client_opens.specs.Opened.{IsOn, placed_row}
 use Rattle.client_table.proofs.Ready.{on_err}
@@ -14,11 +13,14 @@ use Rattle.client_taking.specs.Taken.{TakesOn}
 use Rattle.client_taking.proofs.Roomed.{ok_more}
 use Rattle.client_joining.specs.Joined.{Joins}
 use Rattle.client_joining.proofs.Onto.{counted_so, first_is, row_on}
-use Rattle.client_joining.proofs.Stood.{err_more, ok_three, on_ok}
+use Rattle.client_joining.proofs.Stood.{err_more, ok_two, on_ok}
 use Rattle.client_joining.proofs.joining.take_onto.Goals as goal
 
 some : (x y : ℕ) → 0 < x → x < y → 0 < y
 some x y a b = omega arith
+
+within : (x n : ℕ) → x < n → x ≤ n
+within x n l = omega arith
 
 pub of-shape-requires : goal.of-shape-requires
 of-shape-requires c = c.requires.limits
@@ -38,20 +40,26 @@ returns-in_err-make_slots-clause-kept c = on_err c.from_residual.result (λ d s.
 pub returns-in_err-make_slots-clause-stays : goal.returns-in_err-make_slots-clause-stays
 returns-in_err-make_slots-clause-stays c = on_err c.from_residual.result (λ d n s. s)
 
+pub returns-in_err-make_slots-clause-tops : goal.returns-in_err-make_slots-clause-tops
+returns-in_err-make_slots-clause-tops c = on_err c.from_residual.result c.requires.topped
+
 pub is_gone_now-gone-requires : goal.is_gone_now-gone-requires
 is_gone_now-gone-requires c = record { fits = c.requires.fits; above = c.requires.above; within = c.requires.within }
 
 pub take_row-requires : goal.take_row-requires
 take_row-requires c =
     let rows = c.args.table.now.rows.items in
-    let b = c.requires.below in
+    let is = ap (λ (w : Row). w.create) c.new_row-row.ensures in
     record {
       fits = c.requires.fits;
       some = some c.args.create (length rows) c.requires.above c.requires.within;
       few = c.requires.few;
       room = c.requires.room;
-      close = b.close;
-      mark = mark_below c.of-shape.result.kind c.args.mark.now.marks (length rows) b;
+      below = c.requires.below;
+      topped = c.requires.topped;
+      above = subst (λ y. 0 < y) (sym is) c.requires.above;
+      own = subst (λ y. y ≤ length rows) (sym is) (within c.args.create (length rows) c.requires.within);
+      unsent = ap (λ (w : Row). w.outstanding_on) c.new_row-row.ensures;
     }
 
 pub returns : goal.returns
@@ -100,8 +108,12 @@ returns c =
         ap (λ (w : Row). w.kind) made ∙ sh.kind,
       )) e.row;
       locks = on_ok c.take_row.result (λ k. c.in_ok-make_slots.ensures.room (c.is_lock.ensures ∙ ap (λ z. is_lock_kind z) (sh.kind ∙ k)));
-      below = ok_more c.take_row.result (λ h. h c.requires.below) e.below;
-      joined = ok_three c.take_row.result (λ f s k d j. (f d x (takes d j), s d x (takes d j), k d x (takes d j))) e.fits e.shown e.keeps;
+      below = e.below;
+      topped = e.topped;
+      tops = e.tops;
+      last = e.last;
+      fits = e.fits;
+      joined = ok_two c.take_row.result (λ s k d j. (s d x (takes d j), k d x (takes d j))) e.shown e.keeps;
       others = ok_more c.take_row.result (λ h d other mark apart s. h d other mark.marks (top mark.written) (top mark.locked)
           (λ q. apart (sym (ap (λ (w : Row). w.create) made) ∙ q)) s) e.others;
       same = e.same;

@@ -2,6 +2,7 @@ use Rattle.std.proofs.Common.{◌≡◌, ℕ, ◌+◌, ◌<◌, List, [], ◌∷
 use Rattle.range_index.specs.Shown.{top}
 use Rattle.operation_rows.specs.declared.row.Row.{Row}
 use Rattle.operation_rows.specs.Rows.{stands}
+use Rattle.operation_rows.specs.Holding.{IsSafe}
 use Rattle.operation_rows.specs.Moves.{StandsRows}
 use Rattle.operation_rows.proofs.Growing.{on_err}
 use Rattle.client_marks.specs.declared.marks.Marks.{Marks}
@@ -11,6 +12,7 @@ use Rattle.client_rows.specs.Shown.{ShowsRows, fills_by, waits_by}
 use Rattle.client_submits.proofs.Taken.{kept_shown}
 use Rattle.client_opens.specs.Opened.{Behind, placed_row}
 use Rattle.client_opens.proofs.Joined.{AddsSafe, AddsShown, others_kept, stays_shown, submit_open, submit_safe, submit_shown}
+use Rattle.client_opens.proofs.Secure.{secure, topped_behind}
 use Rattle.client_opens.proofs.submitting.take_on.Goals as goal
 
 below_more : (m : Marks) (n : ℕ) → AreBelow m n → AreBelow m (n + 1)
@@ -99,9 +101,13 @@ pub returns-clause-below : goal.returns-clause-below
 returns-clause-below c = λ b.
     let n = length c.args.rows.now.items in
     let number : c.count_of-count.result ≡ n = c.count_of-count.ensures ∙ ap (λ (xs : List Row). length xs) c.make_room.ensures.same in
-    c.behind-opened.ensures.below (n + 1)
+    c.marked-opened.ensures.below (n + 1)
     (subst (λ (m : Marks). AreBelow m (n + 1)) (sym c.note.ensures.marks) (below_more c.args.opened.now.marks n b))
     (omega arith)
+
+pub returns-clause-last : goal.returns-clause-last
+returns-clause-last c =
+    c.marked-opened.ensures.last ∙ c.count_of-count.ensures ∙ ap (λ (xs : List Row). length xs) c.make_room.ensures.same
 
 pub returns-clause-keeps : goal.returns-clause-keeps
 returns-clause-keeps c = λ d op create safe s next on was.
@@ -124,14 +130,14 @@ returns-clause-keeps c = λ d op create safe s next on was.
     c.note.ensures.marks) v.begins v.ends c.note.ensures.goes
     (subst (λ (xs : List Row). ListsHolders (stands xs) w.marks.close (mark_of c.args.shape.now.kind w.marks)
     (λ x. top_of c.args.shape.now.kind (top w.written) (top w.locked) x) c.args.shape.now.at c.args.shape.now.size h h2) f v.listed)
-    c.requires.mark safe s next on was c.add_one.new.rows.items c.behind-opened.result (top c.note.new.opened.written)
+    c.requires.mark safe s next on was c.add_one.new.rows.items c.marked-opened.result (top c.note.new.opened.written)
     (top c.note.new.opened.locked) (c.add_one.ensures.more ∙ ap (λ (xs : List Row). xs ++ r ∷ []) e)
     (subst (λ (m : Marks). (o : ℕ → ℕ) (k : ℕ → Kind) (sizes : ℕ → ℕ) (at : ℕ) → Heights o k sizes at (length old) m
     → o (length old) ≡ at → k (length old) ≡ c.args.shape.now.kind → sizes (length old) ≡ c.args.shape.now.size
-    → Heights o k sizes at (length old + 1) c.behind-opened.result) c.note.ensures.marks
+    → Heights o k sizes at (length old + 1) c.marked-opened.result) c.note.ensures.marks
     (subst (λ n. (o : ℕ → ℕ) (k : ℕ → Kind) (sizes : ℕ → ℕ) (at : ℕ) → Heights o k sizes at n c.note.new.opened.marks
-    → o n ≡ at → k n ≡ c.args.shape.now.kind → sizes n ≡ c.args.shape.now.size → Heights o k sizes at (n + 1) c.behind-opened.result) number
-    c.behind-opened.ensures.highest))
+    → o n ≡ at → k n ≡ c.args.shape.now.kind → sizes n ≡ c.args.shape.now.size → Heights o k sizes at (n + 1) c.marked-opened.result) number
+    c.marked-opened.ensures.highest))
     (subst (λ n. Behind c.args.shape.now.kind (top w.written) (top c.note.new.opened.written) (top w.locked)
     (top c.note.new.opened.locked) c.args.shape.now.at c.args.shape.now.size n) number v.covers)
 
@@ -188,3 +194,42 @@ returns-in_err-make_room-clause-unlisted c = on_err c.from_residual.result refl
 
 pub returns-in_err-stretch-clause-unlisted : goal.returns-in_err-stretch-clause-unlisted
 returns-in_err-stretch-clause-unlisted c = on_err c.from_residual-in_err-stretch.result c.in_err-stretch.ensures.kept
+
+pub returns-clause-secure : goal.returns-clause-secure
+returns-clause-secure c = λ safe p own below topped.
+    let e = c.make_room.ensures.same in
+    let old = c.args.rows.now.items in
+    let f : c.deref.result.now ≡ old = c.deref.ensures.value ∙ e in
+    let w = c.args.opened.now in
+    let v = c.in_ok-stretch.ensures in
+    let row = c.args.row in
+    let h = c.args.holders.now.items in
+    let h2 = c.note.new.holders.items in
+    let is : c.add_one.new.rows.items ≡ old ++ placed_row row (length h) (length h2) w.marks ∷ [] = c.add_one.ensures.more
+    ∙ (λ t. c.make_room.ensures.same t ++ c.placed-row.ensures t ∷ [])
+    ∙ (λ t. old ++ placed_row row (v.begins t) (v.ends t) (c.note.ensures.marks t) ∷ []) in
+    subst (λ (xs : List Row). IsSafe xs h2) (sym is)
+    (secure old row w.marks (top w.written) (top w.locked) c.args.shape.now.kind c.args.shape.now.at c.args.shape.now.size h h2
+    (subst (λ (xs : List Row). ListsHolders (stands xs) w.marks.close (mark_of c.args.shape.now.kind w.marks)
+    (λ x. top_of c.args.shape.now.kind (top w.written) (top w.locked) x) c.args.shape.now.at c.args.shape.now.size h h2) f v.listed)
+    safe p below c.requires.mark topped own)
+
+pub returns-clause-topped : goal.returns-clause-topped
+returns-clause-topped c = λ topped.
+    let w = c.args.opened.now in
+    let n = length c.args.rows.now.items in
+    let v = c.in_ok-stretch.ensures in
+    let number : c.count_of-count.result ≡ n = c.count_of-count.ensures ∙ ap (λ (xs : List Row). length xs) c.make_room.ensures.same in
+    topped_behind c.args.shape.now.kind (top w.written) (top c.note.new.opened.written) (top w.locked) (top c.note.new.opened.locked)
+    c.args.shape.now.at c.args.shape.now.size n
+    (subst (λ y. Behind c.args.shape.now.kind (top w.written) (top c.note.new.opened.written) (top w.locked)
+    (top c.note.new.opened.locked) c.args.shape.now.at c.args.shape.now.size y) number v.covers) topped
+
+pub returns-in_err-make_room-clause-tops : goal.returns-in_err-make_room-clause-tops
+returns-in_err-make_room-clause-tops c = on_err c.from_residual.result (λ n t. t)
+
+pub returns-in_err-stretch-clause-tops : goal.returns-in_err-stretch-clause-tops
+returns-in_err-stretch-clause-tops c = on_err c.from_residual-in_err-stretch.result (λ n t x f. (
+  subst (λ y. y < n) (sym (c.in_err-stretch.ensures.stays.0 x)) (t x f).0,
+  subst (λ y. y < n) (sym (c.in_err-stretch.ensures.stays.1 x)) (t x f).1,
+))

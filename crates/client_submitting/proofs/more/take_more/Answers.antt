@@ -1,4 +1,4 @@
-use Rattle.std.proofs.Common.{◌≡◌, ℕ, ◌+◌, ◌<◌, ◌≤◌, true, List, length, set, slice_index_or, vec_capacity}
+use Rattle.std.proofs.Common.{◌≡◌, ℕ, ◌+◌, ◌<◌, ◌≤◌, List, length, set, slice_index_or, vec_capacity}
 use Rattle.std.proofs.Common.{ap, sym, ◌∙◌, subst}
 use Rattle.std.proofs.Math.ListN.{length-set}
 use Rattle.std.proofs.lemmas.List.{get_or-set_same}
@@ -7,20 +7,26 @@ use Rattle.exchange_defs.specs.Operations.{is_create, persists}
 use Rattle.exchange_defs.specs.Client.{Client, take_op}
 use Rattle.client_law.specs.Kept.{Kept}
 use Rattle.operation_values.specs.Meaning.{op_of}
+use Rattle.operation_values.specs.Waiting.{kind_of}
+use Rattle.operation_values.specs.declared.shapes.Kind.TheVariants as kinds
 use Rattle.operation_rows.specs.declared.row.Row.{Row}
-use Rattle.operation_rows.specs.Rows.{owner}
+use Rattle.operation_rows.specs.Rows.{kind, owner}
+use Rattle.client_marks.specs.declared.marks.Marks.{Marks}
+use Rattle.client_marks.specs.Marks.{AreBelow, is_create_kind}
+use Rattle.client_pushes.proofs.Picked.{create_kind}
 use Rattle.client_choice.specs.declared.finding.Attached.{Attached}
 use Rattle.client_choice.specs.Shown.{IsAt}
 use Rattle.client_opens.specs.declared.opening.Open.{Open}
 use Rattle.client_attached.specs.Known.{IsKnownAt, ShowsOpened}
 use Rattle.client_attached.specs.Opens.{FitsOpens, ShowsAttached}
+use Rattle.client_taking.proofs.Roomed.{ok_more}
 use Rattle.client_joining.specs.Joined.{Joins}
 use Rattle.client_joining.specs.Keeping.{Keeps}
 use Rattle.client_submitting.specs.Marked.{FitsMarks, IsMarkedAt, ShowsMarks}
 use Rattle.client_submitting.specs.Whole.{ShowsWhole}
 use Rattle.client_submitting.proofs.All.{fits_like, fits_more, inside, keeps_stay, known_more, marks_fit, marks_show, marks_stay, shown_like}
-use Rattle.client_submitting.proofs.All.{shown_more}
-use Rattle.client_submitting.proofs.Results.{err_three, ok_five}
+use Rattle.client_submitting.proofs.All.{homes_more, shown_more}
+use Rattle.client_submitting.proofs.Results.{clash, err_four, err_three, ok_six, ok_three}
 use Rattle.client_submitting.proofs.more.take_more.Goals as goal
 
 pub open_of-open-requires : goal.open_of-open-requires
@@ -49,6 +55,8 @@ take_onto-requires c =
     let at = c.open_of-open.result in
     let mark : Open = slice_index_or marks at c.index-marks-at.result in
     let mark_is : IsMarkedAt marks at mark = ap (λ (z : Open). slice_index_or marks at z) c.index-marks-at.is in
+    let bound = a.marked.below c.args.create mark c.requires.above c.requires.within
+    (subst (λ y. IsMarkedAt marks y mark) c.open_of-open.ensures mark_is) in
     record {
       fits = a.table;
       few = c.requires.few;
@@ -56,8 +64,8 @@ take_onto-requires c =
       above = c.requires.above;
       within = c.requires.within;
       limits = c.requires.limits;
-      below = a.marked.below c.args.create mark c.requires.above c.requires.within
-          (subst (λ y. IsMarkedAt marks y mark) c.open_of-open.ensures mark_is);
+      below = bound.0;
+      topped = bound.1;
     }
 
 pub returns : goal.returns
@@ -90,73 +98,84 @@ returns c =
     let same_known : length opened ≡ length attached2 = a.known ∙ sym (length-set attached at own2) in
     let same_marks : length marks2 ≡ length attached2 = length-set marks at mark2 ∙ a.counted ∙ sym (length-set attached at own2) in
     let owned : (g : ℕ) → 0 < g → g < length rows → owner rows g < length rows = (λ g b k. (a.table.owned g b k).1) in
-    let home : (d : Client) → ShowsWhole t attached opened marks d → Kept d → is_create (d.op x) ≡ true → owner rows x ≡ x = (λ d s kept made.
-    sym (s.table.rows.places.creates x p (s.table.rows.places.is_taken x p l)) ∙ kept.ordered.itself x made) in
+    let h : owner rows x ≡ x = a.homes x p l c.requires.made in
     let shown_now : (d : Client) → ShowsWhole t attached opened marks d → ShowsAttached rows attached2 d = (λ d s.
     shown_like rows attached x at own own2 p l q own_is a.opens e.session e.slots e.capacity d (owned x p l) s.attached) in
+    let is_own : (o : Attached) → IsAt attached2 at o → o ≡ own2 = (λ o k.
+    k ∙ get_or-set_same attached at own2 o within_all) in
+    let plain : kind_of op ≡ kinds.Create → ⊥ = (λ k.
+    clash (is_create op) (create_kind op ∙ ap (λ z. is_create_kind z) k) c.requires.other) in
+    let joins : (d : Client) → ShowsWhole t attached opened marks d → Kept d → Joins t own known mark d x op = (λ d s kept. record {
+      shown = s.table;
+      kept = kept;
+      made = create_kind (d.op x) ∙ ap (λ z. is_create_kind z)
+          (s.table.rows.places.kinds x p (s.table.rows.places.is_taken x p l) ∙ c.requires.made);
+      other = c.requires.other;
+      names = c.requires.names;
+      session = ap (λ y. d.attached y) (sym h) ∙ s.attached.session_is x own p l (subst (λ y. IsAt attached y own) q own_is);
+      shut = ap (λ y. d.closed_ok y) (sym h)
+          ∙ s.opened.closed_is x known p l (subst (λ y. IsKnownAt opened y known) q c.known_at-known.ensures);
+      persist = ap (λ y. persists (d.op y)) (sym h)
+          ∙ s.opened.persists_is x known p l (subst (λ y. IsKnownAt opened y known) q c.known_at-known.ensures);
+      marked = subst (λ y. Keeps rows (length rows) d.op y mark) h
+          (s.marked x mark p l (subst (λ y. IsMarkedAt marks y mark) q mark_is));
+    }) in
     record {
-      shown = ok_five c.take_onto.result (λ row locks below joined others d s kept made other names. (
+      row = ok_more c.take_onto.result (λ w. (w.0, w.1, w.2)) e.row;
+      same = e.same;
+      fits = ok_six c.take_onto.result (λ row locks below topped last fits. (
           let r = row.0 in
           let is = row.1 in
-          let c_is = row.2 in
-          let o_is = row.3 in
-          let h = home d s kept made in
-          let j : Joins t own known mark d x op = record {
-            shown = s.table;
-            kept = kept;
-            made = made;
-            other = other;
-            names = names;
-            session = ap (λ y. d.attached y) (sym h) ∙ s.attached.session_is x own p l (subst (λ y. IsAt attached y own) q own_is);
-            shut = ap (λ y. d.closed_ok y) (sym h)
-                ∙ s.opened.closed_is x known p l (subst (λ y. IsKnownAt opened y known) q c.known_at-known.ensures);
-            persist = ap (λ y. persists (d.op y)) (sym h)
-                ∙ s.opened.persists_is x known p l (subst (λ y. IsKnownAt opened y known) q c.known_at-known.ensures);
-            marked = subst (λ y. Keeps rows (length rows) d.op y mark) h
-                (s.marked x mark p l (subst (λ y. IsMarkedAt marks y mark) q mark_is));
-          } in
-          let w = joined d j in
-          let is_own : (o : Attached) → IsAt attached2 r.«open» o → o ≡ own2 = (λ o k.
-          k ∙ ap (λ y. slice_index_or attached2 y o) o_is ∙ get_or-set_same attached at own2 o within_all) in (
-            record {
-              table = w.0;
-              opens = subst (λ (xs : List Row). FitsOpens xs attached2) (sym is)
-                  (fits_more rows r attached2 x at p l q h c_is o_is like
-                  (λ o k z. subst (λ (y : Attached). 64 ≤ vec_capacity y.slots) (sym (is_own o z)) (locks (sym row.4 ∙ k))));
-              marked = subst (λ (xs : List Row). FitsMarks xs marks2) (sym is)
-                  (marks_fit rows r attached2 x at p l q h c_is o_is like marks mark2 a.marked below);
-              known = same_known;
-              counted = same_marks;
-            },
-            record {
-              table = w.1;
-              attached = subst (λ (xs : List Row). ShowsAttached xs attached2 d) (sym is)
-                  (shown_more rows r attached2 x at p l q h c_is o_is like d (shown_now d s));
-              opened = subst (λ (xs : List Row). ShowsOpened xs opened (take_op d (length rows) op)) (sym is)
-                  (known_more rows r attached2 x at p l q h c_is o_is like opened d op owned s.opened);
-              marked = subst (λ (xs : List Row). ShowsMarks xs marks2 (put d.op (length rows) op)) (sym is)
-                  (marks_show rows r attached2 x at p l q h c_is o_is like marks mark2 a.marked d op
-                  (subst (λ (xs : List Row). Keeps xs (length rows + 1) (put d.op (length rows) op) x mark2) is w.2)
-                  (λ y z ne k. subst (λ (xs : List Row). Keeps xs (length rows + 1) (put d.op (length rows) op) y z) is
-                  (others d y z ne k)) s.marked);
-            },
-          )
-          )) e.row e.locks e.below e.joined e.others;
-      still = err_three c.take_onto.result (λ same marked fits. record {
+          record {
+            table = fits;
+            opens = subst (λ (xs : List Row). FitsOpens xs attached2) (sym is)
+                (fits_more rows r attached2 x at p l q h row.2 row.3 like
+                (λ o k z. subst (λ (y : Attached). 64 ≤ vec_capacity y.slots)
+                (sym (is_own o (subst (λ y. IsAt attached2 y o) row.3 z))) (locks (sym row.4 ∙ k))));
+            marked = subst (λ (xs : List Row). FitsMarks xs marks2) (sym is)
+                (marks_fit rows r attached2 x at p l q h row.2 row.3 like marks mark2 a.marked (below, topped) last);
+            known = same_known;
+            counted = same_marks;
+            homes = subst (λ (xs : List Row). (g : ℕ) → 0 < g → g < length xs → kind xs g ≡ kinds.Create → owner xs g ≡ g) (sym is)
+                (homes_more rows r (λ k. plain (sym row.4 ∙ k)) a.homes);
+          }
+          )) e.row e.locks e.below e.topped e.last e.fits;
+      shown = ok_three c.take_onto.result (λ row joined others d s kept. (
+          let r = row.0 in
+          let is = row.1 in
+          let w = joined d (joins d s kept) in
+          record {
+            table = w.0;
+            attached = subst (λ (xs : List Row). ShowsAttached xs attached2 d) (sym is)
+                (shown_more rows r attached2 x at p l q h row.2 row.3 like d (shown_now d s));
+            opened = subst (λ (xs : List Row). ShowsOpened xs opened (take_op d (length rows) op)) (sym is)
+                (known_more rows r attached2 x at p l q h row.2 row.3 like opened d op owned s.opened);
+            marked = subst (λ (xs : List Row). ShowsMarks xs marks2 (put d.op (length rows) op)) (sym is)
+                (marks_show rows r attached2 x at p l q h row.2 row.3 like marks mark2 a.marked d op
+                (subst (λ (xs : List Row). Keeps xs (length rows + 1) (put d.op (length rows) op) x mark2) is w.1)
+                (λ y z ne k. subst (λ (xs : List Row). Keeps xs (length rows + 1) (put d.op (length rows) op) y z) is
+                (others d y z ne k)) s.marked);
+          }
+          )) e.row e.joined e.others;
+      still = err_four c.take_onto.result (λ same marked tops fits. record {
         table = fits;
         opens = subst (λ (xs : List Row). FitsOpens xs attached2) (sym same) like;
         marked = subst (λ (xs : List Row). FitsMarks xs marks2) (sym same)
-            (marks_stay rows marks x at mark mark2 p l q mark_is a.marked marked);
+            (marks_stay rows marks x at mark mark2 p l q mark_is a.marked (
+              subst (λ (y : Marks). AreBelow y (length rows)) (sym marked) (a.marked.below x mark p l
+                  (subst (λ y. IsMarkedAt marks y mark) q mark_is)).0,
+              tops,
+            ) marked);
         known = same_known;
         counted = same_marks;
-      }) e.same e.marks e.still;
-      kept = err_three c.take_onto.result (λ same shown stays d s kept made. record {
+        homes = subst (λ (xs : List Row). (g : ℕ) → 0 < g → g < length xs → kind xs g ≡ kinds.Create → owner xs g ≡ g) (sym same) a.homes;
+      }) e.same e.marks e.tops e.still;
+      kept = err_three c.take_onto.result (λ same shown stays d s. record {
         table = shown d s.table;
         attached = subst (λ (xs : List Row). ShowsAttached xs attached2 d) (sym same) (shown_now d s);
         opened = subst (λ (xs : List Row). ShowsOpened xs opened d) (sym same) s.opened;
         marked = subst (λ (xs : List Row). ShowsMarks xs marks2 d.op) (sym same)
-            (keeps_stay rows marks x at mark mark2 p l q mark_is a.marked d
-            (λ g b k o. (a.opens.paired g x b k p l).1 (o ∙ q) ∙ home d s kept made)
+            (keeps_stay rows marks x at mark mark2 p l q mark_is a.marked d (λ g b k o. (a.opens.paired g x b k p l).1 (o ∙ q) ∙ h)
             (λ k. subst (λ (xs : List Row). Keeps xs (length rows) d.op x mark2) same (stays d (length rows) k)) s.marked);
       }) e.same e.kept e.stays;
     }

@@ -8,6 +8,7 @@ use Rattle.operation_rows.specs.Choosing.{Counts}
 use Rattle.operation_rows.specs.Moves.{StandsRows}
 use Rattle.client_rows.specs.Shown.{fills_by, waits_by}
 use Rattle.client_table.specs.Shown.{FitsParts, ShowsParts}
+use Rattle.client_table.proofs.Ready.{on_err}
 use Rattle.client_taking.proofs.First.{empty_of, first_fits, first_rows, first_shown, none_out, some_there}
 use Rattle.client_taking.proofs.Roomed.{out_moved, roomed, rows_anew, same_least}
 use Rattle.client_taking.proofs.rooms.make_first.Goals as goal
@@ -20,6 +21,7 @@ returns-then-not-is_empty c =
       fits = c.requires.fits;
       some = subst (λ n. 0 < n) (sym k) (some_there t.rows.len (sym c.is_empty.ensures ∙ c.if-not-is_empty.true));
       rows = inl refl;
+      same = tt;
       shown = λ d s. s;
     }
 
@@ -38,6 +40,9 @@ returns-in_err-reserve-clause-fits c =
 
 pub returns-in_err-reserve-clause-rows : goal.returns-in_err-reserve-clause-rows
 returns-in_err-reserve-clause-rows c = inl refl
+
+pub returns-in_err-reserve-clause-same : goal.returns-in_err-reserve-clause-same
+returns-in_err-reserve-clause-same c = on_err c.from_residual.result refl
 
 pub returns-in_err-reserve-clause-shown : goal.returns-in_err-reserve-clause-shown
 returns-in_err-reserve-clause-shown c = λ d s. s
@@ -74,6 +79,13 @@ returns-in_err-begin-clause-rows c =
     let t = c.args.table.now in
     let k : length t.rows.items ≡ t.rows.len = grind (arith, common_steps) in
     inl (c.in_err-begin.ensures.err ∙ sym (empty_of t.rows.items t.rows.len k (sym c.is_empty.ensures ∙ c.if-not-is_empty.false)))
+
+pub returns-in_err-begin-clause-same : goal.returns-in_err-begin-clause-same
+returns-in_err-begin-clause-same c =
+    let t = c.args.table.now in
+    let k : length t.rows.items ≡ t.rows.len = grind (arith, common_steps) in
+    on_err c.from_residual-in_err-begin.result
+    (c.in_err-begin.ensures.err ∙ sym (empty_of t.rows.items t.rows.len k (sym c.is_empty.ensures ∙ c.if-not-is_empty.false)))
 
 pub returns-in_err-begin-clause-shown : goal.returns-in_err-begin-clause-shown
 returns-in_err-begin-clause-shown c = λ d s.
@@ -128,6 +140,7 @@ returns c =
           (length t.settled.items) (length t.order.items) (vec_capacity t.order)) none f));
       some = subst (λ (xs : List Row). 0 < length xs) (sym one) (omega arith);
       rows = inr (none, one);
+      same = tt;
       shown = λ d s. subst (λ (xs : List Row). ShowsParts t.session xs t.holders.items prices watchers t.ops.items t.settled.items
           t.order.items t.dialogs.items d) (sym one)
           (let was = subst (λ (xs : List Row). ShowsParts t.session xs t.holders.items t.prices t.watchers t.ops.items t.settled.items

@@ -7,6 +7,7 @@ use Rattle.operation_rows.specs.declared.row.Row.{Row}
 use Rattle.operation_rows.specs.Holding.{IsSafe}
 use Rattle.operation_rows.specs.Choosing.{Counts}
 use Rattle.client_outcomes.specs.declared.outcome.Outcome.{Outcome as Settled}
+use Rattle.client_marks.proofs.Lower.{mark_below}
 use Rattle.client_rows.specs.Shown.{ShowsRows}
 use Rattle.client_opens.specs.Opened.{placed_row}
 use Rattle.client_table.specs.Shown.{FitsParts, ShowsParts}
@@ -20,7 +21,12 @@ below x n l = omega arith
 
 pub take_on-requires : goal.take_on-requires
 take_on-requires c =
-    record { counts = c.requires.fits.counts; few = c.requires.few; close = c.requires.close; mark = c.requires.mark }
+    record {
+      counts = c.requires.fits.counts;
+      few = c.requires.few;
+      close = c.requires.below.close;
+      mark = mark_below c.args.shape.now.kind c.args.opened.now.marks (length c.args.table.now.rows.items) c.requires.below;
+    }
 
 pub push_reserved-requires : goal.push_reserved-requires
 push_reserved-requires c = c.requires.room.ops
@@ -59,9 +65,12 @@ returns c =
     record {
       row = u.row;
       same = tt;
-      below = u.below;
+      below = u.below c.requires.below;
+      topped = u.topped c.requires.topped;
+      tops = tt;
+      last = u.last;
       marks = tt;
-      fits = λ d create w. subst (λ (xs : List Row). FitsParts xs hs prices watchers made t.lowest (length ops) (length settled)
+      fits = subst (λ (xs : List Row). FitsParts xs hs prices watchers made t.lowest (length ops) (length settled)
           (length t.order.items) (vec_capacity t.order)) (sym e)
           (subst (λ x. FitsParts (rows ++ r ∷ []) hs prices watchers made t.lowest x (length settled) (length t.order.items)
           (vec_capacity t.order)) (sym m)
@@ -69,13 +78,11 @@ returns c =
           (vec_capacity t.order)) (sym k)
           (grown_fits rows r t.holders.items hs t.prices prices t.watchers watchers t.out made t.lowest (length t.ops.items)
           (length t.settled.items) (length t.order.items) (vec_capacity t.order)
-          (subst (λ (xs : List Row). IsSafe xs hs) e (u.safe d (op_of c.args.kind) create f.safe w.shown.rows w.next w.on w.marked))
+          (subst (λ (xs : List Row). IsSafe xs hs) e (u.secure f.safe c.requires.some c.requires.own c.requires.below c.requires.topped))
           (subst (λ (xs : List Row). Counts xs prices watchers) e c.take_on.ensures.counts)
-          (grown_out rows r t.out made a.fits a.size a.has a.apart (ap (λ x. is_some x) w.on.row.out_is) f.out)
+          (grown_out rows r t.out made a.fits a.size a.has a.apart (ap (λ x. is_some x) c.requires.unsent) f.out)
           c.requires.some
-          (subst (λ x. 0 < x) (sym w.on.own ∙ w.on.row.create_is) w.on.some)
-          (subst (λ x. x < length rows + 1) (sym w.on.own ∙ w.on.row.create_is) (below create (length rows) w.on.below))
-          c.requires.room.order f)));
+          c.requires.above (below c.args.row.create (length rows) c.requires.own) c.requires.room.order f)));
       shown = λ d create w. subst (λ (xs : List Row). ShowsParts t.session xs hs prices watchers ops settled t.order.items
           t.dialogs.items (take_op d (length rows) (op_of c.args.kind))) (sym e)
           (subst (λ (xs : List OpKind). ShowsParts t.session (rows ++ r ∷ []) hs prices watchers xs settled t.order.items
@@ -130,6 +137,11 @@ returns-in_err-take_on-clause-kept c =
     t.dialogs.items d s
     (subst (λ (xs : List ℕ). ShowsRows t.rows.items xs prices watchers d) u.unlisted
     (subst (λ (xs : List Row). ShowsRows xs hs prices watchers d) u.same (u.kept d s.rows))))))
+
+pub returns-in_err-take_on-clause-tops : goal.returns-in_err-take_on-clause-tops
+returns-in_err-take_on-clause-tops c =
+    on_err c.from_residual.result
+    (c.in_err-take_on.ensures.tops (length c.args.table.now.rows.items) c.requires.topped)
 
 pub returns-in_err-take_on-clause-stays : goal.returns-in_err-take_on-clause-stays
 returns-in_err-take_on-clause-stays c =

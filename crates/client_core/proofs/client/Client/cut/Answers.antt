@@ -2,12 +2,12 @@ use Rattle.exchange_defs.specs.Client.{Client}
 use Rattle.exchange_defs.specs.ClientStep.{cut_after}
 use Rattle.client_attached.specs.Known.{ShowsOpened}
 use Rattle.client_attached.specs.Opens.{ShowsAttached}
-use Rattle.client_core.specs.Shown.{ShowsMarks}
+use Rattle.client_submitting.specs.Marked.{ShowsMarks}
 use Rattle.client_core.proofs.Around.{cut_any, fits_around, shows_around}
 use Rattle.client_core.proofs.client.Client.cut.Goals as goal
 
 pub cut-requires : goal.cut-requires
-cut-requires c = record { fits = c.requires.fits.fits }
+cut-requires c = record { fits = c.requires.fits.whole.table }
 
 pub returns : goal.returns
 returns c =
@@ -22,6 +22,6 @@ returns c =
       shown = λ d s kept. shows_around t u x.attached.items x.opened.items x.marks.items e.places (cut_after d k) (e.shown d s.table kept)
           (cut_any (λ (w : Client). ShowsAttached rows x.attached.items w) d k s.attached s.attached s.attached)
           (cut_any (λ (w : Client). ShowsOpened rows x.opened.items w) d k s.opened s.opened s.opened)
-          (cut_any (λ (w : Client). ShowsMarks rows x.marks.items w.op) d k s.marks s.marks s.marks);
+          (cut_any (λ (w : Client). ShowsMarks rows x.marks.items w.op) d k s.marked s.marked s.marked);
       told = λ d s. e.told d s.table;
     }

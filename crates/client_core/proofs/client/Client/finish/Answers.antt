@@ -5,7 +5,7 @@ use Rattle.client_core.proofs.Around.{fits_around, shows_around}
 use Rattle.client_core.proofs.client.Client.finish.Goals as goal
 
 pub finish-requires : goal.finish-requires
-finish-requires c = record { fits = c.requires.fits.fits }
+finish-requires c = record { fits = c.requires.fits.whole.table }
 
 pub returns : goal.returns
 returns c =
@@ -17,5 +17,5 @@ returns c =
     record {
       fits = fits_around t u x.attached.items x.opened.items x.marks.items m x.later.items e.fits c.requires.fits;
       shown = λ d s. shows_around t u x.attached.items x.opened.items x.marks.items m (finish d (why_of c.args.why)) (e.shown d s.table)
-          s.attached s.opened s.marks;
+          s.attached s.opened s.marked;
     }

@@ -8,7 +8,9 @@ use Rattle.client_attached.specs.declared.opened.Opened.{Opened}
 use Rattle.client_attached.specs.Known.{ShowsOpened}
 use Rattle.client_attached.specs.Opens.{FitsOpens, ShowsAttached}
 use Rattle.client_gone.specs.Ascending.{Ascends}
-use Rattle.client_core.specs.Shown.{FitsAll, ShowsAll, ShowsMarks}
+use Rattle.client_submitting.specs.Marked.{ShowsMarks}
+use Rattle.client_submitting.specs.Whole.{ShowsWhole}
+use Rattle.client_core.specs.Shown.{FitsAll}
 use Rattle.client_core.proofs.Around.{fits_changed, hear_op, marks_moved}
 use Rattle.client_core.proofs.client.Client.hear.Goals as goal
 
@@ -23,9 +25,9 @@ hear-requires c =
     let a = c.deref_mut.ensures.value in
     let o = c.deref_mut-2.ensures.value in
     record {
-      fits = f.fits;
-      opens = subst (λ (xs : List Attached). FitsOpens rows xs) (sym a) f.opens;
-      known = ap (λ (xs : List Opened). length xs) o ∙ f.known ∙ sym (ap (λ (xs : List Attached). length xs) a);
+      fits = f.whole.table;
+      opens = subst (λ (xs : List Attached). FitsOpens rows xs) (sym a) f.whole.opens;
+      known = ap (λ (xs : List Opened). length xs) o ∙ f.whole.known ∙ sym (ap (λ (xs : List Attached). length xs) a);
       later = subst (λ (xs : List ℕ). Ascends rows xs) (sym c.deref.ensures.value) f.later;
       last = c.last_of-last.ensures;
     }
@@ -61,15 +63,15 @@ returns c =
           (subst (λ (xs : List Attached). ShowsAttached rows xs d) (sym a) s.attached)
           (subst (λ (xs : List Opened). ShowsOpened rows xs d) (sym o) s.opened) kept reads in
           let behind = hear_after d c.args.channel c.args.index c.args.asking r place in
-          let all : ShowsAll u att opened marks behind = record {
+          let all : ShowsWhole u att opened marks behind = record {
             table = told.0;
             attached = told.1;
             opened = told.2;
-            marks = marks_moved rows new e.places marks behind.op
-                (subst (λ (h : ℕ → Op). ShowsMarks rows marks h) (sym (hear_op d c.args.channel c.args.index c.args.asking r place)) s.marks);
+            marked = marks_moved rows new e.places marks behind.op
+                (subst (λ (h : ℕ → Op). ShowsMarks rows marks h) (sym (hear_op d c.args.channel c.args.index c.args.asking r place)) s.marked);
           } in
-          subst (λ (xs : List Attached). ShowsAll u xs both marks behind) (sym v)
-          (subst (λ (xs : List Opened). ShowsAll u att xs marks behind) (sym w) all)
+          subst (λ (xs : List Attached). ShowsWhole u xs both marks behind) (sym v)
+          (subst (λ (xs : List Opened). ShowsWhole u att xs marks behind) (sym w) all)
           );
       told = λ d r s kept reads. e.told d r s.table kept reads;
     }

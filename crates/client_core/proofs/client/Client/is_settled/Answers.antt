@@ -2,7 +2,7 @@ use Rattle.client_core.proofs.Around.{fits_around, same_places, shows_around}
 use Rattle.client_core.proofs.client.Client.is_settled.Goals as goal
 
 pub is_settled-requires : goal.is_settled-requires
-is_settled-requires c = record { fits = c.requires.fits.fits }
+is_settled-requires c = record { fits = c.requires.fits.whole.table }
 
 pub returns : goal.returns
 returns c =
@@ -13,6 +13,6 @@ returns c =
     let m = same_places t.rows.items u.rows.items (λ i. (e.rows i).items) in
     record {
       fits = fits_around t u x.attached.items x.opened.items x.marks.items m x.later.items e.fits c.requires.fits;
-      shown = λ d s. shows_around t u x.attached.items x.opened.items x.marks.items m d (e.shown d s.table) s.attached s.opened s.marks;
+      shown = λ d s. shows_around t u x.attached.items x.opened.items x.marks.items m d (e.shown d s.table) s.attached s.opened s.marked;
       told = λ d s. e.told d s.table;
     }

@@ -5,7 +5,7 @@ use Rattle.operation_rows.proofs.Walking.{positive}
 use Rattle.client_marks.specs.Marks.{IsHighest}
 use Rattle.client_opens.specs.declared.opening.Open.{Open}
 use Rattle.client_replies.proofs.Heard.{not_below, not_zero}
-use Rattle.client_core.specs.Shown.{IsMarkAt}
+use Rattle.client_submitting.specs.Marked.{IsMarkedAt}
 use Rattle.client_core.proofs.client.Client.last_of.Goals as goal
 
 pub returns-then-index-eq0 : goal.returns-then-index-eq0
@@ -26,8 +26,8 @@ last_at-requires c =
     let l = is_less c.args.index (length x.table.rows.items) (sym c.has_row.ensures ∙ c.if-not-has_row.false) in
     let p = positive c.args.index c.if-index-eq0.false in
     subst (λ (xs : List Open). c.open_of-at.result < length xs) (sym c.deref.ensures.value)
-    (subst (λ n. c.open_of-at.result < n) (sym f.marked)
-    (subst (λ y. y < length x.attached.items) (sym c.open_of-at.ensures) (f.opens.opens c.args.index p l)))
+    (subst (λ n. c.open_of-at.result < n) (sym f.whole.counted)
+    (subst (λ y. y < length x.attached.items) (sym c.open_of-at.ensures) (f.whole.opens.opens c.args.index p l)))
 
 pub returns : goal.returns
 returns c = λ p l.
@@ -35,7 +35,7 @@ returns c = λ p l.
     let rows = x.table.rows.items in
     let g = c.args.index in
     let w = c.last_at.ensures in
-    let is : IsMarkAt x.marks.items (row_at rows g).«open» w.0 =
-    subst (λ (i : ℕ). IsMarkAt x.marks.items i w.0) c.open_of-at.ensures
-    (subst (λ (xs : List Open). IsMarkAt xs c.open_of-at.result w.0) c.deref.ensures.value w.1) in
-    subst (λ (n : ℕ). IsHighest (owner rows) (λ h. true) (owner rows g) (length rows) n) (sym w.2) (c.requires.fits.lasts g w.0 p l is)
+    let is : IsMarkedAt x.marks.items (row_at rows g).«open» w.0 =
+    subst (λ (i : ℕ). IsMarkedAt x.marks.items i w.0) c.open_of-at.ensures
+    (subst (λ (xs : List Open). IsMarkedAt xs c.open_of-at.result w.0) c.deref.ensures.value w.1) in
+    subst (λ (n : ℕ). IsHighest (owner rows) (λ h. true) (owner rows g) (length rows) n) (sym w.2) (c.requires.fits.whole.marked.lasts g w.0 p l is)

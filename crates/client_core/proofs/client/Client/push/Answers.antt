@@ -5,7 +5,9 @@ use Rattle.client_choice.specs.declared.finding.Attached.{Attached}
 use Rattle.client_table.proofs.Losing.{whole}
 use Rattle.client_attached.specs.Opens.{FitsOpens, ShowsAttached}
 use Rattle.client_pushing.specs.Acts.{chosen_with, pushed_by}
-use Rattle.client_core.specs.Shown.{FitsAll, ShowsAll, ShowsMarks}
+use Rattle.client_submitting.specs.Marked.{ShowsMarks}
+use Rattle.client_submitting.specs.Whole.{ShowsWhole}
+use Rattle.client_core.specs.Shown.{FitsAll}
 use Rattle.client_core.proofs.Around.{fits_changed, marks_moved}
 use Rattle.client_core.proofs.Pushed.{push_op}
 use Rattle.client_core.proofs.client.Client.push.Goals as goal
@@ -14,8 +16,8 @@ pub push-requires : goal.push-requires
 push-requires c =
     let x = c.args.self.now in
     record {
-      fits = c.requires.fits.fits;
-      opens = subst (λ (xs : List Attached). FitsOpens x.table.rows.items xs) (sym c.deref_mut.ensures.value) c.requires.fits.opens;
+      fits = c.requires.fits.whole.table;
+      opens = subst (λ (xs : List Attached). FitsOpens x.table.rows.items xs) (sym c.deref_mut.ensures.value) c.requires.fits.whole.opens;
     }
 
 pub returns : goal.returns
@@ -42,14 +44,14 @@ returns c =
           let b = subst (λ (xs : List Attached). ShowsAttached rows xs d) (sym a) s.attached in
           let choice = chosen_with d k c.args.credits in
           let behind = pushed_by d k choice in
-          let all : ShowsAll u att opened marks behind = record {
+          let all : ShowsWhole u att opened marks behind = record {
             table = e.shown d s.table b kept;
             attached = e.attached d s.table b kept;
             opened = e.known d opened s.table b kept s.opened;
-            marks = marks_moved rows new e.places marks behind.op
-                (subst (λ (h : ℕ → Op). ShowsMarks rows marks h) (sym (push_op d k choice.slotless choice.pick)) s.marks);
+            marked = marks_moved rows new e.places marks behind.op
+                (subst (λ (h : ℕ → Op). ShowsMarks rows marks h) (sym (push_op d k choice.slotless choice.pick)) s.marked);
           } in
-          subst (λ (xs : List Attached). ShowsAll u xs opened marks behind) (sym v) all
+          subst (λ (xs : List Attached). ShowsWhole u xs opened marks behind) (sym v) all
           );
       told = λ d s kept. e.told d s.table (subst (λ (xs : List Attached). ShowsAttached rows xs d) (sym a) s.attached) kept;
     }

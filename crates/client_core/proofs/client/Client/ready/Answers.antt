@@ -2,12 +2,12 @@ use Rattle.exchange_defs.specs.Client.{Client}
 use Rattle.exchange_defs.specs.ClientStep.{ready_after}
 use Rattle.client_attached.specs.Known.{ShowsOpened}
 use Rattle.client_attached.specs.Opens.{ShowsAttached}
-use Rattle.client_core.specs.Shown.{ShowsMarks}
+use Rattle.client_submitting.specs.Marked.{ShowsMarks}
 use Rattle.client_core.proofs.Around.{fits_around, ready_any, same_places, shows_around}
 use Rattle.client_core.proofs.client.Client.ready.Goals as goal
 
 pub ready-requires : goal.ready-requires
-ready-requires c = record { fits = c.requires.fits.fits; apart = c.requires.apart }
+ready-requires c = record { fits = c.requires.fits.whole.table; apart = c.requires.apart }
 
 pub returns : goal.returns
 returns c =
@@ -25,6 +25,6 @@ returns c =
       shown = λ d s. shows_around t u x.attached.items x.opened.items x.marks.items m (ready_after d k z y) (e.shown d s.table)
           (ready_any (λ (w : Client). ShowsAttached rows x.attached.items w) d k z y s.attached s.attached s.attached)
           (ready_any (λ (w : Client). ShowsOpened rows x.opened.items w) d k z y s.opened s.opened s.opened)
-          (ready_any (λ (w : Client). ShowsMarks rows x.marks.items w.op) d k z y s.marks s.marks s.marks);
+          (ready_any (λ (w : Client). ShowsMarks rows x.marks.items w.op) d k z y s.marked s.marked s.marked);
       told = λ d s. e.told d s.table;
     }

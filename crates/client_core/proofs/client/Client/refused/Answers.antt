@@ -4,7 +4,7 @@ use Rattle.client_core.proofs.Around.{fits_around, same_places, shows_around}
 use Rattle.client_core.proofs.client.Client.refused.Goals as goal
 
 pub refused-requires : goal.refused-requires
-refused-requires c = record { fits = c.requires.fits.fits }
+refused-requires c = record { fits = c.requires.fits.whole.table }
 
 pub returns-in-Ok-clause-fits : goal.returns-in-Ok-clause-fits
 returns-in-Ok-clause-fits c =
@@ -21,7 +21,7 @@ returns-in-Ok-clause-shown c = λ d s.
     let e = c.refused.ensures in
     shows_around x.table u x.attached.items x.opened.items x.marks.items
     (same_places x.table.rows.items u.rows.items (λ i. (e.rows i).items)) (note_refusal d c.args.channel (refusal_of c.args.why))
-    (c.in-Ok.ensures.shown d s.table) s.attached s.opened s.marks
+    (c.in-Ok.ensures.shown d s.table) s.attached s.opened s.marked
 
 pub returns-in-Err-clause-fits : goal.returns-in-Err-clause-fits
 returns-in-Err-clause-fits c =
@@ -37,4 +37,4 @@ returns-in-Err-clause-kept c = λ d s.
     let u = c.refused.new.self in
     let e = c.refused.ensures in
     shows_around x.table u x.attached.items x.opened.items x.marks.items
-    (same_places x.table.rows.items u.rows.items (λ i. (e.rows i).items)) d (c.in-Err.ensures.kept d s.table) s.attached s.opened s.marks
+    (same_places x.table.rows.items u.rows.items (λ i. (e.rows i).items)) d (c.in-Err.ensures.kept d s.table) s.attached s.opened s.marked

@@ -1,4 +1,4 @@
-use Rattle.std.proofs.Common.{refl}
+use Rattle.std.proofs.Common.{◌<◌, refl, sym, subst}
 use Rattle.range_index.specs.Shown.{top}
 use Rattle.client_opens.proofs.Keeping.{fresh_open}
 use Rattle.client_opens.proofs.opening.Open.new.Goals as goal
@@ -10,3 +10,9 @@ returns-clause-shown c = λ rows at size create n e. fresh_open rows at size cre
 
 pub returns-clause-below : goal.returns-clause-below
 returns-clause-below c = λ n p. record { last = p; change = p; filled = p; close = p; end = p; barrier = p }
+
+pub returns-clause-topped : goal.returns-clause-topped
+returns-clause-topped c = λ n p x f. (
+  subst (λ y. y < n) (sym (c.new-written.ensures x)) p,
+  subst (λ y. y < n) (sym (c.new-locked.ensures x)) p,
+)
