@@ -1,0 +1,61 @@
+-- What an event of the code is in the model, and what it comes to.
+use Rattle.std.specs.Prelude.{◌≡◌, ℕ, true, false}
+use Rattle.exchange_defs.specs.State.{Body, Reply}
+use Rattle.exchange_defs.specs.Client.{Client}
+use Rattle.exchange_defs.specs.ClientStep.{Act, AllSettled, Asks, CloseChannel, CloseChannels, Nothing, Sends, act, becomes_ready}
+use Rattle.exchange_defs.specs.ClientStep.{ClientEvent, Finishes, Hears, IsCut, IsReady, IsRefused, Pushes, TakesOp, client_after}
+use Rattle.client_law.specs.Kept.{Kept}
+use Rattle.command_values.specs.Meaning.{body_of}
+use Rattle.operation_values.specs.Meaning.{op_of}
+use Rattle.client_outcomes.specs.Meaning.{refusal_of, why_of}
+use Rattle.client_session.specs.declared.session.Cut.{Cut}
+use Rattle.client_session.specs.declared.session.Cut.TheVariants as cuts
+use Rattle.client_pushing.specs.Acts.{chosen_with}
+use Rattle.client_core.specs.declared.client.Client.{Client as Core}
+use Rattle.client_core.specs.Shown.{ShowsClient}
+use Rattle.client_event.specs.declared.steps.Act.{Act as Told}
+use Rattle.client_event.specs.declared.steps.Act.TheVariants as acts
+use Rattle.client_event.specs.declared.steps.Event.{Event}
+use Rattle.client_event.specs.declared.steps.Event.TheVariants as events
+
+-- a reply, as far as a client looks at it
+abbrev pub reply_with : ℕ → Body → Reply
+reply_with status body = record { status = status; session_id = 0; tree_id = 0; body = body }
+
+-- a push picks by the model's own choice
+abbrev pub event_of : Client → Event → ClientEvent
+event_of c (events.Submit number kind) = TakesOp number (op_of kind)
+event_of c (events.Push channel credits) = Pushes channel (chosen_with c channel credits).slotless (chosen_with c channel credits).pick
+event_of c (events.Hear channel number asking status body) = Hears channel number asking (reply_with status (body_of body)) 0
+event_of c (events.Cut channel) = IsCut channel
+event_of c (events.Ready channel session tree) = IsReady channel session tree
+event_of c (events.Refused channel why) = IsRefused channel (refusal_of why)
+event_of c (events.Finish why) = Finishes (why_of why)
+
+abbrev pub act_of : Told → Act
+act_of acts.Nothing = Nothing
+act_of (acts.Sends index) = Sends index
+act_of (acts.Asks index) = Asks index
+act_of acts.CloseChannel = CloseChannel
+act_of acts.CloseChannels = CloseChannels
+act_of acts.AllSettled = AllSettled
+
+abbrev pub act_at_cut : Cut → Act
+act_at_cut cuts.Nothing = Nothing
+act_at_cut cuts.Lost = Nothing
+act_at_cut cuts.Ends = CloseChannels
+
+-- a channel that is ready becomes so no second time
+abbrev pub MayCome : Client → ClientEvent → Type 0
+MayCome c (IsReady k session tree) = c.ready k ≡ true → becomes_ready c session ≡ false
+MayCome c _ = Unit {0}
+
+-- the model's step
+abbrev pub ShowsStep : Core → Core → Event → Type 0
+ShowsStep old new e = (c : Client) → ShowsClient old c → Kept c → MayCome c (event_of c e) → ShowsClient new (client_after c (event_of c e))
+
+abbrev pub Tells : Core → Event → Told → Type 0
+Tells old e a = (c : Client) → ShowsClient old c → Kept c → act_of a ≡ act c (event_of c e)
+
+abbrev pub KeepsShown : Core → Core → Type 0
+KeepsShown old new = (c : Client) → ShowsClient old c → ShowsClient new c

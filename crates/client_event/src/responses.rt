@@ -1,0 +1,122 @@
+// A response is heard, by its status and its body.
+ghost use Rattle.std.specs.Prelude.{◌≡◌, ◌<◌, nat_lt, if◌then◌else◌, length, option_map, slice_index_or, IfOk, OnErr, OnOk};
+ghost use Rattle.exchange_defs.specs.Client.{Client as Model};
+ghost use Rattle.exchange_defs.specs.ClientStep.{CloseChannels, Nothing};
+ghost use Rattle.exchange_defs.specs.Operations.{value_in as value};
+ghost use Rattle.command_values.specs.Meaning.{body_of};
+ghost use Rattle.operation_values.specs.declared.values.OpKind.TheVariants as kinds;
+ghost use Rattle.operation_values.specs.Meaning.{op_of, reply_of};
+ghost use Rattle.client_core.specs.Shown.{FitsClient, ShowsClient};
+ghost use Rattle.client_event.specs.declared.steps.Event.TheVariants as events;
+ghost use Rattle.client_event.specs.Events.{KeepsShown, ShowsStep, Tells, act_of};
+
+use crate::steps::Act;
+use client_core::Client;
+use client_replies::Response;
+use command_values::Body;
+use operation_commands::{id_in, value_in};
+use operation_values::{OpKind, OpReply};
+use std::alloc::{AllocError, Global};
+
+fn has_row(client: &Client, index: usize) -> bool
+    ensures { result ≡ nat_lt index (length client.now.table.rows.items) }
+{
+    index < client.table.rows.len()
+}
+
+fn value_at(
+    alloc: Global,
+    ops: &[OpKind],
+    place: usize,
+    body: Body,
+) -> Result<Option<OpReply>, AllocError>
+    requires { place < length ops.now }
+    ensures { IfOk result (λ v. option_map reply_of v
+        ≡ value (op_of (slice_index_or ops.now place (kinds.Close 0))) (body_of body)) }
+{
+    value_in(alloc, &ops[place], body)
+}
+
+/// What a success says of an operation that was taken.
+fn reply_in(
+    alloc: Global,
+    client: &Client,
+    index: usize,
+    body: Body,
+) -> Result<Option<OpReply>, AllocError>
+    requires fits { FitsClient client.now }
+    requires above { 0 < index }
+    requires within { index < length client.now.table.rows.items }
+    ensures { IfOk result (λ v. (c : Model) → ShowsClient client.now c → option_map reply_of v ≡ value (c.op index) (body_of body)) }
+{
+    value_at(alloc, &client.table.ops, index - 1, body)
+}
+
+fn act_where(closes: bool) -> Act
+    ensures { act_of result ≡ (if closes then CloseChannels else Nothing) }
+{
+    if closes {
+        Act::CloseChannels
+    } else {
+        Act::Nothing
+    }
+}
+
+/// The response to an operation that was taken.
+fn hear_taken(
+    client: &mut Client,
+    channel: u8,
+    index: usize,
+    asking: bool,
+    status: u32,
+    body: Body,
+    alloc: Global,
+) -> Result<Act, AllocError>
+    requires fits { FitsClient client.old }
+    requires above { 0 < index }
+    requires within { index < length client.old.table.rows.items }
+    ensures fits { FitsClient client.new }
+    ensures shown { OnOk result (ShowsStep client.old client.new (events.Hear channel index asking status body)) }
+    ensures told { IfOk result (Tells client.old (events.Hear channel index asking status body)) }
+    ensures kept { OnErr result (KeepsShown client.old client.new) }
+{
+    let file = id_in(&body);
+    match reply_in(alloc, client, index, body) {
+        Ok(reply) => {
+            let response = Response {
+                status,
+                reply,
+                file,
+            };
+            let closes = client.hear(channel, index, asking, response);
+            Ok(act_where(closes))
+        }
+        Err(error) => Err(error),
+    }
+}
+
+/// A response to an operation that wasn't taken changes nothing.
+pub(crate) fn hear(
+    client: &mut Client,
+    channel: u8,
+    number: u32,
+    asking: bool,
+    status: u32,
+    body: Body,
+    alloc: Global,
+) -> Result<Act, AllocError>
+    requires fits { FitsClient client.old }
+    ensures fits { FitsClient client.new }
+    ensures shown { OnOk result (ShowsStep client.old client.new (events.Hear channel number asking status body)) }
+    ensures told { IfOk result (Tells client.old (events.Hear channel number asking status body)) }
+    ensures kept { OnErr result (KeepsShown client.old client.new) }
+{
+    let index = number as usize;
+    if index == 0 {
+        return Ok(Act::Nothing);
+    }
+    if !has_row(client, index) {
+        return Ok(Act::Nothing);
+    }
+    hear_taken(client, channel, index, asking, status, body, alloc)
+}

@@ -1,0 +1,100 @@
+// One match over the events of a client.
+ghost use Rattle.std.specs.Prelude.{IfOk, OnErr, OnOk};
+ghost use Rattle.client_core.specs.Shown.{FitsClient};
+ghost use Rattle.client_event.specs.Events.{KeepsShown, ShowsStep, Tells};
+
+use crate::calls::{cut, finish, push, ready, refused, submit};
+use crate::responses::hear;
+use client_core::Client;
+use client_outcomes::Why;
+use command_values::Body;
+use msg_session::Refusal;
+use operation_values::OpKind;
+use std::alloc::{AllocError, Global};
+
+/// What happens to a client. A channel is given by its number.
+#[derive(Drop)]
+pub enum Event {
+    /// An operation, under its number. One that may not be taken changes nothing.
+    Submit {
+        number: u32,
+        kind: OpKind,
+    },
+    /// A channel may send, and holds so many credits.
+    Push {
+        channel: u8,
+        credits: u32,
+    },
+    /// The response to an operation, or to the request to attach its open in its place (`asking`).
+    Hear {
+        channel: u8,
+        number: u32,
+        asking: bool,
+        status: u32,
+        body: Body,
+    },
+    /// A channel is cut.
+    Cut {
+        channel: u8,
+    },
+    /// The dialog of a channel ended well, in a session with these ids.
+    Ready {
+        channel: u8,
+        session: u64,
+        tree: u32,
+    },
+    /// The dialog of a channel was refused.
+    Refused {
+        channel: u32,
+        why: Refusal,
+    },
+    /// No session can be had.
+    Finish {
+        why: Why,
+    },
+}
+
+/// What a client is to do.
+#[derive(Clone, Copy, Debug, PartialEq, Eq)]
+pub enum Act {
+    Nothing,
+    /// To send an operation itself, by its number.
+    Sends(usize),
+    /// To send the request to attach its open, in its place.
+    Asks(usize),
+    /// To close the connection whose dialog failed.
+    CloseChannel,
+    /// To close each connection.
+    CloseChannels,
+    /// Nothing is left to be done.
+    AllSettled,
+}
+
+/// What a client does at an event: the model's step. Only `Submit`, `Hear` and `Refused` take memory; where it runs out nothing happened.
+pub fn step(client: &mut Client, event: Event, alloc: Global) -> Result<Act, AllocError>
+    requires fits { FitsClient client.old }
+    ensures fits { FitsClient client.new }
+    ensures shown { OnOk result (ShowsStep client.old client.new event) }
+    ensures told { IfOk result (Tells client.old event) }
+    ensures kept { OnErr result (KeepsShown client.old client.new) }
+{
+    match event {
+        Event::Submit { number, kind } => submit(client, number, kind, alloc),
+        Event::Push { channel, credits } => Ok(push(client, channel, credits)),
+        Event::Hear {
+            channel,
+            number,
+            asking,
+            status,
+            body,
+        } => hear(client, channel, number, asking, status, body, alloc),
+        Event::Cut { channel } => Ok(cut(client, channel)),
+        Event::Ready {
+            channel,
+            session,
+            tree,
+        } => Ok(ready(client, channel, session, tree)),
+        Event::Refused { channel, why } => refused(client, channel, why),
+        Event::Finish { why } => Ok(finish(client, why)),
+    }
+}

@@ -1,0 +1,43 @@
+-- Which events may come, and how a client begins.
+use Rattle.std.proofs.Common.{◌≡◌, ℕ, ◌==◌, ◌&&◌, not, Bool, true, false, [], refl, sym, ◌∙◌}
+use Rattle.exchange_defs.specs.Commands.{Begins}
+use Rattle.exchange_defs.specs.Network.{Settings, start}
+use Rattle.exchange_defs.specs.Client.{Client}
+use Rattle.exchange_defs.specs.ClientStep.{becomes_ready}
+use Rattle.client_law.specs.Kept.{Kept}
+use Rattle.client_law.proofs.Events.{begins}
+use Rattle.client_core.specs.declared.client.Client.{Client as Core}
+use Rattle.client_core.specs.Shown.{FitsClient, ShowsClient}
+use Rattle.client_event.proofs.Going.{own_so}
+use Rattle.client_played.specs.Holding.{Holds}
+
+neither : (a b : Bool) → (a && b) ≡ false → a ≡ true → b ≡ false
+neither true b e f = e
+neither false b e f = absurd (cc)
+
+pub is_not : (b : Bool) → not b ≡ true → b ≡ false
+is_not true e = absurd (cc)
+is_not false e = refl
+
+pub not_again : (c : Client) (k session : ℕ) → Kept c → (c.ready k && (session == c.session)) ≡ false → c.ready k ≡ true
+    → becomes_ready c session ≡ false
+not_again c k session i e r =
+    sym (own_so c session (i.ready k r)) ∙ neither (c.ready k) (session == c.session) e r
+
+-- settings, of which the client at the start keeps nothing that its code has
+any_settings : Settings
+any_settings = record {
+  who = record { guid = 0; salt = 0; logon = Begins; share = []; cipher = 0; signing = 0 };
+  share = [];
+  room = 0;
+  encrypts = false;
+  address = record { ip = 0; port = 0 };
+}
+
+pub held_first : (x : Core) → FitsClient x → ((z : Settings) → ShowsClient x (start z).client) → Holds x
+held_first x fits shown = record {
+  fits = fits;
+  model = (start any_settings).client;
+  shown = shown any_settings;
+  kept = begins any_settings;
+}

@@ -1,0 +1,17 @@
+use Rattle.std.proofs.Common.{◌<◌, List, length, sym, subst}
+use Rattle.operation_rows.specs.Rows.{row_at}
+use Rattle.client_attached.specs.declared.opened.Opened.{Opened}
+use Rattle.client_played.proofs.sent.ask.Goals as goal
+
+pub ask_request-requires : goal.ask_request-requires
+ask_request-requires c =
+    let w = c.requires.fits.whole in
+    let x = c.args.index in
+    let place = (row_at c.args.client.now.table.rows.items x).«open» in
+    record {
+      fits = w.table;
+      above = c.requires.above;
+      within = c.requires.within;
+      known = subst (λ (xs : List Opened). place < length xs) (sym c.deref.ensures.value)
+          (subst (λ n. place < n) (sym w.known) (w.opens.opens x c.requires.above c.requires.within));
+    }
