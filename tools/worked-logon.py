@@ -4,8 +4,8 @@
 usage: tools/worked-logon.py [--shown | --run]
 
 Writes crates/world_examples/specs/Worked.antt: the third logon of worked_logon.py, its texts, its random bytes, and the
-signed frames of the second one. The formulas are compared with published numbers first: MS-NLMP 4.2.4, and Microsoft's
-derivations for SMB 3.0 and 3.1.1. Then each logon is heard from the other side: what was sealed is opened by OpenSSL,
+signed frames of the second one; and what the program worked_logon is to print, each frame of all four on a line. The
+formulas are compared with published numbers first: MS-NLMP 4.2.4, and Microsoft's derivations for SMB 3.0 and 3.1.1. Then each logon is heard from the other side: what was sealed is opened by OpenSSL,
 signatures and the proof are made anew. With --shown each logon is printed instead: what is drawn, tokens, keys and every frame.
 With --run the definitions are computed by spec_values.py instead: the world over bytes of crates/world_defs from its start
 on, event by event, whose frames are to be those of each logon (a minute or two), and the clauses of the worked examples.
@@ -26,6 +26,7 @@ from spec_words import Case, applied
 
 TOP = os.path.dirname(os.path.dirname(os.path.abspath(__file__)))
 FILE = os.path.join(TOP, "crates", "world_examples", "specs", "Worked.antt")
+OUTPUT = os.path.join(TOP, "crates", "worked_logon", "stdout")
 WIDTH = 120
 
 
@@ -115,6 +116,11 @@ def specs(sealed, signed):
     head = ["-- The bytes of two worked logons; written by tools/worked-logon.py."]
     head += ["use Rattle.std.specs.Prelude.{\u2115, List, [], \u25cc\u2237\u25cc}"]
     return "\n".join(head) + "\n\n" + "\n\n".join(spelled(name, data) for name, data in lists) + "\n"
+
+
+def printed(logon):
+    """A line for each frame, and an empty one."""
+    return "".join(message.frame.hex() + "\n" for message in logon.messages) + "\n"
 
 
 def show(logon):
@@ -222,6 +228,8 @@ def main():
     if not sys.argv[1:]:
         with open(FILE, "w", encoding="utf-8") as out:
             out.write(specs(logons[2], logons[1]))
+        with open(OUTPUT, "w", encoding="utf-8") as out:
+            out.write("".join(printed(logon) for logon in logons))
     return 0
 
 

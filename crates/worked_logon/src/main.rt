@@ -1,0 +1,28 @@
+//! Four whole logons, each with a create behind it. Every message is put together from the calls of both ends, from what a
+//! run draws on, and goes through them: NEGOTIATE, both SESSION_SETUPs, TREE_CONNECT and CREATE with their responses, as frames.
+//! The expected output is written by tools/worked-logon.py, which makes the same bytes by itself.
+#![tactic(auto)]
+
+mod draws;
+mod frames;
+mod greeting;
+mod logon;
+mod requests;
+mod setup;
+mod tokens;
+
+use anyhow::Result;
+use logon::logon_shown;
+
+fn main(rt: HostRuntime) -> Result<()> {
+    let alloc = rt.alloc();
+    let first = logon_shown(alloc, &[2, 1, 4, 3], &[2, 1], true)?;
+    println!(rt; "{first}")?;
+    let second = logon_shown(alloc, &[4, 3], &[1], false)?;
+    println!(rt; "{second}")?;
+    let third = logon_shown(alloc, &[1], &[], true)?;
+    println!(rt; "{third}")?;
+    let fourth = logon_shown(alloc, &[4, 2], &[1, 2], true)?;
+    println!(rt; "{fourth}")?;
+    Ok(())
+}
