@@ -29,6 +29,22 @@ pub struct Logon {
     pub encrypts: bool,
 }
 
+/// What a SESSION_SETUP comes to. Any other message leaves a connection's logon as it is.
+#[derive(Clone, Copy, Debug, PartialEq, Eq)]
+pub enum Progress {
+    Stays,
+    /// The interim response. In a binding the session signs it, and else nobody does.
+    Interim {
+        signer: Option<Signer>,
+    },
+    /// The final response, which the new keys sign.
+    Final {
+        keys: Keys,
+        channel: u16,
+        encrypts: bool,
+    },
+}
+
 /// The server's end of a connection (MS-SMB2 3.3.1.7).
 #[derive(Drop)]
 pub struct Conn {

@@ -4,5 +4,5 @@
 mod conn;
 mod end;
 
-pub use conn::{Conn, Greeting, Logon};
+pub use conn::{Conn, Greeting, Logon, Progress};
 pub use end::ConnEnd;

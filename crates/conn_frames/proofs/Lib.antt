@@ -1,0 +1,9 @@
+pub mod Headers
+pub mod Splitting
+pub mod Opening
+pub mod Prefixes
+pub mod Ones
+pub mod Steps
+pub mod Greets
+pub mod Whole
+pub mod Places
