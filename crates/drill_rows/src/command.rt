@@ -2,8 +2,8 @@
 // written. In place of `call`, `source PLAN` and `sink PLAN` have a digit pair for each call of the source or the sink, 01 where it
 // fails.
 use crate::Answer;
-use crate::escapes::unescaped;
 use anyhow::{Context, Result};
+use row_escapes::unescaped;
 use smb_bytes::Bytes;
 use smb_io::{MemSink, MemSource};
 use smb311_cli::smb311;

@@ -4,7 +4,6 @@
 #![tactic(auto)]
 
 mod command;
-mod escapes;
 mod schedule;
 
 use anyhow::{Context, Result, bail};

@@ -1,3 +1,6 @@
+//! What the programs over rows write out in place of line ends and of other bytes.
+#![tactic(auto)]
+
 // The bytes that a row writes out: `\n` and `\r` are line ends, `\x` and two digits any byte, and `{COUNT*PIECE}` is a piece
 // so many times.
 use anyhow::{Context, Result, bail};

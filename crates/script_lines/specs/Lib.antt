@@ -1,0 +1,4 @@
+pub mod Script
+pub mod Views
+pub mod Progress
+pub mod Settings

@@ -1,0 +1,62 @@
+// The settings of a script, with those that it doesn't give.
+ghost use Rattle.std.specs.Prelude.{◌≡◌, codes, IfOk};
+ghost use Rattle.script_lines.specs.Settings as settings;
+
+use script_words::{Cipher, Given, User, UserList};
+use smb_bytes::Text;
+use std::alloc::{AllocError, Global};
+
+const ROOM: u64 = 268_435_456;
+
+const CHANNELS: u32 = 2;
+
+/// What both ends are set up with.
+#[derive(Drop, Debug)]
+pub struct Settings {
+    /// What the client offers first.
+    pub cipher: Cipher,
+    /// How many bytes all files may have.
+    pub room: u64,
+    /// At least one. A client logs on as the first.
+    pub users: UserList,
+    pub share: Text,
+    /// How many channels the client makes.
+    pub channels: u32,
+}
+
+/// The settings that were given, and for each other its default: AES-GCM, 268,435,456 bytes, `user` with the password `Password`, the
+/// share `data`, two channels.
+#[tactic(auto, unfolding(crate::specs::Settings::settings_of))]
+pub fn with_defaults(alloc: Global, given: Given) -> Result<Settings, AllocError>
+    ensures { IfOk result (λ s. s ≡ settings.settings_of given) }
+{
+    let users = users_or(alloc, given.users)?;
+    let share = share_or(alloc, given.share)?;
+    Ok(Settings {
+        cipher: given.cipher.unwrap_or(Cipher::Gcm),
+        room: given.room.unwrap_or(ROOM),
+        users,
+        share,
+        channels: given.channels.unwrap_or(CHANNELS),
+    })
+}
+
+fn users_or(alloc: Global, mut users: UserList) -> Result<UserList, AllocError>
+    ensures { IfOk result (λ us. us ≡ settings.users_or users) }
+{
+    if users.is_empty() {
+        let name = Text::from_str(alloc, "user")?;
+        let password = Text::from_str(alloc, "Password")?;
+        users.push(User { name, password })?;
+    }
+    Ok(users)
+}
+
+fn share_or(alloc: Global, share: Option<Text>) -> Result<Text, AllocError>
+    ensures { IfOk result (λ s. s ≡ settings.or_else (codes "data") share) }
+{
+    match share {
+        Some(share) => Ok(share),
+        None => Text::from_str(alloc, "data"),
+    }
+}

@@ -1,0 +1,17 @@
+//! The lines of a script and of a server's settings: what the words of each say.
+#![tactic(auto)]
+
+mod events;
+mod numbers;
+mod operations;
+mod parts;
+mod pieces;
+mod settings;
+mod values;
+mod words;
+
+pub use pieces::Pieces;
+pub use values::{
+    Cipher, Code, Command, Fault, Given, ScriptEvent, Setting, Statement, User, UserList,
+};
+pub use words::statement;
