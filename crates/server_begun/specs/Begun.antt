@@ -8,16 +8,18 @@ use Rattle.server_holds.specs.Holds.{Holds}
 use Rattle.server_holds.specs.declared.state.ServerState.{ServerState}
 use Rattle.server_recovery.specs.Reading.{BodiesSpell}
 use Rattle.server_restart.specs.Restart.{configuration_of}
-use Rattle.world_defs.specs.Ends.{no_logons}
+use Rattle.world_defs.specs.Ends.{Logons}
 
 -- the records of which the disk's bytes are
 abbrev pub Told : List ℕ → ℕ → List model.Record → Type 0
 Told bytes count records = (bodies : List (List ℕ)) × StandsFor bytes bodies × BodiesSpell bodies records × (count ≡ length (front bodies) + 1)
 
 -- No call of the disk has failed. It holds the state that recovery makes of these records, with the records that the recovery adds
--- behind them; where the disk tells its bytes, they are all of its records.
+-- behind them; where the disk tells its bytes, they are all of its records. No session is there and nothing is in the making, so it
+-- holds with whatever is remembered of logons.
 abbrev pub Begins : {D : Type 0} → Type 0 → (D → List ℕ) → (D → List ℕ → Type 0) → (D → ℕ) → Config → D → ServerState D → Type 0
 Begins told seen may_leave faults z disk c = (c.stopped ≡ None) × (faults c.journal.disk ≡ faults disk)
     × (bytes : ℕ) × (records : List model.Record)
-    × Holds told seen may_leave c (recovered (configuration_of z) bytes records) no_logons (records ++ recovery_records records)
+    × ((L : Logons)
+    → Holds told seen may_leave c (recovered (configuration_of z) bytes records) L (records ++ recovery_records records))
     × (told → Told (seen disk) bytes records)

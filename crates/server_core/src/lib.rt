@@ -2,5 +2,6 @@
 #![tactic(auto)]
 
 mod server;
+mod signing;
 
 pub use server::Server;

@@ -1,5 +1,5 @@
 //! The server's step over its tables and its journal.
-ghost use Rattle.std.specs.Prelude.{◌≡◌, ℕ, Err, IfOk, List, MatchResult, None, Some, false, true, ⊤};
+ghost use Rattle.std.specs.Prelude.{◌≡◌, ℕ, Err, IfOk, List, MatchResult, None, Some, false, if◌then◌else◌, true, ⊤};
 ghost use Rattle.exchange_defs.specs.State as model;
 ghost use Rattle.exchange_defs.specs.Step.{due, step, with_deadlines};
 ghost use Rattle.file_store.specs.Stored.{AreFiles};
@@ -10,13 +10,14 @@ ghost use Rattle.server_asked.specs.declared.event.ServerEvent.{ServerEvent};
 ghost use Rattle.server_begun.specs.Begun.{Begins};
 ghost use Rattle.server_event.specs.Early.{HasMemory, is_refused_early};
 ghost use Rattle.server_holds.specs.Beside.{logons_behind};
-ghost use Rattle.server_holds.specs.Holds.{EventLeaves, EventRefused, GoesOn, Holds, StepAnswers};
+ghost use Rattle.server_holds.specs.Holds.{EventLeaves, EventRefused, GoesOn, StepAnswers};
 ghost use Rattle.server_holds.specs.Shown.{ServerShown};
 ghost use Rattle.server_events.specs.Setups.{progress_of};
 ghost use Rattle.server_events.specs.declared.error.EventError.TheVariants as errors;
 ghost use Rattle.server_restart.specs.Restart.{RestartLeaves, RestartRefused};
 ghost use Rattle.world_defs.specs.Ends.{Logons};
 
+use crate::signing::signer_of;
 use file_store::StoredFile;
 use persist_journal::JournalError;
 use server_asked::ServerEvent;
@@ -26,16 +27,19 @@ use server_effects::Answer;
 use server_event::answer_event;
 use server_events::EventError;
 use server_holds::ServerState;
+use session_defs::Signer;
 use smb_io::Disk;
 use std::alloc::{AllocError, Global};
 
 /// An SMB 3.1.1 server's state, with the journal that outlives it.
 #[derive(Drop)]
 pub struct Server<D: Disk> {
-    state: ServerState<D>,
+    pub(crate) state: ServerState<D>,
 }
 
 impl<D: Disk> Server<D> {
+    ghost use Rattle.server_core.specs.Shown.{HoldsServer, config_of, disk_of, state_of, stopped_of};
+
     /// A server on the disk that an earlier one left, or on an empty one: it holds what the journal's records stand for, under the
     /// next epoch, which goes into the journal.
     ///
@@ -45,11 +49,11 @@ impl<D: Disk> Server<D> {
     pub fn recover(alloc: Global, disk: D, config: Config) -> Result<Server<D>, JournalError>
     where
         D: Drop,
-        ensures holds { IfOk result (λ c. Begins D.told D.seen D.may_leave D.faults config disk c.state) }
+        ensures holds { IfOk result (λ c. Begins D.told D.seen D.may_leave D.faults config disk (state_of c)) }
         ensures refused { MatchResult result (λ _. ⊤) (λ x. RestartRefused D.told D.seen D.faults disk x) }
         ensures any_moment { IfOk result (λ c. D.told → (all : List (List ℕ)) → StandsFor (D.seen disk) all
-            → LeavesOnly D.moment D.left_since disk c.state.journal.disk (RestartLeaves (D.may_leave disk) all)) }
-        ensures config { IfOk result (λ c. c.state.tables.config ≡ config) }
+            → LeavesOnly D.moment D.left_since disk (disk_of c) (RestartLeaves (D.may_leave disk) all)) }
+        ensures config { IfOk result (λ c. config_of c ≡ config) }
     {
         match recover_state(alloc, disk, config) {
             Ok(state) => Ok(Server { state }),
@@ -66,37 +70,46 @@ impl<D: Disk> Server<D> {
     /// carries it: the tables have the event's change, and each later event answers `Stopped` with that count and changes nothing.
     pub fn event(&mut self, now: u64, event: ServerEvent<'_>) -> Result<Answer, EventError>
         ensures step { (s : model.Server) (L : Logons) (records : List model.Record)
-            → Holds D.told D.seen D.may_leave self.old.state s L records
-            → let e = heard_event self.old.state.tables.config.users L s event.entry in MatchResult result
-            (λ r. StepAnswers D.told D.seen D.may_leave self.new.state s L records now event.entry r (step s now e))
-            (λ x. EventRefused D.told D.seen D.may_leave D.faults x self.old.state self.new.state s L records now e
-            (logons_behind self.old.state.tables.config.users L event.entry now (progress_of e (step s now e).reply))) }
+            → HoldsServer D.told D.seen D.may_leave self.old s L records
+            → let e = heard_event (config_of self.old).users L s event.entry in MatchResult result
+            (λ r. StepAnswers D.told D.seen D.may_leave (state_of self.new) s L records now event.entry r (step s now e))
+            (λ x. EventRefused D.told D.seen D.may_leave D.faults x (state_of self.old) (state_of self.new) s L records now e
+            (logons_behind (config_of self.old).users L event.entry now (progress_of e (step s now e).reply))) }
         ensures any_moment { D.told
             → (s : model.Server) (L : Logons) (records : List model.Record) (bodies : List (List ℕ))
-            → Holds D.told D.seen D.may_leave self.old.state s L records → GoesOn D.seen D.may_leave self.old.state s records bodies
-            → LeavesOnly D.moment D.left_since self.old.state.journal.disk self.new.state.journal.disk
-            (EventLeaves s now (heard_event self.old.state.tables.config.users L s event.entry) bodies) }
-        ensures stopped { (count : ℕ) → self.old.state.stopped ≡ Some count
+            → HoldsServer D.told D.seen D.may_leave self.old s L records → GoesOn D.seen D.may_leave (state_of self.old) s records bodies
+            → LeavesOnly D.moment D.left_since (disk_of self.old) (disk_of self.new)
+            (EventLeaves s now (heard_event (config_of self.old).users L s event.entry) bodies) }
+        ensures stopped { (count : ℕ) → stopped_of self.old ≡ Some count
             → (result ≡ Err (errors.Stopped count)) × (self.new ≡ self.old) }
-        ensures config { self.new.state.tables.config ≡ self.old.state.tables.config }
+        ensures config { config_of self.new ≡ config_of self.old }
         ensures early { (s : model.Server) (L : Logons) (records : List model.Record)
-            → Holds D.told D.seen D.may_leave self.old.state s L records → is_setup_heard event.entry ≡ false
+            → HoldsServer D.told D.seen D.may_leave self.old s L records → is_setup_heard event.entry ≡ false
             → due (with_deadlines s now) now ≡ None
-            → is_refused_early s (heard_event self.old.state.tables.config.users L s event.entry) ≡ true → HasMemory result }
+            → is_refused_early s (heard_event (config_of self.old).users L s event.entry) ≡ true → HasMemory result }
     {
         answer_event(&mut self.state, now, event)
     }
 
     /// The count of faults at which a call of the disk failed.
     pub fn stopped(&self) -> Option<u64>
-        ensures { result ≡ self.now.state.stopped }
+        ensures { result ≡ stopped_of self.now }
     {
         self.state.stopped
     }
 
+    /// With what the own key of a session signs, where it is live: not that of one of its channels (MS-SMB2 3.3.1.8).
+    pub fn signer(&self, session: u64) -> Option<Signer>
+        ensures { (s : model.Server) (L : Logons) (records : List model.Record)
+            → HoldsServer D.told D.seen D.may_leave self.now s L records
+            → result ≡ (if s.present session then Some (L.keys session).signing else None) }
+    {
+        signer_of(&self.state.tables.sessions, session)
+    }
+
     /// All files, no directories, in byte order of their paths, with their bytes.
     pub fn files(&self) -> Result<Vec<StoredFile>, AllocError>
-        ensures { IfOk result (λ v. (s : model.Server) (L : Logons) → ServerShown self.now.state.tables s L
+        ensures { IfOk result (λ v. (s : model.Server) (L : Logons) → ServerShown (state_of self.now).tables s L
             → AreFiles v.items s) }
     {
         match self.state.tables.tree.files() {
@@ -107,7 +120,7 @@ impl<D: Disk> Server<D> {
 
     /// Hands back the disk.
     pub fn stop(self) -> D
-        ensures { result ≡ self.state.journal.disk }
+        ensures { result ≡ disk_of self }
     {
         let Server { state } = self;
         let ServerState { journal, .. } = state;

@@ -1,7 +1,7 @@
 -- A body that is empty or not, and the journal's refusals.
 use Rattle.std.proofs.Common.{◌≡◌, inl, inr, ℕ, ◌+◌, ◌≤◌, ◌<◌, false, List, [], ◌∷◌, ◌++◌, length}
 use Rattle.std.proofs.Common.{refl, sym, ap, subst, arith, ◌∙◌}
-use Rattle.std.specs.Prelude.{Err}
+use Rattle.std.specs.Prelude.{Err, None}
 use Rattle.journal_defs.specs.Grammar.{StandsFor}
 use Rattle.journal_defs.specs.Moments.{LeavesOnly}
 use Rattle.persist_journal.specs.Journal.{Allows, Appends, JournalState, OnlyRoom, Reserves, Settled, capped}
@@ -36,6 +36,9 @@ none_more bs b e = subst (λ (v : List ℕ). bs ≡ bs ++ bodies_of v) (sym e) (
 
 -- ---- the room
 
+at_most : (n : ℕ) → capped n ≤ n
+at_most n = grind arith
+
 pub only_same : {D : Type 0} (old new : JournalState D) → new ≡ old → OnlyRoom old new
 only_same old new e = subst (λ j. OnlyRoom old j) (sym e) (refl, omega arith)
 
@@ -50,6 +53,16 @@ lacks old new n (causes.NotAJournal at) r = absurd r
 lacks old new n (causes.Full would limit) r = tt
 lacks old new n (causes.Stopped count) r = r.0
 
+-- below the lower limit and with its memory at hand a body finds room in a journal that goes on
+pub never_lacks : {D : Type 0} (old new : JournalState D) (n : ℕ) (error : JournalError) → Reserves old n false (Err error) new
+    → old.stopped ≡ None → old.used + 5 + n ≤ 939524096 → n + 5 ≤ old.room → ⊥
+never_lacks old new n causes.Memory r none fits room = omega (arith, r.1, room)
+never_lacks old new n (causes.DiskFault count) r none fits room = r
+never_lacks old new n (causes.NotAJournal at) r none fits room = r
+never_lacks old new n (causes.Full would limit) r none fits room =
+    omega (arith, r.1, r.2, r.3, fits, at_most (old.used + 5 + n))
+never_lacks old new n (causes.Stopped count) r none fits room = let e = sym r.0 ∙ none in cc
+
 pub room_alone : {D : Type 0} (old new : JournalState D) (n : ℕ) (error : JournalError) → Reserves old n false (Err error) new
     → OnlyRoom old new
 room_alone old new n causes.Memory r = r.2
@@ -59,9 +72,6 @@ room_alone old new n (causes.Full would limit) r = only_same old new r.4
 room_alone old new n (causes.Stopped count) r = only_same old new r.1
 
 -- ---- the write
-
-at_most : (n : ℕ) → capped n ≤ n
-at_most n = grind arith
 
 -- with room for it a body that isn't empty is refused only by the disk
 pub refused : {D : Type 0} (faults : D → ℕ) (old new : JournalState D) (b : List ℕ) (error : JournalError) → HasBodyRoom old (length b)

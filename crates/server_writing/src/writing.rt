@@ -1,5 +1,5 @@
 //! A body that goes onto the disk, and the room for it.
-ghost use Rattle.std.specs.Prelude.{◌≡◌, ◌≤◌, ◌++◌, ℕ, IsOk, List, MatchResult, OnOk, length, ⊤};
+ghost use Rattle.std.specs.Prelude.{◌≡◌, ◌≤◌, ◌+◌, ◌++◌, ℕ, IsOk, List, MatchResult, None, OnOk, length, ⊤};
 ghost use Rattle.journal_defs.specs.Moments.{LeavesOnly};
 ghost use Rattle.persist_journal.specs.Journal.{OnlyRoom, Settled};
 ghost use Rattle.server_body.specs.Body.{bodies_of};
@@ -10,13 +10,16 @@ use server_events::EventError;
 use smb_io::Disk;
 
 /// Makes room for a body of so many bytes below the lower limit; none wants none, and always has it. Nothing but the room changes.
-/// It is refused only where memory runs out, or the journal has stopped.
+/// It is refused only where memory runs out, or the journal has stopped; where the journal's own count leaves the body below the lower
+/// limit and its memory is at hand, it isn't refused.
 pub fn reserve_body<D: Disk>(journal: &mut Journal<D>, length: usize) -> Result<(), EventError>
     requires { length ≤ 939524096 }
     ensures room { OnOk result (HasBodyRoom journal.new length) }
     ensures lack { MatchResult result (λ _. ⊤) (λ x. IsLack journal.old x) }
     ensures kept { OnlyRoom journal.old journal.new }
     ensures none { length ≡ 0 → IsOk result }
+    ensures sure { journal.old.stopped ≡ None → journal.old.used + 5 + length ≤ 939524096 → length + 5 ≤ journal.old.room
+        → IsOk result }
 {
     if length == 0 {
         return Ok(());

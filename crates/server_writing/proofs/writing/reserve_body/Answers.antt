@@ -1,5 +1,5 @@
 use Rattle.std.proofs.Common.{◌<◌, arith, inl, inr, refl}
-use Rattle.server_writing.proofs.Cases.{allows_still, lacks, only_same, room_alone}
+use Rattle.server_writing.proofs.Cases.{allows_still, lacks, never_lacks, only_same, room_alone}
 use Rattle.server_writing.proofs.writing.reserve_body.Goals as goal
 
 pub returns-then-length-eq0-clause-room : goal.returns-then-length-eq0-clause-room
@@ -24,3 +24,7 @@ returns-in-Err-clause-kept g c = room_alone c.args.journal.now c.reserve.new.sel
 
 pub returns-in-Err-clause-none : goal.returns-in-Err-clause-none
 returns-in-Err-clause-none g c = λ none. let some : 0 < c.args.length = omega arith in absurd (omega (arith, none, some))
+
+pub returns-in-Err-clause-sure : goal.returns-in-Err-clause-sure
+returns-in-Err-clause-sure g c = λ none fits room.
+    absurd (never_lacks c.args.journal.now c.reserve.new.self c.args.length c.in-Err.error c.in-Err.ensures none fits room)

@@ -1,0 +1,30 @@
+-- A server as its callers' clauses speak of it: what it holds, its configuration, its journal with the disk, and where it stopped.
+use Rattle.std.specs.Prelude.{ℕ, List, Option}
+use Rattle.exchange_defs.specs.State as model
+use Rattle.persist_journal.specs.Journal.{JournalState}
+use Rattle.server_checks.specs.declared.tables.Config.{Config}
+use Rattle.server_core.specs.declared.server.Server.{Server}
+use Rattle.server_holds.specs.Holds.{Holds}
+use Rattle.server_holds.specs.declared.state.ServerState.{ServerState}
+use Rattle.world_defs.specs.Ends.{Logons}
+
+abbrev pub state_of : {D : Type 0} → Server D → ServerState D
+state_of x = x.state
+
+abbrev pub journal_of : {D : Type 0} → Server D → JournalState D
+journal_of x = x.state.journal
+
+abbrev pub disk_of : {D : Type 0} → Server D → D
+disk_of x = x.state.journal.disk
+
+abbrev pub config_of : {D : Type 0} → Server D → Config
+config_of x = x.state.tables.config
+
+-- the count of faults at which a call of the disk failed
+abbrev pub stopped_of : {D : Type 0} → Server D → Option ℕ
+stopped_of x = x.state.stopped
+
+-- it shows this state of the model with these logons, and its disk stands for these records
+abbrev pub HoldsServer : {D : Type 0} → Type 0 → (D → List ℕ) → (D → List ℕ → Type 0) → Server D → model.Server → Logons
+    → List model.Record → Type 0
+HoldsServer told seen may_leave x s L records = Holds told seen may_leave x.state s L records
