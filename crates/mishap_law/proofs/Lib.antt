@@ -1,1 +1,2 @@
 mod Own
+mod Befell

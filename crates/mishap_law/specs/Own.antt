@@ -1,8 +1,8 @@
 -- A frame whose events had no mishap.
-use Rattle.std.specs.Prelude.{◌≡◌, ℕ, true, List, [], ◌∷◌, Option, Some, None, ⊤}
+use Rattle.std.specs.Prelude.{◌≡◌, ℕ, true, false, List, [], ◌∷◌, Option, Some, None, ⊤}
 use Rattle.exchange_defs.specs.State.{Server}
 use Rattle.world_defs.specs.Settings.{ServerSettings}
-use Rattle.world_defs.specs.Ends.{ServerEnd, Logons}
+use Rattle.world_defs.specs.Ends.{ServerEnd, Logons, Stopped}
 use Rattle.world_defs.specs.Connection.{connection_step}
 use Rattle.world_defs.specs.Mishaps.{Mishap, owned_step}
 
@@ -17,3 +17,11 @@ OwnStep =
     (z : ServerSettings) (k now : ℕ) (fresh : List ℕ) (s : Server) (L : Logons) (f : ServerEnd) (mishaps : List (Option Mishap))
     (frame : List ℕ) → NoneBefell mishaps → (owned_step z k now fresh s L f mishaps frame).matches ≡ true
     → (owned_step z k now fresh s L f mishaps frame).step ≡ connection_step z k now fresh s L f frame
+
+-- and nothing befell any where just as much is told as it has events, none found no memory, and the server goes on
+abbrev pub NothingBefell : Type 0
+NothingBefell =
+    (z : ServerSettings) (k now : ℕ) (fresh : List ℕ) (s : Server) (L : Logons) (f : ServerEnd) (mishaps : List (Option Mishap))
+    (frame : List ℕ) → (owned_step z k now fresh s L f mishaps frame).matches ≡ true
+    → (owned_step z k now fresh s L f mishaps frame).lacked ≡ false
+    → ((count : ℕ) → (owned_step z k now fresh s L f mishaps frame).step.ends ≡ Some (Stopped count) → ⊥) → NoneBefell mishaps

@@ -4,9 +4,14 @@
 //! The law is a public function with an empty body, whose contract is the statement.
 #![tactic(auto)]
 
-ghost use Rattle.mishap_law.specs.Own.{OwnStep};
+ghost use Rattle.mishap_law.specs.Own.{NothingBefell, OwnStep};
 
 /// Where just as much is told as the frame has events, and nothing befell any of them.
 pub fn own_step_law()
     ensures own { OwnStep }
+{}
+
+/// Where just as much is told as the frame has events, none of them found no memory, and the server goes on.
+pub fn nothing_befell_law()
+    ensures none { NothingBefell }
 {}
