@@ -60,20 +60,38 @@ impl Caller {
         self.event(ServerEvent::Setup { setup })
     }
 
-    fn log_on(&mut self) -> Result<()> {
-        let accepted = self.event(ServerEvent::Accept { connection: 1 })?;
-        ensure!(accepted.reply.status == 0, "no connection");
+    // The challenge that answers a logon's first request; the session is then known.
+    fn challenged(&mut self) -> Result<Bytes> {
         let first = first_token(self.alloc)?;
         let challenge = self.set_up(first.as_slice())?;
         self.around.session = challenge.reply.session_id;
-        let token = challenge.token.as_slice();
-        let second = second_token(self.alloc, "User", "Password", token)?;
+        Ok(challenge.token)
+    }
+
+    fn answered(&mut self, challenge: &[u8]) -> Result<()> {
+        let second = second_token(self.alloc, "User", "Password", challenge)?;
         let last = self.set_up(second.as_slice())?;
-        check_last(self.alloc, last.token.as_slice())?;
+        check_last(self.alloc, last.token.as_slice())
+    }
+
+    fn accepted(&mut self) -> Result<()> {
+        let accepted = self.event(ServerEvent::Accept { connection: 1 })?;
+        ensure!(accepted.reply.status == 0, "no connection");
+        Ok(())
+    }
+
+    fn connected(&mut self) -> Result<()> {
         let share = Text::from_str(self.alloc, "data")?;
         let connected = self.ask(Command::TreeConnect { share })?;
         self.around.tree = connected.tree_id;
         Ok(())
+    }
+
+    fn log_on(&mut self) -> Result<()> {
+        self.accepted()?;
+        let challenge = self.challenged()?;
+        self.answered(challenge.as_slice())?;
+        self.connected()
     }
 
     /// The reply to a request, which succeeds.

@@ -1,4 +1,4 @@
-//! What events take with few and with many opens, each on a file of its own.
+//! What events take with few and with many opens, each on a file of its own; and what reads take where many opens share few files.
 use crate::caller::Caller;
 use crate::next;
 use anyhow::{Context, Result};
@@ -22,6 +22,7 @@ struct Times {
 // A client's opens, and the paths of their files.
 #[derive(Drop)]
 struct Stand {
+    alloc: Global,
     caller: Caller,
     paths: Vec<String>,
     ids: Vec<u64>,
@@ -29,12 +30,14 @@ struct Stand {
 
 /// The table with its bars.
 pub fn measure(rt: &HostRuntime) -> Result<()> {
-    let few = times_with(rt, 10)?;
-    let many = times_with(rt, 10_000)?;
+    let few = times_with(rt, 10, 10)?;
+    let many = times_with(rt, 10_000, 10_000)?;
+    let shared = times_with(rt, 10_000, 10)?;
     row(rt, "CREATE with CLOSE", few.opened, many.opened)?;
     row(rt, "WRITE of 4 KiB", few.written, many.written)?;
     row(rt, "READ of 4 KiB", few.read, many.read)?;
-    row(rt, "LOCK with UNLOCK", few.locked, many.locked)
+    row(rt, "LOCK with UNLOCK", few.locked, many.locked)?;
+    row(rt, "READ of 4 KiB, of ten files", few.read, shared.read)
 }
 
 fn a_second(nanos: u128) -> u128 {
@@ -53,33 +56,40 @@ fn row(rt: &HostRuntime, name: &str, few: u128, many: u128) -> Result<()> {
     Ok(())
 }
 
-fn stand_of(alloc: Global, count: u32) -> Result<Stand> {
-    let mut caller = Caller::new(alloc, disk_of(alloc, &[], &[])?)?;
-    let mut paths = Vec::new(alloc);
-    let mut ids = Vec::new(alloc);
+// Opens of so many new files, in turn, each with a piece.
+fn fill(stand: &mut Stand, count: u32, files: u32) -> Result<()> {
+    let alloc = stand.alloc;
     let piece = vec![in alloc; 7u8; PIECE]?;
     for number in 0..count {
-        let path = format!(in alloc; "f{number:05}")?;
-        let id = caller.open(path.as_str(), None)?;
-        caller.write(id, 0, &piece)?;
-        ids.push(id)?;
-        paths.push(path)?;
+        let path = format!(in alloc; "f{:05}", number % files.max(1))?;
+        let id = stand.caller.open(path.as_str(), None)?;
+        stand.caller.write(id, 0, &piece)?;
+        stand.ids.push(id)?;
+        stand.paths.push(path)?;
     }
-    Ok(Stand { caller, paths, ids })
+    Ok(())
 }
 
-fn times_with(rt: &HostRuntime, count: u32) -> Result<Times> {
-    let Stand {
-        mut caller,
-        paths,
-        ids,
-    } = stand_of(rt.alloc(), count)?;
+fn times_of(rt: &HostRuntime, stand: &mut Stand, count: u32, files: u32) -> Result<Times> {
+    fill(stand, count, files)?;
     Ok(Times {
-        opened: opened(rt, &mut caller, &paths)?,
-        written: written(rt, &mut caller, &ids)?,
-        read: read(rt, &mut caller, &ids)?,
-        locked: locked(rt, &mut caller, &ids)?,
+        opened: opened(rt, &mut stand.caller, &stand.paths)?,
+        written: written(rt, &mut stand.caller, &stand.ids)?,
+        read: read(rt, &mut stand.caller, &stand.ids)?,
+        locked: locked(rt, &mut stand.caller, &stand.ids)?,
     })
+}
+
+// It owns the server, and drops it at one place alone, since each drop of a server is dear to prove.
+fn times_with(rt: &HostRuntime, count: u32, files: u32) -> Result<Times> {
+    let alloc = rt.alloc();
+    let mut stand = Stand {
+        alloc,
+        caller: Caller::new(alloc, disk_of(alloc, &[], &[])?)?,
+        paths: Vec::new(alloc),
+        ids: Vec::new(alloc),
+    };
+    times_of(rt, &mut stand, count, files)
 }
 
 // A place among so many.

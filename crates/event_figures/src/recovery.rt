@@ -9,14 +9,27 @@ use std::time::Instant;
 
 const RECORDS: u32 = 2_000_000;
 
-// A disk with the records of so many writes of one byte.
-fn written(alloc: Global) -> Result<MemDisk> {
-    let mut caller = Caller::new(alloc, disk_of(alloc, &[], &[])?)?;
+// So many writes of one byte.
+fn write_all(caller: &mut Caller) -> Result<()> {
     let id = caller.open("f", None)?;
     for turn in 0..RECORDS {
         caller.write(id, 0, &[(turn % 256) as u8])?;
     }
+    Ok(())
+}
+
+// A disk with their records.
+fn written(alloc: Global) -> Result<MemDisk> {
+    let mut caller = Caller::new(alloc, disk_of(alloc, &[], &[])?)?;
+    write_all(&mut caller)?;
     Ok(caller.stop())
+}
+
+fn tell(rt: &HostRuntime, server: &Running<MemDisk>, nanos: u128) -> Result<()> {
+    let files = server.files()?.len();
+    let rate = (RECORDS as u128).saturating_mul(1_000_000_000) / nanos.max(1);
+    println!(rt; "recovery of {RECORDS} small records, {files} file: {rate} a second")?;
+    Ok(())
 }
 
 pub fn measure(rt: &HostRuntime) -> Result<()> {
@@ -26,8 +39,5 @@ pub fn measure(rt: &HostRuntime) -> Result<()> {
     let start = Instant::now(rt)?;
     let server = Running::begin(alloc, disk, config)?;
     let nanos = start.elapsed(rt)?.as_nanos();
-    let files = server.files()?.len();
-    let rate = (RECORDS as u128).saturating_mul(1_000_000_000) / nanos.max(1);
-    println!(rt; "recovery of {RECORDS} small records, {files} file: {rate} a second")?;
-    Ok(())
+    tell(rt, &server, nanos)
 }

@@ -4,6 +4,7 @@ use crate::next;
 use anyhow::{Context, Result, ensure};
 use event_calls::{config, disk_of};
 use event_server::Running;
+use file_store::StoredFile;
 use smb_io::MemDisk;
 use std::alloc::Global;
 
@@ -23,7 +24,17 @@ struct Due {
 /// What is told of such a run.
 pub fn run(alloc: Global) -> Result<String> {
     let mut caller = Caller::new(alloc, disk_of(alloc, &[], &[])?)?;
-    let mut rows = opened(alloc, &mut caller)?;
+    let mut rows = Vec::new(alloc);
+    let events = played(alloc, &mut caller, &mut rows)?;
+    let files = found(alloc, caller.stop(), &rows)?;
+    Ok(format!(in alloc;
+        "{events} events over {OPENS} opens are answered as due, and {files} files stand behind a restart"
+    )?)
+}
+
+// How many events there were.
+fn played(alloc: Global, caller: &mut Caller, rows: &mut Vec<Due>) -> Result<u32> {
+    open_all(alloc, caller, rows)?;
     let mut word: u64 = 1;
     let first = caller.events();
     for turn in 0..EVENTS {
@@ -33,13 +44,9 @@ pub fn run(alloc: Global) -> Result<String> {
         word = next(word);
         let number = (word >> 33) % OPENS as u64;
         let row = rows.get_mut(number as usize).context("no open")?;
-        act(&mut caller, row, turn, (word >> 13) % 6)?;
+        act(caller, row, turn, (word >> 13) % 6)?;
     }
-    let events = caller.events().saturating_sub(first);
-    let files = check_files(alloc, caller.stop(), &rows)?;
-    Ok(format!(in alloc;
-        "{events} events over {OPENS} opens are answered as due, and {files} files stand behind a restart"
-    )?)
+    Ok(caller.events().saturating_sub(first))
 }
 
 // Each second one outlives its session.
@@ -51,8 +58,7 @@ fn guid_of(number: u32) -> Option<u128> {
     }
 }
 
-fn opened(alloc: Global, caller: &mut Caller) -> Result<Vec<Due>> {
-    let mut rows = Vec::new(alloc);
+fn open_all(alloc: Global, caller: &mut Caller, rows: &mut Vec<Due>) -> Result<()> {
     for number in 0..OPENS {
         let path = format!(in alloc; "f{number:05}")?;
         let id = caller.open(path.as_str(), guid_of(number))?;
@@ -63,7 +69,7 @@ fn opened(alloc: Global, caller: &mut Caller) -> Result<Vec<Due>> {
             is_locked: false,
         })?;
     }
-    Ok(rows)
+    Ok(())
 }
 
 // One or two events on an open.
@@ -111,23 +117,25 @@ fn reopen(caller: &mut Caller, row: &mut Due, turn: u32) -> Result<()> {
     Ok(())
 }
 
-// How many files another server finds, each with the bytes that are due.
-fn check_files(alloc: Global, disk: MemDisk, rows: &[Due]) -> Result<usize> {
+// How many files another server finds, each with the bytes that are due. It drops that server at one place alone.
+fn found(alloc: Global, disk: MemDisk, rows: &[Due]) -> Result<usize> {
     let config = config(alloc, 268_435_456, false)?;
     let server = Running::begin(alloc, disk, config)?;
+    checked(&server, rows)
+}
+
+fn checked(server: &Running<MemDisk>, rows: &[Due]) -> Result<usize> {
     let files = server.files()?;
     ensure!(files.len() == rows.len(), "{} files", files.len());
     for (file, row) in files.iter().zip(rows.iter()) {
-        ensure!(
-            file.path.as_str() == row.path.as_str(),
-            "no {}",
-            row.path.as_str()
-        );
-        ensure!(
-            is_due(row, file.bytes.as_slice()),
-            "other bytes of {}",
-            row.path.as_str()
-        );
+        check_file(file, row)?;
     }
     Ok(files.len())
+}
+
+fn check_file(file: &StoredFile, row: &Due) -> Result<()> {
+    let path = row.path.as_str();
+    ensure!(file.path.as_str() == path, "no {path}");
+    ensure!(is_due(row, file.bytes.as_slice()), "other bytes of {path}");
+    Ok(())
 }

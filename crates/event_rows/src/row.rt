@@ -26,22 +26,27 @@ fn prepare<D: Disk + Drop>(stage: &mut Stage<D>, events: &str) -> Result<()> {
     Ok(())
 }
 
-// What is answered to events on a disk, or why there is no server.
-fn said_on<D: Disk + Drop>(alloc: Global, disk: D, words: &[&str], events: &str) -> Result<String> {
-    let room = number_or(words, "room", 268_435_456)?;
-    let mut stage = Stage::new(alloc, room, has(words, "sealed"));
+// What is answered to events where the server begins on a disk, or why there is none.
+fn answered<D: Disk + Drop>(stage: &mut Stage<D>, disk: D, events: &str) -> Result<String> {
     let begun = stage.begin(disk)?;
     if begun.as_str() != "ok" {
         return Ok(begun);
     }
     let (before, asked) = events.split_once(" > ").unwrap_or(("", events));
-    prepare(&mut stage, before)?;
-    let mut said = String::new(alloc);
+    prepare(stage, before)?;
+    let mut said = stage.text("")?;
     for event in asked.split("; ") {
         let more = stage.said(event)?;
         push_more(&mut said, more.as_str())?;
     }
     Ok(said)
+}
+
+// The same on a stage of its own. It is dropped at one place alone, since each drop of a server is dear to prove.
+fn said_on<D: Disk + Drop>(alloc: Global, disk: D, words: &[&str], events: &str) -> Result<String> {
+    let room = number_or(words, "room", 268_435_456)?;
+    let mut stage = Stage::new(alloc, room, has(words, "sealed"));
+    answered(&mut stage, disk, events)
 }
 
 /// What is answered to a row.

@@ -64,7 +64,8 @@ impl<D: Disk + Drop> Stage<D> {
         }
     }
 
-    fn text(&self, text: &str) -> Result<String> {
+    /// This text, as an owned one.
+    pub fn text(&self, text: &str) -> Result<String> {
         Ok(String::from_str(self.alloc, text)?)
     }
 
