@@ -14,7 +14,12 @@ or_false a b e = grind arith
 
 of_ok : (c : Client) (create : ℕ) (o : Settled) → c.outcome create ≡ outcome_of o → is_ok (outcome_of o) ≡ true
     → is_gone c create ≡ (c.closed_ok create || (not (persists (c.op create)) && not (is_attached c create)))
-of_ok c create (outcomes.Ok reply) e f = ap (λ r. is_gone_after c create r) e
+of_ok c create outcomes.Done e f = ap (λ r. is_gone_after c create r) e
+of_ok c create (outcomes.Action action) e f = ap (λ r. is_gone_after c create r) e
+of_ok c create (outcomes.Count count) e f = ap (λ r. is_gone_after c create r) e
+of_ok c create (outcomes.Content bytes) e f = ap (λ r. is_gone_after c create r) e
+of_ok c create (outcomes.Length size) e f = ap (λ r. is_gone_after c create r) e
+of_ok c create (outcomes.Names names) e f = ap (λ r. is_gone_after c create r) e
 of_ok c create (outcomes.Refused status) e f = absurd (cc)
 of_ok c create (outcomes.NoSlot other) e f = absurd (cc)
 of_ok c create (outcomes.NoOpen other) e f = absurd (cc)
@@ -22,7 +27,12 @@ of_ok c create (outcomes.Unknown why) e f = absurd (cc)
 
 pub of_other : (c : Client) (create : ℕ) (o : Settled) → c.outcome create ≡ outcome_of o → is_ok (outcome_of o) ≡ false
     → is_gone c create ≡ true
-of_other c create (outcomes.Ok reply) e f = absurd (cc)
+of_other c create outcomes.Done e f = absurd (cc)
+of_other c create (outcomes.Action action) e f = absurd (cc)
+of_other c create (outcomes.Count count) e f = absurd (cc)
+of_other c create (outcomes.Content bytes) e f = absurd (cc)
+of_other c create (outcomes.Length size) e f = absurd (cc)
+of_other c create (outcomes.Names names) e f = absurd (cc)
 of_other c create (outcomes.Refused status) e f = ap (λ r. is_gone_after c create r) e
 of_other c create (outcomes.NoSlot other) e f = ap (λ r. is_gone_after c create r) e
 of_other c create (outcomes.NoOpen other) e f = ap (λ r. is_gone_after c create r) e

@@ -4,7 +4,6 @@ use Rattle.msg_session.specs.declared.refusal.Choice.{Choice}
 use Rattle.msg_session.specs.declared.refusal.Choice.TheVariants.{Dialect, Hash, Cipher, Signing, SessionFlags}
 use Rattle.msg_session.specs.declared.refusal.Refusal.{Refusal as DialogRefusal}
 use Rattle.msg_session.specs.declared.refusal.Refusal.TheVariants as refusals
-use Rattle.operation_values.specs.Meaning.{reply_of}
 use Rattle.client_outcomes.specs.declared.outcome.Outcome.{Outcome as Settled}
 use Rattle.client_outcomes.specs.declared.outcome.Outcome.TheVariants as outcomes
 use Rattle.client_outcomes.specs.declared.outcome.Why.{Why as Cause}
@@ -13,6 +12,7 @@ use Rattle.client_outcomes.specs.declared.outcome.RefusedDialog.{RefusedDialog a
 use Rattle.exchange_defs.specs.Client.{RefusedDialog}
 use Rattle.exchange_defs.specs.Operations.{Outcome, WasOk, WasRefused, NoSlot, NoOpen, Unknown, Why, SessionLost, WithStatus}
 use Rattle.exchange_defs.specs.Operations.{NoSession, GaveUp, Ended, Refusal, BadChoice, BadToken, BadSignature, HadStatus, NoSha512}
+use Rattle.exchange_defs.specs.Operations.{IsDone, Action, IsCount, IsContent, Length, Names}
 
 -- counted from 1, in the order in which a dialog tests them
 abbrev pub choice_of : Choice → ℕ
@@ -37,7 +37,12 @@ why_of (causes.GaveUp tries) = GaveUp tries
 why_of causes.Ended = Ended
 
 abbrev pub outcome_of : Settled → Outcome
-outcome_of (outcomes.Ok reply) = WasOk (reply_of reply)
+outcome_of outcomes.Done = WasOk IsDone
+outcome_of (outcomes.Action action) = WasOk (Action action)
+outcome_of (outcomes.Count count) = WasOk (IsCount count)
+outcome_of (outcomes.Content bytes) = WasOk (IsContent bytes)
+outcome_of (outcomes.Length size) = WasOk (Length size)
+outcome_of (outcomes.Names names) = WasOk (Names names)
 outcome_of (outcomes.Refused status) = WasRefused status
 outcome_of (outcomes.NoSlot create) = NoSlot create
 outcome_of (outcomes.NoOpen create) = NoOpen create

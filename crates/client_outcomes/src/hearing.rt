@@ -58,7 +58,7 @@ fn weigh_success(reply: Option<OpReply>) -> Hearing
     ensures { hearing_of result ≡ ok_or_unknown (option_map reply_of reply) }
 {
     match reply {
-        Some(reply) => Hearing::Settles(Outcome::Ok(reply)),
+        Some(reply) => Hearing::Settles(Outcome::ok(reply)),
         None => Hearing::Settles(Outcome::Unknown(Why::Status(SUCCESS))),
     }
 }
@@ -70,7 +70,7 @@ fn weigh_refusal(op: &OpKind, asked: Asked, status: u32) -> Hearing
 {
     match judge(op, asked.asking, asked.unanswered, asked.is_older, status) {
         Verdict::Refused => Hearing::Settles(Outcome::Refused(status)),
-        Verdict::Closed => Hearing::Settles(Outcome::Ok(OpReply::Done)),
+        Verdict::Closed => Hearing::Settles(Outcome::Done),
         Verdict::Unknown => Hearing::Settles(Outcome::Unknown(Why::Status(status))),
         Verdict::GoesAgain => Hearing::GoesAgain,
     }

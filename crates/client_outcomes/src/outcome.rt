@@ -1,16 +1,25 @@
 // How operations settle.
 ghost use Rattle.std.specs.Prelude.{◌≡◌, ℕ, not, ◌&&◌};
-ghost use Rattle.exchange_defs.specs.Operations.{is_ok, is_firm, persists};
+ghost use Rattle.exchange_defs.specs.Operations.{WasOk, is_ok, is_firm, persists};
 ghost use Rattle.exchange_defs.specs.Client.{Client, is_attached, is_gone};
+ghost use Rattle.operation_values.specs.Meaning.{reply_of};
 ghost use Rattle.client_outcomes.specs.Meaning.{outcome_of};
 
 use msg_session::Refusal;
-use operation_values::OpReply;
+use operation_values::{OpReply, TextList};
+use smb_bytes::Bytes;
 
-/// How an operation settled.
+/// How an operation settled. The first six say what one that succeeded was answered; to hold them here saves the 8 bytes that a
+/// reply of its own would take.
 #[derive(Drop)]
 pub enum Outcome {
-    Ok(OpReply),
+    Done,
+    /// What a create did (MS-SMB2 2.2.14): superseded 0, opened 1, created 2, overwrote 3.
+    Action(u32),
+    Count(u32),
+    Content(Bytes),
+    Length(u64),
+    Names(TextList),
     /// The status, of a server that did nothing.
     Refused(u32),
     /// Its create, of whose lock slots none is free.
@@ -40,17 +49,48 @@ pub struct RefusedDialog {
 }
 
 impl Outcome {
+    /// Of an operation that succeeded, by what it was answered.
+    pub fn ok(reply: OpReply) -> Outcome
+        ensures { outcome_of result ≡ WasOk (reply_of reply) }
+    {
+        match reply {
+            OpReply::Done => Outcome::Done,
+            OpReply::Action(action) => Outcome::Action(action),
+            OpReply::Count(count) => Outcome::Count(count),
+            OpReply::Content(bytes) => Outcome::Content(bytes),
+            OpReply::Length(length) => Outcome::Length(length),
+            OpReply::Names(names) => Outcome::Names(names),
+        }
+    }
+
     pub fn is_ok(&self) -> bool
         ensures { result ≡ is_ok (outcome_of self.now) }
     {
-        matches!(self, Outcome::Ok(_))
+        matches!(
+            self,
+            Outcome::Done
+                | Outcome::Action(_)
+                | Outcome::Count(_)
+                | Outcome::Content(_)
+                | Outcome::Length(_)
+                | Outcome::Names(_)
+        )
     }
 
-    /// Whether it settled as Ok or Refused.
+    /// Whether it succeeded or was refused.
     pub fn is_firm(&self) -> bool
         ensures { result ≡ is_firm (outcome_of self.now) }
     {
-        matches!(self, Outcome::Ok(_) | Outcome::Refused(_))
+        matches!(
+            self,
+            Outcome::Done
+                | Outcome::Action(_)
+                | Outcome::Count(_)
+                | Outcome::Content(_)
+                | Outcome::Length(_)
+                | Outcome::Names(_)
+                | Outcome::Refused(_)
+        )
     }
 }
 

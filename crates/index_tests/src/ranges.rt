@@ -25,9 +25,12 @@ fn later_ranges_hide_earlier_ones(rt: HostRuntime) -> Result<(), Fail> {
     index.tops_in(20, 0, &mut tops)?;
     index.tops_in(24, u64::MAX, &mut tops)?;
     assert_eq!(rt; tops.as_slice(), [1, 2, 2, 3].as_slice());
-    index.forget(15, 10, 2);
+    index.forget(15, 2);
     assert_eq!(rt; index.top_at(20), 0);
     assert_eq!(rt; index.top_at(12), 1);
+    index.cover(100, 1 << 40, 4)?;
+    assert_eq!(rt; index.top_at((1 << 40) + 99), 4);
+    assert_eq!(rt; index.top_at((1 << 40) + 100), 0);
     index.clear();
     assert_eq!(rt; index.top_at(12), 0);
     Ok(())

@@ -30,7 +30,6 @@ no_row =
       change = 0;
       filled = 0;
       dear = 0;
-      below = 0;
     }
 
 abbrev pub row_at : List Row → ℕ → Row

@@ -37,6 +37,4 @@ pub struct Row {
     pub filled: u32,
     /// The next lower one of its open that pays more than one credit.
     pub dear: u32,
-    /// The next lower one that is outstanding.
-    pub below: u32,
 }

@@ -107,7 +107,6 @@ fn none() -> Row
         change: 0,
         filled: 0,
         dear: 0,
-        below: 0,
     }
 }
 

@@ -32,9 +32,9 @@ passed top at size from next old new l none =
           );
     }
 
--- bytes that one number covers are listed with it
+-- bytes that one number covers, or none, are listed with it
 added : (top : ℕ → ℕ) (at size from next number : ℕ) (old new : List ℕ) → Listing top at size from old new
-    → IsTop top at size number → ((x : ℕ) → from ≤ x → x < next → top x ≡ number)
+    → IsTop top at size number → ((x : ℕ) → from ≤ x → x < next → (top x ≡ number) ⊎ (top x ≡ 0))
     → Listing top at size next old (new ++ number ∷ [])
 added top at size from next number old new l is covers =
     record {
@@ -67,15 +67,17 @@ added top at size from next number old new l is covers =
         let case : (x < from) ⊎ (from ≤ x) = grind arith in
         elim case [
           | inl k ↦ elim (l.all x a k) [ inl z ↦ inl z | inr z ↦ inr (z.0, omega (arith, longer, z.1), front z.0 z.1 ∙ z.2) ]
-          | inr k ↦ inr (length l.more, omega (arith, longer), last ∙ sym (covers x k b))
+          | inr k ↦ elim (covers x k b) [ inl e ↦ inr (length l.more, omega (arith, longer), last ∙ sym e) | inr z ↦ inl z ]
         ]
 
--- the bytes from one on that have its number
+-- the bytes from one on that have its number, or none
 pub goes_on : (top : ℕ → ℕ) (at size from next number : ℕ) (old new : List ℕ) → Listing top at size from old new
-    → at ≤ from → from < at + size → from < 2 ^ 64 → from < next → ((x : ℕ) → from ≤ x → x < next → top x ≡ number)
+    → at ≤ from → from < at + size → from < 2 ^ 64 → number ≡ top from
+    → ((x : ℕ) → from ≤ x → x < next → (top x ≡ number) ⊎ (top x ≡ 0))
     → Listing top at size next old (if number == 0 then new else new ++ number ∷ [])
-goes_on top at size from next zero old new l a b f h covers = passed top at size from next old new l covers
-goes_on top at size from next (suc n) old new l a b f h covers =
+goes_on top at size from next zero old new l a b f is covers =
+    passed top at size from next old new l (λ x p q. elim (covers x p q) [ inl e ↦ e | inr e ↦ e ])
+goes_on top at size from next (suc n) old new l a b f is covers =
     let e : (suc n == 0) ≡ false = grind arith in
     subst (λ (xs : List ℕ). Listing top at size next old xs) (sym (ap (λ (t : Bool). if t then new else new ++ suc n ∷ []) e))
     (added top at size from next (suc n) old new l
@@ -84,7 +86,7 @@ goes_on top at size from next (suc n) old new l a b f h covers =
       behind = a;
       within = b;
       fits = f;
-      is = covers from (omega arith) h;
+      is = sym is;
       some = omega arith;
     }) covers)
 

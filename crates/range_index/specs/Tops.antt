@@ -1,11 +1,21 @@
--- Which of many numbered ranges covers a byte last, as a table by bytes: a key tells it for its byte and those behind it.
+-- Which of many numbered ranges covers a byte last, as a table by bytes: a key tells it for its byte and those behind it, as
+-- far as it says.
 use Rattle.std.specs.Prelude.{◌≡◌, ℕ, zero, suc, ◌+◌, ◌<◌, ◌≤◌, ◌^◌, nat_le, nat_lt, Bool, ◌&&◌, if◌then◌else◌, List}
-use Rattle.std.specs.Prelude.{◌++◌, length, slice_index, Option, Some, None, ◌⊎◌}
+use Rattle.std.specs.Prelude.{◌++◌, length, slice_index, Option, Some, None, ◌⊎◌, ◌==◌, ◌||◌}
+use Rattle.range_index.specs.declared.keys.Reach.{Reach}
 
--- the number at the greatest key that isn't above a byte, or 0
-unfoldable pub top_in : (ℕ → Option ℕ) → ℕ → ℕ
-top_in keys zero = elim (keys 0) [ Some top ↦ top | None ↦ 0 ]
-top_in keys (suc x) = elim (keys (suc x)) [ Some top ↦ top | None ↦ top_in keys x ]
+-- the number that a key tells of the byte so many behind it, or 0
+abbrev pub told : Reach → ℕ → ℕ
+told reach far = if (reach.more == 4294967295) || nat_le far reach.more then reach.number else 0
+
+-- what the greatest key that isn't above a byte tells of the byte so many behind that one, or 0
+unfoldable pub look : (ℕ → Option Reach) → ℕ → ℕ → ℕ
+look keys zero far = elim (keys 0) [ Some reach ↦ told reach far | None ↦ 0 ]
+look keys (suc x) far = elim (keys (suc x)) [ Some reach ↦ told reach far | None ↦ look keys x (suc far) ]
+
+-- what the greatest key that isn't above a byte tells of it, or 0
+abbrev pub top_in : (ℕ → Option Reach) → ℕ → ℕ
+top_in keys x = look keys x 0
 
 -- the byte lies in the range
 abbrev pub is_in : ℕ → ℕ → ℕ → Bool

@@ -8,7 +8,8 @@ ghost use Rattle.range_index.specs.Shown.{top};
 mod keys;
 
 use keys::{
-    divide, divide_behind, drop_behind, forget_key, is_whole, join_at, key_behind, put, top_of,
+    Reach, divide, divide_behind, drop_behind, forget_key, has_key, key_behind, put, reach_over,
+    top_of,
 };
 use std::alloc::{AllocError, Global};
 use std::collections::BTreeMap;
@@ -17,8 +18,8 @@ use std::collections::BTreeMap;
 /// number that covers each byte last (`top`); 0 is none.
 #[derive(Drop)]
 pub struct RangeIndex {
-    /// By a byte, the number of the range that covers it and those behind it up to the next key.
-    tops: BTreeMap<u64, u32>,
+    /// By a byte, the number of the range that covers it, and how far: one key for a range that no other follows.
+    tops: BTreeMap<u64, Reach>,
 }
 
 /// Adds a number to a list, where it is one.
@@ -65,7 +66,7 @@ impl RangeIndex {
             let Some(key) = key_behind(&self.tops, from, last) else {
                 return Ok(());
             };
-            number = key.top;
+            number = key.reach.number;
             from = key.at;
         }
     }
@@ -82,23 +83,18 @@ impl RangeIndex {
         divide_behind(&mut self.tops, at, size)?;
         let last = at.saturating_add(size - 1);
         drop_behind(&mut self.tops, at, last);
-        put(&mut self.tops, at, number);
+        put(&mut self.tops, at, reach_over(size, number));
         Ok(())
     }
 
-    /// A range that no later one hides in part leaves, which saves memory. Any other stays. The contract says only that each byte keeps
-    /// its number or has lost this one.
-    pub fn forget(&mut self, at: u64, size: u64, number: u32)
+    /// A range leaves, from its first byte up to where a later one covers it; where a later one covers its first byte, it stays.
+    /// The contract says only that each byte keeps its number or has lost this one.
+    pub fn forget(&mut self, at: u64, number: u32)
         ensures { Forgets (top self.old) (top self.new) number }
     {
-        let Some(end) = at.checked_add(size) else {
-            return;
-        };
-        if !is_whole(&self.tops, at, end, number) {
-            return;
+        if has_key(&self.tops, at, number) {
+            forget_key(&mut self.tops, at);
         }
-        forget_key(&mut self.tops, at);
-        join_at(&mut self.tops, end);
     }
 
     /// No range covers a byte any more.

@@ -1,9 +1,10 @@
-use Rattle.std.proofs.Common.{◌≡◌, ℕ, ◌+◌, ◌<◌, ◌≤◌, List, [], Option, append-nil, sym, ◌∙◌, subst, arith}
+use Rattle.std.proofs.Common.{◌≡◌, ℕ, ◌+◌, ◌<◌, ◌≤◌, List, [], ◌⊎◌, Option, append-nil, sym, ◌∙◌, subst, arith}
 use Rattle.std.proofs.lemmas.Grind.{common_steps}
 use Rattle.std.specs.Ordering.{nat_cmp}
 use Rattle.std.specs.BTreeMap.{get}
 use Rattle.range_index.specs.Shown.{top}
-use Rattle.range_index.proofs.Changed.{at_key, flat, last_of, none_if}
+use Rattle.range_index.specs.declared.keys.Reach.{Reach}
+use Rattle.range_index.proofs.Changed.{at_key, last_of, none_if, spread, told_itself}
 use Rattle.range_index.proofs.Listed.{Listing, begun, goes_on, whole}
 use Rattle.range_index.proofs.RangeIndex.tops_in.Goals as goal
 
@@ -20,7 +21,7 @@ loop-key-init c =
 
 pub returns-in_default : goal.returns-in_default
 returns-in_default c =
-    let keys : ℕ → Option ℕ = λ q. get nat_cmp c.args.self.now.tops q in
+    let keys : ℕ → Option Reach = λ q. get nat_cmp c.args.self.now.tops q in
     let some : 0 < c.args.size = grind (arith, common_steps) in
     let last = c.saturating_add-last.result in
     let ends = last_of c.args.at c.args.size last c.ranges.at.fits some c.saturating_add-last.ensures in
@@ -28,14 +29,14 @@ returns-in_default c =
     let within : c.loop-key.from < c.args.at + c.args.size = (let a = v.within in let b = ends.1.0 in omega arith) in
     let fits : c.loop-key.from < 18446744073709551616 = (let a = v.within in let b = c.saturating_add-last.type_inv in omega arith) in
     let covers : (x : ℕ) → c.loop-key.from ≤ x → x < last + 1
-    → top c.args.self.now x ≡ c.loop-key.number =
-    λ x a b. flat keys c.loop-key.from x a (λ q m n. c.in_default.ensures.none q m (omega arith)) ∙ sym v.number in
+    → (top c.args.self.now x ≡ c.loop-key.number) ⊎ (top c.args.self.now x ≡ 0) =
+    λ x a b. spread keys c.loop-key.from x c.loop-key.number a (λ q m n. c.in_default.ensures.none q m (omega arith)) v.number in
     let w : Listing (top c.args.self.now) c.args.at c.args.size (last + 1) c.args.into.now.items c.add.new.into.items =
     subst (λ (xs : List ℕ). Listing (top c.args.self.now) c.args.at c.args.size (last + 1) c.args.into.now.items xs)
     (sym c.in_ok-add.ensures.ok)
     (goes_on (top c.args.self.now) c.args.at c.args.size c.loop-key.from
     (last + 1) c.loop-key.number c.args.into.now.items c.loop-key.into.items v.listed v.behind within fits
-    (let a = v.within in omega arith) covers) in
+    v.number covers) in
     record {
       listed = whole (top c.args.self.now) c.args.at c.args.size (last + 1) c.args.into.now.items c.add.new.into.items w
           (λ x a b. let k = ends.1.1 x a b in omega arith);
@@ -51,7 +52,7 @@ returns-in_err-add-clause-goes c =
 
 pub loop-key-preserved : goal.loop-key-preserved
 loop-key-preserved c =
-    let keys : ℕ → Option ℕ = λ q. get nat_cmp c.args.self.now.tops q in
+    let keys : ℕ → Option Reach = λ q. get nat_cmp c.args.self.now.tops q in
     let some : 0 < c.args.size = grind (arith, common_steps) in
     let ends = last_of c.args.at c.args.size c.saturating_add-last.result c.ranges.at.fits some c.saturating_add-last.ensures in
     let v = c.loop-key.invariant in
@@ -60,15 +61,15 @@ loop-key-preserved c =
     let within : c.loop-key.from < c.args.at + c.args.size = (let a = v.within in let b = ends.1.0 in omega arith) in
     let fits : c.loop-key.from < 18446744073709551616 = (let a = v.within in let b = c.saturating_add-last.type_inv in omega arith) in
     let covers : (x : ℕ) → c.loop-key.from ≤ x → x < next
-    → top c.args.self.now x ≡ c.loop-key.number =
-    λ x a b. flat keys c.loop-key.from x a (λ q m n. none_if (keys q) (λ s. let l = e.first q m s in omega arith))
-    ∙ sym v.number in
+    → (top c.args.self.now x ≡ c.loop-key.number) ⊎ (top c.args.self.now x ≡ 0) =
+    λ x a b. spread keys c.loop-key.from x c.loop-key.number a
+    (λ q m n. none_if (keys q) (λ s. let l = e.first q m s in omega arith)) v.number in
     record {
-      number = sym (at_key keys next c.in-Some.key.top e.key);
+      number = sym (at_key keys next 0 c.in-Some.key.reach e.key ∙ told_itself c.in-Some.key.reach);
       behind = (let a = v.behind in let b = e.behind.0 in omega arith);
       within = e.behind.1;
       listed = subst (λ (xs : List ℕ). Listing (top c.args.self.now) c.args.at c.args.size next c.args.into.now.items
           xs) (sym c.in_ok-add.ensures.ok)
           (goes_on (top c.args.self.now) c.args.at c.args.size c.loop-key.from next c.loop-key.number
-          c.args.into.now.items c.loop-key.into.items v.listed v.behind within fits e.behind.0 covers);
+          c.args.into.now.items c.loop-key.into.items v.listed v.behind within fits v.number covers);
     }

@@ -9,5 +9,5 @@ not_gt q n l = grind (arith, nat_tests)
 
 pub returns-in-Some-clause-last : goal.returns-in-Some-clause-last
 returns-in-Some-clause-last c q l s = ge_from_not_lt c.in-Some.key.now q
-    ((c.range.ensures.in_range tt).4 (c.in-Some.key.now, c.in-Some.top.now) c.next_back.new.self c.in-Some.ensures.steps q
+    ((c.range.ensures.in_range tt).4 (c.in-Some.key.now, c.in-Some.reach.now) c.next_back.new.self c.in-Some.ensures.steps q
     (tt, not_gt q c.args.at l) s)
