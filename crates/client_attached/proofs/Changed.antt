@@ -4,12 +4,12 @@ use Rattle.std.proofs.Common.{ap, sym, ◌∙◌, subst, arith, ◌⊎◌, inl, 
 use Rattle.std.proofs.Math.ListN.{length-set}
 use Rattle.std.proofs.lemmas.List.{get_or-set_same, get_or-set_other}
 use Rattle.operation_rows.specs.declared.row.Row.{Row}
-use Rattle.operation_rows.specs.Rows.{row_at, owner, kind}
+use Rattle.operation_rows.specs.Rows.{row_at, owner}
 use Rattle.operation_rows.specs.Slots.{slot_at}
-use Rattle.operation_values.specs.declared.shapes.Kind.TheVariants as kinds
 use Rattle.client_choice.specs.declared.finding.Attached.{Attached}
 use Rattle.client_choice.specs.Shown.{IsAt}
-use Rattle.client_attached.specs.Opens.{ArePaired, FitsOpens, HasSlots, HaveUsers, KeepsOthers, ShowsSlotsOf}
+use Rattle.client_attached.specs.Locks.{locks_on}
+use Rattle.client_attached.specs.Opens.{ArePaired, FitsOpens, HasSlots, HaveUsers, IsRoomy, KeepsOthers, ShowsSlotsOf}
 use Rattle.client_attached.proofs.Slots.{slots_alike}
 
 ways : (x y : ℕ) → (x ≡ y) ⊎ (x ≡ y → ⊥)
@@ -27,16 +27,17 @@ module _ (attached : List Attached) (at : ℕ) (own : Attached) (inside : at < l
   within i l = subst (λ n. i < n) (length-set attached at own) l
 
   pub fits_set : (rows : List Row) → FitsOpens rows attached
-      → ((g : ℕ) → 0 < g → g < length rows → kind rows g ≡ kinds.Lock → (row_at rows g).«open» ≡ at → 64 ≤ vec_capacity own.slots)
+      → IsRoomy (locks_on rows at) own.locks (vec_capacity own.slots)
       → length own.slots.items ≤ 64 → HaveUsers rows own.slots.items → FitsOpens rows (set attached at own)
   fits_set rows f room few users =
       record {
         opens = λ g p l. subst (λ n. (row_at rows g).«open» < n) (sym (length-set attached at own)) (f.opens g p l);
         paired = f.paired;
-        room = λ g o p l e q.
-            elim (ways (row_at rows g).«open» at) as (λ _. 64 ≤ vec_capacity o.slots) [
-              | inl s ↦ subst (λ (z : Attached). 64 ≤ vec_capacity z.slots) (sym (here (row_at rows g).«open» o s q)) (room g p l e s)
-              | inr s ↦ f.room g o p l e (there (row_at rows g).«open» o s q)
+        room = λ i o l q.
+            elim (ways i at) as (λ _. IsRoomy (locks_on rows i) o.locks (vec_capacity o.slots)) [
+              | inl s ↦ subst (λ (z : Attached). IsRoomy (locks_on rows i) z.locks (vec_capacity z.slots)) (sym (here i o s q))
+                  (subst (λ x. IsRoomy (locks_on rows x) own.locks (vec_capacity own.slots)) (sym s) room)
+              | inr s ↦ f.room i o (within i l) (there i o s q)
             ];
         bounded = λ i o l q.
             elim (ways i at) as (λ _. (length o.slots.items ≤ 64)

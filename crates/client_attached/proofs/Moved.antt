@@ -1,12 +1,13 @@
 -- Rows change, and stay on their opens.
-use Rattle.std.proofs.Common.{ℕ, ◌<◌, ◌≤◌, Bool, List, length, Option, ap, sym, ◌∙◌, subst}
+use Rattle.std.proofs.Common.{ℕ, ◌<◌, ◌≤◌, Bool, List, length, vec_capacity, Option, ap, sym, ◌∙◌, subst}
 use Rattle.operation_rows.specs.declared.row.Row.{Row}
 use Rattle.operation_rows.specs.Rows.{row_at}
 use Rattle.operation_rows.specs.Slots.{slot_at}
 use Rattle.client_choice.specs.declared.finding.Attached.{Attached}
 use Rattle.client_choice.specs.Shown.{IsAt}
 use Rattle.client_attached.specs.Places.{KeepsPlaces}
-use Rattle.client_attached.specs.Opens.{FitsOpens, HasSlots, ShowsSlotsOf}
+use Rattle.client_attached.specs.Opens.{FitsOpens, HasSlots, IsRoomy, ShowsSlotsOf}
+use Rattle.client_attached.proofs.Locks.{locks_moved}
 
 module _ (rows new : List Row) (attached : List Attached) (m : KeepsPlaces rows new) where
   within : (g : ℕ) → g < length new → g < length rows
@@ -25,7 +26,7 @@ module _ (rows new : List Row) (attached : List Attached) (m : KeepsPlaces rows 
               λ e. m.create g ∙ w.1 (sym (m.opens g) ∙ e ∙ m.opens h) ∙ sym (m.create h),
             )
             );
-        room = λ g o p l e q. f.room g o p (within g l) (sym (m.kinds g) ∙ e) (there g o q);
+        room = λ i o l q. subst (λ n. IsRoomy n o.locks (vec_capacity o.slots)) (sym (locks_moved rows new m i)) (f.room i o l q);
         bounded = λ i o l q. (
           (f.bounded i o l q).0,
           λ p k. subst (λ n. (slot_at o.slots.items p).user < n) (sym m.count) ((f.bounded i o l q).1 p k),

@@ -1,3 +1,4 @@
 pub mod Known
+pub mod Locks
 pub mod Opens
 pub mod Places

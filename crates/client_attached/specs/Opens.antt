@@ -1,14 +1,14 @@
 -- What a push looks at of each open, tied to the columns of the model's client. No session has to be live: before the first one there are
 -- opens too, of creates that were taken and didn't go out yet.
-use Rattle.std.specs.Prelude.{◌≡◌, ℕ, ◌+◌, ◌<◌, ◌≤◌, Bool, false, List, length, vec_capacity, Option, None, Some}
+use Rattle.std.specs.Prelude.{◌≡◌, ℕ, ◌+◌, ◌<◌, ◌≤◌, Bool, false, List, length, vec_capacity, Option, None, Some, ◌⊎◌}
 use Rattle.exchange_defs.specs.Client.{Client}
 use Rattle.operation_rows.specs.declared.row.Row.{Row}
 use Rattle.operation_rows.specs.declared.slots.Slot.{Slot}
-use Rattle.operation_values.specs.declared.shapes.Kind.TheVariants as kinds
-use Rattle.operation_rows.specs.Rows.{row_at, owner, kind}
+use Rattle.operation_rows.specs.Rows.{row_at, owner}
 use Rattle.operation_rows.specs.Slots.{slot_at}
 use Rattle.client_choice.specs.declared.finding.Attached.{Attached}
 use Rattle.client_choice.specs.Shown.{AreBounded, HaveOpens, IsAt}
+use Rattle.client_attached.specs.Locks.{locks_on}
 
 -- the lock slots of one open, counted from 1, by the model's columns of that open; those behind its slots were never used
 pub record HasSlots (slots : List Slot) (user : ℕ → Option ℕ) (retried : ℕ → ℕ) (full : ℕ → Bool) : Type 0 where
@@ -29,10 +29,15 @@ ArePaired rows = (g h : ℕ) → 0 < g → g < length rows → 0 < h → h < len
     → (owner rows g ≡ owner rows h → (row_at rows g).«open» ≡ (row_at rows h).«open»)
     × ((row_at rows g).«open» ≡ (row_at rows h).«open» → owner rows g ≡ owner rows h)
 
--- an open that has locks has room for each slot
+-- for n locks it has counted enough, and has room for as many slots as it counted
+pub record IsRoomy (n counted room : ℕ) : Type 0 where
+  pub enough : (64 ≤ counted) ⊎ (n ≤ counted)
+  pub within : counted ≤ room
+
+-- an open has room for a slot of each of its locks, or for all 64
 abbrev pub HaveRoom : List Row → List Attached → Type 0
-HaveRoom rows attached = (g : ℕ) (o : Attached) → 0 < g → g < length rows → kind rows g ≡ kinds.Lock
-    → IsAt attached (row_at rows g).«open» o → 64 ≤ vec_capacity o.slots
+HaveRoom rows attached = (i : ℕ) (o : Attached) → i < length attached → IsAt attached i o
+    → IsRoomy (locks_on rows i) o.locks (vec_capacity o.slots)
 
 -- what the opens keep among themselves and with the rows
 pub record FitsOpens (rows : List Row) (attached : List Attached) : Type 0 where

@@ -22,6 +22,8 @@ use watch_lists::Watchers;
 pub struct Attached {
     /// The number of the session in which it was opened or attached last.
     pub session: u32,
+    /// How many locks and unlocks came on it, up to 64; there is room for so many lock slots.
+    pub locks: u8,
     /// Its lock slots that were used, by slot from 1.
     pub slots: Vec<Slot>,
 }

@@ -42,7 +42,7 @@ no_place : (x : ℕ) → x < 0 → ⊥
 no_place x l = omega arith
 
 module _ (rows : List Row) (r : Row) (attached : List Attached) (a : Attached) (c_is : r.create ≡ length rows)
-    (o_is : r.«open» ≡ length attached) (plain : r.kind ≡ kinds.Lock → ⊥) (none : a.slots.items ≡ []) (new : a.session ≡ 0)
+    (o_is : r.«open» ≡ length attached) (plain : r.kind ≡ kinds.Lock → ⊥) (none : a.slots.items ≡ []) (new : a.session ≡ 0) (fresh : a.locks ≡ 0)
     (owned : (g : ℕ) → 0 < g → g < length rows → owner rows g < length rows) (f : FitsOpens rows attached) where
   abbrev more : List Attached
   more = attached ++ a ∷ []
@@ -61,7 +61,7 @@ module _ (rows : List Row) (r : Row) (attached : List Attached) (a : Attached) (
   it o h = at_last attached a r.«open» o o_is h
 
   pub fits_one : FitsOpens (rows ++ r ∷ []) more
-  fits_one = fits_grown rows r more placed pair (λ o k h. absurd (plain k)) (fits_more attached a rows none f)
+  fits_one = fits_grown rows r more placed pair (λ o k h. absurd (plain k)) (fits_more attached a rows none fresh f)
 
   pub shown_one : (c : Client) → ShowsAttached rows attached c → ShowsAttached (rows ++ r ∷ []) more c
   shown_one c s =

@@ -126,6 +126,7 @@ pub fn take_first(
     take_alone(table, &mut mark, open, kind)?;
     attached.push_reserved(Attached {
         session: 0,
+        locks: 0,
         slots: Vec::new(alloc),
     });
     opened.push_reserved(Opened {

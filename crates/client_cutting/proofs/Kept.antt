@@ -24,7 +24,7 @@ end_shown was z rows new holders prices after watchers watching ops old settled 
       values = v;
       order = s.order;
       refusals = s.refusals;
-      bounds = record { attached = s.bounds.attached; counted = λ q. absurd (cc); limits = s.bounds.limits; slotted = s.bounds.slotted };
+      bounds = record { attached = s.bounds.attached; counted = λ q. absurd (cc); limits = s.bounds.limits; slotted = s.bounds.slotted; users = s.bounds.users };
     }
 
 -- the session alone is written anew, and shows what it did

@@ -283,7 +283,7 @@ table_alike z rows holders prices watchers ops settled order dialogs c old new e
       };
       order = s.order;
       refusals = s.refusals;
-      bounds = record { attached = s.bounds.attached; counted = s.bounds.counted; limits = s.bounds.limits; slotted = s.bounds.slotted };
+      bounds = record { attached = s.bounds.attached; counted = s.bounds.counted; limits = s.bounds.limits; slotted = s.bounds.slotted; users = s.bounds.users };
     }
 
 -- the client with its own outcomes
@@ -310,7 +310,7 @@ table_itself z rows holders prices watchers ops settled order dialogs c s =
       values = s.values;
       order = s.order;
       refusals = s.refusals;
-      bounds = record { attached = s.bounds.attached; counted = s.bounds.counted; limits = s.bounds.limits; slotted = s.bounds.slotted };
+      bounds = record { attached = s.bounds.attached; counted = s.bounds.counted; limits = s.bounds.limits; slotted = s.bounds.slotted; users = s.bounds.users };
     }
 
 pub last_row : (taken m n : ℕ) → ((g : ℕ) → 0 < g → g ≤ taken → g < m) → m ≤ n → 0 < n → taken < n

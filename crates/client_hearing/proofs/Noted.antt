@@ -121,6 +121,7 @@ table_settled z rows holders prices watchers ops values order dialogs n g place 
         counted = s.bounds.counted;
         limits = s.bounds.limits;
         slotted = s.bounds.slotted;
+        users = s.bounds.users;
       };
     }
 

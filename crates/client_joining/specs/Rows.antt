@@ -26,5 +26,4 @@ fresh_row shape cost create open_at unsettled =
       change = 0;
       filled = 0;
       dear = 0;
-      below = 0;
     }

@@ -31,6 +31,5 @@ pub fn new_row(shape: &Shape, cost: u8, create: u32, open: u32, unsettled: bool)
         change: 0,
         filled: 0,
         dear: 0,
-        below: 0,
     }
 }

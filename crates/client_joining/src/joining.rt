@@ -11,6 +11,7 @@ ghost use Rattle.client_marks.specs.Marks.{AreBelow, is_lock_kind};
 ghost use Rattle.client_opens.specs.declared.opening.Open.{Open as Kept};
 ghost use Rattle.client_opens.specs.Opened.{AreTopped};
 ghost use Rattle.client_outcomes.specs.declared.outcome.Outcome.TheVariants as outcomes;
+ghost use Rattle.client_attached.specs.Opens.{IsRoomy};
 ghost use Rattle.client_table.specs.Shown.{Fits, ShowsTable};
 ghost use Rattle.client_taking.specs.Taken.{HasRooms};
 ghost use Rattle.client_joining.specs.Joined.{Joins};
@@ -24,6 +25,7 @@ use client_opens::Open;
 use client_outcomes::{Outcome, Why};
 use client_table::Table;
 use client_taking::take_row;
+use operation_rows::Slot;
 use operation_values::{Kind, OpKind, Shape};
 use std::alloc::AllocError;
 
@@ -36,17 +38,34 @@ fn is_lock(kind: Kind) -> bool
     }
 }
 
-/// An open that has locks has room for each of its 64 slots, so that no push takes memory (MS-SMB2 3.2.1.4).
+/// Room for so many lock slots in all.
+fn make_room(slots: &mut Vec<Slot>, count: u8) -> Result<(), AllocError>
+    ensures items { slots.new.items ≡ slots.old.items }
+    ensures capacity { vec_capacity slots.old ≤ vec_capacity slots.new }
+    ensures room { OnOk result (count ≤ vec_capacity slots.new) }
+{
+    let used = slots.len();
+    slots.reserve((count as usize).saturating_sub(used))
+}
+
+/// An open has room for a slot of each lock that came on it, up to its 64 slots, so that no push takes memory (MS-SMB2 3.2.1.4).
 fn make_slots(own: &mut Attached, locks: bool) -> Result<(), AllocError>
     ensures session { own.new.session ≡ own.old.session }
     ensures slots { own.new.slots.items ≡ own.old.slots.items }
-    ensures capacity { vec_capacity own.old.slots ≤ vec_capacity own.new.slots }
-    ensures room { OnOk result (locks ≡ true → 64 ≤ vec_capacity own.new.slots) }
+    ensures room { (n : ℕ) → IsRoomy n own.old.locks (vec_capacity own.old.slots) → IsRoomy n own.new.locks (vec_capacity own.new.slots) }
+    ensures more { OnOk result (locks ≡ true → (n : ℕ) → IsRoomy n own.old.locks (vec_capacity own.old.slots)
+        → IsRoomy (n + 1) own.new.locks (vec_capacity own.new.slots)) }
 {
     if !locks {
         return Ok(());
     }
-    own.slots.reserve(64)
+    let counted = own.locks;
+    if counted >= 64 {
+        return Ok(());
+    }
+    make_room(&mut own.slots, counted + 1)?;
+    own.locks = counted + 1;
+    Ok(())
 }
 
 /// What an operation costs at first: its charge where its open is attached, and one credit where that has to be asked for (MS-SMB2
@@ -94,9 +113,10 @@ pub fn take_onto(
     requires topped { AreTopped (top mark.old.written) (top mark.old.locked) (length table.old.rows.items) }
     ensures session { own.new.session ≡ own.old.session }
     ensures slots { own.new.slots.items ≡ own.old.slots.items }
-    ensures capacity { vec_capacity own.old.slots ≤ vec_capacity own.new.slots }
+    ensures room { (n : ℕ) → IsRoomy n own.old.locks (vec_capacity own.old.slots) → IsRoomy n own.new.locks (vec_capacity own.new.slots) }
     ensures row { OnOk result (IsMore table.old.rows.items table.new.rows.items create «open» (kind_of (op_of kind))) }
-    ensures locks { OnOk result (kind_of (op_of kind) ≡ kinds.Lock → 64 ≤ vec_capacity own.new.slots) }
+    ensures locks { OnOk result (kind_of (op_of kind) ≡ kinds.Lock → (n : ℕ) → IsRoomy n own.old.locks (vec_capacity own.old.slots)
+        → IsRoomy (n + 1) own.new.locks (vec_capacity own.new.slots)) }
     ensures below { OnOk result (AreBelow mark.new.marks (length table.old.rows.items + 1)) }
     ensures topped { OnOk result (AreTopped (top mark.new.written) (top mark.new.locked) (length table.old.rows.items + 1)) }
     ensures tops { OnErr result (AreTopped (top mark.new.written) (top mark.new.locked) (length table.old.rows.items)) }

@@ -77,6 +77,7 @@ joined_shown z rows new holders prices after watchers ops settled order dialogs 
         counted = s.bounds.counted;
         limits = s.bounds.limits;
         slotted = s.bounds.slotted;
+        users = s.bounds.users;
       };
     }
 

@@ -94,5 +94,6 @@ table_beside z rows holders prices watchers ops settled order dialogs c file clo
         counted = s.bounds.counted;
         limits = s.bounds.limits;
         slotted = s.bounds.slotted;
+        users = s.bounds.users;
       };
     }

@@ -33,6 +33,7 @@ fn attach_rows(table: &mut Table, last: u32)
 fn renumber(own: &mut Attached, number: u32)
     ensures session { own.new.session ≡ number }
     ensures slots { own.new.slots.items ≡ own.old.slots.items }
+    ensures locks { own.new.locks ≡ own.old.locks }
     ensures room { vec_capacity own.new.slots ≡ vec_capacity own.old.slots }
 {
     own.session = number;

@@ -43,6 +43,7 @@ fn is_used(own: &Attached, slot: u8) -> bool
 /// A slot isn't taken again, where it is one of those that were used.
 fn fill_own(own: &mut Attached, slot: u8)
     ensures session { own.new.session ≡ own.old.session }
+    ensures locks { own.new.locks ≡ own.old.locks }
     ensures room { vec_capacity own.new.slots ≡ vec_capacity own.old.slots }
     ensures count { length own.new.slots.items ≡ length own.old.slots.items }
     ensures users { (place : ℕ) → (slot_at own.new.slots.items place).user ≡ (slot_at own.old.slots.items place).user }

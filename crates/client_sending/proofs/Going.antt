@@ -7,7 +7,6 @@ use Rattle.exchange_defs.specs.Client.{Client, asked, begun, create_for, goes_it
 use Rattle.exchange_defs.specs.ClientStep.{itself_after, op_after}
 use Rattle.client_law.proofs.Chosen.{and_left, is_positive}
 use Rattle.operation_values.specs.declared.shapes.Kind.{Kind}
-use Rattle.operation_values.specs.declared.shapes.Kind.TheVariants as kinds
 use Rattle.operation_values.specs.declared.values.OpKind.{OpKind}
 use Rattle.operation_rows.specs.declared.row.Row.{Row}
 use Rattle.operation_rows.specs.declared.slots.Slot.{Slot}
@@ -82,14 +81,15 @@ none_is_none o e f = absurd (cc)
 
 pub has_slot_so : (c : Client) (g slot : ℕ) (slots : List Slot) → 0 < g → g ≤ c.taken → is_lock (c.op g) ≡ true → Bounds c
     → HasSlots slots (c.slot_user (create_for c g)) (c.retried (create_for c g)) (c.full (create_for c g))
-    → has_its_slot c g slot ≡ true → HasSlot c g slot (length slots)
-has_slot_so c g slot slots p l lock b h has =
+    → has_its_slot c g slot ≡ true → (room : ℕ) → (c.sent g ≡ false → length slots < slot → length slots < room)
+    → HasSlot c g slot (length slots) room
+has_slot_so c g slot slots p l lock b h has room finds =
     record {
       first = λ e. (
           let needs : needs_slot c g ≡ true = needs_by (is_lock (c.op g)) (c.sent g) lock e in
           let free : is_free c (create_for c g) slot ≡ true =
           free_by (needs_slot c g) (is_free c (create_for c g) slot) needs has in
-          is_positive slot (and_left (nat_lt 0 slot) (nat_le slot 64) (and_left (nat_lt 0 slot && nat_le slot 64) _ free))
+          (is_positive slot (and_left (nat_lt 0 slot) (nat_le slot 64) (and_left (nat_lt 0 slot && nat_le slot 64) _ free)), finds e)
           );
       again = λ e. (
           let w = b.slotted g p l e lock in
@@ -105,17 +105,6 @@ has_slot_so c g slot slots p l lock b h has =
 
 pub not_among : (x n : ℕ) → (nat_lt 0 x && nat_le x n) ≡ false → 0 < x → x ≤ n → ⊥
 not_among x n e p l = grind arith
-
-pub lock_is : (k : Kind) → is_lock_kind k ≡ true → k ≡ kinds.Lock
-lock_is kinds.Create e = absurd (cc)
-lock_is kinds.Write e = absurd (cc)
-lock_is kinds.Read e = absurd (cc)
-lock_is kinds.End e = absurd (cc)
-lock_is kinds.Change e = absurd (cc)
-lock_is kinds.Lock e = refl
-lock_is kinds.Look e = absurd (cc)
-lock_is kinds.List e = absurd (cc)
-lock_is kinds.Close e = absurd (cc)
 
 -- nothing changes
 pub keeps_none : (rows : List Row) (x : ℕ) → KeepsRow rows rows x

@@ -1,5 +1,5 @@
 // A lock goes out itself.
-ghost use Rattle.std.specs.Prelude.{◌≡◌, ℕ, ◌+◌, ◌<◌, ◌≤◌, ◌&&◌, nat_le, nat_lt, true, length, vec_len, vec_capacity};
+ghost use Rattle.std.specs.Prelude.{◌≡◌, ℕ, ◌+◌, ◌<◌, ◌≤◌, ◌&&◌, ◌||◌, nat_le, nat_lt, true, length, vec_capacity};
 ghost use Rattle.exchange_defs.specs.Operations.{is_lock};
 ghost use Rattle.exchange_defs.specs.Client.{Client, begun, create_for, outstanding};
 ghost use Rattle.operation_rows.specs.Rows.{row_at};
@@ -30,13 +30,28 @@ fn has_slot(table: &Table, slots: &Vec<Slot>, index: usize) -> bool
     0 < slot && slot as usize <= slots.len()
 }
 
-/// A lock goes out itself: for the first time, with a slot, or again with the one that it took. Where it has none it stays.
+/// Whether a slot was used, or there is room for the one behind those.
+fn has_room(slots: &Vec<Slot>, slot: u8) -> bool
+    ensures { result ≡ (nat_le slot (length slots.now.items) || nat_lt (length slots.now.items) (vec_capacity slots.now)) }
+{
+    slot as usize <= slots.len() || slots.len() < slots.capacity()
+}
+
+/// Whether a slot may be taken.
+fn may_take(slots: &Vec<Slot>, slot: u8) -> bool
+    ensures { result ≡ (nat_lt 0 slot
+        && (nat_le slot (length slots.now.items) || nat_lt (length slots.now.items) (vec_capacity slots.now))) }
+{
+    0 < slot && has_room(slots, slot)
+}
+
+/// A lock goes out itself: for the first time, with a slot for which there is room, or again with the one that it took. Where it has none
+/// it stays.
 pub fn send_locking(table: &mut Table, slots: &mut Vec<Slot>, index: usize, slot: u8, channel: u8)
     requires fits { Fits table.old }
     requires within { index < length table.old.rows.items }
     requires users { HaveRows table.old.rows.items slots.old.items }
     requires slot { slot ≤ length slots.old.items + 1 }
-    requires room { length slots.old.items < slot → vec_len slots.old < vec_capacity slots.old }
     ensures fits { Fits table.new }
     ensures session { table.new.session ≡ table.old.session }
     ensures place { KeepsRow table.old.rows.items table.new.rows.items index }
@@ -46,7 +61,7 @@ pub fn send_locking(table: &mut Table, slots: &mut Vec<Slot>, index: usize, slot
     ensures capacity { vec_capacity slots.new ≡ vec_capacity slots.old }
     ensures shown { (c : Client) → ShowsTable table.old c
         → ShowsSlots table.old.rows.items slots.old.items c.session_number c (create_for c index) → 0 < index
-        → is_lock (c.op index) ≡ true → HasSlot c index slot (length slots.old.items)
+        → is_lock (c.op index) ≡ true → HasSlot c index slot (length slots.old.items) (vec_capacity slots.old)
         → ShowsTable table.new (outstanding (begun c index slot) channel index)
         × ShowsSlots table.new.rows.items slots.new.items c.session_number (outstanding (begun c index slot) channel index)
         (create_for c index) }
@@ -57,7 +72,7 @@ pub fn send_locking(table: &mut Table, slots: &mut Vec<Slot>, index: usize, slot
         }
         return;
     }
-    if slot > 0 {
+    if may_take(slots, slot) {
         send_lock_at(table, slots, index, slot, channel);
     }
 }

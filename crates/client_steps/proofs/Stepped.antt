@@ -78,5 +78,6 @@ module _ (rows new : List Row) (x : ℕ) (k : KeepsRow rows new x) where
           limits = λ g p l. subst (λ (o : ℕ → Op). keeps_limits (o g) ≡ true) (sym r.op)
               (s.bounds.limits g p (subst (λ n. g ≤ n) r.taken l));
           slotted = r.slotted s.bounds.slotted;
+          users = r.users s.bounds.users;
         };
       }

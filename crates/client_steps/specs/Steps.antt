@@ -1,5 +1,5 @@
 -- What a step of one operation leaves of the client: all but how it goes out, and its open's slots.
-use Rattle.std.specs.Prelude.{◌≡◌, ℕ, ◌<◌, ◌≤◌, true, is_some}
+use Rattle.std.specs.Prelude.{◌≡◌, ℕ, ◌<◌, ◌≤◌, true, Some, is_some}
 use Rattle.exchange_defs.specs.Operations.{is_lock}
 use Rattle.exchange_defs.specs.Client.{Client, create_for}
 
@@ -7,6 +7,11 @@ use Rattle.exchange_defs.specs.Client.{Client, create_for}
 abbrev pub AreSlotted : Client → Type 0
 AreSlotted c = (g : ℕ) → 0 < g → g ≤ c.taken → c.sent g ≡ true → is_lock (c.op g) ≡ true
     → (0 < c.slot_of g) × (is_some (c.slot_user (create_for c g) (c.slot_of g)) ≡ true)
+
+-- a slot's last user is a lock of its open, which went out with that slot
+abbrev pub HaveTaken : Client → Type 0
+HaveTaken c = (x i g : ℕ) → c.slot_user x i ≡ Some g
+    → (is_lock (c.op g) ≡ true) × (create_for c g ≡ x) × (c.slot_of g ≡ i) × (c.sent g ≡ true)
 
 pub record KeepsRest (c d : Client) : Type 0 where
   pub taken : d.taken ≡ c.taken
@@ -23,3 +28,4 @@ pub record KeepsRest (c d : Client) : Type 0 where
   pub channels : d.channels ≡ c.channels
   pub ready : (k : ℕ) → d.ready k ≡ c.ready k
   pub slotted : AreSlotted c → AreSlotted d
+  pub users : HaveTaken c → HaveTaken d

@@ -19,7 +19,8 @@ use Rattle.client_choice.specs.Shown.{IsAt}
 use Rattle.client_opens.specs.declared.opening.Open.{Open}
 use Rattle.client_attached.specs.declared.opened.Opened.{Opened}
 use Rattle.client_attached.specs.Known.{IsKnownAt, ShowsOpened}
-use Rattle.client_attached.specs.Opens.{FitsOpens, HasSlots, HaveUsers, ShowsAttached}
+use Rattle.client_attached.specs.Locks.{locks_on}
+use Rattle.client_attached.specs.Opens.{FitsOpens, HasSlots, HaveUsers, IsRoomy, ShowsAttached}
 use Rattle.client_attached.proofs.Changed.{fits_set, shown_set}
 use Rattle.client_joining.specs.Keeping.{Keeps}
 use Rattle.client_submitting.specs.Marked.{FitsMarks, IsBounded, IsMarkedAt, ShowsMarks}
@@ -29,22 +30,19 @@ use Rattle.client_submitting.proofs.Marks.{Reads, keeps_grown, marked_grown, rea
 ways : (x y : ℕ) → (x ≡ y) ⊎ (x ≡ y → ⊥)
 ways x y = grind arith
 
-no_less : (a b : ℕ) → 64 ≤ a → a ≤ b → 64 ≤ b
-no_less a b l h = omega arith
-
 -- the open of a create, by its row
 module _ (rows : List Row) (attached : List Attached) (create at : ℕ) (own after : Attached) (p : 0 < create) (l : create < length rows)
     (q : at ≡ (row_at rows create).«open») (is : IsAt attached at own) (f : FitsOpens rows attached)
     (same_session : after.session ≡ own.session) (same_slots : after.slots.items ≡ own.slots.items)
-    (no_fewer : vec_capacity own.slots ≤ vec_capacity after.slots) where
+    (roomy : IsRoomy (locks_on rows at) own.locks (vec_capacity own.slots)
+    → IsRoomy (locks_on rows at) after.locks (vec_capacity after.slots)) where
   pub inside : at < length attached
   inside = subst (λ x. x < length attached) (sym q) (f.opens create p l)
 
   pub fits_like : FitsOpens rows (set attached at after)
   fits_like =
       fits_set attached at after inside rows f
-      (λ g a b e o. no_less (vec_capacity own.slots) (vec_capacity after.slots)
-      (f.room g own a b e (subst (λ x. IsAt attached x own) (sym o) is)) no_fewer)
+      (roomy (f.room at own inside is))
       (subst (λ (xs : List Slot). length xs ≤ 64) (sym same_slots) (f.bounded at own inside is).0)
       (subst (λ (xs : List Slot). HaveUsers rows xs) (sym same_slots) (f.users at own inside is))
 
@@ -84,7 +82,8 @@ module _ (rows : List Row) (r : Row) (attached : List Attached) (create at : ℕ
   at_create : (o : Attached) → IsAt attached r.«open» o → IsAt attached (row_at rows create).«open» o
   at_create o h = subst (λ x. IsAt attached x o) (o_is ∙ q) h
 
-  pub fits_more : ((o : Attached) → r.kind ≡ kinds.Lock → IsAt attached r.«open» o → 64 ≤ vec_capacity o.slots)
+  pub fits_more : ((o : Attached) → r.kind ≡ kinds.Lock → IsAt attached r.«open» o
+      → IsRoomy (locks_on rows r.«open» + 1) o.locks (vec_capacity o.slots))
       → FitsOpens (rows ++ r ∷ []) attached
   fits_more room = fits_grown rows r attached placed pair room f
 

@@ -1,20 +1,25 @@
 -- One row more: what holds of each row and of the new one holds of all.
-use Rattle.std.proofs.Common.{◌≡◌, ℕ, ◌+◌, ◌<◌, ◌≤◌, Bool, List, [], ◌∷◌, ◌++◌, length, Option, vec_capacity}
+use Rattle.std.proofs.Common.{◌≡◌, ℕ, ◌+◌, ◌<◌, ◌≤◌, ◌==◌, ◌&&◌, Bool, true, false, List, [], ◌∷◌, ◌++◌, length, Option, vec_capacity}
 use Rattle.std.proofs.Common.{refl, ap, sym, ◌∙◌, subst, arith, ◌⊎◌, inl, inr}
 use Rattle.std.proofs.lemmas.List.{length_push}
 use Rattle.exchange_defs.specs.Table.{put}
 use Rattle.exchange_defs.specs.Operations.{Op, persists}
+use Rattle.client_law.proofs.Chosen.{and_left, and_right}
 use Rattle.operation_values.specs.declared.shapes.Kind.TheVariants as kinds
 use Rattle.operation_rows.specs.declared.row.Row.{Row}
 use Rattle.operation_rows.specs.Rows.{row_at, owner}
 use Rattle.operation_rows.specs.Slots.{slot_at}
 use Rattle.operation_rows.proofs.Adding.{at_new, at_old}
 use Rattle.operation_rows.proofs.Walking.{put_off}
+use Rattle.client_marks.specs.Marks.{is_lock_kind}
 use Rattle.client_choice.specs.declared.finding.Attached.{Attached}
 use Rattle.client_choice.specs.Shown.{IsAt}
 use Rattle.client_attached.specs.declared.opened.Opened.{Opened}
 use Rattle.client_attached.specs.Known.{IsKnownAt, ShowsKnown}
-use Rattle.client_attached.specs.Opens.{FitsOpens, HasSlots, ShowsSlotsOf}
+use Rattle.client_attached.specs.Locks.{locks_on}
+use Rattle.client_attached.specs.Opens.{FitsOpens, HasSlots, HaveRoom, IsRoomy, ShowsSlotsOf}
+use Rattle.client_attached.proofs.Locks.{lock_is, locks_grown, locks_same}
+use Rattle.client_attached.proofs.Roomy.{roomy_less}
 
 ways : (x y : ℕ) → (x ≡ y) ⊎ (x ≡ y → ⊥)
 ways x y = grind arith
@@ -24,6 +29,12 @@ before_last g n m l e q = omega arith
 
 higher : (x n m : ℕ) → x < n → m ≡ n + 1 → x < m
 higher x n m l e = omega arith
+
+least : (x : ℕ) → x ≤ x
+least x = omega arith
+
+is_same : (x y : ℕ) → (x == y) ≡ true → x ≡ y
+is_same x y e = grind arith
 
 fewer : (x n m : ℕ) → m ≤ x → m ≡ n + 1 → n ≤ x
 fewer x n m l e = omega arith
@@ -50,9 +61,24 @@ module _ (rows : List Row) (r : Row) where
         | inr e ↦ subst (λ (w : Row). P w) (sym (at_old rows r g e)) (old g p (before_last g (length rows) (length grown) l grown_count e))
       ]
 
+  room_grown : (attached : List Attached)
+      → ((o : Attached) → r.kind ≡ kinds.Lock → IsAt attached r.«open» o → IsRoomy (locks_on rows r.«open» + 1) o.locks (vec_capacity o.slots))
+      → HaveRoom rows attached → (i : ℕ) (o : Attached) → i < length attached → IsAt attached i o
+      → IsRoomy (locks_on grown i) o.locks (vec_capacity o.slots)
+  room_grown attached room old i o l q = by_test (is_lock_kind r.kind && (r.«open» == i)) refl
+    where
+      by_test : (b : Bool) → (is_lock_kind r.kind && (r.«open» == i)) ≡ b → IsRoomy (locks_on grown i) o.locks (vec_capacity o.slots)
+      by_test true e =
+          let at : r.«open» ≡ i = is_same r.«open» i (and_right (is_lock_kind r.kind) (r.«open» == i) e) in
+          roomy_less (locks_on rows i + 1) (locks_on grown i) o.locks (vec_capacity o.slots) (vec_capacity o.slots) (locks_grown rows r i e)
+          (least (vec_capacity o.slots))
+          (subst (λ x. IsRoomy (locks_on rows x + 1) o.locks (vec_capacity o.slots)) at
+          (room o (lock_is r.kind (and_left (is_lock_kind r.kind) (r.«open» == i) e)) (subst (λ x. IsAt attached x o) (sym at) q)))
+      by_test false e = subst (λ n. IsRoomy n o.locks (vec_capacity o.slots)) (sym (locks_same rows r i e)) (old i o l q)
+
   pub fits_grown : (attached : List Attached) → r.«open» < length attached
       → ((g : ℕ) → 0 < g → g < length rows → Pair r (row_at rows g))
-      → ((o : Attached) → r.kind ≡ kinds.Lock → IsAt attached r.«open» o → 64 ≤ vec_capacity o.slots)
+      → ((o : Attached) → r.kind ≡ kinds.Lock → IsAt attached r.«open» o → IsRoomy (locks_on rows r.«open» + 1) o.locks (vec_capacity o.slots))
       → FitsOpens rows attached → FitsOpens grown attached
   fits_grown attached inside pair room f =
       record {
@@ -61,8 +87,7 @@ module _ (rows : List Row) (r : Row) where
             (all_grown (λ v. Pair r v) (λ e. refl, λ e. refl) pair h q k)
             (λ x a b. all_grown (λ v. Pair (row_at rows x) v) (turned r (row_at rows x) (pair x a b))
             (λ y c d. f.paired x y a b c d) h q k) g p l;
-        room = λ g o p l e q. all_grown (λ w. (z : Attached) → w.kind ≡ kinds.Lock → IsAt attached w.«open» z → 64 ≤ vec_capacity z.slots)
-            room (λ x a b z. f.room x z a b) g p l o e q;
+        room = room_grown attached room f.room;
         bounded = λ i o l q. (
           (f.bounded i o l q).0,
           λ place k. higher (slot_at o.slots.items place).user (length rows) (length grown) ((f.bounded i o l q).1 place k) grown_count,

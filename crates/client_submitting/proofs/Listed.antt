@@ -1,5 +1,5 @@
 -- One open more, of which no row is yet.
-use Rattle.std.proofs.Common.{◌≡◌, ℕ, ◌+◌, ◌<◌, ◌≤◌, Bool, List, [], ◌∷◌, ◌++◌, length, get_or, Option}
+use Rattle.std.proofs.Common.{◌≡◌, ℕ, ◌+◌, ◌<◌, ◌≤◌, Bool, List, [], ◌∷◌, ◌++◌, length, get_or, vec_capacity, Option}
 use Rattle.std.proofs.Common.{ap, sym, ◌∙◌, subst, arith, ◌⊎◌, inl, inr}
 use Rattle.std.proofs.lemmas.Grind.{common_steps}
 use Rattle.std.proofs.lemmas.List.{length_push}
@@ -12,13 +12,19 @@ use Rattle.client_choice.specs.declared.finding.Attached.{Attached}
 use Rattle.client_choice.specs.Shown.{IsAt}
 use Rattle.client_attached.specs.declared.opened.Opened.{Opened}
 use Rattle.client_attached.specs.Known.{IsKnownAt, ShowsKnown}
-use Rattle.client_attached.specs.Opens.{FitsOpens, HaveUsers, ShowsSlotsOf}
+use Rattle.client_attached.specs.Locks.{locks_on}
+use Rattle.client_attached.specs.Opens.{FitsOpens, HaveUsers, IsRoomy, ShowsSlotsOf}
+use Rattle.client_attached.proofs.Locks.{locks_none}
+use Rattle.client_attached.proofs.Roomy.{roomy_none}
 
 ways : (x y : ℕ) → (x ≡ y) ⊎ (x ≡ y → ⊥)
 ways x y = grind arith
 
 before_last : (g n m : ℕ) → g < m → m ≡ n + 1 → (g ≡ n → ⊥) → g < n
 before_last g n m l e q = omega arith
+
+beyond : (x n i : ℕ) → x < n → i ≡ n → x ≡ i → ⊥
+beyond x n i l e q = omega arith
 
 higher : (x n m : ℕ) → x < n → m ≡ n + 1 → x < m
 higher x n m l e = omega arith
@@ -46,12 +52,21 @@ module _ (attached : List Attached) (a : Attached) where
   pub at_last : (i : ℕ) (o : Attached) → i ≡ length attached → IsAt more i o → o ≡ a
   at_last i o e q = q ∙ last_of attached a o i e
 
-  pub fits_more : (rows : List Row) → a.slots.items ≡ [] → FitsOpens rows attached → FitsOpens rows more
-  fits_more rows none f =
+  pub fits_more : (rows : List Row) → a.slots.items ≡ [] → a.locks ≡ 0 → FitsOpens rows attached → FitsOpens rows more
+  fits_more rows none fresh f =
       record {
         opens = λ g p l. higher (row_at rows g).«open» (length attached) (length more) (f.opens g p l) (length_push attached a);
         paired = f.paired;
-        room = λ g o p l e q. f.room g o p l e (at_front (row_at rows g).«open» o (f.opens g p l) q);
+        room = λ i o l q.
+            elim (ways i (length attached)) as (λ _. IsRoomy (locks_on rows i) o.locks (vec_capacity o.slots)) [
+              | inl e ↦ subst (λ n. IsRoomy n o.locks (vec_capacity o.slots))
+                  (sym (locks_none rows i (λ g p k h. beyond (row_at rows g).«open» (length attached) i (f.opens g p k) e h)))
+                  (roomy_none o.locks (vec_capacity o.slots) (ap (λ (z : Attached). z.locks) (at_last i o e q) ∙ fresh))
+              | inr e ↦ (
+                  let k = before_last i (length attached) (length more) l (length_push attached a) e in
+                  f.room i o k (at_front i o k q)
+                  )
+            ];
         bounded = λ i o l q.
             elim (ways i (length attached)) as (λ _. (length o.slots.items ≤ 64)
             × ((place : ℕ) → place < length o.slots.items → (slot_at o.slots.items place).user < length rows)) [

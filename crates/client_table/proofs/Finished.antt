@@ -117,5 +117,5 @@ finish_shown z rows new holders prices after watchers watching ops was settled o
       values = v;
       order = s.order;
       refusals = s.refusals;
-      bounds = record { attached = s.bounds.attached; counted = s.bounds.counted; limits = s.bounds.limits; slotted = s.bounds.slotted };
+      bounds = record { attached = s.bounds.attached; counted = s.bounds.counted; limits = s.bounds.limits; slotted = s.bounds.slotted; users = s.bounds.users };
     }

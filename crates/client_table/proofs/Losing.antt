@@ -103,7 +103,7 @@ module _ (rows new : List Row) (m : Loses rows new) where
         values = values_moved rows new ops settled c.taken c.op c.outcome m.unsettled s.values;
         order = s.order;
         refusals = s.refusals;
-        bounds = record { attached = s.bounds.attached; counted = s.bounds.counted; limits = s.bounds.limits; slotted = s.bounds.slotted };
+        bounds = record { attached = s.bounds.attached; counted = s.bounds.counted; limits = s.bounds.limits; slotted = s.bounds.slotted; users = s.bounds.users };
       }
 
 -- a list that was lent as a slice comes back as it was left

@@ -1,5 +1,5 @@
 -- A table without operations shows the client that begins.
-use Rattle.std.proofs.Common.{◌≡◌, ℕ, ◌-◌, ◌<◌, ◌≤◌, Bool, false, List, [], length, refl, ap, sym, subst, arith, inl}
+use Rattle.std.proofs.Common.{◌≡◌, ℕ, ◌-◌, ◌<◌, ◌≤◌, Bool, false, List, [], length, Option, Some, None, refl, ap, sym, subst, arith, inl}
 use Rattle.std.proofs.lemmas.List.{get_or_past}
 use Rattle.watch_lists.specs.declared.Link.{Link as Watch}
 use Rattle.watch_lists.specs.Listed.{no_link, watches}
@@ -137,6 +137,9 @@ fits_none out room f e =
       roomy = omega arith;
     }
 
+none_some : (o : Option ℕ) (g : ℕ) → o ≡ None → o ≡ Some g → ⊥
+none_some o g e f = absurd (cc)
+
 pub shown_none : (z : Session) (settings : Settings) → ShowsSession z (start settings).client
     → ShowsParts z [] [] [] [] [] [] [] [] (start settings).client
 shown_none z settings h =
@@ -156,6 +159,7 @@ shown_none z settings h =
         counted = λ q. absurd (cc);
         limits = λ g p l. absurd (taken_none p l);
         slotted = λ g p l. absurd (taken_none p l);
+        users = λ x i g e. absurd (none_some ((start settings).client.slot_user x i) g refl e);
       };
     }
 

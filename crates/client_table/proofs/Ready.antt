@@ -36,7 +36,7 @@ module _ (was z : Session) (rows : List Row) (holders prices : List ℕ) (watche
         values = s.values;
         order = s.order;
         refusals = s.refusals;
-        bounds = record { attached = s.bounds.attached; counted = s.bounds.counted; limits = s.bounds.limits; slotted = s.bounds.slotted };
+        bounds = record { attached = s.bounds.attached; counted = s.bounds.counted; limits = s.bounds.limits; slotted = s.bounds.slotted; users = s.bounds.users };
       }
 
   left_shown : (k : ℕ) → ShowsSession z (leave_dialog c k) → Behind (leave_dialog c k)
@@ -47,7 +47,7 @@ module _ (was z : Session) (rows : List Row) (holders prices : List ℕ) (watche
         values = s.values;
         order = s.order;
         refusals = s.refusals;
-        bounds = record { attached = s.bounds.attached; counted = s.bounds.counted; limits = s.bounds.limits; slotted = s.bounds.slotted };
+        bounds = record { attached = s.bounds.attached; counted = s.bounds.counted; limits = s.bounds.limits; slotted = s.bounds.slotted; users = s.bounds.users };
       }
 
   begun_shown : (k session tree : ℕ) → c.live ≡ false → ShowsSession z (begin_session c k session tree)
@@ -64,6 +64,7 @@ module _ (was z : Session) (rows : List Row) (holders prices : List ℕ) (watche
           counted = λ q. some c.session_number;
           limits = s.bounds.limits;
           slotted = s.bounds.slotted;
+          users = s.bounds.users;
         };
       }
 
@@ -112,7 +113,7 @@ module _ (z : Session) (rows : List Row) (holders prices : List ℕ) (watchers :
         values = s.values;
         order = s.order;
         refusals = refused_list old new c (record { connection = k; refusal = why }) e s.refusals;
-        bounds = record { attached = s.bounds.attached; counted = s.bounds.counted; limits = s.bounds.limits; slotted = s.bounds.slotted };
+        bounds = record { attached = s.bounds.attached; counted = s.bounds.counted; limits = s.bounds.limits; slotted = s.bounds.slotted; users = s.bounds.users };
       }
 
 -- where memory ran out

@@ -98,5 +98,5 @@ settled_shown z rows new holders prices after watchers watching ops was settled 
       values = v;
       order = e;
       refusals = s.refusals;
-      bounds = record { attached = s.bounds.attached; counted = s.bounds.counted; limits = s.bounds.limits; slotted = s.bounds.slotted };
+      bounds = record { attached = s.bounds.attached; counted = s.bounds.counted; limits = s.bounds.limits; slotted = s.bounds.slotted; users = s.bounds.users };
     }

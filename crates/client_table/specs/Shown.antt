@@ -1,7 +1,7 @@
 -- What a client's table shows of a client of the model: an equation for each column that it keeps. Free are the columns of opens (file,
 -- attached, closed_ok, slot_user, retried, full), those at which no step looks (settled_by, given_up), and those of dialogs (stage, making,
 -- pending, accepted, accepted_count, rank).
-use Rattle.std.specs.Prelude.{◌≡◌, ℕ, ◌+◌, ◌-◌, ◌<◌, ◌≤◌, true, if◌then◌else◌, List, length, map, vec_capacity, is_some, ◌⊎◌}
+use Rattle.std.specs.Prelude.{◌≡◌, ℕ, ◌+◌, ◌-◌, ◌<◌, ◌≤◌, true, if◌then◌else◌, List, length, map, vec_capacity, Some, is_some, ◌⊎◌}
 use Rattle.std.specs.List.{sum_by}
 use Rattle.watch_lists.specs.declared.Link.{Link as Watch}
 use Rattle.exchange_defs.specs.Operations.{is_lock, keeps_limits}
@@ -63,6 +63,9 @@ pub record Bounds (c : Client) : Type 0 where
   -- a lock that went out has a slot, which was used since
   pub slotted : (g : ℕ) → 0 < g → g ≤ c.taken → c.sent g ≡ true → is_lock (c.op g) ≡ true
       → (0 < c.slot_of g) × (is_some (c.slot_user (create_for c g) (c.slot_of g)) ≡ true)
+  -- a slot's last user is a lock of its open, which went out with that slot
+  pub users : (x i g : ℕ) → c.slot_user x i ≡ Some g
+      → (is_lock (c.op g) ≡ true) × (create_for c g ≡ x) × (c.slot_of g ≡ i) × (c.sent g ≡ true)
 
 pub record ShowsParts (z : Session) (lines : List Row) (holders prices : List ℕ) (watchers : List Watch) (ops : List OpKind)
     (settled : List Settled) (replies : List ℕ) (dialogs : List Refused) (c : Client) : Type 0 where

@@ -1,4 +1,5 @@
 // A client begins.
+ghost use Rattle.std.specs.Prelude.{◌≡◌, []};
 ghost use Rattle.exchange_defs.specs.Network.{Settings, start};
 ghost use Rattle.client_table.specs.Shown.{Fits, ShowsTable};
 
@@ -10,9 +11,10 @@ use std::alloc::Global;
 use watch_lists::Watchers;
 
 impl Table {
-    /// No operations, and no session. It takes no memory.
+    /// No operations, and no session; there is no row either. It takes no memory.
     pub fn new(alloc: Global) -> Table
         ensures fits { Fits result }
+        ensures rows { result.rows.items ≡ [] }
         ensures shown { (settings : Settings) → ShowsTable result (start settings).client }
     {
         Table {

@@ -196,6 +196,15 @@ module _ (rows : List Row) (r : Row) (c : Client) (op : Op) (next : length rows 
                   (w.0, ap (λ x. is_some (c.slot_user (create_of g x) (c.slot_of g))) q ∙ w.1)
                   )
             ];
+        users = λ x i g e. (
+            let u = b.users x i g e in
+            let q = put_off c.op (length rows) op g (λ h. no (c.sent g) u.3 (ap c.sent h ∙ unsent)) in (
+              ap (λ y. is_lock y) q ∙ u.0,
+              ap (λ y. create_of g y) q ∙ u.1,
+              u.2,
+              u.3,
+            )
+            );
       }
     where
       no : (b : Bool) → b ≡ true → b ≡ false → ⊥

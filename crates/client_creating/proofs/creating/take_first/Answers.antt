@@ -108,7 +108,7 @@ returns c =
     let new = c.take_alone.new.table in
     let mark = c.take_alone.new.mark in
     let was = c.new-mark.result in
-    let own : Attached = record { session = 0; slots = c.new.result } in
+    let own : Attached = record { session = 0; locks = 0; slots = c.new.result } in
     let known : Opened = record { persist = c.persists-persist.result; shut = false; file = 0 } in
     let attached_is : c.push_reserved.new.self.items ≡ attached ++ own ∷ [] = c.push_reserved.ensures.items
     ∙ ap (λ (xs : List Attached). xs ++ own ∷ []) m.attached in
@@ -136,9 +136,9 @@ returns c =
           (record {
             table = u.fits;
             opens = subst (λ (xs : List Row). FitsOpens xs (attached ++ own ∷ [])) (sym is)
-                (fits_one rows r attached own c_is o_is plain c.new.ensures.items refl owned all.opens);
+                (fits_one rows r attached own c_is o_is plain c.new.ensures.items refl refl owned all.opens);
             marked = subst (λ (xs : List Row). FitsMarks xs (marks ++ mark ∷ [])) (sym is)
-                (marks_one rows r attached own c_is o_is plain c.new.ensures.items refl owned all.opens marks mark all.counted all.marked
+                (marks_one rows r attached own c_is o_is plain c.new.ensures.items refl refl owned all.opens marks mark all.counted all.marked
                 (u.below, u.topped) u.last);
             known = many;
             counted = marked;
@@ -155,12 +155,12 @@ returns c =
           (record {
             table = w.0;
             attached = subst (λ (xs : List Row). ShowsAttached xs (attached ++ own ∷ []) d) (sym is)
-                (shown_one rows r attached own c_is o_is plain c.new.ensures.items refl owned all.opens d s.attached);
+                (shown_one rows r attached own c_is o_is plain c.new.ensures.items refl refl owned all.opens d s.attached);
             opened = subst (λ (xs : List Row). ShowsOpened xs (opened ++ known ∷ []) (take_op d (length rows) op)) (sym is)
-                (known_one rows r attached own c_is o_is plain c.new.ensures.items refl owned all.opens opened known d op all.known
+                (known_one rows r attached own c_is o_is plain c.new.ensures.items refl refl owned all.opens opened known d op all.known
                 (sym c.persists-persist.ensures) refl refl s.opened);
             marked = subst (λ (xs : List Row). ShowsMarks xs (marks ++ mark ∷ []) (put d.op (length rows) op)) (sym is)
-                (keeps_one rows r attached own c_is o_is plain c.new.ensures.items refl owned all.opens marks mark all.counted all.marked d op
+                (keeps_one rows r attached own c_is o_is plain c.new.ensures.items refl refl owned all.opens marks mark all.counted all.marked d op
                 (subst (λ (xs : List Row). Keeps xs (length rows + 1) (put d.op (length rows) op) (length rows) mark) is w.1)
                 (λ y z ne q. subst (λ (xs : List Row). Keeps xs (length rows + 1) (put d.op (length rows) op) y z) is
                 (u.others d y z ne q)) s.marked);

@@ -25,6 +25,9 @@ within x n l = omega arith
 pub of-shape-requires : goal.of-shape-requires
 of-shape-requires c = c.requires.limits
 
+pub returns-in_err-make_slots-clause-room : goal.returns-in_err-make_slots-clause-room
+returns-in_err-make_slots-clause-room c = c.make_slots.ensures.room
+
 pub returns-in_err-make_slots-clause-same : goal.returns-in_err-make_slots-clause-same
 returns-in_err-make_slots-clause-same c = on_err c.from_residual.result refl
 
@@ -99,7 +102,7 @@ returns c =
     record {
       session = m.session;
       slots = m.slots;
-      capacity = m.capacity;
+      room = m.room;
       row = ok_more c.take_row.result (λ q. (
         placed_row r (length t.holders.items) (length c.take_row.new.table.holders.items) c.args.mark.now.marks,
         q,
@@ -107,7 +110,7 @@ returns c =
         ap (λ (w : Row). w.«open») made,
         ap (λ (w : Row). w.kind) made ∙ sh.kind,
       )) e.row;
-      locks = on_ok c.take_row.result (λ k. c.in_ok-make_slots.ensures.room (c.is_lock.ensures ∙ ap (λ z. is_lock_kind z) (sh.kind ∙ k)));
+      locks = on_ok c.take_row.result (λ k. c.in_ok-make_slots.ensures.more (c.is_lock.ensures ∙ ap (λ z. is_lock_kind z) (sh.kind ∙ k)));
       below = e.below;
       topped = e.topped;
       tops = e.tops;

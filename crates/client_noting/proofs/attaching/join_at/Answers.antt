@@ -1,4 +1,4 @@
-use Rattle.std.proofs.Common.{◌≡◌, ℕ, ◌<◌, ◌≤◌, List, length, slice_index_or, sym, ap, ◌∙◌, subst}
+use Rattle.std.proofs.Common.{◌≡◌, ℕ, ◌<◌, ◌≤◌, List, length, slice_index_or, vec_capacity, sym, ap, ◌∙◌, subst}
 use Rattle.std.proofs.Math.ListN.{length-set}
 use Rattle.exchange_defs.specs.Table.{put}
 use Rattle.exchange_defs.specs.Client.{Client, create_for}
@@ -8,7 +8,8 @@ use Rattle.operation_rows.proofs.Walking.{put_at}
 use Rattle.client_choice.specs.declared.finding.Attached.{Attached}
 use Rattle.client_choice.specs.Shown.{IsAt}
 use Rattle.client_table.specs.Shown.{ShowsTable}
-use Rattle.client_attached.specs.Opens.{FitsOpens, HasSlots, HaveUsers, KeepsOthers}
+use Rattle.client_attached.specs.Locks.{locks_on}
+use Rattle.client_attached.specs.Opens.{FitsOpens, HasSlots, HaveUsers, IsRoomy, KeepsOthers}
 use Rattle.client_attached.specs.Places.{KeepsPlaces}
 use Rattle.client_attached.proofs.Changed.{fits_set, shown_set}
 use Rattle.client_attached.proofs.Kept.{places_step}
@@ -54,7 +55,8 @@ returns c =
     record {
       fits = e.fits;
       opens = fits_set attached at own2 inside new moved
-          (λ g p l k o. subst (λ n. 64 ≤ n) (sym q.room) (moved.room g own p l k (subst (λ (i : ℕ). IsAt attached i own) (sym o) is)))
+          (subst (λ n. IsRoomy (locks_on new at) n (vec_capacity own2.slots)) (sym q.locks)
+          (subst (λ n. IsRoomy (locks_on new at) own.locks n) (sym q.room) (moved.room at own inside is)))
           (subst (λ (xs : List Slot). length xs ≤ 64) (sym q.slots) (moved.bounded at own inside is).0)
           (subst (λ (xs : List Slot). HaveUsers new xs) (sym q.slots) (moved.users at own inside is));
       count = length-set attached at own2;

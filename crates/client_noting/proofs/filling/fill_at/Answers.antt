@@ -1,11 +1,12 @@
-use Rattle.std.proofs.Common.{◌≡◌, ℕ, ◌<◌, ◌≤◌, length, slice_index_or, sym, ap, ◌∙◌, subst}
+use Rattle.std.proofs.Common.{◌≡◌, ℕ, ◌<◌, ◌≤◌, length, slice_index_or, vec_capacity, sym, ap, ◌∙◌, subst}
 use Rattle.std.proofs.Math.ListN.{length-set}
 use Rattle.exchange_defs.specs.Client.{Client, create_for}
 use Rattle.operation_rows.specs.Rows.{row_at, owner}
 use Rattle.client_slots.specs.Shown.{ShowsSlots}
 use Rattle.client_choice.specs.declared.finding.Attached.{Attached}
 use Rattle.client_choice.specs.Shown.{IsAt}
-use Rattle.client_attached.specs.Opens.{HasSlots, KeepsOthers}
+use Rattle.client_attached.specs.Locks.{locks_on}
+use Rattle.client_attached.specs.Opens.{HasSlots, IsRoomy, KeepsOthers}
 use Rattle.client_attached.proofs.Changed.{fits_set, shown_set}
 use Rattle.client_attached.proofs.Slots.{slots_kept, slots_shown}
 use Rattle.client_noting.specs.Columns.{filled_now}
@@ -35,7 +36,8 @@ returns c =
     subst (λ i. i < length attached) (sym c.open_of-at.ensures) (f.opens x r.above r.within) in
     record {
       opens = fits_set attached at own2 inside rows f
-          (λ g p l k o. subst (λ n. 64 ≤ n) (sym q.room) (f.room g own p l k (subst (λ (i : ℕ). IsAt attached i own) (sym o) is)))
+          (subst (λ n. IsRoomy (locks_on rows at) n (vec_capacity own2.slots)) (sym q.locks)
+          (subst (λ n. IsRoomy (locks_on rows at) own.locks n) (sym q.room) (f.room at own inside is)))
           (subst (λ n. n ≤ 64) (sym q.count) (f.bounded at own inside is).0)
           (λ place l. (
           let w = f.users at own inside is place (subst (λ n. place < n) q.count l) in (

@@ -20,6 +20,7 @@ returns-then-is_used c =
     let e = c.fill_in.ensures in
     record {
       session = refl;
+      locks = refl;
       room = e.room;
       count = e.count;
       users = e.users;
@@ -33,6 +34,7 @@ returns-else-is_used c =
     let slots = c.args.own.now.slots.items in
     record {
       session = refl;
+      locks = refl;
       room = refl;
       count = refl;
       users = λ p. refl;

@@ -1,7 +1,9 @@
-use Rattle.std.proofs.Common.{◌≡◌, ◌<◌, ◌≤◌, ◌&&◌, nat_le, nat_lt, true, false, length, refl, sym, ◌∙◌, subst, arith}
+use Rattle.std.proofs.Common.{◌≡◌, ◌<◌, ◌≤◌, ◌&&◌, ◌||◌, nat_le, nat_lt, true, false, length, vec_len, vec_capacity, refl, sym, ◌∙◌, subst, arith}
+use Rattle.std.proofs.lemmas.Grind.{common_steps}
 use Rattle.client_law.proofs.Chosen.{and_left, and_right, is_at_most, is_positive}
 use Rattle.operation_rows.specs.Rows.{row_at}
 use Rattle.client_sending.proofs.Going.{keeps_none, not_among}
+use Rattle.client_sending.proofs.Room.{finds_room, no_room}
 use Rattle.client_sending.proofs.locking.send_locking.Goals as goal
 
 pub send_lock_again_at-requires : goal.send_lock_again_at-requires
@@ -64,10 +66,22 @@ returns-else-has_slot c =
 pub send_lock_at-requires : goal.send_lock_at-requires
 send_lock_at-requires c =
     let r = c.requires in
-    record { fits = r.fits; within = r.within; users = r.users; above = c.if-slot-gt0.true; slot = r.slot; room = r.room }
+    let slots = c.args.slots.now in
+    let x = c.args.slot in
+    let n = length slots.items in
+    let t : (nat_lt 0 x && (nat_le x n || nat_lt n (vec_capacity slots))) ≡ true = sym c.may_take.ensures ∙ c.if-may_take.true in
+    let found = finds_room x n (vec_capacity slots) (and_right (nat_lt 0 x) (nat_le x n || nat_lt n (vec_capacity slots)) t) in
+    record {
+      fits = r.fits;
+      within = r.within;
+      users = r.users;
+      above = is_positive x (and_left (nat_lt 0 x) (nat_le x n || nat_lt n (vec_capacity slots)) t);
+      slot = r.slot;
+      room = λ l. (let k : vec_len slots ≡ n = grind (arith, common_steps) in subst (λ y. y < vec_capacity slots) (sym k) (found l));
+    }
 
-pub returns-then-slot-gt0 : goal.returns-then-slot-gt0
-returns-then-slot-gt0 c =
+pub returns-then-may_take : goal.returns-then-may_take
+returns-then-may_take c =
     let e = c.send_lock_at.ensures in
     let x = c.args.index in
     record {
@@ -86,8 +100,8 @@ returns-then-slot-gt0 c =
           );
     }
 
-pub returns-else-slot-gt0 : goal.returns-else-slot-gt0
-returns-else-slot-gt0 c =
+pub returns-else-may_take : goal.returns-else-may_take
+returns-else-may_take c =
     let r = c.requires in
     let x = c.args.index in
     record {
@@ -101,7 +115,7 @@ returns-else-slot-gt0 c =
       shown = λ d s h p lock has. absurd (
           let sent : d.sent x ≡ false = s.rows.sends.sent_is x ∙ sym c.was_sent.ensures ∙ c.if-was_sent.false in
           let some = has.first sent in
-          let none = c.if-slot-gt0.false in
-          omega arith
+          no_room c.args.slot (length c.args.slots.now.items) (vec_capacity c.args.slots.now)
+          (sym c.may_take.ensures ∙ c.if-may_take.false) some.0 some.1
           );
     }

@@ -1,5 +1,4 @@
-use Rattle.std.proofs.Common.{◌≡◌, ℕ, ◌<◌, ◌≤◌, not, true, false, length, set, slice_index_or, vec_len, vec_capacity, sym, ap, ◌∙◌, subst, arith}
-use Rattle.std.proofs.lemmas.Grind.{common_steps}
+use Rattle.std.proofs.Common.{◌≡◌, ℕ, ◌<◌, ◌≤◌, not, true, false, length, set, slice_index_or, vec_capacity, sym, ap, ◌∙◌, subst}
 use Rattle.exchange_defs.specs.Operations.{is_lock}
 use Rattle.exchange_defs.specs.Client.{Client, begun, create_for, goes_itself, outstanding}
 use Rattle.operation_rows.specs.Rows.{row_at, owner}
@@ -7,7 +6,8 @@ use Rattle.client_slots.specs.Shown.{AreUsed, ShowsSlots}
 use Rattle.client_choice.specs.declared.finding.Attached.{Attached}
 use Rattle.client_choice.specs.Shown.{IsAt}
 use Rattle.client_table.specs.Shown.{ShowsTable}
-use Rattle.client_attached.specs.Opens.{FitsOpens, HasSlots, KeepsOthers, ShowsAttached}
+use Rattle.client_attached.specs.Locks.{locks_on}
+use Rattle.client_attached.specs.Opens.{FitsOpens, HasSlots, IsRoomy, KeepsOthers, ShowsAttached}
 use Rattle.client_attached.specs.Places.{KeepsPlaces}
 use Rattle.client_attached.proofs.Changed.{fits_set, shown_set}
 use Rattle.client_attached.proofs.Kept.{places_step}
@@ -15,7 +15,8 @@ use Rattle.client_attached.proofs.Known.{known_moved}
 use Rattle.client_attached.proofs.Moved.{fits_moved, shown_moved}
 use Rattle.client_attached.proofs.Slots.{slots_kept, slots_shown}
 use Rattle.client_sending.specs.Slotted.{HasSlot}
-use Rattle.client_sending.proofs.Going.{asks_after, has_slot_so, itself_at, lock_at, lock_is, sends_after}
+use Rattle.client_sending.proofs.Going.{asks_after, has_slot_so, itself_at, lock_at, sends_after}
+use Rattle.client_sending.proofs.Room.{slot_room}
 use Rattle.client_sending.proofs.Opened.{begun_attached, begun_others, known_after, plain_attached}
 use Rattle.client_sending.proofs.sending.send.Goals as goal
 
@@ -111,15 +112,11 @@ send_locking-requires c =
     subst (λ (y : ℕ). IsAt attached y own) c.open_of-at.ensures
     (ap (λ (z : Attached). slice_index_or attached c.open_of-at.result z) c.index-attached-at-2.is) in
     let inside = r.opens.opens x r.above r.within in
-    let kind = lock_is (row_at rows x).kind (sym c.is_lock.ensures ∙ c.if-not-is_lock.false) in
-    let cap = r.opens.room x own r.above r.within kind is in
-    let few = r.few in
     record {
       fits = r.fits;
       within = r.within;
       users = (r.opens.bounded (row_at rows x).«open» own inside is).1;
       slot = r.slot own is;
-      room = λ l. (let n : vec_len own.slots ≡ length own.slots.items = grind (arith, common_steps) in omega arith);
     }
 
 pub returns : goal.returns
@@ -138,7 +135,7 @@ returns c =
     let at = c.open_of-at.result in
     let own : Attached = slice_index_or attached c.open_of-at.result c.index-attached-at-2.result in
     let slots = c.send_locking.new.slots in
-    let own2 : Attached = record { session = own.session; slots = slots } in
+    let own2 : Attached = record { session = own.session; locks = own.locks; slots = slots } in
     let is : IsAt attached (row_at rows x).«open» own =
     subst (λ (y : ℕ). IsAt attached y own) c.open_of-at.ensures
     (ap (λ (z : Attached). slice_index_or attached c.open_of-at.result z) c.index-attached-at-2.is) in
@@ -148,14 +145,14 @@ returns c =
     (ap (λ (z : Attached). slice_index_or attached at z) c.index-attached-at.is) in
     let placed = f.opens x r.above r.within in
     let inside : at < length attached = subst (λ y. y < length attached) (sym c.open_of-at.ensures) placed in
-    let kind = lock_is (row_at rows x).kind (sym c.is_lock.ensures ∙ c.if-not-is_lock.false) in
-    let cap : 64 ≤ vec_capacity slots = subst (λ n. 64 ≤ n) (sym e.capacity) (f.room x own r.above r.within kind is) in
+    let here : IsAt attached at own = ap (λ (z : Attached). slice_index_or attached at z) c.index-attached-at-2.is in
     let used : AreUsed own.slots.items = (λ place l. (f.users (row_at rows x).«open» own placed is place l).0) in
     let m : KeepsPlaces rows new = places_step rows new x e.place in
     let moved : FitsOpens new attached = fits_moved rows new attached m f in
     record {
       fits = e.fits;
-      opens = fits_set attached at own2 inside new moved (λ g p l q o. cap)
+      opens = fits_set attached at own2 inside new moved
+          (subst (λ n. IsRoomy (locks_on new at) own.locks n) (sym e.capacity) (moved.room at own inside here))
           (e.most 64 r.few (f.bounded (row_at rows x).«open» own placed is).0)
           (λ place l. (e.positive r.above used place l, e.users place l));
       session = e.session;
@@ -174,8 +171,10 @@ returns c =
           let h : ShowsSlots rows own.slots.items d.session_number d (create_for d x) =
           slots_shown rows t.holders.items t.prices t.watchers own.slots.items d (create_for d x) s.rows
           (f.users (row_at rows x).«open» own placed is) had in
-          let slot : HasSlot d x i (length own.slots.items) =
-          has_slot_so d x i own.slots.items r.above taken lock s.bounds had (has goes) in
+          let slot : HasSlot d x i (length own.slots.items) (vec_capacity own.slots) =
+          has_slot_so d x i own.slots.items r.above taken lock s.bounds had (has goes) (vec_capacity own.slots)
+          (λ unsent. slot_room rows t.holders.items t.prices t.watchers attached d at x own s.rows s.bounds f r.above r.within
+          (sym c.open_of-at.ensures) lock unsent inside here had i r.few) in
           let w = e.shown d s h r.above lock slot in
           let d2 : Client = outstanding (begun d x i) k x in
           let create2 : create_for d x ≡ owner new x = create ∙ sym (e.place.create x) in

@@ -18,7 +18,8 @@ use Rattle.client_choice.specs.declared.finding.Attached.{Attached}
 use Rattle.client_choice.specs.Shown.{IsAt}
 use Rattle.client_opens.specs.declared.opening.Open.{Open}
 use Rattle.client_attached.specs.Known.{IsKnownAt, ShowsOpened}
-use Rattle.client_attached.specs.Opens.{FitsOpens, ShowsAttached}
+use Rattle.client_attached.specs.Locks.{locks_on}
+use Rattle.client_attached.specs.Opens.{FitsOpens, IsRoomy, ShowsAttached}
 use Rattle.client_taking.proofs.Roomed.{ok_more}
 use Rattle.client_joining.specs.Joined.{Joins}
 use Rattle.client_joining.specs.Keeping.{Keeps}
@@ -93,14 +94,14 @@ returns c =
     let new = c.take_onto.new.table in
     let attached2 : List Attached = set attached at own2 in
     let marks2 : List Open = set marks at mark2 in
-    let like : FitsOpens rows attached2 = fits_like rows attached x at own own2 p l q own_is a.opens e.session e.slots e.capacity in
-    let within_all : at < length attached = inside rows attached x at own own2 p l q own_is a.opens e.session e.slots e.capacity in
+    let like : FitsOpens rows attached2 = fits_like rows attached x at own own2 p l q own_is a.opens e.session e.slots (e.room (locks_on rows at)) in
+    let within_all : at < length attached = inside rows attached x at own own2 p l q own_is a.opens e.session e.slots (e.room (locks_on rows at)) in
     let same_known : length opened ≡ length attached2 = a.known ∙ sym (length-set attached at own2) in
     let same_marks : length marks2 ≡ length attached2 = length-set marks at mark2 ∙ a.counted ∙ sym (length-set attached at own2) in
     let owned : (g : ℕ) → 0 < g → g < length rows → owner rows g < length rows = (λ g b k. (a.table.owned g b k).1) in
     let h : owner rows x ≡ x = a.homes x p l c.requires.made in
     let shown_now : (d : Client) → ShowsWhole t attached opened marks d → ShowsAttached rows attached2 d = (λ d s.
-    shown_like rows attached x at own own2 p l q own_is a.opens e.session e.slots e.capacity d (owned x p l) s.attached) in
+    shown_like rows attached x at own own2 p l q own_is a.opens e.session e.slots (e.room (locks_on rows at)) d (owned x p l) s.attached) in
     let is_own : (o : Attached) → IsAt attached2 at o → o ≡ own2 = (λ o k.
     k ∙ get_or-set_same attached at own2 o within_all) in
     let plain : kind_of op ≡ kinds.Create → ⊥ = (λ k.
@@ -130,8 +131,10 @@ returns c =
             table = fits;
             opens = subst (λ (xs : List Row). FitsOpens xs attached2) (sym is)
                 (fits_more rows r attached2 x at p l q h row.2 row.3 like
-                (λ o k z. subst (λ (y : Attached). 64 ≤ vec_capacity y.slots)
-                (sym (is_own o (subst (λ y. IsAt attached2 y o) row.3 z))) (locks (sym row.4 ∙ k))));
+                (λ o k z. subst (λ (y : Attached). IsRoomy (locks_on rows r.«open» + 1) y.locks (vec_capacity y.slots))
+                (sym (is_own o (subst (λ y. IsAt attached2 y o) row.3 z)))
+                (subst (λ y. IsRoomy (locks_on rows y + 1) own2.locks (vec_capacity own2.slots)) (sym row.3)
+                (locks (sym row.4 ∙ k) (locks_on rows at) (a.opens.room at own within_all own_is)))));
             marked = subst (λ (xs : List Row). FitsMarks xs marks2) (sym is)
                 (marks_fit rows r attached2 x at p l q h row.2 row.3 like marks mark2 a.marked (below, topped) last);
             known = same_known;
