@@ -25,7 +25,7 @@ module _ (t : Table) (attached : List Attached) (opened : List Opened) (marks : 
           opens = record {
             opens = λ g p k. absurd (none_in t.rows.items g e k);
             paired = λ g h p k. absurd (none_in t.rows.items g e k);
-            room = λ g own p k. absurd (none_in t.rows.items g e k);
+            room = λ i own k. absurd (none_in attached i a k);
             bounded = λ i own k. absurd (none_in attached i a k);
             users = λ i own k. absurd (none_in attached i a k);
           };

@@ -1,5 +1,5 @@
 -- Row 0 comes, which is on no open.
-use Rattle.std.proofs.Common.{◌≡◌, ℕ, ◌<◌, ◌≤◌, List, [], ◌∷◌, length, sym, subst, arith, inl, inr}
+use Rattle.std.proofs.Common.{◌≡◌, ℕ, ◌<◌, ◌≤◌, List, [], ◌∷◌, length, vec_capacity, sym, subst, arith, inl, inr}
 use Rattle.exchange_defs.specs.Client.{Client}
 use Rattle.operation_values.specs.declared.shapes.Kind.TheVariants as kinds
 use Rattle.operation_rows.specs.declared.row.Row.{Row}
@@ -11,7 +11,8 @@ use Rattle.client_table.specs.declared.parts.Table.{Table}
 use Rattle.client_table.specs.Shown.{Fits, ShowsTable}
 use Rattle.client_attached.specs.declared.opened.Opened.{Opened}
 use Rattle.client_attached.specs.Known.{ShowsOpened}
-use Rattle.client_attached.specs.Opens.{FitsOpens, ShowsAttached}
+use Rattle.client_attached.specs.Opens.{FitsOpens, IsRoomy, ShowsAttached}
+use Rattle.client_attached.proofs.Locks.{locks_first}
 use Rattle.client_gone.specs.Ascending.{Ascends}
 use Rattle.client_taking.specs.Taken.{KeepsOrBegins}
 use Rattle.client_submitting.specs.Marked.{FitsMarks, ShowsMarks}
@@ -40,7 +41,7 @@ first_opens attached f =
     record {
       opens = λ g p l. absurd (none_in g p l);
       paired = λ g h p l. absurd (none_in g p l);
-      room = λ g o p l. absurd (none_in g p l);
+      room = λ i o l q. subst (λ n. IsRoomy n o.locks (vec_capacity o.slots)) (sym (locks_first no_row i)) (f.room i o l q);
       bounded = λ i o l q. ((f.bounded i o l q).0, λ place k. none_below (slot_at o.slots.items place).user ((f.bounded i o l q).1 place k));
       users = λ i o l q place k. (
         (f.users i o l q place k).0,

@@ -3,3 +3,4 @@ pub mod Begun
 pub mod FirstRow
 pub mod Higher
 pub mod Pushed
+pub mod Taken

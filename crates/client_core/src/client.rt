@@ -21,7 +21,6 @@ ghost use Rattle.client_taking.specs.Taken.{HasRooms, KeepsOrBegins};
 ghost use Rattle.client_submitting.specs.Marked.{IsMarkedAt};
 ghost use Rattle.client_core.specs.Shown.{FitsClient, ShowsClient};
 
-use crate::beginning::no_table;
 use client_attached::Opened;
 use client_choice::Attached;
 use client_creating::take_first;
@@ -60,7 +59,7 @@ fn open_of(table: &Table, index: usize) -> usize
     table.rows[index].open as usize
 }
 
-fn has_row(table: &Table, index: usize) -> bool
+pub(crate) fn has_row(table: &Table, index: usize) -> bool
     ensures { result ≡ nat_lt index (length table.now.rows.items) }
 {
     index < table.rows.len()
@@ -87,7 +86,7 @@ impl Client {
         ensures fits { FitsClient result }
         ensures shown { (settings : Settings) → ShowsClient result (start settings).client }
     {
-        let table = no_table(alloc);
+        let table = Table::new(alloc);
         Client {
             table,
             attached: Vec::new(alloc),
@@ -135,13 +134,13 @@ impl Client {
     }
 
     /// The dialog of a channel was refused. Where memory runs out nothing changes.
-    pub fn refused(&mut self, channel: u32, why: Refusal) -> Result<(), AllocError>
+    pub fn refused(&mut self, channel: u8, why: Refusal) -> Result<(), AllocError>
         requires fits { FitsClient self.old }
         ensures fits { FitsClient self.new }
         ensures shown { OnOk result ((c : Model) → ShowsClient self.old c → ShowsClient self.new (note_refusal c channel (refusal_of why))) }
         ensures kept { OnErr result ((c : Model) → ShowsClient self.old c → ShowsClient self.new c) }
     {
-        match self.table.refused(channel, why) {
+        match self.table.refused(channel as u32, why) {
             Ok(()) => Ok(()),
             Err(error) => Err(error),
         }
@@ -182,9 +181,9 @@ impl Client {
     pub fn hear(&mut self, channel: u8, index: usize, asking: bool, response: Response) -> bool
         requires fits { FitsClient self.old }
         ensures fits { FitsClient self.new }
-        ensures shown { (c : Model) (r : Reply) (place : ℕ) → ShowsClient self.old c → Kept c → Reads response c index r
+        ensures shown { (c : Model) (r : Reply) (place : ℕ) → ShowsClient self.old c → Kept c → Reads response c index asking r
             → ShowsClient self.new (hear_after c channel index asking r place) }
-        ensures told { (c : Model) (r : Reply) → ShowsClient self.old c → Kept c → Reads response c index r
+        ensures told { (c : Model) (r : Reply) → ShowsClient self.old c → Kept c → Reads response c index asking r
             → hear_act c channel index asking r ≡ (if result then CloseChannels else Nothing) }
     {
         let last = self.last_of(index);

@@ -1,7 +1,7 @@
 //! A client: its operations, its session and its opens, in one value, and what each event does to it.
 #![tactic(auto)]
 
-mod beginning;
 mod client;
+mod telling;
 
 pub use client::Client;

@@ -1,13 +1,19 @@
 -- What events come to in the model.
 use Rattle.std.proofs.Common.{◌≡◌, ℕ, ◌==◌, nat_lt, ◌&&◌, not, Bool, true, false, if◌then◌else◌, refl, sym, ap, ◌∙◌, subst}
 use Rattle.exchange_defs.specs.Client.{Client, ends_at_cut, leave_dialog}
-use Rattle.exchange_defs.specs.ClientStep.{Act, CloseChannels, Nothing, becomes_ready, cut_act, hear_act, hear_after, last_number, ready_after}
+use Rattle.exchange_defs.specs.ClientStep.{Act, ClientEvent, CloseChannels, Nothing, act, becomes_ready, client_after, cut_act, hear_act, hear_after}
+use Rattle.exchange_defs.specs.ClientStep.{last_number, ready_after}
 use Rattle.exchange_defs.specs.State.{Reply}
 use Rattle.exchange_defs.specs.Settling.{hear, heard, is_awaited}
 use Rattle.client_session.specs.Shown.{cut_told}
 use Rattle.client_core.specs.declared.client.Client.{Client as Core}
 use Rattle.client_core.specs.Shown.{ShowsClient}
-use Rattle.client_event.specs.Events.{act_at_cut}
+use Rattle.client_law.specs.Kept.{Kept}
+use Rattle.command_values.specs.Meaning.{body_of}
+use Rattle.client_event.specs.declared.steps.Act.{Act as Told}
+use Rattle.client_event.specs.declared.steps.Event.{Event}
+use Rattle.client_event.specs.declared.steps.Event.TheVariants as events
+use Rattle.client_event.specs.Events.{IsOther, MayCome, Means, ShowsOne, ShowsStep, Tells, TellsOne, act_at_cut, act_of, event_of, reply_with}
 use Rattle.client_session.specs.declared.session.Cut.TheVariants as cuts
 
 -- ---- a cut
@@ -56,6 +62,7 @@ left x c k s =
           counted = s.table.bounds.counted;
           limits = s.table.bounds.limits;
           slotted = s.table.bounds.slotted;
+          users = s.table.bounds.users;
         };
       };
       attached = s.attached;
@@ -80,3 +87,51 @@ unheard x c k g asking r place e s =
 
 pub unheard_act : (c : Client) (k g : ℕ) (asking : Bool) (r : Reply) → is_awaited c k g asking ≡ false → Nothing ≡ hear_act c k g asking r
 unheard_act c k g asking r e = second (λ (z : Act). Nothing ≡ z) (is_awaited c k g asking) _ Nothing e refl
+
+-- ---- each of the model's events that one of the code may be
+
+moved : (old new : Core) (f : Client → ClientEvent)
+    → ((c : Client) → ShowsClient old c → Kept c → MayCome c (f c) → ShowsClient new (client_after c (f c)))
+    → (c : Client) (e : ClientEvent) → ShowsClient old c → Kept c → e ≡ f c → MayCome c e → ShowsClient new (client_after c e)
+moved old new f h c e s k is m =
+    subst (λ (z : ClientEvent). ShowsClient new (client_after c z)) (sym is) (h c s k (subst (λ (z : ClientEvent). MayCome c z) is m))
+
+pub shown_each : (old new : Core) (x : Event) → ShowsOne old new x → IsOther x → ShowsStep old new x
+shown_each old new (events.Submit number kind) h o = moved old new (λ d. event_of d (events.Submit number kind)) h
+shown_each old new (events.Push channel credits) h o = moved old new (λ d. event_of d (events.Push channel credits)) h
+shown_each old new (events.Cut channel) h o = moved old new (λ d. event_of d (events.Cut channel)) h
+shown_each old new (events.Ready channel session tree) h o = moved old new (λ d. event_of d (events.Ready channel session tree)) h
+shown_each old new (events.Refused channel why) h o = moved old new (λ d. event_of d (events.Refused channel why)) h
+shown_each old new (events.Finish why) h o = moved old new (λ d. event_of d (events.Finish why)) h
+shown_each old new (events.Hear channel number asking status body) h o = absurd o
+
+told_moved : (old : Core) (a : Told) (f : Client → ClientEvent) → ((c : Client) → ShowsClient old c → Kept c → act_of a ≡ act c (f c))
+    → (c : Client) (e : ClientEvent) → ShowsClient old c → Kept c → e ≡ f c → act_of a ≡ act c e
+told_moved old a f h c e s k is = h c s k ∙ sym (ap (λ (z : ClientEvent). act c z) is)
+
+pub told_each : (old : Core) (x : Event) (a : Told) → TellsOne old x a → IsOther x → Tells old x a
+told_each old (events.Submit number kind) told h o = told_moved old told (λ d. event_of d (events.Submit number kind)) h
+told_each old (events.Push channel credits) told h o = told_moved old told (λ d. event_of d (events.Push channel credits)) h
+told_each old (events.Cut channel) told h o = told_moved old told (λ d. event_of d (events.Cut channel)) h
+told_each old (events.Ready channel session tree) told h o = told_moved old told (λ d. event_of d (events.Ready channel session tree)) h
+told_each old (events.Refused channel why) told h o = told_moved old told (λ d. event_of d (events.Refused channel why)) h
+told_each old (events.Finish why) told h o = told_moved old told (λ d. event_of d (events.Finish why)) h
+told_each old (events.Hear channel number asking status body) told h o = absurd o
+
+pub means_own : (c : Client) (x : Event) → Means c x (event_of c x)
+means_own c (events.Submit number kind) = refl
+means_own c (events.Push channel credits) = refl
+means_own c (events.Cut channel) = refl
+means_own c (events.Ready channel session tree) = refl
+means_own c (events.Refused channel why) = refl
+means_own c (events.Finish why) = refl
+means_own c (events.Hear channel number asking status body) = (reply_with status (body_of body), 0, refl, refl, refl)
+
+pub may_each : (c : Client) (x : Event) (e : ClientEvent) → Means c x e → MayCome c (event_of c x) → MayCome c e
+may_each c (events.Submit number kind) e is m = subst (λ (z : ClientEvent). MayCome c z) (sym is) m
+may_each c (events.Push channel credits) e is m = subst (λ (z : ClientEvent). MayCome c z) (sym is) m
+may_each c (events.Cut channel) e is m = subst (λ (z : ClientEvent). MayCome c z) (sym is) m
+may_each c (events.Ready channel session tree) e is m = subst (λ (z : ClientEvent). MayCome c z) (sym is) m
+may_each c (events.Refused channel why) e is m = subst (λ (z : ClientEvent). MayCome c z) (sym is) m
+may_each c (events.Finish why) e is m = subst (λ (z : ClientEvent). MayCome c z) (sym is) m
+may_each c (events.Hear channel number asking status body) e is m = subst (λ (z : ClientEvent). MayCome c z) (sym is.4) tt

@@ -1,11 +1,15 @@
 -- What an event of the code is in the model, and what it comes to.
 use Rattle.std.specs.Prelude.{◌≡◌, ℕ, true, false}
 use Rattle.exchange_defs.specs.State.{Body, Reply}
-use Rattle.exchange_defs.specs.Client.{Client}
+use Rattle.exchange_defs.specs.Status.{success}
+use Rattle.exchange_defs.specs.Settling.{is_awaited}
+use Rattle.exchange_defs.specs.Client.{Client, may_take}
 use Rattle.exchange_defs.specs.ClientStep.{Act, AllSettled, Asks, CloseChannel, CloseChannels, Nothing, Sends, act, becomes_ready}
 use Rattle.exchange_defs.specs.ClientStep.{ClientEvent, Finishes, Hears, IsCut, IsReady, IsRefused, Pushes, TakesOp, client_after}
 use Rattle.client_law.specs.Kept.{Kept}
 use Rattle.command_values.specs.Meaning.{body_of}
+use Rattle.operation_values.specs.declared.shapes.Kind.TheVariants as shapes
+use Rattle.operation_values.specs.Waiting.{kind_of}
 use Rattle.operation_values.specs.Meaning.{op_of}
 use Rattle.client_outcomes.specs.Meaning.{refusal_of, why_of}
 use Rattle.client_session.specs.declared.session.Cut.{Cut}
@@ -18,7 +22,7 @@ use Rattle.client_event.specs.declared.steps.Act.TheVariants as acts
 use Rattle.client_event.specs.declared.steps.Event.{Event}
 use Rattle.client_event.specs.declared.steps.Event.TheVariants as events
 
--- a reply, as far as a client looks at it
+-- a reply, as far as a client looks at it; its ids are any
 abbrev pub reply_with : ℕ → Body → Reply
 reply_with status body = record { status = status; session_id = 0; tree_id = 0; body = body }
 
@@ -50,12 +54,46 @@ abbrev pub MayCome : Client → ClientEvent → Type 0
 MayCome c (IsReady k session tree) = c.ready k ≡ true → becomes_ready c session ≡ false
 MayCome c _ = Unit {0}
 
+-- the model's events that one of the code may be: a response, at any place of the server's replies and with any ids
+abbrev pub Means : Client → Event → ClientEvent → Type 0
+Means c (events.Hear channel number asking status body) e = (r : Reply) × (place : ℕ) × (r.status ≡ status) × (r.body ≡ body_of body)
+    × (e ≡ Hears channel number asking r place)
+Means c x e = e ≡ event_of c x
+
 -- the model's step
 abbrev pub ShowsStep : Core → Core → Event → Type 0
-ShowsStep old new e = (c : Client) → ShowsClient old c → Kept c → MayCome c (event_of c e) → ShowsClient new (client_after c (event_of c e))
+ShowsStep old new x = (c : Client) (e : ClientEvent) → ShowsClient old c → Kept c → Means c x e → MayCome c e → ShowsClient new (client_after c e)
 
 abbrev pub Tells : Core → Event → Told → Type 0
-Tells old e a = (c : Client) → ShowsClient old c → Kept c → act_of a ≡ act c (event_of c e)
+Tells old x a = (c : Client) (e : ClientEvent) → ShowsClient old c → Kept c → Means c x e → act_of a ≡ act c e
+
+-- the same of one of the model's events
+abbrev pub ShowsOne : Core → Core → Event → Type 0
+ShowsOne old new x = (c : Client) → ShowsClient old c → Kept c → MayCome c (event_of c x) → ShowsClient new (client_after c (event_of c x))
+
+abbrev pub TellsOne : Core → Event → Told → Type 0
+TellsOne old x a = (c : Client) → ShowsClient old c → Kept c → act_of a ≡ act c (event_of c x)
+
+-- it is no response
+abbrev pub IsOther : Event → Type 0
+IsOther (events.Hear channel number asking status body) = ⊥
+IsOther _ = Unit {0}
 
 abbrev pub KeepsShown : Core → Core → Type 0
 KeepsShown old new = (c : Client) → ShowsClient old c → ShowsClient new c
+
+-- where memory may be wanting: at a submit that may be taken, at the success of a listing that is awaited, and at a refused dialog
+abbrev pub MayLack : Client → Event → Type 0
+MayLack c (events.Submit number kind) = may_take c number (op_of kind) ≡ true
+MayLack c (events.Hear channel number asking status body) =
+    (is_awaited c channel number asking ≡ true) × (asking ≡ false) × (status ≡ success) × (kind_of (c.op number) ≡ shapes.List)
+MayLack c (events.Refused channel why) = Unit {0}
+MayLack c _ = ⊥
+
+abbrev pub Lacks : Core → Event → Type 0
+Lacks x e = (c : Client) → ShowsClient x c → Kept c → MayLack c e
+
+-- whatever session it is said to be ready in, a channel that is ready stays so
+abbrev pub StaysReady : Core → Core → Event → Type 0
+StaysReady old new (events.Ready channel session tree) = (c : Client) → ShowsClient old c → c.ready channel ≡ true → ShowsClient new c
+StaysReady old new _ = Unit {0}

@@ -1,12 +1,12 @@
 // Each event but a response.
-ghost use Rattle.std.specs.Prelude.{◌≡◌, ◌==◌, if◌then◌else◌, IfOk, OnErr, OnOk};
+ghost use Rattle.std.specs.Prelude.{◌≡◌, ◌==◌, true, if◌then◌else◌, IfOk, OnErr, OnOk};
 ghost use Rattle.exchange_defs.specs.Client.{Client as Model};
 ghost use Rattle.exchange_defs.specs.ClientStep.{CloseChannel, CloseChannels, Nothing};
 ghost use Rattle.client_pushing.specs.Acts.{act_of as pushed_act};
 ghost use Rattle.client_core.specs.Shown.{FitsClient, ShowsClient};
 ghost use Rattle.client_session.specs.Shown.{ready_at};
 ghost use Rattle.client_event.specs.declared.steps.Event.TheVariants as events;
-ghost use Rattle.client_event.specs.Events.{KeepsShown, ShowsStep, Tells, act_at_cut, act_of};
+ghost use Rattle.client_event.specs.Events.{KeepsShown, Lacks, ShowsOne, TellsOne, act_at_cut, act_of};
 
 use crate::steps::Act;
 use client_core::Client;
@@ -25,9 +25,10 @@ pub(crate) fn submit(
 ) -> Result<Act, AllocError>
     requires fits { FitsClient client.old }
     ensures fits { FitsClient client.new }
-    ensures shown { OnOk result (ShowsStep client.old client.new (events.Submit number kind)) }
-    ensures told { IfOk result (Tells client.old (events.Submit number kind)) }
+    ensures shown { OnOk result (ShowsOne client.old client.new (events.Submit number kind)) }
+    ensures told { IfOk result (TellsOne client.old (events.Submit number kind)) }
     ensures kept { OnErr result (KeepsShown client.old client.new) }
+    ensures lacks { OnErr result (Lacks client.old (events.Submit number kind)) }
 {
     match client.submit(number, kind, alloc) {
         Ok(_) => Ok(Act::Nothing),
@@ -55,8 +56,8 @@ fn act_of_push(pushed: Pushed) -> Act
 pub(crate) fn push(client: &mut Client, channel: u8, credits: u32) -> Act
     requires fits { FitsClient client.old }
     ensures fits { FitsClient client.new }
-    ensures shown { ShowsStep client.old client.new (events.Push channel credits) }
-    ensures told { Tells client.old (events.Push channel credits) result }
+    ensures shown { ShowsOne client.old client.new (events.Push channel credits) }
+    ensures told { TellsOne client.old (events.Push channel credits) result }
 {
     act_of_push(client.push(channel, credits))
 }
@@ -74,8 +75,8 @@ fn act_of_cut(cut: Cut) -> Act
 pub(crate) fn cut(client: &mut Client, channel: u8) -> Act
     requires fits { FitsClient client.old }
     ensures fits { FitsClient client.new }
-    ensures shown { ShowsStep client.old client.new (events.Cut channel) }
-    ensures told { Tells client.old (events.Cut channel) result }
+    ensures shown { ShowsOne client.old client.new (events.Cut channel) }
+    ensures told { TellsOne client.old (events.Cut channel) result }
 {
     act_of_cut(client.cut(channel))
 }
@@ -109,8 +110,9 @@ fn act_where(stays: bool) -> Act
 pub(crate) fn ready(client: &mut Client, channel: u8, session: u64, tree: u32) -> Act
     requires fits { FitsClient client.old }
     ensures fits { FitsClient client.new }
-    ensures shown { ShowsStep client.old client.new (events.Ready channel session tree) }
-    ensures told { Tells client.old (events.Ready channel session tree) result }
+    ensures shown { ShowsOne client.old client.new (events.Ready channel session tree) }
+    ensures told { TellsOne client.old (events.Ready channel session tree) result }
+    ensures stays { (c : Model) → ShowsClient client.old c → c.ready channel ≡ true → ShowsClient client.new c }
 {
     if is_ready(client, channel) {
         let own = is_own(client, session);
@@ -120,11 +122,11 @@ pub(crate) fn ready(client: &mut Client, channel: u8, session: u64, tree: u32) -
     act_where(stays)
 }
 
-pub(crate) fn refused(client: &mut Client, channel: u32, why: Refusal) -> Result<Act, AllocError>
+pub(crate) fn refused(client: &mut Client, channel: u8, why: Refusal) -> Result<Act, AllocError>
     requires fits { FitsClient client.old }
     ensures fits { FitsClient client.new }
-    ensures shown { OnOk result (ShowsStep client.old client.new (events.Refused channel why)) }
-    ensures told { IfOk result (Tells client.old (events.Refused channel why)) }
+    ensures shown { OnOk result (ShowsOne client.old client.new (events.Refused channel why)) }
+    ensures told { IfOk result (TellsOne client.old (events.Refused channel why)) }
     ensures kept { OnErr result (KeepsShown client.old client.new) }
 {
     match client.refused(channel, why) {
@@ -136,8 +138,8 @@ pub(crate) fn refused(client: &mut Client, channel: u32, why: Refusal) -> Result
 pub(crate) fn finish(client: &mut Client, why: Why) -> Act
     requires fits { FitsClient client.old }
     ensures fits { FitsClient client.new }
-    ensures shown { ShowsStep client.old client.new (events.Finish why) }
-    ensures told { Tells client.old (events.Finish why) result }
+    ensures shown { ShowsOne client.old client.new (events.Finish why) }
+    ensures told { TellsOne client.old (events.Finish why) result }
 {
     client.finish(why);
     Act::Nothing

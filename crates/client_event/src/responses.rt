@@ -1,28 +1,25 @@
 // A response is heard, by its status and its body.
-ghost use Rattle.std.specs.Prelude.{◌≡◌, ◌<◌, nat_lt, if◌then◌else◌, length, option_map, slice_index_or, IfOk, OnErr, OnOk};
+ghost use Rattle.std.specs.Prelude.{◌≡◌, ◌<◌, false, if◌then◌else◌, length, option_map, slice_index_or, IfOk, OnErr, OnOk};
+ghost use Rattle.exchange_defs.specs.Status.{success};
 ghost use Rattle.exchange_defs.specs.Client.{Client as Model};
 ghost use Rattle.exchange_defs.specs.ClientStep.{CloseChannels, Nothing};
 ghost use Rattle.exchange_defs.specs.Operations.{value_in as value};
 ghost use Rattle.command_values.specs.Meaning.{body_of};
 ghost use Rattle.operation_values.specs.declared.values.OpKind.TheVariants as kinds;
+ghost use Rattle.operation_values.specs.declared.shapes.Kind.TheVariants as shapes;
+ghost use Rattle.operation_values.specs.Waiting.{kind_of};
 ghost use Rattle.operation_values.specs.Meaning.{op_of, reply_of};
 ghost use Rattle.client_core.specs.Shown.{FitsClient, ShowsClient};
 ghost use Rattle.client_event.specs.declared.steps.Event.TheVariants as events;
-ghost use Rattle.client_event.specs.Events.{KeepsShown, ShowsStep, Tells, act_of};
+ghost use Rattle.client_event.specs.Events.{KeepsShown, Lacks, ShowsStep, Tells, act_of};
 
 use crate::steps::Act;
 use client_core::Client;
-use client_replies::Response;
+use client_replies::{Response, is_awaited};
 use command_values::Body;
 use operation_commands::{id_in, value_in};
 use operation_values::{OpKind, OpReply};
 use std::alloc::{AllocError, Global};
-
-fn has_row(client: &Client, index: usize) -> bool
-    ensures { result ≡ nat_lt index (length client.now.table.rows.items) }
-{
-    index < client.table.rows.len()
-}
 
 fn value_at(
     alloc: Global,
@@ -31,8 +28,9 @@ fn value_at(
     body: Body,
 ) -> Result<Option<OpReply>, AllocError>
     requires { place < length ops.now }
-    ensures { IfOk result (λ v. option_map reply_of v
+    ensures reads { IfOk result (λ v. option_map reply_of v
         ≡ value (op_of (slice_index_or ops.now place (kinds.Close 0))) (body_of body)) }
+    ensures lacks { OnErr result (kind_of (op_of (slice_index_or ops.now place (kinds.Close 0))) ≡ shapes.List) }
 {
     value_in(alloc, &ops[place], body)
 }
@@ -47,9 +45,36 @@ fn reply_in(
     requires fits { FitsClient client.now }
     requires above { 0 < index }
     requires within { index < length client.now.table.rows.items }
-    ensures { IfOk result (λ v. (c : Model) → ShowsClient client.now c → option_map reply_of v ≡ value (c.op index) (body_of body)) }
+    ensures reads { IfOk result (λ v. (c : Model) → ShowsClient client.now c → option_map reply_of v ≡ value (c.op index) (body_of body)) }
+    ensures lacks { OnErr result ((c : Model) → ShowsClient client.now c → kind_of (c.op index) ≡ shapes.List) }
 {
     value_at(alloc, &client.table.ops, index - 1, body)
+}
+
+/// What a response says of an operation that was taken, which only a success of the operation itself does.
+fn said_in(
+    alloc: Global,
+    client: &Client,
+    index: usize,
+    asking: bool,
+    status: u32,
+    body: Body,
+) -> Result<Option<OpReply>, AllocError>
+    requires fits { FitsClient client.now }
+    requires above { 0 < index }
+    requires within { index < length client.now.table.rows.items }
+    ensures reads { IfOk result (λ v. (c : Model) → ShowsClient client.now c → status ≡ success → asking ≡ false
+        → option_map reply_of v ≡ value (c.op index) (body_of body)) }
+    ensures lacks { OnErr result ((c : Model) → ShowsClient client.now c
+        → (asking ≡ false) × (status ≡ success) × (kind_of (c.op index) ≡ shapes.List)) }
+{
+    if asking {
+        return Ok(None);
+    }
+    if status == 0 {
+        return reply_in(alloc, client, index, body);
+    }
+    Ok(None)
 }
 
 fn act_where(closes: bool) -> Act
@@ -79,9 +104,11 @@ fn hear_taken(
     ensures shown { OnOk result (ShowsStep client.old client.new (events.Hear channel index asking status body)) }
     ensures told { IfOk result (Tells client.old (events.Hear channel index asking status body)) }
     ensures kept { OnErr result (KeepsShown client.old client.new) }
+    ensures lacks { OnErr result ((c : Model) → ShowsClient client.old c
+        → (asking ≡ false) × (status ≡ success) × (kind_of (c.op index) ≡ shapes.List)) }
 {
     let file = id_in(&body);
-    match reply_in(alloc, client, index, body) {
+    match said_in(alloc, client, index, asking, status, body) {
         Ok(reply) => {
             let response = Response {
                 status,
@@ -95,7 +122,7 @@ fn hear_taken(
     }
 }
 
-/// A response to an operation that wasn't taken changes nothing.
+/// A response that isn't awaited changes nothing, and isn't read.
 pub(crate) fn hear(
     client: &mut Client,
     channel: u8,
@@ -110,12 +137,10 @@ pub(crate) fn hear(
     ensures shown { OnOk result (ShowsStep client.old client.new (events.Hear channel number asking status body)) }
     ensures told { IfOk result (Tells client.old (events.Hear channel number asking status body)) }
     ensures kept { OnErr result (KeepsShown client.old client.new) }
+    ensures lacks { OnErr result (Lacks client.old (events.Hear channel number asking status body)) }
 {
     let index = number as usize;
-    if index == 0 {
-        return Ok(Act::Nothing);
-    }
-    if !has_row(client, index) {
+    if !is_awaited(&client.table, channel, index, asking) {
         return Ok(Act::Nothing);
     }
     hear_taken(client, channel, index, asking, status, body, alloc)

@@ -1,7 +1,7 @@
 // One match over the events of a client.
 ghost use Rattle.std.specs.Prelude.{IfOk, OnErr, OnOk};
 ghost use Rattle.client_core.specs.Shown.{FitsClient};
-ghost use Rattle.client_event.specs.Events.{KeepsShown, ShowsStep, Tells};
+ghost use Rattle.client_event.specs.Events.{KeepsShown, Lacks, ShowsStep, StaysReady, Tells};
 
 use crate::calls::{cut, finish, push, ready, refused, submit};
 use crate::responses::hear;
@@ -45,7 +45,7 @@ pub enum Event {
     },
     /// The dialog of a channel was refused.
     Refused {
-        channel: u32,
+        channel: u8,
         why: Refusal,
     },
     /// No session can be had.
@@ -70,13 +70,16 @@ pub enum Act {
     AllSettled,
 }
 
-/// What a client does at an event: the model's step. Only `Submit`, `Hear` and `Refused` take memory; where it runs out nothing happened.
+/// What a client does at an event: the model's step. Memory is wanting only at a submit that may be taken, at the success of a listing
+/// that is awaited, and at a refused dialog; then nothing happened.
 pub fn step(client: &mut Client, event: Event, alloc: Global) -> Result<Act, AllocError>
     requires fits { FitsClient client.old }
     ensures fits { FitsClient client.new }
     ensures shown { OnOk result (ShowsStep client.old client.new event) }
     ensures told { IfOk result (Tells client.old event) }
     ensures kept { OnErr result (KeepsShown client.old client.new) }
+    ensures lacks { OnErr result (Lacks client.old event) }
+    ensures stays { StaysReady client.old client.new event }
 {
     match event {
         Event::Submit { number, kind } => submit(client, number, kind, alloc),

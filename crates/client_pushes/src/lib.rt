@@ -5,5 +5,5 @@
 mod picking;
 mod sending;
 
-pub use picking::{goes_itself, pick, settle_slotless};
+pub use picking::{goes_itself, pick};
 pub use sending::{send_again, send_first, send_lock, send_lock_again};

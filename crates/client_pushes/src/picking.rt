@@ -8,19 +8,14 @@ ghost use Rattle.choice_law.specs.Choosing.{Goes, chosen};
 ghost use Rattle.client_session.specs.Shown.{ShowsSession};
 ghost use Rattle.client_slots.specs.Shown.{HaveRows};
 ghost use Rattle.operation_rows.specs.Rows.{row_at};
-ghost use Rattle.operation_rows.specs.Holding.{IsSafe};
-ghost use Rattle.operation_rows.specs.Choosing.{Counts};
 ghost use Rattle.client_rows.specs.Shown.{ShowsRows};
 ghost use Rattle.client_marks.specs.Marks.{is_create_kind, is_lock_kind};
 ghost use Rattle.client_pushes.specs.Shown.{ShowsOpen};
 
-use client_rows::settle_one;
 use client_session::Session;
 use client_slots::free_slot;
 use operation_rows::{Row, Slot};
 use operation_values::Kind;
-use price_table::Prices;
-use watch_lists::Watchers;
 
 fn is_create(rows: &[Row], index: usize) -> bool
     requires { index < length rows.now }
@@ -104,19 +99,4 @@ pub fn pick(
         return Some(0);
     }
     free_slot(rows, slots, session.number())
-}
-
-/// A lock that may go out, and for which there is no slot, settles so.
-pub fn settle_slotless(rows: &mut [Row], prices: &mut Prices, watchers: &mut Watchers, index: usize)
-    requires above { 0 < index }
-    requires within { index < length rows.old }
-    requires counts { Counts rows.old prices.old watchers.old }
-    ensures count { length rows.new ≡ length rows.old }
-    ensures counts { Counts rows.new prices.new watchers.new }
-    ensures safe { (holders : List ℕ) → IsSafe rows.old holders → IsSafe rows.new holders }
-    ensures shown { (c : Client) (holders : List ℕ) (k : ℕ) → IsSafe rows.old holders
-        → ShowsRows rows.old holders prices.old watchers.old c → lacks_slot c k index ≡ true
-        → ShowsRows rows.new holders prices.new watchers.new (settle_no_slot c k index) }
-{
-    settle_one(rows, prices, watchers, index, false);
 }

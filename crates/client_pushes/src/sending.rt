@@ -193,10 +193,11 @@ fn put_again(
     ensures shown { (c : Client) (holders : List ℕ) → ShowsRows rows.old holders prices.old watchers.now c → ShowsSession session.now c
         → ShowsRows rows.new holders prices.new watchers.now (outstanding c channel index) }
 {
+    let raised = session.sequence();
     let row = Row {
         asking: false,
         outstanding_on: Some(channel),
-        sequence: session.sequence(),
+        sequence: raised,
         ..rows[index]
     };
     put_row(rows, prices, watchers, index, row);

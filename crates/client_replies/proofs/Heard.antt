@@ -3,15 +3,18 @@ use Rattle.std.proofs.Common.{◌≡◌, ℕ, ◌<◌, ◌==◌, ◌&&◌, nat_l
 use Rattle.std.proofs.Common.{refl, ap, sym, ◌∙◌, subst, arith}
 use Rattle.exchange_defs.specs.Table.{is_at, put, put2}
 use Rattle.exchange_defs.specs.State.{Body, Reply}
-use Rattle.exchange_defs.specs.Status.{disk_full}
-use Rattle.exchange_defs.specs.Operations.{Outcome, NoOpen, NoSlot, Unknown, Unsettled, WasOk, WasRefused, id_in, is_close, is_create, is_lock}
+use Rattle.exchange_defs.specs.Status.{disk_full, success, user_session_deleted, file_not_available}
+use Rattle.exchange_defs.specs.Operations.{Op, OpReply, Outcome, NoOpen, NoSlot, Unknown, Unsettled, WasOk, WasRefused, id_in, is_change}
+use Rattle.exchange_defs.specs.Operations.{is_close, is_create, is_lock}
 use Rattle.exchange_defs.specs.Client.{Client, create_for}
 use Rattle.exchange_defs.specs.ClientStep.{CloseChannels, Nothing, act_heard, hear_act, hear_after}
 use Rattle.exchange_defs.specs.Settling.{Attaches, EndsSession, GoesAgain, Heard, Settles, answered, hear, heard, is_awaited, noted, noted_full}
-use Rattle.exchange_defs.specs.Settling.{settle, settled, settles_open, with_no_opens}
+use Rattle.exchange_defs.specs.Settling.{ok_or_unknown, refused, settle, settled, settles_open, with_no_opens}
+use Rattle.client_law.proofs.Chosen.{is_same}
 use Rattle.operation_rows.specs.declared.row.Row.{Row}
 use Rattle.operation_rows.specs.Rows.{owner}
 use Rattle.client_marks.specs.Marks.{IsHighest}
+use Rattle.client_outcomes.specs.Hearing.{heard_by}
 use Rattle.client_replies.specs.Reading.{ends, heard_then}
 
 -- ---- what was answered is as it was heard
@@ -99,6 +102,25 @@ heard_so c g asking r place (Settles o) = settle_answered c g asking r place o
 heard_so c g asking r place GoesAgain = refl
 heard_so c g asking r place Attaches = refl
 heard_so c g asking r place EndsSession = refl
+
+-- ---- of what it says only a success of the operation itself is looked at
+
+alike_by : (ends ok asking : Bool) (v w rest : Heard) → (ok ≡ true → asking ≡ false → v ≡ w)
+    → (if ends then EndsSession else if ok then (if asking then Attaches else v) else rest)
+    ≡ (if ends then EndsSession else if ok then (if asking then Attaches else w) else rest)
+alike_by true ok asking v w rest h = refl
+alike_by false false asking v w rest h = refl
+alike_by false true true v w rest h = refl
+alike_by false true false v w rest h = h refl refl
+
+pub heard_alike : (op : Op) (asking unanswered is_older : Bool) (status : ℕ) (v w : Option OpReply)
+    → (status ≡ success → asking ≡ false → v ≡ w)
+    → heard_by op asking unanswered is_older status v ≡ heard_by op asking unanswered is_older status w
+heard_alike op asking unanswered is_older status v w h =
+    alike_by (status == user_session_deleted) (status == success) asking (ok_or_unknown v) (ok_or_unknown w)
+    (if not asking && (is_change op && ((status == file_not_available) && is_older)) then GoesAgain
+    else refused op asking unanswered status)
+    (λ e a. ap (λ z. ok_or_unknown z) (h (is_same status success e) a))
 
 -- ---- whether it is awaited
 

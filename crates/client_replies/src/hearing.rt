@@ -1,7 +1,8 @@
 // A response is heard.
-ghost use Rattle.std.specs.Prelude.{◌≡◌, ℕ, ◌<◌, ◌&&◌, nat_lt, not, true, if◌then◌else◌, length, slice_index_or, None, option_map};
+ghost use Rattle.std.specs.Prelude.{◌≡◌, ℕ, ◌<◌, ◌&&◌, nat_lt, not, true, false, if◌then◌else◌, length, slice_index_or, None, option_map};
 ghost use Rattle.exchange_defs.specs.Table.{is_at};
 ghost use Rattle.exchange_defs.specs.State.{Reply};
+ghost use Rattle.exchange_defs.specs.Status.{success};
 ghost use Rattle.exchange_defs.specs.Operations.{id_in, value_in};
 ghost use Rattle.exchange_defs.specs.Client.{Client, end_session};
 ghost use Rattle.exchange_defs.specs.ClientStep.{CloseChannels, Nothing, hear_act, hear_after};
@@ -34,9 +35,10 @@ use operation_values::{OpKind, OpReply};
 #[derive(Drop)]
 pub struct Response {
     pub status: u32,
-    /// Of a success, what it says of the operation; none where its body doesn't read as the operation's.
+    /// Of a success of the operation itself, what its body says; none where that doesn't read as the operation's. Of any other response it
+    /// isn't looked at.
     pub reply: Option<OpReply>,
-    /// The FileId that a create's success names.
+    /// The FileId that the body names, whatever the status; 0 where it isn't the body of a create.
     pub file: u64,
 }
 
@@ -78,7 +80,7 @@ fn has_row(table: &Table, index: usize) -> bool
 }
 
 /// Whether a response to an operation on this channel, or to a request in its place, is awaited.
-fn is_awaited(table: &Table, channel: u8, index: usize, asking: bool) -> bool
+pub fn is_awaited(table: &Table, channel: u8, index: usize, asking: bool) -> bool
     ensures inside { result ≡ true → (0 < index) × (index < length table.now.rows.items) × (stands table.now.rows.items index ≡ true) }
     ensures told { (c : Client) → ShowsTable table.now c → Kept c → result ≡ awaits c channel index asking }
 {
@@ -134,7 +136,8 @@ fn weigh_at(
     requires above { 0 < index }
     requires within { index < length table.now.rows.items }
     ensures { (c : Client) (r : Reply) → ShowsTable table.now c → r.status ≡ status
-        → option_map reply_of reply ≡ value_in (c.op index) r.body → hearing_of result ≡ heard c index asking r }
+        → (r.status ≡ success → asking ≡ false → option_map reply_of reply ≡ value_in (c.op index) r.body)
+        → hearing_of result ≡ heard c index asking r }
 {
     let sequence = sequence_of(table, index);
     let is_older = table.session.is_behind(sequence);
@@ -238,11 +241,11 @@ pub fn hear(
     ensures known { length opened.new ≡ length opened.old }
     ensures places { KeepsPlaces table.old.rows.items table.new.rows.items }
     ensures shown { (c : Client) (r : Reply) (place : ℕ) → ShowsTable table.old c → ShowsAttached table.old.rows.items attached.old c
-        → ShowsOpened table.old.rows.items opened.old c → Kept c → Reads response c index r
+        → ShowsOpened table.old.rows.items opened.old c → Kept c → Reads response c index asking r
         → ShowsTable table.new (hear_after c channel index asking r place)
         × ShowsAttached table.new.rows.items attached.new (hear_after c channel index asking r place)
         × ShowsOpened table.new.rows.items opened.new (hear_after c channel index asking r place) }
-    ensures told { (c : Client) (r : Reply) → ShowsTable table.old c → Kept c → Reads response c index r
+    ensures told { (c : Client) (r : Reply) → ShowsTable table.old c → Kept c → Reads response c index asking r
         → hear_act c channel index asking r ≡ (if result then CloseChannels else Nothing) }
 {
     if !is_awaited(table, channel, index, asking) {

@@ -3,4 +3,4 @@
 
 mod hearing;
 
-pub use hearing::{Response, hear};
+pub use hearing::{Response, hear, is_awaited};

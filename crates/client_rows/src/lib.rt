@@ -7,4 +7,4 @@ mod steps;
 
 pub use choosing::choose_from;
 pub use losing::lose;
-pub use steps::{answer, ask, note_sent, note_slot, put_out, put_row, settle_one};
+pub use steps::{answer, ask, put_row, settle_one};

@@ -1,8 +1,8 @@
 // The steps of one operation: it goes out, or a request to attach goes out in its place; it is answered; it settles.
-ghost use Rattle.std.specs.Prelude.{◌≡◌, ℕ, ◌<◌, Bool, true, false, List, length, slice_set, Option};
+ghost use Rattle.std.specs.Prelude.{◌≡◌, ℕ, ◌<◌, Bool, false, List, length, slice_set, Option};
 ghost use Rattle.exchange_defs.specs.Table.{put};
 ghost use Rattle.exchange_defs.specs.Operations.{Outcome, is_firm, is_unsettled};
-ghost use Rattle.exchange_defs.specs.Client.{Client, asked, outstanding};
+ghost use Rattle.exchange_defs.specs.Client.{Client, asked};
 ghost use Rattle.exchange_defs.specs.Settling.{answered};
 ghost use Rattle.client_law.specs.Columns.{IsFirst, ops_of, standing_of};
 ghost use Rattle.operation_rows.specs.Rows.{row_at};
@@ -75,80 +75,6 @@ pub fn ask(rows: &mut [Row], prices: &mut Prices, watchers: &Watchers, index: us
     let row = Row {
         asking: true,
         outstanding_on: Some(channel),
-        ..rows[index]
-    };
-    put_row(rows, prices, watchers, index, row);
-}
-
-/// An operation goes out itself, with the session's channel sequence.
-pub fn put_out(
-    rows: &mut [Row],
-    prices: &mut Prices,
-    watchers: &Watchers,
-    index: usize,
-    channel: u8,
-    sequence: u16,
-)
-    requires within { index < length rows.old }
-    requires counts { Counts rows.old prices.old watchers.now }
-    ensures count { length rows.new ≡ length rows.old }
-    ensures place { KeepsRow rows.old rows.new index }
-    ensures counts { Counts rows.new prices.new watchers.now }
-    ensures safe { (holders : List ℕ) → IsSafe rows.old holders → IsSafe rows.new holders }
-    ensures shown { (c : Client) (holders : List ℕ) → ShowsRows rows.old holders prices.old watchers.now c → c.sequence ≡ sequence
-        → ShowsRows rows.new holders prices.new watchers.now (outstanding c channel index) }
-{
-    let row = Row {
-        asking: false,
-        outstanding_on: Some(channel),
-        sequence,
-        ..rows[index]
-    };
-    put_row(rows, prices, watchers, index, row);
-}
-
-/// An operation was sent.
-pub fn note_sent(rows: &mut [Row], prices: &mut Prices, watchers: &Watchers, index: usize)
-    requires within { index < length rows.old }
-    requires counts { Counts rows.old prices.old watchers.now }
-    ensures count { length rows.new ≡ length rows.old }
-    ensures place { KeepsRow rows.old rows.new index }
-    ensures counts { Counts rows.new prices.new watchers.now }
-    ensures safe { (holders : List ℕ) → IsSafe rows.old holders → IsSafe rows.new holders }
-    ensures shown { (c : Client) (holders : List ℕ) → ShowsRows rows.old holders prices.old watchers.now c
-        → ShowsRows rows.new holders prices.new watchers.now (record c { sent = put c.sent index true }) }
-{
-    let row = Row {
-        sent: true,
-        ..rows[index]
-    };
-    put_row(rows, prices, watchers, index, row);
-}
-
-/// A lock takes a slot, under this number.
-pub fn note_slot(
-    rows: &mut [Row],
-    prices: &mut Prices,
-    watchers: &Watchers,
-    index: usize,
-    slot: u8,
-    number: u8,
-)
-    requires within { index < length rows.old }
-    requires counts { Counts rows.old prices.old watchers.now }
-    ensures count { length rows.new ≡ length rows.old }
-    ensures place { KeepsRow rows.old rows.new index }
-    ensures counts { Counts rows.new prices.new watchers.now }
-    ensures safe { (holders : List ℕ) → IsSafe rows.old holders → IsSafe rows.new holders }
-    ensures shown { (c : Client) (holders : List ℕ) → ShowsRows rows.old holders prices.old watchers.now c
-        → ShowsRows rows.new holders prices.new watchers.now (record c {
-          slot_of = put c.slot_of index slot;
-          number_of = put c.number_of index number;
-        }) }
-{
-    let row = Row {
-        slot,
-        slot_number: number,
         ..rows[index]
     };
     put_row(rows, prices, watchers, index, row);

@@ -69,10 +69,11 @@ pub fn own_head(table: &Table, index: usize) -> Head
     ensures { (c : Client) (k id : ℕ) → ShowsTable table.now c → IsHead result (own_message c k id index) }
 {
     let replay = is_replay(table, index);
+    let sequence = table.session.sequence();
     Head {
         session: table.session.id(),
         tree: table.session.tree(),
-        sequence: table.session.sequence(),
+        sequence,
         replay,
     }
 }

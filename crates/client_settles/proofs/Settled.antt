@@ -15,7 +15,12 @@ use Rattle.client_outcomes.specs.Meaning.{outcome_of}
 use Rattle.client_settles.specs.Shown.{ShowsValues, outcome_at, outcome_by}
 
 pub never_unsettled : (o : Settled) → is_unsettled (outcome_of o) ≡ false
-never_unsettled (outcomes.Ok reply) = refl
+never_unsettled outcomes.Done = refl
+never_unsettled (outcomes.Action action) = refl
+never_unsettled (outcomes.Count count) = refl
+never_unsettled (outcomes.Content bytes) = refl
+never_unsettled (outcomes.Length size) = refl
+never_unsettled (outcomes.Names names) = refl
 never_unsettled (outcomes.Refused status) = refl
 never_unsettled (outcomes.NoSlot create) = refl
 never_unsettled (outcomes.NoOpen create) = refl

@@ -1,9 +1,11 @@
 // What a success tells of the operation that it answers (MS-SMB2 3.2.5).
-ghost use Rattle.std.specs.Prelude.{◌≡◌, ◌∷◌, [], ◌++◌, ◌||◌, map, option_map, IfOk, OnOk};
+ghost use Rattle.std.specs.Prelude.{◌≡◌, ◌∷◌, [], ◌++◌, ◌||◌, map, option_map, IfOk, OnErr, OnOk};
 ghost use Rattle.exchange_defs.specs.Content.{same_bytes};
 ghost use Rattle.exchange_defs.specs.Operations.{value_in, id_in, names_in, action_in, count_in, content_in, length_in};
 ghost use Rattle.exchange_defs.specs.Operations.{listing_in, nothing_in};
 ghost use Rattle.command_values.specs.Meaning.{body_of, named_of};
+ghost use Rattle.operation_values.specs.declared.shapes.Kind.TheVariants as kinds;
+ghost use Rattle.operation_values.specs.Waiting.{kind_of};
 ghost use Rattle.operation_values.specs.Meaning.{op_of, reply_of};
 ghost use Rattle.operation_commands.specs.Telling.{told};
 
@@ -25,7 +27,8 @@ pub fn id_in(body: &Body) -> u64
 /// What a success says of an operation, where its body is the operation's. It takes memory for the names of a directory
 /// alone.
 pub fn value_in(alloc: Global, kind: &OpKind, body: Body) -> Result<Option<OpReply>, AllocError>
-    ensures { IfOk result (λ v. option_map reply_of v ≡ value_in (op_of kind.now) (body_of body)) }
+    ensures reads { IfOk result (λ v. option_map reply_of v ≡ value_in (op_of kind.now) (body_of body)) }
+    ensures lacks { OnErr result (kind_of (op_of kind.now) ≡ kinds.List) }
 {
     match kind {
         OpKind::Create { .. } => Ok(action_in(body)),

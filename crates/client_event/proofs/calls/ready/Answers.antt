@@ -1,5 +1,6 @@
 use Rattle.std.proofs.Common.{sym, ap, ◌∙◌, if◌then◌else◌}
 use Rattle.exchange_defs.specs.ClientStep.{CloseChannel, Nothing}
+use Rattle.client_replies.proofs.Heard.{clash}
 use Rattle.client_event.proofs.Going.{again_shown, own_so}
 use Rattle.client_event.proofs.calls.ready.Goals as goal
 
@@ -12,6 +13,7 @@ returns-then-is_ready c =
       told = λ d s k. c.act_where.ensures
           ∙ ap (λ z. if z then Nothing else CloseChannel) (c.is_own-own.ensures d s
           ∙ own_so d c.args.session (k.ready c.args.channel (sym (c.is_ready.ensures.shown d s) ∙ c.if-is_ready.true)));
+      stays = λ d s r. s;
     }
 
 pub ready-stays-requires : goal.ready-stays-requires
@@ -24,4 +26,5 @@ returns c =
       fits = e.fits;
       shown = λ d s k m. e.shown d s;
       told = λ d s k. c.act_where-2.ensures ∙ ap (λ z. if z then Nothing else CloseChannel) (e.told d s);
+      stays = λ d s r. absurd (clash (d.ready c.args.channel) r (sym (c.is_ready.ensures.shown d s) ∙ c.if-is_ready.false));
     }

@@ -11,6 +11,7 @@ returns-in-Ok c =
       shown = λ d s k m. c.in-Ok.ensures.shown d s k;
       told = λ d s k. refl;
       kept = tt;
+      lacks = tt;
     }
 
 pub returns-in-Err : goal.returns-in-Err
@@ -20,4 +21,5 @@ returns-in-Err c =
       shown = tt;
       told = tt;
       kept = λ d s. c.in-Err.ensures.kept d s;
+      lacks = λ d s k. c.in-Err.ensures.order d s;
     }

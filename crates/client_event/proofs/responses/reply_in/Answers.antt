@@ -1,10 +1,11 @@
 use Rattle.std.proofs.Common.{◌≡◌, ◌-◌, ◌<◌, List, length, option_map, slice_index_or, sym, ap, ◌∙◌, subst, arith}
-use Rattle.std.proofs.lemmas.Result.{IfOk-weaker}
+use Rattle.std.proofs.lemmas.Result.{IfOk-weaker, on_err_weaker}
 use Rattle.exchange_defs.specs.Operations.{value_in}
 use Rattle.exchange_defs.specs.Client.{Client}
 use Rattle.command_values.specs.Meaning.{body_of}
 use Rattle.operation_values.specs.declared.values.OpKind.{OpKind}
 use Rattle.operation_values.specs.declared.values.OpKind.TheVariants as kinds
+use Rattle.operation_values.specs.Waiting.{kind_of}
 use Rattle.operation_values.specs.Meaning.{op_of, reply_of}
 use Rattle.client_core.specs.Shown.{ShowsClient}
 use Rattle.client_event.proofs.responses.reply_in.Goals as goal
@@ -21,13 +22,13 @@ returns c =
     let x = c.args.index in
     let body = body_of c.args.body in
     let is_op = op_of (slice_index_or c.deref.result.now (x - 1) (kinds.Close 0)) in
-    IfOk-weaker c.value_at.result (λ v. option_map reply_of v ≡ value_in is_op body)
-    (λ v. (d : Client) → ShowsClient c.args.client.now d → option_map reply_of v ≡ value_in (d.op x) body)
-    (λ v is d s. (
-    let taken = s.table.rows.places.is_taken x c.requires.above c.requires.within in
-    let op : is_op ≡ d.op x =
+    let op : (d : Client) → ShowsClient c.args.client.now d → is_op ≡ d.op x = (λ d s.
     ap (λ (xs : List OpKind). op_of (slice_index_or xs (x - 1) (kinds.Close 0))) c.deref.ensures.value
-    ∙ sym (s.table.values.op_is x c.requires.above taken) in
-    is ∙ ap (λ z. value_in z body) op
-    ))
-    c.value_at.ensures
+    ∙ sym (s.table.values.op_is x c.requires.above (s.table.rows.places.is_taken x c.requires.above c.requires.within))) in
+    record {
+      reads = IfOk-weaker c.value_at.result (λ v. option_map reply_of v ≡ value_in is_op body)
+          (λ v. (d : Client) → ShowsClient c.args.client.now d → option_map reply_of v ≡ value_in (d.op x) body)
+          (λ v is d s. is ∙ ap (λ z. value_in z body) (op d s))
+          c.value_at.ensures.reads;
+      lacks = on_err_weaker c.value_at.result (λ is d s. sym (ap (λ z. kind_of z) (op d s)) ∙ is) c.value_at.ensures.lacks;
+    }

@@ -1,7 +1,10 @@
 use Rattle.std.proofs.Common.{sym, subst}
-use Rattle.std.specs.Prelude.{IfOk, OnOk}
+use Rattle.std.specs.Prelude.{IfOk, OnErr, OnOk}
+use Rattle.std.proofs.lemmas.Result.{IfOk-weaker, on_ok_weaker}
+use Rattle.client_table.proofs.Ready.{on_err}
 use Rattle.client_event.specs.declared.steps.Event.{Event}
-use Rattle.client_event.specs.Events.{ShowsStep, Tells}
+use Rattle.client_event.specs.Events.{IsOther, Lacks, ShowsOne, ShowsStep, StaysReady, Tells, TellsOne}
+use Rattle.client_event.proofs.Going.{shown_each, told_each}
 use Rattle.client_event.proofs.steps.step.Goals as goal
 
 pub submit-requires : goal.submit-requires
@@ -11,11 +14,17 @@ pub returns-in-Submit : goal.returns-in-Submit
 returns-in-Submit c =
     let x = c.args.client.now in
     let e = c.submit.ensures in
+    let v = c.args.event in
+    let o = subst (λ (z : Event). IsOther z) (sym c.in-Submit.is) tt in
     record {
       fits = e.fits;
-      shown = subst (λ (v : Event). OnOk c.submit.result (ShowsStep x c.submit.new.client v)) (sym c.in-Submit.is) e.shown;
-      told = subst (λ (v : Event). IfOk c.submit.result (λ a. Tells x v a)) (sym c.in-Submit.is) e.told;
+      shown = on_ok_weaker c.submit.result (λ h. shown_each x c.submit.new.client v h o)
+          (subst (λ (z : Event). OnOk c.submit.result (ShowsOne x c.submit.new.client z)) (sym c.in-Submit.is) e.shown);
+      told = IfOk-weaker c.submit.result (λ a. TellsOne x v a) (λ a. Tells x v a) (λ a h. told_each x v a h o)
+          (subst (λ (z : Event). IfOk c.submit.result (λ a. TellsOne x z a)) (sym c.in-Submit.is) e.told);
       kept = e.kept;
+      lacks = subst (λ (v : Event). OnErr c.submit.result (Lacks x v)) (sym c.in-Submit.is) e.lacks;
+      stays = subst (λ (v : Event). StaysReady x c.submit.new.client v) (sym c.in-Submit.is) tt;
     }
 
 pub push-requires : goal.push-requires
@@ -25,11 +34,15 @@ pub returns-in-Push : goal.returns-in-Push
 returns-in-Push c =
     let x = c.args.client.now in
     let e = c.push.ensures in
+    let v = c.args.event in
+    let o = subst (λ (z : Event). IsOther z) (sym c.in-Push.is) tt in
     record {
       fits = e.fits;
-      shown = subst (λ (v : Event). ShowsStep x c.push.new.client v) (sym c.in-Push.is) e.shown;
-      told = subst (λ (v : Event). Tells x v c.push.result) (sym c.in-Push.is) e.told;
+      shown = shown_each x c.push.new.client v (subst (λ (z : Event). ShowsOne x c.push.new.client z) (sym c.in-Push.is) e.shown) o;
+      told = told_each x v c.push.result (subst (λ (z : Event). TellsOne x z c.push.result) (sym c.in-Push.is) e.told) o;
       kept = tt;
+      lacks = tt;
+      stays = subst (λ (v : Event). StaysReady x c.push.new.client v) (sym c.in-Push.is) tt;
     }
 
 pub hear-requires : goal.hear-requires
@@ -44,6 +57,8 @@ returns-in-Hear c =
       shown = subst (λ (v : Event). OnOk c.hear.result (ShowsStep x c.hear.new.client v)) (sym c.in-Hear.is) e.shown;
       told = subst (λ (v : Event). IfOk c.hear.result (λ a. Tells x v a)) (sym c.in-Hear.is) e.told;
       kept = e.kept;
+      lacks = subst (λ (v : Event). OnErr c.hear.result (Lacks x v)) (sym c.in-Hear.is) e.lacks;
+      stays = subst (λ (v : Event). StaysReady x c.hear.new.client v) (sym c.in-Hear.is) tt;
     }
 
 pub cut-requires : goal.cut-requires
@@ -53,11 +68,15 @@ pub returns-in-Cut : goal.returns-in-Cut
 returns-in-Cut c =
     let x = c.args.client.now in
     let e = c.cut.ensures in
+    let v = c.args.event in
+    let o = subst (λ (z : Event). IsOther z) (sym c.in-Cut.is) tt in
     record {
       fits = e.fits;
-      shown = subst (λ (v : Event). ShowsStep x c.cut.new.client v) (sym c.in-Cut.is) e.shown;
-      told = subst (λ (v : Event). Tells x v c.cut.result) (sym c.in-Cut.is) e.told;
+      shown = shown_each x c.cut.new.client v (subst (λ (z : Event). ShowsOne x c.cut.new.client z) (sym c.in-Cut.is) e.shown) o;
+      told = told_each x v c.cut.result (subst (λ (z : Event). TellsOne x z c.cut.result) (sym c.in-Cut.is) e.told) o;
       kept = tt;
+      lacks = tt;
+      stays = subst (λ (v : Event). StaysReady x c.cut.new.client v) (sym c.in-Cut.is) tt;
     }
 
 pub ready-requires : goal.ready-requires
@@ -67,11 +86,15 @@ pub returns-in-Ready : goal.returns-in-Ready
 returns-in-Ready c =
     let x = c.args.client.now in
     let e = c.ready.ensures in
+    let v = c.args.event in
+    let o = subst (λ (z : Event). IsOther z) (sym c.in-Ready.is) tt in
     record {
       fits = e.fits;
-      shown = subst (λ (v : Event). ShowsStep x c.ready.new.client v) (sym c.in-Ready.is) e.shown;
-      told = subst (λ (v : Event). Tells x v c.ready.result) (sym c.in-Ready.is) e.told;
+      shown = shown_each x c.ready.new.client v (subst (λ (z : Event). ShowsOne x c.ready.new.client z) (sym c.in-Ready.is) e.shown) o;
+      told = told_each x v c.ready.result (subst (λ (z : Event). TellsOne x z c.ready.result) (sym c.in-Ready.is) e.told) o;
       kept = tt;
+      lacks = tt;
+      stays = subst (λ (v : Event). StaysReady x c.ready.new.client v) (sym c.in-Ready.is) e.stays;
     }
 
 pub refused-requires : goal.refused-requires
@@ -81,11 +104,17 @@ pub returns-in-Refused : goal.returns-in-Refused
 returns-in-Refused c =
     let x = c.args.client.now in
     let e = c.refused.ensures in
+    let v = c.args.event in
+    let o = subst (λ (z : Event). IsOther z) (sym c.in-Refused.is) tt in
     record {
       fits = e.fits;
-      shown = subst (λ (v : Event). OnOk c.refused.result (ShowsStep x c.refused.new.client v)) (sym c.in-Refused.is) e.shown;
-      told = subst (λ (v : Event). IfOk c.refused.result (λ a. Tells x v a)) (sym c.in-Refused.is) e.told;
+      shown = on_ok_weaker c.refused.result (λ h. shown_each x c.refused.new.client v h o)
+          (subst (λ (z : Event). OnOk c.refused.result (ShowsOne x c.refused.new.client z)) (sym c.in-Refused.is) e.shown);
+      told = IfOk-weaker c.refused.result (λ a. TellsOne x v a) (λ a. Tells x v a) (λ a h. told_each x v a h o)
+          (subst (λ (z : Event). IfOk c.refused.result (λ a. TellsOne x z a)) (sym c.in-Refused.is) e.told);
       kept = e.kept;
+      lacks = on_err c.refused.result (subst (λ (v : Event). Lacks x v) (sym c.in-Refused.is) (λ d s k. tt));
+      stays = subst (λ (v : Event). StaysReady x c.refused.new.client v) (sym c.in-Refused.is) tt;
     }
 
 pub finish-requires : goal.finish-requires
@@ -95,9 +124,13 @@ pub returns-in-Finish : goal.returns-in-Finish
 returns-in-Finish c =
     let x = c.args.client.now in
     let e = c.finish.ensures in
+    let v = c.args.event in
+    let o = subst (λ (z : Event). IsOther z) (sym c.in-Finish.is) tt in
     record {
       fits = e.fits;
-      shown = subst (λ (v : Event). ShowsStep x c.finish.new.client v) (sym c.in-Finish.is) e.shown;
-      told = subst (λ (v : Event). Tells x v c.finish.result) (sym c.in-Finish.is) e.told;
+      shown = shown_each x c.finish.new.client v (subst (λ (z : Event). ShowsOne x c.finish.new.client z) (sym c.in-Finish.is) e.shown) o;
+      told = told_each x v c.finish.result (subst (λ (z : Event). TellsOne x z c.finish.result) (sym c.in-Finish.is) e.told) o;
       kept = tt;
+      lacks = tt;
+      stays = subst (λ (v : Event). StaysReady x c.finish.new.client v) (sym c.in-Finish.is) tt;
     }

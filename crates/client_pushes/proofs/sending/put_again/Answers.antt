@@ -13,7 +13,7 @@ returns-clause-firm c =
     let r : Row = record (row_at old x) {
       asking = false;
       outstanding_on = Some c.args.channel;
-      sequence = c.sequence.result;
+      sequence = c.sequence-raised.result;
     } in
     firm_same old c.put_row.new.rows x r c.requires.within refl c.put_row.ensures.row
 
@@ -24,7 +24,7 @@ returns-clause-shown c = λ d holders s session.
     let r : Row = record (row_at old x) {
       asking = false;
       outstanding_on = Some c.args.channel;
-      sequence = c.sequence.result;
+      sequence = c.sequence-raised.result;
     } in
     let w = s.sends in
     c.put_row.ensures.shown d holders d.sent (put d.outstanding_on x (Some c.args.channel)) (put d.asks_attach x false)
@@ -35,7 +35,7 @@ returns-clause-shown c = λ d holders s session.
       asks_is = put_col (λ (z : Row). z.asking) old x r d.asks_attach false c.requires.within refl w.asks_is;
       unanswered_is = same_col (λ (z : Row). z.unanswered) old x r d.unanswered c.requires.within refl w.unanswered_is;
       sequence_is = put_col (λ (z : Row). z.sequence) old x r d.sequence_of d.sequence c.requires.within
-          (sym (c.sequence.ensures d session)) w.sequence_is;
+          (sym (c.sequence-raised.ensures d session)) w.sequence_is;
       slot_is = same_col (λ (z : Row). z.slot) old x r d.slot_of c.requires.within refl w.slot_is;
       number_is = same_col (λ (z : Row). z.slot_number) old x r d.number_of c.requires.within refl w.number_is;
     })

@@ -1,8 +1,10 @@
-use Rattle.std.proofs.Common.{◌≡◌, ◌-◌, ◌<◌, nat_lt, List, length, slice_index_or, sym, ap, ◌∙◌, subst, arith}
+use Rattle.std.proofs.Common.{◌≡◌, ◌-◌, ◌<◌, nat_lt, List, length, option_map, slice_index_or, sym, ap, ◌∙◌, subst, arith}
+use Rattle.exchange_defs.specs.Operations.{value_in}
 use Rattle.operation_values.specs.declared.values.OpKind.{OpKind}
 use Rattle.operation_values.specs.declared.values.OpKind.TheVariants as kinds
-use Rattle.operation_values.specs.Meaning.{op_of}
+use Rattle.operation_values.specs.Meaning.{op_of, reply_of}
 use Rattle.client_outcomes.specs.Hearing.{heard_by}
+use Rattle.client_replies.proofs.Heard.{heard_alike}
 use Rattle.client_replies.proofs.hearing.weigh_at.Goals as goal
 
 pub weigh_op-requires : goal.weigh_op-requires
@@ -15,6 +17,7 @@ weigh_op-requires c =
 pub returns : goal.returns
 returns c = λ d r s status reply.
     let x = c.args.index in
+    let said = option_map reply_of c.args.reply in
     let taken = s.rows.places.is_taken x c.requires.above c.requires.within in
     let op : op_of (slice_index_or c.deref.result.now (x - 1) (kinds.Close 0)) ≡ d.op x =
     ap (λ (xs : List OpKind). op_of (slice_index_or xs (x - 1) (kinds.Close 0))) c.deref.ensures.value
@@ -24,4 +27,5 @@ returns c = λ d r s status reply.
     let older : c.is_behind-is_older.result ≡ nat_lt (d.sequence_of x) d.sequence =
     c.is_behind-is_older.ensures d s.session
     ∙ ap (λ y. nat_lt y d.sequence) (c.sequence_of-sequence.ensures ∙ sym (s.rows.sends.sequence_is x)) in
-    c.weigh_op.ensures ∙ (λ t. heard_by (op t) c.args.asking (unanswered t) (older t) ((sym status) t) (reply t))
+    c.weigh_op.ensures ∙ (λ t. heard_by (op t) c.args.asking (unanswered t) (older t) ((sym status) t) said)
+    ∙ heard_alike (d.op x) c.args.asking (d.unanswered x) (nat_lt (d.sequence_of x) d.sequence) r.status said (value_in (d.op x) r.body) reply

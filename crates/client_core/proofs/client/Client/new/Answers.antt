@@ -3,8 +3,8 @@ use Rattle.client_core.proofs.client.Client.new.Goals as goal
 
 pub returns : goal.returns
 returns c =
-    let t = c.no_table-table.result in
-    let e = c.no_table-table.ensures in
+    let t = c.new-table.result in
+    let e = c.new-table.ensures in
     record {
       fits = none_fits t c.new.result.items c.new-2.result.items c.new-3.result.items c.new-4.result.items e.rows c.new.ensures.items
           c.new-2.ensures.items c.new-3.ensures.items c.new-4.ensures.items e.fits;
