@@ -2,7 +2,6 @@
 use crate::works::{Work, body_to};
 use anyhow::{Context, Result, bail, ensure};
 use client_event::{Act, Event};
-use client_outcomes::Outcome;
 use client_played::Played;
 use std::alloc::Global;
 use std::collections::VecDeque;
@@ -136,13 +135,9 @@ pub fn together(alloc: Global, work: Work, count: u32) -> Result<Course> {
 pub fn settled_ok(played: &Played) -> Result<usize> {
     let mut count: usize = 0;
     for outcome in played.client().table.settled.as_slice() {
-        if is_ok(outcome) {
+        if outcome.is_ok() {
             count = count.saturating_add(1);
         }
     }
     Ok(count)
-}
-
-fn is_ok(outcome: &Outcome) -> bool {
-    matches!(outcome, Outcome::Ok(_))
 }

@@ -1,5 +1,6 @@
 -- Which events may come, and how a client begins.
 use Rattle.std.proofs.Common.{◌≡◌, ℕ, ◌==◌, ◌&&◌, not, Bool, true, false, [], refl, sym, ◌∙◌}
+use Rattle.std.proofs.Common.{Result, Ok, Err, OnErr}
 use Rattle.exchange_defs.specs.Commands.{Begins}
 use Rattle.exchange_defs.specs.Network.{Settings, start}
 use Rattle.exchange_defs.specs.Client.{Client}
@@ -18,6 +19,28 @@ neither false b e f = absurd (cc)
 pub is_not : (b : Bool) → not b ≡ true → b ≡ false
 is_not true e = absurd (cc)
 is_not false e = refl
+
+pub is_so : (b : Bool) → not b ≡ false → b ≡ true
+is_so true e = refl
+is_so false e = absurd (cc)
+
+both_so : (a b : Bool) → (a && b) ≡ true → (a ≡ true) × (b ≡ true)
+both_so true b e = (refl, e)
+both_so false b e = absurd (cc)
+
+pub clash : (b : Bool) → b ≡ true → b ≡ false → ⊥
+clash b e f = absurd (cc)
+
+pub on_err : {T E P : Type 0} (r : Result T E) → P → OnErr r P
+on_err (Ok x) p = tt
+on_err (Err e) p = p
+
+-- a channel that is ready in this session already doesn't become ready in it
+pub again_refused : (c : Client) (k session : ℕ) → Kept c → (c.ready k && (session == c.session)) ≡ true
+    → (c.ready k ≡ true → becomes_ready c session ≡ false) → ⊥
+again_refused c k session i e m =
+    let w = both_so (c.ready k) (session == c.session) e in
+    clash (becomes_ready c session) (sym (own_so c session (i.ready k w.0)) ∙ w.1) (m w.0)
 
 pub not_again : (c : Client) (k session : ℕ) → Kept c → (c.ready k && (session == c.session)) ≡ false → c.ready k ≡ true
     → becomes_ready c session ≡ false

@@ -1,13 +1,21 @@
 // A client to which events happen. It always shows a client of the model, for which what always holds does.
-ghost use Rattle.std.specs.Prelude.{◌≡◌, ◌==◌, ◌&&◌, true};
-ghost use Rattle.exchange_defs.specs.Client.{Client as Model};
-ghost use Rattle.client_core.specs.Shown.{ShowsClient};
-ghost use Rattle.client_played.specs.Holding.{Comes, Holds};
+ghost use Rattle.std.specs.Prelude.{◌≡◌, ℕ, ◌==◌, ◌&&◌, true, false, if◌then◌else◌, map, IfOk, IfSome, IfNone, OnErr, OnOk};
+ghost use Rattle.exchange_defs.specs.Network.{Settings, start};
+ghost use Rattle.exchange_defs.specs.Operations.{Unsettled, reconnect_of as reconnecting, request_of as requesting};
+ghost use Rattle.exchange_defs.specs.Client.{Client as Model, ask_message, create_for, finish, guid_for, is_taken, own_message};
+ghost use Rattle.client_law.specs.Kept.{Kept};
+ghost use Rattle.command_values.specs.Meaning.{command_of};
+ghost use Rattle.client_outcomes.specs.Meaning.{dialog_of, outcome_of, why_of};
+ghost use Rattle.client_core.specs.Shown.{FitsClient, ShowsClient};
+ghost use Rattle.client_event.specs.Events.{KeepsShown, Lacks, Tells};
+ghost use Rattle.client_sent.specs.Sent.{IsHead};
+ghost use Rattle.client_played.specs.Holding.{Comes, ComesTo, Holds, Steps};
 
 use crate::sent::{head_of, request_of};
 use anyhow::{Result, bail};
 use client_core::Client;
 use client_event::{Act, Event, step};
+use client_outcomes::{Outcome, RefusedDialog, Why};
 use client_sent::Head;
 use command_values::Command;
 use std::alloc::{AllocError, Global};
@@ -20,19 +28,22 @@ pub struct Played {
 }
 
 impl Model for Played {
-    ghost use Rattle.std.specs.Prelude.{ℕ, length};
+    ghost use Rattle.client_core.specs.declared.client.Client.{Client as Core};
+    ghost use Rattle.client_core.specs.contracts.client.Client as core;
     ghost use Rattle.client_played.specs.Holding.{Holds};
 
-    // how many operations were taken
-    ghost Value = { ℕ };
+    ghost Value = { Core };
 
-    ghost view = { λ p. length p.client.table.ops.items };
+    ghost coded = { core.the_row.coded };
+
+    ghost view = { λ p. p.client };
 
     ghost invariant = { λ p. Holds p.client };
 }
 
 fn first(alloc: Global) -> Client
-    ensures { Holds result }
+    ensures holds { Holds result }
+    ensures shown { (settings : Settings) → ShowsClient result (start settings).client }
 {
     Client::new(alloc)
 }
@@ -60,7 +71,8 @@ fn is_live(client: &Client) -> bool
 
 /// Whether an event can come: a channel doesn't become ready twice in its session, and no client gives up in a live session.
 fn may_come(client: &Client, event: &Event) -> bool
-    ensures { result ≡ true → Comes client.now event.now }
+    ensures comes { result ≡ true → Comes client.now event.now }
+    ensures refuses { result ≡ false → (c : Model) → ShowsClient client.now c → Kept c → ComesTo c event.now → ⊥ }
 {
     match event {
         Event::Submit { .. } => true,
@@ -80,7 +92,11 @@ fn may_come(client: &Client, event: &Event) -> bool
 fn go(client: &mut Client, event: Event, alloc: Global) -> Result<Act, AllocError>
     requires holds { Holds client.old }
     requires comes { Comes client.old event }
-    ensures { Holds client.new }
+    ensures holds { Holds client.new }
+    ensures shown { OnOk result (Steps client.old client.new event) }
+    ensures told { IfOk result (Tells client.old event) }
+    ensures kept { OnErr result (KeepsShown client.old client.new) }
+    ensures lacks { OnErr result (Lacks client.old event) }
 {
     match step(client, event, alloc) {
         Ok(act) => Ok(act),
@@ -90,17 +106,59 @@ fn go(client: &mut Client, event: Event, alloc: Global) -> Result<Act, AllocErro
 
 impl Played {
     /// No operations, no opens and no session. It takes no memory.
-    pub fn new(alloc: Global) -> Played {
+    pub fn new(alloc: Global) -> Played
+        ensures { (settings : Settings) → ShowsClient result (start settings).client }
+    {
         let client = first(alloc);
         Played { client }
     }
 
-    pub fn client(&self) -> &Client {
+    pub fn client(&self) -> &Client
+        ensures { result.now ≡ self.now }
+    {
         &self.client
     }
 
+    /// How an operation settled; none where it is unsettled, or wasn't taken.
+    pub fn outcome(&self, number: u32) -> Option<&Outcome>
+        ensures some { IfSome result (λ o. (c : Model) → ShowsClient self.now c
+            → (is_taken c number ≡ true) × (c.outcome number ≡ outcome_of o.now)) }
+        ensures none { IfNone result ((c : Model) → ShowsClient self.now c → is_taken c number ≡ true → c.outcome number ≡ Unsettled) }
+    {
+        self.client.outcome(number)
+    }
+
+    /// The numbers of the operations that a reply settled, in the order of the replies.
+    pub fn order(&self) -> &[u32]
+        ensures { (c : Model) → ShowsClient self.now c → c.order ≡ result.now }
+    {
+        self.client.order()
+    }
+
+    /// The dialogs that were refused, in the order in which they were.
+    pub fn refusals(&self) -> &[RefusedDialog]
+        ensures { (c : Model) → ShowsClient self.now c → c.refusals ≡ map dialog_of result.now }
+    {
+        self.client.refusals()
+    }
+
+    /// The client ends, in a live session too: all that was taken and is unsettled is given up, and no event happens to it any more.
+    pub fn end(self, why: Why) -> Client
+        ensures fits { FitsClient result }
+        ensures shown { (c : Model) → ShowsClient self c → ShowsClient result (finish c (why_of why)) }
+    {
+        let mut client = self.client;
+        client.finish(why);
+        client
+    }
+
     /// What the client does at an event. An error where the event can't come, and where memory runs out; then nothing happened.
-    pub fn step(&mut self, event: Event, alloc: Global) -> Result<Act> {
+    pub fn step(&mut self, event: Event, alloc: Global) -> Result<Act>
+        ensures shown { OnOk result (Steps self.old self.new event) }
+        ensures told { IfOk result (Tells self.old event) }
+        ensures kept { OnErr result (KeepsShown self.old self.new) }
+        ensures lacks { OnErr result (Comes self.old event → Lacks self.old event) }
+    {
         if !may_come(&self.client, &event) {
             bail!("an event that can't come");
         }
@@ -108,7 +166,10 @@ impl Played {
     }
 
     /// The header with which an operation goes out, or the request to attach its open in its place.
-    pub fn head(&self, index: usize, asking: bool) -> Result<Head> {
+    pub fn head(&self, index: usize, asking: bool) -> Result<Head>
+        ensures { IfOk result (λ h. (c : Model) (k id : ℕ) → ShowsClient self.now c
+            → IsHead h (if asking then ask_message c k id index else own_message c k id index)) }
+    {
         head_of(&self.client, index, asking)
     }
 
@@ -119,7 +180,11 @@ impl Played {
         index: usize,
         asking: bool,
         salt: u64,
-    ) -> Result<Command<'_>> {
+    ) -> Result<Command<'_>>
+        ensures { IfOk result (λ q. (c : Model) → ShowsClient self.now c → c.who.salt ≡ salt → command_of q
+            ≡ (if asking then reconnecting (c.op (create_for c index)) (guid_for c (create_for c index)) (c.file (create_for c index))
+            else requesting (c.op index) (guid_for c index) (c.file (create_for c index)) (c.slot_of index) (c.number_of index))) }
+    {
         request_of(alloc, &self.client, index, asking, salt)
     }
 }

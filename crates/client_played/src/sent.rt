@@ -1,6 +1,10 @@
 // What goes out of an operation.
-ghost use Rattle.std.specs.Prelude.{◌≡◌, ◌<◌, nat_lt, length, true};
-ghost use Rattle.client_core.specs.Shown.{FitsClient};
+ghost use Rattle.std.specs.Prelude.{◌≡◌, ℕ, ◌<◌, nat_lt, length, true, if◌then◌else◌, IfOk};
+ghost use Rattle.exchange_defs.specs.Operations.{reconnect_of as reconnecting, request_of as requesting};
+ghost use Rattle.exchange_defs.specs.Client.{Client as Model, ask_message, create_for, guid_for, own_message};
+ghost use Rattle.command_values.specs.Meaning.{command_of};
+ghost use Rattle.client_core.specs.Shown.{FitsClient, ShowsClient};
+ghost use Rattle.client_sent.specs.Sent.{IsHead};
 
 use anyhow::{Result, bail};
 use client_core::Client;
@@ -26,6 +30,8 @@ fn has_op(client: &Client, index: usize) -> bool
 
 pub(crate) fn head_of(client: &Client, index: usize, asking: bool) -> Result<Head>
     requires fits { FitsClient client.now }
+    ensures { IfOk result (λ h. (c : Model) (k id : ℕ) → ShowsClient client.now c
+        → IsHead h (if asking then ask_message c k id index else own_message c k id index)) }
 {
     if !has_op(client, index) {
         bail!("no operation");
@@ -45,6 +51,8 @@ fn own<'a>(
     requires fits { FitsClient client.now }
     requires above { 0 < index }
     requires within { index < length client.now.table.rows.items }
+    ensures { IfOk result (λ q. (c : Model) → ShowsClient client.now c → c.who.salt ≡ salt → command_of q
+        ≡ requesting (c.op index) (guid_for c index) (c.file (create_for c index)) (c.slot_of index) (c.number_of index)) }
 {
     own_request(alloc, &client.table, &client.opened, index, salt)
 }
@@ -53,8 +61,31 @@ fn ask<'a>(client: &'a Client, index: usize, salt: u64) -> Result<Command<'a>, A
     requires fits { FitsClient client.now }
     requires above { 0 < index }
     requires within { index < length client.now.table.rows.items }
+    ensures { IfOk result (λ q. (c : Model) → ShowsClient client.now c → c.who.salt ≡ salt → command_of q
+        ≡ reconnecting (c.op (create_for c index)) (guid_for c (create_for c index)) (c.file (create_for c index))) }
 {
     ask_request(&client.table, &client.opened, index, salt)
+}
+
+/// The operation's own request, or the request to attach its open in its place (`asking`).
+fn either<'a>(
+    alloc: Global,
+    client: &'a Client,
+    index: usize,
+    asking: bool,
+    salt: u64,
+) -> Result<Command<'a>, AllocError>
+    requires fits { FitsClient client.now }
+    requires above { 0 < index }
+    requires within { index < length client.now.table.rows.items }
+    ensures { IfOk result (λ q. (c : Model) → ShowsClient client.now c → c.who.salt ≡ salt → command_of q
+        ≡ (if asking then reconnecting (c.op (create_for c index)) (guid_for c (create_for c index)) (c.file (create_for c index))
+        else requesting (c.op index) (guid_for c index) (c.file (create_for c index)) (c.slot_of index) (c.number_of index))) }
+{
+    if asking {
+        return ask(client, index, salt);
+    }
+    own(alloc, client, index, salt)
 }
 
 pub(crate) fn request_of<'a>(
@@ -65,12 +96,12 @@ pub(crate) fn request_of<'a>(
     salt: u64,
 ) -> Result<Command<'a>>
     requires fits { FitsClient client.now }
+    ensures { IfOk result (λ q. (c : Model) → ShowsClient client.now c → c.who.salt ≡ salt → command_of q
+        ≡ (if asking then reconnecting (c.op (create_for c index)) (guid_for c (create_for c index)) (c.file (create_for c index))
+        else requesting (c.op index) (guid_for c index) (c.file (create_for c index)) (c.slot_of index) (c.number_of index))) }
 {
     if !has_op(client, index) {
         bail!("no operation");
     }
-    if asking {
-        return Ok(ask(client, index, salt)?);
-    }
-    Ok(own(alloc, client, index, salt)?)
+    Ok(either(alloc, client, index, asking, salt)?)
 }

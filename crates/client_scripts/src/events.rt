@@ -155,7 +155,7 @@ fn refusal_in(alloc: Global, words: &mut SplitWhitespace<'_>) -> Result<Refusal>
 }
 
 fn refused(alloc: Global, played: &mut Played, words: &mut SplitWhitespace<'_>) -> Result<String> {
-    let channel = u32_in(words)?;
+    let channel = u8_in(words)?;
     let why = refusal_in(alloc, words)?;
     let _ = played.step(Event::Refused { channel, why }, alloc)?;
     plain(alloc, "nothing")

@@ -6,7 +6,7 @@ use client_session::Session;
 use client_table::Table;
 use msg_session::Refusal;
 use operation_rows::Row;
-use operation_values::{OpReply, TextList};
+use operation_values::TextList;
 use std::alloc::Global;
 use vector_rows::digits_of;
 
@@ -44,25 +44,19 @@ fn outcome_at(alloc: Global, table: &Table, place: usize) -> Result<String> {
 
 fn outcome_said(alloc: Global, outcome: &Outcome) -> Result<String> {
     match outcome {
-        Outcome::Ok(reply) => reply_said(alloc, reply),
+        Outcome::Done => Ok(String::from_str(alloc, "ok")?),
+        Outcome::Action(action) => Ok(format!(in alloc; "ok {action}")?),
+        Outcome::Count(count) => Ok(format!(in alloc; "ok {count}")?),
+        Outcome::Length(length) => Ok(format!(in alloc; "ok {length}")?),
+        Outcome::Content(bytes) => {
+            let digits = digits_of(alloc, bytes.as_slice())?;
+            Ok(format!(in alloc; "ok {digits}")?)
+        }
+        Outcome::Names(names) => names_said(alloc, names),
         Outcome::Refused(status) => Ok(format!(in alloc; "refused {status:08x}")?),
         Outcome::NoSlot(create) => Ok(format!(in alloc; "noslot {create}")?),
         Outcome::NoOpen(create) => Ok(format!(in alloc; "noopen {create}")?),
         Outcome::Unknown(why) => why_said(alloc, why),
-    }
-}
-
-fn reply_said(alloc: Global, reply: &OpReply) -> Result<String> {
-    match reply {
-        OpReply::Done => Ok(String::from_str(alloc, "ok")?),
-        OpReply::Action(action) => Ok(format!(in alloc; "ok {action}")?),
-        OpReply::Count(count) => Ok(format!(in alloc; "ok {count}")?),
-        OpReply::Length(length) => Ok(format!(in alloc; "ok {length}")?),
-        OpReply::Content(bytes) => {
-            let digits = digits_of(alloc, bytes.as_slice())?;
-            Ok(format!(in alloc; "ok {digits}")?)
-        }
-        OpReply::Names(names) => names_said(alloc, names),
     }
 }
 

@@ -9,6 +9,8 @@ mod operations;
 #[cfg(test)]
 mod outcomes;
 #[cfg(test)]
+mod played;
+#[cfg(test)]
 mod rows;
 #[cfg(test)]
 mod session;

@@ -26,7 +26,6 @@ fn row(unsettled: bool) -> Row {
         change: 0,
         filled: 0,
         dear: 0,
-        below: 0,
     }
 }
 

@@ -2,4 +2,6 @@ use Rattle.client_played.proofs.Coming.{held_first}
 use Rattle.client_played.proofs.played.first.Goals as goal
 
 pub returns : goal.returns
-returns c = held_first c.new.result c.new.ensures.fits c.new.ensures.shown
+returns c =
+    let e = c.new.ensures in
+    record { holds = held_first c.new.result e.fits e.shown; shown = e.shown }

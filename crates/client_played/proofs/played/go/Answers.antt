@@ -1,6 +1,7 @@
 use Rattle.exchange_defs.specs.ClientStep.{client_after}
 use Rattle.client_law.proofs.Events.{keeps}
 use Rattle.client_event.specs.Events.{event_of}
+use Rattle.client_event.proofs.Going.{may_each, means_own}
 use Rattle.client_played.proofs.played.go.Goals as goal
 
 pub step-requires : goal.step-requires
@@ -12,18 +13,30 @@ returns-in-Ok c =
     let e = event_of h.model c.args.event in
     let m = c.requires.comes h.model h.shown h.kept in
     record {
-      fits = c.step.ensures.fits;
-      model = client_after h.model e;
-      shown = c.in-Ok.ensures.shown h.model h.shown h.kept m.0;
-      kept = keeps h.model e h.kept m.1;
+      holds = record {
+        fits = c.step.ensures.fits;
+        model = client_after h.model e;
+        shown = c.in-Ok.ensures.shown h.model e h.shown h.kept (means_own h.model c.args.event) m.0;
+        kept = keeps h.model e h.kept m.1;
+      };
+      shown = λ d v s k w. c.in-Ok.ensures.shown d v s k w (may_each d c.args.event v w (c.requires.comes d s k).0);
+      told = λ d v s k w. c.in-Ok.ensures.told d v s k w;
+      kept = tt;
+      lacks = tt;
     }
 
 pub returns-in-Err : goal.returns-in-Err
 returns-in-Err c =
     let h = c.requires.holds in
     record {
-      fits = c.step.ensures.fits;
-      model = h.model;
-      shown = c.in-Err.ensures.kept h.model h.shown;
-      kept = h.kept;
+      holds = record {
+        fits = c.step.ensures.fits;
+        model = h.model;
+        shown = c.in-Err.ensures.kept h.model h.shown;
+        kept = h.kept;
+      };
+      shown = tt;
+      told = tt;
+      kept = λ d s. c.in-Err.ensures.kept d s;
+      lacks = λ d s k. c.in-Err.ensures.lacks d s k;
     }

@@ -1,31 +1,58 @@
-use Rattle.std.proofs.Common.{◌≡◌, false, sym, ◌∙◌, subst}
-use Rattle.client_law.specs.Kept.{IsTimely}
+use Rattle.std.proofs.Common.{sym, ◌∙◌, subst}
 use Rattle.client_event.specs.declared.steps.Event.{Event}
-use Rattle.client_event.specs.Events.{MayCome, event_of}
-use Rattle.client_played.proofs.Coming.{is_not, not_again}
+use Rattle.client_played.specs.Holding.{ComesTo}
+use Rattle.client_played.proofs.Coming.{again_refused, clash, is_not, is_so, not_again}
 use Rattle.client_played.proofs.played.may_come.Goals as goal
 
 pub returns-in-Submit : goal.returns-in-Submit
-returns-in-Submit c = λ t d s k. subst (λ (v : Event). MayCome d (event_of d v) × IsTimely d (event_of d v)) (sym c.in-Submit.is) (tt, tt)
+returns-in-Submit c =
+    record {
+      comes = λ t d s k. subst (λ (v : Event). ComesTo d v) (sym c.in-Submit.is) (tt, tt);
+      refuses = λ f d s k m. absurd (cc);
+    }
 
 pub returns-in-Push : goal.returns-in-Push
-returns-in-Push c = λ t d s k. subst (λ (v : Event). MayCome d (event_of d v) × IsTimely d (event_of d v)) (sym c.in-Push.is) (tt, tt)
+returns-in-Push c =
+    record {
+      comes = λ t d s k. subst (λ (v : Event). ComesTo d v) (sym c.in-Push.is) (tt, tt);
+      refuses = λ f d s k m. absurd (cc);
+    }
 
 pub returns-in-Hear : goal.returns-in-Hear
-returns-in-Hear c = λ t d s k. subst (λ (v : Event). MayCome d (event_of d v) × IsTimely d (event_of d v)) (sym c.in-Hear.is) (tt, tt)
+returns-in-Hear c =
+    record {
+      comes = λ t d s k. subst (λ (v : Event). ComesTo d v) (sym c.in-Hear.is) (tt, tt);
+      refuses = λ f d s k m. absurd (cc);
+    }
 
 pub returns-in-Cut : goal.returns-in-Cut
-returns-in-Cut c = λ t d s k. subst (λ (v : Event). MayCome d (event_of d v) × IsTimely d (event_of d v)) (sym c.in-Cut.is) (tt, tt)
+returns-in-Cut c =
+    record {
+      comes = λ t d s k. subst (λ (v : Event). ComesTo d v) (sym c.in-Cut.is) (tt, tt);
+      refuses = λ f d s k m. absurd (cc);
+    }
 
 pub returns-in-Refused : goal.returns-in-Refused
-returns-in-Refused c = λ t d s k. subst (λ (v : Event). MayCome d (event_of d v) × IsTimely d (event_of d v)) (sym c.in-Refused.is) (tt, tt)
+returns-in-Refused c =
+    record {
+      comes = λ t d s k. subst (λ (v : Event). ComesTo d v) (sym c.in-Refused.is) (tt, tt);
+      refuses = λ f d s k m. absurd (cc);
+    }
 
 pub returns-in-Ready : goal.returns-in-Ready
-returns-in-Ready c = λ t d s k.
-    subst (λ (v : Event). MayCome d (event_of d v) × IsTimely d (event_of d v)) (sym c.in-Ready.is)
-    ((λ r. not_again d _ _ k (sym (c.is_again.ensures d s) ∙ is_not c.is_again.result t) r), tt)
+returns-in-Ready c =
+    record {
+      comes = λ t d s k. subst (λ (v : Event). ComesTo d v) (sym c.in-Ready.is)
+          ((λ r. not_again d _ _ k (sym (c.is_again.ensures d s) ∙ is_not c.is_again.result t) r), tt);
+      refuses = λ f d s k m. again_refused d _ _ k (sym (c.is_again.ensures d s) ∙ is_so c.is_again.result f)
+          (subst (λ (v : Event). ComesTo d v) c.in-Ready.is m).0;
+    }
 
 pub returns-in-Finish : goal.returns-in-Finish
-returns-in-Finish c = λ t d s k.
-    subst (λ (v : Event). MayCome d (event_of d v) × IsTimely d (event_of d v)) (sym c.in-Finish.is)
-    (tt, sym (c.is_live.ensures d s) ∙ is_not c.is_live.result t)
+returns-in-Finish c =
+    record {
+      comes = λ t d s k. subst (λ (v : Event). ComesTo d v) (sym c.in-Finish.is)
+          (tt, sym (c.is_live.ensures d s) ∙ is_not c.is_live.result t);
+      refuses = λ f d s k m. clash d.live (sym (c.is_live.ensures d s) ∙ is_so c.is_live.result f)
+          (subst (λ (v : Event). ComesTo d v) c.in-Finish.is m).1;
+    }

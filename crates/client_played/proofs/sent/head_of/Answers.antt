@@ -1,3 +1,6 @@
+use Rattle.std.proofs.Common.{Bool, if◌then◌else◌, sym, subst}
+use Rattle.exchange_defs.specs.Client.{ask_message, own_message}
+use Rattle.client_sent.specs.Sent.{IsHead}
 use Rattle.client_played.proofs.sent.head_of.Goals as goal
 
 pub own_head-requires : goal.own_head-requires
@@ -7,3 +10,15 @@ own_head-requires c =
       above = c.has_op.ensures.above c.if-not-has_op.false;
       within = c.has_op.ensures.within c.if-not-has_op.false;
     }
+
+pub returns-then-asking : goal.returns-then-asking
+returns-then-asking c = λ d k id s.
+    let g = c.args.index in
+    subst (λ (b : Bool). IsHead c.ask_head.result (if b then ask_message d k id g else own_message d k id g)) (sym c.if-asking.true)
+    (c.ask_head.ensures d k id g s.table)
+
+pub returns : goal.returns
+returns c = λ d k id s.
+    let g = c.args.index in
+    subst (λ (b : Bool). IsHead c.own_head.result (if b then ask_message d k id g else own_message d k id g)) (sym c.if-asking.false)
+    (c.own_head.ensures d k id s.table)

@@ -1,6 +1,8 @@
 use Rattle.std.proofs.Common.{◌<◌, List, length, sym, subst}
+use Rattle.std.proofs.lemmas.Result.{IfOk-weaker}
 use Rattle.operation_rows.specs.Rows.{row_at}
 use Rattle.client_attached.specs.declared.opened.Opened.{Opened}
+use Rattle.client_attached.specs.Known.{ShowsOpened}
 use Rattle.client_played.proofs.sent.own.Goals as goal
 
 pub own_request-requires : goal.own_request-requires
@@ -15,3 +17,10 @@ own_request-requires c =
       known = subst (λ (xs : List Opened). place < length xs) (sym c.deref.ensures.value)
           (subst (λ n. place < n) (sym w.known) (w.opens.opens x c.requires.above c.requires.within));
     }
+
+pub returns : goal.returns
+returns c =
+    let rows = c.args.client.now.table.rows.items in
+    IfOk-weaker c.own_request.result _ _
+    (λ q is d s e. is d s.table (subst (λ (xs : List Opened). ShowsOpened rows xs d) (sym c.deref.ensures.value) s.opened) e)
+    c.own_request.ensures
