@@ -1,0 +1,11 @@
+pub mod Stepping
+pub mod Moving
+pub mod Putting
+pub mod Steps
+pub mod Whole
+pub mod Nexts
+pub mod Loops
+pub mod Closing
+pub mod Rooms
+pub mod Heard
+pub mod Finally

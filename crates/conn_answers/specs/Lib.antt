@@ -1,0 +1,4 @@
+pub mod Replying
+pub mod Joined
+pub mod Adding
+pub mod Walking

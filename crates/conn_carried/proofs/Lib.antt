@@ -1,0 +1,4 @@
+pub mod Placed
+pub mod Files
+pub mod Carried
+pub mod Inherited

@@ -1,0 +1,12 @@
+use Rattle.std.proofs.Common.{◌∙◌, Bool, Some, if◌then◌else◌, refl, ap}
+use Rattle.exchange_defs.specs.Status.{no_memory}
+use Rattle.conn_core.proofs.taking.taken_of.Goals as goal
+
+pub returns : goal.returns
+returns c = (
+  refl,
+  c.status_by.ensures ∙ ap (λ (b : Bool). if b then Some no_memory else c.args.answered.status) c.lacked-lacked.ensures,
+  c.acted.ensures,
+  refl,
+  c.lacked-lacked.ensures,
+)

@@ -1,0 +1,159 @@
+//! A whole frame over a server (MS-SMB2 3.3.5.2).
+ghost use Rattle.std.specs.Prelude.{◌≡◌, ◌≤◌, ℕ, [], true, false, List, IfOk, length, vec_capacity, if◌then◌else◌, Some};
+ghost use Rattle.exchange_defs.specs.Status.{no_memory};
+ghost use Rattle.exchange_defs.specs.State.{Record, Server};
+ghost use Rattle.session_defs.specs.Nonces.{last_counter};
+ghost use Rattle.credit_defs.specs.Window.{HeldIds};
+ghost use Rattle.world_defs.specs.Settings.{ServerSettings};
+ghost use Rattle.world_defs.specs.Ends.{ServerEnd, Logons};
+ghost use Rattle.world_defs.specs.Hearing as hearing;
+ghost use Rattle.world_defs.specs.Answering as answering;
+ghost use Rattle.conn_ends.specs.Shown.{MaySeal, ShowsEnd};
+ghost use Rattle.conn_frames.specs.Checking.{AllHaveMessages, AreInOrder, GreetsFirst, ShowsFrame};
+ghost use Rattle.conn_served.specs.Replies.{some_acted, some_lacked};
+ghost use Rattle.conn_said.specs.Replying.{AreAsked, AreShort};
+ghost use Rattle.conn_dealt.specs.Dealing.{Alone, taken_records};
+ghost use Rattle.conn_answers.specs.Replying.{AreAnswers, replied};
+ghost use Rattle.conn_core.specs.Taking.{Finishes, IsEnded, Serves, Takes};
+
+use crate::end::{Ended, at_once};
+use conn_answers::{Answered, answered_with};
+use conn_dealt::{Dealt, Moment, carry_out};
+use conn_ends::{Conn, ConnEnd};
+use conn_frames::{CheckedFrame, check};
+use conn_served::{Replies, Serve};
+use smb_bytes::Bytes;
+use std::alloc::{AllocError, Global};
+
+/// STATUS_NO_MEMORY (MS-ERREF 2.3.1)
+const NO_MEMORY: u32 = 0xc000_0017;
+
+/// What a step tells: the last reply's status, none where no reply was made, or NO_MEMORY where an event found none; and
+/// whether a message of it acted.
+#[derive(Clone, Copy, Debug, PartialEq, Eq)]
+pub struct StepNote {
+    pub status: Option<u32>,
+    pub acted: bool,
+}
+
+/// A frame was taken: its answer, frames behind their lengths, and a note.
+#[derive(Drop, Debug)]
+pub struct Taken {
+    pub bytes: Bytes,
+    pub note: StepNote,
+    /// A message of the frame was taken: a frame of CANCELs alone, or whose messages all fail, has none.
+    pub took: bool,
+    /// An event of the frame found no memory.
+    pub lacked: bool,
+}
+
+/// No answers yet, with room for so many.
+fn dealt_for(alloc: Global, count: usize) -> Result<Dealt, AllocError>
+    ensures none { IfOk result (λ d. (d.replies.items.items ≡ []) × (d.took ≡ false)) }
+    ensures room { IfOk result (λ d. count ≤ vec_capacity d.replies.items) }
+{
+    let replies = Replies::with_room(alloc, count)?;
+    Ok(Dealt {
+        replies,
+        took: false,
+    })
+}
+
+fn end_of(why: ConnEnd, dealt: &Dealt) -> Ended
+    ensures { IsEnded why dealt.now result }
+{
+    Ended {
+        why,
+        acted: dealt.replies.acted(),
+        took: dealt.took,
+        lacked: dealt.replies.lacked(),
+    }
+}
+
+/// The status of the last reply, or NO_MEMORY where an event found none.
+fn status_by(lacked: bool, status: Option<u32>) -> Option<u32>
+    ensures { result ≡ (if lacked then Some no_memory else status) }
+{
+    if lacked { Some(NO_MEMORY) } else { status }
+}
+
+fn taken_of(answered: Answered, dealt: &Dealt) -> Taken
+    ensures { (result.bytes ≡ answered.bytes)
+        × (result.note.status ≡ (if some_lacked dealt.now.replies.items.items then Some no_memory else answered.status))
+        × (result.note.acted ≡ some_acted dealt.now.replies.items.items) × (result.took ≡ dealt.now.took)
+        × (result.lacked ≡ some_lacked dealt.now.replies.items.items) }
+{
+    let lacked = dealt.replies.lacked();
+    Taken {
+        bytes: answered.bytes,
+        note: StepNote {
+            status: status_by(lacked, answered.status),
+            acted: dealt.replies.acted(),
+        },
+        took: dealt.took,
+        lacked,
+    }
+}
+
+/// The answer to a frame whose messages were all carried out.
+fn finish(conn: &mut Conn, asked: &CheckedFrame, dealt: &Dealt) -> Result<Taken, Ended>
+    requires messages { AllHaveMessages asked.now }
+    requires short { AreShort dealt.now.replies.items.items }
+    ensures { (z : ServerSettings) (s : Server) (L : Logons) (f : ServerEnd) (cs : List hearing.Checked) (ss : List answering.Said)
+        (w : HeldIds) → ShowsEnd conn.old.id z.guid conn.old f → AreAnswers z f cs ss w asked.now dealt.now.replies.items.items
+        → Finishes conn.old.id z.guid (replied s L f asked.now.sealed w ss) dealt.now conn.new result }
+{
+    match answered_with(conn, asked, &dealt.replies) {
+        Ok(answered) => Ok(taken_of(answered, dealt)),
+        Err(why) => Err(end_of(why, dealt)),
+    }
+}
+
+/// Lets the server answer each message of a checked frame, and joins the replies.
+fn serve<S: Serve>(
+    conn: &mut Conn,
+    server: &mut S,
+    moment: &Moment,
+    asked: &mut CheckedFrame,
+    dealt: &mut Dealt,
+) -> Result<Taken, Ended>
+    requires order { AreInOrder asked.old }
+    requires none { (dealt.old.replies.items.items ≡ []) × (dealt.old.took ≡ false) }
+    requires room { length asked.old.messages.items ≤ vec_capacity dealt.old.replies.items }
+    ensures { (z : ServerSettings) (s : Server) (L : Logons) (records : List Record) (f : ServerEnd) (F : hearing.Frame)
+        → S.shows server.old z.users s L records → ShowsEnd conn.old.id z.guid conn.old F.server_end → ShowsFrame asked.old F
+        → (asked.old.sealed ≡ true → MaySeal F.server_end.keys) → asked.old.moment ≡ moment.now.time
+        → GreetsFirst F.messages → Alone F.messages → AreAsked F.server_end.asked F.messages → F.server_end.counter ≤ last_counter
+        → Serves (S.shows server.new z.users) z conn.old.id moment.now.time moment.now.fresh s L records f F conn.new result }
+{
+    match carry_out(conn, server, moment, asked, dealt) {
+        Ok(()) => finish(conn, asked, dealt),
+        Err(why) => Err(end_of(why, dealt)),
+    }
+}
+
+/// Takes a frame: checks it, lets the server answer each message, and joins the replies. `now` is the moment in units
+/// of 100 nanoseconds since 1601, and `fresh` are random bytes for a challenge. An end tells whether a message of the
+/// frame acted before it.
+pub fn take_frame<S: Serve>(
+    conn: &mut Conn,
+    server: &mut S,
+    now: u64,
+    fresh: [u8; 8],
+    frame: &[u8],
+) -> Result<Taken, Ended>
+    ensures { (z : ServerSettings) (s : Server) (L : Logons) (records : List Record) (f : ServerEnd)
+        → S.shows server.old z.users s L records → ShowsEnd conn.old.id z.guid conn.old f → f.counter ≤ last_counter
+        → Takes (S.shows server.new z.users) z conn.old.id now fresh s L records f frame.now conn.new result }
+{
+    let mut asked = match check(conn, frame, now) {
+        Ok(asked) => asked,
+        Err(why) => return Err(at_once(why)),
+    };
+    let mut dealt = match dealt_for(conn.alloc, asked.len()) {
+        Ok(dealt) => dealt,
+        Err(AllocError) => return Err(at_once(ConnEnd::Memory)),
+    };
+    let moment = Moment { time: now, fresh };
+    serve(conn, server, &moment, &mut asked, &mut dealt)
+}

@@ -1,0 +1,13 @@
+pub mod Turns
+pub mod Saids
+pub mod Plainly
+pub mod Setting
+pub mod Gives
+pub mod Alone
+pub mod Lists
+pub mod SoFar
+pub mod Shorts
+pub mod Keeping
+pub mod Cases
+pub mod Stepping
+pub mod Ending

@@ -1,0 +1,116 @@
+-- What a plain message's event gives.
+use Rattle.std.proofs.Common.{◌≡◌, ℕ, ◌==◌, Bool, false, ◌&&◌, if◌then◌else◌, List, [], ◌++◌}
+use Rattle.std.proofs.Common.{Option, Some, Result, Ok, Err, refl, sym, ap, subst}
+use Rattle.std.proofs.Common.{◌∙◌}
+use Rattle.exchange_defs.specs.Commands as asks
+use Rattle.exchange_defs.specs.State as model
+use Rattle.exchange_defs.specs.Network.{answer_to}
+use Rattle.exchange_defs.specs.Status.{success}
+use Rattle.command_defs.specs.ReplyBody.{reply_body}
+use Rattle.command_values.specs.Meaning.{message_of, command_of}
+use Rattle.command_values.specs.declared.request.Message.{Message}
+use Rattle.credit_defs.specs.Window.{granted}
+use Rattle.token_defs.specs.Acceptor.{User}
+use Rattle.token_defs.specs.Tokens.{Pending}
+use Rattle.world_defs.specs.Settings.{ServerSettings}
+use Rattle.world_defs.specs.Ends.{ServerEnd, Logons}
+use Rattle.world_defs.specs.Hearing as hearing
+use Rattle.world_defs.specs.Negotiate.{negotiate_response_body}
+use Rattle.world_defs.specs.Answering as answering
+use Rattle.world_defs.specs.Connection.{said_to}
+use Rattle.world_defs.specs.Logon as logon
+use Rattle.server_events.specs.declared.error.EventError.{EventError}
+use Rattle.server_events.specs.declared.error.EventError.TheVariants as errors
+use Rattle.server_asked.specs.declared.event.ServerEvent.TheVariants as events
+use Rattle.conn_ends.specs.declared.conn.Progress.{Progress}
+use Rattle.conn_ends.specs.declared.conn.Progress.TheVariants.{Stays, Interim, Final}
+use Rattle.conn_sealing.specs.Saying.{AreProgressKeys, MovesAs}
+use Rattle.conn_served.specs.Serving.{IsPlain, RepliesHeard, Serves, Showing, Stands}
+use Rattle.conn_served.specs.declared.serve.Reply.{Reply}
+use Rattle.conn_said.specs.Replying.{SetsUp, signer_due}
+use Rattle.conn_heard.proofs.Plain.{plain_event}
+use Rattle.conn_dealt.specs.Dealing.{GivesBy, GivesIf, GivesReply}
+
+plain_stays : (c : asks.Command) (r : model.Reply) → IsPlain c → logon.progress c r ≡ logon.Stays
+plain_stays (asks.Unreadable status) r p = refl
+plain_stays (asks.Aside status) r p = absurd p
+plain_stays (asks.Setup request) r p = absurd p
+plain_stays asks.Logoff r p = refl
+plain_stays (asks.TreeConnect share) r p = refl
+plain_stays asks.TreeDisconnect r p = refl
+plain_stays (asks.Create request) r p = refl
+plain_stays (asks.Close file query) r p = refl
+plain_stays (asks.Flush file) r p = refl
+plain_stays (asks.Read file at size minimum channel) r p = refl
+plain_stays (asks.Write file at bytes channel) r p = refl
+plain_stays (asks.Lock file index number elements) r p = refl
+plain_stays (asks.Ioctl file code room) r p = refl
+plain_stays (asks.ListDirectory file class restart single pattern room) r p = refl
+plain_stays (asks.QueryFile file class room) r p = refl
+plain_stays (asks.QueryVolume file class room) r p = refl
+plain_stays (asks.SetInfo file setting) r p = refl
+
+stands_is : (x : Progress) → Stands x → x ≡ Stays
+stands_is Stays p = refl
+stands_is (Interim signer) p = absurd p
+stands_is (Final keys channel encrypts) p = absurd p
+
+-- of any message but a NEGOTIATE that was answered
+pub body_is : (guid salt : List ℕ) (now : ℕ) (c : hearing.Checked) (token : List ℕ) (command : asks.Command) (r : model.Reply)
+    → (c.header.command == 0) ≡ false → answering.said_body guid salt now c token command r ≡ reply_body token command r
+unfolding answering.said_body
+body_is guid salt now c token command r e =
+    ap (λ (b : Bool). if b && (r.status == success) then negotiate_response_body guid salt now c.bytes else reply_body token command r) e
+
+pub no_token : (users : List User) (pending : Option Pending) (token fresh : List ℕ) (now : ℕ) (p : logon.Progress) → p ≡ logon.Stays
+    → logon.answer_token_by users pending token fresh now p ≡ []
+unfolding logon.answer_token_by
+no_token users pending token fresh now p e = ap (λ (q : logon.Progress). logon.answer_token_by users pending token fresh now q) e
+
+plain_reply : (shown : Showing) (z : ServerSettings) (k now : ℕ) (fresh : List ℕ) (s : model.Server) (L : Logons)
+    (records : List model.Record) (f : ServerEnd) (c : hearing.Checked) (m : model.Message) (r : Reply) → (c.header.command == 0) ≡ false
+    → IsPlain m.command → RepliesHeard shown s L records now m r → GivesReply shown z k now fresh s L records f c m r
+plain_reply shown z k now fresh s L records f c m r negotiate plain serves =
+    let A = answer_to s now m m.command in
+    let a = serves.0 in
+    let p : logon.progress m.command A.reply ≡ logon.Stays = plain_stays m.command A.reply plain in
+    let stands : r.progress ≡ Stays = stands_is r.progress serves.1 in
+    let token = logon.answer_token_by z.users (L.pending k) (logon.token_in c.bytes) fresh now (logon.progress m.command A.reply) in
+    let none : token ≡ [] =
+    no_token z.users (L.pending k) (logon.token_in c.bytes) fresh now (logon.progress m.command A.reply) p in
+    record {
+      state = subst (λ (q : logon.Progress). shown A.server (logon.logons_behind z.users L k f c fresh now q) (records ++ A.records))
+          (sym p)
+          serves.2;
+      named = a.named;
+      acted = a.acted;
+      said = λ w. record {
+        header = λ i. answering.reply_header c (a.named.status i) (a.named.session i) (a.named.tree i) (granted c.header.credits w);
+        body = body_is z.guid f.salt now c token m.command A.reply negotiate
+            ∙ (ap (λ (t : List ℕ). reply_body t m.command A.reply) none ∙ sym a.body);
+        signer = ap (λ (q : logon.Progress). logon.signer_of z.users L k f c q) p ∙ sym (ap (λ (x : Progress). signer_due f x) stands);
+        request = refl;
+        progress = subst (λ (x : Progress). MovesAs x (said_to z k now fresh f L w c m.command A.reply)) (sym stands) p;
+        known = subst (λ (x : Progress). AreProgressKeys x) (sym stands) tt;
+        sets = subst (λ (x : Progress). SetsUp x c) (sym stands) tt;
+      };
+    }
+
+plain_by : (shown : Showing) (z : ServerSettings) (k now : ℕ) (fresh : List ℕ) (s : model.Server) (L : Logons)
+    (records : List model.Record) (f : ServerEnd) (c : hearing.Checked) (message : Message) (r : Result Reply EventError)
+    → (c.header.command == 0) ≡ false → IsPlain (command_of message.command)
+    → Serves shown z.users s L records now (events.Message message) r
+    → GivesBy shown z k now fresh s L records f c (message_of message) r
+plain_by shown z k now fresh s L records f c message (Ok r) negotiate plain serves =
+    plain_reply shown z k now fresh s L records f c (message_of message) r negotiate plain serves
+plain_by shown z k now fresh s L records f c message (Err errors.Memory) negotiate plain serves = serves
+plain_by shown z k now fresh s L records f c message (Err (errors.DiskFault count)) negotiate plain serves = tt
+plain_by shown z k now fresh s L records f c message (Err (errors.Stopped count)) negotiate plain serves = tt
+
+pub plain_gives : (shown : Showing) (z : ServerSettings) (k now : ℕ) (fresh : List ℕ) (s : model.Server) (L : Logons)
+    (records : List model.Record) (f : ServerEnd) (c : hearing.Checked) (message : Message) (m : model.Message)
+    (r : Result Reply EventError) → (c.header.command == 0) ≡ false → IsPlain (command_of message.command) → message_of message ≡ m
+    → Serves shown z.users s L records now (events.Message message) r → GivesIf shown z k now fresh s L records f c (Some m) (Some r)
+plain_gives shown z k now fresh s L records f c message m r negotiate plain same serves =
+    subst (λ (x : model.Message). GivesIf shown z k now fresh s L records f c (Some x) (Some r)) same
+    (plain_event (command_of message.command) plain, plain_by shown z k now fresh s L records f c message r negotiate plain serves)

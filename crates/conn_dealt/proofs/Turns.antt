@@ -1,0 +1,258 @@
+-- One message after the other, whatever befalls those behind it.
+use Rattle.std.proofs.Common.{◌≡◌, ℕ, zero, suc, ◌+◌, Bool, true, false, if◌then◌else◌, List, [], ◌∷◌, ◌++◌, drop, Option, Some, None}
+use Rattle.std.proofs.Common.{slice_get, refl, sym, ap, subst, ◌∙◌, append_assoc, arith}
+use Rattle.std.specs.Prelude.{is_some}
+use Rattle.exchange_defs.specs.State as model
+use Rattle.exchange_defs.specs.Network.{answer_to}
+use Rattle.exchange_defs.specs.Status.{no_memory}
+use Rattle.world_defs.specs.Ends.{ServerEnd, Logons}
+use Rattle.world_defs.specs.Settings.{ServerSettings}
+use Rattle.world_defs.specs.Hearing as hearing
+use Rattle.world_defs.specs.Related.{Turn, Goes, Fails, turn_of}
+use Rattle.world_defs.specs.Connection.{heard_message, went_by, went_heard, went_turn}
+use Rattle.world_defs.specs.Given.{has_event, went_answered, went_refused}
+use Rattle.world_defs.specs.Mishaps.{Mishap, Lacks, Halts, Owned, owning, owned_all, owned_turn, owned_heard, owned_aside, owned_next}
+use Rattle.conn_dealt.specs.SoFar.{Begins, with_mishaps}
+use Rattle.world_defs.specs.Mishaps.{LeavesIt, LeavesNext, LeavesHeard, LeavesTurn, LeaveAll}
+
+-- ---- lists
+
+or_this : hearing.Checked → Option hearing.Checked → hearing.Checked
+or_this d None = d
+or_this d (Some c) = c
+
+pub one_checked : (c d : hearing.Checked) → Some c ≡ Some d → c ≡ d
+unfolding or_this
+one_checked c d e = ap (λ (o : Option hearing.Checked). or_this c o) e
+
+front : (cs : List hearing.Checked) (i : ℕ) (c : hearing.Checked) → slice_get cs i ≡ Some c → drop i cs ≡ c ∷ drop (suc i) cs
+front [] zero c e = absurd cc
+front [] (suc i) c e = absurd cc
+front (x ∷ xs) zero c e = ap (λ (y : hearing.Checked). y ∷ xs) (one_checked x c e)
+front (x ∷ xs) (suc i) c e = front xs i c e
+
+pub front_of : (cs : List hearing.Checked) (i : ℕ) (c : hearing.Checked) → slice_get cs i ≡ Some c → drop i cs ≡ c ∷ drop (i + 1) cs
+front_of cs i c e =
+    let next : suc i ≡ i + 1 = omega arith in
+    front cs i c e ∙ ap (λ (n : ℕ). c ∷ drop n cs) next
+
+-- ---- one turn: what it takes of the mishaps, and what is behind it
+
+pub record Turns (z : ServerSettings) (k now : ℕ) (fresh : List ℕ) (f : ServerEnd) (w : Owned) (c : hearing.Checked)
+    (xs : List (Option Mishap)) (v : Owned) : Type 0 where
+  pub is : (later : List (Option Mishap)) → owned_turn z k now fresh f (with_mishaps w (xs ++ later)) c (turn_of w.dealt.going.carried c)
+      ≡ with_mishaps v later
+  pub left : (later : List (Option Mishap)) → LeavesTurn z k now f (with_mishaps w (xs ++ later)) (turn_of w.dealt.going.carried c)
+
+one_on : (z : ServerSettings) (k now : ℕ) (fresh : List ℕ) (f : ServerEnd) (w : Owned) (c : hearing.Checked) (cs : List hearing.Checked)
+    → w.dealt.stopped ≡ None
+    → owned_all z k now fresh f w (c ∷ cs) ≡ owned_all z k now fresh f (owned_turn z k now fresh f w c (turn_of w.dealt.going.carried c)) cs
+unfolding owned_all
+one_on z k now fresh f w c cs goes =
+    ap (λ (o : Option ℕ). if is_some o then w
+    else owned_all z k now fresh f (owned_turn z k now fresh f w c (turn_of w.dealt.going.carried c)) cs) goes
+
+one_left : (z : ServerSettings) (k now : ℕ) (fresh : List ℕ) (f : ServerEnd) (w : Owned) (c : hearing.Checked) (cs : List hearing.Checked)
+    → LeavesTurn z k now f w (turn_of w.dealt.going.carried c)
+    → LeaveAll z k now fresh f (owned_turn z k now fresh f w c (turn_of w.dealt.going.carried c)) cs → LeaveAll z k now fresh f w (c ∷ cs)
+unfolding LeaveAll
+one_left z k now fresh f w c cs here rest = (here, rest)
+
+pub begins_on : (z : ServerSettings) (k now : ℕ) (fresh : List ℕ) (s : model.Server) (L : Logons) (f : ServerEnd)
+    (cs : List hearing.Checked) (at : ℕ) (c : hearing.Checked) (w v : Owned) (xs : List (Option Mishap)) → slice_get cs at ≡ Some c
+    → w.dealt.stopped ≡ None → Begins z k now fresh s L f cs at w → Turns z k now fresh f w c xs v
+    → Begins z k now fresh s L f cs (at + 1) v
+begins_on z k now fresh s L f cs at c w v xs here goes b t =
+    let parts : drop at cs ≡ c ∷ drop (at + 1) cs = front_of cs at c here in
+    record {
+      mishaps = b.mishaps ++ xs;
+      is = λ later.
+          ap (λ (l : List (Option Mishap)). owned_all z k now fresh f (owning s L f l) cs) (append_assoc b.mishaps xs later)
+          ∙ (b.is (xs ++ later)
+          ∙ (ap (λ (ds : List hearing.Checked). owned_all z k now fresh f (with_mishaps w (xs ++ later)) ds) parts
+          ∙ (one_on z k now fresh f (with_mishaps w (xs ++ later)) c (drop (at + 1) cs) goes
+          ∙ ap (λ (u : Owned). owned_all z k now fresh f u (drop (at + 1) cs)) (t.is later))));
+      left = λ later rest.
+          subst (λ (l : List (Option Mishap)). LeaveAll z k now fresh f (owning s L f l) cs) (sym (append_assoc b.mishaps xs later))
+          (b.left (xs ++ later)
+          (subst (λ (ds : List hearing.Checked). LeaveAll z k now fresh f (with_mishaps w (xs ++ later)) ds) (sym parts)
+          (one_left z k now fresh f (with_mishaps w (xs ++ later)) c (drop (at + 1) cs) (t.left later)
+          (subst (λ (u : Owned). LeaveAll z k now fresh f u (drop (at + 1) cs)) (sym (t.is later)) rest))));
+    }
+
+-- ---- behind a stop
+
+pub halts : (z : ServerSettings) (k now : ℕ) (fresh : List ℕ) (f : ServerEnd) (v : Owned) (count : ℕ) (cs : List hearing.Checked)
+    → v.dealt.stopped ≡ Some count → owned_all z k now fresh f v cs ≡ v
+unfolding owned_all
+halts z k now fresh f v count [] e = refl
+halts z k now fresh f v count (c ∷ cs) e =
+    ap (λ (o : Option ℕ). if is_some o then v
+    else owned_all z k now fresh f (owned_turn z k now fresh f v c (turn_of v.dealt.going.carried c)) cs) e
+
+pub all_done : (z : ServerSettings) (k now : ℕ) (fresh : List ℕ) (f : ServerEnd) (v : Owned) → owned_all z k now fresh f v [] ≡ v
+unfolding owned_all
+all_done z k now fresh f v = refl
+
+pub none_left : (z : ServerSettings) (k now : ℕ) (fresh : List ℕ) (f : ServerEnd) (v : Owned) → LeaveAll z k now fresh f v []
+unfolding LeaveAll
+none_left z k now fresh f v = tt
+
+next_kept : (z : ServerSettings) (k now : ℕ) (fresh : List ℕ) (f : ServerEnd) (w : Owned) (c : hearing.Checked) (m : model.Message)
+    (l : List (Option Mishap)) → l ≡ [] → w.mishaps ≡ [] → (owned_next z k now fresh f w c m l).mishaps ≡ []
+next_kept z k now fresh f w c m [] e none = none
+next_kept z k now fresh f w c m (x ∷ xs) e none = absurd cc
+
+event_kept : (z : ServerSettings) (k now : ℕ) (fresh : List ℕ) (f : ServerEnd) (w : Owned) (c : hearing.Checked) (m : model.Message)
+    (b : Bool) → w.mishaps ≡ []
+    → (if b then owned_next z k now fresh f w c m w.mishaps else owned_aside z k now fresh f w c (Some m)).mishaps ≡ []
+event_kept z k now fresh f w c m true none = next_kept z k now fresh f w c m w.mishaps none none
+event_kept z k now fresh f w c m false none = none
+
+heard_kept : (z : ServerSettings) (k now : ℕ) (fresh : List ℕ) (f : ServerEnd) (w : Owned) (c : hearing.Checked)
+    (o : Option model.Message) → w.mishaps ≡ [] → (owned_heard z k now fresh f w c o).mishaps ≡ []
+heard_kept z k now fresh f w c None none = none
+heard_kept z k now fresh f w c (Some m) none = event_kept z k now fresh f w c m (has_event m.command) none
+
+turn_kept : (z : ServerSettings) (k now : ℕ) (fresh : List ℕ) (f : ServerEnd) (w : Owned) (c : hearing.Checked) (t : Turn)
+    → w.mishaps ≡ [] → (owned_turn z k now fresh f w c t).mishaps ≡ []
+turn_kept z k now fresh f w c (Goes d) none = heard_kept z k now fresh f w d (heard_message z w.dealt.going.logons k f d) none
+turn_kept z k now fresh f w c (Fails status) none = none
+
+heard_leaves : (w : Owned) (now : ℕ) (o : Option model.Message) → w.mishaps ≡ [] → LeavesHeard w now o
+heard_leaves w now None none = tt
+heard_leaves w now (Some m) none = λ event. subst (λ (l : List (Option Mishap)). LeavesNext w now m l) (sym none) tt
+
+turn_leaves : (z : ServerSettings) (k now : ℕ) (f : ServerEnd) (w : Owned) (t : Turn) → w.mishaps ≡ [] → LeavesTurn z k now f w t
+turn_leaves z k now f w (Goes d) none = heard_leaves w now (heard_message z w.dealt.going.logons k f d) none
+turn_leaves z k now f w (Fails status) none = tt
+
+pub all_left : (z : ServerSettings) (k now : ℕ) (fresh : List ℕ) (f : ServerEnd) (w : Owned) (cs : List hearing.Checked) → w.mishaps ≡ []
+    → LeaveAll z k now fresh f w cs
+all_left z k now fresh f w [] none = none_left z k now fresh f w
+all_left z k now fresh f w (c ∷ cs) none =
+    one_left z k now fresh f w c cs (turn_leaves z k now f w (turn_of w.dealt.going.carried c) none)
+    (all_left z k now fresh f (owned_turn z k now fresh f w c (turn_of w.dealt.going.carried c)) cs
+    (turn_kept z k now fresh f w c (turn_of w.dealt.going.carried c) none))
+
+-- ---- a message that fails with the one before it
+
+abbrev pub behind_failed : ServerSettings → ℕ → ℕ → List ℕ → ServerEnd → Owned → hearing.Checked → ℕ → Owned
+behind_failed z k now fresh f w c status = record w {
+  dealt = record w.dealt {
+    going = went_turn z k now fresh f w.dealt.going c (Fails
+        status);
+  };
+}
+
+pub turn_failed : (z : ServerSettings) (k now : ℕ) (fresh : List ℕ) (f : ServerEnd) (w : Owned) (c : hearing.Checked) (status : ℕ)
+    → turn_of w.dealt.going.carried c ≡ Fails status → Turns z k now fresh f w c [] (behind_failed z k now fresh f w c status)
+turn_failed z k now fresh f w c status e = record {
+  is = λ later. ap (λ (t : Turn). owned_turn z k now fresh f (with_mishaps w later) c t) e;
+  left = λ later. subst (λ (t : Turn). LeavesTurn z k now f (with_mishaps w later) t) (sym e) tt;
+}
+
+-- ---- one that goes its way without an event
+
+abbrev pub behind_none : ServerSettings → ℕ → ℕ → List ℕ → ServerEnd → Owned → hearing.Checked → Owned
+behind_none z k now fresh f w d = record w { dealt = record w.dealt { going = went_heard z k now fresh f w.dealt.going d None } }
+
+pub turn_none : (z : ServerSettings) (k now : ℕ) (fresh : List ℕ) (f : ServerEnd) (w : Owned) (c d : hearing.Checked)
+    → turn_of w.dealt.going.carried c ≡ Goes d → heard_message z w.dealt.going.logons k f d ≡ None
+    → Turns z k now fresh f w c [] (behind_none z k now fresh f w d)
+turn_none z k now fresh f w c d e heard = record {
+  is = λ later.
+      ap (λ (t : Turn). owned_turn z k now fresh f (with_mishaps w later) c t) e
+      ∙ ap (λ (o : Option model.Message). owned_heard z k now fresh f (with_mishaps w later) d o) heard;
+  left = λ later.
+      subst (λ (t : Turn). LeavesTurn z k now f (with_mishaps w later) t) (sym e)
+      (subst (λ (o : Option model.Message). LeavesHeard (with_mishaps w later) now o) (sym heard) tt);
+}
+
+-- behind the step's own answer
+abbrev pub behind_answer : ServerSettings → ℕ → ℕ → List ℕ → ServerEnd → Owned → hearing.Checked → model.Message → Owned
+behind_answer z k now fresh f w d m = record w {
+  dealt = record w.dealt {
+    going = went_by z k now fresh f w.dealt.going d m (answer_to w.dealt.going.server now m m.command);
+  };
+}
+
+no_event : (a : Bool) → a ≡ false → a ≡ true → ⊥
+no_event true e f = absurd cc
+no_event false e f = absurd cc
+
+pub turn_aside : (z : ServerSettings) (k now : ℕ) (fresh : List ℕ) (f : ServerEnd) (w : Owned) (c d : hearing.Checked) (m : model.Message)
+    → turn_of w.dealt.going.carried c ≡ Goes d → heard_message z w.dealt.going.logons k f d ≡ Some m → has_event m.command ≡ false
+    → Turns z k now fresh f w c [] (behind_answer z k now fresh f w d m)
+turn_aside z k now fresh f w c d m e heard event = record {
+  is = λ later.
+      ap (λ (t : Turn). owned_turn z k now fresh f (with_mishaps w later) c t) e
+      ∙ (ap (λ (o : Option model.Message). owned_heard z k now fresh f (with_mishaps w later) d o) heard
+      ∙ ap (λ (b : Bool). if b then owned_next z k now fresh f (with_mishaps w later) d m later
+      else owned_aside z k now fresh f (with_mishaps w later) d (Some m)) event);
+  left = λ later.
+      subst (λ (t : Turn). LeavesTurn z k now f (with_mishaps w later) t) (sym e)
+      (subst (λ (o : Option model.Message). LeavesHeard (with_mishaps w later) now o) (sym heard)
+      (λ yes. absurd (no_event (has_event m.command) event yes)));
+}
+
+-- ---- one with an event
+
+event_left : (z : ServerSettings) (k now : ℕ) (f : ServerEnd) (w : Owned) (c d : hearing.Checked) (m : model.Message) (x : Option Mishap)
+    → turn_of w.dealt.going.carried c ≡ Goes d → heard_message z w.dealt.going.logons k f d ≡ Some m
+    → LeavesIt w.dealt.going.server now m x → (later : List (Option Mishap))
+    → LeavesTurn z k now f (with_mishaps w (x ∷ later)) (turn_of w.dealt.going.carried c)
+event_left z k now f w c d m x e heard leaves later =
+    subst (λ (t : Turn). LeavesTurn z k now f (with_mishaps w (x ∷ later)) t) (sym e)
+    (subst (λ (o : Option model.Message). LeavesHeard (with_mishaps w (x ∷ later)) now o) (sym heard) (λ yes. leaves))
+
+to_next : (z : ServerSettings) (k now : ℕ) (fresh : List ℕ) (f : ServerEnd) (w : Owned) (c d : hearing.Checked) (m : model.Message)
+    (x : Option Mishap) → turn_of w.dealt.going.carried c ≡ Goes d → heard_message z w.dealt.going.logons k f d ≡ Some m
+    → has_event m.command ≡ true → (later : List (Option Mishap))
+    → owned_turn z k now fresh f (with_mishaps w (x ∷ later)) c (turn_of w.dealt.going.carried c)
+    ≡ owned_next z k now fresh f (with_mishaps w (x ∷ later)) d m (x ∷ later)
+to_next z k now fresh f w c d m x e heard event later =
+    ap (λ (t : Turn). owned_turn z k now fresh f (with_mishaps w (x ∷ later)) c t) e
+    ∙ (ap (λ (o : Option model.Message). owned_heard z k now fresh f (with_mishaps w (x ∷ later)) d o) heard
+    ∙ ap (λ (b : Bool). if b then owned_next z k now fresh f (with_mishaps w (x ∷ later)) d m (x ∷ later)
+    else owned_aside z k now fresh f (with_mishaps w (x ∷ later)) d (Some m)) event)
+
+pub turn_answered : (z : ServerSettings) (k now : ℕ) (fresh : List ℕ) (f : ServerEnd) (w : Owned) (c d : hearing.Checked)
+    (m : model.Message) → turn_of w.dealt.going.carried c ≡ Goes d → heard_message z w.dealt.going.logons k f d ≡ Some m
+    → has_event m.command ≡ true → Turns z k now fresh f w c (None ∷ []) (behind_answer z k now fresh f w d m)
+turn_answered z k now fresh f w c d m e heard event = record {
+  is = λ later.
+      to_next z k now fresh f w c d m None e heard event later
+      ∙ ap (λ (o : Option model.Message). record w {
+        dealt = record w.dealt {
+          going = went_answered z k now fresh f w.dealt.going d o (answer_to w.dealt.going.server now m m.command);
+        };
+        mishaps = later;
+      }) heard;
+  left = event_left z k now f w c d m None e heard tt;
+}
+
+abbrev pub behind_lack : ServerEnd → Owned → hearing.Checked → model.Server → Owned
+behind_lack f w d t = record w {
+  dealt = record w.dealt { going = record (went_refused f w.dealt.going d no_memory) { server = t }; lacked = true };
+}
+
+pub turn_lacks : (z : ServerSettings) (k now : ℕ) (fresh : List ℕ) (f : ServerEnd) (w : Owned) (c d : hearing.Checked) (m : model.Message)
+    (t : model.Server) → turn_of w.dealt.going.carried c ≡ Goes d → heard_message z w.dealt.going.logons k f d ≡ Some m
+    → has_event m.command ≡ true → LeavesIt w.dealt.going.server now m (Some (Lacks t))
+    → Turns z k now fresh f w c (Some (Lacks t) ∷ []) (behind_lack f w d t)
+turn_lacks z k now fresh f w c d m t e heard event leaves = record {
+  is = to_next z k now fresh f w c d m (Some (Lacks t)) e heard event;
+  left = event_left z k now f w c d m (Some (Lacks t)) e heard leaves;
+}
+
+abbrev pub behind_stop : Owned → ℕ → Owned
+behind_stop w count = record w { dealt = record w.dealt { stopped = Some count } }
+
+pub turn_stops : (z : ServerSettings) (k now : ℕ) (fresh : List ℕ) (f : ServerEnd) (w : Owned) (c d : hearing.Checked) (m : model.Message)
+    (count : ℕ) → turn_of w.dealt.going.carried c ≡ Goes d → heard_message z w.dealt.going.logons k f d ≡ Some m
+    → has_event m.command ≡ true → Turns z k now fresh f w c (Some (Halts count) ∷ []) (behind_stop w count)
+turn_stops z k now fresh f w c d m count e heard event = record {
+  is = to_next z k now fresh f w c d m (Some (Halts count)) e heard event;
+  left = event_left z k now f w c d m (Some (Halts count)) e heard tt;
+}

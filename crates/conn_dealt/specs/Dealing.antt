@@ -1,0 +1,152 @@
+-- The events of a frame over a server in code: what befalls each, and what they leave.
+use Rattle.std.specs.Prelude.{◌≡◌, ◌≤◌, ◌==◌, ℕ, Bool, true, false, not, ◌||◌, is_some, List, [], ◌∷◌, ◌++◌, length, slice_get}
+use Rattle.std.specs.Prelude.{Option, Some, None, Result, Ok, Err, ⊤, IfOk}
+use Rattle.exchange_defs.specs.State as model
+use Rattle.exchange_defs.specs.Network.{answer_to}
+use Rattle.credit_defs.specs.Window.{HeldIds}
+use Rattle.world_defs.specs.Settings.{ServerSettings}
+use Rattle.world_defs.specs.Ends.{ServerEnd, Logons}
+use Rattle.world_defs.specs.Hearing as hearing
+use Rattle.world_defs.specs.Logon.{progress, logons_behind}
+use Rattle.world_defs.specs.Connection.{Taken, heard_message, said_to}
+use Rattle.world_defs.specs.Given.{has_event}
+use Rattle.world_defs.specs.Mishaps.{Mishap, Owned, owning, owned_all, LeaveAll}
+use Rattle.world_defs.specs.Notes.{has_acted}
+use Rattle.server_events.specs.declared.error.EventError.{EventError}
+use Rattle.server_events.specs.declared.error.EventError.TheVariants as errors
+use Rattle.conn_ends.specs.declared.end.ConnEnd.{ConnEnd}
+use Rattle.conn_ends.specs.declared.end.ConnEnd.TheVariants.{Stopped}
+use Rattle.conn_frames.specs.declared.checked.Checked.{Checked}
+use Rattle.conn_frames.specs.declared.checked.CheckedFrame.{CheckedFrame}
+use Rattle.conn_carried.specs.Carrying.{Carries, IsCarried}
+use Rattle.conn_carried.specs.declared.related.Carry.{Carry}
+use Rattle.conn_served.specs.declared.serve.Reply.{Reply}
+use Rattle.conn_served.specs.Replies.{some_acted, some_lacked}
+use Rattle.conn_served.specs.Serving.{IsNamed, LeftBy, Showing}
+use Rattle.conn_said.specs.Replying.{AreSaid, AreShort, FailRightly, IsSaidTo, ShowsTaken}
+use Rattle.conn_dealt.specs.declared.dealing.Dealt.{Dealt}
+
+-- the answer to an event, of a message that has one
+abbrev pub Answer : Type 0
+Answer = Option (Result Reply EventError)
+
+abbrev pub stopped_by : Result Reply EventError → Option ℕ
+stopped_by (Err (errors.DiskFault count)) = Some count
+stopped_by (Err (errors.Stopped count)) = Some count
+stopped_by _ = None
+
+abbrev pub stop_in : Answer → Option ℕ
+stop_in None = None
+stop_in (Some r) = stopped_by r
+
+abbrev pub AreShortIf : Answer → Type 0
+AreShortIf None = ⊤
+AreShortIf (Some r) = AreShort (r ∷ [])
+
+-- a message is taken: any but a CANCEL without an event, and one whose event found memory
+abbrev pub takes : Checked → Answer → Bool
+takes m None = not (m.header.command == 12)
+takes m (Some (Ok r)) = true
+takes m (Some (Err e)) = false
+
+-- the records of the messages that were taken
+abbrev pub taken_records : Option Taken → List model.Record
+taken_records None = []
+taken_records (Some t) = t.answer.records
+
+-- a NEGOTIATE is the only message of its frame
+abbrev pub Alone : List hearing.Checked → Type 0
+Alone cs = (i : ℕ) (c : hearing.Checked) → slice_get cs i ≡ Some c → hearing.is_negotiate c.header ≡ true → length cs ≤ 1
+
+-- the same commands, in the same order
+abbrev pub SameCommands : List hearing.Checked → List hearing.Checked → Type 0
+SameCommands [] [] = ⊤
+SameCommands (c ∷ cs) (d ∷ ds) = (c.header.command ≡ d.header.command) × SameCommands cs ds
+SameCommands [] (d ∷ ds) = ⊥
+SameCommands (c ∷ cs) [] = ⊥
+
+-- ---- one event
+
+-- the step's own answer, with the reply that is due of it
+pub record GivesReply (shown : Showing) (z : ServerSettings) (k now : ℕ) (fresh : List ℕ) (s : model.Server) (L : Logons)
+    (records : List model.Record) (f : ServerEnd) (c : hearing.Checked) (m : model.Message) (r : Reply) : Type 0 where
+  pub state : let A = answer_to s now m m.command in
+      shown A.server (logons_behind z.users L k f c fresh now (progress m.command A.reply)) (records ++ A.records)
+  pub named : IsNamed r (answer_to s now m m.command).reply
+  pub acted : r.acted ≡ (answer_to s now m m.command).acted
+  pub said : (w : HeldIds) → IsSaidTo f w c r (said_to z k now fresh f L w c m.command (answer_to s now m m.command).reply)
+
+abbrev pub GivesBy : Showing → ServerSettings → ℕ → ℕ → List ℕ → model.Server → Logons → List model.Record → ServerEnd
+    → hearing.Checked → model.Message → Result Reply EventError → Type 0
+GivesBy shown z k now fresh s L records f c m (Ok r) = GivesReply shown z k now fresh s L records f c m r
+GivesBy shown z k now fresh s L records f c m (Err errors.Memory) =
+    (t : model.Server) × (more : List model.Record) × LeftBy s now (model.Heard m) t more × shown t L (records ++ more)
+GivesBy shown z k now fresh s L records f c m (Err e) = ⊤
+
+-- of a message that is heard; NEGOTIATE, ECHO and CANCEL have none and leave the server
+abbrev pub GivesIf : Showing → ServerSettings → ℕ → ℕ → List ℕ → model.Server → Logons → List model.Record → ServerEnd
+    → hearing.Checked → Option model.Message → Answer → Type 0
+GivesIf shown z k now fresh s L records f c None None = shown s L records
+GivesIf shown z k now fresh s L records f c None (Some r) = ⊥
+GivesIf shown z k now fresh s L records f c (Some m) None = (has_event m.command ≡ false) × shown s L records
+GivesIf shown z k now fresh s L records f c (Some m) (Some r) =
+    (has_event m.command ≡ true) × GivesBy shown z k now fresh s L records f c m r
+
+abbrev pub GivesFor : Showing → ServerSettings → ℕ → ℕ → List ℕ → model.Server → Logons → List model.Record → ServerEnd
+    → hearing.Checked → Answer → Type 0
+GivesFor shown z k now fresh s L records f c given = GivesIf shown z k now fresh s L records f c (heard_message z L k f c) given
+
+-- ---- one message that goes its way
+
+abbrev pub listed : Answer → List (Result Reply EventError)
+listed None = []
+listed (Some r) = r ∷ []
+
+abbrev pub AddsTo : {A : Type 0} → Answer → Dealt → Dealt → Result A ConnEnd → Type 0
+AddsTo given old new (Ok u) = (stop_in given ≡ None) × (new.replies.items.items ≡ old.replies.items.items ++ listed given)
+AddsTo given old new (Err (Stopped count)) = (stop_in given ≡ Some count) × (new.replies.items.items ≡ old.replies.items.items)
+AddsTo given old new (Err e) = ⊥
+
+abbrev pub Adds : Answer → Dealt → Dealt → Result Unit ConnEnd → Type 0
+Adds given old new result = AddsTo given old new result × (new.took ≡ old.took)
+
+pub record DealsOne (m : Checked) (bytes : List ℕ) (given : Answer) (old new : Dealt) (result : Result Carry ConnEnd) : Type 0 where
+  pub short : AreShortIf given
+  pub adds : AddsTo given old new result
+  pub took : new.took ≡ (old.took || takes m given)
+  pub carries : IfOk result (λ y. (c : hearing.Checked) → IsCarried m bytes c → Carries c given y)
+
+-- ---- all events of a frame
+
+-- the mishaps of all events, and what the definitions make of them; cs are the messages as they were checked
+pub record Dealing (z : ServerSettings) (k now : ℕ) (fresh : List ℕ) (s : model.Server)
+    (L : Logons) (f : ServerEnd) (cs : List hearing.Checked) (d : Dealt) (w : Owned) : Type 0 where
+  pub mishaps : List (Option Mishap)
+  pub is : w ≡ owned_all z k now fresh f (owning s L f mishaps) cs
+  pub left : LeaveAll z k now fresh f (owning s L f mishaps) cs
+  pub none_missing : w.dealt.missing ≡ false
+  pub none_left : w.mishaps ≡ []
+  pub acted : has_acted w.dealt.going.taken ≡ some_acted d.replies.items.items
+  pub lacked : w.dealt.lacked ≡ some_lacked d.replies.items.items
+  pub took : is_some w.dealt.going.taken ≡ d.took
+
+-- all went on: the messages with what they took over, and their replies
+pub record GoesThrough (shown : Showing) (z : ServerSettings) (now : ℕ) (f : ServerEnd) (records : List model.Record)
+    (cs : List hearing.Checked) (x : CheckedFrame) (d : Dealt) (w : Owned) : Type 0 where
+  pub goes : w.dealt.stopped ≡ None
+  pub more : List model.Record
+  pub records_are : w.dealt.lacked ≡ false → more ≡ taken_records w.dealt.going.taken
+  pub state : shown w.dealt.going.server w.dealt.going.logons (records ++ more)
+  pub taken : List hearing.Checked
+  pub shows : ShowsTaken x.bytes.items x.messages.items taken
+  pub commands : SameCommands taken cs
+  pub fails : FailRightly x.messages.items
+  pub said : AreSaid z now f x.messages.items taken d.replies.items.items f.window w.dealt.going.replies w.dealt.going.window
+
+abbrev pub Deals : Showing → ServerSettings → ℕ → ℕ → List ℕ → model.Server → Logons → List model.Record → ServerEnd
+    → List hearing.Checked → CheckedFrame → Dealt → Result Unit ConnEnd → Type 0
+Deals shown z k now fresh s L records f cs x d (Ok u) =
+    (w : Owned) × Dealing z k now fresh s L f cs d w × GoesThrough shown z now f records cs x d w
+Deals shown z k now fresh s L records f cs x d (Err (Stopped count)) =
+    (w : Owned) × Dealing z k now fresh s L f cs d w × (w.dealt.stopped ≡ Some count)
+Deals shown z k now fresh s L records f cs x d (Err e) = ⊥

@@ -1,0 +1,70 @@
+-- The events of the first messages of a frame, whatever befalls those behind them.
+use Rattle.std.specs.Prelude.{◌≡◌, ◌+◌, ◌≤◌, ◌<◌, ℕ, false, is_some, List, ◌++◌, length, drop, take, slice_get, Option, None, Some}
+use Rattle.std.specs.Prelude.{Result, Ok, Err, option_map}
+use Rattle.exchange_defs.specs.State as model
+use Rattle.world_defs.specs.Settings.{ServerSettings}
+use Rattle.world_defs.specs.Ends.{ServerEnd, Logons}
+use Rattle.world_defs.specs.Hearing as hearing
+use Rattle.world_defs.specs.Related as related
+use Rattle.world_defs.specs.Mishaps.{Mishap, Owned, owning, owned_all, LeaveAll}
+use Rattle.world_defs.specs.Notes.{has_acted}
+use Rattle.conn_ends.specs.declared.end.ConnEnd.{ConnEnd}
+use Rattle.conn_ends.specs.declared.end.ConnEnd.TheVariants.{Stopped}
+use Rattle.conn_frames.specs.declared.checked.Checked.{Checked}
+use Rattle.conn_frames.specs.declared.checked.CheckedFrame.{CheckedFrame}
+use Rattle.conn_frames.specs.Checking.{ShowsGoing}
+use Rattle.conn_carried.specs.Carrying.{carry_of}
+use Rattle.conn_carried.specs.declared.related.Carry.{Carry}
+use Rattle.conn_served.specs.Replies.{some_acted, some_lacked}
+use Rattle.conn_served.specs.Serving.{Showing}
+use Rattle.conn_said.specs.Replying.{AreSaid, FailRightly}
+use Rattle.conn_dealt.specs.Dealing.{Dealing, SameCommands, taken_records}
+use Rattle.conn_dealt.specs.declared.dealing.Dealt.{Dealt}
+
+abbrev pub with_mishaps : Owned → List (Option Mishap) → Owned
+with_mishaps w later = record w { mishaps = later }
+
+-- the events of the first messages of a frame, and w behind them, without the mishaps that are still to come
+pub record Begins (z : ServerSettings) (k now : ℕ) (fresh : List ℕ) (s : model.Server) (L : Logons) (f : ServerEnd)
+    (cs : List hearing.Checked) (at : ℕ) (w : Owned) : Type 0 where
+  pub mishaps : List (Option Mishap)
+  pub is : (later : List (Option Mishap)) → owned_all z k now fresh f (owning s L f (mishaps ++ later)) cs
+      ≡ owned_all z k now fresh f (with_mishaps w later) (drop at cs)
+  pub left : (later : List (Option Mishap)) → LeaveAll z k now fresh f (with_mishaps w later) (drop at cs)
+      → LeaveAll z k now fresh f (owning s L f (mishaps ++ later)) cs
+
+-- Behind the messages in front of `at`; those from `from` on stand as they were checked. w is what the definitions make of it, y what
+-- the last message handed on, more the records.
+pub record DealtSoFar (z : ServerSettings) (k now : ℕ) (fresh : List ℕ) (s : model.Server) (L : Logons) (f : ServerEnd)
+    (cs : List hearing.Checked) (at from : ℕ) (x : CheckedFrame) (d : Dealt) (y : Option related.Carry) (more : List model.Record)
+    (w : Owned) : Type 0 where
+  pub begins : Begins z k now fresh s L f cs at w
+  pub goes : w.dealt.stopped ≡ None
+  pub none_missing : w.dealt.missing ≡ false
+  pub acted : has_acted w.dealt.going.taken ≡ some_acted d.replies.items.items
+  pub lacked : w.dealt.lacked ≡ some_lacked d.replies.items.items
+  pub took : is_some w.dealt.going.taken ≡ d.took
+  pub records_are : w.dealt.lacked ≡ false → more ≡ taken_records w.dealt.going.taken
+  pub carried_is : at < length cs → w.dealt.going.carried ≡ y
+  pub done : List Checked
+  pub taken : List hearing.Checked
+  pub long : length done ≡ at
+  pub also : length taken ≡ at
+  pub same : (i : ℕ) (m : Checked) → slice_get done i ≡ Some m → slice_get x.messages.items i ≡ Some m
+  pub shows : (i : ℕ) (m : Checked) (c : hearing.Checked) → slice_get done i ≡ Some m → slice_get taken i ≡ Some c
+      → ShowsGoing x.bytes.items m c
+  pub commands : SameCommands taken (take at cs)
+  pub fails : FailRightly done
+  pub said : AreSaid z now f done taken d.replies.items.items f.window w.dealt.going.replies w.dealt.going.window
+  pub rest : (i : ℕ) (m : Checked) (c : hearing.Checked) → from ≤ i → slice_get x.messages.items i ≡ Some m → slice_get cs i ≡ Some c
+      → ShowsGoing x.bytes.items m c × (m.fails ≡ None)
+
+-- behind one more of them
+abbrev pub Steps : Showing → ServerSettings → ℕ → ℕ → List ℕ → model.Server → Logons → List model.Record → ServerEnd
+    → List hearing.Checked → ℕ → CheckedFrame → Dealt → Result (Option Carry) ConnEnd → Type 0
+Steps shown z k now fresh s L records f cs at x d (Ok y) = (v : Owned) × (more : List model.Record)
+    × DealtSoFar z k now fresh s L f cs at at x d (option_map carry_of y) more v
+    × shown v.dealt.going.server v.dealt.going.logons (records ++ more)
+Steps shown z k now fresh s L records f cs at x d (Err (Stopped count)) =
+    (v : Owned) × Dealing z k now fresh s L f cs d v × (v.dealt.stopped ≡ Some count)
+Steps shown z k now fresh s L records f cs at x d (Err e) = ⊥

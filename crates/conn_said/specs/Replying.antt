@@ -1,0 +1,242 @@
+-- The replies to a frame's messages in code, one after the other.
+use Rattle.std.specs.Prelude.{◌≡◌, ℕ, ◌≤◌, ◌==◌, Bool, true, false, not, is_some, ◌&&◌, if◌then◌else◌, List, [], ◌∷◌}
+use Rattle.std.specs.Prelude.{Option, Some, None, Result, Ok, Err, ⊤}
+use Rattle.exchange_defs.specs.Status.{no_memory, success}
+use Rattle.exchange_defs.specs.Commands.{Aside}
+use Rattle.exchange_defs.specs.State as model
+use Rattle.wire_defs.specs.Bare.{bare_fault}
+use Rattle.command_defs.specs.CommandOf.{echo_status}
+use Rattle.session_defs.specs.declared.material.Keys.{Keys}
+use Rattle.session_defs.specs.declared.material.Signer.{Signer}
+use Rattle.world_defs.specs.Negotiate.{negotiate_status}
+use Rattle.credit_defs.specs.Window.{HeldIds, granted, after_grant}
+use Rattle.world_defs.specs.Settings.{ServerSettings}
+use Rattle.world_defs.specs.Ends.{ServerEnd, no_keys, signer_on}
+use Rattle.world_defs.specs.Hearing as hearing
+use Rattle.world_defs.specs.Logon as logon
+use Rattle.world_defs.specs.Answering as answering
+use Rattle.world_defs.specs.Connection.{said_failed}
+use Rattle.conn_ends.specs.declared.conn.Conn.{Conn}
+use Rattle.conn_frames.specs.declared.checked.Checked.{Checked}
+use Rattle.conn_served.specs.declared.serve.Reply.{Reply}
+use Rattle.conn_ends.specs.declared.conn.Progress.{Progress}
+use Rattle.conn_ends.specs.declared.conn.Progress.TheVariants.{Stays, Interim, Final}
+use Rattle.server_events.specs.declared.error.EventError.{EventError}
+use Rattle.server_events.specs.declared.error.EventError.TheVariants as errors
+use Rattle.conn_frames.specs.Checking.{ShowsGoing, message_in}
+use Rattle.conn_frames.specs.declared.checked.CheckedFrame.{CheckedFrame}
+use Rattle.conn_greets.specs.declared.greeting.Hello.{Hello}
+use Rattle.conn_sealing.specs.declared.said.Said.{Said}
+use Rattle.conn_greets.specs.Greeting.{IsHello}
+use Rattle.conn_served.specs.Serving.{IsShort}
+use Rattle.conn_sealing.specs.Saying.{AreProgressKeys, IsSaid, MovesAs}
+
+-- ---- one reply
+
+-- by the server's answer: who signs it goes by what a SESSION_SETUP comes to
+abbrev pub signer_due : ServerEnd → Progress → Option Signer
+signer_due f Stays = signer_on f.keys
+signer_due f (Interim signer) = signer
+signer_due f (Final keys channel encrypts) = Some keys.signing
+
+-- an interim response is a SESSION_SETUP's
+abbrev pub SetsUp : Progress → hearing.Checked → Type 0
+SetsUp (Interim signer) c = hearing.is_setup c.header ≡ true
+SetsUp _ c = ⊤
+
+pub record IsSaidTo (f : ServerEnd) (w : HeldIds) (c : hearing.Checked) (r : Reply) (s : answering.Said) : Type 0 where
+  pub header : s.header ≡ answering.reply_header c r.status r.session r.tree (granted c.header.credits w)
+  pub body : s.body ≡ r.body
+  pub signer : s.signer ≡ signer_due f r.progress
+  pub request : s.request ≡ c
+  pub progress : MovesAs r.progress s
+  pub sets : SetsUp r.progress c
+  pub known : AreProgressKeys r.progress
+
+-- of a NEGOTIATE or an ECHO, by the connection alone
+abbrev pub said_aside : ServerSettings → ℕ → ServerEnd → HeldIds → hearing.Checked → ℕ → answering.Said
+said_aside z now f w c status = record {
+  header = answering.reply_header c status c.header.session c.header.tree (granted c.header.credits w);
+  body = answering.said_body z.guid f.salt now c [] (Aside status) (record {
+    status = status;
+    session_id = c.header.session;
+    tree_id = c.header.tree;
+    body = model.Empty;
+  });
+  signer = signer_on f.keys;
+  request = c;
+  progress = logon.Stays;
+  base = [];
+  keys = no_keys;
+}
+
+abbrev pub aside_status : hearing.Checked → Option ℕ
+aside_status c =
+    if hearing.is_negotiate c.header then Some (negotiate_status c.bytes)
+    else if c.header.command == 13 then Some (echo_status c.fault (bare_fault c.bytes))
+    else None
+
+-- ---- the replies of a frame's messages in order, each of the credits that the window grants it, and the window behind them
+
+-- what is due of the messages behind one: their events' answers, the window, and their replies
+abbrev pub Later : Type 1
+Later = List (Result Reply EventError) → HeldIds → List answering.Said → Type 0
+
+-- by the answer that its event has
+abbrev pub IsAnswered : ServerEnd → HeldIds → hearing.Checked → Result Reply EventError → answering.Said → Type 0
+IsAnswered f w c (Ok r) s = IsSaidTo f w c r s
+IsAnswered f w c (Err errors.Memory) s = s ≡ said_failed f w c no_memory
+IsAnswered f w c (Err e) s = ⊥
+
+abbrev pub SaysReply : ServerEnd → HeldIds → hearing.Checked → Later → List (Result Reply EventError) → List answering.Said → Type 0
+SaysReply f w c later (r ∷ rs) (s ∷ ss) = IsAnswered f w c r s × later rs (after_grant c.header.credits w) ss
+SaysReply f w c later (r ∷ rs) [] = ⊥
+SaysReply f w c later [] ss = ⊥
+
+abbrev pub SaysThis : answering.Said → HeldIds → Later → List (Result Reply EventError) → List answering.Said → Type 0
+SaysThis due w later rs (s ∷ ss) = (s ≡ due) × later rs w ss
+SaysThis due w later rs [] = ⊥
+
+-- whatever is remembered of a logon beside it
+abbrev pub SaysAside : answering.Said → HeldIds → Later → List (Result Reply EventError) → List answering.Said → Type 0
+SaysAside due w later rs (s ∷ ss) = ((base : List ℕ) × (s ≡ record due { base = base })) × later rs w ss
+SaysAside due w later rs [] = ⊥
+
+-- none to a CANCEL; of a message that fails, of a NEGOTIATE or an ECHO by the connection alone; else by its event's answer
+abbrev pub Says : ServerSettings → ℕ → ServerEnd → HeldIds → hearing.Checked → Bool → Option ℕ → Option ℕ → Later
+    → List (Result Reply EventError) → List answering.Said → Type 0
+Says z now f w c true fails aside later rs ss = later rs w ss
+Says z now f w c false (Some status) aside later rs ss = SaysThis (said_failed f w c status) (after_grant c.header.credits w) later rs ss
+Says z now f w c false None (Some status) later rs ss = SaysAside (said_aside z now f w c status) (after_grant c.header.credits w) later rs ss
+Says z now f w c false None None later rs ss = SaysReply f w c later rs ss
+
+abbrev pub AreSaid : ServerSettings → ℕ → ServerEnd → List Checked → List hearing.Checked → List (Result Reply EventError) → HeldIds
+    → List answering.Said → HeldIds → Type 0
+AreSaid z now f [] [] rs w ss v = (rs ≡ []) × (ss ≡ []) × (v ≡ w)
+AreSaid z now f (m ∷ ms) (c ∷ cs) rs w ss v =
+    Says z now f w c (hearing.is_cancel c.header) m.fails (aside_status c) (λ later u rest. AreSaid z now f ms cs later u rest v) rs ss
+AreSaid z now f [] (c ∷ cs) rs w ss v = ⊥
+AreSaid z now f (m ∷ ms) [] rs w ss v = ⊥
+
+-- ---- one reply in its turn
+
+-- a checked message in code is the definitions', in what its reply's header takes of it
+pub record IsLike (m : Checked) (c : hearing.Checked) : Type 0 where
+  pub header : c.header ≡ m.header
+  pub related : c.related ≡ m.related
+
+-- and in its bytes and its fault
+pub record IsShown (x : CheckedFrame) (m : Checked) (c : hearing.Checked) : Type 0 where
+  pub like : IsLike m c
+  pub bytes : c.bytes ≡ message_in x.bytes.items m
+  pub fault : c.fault ≡ m.fault
+
+-- nothing of the connection changes but its window
+pub record Kept (old new : Conn) : Type 0 where
+  pub id : new.id ≡ old.id
+  pub guid : new.guid ≡ old.guid
+  pub salt : new.salt ≡ old.salt
+  pub asked : new.asked ≡ old.asked
+  pub logon : new.logon ≡ old.logon
+  pub nonces : new.nonces ≡ old.nonces
+  pub spare : new.spare ≡ old.spare
+
+-- credits are granted
+pub record Grants (credits : ℕ) (old new : Conn) : Type 0 where
+  pub window : new.window ≡ after_grant credits old.window
+  pub kept : Kept old new
+
+abbrev pub signer_by : Progress → Option Signer → Option Signer
+signer_by Stays own = own
+signer_by (Interim signer) own = signer
+signer_by (Final keys channel encrypts) own = Some keys.signing
+
+-- it goes its way, and is no NEGOTIATE, ECHO or CANCEL
+abbrev pub has_event : Checked → Bool
+has_event m = not (is_some m.fails) && (not (m.header.command == 0) && (not (m.header.command == 13) && not (m.header.command == 12)))
+
+-- of a NEGOTIATE what answers it
+abbrev pub HelloFor : List ℕ → List ℕ → ℕ → hearing.Checked → Option Hello → Type 0
+HelloFor guid salt now c (Some h) = hearing.is_negotiate c.header ≡ true → IsHello guid salt now c.bytes h
+HelloFor guid salt now c None = hearing.is_negotiate c.header ≡ false
+
+-- a NEGOTIATE is the first of its frame
+abbrev pub HelloOf : List ℕ → List ℕ → ℕ → List hearing.Checked → Option Hello → Type 0
+HelloOf guid salt now [] hello = hello ≡ None
+HelloOf guid salt now (c ∷ cs) (Some h) = (hearing.is_negotiate c.header ≡ true) × IsHello guid salt now c.bytes h
+HelloOf guid salt now (c ∷ cs) None = hearing.is_negotiate c.header ≡ false
+
+-- by the answer that its event has
+abbrev pub SaidOf : ServerEnd → HeldIds → hearing.Checked → Option (Result Reply EventError) → Said → Type 0
+SaidOf f w c (Some (Ok r)) said = (s : answering.Said) → IsSaidTo f w c r s → IsSaid said s
+SaidOf f w c _ said = IsSaid said (said_failed f w c no_memory)
+
+abbrev pub SaidIf : ServerSettings → ℕ → ServerEnd → HeldIds → hearing.Checked → Option ℕ → Option ℕ → Option (Result Reply EventError)
+    → Said → Type 0
+SaidIf z now f w c (Some status) aside given said = IsSaid said (said_failed f w c status)
+SaidIf z now f w c None (Some status) given said = IsSaid said (said_aside z now f w c status)
+SaidIf z now f w c None None given said = SaidOf f w c given said
+
+abbrev pub SaidBy : ServerSettings → ℕ → ServerEnd → HeldIds → Checked → hearing.Checked → Option (Result Reply EventError) → Said → Type 0
+SaidBy z now f w m c given said = SaidIf z now f w c m.fails (aside_status c) given said
+
+-- the next reply of a frame's, to the message c, none to a CANCEL, and what is due behind it
+abbrev pub SaysNext : ServerSettings → ℕ → ServerEnd → hearing.Checked → List Checked → List hearing.Checked
+    → List (Result Reply EventError) → Conn → List answering.Said → HeldIds → ℕ → Option Said → Type 0
+SaysNext z now f c ms cs rs new ss v at None = AreSaid z now f ms cs rs new.window ss v
+SaysNext z now f c ms cs rs new ss v at (Some said) = (s : answering.Said) × (rest : List answering.Said) × (ss ≡ s ∷ rest)
+    × IsSaid said s × (s.request ≡ c) × (said.at ≡ at) × AreSaid z now f ms cs rs new.window rest v
+
+-- the messages as they stand behind what they took over; what is hashed stands as it was heard
+abbrev pub ShowsTaken : List ℕ → List Checked → List hearing.Checked → Type 0
+ShowsTaken bytes [] [] = ⊤
+ShowsTaken bytes (m ∷ ms) (c ∷ cs) = ShowsGoing bytes m c × ShowsTaken bytes ms cs
+ShowsTaken bytes [] (c ∷ cs) = ⊥
+ShowsTaken bytes (m ∷ ms) [] = ⊥
+
+-- bodies that fit a frame
+abbrev pub IsShortAnswer : Result Reply EventError → Type 0
+IsShortAnswer (Ok r) = IsShort r
+IsShortAnswer (Err e) = ⊤
+
+unfoldable pub AreShort : List (Result Reply EventError) → Type 0
+AreShort [] = ⊤
+AreShort (Ok r ∷ rs) = IsShort r × AreShort rs
+AreShort (Err e ∷ rs) = AreShort rs
+
+-- a message that fails with the one before it has a status that isn't a success
+abbrev pub FailsAt : Option ℕ → Type 0
+FailsAt None = ⊤
+FailsAt (Some status) = status ≡ success → ⊥
+
+abbrev pub FailRightly : List Checked → Type 0
+FailRightly [] = ⊤
+FailRightly (m ∷ ms) = FailsAt m.fails × FailRightly ms
+
+-- ---- what the connection behind a reply takes of it
+
+-- of a NEGOTIATE that was answered with success the definitions choose
+abbrev pub GreetsBy : answering.Said → Type 0
+GreetsBy s = hearing.is_negotiate s.request.header ≡ true → s.header.status ≡ success → negotiate_status s.request.bytes ≡ success
+
+-- an interim response is a SESSION_SETUP's, and the keys of a final one have a known cipher
+abbrev pub SettlesBy : logon.Progress → hearing.Checked → Keys → Type 0
+SettlesBy logon.Stays c keys = ⊤
+SettlesBy (logon.Interim binding) c keys = hearing.is_setup c.header ≡ true
+SettlesBy (logon.Final binding channel encrypts) c keys = keys.cipher ≤ 4
+
+pub record IsSound (s : answering.Said) : Type 0 where
+  pub settles : SettlesBy s.progress s.request s.keys
+  pub greets : GreetsBy s
+
+unfoldable pub AreSound : List answering.Said → Type 0
+AreSound [] = ⊤
+AreSound (s ∷ ss) = IsSound s × AreSound ss
+
+-- where a NEGOTIATE is among them one was heard
+abbrev pub AskedBy : Bool → hearing.Checked → Type 0
+AskedBy asked c = hearing.is_negotiate c.header ≡ true → asked ≡ true
+
+unfoldable pub AreAsked : Bool → List hearing.Checked → Type 0
+AreAsked asked [] = ⊤
+AreAsked asked (c ∷ cs) = AskedBy asked c × AreAsked asked cs

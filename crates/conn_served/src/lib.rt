@@ -1,0 +1,8 @@
+//! The server as its connections see it: what it answers to a message, and the answers to a frame.
+#![tactic(auto)]
+
+mod replies;
+mod serve;
+
+pub use replies::Replies;
+pub use serve::{Reply, Serve};

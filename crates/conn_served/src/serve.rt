@@ -1,0 +1,67 @@
+//! The server as its connections see it.
+use conn_ends::Progress;
+use conn_frames::Checked;
+use server_asked::ServerEvent;
+use server_events::EventError;
+use smb_bytes::Bytes;
+use std::alloc::{AllocError, Global};
+
+/// The error response (MS-SMB2 2.2.2).
+const ERROR: [u8; 9] = [9, 0, 0, 0, 0, 0, 0, 0, 0];
+
+/// The server's answer to a message: the ids and the status for the response's header, and what stands behind it.
+#[derive(Drop, Debug)]
+pub struct Reply {
+    pub status: u32,
+    pub session: u64,
+    pub tree: u32,
+    pub body: Bytes,
+    /// The open that a CREATE made, attached or told again.
+    pub file: Option<u64>,
+    pub progress: Progress,
+    /// Files, the set of opens or ranges changed.
+    pub acted: bool,
+}
+
+impl Reply {
+    ghost use Rattle.std.specs.Prelude.{◌≡◌, IfOk};
+    ghost use Rattle.conn_served.specs.Refusing.{IsRefused};
+
+    /// The answer to a message that has no event, as a SESSION_SETUP for which no random bytes are left: a status that isn't
+    /// a success, and the message's own ids.
+    #[tactic(auto, unfolding(wire_defs::specs::Places::le))]
+    pub fn refused(alloc: Global, checked: &Checked, status: u32) -> Result<Reply, AllocError>
+        ensures { IfOk result (λ r. IsRefused checked.now status r) }
+    {
+        Ok(Reply {
+            status,
+            session: checked.header.session,
+            tree: checked.header.tree,
+            body: Bytes::from_slice(alloc, &ERROR)?,
+            file: None,
+            progress: Progress::Stays,
+            acted: false,
+        })
+    }
+}
+
+/// A server that takes one event at a time.
+pub trait Serve {
+    ghost use Rattle.std.specs.Prelude.{List, IfOk};
+    ghost use Rattle.token_defs.specs.Acceptor.{User};
+    ghost use Rattle.exchange_defs.specs.State.{Record, Server};
+    ghost use Rattle.world_defs.specs.Ends.{Logons};
+    ghost use Rattle.conn_served.specs.Serving.{IsServed, IsShort, Serves};
+
+    /// With these users it shows a state of the model, logons, and the records that were written.
+    ghost shows: { Self → List User → Server → Logons → List Record → Type 0 };
+
+    /// Answers a message at a moment, in units of 100 nanoseconds since 1601. Where it finds no memory nothing has
+    /// changed but that one open may have expired: room for the answer is taken first. Of a server that stopped nothing
+    /// more is told.
+    fn event(&mut self, now: u64, event: ServerEvent<'_>) -> Result<Reply, EventError>
+        ensures short { IfOk result (λ r. IsShort r) }
+        ensures serves { (users : List User) (s : Server) (L : Logons) (records : List Record)
+            → shows self.old users s L records → IsServed event.entry
+            → Serves (shows self.new users) users s L records now event.entry result };
+}
