@@ -1,0 +1,8 @@
+//! The server's answer to an event, as its connections see it.
+#![tactic(auto)]
+
+mod progress;
+mod told;
+
+pub use progress::Logon;
+pub use told::reply_from;

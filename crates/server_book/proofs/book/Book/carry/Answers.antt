@@ -1,0 +1,26 @@
+use Rattle.std.proofs.Common.{ap, ◌∙◌}
+use Rattle.server_checks.specs.declared.tables.Config.{Config}
+use Rattle.server_book.proofs.Serving.{ShownBy, answering, refusing, showing, told_short}
+use Rattle.server_book.proofs.book.Book.carry.Goals as goal
+
+pub returns-in-Ok : goal.returns-in-Ok
+returns-in-Ok g c = record {
+  short = told_short _ _ _ _ c.reply_from.ensures;
+  serves = λ users s L records h served shape known.
+      let new = ap (λ (z : Config). z.users) c.in-Ok.ensures.config ∙ h.0 in
+      answering g.D.Disk.told g.D.Disk.seen g.D.Disk.may_leave
+      (ShownBy g.D.Disk.told g.D.Disk.seen g.D.Disk.may_leave c.event.new.self users) c.event.new.self.state
+      (showing g.D.Disk.told g.D.Disk.seen g.D.Disk.may_leave c.event.new.self users new) users _ s L records _ _ _ _ _ _ h.0 new
+      served shape known (c.in-Ok.ensures.step s L records h.1) c.reply_from.ensures;
+}
+
+pub returns-in-Err : goal.returns-in-Err
+returns-in-Err g c = record {
+  short = tt;
+  serves = λ users s L records h served shape known.
+      let new = ap (λ (z : Config). z.users) c.in-Err.ensures.config ∙ h.0 in
+      refusing g.D.Disk.told g.D.Disk.seen g.D.Disk.may_leave g.D.Disk.faults
+      (ShownBy g.D.Disk.told g.D.Disk.seen g.D.Disk.may_leave c.event.new.self users) _ c.event.new.self.state
+      (showing g.D.Disk.told g.D.Disk.seen g.D.Disk.may_leave c.event.new.self users new) users _ s L records _ _ _ _
+      h.0 served (c.in-Err.ensures.step s L records h.1);
+}

@@ -1,0 +1,7 @@
+//! A server over its disk, as its connections see it.
+#![tactic(auto)]
+
+mod asked;
+mod book;
+
+pub use book::Book;
