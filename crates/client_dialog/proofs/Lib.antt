@@ -1,0 +1,10 @@
+pub mod Noted
+pub mod Paying
+pub mod Talking
+pub mod Behind
+pub mod Beginnings
+pub mod Lines
+pub mod Ciphers
+pub mod Endings
+pub mod Trees
+pub mod Stages

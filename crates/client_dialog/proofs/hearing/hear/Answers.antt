@@ -1,0 +1,76 @@
+use Rattle.std.proofs.Common.{refl, sym, subst, ◌∙◌, IfOk}
+use Rattle.std.specs.Prelude.{is_some}
+use Rattle.exchange_defs.specs.Client.{Stage, SaidNegotiate, SaidFirst, SaidSecond, AskedTree}
+use Rattle.line_ends.specs.declared.dialog.Stage.{Stage as DialogStage}
+use Rattle.line_ends.specs.declared.dialog.Stage.TheVariants as stages
+use Rattle.line_ends.specs.Shown.{IsStage, ShowsStage}
+use Rattle.client_dialog.specs.Turning.{Hears}
+use Rattle.client_dialog.proofs.Stages.{not_refused, same_cause}
+use Rattle.client_dialog.proofs.hearing.hear.Goals as goal
+
+pub returns-in-SaidNegotiate : goal.returns-in-SaidNegotiate
+returns-in-SaidNegotiate c = record {
+  heard = λ n s.
+      let d = c.args.d.now in
+      let stage = subst (λ (z : DialogStage). IsStage z (is_some d.bound) n.stage) c.in-SaidNegotiate.is s.stage in
+      let talking = subst (λ (z : DialogStage). ShowsStage z d n) c.in-SaidNegotiate.is s.shown in
+      subst (λ (z : Stage). IfOk c.hear_greeting.result (λ h. Hears z d n c.args.message.now c.args.channel c.hear_greeting.new.d h)) (sym stage)
+      (c.hear_greeting.ensures n c.args.channel talking);
+  refused = λ why e. absurd (not_refused c.args.d.now.stage stages.SaidNegotiate why c.in-SaidNegotiate.is e refl);
+}
+
+pub returns-in-SaidFirst : goal.returns-in-SaidFirst
+returns-in-SaidFirst c = record {
+  heard = λ n s.
+      let d = c.args.d.now in
+      let stage = subst (λ (z : DialogStage). IsStage z (is_some d.bound) n.stage) c.in-SaidFirst.is s.stage in
+      let talking = subst (λ (z : DialogStage). ShowsStage z d n) c.in-SaidFirst.is s.shown in
+      subst (λ (z : Stage). IfOk c.hear_interim.result (λ h. Hears z d n c.args.message.now c.args.channel c.hear_interim.new.d h)) (sym stage)
+      (c.hear_interim.ensures n c.args.channel talking);
+  refused = λ why e. absurd (not_refused c.args.d.now.stage stages.SaidFirst why c.in-SaidFirst.is e refl);
+}
+
+pub returns-in-SaidSecond : goal.returns-in-SaidSecond
+returns-in-SaidSecond c = record {
+  heard = λ n s.
+      let d = c.args.d.now in
+      let stage = subst (λ (z : DialogStage). IsStage z (is_some d.bound) n.stage) c.in-SaidSecond.is s.stage in
+      let talking = subst (λ (z : DialogStage). ShowsStage z d n) c.in-SaidSecond.is s.shown in
+      subst (λ (z : Stage). IfOk c.hear_final.result (λ h. Hears z d n c.args.message.now c.args.channel c.hear_final.new.d h)) (sym stage)
+      (c.hear_final.ensures n talking);
+  refused = λ why e. absurd (not_refused c.args.d.now.stage stages.SaidSecond why c.in-SaidSecond.is e refl);
+}
+
+pub returns-in-AskedTree : goal.returns-in-AskedTree
+returns-in-AskedTree c = record {
+  heard = λ n s.
+      let d = c.args.d.now in
+      let stage = subst (λ (z : DialogStage). IsStage z (is_some d.bound) n.stage) c.in-AskedTree.is s.stage in
+      let talking = subst (λ (z : DialogStage). ShowsStage z d n) c.in-AskedTree.is s.shown in
+      subst (λ (z : Stage). IfOk c.hear_tree.result (λ h. Hears z d n c.args.message.now c.args.channel c.hear_tree.new.d h)) (sym stage)
+      (c.hear_tree.ensures n c.args.channel talking);
+  refused = λ why e. absurd (not_refused c.args.d.now.stage stages.AskedTree why c.in-AskedTree.is e refl);
+}
+
+pub returns-in-Joined : goal.returns-in-Joined
+returns-in-Joined c = record {
+  heard = λ n s.
+      let d = c.args.d.now in
+      let stage = subst (λ (z : DialogStage). IsStage z (is_some d.bound) n.stage) c.in-Joined.is s.stage in
+      let line = subst (λ (z : DialogStage). ShowsStage z d n) c.in-Joined.is s.shown in
+      subst (λ (z : Stage). Hears z d n c.args.message.now c.args.channel c.joined.new.d c.joined.result) (sym stage)
+      (c.joined.ensures n line);
+  refused = λ why e. absurd (not_refused c.args.d.now.stage stages.Joined why c.in-Joined.is e refl);
+}
+
+pub returns-in-Refused : goal.returns-in-Refused
+returns-in-Refused c = record {
+  heard = λ n s. absurd (subst (λ (z : DialogStage). IsStage z (is_some c.args.d.now.bound) n.stage) c.in-Refused.is s.stage);
+  refused = λ why e. (same_cause c.in-Refused.why why (sym c.in-Refused.is ∙ e), e);
+}
+
+pub returns-in-Over : goal.returns-in-Over
+returns-in-Over c = record {
+  heard = λ n s. absurd (subst (λ (z : DialogStage). IsStage z (is_some c.args.d.now.bound) n.stage) c.in-Over.is s.stage);
+  refused = λ why e. absurd (not_refused c.args.d.now.stage stages.Over why c.in-Over.is e refl);
+}

@@ -1,0 +1,272 @@
+//! A dialog that hears.
+ghost use Rattle.std.specs.Prelude.{◌≡◌, ◌≤◌, ◌<◌, ◌^◌, ℕ, true, false, length, is_some, nat_lt, Some, Ok, IfOk};
+ghost use Rattle.exchange_defs.specs.Client.{SaidNegotiate, SaidFirst, SaidSecond, AskedTree};
+ghost use Rattle.msg_session.specs.declared.refusal.Refusal.{Refusal as RefusalTold};
+ghost use Rattle.msg_session.specs.declared.refusal.Refusal.TheVariants as refusals;
+ghost use Rattle.session_keys.specs.Sealing.{HasCipher};
+ghost use Rattle.world_defs.specs.Ends.{ClientEnd};
+ghost use Rattle.world_defs.specs.Dialog.{response_in};
+ghost use Rattle.line_ends.specs.Shown.{ShowsDialog, ShowsLine, ShowsTalking};
+ghost use Rattle.line_ends.specs.declared.dialog.Stage.TheVariants as stages;
+ghost use Rattle.line_judging.specs.Judging.{JudgesFinal, JudgesGreeting, JudgesInterim};
+ghost use Rattle.client_dialog.specs.Ending.{IsLacking};
+ghost use Rattle.client_dialog.specs.Turning.{Hears, HearsMessage, IsRefused, JoinsAs};
+
+use crate::ending::{accept, bind, ready};
+use crate::going::{note, refuse, say_setup};
+use crate::heard::Heard;
+use line_ends::{Dialog, Stage};
+use line_judging::{Begun, Ended, Greeted, judge_final, judge_greeting, judge_interim, judge_tree};
+use line_tokens::first_token;
+use msg_session::Refusal;
+use preauth_hash::chain_law;
+use session_keys::{Keys, SealError, unseal};
+use smb_bytes::Bytes;
+use std::alloc::AllocError;
+
+/// A credit is left for the next request.
+fn has_credit(d: &Dialog) -> bool
+    ensures some { result ≡ nat_lt 0 d.now.line.purse.held }
+    ensures held { result ≡ true → 1 ≤ d.now.line.purse.held }
+{
+    d.line.credits() > 0
+}
+
+/// NEGOTIATE was answered: a SESSION_SETUP goes out, with a first token.
+fn take_greeting(d: &mut Dialog, told: &Greeted, m: &[u8]) -> Result<Heard, AllocError>
+    ensures { (n : ClientEnd) (number : ℕ) → ShowsTalking d.old n → JudgesGreeting d.old.config n (is_some d.old.bound) m.now (Ok told.now)
+        → IfOk result (λ h. HearsMessage (SaidNegotiate (is_some d.old.bound)) d.old n (response_in (Some m.now)) number d.new h) }
+{
+    chain_law();
+    note(d, &told.header, m);
+    d.chosen = told.chosen;
+    let some = has_credit(d);
+    if some {
+        let token = first_token(d.line.alloc)?;
+        let said = say_setup(d, token.as_slice(), Stage::SaidFirst)?;
+        Ok(said)
+    } else {
+        Ok(refuse(d, Refusal::BadToken))
+    }
+}
+
+/// The response to NEGOTIATE.
+fn hear_greeting(d: &mut Dialog, m: &[u8]) -> Result<Heard, AllocError>
+    ensures { (n : ClientEnd) (number : ℕ) → ShowsTalking d.old n
+        → IfOk result (λ h. HearsMessage (SaidNegotiate (is_some d.old.bound)) d.old n (response_in (Some m.now)) number d.new h) }
+{
+    let told = judge_greeting(d, m)?;
+    match told {
+        Ok(told) => take_greeting(d, &told, m),
+        Err(why) => Ok(refuse(d, why)),
+    }
+}
+
+/// The logon goes on: a SESSION_SETUP goes out, with the answer to the interim token. The response tells the id of a session in
+/// the making.
+fn say_answer(d: &mut Dialog, told: &Begun, m: &[u8]) -> Result<Heard, AllocError>
+    requires { length told.now.token < 65536 }
+    ensures { (n : ClientEnd) (number : ℕ) → ShowsTalking d.old n → JudgesInterim d.old.config n (is_some d.old.bound) m.now (Ok told.now)
+        → IfOk result (λ h. HearsMessage (SaidFirst (is_some d.old.bound)) d.old n (response_in (Some m.now)) number d.new h) }
+{
+    chain_law();
+    note(d, &told.header, m);
+    d.session = told.header.session;
+    let some = has_credit(d);
+    if some {
+        let said = say_setup(d, told.token.as_slice(), Stage::SaidSecond)?;
+        Ok(said)
+    } else {
+        Ok(refuse(d, Refusal::BadToken))
+    }
+}
+
+/// The same of a token whose length fits its field, which the answer's does.
+fn take_challenge(d: &mut Dialog, told: &Begun, m: &[u8]) -> Result<Heard, AllocError>
+    ensures { (n : ClientEnd) (number : ℕ) → ShowsTalking d.old n → JudgesInterim d.old.config n (is_some d.old.bound) m.now (Ok told.now)
+        → IfOk result (λ h. HearsMessage (SaidFirst (is_some d.old.bound)) d.old n (response_in (Some m.now)) number d.new h) }
+{
+    let size = told.token.len();
+    if size < 65_536 {
+        say_answer(d, told, m)
+    } else {
+        Ok(refuse(d, Refusal::BadToken))
+    }
+}
+
+/// The interim response.
+fn hear_interim(d: &mut Dialog, m: &[u8]) -> Result<Heard, AllocError>
+    requires { length m.now < 2 ^ 60 }
+    ensures { (n : ClientEnd) (number : ℕ) → ShowsTalking d.old n
+        → IfOk result (λ h. HearsMessage (SaidFirst (is_some d.old.bound)) d.old n (response_in (Some m.now)) number d.new h) }
+{
+    let told = judge_interim(d, m)?;
+    match told {
+        Ok(told) => take_challenge(d, &told, m),
+        Err(why) => Ok(refuse(d, why)),
+    }
+}
+
+/// The logon has ended: the session is accepted, or the channel bound.
+fn take_end(d: &mut Dialog, told: &Ended, m: &[u8], channel: u16) -> Result<Heard, AllocError>
+    ensures { (n : ClientEnd) → ShowsTalking d.old n
+        → JudgesFinal d.old.config n (is_some d.old.bound) d.old.session m.now (Ok told.now)
+        → IfOk result (λ h. HearsMessage (SaidSecond (is_some d.old.bound)) d.old n (response_in (Some m.now)) channel d.new h) }
+{
+    d.line.pay_in(&told.header);
+    let bound = d.bound.is_some();
+    if bound {
+        return Ok(bind(d, told, channel));
+    }
+    let some = has_credit(d);
+    if some {
+        accept(d, told)
+    } else {
+        Ok(refuse(d, Refusal::BadToken))
+    }
+}
+
+/// The final response.
+fn hear_final(d: &mut Dialog, m: &[u8], channel: u16) -> Result<Heard, AllocError>
+    requires { length m.now < 2 ^ 60 }
+    ensures { (n : ClientEnd) → ShowsTalking d.old n
+        → IfOk result (λ h. HearsMessage (SaidSecond (is_some d.old.bound)) d.old n (response_in (Some m.now)) channel d.new h) }
+{
+    let told = judge_final(d, m)?;
+    match told {
+        Ok(told) => take_end(d, &told, m, channel),
+        Err(why) => Ok(refuse(d, why)),
+    }
+}
+
+/// The response to TREE_CONNECT, by its message: the channel is ready.
+fn take_tree(d: &mut Dialog, m: &[u8]) -> Heard
+    requires { length m.now < 2 ^ 60 }
+    ensures { (n : ClientEnd) (number : ℕ) → ShowsLine d.old.line n → HearsMessage AskedTree d.old n (response_in (Some m.now)) number d.new result }
+{
+    match judge_tree(&d.line, m) {
+        Ok(header) => {
+            d.line.pay_in(&header);
+            let session = d.session;
+            ready(d, session, header.tree)
+        }
+        Err(why) => refuse(d, why),
+    }
+}
+
+/// Whether keys are of one of the four ciphers.
+fn has_cipher(keys: &Keys) -> bool
+    ensures yes { result ≡ true → HasCipher keys.now }
+    ensures none { result ≡ false → HasCipher keys.now → ⊥ }
+{
+    let cipher = keys.cipher;
+    if cipher < 1 {
+        return false;
+    }
+    if cipher > 4 {
+        return false;
+    }
+    true
+}
+
+/// Whether a frame wasn't opened for want of memory.
+fn is_lacking(why: SealError) -> bool
+    ensures { IsLacking why result }
+{
+    match why {
+        SealError::Memory => true,
+        SealError::NotSealed => false,
+        SealError::BadSize(_) => false,
+        SealError::OtherSession(_) => false,
+        SealError::BadTag => false,
+    }
+}
+
+/// The same of a message that was opened.
+fn take_opened(d: &mut Dialog, text: &Bytes) -> Heard
+    requires { length text.now < 2 ^ 60 }
+    ensures { (n : ClientEnd) (number : ℕ) → ShowsLine d.old.line n → HearsMessage AskedTree d.old n (response_in (Some text.now)) number d.new result }
+{
+    take_tree(d, text.as_slice())
+}
+
+/// A frame that doesn't open.
+fn take_unopened(d: &mut Dialog, why: SealError) -> Result<Heard, AllocError>
+    ensures refused { IfOk result (λ h. IsRefused refusals.BadToken d.new h) }
+    ensures lacking { IfOk result (λ h. IsLacking why false) }
+{
+    let lacks = is_lacking(why);
+    if lacks {
+        return Err(AllocError);
+    }
+    Ok(refuse(d, Refusal::BadToken))
+}
+
+/// The same of a frame, under keys of a cipher.
+fn open_tree(d: &mut Dialog, frame: &[u8]) -> Result<Heard, AllocError>
+    requires short { length frame.now < 2 ^ 60 }
+    requires cipher { HasCipher d.old.line.keys }
+    ensures { (n : ClientEnd) (number : ℕ) → ShowsLine d.old.line n → d.old.line.encrypts ≡ true
+        → IfOk result (λ h. Hears AskedTree d.old n frame.now number d.new h) }
+{
+    match unseal(d.line.alloc, &d.line.keys, false, frame) {
+        Ok(text) => Ok(take_opened(d, &text)),
+        Err(why) => take_unopened(d, why),
+    }
+}
+
+/// The same of a frame. Where a line seals it has a cipher.
+fn hear_sealed(d: &mut Dialog, frame: &[u8]) -> Result<Heard, AllocError>
+    requires { length frame.now < 2 ^ 60 }
+    ensures { (n : ClientEnd) (number : ℕ) → ShowsLine d.old.line n → d.old.line.encrypts ≡ true
+        → IfOk result (λ h. Hears AskedTree d.old n frame.now number d.new h) }
+{
+    let ciphered = has_cipher(&d.line.keys);
+    if ciphered {
+        open_tree(d, frame)
+    } else {
+        Ok(refuse(d, Refusal::BadToken))
+    }
+}
+
+/// The response to TREE_CONNECT, which opens where the session's messages are sealed.
+fn hear_tree(d: &mut Dialog, frame: &[u8]) -> Result<Heard, AllocError>
+    requires { length frame.now < 2 ^ 60 }
+    ensures { (n : ClientEnd) (number : ℕ) → ShowsLine d.old.line n → IfOk result (λ h. Hears AskedTree d.old n frame.now number d.new h) }
+{
+    let encrypts = d.line.encrypts;
+    if encrypts {
+        hear_sealed(d, frame)
+    } else {
+        Ok(take_tree(d, frame))
+    }
+}
+
+/// A channel that is bound is ready.
+fn joined(d: &mut Dialog) -> Heard
+    ensures { (n : ClientEnd) → ShowsLine d.old.line n → JoinsAs d.old.bound n d.new result }
+{
+    match d.bound {
+        Some(bound) => ready(d, bound.session, bound.tree),
+        None => refuse(d, Refusal::BadToken),
+    }
+}
+
+/// Hears a response, and tells what the dialog comes to. `channel` is the number that a bound channel's nonces carry. A
+/// dialog that was refused answers so from then on. One that gave its line away is over, and answers that its response is
+/// none that was asked for. One that found no memory isn't used again.
+pub fn hear(d: &mut Dialog, message: &[u8], channel: u16) -> Result<Heard, AllocError>
+    requires { length message.now < 2 ^ 60 }
+    ensures heard { (n : ClientEnd) → ShowsDialog d.old n → IfOk result (λ h. Hears n.stage d.old n message.now channel d.new h) }
+    ensures refused { (why : RefusalTold) → d.old.stage ≡ stages.Refused why → IfOk result (λ h. IsRefused why d.new h) }
+{
+    match d.stage {
+        Stage::SaidNegotiate => hear_greeting(d, message),
+        Stage::SaidFirst => hear_interim(d, message),
+        Stage::SaidSecond => hear_final(d, message, channel),
+        Stage::AskedTree => hear_tree(d, message),
+        Stage::Joined => Ok(joined(d)),
+        Stage::Refused(why) => Ok(Heard::Refused(why)),
+        Stage::Over => Ok(Heard::Refused(Refusal::BadToken)),
+    }
+}

@@ -1,0 +1,4 @@
+pub mod Headers
+pub mod Texts
+pub mod Replies
+pub mod Sent

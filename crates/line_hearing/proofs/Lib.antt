@@ -1,0 +1,4 @@
+pub mod Offered
+pub mod Hashes
+pub mod Greetings
+pub mod Setups

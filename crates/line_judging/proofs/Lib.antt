@@ -1,0 +1,4 @@
+pub mod Forms
+pub mod Greetings
+pub mod Setups
+pub mod Trees
