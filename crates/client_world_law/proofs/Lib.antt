@@ -1,0 +1,12 @@
+pub mod Stays
+pub mod Going
+pub mod Picking
+pub mod Tests
+pub mod Pushes
+pub mod Responses
+pub mod Events
+pub mod Asked
+pub mod Settling
+pub mod Others
+pub mod Columns
+pub mod Placed
