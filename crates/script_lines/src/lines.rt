@@ -1,13 +1,14 @@
 // The lines of a script.
 ghost use Rattle.std.specs.Prelude.{◌≡◌, ◌==◌, ◌&&◌, ◌+◌, ◌<◌, ◌≤◌, length, IfOk, OnOk};
-ghost use Rattle.std.specs.Str.{is_utf8};
 ghost use Rattle.script_words.specs.Outcome.{Gives};
 ghost use Rattle.script_lines.specs.Script as script;
 ghost use Rattle.script_lines.specs.Views.{read_of, fault_at_line};
 
 use crate::limits::{SCRIPT_BYTES, SCRIPT_LINES, SCRIPT_OPERATIONS};
 use crate::line::{Line, Refusal, Script};
-use script_words::{Code, Command, Fault, Given, Pieces, Setting, Statement, UserList, statement};
+use script_words::{
+    Code, Command, Fault, Given, Pieces, Setting, Statement, UserList, is_text, statement,
+};
 use std::alloc::{AllocError, Global};
 use std::collections::VecDeque;
 
@@ -201,15 +202,6 @@ fn said(
     }
     let says = statement(alloc, command, creates, given, Pieces::new(line, b' '))?;
     Ok(Some(says))
-}
-
-fn is_text(line: &[u8]) -> bool
-    ensures { result ≡ is_utf8 line.now }
-{
-    match std::str::from_utf8(line) {
-        Ok(_) => true,
-        Err(_) => false,
-    }
 }
 
 fn operations_said(says: &Option<Statement>) -> usize

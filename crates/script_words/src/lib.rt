@@ -7,10 +7,13 @@ mod operations;
 mod parts;
 mod pieces;
 mod settings;
+mod texts;
 mod values;
 mod words;
 
+pub use numbers::number_to;
 pub use pieces::Pieces;
+pub use texts::is_text;
 pub use values::{
     Cipher, Code, Command, Fault, Given, ScriptEvent, Setting, Statement, User, UserList,
 };

@@ -6,7 +6,7 @@ ghost use Rattle.script_words.specs.Numbers as numbers;
 
 /// The number that a word spells in decimal, without sign or leading zero, where it is at most the
 /// limit.
-pub(crate) fn number_to(limit: u64, word: &[u8]) -> Option<u64>
+pub fn number_to(limit: u64, word: &[u8]) -> Option<u64>
     ensures { result ≡ numbers.number_to limit word.now }
 {
     if !is_numeral(word) {

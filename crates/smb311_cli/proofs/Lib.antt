@@ -1,6 +1,3 @@
-pub mod PieceLemmas
-pub mod NumberLemmas
-pub mod TextLemmas
 pub mod LineLemmas
 pub mod TextLines
 pub mod OutsideLemmas

@@ -4,8 +4,8 @@ use Rattle.std.proofs.Common.{append-nil, subst, take, ◌<◌, ◌≤◌, Bool,
 use Rattle.std.specs.Prelude.{nat_le}
 use Rattle.std.proofs.Common.{◌⊎◌, inl, inr, arith}
 use Rattle.std.proofs.lemmas.Bool.Decides.{leb_tells}
-use Rattle.smb311_cli.specs.Pieces.{pieces}
-use Rattle.smb311_cli.proofs.PieceLemmas.{pieces_left_over}
+use Rattle.script_words.specs.Pieces.{pieces}
+use Rattle.script_words.proofs.PieceLemmas.{pieces_left_over}
 use Rattle.std.proofs.lemmas.Bool.{cond-true, cond-false, le-leb, lt-leb}
 use Rattle.std.specs.Prelude.{◌&&◌, ◌==◌, Option, Result, Ok, Err}
 use Rattle.smb311_cli.specs.Outcome.{◌>>=◌, Fails}

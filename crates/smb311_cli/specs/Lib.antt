@@ -1,5 +1,3 @@
-pub mod Pieces
-pub mod Numbers
 pub mod Outcome
 pub mod Words
 pub mod Script

@@ -3,7 +3,7 @@ use Rattle.std.specs.Prelude.{ℕ, ◌+◌, ◌-◌, ◌==◌, nat_le, Bool, tru
 use Rattle.std.specs.Prelude.{◌∷◌, ◌++◌, length, take, slice_index, Option, Some, None, Result, Ok, Err}
 use Rattle.std.specs.Str.{is_utf8}
 use Rattle.smb311_cli.specs.Outcome.{◌>>=◌}
-use Rattle.smb311_cli.specs.Pieces.{pieces}
+use Rattle.script_words.specs.Pieces.{pieces}
 use Rattle.smb311_cli.specs.Words.{statement}
 use Rattle.smb311_cli.specs.declared.script.Code.{Code}
 use Rattle.smb311_cli.specs.declared.script.Code.TheVariants.{BadLine, TooLong}

@@ -6,7 +6,7 @@ use Rattle.hex.specs.declared.error.FromHexError.{FromHexError}
 use Rattle.world_model.specs.declared.operation.OpKind.{OpKind}
 use Rattle.world_model.specs.declared.operation.OpKind.TheVariants.{Write, Read}
 use Rattle.world_model.specs.declared.network.WorldEvent.TheVariants.{Push, Serve, Take}
-use Rattle.smb311_cli.specs.Numbers.{number_to}
+use Rattle.script_words.specs.Numbers.{number_to}
 use Rattle.smb311_cli.specs.Outcome.{◌>>=◌}
 use Rattle.smb311_cli.specs.declared.script.Code.{Code}
 use Rattle.smb311_cli.specs.declared.script.Code.TheVariants.{BadLine, TooLong}

@@ -1,15 +1,14 @@
 // The lines of a script.
 ghost use Rattle.std.specs.Prelude.{◌≡◌, ◌==◌, ◌&&◌, ◌+◌, ◌<◌, ◌≤◌, length, IfOk, OnOk};
-ghost use Rattle.std.specs.Str.{is_utf8};
 ghost use Rattle.smb311_cli.specs.Outcome.{Gives, fault_at_line};
 ghost use Rattle.smb311_cli.specs.Run.{count_of};
 ghost use Rattle.smb311_cli.specs.Script as script;
 ghost use Rattle.smb311_cli.specs.declared.limits.TheConstants.{SCRIPT_LINES, SCRIPT_OPERATIONS};
 
 use crate::limits::{SCRIPT_BYTES, SCRIPT_LINES, SCRIPT_OPERATIONS};
-use crate::pieces::Pieces;
 use crate::script::{Code, Fault, Line, Refusal, Statement};
 use crate::words::statement;
+use script_words::{Pieces, is_text};
 use std::alloc::Global;
 use std::collections::VecDeque;
 
@@ -128,15 +127,6 @@ fn said(alloc: Global, line: &[u8]) -> Result<Option<Statement>, Fault<Code>>
     }
     let says = statement(alloc, Pieces::new(line, b' '))?;
     Ok(Some(says))
-}
-
-fn is_text(line: &[u8]) -> bool
-    ensures { result ≡ is_utf8 line.now }
-{
-    match std::str::from_utf8(line) {
-        Ok(_) => true,
-        Err(_) => false,
-    }
 }
 
 fn operations_said(says: &Option<Statement>) -> u32

@@ -4,10 +4,9 @@ ghost use Rattle.std.specs.Str.{bytes_eq};
 ghost use Rattle.smb311_cli.specs.Outcome.{Gives};
 ghost use Rattle.smb311_cli.specs.Words as words;
 
-use crate::numbers::number_to;
-use crate::pieces::Pieces;
 use crate::script::{Code, Fault, Statement};
 use hex::FromHexError;
+use script_words::{Pieces, number_to};
 use smb_bytes::Bytes;
 use std::alloc::Global;
 use world_model::{OpKind, WorldEvent};
