@@ -91,6 +91,13 @@ impl<D: Disk> Server<D> {
         answer_event(&mut self.state, now, event)
     }
 
+    /// The share, its room, who may log on and whether sessions are sealed, as the server began with them.
+    pub fn config(&self) -> &Config
+        ensures { result.now ≡ config_of self.now }
+    {
+        &self.state.tables.config
+    }
+
     /// The count of faults at which a call of the disk failed.
     pub fn stopped(&self) -> Option<u64>
         ensures { result ≡ stopped_of self.now }
