@@ -70,12 +70,13 @@ greeting_goes d mid new n head m token (Accepted keys chosen frame) law t note e
 greeting_goes d mid new n head m token (Ready line session tree) law t note e f goes s = absurd s
 greeting_goes d mid new n head m token (Refused why) law t note e f goes s = absurd s
 
-pub greeted_turn : (d mid new : Dialog) (n : ClientEnd) (number : ℕ) (told : Greeted) (m token : List ℕ) (h : Heard) → ChainLaw → ShowsTalking d n
-    → JudgesGreeting d.config n (is_some d.bound) m (Ok told) → IsNoted d mid told.header m → mid.chosen ≡ told.chosen
+pub greeted_turn : (d mid new : Dialog) (n : ClientEnd) (number : ℕ) (told : Greeted) (m token : List ℕ) (h : Heard) → ChainLaw
+    → ShowsTalking d n → JudgesGreeting d.config n (is_some d.bound) m (Ok told) → IsNoted d mid told.header m → mid.chosen ≡ told.chosen
     → mid.session ≡ d.session → nat_lt 0 mid.line.purse.held ≡ true → token ≡ first_token → Says mid token stages.SaidFirst new h
     → HearsMessage (SaidNegotiate (is_some d.bound)) d n (response_in (Some m)) number new h
 greeted_turn d mid new n number told m token h law t j note chosen e held f s =
-    paid_turn (SaidNegotiate (is_some d.bound)) d new n m number told.header h j.1.0 j.1.1 j.0 (pays_by d mid n told.header m true t note held)
+    paid_turn (SaidNegotiate (is_some d.bound)) d new n m number told.header h j.1.0 j.1.1 j.0
+    (pays_by d mid n told.header m true t note held)
     (greeting_goes d mid new n told.header m token h law t note e f
     (λ frame same say. subst (λ (x : List ℕ). GoesOn d (noted_heard n (SaidNegotiate (is_some d.bound)) (headed told.header m))
     (SaidFirst (is_some d.bound)) d.session x new (Say frame)) f

@@ -1,5 +1,5 @@
 -- A logon whose final response has no fault has keys of a cipher where its messages are sealed.
-use Rattle.std.proofs.Common.{◌≡◌, ℕ, ◌<◌, ◌≤◌, ◌==◌, nat_le, Bool, true, false, not, ◌&&◌, if◌then◌else◌, List, Option, Some, None, Ok}
+use Rattle.std.proofs.Common.{◌≡◌, ℕ, ◌≤◌, ◌==◌, nat_le, Bool, true, false, not, ◌&&◌, if◌then◌else◌, List, Option, Some, None, Ok}
 use Rattle.std.proofs.Common.{refl, sym, ap, subst, ◌∙◌, arith}
 use Rattle.std.proofs.lemmas.Bool.Decides.{nat_tests}
 use Rattle.std.specs.Prelude.{is_some}
@@ -14,20 +14,13 @@ use Rattle.wire_defs.specs.declared.header.Header.{Header}
 use Rattle.world_defs.specs.Ends.{ClientEnd}
 use Rattle.world_defs.specs.Messages.{Heard, has_header, header_in}
 use Rattle.world_defs.specs.Settings.{ClientSettings}
-use Rattle.world_defs.specs.Dialog.{due, first_refusal, flags_fit, has_form, has_token, is_signed, own_final, response_in, seals_told, setup_flags, unless}
+use Rattle.world_defs.specs.Dialog.{due, first_refusal, flags_fit, has_form, has_token, is_signed, own_final, response_in}
+use Rattle.world_defs.specs.Dialog.{seals_told, setup_flags, unless}
 use Rattle.line_ends.specs.declared.dialog.Dialog.{Dialog}
 use Rattle.line_ends.specs.Shown.{ShowsTalking, settings_of}
 use Rattle.line_judging.specs.declared.setup.Ended.{Ended}
 use Rattle.line_judging.specs.Judging.{JudgesFinal, faults, judged}
 use Rattle.line_judging.proofs.Forms.{headed, heard_as}
-
--- ---- keys of no cipher
-
-pub lacks_cipher : (k : Keys) → k.cipher < 1 → HasCipher k → ⊥
-lacks_cipher k less h = let least : 1 ≤ k.cipher = h.least in omega (arith, less, least)
-
-pub past_ciphers : (k : Keys) → 4 < k.cipher → HasCipher k → ⊥
-past_ciphers k more h = let most : k.cipher ≤ 4 = h.most in omega (arith, more, most)
 
 -- ---- its flags were tested
 

@@ -3,6 +3,6 @@ use Rattle.std.proofs.Common.{◌≡◌, ℕ, List, [], ◌∷◌, ◌++◌, sym
 use Rattle.session_defs.specs.Chain.{chain, value_behind}
 
 -- one message more
-pub one_more : ((ms : List (List ℕ)) (m : List ℕ) → chain (ms ++ m ∷ []) ≡ value_behind (chain ms) m) → (ms : List (List ℕ)) (m old new : List ℕ)
-    → chain ms ≡ old → new ≡ value_behind old m → chain (ms ++ m ∷ []) ≡ new
+pub one_more : ((ms : List (List ℕ)) (m : List ℕ) → chain (ms ++ m ∷ []) ≡ value_behind (chain ms) m)
+    → (ms : List (List ℕ)) (m old new : List ℕ) → chain ms ≡ old → new ≡ value_behind old m → chain (ms ++ m ∷ []) ≡ new
 one_more law ms m old new before e = law ms m ∙ (ap (λ (v : List ℕ). value_behind v m) before ∙ sym e)

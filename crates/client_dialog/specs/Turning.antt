@@ -13,7 +13,8 @@ use Rattle.world_defs.specs.Ends.{ClientEnd}
 use Rattle.world_defs.specs.Messages.{Heard as HeardMessage}
 use Rattle.world_defs.specs.Settings.{ClientSettings}
 use Rattle.world_defs.specs.Sending.{answer_of, line_frame, or_no_token, sealed_on, setup_frame, spent}
-use Rattle.world_defs.specs.Dialog.{accepted_end, bound_end, dialog_fault, dialog_response, due, noted_heard, own_final, paid_in, setup_token}
+use Rattle.world_defs.specs.Dialog.{accepted_end, bound_end, dialog_fault, dialog_response, due, noted_heard, own_final, paid_in}
+use Rattle.world_defs.specs.Dialog.{setup_token}
 use Rattle.world_defs.specs.World.{noted_sent}
 use Rattle.line_ends.specs.declared.config.Bound.{Bound}
 use Rattle.line_ends.specs.declared.dialog.Dialog.{Dialog}

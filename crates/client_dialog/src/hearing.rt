@@ -1,5 +1,5 @@
 //! A dialog that hears.
-ghost use Rattle.std.specs.Prelude.{◌≡◌, ◌≤◌, ◌<◌, ◌^◌, ℕ, true, false, length, is_some, nat_lt, Some, Ok, IfOk};
+ghost use Rattle.std.specs.Prelude.{◌≡◌, ◌≤◌, ◌<◌, ◌^◌, ℕ, true, false, length, is_some, nat_lt, Some, Ok, IfOk, OnErr};
 ghost use Rattle.exchange_defs.specs.Client.{SaidNegotiate, SaidFirst, SaidSecond, AskedTree};
 ghost use Rattle.msg_session.specs.declared.refusal.Refusal.{Refusal as RefusalTold};
 ghost use Rattle.msg_session.specs.declared.refusal.Refusal.TheVariants as refusals;
@@ -9,18 +9,20 @@ ghost use Rattle.world_defs.specs.Dialog.{response_in};
 ghost use Rattle.line_ends.specs.Shown.{ShowsDialog, ShowsLine, ShowsTalking};
 ghost use Rattle.line_ends.specs.declared.dialog.Stage.TheVariants as stages;
 ghost use Rattle.line_judging.specs.Judging.{JudgesFinal, JudgesGreeting, JudgesInterim};
+ghost use Rattle.client_dialog.specs.declared.heard.Heard.TheVariants as heards;
 ghost use Rattle.client_dialog.specs.Ending.{IsLacking};
 ghost use Rattle.client_dialog.specs.Turning.{Hears, HearsMessage, IsRefused, JoinsAs};
 
 use crate::ending::{accept, bind, ready};
 use crate::going::{note, refuse, say_setup};
 use crate::heard::Heard;
+use client_line::has_cipher;
 use line_ends::{Dialog, Stage};
 use line_judging::{Begun, Ended, Greeted, judge_final, judge_greeting, judge_interim, judge_tree};
 use line_tokens::first_token;
 use msg_session::Refusal;
 use preauth_hash::chain_law;
-use session_keys::{Keys, SealError, unseal};
+use session_keys::{SealError, unseal};
 use smb_bytes::Bytes;
 use std::alloc::AllocError;
 
@@ -142,7 +144,8 @@ fn hear_final(d: &mut Dialog, m: &[u8], channel: u16) -> Result<Heard, AllocErro
 /// The response to TREE_CONNECT, by its message: the channel is ready.
 fn take_tree(d: &mut Dialog, m: &[u8]) -> Heard
     requires { length m.now < 2 ^ 60 }
-    ensures { (n : ClientEnd) (number : ℕ) → ShowsLine d.old.line n → HearsMessage AskedTree d.old n (response_in (Some m.now)) number d.new result }
+    ensures { (n : ClientEnd) (number : ℕ) → ShowsLine d.old.line n
+        → HearsMessage AskedTree d.old n (response_in (Some m.now)) number d.new result }
 {
     match judge_tree(&d.line, m) {
         Ok(header) => {
@@ -152,21 +155,6 @@ fn take_tree(d: &mut Dialog, m: &[u8]) -> Heard
         }
         Err(why) => refuse(d, why),
     }
-}
-
-/// Whether keys are of one of the four ciphers.
-fn has_cipher(keys: &Keys) -> bool
-    ensures yes { result ≡ true → HasCipher keys.now }
-    ensures none { result ≡ false → HasCipher keys.now → ⊥ }
-{
-    let cipher = keys.cipher;
-    if cipher < 1 {
-        return false;
-    }
-    if cipher > 4 {
-        return false;
-    }
-    true
 }
 
 /// Whether a frame wasn't opened for want of memory.
@@ -185,7 +173,8 @@ fn is_lacking(why: SealError) -> bool
 /// The same of a message that was opened.
 fn take_opened(d: &mut Dialog, text: &Bytes) -> Heard
     requires { length text.now < 2 ^ 60 }
-    ensures { (n : ClientEnd) (number : ℕ) → ShowsLine d.old.line n → HearsMessage AskedTree d.old n (response_in (Some text.now)) number d.new result }
+    ensures { (n : ClientEnd) (number : ℕ) → ShowsLine d.old.line n
+        → HearsMessage AskedTree d.old n (response_in (Some text.now)) number d.new result }
 {
     take_tree(d, text.as_slice())
 }
@@ -253,12 +242,16 @@ fn joined(d: &mut Dialog) -> Heard
 }
 
 /// Hears a response, and tells what the dialog comes to. `channel` is the number that a bound channel's nonces carry. A
-/// dialog that was refused answers so from then on. One that gave its line away is over, and answers that its response is
-/// none that was asked for. One that found no memory isn't used again.
+/// dialog that was refused answers so from then on, and one that gave its line away is over, and answers that its response
+/// is none that was asked for: both stay as they are. A bound channel is ready without memory. A dialog that found no memory
+/// isn't used again.
 pub fn hear(d: &mut Dialog, message: &[u8], channel: u16) -> Result<Heard, AllocError>
     requires { length message.now < 2 ^ 60 }
     ensures heard { (n : ClientEnd) → ShowsDialog d.old n → IfOk result (λ h. Hears n.stage d.old n message.now channel d.new h) }
-    ensures refused { (why : RefusalTold) → d.old.stage ≡ stages.Refused why → IfOk result (λ h. IsRefused why d.new h) }
+    ensures refused { (why : RefusalTold) → d.old.stage ≡ stages.Refused why
+        → (result ≡ Ok (heards.Refused why)) × (d.new ≡ d.old) }
+    ensures over { d.old.stage ≡ stages.Over → (result ≡ Ok (heards.Refused refusals.BadToken)) × (d.new ≡ d.old) }
+    ensures joined { d.old.stage ≡ stages.Joined → OnErr result ⊥ }
 {
     match d.stage {
         Stage::SaidNegotiate => hear_greeting(d, message),

@@ -92,7 +92,8 @@ plain_sent old new req n m charge h body frame s r plain held talk k head rest e
 -- ---- a sealed request
 
 sealed_may : (n : ClientEnd) (counter : ℕ) → n.counter ≡ counter → counter < last_counter → may_seal n ≡ true
-sealed_may n counter e h = below (not n.encrypts) (nat_lt n.counter last_counter) (less n.counter last_counter (subst (λ (k : ℕ). k < last_counter) (sym e) h))
+sealed_may n counter e h =
+    below (not n.encrypts) (nat_lt n.counter last_counter) (less n.counter last_counter (subst (λ (k : ℕ). k < last_counter) (sym e) h))
   where
     less : (i j : ℕ) → i < j → nat_lt i j ≡ true
     less i j h = grind (arith, nat_tests)
@@ -148,7 +149,8 @@ sealed_sent old mid new req n m charge h nonce body frame s r on held purse wait
       ),
     )
   where
-    talk_at : (old mid : Line) (n : ClientEnd) → mid.purse ≡ old.purse → mid.awaited.items ≡ old.awaited.items → ShowsTalk old n → ShowsTalk mid n
+    talk_at : (old mid : Line) (n : ClientEnd) → mid.purse ≡ old.purse → mid.awaited.items ≡ old.awaited.items → ShowsTalk old n
+        → ShowsTalk mid n
     talk_at old mid n purse waits t = record {
       purse = t.purse ∙ sym purse;
       awaited = λ id. t.awaited id ∙ ap (λ (os : List Outstanding). awaited_in os id) (sym waits);

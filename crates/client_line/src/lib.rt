@@ -6,4 +6,4 @@ mod incoming;
 mod outgoing;
 
 pub use incoming::{Answer, hear};
-pub use outgoing::send;
+pub use outgoing::{has_cipher, send};

@@ -128,7 +128,7 @@ fn sealed_frame(mut frame: Vec<u8>, header: &Header, keys: &Keys, nonce: &[u8; 1
 }
 
 /// Whether keys are of one of the four ciphers.
-pub(crate) fn has_cipher(keys: &Keys) -> bool
+pub fn has_cipher(keys: &Keys) -> bool
     ensures yes { result ≡ true → HasCipher keys.now }
     ensures none { result ≡ false → HasCipher keys.now → ⊥ }
 {

@@ -1,14 +1,15 @@
 -- Which events may come, and how a client begins.
-use Rattle.std.proofs.Common.{◌≡◌, ℕ, ◌==◌, ◌&&◌, not, Bool, true, false, [], refl, sym, ◌∙◌}
+use Rattle.std.proofs.Common.{◌≡◌, ℕ, ◌<◌, ◌==◌, ◌&&◌, length, not, Bool, true, false, [], refl, sym, ◌∙◌}
 use Rattle.std.proofs.Common.{Result, Ok, Err, OnErr}
 use Rattle.exchange_defs.specs.Commands.{Begins}
 use Rattle.exchange_defs.specs.Network.{Settings, start}
-use Rattle.exchange_defs.specs.Client.{Client}
+use Rattle.exchange_defs.specs.Client.{Client, is_taken}
 use Rattle.exchange_defs.specs.ClientStep.{becomes_ready}
 use Rattle.client_law.specs.Kept.{Kept}
 use Rattle.client_law.proofs.Events.{begins}
 use Rattle.client_core.specs.declared.client.Client.{Client as Core}
 use Rattle.client_core.specs.Shown.{FitsClient, ShowsClient}
+use Rattle.client_core.proofs.Taken.{above, below}
 use Rattle.client_event.proofs.Going.{own_so}
 use Rattle.client_played.specs.Holding.{Holds}
 
@@ -64,3 +65,12 @@ held_first x fits shown = record {
   shown = shown any_settings;
   kept = begins any_settings;
 }
+
+-- an operation without a row wasn't taken
+is_no : (b : Bool) → (b ≡ true → ⊥) → b ≡ false
+is_no true h = absurd (h refl)
+is_no false h = refl
+
+pub not_taken : (x : Core) (c : Client) (g : ℕ) → ShowsClient x c → (0 < g → g < length x.table.rows.items → ⊥) → is_taken c g ≡ false
+not_taken x c g s h =
+    is_no (is_taken c g) (λ t. h (above c g t) (s.table.rows.places.has_row g (above c g t) (below c g t)))

@@ -165,10 +165,12 @@ impl Played {
         Ok(go(&mut self.client, event, alloc)?)
     }
 
-    /// The header with which an operation goes out, or the request to attach its open in its place.
+    /// The header with which an operation goes out, or the request to attach its open in its place. An error where there is no such
+    /// operation.
     pub fn head(&self, index: usize, asking: bool) -> Result<Head>
-        ensures { IfOk result (λ h. (c : Model) (k id : ℕ) → ShowsClient self.now c
+        ensures message { IfOk result (λ h. (c : Model) (k id : ℕ) → ShowsClient self.now c
             → IsHead h (if asking then ask_message c k id index else own_message c k id index)) }
+        ensures none { OnErr result ((c : Model) → ShowsClient self.now c → is_taken c index ≡ false) }
     {
         head_of(&self.client, index, asking)
     }

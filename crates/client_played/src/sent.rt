@@ -1,7 +1,7 @@
 // What goes out of an operation.
-ghost use Rattle.std.specs.Prelude.{◌≡◌, ℕ, ◌<◌, nat_lt, length, true, if◌then◌else◌, IfOk};
+ghost use Rattle.std.specs.Prelude.{◌≡◌, ℕ, ◌<◌, nat_lt, length, true, false, if◌then◌else◌, IfOk, OnErr};
 ghost use Rattle.exchange_defs.specs.Operations.{reconnect_of as reconnecting, request_of as requesting};
-ghost use Rattle.exchange_defs.specs.Client.{Client as Model, ask_message, create_for, guid_for, own_message};
+ghost use Rattle.exchange_defs.specs.Client.{Client as Model, ask_message, create_for, guid_for, is_taken, own_message};
 ghost use Rattle.command_values.specs.Meaning.{command_of};
 ghost use Rattle.client_core.specs.Shown.{FitsClient, ShowsClient};
 ghost use Rattle.client_sent.specs.Sent.{IsHead};
@@ -21,6 +21,7 @@ fn has_row(client: &Client, index: usize) -> bool
 fn has_op(client: &Client, index: usize) -> bool
     ensures above { result ≡ true → 0 < index }
     ensures within { result ≡ true → index < length client.now.table.rows.items }
+    ensures none { result ≡ false → 0 < index → index < length client.now.table.rows.items → ⊥ }
 {
     if index == 0 {
         return false;
@@ -30,8 +31,9 @@ fn has_op(client: &Client, index: usize) -> bool
 
 pub(crate) fn head_of(client: &Client, index: usize, asking: bool) -> Result<Head>
     requires fits { FitsClient client.now }
-    ensures { IfOk result (λ h. (c : Model) (k id : ℕ) → ShowsClient client.now c
+    ensures message { IfOk result (λ h. (c : Model) (k id : ℕ) → ShowsClient client.now c
         → IsHead h (if asking then ask_message c k id index else own_message c k id index)) }
+    ensures none { OnErr result ((c : Model) → ShowsClient client.now c → is_taken c index ≡ false) }
 {
     if !has_op(client, index) {
         bail!("no operation");

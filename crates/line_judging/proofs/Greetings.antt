@@ -7,7 +7,8 @@ use Rattle.wire_defs.specs.declared.header.Header.{Header}
 use Rattle.world_defs.specs.Ends.{ClientEnd}
 use Rattle.world_defs.specs.Messages.{has_header, header_in}
 use Rattle.world_defs.specs.Settings.{ClientSettings}
-use Rattle.world_defs.specs.Dialog.{choice_fault, chosen_told, first_refusal, has_contexts, is_dialogs, is_hint, is_response, response_in, unless}
+use Rattle.world_defs.specs.Dialog.{choice_fault, chosen_told, first_refusal, has_contexts, is_dialogs, is_hint, is_response}
+use Rattle.world_defs.specs.Dialog.{response_in, unless}
 use Rattle.line_hearing.specs.Greeting.{greeting_refusal}
 use Rattle.msg_session.specs.declared.refusal.Refusal.{Refusal as DialogRefusal}
 use Rattle.client_outcomes.specs.Meaning.{refusal_of}

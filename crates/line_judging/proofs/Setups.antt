@@ -1,5 +1,6 @@
 -- The faults of a response to SESSION_SETUP, and the keys behind the final one.
-use Rattle.std.proofs.Common.{◌≡◌, ℕ, ◌==◌, Bool, true, false, not, ◌&&◌, if◌then◌else◌, List, [], Option, Some, None, Result, Ok, Err, refl, sym, ap, ◌∙◌}
+use Rattle.std.proofs.Common.{◌≡◌, ℕ, ◌==◌, Bool, true, false, not, ◌&&◌, if◌then◌else◌, List, [], Option, Some, None, Result, Ok, Err}
+use Rattle.std.proofs.Common.{refl, sym, ap, ◌∙◌}
 use Rattle.std.specs.Prelude.{is_none, is_some}
 use Rattle.line_judging.specs.declared.setup.Begun.{Begun}
 use Rattle.line_judging.specs.declared.setup.Ended.{Ended}
@@ -18,7 +19,8 @@ use Rattle.world_defs.specs.Ends.{ClientEnd}
 use Rattle.world_defs.specs.Messages.{has_header, header_in}
 use Rattle.world_defs.specs.Settings.{ClientSettings}
 use Rattle.world_defs.specs.Sending.{answer_of, that_fits}
-use Rattle.world_defs.specs.Dialog.{first_refusal, is_dialogs, is_response, own_final, response_in, seals_told, setup_flags, setup_token, unless}
+use Rattle.world_defs.specs.Dialog.{first_refusal, is_dialogs, is_response, own_final, response_in, seals_told, setup_flags}
+use Rattle.world_defs.specs.Dialog.{setup_token, unless}
 use Rattle.exchange_defs.specs.Commands.{has_bit}
 use Rattle.line_ends.specs.declared.config.ClientConfig.{ClientConfig}
 use Rattle.line_ends.specs.declared.dialog.Dialog.{Dialog}

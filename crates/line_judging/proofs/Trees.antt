@@ -1,5 +1,6 @@
 -- The faults of a response to TREE_CONNECT.
-use Rattle.std.proofs.Common.{◌≡◌, ℕ, ◌==◌, Bool, true, false, ◌&&◌, if◌then◌else◌, List, Option, Some, None, Result, Ok, Err, refl, sym, ap, ◌∙◌}
+use Rattle.std.proofs.Common.{◌≡◌, ℕ, ◌==◌, Bool, true, false, ◌&&◌, if◌then◌else◌, List, Option, Some, None, Result, Ok, Err}
+use Rattle.std.proofs.Common.{refl, sym, ap, ◌∙◌}
 use Rattle.std.specs.Prelude.{is_none}
 use Rattle.exchange_defs.specs.Client.{AskedTree}
 use Rattle.exchange_defs.specs.Operations.{Refusal, BadToken, BadSignature}
@@ -39,7 +40,8 @@ tree_judged c n b f v h m has is status eb ef ev =
     ∙ (λ t. if eb t && ef t then unless (ev t) BadSignature else Some BadToken))
 
 -- its signature, as the line looks at it
-signs_as : (l : Line) (n : ClientEnd) (m : List ℕ) → ShowsSeals l n → (if n.encrypts then true else verifies n.keys.signing m) ≡ signs_tree l m
+signs_as : (l : Line) (n : ClientEnd) (m : List ℕ) → ShowsSeals l n
+    → (if n.encrypts then true else verifies n.keys.signing m) ≡ signs_tree l m
 signs_as l n m s = λ t. if s.encrypts t then true else verifies (s.keys t).signing m
 
 pub tree_other : (c : ClientConfig) (n : ClientEnd) (h : Header) (m : List ℕ) → has_header m ≡ true → header_in m ≡ h

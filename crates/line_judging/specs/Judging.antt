@@ -95,7 +95,8 @@ abbrev pub flags_taken : ℕ → ℕ → Bool
 flags_taken flags cipher = not (has_bit flags 1) && (not (has_bit flags 2) && not (has_bit flags 4 && (cipher == 0)))
 
 abbrev pub key_fault : Keys → ℕ → List ℕ → Option Refusal
-key_fault keys flags m = first_refusal (unless (verifies keys.signing m) BadSignature) (unless (flags_taken flags keys.cipher) (BadChoice 5))
+key_fault keys flags m =
+    first_refusal (unless (verifies keys.signing m) BadSignature) (unless (flags_taken flags keys.cipher) (BadChoice 5))
 
 abbrev pub IsKey : Keys → Header → ℕ → List ℕ → Result Ended DialogRefusal → Type 0
 IsKey keys header flags m (Ok e) =

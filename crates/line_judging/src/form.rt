@@ -45,7 +45,8 @@ fn waits(line: &Line, id: u64) -> bool
 
 /// Whether a header has this command, and a request of the dialog waits for it.
 fn is_asked(line: &Line, header: &Header, command: u16) -> bool
-    ensures { (n : ClientEnd) → ShowsTalk line.now n → result ≡ ((header.now.command == command) && is_dialogs (n.awaited header.now.message)) }
+    ensures { (n : ClientEnd) → ShowsTalk line.now n
+        → result ≡ ((header.now.command == command) && is_dialogs (n.awaited header.now.message)) }
 {
     let same = header.command == command;
     if same {

@@ -1,11 +1,12 @@
 use Rattle.std.proofs.Common.{refl, sym, subst, ◌∙◌, IfOk}
 use Rattle.std.specs.Prelude.{is_some}
+use Rattle.std.specs.declared.alloc.AllocError.{AllocError}
 use Rattle.exchange_defs.specs.Client.{Stage, SaidNegotiate, SaidFirst, SaidSecond, AskedTree}
 use Rattle.line_ends.specs.declared.dialog.Stage.{Stage as DialogStage}
 use Rattle.line_ends.specs.declared.dialog.Stage.TheVariants as stages
 use Rattle.line_ends.specs.Shown.{IsStage, ShowsStage}
 use Rattle.client_dialog.specs.Turning.{Hears}
-use Rattle.client_dialog.proofs.Stages.{not_refused, same_cause}
+use Rattle.client_dialog.proofs.Stages.{not_joined, not_over, not_refused, told_so}
 use Rattle.client_dialog.proofs.hearing.hear.Goals as goal
 
 pub returns-in-SaidNegotiate : goal.returns-in-SaidNegotiate
@@ -14,9 +15,11 @@ returns-in-SaidNegotiate c = record {
       let d = c.args.d.now in
       let stage = subst (λ (z : DialogStage). IsStage z (is_some d.bound) n.stage) c.in-SaidNegotiate.is s.stage in
       let talking = subst (λ (z : DialogStage). ShowsStage z d n) c.in-SaidNegotiate.is s.shown in
-      subst (λ (z : Stage). IfOk c.hear_greeting.result (λ h. Hears z d n c.args.message.now c.args.channel c.hear_greeting.new.d h)) (sym stage)
-      (c.hear_greeting.ensures n c.args.channel talking);
+      subst (λ (z : Stage). IfOk c.hear_greeting.result (λ h. Hears z d n c.args.message.now c.args.channel c.hear_greeting.new.d h))
+      (sym stage) (c.hear_greeting.ensures n c.args.channel talking);
   refused = λ why e. absurd (not_refused c.args.d.now.stage stages.SaidNegotiate why c.in-SaidNegotiate.is e refl);
+  over = λ e. absurd (not_over c.args.d.now.stage stages.SaidNegotiate c.in-SaidNegotiate.is e refl);
+  joined = λ e. absurd (not_joined c.args.d.now.stage stages.SaidNegotiate c.in-SaidNegotiate.is e refl);
 }
 
 pub returns-in-SaidFirst : goal.returns-in-SaidFirst
@@ -25,9 +28,11 @@ returns-in-SaidFirst c = record {
       let d = c.args.d.now in
       let stage = subst (λ (z : DialogStage). IsStage z (is_some d.bound) n.stage) c.in-SaidFirst.is s.stage in
       let talking = subst (λ (z : DialogStage). ShowsStage z d n) c.in-SaidFirst.is s.shown in
-      subst (λ (z : Stage). IfOk c.hear_interim.result (λ h. Hears z d n c.args.message.now c.args.channel c.hear_interim.new.d h)) (sym stage)
-      (c.hear_interim.ensures n c.args.channel talking);
+      subst (λ (z : Stage). IfOk c.hear_interim.result (λ h. Hears z d n c.args.message.now c.args.channel c.hear_interim.new.d h))
+      (sym stage) (c.hear_interim.ensures n c.args.channel talking);
   refused = λ why e. absurd (not_refused c.args.d.now.stage stages.SaidFirst why c.in-SaidFirst.is e refl);
+  over = λ e. absurd (not_over c.args.d.now.stage stages.SaidFirst c.in-SaidFirst.is e refl);
+  joined = λ e. absurd (not_joined c.args.d.now.stage stages.SaidFirst c.in-SaidFirst.is e refl);
 }
 
 pub returns-in-SaidSecond : goal.returns-in-SaidSecond
@@ -36,9 +41,11 @@ returns-in-SaidSecond c = record {
       let d = c.args.d.now in
       let stage = subst (λ (z : DialogStage). IsStage z (is_some d.bound) n.stage) c.in-SaidSecond.is s.stage in
       let talking = subst (λ (z : DialogStage). ShowsStage z d n) c.in-SaidSecond.is s.shown in
-      subst (λ (z : Stage). IfOk c.hear_final.result (λ h. Hears z d n c.args.message.now c.args.channel c.hear_final.new.d h)) (sym stage)
-      (c.hear_final.ensures n talking);
+      subst (λ (z : Stage). IfOk c.hear_final.result (λ h. Hears z d n c.args.message.now c.args.channel c.hear_final.new.d h))
+      (sym stage) (c.hear_final.ensures n talking);
   refused = λ why e. absurd (not_refused c.args.d.now.stage stages.SaidSecond why c.in-SaidSecond.is e refl);
+  over = λ e. absurd (not_over c.args.d.now.stage stages.SaidSecond c.in-SaidSecond.is e refl);
+  joined = λ e. absurd (not_joined c.args.d.now.stage stages.SaidSecond c.in-SaidSecond.is e refl);
 }
 
 pub returns-in-AskedTree : goal.returns-in-AskedTree
@@ -47,9 +54,11 @@ returns-in-AskedTree c = record {
       let d = c.args.d.now in
       let stage = subst (λ (z : DialogStage). IsStage z (is_some d.bound) n.stage) c.in-AskedTree.is s.stage in
       let talking = subst (λ (z : DialogStage). ShowsStage z d n) c.in-AskedTree.is s.shown in
-      subst (λ (z : Stage). IfOk c.hear_tree.result (λ h. Hears z d n c.args.message.now c.args.channel c.hear_tree.new.d h)) (sym stage)
-      (c.hear_tree.ensures n c.args.channel talking);
+      subst (λ (z : Stage). IfOk c.hear_tree.result (λ h. Hears z d n c.args.message.now c.args.channel c.hear_tree.new.d h))
+      (sym stage) (c.hear_tree.ensures n c.args.channel talking);
   refused = λ why e. absurd (not_refused c.args.d.now.stage stages.AskedTree why c.in-AskedTree.is e refl);
+  over = λ e. absurd (not_over c.args.d.now.stage stages.AskedTree c.in-AskedTree.is e refl);
+  joined = λ e. absurd (not_joined c.args.d.now.stage stages.AskedTree c.in-AskedTree.is e refl);
 }
 
 pub returns-in-Joined : goal.returns-in-Joined
@@ -61,16 +70,22 @@ returns-in-Joined c = record {
       subst (λ (z : Stage). Hears z d n c.args.message.now c.args.channel c.joined.new.d c.joined.result) (sym stage)
       (c.joined.ensures n line);
   refused = λ why e. absurd (not_refused c.args.d.now.stage stages.Joined why c.in-Joined.is e refl);
+  over = λ e. absurd (not_over c.args.d.now.stage stages.Joined c.in-Joined.is e refl);
+  joined = λ e. tt;
 }
 
 pub returns-in-Refused : goal.returns-in-Refused
 returns-in-Refused c = record {
   heard = λ n s. absurd (subst (λ (z : DialogStage). IsStage z (is_some c.args.d.now.bound) n.stage) c.in-Refused.is s.stage);
-  refused = λ why e. (same_cause c.in-Refused.why why (sym c.in-Refused.is ∙ e), e);
+  refused = λ why e. (told_so AllocError c.in-Refused.why why (sym c.in-Refused.is ∙ e), refl);
+  over = λ e. absurd (not_over c.args.d.now.stage (stages.Refused c.in-Refused.why) c.in-Refused.is e refl);
+  joined = λ e. tt;
 }
 
 pub returns-in-Over : goal.returns-in-Over
 returns-in-Over c = record {
   heard = λ n s. absurd (subst (λ (z : DialogStage). IsStage z (is_some c.args.d.now.bound) n.stage) c.in-Over.is s.stage);
   refused = λ why e. absurd (not_refused c.args.d.now.stage stages.Over why c.in-Over.is e refl);
+  over = λ e. (refl, refl);
+  joined = λ e. tt;
 }

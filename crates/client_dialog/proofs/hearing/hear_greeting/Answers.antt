@@ -12,7 +12,8 @@ pub returns-in-Ok : goal.returns-in-Ok
 returns-in-Ok c = λ n number s.
     let d = c.args.d.now in
     let told = c.in_ok-told.ensures n (is_some d.bound) s in
-    c.take_greeting.ensures n number s (subst (λ (r : Result Greeted Refusal). JudgesGreeting d.config n (is_some d.bound) c.args.m.now r) c.in-Ok.is told)
+    c.take_greeting.ensures n number s
+    (subst (λ (r : Result Greeted Refusal). JudgesGreeting d.config n (is_some d.bound) c.args.m.now r) c.in-Ok.is told)
 
 pub returns-in-Err : goal.returns-in-Err
 returns-in-Err c = λ n number s.

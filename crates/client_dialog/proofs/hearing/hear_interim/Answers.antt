@@ -12,7 +12,8 @@ pub returns-in-Ok : goal.returns-in-Ok
 returns-in-Ok c = λ n number s.
     let d = c.args.d.now in
     let told = c.in_ok-told.ensures n s in
-    c.take_challenge.ensures n number s (subst (λ (r : Result Begun Refusal). JudgesInterim d.config n (is_some d.bound) c.args.m.now r) c.in-Ok.is told)
+    c.take_challenge.ensures n number s
+    (subst (λ (r : Result Begun Refusal). JudgesInterim d.config n (is_some d.bound) c.args.m.now r) c.in-Ok.is told)
 
 pub returns-in-Err : goal.returns-in-Err
 returns-in-Err c = λ n number s.

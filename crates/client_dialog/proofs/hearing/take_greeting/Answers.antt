@@ -21,8 +21,9 @@ returns-in_ok-said c = λ n number s j.
       bound = c.note.ensures.rest.bound;
       previous = c.note.ensures.rest.previous;
     } in
-    greeted_turn d mid c.say_setup.new.d n number c.args.told.now m c.as_slice.result.now c.in_ok-said.said c.chain_law.ensures s j note refl
-    c.note.ensures.rest.session (sym c.has_credit-some.ensures.some ∙ c.if-some.true) (c.as_slice.ensures ∙ c.in_ok-token.ensures.token)
+    greeted_turn d mid c.say_setup.new.d n number c.args.told.now m c.as_slice.result.now c.in_ok-said.said c.chain_law.ensures s j note
+    refl c.note.ensures.rest.session (sym c.has_credit-some.ensures.some ∙ c.if-some.true)
+    (c.as_slice.ensures ∙ c.in_ok-token.ensures.token)
     c.in_ok-said.ensures
 
 pub returns-else-some : goal.returns-else-some

@@ -42,5 +42,6 @@ returns-in-Some c = λ n m charge s r e.
 pub returns-in-None : goal.returns-in-None
 returns-in-None c = λ n m charge s r e.
     let same = c.next_nonce.ensures.same in
-    no_nonce c.args.line.now c.next_nonce.new.line n m charge (token_of c.args.request.now.token) s c.requires.seals same.0 same.1 same.2 same.3
+    no_nonce c.args.line.now c.next_nonce.new.line n m charge (token_of c.args.request.now.token) s c.requires.seals same.0 same.1
+    same.2 same.3
     c.in-None.ensures.gives

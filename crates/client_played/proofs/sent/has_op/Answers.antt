@@ -1,11 +1,22 @@
 use Rattle.std.proofs.Common.{length, sym, ◌∙◌}
 use Rattle.client_law.proofs.Chosen.{is_less}
 use Rattle.operation_rows.proofs.Walking.{positive}
+use Rattle.client_core.proofs.Taken.{not_below, not_zero}
 use Rattle.client_played.proofs.sent.has_op.Goals as goal
+
+pub returns-then-index-eq0 : goal.returns-then-index-eq0
+returns-then-index-eq0 c =
+    record {
+      above = λ e. absurd (cc);
+      within = λ e. absurd (cc);
+      none = λ e p l. not_zero c.args.index c.if-index-eq0.true p;
+    }
 
 pub returns : goal.returns
 returns c =
+    let n = length c.args.client.now.table.rows.items in
     record {
       above = λ e. positive c.args.index c.if-index-eq0.false;
-      within = λ e. is_less c.args.index (length c.args.client.now.table.rows.items) (sym c.has_row.ensures ∙ e);
+      within = λ e. is_less c.args.index n (sym c.has_row.ensures ∙ e);
+      none = λ e p l. not_below c.args.index n (sym c.has_row.ensures ∙ e) l;
     }

@@ -1,7 +1,12 @@
 use Rattle.std.proofs.Common.{Bool, if◌then◌else◌, sym, subst}
 use Rattle.exchange_defs.specs.Client.{ask_message, own_message}
 use Rattle.client_sent.specs.Sent.{IsHead}
+use Rattle.client_played.proofs.Coming.{not_taken}
 use Rattle.client_played.proofs.sent.head_of.Goals as goal
+
+pub returns-then-not-has_op-clause-none : goal.returns-then-not-has_op-clause-none
+returns-then-not-has_op-clause-none c = λ d s.
+    not_taken c.args.client.now d c.args.index s (c.has_op.ensures.none c.if-not-has_op.true)
 
 pub own_head-requires : goal.own_head-requires
 own_head-requires c =
@@ -12,13 +17,19 @@ own_head-requires c =
     }
 
 pub returns-then-asking : goal.returns-then-asking
-returns-then-asking c = λ d k id s.
+returns-then-asking c =
     let g = c.args.index in
-    subst (λ (b : Bool). IsHead c.ask_head.result (if b then ask_message d k id g else own_message d k id g)) (sym c.if-asking.true)
-    (c.ask_head.ensures d k id g s.table)
+    record {
+      message = λ d k id s. subst (λ (b : Bool). IsHead c.ask_head.result (if b then ask_message d k id g else own_message d k id g))
+          (sym c.if-asking.true) (c.ask_head.ensures d k id g s.table);
+      none = tt;
+    }
 
 pub returns : goal.returns
-returns c = λ d k id s.
+returns c =
     let g = c.args.index in
-    subst (λ (b : Bool). IsHead c.own_head.result (if b then ask_message d k id g else own_message d k id g)) (sym c.if-asking.false)
-    (c.own_head.ensures d k id s.table)
+    record {
+      message = λ d k id s. subst (λ (b : Bool). IsHead c.own_head.result (if b then ask_message d k id g else own_message d k id g))
+          (sym c.if-asking.false) (c.own_head.ensures d k id s.table);
+      none = tt;
+    }
