@@ -12,6 +12,7 @@ use Rattle.world_defs.specs.Settings.{ServerSettings}
 use Rattle.world_defs.specs.Ends as ends
 use Rattle.world_defs.specs.Ends.{Logons, ServerEnd}
 use Rattle.world_defs.specs.Hearing as hearing
+use Rattle.world_defs.specs.Answering as answering
 use Rattle.world_defs.specs.Answering.{Said, concatenated, each_joined, frames_by, has_nonces, sealed_each, told_each}
 use Rattle.world_defs.specs.Connection.{ConnectionStep, Going, answered_in, answered_with, ended_by, last_status}
 use Rattle.conn_ends.specs.declared.conn.Conn.{Conn}
@@ -23,6 +24,7 @@ use Rattle.conn_ends.specs.Shown.{ShowsEnd}
 use Rattle.conn_sealing.specs.declared.frames.Frames.{Frames}
 use Rattle.conn_sealing.specs.Saying.{all_framed}
 use Rattle.conn_sealing.specs.Joining.{frames_of, nonces_behind, open_part, rows}
+use Rattle.wire_facts.proofs.Ciphers.{short}
 use Rattle.conn_sealing.proofs.Gathering.{rows_are}
 use Rattle.conn_said.specs.declared.saying.Answers.{Answers}
 use Rattle.conn_said.specs.Replying.{AreSaid, HelloOf}
@@ -30,7 +32,7 @@ use Rattle.conn_behind.specs.declared.behind.Behind.{Behind}
 use Rattle.conn_behind.specs.Behind.{NoncesBehind, ShowsBehind, ShowsLogon}
 use Rattle.conn_answers.specs.declared.adding.Joining.{Joining}
 use Rattle.conn_answers.specs.declared.answering.Answered.{Answered}
-use Rattle.conn_answers.specs.Joined.{Joins, end_behind, texts_left}
+use Rattle.conn_answers.specs.Joined.{AreAtMost, Joins, end_behind, texts_left}
 use Rattle.conn_answers.specs.Replying.{AnswersWith, AreAnswers, EndsAs, Goes, Replies, replied}
 use Rattle.conn_answers.specs.Walking.{AddsBy, IsAlike, IsDue, LacksNonce}
 use Rattle.conn_answers.proofs.Heard.{all_ask, heard_all}
@@ -154,6 +156,7 @@ pub record Joined (f : ServerEnd) (sealed : Bool) (ss : List Said) (w : HeldIds)
     (behind : Behind) : Type 0 where
   pub enough : sealed ≡ true → nat_le (f.counter + length (rows_due sealed ss)) last_counter ≡ true
   pub out : frames.out.items ≡ all_framed (if sealed then frames_by f.keys f (each_joined (rows_due sealed ss)) else each_joined (rows_due sealed ss))
+  pub short : AreAtMost (answering.text_limit sealed) (each_joined (rows_due sealed ss))
   pub nonces_are : nonces ≡ counted_by sealed first ss
   pub server_end : ServerEnd
   pub is_end : end_behind sealed (end_counted sealed f ss w) ss (concatenated (rows_due sealed ss)) ≡ server_end
@@ -190,6 +193,7 @@ joined f sealed ss w first frames nonces behind channel counter j =
           ∙ (ap (λ (b : Bool). all_framed (frames_of b f.keys first (each_joined j.before))) j.sealed_is
           ∙ (ap (λ (xs : List (List (List ℕ))). all_framed (frames_of sealed f.keys first (each_joined xs))) (sym same)
           ∙ ap all_framed (frames_same sealed f.keys first f texts channel counter))));
+      short = subst (λ (xs : List (List (List ℕ))). AreAtMost (answering.text_limit sealed) (each_joined xs)) (sym same) j.short;
       nonces_are = nonces_are;
       server_end = j.server_end;
       is_end = j.told ∙ none_told sealed j.server_end (texts_left sealed j.front []);
@@ -198,6 +202,23 @@ joined f sealed ss w first frames nonces behind channel counter j =
       asked = j.same.asked;
       shows = subst (λ (n : NonceState). ShowsBehind n behind j.server_end) (sym nonces_are) j.shows;
     }
+
+-- sealed ones have 52 bytes more
+sealed_short : (k : Keys) (channel counter : ℕ) (texts : List (List ℕ)) → AreAtMost 1114060 texts
+    → AreAtMost 1114112 (sealed_each k channel counter texts)
+unfolding AreAtMost sealed_each
+sealed_short k channel counter [] h = tt
+sealed_short k channel counter (t ∷ ts) h = (short k false channel counter t h.0, sealed_short k channel (counter + 1) ts h.1)
+
+none_short : AreAtMost 1114112 []
+unfolding AreAtMost
+none_short = tt
+
+frames_short : (sealed : Bool) (keys : Option Keys) (f : ServerEnd) (texts : List (List ℕ)) → AreAtMost (answering.text_limit sealed) texts
+    → AreAtMost 1114112 (if sealed then frames_by keys f texts else texts)
+frames_short false keys f texts h = h
+frames_short true None f texts h = none_short
+frames_short true (Some k) f texts h = sealed_short k f.channel f.counter texts h
 
 -- the counter of the end behind all
 few_by : (nonces : NonceState) (channel : Option ℕ) (e : ServerEnd) → NoncesBehind nonces channel e → nonces.counter ≤ last_counter
@@ -277,6 +298,7 @@ goes_by z s L f cs ss w answers old new frames nonces behind shows a j goes =
       frames = j.out;
       behind = subst (λ (e : ServerEnd). ShowsEnd old.id z.guid new e) (sym j.is_end) behind_is;
       bound = subst (λ (e : ServerEnd). e.counter ≤ last_counter) (sym j.is_end) bound;
+      short = frames_short sealed f.keys f (each_joined rs) j.short;
     })
 
 pub status_by : (s : model.Server) (L : Logons) (f : ServerEnd) (sealed : Bool) (w : HeldIds) (ss : List Said)

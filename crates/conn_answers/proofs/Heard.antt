@@ -11,7 +11,7 @@ use Rattle.world_defs.specs.Hearing as hearing
 use Rattle.world_defs.specs.Logon as logon
 use Rattle.world_defs.specs.Answering as answering
 use Rattle.world_defs.specs.Answering.{first_text, later_texts, server_end_behind, told_each}
-use Rattle.server_events.specs.declared.error.EventError.{EventError}
+use Rattle.conn_served.specs.declared.error.ServeError.{ServeError}
 use Rattle.conn_frames.specs.declared.checked.Checked.{Checked}
 use Rattle.conn_served.specs.declared.serve.Reply.{Reply}
 use Rattle.conn_said.specs.Replying.{AreAsked, AreSaid, AskedBy, Later, Says, aside_status}
@@ -22,13 +22,13 @@ use Rattle.conn_answers.specs.Walking.{AllAsk}
 -- ---- of each reply
 
 abbrev AskedBehind : Bool → Later → Type 0
-AskedBehind asked later = (rs : List (Result Reply EventError)) (u : HeldIds) (ss : List answering.Said) → later rs u ss → AllAsk asked ss
+AskedBehind asked later = (rs : List (Result Reply ServeError)) (u : HeldIds) (ss : List answering.Said) → later rs u ss → AllAsk asked ss
 
 asked_by : (asked : Bool) (c : hearing.Checked) (s : answering.Said) → AskedBy asked c → s.request ≡ c → AskedBy asked s.request
 asked_by asked c s h e = subst (λ (x : hearing.Checked). AskedBy asked x) (sym e) h
 
 one_asked : (asked : Bool) (z : ServerSettings) (now : ℕ) (f : ServerEnd) (w : HeldIds) (c : hearing.Checked) (cancel : Bool)
-    (fails aside : Option ℕ) (later : Later) (rs : List (Result Reply EventError)) (ss : List answering.Said) → AskedBy asked c
+    (fails aside : Option ℕ) (later : Later) (rs : List (Result Reply ServeError)) (ss : List answering.Said) → AskedBy asked c
     → AskedBehind asked later → Says z now f w c cancel fails aside later rs ss → AllAsk asked ss
 unfolding AllAsk
 one_asked asked z now f w c true fails aside later rs ss a go h = go rs w ss h
@@ -54,7 +54,7 @@ unfolding AllAsk
 none_ask asked = tt
 
 pub all_ask : (asked : Bool) (z : ServerSettings) (now : ℕ) (f : ServerEnd) (ms : List Checked) (cs : List hearing.Checked)
-    (rs : List (Result Reply EventError)) (w : HeldIds) (ss : List answering.Said) (v : HeldIds) → AreAsked asked cs
+    (rs : List (Result Reply ServeError)) (w : HeldIds) (ss : List answering.Said) (v : HeldIds) → AreAsked asked cs
     → AreSaid z now f ms cs rs w ss v → AllAsk asked ss
 unfolding AreAsked
 all_ask asked z now f [] [] rs w ss v a h = subst (λ (xs : List answering.Said). AllAsk asked xs) (sym h.1) (none_ask asked)

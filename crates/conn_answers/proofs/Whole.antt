@@ -13,7 +13,7 @@ use Rattle.world_defs.specs.Hearing as hearing
 use Rattle.world_defs.specs.Answering as answering
 use Rattle.world_defs.specs.Answering.{concatenated, each_joined, sealed_each, text_limit}
 use Rattle.world_defs.specs.Connection.{last_status}
-use Rattle.server_events.specs.declared.error.EventError.{EventError}
+use Rattle.conn_served.specs.declared.error.ServeError.{ServeError}
 use Rattle.conn_ends.specs.declared.conn.Conn.{Conn}
 use Rattle.conn_ends.specs.declared.end.ConnEnd.{ConnEnd}
 use Rattle.conn_ends.specs.declared.end.ConnEnd.TheVariants.{BadFrame, OutsideWindow, SecondNegotiate, Unsealable}
@@ -164,7 +164,7 @@ joins_err z first counted f g all w answers at conn x y nonces waits rest (Stopp
 
 -- ---- none is left
 
-said_none : (z : ServerSettings) (now : ℕ) (f : ServerEnd) (left : List hearing.Checked) (rs : List (Result Reply EventError))
+said_none : (z : ServerSettings) (now : ℕ) (f : ServerEnd) (left : List hearing.Checked) (rs : List (Result Reply ServeError))
     (u : HeldIds) (ss : List answering.Said) (w : HeldIds) → AreSaid z now f [] left rs u ss w → (ss ≡ []) × (w ≡ u)
 said_none z now f [] rs u ss w h = (h.1, h.2)
 said_none z now f (c ∷ cs) rs u ss w h = absurd h

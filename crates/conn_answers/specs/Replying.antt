@@ -9,7 +9,7 @@ use Rattle.world_defs.specs.Ends.{ServerEnd, Logons}
 use Rattle.world_defs.specs.Hearing as hearing
 use Rattle.world_defs.specs.Answering as answering
 use Rattle.world_defs.specs.Connection.{ConnectionStep, answered}
-use Rattle.server_events.specs.declared.error.EventError.{EventError}
+use Rattle.conn_served.specs.declared.error.ServeError.{ServeError}
 use Rattle.conn_ends.specs.declared.conn.Conn.{Conn}
 use Rattle.conn_ends.specs.declared.end.ConnEnd.{ConnEnd}
 use Rattle.conn_ends.specs.declared.end.ConnEnd.TheVariants.{Memory}
@@ -20,10 +20,11 @@ use Rattle.conn_served.specs.declared.serve.Reply.{Reply}
 use Rattle.conn_sealing.specs.Saying.{all_framed}
 use Rattle.conn_said.specs.Replying.{AreAsked, AreSaid, FailRightly, ShowsTaken}
 use Rattle.conn_answers.specs.declared.answering.Answered.{Answered}
+use Rattle.conn_answers.specs.Joined.{AreAtMost}
 
 -- the messages of a frame as they stand, their replies ss, and the window w behind them; f is the end as the frame was checked
 pub record AreAnswers (z : ServerSettings) (f : ServerEnd) (cs : List hearing.Checked) (ss : List answering.Said) (w : HeldIds)
-    (asked : CheckedFrame) (replies : List (Result Reply EventError)) : Type 0 where
+    (asked : CheckedFrame) (replies : List (Result Reply ServeError)) : Type 0 where
   pub seals : asked.sealed ≡ true → MaySeal f.keys
   pub shows : ShowsTaken asked.bytes.items asked.messages.items cs
   pub rightly : FailRightly asked.messages.items
@@ -46,6 +47,8 @@ pub record Goes (k : ℕ) (guid : List ℕ) (S : ConnectionStep) (bytes : List �
   pub frames : bytes ≡ all_framed S.frames
   pub behind : ShowsEnd k guid new S.server_end
   pub bound : S.server_end.counter ≤ last_counter
+  -- each fits a length of three bytes (2.1), with its transform header where it is sealed
+  pub short : AreAtMost 1114112 S.frames
 
 abbrev pub Replies : ℕ → List ℕ → ConnectionStep → Conn → Result (List ℕ) ConnEnd → Type 0
 Replies k guid S new (Ok bytes) = Goes k guid S bytes new

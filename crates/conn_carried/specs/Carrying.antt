@@ -15,7 +15,7 @@ use Rattle.conn_frames.specs.declared.checked.CheckedFrame.{CheckedFrame}
 use Rattle.conn_frames.specs.Checking.{message_in}
 use Rattle.conn_served.specs.Serving.{IsNamed}
 use Rattle.conn_served.specs.declared.serve.Reply.{Reply}
-use Rattle.server_events.specs.declared.error.EventError.{EventError}
+use Rattle.conn_served.specs.declared.error.ServeError.{ServeError}
 
 abbrev pub carry_of : Carry → related.Carry
 carry_of y = record { status = y.status; session = y.session; tree = y.tree; file = y.file }
@@ -32,7 +32,7 @@ file_told c (Some id) = file_id id
 file_told c None = related.handed_on (related.file_named c.header.command c.bytes)
 
 -- behind a message that has no event, behind one that was answered, and behind one that found no memory
-abbrev pub Carries : hearing.Checked → Option (Result Reply EventError) → Carry → Type 0
+abbrev pub Carries : hearing.Checked → Option (Result Reply ServeError) → Carry → Type 0
 Carries c None y = carry_of y ≡ related.carried_past c (echo_status c.fault (bare_fault c.bytes))
 Carries c (Some (Ok r)) y = (due : model.Reply) → IsNamed r due → carry_of y ≡ related.carried_behind c due
 Carries c (Some (Err e)) y = carry_of y ≡ related.carried_past c no_memory

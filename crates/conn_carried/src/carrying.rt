@@ -8,13 +8,12 @@ ghost use Rattle.conn_carried.specs.Carrying.{carry_of, IsCarried, Carries, Inhe
 
 use crate::related::{Carry, behind_answer, behind_none, put_file};
 use conn_frames::{Checked, CheckedFrame};
-use conn_served::Reply;
-use server_events::EventError;
+use conn_served::{Reply, ServeError};
 use smb_header::Span;
 
 /// What a message and its answer hand on to a related one (MS-SMB2 3.3.5.2.7.2). NEGOTIATE, ECHO and CANCEL, which
 /// have no event, have no answer here. It takes no memory.
-pub fn carry(frame: &CheckedFrame, at: usize, answer: Option<&Result<Reply, EventError>>) -> Carry
+pub fn carry(frame: &CheckedFrame, at: usize, answer: Option<&Result<Reply, ServeError>>) -> Carry
     requires { HasMessage frame.now at }
     ensures { (m : Checked) (c : hearing.Checked) → slice_get frame.now.messages.items at ≡ Some m
         → IsCarried m (message_in frame.now.bytes.items m) c → Carries c (option_copied answer.entry) result }

@@ -8,9 +8,8 @@ ghost use Rattle.world_defs.specs.Related as related;
 ghost use Rattle.conn_carried.specs.Carrying.{carry_of, file_told, IsCarried, Carries};
 
 use conn_frames::Checked;
-use conn_served::Reply;
+use conn_served::{Reply, ServeError};
 use msg_session::read_echo_request;
-use server_events::EventError;
 use smb_bytes::FixedOut;
 use wire_defs::MessageError;
 
@@ -170,7 +169,7 @@ fn behind_reply(checked: &Checked, message: &[u8], reply: &Reply) -> Carry
 pub(crate) fn behind_answer(
     checked: &Checked,
     message: &[u8],
-    answer: &Result<Reply, EventError>,
+    answer: &Result<Reply, ServeError>,
 ) -> Carry
     ensures { (c : hearing.Checked) → IsCarried checked.now message.now c → Carries c (Some answer.now) result }
 {

@@ -12,7 +12,7 @@ use Rattle.world_defs.specs.Settings.{ServerSettings}
 use Rattle.world_defs.specs.Ends as ends
 use Rattle.world_defs.specs.Ends.{Logons, ServerEnd}
 use Rattle.world_defs.specs.Hearing as hearing
-use Rattle.world_defs.specs.Hearing.{Frame, FrameText, checked_text}
+use Rattle.world_defs.specs.Hearing.{Frame, FrameText, check_frame, checked_text}
 use Rattle.world_defs.specs.Answering as answering
 use Rattle.world_defs.specs.Connection.{ConnectionStep, Going, answered, answered_with, ended_by}
 use Rattle.world_defs.specs.Given.{GivenStep, dealt_step}
@@ -29,15 +29,18 @@ use Rattle.conn_sealing.specs.Saying.{all_framed}
 use Rattle.conn_served.specs.Replies.{some_acted, some_lacked}
 use Rattle.conn_served.specs.Serving.{Showing}
 use Rattle.conn_said.specs.Replying.{AreAsked, AreSaid}
-use Rattle.conn_dealt.specs.Dealing.{Alone, Deals, Dealing, GoesThrough, SameCommands, taken_records}
+use Rattle.conn_dealt.specs.Dealing.{Alone, Deals, Dealing, GoesThrough, Leaves, SameCommands, taken_records}
+use Rattle.conn_dealt.specs.Written.{AreWritten}
 use Rattle.conn_dealt.specs.declared.dealing.Dealt.{Dealt}
 use Rattle.conn_answers.specs.declared.answering.Answered.{Answered}
+use Rattle.conn_answers.specs.Joined.{AreAtMost}
 use Rattle.conn_answers.specs.Replying.{AnswersWith, AreAnswers, EndsAs, Goes, replied}
 use Rattle.conn_core.specs.declared.end.Ended.{Ended}
 use Rattle.conn_core.proofs.Asked.{alone_by, kept_by}
+use Rattle.conn_core.proofs.Going.{check_goes, replied_goes}
 use Rattle.conn_core.specs.declared.taking.Taken.{Taken}
-use Rattle.conn_core.specs.Taking.{EndsAt, EndsBy, FailsWith, Finishes, FinishesWith, IsEnded, IsLeft, IsOwned, IsTold}
-use Rattle.conn_core.specs.Taking.{Serves, TakesBy}
+use Rattle.conn_core.specs.Taking.{EndsAt, EndsBy, FailsWith, Finishes, FinishesWith, HaltsAt, IsEnded, IsLeft, IsOwned, IsTold}
+use Rattle.conn_core.specs.Taking.{Serves, TakesBy, first_of}
 
 -- ---- the messages with what they took over are of the same commands
 
@@ -80,7 +83,7 @@ none_left : (missing : Bool) (xs : List (Option Mishap)) → missing ≡ false �
 unfolding is_filled
 none_left missing xs e f = ap (λ (b : Bool). not b && not (is_filled xs)) e ∙ ap (λ (l : List (Option Mishap)). not (is_filled l)) f
 
-pub owned_by : (z : ServerSettings) (k now : ℕ) (fresh : List ℕ) (s : model.Server) (L : Logons) (f : ServerEnd) (F : Frame) (d : Dealt)
+abbrev owned_by : (z : ServerSettings) (k now : ℕ) (fresh : List ℕ) (s : model.Server) (L : Logons) (f : ServerEnd) (F : Frame) (d : Dealt)
     (w : Owned) → Dealing z k now fresh s L F.server_end F.messages d w → IsOwned z k now fresh s L f (Ok F) (given_by F w)
 owned_by z k now fresh s L f F d w deal = record {
   mishaps = deal.mishaps;
@@ -131,15 +134,18 @@ went_step : (F : Frame) (w : Owned) → w.dealt.stopped ≡ None → (given_by F
 went_step F w e = ap (λ (o : Option ℕ). dealt_step F.server_end F.sealed w.dealt.going o) e
 
 -- what stands behind it
-pub left_is : (shown : Showing) (z : ServerSettings) (now : ℕ) (records : List model.Record) (F : Frame) (x : CheckedFrame) (d : Dealt)
-    (w : Owned) → GoesThrough shown z now F.server_end records F.messages x d w → IsLeft shown records (given_by F w)
-left_is shown z now records F x d w t =
+pub left_is : (shown : Showing) (z : ServerSettings) (k now : ℕ) (fresh : List ℕ) (s : model.Server) (L : Logons)
+    (records : List model.Record) (F : Frame) (mishaps : List (Option Mishap)) (w : Owned)
+    → Leaves shown z k now fresh s L records F.server_end F.messages mishaps w
+    → IsLeft shown (AreWritten z k now fresh s L mishaps (Ok F)) records (given_by F w)
+left_is shown z k now fresh s L records F mishaps w t =
     let step = went_step F w t.goes in
     let left = left_step F.server_end F.sealed w.dealt.going in
     record {
       more = t.more;
       records_are = λ e. t.records_are e
           ∙ ap (λ o. taken_records o) (sym (ap (λ (S : ConnectionStep). S.taken) step ∙ left.2));
+      wrote = t.written;
       state = subst (λ (u : model.Server). shown u (given_by F w).step.logons (records ++ t.more))
           (sym (ap (λ (S : ConnectionStep). S.server) step ∙ left.0))
           (subst (λ (l : Logons). shown w.dealt.going.server l (records ++ t.more))
@@ -163,12 +169,12 @@ told_by z k now fresh s L F d w acted took lacked deal taken a t l = record {
   lacked_is = l ∙ sym deal.lacked;
 }
 
-pub answers_of : (shown : Showing) (z : ServerSettings) (now : ℕ) (records : List model.Record) (F : Frame) (x old : CheckedFrame)
-    (d : Dealt) (w : Owned) (t : GoesThrough shown z now F.server_end records F.messages x d w)
+pub answers_of : (z : ServerSettings) (now : ℕ) (F : Frame) (x old : CheckedFrame)
+    (d : Dealt) (w : Owned) (t : GoesThrough z now F.server_end F.messages x d w)
     → x.sealed ≡ old.sealed → x.moment ≡ old.moment → old.moment ≡ now → (old.sealed ≡ true → MaySeal F.server_end.keys)
     → GreetsFirst F.messages → AreAsked F.server_end.asked F.messages → F.server_end.counter ≤ last_counter
     → AreAnswers z F.server_end t.taken w.dealt.going.replies w.dealt.going.window x d.replies.items.items
-answers_of shown z now records F x old d w t sealed moment time seals greets asked bound = record {
+answers_of z now F x old d w t sealed moment time seals greets asked bound = record {
   seals = λ s. seals (sym sealed ∙ s);
   shows = t.shows;
   rightly = t.fails;
@@ -198,6 +204,7 @@ goes_alike k guid S T bytes new a g = record {
   frames = g.frames ∙ sym (ap (λ (fs : List (List ℕ)). all_framed fs) a.frames_are);
   behind = subst (λ (e : ServerEnd). ShowsEnd k guid new e) (sym a.end_is) g.behind;
   bound = subst (λ (e : ServerEnd). e.counter ≤ last_counter) (sym a.end_is) g.bound;
+  short = subst (λ (fs : List (List ℕ)). AreAtMost 1114112 fs) (sym a.frames_are) g.short;
 }
 
 abbrev note_with : Option ℕ → Bool → notes.StepNote
@@ -205,12 +212,13 @@ note_with o b = record { status = o; acted = b }
 
 pub taken_on : (shown : Showing) (z : ServerSettings) (k now : ℕ) (fresh : List ℕ) (s : model.Server) (L : Logons)
     (records : List model.Record) (f : ServerEnd) (F : Frame) (x : CheckedFrame) (d : Dealt) (w : Owned) (sealed : Bool) (new : Conn)
-    (t : Taken) → Dealing z k now fresh s L F.server_end F.messages d w → GoesThrough shown z now F.server_end records F.messages x d w
+    (t : Taken) (deal : Dealing z k now fresh s L F.server_end F.messages d w)
+    → Leaves shown z k now fresh s L records F.server_end F.messages deal.mishaps w
     → F.sealed ≡ sealed → FinishesWith k z.guid (step_due F w sealed) d new t
     → Serves shown z k now fresh s L records f F new (Ok t)
-taken_on shown z k now fresh s L records f F x d w sealed new t deal went is done =
-    let alike = alike_due F w sealed went.goes is in
-    let told = told_by z k now fresh s L F d w t.note.acted t.took t.lacked deal (taken_went F w went.goes) done.acted done.took done.lacked in
+taken_on shown z k now fresh s L records f F x d w sealed new t deal left is done =
+    let alike = alike_due F w sealed left.goes is in
+    let told = told_by z k now fresh s L F d w t.note.acted t.took t.lacked deal (taken_went F w left.goes) done.acted done.took done.lacked in
     let status : t.note.status ≡ (if w.dealt.lacked then Some no_memory else (given_by F w).step.status) =
     done.status
     ∙ (ap (λ (o : Option ℕ). if some_lacked d.replies.items.items then Some no_memory else o) (sym alike.status_is)
@@ -222,7 +230,7 @@ taken_on shown z k now fresh s L records f F x d w sealed new t deal went is don
         note = ap (λ (o : Option ℕ). note_with o t.note.acted) status
             ∙ ap (λ (b : Bool). note_with (if w.dealt.lacked then Some no_memory else (given_by F w).step.status) b) told.acted_is;
         told = told;
-        left = left_is shown z now records F x d w went;
+        left = left_is shown z k now fresh s L records F deal.mishaps w left;
       },
     )
 
@@ -231,9 +239,10 @@ taken_on shown z k now fresh s L records f F x d w sealed new t deal went is don
 ends_alike : (S T : ConnectionStep) (why : ConnEnd) → IsAlike S T → EndsAs why S.ends → EndsAs why T.ends
 ends_alike S T why a h = subst (λ (o : Option ends.ConnEnd). EndsAs why o) (sym a.ends_are) h
 
-at_end : (shown : Showing) (records : List model.Record) (e : Ended) (G : GivenStep) (why : ConnEnd) → why ≡ e.why
-    → IsTold e.acted e.took e.lacked G → IsLeft shown records G → EndsAs why G.step.ends → EndsAt shown records e G
-at_end shown records e G why is told left h = record {
+at_end : (shown : Showing) (written : List model.Record → Type 0) (records : List model.Record) (e : Ended) (G : GivenStep) (why : ConnEnd)
+    → why ≡ e.why → IsTold e.acted e.took e.lacked G → IsLeft shown written records G → EndsAs why G.step.ends
+    → EndsAt shown written records e G
+at_end shown written records e G why is told left h = record {
   told = told;
   left = left;
   why = subst (λ (x : ConnEnd). EndsAs x G.step.ends) is h;
@@ -245,39 +254,41 @@ stop_of (Some why) count h = ap (λ (x : ends.ConnEnd). Some x) h
 
 ended_other : (shown : Showing) (z : ServerSettings) (k now : ℕ) (fresh : List ℕ) (s : model.Server) (L : Logons)
     (records : List model.Record) (f : ServerEnd) (F : Frame) (w : Owned) (e : Ended) (S : ConnectionStep) (why : ConnEnd)
-    → e.why ≡ why → IsOwned z k now fresh s L f (Ok F) (given_by F w) → IsTold e.acted e.took e.lacked (given_by F w)
-    → IsLeft shown records (given_by F w) → IsAlike S (given_by F w).step → FailsWith S why
+    → e.why ≡ why → (owned : IsOwned z k now fresh s L f (Ok F) (given_by F w)) → IsTold e.acted e.took e.lacked (given_by F w)
+    → IsLeft shown (AreWritten z k now fresh s L owned.mishaps (Ok F)) records (given_by F w) → IsAlike S (given_by F w).step
+    → FailsWith S why
     → EndsBy shown z k now fresh s L records f (Ok F) e why
 ended_other shown z k now fresh s L records f F w e S Memory is owned told left alike h =
-    inr (given_by F w, owned, record { told = told; left = left })
+    inr (inl (given_by F w, owned, record { told = told; left = left }))
 ended_other shown z k now fresh s L records f F w e S (Stopped count) is owned told left alike h =
     (given_by F w, owned, record { told = told; why = stop_of (given_by F w).step.ends count (ends_alike S (given_by F w).step (Stopped count) alike h) })
 ended_other shown z k now fresh s L records f F w e S BadFrame is owned told left alike h =
-    (given_by F w, owned, at_end shown records e (given_by F w) BadFrame (sym is) told left (ends_alike S (given_by F w).step BadFrame alike h))
+    (given_by F w, owned, at_end shown (AreWritten z k now fresh s L owned.mishaps (Ok F)) records e (given_by F w) BadFrame (sym is) told left (ends_alike S (given_by F w).step BadFrame alike h))
 ended_other shown z k now fresh s L records f F w e S (OutsideWindow id) is owned told left alike h =
-    (given_by F w, owned, at_end shown records e (given_by F w) (OutsideWindow id) (sym is) told left (ends_alike S (given_by F w).step (OutsideWindow id) alike h))
+    (given_by F w, owned, at_end shown (AreWritten z k now fresh s L owned.mishaps (Ok F)) records e (given_by F w) (OutsideWindow id) (sym is) told left (ends_alike S (given_by F w).step (OutsideWindow id) alike h))
 ended_other shown z k now fresh s L records f F w e S SecondNegotiate is owned told left alike h =
-    (given_by F w, owned, at_end shown records e (given_by F w) SecondNegotiate (sym is) told left (ends_alike S (given_by F w).step SecondNegotiate alike h))
+    (given_by F w, owned, at_end shown (AreWritten z k now fresh s L owned.mishaps (Ok F)) records e (given_by F w) SecondNegotiate (sym is) told left (ends_alike S (given_by F w).step SecondNegotiate alike h))
 ended_other shown z k now fresh s L records f F w e S Unsealable is owned told left alike h =
-    (given_by F w, owned, at_end shown records e (given_by F w) Unsealable (sym is) told left (ends_alike S (given_by F w).step Unsealable alike h))
+    (given_by F w, owned, at_end shown (AreWritten z k now fresh s L owned.mishaps (Ok F)) records e (given_by F w) Unsealable (sym is) told left (ends_alike S (given_by F w).step Unsealable alike h))
 ended_other shown z k now fresh s L records f F w e S Spent is owned told left alike h =
-    (given_by F w, owned, at_end shown records e (given_by F w) Spent (sym is) told left (ends_alike S (given_by F w).step Spent alike h))
+    (given_by F w, owned, at_end shown (AreWritten z k now fresh s L owned.mishaps (Ok F)) records e (given_by F w) Spent (sym is) told left (ends_alike S (given_by F w).step Spent alike h))
 ended_other shown z k now fresh s L records f F w e S Full is owned told left alike h =
-    (given_by F w, owned, at_end shown records e (given_by F w) Full (sym is) told left (ends_alike S (given_by F w).step Full alike h))
+    (given_by F w, owned, at_end shown (AreWritten z k now fresh s L owned.mishaps (Ok F)) records e (given_by F w) Full (sym is) told left (ends_alike S (given_by F w).step Full alike h))
 ended_other shown z k now fresh s L records f F w e S (LinkFault count) is owned told left alike h =
-    (given_by F w, owned, at_end shown records e (given_by F w) (LinkFault count) (sym is) told left (ends_alike S (given_by F w).step (LinkFault count) alike h))
+    (given_by F w, owned, at_end shown (AreWritten z k now fresh s L owned.mishaps (Ok F)) records e (given_by F w) (LinkFault count) (sym is) told left (ends_alike S (given_by F w).step (LinkFault count) alike h))
 
 pub ended_on : (shown : Showing) (z : ServerSettings) (k now : ℕ) (fresh : List ℕ) (s : model.Server) (L : Logons)
     (records : List model.Record) (f : ServerEnd) (F : Frame) (x : CheckedFrame) (d : Dealt) (w : Owned) (sealed : Bool) (new : Conn)
-    (e : Ended) → Dealing z k now fresh s L F.server_end F.messages d w → GoesThrough shown z now F.server_end records F.messages x d w
+    (e : Ended) (deal : Dealing z k now fresh s L F.server_end F.messages d w)
+    → Leaves shown z k now fresh s L records F.server_end F.messages deal.mishaps w
     → F.sealed ≡ sealed → IsEnded e.why d e → FailsWith (step_due F w sealed) e.why
     → Serves shown z k now fresh s L records f F new (Err e)
-ended_on shown z k now fresh s L records f F x d w sealed new e deal went is ended h =
+ended_on shown z k now fresh s L records f F x d w sealed new e deal left is ended h =
     ended_other shown z k now fresh s L records f F w e (step_due F w sealed) e.why refl (owned_by z k now fresh s L f F d w deal)
-    (told_by z k now fresh s L F d w e.acted e.took e.lacked deal (taken_went F w went.goes) ended.acted ended.took ended.lacked)
-    (left_is shown z now records F x d w went) (alike_due F w sealed went.goes is) h
+    (told_by z k now fresh s L F d w e.acted e.took e.lacked deal (taken_went F w left.goes) ended.acted ended.took ended.lacked)
+    (left_is shown z k now fresh s L records F deal.mishaps w left) (alike_due F w sealed left.goes is) h
 
--- a server that stopped
+-- a server that stopped, or a reply that is lost
 pub stopped_on : (shown : Showing) (z : ServerSettings) (k now : ℕ) (fresh : List ℕ) (s : model.Server) (L : Logons)
     (records : List model.Record) (f : ServerEnd) (F : Frame) (x : CheckedFrame) (d : Dealt) (new : Conn) (why : ConnEnd) (e : Ended)
     → IsEnded why d e → Deals shown z k now fresh s L records F.server_end F.messages x d (Err why)
@@ -292,7 +303,19 @@ stopped_on shown z k now fresh s L records f F x d new (Stopped count) e ended h
         why = ap (λ (o : Option ℕ). (dealt_step F.server_end F.sealed w.dealt.going o).ends) h.2;
       },
     )
-stopped_on shown z k now fresh s L records f F x d new Memory e ended h = absurd h
+stopped_on shown z k now fresh s L records f F x d new Memory e ended h =
+    let front = first_of h.count F in
+    subst (λ (y : ConnEnd). EndsBy shown z k now fresh s L records f (Ok F) e y) (sym ended.why_is) (inr (inr (record {
+      frame = F;
+      heard_is = refl;
+      count = h.count;
+      first = h.first;
+      given = given_by front h.w;
+      owned = owned_by z k now fresh s L f front d h.w h.deal;
+      told = told_by z k now fresh s L front d h.w e.acted e.took e.lacked h.deal (taken_went front h.w h.leaves.goes) ended.acted ended.took
+          ended.lacked;
+      left = left_is shown z k now fresh s L records front h.deal.mishaps h.w h.leaves;
+    })))
 stopped_on shown z k now fresh s L records f F x d new BadFrame e ended h = absurd h
 stopped_on shown z k now fresh s L records f F x d new (OutsideWindow id) e ended h = absurd h
 stopped_on shown z k now fresh s L records f F x d new SecondNegotiate e ended h = absurd h
@@ -309,19 +332,23 @@ at_once why = record { why = why; acted = false; took = false; lacked = false }
 abbrev ended_now : model.Server → Logons → ServerEnd → ends.ConnEnd → GivenStep
 ended_now s L f why = record { step = ended_by s L f None why; lacked = false; setups = 0; matches = not (is_filled {X = Option Mishap} []) }
 
-owned_none : (z : ServerSettings) (k now : ℕ) (fresh : List ℕ) (s : model.Server) (L : Logons) (f : ServerEnd) (why : ends.ConnEnd)
-    → IsOwned z k now fresh s L f (Err why) (ended_now s L f why)
+none_matches : (s : model.Server) (L : Logons) (f : ServerEnd) (why : ends.ConnEnd) → (ended_now s L f why).matches ≡ true
 unfolding is_filled
-owned_none z k now fresh s L f why = record { mishaps = []; is = refl; matches = refl; left = tt }
+none_matches s L f why = refl
+
+abbrev owned_none : (z : ServerSettings) (k now : ℕ) (fresh : List ℕ) (s : model.Server) (L : Logons) (f : ServerEnd) (why : ends.ConnEnd)
+    → IsOwned z k now fresh s L f (Err why) (ended_now s L f why)
+owned_none z k now fresh s L f why = record { mishaps = []; is = refl; matches = none_matches s L f why; left = tt }
 
 told_none : (s : model.Server) (L : Logons) (f : ServerEnd) (why : ends.ConnEnd) → IsTold false false false (ended_now s L f why)
 told_none s L f why = record { acted_is = refl; took_is = refl; lacked_is = refl }
 
 left_none : (shown : Showing) (s : model.Server) (L : Logons) (records : List model.Record) (f : ServerEnd) (why : ends.ConnEnd)
-    → shown s L records → IsLeft shown records (ended_now s L f why)
+    → shown s L records → IsLeft shown (λ more. more ≡ []) records (ended_now s L f why)
 left_none shown s L records f why state = record {
   more = [];
   records_are = λ e. refl;
+  wrote = refl;
   state = subst (λ (rs : List model.Record). shown s L rs) (sym (append-nil records)) state;
 }
 
@@ -397,6 +424,12 @@ fails_checked shown z k now fresh s L records f (Ok F) new (LinkFault count) sta
 
 -- ---- as the code comes to it
 
+abbrev fails_as : ConnEnd → Result Unit ConnEnd
+fails_as why = Err why
+
+pub stop_as : (why end : ConnEnd) (count : ℕ) → end ≡ why → end ≡ Stopped count → fails_as why ≡ fails_as (Stopped count)
+stop_as why end count is stop = ap (λ (e : ConnEnd). fails_as e) (sym is ∙ stop)
+
 fails_with : (k : ℕ) (guid : List ℕ) (S : ConnectionStep) (new : Conn) (why : ConnEnd) → AnswersWith k guid S new (Err why) → FailsWith S why
 fails_with k guid S new Memory h = tt
 fails_with k guid S new Spent h = h
@@ -427,15 +460,22 @@ finish_with k guid S d new a t is h = record {
   lacked = is.4;
 }
 
+finish_halts : (k : ℕ) (guid : List ℕ) (s : model.Server) (L : Logons) (f : ServerEnd) (sealed : Bool) (w : HeldIds)
+    (ss : List answering.Said) (d : Dealt) (new : Conn) (after : Option ℕ) (result : Result Taken Ended)
+    → Finishes k guid (replied s L f sealed w ss) d new result → HaltsAt after result
+finish_halts k guid s L f sealed w ss d new after (Ok t) h = tt
+finish_halts k guid s L f sealed w ss d new after (Err e) h = λ count is.
+    absurd (replied_goes s L f sealed w ss count (subst (λ (y : ConnEnd). FailsWith (replied s L f sealed w ss) y) is h.1))
+
 served_by : (shown : Showing) (z : ServerSettings) (k now : ℕ) (fresh : List ℕ) (s : model.Server) (L : Logons)
     (records : List model.Record) (f : ServerEnd) (F : Frame) (x : CheckedFrame) (d : Dealt) (w : Owned) (sealed : Bool) (new : Conn)
-    (result : Result Taken Ended) → Dealing z k now fresh s L F.server_end F.messages d w
-    → GoesThrough shown z now F.server_end records F.messages x d w → F.sealed ≡ sealed
+    (result : Result Taken Ended) (deal : Dealing z k now fresh s L F.server_end F.messages d w)
+    → Leaves shown z k now fresh s L records F.server_end F.messages deal.mishaps w → F.sealed ≡ sealed
     → Finishes k z.guid (step_due F w sealed) d new result → Serves shown z k now fresh s L records f F new result
-served_by shown z k now fresh s L records f F x d w sealed new (Ok t) deal went is h =
-    taken_on shown z k now fresh s L records f F x d w sealed new t deal went is h
-served_by shown z k now fresh s L records f F x d w sealed new (Err e) deal went is h =
-    ended_on shown z k now fresh s L records f F x d w sealed new e deal went is h.0 h.1
+served_by shown z k now fresh s L records f F x d w sealed new (Ok t) deal left is h =
+    taken_on shown z k now fresh s L records f F x d w sealed new t deal left is h
+served_by shown z k now fresh s L records f F x d w sealed new (Err e) deal left is h =
+    ended_on shown z k now fresh s L records f F x d w sealed new e deal left is h.0 h.1
 
 pub served : (shown : Showing) (z : ServerSettings) (now : ℕ) (fresh : List ℕ) (s : model.Server) (L : Logons)
     (records : List model.Record) (f : ServerEnd) (F : Frame) (old x : CheckedFrame) (d : Dealt) (conn new : Conn)
@@ -446,13 +486,30 @@ pub served : (shown : Showing) (z : ServerSettings) (now : ℕ) (fresh : List �
     → ((u : model.Server) (l : Logons) (cs : List hearing.Checked) (ss : List answering.Said) (w : HeldIds)
     → ShowsEnd conn.id z.guid conn F.server_end → AreAnswers z F.server_end cs ss w x d.replies.items.items
     → Finishes conn.id z.guid (replied u l F.server_end x.sealed w ss) d new result)
-    → Serves shown z conn.id now fresh s L records f F new result
-served shown z now fresh s L records f F old x d conn new result deals shows is same time seals greets asked bound finishes =
+    → (after : Option ℕ) → Serves shown z conn.id now fresh s L records f F new result × HaltsAt after result
+served shown z now fresh s L records f F old x d conn new result deals shows is same time seals greets asked bound finishes after =
     let w = deals.0 in
-    let went = deals.2 in
-    served_by shown z conn.id now fresh s L records f F x d w x.sealed new result deals.1 went (is ∙ sym same.0)
-    (finishes w.dealt.going.server w.dealt.going.logons went.taken w.dealt.going.replies w.dealt.going.window shows
-    (answers_of shown z now records F x old d w went same.0 same.1 time seals greets asked bound))
+    let went = deals.3 in
+    let done = finishes w.dealt.going.server w.dealt.going.logons went.taken w.dealt.going.replies w.dealt.going.window shows
+    (answers_of z now F x old d w went same.0 same.1 time seals greets asked bound) in (
+      served_by shown z conn.id now fresh s L records f F x d w x.sealed new result deals.1 deals.2 (is ∙ sym same.0) done,
+      finish_halts conn.id z.guid w.dealt.going.server w.dealt.going.logons F.server_end x.sealed w.dealt.going.window
+          w.dealt.going.replies d new after result done,
+    )
+
+-- the check of a frame stops no server
+pub once_halts : (f : ServerEnd) (frame : List ℕ) (after : Option ℕ) (e : ConnEnd) (end : Ended) → end ≡ at_once e
+    → EndsAll (check_frame f frame) e → HaltsAt after (Err end)
+once_halts f frame after e end is h = λ count why.
+    let same : e ≡ Stopped count = sym (ap (λ (x : Ended). x.why) is) ∙ why in
+    absurd (check_goes f frame count (subst (λ (y : ConnEnd). EndsAll (check_frame f frame) y) same h))
+
+-- nor does memory that runs out
+memory_apart : (count : ℕ) → Memory ≡ Stopped count → ⊥
+memory_apart count e = absurd cc
+
+pub memory_halts : (after : Option ℕ) (end : Ended) → end ≡ at_once Memory → HaltsAt after (Err end)
+memory_halts after end is = λ count why. absurd (memory_apart count (sym (ap (λ (x : Ended). x.why) is) ∙ why))
 
 pub ended_once : (shown : Showing) (z : ServerSettings) (k now : ℕ) (fresh : List ℕ) (s : model.Server) (L : Logons)
     (records : List model.Record) (f : ServerEnd) (heard : Result Frame ends.ConnEnd) (new : Conn) (e : ConnEnd) (end : Ended)
@@ -463,27 +520,27 @@ ended_once shown z k now fresh s L records f heard new e end is h =
 
 take_by : (shown : Showing) (z : ServerSettings) (k now : ℕ) (fresh : List ℕ) (s : model.Server) (L : Logons)
     (records : List model.Record) (f : ServerEnd) (text : Result FrameText ends.ConnEnd) (heard : Result Frame ends.ConnEnd)
-    (mid new : Conn) (x : CheckedFrame) (result : Result Taken Ended) → checked_text f text ≡ heard
+    (mid new : Conn) (x : CheckedFrame) (after : Option ℕ) (result : Result Taken Ended) → checked_text f text ≡ heard
     → (is_some f.greeting ≡ true → f.asked ≡ true) → f.counter ≤ last_counter → GoesOn k z.guid heard now mid x
     → ((F : Frame) → ShowsEnd mid.id z.guid mid F.server_end → ShowsFrame x F → (x.sealed ≡ true → MaySeal F.server_end.keys) → x.moment ≡ now
     → GreetsFirst F.messages → Alone F.messages → AreAsked F.server_end.asked F.messages → F.server_end.counter ≤ last_counter
-    → Serves shown z mid.id now fresh s L records f F new result)
-    → TakesBy shown z k now fresh s L records f heard new result
-take_by shown z k now fresh s L records f text (Ok F) mid new x result e met bound g serves =
+    → Serves shown z mid.id now fresh s L records f F new result × HaltsAt after result)
+    → TakesBy shown z k now fresh s L records f heard new result × HaltsAt after result
+take_by shown z k now fresh s L records f text (Ok F) mid new x after result e met bound g serves =
     let kept = kept_by f text F e in
     let number : mid.id ≡ k = g.0.number in
-    subst (λ (n : ℕ). Serves shown z n now fresh s L records f F new result) number
+    subst (λ (n : ℕ). Serves shown z n now fresh s L records f F new result × HaltsAt after result) number
     (serves F (subst (λ (n : ℕ). ShowsEnd n z.guid mid F.server_end) (sym number) g.0) g.1 g.3 g.2 g.4 (alone_by f text F met e) kept.asked
     (subst (λ (n : ℕ). n ≤ last_counter) (sym kept.counter) bound))
-take_by shown z k now fresh s L records f text (Err why) mid new x result e met bound g serves = absurd g
+take_by shown z k now fresh s L records f text (Err why) mid new x after result e met bound g serves = absurd g
 
 pub takes : (shown : Showing) (z : ServerSettings) (k now : ℕ) (fresh : List ℕ) (s : model.Server) (L : Logons)
     (records : List model.Record) (f : ServerEnd) (text : Result FrameText ends.ConnEnd) (mid new : Conn) (x : CheckedFrame)
-    (result : Result Taken Ended) → (is_some f.greeting ≡ true → f.asked ≡ true) → f.counter ≤ last_counter
+    (after : Option ℕ) (result : Result Taken Ended) → (is_some f.greeting ≡ true → f.asked ≡ true) → f.counter ≤ last_counter
     → GoesOn k z.guid (checked_text f text) now mid x
     → ((F : Frame) → ShowsEnd mid.id z.guid mid F.server_end → ShowsFrame x F → (x.sealed ≡ true → MaySeal F.server_end.keys) → x.moment ≡ now
     → GreetsFirst F.messages → Alone F.messages → AreAsked F.server_end.asked F.messages → F.server_end.counter ≤ last_counter
-    → Serves shown z mid.id now fresh s L records f F new result)
-    → TakesBy shown z k now fresh s L records f (checked_text f text) new result
-takes shown z k now fresh s L records f text mid new x result met bound g serves =
-    take_by shown z k now fresh s L records f text (checked_text f text) mid new x result refl met bound g serves
+    → Serves shown z mid.id now fresh s L records f F new result × HaltsAt after result)
+    → TakesBy shown z k now fresh s L records f (checked_text f text) new result × HaltsAt after result
+takes shown z k now fresh s L records f text mid new x after result met bound g serves =
+    take_by shown z k now fresh s L records f text (checked_text f text) mid new x after result refl met bound g serves

@@ -1,5 +1,6 @@
 -- What taking a whole frame over a server tells.
-use Rattle.std.specs.Prelude.{◌≡◌, ℕ, Bool, true, false, if◌then◌else◌, List, ◌++◌, is_some, Option, Some, Result, Ok, Err, ⊤, ◌⊎◌}
+use Rattle.std.specs.Prelude.{◌≡◌, ◌<◌, ◌≤◌, ℕ, Bool, true, false, if◌then◌else◌, List, ◌++◌, length, take, is_some}
+use Rattle.std.specs.Prelude.{Option, Some, Result, Ok, Err, ⊤, ◌⊎◌}
 use Rattle.exchange_defs.specs.State as model
 use Rattle.exchange_defs.specs.Status.{no_memory}
 use Rattle.world_defs.specs.Settings.{ServerSettings}
@@ -18,6 +19,7 @@ use Rattle.conn_served.specs.Replies.{some_acted, some_lacked}
 use Rattle.conn_served.specs.Serving.{Showing}
 use Rattle.conn_answers.specs.Replying.{EndsAs, Goes}
 use Rattle.conn_dealt.specs.Dealing.{taken_records}
+use Rattle.conn_dealt.specs.Written.{AreWritten}
 use Rattle.conn_dealt.specs.declared.dealing.Dealt.{Dealt}
 use Rattle.conn_core.specs.declared.end.Ended.{Ended}
 use Rattle.conn_core.specs.declared.taking.StepNote.{StepNote}
@@ -42,10 +44,12 @@ pub record IsOwned (z : ServerSettings) (k now : ℕ) (fresh : List ℕ) (s : mo
   pub matches : G.matches ≡ true
   pub left : AreLeft z k now fresh s L mishaps heard
 
--- the server shows what the step leaves, and the records of the messages that were taken, where no event found no memory
-pub record IsLeft (shown : Showing) (records : List model.Record) (G : GivenStep) : Type 0 where
+-- the server shows what the step leaves, with the records that its events wrote: those of the messages that were taken, where no event
+-- found no memory
+pub record IsLeft (shown : Showing) (written : List model.Record → Type 0) (records : List model.Record) (G : GivenStep) : Type 0 where
   pub more : List model.Record
   pub records_are : G.lacked ≡ false → more ≡ taken_records G.step.taken
+  pub wrote : written more
   pub state : shown G.step.server G.step.logons (records ++ more)
 
 -- a message acted, one was taken, an event found no memory
@@ -54,17 +58,18 @@ pub record IsTold (acted took lacked : Bool) (G : GivenStep) : Type 0 where
   pub took_is : took ≡ is_some G.step.taken
   pub lacked_is : lacked ≡ G.lacked
 
-pub record TakesOn (shown : Showing) (k : ℕ) (guid : List ℕ) (records : List model.Record) (new : Conn) (t : Taken) (G : GivenStep)
-    : Type 0 where
+pub record TakesOn (shown : Showing) (written : List model.Record → Type 0) (k : ℕ) (guid : List ℕ) (records : List model.Record)
+    (new : Conn) (t : Taken) (G : GivenStep) : Type 0 where
   pub goes : Goes k guid G.step t.bytes new
   pub note : note_of t.note ≡ notes.note_of_given G
   pub told : IsTold t.note.acted t.took t.lacked G
-  pub left : IsLeft shown records G
+  pub left : IsLeft shown written records G
 
 -- an end in place of an answer; what was carried out stands
-pub record EndsAt (shown : Showing) (records : List model.Record) (e : Ended) (G : GivenStep) : Type 0 where
+pub record EndsAt (shown : Showing) (written : List model.Record → Type 0) (records : List model.Record) (e : Ended) (G : GivenStep)
+    : Type 0 where
   pub told : IsTold e.acted e.took e.lacked G
-  pub left : IsLeft shown records G
+  pub left : IsLeft shown written records G
   pub why : EndsAs e.why G.step.ends
 
 -- a server that stopped; what it shows then is its own matter
@@ -72,29 +77,51 @@ pub record StopsAt (e : Ended) (count : ℕ) (G : GivenStep) : Type 0 where
   pub told : IsTold e.acted e.took e.lacked G
   pub why : G.step.ends ≡ Some (ends.Stopped count)
 
--- Where memory is missing for the answer all events were carried out.
-pub record LacksRoom (shown : Showing) (records : List model.Record) (e : Ended) (G : GivenStep) : Type 0 where
+-- Where memory is missing for the answer as a whole all events were carried out.
+pub record LacksRoom (shown : Showing) (written : List model.Record → Type 0) (records : List model.Record) (e : Ended) (G : GivenStep)
+    : Type 0 where
   pub told : IsTold e.acted e.took e.lacked G
-  pub left : IsLeft shown records G
+  pub left : IsLeft shown written records G
 
 -- or none, where it is missing for the frame
 pub record LacksAll (shown : Showing) (s : model.Server) (L : Logons) (records : List model.Record) (e : Ended) : Type 0 where
   pub told : (e.acted ≡ false) × (e.took ≡ false) × (e.lacked ≡ false)
   pub state : shown s L records
 
+-- the first messages of a frame alone
+abbrev pub first_of : ℕ → hearing.Frame → hearing.Frame
+first_of count F = record F { messages = take count F.messages }
+
+-- or those of the first messages alone, where it is missing for the reply to the last of these, whose event stands
+pub record LacksReply (shown : Showing) (z : ServerSettings) (k now : ℕ) (fresh : List ℕ) (s : model.Server) (L : Logons)
+    (records : List model.Record) (f : ServerEnd) (heard : Result hearing.Frame ends.ConnEnd) (e : Ended) : Type 0 where
+  pub frame : hearing.Frame
+  pub heard_is : heard ≡ Ok frame
+  pub count : ℕ
+  pub first : (0 < count) × (count ≤ length frame.messages)
+  pub given : GivenStep
+  pub owned : IsOwned z k now fresh s L f (Ok (first_of count frame)) given
+  pub told : IsTold e.acted e.took e.lacked given
+  pub left : IsLeft shown (AreWritten z k now fresh s L owned.mishaps (Ok (first_of count frame))) records given
+
 abbrev pub EndsBy : Showing → ServerSettings → ℕ → ℕ → List ℕ → model.Server → Logons → List model.Record → ServerEnd
     → Result hearing.Frame ends.ConnEnd → Ended → ConnEnd → Type 0
 EndsBy shown z k now fresh s L records f heard e Memory =
-    LacksAll shown s L records e ⊎ ((G : GivenStep) × IsOwned z k now fresh s L f heard G × LacksRoom shown records e G)
+    LacksAll shown s L records e
+    ⊎ (((G : GivenStep) × (own : IsOwned z k now fresh s L f heard G)
+    × LacksRoom shown (AreWritten z k now fresh s L own.mishaps heard) records e G)
+    ⊎ LacksReply shown z k now fresh s L records f heard e)
 EndsBy shown z k now fresh s L records f heard e (Stopped count) =
     (G : GivenStep) × IsOwned z k now fresh s L f heard G × StopsAt e count G
 EndsBy shown z k now fresh s L records f heard e why =
-    (G : GivenStep) × IsOwned z k now fresh s L f heard G × EndsAt shown records e G
+    (G : GivenStep) × (own : IsOwned z k now fresh s L f heard G)
+    × EndsAt shown (AreWritten z k now fresh s L own.mishaps heard) records e G
 
 abbrev pub TakesBy : Showing → ServerSettings → ℕ → ℕ → List ℕ → model.Server → Logons → List model.Record → ServerEnd
     → Result hearing.Frame ends.ConnEnd → Conn → Result Taken Ended → Type 0
 TakesBy shown z k now fresh s L records f heard new (Ok t) =
-    (G : GivenStep) × IsOwned z k now fresh s L f heard G × TakesOn shown k z.guid records new t G
+    (G : GivenStep) × (own : IsOwned z k now fresh s L f heard G)
+    × TakesOn shown (AreWritten z k now fresh s L own.mishaps heard) k z.guid records new t G
 TakesBy shown z k now fresh s L records f heard new (Err e) = EndsBy shown z k now fresh s L records f heard e e.why
 
 -- of a frame
@@ -107,6 +134,12 @@ Takes shown z k now fresh s L records f frame new result =
 abbrev pub Serves : Showing → ServerSettings → ℕ → ℕ → List ℕ → model.Server → Logons → List model.Record → ServerEnd → hearing.Frame
     → Conn → Result Taken Ended → Type 0
 Serves shown z k now fresh s L records f F new result = TakesBy shown z k now fresh s L records f (Ok F) new result
+
+-- ---- an end by a server that stopped: it stands stopped at that count
+
+abbrev pub HaltsAt : Option ℕ → Result Taken Ended → Type 0
+HaltsAt after (Ok t) = ⊤
+HaltsAt after (Err e) = (count : ℕ) → e.why ≡ Stopped count → after ≡ Some count
 
 -- ---- the answer, and what is told of it
 

@@ -11,10 +11,11 @@ ghost use Rattle.world_defs.specs.Answering as answering;
 ghost use Rattle.conn_ends.specs.Shown.{MaySeal, ShowsEnd};
 ghost use Rattle.conn_frames.specs.Checking.{AllHaveMessages, AreInOrder, GreetsFirst, ShowsFrame};
 ghost use Rattle.conn_served.specs.Replies.{some_acted, some_lacked};
+ghost use Rattle.conn_served.specs.Serving.{Onward};
 ghost use Rattle.conn_said.specs.Replying.{AreAsked, AreShort};
 ghost use Rattle.conn_dealt.specs.Dealing.{Alone, taken_records};
 ghost use Rattle.conn_answers.specs.Replying.{AreAnswers, replied};
-ghost use Rattle.conn_core.specs.Taking.{Finishes, IsEnded, Serves, Takes};
+ghost use Rattle.conn_core.specs.Taking.{Finishes, HaltsAt, IsEnded, Serves, Takes};
 
 use crate::end::{Ended, at_once};
 use conn_answers::{Answered, answered_with};
@@ -124,7 +125,8 @@ fn serve<S: Serve>(
         → S.shows server.old z.users s L records → ShowsEnd conn.old.id z.guid conn.old F.server_end → ShowsFrame asked.old F
         → (asked.old.sealed ≡ true → MaySeal F.server_end.keys) → asked.old.moment ≡ moment.now.time
         → GreetsFirst F.messages → Alone F.messages → AreAsked F.server_end.asked F.messages → F.server_end.counter ≤ last_counter
-        → Serves (S.shows server.new z.users) z conn.old.id moment.now.time moment.now.fresh s L records f F conn.new result }
+        → Serves (Onward (S.shows server.new z.users) (S.stopped server.old) (S.stopped server.new)) z conn.old.id moment.now.time
+        moment.now.fresh s L records f F conn.new result × HaltsAt (S.stopped server.new) result }
 {
     match carry_out(conn, server, moment, asked, dealt) {
         Ok(()) => finish(conn, asked, dealt),
@@ -134,7 +136,8 @@ fn serve<S: Serve>(
 
 /// Takes a frame: checks it, lets the server answer each message, and joins the replies. `now` is the moment in units
 /// of 100 nanoseconds since 1601, and `fresh` are random bytes for a challenge. An end tells whether a message of the
-/// frame acted before it.
+/// frame acted before it. It is `Stopped` only where the server stands stopped at that count, and otherwise the server
+/// goes on as before. At `Memory` no message was carried out, or all were, or all up to one whose reply is lost.
 pub fn take_frame<S: Serve>(
     conn: &mut Conn,
     server: &mut S,
@@ -142,9 +145,13 @@ pub fn take_frame<S: Serve>(
     fresh: [u8; 8],
     frame: &[u8],
 ) -> Result<Taken, Ended>
-    ensures { (z : ServerSettings) (s : Server) (L : Logons) (records : List Record) (f : ServerEnd)
+    ensures takes { (z : ServerSettings) (s : Server) (L : Logons) (records : List Record) (f : ServerEnd)
         → S.shows server.old z.users s L records → ShowsEnd conn.old.id z.guid conn.old f → f.counter ≤ last_counter
-        → Takes (S.shows server.new z.users) z conn.old.id now fresh s L records f frame.now conn.new result }
+        → Takes (Onward (S.shows server.new z.users) (S.stopped server.old) (S.stopped server.new)) z conn.old.id now fresh s L records
+        f frame.now conn.new result }
+    ensures halted { (z : ServerSettings) (s : Server) (L : Logons) (records : List Record) (f : ServerEnd)
+        → S.shows server.old z.users s L records → ShowsEnd conn.old.id z.guid conn.old f → f.counter ≤ last_counter
+        → HaltsAt (S.stopped server.new) result }
 {
     let mut asked = match check(conn, frame, now) {
         Ok(asked) => asked,

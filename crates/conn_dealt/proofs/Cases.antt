@@ -23,8 +23,8 @@ use Rattle.world_defs.specs.Connection.{Taken, heard_message, said_failed, said_
 use Rattle.world_defs.specs.Given.{has_event}
 use Rattle.world_defs.specs.Mishaps.{Owned}
 use Rattle.world_defs.specs.Notes.{has_acted}
-use Rattle.server_events.specs.declared.error.EventError.{EventError}
-use Rattle.server_events.specs.declared.error.EventError.TheVariants as errors
+use Rattle.conn_served.specs.declared.error.ServeError.{ServeError}
+use Rattle.conn_served.specs.declared.error.ServeError.TheVariants as errors
 use Rattle.conn_frames.specs.declared.checked.Checked.{Checked}
 use Rattle.conn_frames.specs.declared.checked.CheckedFrame.{CheckedFrame}
 use Rattle.conn_frames.proofs.Headers.{one_number}
@@ -35,7 +35,7 @@ use Rattle.conn_served.specs.Replies.{acts, lacks, some_acted, some_lacked}
 use Rattle.conn_served.specs.Serving.{Showing}
 use Rattle.conn_said.specs.Replying.{IsSaidTo, aside_status, said_aside}
 use Rattle.conn_heard.proofs.Events.{with_event, of_cancel, of_negotiate, of_echo}
-use Rattle.conn_dealt.specs.Dealing.{Alone, GivesReply, listed, takes, taken_records}
+use Rattle.conn_dealt.specs.Dealing.{Alone, GivesReply, LosesReply, listed, takes, taken_records}
 use Rattle.conn_dealt.specs.SoFar.{DealtSoFar}
 use Rattle.conn_dealt.specs.declared.dealing.Dealt.{Dealt}
 use Rattle.conn_dealt.proofs.Plainly.{no_token}
@@ -44,11 +44,11 @@ use Rattle.conn_dealt.proofs.SoFar.{Behind}
 use Rattle.conn_dealt.proofs.Turns.{behind_none, behind_answer, behind_lack}
 
 abbrev Answers : Type 0
-Answers = List (Result Reply EventError)
+Answers = List (Result Reply ServeError)
 
 -- ---- what is told of answers with one more
 
-pub acted_more : (rs : Answers) (r : Result Reply EventError) → some_acted (rs ++ r ∷ []) ≡ (some_acted rs || acts r)
+pub acted_more : (rs : Answers) (r : Result Reply ServeError) → some_acted (rs ++ r ∷ []) ≡ (some_acted rs || acts r)
 unfolding some_acted
 acted_more [] r = or_false (acts r)
   where
@@ -61,7 +61,7 @@ acted_more (x ∷ xs) r = ap (λ (b : Bool). acts x || b) (acted_more xs r) ∙ 
     joined true b c = refl
     joined false b c = refl
 
-pub lacked_more : (rs : Answers) (r : Result Reply EventError) → some_lacked (rs ++ r ∷ []) ≡ (some_lacked rs || lacks r)
+pub lacked_more : (rs : Answers) (r : Result Reply ServeError) → some_lacked (rs ++ r ∷ []) ≡ (some_lacked rs || lacks r)
 unfolding some_lacked
 lacked_more [] r = or_false (lacks r)
   where
@@ -206,6 +206,34 @@ lacking z k now fresh s L f cs at from x n t m d e y b more further w v heard ev
       (not_aside t (no_negotiate z w.dealt.going.logons k f t m heard event) (no_echo z w.dealt.going.logons k f t m heard event))
       (refl, (refl, refl, refl));
 }
+
+-- ---- its reply is lost
+
+pub record Lost (e : Dealt) (more : List model.Record) (v : Owned) : Type 0 where
+  pub acted : has_acted v.dealt.going.taken ≡ some_acted e.replies.items.items
+  pub lacked : v.dealt.lacked ≡ some_lacked e.replies.items.items
+  pub took : is_some v.dealt.going.taken ≡ e.took
+  pub records_are : v.dealt.lacked ≡ false → more ≡ taken_records v.dealt.going.taken
+
+pub lost_to : (shown : Showing) (z : ServerSettings) (k now : ℕ) (fresh : List ℕ) (s : model.Server) (L : Logons)
+    (records : List model.Record) (f : ServerEnd) (cs : List hearing.Checked) (at from : ℕ) (x : CheckedFrame) (t : hearing.Checked)
+    (m : model.Message) (acted : Bool) (d e : Dealt) (y : Option related.Carry) (more : List model.Record) (w : Owned)
+    → e.replies.items.items ≡ d.replies.items.items ++ Err (errors.Unanswered acted) ∷ [] → e.took ≡ (d.took || true)
+    → LosesReply shown z k now fresh w.dealt.going.server w.dealt.going.logons records f t m acted
+    → DealtSoFar z k now fresh s L f cs at from x d y more w
+    → Lost e (more ++ (answer_to w.dealt.going.server now m m.command).records) (behind_answer z k now fresh f w t m)
+lost_to shown z k now fresh s L records f cs at from x t m acted d e y more w items took loses far =
+    let A = answer_to w.dealt.going.server now m m.command in
+    let o = w.dealt.going.taken in
+    record {
+      acted = acted_with o m A ∙ (ap (λ (c : Bool). c || A.acted) far.acted
+          ∙ (ap (λ (c : Bool). some_acted d.replies.items.items || c) (sym loses.acted_is)
+          ∙ (sym (acted_more d.replies.items.items (Err (errors.Unanswered acted))) ∙ ap (λ (l : Answers). some_acted l) (sym items))));
+      lacked = far.lacked ∙ (sym (or_none (some_lacked d.replies.items.items))
+          ∙ (sym (lacked_more d.replies.items.items (Err (errors.Unanswered acted))) ∙ ap (λ (l : Answers). some_lacked l) (sym items)));
+      took = sym (took ∙ or_one d.took);
+      records_are = λ none. ap (λ (l : List model.Record). l ++ A.records) (far.records_are none) ∙ sym (records_with o m A);
+    }
 
 -- ---- a CANCEL
 

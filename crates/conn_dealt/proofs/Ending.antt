@@ -1,15 +1,14 @@
 -- Before the first message of a frame, and behind the last.
 use Rattle.std.proofs.Common.{◌≡◌, ℕ, zero, suc, ◌+◌, ◌≤◌, ◌<◌, false, List, [], ◌∷◌}
-use Rattle.std.proofs.Common.{◌++◌, length, take, drop, Option, Some, None, Result, Ok, Err, slice_get}
+use Rattle.std.proofs.Common.{◌++◌, length, take, Option, Some, None, Result, Ok, Err, slice_get}
 use Rattle.std.proofs.Common.{refl, sym, ap, subst, ◌∙◌, append-nil, arith}
-use Rattle.std.proofs.Math.ListN.{drop_of_length-le}
 use Rattle.exchange_defs.specs.State as model
 use Rattle.world_defs.specs.Settings.{ServerSettings}
 use Rattle.world_defs.specs.Ends.{ServerEnd, Logons}
 use Rattle.world_defs.specs.Hearing as hearing
 use Rattle.world_defs.specs.Related as related
 use Rattle.world_defs.specs.Mishaps.{Owned, owning, owned_all, LeaveAll}
-use Rattle.server_events.specs.declared.error.EventError.{EventError}
+use Rattle.conn_served.specs.declared.error.ServeError.{ServeError}
 use Rattle.conn_ends.specs.declared.end.ConnEnd.{ConnEnd}
 use Rattle.conn_ends.specs.declared.end.ConnEnd.TheVariants as ends
 use Rattle.conn_frames.specs.declared.checked.Checked.{Checked}
@@ -19,14 +18,15 @@ use Rattle.conn_served.specs.declared.serve.Reply.{Reply}
 use Rattle.conn_served.specs.Replies.{some_acted, some_lacked}
 use Rattle.conn_served.specs.Serving.{Showing}
 use Rattle.conn_said.specs.Replying.{AreSaid, AreShort, FailRightly, ShowsTaken}
-use Rattle.conn_dealt.specs.Dealing.{Dealing, Deals, GoesThrough, SameCommands}
+use Rattle.conn_dealt.specs.Dealing.{Deals, SameCommands}
+use Rattle.conn_dealt.specs.Written.{WriteAll}
 use Rattle.conn_dealt.specs.SoFar.{DealtSoFar, Steps, with_mishaps}
 use Rattle.conn_dealt.specs.declared.dealing.Dealt.{Dealt}
 use Rattle.conn_dealt.proofs.Lists.{at_places, in_a_row, same_list}
-use Rattle.conn_dealt.proofs.Turns.{none_left, all_done}
+use Rattle.conn_dealt.proofs.Turns.{none_left, none_written, all_done}
 
 abbrev Answers : Type 0
-Answers = List (Result Reply EventError)
+Answers = List (Result Reply ServeError)
 
 none_acted : (rs : Answers) → rs ≡ [] → false ≡ some_acted rs
 unfolding some_acted
@@ -48,7 +48,7 @@ pub first : (z : ServerSettings) (k now : ℕ) (fresh : List ℕ) (s : model.Ser
     (cs : List hearing.Checked) (x : CheckedFrame) (d : Dealt) → d.replies.items.items ≡ [] → d.took ≡ false
     → ShowsMessages x.bytes.items x.messages.items cs → DealtSoFar z k now fresh s L f cs 0 0 x d None [] (owning s L f [])
 first z k now fresh s L f cs x d none untaken shows = record {
-  begins = record { mishaps = []; is = λ later. refl; left = λ later rest. rest };
+  begins = record { mishaps = []; is = λ later rest. refl; left = λ later rest h. h; written = λ later rest after h. h };
   goes = refl;
   none_missing = refl;
   acted = none_acted d.replies.items.items none;
@@ -85,22 +85,24 @@ take_past (c ∷ cs) (suc n) past = ap (λ (l : List hearing.Checked). c ∷ l) 
 
 pub last : (shown : Showing) (z : ServerSettings) (k now : ℕ) (fresh : List ℕ) (s : model.Server) (L : Logons)
     (records : List model.Record) (f : ServerEnd) (cs : List hearing.Checked) (at : ℕ) (x : CheckedFrame) (d : Dealt)
-    (y : Option related.Carry) (more : List model.Record) (w : Owned) → length x.messages.items ≡ length cs → length cs ≤ at
+    (y : Option related.Carry) (more : List model.Record) (w : Owned) → length x.messages.items ≡ length cs
+    → length cs ≤ at
     → DealtSoFar z k now fresh s L f cs at at x d y more w → shown w.dealt.going.server w.dealt.going.logons (records ++ more)
-    → (v : Owned) × Dealing z k now fresh s L f cs d v × GoesThrough shown z now f records cs x d v
+    → Deals shown z k now fresh s L records f cs x d (Ok tt)
 last shown z k now fresh s L records f cs at x d y more w count past far state =
     let v = with_mishaps w [] in
-    let empty : drop at cs ≡ [] = drop_of_length-le cs past in
+    let front : take at cs ≡ cs = take_past cs at past in
+    let whole : take at cs ++ [] ≡ cs = append-nil (take at cs) ∙ front in
     let few : length far.done ≤ length x.messages.items = not_more far.done x.messages.items far.same in
     let long : length far.done ≡ at = far.long in
     let all : far.done ≡ x.messages.items = same_list far.done x.messages.items (omega (arith, count, past, few, long)) far.same in (
       v,
       record {
         mishaps = far.begins.mishaps ++ [];
-        is = sym (far.begins.is []
-            ∙ (ap (λ (ds : List hearing.Checked). owned_all z k now fresh f v ds) empty ∙ all_done z k now fresh f v));
-        left = far.begins.left []
-            (subst (λ (ds : List hearing.Checked). LeaveAll z k now fresh f v ds) (sym empty) (none_left z k now fresh f v));
+        is = sym (sym (ap (λ (ds : List hearing.Checked). owned_all z k now fresh f (owning s L f (far.begins.mishaps ++ [])) ds) whole)
+            ∙ (far.begins.is [] [] ∙ all_done z k now fresh f v));
+        left = subst (λ (ds : List hearing.Checked). LeaveAll z k now fresh f (owning s L f (far.begins.mishaps ++ [])) ds) whole
+            (far.begins.left [] [] (none_left z k now fresh f v));
         none_missing = far.none_missing;
         none_left = refl;
         acted = far.acted;
@@ -111,11 +113,16 @@ last shown z k now fresh s L records f cs at x d y more w count past far state =
         goes = far.goes;
         more = more;
         records_are = far.records_are;
+        written = subst (λ (ds : List hearing.Checked). WriteAll z k now fresh f (owning s L f (far.begins.mishaps ++ [])) ds more) whole
+            (subst (λ (rs : List model.Record). WriteAll z k now fresh f (owning s L f (far.begins.mishaps ++ [])) (take at cs ++ []) rs)
+            (append-nil more) (far.begins.written [] [] [] (none_written z k now fresh f v)));
         state = state;
+      },
+      record {
         taken = far.taken;
         shows = subst (λ (ms : List Checked). ShowsTaken x.bytes.items ms far.taken) all
             (in_a_row x.bytes.items far.done far.taken (far.long ∙ sym far.also) far.shows);
-        commands = subst (λ (l : List hearing.Checked). SameCommands far.taken l) (take_past cs at past) far.commands;
+        commands = subst (λ (l : List hearing.Checked). SameCommands far.taken l) front far.commands;
         fails = subst (λ (ms : List Checked). FailRightly ms) all far.fails;
         said = subst (λ (ms : List Checked). AreSaid z now f ms far.taken d.replies.items.items f.window w.dealt.going.replies
             w.dealt.going.window) all far.said;
@@ -133,4 +140,4 @@ deals_err shown z k now fresh s L records f cs at x d ends.Spent p = absurd p
 deals_err shown z k now fresh s L records f cs at x d ends.Full p = absurd p
 deals_err shown z k now fresh s L records f cs at x d (ends.LinkFault count) p = absurd p
 deals_err shown z k now fresh s L records f cs at x d (ends.Stopped count) p = p
-deals_err shown z k now fresh s L records f cs at x d ends.Memory p = absurd p
+deals_err shown z k now fresh s L records f cs at x d ends.Memory p = p

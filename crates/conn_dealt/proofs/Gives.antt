@@ -16,8 +16,8 @@ use Rattle.world_defs.specs.Hearing as hearing
 use Rattle.world_defs.specs.Connection as connection
 use Rattle.world_defs.specs.Connection.{heard_message}
 use Rattle.world_defs.specs.Given.{has_event}
-use Rattle.server_events.specs.declared.error.EventError.{EventError}
-use Rattle.server_events.specs.declared.error.EventError.TheVariants as errors
+use Rattle.conn_served.specs.declared.error.ServeError.{ServeError}
+use Rattle.conn_served.specs.declared.error.ServeError.TheVariants as errors
 use Rattle.server_asked.specs.declared.event.ServerEvent.{ServerEvent}
 use Rattle.server_asked.specs.declared.event.ServerEvent.TheVariants as events
 use Rattle.conn_frames.specs.declared.checked.Checked.{Checked}
@@ -158,7 +158,7 @@ none_asked shown z k now fresh s L records f c t shows same event =
 
 asked_some : (shown : Showing) (z : ServerSettings) (k now : ℕ) (fresh : List ℕ) (s : model.Server) (L : Logons)
     (records : List model.Record) (f : ServerEnd) (m : Checked) (c : hearing.Checked) (t : Told) (due : Option model.Message)
-    (e : ServerEvent) (r : Result Reply EventError) → (bytes : List ℕ) → ShowsGoing bytes m c → IsOther c → t.connection ≡ k
+    (e : ServerEvent) (r : Result Reply ServeError) → (bytes : List ℕ) → ShowsGoing bytes m c → IsOther c → t.connection ≡ k
     → t.fresh ≡ fresh → IsTold f c t → IsEvent z.users L t c due (Some e) → Serves shown z.users s L records now e r
     → GivesIf shown z k now fresh s L records f c due (Some r)
 asked_some shown z k now fresh s L records f m c t None e r bytes shows other same random told event serves = absurd event
@@ -167,15 +167,15 @@ asked_some shown z k now fresh s L records f m c t (Some x) (events.Message mess
 asked_some shown z k now fresh s L records f m c t (Some x) (events.Setup q) r bytes shows other same random told event serves =
     setup_gives shown z k now fresh s L records f m c t q x r bytes shows other.negotiate same random told event.0 event.1 serves
 asked_some shown z k now fresh s L records f m c t (Some x) (events.Accept connection) r bytes shows other same random told event serves =
-    absurd event.0
+    absurd event.1
 asked_some shown z k now fresh s L records f m c t (Some x) (events.End connection) r bytes shows other same random told event serves =
-    absurd event.0
-asked_some shown z k now fresh s L records f m c t (Some x) events.Stop r bytes shows other same random told event serves = absurd event.0
+    absurd event.1
+asked_some shown z k now fresh s L records f m c t (Some x) events.Stop r bytes shows other same random told event serves = absurd event.1
 
 -- the server's answer to what it asks
 pub answered_here : (shown : Showing) (z : ServerSettings) (k now : ℕ) (fresh : List ℕ) (s : model.Server) (L : Logons)
     (records : List model.Record) (f : ServerEnd) (m : Checked) (c : hearing.Checked) (t : Told) (e : ServerEvent)
-    (r : Result Reply EventError) (bytes : List ℕ) → ShowsGoing bytes m c → replying.has_event m ≡ true → t.connection ≡ k
+    (r : Result Reply ServeError) (bytes : List ℕ) → ShowsGoing bytes m c → replying.has_event m ≡ true → t.connection ≡ k
     → t.fresh ≡ fresh → IsTold f c t → IsEvent z.users L t c (heard_message z L t.connection f c) (Some e)
     → Serves shown z.users s L records now e r → GivesFor shown z k now fresh s L records f c (Some r)
 answered_here shown z k now fresh s L records f m c t e r bytes shows event same random told asks serves =

@@ -1,3 +1,4 @@
+pub mod Stops
 pub mod Turns
 pub mod Saids
 pub mod Plainly

@@ -1,6 +1,6 @@
 -- Lists of a frame's messages by their places.
 use Rattle.std.proofs.Common.{◌≡◌, ℕ, zero, suc, ◌+◌, ◌≤◌, ◌<◌, List, [], ◌∷◌}
-use Rattle.std.proofs.Common.{◌++◌, length, take, Option, Some, None, slice_get, ◌⊎◌, inl, inr}
+use Rattle.std.proofs.Common.{◌++◌, length, Option, Some, None, slice_get, ◌⊎◌, inl, inr}
 use Rattle.std.proofs.Common.{refl, sym, ap, subst, ◌∙◌, length-append, arith}
 use Rattle.std.proofs.lemmas.Option.{slice_get_within}
 use Rattle.world_defs.specs.Hearing as hearing
@@ -60,17 +60,6 @@ last_checked (x ∷ xs) t (suc i) c e = behind (last_checked xs t i c e)
 
 pub checked_within : (cs : List hearing.Checked) (i : ℕ) (c : hearing.Checked) → slice_get cs i ≡ Some c → i < length cs
 checked_within cs i c e = slice_get_within cs i c e
-
-taken_on : (cs : List hearing.Checked) (i : ℕ) (c : hearing.Checked) → slice_get cs i ≡ Some c → take (suc i) cs ≡ take i cs ++ c ∷ []
-taken_on [] zero c e = absurd cc
-taken_on [] (suc i) c e = absurd cc
-taken_on (x ∷ xs) zero c e = ap (λ (y : hearing.Checked). y ∷ []) (one_checked x c e)
-taken_on (x ∷ xs) (suc i) c e = ap (λ (l : List hearing.Checked). x ∷ l) (taken_on xs i c e)
-
-pub take_more : (cs : List hearing.Checked) (i : ℕ) (c : hearing.Checked) → slice_get cs i ≡ Some c → take (i + 1) cs ≡ take i cs ++ c ∷ []
-take_more cs i c e =
-    let next : i + 1 ≡ suc i = omega arith in
-    ap (λ (n : ℕ). take n cs) next ∙ taken_on cs i c e
 
 -- ---- two lists with the same members
 

@@ -19,17 +19,17 @@ use Rattle.world_defs.specs.Negotiate.{negotiate_response_body}
 use Rattle.world_defs.specs.Answering as answering
 use Rattle.world_defs.specs.Connection.{said_to}
 use Rattle.world_defs.specs.Logon as logon
-use Rattle.server_events.specs.declared.error.EventError.{EventError}
-use Rattle.server_events.specs.declared.error.EventError.TheVariants as errors
+use Rattle.conn_served.specs.declared.error.ServeError.{ServeError}
+use Rattle.conn_served.specs.declared.error.ServeError.TheVariants as errors
 use Rattle.server_asked.specs.declared.event.ServerEvent.TheVariants as events
 use Rattle.conn_ends.specs.declared.conn.Progress.{Progress}
 use Rattle.conn_ends.specs.declared.conn.Progress.TheVariants.{Stays, Interim, Final}
 use Rattle.conn_sealing.specs.Saying.{AreProgressKeys, MovesAs}
-use Rattle.conn_served.specs.Serving.{IsPlain, RepliesHeard, Serves, Showing, Stands}
+use Rattle.conn_served.specs.Serving.{IsPlain, LosesHeard, RepliesHeard, Serves, Showing, Stands}
 use Rattle.conn_served.specs.declared.serve.Reply.{Reply}
 use Rattle.conn_said.specs.Replying.{SetsUp, signer_due}
 use Rattle.conn_heard.proofs.Plain.{plain_event}
-use Rattle.conn_dealt.specs.Dealing.{GivesBy, GivesIf, GivesReply}
+use Rattle.conn_dealt.specs.Dealing.{GivesBy, GivesIf, GivesReply, LosesReply}
 
 plain_stays : (c : asks.Command) (r : model.Reply) → IsPlain c → logon.progress c r ≡ logon.Stays
 plain_stays (asks.Unreadable status) r p = refl
@@ -96,20 +96,33 @@ plain_reply shown z k now fresh s L records f c m r negotiate plain serves =
       };
     }
 
+plain_lost : (shown : Showing) (z : ServerSettings) (k now : ℕ) (fresh : List ℕ) (s : model.Server) (L : Logons)
+    (records : List model.Record) (f : ServerEnd) (c : hearing.Checked) (m : model.Message) (acted : Bool) → IsPlain m.command
+    → LosesHeard shown s L records now m acted → LosesReply shown z k now fresh s L records f c m acted
+plain_lost shown z k now fresh s L records f c m acted plain loses =
+    let A = answer_to s now m m.command in
+    let p : logon.progress m.command A.reply ≡ logon.Stays = plain_stays m.command A.reply plain in
+    record {
+      state = subst (λ (q : logon.Progress). shown A.server (logon.logons_behind z.users L k f c fresh now q) (records ++ A.records))
+          (sym p) loses.1;
+      acted_is = loses.0;
+    }
+
 plain_by : (shown : Showing) (z : ServerSettings) (k now : ℕ) (fresh : List ℕ) (s : model.Server) (L : Logons)
-    (records : List model.Record) (f : ServerEnd) (c : hearing.Checked) (message : Message) (r : Result Reply EventError)
+    (records : List model.Record) (f : ServerEnd) (c : hearing.Checked) (message : Message) (r : Result Reply ServeError)
     → (c.header.command == 0) ≡ false → IsPlain (command_of message.command)
     → Serves shown z.users s L records now (events.Message message) r
     → GivesBy shown z k now fresh s L records f c (message_of message) r
 plain_by shown z k now fresh s L records f c message (Ok r) negotiate plain serves =
     plain_reply shown z k now fresh s L records f c (message_of message) r negotiate plain serves
 plain_by shown z k now fresh s L records f c message (Err errors.Memory) negotiate plain serves = serves
-plain_by shown z k now fresh s L records f c message (Err (errors.DiskFault count)) negotiate plain serves = tt
+plain_by shown z k now fresh s L records f c message (Err (errors.Unanswered acted)) negotiate plain serves =
+    plain_lost shown z k now fresh s L records f c (message_of message) acted plain serves
 plain_by shown z k now fresh s L records f c message (Err (errors.Stopped count)) negotiate plain serves = tt
 
 pub plain_gives : (shown : Showing) (z : ServerSettings) (k now : ℕ) (fresh : List ℕ) (s : model.Server) (L : Logons)
     (records : List model.Record) (f : ServerEnd) (c : hearing.Checked) (message : Message) (m : model.Message)
-    (r : Result Reply EventError) → (c.header.command == 0) ≡ false → IsPlain (command_of message.command) → message_of message ≡ m
+    (r : Result Reply ServeError) → (c.header.command == 0) ≡ false → IsPlain (command_of message.command) → message_of message ≡ m
     → Serves shown z.users s L records now (events.Message message) r → GivesIf shown z k now fresh s L records f c (Some m) (Some r)
 plain_gives shown z k now fresh s L records f c message m r negotiate plain same serves =
     subst (λ (x : model.Message). GivesIf shown z k now fresh s L records f c (Some x) (Some r)) same

@@ -8,14 +8,14 @@ use Rattle.world_defs.specs.Ends.{ServerEnd}
 use Rattle.world_defs.specs.Hearing as hearing
 use Rattle.world_defs.specs.Answering as answering
 use Rattle.world_defs.specs.Connection.{said_failed}
-use Rattle.server_events.specs.declared.error.EventError.{EventError}
+use Rattle.conn_served.specs.declared.error.ServeError.{ServeError}
 use Rattle.conn_frames.specs.declared.checked.Checked.{Checked}
 use Rattle.conn_served.specs.declared.serve.Reply.{Reply}
 use Rattle.conn_said.specs.Replying.{AreSaid, FailRightly, FailsAt, Later, Says, SaysAside, SaysReply, SaysThis, aside_status, said_aside}
 use Rattle.conn_dealt.specs.Dealing.{SameCommands}
 
 abbrev Answers : Type 0
-Answers = List (Result Reply EventError)
+Answers = List (Result Reply ServeError)
 
 -- ---- one more at the end
 
@@ -99,7 +99,7 @@ of_aside z now f m c w status s off goes aside is =
     (is, (refl, refl, refl))))
 
 pub of_reply : (z : ServerSettings) (now : ℕ) (f : ServerEnd) (m : Checked) (c : hearing.Checked) (w : HeldIds)
-    (r : Result Reply EventError) (s : answering.Said) → hearing.is_cancel c.header ≡ false → m.fails ≡ None → aside_status c ≡ None
+    (r : Result Reply ServeError) (s : answering.Said) → hearing.is_cancel c.header ≡ false → m.fails ≡ None → aside_status c ≡ None
     → SaysReply f w c (λ x h y. AreSaid z now f [] [] x h y (after_grant c.header.credits w)) (r ∷ []) (s ∷ [])
     → OneSaid z now f m c (r ∷ []) w (s ∷ []) (after_grant c.header.credits w)
 of_reply z now f m c w r s off goes aside is =

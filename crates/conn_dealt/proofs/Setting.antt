@@ -25,8 +25,8 @@ use Rattle.world_defs.specs.Connection.{keys_said, said_to}
 use Rattle.world_defs.specs.Logon as logon
 use Rattle.server_events.specs.Setups.{keys_behind, request_of, setup_logons, setup_message}
 use Rattle.server_events.specs.declared.setup.SetupHeard.{SetupHeard}
-use Rattle.server_events.specs.declared.error.EventError.{EventError}
-use Rattle.server_events.specs.declared.error.EventError.TheVariants as errors
+use Rattle.conn_served.specs.declared.error.ServeError.{ServeError}
+use Rattle.conn_served.specs.declared.error.ServeError.TheVariants as errors
 use Rattle.server_asked.specs.declared.event.ServerEvent.TheVariants as events
 use Rattle.conn_ends.specs.declared.conn.Progress.{Progress}
 use Rattle.conn_ends.specs.declared.conn.Progress.TheVariants.{Stays, Interim, Final}
@@ -42,7 +42,7 @@ use Rattle.conn_heard.specs.declared.hearing.Told.{Told}
 use Rattle.conn_heard.proofs.Found.{none_named}
 use Rattle.conn_heard.proofs.Setups.{same_answer}
 use Rattle.conn_heard.proofs.Unread.{unread_stays}
-use Rattle.conn_dealt.specs.Dealing.{GivesBy, GivesIf, GivesReply}
+use Rattle.conn_dealt.specs.Dealing.{GivesBy, GivesIf, GivesReply, LosesReply}
 use Rattle.conn_dealt.proofs.Plainly.{body_is, no_token}
 
 -- ---- a SESSION_SETUP as it is handed on, and the definitions' of it; its token is that of its bytes, or nothing comes of it
@@ -200,6 +200,27 @@ setup_over shown z k now fresh s L records f c q r negotiate is token over =
       };
     }
 
+-- the same, where the reply is lost
+abbrev LostOver : Showing → List User → Logons → List model.Record → ℕ → SetupHeard → Bool → model.Answer → Type 0
+LostOver shown users L records now q acted A =
+    (acted ≡ A.acted) × shown A.server (setup_logons users L q now (logon.setup_progress q.form.binding A.reply)) (records ++ A.records)
+
+setup_lost : (shown : Showing) (z : ServerSettings) (k now : ℕ) (fresh : List ℕ) (s : model.Server) (L : Logons)
+    (records : List model.Record) (f : ServerEnd) (c : hearing.Checked) (q : SetupHeard) (acted : Bool) → IsSame f k fresh c q
+    → HasToken c q (logon.setup_progress q.form.binding (answer_to s now (message_for z.users L q) (message_for z.users L q).command).reply)
+    → LostOver shown z.users L records now q acted (answer_to s now (message_for z.users L q) (message_for z.users L q).command)
+    → LosesReply shown z k now fresh s L records f c (message_for z.users L q) acted
+setup_lost shown z k now fresh s L records f c q acted is token over =
+    let M = message_for z.users L q in
+    let A = answer_to s now M M.command in
+    let p = logon.setup_progress q.form.binding A.reply in
+    let logons : setup_logons z.users L q now p ≡ logon.logons_behind z.users L k f c fresh now p =
+    logons_are z.users L k now f fresh c q p is token in
+    record {
+      state = subst (λ (x : Logons). shown A.server x (records ++ A.records)) logons over.1;
+      acted_is = over.0;
+    }
+
 -- ---- the whole of it
 
 is_same : (users : List User) (L : Logons) (f : ServerEnd) (k : ℕ) (fresh : List ℕ) (c : hearing.Checked) (t : Told) (q : SetupHeard)
@@ -243,7 +264,7 @@ left_same users L s now q t more (inr (o, x, e)) =
     inr (o, record { is_due = x.is_due; kept = x.kept; room = x.room; behind = x.behind }, e)
 
 setup_by : (shown : Showing) (z : ServerSettings) (k now : ℕ) (fresh : List ℕ) (s : model.Server) (L : Logons)
-    (records : List model.Record) (f : ServerEnd) (c : hearing.Checked) (q : SetupHeard) (r : Result Reply EventError)
+    (records : List model.Record) (f : ServerEnd) (c : hearing.Checked) (q : SetupHeard) (r : Result Reply ServeError)
     → (c.header.command == 0) ≡ false → IsSame f k fresh c q → 64 ≤ length q.bytes.now
     → HasToken c q (logon.setup_progress q.form.binding (answer_to s now (message_for z.users L q) (message_for z.users L q).command).reply)
     → Serves shown z.users s L records now (events.Setup q) r → GivesBy shown z k now fresh s L records f c (message_for z.users L q) r
@@ -253,12 +274,14 @@ setup_by shown z k now fresh s L records f c q (Ok r) negotiate is whole token s
     (sym (same_answer z.users L s now q whole)) serves)
 setup_by shown z k now fresh s L records f c q (Err errors.Memory) negotiate is whole token serves =
     (serves.0, serves.1, left_same z.users L s now q serves.0 serves.1 serves.2, serves.3)
-setup_by shown z k now fresh s L records f c q (Err (errors.DiskFault count)) negotiate is whole token serves = tt
+setup_by shown z k now fresh s L records f c q (Err (errors.Unanswered acted)) negotiate is whole token serves =
+    setup_lost shown z k now fresh s L records f c q acted is token
+    (subst (λ (A : model.Answer). LostOver shown z.users L records now q acted A) (sym (same_answer z.users L s now q whole)) serves)
 setup_by shown z k now fresh s L records f c q (Err (errors.Stopped count)) negotiate is whole token serves = tt
 
 pub setup_gives : (shown : Showing) (z : ServerSettings) (k now : ℕ) (fresh : List ℕ) (s : model.Server) (L : Logons)
     (records : List model.Record) (f : ServerEnd) (m : Checked) (c : hearing.Checked) (t : Told) (q : SetupHeard) (x : model.Message)
-    (r : Result Reply EventError) (bytes : List ℕ) → ShowsGoing bytes m c → (c.header.command == 0) ≡ false → t.connection ≡ k
+    (r : Result Reply ServeError) (bytes : List ℕ) → ShowsGoing bytes m c → (c.header.command == 0) ≡ false → t.connection ≡ k
     → t.fresh ≡ fresh → IsTold f c t → IsDenied q.fault → IsHeard z.users L t c q x
     → Serves shown z.users s L records now (events.Setup q) r → GivesIf shown z k now fresh s L records f c (Some x) (Some r)
 setup_gives shown z k now fresh s L records f m c t q x r bytes shows negotiate same random told denied heard serves =

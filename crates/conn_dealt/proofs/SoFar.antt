@@ -21,8 +21,8 @@ use Rattle.world_defs.specs.Related.{Fails, turn_of, failed_as}
 use Rattle.world_defs.specs.Connection.{Taken, said_failed, said_to, taken_with}
 use Rattle.world_defs.specs.Mishaps.{Mishap, Owned}
 use Rattle.world_defs.specs.Notes.{has_acted}
-use Rattle.server_events.specs.declared.error.EventError.{EventError}
-use Rattle.server_events.specs.declared.error.EventError.TheVariants as errors
+use Rattle.conn_served.specs.declared.error.ServeError.{ServeError}
+use Rattle.conn_served.specs.declared.error.ServeError.TheVariants as errors
 use Rattle.conn_frames.specs.declared.checked.Checked.{Checked}
 use Rattle.conn_frames.specs.declared.checked.CheckedFrame.{CheckedFrame}
 use Rattle.conn_frames.specs.Checking.{AreInOrder, ShowsGoing}
@@ -32,10 +32,10 @@ use Rattle.conn_served.specs.Replies.{acts, lacks, some_acted, some_lacked}
 use Rattle.conn_said.specs.Replying.{AreSaid, FailRightly, FailsAt}
 use Rattle.conn_dealt.specs.Dealing.{SameCommands, taken_records}
 use Rattle.conn_dealt.specs.declared.dealing.Dealt.{Dealt}
-use Rattle.conn_dealt.proofs.Lists.{checked_within, going_on, last_checked, last_message, take_more, was_there}
+use Rattle.conn_dealt.proofs.Lists.{checked_within, going_on, last_checked, last_message, was_there}
 use Rattle.conn_dealt.proofs.Saids.{OneSaid, commands_more, fails_more, of_cancel, of_failed, said_more}
 use Rattle.conn_dealt.specs.SoFar.{DealtSoFar}
-use Rattle.conn_dealt.proofs.Turns.{Turns, begins_on, behind_failed}
+use Rattle.conn_dealt.proofs.Turns.{Turns, begins_on, behind_failed, take_more}
 
 -- ---- the message at its place may change
 
@@ -86,7 +86,7 @@ pub record Behind (z : ServerSettings) (now : ℕ) (f : ServerEnd) (cs : List he
   pub took : is_some v.dealt.going.taken ≡ e.took
   pub records_are : v.dealt.lacked ≡ false → more ≡ taken_records v.dealt.going.taken
   pub carried_is : at + 1 < length cs → v.dealt.going.carried ≡ u
-  pub answers : List (Result Reply EventError)
+  pub answers : List (Result Reply ServeError)
   pub replies : List answering.Said
   pub answers_are : e.replies.items.items ≡ d.replies.items.items ++ answers
   pub replies_are : v.dealt.going.replies ≡ w.dealt.going.replies ++ replies
@@ -94,13 +94,13 @@ pub record Behind (z : ServerSettings) (now : ℕ) (f : ServerEnd) (cs : List he
 
 pub one_more : (z : ServerSettings) (k now : ℕ) (fresh : List ℕ) (s : model.Server) (L : Logons) (f : ServerEnd)
     (cs : List hearing.Checked) (at : ℕ) (x : CheckedFrame) (n : Checked) (c t : hearing.Checked) (d e : Dealt)
-    (y u : Option related.Carry) (more now_more : List model.Record) (xs : List (Option Mishap)) (w v : Owned)
+    (y u : Option related.Carry) (more one now_more : List model.Record) (xs : List (Option Mishap)) (w v : Owned)
     → slice_get cs at ≡ Some c → slice_get x.messages.items at ≡ Some n → ShowsGoing x.bytes.items n t
-    → t.header.command ≡ c.header.command → FailsAt n.fails → Turns z k now fresh f w c xs v
+    → t.header.command ≡ c.header.command → FailsAt n.fails → more ++ one ≡ now_more → Turns z k now fresh f w c xs one v
     → Behind z now f cs at n t d e u now_more w v → DealtSoFar z k now fresh s L f cs at (at + 1) x d y more w
     → DealtSoFar z k now fresh s L f cs (at + 1) (at + 1) x e u now_more v
-one_more z k now fresh s L f cs at x n c t d e y u more now_more xs w v is_c is_n shows command fails turns deals far = record {
-  begins = begins_on z k now fresh s L f cs at c w v xs is_c far.goes far.begins turns;
+one_more z k now fresh s L f cs at x n c t d e y u more one now_more xs w v is_c is_n shows command fails sum turns deals far = record {
+  begins = begins_on z k now fresh s L f cs at c w v xs more one now_more is_c far.goes sum far.begins turns;
   goes = deals.goes;
   none_missing = deals.none_missing;
   acted = deals.acted;
@@ -117,7 +117,7 @@ one_more z k now fresh s L f cs at x n c t d e y u more now_more xs w v is_c is_
   commands = subst (λ (l : List hearing.Checked). SameCommands (far.taken ++ t ∷ []) l) (sym (take_more cs at c is_c))
       (commands_more far.taken (take at cs) t c far.commands command);
   fails = fails_more far.done n far.fails fails;
-  said = subst (λ (rs : List (Result Reply EventError)). AreSaid z now f (far.done ++ n ∷ []) (far.taken ++ t ∷ []) rs f.window
+  said = subst (λ (rs : List (Result Reply ServeError)). AreSaid z now f (far.done ++ n ∷ []) (far.taken ++ t ∷ []) rs f.window
       v.dealt.going.replies v.dealt.going.window) (sym deals.answers_are)
       (subst (λ (ss : List answering.Said). AreSaid z now f (far.done ++ n ∷ []) (far.taken ++ t ∷ [])
       (d.replies.items.items ++ deals.answers) f.window ss v.dealt.going.window) (sym deals.replies_are)

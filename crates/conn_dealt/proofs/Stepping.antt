@@ -1,7 +1,8 @@
 -- One message in its turn.
 use Rattle.std.proofs.Common.{◌≡◌, ℕ, ◌+◌, ◌==◌, ◌≤◌, ◌<◌, Bool, true, false, not}
-use Rattle.std.proofs.Common.{◌||◌, if◌then◌else◌, List, [], ◌∷◌, ◌++◌, length, drop, Option}
-use Rattle.std.proofs.Common.{Some, None, Result, Ok, Err, slice_get, refl, sym, ap, subst, ◌∙◌, append_assoc, arith}
+use Rattle.std.proofs.Common.{◌||◌, if◌then◌else◌, List, [], ◌∷◌, ◌++◌, length, take, drop, Option}
+use Rattle.std.proofs.Common.{Some, None, Result, Ok, Err, slice_get, refl, sym, ap, subst, ◌∙◌, append-nil, append_assoc, arith}
+use Rattle.std.proofs.lemmas.List.{take-append-drop}
 use Rattle.wire_defs.specs.Bare.{bare_fault}
 use Rattle.exchange_defs.specs.Commands as asks
 use Rattle.exchange_defs.specs.State as model
@@ -17,9 +18,9 @@ use Rattle.world_defs.specs.Negotiate.{negotiate_status}
 use Rattle.world_defs.specs.Connection as connection
 use Rattle.world_defs.specs.Connection.{Going, heard_message, said_failed}
 use Rattle.world_defs.specs.Given.{has_event}
-use Rattle.world_defs.specs.Mishaps.{Mishap, Halts, Lacks, Owned}
-use Rattle.server_events.specs.declared.error.EventError.{EventError}
-use Rattle.server_events.specs.declared.error.EventError.TheVariants as errors
+use Rattle.world_defs.specs.Mishaps.{Mishap, Halts, Lacks, Owned, LeaveAll, owned_all, owning}
+use Rattle.conn_served.specs.declared.error.ServeError.{ServeError}
+use Rattle.conn_served.specs.declared.error.ServeError.TheVariants as errors
 use Rattle.conn_ends.specs.declared.end.ConnEnd.{ConnEnd}
 use Rattle.conn_ends.specs.declared.end.ConnEnd.TheVariants as ends
 use Rattle.conn_ends.specs.declared.end.ConnEnd.TheVariants.{Stopped}
@@ -32,17 +33,19 @@ use Rattle.conn_carried.specs.declared.related.Carry.{Carry}
 use Rattle.conn_served.specs.declared.serve.Reply.{Reply}
 use Rattle.conn_served.specs.Replies.{some_acted, some_lacked}
 use Rattle.conn_served.specs.Serving.{Showing}
-use Rattle.conn_served.proofs.Left.{as_before}
 use Rattle.conn_said.specs.Replying.{FailsAt, aside_status}
 use Rattle.conn_heard.proofs.Events.{of_cancel, of_negotiate, of_echo, with_event}
-use Rattle.conn_dealt.specs.Dealing.{AddsTo, Alone, Answer, Dealing, GivesFor, GivesIf, listed, stop_in, takes}
+use Rattle.conn_dealt.specs.Dealing.{AddsTo, Alone, Answer, Dealing, GivesFor, GivesIf, LosesOne, LosesReply}
+use Rattle.conn_dealt.specs.Dealing.{listed, lost_in, stop_in, takes}
+use Rattle.conn_dealt.specs.Written.{WriteAll}
 use Rattle.conn_dealt.specs.SoFar.{Begins, DealtSoFar, Steps, with_mishaps}
 use Rattle.conn_dealt.specs.declared.dealing.Dealt.{Dealt}
-use Rattle.conn_dealt.proofs.Cases.{answered, beside, cancelled, lacking, no_cancel, one_heard}
+use Rattle.conn_dealt.proofs.Cases.{answered, beside, cancelled, lacking, lost_to, no_cancel, one_heard}
 use Rattle.conn_dealt.proofs.Keeping.{failed_keeps, fails_as, goes_as, goes_keeps, no_success, shows_new}
 use Rattle.conn_dealt.proofs.Lists.{checked_within}
 use Rattle.conn_dealt.proofs.SoFar.{failed, moved, one_more}
-use Rattle.conn_dealt.proofs.Turns.{all_left, begins_on, behind_answer, behind_failed, behind_lack, behind_none, behind_stop, halts}
+use Rattle.conn_dealt.proofs.Turns.{all_done, all_left, begins_on, behind_answer, behind_failed, behind_lack, behind_none, behind_stop}
+use Rattle.conn_dealt.proofs.Turns.{halts, none_left, none_written}
 use Rattle.conn_dealt.proofs.Turns.{turn_answered, turn_aside, turn_failed, turn_lacks, turn_none, turn_stops}
 
 -- where a message stands: c as it was checked, t as it goes its way, n in code
@@ -73,8 +76,8 @@ aside_by shown z k now fresh s L records f cs at x n c t u status d e y b more w
     let v = behind_answer z k now fresh f w t M in (
       v,
       more,
-      one_more z k now fresh s L f cs at x n c t d e y (Some (carry_of b)) more more [] w v p.checked p.here p.shows p.command
-          (no_failure n.fails none) (turn_aside z k now fresh f w c t M goes heard refl)
+      one_more z k now fresh s L f cs at x n c t d e y (Some (carry_of b)) more [] more [] w v p.checked p.here p.shows p.command
+          (no_failure n.fails none) (append-nil more) (turn_aside z k now fresh f w c t M goes heard refl)
           (beside z k now fresh s L f cs at (at + 1) x n t u status d e y b more w p.shows.header
           (no_cancel z w.dealt.going.logons k f t M heard) none aside carries items took far) far,
       state,
@@ -126,35 +129,35 @@ went_by : (shown : Showing) (z : ServerSettings) (k now : ℕ) (fresh : List ℕ
     (c t : hearing.Checked) (due : Option model.Message) (given : Answer) (d e : Dealt) (y : Option related.Carry) (b : Carry)
     (more : List model.Record) (w : Owned) → Place f cs at x n c t → turn_of w.dealt.going.carried c ≡ Goes t → n.fails ≡ None → Alone cs
     → heard_message z w.dealt.going.logons k f t ≡ due
-    → GivesIf shown z k now fresh w.dealt.going.server w.dealt.going.logons (records ++ more) f t due given → stop_in given ≡ None
+    → GivesIf shown z k now fresh w.dealt.going.server w.dealt.going.logons (records ++ more) f t due given → stop_in given ≡ None → lost_in given ≡ false
     → e.replies.items.items ≡ d.replies.items.items ++ listed given → e.took ≡ (d.took || takes n given) → Carries t given b
     → DealtSoFar z k now fresh s L f cs at (at + 1) x d y more w
     → Steps shown z k now fresh s L records f cs (at + 1) x e (Ok (Some b))
-went_by shown z k now fresh s L records f cs at x n c t None None d e y b more w p goes none alone heard gives stop items took carries
+went_by shown z k now fresh s L records f cs at x n c t None None d e y b more w p goes none alone heard gives stop kept items took carries
     far = (
       behind_none z k now fresh f w t,
       more,
-      one_more z k now fresh s L f cs at x n c t d e y (Some (carry_of b)) more more [] w (behind_none z k now fresh f w t) p.checked p.here
-          p.shows p.command (no_failure n.fails none) (turn_none z k now fresh f w c t goes heard)
+      one_more z k now fresh s L f cs at x n c t d e y (Some (carry_of b)) more [] more [] w (behind_none z k now fresh f w t) p.checked p.here
+          p.shows p.command (no_failure n.fails none) (append-nil more) (turn_none z k now fresh f w c t goes heard)
           (cancelled z k now fresh s L f cs at (at + 1) x n t d e y b more w heard p.shows.header items took carries far) far,
       gives,
     )
-went_by shown z k now fresh s L records f cs at x n c t None (Some r) d e y b more w p goes none alone heard gives stop items took
+went_by shown z k now fresh s L records f cs at x n c t None (Some r) d e y b more w p goes none alone heard gives stop kept items took
     carries far =
     absurd gives
-went_by shown z k now fresh s L records f cs at x n c t (Some m) None d e y b more w p goes none alone heard gives stop items took
+went_by shown z k now fresh s L records f cs at x n c t (Some m) None d e y b more w p goes none alone heard gives stop kept items took
     carries far =
     aside_on shown z k now fresh s L records f cs at x n c t m d e y b more w (t.header.command == 0) (t.header.command == 13) refl
     refl p goes
     none alone heard gives.0 items took carries gives.1 far
-went_by shown z k now fresh s L records f cs at x n c t (Some m) (Some (Ok r)) d e y b more w p goes none alone heard gives stop items took
+went_by shown z k now fresh s L records f cs at x n c t (Some m) (Some (Ok r)) d e y b more w p goes none alone heard gives stop kept items took
     carries far =
     let A = answer_to w.dealt.going.server now m m.command in
     let v = behind_answer z k now fresh f w t m in (
       v,
       more ++ A.records,
-      one_more z k now fresh s L f cs at x n c t d e y (Some (carry_of b)) more (more ++ A.records) (None ∷ []) w v p.checked p.here p.shows
-          p.command (no_failure n.fails none) (turn_answered z k now fresh f w c t m goes heard gives.0)
+      one_more z k now fresh s L f cs at x n c t d e y (Some (carry_of b)) more A.records (more ++ A.records) (None ∷ []) w v p.checked p.here
+          p.shows p.command (no_failure n.fails none) refl (turn_answered z k now fresh f w c t m goes heard gives.0)
           (answered shown z k now fresh s L (records ++ more) f cs at (at + 1) x n t m r d e y b more w heard gives.0 none items took
           carries gives.1
           far) far,
@@ -162,38 +165,37 @@ went_by shown z k now fresh s L records f cs at x n c t (Some m) (Some (Ok r)) d
           gives.1.state,
     )
 went_by shown z k now fresh s L records f cs at x n c t (Some m) (Some (Err errors.Memory)) d e y b more w p goes none alone heard
-    gives stop
+    gives stop kept
     items took carries far =
     let q = gives.1 in
     let v = behind_lack f w t q.0 in (
       v,
       more ++ q.1,
-      one_more z k now fresh s L f cs at x n c t d e y (Some (carry_of b)) more (more ++ q.1) (Some (Lacks q.0) ∷ []) w v p.checked p.here
-          p.shows p.command (no_failure n.fails none)
-          (turn_lacks z k now fresh f w c t m q.0 goes heard gives.0 (as_before w.dealt.going.server now (model.Heard m) q.0 q.1 q.2))
+      one_more z k now fresh s L f cs at x n c t d e y (Some (carry_of b)) more q.1 (more ++ q.1) (Some (Lacks q.0) ∷ []) w v p.checked p.here
+          p.shows p.command (no_failure n.fails none) refl (turn_lacks z k now fresh f w c t m q.0 q.1 goes heard gives.0 q.2)
           (lacking z k now fresh s L f cs at (at + 1) x n t m d e y b more q.1 w q.0 heard gives.0 none items took carries far) far,
       subst (λ (l : List model.Record). shown q.0 w.dealt.going.logons l) (append_assoc records more q.1) q.3,
     )
-went_by shown z k now fresh s L records f cs at x n c t (Some m) (Some (Err (errors.DiskFault count))) d e y b more w p goes none alone
+went_by shown z k now fresh s L records f cs at x n c t (Some m) (Some (Err (errors.Unanswered acted))) d e y b more w p goes none alone
     heard
-    gives stop items took carries far =
+    gives stop kept items took carries far =
     absurd cc
 went_by shown z k now fresh s L records f cs at x n c t (Some m) (Some (Err (errors.Stopped count))) d e y b more w p goes none alone heard
-    gives stop items took carries far =
+    gives stop kept items took carries far =
     absurd cc
 
 pub went_on : (shown : Showing) (z : ServerSettings) (k now : ℕ) (fresh : List ℕ) (s : model.Server) (L : Logons)
     (records : List model.Record) (f : ServerEnd) (cs : List hearing.Checked) (at : ℕ) (x : CheckedFrame) (n : Checked)
     (c t : hearing.Checked) (given : Answer) (d e : Dealt) (y : Option related.Carry) (b : Carry)
     (more : List model.Record) (w : Owned) → Place f cs at x n c t → turn_of w.dealt.going.carried c ≡ Goes t → n.fails ≡ None → Alone cs
-    → GivesFor shown z k now fresh w.dealt.going.server w.dealt.going.logons (records ++ more) f t given → stop_in given ≡ None
+    → GivesFor shown z k now fresh w.dealt.going.server w.dealt.going.logons (records ++ more) f t given → stop_in given ≡ None → lost_in given ≡ false
     → e.replies.items.items ≡ d.replies.items.items ++ listed given → e.took ≡ (d.took || takes n given) → Carries t given b
     → DealtSoFar z k now fresh s L f cs at (at + 1) x d y more w
     → Steps shown z k now fresh s L records f cs (at + 1) x e (Ok (Some b))
-went_on shown z k now fresh s L records f cs at x n c t given d e y b more w p goes none alone gives stop items took carries far =
+went_on shown z k now fresh s L records f cs at x n c t given d e y b more w p goes none alone gives stop kept items took carries far =
     went_by shown z k now fresh s L records f cs at x n c t (heard_message z w.dealt.going.logons k f t) given d e y b more w p goes
     none alone
-    refl gives stop items took carries far
+    refl gives stop kept items took carries far
 
 -- ---- the server stopped
 
@@ -210,18 +212,21 @@ halted_at : (shown : Showing) (z : ServerSettings) (k now : ℕ) (fresh : List �
     → Steps shown z k now fresh s L records f cs (at + 1) x e (Err (Stopped count))
 halted_at shown z k now fresh s L records f cs at x n c t m count d e y more w p goes heard event items took far =
     let v = behind_stop w count in
-    let begins : Begins z k now fresh s L f cs (at + 1) v =
-    begins_on z k now fresh s L f cs at c w v (Some (Halts count) ∷ []) p.checked far.goes far.begins
-    (turn_stops z k now fresh f w c t m count goes heard event) in (
+    let begins : Begins z k now fresh s L f cs (at + 1) (more ++ []) v =
+    begins_on z k now fresh s L f cs at c w v (Some (Halts count) ∷ []) more [] (more ++ []) p.checked far.goes refl far.begins
+    (turn_stops z k now fresh f w c t m count goes heard event) in
+    let whole : take (at + 1) cs ++ drop (at + 1) cs ≡ cs = take-append-drop (at + 1) cs in (
       with_mishaps v [],
       record {
         mishaps = begins.mishaps ++ [];
-        is = sym (begins.is [] ∙ halts z k now fresh f (with_mishaps v []) count (drop (at + 1) cs) refl);
-        left = begins.left [] (all_left z k now fresh f (with_mishaps v []) (drop (at + 1) cs) refl);
+        is = sym (sym (ap (λ (ds : List hearing.Checked). owned_all z k now fresh f (owning s L f (begins.mishaps ++ [])) ds) whole)
+            ∙ (begins.is [] (drop (at + 1) cs) ∙ halts z k now fresh f (with_mishaps v []) count (drop (at + 1) cs) refl));
+        left = subst (λ (ds : List hearing.Checked). LeaveAll z k now fresh f (owning s L f (begins.mishaps ++ [])) ds) whole
+            (begins.left [] (drop (at + 1) cs) (all_left z k now fresh f (with_mishaps v []) (drop (at + 1) cs) refl));
         none_missing = far.none_missing;
         none_left = refl;
-        acted = far.acted ∙ ap (λ (l : List (Result Reply EventError)). some_acted l) (sym items);
-        lacked = far.lacked ∙ ap (λ (l : List (Result Reply EventError)). some_lacked l) (sym items);
+        acted = far.acted ∙ ap (λ (l : List (Result Reply ServeError)). some_acted l) (sym items);
+        lacked = far.lacked ∙ ap (λ (l : List (Result Reply ServeError)). some_lacked l) (sym items);
         took = far.took ∙ sym (took ∙ or_none d.took);
       },
       refl,
@@ -240,23 +245,16 @@ halted_by shown z k now fresh s L records f cs at x n c t due None count d e y m
 halted_by shown z k now fresh s L records f cs at x n c t due (Some (Ok r)) count d e y more w p goes heard gives stop items took far =
     absurd cc
 halted_by shown z k now fresh s L records f cs at x n c t due (Some (Err errors.Memory)) count d e y more w p goes heard gives stop
-    items took
-    far =
+    items took far =
     absurd cc
-halted_by shown z k now fresh s L records f cs at x n c t None (Some (Err (errors.DiskFault q))) count d e y more w p goes heard gives stop
-    items took far =
-    absurd gives
+halted_by shown z k now fresh s L records f cs at x n c t due (Some (Err (errors.Unanswered acted))) count d e y more w p goes heard gives
+    stop items took far =
+    absurd cc
 halted_by shown z k now fresh s L records f cs at x n c t None (Some (Err (errors.Stopped q))) count d e y more w p goes heard gives
-    stop items
-    took far =
+    stop items took far =
     absurd gives
-halted_by shown z k now fresh s L records f cs at x n c t (Some m) (Some (Err (errors.DiskFault q))) count d e y more w p goes heard
-    gives stop
-    items took far =
-    halted_at shown z k now fresh s L records f cs at x n c t m count d e y more w p goes heard gives.0 items took far
-halted_by shown z k now fresh s L records f cs at x n c t (Some m) (Some (Err (errors.Stopped q))) count d e y more w p goes heard
-    gives stop
-    items took far =
+halted_by shown z k now fresh s L records f cs at x n c t (Some m) (Some (Err (errors.Stopped q))) count d e y more w p goes heard gives
+    stop items took far =
     halted_at shown z k now fresh s L records f cs at x n c t m count d e y more w p goes heard gives.0 items took far
 
 pub halted : (shown : Showing) (z : ServerSettings) (k now : ℕ) (fresh : List ℕ) (s : model.Server) (L : Logons)
@@ -271,6 +269,79 @@ halted shown z k now fresh s L records f cs at x n c t given count d e y more w 
     halted_by shown z k now fresh s L records f cs at x n c t (heard_message z w.dealt.going.logons k f t) given count d e y more w p
     goes refl
     gives stop items took far
+
+-- ---- the event was carried out, and its reply is lost
+
+lost_at : (shown : Showing) (z : ServerSettings) (k now : ℕ) (fresh : List ℕ) (s : model.Server) (L : Logons)
+    (records : List model.Record) (f : ServerEnd) (cs : List hearing.Checked) (at : ℕ) (x : CheckedFrame) (n : Checked)
+    (c t : hearing.Checked) (m : model.Message) (acted : Bool) (d e : Dealt) (y : Option related.Carry) (more : List model.Record)
+    (w : Owned) → Place f cs at x n c t → turn_of w.dealt.going.carried c ≡ Goes t → heard_message z w.dealt.going.logons k f t ≡ Some m
+    → has_event m.command ≡ true
+    → LosesReply shown z k now fresh w.dealt.going.server w.dealt.going.logons (records ++ more) f t m acted
+    → e.replies.items.items ≡ d.replies.items.items ++ Err (errors.Unanswered acted) ∷ [] → e.took ≡ (d.took || true)
+    → DealtSoFar z k now fresh s L f cs at (at + 1) x d y more w → LosesOne shown z k now fresh s L records f cs e
+lost_at shown z k now fresh s L records f cs at x n c t m acted d e y more w p goes heard event loses items took far =
+    let A = answer_to w.dealt.going.server now m m.command in
+    let v = behind_answer z k now fresh f w t m in
+    let all = more ++ A.records in
+    let ds = take (at + 1) cs in
+    let begins : Begins z k now fresh s L f cs (at + 1) all v =
+    begins_on z k now fresh s L f cs at c w v (None ∷ []) more A.records all p.checked far.goes refl far.begins
+    (turn_answered z k now fresh f w c t m goes heard event) in
+    let facts = lost_to shown z k now fresh s L (records ++ more) f cs at (at + 1) x t m acted d e y more w items took loses far in
+    let within : at < length cs = checked_within cs at c p.checked in
+    let whole : ds ++ [] ≡ ds = append-nil ds in
+    record {
+      count = at + 1;
+      first = (omega arith, omega (arith, within));
+      w = with_mishaps v [];
+      deal = record {
+        mishaps = begins.mishaps ++ [];
+        is = sym (sym (ap (λ (l : List hearing.Checked). owned_all z k now fresh f (owning s L f (begins.mishaps ++ [])) l) whole)
+            ∙ (begins.is [] [] ∙ all_done z k now fresh f (with_mishaps v [])));
+        left = subst (λ (l : List hearing.Checked). LeaveAll z k now fresh f (owning s L f (begins.mishaps ++ [])) l) whole
+            (begins.left [] [] (none_left z k now fresh f (with_mishaps v [])));
+        none_missing = far.none_missing;
+        none_left = refl;
+        acted = facts.acted;
+        lacked = facts.lacked;
+        took = facts.took;
+      };
+      leaves = record {
+        goes = far.goes;
+        more = all;
+        records_are = facts.records_are;
+        written = subst (λ (l : List hearing.Checked). WriteAll z k now fresh f (owning s L f (begins.mishaps ++ [])) l all) whole
+            (subst (λ (rs : List model.Record). WriteAll z k now fresh f (owning s L f (begins.mishaps ++ [])) (ds ++ []) rs)
+            (append-nil all) (begins.written [] [] [] (none_written z k now fresh f (with_mishaps v []))));
+        state = subst (λ (l : List model.Record). shown v.dealt.going.server v.dealt.going.logons l) (append_assoc records more A.records)
+            loses.state;
+      };
+    }
+
+lost_by_due : (shown : Showing) (z : ServerSettings) (k now : ℕ) (fresh : List ℕ) (s : model.Server) (L : Logons)
+    (records : List model.Record) (f : ServerEnd) (cs : List hearing.Checked) (at : ℕ) (x : CheckedFrame) (n : Checked)
+    (c t : hearing.Checked) (due : Option model.Message) (given : Answer) (d e : Dealt) (y : Option related.Carry)
+    (more : List model.Record) (w : Owned) → Place f cs at x n c t → turn_of w.dealt.going.carried c ≡ Goes t
+    → heard_message z w.dealt.going.logons k f t ≡ due
+    → GivesIf shown z k now fresh w.dealt.going.server w.dealt.going.logons (records ++ more) f t due given → lost_in given ≡ true
+    → e.replies.items.items ≡ d.replies.items.items ++ listed given → e.took ≡ (d.took || takes n given)
+    → DealtSoFar z k now fresh s L f cs at (at + 1) x d y more w → LosesOne shown z k now fresh s L records f cs e
+lost_by_due shown z k now fresh s L records f cs at x n c t due None d e y more w p goes heard gives lost items took far = absurd cc
+lost_by_due shown z k now fresh s L records f cs at x n c t due (Some (Ok r)) d e y more w p goes heard gives lost items took far =
+    absurd cc
+lost_by_due shown z k now fresh s L records f cs at x n c t due (Some (Err errors.Memory)) d e y more w p goes heard gives lost items
+    took far =
+    absurd cc
+lost_by_due shown z k now fresh s L records f cs at x n c t due (Some (Err (errors.Stopped q))) d e y more w p goes heard gives lost items
+    took far =
+    absurd cc
+lost_by_due shown z k now fresh s L records f cs at x n c t None (Some (Err (errors.Unanswered acted))) d e y more w p goes heard gives
+    lost items took far =
+    absurd gives
+lost_by_due shown z k now fresh s L records f cs at x n c t (Some m) (Some (Err (errors.Unanswered acted))) d e y more w p goes heard
+    gives lost items took far =
+    lost_at shown z k now fresh s L records f cs at x n c t m acted d e y more w p goes heard gives.0 gives.1 items took far
 
 pub halted_err : (shown : Showing) (z : ServerSettings) (k now : ℕ) (fresh : List ℕ) (s : model.Server) (L : Logons)
     (records : List model.Record) (f : ServerEnd) (cs : List hearing.Checked) (at : ℕ) (x : CheckedFrame) (n : Checked)
@@ -291,7 +362,9 @@ halted_err shown z k now fresh s L records f cs at x n c t given d e y (ends.Lin
     absurd adds
 halted_err shown z k now fresh s L records f cs at x n c t given d e y (ends.Stopped count) more w p goes gives adds took far =
     halted shown z k now fresh s L records f cs at x n c t given count d e y more w p goes gives adds.0 adds.1 took far
-halted_err shown z k now fresh s L records f cs at x n c t given d e y ends.Memory more w p goes gives adds took far = absurd adds
+halted_err shown z k now fresh s L records f cs at x n c t given d e y ends.Memory more w p goes gives adds took far =
+    lost_by_due shown z k now fresh s L records f cs at x n c t (heard_message z w.dealt.going.logons k f t) given d e y more w p goes refl
+    gives adds.0 adds.1 took far
 
 -- ---- it fails with the one before it
 
@@ -317,8 +390,8 @@ failed_on shown z k now fresh s L records f cs at x n c status d y more w p fail
     let t = failed_as w.dealt.going.carried c in (
       v,
       more,
-      one_more z k now fresh s L f cs at x n c t d d y y more more [] w v p.checked p.here p.shows p.command
-          (failing status k n.fails is (no_success w.dealt.going.carried c status fails)) (turn_failed z k now fresh f w c status fails)
+      one_more z k now fresh s L f cs at x n c t d d y y more [] more [] w v p.checked p.here p.shows p.command
+          (failing status k n.fails is (no_success w.dealt.going.carried c status fails)) (append-nil more) (turn_failed z k now fresh f w c status fails)
           (failed z k now fresh s L f cs at (at + 1) x n c d y more w status is far) far,
       kept_by shown (records ++ more) w.dealt.going (record w.dealt.going {
         window = after_grant t.header.credits w.dealt.going.window;

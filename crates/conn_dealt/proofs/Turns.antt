@@ -1,5 +1,5 @@
 -- One message after the other, whatever befalls those behind it.
-use Rattle.std.proofs.Common.{◌≡◌, ℕ, zero, suc, ◌+◌, Bool, true, false, if◌then◌else◌, List, [], ◌∷◌, ◌++◌, drop, Option, Some, None}
+use Rattle.std.proofs.Common.{◌≡◌, ℕ, zero, suc, ◌+◌, Bool, true, false, if◌then◌else◌, List, [], ◌∷◌, ◌++◌, take, Option, Some, None}
 use Rattle.std.proofs.Common.{slice_get, refl, sym, ap, subst, ◌∙◌, append_assoc, arith}
 use Rattle.std.specs.Prelude.{is_some}
 use Rattle.exchange_defs.specs.State as model
@@ -12,7 +12,10 @@ use Rattle.world_defs.specs.Related.{Turn, Goes, Fails, turn_of}
 use Rattle.world_defs.specs.Connection.{heard_message, went_by, went_heard, went_turn}
 use Rattle.world_defs.specs.Given.{has_event, went_answered, went_refused}
 use Rattle.world_defs.specs.Mishaps.{Mishap, Lacks, Halts, Owned, owning, owned_all, owned_turn, owned_heard, owned_aside, owned_next}
+use Rattle.conn_served.specs.Serving.{LeftBy}
+use Rattle.conn_served.proofs.Left.{as_before}
 use Rattle.conn_dealt.specs.SoFar.{Begins, with_mishaps}
+use Rattle.conn_dealt.specs.Written.{WriteAll, WritesHeard, WritesIt, WritesTurn}
 use Rattle.world_defs.specs.Mishaps.{LeavesIt, LeavesNext, LeavesHeard, LeavesTurn, LeaveAll}
 
 -- ---- lists
@@ -25,24 +28,30 @@ pub one_checked : (c d : hearing.Checked) → Some c ≡ Some d → c ≡ d
 unfolding or_this
 one_checked c d e = ap (λ (o : Option hearing.Checked). or_this c o) e
 
-front : (cs : List hearing.Checked) (i : ℕ) (c : hearing.Checked) → slice_get cs i ≡ Some c → drop i cs ≡ c ∷ drop (suc i) cs
-front [] zero c e = absurd cc
-front [] (suc i) c e = absurd cc
-front (x ∷ xs) zero c e = ap (λ (y : hearing.Checked). y ∷ xs) (one_checked x c e)
-front (x ∷ xs) (suc i) c e = front xs i c e
+taken_on : (cs : List hearing.Checked) (i : ℕ) (c : hearing.Checked) → slice_get cs i ≡ Some c → take (suc i) cs ≡ take i cs ++ c ∷ []
+taken_on [] zero c e = absurd cc
+taken_on [] (suc i) c e = absurd cc
+taken_on (x ∷ xs) zero c e = ap (λ (y : hearing.Checked). y ∷ []) (one_checked x c e)
+taken_on (x ∷ xs) (suc i) c e = ap (λ (l : List hearing.Checked). x ∷ l) (taken_on xs i c e)
 
-pub front_of : (cs : List hearing.Checked) (i : ℕ) (c : hearing.Checked) → slice_get cs i ≡ Some c → drop i cs ≡ c ∷ drop (i + 1) cs
-front_of cs i c e =
-    let next : suc i ≡ i + 1 = omega arith in
-    front cs i c e ∙ ap (λ (n : ℕ). c ∷ drop n cs) next
+pub take_more : (cs : List hearing.Checked) (i : ℕ) (c : hearing.Checked) → slice_get cs i ≡ Some c → take (i + 1) cs ≡ take i cs ++ c ∷ []
+take_more cs i c e =
+    let next : i + 1 ≡ suc i = omega arith in
+    ap (λ (n : ℕ). take n cs) next ∙ taken_on cs i c e
 
--- ---- one turn: what it takes of the mishaps, and what is behind it
+front_more : (cs : List hearing.Checked) (i : ℕ) (c : hearing.Checked) (rest : List hearing.Checked) → slice_get cs i ≡ Some c
+    → take (i + 1) cs ++ rest ≡ take i cs ++ (c ∷ rest)
+front_more cs i c rest e =
+    ap (λ (l : List hearing.Checked). l ++ rest) (take_more cs i c e) ∙ append_assoc (take i cs) (c ∷ []) rest
+
+-- ---- one turn: what it takes of the mishaps, the records that it writes, and what is behind it
 
 pub record Turns (z : ServerSettings) (k now : ℕ) (fresh : List ℕ) (f : ServerEnd) (w : Owned) (c : hearing.Checked)
-    (xs : List (Option Mishap)) (v : Owned) : Type 0 where
+    (xs : List (Option Mishap)) (one : List model.Record) (v : Owned) : Type 0 where
   pub is : (later : List (Option Mishap)) → owned_turn z k now fresh f (with_mishaps w (xs ++ later)) c (turn_of w.dealt.going.carried c)
       ≡ with_mishaps v later
   pub left : (later : List (Option Mishap)) → LeavesTurn z k now f (with_mishaps w (xs ++ later)) (turn_of w.dealt.going.carried c)
+  pub written : (later : List (Option Mishap)) → WritesTurn z k now f (with_mishaps w (xs ++ later)) (turn_of w.dealt.going.carried c) one
 
 one_on : (z : ServerSettings) (k now : ℕ) (fresh : List ℕ) (f : ServerEnd) (w : Owned) (c : hearing.Checked) (cs : List hearing.Checked)
     → w.dealt.stopped ≡ None
@@ -58,27 +67,46 @@ one_left : (z : ServerSettings) (k now : ℕ) (fresh : List ℕ) (f : ServerEnd)
 unfolding LeaveAll
 one_left z k now fresh f w c cs here rest = (here, rest)
 
+one_written : (z : ServerSettings) (k now : ℕ) (fresh : List ℕ) (f : ServerEnd) (w : Owned) (c : hearing.Checked)
+    (cs : List hearing.Checked) (one after : List model.Record) → WritesTurn z k now f w (turn_of w.dealt.going.carried c) one
+    → WriteAll z k now fresh f (owned_turn z k now fresh f w c (turn_of w.dealt.going.carried c)) cs after
+    → WriteAll z k now fresh f w (c ∷ cs) (one ++ after)
+unfolding WriteAll
+one_written z k now fresh f w c cs one after here rest = (one, after, here, rest, refl)
+
 pub begins_on : (z : ServerSettings) (k now : ℕ) (fresh : List ℕ) (s : model.Server) (L : Logons) (f : ServerEnd)
-    (cs : List hearing.Checked) (at : ℕ) (c : hearing.Checked) (w v : Owned) (xs : List (Option Mishap)) → slice_get cs at ≡ Some c
-    → w.dealt.stopped ≡ None → Begins z k now fresh s L f cs at w → Turns z k now fresh f w c xs v
-    → Begins z k now fresh s L f cs (at + 1) v
-begins_on z k now fresh s L f cs at c w v xs here goes b t =
-    let parts : drop at cs ≡ c ∷ drop (at + 1) cs = front_of cs at c here in
-    record {
-      mishaps = b.mishaps ++ xs;
-      is = λ later.
-          ap (λ (l : List (Option Mishap)). owned_all z k now fresh f (owning s L f l) cs) (append_assoc b.mishaps xs later)
-          ∙ (b.is (xs ++ later)
-          ∙ (ap (λ (ds : List hearing.Checked). owned_all z k now fresh f (with_mishaps w (xs ++ later)) ds) parts
-          ∙ (one_on z k now fresh f (with_mishaps w (xs ++ later)) c (drop (at + 1) cs) goes
-          ∙ ap (λ (u : Owned). owned_all z k now fresh f u (drop (at + 1) cs)) (t.is later))));
-      left = λ later rest.
-          subst (λ (l : List (Option Mishap)). LeaveAll z k now fresh f (owning s L f l) cs) (sym (append_assoc b.mishaps xs later))
-          (b.left (xs ++ later)
-          (subst (λ (ds : List hearing.Checked). LeaveAll z k now fresh f (with_mishaps w (xs ++ later)) ds) (sym parts)
-          (one_left z k now fresh f (with_mishaps w (xs ++ later)) c (drop (at + 1) cs) (t.left later)
-          (subst (λ (u : Owned). LeaveAll z k now fresh f u (drop (at + 1) cs)) (sym (t.is later)) rest))));
-    }
+    (cs : List hearing.Checked) (at : ℕ) (c : hearing.Checked) (w v : Owned) (xs : List (Option Mishap)) (more one all : List model.Record)
+    → slice_get cs at ≡ Some c → w.dealt.stopped ≡ None → more ++ one ≡ all → Begins z k now fresh s L f cs at more w
+    → Turns z k now fresh f w c xs one v → Begins z k now fresh s L f cs (at + 1) all v
+begins_on z k now fresh s L f cs at c w v xs more one all here goes sum b t = record {
+  mishaps = b.mishaps ++ xs;
+  is = λ later rest.
+      ap (λ (l : List (Option Mishap)). owned_all z k now fresh f (owning s L f l) (take (at + 1) cs ++ rest))
+      (append_assoc b.mishaps xs later)
+      ∙ (ap (λ (ds : List hearing.Checked). owned_all z k now fresh f (owning s L f (b.mishaps ++ (xs ++ later))) ds)
+      (front_more cs at c rest here)
+      ∙ (b.is (xs ++ later) (c ∷ rest)
+      ∙ (one_on z k now fresh f (with_mishaps w (xs ++ later)) c rest goes
+      ∙ ap (λ (u : Owned). owned_all z k now fresh f u rest) (t.is later))));
+  left = λ later rest behind.
+      subst (λ (l : List (Option Mishap)). LeaveAll z k now fresh f (owning s L f l) (take (at + 1) cs ++ rest))
+      (sym (append_assoc b.mishaps xs later))
+      (subst (λ (ds : List hearing.Checked). LeaveAll z k now fresh f (owning s L f (b.mishaps ++ (xs ++ later))) ds)
+      (sym (front_more cs at c rest here))
+      (b.left (xs ++ later) (c ∷ rest)
+      (one_left z k now fresh f (with_mishaps w (xs ++ later)) c rest (t.left later)
+      (subst (λ (u : Owned). LeaveAll z k now fresh f u rest) (sym (t.is later)) behind))));
+  written = λ later rest after behind.
+      subst (λ (l : List (Option Mishap)). WriteAll z k now fresh f (owning s L f l) (take (at + 1) cs ++ rest) (all ++ after))
+      (sym (append_assoc b.mishaps xs later))
+      (subst (λ (ds : List hearing.Checked). WriteAll z k now fresh f (owning s L f (b.mishaps ++ (xs ++ later))) ds (all ++ after))
+      (sym (front_more cs at c rest here))
+      (subst (λ (rs : List model.Record). WriteAll z k now fresh f (owning s L f (b.mishaps ++ (xs ++ later))) (take at cs ++ (c ∷ rest)) rs)
+      (sym (append_assoc more one after) ∙ ap (λ (rs : List model.Record). rs ++ after) sum)
+      (b.written (xs ++ later) (c ∷ rest) (one ++ after)
+      (one_written z k now fresh f (with_mishaps w (xs ++ later)) c rest one after (t.written later)
+      (subst (λ (u : Owned). WriteAll z k now fresh f u rest after) (sym (t.is later)) behind)))));
+}
 
 -- ---- behind a stop
 
@@ -97,6 +125,10 @@ all_done z k now fresh f v = refl
 pub none_left : (z : ServerSettings) (k now : ℕ) (fresh : List ℕ) (f : ServerEnd) (v : Owned) → LeaveAll z k now fresh f v []
 unfolding LeaveAll
 none_left z k now fresh f v = tt
+
+pub none_written : (z : ServerSettings) (k now : ℕ) (fresh : List ℕ) (f : ServerEnd) (v : Owned) → WriteAll z k now fresh f v [] []
+unfolding WriteAll
+none_written z k now fresh f v = refl
 
 next_kept : (z : ServerSettings) (k now : ℕ) (fresh : List ℕ) (f : ServerEnd) (w : Owned) (c : hearing.Checked) (m : model.Message)
     (l : List (Option Mishap)) → l ≡ [] → w.mishaps ≡ [] → (owned_next z k now fresh f w c m l).mishaps ≡ []
@@ -146,10 +178,11 @@ behind_failed z k now fresh f w c status = record w {
 }
 
 pub turn_failed : (z : ServerSettings) (k now : ℕ) (fresh : List ℕ) (f : ServerEnd) (w : Owned) (c : hearing.Checked) (status : ℕ)
-    → turn_of w.dealt.going.carried c ≡ Fails status → Turns z k now fresh f w c [] (behind_failed z k now fresh f w c status)
+    → turn_of w.dealt.going.carried c ≡ Fails status → Turns z k now fresh f w c [] [] (behind_failed z k now fresh f w c status)
 turn_failed z k now fresh f w c status e = record {
   is = λ later. ap (λ (t : Turn). owned_turn z k now fresh f (with_mishaps w later) c t) e;
   left = λ later. subst (λ (t : Turn). LeavesTurn z k now f (with_mishaps w later) t) (sym e) tt;
+  written = λ later. subst (λ (t : Turn). WritesTurn z k now f (with_mishaps w later) t []) (sym e) refl;
 }
 
 -- ---- one that goes its way without an event
@@ -159,7 +192,7 @@ behind_none z k now fresh f w d = record w { dealt = record w.dealt { going = we
 
 pub turn_none : (z : ServerSettings) (k now : ℕ) (fresh : List ℕ) (f : ServerEnd) (w : Owned) (c d : hearing.Checked)
     → turn_of w.dealt.going.carried c ≡ Goes d → heard_message z w.dealt.going.logons k f d ≡ None
-    → Turns z k now fresh f w c [] (behind_none z k now fresh f w d)
+    → Turns z k now fresh f w c [] [] (behind_none z k now fresh f w d)
 turn_none z k now fresh f w c d e heard = record {
   is = λ later.
       ap (λ (t : Turn). owned_turn z k now fresh f (with_mishaps w later) c t) e
@@ -167,6 +200,9 @@ turn_none z k now fresh f w c d e heard = record {
   left = λ later.
       subst (λ (t : Turn). LeavesTurn z k now f (with_mishaps w later) t) (sym e)
       (subst (λ (o : Option model.Message). LeavesHeard (with_mishaps w later) now o) (sym heard) tt);
+  written = λ later.
+      subst (λ (t : Turn). WritesTurn z k now f (with_mishaps w later) t []) (sym e)
+      (subst (λ (o : Option model.Message). WritesHeard (with_mishaps w later) now o []) (sym heard) refl);
 }
 
 -- behind the step's own answer
@@ -183,7 +219,7 @@ no_event false e f = absurd cc
 
 pub turn_aside : (z : ServerSettings) (k now : ℕ) (fresh : List ℕ) (f : ServerEnd) (w : Owned) (c d : hearing.Checked) (m : model.Message)
     → turn_of w.dealt.going.carried c ≡ Goes d → heard_message z w.dealt.going.logons k f d ≡ Some m → has_event m.command ≡ false
-    → Turns z k now fresh f w c [] (behind_answer z k now fresh f w d m)
+    → Turns z k now fresh f w c [] [] (behind_answer z k now fresh f w d m)
 turn_aside z k now fresh f w c d m e heard event = record {
   is = λ later.
       ap (λ (t : Turn). owned_turn z k now fresh f (with_mishaps w later) c t) e
@@ -194,6 +230,10 @@ turn_aside z k now fresh f w c d m e heard event = record {
       subst (λ (t : Turn). LeavesTurn z k now f (with_mishaps w later) t) (sym e)
       (subst (λ (o : Option model.Message). LeavesHeard (with_mishaps w later) now o) (sym heard)
       (λ yes. absurd (no_event (has_event m.command) event yes)));
+  written = λ later.
+      subst (λ (t : Turn). WritesTurn z k now f (with_mishaps w later) t []) (sym e)
+      (subst (λ (o : Option model.Message). WritesHeard (with_mishaps w later) now o []) (sym heard)
+      (λ yes. absurd (no_event (has_event m.command) event yes), λ no. refl));
 }
 
 -- ---- one with an event
@@ -205,6 +245,15 @@ event_left : (z : ServerSettings) (k now : ℕ) (f : ServerEnd) (w : Owned) (c d
 event_left z k now f w c d m x e heard leaves later =
     subst (λ (t : Turn). LeavesTurn z k now f (with_mishaps w (x ∷ later)) t) (sym e)
     (subst (λ (o : Option model.Message). LeavesHeard (with_mishaps w (x ∷ later)) now o) (sym heard) (λ yes. leaves))
+
+event_written : (z : ServerSettings) (k now : ℕ) (f : ServerEnd) (w : Owned) (c d : hearing.Checked) (m : model.Message)
+    (x : Option Mishap) (one : List model.Record) → turn_of w.dealt.going.carried c ≡ Goes d
+    → heard_message z w.dealt.going.logons k f d ≡ Some m → has_event m.command ≡ true → WritesIt w.dealt.going.server now m x one
+    → (later : List (Option Mishap)) → WritesTurn z k now f (with_mishaps w (x ∷ later)) (turn_of w.dealt.going.carried c) one
+event_written z k now f w c d m x one e heard event writes later =
+    subst (λ (t : Turn). WritesTurn z k now f (with_mishaps w (x ∷ later)) t one) (sym e)
+    (subst (λ (o : Option model.Message). WritesHeard (with_mishaps w (x ∷ later)) now o one) (sym heard)
+    (λ yes. writes, λ no. absurd (no_event (has_event m.command) no event)))
 
 to_next : (z : ServerSettings) (k now : ℕ) (fresh : List ℕ) (f : ServerEnd) (w : Owned) (c d : hearing.Checked) (m : model.Message)
     (x : Option Mishap) → turn_of w.dealt.going.carried c ≡ Goes d → heard_message z w.dealt.going.logons k f d ≡ Some m
@@ -219,7 +268,8 @@ to_next z k now fresh f w c d m x e heard event later =
 
 pub turn_answered : (z : ServerSettings) (k now : ℕ) (fresh : List ℕ) (f : ServerEnd) (w : Owned) (c d : hearing.Checked)
     (m : model.Message) → turn_of w.dealt.going.carried c ≡ Goes d → heard_message z w.dealt.going.logons k f d ≡ Some m
-    → has_event m.command ≡ true → Turns z k now fresh f w c (None ∷ []) (behind_answer z k now fresh f w d m)
+    → has_event m.command ≡ true
+    → Turns z k now fresh f w c (None ∷ []) (answer_to w.dealt.going.server now m m.command).records (behind_answer z k now fresh f w d m)
 turn_answered z k now fresh f w c d m e heard event = record {
   is = λ later.
       to_next z k now fresh f w c d m None e heard event later
@@ -230,6 +280,7 @@ turn_answered z k now fresh f w c d m e heard event = record {
         mishaps = later;
       }) heard;
   left = event_left z k now f w c d m None e heard tt;
+  written = event_written z k now f w c d m None (answer_to w.dealt.going.server now m m.command).records e heard event refl;
 }
 
 abbrev pub behind_lack : ServerEnd → Owned → hearing.Checked → model.Server → Owned
@@ -238,12 +289,13 @@ behind_lack f w d t = record w {
 }
 
 pub turn_lacks : (z : ServerSettings) (k now : ℕ) (fresh : List ℕ) (f : ServerEnd) (w : Owned) (c d : hearing.Checked) (m : model.Message)
-    (t : model.Server) → turn_of w.dealt.going.carried c ≡ Goes d → heard_message z w.dealt.going.logons k f d ≡ Some m
-    → has_event m.command ≡ true → LeavesIt w.dealt.going.server now m (Some (Lacks t))
-    → Turns z k now fresh f w c (Some (Lacks t) ∷ []) (behind_lack f w d t)
-turn_lacks z k now fresh f w c d m t e heard event leaves = record {
+    (t : model.Server) (one : List model.Record) → turn_of w.dealt.going.carried c ≡ Goes d
+    → heard_message z w.dealt.going.logons k f d ≡ Some m → has_event m.command ≡ true
+    → LeftBy w.dealt.going.server now (model.Heard m) t one → Turns z k now fresh f w c (Some (Lacks t) ∷ []) one (behind_lack f w d t)
+turn_lacks z k now fresh f w c d m t one e heard event leaves = record {
   is = to_next z k now fresh f w c d m (Some (Lacks t)) e heard event;
-  left = event_left z k now f w c d m (Some (Lacks t)) e heard leaves;
+  left = event_left z k now f w c d m (Some (Lacks t)) e heard (as_before w.dealt.going.server now (model.Heard m) t one leaves);
+  written = event_written z k now f w c d m (Some (Lacks t)) one e heard event leaves;
 }
 
 abbrev pub behind_stop : Owned → ℕ → Owned
@@ -251,8 +303,9 @@ behind_stop w count = record w { dealt = record w.dealt { stopped = Some count }
 
 pub turn_stops : (z : ServerSettings) (k now : ℕ) (fresh : List ℕ) (f : ServerEnd) (w : Owned) (c d : hearing.Checked) (m : model.Message)
     (count : ℕ) → turn_of w.dealt.going.carried c ≡ Goes d → heard_message z w.dealt.going.logons k f d ≡ Some m
-    → has_event m.command ≡ true → Turns z k now fresh f w c (Some (Halts count) ∷ []) (behind_stop w count)
+    → has_event m.command ≡ true → Turns z k now fresh f w c (Some (Halts count) ∷ []) [] (behind_stop w count)
 turn_stops z k now fresh f w c d m count e heard event = record {
   is = to_next z k now fresh f w c d m (Some (Halts count)) e heard event;
   left = event_left z k now f w c d m (Some (Halts count)) e heard tt;
+  written = event_written z k now f w c d m (Some (Halts count)) [] e heard event refl;
 }

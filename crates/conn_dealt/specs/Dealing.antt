@@ -1,5 +1,5 @@
 -- The events of a frame over a server in code: what befalls each, and what they leave.
-use Rattle.std.specs.Prelude.{◌≡◌, ◌≤◌, ◌==◌, ℕ, Bool, true, false, not, ◌||◌, is_some, List, [], ◌∷◌, ◌++◌, length, slice_get}
+use Rattle.std.specs.Prelude.{◌≡◌, ◌≤◌, ◌<◌, ◌==◌, ℕ, Bool, true, false, not, ◌||◌, is_some, List, [], ◌∷◌, ◌++◌, length, take, slice_get}
 use Rattle.std.specs.Prelude.{Option, Some, None, Result, Ok, Err, ⊤, IfOk}
 use Rattle.exchange_defs.specs.State as model
 use Rattle.exchange_defs.specs.Network.{answer_to}
@@ -12,10 +12,10 @@ use Rattle.world_defs.specs.Connection.{Taken, heard_message, said_to}
 use Rattle.world_defs.specs.Given.{has_event}
 use Rattle.world_defs.specs.Mishaps.{Mishap, Owned, owning, owned_all, LeaveAll}
 use Rattle.world_defs.specs.Notes.{has_acted}
-use Rattle.server_events.specs.declared.error.EventError.{EventError}
-use Rattle.server_events.specs.declared.error.EventError.TheVariants as errors
+use Rattle.conn_served.specs.declared.error.ServeError.{ServeError}
+use Rattle.conn_served.specs.declared.error.ServeError.TheVariants as errors
 use Rattle.conn_ends.specs.declared.end.ConnEnd.{ConnEnd}
-use Rattle.conn_ends.specs.declared.end.ConnEnd.TheVariants.{Stopped}
+use Rattle.conn_ends.specs.declared.end.ConnEnd.TheVariants.{Memory, Stopped}
 use Rattle.conn_frames.specs.declared.checked.Checked.{Checked}
 use Rattle.conn_frames.specs.declared.checked.CheckedFrame.{CheckedFrame}
 use Rattle.conn_carried.specs.Carrying.{Carries, IsCarried}
@@ -24,14 +24,14 @@ use Rattle.conn_served.specs.declared.serve.Reply.{Reply}
 use Rattle.conn_served.specs.Replies.{some_acted, some_lacked}
 use Rattle.conn_served.specs.Serving.{IsNamed, LeftBy, Showing}
 use Rattle.conn_said.specs.Replying.{AreSaid, AreShort, FailRightly, IsSaidTo, ShowsTaken}
+use Rattle.conn_dealt.specs.Written.{WriteAll}
 use Rattle.conn_dealt.specs.declared.dealing.Dealt.{Dealt}
 
 -- the answer to an event, of a message that has one
 abbrev pub Answer : Type 0
-Answer = Option (Result Reply EventError)
+Answer = Option (Result Reply ServeError)
 
-abbrev pub stopped_by : Result Reply EventError → Option ℕ
-stopped_by (Err (errors.DiskFault count)) = Some count
+abbrev pub stopped_by : Result Reply ServeError → Option ℕ
 stopped_by (Err (errors.Stopped count)) = Some count
 stopped_by _ = None
 
@@ -39,14 +39,24 @@ abbrev pub stop_in : Answer → Option ℕ
 stop_in None = None
 stop_in (Some r) = stopped_by r
 
+-- an event that was carried out, whose reply is lost
+abbrev pub lost_by : Result Reply ServeError → Bool
+lost_by (Err (errors.Unanswered acted)) = true
+lost_by _ = false
+
+abbrev pub lost_in : Answer → Bool
+lost_in None = false
+lost_in (Some r) = lost_by r
+
 abbrev pub AreShortIf : Answer → Type 0
 AreShortIf None = ⊤
 AreShortIf (Some r) = AreShort (r ∷ [])
 
--- a message is taken: any but a CANCEL without an event, and one whose event found memory
+-- a message is taken: any but a CANCEL without an event, and one whose event was carried out
 abbrev pub takes : Checked → Answer → Bool
 takes m None = not (m.header.command == 12)
 takes m (Some (Ok r)) = true
+takes m (Some (Err (errors.Unanswered acted))) = true
 takes m (Some (Err e)) = false
 
 -- the records of the messages that were taken
@@ -76,12 +86,20 @@ pub record GivesReply (shown : Showing) (z : ServerSettings) (k now : ℕ) (fres
   pub acted : r.acted ≡ (answer_to s now m m.command).acted
   pub said : (w : HeldIds) → IsSaidTo f w c r (said_to z k now fresh f L w c m.command (answer_to s now m m.command).reply)
 
+-- the step's own answer, whose reply is lost
+pub record LosesReply (shown : Showing) (z : ServerSettings) (k now : ℕ) (fresh : List ℕ) (s : model.Server) (L : Logons)
+    (records : List model.Record) (f : ServerEnd) (c : hearing.Checked) (m : model.Message) (acted : Bool) : Type 0 where
+  pub state : let A = answer_to s now m m.command in
+      shown A.server (logons_behind z.users L k f c fresh now (progress m.command A.reply)) (records ++ A.records)
+  pub acted_is : acted ≡ (answer_to s now m m.command).acted
+
 abbrev pub GivesBy : Showing → ServerSettings → ℕ → ℕ → List ℕ → model.Server → Logons → List model.Record → ServerEnd
-    → hearing.Checked → model.Message → Result Reply EventError → Type 0
+    → hearing.Checked → model.Message → Result Reply ServeError → Type 0
 GivesBy shown z k now fresh s L records f c m (Ok r) = GivesReply shown z k now fresh s L records f c m r
 GivesBy shown z k now fresh s L records f c m (Err errors.Memory) =
     (t : model.Server) × (more : List model.Record) × LeftBy s now (model.Heard m) t more × shown t L (records ++ more)
-GivesBy shown z k now fresh s L records f c m (Err e) = ⊤
+GivesBy shown z k now fresh s L records f c m (Err (errors.Unanswered acted)) = LosesReply shown z k now fresh s L records f c m acted
+GivesBy shown z k now fresh s L records f c m (Err (errors.Stopped count)) = ⊤
 
 -- of a message that is heard; NEGOTIATE, ECHO and CANCEL have none and leave the server
 abbrev pub GivesIf : Showing → ServerSettings → ℕ → ℕ → List ℕ → model.Server → Logons → List model.Record → ServerEnd
@@ -98,13 +116,15 @@ GivesFor shown z k now fresh s L records f c given = GivesIf shown z k now fresh
 
 -- ---- one message that goes its way
 
-abbrev pub listed : Answer → List (Result Reply EventError)
+abbrev pub listed : Answer → List (Result Reply ServeError)
 listed None = []
 listed (Some r) = r ∷ []
 
 abbrev pub AddsTo : {A : Type 0} → Answer → Dealt → Dealt → Result A ConnEnd → Type 0
-AddsTo given old new (Ok u) = (stop_in given ≡ None) × (new.replies.items.items ≡ old.replies.items.items ++ listed given)
+AddsTo given old new (Ok u) =
+    (stop_in given ≡ None) × (lost_in given ≡ false) × (new.replies.items.items ≡ old.replies.items.items ++ listed given)
 AddsTo given old new (Err (Stopped count)) = (stop_in given ≡ Some count) × (new.replies.items.items ≡ old.replies.items.items)
+AddsTo given old new (Err Memory) = (lost_in given ≡ true) × (new.replies.items.items ≡ old.replies.items.items ++ listed given)
 AddsTo given old new (Err e) = ⊥
 
 abbrev pub Adds : Answer → Dealt → Dealt → Result Unit ConnEnd → Type 0
@@ -130,23 +150,40 @@ pub record Dealing (z : ServerSettings) (k now : ℕ) (fresh : List ℕ) (s : mo
   pub lacked : w.dealt.lacked ≡ some_lacked d.replies.items.items
   pub took : is_some w.dealt.going.taken ≡ d.took
 
--- all went on: the messages with what they took over, and their replies
-pub record GoesThrough (shown : Showing) (z : ServerSettings) (now : ℕ) (f : ServerEnd) (records : List model.Record)
-    (cs : List hearing.Checked) (x : CheckedFrame) (d : Dealt) (w : Owned) : Type 0 where
+-- none of them stopped, and the server shows what they leave: the records of the messages that were taken, where no event found no
+-- memory, and in any case those that each wrote
+pub record Leaves (shown : Showing) (z : ServerSettings) (k now : ℕ) (fresh : List ℕ) (s : model.Server) (L : Logons)
+    (records : List model.Record) (f : ServerEnd) (cs : List hearing.Checked) (mishaps : List (Option Mishap)) (w : Owned) : Type 0 where
   pub goes : w.dealt.stopped ≡ None
   pub more : List model.Record
   pub records_are : w.dealt.lacked ≡ false → more ≡ taken_records w.dealt.going.taken
+  pub written : WriteAll z k now fresh f (owning s L f mishaps) cs more
   pub state : shown w.dealt.going.server w.dealt.going.logons (records ++ more)
+
+-- all went on: the messages with what they took over, and their replies
+pub record GoesThrough (z : ServerSettings) (now : ℕ) (f : ServerEnd) (cs : List hearing.Checked) (x : CheckedFrame) (d : Dealt)
+    (w : Owned) : Type 0 where
   pub taken : List hearing.Checked
   pub shows : ShowsTaken x.bytes.items x.messages.items taken
   pub commands : SameCommands taken cs
   pub fails : FailRightly x.messages.items
   pub said : AreSaid z now f x.messages.items taken d.replies.items.items f.window w.dealt.going.replies w.dealt.going.window
 
+-- the event of one message was carried out, but its reply is lost: it and those in front of it are a frame of their own
+pub record LosesOne (shown : Showing) (z : ServerSettings) (k now : ℕ) (fresh : List ℕ) (s : model.Server) (L : Logons)
+    (records : List model.Record) (f : ServerEnd) (cs : List hearing.Checked) (d : Dealt) : Type 0 where
+  pub count : ℕ
+  pub first : (0 < count) × (count ≤ length cs)
+  pub w : Owned
+  pub deal : Dealing z k now fresh s L f (take count cs) d w
+  pub leaves : Leaves shown z k now fresh s L records f (take count cs) deal.mishaps w
+
 abbrev pub Deals : Showing → ServerSettings → ℕ → ℕ → List ℕ → model.Server → Logons → List model.Record → ServerEnd
     → List hearing.Checked → CheckedFrame → Dealt → Result Unit ConnEnd → Type 0
 Deals shown z k now fresh s L records f cs x d (Ok u) =
-    (w : Owned) × Dealing z k now fresh s L f cs d w × GoesThrough shown z now f records cs x d w
+    (w : Owned) × (deal : Dealing z k now fresh s L f cs d w) × Leaves shown z k now fresh s L records f cs deal.mishaps w
+    × GoesThrough z now f cs x d w
 Deals shown z k now fresh s L records f cs x d (Err (Stopped count)) =
     (w : Owned) × Dealing z k now fresh s L f cs d w × (w.dealt.stopped ≡ Some count)
+Deals shown z k now fresh s L records f cs x d (Err Memory) = LosesOne shown z k now fresh s L records f cs d
 Deals shown z k now fresh s L records f cs x d (Err e) = ⊥

@@ -1,5 +1,5 @@
 -- The events of the first messages of a frame, whatever befalls those behind them.
-use Rattle.std.specs.Prelude.{◌≡◌, ◌+◌, ◌≤◌, ◌<◌, ℕ, false, is_some, List, ◌++◌, length, drop, take, slice_get, Option, None, Some}
+use Rattle.std.specs.Prelude.{◌≡◌, ◌+◌, ◌≤◌, ◌<◌, ℕ, false, is_some, List, ◌++◌, length, take, slice_get, Option, None, Some}
 use Rattle.std.specs.Prelude.{Result, Ok, Err, option_map}
 use Rattle.exchange_defs.specs.State as model
 use Rattle.world_defs.specs.Settings.{ServerSettings}
@@ -9,7 +9,7 @@ use Rattle.world_defs.specs.Related as related
 use Rattle.world_defs.specs.Mishaps.{Mishap, Owned, owning, owned_all, LeaveAll}
 use Rattle.world_defs.specs.Notes.{has_acted}
 use Rattle.conn_ends.specs.declared.end.ConnEnd.{ConnEnd}
-use Rattle.conn_ends.specs.declared.end.ConnEnd.TheVariants.{Stopped}
+use Rattle.conn_ends.specs.declared.end.ConnEnd.TheVariants.{Memory, Stopped}
 use Rattle.conn_frames.specs.declared.checked.Checked.{Checked}
 use Rattle.conn_frames.specs.declared.checked.CheckedFrame.{CheckedFrame}
 use Rattle.conn_frames.specs.Checking.{ShowsGoing}
@@ -18,27 +18,33 @@ use Rattle.conn_carried.specs.declared.related.Carry.{Carry}
 use Rattle.conn_served.specs.Replies.{some_acted, some_lacked}
 use Rattle.conn_served.specs.Serving.{Showing}
 use Rattle.conn_said.specs.Replying.{AreSaid, FailRightly}
-use Rattle.conn_dealt.specs.Dealing.{Dealing, SameCommands, taken_records}
+use Rattle.conn_dealt.specs.Dealing.{Dealing, LosesOne, SameCommands, taken_records}
+use Rattle.conn_dealt.specs.Written.{WriteAll}
 use Rattle.conn_dealt.specs.declared.dealing.Dealt.{Dealt}
 
 abbrev pub with_mishaps : Owned → List (Option Mishap) → Owned
 with_mishaps w later = record w { mishaps = later }
 
--- the events of the first messages of a frame, and w behind them, without the mishaps that are still to come
+-- the events of the first messages of a frame, whatever others are behind them: w behind them, without the mishaps that are still to
+-- come, and the records that they wrote
 pub record Begins (z : ServerSettings) (k now : ℕ) (fresh : List ℕ) (s : model.Server) (L : Logons) (f : ServerEnd)
-    (cs : List hearing.Checked) (at : ℕ) (w : Owned) : Type 0 where
+    (cs : List hearing.Checked) (at : ℕ) (more : List model.Record) (w : Owned) : Type 0 where
   pub mishaps : List (Option Mishap)
-  pub is : (later : List (Option Mishap)) → owned_all z k now fresh f (owning s L f (mishaps ++ later)) cs
-      ≡ owned_all z k now fresh f (with_mishaps w later) (drop at cs)
-  pub left : (later : List (Option Mishap)) → LeaveAll z k now fresh f (with_mishaps w later) (drop at cs)
-      → LeaveAll z k now fresh f (owning s L f (mishaps ++ later)) cs
+  pub is : (later : List (Option Mishap)) (rest : List hearing.Checked)
+      → owned_all z k now fresh f (owning s L f (mishaps ++ later)) (take at cs ++ rest)
+      ≡ owned_all z k now fresh f (with_mishaps w later) rest
+  pub left : (later : List (Option Mishap)) (rest : List hearing.Checked) → LeaveAll z k now fresh f (with_mishaps w later) rest
+      → LeaveAll z k now fresh f (owning s L f (mishaps ++ later)) (take at cs ++ rest)
+  pub written : (later : List (Option Mishap)) (rest : List hearing.Checked) (after : List model.Record)
+      → WriteAll z k now fresh f (with_mishaps w later) rest after
+      → WriteAll z k now fresh f (owning s L f (mishaps ++ later)) (take at cs ++ rest) (more ++ after)
 
 -- Behind the messages in front of `at`; those from `from` on stand as they were checked. w is what the definitions make of it, y what
 -- the last message handed on, more the records.
 pub record DealtSoFar (z : ServerSettings) (k now : ℕ) (fresh : List ℕ) (s : model.Server) (L : Logons) (f : ServerEnd)
     (cs : List hearing.Checked) (at from : ℕ) (x : CheckedFrame) (d : Dealt) (y : Option related.Carry) (more : List model.Record)
     (w : Owned) : Type 0 where
-  pub begins : Begins z k now fresh s L f cs at w
+  pub begins : Begins z k now fresh s L f cs at more w
   pub goes : w.dealt.stopped ≡ None
   pub none_missing : w.dealt.missing ≡ false
   pub acted : has_acted w.dealt.going.taken ≡ some_acted d.replies.items.items
@@ -67,4 +73,5 @@ Steps shown z k now fresh s L records f cs at x d (Ok y) = (v : Owned) × (more 
     × shown v.dealt.going.server v.dealt.going.logons (records ++ more)
 Steps shown z k now fresh s L records f cs at x d (Err (Stopped count)) =
     (v : Owned) × Dealing z k now fresh s L f cs d v × (v.dealt.stopped ≡ Some count)
+Steps shown z k now fresh s L records f cs at x d (Err Memory) = LosesOne shown z k now fresh s L records f cs d
 Steps shown z k now fresh s L records f cs at x d (Err e) = ⊥

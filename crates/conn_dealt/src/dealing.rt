@@ -1,19 +1,21 @@
 //! One message of a frame after the other.
 ghost use Rattle.std.specs.Prelude.{◌≡◌, ◌≤◌, ◌<◌, ◌+◌, ◌++◌, ◌||◌, [], false, ℕ, IfOk};
-ghost use Rattle.std.specs.Prelude.{List, None, Option, Result, Some, length, option_copied, option_map, slice_get, vec_capacity};
+ghost use Rattle.std.specs.Prelude.{Err, List, None, Option, Result, Some, length, option_copied, option_map, slice_get, vec_capacity};
 ghost use Rattle.exchange_defs.specs.State.{Record, Server};
 ghost use Rattle.world_defs.specs.Settings.{ServerSettings};
 ghost use Rattle.world_defs.specs.Ends.{Logons, ServerEnd};
 ghost use Rattle.world_defs.specs.Hearing as hearing;
 ghost use Rattle.world_defs.specs.Related.{failed_as, turn_of};
-ghost use Rattle.server_events.specs.declared.error.EventError.{EventError};
+ghost use Rattle.conn_served.specs.declared.error.ServeError.{ServeError};
 ghost use Rattle.conn_ends.specs.Shown.{ShowsEnd};
+ghost use Rattle.conn_ends.specs.declared.end.ConnEnd.TheVariants as ends;
 ghost use Rattle.conn_frames.specs.declared.checked.Checked.{Checked};
 ghost use Rattle.conn_frames.specs.Checking.{AreInOrder, HasMessage, ShowsFrame, ShowsGoing, message_in};
 ghost use Rattle.conn_carried.specs.Carrying.{carry_of, Inherits, IsCarried, SameOthers};
 ghost use Rattle.conn_served.specs.declared.serve.Reply.{Reply};
+ghost use Rattle.conn_served.specs.Serving.{Onward};
 ghost use Rattle.conn_said.specs.Replying.{AreShort};
-ghost use Rattle.conn_dealt.specs.Dealing.{Adds, Alone, AreShortIf, Deals, DealsOne, GivesFor, stopped_by};
+ghost use Rattle.conn_dealt.specs.Dealing.{Adds, Alone, AreShortIf, Deals, DealsOne, GivesFor, lost_by, stop_in, stopped_by};
 ghost use Rattle.conn_dealt.specs.Dealing as dealing;
 ghost use Rattle.conn_dealt.specs.SoFar.{DealtSoFar, Steps};
 ghost use Rattle.world_defs.specs.Mishaps.{Owned};
@@ -23,8 +25,7 @@ use conn_ends::{Conn, ConnEnd};
 use conn_frames::{Checked, CheckedFrame};
 use conn_heard::{event, told_of};
 use conn_said::has_event;
-use conn_served::{Replies, Reply, Serve};
-use server_events::EventError;
+use conn_served::{Replies, Reply, Serve, ServeError};
 use std::alloc::AllocError;
 
 const CANCEL: u16 = 12;
@@ -43,30 +44,39 @@ pub struct Moment {
 pub struct Dealt {
     /// The server's answers, one for each message that has an event.
     pub replies: Replies,
-    /// A message was taken: it is no CANCEL, went its way, and its event, if it has one, found memory.
+    /// A message was taken: it is no CANCEL, went its way, and its event, if it has one, was carried out.
     pub took: bool,
 }
 
 /// The count of the disk's faults at which a server stopped.
-fn stop_of(answer: &Result<Reply, EventError>) -> Option<u64>
+fn stop_of(answer: &Result<Reply, ServeError>) -> Option<u64>
     ensures { result ≡ stopped_by answer.now }
 {
     match answer {
-        Err(EventError::DiskFault(count)) => Some(*count),
-        Err(EventError::Stopped(count)) => Some(*count),
-        Err(EventError::Memory) => None,
+        Err(ServeError::Stopped(count)) => Some(*count),
+        Err(ServeError::Unanswered { acted: _ }) => None,
+        Err(ServeError::Memory) => None,
         Ok(_) => None,
     }
 }
 
+/// Whether an event was carried out, but its reply is lost.
+fn is_lost(answer: &Result<Reply, ServeError>) -> bool
+    ensures { result ≡ lost_by answer.now }
+{
+    matches!(answer, Err(ServeError::Unanswered { acted: _ }))
+}
+
 /// Whether a message that goes its way is taken, by the answer to its event.
-fn takes(checked: &Checked, answer: Option<&Result<Reply, EventError>>) -> bool
+fn takes(checked: &Checked, answer: Option<&Result<Reply, ServeError>>) -> bool
     ensures { result ≡ dealing.takes checked.now (option_copied answer.entry) }
 {
     match answer {
         None => checked.header.command != CANCEL,
         Some(Ok(_)) => true,
-        Some(Err(_)) => false,
+        Some(Err(ServeError::Unanswered { acted: _ })) => true,
+        Some(Err(ServeError::Memory)) => false,
+        Some(Err(ServeError::Stopped(_))) => false,
     }
 }
 
@@ -77,28 +87,31 @@ fn answer_of<S: Serve>(
     moment: &Moment,
     asked: &CheckedFrame,
     at: usize,
-) -> Option<Result<Reply, EventError>>
+) -> Option<Result<Reply, ServeError>>
     requires { HasMessage asked.now at }
-    ensures gives { (z : ServerSettings) (s : Server) (L : Logons) (records : List Record) (f : ServerEnd) (m : Checked) (c :
-        hearing.Checked)
-        → S.shows server.old z.users s L records → ShowsEnd conn.now.id z.guid conn.now f
+    ensures gives { (z : ServerSettings) (before : Option ℕ) (s : Server) (L : Logons) (records : List Record) (f : ServerEnd)
+        (m : Checked) (c : hearing.Checked)
+        → Onward (S.shows server.old z.users) before (S.stopped server.old) s L records → ShowsEnd conn.now.id z.guid conn.now f
         → slice_get asked.now.messages.items at ≡ Some m → ShowsGoing asked.now.bytes.items m c → m.fails ≡ None
-        → GivesFor (S.shows server.new z.users) z conn.now.id moment.now.time moment.now.fresh s L records f c result }
+        → GivesFor (Onward (S.shows server.new z.users) before (S.stopped server.new)) z conn.now.id moment.now.time moment.now.fresh
+        s L records f c result }
     ensures short { AreShortIf result }
+    ensures stops { (count : ℕ) → stop_in result ≡ Some count → S.stopped server.new ≡ Some count }
 {
     if !has_event(asked.checked(at)) {
         return None;
     }
     let told = told_of(conn, asked, at, moment.fresh);
     match event(asked, conn.alloc, at, &told) {
-        Err(AllocError) => Some(Err(EventError::Memory)),
+        Err(AllocError) => Some(Err(ServeError::Memory)),
         Ok(None) => None,
         Ok(Some(event)) => Some(server.event(moment.time, event)),
     }
 }
 
-/// Adds the answer to an event, if there is one. A server that stopped is told by its count.
-fn add(dealt: &mut Dealt, answer: Option<Result<Reply, EventError>>) -> Result<(), ConnEnd>
+/// Adds the answer to an event, if there is one. A server that stopped is told by its count; where the reply to an event is
+/// lost, memory ran out.
+fn add(dealt: &mut Dealt, answer: Option<Result<Reply, ServeError>>) -> Result<(), ConnEnd>
     requires { length dealt.old.replies.items.items < vec_capacity dealt.old.replies.items }
     ensures adds { Adds answer dealt.old dealt.new result }
     ensures room { vec_capacity dealt.old.replies.items ≤ vec_capacity dealt.new.replies.items }
@@ -107,7 +120,11 @@ fn add(dealt: &mut Dealt, answer: Option<Result<Reply, EventError>>) -> Result<(
         if let Some(count) = stop_of(&answer) {
             return Err(ConnEnd::Stopped(count));
         }
+        let is_lost = is_lost(&answer);
         dealt.replies.push(answer)?;
+        if is_lost {
+            return Err(ConnEnd::Memory);
+        }
     }
     Ok(())
 }
@@ -124,12 +141,14 @@ fn deal<S: Serve>(
     requires message { HasMessage asked.now at }
     requires room { length dealt.old.replies.items.items < vec_capacity dealt.old.replies.items }
     ensures room { vec_capacity dealt.old.replies.items ≤ vec_capacity dealt.new.replies.items }
-    ensures deals { (m : Checked) → slice_get asked.now.messages.items at ≡ Some m → (given : Option (Result Reply EventError))
+    ensures deals { (m : Checked) → slice_get asked.now.messages.items at ≡ Some m → (given : Option (Result Reply ServeError))
         × DealsOne m (message_in asked.now.bytes.items m) given dealt.old dealt.new result
-        × ((z : ServerSettings) (s : Server) (L : Logons) (records : List Record) (f : ServerEnd) (c : hearing.Checked)
-        → S.shows server.old z.users s L records → ShowsEnd conn.now.id z.guid conn.now f → ShowsGoing asked.now.bytes.items m c
-        → m.fails ≡ None
-        → GivesFor (S.shows server.new z.users) z conn.now.id moment.now.time moment.now.fresh s L records f c given) }
+        × ((z : ServerSettings) (before : Option ℕ) (s : Server) (L : Logons) (records : List Record) (f : ServerEnd)
+        (c : hearing.Checked) → Onward (S.shows server.old z.users) before (S.stopped server.old) s L records
+        → ShowsEnd conn.now.id z.guid conn.now f → ShowsGoing asked.now.bytes.items m c → m.fails ≡ None
+        → GivesFor (Onward (S.shows server.new z.users) before (S.stopped server.new)) z conn.now.id moment.now.time moment.now.fresh
+        s L records f c given) }
+    ensures stops { (count : ℕ) → result ≡ Err (ends.Stopped count) → S.stopped server.new ≡ Some count }
 {
     let answer = answer_of(conn, server, moment, asked, at);
     let behind = carry(asked, at, answer.as_ref());
@@ -170,14 +189,15 @@ fn step<S: Serve>(
     requires order { AreInOrder asked.old }
     requires there { at < length asked.old.messages.items }
     requires room { length dealt.old.replies.items.items < vec_capacity dealt.old.replies.items }
-    ensures steps { (z : ServerSettings) (s : Server) (L : Logons) (records more : List Record) (f : ServerEnd)
+    ensures steps { (z : ServerSettings) (before : Option ℕ) (s : Server) (L : Logons) (records more : List Record) (f : ServerEnd)
         (cs : List hearing.Checked) (w : Owned) → ShowsEnd conn.now.id z.guid conn.now f → Alone cs
         → length asked.old.messages.items ≡ length cs
-        → S.shows server.old z.users w.dealt.going.server w.dealt.going.logons (records ++ more)
+        → Onward (S.shows server.old z.users) before (S.stopped server.old) w.dealt.going.server w.dealt.going.logons (records ++ more)
         → DealtSoFar z conn.now.id moment.now.time moment.now.fresh s L f cs at at asked.old dealt.old (option_map carry_of
         carried.now) more w
-        → Steps (S.shows server.new z.users) z conn.now.id moment.now.time moment.now.fresh s L records f cs (at + 1) asked.new dealt.new
-        result }
+        → Steps (Onward (S.shows server.new z.users) before (S.stopped server.new)) z conn.now.id moment.now.time moment.now.fresh
+        s L records f cs (at + 1) asked.new dealt.new result }
+    ensures stops { (count : ℕ) → result ≡ Err (ends.Stopped count) → S.stopped server.new ≡ Some count }
     ensures order { AreInOrder asked.new }
     ensures same { (length asked.new.messages.items ≡ length asked.old.messages.items) × (asked.new.sealed ≡ asked.old.sealed)
         × (asked.new.moment ≡ asked.old.moment) }
@@ -195,7 +215,8 @@ fn step<S: Serve>(
 }
 
 /// The events of a frame's messages in order, and what becomes of each message. A related one behind one that failed has no event. A
-/// server that stopped is told by its count, and no message behind that has an event.
+/// server that stopped is told by its count, and no message behind that has an event; nor has one behind an event whose reply is
+/// lost, since memory ran out for it.
 pub fn carry_out<S: Serve>(
     conn: &Conn,
     server: &mut S,
@@ -208,8 +229,9 @@ pub fn carry_out<S: Serve>(
     requires room { length asked.old.messages.items ≤ vec_capacity dealt.old.replies.items }
     ensures deals { (z : ServerSettings) (s : Server) (L : Logons) (records : List Record) (f : ServerEnd) (F : hearing.Frame)
         → S.shows server.old z.users s L records → ShowsEnd conn.now.id z.guid conn.now f → ShowsFrame asked.old F → Alone F.messages
-        → Deals (S.shows server.new z.users) z conn.now.id moment.now.time moment.now.fresh s L records f F.messages asked.new dealt.new
-        result }
+        → Deals (Onward (S.shows server.new z.users) (S.stopped server.old) (S.stopped server.new)) z conn.now.id moment.now.time
+        moment.now.fresh s L records f F.messages asked.new dealt.new result }
+    ensures stops { (count : ℕ) → result ≡ Err (ends.Stopped count) → S.stopped server.new ≡ Some count }
     ensures short { AreShort dealt.new.replies.items.items }
     ensures order { AreInOrder asked.new }
     ensures same { (asked.new.sealed ≡ asked.old.sealed) × (asked.new.moment ≡ asked.old.moment) }

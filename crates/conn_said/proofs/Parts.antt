@@ -21,7 +21,7 @@ use Rattle.world_defs.specs.Hearing as hearing
 use Rattle.world_defs.specs.Logon as logon
 use Rattle.world_defs.specs.Answering as answering
 use Rattle.world_defs.specs.Connection.{said_failed}
-use Rattle.server_events.specs.declared.error.EventError.{EventError}
+use Rattle.conn_served.specs.declared.error.ServeError.{ServeError}
 use Rattle.conn_ends.specs.declared.conn.Progress.{Progress}
 use Rattle.conn_ends.specs.declared.conn.Progress.TheVariants.{Stays, Interim, Final}
 use Rattle.conn_frames.specs.declared.checked.Checked.{Checked}
@@ -162,11 +162,11 @@ by_command greets echoes a b = if greets then Some a else if echoes then Some b 
 
 -- ---- the answers of events
 
-abbrev short_if : Option (Result Reply EventError) → Type 0
+abbrev short_if : Option (Result Reply ServeError) → Type 0
 short_if None = ⊤
 short_if (Some r) = IsShortAnswer r
 
-pub short_at : (rs : List (Result Reply EventError)) (place : ℕ) (r : Result Reply EventError) → AreShort rs → slice_get rs place ≡ Some r
+pub short_at : (rs : List (Result Reply ServeError)) (place : ℕ) (r : Result Reply ServeError) → AreShort rs → slice_get rs place ≡ Some r
     → IsShortAnswer r
 unfolding AreShort
 short_at [] place r short e = subst short_if e tt
@@ -190,14 +190,14 @@ greets_not true e f = cc
 greets_not false e f = cc
 
 -- by which of NEGOTIATE and ECHO a message is
-pub aside_greets : (z : ServerSettings) (now : ℕ) (f : ServerEnd) (w : HeldIds) (c : hearing.Checked) (o : Option (Result Reply EventError))
+pub aside_greets : (z : ServerSettings) (now : ℕ) (f : ServerEnd) (w : HeldIds) (c : hearing.Checked) (o : Option (Result Reply ServeError))
     (said : Said) → hearing.is_negotiate c.header ≡ true → IsSaid said (said_aside z now f w c (negotiate_status c.bytes))
     → SaidIf z now f w c None (aside_status c) o said
 aside_greets z now f w c o said greets is =
     subst (λ (b : Bool). SaidIf z now f w c None (by_command b (c.header.command == 13) (negotiate_status c.bytes)
     (echo_status c.fault (bare_fault c.bytes))) o said) (sym greets) is
 
-pub aside_echoes : (z : ServerSettings) (now : ℕ) (f : ServerEnd) (w : HeldIds) (c : hearing.Checked) (o : Option (Result Reply EventError))
+pub aside_echoes : (z : ServerSettings) (now : ℕ) (f : ServerEnd) (w : HeldIds) (c : hearing.Checked) (o : Option (Result Reply ServeError))
     (said : Said) → hearing.is_negotiate c.header ≡ false → (c.header.command == 13) ≡ true
     → IsSaid said (said_aside z now f w c (echo_status c.fault (bare_fault c.bytes))) → SaidIf z now f w c None (aside_status c) o said
 aside_echoes z now f w c o said other echoes is =
@@ -206,7 +206,7 @@ aside_echoes z now f w c o said other echoes is =
     (subst (λ (b : Bool). SaidIf z now f w c None (by_command false b (negotiate_status c.bytes)
     (echo_status c.fault (bare_fault c.bytes))) o said) (sym echoes) is)
 
-pub aside_heard : (z : ServerSettings) (now : ℕ) (f : ServerEnd) (w : HeldIds) (c : hearing.Checked) (o : Option (Result Reply EventError))
+pub aside_heard : (z : ServerSettings) (now : ℕ) (f : ServerEnd) (w : HeldIds) (c : hearing.Checked) (o : Option (Result Reply ServeError))
     (said : Said) → hearing.is_negotiate c.header ≡ false → (c.header.command == 13) ≡ false → SaidOf f w c o said
     → SaidIf z now f w c None (aside_status c) o said
 aside_heard z now f w c o said other none is =

@@ -13,8 +13,8 @@ use Rattle.world_defs.specs.Ends.{ServerEnd}
 use Rattle.world_defs.specs.Hearing as hearing
 use Rattle.world_defs.specs.Answering as answering
 use Rattle.world_defs.specs.Connection.{said_failed}
-use Rattle.server_events.specs.declared.error.EventError.{EventError}
-use Rattle.server_events.specs.declared.error.EventError.TheVariants as errors
+use Rattle.conn_served.specs.declared.error.ServeError.{ServeError}
+use Rattle.conn_served.specs.declared.error.ServeError.TheVariants as errors
 use Rattle.conn_ends.specs.declared.conn.Progress.{Progress}
 use Rattle.conn_ends.specs.declared.conn.Progress.TheVariants.{Stays, Interim, Final}
 use Rattle.conn_frames.specs.declared.checked.Checked.{Checked}
@@ -24,7 +24,7 @@ use Rattle.conn_sealing.specs.Saying.{IsSaid, MovesAs}
 use Rattle.conn_said.specs.Replying.{Later, IsAnswered, SaysAside, SaysReply, SaysThis, Says, AreSaid, SaidOf, SaidIf, SaidBy, said_aside, aside_status, has_event}
 
 abbrev Answer : Type 0
-Answer = Result Reply EventError
+Answer = Result Reply ServeError
 
 -- ---- the next one
 
@@ -85,14 +85,14 @@ aside_next due u later rs [] said h is = absurd h
 pub is_request : (f : ServerEnd) (w : HeldIds) (c : hearing.Checked) (r : Answer) (s : answering.Said) → IsAnswered f w c r s → s.request ≡ c
 is_request f w c (Ok r) s h = h.request
 is_request f w c (Err errors.Memory) s h = ap (λ (x : answering.Said). x.request) h
-is_request f w c (Err (errors.DiskFault count)) s h = absurd h
+is_request f w c (Err (errors.Unanswered acted)) s h = absurd h
 is_request f w c (Err (errors.Stopped count)) s h = absurd h
 
 is_answer : (f : ServerEnd) (w : HeldIds) (c : hearing.Checked) (r : Answer) (s : answering.Said) (said : Said)
     → IsAnswered f w c r s → SaidOf f w c (Some r) said → IsSaid said s
 is_answer f w c (Ok r) s said h is = is s h
 is_answer f w c (Err errors.Memory) s said h is = subst (λ (x : answering.Said). IsSaid said x) (sym h) is
-is_answer f w c (Err (errors.DiskFault count)) s said h is = absurd h
+is_answer f w c (Err (errors.Unanswered acted)) s said h is = absurd h
 is_answer f w c (Err (errors.Stopped count)) s said h is = absurd h
 
 reply_next : (f : ServerEnd) (w : HeldIds) (c : hearing.Checked) (later : Later) (rs : List Answer) (ss : List answering.Said) (said : Said)

@@ -14,8 +14,8 @@ use Rattle.world_defs.specs.Hearing as hearing
 use Rattle.world_defs.specs.Logon as logon
 use Rattle.world_defs.specs.Answering as answering
 use Rattle.world_defs.specs.Connection.{said_failed}
-use Rattle.server_events.specs.declared.error.EventError.{EventError}
-use Rattle.server_events.specs.declared.error.EventError.TheVariants as errors
+use Rattle.conn_served.specs.declared.error.ServeError.{ServeError}
+use Rattle.conn_served.specs.declared.error.ServeError.TheVariants as errors
 use Rattle.conn_ends.specs.declared.conn.Progress.{Progress}
 use Rattle.conn_ends.specs.declared.conn.Progress.TheVariants.{Stays, Interim, Final}
 use Rattle.conn_frames.specs.declared.checked.Checked.{Checked}
@@ -68,21 +68,21 @@ aside_sound z now f w c status e base = record {
       g e ∙ good;
 }
 
-answer_sound : (f : ServerEnd) (w : HeldIds) (c : hearing.Checked) (r : Result Reply EventError) (s : answering.Said) → aside_status c ≡ None
+answer_sound : (f : ServerEnd) (w : HeldIds) (c : hearing.Checked) (r : Result Reply ServeError) (s : answering.Said) → aside_status c ≡ None
     → IsAnswered f w c r s → IsSound s
 answer_sound f w c (Ok r) s none h = record {
   settles = settles_by r.progress s c h.progress h.sets h.known h.request;
   greets = λ g good. absurd (greets_none c (sym (ap (λ (x : hearing.Checked). hearing.is_negotiate x.header) h.request) ∙ g) none);
 }
 answer_sound f w c (Err errors.Memory) s none h = subst (λ (x : answering.Said). IsSound x) (sym h) (refused_sound f w c no_memory none)
-answer_sound f w c (Err (errors.DiskFault count)) s none h = absurd h
+answer_sound f w c (Err (errors.Unanswered acted)) s none h = absurd h
 answer_sound f w c (Err (errors.Stopped count)) s none h = absurd h
 
 abbrev SoundBehind : Later → Type 0
-SoundBehind later = (rs : List (Result Reply EventError)) (u : HeldIds) (ss : List answering.Said) → later rs u ss → AreSound ss
+SoundBehind later = (rs : List (Result Reply ServeError)) (u : HeldIds) (ss : List answering.Said) → later rs u ss → AreSound ss
 
 one_sound : (z : ServerSettings) (now : ℕ) (f : ServerEnd) (w : HeldIds) (c : hearing.Checked) (cancel : Bool) (fails aside : Option ℕ)
-    (later : Later) (rs : List (Result Reply EventError)) (ss : List answering.Said) → aside_status c ≡ aside → FailsAt fails
+    (later : Later) (rs : List (Result Reply ServeError)) (ss : List answering.Said) → aside_status c ≡ aside → FailsAt fails
     → SoundBehind later → Says z now f w c cancel fails aside later rs ss → AreSound ss
 unfolding AreSound
 one_sound z now f w c true fails aside later rs ss e rightly go h = go rs w ss h
@@ -108,7 +108,7 @@ unfolding AreSound
 none_sound = tt
 
 pub all_sound : (z : ServerSettings) (now : ℕ) (f : ServerEnd) (ms : List Checked) (cs : List hearing.Checked)
-    (rs : List (Result Reply EventError)) (w : HeldIds) (ss : List answering.Said) (v : HeldIds) → FailRightly ms
+    (rs : List (Result Reply ServeError)) (w : HeldIds) (ss : List answering.Said) (v : HeldIds) → FailRightly ms
     → AreSaid z now f ms cs rs w ss v → AreSound ss
 all_sound z now f [] [] rs w ss v rightly h = subst (λ (xs : List answering.Said). AreSound xs) (sym h.1) none_sound
 all_sound z now f (m ∷ ms) (c ∷ cs) rs w ss v rightly h =

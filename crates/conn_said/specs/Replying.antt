@@ -21,8 +21,8 @@ use Rattle.conn_frames.specs.declared.checked.Checked.{Checked}
 use Rattle.conn_served.specs.declared.serve.Reply.{Reply}
 use Rattle.conn_ends.specs.declared.conn.Progress.{Progress}
 use Rattle.conn_ends.specs.declared.conn.Progress.TheVariants.{Stays, Interim, Final}
-use Rattle.server_events.specs.declared.error.EventError.{EventError}
-use Rattle.server_events.specs.declared.error.EventError.TheVariants as errors
+use Rattle.conn_served.specs.declared.error.ServeError.{ServeError}
+use Rattle.conn_served.specs.declared.error.ServeError.TheVariants as errors
 use Rattle.conn_frames.specs.Checking.{ShowsGoing, message_in}
 use Rattle.conn_frames.specs.declared.checked.CheckedFrame.{CheckedFrame}
 use Rattle.conn_greets.specs.declared.greeting.Hello.{Hello}
@@ -80,37 +80,37 @@ aside_status c =
 
 -- what is due of the messages behind one: their events' answers, the window, and their replies
 abbrev pub Later : Type 1
-Later = List (Result Reply EventError) → HeldIds → List answering.Said → Type 0
+Later = List (Result Reply ServeError) → HeldIds → List answering.Said → Type 0
 
 -- by the answer that its event has
-abbrev pub IsAnswered : ServerEnd → HeldIds → hearing.Checked → Result Reply EventError → answering.Said → Type 0
+abbrev pub IsAnswered : ServerEnd → HeldIds → hearing.Checked → Result Reply ServeError → answering.Said → Type 0
 IsAnswered f w c (Ok r) s = IsSaidTo f w c r s
 IsAnswered f w c (Err errors.Memory) s = s ≡ said_failed f w c no_memory
 IsAnswered f w c (Err e) s = ⊥
 
-abbrev pub SaysReply : ServerEnd → HeldIds → hearing.Checked → Later → List (Result Reply EventError) → List answering.Said → Type 0
+abbrev pub SaysReply : ServerEnd → HeldIds → hearing.Checked → Later → List (Result Reply ServeError) → List answering.Said → Type 0
 SaysReply f w c later (r ∷ rs) (s ∷ ss) = IsAnswered f w c r s × later rs (after_grant c.header.credits w) ss
 SaysReply f w c later (r ∷ rs) [] = ⊥
 SaysReply f w c later [] ss = ⊥
 
-abbrev pub SaysThis : answering.Said → HeldIds → Later → List (Result Reply EventError) → List answering.Said → Type 0
+abbrev pub SaysThis : answering.Said → HeldIds → Later → List (Result Reply ServeError) → List answering.Said → Type 0
 SaysThis due w later rs (s ∷ ss) = (s ≡ due) × later rs w ss
 SaysThis due w later rs [] = ⊥
 
 -- whatever is remembered of a logon beside it
-abbrev pub SaysAside : answering.Said → HeldIds → Later → List (Result Reply EventError) → List answering.Said → Type 0
+abbrev pub SaysAside : answering.Said → HeldIds → Later → List (Result Reply ServeError) → List answering.Said → Type 0
 SaysAside due w later rs (s ∷ ss) = ((base : List ℕ) × (s ≡ record due { base = base })) × later rs w ss
 SaysAside due w later rs [] = ⊥
 
 -- none to a CANCEL; of a message that fails, of a NEGOTIATE or an ECHO by the connection alone; else by its event's answer
 abbrev pub Says : ServerSettings → ℕ → ServerEnd → HeldIds → hearing.Checked → Bool → Option ℕ → Option ℕ → Later
-    → List (Result Reply EventError) → List answering.Said → Type 0
+    → List (Result Reply ServeError) → List answering.Said → Type 0
 Says z now f w c true fails aside later rs ss = later rs w ss
 Says z now f w c false (Some status) aside later rs ss = SaysThis (said_failed f w c status) (after_grant c.header.credits w) later rs ss
 Says z now f w c false None (Some status) later rs ss = SaysAside (said_aside z now f w c status) (after_grant c.header.credits w) later rs ss
 Says z now f w c false None None later rs ss = SaysReply f w c later rs ss
 
-abbrev pub AreSaid : ServerSettings → ℕ → ServerEnd → List Checked → List hearing.Checked → List (Result Reply EventError) → HeldIds
+abbrev pub AreSaid : ServerSettings → ℕ → ServerEnd → List Checked → List hearing.Checked → List (Result Reply ServeError) → HeldIds
     → List answering.Said → HeldIds → Type 0
 AreSaid z now f [] [] rs w ss v = (rs ≡ []) × (ss ≡ []) × (v ≡ w)
 AreSaid z now f (m ∷ ms) (c ∷ cs) rs w ss v =
@@ -167,22 +167,22 @@ HelloOf guid salt now (c ∷ cs) (Some h) = (hearing.is_negotiate c.header ≡ t
 HelloOf guid salt now (c ∷ cs) None = hearing.is_negotiate c.header ≡ false
 
 -- by the answer that its event has
-abbrev pub SaidOf : ServerEnd → HeldIds → hearing.Checked → Option (Result Reply EventError) → Said → Type 0
+abbrev pub SaidOf : ServerEnd → HeldIds → hearing.Checked → Option (Result Reply ServeError) → Said → Type 0
 SaidOf f w c (Some (Ok r)) said = (s : answering.Said) → IsSaidTo f w c r s → IsSaid said s
 SaidOf f w c _ said = IsSaid said (said_failed f w c no_memory)
 
-abbrev pub SaidIf : ServerSettings → ℕ → ServerEnd → HeldIds → hearing.Checked → Option ℕ → Option ℕ → Option (Result Reply EventError)
+abbrev pub SaidIf : ServerSettings → ℕ → ServerEnd → HeldIds → hearing.Checked → Option ℕ → Option ℕ → Option (Result Reply ServeError)
     → Said → Type 0
 SaidIf z now f w c (Some status) aside given said = IsSaid said (said_failed f w c status)
 SaidIf z now f w c None (Some status) given said = IsSaid said (said_aside z now f w c status)
 SaidIf z now f w c None None given said = SaidOf f w c given said
 
-abbrev pub SaidBy : ServerSettings → ℕ → ServerEnd → HeldIds → Checked → hearing.Checked → Option (Result Reply EventError) → Said → Type 0
+abbrev pub SaidBy : ServerSettings → ℕ → ServerEnd → HeldIds → Checked → hearing.Checked → Option (Result Reply ServeError) → Said → Type 0
 SaidBy z now f w m c given said = SaidIf z now f w c m.fails (aside_status c) given said
 
 -- the next reply of a frame's, to the message c, none to a CANCEL, and what is due behind it
 abbrev pub SaysNext : ServerSettings → ℕ → ServerEnd → hearing.Checked → List Checked → List hearing.Checked
-    → List (Result Reply EventError) → Conn → List answering.Said → HeldIds → ℕ → Option Said → Type 0
+    → List (Result Reply ServeError) → Conn → List answering.Said → HeldIds → ℕ → Option Said → Type 0
 SaysNext z now f c ms cs rs new ss v at None = AreSaid z now f ms cs rs new.window ss v
 SaysNext z now f c ms cs rs new ss v at (Some said) = (s : answering.Said) × (rest : List answering.Said) × (ss ≡ s ∷ rest)
     × IsSaid said s × (s.request ≡ c) × (said.at ≡ at) × AreSaid z now f ms cs rs new.window rest v
@@ -195,11 +195,11 @@ ShowsTaken bytes [] (c ∷ cs) = ⊥
 ShowsTaken bytes (m ∷ ms) [] = ⊥
 
 -- bodies that fit a frame
-abbrev pub IsShortAnswer : Result Reply EventError → Type 0
+abbrev pub IsShortAnswer : Result Reply ServeError → Type 0
 IsShortAnswer (Ok r) = IsShort r
 IsShortAnswer (Err e) = ⊤
 
-unfoldable pub AreShort : List (Result Reply EventError) → Type 0
+unfoldable pub AreShort : List (Result Reply ServeError) → Type 0
 AreShort [] = ⊤
 AreShort (Ok r ∷ rs) = IsShort r × AreShort rs
 AreShort (Err e ∷ rs) = AreShort rs

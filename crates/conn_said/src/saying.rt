@@ -22,8 +22,7 @@ use conn_ends::{Conn, Progress};
 use conn_frames::{Checked, CheckedFrame};
 use conn_greets::Hello;
 use conn_sealing::Said;
-use conn_served::{Replies, Reply};
-use server_events::EventError;
+use conn_served::{Replies, Reply, ServeError};
 use session_defs::Signer;
 
 const SUCCESS: u32 = 0;
@@ -149,7 +148,7 @@ fn answered_by<'a>(
     conn: &mut Conn,
     at: usize,
     checked: &Checked,
-    answer: &'a Result<Reply, EventError>,
+    answer: &'a Result<Reply, ServeError>,
 ) -> Said<'a>
     ensures grants { Grants checked.now.header.credits conn.old conn.new }
     ensures place { result.at ≡ at }
@@ -163,7 +162,7 @@ fn answered_by<'a>(
     }
 }
 
-fn answer_at(replies: &Replies, place: usize) -> Option<&Result<Reply, EventError>>
+fn answer_at(replies: &Replies, place: usize) -> Option<&Result<Reply, ServeError>>
     ensures { option_copied result ≡ slice_get replies.now.items.items place }
 {
     replies.as_slice().get(place)

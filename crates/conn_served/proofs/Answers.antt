@@ -2,12 +2,12 @@
 use Rattle.std.proofs.Common.{◌≡◌, ℕ, ◌+◌, ◌<◌, ◌≤◌, Bool, true, false, ◌||◌, List, length, drop, get_or, Result, sym, ap, ◌∙◌}
 use Rattle.std.proofs.Math.ListN.{drop_of_length-le}
 use Rattle.std.proofs.lemmas.List.{drop_more}
-use Rattle.server_events.specs.declared.error.EventError.{EventError}
+use Rattle.conn_served.specs.declared.error.ServeError.{ServeError}
 use Rattle.conn_served.specs.declared.serve.Reply.{Reply}
 use Rattle.conn_served.specs.Replies.{lacks, acts, some_lacked, some_acted}
 
 abbrev Answer : Type 0
-Answer = Result Reply EventError
+Answer = Result Reply ServeError
 
 -- ---- whether one found no memory
 

@@ -1,9 +1,10 @@
 -- What a server in code answers, over the model's state and the logons that its tables show.
-use Rattle.std.specs.Prelude.{◌≡◌, ◌⊎◌, ℕ, ◌≤◌, if◌then◌else◌, List, [], ◌++◌, length, Option, Some, None, Result, Ok, Err, ⊤}
+use Rattle.std.specs.Prelude.{◌≡◌, ◌⊎◌, ℕ, ◌≤◌, Bool, if◌then◌else◌, List, [], ◌++◌, length, Option, Some, None, Result, Ok, Err, ⊤}
 use Rattle.token_defs.specs.Acceptor.{User}
 use Rattle.exchange_defs.specs.Commands as asks
 use Rattle.exchange_defs.specs.State as model
 use Rattle.exchange_defs.specs.Network.{answer_to}
+use Rattle.exchange_defs.specs.Step.{step}
 use Rattle.command_defs.specs.ReplyBody.{reply_body}
 use Rattle.command_values.specs.Meaning
 use Rattle.world_defs.specs.Ends.{Logons}
@@ -11,8 +12,8 @@ use Rattle.world_defs.specs.Logon as logon
 use Rattle.world_defs.specs.Lacking.{alone_records, Expires}
 use Rattle.server_events.specs.Setups.{setup_message, keys_behind, setup_logons}
 use Rattle.server_events.specs.declared.setup.SetupHeard.{SetupHeard}
-use Rattle.server_events.specs.declared.error.EventError.{EventError}
-use Rattle.server_events.specs.declared.error.EventError.TheVariants.{Memory}
+use Rattle.conn_served.specs.declared.error.ServeError.{ServeError}
+use Rattle.conn_served.specs.declared.error.ServeError.TheVariants.{Memory, Stopped, Unanswered}
 use Rattle.server_asked.specs.declared.event.ServerEvent.{ServerEvent}
 use Rattle.server_asked.specs.declared.event.ServerEvent.TheVariants as events
 use Rattle.conn_frames.specs.Checking.{IsDenied}
@@ -76,14 +77,44 @@ RepliesSetup shown users s L records now q r =
     Answers m (logon.answer_token_by users (L.pending q.connection) q.form.token.now q.fresh now p) A r
     × IsProgress users L q p r.progress × shown A.server (setup_logons users L q now p) (records ++ A.records)
 
+-- the step's answer to what isn't a message: its status alone, and the state and the records behind it
+abbrev pub RepliesOther : Showing → model.Server → Logons → List model.Record → ℕ → model.ServerEvent → Reply → Type 0
+RepliesOther shown s L records now e r =
+    let A = step s now e in
+    (r.status ≡ A.reply.status) × (r.acted ≡ A.acted) × shown A.server L (records ++ A.records)
+
 abbrev pub Replies : Showing → List User → model.Server → Logons → List model.Record → ℕ → ServerEvent → Reply → Type 0
 Replies shown users s L records now (events.Message message) r =
     RepliesHeard shown s L records now (Meaning.message_of message) r
 Replies shown users s L records now (events.Setup setup) r = RepliesSetup shown users s L records now setup r
-Replies shown users s L records now _ r = ⊤
+Replies shown users s L records now (events.Accept connection) r = RepliesOther shown s L records now (model.Accept connection) r
+Replies shown users s L records now (events.End connection) r = RepliesOther shown s L records now (model.End connection) r
+Replies shown users s L records now events.Stop r = RepliesOther shown s L records now model.Stop r
 
--- ---- what a connection asks of a server: no NEGOTIATE and no ECHO, and no SESSION_SETUP without what its connection tells, whose
--- fault is ACCESS_DENIED, if it has one
+-- ---- an event that was carried out, whose reply is lost: whether it acted, and what is behind it
+
+abbrev pub IsLost : Showing → model.Answer → Logons → List model.Record → Bool → Type 0
+IsLost shown A L records acted = (acted ≡ A.acted) × shown A.server L (records ++ A.records)
+
+abbrev pub LosesHeard : Showing → model.Server → Logons → List model.Record → ℕ → model.Message → Bool → Type 0
+LosesHeard shown s L records now m acted = IsLost shown (answer_to s now m m.command) L records acted
+
+abbrev pub LosesSetup : Showing → List User → model.Server → Logons → List model.Record → ℕ → SetupHeard → Bool → Type 0
+LosesSetup shown users s L records now q acted =
+    let m = setup_message users L s q in
+    let A = answer_to s now m m.command in
+    IsLost shown A (setup_logons users L q now (logon.progress m.command A.reply)) records acted
+
+abbrev pub Loses : Showing → List User → model.Server → Logons → List model.Record → ℕ → ServerEvent → Bool → Type 0
+Loses shown users s L records now (events.Message message) acted =
+    LosesHeard shown s L records now (Meaning.message_of message) acted
+Loses shown users s L records now (events.Setup setup) acted = LosesSetup shown users s L records now setup acted
+Loses shown users s L records now (events.Accept connection) acted = IsLost shown (step s now (model.Accept connection)) L records acted
+Loses shown users s L records now (events.End connection) acted = IsLost shown (step s now (model.End connection)) L records acted
+Loses shown users s L records now events.Stop acted = IsLost shown (step s now model.Stop) L records acted
+
+-- ---- what a server is asked: no NEGOTIATE and no ECHO, and no SESSION_SETUP without what its connection tells, whose fault is
+-- ACCESS_DENIED, if it has one
 
 abbrev pub IsPlain : asks.Command → Type 0
 IsPlain (asks.Aside status) = ⊥
@@ -93,7 +124,7 @@ IsPlain _ = ⊤
 abbrev pub IsServed : ServerEvent → Type 0
 IsServed (events.Message message) = IsPlain (Meaning.command_of message.command)
 IsServed (events.Setup setup) = IsDenied setup.fault
-IsServed _ = ⊥
+IsServed _ = ⊤
 
 -- Where no memory was found the state and the records are as before, or behind one expiry alone.
 abbrev pub LeftBy : model.Server → ℕ → model.ServerEvent → model.Server → List model.Record → Type 0
@@ -103,10 +134,24 @@ LeftBy s now e t more =
 abbrev pub Lacks : List User → model.Server → Logons → ℕ → ServerEvent → model.Server → List model.Record → Type 0
 Lacks users s L now (events.Message message) t more = LeftBy s now (model.Heard (Meaning.message_of message)) t more
 Lacks users s L now (events.Setup setup) t more = LeftBy s now (model.Heard (setup_message users L s setup)) t more
-Lacks users s L now _ t more = ⊤
+Lacks users s L now (events.Accept connection) t more = LeftBy s now (model.Accept connection) t more
+Lacks users s L now (events.End connection) t more = LeftBy s now (model.End connection) t more
+Lacks users s L now events.Stop t more = LeftBy s now model.Stop t more
 
-abbrev pub Serves : Showing → List User → model.Server → Logons → List model.Record → ℕ → ServerEvent → Result Reply EventError → Type 0
+abbrev pub Serves : Showing → List User → model.Server → Logons → List model.Record → ℕ → ServerEvent → Result Reply ServeError → Type 0
 Serves shown users s L records now event (Ok r) = Replies shown users s L records now event r
 Serves shown users s L records now event (Err Memory) =
     (t : model.Server) × (more : List model.Record) × Lacks users s L now event t more × shown t L (records ++ more)
-Serves shown users s L records now event (Err e) = ⊤
+Serves shown users s L records now event (Err (Unanswered acted)) = Loses shown users s L records now event acted
+Serves shown users s L records now event (Err (Stopped count)) = ⊤
+
+-- ---- where a server stops: it answers `Stopped` with the count of its disk's faults, and did so where it had stopped before; any other
+-- answer is that of one that goes on
+
+abbrev pub Halts : Option ℕ → Option ℕ → Result Reply ServeError → Type 0
+Halts old new (Err (Stopped count)) = (new ≡ Some count) × ((n : ℕ) → old ≡ Some n → count ≡ n)
+Halts old new _ = (old ≡ None) × (new ≡ None)
+
+-- it shows a state, and hasn't stopped but where it had before
+abbrev pub Onward : Showing → Option ℕ → Option ℕ → Showing
+Onward shown old new s L records = shown s L records × (new ≡ old)

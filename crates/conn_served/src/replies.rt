@@ -1,32 +1,34 @@
 ghost use Rattle.std.specs.Prelude.{◌≡◌};
 ghost use Rattle.conn_served.specs.Replies as replies;
 
+use crate::error::ServeError;
 use crate::serve::Reply;
-use server_events::EventError;
 use std::alloc::{AllocError, Global};
 
 /// The server's answers to a frame, one for each message that has an event, in their order.
 #[derive(Drop)]
 pub struct Replies {
-    items: Vec<Result<Reply, EventError>>,
+    items: Vec<Result<Reply, ServeError>>,
 }
 
-fn lacks(answer: &Result<Reply, EventError>) -> bool
+fn lacks(answer: &Result<Reply, ServeError>) -> bool
     ensures { result ≡ replies.lacks answer.now }
 {
-    matches!(answer, Err(EventError::Memory))
+    matches!(answer, Err(ServeError::Memory))
 }
 
-fn acts(answer: &Result<Reply, EventError>) -> bool
+fn acts(answer: &Result<Reply, ServeError>) -> bool
     ensures { result ≡ replies.acts answer.now }
 {
     match answer {
         Ok(reply) => reply.acted,
-        Err(_) => false,
+        Err(ServeError::Unanswered { acted }) => *acted,
+        Err(ServeError::Memory) => false,
+        Err(ServeError::Stopped(_)) => false,
     }
 }
 
-fn lacked_in(answers: &[Result<Reply, EventError>]) -> bool
+fn lacked_in(answers: &[Result<Reply, ServeError>]) -> bool
     ensures { result ≡ replies.some_lacked answers.now }
 {
     for answer in answers {
@@ -37,7 +39,7 @@ fn lacked_in(answers: &[Result<Reply, EventError>]) -> bool
     false
 }
 
-fn acted_in(answers: &[Result<Reply, EventError>]) -> bool
+fn acted_in(answers: &[Result<Reply, ServeError>]) -> bool
     ensures { result ≡ replies.some_acted answers.now }
 {
     for answer in answers {
@@ -82,14 +84,14 @@ impl Replies {
         self.items.is_empty()
     }
 
-    pub fn as_slice(&self) -> &[Result<Reply, EventError>]
+    pub fn as_slice(&self) -> &[Result<Reply, ServeError>]
         ensures { result.now ≡ self.now.items.items }
     {
         self.items.as_slice()
     }
 
     /// Adds an answer at the end. Where there is no memory nothing changes.
-    pub fn push(&mut self, answer: Result<Reply, EventError>) -> Result<(), AllocError>
+    pub fn push(&mut self, answer: Result<Reply, ServeError>) -> Result<(), AllocError>
         ensures ok { OnOk result (self.new.items.items ≡ self.old.items.items ++ answer ∷ []) }
         ensures err { OnErr result ((self.new.items.items ≡ self.old.items.items)
             × (vec_capacity self.old.items ≤ vec_len self.old.items)) }

@@ -1,8 +1,8 @@
 //! The server as its connections see it.
+use crate::error::ServeError;
 use conn_ends::Progress;
 use conn_frames::Checked;
 use server_asked::ServerEvent;
-use server_events::EventError;
 use smb_bytes::Bytes;
 use std::alloc::{AllocError, Global};
 
@@ -47,21 +47,30 @@ impl Reply {
 
 /// A server that takes one event at a time.
 pub trait Serve {
-    ghost use Rattle.std.specs.Prelude.{List, IfOk};
+    ghost use Rattle.std.specs.Prelude.{◌≡◌, ℕ, List, Option, Some, Err, IfOk};
     ghost use Rattle.token_defs.specs.Acceptor.{User};
     ghost use Rattle.exchange_defs.specs.State.{Record, Server};
     ghost use Rattle.world_defs.specs.Ends.{Logons};
-    ghost use Rattle.conn_served.specs.Serving.{IsServed, IsShort, Serves};
+    ghost use Rattle.conn_served.specs.Serving.{Halts, IsServed, IsShort, Serves};
+    ghost use Rattle.conn_served.specs.declared.error.ServeError.TheVariants as errors;
 
     /// With these users it shows a state of the model, logons, and the records that were written.
     ghost shows: { Self → List User → Server → Logons → List Record → Type 0 };
 
-    /// Answers a message at a moment, in units of 100 nanoseconds since 1601. Where it finds no memory nothing has
-    /// changed but that one open may have expired: room for the answer is taken first. Of a server that stopped nothing
-    /// more is told.
-    fn event(&mut self, now: u64, event: ServerEvent<'_>) -> Result<Reply, EventError>
+    /// The count of the disk's faults at which it stopped.
+    ghost stopped: { Self → Option ℕ };
+
+    /// Answers a message, or a connection that is made or lost, at a moment in units of 100 nanoseconds since 1601. At
+    /// `Memory` nothing has changed but that one open may have expired; at `Unanswered` the event stands. A server stops
+    /// where its disk fails; from then on each event answers `Stopped` with that count, and of what it shows nothing is told.
+    fn event(&mut self, now: u64, event: ServerEvent<'_>) -> Result<Reply, ServeError>
         ensures short { IfOk result (λ r. IsShort r) }
         ensures serves { (users : List User) (s : Server) (L : Logons) (records : List Record)
             → shows self.old users s L records → IsServed event.entry
-            → Serves (shows self.new users) users s L records now event.entry result };
+            → Serves (shows self.new users) users s L records now event.entry result }
+        ensures halts { (users : List User) (s : Server) (L : Logons) (records : List Record)
+            → shows self.old users s L records → Halts (stopped self.old) (stopped self.new) result }
+        ensures halted { (count : ℕ) → stopped self.old ≡ Some count
+            → (result ≡ Err (errors.Stopped count)) × (stopped self.new ≡ Some count) }
+        ensures stops { (count : ℕ) → result ≡ Err (errors.Stopped count) → stopped self.new ≡ Some count };
 }

@@ -3,6 +3,7 @@ use Rattle.std.proofs.Common.{vec_capacity, sym, ap, subst, refl, append-nil, op
 use Rattle.exchange_defs.specs.State.{Record}
 use Rattle.world_defs.specs.Mishaps.{owning}
 use Rattle.conn_carried.specs.Carrying.{carry_of}
+use Rattle.conn_served.specs.Serving.{Onward}
 use Rattle.conn_dealt.proofs.Ending.{deals_err, first, last, shorts_none}
 use Rattle.conn_dealt.proofs.Lists.{same_long}
 use Rattle.conn_dealt.proofs.dealing.carry_out.Goals as goal
@@ -23,7 +24,7 @@ loop-at-init g c =
         [],
         first z c.args.conn.now.id c.args.moment.now.time c.args.moment.now.fresh s L f F.messages c.args.asked.now c.args.dealt.now
             c.requires.none.0 c.requires.none.1 frame.messages,
-        subst (λ (l : List Record). g.S.Serve.shows c.args.server.now z.users s L l) (sym (append-nil records)) shows,
+        (subst (λ (l : List Record). g.S.Serve.shows c.args.server.now z.users s L l) (sym (append-nil records)) shows, refl),
       ),
     )
 
@@ -32,9 +33,9 @@ returns-in-Err-clause-deals g c = λ z s L records f F shows conn frame alone.
     let inv = c.loop-at.invariant in
     let q = inv.7 z s L records f F shows conn frame alone in
     let long = inv.1 ∙ same_long c.args.asked.now.bytes.items c.args.asked.now.messages.items F.messages frame.messages in
-    deals_err (g.S.Serve.shows c.step.new.server z.users) z c.args.conn.now.id c.args.moment.now.time c.args.moment.now.fresh s L records f
+    deals_err (Onward (g.S.Serve.shows c.step.new.server z.users) (g.S.Serve.stopped c.args.server.now) (g.S.Serve.stopped c.step.new.server)) z c.args.conn.now.id c.args.moment.now.time c.args.moment.now.fresh s L records f
     F.messages (c.loop-at.at + 1) c.step.new.asked c.step.new.dealt c.in-Err.why
-    (c.in-Err.ensures.steps z s L records q.1 f F.messages q.0 conn alone long q.3 q.2)
+    (c.in-Err.ensures.steps z (g.S.Serve.stopped c.args.server.now) s L records q.1 f F.messages q.0 conn alone long q.3 q.2)
 
 pub loop-at-preserved : goal.loop-at-preserved
 loop-at-preserved g c =
@@ -53,7 +54,7 @@ loop-at-preserved g c =
       λ z s L records f F shows conn frame alone.
           let q = inv.7 z s L records f F shows conn frame alone in
           let long = inv.1 ∙ same_long c.args.asked.now.bytes.items c.args.asked.now.messages.items F.messages frame.messages in
-          c.in-Ok.ensures.steps z s L records q.1 f F.messages q.0 conn alone long q.3 q.2,
+          c.in-Ok.ensures.steps z (g.S.Serve.stopped c.args.server.now) s L records q.1 f F.messages q.0 conn alone long q.3 q.2,
     )
 
 pub returns-clause-deals : goal.returns-clause-deals
@@ -63,5 +64,5 @@ returns-clause-deals g c = λ z s L records f F shows conn frame alone.
     let count : length c.args.asked.now.messages.items ≡ length F.messages =
     same_long c.args.asked.now.bytes.items c.args.asked.now.messages.items F.messages frame.messages in
     let past : length F.messages ≤ c.loop-at.at = omega (arith, count, c.loop-at-test.false, c.len-at-end.ensures) in
-    last (g.S.Serve.shows c.loop-at.server z.users) z c.args.conn.now.id c.args.moment.now.time c.args.moment.now.fresh s L records f
+    last (Onward (g.S.Serve.shows c.loop-at.server z.users) (g.S.Serve.stopped c.args.server.now) (g.S.Serve.stopped c.loop-at.server)) z c.args.conn.now.id c.args.moment.now.time c.args.moment.now.fresh s L records f
     F.messages c.loop-at.at c.loop-at.asked c.loop-at.dealt (option_map carry_of c.loop-at.carried) q.1 q.0 (inv.1 ∙ count) past q.2 q.3

@@ -7,6 +7,7 @@ use Rattle.world_defs.specs.Mishaps.{Owned}
 use Rattle.conn_ends.specs.Shown.{ShowsEnd}
 use Rattle.conn_frames.specs.Checking.{AreInOrder, ShowsFrame}
 use Rattle.conn_carried.specs.Carrying.{carry_of}
+use Rattle.conn_served.specs.Serving.{Onward}
 use Rattle.conn_said.specs.Replying.{AreShort}
 use Rattle.conn_dealt.specs.Dealing.{Alone}
 use Rattle.conn_dealt.specs.SoFar.{DealtSoFar}
@@ -22,4 +23,5 @@ invariant-loop-at g l =
     → Alone F.messages → (w : Owned) × (more : List Record)
     × DealtSoFar z l.fn.conn.id l.fn.moment.time l.fn.moment.fresh s L f F.messages l.at l.at l.asked l.dealt
     (option_map carry_of l.carried) more w
-    × g.S.Serve.shows l.server z.users w.dealt.going.server w.dealt.going.logons (records ++ more))
+    × Onward (g.S.Serve.shows l.server z.users) (g.S.Serve.stopped l.fn.server) (g.S.Serve.stopped l.server) w.dealt.going.server
+    w.dealt.going.logons (records ++ more))

@@ -3,6 +3,7 @@ use Rattle.world_defs.specs.Related.{failed_as, turn_of}
 use Rattle.conn_frames.specs.Checking.{message_in}
 use Rattle.conn_frames.proofs.Places.{each_has}
 use Rattle.conn_carried.specs.Carrying.{Inherits, carry_of}
+use Rattle.conn_served.specs.Serving.{Onward}
 use Rattle.conn_dealt.proofs.Lists.{there_checked}
 use Rattle.conn_dealt.proofs.SoFar.{moved}
 use Rattle.conn_dealt.proofs.Stepping.{carried_so, failed_on, halted_err, ready_fails, ready_goes, went_on}
@@ -19,7 +20,7 @@ deal-requires-clause-message g c =
     each_has c.goes.new.asked (c.goes.ensures.order c.requires.order) c.args.at (omega (arith, count, c.requires.there))
 
 pub returns-then-not-goes-clause-steps : goal.returns-then-not-goes-clause-steps
-returns-then-not-goes-clause-steps g c = λ z s L records more f cs w conn alone long state far.
+returns-then-not-goes-clause-steps g c = λ z before s L records more f cs w conn alone long state far.
     let old = c.args.asked.now in
     let x = c.goes.new.asked in
     let at = c.args.at in
@@ -40,10 +41,10 @@ returns-then-not-goes-clause-steps g c = λ z s L records more f cs w conn alone
     let r = ready_fails z k now fresh s L f cs at old x m.0 n.0 b.0 d y more w c.goes.ensures.others n.1 b.1 was.0 mine placed.0
     placed.1 far in
     let here = moved z k now fresh s L f cs at old x m.0 d y more w c.requires.order c.goes.ensures.others m.1 far in
-    failed_on (g.S.Serve.shows c.args.server.now z.users) z k now fresh s L records f cs at x n.0 b.0 r.0 d y more w r.1 r.2 r.3 state here
+    failed_on (Onward (g.S.Serve.shows c.args.server.now z.users) before (g.S.Serve.stopped c.args.server.now)) z k now fresh s L records f cs at x n.0 b.0 r.0 d y more w r.1 r.2 r.3 state here
 
 pub returns-in-Ok-clause-steps : goal.returns-in-Ok-clause-steps
-returns-in-Ok-clause-steps g c = λ z s L records more f cs w conn alone long state far.
+returns-in-Ok-clause-steps g c = λ z before s L records more f cs w conn alone long state far.
     let old = c.args.asked.now in
     let x = c.goes.new.asked in
     let at = c.args.at in
@@ -65,13 +66,13 @@ returns-in-Ok-clause-steps g c = λ z s L records more f cs w conn alone long st
     placed.1 far in
     let here = moved z k now fresh s L f cs at old x m.0 d y more w c.requires.order c.goes.ensures.others m.1 far in
     let q = c.in-Ok.ensures.deals n.0 n.1 in
-    went_on (g.S.Serve.shows c.deal.new.server z.users) z k now fresh s L records f cs at x n.0 b.0 r.0 q.0 d c.deal.new.dealt y
+    went_on (Onward (g.S.Serve.shows c.deal.new.server z.users) before (g.S.Serve.stopped c.deal.new.server)) z k now fresh s L records f cs at x n.0 b.0 r.0 q.0 d c.deal.new.dealt y
     c.in-Ok.behind
-    more w r.1 r.2 r.4 alone (q.2 z w.dealt.going.server w.dealt.going.logons (records ++ more) f r.0 state conn r.1.shows r.4) q.1.adds.0
-    q.1.adds.1 q.1.took (q.1.carries r.0 r.3) here
+    more w r.1 r.2 r.4 alone (q.2 z before w.dealt.going.server w.dealt.going.logons (records ++ more) f r.0 state conn r.1.shows r.4) q.1.adds.0
+    q.1.adds.1 q.1.adds.2 q.1.took (q.1.carries r.0 r.3) here
 
 pub returns-in-Err-clause-steps : goal.returns-in-Err-clause-steps
-returns-in-Err-clause-steps g c = λ z s L records more f cs w conn alone long state far.
+returns-in-Err-clause-steps g c = λ z before s L records more f cs w conn alone long state far.
     let old = c.args.asked.now in
     let x = c.goes.new.asked in
     let at = c.args.at in
@@ -93,8 +94,8 @@ returns-in-Err-clause-steps g c = λ z s L records more f cs w conn alone long s
     placed.1 far in
     let here = moved z k now fresh s L f cs at old x m.0 d y more w c.requires.order c.goes.ensures.others m.1 far in
     let q = c.in-Err.ensures.deals n.0 n.1 in
-    halted_err (g.S.Serve.shows c.deal.new.server z.users) z k now fresh s L records f cs at x n.0 b.0 r.0 q.0 d c.deal.new.dealt y
-    c.in-Err.why more w r.1 r.2 (q.2 z w.dealt.going.server w.dealt.going.logons (records ++ more) f r.0 state conn r.1.shows r.4) q.1.adds
+    halted_err (Onward (g.S.Serve.shows c.deal.new.server z.users) before (g.S.Serve.stopped c.deal.new.server)) z k now fresh s L records f cs at x n.0 b.0 r.0 q.0 d c.deal.new.dealt y
+    c.in-Err.why more w r.1 r.2 (q.2 z before w.dealt.going.server w.dealt.going.logons (records ++ more) f r.0 state conn r.1.shows r.4) q.1.adds
     q.1.took here
 
 pub returns-in-Ok-clause-room : goal.returns-in-Ok-clause-room
@@ -102,14 +103,14 @@ returns-in-Ok-clause-room g c =
     let count : length c.goes.new.asked.messages.items ≡ length c.args.asked.now.messages.items = c.goes.ensures.others.count in
     let n = each_has c.goes.new.asked (c.goes.ensures.order c.requires.order) c.args.at (omega (arith, count, c.requires.there)) in
     let q = c.in-Ok.ensures.deals n.0 n.1 in
-    (c.deal.ensures.room, long_ok q.0 c.args.dealt.now c.deal.new.dealt q.1.adds.1)
+    (c.deal.ensures.room, long_ok q.0 c.args.dealt.now c.deal.new.dealt q.1.adds.2)
 
 pub returns-in-Ok-clause-short : goal.returns-in-Ok-clause-short
 returns-in-Ok-clause-short g c = λ short.
     let count : length c.goes.new.asked.messages.items ≡ length c.args.asked.now.messages.items = c.goes.ensures.others.count in
     let n = each_has c.goes.new.asked (c.goes.ensures.order c.requires.order) c.args.at (omega (arith, count, c.requires.there)) in
     let q = c.in-Ok.ensures.deals n.0 n.1 in
-    kept_ok q.0 c.args.dealt.now c.deal.new.dealt q.1.adds.1 q.1.short short
+    kept_ok q.0 c.args.dealt.now c.deal.new.dealt q.1.adds.2 q.1.short short
 
 pub returns-in-Err-clause-room : goal.returns-in-Err-clause-room
 returns-in-Err-clause-room g c =
@@ -123,4 +124,4 @@ returns-in-Err-clause-short g c = λ short.
     let count : length c.goes.new.asked.messages.items ≡ length c.args.asked.now.messages.items = c.goes.ensures.others.count in
     let n = each_has c.goes.new.asked (c.goes.ensures.order c.requires.order) c.args.at (omega (arith, count, c.requires.there)) in
     let q = c.in-Err.ensures.deals n.0 n.1 in
-    kept_err q.0 c.args.dealt.now c.deal.new.dealt c.in-Err.why q.1.adds short
+    kept_err q.0 c.args.dealt.now c.deal.new.dealt c.in-Err.why q.1.adds q.1.short short

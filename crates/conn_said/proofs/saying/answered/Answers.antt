@@ -1,6 +1,6 @@
 use Rattle.std.proofs.Common.{◌∙◌, Option, Result, sym, ap, subst}
 use Rattle.std.specs.Prelude.{option_copied}
-use Rattle.server_events.specs.declared.error.EventError.{EventError}
+use Rattle.conn_served.specs.declared.error.ServeError.{ServeError}
 use Rattle.conn_served.specs.declared.serve.Reply.{Reply}
 use Rattle.conn_said.specs.Replying.{SaidOf}
 use Rattle.conn_said.proofs.Parts.{short_at}
@@ -8,7 +8,7 @@ use Rattle.conn_said.proofs.saying.answered.Goals as goal
 
 pub returns-in-Some-clause-said : goal.returns-in-Some-clause-said
 returns-in-Some-clause-said c = λ f x keys like.
-    subst (λ (o : Option (Result Reply EventError)). SaidOf f c.args.conn.now.window x o c.answered_by.result)
+    subst (λ (o : Option (Result Reply ServeError)). SaidOf f c.args.conn.now.window x o c.answered_by.result)
     (sym (sym c.answer_at.ensures ∙ ap option_copied c.in-Some.is)) (c.answered_by.ensures.said f x keys like)
 
 pub returns-in-Some-clause-fits : goal.returns-in-Some-clause-fits
@@ -18,7 +18,7 @@ returns-in-Some-clause-fits c = λ short.
 
 pub returns-in-None-clause-said : goal.returns-in-None-clause-said
 returns-in-None-clause-said c = λ f x keys like.
-    subst (λ (o : Option (Result Reply EventError)). SaidOf f c.args.conn.now.window x o c.refusal.result)
+    subst (λ (o : Option (Result Reply ServeError)). SaidOf f c.args.conn.now.window x o c.refusal.result)
     (sym (sym c.answer_at.ensures ∙ ap option_copied c.in-None.is)) (c.refusal.ensures.said f x keys like)
 
 pub returns-in-None-clause-fits : goal.returns-in-None-clause-fits

@@ -1,5 +1,5 @@
 use Rattle.std.proofs.Common.{Result, subst}
-use Rattle.server_events.specs.declared.error.EventError.{EventError}
+use Rattle.conn_served.specs.declared.error.ServeError.{ServeError}
 use Rattle.conn_served.specs.declared.serve.Reply.{Reply}
 use Rattle.conn_said.specs.Replying.{IsShortAnswer}
 use Rattle.conn_said.proofs.saying.answered_by.Goals as goal
@@ -9,7 +9,7 @@ returns-in-Ok-clause-said c = λ f x keys like. rw c.in-Ok.is (λ s to. c.said_t
 
 pub returns-in-Ok-clause-fits : goal.returns-in-Ok-clause-fits
 returns-in-Ok-clause-fits c = λ short.
-    c.said_to.ensures.fits (subst (λ (r : Result Reply EventError). IsShortAnswer r) c.in-Ok.is short)
+    c.said_to.ensures.fits (subst (λ (r : Result Reply ServeError). IsShortAnswer r) c.in-Ok.is short)
 
 pub returns-in-Err-clause-said : goal.returns-in-Err-clause-said
 returns-in-Err-clause-said c = λ f x keys like. rw c.in-Err.is (c.refusal.ensures.said f x keys like)
