@@ -1,16 +1,17 @@
 -- The reply that connections see, from the server's answer.
-use Rattle.std.specs.Prelude.{◌≡◌, ◌≤◌, true, if◌then◌else◌, Option, Some, None, is_some, ⊤}
+use Rattle.std.specs.Prelude.{◌≡◌, ◌≤◌, ◌<◌, ◌⊎◌, true, if◌then◌else◌, length, Option, Some, None, is_some, ⊤}
 use Rattle.book_replies.specs.declared.progress.Logon.{Logon}
+use Rattle.command_defs.specs.Fits.{FitsReply}
 use Rattle.command_defs.specs.ReplyBody.{reply_body}
 use Rattle.command_values.specs.Meaning.{body_of, command_of, reply_of}
 use Rattle.command_values.specs.declared.command.Command.{Command}
+use Rattle.command_writing.specs.declared.fault.WriteError.{WriteError}
+use Rattle.command_writing.specs.declared.fault.WriteError.TheVariants.{Memory, Unwritable}
 use Rattle.conn_ends.specs.declared.conn.Progress.{Progress}
 use Rattle.conn_ends.specs.declared.conn.Progress.TheVariants.{Interim, Final}
 use Rattle.conn_served.specs.Serving.{IsNamed, IsShort, Stands}
 use Rattle.conn_served.specs.declared.serve.Reply.{Reply}
 use Rattle.server_effects.specs.declared.answering.Answer.{Answer}
-use Rattle.server_events.specs.declared.error.EventError.{EventError}
-use Rattle.server_events.specs.declared.error.EventError.TheVariants.{Memory, DiskFault, Stopped}
 use Rattle.world_defs.specs.Logon as logon
 
 -- ---- what a SESSION_SETUP comes to
@@ -31,6 +32,10 @@ SetupTold l a logon.Stays p = Stands p
 SetupTold l a (logon.Interim binding) p = InterimTold l p
 SetupTold l a (logon.Final binding channel encrypts) p = FinalTold a p
 
+-- nothing that can be told
+abbrev pub NoneTold : (Progress → Type 0) → Type 0
+NoneTold tells = (p : Progress) → tells p → ⊥
+
 -- of any other event nothing
 abbrev pub ProgressTold : Option Logon → Answer → Progress → Type 0
 ProgressTold None a p = Stands p
@@ -45,7 +50,9 @@ pub record IsTold (c : Command) (l : Option Logon) (a : Answer) (r : Reply) : Ty
   pub acted : r.acted ≡ a.acted
   pub progress : ProgressTold l a r.progress
 
-abbrev pub IsStopped : EventError → Type 0
-IsStopped (Stopped count) = ⊤
-IsStopped Memory = ⊥
-IsStopped (DiskFault count) = ⊥
+-- why there is none: no progress that its connection could tell, a part that doesn't fit its field, a body that no frame holds; or no memory
+abbrev pub IsUntold : Command → Option Logon → Answer → WriteError → Type 0
+IsUntold c l a Memory = ⊤
+IsUntold c l a Unwritable = NoneTold (ProgressTold l a)
+    ⊎ ((FitsReply a.token (command_of c) (reply_of a.reply) → ⊥)
+    ⊎ (1113984 < length (reply_body a.token (command_of c) (reply_of a.reply))))

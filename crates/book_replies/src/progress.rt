@@ -1,6 +1,6 @@
 //! What a SESSION_SETUP comes to on its connection.
-ghost use Rattle.std.specs.Prelude.{◌≡◌, IfSome, Some};
-ghost use Rattle.book_replies.specs.Told.{FinalTold, InterimTold, ProgressTold};
+ghost use Rattle.std.specs.Prelude.{◌≡◌, MatchOption, Some};
+ghost use Rattle.book_replies.specs.Told.{FinalTold, InterimTold, NoneTold, ProgressTold};
 ghost use Rattle.command_values.specs.Meaning.{body_of};
 ghost use Rattle.world_defs.specs.Logon.{seals_in};
 
@@ -30,8 +30,9 @@ fn seals(body: &Body) -> bool
 }
 
 // In a binding the session signs, and else nobody does.
+#[tactic(auto, using(crate::proofs::Untold::no_signer))]
 fn interim(logon: &Logon) -> Option<Progress>
-    ensures { IfSome result (λ p. InterimTold logon.now p) }
+    ensures { MatchOption result (NoneTold (InterimTold logon.now)) (λ p. InterimTold logon.now p) }
 {
     if !logon.binds {
         return Some(Progress::Interim { signer: None });
@@ -44,8 +45,9 @@ fn interim(logon: &Logon) -> Option<Progress>
     }
 }
 
+#[tactic(auto, using(crate::proofs::Untold::no_keys, crate::proofs::Untold::no_number, crate::proofs::Untold::no_cipher))]
 fn final_of(answer: &Answer) -> Option<Progress>
-    ensures { IfSome result (λ p. FinalTold answer.now p) }
+    ensures { MatchOption result (NoneTold (FinalTold answer.now)) (λ p. FinalTold answer.now p) }
 {
     let Some(keys) = answer.keys else {
         return None;
@@ -65,7 +67,7 @@ fn final_of(answer: &Answer) -> Option<Progress>
 }
 
 fn setup_progress(logon: &Logon, answer: &Answer) -> Option<Progress>
-    ensures { IfSome result (λ p. ProgressTold (Some logon.now) answer.now p) }
+    ensures { MatchOption result (NoneTold (ProgressTold (Some logon.now) answer.now)) (λ p. ProgressTold (Some logon.now) answer.now p) }
 {
     if answer.reply.status == MORE_PROCESSING_REQUIRED {
         return interim(logon);
@@ -78,7 +80,7 @@ fn setup_progress(logon: &Logon, answer: &Answer) -> Option<Progress>
 
 /// What an answer comes to on its connection; none where it hasn't what that takes.
 pub(crate) fn progress_for(logon: &Option<Logon>, answer: &Answer) -> Option<Progress>
-    ensures { IfSome result (λ p. ProgressTold logon.now answer.now p) }
+    ensures { MatchOption result (NoneTold (ProgressTold logon.now answer.now)) (λ p. ProgressTold logon.now answer.now p) }
 {
     match logon {
         Some(logon) => setup_progress(logon, answer),

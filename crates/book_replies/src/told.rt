@@ -1,16 +1,15 @@
 //! The reply of an answer.
 ghost use Rattle.std.specs.Prelude.{◌≡◌, MatchResult};
-ghost use Rattle.book_replies.specs.Told.{IsStopped, IsTold};
+ghost use Rattle.book_replies.specs.Told.{IsTold, IsUntold};
 ghost use Rattle.command_values.specs.Meaning.{body_of};
 ghost use Rattle.conn_served.specs.Serving.{created_in};
 
 use crate::progress::{Logon, progress_for};
 use command_values::{Body, Command};
-use command_writing::reply_body;
+use command_writing::{WriteError, reply_body};
 use conn_ends::Progress;
 use conn_served::Reply;
 use server_effects::Answer;
-use server_events::EventError;
 use smb_bytes::Bytes;
 use std::alloc::Global;
 
@@ -46,24 +45,28 @@ fn reply_with(answer: &Answer, progress: Progress, body: Bytes) -> Reply
     }
 }
 
-/// The reply of an answer, with the body for the command that was asked. Where it can't be written, as where memory runs out behind
-/// the event, or where the answer hasn't what its progress takes, it counts as a server that stopped: `Stopped`, at a count of 0.
+/// The reply of an answer, with the body for the command that was asked. `Unwritable` comes only where the answer tells nothing that
+/// its connection can come to, a part of the body doesn't fit its field, or no frame holds the body; `Memory` may always come.
+#[tactic(auto, using(crate::proofs::Untold::untold, crate::proofs::Untold::nothing_told, crate::proofs::Untold::too_long))]
 pub fn reply_from(
     alloc: Global,
     command: &Command<'_>,
     logon: &Option<Logon>,
     answer: &Answer,
-) -> Result<Reply, EventError>
-    ensures { MatchResult result (λ r. IsTold command.now logon.now answer.now r) (λ e. IsStopped e) }
+) -> Result<Reply, WriteError>
+    ensures { MatchResult result (λ r. IsTold command.now logon.now answer.now r)
+        (λ e. IsUntold command.now logon.now answer.now e) }
 {
     let Some(progress) = progress_for(logon, answer) else {
-        return Err(EventError::Stopped(0));
+        return Err(WriteError::Unwritable);
     };
-    let Ok(body) = reply_body(alloc, answer.token.as_slice(), command, &answer.reply) else {
-        return Err(EventError::Stopped(0));
-    };
-    if body.len() > LONGEST {
-        return Err(EventError::Stopped(0));
+    match reply_body(alloc, answer.token.as_slice(), command, &answer.reply) {
+        Ok(body) => {
+            if body.len() > LONGEST {
+                return Err(WriteError::Unwritable);
+            }
+            Ok(reply_with(answer, progress, body))
+        }
+        Err(error) => Err(error),
     }
-    Ok(reply_with(answer, progress, body))
 }

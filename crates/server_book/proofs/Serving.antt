@@ -1,8 +1,8 @@
 -- What a connection is told, from what the server answers.
 use Rattle.std.proofs.Common.{◌≡◌, ℕ, ◌==◌, ◌||◌, Bool, true, false, if◌then◌else◌, List, [], ◌++◌, ◌⊎◌, inl, inr, refl, sym, ap, subst, ◌∙◌}
-use Rattle.std.proofs.Common.{Option, Some, None, is_some, Result, Ok, Err, MatchResult, IfOk}
+use Rattle.std.proofs.Common.{Option, Some, None, is_some, Result, Ok, Err, IfOk}
 use Rattle.std.proofs.lemmas.List.{append-nil}
-use Rattle.book_replies.specs.Told.{IsStopped, IsTold, ProgressTold, SetupTold}
+use Rattle.book_replies.specs.Told.{IsTold, ProgressTold, SetupTold}
 use Rattle.book_replies.specs.declared.progress.Logon.{Logon}
 use Rattle.command_defs.specs.ReplyBody.{reply_body}
 use Rattle.command_values.specs.Meaning.{body_of, command_of, message_of, reply_of}
@@ -10,7 +10,9 @@ use Rattle.command_values.specs.declared.command.Command.{Command}
 use Rattle.command_values.specs.declared.request.Message.{Message}
 use Rattle.conn_ends.specs.declared.conn.Progress.{Progress}
 use Rattle.conn_ends.specs.declared.conn.Progress.TheVariants as goes
-use Rattle.conn_served.specs.Serving.{IsNamed, IsPlain, IsProgress, IsServed, IsShort, Lacks, Replies, Serves, Showing}
+use Rattle.conn_served.specs.Serving.{Halts, IsNamed, IsPlain, IsProgress, IsServed, IsShort, Lacks, Loses, Replies, Serves, Showing}
+use Rattle.conn_served.specs.declared.error.ServeError.{ServeError}
+use Rattle.conn_served.specs.declared.error.ServeError.TheVariants as errors
 use Rattle.conn_served.specs.declared.serve.Reply.{Reply}
 use Rattle.exchange_defs.specs.Check.{check, has_session, owed}
 use Rattle.exchange_defs.specs.Commands as asks
@@ -26,6 +28,7 @@ use Rattle.server_asked.specs.Heard.{heard_event, without_token}
 use Rattle.server_asked.specs.declared.event.ServerEvent.{ServerEvent}
 use Rattle.server_asked.specs.declared.event.ServerEvent.TheVariants as events
 use Rattle.server_book.specs.Asked.{HasShape, LogonIs}
+use Rattle.server_book.specs.Telling.{TellsAnswer, refusal}
 use Rattle.server_core.specs.Shown.{HoldsServer, config_of, state_of}
 use Rattle.server_core.specs.declared.server.Server.{Server}
 use Rattle.server_effects.specs.declared.answering.Answer.{Answer}
@@ -188,9 +191,12 @@ module _ {D : Type 0} (told : Type 0) (seen : D → List ℕ) (may_leave : D →
       (records : List model.Record) (now : ℕ) (event : ServerEvent) (d : Command) (l : Option Logon) (a : Answer) (r : Reply)
       → IsServed event → HasShape event d → LogonIs s L event l → Mixed users users c s L records now event a → IsTold d l a r
       → Replies shown users s L records now event r
-  replied shown c show users s L records now (events.Accept connection) d l a r served shape known k t = absurd served
-  replied shown c show users s L records now (events.End connection) d l a r served shape known k t = absurd served
-  replied shown c show users s L records now events.Stop d l a r served shape known k t = absurd served
+  replied shown c show users s L records now (events.Accept connection) d l a r served shape known k t =
+      (sym t.named.status ∙ ap (λ (R : model.Reply). R.status) k.1, t.acted ∙ k.2, show _ L _ k.4)
+  replied shown c show users s L records now (events.End connection) d l a r served shape known k t =
+      (sym t.named.status ∙ ap (λ (R : model.Reply). R.status) k.1, t.acted ∙ k.2, show _ L _ k.4)
+  replied shown c show users s L records now events.Stop d l a r served shape known k t =
+      (sym t.named.status ∙ ap (λ (R : model.Reply). R.status) k.1, t.acted ∙ k.2, show _ L _ k.4)
   replied shown c show users s L records now (events.Message message) d l a r served shape known k t =
       let m = message_of message in
       let A = answer_to s now m m.command in
@@ -243,19 +249,49 @@ module _ {D : Type 0} (told : Type 0) (seen : D → List ℕ) (may_leave : D →
             steady k.4),
       )
 
+  -- ---- where the reply is lost
+
+  lost : (shown : Showing) (c : ServerState D) → Shows shown c → (users : List User) (s : model.Server) (L : Logons)
+      (records : List model.Record) (now : ℕ) (event : ServerEvent) (a : Answer) (acted : Bool) → IsServed event
+      → Mixed users users c s L records now event a → acted ≡ a.acted → Loses shown users s L records now event acted
+  lost shown c show users s L records now (events.Accept connection) a acted served k same = (same ∙ k.2, show _ L _ k.4)
+  lost shown c show users s L records now (events.End connection) a acted served k same = (same ∙ k.2, show _ L _ k.4)
+  lost shown c show users s L records now events.Stop a acted served k same = (same ∙ k.2, show _ L _ k.4)
+  lost shown c show users s L records now (events.Message message) a acted served k same =
+      let m = message_of message in
+      let A = answer_to s now m m.command in
+      let is : step s now (heard_event users L s (events.Message message)) ≡ A =
+      ap (λ (e : model.ServerEvent). step s now e) (plain_event users L s message served)
+      ∙ plain_answer s now m (command_of message.command) served in (
+        same ∙ (k.2 ∙ ap (λ (B : model.Answer). B.acted) is),
+        show A.server L (records ++ A.records)
+            (subst (λ (B : model.Answer). Holds told seen may_leave c B.server L (records ++ B.records)) is k.4),
+      )
+  lost shown c show users s L records now (events.Setup q) a acted served k same =
+      let m = setup_message users L s q in
+      let A = step s now (model.Heard m) in
+      let p : logon.Progress = logon.setup_progress q.form.binding A.reply in
+      let steady : progress_of (model.Heard m) A.reply ≡ p =
+      same_by q.fault q.form.binding A.reply served (λ status e. denied s now m (request_of users L s q) status refl e) in (
+        same ∙ k.2,
+        show A.server (setup_logons users L q now p) (records ++ A.records)
+            (subst (λ (x : logon.Progress). Holds told seen may_leave c A.server (setup_logons users L q now x) (records ++ A.records))
+            steady k.4),
+      )
+
   -- ---- where no memory was found
 
   as_before : (users : List User) (s : model.Server) (L : Logons) (now : ℕ) (event : ServerEvent) → IsServed event
       → Lacks users s L now event s []
-  as_before users s L now (events.Accept connection) served = absurd served
-  as_before users s L now (events.End connection) served = absurd served
-  as_before users s L now events.Stop served = absurd served
+  as_before users s L now (events.Accept connection) served = inl (refl, refl)
+  as_before users s L now (events.End connection) served = inl (refl, refl)
+  as_before users s L now events.Stop served = inl (refl, refl)
   as_before users s L now (events.Message message) served = inl (refl, refl)
   as_before users s L now (events.Setup q) served = inl (refl, refl)
 
   pub unchanged : (shown : Showing) (c : ServerState D) → Shows shown c → (users : List User) (s : model.Server) (L : Logons)
       (records : List model.Record) (now : ℕ) (event : ServerEvent) → IsServed event → Holds told seen may_leave c s L records
-      → Serves shown users s L records now event (Err Memory)
+      → Serves shown users s L records now event (Err errors.Memory)
   unchanged shown c show users s L records now event served h = (
     s,
     [],
@@ -267,10 +303,25 @@ module _ {D : Type 0} (told : Type 0) (seen : D → List ℕ) (may_leave : D →
   expired_alone : (shown : Showing) (c : ServerState D) → Shows shown c → (users : List User) (s : model.Server) (L : Logons)
       (records : List model.Record) (now : ℕ) (event : ServerEvent) → IsServed event
       → ExpiredAlone told seen may_leave c s L records now (heard_event users L s event)
-      → Serves shown users s L records now event (Err Memory)
-  expired_alone shown c show users s L records now (events.Accept connection) served x = absurd served
-  expired_alone shown c show users s L records now (events.End connection) served x = absurd served
-  expired_alone shown c show users s L records now events.Stop served x = absurd served
+      → Serves shown users s L records now event (Err errors.Memory)
+  expired_alone shown c show users s L records now (events.Accept connection) served x = (
+    x.1,
+    alone_records s now (model.Accept connection) x.0,
+    inr (x.0, x.2, refl),
+    show x.1 L (records ++ alone_records s now (model.Accept connection) x.0) x.3,
+  )
+  expired_alone shown c show users s L records now (events.End connection) served x = (
+    x.1,
+    alone_records s now (model.End connection) x.0,
+    inr (x.0, x.2, refl),
+    show x.1 L (records ++ alone_records s now (model.End connection) x.0) x.3,
+  )
+  expired_alone shown c show users s L records now events.Stop served x = (
+    x.1,
+    alone_records s now model.Stop x.0,
+    inr (x.0, x.2, refl),
+    show x.1 L (records ++ alone_records s now model.Stop x.0) x.3,
+  )
   expired_alone shown c show users s L records now (events.Message message) served x =
       let y = subst (λ (e : model.ServerEvent). ExpiredAlone told seen may_leave c s L records now e)
       (plain_event users L s message served) x in (
@@ -289,39 +340,49 @@ module _ {D : Type 0} (told : Type 0) (seen : D → List ℕ) (may_leave : D →
   lacking : (shown : Showing) (c : ServerState D) → Shows shown c → (users : List User) (s : model.Server) (L : Logons)
       (records : List model.Record) (now : ℕ) (event : ServerEvent) → IsServed event
       → Holds told seen may_leave c s L records ⊎ ExpiredAlone told seen may_leave c s L records now (heard_event users L s event)
-      → Serves shown users s L records now event (Err Memory)
+      → Serves shown users s L records now event (Err errors.Memory)
   lacking shown c show users s L records now event served (inl h) = unchanged shown c show users s L records now event served h
   lacking shown c show users s L records now event served (inr x) = expired_alone shown c show users s L records now event served x
 
   refusing_as : (faults : D → ℕ) (shown : Showing) (old c : ServerState D) → Shows shown c → (users : List User) (s : model.Server)
-      (L : Logons) (records : List model.Record) (now : ℕ) (event : ServerEvent) (M : Logons) (x : EventError) → IsServed event
+      (L : Logons) (records : List model.Record) (now : ℕ) (event : ServerEvent) (M : Logons) (x : EventError) (y : ServeError)
+      → IsServed event → y ≡ refusal c.stopped
       → EventRefused told seen may_leave faults x old c s L records now (heard_event users L s event) M
-      → Serves shown users s L records now event (Err x)
-  refusing_as faults shown old c show users s L records now event M Memory served k =
-      lacking shown c show users s L records now event served k.1
-  refusing_as faults shown old c show users s L records now event M (DiskFault count) served k = tt
-  refusing_as faults shown old c show users s L records now event M (Stopped count) served k = tt
+      → Serves shown users s L records now event (Err y)
+  refusing_as faults shown old c show users s L records now event M Memory y served is k =
+      subst (λ (e : ServeError). Serves shown users s L records now event (Err e))
+      (sym (is ∙ ap (λ (o : Option ℕ). refusal o) k.0)) (lacking shown c show users s L records now event served k.1)
+  refusing_as faults shown old c show users s L records now event M (DiskFault count) y served is k =
+      subst (λ (e : ServeError). Serves shown users s L records now event (Err e))
+      (sym (is ∙ ap (λ (o : Option ℕ). refusal o) k.1)) tt
+  refusing_as faults shown old c show users s L records now event M (Stopped count) y served is k =
+      subst (λ (e : ServeError). Serves shown users s L records now event (Err e))
+      (sym (is ∙ ap (λ (o : Option ℕ). refusal o) (ap (λ (d : ServerState D). d.stopped) k.1 ∙ k.0))) tt
 
   pub refusing : (faults : D → ℕ) (shown : Showing) (old c : ServerState D) → Shows shown c → (users v : List User) (s : model.Server)
-      (L : Logons) (records : List model.Record) (now : ℕ) (event : ServerEvent) (M : Logons) (x : EventError) → v ≡ users
-      → IsServed event → EventRefused told seen may_leave faults x old c s L records now (heard_event v L s event) M
-      → Serves shown users s L records now event (Err x)
-  refusing faults shown old c show users v s L records now event M x same served k =
-      refusing_as faults shown old c show users s L records now event M x served
+      (L : Logons) (records : List model.Record) (now : ℕ) (event : ServerEvent) (M : Logons) (x : EventError) (y : ServeError)
+      → v ≡ users → IsServed event → y ≡ refusal c.stopped
+      → EventRefused told seen may_leave faults x old c s L records now (heard_event v L s event) M
+      → Serves shown users s L records now event (Err y)
+  refusing faults shown old c show users v s L records now event M x y same served is k =
+      refusing_as faults shown old c show users s L records now event M x y served is
       (subst (λ (w : List User). EventRefused told seen may_leave faults x old c s L records now (heard_event w L s event) M) same k)
 
   pub answering : (shown : Showing) (c : ServerState D) → Shows shown c → (users v : List User) (s : model.Server) (L : Logons)
       (records : List model.Record) (now : ℕ) (event : ServerEvent) (d : Command) (l : Option Logon) (a : Answer)
-      (x : Result Reply EventError) → v ≡ users → c.tables.config.users ≡ users → IsServed event → HasShape event d
+      (x : Result Reply ServeError) → v ≡ users → c.tables.config.users ≡ users → IsServed event → HasShape event d
       → LogonIs s L event l → StepAnswers told seen may_leave c s L records now event a (step s now (heard_event v L s event))
-      → MatchResult x (λ r. IsTold d l a r) (λ e. IsStopped e) → Serves shown users s L records now event x
+      → TellsAnswer d l a x → Serves shown users s L records now event x
   answering shown c show users v s L records now event d l a (Ok r) same config served shape known k t =
       replied shown c show users s L records now event d l a r served shape known
       (subst (λ (w : List User). Mixed w users c s L records now event a) config
       (subst (λ (w : List User). Mixed c.tables.config.users w c s L records now event a) same k)) t
-  answering shown c show users v s L records now event d l a (Err Memory) same config served shape known k t = absurd t
-  answering shown c show users v s L records now event d l a (Err (DiskFault count)) same config served shape known k t = absurd t
-  answering shown c show users v s L records now event d l a (Err (Stopped count)) same config served shape known k t = tt
+  answering shown c show users v s L records now event d l a (Err errors.Memory) same config served shape known k t = absurd t
+  answering shown c show users v s L records now event d l a (Err (errors.Unanswered acted)) same config served shape known k t =
+      lost shown c show users s L records now event a acted served
+      (subst (λ (w : List User). Mixed w users c s L records now event a) config
+      (subst (λ (w : List User). Mixed c.tables.config.users w c s L records now event a) same k)) t
+  answering shown c show users v s L records now event d l a (Err (errors.Stopped count)) same config served shape known k t = absurd t
 
 -- what a server shows to its connections
 abbrev pub ShownBy : {D : Type 0} → Type 0 → (D → List ℕ) → (D → List ℕ → Type 0) → Server D → List User → model.Server → Logons
@@ -335,7 +396,95 @@ showing told seen may_leave x users e t M rs k = (e, k)
 
 -- ---- a reply is short
 
-pub told_short : (d : Command) (l : Option Logon) (a : Answer) (x : Result Reply EventError)
-    → MatchResult x (λ r. IsTold d l a r) (λ e. IsStopped e) → IfOk x (λ r. IsShort r)
+pub told_short : (d : Command) (l : Option Logon) (a : Answer) (x : Result Reply ServeError) → TellsAnswer d l a x → IfOk x (λ r. IsShort r)
 told_short d l a (Ok r) t = t.short
 told_short d l a (Err e) t = tt
+
+-- ---- where it stops
+
+pub told_goes : (d : Command) (l : Option Logon) (a : Answer) (x : Result Reply ServeError) (old new : Option ℕ) → TellsAnswer d l a x
+    → old ≡ None → new ≡ None → Halts old new x
+told_goes d l a (Ok r) old new t was is = (was, is)
+told_goes d l a (Err errors.Memory) old new t was is = absurd t
+told_goes d l a (Err (errors.Unanswered acted)) old new t was is = (was, is)
+told_goes d l a (Err (errors.Stopped count)) old new t was is = absurd t
+
+-- an event that was answered stops nothing
+pub told_stops : (d : Command) (l : Option Logon) (a : Answer) (x : Result Reply ServeError) (count : ℕ) (new : Option ℕ)
+    → TellsAnswer d l a x → x ≡ Err (errors.Stopped count) → new ≡ Some count
+told_stops d l a x count new t is = absurd (subst (λ (y : Result Reply ServeError). TellsAnswer d l a y) is t)
+
+none_some : (o : Option ℕ) (n : ℕ) → o ≡ None → o ≡ Some n → ⊥
+none_some o n e f = apart n (sym e ∙ f)
+  where
+    apart : (n : ℕ) → None ≡ Some n → ⊥
+    apart n e = absurd cc
+
+halts_by : (old new o : Option ℕ) → new ≡ o → old ≡ None → Halts old new (Err (refusal o))
+halts_by old new None is was = (was, is)
+halts_by old new (Some count) is was = (is, λ n e. absurd (none_some old n was e))
+
+pub refused_halts : (old new : Option ℕ) (y : ServeError) → y ≡ refusal new → old ≡ None → Halts old new (Err y)
+refused_halts old new y is was =
+    subst (λ (e : ServeError). Halts old new (Err e)) (sym is) (halts_by old new new refl was)
+
+stops_by : (o : Option ℕ) (count : ℕ) → refusal o ≡ errors.Stopped count → o ≡ Some count
+stops_by None count e = absurd cc
+stops_by (Some n) count e = ap (λ (x : ServeError). stop_in x) e
+  where
+    stop_in : ServeError → Option ℕ
+    stop_in errors.Memory = None
+    stop_in (errors.Unanswered acted) = None
+    stop_in (errors.Stopped k) = Some k
+
+error_in : ServeError → Result Reply ServeError → ServeError
+error_in d (Ok r) = d
+error_in d (Err e) = e
+
+pub refused_stops : (new : Option ℕ) (y : ServeError) (count : ℕ) (x : Result Reply ServeError) → y ≡ refusal new → x ≡ Err y
+    → x ≡ Err (errors.Stopped count) → new ≡ Some count
+unfolding error_in
+refused_stops new y count x is made stop =
+    stops_by new count (sym is ∙ ap (λ (r : Result Reply ServeError). error_in y r) (sym made ∙ stop))
+
+-- ---- an event of a server that stopped before, and one that finds no room
+
+one_count : (o : Option ℕ) (count n : ℕ) → Some count ≡ o → o ≡ Some n → count ≡ n
+one_count o count n e f = ap (λ (x : Option ℕ). count_in x) (e ∙ f)
+  where
+    count_in : Option ℕ → ℕ
+    count_in None = 0
+    count_in (Some k) = k
+
+pub halts_stopped : (o : Option ℕ) (count : ℕ) → Some count ≡ o → Halts o o (Err (errors.Stopped count))
+halts_stopped o count e = (sym e, λ n f. one_count o count n e f)
+
+abbrev fails_as : ServeError → Result Reply ServeError
+fails_as e = Err e
+
+pub stops_same : (o : Option ℕ) (count n : ℕ) → Some count ≡ o → o ≡ Some n → fails_as (errors.Stopped count) ≡ fails_as (errors.Stopped n)
+stops_same o count n e f = ap (λ (k : ℕ). fails_as (errors.Stopped k)) (one_count o count n e f)
+
+pub stops_goes : (o : Option ℕ) (count n : ℕ) → Some count ≡ o → fails_as (errors.Stopped count) ≡ fails_as (errors.Stopped n) → o ≡ Some n
+stops_goes o count n e f = sym e ∙ ap (λ (r : Result Reply ServeError). stop_of r) f
+  where
+    stop_of : Result Reply ServeError → Option ℕ
+    stop_of (Ok r) = None
+    stop_of (Err errors.Memory) = None
+    stop_of (Err (errors.Unanswered acted)) = None
+    stop_of (Err (errors.Stopped k)) = Some k
+
+pub room_halts : (o : Option ℕ) → None ≡ o → Halts o o (Err errors.Memory)
+room_halts o e = (sym e, sym e)
+
+memory_apart : (count : ℕ) → errors.Memory ≡ errors.Stopped count → ⊥
+memory_apart count e = absurd cc
+
+pub room_stops : (o : Option ℕ) (count : ℕ) → fails_as errors.Memory ≡ fails_as (errors.Stopped count) → o ≡ Some count
+unfolding error_in
+room_stops o count e = absurd (memory_apart count (ap (λ (r : Result Reply ServeError). error_in errors.Memory r) e))
+
+-- one that goes on hasn't stopped
+pub goes_not : (o : Option ℕ) (count : ℕ) (r : Result Reply ServeError) (new : Option ℕ) → None ≡ o → o ≡ Some count
+    → (r ≡ fails_as (errors.Stopped count)) × (new ≡ Some count)
+goes_not o count r new e f = absurd (none_some o count (sym e) f)

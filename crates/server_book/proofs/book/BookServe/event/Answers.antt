@@ -1,18 +1,20 @@
-use Rattle.server_book.proofs.Serving.{ShownBy, showing, unchanged}
+use Rattle.server_book.proofs.Serving.{goes_not, halts_stopped, stops_goes, stops_same}
 use Rattle.server_book.proofs.book.BookServe.event.Goals as goal
 
-pub returns-in-Ok : goal.returns-in-Ok
-returns-in-Ok g c = record {
-  short = c.carry.ensures.short;
-  serves = λ users s L records h served.
-      c.carry.ensures.serves users s L records h served c.shape_in-command.ensures (c.logon_in-logon.ensures s L records h.1);
+pub returns-in-Some : goal.returns-in-Some
+returns-in-Some g c = record {
+  short = tt;
+  serves = λ users s L records h served. tt;
+  halts = λ users s L records h. halts_stopped _ _ c.in-Some.ensures;
+  halted = λ count was. (stops_same _ _ count c.in-Some.ensures was, was);
+  stops = λ count stop. stops_goes _ _ count c.in-Some.ensures stop;
 }
 
-pub returns-in-Err : goal.returns-in-Err
-returns-in-Err g c = record {
-  short = tt;
-  serves = λ users s L records h served.
-      unchanged g.D.Disk.told g.D.Disk.seen g.D.Disk.may_leave
-      (ShownBy g.D.Disk.told g.D.Disk.seen g.D.Disk.may_leave c.args.self.now.server users) c.args.self.now.server.state
-      (showing g.D.Disk.told g.D.Disk.seen g.D.Disk.may_leave c.args.self.now.server users h.0) users s L records _ _ served h.1;
+pub returns-in-None : goal.returns-in-None
+returns-in-None g c = record {
+  short = c.go_on.ensures.short;
+  serves = λ users s L records h served. c.go_on.ensures.serves users s L records h served;
+  halts = λ users s L records h. c.go_on.ensures.halts users s L records h;
+  halted = λ count was. goes_not _ count _ _ c.in-None.ensures was;
+  stops = λ count stop. c.go_on.ensures.stops count stop;
 }
