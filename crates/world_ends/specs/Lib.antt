@@ -1,0 +1,5 @@
+pub mod Tests
+pub mod Settings
+pub mod Channels
+pub mod Places
+pub mod Shown

@@ -1,0 +1,11 @@
+//! One client, one server and what is on its way between them: what both ends of each connection are in code, and how it shows a world of
+//! the exchange over bytes.
+#![tactic(auto)]
+
+mod events;
+mod sides;
+mod world;
+
+pub use events::{WorldError, WorldEvent};
+pub use sides::{Channel, ClientSide, Down, Up};
+pub use world::{Marks, Places, World};

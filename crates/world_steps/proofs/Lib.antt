@@ -1,0 +1,13 @@
+pub mod Onward
+pub mod Client
+pub mod Submitted
+pub mod Closing
+pub mod Dropped
+pub mod Alike
+pub mod CutOff
+pub mod Restarted
+pub mod Refusing
+pub mod Setting
+pub mod Finished
+pub mod Flipping
+pub mod Tampered

@@ -1,0 +1,7 @@
+use Rattle.std.proofs.Common.{subst, sym}
+use Rattle.client_core.specs.Shown.{ShowsClient}
+use Rattle.client_core.specs.declared.client.Client.{Client as Core}
+use Rattle.world_steps.proofs.happening.taken_by.Goals as goal
+
+pub returns : goal.returns
+returns c = λ d s. c.taken.ensures d (subst (λ (x : Core). ShowsClient x d) (sym c.client.ensures) s)

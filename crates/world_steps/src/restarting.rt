@@ -1,0 +1,81 @@
+// The server starts anew on its disk.
+ghost use Rattle.std.specs.Prelude.{◌++◌, List, MatchResult, OnOk};
+ghost use Rattle.exchange_defs.specs.Fold.{recovered_from, recovery_records};
+ghost use Rattle.exchange_defs.specs.State as model;
+ghost use Rattle.token_defs.specs.Acceptor.{User};
+ghost use Rattle.world_book.specs.Held.{Holds, HoldsBook};
+ghost use Rattle.world_defs.specs.Ends.{Logons};
+ghost use Rattle.world_ends.specs.declared.events.WorldEvent.TheVariants as events;
+ghost use Rattle.world_steps.specs.Lists.{ChangedAll, ClosesServer};
+ghost use Rattle.world_steps.specs.Parts.{IsMemory, Restarts};
+ghost use Rattle.world_steps.specs.Steps.{Steps};
+
+use crate::moments::later;
+use smb_io::MemDisk;
+use std::alloc::AllocError;
+use world_book::{Book, restart as begin_anew};
+use world_ends::{Channel, World, WorldError};
+
+/// Each server's end closes.
+fn close_servers(channels: &mut Vec<Channel>)
+    ensures { ChangedAll ClosesServer channels.old.items channels.new.items }
+{
+    for channel in channels.iter_mut() {
+        channel.close_server();
+    }
+}
+
+/// The server of a disk begins anew on it.
+fn renew(place: &mut Option<Book<MemDisk>>, book: Book<MemDisk>) -> Result<(), AllocError>
+    ensures { OnOk result ((users : List User) (s : model.Server) (L : Logons) (records : List model.Record) → Holds book users s L records
+        → HoldsBook place.new users (recovered_from s records) L (records ++ recovery_records records)) }
+{
+    match begin_anew(book) {
+        Ok(new) => {
+            *place = Some(new);
+            Ok(())
+        }
+        Err(error) => Err(error),
+    }
+}
+
+/// Where memory runs out there is no server any more.
+fn restart_book(place: &mut Option<Book<MemDisk>>) -> Result<(), AllocError>
+    ensures { OnOk result ((users : List User) (s : model.Server) (L : Logons) (records : List model.Record)
+        → HoldsBook place.old users s L records
+        → HoldsBook place.new users (recovered_from s records) L (records ++ recovery_records records)) }
+{
+    match place.take() {
+        Some(book) => renew(place, book),
+        None => Err(AllocError),
+    }
+}
+
+/// Each server's end closes, and the server stands at what its records stand for.
+pub fn restart_server(
+    book: &mut Option<Book<MemDisk>>,
+    channels: &mut Vec<Channel>,
+) -> Result<(), WorldError>
+    ensures { MatchResult result (λ _. Restarts book.old channels.old.items book.new channels.new.items) (λ e. IsMemory e) }
+{
+    match restart_book(book) {
+        Ok(()) => {
+            close_servers(channels);
+            Ok(())
+        }
+        Err(_) => Err(WorldError::Memory),
+    }
+}
+
+/// The server starts anew.
+pub fn restart(world: &mut World) -> Result<(), WorldError>
+    ensures { Steps world.old events.Restart world.new result }
+{
+    match restart_server(&mut world.book, &mut world.channels) {
+        Ok(()) => {
+            later(world, 1);
+            Ok(())
+        }
+        Err(why) => Err(why),
+    }
+}
