@@ -9,7 +9,7 @@ mod serving;
 pub use clock::SharedClock;
 pub use ended::{ConnEnd, Ended};
 pub use lines::push_lines;
-pub use serving::{Roll, Service, serve_here};
+pub use serving::{Roll, Service, entered, serve_here};
 
 #[cfg(test)]
 mod tests;

@@ -53,7 +53,7 @@ fn put_end<X: Drop>(ends: &mut Vec<Option<X>>, place: usize, end: X)
 
 /// Takes in what a served link left: its seat's history is kept, and its end stands at its place. True where no further link is to be
 /// accepted behind it.
-fn entered<B: Book, S: Service<B>>(
+pub fn entered<B: Book, S: Service<B>>(
     book: &SharedBook<B>,
     service: &S,
     roll: &mut Roll<B, S::End>,

@@ -1,0 +1,14 @@
+use Rattle.std.proofs.Common.{◌≡◌, vec_len}
+use Rattle.std.specs.List.{All}
+use Rattle.shared_book.specs.Words.{view_of, IsSeatOf}
+use Rattle.server_run.specs.Serving.{AreServed}
+use Rattle.link_threads.proofs.crew.join_all.Given as goal
+
+abbrev pub invariant-loop-child : goal.invariant-loop-child
+invariant-loop-child g l =
+    IsSeatOf l.book l.crew.roll.seat
+    × AreServed (g.S.Service.serves l.service) l.crew.roll.ends.items (view_of l.crew.roll.seat).kept
+    × All (λ c. IsSeatOf l.book c.handle.promise.seat.value × (c.handle.promise.service.value ≡ l.service)) l.crew.running.items
+
+abbrev pub decreases-loop-child : goal.decreases-loop-child
+decreases-loop-child g l = vec_len l.crew.running
