@@ -31,6 +31,7 @@ creates_said (Some says) = creates_in says
 
 abbrev pub given_with : Given → Value → Given
 given_with g (settings.Cipher cipher) = record g { cipher = Some cipher }
+given_with g (settings.Signing signing) = record g { signing = Some signing }
 given_with g (settings.Room room) = record g { room = Some room }
 given_with g (settings.User user) = record g { users = g.users ++ user ∷ [] }
 given_with g (settings.Share share) = record g { share = Some share }
@@ -46,7 +47,7 @@ given_said g None = g
 given_said g (Some says) = given_after g says
 
 abbrev pub nothing_given : Given
-nothing_given = record { cipher = None; room = None; users = []; share = None; channels = None; begun = false }
+nothing_given = record { cipher = None; signing = None; room = None; users = []; share = None; channels = None; begun = false }
 
 -- ---- one line
 

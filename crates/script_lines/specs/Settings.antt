@@ -3,6 +3,7 @@ use Rattle.std.specs.Prelude.{ℕ, List, [], ◌∷◌, codes, Option, Some, Non
 use Rattle.script_words.specs.declared.values.Cipher.{Cipher}
 use Rattle.script_words.specs.declared.values.Cipher.TheVariants as ciphers
 use Rattle.script_words.specs.declared.values.Given.{Given}
+use Rattle.script_words.specs.declared.values.Signing.TheVariants as signings
 use Rattle.script_words.specs.declared.values.User.{User}
 use Rattle.script_lines.specs.declared.settings.Settings.{Settings}
 
@@ -15,10 +16,11 @@ abbrev pub users_or : List User → List User
 users_or [] = record { name = codes "user"; password = codes "Password" } ∷ []
 users_or (user ∷ more) = user ∷ more
 
--- AES-GCM first, a room of 268,435,456 bytes, the share `data`, two channels
+-- AES-128-GCM and AES-CMAC first, a room of 268,435,456 bytes, the share `data`, two channels
 unfoldable pub settings_of : Given → Settings
 settings_of g = record {
   cipher = or_else ciphers.Gcm g.cipher;
+  signing = or_else signings.Cmac g.signing;
   room = or_else 268_435_456 g.room;
   users = users_or g.users;
   share = or_else (codes "data") g.share;

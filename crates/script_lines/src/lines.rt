@@ -81,6 +81,7 @@ impl Progress {
             creates: Vec::new(alloc),
             given: Given {
                 cipher: None,
+                signing: None,
                 room: None,
                 users: UserList::new(alloc),
                 share: None,
@@ -148,6 +149,7 @@ fn give(given: &mut Given, setting: Setting) -> Result<(), AllocError>
 {
     match setting {
         Setting::Cipher(cipher) => given.cipher = Some(cipher),
+        Setting::Signing(signing) => given.signing = Some(signing),
         Setting::Room(room) => given.room = Some(room),
         Setting::User(user) => given.users.push(user)?,
         Setting::Share(share) => given.share = Some(share),

@@ -2,7 +2,7 @@
 ghost use Rattle.std.specs.Prelude.{◌≡◌, codes, IfOk};
 ghost use Rattle.script_lines.specs.Settings as settings;
 
-use script_words::{Cipher, Given, User, UserList};
+use script_words::{Cipher, Given, Signing, User, UserList};
 use smb_bytes::Text;
 use std::alloc::{AllocError, Global};
 
@@ -15,6 +15,8 @@ const CHANNELS: u32 = 2;
 pub struct Settings {
     /// What the client offers first.
     pub cipher: Cipher,
+    /// What the client offers first to sign with.
+    pub signing: Signing,
     /// How many bytes all files may have.
     pub room: u64,
     /// At least one. A client logs on as the first.
@@ -24,7 +26,7 @@ pub struct Settings {
     pub channels: u32,
 }
 
-/// The settings that were given, and for each other its default: AES-GCM, 268,435,456 bytes, `user` with the password `Password`, the
+/// The settings that were given, and for each other its default: AES-128-GCM, AES-CMAC, 268,435,456 bytes, `user` with the password `Password`, the
 /// share `data`, two channels.
 #[tactic(auto, unfolding(crate::specs::Settings::settings_of))]
 pub fn with_defaults(alloc: Global, given: Given) -> Result<Settings, AllocError>
@@ -34,6 +36,7 @@ pub fn with_defaults(alloc: Global, given: Given) -> Result<Settings, AllocError
     let share = share_or(alloc, given.share)?;
     Ok(Settings {
         cipher: given.cipher.unwrap_or(Cipher::Gcm),
+        signing: given.signing.unwrap_or(Signing::Cmac),
         room: given.room.unwrap_or(ROOM),
         users,
         share,

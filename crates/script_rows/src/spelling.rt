@@ -14,13 +14,14 @@ pub fn code_text(code: Code) -> &'static str {
     }
 }
 
-/// `CIPHER ROOM SHARE CHANNELS NAME:PASSWORD..`
+/// `CIPHER SIGNING ROOM SHARE CHANNELS NAME:PASSWORD..`
 pub fn settings_text(alloc: Global, settings: &Settings) -> Result<String> {
     let cipher = settings.cipher;
+    let signing = settings.signing;
     let room = settings.room;
     let share = settings.share.as_str();
     let channels = settings.channels;
-    let mut text = format!(in alloc; "{cipher:?} {room} {share} {channels}")?;
+    let mut text = format!(in alloc; "{cipher:?} {signing:?} {room} {share} {channels}")?;
     for user in settings.users.as_slice() {
         text.push_str(" ")?;
         text.push_str(user.name.as_str())?;

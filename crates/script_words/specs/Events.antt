@@ -5,7 +5,7 @@ use Rattle.script_words.specs.Outcome.{◌>>=◌}
 use Rattle.script_words.specs.Parts.{Reading, word, number, bytes, given_by}
 use Rattle.script_words.specs.declared.values.Code.TheVariants.{BadLine}
 use Rattle.script_words.specs.declared.values.ScriptEvent.{ScriptEvent}
-use Rattle.script_words.specs.declared.values.ScriptEvent.TheVariants.{Open, Push, Serve, Take, Cut, Drop, Restart, Crash, Forge, Flip, Link, Settle}
+use Rattle.script_words.specs.declared.values.ScriptEvent.TheVariants.{Open, Push, Serve, Take, Cut, Drop, Restart, Crash, Forge, Flip, Wait, Link, Settle}
 
 -- an event on a connection alone
 unfoldable pub on_connection : (ℕ → ScriptEvent) → List (List ℕ) → Reading ScriptEvent
@@ -61,11 +61,18 @@ flips words = do
   mask ← bytes 1_114_112 at.1
   Ok (Flip k.0 way.0 at.0 mask.0, mask.1)
 
+-- `wait MS`: so many milliseconds pass
+unfoldable pub waits : List (List ℕ) → Reading ScriptEvent
+waits words = do
+  time ← number 1_000_000_000 words
+  Ok (Wait time.0, time.1)
+
 -- the events that have more or fewer words than a connection's number
 unfoldable pub other_event : List ℕ → List (List ℕ) → Reading ScriptEvent
 other_event name words =
     if bytes_eq name (codes "restart") then Ok (Restart, words)
     else if bytes_eq name (codes "settle") then Ok (Settle, words)
+    else if bytes_eq name (codes "wait") then waits words
     else if bytes_eq name (codes "crash") then crashes words
     else if bytes_eq name (codes "forge") then forges words
     else if bytes_eq name (codes "flip") then flips words

@@ -14,6 +14,8 @@ use Rattle.script_words.specs.declared.values.Cipher.TheVariants as ciphers
 use Rattle.script_words.specs.declared.values.Given.{Given}
 use Rattle.script_words.specs.declared.values.Setting.{Setting}
 use Rattle.script_words.specs.declared.values.Setting.TheVariants as settings
+use Rattle.script_words.specs.declared.values.Signing.{Signing}
+use Rattle.script_words.specs.declared.values.Signing.TheVariants as signings
 use Rattle.script_words.specs.declared.values.User.{User}
 
 abbrev pub serves : Command → Bool
@@ -34,14 +36,30 @@ cipher_of text =
     if bytes_eq text (codes "none") then Some ciphers.None
     else if bytes_eq text (codes "ccm") then Some ciphers.Ccm
     else if bytes_eq text (codes "gcm") then Some ciphers.Gcm
+    else if bytes_eq text (codes "ccm256") then Some ciphers.Ccm256
+    else if bytes_eq text (codes "gcm256") then Some ciphers.Gcm256
     else None
 
--- `cipher none|ccm|gcm`
+-- `cipher none|ccm|gcm|ccm256|gcm256`
 unfoldable pub cipher : List (List ℕ) → Reading Setting
 cipher words = do
   first ← word words
   chosen ← given_by (cipher_of first.0) first.1
   Ok (settings.Cipher chosen.0, chosen.1)
+
+-- what the client offers first to sign with
+unfoldable pub signing_of : List ℕ → Option Signing
+signing_of text =
+    if bytes_eq text (codes "cmac") then Some signings.Cmac
+    else if bytes_eq text (codes "gmac") then Some signings.Gmac
+    else None
+
+-- `signing cmac|gmac`
+unfoldable pub signing : List (List ℕ) → Reading Setting
+signing words = do
+  first ← word words
+  chosen ← given_by (signing_of first.0) first.1
+  Ok (settings.Signing chosen.0, chosen.1)
 
 -- `room N`: how many bytes all files may have
 unfoldable pub room : List (List ℕ) → Reading Setting
@@ -96,6 +114,7 @@ unless refused reading = if refused then Err BadLine else reading
 unfoldable pub setting : Command → Given → List ℕ → List (List ℕ) → Reading Setting
 setting command given name words =
     if bytes_eq name (codes "cipher") then unless (given.begun || is_some given.cipher) (cipher words)
+    else if bytes_eq name (codes "signing") then unless (given.begun || is_some given.signing) (signing words)
     else if bytes_eq name (codes "room") then unless (given.begun || is_some given.room) (room words)
     else if bytes_eq name (codes "user") then unless (given.begun || (not (length given.users == 0) && not (serves command))) (user given.users words)
     else if bytes_eq name (codes "share") then unless (given.begun || is_some given.share) (share words)

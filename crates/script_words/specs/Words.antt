@@ -15,8 +15,8 @@ use Rattle.script_words.specs.declared.values.Statement.TheVariants.{Setting, Op
 
 -- the first word of a setting
 abbrev pub names_setting : List ℕ → Bool
-names_setting name = bytes_eq name (codes "cipher") || (bytes_eq name (codes "room") || (bytes_eq name (codes "user")
-    || (bytes_eq name (codes "share") || bytes_eq name (codes "channels"))))
+names_setting name = bytes_eq name (codes "cipher") || (bytes_eq name (codes "signing") || (bytes_eq name (codes "room")
+    || (bytes_eq name (codes "user") || (bytes_eq name (codes "share") || bytes_eq name (codes "channels")))))
 
 unfoldable pub setting : Command → Given → List ℕ → List (List ℕ) → Reading Statement
 setting command given name words = do

@@ -12,6 +12,9 @@ use std::alloc::Global;
 /// The greatest frame, in bytes: no forged message is longer.
 const LARGEST_FRAME: usize = 1_114_112;
 
+/// The most milliseconds of one wait.
+const LONGEST_WAIT: u64 = 1_000_000_000;
+
 #[tactic(auto, unfolding(crate::specs::Events::event, crate::specs::Events::on_connection))]
 pub(crate) fn event(alloc: Global, name: &[u8], line: &mut Pieces<'_>) -> Reading<ScriptEvent>
     ensures { Gives (λ e. (e, line.new)) result (events.event name.now line.old) }
@@ -43,6 +46,8 @@ fn other(alloc: Global, name: &[u8], line: &mut Pieces<'_>) -> Reading<ScriptEve
         Ok(ScriptEvent::Restart)
     } else if is(name, "settle") {
         Ok(ScriptEvent::Settle)
+    } else if is(name, "wait") {
+        wait(line)
     } else if is(name, "crash") {
         crash(line)
     } else if is(name, "forge") {
@@ -60,6 +65,14 @@ fn connection(line: &mut Pieces<'_>) -> Reading<u32>
 {
     let number = number(255, line)?;
     Ok(number as u32)
+}
+
+#[tactic(auto, unfolding(crate::specs::Events::waits))]
+fn wait(line: &mut Pieces<'_>) -> Reading<ScriptEvent>
+    ensures { Gives (λ e. (e, line.new)) result (events.waits line.old) }
+{
+    let milliseconds = number(LONGEST_WAIT, line)? as u32;
+    Ok(ScriptEvent::Wait(milliseconds))
 }
 
 #[tactic(auto, unfolding(crate::specs::Events::crashes))]

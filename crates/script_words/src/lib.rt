@@ -15,6 +15,6 @@ pub use numbers::number_to;
 pub use pieces::Pieces;
 pub use texts::is_text;
 pub use values::{
-    Cipher, Code, Command, Fault, Given, ScriptEvent, Setting, Statement, User, UserList,
+    Cipher, Code, Command, Fault, Given, ScriptEvent, Setting, Signing, Statement, User, UserList,
 };
 pub use words::statement;

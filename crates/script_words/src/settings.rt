@@ -9,7 +9,7 @@ ghost use Rattle.script_words.specs.declared.values.Fault.TheVariants.{Refused};
 
 use crate::parts::{Reading, is, is_ascii, number, short_text, word};
 use crate::pieces::Pieces;
-use crate::values::{Cipher, Code, Command, Fault, Given, Setting, User};
+use crate::values::{Cipher, Code, Command, Fault, Given, Setting, Signing, User};
 use smb_bytes::Text;
 use std::alloc::Global;
 
@@ -51,6 +51,9 @@ pub(crate) fn setting(
     if is(name, "cipher") {
         unless(given.begun || given.cipher.is_some())?;
         cipher(line)
+    } else if is(name, "signing") {
+        unless(given.begun || given.signing.is_some())?;
+        signing(line)
     } else if is(name, "room") {
         unless(given.begun || given.room.is_some())?;
         room(line)
@@ -89,6 +92,24 @@ fn cipher(line: &mut Pieces<'_>) -> Reading<Setting>
         Ok(Setting::Cipher(Cipher::Ccm))
     } else if is(word, "gcm") {
         Ok(Setting::Cipher(Cipher::Gcm))
+    } else if is(word, "ccm256") {
+        Ok(Setting::Cipher(Cipher::Ccm256))
+    } else if is(word, "gcm256") {
+        Ok(Setting::Cipher(Cipher::Gcm256))
+    } else {
+        Err(Fault::Refused(Code::BadLine))
+    }
+}
+
+#[tactic(auto, unfolding(crate::specs::Settings::signing, crate::specs::Settings::signing_of))]
+fn signing(line: &mut Pieces<'_>) -> Reading<Setting>
+    ensures { Gives (λ s. (s, line.new)) result (settings.signing line.old) }
+{
+    let word = word(line)?;
+    if is(word, "cmac") {
+        Ok(Setting::Signing(Signing::Cmac))
+    } else if is(word, "gmac") {
+        Ok(Setting::Signing(Signing::Gmac))
     } else {
         Err(Fault::Refused(Code::BadLine))
     }

@@ -39,6 +39,15 @@ pub enum Cipher {
     None,
     Ccm,
     Gcm,
+    Ccm256,
+    Gcm256,
+}
+
+/// What the client offers first to sign with.
+#[derive(Clone, Copy, PartialEq, Eq, Debug)]
+pub enum Signing {
+    Cmac,
+    Gmac,
 }
 
 /// One who may log on. The name is ASCII; either has 1 to 256 characters.
@@ -53,6 +62,7 @@ pub type UserList = ListOf<User>;
 #[derive(Drop, Debug)]
 pub enum Setting {
     Cipher(Cipher),
+    Signing(Signing),
     /// How many bytes all files may have.
     Room(u64),
     User(User),
@@ -89,6 +99,8 @@ pub enum ScriptEvent {
         at: u32,
         mask: Bytes,
     },
+    /// So many milliseconds pass.
+    Wait(u32),
     /// It is opened, then served and taken until its channel is ready.
     Link(u32),
     /// All is served and taken until every operation is settled.
@@ -108,6 +120,7 @@ pub enum Statement {
 #[derive(Drop)]
 pub struct Given {
     pub cipher: Option<Cipher>,
+    pub signing: Option<Signing>,
     pub room: Option<u64>,
     pub users: UserList,
     pub share: Option<Text>,

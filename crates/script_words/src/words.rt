@@ -54,6 +54,7 @@ fn names_setting(name: &[u8]) -> bool
     ensures { result ≡ words.names_setting name.now }
 {
     is(name, "cipher")
+        || is(name, "signing")
         || is(name, "room")
         || is(name, "user")
         || is(name, "share")
