@@ -1,6 +1,5 @@
 // A world begins.
 use crate::book::{begin as begin_book, copy_of};
-use crate::drawing::draw_8;
 use crate::events::WorldError;
 use crate::sides::Channel;
 use crate::world::{Marks, World};
@@ -9,6 +8,7 @@ use line_ends::ClientConfig;
 use server_checks::Config;
 use session_defs::{Keys, Signer};
 use std::alloc::{AllocError, Global};
+use world_draws::draw_8;
 
 /// Connections count from 0 to 255.
 const CHANNELS: usize = 256;
@@ -78,5 +78,7 @@ pub fn begin(
         channels,
         served: Vec::new(alloc),
         marks,
+        lowest: 1,
+        steps: None,
     })
 }

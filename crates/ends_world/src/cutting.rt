@@ -1,5 +1,6 @@
 // The client closes its end.
 use crate::events::WorldError;
+use crate::noting::{Happened, Step};
 use crate::world::World;
 use client_event::{Act, Event};
 use client_outcomes::Why;
@@ -60,8 +61,7 @@ pub(crate) fn cut(world: &mut World, k: u32) -> Result<(), WorldError> {
         return Err(WorldError::NoChannel(k));
     }
     world.cut_end(k)?;
-    world.later();
-    Ok(())
+    world.done(Step::of(Happened::Cut, k, 0))
 }
 
 /// No session can be had, where none is live: all is given up.
@@ -72,6 +72,5 @@ pub(crate) fn finish(world: &mut World, why: Refusal) -> Result<(), WorldError> 
     let _ = world.happen(Event::Finish {
         why: Why::NoSession(why),
     })?;
-    world.later();
-    Ok(())
+    world.done(Step::of(Happened::Finished, 0, 0))
 }

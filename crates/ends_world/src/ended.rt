@@ -1,4 +1,5 @@
 // A world behind its last event.
+use crate::noting::Step;
 use crate::world::{Marks, World};
 use client_core::Client;
 use client_outcomes::Why;
@@ -14,12 +15,21 @@ pub struct EndedWorld {
     pub(crate) book: Option<Book<MemDisk>>,
     pub(crate) served: Vec<u32>,
     pub(crate) marks: Vec<Marks>,
+    pub(crate) steps: Option<Vec<Step>>,
 }
 
 impl EndedWorld {
     /// The client.
     pub fn client(&self) -> &Client {
         &self.client
+    }
+
+    /// What each step came to, since the run was watched.
+    pub fn steps(&self) -> &[Step] {
+        match &self.steps {
+            Some(steps) => steps.as_slice(),
+            None => &[],
+        }
     }
 }
 
@@ -31,6 +41,7 @@ pub fn end(world: World) -> EndedWorld {
         book,
         served,
         marks,
+        steps,
         ..
     } = world;
     EndedWorld {
@@ -39,5 +50,6 @@ pub fn end(world: World) -> EndedWorld {
         book,
         served,
         marks,
+        steps,
     }
 }

@@ -1,42 +1,5 @@
-use operation_values::OpKind;
-use smb_bytes::Bytes;
 use std::alloc::AllocError;
 use thiserror::Error;
-
-/// What can happen to a world. Connections are numbered from 0 to 255.
-#[derive(Drop)]
-pub enum WorldEvent {
-    /// An operation, under its number. One that may not be taken changes nothing.
-    Submit {
-        number: u32,
-        kind: OpKind,
-    },
-    Open(u32),
-    Push(u32),
-    Serve(u32),
-    Take(u32),
-    Cut(u32),
-    Drop(u32),
-    Restart,
-    /// The server crashes in the event of a connection's front message, whose records stay where `kept` says so.
-    Crash {
-        connection: u32,
-        kept: bool,
-    },
-    /// The front message on its way up to the server, or down to the client, is replaced.
-    Forge {
-        connection: u32,
-        up: bool,
-        bytes: Bytes,
-    },
-    /// The front message's bytes from a place on are changed, by exclusive or.
-    Flip {
-        connection: u32,
-        up: bool,
-        at: u32,
-        mask: Bytes,
-    },
-}
 
 /// Why a world doesn't meet an event. Behind any but `Memory` it is as before.
 #[derive(Clone, Copy, Debug, PartialEq, Eq, Error)]

@@ -1,6 +1,8 @@
 // A channel is linked, and a connection is drained.
-use crate::events::{WorldError, WorldEvent};
-use crate::steps::step;
+use crate::events::WorldError;
+use crate::opening::open;
+use crate::serving::serve;
+use crate::taking::take;
 use crate::world::World;
 
 /// A dialog has four requests, of which each takes one turn.
@@ -10,8 +12,8 @@ const TURNS_OF_A_DIALOG: u32 = 8;
 const TURNS_OF_A_DRAIN: u32 = 64;
 
 /// An event; one that the world doesn't meet is none.
-pub(crate) fn go(world: &mut World, event: WorldEvent) -> Result<(), WorldError> {
-    match step(world, event) {
+pub(crate) fn go(happened: Result<(), WorldError>) -> Result<(), WorldError> {
+    match happened {
         Err(WorldError::Memory) => Err(WorldError::Memory),
         _ => Ok(()),
     }
@@ -60,21 +62,21 @@ fn go_linking(world: &mut World, k: u32) -> Result<(), WorldError> {
         if !(world.is_client_open(k) && world.is_server_open(k)) || world.is_ready(k) {
             break;
         }
-        go(world, WorldEvent::Serve(k))?;
-        go(world, WorldEvent::Take(k))?;
+        go(serve(world, k))?;
+        go(take(world, k))?;
     }
     Ok(())
 }
 
 /// A connection is opened and linked. The refusals are those of `Open`.
 pub(crate) fn link(world: &mut World, k: u32) -> Result<(), WorldError> {
-    step(world, WorldEvent::Open(k))?;
+    open(world, k)?;
     go_linking(world, k)
 }
 
 /// The same of a connection that may be in use, which is left alone then.
 pub(crate) fn link_free(world: &mut World, k: u32) -> Result<(), WorldError> {
-    go(world, WorldEvent::Open(k))?;
+    go(open(world, k))?;
     go_linking(world, k)
 }
 
@@ -83,7 +85,7 @@ fn serve_all(world: &mut World, k: u32) -> Result<(), WorldError> {
         if !(world.is_server_open(k) && world.ups(k) > 0) {
             break;
         }
-        go(world, WorldEvent::Serve(k))?;
+        go(serve(world, k))?;
     }
     Ok(())
 }
@@ -93,7 +95,7 @@ fn take_all(world: &mut World, k: u32) -> Result<(), WorldError> {
         if !(world.is_client_open(k) && world.downs(k) > 0) {
             break;
         }
-        go(world, WorldEvent::Take(k))?;
+        go(take(world, k))?;
     }
     Ok(())
 }

@@ -1,6 +1,6 @@
 // A connection is opened, and its dialog begins.
-use crate::drawing::{draw, draw_8, draw_16};
 use crate::events::WorldError;
+use crate::noting::{Happened, Step};
 use crate::sides::{ClientSide, Up};
 use crate::world::World;
 use client_dialog::{start, start_bind};
@@ -8,6 +8,7 @@ use conn_ends::Conn;
 use line_ends::{Bound, Dialog, Fresh};
 use server_asked::ServerEvent;
 use smb_bytes::Bytes;
+use world_draws::{draw, draw_8, draw_16};
 
 /// STATUS_SUCCESS
 const SUCCESS: u32 = 0;
@@ -86,8 +87,7 @@ pub(crate) fn open(world: &mut World, k: u32) -> Result<(), WorldError> {
         channel.server = Some(conn);
         world.say_up(k, 0, greeting)?;
     }
-    world.later();
-    Ok(())
+    world.done(Step::of(Happened::Opened, k, 0))
 }
 
 impl World {

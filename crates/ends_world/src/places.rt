@@ -26,6 +26,14 @@ impl World {
         }
     }
 
+    /// The operation whose message the server took at a place; 0 where there is none.
+    pub(crate) fn served_at(&self, place: u64) -> u32 {
+        match self.served.get(place as usize) {
+            Some(number) => *number,
+            None => 0,
+        }
+    }
+
     /// The server took a message of this token.
     pub(crate) fn note_taken(&mut self, token: u64, acted: bool) -> Result<(), WorldError> {
         let place = self.served.len() as u64;

@@ -1,17 +1,16 @@
 // A ready channel sends.
 use crate::events::WorldError;
+use crate::noting::{Happened, Step};
+use crate::places::op_of;
 use crate::sides::ClientSide;
 use crate::world::World;
 use client_event::{Act, Event};
 use client_line::send;
-use client_sent::Head;
-use command_values::Command;
-use command_writing::body_of;
+use line_requests::{Heading, request_of};
 use smb_bytes::Bytes;
 use smb_header::Request;
-use wire_defs::Header;
 
-/// SMB2_FLAGS_REPLAY_OPERATION
+/// SMB2_FLAGS_REPLAY_OPERATION, the greatest flags of a request.
 const REPLAY: u32 = 0x2000_0000;
 
 /// The longest body that a frame can carry.
@@ -20,47 +19,10 @@ const LONGEST_BODY: usize = 1_113_996;
 /// The bytes that one credit pays for.
 const BYTES_A_CREDIT: u64 = 65_536;
 
-/// The number of a command (MS-SMB2 2.2.1.2).
-fn number_of(command: &Command<'_>) -> u16 {
-    match command {
-        Command::Unreadable { .. } | Command::Aside { .. } => 0,
-        Command::Setup(_) => 1,
-        Command::Logoff => 2,
-        Command::TreeConnect { .. } => 3,
-        Command::TreeDisconnect => 4,
-        Command::Create(_) => 5,
-        Command::Close { .. } => 6,
-        Command::Flush { .. } => 7,
-        Command::Read { .. } => 8,
-        Command::Write { .. } => 9,
-        Command::Lock { .. } => 10,
-        Command::Ioctl { .. } => 11,
-        Command::ListDirectory { .. } => 14,
-        Command::QueryFile { .. } | Command::QueryVolume { .. } => 16,
-        Command::SetInfo { .. } => 17,
-    }
-}
-
 /// CreditCharge: one for each 65,536 bytes begun, and one where there are none.
 fn charge(weight: u64) -> u16 {
     let more = weight.saturating_sub(1) / BYTES_A_CREDIT;
     u16::try_from(more).unwrap_or(u16::MAX).saturating_add(1)
-}
-
-/// What an operation, or the request to attach its open in its place, goes out with.
-fn header_of(head: Head, command: u16, charge: u16) -> Header {
-    Header {
-        charge,
-        status: head.sequence as u32,
-        command,
-        credits: 0,
-        flags: if head.replay { REPLAY } else { 0 },
-        next: 0,
-        message: 0,
-        tree: head.tree,
-        session: head.session,
-        signature: [0; 16],
-    }
 }
 
 fn cost_of(world: &World, number: usize, asking: bool) -> u16 {
@@ -84,12 +46,16 @@ fn request_for(world: &World, number: usize, asking: bool) -> Result<Request, Wo
     else {
         return Err(WorldError::Memory);
     };
-    match body_of(world.alloc, &command) {
-        Ok(body) => Ok(Request {
-            header: header_of(head, number_of(&command), cost_of(world, number, asking)),
-            body,
-            token: (number as u64).wrapping_mul(2).wrapping_add(asking as u64),
-        }),
+    let heading = Heading {
+        session: head.session,
+        tree: head.tree,
+        sequence: head.sequence,
+        replay: head.replay,
+        charge: cost_of(world, number, asking),
+        token: (number as u64).wrapping_mul(2).wrapping_add(asking as u64),
+    };
+    match request_of(world.alloc, &heading, &command) {
+        Ok(request) => Ok(request),
         Err(_) => Err(WorldError::Memory),
     }
 }
@@ -109,10 +75,13 @@ fn sent_on(world: &mut World, k: u32, request: &Request) -> Result<Bytes, WorldE
 
 /// It goes up on its line, paid for and under a nonce where one is wanted. A line of which all 2^64 nonces are given counts as one that
 /// finds no memory.
-fn send_up(world: &mut World, k: u32, number: usize, asking: bool) -> Result<(), WorldError> {
+fn send_up(world: &mut World, k: u32, number: usize, asking: bool) -> Result<Step, WorldError> {
     let request = request_for(world, number, asking)?;
     let bytes = sent_on(world, k, &request)?;
-    world.say_up(k, request.token, bytes)
+    let mut step = Step::of(Happened::Pushed, k, op_of(request.token));
+    step.bytes = bytes.len();
+    world.say_up(k, request.token, bytes)?;
+    Ok(step)
 }
 
 /// The credits of a ready channel.
@@ -127,11 +96,10 @@ fn credits_on(world: &World, k: u32) -> Result<u32, WorldError> {
 pub(crate) fn push(world: &mut World, k: u32) -> Result<(), WorldError> {
     let credits = credits_on(world, k)?;
     let channel = World::number_of(k)?;
-    match world.happen(Event::Push { channel, credits })? {
+    let step = match world.happen(Event::Push { channel, credits })? {
         Act::Sends(number) => send_up(world, k, number, false)?,
         Act::Asks(number) => send_up(world, k, number, true)?,
-        _ => {}
-    }
-    world.later();
-    Ok(())
+        _ => Step::of(Happened::Pushed, k, 0),
+    };
+    world.done(step)
 }

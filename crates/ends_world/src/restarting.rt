@@ -1,6 +1,7 @@
 // The server starts anew on its disk, at once or in the event of a message.
 use crate::book::{copy_of, restart as begin_anew};
 use crate::events::WorldError;
+use crate::noting::{Happened, Step};
 use crate::world::World;
 
 /// Each server's end closes, and the server stands at what its records stand for. Where memory runs out there is no server any more.
@@ -18,17 +19,24 @@ fn restart_server(world: &mut World) -> Result<(), WorldError> {
 
 pub(crate) fn restart(world: &mut World) -> Result<(), WorldError> {
     restart_server(world)?;
-    world.later();
-    Ok(())
+    world.done(Step::of(Happened::Restarted, 0, 0))
 }
 
 /// In the event of a front message, whose records stay where `kept` says so. Its replies are made and go nowhere.
 pub(crate) fn crash(world: &mut World, k: u32, kept: bool) -> Result<(), WorldError> {
     world.front_up(k)?;
-    if kept {
-        let _ = world.take_up(k)?;
-    }
+    let step = if kept {
+        let served = world.take_up(k)?;
+        Step::noted(
+            Happened::Crashed,
+            k,
+            served.operation,
+            served.bytes,
+            &served.note,
+        )
+    } else {
+        Step::of(Happened::Crashed, k, 0)
+    };
     restart_server(world)?;
-    world.later();
-    Ok(())
+    world.done(step)
 }

@@ -1,34 +1,43 @@
 // The server answers the front of what goes up.
 use crate::book::told;
-use crate::drawing::draw_8;
 use crate::events::WorldError;
+use crate::noting::{Happened, Step};
 use crate::parting::next_frame;
+use crate::places::op_of;
 use crate::sides::Down;
 use crate::world::World;
-use conn_core::{Ended, Taken, take_frame};
+use conn_core::{Ended, StepNote, Taken, take_frame};
 use conn_ends::ConnEnd;
 use server_asked::ServerEvent;
 use smb_bytes::Bytes;
 use std::alloc::AllocError;
+use world_draws::draw_8;
 
-/// What the server made of a frame: an answer, or none where the connection ends; whether a message of it was taken, and whether one acted.
+/// What the server made of a frame: whose it is, an answer, or none where the connection ends, whether a message of it was taken, and what
+/// a step of it notes.
 #[derive(Drop)]
 pub(crate) struct Served {
+    pub(crate) operation: u32,
+    /// The frame's length.
+    pub(crate) bytes: usize,
     took: bool,
-    acted: bool,
+    pub(crate) note: StepNote,
     answer: Option<Bytes>,
 }
 
 /// What an answer or an end comes to. That an event, or the frame, found no memory ends the run.
-fn served_as(taken: Result<Taken, Ended>) -> Result<Served, WorldError> {
+fn served_as(token: u64, bytes: usize, taken: Result<Taken, Ended>) -> Result<Served, WorldError> {
+    let operation = op_of(token);
     match taken {
         Ok(taken) => {
             if taken.lacked {
                 return Err(WorldError::Memory);
             }
             Ok(Served {
+                operation,
+                bytes,
                 took: taken.took,
-                acted: taken.note.acted,
+                note: taken.note,
                 answer: Some(taken.bytes),
             })
         }
@@ -37,8 +46,13 @@ fn served_as(taken: Result<Taken, Ended>) -> Result<Served, WorldError> {
                 return Err(WorldError::Memory);
             }
             Ok(Served {
+                operation,
+                bytes,
                 took: ended.took,
-                acted: ended.acted,
+                note: StepNote {
+                    status: None,
+                    acted: ended.acted,
+                },
                 answer: None,
             })
         }
@@ -98,12 +112,13 @@ impl World {
         let Some(conn) = &mut channel.server else {
             return Err(WorldError::NoChannel(k));
         };
-        let served = served_as(take_frame(conn, book, moment, fresh, front.bytes.as_slice()))?;
+        let taken = take_frame(conn, book, moment, fresh, front.bytes.as_slice());
+        let served = served_as(front.token, front.bytes.len(), taken)?;
         if served.answer.is_none() {
             channel.close_server();
         }
         if served.took {
-            self.note_taken(front.token, served.acted)?;
+            self.note_taken(front.token, served.note.acted)?;
         }
         Ok(served)
     }
@@ -145,8 +160,13 @@ pub(crate) fn serve(world: &mut World, k: u32) -> Result<(), WorldError> {
         Some(answer) => world.say_down(k, place, answer)?,
         None => world.drop_end(k)?,
     }
-    world.later();
-    Ok(())
+    world.done(Step::noted(
+        Happened::Served,
+        k,
+        served.operation,
+        served.bytes,
+        &served.note,
+    ))
 }
 
 pub(crate) fn drop_server(world: &mut World, k: u32) -> Result<(), WorldError> {
@@ -154,6 +174,5 @@ pub(crate) fn drop_server(world: &mut World, k: u32) -> Result<(), WorldError> {
         return Err(WorldError::NoChannel(k));
     }
     world.drop_end(k)?;
-    world.later();
-    Ok(())
+    world.done(Step::of(Happened::Dropped, k, 0))
 }

@@ -1,15 +1,25 @@
 // All is served and taken until every operation is settled.
-use crate::cutting::finish;
-use crate::events::{WorldError, WorldEvent};
+use crate::cutting::{cut, finish};
+use crate::events::WorldError;
 use crate::linking::{drain, go, link_free};
+use crate::pushing::push;
+use crate::serving::drop_server;
 use crate::sides::ClientSide;
 use crate::world::World;
 use msg_session::Refusal;
 
 const CONNECTIONS: u32 = 256;
 
-fn go_if(world: &mut World, test: bool, event: WorldEvent) -> Result<(), WorldError> {
-    if test { go(world, event) } else { Ok(()) }
+fn cut_if(world: &mut World, test: bool, k: u32) -> Result<(), WorldError> {
+    if test { go(cut(world, k)) } else { Ok(()) }
+}
+
+fn drop_if(world: &mut World, test: bool, k: u32) -> Result<(), WorldError> {
+    if test {
+        go(drop_server(world, k))
+    } else {
+        Ok(())
+    }
 }
 
 impl World {
@@ -54,18 +64,18 @@ fn drain_and_cut(world: &mut World, k: u32) -> Result<(), WorldError> {
     drain(world, k)?;
     finish_after(world, is_new, refusals)?;
     let hangs = world.is_client_open(k) && (!world.is_server_open(k) || world.talks(k));
-    go_if(world, hangs, WorldEvent::Cut(k))
+    cut_if(world, hangs, k)
 }
 
 fn drop_orphan(world: &mut World, k: u32) -> Result<(), WorldError> {
     let orphan = world.is_server_open(k) && !world.is_client_open(k);
-    go_if(world, orphan, WorldEvent::Drop(k))
+    drop_if(world, orphan, k)
 }
 
 /// A connection of which one end is closed is cut or dropped.
 fn tidy(world: &mut World, k: u32) -> Result<(), WorldError> {
     let alone = world.is_client_open(k) && !world.is_server_open(k);
-    go_if(world, alone, WorldEvent::Cut(k))?;
+    cut_if(world, alone, k)?;
     drop_orphan(world, k)
 }
 
@@ -105,11 +115,11 @@ fn push_round(world: &mut World) -> Result<(), WorldError> {
         return Ok(());
     }
     let k = least_ready(world);
-    go(world, WorldEvent::Push(k))?;
+    go(push(world, k))?;
     if world.ups(k) > 0 || world.downs(k) > 0 {
         drain(world, k)
     } else {
-        go(world, WorldEvent::Cut(k))
+        go(cut(world, k))
     }
 }
 
@@ -122,15 +132,24 @@ fn round(world: &mut World) -> Result<(), WorldError> {
     Ok(())
 }
 
-/// The lowest operation from a number on that isn't settled.
-fn first_unsettled(world: &World, from: usize) -> Option<usize> {
+/// The lowest operation from a number on that isn't settled, or the number behind the last.
+fn unsettled_from(world: &World, from: usize) -> usize {
     let rows = world.client.client().table.rows.as_slice();
     for (number, row) in rows.iter().enumerate().skip(from) {
         if row.unsettled {
-            return Some(number);
+            return number;
         }
     }
-    None
+    rows.len().max(from)
+}
+
+impl World {
+    /// Whether an operation is unsettled. A settled one stays so, so each is looked at once.
+    fn is_unsettled(&mut self) -> bool {
+        let lowest = unsettled_from(self, self.lowest);
+        self.lowest = lowest;
+        lowest < self.client.client().table.rows.len()
+    }
 }
 
 /// Each connection is drained, and cut or dropped where it hangs; then there is a round while an operation is unsettled, at most eight for
@@ -150,12 +169,10 @@ pub(crate) fn settle(world: &mut World) -> Result<(), WorldError> {
     for k in 0..CONNECTIONS {
         drop_orphan(world, k)?;
     }
-    let mut lowest = 1;
     for _ in 0..most {
-        let Some(at) = first_unsettled(world, lowest) else {
+        if !world.is_unsettled() {
             break;
-        };
-        lowest = at;
+        }
         round(world)?;
     }
     Ok(())

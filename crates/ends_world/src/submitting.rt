@@ -1,5 +1,6 @@
 // An operation comes.
 use crate::events::WorldError;
+use crate::noting::{Happened, Step};
 use crate::world::{Marks, World};
 use client_event::Event;
 use operation_values::OpKind;
@@ -19,6 +20,5 @@ pub(crate) fn submit(world: &mut World, number: u32, kind: OpKind) -> Result<(),
             return Err(WorldError::Memory);
         }
     }
-    world.later();
-    Ok(())
+    world.done(Step::of(Happened::Submitted, 0, number))
 }

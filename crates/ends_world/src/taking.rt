@@ -1,5 +1,6 @@
 // The client hears the front of what comes down.
 use crate::events::WorldError;
+use crate::noting::{Happened, Step};
 use crate::places::op_of;
 use crate::sides::ClientSide;
 use crate::world::World;
@@ -223,6 +224,8 @@ pub(crate) fn take(world: &mut World, k: u32) -> Result<(), WorldError> {
     } else {
         world.take_in_dialog(k, down.bytes.as_slice())?;
     }
-    world.later();
-    Ok(())
+    let operation = world.served_at(down.place);
+    let mut step = Step::of(Happened::Taken, k, operation);
+    step.bytes = down.bytes.len();
+    world.done(step)
 }

@@ -1,6 +1,7 @@
 // What is on its way is changed.
 use crate::events::WorldError;
 use crate::flipping::flip as flip_bytes;
+use crate::noting::{Happened, Step};
 use crate::world::World;
 use smb_bytes::Bytes;
 
@@ -26,8 +27,7 @@ impl World {
 /// The front is replaced.
 pub(crate) fn forge(world: &mut World, k: u32, up: bool, bytes: Bytes) -> Result<(), WorldError> {
     *world.front_bytes(k, up)? = bytes.into_vec();
-    world.later();
-    Ok(())
+    world.done(Step::of(Happened::Forged, k, 0))
 }
 
 /// Some of its bytes are changed, by exclusive or.
@@ -43,6 +43,5 @@ pub(crate) fn flip(
         at as usize,
         mask.as_slice(),
     );
-    world.later();
-    Ok(())
+    world.done(Step::of(Happened::Flipped, k, 0))
 }

@@ -1,4 +1,5 @@
 use crate::events::WorldError;
+use crate::noting::Step;
 use crate::sides::Channel;
 use client_played::Played;
 use line_ends::ClientConfig;
@@ -16,6 +17,9 @@ pub(crate) struct Marks {
     pub by: Option<u64>,
     pub birth: u64,
 }
+
+/// The moments of a millisecond, as file times count them: 100 nanoseconds each.
+const MOMENTS: u64 = 10_000;
 
 /// A client and a server over a disk in memory, with 256 connections between them.
 #[derive(Drop)]
@@ -48,6 +52,10 @@ pub struct World {
     pub(crate) served: Vec<u32>,
     /// By operation, from 0 on, which is none.
     pub(crate) marks: Vec<Marks>,
+    /// No operation below this number is unsettled.
+    pub(crate) lowest: usize,
+    /// What each step came to, where the run is watched.
+    pub(crate) steps: Option<Vec<Step>>,
 }
 
 impl World {
@@ -76,5 +84,11 @@ impl World {
     /// Each event but a wait takes one moment; at the last one it stands still.
     pub(crate) fn later(&mut self) {
         self.moment = self.moment.saturating_add(1);
+    }
+
+    /// A moment is a ten thousandth of a millisecond.
+    pub(crate) fn much_later(&mut self, milliseconds: u32) {
+        let moments = u64::from(milliseconds).saturating_mul(MOMENTS);
+        self.moment = self.moment.saturating_add(moments);
     }
 }

@@ -13,5 +13,6 @@ mod words;
 
 pub use ending::Ending;
 pub use limits::{SCRIPT_BYTES, SCRIPT_LINES, SCRIPT_OPERATIONS};
+pub use outside::{ReadError, read_script, write_all};
 pub use script::{Code, Line, Refusal, Statement};
 pub use top::smb311;

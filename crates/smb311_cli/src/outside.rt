@@ -3,6 +3,6 @@ mod read_error;
 mod reading;
 mod writing;
 
-pub(crate) use read_error::ReadError;
-pub(crate) use reading::read_script;
-pub(crate) use writing::write_all;
+pub use read_error::ReadError;
+pub use reading::read_script;
+pub use writing::write_all;

@@ -5,7 +5,7 @@ use std::alloc::AllocError;
 
 /// Why a source was not read to its end.
 #[derive(Clone, Copy, PartialEq, Eq, Debug, Drop)]
-pub(crate) enum ReadError {
+pub enum ReadError {
     Memory,
     Failed,
 }

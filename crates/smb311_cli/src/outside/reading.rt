@@ -11,7 +11,7 @@ use std::alloc::{AllocError, Global};
 const PIECE: usize = 65_536;
 
 /// Reads a source to its end, or until the script passes its limit on bytes.
-pub(crate) fn read_script<S: Source>(alloc: Global, source: &mut S) -> Result<Vec<u8>, ReadError>
+pub fn read_script<S: Source>(alloc: Global, source: &mut S) -> Result<Vec<u8>, ReadError>
     ensures read { IfOk result (λ text. HasRead (S.left source.old) (S.left source.new) text.items) }
     ensures calm { OnOk result (S.faults source.new ≡ S.faults source.old) }
     ensures failed { IfErr result (λ e. HasFailed (S.faults source.old) (S.faults source.new) e) }

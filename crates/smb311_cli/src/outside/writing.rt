@@ -8,7 +8,7 @@ use smb_io::{Failed, Sink};
 
 /// Writes all bytes of a text. A write that fails is not tried again: the sink's count of faults then
 /// rose, and a front of the text was written.
-pub(crate) fn write_all<O: Sink>(sink: &mut O, text: &[u8]) -> Result<(), Failed>
+pub fn write_all<O: Sink>(sink: &mut O, text: &[u8]) -> Result<(), Failed>
     ensures written { OnOk result (Appends (O.written sink.old) (O.written sink.new) text.now) }
     ensures calm { OnOk result (O.faults sink.new ≡ O.faults sink.old) }
     ensures front { OnErr result (AppendsFront (O.written sink.old) (O.written sink.new) text.now) }
