@@ -1,6 +1,6 @@
 -- How a drill ends, from what was read and how that was answered.
 use Rattle.std.proofs.Common.{◌≡◌, ℕ, List, Option}
-use Rattle.smb311_cli.specs.Outside.{HasRead}
+use Rattle.outside_calls.specs.Outside.{HasRead}
 use Rattle.smb311_cli.specs.TopCall.{Drills, Answers}
 use Rattle.smb311_cli.specs.declared.ending.Ending.{Ending}
 use Rattle.smb311_cli.specs.declared.ending.Ending.TheVariants.{Done, Usage, Script, SourceFailed, SinkFailed, Memory}

@@ -3,7 +3,6 @@ pub mod Words
 pub mod Script
 pub mod Progress
 pub mod Text
-pub mod Outside
 pub mod Run
 pub mod Running
 pub mod TopCall

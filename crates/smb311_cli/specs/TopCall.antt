@@ -4,7 +4,7 @@ use Rattle.std.specs.Io.KnownBytes.{Appends, Consumes, IsAtEnd, Keeps}
 use Rattle.std.specs.Str.{bytes_eq}
 use Rattle.smb_io.specs.Faults.{Rose}
 use Rattle.world_model.specs.Exchange.{State}
-use Rattle.smb311_cli.specs.Outside.{HasRead, AppendsFront}
+use Rattle.outside_calls.specs.Outside.{HasRead, AppendsFront}
 use Rattle.smb311_cli.specs.Run.{report, state_text, Ran}
 use Rattle.smb311_cli.specs.Text.{refusal_line}
 use Rattle.smb311_cli.specs.declared.ending.Ending.{Ending}

@@ -5,7 +5,6 @@ mod drill;
 mod ending;
 mod limits;
 mod lines;
-mod outside;
 mod printing;
 mod script;
 mod top;
@@ -13,6 +12,6 @@ mod words;
 
 pub use ending::Ending;
 pub use limits::{SCRIPT_BYTES, SCRIPT_LINES, SCRIPT_OPERATIONS};
-pub use outside::{ReadError, read_script, write_all};
+pub use outside_calls::{ReadError, read_script, write_all};
 pub use script::{Code, Line, Refusal, Statement};
 pub use top::smb311;

@@ -5,9 +5,9 @@ ghost use Rattle.smb311_cli.specs.TopCall as top;
 
 use crate::drill::drill;
 use crate::ending::Ending;
-use crate::outside::{ReadError, read_script, write_all};
 use crate::printing::refusal_line;
 use crate::script::{Fault, Refusal};
+use outside_calls::{ReadError, read_script, write_all};
 use smb_io::{Failed, Sink, Source};
 use std::alloc::Global;
 

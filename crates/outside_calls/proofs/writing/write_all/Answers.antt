@@ -2,8 +2,8 @@ use Rattle.std.proofs.Common.{arith, ◌∙◌, subst}
 use Rattle.std.proofs.KnownBytes.{Appends-trans}
 use Rattle.std.proofs.lemmas.List.{length-take, length-drop}
 use Rattle.std.specs.Io.KnownBytes.{Appends}
-use Rattle.smb311_cli.proofs.OutsideLemmas.{take_on}
-use Rattle.smb311_cli.proofs.outside.writing.write_all.Goals as goal
+use Rattle.outside_calls.proofs.OutsideLemmas.{take_on}
+use Rattle.outside_calls.proofs.writing.write_all.Goals as goal
 
 pub loop-at-preserved : goal.loop-at-preserved
 loop-at-preserved g c =

@@ -2,8 +2,8 @@
 use Rattle.std.specs.Prelude.{◌≡◌, ℕ, ◌<◌, ◌≤◌, List, ◌++◌, length, take, Option}
 use Rattle.std.specs.Io.KnownBytes.{Appends, Consumes, IsAtEnd}
 use Rattle.smb_io.specs.Faults.{Rose}
-use Rattle.smb311_cli.specs.declared.outside.read_error.ReadError.{ReadError}
-use Rattle.smb311_cli.specs.declared.outside.read_error.ReadError.TheVariants.{Memory, Failed}
+use Rattle.outside_calls.specs.declared.read_error.ReadError.{ReadError}
+use Rattle.outside_calls.specs.declared.read_error.ReadError.TheVariants.{Memory, Failed}
 
 -- One read of so many bytes into so much room was added to a text.
 pub record Takes (left left' : Option (List ℕ)) (text text' : List ℕ) (room count : ℕ) : Type 0 where

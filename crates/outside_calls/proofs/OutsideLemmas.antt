@@ -5,7 +5,7 @@ use Rattle.std.specs.Io.KnownBytes.{Consumes}
 use Rattle.std.proofs.KnownBytes.{Consumes-trans}
 use Rattle.std.proofs.lemmas.List.{take_rest, length-append}
 use Rattle.std.proofs.Math.Seq.{take-add}
-use Rattle.smb311_cli.specs.Outside.{Takes}
+use Rattle.outside_calls.specs.Outside.{Takes}
 
 -- a front of what is left behind a front makes a longer front
 pub take_on : (at count : ℕ) (text : List ℕ) → take at text ++ take count (take (length text - at) (drop at text)) ≡ take (at + count) text

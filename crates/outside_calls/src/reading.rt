@@ -1,9 +1,9 @@
 // A script from a source.
 ghost use Rattle.std.specs.Prelude.{◌≡◌, ◌<◌, length, vec_len, OnOk, IfOk, IfErr};
-ghost use Rattle.smb311_cli.specs.Outside.{Takes, HasRead, HasFailed};
+ghost use Rattle.outside_calls.specs.Outside.{Takes, HasRead, HasFailed};
 
 use crate::limits::SCRIPT_BYTES;
-use crate::outside::ReadError;
+use crate::read_error::ReadError;
 use smb_io::Source;
 use std::alloc::{AllocError, Global};
 

@@ -2,7 +2,7 @@
 ghost use Rattle.std.specs.Prelude.{◌≡◌, OnOk, OnErr};
 ghost use Rattle.std.specs.Io.KnownBytes.{Appends};
 ghost use Rattle.smb_io.specs.Faults.{Rose};
-ghost use Rattle.smb311_cli.specs.Outside.{AppendsFront};
+ghost use Rattle.outside_calls.specs.Outside.{AppendsFront};
 
 use smb_io::{Failed, Sink};
 

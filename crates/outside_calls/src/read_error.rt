@@ -11,7 +11,7 @@ pub enum ReadError {
 }
 
 impl From<AllocError> for ReadError {
-    ghost use Rattle.smb311_cli.specs.declared.outside.read_error.ReadError.TheVariants.{Memory};
+    ghost use Rattle.outside_calls.specs.declared.read_error.ReadError.TheVariants.{Memory};
 
     ghost from_gives = { λ _ e. e ≡ Memory };
 
@@ -21,7 +21,7 @@ impl From<AllocError> for ReadError {
 }
 
 impl From<Failed> for ReadError {
-    ghost use Rattle.smb311_cli.specs.declared.outside.read_error.ReadError.TheVariants.{Failed as Source_failed};
+    ghost use Rattle.outside_calls.specs.declared.read_error.ReadError.TheVariants.{Failed as Source_failed};
 
     ghost from_gives = { λ _ e. e ≡ Source_failed };
 
