@@ -5,4 +5,4 @@ mod room;
 mod shape;
 
 pub use room::room_for;
-pub use shape::shape_of;
+pub use shape::{no_setup, shape_of};

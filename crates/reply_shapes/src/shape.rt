@@ -8,7 +8,8 @@ use command_values::{Command, CreateRequest, Setting, SetupRequest, Shows};
 use smb_bytes::Text;
 use std::alloc::Global;
 
-fn no_setup() -> SetupRequest {
+/// A SESSION_SETUP of which nothing is told. All successes of SESSION_SETUP have bodies of one form.
+pub fn no_setup() -> SetupRequest {
     SetupRequest {
         readable: false,
         binding: false,

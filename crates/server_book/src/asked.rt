@@ -6,25 +6,12 @@ ghost use Rattle.server_core.specs.Shown.{HoldsServer};
 ghost use Rattle.world_defs.specs.Ends.{Logons};
 
 use book_replies::Logon;
-use command_values::{Command, SetupRequest, Shows};
-use reply_shapes::shape_of;
+use command_values::Command;
+use reply_shapes::{no_setup, shape_of};
 use server_asked::ServerEvent;
 use server_core::Server;
 use smb_io::Disk;
 use std::alloc::Global;
-
-fn no_setup() -> SetupRequest {
-    SetupRequest {
-        readable: false,
-        binding: false,
-        signed: false,
-        verified: false,
-        previous: 0,
-        cipher: 0,
-        signing: 0,
-        shows: Shows::Bad,
-    }
-}
 
 // A command whose replies have the same bodies. No connection asks for one of another event.
 pub(crate) fn shape_in<'a>(alloc: Global, event: &ServerEvent<'a>) -> Command<'a>
