@@ -45,6 +45,7 @@ fn join_one<B: Book, S: Service<B>, R: Threads>(
     requires running { All (λ c. IsSeatOf book.now c.handle.promise.seat.value
         × (c.handle.promise.service.value ≡ service.now)) crew.old.running.items }
     ensures own { IsSeatOf book.now crew.new.roll.seat }
+    ensures opening { (view_of crew.new.roll.seat).opening ≡ (view_of crew.old.roll.seat).opening }
     ensures served { AreServed (S.serves service.now) crew.new.roll.ends.items (view_of crew.new.roll.seat).kept }
     ensures running { All (λ c. IsSeatOf book.now c.handle.promise.seat.value
         × (c.handle.promise.service.value ≡ service.now)) crew.new.running.items }
@@ -68,6 +69,7 @@ pub(crate) fn join_ended<B: Book, S: Service<B>, R: Threads + Wait>(
     requires running { All (λ c. IsSeatOf book.now c.handle.promise.seat.value
         × (c.handle.promise.service.value ≡ service.now)) crew.old.running.items }
     ensures own { IsSeatOf book.now crew.new.roll.seat }
+    ensures opening { (view_of crew.new.roll.seat).opening ≡ (view_of crew.old.roll.seat).opening }
     ensures served { AreServed (S.serves service.now) crew.new.roll.ends.items (view_of crew.new.roll.seat).kept }
     ensures running { All (λ c. IsSeatOf book.now c.handle.promise.seat.value
         × (c.handle.promise.service.value ≡ service.now)) crew.new.running.items }
@@ -93,6 +95,7 @@ pub(crate) fn join_all<B: Book, S: Service<B>, R: Threads>(
     requires running { All (λ c. IsSeatOf book.now c.handle.promise.seat.value
         × (c.handle.promise.service.value ≡ service.now)) crew.old.running.items }
     ensures own { IsSeatOf book.now crew.new.roll.seat }
+    ensures opening { (view_of crew.new.roll.seat).opening ≡ (view_of crew.old.roll.seat).opening }
     ensures served { AreServed (S.serves service.now) crew.new.roll.ends.items (view_of crew.new.roll.seat).kept }
     ensures running { All (λ c. IsSeatOf book.now c.handle.promise.seat.value
         × (c.handle.promise.service.value ≡ service.now)) crew.new.running.items }
@@ -127,6 +130,7 @@ where
     requires running { All (λ c. IsSeatOf book.now c.handle.promise.seat.value
         × (c.handle.promise.service.value ≡ service.now)) crew.old.running.items }
     ensures own { IsSeatOf book.now crew.new.roll.seat }
+    ensures opening { (view_of crew.new.roll.seat).opening ≡ (view_of crew.old.roll.seat).opening }
     ensures served { AreServed (S.serves service.now) crew.new.roll.ends.items (view_of crew.new.roll.seat).kept }
     ensures running { All (λ c. IsSeatOf book.now c.handle.promise.seat.value
         × (c.handle.promise.service.value ≡ service.now)) crew.new.running.items }

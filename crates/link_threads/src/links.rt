@@ -61,6 +61,7 @@ where
     requires running { All (λ c. IsSeatOf book.now c.handle.promise.seat.value
         × (c.handle.promise.service.value ≡ service.now)) crew.old.running.items }
     ensures own { IsSeatOf book.now crew.new.roll.seat }
+    ensures opening { (view_of crew.new.roll.seat).opening ≡ (view_of crew.old.roll.seat).opening }
     ensures served { AreServed (S.serves service.now) crew.new.roll.ends.items (view_of crew.new.roll.seat).kept }
     ensures running { All (λ c. IsSeatOf book.now c.handle.promise.seat.value
         × (c.handle.promise.service.value ≡ service.now)) crew.new.running.items }
@@ -107,6 +108,7 @@ where
     requires running { All (λ c. IsSeatOf book.now c.handle.promise.seat.value
         × (c.handle.promise.service.value ≡ service.now)) crew.running.items }
     ensures own { IsSeatOf book.now result.roll.seat }
+    ensures opening { (view_of result.roll.seat).opening ≡ (view_of crew.roll.seat).opening }
     ensures served { AreServed (S.serves service.now) result.roll.ends.items (view_of result.roll.seat).kept }
     ensures net { result.halt ≡ halts.NetFault → Rose (N.faults net) (N.faults result.net) }
 {
@@ -137,6 +139,7 @@ where
     requires own { IsSeatOf book.now roll.seat }
     requires served { AreServed (S.serves service.now) roll.ends.items (view_of roll.seat).kept }
     ensures own { IsSeatOf book.now result.roll.seat }
+    ensures opening { (view_of result.roll.seat).opening ≡ (view_of roll.seat).opening }
     ensures served { AreServed (S.serves service.now) result.roll.ends.items (view_of result.roll.seat).kept }
     ensures net { result.halt ≡ halts.NetFault → Rose (N.faults net) (N.faults result.net) }
 {
@@ -155,6 +158,7 @@ where
                 × All (λ c. IsSeatOf book.now c.handle.promise.seat.value
                 × (c.handle.promise.service.value ≡ service.now)) crew.running.items }
             ensures { IsSeatOf book.entry.now result.roll.seat
+                × ((view_of result.roll.seat).opening ≡ (view_of crew.roll.seat).opening)
                 × AreServed (S.serves service.entry.now) result.roll.ends.items (view_of result.roll.seat).kept
                 × (result.halt ≡ halts.NetFault → Rose (N.faults net) (N.faults result.net)) }
         { in_scope(rt, scope, net, book, service, crew, notes, count) },

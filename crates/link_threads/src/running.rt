@@ -117,6 +117,7 @@ pub(crate) fn finished<B: Book, S: Service<B>, R: Threads>(
         → AreServed (S.serves service.now) roll.new.ends.items (view_of roll.new.seat).kept }
     ensures told { child.place < length roll.old.ends.items
         → (end : S.End) × (get_or roll.new.ends.items child.place None ≡ Some end) }
+    ensures opening { (view_of roll.new.seat).opening ≡ (view_of roll.old.seat).opening }
     ensures count { length roll.new.ends.items ≡ length roll.old.ends.items }
 {
     let Running { place, handle } = child;

@@ -65,3 +65,10 @@ module _ {B E R X : Type 0} (serves : ℕ → View B E R → X → View B E R �
 
     pub entered_told : place < length ends → get_or new place None ≡ Some end
     entered_told l = ap (λ l. get_or l place None) (inside l) ∙ get_or-set_same ends place (Some end) None l
+
+    pub entered_others : (at : ℕ) → (at ≡ place → ⊥) → get_or new at None ≡ get_or ends at None
+    entered_others at q = by_place (inside_or_past place (length ends))
+      where
+        by_place : (place < length ends) ⊎ (length ends ≤ place) → get_or new at None ≡ get_or ends at None
+        by_place (inl l) = ap (λ l. get_or l at None) (inside l) ∙ get_or-set_other ends place at (Some end) None q
+        by_place (inr l) = ap (λ l. get_or l at None) (past l)

@@ -1,6 +1,7 @@
 //! Links that are served, each by a seat of one book.
-ghost use Rattle.std.specs.Prelude.{◌≡◌, ◌+◌, ◌<◌, ◌≤◌, ◌^◌, ℕ, None, Some, length, set, get_or};
+ghost use Rattle.std.specs.Prelude.{◌≡◌, ◌+◌, ◌<◌, ◌≤◌, ◌^◌, ℕ, Bool, None, Some, length, set, get_or};
 ghost use Rattle.shared_book.specs.declared.view.View.{View};
+ghost use Rattle.shared_book.specs.Turns.{rejoined};
 ghost use Rattle.shared_book.specs.Words.{view_of, IsSameSeat, IsSeatOf};
 ghost use Rattle.server_run.specs.Serving.{AreServed};
 
@@ -14,6 +15,9 @@ pub trait Service<B: Book>: Sync {
 
     /// The number of the link, what the seat knew, how it ended, and what the seat knows then.
     ghost serves: { Self → ℕ → View B B.Event B.Reply → Self.End → View B B.Event B.Reply → Type 0 };
+
+    /// Behind which ends no further link is to be accepted.
+    ghost stops: { Self → Self.End → Bool };
 
     /// Serves one link. Links are counted from 1.
     fn serve<W: Wait, L: Link>(
@@ -29,7 +33,8 @@ pub trait Service<B: Book>: Sync {
         ensures serves { serves self.now number (view_of seat.old) result (view_of seat.new) };
 
     /// Whether no further link is to be accepted behind one that ended so.
-    fn halts(&self, end: &Self::End) -> bool;
+    fn halts(&self, end: &Self::End) -> bool
+        ensures { result ≡ stops self.now end.now };
 }
 
 /// What is left of links that were served: the seat that has taken in theirs, and how each ended. Links stand in the order in which they
@@ -66,7 +71,10 @@ pub fn entered<B: Book, S: Service<B>>(
     ensures same { IsSameSeat roll.old.seat roll.new.seat }
     ensures served { AreServed (S.serves service.now) roll.old.ends.items (view_of roll.old.seat).kept
         → AreServed (S.serves service.now) roll.new.ends.items (view_of roll.new.seat).kept }
+    ensures rejoins { view_of roll.new.seat ≡ rejoined (view_of roll.old.seat) (view_of seat) }
+    ensures halts { result ≡ S.stops service.now end }
     ensures told { place < length roll.old.ends.items → get_or roll.new.ends.items place None ≡ Some end }
+    ensures others { (at : ℕ) → (at ≡ place → ⊥) → get_or roll.new.ends.items at None ≡ get_or roll.old.ends.items at None }
     ensures count { length roll.new.ends.items ≡ length roll.old.ends.items }
 {
     let halts = service.halts(&end);
@@ -90,7 +98,10 @@ pub fn serve_here<W: Wait, L: Link, B: Book, S: Service<B>>(
     ensures same { IsSameSeat roll.old.seat roll.new.seat }
     ensures served { AreServed (S.serves service.now) roll.old.ends.items (view_of roll.old.seat).kept
         → AreServed (S.serves service.now) roll.new.ends.items (view_of roll.new.seat).kept }
-    ensures told { place < length roll.old.ends.items → (end : S.End) × (get_or roll.new.ends.items place None ≡ Some end) }
+    ensures rejoins { (ended : View B B.Event B.Reply) × (view_of roll.new.seat ≡ rejoined (view_of roll.old.seat) ended) }
+    ensures told { (end : S.End) × (result ≡ S.stops service.now end)
+        × (place < length roll.old.ends.items → get_or roll.new.ends.items place None ≡ Some end) }
+    ensures others { (at : ℕ) → (at ≡ place → ⊥) → get_or roll.new.ends.items at None ≡ get_or roll.old.ends.items at None }
     ensures count { length roll.new.ends.items ≡ length roll.old.ends.items }
 {
     let mut seat = book.seat(rt, &mut roll.seat);

@@ -7,6 +7,7 @@ use Rattle.link_threads.proofs.crew.join_all.Given as goal
 abbrev pub invariant-loop-child : goal.invariant-loop-child
 invariant-loop-child g l =
     IsSeatOf l.book l.crew.roll.seat
+    × ((view_of l.crew.roll.seat).opening ≡ (view_of l.initial.crew.roll.seat).opening)
     × AreServed (g.S.Service.serves l.service) l.crew.roll.ends.items (view_of l.crew.roll.seat).kept
     × All (λ c. IsSeatOf l.book c.handle.promise.seat.value × (c.handle.promise.service.value ≡ l.service)) l.crew.running.items
 

@@ -7,6 +7,7 @@ use Rattle.link_threads.proofs.links.accept_each.Given as goal
 abbrev pub invariant-loop-place : goal.invariant-loop-place
 invariant-loop-place g l =
     IsSeatOf l.book l.crew.roll.seat
+    × ((view_of l.crew.roll.seat).opening ≡ (view_of l.initial.crew.roll.seat).opening)
     × AreServed (g.S.Service.serves l.service) l.crew.roll.ends.items (view_of l.crew.roll.seat).kept
     × All (λ c. IsSeatOf l.book c.handle.promise.seat.value × (c.handle.promise.service.value ≡ l.service)) l.crew.running.items
     × (g.N.Net.faults l.net ≡ g.N.Net.faults l.initial.net)
