@@ -1,0 +1,4 @@
+pub mod Ending
+pub mod Turns
+pub mod Passing
+pub mod Serving
