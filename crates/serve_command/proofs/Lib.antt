@@ -1,0 +1,3 @@
+pub mod Blank
+pub mod Rises
+pub mod Still

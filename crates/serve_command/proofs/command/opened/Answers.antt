@@ -1,0 +1,10 @@
+use Rattle.serve_command.proofs.Blank.{blank_served}
+use Rattle.serve_command.proofs.Still.{opens_first}
+use Rattle.serve_command.specs.Serving.{serves_link}
+use Rattle.serve_command.proofs.command.opened.Goals as goal
+
+pub returns-clause-opens : goal.returns-clause-opens
+returns-clause-opens g c = opens_first c.args.server c.first_book-first.result _ c.in_ok-pair.ensures.1 c.first_book-first.ensures
+
+pub returns-clause-served : goal.returns-clause-served
+returns-clause-served g c = blank_served (serves_link {B = _}) _ _ _ c.in_ok-ends.ensures

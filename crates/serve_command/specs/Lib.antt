@@ -1,0 +1,4 @@
+pub mod Printing
+pub mod Opening
+pub mod Serving
+pub mod Ends

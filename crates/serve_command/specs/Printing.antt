@@ -1,0 +1,35 @@
+-- What is printed, and how the command ends behind it. Of a sink it is told what it held and how often it had failed, before and behind.
+use Rattle.std.specs.Prelude.{◌≡◌, ℕ, List, ◌++◌, codes, Option}
+use Rattle.std.specs.Fmt.{decimal}
+use Rattle.std.specs.Io.KnownBytes.{Appends, Keeps}
+use Rattle.outside_calls.specs.Outside.{AppendsFront}
+use Rattle.smb_io.specs.Faults.{Rose}
+use Rattle.serve_command.specs.declared.ending.Ending.{Ending}
+use Rattle.serve_command.specs.declared.ending.Ending.TheVariants.{Memory, SinkFailed}
+
+abbrev pub usage_line : List ℕ
+usage_line = codes "usage: smb311 serve ADDRESS [COUNT LEVEL]\n"
+
+-- where the bytes are no journal, or the gate of the first body that no server writes
+unfoldable pub journal_line : ℕ → List ℕ
+journal_line at = codes "journal " ++ (decimal at ++ codes "\n")
+
+module _ (written written' : Option (List ℕ)) (faults faults' : ℕ) where
+  -- the sink was left alone
+  abbrev pub IsLeft : Type 0
+  IsLeft = (faults' ≡ faults) × Keeps written written'
+
+  -- nothing was printed, and it ended so
+  abbrev pub IsQuiet : Ending → Ending → Type 0
+  IsQuiet due ending = (ending ≡ due) × IsLeft
+
+  -- a text was printed, and then it ended so; or the sink failed behind a front of it
+  abbrev pub Prints : List ℕ → Ending → Ending → Type 0
+  Prints text due SinkFailed = Rose faults faults' × AppendsFront written written' text
+  Prints text due ending = (ending ≡ due) × (faults' ≡ faults) × Appends written written' text
+
+  -- the same, where there was memory for the text
+  abbrev pub PrintsIfRoom : List ℕ → Ending → Ending → Type 0
+  PrintsIfRoom text due SinkFailed = Rose faults faults' × AppendsFront written written' text
+  PrintsIfRoom text due Memory = IsLeft
+  PrintsIfRoom text due ending = (ending ≡ due) × (faults' ≡ faults) × Appends written written' text

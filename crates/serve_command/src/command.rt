@@ -1,0 +1,285 @@
+//! The command.
+ghost use Rattle.std.specs.Prelude.{◌≡◌, IfOk, None, replicate};
+ghost use Rattle.shared_book.specs.Seats.{Closes};
+ghost use Rattle.shared_book.specs.Words.{view_of, IsSeatOf};
+ghost use Rattle.served_book.specs.Steps.{Steps};
+ghost use Rattle.serve_command.specs.Ends.{Ends};
+ghost use Rattle.server_core.specs.declared.server.Server.{Server};
+ghost use Rattle.serve_command.specs.Serving.{AreServedBy, HasServed, Opens, Serves, ServesOn, Starts};
+
+use crate::behind::{Left, behind, left_of};
+use crate::ending::Ending;
+use crate::opening::{settled, unbegun};
+use conn_turns::Connections;
+use link_threads::{Served, serve_links};
+use rand_core::Rng;
+use serve_settings::{Bound, Said};
+use served_book::ServerBook;
+use server_book::Book;
+use server_checks::Config;
+use server_core::Server;
+use server_run::{Ended, Roll};
+use shared_book::{BookSeat, SharedBook};
+use smb_io::{Disk, Failed, Sink, Source};
+use smb_net::{Clock, Net};
+use std::alloc::{AllocError, Global};
+use std::sync::{Mutex, Wait};
+use std::thread::Threads;
+
+/// ServerGuid
+const GUID: [u8; 16] = *b"smb311-server-01";
+
+/// How the command ended, with the net, and the disk where it was not given up.
+#[derive(Drop)]
+pub struct Finished<N, D> {
+    pub ending: Ending,
+    pub net: N,
+    pub disk: Option<D>,
+}
+
+/// Reads settings from a source, begins a server on what the disk holds, and serves the connections that a net accepts at an address, each
+/// on a thread of its own; without end, or until so many were accepted and have ended, which are told then. It prints nothing before it
+/// ends. Each ending has its cause: what the words don't allow is judged before, then the source, the settings, the disk and the net.
+pub fn serve<W, S, O, D, N, C, R>(
+    rt: &W,
+    alloc: Global,
+    said: &Said,
+    source: &mut S,
+    sink: &mut O,
+    disk: D,
+    net: N,
+    clock: C,
+    random: R,
+) -> Finished<N, D>
+where
+    W: Wait + Threads + Sync,
+    S: Source,
+    O: Sink,
+    D: Disk + Drop + Send,
+    N: Net + Drop,
+    C: Clock + Drop + Send,
+    R: Rng + Drop + Send,
+    ensures { Ends D.told D.seen D.may_leave D.faults said.now disk (S.left source.old) (S.left source.new)
+        (S.faults source.old) (S.faults source.new) (O.written sink.old) (O.written sink.new) (O.faults sink.old) (O.faults sink.new)
+        (N.faults net) (N.faults result.net) result.disk result.ending }
+{
+    match settled(alloc, said, source, sink) {
+        Ok(config) => serve_with(rt, alloc, said, config, sink, disk, net, clock, random),
+        Err(ending) => Finished {
+            ending,
+            net,
+            disk: Some(disk),
+        },
+    }
+}
+
+/// The same with settings that were read.
+pub fn serve_with<W, O, D, N, C, R>(
+    rt: &W,
+    alloc: Global,
+    said: &Said,
+    config: Config,
+    sink: &mut O,
+    disk: D,
+    net: N,
+    clock: C,
+    random: R,
+) -> Finished<N, D>
+where
+    W: Wait + Threads + Sync,
+    O: Sink,
+    D: Disk + Drop + Send,
+    N: Net + Drop,
+    C: Clock + Drop + Send,
+    R: Rng + Drop + Send,
+    ensures { Starts D.told D.seen D.may_leave D.faults said.now.bound config disk (O.written sink.old) (O.written sink.new)
+        (O.faults sink.old) (O.faults sink.new) (N.faults net) (N.faults result.net) result.disk result.ending }
+{
+    let before = disk.fault_count();
+    match Server::recover(alloc, disk, config) {
+        Ok(server) => serve_at(rt, alloc, said, sink, server, before, net, clock, random),
+        Err(error) => {
+            let ending = unbegun(alloc, sink, error);
+            Finished {
+                ending,
+                net,
+                disk: None,
+            }
+        }
+    }
+}
+
+/// Room for how so many connections ended, none of which has.
+fn none_ended(alloc: Global, count: usize) -> Result<Vec<Option<Ended>>, AllocError>
+    ensures { IfOk result (λ v. v.items ≡ replicate count None) }
+{
+    vec![in alloc; None; count]
+}
+
+fn first_book<D: Disk>(alloc: Global, server: Server<D>) -> ServerBook<D>
+    ensures { result.server.server ≡ server }
+{
+    ServerBook {
+        server: Book { alloc, server },
+    }
+}
+
+/// The book at the seat's turn, which is passed to nobody.
+fn closed<W: Wait, D: Disk>(
+    rt: &W,
+    book: SharedBook<ServerBook<D>>,
+    seat: BookSeat<ServerBook<D>>,
+) -> ServerBook<D>
+    requires { IsSeatOf book seat }
+    ensures { Closes (Steps D.told D.seen D.may_leave D.faults) (view_of seat) result }
+{
+    book.close(rt, seat)
+}
+
+/// A book on a server, and no connection served yet, with room for how so many ended.
+fn opened<D: Disk + Drop>(
+    alloc: Global,
+    server: Server<D>,
+    count: usize,
+) -> Result<(SharedBook<ServerBook<D>>, Roll<ServerBook<D>, Ended>), AllocError>
+    ensures own { IfOk result (λ r. IsSeatOf r.0 r.1.seat) }
+    ensures opens { IfOk result (λ r. Opens server (view_of r.1.seat)) }
+    ensures served { IfOk result (λ r. AreServedBy (view_of r.1.seat) r.1.ends.items) }
+{
+    let ends = none_ended(alloc, count)?;
+    let first = first_book(alloc, server);
+    let pair = SharedBook::new(alloc, first)?;
+    let (book, seat) = pair;
+    Ok((book, Roll { seat, ends }))
+}
+
+/// How many links are told in the end.
+fn listed(bound: Option<Bound>) -> usize {
+    match bound {
+        Some(bound) => bound.count,
+        None => 0,
+    }
+}
+
+/// How many links are accepted.
+fn accepted(bound: Option<Bound>) -> usize {
+    match bound {
+        Some(bound) => bound.count,
+        None => usize::MAX,
+    }
+}
+
+/// Serves a server's connections at the address that the words say. Its disk had failed so often before.
+fn serve_at<W, O, D, N, C, R>(
+    rt: &W,
+    alloc: Global,
+    said: &Said,
+    sink: &mut O,
+    server: Server<D>,
+    before: u64,
+    mut net: N,
+    clock: C,
+    random: R,
+) -> Finished<N, D>
+where
+    W: Wait + Threads + Sync,
+    O: Sink,
+    D: Disk + Drop + Send,
+    N: Net + Drop,
+    C: Clock + Drop + Send,
+    R: Rng + Drop + Send,
+    ensures { Serves D.told D.seen D.may_leave D.faults before said.now.bound server (O.written sink.old) (O.written sink.new)
+        (O.faults sink.old) (O.faults sink.new) (N.faults net) (N.faults result.net) result.disk result.ending }
+{
+    match net.listen(said.address) {
+        Ok(()) => serve_on(rt, alloc, said, sink, server, before, net, clock, random),
+        Err(Failed) => Finished {
+            ending: Ending::NetFailed,
+            net,
+            disk: Some(server.stop()),
+        },
+    }
+}
+
+/// Serves the connections of a net that listens.
+fn serve_on<W, O, D, N, C, R>(
+    rt: &W,
+    alloc: Global,
+    said: &Said,
+    sink: &mut O,
+    server: Server<D>,
+    before: u64,
+    net: N,
+    clock: C,
+    random: R,
+) -> Finished<N, D>
+where
+    W: Wait + Threads + Sync,
+    O: Sink,
+    D: Disk + Drop + Send,
+    N: Net + Drop,
+    C: Clock + Drop + Send,
+    R: Rng + Drop + Send,
+    ensures { ServesOn D.told D.seen D.may_leave D.faults before said.now.bound server (O.written sink.old) (O.written sink.new)
+        (O.faults sink.old) (O.faults sink.new) (N.faults net) (N.faults result.net) result.disk result.ending }
+{
+    match opened(alloc, server, listed(said.bound)) {
+        Ok((book, roll)) => {
+            serve_book(
+                rt, alloc, said, sink, book, roll, before, net, clock, random,
+            )
+        }
+        Err(AllocError) => Finished {
+            ending: Ending::Memory,
+            net,
+            disk: None,
+        },
+    }
+}
+
+/// Serves the connections of a net by a book on a server.
+fn serve_book<W, O, D, N, C, R>(
+    rt: &W,
+    alloc: Global,
+    said: &Said,
+    sink: &mut O,
+    book: SharedBook<ServerBook<D>>,
+    roll: Roll<ServerBook<D>, Ended>,
+    before: u64,
+    net: N,
+    clock: C,
+    random: R,
+) -> Finished<N, D>
+where
+    W: Wait + Threads + Sync,
+    O: Sink,
+    D: Disk + Drop + Send,
+    N: Net + Drop,
+    C: Clock + Drop + Send,
+    R: Rng + Drop + Send,
+    requires own { IsSeatOf book roll.seat }
+    requires served { AreServedBy (view_of roll.seat) roll.ends.items }
+    ensures { (server : Server D) → Opens server (view_of roll.seat) → HasServed D.told D.seen D.may_leave D.faults before
+        said.now.bound server (O.written sink.old) (O.written sink.new) (O.faults sink.old) (O.faults sink.new) (N.faults net)
+        (N.faults result.net) result.disk result.ending }
+{
+    let outside = Connections {
+        alloc,
+        guid: GUID,
+        clock: Mutex::new(clock),
+        random: Mutex::new(random),
+    };
+    let count = accepted(said.bound);
+    let served = serve_links(rt, alloc, net, &book, &outside, roll, count);
+    let Served { roll, net, halt } = served;
+    let Roll { seat, ends } = roll;
+    let last = closed(rt, book, seat);
+    let left = left_of(last, before);
+    let Left { failed, disk } = left;
+    let ending = behind(alloc, said.bound, sink, halt, ends.as_slice(), failed);
+    Finished {
+        ending,
+        net,
+        disk: Some(disk),
+    }
+}

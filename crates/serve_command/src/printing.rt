@@ -1,0 +1,20 @@
+//! The usage of the command.
+ghost use Rattle.std.specs.Prelude.{◌≡◌};
+ghost use Rattle.serve_command.specs.Printing.{Prints, usage_line};
+ghost use Rattle.serve_command.specs.declared.ending.Ending.TheVariants.{Usage};
+
+use crate::ending::Ending;
+use outside_calls::write_all;
+use smb_io::{Failed, Sink};
+
+const USAGE: &str = "usage: smb311 serve ADDRESS [COUNT LEVEL]\n";
+
+/// Says what the command's words are.
+pub fn usage<O: Sink>(sink: &mut O) -> Ending
+    ensures { Prints (O.written sink.old) (O.written sink.new) (O.faults sink.old) (O.faults sink.new) usage_line Usage result }
+{
+    match write_all(sink, USAGE.as_bytes()) {
+        Ok(()) => Ending::Usage,
+        Err(Failed) => Ending::SinkFailed,
+    }
+}

@@ -1,0 +1,6 @@
+//! The server as the book that its connections share.
+#![tactic(auto)]
+
+mod book;
+
+pub use book::ServerBook;

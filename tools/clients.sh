@@ -1,0 +1,137 @@
+#!/bin/bash
+# Tries real clients on a server: tools/clients.sh PROGRAM [WORD..], the server being begun as PROGRAM WORD.. ADDRESS with its settings
+# on standard input, in a new folder. One line a check, and a count at the end; the status is 0 where none failed.
+# It wants Debian's smbclient (4.17) and python3-impacket (0.10); what is missing is said, and its checks are left out.
+# SIZES (bytes of the files that are put and got) and PORT may be given; LIMIT is how many seconds a client may take.
+top=$(cd "$(dirname "$0")/.." && pwd)
+sizes=${SIZES:-0 1 65536 1048577 50000000}; port=${PORT:-4450}; limit=${LIMIT:-600}
+[ $# -gt 0 ] || { echo "usage: tools/clients.sh PROGRAM [WORD..]" >&2; exit 2; }
+program=("$@"); room=$(mktemp -d) || exit 2
+well=0; failed=0; server=; address=127.0.0.1:$port
+
+finish() { [ -n "$server" ] && kill -9 "$server" 2>/dev/null; rm -rf "$room"; }
+trap finish EXIT
+
+ok() { well=$((well + 1)); echo "ok $1"; }
+bad() { failed=$((failed + 1)); echo "FAILED $1: ${2:-no reason told}"; }
+
+# check NAME COMMAND..: the command ends well.
+check() {
+  local name=$1 said; shift
+  if said=$("$@" 2>&1); then ok "$name"; else bad "$name" "$(echo "$said" | tail -n 1)"; fi
+}
+
+# meets NAME TEXT COMMAND..: the command says this.
+meets() {
+  local name=$1 text=$2 said; shift 2
+  said=$("$@" 2>&1)
+  if [[ $said == *"$text"* ]]; then ok "$name ($text)"; else bad "$name" "$(echo "$said" | tail -n 1)"; fi
+}
+
+# begin FOLDER SETTINGS: a server on the journal of a folder; it is ready when it listens.
+begin() {
+  mkdir -p "$room/$1"
+  cd "$room/$1" || exit 2
+  printf '%b' "$2" > settings
+  "${program[@]}" "$address" < settings > said 2>&1 &
+  server=$!
+  cd "$room" || exit 2
+  local turn
+  for turn in $(seq 600); do
+    (: < "/dev/tcp/127.0.0.1/$port") 2>/dev/null && return
+    kill -0 "$server" 2>/dev/null || break
+    sleep 0.1
+  done
+  echo "the server didn't begin: $(cat "$room/$1/said")"; exit 2
+}
+
+# stop: a kill is a crash, which the journal outlives.
+stop() { kill -9 "$server" 2>/dev/null; wait "$server" 2>/dev/null; server=; }
+
+smb() { timeout "$limit" smbclient "//127.0.0.1/${SHARE:-data}" -p "$port" -t "$limit" -m SMB3_11 -U "${WHO:-user%Password}" "$@"; }
+
+# What a put and a get of a file give back.
+round() {
+  smb "${protection[@]}" -c "put $room/f$1 f$1; get f$1 $room/got$1" || return 1
+  cmp "$room/f$1" "$room/got$1"
+}
+
+names() {
+  local said
+  said=$(smb "${protection[@]}" -c "mkdir dir; cd dir; put $room/f1 one; rename one two; ls; del two; cd ..; rmdir dir; ls") || return 1
+  echo "$said"
+  [[ $said != *NT_STATUS* && $said == *" two "* ]]
+}
+
+two_at_once() {
+  (smb "${protection[@]}" -c "put $room/f1048577 left; get left $room/left") & local left=$!
+  (smb "${protection[@]}" -c "put $room/f65536 right; get right $room/right") & local right=$!
+  wait $left && wait $right && cmp "$room/left" "$room/f1048577" && cmp "$room/right" "$room/f65536"
+}
+
+killed_client() {
+  (exec timeout "$limit" smbclient "//127.0.0.1/data" -p "$port" -t "$limit" -m SMB3_11 -U user%Password "${protection[@]}" -c "put $room/big big") &
+  local client=$!
+  sleep 0.5; kill -9 $client 2>/dev/null; wait $client 2>/dev/null
+  smb "${protection[@]}" -c "put $room/f1 after; get after $room/after" && cmp "$room/after" "$room/f1"
+}
+
+# The server is killed in a put and begun again: the files that were put before are there.
+killed_server() {
+  smb "${protection[@]}" -c "put $room/f65536 kept" || return 1
+  smb "${protection[@]}" -c "put $room/big torn" & local client=$!
+  sleep 0.5; stop; wait $client
+  begin "$folder" "$settings"
+  smb "${protection[@]}" -c "get kept $room/kept" && cmp "$room/kept" "$room/f65536"
+}
+
+with_smbclient() {
+  local size
+  check "smbclient $kind: log on, list" smb "${protection[@]}" -c ls
+  for size in $sizes; do check "smbclient $kind: put and get $size bytes" round "$size"; done
+  check "smbclient $kind: make, rename, list, delete, remove" names
+  # no short names: file class 21 is refused by name
+  meets "smbclient $kind: allinfo" NT_STATUS_INVALID_INFO_CLASS smb "${protection[@]}" -c "put $room/f1 f1; allinfo f1"
+  WHO=user%wrong meets "smbclient $kind: a wrong password" NT_STATUS_LOGON_FAILURE smb "${protection[@]}" -c ls
+  WHO=nobody%Password meets "smbclient $kind: an unknown user" NT_STATUS_LOGON_FAILURE smb "${protection[@]}" -c ls
+  SHARE=nowhere meets "smbclient $kind: an unknown share" NT_STATUS_BAD_NETWORK_NAME smb "${protection[@]}" -c ls
+  WHO=other%Second check "smbclient $kind: a second user" smb "${protection[@]}" -c ls
+  check "smbclient $kind: two clients at once" two_at_once
+  check "smbclient $kind: a client killed in a put" killed_client
+  killed "smbclient $kind: the server killed in a put, and begun again"
+}
+
+# The server's process id changes here, so this check runs in no shell of its own.
+killed() {
+  if killed_server > "$room/said" 2>&1; then ok "$1"; else bad "$1" "$(tail -n 1 "$room/said")"; fi
+}
+
+with_impacket() {
+  local line
+  while IFS= read -r line; do
+    case $line in ok\ *) ok "${line#ok }" ;; FAILED\ *) bad "${line#FAILED }" "see above" ;; esac
+  done < <(timeout "$limit" /usr/bin/python3 "$top/tools/impacket_client.py" "$port" "$1" user Password data 2>&1)
+}
+
+for size in $sizes 1 65536 1048577; do [ -e "$room/f$size" ] || head -c "$size" /dev/urandom > "$room/f$size"; done
+head -c 8000000 /dev/urandom > "$room/big"
+has_smbclient=; command -v smbclient > /dev/null && has_smbclient=yes || echo "smbclient is missing: its checks are left out"
+has_impacket=; /usr/bin/python3 -c 'import impacket' 2> /dev/null && has_impacket=yes || echo "python3-impacket is missing: its checks are left out"
+
+users='user user Password\nuser other Second\n'
+for kind in sealed signed; do
+  folder=$kind
+  if [ $kind = sealed ]; then settings="$users"; protection=(); else settings="cipher none\n$users"; protection=(--client-protection=sign); fi
+  begin "$folder" "$settings"
+  [ -n "$has_smbclient" ] && with_smbclient
+  [ -n "$has_impacket" ] && { [ $kind = sealed ] && with_impacket seal || with_impacket sign; }
+  if [ $kind = sealed ] && [ -n "$has_smbclient" ]; then
+    check "smbclient signing: a share that seals" smb --client-protection=sign -c ls
+    # it wants NTLMSSP_NEGOTIATE_SEAL (MS-NLMP 2.2.2.5) in the challenge, which this server doesn't answer
+    meets "smbclient sealing by itself" 80090302 smb --client-protection=encrypt -c ls
+  fi
+  check "$kind: 200 connections at once" timeout "$limit" python3 "$top/tools/many_connections.py" "$port" 200 0
+  stop
+done
+echo "$well checks passed, $failed failed"
+[ $failed = 0 ]

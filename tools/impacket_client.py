@@ -1,0 +1,122 @@
+#!/usr/bin/python3
+"""Checks a running server with Debian's python3-impacket 0.10: PORT KIND USER PASSWORD SHARE, KIND being sign or seal.
+
+It prints one line for each check, `ok NAME` or `FAILED NAME: WHY`. Three slips of impacket 0.10 are mended here: its logon doesn't begin
+with the hash of NEGOTIATE (MS-SMB2 3.2.5.3.1), it looks for the capability of sealing, which no server of 3.1.1 tells (2.2.4), and its
+lock joins texts.
+"""
+import io
+import os
+import sys
+
+from impacket import smb3, smb3structs, smbconnection
+from impacket.smb3structs import SMB2_DIALECT_311
+
+PORT, KIND, USER, PASSWORD, SHARE = int(sys.argv[1]), *sys.argv[2:6]
+SIZES = (0, 1, 65536, 1048577)
+
+
+def connected():
+    plain = smbconnection.SMBConnection(
+        "127.0.0.1", "127.0.0.1", sess_port=PORT, preferredDialect=SMB2_DIALECT_311, timeout=300)
+    inner = plain._SMBConnection
+    inner._Connection["SupportsEncryption"] = KIND == "seal"
+    inner._Session["PreauthIntegrityHashValue"] = inner._Connection["PreauthIntegrityHashValue"]
+    return plain
+
+
+def logged_on():
+    it = connected()
+    it.login(USER, PASSWORD)
+    return it
+
+
+def lock_bytes(it, tree, file, at, length, flags):
+    """A LOCK of one range, with its elements as bytes."""
+    inner = it._SMBConnection
+    element = smb3structs.SMB2_LOCK_ELEMENT()
+    element["Offset"], element["Length"], element["Flags"] = at, length, flags
+    packet = inner.SMB_PACKET()
+    packet["Command"], packet["TreeID"] = smb3structs.SMB2_LOCK, tree
+    lock = smb3structs.SMB2Lock()
+    lock["FileID"], lock["LockCount"], lock["LockSequence"] = file, 1, 0
+    lock["Locks"] = element.getData()
+    packet["Data"] = lock
+    return inner.recvSMB(inner.sendSMB(packet)).isValidAnswer(0)
+
+
+def refused(call, status):
+    try:
+        call()
+    except (smbconnection.SessionError, smb3.SessionError) as error:
+        code = error.getErrorCode() if hasattr(error, "getErrorCode") else error.get_error_code()
+        assert code == status, hex(code)
+        return
+    raise AssertionError("it was not refused")
+
+
+def files(it):
+    for size in SIZES:
+        data, got = os.urandom(size), io.BytesIO()
+        it.putFile(SHARE, f"i{size}", io.BytesIO(data).read)
+        it.getFile(SHARE, f"i{size}", got.write)
+        assert got.getvalue() == data, f"{size} bytes differ"
+
+
+def names(it):
+    it.createDirectory(SHARE, "idir")
+    it.putFile(SHARE, "idir\\a", io.BytesIO(b"text").read)
+    it.rename(SHARE, "idir\\a", "idir\\b")
+    listed = sorted(entry.get_longname() for entry in it.listPath(SHARE, "idir\\*"))
+    assert listed == [".", "..", "b"], listed
+    it.deleteFile(SHARE, "idir\\b")
+    it.deleteDirectory(SHARE, "idir")
+    for size in SIZES:
+        it.deleteFile(SHARE, f"i{size}")
+
+
+def locks(it):
+    tree = it.connectTree(SHARE)
+    file = it.createFile(tree, "ilock", shareMode=7)
+    assert lock_bytes(it, tree, file, 0, 4, 0x12)
+    second = logged_on()
+    branch = second.connectTree(SHARE)
+    other = second.openFile(branch, "ilock", shareMode=7)
+    refused(lambda: lock_bytes(second, branch, other, 2, 4, 0x12), 0xC0000055)
+    second.closeFile(branch, other)
+    second.logoff()
+    it.closeFile(tree, file)
+    it.deleteFile(SHARE, "ilock")
+
+
+def wrong_password():
+    refused(lambda: connected().login(USER, PASSWORD + "x"), 0xC000006D)
+
+
+def unknown_share(it):
+    refused(lambda: it.connectTree("nowhere"), 0xC00000CC)
+
+
+def check(name, call):
+    try:
+        call()
+        print(f"ok impacket {KIND}: {name}", flush=True)
+        return True
+    except Exception as error:  # whatever a client meets is told
+        print(f"FAILED impacket {KIND}: {name}: {error or repr(error)}", flush=True)
+        return False
+
+
+def main():
+    kept = {}
+    well = check("log on", lambda: kept.update(it=logged_on()))
+    if well:
+        it = kept["it"]
+        for name, call in (("put and get", files), ("make, rename, list, delete", names), ("lock", locks), ("an unknown share", unknown_share)):
+            well = check(name, lambda: call(it)) and well
+        well = check("log off", it.logoff) and well
+    well = check("a wrong password", wrong_password) and well
+    sys.exit(0 if well else 1)
+
+
+main()
