@@ -1,8 +1,9 @@
 // A client to which events happen. It always shows a client of the model, for which what always holds does.
-ghost use Rattle.std.specs.Prelude.{◌≡◌, ℕ, ◌==◌, ◌&&◌, true, false, if◌then◌else◌, map, IfOk, IfSome, IfNone, OnErr, OnOk};
+ghost use Rattle.std.specs.Prelude.{◌≡◌, ℕ, ◌==◌, ◌&&◌, not, true, false, if◌then◌else◌, map, IfOk, IfSome, IfNone, OnErr, OnOk};
 ghost use Rattle.exchange_defs.specs.Network.{Settings, start};
 ghost use Rattle.exchange_defs.specs.Operations.{Unsettled, reconnect_of as reconnecting, request_of as requesting};
 ghost use Rattle.exchange_defs.specs.Client.{Client as Model, ask_message, create_for, finish, guid_for, is_taken, own_message};
+ghost use Rattle.exchange_defs.specs.ClientStep.{some_unsettled};
 ghost use Rattle.client_law.specs.Kept.{Kept};
 ghost use Rattle.command_values.specs.Meaning.{command_of};
 ghost use Rattle.client_outcomes.specs.Meaning.{dialog_of, outcome_of, why_of};
@@ -104,6 +105,15 @@ fn go(client: &mut Client, event: Event, alloc: Global) -> Result<Act, AllocErro
     }
 }
 
+fn look(client: &mut Client) -> bool
+    requires holds { Holds client.old }
+    ensures holds { Holds client.new }
+    ensures shown { (c : Model) → ShowsClient client.old c → ShowsClient client.new c }
+    ensures told { (c : Model) → ShowsClient client.old c → result ≡ not (some_unsettled c c.taken) }
+{
+    client.is_settled()
+}
+
 impl Played {
     /// No operations, no opens and no session. It takes no memory.
     pub fn new(alloc: Global) -> Played
@@ -140,6 +150,14 @@ impl Played {
         ensures { (c : Model) → ShowsClient self.now c → c.refusals ≡ map dialog_of result.now }
     {
         self.client.refusals()
+    }
+
+    /// Whether every operation is settled. It goes on from where it looked last.
+    pub fn is_settled(&mut self) -> bool
+        ensures shown { (c : Model) → ShowsClient self.old c → ShowsClient self.new c }
+        ensures told { (c : Model) → ShowsClient self.old c → result ≡ not (some_unsettled c c.taken) }
+    {
+        look(&mut self.client)
     }
 
     /// The client ends, in a live session too: all that was taken and is unsettled is given up, and no event happens to it any more.
