@@ -10,6 +10,3 @@ mod hearing;
 pub use beginning::{start, start_bind};
 pub use heard::Heard;
 pub use hearing::hear;
-
-#[cfg(test)]
-mod tests;

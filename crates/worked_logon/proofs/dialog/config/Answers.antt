@@ -1,5 +1,5 @@
 use Rattle.std.proofs.Common.{ℕ, ◌<◌, List, length, sym, subst, arith}
-use Rattle.client_dialog.proofs.tests.config.Goals as goal
+use Rattle.worked_logon.proofs.dialog.config.Goals as goal
 
 pub returns : goal.returns
 returns c = record {

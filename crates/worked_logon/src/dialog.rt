@@ -1,13 +1,13 @@
-//! A logon by another implementation, from NEGOTIATE to the response to TREE_CONNECT, which is sealed.
+//! A client's dialog beside a logon by another implementation, from NEGOTIATE to the response to TREE_CONNECT, which is sealed.
 ghost use Rattle.std.specs.Prelude.{IfOk};
 ghost use Rattle.line_messages.specs.Dialogs.{CanOffer};
 
-use crate::{Heard, hear, start};
+use anyhow::{Result, ensure};
+use client_dialog::{Heard, hear, start};
 use line_ends::{ClientConfig, Dialog, Fresh};
 use negotiate_ctx::Numbers;
 use smb_bytes::{Bytes, Text};
 use std::alloc::Global;
-use std::test::Fail;
 
 const NEGOTIATE: &str =
     "fe534d4240000100000000000000000200000000000000000000000000000000000000000000000000000000000000000000\
@@ -61,7 +61,7 @@ const CONNECTED: &str =
      0000008fbd06b3aeceaed5c8df88a0ac5cb17914c04d9f34bef505eb40b75b0c0bb739bb9decaccf4c22a41670125b8db3c6\
      5179bb0918bf67642a8b43025130be13d10e22c18d092c919c1bb53d0c62ae90";
 
-fn config(alloc: Global) -> Result<ClientConfig, Fail>
+fn config(alloc: Global) -> Result<ClientConfig>
     ensures { IfOk result (λ c. CanOffer c) }
 {
     let ciphers = Numbers::from_slice(alloc, &[2, 1, 4, 3])?;
@@ -91,13 +91,13 @@ fn fresh() -> Fresh {
     }
 }
 
-fn is_bytes(alloc: Global, text: &str, bytes: &Bytes) -> Result<bool, Fail> {
+fn is_bytes(alloc: Global, text: &str, bytes: &Bytes) -> Result<bool> {
     let wanted = hex::decode(alloc, text)?;
     Ok(wanted.as_slice() == bytes.as_slice())
 }
 
 /// Whether a dialog answers a response with this message.
-fn answers(d: &mut Dialog, alloc: Global, frame: &[u8], wanted: &str) -> Result<bool, Fail> {
+fn answers(d: &mut Dialog, alloc: Global, frame: &[u8], wanted: &str) -> Result<bool> {
     let size = frame.len();
     if size > 65_536 {
         return Ok(false);
@@ -110,13 +110,13 @@ fn answers(d: &mut Dialog, alloc: Global, frame: &[u8], wanted: &str) -> Result<
     }
 }
 
-fn is_next(d: &mut Dialog, alloc: Global, heard: &str, wanted: &str) -> Result<bool, Fail> {
+fn is_next(d: &mut Dialog, alloc: Global, heard: &str, wanted: &str) -> Result<bool> {
     let bytes = hex::decode(alloc, heard)?;
     answers(d, alloc, bytes.as_slice(), wanted)
 }
 
 /// Whether its channel is then ready, in the first session of the first epoch, and the tree 1.
-fn ends(d: &mut Dialog, frame: &[u8]) -> Result<bool, Fail> {
+fn ends(d: &mut Dialog, frame: &[u8]) -> Result<bool> {
     let size = frame.len();
     if size > 65_536 {
         return Ok(false);
@@ -129,20 +129,28 @@ fn ends(d: &mut Dialog, frame: &[u8]) -> Result<bool, Fail> {
     }
 }
 
-fn is_ready(d: &mut Dialog, alloc: Global, heard: &str) -> Result<bool, Fail> {
+fn is_ready(d: &mut Dialog, alloc: Global, heard: &str) -> Result<bool> {
     let bytes = hex::decode(alloc, heard)?;
     ends(d, bytes.as_slice())
 }
 
-#[test]
-fn logon(rt: HostRuntime) -> Result<(), Fail> {
-    let alloc = rt.alloc();
+/// That a dialog says what the other implementation's client says, and takes what its server answers.
+pub fn dialog_agrees(alloc: Global) -> Result<()> {
     let config = config(alloc)?;
     let (mut d, first) = start(alloc, &config, fresh(), 0)?;
-    assert!(rt; is_bytes(alloc, NEGOTIATE, &first)?);
-    assert!(rt; is_next(&mut d, alloc, CHOICE, FIRST)?);
-    assert!(rt; is_next(&mut d, alloc, CHALLENGE, SECOND)?);
-    assert!(rt; is_next(&mut d, alloc, FINAL, CONNECT)?);
-    assert!(rt; is_ready(&mut d, alloc, CONNECTED)?);
+    ensure!(is_bytes(alloc, NEGOTIATE, &first)?, "another NEGOTIATE");
+    ensure!(
+        is_next(&mut d, alloc, CHOICE, FIRST)?,
+        "another first SESSION_SETUP"
+    );
+    ensure!(
+        is_next(&mut d, alloc, CHALLENGE, SECOND)?,
+        "another second SESSION_SETUP"
+    );
+    ensure!(
+        is_next(&mut d, alloc, FINAL, CONNECT)?,
+        "another TREE_CONNECT"
+    );
+    ensure!(is_ready(&mut d, alloc, CONNECTED)?, "no channel is ready");
     Ok(())
 }
