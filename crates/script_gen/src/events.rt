@@ -1,4 +1,8 @@
 // The events behind an operation.
+ghost use Rattle.std.specs.Prelude.{◌≡◌, ◌<◌};
+ghost use Rattle.script_gen.specs.Lines.{event_said};
+ghost use Rattle.script_gen.specs.Making as making;
+
 use script_words::ScriptEvent;
 
 /// An event of a script that was made.
@@ -17,7 +21,9 @@ pub enum MadeEvent {
 
 impl MadeEvent {
     /// As a script's line has it.
-    pub fn event(self) -> ScriptEvent {
+    pub fn event(self) -> ScriptEvent
+        ensures { result ≡ event_said self }
+    {
         match self {
             MadeEvent::Link(k) => ScriptEvent::Link(k),
             MadeEvent::Push(k) => ScriptEvent::Push(k),
@@ -86,7 +92,11 @@ const CRASHED_LOST: &[MadeEvent] = &[
 ];
 
 /// The events that a number below 64 chooses.
-pub(crate) fn events_of(number: u32) -> &'static [MadeEvent] {
+#[tactic(auto, unfolding(crate::specs::Making::events_chosen))]
+pub(crate) fn events_of(number: u32) -> &'static [MadeEvent]
+    requires { number < 64 }
+    ensures { result.now ≡ making.events_chosen number }
+{
     match number {
         0..=39 => PLAIN,
         40..=47 => REQUEST_LOST,

@@ -1,4 +1,11 @@
 // A line of a script that was made: its text, and what it says.
+ghost use Rattle.std.specs.Prelude.{◌≡◌, ◌++◌, codes, replicate, IfOk, OnOk};
+ghost use Rattle.std.specs.Int.{w32, to_le_bytes};
+ghost use Rattle.std.specs.String.{string_bytes};
+ghost use Rattle.operation_values.specs.declared.values.OpKind.TheVariants as kinds;
+ghost use Rattle.script_gen.specs.Lines as lines;
+ghost use Rattle.script_gen.specs.declared.lines.MadeLine.TheVariants as made;
+
 use crate::events::MadeEvent;
 use operation_values::OpKind;
 use script_words::Statement;
@@ -41,91 +48,123 @@ pub enum MadeLine {
 }
 
 /// Adds a line's text.
-pub fn push_line(alloc: Global, out: &mut String, line: &MadeLine) -> Result<(), AllocError> {
+pub fn push_line(alloc: Global, out: &mut String, line: &MadeLine) -> Result<(), AllocError>
+    ensures { OnOk result (string_bytes out.new ≡ string_bytes out.old ++ (lines.line_text line.now ++ codes "\n")) }
+{
+    push_text(alloc, out, line)?;
+    out.push_str("\n")
+}
+
+// Adds it without its end.
+#[tactic(auto, unfolding(crate::specs::Lines::line_text))]
+fn push_text(alloc: Global, out: &mut String, line: &MadeLine) -> Result<(), AllocError>
+    ensures { OnOk result (string_bytes out.new ≡ string_bytes out.old ++ lines.line_text line.now) }
+{
     match *line {
         MadeLine::Event(event) => push_event(out, event),
-        MadeLine::Create { file } => writeln!(out, "op create f{file} rw - openif persist"),
-        MadeLine::Write { create, at, word } => {
-            let digits = hex::encode(alloc, word.to_le_bytes())?;
-            writeln!(out, "op write {create} {at} {digits}")
-        }
-        MadeLine::Lock { create } => writeln!(out, "op lock {create} 0 10 exclusive"),
-        MadeLine::Fill { create, at } => writeln!(out, "op fill {create} {at} 50 61"),
-        MadeLine::Read { create } => writeln!(out, "op read {create} 0 200"),
-        MadeLine::End { create } => writeln!(out, "op end {create} 100"),
-        MadeLine::Unlock { create } => writeln!(out, "op unlock {create} 0 10"),
-        MadeLine::Close { create } => writeln!(out, "op close {create}"),
+        MadeLine::Create { file } => write!(out, "op create f{file} rw - openif persist"),
+        MadeLine::Write { create, at, word } => push_write(alloc, out, create, at, word),
+        MadeLine::Lock { create } => write!(out, "op lock {create} 0 10 exclusive"),
+        MadeLine::Fill { create, at } => write!(out, "op fill {create} {at} 50 61"),
+        MadeLine::Read { create } => write!(out, "op read {create} 0 200"),
+        MadeLine::End { create } => write!(out, "op end {create} 100"),
+        MadeLine::Unlock { create } => write!(out, "op unlock {create} 0 10"),
+        MadeLine::Close { create } => write!(out, "op close {create}"),
     }
 }
 
-fn push_event(out: &mut String, event: MadeEvent) -> Result<(), AllocError> {
+#[tactic(auto, unfolding(crate::specs::Lines::line_text))]
+fn push_write(
+    alloc: Global,
+    out: &mut String,
+    create: u32,
+    at: u32,
+    word: u32,
+) -> Result<(), AllocError>
+    ensures { OnOk result (string_bytes out.new ≡ string_bytes out.old ++ lines.line_text (made.Write create at word)) }
+{
+    let digits = hex::encode(alloc, word.to_le_bytes())?;
+    write!(out, "op write {create} {at} {digits}")
+}
+
+#[tactic(auto, unfolding(crate::specs::Lines::event_text))]
+fn push_event(out: &mut String, event: MadeEvent) -> Result<(), AllocError>
+    ensures { OnOk result (string_bytes out.new ≡ string_bytes out.old ++ lines.event_text event) }
+{
     match event {
-        MadeEvent::Link(k) => writeln!(out, "link {k}"),
-        MadeEvent::Push(k) => writeln!(out, "push {k}"),
-        MadeEvent::Serve(k) => writeln!(out, "serve {k}"),
-        MadeEvent::Cut(k) => writeln!(out, "cut {k}"),
-        MadeEvent::Drop(k) => writeln!(out, "drop {k}"),
-        MadeEvent::Restart => out.push_str("restart\n"),
-        MadeEvent::Crash(true) => out.push_str("crash 0 kept\n"),
-        MadeEvent::Crash(false) => out.push_str("crash 0 lost\n"),
-        MadeEvent::Settle => out.push_str("settle\n"),
+        MadeEvent::Link(k) => write!(out, "link {k}"),
+        MadeEvent::Push(k) => write!(out, "push {k}"),
+        MadeEvent::Serve(k) => write!(out, "serve {k}"),
+        MadeEvent::Cut(k) => write!(out, "cut {k}"),
+        MadeEvent::Drop(k) => write!(out, "drop {k}"),
+        MadeEvent::Restart => out.push_str("restart"),
+        MadeEvent::Crash(true) => out.push_str("crash 0 kept"),
+        MadeEvent::Crash(false) => out.push_str("crash 0 lost"),
+        MadeEvent::Settle => out.push_str("settle"),
     }
 }
 
 /// What a line says.
-pub fn statement_of(alloc: Global, line: &MadeLine) -> Result<Statement, AllocError> {
+pub fn statement_of(alloc: Global, line: &MadeLine) -> Result<Statement, AllocError>
+    ensures { IfOk result (λ says. says ≡ lines.line_said line.now) }
+{
     match *line {
         MadeLine::Event(event) => Ok(Statement::Event(event.event())),
-        _ => Ok(Statement::Operation(operation_of(alloc, line)?)),
-    }
-}
-
-fn operation_of(alloc: Global, line: &MadeLine) -> Result<OpKind, AllocError> {
-    match *line {
-        MadeLine::Create { file } => create_of(alloc, file),
+        MadeLine::Create { file } => Ok(Statement::Operation(create_of(alloc, file)?)),
         MadeLine::Write { create, at, word } => {
-            let bytes = word.to_le_bytes();
-            let held = Bytes::from_vec(Vec::from_slice(alloc, bytes.as_slice())?);
-            Ok(write_of(create, at, held))
+            Ok(Statement::Operation(write_of(alloc, create, at, word)?))
         }
-        MadeLine::Fill { create, at } => {
-            let filled = vec![in alloc; FILLED_WITH; FILLED]?;
-            Ok(write_of(create, at, Bytes::from_vec(filled)))
-        }
-        MadeLine::Event(_) => Ok(OpKind::Close { create: 0 }),
-        MadeLine::Lock { create } => Ok(OpKind::Lock {
+        MadeLine::Fill { create, at } => Ok(Statement::Operation(fill_of(alloc, create, at)?)),
+        MadeLine::Lock { create } => Ok(Statement::Operation(OpKind::Lock {
             create,
             at: 0,
             length: LOCKED,
             exclusive: true,
-        }),
-        MadeLine::Unlock { create } => Ok(OpKind::Unlock {
+        })),
+        MadeLine::Unlock { create } => Ok(Statement::Operation(OpKind::Unlock {
             create,
             at: 0,
             length: LOCKED,
-        }),
-        MadeLine::Read { create } => Ok(OpKind::Read {
+        })),
+        MadeLine::Read { create } => Ok(Statement::Operation(OpKind::Read {
             create,
             at: 0,
             length: READ,
-        }),
-        MadeLine::End { create } => Ok(OpKind::SetEnd {
+        })),
+        MadeLine::End { create } => Ok(Statement::Operation(OpKind::SetEnd {
             create,
             length: END,
-        }),
-        MadeLine::Close { create } => Ok(OpKind::Close { create }),
+        })),
+        MadeLine::Close { create } => Ok(Statement::Operation(OpKind::Close { create })),
     }
 }
 
-fn write_of(create: u32, at: u32, bytes: Bytes) -> OpKind {
-    OpKind::Write {
+fn write_of(alloc: Global, create: u32, at: u32, word: u32) -> Result<OpKind, AllocError>
+    ensures { IfOk result (λ kind. kind ≡ kinds.Write create at (to_le_bytes w32 word)) }
+{
+    let bytes = word.to_le_bytes();
+    let held = Vec::from_slice(alloc, bytes.as_slice())?;
+    Ok(OpKind::Write {
         create,
         at: u64::from(at),
-        bytes,
-    }
+        bytes: Bytes::from_vec(held),
+    })
 }
 
-fn create_of(alloc: Global, file: u32) -> Result<OpKind, AllocError> {
+fn fill_of(alloc: Global, create: u32, at: u32) -> Result<OpKind, AllocError>
+    ensures { IfOk result (λ kind. kind ≡ kinds.Write create at (replicate 50 0x61)) }
+{
+    let filled = vec![in alloc; FILLED_WITH; FILLED]?;
+    Ok(OpKind::Write {
+        create,
+        at: u64::from(at),
+        bytes: Bytes::from_vec(filled),
+    })
+}
+
+fn create_of(alloc: Global, file: u32) -> Result<OpKind, AllocError>
+    ensures { IfOk result (λ kind. kind ≡ lines.creates_file file) }
+{
     let name = format!(in alloc; "f{file}")?;
     let path = Text::from_str(alloc, name.as_str())?;
     Ok(OpKind::Create {

@@ -1,0 +1,7 @@
+use Rattle.drill_law.proofs.Holding.{scripts_hold}
+use Rattle.drill_law.proofs.script_headline_law.Goals as goal
+
+pub returns : goal.returns
+returns c = record {
+  holds = scripts_hold c.headline_law.ensures.holds c.script_settings_law.ensures.fit c.script_counts_law.ensures.few;
+}

@@ -1,0 +1,31 @@
+//! The headline of each script that `drill` reads, with no premise on what it sets up: its creates, locks and unlocks act at most once, no
+//! write acts behind a newer channel sequence, a file that denies writers is one connection's, and a session is accepted only on what was
+//! negotiated. What a program that drives a script calls for the sentence that it ends with.
+//!
+//! Each law is a public function, whose contract is the statement, which stands in `specs`.
+#![tactic(auto)]
+
+ghost use Rattle.drill_law.specs.Drills.{MadeScriptsHold, ScriptsHold};
+
+use gen_law::made_lines_law;
+use headline_law::headline_law;
+use script_fits_law::{default_settings_law, script_counts_law, script_settings_law};
+
+/// Of the run of any script that is read, whatever it draws: the first three sentences where no line tampers with what is on its way, the last
+/// one of all.
+pub fn script_headline_law()
+    ensures holds { ScriptsHold }
+{
+    headline_law();
+    script_settings_law();
+    script_counts_law();
+}
+
+/// Of the run of the script that a key gives, with up to 1,048,576 operations, whatever the run draws: all four sentences.
+pub fn made_headline_law()
+    ensures holds { MadeScriptsHold }
+{
+    headline_law();
+    default_settings_law();
+    made_lines_law();
+}
