@@ -3,9 +3,11 @@
 #![tactic(auto)]
 
 mod events;
+mod notes;
 mod sides;
 mod world;
 
 pub use events::{WorldError, WorldEvent};
+pub use notes::{Happened, Note, Notes, Step};
 pub use sides::{Channel, ClientSide, Down, Up};
 pub use world::{Marks, Places, World};

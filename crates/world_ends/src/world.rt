@@ -1,3 +1,4 @@
+use crate::notes::Notes;
 use crate::sides::Channel;
 use client_played::Played;
 use line_ends::ClientConfig;
@@ -51,4 +52,5 @@ pub struct World {
     /// By number.
     pub channels: Vec<Channel>,
     pub places: Places,
+    pub notes: Notes,
 }
