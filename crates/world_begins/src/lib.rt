@@ -1,0 +1,6 @@
+//! How a world in code begins: a client without operations, a server on an empty disk, and 256 connections of which both ends are closed.
+#![tactic(auto)]
+
+mod beginning;
+
+pub use beginning::begin;
