@@ -1,0 +1,9 @@
+//! A ready channel of a world's client sends: the lowest operation that may go out and is paid for.
+#![tactic(auto)]
+
+mod asking;
+mod choosing;
+mod pushing;
+mod saying;
+
+pub use pushing::push;
