@@ -1,0 +1,17 @@
+use Rattle.std.proofs.Common.{◌≡◌, List, map, sym, ap, subst, ◌∙◌}
+use Rattle.std.specs.String.{string_bytes}
+use Rattle.client_outcomes.specs.Meaning.{dialog_of, outcome_of}
+use Rattle.file_store.specs.Stored.{AreFiles}
+use Rattle.file_store.specs.declared.files.StoredFile.{StoredFile}
+use Rattle.drill_text.proofs.Added.{ok_with}
+use Rattle.drill_text.proofs.Ended.{is_text}
+use Rattle.drill_text.proofs.printing.text_of.Goals as goal
+
+pub returns : goal.returns
+returns c =
+    ok_with c.run_text.result (λ text shown z w h.
+    is_text w.values c.args.world.now.client c.as_slice.result.now c.as_slice-2.result.now c.as_slice-3.result.now c.as_slice-4.result.now
+    (string_bytes text) h.client c.as_slice.ensures.value c.as_slice-2.ensures.value
+    (c.as_slice-3.ensures.value ∙ c.in_ok-orders.ensures z w h)
+    (subst (λ (l : List StoredFile). AreFiles l w.values.server) (sym c.as_slice-4.ensures.value) (c.in_ok-files.ensures z w h)) shown)
+    c.run_text.ensures
