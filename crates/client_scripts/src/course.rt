@@ -1,47 +1,48 @@
 // A run of so many operations on one channel.
+use crate::plays::Plays;
 use crate::works::{Work, body_to};
 use anyhow::{Context, Result, bail, ensure};
 use client_event::{Act, Event};
-use client_played::Played;
 use std::alloc::Global;
 use std::collections::VecDeque;
 
 /// How many credits a channel holds where nothing is outstanding; each operation here pays one.
 const CREDITS: usize = 512;
 
-fn begun(alloc: Global) -> Result<Played> {
-    let mut played = Played::new(alloc);
+fn begun<P: Plays>(alloc: Global) -> Result<P> {
+    let mut played = P::begun(alloc);
     let ready = Event::Ready {
         channel: 0,
         session: 1,
         tree: 1,
     };
-    ensure!(played.step(ready, alloc)? == Act::Nothing, "no session");
+    ensure!(played.at_event(ready, alloc)? == Act::Nothing, "no session");
     Ok(played)
 }
 
-fn submit(alloc: Global, played: &mut Played, work: Work, number: u32, count: u32) -> Result<()> {
+fn submit<P: Plays>(
+    alloc: Global,
+    played: &mut P,
+    work: Work,
+    number: u32,
+    count: u32,
+) -> Result<()> {
     let kind = work.kind(alloc, number, count)?;
-    let _ = played.step(Event::Submit { number, kind }, alloc)?;
+    let _ = played.at_event(Event::Submit { number, kind }, alloc)?;
     Ok(())
 }
 
-fn push(alloc: Global, played: &mut Played, credits: u32) -> Result<Act> {
+fn push<P: Plays>(alloc: Global, played: &mut P, credits: u32) -> Result<Act> {
     let event = Event::Push {
         channel: 0,
         credits,
     };
-    played.step(event, alloc)
+    played.at_event(event, alloc)
 }
 
-fn answer(alloc: Global, played: &mut Played, number: u32) -> Result<()> {
+fn answer<P: Plays>(alloc: Global, played: &mut P, number: u32) -> Result<()> {
     let place = number.checked_sub(1).context("number 0")? as usize;
-    let kind = played
-        .client()
-        .table
-        .ops
-        .get(place)
-        .context("no operation")?;
+    let kind = played.table().ops.get(place).context("no operation")?;
     let body = body_to(alloc, kind, number)?;
     let event = Event::Hear {
         channel: 0,
@@ -50,12 +51,18 @@ fn answer(alloc: Global, played: &mut Played, number: u32) -> Result<()> {
         status: 0,
         body,
     };
-    let _ = played.step(event, alloc)?;
+    let _ = played.at_event(event, alloc)?;
     Ok(())
 }
 
 // One is submitted, sent and answered.
-fn settle(alloc: Global, played: &mut Played, work: Work, number: u32, count: u32) -> Result<()> {
+fn settle<P: Plays>(
+    alloc: Global,
+    played: &mut P,
+    work: Work,
+    number: u32,
+    count: u32,
+) -> Result<()> {
     submit(alloc, played, work, number, count)?;
     match push(alloc, played, 512)? {
         Act::Sends(index) => answer(alloc, played, u32::try_from(index)?),
@@ -64,8 +71,8 @@ fn settle(alloc: Global, played: &mut Played, work: Work, number: u32, count: u3
 }
 
 /// Each one is submitted, sent and answered before the next one.
-pub fn one_at_a_time(alloc: Global, work: Work, count: u32) -> Result<Played> {
-    let mut played = begun(alloc)?;
+pub fn one_at_a_time<P: Plays>(alloc: Global, work: Work, count: u32) -> Result<P> {
+    let mut played = begun::<P>(alloc)?;
     for number in 1..=count {
         settle(alloc, &mut played, work, number, count)?;
     }
@@ -74,13 +81,13 @@ pub fn one_at_a_time(alloc: Global, work: Work, count: u32) -> Result<Played> {
 
 /// A run, and how many were outstanding at once at most.
 #[derive(Drop)]
-pub struct Course {
-    pub played: Played,
+pub struct Course<P: Plays> {
+    pub played: P,
     pub most: usize,
     out: VecDeque<u32>,
 }
 
-impl Course {
+impl<P: Plays> Course<P> {
     /// A push, or where no credit is left or nothing may go out, the answer to what is longest outstanding. False where all is settled.
     fn step(&mut self, alloc: Global) -> Result<bool> {
         let left = CREDITS.saturating_sub(self.out.len());
@@ -108,8 +115,8 @@ impl Course {
 
 /// The creates that come first are answered, all others are submitted; then as many are outstanding as may be. With one open before the
 /// others that one's locks would go out alone, and be more than it has slots.
-pub fn together(alloc: Global, work: Work, count: u32) -> Result<Course> {
-    let mut played = begun(alloc)?;
+pub fn together<P: Plays>(alloc: Global, work: Work, count: u32) -> Result<Course<P>> {
+    let mut played = begun::<P>(alloc)?;
     for number in 1..=count {
         if number <= work.opens() {
             settle(alloc, &mut played, work, number, count)?;
@@ -132,9 +139,9 @@ pub fn together(alloc: Global, work: Work, count: u32) -> Result<Course> {
 }
 
 /// How many settled as Ok.
-pub fn settled_ok(played: &Played) -> Result<usize> {
+pub fn settled_ok<P: Plays>(played: &P) -> Result<usize> {
     let mut count: usize = 0;
-    for outcome in played.client().table.settled.as_slice() {
+    for outcome in played.table().settled.as_slice() {
         if outcome.is_ok() {
             count = count.saturating_add(1);
         }

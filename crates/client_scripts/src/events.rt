@@ -1,27 +1,27 @@
 // What a client does at the event of a row.
 use crate::bodies::body_in;
 use crate::operations::kind_in;
+use crate::plays::Plays;
 use crate::script::Script;
 use crate::words::{status_in, u8_in, u32_in, u64_in, word_in};
 use crate::{sent, telling};
 use anyhow::{Result, bail};
 use client_event::{Act, Event};
 use client_outcomes::Why;
-use client_played::Played;
 use command_values::Body;
 use msg_session::Refusal;
 use std::alloc::Global;
 use std::str::SplitWhitespace;
 
 /// What is answered to a row: what is done at its event, and what settles by it; at the end of a script all that stands.
-pub fn said_to(alloc: Global, script: &mut Script, given: &str) -> Result<String> {
+pub fn said_to<P: Plays>(alloc: Global, script: &mut Script<P>, given: &str) -> Result<String> {
     let mut words = given.split_whitespace();
     match word_in(&mut words)? {
         "script" => {
             *script = Script::new(alloc);
             plain(alloc, "nothing")
         }
-        "end" => telling::all(alloc, &script.played.client().table),
+        "end" => telling::all(alloc, script.played.table()),
         word => {
             let done = done_at(alloc, &mut script.played, word, &mut words)?;
             telling::with_news(alloc, script, done)
@@ -29,9 +29,9 @@ pub fn said_to(alloc: Global, script: &mut Script, given: &str) -> Result<String
     }
 }
 
-fn done_at(
+fn done_at<P: Plays>(
     alloc: Global,
-    played: &mut Played,
+    played: &mut P,
     word: &str,
     words: &mut SplitWhitespace<'_>,
 ) -> Result<String> {
@@ -53,28 +53,32 @@ fn plain(alloc: Global, word: &str) -> Result<String> {
     Ok(String::from_str(alloc, word)?)
 }
 
-fn submitted(
+fn submitted<P: Plays>(
     alloc: Global,
-    played: &mut Played,
+    played: &mut P,
     words: &mut SplitWhitespace<'_>,
 ) -> Result<String> {
     let number = u32_in(words)?;
     let kind = kind_in(alloc, words)?;
-    let _ = played.step(Event::Submit { number, kind }, alloc)?;
-    let taken = played.client().table.ops.len();
+    let _ = played.at_event(Event::Submit { number, kind }, alloc)?;
+    let taken = played.table().ops.len();
     Ok(format!(in alloc; "{taken} taken")?)
 }
 
-fn pushed(alloc: Global, played: &mut Played, words: &mut SplitWhitespace<'_>) -> Result<String> {
+fn pushed<P: Plays>(
+    alloc: Global,
+    played: &mut P,
+    words: &mut SplitWhitespace<'_>,
+) -> Result<String> {
     let channel = u8_in(words)?;
     let credits = u32_in(words)?;
-    let act = played.step(Event::Push { channel, credits }, alloc)?;
+    let act = played.at_event(Event::Push { channel, credits }, alloc)?;
     sent::push(alloc, played, act)
 }
 
-fn heard(
+fn heard<P: Plays>(
     alloc: Global,
-    played: &mut Played,
+    played: &mut P,
     words: &mut SplitWhitespace<'_>,
     asking: bool,
 ) -> Result<String> {
@@ -93,24 +97,28 @@ fn heard(
         status,
         body,
     };
-    match played.step(event, alloc)? {
+    match played.at_event(event, alloc)? {
         Act::CloseChannels => plain(alloc, "closes all"),
         Act::Nothing => plain(alloc, "nothing"),
         _ => bail!("a response asks for more"),
     }
 }
 
-fn cut(alloc: Global, played: &mut Played, words: &mut SplitWhitespace<'_>) -> Result<String> {
+fn cut<P: Plays>(alloc: Global, played: &mut P, words: &mut SplitWhitespace<'_>) -> Result<String> {
     let channel = u8_in(words)?;
-    let was_ready = played.client().table.session.is_ready(channel as u32);
-    match played.step(Event::Cut { channel }, alloc)? {
+    let was_ready = played.table().session.is_ready(channel as u32);
+    match played.at_event(Event::Cut { channel }, alloc)? {
         Act::CloseChannels => plain(alloc, "ends"),
         Act::Nothing => plain(alloc, if was_ready { "lost" } else { "nothing" }),
         _ => bail!("a cut asks for more"),
     }
 }
 
-fn ready(alloc: Global, played: &mut Played, words: &mut SplitWhitespace<'_>) -> Result<String> {
+fn ready<P: Plays>(
+    alloc: Global,
+    played: &mut P,
+    words: &mut SplitWhitespace<'_>,
+) -> Result<String> {
     let channel = u8_in(words)?;
     let session = u64_in(words)?;
     let tree = u32_in(words)?;
@@ -119,7 +127,7 @@ fn ready(alloc: Global, played: &mut Played, words: &mut SplitWhitespace<'_>) ->
         session,
         tree,
     };
-    match played.step(event, alloc)? {
+    match played.at_event(event, alloc)? {
         Act::Nothing => plain(alloc, "ready"),
         Act::CloseChannel => plain(alloc, "apart"),
         _ => bail!("a dialog asks for more"),
@@ -127,19 +135,23 @@ fn ready(alloc: Global, played: &mut Played, words: &mut SplitWhitespace<'_>) ->
 }
 
 /// A channel becomes ready in the session and is cut, so often.
-fn worn(alloc: Global, played: &mut Played, words: &mut SplitWhitespace<'_>) -> Result<String> {
+fn worn<P: Plays>(
+    alloc: Global,
+    played: &mut P,
+    words: &mut SplitWhitespace<'_>,
+) -> Result<String> {
     let channel = u8_in(words)?;
     let times = u32_in(words)?;
-    let session = played.client().table.session.id();
-    let tree = played.client().table.session.tree();
+    let session = played.table().session.id();
+    let tree = played.table().session.tree();
     for _ in 0..times {
         let ready = Event::Ready {
             channel,
             session,
             tree,
         };
-        let _ = played.step(ready, alloc)?;
-        let _ = played.step(Event::Cut { channel }, alloc)?;
+        let _ = played.at_event(ready, alloc)?;
+        let _ = played.at_event(Event::Cut { channel }, alloc)?;
     }
     plain(alloc, "nothing")
 }
@@ -154,10 +166,14 @@ fn refusal_in(alloc: Global, words: &mut SplitWhitespace<'_>) -> Result<Refusal>
     }
 }
 
-fn refused(alloc: Global, played: &mut Played, words: &mut SplitWhitespace<'_>) -> Result<String> {
+fn refused<P: Plays>(
+    alloc: Global,
+    played: &mut P,
+    words: &mut SplitWhitespace<'_>,
+) -> Result<String> {
     let channel = u8_in(words)?;
     let why = refusal_in(alloc, words)?;
-    let _ = played.step(Event::Refused { channel, why }, alloc)?;
+    let _ = played.at_event(Event::Refused { channel, why }, alloc)?;
     plain(alloc, "nothing")
 }
 
@@ -170,8 +186,12 @@ fn why_in(alloc: Global, words: &mut SplitWhitespace<'_>) -> Result<Why> {
     }
 }
 
-fn finished(alloc: Global, played: &mut Played, words: &mut SplitWhitespace<'_>) -> Result<String> {
+fn finished<P: Plays>(
+    alloc: Global,
+    played: &mut P,
+    words: &mut SplitWhitespace<'_>,
+) -> Result<String> {
     let why = why_in(alloc, words)?;
-    let _ = played.step(Event::Finish { why }, alloc)?;
+    let _ = played.at_event(Event::Finish { why }, alloc)?;
     plain(alloc, "nothing")
 }

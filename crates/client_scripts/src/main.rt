@@ -12,6 +12,7 @@ mod course;
 mod events;
 mod memory;
 mod operations;
+mod plays;
 mod script;
 mod sent;
 mod telling;
@@ -20,8 +21,10 @@ mod words;
 mod works;
 
 use anyhow::{Context, Result};
+use client_played::Played;
 use due_rows::{Tally, ensure_due, is_remark, row_of};
 use events::said_to;
+use plays::Plays;
 use script::Script;
 use std::alloc::Global;
 use std::env;
@@ -30,7 +33,7 @@ use works::{WORKS, Work};
 const FEW: u32 = 600;
 
 /// Whether a line is a row, which is answered with what is due.
-fn is_right(alloc: Global, script: &mut Script, line: &str) -> Result<bool> {
+fn is_right<P: Plays>(alloc: Global, script: &mut Script<P>, line: &str) -> Result<bool> {
     if is_remark(line) {
         return Ok(false);
     }
@@ -41,11 +44,11 @@ fn is_right(alloc: Global, script: &mut Script, line: &str) -> Result<bool> {
 }
 
 // How many of a few operations of a work are answered, and how many are outstanding at once.
-fn row(alloc: Global, work: Work) -> Result<String> {
+fn row<P: Plays>(alloc: Global, work: Work) -> Result<String> {
     let name = work.name();
-    let played = course::one_at_a_time(alloc, work, FEW)?;
+    let played = course::one_at_a_time::<P>(alloc, work, FEW)?;
     let alone = course::settled_ok(&played)?;
-    let course = course::together(alloc, work, FEW)?;
+    let course = course::together::<P>(alloc, work, FEW)?;
     let settled = course::settled_ok(&course.played)?;
     let most = course.most;
     Ok(format!(in alloc;
@@ -63,9 +66,9 @@ fn work_of(name: &str) -> Option<Work> {
 }
 
 // Answers the rows of the standard input, and tells how many there were.
-fn answer_rows(rt: &HostRuntime) -> Result<()> {
+fn answer_rows<P: Plays>(rt: &HostRuntime) -> Result<()> {
     let mut tally = Tally::new();
-    let mut script = Script::new(rt.alloc());
+    let mut script = Script::<P>::new(rt.alloc());
     for line in rt.lines(rt.alloc()) {
         let line = line?;
         tally.count(is_right(rt.alloc(), &mut script, line.as_str()))?;
@@ -79,17 +82,17 @@ fn main(rt: HostRuntime) -> Result<()> {
     let mut words = env::args(&rt)?;
     let _ = words.next();
     let Some(word) = words.next() else {
-        answer_rows(&rt)?;
+        answer_rows::<Played>(&rt)?;
         for work in WORKS {
-            let said = row(rt.alloc(), work)?;
+            let said = row::<Played>(rt.alloc(), work)?;
             println!(rt; "{said}")?;
         }
         return Ok(());
     };
     if word.as_str() == "measure" {
-        return times::table(&rt);
+        return times::table::<Played>(&rt);
     }
     let name = words.next().context("no work")?;
     let work = work_of(name.as_str()).context("an unknown work")?;
-    memory::measure(&rt, work)
+    memory::measure::<Played>(&rt, work)
 }

@@ -1,5 +1,6 @@
 // How much memory one work takes. A process measures one alone, since it keeps for itself what was freed.
 use crate::course::together;
+use crate::plays::Plays;
 use crate::works::Work;
 use anyhow::{Context, Result};
 use smb_bytes::Bytes;
@@ -51,14 +52,14 @@ fn payload(rt: &HostRuntime) -> Result<u64> {
 }
 
 /// The bytes that an operation keeps at the end, and at the peak, without its payload.
-pub fn measure(rt: &HostRuntime, work: Work) -> Result<()> {
+pub fn measure<P: Plays>(rt: &HostRuntime, work: Work) -> Result<()> {
     let before = now(rt)?;
-    let course = together(rt.alloc(), work, MANY)?;
+    let course = together::<P>(rt.alloc(), work, MANY)?;
     let end = now(rt)?.saturating_sub(before);
     let peak = most(rt)?.saturating_sub(before);
     let each = payload(rt)?;
     let apart = each.saturating_mul(u64::from(work.payloads(MANY)));
-    let count = (course.played.client().table.ops.len() as u64).max(1);
+    let count = (course.played.table().ops.len() as u64).max(1);
     let name = work.name();
     println!(rt;
         "{name}: {} bytes an operation at the end, {} at the peak, beside {each} of each payload; bars: 200, 300",

@@ -1,18 +1,18 @@
 // A script that is played.
+use crate::plays::Plays;
 use anyhow::Result;
-use client_played::Played;
 use std::alloc::Global;
 
 /// Its client, and by place from 0, of which operations it was told how they settled.
 #[derive(Drop)]
-pub struct Script {
-    pub played: Played,
+pub struct Script<P: Plays> {
+    pub played: P,
     pub told: Vec<bool>,
 }
 
-impl Script {
-    pub fn new(alloc: Global) -> Script {
-        let played = Played::new(alloc);
+impl<P: Plays> Script<P> {
+    pub fn new(alloc: Global) -> Script<P> {
+        let played = P::begun(alloc);
         Script {
             played,
             told: Vec::new(alloc),

@@ -1,7 +1,7 @@
 // What goes out at a push, as its request has it.
+use crate::plays::Plays;
 use anyhow::{Result, bail};
 use client_event::Act;
-use client_played::Played;
 use client_sent::Head;
 use command_values::{Command, CreateRequest};
 use std::alloc::Global;
@@ -10,7 +10,7 @@ use std::alloc::Global;
 const SALT: u64 = 7;
 
 /// What a push came to, with what goes out.
-pub fn push(alloc: Global, played: &Played, act: Act) -> Result<String> {
+pub fn push<P: Plays>(alloc: Global, played: &P, act: Act) -> Result<String> {
     match act {
         Act::Sends(index) => sent(alloc, played, index, false),
         Act::Asks(index) => sent(alloc, played, index, true),
@@ -21,9 +21,9 @@ pub fn push(alloc: Global, played: &Played, act: Act) -> Result<String> {
     }
 }
 
-fn sent(alloc: Global, played: &Played, index: usize, asking: bool) -> Result<String> {
-    let head = played.head(index, asking)?;
-    let command = played.request(alloc, index, asking, SALT)?;
+fn sent<P: Plays>(alloc: Global, played: &P, index: usize, asking: bool) -> Result<String> {
+    let head = played.head_at(index, asking)?;
+    let command = played.request_at(alloc, index, asking, SALT)?;
     let said = said_of(alloc, &command, head)?;
     let word = if asking { "asks" } else { "sends" };
     let replay = if head.replay { " replay" } else { "" };

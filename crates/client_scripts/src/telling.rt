@@ -1,4 +1,5 @@
 // What a row tells of a client.
+use crate::plays::Plays;
 use crate::script::Script;
 use anyhow::{Context, Result};
 use client_outcomes::{Outcome, Why};
@@ -11,12 +12,12 @@ use std::alloc::Global;
 use vector_rows::digits_of;
 
 /// What was done, and behind it how each operation settled of which nothing was told yet.
-pub fn with_news(alloc: Global, script: &mut Script, done: String) -> Result<String> {
+pub fn with_news<P: Plays>(alloc: Global, script: &mut Script<P>, done: String) -> Result<String> {
     let mut said = done;
-    for place in 0..script.played.client().table.ops.len() {
-        let settled = is_settled(&script.played.client().table, place)?;
+    for place in 0..script.played.table().ops.len() {
+        let settled = is_settled(script.played.table(), place)?;
         if script.is_news(place, settled)? {
-            let outcome = outcome_at(alloc, &script.played.client().table, place)?;
+            let outcome = outcome_at(alloc, script.played.table(), place)?;
             said.push_str(&format!(in alloc; "; {outcome}")?)?;
         }
     }

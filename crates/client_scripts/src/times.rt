@@ -1,5 +1,6 @@
 // Times of one run each, in the process's own time: what else the machine does meanwhile isn't in them.
 use crate::course::{one_at_a_time, settled_ok, together};
+use crate::plays::Plays;
 use crate::works::{WORKS, Work};
 use anyhow::{Result, ensure};
 use std::time::CpuClock;
@@ -32,16 +33,16 @@ impl Way {
     }
 }
 
-fn answered(rt: &HostRuntime, work: Work, way: Way, count: u32) -> Result<(usize, u128)> {
+fn answered<P: Plays>(rt: &HostRuntime, work: Work, way: Way, count: u32) -> Result<(usize, u128)> {
     let start = rt.process_cpu_time()?;
     match way {
         Way::Alone => {
-            let played = one_at_a_time(rt.alloc(), work, count)?;
+            let played = one_at_a_time::<P>(rt.alloc(), work, count)?;
             let time = rt.process_cpu_time()?.saturating_sub(start).as_nanos();
             Ok((settled_ok(&played)?, time))
         }
         Way::Together => {
-            let course = together(rt.alloc(), work, count)?;
+            let course = together::<P>(rt.alloc(), work, count)?;
             let time = rt.process_cpu_time()?.saturating_sub(start).as_nanos();
             Ok((settled_ok(&course.played)?, time))
         }
@@ -49,24 +50,24 @@ fn answered(rt: &HostRuntime, work: Work, way: Way, count: u32) -> Result<(usize
 }
 
 // How many nanoseconds a run took.
-fn time(rt: &HostRuntime, work: Work, way: Way, count: u32) -> Result<u128> {
-    let (settled, time) = answered(rt, work, way, count)?;
+fn time<P: Plays>(rt: &HostRuntime, work: Work, way: Way, count: u32) -> Result<u128> {
+    let (settled, time) = answered::<P>(rt, work, way, count)?;
     ensure!(settled == count as usize, "one isn't Ok");
     Ok(time)
 }
 
 // How many nanoseconds ten runs of a hundred thousand took, which a million are compared with.
-fn ten_times(rt: &HostRuntime, work: Work, way: Way) -> Result<u128> {
+fn ten_times<P: Plays>(rt: &HostRuntime, work: Work, way: Way) -> Result<u128> {
     let mut sum: u128 = 0;
     for _ in 0..10 {
-        sum = sum.saturating_add(time(rt, work, way, SOME)?);
+        sum = sum.saturating_add(time::<P>(rt, work, way, SOME)?);
     }
     Ok(sum)
 }
 
-fn row(rt: &HostRuntime, work: Work, way: Way) -> Result<()> {
-    let ten = ten_times(rt, work, way)?;
-    let many = time(rt, work, way, MANY)?;
+fn row<P: Plays>(rt: &HostRuntime, work: Work, way: Way) -> Result<()> {
+    let ten = ten_times::<P>(rt, work, way)?;
+    let many = time::<P>(rt, work, way, MANY)?;
     let name = work.name();
     let said = way.name();
     let bar = way.bar();
@@ -85,10 +86,10 @@ fn row(rt: &HostRuntime, work: Work, way: Way) -> Result<()> {
 }
 
 /// The table of all works.
-pub fn table(rt: &HostRuntime) -> Result<()> {
+pub fn table<P: Plays>(rt: &HostRuntime) -> Result<()> {
     for work in WORKS {
-        row(rt, work, Way::Alone)?;
-        row(rt, work, Way::Together)?;
+        row::<P>(rt, work, Way::Alone)?;
+        row::<P>(rt, work, Way::Together)?;
     }
     Ok(())
 }

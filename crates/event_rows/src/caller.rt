@@ -3,7 +3,7 @@ use command_values::{Body, Command, CreateRequest, Durable, Element, Reply};
 use event_calls::{
     Envelope, check_last, config, first_token, second_token, setup_heard, setup_message,
 };
-use event_server::Running;
+use event_server::Runs;
 use server_asked::ServerEvent;
 use server_effects::Answer;
 use smb_bytes::{Bytes, Text};
@@ -15,18 +15,18 @@ const ROOM: u64 = 268_435_456;
 /// A client with a session of `User` and a tree of the share, of a server on a disk in memory. Each event is at the moment 1,
 /// and an answer that refuses is an error.
 #[derive(Drop)]
-pub struct Caller {
+pub struct Caller<S: Runs> {
     alloc: Global,
-    server: Running<MemDisk>,
+    server: S,
     around: Envelope,
     events: u32,
 }
 
-impl Caller {
+impl<S: Runs<D = MemDisk>> Caller<S> {
     /// Begins on what a disk holds, and logs on.
-    pub fn new(alloc: Global, disk: MemDisk) -> Result<Caller> {
+    pub fn new(alloc: Global, disk: MemDisk) -> Result<Caller<S>> {
         let config = config(alloc, ROOM, false)?;
-        let server = Running::begin(alloc, disk, config)?;
+        let server = S::begin(alloc, disk, config)?;
         let mut caller = Caller {
             alloc,
             server,

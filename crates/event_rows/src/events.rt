@@ -3,6 +3,8 @@ use crate::caller::Caller;
 use crate::next;
 use anyhow::{Context, Result};
 use event_calls::disk_of;
+use event_server::{Running, Runs};
+use smb_io::MemDisk;
 use std::alloc::Global;
 use std::time::Instant;
 
@@ -21,18 +23,18 @@ struct Times {
 
 // A client's opens, and the paths of their files.
 #[derive(Drop)]
-struct Stand {
+struct Stand<S: Runs> {
     alloc: Global,
-    caller: Caller,
+    caller: Caller<S>,
     paths: Vec<String>,
     ids: Vec<u64>,
 }
 
 /// The table with its bars.
 pub fn measure(rt: &HostRuntime) -> Result<()> {
-    let few = times_with(rt, 10, 10)?;
-    let many = times_with(rt, 10_000, 10_000)?;
-    let shared = times_with(rt, 10_000, 10)?;
+    let few = times_with::<Running<MemDisk>>(rt, 10, 10)?;
+    let many = times_with::<Running<MemDisk>>(rt, 10_000, 10_000)?;
+    let shared = times_with::<Running<MemDisk>>(rt, 10_000, 10)?;
     row(rt, "CREATE with CLOSE", few.opened, many.opened)?;
     row(rt, "WRITE of 4 KiB", few.written, many.written)?;
     row(rt, "READ of 4 KiB", few.read, many.read)?;
@@ -57,7 +59,7 @@ fn row(rt: &HostRuntime, name: &str, few: u128, many: u128) -> Result<()> {
 }
 
 // Opens of so many new files, in turn, each with a piece.
-fn fill(stand: &mut Stand, count: u32, files: u32) -> Result<()> {
+fn fill<S: Runs<D = MemDisk>>(stand: &mut Stand<S>, count: u32, files: u32) -> Result<()> {
     let alloc = stand.alloc;
     let piece = vec![in alloc; 7u8; PIECE]?;
     for number in 0..count {
@@ -70,7 +72,12 @@ fn fill(stand: &mut Stand, count: u32, files: u32) -> Result<()> {
     Ok(())
 }
 
-fn times_of(rt: &HostRuntime, stand: &mut Stand, count: u32, files: u32) -> Result<Times> {
+fn times_of<S: Runs<D = MemDisk>>(
+    rt: &HostRuntime,
+    stand: &mut Stand<S>,
+    count: u32,
+    files: u32,
+) -> Result<Times> {
     fill(stand, count, files)?;
     Ok(Times {
         opened: opened(rt, &mut stand.caller, &stand.paths)?,
@@ -80,10 +87,9 @@ fn times_of(rt: &HostRuntime, stand: &mut Stand, count: u32, files: u32) -> Resu
     })
 }
 
-// It owns the server, and drops it at one place alone, since each drop of a server is dear to prove.
-fn times_with(rt: &HostRuntime, count: u32, files: u32) -> Result<Times> {
+fn times_with<S: Runs<D = MemDisk>>(rt: &HostRuntime, count: u32, files: u32) -> Result<Times> {
     let alloc = rt.alloc();
-    let mut stand = Stand {
+    let mut stand = Stand::<S> {
         alloc,
         caller: Caller::new(alloc, disk_of(alloc, &[], &[])?)?,
         paths: Vec::new(alloc),
@@ -97,7 +103,11 @@ fn place(word: u64, count: usize) -> usize {
     ((word >> 33) as usize) % count.max(1)
 }
 
-fn opened(rt: &HostRuntime, caller: &mut Caller, paths: &[String]) -> Result<u128> {
+fn opened<S: Runs<D = MemDisk>>(
+    rt: &HostRuntime,
+    caller: &mut Caller<S>,
+    paths: &[String],
+) -> Result<u128> {
     let mut word: u64 = 1;
     let start = Instant::now(rt)?;
     for _ in 0..TURNS {
@@ -113,7 +123,11 @@ fn id_at(ids: &[u64], word: u64) -> Result<u64> {
     ids.get(place(word, ids.len())).copied().context("no open")
 }
 
-fn written(rt: &HostRuntime, caller: &mut Caller, ids: &[u64]) -> Result<u128> {
+fn written<S: Runs<D = MemDisk>>(
+    rt: &HostRuntime,
+    caller: &mut Caller<S>,
+    ids: &[u64],
+) -> Result<u128> {
     let piece = vec![in rt.alloc(); 8u8; PIECE]?;
     let mut word: u64 = 1;
     let start = Instant::now(rt)?;
@@ -125,7 +139,11 @@ fn written(rt: &HostRuntime, caller: &mut Caller, ids: &[u64]) -> Result<u128> {
     Ok(start.elapsed(rt)?.as_nanos() / TURNS as u128)
 }
 
-fn read(rt: &HostRuntime, caller: &mut Caller, ids: &[u64]) -> Result<u128> {
+fn read<S: Runs<D = MemDisk>>(
+    rt: &HostRuntime,
+    caller: &mut Caller<S>,
+    ids: &[u64],
+) -> Result<u128> {
     let mut word: u64 = 1;
     let start = Instant::now(rt)?;
     for _ in 0..TURNS {
@@ -136,7 +154,11 @@ fn read(rt: &HostRuntime, caller: &mut Caller, ids: &[u64]) -> Result<u128> {
     Ok(start.elapsed(rt)?.as_nanos() / TURNS as u128)
 }
 
-fn locked(rt: &HostRuntime, caller: &mut Caller, ids: &[u64]) -> Result<u128> {
+fn locked<S: Runs<D = MemDisk>>(
+    rt: &HostRuntime,
+    caller: &mut Caller<S>,
+    ids: &[u64],
+) -> Result<u128> {
     let mut word: u64 = 1;
     let start = Instant::now(rt)?;
     for _ in 0..TURNS {

@@ -3,7 +3,8 @@ use crate::stage::{Stage, is_done};
 use crate::words::{has, number_or, option, payload, words_of};
 use anyhow::{Context, Result, ensure};
 use event_calls::{CountingDisk, disk_of};
-use smb_io::Disk;
+use event_server::{Running, Runs};
+use smb_io::MemDisk;
 use std::alloc::Global;
 
 fn push_more(said: &mut String, more: &str) -> Result<()> {
@@ -15,7 +16,7 @@ fn push_more(said: &mut String, more: &str) -> Result<()> {
 }
 
 // Events that prepare others.
-fn prepare<D: Disk + Drop>(stage: &mut Stage<D>, events: &str) -> Result<()> {
+fn prepare<S: Runs>(stage: &mut Stage<S>, events: &str) -> Result<()> {
     if events.is_empty() {
         return Ok(());
     }
@@ -27,7 +28,7 @@ fn prepare<D: Disk + Drop>(stage: &mut Stage<D>, events: &str) -> Result<()> {
 }
 
 // What is answered to events where the server begins on a disk, or why there is none.
-fn answered<D: Disk + Drop>(stage: &mut Stage<D>, disk: D, events: &str) -> Result<String> {
+fn answered<S: Runs>(stage: &mut Stage<S>, disk: S::D, events: &str) -> Result<String> {
     let begun = stage.begin(disk)?;
     if begun.as_str() != "ok" {
         return Ok(begun);
@@ -42,10 +43,10 @@ fn answered<D: Disk + Drop>(stage: &mut Stage<D>, disk: D, events: &str) -> Resu
     Ok(said)
 }
 
-// The same on a stage of its own. It is dropped at one place alone, since each drop of a server is dear to prove.
-fn said_on<D: Disk + Drop>(alloc: Global, disk: D, words: &[&str], events: &str) -> Result<String> {
+// The same on a stage of its own.
+fn said_on<S: Runs>(alloc: Global, disk: S::D, words: &[&str], events: &str) -> Result<String> {
     let room = number_or(words, "room", 268_435_456)?;
-    let mut stage = Stage::new(alloc, room, has(words, "sealed"));
+    let mut stage = Stage::<S>::new(alloc, room, has(words, "sealed"));
     answered(&mut stage, disk, events)
 }
 
@@ -54,9 +55,10 @@ pub fn said_to(alloc: Global, given: &str) -> Result<String> {
     let (head, events) = given.split_once(" | ").context("no events")?;
     let words = words_of(alloc, head)?;
     if has(&words, "counting") {
-        return said_on(alloc, CountingDisk::new(), &words, events);
+        return said_on::<Running<CountingDisk>>(alloc, CountingDisk::new(), &words, events);
     }
     let bytes = payload(alloc, option(&words, "disk").unwrap_or("-"))?;
     let plan = payload(alloc, option(&words, "plan").unwrap_or("-"))?;
-    said_on(alloc, disk_of(alloc, &bytes, &plan)?, &words, events)
+    let disk = disk_of(alloc, &bytes, &plan)?;
+    said_on::<Running<MemDisk>>(alloc, disk, &words, events)
 }

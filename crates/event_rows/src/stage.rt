@@ -5,7 +5,7 @@ use crate::told;
 use crate::words::{has, option, payload, small, word, words_of};
 use anyhow::{Context, Result, bail, ensure};
 use event_calls::{Envelope, config, first_token, second_token, setup_heard, setup_message};
-use event_server::Running;
+use event_server::Runs;
 use server_asked::ServerEvent;
 use server_effects::Answer;
 use smb_bytes::Bytes;
@@ -29,18 +29,18 @@ fn flip_last(bytes: &mut [u8]) {
 
 /// A server and the moment of its events, with the last token that it gave and the session that this names.
 #[derive(Drop)]
-pub struct Stage<D: Disk> {
+pub struct Stage<S: Runs> {
     alloc: Global,
     room: u64,
     encrypts: bool,
-    server: Option<Running<D>>,
+    server: Option<S>,
     now: u64,
     token: Bytes,
     session: u64,
 }
 
-impl<D: Disk + Drop> Stage<D> {
-    pub fn new(alloc: Global, room: u64, encrypts: bool) -> Stage<D> {
+impl<S: Runs> Stage<S> {
+    pub fn new(alloc: Global, room: u64, encrypts: bool) -> Stage<S> {
         Stage {
             alloc,
             room,
@@ -53,9 +53,9 @@ impl<D: Disk + Drop> Stage<D> {
     }
 
     /// Begins on what a disk holds: `ok`, or why there is no server.
-    pub fn begin(&mut self, disk: D) -> Result<String> {
+    pub fn begin(&mut self, disk: S::D) -> Result<String> {
         let config = config(self.alloc, self.room, self.encrypts)?;
-        match Running::begin(self.alloc, disk, config) {
+        match S::begin(self.alloc, disk, config) {
             Ok(server) => {
                 self.server = Some(server);
                 self.text("ok")
@@ -69,7 +69,7 @@ impl<D: Disk + Drop> Stage<D> {
         Ok(String::from_str(self.alloc, text)?)
     }
 
-    fn stopped(&mut self) -> Result<D> {
+    fn stopped(&mut self) -> Result<S::D> {
         let server = self.server.take().context("there is no server")?;
         Ok(server.stop())
     }

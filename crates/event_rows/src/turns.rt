@@ -3,7 +3,7 @@ use crate::caller::Caller;
 use crate::next;
 use anyhow::{Context, Result, ensure};
 use event_calls::{config, disk_of};
-use event_server::Running;
+use event_server::{Running, Runs};
 use file_store::StoredFile;
 use smb_io::MemDisk;
 use std::alloc::Global;
@@ -23,17 +23,25 @@ struct Due {
 
 /// What is told of such a run.
 pub fn run(alloc: Global) -> Result<String> {
-    let mut caller = Caller::new(alloc, disk_of(alloc, &[], &[])?)?;
+    run_on::<Running<MemDisk>>(alloc)
+}
+
+fn run_on<S: Runs<D = MemDisk>>(alloc: Global) -> Result<String> {
+    let mut caller = Caller::<S>::new(alloc, disk_of(alloc, &[], &[])?)?;
     let mut rows = Vec::new(alloc);
     let events = played(alloc, &mut caller, &mut rows)?;
-    let files = found(alloc, caller.stop(), &rows)?;
+    let files = found::<S>(alloc, caller.stop(), &rows)?;
     Ok(format!(in alloc;
         "{events} events over {OPENS} opens are answered as due, and {files} files stand behind a restart"
     )?)
 }
 
 // How many events there were.
-fn played(alloc: Global, caller: &mut Caller, rows: &mut Vec<Due>) -> Result<u32> {
+fn played<S: Runs<D = MemDisk>>(
+    alloc: Global,
+    caller: &mut Caller<S>,
+    rows: &mut Vec<Due>,
+) -> Result<u32> {
     open_all(alloc, caller, rows)?;
     let mut word: u64 = 1;
     let first = caller.events();
@@ -58,7 +66,11 @@ fn guid_of(number: u32) -> Option<u128> {
     }
 }
 
-fn open_all(alloc: Global, caller: &mut Caller, rows: &mut Vec<Due>) -> Result<()> {
+fn open_all<S: Runs<D = MemDisk>>(
+    alloc: Global,
+    caller: &mut Caller<S>,
+    rows: &mut Vec<Due>,
+) -> Result<()> {
     for number in 0..OPENS {
         let path = format!(in alloc; "f{number:05}")?;
         let id = caller.open(path.as_str(), guid_of(number))?;
@@ -73,7 +85,12 @@ fn open_all(alloc: Global, caller: &mut Caller, rows: &mut Vec<Due>) -> Result<(
 }
 
 // One or two events on an open.
-fn act(caller: &mut Caller, row: &mut Due, turn: u32, kind: u64) -> Result<()> {
+fn act<S: Runs<D = MemDisk>>(
+    caller: &mut Caller<S>,
+    row: &mut Due,
+    turn: u32,
+    kind: u64,
+) -> Result<()> {
     match kind {
         0 | 1 => {
             row.value = (turn as u64).saturating_add(1);
@@ -89,7 +106,7 @@ fn act(caller: &mut Caller, row: &mut Due, turn: u32, kind: u64) -> Result<()> {
     }
 }
 
-fn check_bytes(caller: &mut Caller, row: &Due) -> Result<()> {
+fn check_bytes<S: Runs<D = MemDisk>>(caller: &mut Caller<S>, row: &Due) -> Result<()> {
     let size = if row.value == 0 { 0 } else { 8 };
     let bytes = caller.read(row.id, 0, size)?;
     ensure!(
@@ -109,7 +126,7 @@ fn is_due(row: &Due, bytes: &[u8]) -> bool {
 }
 
 // Its ranges go with it. Each guid is used once.
-fn reopen(caller: &mut Caller, row: &mut Due, turn: u32) -> Result<()> {
+fn reopen<S: Runs<D = MemDisk>>(caller: &mut Caller<S>, row: &mut Due, turn: u32) -> Result<()> {
     caller.close(row.id)?;
     let guid = guid_of(turn.saturating_add(OPENS));
     row.id = caller.open(row.path.as_str(), guid)?;
@@ -117,14 +134,14 @@ fn reopen(caller: &mut Caller, row: &mut Due, turn: u32) -> Result<()> {
     Ok(())
 }
 
-// How many files another server finds, each with the bytes that are due. It drops that server at one place alone.
-fn found(alloc: Global, disk: MemDisk, rows: &[Due]) -> Result<usize> {
+// How many files another server finds, each with the bytes that are due.
+fn found<S: Runs<D = MemDisk>>(alloc: Global, disk: MemDisk, rows: &[Due]) -> Result<usize> {
     let config = config(alloc, 268_435_456, false)?;
-    let server = Running::begin(alloc, disk, config)?;
+    let server = S::begin(alloc, disk, config)?;
     checked(&server, rows)
 }
 
-fn checked(server: &Running<MemDisk>, rows: &[Due]) -> Result<usize> {
+fn checked<S: Runs>(server: &S, rows: &[Due]) -> Result<usize> {
     let files = server.files()?;
     ensure!(files.len() == rows.len(), "{} files", files.len());
     for (file, row) in files.iter().zip(rows.iter()) {

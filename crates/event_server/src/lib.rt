@@ -5,4 +5,4 @@
 
 mod running;
 
-pub use running::Running;
+pub use running::{Running, Runs};
