@@ -1,1 +1,2 @@
 pub mod Going
+pub use Rattle.client_core.proofs as ClientCore

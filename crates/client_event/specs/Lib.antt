@@ -1,1 +1,2 @@
 pub mod Events
+pub use Rattle.client_core.specs as ClientCore

@@ -5,4 +5,5 @@ mod calls;
 mod responses;
 mod steps;
 
+pub use client_core::Client;
 pub use steps::{Act, Event, step};

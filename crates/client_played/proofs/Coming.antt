@@ -7,9 +7,9 @@ use Rattle.exchange_defs.specs.Client.{Client, is_taken}
 use Rattle.exchange_defs.specs.ClientStep.{becomes_ready}
 use Rattle.client_law.specs.Kept.{Kept}
 use Rattle.client_law.proofs.Events.{begins}
-use Rattle.client_core.specs.declared.client.Client.{Client as Core}
-use Rattle.client_core.specs.Shown.{FitsClient, ShowsClient}
-use Rattle.client_core.proofs.Taken.{above, below}
+use Rattle.client_event.specs.ClientCore.declared.client.Client.{Client as Core}
+use Rattle.client_event.specs.ClientCore.Shown.{FitsClient, ShowsClient}
+use Rattle.client_event.proofs.ClientCore.Taken.{above, below}
 use Rattle.client_event.proofs.Going.{own_so}
 use Rattle.client_played.specs.Holding.{Holds}
 

@@ -1,1 +1,2 @@
 mod Coming
+pub use Rattle.client_event.proofs.ClientCore

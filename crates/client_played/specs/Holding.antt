@@ -2,8 +2,8 @@
 use Rattle.exchange_defs.specs.Client.{Client}
 use Rattle.exchange_defs.specs.ClientStep.{ClientEvent, client_after}
 use Rattle.client_law.specs.Kept.{IsTimely, Kept}
-use Rattle.client_core.specs.declared.client.Client.{Client as Core}
-use Rattle.client_core.specs.Shown.{FitsClient, ShowsClient}
+use Rattle.client_event.specs.ClientCore.declared.client.Client.{Client as Core}
+use Rattle.client_event.specs.ClientCore.Shown.{FitsClient, ShowsClient}
 use Rattle.client_event.specs.declared.steps.Event.{Event}
 use Rattle.client_event.specs.Events.{MayCome, Means, event_of}
 

@@ -4,4 +4,5 @@
 mod played;
 mod sent;
 
+pub use client_event::{Act, Client, Event};
 pub use played::Played;

@@ -7,15 +7,14 @@ ghost use Rattle.exchange_defs.specs.ClientStep.{some_unsettled};
 ghost use Rattle.client_law.specs.Kept.{Kept};
 ghost use Rattle.command_values.specs.Meaning.{command_of};
 ghost use Rattle.client_outcomes.specs.Meaning.{dialog_of, outcome_of, why_of};
-ghost use Rattle.client_core.specs.Shown.{FitsClient, ShowsClient};
+ghost use Rattle.client_event.specs.ClientCore.Shown.{FitsClient, ShowsClient};
 ghost use Rattle.client_event.specs.Events.{KeepsShown, Lacks, Tells};
 ghost use Rattle.client_sent.specs.Sent.{IsHead};
 ghost use Rattle.client_played.specs.Holding.{Comes, ComesTo, Holds, Steps};
 
 use crate::sent::{head_of, request_of};
 use anyhow::{Result, bail};
-use client_core::Client;
-use client_event::{Act, Event, step};
+use client_event::{Act, Client, Event, step};
 use client_outcomes::{Outcome, RefusedDialog, Why};
 use client_sent::Head;
 use command_values::Command;
@@ -29,8 +28,8 @@ pub struct Played {
 }
 
 impl Model for Played {
-    ghost use Rattle.client_core.specs.declared.client.Client.{Client as Core};
-    ghost use Rattle.client_core.specs.contracts.client.Client as core;
+    ghost use Rattle.client_event.specs.ClientCore.declared.client.Client.{Client as Core};
+    ghost use Rattle.client_event.specs.ClientCore.contracts.client.Client as core;
     ghost use Rattle.client_played.specs.Holding.{Holds};
 
     ghost Value = { Core };

@@ -3,11 +3,11 @@ ghost use Rattle.std.specs.Prelude.{◌≡◌, ℕ, ◌<◌, nat_lt, length, tru
 ghost use Rattle.exchange_defs.specs.Operations.{reconnect_of as reconnecting, request_of as requesting};
 ghost use Rattle.exchange_defs.specs.Client.{Client as Model, ask_message, create_for, guid_for, is_taken, own_message};
 ghost use Rattle.command_values.specs.Meaning.{command_of};
-ghost use Rattle.client_core.specs.Shown.{FitsClient, ShowsClient};
+ghost use Rattle.client_event.specs.ClientCore.Shown.{FitsClient, ShowsClient};
 ghost use Rattle.client_sent.specs.Sent.{IsHead};
 
 use anyhow::{Result, bail};
-use client_core::Client;
+use client_event::Client;
 use client_sent::{Head, ask_head, ask_request, own_head, own_request};
 use command_values::Command;
 use std::alloc::{AllocError, Global};

@@ -2,7 +2,7 @@
 use crate::plays::Plays;
 use crate::works::{Work, body_to};
 use anyhow::{Context, Result, bail, ensure};
-use client_event::{Act, Event};
+use client_played::{Act, Event};
 use std::alloc::Global;
 use std::collections::VecDeque;
 

@@ -1,8 +1,7 @@
 // What these scripts ask of a client. Their functions take any type that has it, so that their check knows no field of a client: each
 // function that owns one, or changes one in one of two ways, would join all that its tables may be then.
 use anyhow::Result;
-use client_event::{Act, Event};
-use client_played::Played;
+use client_played::{Act, Event, Played};
 use client_sent::Head;
 use client_table::Table;
 use command_values::Command;

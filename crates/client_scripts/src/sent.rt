@@ -1,7 +1,7 @@
 // What goes out at a push, as its request has it.
 use crate::plays::Plays;
 use anyhow::{Result, bail};
-use client_event::Act;
+use client_played::Act;
 use client_sent::Head;
 use command_values::{Command, CreateRequest};
 use std::alloc::Global;

@@ -1,5 +1,4 @@
-use client_event::{Act, Event};
-use client_played::Played;
+use client_played::{Act, Event, Played};
 use msg_session::Refusal;
 use operation_values::OpKind;
 use smb_bytes::Text;

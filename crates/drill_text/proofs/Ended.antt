@@ -7,9 +7,9 @@ use Rattle.client_outcomes.specs.declared.outcome.Outcome.{Outcome as Settled}
 use Rattle.client_outcomes.specs.declared.outcome.Outcome.TheVariants as outcomes
 use Rattle.client_outcomes.specs.declared.outcome.RefusedDialog.{RefusedDialog}
 use Rattle.client_settles.specs.Shown.{ShowsValues, outcome_by}
-use Rattle.client_core.proofs.Taken.{taken_so}
-use Rattle.client_core.specs.Shown.{ShowsClient}
-use Rattle.client_core.specs.declared.client.Client.{Client as Core}
+use Rattle.world_ended.proofs.ClientCore.Taken.{taken_so}
+use Rattle.world_ended.specs.ClientCore.Shown.{ShowsClient}
+use Rattle.world_ended.specs.ClientCore.declared.client.Client.{Client as Core}
 use Rattle.exchange_defs.specs.Client.{Client, RefusedDialog as Refused, finish, outcome_after_finish}
 use Rattle.exchange_defs.specs.Network.{World}
 use Rattle.exchange_defs.specs.Operations.{Op, Outcome, Unsettled, WasOk, WasRefused, NoSlot, NoOpen, Unknown, Ended}

@@ -6,3 +6,4 @@ mod creates;
 mod printing;
 
 pub use printing::text_of;
+pub use world_ended::{EndedWorld, end, files};

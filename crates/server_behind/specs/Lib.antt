@@ -1,1 +1,2 @@
 pub mod Behind
+pub use Rattle.server_room.specs.ServerPreparing

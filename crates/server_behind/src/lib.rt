@@ -4,3 +4,4 @@
 mod behind;
 
 pub use behind::{Both, front_body, ready_behind};
+pub use server_room::make_room;

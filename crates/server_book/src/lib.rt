@@ -5,3 +5,4 @@ mod asked;
 mod book;
 
 pub use book::Book;
+pub use server_core::Server;

@@ -1,2 +1,3 @@
 mod Shown
 mod Written
+pub use Rattle.server_dating.proofs as ServerDating

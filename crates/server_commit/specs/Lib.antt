@@ -1,1 +1,2 @@
 pub mod Commits
+pub use Rattle.server_steps.specs as ServerSteps

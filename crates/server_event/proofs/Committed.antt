@@ -27,7 +27,7 @@ use Rattle.server_prepared.specs.Prepared.{IsPrepared, prepared_ruling}
 use Rattle.server_prepared.specs.declared.prepared.Prepared.{Prepared}
 use Rattle.server_recording.specs.Writes.{WritesBut}
 use Rattle.server_rulings.specs.Rulings.{AbleToRule}
-use Rattle.server_steps.specs.Steps.{PreparedStep}
+use Rattle.server_commit.specs.ServerSteps.Steps.{PreparedStep}
 use Rattle.session_bind.specs.Logons.{LogonsShown}
 use Rattle.token_defs.specs.Acceptor.{User}
 use Rattle.world_defs.specs.Ends.{Logons}

@@ -14,7 +14,7 @@ use Rattle.server_events.specs.declared.error.EventError.{EventError}
 use Rattle.server_events.specs.declared.error.EventError.TheVariants.{Memory, DiskFault, Stopped}
 use Rattle.server_holds.specs.declared.state.ServerState.{ServerState}
 use Rattle.server_plan.specs.Plans.{is_early}
-use Rattle.server_preparing.specs.Preparing.{wants_memory_by}
+use Rattle.server_behind.specs.ServerPreparing.Preparing.{wants_memory_by}
 use Rattle.server_ready.specs.Readies.{wants_memory}
 use Rattle.server_recording.specs.Writes.{WritesBut}
 use Rattle.token_defs.specs.Acceptor.{User}

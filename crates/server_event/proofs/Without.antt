@@ -30,7 +30,7 @@ use Rattle.server_expiry.specs.declared.expiry.Expired.{Expired}
 use Rattle.server_holds.specs.Counted.{front_of}
 use Rattle.server_holds.specs.declared.state.ServerState.{ServerState}
 use Rattle.server_law.specs.Fits.{Fits}
-use Rattle.server_steps.specs.Steps.{PreparedStep}
+use Rattle.server_commit.specs.ServerSteps.Steps.{PreparedStep}
 use Rattle.holds_law.proofs.Behind.{held, held_still}
 use Rattle.session_bind.specs.Shown.{ShowsSessions}
 use Rattle.token_defs.specs.Acceptor.{User}

@@ -13,7 +13,7 @@ use Rattle.server_holds.specs.Heard.{IsHeard}
 use Rattle.server_holds.specs.Holds.{Held}
 use Rattle.server_holds.specs.declared.state.ServerState.{ServerState}
 use Rattle.server_law.specs.Fits.{Fits}
-use Rattle.server_steps.specs.Steps.{PreparedStep}
+use Rattle.server_commit.specs.ServerSteps.Steps.{PreparedStep}
 use Rattle.session_bind.specs.Logons.{LogonsShown}
 use Rattle.token_defs.specs.Acceptor.{User}
 use Rattle.world_defs.specs.Ends.{Logons}

@@ -1,13 +1,13 @@
 -- A world begins.
 use Rattle.std.proofs.Common.{◌≡◌, ℕ, zero, suc, ◌+◌, ◌<◌, ◌≤◌, min, Bool, false, refl, sym, ap, subst, ◌∙◌, arith}
 use Rattle.std.proofs.Common.{List, [], ◌∷◌, ◌++◌, length, slice_get, Option, Some, None}
-use Rattle.client_core.specs.Shown.{ShowsClient}
+use Rattle.world_ends.specs.ClientCore.Shown.{ShowsClient}
 use Rattle.client_law.proofs.Events.{begins}
 use Rattle.client_world_law.specs.Asking.{AsksFit}
 use Rattle.exchange_defs.specs.Fold.{Configuration, full_room, recovered, recovery_records}
 use Rattle.exchange_defs.specs.Network.{no_conn, start}
 use Rattle.exchange_defs.specs.State.{Address}
-use Rattle.server_book.specs.declared.book.Book.{Book}
+use Rattle.world_ends.specs.ServerBook.declared.book.Book.{Book}
 use Rattle.server_checks.specs.declared.tables.Config.{Config}
 use Rattle.server_restart.specs.Restart.{configuration_of}
 use Rattle.smb_io.specs.declared.mem_disk.MemDisk.{MemDisk}
@@ -15,7 +15,7 @@ use Rattle.wire_defs.specs.Places.{number_of}
 use Rattle.std.specs.Prelude.{take}
 use Rattle.token_defs.specs.Acceptor.{User}
 use Rattle.line_ends.specs.declared.config.ClientConfig.{ClientConfig}
-use Rattle.world_book.specs.Held.{Holds, HoldsBook}
+use Rattle.world_ends.specs.WorldBook.Held.{Holds, HoldsBook}
 use Rattle.world_defs.specs.Ends.{Logons, no_logons}
 use Rattle.world_defs.specs.Events.{bytes_start, no_wires}
 use Rattle.world_defs.specs.Settings.{WorldSettings, draw, values_of}

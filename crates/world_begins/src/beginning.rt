@@ -8,14 +8,12 @@ ghost use Rattle.world_ends.specs.Shown.{ShowsWorld};
 ghost use Rattle.world_begins.specs.Starting.{AreClosed, IsBegunBy};
 
 use byteorder::{ByteOrder, LittleEndian};
-use client_played::Played;
 use line_ends::ClientConfig;
 use server_checks::Config;
 use session_defs::{Keys, Signer};
 use std::alloc::{AllocError, Global};
-use world_book::begin as begin_book;
 use world_draws::draw_8;
-use world_ends::{Channel, Marks, Notes, Places, World};
+use world_ends::{Channel, Marks, Notes, Places, Played, World, begin as begin_book};
 
 /// Connections count from 0 on.
 const CHANNELS: usize = 256;

@@ -5,8 +5,8 @@ use Rattle.exchange_defs.specs.State as model
 use Rattle.server_begun.specs.Begun.{Begins}
 use Rattle.server_book.specs.declared.book.Book.{Book}
 use Rattle.server_checks.specs.declared.tables.Config.{Config}
-use Rattle.server_core.specs.Shown.{config_of, disk_of, state_of, stopped_of}
-use Rattle.server_core.specs.declared.server.Server.{Server}
+use Rattle.server_book.specs.ServerCore.Shown.{config_of, disk_of, state_of, stopped_of}
+use Rattle.server_book.specs.ServerCore.declared.server.Server.{Server}
 use Rattle.server_holds.specs.Holds.{Holds as HoldsState}
 use Rattle.server_holds.specs.declared.state.ServerState.{ServerState}
 use Rattle.smb_io.specs.declared.mem_disk.MemDisk.{MemDisk}

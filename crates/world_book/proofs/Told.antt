@@ -3,8 +3,8 @@ use Rattle.std.proofs.Common.{◌≡◌, ℕ, ◌++◌, ap, ◌∙◌, List, Non
 use Rattle.exchange_defs.specs.State as model
 use Rattle.exchange_defs.specs.State.{Reply}
 use Rattle.server_checks.specs.declared.tables.Config.{Config}
-use Rattle.server_core.specs.Shown.{HoldsServer, config_of, stopped_of}
-use Rattle.server_core.specs.declared.server.Server.{Server}
+use Rattle.server_book.specs.ServerCore.Shown.{HoldsServer, config_of, stopped_of}
+use Rattle.server_book.specs.ServerCore.declared.server.Server.{Server}
 use Rattle.server_book.specs.declared.book.Book.{Book}
 use Rattle.smb_io.specs.declared.mem_disk.MemDisk.{MemDisk}
 use Rattle.token_defs.specs.Acceptor.{User}

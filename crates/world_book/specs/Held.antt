@@ -3,7 +3,7 @@ use Rattle.std.specs.Prelude.{◌≡◌, ℕ, ◌++◌, List, Option, Some, None
 use Rattle.exchange_defs.specs.State as model
 use Rattle.server_book.specs.Shown.{ShowsBook}
 use Rattle.server_book.specs.declared.book.Book.{Book}
-use Rattle.server_core.specs.Shown.{stopped_of}
+use Rattle.server_book.specs.ServerCore.Shown.{stopped_of}
 use Rattle.smb_io.specs.declared.mem_disk.MemDisk.{MemDisk}
 use Rattle.token_defs.specs.Acceptor.{User}
 use Rattle.world_defs.specs.Ends.{Logons}

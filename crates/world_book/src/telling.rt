@@ -2,7 +2,7 @@
 ghost use Rattle.std.specs.Prelude.{◌≡◌, IfOk, List, None, is_none};
 ghost use Rattle.exchange_defs.specs.State as model;
 ghost use Rattle.exchange_defs.specs.Step.{step};
-ghost use Rattle.server_core.specs.Shown.{stopped_of};
+ghost use Rattle.server_book.specs.ServerCore.Shown.{stopped_of};
 ghost use Rattle.token_defs.specs.Acceptor.{User};
 ghost use Rattle.world_book.specs.Held.{HasTold, Holds};
 ghost use Rattle.world_defs.specs.Ends.{Logons};

@@ -1,3 +1,4 @@
 mod Entered
 mod Growing
 mod Adding
+pub use Rattle.world_ends.proofs.ClientCore

@@ -1,8 +1,8 @@
 -- A world in code behind its last event shows one of the definitions, whose client has ended.
-use Rattle.client_core.specs.Shown.{FitsClient, ShowsClient}
+use Rattle.world_ends.specs.ClientCore.Shown.{FitsClient, ShowsClient}
 use Rattle.exchange_defs.specs.Client.{finish}
 use Rattle.exchange_defs.specs.Operations.{Ended}
-use Rattle.world_book.specs.Held.{HoldsBook}
+use Rattle.world_ends.specs.WorldBook.Held.{HoldsBook}
 use Rattle.world_defs.specs.Settings.{WorldSettings}
 use Rattle.world_defs.specs.World as bytes
 use Rattle.world_ended.specs.declared.ending.EndedWorld.{EndedWorld}

@@ -1,2 +1,3 @@
 pub mod Ended
 pub mod Listing
+pub use Rattle.world_ends.specs.ClientCore

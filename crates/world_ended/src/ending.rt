@@ -6,13 +6,11 @@ ghost use Rattle.world_defs.specs.World as bytes;
 ghost use Rattle.world_ended.specs.Ended.{ShowsEnded};
 ghost use Rattle.world_ends.specs.Shown.{ShowsWorld};
 
-use client_core::Client;
 use client_outcomes::Why;
 use file_store::StoredFile;
 use smb_io::MemDisk;
 use std::alloc::{AllocError, Global};
-use world_book::Book;
-use world_ends::{Places, World};
+use world_ends::{Book, Client, Places, World};
 
 /// What is left of a world: the client, of which nothing is unsettled, the server, and the places of the messages that it took.
 #[derive(Drop)]

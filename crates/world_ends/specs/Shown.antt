@@ -7,8 +7,8 @@
 --
 -- Each part is stated of the columns that it looks at, so that a step which leaves them leaves it as it is.
 use Rattle.std.specs.Prelude.{◌≡◌, ℕ, ◌<◌, ◌≤◌, Bool, true, false, Option, is_some}
-use Rattle.client_core.specs.Shown.{ShowsClient}
-use Rattle.client_core.specs.declared.client.Client.{Client as Core}
+use Rattle.client_played.specs.ClientCore.Shown.{ShowsClient}
+use Rattle.client_played.specs.ClientCore.declared.client.Client.{Client as Core}
 use Rattle.client_law.specs.Kept.{Kept}
 use Rattle.client_world_law.specs.Asking.{AsksFit}
 use Rattle.exchange_defs.specs.Client.{Client}

@@ -7,7 +7,9 @@ mod notes;
 mod sides;
 mod world;
 
+pub use client_played::{Act, Client, Event, Played};
 pub use events::{WorldError, WorldEvent};
 pub use notes::{Happened, Note, Notes, Step};
 pub use sides::{Channel, ClientSide, Down, Up};
 pub use world::{Marks, Places, World};
+pub use world_book::{Book, accept, begin, end, restart};

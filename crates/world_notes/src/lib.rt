@@ -6,3 +6,4 @@ mod fronts;
 mod keeping;
 
 pub use keeping::{begin_step, finished, is_watched, keep_step, watch};
+pub use world_ends::{Channel, ClientSide, Happened, Notes, Step, World, WorldError, WorldEvent};

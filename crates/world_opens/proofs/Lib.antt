@@ -2,3 +2,4 @@ mod Refused
 mod Drawn
 mod Standing
 mod Opened
+pub use Rattle.world_steps.proofs as WorldSteps

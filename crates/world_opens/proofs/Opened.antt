@@ -17,11 +17,11 @@ use Rattle.world_defs.specs.Notes.{step_error}
 use Rattle.world_defs.specs.Settings.{WorldSettings}
 use Rattle.world_defs.specs.World as bytes
 use Rattle.world_defs.specs.World.{fresh_wires, greeting_of, opened_wires}
-use Rattle.world_ends.specs.Channels.{ShowsChannel, ShowsChannels, seen_of}
-use Rattle.world_ends.specs.Shown.{ShowsOwn, ShowsWorld}
-use Rattle.world_ends.specs.Tests.{readied_in}
-use Rattle.world_ends.specs.declared.sides.Channel.{Channel}
-use Rattle.world_ends.specs.declared.world.World.{World}
+use Rattle.world_steps.specs.WorldEnds.Channels.{ShowsChannel, ShowsChannels, seen_of}
+use Rattle.world_steps.specs.WorldEnds.Shown.{ShowsOwn, ShowsWorld}
+use Rattle.world_steps.specs.WorldEnds.Tests.{readied_in}
+use Rattle.world_steps.specs.WorldEnds.declared.sides.Channel.{Channel}
+use Rattle.world_steps.specs.WorldEnds.declared.world.World.{World}
 use Rattle.world_opens.specs.Opening.{Enters, Makes, Stands, due_of}
 use Rattle.world_opens.specs.Putting.{Becomes}
 use Rattle.world_opens.specs.declared.beginning.Begun.{Begun}

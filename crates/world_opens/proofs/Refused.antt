@@ -10,15 +10,15 @@ use Rattle.world_defs.specs.Notes as notes
 use Rattle.world_defs.specs.Notes.{making_error, step_error}
 use Rattle.world_defs.specs.Settings.{WorldSettings}
 use Rattle.world_defs.specs.World as bytes
-use Rattle.world_ends.specs.Channels.{seen_of}
-use Rattle.world_ends.specs.Shown.{ShowsWorld}
-use Rattle.world_ends.specs.Tests.{is_open, is_ready, opened_in, served_in}
-use Rattle.world_ends.specs.declared.events.WorldError.{WorldError}
-use Rattle.world_ends.specs.declared.events.WorldError.TheVariants as errors
-use Rattle.world_ends.specs.declared.sides.Channel.{Channel}
-use Rattle.world_ends.specs.declared.sides.ClientSide.{ClientSide}
-use Rattle.world_ends.specs.declared.sides.ClientSide.TheVariants.{Closed, Talks, Ready}
-use Rattle.world_ends.specs.declared.world.World.{World}
+use Rattle.world_steps.specs.WorldEnds.Channels.{seen_of}
+use Rattle.world_steps.specs.WorldEnds.Shown.{ShowsWorld}
+use Rattle.world_steps.specs.WorldEnds.Tests.{is_open, is_ready, opened_in, served_in}
+use Rattle.world_steps.specs.WorldEnds.declared.events.WorldError.{WorldError}
+use Rattle.world_steps.specs.WorldEnds.declared.events.WorldError.TheVariants as errors
+use Rattle.world_steps.specs.WorldEnds.declared.sides.Channel.{Channel}
+use Rattle.world_steps.specs.WorldEnds.declared.sides.ClientSide.{ClientSide}
+use Rattle.world_steps.specs.WorldEnds.declared.sides.ClientSide.TheVariants.{Closed, Talks, Ready}
+use Rattle.world_steps.specs.WorldEnds.declared.world.World.{World}
 use Rattle.world_opens.specs.Opening.{IsDue, due_of}
 use Rattle.world_steps.specs.Steps.{Refuses}
 use Rattle.world_steps.proofs.Closing.{is_opened, is_served}

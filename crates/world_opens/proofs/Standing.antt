@@ -21,14 +21,14 @@ use Rattle.world_defs.specs.Sending.{greeting_text}
 use Rattle.world_defs.specs.Settings.{WorldSettings, draw}
 use Rattle.world_defs.specs.World as bytes
 use Rattle.world_defs.specs.World.{first_client_end, fresh_wires, greeting_of, salt_of}
-use Rattle.world_ends.specs.Channels.{AreDown, AreUp, GoesOn, IsFor, IsPrevious, ShowsChannel, ShowsClientSide, ShowsServerSide, ShowsTalk}
-use Rattle.world_ends.specs.Channels.{seen_of, session_at}
-use Rattle.world_ends.specs.Shown.{ShowsWorld}
-use Rattle.world_ends.specs.declared.sides.Channel.{Channel}
-use Rattle.world_ends.specs.declared.sides.ClientSide.{ClientSide}
-use Rattle.world_ends.specs.declared.sides.Down.{Down}
-use Rattle.world_ends.specs.declared.sides.Up.{Up}
-use Rattle.world_ends.specs.declared.world.World.{World}
+use Rattle.world_steps.specs.WorldEnds.Channels.{AreDown, AreUp, GoesOn, IsFor, IsPrevious, ShowsChannel, ShowsClientSide, ShowsServerSide, ShowsTalk}
+use Rattle.world_steps.specs.WorldEnds.Channels.{seen_of, session_at}
+use Rattle.world_steps.specs.WorldEnds.Shown.{ShowsWorld}
+use Rattle.world_steps.specs.WorldEnds.declared.sides.Channel.{Channel}
+use Rattle.world_steps.specs.WorldEnds.declared.sides.ClientSide.{ClientSide}
+use Rattle.world_steps.specs.WorldEnds.declared.sides.Down.{Down}
+use Rattle.world_steps.specs.WorldEnds.declared.sides.Up.{Up}
+use Rattle.world_steps.specs.WorldEnds.declared.world.World.{World}
 use Rattle.world_opens.specs.Opening.{IsBoundOf, IsOpened, Makes, SaysFirst}
 use Rattle.world_opens.specs.declared.beginning.Begun.{Begun}
 use Rattle.world_opens.proofs.Drawn.{whole}

@@ -1,7 +1,7 @@
 -- What opens of a connection.
 use Rattle.std.specs.Prelude.{◌≡◌, ℕ, ◌+◌, ◌<◌, ◌^◌, ◌==◌, ◌||◌, Bool, true, false, if◌then◌else◌, List, [], ◌∷◌, ◌++◌, length, take}
 use Rattle.std.specs.Prelude.{Option, Some, None, is_some, Result, Ok, Err}
-use Rattle.client_core.specs.Shown.{ShowsClient}
+use Rattle.world_steps.specs.ClientCore.Shown.{ShowsClient}
 use Rattle.client_dialog.specs.Opening.{Begins}
 use Rattle.client_dialog.specs.Turning.{previous_in}
 use Rattle.conn_ends.specs.Shown.{ShowsEnd}
@@ -10,22 +10,22 @@ use Rattle.exchange_defs.specs.State as model
 use Rattle.exchange_defs.specs.Step.{step}
 use Rattle.line_ends.specs.declared.config.Bound.{Bound}
 use Rattle.line_ends.specs.declared.config.Fresh.{Fresh}
-use Rattle.server_book.specs.declared.book.Book.{Book}
+use Rattle.world_steps.specs.ServerBook.declared.book.Book.{Book}
 use Rattle.session_defs.specs.declared.material.Keys.{Keys}
 use Rattle.smb_io.specs.declared.mem_disk.MemDisk.{MemDisk}
 use Rattle.token_defs.specs.Acceptor.{User}
-use Rattle.world_book.specs.Held.{HoldsBook}
+use Rattle.world_steps.specs.WorldBook.Held.{HoldsBook}
 use Rattle.world_defs.specs.Ends.{Logons, first_server_end}
 use Rattle.world_defs.specs.Notes as notes
 use Rattle.world_defs.specs.Notes.{making_error}
 use Rattle.world_defs.specs.Settings.{draw}
-use Rattle.world_ends.specs.Tests.{is_open}
-use Rattle.world_ends.specs.declared.events.WorldError.{WorldError}
-use Rattle.world_ends.specs.declared.events.WorldError.TheVariants as errors
-use Rattle.world_ends.specs.declared.sides.Channel.{Channel}
-use Rattle.world_ends.specs.declared.sides.ClientSide.TheVariants.{Talks}
-use Rattle.world_ends.specs.declared.sides.Up.{Up}
-use Rattle.world_ends.specs.declared.world.World.{World}
+use Rattle.world_steps.specs.WorldEnds.Tests.{is_open}
+use Rattle.world_steps.specs.WorldEnds.declared.events.WorldError.{WorldError}
+use Rattle.world_steps.specs.WorldEnds.declared.events.WorldError.TheVariants as errors
+use Rattle.world_steps.specs.WorldEnds.declared.sides.Channel.{Channel}
+use Rattle.world_steps.specs.WorldEnds.declared.sides.ClientSide.TheVariants.{Talks}
+use Rattle.world_steps.specs.WorldEnds.declared.sides.Up.{Up}
+use Rattle.world_steps.specs.WorldEnds.declared.world.World.{World}
 use Rattle.world_opens.specs.Putting.{Becomes}
 use Rattle.world_opens.specs.declared.beginning.Begun.{Begun}
 use Rattle.world_steps.specs.Lists.{ChangedAt}

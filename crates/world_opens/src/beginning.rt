@@ -1,6 +1,6 @@
 // The ends of a connection, as they begin.
 ghost use Rattle.std.specs.Prelude.{◌≡◌, ◌+◌, ◌<◌, ◌^◌, true, Option, None, Some, is_some, MatchResult};
-ghost use Rattle.client_core.specs.Shown.{ShowsClient};
+ghost use Rattle.world_steps.specs.ClientCore.Shown.{ShowsClient};
 ghost use Rattle.client_dialog.specs.Opening.{Begins};
 ghost use Rattle.client_dialog.specs.Turning.{previous_in};
 ghost use Rattle.client_session.specs.Shown.{ShowsSession};
@@ -12,7 +12,6 @@ ghost use Rattle.world_opens.specs.Opening.{IsBoundOf, IsFresh, Makes};
 ghost use Rattle.world_steps.specs.Parts.{IsMemory};
 
 use client_dialog::{start, start_bind};
-use client_played::Played;
 use client_session::Session;
 use conn_ends::Conn;
 use line_ends::{Bound, ClientConfig, Dialog, Fresh};
@@ -20,7 +19,7 @@ use session_defs::Keys;
 use smb_bytes::Bytes;
 use std::alloc::Global;
 use world_draws::{draw, draw_8, draw_16};
-use world_ends::{World, WorldError};
+use world_steps::{Played, World, WorldError};
 
 /// A dialog offers fewer ciphers and signing algorithms than this.
 const OFFERS: usize = 32_767;

@@ -3,7 +3,7 @@ ghost use Rattle.std.specs.Prelude.{◌≡◌, ◌<◌, ◌^◌, ◌==◌, if◌
 ghost use Rattle.exchange_defs.specs.State as model;
 ghost use Rattle.exchange_defs.specs.Step.{step};
 ghost use Rattle.token_defs.specs.Acceptor.{User};
-ghost use Rattle.world_book.specs.Held.{HoldsBook};
+ghost use Rattle.world_steps.specs.WorldBook.Held.{HoldsBook};
 ghost use Rattle.world_defs.specs.Ends.{Logons};
 ghost use Rattle.world_opens.specs.Opening.{Enters, IsOpened, IsSaid, SaysFirst, Stands};
 ghost use Rattle.world_opens.specs.Putting.{Becomes};
@@ -16,8 +16,7 @@ use smb_bytes::Bytes;
 use smb_io::MemDisk;
 use std::alloc::{AllocError, Global};
 use std::collections::VecDeque;
-use world_book::{Book, accept};
-use world_ends::{Channel, ClientSide, Up, WorldError};
+use world_steps::{Book, Channel, ClientSide, Up, WorldError, accept};
 
 /// STATUS_SUCCESS (MS-ERREF 2.3.1)
 const SUCCESS: u32 = 0;

@@ -8,3 +8,6 @@ mod refusing;
 
 pub use entering::{put_channel, say_up};
 pub use opening::open;
+pub use world_steps::{
+    Act, Channel, ClientSide, Down, Event, Played, World, WorldError, happen, later,
+};

@@ -1,14 +1,13 @@
 // A connection is opened.
 ghost use Rattle.std.specs.Prelude.{◌≡◌, ◌+◌, if◌then◌else◌, None, Some, slice_get};
-ghost use Rattle.world_ends.specs.declared.events.WorldEvent.TheVariants as events;
+ghost use Rattle.world_steps.specs.WorldEnds.declared.events.WorldEvent.TheVariants as events;
 ghost use Rattle.world_opens.specs.Opening.{Makes, due_of};
 ghost use Rattle.world_steps.specs.Steps.{Steps};
 
 use crate::beginning::{Begun, ends_of};
 use crate::entering::enter;
 use crate::refusing::refusal;
-use world_ends::{World, WorldError};
-use world_steps::later;
+use world_steps::{World, WorldError, later};
 
 /// An Open draws the client's salt, challenge and key, and the server's salt.
 const DRAWS: u64 = 4;

@@ -1,10 +1,10 @@
 // Why a connection can't be opened.
 ghost use Rattle.std.specs.Prelude.{◌≡◌, ◌||◌, if◌then◌else◌, is_some, slice_get, Some};
 ghost use Rattle.world_defs.specs.Notes.{InUse as Used, making_error};
-ghost use Rattle.world_ends.specs.Tests.{is_open};
+ghost use Rattle.world_steps.specs.WorldEnds.Tests.{is_open};
 ghost use Rattle.world_opens.specs.Opening.{IsDue, due_of};
 
-use world_ends::{Channel, WorldError};
+use world_steps::{Channel, WorldError};
 
 /// Whether an end of a connection is open.
 fn is_in_use(channel: &Channel) -> bool

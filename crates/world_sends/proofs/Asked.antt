@@ -3,12 +3,12 @@ use Rattle.std.proofs.Common.{◌≡◌, ℕ, ◌<◌, ◌≤◌, ◌*◌, ◌+�
 use Rattle.std.proofs.Common.{ap, subst, ◌∙◌, arith}
 use Rattle.std.proofs.Common.{length, List, None, Result, Ok, Err, OnOk, MatchResult}
 use Rattle.std.proofs.lemmas.Bool.Decides.{nat_tests}
-use Rattle.client_core.specs.declared.client.Client.{Client as Core}
-use Rattle.client_event.specs.Events.{Tells}
-use Rattle.client_event.specs.declared.steps.Act.{Act as Told}
-use Rattle.client_event.specs.declared.steps.Event.TheVariants as happens
+use Rattle.world_steps.specs.ClientCore.declared.client.Client.{Client as Core}
+use Rattle.world_steps.specs.ClientEvent.Events.{Tells}
+use Rattle.world_steps.specs.ClientEvent.declared.steps.Act.{Act as Told}
+use Rattle.world_steps.specs.ClientEvent.declared.steps.Event.TheVariants as happens
 use Rattle.client_line.specs.Sending.{IsRequest}
-use Rattle.client_played.specs.Holding.{Steps as Happens}
+use Rattle.world_steps.specs.ClientPlayed.Holding.{Steps as Happens}
 use Rattle.exchange_defs.specs.Client.{Client, create_for, guid_for}
 use Rattle.exchange_defs.specs.Commands.{Command}
 use Rattle.exchange_defs.specs.Network.{ForAttach, ForDialog, ForOp, Token}
@@ -18,7 +18,7 @@ use Rattle.line_ends.specs.Shown.{token_of}
 use Rattle.line_requests.specs.Requesting.{IsHeading, IsRequestOf}
 use Rattle.line_requests.specs.declared.request.Heading.{Heading}
 use Rattle.smb_header.specs.declared.request.Request.{Request}
-use Rattle.world_ends.specs.declared.events.WorldError.{WorldError}
+use Rattle.world_steps.specs.WorldEnds.declared.events.WorldError.{WorldError}
 use Rattle.world_steps.specs.Parts.{IsMemory}
 use Rattle.world_sends.specs.Sending.{Asks, Chooses, Heads, IsCommandFor, IsShort, message_for}
 

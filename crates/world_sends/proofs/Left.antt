@@ -5,7 +5,7 @@ use Rattle.exchange_defs.specs.Client.{may_push, outstanding, settle_no_slot, se
 use Rattle.exchange_defs.specs.ClientStep.{Pick, Pushes, client_after, itself_after, op_after, pick_after}
 use Rattle.exchange_defs.specs.Operations.{NoSlot, is_lock}
 use Rattle.exchange_defs.specs.Table.{put, put2}
-use Rattle.world_ends.specs.Channels.{Seen, seen_of}
+use Rattle.world_steps.specs.WorldEnds.Channels.{Seen, seen_of}
 
 -- the columns at which a world in code looks, but for the client's own
 pub record Columns : Type 0 where

@@ -2,9 +2,9 @@
 use Rattle.std.proofs.Common.{◌≡◌, ℕ, ◌+◌, ◌≤◌, ◌<◌, nat_le, Bool, true, false, ◌&&◌, if◌then◌else◌, refl, sym, ap, subst, ◌∙◌, arith}
 use Rattle.std.proofs.Common.{List, slice_get, Option, Some, None, ◌⊎◌, inl, inr}
 use Rattle.std.proofs.lemmas.Bool.Decides.{nat_tests}
-use Rattle.client_core.specs.Shown.{ShowsClient}
-use Rattle.client_core.specs.declared.client.Client.{Client as Core}
-use Rattle.client_event.specs.Events.{act_of}
+use Rattle.world_steps.specs.ClientCore.Shown.{ShowsClient}
+use Rattle.world_steps.specs.ClientCore.declared.client.Client.{Client as Core}
+use Rattle.world_steps.specs.ClientEvent.Events.{act_of}
 use Rattle.client_law.proofs.Events.{keeps}
 use Rattle.client_law.specs.Kept.{Kept}
 use Rattle.client_pushing.specs.Acts.{chosen_with}
@@ -35,15 +35,15 @@ use Rattle.world_defs.specs.Sending.{line_frame, may_seal, sealed_on, spent}
 use Rattle.world_defs.specs.Settings.{WorldSettings}
 use Rattle.world_defs.specs.World as bytes
 use Rattle.world_defs.specs.World.{Wires, cost_of, line_sent, may_pay, paid, pushed_wires, pushed_with, queued, with_values}
-use Rattle.world_ends.specs.Channels.{ShowsChannel, ShowsChannels, ShowsClientSide, seen_of}
-use Rattle.world_ends.specs.Places.{ShowsPlaces}
-use Rattle.world_ends.specs.Shown.{ShowsOwn, ShowsWorld}
-use Rattle.world_ends.specs.Tests.{is_ready, readied_in}
-use Rattle.world_ends.specs.declared.sides.Channel.{Channel}
-use Rattle.world_ends.specs.declared.sides.ClientSide.{ClientSide}
-use Rattle.world_ends.specs.declared.sides.ClientSide.TheVariants.{Closed, Talks, Ready}
-use Rattle.world_ends.specs.declared.world.Places.{Places}
-use Rattle.world_ends.specs.declared.world.World.{World}
+use Rattle.world_steps.specs.WorldEnds.Channels.{ShowsChannel, ShowsChannels, ShowsClientSide, seen_of}
+use Rattle.world_steps.specs.WorldEnds.Places.{ShowsPlaces}
+use Rattle.world_steps.specs.WorldEnds.Shown.{ShowsOwn, ShowsWorld}
+use Rattle.world_steps.specs.WorldEnds.Tests.{is_ready, readied_in}
+use Rattle.world_steps.specs.WorldEnds.declared.sides.Channel.{Channel}
+use Rattle.world_steps.specs.WorldEnds.declared.sides.ClientSide.{ClientSide}
+use Rattle.world_steps.specs.WorldEnds.declared.sides.ClientSide.TheVariants.{Closed, Talks, Ready}
+use Rattle.world_steps.specs.WorldEnds.declared.world.Places.{Places}
+use Rattle.world_steps.specs.WorldEnds.declared.world.World.{World}
 use Rattle.world_sends.specs.Sending.{Goes, GoesBy, Pushes, SaysOn, charge_for, credits_in, held_by, message_for, token_for}
 use Rattle.world_steps.specs.Lists.{ChangedAt}
 use Rattle.world_steps.proofs.Closing.{is_readied, one_changed}

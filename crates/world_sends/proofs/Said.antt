@@ -10,12 +10,12 @@ use Rattle.session_defs.specs.declared.material.Keys.{Keys}
 use Rattle.smb_header.specs.declared.request.Request.{Request}
 use Rattle.world_defs.specs.Sending.{line_frame, sealed_on, spent}
 use Rattle.world_defs.specs.World.{Wires, queued}
-use Rattle.world_ends.specs.Channels.{AreDown, AreUp, IsUp, Seen, ShowsChannel, ShowsClientSide, ShowsServerSide}
-use Rattle.world_ends.specs.declared.sides.Channel.{Channel}
-use Rattle.world_ends.specs.declared.sides.ClientSide.{ClientSide}
-use Rattle.world_ends.specs.declared.sides.ClientSide.TheVariants.{Ready}
-use Rattle.world_ends.specs.declared.sides.Down.{Down}
-use Rattle.world_ends.specs.declared.sides.Up.{Up}
+use Rattle.world_steps.specs.WorldEnds.Channels.{AreDown, AreUp, IsUp, Seen, ShowsChannel, ShowsClientSide, ShowsServerSide}
+use Rattle.world_steps.specs.WorldEnds.declared.sides.Channel.{Channel}
+use Rattle.world_steps.specs.WorldEnds.declared.sides.ClientSide.{ClientSide}
+use Rattle.world_steps.specs.WorldEnds.declared.sides.ClientSide.TheVariants.{Ready}
+use Rattle.world_steps.specs.WorldEnds.declared.sides.Down.{Down}
+use Rattle.world_steps.specs.WorldEnds.declared.sides.Up.{Up}
 use Rattle.world_sends.specs.Sending.{SaysOn}
 
 one_more : (t : ℕ) (us : List Up) (bs : List (List ℕ)) (xs : List Sent) (u : Up) (b : List ℕ) (x : Sent) → IsUp t u b x → AreUp t us bs xs

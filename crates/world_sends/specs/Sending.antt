@@ -1,14 +1,14 @@
 -- What goes out on a channel that is ready.
 use Rattle.std.specs.Prelude.{◌≡◌, ℕ, ◌<◌, ◌≤◌, ◌^◌, Bool, true, false, if◌then◌else◌, ◌++◌, ◌∷◌, [], List, length, slice_get}
 use Rattle.std.specs.Prelude.{Option, Some, None, Ok}
-use Rattle.client_core.specs.Shown.{ShowsClient}
-use Rattle.client_core.specs.declared.client.Client.{Client as Core}
-use Rattle.client_event.specs.Events.{Tells, act_of}
-use Rattle.client_event.specs.declared.steps.Act.{Act as Told}
-use Rattle.client_event.specs.declared.steps.Event.TheVariants as happens
+use Rattle.world_steps.specs.ClientCore.Shown.{ShowsClient}
+use Rattle.world_steps.specs.ClientCore.declared.client.Client.{Client as Core}
+use Rattle.world_steps.specs.ClientEvent.Events.{Tells, act_of}
+use Rattle.world_steps.specs.ClientEvent.declared.steps.Act.{Act as Told}
+use Rattle.world_steps.specs.ClientEvent.declared.steps.Event.TheVariants as happens
 use Rattle.client_line.specs.Sending as sending
 use Rattle.client_line.specs.Sending.{CanSend, IsRequest}
-use Rattle.client_played.specs.Holding.{Steps as Happens}
+use Rattle.world_steps.specs.ClientPlayed.Holding.{Steps as Happens}
 use Rattle.client_sent.specs.Sent.{IsHead}
 use Rattle.client_sent.specs.declared.heads.Head.{Head}
 use Rattle.exchange_defs.specs.Client.{Client, ask_message, create_for, guid_for, own_message}
@@ -23,10 +23,10 @@ use Rattle.line_requests.specs.Requesting.{IsHeading, IsRequestOf}
 use Rattle.line_requests.specs.declared.request.Heading.{Heading}
 use Rattle.smb_header.specs.declared.request.Request.{Request}
 use Rattle.world_defs.specs.Ends.{ClientEnd}
-use Rattle.world_ends.specs.declared.sides.Channel.{Channel}
-use Rattle.world_ends.specs.declared.sides.ClientSide.{ClientSide}
-use Rattle.world_ends.specs.declared.sides.ClientSide.TheVariants.{Closed, Talks, Ready}
-use Rattle.world_ends.specs.declared.sides.Up.{Up}
+use Rattle.world_steps.specs.WorldEnds.declared.sides.Channel.{Channel}
+use Rattle.world_steps.specs.WorldEnds.declared.sides.ClientSide.{ClientSide}
+use Rattle.world_steps.specs.WorldEnds.declared.sides.ClientSide.TheVariants.{Closed, Talks, Ready}
+use Rattle.world_steps.specs.WorldEnds.declared.sides.Up.{Up}
 use Rattle.world_steps.specs.Lists.{ChangedAt}
 
 -- ---- what the client chooses, by the credits of a channel that is ready

@@ -1,19 +1,18 @@
 // The request of what goes out.
 ghost use Rattle.std.specs.Prelude.{◌≡◌, ◌<◌, ◌≤◌, false, length, MatchResult};
-ghost use Rattle.client_core.specs.Shown.{ShowsClient};
+ghost use Rattle.world_steps.specs.ClientCore.Shown.{ShowsClient};
 ghost use Rattle.command_values.specs.Meaning.{command_of};
 ghost use Rattle.exchange_defs.specs.Client.{Client as Model};
 ghost use Rattle.line_ends.specs.Shown.{token_of as meant_by};
 ghost use Rattle.world_sends.specs.Sending.{Asks, Heads, IsCommandFor, IsHeadFor, IsShort, charge_for, token_for};
 ghost use Rattle.world_steps.specs.Parts.{IsMemory};
 
-use client_played::Played;
 use client_sent::Head;
 use command_values::Command;
 use line_requests::{Heading, request_of};
 use smb_header::Request;
 use std::alloc::Global;
-use world_ends::WorldError;
+use world_steps::{Played, WorldError};
 
 /// The longest body that a sealed frame has room for.
 const LONGEST_BODY: usize = 1_113_996;

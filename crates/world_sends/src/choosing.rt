@@ -3,11 +3,8 @@ ghost use Rattle.std.specs.Prelude.{◌≡◌, MatchResult, slice_get};
 ghost use Rattle.world_sends.specs.Sending.{Chooses, ChoosesOn, credits_in, held_by};
 ghost use Rattle.world_steps.specs.Parts.{IsMemory};
 
-use client_event::{Act, Event};
-use client_played::Played;
 use std::alloc::Global;
-use world_ends::{Channel, ClientSide, WorldError};
-use world_steps::happen;
+use world_steps::{Act, Channel, ClientSide, Event, Played, WorldError, happen};
 
 fn credits_of(side: &ClientSide) -> Option<u32>
     ensures { result ≡ held_by side.now }

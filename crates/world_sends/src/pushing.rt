@@ -1,7 +1,7 @@
 // A push.
 ghost use Rattle.std.specs.Prelude.{◌≡◌, true, false, MatchResult};
-ghost use Rattle.client_event.specs.Events.{act_of};
-ghost use Rattle.world_ends.specs.declared.events.WorldEvent.TheVariants as events;
+ghost use Rattle.world_steps.specs.ClientEvent.Events.{act_of};
+ghost use Rattle.world_steps.specs.WorldEnds.declared.events.WorldEvent.TheVariants as events;
 ghost use Rattle.world_sends.specs.Sending.{Goes, GoesBy, Pushes};
 ghost use Rattle.world_steps.specs.Parts.{IsMemory};
 ghost use Rattle.world_steps.specs.Steps.{Steps};
@@ -9,11 +9,8 @@ ghost use Rattle.world_steps.specs.Steps.{Steps};
 use crate::asking::request_for;
 use crate::choosing::choose;
 use crate::saying::say_up;
-use client_event::Act;
-use client_played::Played;
 use std::alloc::Global;
-use world_ends::{Channel, World, WorldError};
-use world_steps::{is_ready, later};
+use world_steps::{Act, Channel, Played, World, WorldError, is_ready, later};
 
 fn send_up(
     client: &Played,

@@ -10,7 +10,7 @@ use line_ends::Line;
 use smb_bytes::Bytes;
 use smb_header::Request;
 use std::collections::VecDeque;
-use world_ends::{Channel, ClientSide, Up, WorldError};
+use world_steps::{Channel, ClientSide, Up, WorldError};
 
 /// No frame is as long as this, which the ends of a connection ask of one.
 const TOO_LONG: usize = 0x1000_0000_0000_0000;

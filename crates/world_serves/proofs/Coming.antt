@@ -8,11 +8,11 @@ use Rattle.conn_ends.specs.declared.end.ConnEnd.{ConnEnd}
 use Rattle.conn_own.specs.Own.{IsOwnBy}
 use Rattle.conn_served.specs.Serving.{Onward}
 use Rattle.exchange_defs.specs.State as model
-use Rattle.server_book.specs.Shown.{ShowsBook}
-use Rattle.server_book.specs.declared.book.Book.{Book}
-use Rattle.server_core.specs.Shown.{stopped_of}
+use Rattle.world_steps.specs.ServerBook.Shown.{ShowsBook}
+use Rattle.world_steps.specs.ServerBook.declared.book.Book.{Book}
+use Rattle.world_steps.specs.ServerCore.Shown.{stopped_of}
 use Rattle.smb_io.specs.declared.mem_disk.MemDisk.{MemDisk}
-use Rattle.world_book.specs.Held.{may_leave, seen, told}
+use Rattle.world_steps.specs.WorldBook.Held.{may_leave, seen, told}
 use Rattle.world_defs.specs.Connection.{ConnectionStep}
 use Rattle.world_defs.specs.Ends as ends
 use Rattle.world_defs.specs.Ends.{Logons}

@@ -5,8 +5,8 @@ use Rattle.conn_answers.specs.Joined.{AreAtMost}
 use Rattle.conn_sealing.specs.Saying.{all_framed, framed}
 use Rattle.exchange_defs.specs.Network.{Received}
 use Rattle.wire_defs.specs.Frames.{told_length}
-use Rattle.world_ends.specs.Channels.{AreDown, IsDown}
-use Rattle.world_ends.specs.declared.sides.Down.{Down}
+use Rattle.world_steps.specs.WorldEnds.Channels.{AreDown, IsDown}
+use Rattle.world_steps.specs.WorldEnds.declared.sides.Down.{Down}
 use Rattle.world_serves.specs.Said.{AreSaid, IsLeft, PartsIn, Says, SaysAll, SaysOne, SaysSoFar}
 use Rattle.world_serves.specs.declared.parting.Parted.{Parted}
 

@@ -9,3 +9,4 @@ pub mod Took
 pub mod Served
 pub mod Tokens
 pub mod Coming
+pub use Rattle.world_steps.proofs as WorldSteps

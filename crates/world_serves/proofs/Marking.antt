@@ -1,8 +1,8 @@
 -- The marks of one operation are set.
 use Rattle.std.proofs.Common.{◌≡◌, ℕ, zero, suc, ◌<◌, Bool, refl, ap, ◌∙◌, arith, List, [], ◌∷◌, length, set}
 use Rattle.std.proofs.Math.ListN.{length-set}
-use Rattle.world_ends.specs.Places.{marks_at}
-use Rattle.world_ends.specs.declared.world.Marks.{Marks}
+use Rattle.world_steps.specs.WorldEnds.Places.{marks_at}
+use Rattle.world_steps.specs.WorldEnds.declared.world.Marks.{Marks}
 use Rattle.world_serves.specs.Noted.{MarksOne, noted_by}
 
 none_below : (n : ℕ) → n < 0 → ⊥

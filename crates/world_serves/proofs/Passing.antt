@@ -7,9 +7,9 @@ use Rattle.exchange_defs.specs.Network.{Sent}
 use Rattle.exchange_defs.specs.Table.{is_filled}
 use Rattle.session_defs.specs.Nonces.{last_counter}
 use Rattle.world_defs.specs.Ends.{ServerEnd}
-use Rattle.world_ends.specs.Channels.{AreUp, ShowsServerSide}
-use Rattle.world_ends.specs.declared.sides.Channel.{Channel}
-use Rattle.world_ends.specs.declared.sides.Up.{Up}
+use Rattle.world_steps.specs.WorldEnds.Channels.{AreUp, ShowsServerSide}
+use Rattle.world_steps.specs.WorldEnds.declared.sides.Channel.{Channel}
+use Rattle.world_steps.specs.WorldEnds.declared.sides.Up.{Up}
 use Rattle.world_steps.proofs.Setting.{one_set}
 use Rattle.world_steps.specs.Lists.{ChangedAt, ClosesServer}
 use Rattle.world_serves.specs.Fronted.{FrontTaken, GoesOn}

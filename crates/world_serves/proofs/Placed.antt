@@ -5,9 +5,9 @@ use Rattle.std.proofs.Common.{List, [], ◌∷◌, ◌++◌, length, slice_index
 use Rattle.std.proofs.lemmas.Bool.Decides.{nat_tests}
 use Rattle.exchange_defs.specs.Network.{first_noted}
 use Rattle.exchange_defs.specs.Table.{put}
-use Rattle.world_ends.specs.Places.{ShowsPlaces, marks_at}
-use Rattle.world_ends.specs.declared.world.Marks.{Marks}
-use Rattle.world_ends.specs.declared.world.Places.{Places}
+use Rattle.world_steps.specs.WorldEnds.Places.{ShowsPlaces, marks_at}
+use Rattle.world_steps.specs.WorldEnds.declared.world.Marks.{Marks}
+use Rattle.world_steps.specs.WorldEnds.declared.world.Places.{Places}
 use Rattle.world_serves.specs.Noted.{MarksBy, MarksOne, NotesOne, noted_by}
 use Rattle.world_serves.proofs.Puts.{same_number}
 

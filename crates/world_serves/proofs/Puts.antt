@@ -6,8 +6,8 @@ use Rattle.exchange_defs.specs.Table.{put}
 use Rattle.line_ends.specs.declared.config.ClientConfig.{ClientConfig}
 use Rattle.session_defs.specs.declared.material.Keys.{Keys}
 use Rattle.world_defs.specs.World.{Wires}
-use Rattle.world_ends.specs.Channels.{Seen, ShowsChannel, ShowsChannels}
-use Rattle.world_ends.specs.declared.sides.Channel.{Channel}
+use Rattle.world_steps.specs.WorldEnds.Channels.{Seen, ShowsChannel, ShowsChannels}
+use Rattle.world_steps.specs.WorldEnds.declared.sides.Channel.{Channel}
 
 pub own_number : (n : ℕ) → (n == n) ≡ true
 own_number n = grind (arith, nat_tests)

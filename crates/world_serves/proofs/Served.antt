@@ -9,7 +9,7 @@ use Rattle.exchange_defs.specs.State.{End, no_later}
 use Rattle.exchange_defs.specs.Step.{step}
 use Rattle.exchange_defs.specs.Table.{is_filled, put}
 use Rattle.session_defs.specs.Nonces.{last_counter}
-use Rattle.world_book.specs.Held.{HoldsBook}
+use Rattle.world_steps.specs.WorldBook.Held.{HoldsBook}
 use Rattle.world_defs.specs.Connection.{ConnectionStep, connection_step}
 use Rattle.world_defs.specs.Ends.{ConnEnd, ServerEnd}
 use Rattle.world_defs.specs.Events.{Plain, bytes_happen, bytes_later}
@@ -19,14 +19,14 @@ use Rattle.world_defs.specs.Settings.{WorldSettings, draw}
 use Rattle.world_defs.specs.World as bytes
 use Rattle.world_defs.specs.World.{absorb_frame, dropped_wires, restarted_wires, serve_frame, served_by, served_mutely, server_end_off}
 use Rattle.world_defs.specs.World.{Wires, step_at, values_took}
-use Rattle.world_ends.specs.Channels.{AreUp, IsUp, seen_of}
-use Rattle.world_ends.specs.Shown.{ShowsWorld}
-use Rattle.world_ends.specs.Tests.{is_open, opened_in, served_in}
-use Rattle.world_ends.specs.declared.events.WorldError.{WorldError}
-use Rattle.world_ends.specs.declared.events.WorldError.TheVariants as errors
-use Rattle.world_ends.specs.declared.sides.Channel.{Channel}
-use Rattle.world_ends.specs.declared.sides.Up.{Up}
-use Rattle.world_ends.specs.declared.world.World.{World}
+use Rattle.world_steps.specs.WorldEnds.Channels.{AreUp, IsUp, seen_of}
+use Rattle.world_steps.specs.WorldEnds.Shown.{ShowsWorld}
+use Rattle.world_steps.specs.WorldEnds.Tests.{is_open, opened_in, served_in}
+use Rattle.world_steps.specs.WorldEnds.declared.events.WorldError.{WorldError}
+use Rattle.world_steps.specs.WorldEnds.declared.events.WorldError.TheVariants as errors
+use Rattle.world_steps.specs.WorldEnds.declared.sides.Channel.{Channel}
+use Rattle.world_steps.specs.WorldEnds.declared.sides.Up.{Up}
+use Rattle.world_steps.specs.WorldEnds.declared.world.World.{World}
 use Rattle.world_serves.specs.Answered.{Absorbs, Answers, TakesFront}
 use Rattle.world_serves.specs.Fronted.{FrontTaken, GoesOn, fronted_in}
 use Rattle.world_serves.specs.Heard.{AnswersAs, Serves}

@@ -4,7 +4,7 @@ use Rattle.std.proofs.Common.{sym, ap, subst, ◌∙◌, arith}
 use Rattle.std.proofs.lemmas.Bool.Decides.{nat_tests}
 use Rattle.exchange_defs.specs.Network.{ForAttach, ForDialog, ForOp, is_own, op_of}
 use Rattle.line_ends.specs.Shown.{token_of}
-use Rattle.world_ends.specs.declared.world.Places.{Places}
+use Rattle.world_steps.specs.WorldEnds.declared.world.Places.{Places}
 use Rattle.world_serves.specs.Noted.{NotesOne}
 
 own_by : (a b : Bool) (n : ℕ) → is_own (if a then ForDialog else if b then ForOp n else ForAttach n) ≡ (not a && b)

@@ -13,23 +13,23 @@ use Rattle.exchange_defs.specs.Table.{put}
 use Rattle.line_ends.specs.Shown.{token_of}
 use Rattle.line_ends.specs.declared.config.ClientConfig.{ClientConfig}
 use Rattle.session_defs.specs.declared.material.Keys.{Keys}
-use Rattle.world_book.specs.Held.{HoldsBook}
+use Rattle.world_steps.specs.WorldBook.Held.{HoldsBook}
 use Rattle.world_defs.specs.Connection.{ConnectionStep, Taken}
 use Rattle.world_defs.specs.Ends.{Logons, ServerEnd}
 use Rattle.world_defs.specs.Notes.{has_acted}
 use Rattle.world_defs.specs.Settings.{WorldSettings}
 use Rattle.world_defs.specs.World as bytes
 use Rattle.world_defs.specs.World.{Wires, answered_wires, last_reply, served_on, server_end_off, values_said, values_took}
-use Rattle.world_ends.specs.Channels.{AreDown, AreUp, Seen, ShowsChannel, ShowsClientSide, ShowsServerSide, seen_of}
-use Rattle.world_ends.specs.Places.{ShowsPlaces}
-use Rattle.world_ends.specs.Shown.{ShowsWorld}
-use Rattle.world_ends.specs.Tests.{is_open}
-use Rattle.world_ends.specs.declared.sides.Channel.{Channel}
-use Rattle.world_ends.specs.declared.sides.ClientSide.{ClientSide}
-use Rattle.world_ends.specs.declared.sides.Down.{Down}
-use Rattle.world_ends.specs.declared.sides.Up.{Up}
-use Rattle.world_ends.specs.declared.world.Places.{Places}
-use Rattle.world_ends.specs.declared.world.World.{World}
+use Rattle.world_steps.specs.WorldEnds.Channels.{AreDown, AreUp, Seen, ShowsChannel, ShowsClientSide, ShowsServerSide, seen_of}
+use Rattle.world_steps.specs.WorldEnds.Places.{ShowsPlaces}
+use Rattle.world_steps.specs.WorldEnds.Shown.{ShowsWorld}
+use Rattle.world_steps.specs.WorldEnds.Tests.{is_open}
+use Rattle.world_steps.specs.WorldEnds.declared.sides.Channel.{Channel}
+use Rattle.world_steps.specs.WorldEnds.declared.sides.ClientSide.{ClientSide}
+use Rattle.world_steps.specs.WorldEnds.declared.sides.Down.{Down}
+use Rattle.world_steps.specs.WorldEnds.declared.sides.Up.{Up}
+use Rattle.world_steps.specs.WorldEnds.declared.world.Places.{Places}
+use Rattle.world_steps.specs.WorldEnds.declared.world.World.{World}
 use Rattle.world_serves.specs.Fronted.{SaysBy}
 use Rattle.world_serves.specs.Noted.{NotesBy}
 use Rattle.world_serves.specs.declared.fronts.Front.{Front}

@@ -3,7 +3,7 @@ use Rattle.std.specs.Prelude.{◌≡◌, ℕ, ◌+◌, List, take, Option, Some,
 use Rattle.conn_ends.specs.declared.conn.Conn.{Conn}
 use Rattle.exchange_defs.specs.State.{no_later}
 use Rattle.world_defs.specs.Settings.{draw}
-use Rattle.world_ends.specs.declared.world.World.{World}
+use Rattle.world_steps.specs.WorldEnds.declared.world.World.{World}
 use Rattle.world_serves.specs.Fronted.{GoesOn}
 use Rattle.world_serves.specs.Heard.{TakesUp}
 use Rattle.world_serves.specs.declared.hearing.Reply.{Reply}

@@ -2,9 +2,9 @@
 use Rattle.std.specs.Prelude.{◌≡◌, ℕ, Bool, true, false, List, ◌∷◌, Option, Some, None}
 use Rattle.conn_ends.specs.declared.conn.Conn.{Conn}
 use Rattle.exchange_defs.specs.Table.{is_filled}
-use Rattle.world_ends.specs.Tests.{is_open}
-use Rattle.world_ends.specs.declared.sides.Channel.{Channel}
-use Rattle.world_ends.specs.declared.sides.Down.{Down}
+use Rattle.world_steps.specs.WorldEnds.Tests.{is_open}
+use Rattle.world_steps.specs.WorldEnds.declared.sides.Channel.{Channel}
+use Rattle.world_steps.specs.WorldEnds.declared.sides.Down.{Down}
 use Rattle.world_serves.specs.Said.{SaysAll}
 use Rattle.world_serves.specs.declared.fronts.Front.{Front}
 

@@ -1,6 +1,6 @@
 -- What the server makes of the front of what goes up.
 use Rattle.std.specs.Prelude.{◌≡◌, ℕ, ◌≤◌, true, List, ◌++◌, length, is_some, Option, Some, None, Result, Ok, Err}
-use Rattle.client_core.specs.declared.client.Client.{Client as Core}
+use Rattle.world_steps.specs.ClientCore.declared.client.Client.{Client as Core}
 use Rattle.conn_answers.specs.Replying.{Goes}
 use Rattle.conn_core.specs.declared.end.Ended.{Ended}
 use Rattle.conn_core.specs.declared.taking.Taken.{Taken}
@@ -8,16 +8,16 @@ use Rattle.conn_dealt.specs.Dealing.{taken_records}
 use Rattle.conn_ends.specs.Shown.{ShowsEnd}
 use Rattle.conn_ends.specs.declared.conn.Conn.{Conn}
 use Rattle.exchange_defs.specs.State as model
-use Rattle.server_book.specs.declared.book.Book.{Book}
+use Rattle.world_steps.specs.ServerBook.declared.book.Book.{Book}
 use Rattle.session_defs.specs.Nonces.{last_counter}
 use Rattle.smb_io.specs.declared.mem_disk.MemDisk.{MemDisk}
-use Rattle.world_book.specs.Held.{Holds, HoldsBook}
+use Rattle.world_steps.specs.WorldBook.Held.{Holds, HoldsBook}
 use Rattle.world_defs.specs.Connection.{ConnectionStep, connection_step}
 use Rattle.world_defs.specs.Ends.{Logons, ServerEnd}
 use Rattle.world_defs.specs.Notes.{has_acted}
 use Rattle.world_defs.specs.Settings.{ServerSettings}
-use Rattle.world_ends.specs.declared.sides.Channel.{Channel}
-use Rattle.world_ends.specs.declared.world.Places.{Places}
+use Rattle.world_steps.specs.WorldEnds.declared.sides.Channel.{Channel}
+use Rattle.world_steps.specs.WorldEnds.declared.world.Places.{Places}
 use Rattle.world_serves.specs.Fronted.{FrontTaken}
 use Rattle.world_serves.specs.Noted.{NotesBy}
 use Rattle.world_serves.specs.declared.fronts.Front.{Front}

@@ -4,3 +4,5 @@ pub mod Noted
 pub mod Fronted
 pub mod Heard
 pub mod Answered
+pub use Rattle.world_steps.specs.ClientCore
+pub use Rattle.world_steps.specs as WorldSteps

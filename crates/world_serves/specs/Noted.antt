@@ -1,14 +1,14 @@
 -- The place of a message that the server took.
 use Rattle.std.specs.Prelude.{◌≡◌, ℕ, ◌+◌, ◌≤◌, ◌<◌, Bool, true, false, ◌&&◌, if◌then◌else◌, List, [], ◌∷◌, ◌++◌, length}
-use Rattle.client_core.specs.Shown.{ShowsClient}
-use Rattle.client_core.specs.declared.client.Client.{Client as Core}
+use Rattle.world_steps.specs.ClientCore.Shown.{ShowsClient}
+use Rattle.world_steps.specs.ClientCore.declared.client.Client.{Client as Core}
 use Rattle.exchange_defs.specs.Client.{Client}
 use Rattle.exchange_defs.specs.Network.{first_noted, is_own, op_of}
 use Rattle.exchange_defs.specs.Operations.{is_create}
 use Rattle.line_ends.specs.Shown.{token_of}
-use Rattle.world_ends.specs.Places.{marks_at}
-use Rattle.world_ends.specs.declared.world.Marks.{Marks}
-use Rattle.world_ends.specs.declared.world.Places.{Places}
+use Rattle.world_steps.specs.WorldEnds.Places.{marks_at}
+use Rattle.world_steps.specs.WorldEnds.declared.world.Marks.{Marks}
+use Rattle.world_steps.specs.WorldEnds.declared.world.Places.{Places}
 
 -- the first message of an operation that acted, and of one that makes an open the place behind it
 abbrev pub noted_by : Bool → ℕ → ℕ → Marks → Marks

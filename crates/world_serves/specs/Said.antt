@@ -2,7 +2,7 @@
 use Rattle.std.specs.Prelude.{◌≡◌, ℕ, List, [], ◌∷◌, ◌++◌, Option, Some, None, ⊤}
 use Rattle.conn_answers.specs.Joined.{AreAtMost}
 use Rattle.conn_sealing.specs.Saying.{all_framed}
-use Rattle.world_ends.specs.declared.sides.Down.{Down}
+use Rattle.world_steps.specs.WorldEnds.declared.sides.Down.{Down}
 use Rattle.world_serves.specs.declared.parting.Parted.{Parted}
 
 -- the message of the frame in front, and what stands behind it

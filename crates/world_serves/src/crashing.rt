@@ -1,7 +1,7 @@
 // The server crashes in the event of a front message.
 ghost use Rattle.std.specs.Prelude.{◌≡◌, true, slice_get, MatchResult};
-ghost use Rattle.world_ends.specs.Tests.{served_in};
-ghost use Rattle.world_ends.specs.declared.events.WorldEvent.TheVariants as events;
+ghost use Rattle.world_steps.specs.WorldEnds.Tests.{served_in};
+ghost use Rattle.world_steps.specs.WorldEnds.declared.events.WorldEvent.TheVariants as events;
 ghost use Rattle.world_serves.specs.Answered.{Absorbs};
 ghost use Rattle.world_serves.specs.Fronted.{fronted_in};
 ghost use Rattle.world_steps.specs.Lists.{ChangedAt, ClosesServer};
@@ -11,8 +11,7 @@ ghost use Rattle.world_steps.specs.Steps.{Steps};
 use crate::fronts::has_front;
 use crate::hearing::Reply;
 use crate::serving::take_front;
-use world_ends::{Channel, World, WorldError};
-use world_steps::{close_server, is_served, restart};
+use world_steps::{Channel, World, WorldError, close_server, is_served, restart};
 
 /// The server's end closes, and what was to be said is lost.
 fn shut(channels: &mut Vec<Channel>, k: u32, _reply: Reply)

@@ -6,7 +6,7 @@ ghost use Rattle.world_steps.specs.Lists.{ChangedAt};
 use crate::saying::say_frames;
 use conn_ends::Conn;
 use std::alloc::{AllocError, Global};
-use world_ends::{Channel, Up};
+use world_steps::{Channel, Up};
 
 /// A connection's end at the server, and the frame that it is about to take.
 #[derive(Drop)]

@@ -5,14 +5,12 @@ ghost use Rattle.world_steps.specs.Parts.{IsMemory};
 
 use crate::fronts::{Front, front_of};
 use crate::noting::note_taken;
-use client_played::Played;
 use conn_core::{Ended, Taken};
 use conn_ends::Conn;
 use conn_own::take_own;
 use smb_bytes::Bytes;
 use smb_io::MemDisk;
-use world_book::Book;
-use world_ends::{Channel, Note, Notes, Places, WorldError};
+use world_steps::{Book, Channel, Note, Notes, Places, Played, WorldError};
 
 /// What the server made of a frame: an answer, or none where the connection ends; whether a message of it was taken, whether one acted,
 /// and its note.

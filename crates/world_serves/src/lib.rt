@@ -12,3 +12,7 @@ mod serving;
 
 pub use crashing::crash;
 pub use serving::serve;
+pub use world_steps::{
+    Change, Played, cut, drop_server, finish, is_coming, is_open, is_ready, is_served, restart,
+    submit, taken_by, tamper, wait,
+};

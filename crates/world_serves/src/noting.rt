@@ -1,6 +1,6 @@
 // The places of messages among those that the server took.
 ghost use Rattle.std.specs.Prelude.{◌≡◌, ◌<◌, ◌≤◌, ◌/◌, ◌&&◌, length, slice_index_or, MatchResult, if◌then◌else◌};
-ghost use Rattle.client_core.specs.Shown.{ShowsClient};
+ghost use Rattle.world_steps.specs.ClientCore.Shown.{ShowsClient};
 ghost use Rattle.exchange_defs.specs.Client.{Client as Model};
 ghost use Rattle.exchange_defs.specs.Network.{is_own as own, op_of};
 ghost use Rattle.exchange_defs.specs.Operations.{is_create as makes_open};
@@ -10,10 +10,8 @@ ghost use Rattle.operation_values.specs.Meaning.{op_of as meaning_of};
 ghost use Rattle.world_steps.specs.Parts.{IsMemory};
 ghost use Rattle.world_serves.specs.Noted.{MarksBy, MarksOne, NotesAt, NotesBy, NotesOne, noted_by};
 
-use client_core::Client;
-use client_played::Played;
 use operation_values::OpKind;
-use world_ends::{Marks, Places, WorldError};
+use world_steps::{Client, Marks, Places, Played, WorldError};
 
 /// Whether it is an operation's own request.
 fn is_own(token: u64) -> bool

@@ -5,7 +5,7 @@ ghost use Rattle.world_serves.specs.Said.{SaysAll, SaysOne};
 use crate::parting::next_frame;
 use std::alloc::{AllocError, Global};
 use std::collections::VecDeque;
-use world_ends::Down;
+use world_steps::Down;
 
 fn push_down(down: &mut VecDeque<Down>, place: u64, bytes: Vec<u8>) -> Result<(), AllocError>
     ensures { OnOk result (SaysOne down.old.items place bytes.items down.new.items) }

@@ -1,6 +1,6 @@
 // The server answers the front of what goes up.
 ghost use Rattle.std.specs.Prelude.{MatchResult};
-ghost use Rattle.world_ends.specs.declared.events.WorldEvent.TheVariants as events;
+ghost use Rattle.world_steps.specs.WorldEnds.declared.events.WorldEvent.TheVariants as events;
 ghost use Rattle.world_serves.specs.Answered.{Answers, Ends, Goes, TakesFront};
 ghost use Rattle.world_steps.specs.Parts.{IsMemory};
 ghost use Rattle.world_steps.specs.Steps.{Steps};
@@ -10,8 +10,7 @@ use crate::fronts::{answer_on, has_front};
 use crate::hearing::{Reply, hear_front};
 use conn_ends::Conn;
 use smb_bytes::Bytes;
-use world_ends::{World, WorldError};
-use world_steps::{drop_end, is_served, later};
+use world_steps::{World, WorldError, drop_end, is_served, later};
 
 /// The server takes the front, with the next draw.
 pub(crate) fn take_front(world: &mut World, k: u32) -> Result<Reply, WorldError>

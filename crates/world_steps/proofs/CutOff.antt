@@ -2,10 +2,10 @@
 use Rattle.std.proofs.Common.{◌≡◌, ℕ, ◌+◌, ◌==◌, ◌&&◌, Bool, true, false, if◌then◌else◌, refl, sym, ap, subst, ◌∙◌, arith}
 use Rattle.std.proofs.Common.{slice_get, Option, Some, None, is_some, List}
 use Rattle.std.proofs.lemmas.Bool.Decides.{nat_tests}
-use Rattle.client_core.specs.Shown.{ShowsClient}
-use Rattle.client_core.specs.declared.client.Client.{Client as Core}
-use Rattle.client_event.specs.Events.{act_of, event_of}
-use Rattle.client_event.specs.declared.steps.Event.TheVariants as happens
+use Rattle.world_ends.specs.ClientCore.Shown.{ShowsClient}
+use Rattle.world_ends.specs.ClientCore.declared.client.Client.{Client as Core}
+use Rattle.world_ends.specs.ClientEvent.Events.{act_of, event_of}
+use Rattle.world_ends.specs.ClientEvent.declared.steps.Event.TheVariants as happens
 use Rattle.client_law.proofs.Events.{keeps}
 use Rattle.client_law.specs.Kept.{Kept}
 use Rattle.client_world_law.specs.Asking.{AsksFit}

@@ -3,7 +3,7 @@ use Rattle.std.proofs.Common.{◌≡◌, ℕ, ◌+◌, ◌++◌, Bool, true, fal
 use Rattle.exchange_defs.specs.Network.{Drop, server_off}
 use Rattle.exchange_defs.specs.State.{End, no_later}
 use Rattle.exchange_defs.specs.Step.{step}
-use Rattle.world_book.specs.Held.{HoldsBook}
+use Rattle.world_ends.specs.WorldBook.Held.{HoldsBook}
 use Rattle.world_defs.specs.Events.{Plain, bytes_happen, bytes_later}
 use Rattle.world_defs.specs.Notes as notes
 use Rattle.world_defs.specs.Notes.{step_error, unless_open}

@@ -1,10 +1,10 @@
 -- The client gives up.
 use Rattle.std.proofs.Common.{◌≡◌, ℕ, ◌+◌, Bool, true, false, not, if◌then◌else◌, refl, sym, ap, subst, ◌∙◌}
-use Rattle.client_event.specs.declared.steps.Event.TheVariants as happens
+use Rattle.world_ends.specs.ClientEvent.declared.steps.Event.TheVariants as happens
 use Rattle.client_law.proofs.Events.{keeps}
 use Rattle.client_outcomes.specs.Meaning.{refusal_of}
 use Rattle.client_outcomes.specs.declared.outcome.Why.TheVariants as causes
-use Rattle.client_played.specs.Holding.{Steps as Happens}
+use Rattle.world_ends.specs.ClientPlayed.Holding.{Steps as Happens}
 use Rattle.client_world_law.proofs.Events.{asks_on}
 use Rattle.exchange_defs.specs.ClientStep.{Finishes}
 use Rattle.exchange_defs.specs.Network.{Finish, changed}

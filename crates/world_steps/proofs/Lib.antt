@@ -1,5 +1,5 @@
 pub mod Onward
-pub mod Client
+pub mod ClientTold
 pub mod Submitted
 pub mod Closing
 pub mod Dropped

@@ -1,7 +1,7 @@
 -- An operation comes.
 use Rattle.std.proofs.Common.{◌≡◌, ℕ, ◌+◌, ◌==◌, ◌&&◌, Bool, true, false, if◌then◌else◌, refl, sym, ap, subst, ◌∙◌, arith, None}
 use Rattle.std.proofs.lemmas.Bool.Decides.{nat_tests}
-use Rattle.client_core.specs.Shown.{ShowsClient}
+use Rattle.world_ends.specs.ClientCore.Shown.{ShowsClient}
 use Rattle.client_law.proofs.Events.{keeps}
 use Rattle.client_world_law.proofs.Events.{asks_on}
 use Rattle.exchange_defs.specs.Client.{Client, may_take, take_op}
@@ -17,7 +17,7 @@ use Rattle.world_defs.specs.World as bytes
 use Rattle.world_ends.specs.Shown.{ShowsWorld}
 use Rattle.world_ends.specs.declared.world.World.{World}
 use Rattle.world_steps.specs.Parts.{Takes}
-use Rattle.world_steps.proofs.Client.{channels_taken, own_taken, places_taken}
+use Rattle.world_steps.proofs.ClientTold.{channels_taken, own_taken, places_taken}
 use Rattle.world_steps.proofs.Onward.{later_shown}
 
 front : (a b : Bool) → (a && b) ≡ true → a ≡ true

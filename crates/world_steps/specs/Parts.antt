@@ -1,11 +1,11 @@
 -- What the parts of a step leave.
 use Rattle.std.specs.Prelude.{◌≡◌, ℕ, Bool, true, false, ◌++◌, ◌∷◌, [], List, length, slice_get, if◌then◌else◌, nat_lt, Option, None}
-use Rattle.client_core.specs.Shown.{ShowsClient}
-use Rattle.client_core.specs.declared.client.Client.{Client as Core}
-use Rattle.client_event.specs.Events.{Tells, act_of}
-use Rattle.client_event.specs.declared.steps.Act.{Act as Told}
-use Rattle.client_event.specs.declared.steps.Event.TheVariants as happens
-use Rattle.client_played.specs.Holding.{Steps as Happens}
+use Rattle.world_ends.specs.ClientCore.Shown.{ShowsClient}
+use Rattle.world_ends.specs.ClientCore.declared.client.Client.{Client as Core}
+use Rattle.world_ends.specs.ClientEvent.Events.{Tells, act_of}
+use Rattle.world_ends.specs.ClientEvent.declared.steps.Act.{Act as Told}
+use Rattle.world_ends.specs.ClientEvent.declared.steps.Event.TheVariants as happens
+use Rattle.world_ends.specs.ClientPlayed.Holding.{Steps as Happens}
 use Rattle.exchange_defs.specs.Client.{Client, unmade}
 use Rattle.exchange_defs.specs.ClientStep.{Act, CloseChannels}
 use Rattle.exchange_defs.specs.Fold.{recovered_from, recovery_records}
@@ -13,8 +13,8 @@ use Rattle.exchange_defs.specs.State as model
 use Rattle.exchange_defs.specs.Step.{step}
 use Rattle.operation_values.specs.declared.values.OpKind.{OpKind}
 use Rattle.token_defs.specs.Acceptor.{User}
-use Rattle.world_book.specs.Held.{HoldsBook}
-use Rattle.server_book.specs.declared.book.Book.{Book}
+use Rattle.world_ends.specs.WorldBook.Held.{HoldsBook}
+use Rattle.world_ends.specs.ServerBook.declared.book.Book.{Book}
 use Rattle.smb_io.specs.declared.mem_disk.MemDisk.{MemDisk}
 use Rattle.world_defs.specs.Ends.{Logons}
 use Rattle.world_ends.specs.Tests.{readied_in}

@@ -1,6 +1,6 @@
 // The client closes its end of a connection.
 ghost use Rattle.std.specs.Prelude.{◌≡◌, IfSome, MatchResult, slice_get};
-ghost use Rattle.client_event.specs.Events.{act_of};
+ghost use Rattle.world_ends.specs.ClientEvent.Events.{act_of};
 ghost use Rattle.exchange_defs.specs.Client.{unmade};
 ghost use Rattle.world_ends.specs.Tests.{opened_in, readied_in};
 ghost use Rattle.world_ends.specs.declared.events.WorldEvent.TheVariants as events;
@@ -10,10 +10,8 @@ ghost use Rattle.world_steps.specs.Steps.{Steps};
 
 use crate::happening::happen;
 use crate::moments::later;
-use client_event::{Act, Event};
-use client_played::Played;
 use std::alloc::Global;
-use world_ends::{Channel, World, WorldError};
+use world_ends::{Act, Channel, Event, Played, World, WorldError};
 
 /// Whether the client's end of a connection is open.
 pub fn is_open(channels: &[Channel], k: u32) -> bool

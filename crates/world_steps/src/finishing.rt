@@ -1,16 +1,14 @@
 // The client gives up.
 ghost use Rattle.std.specs.Prelude.{◌≡◌};
-ghost use Rattle.client_core.specs.Shown.{ShowsClient};
+ghost use Rattle.world_ends.specs.ClientCore.Shown.{ShowsClient};
 ghost use Rattle.exchange_defs.specs.Client.{Client};
 ghost use Rattle.world_steps.specs.Steps.{Finishes};
 
 use crate::happening::happen;
 use crate::moments::later;
-use client_event::Event;
 use client_outcomes::Why;
-use client_played::Played;
 use msg_session::Refusal;
-use world_ends::{World, WorldError};
+use world_ends::{Event, Played, World, WorldError};
 
 /// Whether a session is live.
 pub fn is_live(client: &Played) -> bool

@@ -1,15 +1,13 @@
 // What happens to the client.
 ghost use Rattle.std.specs.Prelude.{◌≡◌, MatchResult, OnOk};
-ghost use Rattle.client_core.specs.Shown.{ShowsClient};
-ghost use Rattle.client_event.specs.Events.{Tells};
-ghost use Rattle.client_played.specs.Holding.{Steps};
+ghost use Rattle.world_ends.specs.ClientCore.Shown.{ShowsClient};
+ghost use Rattle.world_ends.specs.ClientEvent.Events.{Tells};
+ghost use Rattle.world_ends.specs.ClientPlayed.Holding.{Steps};
 ghost use Rattle.exchange_defs.specs.Client.{Client};
 ghost use Rattle.world_steps.specs.Parts.{IsMemory};
 
-use client_event::{Act, Event};
-use client_played::Played;
 use std::alloc::Global;
-use world_ends::WorldError;
+use world_ends::{Act, Event, Played, WorldError};
 
 /// An event happens to the client. One that can't come counts as memory that ran out.
 pub fn happen(client: &mut Played, alloc: Global, event: Event) -> Result<Act, WorldError>

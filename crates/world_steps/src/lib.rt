@@ -22,3 +22,7 @@ pub use parting::{close_server, drop_end, drop_server, is_served};
 pub use restarting::{restart, restart_server};
 pub use submitting::submit;
 pub use tampering::{Change, is_coming, tamper};
+pub use world_ends::{
+    Act, Book, Channel, Client, ClientSide, Down, Event, Marks, Note, Notes, Places, Played, Up,
+    World, WorldError, accept,
+};

@@ -3,7 +3,7 @@ ghost use Rattle.std.specs.Prelude.{◌≡◌, IfOk, List, MatchResult, slice_ge
 ghost use Rattle.exchange_defs.specs.State as model;
 ghost use Rattle.exchange_defs.specs.Step.{step};
 ghost use Rattle.token_defs.specs.Acceptor.{User};
-ghost use Rattle.world_book.specs.Held.{HoldsBook};
+ghost use Rattle.world_ends.specs.WorldBook.Held.{HoldsBook};
 ghost use Rattle.world_defs.specs.Ends.{Logons};
 ghost use Rattle.world_ends.specs.Tests.{served_in};
 ghost use Rattle.world_ends.specs.declared.events.WorldEvent.TheVariants as events;
@@ -14,8 +14,7 @@ ghost use Rattle.world_steps.specs.Steps.{Steps};
 use crate::moments::later;
 use smb_io::MemDisk;
 use std::alloc::AllocError;
-use world_book::{Book, end};
-use world_ends::{Channel, World, WorldError};
+use world_ends::{Book, Channel, World, WorldError, end};
 
 /// Whether the server's end of a connection is open.
 pub fn is_served(channels: &[Channel], k: u32) -> bool

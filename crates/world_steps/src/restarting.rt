@@ -3,7 +3,7 @@ ghost use Rattle.std.specs.Prelude.{◌++◌, List, MatchResult, OnOk};
 ghost use Rattle.exchange_defs.specs.Fold.{recovered_from, recovery_records};
 ghost use Rattle.exchange_defs.specs.State as model;
 ghost use Rattle.token_defs.specs.Acceptor.{User};
-ghost use Rattle.world_book.specs.Held.{Holds, HoldsBook};
+ghost use Rattle.world_ends.specs.WorldBook.Held.{Holds, HoldsBook};
 ghost use Rattle.world_defs.specs.Ends.{Logons};
 ghost use Rattle.world_ends.specs.declared.events.WorldEvent.TheVariants as events;
 ghost use Rattle.world_steps.specs.Lists.{ChangedAll, ClosesServer};
@@ -13,8 +13,7 @@ ghost use Rattle.world_steps.specs.Steps.{Steps};
 use crate::moments::later;
 use smb_io::MemDisk;
 use std::alloc::AllocError;
-use world_book::{Book, restart as begin_anew};
-use world_ends::{Channel, World, WorldError};
+use world_ends::{Book, Channel, World, WorldError, restart as begin_anew};
 
 /// Each server's end closes.
 fn close_servers(channels: &mut Vec<Channel>)

@@ -7,11 +7,9 @@ ghost use Rattle.world_steps.specs.Steps.{Steps};
 use crate::happening::{happen, taken_by};
 use crate::moments::later;
 use crate::noting::mark;
-use client_event::Event;
-use client_played::Played;
 use operation_values::OpKind;
 use std::alloc::Global;
-use world_ends::{Places, World, WorldError};
+use world_ends::{Event, Places, Played, World, WorldError};
 
 /// The client takes it, or doesn't, and each operation that it took has marks.
 fn take_in(

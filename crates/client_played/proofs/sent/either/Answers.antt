@@ -3,7 +3,7 @@ use Rattle.std.specs.Prelude.{IfOk}
 use Rattle.exchange_defs.specs.Operations.{reconnect_of, request_of}
 use Rattle.exchange_defs.specs.Client.{Client, create_for, guid_for}
 use Rattle.command_values.specs.Meaning.{command_of}
-use Rattle.client_core.specs.Shown.{ShowsClient}
+use Rattle.client_event.specs.ClientCore.Shown.{ShowsClient}
 use Rattle.client_played.proofs.sent.either.Goals as goal
 
 pub ask-requires : goal.ask-requires

@@ -1,7 +1,7 @@
 use Rattle.std.proofs.Common.{length, sym, ◌∙◌}
 use Rattle.client_law.proofs.Chosen.{is_less}
 use Rattle.operation_rows.proofs.Walking.{positive}
-use Rattle.client_core.proofs.Taken.{not_below, not_zero}
+use Rattle.client_event.proofs.ClientCore.Taken.{not_below, not_zero}
 use Rattle.client_played.proofs.sent.has_op.Goals as goal
 
 pub returns-then-index-eq0 : goal.returns-then-index-eq0

@@ -1,6 +1,6 @@
 use Rattle.std.proofs.Common.{refl}
 use Rattle.server_asked.specs.Heard.{event_of, heard_event}
-use Rattle.server_dating.proofs.Kept.{prepared_opens}
+use Rattle.server_commit.proofs.ServerDating.Kept.{prepared_opens}
 use Rattle.server_event.proofs.Again.{prepared_again}
 use Rattle.server_event.proofs.Beyond.{body_at, carried_apart, undated_at}
 use Rattle.server_event.proofs.Moments.{by_event, leaves_more}

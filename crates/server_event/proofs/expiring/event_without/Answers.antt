@@ -14,7 +14,7 @@ use Rattle.server_holds.specs.Holds.{EventLeaves}
 use Rattle.server_holds.specs.Rooms.{HasRoomToWrite}
 use Rattle.server_law.specs.Fits.{Fits}
 use Rattle.server_prepared.specs.Prepared.{RoomToCarry}
-use Rattle.server_steps.specs.Steps.{PreparedStep}
+use Rattle.server_commit.specs.ServerSteps.Steps.{PreparedStep}
 
 pub carry_behind-requires : goal.carry_behind-requires
 carry_behind-requires g c = subst (λ (v : Option Both). IfSome v (λ z. RoomToCarry c.ready_behind.new.server.tables c.args.asked.now z.prepared

@@ -1,8 +1,8 @@
 use Rattle.std.proofs.Common.{Option, subst}
 use Rattle.std.proofs.lemmas.Result.{IfOk-weaker}
-use Rattle.server_book.specs.declared.book.Book.{Book}
+use Rattle.world_ends.specs.ServerBook.declared.book.Book.{Book}
 use Rattle.smb_io.specs.declared.mem_disk.MemDisk.{MemDisk}
-use Rattle.world_book.specs.Held.{HoldsBook}
+use Rattle.world_ends.specs.WorldBook.Held.{HoldsBook}
 use Rattle.world_ended.proofs.ending.files.Goals as goal
 
 pub returns-in-Some : goal.returns-in-Some

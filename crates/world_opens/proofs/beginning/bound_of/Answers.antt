@@ -1,5 +1,5 @@
 use Rattle.std.proofs.Common.{sym, subst}
-use Rattle.client_core.specs.declared.client.Client.{Client as Core}
+use Rattle.world_steps.specs.ClientCore.declared.client.Client.{Client as Core}
 use Rattle.client_session.specs.Shown.{ShowsSession}
 use Rattle.world_opens.proofs.beginning.bound_of.Goals as goal
 

@@ -1,5 +1,5 @@
 use Rattle.std.proofs.Common.{Bool, List, sym, subst}
-use Rattle.world_ends.specs.declared.sides.Up.{Up}
+use Rattle.world_steps.specs.WorldEnds.declared.sides.Up.{Up}
 use Rattle.world_opens.specs.Opening.{IsSaid, SaysFirst}
 use Rattle.world_opens.proofs.entering.first_up.Goals as goal
 

@@ -1,5 +1,5 @@
 use Rattle.std.proofs.Common.{[], ◌∷◌, ◌++◌, ◌∙◌, Bool, ap, if◌then◌else◌, refl, sym}
-use Rattle.world_ends.specs.declared.sides.Up.{Up}
+use Rattle.world_steps.specs.WorldEnds.declared.sides.Up.{Up}
 use Rattle.world_opens.proofs.entering.say_short.Goals as goal
 
 pub returns-then-pushed : goal.returns-then-pushed

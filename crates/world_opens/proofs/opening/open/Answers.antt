@@ -1,5 +1,5 @@
 use Rattle.std.proofs.Common.{List, ap, sym, subst, slice_get, ◌∙◌, Err}
-use Rattle.world_ends.specs.declared.sides.Channel.{Channel}
+use Rattle.world_steps.specs.WorldEnds.declared.sides.Channel.{Channel}
 use Rattle.world_opens.specs.Opening.{IsDue, due_of}
 use Rattle.world_opens.proofs.Refused.{refused}
 use Rattle.world_opens.proofs.opening.open.Goals as goal

@@ -1,6 +1,6 @@
 use Rattle.std.proofs.Common.{◌≡◌, ◌≤◌, List, length, sym, ap, subst, ◌∙◌}
 use Rattle.std.specs.Prelude.{slice_index_or}
-use Rattle.client_core.specs.declared.client.Client.{Client as Core}
+use Rattle.world_steps.specs.ClientCore.declared.client.Client.{Client as Core}
 use Rattle.operation_rows.specs.declared.row.Row.{Row}
 use Rattle.operation_rows.specs.Rows.{no_row}
 use Rattle.world_sends.proofs.Asked.{not_past, same}

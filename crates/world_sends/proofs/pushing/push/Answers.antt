@@ -1,4 +1,4 @@
-use Rattle.world_ends.specs.Tests.{readied_in}
+use Rattle.world_steps.specs.WorldEnds.Tests.{readied_in}
 use Rattle.world_steps.proofs.Refusing.{memory, passed_by, refused_by}
 use Rattle.world_sends.proofs.Pushed.{not_ready, pushes}
 use Rattle.world_sends.proofs.pushing.push.Goals as goal

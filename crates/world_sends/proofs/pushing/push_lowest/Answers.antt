@@ -1,5 +1,5 @@
 use Rattle.std.proofs.Common.{List, subst}
-use Rattle.world_ends.specs.declared.sides.Channel.{Channel}
+use Rattle.world_steps.specs.WorldEnds.declared.sides.Channel.{Channel}
 use Rattle.world_sends.specs.Sending.{ChoosesOn}
 use Rattle.world_steps.proofs.Refusing.{result_with}
 use Rattle.world_sends.proofs.pushing.push_lowest.Goals as goal

@@ -1,7 +1,7 @@
 use Rattle.std.proofs.Common.{Bool, sym, subst}
 use Rattle.exchange_defs.specs.Network.{Crash}
 use Rattle.world_defs.specs.Events.{Plain}
-use Rattle.world_ends.specs.Tests.{served_in}
+use Rattle.world_steps.specs.WorldEnds.Tests.{served_in}
 use Rattle.world_serves.specs.Fronted.{fronted_in}
 use Rattle.world_serves.proofs.Served.{crashed_bare, not_there, nothing_there}
 use Rattle.world_steps.specs.Steps.{StepsAs}

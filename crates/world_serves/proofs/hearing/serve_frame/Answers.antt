@@ -1,5 +1,5 @@
 use Rattle.world_defs.specs.Connection.{connection_step}
-use Rattle.server_core.specs.Shown.{stopped_of}
+use Rattle.world_steps.specs.ServerCore.Shown.{stopped_of}
 use Rattle.world_serves.proofs.Coming.{comes}
 use Rattle.world_serves.proofs.hearing.serve_frame.Goals as goal
 

@@ -1,5 +1,5 @@
 use Rattle.std.proofs.Common.{ap, arith, ◌∙◌}
-use Rattle.world_ends.specs.Places.{no_marks}
+use Rattle.world_steps.specs.WorldEnds.Places.{no_marks}
 use Rattle.std.proofs.lemmas.List.{get_or_default}
 use Rattle.world_serves.specs.Noted.{noted_by}
 use Rattle.world_serves.proofs.Marking.{marks_set}

@@ -1,4 +1,4 @@
-use Rattle.world_ends.specs.Tests.{served_in}
+use Rattle.world_steps.specs.WorldEnds.Tests.{served_in}
 use Rattle.world_serves.specs.Fronted.{fronted_in}
 use Rattle.world_serves.proofs.Served.{not_there, nothing_there, served_result}
 use Rattle.world_steps.proofs.Refusing.{memory, passed_by, refused_by}

@@ -1,10 +1,10 @@
 use Rattle.std.proofs.Common.{◌++◌, sym, subst, ◌∙◌, List, Option, OnOk}
 use Rattle.exchange_defs.specs.Fold.{recovered_from, recovery_records}
 use Rattle.exchange_defs.specs.State as model
-use Rattle.server_book.specs.declared.book.Book.{Book}
+use Rattle.world_ends.specs.ServerBook.declared.book.Book.{Book}
 use Rattle.smb_io.specs.declared.mem_disk.MemDisk.{MemDisk}
 use Rattle.token_defs.specs.Acceptor.{User}
-use Rattle.world_book.specs.Held.{HoldsBook}
+use Rattle.world_ends.specs.WorldBook.Held.{HoldsBook}
 use Rattle.world_defs.specs.Ends.{Logons}
 use Rattle.world_steps.proofs.restarting.restart_book.Goals as goal
 

@@ -1,4 +1,4 @@
-use Rattle.client_core.specs.Shown.{ShowsClient}
+use Rattle.world_ends.specs.ClientCore.Shown.{ShowsClient}
 use Rattle.world_steps.proofs.Refusing.{result_with}
 use Rattle.world_steps.proofs.submitting.take_in.Goals as goal
 

@@ -1,8 +1,8 @@
 use Rattle.std.proofs.Common.{sym, subst}
 use Rattle.std.proofs.lemmas.Result.{IfOk-weaker, on_err_weaker}
 use Rattle.exchange_defs.specs.Client.{Client}
-use Rattle.client_core.specs.declared.client.Client.{Client as Core}
-use Rattle.client_core.specs.Shown.{ShowsClient}
+use Rattle.client_event.specs.ClientCore.declared.client.Client.{Client as Core}
+use Rattle.client_event.specs.ClientCore.Shown.{ShowsClient}
 use Rattle.client_played.proofs.played.Played.head.Goals as goal
 
 pub head_of-requires : goal.head_of-requires

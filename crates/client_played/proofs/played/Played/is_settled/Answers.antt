@@ -1,7 +1,7 @@
 use Rattle.std.proofs.Common.{sym, subst}
 use Rattle.exchange_defs.specs.Client.{Client}
-use Rattle.client_core.specs.declared.client.Client.{Client as Core}
-use Rattle.client_core.specs.Shown.{ShowsClient}
+use Rattle.client_event.specs.ClientCore.declared.client.Client.{Client as Core}
+use Rattle.client_event.specs.ClientCore.Shown.{ShowsClient}
 use Rattle.client_played.proofs.played.Played.is_settled.Goals as goal
 
 pub look-requires : goal.look-requires

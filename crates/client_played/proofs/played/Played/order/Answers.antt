@@ -1,6 +1,6 @@
 use Rattle.std.proofs.Common.{sym, subst}
-use Rattle.client_core.specs.declared.client.Client.{Client as Core}
-use Rattle.client_core.specs.Shown.{ShowsClient}
+use Rattle.client_event.specs.ClientCore.declared.client.Client.{Client as Core}
+use Rattle.client_event.specs.ClientCore.Shown.{ShowsClient}
 use Rattle.client_played.proofs.played.Played.order.Goals as goal
 
 pub returns : goal.returns

@@ -3,8 +3,8 @@ use Rattle.std.specs.Prelude.{IfSome, IfNone}
 use Rattle.exchange_defs.specs.Operations.{Unsettled}
 use Rattle.exchange_defs.specs.Client.{Client, is_taken}
 use Rattle.client_outcomes.specs.Meaning.{outcome_of}
-use Rattle.client_core.specs.declared.client.Client.{Client as Core}
-use Rattle.client_core.specs.Shown.{ShowsClient}
+use Rattle.client_event.specs.ClientCore.declared.client.Client.{Client as Core}
+use Rattle.client_event.specs.ClientCore.Shown.{ShowsClient}
 use Rattle.client_played.proofs.played.Played.outcome.Goals as goal
 
 pub outcome-requires : goal.outcome-requires

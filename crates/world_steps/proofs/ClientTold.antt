@@ -6,8 +6,8 @@ use Rattle.std.proofs.lemmas.Bool.Decides.{nat_tests}
 use Rattle.exchange_defs.specs.Operations.{Op}
 use Rattle.exchange_defs.specs.Client.{Client, take_op}
 use Rattle.exchange_defs.specs.Network.{Conn as Link, Sent}
-use Rattle.client_core.specs.Shown.{ShowsClient}
-use Rattle.client_core.specs.declared.client.Client.{Client as Core}
+use Rattle.world_ends.specs.ClientCore.Shown.{ShowsClient}
+use Rattle.world_ends.specs.ClientCore.declared.client.Client.{Client as Core}
 use Rattle.client_law.specs.Kept.{Kept}
 use Rattle.client_world_law.specs.Asking.{AsksFit}
 use Rattle.line_ends.specs.declared.config.ClientConfig.{ClientConfig}
