@@ -1,0 +1,5 @@
+mod Left
+mod Read
+mod Noted
+mod Heard
+mod Taken

@@ -1,0 +1,112 @@
+// A response settles its operation, which is noted.
+ghost use Rattle.std.specs.Prelude.{◌≡◌, Some, length, nat_lt, MatchResult};
+ghost use Rattle.world_steps.specs.ClientCore.Shown.{ShowsClient};
+ghost use Rattle.command_values.specs.Meaning.{body_of};
+ghost use Rattle.exchange_defs.specs.Client.{Client as Model};
+ghost use Rattle.world_steps.specs.WorldEnds.declared.world.Marks.{Marks as Noted};
+ghost use Rattle.world_steps.specs.Parts.{IsMemory};
+ghost use Rattle.world_takes.specs.Replies.{Answers, Notes, NotesBy, Responds};
+
+use crate::hearing::Response;
+use command_values::Reply;
+use std::alloc::Global;
+use world_steps::{Act, Event, Marks, Places, Played, WorldError, happen};
+
+/// How many operations a reply settled.
+fn settled_in(client: &Played) -> usize
+    ensures { (c : Model) → ShowsClient client.now c → length c.order ≡ result }
+{
+    client.order().len()
+}
+
+/// The client hears it. Connections that the client has are counted in 8 bits.
+fn tell(
+    client: &mut Played,
+    alloc: Global,
+    k: u32,
+    response: &Response,
+    reply: Reply,
+) -> Result<Act, WorldError>
+    ensures { MatchResult result
+        (λ act. Responds client.old k response.now.number response.now.asking reply.status reply.body act client.new) (λ e. IsMemory e) }
+{
+    match u8::try_from(k) {
+        Ok(channel) => happen(
+            client,
+            alloc,
+            Event::Hear {
+                channel,
+                number: response.number,
+                asking: response.asking,
+                status: reply.status,
+                body: reply.body,
+            },
+        ),
+        Err(_) => Err(WorldError::Memory),
+    }
+}
+
+fn note_by(marks: &mut Marks, place: u64)
+    ensures { marks.new ≡ record marks.old { by = Some place } }
+{
+    marks.by = Some(place);
+}
+
+/// The place of the message whose reply settled an operation. Each operation that was taken has marks.
+fn note_settled(places: &mut Places, number: u32, place: u64) -> Result<(), WorldError>
+    ensures { MatchResult result (λ _. Notes places.old number place places.new) (λ e. IsMemory e) }
+{
+    let at = number as usize;
+    let within = at < places.marks.len();
+    if within {
+        note_by(&mut places.marks[at], place);
+        Ok(())
+    } else {
+        Err(WorldError::Memory)
+    }
+}
+
+fn note_if(places: &mut Places, settles: bool, number: u32, place: u64) -> Result<(), WorldError>
+    ensures { MatchResult result (λ _. NotesBy settles places.old number place places.new) (λ e. IsMemory e) }
+{
+    if settles {
+        return note_settled(places, number, place);
+    }
+    Ok(())
+}
+
+fn noted(
+    places: &mut Places,
+    settles: bool,
+    response: &Response,
+    act: Act,
+) -> Result<Act, WorldError>
+    ensures { MatchResult result (λ a. (a ≡ act) × NotesBy settles places.old response.now.number response.now.place places.new)
+        (λ e. IsMemory e) }
+{
+    match note_if(places, settles, response.number, response.place) {
+        Ok(()) => Ok(act),
+        Err(why) => Err(why),
+    }
+}
+
+/// The client hears it, and where it settled its operation, the place is noted.
+pub(crate) fn respond(
+    client: &mut Played,
+    places: &mut Places,
+    alloc: Global,
+    k: u32,
+    response: &Response,
+    reply: Reply,
+) -> Result<Act, WorldError>
+    ensures { MatchResult result (λ act. Answers client.old places.old k response.now reply act client.new places.new) (λ e. IsMemory e) }
+{
+    let before = settled_in(client);
+    match tell(client, alloc, k, response, reply) {
+        Ok(act) => {
+            let behind = settled_in(client);
+            noted(places, before < behind, response, act)
+        }
+        Err(why) => Err(why),
+    }
+}

@@ -1,0 +1,12 @@
+mod Near
+mod Popped
+mod Faces
+mod Judged
+mod Off
+mod Stages
+mod Said
+mod Setups
+mod Accepted
+mod Readied
+mod Refused
+mod Talked
