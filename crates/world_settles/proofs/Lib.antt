@@ -1,0 +1,6 @@
+mod Equations
+mod Turning
+mod Tested
+mod Counted
+mod Pushed
+mod Rounds

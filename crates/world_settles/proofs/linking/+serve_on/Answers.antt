@@ -1,0 +1,33 @@
+use Rattle.std.proofs.Common.{sym, ap, ◌∙◌, slice_get, List}
+use Rattle.exchange_defs.specs.Network.{Serve, Take}
+use Rattle.world_defs.specs.Courses.{went}
+use Rattle.world_run.specs.WorldEnds.declared.sides.Channel.{Channel}
+use Rattle.world_settles.specs.Tests.{serving_in}
+use Rattle.world_run.proofs.Coming.{as_course, result_as}
+use Rattle.world_settles.proofs.Tested.{serving_is}
+use Rattle.world_settles.proofs.Turning.{serve_goes, serve_over, serve_stops}
+use Rattle.world_settles.proofs.linking.+serve_on.Goals as goal
+
+pub returns-then-most-eq0 : goal.returns-then-most-eq0
+returns-then-most-eq0 t c = λ z d h.
+    as_course z c.args.world.now d _ (serve_over z c.args.most d c.args.k c.if-most-eq0.true) h
+
+pub returns-then-not-may_serve : goal.returns-then-not-may_serve
+returns-then-not-may_serve t c = λ z d h.
+    let x = c.args.world.now in
+    let off = serving_is z x d.world c.args.k h
+    ∙ (sym (c.may_serve.ensures ∙ ap (λ (v : List Channel). serving_in (slice_get v c.args.k)) c.deref.ensures.value)
+    ∙ c.if-not-may_serve.true) in
+    as_course z x d _ (serve_stops z c.args.most d c.args.k off) h
+
+pub returns-in-Ok : goal.returns-in-Ok
+returns-in-Ok t c = λ z d h.
+    let x = c.args.world.now in
+    let on = serving_is z x d.world c.args.k h
+    ∙ (sym (c.may_serve.ensures ∙ ap (λ (v : List Channel). serving_in (slice_get v c.args.k)) c.deref.ensures.value)
+    ∙ c.if-not-may_serve.false) in
+    result_as z c.serve_on.new.world c.serve_on.result _ _ (serve_goes z c.args.most d c.args.k c.if-most-eq0.false on)
+    (c.serve_on.ensures z (went z d (Serve c.args.k)) (c.in-Ok.ensures z d h))
+
+pub returns-in-Err : goal.returns-in-Err
+returns-in-Err t c = λ z d h. c.in-Err.ensures z d h

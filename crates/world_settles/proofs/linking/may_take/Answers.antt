@@ -1,0 +1,11 @@
+use Rattle.std.proofs.Common.{Bool, ◌&&◌, ap, ◌∙◌, slice_get}
+use Rattle.world_run.specs.WorldEnds.Tests.{opened_in}
+use Rattle.world_run.specs.WorldSteps.Changes.{coming_in}
+use Rattle.world_settles.proofs.linking.may_take.Goals as goal
+
+pub returns : goal.returns
+returns c =
+    let o = slice_get c.args.channels.now c.args.k in
+    c.both.ensures
+    ∙ (ap (λ (b : Bool). b && c.is_coming.result) c.is_open.ensures
+    ∙ ap (λ (b : Bool). opened_in o && b) c.is_coming.ensures)
