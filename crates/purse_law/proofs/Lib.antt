@@ -1,0 +1,4 @@
+pub mod Windows
+pub mod Ends
+pub mod Still
+pub mod Runs

@@ -1,0 +1,10 @@
+pub mod Bytes
+pub mod Values
+pub mod Loops
+pub mod Numbers
+pub mod Counts
+pub mod Steps
+pub mod Left
+pub mod Rounds
+pub mod Lines
+pub mod Scripts
