@@ -1,163 +1,179 @@
 // A script that a seed gives: it is written, run, and summed up.
-use crate::running::{drive, line_of, world_of};
-use crate::top::ending_of;
-use client_outcomes::Outcome;
-use ends_world::{EndedWorld, World, end, files};
-use script_gen::{Maker, push_line, statement_of};
-use script_lines::{Refusal, Settings, with_defaults};
-use script_words::{Fault, Given, Statement, UserList};
-use smb_io::{Failed, Sink};
-use smb311_cli::{Ending, write_all};
+ghost use Rattle.std.specs.Prelude.{◌≡◌, ◌+◌, ◌≤◌, IfOk, MatchResult, Result as Answer};
+ghost use Rattle.std.specs.String.{string_bytes};
+ghost use Rattle.client_dialog.specs.Ending.{CanConnect};
+ghost use Rattle.drill_command.specs.Made.{IsSum, Sums, Totals};
+ghost use Rattle.drill_command.specs.Playing.{Ends, IsMemory};
+ghost use Rattle.drill_command.specs.TopCall as top;
+ghost use Rattle.gen_law.specs.ReadsBack.{numbered};
+ghost use Rattle.script_gen.specs.Making.{lines_left};
+ghost use Rattle.script_lines.specs.declared.line.Refusal.{Refusal as Refusing};
+ghost use Rattle.script_runs.specs.Runs.{schedule};
+ghost use Rattle.world_defs.specs.Courses.{Course};
+ghost use Rattle.world_defs.specs.Settings.{WorldSettings};
+ghost use Rattle.world_defs.specs.World as bytes;
+ghost use Rattle.drill_text.specs.WorldEnded.Ended.{ShowsEnded};
+ghost use Rattle.world_script.specs.WorldEnds.Shown.{ShowsWorld};
+ghost use Rattle.world_script.specs.Drives.{Comes};
+
+use crate::ending::{Ending, done, refused};
+use crate::summing::summary_text;
+use crate::writing::{WriteError, write_script};
+use drill_law::made_headline_law;
+use drill_setup::plain_settings;
+use drill_text::{EndedWorld, end, files};
+use script_fits_law::default_settings_law;
+use script_gen::{Maker, statement_of};
+use script_lines::{Line, Refusal};
+use script_runs::run_course_law;
+use script_words::Fault;
+use smb_io::Sink;
 use std::alloc::{AllocError, Global};
+use world_script::{World, drive_line, world_of};
 
-/// So many bytes of a script are gathered before they are written.
-const PIECE: usize = 65_536;
+/// The most operations that are made.
+const MOST_OPERATIONS: u64 = 1_048_576;
 
-/// The script is written first, and made a second time for its run: neither keeps it.
+/// The script is written first, and made a second time for its run: neither keeps it. More operations than a command names count as memory
+/// that ran out.
 pub(crate) fn generated<O: Sink>(
+    alloc: Global,
+    key: u64,
+    operations: u64,
+    sink: &mut O,
+    seed: [u8; 32],
+) -> Ending
+    ensures { top.Makes key operations seed (O.written sink.old) (O.written sink.new) (O.faults sink.old) (O.faults sink.new) result }
+{
+    let few = operations <= MOST_OPERATIONS;
+    if few {
+        return made(alloc, key, operations as u32, sink, seed);
+    }
+    Ending::Memory
+}
+
+fn made<O: Sink>(alloc: Global, key: u64, operations: u32, sink: &mut O, seed: [u8; 32]) -> Ending
+    requires { operations ≤ 1048576 }
+    ensures { top.Makes key operations seed (O.written sink.old) (O.written sink.new) (O.faults sink.old) (O.faults sink.new) result }
+{
+    match write_script(alloc, Maker::new(key, operations), sink) {
+        Ok(()) => summed_up(alloc, key, operations, sink, seed),
+        Err(WriteError::Failed) => Ending::SinkFailed,
+        Err(WriteError::Memory) => Ending::Memory,
+    }
+}
+
+/// The run of a script that is made, and its sum.
+fn summed_up<O: Sink>(
     alloc: Global,
     key: u64,
     operations: u32,
     sink: &mut O,
     seed: [u8; 32],
-) -> Ending {
-    match written(alloc, Maker::new(key, operations), sink) {
-        Ok(Ok(())) => {}
-        Ok(Err(Failed)) => return Ending::SinkFailed,
-        Err(AllocError) => return Ending::Memory,
-    }
-    match summary_of(alloc, Maker::new(key, operations), seed) {
-        Ok(text) => ending_of(sink, text.as_str(), Ending::Done),
-        Err(Fault::Refused(line)) => ending_of(sink, line.as_str(), Ending::Script),
+) -> Ending
+    requires { operations ≤ 1048576 }
+    ensures { top.SumsUp key operations seed (O.written sink.old) (O.written sink.new) (O.faults sink.old) (O.faults sink.new) result }
+{
+    match summary_of(alloc, key, operations, seed) {
+        Ok(text) => done(sink, text.as_str()),
+        Err(Fault::Refused(refusal)) => refused(alloc, &refusal, sink),
         Err(Fault::Memory) => Ending::Memory,
     }
 }
 
-fn written<O: Sink>(
+fn summary_of(
     alloc: Global,
-    mut maker: Maker,
-    sink: &mut O,
-) -> Result<Result<(), Failed>, AllocError> {
-    let mut text = String::new(alloc);
-    for _ in 0..u64::MAX {
-        let Some(line) = maker.next_line() else {
-            break;
-        };
-        push_line(alloc, &mut text, &line)?;
-        if text.len() >= PIECE {
-            if write_all(sink, text.as_bytes()).is_err() {
-                return Ok(Err(Failed));
-            }
-            text.clear();
-        }
-    }
-    Ok(write_all(sink, text.as_bytes()))
-}
-
-/// The settings of a script that gives none.
-fn plain_settings(alloc: Global) -> Result<Settings, AllocError> {
-    let given = Given {
-        cipher: None,
-        signing: None,
-        room: None,
-        users: UserList::new(alloc),
-        share: None,
-        channels: None,
-        begun: true,
-    };
-    with_defaults(alloc, given)
+    key: u64,
+    operations: u32,
+    seed: [u8; 32],
+) -> Result<String, Fault<Refusal>>
+    requires { operations ≤ 1048576 }
+    ensures { Sums string_bytes key operations seed result }
+{
+    made_headline_law();
+    default_settings_law();
+    run_course_law();
+    ran_made(alloc, Maker::new(key, operations), seed)
 }
 
 // It owns the world, and gives it away at one place alone.
-fn summary_of(alloc: Global, maker: Maker, seed: [u8; 32]) -> Result<String, Fault<String>> {
+fn ran_made(alloc: Global, maker: Maker, seed: [u8; 32]) -> Result<String, Fault<Refusal>>
+    ensures { CanConnect top.plain.share → Totals string_bytes (top.run_left (lines_left maker) seed) result }
+{
     let settings = plain_settings(alloc)?;
     let mut world = world_of(alloc, &settings, seed)?;
-    let refused = first_refusal(alloc, &mut world, maker);
-    summed(alloc, refused, end(world))
+    let refused = run_made(alloc, &mut world, maker);
+    summed_behind(alloc, refused, end(world))
+}
+
+// What is left of the world is given away here.
+fn summed_behind(
+    alloc: Global,
+    refused: Result<(), Fault<Refusal>>,
+    ended: EndedWorld,
+) -> Result<String, Fault<Refusal>>
+    ensures { (z : WorldSettings) (due : Answer Course Refusing) → Ends z due ended refused → Totals string_bytes due result }
+{
+    summed(alloc, refused, &ended)
 }
 
 fn summed(
     alloc: Global,
     refused: Result<(), Fault<Refusal>>,
-    ended: EndedWorld,
-) -> Result<String, Fault<String>> {
-    summary(alloc, refused, &ended)
+    ended: &EndedWorld,
+) -> Result<String, Fault<Refusal>>
+    ensures { (z : WorldSettings) (due : Answer Course Refusing) → Ends z due ended.now refused → Totals string_bytes due result }
+{
+    match refused {
+        Ok(()) => sum_behind(alloc, ended),
+        Err(fault) => Err(fault),
+    }
 }
 
-fn first_refusal(alloc: Global, world: &mut World, mut maker: Maker) -> Result<(), Fault<Refusal>> {
-    let mut number: u32 = 0;
-    let mut at: u64 = 0;
-    for _ in 0..u64::MAX {
-        let Some(line) = maker.next_line() else {
-            break;
-        };
-        at = at.saturating_add(1);
-        let statement = statement_of(alloc, &line)?;
-        if matches!(statement, Statement::Operation(_)) {
-            number = number.saturating_add(1);
-        }
-        drive(world, number, at, statement)?;
+fn sum_behind(alloc: Global, ended: &EndedWorld) -> Result<String, Fault<Refusal>>
+    ensures { MatchResult result (λ text. (z : WorldSettings) (w : bytes.World) → ShowsEnded z ended.now w → IsSum w.values (string_bytes text))
+        (λ fault. IsMemory fault) }
+{
+    match sum_text(alloc, ended) {
+        Ok(text) => Ok(text),
+        Err(AllocError) => Err(Fault::Memory),
+    }
+}
+
+fn sum_text(alloc: Global, ended: &EndedWorld) -> Result<String, AllocError>
+    ensures { IfOk result (λ text. (z : WorldSettings) (w : bytes.World) → ShowsEnded z ended.now w → IsSum w.values (string_bytes text)) }
+{
+    let files = files(ended)?;
+    summary_text(
+        alloc,
+        ended.client.table.settled.as_slice(),
+        files.as_slice(),
+    )
+}
+
+/// Lines without a number count as memory that ran out.
+fn number_behind(before: u64) -> Result<u64, AllocError>
+    ensures { IfOk result (λ number. number ≡ before + 1) }
+{
+    if before == u64::MAX {
+        return Err(AllocError);
+    }
+    Ok(before + 1)
+}
+
+/// The lines that are left, one after the other.
+fn run_made(alloc: Global, world: &mut World, mut maker: Maker) -> Result<(), Fault<Refusal>>
+    ensures { (z : WorldSettings) (c : Course) → ShowsWorld z world.old c.world
+        → Comes z (schedule z 0 (numbered 0 (lines_left maker)) c) world.new result }
+{
+    let mut count: u32 = 0;
+    let mut before: u64 = 0;
+    while let Some(made) = maker.next_line() {
+        let number = number_behind(before)?;
+        let statement = statement_of(alloc, &made)?;
+        let behind = drive_line(world, count, Line { number, statement })?;
+        count = behind;
+        before = number;
     }
     Ok(())
-}
-
-/// How many operations came out how.
-#[derive(Clone, Copy)]
-struct Counts {
-    ok: u64,
-    refused: u64,
-    no_slot: u64,
-    no_open: u64,
-    unknown: u64,
-}
-
-fn count(counts: &mut Counts, outcome: &Outcome) {
-    match outcome {
-        Outcome::Refused(_) => counts.refused = counts.refused.saturating_add(1),
-        Outcome::NoSlot(_) => counts.no_slot = counts.no_slot.saturating_add(1),
-        Outcome::NoOpen(_) => counts.no_open = counts.no_open.saturating_add(1),
-        Outcome::Unknown(_) => counts.unknown = counts.unknown.saturating_add(1),
-        _ => counts.ok = counts.ok.saturating_add(1),
-    }
-}
-
-fn counts_of(settled: &[Outcome]) -> Counts {
-    let mut counts = Counts {
-        ok: 0,
-        refused: 0,
-        no_slot: 0,
-        no_open: 0,
-        unknown: 0,
-    };
-    for outcome in settled {
-        count(&mut counts, outcome);
-    }
-    counts
-}
-
-fn summary(
-    alloc: Global,
-    refused: Result<(), Fault<Refusal>>,
-    ended: &EndedWorld,
-) -> Result<String, Fault<String>> {
-    if let Err(fault) = refused {
-        return Err(line_of(alloc, fault));
-    }
-    let counts = counts_of(ended.client().table.settled.as_slice());
-    let Counts {
-        ok,
-        refused,
-        no_slot,
-        no_open,
-        unknown,
-    } = counts;
-    let mut bytes: u64 = 0;
-    let files = files(ended)?;
-    for file in files.as_slice() {
-        bytes = bytes.saturating_add(file.bytes.len() as u64);
-    }
-    let held = files.len();
-    Ok(format!(in alloc;
-        "# ok {ok} refused {refused} noslot {no_slot} noopen {no_open} unknown {unknown}\n# files {held} bytes {bytes}\n"
-    )?)
 }

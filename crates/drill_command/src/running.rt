@@ -1,39 +1,88 @@
 // A script's run.
-use crate::settings::{client_config, server_config};
+ghost use Rattle.std.specs.Prelude.{MatchResult, Result as Answer};
+ghost use Rattle.std.specs.String.{string_bytes};
+ghost use Rattle.client_dialog.specs.Ending.{CanConnect};
+ghost use Rattle.drill_command.specs.Playing.{Drilled, Ends, IsMemory, Tells, run_of};
+ghost use Rattle.drill_text.specs.Text.{IsText};
+ghost use Rattle.script_lines.specs.Settings.{settings_of};
+ghost use Rattle.script_lines.specs.Views.{read_of};
+ghost use Rattle.script_lines.specs.declared.line.Refusal.{Refusal as Refusing};
+ghost use Rattle.world_defs.specs.Courses.{Course};
+ghost use Rattle.world_defs.specs.Settings.{WorldSettings};
+ghost use Rattle.world_defs.specs.World as bytes;
+ghost use Rattle.drill_text.specs.WorldEnded.Ended.{ShowsEnded};
+
 use crate::steps::steps_text;
-use ends_world::{
-    EndedWorld, World, WorldError, begin, drive_event, drive_operation, end, files, order, watch,
-};
-use outcome_lines::{CreateOrder, NumberList, has_order, refusal_line, run_text};
-use script_lines::{Line, Refusal, Script, Settings, script, with_defaults};
-use script_words::{Code, Command, Fault, Statement};
+use drill_law::script_headline_law;
+use drill_text::{EndedWorld, end, text_of};
+use outcome_lines::refusal_line;
+use script_fits_law::script_settings_law;
+use script_lines::{Refusal, Script, script, with_defaults};
+use script_runs::run_course_law;
+use script_words::{Command, Fault};
 use std::alloc::{AllocError, Global};
-use std::collections::VecDeque;
+use world_script::{run_lines, watch, world_of};
 
-/// What is told of a run.
-#[derive(Clone, Copy, Debug, PartialEq, Eq)]
-pub enum Told {
-    /// The refused dialogs, how each operation settled, the orders and the files.
-    Outcomes,
-    /// Each step, and what it came to; then the same.
-    Steps,
-}
-
-/// What is told of a script's run, or the line of its first refused one.
-pub fn told_of(
-    alloc: Global,
-    text: &[u8],
-    seed: [u8; 32],
-    told: Told,
-) -> Result<String, Fault<String>> {
-    match script(alloc, Command::Drill, text) {
-        Ok(read) => ran(alloc, read, seed, told),
-        Err(fault) => Err(line_of(alloc, fault)),
+fn text_behind(alloc: Global, ended: &EndedWorld) -> Result<String, Fault<Refusal>>
+    ensures { MatchResult result (λ text. (z : WorldSettings) (w : bytes.World) → ShowsEnded z ended.now w → IsText w.values (string_bytes text))
+        (λ fault. IsMemory fault) }
+{
+    match text_of(alloc, ended) {
+        Ok(text) => Ok(text),
+        Err(AllocError) => Err(Fault::Memory),
     }
 }
 
+fn told(
+    alloc: Global,
+    refused: Result<(), Fault<Refusal>>,
+    ended: &EndedWorld,
+) -> Result<String, Fault<Refusal>>
+    ensures { (z : WorldSettings) (due : Answer Course Refusing) → Ends z due ended.now refused → Tells string_bytes due result }
+{
+    match refused {
+        Ok(()) => text_behind(alloc, ended),
+        Err(fault) => Err(fault),
+    }
+}
+
+// What is left of the world is given away here.
+fn told_behind(
+    alloc: Global,
+    refused: Result<(), Fault<Refusal>>,
+    ended: EndedWorld,
+) -> Result<String, Fault<Refusal>>
+    ensures { (z : WorldSettings) (due : Answer Course Refusing) → Ends z due ended refused → Tells string_bytes due result }
+{
+    told(alloc, refused, &ended)
+}
+
+// It owns the world, and gives it away at one place alone, since each drop of a server is dear to prove.
+fn ran(alloc: Global, read: Script, seed: [u8; 32]) -> Result<String, Fault<Refusal>>
+    ensures { CanConnect (settings_of read.given).share → Tells string_bytes (run_of (read_of read) seed) result }
+{
+    let Script { given, lines } = read;
+    let settings = with_defaults(alloc, given)?;
+    let mut world = world_of(alloc, &settings, seed)?;
+    let refused = run_lines(&mut world, lines);
+    told_behind(alloc, refused, end(world))
+}
+
+/// What a drill of a script prints, or its first refused line. What the run draws comes from the seed.
+pub(crate) fn drill(alloc: Global, text: &[u8], seed: [u8; 32]) -> Result<String, Fault<Refusal>>
+    ensures { Drilled string_bytes text.now seed result }
+{
+    script_headline_law();
+    script_settings_law();
+    run_course_law();
+    let read = script(alloc, Command::Drill, text)?;
+    ran(alloc, read, seed)
+}
+
+// ---- for whoever works on it: each step of a run
+
 /// A refused line as it is printed.
-pub(crate) fn line_of(alloc: Global, fault: Fault<Refusal>) -> Fault<String> {
+fn line_of(alloc: Global, fault: Fault<Refusal>) -> Fault<String> {
     match fault {
         Fault::Memory => Fault::Memory,
         Fault::Refused(refusal) => match refusal_line(alloc, &refusal) {
@@ -43,131 +92,35 @@ pub(crate) fn line_of(alloc: Global, fault: Fault<Refusal>) -> Fault<String> {
     }
 }
 
-/// A world before its first line: no file, no fault.
-pub fn world_of(alloc: Global, settings: &Settings, seed: [u8; 32]) -> Result<World, AllocError> {
-    let config = server_config(alloc, settings)?;
-    let client = client_config(alloc, settings)?;
-    match begin(alloc, config, *b"smb311-server-01", client, seed) {
-        Ok(world) => Ok(world),
-        Err(_) => Err(AllocError),
+fn joined(
+    alloc: Global,
+    steps: Result<String, AllocError>,
+    outcomes: Result<String, Fault<Refusal>>,
+) -> Result<String, Fault<String>> {
+    match outcomes {
+        Ok(outcomes) => {
+            let mut text = steps?;
+            text.push_str(outcomes.as_str())?;
+            Ok(text)
+        }
+        Err(fault) => Err(line_of(alloc, fault)),
     }
 }
 
-// It owns the world, and gives it away at one place alone, since each drop of a server is dear to prove.
-fn ran(alloc: Global, read: Script, seed: [u8; 32], told: Told) -> Result<String, Fault<String>> {
-    let settings = with_defaults(alloc, read.given)?;
+fn ran_watched(alloc: Global, read: Script, seed: [u8; 32]) -> Result<String, Fault<String>> {
+    let Script { given, lines } = read;
+    let settings = with_defaults(alloc, given)?;
     let mut world = world_of(alloc, &settings, seed)?;
-    let refused = first_refusal(&mut world, read.lines, told);
-    text_behind(alloc, refused, told, end(world))
+    watch(&mut world);
+    let refused = run_lines(&mut world, lines);
+    let steps = steps_text(alloc, &world.notes);
+    joined(alloc, steps, told_behind(alloc, refused, end(world)))
 }
 
-fn text_behind(
-    alloc: Global,
-    refused: Result<(), Fault<Refusal>>,
-    told: Told,
-    ended: EndedWorld,
-) -> Result<String, Fault<String>> {
-    text_of(alloc, refused, told, &ended)
-}
-
-fn text_of(
-    alloc: Global,
-    refused: Result<(), Fault<Refusal>>,
-    told: Told,
-    ended: &EndedWorld,
-) -> Result<String, Fault<String>> {
-    if let Err(fault) = refused {
-        return Err(line_of(alloc, fault));
+/// Each step of a script's run and what it came to, and then what a drill of it prints; or the line of its first refused one.
+pub fn steps_of(alloc: Global, text: &[u8], seed: [u8; 32]) -> Result<String, Fault<String>> {
+    match script(alloc, Command::Drill, text) {
+        Ok(read) => ran_watched(alloc, read, seed),
+        Err(fault) => Err(line_of(alloc, fault)),
     }
-    let outcomes = outcomes_text(alloc, ended)?;
-    if told == Told::Outcomes {
-        return Ok(outcomes);
-    }
-    let mut text = steps_text(alloc, ended.steps())?;
-    text.push_str(outcomes.as_str())?;
-    Ok(text)
-}
-
-/// Drives the lines up to the first that names an absent channel, an empty list or a connection in use.
-fn first_refusal(
-    world: &mut World,
-    lines: VecDeque<Line>,
-    told: Told,
-) -> Result<(), Fault<Refusal>> {
-    if told == Told::Steps {
-        watch(world);
-    }
-    let mut number: u32 = 0;
-    for line in lines {
-        if matches!(line.statement, Statement::Operation(_)) {
-            number = number.saturating_add(1);
-        }
-        drive(world, number, line.number, line.statement)?;
-    }
-    Ok(())
-}
-
-/// Drives what a line says, under its number and that of its operation.
-pub(crate) fn drive(
-    world: &mut World,
-    number: u32,
-    line: u64,
-    statement: Statement,
-) -> Result<(), Fault<Refusal>> {
-    match driven(world, number, statement) {
-        Ok(()) => Ok(()),
-        Err(why) => Err(fault_of(line, why)),
-    }
-}
-
-fn driven(world: &mut World, number: u32, statement: Statement) -> Result<(), WorldError> {
-    match statement {
-        Statement::Operation(kind) => drive_operation(world, number, kind),
-        Statement::Event(event) => drive_event(world, event),
-        Statement::Setting(_) => Ok(()),
-    }
-}
-
-fn fault_of(line: u64, why: WorldError) -> Fault<Refusal> {
-    let code = match why {
-        WorldError::Memory => return Fault::Memory,
-        WorldError::NoChannel(k) => Code::NoChannel(k),
-        WorldError::NothingThere(k) => Code::NothingThere(k),
-        WorldError::InUse(k) => Code::InUse(k),
-    };
-    Fault::Refused(Refusal { line, code })
-}
-
-fn orders_of(alloc: Global, world: &EndedWorld) -> Result<Vec<CreateOrder>, AllocError> {
-    let table = &world.client().table;
-    let mut orders = Vec::new(alloc);
-    let mut create: u32 = 0;
-    for (op, outcome) in table.ops.iter().zip(table.settled.iter()) {
-        create = create.saturating_add(1);
-        if has_order(op, outcome) {
-            orders.push(order_of(alloc, world, create)?)?;
-        }
-    }
-    Ok(orders)
-}
-
-fn order_of(alloc: Global, world: &EndedWorld, create: u32) -> Result<CreateOrder, AllocError> {
-    let mut numbers = NumberList::new(alloc);
-    for number in order(world, create)?.as_slice() {
-        numbers.push(*number)?;
-    }
-    Ok(CreateOrder { create, numbers })
-}
-
-fn outcomes_text(alloc: Global, world: &EndedWorld) -> Result<String, AllocError> {
-    let orders = orders_of(alloc, world)?;
-    let files = files(world)?;
-    let table = &world.client().table;
-    run_text(
-        alloc,
-        table.dialogs.as_slice(),
-        table.settled.as_slice(),
-        orders.as_slice(),
-        files.as_slice(),
-    )
 }

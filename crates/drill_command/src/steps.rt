@@ -1,8 +1,8 @@
 // The steps of a run, a line each: what happened, on which connection, whose message it was, the status of a reply and whether the message
 // acted; behind that how many bytes the message had, and how the connection stands.
-use ends_world::{Happened, Step};
 use std::alloc::{AllocError, Global};
 use std::fmt::Write;
+use world_script::{Happened, Notes, Step};
 
 fn word_of(happened: Happened) -> &'static str {
     match happened {
@@ -37,11 +37,11 @@ fn push_step(out: &mut String, step: &Step) -> Result<(), AllocError> {
     let connection = step.connection;
     let operation = step.operation;
     write!(out, "# {word} {connection} {operation} ")?;
-    match step.status {
+    match step.note.status {
         Some(status) => write!(out, "{status:08x}")?,
         None => out.push_str("-")?,
     }
-    let acted = if step.acted { "acted" } else { "-" };
+    let acted = if step.note.acted { "acted" } else { "-" };
     let ups = step.ups;
     let downs = step.downs;
     let client = client_word(step);
@@ -50,11 +50,19 @@ fn push_step(out: &mut String, step: &Step) -> Result<(), AllocError> {
     writeln!(out, " {acted} {bytes} {ups} {downs} {client} {server}")
 }
 
-/// All of them.
-pub(crate) fn steps_text(alloc: Global, steps: &[Step]) -> Result<String, AllocError> {
-    let mut out = String::new(alloc);
+fn push_steps(out: &mut String, steps: &[Step]) -> Result<(), AllocError> {
     for step in steps {
-        push_step(&mut out, step)?;
+        push_step(out, step)?;
+    }
+    Ok(())
+}
+
+/// All of them, where the run was watched.
+pub(crate) fn steps_text(alloc: Global, notes: &Notes) -> Result<String, AllocError> {
+    let mut out = String::new(alloc);
+    match &notes.steps {
+        Some(steps) => push_steps(&mut out, steps.as_slice())?,
+        None => {}
     }
     Ok(out)
 }

@@ -1,14 +1,19 @@
 // The top call.
+ghost use Rattle.std.specs.Prelude.{◌≡◌, map, false, Some};
+ghost use Rattle.std.specs.String.{string_bytes};
+ghost use Rattle.rand_core.specs.Stream.{fill_bytes};
+ghost use Rattle.drill_command.specs.Asking.{asked_in};
+ghost use Rattle.drill_command.specs.TopCall as top;
+
+use crate::ending::{Ending, done, refused, usage};
 use crate::generating::generated;
-use crate::running::{Told, told_of};
+use crate::running::drill;
 use crate::words::{Asked, command_of};
+use outside_calls::{ReadError, read_script};
 use rand_core::Rng;
 use script_words::Fault;
-use smb_io::{Failed, Sink, Source};
-use smb311_cli::{Ending, ReadError, read_script, write_all};
+use smb_io::{Sink, Source};
 use std::alloc::Global;
-
-const USAGE: &str = "usage: smb311 drill, gen SEED OPS\n";
 
 /// Does the command that the words name and answers the program's status.
 ///
@@ -22,35 +27,76 @@ pub fn smb311_drill<S: Source, O: Sink, R: Rng>(
     source: &mut S,
     sink: &mut O,
     random: &mut R,
-) -> u8 {
-    let Some(asked) = command_of(words) else {
-        return ending_of(sink, USAGE, Ending::Usage) as u8;
-    };
+) -> u8
+    // The status is that of an ending, and what the ending says holds of the run that draws from these bytes.
+    ensures ends { (ending : Ending) × (result ≡ top.status_of ending)
+        × top.Ends (asked_in (map string_bytes words.now)) (fill_bytes 32 (R.stream random.old)).0 (S.left source.old) (S.left source.new)
+        (O.written sink.old) (O.written sink.new)
+        (S.faults source.old) (S.faults source.new) (O.faults sink.old) (O.faults sink.new) ending }
+    // The words are judged first: where they aren't `drill`, nothing is read.
+    ensures words_first { top.reads (asked_in (map string_bytes words.now)) ≡ false → source.new ≡ source.old }
+{
+    command(alloc, words, source, sink, random) as u8
+}
+
+fn command<S: Source, O: Sink, R: Rng>(
+    alloc: Global,
+    words: &[String],
+    source: &mut S,
+    sink: &mut O,
+    random: &mut R,
+) -> Ending
+    ensures ends { top.Ends (asked_in (map string_bytes words.now)) (fill_bytes 32 (R.stream random.old)).0 (S.left source.old)
+        (S.left source.new) (O.written sink.old) (O.written sink.new)
+        (S.faults source.old) (S.faults source.new) (O.faults sink.old) (O.faults sink.new) result }
+    ensures words_first { top.reads (asked_in (map string_bytes words.now)) ≡ false → source.new ≡ source.old }
+{
+    match command_of(words) {
+        Some(asked) => commanded(alloc, asked, source, sink, seed_from(random)),
+        None => usage(sink),
+    }
+}
+
+fn seed_from<R: Rng>(random: &mut R) -> [u8; 32]
+    ensures { result ≡ (fill_bytes 32 (R.stream random.old)).0 }
+{
     let mut seed = [0; 32];
     random.fill_bytes(&mut seed);
+    seed
+}
+
+/// Does a command, whose run draws from a seed.
+fn commanded<S: Source, O: Sink>(
+    alloc: Global,
+    asked: Asked,
+    source: &mut S,
+    sink: &mut O,
+    seed: [u8; 32],
+) -> Ending
+    ensures ends { top.Ends (Some asked) seed (S.left source.old) (S.left source.new)
+        (O.written sink.old) (O.written sink.new)
+        (S.faults source.old) (S.faults source.new) (O.faults sink.old) (O.faults sink.new) result }
+    ensures words_first { top.reads (Some asked) ≡ false → source.new ≡ source.old }
+{
     match asked {
-        Asked::Drill => drilled(alloc, source, sink, seed) as u8,
+        Asked::Drill => drilled(alloc, source, sink, seed),
         Asked::Gen {
             seed: key,
             operations,
-        } => generated(alloc, key, operations, sink, seed) as u8,
+        } => generated(alloc, key, operations, sink, seed),
     }
 }
 
-/// A text is written, and the command ends so.
-pub(crate) fn ending_of<O: Sink>(sink: &mut O, text: &str, ending: Ending) -> Ending {
-    match write_all(sink, text.as_bytes()) {
-        Ok(()) => ending,
-        Err(Failed) => Ending::SinkFailed,
-    }
-}
-
+// Reads a script, and does what it says.
 fn drilled<S: Source, O: Sink>(
     alloc: Global,
     source: &mut S,
     sink: &mut O,
     seed: [u8; 32],
-) -> Ending {
+) -> Ending
+    ensures { top.Drills seed (S.left source.old) (S.left source.new) (O.written sink.old) (O.written sink.new)
+        (S.faults source.old) (S.faults source.new) (O.faults sink.old) (O.faults sink.new) result }
+{
     match read_script(alloc, source) {
         Ok(script) => answered(alloc, script.as_slice(), sink, seed),
         Err(ReadError::Failed) => Ending::SourceFailed,
@@ -58,11 +104,13 @@ fn drilled<S: Source, O: Sink>(
     }
 }
 
-/// Runs a script and writes what it prints, or its first refused line.
-fn answered<O: Sink>(alloc: Global, script: &[u8], sink: &mut O, seed: [u8; 32]) -> Ending {
-    match told_of(alloc, script, seed, Told::Outcomes) {
-        Ok(text) => ending_of(sink, text.as_str(), Ending::Done),
-        Err(Fault::Refused(line)) => ending_of(sink, line.as_str(), Ending::Script),
+// Runs a script and writes what it prints, or its first refused line.
+fn answered<O: Sink>(alloc: Global, script: &[u8], sink: &mut O, seed: [u8; 32]) -> Ending
+    ensures { top.Answers script.now seed (O.written sink.old) (O.written sink.new) (O.faults sink.old) (O.faults sink.new) result }
+{
+    match drill(alloc, script, seed) {
+        Ok(text) => done(sink, text.as_str()),
+        Err(Fault::Refused(refusal)) => refused(alloc, &refusal, sink),
         Err(Fault::Memory) => Ending::Memory,
     }
 }

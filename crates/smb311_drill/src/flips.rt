@@ -1,10 +1,12 @@
 // A logon of which one byte of one message is changed on its way.
 use anyhow::{Result, bail};
-use drill_command::world_of;
-use ends_world::{EndedWorld, Happened, World, WorldError, drive_event, end, watch};
+use drill_command::{
+    EndedWorld, Happened, Notes, World, WorldError, drive_event, end, plain_settings, watch,
+    world_of,
+};
 use msg_session::Refusal;
-use script_lines::{Settings, with_defaults};
-use script_words::{Given, ScriptEvent, UserList};
+use script_lines::Settings;
+use script_words::ScriptEvent;
 use smb_bytes::Bytes;
 use std::alloc::Global;
 use std::fmt::Write;
@@ -42,19 +44,6 @@ fn no_counts() -> Counts {
         status: 0,
         ended: 0,
     }
-}
-
-fn plain_settings(alloc: Global) -> Result<Settings> {
-    let given = Given {
-        cipher: None,
-        signing: None,
-        room: None,
-        users: UserList::new(alloc),
-        share: None,
-        channels: None,
-        begun: true,
-    };
-    Ok(with_defaults(alloc, given)?)
 }
 
 /// An event; one that the world doesn't meet is none.
@@ -96,7 +85,7 @@ fn count(counts: &mut Counts, ready: bool, ended: &EndedWorld) {
         counts.accepted = counts.accepted.saturating_add(1);
         return;
     }
-    match ended.client().table.dialogs.last() {
+    match ended.client.table.dialogs.last() {
         Some(dialog) => count_refusal(counts, dialog.refusal),
         None => counts.ended = counts.ended.saturating_add(1),
     }
@@ -134,19 +123,27 @@ fn lengths(alloc: Global, settings: &Settings, seed: [u8; 32]) -> Result<Vec<usi
     let mut world = world_of(alloc, settings, seed)?;
     watch(&mut world);
     let ready = logged_on(alloc, &mut world, HOPS, 0);
-    lengths_told(alloc, ready, end(world))
+    let lengths = lengths_in(alloc, &world.notes);
+    lengths_told(ready, lengths, end(world))
 }
 
-fn lengths_told(alloc: Global, ready: Result<bool>, ended: EndedWorld) -> Result<Vec<usize>> {
-    lengths_in(alloc, ready, &ended)
-}
-
-fn lengths_in(alloc: Global, ready: Result<bool>, ended: &EndedWorld) -> Result<Vec<usize>> {
+fn lengths_told(
+    ready: Result<bool>,
+    lengths: Result<Vec<usize>>,
+    _ended: EndedWorld,
+) -> Result<Vec<usize>> {
     if !ready? {
         bail!("a logon fails by itself");
     }
+    lengths
+}
+
+fn lengths_in(alloc: Global, notes: &Notes) -> Result<Vec<usize>> {
     let mut lengths = Vec::new(alloc);
-    for step in ended.steps() {
+    let Some(steps) = &notes.steps else {
+        bail!("no step was kept");
+    };
+    for step in steps.as_slice() {
         if matches!(step.happened, Happened::Served | Happened::Taken) {
             lengths.push(step.bytes)?;
         }

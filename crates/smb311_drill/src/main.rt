@@ -7,12 +7,12 @@ mod flips;
 mod rows;
 
 use anyhow::{Result, bail};
-use drill_command::{Told, smb311_drill, told_of};
+use drill_command::{Ending, smb311_drill, steps_of};
+use outside_calls::{read_script, write_all};
 use rand_chacha::ChaCha20Rng;
 use rand_core::SeedableRng;
 use script_words::Fault;
 use smb_io::{Sink, Source, StdSink, StdSource};
-use smb311_cli::{Ending, read_script, write_all};
 use std::alloc::{AllocError, Global};
 use std::env;
 use std::io::ErrorKind;
@@ -79,7 +79,7 @@ fn steps<S: Source>(alloc: Global, source: &mut S, seed: [u8; 32]) -> Result<Str
     let Ok(script) = read_script(alloc, source) else {
         bail!("the source failed");
     };
-    match told_of(alloc, script.as_slice(), seed, Told::Steps) {
+    match steps_of(alloc, script.as_slice(), seed) {
         Ok(text) => Ok(text),
         Err(Fault::Refused(line)) => Ok(line),
         Err(Fault::Memory) => bail!("memory ran out"),

@@ -5,15 +5,15 @@
 // first row that is answered otherwise ends the program; rows that begin with `#` are remarks.
 use crate::flips;
 use anyhow::{Context, Result, bail};
-use drill_command::{Told, smb311_drill, told_of};
+use drill_command::{smb311_drill, steps_of};
 use due_rows::{Tally, ensure_due, is_remark};
+use outside_calls::read_script;
 use rand_chacha::ChaCha20Rng;
 use rand_core::SeedableRng;
 use row_escapes::unescaped;
 use script_words::Fault;
 use smb_bytes::Bytes;
 use smb_io::{MemSink, MemSource, Source};
-use smb311_cli::read_script;
 use std::alloc::Global;
 use vector_rows::bytes_of;
 
@@ -120,7 +120,7 @@ fn words_of(alloc: Global, text: &str) -> Result<Vec<String>> {
 fn serves(alloc: Global, count: usize, row: &str) -> Result<()> {
     let (script, due) = row.split_once('|').context("no script")?;
     let script = unescaped(alloc, script)?;
-    let text = match told_of(alloc, script.as_slice(), SEED, Told::Steps) {
+    let text = match steps_of(alloc, script.as_slice(), SEED) {
         Ok(text) => text,
         Err(Fault::Refused(line)) => line,
         Err(Fault::Memory) => bail!("memory ran out"),

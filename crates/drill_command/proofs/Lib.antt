@@ -1,0 +1,6 @@
+pub mod Limits
+pub mod Said
+pub mod Played
+pub mod Ended
+pub mod Summed
+pub mod Written

@@ -1,0 +1,15 @@
+use Rattle.std.proofs.Common.{subst}
+use Rattle.drill_command.specs.Writing.{FailsBy}
+use Rattle.drill_command.specs.declared.writing.WriteError.{WriteError}
+use Rattle.drill_command.proofs.Ended.{makes}
+use Rattle.drill_command.proofs.generating.made.Goals as goal
+
+pub returns-in-Ok : goal.returns-in-Ok
+returns-in-Ok g c =
+    makes c.args.key c.args.operations c.args.seed _ _ _ _ _ _ _ c.summed_up.result c.new.ensures c.in-Ok.ensures.written
+    c.in-Ok.ensures.calm c.summed_up.ensures
+
+pub returns-in-Err-Failed : goal.returns-in-Err-Failed
+returns-in-Err-Failed g c =
+    subst (λ (e : WriteError). FailsBy (g.O.Sink.faults c.args.sink.now) (g.O.Sink.faults c.write_script.new.sink) e)
+    c.in-Err-Failed.field-0-is c.in-Err-Failed.ensures.failed

@@ -1,0 +1,27 @@
+use Rattle.std.proofs.Common.{refl, ◌∙◌}
+use Rattle.std.specs.String.{string_bytes}
+use Rattle.script_gen.specs.Making.{lines_left}
+use Rattle.drill_command.proofs.Summed.{less_left}
+use Rattle.drill_command.proofs.Written.{begun, last_of, one_more}
+use Rattle.drill_command.proofs.writing.write_script.Goals as goal
+
+pub loop-line-init : goal.loop-line-init
+loop-line-init g c = record {
+  written = begun (g.O.Sink.written c.args.sink.now) (string_bytes c.new-text.result) (lines_left c.args.maker) c.new-text.ensures.bytes;
+  calm = refl;
+}
+
+pub loop-line-preserved : goal.loop-line-preserved
+loop-line-preserved g c = record {
+  written = one_more _ _ _ _ _ _ (lines_left c.loop-line.maker) (lines_left c.next_line.new.self) c.in-Some.line _ c.in-Some.ensures
+      c.in_ok-push_line.ensures c.in_ok-flush_piece.ensures.written c.loop-line.invariant.written;
+  calm = c.in_ok-flush_piece.ensures.calm ∙ c.loop-line.invariant.calm;
+}
+
+pub returns-clause-written : goal.returns-clause-written
+returns-clause-written g c =
+    last_of _ _ _ (string_bytes c.loop-line.text) c.as_bytes.result.now (lines_left c.loop-line.maker) _ c.as_bytes.ensures.value
+    c.in_default.ensures c.in_ok-write_all.ensures.written c.loop-line.invariant.written
+
+pub loop-line-smaller : goal.loop-line-smaller
+loop-line-smaller g c = less_left (lines_left c.loop-line.maker) (lines_left c.next_line.new.self) c.in-Some.line c.in-Some.ensures

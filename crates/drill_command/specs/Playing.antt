@@ -1,0 +1,66 @@
+-- The run of a script that was read, and what it prints.
+use Rattle.std.specs.Prelude.{◌≡◌, ℕ, ◌⊎◌, List, Result, Ok, Err, MatchResult}
+use Rattle.drill_defs.specs.Scripts.{lines_in, settings_in}
+use Rattle.drill_law.specs.Drills.{DrillHolds}
+use Rattle.drill_text.specs.Text.{IsText}
+use Rattle.outcome_lines.specs.Text.{refusal_line}
+use Rattle.script_lines.specs.Script.{Read, script}
+use Rattle.script_lines.specs.declared.line.Refusal.{Refusal}
+use Rattle.script_words.specs.Outcome.{◌>>=◌, Fails}
+use Rattle.script_words.specs.declared.values.Command.TheVariants.{Drill}
+use Rattle.script_words.specs.declared.values.Fault.{Fault}
+use Rattle.script_words.specs.declared.values.Fault.TheVariants.{Memory}
+use Rattle.world_defs.specs.Courses.{Course, opening}
+use Rattle.world_defs.specs.Settings.{WorldSettings}
+use Rattle.drill_text.specs.WorldEnded.Ended.{ShowsEnded}
+use Rattle.drill_text.specs.WorldEnded.declared.ending.EndedWorld.{EndedWorld}
+use Rattle.script_runs.specs.Runs.{IsCourse, schedule}
+
+-- the course to which a script that was read leads, or its first line that isn't met
+abbrev pub run_of : Read → List ℕ → Result Course Refusal
+run_of read seed = schedule (settings_in read seed) 0 read.lines (opening (settings_in read seed))
+
+-- of a text: it is judged whole before its run
+abbrev pub played : List ℕ → List ℕ → Result Course Refusal
+played text seed = script Drill text >>= λ read. run_of read seed
+
+-- a script was read, each of its lines is met, its run over bytes is the definitions' own, the four sentences of the headline hold of it,
+-- and this is its text
+pub record Ran (text seed printed : List ℕ) : Type 0 where
+  pub read : Read
+  pub said : script Drill text ≡ Ok read
+  pub course : Course
+  pub led : run_of read seed ≡ Ok course
+  pub own : IsCourse (settings_in read seed) (lines_in read) course
+  pub holds : DrillHolds (settings_in read seed) (lines_in read)
+  pub shown : IsText course.world.values printed
+
+-- a line is refused, and this tells which and why
+pub record Refused (text seed printed : List ℕ) : Type 0 where
+  pub refusal : Refusal
+  pub refused : played text seed ≡ Err refusal
+  pub told : printed ≡ refusal_line refusal
+
+-- what is due to be printed
+abbrev pub Prints : List ℕ → List ℕ → List ℕ → Type 0
+Prints text seed printed = Ran text seed printed ⊎ Refused text seed printed
+
+-- what a drill gives: the text of the run, or the first refused line
+abbrev pub Drilled : {A : Type 0} → (A → List ℕ) → List ℕ → List ℕ → Result A (Fault Refusal) → Type 0
+Drilled view text seed result = MatchResult result (λ out. Ran text seed (view out)) (λ fault. Fails fault (played text seed))
+
+-- ---- its parts
+
+-- the world behind the lines that were met shows the course that is due, or the refusal is that which is due
+abbrev pub Ends : WorldSettings → Result Course Refusal → EndedWorld → Result Unit (Fault Refusal) → Type 0
+Ends z due ended refused =
+    MatchResult refused (λ u. (d : Course) × (due ≡ Ok d) × ShowsEnded z ended d.world) (λ fault. Fails fault due)
+
+-- its text, or the refusal that is due
+abbrev pub Tells : {A : Type 0} → (A → List ℕ) → Result Course Refusal → Result A (Fault Refusal) → Type 0
+Tells view due result =
+    MatchResult result (λ out. (d : Course) × (due ≡ Ok d) × IsText d.world.values (view out)) (λ fault. Fails fault due)
+
+-- memory ran out
+abbrev pub IsMemory : Fault Refusal → Type 0
+IsMemory fault = fault ≡ Memory

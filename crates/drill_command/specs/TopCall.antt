@@ -1,0 +1,175 @@
+-- How the top call ends: its status, what it has read and what it has written.
+use Rattle.std.specs.Prelude.{◌≡◌, ℕ, Bool, true, false, List, codes, Option, Some, None, Result, Err}
+use Rattle.std.specs.Io.KnownBytes.{Appends, Consumes, IsAtEnd, Keeps}
+use Rattle.drill_defs.specs.Scripts.{drill_settings}
+use Rattle.gen_law.specs.ReadsBack.{made_script, numbered, script_text}
+use Rattle.outcome_lines.specs.Text.{refusal_line}
+use Rattle.script_gen.specs.Making.{made_lines}
+use Rattle.script_gen.specs.declared.lines.MadeLine.{MadeLine}
+use Rattle.script_lines.specs.Script.{nothing_given}
+use Rattle.script_lines.specs.Settings.{settings_of}
+use Rattle.script_lines.specs.declared.line.Refusal.{Refusal}
+use Rattle.script_lines.specs.declared.settings.Settings.{Settings}
+use Rattle.script_runs.specs.Runs.{schedule}
+use Rattle.smb_io.specs.Faults.{Rose}
+use Rattle.world_defs.specs.Courses.{Course, opening}
+use Rattle.outside_calls.specs.Outside.{AppendsFront, HasRead}
+use Rattle.drill_command.specs.Made.{Summed}
+use Rattle.drill_command.specs.Playing.{Prints, Ran, played, run_of}
+use Rattle.drill_command.specs.declared.ending.Ending.{Ending}
+use Rattle.drill_command.specs.declared.ending.Ending.TheVariants.{Done, Usage, Script, SourceFailed, SinkFailed, Memory}
+use Rattle.drill_command.specs.declared.words.Asked.{Asked}
+use Rattle.drill_command.specs.declared.words.Asked.TheVariants.{Drill, Gen}
+
+abbrev pub usage : List ℕ
+usage = codes "usage: smb311 drill, gen SEED OPS, serve ADDR [COUNT LEVEL]\n"
+
+-- the status that the program ends with
+abbrev pub status_of : Ending → ℕ
+status_of Done = 0
+status_of Usage = 2
+status_of Script = 3
+status_of SourceFailed = 4
+status_of SinkFailed = 5
+status_of Memory = 8
+
+-- What was read is a script whose run is the definitions' own and keeps the headline, and the text of that very run was written.
+pub record IsDone (script seed : List ℕ) (written written' : Option (List ℕ)) : Type 0 where
+  pub printed : List ℕ
+  pub ran : Ran script seed printed
+  pub wrote : Appends written written' printed
+
+-- What was read has a first refused line, which was written.
+pub record IsRefused (script seed : List ℕ) (written written' : Option (List ℕ)) : Type 0 where
+  pub refusal : Refusal
+  pub refused : played script seed ≡ Err refusal
+  pub wrote : Appends written written' (refusal_line refusal)
+
+-- A front of what is due was written.
+pub record IsCut (script seed : List ℕ) (written written' : Option (List ℕ)) : Type 0 where
+  pub printed : List ℕ
+  pub due : Prints script seed printed
+  pub wrote : AppendsFront written written' printed
+
+-- What an ending says of a refused line.
+abbrev pub Refuses : Refusal → (written written' : Option (List ℕ)) → (faults faults' : ℕ) → Ending → Type 0
+Refuses refusal written written' faults faults' Done = ⊥
+Refuses refusal written written' faults faults' Usage = ⊥
+Refuses refusal written written' faults faults' Script = (faults' ≡ faults) × Appends written written' (refusal_line refusal)
+Refuses refusal written written' faults faults' SourceFailed = ⊥
+Refuses refusal written written' faults faults' SinkFailed = Rose faults faults' × AppendsFront written written' (refusal_line refusal)
+Refuses refusal written written' faults faults' Memory = Keeps written written'
+
+-- What an ending says of the text of a run.
+abbrev pub Writes : (text : List ℕ) (written written' : Option (List ℕ)) → (faults faults' : ℕ) → Ending → Type 0
+Writes text written written' faults faults' Done = (faults' ≡ faults) × Appends written written' text
+Writes text written written' faults faults' Usage = ⊥
+Writes text written written' faults faults' Script = ⊥
+Writes text written written' faults faults' SourceFailed = ⊥
+Writes text written written' faults faults' SinkFailed = Rose faults faults' × AppendsFront written written' text
+Writes text written written' faults faults' Memory = ⊥
+
+-- What an ending says of a script that was read. The counts of faults of the sink are those before the call and behind it: what is said to
+-- be written whole was written without a fault.
+abbrev pub Answers : (script seed : List ℕ) (written written' : Option (List ℕ)) → (faults faults' : ℕ) → Ending → Type 0
+Answers script seed written written' faults faults' Done = (faults' ≡ faults) × IsDone script seed written written'
+Answers script seed written written' faults faults' Usage = ⊥
+Answers script seed written written' faults faults' Script = (faults' ≡ faults) × IsRefused script seed written written'
+Answers script seed written written' faults faults' SourceFailed = ⊥
+Answers script seed written written' faults faults' SinkFailed = Rose faults faults' × IsCut script seed written written'
+Answers script seed written written' faults faults' Memory = Keeps written written'
+
+-- The source was read to its end, or past the limit on a script's bytes, and the ending is one of what was read.
+pub record HasAnswered (seed : List ℕ) (left left' written written' : Option (List ℕ)) (faults faults' : ℕ) (ending : Ending) : Type 0 where
+  pub script : List ℕ
+  pub read : HasRead left left' script
+  pub answered : Answers script seed written written' faults faults' ending
+
+-- The source was read to its end.
+pub record HasEnded (seed : List ℕ) (left left' written written' : Option (List ℕ)) (faults faults' : ℕ) : Type 0 where
+  pub script : List ℕ
+  pub read : Consumes left left' script
+  pub ended : IsAtEnd left'
+  pub calm : faults' ≡ faults
+  pub done : IsDone script seed written written'
+
+-- What each ending says of `drill`, whose run draws from the 32 bytes of a seed: what was read, what was written, and whose count of faults
+-- rose, the source's or the sink's. That memory ran out is free.
+abbrev pub Drills : (seed : List ℕ) (left left' written written' : Option (List ℕ)) → (source source' sink sink' : ℕ) → Ending → Type 0
+Drills seed left left' written written' source source' sink sink' Done = (source' ≡ source)
+    × HasEnded seed left left' written written' sink sink'
+Drills seed left left' written written' source source' sink sink' Usage = ⊥
+Drills seed left left' written written' source source' sink sink' Script = (source' ≡ source)
+    × HasAnswered seed left left' written written' sink sink' Script
+Drills seed left left' written written' source source' sink sink' SourceFailed = Rose source source' × Keeps written written'
+Drills seed left left' written written' source source' sink sink' SinkFailed = (source' ≡ source)
+    × HasAnswered seed left left' written written' sink sink' SinkFailed
+Drills seed left left' written written' source source' sink sink' Memory = (source' ≡ source) × Keeps written written'
+
+-- the settings of a script that gives none, and the run of lines that are made
+abbrev pub plain : Settings
+plain = settings_of nothing_given
+
+abbrev pub run_left : List MadeLine → List ℕ → Result Course Refusal
+run_left ls seed = schedule (drill_settings plain seed) 0 (numbered 0 ls) (opening (drill_settings plain seed))
+
+-- The sum of the run of a made script was written.
+pub record IsSummed (key operations : ℕ) (seed : List ℕ) (written written' : Option (List ℕ)) : Type 0 where
+  pub printed : List ℕ
+  pub summed : Summed key operations seed printed
+  pub wrote : Appends written written' printed
+
+-- A line of it is refused, and that line was written.
+pub record IsStopped (key operations : ℕ) (seed : List ℕ) (written written' : Option (List ℕ)) : Type 0 where
+  pub refusal : Refusal
+  pub refused : run_of (made_script key operations) seed ≡ Err refusal
+  pub wrote : Appends written written' (refusal_line refusal)
+
+-- What an ending says behind a made script.
+abbrev pub SumsUp : (key operations : ℕ) (seed : List ℕ) (written written' : Option (List ℕ)) → (faults faults' : ℕ) → Ending → Type 0
+SumsUp key operations seed written written' faults faults' Done = (faults' ≡ faults) × IsSummed key operations seed written written'
+SumsUp key operations seed written written' faults faults' Usage = ⊥
+SumsUp key operations seed written written' faults faults' Script = (faults' ≡ faults) × IsStopped key operations seed written written'
+SumsUp key operations seed written written' faults faults' SourceFailed = ⊥
+SumsUp key operations seed written written' faults faults' SinkFailed = Rose faults faults'
+SumsUp key operations seed written written' faults faults' Memory = Unit {0}
+
+-- What each ending says of `gen`: the script of its two numbers was written, and behind it the sum of that script's run, or its first refused
+-- line; or the sink failed, where its count of faults rose. What was written where it failed, or where memory ran out, isn't said.
+pub record IsMade (key operations : ℕ) (seed : List ℕ) (written written' : Option (List ℕ)) (faults faults' : ℕ) (ending : Ending)
+    : Type 0 where
+  pub between : Option (List ℕ)
+  pub script : Appends written between (script_text (made_lines key operations))
+  pub behind : SumsUp key operations seed between written' faults faults' ending
+
+abbrev pub Makes : (key operations : ℕ) (seed : List ℕ) (written written' : Option (List ℕ)) → (faults faults' : ℕ) → Ending → Type 0
+Makes key operations seed written written' faults faults' Done = IsMade key operations seed written written' faults faults' Done
+Makes key operations seed written written' faults faults' Usage = ⊥
+Makes key operations seed written written' faults faults' Script = IsMade key operations seed written written' faults faults' Script
+Makes key operations seed written written' faults faults' SourceFailed = ⊥
+Makes key operations seed written written' faults faults' SinkFailed = Rose faults faults'
+Makes key operations seed written written' faults faults' Memory = Unit {0}
+
+-- What each ending says where the words are no command.
+abbrev pub IsUsage : (written written' : Option (List ℕ)) → (faults faults' : ℕ) → Ending → Type 0
+IsUsage written written' faults faults' Done = ⊥
+IsUsage written written' faults faults' Usage = (faults' ≡ faults) × Appends written written' usage
+IsUsage written written' faults faults' Script = ⊥
+IsUsage written written' faults faults' SourceFailed = ⊥
+IsUsage written written' faults faults' SinkFailed = Rose faults faults' × AppendsFront written written' usage
+IsUsage written written' faults faults' Memory = ⊥
+
+-- What an ending says, by the command that the words are.
+abbrev pub Ends : Option Asked → (seed : List ℕ) (left left' written written' : Option (List ℕ)) → (source source' sink sink' : ℕ) → Ending
+    → Type 0
+Ends None seed left left' written written' source source' sink sink' ending = IsUsage written written' sink sink' ending
+Ends (Some Drill) seed left left' written written' source source' sink sink' ending =
+    Drills seed left left' written written' source source' sink sink' ending
+Ends (Some (Gen key operations)) seed left left' written written' source source' sink sink' ending =
+    Makes key operations seed written written' sink sink' ending
+
+-- The source is read by `drill` alone.
+abbrev pub reads : Option Asked → Bool
+reads None = false
+reads (Some Drill) = true
+reads (Some (Gen key operations)) = false

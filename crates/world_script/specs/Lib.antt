@@ -1,0 +1,2 @@
+pub mod Drives
+pub use Rattle.world_settles.specs.WorldEnds
