@@ -1,8 +1,9 @@
 //! The threads that run, and what is left of those that have ended.
-ghost use Rattle.std.specs.Prelude.{◌≡◌, ◌+◌, ◌<◌, ◌≤◌, ◌^◌, ℕ, length, IfSome};
+ghost use Rattle.std.specs.Prelude.{◌≡◌, ◌+◌, ◌<◌, ◌≤◌, ◌^◌, ℕ, length, IfSome, OnOk};
 ghost use Rattle.std.specs.List.{All};
 ghost use Rattle.shared_book.specs.Words.{view_of, IsSeatOf};
 ghost use Rattle.server_run.specs.Serving.{AreServed};
+ghost use Rattle.link_threads.specs.Covering.{AreCovered, HaveEnds};
 
 use crate::ended_list::EndedList;
 use crate::running::{Running, begun, finished};
@@ -49,6 +50,9 @@ fn join_one<B: Book, S: Service<B>, R: Threads>(
     ensures served { AreServed (S.serves service.now) crew.new.roll.ends.items (view_of crew.new.roll.seat).kept }
     ensures running { All (λ c. IsSeatOf book.now c.handle.promise.seat.value
         × (c.handle.promise.service.value ≡ service.now)) crew.new.running.items }
+    ensures count { length crew.new.roll.ends.items ≡ length crew.old.roll.ends.items }
+    ensures covered { (n : ℕ) → AreCovered (λ c. c.place) n crew.old.roll.ends.items crew.old.running.items
+        → AreCovered (λ c. c.place) n crew.new.roll.ends.items crew.new.running.items }
 {
     if let Some(at) = found(crew.running.as_slice(), place) {
         let child = crew.running.swap_remove(at);
@@ -73,6 +77,9 @@ pub(crate) fn join_ended<B: Book, S: Service<B>, R: Threads + Wait>(
     ensures served { AreServed (S.serves service.now) crew.new.roll.ends.items (view_of crew.new.roll.seat).kept }
     ensures running { All (λ c. IsSeatOf book.now c.handle.promise.seat.value
         × (c.handle.promise.service.value ≡ service.now)) crew.new.running.items }
+    ensures count { length crew.new.roll.ends.items ≡ length crew.old.roll.ends.items }
+    ensures covered { (n : ℕ) → AreCovered (λ c. c.place) n crew.old.roll.ends.items crew.old.running.items
+        → AreCovered (λ c. c.place) n crew.new.roll.ends.items crew.new.running.items }
 {
     for _ in rt.forever() {
         let Some(place) = ended.next(rt) else {
@@ -99,6 +106,9 @@ pub(crate) fn join_all<B: Book, S: Service<B>, R: Threads>(
     ensures served { AreServed (S.serves service.now) crew.new.roll.ends.items (view_of crew.new.roll.seat).kept }
     ensures running { All (λ c. IsSeatOf book.now c.handle.promise.seat.value
         × (c.handle.promise.service.value ≡ service.now)) crew.new.running.items }
+    ensures count { length crew.new.roll.ends.items ≡ length crew.old.roll.ends.items }
+    ensures ends { (n : ℕ) → AreCovered (λ c. c.place) n crew.old.roll.ends.items crew.old.running.items
+        → HaveEnds n crew.new.roll.ends.items }
 {
     while let Some(child) = crew.running.pop() {
         finished(rt, book, service, &mut crew.roll, child);
@@ -134,6 +144,9 @@ where
     ensures served { AreServed (S.serves service.now) crew.new.roll.ends.items (view_of crew.new.roll.seat).kept }
     ensures running { All (λ c. IsSeatOf book.now c.handle.promise.seat.value
         × (c.handle.promise.service.value ≡ service.now)) crew.new.running.items }
+    ensures count { length crew.new.roll.ends.items ≡ length crew.old.roll.ends.items }
+    ensures covered { OnOk result (AreCovered (λ c. c.place) place crew.old.roll.ends.items crew.old.running.items
+        → AreCovered (λ c. c.place) (place + 1) crew.new.roll.ends.items crew.new.running.items) }
 {
     crew.running.reserve(1)?;
     let seat = book.seat(rt, &mut crew.roll.seat);

@@ -1,9 +1,10 @@
 //! Links that are accepted, each served on a thread of its own.
-ghost use Rattle.std.specs.Prelude.{◌≡◌, ◌+◌, ◌<◌, ◌≤◌, ◌^◌, ℕ};
+ghost use Rattle.std.specs.Prelude.{◌≡◌, ◌+◌, ◌<◌, ◌≤◌, ◌^◌, ℕ, length};
 ghost use Rattle.std.specs.List.{All};
 ghost use Rattle.shared_book.specs.Words.{view_of, IsSeatOf};
 ghost use Rattle.smb_io.specs.Faults.{Rose};
 ghost use Rattle.server_run.specs.Serving.{AreServed};
+ghost use Rattle.link_threads.specs.Covering.{AreCovered, HaveEnds};
 ghost use Rattle.link_threads.specs.declared.links.Halt.TheVariants as halts;
 
 use crate::crew::{Crew, begin, join_all, join_ended};
@@ -65,7 +66,12 @@ where
     ensures served { AreServed (S.serves service.now) crew.new.roll.ends.items (view_of crew.new.roll.seat).kept }
     ensures running { All (λ c. IsSeatOf book.now c.handle.promise.seat.value
         × (c.handle.promise.service.value ≡ service.now)) crew.new.running.items }
+    ensures count { length crew.new.roll.ends.items ≡ length crew.old.roll.ends.items }
+    ensures covered { result ≡ halts.Count
+        → AreCovered (λ c. c.place) count crew.new.roll.ends.items crew.new.running.items }
     ensures net { result ≡ halts.NetFault → Rose (N.faults net.old) (N.faults net.new) }
+    ensures place { N.listens_at net.new ≡ N.listens_at net.old }
+    ensures accepted { result ≡ halts.Count → N.accepted net.old + count < 2 ^ 64 → N.accepted net.new ≡ N.accepted net.old + count }
 {
     for place in 0..count {
         let Ok(link) = net.accept() else {
@@ -75,8 +81,9 @@ where
             return Halt::Ended;
         }
         join_ended(rt, book, service, crew, ended);
-        if begin(rt, scope, book, service, crew, ended, link, place).is_err() {
-            return Halt::Memory;
+        match begin(rt, scope, book, service, crew, ended, link, place) {
+            Ok(()) => {}
+            Err(_) => return Halt::Memory,
         }
     }
     Halt::Count
@@ -110,7 +117,11 @@ where
     ensures own { IsSeatOf book.now result.roll.seat }
     ensures opening { (view_of result.roll.seat).opening ≡ (view_of crew.roll.seat).opening }
     ensures served { AreServed (S.serves service.now) result.roll.ends.items (view_of result.roll.seat).kept }
+    ensures count { length result.roll.ends.items ≡ length crew.roll.ends.items }
+    ensures ends { result.halt ≡ halts.Count → HaveEnds count result.roll.ends.items }
     ensures net { result.halt ≡ halts.NetFault → Rose (N.faults net) (N.faults result.net) }
+    ensures place { N.listens_at result.net ≡ N.listens_at net }
+    ensures accepted { result.halt ≡ halts.Count → N.accepted net + count < 2 ^ 64 → N.accepted result.net ≡ N.accepted net + count }
 {
     let halt = accept_each(rt, scope, &mut net, book, service, &mut crew, ended, count);
     join_all(rt, book, service, &mut crew);
@@ -141,7 +152,11 @@ where
     ensures own { IsSeatOf book.now result.roll.seat }
     ensures opening { (view_of result.roll.seat).opening ≡ (view_of roll.seat).opening }
     ensures served { AreServed (S.serves service.now) result.roll.ends.items (view_of result.roll.seat).kept }
+    ensures count { length result.roll.ends.items ≡ length roll.ends.items }
+    ensures ends { result.halt ≡ halts.Count → HaveEnds count result.roll.ends.items }
     ensures net { result.halt ≡ halts.NetFault → Rose (N.faults net) (N.faults result.net) }
+    ensures place { N.listens_at result.net ≡ N.listens_at net }
+    ensures accepted { result.halt ≡ halts.Count → N.accepted net + count < 2 ^ 64 → N.accepted result.net ≡ N.accepted net + count }
 {
     let ended = EndedList::new(alloc);
     let notes = &ended;
@@ -159,8 +174,13 @@ where
                 × (c.handle.promise.service.value ≡ service.now)) crew.running.items }
             ensures { IsSeatOf book.entry.now result.roll.seat
                 × ((view_of result.roll.seat).opening ≡ (view_of crew.roll.seat).opening)
+                × (length result.roll.ends.items ≡ length crew.roll.ends.items)
+                × (result.halt ≡ halts.Count → HaveEnds count result.roll.ends.items)
                 × AreServed (S.serves service.entry.now) result.roll.ends.items (view_of result.roll.seat).kept
-                × (result.halt ≡ halts.NetFault → Rose (N.faults net) (N.faults result.net)) }
+                × (result.halt ≡ halts.NetFault → Rose (N.faults net) (N.faults result.net))
+                × (N.listens_at result.net ≡ N.listens_at net)
+                × (result.halt ≡ halts.Count → N.accepted net + count < 2 ^ 64
+                → N.accepted result.net ≡ N.accepted net + count) }
         { in_scope(rt, scope, net, book, service, crew, notes, count) },
     )
 }

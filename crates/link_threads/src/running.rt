@@ -79,6 +79,7 @@ where
     requires few { place + 1 < 2 ^ 64 }
     ensures runs { IfOk result (λ r. IsSeatOf book.now r.handle.promise.seat.value
         × (r.handle.promise.service.value ≡ service.now)) }
+    ensures place { IfOk result (λ r. r.place ≡ place) }
     ensures done { IfErr result (λ d. IsSeatOf book.now d.1
         × S.serves service.now (place + 1) (view_of seat) d.0 (view_of d.1)) }
 {
@@ -117,6 +118,7 @@ pub(crate) fn finished<B: Book, S: Service<B>, R: Threads>(
         → AreServed (S.serves service.now) roll.new.ends.items (view_of roll.new.seat).kept }
     ensures told { child.place < length roll.old.ends.items
         → (end : S.End) × (get_or roll.new.ends.items child.place None ≡ Some end) }
+    ensures others { (at : ℕ) → (at ≡ child.place → ⊥) → get_or roll.new.ends.items at None ≡ get_or roll.old.ends.items at None }
     ensures opening { (view_of roll.new.seat).opening ≡ (view_of roll.old.seat).opening }
     ensures count { length roll.new.ends.items ≡ length roll.old.ends.items }
 {

@@ -1,3 +1,4 @@
 pub mod Blank
+pub mod Counted
 pub mod Rises
 pub mod Still

@@ -11,7 +11,7 @@ use Rattle.outside_calls.specs.declared.read_error.ReadError.{ReadError}
 use Rattle.outside_calls.specs.declared.read_error.ReadError.TheVariants as whys
 use Rattle.serve_settings.specs.declared.words.Bound.{Bound}
 use Rattle.served_book.specs.declared.book.ServerBook.{ServerBook}
-use Rattle.server_core.specs.declared.server.Server.{Server}
+use Rattle.served_book.specs.ServerCore.declared.server.Server.{Server}
 use Rattle.server_run.specs.declared.ended.Ended.{Ended}
 use Rattle.smb_io.specs.Faults.{Rose}
 use Rattle.serve_command.specs.Serving.{Behind, Opens}

@@ -8,7 +8,7 @@ use Rattle.serve_command.specs.declared.ending.Ending.{Ending}
 use Rattle.serve_command.specs.declared.ending.Ending.TheVariants.{Memory, SinkFailed}
 
 abbrev pub usage_line : List ℕ
-usage_line = codes "usage: smb311 serve ADDRESS [COUNT LEVEL]\n"
+usage_line = codes "usage: smb311 drill, gen SEED OPS, serve ADDR [COUNT LEVEL]\n"
 
 -- where the bytes are no journal, or the gate of the first body that no server writes
 unfoldable pub journal_line : ℕ → List ℕ

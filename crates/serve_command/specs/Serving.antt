@@ -1,19 +1,21 @@
 -- How the command ends once it has settings, by what befell the disk, the net and the connections.
-use Rattle.std.specs.Prelude.{◌≡◌, ◌⊎◌, ℕ, ◌%◌, ◌^◌, ◌==◌, nat_lt, Bool, true, false, ◌&&◌, ◌||◌, List, [], ◌∷◌, is_some}
+use Rattle.std.specs.Prelude.{◌≡◌, ◌⊎◌, ℕ, ◌+◌, ◌%◌, ◌^◌, ◌<◌, ◌==◌, nat_lt, Bool, true, false, ◌&&◌, ◌||◌, List, [], ◌∷◌, length, is_some}
 use Rattle.std.specs.Prelude.{Option, Some, None}
 use Rattle.conn_turns.specs.Serving as turns
 use Rattle.conn_turns.specs.declared.turn.Told.{Told}
 use Rattle.conn_turns.specs.declared.turn.Turn.{Turn}
+use Rattle.link_threads.specs.Covering.{HaveEnds}
 use Rattle.link_threads.specs.declared.links.Halt.{Halt}
 use Rattle.link_threads.specs.declared.links.Halt.TheVariants as halts
 use Rattle.persist_journal.specs.declared.journal.JournalError.{JournalError}
 use Rattle.serve_settings.specs.declared.words.Bound.{Bound}
+use Rattle.serve_settings.specs.declared.words.Said.{Said}
 use Rattle.served_book.specs.Steps.{Steps}
 use Rattle.served_book.specs.declared.book.ServerBook.{ServerBook}
 use Rattle.server_begun.specs.Begun.{Begins}
 use Rattle.server_checks.specs.declared.tables.Config.{Config}
-use Rattle.server_core.specs.Shown.{disk_of, state_of, stopped_of}
-use Rattle.server_core.specs.declared.server.Server.{Server}
+use Rattle.served_book.specs.ServerCore.Shown.{disk_of, state_of, stopped_of}
+use Rattle.served_book.specs.ServerCore.declared.server.Server.{Server}
 use Rattle.server_restart.specs.Restart.{RestartRefused}
 use Rattle.server_run.specs.Lines.{ended_lines}
 use Rattle.server_run.specs.Serving.{AreServed}
@@ -21,10 +23,30 @@ use Rattle.server_run.specs.declared.ended.Ended.{Ended}
 use Rattle.shared_book.specs.Seats.{Closes}
 use Rattle.shared_book.specs.declared.view.View.{View}
 use Rattle.smb_io.specs.Faults.{Rose}
+use Rattle.smb_io.specs.declared.address.Address.{Address}
 use Rattle.serve_command.specs.Opening.{IsUnbegun}
 use Rattle.serve_command.specs.Printing.{IsQuiet, PrintsIfRoom}
 use Rattle.serve_command.specs.declared.ending.Ending.{Ending}
 use Rattle.serve_command.specs.declared.ending.Ending.TheVariants.{DiskFailed, Done, Memory, NetFailed}
+
+-- ---- how many connections there are
+
+-- of how many it is told how they ended
+abbrev pub listed : Option Bound → ℕ
+listed None = 0
+listed (Some bound) = bound.count
+
+-- how many are accepted: without a count as many as can be counted
+abbrev pub accepted : Option Bound → ℕ
+accepted None = 18446744073709551615
+accepted (Some bound) = bound.count
+
+-- As many were accepted as the words say, and of each it is told how it ended. A net's count of links that it accepted, before and behind,
+-- stands still at 2^64 - 1.
+abbrev pub AllEnded : Option Bound → List (Option Ended) → (links links' : ℕ) → Type 0
+AllEnded None ends links links' = Unit {0}
+AllEnded (Some bound) ends links links' =
+    (length ends ≡ bound.count) × HaveEnds bound.count ends × (links + bound.count < 2 ^ 64 → links' ≡ links + bound.count)
 
 -- ---- what is told of the connections
 
@@ -44,7 +66,7 @@ module _ (written written' : Option (List ℕ)) (sink sink' : ℕ) where
   abbrev pub Tells : Option Bound → Halt → List (Option Ended) → Ending → Type 0
   Tells bound halts.Count ends ending = Lists bound ends ending
   Tells bound halts.NetFault ends ending = IsQuiet written written' sink sink' NetFailed ending
-  Tells bound halts.Ended ends ending = Lists bound ends ending
+  Tells bound halts.Ended ends ending = IsQuiet written written' sink sink' Memory ending
   Tells bound halts.Memory ends ending = IsQuiet written written' sink sink' Memory ending
 
 -- ---- the disk behind the last turn
@@ -81,40 +103,48 @@ pub record Opens {D : Type 0} (server : Server D) (view : View (ServerBook D) Tu
   pub begins : opening.server.server ≡ server
   pub is : view.opening ≡ Some opening
 
-module _ {D : Type 0} (told : Type 0) (seen : D → List ℕ) (may_leave : D → List ℕ → Type 0) (faults : D → ℕ) where
+module _ {D N : Type 0} (told : Type 0) (seen : D → List ℕ) (may_leave : D → List ℕ → Type 0) (faults : D → ℕ)
+    (listens_at : N → Option Address) (links : N → ℕ) (net_faults : N → ℕ) where
   -- Links were served, each by a seat of one book, whose history leads from the server that began to the one that was there in the end.
-  -- Of each link of which an end is told the turns that its seat took are in that history. The disk is that of the last server.
-  pub record HasServed (before : ℕ) (bound : Option Bound) (server : Server D) (written written' : Option (List ℕ)) (sink sink' net net' : ℕ)
-      (disk' : Option D) (ending : Ending) : Type 0 where
+  -- Of each link of which an end is told the turns that its seat took are in that history. The disk is that of the last server. The net
+  -- listens where it did. Where it ended with 0, and the words say a count, as many were accepted, and of each an end is told.
+  pub record HasServed (before : ℕ) (bound : Option Bound) (server : Server D) (written written' : Option (List ℕ)) (sink sink' : ℕ)
+      (net net' : N) (disk' : Option D) (ending : Ending) : Type 0 where
     pub view : View (ServerBook D) Turn Told
     pub opens : Opens server view
     pub halt : Halt
     pub ends : List (Option Ended)
     pub last : ServerBook D
-    pub net_failed : halt ≡ halts.NetFault → Rose net net'
+    pub net_failed : halt ≡ halts.NetFault → Rose (net_faults net) (net_faults net')
+    pub listens : listens_at net' ≡ listens_at net
     pub served : AreServedBy view ends
     pub closes : Closes (Steps told seen may_leave faults) view last
     pub disk_is : disk' ≡ Some (disk_of last.server.server)
     pub rose : has_failed faults before last ≡ true → Rose before (faults (disk_of last.server.server))
+    pub counted : ending ≡ Done → AllEnded bound ends (links net) (links net')
     pub tells : Behind written written' sink sink' bound halt ends (has_failed faults before last) ending
 
   -- a net listens
-  abbrev pub ServesOn : ℕ → Option Bound → Server D → (written written' : Option (List ℕ)) → (sink sink' net net' : ℕ) → Option D
+  abbrev pub ServesOn : ℕ → Option Bound → Server D → (written written' : Option (List ℕ)) → (sink sink' : ℕ) → (net net' : N) → Option D
       → Ending → Type 0
   ServesOn before bound server written written' sink sink' net net' disk' ending =
-      IsQuiet written written' sink sink' Memory ending ⊎ HasServed before bound server written written' sink sink' net net' disk' ending
+      (IsQuiet written written' sink sink' Memory ending × (net' ≡ net) × (disk' ≡ None))
+      ⊎ HasServed before bound server written written' sink sink' net net' disk' ending
 
-  -- it was told to listen, which may fail
-  abbrev pub Serves : ℕ → Option Bound → Server D → (written written' : Option (List ℕ)) → (sink sink' net net' : ℕ) → Option D
-      → Ending → Type 0
-  Serves before bound server written written' sink sink' net net' disk' ending =
-      (Rose net net' × IsQuiet written written' sink sink' NetFailed ending)
-      ⊎ ServesOn before bound server written written' sink sink' net net' disk' ending
+  -- It was told to listen at an address, which may fail. Then the disk is given back, and the net listens where it did.
+  abbrev pub Serves : ℕ → Address → Option Bound → Server D → (written written' : Option (List ℕ)) → (sink sink' : ℕ) → (net net' : N)
+      → Option D → Ending → Type 0
+  Serves before at bound server written written' sink sink' net net' disk' ending =
+      (Rose (net_faults net) (net_faults net') × IsQuiet written written' sink sink' NetFailed ending
+      × (listens_at net' ≡ listens_at net) × (disk' ≡ Some (disk_of server)))
+      ⊎ ((ready : N) × (listens_at ready ≡ Some at) × (links ready ≡ links net) × (net_faults ready ≡ net_faults net)
+      × ServesOn before bound server written written' sink sink' ready net' disk' ending)
 
-  -- the disk refuses, by its cause, or a server began on what it holds
-  abbrev pub Starts : Option Bound → Config → D → (written written' : Option (List ℕ)) → (sink sink' net net' : ℕ) → Option D → Ending
+  -- the disk refuses, by its cause, and the net isn't used; or a server began on what the disk holds
+  abbrev pub Starts : Said → Config → D → (written written' : Option (List ℕ)) → (sink sink' : ℕ) → (net net' : N) → Option D → Ending
       → Type 0
-  Starts bound config disk written written' sink sink' net net' disk' ending =
-      ((error : JournalError) × RestartRefused told seen faults disk error × IsUnbegun written written' sink sink' error ending)
+  Starts said config disk written written' sink sink' net net' disk' ending =
+      ((error : JournalError) × RestartRefused told seen faults disk error × IsUnbegun written written' sink sink' error ending
+      × (net' ≡ net))
       ⊎ ((server : Server D) × Begins told seen may_leave faults config disk (state_of server)
-      × Serves (faults disk) bound server written written' sink sink' net net' disk' ending)
+      × Serves (faults disk) said.address said.bound server written written' sink sink' net net' disk' ending)

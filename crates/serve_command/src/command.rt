@@ -1,11 +1,11 @@
 //! The command.
-ghost use Rattle.std.specs.Prelude.{◌≡◌, IfOk, None, replicate};
+ghost use Rattle.std.specs.Prelude.{◌≡◌, IfOk, None, length, replicate};
 ghost use Rattle.shared_book.specs.Seats.{Closes};
 ghost use Rattle.shared_book.specs.Words.{view_of, IsSeatOf};
 ghost use Rattle.served_book.specs.Steps.{Steps};
 ghost use Rattle.serve_command.specs.Ends.{Ends};
-ghost use Rattle.server_core.specs.declared.server.Server.{Server};
-ghost use Rattle.serve_command.specs.Serving.{AreServedBy, HasServed, Opens, Serves, ServesOn, Starts};
+ghost use Rattle.served_book.specs.ServerCore.declared.server.Server.{Server};
+ghost use Rattle.serve_command.specs.Serving.{AreServedBy, HasServed, Opens, Serves, ServesOn, Starts, accepted, listed};
 
 use crate::behind::{Left, behind, left_of};
 use crate::ending::Ending;
@@ -14,10 +14,8 @@ use conn_turns::Connections;
 use link_threads::{Served, serve_links};
 use rand_core::Rng;
 use serve_settings::{Bound, Said};
-use served_book::ServerBook;
-use server_book::Book;
+use served_book::{Book, Server, ServerBook};
 use server_checks::Config;
-use server_core::Server;
 use server_run::{Ended, Roll};
 use shared_book::{BookSeat, SharedBook};
 use smb_io::{Disk, Failed, Sink, Source};
@@ -59,9 +57,9 @@ where
     N: Net + Drop,
     C: Clock + Drop + Send,
     R: Rng + Drop + Send,
-    ensures { Ends D.told D.seen D.may_leave D.faults said.now disk (S.left source.old) (S.left source.new)
-        (S.faults source.old) (S.faults source.new) (O.written sink.old) (O.written sink.new) (O.faults sink.old) (O.faults sink.new)
-        (N.faults net) (N.faults result.net) result.disk result.ending }
+    ensures { Ends D.told D.seen D.may_leave D.faults N.listens_at N.accepted N.faults said.now disk (S.left source.old)
+        (S.left source.new) (S.faults source.old) (S.faults source.new) (O.written sink.old) (O.written sink.new) (O.faults sink.old)
+        (O.faults sink.new) net result.net result.disk result.ending }
 {
     match settled(alloc, said, source, sink) {
         Ok(config) => serve_with(rt, alloc, said, config, sink, disk, net, clock, random),
@@ -92,8 +90,8 @@ where
     N: Net + Drop,
     C: Clock + Drop + Send,
     R: Rng + Drop + Send,
-    ensures { Starts D.told D.seen D.may_leave D.faults said.now.bound config disk (O.written sink.old) (O.written sink.new)
-        (O.faults sink.old) (O.faults sink.new) (N.faults net) (N.faults result.net) result.disk result.ending }
+    ensures { Starts D.told D.seen D.may_leave D.faults N.listens_at N.accepted N.faults said.now config disk (O.written sink.old)
+        (O.written sink.new) (O.faults sink.old) (O.faults sink.new) net result.net result.disk result.ending }
 {
     let before = disk.fault_count();
     match Server::recover(alloc, disk, config) {
@@ -145,6 +143,7 @@ fn opened<D: Disk + Drop>(
     ensures own { IfOk result (λ r. IsSeatOf r.0 r.1.seat) }
     ensures opens { IfOk result (λ r. Opens server (view_of r.1.seat)) }
     ensures served { IfOk result (λ r. AreServedBy (view_of r.1.seat) r.1.ends.items) }
+    ensures room { IfOk result (λ r. length r.1.ends.items ≡ count) }
 {
     let ends = none_ended(alloc, count)?;
     let first = first_book(alloc, server);
@@ -154,7 +153,9 @@ fn opened<D: Disk + Drop>(
 }
 
 /// How many links are told in the end.
-fn listed(bound: Option<Bound>) -> usize {
+fn listed(bound: Option<Bound>) -> usize
+    ensures { result ≡ listed bound }
+{
     match bound {
         Some(bound) => bound.count,
         None => 0,
@@ -162,7 +163,9 @@ fn listed(bound: Option<Bound>) -> usize {
 }
 
 /// How many links are accepted.
-fn accepted(bound: Option<Bound>) -> usize {
+fn accepted(bound: Option<Bound>) -> usize
+    ensures { result ≡ accepted bound }
+{
     match bound {
         Some(bound) => bound.count,
         None => usize::MAX,
@@ -188,8 +191,8 @@ where
     N: Net + Drop,
     C: Clock + Drop + Send,
     R: Rng + Drop + Send,
-    ensures { Serves D.told D.seen D.may_leave D.faults before said.now.bound server (O.written sink.old) (O.written sink.new)
-        (O.faults sink.old) (O.faults sink.new) (N.faults net) (N.faults result.net) result.disk result.ending }
+    ensures { Serves D.told D.seen D.may_leave D.faults N.listens_at N.accepted N.faults before said.now.address said.now.bound server
+        (O.written sink.old) (O.written sink.new) (O.faults sink.old) (O.faults sink.new) net result.net result.disk result.ending }
 {
     match net.listen(said.address) {
         Ok(()) => serve_on(rt, alloc, said, sink, server, before, net, clock, random),
@@ -220,10 +223,11 @@ where
     N: Net + Drop,
     C: Clock + Drop + Send,
     R: Rng + Drop + Send,
-    ensures { ServesOn D.told D.seen D.may_leave D.faults before said.now.bound server (O.written sink.old) (O.written sink.new)
-        (O.faults sink.old) (O.faults sink.new) (N.faults net) (N.faults result.net) result.disk result.ending }
+    ensures { ServesOn D.told D.seen D.may_leave D.faults N.listens_at N.accepted N.faults before said.now.bound server
+        (O.written sink.old) (O.written sink.new) (O.faults sink.old) (O.faults sink.new) net result.net result.disk result.ending }
 {
-    match opened(alloc, server, listed(said.bound)) {
+    let count = listed(said.bound);
+    match opened(alloc, server, count) {
         Ok((book, roll)) => {
             serve_book(
                 rt, alloc, said, sink, book, roll, before, net, clock, random,
@@ -259,9 +263,10 @@ where
     R: Rng + Drop + Send,
     requires own { IsSeatOf book roll.seat }
     requires served { AreServedBy (view_of roll.seat) roll.ends.items }
-    ensures { (server : Server D) → Opens server (view_of roll.seat) → HasServed D.told D.seen D.may_leave D.faults before
-        said.now.bound server (O.written sink.old) (O.written sink.new) (O.faults sink.old) (O.faults sink.new) (N.faults net)
-        (N.faults result.net) result.disk result.ending }
+    requires room { length roll.ends.items ≡ listed said.now.bound }
+    ensures { (server : Server D) → Opens server (view_of roll.seat) → HasServed D.told D.seen D.may_leave D.faults N.listens_at N.accepted
+        N.faults before said.now.bound server (O.written sink.old) (O.written sink.new) (O.faults sink.old) (O.faults sink.new) net
+        result.net result.disk result.ending }
 {
     let outside = Connections {
         alloc,

@@ -51,7 +51,8 @@ fn listed<O: Sink>(alloc: Global, sink: &mut O, bound: Bound, ends: &[Option<End
     }
 }
 
-/// What the command tells at its end, by why no further link was accepted.
+/// What the command tells at its end, by why no further link was accepted. A link ends so that none is accepted behind it where the server
+/// stopped, since the disk failed: that is judged before.
 pub(crate) fn ended<O: Sink>(
     alloc: Global,
     bound: Option<Bound>,
@@ -63,8 +64,8 @@ pub(crate) fn ended<O: Sink>(
 {
     match halt {
         Halt::NetFault => Ending::NetFailed,
-        Halt::Memory => Ending::Memory,
-        Halt::Count | Halt::Ended => match bound {
+        Halt::Memory | Halt::Ended => Ending::Memory,
+        Halt::Count => match bound {
             Some(bound) => listed(alloc, sink, bound, ends),
             None => Ending::Done,
         },

@@ -7,7 +7,7 @@ use crate::ending::Ending;
 use outside_calls::write_all;
 use smb_io::{Failed, Sink};
 
-const USAGE: &str = "usage: smb311 serve ADDRESS [COUNT LEVEL]\n";
+const USAGE: &str = "usage: smb311 drill, gen SEED OPS, serve ADDR [COUNT LEVEL]\n";
 
 /// Says what the command's words are.
 pub fn usage<O: Sink>(sink: &mut O) -> Ending

@@ -1,5 +1,5 @@
 -- What a server does in a turn of one of its connections.
-use Rattle.std.specs.Prelude.{◌≡◌, ℕ, ◌≤◌, ◌==◌, if◌then◌else◌, List, [], Result, Ok, Err, MatchResult}
+use Rattle.std.specs.Prelude.{◌≡◌, ℕ, ◌≤◌, ◌==◌, if◌then◌else◌, List, [], Some, Result, Ok, Err, MatchResult}
 use Rattle.conn_core.specs.Taking.{HaltsAt, Takes}
 use Rattle.conn_core.specs.declared.end.Ended.{Ended}
 use Rattle.conn_core.specs.declared.taking.Taken.{Taken}
@@ -19,7 +19,7 @@ use Rattle.server_asked.specs.Heard.{heard_event}
 use Rattle.server_asked.specs.declared.event.ServerEvent.{ServerEvent}
 use Rattle.server_asked.specs.declared.event.ServerEvent.TheVariants as events
 use Rattle.server_book.specs.Shown.{ShowsBook}
-use Rattle.server_core.specs.Shown.{HoldsServer, config_of, state_of, stopped_of}
+use Rattle.server_book.specs.ServerCore.Shown.{HoldsServer, config_of, state_of, stopped_of}
 use Rattle.server_effects.specs.declared.answering.Answer.{Answer}
 use Rattle.server_events.specs.Setups.{progress_of}
 use Rattle.server_events.specs.declared.error.EventError.{EventError}
@@ -51,11 +51,14 @@ module _ {D : Type 0} (told : Type 0) (seen : D → List ℕ) (may_leave : D →
       (λ x. EventRefused told seen may_leave faults x (state_of old.server.server) (state_of new.server.server) s L records now e
       (logons_behind (config_of old.server.server).users L event now (progress_of e (step s now e).reply)))
 
-  -- a connection is made or lost: it stays as it is
+  -- a connection is made or lost: it stays as it is. A server that had stopped stays so, and ends the connection as stopped.
   pub record Hears (old : ServerBook D) (now : ℕ) (conn : Conn) (event : ServerEvent) (t : Told) (new : ServerBook D) : Type 0 where
     pub answer : Result Answer EventError
     pub answers : Answers old now event answer new
     pub tells : t.answer ≡ heard answer
+    pub halted : (count : ℕ) → stopped_of old.server.server ≡ Some count
+        → (t.answer ≡ Err (ends.Stopped count)) × (new.server.server ≡ old.server.server)
+    pub config : config_of new.server.server ≡ config_of old.server.server
     pub same : t.conn ≡ conn
 
 module _ {D : Type 0} (told : Type 0) (seen : D → List ℕ) (may_leave : D → List ℕ → Type 0) where

@@ -4,3 +4,4 @@
 mod book;
 
 pub use book::ServerBook;
+pub use server_book::{Book, Server};

@@ -1,3 +1,5 @@
+use Rattle.std.proofs.Common.{ap, ◌∙◌, length}
+use Rattle.std.proofs.lemmas.List.{length-replicate}
 use Rattle.serve_command.proofs.Blank.{blank_served}
 use Rattle.serve_command.proofs.Still.{opens_first}
 use Rattle.serve_command.specs.Serving.{serves_link}
@@ -8,3 +10,6 @@ returns-clause-opens g c = opens_first c.args.server c.first_book-first.result _
 
 pub returns-clause-served : goal.returns-clause-served
 returns-clause-served g c = blank_served (serves_link {B = _}) _ _ _ c.in_ok-ends.ensures
+
+pub returns-clause-room : goal.returns-clause-room
+returns-clause-room g c = ap length c.in_ok-ends.ensures ∙ length-replicate _ _

@@ -6,4 +6,4 @@ pub returns-in-Ok : goal.returns-in-Ok
 returns-in-Ok g c = inr (c.serve_book.ensures c.args.server c.in-Ok.ensures.opens)
 
 pub returns-in-Err : goal.returns-in-Err
-returns-in-Err g c = inl (refl, (refl, Keeps-refl _))
+returns-in-Err g c = inl ((refl, (refl, Keeps-refl _)), refl, refl)
