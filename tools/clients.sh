@@ -1,11 +1,11 @@
 #!/bin/bash
-# Tries real clients on a server: tools/clients.sh PROGRAM [WORD..], the server being begun as PROGRAM WORD.. ADDRESS with its settings
-# on standard input, in a new folder. One line a check, and a count at the end; the status is 0 where none failed.
+# Tries real clients on a server: tools/clients.sh PROGRAM serve, PROGRAM by its whole path. It is begun as PROGRAM serve ADDR with its
+# settings on standard input, in a new folder. One line a check, and a count at the end; the status is 0 where none failed.
 # It wants Debian's smbclient (4.17) and python3-impacket (0.10); what is missing is said, and its checks are left out.
 # SIZES (bytes of the files that are put and got) and PORT may be given; LIMIT is how many seconds a client may take.
 top=$(cd "$(dirname "$0")/.." && pwd)
 sizes=${SIZES:-0 1 65536 1048577 50000000}; port=${PORT:-4450}; limit=${LIMIT:-600}
-[ $# -gt 0 ] || { echo "usage: tools/clients.sh PROGRAM [WORD..]" >&2; exit 2; }
+[ $# -gt 0 ] || { echo "usage: tools/clients.sh PROGRAM serve" >&2; exit 2; }
 program=("$@"); room=$(mktemp -d) || exit 2
 well=0; failed=0; server=; address=127.0.0.1:$port
 

@@ -109,7 +109,7 @@ class Server:
 
 
 class Ours(Server):
-    name = "smb311_serve"
+    name = "smb311"
 
     def __init__(self, words, sealed):
         self.words, self.sealed = words, sealed
@@ -255,9 +255,9 @@ def main():
         ours, samba = {}, {}
         for sealed in (False, True):
             if asked.program:
-                ours |= measured("smb311_serve", lambda s: Ours(asked.program, s), sealed, asked, conf)
+                ours |= measured("smb311", lambda s: Ours(asked.program, s), sealed, asked, conf)
             samba |= measured("Samba", Samba, sealed, asked, conf)
-    print(f"load {os.getloadavg()[0]:.1f} at the end\n\n| figure | smb311_serve | Samba | ratio |\n|---|---|---|---|")
+    print(f"load {os.getloadavg()[0]:.1f} at the end\n\n| figure | smb311 | Samba | ratio |\n|---|---|---|---|")
     for figure, theirs in samba.items():
         own = ours.get(figure, float("nan"))
         print(f"| {figure} | {own:.4g} | {theirs:.4g} | {own / theirs if theirs else float('nan'):.2g} |")

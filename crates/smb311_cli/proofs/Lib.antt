@@ -1,4 +1,0 @@
-pub mod LineLemmas
-pub mod TextLines
-pub mod DrillLemmas
-pub mod TopLemmas

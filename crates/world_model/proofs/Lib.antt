@@ -1,9 +1,0 @@
-pub mod Counting
-pub mod Suiting
-pub mod Shape
-pub mod Answering
-pub mod Logged
-pub mod Legality
-pub mod Writing
-pub mod Fitting
-pub mod Holding
