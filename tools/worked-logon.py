@@ -4,7 +4,8 @@
 usage: tools/worked-logon.py [--shown | --run]
 
 Writes crates/world_examples/specs/Worked.antt: the third logon of worked_logon.py, its texts, its random bytes, and the
-signed frames of the second one; and what the program worked_logon is to print, each frame of all four on a line. The
+signed frames of the second one; and for the program worked_logon the rows of a client's dialog through the first one, and
+what it is to print: each frame of all four on a line, and how many rows it answers. The
 formulas are compared with published numbers first: MS-NLMP 4.2.4, and Microsoft's derivations for SMB 3.0 and 3.1.1. Then each logon is heard from the other side: what was sealed is opened by OpenSSL,
 signatures and the proof are made anew. With --shown each logon is printed instead: what is drawn, tokens, keys and every frame.
 With --run the definitions are computed by spec_values.py instead: the world over bytes of crates/world_defs from its start
@@ -26,6 +27,7 @@ from spec_words import Case, applied
 
 TOP = os.path.dirname(os.path.dirname(os.path.abspath(__file__)))
 FILE = os.path.join(TOP, "crates", "world_examples", "specs", "Worked.antt")
+ROWS = os.path.join(TOP, "crates", "worked_logon", "stdin")
 OUTPUT = os.path.join(TOP, "crates", "worked_logon", "stdout")
 WIDTH = 120
 
@@ -121,6 +123,13 @@ def specs(sealed, signed):
 def printed(logon):
     """A line for each frame, and an empty one."""
     return "".join(message.frame.hex() + "\n" for message in logon.messages) + "\n"
+
+
+def dialog_rows(logon):
+    """What a client says from NEGOTIATE to TREE_CONNECT: first by itself, then to each response; the last one makes it ready."""
+    said = [message.frame.hex() for message in logon.messages[0:8:2]] + [f"ready in session {logon.session} and tree 1"]
+    heard = ["start"] + [message.frame.hex() for message in logon.messages[1:8:2]]
+    return list(map(" = ".join, zip(heard, said)))
 
 
 def show(logon):
@@ -228,8 +237,12 @@ def main():
     if not sys.argv[1:]:
         with open(FILE, "w", encoding="utf-8") as out:
             out.write(specs(logons[2], logons[1]))
+        rows = dialog_rows(logons[0])
+        with open(ROWS, "w", encoding="utf-8") as out:
+            out.write("# a client's dialog: what it hears, and what it then says\n" + "\n".join(rows) + "\n")
         with open(OUTPUT, "w", encoding="utf-8") as out:
             out.write("".join(printed(logon) for logon in logons))
+            out.write(f"{len(rows)} rows of a dialog are answered as they say\n")
     return 0
 
 

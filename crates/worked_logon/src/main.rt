@@ -1,7 +1,7 @@
 //! Four whole logons, each with a create behind it. Every message is put together from the calls of both ends, from what a
 //! run draws on, and goes through them: NEGOTIATE, both SESSION_SETUPs, TREE_CONNECT and CREATE with their responses, as frames.
-//! A client's dialog is then driven through such a logon, and has to say the same bytes.
-//! The expected output is written by tools/worked-logon.py, which makes the same bytes by itself.
+//! A client's dialog is then driven through such a logon, by the rows of the standard input, and has to say the same bytes.
+//! Rows and expected output are written by tools/worked-logon.py, which makes the same bytes by itself.
 #![tactic(auto)]
 
 mod dialog;
@@ -14,7 +14,7 @@ mod setup;
 mod tokens;
 
 use anyhow::Result;
-use dialog::dialog_agrees;
+use dialog::dialog_rows;
 use logon::logon_shown;
 
 fn main(rt: HostRuntime) -> Result<()> {
@@ -27,5 +27,7 @@ fn main(rt: HostRuntime) -> Result<()> {
     println!(rt; "{third}")?;
     let fourth = logon_shown(alloc, &[4, 2], &[1, 2], true)?;
     println!(rt; "{fourth}")?;
-    dialog_agrees(alloc)
+    let right = dialog_rows(&rt)?;
+    println!(rt; "{right} rows of a dialog are answered as they say")?;
+    Ok(())
 }
